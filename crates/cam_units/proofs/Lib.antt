@@ -1,0 +1,4 @@
+pub mod Ring
+pub mod TurnLaws
+pub mod NearestLaws
+pub mod BoxLaws

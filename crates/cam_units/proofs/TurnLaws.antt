@@ -1,0 +1,46 @@
+-- Products of matrices.
+use Rattle.std.proofs.Common.{◌≡◌, ℤ, ◌+ℤ◌, ◌*ℤ◌, refl, arith}
+use Rattle.cam_units.specs.declared.point.Point.{Point}
+use Rattle.cam_units.specs.Turns.{rows, ThenLaw, AssociativeLaw, InverseLaw}
+use Rattle.cam_units.specs.declared.turn.Turn.TheVariants.{R0, R90, R180, R270, M0, M90, M180, M270}
+use Rattle.cam_units.proofs.Ring.{Polynomial, Atom, Sum, Product, equal}
+
+-- an entry of a product of three
+entry : (a b c d e f g h : ℤ)
+    → (a *ℤ c +ℤ b *ℤ e) *ℤ g +ℤ (a *ℤ d +ℤ b *ℤ f) *ℤ h ≡ a *ℤ (c *ℤ g +ℤ d *ℤ h) +ℤ b *ℤ (e *ℤ g +ℤ f *ℤ h)
+entry a b c d e f g h =
+    let two : ℤ → ℤ → ℤ → ℤ → Polynomial = λ p q r s. Sum (Product (Atom p) (Atom q)) (Product (Atom r) (Atom s)) in
+    equal
+    (Sum (Product (two a c b e) (Atom g)) (Product (two a d b f) (Atom h)))
+    (Sum (Product (Atom a) (two c g d h)) (Product (Atom b) (two e g f h)))
+    (omega arith)
+
+same_rows : (xx xy yx yy xx' xy' yx' yy' : ℤ) → xx ≡ xx' → xy ≡ xy' → yx ≡ yx' → yy ≡ yy' → rows xx xy yx yy ≡ rows xx' xy' yx' yy'
+same_rows xx xy yx yy xx' xy' yx' yy' a b c d = λ i. record { xx = a i; xy = b i; yx = c i; yy = d i }
+
+pub product_assoc : AssociativeLaw
+product_assoc l m n =
+    same_rows _ _ _ _ _ _ _ _
+    (entry l.xx l.xy m.xx m.xy m.yx m.yy n.xx n.yx)
+    (entry l.xx l.xy m.xx m.xy m.yx m.yy n.xy n.yy)
+    (entry l.yx l.yy m.xx m.xy m.yx m.yy n.xx n.yx)
+    (entry l.yx l.yy m.xx m.xy m.yx m.yy n.xy n.yy)
+
+pub same_point : (p q : Point) → p.x ≡ q.x → p.y ≡ q.y → p ≡ q
+same_point p q e f = λ i. record { x = e i; y = f i }
+
+pub applied_product : ThenLaw
+applied_product m n p =
+    same_point _ _
+    (entry m.xx m.xy n.xx n.xy n.yx n.yy p.x p.y)
+    (entry m.yx m.yy n.xx n.xy n.yx n.yy p.x p.y)
+
+pub taken_back : InverseLaw
+taken_back R0 = (R0, refl, refl)
+taken_back R90 = (R270, refl, refl)
+taken_back R180 = (R180, refl, refl)
+taken_back R270 = (R90, refl, refl)
+taken_back M0 = (M0, refl, refl)
+taken_back M90 = (M90, refl, refl)
+taken_back M180 = (M180, refl, refl)
+taken_back M270 = (M270, refl, refl)

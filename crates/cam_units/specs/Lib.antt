@@ -1,0 +1,4 @@
+pub mod Nearest
+pub mod Turns
+pub mod Board
+pub mod Boxes

@@ -1,0 +1,112 @@
+//! Lengths to the nearest nanometre.
+
+ghost use Rattle.std.specs.Prelude.{◌≡◌, ◌^◌, ◌<◌, ◌≤◌, ◌*ℤ◌, pos, MatchOption};
+ghost use Rattle.std.specs.Int.RustNames.{unsigned_abs};
+ghost use Rattle.cam_units.specs.Nearest.{coord_of, fix9_of, nearest_of, nm_per_unit};
+
+/// A length in nanometres.
+#[derive(Clone, Copy, Debug, PartialEq, Eq)]
+pub struct Nm(pub i64);
+
+/// The unit of a file: one inch is 25.4 mm (Gerber Layer Format Specification,
+/// "Unit (MO)").
+#[derive(Clone, Copy, Debug, PartialEq, Eq)]
+pub enum Unit {
+    Mm,
+    Inch,
+}
+
+/// The quotient of two whole numbers.
+#[derive(Clone, Copy)]
+struct Quotient {
+    above: i128,
+    below: u64,
+}
+
+impl Quotient {
+    /// The nearest whole number, ties away from zero.
+    fn nearest(self) -> i128
+        requires some { 0 < self.below }
+        requires short { unsigned_abs self.above < 2 ^ 120 }
+        ensures value { result ≡ nearest_of self.above self.below }
+        ensures bound { unsigned_abs result ≤ unsigned_abs self.above }
+    {
+        let below = u128::from(self.below);
+        let size = (2 * self.above.unsigned_abs() + below) / (2 * below);
+        if self.above < 0 {
+            -(size as i128)
+        } else {
+            size as i128
+        }
+    }
+}
+
+/// 10 to the power `decimals`.
+#[tactic(auto, using(crate::proofs::NearestLaws::ten_power))]
+fn power_of_ten(decimals: u32) -> u64
+    requires { decimals ≤ 6 }
+    ensures value { result ≡ 10 ^ decimals }
+    ensures some { 0 < result }
+{
+    10u64.pow(decimals)
+}
+
+/// The nanometres of a coordinate of no decimals.
+fn nm_per_unit(unit: Unit) -> u64
+    ensures value { result ≡ nm_per_unit unit }
+    ensures bound { result < 2 ^ 25 }
+{
+    match unit {
+        Unit::Mm => 1_000_000,
+        Unit::Inch => 25_400_000,
+    }
+}
+
+/// A coordinate in nanometres, not yet rounded.
+fn coordinate(n: i64, decimals: u32, unit: Unit) -> Quotient
+    requires { decimals ≤ 6 }
+    ensures above { result.above ≡ n *ℤ pos (nm_per_unit unit) }
+    ensures below { result.below ≡ 10 ^ decimals }
+    ensures some { 0 < result.below }
+    ensures short { unsigned_abs result.above < 2 ^ 120 }
+{
+    Quotient {
+        above: i128::from(n) * i128::from(nm_per_unit(unit)),
+        below: power_of_ten(decimals),
+    }
+}
+
+/// The length of the coordinate `n` with `decimals` decimals, to the nearest nanometre,
+/// ties away from zero; `None` where that is 10^18 nm or more in absolute value.
+///
+/// (Gerber Layer Format Specification, "Format Specification (FS)".)
+pub fn coord_nm(n: i64, decimals: u32, unit: Unit) -> Option<Nm>
+    requires { decimals ≤ 6 }
+    ensures { MatchOption result
+        (10 ^ 18 ≤ unsigned_abs (coord_of n decimals unit))
+        (λ length. (length.0 ≡ coord_of n decimals unit) × (unsigned_abs length.0 < 10 ^ 18)) }
+{
+    let length = coordinate(n, decimals, unit).nearest();
+    if length.unsigned_abs() < 1_000_000_000_000_000_000 {
+        Some(Nm(length as i64))
+    } else {
+        None
+    }
+}
+
+/// The length of `v` parts of 10^-9 of a unit, to the nearest nanometre, ties away from zero.
+pub fn fix9_nm(v: i64, unit: Unit) -> Nm
+    ensures { result.0 ≡ fix9_of v unit }
+{
+    let length = match unit {
+        Unit::Mm => Quotient {
+            above: i128::from(v),
+            below: 1_000,
+        },
+        Unit::Inch => Quotient {
+            above: i128::from(v) * 254,
+            below: 10_000,
+        },
+    };
+    Nm(length.nearest() as i64)
+}

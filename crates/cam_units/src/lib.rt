@@ -1,0 +1,26 @@
+//! Lengths, points, turns and boxes, in exact whole numbers.
+//!
+//! Points are in nanometres (nm), tested places in half nanometres (hn): a point
+//! `(x, y)` is the place `(2x, 2y)`, and a diameter of `d` nm is a radius of `d` hn.
+#![tactic(auto)]
+
+mod board;
+mod bounds;
+mod laws;
+mod length;
+mod point;
+mod root;
+mod turn;
+
+pub use board::{fits_board, fits_size};
+pub use bounds::Bounds;
+pub use laws::{
+    nearest_is_nearest, then_is_apply_after_apply, turns_associate, turns_have_inverses,
+};
+pub use length::{Nm, Unit, coord_nm, fix9_nm};
+pub use point::{Point, Spot};
+pub use root::isqrt;
+pub use turn::Turn;
+
+#[cfg(test)]
+mod tests;
