@@ -1,0 +1,9 @@
+pub mod Fronts
+pub mod HeadBytes
+pub mod Steps
+pub mod Lists
+pub mod Commands
+pub mod Cuttings
+pub mod Judged
+pub mod Longest
+pub mod Slices

@@ -1,0 +1,70 @@
+-- What a text gives: its words in order, and where it cannot be cut any further one fault.
+use Rattle.std.specs.Prelude.{ℕ, zero, suc, ◌+◌, ◌-◌, List, [], ◌∷◌, length, take, drop, map, Result, Ok, Err, if◌then◌else◌, ◌==◌, slice_index}
+use Rattle.std.specs.List.{before_first, prefix_len, suffix_len, list_any}
+use Rattle.cam_words.specs.declared.word.TextFault.{TextFault}
+use Rattle.cam_words.specs.Bytes.{is_star, is_percent, is_skipped}
+use Rattle.cam_words.specs.Heads.{is_forbidden_in_word, is_forbidden_in_extended}
+use Rattle.cam_words.specs.Cutting.{Command, WordCommand, ExtendedCommand, bytes_of_command, FoundWord, word_of}
+
+abbrev pub Answer : Type 0
+Answer = Result FoundWord TextFault
+
+abbrev pub told : List FoundWord → List Answer
+told words = map Ok words
+
+-- a fault's number: the command holds a byte that it may not hold
+abbrev pub bad_byte : ℕ
+bad_byte = 1
+
+-- a fault's number: the command has no end
+abbrev pub unterminated : ℕ
+unterminated = 2
+
+-- the word at the front of a text, or its fault's number
+abbrev pub word_at : List ℕ → Result Command ℕ
+word_at text =
+    let word = before_first is_star text in
+    if list_any (is_forbidden_in_word word) word then Err bad_byte
+    else if length word == length text then Err unterminated
+    else Ok (WordCommand word)
+
+-- the extended command whose two `%` stand round these bytes
+abbrev pub command_within : List ℕ → Result Command ℕ
+command_within inside =
+    let len = length inside - suffix_len is_skipped inside in
+    if len == 0 then Err unterminated
+    else if is_star (slice_index inside (len - 1)) then Ok (ExtendedCommand (take (len - 1) inside) (drop len inside))
+    else Err unterminated
+
+-- the extended command at the front of a text, of which this follows its first `%`
+abbrev pub extended_at : List ℕ → Result Command ℕ
+extended_at text =
+    let inside = before_first is_percent text in
+    if list_any (is_forbidden_in_extended inside) inside then Err bad_byte
+    else if length inside == length text then Err unterminated
+    else command_within inside
+
+-- the command that begins with a byte, before the others
+abbrev pub command_at : ℕ → List ℕ → Result Command ℕ
+command_at first rest = if is_percent first then extended_at rest else word_at (first ∷ rest)
+
+-- what a command at a place gives, before what the text behind it gives
+abbrev pub answers_by : (ℕ → List ℕ → List Answer) → ℕ → List ℕ → Result Command ℕ → List Answer
+answers_by behind at text (Err code) = Err (record { code = code; at = at }) ∷ []
+answers_by behind at text (Ok command) =
+    let len = length (bytes_of_command command) in Ok (word_of at command) ∷ behind (at + len) (drop len text)
+
+-- the same of a text that does not begin with a skipped byte
+abbrev pub answers_at : (ℕ → List ℕ → List Answer) → ℕ → List ℕ → List Answer
+answers_at behind at [] = []
+answers_at behind at (first ∷ rest) = answers_by behind at (first ∷ rest) (command_at first rest)
+
+-- the answers of a text that stands at a place and has at most so many commands
+unfoldable pub reading_within : ℕ → ℕ → List ℕ → List Answer
+reading_within zero at text = []
+reading_within (suc commands) at text =
+    let run = prefix_len is_skipped text in answers_at (reading_within commands) (at + run) (drop run text)
+
+-- each command has a byte at least
+abbrev pub reading : ℕ → List ℕ → List Answer
+reading at text = reading_within (suc (length text)) at text

@@ -1,0 +1,69 @@
+//! What the first letters of a command make of it, skipped bytes left out.
+
+ghost use Rattle.std.specs.Prelude.{◌≡◌, length, take, drop, nat_eq, is_some, IfSome, MatchOption, [], ◌∷◌};
+ghost use Rattle.std.specs.List.{starts_with, list_any};
+ghost use Rattle.cam_words.specs.Bytes.{is_digit};
+ghost use Rattle.cam_words.specs.Heads.{packed, is_comment, is_free_text};
+
+use crate::bytes::leading_skipped;
+
+/// The first byte that is not skipped, and what stands behind it.
+fn first_kept(text: &[u8]) -> Option<(u8, &[u8])>
+    ensures { MatchOption result (packed text.now ≡ []) (λ kept. packed text.now ≡ kept.0 ∷ packed kept.1.now) }
+{
+    match &text[leading_skipped(text)..] {
+        [] => None,
+        [byte, rest @ ..] => Some((*byte, rest)),
+    }
+}
+
+/// What stands behind the head, if the text begins with it.
+fn strip_head<'a>(text: &'a [u8], head: &[u8]) -> Option<&'a [u8]>
+    ensures begins { is_some result ≡ starts_with nat_eq (packed text.now) head.now }
+    ensures rest { IfSome result (λ rest. packed rest.now ≡ drop (length head.now) (packed text.now)) }
+{
+    let mut rest = text;
+    for wanted in head {
+        let (byte, behind) = first_kept(rest)?;
+        if byte != *wanted {
+            return None;
+        }
+        rest = behind;
+    }
+    Some(rest)
+}
+
+fn begins_with(text: &[u8], head: &[u8]) -> bool
+    ensures { result ≡ starts_with nat_eq (packed text.now) head.now }
+{
+    strip_head(text, head).is_some()
+}
+
+fn begins_with_digit(text: &[u8]) -> bool
+    ensures { result ≡ list_any is_digit (take 1 (packed text.now)) }
+{
+    match first_kept(text) {
+        Some((byte, _)) => byte.is_ascii_digit(),
+        None => false,
+    }
+}
+
+/// Whether a word of this text is a comment: it begins with `G04`, or with `G4` and no digit after it.
+pub fn is_comment(text: &[u8]) -> bool
+    ensures { result ≡ is_comment text.now }
+{
+    if begins_with(text, b"G04") {
+        return true;
+    }
+    match strip_head(text, b"G4") {
+        Some(rest) => !begins_with_digit(rest),
+        None => false,
+    }
+}
+
+/// Whether an extended command of this text is an attribute or a name, which may hold any character.
+pub fn is_free_text(text: &[u8]) -> bool
+    ensures { result ≡ is_free_text text.now }
+{
+    begins_with(text, b"T") || begins_with(text, b"IN") || begins_with(text, b"LN")
+}
