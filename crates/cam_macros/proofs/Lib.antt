@@ -1,0 +1,16 @@
+pub mod NumberLemmas
+pub mod CutLemmas
+pub mod QuotientLemmas
+pub mod FieldLemmas
+pub mod Evaluation
+pub mod OutlineLemmas
+pub mod ExpansionLemmas
+pub mod Machine
+pub mod ScannerLemmas
+pub mod Marks
+pub mod Levels
+pub mod Soundness
+pub mod ExpressionLemmas
+pub mod ReadingLemmas
+pub mod PartLemmas
+pub mod OneReading

@@ -1,0 +1,109 @@
+-- Fields and parts, one at a time.
+use Rattle.std.proofs.Common.{◌≡◌, ℕ, suc, true, false, cond, not, List, [], ◌∷◌, ◌++◌, length, Option, Some, None, ap, sym, subst, ◌∙◌, append_assoc, append-nil}
+use Rattle.std.specs.Borrow.{Bor}
+use Rattle.cam_macros.specs.declared.part.Part.{Part}
+use Rattle.cam_macros.specs.declared.fault.MacroFault.{MacroFault}
+use Rattle.cam_macros.specs.declared.fault.MacroFault.TheVariants.{BadName, Malformed, PrimitiveRefused, RotationRefused, SizeRefused, OutOfMemory}
+use Rattle.cam_macros.specs.Tree.{Tree}
+use Rattle.cam_macros.specs.Grammar.{IsExpression}
+use Rattle.cam_macros.specs.Answers.{IsNoExpression}
+use Rattle.cam_macros.specs.Reading.{AreExpressions, AreParts, IsPart, IsNoFields, IsNoPart, IsNoParts, IsRefused, first, others, pieces, is_name, is_silent, spoken}
+
+-- how much text is left
+abbrev pub text_left : Option (Bor (List ℕ)) → ℕ
+text_left None = 0
+text_left (Some text) = suc (length text.now)
+
+-- the items stand for the texts before those that are left
+pub record AreReadBefore (left all : List (List ℕ)) (items : List Tree) : Type 0 where
+  pub forth : (more : List Tree) → AreExpressions left more → AreExpressions all (items ++ more)
+  pub back : (trees : List Tree) → AreExpressions all trees → (more : List Tree) × AreExpressions left more
+
+pub fields_start : (all : List (List ℕ)) → AreReadBefore all all []
+fields_start all = record { forth = λ more h. h; back = λ trees h. (trees, h) }
+
+tail_read : (text : List ℕ) (left : List (List ℕ)) (more : List Tree) → AreExpressions (text ∷ left) more → (rest : List Tree) × AreExpressions left rest
+tail_read text left [] h = absurd h
+tail_read text left (tree ∷ more) h = (more, h.1)
+
+head_read : (text : List ℕ) (left : List (List ℕ)) (more : List Tree) → AreExpressions (text ∷ left) more → (tree : Tree) × IsExpression text tree
+head_read text left [] h = absurd h
+head_read text left (tree ∷ more) h = (tree, h.0)
+
+pub fields_next : (text : List ℕ) (left all : List (List ℕ)) (items : List Tree) (tree : Tree) → AreReadBefore (text ∷ left) all items → IsExpression text tree → AreReadBefore left all (items ++ tree ∷ [])
+fields_next text left all items tree k e = record {
+  forth = λ more h. subst (AreExpressions all) (sym (append_assoc items (tree ∷ []) more)) (k.forth (tree ∷ more) (e, h));
+  back = λ trees h. let found = k.back trees h in tail_read text left found.0 found.1;
+}
+
+pub fields_end : (all : List (List ℕ)) (items : List Tree) → AreReadBefore [] all items → AreExpressions all items
+fields_end all items k = subst (AreExpressions all) (append-nil items) (k.forth [] tt)
+
+pub fields_fault : (fault : MacroFault) (text : List ℕ) (left all : List (List ℕ)) (items : List Tree) → AreReadBefore (text ∷ left) all items → IsNoExpression fault text → IsNoFields fault all
+fields_fault OutOfMemory text left all items k f = tt
+fields_fault Malformed text left all items k f = λ trees h.
+    let found = k.back trees h in
+    let first = head_read text left found.0 found.1 in
+    f first.0 first.1
+fields_fault BadName text left all items k f = f
+fields_fault PrimitiveRefused text left all items k f = f
+fields_fault RotationRefused text left all items k f = f
+fields_fault SizeRefused text left all items k f = f
+
+-- the same of parts
+pub record ArePartsBefore (left all : List (List ℕ)) (items : List Part) : Type 0 where
+  pub forth : (more : List Part) → AreParts left more → AreParts all (items ++ more)
+  pub back : (parts : List Part) → AreParts all parts → (more : List Part) × AreParts left more
+
+pub parts_start : (all : List (List ℕ)) → ArePartsBefore all all []
+parts_start all = record { forth = λ more h. h; back = λ parts h. (parts, h) }
+
+tail_part : (piece : List ℕ) (left : List (List ℕ)) (more : List Part) → AreParts (piece ∷ left) more → (rest : List Part) × AreParts left rest
+tail_part piece left [] h = absurd h
+tail_part piece left (part ∷ more) h = (more, h.1)
+
+head_part : (piece : List ℕ) (left : List (List ℕ)) (more : List Part) → AreParts (piece ∷ left) more → (part : Part) × IsPart piece part
+head_part piece left [] h = absurd h
+head_part piece left (part ∷ more) h = (part, h.0)
+
+spoken_yes : (piece : List ℕ) (left : List (List ℕ)) → is_silent piece ≡ false → spoken (piece ∷ left) ≡ piece ∷ spoken left
+spoken_yes piece left e = ap (λ v. cond (not v) (piece ∷ spoken left) (spoken left)) e
+
+spoken_no : (piece : List ℕ) (left : List (List ℕ)) → is_silent piece ≡ true → spoken (piece ∷ left) ≡ spoken left
+spoken_no piece left e = ap (λ v. cond (not v) (piece ∷ spoken left) (spoken left)) e
+
+pub parts_skip : (piece : List ℕ) (left all : List (List ℕ)) (items : List Part) → is_silent piece ≡ true → ArePartsBefore (spoken (piece ∷ left)) all items → ArePartsBefore (spoken left) all items
+parts_skip piece left all items e k = subst (λ l. ArePartsBefore l all items) (spoken_no piece left e) k
+
+pub parts_next : (piece : List ℕ) (left all : List (List ℕ)) (items : List Part) (part : Part) → is_silent piece ≡ false → ArePartsBefore (spoken (piece ∷ left)) all items → IsPart piece part → ArePartsBefore (spoken left) all (items ++ part ∷ [])
+parts_next piece left all items part e k p =
+    let first : ArePartsBefore (piece ∷ spoken left) all items = subst (λ l. ArePartsBefore l all items) (spoken_yes piece left e) k in
+    record {
+      forth = λ more h. subst (AreParts all) (sym (append_assoc items (part ∷ []) more)) (first.forth (part ∷ more) (p, h));
+      back = λ parts h. let found = first.back parts h in tail_part piece (spoken left) found.0 found.1;
+    }
+
+pub parts_end : (all : List (List ℕ)) (items : List Part) → ArePartsBefore [] all items → AreParts all items
+parts_end all items k = subst (AreParts all) (append-nil items) (k.forth [] tt)
+
+pub parts_fault : (fault : MacroFault) (piece : List ℕ) (left all : List (List ℕ)) (items : List Part) → is_silent piece ≡ false → ArePartsBefore (spoken (piece ∷ left)) (spoken all) items → IsNoPart fault piece → IsNoParts fault all
+parts_fault OutOfMemory piece left all items e k f = tt
+parts_fault Malformed piece left all items e k f = λ parts h.
+    let first : ArePartsBefore (piece ∷ spoken left) (spoken all) items = subst (λ l. ArePartsBefore l (spoken all) items) (spoken_yes piece left e) k in
+    let found = first.back parts h in
+    let part = head_part piece (spoken left) found.0 found.1 in
+    f part.0 part.1
+parts_fault BadName piece left all items e k f = f
+parts_fault PrimitiveRefused piece left all items e k f = f
+parts_fault RotationRefused piece left all items e k f = f
+parts_fault SizeRefused piece left all items e k f = f
+
+-- a fault of the parts is one of the macro
+pub refused : (fault : MacroFault) (text name : List ℕ) (rest : List (List ℕ)) → pieces text ≡ name ∷ rest → is_name name ≡ true → IsNoParts fault rest → IsRefused text fault
+refused OutOfMemory text name rest e named f = tt
+refused Malformed text name rest e named f =
+    (ap (λ l. is_name (first l)) e ∙ named, λ n parts h. f parts (subst (λ l. AreParts (spoken (others l)) parts) e h.parts_are))
+refused BadName text name rest e named f = absurd f
+refused PrimitiveRefused text name rest e named f = f
+refused RotationRefused text name rest e named f = f
+refused SizeRefused text name rest e named f = f

@@ -1,0 +1,7 @@
+use Rattle.std.proofs.Common.{◌≡◌, drop, []}
+use Rattle.cam_macros.specs.Stack.{run}
+use Rattle.cam_macros.specs.Variables.{looked_up}
+use Rattle.cam_macros.proofs.stack.evaluated.Given as goal
+
+abbrev pub invariant-loop-step : goal.invariant-loop-step
+invariant-loop-step l = run (looked_up l.variables) (drop l.step-index l.steps) l.stack ≡ run (looked_up l.variables) l.steps []

@@ -1,0 +1,20 @@
+-- Numbers as texts.
+use Rattle.std.specs.Prelude.{ℕ, ◌+◌, ◌-◌, ◌*◌, ◌/◌, List, [], ◌∷◌}
+
+-- the number that digits write behind those of n
+abbrev pub decimal_after : ℕ → List ℕ → ℕ
+decimal_after n [] = n
+decimal_after n (d ∷ ds) = decimal_after (10 * n + (d - 48)) ds
+
+-- the number that digits write
+abbrev pub decimal : List ℕ → ℕ
+decimal digits = decimal_after 0 digits
+
+-- what decimals are worth, of which the first counts so much and each later one a tenth of the one before
+abbrev pub fraction : ℕ → List ℕ → ℕ
+fraction worth [] = 0
+fraction worth (d ∷ ds) = worth * (d - 48) + fraction (worth / 10) ds
+
+-- a number in 10^-9 units; past the ninth decimal nothing counts
+abbrev pub billionths : List ℕ → List ℕ → ℕ
+billionths whole decimals = 1000000000 * decimal whole + fraction 100000000 decimals

@@ -1,0 +1,103 @@
+//! A macro as a file defines it.
+
+ghost use Rattle.std.specs.Prelude.{◌≡◌, filter, not, IfOk, IfErr};
+ghost use Rattle.cam_macros.specs.Answers.{IsUnlessMemory};
+ghost use Rattle.cam_macros.specs.Expansion.{expansion_of};
+ghost use Rattle.cam_macros.specs.Reading.{IsReading, IsRefused, counted, is_name, is_skipped};
+
+use crate::fault::MacroFault;
+use crate::number::cut;
+use crate::part::Parts;
+use crate::primitive::Prims;
+use cam_units::Unit;
+use std::alloc::{AllocError, Global};
+use std::marker::Model;
+
+/// The name of a macro.
+#[derive(Debug, Drop)]
+pub struct Name {
+    bytes: Vec<u8>,
+}
+
+impl Model for Name {
+    ghost use Rattle.std.specs.Prelude.{List, ℕ};
+
+    ghost Value = { List ℕ };
+
+    ghost view = { λ name. name.bytes.items };
+}
+
+/// An aperture macro (Gerber Layer Format Specification, "Aperture macro (AM)").
+#[derive(Debug, Drop)]
+pub struct Macro {
+    pub name: Name,
+    pub parts: Parts,
+}
+
+impl Name {
+    /// The bytes in order.
+    pub fn as_bytes(&self) -> &[u8]
+        ensures { result.now ≡ self.now }
+    {
+        self.bytes.as_slice()
+    }
+}
+
+impl Macro {
+    /// The macro of the text behind `AM` of an extended command, without its final `*`.
+    ///
+    /// `BadName` where the name is none, `Malformed` where a part is outside the grammar
+    /// (Gerber Layer Format Specification, "Aperture macro (AM)").
+    pub fn parse(alloc: Global, text: &[u8]) -> Result<Macro, MacroFault>
+        ensures ok { IfOk result (λ made. IsReading text.now made.name made.parts) }
+        ensures fault { IfErr result (IsRefused text.now) }
+    {
+        let text = counted(alloc, text)?;
+        let (name, rest) = cut(text.as_slice(), b'*');
+        if !is_name(name) {
+            return Err(MacroFault::BadName);
+        }
+        let bytes = name.to_vec(alloc)?;
+        let parts = Parts::parse(alloc, rest)?;
+        Ok(Macro {
+            name: Name { bytes },
+            parts,
+        })
+    }
+
+    /// The primitives under the parameters of AD, in 10^-9 units.
+    ///
+    /// Of the first faulty part the first of these: `PrimitiveRefused`, `Malformed`,
+    /// `RotationRefused`, `SizeRefused`; `OutOfMemory` may come before.
+    pub fn expand(&self, alloc: Global, params: &[i64], unit: Unit) -> Result<Prims, MacroFault>
+        ensures ok { IfOk result (λ prims. expansion_of unit params.now self.now.parts ≡ Ok prims) }
+        ensures fault { IfErr result (λ fault. IsUnlessMemory fault (expansion_of unit params.now self.now.parts)) }
+    {
+        self.parts.expand(alloc, params, unit)
+    }
+}
+
+/// The bytes that count.
+fn counted(alloc: Global, text: &[u8]) -> Result<Vec<u8>, AllocError>
+    ensures { IfOk result (λ bytes. bytes.items ≡ counted text.now) }
+{
+    text.iter()
+        .copied()
+        .filter(|b| !is_skipped(*b))
+        .collect(alloc)
+}
+
+fn is_skipped(byte: u8) -> bool
+    ensures { result ≡ is_skipped byte }
+{
+    matches!(byte, b'\t' | b'\n' | b'\r' | b' ')
+}
+
+fn is_name(name: &[u8]) -> bool
+    ensures { result ≡ is_name name.now }
+{
+    let Some(first) = name.first() else {
+        return false;
+    };
+    !first.is_ascii_digit() && !name.contains(&b',')
+}

@@ -1,0 +1,131 @@
+//! Whole numbers of 10^-9 units.
+
+ghost use Rattle.std.specs.Prelude.{◌≡◌, ◌<◌, ◌≤◌, ◌^◌, neg_ℤ, option_map, unsigned_abs, option_and_then};
+ghost use Rattle.cam_units.specs.Nearest.{nearest_of};
+ghost use Rattle.cam_macros.specs.Arithmetic.{within, applied, quotient};
+
+use crate::expression::Operator;
+
+/// 10^6 units, in 10^-9 units: every value is less in absolute value.
+const LIMIT: u128 = 1_000_000_000_000_000;
+
+const BILLION: u64 = 1_000_000_000;
+
+/// A number in 10^-9 units.
+#[derive(Clone, Copy, Debug, PartialEq, Eq)]
+pub(crate) struct Fixed {
+    pub(crate) billionths: i64,
+}
+
+/// A number in 10^-9 units that may still be too large.
+#[derive(Clone, Copy)]
+pub(crate) struct Wide {
+    pub(crate) billionths: i128,
+}
+
+/// What stands before an operator and behind it.
+#[derive(Clone, Copy)]
+pub(crate) struct Operands {
+    pub(crate) left: Fixed,
+    pub(crate) right: Fixed,
+}
+
+/// The quotient of two whole numbers.
+#[derive(Clone, Copy)]
+struct Ratio {
+    above: i128,
+    below: u64,
+}
+
+impl Ratio {
+    /// The nearest whole number, ties away from zero.
+    fn nearest(self) -> Wide
+        requires some { 0 < self.below }
+        requires short { unsigned_abs self.above ≤ 2 ^ 126 }
+        ensures { result.billionths ≡ nearest_of self.above self.below }
+    {
+        let below = u128::from(self.below);
+        let size = (2 * self.above.unsigned_abs() + below) / (2 * below);
+        Wide {
+            billionths: if self.above < 0 {
+                -(size as i128)
+            } else {
+                size as i128
+            },
+        }
+    }
+}
+
+impl Wide {
+    /// The number, where it is less than 10^6 units in absolute value.
+    pub(crate) fn within(self) -> Option<Fixed>
+        ensures { option_map (λ value. value.billionths) result ≡ within self.billionths }
+    {
+        if self.billionths.unsigned_abs() < LIMIT {
+            Some(Fixed {
+                billionths: self.billionths as i64,
+            })
+        } else {
+            None
+        }
+    }
+}
+
+impl Fixed {
+    pub(crate) fn wide(self) -> Wide
+        ensures { result.billionths ≡ self.billionths }
+    {
+        Wide {
+            billionths: i128::from(self.billionths),
+        }
+    }
+
+    pub(crate) fn negative(self) -> Wide
+        ensures { result.billionths ≡ neg_ℤ self.billionths }
+    {
+        Wide {
+            billionths: -i128::from(self.billionths),
+        }
+    }
+}
+
+impl Operands {
+    /// The answer, products and quotients rounded to nearest; `None` where the divisor is 0.
+    pub(crate) fn applied(self, operator: Operator) -> Option<Wide>
+        ensures { option_map (λ value. value.billionths) result ≡ applied operator self.left.billionths self.right.billionths }
+    {
+        let left = i128::from(self.left.billionths);
+        let right = i128::from(self.right.billionths);
+        match operator {
+            Operator::Add => Some(Wide {
+                billionths: left + right,
+            }),
+            Operator::Subtract => Some(Wide {
+                billionths: left - right,
+            }),
+            Operator::Multiply => Some(Ratio {
+                above: left * right,
+                below: BILLION,
+            }
+            .nearest()),
+            Operator::Divide => self.quotient(),
+        }
+    }
+
+    #[tactic(auto, using(crate::proofs::QuotientLemmas::quotient_back, crate::proofs::QuotientLemmas::quotient_forth))]
+    fn quotient(self) -> Option<Wide>
+        ensures { option_map (λ value. value.billionths) result ≡ quotient self.left.billionths self.right.billionths }
+    {
+        let below = self.right.billionths.unsigned_abs();
+        if below == 0 {
+            return None;
+        }
+        let left = i128::from(self.left.billionths);
+        if self.right.billionths < 0 {
+            let above = -left * 1_000_000_000;
+            return Some(Ratio { above, below }.nearest());
+        }
+        let above = left * 1_000_000_000;
+        Some(Ratio { above, below }.nearest())
+    }
+}

@@ -1,0 +1,240 @@
+//! The parts of a macro.
+
+ghost use Rattle.std.specs.Prelude.{◌≡◌, ◌∷◌, ℕ, Ok, OnOk, IfOk, IfErr};
+ghost use Rattle.cam_macros.specs.Answers.{IsUnlessMemory};
+ghost use Rattle.cam_macros.specs.Arithmetic.{Values};
+ghost use Rattle.cam_macros.specs.Expansion.{outcome, values_after, expansion_of, with_prims, all_worth, primitive_of, shape_of};
+ghost use Rattle.cam_macros.specs.Reading.{AreExpressions, AreParts, IsNoAssignment, IsNoFields, IsNoPart, IsNoParts, IsNoPrimitive, IsPart, is_silent, pieces_between, spoken};
+ghost use Rattle.cam_macros.specs.Values.{numbers};
+ghost use Rattle.cam_macros.specs.Variables.{looked_up};
+
+use crate::arithmetic::Fixed;
+use crate::expansion::{bar, disc, outline, rect};
+use crate::expression::Expression;
+use crate::fault::MacroFault;
+use crate::number::{cut, variable, whole_number};
+use crate::primitive::{Prim, Prims};
+use crate::variables::Variables;
+use cam_units::Unit;
+use std::alloc::Global;
+use std::marker::Model;
+
+/// The expressions of a primitive, in order.
+#[derive(Debug, Drop)]
+pub struct Fields {
+    items: Vec<Expression>,
+}
+
+impl Model for Fields {
+    ghost use Rattle.std.specs.Prelude.{List};
+    ghost use Rattle.std.specs.Coded.{coded_list};
+    ghost use Rattle.cam_macros.specs.Tree.{Tree};
+    ghost use Rattle.cam_macros.specs.Postfix.{tree_code};
+
+    ghost Value = { List Tree };
+
+    ghost coded = { coded_list tree_code };
+
+    ghost view = { λ fields. fields.items.items };
+}
+
+/// A part of a macro that is no comment.
+#[derive(Debug, Drop)]
+pub enum Part {
+    /// `$variable=value`, the variable from 1 to 9,999.
+    Assignment { variable: u32, value: Expression },
+    /// A primitive's code, where one past 9,999 counts as 10,000, and its fields.
+    Primitive { code: u32, fields: Fields },
+}
+
+/// The parts of a macro, in order.
+#[derive(Debug, Drop)]
+pub struct Parts {
+    items: Vec<Part>,
+}
+
+impl Model for Parts {
+    ghost use Rattle.std.specs.Prelude.{List};
+    ghost use Rattle.cam_macros.specs.declared.part.Part.{Part};
+
+    ghost Value = { List Part };
+
+    ghost use Rattle.std.specs.Coded.{coded_list};
+    ghost use Rattle.cam_macros.specs.contracts.part.Part as of_part;
+
+    ghost coded = { coded_list of_part.the_row.coded };
+
+    ghost view = { λ parts. parts.items.items };
+}
+
+impl Fields {
+    /// The expressions of the texts between commas; `Malformed` where one is outside the grammar.
+    fn parse(alloc: Global, texts: Option<&[u8]>) -> Result<Fields, MacroFault>
+        ensures ok { IfOk result (AreExpressions (pieces_between 44 texts.entry)) }
+        ensures fault { IfErr result (λ fault. IsNoFields fault (pieces_between 44 texts.entry)) }
+    {
+        let mut items = Vec::new(alloc);
+        let mut rest = texts;
+        while let Some(texts) = rest {
+            let (text, more) = cut(texts, b',');
+            items.push(Expression::parse(alloc, text)?)?;
+            rest = more;
+        }
+        Ok(Fields { items })
+    }
+
+    /// The values in order.
+    fn values(&self, alloc: Global, variables: &Variables<'_>) -> Result<Vec<Fixed>, MacroFault>
+        ensures ok { IfOk result (λ values. all_worth (looked_up variables.now) self.now ≡ Ok (numbers values.items)) }
+        ensures fault { IfErr result (λ fault. IsUnlessMemory fault (all_worth (looked_up variables.now) self.now)) }
+    {
+        let mut values = Vec::new(alloc);
+        for field in &self.items {
+            values.push(field.value(alloc, variables)?)?;
+        }
+        Ok(values)
+    }
+
+    /// The primitive of this code; `PrimitiveRefused` where there is none.
+    fn primitive(
+        &self,
+        alloc: Global,
+        code: u32,
+        variables: &Variables<'_>,
+        unit: Unit,
+    ) -> Result<Prim, MacroFault>
+        ensures ok { IfOk result (λ prim. primitive_of (shape_of code) unit (looked_up variables.now) self.now ≡ Ok prim) }
+        ensures fault { IfErr result (λ fault. IsUnlessMemory fault (primitive_of (shape_of code) unit (looked_up variables.now) self.now)) }
+    {
+        if !matches!(code, 1 | 2 | 4 | 20 | 21) {
+            return Err(MacroFault::PrimitiveRefused);
+        }
+        let values = self.values(alloc, variables)?;
+        match code {
+            1 => disc(unit, values.as_slice()),
+            4 => outline(alloc, unit, values.as_slice()),
+            21 => rect(unit, values.as_slice()),
+            _ => bar(unit, values.as_slice()),
+        }
+    }
+}
+
+impl Part {
+    /// The primitive of a code and its fields.
+    fn primitive(alloc: Global, piece: &[u8]) -> Result<Part, MacroFault>
+        ensures ok { IfOk result (IsPart piece.now) }
+        ensures fault { IfErr result (λ fault. IsNoPrimitive fault piece.now) }
+    {
+        let (digits, texts) = cut(piece, b',');
+        if digits.is_empty() {
+            return Err(MacroFault::Malformed);
+        }
+        let Some(code) = whole_number(digits) else {
+            return Err(MacroFault::Malformed);
+        };
+        let fields = Fields::parse(alloc, texts)?;
+        Ok(Part::Primitive {
+            code: code.min(10_000),
+            fields,
+        })
+    }
+
+    /// The assignment of which this stands behind `$`.
+    fn assignment(alloc: Global, piece: &[u8]) -> Result<Part, MacroFault>
+        ensures ok { IfOk result (IsPart (36 ∷ piece.now)) }
+        ensures fault { IfErr result (λ fault. IsNoAssignment fault (36 ∷ piece.now)) }
+    {
+        let (digits, text) = cut(piece, b'=');
+        let Some(text) = text else {
+            return Err(MacroFault::Malformed);
+        };
+        let Some(variable) = variable(digits) else {
+            return Err(MacroFault::Malformed);
+        };
+        let value = Expression::parse(alloc, text)?;
+        Ok(Part::Assignment { variable, value })
+    }
+
+    /// The part of a text without the bytes that do not count; `Malformed` where it is
+    /// outside the grammar.
+    fn parse(alloc: Global, piece: &[u8]) -> Result<Part, MacroFault>
+        ensures ok { IfOk result (IsPart piece.now) }
+        ensures fault { IfErr result (λ fault. IsNoPart fault piece.now) }
+    {
+        match piece {
+            [b'$', behind @ ..] => Part::assignment(alloc, behind),
+            _ => Part::primitive(alloc, piece),
+        }
+    }
+
+    /// Adds what the part makes, and sets what it sets.
+    fn expand(
+        &self,
+        alloc: Global,
+        variables: &mut Variables<'_>,
+        unit: Unit,
+        prims: &mut Vec<Prim>,
+    ) -> Result<(), MacroFault>
+        ensures made { OnOk result (with_prims prims.old.items (outcome unit (looked_up variables.old) self.now) ≡ Ok prims.new.items) }
+        ensures values { OnOk result ((n : ℕ) → looked_up variables.new n ≡ values_after (looked_up variables.old) self.now n) }
+        ensures fault { IfErr result (λ fault. IsUnlessMemory fault (outcome unit (looked_up variables.old) self.now)) }
+    {
+        match self {
+            Part::Assignment { variable, value } => {
+                let value = value.value(alloc, variables)?;
+                variables.set(*variable, value)?;
+            }
+            Part::Primitive { code, fields } => {
+                prims.push(fields.primitive(alloc, *code, variables, unit)?)?;
+            }
+        }
+        Ok(())
+    }
+}
+
+impl Parts {
+    /// The parts of the texts between stars, of which empty ones and comments are none.
+    pub(crate) fn parse(alloc: Global, texts: Option<&[u8]>) -> Result<Parts, MacroFault>
+        ensures ok { IfOk result (AreParts (spoken (pieces_between 42 texts.entry))) }
+        ensures fault { IfErr result (λ fault. IsNoParts fault (pieces_between 42 texts.entry)) }
+    {
+        let mut items = Vec::new(alloc);
+        let mut rest = texts;
+        while let Some(text) = rest {
+            let (piece, more) = cut(text, b'*');
+            rest = more;
+            if !is_silent(piece) {
+                items.push(Part::parse(alloc, piece)?)?;
+            }
+        }
+        Ok(Parts { items })
+    }
+
+    /// The primitives of the parts in order, or the fault of the first faulty part.
+    pub(crate) fn expand(
+        &self,
+        alloc: Global,
+        params: &[i64],
+        unit: Unit,
+    ) -> Result<Prims, MacroFault>
+        ensures ok { IfOk result (λ prims. expansion_of unit params.now self.now ≡ Ok prims) }
+        ensures fault { IfErr result (λ fault. IsUnlessMemory fault (expansion_of unit params.now self.now)) }
+    {
+        let mut variables = Variables::new(alloc, params);
+        let mut prims = Vec::new(alloc);
+        for part in &self.items {
+            part.expand(alloc, &mut variables, unit, &mut prims)?;
+        }
+        Ok(Prims::new(prims))
+    }
+}
+
+/// Whether a piece is empty or a comment.
+fn is_silent(piece: &[u8]) -> bool
+    ensures { result ≡ is_silent piece.now }
+{
+    match piece.first() {
+        Some(byte) => *byte == b'0',
+        None => true,
+    }
+}

@@ -1,0 +1,10 @@
+pub mod Widths
+pub mod Vectors
+pub mod Obrounds
+pub mod Circles
+pub mod Places
+pub mod Parity
+pub mod Strokes
+pub mod Crossings
+pub mod Boxes
+pub mod Caps

@@ -1,0 +1,103 @@
+-- Products of short numbers, as 128 bits compute them.
+use Rattle.std.proofs.Common.{◌*◌, ◌≡◌, ◌^◌, ◌<◌, ◌≤◌, ◌↔◌, IsTrue, Bool, ℤ, pos, negsuc, ◌≤ℤ◌, refl, ◌+ℤ◌, ◌-ℤ◌, ◌*ℤ◌, FitsSigned, to_z, of_z, w64, arith, ◌∙◌}
+use Rattle.std.specs.Int.{w128}
+use lib.Signed.{le_z}
+use Rattle.std.proofs.lemmas.Int.{ints, unsigned_abs-mul, fits_signed_from_abs}
+use Rattle.std.proofs.lemmas.Nat.{mul-le, mul-lt}
+use Rattle.std.specs.Int.RustNames.{unsigned_abs}
+use Rattle.cam_shapes.specs.declared.vector.Vector.{Vector}
+use Rattle.cam_shapes.specs.Plane.{IsShort, cross, dot, square}
+
+abbrev pub wide : ℤ → ℤ
+wide z = to_z w128 (of_z w128 z)
+
+abbrev pub narrow : ℤ → ℤ
+narrow z = to_z w64 (of_z w64 z)
+
+-- a short number is itself in 64 bits, and a longer one in 128
+kept_narrow : (z : ℤ) → unsigned_abs z < 2 ^ 33 → narrow z ≡ z
+kept_narrow z h = omega (arith, ints)
+
+kept_wide : (z : ℤ) → unsigned_abs z < 2 ^ 126 → wide z ≡ z
+kept_wide z h = omega (arith, ints)
+
+-- a square against a bound, where both were passed on in 128 bits
+pub passed_square : (b : Bool) (r m u v : ℤ) → unsigned_abs r < 2 ^ 126 → unsigned_abs m < 2 ^ 126
+    → r ≡ u → m ≡ v → (IsTrue b ↔ square (wide r) ≤ℤ wide m) → (IsTrue b ↔ square u ≤ℤ v)
+passed_square b r m u v p q e f told = rw (kept_wide r p, kept_wide m q, e, f) at told
+
+pub square_is : (z : ℤ) → square z ≡ pos (unsigned_abs z * unsigned_abs z)
+square_is (pos n) = refl
+square_is (negsuc n) = refl
+
+-- a root of 2^63 or more has a square of 2^126 or more
+pub long_root : (z m : ℤ) → unsigned_abs m < 2 ^ 126 → 2 ^ 63 ≤ unsigned_abs z → square z ≤ℤ m → ⊥
+long_root z m small long h =
+    omega (arith, ints, square_is z, mul-le (2 ^ 63) (2 ^ 63) (unsigned_abs z) (unsigned_abs z) long long)
+
+pub short_product : (a b : ℤ) → unsigned_abs a < 2 ^ 33 → unsigned_abs b < 2 ^ 33 → unsigned_abs (a *ℤ b) < 2 ^ 66
+short_product a b p q =
+    omega (arith, unsigned_abs-mul a b, mul-lt (unsigned_abs a) (unsigned_abs b) (2 ^ 33) (2 ^ 33) p q)
+
+-- the product of two coordinates
+pub kept_product : (a b r t : ℤ) → unsigned_abs a < 2 ^ 33 → unsigned_abs b < 2 ^ 33
+    → r ≡ narrow a → t ≡ narrow b → wide (wide r *ℤ wide t) ≡ a *ℤ b
+kept_product a b r t p q e f =
+    let ea : r ≡ a = e ∙ kept_narrow a p in
+    let eb : t ≡ b = f ∙ kept_narrow b q in
+    let wa : wide a ≡ a = omega (arith, ints) in
+    let wb : wide b ≡ b = omega (arith, ints) in
+    let product : unsigned_abs (a *ℤ b) < 2 ^ 66 = short_product a b p q in
+    rw (ea, eb, wa, wb) (kept_wide (a *ℤ b) (omega arith))
+
+sum_bound : (p q : ℤ) → unsigned_abs p < 2 ^ 66 → unsigned_abs q < 2 ^ 66 → unsigned_abs (p +ℤ q) < 2 ^ 67
+sum_bound p q h k = omega (arith, ints)
+
+difference_bound : (p q : ℤ) → unsigned_abs p < 2 ^ 66 → unsigned_abs q < 2 ^ 66 → unsigned_abs (p -ℤ q) < 2 ^ 67
+difference_bound p q h k = omega (arith, ints)
+
+pub dot_bound : (v w : Vector) → IsShort v → IsShort w → unsigned_abs (dot v w) < 2 ^ 67
+dot_bound v w h k =
+    sum_bound (v.x *ℤ w.x) (v.y *ℤ w.y) (short_product v.x w.x h.x k.x) (short_product v.y w.y h.y k.y)
+
+pub cross_bound : (v w : Vector) → IsShort v → IsShort w → unsigned_abs (cross v w) < 2 ^ 67
+cross_bound v w h k =
+    difference_bound (v.x *ℤ w.y) (v.y *ℤ w.x) (short_product v.x w.y h.x k.y) (short_product v.y w.x h.y k.x)
+
+pub fits : (z : ℤ) → unsigned_abs z < 2 ^ 67 → FitsSigned w128 z
+fits z h = fits_signed_from_abs w128 z (omega arith)
+
+pub kept : (z : ℤ) → unsigned_abs z < 2 ^ 67 → wide z ≡ z
+kept z h = kept_wide z (omega arith)
+
+-- a difference of three products, as 128 bits compute it
+pub differences_bound : (a b c : ℤ) → unsigned_abs a < 2 ^ 67 → unsigned_abs b < 2 ^ 67 → unsigned_abs c < 2 ^ 67
+    → unsigned_abs (a -ℤ b -ℤ c) < 2 ^ 70
+differences_bound a b c p q r = omega (arith, ints)
+
+one_difference : (a b : ℤ) → unsigned_abs a < 2 ^ 67 → unsigned_abs b < 2 ^ 67 → wide (wide a -ℤ wide b) ≡ a -ℤ b
+one_difference a b p q = omega (arith, ints)
+
+pub kept_differences : (a b c : ℤ) → unsigned_abs a < 2 ^ 67 → unsigned_abs b < 2 ^ 67 → unsigned_abs c < 2 ^ 67
+    → wide (wide (wide a -ℤ wide b) -ℤ wide c) ≡ a -ℤ b -ℤ c
+kept_differences a b c p q r =
+    let bound : unsigned_abs (a -ℤ b -ℤ c) < 2 ^ 70 = differences_bound a b c p q r in
+    rw (one_difference a b p q, kept c r) (kept_wide (a -ℤ b -ℤ c) (omega arith))
+
+pub differences_fit : (a b c : ℤ) → unsigned_abs a < 2 ^ 67 → unsigned_abs b < 2 ^ 67 → unsigned_abs c < 2 ^ 67
+    → FitsSigned w128 (wide (wide a -ℤ wide b) -ℤ wide c)
+differences_fit a b c p q r =
+    let bound : unsigned_abs (a -ℤ b -ℤ c) < 2 ^ 70 = differences_bound a b c p q r in
+    rw (one_difference a b p q, kept c r) (fits_signed_from_abs w128 (a -ℤ b -ℤ c) (omega arith))
+
+-- a sum of two products against a third, as 128 bits compare it
+kept_sum : (a b : ℤ) → unsigned_abs a < 2 ^ 67 → unsigned_abs b < 2 ^ 67 → wide (wide a +ℤ wide b) ≡ a +ℤ b
+kept_sum a b p q = omega (arith, ints)
+
+at_most_is : (a b : ℤ) → IsTrue (le_z a b) ↔ a ≤ℤ b
+at_most_is a b = ((λ h. grind (arith, ints)), (λ h. grind (arith, ints)))
+
+pub passed_sum : (a b c u v w : ℤ) → unsigned_abs a < 2 ^ 67 → unsigned_abs b < 2 ^ 67 → unsigned_abs c < 2 ^ 67
+    → a ≡ u → b ≡ v → c ≡ w → IsTrue (le_z (wide (wide a +ℤ wide b)) (wide c)) ↔ (u +ℤ v) ≤ℤ w
+passed_sum a b c u v w p q r e f g =
+    rw (kept_sum a b p q, kept c r, e, f, g) (at_most_is (u +ℤ v) w)

@@ -1,0 +1,8 @@
+use Rattle.cam_shapes.specs.Placing.{placed_contour}
+use Rattle.cam_shapes.proofs.Parity.{sides_are_parity}
+use Rattle.cam_shapes.proofs.contour.in_contour.Goals as goal
+
+pub returns : goal.returns
+returns c =
+    sides_are_parity c.args.spot (placed_contour c.args.turn c.args.offset c.args.contour.now) c.is_enclosed.result
+    (rw (c.point.ensures, c.as_slice.ensures) at c.is_enclosed.ensures)

@@ -1,0 +1,10 @@
+pub mod Plane
+pub mod Disc
+pub mod Box
+pub mod Bar
+pub mod Arc
+pub mod Edge
+pub mod Cap
+pub mod Placing
+pub mod Contour
+pub mod Sides

@@ -1,0 +1,52 @@
+-- Exact plot.
+use Rattle.std.proofs.Common.{◌≡◌, ℕ, true, List, Option, None, Some, Ok, refl, ap}
+use Rattle.std.specs.Option.{option_map}
+use Rattle.cam_station.specs.declared.reply.Reply.{Reply}
+use Rattle.cam_station.specs.declared.reply.Reply.TheVariants.{Bytes}
+use Rattle.cam_station.specs.declared.window.Window.{Window}
+use Rattle.cam_station.specs.Documents.{layer_at, layer_named, place_of}
+use Rattle.cam_station.specs.Layers.{Content}
+use Rattle.cam_station.specs.Machine.{State, Memory, Granted, RefusedToReader, RefusedToStation, fresh, plot_at, plot_in}
+use Rattle.cam_station.specs.Picture.{accepts, plot_of, tiles_of}
+use Rattle.cam_station.specs.Plots.{ExactPlot, IsPlotOf, PictureLaw}
+use Rattle.cam_station.specs.Undoing.{states_after}
+use Rattle.cam_station.proofs.Reached.{IsReached, reached}
+
+-- an accepted plot of a layer had a window, and answers its picture there
+record IsPicture (s : State) (c : Content) (reply : Reply) : Type 0 where
+  window : Window
+  in_force : s.window ≡ Some window
+  answered : reply ≡ Bytes (plot_of window c) (tiles_of window)
+
+plotted_in : (s : State) (m : Memory) (c : Content) (w : Option Window) (reply : Reply) → s.window ≡ w → (plot_in s m c w).1 ≡ Ok reply → IsPicture s c reply
+plotted_in s m c None reply e h = absurd cc
+plotted_in s Granted c (Some w) reply e h = record { window = w; in_force = e; answered = cc }
+plotted_in s RefusedToReader c (Some w) reply e h = record { window = w; in_force = e; answered = cc }
+plotted_in s RefusedToStation c (Some w) reply e h = absurd cc
+
+shown : PictureLaw → (s : State) (name : List ℕ) (c : Content) (reply : Reply) → ((w : Window) → s.window ≡ Some w → accepts w ≡ true)
+    → layer_named name s.document ≡ Some c → IsPicture s c reply → IsPlotOf s name reply
+shown law s name c reply accepted named p =
+    record {
+      window = p.window;
+      content = c;
+      bytes = plot_of p.window c;
+      in_force = p.in_force;
+      named = named;
+      answered = p.answered;
+      picture = refl;
+      pixels = law p.window c (accepted p.window p.in_force);
+    }
+
+plotted : PictureLaw → (s : State) (m : Memory) (name : List ℕ) (place : Option ℕ) (reply : Reply) → ((w : Window) → s.window ≡ Some w → accepts w ≡ true)
+    → place_of name s.document ≡ place → (plot_at s m place).1 ≡ Ok reply → IsPlotOf s name reply
+plotted law s m name None reply accepted e h = absurd cc
+plotted law s m name (Some place) reply accepted e h =
+    shown law s name (layer_at s.document place) reply accepted (ap (option_map (layer_at s.document)) e)
+    (plotted_in s m (layer_at s.document place) s.window reply refl h)
+
+pub exact_plot : PictureLaw → ExactPlot
+exact_plot law depth before name m reply h =
+    let s : State = states_after (fresh depth) before in
+    let r : IsReached depth s = reached depth before in
+    plotted law s m name (place_of name s.document) reply r.in_force refl h

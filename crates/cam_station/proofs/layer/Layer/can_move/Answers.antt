@@ -1,0 +1,13 @@
+use Rattle.std.proofs.Common.{sym, ap, ◌∙◌, get_or, FitsSigned, w64}
+use Rattle.std.proofs.lemmas.Int.{to_z-of_z}
+use Rattle.cam_station.specs.Layers.{Content}
+use Rattle.cam_station.proofs.LayerLemmas.{can_move_of-read}
+use Rattle.cam_station.proofs.layer.Layer.can_move.Goals as goal
+
+pub returns : goal.returns
+returns c =
+    let dx_fits : FitsSigned w64 c.args.dx = c.ranges.dx in
+    let dy_fits : FitsSigned w64 c.args.dy = c.ranges.dy in
+    let read = c.index.ensures ∙ ap (λ (v : Content). get_or v.flashes c.args.item c.index.result.now) c.self.view_is in
+    (simp to_z-of_z at c.can_move.ensures)
+    ∙ sym (can_move_of-read c.args.self.now c.args.item c.args.dx c.args.dy c.index.result.now c.requires read)

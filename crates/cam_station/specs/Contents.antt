@@ -1,0 +1,51 @@
+-- What paths hold, as far as it is told, and the counts of failures.
+use Rattle.std.specs.Prelude.{◌≡◌, ◌≢◌, ℕ, ◌+◌, ◌-◌, ◌^◌, ◌≤◌, min, List, Option, None, Some, IfSome, ⊤, Bool, true, false, Result, Ok, Err}
+use Rattle.cam_station.specs.declared.files.FileFault.{FileFault}
+use Rattle.cam_station.specs.declared.files.FileFault.TheVariants.{Failed, Memory}
+
+-- the bytes of each path whose bytes are told; nothing where the type tells of none
+abbrev pub Contents : Type 0
+Contents = Option (List ℕ → Option (List ℕ))
+
+-- what a get at this path gave is what the path holds
+abbrev pub Holds : Contents → List ℕ → List ℕ → Type 0
+Holds None path bytes = ⊤
+Holds (Some told) path bytes = IfSome (told path) (λ held. bytes ≡ held)
+
+-- every path but this one holds what it held
+abbrev pub KeepsOthers : (List ℕ → Option (List ℕ)) → (List ℕ → Option (List ℕ)) → List ℕ → Type 0
+KeepsOthers old new path = (other : List ℕ) → other ≢ path → new other ≡ old other
+
+-- this path holds these bytes now, and every other what it held
+abbrev pub Stored : Contents → Contents → List ℕ → List ℕ → Type 0
+Stored None new path bytes = ⊤
+Stored (Some old) None path bytes = ⊥
+Stored (Some old) (Some new) path bytes = (new path ≡ Some bytes) × KeepsOthers old new path
+
+-- nothing is told of what this path holds now, and every other holds what it held
+abbrev pub MayHaveStored : Contents → Contents → List ℕ → Type 0
+MayHaveStored None new path = ⊤
+MayHaveStored (Some old) None path = ⊥
+MayHaveStored (Some old) (Some new) path = KeepsOthers old new path
+
+-- the last number that a count of failures reaches
+abbrev pub last_count : ℕ
+last_count = 2 ^ 64 - 1
+
+-- at least this many failures were counted, unless the count reached its last number
+abbrev pub HasRisenBy : ℕ → ℕ → ℕ → Type 0
+HasRisenBy n old new = min (old + n) last_count ≤ new
+
+-- the files' failures that an answer stands for
+abbrev pub fault_failures : FileFault → ℕ
+fault_failures Failed = 1
+fault_failures Memory = 0
+
+abbrev pub failures_of : {T : Type 0} → Result T FileFault → ℕ
+failures_of (Ok given) = 0
+failures_of (Err fault) = fault_failures fault
+
+-- one failure where the bytes were not said
+abbrev pub unsaid : Bool → ℕ
+unsaid true = 0
+unsaid false = 1

@@ -1,0 +1,197 @@
+-- The machine of documents that a station is: it keeps whole documents, and one command is one step.
+use Rattle.std.specs.Prelude.{◌≡◌, ℕ, ◌≤◌, nat_le, nat_lt, ℤ, true, ◌==◌, ◌&&◌, if◌then◌else◌, List, [], ◌∷◌, ◌++◌, length, take, Option, None, Some, Result, Ok, Err, is_some}
+use Rattle.cam_station.specs.declared.command.Command.{Command}
+use Rattle.cam_station.specs.declared.command.Command.TheVariants.{Load, SetWindow, Plot, Delete, Move, Undo, Redo, ListAll, ListLayer}
+use Rattle.cam_station.specs.declared.command.FileKind.{FileKind}
+use Rattle.cam_station.specs.declared.command.FileKind.TheVariants.{Gerber}
+use Rattle.cam_station.specs.declared.document.Sheet.{Sheet}
+use Rattle.cam_station.specs.declared.fault.Fault.{Fault}
+use Rattle.cam_station.specs.declared.gerber.ReadFault.{ReadFault}
+use Rattle.cam_station.specs.declared.reply.Reply.{Reply}
+use Rattle.cam_station.specs.declared.reply.Reply.TheVariants.{Done, Numbers, Bytes}
+use Rattle.cam_station.specs.declared.reply.Numbers.TheVariants.{One, Two, Three}
+use Rattle.cam_station.specs.declared.window.Window.{Window}
+use Rattle.cam_station.specs.Documents.{layer_at, place_of, sheet, with_layer}
+use Rattle.cam_station.specs.Layers.{Content, can_move_of, with_shifted, without_item}
+use Rattle.cam_station.specs.Picture.{accepts, plot_of, tiles_of}
+use Rattle.cam_station.specs.Reading.{no_memory, reading_of}
+
+-- the document and the window; the earlier documents, the latest first; those that were taken back, the next first
+pub record State : Type 0 where
+  pub depth : ℕ
+  pub document : List Sheet
+  pub window : Option Window
+  pub past : List (List Sheet)
+  pub future : List (List Sheet)
+
+-- a station as it is made
+abbrev pub fresh : ℕ → State
+fresh depth = record { depth = depth; document = []; window = None; past = []; future = [] }
+
+abbrev pub Outcome : Type 0
+Outcome = Result Reply Fault
+
+abbrev pub fault : ℕ → Fault
+fault code = record { code = code; at = None }
+
+abbrev pub refused : ℕ → Outcome
+refused code = Err (fault code)
+
+abbrev pub refused_at : ℕ → ℕ → Outcome
+refused_at code place = Err (record { code = code; at = Some place })
+
+-- a station of this depth, or the refusal of a depth that is not from 1 to 1,000
+abbrev pub station_of : ℕ → Result State Fault
+station_of depth = if nat_le 1 depth && nat_le depth 1000 then Ok (fresh depth) else Err (fault 50)
+
+-- whether a growth was refused, and to whom
+pub data Memory : Type 0 where
+  Granted : Memory
+  RefusedToReader : Memory
+  RefusedToStation : Memory
+
+-- what the answer tells of it
+abbrev pub memory_of : Outcome → Memory
+memory_of (Ok reply) = Granted
+memory_of (Err f) = if f.code == 30 then (if is_some f.at then RefusedToReader else RefusedToStation) else Granted
+
+-- a change that needs room in the station: without it the command is refused, and nothing changes
+abbrev pub with_room : Memory → State → State × Outcome → State × Outcome
+with_room Granted s change = change
+with_room RefusedToReader s change = change
+with_room RefusedToStation s change = (s, refused 30)
+
+-- load ----------------------------------------------------------------------------------------
+
+-- what a file of this kind means
+abbrev pub meaning_of : FileKind → List ℕ → Result Content ReadFault
+meaning_of Gerber bytes = reading_of bytes
+
+-- what the reader answers
+abbrev pub reader_answer : Memory → Result Content ReadFault → Result Content ReadFault
+reader_answer Granted meaning = meaning
+reader_answer RefusedToReader meaning = Err no_memory
+reader_answer RefusedToStation meaning = meaning
+
+-- the sheet comes last, and no edit before it can be taken back
+abbrev pub with_sheet : State → List ℕ → Content → State
+with_sheet s name content = record s { document = s.document ++ sheet name content ∷ []; past = []; future = [] }
+
+abbrev pub load_read : State → List ℕ → Memory → Result Content ReadFault → State × Outcome
+load_read s name memory (Err f) = (s, refused_at f.code f.at)
+load_read s name memory (Ok content) =
+    with_room memory s (with_sheet s name content, Ok (Numbers (One (length content.flashes))))
+
+abbrev pub load_step : State → List ℕ → FileKind → List ℕ → Memory → State × Outcome
+load_step s name kind file memory =
+    if is_some (place_of name s.document) then (s, refused 83)
+    else (if nat_le 32 (length s.document) then (s, refused 85)
+    else load_read s name memory (reader_answer memory (meaning_of kind file)))
+
+-- window and plot -----------------------------------------------------------------------------
+
+abbrev pub window_step : State → Window → State × Outcome
+window_step s w = if accepts w then (record s { window = Some w }, Ok Done) else (s, refused 50)
+
+abbrev pub plot_in : State → Memory → Content → Option Window → State × Outcome
+plot_in s memory content None = (s, refused 84)
+plot_in s memory content (Some w) = with_room memory s (s, Ok (Bytes (plot_of w content) (tiles_of w)))
+
+abbrev pub plot_at : State → Memory → Option ℕ → State × Outcome
+plot_at s memory None = (s, refused 60)
+plot_at s memory (Some place) = plot_in s memory (layer_at s.document place) s.window
+
+abbrev pub plot_step : State → List ℕ → Memory → State × Outcome
+plot_step s name memory = plot_at s memory (place_of name s.document)
+
+-- edits ---------------------------------------------------------------------------------------
+
+-- the layer without an item, or the number of the refusal
+abbrev pub delete_of : ℕ → Content → Result Content ℕ
+delete_of item c = if nat_lt item (length c.flashes) then Ok (without_item c item) else Err 61
+
+-- the layer with an item shifted, or the number of the refusal
+abbrev pub move_of : ℕ → ℤ → ℤ → Content → Result Content ℕ
+move_of item dx dy c =
+    if nat_lt item (length c.flashes)
+    then (if can_move_of c item dx dy then Ok (with_shifted c item dx dy) else Err 65)
+    else Err 61
+
+-- the document as it is joins the earlier ones, of which the latest stay; none can be made again
+abbrev pub with_document_kept : State → State
+with_document_kept s = record s { past = take s.depth (s.document ∷ s.past); future = [] }
+
+-- the state after an accepted edit
+abbrev pub with_edit : State → List Sheet → State
+with_edit s document = record (with_document_kept s) { document = document }
+
+abbrev pub edit_to : State → Memory → ℕ → Result Content ℕ → State × Outcome
+edit_to s memory place (Err code) = (s, refused code)
+edit_to s memory place (Ok content) = with_room memory s (with_edit s (with_layer s.document place content), Ok Done)
+
+abbrev pub edit_at : State → Memory → (Content → Result Content ℕ) → Option ℕ → State × Outcome
+edit_at s memory edit None = (s, refused 60)
+edit_at s memory edit (Some place) = edit_to s memory place (edit (layer_at s.document place))
+
+-- an edit of the layer of this name
+abbrev pub edit_step : State → List ℕ → Memory → (Content → Result Content ℕ) → State × Outcome
+edit_step s name memory edit = edit_at s memory edit (place_of name s.document)
+
+abbrev pub delete_step : State → List ℕ → ℕ → Memory → State × Outcome
+delete_step s name item memory = edit_step s name memory (delete_of item)
+
+abbrev pub move_step : State → List ℕ → ℕ → ℤ → ℤ → Memory → State × Outcome
+move_step s name item dx dy memory = edit_step s name memory (move_of item dx dy)
+
+-- undo and redo -------------------------------------------------------------------------------
+
+abbrev pub undo_to : State → Memory → List (List Sheet) → State × Outcome
+undo_to s memory [] = (s, refused 70)
+undo_to s memory (earlier ∷ past) =
+    with_room memory s (record s { document = earlier; past = past; future = s.document ∷ s.future }, Ok Done)
+
+-- back to the latest earlier document
+abbrev pub undo_step : State → Memory → State × Outcome
+undo_step s memory = undo_to s memory s.past
+
+abbrev pub redo_to : State → Memory → List (List Sheet) → State × Outcome
+redo_to s memory [] = (s, refused 71)
+redo_to s memory (later ∷ future) =
+    with_room memory s (record s { document = later; past = s.document ∷ s.past; future = future }, Ok Done)
+
+-- to the next of those that were taken back
+abbrev pub redo_step : State → Memory → State × Outcome
+redo_step s memory = redo_to s memory s.future
+
+-- lists ---------------------------------------------------------------------------------------
+
+abbrev pub list_step : State → State × Outcome
+list_step s = (s, Ok (Numbers (Three (length s.document) (length s.past) (length s.future))))
+
+abbrev pub list_content : Content → Outcome
+list_content c = Ok (Numbers (Two (length c.flashes) (length c.apertures)))
+
+abbrev pub list_layer_at : State → Option ℕ → State × Outcome
+list_layer_at s None = (s, refused 60)
+list_layer_at s (Some place) = (s, list_content (layer_at s.document place))
+
+abbrev pub list_layer_step : State → List ℕ → State × Outcome
+list_layer_step s name = list_layer_at s (place_of name s.document)
+
+-- one command: the state after it, and its answer
+abbrev pub step : State → Command → Memory → State × Outcome
+step s (Load name kind file) memory = load_step s name kind file memory
+step s (SetWindow w) memory = window_step s w
+step s (Plot name) memory = plot_step s name memory
+step s (Delete name item) memory = delete_step s name item memory
+step s (Move name item dx dy) memory = move_step s name item dx dy memory
+step s Undo memory = undo_step s memory
+step s Redo memory = redo_step s memory
+step s ListAll memory = list_step s
+step s (ListLayer name) memory = list_layer_step s name
+
+-- what every station keeps: its depth is from 1 to 1,000, and the window in force was accepted
+pub record IsStation (depth : ℕ) (window : Option Window) : Type 0 where
+  pub least : 1 ≤ depth
+  pub greatest : depth ≤ 1000
+  pub in_force : (w : Window) → window ≡ Some w → accepts w ≡ true

@@ -1,0 +1,28 @@
+//! Laws of lists of commands.
+
+ghost use Rattle.cam_station.specs.Plots.{ExactPlot};
+ghost use Rattle.cam_station.specs.Undoing.{DepthLaw, ExactUndo, ExactUndoEverywhere, RefusalLaw};
+
+/// A refused command changes nothing.
+pub fn refusals_change_nothing()
+    ensures { RefusalLaw }
+{}
+
+/// A station of some depth never keeps more documents than that, earlier ones and those
+/// that were taken back together.
+pub fn depth_is_kept()
+    ensures { DepthLaw }
+{}
+
+/// An accepted edit, quiet commands and then an undo give back the same layers and, in
+/// every window, the same pictures; after quiet commands again a redo gives the edited ones.
+pub fn undo_is_exact()
+    ensures reached { ExactUndo }
+    ensures everywhere { ExactUndoEverywhere }
+{}
+
+/// After any list of commands each plotted pixel is black exactly where its centre lies in
+/// the image of the layer as it then is.
+pub fn plot_is_exact()
+    ensures { ExactPlot }
+{}

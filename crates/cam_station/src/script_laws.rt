@@ -1,0 +1,14 @@
+//! Laws of the definition of a run.
+
+ghost use Rattle.cam_station.specs.RunLaws.{FewFileRefusals, RunIsCommands};
+
+/// No more lines are refused 82 than the failures of files rose by, unless these end at the
+/// greatest count.
+pub fn few_file_refusals()
+    ensures { FewFileRefusals }
+{}
+
+/// A run over bytes is a run of the machine over its commands.
+pub fn run_is_commands()
+    ensures { RunIsCommands }
+{}

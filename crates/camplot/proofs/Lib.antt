@@ -1,0 +1,2 @@
+pub mod PlainCalls
+pub mod Values

@@ -1,0 +1,62 @@
+use Rattle.std.proofs.Common.{◌≡◌, ◌∙◌, ap, codes, refl, ℕ, List, [], map, string_bytes, sym, subst, rules, Result, Ok, Err, IfErr, MatchResult}
+use Rattle.std.specs.Prelude.{Some, option_map, unwrap_or}
+use Rattle.std.specs.Result.{IsErr}
+use Rattle.std.specs.Str.Parse.{ExplainsUnsignedError, HasUnsignedDigitsIfOk, ParsesUnsigned}
+use Rattle.std.specs.declared.num.ParseIntError.{ParseIntError}
+use Rattle.clap.specs.Words.{App, Text, app_of, first_of, found_of, is_simple, matches_of, one_of, rows_of}
+use Rattle.clap.specs.Faults.{fault_of, is_simple_and_free}
+use Rattle.clap.proofs.CallerLemmas.{some_of_text}
+use Rattle.clap.proofs.WalkLemmas.{first_value-rows, one_text-rows}
+use Rattle.camplot.specs.Synopsis.{IsCallFor, IsOfMemory, camplot, number_written}
+use Rattle.camplot.proofs.PlainCalls.{camplot_free, camplot_simple, plain_is_call, same_call}
+use Rattle.camplot.proofs.Values.{IsNumberOf, depth_has_value, depth_number, script_has_value}
+use Rattle.camplot.proofs.options.options.Goals as goal
+
+of_err : {X E : Type 0} (r : Result X E) (P : X → Type 0) (Q : E → Type 0) → IsErr r → IfErr r Q → MatchResult r P Q
+of_err (Ok x) P Q is h = cc
+of_err (Err e) P Q is h = h
+
+pub returns-in_err-matches-clause-plain : goal.returns-in_err-matches-clause-plain
+returns-in_err-matches-clause-plain c name script depth path range is =
+    let none : fault_of camplot (map string_bytes c.args.words.now) ≡ [] = ap (fault_of camplot) is ∙ (plain_is_call name script depth path range).accepted in
+    let memory : IfErr c.from_residual-in_err-matches.result IsOfMemory = search rules in
+    of_err c.from_residual-in_err-matches.result _ _ c.from_residual-in_err-matches.ensures.0 memory
+
+pub unwrap-script-requires : goal.unwrap-script-requires
+unwrap-script-requires c =
+    some_of_text _ c.get_str.result _ c.get_str.ensures (script_has_value _ _ c.in_ok-command.ensures c.in_ok-matches.ensures.parsed)
+
+-- how `u32` reads a text
+abbrev Reads : List ℕ → Result ℕ ParseIntError → Type 0
+Reads text r = ParsesUnsigned 32 10 text r × ExplainsUnsignedError 10 text r × HasUnsignedDigitsIfOk text r
+
+pub unwrap-depth-requires : goal.unwrap-depth-requires
+unwrap-depth-requires c =
+    let has = depth_has_value _ _ c.in_ok-command.ensures c.in_ok-matches.ensures.parsed in
+    let number = depth_number Reads _ c.get_one.result has (λ t r read. read.0) c.get_one.ensures.value in
+    rw number.1 refl
+
+pub returns-clause-given : goal.returns-clause-given
+returns-clause-given c =
+    let words : List Text = map string_bytes c.args.words.now in
+    let app : app_of c.in_ok-command.field-0 ≡ camplot = c.in_ok-command.ensures in
+    let f = found_of c.in_ok-matches.matches in
+    let rows : rows_of f ≡ matches_of camplot words =
+    (c.in_ok-matches.ensures.matches (ap is_simple app ∙ camplot_simple)).0 ∙ ap (λ (a : App). matches_of a words) app in
+    let has = depth_has_value _ _ app c.in_ok-matches.ensures.parsed in
+    let number = depth_number Reads f c.get_one.result has (λ t r read. read.0) c.get_one.ensures.value in
+    let some : Some number.0 ≡ Some c.unwrap-depth.result = sym number.1 ∙ c.unwrap-depth.ensures in
+    let same : number.0 ≡ c.unwrap-depth.result = cc in
+    let is = subst (IsNumberOf f) same number.2 in
+    record {
+      accepted = sym (ap (λ (a : App). fault_of a words) app) ∙ c.in_ok-matches.ensures.kinds (ap is_simple_and_free app ∙ camplot_free);
+      script = sym (ap (first_of (codes "script")) rows) ∙ sym (first_value-rows f (codes "script")) ∙ sym c.get_str.ensures ∙ search rules;
+      number = ap (option_map number_written) (sym (ap (one_of (codes "depth")) rows) ∙ sym (one_text-rows f (codes "depth"))) ∙ is.number;
+      in_range = (is.least, is.most);
+    }
+
+pub returns-clause-plain : goal.returns-clause-plain
+returns-clause-plain c name script depth path range is =
+    let words : List Text = map string_bytes c.args.words.now in
+    let call = subst (λ (ws : List Text). IsCallFor ws script (unwrap_or depth 100)) (sym is) (plain_is_call name script depth path range) in
+    same_call words _ _ _ _ (returns-clause-given c) call

@@ -1,0 +1,11 @@
+use Rattle.std.proofs.Common.{◌≤◌, length}
+use Rattle.std.specs.Io.KnownBytes.{Consumes}
+use Rattle.camplot.proofs.system.read_within.Given as goal
+
+-- the bytes so far are those that the reader has given
+abbrev pub invariant-loop : goal.invariant-loop
+invariant-loop g l =
+    record {
+      bound : length l.bytes.items ≤ l.limit;
+      read : Consumes (g.R.Read.remaining l.initial.reader) (g.R.Read.remaining l.reader) l.bytes.items;
+    }

@@ -1,0 +1,86 @@
+//! The words that the program is called with, `camplot SCRIPT [--depth N]`.
+
+ghost use Rattle.std.specs.Prelude.{◌≡◌, ◌≤◌, ℕ, [], Option, map, unwrap_or, string_bytes};
+ghost use Rattle.std.specs.Prelude.{IfOk, IfErr, IfSome, MatchResult};
+ghost use Rattle.clap.specs.Words.{Text, app_of};
+ghost use Rattle.clap.specs.Faults.{fault_of};
+ghost use Rattle.camplot.specs.Synopsis.{IsCallFor, IsFaultIn, IsOfMemory, IsPlainPath};
+ghost use Rattle.camplot.specs.Synopsis.{camplot, plain_call};
+ghost use Rattle.camplot.specs.declared.options.OptionsFault.TheVariants.{Refused, Memory};
+
+use clap::{Arg, ArgAction, Command, value_parser};
+use std::alloc::{AllocError, Global};
+use thiserror::Error;
+
+/// Why a call of the program gives no options.
+#[derive(Debug, Drop, Error)]
+pub enum OptionsFault {
+    /// Clap's answer: what is wrong with the words, the help that they ask for, or that clap has no
+    /// memory.
+    #[error(transparent)]
+    Refused(clap::Error),
+    /// There is no memory for the command or for a copy of the path.
+    #[error("no memory")]
+    Memory,
+}
+
+impl From<clap::Error> for OptionsFault {
+    ghost from_gives = { λ error fault. fault ≡ Refused error };
+
+    fn from(error: clap::Error) -> OptionsFault {
+        OptionsFault::Refused(error)
+    }
+}
+
+impl From<AllocError> for OptionsFault {
+    ghost from_gives = { λ _ fault. fault ≡ Memory };
+
+    fn from(_error: AllocError) -> OptionsFault {
+        OptionsFault::Memory
+    }
+}
+
+/// The program's command line; an `Err` is for memory.
+fn command<'a>(alloc: Global) -> Result<Command<'a>, AllocError>
+    ensures { IfOk result (λ made. app_of made ≡ camplot) }
+{
+    let script = Arg::new(alloc, "script")
+        .value_name("SCRIPT")
+        .help("The script of commands to run")
+        .required(true)
+        .action(ArgAction::Set);
+    let depth = Arg::new(alloc, "depth")
+        .long("depth")
+        .value_name("N")
+        .help("How many edits can be taken back, from 1 to 1000")
+        .action(ArgAction::Set)
+        .value_parser(value_parser!(u32).range(1..=1000))
+        .default_value("100");
+    Command::new(alloc, "camplot")
+        .about("Edits and plots the layers of a printed circuit board")
+        .arg(script)?
+        .arg(depth)
+}
+
+/// The path of the script and the undo depth, from 1 to 1,000, that the words ask for. The first
+/// word is the program's name. The error is `Refused` where clap takes no such words or has no memory
+/// to read them, and `Memory` where there is none for the command or the path.
+pub fn options(alloc: Global, words: &[String]) -> Result<(String, u32), OptionsFault>
+    ensures given { IfOk result (λ r. IsCallFor (map string_bytes words.now) (string_bytes r.0) r.1) }
+    ensures accepted { fault_of camplot (map string_bytes words.now) ≡ []
+        → IfErr result IsOfMemory }
+    ensures refused { IfErr result (IsFaultIn (map string_bytes words.now)) }
+    ensures plain { (name script : Text) (depth : Option ℕ) → IsPlainPath script
+        → IfSome depth (λ n. (1 ≤ n) × (n ≤ 1000))
+        → map string_bytes words.now ≡ plain_call name script depth
+        → MatchResult result (λ r. (string_bytes r.0 ≡ script) × (r.1 ≡ unwrap_or depth 100))
+        IsOfMemory }
+{
+    let matches = command(alloc)?.try_get_matches_from(words)?;
+    let script = matches.get_str("script").unwrap();
+    let depth = matches.get_one::<u32>("depth").unwrap();
+    Ok((script.to_string(alloc)?, depth))
+}
+
+#[cfg(test)]
+mod tests;
