@@ -1,20 +1,18 @@
 //! Files in memory.
 
 ghost use Rattle.std.specs.Prelude.{◌≡◌, IfOk};
-ghost use Rattle.std.specs.BTreeMap.{get_by_text};
-ghost use Rattle.std.specs.Option.{option_copied};
 
 use crate::countdown::Countdown;
-use cam_station::bytes::Bytes;
-use cam_station::files::{FileFault, Files};
+use cam_station::{Bytes, FileFault, Files};
 use std::alloc::{AllocError, Global};
 use std::collections::BTreeMap;
 
-/// What each path holds. A path that is not there counts as a failure.
+/// Files in memory. A path that is not there counts as a failure.
 #[derive(Drop)]
 pub struct MemoryFiles {
     alloc: Global,
-    held: BTreeMap<String, Bytes>,
+    /// What each path holds.
+    pub held: BTreeMap<String, Bytes>,
     gets: Countdown,
     puts: Countdown,
     failures: u64,
@@ -37,13 +35,6 @@ impl MemoryFiles {
             failures: 0,
         }
     }
-
-    /// What this path holds.
-    pub fn held(&self, path: &str) -> Option<&Bytes>
-        ensures { option_copied result ≡ get_by_text self.now.held path.now }
-    {
-        self.held.get(path)
-    }
 }
 
 fn copy_of(alloc: Global, bytes: &[u8]) -> Result<Bytes, AllocError>
@@ -65,7 +56,7 @@ impl Files for MemoryFiles {
             self.failures = self.failures.saturating_add(1);
             return Err(FileFault::Failed);
         }
-        match self.held(path) {
+        match self.held.get(path) {
             Some(bytes) => match bytes.as_slice().to_vec(alloc) {
                 Ok(copy) => Ok(copy),
                 Err(_) => Err(FileFault::Memory),

@@ -1,15 +1,14 @@
 //! An output in memory.
 
-ghost use Rattle.std.specs.Prelude.{◌≡◌};
-
 use crate::countdown::Countdown;
-use cam_station::out::Out;
+use cam_station::Out;
 use std::alloc::Global;
 
 /// The bytes that were said.
 #[derive(Drop)]
 pub struct MemoryOut {
-    said: Vec<u8>,
+    /// All of them, in order.
+    pub said: Vec<u8>,
     says: Countdown,
     failures: u64,
 }
@@ -22,13 +21,6 @@ impl MemoryOut {
             says: Countdown::at(say),
             failures: 0,
         }
-    }
-
-    /// All bytes that were said.
-    pub fn said(&self) -> &[u8]
-        ensures { result.now ≡ self.now.said.items }
-    {
-        self.said.as_slice()
     }
 }
 

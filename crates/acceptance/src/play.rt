@@ -2,7 +2,7 @@
 
 use crate::files::MemoryFiles;
 use crate::out::MemoryOut;
-use cam_station::run::{RunFault, run};
+use cam_station::{RunFault, run};
 use std::alloc::Global;
 
 /// The text that a run said, and how many lines were refused.

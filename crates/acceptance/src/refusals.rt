@@ -3,9 +3,7 @@
 use crate::files::MemoryFiles;
 use crate::out::MemoryOut;
 use crate::play::{DISC, EMPTY, play};
-use cam_station::files::Files;
-use cam_station::out::Out;
-use cam_station::run::{RunFault, run};
+use cam_station::{Files, Out, RunFault, run};
 use std::test::Fail;
 
 #[test]
@@ -16,12 +14,12 @@ fn in_the_order_of_their_checks(rt: HostRuntime) -> Result<(), Fail> {
 window 0 0 0 1 1\nload b gerber none\nfrob\n";
     let played = play(rt.alloc(), 100, script, &mut files)?;
     assert_eq!(rt;
-        played.out.said(),
+        played.out.said.as_slice(),
         b"refused 60\nok 1\nrefused 84\nrefused 83\nrefused 50\nrefused 82\nrefused 80\n".as_slice()
     );
     assert_eq!(rt; played.refused, 6);
     assert_eq!(rt; files.failures(), 1);
-    assert!(rt; files.held("x").is_none());
+    assert!(rt; files.held.get("x").is_none());
     Ok(())
 }
 
@@ -34,7 +32,7 @@ fn the_file_comes_first(rt: HostRuntime) -> Result<(), Fail> {
 load top gerber none more\n# load\n \t\nload top gerber a.gbr\r\nundo\r";
     let played = play(rt.alloc(), 100, script, &mut files)?;
     assert_eq!(rt;
-        played.out.said(),
+        played.out.said.as_slice(),
         b"ok 0\nrefused 82\nrefused 80\nrefused 80\nrefused 83\nrefused 80\n".as_slice()
     );
     Ok(())
@@ -54,7 +52,7 @@ fn one_layer_too_many(rt: HostRuntime) -> Result<(), Fail> {
     script.extend_from_slice(b"load l32 gerber e.gbr\nlist\n")?;
     want.extend_from_slice(b"refused 85\nok 32 0 0\n")?;
     let played = play(alloc, 100, script.as_slice(), &mut files)?;
-    assert_eq!(rt; played.out.said(), want.as_slice());
+    assert_eq!(rt; played.out.said.as_slice(), want.as_slice());
     Ok(())
 }
 
@@ -68,19 +66,19 @@ plot top x\nplot top y\n";
     files.put("a.gbr", EMPTY)?;
     let played = play(alloc, 100, script, &mut files)?;
     assert_eq!(rt;
-        played.out.said(),
+        played.out.said.as_slice(),
         b"refused 82\nok 0\nok\nrefused 82\nok 1\n".as_slice()
     );
     assert_eq!(rt; files.failures(), 2);
-    assert!(rt; files.held("x").is_none());
-    assert!(rt; files.held("y").is_some());
+    assert!(rt; files.held.get("x").is_none());
+    assert!(rt; files.held.get("y").is_some());
 
     let mut files = MemoryFiles::new(alloc);
     files.put("a.gbr", EMPTY)?;
     let mut out = MemoryOut::failing(alloc, 5);
     let ended = run(alloc, 100, script, &mut files, &mut out);
     assert_eq!(rt; ended, Err(RunFault::Output));
-    assert_eq!(rt; out.said(), b"ok 0\n".as_slice());
+    assert_eq!(rt; out.said.as_slice(), b"ok 0\n".as_slice());
     assert_eq!(rt; out.failures(), 1);
     Ok(())
 }

@@ -4,17 +4,17 @@ use Rattle.std.specs.Prelude.{◌==◌, is_some}
 use Rattle.std.proofs.lemmas.Bool.{ne_eqb}
 use Rattle.cam_station.specs.declared.command.FileKind.{FileKind}
 use Rattle.cam_station.specs.declared.command.FileKind.TheVariants.{Gerber}
-use Rattle.cam_station.specs.declared.gerber.ReadFault.{ReadFault}
+use Rattle.cam_gerber.specs.declared.read_fault.ReadFault.{ReadFault}
 use Rattle.cam_station.specs.Documents.{place_of}
 use Rattle.cam_station.specs.Machine.{State, load_step, load_read, memory_of, reader_answer, refused_at}
-use Rattle.cam_station.specs.Reading.{IsReading, no_memory, reading_of}
-use Rattle.cam_station.proofs.ReadingLaws.{no_memory_fault}
+use Rattle.cam_gerber.specs.Reading.{IsReading, no_memory, reading_of}
+use Rattle.cam_gerber.proofs.FaultNumbers.{no_fault_is_memory}
 
 -- the refusal of a file is the reader's, and says whether memory was refused to it
 read_refused : (s : State) (name file : List ℕ) (f : ReadFault) → IsReading file (Err f)
     → load_read s name (memory_of (refused_at f.code f.at)) (reader_answer (memory_of (refused_at f.code f.at)) (reading_of file)) ≡ (s, refused_at f.code f.at)
 read_refused s name file f (inl e) =
-    let never : (f.code == 30) ≡ false = ne_eqb f.code 30 (no_memory_fault file f (sym e)) in
+    let never : (f.code == 30) ≡ false = ne_eqb f.code 30 (no_fault_is_memory file f (sym e)) in
     rw (never, ← e) refl
 read_refused s name file f (inr e) = let same : f ≡ no_memory = cc in rw same refl
 

@@ -3,13 +3,14 @@ use Rattle.std.proofs.Common.{◌≡◌, ℕ, true, List, Option, None, Some, Ok
 use Rattle.std.specs.Option.{option_map}
 use Rattle.cam_station.specs.declared.reply.Reply.{Reply}
 use Rattle.cam_station.specs.declared.reply.Reply.TheVariants.{Bytes}
-use Rattle.cam_station.specs.declared.window.Window.{Window}
+use Rattle.cam_tiles.specs.declared.window.Window.{Window}
 use Rattle.cam_station.specs.Documents.{layer_at, layer_named, place_of}
-use Rattle.cam_station.specs.Layers.{Content}
+use Rattle.cam_objects.specs.Layers.{Content}
 use Rattle.cam_station.specs.Machine.{State, Memory, Granted, RefusedToReader, RefusedToStation, fresh, plot_at, plot_in}
-use Rattle.cam_station.specs.Picture.{accepts, plot_of, tiles_of}
-use Rattle.cam_station.specs.Plots.{ExactPlot, IsPlotOf, PictureLaw}
+use Rattle.cam_tiles.specs.Picture.{accepts, plot_of, tiles_of}
+use Rattle.cam_station.specs.Plots.{ExactPlot, IsPlotOf}
 use Rattle.cam_station.specs.Undoing.{states_after}
+use Rattle.cam_tiles.proofs.PictureLemmas.{plot_law}
 use Rattle.cam_station.proofs.Reached.{IsReached, reached}
 
 -- an accepted plot of a layer had a window, and answers its picture there
@@ -24,9 +25,9 @@ plotted_in s Granted c (Some w) reply e h = record { window = w; in_force = e; a
 plotted_in s RefusedToReader c (Some w) reply e h = record { window = w; in_force = e; answered = cc }
 plotted_in s RefusedToStation c (Some w) reply e h = absurd cc
 
-shown : PictureLaw → (s : State) (name : List ℕ) (c : Content) (reply : Reply) → ((w : Window) → s.window ≡ Some w → accepts w ≡ true)
+shown : (s : State) (name : List ℕ) (c : Content) (reply : Reply) → ((w : Window) → s.window ≡ Some w → accepts w ≡ true)
     → layer_named name s.document ≡ Some c → IsPicture s c reply → IsPlotOf s name reply
-shown law s name c reply accepted named p =
+shown s name c reply accepted named p =
     record {
       window = p.window;
       content = c;
@@ -35,18 +36,18 @@ shown law s name c reply accepted named p =
       named = named;
       answered = p.answered;
       picture = refl;
-      pixels = law p.window c (accepted p.window p.in_force);
+      pixels = plot_law p.window c (accepted p.window p.in_force);
     }
 
-plotted : PictureLaw → (s : State) (m : Memory) (name : List ℕ) (place : Option ℕ) (reply : Reply) → ((w : Window) → s.window ≡ Some w → accepts w ≡ true)
+plotted : (s : State) (m : Memory) (name : List ℕ) (place : Option ℕ) (reply : Reply) → ((w : Window) → s.window ≡ Some w → accepts w ≡ true)
     → place_of name s.document ≡ place → (plot_at s m place).1 ≡ Ok reply → IsPlotOf s name reply
-plotted law s m name None reply accepted e h = absurd cc
-plotted law s m name (Some place) reply accepted e h =
-    shown law s name (layer_at s.document place) reply accepted (ap (option_map (layer_at s.document)) e)
+plotted s m name None reply accepted e h = absurd cc
+plotted s m name (Some place) reply accepted e h =
+    shown s name (layer_at s.document place) reply accepted (ap (option_map (layer_at s.document)) e)
     (plotted_in s m (layer_at s.document place) s.window reply refl h)
 
-pub exact_plot : PictureLaw → ExactPlot
-exact_plot law depth before name m reply h =
+pub exact_plot : ExactPlot
+exact_plot depth before name m reply h =
     let s : State = states_after (fresh depth) before in
     let r : IsReached depth s = reached depth before in
-    plotted law s m name (place_of name s.document) reply r.in_force refl h
+    plotted s m name (place_of name s.document) reply r.in_force refl h

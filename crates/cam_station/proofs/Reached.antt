@@ -1,8 +1,8 @@
 -- What holds in each state that a station can come to.
 use Rattle.std.proofs.Common.{◌≡◌, ℕ, ◌+◌, ◌≤◌, List, [], ◌∷◌, length, Some, true, refl, ap, arith, length-take}
-use Rattle.cam_station.specs.declared.window.Window.{Window}
+use Rattle.cam_tiles.specs.declared.window.Window.{Window}
 use Rattle.cam_station.specs.Machine.{State, Outcome, fresh}
-use Rattle.cam_station.specs.Picture.{accepts}
+use Rattle.cam_tiles.specs.Picture.{accepts}
 use Rattle.cam_station.specs.Undoing.{Call, DepthLaw, state_after, states_after}
 use Rattle.cam_station.proofs.Steps.{AfterEach, after_each}
 

@@ -1,22 +1,21 @@
 -- The station itself refuses nothing for a file that failed.
-use Rattle.std.proofs.Common.{◌≡◌, ℕ, ◌≤◌, Bool, true, false, cond, List, [], ◌∷◌, Option, None, Some, Result, Ok, Err, refl, sym, arith}
+use Rattle.std.proofs.Common.{◌≡◌, ℕ, ◌≤◌, Bool, true, false, cond, List, [], ◌∷◌, Option, None, Some, Result, Ok, Err, refl, arith}
 use Rattle.std.specs.Prelude.{◌==◌, ℤ, is_some, nat_le, nat_lt, length}
 use Rattle.std.proofs.lemmas.Bool.{ne_eqb}
 use Rattle.cam_station.specs.declared.command.Command.{Command}
 use Rattle.cam_station.specs.declared.command.Command.TheVariants.{Load, SetWindow, Plot, Delete, Move, Undo, Redo, ListAll, ListLayer}
-use Rattle.cam_station.specs.declared.command.FileKind.{FileKind}
 use Rattle.cam_station.specs.declared.command.FileKind.TheVariants.{Gerber}
 use Rattle.cam_station.specs.declared.document.Sheet.{Sheet}
-use Rattle.cam_station.specs.declared.gerber.ReadFault.{ReadFault}
-use Rattle.cam_station.specs.declared.window.Window.{Window}
+use Rattle.cam_gerber.specs.declared.read_fault.ReadFault.{ReadFault}
+use Rattle.cam_tiles.specs.declared.window.Window.{Window}
 use Rattle.cam_station.specs.Documents.{layer_at, place_of}
-use Rattle.cam_station.specs.Layers.{Content, can_move_of, with_shifted, without_item}
-use Rattle.cam_station.specs.Picture.{accepts}
+use Rattle.cam_objects.specs.Layers.{Content, can_move_of, with_shifted, without_item}
+use Rattle.cam_tiles.specs.Picture.{accepts}
 use Rattle.cam_station.specs.declared.reply.Reply.TheVariants.{Done}
 use Rattle.cam_station.specs.Machine.{State, Outcome, Memory, Granted, RefusedToReader, RefusedToStation, refused, step, with_room, load_read, load_step, window_step, reader_answer, plot_in, plot_at, edit_to, edit_at, delete_of, move_of, undo_to, redo_to, list_layer_at}
-use Rattle.cam_station.specs.Reading.{reading_of}
+use Rattle.cam_gerber.specs.Reading.{reading_of}
 use Rattle.cam_station.specs.RunLaws.{is_file_refusal}
-use Rattle.cam_station.proofs.FaultNumbers.{fault_number}
+use Rattle.cam_gerber.proofs.FaultNumbers.{fault_number}
 
 -- the answer is no refusal of a file that failed
 abbrev IsOwn : State × Outcome → Type 0

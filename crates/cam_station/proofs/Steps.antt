@@ -4,14 +4,14 @@ use Rattle.std.specs.Prelude.{is_some}
 use Rattle.cam_station.specs.declared.command.Command.{Command}
 use Rattle.cam_station.specs.declared.command.Command.TheVariants.{Load, SetWindow, Plot, Delete, Move, Undo, Redo, ListAll, ListLayer}
 use Rattle.cam_station.specs.declared.document.Sheet.{Sheet}
-use Rattle.cam_station.specs.declared.gerber.ReadFault.{ReadFault}
+use Rattle.cam_gerber.specs.declared.read_fault.ReadFault.{ReadFault}
 use Rattle.cam_station.specs.declared.reply.Reply.{Reply}
 use Rattle.cam_station.specs.declared.reply.Reply.TheVariants.{Done, Numbers}
 use Rattle.cam_station.specs.declared.reply.Numbers.TheVariants.{One}
-use Rattle.cam_station.specs.declared.window.Window.{Window}
+use Rattle.cam_tiles.specs.declared.window.Window.{Window}
 use Rattle.cam_station.specs.Documents.{layer_at, place_of, with_layer}
-use Rattle.cam_station.specs.Layers.{Content}
-use Rattle.cam_station.specs.Picture.{accepts}
+use Rattle.cam_objects.specs.Layers.{Content}
+use Rattle.cam_tiles.specs.Picture.{accepts}
 use Rattle.cam_station.specs.Machine.{State, Outcome, Memory, Granted, RefusedToReader, RefusedToStation, step, refused, refused_at, with_room, with_sheet, with_edit, edit_at, edit_to, load_read, meaning_of, reader_answer, plot_at, plot_in, undo_to, redo_to, list_layer_at, delete_of, move_of}
 
 -- P holds where the state stays, and after each kind of change

@@ -6,7 +6,7 @@ use Rattle.cam_station.specs.declared.command.Command.TheVariants.{Load, SetWind
 use Rattle.cam_station.specs.declared.document.Sheet.{Sheet}
 use Rattle.cam_station.specs.declared.reply.Reply.TheVariants.{Done}
 use Rattle.cam_station.specs.Documents.{layer_at, place_of, with_layer, picture_of}
-use Rattle.cam_station.specs.Layers.{Content}
+use Rattle.cam_objects.specs.Layers.{Content}
 use Rattle.cam_station.specs.Machine.{State, Outcome, Memory, Granted, RefusedToReader, RefusedToStation, fresh, step, with_edit, edit_at, edit_to, delete_of, move_of}
 use Rattle.cam_station.specs.Undoing.{Call, state_after, states_after, answer_to, undo, redo, GivesBack, IsEdit, ExactUndo, ExactUndoEverywhere}
 use Rattle.cam_station.proofs.Quiet.{all_quiet_stay}

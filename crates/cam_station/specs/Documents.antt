@@ -3,9 +3,9 @@ use Rattle.std.specs.Prelude.{◌≡◌, ℕ, List, [], Option, None, Some, posi
 use Rattle.std.specs.Option.{option_map}
 use Rattle.std.specs.Str.{bytes_eq}
 use Rattle.cam_station.specs.declared.document.Sheet.{Sheet}
-use Rattle.cam_station.specs.declared.window.Window.{Window}
-use Rattle.cam_station.specs.Layers.{Content}
-use Rattle.cam_station.specs.Picture.{plot_of}
+use Rattle.cam_tiles.specs.declared.window.Window.{Window}
+use Rattle.cam_objects.specs.Layers.{Content}
+use Rattle.cam_tiles.specs.Picture.{plot_of}
 
 abbrev pub sheet : List ℕ → Content → Sheet
 sheet name content = record { name = name; layer = content }

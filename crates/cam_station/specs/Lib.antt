@@ -1,13 +1,3 @@
-pub mod Layers
-pub mod Image
-pub mod Pbm
-pub mod Picture
-pub mod Numbers
-pub mod Syntax
-pub mod GraphicsState
-pub mod Faults
-pub mod Reading
-pub mod Tracking
 pub mod Documents
 pub mod Machine
 pub mod Undoing

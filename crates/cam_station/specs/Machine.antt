@@ -6,15 +6,15 @@ use Rattle.cam_station.specs.declared.command.FileKind.{FileKind}
 use Rattle.cam_station.specs.declared.command.FileKind.TheVariants.{Gerber}
 use Rattle.cam_station.specs.declared.document.Sheet.{Sheet}
 use Rattle.cam_station.specs.declared.fault.Fault.{Fault}
-use Rattle.cam_station.specs.declared.gerber.ReadFault.{ReadFault}
+use Rattle.cam_gerber.specs.declared.read_fault.ReadFault.{ReadFault}
 use Rattle.cam_station.specs.declared.reply.Reply.{Reply}
 use Rattle.cam_station.specs.declared.reply.Reply.TheVariants.{Done, Numbers, Bytes}
 use Rattle.cam_station.specs.declared.reply.Numbers.TheVariants.{One, Two, Three}
-use Rattle.cam_station.specs.declared.window.Window.{Window}
+use Rattle.cam_tiles.specs.declared.window.Window.{Window}
 use Rattle.cam_station.specs.Documents.{layer_at, place_of, sheet, with_layer}
-use Rattle.cam_station.specs.Layers.{Content, can_move_of, with_shifted, without_item}
-use Rattle.cam_station.specs.Picture.{accepts, plot_of, tiles_of}
-use Rattle.cam_station.specs.Reading.{no_memory, reading_of}
+use Rattle.cam_objects.specs.Layers.{Content, can_move_of, with_shifted, without_item}
+use Rattle.cam_tiles.specs.Picture.{accepts, plot_of, tiles_of}
+use Rattle.cam_gerber.specs.Reading.{no_memory, reading_of}
 
 -- the document and the window; the earlier documents, the latest first; those that were taken back, the next first
 pub record State : Type 0 where

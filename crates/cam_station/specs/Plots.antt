@@ -1,13 +1,13 @@
 -- Plots: each answers the picture of a layer as it then is.
-use Rattle.std.specs.Prelude.{◌≡◌, ℕ, true, List, Some, Ok}
+use Rattle.std.specs.Prelude.{◌≡◌, ℕ, List, Some, Ok}
 use Rattle.cam_station.specs.declared.command.Command.TheVariants.{Plot}
 use Rattle.cam_station.specs.declared.reply.Reply.{Reply}
 use Rattle.cam_station.specs.declared.reply.Reply.TheVariants.{Bytes}
-use Rattle.cam_station.specs.declared.window.Window.{Window}
+use Rattle.cam_tiles.specs.declared.window.Window.{Window}
 use Rattle.cam_station.specs.Documents.{layer_named}
-use Rattle.cam_station.specs.Layers.{Content}
+use Rattle.cam_objects.specs.Layers.{Content}
 use Rattle.cam_station.specs.Machine.{State, Memory, fresh}
-use Rattle.cam_station.specs.Picture.{Shows, accepts, plot_of, tiles_of}
+use Rattle.cam_tiles.specs.Picture.{Shows, plot_of, tiles_of}
 use Rattle.cam_station.specs.Undoing.{Call, answer_to, states_after}
 
 -- The reply is the picture, in the window in force, of the layer of this name in the document:
@@ -21,10 +21,6 @@ pub record IsPlotOf (s : State) (name : List ℕ) (reply : Reply) : Type 0 where
   pub answered : reply ≡ Bytes bytes (tiles_of window)
   pub picture : bytes ≡ plot_of window content
   pub pixels : Shows bytes window content
-
--- what the picture owes: its file shows the image, in every window that is accepted
-abbrev pub PictureLaw : Type 0
-PictureLaw = (w : Window) (c : Content) → accepts w ≡ true → Shows (plot_of w c) w c
 
 -- exact plot: after any list of commands, each accepted plot answers the picture as it then is
 abbrev pub ExactPlot : Type 0

@@ -8,8 +8,8 @@ use Rattle.cam_station.specs.declared.files.FileFault.{FileFault}
 use Rattle.cam_station.specs.declared.files.FileFault.TheVariants.{Failed, Memory as NoMemory}
 use Rattle.cam_station.specs.declared.reply.Reply.{Reply}
 use Rattle.cam_station.specs.declared.reply.Reply.TheVariants.{Bytes}
-use Rattle.cam_station.specs.declared.run.RunFault.{RunFault}
-use Rattle.cam_station.specs.declared.run.RunFault.TheVariants.{Depth, Output, Memory as RunMemory}
+use Rattle.cam_station.specs.declared.script.run.RunFault.{RunFault}
+use Rattle.cam_station.specs.declared.script.run.RunFault.TheVariants.{Depth, Output, Memory as RunMemory}
 use Rattle.cam_station.specs.declared.script.line.Line.TheVariants.{Command, Load, Plot}
 use Rattle.cam_station.specs.Machine.{State, Outcome, Memory, fresh, refused, step}
 use Rattle.cam_station.specs.Contents.{Contents, Holds, Stored, MayHaveStored, HasRisenBy, failures_of}

@@ -2,7 +2,7 @@
 
 use crate::bytes::Bytes;
 use crate::name::Name;
-use crate::window::Window;
+use cam_tiles::Window;
 
 /// What a file is written in.
 #[derive(Clone, Copy, Debug, PartialEq, Eq)]

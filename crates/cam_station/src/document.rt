@@ -1,26 +1,12 @@
 //! The document: named layers in order.
 
-ghost use Rattle.std.specs.Prelude.{
-  ◌≡◌,
-  ◌<◌,
-  ◌↔◌,
-  ◌∷◌,
-  ◌++◌,
-  [],
-  true,
-  length,
-  IfOk,
-  IfSome,
-  IsTrue,
-  OnOk,
-  OnErr,
-};
+ghost use Rattle.std.specs.Prelude.{◌≡◌, ◌<◌, ◌∷◌, ◌++◌, [], true, length, IfOk, IfSome, OnOk, OnErr};
 ghost use Rattle.std.specs.Str.{bytes_eq};
 ghost use Rattle.cam_station.specs.Documents.{layer_at, place_of, sheet, with_layer};
-ghost use Rattle.cam_station.specs.Layers.{can_move_of, with_shifted, without_item};
+ghost use Rattle.cam_objects.specs.Layers.{can_move_of, with_shifted, without_item};
 
-use crate::layer::Layer;
 use crate::name::Name;
+use cam_objects::Layer;
 use std::alloc::{AllocError, Global};
 use std::marker::Model;
 
@@ -61,13 +47,6 @@ impl Document {
         ensures { result ≡ length self.now }
     {
         self.sheets.len()
-    }
-
-    /// Whether there is no sheet.
-    pub fn is_empty(&self) -> bool
-        ensures { IsTrue result ↔ (length self.now ≡ 0) }
-    {
-        self.sheets.is_empty()
     }
 
     /// The place, from 0, of the first sheet of this name.

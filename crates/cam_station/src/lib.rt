@@ -1,21 +1,37 @@
-//! The station: commands one by one, a script of them, and the theorem that they keep.
+//! The station: commands one by one, scripts of them, and the theorem that they keep.
+//!
+//! A [`Station`] has a document of named layers, a window, and the documents before and after it.
+//! [`Station::apply`] is one step of the machine in `specs/Machine.antt`; [`undo_is_exact`] and
+//! [`plot_is_exact`] are the two halves of the theorem, over all lists of commands. [`run`] serves a script
+//! line by line, over [`Files`] and an [`Out`], as `specs/Run.antt` says.
 #![tactic(auto)]
 
-pub mod bytes;
-pub mod command;
-pub mod document;
-pub mod fault;
-pub mod files;
-pub mod gerber;
-pub mod laws;
-pub mod layer;
-pub mod name;
-pub mod out;
-pub mod picture;
-pub mod reply;
-pub mod reply_line;
-pub mod run;
-pub mod script;
-pub mod script_laws;
-pub mod station;
-pub mod window;
+mod bytes;
+mod command;
+mod document;
+mod fault;
+mod files;
+mod laws;
+mod name;
+mod out;
+mod refusals;
+mod reply;
+mod reply_line;
+mod script;
+mod station;
+
+pub use bytes::Bytes;
+pub use command::{Command, FileKind};
+pub use fault::Fault;
+pub use files::{FileFault, Files};
+pub use laws::{depth_is_kept, plot_is_exact, refusals_change_nothing, undo_is_exact};
+pub use name::Name;
+pub use out::Out;
+pub use reply::{Numbers, Reply};
+pub use reply_line::say_reply;
+pub use script::laws::{few_file_refusals, run_is_commands};
+pub use script::line::{Line, LineFault};
+pub use script::parse::parse_line;
+pub use script::path::FilePath;
+pub use script::run::{RunFault, run};
+pub use station::Station;

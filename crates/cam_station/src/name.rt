@@ -1,6 +1,6 @@
 //! The name of a layer.
 
-ghost use Rattle.std.specs.Prelude.{◌≡◌, ◌↔◌, IfOk, IsTrue, string_bytes};
+ghost use Rattle.std.specs.Prelude.{◌≡◌, IfOk, string_bytes};
 
 use std::alloc::{AllocError, Global};
 use std::marker::Model;
@@ -27,17 +27,11 @@ impl Name {
         Name { text }
     }
 
+    /// The name as text.
     pub fn as_str(&self) -> &str
         ensures { result.now ≡ self.now }
     {
         self.text.as_str()
-    }
-
-    /// Whether both names are the same bytes.
-    pub fn is(&self, other: &Name) -> bool
-        ensures { IsTrue result ↔ (self.now ≡ other.now) }
-    {
-        self.as_str() == other.as_str()
     }
 
     /// The same name in memory of its own.

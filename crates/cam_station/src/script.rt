@@ -1,9 +1,11 @@
-//! A script: its lines, their words, and what they say.
+//! A script: its lines, their words, what they say, and its run.
 
-pub mod line;
-pub mod lines;
-pub mod numbers;
-pub mod parse;
-pub mod path;
+pub(crate) mod laws;
+pub(crate) mod line;
+mod lines;
+mod numbers;
+pub(crate) mod parse;
+pub(crate) mod path;
 mod pieces;
-pub mod words;
+pub(crate) mod run;
+mod words;

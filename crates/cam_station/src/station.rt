@@ -22,12 +22,12 @@ ghost use Rattle.cam_station.specs.Undoing.{IsRun};
 use crate::bytes::Bytes;
 use crate::command::{Command, FileKind};
 use crate::document::Document;
-use crate::fault::Fault;
-use crate::gerber::read_gerber;
+use crate::fault::{Fault, refusal};
 use crate::name::Name;
-use crate::picture::{is_accepted, plot, tile_count};
+use crate::refusals;
 use crate::reply::{Numbers, Reply};
-use crate::window::Window;
+use cam_gerber::read_gerber;
+use cam_tiles::{Window, plot};
 use std::alloc::{AllocError, Global};
 use std::collections::VecDeque;
 use std::marker::Model;
@@ -62,13 +62,6 @@ impl Model for Station {
     ghost invariant = { λ s. IsStation s.depth s.window };
 }
 
-/// A fault without a place.
-fn refusal(code: u8) -> Fault
-    ensures { result ≡ fault code }
-{
-    Fault { code, at: None }
-}
-
 impl Station {
     /// An empty station that can take back `depth` edits, from 1 to 1,000; 50 at any other
     /// depth.
@@ -76,7 +69,7 @@ impl Station {
         ensures { result ≡ station_of depth }
     {
         if depth < 1 || DEPTH < depth {
-            return Err(refusal(50));
+            return Err(refusal(refusals::OUT_OF_LIMITS));
         }
         Ok(Station {
             alloc,
@@ -137,10 +130,10 @@ impl Station {
         ensures { load_step self.old name kind file.now (memory_of result) ≡ (self.new, result) }
     {
         if self.document.place(&name).is_some() {
-            return Err(refusal(83));
+            return Err(refusal(refusals::NAME_TAKEN));
         }
         if LAYERS <= self.document.len() {
-            return Err(refusal(85));
+            return Err(refusal(refusals::TOO_MANY_LAYERS));
         }
         let read = match kind {
             FileKind::Gerber => read_gerber(self.alloc, file.as_slice()),
@@ -156,7 +149,7 @@ impl Station {
         };
         let count = layer.flash_count() as u64;
         if self.document.add(name, layer).is_err() {
-            return Err(refusal(30));
+            return Err(refusal(refusals::NO_MEMORY));
         }
         self.past.clear();
         self.future.clear();
@@ -166,8 +159,8 @@ impl Station {
     fn set_window(&mut self, window: Window) -> Result<Reply, Fault>
         ensures { window_step self.old window ≡ (self.new, result) }
     {
-        if !is_accepted(&window) {
-            return Err(refusal(50));
+        if !window.is_accepted() {
+            return Err(refusal(refusals::OUT_OF_LIMITS));
         }
         self.window = Some(window);
         Ok(Reply::Done)
@@ -177,15 +170,18 @@ impl Station {
         ensures { plot_step self.now name.now (memory_of result) ≡ (self.now, result) }
     {
         let Some(place) = self.document.place(name) else {
-            return Err(refusal(60));
+            return Err(refusal(refusals::NO_LAYER));
         };
         let Some(window) = &self.window else {
-            return Err(refusal(84));
+            return Err(refusal(refusals::NO_WINDOW));
         };
-        let drawn = tile_count(window);
+        let drawn = window.tile_count();
         match plot(self.alloc, self.document.layer(place), window) {
-            Ok(bytes) => Ok(Reply::Bytes { bytes, drawn }),
-            Err(_) => Err(refusal(30)),
+            Ok(bytes) => {
+                let bytes = Bytes::from_vec(bytes);
+                Ok(Reply::Bytes { bytes, drawn })
+            }
+            Err(_) => Err(refusal(refusals::NO_MEMORY)),
         }
     }
 
@@ -193,10 +189,10 @@ impl Station {
         ensures { delete_step self.old name.now item (memory_of result) ≡ (self.new, result) }
     {
         let Some(place) = self.document.place(name) else {
-            return Err(refusal(60));
+            return Err(refusal(refusals::NO_LAYER));
         };
         if self.document.layer(place).flash_count() <= item {
-            return Err(refusal(61));
+            return Err(refusal(refusals::NO_ITEM));
         }
         self.remember()?;
         self.document.delete(place, item);
@@ -207,14 +203,14 @@ impl Station {
         ensures { move_step self.old name.now item dx dy (memory_of result) ≡ (self.new, result) }
     {
         let Some(place) = self.document.place(name) else {
-            return Err(refusal(60));
+            return Err(refusal(refusals::NO_LAYER));
         };
         let layer = self.document.layer(place);
         if layer.flash_count() <= item {
-            return Err(refusal(61));
+            return Err(refusal(refusals::NO_ITEM));
         }
         if !layer.can_move(item, dx, dy) {
-            return Err(refusal(65));
+            return Err(refusal(refusals::OUT_OF_BOARD));
         }
         self.remember()?;
         self.document.shift(place, item, dx, dy);
@@ -228,10 +224,10 @@ impl Station {
         ensures no_memory { OnErr result (result ≡ Err (fault 30)) }
     {
         let Ok(copy) = self.document.try_copy(self.alloc) else {
-            return Err(refusal(30));
+            return Err(refusal(refusals::NO_MEMORY));
         };
         if self.past.push_front(copy).is_err() {
-            return Err(refusal(30));
+            return Err(refusal(refusals::NO_MEMORY));
         }
         self.past.truncate(self.depth as usize);
         self.future.clear();
@@ -242,10 +238,10 @@ impl Station {
         ensures { undo_step self.old (memory_of result) ≡ (self.new, result) }
     {
         if self.past.is_empty() {
-            return Err(refusal(70));
+            return Err(refusal(refusals::NOTHING_TO_UNDO));
         }
         if self.future.reserve(1).is_err() {
-            return Err(refusal(30));
+            return Err(refusal(refusals::NO_MEMORY));
         }
         if let Some(earlier) = self.past.pop_front() {
             let present = mem::replace(&mut self.document, earlier);
@@ -258,10 +254,10 @@ impl Station {
         ensures { redo_step self.old (memory_of result) ≡ (self.new, result) }
     {
         if self.future.is_empty() {
-            return Err(refusal(71));
+            return Err(refusal(refusals::NOTHING_TO_REDO));
         }
         if self.past.reserve(1).is_err() {
-            return Err(refusal(30));
+            return Err(refusal(refusals::NO_MEMORY));
         }
         if let Some(later) = self.future.pop_front() {
             let present = mem::replace(&mut self.document, later);
@@ -283,7 +279,7 @@ impl Station {
         ensures { list_layer_step self.now name.now ≡ (self.now, result) }
     {
         let Some(place) = self.document.place(name) else {
-            return Err(refusal(60));
+            return Err(refusal(refusals::NO_LAYER));
         };
         let layer = self.document.layer(place);
         let items = layer.flash_count() as u64;

@@ -8,8 +8,7 @@
 mod options;
 mod system;
 
-use cam_station::files::FileFault;
-use cam_station::run::{RunFault, run};
+use cam_station::{FileFault, RunFault, run};
 use options::OptionsFault;
 use std::alloc::Global;
 use std::process::ExitCode;

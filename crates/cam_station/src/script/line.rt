@@ -5,6 +5,7 @@ ghost use Rattle.cam_station.specs.Parsing.{line_code};
 
 use crate::command::{Command, FileKind};
 use crate::name::Name;
+use crate::refusals;
 use crate::script::path::FilePath;
 use thiserror::Error;
 
@@ -46,9 +47,9 @@ impl LineFault {
         ensures { result ≡ line_code self }
     {
         match self {
-            LineFault::LineTooLong => 81,
-            LineFault::BadLine => 80,
-            LineFault::Memory => 30,
+            LineFault::LineTooLong => refusals::LINE_TOO_LONG,
+            LineFault::BadLine => refusals::BAD_LINE,
+            LineFault::Memory => refusals::NO_MEMORY,
         }
     }
 }

@@ -14,7 +14,7 @@ use crate::script::numbers::{count, length};
 use crate::script::path::FilePath;
 use crate::script::pieces::first_byte;
 use crate::script::words::Words;
-use crate::window::Window;
+use cam_tiles::Window;
 use std::alloc::{AllocError, Global};
 
 /// The most bytes that a line has.

@@ -1,6 +1,5 @@
-use Rattle.cam_station.proofs.PictureLaws.{pixels_right}
 use Rattle.cam_station.proofs.PlotLaws.{exact_plot}
 use Rattle.cam_station.proofs.laws.plot_is_exact.Goals as goal
 
 pub returns : goal.returns
-returns c = exact_plot pixels_right
+returns c = exact_plot

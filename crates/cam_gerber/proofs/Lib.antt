@@ -1,0 +1,10 @@
+pub mod Codes
+pub mod Dictionary
+pub mod Digits
+pub mod FaultNumbers
+pub mod Formats
+pub mod LowestFaults
+pub mod Obeying
+pub mod Places
+pub mod Readings
+pub mod SoundLayers

@@ -1,0 +1,6 @@
+pub mod Numbers
+pub mod Syntax
+pub mod GraphicsState
+pub mod Faults
+pub mod Reading
+pub mod Tracking

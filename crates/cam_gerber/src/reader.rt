@@ -1,0 +1,63 @@
+//! Reads Gerber layers.
+
+ghost use Rattle.std.specs.Prelude.{◌≡◌};
+ghost use Rattle.cam_gerber.specs.Reading.{IsReading, is_end_command};
+
+use crate::commands::Command;
+use crate::faults;
+use crate::read_fault::ReadFault;
+use crate::state::{GraphicsState, Stop};
+use crate::syntax::{command_of, place_of};
+use cam_objects::Layer;
+use cam_words::Words;
+use std::alloc::Global;
+
+/// Whether the command is M02.
+fn is_end(command: Command) -> bool
+    ensures { result ≡ is_end_command command }
+{
+    matches!(command, Command::End)
+}
+
+/// The layer of a Gerber file up to its first M02, or its first fault: that of the command
+/// which stands first, and of several at one command the one with the lowest number. Where
+/// memory is refused, the fault is number 30 at place 0.
+///
+/// (Gerber Layer Format Specification, "Syntax" and "Graphics state".)
+pub fn read_gerber(alloc: Global, bytes: &[u8]) -> Result<Layer, ReadFault>
+    ensures { IsReading bytes.now result }
+{
+    let mut state = GraphicsState::new(alloc);
+    let mut words = Words::new(bytes);
+    while let Some(answer) = words.next() {
+        let word = match answer {
+            Ok(word) => word,
+            Err(fault) => {
+                return Err(ReadFault {
+                    code: fault.code,
+                    at: fault.at,
+                });
+            }
+        };
+        let Ok(command) = command_of(alloc, word) else {
+            return Err(ReadFault::NO_MEMORY);
+        };
+        if is_end(command) {
+            return Ok(state.into_layer());
+        }
+        match state.obey(command) {
+            Ok(()) => {}
+            Err(Stop::Memory) => return Err(ReadFault::NO_MEMORY),
+            Err(Stop::Fault(code)) => {
+                return Err(ReadFault {
+                    code,
+                    at: place_of(word),
+                });
+            }
+        }
+    }
+    Err(ReadFault {
+        code: faults::NO_END,
+        at: bytes.len(),
+    })
+}

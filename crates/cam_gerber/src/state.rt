@@ -1,0 +1,269 @@
+//! The graphics state, as one pass over the commands keeps it.
+
+ghost use Rattle.std.specs.Prelude.{◌≡◌, ◌≤◌, ◌∷◌, [], OnOk, MatchOption, true, false};
+ghost use Rattle.cam_gerber.specs.declared.commands.Command.TheVariants as command;
+ghost use Rattle.cam_gerber.specs.Faults.{is_malformed};
+ghost use Rattle.cam_objects.specs.Layers.{is_on_board};
+ghost use Rattle.cam_gerber.specs.GraphicsState.{Past};
+ghost use Rattle.cam_gerber.specs.Tracking.{Tracks, IsReady, IsShortFormat, IsWithinFormats, Answers, is_on_axis, moved, moved_point};
+
+use crate::commands::{Command, Coordinate, Format};
+use crate::faults;
+use cam_objects::{Aperture, Flash, Layer};
+use cam_units::{Nm, Point, Unit, coord_nm, fits_board, fits_size, fix9_nm};
+use std::alloc::{AllocError, Global};
+
+/// How many flashes a layer may have.
+const FLASH_LIMIT: usize = 1_000_000;
+
+/// Why a command stops the reader: memory was refused, or a fault's number.
+#[derive(Debug, Drop)]
+pub enum Stop {
+    Memory,
+    Fault(u8),
+}
+
+impl From<AllocError> for Stop {
+    ghost use Rattle.std.specs.Prelude.{◌≡◌};
+    ghost use Rattle.cam_gerber.specs.declared.state.Stop.TheVariants.{Memory};
+
+    ghost from_gives = { λ _ stop. stop ≡ Memory };
+
+    fn from(_error: AllocError) -> Stop {
+        Stop::Memory
+    }
+}
+
+/// The values in force behind the commands so far, and the layer that they make
+/// (Gerber Layer Format Specification, "Graphics state").
+#[derive(Drop)]
+pub struct GraphicsState {
+    format: Option<Format>,
+    unit: Option<Unit>,
+    /// Of the current aperture.
+    diameter: Option<Nm>,
+    /// The current point.
+    x: Nm,
+    y: Nm,
+    layer: Layer,
+}
+
+/// Whether the coordinate does not fit its grammar.
+fn is_malformed(coordinate: Coordinate) -> bool
+    ensures { result ≡ is_malformed coordinate }
+{
+    matches!(coordinate, Coordinate::Malformed)
+}
+
+/// The coordinate that an operation leaves, in nm; `None` where it is 10^18 nm or more in
+/// absolute value.
+#[tactic(auto, unfolding(crate::specs::GraphicsState::coordinate_nm))]
+fn moved(format: Format, unit: Unit, coordinate: Coordinate, old: Nm) -> Option<Nm>
+    requires { IsShortFormat format }
+    ensures { MatchOption result (is_on_axis (moved (Some format) (Some unit) coordinate old.0) ≡ false) (λ new. new.0 ≡ moved (Some format) (Some unit) coordinate old.0) }
+{
+    match coordinate {
+        Coordinate::Omitted | Coordinate::Malformed => Some(old),
+        Coordinate::Written(n) => coord_nm(n, u32::from(format.decimals), unit),
+    }
+}
+
+/// The point that an operation leaves, if it lies on the board.
+fn moved_point(
+    format: Format,
+    unit: Unit,
+    x: Coordinate,
+    y: Coordinate,
+    from: (Nm, Nm),
+) -> Option<(Nm, Nm)>
+    requires { IsShortFormat format }
+    ensures { MatchOption result
+        (is_on_board (moved_point format unit x y from.0.0 from.1.0) ≡ false)
+        (λ to. (record { x = to.0.0; y = to.1.0 } ≡ moved_point format unit x y from.0.0 from.1.0) × (is_on_board (moved_point format unit x y from.0.0 from.1.0) ≡ true)) }
+{
+    let x = moved(format, unit, x, from.0)?;
+    let y = moved(format, unit, y, from.1)?;
+    if fits_board(Point { x: x.0, y: y.0 }) {
+        Some((x, y))
+    } else {
+        None
+    }
+}
+
+impl GraphicsState {
+    /// Nothing is set, the current point is (0, 0), and the layer is empty.
+    pub fn new(alloc: Global) -> GraphicsState
+        ensures tracks { Tracks [] result }
+        ensures ready { IsReady result }
+    {
+        GraphicsState {
+            format: None,
+            unit: None,
+            diameter: None,
+            x: Nm(0),
+            y: Nm(0),
+            layer: Layer::new(alloc),
+        }
+    }
+
+    /// The layer so far.
+    pub fn into_layer(self) -> Layer
+        ensures { result ≡ self.layer }
+    {
+        self.layer
+    }
+
+    fn set_format(&mut self, format: Format) -> Result<(), Stop>
+        requires ready { IsReady self.old }
+        requires short { IsShortFormat format }
+        ensures step { (past : Past) → Tracks past self.old → Answers result past (command.SetFormat format) (Tracks (command.SetFormat format ∷ past) self.new) }
+        ensures still_ready { OnOk result (IsReady self.new) }
+    {
+        if let Some(set) = self.format {
+            if set != format {
+                return Err(Stop::Fault(faults::SET_AGAIN));
+            }
+        }
+        self.format = Some(format);
+        Ok(())
+    }
+
+    fn set_unit(&mut self, unit: Unit) -> Result<(), Stop>
+        requires { IsReady self.old }
+        ensures step { (past : Past) → Tracks past self.old → Answers result past (command.SetUnit unit) (Tracks (command.SetUnit unit ∷ past) self.new) }
+        ensures still_ready { OnOk result (IsReady self.new) }
+    {
+        if let Some(set) = self.unit {
+            if set != unit {
+                return Err(Stop::Fault(faults::SET_AGAIN));
+            }
+        }
+        self.unit = Some(unit);
+        Ok(())
+    }
+
+    fn define(&mut self, number: Option<u32>, diameter: Option<i64>) -> Result<(), Stop>
+        requires { IsReady self.old }
+        ensures step { (past : Past) → Tracks past self.old → Answers result past (command.Define number diameter) (Tracks (command.Define number diameter ∷ past) self.new) }
+        ensures still_ready { OnOk result (IsReady self.new) }
+    {
+        let Some(number) = number else {
+            return Err(Stop::Fault(faults::BAD_NUMBER));
+        };
+        let Some(diameter) = diameter else {
+            return Err(Stop::Fault(faults::BAD_NUMBER));
+        };
+        let Some(unit) = self.unit else {
+            return Err(Stop::Fault(faults::NO_UNIT));
+        };
+        if self.layer.diameter_of(number).is_some() {
+            return Err(Stop::Fault(faults::REDEFINED));
+        }
+        let diameter = fix9_nm(diameter, unit);
+        if !fits_size(diameter) {
+            return Err(Stop::Fault(faults::SIZE_REFUSED));
+        }
+        self.layer.add_aperture(Aperture { number, diameter })?;
+        Ok(())
+    }
+
+    fn select(&mut self, number: Option<u32>) -> Result<(), Stop>
+        requires { IsReady self.old }
+        ensures step { (past : Past) → Tracks past self.old → Answers result past (command.Select number) (Tracks (command.Select number ∷ past) self.new) }
+        ensures still_ready { OnOk result (IsReady self.new) }
+    {
+        let Some(number) = number else {
+            return Err(Stop::Fault(faults::BAD_NUMBER));
+        };
+        let Some(diameter) = self.layer.diameter_of(number) else {
+            return Err(Stop::Fault(faults::UNKNOWN_APERTURE));
+        };
+        self.diameter = Some(diameter);
+        Ok(())
+    }
+
+    fn flash(&mut self, x: Coordinate, y: Coordinate) -> Result<(), Stop>
+        requires { IsReady self.old }
+        ensures step { (past : Past) → Tracks past self.old → Answers result past (command.FlashAt x y) (Tracks (command.FlashAt x y ∷ past) self.new) }
+        ensures still_ready { OnOk result (IsReady self.new) }
+    {
+        if is_malformed(x) {
+            return Err(Stop::Fault(faults::BAD_NUMBER));
+        }
+        if is_malformed(y) {
+            return Err(Stop::Fault(faults::BAD_NUMBER));
+        }
+        let Some(format) = self.format else {
+            return Err(Stop::Fault(faults::NO_FORMAT));
+        };
+        let Some(unit) = self.unit else {
+            return Err(Stop::Fault(faults::NO_UNIT));
+        };
+        let Some(diameter) = self.diameter else {
+            return Err(Stop::Fault(faults::NONE_SELECTED));
+        };
+        let Some(to) = moved_point(format, unit, x, y, (self.x, self.y)) else {
+            return Err(Stop::Fault(faults::OUT_OF_BOARD));
+        };
+        if self.layer.flash_count() >= FLASH_LIMIT {
+            return Err(Stop::Fault(faults::TOO_MUCH));
+        }
+        let at = Point {
+            x: to.0.0,
+            y: to.1.0,
+        };
+        self.layer.add_flash(Flash { at, diameter })?;
+        self.x = to.0;
+        self.y = to.1;
+        Ok(())
+    }
+
+    /// Takes one more command, which is not the end; it tells the command's fault of the
+    /// lowest number, or that memory was refused.
+    pub fn obey(&mut self, command: Command) -> Result<(), Stop>
+        requires ready { IsReady self.old }
+        requires short { IsWithinFormats command }
+        ensures step { (past : Past) → Tracks past self.old → Answers result past command (Tracks (command ∷ past) self.new) }
+        ensures still_ready { OnOk result (IsReady self.new) }
+    {
+        match command {
+            Command::SetFormat(format) => self.set_format(format),
+            Command::Refused => Err(Stop::Fault(faults::FORMAT_REFUSED)),
+            Command::SetUnit(unit) => self.set_unit(unit),
+            Command::Define { number, diameter } => self.define(number, diameter),
+            Command::Select(number) => self.select(number),
+            Command::FlashAt { x, y } => self.flash(x, y),
+            Command::End | Command::Nothing => Ok(()),
+            Command::Unknown => Err(Stop::Fault(faults::UNKNOWN_COMMAND)),
+        }
+    }
+}
+
+#[cfg(test)]
+mod tests {
+    use super::*;
+
+    #[test]
+    fn coordinates_in_inches(rt: HostRuntime) {
+        let format = Format {
+            integers: 2,
+            decimals: 6,
+        };
+        let first = moved_point(
+            format,
+            Unit::Inch,
+            Coordinate::Written(1),
+            Coordinate::Written(2),
+            (Nm(0), Nm(0)),
+        );
+        assert_eq!(rt; first, Some((Nm(25), Nm(51))));
+        let second = moved_point(
+            format,
+            Unit::Inch,
+            Coordinate::Written(3),
+            Coordinate::Omitted,
+            (Nm(25), Nm(51)),
+        );
+        assert_eq!(rt; second, Some((Nm(76), Nm(51))));
+    }
+}

@@ -1,5 +1,0 @@
-use Rattle.cam_station.proofs.SoundLayers.{reading_is_sound}
-use Rattle.cam_station.proofs.gerber.laws.layers_are_sound.Goals as goal
-
-pub returns : goal.returns
-returns c = reading_is_sound

@@ -1,5 +1,0 @@
-use Rattle.cam_station.proofs.PlotLemmas.{one_plot_law}
-use Rattle.cam_station.proofs.picture.one_file_shows_the_image.Goals as goal
-
-pub returns : goal.returns
-returns c = one_plot_law

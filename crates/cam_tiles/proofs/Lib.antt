@@ -1,0 +1,4 @@
+pub mod PbmLemmas
+pub mod PictureLemmas
+pub mod PlotLemmas
+pub mod WindowLemmas

@@ -1,0 +1,235 @@
+-- PBM files: the bits of a byte, the bytes of a row, the rows of a file.
+use Rattle.std.proofs.Common.{◌≡◌, ℕ, zero, suc, ◌+◌, ◌*◌, ◌-◌, ◌/◌, ◌%◌, ◌^◌, ◌<◌, ◌≤◌, refl, sym, ap, ◌∙◌, Bool, true, false, ◌&&◌, List, [], ◌∷◌, ◌++◌, length, get_or, take, map, All, length-append, append_assoc, add-one, zero-add, arith}
+use Rattle.std.specs.Fmt.{decimal}
+use Rattle.std.specs.Int.{bit_at}
+use Rattle.std.specs.List.{range_with_len, flat_map}
+use Rattle.std.proofs.Math.Nat.{pow-suc, pow-le-pow_right}
+use Rattle.std.proofs.Math.Seq.{take-append_seam}
+use Rattle.std.proofs.lemmas.Bool.{lt-ltb, le-ltb}
+use Rattle.std.proofs.lemmas.Fmt.{IsAscii-decimal}
+use Rattle.std.proofs.lemmas.List.{get_or_append_left, get_or-append-add, flat_map_more}
+use Rattle.std.proofs.lemmas.List.Elements.{All-append, All-cons, All-nil, All-from_get_or}
+use Rattle.std.proofs.lemmas.List.FromFn.{length-map-range_with_len, get_or-map-range_with_len, map-range_with_len_more}
+use Rattle.cam_tiles.specs.Pbm.{header, bit_of, byte_of, bytes_across, padded, row_of, pbm, byte_at, IsPixelSet}
+
+bit_of-lt : (b : Bool) → bit_of b < 2
+bit_of-lt true = omega arith
+bit_of-lt false = omega arith
+
+abbrev weighed : (a b c d e f g h : ℕ) → ℕ
+weighed a b c d e f g h = 128 * a + 64 * b + 32 * c + 16 * d + 8 * e + 4 * f + 2 * g + h
+
+-- each is the bit of the sum at its place
+record HasBits (a b c d e f g h : ℕ) : Type 0 where
+  at_7 : weighed a b c d e f g h / 128 % 2 ≡ a
+  at_6 : weighed a b c d e f g h / 64 % 2 ≡ b
+  at_5 : weighed a b c d e f g h / 32 % 2 ≡ c
+  at_4 : weighed a b c d e f g h / 16 % 2 ≡ d
+  at_3 : weighed a b c d e f g h / 8 % 2 ≡ e
+  at_2 : weighed a b c d e f g h / 4 % 2 ≡ f
+  at_1 : weighed a b c d e f g h / 2 % 2 ≡ g
+  at_0 : weighed a b c d e f g h / 1 % 2 ≡ h
+
+bits_of_weighed : (a b c d e f g h : ℕ) → a < 2 → b < 2 → c < 2 → d < 2 → e < 2 → f < 2 → g < 2 → h < 2 → HasBits a b c d e f g h
+bits_of_weighed a b c d e f g h p q r s t u v w =
+    record {
+      at_7 = omega arith;
+      at_6 = omega arith;
+      at_5 = omega arith;
+      at_4 = omega arith;
+      at_3 = omega arith;
+      at_2 = omega arith;
+      at_1 = omega arith;
+      at_0 = omega arith;
+    }
+
+bits_of_pixels : (black : ℕ → Bool) → HasBits (bit_of (black 0)) (bit_of (black 1)) (bit_of (black 2)) (bit_of (black 3)) (bit_of (black 4)) (bit_of (black 5)) (bit_of (black 6)) (bit_of (black 7))
+bits_of_pixels black =
+    bits_of_weighed _ _ _ _ _ _ _ _ (bit_of-lt (black 0)) (bit_of-lt (black 1)) (bit_of-lt (black 2)) (bit_of-lt (black 3)) (bit_of-lt (black 4)) (bit_of-lt (black 5)) (bit_of-lt (black 6)) (bit_of-lt (black 7))
+
+-- the bits of a byte, from the highest down, are its pixels from the left
+bit_at-byte_of : (black : ℕ → Bool) (i : ℕ) → i < 8 → bit_at (byte_of black) (7 - i) ≡ bit_of (black i)
+unfolding byte_of
+bit_at-byte_of black zero within = (bits_of_pixels black).at_7
+bit_at-byte_of black (suc zero) within = (bits_of_pixels black).at_6
+bit_at-byte_of black (suc (suc zero)) within = (bits_of_pixels black).at_5
+bit_at-byte_of black (suc (suc (suc zero))) within = (bits_of_pixels black).at_4
+bit_at-byte_of black (suc (suc (suc (suc zero)))) within = (bits_of_pixels black).at_3
+bit_at-byte_of black (suc (suc (suc (suc (suc zero))))) within = (bits_of_pixels black).at_2
+bit_at-byte_of black (suc (suc (suc (suc (suc (suc zero)))))) within = (bits_of_pixels black).at_1
+bit_at-byte_of black (suc (suc (suc (suc (suc (suc (suc zero))))))) within = (bits_of_pixels black).at_0
+bit_at-byte_of black (suc (suc (suc (suc (suc (suc (suc (suc i)))))))) within = absurd (omega arith)
+
+byte_of-lt : (black : ℕ → Bool) → byte_of black < 256
+unfolding byte_of
+byte_of-lt black =
+    omega (arith, bit_of-lt (black 0), bit_of-lt (black 1), bit_of-lt (black 2), bit_of-lt (black 3), bit_of-lt (black 4), bit_of-lt (black 5), bit_of-lt (black 6), bit_of-lt (black 7))
+
+-- pixels read from the left, each at the lower end of those before it
+abbrev pub scanned : (ℕ → Bool) → ℕ → ℕ
+scanned black zero = 0
+scanned black (suc n) = 2 * scanned black n + bit_of (black n)
+
+pub byte_of-scanned : (black : ℕ → Bool) → scanned black 8 ≡ byte_of black
+unfolding byte_of
+byte_of-scanned black = omega arith
+
+scanned-lt : (black : ℕ → Bool) (n : ℕ) → scanned black n < 2 ^ n
+scanned-lt black zero = omega arith
+scanned-lt black (suc n) = omega (arith, scanned-lt black n, bit_of-lt (black n), pow-suc 2 n)
+
+pub scanned_fits : (black : ℕ → Bool) (n : ℕ) → n < 8 → scanned black n < 128
+scanned_fits black n h =
+    let most : 2 ^ n ≤ 2 ^ 7 = pow-le-pow_right {n = 2} (omega arith) {i = n} {j = 7} (omega arith) in omega (arith, scanned-lt black n, most)
+
+length-row_of : (black : ℕ → Bool) (width : ℕ) → length (row_of black width) ≡ bytes_across width
+unfolding row_of
+length-row_of black width = length-map-range_with_len (λ k. byte_of (λ i. padded black width (8 * k + i))) 0 (bytes_across width)
+
+get_or-row_of : (black : ℕ → Bool) (width k : ℕ) → k < bytes_across width
+    → get_or (row_of black width) k 0 ≡ byte_of (λ i. padded black width (8 * k + i))
+unfolding row_of
+get_or-row_of black width k h =
+    get_or-map-range_with_len (λ k. byte_of (λ i. padded black width (8 * k + i))) 0 (bytes_across width) k k 0 h (omega arith)
+
+-- pieces of one length, one after another
+length-pieces : (f : ℕ → List ℕ) (m : ℕ) → ((k : ℕ) → length (f k) ≡ m) → (a n : ℕ) → length (flat_map f (range_with_len a n)) ≡ n * m
+length-pieces f m h a zero = omega arith
+length-pieces f m h a (suc n) =
+    omega (arith, length-append (f a) (flat_map f (range_with_len (a + 1) n)), h a, length-pieces f m h (a + 1) n)
+
+get_or-pieces : (f : ℕ → List ℕ) (m : ℕ) → ((k : ℕ) → length (f k) ≡ m) → (a n r j : ℕ) → r < n → j < m
+    → get_or (flat_map f (range_with_len a n)) (r * m + j) 0 ≡ get_or (f (a + r)) j 0
+get_or-pieces f m h a zero r j inside within = absurd (omega arith)
+get_or-pieces f m h a (suc n) zero j inside within =
+    let at : 0 * m + j ≡ j = omega arith in
+    let piece : a ≡ a + 0 = omega arith in
+    ap (λ i. get_or (f a ++ flat_map f (range_with_len (a + 1) n)) i 0) at
+    ∙ get_or_append_left (f a) (flat_map f (range_with_len (a + 1) n)) 0 j (omega (arith, h a))
+    ∙ ap (λ i. get_or (f i) j 0) piece
+get_or-pieces f m h a (suc n) (suc r) j inside within =
+    let at : suc r * m + j ≡ length (f a) + (r * m + j) = omega (arith, h a) in
+    let piece : a + 1 + r ≡ a + suc r = omega arith in
+    ap (λ i. get_or (f a ++ flat_map f (range_with_len (a + 1) n)) i 0) at
+    ∙ get_or-append-add (f a) (flat_map f (range_with_len (a + 1) n)) (r * m + j) 0
+    ∙ get_or-pieces f m h (a + 1) n r j (omega arith) within
+    ∙ ap (λ i. get_or (f i) j 0) piece
+
+-- the rows of a picture
+abbrev rows_of : (ℕ → ℕ → Bool) → ℕ → ℕ → List ℕ
+rows_of black width height = flat_map (λ row. row_of (λ column. black column row) width) (range_with_len 0 height)
+
+length-rows_of : (black : ℕ → ℕ → Bool) (width height : ℕ) → length (rows_of black width height) ≡ height * bytes_across width
+length-rows_of black width height =
+    length-pieces (λ row. row_of (λ column. black column row) width) (bytes_across width) (λ row. length-row_of (λ column. black column row) width) 0 height
+
+pub length-pbm : (black : ℕ → ℕ → Bool) (width height : ℕ) → length (pbm black width height) ≡ length (header width height) + height * bytes_across width
+unfolding pbm
+length-pbm black width height = length-append (header width height) (rows_of black width height) ∙ ap (λ n. length (header width height) + n) (length-rows_of black width height)
+
+pub take-pbm : (black : ℕ → ℕ → Bool) (width height : ℕ) → take (length (header width height)) (pbm black width height) ≡ header width height
+unfolding pbm
+take-pbm black width height = take-append_seam (header width height) (rows_of black width height)
+
+-- the byte of a pixel
+byte_at-pbm : (black : ℕ → ℕ → Bool) (width height column row : ℕ) → column / 8 < bytes_across width → row < height
+    → byte_at (pbm black width height) width height column row ≡ byte_of (λ i. padded (λ column. black column row) width (8 * (column / 8) + i))
+unfolding pbm
+byte_at-pbm black width height column row inside below =
+    let file = header width height ++ rows_of black width height in
+    let grouped : length (header width height) + row * bytes_across width + column / 8 ≡ length (header width height) + (row * bytes_across width + column / 8) = omega arith in
+    let this : 0 + row ≡ row = omega arith in
+    ap (λ i. get_or file i 0) grouped
+    ∙ get_or-append-add (header width height) (rows_of black width height) (row * bytes_across width + column / 8) 0
+    ∙ get_or-pieces (λ row. row_of (λ column. black column row) width) (bytes_across width) (λ row. length-row_of (λ column. black column row) width) 0 height row (column / 8) below inside
+    ∙ ap (λ r. get_or (row_of (λ column. black column r) width) (column / 8) 0) this
+    ∙ get_or-row_of (λ column. black column row) width (column / 8) inside
+
+-- the bit of a pixel, padding too
+pub bit_at-pbm : (black : ℕ → ℕ → Bool) (width height column row : ℕ) → column < 8 * bytes_across width → row < height
+    → bit_at (byte_at (pbm black width height) width height column row) (7 - column % 8) ≡ bit_of (padded (λ column. black column row) width column)
+bit_at-pbm black width height column row inside below =
+    let here : 8 * (column / 8) + column % 8 ≡ column = omega arith in
+    ap (λ n. bit_at n (7 - column % 8)) (byte_at-pbm black width height column row (omega arith) below)
+    ∙ bit_at-byte_of (λ i. padded (λ column. black column row) width (8 * (column / 8) + i)) (column % 8) (omega arith)
+    ∙ ap (λ i. bit_of (padded (λ column. black column row) width i)) here
+
+is_set : (b : Bool) → bit_of b ≡ 1 → b ≡ true
+is_set true h = refl
+is_set false h = absurd (omega arith)
+
+-- a pixel's bit is set where the picture is black
+pub pixel_set : (black : ℕ → ℕ → Bool) (width height column row : ℕ) → column < width → row < height
+    → (IsPixelSet (pbm black width height) width height column row → black column row ≡ true)
+    × (black column row ≡ true → IsPixelSet (pbm black width height) width height column row)
+pixel_set black width height column row inside below =
+    let bit = bit_at-pbm black width height column row (omega arith) below in
+    let shown : bit_of (padded (λ column. black column row) width column) ≡ bit_of (black column row)
+    = ap (λ b. bit_of (b && black column row)) (lt-ltb column width inside) in (
+      (λ h. is_set (black column row) (sym (bit ∙ shown) ∙ h)),
+      (λ h. bit ∙ shown ∙ ap bit_of h),
+    )
+
+-- no bit behind the end of a row is set
+pub padding_clear : (black : ℕ → ℕ → Bool) (width height column row : ℕ) → width ≤ column → column < 8 * bytes_across width → row < height
+    → IsPixelSet (pbm black width height) width height column row → ⊥
+padding_clear black width height column row outside inside below h =
+    let bit = bit_at-pbm black width height column row inside below in
+    let clear : bit_of (padded (λ column. black column row) width column) ≡ 0
+    = ap (λ b. bit_of (b && black column row)) (le-ltb column width outside) in
+    absurd (omega (arith, sym h ∙ bit ∙ clear))
+
+all_bytes_row : (black : ℕ → Bool) (width : ℕ) → All (λ byte. byte < 256) (row_of black width)
+all_bytes_row black width =
+    All-from_get_or (λ byte. byte < 256) (row_of black width) 0 (λ k h.
+    let at = get_or-row_of black width k (omega (arith, length-row_of black width)) in
+    omega (arith, at, byte_of-lt (λ i. padded black width (8 * k + i))))
+
+all_bytes_pieces : (f : ℕ → List ℕ) → ((k : ℕ) → All (λ byte. byte < 256) (f k)) → (a n : ℕ) → All (λ byte. byte < 256) (flat_map f (range_with_len a n))
+all_bytes_pieces f h a zero = All-nil (λ byte. byte < 256)
+all_bytes_pieces f h a (suc n) = All-append (λ byte. byte < 256) (f a) (flat_map f (range_with_len (a + 1) n)) (h a) (all_bytes_pieces f h (a + 1) n)
+
+all_bytes_decimal : (n : ℕ) → n < 2 ^ 64 → All (λ byte. byte < 256) (decimal n)
+all_bytes_decimal n h = All-from_get_or (λ byte. byte < 256) (decimal n) 0 (λ i below. omega (arith, IsAscii-decimal n h i))
+
+one_byte : (b : ℕ) → b < 256 → All (λ byte. byte < 256) (b ∷ [])
+one_byte b h = All-cons (λ byte. byte < 256) b [] h (All-nil (λ byte. byte < 256))
+
+all_bytes_six : (a b c d e f : List ℕ) → All (λ byte. byte < 256) a → All (λ byte. byte < 256) b → All (λ byte. byte < 256) c
+    → All (λ byte. byte < 256) d → All (λ byte. byte < 256) e → All (λ byte. byte < 256) f → All (λ byte. byte < 256) (a ++ b ++ c ++ d ++ e ++ f)
+all_bytes_six a b c d e f p q r s t u =
+    let P : ℕ → Type 0 = λ byte. byte < 256 in
+    All-append P (a ++ b ++ c ++ d ++ e) f (All-append P (a ++ b ++ c ++ d) e (All-append P (a ++ b ++ c) d (All-append P (a ++ b) c (All-append P a b p q) r) s) t) u
+
+all_bytes_header : (width height : ℕ) → width < 2 ^ 64 → height < 2 ^ 64 → All (λ byte. byte < 256) (header width height)
+all_bytes_header width height w h =
+    all_bytes_six (80 ∷ 52 ∷ []) (10 ∷ []) (decimal width) (32 ∷ []) (decimal height) (10 ∷ [])
+    (All-cons (λ byte. byte < 256) 80 (52 ∷ []) (omega arith) (one_byte 52 (omega arith))) (one_byte 10 (omega arith)) (all_bytes_decimal width w)
+    (one_byte 32 (omega arith)) (all_bytes_decimal height h) (one_byte 10 (omega arith))
+
+pub all_bytes_pbm : (black : ℕ → ℕ → Bool) (width height : ℕ) → width < 2 ^ 64 → height < 2 ^ 64 → All (λ byte. byte < 256) (pbm black width height)
+unfolding pbm
+all_bytes_pbm black width height w h =
+    All-append (λ byte. byte < 256) (header width height) (rows_of black width height) (all_bytes_header width height w h)
+    (all_bytes_pieces (λ row. row_of (λ column. black column row) width) (λ row. all_bytes_row (λ column. black column row) width) 0 height)
+
+-- one more row, and one more byte of a row
+range_more : (a n : ℕ) → range_with_len a (suc n) ≡ range_with_len a n ++ (a + n) ∷ []
+range_more a zero = let e : a ≡ a + 0 = omega arith in ap (λ i. i ∷ []) e
+range_more a (suc n) =
+    let e : a + 1 + n ≡ a + suc n = omega arith in
+    ap (λ r. a ∷ r) (range_more (a + 1) n ∙ ap (λ i. range_with_len (a + 1) n ++ i ∷ []) e)
+
+pub more_rows : (f : ℕ → List ℕ) (n : ℕ) (start before after : List ℕ) → after ≡ before ++ f n → before ≡ start ++ flat_map f (range_with_len 0 n)
+    → after ≡ start ++ flat_map f (range_with_len 0 (n + 1))
+more_rows f n start before after e so_far =
+    let this : 0 + n ≡ n = omega arith in
+    e ∙ ap (λ b. b ++ f n) so_far ∙ flat_map_more f start (range_with_len 0 n) n
+    ∙ ap (λ r. start ++ flat_map f r) (ap (λ i. range_with_len 0 n ++ i ∷ []) (sym this) ∙ sym (range_more 0 n) ∙ ap (range_with_len 0) (sym (add-one n)))
+
+pub more_bytes : (f : ℕ → ℕ) (n byte : ℕ) (start before after : List ℕ) → after ≡ before ++ byte ∷ [] → byte ≡ f n → before ≡ start ++ map f (range_with_len 0 n)
+    → after ≡ start ++ map f (range_with_len 0 (n + 1))
+more_bytes f n byte start before after e v so_far =
+    e ∙ ap (λ b. before ++ b ∷ []) v ∙ ap (λ b. b ++ f n ∷ []) so_far
+    ∙ append_assoc start (map f (range_with_len 0 n)) (f n ∷ [])
+    ∙ ap (λ r. start ++ r) (sym (map-range_with_len_more f 0 n n (zero-add n)))

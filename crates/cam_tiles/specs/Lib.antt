@@ -1,0 +1,2 @@
+pub mod Pbm
+pub mod Picture

@@ -1,0 +1,149 @@
+//! The window that a plot shows.
+
+ghost use Rattle.std.specs.Prelude.{◌≡◌, ◌&&◌, ◌<◌, true};
+ghost use Rattle.cam_units.specs.Board.{IsPlace};
+ghost use Rattle.cam_tiles.specs.Picture.{accepts, are_near, centre_of, is_pitch, is_side, middle, tiles_of};
+
+use cam_units::Spot;
+
+/// The most pixels of a side.
+const LONGEST: u32 = 32_768;
+
+/// The greatest pitch, in nm.
+const COARSEST: i64 = 100_000_000;
+
+/// Pixel centres are under this in absolute value, in half nm.
+const REACH: u128 = 2_000_000_000;
+
+/// A window of pixels: the lower left corner and the pitch in nanometres, the sides in
+/// pixels.
+///
+/// Column 0 is at the left, row 0 at the top.
+#[derive(Clone, Copy, Debug, PartialEq, Eq)]
+pub struct Window {
+    pub x: i64,
+    pub y: i64,
+    pub pitch: i64,
+    pub width: u32,
+    pub height: u32,
+}
+
+impl Window {
+    /// Whether the window is within its limits: sides from 1 to 32,768 pixels, a pitch from
+    /// 1 to 100,000,000 nm, and every pixel centre under 2,000,000,000 half nm in absolute
+    /// value.
+    #[tactic(auto, unfolding(crate::specs::Picture::accepts))]
+    pub fn is_accepted(&self) -> bool
+        ensures { result ≡ accepts self.now }
+    {
+        if !fits_side(self.width) {
+            return false;
+        }
+        if !fits_side(self.height) {
+            return false;
+        }
+        if !fits_pitch(self) {
+            return false;
+        }
+        fits_board(self)
+    }
+
+    /// How many tiles of 64 by 64 pixels the window has; those at its right and lower edge
+    /// may be smaller.
+    pub fn tile_count(&self) -> u64
+        requires { accepts self.now ≡ true }
+        ensures { result ≡ tiles_of self.now }
+    {
+        u64::from(self.width.div_ceil(64)) * u64::from(self.height.div_ceil(64))
+    }
+
+    /// The centre of a pixel.
+    pub fn centre(&self, column: u32, row: u32) -> Spot
+        requires accepted { accepts self.now ≡ true }
+        requires column { column < self.now.width }
+        requires row { row < self.now.height }
+        ensures value { result ≡ centre_of self.now column row }
+        ensures place { IsPlace result }
+    {
+        Spot {
+            x: self.columns().middle(column) as i64,
+            y: self.rows().middle(self.height - 1 - row) as i64,
+        }
+    }
+
+    /// Its columns, from the left.
+    fn columns(&self) -> Side
+        ensures { result
+            ≡ record { edge = self.now.x; pitch = self.now.pitch; count = self.now.width } }
+    {
+        Side {
+            edge: self.x,
+            pitch: self.pitch,
+            count: self.width,
+        }
+    }
+
+    /// Its rows, from below.
+    fn rows(&self) -> Side
+        ensures { result
+            ≡ record { edge = self.now.y; pitch = self.now.pitch; count = self.now.height } }
+    {
+        Side {
+            edge: self.y,
+            pitch: self.pitch,
+            count: self.height,
+        }
+    }
+}
+
+/// Pixels side by side from an edge on: the edge's coordinate and the pitch in nm.
+#[derive(Clone, Copy)]
+struct Side {
+    edge: i64,
+    pitch: i64,
+    count: u32,
+}
+
+impl Side {
+    /// The middle of a pixel, which is counted from the edge, in half nm.
+    fn middle(self, pixel: u32) -> i128
+        ensures { result ≡ middle self.edge self.pitch pixel }
+    {
+        2 * i128::from(self.edge) + i128::from(2 * u64::from(pixel) + 1) * i128::from(self.pitch)
+    }
+
+    /// Whether the middles of its first and its last pixel are on the board.
+    fn is_near(self) -> bool
+        requires { 0 < self.count }
+        ensures { result ≡ are_near self.edge self.pitch self.count }
+    {
+        if self.middle(0).unsigned_abs() >= REACH {
+            return false;
+        }
+        self.middle(self.count - 1).unsigned_abs() < REACH
+    }
+}
+
+/// Whether a side has from 1 to 32,768 pixels.
+fn fits_side(pixels: u32) -> bool
+    ensures { result ≡ is_side pixels }
+{
+    1 <= pixels && pixels <= LONGEST
+}
+
+/// Whether the pitch of a window is from 1 to 100,000,000 nm.
+fn fits_pitch(window: &Window) -> bool
+    ensures { result ≡ is_pitch window.now.pitch }
+{
+    1 <= window.pitch && window.pitch <= COARSEST
+}
+
+/// Whether the centres of a window that has pixels are on the board.
+fn fits_board(window: &Window) -> bool
+    requires width { 0 < window.now.width }
+    requires height { 0 < window.now.height }
+    ensures { result ≡ (are_near window.now.x window.now.pitch window.now.width
+        && are_near window.now.y window.now.pitch window.now.height) }
+{
+    window.columns().is_near() && window.rows().is_near()
+}
