@@ -2,7 +2,7 @@
 //!
 //! No clause can say what the system's files and output hold, so these tell nothing of it.
 
-ghost use Rattle.std.specs.Prelude.{◌≡◌, ◌+◌, ◌^◌, ◌<◌, ◌≤◌, length, IfOk, IfSome};
+ghost use Rattle.std.specs.Prelude.{◌≡◌, ◌+◌, ◌^◌, ◌<◌, ◌≤◌, length, IfNone, IfOk, IfSome};
 
 use cam_station::{FileFault, Files, Out};
 use std::alloc::{AllocError, Global};
@@ -37,6 +37,8 @@ fn read_within<R: Read>(
     ensures bound { IfOk result (λ read. IfSome read (λ bytes. length bytes.items ≤ limit)) }
     ensures whole { IfOk result (λ read. IfSome read (λ bytes. IfSome (R.remaining reader.old)
         (λ all. bytes.items ≡ all))) }
+    ensures past { IfOk result (λ read. IfNone read (IfSome (R.remaining reader.old)
+        (λ all. limit < length all))) }
 {
     let mut bytes = Vec::new(alloc);
     for _ in 0..limit + 1 {

@@ -6,6 +6,7 @@ use Rattle.camplot.proofs.system.read_within.Given as goal
 abbrev pub invariant-loop : goal.invariant-loop
 invariant-loop g l =
     record {
+      turns : l.counter ≤ length l.bytes.items;
       bound : length l.bytes.items ≤ l.limit;
       read : Consumes (g.R.Read.remaining l.initial.reader) (g.R.Read.remaining l.reader) l.bytes.items;
     }
