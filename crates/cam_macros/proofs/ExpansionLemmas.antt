@@ -1,16 +1,18 @@
 -- Lists of values and of primitives, one at a time.
-use Rattle.std.proofs.Common.{◌≡◌, ℕ, suc, ◌+◌, ◌<◌, List, [], ◌∷◌, ◌++◌, length, drop, get_or, ℤ, Result, Ok, Err, refl, ap, sym, ◌∙◌, append_assoc, add-one}
+use Rattle.std.proofs.Common.{◌≡◌, ℕ, suc, ◌+◌, ◌<◌, List, [], ◌∷◌, ◌++◌, length, drop, get_or, ℤ, Result, Ok, Err}
+use Rattle.std.proofs.Common.{refl, ap, sym, ◌∙◌, append_assoc, add-one}
 use Rattle.std.proofs.Math.Seq.{drop-cons}
 use Rattle.cam_units.specs.declared.length.Unit.{Unit as FileUnit}
 use Rattle.cam_macros.specs.declared.arithmetic.Fixed.{Fixed}
 use Rattle.cam_macros.specs.declared.part.Part.{Part}
-use Rattle.cam_macros.specs.declared.primitive.Prim.{Prim}
+use Rattle.cam_macros.specs.declared.primitive.MacroPrimitive.{MacroPrimitive}
 use Rattle.cam_macros.specs.declared.fault.MacroFault.{MacroFault}
-use Rattle.cam_macros.specs.declared.fault.MacroFault.TheVariants.{BadName, Malformed, PrimitiveRefused, RotationRefused, SizeRefused, OutOfMemory}
+use Rattle.cam_macros.specs.declared.fault.MacroFault.TheVariants.{BadName, Malformed, PrimitiveRefused}
+use Rattle.cam_macros.specs.declared.fault.MacroFault.TheVariants.{RotationRefused, SizeRefused, OutOfMemory}
 use Rattle.cam_macros.specs.Tree.{Tree}
 use Rattle.cam_macros.specs.Arithmetic.{Values}
 use Rattle.cam_macros.specs.Answers.{IsUnlessMemory}
-use Rattle.cam_macros.specs.Values.{numbers}
+use Rattle.cam_macros.specs.Machinery.Values.{numbers}
 use Rattle.cam_macros.specs.Expansion.{worth, all_worth, outcome, values_after, expansion, with_prims, ◌>>=◌}
 use Rattle.cam_macros.proofs.Evaluation.{numbers_push}
 
@@ -33,58 +35,73 @@ worth_joined : (made : List ℤ) (v : ℤ) (rest : Result (List ℤ) MacroFault)
 worth_joined made v (Ok vs) = ap Ok (sym (append_assoc made (v ∷ []) vs))
 worth_joined made v (Err f) = refl
 
-pub worth_next : (values : Values) (trees : List Tree) (i : ℕ) (tree : Tree) (made : List Fixed) (v : Fixed) → i < length trees
+pub worth_next : (values : Values) (trees : List Tree) (i : ℕ) (tree : Tree) (made : List Fixed) (v : Fixed)
+    → i < length trees
     → tree ≡ get_or trees i tree → worth values tree ≡ Ok v.billionths
-    → with_more (numbers made) (all_worth values (drop i trees)) ≡ with_more (numbers (made ++ v ∷ [])) (all_worth values (drop (i + 1) trees))
+    → with_more (numbers made) (all_worth values (drop i trees))
+    ≡ with_more (numbers (made ++ v ∷ [])) (all_worth values (drop (i + 1) trees))
 worth_next values trees i tree made v h is e =
     rw (add-one, numbers_push)
-    (ap (λ l. with_more (numbers made) (all_worth values l)) (drop-cons trees i tree h ∙ ap (λ t. t ∷ drop (suc i) trees) (sym is))
+    (ap (λ l. with_more (numbers made) (all_worth values l))
+    (drop-cons trees i tree h ∙ ap (λ t. t ∷ drop (suc i) trees) (sym is))
     ∙ ap (λ w. with_more (numbers made) (w >>= λ v. all_worth values (drop (suc i) trees) >>= λ vs. Ok (v ∷ vs))) e
     ∙ worth_joined (numbers made) v.billionths (all_worth values (drop (suc i) trees)))
 
-pub worth_fault : (values : Values) (trees : List Tree) (i : ℕ) (tree : Tree) (made : List ℤ) (fault : MacroFault) (all : Result (List ℤ) MacroFault) → i < length trees
+pub worth_fault : (values : Values) (trees : List Tree) (i : ℕ) (tree : Tree) (made : List ℤ) (fault : MacroFault)
+    (all : Result (List ℤ) MacroFault) → i < length trees
     → tree ≡ get_or trees i tree → with_more made (all_worth values (drop i trees)) ≡ all
     → IsUnlessMemory fault (worth values tree) → IsUnlessMemory fault all
 worth_fault values trees i tree made fault all h is e f =
     let found : (g : MacroFault) → worth values tree ≡ Err g → all ≡ Err g =
     λ g w.
     sym e
-    ∙ ap (λ l. with_more made (all_worth values l)) (drop-cons trees i tree h ∙ ap (λ t. t ∷ drop (suc i) trees) (sym is))
+    ∙ ap (λ l. with_more made (all_worth values l))
+    (drop-cons trees i tree h ∙ ap (λ t. t ∷ drop (suc i) trees) (sym is))
     ∙ ap (λ x. with_more made (x >>= λ v. all_worth values (drop (suc i) trees) >>= λ vs. Ok (v ∷ vs))) w in
     told fault (worth values tree) all found f
 
 -- parts
 
-pub expansion_same : (unit : FileUnit) (v w : Values) (parts : List Part) → ((n : ℕ) → v n ≡ w n) → expansion unit v parts ≡ expansion unit w parts
+pub expansion_same : (unit : FileUnit) (v w : Values) (parts : List Part) → ((n : ℕ) → v n ≡ w n)
+    → expansion unit v parts ≡ expansion unit w parts
 expansion_same unit v w parts h = let same : v ≡ w = λ i n. h n i in ap (λ f. expansion unit f parts) same
 
-prims_joined : (before made : List Prim) (rest : Result (List Prim) MacroFault)
+prims_joined : (before made : List MacroPrimitive) (rest : Result (List MacroPrimitive) MacroFault)
     → with_prims before (rest >>= λ more. Ok (made ++ more)) ≡ with_prims (before ++ made) rest
 prims_joined before made (Ok more) = ap Ok (sym (append_assoc before made more))
 prims_joined before made (Err f) = refl
 
-prims_step : (before after : List Prim) (made : Result (List Prim) MacroFault) (rest : Result (List Prim) MacroFault)
-    → with_prims before made ≡ Ok after → with_prims before (made >>= λ m. rest >>= λ more. Ok (m ++ more)) ≡ with_prims after rest
+prims_step : (before after : List MacroPrimitive) (made : Result (List MacroPrimitive) MacroFault)
+    (rest : Result (List MacroPrimitive) MacroFault)
+    → with_prims before made ≡ Ok after
+    → with_prims before (made >>= λ m. rest >>= λ more. Ok (m ++ more)) ≡ with_prims after rest
 prims_step before after (Ok m) rest e =
     prims_joined before m rest ∙ ap (λ l. with_prims l rest) (let same : before ++ m ≡ after = cc in same)
 prims_step before after (Err f) rest e = cc
 
-pub part_next : (unit : FileUnit) (v w : Values) (parts : List Part) (i : ℕ) (part : Part) (before after : List Prim) → i < length parts
-    → part ≡ get_or parts i part → with_prims before (outcome unit v part) ≡ Ok after → ((n : ℕ) → w n ≡ values_after v part n)
+pub part_next : (unit : FileUnit) (v w : Values) (parts : List Part) (i : ℕ) (part : Part)
+    (before after : List MacroPrimitive) → i < length parts
+    → part ≡ get_or parts i part → with_prims before (outcome unit v part) ≡ Ok after
+    → ((n : ℕ) → w n ≡ values_after v part n)
     → with_prims before (expansion unit v (drop i parts)) ≡ with_prims after (expansion unit w (drop (i + 1) parts))
 part_next unit v w parts i part before after h is e same =
     rw add-one
-    (ap (λ l. with_prims before (expansion unit v l)) (drop-cons parts i part h ∙ ap (λ t. t ∷ drop (suc i) parts) (sym is))
+    (ap (λ l. with_prims before (expansion unit v l))
+    (drop-cons parts i part h ∙ ap (λ t. t ∷ drop (suc i) parts) (sym is))
     ∙ prims_step before after (outcome unit v part) (expansion unit (values_after v part) (drop (suc i) parts)) e
     ∙ ap (with_prims after) (sym (expansion_same unit w (values_after v part) (drop (suc i) parts) same)))
 
-pub part_fault : (unit : FileUnit) (v : Values) (parts : List Part) (i : ℕ) (part : Part) (before : List Prim) (fault : MacroFault) (all : Result (List Prim) MacroFault) → i < length parts
+pub part_fault : (unit : FileUnit) (v : Values) (parts : List Part) (i : ℕ) (part : Part)
+    (before : List MacroPrimitive) (fault : MacroFault) (all : Result (List MacroPrimitive) MacroFault)
+    → i < length parts
     → part ≡ get_or parts i part → with_prims before (expansion unit v (drop i parts)) ≡ all
     → IsUnlessMemory fault (outcome unit v part) → IsUnlessMemory fault all
 part_fault unit v parts i part before fault all h is e f =
     let found : (g : MacroFault) → outcome unit v part ≡ Err g → all ≡ Err g =
     λ g w.
     sym e
-    ∙ ap (λ l. with_prims before (expansion unit v l)) (drop-cons parts i part h ∙ ap (λ t. t ∷ drop (suc i) parts) (sym is))
-    ∙ ap (λ x. with_prims before (x >>= λ m. expansion unit (values_after v part) (drop (suc i) parts) >>= λ more. Ok (m ++ more))) w in
+    ∙ ap (λ l. with_prims before (expansion unit v l))
+    (drop-cons parts i part h ∙ ap (λ t. t ∷ drop (suc i) parts) (sym is))
+    ∙ ap (λ x. with_prims before
+    (x >>= λ m. expansion unit (values_after v part) (drop (suc i) parts) >>= λ more. Ok (m ++ more))) w in
     told fault (outcome unit v part) all found f

@@ -2,11 +2,11 @@
 use Rattle.std.proofs.Common.{◌≡◌, ℕ, List, Some, sym, ap, ◌∙◌, subst}
 use Rattle.cam_macros.specs.declared.expression.Step.{Step}
 use Rattle.cam_macros.specs.declared.fault.MacroFault.{MacroFault}
-use Rattle.cam_macros.specs.declared.fault.MacroFault.TheVariants.{BadName, Malformed, PrimitiveRefused, RotationRefused, SizeRefused, OutOfMemory}
-use Rattle.cam_macros.specs.Postfix.{postfix, tree_of, tree_of-postfix}
+use Rattle.cam_macros.specs.Machinery.Postfix.{postfix, tree_of, tree_of-postfix}
 use Rattle.cam_macros.specs.Grammar.{IsExpression}
-use Rattle.cam_macros.specs.Scanning.{scanned, IsFaultOf}
-use Rattle.cam_macros.specs.Answers.{IsNoExpression}
+use Rattle.cam_macros.specs.Machinery.Scanning.{scanned, IsFaultOf}
+use Rattle.cam_macros.specs.Answers.{Nothing, Tells}
+use Rattle.cam_macros.proofs.FaultLemmas.{tells_also}
 use Rattle.cam_macros.proofs.Machine.{expression_read}
 use Rattle.cam_macros.proofs.Soundness.{steps_found}
 
@@ -20,10 +20,9 @@ tree_is text steps e =
     let found = steps_found text steps e in
     subst (IsExpression text) (sym (ap tree_of found.1 ∙ tree_of-postfix found.0)) found.2
 
-pub no_expression : (fault : MacroFault) (text : List ℕ) → IsFaultOf fault (scanned text) → IsNoExpression fault text
-no_expression OutOfMemory text f = tt
-no_expression Malformed text f = λ tree h. cc (expression_read text tree h)
-no_expression BadName text f = f
-no_expression PrimitiveRefused text f = f
-no_expression RotationRefused text f = f
-no_expression SizeRefused text f = f
+pub no_expression : (fault : MacroFault) (text : List ℕ) → IsFaultOf fault (scanned text)
+    → Tells fault (Nothing (IsExpression text))
+no_expression fault text f = tells_also fault (λ none tree h. cc (expression_read text tree h)) f
+
+-- what a text that is read, or is not, stands for
+pub ruleset kept_expressions = (steps_are, tree_is, no_expression)

@@ -1,5 +1,7 @@
 -- What has been read of nested parentheses, as parts of sums.
-use Rattle.std.proofs.Common.{◌≡◌, ℕ, zero, suc, ◌+◌, ◌≤◌, Bool, true, false, cond, ltb, length, ◌==◌, ◌||◌, ◌&&◌, ◌⊎◌, inl, inr, List, [], ◌∷◌, ◌++◌, replicate, Option, Some, None, refl, ap, sym, ◌∙◌, append_assoc, append-nil, arith}
+use Rattle.std.proofs.Common.{◌≡◌, ℕ, zero, suc, ◌+◌, ◌≤◌, Bool, true, false, cond, ltb, length, ◌==◌, ◌||◌, ◌&&◌}
+use Rattle.std.proofs.Common.{◌⊎◌, inl, inr, List, [], ◌∷◌, ◌++◌, replicate, Option, Some, None, refl, ap, sym, ◌∙◌}
+use Rattle.std.proofs.Common.{append_assoc, append-nil, arith}
 use Rattle.std.specs.List.{list_all, slice_split, join_with_byte}
 use Rattle.std.specs.Char.{is_ascii_digit}
 use Rattle.std.proofs.lemmas.Bool.{ltb-true, eqb-true}
@@ -8,12 +10,19 @@ use Rattle.cam_macros.specs.declared.expression.Operator.{Operator}
 use Rattle.cam_macros.specs.declared.expression.Step.{Step}
 use Rattle.cam_macros.specs.declared.expression.Step.TheVariants.{Negate, Apply}
 use Rattle.cam_macros.specs.declared.scanner.Level.{Level}
-use Rattle.cam_macros.specs.declared.scanner.Mark.{Mark}
+use Rattle.cam_macros.specs.declared.mark.Mark.{Mark}
 use Rattle.cam_macros.specs.Numbers.{decimal, billionths}
 use Rattle.cam_macros.specs.Tree.{Number}
-use Rattle.cam_macros.specs.Postfix.{postfix}
-use Rattle.cam_macros.specs.Grammar.{Sign, Plus, Minus, Cross, Decimal, Whole, Pointed, Sum, OneTerm, Added, Term, OneFactor, Multiplied, Factor, Signed, sign_byte, cross_byte, decimal_text, sum_text, term_text, factor_text, sum_count, term_count, factor_count, IsNumber, IsDecimal, IsVariable, IsSum, IsTerm, IsFactor, sign_operator, cross_operator, decimal_tree, sum_tree, term_tree, factor_tree}
-use Rattle.cam_macros.specs.Scanning.{is_numeric, mark_of, number_at, number_between, number_of, variable_of, with_operand, Scan, level_of, scan_of, waiting, Wanted, Behind, scan}
+use Rattle.cam_macros.specs.Machinery.Postfix.{postfix}
+use Rattle.cam_macros.specs.Grammar.{Sign, Plus, Minus, Cross, Decimal, Whole, Pointed, Sum, OneTerm, Added, Term}
+use Rattle.cam_macros.specs.Grammar.{OneFactor, Multiplied, Factor, Signed, sign_byte, cross_byte, decimal_text}
+use Rattle.cam_macros.specs.Grammar.{sum_text, term_text, factor_text, sum_count, term_count, factor_count}
+use Rattle.cam_macros.specs.Grammar.{IsNumber, IsDecimal, IsVariable, IsSum, IsTerm, IsFactor, sign_operator}
+use Rattle.cam_macros.specs.Grammar.{cross_operator, decimal_tree, sum_tree, term_tree, factor_tree}
+use Rattle.cam_macros.specs.Machinery.Scanning.{is_numeric, mark_of, number_at, number_between, number_of}
+use Rattle.cam_macros.specs.Machinery.Scanning.{variable_of, with_operand, Scan, level_of, scan_of, waiting, Wanted}
+use Rattle.cam_macros.specs.Machinery.Scanning.{Behind, scan}
+use Rattle.cam_macros.specs.Bytes.{closing, dollar, large_x, minus, opening, plus, point, slash, small_x}
 
 -- leaves
 
@@ -24,7 +33,8 @@ pub record HasFour {A : Type 0} (a b c d : Bool) (x v : A) : Type 0 where
   pub fourth : d ≡ true
   pub value : x ≡ v
 
-pub four : {A : Type 0} (a b c d : Bool) (x v : A) → cond ((a && b) && (c && d)) (Some x) None ≡ Some v → HasFour a b c d x v
+pub four : {A : Type 0} (a b c d : Bool) (x v : A) → cond ((a && b) && (c && d)) (Some x) None ≡ Some v
+    → HasFour a b c d x v
 four true true true true x v e = record { first = refl; second = refl; third = refl; fourth = refl; value = cc }
 four false b c d x v e = cc
 four true false c d x v e = cc
@@ -37,9 +47,11 @@ pub record IsLeaf (run : List ℕ) (v : ℕ) : Type 0 where
   pub fits : IsDecimal leaf
   pub same : decimal_tree leaf ≡ Number v
 
-pub number_found : (whole decimals : List ℕ) (v : ℕ) → number_at whole decimals ≡ Some v → IsNumber whole decimals × (billionths whole decimals ≡ v)
+pub number_found : (whole decimals : List ℕ) (v : ℕ) → number_at whole decimals ≡ Some v
+    → IsNumber whole decimals × (billionths whole decimals ≡ v)
 number_found whole decimals v e =
-    let h = four (list_all is_ascii_digit whole) (list_all is_ascii_digit decimals) (ltb 0 (length whole + length decimals)) (ltb (decimal whole) 1000000) (billionths whole decimals) v e in (
+    let h = four (list_all is_ascii_digit whole) (list_all is_ascii_digit decimals)
+    (ltb 0 (length whole + length decimals)) (ltb (decimal whole) 1000000) (billionths whole decimals) v e in (
       record {
         before = h.first;
         behind = h.second;
@@ -49,7 +61,8 @@ number_found whole decimals v e =
       h.value,
     )
 
-pub leaf_between : (parts : List (List ℕ)) (run : List ℕ) (v : ℕ) → join_with_byte 46 parts ≡ run → number_between parts ≡ Some v → IsLeaf run v
+pub leaf_between : (parts : List (List ℕ)) (run : List ℕ) (v : ℕ) → join_with_byte point parts ≡ run
+    → number_between parts ≡ Some v → IsLeaf run v
 leaf_between [] run v e n = cc
 leaf_between (whole ∷ []) run v e n =
     let h = number_found whole [] v n in
@@ -60,7 +73,7 @@ leaf_between (whole ∷ decimals ∷ []) run v e n =
 leaf_between (_ ∷ _ ∷ _ ∷ _) run v e n = cc
 
 pub leaf_of : (run : List ℕ) (v : ℕ) → number_of run ≡ Some v → IsLeaf run v
-leaf_of run v n = leaf_between (slice_split (λ b. b == 46) run) run v (join_with_byte-slice_split 46 run) n
+leaf_of run v n = leaf_between (slice_split (λ b. b == point) run) run v (join_with_byte-slice_split point run) n
 
 pub three : {A : Type 0} (a c d : Bool) (x v : A) → cond (a && (c && d)) (Some x) None ≡ Some v → HasFour a true c d x v
 three true true true x v e = record { first = refl; second = refl; third = refl; fourth = refl; value = cc }
@@ -70,7 +83,8 @@ three true true false x v e = cc
 
 pub variable_found : (digits : List ℕ) (v : ℕ) → variable_of digits ≡ Some v → IsVariable digits × (decimal digits ≡ v)
 variable_found digits v e =
-    let h = three (list_all is_ascii_digit digits) (ltb 0 (decimal digits)) (ltb (decimal digits) 10000) (decimal digits) v e in (
+    let h = three (list_all is_ascii_digit digits) (ltb 0 (decimal digits)) (ltb (decimal digits) 10000)
+    (decimal digits) v e in (
       record {
         all = h.first;
         some = ltb-true 0 (decimal digits) h.third;
@@ -83,35 +97,37 @@ variable_found digits v e =
 
 abbrev pub IsMarked : Mark → ℕ → Type 0
 IsMarked Mark.Numeral b = Unit {0}
-IsMarked Mark.Dollar b = b ≡ 36
-IsMarked Mark.Open b = b ≡ 40
-IsMarked Mark.Close b = b ≡ 41
-IsMarked Mark.Plus b = b ≡ 43
-IsMarked Mark.Minus b = b ≡ 45
-IsMarked Mark.Times b = (b ≡ 120) ⊎ (b ≡ 88)
-IsMarked Mark.Over b = b ≡ 47
+IsMarked Mark.Dollar b = b ≡ dollar
+IsMarked Mark.Open b = b ≡ opening
+IsMarked Mark.Close b = b ≡ closing
+IsMarked Mark.Plus b = b ≡ plus
+IsMarked Mark.Minus b = b ≡ minus
+IsMarked Mark.Times b = (b ≡ small_x) ⊎ (b ≡ large_x)
+IsMarked Mark.Over b = b ≡ slash
 IsMarked Mark.Other b = Unit {0}
 
 pub choice : (b : ℕ) (t : Bool) (x y : Mark) → (t ≡ true → IsMarked x b) → IsMarked y b → IsMarked (cond t x y) b
 choice b true x y f g = f refl
 choice b false x y f g = g
 
-pub either : (b : ℕ) → (b == 120) || (b == 88) ≡ true → (b ≡ 120) ⊎ (b ≡ 88)
-either b = elim (b == 120) as (λ v. ((v ≡ true → b ≡ 120) → v || (b == 88) ≡ true → (b ≡ 120) ⊎ (b ≡ 88))) [
-  | true ↦ λ f e. inl (f refl)
-  | false ↦ λ f e. inr (eqb-true b 88 e)
-] (eqb-true b 120)
+pub either : (b : ℕ) → (b == small_x) || (b == large_x) ≡ true → (b ≡ small_x) ⊎ (b ≡ large_x)
+either b =
+    elim (b == small_x) as
+    (λ v. ((v ≡ true → b ≡ small_x) → v || (b == large_x) ≡ true → (b ≡ small_x) ⊎ (b ≡ large_x))) [
+      | true ↦ λ f e. inl (f refl)
+      | false ↦ λ f e. inr (eqb-true b large_x e)
+    ] (eqb-true b small_x)
 
 pub marked : (b : ℕ) → IsMarked (mark_of b) b
 marked b =
     choice b (is_numeric b) Mark.Numeral _ (λ e. tt)
-    (choice b (b == 36) Mark.Dollar _ (eqb-true b 36)
-    (choice b (b == 40) Mark.Open _ (eqb-true b 40)
-    (choice b (b == 41) Mark.Close _ (eqb-true b 41)
-    (choice b (b == 43) Mark.Plus _ (eqb-true b 43)
-    (choice b (b == 45) Mark.Minus _ (eqb-true b 45)
-    (choice b ((b == 120) || (b == 88)) Mark.Times _ (either b)
-    (choice b (b == 47) Mark.Over Mark.Other (eqb-true b 47) tt)))))))
+    (choice b (b == dollar) Mark.Dollar _ (eqb-true b dollar)
+    (choice b (b == opening) Mark.Open _ (eqb-true b opening)
+    (choice b (b == closing) Mark.Close _ (eqb-true b closing)
+    (choice b (b == plus) Mark.Plus _ (eqb-true b plus)
+    (choice b (b == minus) Mark.Minus _ (eqb-true b minus)
+    (choice b ((b == small_x) || (b == large_x)) Mark.Times _ (either b)
+    (choice b (b == slash) Mark.Over Mark.Other (eqb-true b slash) tt)))))))
 
 -- what has been read of a pair of parentheses: a sum with its sign, a term with its sign, signs
 
@@ -148,7 +164,7 @@ opened_text l = sum_part_text l.sum ++ (term_part_text l.term ++ signs_text l.si
 
 abbrev pub outer_text : List Opened → List ℕ
 outer_text [] = []
-outer_text (l ∷ ls) = outer_text ls ++ (opened_text l ++ 40 ∷ [])
+outer_text (l ∷ ls) = outer_text ls ++ (opened_text l ++ opening ∷ [])
 
 abbrev pub sum_part_steps : SumPart → List Step
 sum_part_steps NoSum = []
@@ -215,10 +231,13 @@ AreOpened room (l ∷ ls) = IsOpened (suc room) l × AreOpened (suc room) ls
 
 -- the scan before an operand, and behind a term
 abbrev pub before : Opened → List Opened → ℕ → ℕ → Scan
-before l ls room budget = scan_of (outer_steps ls ++ (sum_part_steps l.sum ++ term_part_steps l.term)) (level_at l) (levels_at ls) room budget
+before l ls room budget =
+    scan_of (outer_steps ls ++ (sum_part_steps l.sum ++ term_part_steps l.term)) (level_at l) (levels_at ls) room budget
 
 abbrev pub behind : SumPart → Term → List Opened → ℕ → ℕ → Scan
-behind sum t ls room budget = scan_of (outer_steps ls ++ (sum_part_steps sum ++ postfix (term_tree t))) (level_of (sum_part_operator sum) None 0) (levels_at ls) room budget
+behind sum t ls room budget =
+    scan_of (outer_steps ls ++ (sum_part_steps sum ++ postfix (term_tree t)))
+    (level_of (sum_part_operator sum) None 0) (levels_at ls) room budget
 
 pub record IsBefore (l : Opened) (ls : List Opened) (room budget : ℕ) : Type 0 where
   pub inner : IsOpened room l
@@ -241,10 +260,14 @@ pub record Found (text : List ℕ) (out : List Step) : Type 0 where
   pub same : out ≡ postfix (sum_tree sum)
 
 pub record Reads (n : ℕ) : Type 0 where
-  pub wanted : (rest : List ℕ) → length rest ≤ n → (l : Opened) (ls : List Opened) (room budget : ℕ) (out : List Step) → IsBefore l ls room budget
+  pub wanted : (rest : List ℕ) → length rest ≤ n → (l : Opened) (ls : List Opened) (room budget : ℕ) (out : List Step)
+      → IsBefore l ls room budget
       → scan Wanted (before l ls room budget) rest ≡ Some out → Found (outer_text ls ++ (opened_text l ++ rest)) out
-  pub whole : (rest : List ℕ) → length rest ≤ n → (sum : SumPart) (t : Term) (ls : List Opened) (room budget : ℕ) (out : List Step) → IsBehind sum t ls room budget
-      → scan Behind (behind sum t ls room budget) rest ≡ Some out → Found (outer_text ls ++ (sum_part_text sum ++ (term_text t ++ rest))) out
+  pub whole : (rest : List ℕ) → length rest ≤ n
+      → (sum : SumPart) (t : Term) (ls : List Opened) (room budget : ℕ) (out : List Step)
+      → IsBehind sum t ls room budget
+      → scan Behind (behind sum t ls room budget) rest ≡ Some out
+      → Found (outer_text ls ++ (sum_part_text sum ++ (term_text t ++ rest))) out
 
 -- the sum that ends with a term
 abbrev pub ended : SumPart → Term → Sum
@@ -255,9 +278,12 @@ pub ended_text : (sum : SumPart) (t : Term) → sum_text (ended sum t) ≡ sum_p
 ended_text NoSum t = refl
 ended_text (SumBefore s o) t = sym (append_assoc (sum_text s) (sign_byte o ∷ []) (term_text t))
 
-pub ended_steps : (sum : SumPart) (t : Term) → (sum_part_steps sum ++ postfix (term_tree t)) ++ waiting (sum_part_operator sum) ≡ postfix (sum_tree (ended sum t))
+pub ended_steps : (sum : SumPart) (t : Term)
+    → (sum_part_steps sum ++ postfix (term_tree t)) ++ waiting (sum_part_operator sum)
+    ≡ postfix (sum_tree (ended sum t))
 ended_steps NoSum t = append-nil (postfix (term_tree t))
-ended_steps (SumBefore s o) t = append_assoc (postfix (sum_tree s)) (postfix (term_tree t)) (Apply (sign_operator o) ∷ [])
+ended_steps (SumBefore s o) t =
+    append_assoc (postfix (sum_tree s)) (postfix (term_tree t)) (Apply (sign_operator o) ∷ [])
 
 pub ended_count : (sum : SumPart) (t : Term) → sum_count (ended sum t) ≡ sum_part_count sum + term_count t
 ended_count NoSum t = omega arith
@@ -294,7 +320,8 @@ pub one_more : (n : ℕ) (step : Step) → replicate n step ++ step ∷ [] ≡ s
 one_more zero step = refl
 one_more (suc n) step = ap (λ l. step ∷ l) (one_more n step)
 
-pub signed_steps : (signs : List Sign) (f : Factor) → postfix (factor_tree (signed signs f)) ≡ postfix (factor_tree f) ++ replicate (minuses signs) Negate
+pub signed_steps : (signs : List Sign) (f : Factor)
+    → postfix (factor_tree (signed signs f)) ≡ postfix (factor_tree f) ++ replicate (minuses signs) Negate
 signed_steps [] f = sym (append-nil (postfix (factor_tree f)))
 signed_steps (Plus ∷ signs) f = signed_steps signs f
 signed_steps (Minus ∷ signs) f =
@@ -310,29 +337,40 @@ pub joined_count : (term : TermPart) (f : Factor) → term_count (joined term f)
 joined_count NoTerm f = omega arith
 joined_count (TermBefore t o) f = omega arith
 
-pub joined_fits : (room : ℕ) (term : TermPart) (f : Factor) → IsTermPart room term → IsFactor room f → IsTerm room (joined term f)
+pub joined_fits : (room : ℕ) (term : TermPart) (f : Factor) → IsTermPart room term → IsFactor room f
+    → IsTerm room (joined term f)
 joined_fits room NoTerm f h k = k
 joined_fits room (TermBefore t o) f h k = (h, k)
 
-pub joined_steps : (term : TermPart) (f : Factor) → term_part_steps term ++ (postfix (factor_tree f) ++ waiting (term_part_operator term)) ≡ postfix (term_tree (joined term f))
+pub joined_steps : (term : TermPart) (f : Factor)
+    → term_part_steps term ++ (postfix (factor_tree f) ++ waiting (term_part_operator term))
+    ≡ postfix (term_tree (joined term f))
 joined_steps NoTerm f = append-nil (postfix (factor_tree f))
 joined_steps (TermBefore t o) f = refl
 
 -- a whole operand
-pub operand_steps : (o s t f : List Step) (n : ℕ) (w : List Step) → o ++ (s ++ t) ++ f ++ replicate n Negate ++ w ≡ o ++ (s ++ (t ++ ((f ++ replicate n Negate) ++ w)))
+pub operand_steps : (o s t f : List Step) (n : ℕ) (w : List Step)
+    → o ++ (s ++ t) ++ f ++ replicate n Negate ++ w ≡ o ++ (s ++ (t ++ ((f ++ replicate n Negate) ++ w)))
 operand_steps o s t f n w = simp append_assoc
 
 pub operand_whole : (l : Opened) (ls : List Opened) (room budget : ℕ) (f : Factor)
-    → with_operand (scan_of (outer_steps ls ++ (sum_part_steps l.sum ++ term_part_steps l.term) ++ postfix (factor_tree f)) (level_at l) (levels_at ls) room budget)
+    → with_operand
+    (scan_of (outer_steps ls ++ (sum_part_steps l.sum ++ term_part_steps l.term) ++ postfix (factor_tree f))
+    (level_at l) (levels_at ls) room budget)
     ≡ behind l.sum (joined l.term (signed l.signs f)) ls room budget
 operand_whole l ls room budget f =
     ap (λ steps. scan_of steps (level_of (sum_part_operator l.sum) None 0) (levels_at ls) room budget)
-    (operand_steps (outer_steps ls) (sum_part_steps l.sum) (term_part_steps l.term) (postfix (factor_tree f)) (minuses l.signs) (waiting (term_part_operator l.term))
-    ∙ ap (λ x. outer_steps ls ++ (sum_part_steps l.sum ++ (term_part_steps l.term ++ (x ++ waiting (term_part_operator l.term))))) (sym (signed_steps l.signs f))
+    (operand_steps (outer_steps ls) (sum_part_steps l.sum) (term_part_steps l.term) (postfix (factor_tree f))
+    (minuses l.signs) (waiting (term_part_operator l.term))
+    ∙ ap (λ x. outer_steps ls
+    ++ (sum_part_steps l.sum ++ (term_part_steps l.term ++ (x ++ waiting (term_part_operator l.term)))))
+    (sym (signed_steps l.signs f))
     ∙ ap (λ x. outer_steps ls ++ (sum_part_steps l.sum ++ x)) (joined_steps l.term (signed l.signs f)))
 
-pub operand_behind : (l : Opened) (ls : List Opened) (room budget : ℕ) (f : Factor) → IsOpened room l → AreOpened room ls → length ls + room ≡ 64 → IsFactor room f
-    → outer_count ls + opened_count l + factor_count f + budget ≡ 1000 → IsBehind l.sum (joined l.term (signed l.signs f)) ls room budget
+pub operand_behind : (l : Opened) (ls : List Opened) (room budget : ℕ) (f : Factor) → IsOpened room l
+    → AreOpened room ls → length ls + room ≡ 64 → IsFactor room f
+    → outer_count ls + opened_count l + factor_count f + budget ≡ 1000
+    → IsBehind l.sum (joined l.term (signed l.signs f)) ls room budget
 operand_behind l ls room budget f inner outer deep fits few = record {
   sums = inner.sum;
   terms = joined_fits room l.term (signed l.signs f) inner.term (signed_fits room l.signs f fits);
@@ -342,9 +380,11 @@ operand_behind l ls room budget f inner outer deep fits few = record {
 }
 
 pub operand_text : (l : Opened) (f : Factor) (rest : List ℕ)
-    → sum_part_text l.sum ++ (term_text (joined l.term (signed l.signs f)) ++ rest) ≡ opened_text l ++ (factor_text f ++ rest)
+    → sum_part_text l.sum ++ (term_text (joined l.term (signed l.signs f)) ++ rest)
+    ≡ opened_text l ++ (factor_text f ++ rest)
 operand_text l f rest =
-    ap (λ x. sum_part_text l.sum ++ (x ++ rest)) (joined_text l.term (signed l.signs f) ∙ ap (λ x. term_part_text l.term ++ x) (signed_text l.signs f))
+    ap (λ x. sum_part_text l.sum ++ (x ++ rest))
+    (joined_text l.term (signed l.signs f) ∙ ap (λ x. term_part_text l.term ++ x) (signed_text l.signs f))
     ∙ regroup (sum_part_text l.sum) (term_part_text l.term) (signs_text l.signs) (factor_text f) rest where
       regroup : (a b c d e : List ℕ) → a ++ ((b ++ (c ++ d)) ++ e) ≡ (a ++ (b ++ c)) ++ (d ++ e)
       regroup a b c d e = simp append_assoc

@@ -1,5 +1,7 @@
 -- Reading from left to right, against the grammar.
-use Rattle.std.proofs.Common.{◌≡◌, ℕ, zero, suc, ◌+◌, ◌-◌, Bool, true, false, cond, eqb, ltb, length, ◌==◌, ◌||◌, ◌&&◌, List, [], ◌∷◌, ◌++◌, replicate, Option, Some, None, refl, ap, sym, subst, ◌∙◌, append_assoc, append-nil, arith, take, one-add}
+use Rattle.std.proofs.Common.{◌≡◌, ℕ, zero, suc, ◌+◌, ◌-◌, Bool, true, false, cond, eqb, ltb, length, ◌==◌, ◌||◌}
+use Rattle.std.proofs.Common.{◌&&◌, List, [], ◌∷◌, ◌++◌, replicate, Option, Some, None, refl, ap, sym, subst, ◌∙◌}
+use Rattle.std.proofs.Common.{append_assoc, append-nil, arith, take, one-add}
 use Rattle.std.specs.Prelude.{take_while, option_map}
 use Rattle.std.specs.List.{list_all, slice_split, onto_first, prefix_len}
 use Rattle.std.proofs.lemmas.Bool.{lt-ltb, ne_eqb}
@@ -8,12 +10,20 @@ use Rattle.cam_macros.specs.declared.expression.Operator.{Operator}
 use Rattle.cam_macros.specs.declared.expression.Step.{Step}
 use Rattle.cam_macros.specs.declared.expression.Step.TheVariants.{Push, Read, Negate, Apply}
 use Rattle.cam_macros.specs.declared.scanner.Level.{Level}
-use Rattle.cam_macros.specs.declared.scanner.Mark.TheVariants as Mark
+use Rattle.cam_macros.specs.declared.mark.Mark.TheVariants as Mark
 use Rattle.cam_macros.specs.Numbers.{decimal, billionths}
 use Rattle.cam_macros.specs.Tree.{Tree}
-use Rattle.cam_macros.specs.Postfix.{postfix}
-use Rattle.cam_macros.specs.Grammar.{Sign, Plus, Minus, Cross, Small, Large, Slash, Whole, Pointed, Sum, OneTerm, Added, Term, OneFactor, Multiplied, Factor, Numeral, Dollar, Signed, Enclosed, sign_byte, cross_byte, sum_text, term_text, factor_text, sum_count, term_count, factor_count, AreDigits, IsNumber, IsVariable, IsSum, IsTerm, IsFactor, sign_operator, cross_operator, sum_tree, term_tree, factor_tree, IsExpression}
-use Rattle.cam_macros.specs.Scanning.{is_numeric, mark_of, number_at, number_between, number_of, variable_of, operand_at, operator_at, goes_on, with_operand, with_step, Scan, level_of, fresh, scan_of, waiting, Wanted, Behind, InNumber, InVariable, scan, scanned}
+use Rattle.cam_macros.specs.Machinery.Postfix.{postfix}
+use Rattle.cam_macros.specs.Grammar.{Sign, Plus, Minus, Cross, Small, Large, Slash, Whole, Pointed, Sum, OneTerm}
+use Rattle.cam_macros.specs.Grammar.{Added, Term, OneFactor, Multiplied, Factor, Numeral, Dollar, Signed, Enclosed}
+use Rattle.cam_macros.specs.Grammar.{sign_byte, cross_byte, sum_text, term_text, factor_text, sum_count, term_count}
+use Rattle.cam_macros.specs.Grammar.{factor_count, AreDigits, IsNumber, IsVariable, IsSum, IsTerm, IsFactor}
+use Rattle.cam_macros.specs.Grammar.{sign_operator, cross_operator, sum_tree, term_tree, factor_tree, IsExpression}
+use Rattle.cam_macros.specs.Machinery.Scanning.{is_numeric, mark_of, number_at, number_between, number_of}
+use Rattle.cam_macros.specs.Machinery.Scanning.{variable_of, operand_at, operator_at, goes_on, with_operand}
+use Rattle.cam_macros.specs.Machinery.Scanning.{with_step, Scan, level_of, fresh, scan_of, waiting, Wanted, Behind}
+use Rattle.cam_macros.specs.Machinery.Scanning.{InNumber, InVariable, scan, scanned}
+use Rattle.cam_macros.specs.Bytes.{closing, dollar, opening, point}
 
 -- what follows is no part of a number or a variable
 abbrev pub IsApart : List ℕ → Type 0
@@ -25,7 +35,8 @@ after_number : (s : Scan) (rest : List ℕ) → IsApart rest → scan InNumber s
 unfolding scan
 after_number s [] apart = refl
 after_number s (b ∷ rest) apart =
-    ap (λ v. goes_on (cond v (Some (InNumber, s)) (operator_at (mark_of b) s)) (λ status' s'. scan status' s' rest)) apart
+    ap (λ v. goes_on (cond v (Some (InNumber, s)) (operator_at (mark_of b) s)) (λ status' s'. scan status' s' rest))
+    apart
 
 or_left : (a b : Bool) → a || b ≡ false → a ≡ false
 or_left true b h = cc
@@ -35,7 +46,8 @@ after_variable : (s : Scan) (rest : List ℕ) → IsApart rest → scan InVariab
 unfolding scan
 after_variable s [] apart = refl
 after_variable s (b ∷ rest) apart =
-    ap (λ v. goes_on (cond v (Some (InVariable, s)) (operator_at (mark_of b) s)) (λ status' s'. scan status' s' rest)) (or_left (is_ascii_digit b) (b == 46) apart)
+    ap (λ v. goes_on (cond v (Some (InVariable, s)) (operator_at (mark_of b) s)) (λ status' s'. scan status' s' rest))
+    (or_left (is_ascii_digit b) (b == point) apart)
 
 and_left : (a b : Bool) → a && b ≡ true → a ≡ true
 and_left true b h = refl
@@ -46,25 +58,30 @@ and_right true b h = h
 and_right false b h = cc
 
 -- within a number, and within a variable
-in_number : (s : Scan) (run rest : List ℕ) → list_all is_numeric run ≡ true → scan InNumber s (run ++ rest) ≡ scan InNumber s rest
+in_number : (s : Scan) (run rest : List ℕ) → list_all is_numeric run ≡ true
+    → scan InNumber s (run ++ rest) ≡ scan InNumber s rest
 unfolding scan
 in_number s [] rest h = refl
 in_number s (b ∷ run) rest h =
-    ap (λ v. goes_on (cond v (Some (InNumber, s)) (operator_at (mark_of b) s)) (λ status' s'. scan status' s' (run ++ rest))) (and_left (is_numeric b) (list_all is_numeric run) h)
+    ap (λ v. goes_on (cond v (Some (InNumber, s)) (operator_at (mark_of b) s))
+    (λ status' s'. scan status' s' (run ++ rest))) (and_left (is_numeric b) (list_all is_numeric run) h)
     ∙ in_number s run rest (and_right (is_numeric b) (list_all is_numeric run) h)
 
-in_variable : (s : Scan) (run rest : List ℕ) → list_all is_ascii_digit run ≡ true → scan InVariable s (run ++ rest) ≡ scan InVariable s rest
+in_variable : (s : Scan) (run rest : List ℕ) → list_all is_ascii_digit run ≡ true
+    → scan InVariable s (run ++ rest) ≡ scan InVariable s rest
 unfolding scan
 in_variable s [] rest h = refl
 in_variable s (b ∷ run) rest h =
-    ap (λ v. goes_on (cond v (Some (InVariable, s)) (operator_at (mark_of b) s)) (λ status' s'. scan status' s' (run ++ rest))) (and_left (is_ascii_digit b) (list_all is_ascii_digit run) h)
+    ap (λ v. goes_on (cond v (Some (InVariable, s)) (operator_at (mark_of b) s))
+    (λ status' s'. scan status' s' (run ++ rest))) (and_left (is_ascii_digit b) (list_all is_ascii_digit run) h)
     ∙ in_variable s run rest (and_right (is_ascii_digit b) (list_all is_ascii_digit run) h)
 
 take_one : (n b : ℕ) (xs : List ℕ) → take (1 + n) (b ∷ xs) ≡ b ∷ take n xs
 take_one n b xs = rw one-add refl
 
 -- the run ends where the rest begins
-run_ends : (p : ℕ → Bool) (run rest : List ℕ) → list_all p run ≡ true → ((b : ℕ) (bs : List ℕ) → rest ≡ b ∷ bs → p b ≡ false) → take_while p (run ++ rest) ≡ run
+run_ends : (p : ℕ → Bool) (run rest : List ℕ) → list_all p run ≡ true
+    → ((b : ℕ) (bs : List ℕ) → rest ≡ b ∷ bs → p b ≡ false) → take_while p (run ++ rest) ≡ run
 run_ends p [] [] h apart = refl
 run_ends p [] (b ∷ rest) h apart = ap (λ v. take (cond v (1 + prefix_len p rest) 0) (b ∷ rest)) (apart b rest refl)
 run_ends p (b ∷ run) rest h apart =
@@ -76,38 +93,50 @@ apart_head : (rest : List ℕ) → IsApart rest → (b : ℕ) (bs : List ℕ) �
 apart_head [] apart b bs e = cc
 apart_head (c ∷ rest) apart b bs e = let same : c ≡ b = cc in ap is_numeric (sym same) ∙ apart
 
-run_numeric : (run rest : List ℕ) → list_all is_numeric run ≡ true → IsApart rest → take_while is_numeric (run ++ rest) ≡ run
+run_numeric : (run rest : List ℕ) → list_all is_numeric run ≡ true → IsApart rest
+    → take_while is_numeric (run ++ rest) ≡ run
 run_numeric run rest h apart = run_ends is_numeric run rest h (apart_head rest apart)
 
-run_digits : (run rest : List ℕ) → list_all is_ascii_digit run ≡ true → IsApart rest → take_while is_ascii_digit (run ++ rest) ≡ run
+run_digits : (run rest : List ℕ) → list_all is_ascii_digit run ≡ true → IsApart rest
+    → take_while is_ascii_digit (run ++ rest) ≡ run
 run_digits run rest h apart =
-    run_ends is_ascii_digit run rest h (λ b bs e. or_left (is_ascii_digit b) (b == 46) (apart_head rest apart b bs e))
+    run_ends is_ascii_digit run rest h
+    (λ b bs e. or_left (is_ascii_digit b) (b == point) (apart_head rest apart b bs e))
 
 mark_numeric : (b : ℕ) → is_numeric b ≡ true → mark_of b ≡ Mark.Numeral
 mark_numeric b h = rw h refl
 
-number_read : (s : Scan) (b : ℕ) (run rest : List ℕ) (n : ℕ) → list_all is_numeric (b ∷ run) ≡ true → number_of (b ∷ run) ≡ Some n → IsApart rest
+number_read : (s : Scan) (b : ℕ) (run rest : List ℕ) (n : ℕ) → list_all is_numeric (b ∷ run) ≡ true
+    → number_of (b ∷ run) ≡ Some n → IsApart rest
     → scan Wanted s (b ∷ (run ++ rest)) ≡ scan Behind (with_step (Push n) s) rest
 unfolding scan
 number_read s b run rest n h e apart =
-    ap (λ m. goes_on (operand_at m s b (run ++ rest)) (λ status' s'. scan status' s' (run ++ rest))) (mark_numeric b (and_left (is_numeric b) (list_all is_numeric run) h))
-    ∙ ap (λ l. goes_on (option_map (λ n. (InNumber, with_step (Push n) s)) (number_of (b ∷ l))) (λ status' s'. scan status' s' (run ++ rest))) (run_numeric run rest (and_right (is_numeric b) (list_all is_numeric run) h) apart)
-    ∙ ap (λ o. goes_on (option_map (λ n. (InNumber, with_step (Push n) s)) o) (λ status' s'. scan status' s' (run ++ rest))) e
+    ap (λ m. goes_on (operand_at m s b (run ++ rest)) (λ status' s'. scan status' s' (run ++ rest)))
+    (mark_numeric b (and_left (is_numeric b) (list_all is_numeric run) h))
+    ∙ ap (λ l. goes_on (option_map (λ n. (InNumber, with_step (Push n) s)) (number_of (b ∷ l)))
+    (λ status' s'. scan status' s' (run ++ rest)))
+    (run_numeric run rest (and_right (is_numeric b) (list_all is_numeric run) h) apart)
+    ∙ ap (λ o. goes_on (option_map (λ n. (InNumber, with_step (Push n) s)) o)
+    (λ status' s'. scan status' s' (run ++ rest))) e
     ∙ in_number (with_step (Push n) s) run rest (and_right (is_numeric b) (list_all is_numeric run) h)
     ∙ after_number (with_step (Push n) s) rest apart
 
-variable_read : (s : Scan) (run rest : List ℕ) (n : ℕ) → list_all is_ascii_digit run ≡ true → variable_of run ≡ Some n → IsApart rest
-    → scan Wanted s (36 ∷ (run ++ rest)) ≡ scan Behind (with_step (Read n) s) rest
+variable_read : (s : Scan) (run rest : List ℕ) (n : ℕ) → list_all is_ascii_digit run ≡ true → variable_of run ≡ Some n
+    → IsApart rest
+    → scan Wanted s (dollar ∷ (run ++ rest)) ≡ scan Behind (with_step (Read n) s) rest
 unfolding scan
 variable_read s run rest n h e apart =
-    ap (λ l. goes_on (option_map (λ n. (InVariable, with_step (Read n) s)) (variable_of l)) (λ status' s'. scan status' s' (run ++ rest))) (run_digits run rest h apart)
-    ∙ ap (λ o. goes_on (option_map (λ n. (InVariable, with_step (Read n) s)) o) (λ status' s'. scan status' s' (run ++ rest))) e
+    ap (λ l. goes_on (option_map (λ n. (InVariable, with_step (Read n) s)) (variable_of l))
+    (λ status' s'. scan status' s' (run ++ rest))) (run_digits run rest h apart)
+    ∙ ap (λ o. goes_on (option_map (λ n. (InVariable, with_step (Read n) s)) o)
+    (λ status' s'. scan status' s' (run ++ rest))) e
     ∙ in_variable (with_step (Read n) s) run rest h
     ∙ after_variable (with_step (Read n) s) rest apart
 
 -- single bytes
 
-cross_step : (o : Cross) (steps : List Step) (sum : Option Operator) (outer : List Level) (room left : ℕ) (rest : List ℕ)
+cross_step : (o : Cross) (steps : List Step) (sum : Option Operator) (outer : List Level) (room left : ℕ)
+    (rest : List ℕ)
     → scan Behind (scan_of steps (level_of sum None 0) outer room (suc left)) (cross_byte o ∷ rest)
     ≡ scan Wanted (scan_of steps (level_of sum (Some (cross_operator o)) 0) outer room left) rest
 unfolding scan
@@ -126,7 +155,8 @@ abbrev more_minuses : Sign → ℕ → ℕ
 more_minuses Plus n = n
 more_minuses Minus n = suc n
 
-sign_step : (o : Sign) (steps : List Step) (sum term : Option Operator) (minuses : ℕ) (outer : List Level) (room left : ℕ) (rest : List ℕ)
+sign_step : (o : Sign) (steps : List Step) (sum term : Option Operator) (minuses : ℕ) (outer : List Level)
+    (room left : ℕ) (rest : List ℕ)
     → scan Wanted (scan_of steps (level_of sum term minuses) outer room (suc left)) (sign_byte o ∷ rest)
     ≡ scan Wanted (scan_of steps (level_of sum term (more_minuses o minuses)) outer room left) rest
 unfolding scan
@@ -134,12 +164,13 @@ sign_step Plus steps sum term minuses outer room left rest = refl
 sign_step Minus steps sum term minuses outer room left rest = refl
 
 open_step : (steps : List Step) (level : Level) (outer : List Level) (room left : ℕ) (rest : List ℕ)
-    → scan Wanted (scan_of steps level outer (suc room) left) (40 ∷ rest) ≡ scan Wanted (scan_of steps fresh (level ∷ outer) room left) rest
+    → scan Wanted (scan_of steps level outer (suc room) left) (opening ∷ rest)
+    ≡ scan Wanted (scan_of steps fresh (level ∷ outer) room left) rest
 unfolding scan
 open_step steps level outer room left rest = refl
 
 close_step : (steps : List Step) (within level : Level) (outer : List Level) (room left : ℕ) (rest : List ℕ)
-    → scan Behind (scan_of steps within (level ∷ outer) room left) (41 ∷ rest)
+    → scan Behind (scan_of steps within (level ∷ outer) room left) (closing ∷ rest)
     ≡ scan Behind (with_operand (scan_of (steps ++ waiting within.sum) level outer (suc room) left)) rest
 unfolding scan
 close_step steps within level outer room left rest = refl
@@ -155,49 +186,60 @@ sign_apart Minus rest = refl
 
 -- decimals
 
-no_point : (b : ℕ) → is_ascii_digit b ≡ true → eqb b 46 ≡ false
-no_point b h = ne_eqb b 46 (λ e. let wrong : false ≡ true = subst (λ c. is_ascii_digit c ≡ true) e h in cc)
+no_point : (b : ℕ) → is_ascii_digit b ≡ true → eqb b point ≡ false
+no_point b h = ne_eqb b point (λ e. let wrong : false ≡ true = subst (λ c. is_ascii_digit c ≡ true) e h in cc)
 
-digits_apart : (digits : List ℕ) → AreDigits digits → slice_split (λ b. b == 46) digits ≡ digits ∷ []
+digits_apart : (digits : List ℕ) → AreDigits digits → slice_split (λ b. b == point) digits ≡ digits ∷ []
 digits_apart [] h = refl
 digits_apart (b ∷ digits) h =
-    ap (λ v. cond v ([] ∷ slice_split (λ b. b == 46) digits) (onto_first b (slice_split (λ b. b == 46) digits))) (no_point b (and_left (is_ascii_digit b) (list_all is_ascii_digit digits) h))
+    ap (λ v. cond v ([] ∷ slice_split (λ b. b == point) digits) (onto_first b (slice_split (λ b. b == point) digits)))
+    (no_point b (and_left (is_ascii_digit b) (list_all is_ascii_digit digits) h))
     ∙ ap (onto_first b) (digits_apart digits (and_right (is_ascii_digit b) (list_all is_ascii_digit digits) h))
 
-point_apart : (whole rest : List ℕ) → AreDigits whole → slice_split (λ b. b == 46) (whole ++ 46 ∷ rest) ≡ whole ∷ slice_split (λ b. b == 46) rest
+point_apart : (whole rest : List ℕ) → AreDigits whole
+    → slice_split (λ b. b == point) (whole ++ point ∷ rest) ≡ whole ∷ slice_split (λ b. b == point) rest
 point_apart [] rest h = refl
 point_apart (b ∷ whole) rest h =
-    ap (λ v. cond v ([] ∷ slice_split (λ b. b == 46) (whole ++ 46 ∷ rest)) (onto_first b (slice_split (λ b. b == 46) (whole ++ 46 ∷ rest)))) (no_point b (and_left (is_ascii_digit b) (list_all is_ascii_digit whole) h))
+    ap (λ v. cond v ([] ∷ slice_split (λ b. b == point) (whole ++ point ∷ rest))
+    (onto_first b (slice_split (λ b. b == point) (whole ++ point ∷ rest))))
+    (no_point b (and_left (is_ascii_digit b) (list_all is_ascii_digit whole) h))
     ∙ ap (onto_first b) (point_apart whole rest (and_right (is_ascii_digit b) (list_all is_ascii_digit whole) h))
 
-chosen : {A : Type 0} (a b c d : Bool) (x : A) → a ≡ true → b ≡ true → c ≡ true → d ≡ true → cond ((a && b) && (c && d)) (Some x) None ≡ Some x
+chosen : {A : Type 0} (a b c d : Bool) (x : A) → a ≡ true → b ≡ true → c ≡ true → d ≡ true
+    → cond ((a && b) && (c && d)) (Some x) None ≡ Some x
 chosen true true true true x p q r s = refl
 chosen false b c d x p q r s = cc
 chosen true false c d x p q r s = cc
 chosen true true false d x p q r s = cc
 chosen true true true false x p q r s = cc
 
-chosen_of_three : {A : Type 0} (a c d : Bool) (x : A) → a ≡ true → c ≡ true → d ≡ true → cond (a && (c && d)) (Some x) None ≡ Some x
+chosen_of_three : {A : Type 0} (a c d : Bool) (x : A) → a ≡ true → c ≡ true → d ≡ true
+    → cond (a && (c && d)) (Some x) None ≡ Some x
 chosen_of_three true true true x p r s = refl
 chosen_of_three false c d x p r s = cc
 chosen_of_three true false d x p r s = cc
 chosen_of_three true true false x p r s = cc
 
-number_is : (whole decimals : List ℕ) → IsNumber whole decimals → number_at whole decimals ≡ Some (billionths whole decimals)
+number_is : (whole decimals : List ℕ) → IsNumber whole decimals
+    → number_at whole decimals ≡ Some (billionths whole decimals)
 number_is whole decimals h =
-    chosen (list_all is_ascii_digit whole) (list_all is_ascii_digit decimals) (ltb 0 (length whole + length decimals)) (ltb (decimal whole) 1000000) (billionths whole decimals)
+    chosen (list_all is_ascii_digit whole) (list_all is_ascii_digit decimals) (ltb 0 (length whole + length decimals))
+    (ltb (decimal whole) 1000000) (billionths whole decimals)
     h.before h.behind (lt-ltb 0 (length whole + length decimals) h.some) (lt-ltb (decimal whole) 1000000 h.small)
 
 number_of_whole : (whole : List ℕ) → IsNumber whole [] → number_of whole ≡ Some (billionths whole [])
 number_of_whole whole h = ap number_between (digits_apart whole h.before) ∙ number_is whole [] h
 
-number_of_pointed : (whole decimals : List ℕ) → IsNumber whole decimals → number_of (whole ++ 46 ∷ decimals) ≡ Some (billionths whole decimals)
+number_of_pointed : (whole decimals : List ℕ) → IsNumber whole decimals
+    → number_of (whole ++ point ∷ decimals) ≡ Some (billionths whole decimals)
 number_of_pointed whole decimals h =
-    ap number_between (point_apart whole decimals h.before ∙ ap (λ l. whole ∷ l) (digits_apart decimals h.behind)) ∙ number_is whole decimals h
+    ap number_between (point_apart whole decimals h.before ∙ ap (λ l. whole ∷ l) (digits_apart decimals h.behind))
+    ∙ number_is whole decimals h
 
 pub variable_is : (digits : List ℕ) → IsVariable digits → variable_of digits ≡ Some (decimal digits)
 variable_is digits h =
-    chosen_of_three (list_all is_ascii_digit digits) (ltb 0 (decimal digits)) (ltb (decimal digits) 10000) (decimal digits)
+    chosen_of_three (list_all is_ascii_digit digits) (ltb 0 (decimal digits)) (ltb (decimal digits) 10000)
+    (decimal digits)
     h.all (lt-ltb 0 (decimal digits) h.some) (lt-ltb (decimal digits) 10000 h.small)
 
 or_true : (a b : Bool) → a ≡ true → a || b ≡ true
@@ -207,27 +249,34 @@ or_true false b h = cc
 digits_numeric : (digits : List ℕ) → AreDigits digits → list_all is_numeric digits ≡ true
 digits_numeric [] h = refl
 digits_numeric (b ∷ digits) h =
-    ap (λ v. v && list_all is_numeric digits) (or_true (is_ascii_digit b) (b == 46) (and_left (is_ascii_digit b) (list_all is_ascii_digit digits) h))
+    ap (λ v. v && list_all is_numeric digits)
+    (or_true (is_ascii_digit b) (b == point) (and_left (is_ascii_digit b) (list_all is_ascii_digit digits) h))
     ∙ digits_numeric digits (and_right (is_ascii_digit b) (list_all is_ascii_digit digits) h)
 
-pointed_numeric : (whole decimals : List ℕ) → AreDigits whole → AreDigits decimals → list_all is_numeric (whole ++ 46 ∷ decimals) ≡ true
+pointed_numeric : (whole decimals : List ℕ) → AreDigits whole → AreDigits decimals
+    → list_all is_numeric (whole ++ point ∷ decimals) ≡ true
 pointed_numeric [] decimals h k = digits_numeric decimals k
 pointed_numeric (b ∷ whole) decimals h k =
-    ap (λ v. v && list_all is_numeric (whole ++ 46 ∷ decimals)) (or_true (is_ascii_digit b) (b == 46) (and_left (is_ascii_digit b) (list_all is_ascii_digit whole) h))
+    ap (λ v. v && list_all is_numeric (whole ++ point ∷ decimals))
+    (or_true (is_ascii_digit b) (b == point) (and_left (is_ascii_digit b) (list_all is_ascii_digit whole) h))
     ∙ pointed_numeric whole decimals (and_right (is_ascii_digit b) (list_all is_ascii_digit whole) h) k
 
 whole_read : (s : Scan) (whole rest : List ℕ) → IsNumber whole [] → IsApart rest
     → scan Wanted s (whole ++ rest) ≡ scan Behind (with_step (Push (billionths whole [])) s) rest
 whole_read s [] rest h apart = absurd (omega (arith, h.some))
 whole_read s (b ∷ whole) rest h apart =
-    number_read s b whole rest (billionths (b ∷ whole) []) (digits_numeric (b ∷ whole) h.before) (number_of_whole (b ∷ whole) h) apart
+    number_read s b whole rest (billionths (b ∷ whole) []) (digits_numeric (b ∷ whole) h.before)
+    (number_of_whole (b ∷ whole) h) apart
 
 pointed_read : (s : Scan) (whole decimals rest : List ℕ) → IsNumber whole decimals → IsApart rest
-    → scan Wanted s ((whole ++ 46 ∷ decimals) ++ rest) ≡ scan Behind (with_step (Push (billionths whole decimals)) s) rest
+    → scan Wanted s ((whole ++ point ∷ decimals) ++ rest)
+    ≡ scan Behind (with_step (Push (billionths whole decimals)) s) rest
 pointed_read s [] decimals rest h apart =
-    number_read s 46 decimals rest (billionths [] decimals) (pointed_numeric [] decimals refl h.behind) (number_of_pointed [] decimals h) apart
+    number_read s point decimals rest (billionths [] decimals) (pointed_numeric [] decimals refl h.behind)
+    (number_of_pointed [] decimals h) apart
 pointed_read s (b ∷ whole) decimals rest h apart =
-    number_read s b (whole ++ 46 ∷ decimals) rest (billionths (b ∷ whole) decimals) (pointed_numeric (b ∷ whole) decimals h.before h.behind) (number_of_pointed (b ∷ whole) decimals h) apart
+    number_read s b (whole ++ point ∷ decimals) rest (billionths (b ∷ whole) decimals)
+    (pointed_numeric (b ∷ whole) decimals h.before h.behind) (number_of_pointed (b ∷ whole) decimals h) apart
 
 -- the steps of a sum before its last operator, and that operator
 abbrev pub front : Sum → List Step
@@ -250,9 +299,11 @@ other_steps a b level outer room left rest e = ap (λ l. scan Behind (scan_of l 
 other_text : (steps : List Step) (level : Level) (outer : List Level) (room m n : ℕ) (a b : List ℕ) → m ≡ n → a ≡ b
     → scan Wanted (scan_of steps level outer room m) a ≡ scan Wanted (scan_of steps level outer room n) b
 other_text steps level outer room m n a b e f =
-    ap (λ k. scan Wanted (scan_of steps level outer room k) a) e ∙ ap (λ l. scan Wanted (scan_of steps level outer room n) l) f
+    ap (λ k. scan Wanted (scan_of steps level outer room k) a) e
+    ∙ ap (λ l. scan Wanted (scan_of steps level outer room n) l) f
 
-product_steps : (steps t f : List Step) (o : Operator) → steps ++ t ++ f ++ [] ++ Apply o ∷ [] ≡ steps ++ (t ++ (f ++ Apply o ∷ []))
+product_steps : (steps t f : List Step) (o : Operator)
+    → steps ++ t ++ f ++ [] ++ Apply o ∷ [] ≡ steps ++ (t ++ (f ++ Apply o ∷ []))
 product_steps steps t f o = simp (append_assoc, append-nil)
 
 sum_steps : (steps e t : List Step) (last : Option Operator) (whole : List Step) → e ++ waiting last ≡ whole
@@ -261,42 +312,57 @@ sum_steps steps e t last whole h =
     ap (λ l. l ++ t) (append_assoc steps e (waiting last) ∙ ap (λ l. steps ++ l) h) ∙ append_assoc steps whole t
 
 minus_steps : (steps f : List Step) (minuses : ℕ) (term : List Step)
-    → steps ++ f ++ replicate (suc minuses) Negate ++ term ≡ steps ++ (f ++ Negate ∷ []) ++ replicate minuses Negate ++ term
+    → steps ++ f ++ replicate (suc minuses) Negate ++ term
+    ≡ steps ++ (f ++ Negate ∷ []) ++ replicate minuses Negate ++ term
 minus_steps steps f minuses term = simp append_assoc
 
-closed_steps : (steps e : List Step) (last : Option Operator) (whole : List Step) (minuses : ℕ) (term : List Step) → e ++ waiting last ≡ whole
-    → steps ++ e ++ waiting last ++ replicate minuses Negate ++ term ≡ steps ++ whole ++ replicate minuses Negate ++ term
+closed_steps : (steps e : List Step) (last : Option Operator) (whole : List Step) (minuses : ℕ) (term : List Step)
+    → e ++ waiting last ≡ whole
+    → steps ++ e ++ waiting last ++ replicate minuses Negate ++ term
+    ≡ steps ++ whole ++ replicate minuses Negate ++ term
 closed_steps steps e last whole minuses term h =
     ap (λ l. l ++ replicate minuses Negate ++ term) (append_assoc steps e (waiting last) ∙ ap (λ l. steps ++ l) h)
 
 mutual
-  sum_read : (e : Sum) (room : ℕ) (steps : List Step) (outer : List Level) (left : ℕ) (rest : List ℕ) → IsSum room e → IsApart rest
+  sum_read : (e : Sum) (room : ℕ) (steps : List Step) (outer : List Level) (left : ℕ) (rest : List ℕ) → IsSum room e
+      → IsApart rest
       → scan Wanted (scan_of steps fresh outer room (sum_count e + left)) (sum_text e ++ rest)
       ≡ scan Behind (scan_of (steps ++ front e) (level_of (last e) None 0) outer room left) rest
   sum_read (OneTerm t) room steps outer left rest h apart = term_read t room steps None outer left rest h apart
   sum_read (Added e o t) room steps outer left rest h apart =
-      other_text steps fresh outer room _ _ _ _ (omega arith) (append_assoc (sum_text e) (sign_byte o ∷ term_text t) rest)
-      ∙ sum_read e room steps outer (suc (term_count t + left)) (sign_byte o ∷ (term_text t ++ rest)) h.0 (sign_apart o (term_text t ++ rest))
+      other_text steps fresh outer room _ _ _ _ (omega arith)
+      (append_assoc (sum_text e) (sign_byte o ∷ term_text t) rest)
+      ∙ sum_read e room steps outer (suc (term_count t + left)) (sign_byte o ∷ (term_text t ++ rest)) h.0
+      (sign_apart o (term_text t ++ rest))
       ∙ sum_step o (steps ++ front e) (last e) outer room (term_count t + left) (term_text t ++ rest)
       ∙ term_read t room (steps ++ front e ++ waiting (last e)) (Some (sign_operator o)) outer left rest h.1 apart
-      ∙ other_steps _ _ (level_of (Some (sign_operator o)) None 0) outer room left rest (sum_steps steps (front e) (postfix (term_tree t)) (last e) (postfix (sum_tree e)) (front_last e))
+      ∙ other_steps _ _ (level_of (Some (sign_operator o)) None 0) outer room left rest
+      (sum_steps steps (front e) (postfix (term_tree t)) (last e) (postfix (sum_tree e)) (front_last e))
 
-  term_read : (t : Term) (room : ℕ) (steps : List Step) (sum : Option Operator) (outer : List Level) (left : ℕ) (rest : List ℕ) → IsTerm room t → IsApart rest
+  term_read : (t : Term) (room : ℕ) (steps : List Step) (sum : Option Operator) (outer : List Level) (left : ℕ)
+      (rest : List ℕ) → IsTerm room t → IsApart rest
       → scan Wanted (scan_of steps (level_of sum None 0) outer room (term_count t + left)) (term_text t ++ rest)
       ≡ scan Behind (scan_of (steps ++ postfix (term_tree t)) (level_of sum None 0) outer room left) rest
   term_read (OneFactor f) room steps sum outer left rest h apart =
       factor_read f room steps sum None 0 outer left rest h apart
       ∙ other_steps _ _ (level_of sum None 0) outer room left rest (append-nil _ ∙ append-nil _)
   term_read (Multiplied t o f) room steps sum outer left rest h apart =
-      other_text steps (level_of sum None 0) outer room _ _ _ _ (omega arith) (append_assoc (term_text t) (cross_byte o ∷ factor_text f) rest)
-      ∙ term_read t room steps sum outer (suc (factor_count f + left)) (cross_byte o ∷ (factor_text f ++ rest)) h.0 (cross_apart o (factor_text f ++ rest))
+      other_text steps (level_of sum None 0) outer room _ _ _ _ (omega arith)
+      (append_assoc (term_text t) (cross_byte o ∷ factor_text f) rest)
+      ∙ term_read t room steps sum outer (suc (factor_count f + left)) (cross_byte o ∷ (factor_text f ++ rest)) h.0
+      (cross_apart o (factor_text f ++ rest))
       ∙ cross_step o (steps ++ postfix (term_tree t)) sum outer room (factor_count f + left) (factor_text f ++ rest)
       ∙ factor_read f room (steps ++ postfix (term_tree t)) sum (Some (cross_operator o)) 0 outer left rest h.1 apart
-      ∙ other_steps _ _ (level_of sum None 0) outer room left rest (product_steps steps (postfix (term_tree t)) (postfix (factor_tree f)) (cross_operator o))
+      ∙ other_steps _ _ (level_of sum None 0) outer room left rest
+      (product_steps steps (postfix (term_tree t)) (postfix (factor_tree f)) (cross_operator o))
 
-  factor_read : (f : Factor) (room : ℕ) (steps : List Step) (sum term : Option Operator) (minuses : ℕ) (outer : List Level) (left : ℕ) (rest : List ℕ) → IsFactor room f → IsApart rest
-      → scan Wanted (scan_of steps (level_of sum term minuses) outer room (factor_count f + left)) (factor_text f ++ rest)
-      ≡ scan Behind (scan_of (steps ++ postfix (factor_tree f) ++ replicate minuses Negate ++ waiting term) (level_of sum None 0) outer room left) rest
+  factor_read : (f : Factor) (room : ℕ) (steps : List Step) (sum term : Option Operator) (minuses : ℕ)
+      (outer : List Level) (left : ℕ) (rest : List ℕ) → IsFactor room f → IsApart rest
+      → scan Wanted (scan_of steps (level_of sum term minuses) outer room (factor_count f + left))
+      (factor_text f ++ rest)
+      ≡ scan Behind
+      (scan_of (steps ++ postfix (factor_tree f) ++ replicate minuses Negate ++ waiting term) (level_of sum None 0)
+      outer room left) rest
   factor_read (Numeral (Whole whole)) room steps sum term minuses outer left rest h apart =
       other_text steps (level_of sum term minuses) outer room (0 + left) left _ _ (omega arith) refl
       ∙ whole_read (scan_of steps (level_of sum term minuses) outer room left) whole rest h apart
@@ -305,7 +371,8 @@ mutual
       ∙ pointed_read (scan_of steps (level_of sum term minuses) outer room left) whole decimals rest h apart
   factor_read (Dollar digits) room steps sum term minuses outer left rest h apart =
       other_text steps (level_of sum term minuses) outer room (0 + left) left _ _ (omega arith) refl
-      ∙ variable_read (scan_of steps (level_of sum term minuses) outer room left) digits rest (decimal digits) h.all (variable_is digits h) apart
+      ∙ variable_read (scan_of steps (level_of sum term minuses) outer room left) digits rest (decimal digits) h.all
+      (variable_is digits h) apart
   factor_read (Signed Plus f) room steps sum term minuses outer left rest h apart =
       other_text steps (level_of sum term minuses) outer room _ (suc (factor_count f + left)) _ _ (omega arith) refl
       ∙ sign_step Plus steps sum term minuses outer room (factor_count f + left) (factor_text f ++ rest)
@@ -314,14 +381,17 @@ mutual
       other_text steps (level_of sum term minuses) outer room _ (suc (factor_count f + left)) _ _ (omega arith) refl
       ∙ sign_step Minus steps sum term minuses outer room (factor_count f + left) (factor_text f ++ rest)
       ∙ factor_read f room steps sum term (suc minuses) outer left rest h apart
-      ∙ other_steps _ _ (level_of sum None 0) outer room left rest (minus_steps steps (postfix (factor_tree f)) minuses (waiting term))
+      ∙ other_steps _ _ (level_of sum None 0) outer room left rest
+      (minus_steps steps (postfix (factor_tree f)) minuses (waiting term))
   factor_read (Enclosed e) zero steps sum term minuses outer left rest h apart = absurd h
   factor_read (Enclosed e) (suc room) steps sum term minuses outer left rest h apart =
-      open_step steps (level_of sum term minuses) outer room (sum_count e + left) ((sum_text e ++ 41 ∷ []) ++ rest)
-      ∙ other_text steps fresh (level_of sum term minuses ∷ outer) room _ _ _ _ refl (append_assoc (sum_text e) (41 ∷ []) rest)
-      ∙ sum_read e room steps (level_of sum term minuses ∷ outer) left (41 ∷ rest) h refl
+      open_step steps (level_of sum term minuses) outer room (sum_count e + left) ((sum_text e ++ closing ∷ []) ++ rest)
+      ∙ other_text steps fresh (level_of sum term minuses ∷ outer) room _ _ _ _ refl
+      (append_assoc (sum_text e) (closing ∷ []) rest)
+      ∙ sum_read e room steps (level_of sum term minuses ∷ outer) left (closing ∷ rest) h refl
       ∙ close_step (steps ++ front e) (level_of (last e) None 0) (level_of sum term minuses) outer room left rest
-      ∙ other_steps _ _ (level_of sum None 0) outer (suc room) left rest (closed_steps steps (front e) (last e) (postfix (sum_tree e)) minuses (waiting term) (front_last e))
+      ∙ other_steps _ _ (level_of sum None 0) outer (suc room) left rest
+      (closed_steps steps (front e) (last e) (postfix (sum_tree e)) minuses (waiting term) (front_last e))
 
 -- an expression is read as the steps of its tree
 pub expression_read : (text : List ℕ) (tree : Tree) → IsExpression text tree → scanned text ≡ Some (postfix tree)

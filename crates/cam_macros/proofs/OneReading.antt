@@ -3,7 +3,7 @@ use Rattle.std.proofs.Common.{◌≡◌, ℕ, min, List, [], ◌∷◌, refl, ap
 use Rattle.cam_macros.specs.declared.part.Part.{Part}
 use Rattle.cam_macros.specs.declared.part.Part.TheVariants.{Assignment, Primitive}
 use Rattle.cam_macros.specs.Tree.{Tree}
-use Rattle.cam_macros.specs.Postfix.{postfix, tree_of, tree_of-postfix}
+use Rattle.cam_macros.specs.Machinery.Postfix.{postfix, tree_of, tree_of-postfix}
 use Rattle.cam_macros.specs.Numbers.{decimal}
 use Rattle.cam_macros.specs.Grammar.{IsExpression, OneTreeLaw}
 use Rattle.cam_macros.specs.Reading.{AreExpressions, AreParts, IsPrimitive, IsPart, OneReadingLaw}
@@ -23,7 +23,8 @@ same_trees (text ∷ texts) [] b p q = absurd p
 same_trees (text ∷ texts) (x ∷ a) [] p q = absurd q
 same_trees (text ∷ texts) (x ∷ a) (y ∷ b) p q = cc (one_tree text x y p.0 q.0, same_trees texts a b p.1 q.1)
 
-same_primitive : (piece : List ℕ) (c d : ℕ) (a b : List Tree) → IsPrimitive piece c a → IsPrimitive piece d b → Primitive c a ≡ Primitive d b
+same_primitive : (piece : List ℕ) (c d : ℕ) (a b : List Tree) → IsPrimitive piece c a → IsPrimitive piece d b
+    → Primitive c a ≡ Primitive d b
 same_primitive piece c d a b p q =
     let digits : p.digits ≡ q.digits = cc (p.written, q.written) in
     let texts : p.texts ≡ q.texts = cc (p.written, q.written) in

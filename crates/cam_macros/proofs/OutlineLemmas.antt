@@ -1,19 +1,20 @@
 -- Points and outlines, field by field.
-use Rattle.std.proofs.Common.{◌≡◌, ℕ, zero, suc, ◌+◌, ◌-◌, ◌*◌, ◌<◌, ◌≤◌, Bool, cond, List, [], ◌∷◌, ◌++◌, length, take, drop, Result, Ok, Err, refl, ap, sym, ◌∙◌, arith, length-drop, append-nil}
+use Rattle.std.proofs.Common.{◌≡◌, ℕ, zero, suc, ◌+◌, ◌-◌, ◌*◌, ◌<◌, ◌≤◌, Bool, cond, List, [], ◌∷◌, ◌++◌, length}
+use Rattle.std.proofs.Common.{take, drop, Result, Ok, Err, refl, ap, sym, ◌∙◌, arith, length-drop, append-nil}
 use Rattle.std.proofs.lemmas.List.{take_all}
 use Rattle.std.proofs.lemmas.Bool.{lt-ltb, le-ltb}
 use Rattle.cam_units.specs.declared.length.Unit.{Unit as FileUnit}
 use Rattle.cam_units.specs.declared.point.Point.{Point}
 use Rattle.cam_units.specs.declared.turn.Turn.{Turn}
 use Rattle.cam_macros.specs.declared.arithmetic.Fixed.{Fixed}
-use Rattle.cam_macros.specs.declared.primitive.Prim.{Prim}
 use Rattle.cam_macros.specs.declared.primitive.PrimShape.TheVariants.{Outline}
 use Rattle.cam_macros.specs.declared.fault.MacroFault.{MacroFault}
 use Rattle.cam_macros.specs.declared.fault.MacroFault.TheVariants.{Malformed}
-use Rattle.cam_macros.specs.Values.{numbers}
+use Rattle.cam_macros.specs.Machinery.Values.{numbers}
 use Rattle.cam_macros.specs.Expansion.{turn_of, points_of, outline_through, ◌>>=◌}
 
-pub points_end : (unit : FileUnit) (turn : Turn) (rest : List Fixed) (made : List Point) (all : Result (List Point) MacroFault) → length rest < 2
+pub points_end : (unit : FileUnit) (turn : Turn) (rest : List Fixed) (made : List Point)
+    (all : Result (List Point) MacroFault) → length rest < 2
     → (points_of unit turn (numbers rest) >>= λ more. Ok (made ++ more)) ≡ all → all ≡ Ok made
 points_end unit turn [] made all h e = sym e ∙ ap Ok (append-nil made)
 points_end unit turn (_ ∷ []) made all h e = sym e ∙ ap Ok (append-nil made)
@@ -36,16 +37,29 @@ drop-numbers (suc n) (v ∷ fields) = drop-numbers n fields
 pub outline_few : (unit : FileUnit) (paint : Bool) (count : ℕ) (fields : List Fixed) → length fields < 2 * count + 2
     → outline_through unit paint count (numbers fields) ≡ Err Malformed
 outline_few unit paint count fields h =
-    ap (λ b. cond b (Err Malformed) (turn_of (drop (2 * count + 2) (numbers fields)) >>= λ turn. points_of unit turn (take (2 * count) (numbers fields)) >>= λ points. Ok (record { paint = paint; shape = Outline points })))
+    ap (λ b. cond b (Err Malformed)
+    (turn_of (drop (2 * count + 2) (numbers fields))
+    >>= λ turn. points_of unit turn (take (2 * count) (numbers fields))
+    >>= λ points. Ok (record { paint = paint; shape = Outline points })))
     (lt-ltb (length (numbers fields)) (2 * count + 2) (omega (arith, length-numbers fields)))
 
 pub outline_long : (unit : FileUnit) (paint : Bool) (count : ℕ) (fields : List Fixed) → 2 * count + 2 ≤ length fields
     → outline_through unit paint count (numbers fields)
-    ≡ (turn_of (numbers (take (length fields - (2 * count + 2)) (drop (2 * count + 2) fields))) >>= λ turn. points_of unit turn (numbers (take (2 * count) fields)) >>= λ points. Ok (record { paint = paint; shape = Outline points }))
+    ≡ (turn_of (numbers (take (length fields - (2 * count + 2)) (drop (2 * count + 2) fields)))
+    >>= λ turn. points_of unit turn (numbers (take (2 * count) fields))
+    >>= λ points. Ok (record { paint = paint; shape = Outline points }))
 outline_long unit paint count fields h =
-    ap (λ b. cond b (Err Malformed) (turn_of (drop (2 * count + 2) (numbers fields)) >>= λ turn. points_of unit turn (take (2 * count) (numbers fields)) >>= λ points. Ok (record { paint = paint; shape = Outline points })))
+    ap (λ b. cond b (Err Malformed)
+    (turn_of (drop (2 * count + 2) (numbers fields))
+    >>= λ turn. points_of unit turn (take (2 * count) (numbers fields))
+    >>= λ points. Ok (record { paint = paint; shape = Outline points })))
     (le-ltb (length (numbers fields)) (2 * count + 2) (omega (arith, length-numbers fields)))
-    ∙ ap (λ l. turn_of l >>= λ turn. points_of unit turn (take (2 * count) (numbers fields)) >>= λ points. Ok (record { paint = paint; shape = Outline points }))
-    (drop-numbers (2 * count + 2) fields ∙ ap numbers (sym (take_all (length fields - (2 * count + 2)) (drop (2 * count + 2) fields) (omega (arith, length-drop (2 * count + 2) fields)))))
-    ∙ ap (λ l. turn_of (numbers (take (length fields - (2 * count + 2)) (drop (2 * count + 2) fields))) >>= λ turn. points_of unit turn l >>= λ points. Ok (record { paint = paint; shape = Outline points }))
+    ∙ ap (λ l. turn_of l >>= λ turn. points_of unit turn (take (2 * count) (numbers fields))
+    >>= λ points. Ok (record { paint = paint; shape = Outline points }))
+    (drop-numbers (2 * count + 2) fields
+    ∙ ap numbers
+    (sym (take_all (length fields - (2 * count + 2)) (drop (2 * count + 2) fields)
+    (omega (arith, length-drop (2 * count + 2) fields)))))
+    ∙ ap (λ l. turn_of (numbers (take (length fields - (2 * count + 2)) (drop (2 * count + 2) fields)))
+    >>= λ turn. points_of unit turn l >>= λ points. Ok (record { paint = paint; shape = Outline points }))
     (take-numbers (2 * count) fields)

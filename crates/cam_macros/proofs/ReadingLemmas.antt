@@ -1,13 +1,17 @@
 -- Fields and parts, one at a time.
-use Rattle.std.proofs.Common.{◌≡◌, ℕ, suc, true, false, cond, not, List, [], ◌∷◌, ◌++◌, length, Option, Some, None, ap, sym, subst, ◌∙◌, append_assoc, append-nil}
+use Rattle.std.proofs.Common.{◌≡◌, ℕ, suc, true, false, cond, not, List, [], ◌∷◌, ◌++◌, length, Option, Some, None}
+use Rattle.std.proofs.Common.{ap, sym, subst, ◌∙◌, append_assoc, append-nil}
 use Rattle.std.specs.Borrow.{Bor}
 use Rattle.cam_macros.specs.declared.part.Part.{Part}
 use Rattle.cam_macros.specs.declared.fault.MacroFault.{MacroFault}
-use Rattle.cam_macros.specs.declared.fault.MacroFault.TheVariants.{BadName, Malformed, PrimitiveRefused, RotationRefused, SizeRefused, OutOfMemory}
+use Rattle.cam_macros.specs.declared.fault.MacroFault.TheVariants.{BadName, Malformed, PrimitiveRefused}
+use Rattle.cam_macros.specs.declared.fault.MacroFault.TheVariants.{RotationRefused, SizeRefused, OutOfMemory}
 use Rattle.cam_macros.specs.Tree.{Tree}
 use Rattle.cam_macros.specs.Grammar.{IsExpression}
-use Rattle.cam_macros.specs.Answers.{IsNoExpression}
-use Rattle.cam_macros.specs.Reading.{AreExpressions, AreParts, IsPart, IsNoFields, IsNoPart, IsNoParts, IsRefused, first, others, pieces, is_name, is_silent, spoken}
+use Rattle.cam_macros.specs.Answers.{Nothing, Tells}
+use Rattle.cam_macros.proofs.FaultLemmas.{tells_also}
+use Rattle.cam_macros.specs.Reading.{AreExpressions, AreParts, IsPart, IsRefused, first, others, pieces, is_name}
+use Rattle.cam_macros.specs.Reading.{is_silent, spoken}
 
 -- how much text is left
 abbrev pub text_left : Option (Bor (List ℕ)) → ℕ
@@ -22,33 +26,37 @@ pub record AreReadBefore (left all : List (List ℕ)) (items : List Tree) : Type
 pub fields_start : (all : List (List ℕ)) → AreReadBefore all all []
 fields_start all = record { forth = λ more h. h; back = λ trees h. (trees, h) }
 
-tail_read : (text : List ℕ) (left : List (List ℕ)) (more : List Tree) → AreExpressions (text ∷ left) more → (rest : List Tree) × AreExpressions left rest
+tail_read : (text : List ℕ) (left : List (List ℕ)) (more : List Tree) → AreExpressions (text ∷ left) more
+    → (rest : List Tree) × AreExpressions left rest
 tail_read text left [] h = absurd h
 tail_read text left (tree ∷ more) h = (more, h.1)
 
-head_read : (text : List ℕ) (left : List (List ℕ)) (more : List Tree) → AreExpressions (text ∷ left) more → (tree : Tree) × IsExpression text tree
+head_read : (text : List ℕ) (left : List (List ℕ)) (more : List Tree) → AreExpressions (text ∷ left) more
+    → (tree : Tree) × IsExpression text tree
 head_read text left [] h = absurd h
 head_read text left (tree ∷ more) h = (tree, h.0)
 
-pub fields_next : (text : List ℕ) (left all : List (List ℕ)) (items : List Tree) (tree : Tree) → AreReadBefore (text ∷ left) all items → IsExpression text tree → AreReadBefore left all (items ++ tree ∷ [])
+pub fields_next : (text : List ℕ) (left all : List (List ℕ)) (items : List Tree) (tree : Tree)
+    → AreReadBefore (text ∷ left) all items → IsExpression text tree → AreReadBefore left all (items ++ tree ∷ [])
 fields_next text left all items tree k e = record {
-  forth = λ more h. subst (AreExpressions all) (sym (append_assoc items (tree ∷ []) more)) (k.forth (tree ∷ more) (e, h));
+  forth = λ more h. subst (AreExpressions all) (sym (append_assoc items (tree ∷ []) more))
+      (k.forth (tree ∷ more) (e, h));
   back = λ trees h. let found = k.back trees h in tail_read text left found.0 found.1;
 }
 
 pub fields_end : (all : List (List ℕ)) (items : List Tree) → AreReadBefore [] all items → AreExpressions all items
 fields_end all items k = subst (AreExpressions all) (append-nil items) (k.forth [] tt)
 
-pub fields_fault : (fault : MacroFault) (text : List ℕ) (left all : List (List ℕ)) (items : List Tree) → AreReadBefore (text ∷ left) all items → IsNoExpression fault text → IsNoFields fault all
-fields_fault OutOfMemory text left all items k f = tt
-fields_fault Malformed text left all items k f = λ trees h.
+pub fields_fault : (fault : MacroFault) (text : List ℕ) (left all : List (List ℕ)) (items : List Tree)
+    → AreReadBefore (text ∷ left) all items → Tells fault (Nothing (IsExpression text))
+    → Tells fault (Nothing (AreExpressions all))
+fields_fault fault text left all items k f =
+    tells_also fault
+    (λ none trees h.
     let found = k.back trees h in
     let first = head_read text left found.0 found.1 in
-    f first.0 first.1
-fields_fault BadName text left all items k f = f
-fields_fault PrimitiveRefused text left all items k f = f
-fields_fault RotationRefused text left all items k f = f
-fields_fault SizeRefused text left all items k f = f
+    none first.0 first.1)
+    f
 
 -- the same of parts
 pub record ArePartsBefore (left all : List (List ℕ)) (items : List Part) : Type 0 where
@@ -58,51 +66,64 @@ pub record ArePartsBefore (left all : List (List ℕ)) (items : List Part) : Typ
 pub parts_start : (all : List (List ℕ)) → ArePartsBefore all all []
 parts_start all = record { forth = λ more h. h; back = λ parts h. (parts, h) }
 
-tail_part : (piece : List ℕ) (left : List (List ℕ)) (more : List Part) → AreParts (piece ∷ left) more → (rest : List Part) × AreParts left rest
+tail_part : (piece : List ℕ) (left : List (List ℕ)) (more : List Part) → AreParts (piece ∷ left) more
+    → (rest : List Part) × AreParts left rest
 tail_part piece left [] h = absurd h
 tail_part piece left (part ∷ more) h = (more, h.1)
 
-head_part : (piece : List ℕ) (left : List (List ℕ)) (more : List Part) → AreParts (piece ∷ left) more → (part : Part) × IsPart piece part
+head_part : (piece : List ℕ) (left : List (List ℕ)) (more : List Part) → AreParts (piece ∷ left) more
+    → (part : Part) × IsPart piece part
 head_part piece left [] h = absurd h
 head_part piece left (part ∷ more) h = (part, h.0)
 
-spoken_yes : (piece : List ℕ) (left : List (List ℕ)) → is_silent piece ≡ false → spoken (piece ∷ left) ≡ piece ∷ spoken left
+spoken_yes : (piece : List ℕ) (left : List (List ℕ)) → is_silent piece ≡ false
+    → spoken (piece ∷ left) ≡ piece ∷ spoken left
 spoken_yes piece left e = ap (λ v. cond (not v) (piece ∷ spoken left) (spoken left)) e
 
 spoken_no : (piece : List ℕ) (left : List (List ℕ)) → is_silent piece ≡ true → spoken (piece ∷ left) ≡ spoken left
 spoken_no piece left e = ap (λ v. cond (not v) (piece ∷ spoken left) (spoken left)) e
 
-pub parts_skip : (piece : List ℕ) (left all : List (List ℕ)) (items : List Part) → is_silent piece ≡ true → ArePartsBefore (spoken (piece ∷ left)) all items → ArePartsBefore (spoken left) all items
+pub parts_skip : (piece : List ℕ) (left all : List (List ℕ)) (items : List Part) → is_silent piece ≡ true
+    → ArePartsBefore (spoken (piece ∷ left)) all items → ArePartsBefore (spoken left) all items
 parts_skip piece left all items e k = subst (λ l. ArePartsBefore l all items) (spoken_no piece left e) k
 
-pub parts_next : (piece : List ℕ) (left all : List (List ℕ)) (items : List Part) (part : Part) → is_silent piece ≡ false → ArePartsBefore (spoken (piece ∷ left)) all items → IsPart piece part → ArePartsBefore (spoken left) all (items ++ part ∷ [])
+pub parts_next : (piece : List ℕ) (left all : List (List ℕ)) (items : List Part) (part : Part)
+    → is_silent piece ≡ false → ArePartsBefore (spoken (piece ∷ left)) all items → IsPart piece part
+    → ArePartsBefore (spoken left) all (items ++ part ∷ [])
 parts_next piece left all items part e k p =
-    let first : ArePartsBefore (piece ∷ spoken left) all items = subst (λ l. ArePartsBefore l all items) (spoken_yes piece left e) k in
+    let first : ArePartsBefore (piece ∷ spoken left) all items =
+    subst (λ l. ArePartsBefore l all items) (spoken_yes piece left e) k in
     record {
-      forth = λ more h. subst (AreParts all) (sym (append_assoc items (part ∷ []) more)) (first.forth (part ∷ more) (p, h));
+      forth = λ more h. subst (AreParts all) (sym (append_assoc items (part ∷ []) more))
+          (first.forth (part ∷ more) (p, h));
       back = λ parts h. let found = first.back parts h in tail_part piece (spoken left) found.0 found.1;
     }
 
 pub parts_end : (all : List (List ℕ)) (items : List Part) → ArePartsBefore [] all items → AreParts all items
 parts_end all items k = subst (AreParts all) (append-nil items) (k.forth [] tt)
 
-pub parts_fault : (fault : MacroFault) (piece : List ℕ) (left all : List (List ℕ)) (items : List Part) → is_silent piece ≡ false → ArePartsBefore (spoken (piece ∷ left)) (spoken all) items → IsNoPart fault piece → IsNoParts fault all
-parts_fault OutOfMemory piece left all items e k f = tt
-parts_fault Malformed piece left all items e k f = λ parts h.
-    let first : ArePartsBefore (piece ∷ spoken left) (spoken all) items = subst (λ l. ArePartsBefore l (spoken all) items) (spoken_yes piece left e) k in
-    let found = first.back parts h in
+pub parts_fault : (fault : MacroFault) (piece : List ℕ) (left all : List (List ℕ)) (items : List Part)
+    → is_silent piece ≡ false → ArePartsBefore (spoken (piece ∷ left)) (spoken all) items
+    → Tells fault (Nothing (IsPart piece)) → Tells fault (Nothing (AreParts (spoken all)))
+parts_fault fault piece left all items e k f =
+    let begun : ArePartsBefore (piece ∷ spoken left) (spoken all) items =
+    subst (λ l. ArePartsBefore l (spoken all) items) (spoken_yes piece left e) k in
+    tells_also fault
+    (λ none parts h.
+    let found = begun.back parts h in
     let part = head_part piece (spoken left) found.0 found.1 in
-    f part.0 part.1
-parts_fault BadName piece left all items e k f = f
-parts_fault PrimitiveRefused piece left all items e k f = f
-parts_fault RotationRefused piece left all items e k f = f
-parts_fault SizeRefused piece left all items e k f = f
+    none part.0 part.1)
+    f
 
 -- a fault of the parts is one of the macro
-pub refused : (fault : MacroFault) (text name : List ℕ) (rest : List (List ℕ)) → pieces text ≡ name ∷ rest → is_name name ≡ true → IsNoParts fault rest → IsRefused text fault
+pub refused : (fault : MacroFault) (text name : List ℕ) (rest : List (List ℕ)) → pieces text ≡ name ∷ rest
+    → is_name name ≡ true → Tells fault (Nothing (AreParts (spoken rest))) → IsRefused text fault
 refused OutOfMemory text name rest e named f = tt
-refused Malformed text name rest e named f =
-    (ap (λ l. is_name (first l)) e ∙ named, λ n parts h. f parts (subst (λ l. AreParts (spoken (others l)) parts) e h.parts_are))
+refused Malformed text name rest e named f = (
+  ap (λ l. is_name (first l)) e
+      ∙ named,
+  λ n parts h. f parts (subst (λ l. AreParts (spoken (others l)) parts) e h.parts_are),
+)
 refused BadName text name rest e named f = absurd f
 refused PrimitiveRefused text name rest e named f = f
 refused RotationRefused text name rest e named f = f

@@ -1,8 +1,10 @@
 -- The arithmetic of macros, in whole numbers of 10^-9 units.
-use Rattle.std.specs.Prelude.{ℕ, zero, suc, ◌==◌, nat_lt, if◌then◌else◌, ℤ, pos, negsuc, neg_ℤ, ◌+ℤ◌, ◌-ℤ◌, ◌*ℤ◌, unsigned_abs, List, slice_index_or, Option, Some, None, option_and_then}
+use Rattle.std.specs.Prelude.{ℕ, zero, suc, ◌==◌, nat_lt, if◌then◌else◌, ℤ, pos, negsuc, neg_ℤ, ◌+ℤ◌, ◌-ℤ◌, ◌*ℤ◌}
+use Rattle.std.specs.Prelude.{unsigned_abs, List, slice_index_or, Option, Some, None, option_and_then}
 use Rattle.cam_units.specs.Nearest.{nearest_of}
 use Rattle.cam_macros.specs.declared.expression.Operator.{Operator}
 use Rattle.cam_macros.specs.declared.expression.Operator.TheVariants.{Add, Subtract, Multiply, Divide}
+use Rattle.cam_macros.specs.Numbers.{billion}
 use Rattle.cam_macros.specs.Tree.{Tree, Number, Variable, Negative, Binary}
 
 -- what each variable is worth
@@ -25,13 +27,13 @@ within v = if nat_lt (unsigned_abs v) 1000000000000000 then Some v else None
 -- the nearest to a quotient in 10^-9 units; none by 0
 abbrev pub quotient : ℤ → ℤ → Option ℤ
 quotient a (pos zero) = None
-quotient a (pos (suc n)) = Some (nearest_of (a *ℤ pos 1000000000) (suc n))
-quotient a (negsuc n) = Some (nearest_of (neg_ℤ a *ℤ pos 1000000000) (suc n))
+quotient a (pos (suc n)) = Some (nearest_of (a *ℤ pos billion) (suc n))
+quotient a (negsuc n) = Some (nearest_of (neg_ℤ a *ℤ pos billion) (suc n))
 
 abbrev pub applied : Operator → ℤ → ℤ → Option ℤ
 applied Add a b = Some (a +ℤ b)
 applied Subtract a b = Some (a -ℤ b)
-applied Multiply a b = Some (nearest_of (a *ℤ b) 1000000000)
+applied Multiply a b = Some (nearest_of (a *ℤ b) billion)
 applied Divide a b = quotient a b
 
 -- the value of an expression, if each node has one
@@ -40,4 +42,5 @@ value_of values (Number n) = within (pos n)
 value_of values (Variable n) = within (values n)
 value_of values (Negative t) = option_and_then (λ v. within (neg_ℤ v)) (value_of values t)
 value_of values (Binary o a b) =
-    option_and_then (λ x. option_and_then (λ y. option_and_then within (applied o x y)) (value_of values b)) (value_of values a)
+    option_and_then (λ x. option_and_then (λ y. option_and_then within (applied o x y)) (value_of values b))
+    (value_of values a)

@@ -1,5 +1,7 @@
 -- The primitives of a macro (Gerber Layer Format Specification, "Aperture macro (AM)", "Primitives").
-use Rattle.std.specs.Prelude.{ℕ, zero, suc, ◌+◌, ◌*◌, ◌/◌, ◌%◌, ◌==◌, ◌||◌, ◌&&◌, nat_lt, nat_le, Bool, true, false, if◌then◌else◌, ℤ, pos, negsuc, unsigned_abs, List, [], ◌∷◌, ◌++◌, length, take, drop, Option, Some, None, unwrap_or, ok_or, Result, Ok, Err}
+use Rattle.std.specs.Prelude.{ℕ, zero, suc, ◌+◌, ◌*◌, ◌/◌, ◌%◌, ◌==◌, ◌||◌, ◌&&◌, nat_lt, nat_le, Bool, true, false}
+use Rattle.std.specs.Prelude.{if◌then◌else◌, ℤ, pos, negsuc, unsigned_abs, List, [], ◌∷◌, ◌++◌, length, take, drop}
+use Rattle.std.specs.Prelude.{Option, Some, None, unwrap_or, ok_or, Result, Ok, Err}
 use Rattle.cam_units.specs.declared.length.Unit.{Unit as FileUnit}
 use Rattle.cam_units.specs.declared.length.Nm.{Nm}
 use Rattle.cam_units.specs.declared.point.Point.{Point}
@@ -9,11 +11,13 @@ use Rattle.cam_units.specs.Nearest.{fix9_of}
 use Rattle.cam_units.specs.Turns.{applied as turned, matrix_of}
 use Rattle.cam_macros.specs.declared.part.Part.{Part}
 use Rattle.cam_macros.specs.declared.part.Part.TheVariants.{Assignment, Primitive}
-use Rattle.cam_macros.specs.declared.primitive.Prim.{Prim}
+use Rattle.cam_macros.specs.declared.primitive.MacroPrimitive.{MacroPrimitive}
 use Rattle.cam_macros.specs.declared.primitive.PrimShape.{PrimShape}
 use Rattle.cam_macros.specs.declared.primitive.PrimShape.TheVariants.{Disc, Bar, Rect, Outline}
 use Rattle.cam_macros.specs.declared.fault.MacroFault.{MacroFault}
-use Rattle.cam_macros.specs.declared.fault.MacroFault.TheVariants.{Malformed, PrimitiveRefused, RotationRefused, SizeRefused}
+use Rattle.cam_macros.specs.declared.fault.MacroFault.TheVariants.{Malformed, PrimitiveRefused, RotationRefused}
+use Rattle.cam_macros.specs.declared.fault.MacroFault.TheVariants.{SizeRefused}
+use Rattle.cam_macros.specs.Numbers.{billion}
 use Rattle.cam_macros.specs.Tree.{Tree}
 use Rattle.cam_macros.specs.Arithmetic.{Values, parameter, setting, value_of}
 
@@ -36,7 +40,7 @@ all_worth values (tree ∷ trees) = do
 
 -- an exposure is 0 or 1 unit
 abbrev pub paint_of : ℤ → Result Bool MacroFault
-paint_of (pos n) = if n == 0 then Ok false else (if n == 1000000000 then Ok true else Err Malformed)
+paint_of (pos n) = if n == 0 then Ok false else (if n == billion then Ok true else Err Malformed)
 paint_of (negsuc n) = Err Malformed
 
 -- so many quarter turns counterclockwise, and so many the other way
@@ -55,7 +59,8 @@ quarters_back (suc (suc (suc _))) = R90
 -- a rotation is a multiple of 90 degrees
 abbrev pub rotation : ℤ → Result Turn MacroFault
 rotation (pos n) = if n % 90000000000 == 0 then Ok (quarters (n / 90000000000 % 4)) else Err RotationRefused
-rotation (negsuc n) = if suc n % 90000000000 == 0 then Ok (quarters_back (suc n / 90000000000 % 4)) else Err RotationRefused
+rotation (negsuc n) = if suc n % 90000000000 == 0 then Ok (quarters_back (suc n / 90000000000 % 4))
+    else Err RotationRefused
 
 -- the rotation may be left out
 abbrev pub turn_of : List ℤ → Result Turn MacroFault
@@ -94,7 +99,7 @@ points_of unit turn (x ∷ y ∷ more) = do
   Ok (point ∷ points)
 
 -- exposure, diameter, x, y [, rotation]
-abbrev pub disc_of : FileUnit → List ℤ → Result Prim MacroFault
+abbrev pub disc_of : FileUnit → List ℤ → Result MacroPrimitive MacroFault
 disc_of unit (exposure ∷ d ∷ x ∷ y ∷ more) = do
   paint ← paint_of exposure
   turn ← turn_of more
@@ -104,7 +109,7 @@ disc_of unit (exposure ∷ d ∷ x ∷ y ∷ more) = do
 disc_of unit _ = Err Malformed
 
 -- exposure, width, x1, y1, x2, y2 [, rotation]
-abbrev pub bar_of : FileUnit → List ℤ → Result Prim MacroFault
+abbrev pub bar_of : FileUnit → List ℤ → Result MacroPrimitive MacroFault
 bar_of unit (exposure ∷ w ∷ x1 ∷ y1 ∷ x2 ∷ y2 ∷ more) = do
   paint ← paint_of exposure
   turn ← turn_of more
@@ -126,7 +131,7 @@ rect_turned M0 centre width height = Rect centre width height
 rect_turned M180 centre width height = Rect centre width height
 
 -- exposure, width, height, x, y [, rotation], the centre at (x, y)
-abbrev pub rect_of : FileUnit → List ℤ → Result Prim MacroFault
+abbrev pub rect_of : FileUnit → List ℤ → Result MacroPrimitive MacroFault
 rect_of unit (exposure ∷ w ∷ h ∷ x ∷ y ∷ more) = do
   paint ← paint_of exposure
   turn ← turn_of more
@@ -139,11 +144,11 @@ rect_of unit _ = Err Malformed
 -- a count is a whole number of units, from 1 to 5,000
 abbrev pub count_of : ℤ → Result ℕ MacroFault
 count_of (pos n) =
-    if (n % 1000000000 == 0) && (nat_lt 0 n && nat_le n 5000000000000) then Ok (n / 1000000000) else Err Malformed
+    if (n % billion == 0) && (nat_lt 0 n && nat_le n (5000 * billion)) then Ok (n / billion) else Err Malformed
 count_of (negsuc n) = Err Malformed
 
 -- so many points and one more, which is taken for the first, and perhaps a rotation
-abbrev pub outline_through : FileUnit → Bool → ℕ → List ℤ → Result Prim MacroFault
+abbrev pub outline_through : FileUnit → Bool → ℕ → List ℤ → Result MacroPrimitive MacroFault
 outline_through unit paint count values =
     if nat_lt (length values) (2 * count + 2) then Err Malformed
     else (turn_of (drop (2 * count + 2) values) >>= λ turn.
@@ -151,7 +156,7 @@ outline_through unit paint count values =
     Ok (record { paint = paint; shape = Outline points }))
 
 -- exposure, n, n + 1 points [, rotation]
-abbrev pub outline_of : FileUnit → List ℤ → Result Prim MacroFault
+abbrev pub outline_of : FileUnit → List ℤ → Result MacroPrimitive MacroFault
 outline_of unit (exposure ∷ n ∷ more) = do
   paint ← paint_of exposure
   count ← count_of n
@@ -159,19 +164,20 @@ outline_of unit (exposure ∷ n ∷ more) = do
 outline_of unit _ = Err Malformed
 
 -- what the fields of a primitive make, if its code is known
-abbrev pub shape_of : ℕ → Option (FileUnit → List ℤ → Result Prim MacroFault)
+abbrev pub shape_of : ℕ → Option (FileUnit → List ℤ → Result MacroPrimitive MacroFault)
 shape_of code =
     if code == 1 then Some disc_of
     else (if (code == 2) || (code == 20) then Some bar_of
     else (if code == 21 then Some rect_of
     else (if code == 4 then Some outline_of else None)))
 
-abbrev pub primitive_of : Option (FileUnit → List ℤ → Result Prim MacroFault) → FileUnit → Values → List Tree → Result Prim MacroFault
+abbrev pub primitive_of : Option (FileUnit → List ℤ → Result MacroPrimitive MacroFault) → FileUnit → Values
+    → List Tree → Result MacroPrimitive MacroFault
 primitive_of None unit values fields = Err PrimitiveRefused
 primitive_of (Some shape) unit values fields = all_worth values fields >>= shape unit
 
 -- what a part adds to the primitives, or its fault
-abbrev pub outcome : FileUnit → Values → Part → Result (List Prim) MacroFault
+abbrev pub outcome : FileUnit → Values → Part → Result (List MacroPrimitive) MacroFault
 outcome unit values (Assignment variable value) = worth values value >>= λ _. Ok []
 outcome unit values (Primitive code fields) = primitive_of (shape_of code) unit values fields >>= λ made. Ok (made ∷ [])
 
@@ -181,7 +187,7 @@ values_after values (Assignment variable value) = setting values variable (unwra
 values_after values (Primitive code fields) = values
 
 -- the primitives of the parts in order, or the fault of the first faulty part
-abbrev pub expansion : FileUnit → Values → List Part → Result (List Prim) MacroFault
+abbrev pub expansion : FileUnit → Values → List Part → Result (List MacroPrimitive) MacroFault
 expansion unit values [] = Ok []
 expansion unit values (part ∷ parts) = do
   made ← outcome unit values part
@@ -189,9 +195,10 @@ expansion unit values (part ∷ parts) = do
   Ok (made ++ more)
 
 -- the primitives behind those so far
-abbrev pub with_prims : List Prim → Result (List Prim) MacroFault → Result (List Prim) MacroFault
+abbrev pub with_prims : List MacroPrimitive → Result (List MacroPrimitive) MacroFault
+    → Result (List MacroPrimitive) MacroFault
 with_prims made more = more >>= λ prims. Ok (made ++ prims)
 
 -- the primitives of a macro under AD's parameters
-abbrev pub expansion_of : FileUnit → List ℤ → List Part → Result (List Prim) MacroFault
+abbrev pub expansion_of : FileUnit → List ℤ → List Part → Result (List MacroPrimitive) MacroFault
 expansion_of unit params parts = expansion unit (parameter params) parts

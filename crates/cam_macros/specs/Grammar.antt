@@ -6,6 +6,7 @@ use Rattle.std.specs.List.{list_all}
 use Rattle.std.specs.Char.{is_ascii_digit}
 use Rattle.cam_macros.specs.declared.expression.Operator.{Operator}
 use Rattle.cam_macros.specs.declared.expression.Operator.TheVariants.{Add, Subtract, Multiply, Divide}
+use Rattle.cam_macros.specs.Bytes.{closing, dollar, large_x, minus, opening, plus, point, slash, small_x}
 use Rattle.cam_macros.specs.Tree.{Tree, Number, Variable, Negative, Binary}
 use Rattle.cam_macros.specs.Numbers.{decimal, billionths}
 
@@ -43,17 +44,17 @@ mutual
 -- the texts
 
 abbrev pub sign_byte : Sign → ℕ
-sign_byte Plus = 43
-sign_byte Minus = 45
+sign_byte Plus = plus
+sign_byte Minus = minus
 
 abbrev pub cross_byte : Cross → ℕ
-cross_byte Small = 120
-cross_byte Large = 88
-cross_byte Slash = 47
+cross_byte Small = small_x
+cross_byte Large = large_x
+cross_byte Slash = slash
 
 abbrev pub decimal_text : Decimal → List ℕ
 decimal_text (Whole whole) = whole
-decimal_text (Pointed whole decimals) = whole ++ 46 ∷ decimals
+decimal_text (Pointed whole decimals) = whole ++ point ∷ decimals
 
 abbrev mutual
   pub sum_text : Sum → List ℕ
@@ -66,9 +67,9 @@ abbrev mutual
 
   pub factor_text : Factor → List ℕ
   factor_text (Numeral d) = decimal_text d
-  factor_text (Dollar digits) = 36 ∷ digits
+  factor_text (Dollar digits) = dollar ∷ digits
   factor_text (Signed o f) = sign_byte o ∷ factor_text f
-  factor_text (Enclosed s) = 40 ∷ (sum_text s ++ 41 ∷ [])
+  factor_text (Enclosed s) = opening ∷ (sum_text s ++ closing ∷ [])
 
 -- how many operators and signs there are
 

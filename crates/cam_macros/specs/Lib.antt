@@ -1,13 +1,10 @@
+pub mod Bytes
 pub mod Faults
 pub mod Tree
-pub mod Postfix
 pub mod Numbers
 pub mod Grammar
 pub mod Reading
-pub mod Scanning
 pub mod Arithmetic
 pub mod Expansion
 pub mod Answers
-pub mod Variables
-pub mod Values
-pub mod Stack
+pub mod Machinery

@@ -1,26 +1,24 @@
 -- A macro as the text of an AM command stands for it (Gerber Layer Format Specification, "Aperture macro (AM)").
-use Rattle.std.specs.Prelude.{◌≡◌, ℕ, min, List, [], ◌∷◌, ◌++◌, filter, Bool, true, false, not, ◌==◌, ◌||◌, ◌&&◌, Option, Some, None, ⊤}
+use Rattle.std.specs.Prelude.{◌≡◌, ℕ, min, List, [], ◌∷◌, ◌++◌, filter, Bool, true, false, not, ◌==◌, ◌&&◌}
+use Rattle.std.specs.Prelude.{Option, Some, None, ⊤}
 use Rattle.std.specs.Borrow.{Bor}
 use Rattle.std.specs.List.{slice_split, list_any}
 use Rattle.std.specs.Char.{is_ascii_digit}
 use Rattle.cam_macros.specs.declared.part.Part.{Part}
 use Rattle.cam_macros.specs.declared.part.Part.TheVariants.{Assignment, Primitive}
 use Rattle.cam_macros.specs.declared.fault.MacroFault.{MacroFault}
-use Rattle.cam_macros.specs.declared.fault.MacroFault.TheVariants.{BadName, Malformed, PrimitiveRefused, RotationRefused, SizeRefused, OutOfMemory}
+use Rattle.cam_macros.specs.declared.fault.MacroFault.TheVariants.{BadName}
+use Rattle.cam_words.specs.Bytes.{star}
+use Rattle.cam_words.specs.Heads.{packed}
+use Rattle.cam_macros.specs.Answers.{Nothing, Tells}
+use Rattle.cam_macros.specs.Bytes.{comma, dollar, equals, nought}
 use Rattle.cam_macros.specs.Tree.{Tree}
 use Rattle.cam_macros.specs.Numbers.{decimal}
 use Rattle.cam_macros.specs.Grammar.{AreDigits, IsVariable, IsExpression}
 
--- tab, LF, CR and space do not count
-abbrev pub is_skipped : ℕ → Bool
-is_skipped b = (b == 9) || (b == 10) || (b == 13) || (b == 32)
-
-abbrev pub counted : List ℕ → List ℕ
-counted text = filter (λ b. not (is_skipped b)) text
-
--- the name and the parts, between which stand stars
+-- the name and the parts, between which stand stars; line ends, spaces and tabs do not count
 abbrev pub pieces : List ℕ → List (List ℕ)
-pieces text = slice_split (λ b. b == 42) (counted text)
+pieces text = slice_split (λ b. b == star) (packed text)
 
 abbrev pub first : List (List ℕ) → List ℕ
 first [] = []
@@ -33,12 +31,16 @@ others (_ ∷ parts) = parts
 -- no digit first, and no comma
 abbrev pub is_name : List ℕ → Bool
 is_name [] = false
-is_name (b ∷ bs) = not (is_ascii_digit b) && not (list_any (λ c. c == 44) (b ∷ bs))
+is_name (b ∷ bs) = not (is_ascii_digit b) && not (list_any (λ c. c == comma) (b ∷ bs))
 
 -- an empty part, or a comment
 abbrev pub is_silent : List ℕ → Bool
 is_silent [] = true
-is_silent (b ∷ _) = b == 48
+is_silent (b ∷ _) = b == nought
+
+-- the pieces that are parts
+abbrev pub spoken : List (List ℕ) → List (List ℕ)
+spoken pieces = filter (λ piece. not (is_silent piece)) pieces
 
 abbrev pub AreExpressions : List (List ℕ) → List Tree → Type 0
 AreExpressions [] [] = ⊤
@@ -50,7 +52,7 @@ AreExpressions (_ ∷ _) [] = ⊥
 pub record IsAssignment (piece : List ℕ) (variable : ℕ) (value : Tree) : Type 0 where
   pub digits : List ℕ
   pub text : List ℕ
-  pub written : piece ≡ (36 ∷ digits) ++ 61 ∷ text
+  pub written : piece ≡ (dollar ∷ digits) ++ equals ∷ text
   pub number : IsVariable digits
   pub same : variable ≡ decimal digits
   pub reads : IsExpression text value
@@ -59,7 +61,7 @@ pub record IsAssignment (piece : List ℕ) (variable : ℕ) (value : Tree) : Typ
 pub record IsPrimitive (piece : List ℕ) (code : ℕ) (fields : List Tree) : Type 0 where
   pub digits : List ℕ
   pub texts : List (List ℕ)
-  pub written : slice_split (λ b. b == 44) piece ≡ digits ∷ texts
+  pub written : slice_split (λ b. b == comma) piece ≡ digits ∷ texts
   pub some : digits ≡ [] → ⊥
   pub number : AreDigits digits
   pub same : code ≡ min (decimal digits) 10000
@@ -79,65 +81,18 @@ AreParts (_ ∷ _) [] = ⊥
 pub record IsReading (text name : List ℕ) (parts : List Part) : Type 0 where
   pub name_is : name ≡ first (pieces text)
   pub named : is_name name ≡ true
-  pub parts_are : AreParts (filter (λ piece. not (is_silent piece)) (others (pieces text))) parts
+  pub parts_are : AreParts (spoken (others (pieces text))) parts
 
 -- why the text stands for none
 abbrev pub IsRefused : List ℕ → MacroFault → Type 0
 IsRefused text BadName = is_name (first (pieces text)) ≡ false
-IsRefused text Malformed = (is_name (first (pieces text)) ≡ true) × ((name : List ℕ) (parts : List Part) → IsReading text name parts → ⊥)
-IsRefused text OutOfMemory = ⊤
-IsRefused text PrimitiveRefused = ⊥
-IsRefused text RotationRefused = ⊥
-IsRefused text SizeRefused = ⊥
+IsRefused text fault =
+    Tells fault ((is_name (first (pieces text)) ≡ true) × ((name : List ℕ) → Nothing (IsReading text name)))
 
 -- the pieces between bytes, if any text is left
 abbrev pub pieces_between : ℕ → Option (Bor (List ℕ)) → List (List ℕ)
 pieces_between c None = []
 pieces_between c (Some text) = slice_split (λ b. b == c) text.now
-
--- why there are no such expressions, no such part and no such parts
-abbrev pub IsNoFields : MacroFault → List (List ℕ) → Type 0
-IsNoFields OutOfMemory texts = ⊤
-IsNoFields Malformed texts = (fields : List Tree) → AreExpressions texts fields → ⊥
-IsNoFields BadName texts = ⊥
-IsNoFields PrimitiveRefused texts = ⊥
-IsNoFields RotationRefused texts = ⊥
-IsNoFields SizeRefused texts = ⊥
-
-abbrev pub IsNoPart : MacroFault → List ℕ → Type 0
-IsNoPart OutOfMemory piece = ⊤
-IsNoPart Malformed piece = (part : Part) → IsPart piece part → ⊥
-IsNoPart BadName piece = ⊥
-IsNoPart PrimitiveRefused piece = ⊥
-IsNoPart RotationRefused piece = ⊥
-IsNoPart SizeRefused piece = ⊥
-
-abbrev pub IsNoPrimitive : MacroFault → List ℕ → Type 0
-IsNoPrimitive OutOfMemory piece = ⊤
-IsNoPrimitive Malformed piece = (code : ℕ) (fields : List Tree) → IsPrimitive piece code fields → ⊥
-IsNoPrimitive BadName piece = ⊥
-IsNoPrimitive PrimitiveRefused piece = ⊥
-IsNoPrimitive RotationRefused piece = ⊥
-IsNoPrimitive SizeRefused piece = ⊥
-
-abbrev pub IsNoAssignment : MacroFault → List ℕ → Type 0
-IsNoAssignment OutOfMemory piece = ⊤
-IsNoAssignment Malformed piece = (variable : ℕ) (value : Tree) → IsAssignment piece variable value → ⊥
-IsNoAssignment BadName piece = ⊥
-IsNoAssignment PrimitiveRefused piece = ⊥
-IsNoAssignment RotationRefused piece = ⊥
-IsNoAssignment SizeRefused piece = ⊥
-
-abbrev pub spoken : List (List ℕ) → List (List ℕ)
-spoken pieces = filter (λ piece. not (is_silent piece)) pieces
-
-abbrev pub IsNoParts : MacroFault → List (List ℕ) → Type 0
-IsNoParts OutOfMemory pieces = ⊤
-IsNoParts Malformed pieces = (parts : List Part) → AreParts (spoken pieces) parts → ⊥
-IsNoParts BadName pieces = ⊥
-IsNoParts PrimitiveRefused pieces = ⊥
-IsNoParts RotationRefused pieces = ⊥
-IsNoParts SizeRefused pieces = ⊥
 
 -- a text stands for one macro at most
 abbrev pub OneReadingLaw : Type 0

@@ -1,15 +1,17 @@
 //! A macro as a file defines it.
 
-ghost use Rattle.std.specs.Prelude.{◌≡◌, filter, not, IfOk, IfErr};
+ghost use Rattle.std.specs.Prelude.{◌≡◌, IfOk, IfErr};
+ghost use Rattle.cam_words.specs.Heads.{packed};
 ghost use Rattle.cam_macros.specs.Answers.{IsUnlessMemory};
 ghost use Rattle.cam_macros.specs.Expansion.{expansion_of};
-ghost use Rattle.cam_macros.specs.Reading.{IsReading, IsRefused, counted, is_name, is_skipped};
+ghost use Rattle.cam_macros.specs.Reading.{IsReading, IsRefused, is_name};
 
 use crate::fault::MacroFault;
 use crate::number::cut;
 use crate::part::Parts;
 use crate::primitive::Prims;
 use cam_units::Unit;
+use cam_words::is_skipped;
 use std::alloc::{AllocError, Global};
 use std::marker::Model;
 
@@ -35,11 +37,28 @@ pub struct Macro {
 }
 
 impl Name {
-    /// The bytes in order.
-    pub fn as_bytes(&self) -> &[u8]
+    /// The vector of the bytes, in order.
+    pub fn into_vec(self) -> Vec<u8>
+        ensures { result.items ≡ self }
+    {
+        let Name { bytes } = self;
+        bytes
+    }
+
+    /// The bytes, in order.
+    pub fn as_slice(&self) -> &[u8]
         ensures { result.now ≡ self.now }
     {
         self.bytes.as_slice()
+    }
+
+    /// A copy; an error where no memory is left for it.
+    pub fn try_clone(&self, alloc: Global) -> Result<Name, AllocError>
+        ensures { IfOk result (λ name. name ≡ self.now) }
+    {
+        Ok(Name {
+            bytes: self.as_slice().to_vec(alloc)?,
+        })
     }
 }
 
@@ -52,7 +71,7 @@ impl Macro {
         ensures ok { IfOk result (λ made. IsReading text.now made.name made.parts) }
         ensures fault { IfErr result (IsRefused text.now) }
     {
-        let text = counted(alloc, text)?;
+        let text = packed(alloc, text)?;
         let (name, rest) = cut(text.as_slice(), b'*');
         if !is_name(name) {
             return Err(MacroFault::BadName);
@@ -77,20 +96,14 @@ impl Macro {
     }
 }
 
-/// The bytes that count.
-fn counted(alloc: Global, text: &[u8]) -> Result<Vec<u8>, AllocError>
-    ensures { IfOk result (λ bytes. bytes.items ≡ counted text.now) }
+/// The text without line ends, spaces and tabs, which do not count.
+fn packed(alloc: Global, text: &[u8]) -> Result<Vec<u8>, AllocError>
+    ensures { IfOk result (λ bytes. bytes.items ≡ packed text.now) }
 {
     text.iter()
         .copied()
         .filter(|b| !is_skipped(*b))
         .collect(alloc)
-}
-
-fn is_skipped(byte: u8) -> bool
-    ensures { result ≡ is_skipped byte }
-{
-    matches!(byte, b'\t' | b'\n' | b'\r' | b' ')
 }
 
 fn is_name(name: &[u8]) -> bool

@@ -1,15 +1,18 @@
 //! Whole numbers of 10^-9 units.
 
-ghost use Rattle.std.specs.Prelude.{◌≡◌, ◌<◌, ◌≤◌, ◌^◌, neg_ℤ, option_map, unsigned_abs, option_and_then};
+ghost use Rattle.std.specs.Prelude.{◌≡◌, ◌<◌, ◌≤◌, ◌^◌, ◌*ℤ◌, pos, neg_ℤ, option_map, unsigned_abs};
 ghost use Rattle.cam_units.specs.Nearest.{nearest_of};
 ghost use Rattle.cam_macros.specs.Arithmetic.{within, applied, quotient};
+ghost use Rattle.cam_macros.specs.Numbers.{billion};
 
 use crate::expression::Operator;
+use cam_units::Quotient;
 
 /// 10^6 units, in 10^-9 units: every value is less in absolute value.
 const LIMIT: u128 = 1_000_000_000_000_000;
 
-const BILLION: u64 = 1_000_000_000;
+/// One unit, in 10^-9 units.
+pub(crate) const BILLION: u64 = 1_000_000_000;
 
 /// A number in 10^-9 units.
 #[derive(Clone, Copy, Debug, PartialEq, Eq)]
@@ -28,32 +31,6 @@ pub(crate) struct Wide {
 pub(crate) struct Operands {
     pub(crate) left: Fixed,
     pub(crate) right: Fixed,
-}
-
-/// The quotient of two whole numbers.
-#[derive(Clone, Copy)]
-struct Ratio {
-    above: i128,
-    below: u64,
-}
-
-impl Ratio {
-    /// The nearest whole number, ties away from zero.
-    fn nearest(self) -> Wide
-        requires some { 0 < self.below }
-        requires short { unsigned_abs self.above ≤ 2 ^ 126 }
-        ensures { result.billionths ≡ nearest_of self.above self.below }
-    {
-        let below = u128::from(self.below);
-        let size = (2 * self.above.unsigned_abs() + below) / (2 * below);
-        Wide {
-            billionths: if self.above < 0 {
-                -(size as i128)
-            } else {
-                size as i128
-            },
-        }
-    }
 }
 
 impl Wide {
@@ -80,6 +57,14 @@ impl Fixed {
         }
     }
 
+    /// The number times 10^9.
+    fn scaled(self) -> i128
+        ensures value { result ≡ self.billionths *ℤ pos billion }
+        ensures short { unsigned_abs result ≤ 2 ^ 93 }
+    {
+        i128::from(self.billionths) * i128::from(BILLION)
+    }
+
     pub(crate) fn negative(self) -> Wide
         ensures { result.billionths ≡ neg_ℤ self.billionths }
     {
@@ -92,7 +77,8 @@ impl Fixed {
 impl Operands {
     /// The answer, products and quotients rounded to nearest; `None` where the divisor is 0.
     pub(crate) fn applied(self, operator: Operator) -> Option<Wide>
-        ensures { option_map (λ value. value.billionths) result ≡ applied operator self.left.billionths self.right.billionths }
+        ensures { option_map (λ value. value.billionths) result
+            ≡ applied operator self.left.billionths self.right.billionths }
     {
         let left = i128::from(self.left.billionths);
         let right = i128::from(self.right.billionths);
@@ -103,11 +89,10 @@ impl Operands {
             Operator::Subtract => Some(Wide {
                 billionths: left - right,
             }),
-            Operator::Multiply => Some(Ratio {
+            Operator::Multiply => Some(nearest(Quotient {
                 above: left * right,
                 below: BILLION,
-            }
-            .nearest()),
+            })),
             Operator::Divide => self.quotient(),
         }
     }
@@ -120,12 +105,24 @@ impl Operands {
         if below == 0 {
             return None;
         }
-        let left = i128::from(self.left.billionths);
+        let left = self.left.scaled();
         if self.right.billionths < 0 {
-            let above = -left * 1_000_000_000;
-            return Some(Ratio { above, below }.nearest());
+            return Some(nearest(Quotient {
+                above: -left,
+                below,
+            }));
         }
-        let above = left * 1_000_000_000;
-        Some(Ratio { above, below }.nearest())
+        Some(nearest(Quotient { above: left, below }))
+    }
+}
+
+/// The nearest whole number, ties away from zero.
+fn nearest(quotient: Quotient) -> Wide
+    requires some { 0 < quotient.below }
+    requires short { unsigned_abs quotient.above ≤ 2 ^ 126 }
+    ensures { result.billionths ≡ nearest_of quotient.above quotient.below }
+{
+    Wide {
+        billionths: quotient.nearest(),
     }
 }

@@ -1,18 +1,20 @@
 //! Primitives from the values of their fields.
 
-ghost use Rattle.std.specs.Prelude.{◌≡◌, ◌+◌, ◌*◌, ◌≤◌, ℤ, pos, map, length, unsigned_abs, ⊤, IfOk, IfErr};
+ghost use Rattle.std.specs.Prelude.{◌≡◌, ◌≤◌, length, unsigned_abs, IfOk, IfErr};
 ghost use Rattle.cam_macros.specs.Answers.{IsUnlessMemory};
-ghost use Rattle.cam_macros.specs.Expansion.{paint_of, rotation, coordinate_of, turn_of, size_of, point_of, points_of, disc_of, bar_of, rect_of, count_of, outline_through, outline_of, rect_turned};
-ghost use Rattle.cam_macros.specs.Values.{numbers};
+ghost use Rattle.cam_macros.specs.Expansion.{paint_of, rotation, coordinate_of, turn_of, size_of, point_of};
+ghost use Rattle.cam_macros.specs.Expansion.{points_of, disc_of, bar_of, rect_of, count_of, outline_through};
+ghost use Rattle.cam_macros.specs.Expansion.{outline_of, rect_turned};
+ghost use Rattle.cam_macros.specs.Machinery.Values.{numbers};
 
-use crate::arithmetic::Fixed;
+use crate::arithmetic::{BILLION, Fixed};
 use crate::fault::MacroFault;
-use crate::primitive::{Points, Prim, PrimShape};
+use crate::primitive::{MacroPrimitive, Points, PrimShape};
 use cam_units::{Nm, Point, Turn, Unit, fix9_nm};
 use std::alloc::Global;
 
 /// One unit.
-const UNIT: i64 = 1_000_000_000;
+const UNIT: i64 = BILLION as i64;
 
 /// 90 degrees.
 const QUARTER: u64 = 90_000_000_000;
@@ -81,11 +83,8 @@ impl Fixed {
         ensures value { result ≡ count_of self.billionths }
         ensures most { IfOk result (λ count. count ≤ 5000) }
     {
-        let count = self.billionths.unsigned_abs() / 1_000_000_000;
-        if self.billionths <= 0
-            || self.billionths.unsigned_abs() % 1_000_000_000 != 0
-            || count > 5_000
-        {
+        let count = self.billionths.unsigned_abs() / BILLION;
+        if self.billionths <= 0 || self.billionths.unsigned_abs() % BILLION != 0 || count > 5_000 {
             return Err(MacroFault::Malformed);
         }
         Ok(count as usize)
@@ -124,7 +123,7 @@ fn turn(fields: &[Fixed]) -> Result<Turn, MacroFault>
 
 /// A disc: exposure, diameter, x, y [, rotation].
 #[tactic(auto, using(crate::proofs::FieldLemmas::disc_short))]
-pub(crate) fn disc(unit: Unit, fields: &[Fixed]) -> Result<Prim, MacroFault>
+pub(crate) fn disc(unit: Unit, fields: &[Fixed]) -> Result<MacroPrimitive, MacroFault>
     ensures { result ≡ disc_of unit (numbers fields.now) }
 {
     let [exposure, diameter, x, y, more @ ..] = fields else {
@@ -134,7 +133,7 @@ pub(crate) fn disc(unit: Unit, fields: &[Fixed]) -> Result<Prim, MacroFault>
     let turn = turn(more)?;
     let diameter = diameter.size(unit)?;
     let centre = Place { x: *x, y: *y }.point(unit, turn)?;
-    Ok(Prim {
+    Ok(MacroPrimitive {
         paint,
         shape: PrimShape::Disc { centre, diameter },
     })
@@ -142,7 +141,7 @@ pub(crate) fn disc(unit: Unit, fields: &[Fixed]) -> Result<Prim, MacroFault>
 
 /// A bar: exposure, width, x1, y1, x2, y2 [, rotation].
 #[tactic(auto, using(crate::proofs::FieldLemmas::bar_short))]
-pub(crate) fn bar(unit: Unit, fields: &[Fixed]) -> Result<Prim, MacroFault>
+pub(crate) fn bar(unit: Unit, fields: &[Fixed]) -> Result<MacroPrimitive, MacroFault>
     ensures { result ≡ bar_of unit (numbers fields.now) }
 {
     let [exposure, width, x1, y1, x2, y2, more @ ..] = fields else {
@@ -153,7 +152,7 @@ pub(crate) fn bar(unit: Unit, fields: &[Fixed]) -> Result<Prim, MacroFault>
     let width = width.size(unit)?;
     let from = Place { x: *x1, y: *y1 }.point(unit, turn)?;
     let to = Place { x: *x2, y: *y2 }.point(unit, turn)?;
-    Ok(Prim {
+    Ok(MacroPrimitive {
         paint,
         shape: PrimShape::Bar { from, to, width },
     })
@@ -161,7 +160,7 @@ pub(crate) fn bar(unit: Unit, fields: &[Fixed]) -> Result<Prim, MacroFault>
 
 /// A rectangle: exposure, width, height, x, y [, rotation].
 #[tactic(auto, using(crate::proofs::FieldLemmas::rect_short))]
-pub(crate) fn rect(unit: Unit, fields: &[Fixed]) -> Result<Prim, MacroFault>
+pub(crate) fn rect(unit: Unit, fields: &[Fixed]) -> Result<MacroPrimitive, MacroFault>
     ensures { result ≡ rect_of unit (numbers fields.now) }
 {
     let [exposure, width, height, x, y, more @ ..] = fields else {
@@ -172,7 +171,7 @@ pub(crate) fn rect(unit: Unit, fields: &[Fixed]) -> Result<Prim, MacroFault>
     let width = width.size(unit)?;
     let height = height.size(unit)?;
     let centre = Place { x: *x, y: *y }.point(unit, turn)?;
-    Ok(Prim {
+    Ok(MacroPrimitive {
         paint,
         shape: turned_rect(turn, centre, width, height),
     })
@@ -198,7 +197,11 @@ fn turned_rect(turn: Turn, centre: Point, width: Nm, height: Nm) -> PrimShape
 
 /// An outline: exposure, n, n + 1 points [, rotation].
 #[tactic(auto, using(crate::proofs::FieldLemmas::outline_short))]
-pub(crate) fn outline(alloc: Global, unit: Unit, fields: &[Fixed]) -> Result<Prim, MacroFault>
+pub(crate) fn outline(
+    alloc: Global,
+    unit: Unit,
+    fields: &[Fixed],
+) -> Result<MacroPrimitive, MacroFault>
     ensures ok { IfOk result (λ prim. outline_of unit (numbers fields.now) ≡ Ok prim) }
     ensures fault { IfErr result (λ fault. IsUnlessMemory fault (outline_of unit (numbers fields.now))) }
 {
@@ -224,10 +227,12 @@ fn outline_through(
     unit: Unit,
     corners: Corners,
     fields: &[Fixed],
-) -> Result<Prim, MacroFault>
+) -> Result<MacroPrimitive, MacroFault>
     requires { corners.count ≤ 5000 }
-    ensures ok { IfOk result (λ prim. outline_through unit corners.paint corners.count (numbers fields.now) ≡ Ok prim) }
-    ensures fault { IfErr result (λ fault. IsUnlessMemory fault (outline_through unit corners.paint corners.count (numbers fields.now))) }
+    ensures ok { IfOk result (λ prim.
+        outline_through unit corners.paint corners.count (numbers fields.now) ≡ Ok prim) }
+    ensures fault { IfErr result (λ fault.
+        IsUnlessMemory fault (outline_through unit corners.paint corners.count (numbers fields.now))) }
 {
     let Corners { paint, count } = corners;
     if fields.len() < 2 * count + 2 {
@@ -235,7 +240,7 @@ fn outline_through(
     }
     let turn = turn(&fields[2 * count + 2..])?;
     let points = points(alloc, unit, turn, &fields[..2 * count])?;
-    Ok(Prim {
+    Ok(MacroPrimitive {
         paint,
         shape: PrimShape::Outline { points },
     })
@@ -252,5 +257,5 @@ fn points(alloc: Global, unit: Unit, turn: Turn, fields: &[Fixed]) -> Result<Poi
         points.push(Place { x: *x, y: *y }.point(unit, turn)?)?;
         rest = more;
     }
-    Ok(Points::new(points))
+    Ok(Points::from_vec(points))
 }

@@ -1,10 +1,10 @@
 //! Expressions and their values.
 
-ghost use Rattle.std.specs.Prelude.{◌≡◌, ◌∷◌, IfOk, IfErr};
+ghost use Rattle.std.specs.Prelude.{◌≡◌, IfOk, IfErr};
 ghost use Rattle.cam_macros.specs.Grammar.{IsExpression};
 ghost use Rattle.cam_macros.specs.Expansion.{worth};
-ghost use Rattle.cam_macros.specs.Answers.{IsUnlessMemory, IsNoExpression};
-ghost use Rattle.cam_macros.specs.Variables.{looked_up};
+ghost use Rattle.cam_macros.specs.Answers.{IsUnlessMemory, Nothing, Tells};
+ghost use Rattle.cam_macros.specs.Machinery.Variables.{looked_up};
 
 use crate::arithmetic::Fixed;
 use crate::fault::MacroFault;
@@ -44,14 +44,14 @@ pub struct Expression {
 
 impl Model for Expression {
     ghost use Rattle.cam_macros.specs.Tree.{Tree};
-    ghost use Rattle.cam_macros.specs.Postfix.{tree_code};
+    ghost use Rattle.cam_macros.specs.Machinery.Postfix.{tree_code};
 
     ghost Value = { Tree };
 
     ghost coded = { tree_code };
 
     ghost use Rattle.std.specs.Prelude.{◌≡◌};
-    ghost use Rattle.cam_macros.specs.Postfix.{tree_of, postfix};
+    ghost use Rattle.cam_macros.specs.Machinery.Postfix.{tree_of, postfix};
 
     ghost view = { λ expression. tree_of expression.steps.items };
 
@@ -61,10 +61,10 @@ impl Model for Expression {
 impl Expression {
     /// The expression of a text without the bytes that do not count; `Malformed` where the
     /// text is outside the grammar.
-    #[tactic(auto, using(crate::proofs::ExpressionLemmas::steps_are, crate::proofs::ExpressionLemmas::tree_is, crate::proofs::ExpressionLemmas::no_expression))]
+    #[tactic(auto, using(crate::proofs::ExpressionLemmas::kept_expressions))]
     pub(crate) fn parse(alloc: Global, text: &[u8]) -> Result<Expression, MacroFault>
         ensures ok { IfOk result (IsExpression text.now) }
-        ensures fault { IfErr result (λ fault. IsNoExpression fault text.now) }
+        ensures fault { IfErr result (λ fault. Tells fault (Nothing (IsExpression text.now))) }
     {
         let steps = steps(alloc, text)?;
         Ok(Expression { steps })
@@ -79,7 +79,8 @@ impl Expression {
         variables: &Variables<'_>,
     ) -> Result<Fixed, MacroFault>
         ensures ok { IfOk result (λ value. worth (looked_up variables.now) self.now ≡ Ok value.billionths) }
-        ensures fault { IfErr result (λ fault. IsUnlessMemory fault (worth (looked_up variables.now) self.now)) }
+        ensures fault { IfErr result (λ fault.
+            IsUnlessMemory fault (worth (looked_up variables.now) self.now)) }
     {
         evaluated(alloc, self.steps.as_slice(), variables)
     }

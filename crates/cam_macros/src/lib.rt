@@ -7,6 +7,7 @@ mod expansion;
 mod expression;
 mod fault;
 mod laws;
+mod mark;
 mod number;
 mod part;
 mod primitive;
@@ -19,7 +20,4 @@ pub use expression::{Expression, Operator};
 pub use fault::MacroFault;
 pub use laws::{texts_have_one_reading, texts_have_one_tree};
 pub use part::{Fields, Part, Parts};
-pub use primitive::{Points, Prim, PrimShape, Prims};
-
-#[cfg(test)]
-mod tests;
+pub use primitive::{MacroPrimitive, Points, PrimShape, Prims};

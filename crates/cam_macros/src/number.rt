@@ -1,16 +1,17 @@
 //! Numbers in decimal.
 
-ghost use Rattle.std.specs.Prelude.{◌≡◌, ◌<◌, ◌≤◌, ◌==◌, ◌∷◌, [], length, option_map, MatchOption, IfSome, min, if◌then◌else◌, Some, None};
+ghost use Rattle.std.specs.Prelude.{◌≡◌, ◌<◌, ◌≤◌, ◌==◌, ◌∷◌, [], length, MatchOption, IfSome, min};
+ghost use Rattle.std.specs.Prelude.{if◌then◌else◌, Some, None};
 ghost use Rattle.std.specs.List.{slice_split, list_all};
 ghost use Rattle.std.specs.Char.{is_ascii_digit};
 ghost use Rattle.cam_macros.specs.Numbers.{decimal, fraction};
 ghost use Rattle.cam_macros.specs.Reading.{pieces_between};
-ghost use Rattle.cam_macros.specs.Scanning.{number_at, number_of, variable_of};
+ghost use Rattle.cam_macros.specs.Machinery.Scanning.{number_at, number_of, variable_of};
+
+use crate::arithmetic::BILLION;
 
 /// A number with a whole part of a million or more has no value.
 const MILLION: u32 = 1_000_000;
-
-const BILLION: u64 = 1_000_000_000;
 
 /// What stands before the first such byte, and behind it.
 pub(crate) fn cut(text: &[u8], separator: u8) -> (&[u8], Option<&[u8]>)
@@ -19,7 +20,9 @@ pub(crate) fn cut(text: &[u8], separator: u8) -> (&[u8], Option<&[u8]>)
         (λ rest. slice_split (λ b. b == separator) text.now
         ≡ result.0.now ∷ slice_split (λ b. b == separator) rest.now) }
     ensures all { slice_split (λ b. b == separator) text.now ≡ result.0.now ∷ pieces_between separator result.1 }
-    ensures shorter { MatchOption result.1 (length result.0.now ≤ length text.now) (λ rest. length rest.now < length text.now) }
+    ensures shorter { MatchOption result.1
+        (length result.0.now ≤ length text.now)
+        (λ rest. length rest.now < length text.now) }
 {
     for (place, byte) in text.iter().enumerate() {
         if *byte == separator {
@@ -47,7 +50,8 @@ pub(crate) fn whole_number(digits: &[u8]) -> Option<u32>
 /// What decimals are worth in 10^-9 units; `None` where another byte stands among them.
 #[tactic(auto, using(crate::proofs::NumberLemmas::product_small))]
 fn decimals_worth(decimals: &[u8]) -> Option<u64>
-    ensures value { result ≡ (if list_all is_ascii_digit decimals.now then Some (fraction 100000000 decimals.now) else None) }
+    ensures value { result
+        ≡ (if list_all is_ascii_digit decimals.now then Some (fraction 100000000 decimals.now) else None) }
     ensures bound { IfSome result (λ worth. worth ≤ 23000000000) }
 {
     let mut value = 0;

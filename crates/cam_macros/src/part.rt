@@ -1,19 +1,22 @@
 //! The parts of a macro.
 
 ghost use Rattle.std.specs.Prelude.{◌≡◌, ◌∷◌, ℕ, Ok, OnOk, IfOk, IfErr};
-ghost use Rattle.cam_macros.specs.Answers.{IsUnlessMemory};
-ghost use Rattle.cam_macros.specs.Arithmetic.{Values};
-ghost use Rattle.cam_macros.specs.Expansion.{outcome, values_after, expansion_of, with_prims, all_worth, primitive_of, shape_of};
-ghost use Rattle.cam_macros.specs.Reading.{AreExpressions, AreParts, IsNoAssignment, IsNoFields, IsNoPart, IsNoParts, IsNoPrimitive, IsPart, is_silent, pieces_between, spoken};
-ghost use Rattle.cam_macros.specs.Values.{numbers};
-ghost use Rattle.cam_macros.specs.Variables.{looked_up};
+ghost use Rattle.cam_words.specs.Bytes.{star};
+ghost use Rattle.cam_macros.specs.Answers.{IsUnlessMemory, Nothing, Tells};
+ghost use Rattle.cam_macros.specs.Expansion.{outcome, values_after, expansion_of, with_prims};
+ghost use Rattle.cam_macros.specs.Expansion.{all_worth, primitive_of, shape_of};
+ghost use Rattle.cam_macros.specs.Bytes.{comma, dollar};
+ghost use Rattle.cam_macros.specs.Reading.{AreExpressions, AreParts, IsAssignment, IsPart, IsPrimitive};
+ghost use Rattle.cam_macros.specs.Reading.{is_silent, pieces_between, spoken};
+ghost use Rattle.cam_macros.specs.Machinery.Values.{numbers};
+ghost use Rattle.cam_macros.specs.Machinery.Variables.{looked_up};
 
 use crate::arithmetic::Fixed;
 use crate::expansion::{bar, disc, outline, rect};
 use crate::expression::Expression;
 use crate::fault::MacroFault;
 use crate::number::{cut, variable, whole_number};
-use crate::primitive::{Prim, Prims};
+use crate::primitive::{MacroPrimitive, Prims};
 use crate::variables::Variables;
 use cam_units::Unit;
 use std::alloc::Global;
@@ -29,7 +32,7 @@ impl Model for Fields {
     ghost use Rattle.std.specs.Prelude.{List};
     ghost use Rattle.std.specs.Coded.{coded_list};
     ghost use Rattle.cam_macros.specs.Tree.{Tree};
-    ghost use Rattle.cam_macros.specs.Postfix.{tree_code};
+    ghost use Rattle.cam_macros.specs.Machinery.Postfix.{tree_code};
 
     ghost Value = { List Tree };
 
@@ -70,8 +73,9 @@ impl Model for Parts {
 impl Fields {
     /// The expressions of the texts between commas; `Malformed` where one is outside the grammar.
     fn parse(alloc: Global, texts: Option<&[u8]>) -> Result<Fields, MacroFault>
-        ensures ok { IfOk result (AreExpressions (pieces_between 44 texts.entry)) }
-        ensures fault { IfErr result (λ fault. IsNoFields fault (pieces_between 44 texts.entry)) }
+        ensures ok { IfOk result (AreExpressions (pieces_between comma texts.entry)) }
+        ensures fault { IfErr result (λ fault.
+            Tells fault (Nothing (AreExpressions (pieces_between comma texts.entry)))) }
     {
         let mut items = Vec::new(alloc);
         let mut rest = texts;
@@ -85,8 +89,10 @@ impl Fields {
 
     /// The values in order.
     fn values(&self, alloc: Global, variables: &Variables<'_>) -> Result<Vec<Fixed>, MacroFault>
-        ensures ok { IfOk result (λ values. all_worth (looked_up variables.now) self.now ≡ Ok (numbers values.items)) }
-        ensures fault { IfErr result (λ fault. IsUnlessMemory fault (all_worth (looked_up variables.now) self.now)) }
+        ensures ok { IfOk result (λ values.
+            all_worth (looked_up variables.now) self.now ≡ Ok (numbers values.items)) }
+        ensures fault { IfErr result (λ fault.
+            IsUnlessMemory fault (all_worth (looked_up variables.now) self.now)) }
     {
         let mut values = Vec::new(alloc);
         for field in &self.items {
@@ -102,9 +108,11 @@ impl Fields {
         code: u32,
         variables: &Variables<'_>,
         unit: Unit,
-    ) -> Result<Prim, MacroFault>
-        ensures ok { IfOk result (λ prim. primitive_of (shape_of code) unit (looked_up variables.now) self.now ≡ Ok prim) }
-        ensures fault { IfErr result (λ fault. IsUnlessMemory fault (primitive_of (shape_of code) unit (looked_up variables.now) self.now)) }
+    ) -> Result<MacroPrimitive, MacroFault>
+        ensures ok { IfOk result (λ prim.
+            primitive_of (shape_of code) unit (looked_up variables.now) self.now ≡ Ok prim) }
+        ensures fault { IfErr result (λ fault.
+            IsUnlessMemory fault (primitive_of (shape_of code) unit (looked_up variables.now) self.now)) }
     {
         if !matches!(code, 1 | 2 | 4 | 20 | 21) {
             return Err(MacroFault::PrimitiveRefused);
@@ -123,7 +131,8 @@ impl Part {
     /// The primitive of a code and its fields.
     fn primitive(alloc: Global, piece: &[u8]) -> Result<Part, MacroFault>
         ensures ok { IfOk result (IsPart piece.now) }
-        ensures fault { IfErr result (λ fault. IsNoPrimitive fault piece.now) }
+        ensures fault { IfErr result (λ fault.
+            Tells fault ((code : ℕ) → Nothing (IsPrimitive piece.now code))) }
     {
         let (digits, texts) = cut(piece, b',');
         if digits.is_empty() {
@@ -141,8 +150,9 @@ impl Part {
 
     /// The assignment of which this stands behind `$`.
     fn assignment(alloc: Global, piece: &[u8]) -> Result<Part, MacroFault>
-        ensures ok { IfOk result (IsPart (36 ∷ piece.now)) }
-        ensures fault { IfErr result (λ fault. IsNoAssignment fault (36 ∷ piece.now)) }
+        ensures ok { IfOk result (IsPart (dollar ∷ piece.now)) }
+        ensures fault { IfErr result (λ fault.
+            Tells fault ((variable : ℕ) → Nothing (IsAssignment (dollar ∷ piece.now) variable))) }
     {
         let (digits, text) = cut(piece, b'=');
         let Some(text) = text else {
@@ -159,7 +169,7 @@ impl Part {
     /// outside the grammar.
     fn parse(alloc: Global, piece: &[u8]) -> Result<Part, MacroFault>
         ensures ok { IfOk result (IsPart piece.now) }
-        ensures fault { IfErr result (λ fault. IsNoPart fault piece.now) }
+        ensures fault { IfErr result (λ fault. Tells fault (Nothing (IsPart piece.now))) }
     {
         match piece {
             [b'$', behind @ ..] => Part::assignment(alloc, behind),
@@ -173,11 +183,14 @@ impl Part {
         alloc: Global,
         variables: &mut Variables<'_>,
         unit: Unit,
-        prims: &mut Vec<Prim>,
+        prims: &mut Vec<MacroPrimitive>,
     ) -> Result<(), MacroFault>
-        ensures made { OnOk result (with_prims prims.old.items (outcome unit (looked_up variables.old) self.now) ≡ Ok prims.new.items) }
-        ensures values { OnOk result ((n : ℕ) → looked_up variables.new n ≡ values_after (looked_up variables.old) self.now n) }
-        ensures fault { IfErr result (λ fault. IsUnlessMemory fault (outcome unit (looked_up variables.old) self.now)) }
+        ensures made { OnOk result
+            (with_prims prims.old.items (outcome unit (looked_up variables.old) self.now) ≡ Ok prims.new.items) }
+        ensures values { OnOk result
+            ((n : ℕ) → looked_up variables.new n ≡ values_after (looked_up variables.old) self.now n) }
+        ensures fault { IfErr result (λ fault.
+            IsUnlessMemory fault (outcome unit (looked_up variables.old) self.now)) }
     {
         match self {
             Part::Assignment { variable, value } => {
@@ -195,8 +208,9 @@ impl Part {
 impl Parts {
     /// The parts of the texts between stars, of which empty ones and comments are none.
     pub(crate) fn parse(alloc: Global, texts: Option<&[u8]>) -> Result<Parts, MacroFault>
-        ensures ok { IfOk result (AreParts (spoken (pieces_between 42 texts.entry))) }
-        ensures fault { IfErr result (λ fault. IsNoParts fault (pieces_between 42 texts.entry)) }
+        ensures ok { IfOk result (AreParts (spoken (pieces_between star texts.entry))) }
+        ensures fault { IfErr result (λ fault.
+            Tells fault (Nothing (AreParts (spoken (pieces_between star texts.entry))))) }
     {
         let mut items = Vec::new(alloc);
         let mut rest = texts;
@@ -225,7 +239,7 @@ impl Parts {
         for part in &self.items {
             part.expand(alloc, &mut variables, unit, &mut prims)?;
         }
-        Ok(Prims::new(prims))
+        Ok(Prims::from_vec(prims))
     }
 }
 

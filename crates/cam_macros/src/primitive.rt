@@ -49,7 +49,7 @@ pub enum PrimShape {
 
 /// A primitive, which paints or clears.
 #[derive(Debug, Drop)]
-pub struct Prim {
+pub struct MacroPrimitive {
     pub paint: bool,
     pub shape: PrimShape,
 }
@@ -57,27 +57,35 @@ pub struct Prim {
 /// The primitives of a macro, in order.
 #[derive(Debug, Drop)]
 pub struct Prims {
-    prims: Vec<Prim>,
+    prims: Vec<MacroPrimitive>,
 }
 
 impl Model for Prims {
     ghost use Rattle.std.specs.Prelude.{List};
-    ghost use Rattle.cam_macros.specs.declared.primitive.Prim.{Prim};
+    ghost use Rattle.cam_macros.specs.declared.primitive.MacroPrimitive.{MacroPrimitive};
 
-    ghost Value = { List Prim };
+    ghost Value = { List MacroPrimitive };
 
     ghost view = { λ list. list.prims.items };
 }
 
 impl Points {
-    /// These points.
-    pub fn new(points: Vec<Point>) -> Points
+    /// The points of a vector, in order.
+    pub fn from_vec(points: Vec<Point>) -> Points
         ensures { result ≡ points.items }
     {
         Points { points }
     }
 
-    /// The points in order.
+    /// The vector of the points, in order.
+    pub fn into_vec(self) -> Vec<Point>
+        ensures { result.items ≡ self }
+    {
+        let Points { points } = self;
+        points
+    }
+
+    /// The points, in order.
     pub fn as_slice(&self) -> &[Point]
         ensures { result.now ≡ self.now }
     {
@@ -86,15 +94,23 @@ impl Points {
 }
 
 impl Prims {
-    /// These primitives.
-    pub fn new(prims: Vec<Prim>) -> Prims
+    /// The primitives of a vector, in order.
+    pub fn from_vec(prims: Vec<MacroPrimitive>) -> Prims
         ensures { result ≡ prims.items }
     {
         Prims { prims }
     }
 
-    /// The primitives in order.
-    pub fn as_slice(&self) -> &[Prim]
+    /// The vector of the primitives, in order.
+    pub fn into_vec(self) -> Vec<MacroPrimitive>
+        ensures { result.items ≡ self }
+    {
+        let Prims { prims } = self;
+        prims
+    }
+
+    /// The primitives, in order.
+    pub fn as_slice(&self) -> &[MacroPrimitive]
         ensures { result.now ≡ self.now }
     {
         self.prims.as_slice()
@@ -106,7 +122,7 @@ impl Clone for Points {
 
     fn clone(&self) -> Result<Points, AllocError> {
         let points = self.points.clone()?;
-        Ok(Points::new(points))
+        Ok(Points::from_vec(points))
     }
 }
 
@@ -141,12 +157,12 @@ impl Clone for PrimShape {
     }
 }
 
-impl Clone for Prim {
+impl Clone for MacroPrimitive {
     ghost is_clone = { λ x y. y ≡ x };
 
-    fn clone(&self) -> Result<Prim, AllocError> {
+    fn clone(&self) -> Result<MacroPrimitive, AllocError> {
         let shape = self.shape.clone()?;
-        Ok(Prim {
+        Ok(MacroPrimitive {
             paint: self.paint,
             shape,
         })
@@ -158,6 +174,6 @@ impl Clone for Prims {
 
     fn clone(&self) -> Result<Prims, AllocError> {
         let prims = self.prims.clone()?;
-        Ok(Prims::new(prims))
+        Ok(Prims::from_vec(prims))
     }
 }

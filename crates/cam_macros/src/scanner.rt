@@ -1,14 +1,19 @@
 //! Expressions read from left to right into postfix order.
 
-ghost use Rattle.std.specs.Prelude.{◌≡◌, ◌≢◌, ◌+◌, ◌≤◌, ◌<◌, ◌∷◌, [], ◌++◌, OnOk, IfOk, IfErr, MatchResult, None, Some, length, take_while, drop, replicate, option_map};
+ghost use Rattle.std.specs.Prelude.{◌≡◌, ◌+◌, ◌≤◌, ◌<◌, ◌∷◌, ◌++◌, OnOk, IfOk, IfErr};
+ghost use Rattle.std.specs.Prelude.{Some, length, replicate, option_map};
 ghost use Rattle.std.specs.List.{prefix_len};
 ghost use Rattle.std.specs.Char.{is_ascii_digit};
-ghost use Rattle.cam_macros.specs.declared.fault.MacroFault.TheVariants.{Malformed, OutOfMemory};
 ghost use Rattle.cam_macros.specs.declared.expression.Step.TheVariants.{Negate};
-ghost use Rattle.cam_macros.specs.Scanning.{mark_of, is_numeric, scan, scanned, start, waiting, with_operand, with_step, with_minus, with_sum, with_term, charged, opened, closed, prefixed, number_then, variable_then, status_of, operator_at, finished, IsStep, IsFaultOf, Wanted, Behind};
+ghost use Rattle.cam_macros.specs.Machinery.Scanning.{is_numeric, scan, scanned, start, waiting};
+ghost use Rattle.cam_macros.specs.Machinery.Scanning.{with_operand, with_step, with_minus, with_sum, with_term};
+ghost use Rattle.cam_macros.specs.Machinery.Scanning.{charged, opened, closed, prefixed, number_then};
+ghost use Rattle.cam_macros.specs.Machinery.Scanning.{variable_then, status_of, operator_at, finished, IsStep};
+ghost use Rattle.cam_macros.specs.Machinery.Scanning.{IsFaultOf, Wanted, Behind};
 
 use crate::expression::{Operator, Step};
 use crate::fault::MacroFault;
+use crate::mark::{Mark, mark_of};
 use crate::number::{number, variable};
 use std::alloc::{AllocError, Global};
 use std::marker::Model;
@@ -18,20 +23,6 @@ const DEEPEST: u32 = 64;
 
 /// How many operators and signs an expression may have.
 const MOST_OPERATORS: u32 = 1_000;
-
-/// The kinds of bytes of an expression.
-#[derive(Clone, Copy)]
-enum Mark {
-    Numeral,
-    Dollar,
-    Open,
-    Close,
-    Plus,
-    Minus,
-    Times,
-    Over,
-    Other,
-}
 
 /// What waits for the next operand within a pair of parentheses.
 #[derive(Clone, Copy)]
@@ -67,32 +58,16 @@ struct Scanner {
 impl Model for Scanner {
     ghost use Rattle.std.specs.Prelude.{reverse};
     ghost use Rattle.cam_macros.specs.declared.expression.Step.TheVariants.{Negate};
-    ghost use Rattle.cam_macros.specs.Scanning.{Scan, scan_of};
+    ghost use Rattle.cam_macros.specs.Machinery.Scanning.{Scan, scan_of};
 
     ghost Value = { Scan };
 
     ghost view = { λ s. scan_of s.steps.items s.level (reverse s.outer.items) s.room s.budget };
 
     ghost use Rattle.cam_macros.specs.declared.expression.Step.TheVariants.{Negate};
-    ghost use Rattle.cam_macros.specs.Scanning.{IsScanner};
+    ghost use Rattle.cam_macros.specs.Machinery.Scanning.{IsScanner};
 
     ghost invariant = { λ s. IsScanner s.level s.outer.items s.room s.budget };
-}
-
-fn mark_of(byte: u8) -> Mark
-    ensures { result ≡ mark_of byte }
-{
-    match byte {
-        b'0'..=b'9' | b'.' => Mark::Numeral,
-        b'$' => Mark::Dollar,
-        b'(' => Mark::Open,
-        b')' => Mark::Close,
-        b'+' => Mark::Plus,
-        b'-' => Mark::Minus,
-        b'x' | b'X' => Mark::Times,
-        b'/' => Mark::Over,
-        _ => Mark::Other,
-    }
 }
 
 impl Scanner {
@@ -218,8 +193,10 @@ impl Scanner {
 
     /// Takes a number, with which the text begins.
     fn number<'a>(&mut self, text: &'a [u8]) -> Result<Rest<'a>, MacroFault>
-        ensures ok { IfOk result (λ rest. number_then self.old text.now ≡ scan (status_of rest.wanted) self.new rest.text.now) }
-        ensures shorter { IfOk result (λ rest. length rest.text.now + prefix_len is_numeric text.now ≡ length text.now) }
+        ensures ok { IfOk result (λ rest.
+            number_then self.old text.now ≡ scan (status_of rest.wanted) self.new rest.text.now) }
+        ensures shorter { IfOk result (λ rest.
+            length rest.text.now + prefix_len is_numeric text.now ≡ length text.now) }
         ensures fault { IfErr result (λ fault. IsFaultOf fault (number_then self.old text.now)) }
     {
         let (run, text) = text.split_at(numeric_len(text));
@@ -235,7 +212,8 @@ impl Scanner {
 
     /// Takes a variable's number, with which the text begins.
     fn variable<'a>(&mut self, text: &'a [u8]) -> Result<Rest<'a>, MacroFault>
-        ensures ok { IfOk result (λ rest. variable_then self.old text.now ≡ scan (status_of rest.wanted) self.new rest.text.now) }
+        ensures ok { IfOk result (λ rest.
+            variable_then self.old text.now ≡ scan (status_of rest.wanted) self.new rest.text.now) }
         ensures shorter { IfOk result (λ rest. length rest.text.now ≤ length text.now) }
         ensures fault { IfErr result (λ fault. IsFaultOf fault (variable_then self.old text.now)) }
     {
@@ -293,9 +271,10 @@ impl Scanner {
     }
 
     /// Takes what begins an operand.
-    #[tactic(auto, using(crate::proofs::Marks::numeral_is, crate::proofs::Marks::dollar_is, crate::proofs::Marks::prefix_is, crate::proofs::Marks::nothing_wanted, crate::proofs::Marks::prefix_faulty))]
+    #[tactic(auto, using(crate::proofs::Marks::operands))]
     fn operand<'a>(&mut self, text: &'a [u8]) -> Result<Rest<'a>, MacroFault>
-        ensures ok { IfOk result (λ rest. scan Wanted self.old text.now ≡ scan (status_of rest.wanted) self.new rest.text.now) }
+        ensures ok { IfOk result (λ rest.
+            scan Wanted self.old text.now ≡ scan (status_of rest.wanted) self.new rest.text.now) }
         ensures shorter { IfOk result (λ rest. length rest.text.now < length text.now) }
         ensures fault { IfErr result (λ fault. IsFaultOf fault (scan Wanted self.old text.now)) }
     {
@@ -316,9 +295,10 @@ impl Scanner {
     }
 
     /// Takes what stands behind an operand.
-    #[tactic(auto, using(crate::proofs::Marks::operator_is, crate::proofs::Marks::operator_faulty))]
+    #[tactic(auto, using(crate::proofs::Marks::operators))]
     fn operator<'a>(&mut self, first: u8, behind: &'a [u8]) -> Result<Rest<'a>, MacroFault>
-        ensures ok { IfOk result (λ rest. scan Behind self.old (first ∷ behind.now) ≡ scan (status_of rest.wanted) self.new rest.text.now) }
+        ensures ok { IfOk result (λ rest.
+            scan Behind self.old (first ∷ behind.now) ≡ scan (status_of rest.wanted) self.new rest.text.now) }
         ensures shorter { IfOk result (λ rest. length rest.text.now ≤ length behind.now) }
         ensures fault { IfErr result (λ fault. IsFaultOf fault (scan Behind self.old (first ∷ behind.now))) }
     {

@@ -3,9 +3,9 @@
 ghost use Rattle.std.specs.Prelude.{◌≡◌, [], ◌∷◌, Ok, Some, OnOk, IfOk, IfErr, MatchOption};
 ghost use Rattle.cam_macros.specs.Answers.{IsUnlessMemory};
 ghost use Rattle.cam_macros.specs.Arithmetic.{within};
-ghost use Rattle.cam_macros.specs.Scanning.{IsFaultOf};
-ghost use Rattle.cam_macros.specs.Stack.{put, stepped, run, answer};
-ghost use Rattle.cam_macros.specs.Variables.{looked_up};
+ghost use Rattle.cam_macros.specs.Machinery.Scanning.{IsFaultOf};
+ghost use Rattle.cam_macros.specs.Machinery.Stack.{put, stepped, run, answer};
+ghost use Rattle.cam_macros.specs.Machinery.Variables.{looked_up};
 
 use crate::arithmetic::{Fixed, Operands, Wide};
 use crate::expression::Step;
@@ -22,7 +22,7 @@ struct Stack {
 
 impl Model for Stack {
     ghost use Rattle.std.specs.Prelude.{List, ℤ};
-    ghost use Rattle.cam_macros.specs.Stack.{stack_of};
+    ghost use Rattle.cam_macros.specs.Machinery.Stack.{stack_of};
 
     ghost Value = { List ℤ };
 

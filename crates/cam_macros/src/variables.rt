@@ -2,7 +2,7 @@
 
 ghost use Rattle.std.specs.Prelude.{◌≡◌, ℕ, OnOk};
 ghost use Rattle.cam_macros.specs.Arithmetic.{setting, parameter};
-ghost use Rattle.cam_macros.specs.Variables.{looked_up};
+ghost use Rattle.cam_macros.specs.Machinery.Variables.{looked_up};
 
 use crate::arithmetic::Fixed;
 use std::alloc::{AllocError, Global};
@@ -45,7 +45,8 @@ impl<'a> Variables<'a> {
     }
 
     pub(crate) fn set(&mut self, variable: u32, value: Fixed) -> Result<(), AllocError>
-        ensures { OnOk result ((n : ℕ) → looked_up self.new n ≡ setting (looked_up self.old) variable value.billionths n) }
+        ensures { OnOk result
+            ((n : ℕ) → looked_up self.new n ≡ setting (looked_up self.old) variable value.billionths n) }
     {
         self.set.insert(variable, value)?;
         Ok(())

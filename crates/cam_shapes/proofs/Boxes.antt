@@ -1,5 +1,6 @@
 -- Places outside a box of a contour's points.
-use Rattle.std.proofs.Common.{◌≡◌, ℕ, ◌+◌, ◌%◌, ℤ, pos, ◌+ℤ◌, ◌-ℤ◌, ◌*ℤ◌, ◌≤ℤ◌, ◌<ℤ◌, inl, inr, Bool, true, false, List, [], ◌∷◌, count_by, refl, ap, ◌∙◌, sym, arith}
+use Rattle.std.proofs.Common.{◌≡◌, ℕ, ◌+◌, ◌%◌, ℤ, pos, ◌+ℤ◌, ◌-ℤ◌, ◌*ℤ◌, ◌≤ℤ◌, ◌<ℤ◌, inl, inr, Bool, true, false}
+use Rattle.std.proofs.Common.{List, [], ◌∷◌, count_by, refl, ap, ◌∙◌, sym, arith}
 use Rattle.std.specs.Prelude.{All, Any}
 use Rattle.std.proofs.Common.{◌||◌}
 use Rattle.std.specs.List.{list_any}
@@ -18,11 +19,12 @@ use Rattle.cam_shapes.specs.declared.contour.Contour.{Contour}
 use Rattle.cam_shapes.specs.Plane.{place_of}
 use Rattle.cam_shapes.specs.Edge.{edge, crosses_ray, is_above, side}
 use Rattle.cam_shapes.specs.Contour.{caps_of, edges_from, edges_of, end_of, ContourBoxLaw, HasPointsIn, IsInContour}
-use Rattle.cam_shapes.specs.Sides.{differ}
+use Rattle.cam_shapes.specs.Machinery.Sides.{differ}
 use Rattle.cam_shapes.proofs.Crossings.{not_under, product_above, product_least, under}
 use Rattle.cam_shapes.proofs.Parity.{count_by-cons, one_if}
 
-one_before : (b g h : Bool) (k m : ℕ) → k ≡ one_if b + m → m % 2 ≡ one_if (differ g h) → k % 2 ≡ one_if (differ b (differ g h))
+one_before : (b g h : Bool) (k m : ℕ) → k ≡ one_if b + m → m % 2 ≡ one_if (differ g h)
+    → k % 2 ≡ one_if (differ b (differ g h))
 one_before true true true k m e f = omega arith
 one_before true true false k m e f = omega arith
 one_before true false true k m e f = omega arith
@@ -63,7 +65,8 @@ round s P g tells start here (seg ∷ segs) at_start at_here ends =
     let at_next : P next = All-head (λ x. P (end_of x)) seg segs ends in
     let rest = round s P g tells start next segs at_start at_next (All-tail (λ x. P (end_of x)) seg segs ends) in
     one_before (crosses_ray s (edge here next)) (g next) (g start)
-    (count_by (crosses_ray s) (edge here next ∷ edges_from start next segs)) (count_by (crosses_ray s) (edges_from start next segs))
+    (count_by (crosses_ray s) (edge here next ∷ edges_from start next segs))
+    (count_by (crosses_ray s) (edges_from start next segs))
     (count_by-cons (crosses_ray s) (edge here next) (edges_from start next segs)) rest
     ∙ ap (λ b. one_if (differ b (differ (g next) (g start)))) (tells here next at_here at_next)
     ∙ ap (λ b. one_if b) (joined (g here) (g next) (g start))
@@ -98,33 +101,41 @@ abbrev sum_of : Polynomial → Polynomial → Polynomial → Polynomial → Poly
 sum_of u w v z = Sum (Product u w) (Product v z)
 
 left_rising_is : (s : Spot) (p q : Point)
-    → side s (edge p q) ≡ over_ends (gap s.x (twice p.x)) (gap s.y (twice q.y)) (gap s.x (twice q.x)) (gap (twice p.y) s.y)
+    → side s (edge p q) ≡ over_ends (gap s.x (twice p.x)) (gap s.y (twice q.y)) (gap s.x (twice q.x))
+    (gap (twice p.y) s.y)
 left_rising_is s p q =
     equal (side_of s p q)
-    (sum_of (Difference (two p.x) (Atom s.x)) (Difference (two q.y) (Atom s.y)) (Difference (two q.x) (Atom s.x)) (Difference (Atom s.y) (two p.y)))
+    (sum_of (Difference (two p.x) (Atom s.x)) (Difference (two q.y) (Atom s.y)) (Difference (two q.x) (Atom s.x))
+    (Difference (Atom s.y) (two p.y)))
     (omega arith)
 
 left_falling_is : (s : Spot) (p q : Point)
-    → side s (edge p q) ≡ pos 0 -ℤ over_ends (gap s.x (twice p.x)) (gap (twice q.y) s.y) (gap s.x (twice q.x)) (gap s.y (twice p.y))
+    → side s (edge p q) ≡ pos 0 -ℤ over_ends (gap s.x (twice p.x)) (gap (twice q.y) s.y) (gap s.x (twice q.x))
+    (gap s.y (twice p.y))
 left_falling_is s p q =
     equal (side_of s p q)
     (Difference (Atom (pos 0))
-    (sum_of (Difference (two p.x) (Atom s.x)) (Difference (Atom s.y) (two q.y)) (Difference (two q.x) (Atom s.x)) (Difference (two p.y) (Atom s.y))))
+    (sum_of (Difference (two p.x) (Atom s.x)) (Difference (Atom s.y) (two q.y)) (Difference (two q.x) (Atom s.x))
+    (Difference (two p.y) (Atom s.y))))
     (omega arith)
 
 right_rising_is : (s : Spot) (p q : Point)
-    → side s (edge p q) ≡ pos 0 -ℤ over_ends (gap (twice p.x) s.x) (gap s.y (twice q.y)) (gap (twice q.x) s.x) (gap (twice p.y) s.y)
+    → side s (edge p q) ≡ pos 0 -ℤ over_ends (gap (twice p.x) s.x) (gap s.y (twice q.y)) (gap (twice q.x) s.x)
+    (gap (twice p.y) s.y)
 right_rising_is s p q =
     equal (side_of s p q)
     (Difference (Atom (pos 0))
-    (sum_of (Difference (Atom s.x) (two p.x)) (Difference (two q.y) (Atom s.y)) (Difference (Atom s.x) (two q.x)) (Difference (Atom s.y) (two p.y))))
+    (sum_of (Difference (Atom s.x) (two p.x)) (Difference (two q.y) (Atom s.y)) (Difference (Atom s.x) (two q.x))
+    (Difference (Atom s.y) (two p.y))))
     (omega arith)
 
 right_falling_is : (s : Spot) (p q : Point)
-    → side s (edge p q) ≡ over_ends (gap (twice p.x) s.x) (gap (twice q.y) s.y) (gap (twice q.x) s.x) (gap s.y (twice p.y))
+    → side s (edge p q) ≡ over_ends (gap (twice p.x) s.x) (gap (twice q.y) s.y) (gap (twice q.x) s.x)
+    (gap s.y (twice p.y))
 right_falling_is s p q =
     equal (side_of s p q)
-    (sum_of (Difference (Atom s.x) (two p.x)) (Difference (Atom s.y) (two q.y)) (Difference (Atom s.x) (two q.x)) (Difference (two p.y) (Atom s.y)))
+    (sum_of (Difference (Atom s.x) (two p.x)) (Difference (Atom s.y) (two q.y)) (Difference (Atom s.x) (two q.x))
+    (Difference (two p.y) (Atom s.y)))
     (omega arith)
 
 above : (a b : ℤ) → a <ℤ b → pos 0 <ℤ gap a b

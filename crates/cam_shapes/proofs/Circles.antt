@@ -1,5 +1,6 @@
 -- Sweeps, and distances from a circle.
-use Rattle.std.proofs.Common.{◌≡◌, ◌↔◌, ◌<◌, ◌^◌, Bool, IsTrue, ℤ, pos, ◌+ℤ◌, ◌-ℤ◌, ◌*ℤ◌, ◌≤ℤ◌, ◌<ℤ◌, inl, inr, ◌∙◌, arith}
+use Rattle.std.proofs.Common.{◌≡◌, ◌↔◌, ◌<◌, ◌^◌, Bool, IsTrue, ℤ, pos, ◌+ℤ◌, ◌-ℤ◌, ◌*ℤ◌, ◌≤ℤ◌, ◌<ℤ◌, inl, inr, ◌∙◌}
+use Rattle.std.proofs.Common.{arith}
 use Rattle.std.proofs.lemmas.Int.{ints}
 use Rattle.std.specs.Int.RustNames.{unsigned_abs}
 use Rattle.cam_units.proofs.Ring.{Polynomial, Atom, Sum, Difference, Product, equal}
@@ -32,7 +33,8 @@ at_most_same a b c d e = ((λ h. omega (arith, ints)), (λ h. omega (arith, ints
 pub same_inequality : (p q s : ℤ)
     → (square (p +ℤ q -ℤ s) ≤ℤ (pos 4 *ℤ p *ℤ q)) ↔ (square (p -ℤ q -ℤ s) ≤ℤ (pos 4 *ℤ s *ℤ q))
 same_inequality p q s =
-    at_most_same (square (p +ℤ q -ℤ s)) (pos 4 *ℤ p *ℤ q) (square (p -ℤ q -ℤ s)) (pos 4 *ℤ s *ℤ q) (same_difference p q s)
+    at_most_same (square (p +ℤ q -ℤ s)) (pos 4 *ℤ p *ℤ q) (square (p -ℤ q -ℤ s)) (pos 4 *ℤ s *ℤ q)
+    (same_difference p q s)
 
 through : {A B C : Type 0} → (A ↔ B) → (C ↔ B) → A ↔ C
 through f g = ((λ a. g.1 (f.0 a)), (λ c. f.1 (g.0 c)))

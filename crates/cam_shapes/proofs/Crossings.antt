@@ -1,5 +1,6 @@
 -- Where edges cross a height.
-use Rattle.std.proofs.Common.{◌≡◌, ◌↔◌, ℕ, ◌<◌, ℤ, pos, negsuc, ◌-ℤ◌, ◌*ℤ◌, ◌≤ℤ◌, ◌<ℤ◌, ◌⊎◌, inl, inr, true, false, IsTrue, sym, arith}
+use Rattle.std.proofs.Common.{◌≡◌, ◌↔◌, ℕ, ◌<◌, ℤ, pos, negsuc, ◌-ℤ◌, ◌*ℤ◌, ◌≤ℤ◌, ◌<ℤ◌, ◌⊎◌, inl, inr, true, false}
+use Rattle.std.proofs.Common.{IsTrue, sym, arith}
 use Rattle.std.proofs.lemmas.Int.{ints, by_lt_z}
 use Rattle.std.proofs.Math.IntN.{*ℤ_comm}
 use Rattle.std.proofs.lemmas.Bool.{false≢true}
@@ -24,11 +25,13 @@ through f g = ((λ a. g.0 (f.0 a)), (λ c. f.1 (g.1 c)))
 -- the height is from a up to below b
 rising_is : (s : Spot) (e : Edge) → IsRising s e → IsTrue (crosses_ray s e) ↔ pos 0 <ℤ side s e
 rising_is s e h =
-    rw (not_under s.y (pos 2 *ℤ e.from.y) h.from_start, under s.y (pos 2 *ℤ e.to.y) h.to_end) (less_is (pos 0) (side s e))
+    rw (not_under s.y (pos 2 *ℤ e.from.y) h.from_start, under s.y (pos 2 *ℤ e.to.y) h.to_end)
+    (less_is (pos 0) (side s e))
 
 falling_is : (s : Spot) (e : Edge) → IsFalling s e → IsTrue (crosses_ray s e) ↔ side s e <ℤ pos 0
 falling_is s e h =
-    rw (under s.y (pos 2 *ℤ e.from.y) h.from_start, not_under s.y (pos 2 *ℤ e.to.y) h.to_end) (less_is (side s e) (pos 0))
+    rw (under s.y (pos 2 *ℤ e.from.y) h.from_start, not_under s.y (pos 2 *ℤ e.to.y) h.to_end)
+    (less_is (side s e) (pos 0))
 
 -- the side is how far the crossing lies right of the place, times the rise
 side_is : (s : Spot) (e : Edge) → side s e ≡ crossing s e -ℤ s.x *ℤ rise e
@@ -103,9 +106,12 @@ apart a b d e h k = omega (arith, ints)
 
 scaled : (u v r : ℤ) → pos 0 <ℤ r → (u <ℤ v) ↔ ((u *ℤ r) <ℤ (v *ℤ r))
 scaled u v r some = (
-  (λ h. back_more (u *ℤ r) (v *ℤ r) ((v -ℤ u) *ℤ r) (product_difference u v r) (product_above (v -ℤ u) r (more u v h) some)),
+  (λ h. back_more (u *ℤ r) (v *ℤ r) ((v -ℤ u) *ℤ r) (product_difference u v r)
+      (product_above (v -ℤ u) r (more u v h) some)),
   (λ h. by_lt_z u v (λ less. less)
-      (λ most. absurd (apart (v *ℤ r) (u *ℤ r) ((u -ℤ v) *ℤ r) (product_difference v u r) (product_least (u -ℤ v) r (least v u most) some) h))),
+      (λ most. absurd
+      (apart (v *ℤ r) (u *ℤ r) ((u -ℤ v) *ℤ r) (product_difference v u r)
+      (product_least (u -ℤ v) r (least v u most) some) h))),
 )
 
 opposite : (r : ℤ) → r <ℤ pos 0 → pos 0 <ℤ (pos 0 -ℤ r)

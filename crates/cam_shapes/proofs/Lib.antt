@@ -8,3 +8,5 @@ pub mod Strokes
 pub mod Crossings
 pub mod Boxes
 pub mod Caps
+pub mod TestLaws
+pub mod Ends

@@ -1,5 +1,6 @@
 -- Odd counts, and tests that change a side.
-use Rattle.std.proofs.Common.{◌≡◌, ◌↔◌, ℕ, ◌+◌, ◌%◌, Bool, true, false, cond, IsTrue, List, [], ◌∷◌, count_by, refl, ap, ◌∙◌, sym, arith}
+use Rattle.std.proofs.Common.{◌≡◌, ◌↔◌, ℕ, ◌+◌, ◌%◌, Bool, true, false, cond, IsTrue, List, [], ◌∷◌, count_by, refl}
+use Rattle.std.proofs.Common.{ap, ◌∙◌, sym, arith}
 use Rattle.std.proofs.lemmas.Bool.{false≢true}
 use Rattle.std.proofs.lemmas.List.Sums.{sum_by-cons}
 use Rattle.cam_units.specs.declared.point.Point.{Point}
@@ -11,12 +12,13 @@ use Rattle.cam_shapes.specs.declared.contour.Contour.{Contour}
 use Rattle.cam_shapes.specs.Edge.{edge, crosses_ray}
 use Rattle.cam_shapes.specs.Cap.{is_in_cap}
 use Rattle.cam_shapes.specs.Contour.{caps_from, edges_from, IsInContour}
-use Rattle.cam_shapes.specs.Sides.{change_side, differ}
+use Rattle.cam_shapes.specs.Machinery.Sides.{change_side, differ}
 
 abbrev pub one_if : Bool → ℕ
 one_if b = cond b 1 0
 
-pub count_by-cons : {X : Type 0} (p : X → Bool) (x : X) (xs : List X) → count_by p (x ∷ xs) ≡ one_if (p x) + count_by p xs
+pub count_by-cons : {X : Type 0} (p : X → Bool) (x : X) (xs : List X)
+    → count_by p (x ∷ xs) ≡ one_if (p x) + count_by p xs
 count_by-cons p x xs = sum_by-cons (λ y. one_if (p y)) x xs
 
 one_more : (b t : Bool) (k m n : ℕ) → k ≡ one_if b + m → (m + n) % 2 ≡ one_if t → (k + n) % 2 ≡ one_if (differ b t)
@@ -53,7 +55,8 @@ parity s start here (Line to ∷ segs) =
 parity s start here (Curve to centre ccw ∷ segs) =
     let cap : Cap = record { from = here; to = to; centre = centre; ccw = ccw } in
     two_more (crosses_ray s (edge here to)) (is_in_cap s cap) (change_side s start to segs)
-    (count_by (crosses_ray s) (edge here to ∷ edges_from start to segs)) (count_by (is_in_cap s) (cap ∷ caps_from to segs))
+    (count_by (crosses_ray s) (edge here to ∷ edges_from start to segs))
+    (count_by (is_in_cap s) (cap ∷ caps_from to segs))
     (count_by (crosses_ray s) (edges_from start to segs)) (count_by (is_in_cap s) (caps_from to segs))
     (count_by-cons (crosses_ray s) (edge here to) (edges_from start to segs))
     (count_by-cons (is_in_cap s) cap (caps_from to segs))

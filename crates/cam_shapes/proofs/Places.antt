@@ -1,10 +1,14 @@
 -- Points that are moved.
-use Rattle.std.proofs.Common.{◌≡◌, ◌+ℤ◌, ap, ◌∙◌, arith}
-use Rattle.std.proofs.lemmas.Int.{ints}
+use Rattle.std.proofs.Common.{◌≡◌, ◌<◌, ◌^◌, ℤ, ◌+ℤ◌, FitsSigned, w64, ap, ◌∙◌, arith}
+use Rattle.std.proofs.lemmas.Int.{ints, fits_signed_from_abs}
+use Rattle.std.specs.Int.RustNames.{unsigned_abs}
 use Rattle.cam_units.specs.declared.point.Point.{Point}
 use Rattle.cam_units.specs.Board.{IsOnBoard}
+use Rattle.cam_units.specs.declared.turn.Turn.{Turn}
+use Rattle.cam_units.specs.declared.turn.Turn.TheVariants.{R0, R90, R180, R270, M0, M90, M180, M270}
+use Rattle.cam_units.specs.Turns.{applied, matrix_of, IsTurnable}
 use Rattle.cam_units.proofs.TurnLaws.{same_point}
-use Rattle.cam_shapes.specs.Placing.{IsOffset}
+use Rattle.cam_shapes.specs.Placing.{IsOffset, IsPlaceablePoint}
 use Rattle.cam_shapes.proofs.Widths.{narrow}
 
 abbrev pub sum_of : Point → Point → Point
@@ -18,3 +22,38 @@ pub kept_sum : (q a o : Point) → IsOnBoard q → IsOffset o → q ≡ a → co
 kept_sum q a o on_board offset e =
     same_point (computed_sum q o) (sum_of q o) (omega (arith, ints)) (omega (arith, ints))
     ∙ ap (λ p. sum_of p o) e
+
+pub turnable : (p : Point) → IsOnBoard p → IsTurnable p
+turnable p h = record { x = omega (arith, h.x); y = omega (arith, h.y) }
+
+short_sum : (a b : ℤ) → unsigned_abs a < 1000000000 → unsigned_abs b < 2000000000 → unsigned_abs (a +ℤ b) < 2 ^ 63
+short_sum a b p q = omega (arith, ints)
+
+pub sum_fits : (a b : ℤ) → unsigned_abs a < 1000000000 → unsigned_abs b < 2000000000
+    → FitsSigned w64 (narrow a +ℤ narrow b)
+sum_fits a b p q =
+    let first : narrow a ≡ a = omega (arith, ints) in
+    let second : narrow b ≡ b = omega (arith, ints) in
+    rw (first, second) (fits_signed_from_abs w64 (a +ℤ b) (short_sum a b p q))
+
+-- a turn keeps a point on the board
+on_board_turned : (t : Turn) (p : Point) → IsOnBoard p → IsOnBoard (applied (matrix_of t) p)
+on_board_turned R0 p h = record { x = omega (arith, ints, h.x); y = omega (arith, ints, h.y) }
+on_board_turned R90 p h = record { x = omega (arith, ints, h.y); y = omega (arith, ints, h.x) }
+on_board_turned R180 p h = record { x = omega (arith, ints, h.x); y = omega (arith, ints, h.y) }
+on_board_turned R270 p h = record { x = omega (arith, ints, h.y); y = omega (arith, ints, h.x) }
+on_board_turned M0 p h = record { x = omega (arith, ints, h.x); y = omega (arith, ints, h.y) }
+on_board_turned M90 p h = record { x = omega (arith, ints, h.y); y = omega (arith, ints, h.x) }
+on_board_turned M180 p h = record { x = omega (arith, ints, h.x); y = omega (arith, ints, h.y) }
+on_board_turned M270 p h = record { x = omega (arith, ints, h.y); y = omega (arith, ints, h.x) }
+
+difference_short : (a b : ℤ) → unsigned_abs a < 1000000000 → unsigned_abs (a +ℤ b) < 1000000000
+    → unsigned_abs b < 2000000000
+difference_short a b p q = omega (arith, ints)
+
+-- what places a point of the board on the board is such an offset
+pub offset_short : (t : Turn) (o p : Point) → IsPlaceablePoint t o p → IsOffset o
+offset_short t o p h =
+    let q = applied (matrix_of t) p in
+    let turned = on_board_turned t p h.here in
+    record { x = difference_short q.x o.x turned.x h.there.x; y = difference_short q.y o.y turned.y h.there.y }

@@ -1,5 +1,6 @@
 -- Arc strokes lie in squares.
-use Rattle.std.proofs.Common.{arith, inl, inr, negsuc, pos, refl, ℕ, ℤ, ◌*◌, ◌+ℤ◌, ◌+◌, ◌-ℤ◌, ◌-◌, ◌<ℤ◌, ◌<◌, ◌↔◌, ◌≡◌, ◌≤◌}
+use Rattle.std.proofs.Common.{arith, inl, inr, negsuc, pos, refl, ℕ, ℤ, ◌*◌, ◌+ℤ◌, ◌+◌, ◌-ℤ◌, ◌-◌, ◌<ℤ◌, ◌<◌, ◌↔◌}
+use Rattle.std.proofs.Common.{◌≡◌, ◌≤◌}
 use Rattle.std.proofs.lemmas.Int.{ints}
 use Rattle.std.proofs.lemmas.Bool.{cases_lt}
 use Rattle.std.proofs.lemmas.Nat.{mul-le, mul-lt}
@@ -31,7 +32,8 @@ not_beyond p q r m inside far (inr between) =
     omega (arith, ints, beyond p q r m inside far)
 
 pub squares_order : (x n : ℕ) → x * x ≤ n * n → x ≤ n
-squares_order x n h = elim (cases_lt n x) [ inl less ↦ absurd (omega (arith, mul-lt n n x x less less)) | inr most ↦ most ]
+squares_order x n h =
+    elim (cases_lt n x) [ inl less ↦ absurd (omega (arith, mul-lt n n x x less less)) | inr most ↦ most ]
 
 within : (p q r m : ℕ) → q < m * m → IsNearCircle (pos p) (pos q) (pos r) → p ≤ (m + r) * (m + r)
 within p q r m inside near =

@@ -1,10 +1,12 @@
 -- Products of short numbers, as 128 bits compute them.
-use Rattle.std.proofs.Common.{◌*◌, ◌≡◌, ◌^◌, ◌<◌, ◌≤◌, ◌↔◌, IsTrue, Bool, ℤ, pos, negsuc, ◌≤ℤ◌, refl, ◌+ℤ◌, ◌-ℤ◌, ◌*ℤ◌, FitsSigned, to_z, of_z, w64, arith, ◌∙◌}
+use Rattle.std.proofs.Common.{◌*◌, ◌≡◌, ◌^◌, ◌<◌, ◌≤◌, ◌↔◌, IsTrue, Bool, ℤ, pos, negsuc, ◌≤ℤ◌, refl, ◌+ℤ◌, ◌-ℤ◌}
+use Rattle.std.proofs.Common.{◌*ℤ◌, FitsSigned, to_z, of_z, w64, arith, ◌∙◌}
 use Rattle.std.specs.Int.{w128}
 use lib.Signed.{le_z}
 use Rattle.std.proofs.lemmas.Int.{ints, unsigned_abs-mul, fits_signed_from_abs}
 use Rattle.std.proofs.lemmas.Nat.{mul-le, mul-lt}
 use Rattle.std.specs.Int.RustNames.{unsigned_abs}
+use Rattle.cam_units.specs.Board.{IsSize}
 use Rattle.cam_shapes.specs.declared.vector.Vector.{Vector}
 use Rattle.cam_shapes.specs.Plane.{IsShort, cross, dot, square}
 
@@ -50,6 +52,41 @@ kept_product a b r t p q e f =
     let product : unsigned_abs (a *ℤ b) < 2 ^ 66 = short_product a b p q in
     rw (ea, eb, wa, wb) (kept_wide (a *ℤ b) (omega arith))
 
+pub kept_factors : (a b r t : ℤ) → unsigned_abs a < 2 ^ 33 → unsigned_abs b < 2 ^ 33
+    → r ≡ narrow a → t ≡ narrow b → wide r *ℤ wide t ≡ a *ℤ b
+kept_factors a b r t p q e f =
+    let ea : r ≡ a = e ∙ kept_narrow a p in
+    let eb : t ≡ b = f ∙ kept_narrow b q in
+    rw (ea, eb, kept_wide a (omega arith), kept_wide b (omega arith)) refl
+
+-- a size, and its square
+pub short_size : (z : ℤ) → IsSize z → unsigned_abs z < 2 ^ 28
+short_size z h = omega (arith, ints, h.0, h.1)
+
+pub size_square : (z : ℤ) → IsSize z → unsigned_abs (square z) < 2 ^ 56
+size_square z h =
+    let n = unsigned_abs z in
+    omega (arith, unsigned_abs-mul z z, mul-lt n n (2 ^ 28) (2 ^ 28) (short_size z h) (short_size z h))
+
+-- the product of the square of a size and of a product of two coordinates
+pub long_product : (a b : ℤ) → unsigned_abs a < 2 ^ 56 → unsigned_abs b < 2 ^ 67 → unsigned_abs (a *ℤ b) < 2 ^ 123
+long_product a b p q =
+    omega (arith, unsigned_abs-mul a b, mul-lt (unsigned_abs a) (unsigned_abs b) (2 ^ 56) (2 ^ 67) p q)
+
+long_factors : (a b : ℤ) → unsigned_abs a < 2 ^ 56 → unsigned_abs b < 2 ^ 67 → wide a *ℤ wide b ≡ a *ℤ b
+long_factors a b p q = rw (kept_wide a (omega arith), kept_wide b (omega arith)) refl
+
+pub kept_long_product : (a b : ℤ) → unsigned_abs a < 2 ^ 56 → unsigned_abs b < 2 ^ 67 → wide (wide a *ℤ wide b) ≡ a *ℤ b
+kept_long_product a b p q =
+    let bound : unsigned_abs (a *ℤ b) < 2 ^ 123 = long_product a b p q in
+    rw (long_factors a b p q) (kept_wide (a *ℤ b) (omega arith))
+
+pub long_product_fits : (a b : ℤ) → unsigned_abs a < 2 ^ 56 → unsigned_abs b < 2 ^ 67
+    → FitsSigned w128 (wide a *ℤ wide b)
+long_product_fits a b p q =
+    let bound : unsigned_abs (a *ℤ b) < 2 ^ 123 = long_product a b p q in
+    rw (long_factors a b p q) (fits_signed_from_abs w128 (a *ℤ b) (omega arith))
+
 sum_bound : (p q : ℤ) → unsigned_abs p < 2 ^ 66 → unsigned_abs q < 2 ^ 66 → unsigned_abs (p +ℤ q) < 2 ^ 67
 sum_bound p q h k = omega (arith, ints)
 
@@ -94,7 +131,7 @@ differences_fit a b c p q r =
 kept_sum : (a b : ℤ) → unsigned_abs a < 2 ^ 67 → unsigned_abs b < 2 ^ 67 → wide (wide a +ℤ wide b) ≡ a +ℤ b
 kept_sum a b p q = omega (arith, ints)
 
-at_most_is : (a b : ℤ) → IsTrue (le_z a b) ↔ a ≤ℤ b
+pub at_most_is : (a b : ℤ) → IsTrue (le_z a b) ↔ a ≤ℤ b
 at_most_is a b = ((λ h. grind (arith, ints)), (λ h. grind (arith, ints)))
 
 pub passed_sum : (a b c u v w : ℤ) → unsigned_abs a < 2 ^ 67 → unsigned_abs b < 2 ^ 67 → unsigned_abs c < 2 ^ 67

@@ -7,4 +7,7 @@ pub mod Edge
 pub mod Cap
 pub mod Placing
 pub mod Contour
-pub mod Sides
+pub mod Shifting
+pub mod Outline
+pub mod Tests
+pub mod Machinery

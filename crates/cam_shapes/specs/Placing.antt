@@ -1,5 +1,5 @@
 -- Contours that are turned about (0, 0) and then moved.
-use Rattle.std.specs.Prelude.{◌^◌, ◌<◌, ℤ, pos, ◌+ℤ◌, ◌-ℤ◌, ◌*ℤ◌, Bool, true, false, if◌then◌else◌, map, All}
+use Rattle.std.specs.Prelude.{◌<◌, ℤ, pos, ◌+ℤ◌, ◌-ℤ◌, ◌*ℤ◌, Bool, true, false, if◌then◌else◌, map, All}
 use Rattle.std.specs.Int.RustNames.{int_lt, unsigned_abs}
 use Rattle.cam_units.specs.declared.point.Point.{Point}
 use Rattle.cam_units.specs.declared.turn.Turn.{Turn}
@@ -38,13 +38,12 @@ abbrev pub IsPlaceableSeg : Turn → Point → Seg → Type 0
 IsPlaceableSeg t o (Line to) = IsPlaceablePoint t o to
 IsPlaceableSeg t o (Curve to centre ccw) = IsPlaceablePoint t o to × IsPlaceablePoint t o centre
 
--- an offset whose sums with points of the board fit
+-- an offset across the board: each coordinate is under two metres in absolute value
 pub record IsOffset (o : Point) : Type 0 where
-  pub x : unsigned_abs o.x < 2 ^ 62
-  pub y : unsigned_abs o.y < 2 ^ 62
+  pub x : unsigned_abs o.x < 2000000000
+  pub y : unsigned_abs o.y < 2000000000
 
 -- a contour whose points lie on the board, and are placed on the board
 pub record IsPlaceable (t : Turn) (o : Point) (c : Contour) : Type 0 where
-  pub offset : IsOffset o
   pub start : IsPlaceablePoint t o c.start
   pub segs : All (IsPlaceableSeg t o) c.segs

@@ -4,10 +4,11 @@ ghost use Rattle.std.specs.Prelude.{◌≡◌, ◌^◌, ◌<◌, pos, ◌-ℤ◌
 ghost use Rattle.std.specs.Int.RustNames.{unsigned_abs};
 ghost use Rattle.cam_units.specs.Board.{IsInReach, IsSize};
 ghost use Rattle.cam_shapes.specs.Plane.{IsShort, cross, dot, square};
-ghost use Rattle.cam_shapes.specs.Arc.{IsBetweenCircles, IsInArc, IsInSweep, IsNarrow, IsNearCircle, IsSoundArc, IsSumWithin, IsSwept};
+ghost use Rattle.cam_shapes.specs.Arc.{IsBetweenCircles, IsInArc, IsInSweep, IsNarrow, IsNearCircle, IsSoundArc};
+ghost use Rattle.cam_shapes.specs.Arc.{IsSumWithin, IsSwept};
 
-use crate::size::{is_some, squared};
-use crate::square::{has_square_within, squared_product};
+use crate::products::{has_square_within, squared_product};
+use crate::size::{is_positive, squared};
 use crate::vector::Vector;
 use cam_units::{Nm, Point, Spot};
 
@@ -39,7 +40,7 @@ pub fn in_arc(spot: Spot, arc: Arc) -> bool
     let start = Vector::between(centre, from);
     let end = Vector::between(centre, to);
     let seen = Vector::seen_from(centre, spot);
-    is_some(width)
+    is_positive(width)
         && (Vector::seen_from(from, spot).is_within(width)
             || Vector::seen_from(to, spot).is_within(width)
             || is_swept(ccw, start, end, seen) && is_near_circle(start, seen, width))
@@ -67,8 +68,8 @@ fn is_in_sweep(start: Vector, end: Vector, seen: Vector) -> bool
     requires seen { IsShort seen }
     ensures { IsTrue result ↔ IsInSweep start end seen }
 {
-    let after_start = is_left(start, seen);
-    let before_end = is_left(seen, end);
+    let after_start = is_left_or_along(start, seen);
+    let before_end = is_left_or_along(seen, end);
     if start == end {
         true
     } else if is_narrow(start, end) {
@@ -79,7 +80,7 @@ fn is_in_sweep(start: Vector, end: Vector, seen: Vector) -> bool
 }
 
 /// Whether `second` points left of `first`, or along its line.
-fn is_left(first: Vector, second: Vector) -> bool
+fn is_left_or_along(first: Vector, second: Vector) -> bool
     requires first { IsShort first }
     requires second { IsShort second }
     ensures { IsTrue result ↔ pos 0 ≤ℤ cross first second }

@@ -5,8 +5,8 @@ ghost use Rattle.cam_units.specs.Board.{IsInReach, IsSize};
 ghost use Rattle.cam_shapes.specs.Plane.{IsShort};
 ghost use Rattle.cam_shapes.specs.Bar.{IsBeside, IsBetweenEnds, IsInBar, IsNearLine, IsSoundBar};
 
-use crate::size::is_some;
-use crate::square::{has_square_within, squared_product};
+use crate::products::{has_square_within, squared_product};
+use crate::size::is_positive;
 use crate::vector::Vector;
 use cam_units::{Nm, Point, Spot};
 
@@ -27,7 +27,7 @@ pub fn in_bar(spot: Spot, bar: Bar) -> bool
 {
     let way = Vector::between(bar.from, bar.to);
     let seen = Vector::seen_from(bar.from, spot);
-    is_some(bar.width) && is_beside(way, seen, bar.width)
+    is_positive(bar.width) && is_beside(way, seen, bar.width)
 }
 
 /// Whether a place, seen from the start of a way, lies between the way's ends and at most

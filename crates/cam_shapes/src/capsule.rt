@@ -5,7 +5,7 @@ ghost use Rattle.cam_units.specs.Board.{IsInReach};
 ghost use Rattle.cam_shapes.specs.Bar.{IsInCapsule, IsSoundCapsule};
 
 use crate::bar::is_beside;
-use crate::size::is_some;
+use crate::size::is_positive;
 use crate::vector::Vector;
 use cam_units::{Nm, Point, Spot};
 
@@ -25,7 +25,7 @@ pub fn in_capsule(spot: Spot, capsule: Capsule) -> bool
 {
     let Capsule { from, to, width } = capsule;
     let seen = Vector::seen_from(from, spot);
-    is_some(width)
+    is_positive(width)
         && (seen.is_within(width)
             || Vector::seen_from(to, spot).is_within(width)
             || is_beside(Vector::between(from, to), seen, width))

@@ -4,7 +4,7 @@ ghost use Rattle.std.specs.Prelude.{◌≡◌, ◌↔◌, All, IfOk, IsTrue, map
 ghost use Rattle.cam_units.specs.Board.{IsInReach, IsOnBoard};
 ghost use Rattle.cam_shapes.specs.Contour.{IsInContour, end_of};
 ghost use Rattle.cam_shapes.specs.Placing.{IsOffset, IsPlaceable, IsPlaceableSeg, placed_contour, placed_seg};
-ghost use Rattle.cam_shapes.specs.Sides.{IsSoundSeg, change_side, changes_side};
+ghost use Rattle.cam_shapes.specs.Machinery.Sides.{IsSoundSeg, change_side, changes_side};
 
 use crate::cap::{Cap, in_cap};
 use crate::edge::in_edge;
@@ -51,14 +51,15 @@ pub fn in_contour(spot: Spot, contour: &Contour, turn: Turn, offset: Point) -> b
 }
 
 /// Whether the contour's points lie on the board, also once they are turned about (0, 0) and
-/// then moved, and whether the offset is under 2^62 nm in absolute value.
+/// then moved.
 pub fn fits_contour(contour: &Contour, turn: Turn, offset: Point) -> bool
     ensures { IsTrue result ↔ IsPlaceable turn offset contour.now }
 {
     let placing = Placing { turn, offset };
-    placing.fits_offset()
-        && placing.fits_point(contour.start)
-        && placing.fits_segs(contour.segs.as_slice())
+    if !placing.fits_offset() {
+        return false;
+    }
+    placing.fits_point(contour.start) && placing.fits_segs(contour.segs.as_slice())
 }
 
 /// Whether the place is on the other side of the closed line, once its segments are placed.

@@ -4,7 +4,7 @@ ghost use Rattle.std.specs.Prelude.{◌↔◌, IsTrue};
 ghost use Rattle.cam_units.specs.Board.{IsInReach};
 ghost use Rattle.cam_shapes.specs.Disc.{IsInDisc, IsInHole, IsSoundDisc};
 
-use crate::size::{is_some, squared};
+use crate::size::{is_positive, squared};
 use crate::vector::Vector;
 use cam_units::{Nm, Point, Spot};
 
@@ -21,7 +21,7 @@ pub fn in_disc(spot: Spot, disc: Disc) -> bool
     requires disc { IsSoundDisc disc }
     ensures { IsTrue result ↔ IsInDisc spot disc }
 {
-    is_some(disc.diameter) && Vector::seen_from(disc.centre, spot).is_within(disc.diameter)
+    is_positive(disc.diameter) && Vector::seen_from(disc.centre, spot).is_within(disc.diameter)
 }
 
 /// Whether the place is in the disc, but not on its edge.
@@ -31,5 +31,5 @@ pub fn in_hole(spot: Spot, disc: Disc) -> bool
     ensures { IsTrue result ↔ IsInHole spot disc }
 {
     let seen = Vector::seen_from(disc.centre, spot);
-    is_some(disc.diameter) && seen.dot(seen) < squared(disc.diameter)
+    is_positive(disc.diameter) && seen.dot(seen) < squared(disc.diameter)
 }

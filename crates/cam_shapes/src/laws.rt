@@ -4,6 +4,7 @@ ghost use Rattle.cam_shapes.specs.Arc.{ArcSquareLaw, CircleDistanceLaw, CircleFo
 ghost use Rattle.cam_shapes.specs.Cap.{CapSquareLaw};
 ghost use Rattle.cam_shapes.specs.Contour.{ContourBoxLaw};
 ghost use Rattle.cam_shapes.specs.Edge.{CrossingLaw};
+ghost use Rattle.cam_shapes.specs.Tests.{TestsLaw};
 
 /// A place near a circle is so by its distance from the centre.
 pub fn circle_is_near_by_distance()
@@ -34,4 +35,9 @@ pub fn contour_is_in_its_box()
 /// A place in a cap lies in a square about the centre.
 pub fn cap_is_in_its_square()
     ensures { CapSquareLaw }
+{}
+
+/// The tests of shapes that compute tell exactly the places of the shapes.
+pub fn tests_tell_shapes()
+    ensures { TestsLaw }
 {}

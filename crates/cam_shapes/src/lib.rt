@@ -3,12 +3,14 @@
 //! Points and sizes are in nanometres (nm), places in half nanometres (hn): a point `(x, y)` is
 //! the place `(2x, 2y)`, and a diameter, side or width of `d` nm reaches `d` hn to each side. So
 //! each test is one of whole numbers, and none of them rounds. Shapes stand where they are
-//! painted, turned and moved already; only a contour is turned and moved by its test.
+//! painted, turned and moved already; only contours and outlines are turned and moved by their
+//! tests.
 //!
 //! - [`in_disc`], [`in_rect`], [`in_obround`]: the standard apertures, closed, and [`in_hole`]:
 //!   the open hole.
 //! - [`in_bar`]: a line of a macro; [`in_capsule`], [`in_arc`]: the strokes of a round tool.
-//! - [`in_contour`]: a region or an outline, by an odd number of [`in_edge`] and [`in_cap`].
+//! - [`in_contour`]: a region, by an odd number of [`in_edge`] and [`in_cap`]; [`in_outline`]: an
+//!   outline of a macro, by its points.
 //!
 //! A shape with a diameter, side or width of 0 covers nothing. No test takes memory.
 #![tactic(auto)]
@@ -22,13 +24,13 @@ mod disc;
 mod edge;
 mod laws;
 mod obround;
+mod outline;
 mod placing;
+mod products;
 mod rectangle;
 mod segments;
+mod shifting;
 mod size;
-mod square;
-#[cfg(test)]
-mod tests;
 mod vector;
 
 pub use arc::{Arc, in_arc};
@@ -40,8 +42,10 @@ pub use disc::{Disc, in_disc, in_hole};
 pub use edge::in_edge;
 pub use laws::{
     arc_is_in_its_square, cap_is_in_its_square, circle_forms_agree, circle_is_near_by_distance,
-    contour_is_in_its_box, edge_lies_right,
+    contour_is_in_its_box, edge_lies_right, tests_tell_shapes,
 };
 pub use obround::{Obround, in_obround};
+pub use outline::in_outline;
 pub use rectangle::{Rectangle, in_rect};
 pub use segments::{Seg, Segments};
+pub use shifting::shifted;

@@ -3,9 +3,10 @@
 ghost use Rattle.std.specs.Prelude.{◌≡◌, ◌↔◌, IsTrue};
 ghost use Rattle.cam_units.specs.Board.{IsInReach, IsSize};
 ghost use Rattle.cam_shapes.specs.Plane.{IsSeen, IsShort};
-ghost use Rattle.cam_shapes.specs.Box.{IsAlong, IsInObround, IsRounded, IsSoundObround, from_left_end, from_right_end, swapped};
+ghost use Rattle.cam_shapes.specs.Box.{IsAlong, IsInObround, IsRounded, IsSoundObround, from_left_end};
+ghost use Rattle.cam_shapes.specs.Box.{from_right_end, swapped};
 
-use crate::size::{excess, is_some};
+use crate::size::{excess, is_positive};
 use crate::vector::Vector;
 use cam_units::{Nm, Point, Spot};
 
@@ -30,7 +31,7 @@ pub fn in_obround(spot: Spot, obround: Obround) -> bool
         height,
     } = obround;
     let seen = Vector::seen_from(centre, spot);
-    is_some(width) && is_some(height) && is_rounded(seen, width, height)
+    is_positive(width) && is_positive(height) && is_rounded(seen, width, height)
 }
 
 /// Whether the place, as it is seen from the centre, is in the obround of these sides.

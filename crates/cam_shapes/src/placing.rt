@@ -2,14 +2,15 @@
 
 ghost use Rattle.std.specs.Prelude.{◌≡◌, ◌↔◌, All, IsTrue};
 ghost use Rattle.cam_units.specs.Board.{IsOnBoard};
-ghost use Rattle.cam_shapes.specs.Placing.{IsOffset, IsPlaceablePoint, IsPlaceableSeg, placed_direction, placed_point, placed_seg};
-ghost use Rattle.cam_shapes.specs.Sides.{IsSoundSeg};
+ghost use Rattle.cam_shapes.specs.Placing.{IsOffset, IsPlaceablePoint, IsPlaceableSeg, placed_direction};
+ghost use Rattle.cam_shapes.specs.Placing.{placed_point, placed_seg};
+ghost use Rattle.cam_shapes.specs.Machinery.Sides.{IsSoundSeg};
 
 use crate::segments::Seg;
 use cam_units::{Point, Turn, fits_board};
 
-/// The coordinates of an offset are below this in absolute value, in nm.
-const OFFSET: u64 = 0x4000_0000_0000_0000;
+/// The coordinates of a way across the board are below this in absolute value, in nm.
+const OFFSET: u64 = 2_000_000_000;
 
 /// Where a contour is put: its points are turned about (0, 0), and then moved.
 #[derive(Clone, Copy, Debug, PartialEq, Eq)]
@@ -19,7 +20,8 @@ pub struct Placing {
 }
 
 impl Placing {
-    /// Whether both coordinates of the offset are under 2^62 nm in absolute value.
+    /// Whether both coordinates of the offset are under two metres in absolute value; a longer one
+    /// leads each point off the board.
     pub fn fits_offset(self) -> bool
         ensures { IsTrue result ↔ IsOffset self.offset }
     {

@@ -4,7 +4,7 @@ ghost use Rattle.std.specs.Prelude.{◌↔◌, IsTrue};
 ghost use Rattle.cam_units.specs.Board.{IsInReach};
 ghost use Rattle.cam_shapes.specs.Box.{IsInRectangle, IsSoundRectangle};
 
-use crate::size::is_some;
+use crate::size::is_positive;
 use crate::vector::Vector;
 use cam_units::{Nm, Point, Spot};
 
@@ -28,5 +28,5 @@ pub fn in_rect(spot: Spot, rectangle: Rectangle) -> bool
         height,
     } = rectangle;
     let seen = Vector::seen_from(centre, spot);
-    is_some(width) && is_some(height) && seen.is_between(width, height)
+    is_positive(width) && is_positive(height) && seen.is_between(width, height)
 }

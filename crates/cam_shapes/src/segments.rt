@@ -1,6 +1,7 @@
 //! Segments of contours.
 
-ghost use Rattle.std.specs.Prelude.{◌≡◌, IfOk};
+ghost use Rattle.std.specs.Prelude.{◌≡◌, All, IfOk, map};
+ghost use Rattle.cam_shapes.specs.Shifting.{IsShiftable, IsShiftableSeg, shifted_seg};
 
 use cam_units::Point;
 use std::alloc::{AllocError, Global};
@@ -60,5 +61,16 @@ impl Segments {
         Ok(Segments {
             segs: self.as_slice().to_vec(alloc)?,
         })
+    }
+
+    /// Moves each segment by so many nm.
+    pub(crate) fn shift(&mut self, by: Point)
+        requires segs { All IsShiftableSeg self.old }
+        requires by { IsShiftable by }
+        ensures { self.new ≡ map (shifted_seg by) self.old }
+    {
+        for seg in self.segs.iter_mut() {
+            *seg = seg.shifted(by);
+        }
     }
 }

@@ -8,7 +8,7 @@ ghost use Rattle.cam_shapes.specs.Plane.{square};
 use cam_units::Nm;
 
 /// Whether a diameter, side or width is more than 0.
-pub fn is_some(size: Nm) -> bool
+pub fn is_positive(size: Nm) -> bool
     ensures { IsTrue result ↔ pos 0 <ℤ size.0 }
 {
     size.0 > 0

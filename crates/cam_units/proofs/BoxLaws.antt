@@ -1,5 +1,5 @@
 -- What the corners of boxes say of the places that they hold.
-use Rattle.std.proofs.Common.{◌≡◌, Bool, true, false, IsTrue, ◌↔◌, ℤ, ◌≤ℤ◌, arith, refl}
+use Rattle.std.proofs.Common.{◌≡◌, Bool, true, false, IsTrue, ◌↔◌, ℤ, ◌≤ℤ◌, arith, refl, sym, ◌∙◌}
 use Rattle.std.specs.Prelude.{◌||◌, not}
 use Rattle.std.specs.Int.{int_min, int_max}
 use Rattle.std.specs.Int.RustNames.{int_lt}
@@ -7,7 +7,8 @@ use Rattle.std.proofs.lemmas.Int.{ints, clamps}
 use Rattle.cam_units.specs.declared.point.Spot.{Spot}
 use Rattle.cam_units.specs.declared.bounds.Bounds.{Bounds}
 use Rattle.cam_units.specs.declared.bounds.Bounds.TheVariants.{Empty, Closed}
-use Rattle.cam_units.specs.Boxes.{IsBetween, Holds, HaveCommonPlace, IsWithin, IsLeastAround, least_of, greatest_of, has_no_place, clip_of, span_of, join_of}
+use Rattle.cam_units.specs.Boxes.{IsBetween, Holds, HaveCommonPlace, IsWithin, IsLeastAround, least_of, greatest_of}
+use Rattle.cam_units.specs.Boxes.{has_no_place, box_between, clip_of, span_of, join_of}
 
 -- the least and the greatest of two numbers
 max_le : (a b z : ℤ) → a ≤ℤ z → b ≤ℤ z → int_max a b ≤ℤ z
@@ -25,7 +26,8 @@ min_le a b = (omega (arith, ints, clamps), omega (arith, ints, clamps))
 after : {a b c : ℤ} → a ≤ℤ b → b ≤ℤ c → a ≤ℤ c
 after h k = omega (arith, ints)
 
-between_clip : (low high low' high' s : Spot) → IsBetween (greatest_of low low') (least_of high high') s ↔ (IsBetween low high s × IsBetween low' high' s)
+between_clip : (low high low' high' s : Spot) → IsBetween (greatest_of low low') (least_of high high') s
+    ↔ (IsBetween low high s × IsBetween low' high' s)
 between_clip low high low' high' s = (
   (λ h. (
     record {
@@ -49,14 +51,30 @@ between_clip low high low' high' s = (
   }),
 )
 
-pub clip_places : (a b : Bounds) (s : Spot) → Holds (clip_of a b) s ↔ (Holds a s × Holds b s)
-clip_places Empty b s = (λ h. absurd h, λ h. h.0)
-clip_places (Closed low high) Empty s = (λ h. absurd h, λ h. h.1)
-clip_places (Closed low high) (Closed low' high') s = between_clip low high low' high' s
-
 -- corners that are crossed hold no place, and others hold both corners
 crossed : (x y x' y' sx sy : ℤ) → (int_lt x' x || int_lt y' y) ≡ true → x ≤ℤ sx → sx ≤ℤ x' → y ≤ℤ sy → sy ≤ℤ y' → ⊥
 crossed x y x' y' sx sy e a b c d = grind (arith, ints)
+
+through : {A B C : Type 0} → (A ↔ B) → (B ↔ C) → A ↔ C
+through f g = ((λ a. g.0 (f.0 a)), (λ c. f.1 (g.1 c)))
+
+between_places : (low high s : Spot) → Holds (box_between low high) s ↔ IsBetween low high s
+between_places low high s = by (has_no_place (Closed low high)) refl
+  where
+    by : (v : Bool) → has_no_place (Closed low high) ≡ v → Holds (box_between low high) s ↔ IsBetween low high s
+    by true e = rw e (
+      (λ h. absurd h),
+      (λ k. crossed low.x low.y high.x high.y s.x s.y e k.left k.right k.below k.above),
+    )
+    by false e = rw e ((λ h. h), (λ h. h))
+
+pub clip_places : (a b : Bounds) (s : Spot) → Holds (clip_of a b) s ↔ (Holds a s × Holds b s)
+clip_places Empty b s = (λ h. absurd h, λ h. h.0)
+clip_places (Closed low high) Empty s = (λ h. absurd h, λ h. h.1)
+clip_places (Closed low high) (Closed low' high') s =
+    through
+    (between_places (greatest_of low low') (least_of high high') s)
+    (between_clip low high low' high' s)
 
 uncrossed : (x y x' y' : ℤ) → (int_lt x' x || int_lt y' y) ≡ false → (x ≤ℤ x') × (y ≤ℤ y')
 uncrossed x y x' y' e = (grind (arith, ints), grind (arith, ints))
@@ -82,8 +100,10 @@ no_place (Closed low high) = (
     told true h = refl
     told false h = absurd (h refl)
 
-spans : (low high low' high' : Spot) → (other : Bounds) → has_no_place (Closed low high) ≡ false → has_no_place (Closed low' high') ≡ false
-    → IsWithin (Closed low high) other → IsWithin (Closed low' high') other → IsWithin (Closed (least_of low low') (greatest_of high high')) other
+spans : (low high low' high' : Spot) → (other : Bounds) → has_no_place (Closed low high) ≡ false
+    → has_no_place (Closed low' high') ≡ false
+    → IsWithin (Closed low high) other → IsWithin (Closed low' high') other
+    → IsWithin (Closed (least_of low low') (greatest_of high high')) other
 spans low high low' high' Empty e e' first second = λ s h. first low (corners low high e).0
 spans low high low' high' (Closed p q) e e' first second = λ s h.
     let a = first low (corners low high e).0 in
@@ -144,7 +164,8 @@ pub meeting : (a b : Bounds) → IsTrue (not (has_no_place (clip_of a b))) ↔ H
 meeting a b = (
   (λ h. let found = some_place (clip_of a b) (opened (has_no_place (clip_of a b)) h) in
       (found.0, (clip_places a b found.0).0 found.1)),
-  (λ found. closed (has_no_place (clip_of a b)) (λ none. (no_place (clip_of a b)).0 none found.0 ((clip_places a b found.0).1 found.1))),
+  (λ found. closed (has_no_place (clip_of a b))
+      (λ none. (no_place (clip_of a b)).0 none found.0 ((clip_places a b found.0).1 found.1))),
 )
   where
     opened : (v : Bool) → IsTrue (not v) → v ≡ false
@@ -155,6 +176,29 @@ meeting a b = (
     closed true h = absurd (h refl)
     closed false h = refl
 
+-- boxes apart have an empty common box
+apart_is : (v : Bool) → ((v ≡ false) → ⊥) → v ≡ true
+apart_is true h = refl
+apart_is false h = absurd (h refl)
+
+empty_between : (low high : Spot) → has_no_place (box_between low high) ≡ true → box_between low high ≡ Empty
+empty_between low high = by (has_no_place (Closed low high)) refl
+  where
+    by : (v : Bool) → has_no_place (Closed low high) ≡ v
+        → has_no_place (box_between low high) ≡ true → box_between low high ≡ Empty
+    by true e = rw e (λ _. refl)
+    by false e = rw e (λ h. absurd (let bad : false ≡ true = sym e ∙ h in cc))
+
+empty_clip : (a b : Bounds) → has_no_place (clip_of a b) ≡ true → clip_of a b ≡ Empty
+empty_clip Empty b h = refl
+empty_clip (Closed low high) Empty h = refl
+empty_clip (Closed low high) (Closed low' high') h = empty_between (greatest_of low low') (least_of high high') h
+
+pub clip_apart : (a b : Bounds) → (HaveCommonPlace a b → ⊥) → clip_of a b ≡ Empty
+clip_apart a b apart =
+    empty_clip a b (apart_is (has_no_place (clip_of a b)) (λ e.
+    let found = some_place (clip_of a b) e in apart (found.0, (clip_places a b found.0).0 found.1)))
+
 -- the same of boxes that are known by an equation
 pub clip_places_at : (a b r : Bounds) → r ≡ clip_of a b → (s : Spot) → Holds r s ↔ (Holds a s × Holds b s)
 clip_places_at a b r e s = rw e (clip_places a b s)
@@ -164,3 +208,6 @@ join_least_at a b r e = rw e (join_least a b)
 
 pub no_place_at : (a : Bounds) (v : Bool) → v ≡ has_no_place a → IsTrue v ↔ ((s : Spot) → Holds a s → ⊥)
 no_place_at a v e = rw e (no_place a)
+
+pub clip_apart_at : (a b r : Bounds) → r ≡ clip_of a b → (HaveCommonPlace a b → ⊥) → r ≡ Empty
+clip_apart_at a b r e = rw e (clip_apart a b)

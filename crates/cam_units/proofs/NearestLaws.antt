@@ -1,5 +1,6 @@
 -- Lengths to the nearest whole number.
-use Rattle.std.proofs.Common.{◌≡◌, ℕ, zero, suc, ◌+◌, ◌*◌, ◌^◌, ◌<◌, ◌≤◌, ℤ, pos, negsuc, ◌-ℤ◌, ◌*ℤ◌, ◌⊎◌, inl, inr, refl, ap, sym, ◌∙◌, arith}
+use Rattle.std.proofs.Common.{◌≡◌, ℕ, zero, suc, ◌+◌, ◌*◌, ◌^◌, ◌<◌, ◌≤◌, ℤ, pos, negsuc, ◌-ℤ◌, ◌*ℤ◌, ◌⊎◌, inl, inr}
+use Rattle.std.proofs.Common.{refl, ap, sym, ◌∙◌, arith}
 use Rattle.std.proofs.lemmas.Int.{ints, unsigned_abs-mul}
 use Rattle.std.proofs.lemmas.Nat.{le-div, div_below}
 use Rattle.std.proofs.Math.Nat.{pow-suc, mul-le-mul_left}
@@ -34,7 +35,8 @@ mirror n b q =
     let z = pos 2 *ℤ n -ℤ pos 2 *ℤ b *ℤ q in
     let minus_z : pos 0 -ℤ z ≡ neg_ℤ z = omega (arith, ints) in
     rw (minus_n, minus_q) (equal
-    (Difference (Product two (Difference nought (Atom n))) (Product (Product two (Atom b)) (Difference nought (Atom q))))
+    (Difference (Product two (Difference nought (Atom n)))
+    (Product (Product two (Atom b)) (Difference nought (Atom q))))
     (Difference nought (Difference (Product two (Atom n)) (Product (Product two (Atom b)) (Atom q))))
     (omega arith) ∙ minus_z)
 
@@ -94,7 +96,8 @@ opposite a m b h near far =
 
 pub unique : (a m k : ℤ) (b : ℕ) → 0 < b → IsNearest a b m → IsNearest a b k → m ≡ k
 unique a m k b h first second =
-    let size : unsigned_abs m ≡ unsigned_abs k = omega (arith, first.farthest k second.close, second.farthest m first.close) in
+    let size : unsigned_abs m ≡ unsigned_abs k =
+    omega (arith, first.farthest k second.close, second.farthest m first.close) in
     elim (same_size m k size) [
       | inl e ↦ e
       | inr e ↦ opposite a m b h first.close (rw (← e) second.close) ∙ sym e

@@ -41,10 +41,14 @@ abbrev pub has_no_place : Bounds → Bool
 has_no_place Empty = true
 has_no_place (Closed low high) = int_lt high.x low.x || int_lt high.y low.y
 
+-- the box between two corners, empty where they are crossed
+abbrev pub box_between : Spot → Spot → Bounds
+box_between low high = if has_no_place (Closed low high) then Empty else Closed low high
+
 abbrev pub clip_of : Bounds → Bounds → Bounds
 clip_of Empty b = Empty
 clip_of (Closed low high) Empty = Empty
-clip_of (Closed low high) (Closed low' high') = Closed (greatest_of low low') (least_of high high')
+clip_of (Closed low high) (Closed low' high') = box_between (greatest_of low low') (least_of high high')
 
 abbrev pub span_of : Bounds → Bounds → Bounds
 span_of Empty b = b

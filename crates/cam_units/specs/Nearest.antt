@@ -25,9 +25,11 @@ nearest_of (negsuc n) b = neg_ℤ (pos (rounded (suc n) b))
 
 -- the one whole number that is nearest
 abbrev pub NearestLaw : Type 0
-NearestLaw = (a : ℤ) (b : ℕ) → 0 < b → IsNearest a b (nearest_of a b) × ((m : ℤ) → IsNearest a b m → m ≡ nearest_of a b)
+NearestLaw =
+    (a : ℤ) (b : ℕ) → 0 < b
+    → IsNearest a b (nearest_of a b) × ((m : ℤ) → IsNearest a b m → m ≡ nearest_of a b)
 
--- the nanometres in a millionth of a thousand units
+-- the nanometres in a unit, which a coordinate without decimals counts
 abbrev pub nm_per_unit : FileUnit → ℕ
 nm_per_unit Mm = 1000000
 nm_per_unit Inch = 25400000

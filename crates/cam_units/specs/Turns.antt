@@ -54,4 +54,26 @@ AssociativeLaw = (l m n : Matrix) → product (product l m) n ≡ product l (pro
 
 -- each turn is taken back by one turn, before it or behind it
 abbrev pub InverseLaw : Type 0
-InverseLaw = (t : Turn) → (back : Turn) × (product (matrix_of back) (matrix_of t) ≡ matrix_of R0) × (product (matrix_of t) (matrix_of back) ≡ matrix_of R0)
+InverseLaw =
+    (t : Turn) → (back : Turn)
+    × (product (matrix_of back) (matrix_of t) ≡ matrix_of R0)
+    × (product (matrix_of t) (matrix_of back) ≡ matrix_of R0)
+
+-- the turn behind a quarter turn more; the fourth leads back to the first
+abbrev pub next_quarter : Turn → Turn
+next_quarter R0 = R90
+next_quarter R90 = R180
+next_quarter R180 = R270
+next_quarter R270 = R0
+next_quarter M0 = M90
+next_quarter M90 = M180
+next_quarter M180 = M270
+next_quarter M270 = M0
+
+-- the eight turns differ, R90 moves the x axis to the y axis, each quarter is one R90 more, and M0
+-- comes before all of an M
+pub record QuartersLaw : Type 0 where
+  pub differ : (t u : Turn) → matrix_of t ≡ matrix_of u → t ≡ u
+  pub quarter : (p : Point) → applied (matrix_of R90) p ≡ record { x = minus *ℤ p.y; y = p.x }
+  pub more : (t : Turn) → matrix_of (next_quarter t) ≡ product (matrix_of R90) (matrix_of t)
+  pub mirror : (p : Point) → applied (matrix_of M0) p ≡ record { x = minus *ℤ p.x; y = p.y }

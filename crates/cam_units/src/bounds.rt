@@ -2,11 +2,12 @@
 
 ghost use Rattle.std.specs.Prelude.{◌≡◌, ◌↔◌, IsTrue};
 ghost use Rattle.cam_units.specs.declared.point.Spot.{Spot};
-ghost use Rattle.cam_units.specs.declared.bounds.Bounds.TheVariants.{Closed};
+ghost use Rattle.cam_units.specs.declared.bounds.Bounds.TheVariants.{Closed, Empty};
 ghost use Rattle.cam_units.specs.Boxes.{
   Holds,
   HaveCommonPlace,
   IsLeastAround,
+  box_between,
   clip_of,
   greatest_of,
   has_no_place,
@@ -51,6 +52,16 @@ fn is_crossed(low: Spot, high: Spot) -> bool
     ensures { result ≡ has_no_place (Closed low high) }
 {
     high.x < low.x || high.y < low.y
+}
+
+/// The box between two corners, `Empty` where no place lies there.
+fn between(low: Spot, high: Spot) -> Bounds
+    ensures { result ≡ box_between low high }
+{
+    if is_crossed(low, high) {
+        return Bounds::Empty;
+    }
+    Bounds::Closed { low, high }
 }
 
 impl Bounds {
@@ -100,10 +111,11 @@ impl Bounds {
         }
     }
 
-    /// The box of the places that lie in both.
+    /// The box of the places that lie in both; `Empty` where there is none.
     pub fn clipped(self, other: Bounds) -> Bounds
         ensures value { result ≡ clip_of self other }
         ensures places { (s : Spot) → Holds result s ↔ (Holds self s × Holds other s) }
+        ensures apart { ¬ HaveCommonPlace self other → result ≡ Empty }
     {
         match (self, other) {
             (
@@ -112,12 +124,7 @@ impl Bounds {
                     low: left,
                     high: right,
                 },
-            ) => {
-                Bounds::Closed {
-                    low: greatest(low, left),
-                    high: least(high, right),
-                }
-            }
+            ) => between(greatest(low, left), least(high, right)),
             _ => Bounds::Empty,
         }
     }

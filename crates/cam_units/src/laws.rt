@@ -1,7 +1,7 @@
 //! Laws of the definitions.
 
 ghost use Rattle.cam_units.specs.Nearest.{NearestLaw};
-ghost use Rattle.cam_units.specs.Turns.{ThenLaw, AssociativeLaw, InverseLaw};
+ghost use Rattle.cam_units.specs.Turns.{ThenLaw, AssociativeLaw, InverseLaw, QuartersLaw};
 
 /// Exactly one whole number is nearest to a quotient, where ties go away from zero.
 pub fn nearest_is_nearest()
@@ -21,4 +21,9 @@ pub fn turns_associate()
 /// Each turn is taken back by one turn.
 pub fn turns_have_inverses()
     ensures { InverseLaw }
+{}
+
+/// The eight turns differ, and each quarter is one turn by 90 degrees more.
+pub fn turns_go_by_quarters()
+    ensures { QuartersLaw }
 {}

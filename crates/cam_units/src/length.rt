@@ -17,17 +17,18 @@ pub enum Unit {
 }
 
 /// The quotient of two whole numbers.
-#[derive(Clone, Copy)]
-struct Quotient {
-    above: i128,
-    below: u64,
+#[derive(Clone, Copy, Debug, PartialEq, Eq)]
+pub struct Quotient {
+    pub above: i128,
+    pub below: u64,
 }
 
 impl Quotient {
-    /// The nearest whole number, ties away from zero.
-    fn nearest(self) -> i128
+    /// The nearest whole number, ties away from zero, where `above` is at most 2^126 in absolute
+    /// value and `below` more than 0.
+    pub fn nearest(self) -> i128
         requires some { 0 < self.below }
-        requires short { unsigned_abs self.above < 2 ^ 120 }
+        requires short { unsigned_abs self.above ≤ 2 ^ 126 }
         ensures value { result ≡ nearest_of self.above self.below }
         ensures bound { unsigned_abs result ≤ unsigned_abs self.above }
     {
@@ -68,7 +69,7 @@ fn coordinate(n: i64, decimals: u32, unit: Unit) -> Quotient
     ensures above { result.above ≡ n *ℤ pos (nm_per_unit unit) }
     ensures below { result.below ≡ 10 ^ decimals }
     ensures some { 0 < result.below }
-    ensures short { unsigned_abs result.above < 2 ^ 120 }
+    ensures short { unsigned_abs result.above ≤ 2 ^ 126 }
 {
     Quotient {
         above: i128::from(n) * i128::from(nm_per_unit(unit)),

@@ -15,12 +15,10 @@ mod turn;
 pub use board::{fits_board, fits_size};
 pub use bounds::Bounds;
 pub use laws::{
-    nearest_is_nearest, then_is_apply_after_apply, turns_associate, turns_have_inverses,
+    nearest_is_nearest, then_is_apply_after_apply, turns_associate, turns_go_by_quarters,
+    turns_have_inverses,
 };
-pub use length::{Nm, Unit, coord_nm, fix9_nm};
+pub use length::{Nm, Quotient, Unit, coord_nm, fix9_nm};
 pub use point::{Point, Spot};
 pub use root::isqrt;
 pub use turn::Turn;
-
-#[cfg(test)]
-mod tests;

@@ -10,7 +10,8 @@ packed text = filter (λ byte. not (is_skipped byte)) text
 -- begins with G04, or with G4 and no digit after it
 abbrev pub begins_as_comment : List ℕ → Bool
 begins_as_comment text =
-    starts_with nat_eq text (codes "G04") || (starts_with nat_eq text (codes "G4") && not (list_any is_digit (take 1 (drop 2 text))))
+    starts_with nat_eq text (codes "G04")
+    || (starts_with nat_eq text (codes "G4") && not (list_any is_digit (take 1 (drop 2 text))))
 
 unfoldable pub is_comment : List ℕ → Bool
 is_comment text = begins_as_comment (packed text)

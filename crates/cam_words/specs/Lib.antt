@@ -3,6 +3,4 @@ pub mod Heads
 pub mod Cutting
 pub mod Reading
 pub mod Laws
-pub mod Views
-pub mod Shown
-pub mod Left
+pub mod Machinery

@@ -1,5 +1,6 @@
 -- What a text gives: its words in order, and where it cannot be cut any further one fault.
-use Rattle.std.specs.Prelude.{ℕ, zero, suc, ◌+◌, ◌-◌, List, [], ◌∷◌, length, take, drop, map, Result, Ok, Err, if◌then◌else◌, ◌==◌, slice_index}
+use Rattle.std.specs.Prelude.{ℕ, zero, suc, ◌+◌, ◌-◌, List, [], ◌∷◌, length, take, drop, map, Result, Ok, Err}
+use Rattle.std.specs.Prelude.{if◌then◌else◌, ◌==◌, slice_index}
 use Rattle.std.specs.List.{before_first, prefix_len, suffix_len, list_any}
 use Rattle.cam_words.specs.declared.word.TextFault.{TextFault}
 use Rattle.cam_words.specs.Bytes.{is_star, is_percent, is_skipped}

@@ -5,7 +5,7 @@ ghost use Rattle.std.specs.List.{position_or_len, prefix_len, suffix_len, list_a
 ghost use Rattle.cam_words.specs.Bytes.{is_skipped, is_control, is_forbidden_in_plain, is_forbidden_in_code};
 
 /// Whether the byte is a line end, a space or a tab.
-fn is_skipped(byte: u8) -> bool
+pub fn is_skipped(byte: u8) -> bool
     ensures { result ≡ is_skipped byte }
 {
     matches!(byte, b'\r' | b'\n' | b' ' | b'\t')

@@ -1,11 +1,11 @@
 //! The command at the front of a text.
 
-ghost use Rattle.std.specs.Prelude.{◌≡◌, ◌+◌, ◌<◌, ◌≤◌, length, IfOk, IfSome};
+ghost use Rattle.std.specs.Prelude.{◌≡◌, ◌+◌, length, IfOk, IfSome};
 ghost use Rattle.std.specs.Option.{option_map};
 ghost use Rattle.std.specs.List.{list_any};
 ghost use Rattle.cam_words.specs.Heads.{is_forbidden_in_word, is_forbidden_in_extended};
 ghost use Rattle.cam_words.specs.Reading.{word_at, command_within, extended_at};
-ghost use Rattle.cam_words.specs.Shown.{seen, shown, front_shown, IsInside};
+ghost use Rattle.cam_words.specs.Machinery.Shown.{seen, shown, front_shown, IsInside};
 
 use crate::bytes::{
     holds_control, holds_forbidden_in_code, holds_forbidden_in_plain, place_of, trailing_skipped,

@@ -1,7 +1,7 @@
 ghost use Rattle.std.specs.Prelude.{◌≡◌, [], ◌∷◌, IfSome, IfNone, IsErr};
 ghost use Rattle.std.specs.List.{AllByRecursion};
 ghost use Rattle.cam_words.specs.Reading.{reading};
-ghost use Rattle.cam_words.specs.Views.{answer_of, IsWithin};
+ghost use Rattle.cam_words.specs.Machinery.Views.{answer_of, IsWithin};
 
 use crate::bytes::leading_skipped;
 use crate::command::front;
@@ -23,7 +23,7 @@ impl<'a> Model for Words<'a> {
 
     ghost Value = { List Answer };
 
-    ghost use Rattle.cam_words.specs.Left.{left};
+    ghost use Rattle.cam_words.specs.Machinery.Left.{left};
 
     ghost view = { left };
 

@@ -18,10 +18,9 @@ mod command;
 mod cutter;
 mod heads;
 mod laws;
-#[cfg(test)]
-mod tests;
 mod word;
 
+pub use bytes::is_skipped;
 pub use cutter::Words;
 pub use laws::{at_most_one_cutting, reads_its_words, stops_at_the_longest_front};
 pub use word::{Kind, TextFault, Word};

@@ -4,4 +4,5 @@ use Rattle.cam_macros.proofs.expansion.points.Goals as goal
 
 pub returns-clause-ok : goal.returns-clause-ok
 returns-clause-ok c =
-    points_end c.args.unit c.args.turn c.loop-rest.rest.now c.loop-rest.points.items _ c.in_default.len_below c.loop-rest.invariant ∙ ap Ok (sym c.new.ensures)
+    points_end c.args.unit c.args.turn c.loop-rest.rest.now c.loop-rest.points.items _ c.in_default.len_below
+    c.loop-rest.invariant ∙ ap Ok (sym c.from_vec.ensures)

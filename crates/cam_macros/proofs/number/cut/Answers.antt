@@ -4,11 +4,13 @@ use Rattle.cam_macros.proofs.number.cut.Goals as goal
 
 pub returns-then-byte-separator-clause-pieces : goal.returns-then-byte-separator-clause-pieces
 returns-then-byte-separator-clause-pieces c =
-    split_at c.args.separator c.args.text.now c.loop-place.place (omega arith) c.loop-place.invariant c.if-byte-separator.true
+    split_at c.args.separator c.args.text.now c.loop-place.place (omega arith) c.loop-place.invariant
+    c.if-byte-separator.true
 
 pub returns-then-byte-separator-clause-all : goal.returns-then-byte-separator-clause-all
 returns-then-byte-separator-clause-all c =
-    split_at c.args.separator c.args.text.now c.loop-place.place (omega arith) c.loop-place.invariant c.if-byte-separator.true
+    split_at c.args.separator c.args.text.now c.loop-place.place (omega arith) c.loop-place.invariant
+    c.if-byte-separator.true
 
 pub returns-clause-all : goal.returns-clause-all
 returns-clause-all c =

@@ -1,5 +1,5 @@
 use Rattle.std.proofs.Common.{sym, ap, ◌∙◌, ◌∷◌}
-use Rattle.cam_macros.specs.Scanning.{number_between}
+use Rattle.cam_macros.specs.Machinery.Scanning.{number_between}
 use Rattle.cam_macros.proofs.NumberLemmas.{three_pieces}
 use Rattle.cam_macros.proofs.number.number.Goals as goal
 

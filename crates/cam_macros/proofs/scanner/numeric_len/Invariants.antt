@@ -1,6 +1,6 @@
 use Rattle.std.proofs.Common.{◌≡◌, ◌+◌, drop}
 use Rattle.std.specs.List.{prefix_len}
-use Rattle.cam_macros.specs.Scanning.{is_numeric}
+use Rattle.cam_macros.specs.Machinery.Scanning.{is_numeric}
 use Rattle.cam_macros.proofs.scanner.numeric_len.Given as goal
 
 abbrev pub invariant-loop-place : goal.invariant-loop-place

@@ -1,5 +1,5 @@
 use Rattle.std.proofs.Common.{◌≡◌, length}
-use Rattle.cam_macros.specs.Scanning.{scan, scanned, status_of}
+use Rattle.cam_macros.specs.Machinery.Scanning.{scan, scanned, status_of}
 use Rattle.cam_macros.proofs.scanner.steps.Given as goal
 
 abbrev pub decreases-loop-first : goal.decreases-loop-first

@@ -10,7 +10,8 @@ overflow_sub-result-2 c =
 pub returns-clause-value : goal.returns-clause-value
 returns-clause-value c =
     rw (
-      kept_differences c.dot.result c.dot-2.result c.squared.result c.dot.ensures.bound c.dot-2.ensures.bound (omega arith),
+      kept_differences c.dot.result c.dot-2.result c.squared.result c.dot.ensures.bound c.dot-2.ensures.bound
+          (omega arith),
       c.dot.ensures.value,
       c.dot-2.ensures.value,
       c.squared.ensures.value,
@@ -18,6 +19,9 @@ returns-clause-value c =
 
 pub returns-clause-bound : goal.returns-clause-bound
 returns-clause-bound c =
-    let bound = differences_bound c.dot.result c.dot-2.result c.squared.result c.dot.ensures.bound c.dot-2.ensures.bound (omega arith) in
-    rw (kept_differences c.dot.result c.dot-2.result c.squared.result c.dot.ensures.bound c.dot-2.ensures.bound (omega arith))
+    let bound =
+    differences_bound c.dot.result c.dot-2.result c.squared.result c.dot.ensures.bound c.dot-2.ensures.bound
+    (omega arith) in
+    rw (kept_differences c.dot.result c.dot-2.result c.squared.result c.dot.ensures.bound c.dot-2.ensures.bound
+    (omega arith))
     (omega arith)

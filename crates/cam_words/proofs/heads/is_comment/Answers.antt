@@ -7,7 +7,8 @@ returns-then-begins_with c = comment_at_G04 c.args.text.now c.if-begins_with.ens
 pub returns-in-Some : goal.returns-in-Some
 returns-in-Some c =
     let head = c.in-Some.ensures in
-    comment_at_G4 c.args.text.now c.in-Some.rest.now c.begins_with_digit.result c.if-begins_with.ensures head.begins head.rest c.begins_with_digit.ensures
+    comment_at_G4 c.args.text.now c.in-Some.rest.now c.begins_with_digit.result c.if-begins_with.ensures head.begins
+    head.rest c.begins_with_digit.ensures
 
 pub returns-in-None : goal.returns-in-None
 returns-in-None c =

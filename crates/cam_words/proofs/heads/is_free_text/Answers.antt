@@ -5,8 +5,15 @@ use Rattle.cam_words.proofs.heads.is_free_text.Goals.{then-begins_with, else-beg
 
 pub returns-then-begins_with-2 : goal.returns-then-begins_with-2
 returns-then-begins_with-2 c =
-    c.if-begins_with-2.true ∙ elim c.if-begins_with.branch [ then-begins_with w ↦ free_at_T c.args.text.now cc | else-begins_with w ↦ free_at_IN c.args.text.now cc ]
+    c.if-begins_with-2.true
+    ∙ elim c.if-begins_with.branch
+    [ then-begins_with w ↦ free_at_T c.args.text.now cc | else-begins_with w ↦ free_at_IN c.args.text.now cc ]
 
 pub returns-else-begins_with-2 : goal.returns-else-begins_with-2
 returns-else-begins_with-2 c =
-    elim c.if-begins_with.branch [ then-begins_with w ↦ absurd cc | else-begins_with w ↦ free_by_LN c.args.text.now c.begins_with-else-begins_with-2.result (cc) (cc) c.begins_with-else-begins_with-2.ensures ]
+    elim c.if-begins_with.branch [
+      | then-begins_with w ↦ absurd cc
+      | else-begins_with w ↦
+          free_by_LN c.args.text.now c.begins_with-else-begins_with-2.result (cc) (cc)
+          c.begins_with-else-begins_with-2.ensures
+    ]

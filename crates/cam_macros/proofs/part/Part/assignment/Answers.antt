@@ -4,18 +4,23 @@ use Rattle.cam_macros.proofs.PartLemmas.{no_equals, no_variable, no_value, is_as
 use Rattle.cam_macros.proofs.part.Part.assignment.Goals as goal
 
 pub returns-in_default-clause-fault : goal.returns-in_default-clause-fault
-returns-in_default-clause-fault c = no_equals c.args.piece.now c.cut.result.0.now (rw c.in_default.is at c.cut.ensures.pieces)
+returns-in_default-clause-fault c =
+    no_equals c.args.piece.now c.cut.result.0.now (rw c.in_default.is at c.cut.ensures.pieces)
 
 pub returns-in_default-variable-clause-fault : goal.returns-in_default-variable-clause-fault
 returns-in_default-variable-clause-fault c =
-    no_variable c.args.piece.now c.cut.result.0.now c.in-Some.text.now (rw c.in-Some.is at c.cut.ensures.pieces) (sym c.variable.ensures ∙ c.in_default-variable.is)
+    no_variable c.args.piece.now c.cut.result.0.now c.in-Some.text.now (rw c.in-Some.is at c.cut.ensures.pieces)
+    (sym c.variable.ensures ∙ c.in_default-variable.is)
 
 pub returns-in_err-value-clause-fault : goal.returns-in_err-value-clause-fault
 returns-in_err-value-clause-fault c =
     let p = err_from_is_err_and c.from_residual.result c.from_residual.ensures.1 in
-    rw (p.1, p.2) (no_value c.in_err-value.field-0.0 c.args.piece.now c.cut.result.0.now c.in-Some.text.now (rw c.in-Some.is at c.cut.ensures.pieces) c.in_err-value.ensures.fault)
+    rw (p.1, p.2)
+    (no_value c.in_err-value.field-0.0 c.args.piece.now c.cut.result.0.now c.in-Some.text.now
+    (rw c.in-Some.is at c.cut.ensures.pieces) c.in_err-value.ensures.fault)
 
 pub returns-clause-ok : goal.returns-clause-ok
 returns-clause-ok c =
-    is_assignment c.args.piece.now c.cut.result.0.now c.in-Some.text.now c.in-Some-variable.variable c.in_ok-value.value (rw c.in-Some.is at c.cut.ensures.pieces)
+    is_assignment c.args.piece.now c.cut.result.0.now c.in-Some.text.now c.in-Some-variable.variable
+    c.in_ok-value.value (rw c.in-Some.is at c.cut.ensures.pieces)
     (sym c.variable.ensures ∙ c.in-Some-variable.is) c.in_ok-value.ensures.ok

@@ -1,5 +1,5 @@
 use Rattle.std.proofs.Common.{length, drop, ◌-◌, sym, ap, ◌∙◌, arith, length-drop, length-take}
-use Rattle.cam_macros.specs.Scanning.{prefixed}
+use Rattle.cam_macros.specs.Machinery.Scanning.{prefixed}
 use Rattle.cam_macros.proofs.Marks.{nothing_at, dollar_at, prefix_of}
 use Rattle.cam_macros.proofs.scanner.Scanner.operand.Goals as goal
 
@@ -8,11 +8,13 @@ returns-in_default-clause-fault c = nothing_at c.args.self.now c.args.text.now c
 
 pub returns-in-Dollar-clause-ok : goal.returns-in-Dollar-clause-ok
 returns-in-Dollar-clause-ok c =
-    rw (dollar_at c.args.self.now c.args.text.now (omega arith) (sym c.mark_of.ensures ∙ c.in-Dollar.is)) c.variable.ensures.ok
+    rw (dollar_at c.args.self.now c.args.text.now (omega arith) (sym c.mark_of.ensures ∙ c.in-Dollar.is))
+    c.variable.ensures.ok
 
 pub returns-in-Dollar-clause-fault : goal.returns-in-Dollar-clause-fault
 returns-in-Dollar-clause-fault c =
-    rw (dollar_at c.args.self.now c.args.text.now (omega arith) (sym c.mark_of.ensures ∙ c.in-Dollar.is)) c.variable.ensures.fault
+    rw (dollar_at c.args.self.now c.args.text.now (omega arith) (sym c.mark_of.ensures ∙ c.in-Dollar.is))
+    c.variable.ensures.fault
 
 pub returns-in-Ok : goal.returns-in-Ok
 returns-in-Ok c =

@@ -1,0 +1,17 @@
+use Rattle.cam_shapes.proofs.TestLaws.{is_in_arc-meaning, is_in_bar-meaning, is_in_capsule-meaning}
+use Rattle.cam_shapes.proofs.TestLaws.{is_in_contour-meaning}
+use Rattle.cam_shapes.proofs.TestLaws.{is_in_disc-meaning, is_in_hole-meaning, is_in_obround-meaning}
+use Rattle.cam_shapes.proofs.TestLaws.{is_in_rectangle-meaning}
+use Rattle.cam_shapes.proofs.laws.tests_tell_shapes.Goals as goal
+
+pub returns : goal.returns
+returns c = record {
+  disc = is_in_disc-meaning;
+  hole = is_in_hole-meaning;
+  rectangle = is_in_rectangle-meaning;
+  obround = is_in_obround-meaning;
+  bar = is_in_bar-meaning;
+  capsule = is_in_capsule-meaning;
+  arc = is_in_arc-meaning;
+  contour = is_in_contour-meaning;
+}
