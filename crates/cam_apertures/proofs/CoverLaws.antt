@@ -1,0 +1,122 @@
+-- Laws of the definitions of cover.
+use Rattle.std.proofs.Common.{◌≡◌, ◌↔◌, zero, suc, Bool, true, false, cond, IsTrue, ◌⊎◌, inl, inr, List, [], ◌∷◌, ◌++◌, map, All, refl, ap, sym, ◌∙◌, arith}
+use Rattle.std.specs.Prelude.{not, ◌&&◌}
+use Rattle.std.proofs.lemmas.Bool.{and_parts, and_from, cases_Bool, false_from_ne_true, true≢false}
+use Rattle.cam_units.specs.declared.point.Spot.{Spot}
+use Rattle.cam_units.specs.declared.turn.Turn.{Turn}
+use Rattle.cam_shapes.proofs.TestLaws.{is_in_bar-meaning, is_in_contour-meaning, is_in_disc-meaning, is_in_hole-meaning, is_in_obround-meaning, is_in_rectangle-meaning}
+use Rattle.cam_shapes.specs.Outline.{outline_of}
+use Rattle.cam_shapes.specs.Disc.{IsInHole}
+use Rattle.cam_shapes.specs.Tests.{is_in_disc, is_in_hole, is_in_obround, is_in_rectangle}
+use Rattle.cam_macros.specs.declared.primitive.MacroPrimitive.{MacroPrimitive}
+use Rattle.cam_macros.specs.declared.primitive.PrimShape.{PrimShape}
+use Rattle.cam_macros.specs.declared.primitive.PrimShape.TheVariants.{Disc, Bar, Rect as Rectangular, Outline}
+use Rattle.cam_apertures.specs.declared.aperture.Aperture.{Aperture}
+use Rattle.cam_apertures.specs.declared.aperture.Aperture.TheVariants.{Circle, Rect, Obround, Prims}
+use Rattle.cam_apertures.specs.Cover.{disc, obround, origin, rectangle, IsInShape, IsPainted}
+use Rattle.cam_apertures.specs.Laws.{BoxLaw, HoleLaw}
+use Rattle.cam_apertures.specs.Tests.{is_covered, is_in_shape, painted, TestLaw}
+use Rattle.cam_apertures.specs.Turned.{turned_height, turned_prim, turned_width}
+use Rattle.cam_apertures.proofs.ShapeBoxes.{disc_box, obround_box, painted_box, rectangle_box}
+
+pub box_law : BoxLaw
+box_law (Circle diameter hole) t s h = disc_box origin s diameter h.0
+box_law (Rect width height hole) t s h = rectangle_box origin s (turned_width t width height) (turned_height t width height) h.0
+box_law (Obround width height hole) t s h = obround_box origin s (turned_width t width height) (turned_height t width height) h.0
+box_law (Prims prims) t s h = painted_box (map (turned_prim t) prims) s h
+
+pub hole_law : HoleLaw
+hole_law (Circle diameter hole) t s h covered = covered.1 h
+hole_law (Rect width height hole) t s h covered = covered.1 h
+hole_law (Obround width height hole) t s h covered = covered.1 h
+hole_law (Prims prims) t s h covered = h
+
+-- the test of a shape
+pub in_shape : (shape : PrimShape) (s : Spot) → IsTrue (is_in_shape shape s) ↔ IsInShape shape s
+unfolding is_in_shape
+in_shape (Disc centre diameter) s = is_in_disc-meaning s (record { centre = centre; diameter = diameter })
+in_shape (Bar from to width) s = is_in_bar-meaning s (record { from = from; to = to; width = width })
+in_shape (Rectangular centre width height) s = is_in_rectangle-meaning s (record { centre = centre; width = width; height = height })
+in_shape (Outline points) s = is_in_contour-meaning s (outline_of points)
+
+abbrev AreFree : List MacroPrimitive → Spot → Type 0
+AreFree ps s = All (λ later. ¬ IsInShape later.shape s) ps
+
+-- ink that no primitive holds stays
+painted_free : (ink : Bool) (ps : List MacroPrimitive) (s : Spot) → AreFree ps s → painted ink ps s ≡ ink
+painted_free ink [] s h = refl
+painted_free ink (p ∷ ps) s h =
+    let here : is_in_shape p.shape s ≡ false = false_from_ne_true (is_in_shape p.shape s) (λ t. h 0 p (omega arith) ((in_shape p.shape s).0 t)) in
+    painted_free (cond (is_in_shape p.shape s) p.paint ink) ps s (λ k d below. h (suc k) d (omega arith))
+    ∙ ap (λ b. cond b p.paint ink) here
+
+painted-append : (ink : Bool) (ps qs : List MacroPrimitive) (s : Spot) → painted ink (ps ++ qs) s ≡ painted (painted ink ps s) qs s
+painted-append ink [] qs s = refl
+painted-append ink (p ∷ ps) qs s = painted-append (cond (is_in_shape p.shape s) p.paint ink) ps qs s
+
+from_painted : (ink : Bool) (ps : List MacroPrimitive) (s : Spot) → IsPainted ps s → painted ink ps s ≡ true
+from_painted ink ps s h =
+    ap (λ all. painted ink all s) h.split
+    ∙ painted-append ink h.before (h.prim ∷ h.after) s
+    ∙ ap (λ b. painted (cond b h.prim.paint (painted ink h.before s)) h.after s) ((in_shape h.prim.shape s).1 h.held)
+    ∙ painted_free h.prim.paint h.after s h.last
+    ∙ h.exposed
+
+-- what painted a place: a primitive, or nothing since the start
+to_painted : (ink : Bool) (ps : List MacroPrimitive) (s : Spot) → painted ink ps s ≡ true → IsPainted ps s ⊎ ((ink ≡ true) × AreFree ps s)
+to_painted ink [] s h = inr (h, (λ k d below. absurd (omega arith)))
+to_painted ink (p ∷ ps) s h =
+    elim (to_painted (cond (is_in_shape p.shape s) p.paint ink) ps s h) [
+      | inl later ↦ inl (record {
+        before = p ∷ later.before;
+        prim = later.prim;
+        after = later.after;
+        split = ap (λ r. p ∷ r) later.split;
+        held = later.held;
+        exposed = later.exposed;
+        last = later.last;
+      })
+      | inr start ↦ elim (cases_Bool (is_in_shape p.shape s)) [
+        | inl held ↦ inl (record {
+          before = [];
+          prim = p;
+          after = ps;
+          split = refl;
+          held = (in_shape p.shape s).0 held;
+          exposed = sym (ap (λ b. cond b p.paint ink) held) ∙ start.0;
+          last = start.1;
+        })
+        | inr not_here ↦ inr (sym (ap (λ b. cond b p.paint ink) not_here) ∙ start.0, one_more not_here start.1)
+      ]
+    ]
+  where
+    one_more : is_in_shape p.shape s ≡ false → AreFree ps s → AreFree (p ∷ ps) s
+    one_more f u zero d below = λ inside. true≢false (sym ((in_shape p.shape s).1 inside) ∙ f)
+    one_more f u (suc k) d below = u k d (omega arith)
+
+pub painted_law : (ps : List MacroPrimitive) (s : Spot) → IsTrue (painted false ps s) ↔ IsPainted ps s
+painted_law ps s = (
+  (λ h. elim (to_painted false ps s h) [
+    | inl found ↦ found
+    | inr start ↦ absurd (true≢false (sym start.0))
+  ]),
+  (λ h. from_painted false ps s h),
+)
+
+-- in a shape and not in a hole
+without_hole : {P Q : Type 0} (p q : Bool) → (IsTrue p ↔ P) → (IsTrue q ↔ Q) → IsTrue (p && not q) ↔ (P × ¬ Q)
+without_hole p true f g = (
+  (λ h. absurd (true≢false (sym (and_parts p false h).1))),
+  (λ h. absurd (h.1 (g.0 refl))),
+)
+without_hole p false f g = (
+  (λ h. (f.0 (and_parts p true h).0, (λ q. true≢false (sym (g.1 q))))),
+  (λ h. and_from p true (f.1 h.0) refl),
+)
+
+pub test_law : TestLaw
+unfolding is_covered
+test_law (Circle diameter hole) t s = without_hole _ _ (is_in_disc-meaning s (disc diameter)) (is_in_hole-meaning s (disc hole))
+test_law (Rect width height hole) t s = without_hole _ _ (is_in_rectangle-meaning s (rectangle t width height)) (is_in_hole-meaning s (disc hole))
+test_law (Obround width height hole) t s = without_hole _ _ (is_in_obround-meaning s (obround t width height)) (is_in_hole-meaning s (disc hole))
+test_law (Prims prims) t s = painted_law (map (turned_prim t) prims) s

@@ -1,0 +1,13 @@
+pub mod Corners
+pub mod TurnedBoxes
+pub mod Outlines
+pub mod Painting
+pub mod ShapeBoxes
+pub mod CoverLaws
+pub mod Digits
+pub mod CutLemmas
+pub mod Values
+pub mod Expansions
+pub mod Refusals
+pub mod ObroundTurns
+pub mod CoverTurns

@@ -1,0 +1,71 @@
+-- Outlines that are turned, and then moved by nothing.
+use Rattle.std.proofs.Common.{◌≡◌, ◌≤◌, ℤ, pos, ◌+ℤ◌, ◌*ℤ◌, List, [], ◌∷◌, map, All, refl, ap, ◌∙◌, arith}
+use Rattle.std.specs.Int.RustNames.{unsigned_abs}
+use Rattle.std.proofs.lemmas.Int.{ints}
+use Rattle.std.proofs.lemmas.List.Elements.{All-weaker}
+use Rattle.cam_units.specs.declared.point.Point.{Point}
+use Rattle.cam_units.specs.declared.turn.Turn.{Turn}
+use Rattle.cam_units.specs.declared.turn.Turn.TheVariants.{R0, R90, R180, R270, M0, M90, M180, M270}
+use Rattle.cam_units.specs.Board.{IsOnBoard}
+use Rattle.cam_units.specs.Turns.{applied, matrix_of}
+use Rattle.cam_units.proofs.TurnLaws.{same_point}
+use Rattle.cam_shapes.specs.declared.contour.Contour.{Contour}
+use Rattle.cam_shapes.specs.declared.segments.Seg.{Seg}
+use Rattle.cam_shapes.specs.declared.segments.Seg.TheVariants.{Line}
+use Rattle.cam_shapes.specs.Outline.{lines_to, outline_of}
+use Rattle.cam_shapes.specs.Placing.{placed_contour, placed_point, placed_seg, IsPlaceablePoint}
+use Rattle.cam_apertures.specs.Cover.{origin}
+use Rattle.cam_apertures.specs.Primitives.{IsMacroPoint}
+use Rattle.cam_apertures.specs.Turned.{turned_point}
+
+pub on_board : (p : Point) → IsMacroPoint p → IsOnBoard p
+on_board p h = record { x = omega (arith, h.x); y = omega (arith, h.y) }
+
+-- a macro's point stays one
+pub near_turned : (t : Turn) (p : Point) → IsMacroPoint p → IsMacroPoint (turned_point t p)
+near_turned R0 p h = record { x = omega (arith, ints, h.x); y = omega (arith, ints, h.y) }
+near_turned R90 p h = record { x = omega (arith, ints, h.y); y = omega (arith, ints, h.x) }
+near_turned R180 p h = record { x = omega (arith, ints, h.x); y = omega (arith, ints, h.y) }
+near_turned R270 p h = record { x = omega (arith, ints, h.y); y = omega (arith, ints, h.x) }
+near_turned M0 p h = record { x = omega (arith, ints, h.x); y = omega (arith, ints, h.y) }
+near_turned M90 p h = record { x = omega (arith, ints, h.y); y = omega (arith, ints, h.x) }
+near_turned M180 p h = record { x = omega (arith, ints, h.x); y = omega (arith, ints, h.y) }
+near_turned M270 p h = record { x = omega (arith, ints, h.y); y = omega (arith, ints, h.x) }
+
+no_more : (z : ℤ) → z +ℤ pos 0 ≡ z
+no_more z = omega (arith, ints)
+
+placed_is_turned : (t : Turn) (p : Point) → placed_point t origin p ≡ turned_point t p
+placed_is_turned t p =
+    same_point (placed_point t origin p) (turned_point t p) (no_more (turned_point t p).x) (no_more (turned_point t p).y)
+
+pub origin_turned : (t : Turn) → turned_point t origin ≡ origin
+origin_turned R0 = refl
+origin_turned R90 = refl
+origin_turned R180 = refl
+origin_turned R270 = refl
+origin_turned M0 = refl
+origin_turned M90 = refl
+origin_turned M180 = refl
+origin_turned M270 = refl
+
+placed_lines : (t : Turn) (points : List Point) → map (placed_seg t origin) (lines_to points) ≡ lines_to (map (turned_point t) points)
+placed_lines t [] = refl
+placed_lines t (p ∷ ps) = λ i. Line (placed_is_turned t p i) ∷ placed_lines t ps i
+
+contour_by : Point → List Seg → Contour
+contour_by start segs = record { start = start; segs = segs }
+
+-- the outline through turned points
+pub outline_turned : (t : Turn) (points : List Point) → placed_contour t origin (outline_of points) ≡ outline_of (map (turned_point t) points)
+outline_turned t [] = let e = placed_is_turned t origin ∙ origin_turned t in λ i. record { start = e i; segs = [] }
+outline_turned t (p ∷ ps) = λ i. record { start = placed_is_turned t p i; segs = placed_lines t ps i }
+
+placeable : (t : Turn) (p : Point) → IsMacroPoint p → IsPlaceablePoint t origin p
+placeable t p h = record {
+  here = on_board p h;
+  there = rw (placed_is_turned t p) (on_board (turned_point t p) (near_turned t p h));
+}
+
+pub all_placeable : (t : Turn) (points : List Point) → All IsMacroPoint points → All (IsPlaceablePoint t origin) points
+all_placeable t points h = All-weaker IsMacroPoint (IsPlaceablePoint t origin) (placeable t) points h

@@ -1,0 +1,301 @@
+-- One test after the other tells the least of the faults that hold.
+use Rattle.std.proofs.Common.{◌≡◌, ℕ, ◌+◌, ◌≤◌, ℤ, Bool, true, false, cond, ltb, ◌⊎◌, inl, inr, List, [], ◌∷◌, length, Option, Some, None, Result, Ok, Err, refl, ap, sym, ◌∙◌, subst, arith, lit≤}
+use Rattle.std.specs.Prelude.{codes, is_none, not, unwrap_or, IfErr, IfOk}
+use Rattle.std.specs.Str.{bytes_eq}
+use Rattle.std.proofs.lemmas.Bool.{false≢true}
+use Rattle.cam_units.specs.declared.length.Unit.{Unit as FileUnit}
+use Rattle.cam_words.specs.Heads.{packed}
+use Rattle.cam_macros.specs.declared.aperture_macro.Macro.{Macro}
+use Rattle.cam_macros.specs.declared.fault.MacroFault.{MacroFault}
+use Rattle.cam_macros.specs.declared.fault.MacroFault.TheVariants as macro
+use Rattle.cam_macros.specs.declared.primitive.MacroPrimitive.{MacroPrimitive}
+use Rattle.cam_macros.specs.Expansion.{expansion_of}
+use Rattle.cam_apertures.specs.declared.aperture.Aperture.{Aperture}
+use Rattle.cam_apertures.specs.declared.aperture.Aperture.TheVariants.{Prims}
+use Rattle.cam_apertures.specs.declared.fault.AdFault.{AdFault}
+use Rattle.cam_apertures.specs.declared.fault.AdFault.TheVariants.{UnknownForm, BadNumber, TemplateRefused, PrimitiveRefused, RotationRefused, SizeRefused, Malformed, OutOfMemory}
+use Rattle.cam_apertures.specs.Faults.{number_of, of_macro}
+use Rattle.cam_apertures.specs.Numbers.{decimal, defined_number}
+use Rattle.cam_apertures.specs.Definition.{aperture_of, by_macro, by_name, circle, definition, definition_of, faults_of, has_sizes, macro_faults, named, obround, painted, rect, standard_faults, template_faults, values_of, with_value, Definition, IsAdFault, IsDefined, IsLeast, IsRefused, Table, Tells}
+use Rattle.cam_apertures.specs.Machinery.Outcomes.{macro_outcome, outcome, standard_outcome, template_outcome, with_aperture, with_number, with_values, IsErr}
+
+-- an outcome, the faults that hold and the aperture that is meant say the same
+record Agrees (o : Result Aperture AdFault) (t : Table) (a : Option Aperture) : Type 0 where
+  pub made : (aperture : Aperture) → o ≡ Ok aperture → a ≡ Some aperture
+  pub faultless : (aperture : Aperture) → o ≡ Ok aperture → (n : ℕ) → Tells t n → ⊥
+  pub least : (fault : AdFault) → o ≡ Err fault → IsLeast (Tells t) (number_of fault)
+  pub low : (n : ℕ) → Tells t n → 4 ≤ n
+
+agrees_either : {o o' : Result Aperture AdFault} {t t' : Table} {a a' : Option Aperture} (b : Bool) → Agrees o t a → Agrees o' t' a'
+    → Agrees (cond b o o') (cond b t t') (cond b a a')
+agrees_either true h k = h
+agrees_either false h k = k
+
+agrees_by_macro : (found : Option Macro) {o : Result Aperture AdFault} {t : Table} {a : Option Aperture} (o' : Macro → Result Aperture AdFault) (t' : Macro → Table) (a' : Macro → Option Aperture)
+    → Agrees o t a → ((m : Macro) → Agrees (o' m) (t' m) (a' m)) → Agrees (by_macro found o o') (by_macro found t t') (by_macro found a a')
+agrees_by_macro None o' t' a' h k = h
+agrees_by_macro (Some m) o' t' a' h k = k m
+
+-- the fault of an outcome is the one that it tells
+told : {A : Type 0} (P : AdFault → Type 0) (f g : AdFault) → P f → ◌≡◌ {A = Result A AdFault} (Err f) (Err g) → P g
+told P f g h e = let same : f ≡ g = cc in subst P same h
+
+abbrev rows : Bool → Bool → Bool → Table
+rows x y z = (4, x) ∷ (11, y) ∷ (24, z) ∷ []
+
+from_4 : (x y z : Bool) (n : ℕ) → Tells (rows x y z) n → 4 ≤ n
+from_4 x y z n (inl p) = omega (arith, p.0)
+from_4 x y z n (inr (inl p)) = omega (arith, p.0)
+from_4 x y z n (inr (inr (inl p))) = omega (arith, p.0)
+from_4 x y z n (inr (inr (inr p))) = absurd p
+
+from_11 : (y z : Bool) (n : ℕ) → Tells (rows false y z) n → 11 ≤ n
+from_11 y z n (inl p) = absurd (false≢true p.1)
+from_11 y z n (inr (inl p)) = omega (arith, p.0)
+from_11 y z n (inr (inr (inl p))) = omega (arith, p.0)
+from_11 y z n (inr (inr (inr p))) = absurd p
+
+from_24 : (z : Bool) (n : ℕ) → Tells (rows false false z) n → 24 ≤ n
+from_24 z n (inl p) = absurd (false≢true p.1)
+from_24 z n (inr (inl p)) = absurd (false≢true p.1)
+from_24 z n (inr (inr (inl p))) = omega (arith, p.0)
+from_24 z n (inr (inr (inr p))) = absurd p
+
+from_none : (n : ℕ) → Tells (rows false false false) n → ⊥
+from_none n (inl p) = false≢true p.1
+from_none n (inr (inl p)) = false≢true p.1
+from_none n (inr (inr (inl p))) = false≢true p.1
+from_none n (inr (inr (inr p))) = p
+
+agrees_tests : (x y z : Bool) (a : Aperture)
+    → Agrees (cond x (Err BadNumber) (cond y (Err TemplateRefused) (cond z (Ok a) (Err SizeRefused)))) (rows x y (not z)) (Some a)
+agrees_tests true y z a = record {
+  made = λ b e. absurd cc;
+  faultless = λ b e. absurd cc;
+  least = λ f e. told (λ g. IsLeast (Tells (rows true y (not z))) (number_of g)) BadNumber f (record { holds = inl (refl, refl); least = from_4 true y (not z) }) e;
+  low = from_4 true y (not z);
+}
+agrees_tests false true z a = record {
+  made = λ b e. absurd cc;
+  faultless = λ b e. absurd cc;
+  least = λ f e. told (λ g. IsLeast (Tells (rows false true (not z))) (number_of g)) TemplateRefused f (record { holds = inr (inl (refl, refl)); least = from_11 true (not z) }) e;
+  low = from_4 false true (not z);
+}
+agrees_tests false false true a = record {
+  made = λ b e. let same : a ≡ b = cc in ap Some same;
+  faultless = λ b e. from_none;
+  least = λ f e. absurd cc;
+  low = from_4 false false false;
+}
+agrees_tests false false false a = record {
+  made = λ b e. absurd cc;
+  faultless = λ b e. absurd cc;
+  least = λ f e. told (λ g. IsLeast (Tells (rows false false true)) (number_of g)) SizeRefused f (record { holds = inr (inr (inl (refl, refl))); least = from_24 true }) e;
+  low = from_4 false false true;
+}
+
+agrees_standard : (fewest count : ℕ) (a : Aperture) → Agrees (standard_outcome fewest count a) (standard_faults fewest count a) (Some a)
+unfolding standard_outcome
+agrees_standard fewest count a = agrees_tests (ltb count fewest) (ltb (fewest + 1) count) (has_sizes a) a
+
+one_row : (n m : ℕ) → Tells ((n, true) ∷ []) m → n ≡ m
+one_row n m (inl p) = p.0
+one_row n m (inr p) = absurd p
+
+agrees_refused : Agrees (Err TemplateRefused) ((11, true) ∷ []) None
+agrees_refused = record {
+  made = λ b e. absurd cc;
+  faultless = λ b e. absurd cc;
+  least = λ f e. told (λ g. IsLeast (Tells ((11, true) ∷ [])) (number_of g)) TemplateRefused f (record { holds = inl (refl, refl); least = λ m h. omega (arith, one_row 11 m h) }) e;
+  low = λ m h. omega (arith, one_row 11 m h);
+}
+
+macro_low : (f : MacroFault) → 4 ≤ number_of (of_macro f)
+macro_low macro.BadName = lit≤ tt
+macro_low macro.Malformed = lit≤ tt
+macro_low macro.PrimitiveRefused = lit≤ tt
+macro_low macro.RotationRefused = lit≤ tt
+macro_low macro.SizeRefused = lit≤ tt
+macro_low macro.OutOfMemory = lit≤ tt
+
+agrees_macro : (r : Result (List MacroPrimitive) MacroFault) → Agrees (macro_outcome r) (macro_faults r) (painted r)
+agrees_macro (Ok prims) = record {
+  made = λ b e. let same : Prims prims ≡ b = cc in ap Some same;
+  faultless = λ b e n h. h;
+  least = λ f e. absurd cc;
+  low = λ n h. absurd h;
+}
+agrees_macro (Err fault) =
+    let n = number_of (of_macro fault) in
+    record {
+      made = λ b e. absurd cc;
+      faultless = λ b e. absurd cc;
+      least = λ f e. told (λ g. IsLeast (Tells ((n, true) ∷ [])) (number_of g)) (of_macro fault) f (record { holds = inl (refl, refl); least = λ m h. omega (arith, one_row n m h) }) e;
+      low = λ m h. omega (arith, one_row n m h, macro_low fault);
+    }
+
+-- the outcome of a template by the count of its parameters
+abbrev outcome_by : List ℕ → List Macro → FileUnit → ℕ → List ℤ → Result Aperture AdFault
+outcome_by name macros unit count values =
+    by_name name macros
+    (standard_outcome 1 count (circle unit values))
+    (standard_outcome 2 count (rect unit values))
+    (standard_outcome 2 count (obround unit values))
+    (Err TemplateRefused)
+    (λ m. macro_outcome (expansion_of unit values m.parts))
+
+agrees_template : (name : List ℕ) (macros : List Macro) (unit : FileUnit) (count : ℕ) (values : List ℤ)
+    → Agrees (outcome_by name macros unit count values) (template_faults name macros unit count values) (aperture_of name macros unit values)
+agrees_template name macros unit count values =
+    agrees_either (bytes_eq name (codes "C")) (agrees_standard 1 count (circle unit values))
+    (agrees_either (bytes_eq name (codes "R")) (agrees_standard 2 count (rect unit values))
+    (agrees_either (bytes_eq name (codes "O")) (agrees_standard 2 count (obround unit values))
+    (agrees_either (bytes_eq name (codes "P")) agrees_refused
+    (agrees_by_macro (named macros name) (λ m. macro_outcome (expansion_of unit values m.parts)) (λ m. macro_faults (expansion_of unit values m.parts))
+    (λ m. painted (expansion_of unit values m.parts)) agrees_refused (λ m. agrees_macro (expansion_of unit values m.parts))))))
+
+-- as many values as parameters
+with_length : (v : Option ℤ) (vs : Option (List ℤ)) (values : List ℤ) (n : ℕ) → ((l : List ℤ) → vs ≡ Some l → length l ≡ n) → with_value v vs ≡ Some values → length values ≡ n + 1
+with_length None vs values n h e = absurd cc
+with_length (Some v) None values n h e = absurd cc
+with_length (Some v) (Some l) values n h e =
+    let same : v ∷ l ≡ values = cc in ap length (sym same) ∙ (omega (arith, h l refl))
+
+values_length : (runs : List (List ℕ)) (values : List ℤ) → values_of runs ≡ Some values → length values ≡ length runs
+values_length [] values e = let same : [] ≡ values = cc in ap length (sym same)
+values_length (run ∷ runs) values e =
+    with_length (decimal run) (values_of runs) values (length runs) (λ l. values_length runs l) e ∙ (omega arith)
+
+abbrev table_by : Option ℕ → Option (List ℤ) → List ℕ → List Macro → FileUnit → ℕ → Table
+table_by number values name macros unit count = (4, is_none number) ∷ (4, is_none values) ∷ template_faults name macros unit count (unwrap_or values [])
+
+record Whole (o : Result (ℕ × Aperture) AdFault) (t : Table) : Type 0 where
+  pub least : (fault : AdFault) → o ≡ Err fault → IsLeast (Tells t) (number_of fault)
+  pub faultless : (made : ℕ × Aperture) → o ≡ Ok made → (n : ℕ) → Tells t n → ⊥
+
+from_table : (number : Option ℕ) (values : Option (List ℤ)) (name : List ℕ) (macros : List Macro) (unit : FileUnit) (count n : ℕ)
+    → Tells (table_by number values name macros unit count) n → 4 ≤ n
+from_table number values name macros unit count n (inl p) = omega (arith, p.0)
+from_table number values name macros unit count n (inr (inl p)) = omega (arith, p.0)
+from_table number values name macros unit count n (inr (inr p)) = (agrees_template name macros unit count (unwrap_or values [])).low n p
+
+behind_two : (t : Table) (n : ℕ) → Tells ((4, false) ∷ (4, false) ∷ t) n → Tells t n
+behind_two t n (inl p) = absurd (false≢true p.1)
+behind_two t n (inr (inl p)) = absurd (false≢true p.1)
+behind_two t n (inr (inr p)) = p
+
+whole_with : (o : Result Aperture AdFault) (t : Table) (a : Option Aperture) (number : ℕ) → Agrees o t a → Whole (with_aperture number o) ((4, false) ∷ (4, false) ∷ t)
+whole_with (Ok aperture) t a number h = record {
+  least = λ f e. absurd cc;
+  faultless = λ made e n k. h.faultless aperture refl n (behind_two t n k);
+}
+whole_with (Err fault) t a number h = record {
+  least = λ f e.
+      let l = h.least fault refl in
+      told (λ g. IsLeast (Tells ((4, false) ∷ (4, false) ∷ t)) (number_of g)) fault f
+      (record { holds = inr (inr l.holds); least = λ m k. l.least m (behind_two t m k) }) e;
+  faultless = λ made e. absurd cc;
+}
+
+whole_by : (number : Option ℕ) (values : Option (List ℤ)) (name : List ℕ) (macros : List Macro) (unit : FileUnit) (count : ℕ)
+    → ((l : List ℤ) → values ≡ Some l → length l ≡ count)
+    → Whole (with_number number values (template_outcome name macros unit)) (table_by number values name macros unit count)
+unfolding template_outcome
+whole_by None values name macros unit count long = record {
+  least = λ f e. told (λ g. IsLeast (Tells (table_by None values name macros unit count)) (number_of g)) BadNumber f
+      (record { holds = inl (refl, refl); least = from_table None values name macros unit count }) e;
+  faultless = λ made e. absurd cc;
+}
+whole_by (Some number) None name macros unit count long = record {
+  least = λ f e. told (λ g. IsLeast (Tells (table_by (Some number) None name macros unit count)) (number_of g)) BadNumber f
+      (record { holds = inr (inl (refl, refl)); least = from_table (Some number) None name macros unit count }) e;
+  faultless = λ made e. absurd cc;
+}
+whole_by (Some number) (Some values) name macros unit count long =
+    subst (λ n. Whole (with_aperture number (outcome_by name macros unit (length values) values)) ((4, false) ∷ (4, false) ∷ template_faults name macros unit n values))
+    (long values refl)
+    (whole_with (outcome_by name macros unit (length values) values) (template_faults name macros unit (length values) values) (aperture_of name macros unit values) number
+    (agrees_template name macros unit (length values) values))
+
+whole : (od : Option Definition) (macros : List Macro) (unit : FileUnit) → Whole (outcome od macros unit) (faults_of od macros unit)
+unfolding outcome
+whole None macros unit = record {
+  least = λ f e. told (λ g. IsLeast (Tells ((3, true) ∷ [])) (number_of g)) UnknownForm f
+      (record { holds = inl (refl, refl); least = λ m h. omega (arith, one_row 3 m h) }) e;
+  faultless = λ made e. absurd cc;
+}
+whole (Some d) macros unit =
+    whole_by (defined_number d.number) (values_of d.parameters) d.name macros unit (length d.parameters) (values_length d.parameters)
+
+-- what a definition without a fault gives
+record Given (d : Definition) (macros : List Macro) (unit : FileUnit) (number : ℕ) (aperture : Aperture) : Type 0 where
+  pub values : List ℤ
+  pub number_is : defined_number d.number ≡ Some number
+  pub values_are : values_of d.parameters ≡ Some values
+  pub aperture_is : aperture_of d.name macros unit values ≡ Some aperture
+
+given : (d : Definition) (macros : List Macro) (unit : FileUnit) (number : Option ℕ) (values : Option (List ℤ)) (made : ℕ × Aperture)
+    → defined_number d.number ≡ number → values_of d.parameters ≡ values → with_number number values (template_outcome d.name macros unit) ≡ Ok made → Given d macros unit made.0 made.1
+unfolding template_outcome
+given d macros unit None values made e f g = absurd cc
+given d macros unit (Some number) None made e f g = absurd cc
+given d macros unit (Some number) (Some values) made e f g =
+    by_aperture (outcome_by d.name macros unit (length values) values) (agrees_template d.name macros unit (length values) values) g
+  where
+    by_aperture : (o : Result Aperture AdFault) → Agrees o (template_faults d.name macros unit (length values) values) (aperture_of d.name macros unit values)
+        → with_aperture number o ≡ Ok made → Given d macros unit made.0 made.1
+    by_aperture (Err fault) h g = absurd cc
+    by_aperture (Ok aperture) h g =
+        let same : (number, aperture) ≡ made = cc in
+        subst (λ (m : ℕ × Aperture). Given d macros unit m.0 m.1) same
+        (record { values = values; number_is = e; values_are = f; aperture_is = h.made aperture refl })
+
+record Found (od : Option Definition) (macros : List Macro) (unit : FileUnit) (number : ℕ) (aperture : Aperture) : Type 0 where
+  pub definition : Definition
+  pub form : od ≡ Some definition
+  pub given : Given definition macros unit number aperture
+
+found : (od : Option Definition) (macros : List Macro) (unit : FileUnit) (made : ℕ × Aperture) → outcome od macros unit ≡ Ok made → Found od macros unit made.0 made.1
+unfolding outcome
+found None macros unit made e = absurd cc
+found (Some d) macros unit made e = record {
+  definition = d;
+  form = refl;
+  given = given d macros unit (defined_number d.number) (values_of d.parameters) made refl refl e;
+}
+
+pub is_defined : (text : List ℕ) (macros : List Macro) (unit : FileUnit) (made : ℕ × Aperture) → outcome (definition_of text) macros unit ≡ Ok made
+    → IsDefined text macros unit made.0 made.1
+is_defined text macros unit made e =
+    let f = found (definition_of text) macros unit made e in
+    record {
+      definition = f.definition;
+      values = f.given.values;
+      form = f.form;
+      number_is = f.given.number_is;
+      values_are = f.given.values_are;
+      aperture_is = f.given.aperture_is;
+      faultless = (whole (definition_of text) macros unit).faultless made e;
+    }
+
+pub is_refused : (text : List ℕ) (macros : List Macro) (unit : FileUnit) (fault : AdFault) → IsErr fault (outcome (definition_of text) macros unit)
+    → IsRefused text macros unit fault
+is_refused text macros unit UnknownForm h = (whole (definition_of text) macros unit).least UnknownForm h
+is_refused text macros unit BadNumber h = (whole (definition_of text) macros unit).least BadNumber h
+is_refused text macros unit TemplateRefused h = (whole (definition_of text) macros unit).least TemplateRefused h
+is_refused text macros unit PrimitiveRefused h = (whole (definition_of text) macros unit).least PrimitiveRefused h
+is_refused text macros unit RotationRefused h = (whole (definition_of text) macros unit).least RotationRefused h
+is_refused text macros unit SizeRefused h = (whole (definition_of text) macros unit).least SizeRefused h
+is_refused text macros unit Malformed h = (whole (definition_of text) macros unit).least Malformed h
+is_refused text macros unit OutOfMemory h = tt
+
+-- the same of an answer of a call
+pub answer_defined : (text bytes : List ℕ) (macros : List Macro) (unit : FileUnit) (answer : Result (ℕ × Aperture) AdFault) → bytes ≡ packed text
+    → IfOk answer (λ made. outcome (definition bytes) macros unit ≡ Ok made) → IfOk answer (λ made. IsDefined text macros unit made.0 made.1)
+answer_defined text bytes macros unit (Ok made) e h = is_defined text macros unit made (rw e at h)
+answer_defined text bytes macros unit (Err fault) e h = tt
+
+pub answer_refused : (text bytes : List ℕ) (macros : List Macro) (unit : FileUnit) (answer : Result (ℕ × Aperture) AdFault) → bytes ≡ packed text
+    → IfErr answer (λ fault. IsErr fault (outcome (definition bytes) macros unit)) → IfErr answer (IsRefused text macros unit)
+answer_refused text bytes macros unit (Ok made) e h = tt
+answer_refused text bytes macros unit (Err fault) e h = is_refused text macros unit fault (rw e at h)

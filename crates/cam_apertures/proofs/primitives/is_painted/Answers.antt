@@ -1,0 +1,25 @@
+use Rattle.std.proofs.Common.{◌-◌, ◌<◌, length, sym, arith}
+use Rattle.cam_apertures.proofs.Painting.{decides_at, none_at, not_false, passes_at, round, through}
+use Rattle.cam_apertures.proofs.primitives.is_painted.Goals as goal
+
+pub returns-then-holds : goal.returns-then-holds
+returns-then-holds c =
+    let t = c.args.turn in
+    let prims = c.args.prims.now in
+    let n = c.loop-place.place in
+    through (decides_at t prims (n - 1) n c.index-prims-place.result c.args.spot (omega arith) (omega (arith, c.loop-place.invariant.here)) c.index-prims-place.is
+    (c.holds.ensures.0 c.if-holds.true)) c.loop-place.invariant.same
+
+pub loop-place-preserved : goal.loop-place-preserved
+loop-place-preserved c =
+    let t = c.args.turn in
+    let prims = c.args.prims.now in
+    let n = c.loop-place.place in
+    record {
+      here = omega (arith, c.loop-place.invariant.here);
+      same = through (round (passes_at t prims (n - 1) n c.index-prims-place.result c.args.spot (omega arith) (omega (arith, c.loop-place.invariant.here))
+          c.index-prims-place.is (not_false c.holds.result c.if-holds.false c.holds.ensures))) c.loop-place.invariant.same;
+    }
+
+pub returns : goal.returns
+returns c = none_at c.args.turn c.args.prims.now c.loop-place.place c.args.spot (omega arith) c.loop-place.invariant.same

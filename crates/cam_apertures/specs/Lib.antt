@@ -1,0 +1,11 @@
+pub mod Turned
+pub mod Primitives
+pub mod Cover
+pub mod Bounds
+pub mod Soundness
+pub mod Tests
+pub mod Numbers
+pub mod Faults
+pub mod Definition
+pub mod Laws
+pub mod Machinery

@@ -1,0 +1,74 @@
+-- The numbers of a Gerber file (Gerber Layer Format Specification, "Data types").
+use Rattle.std.specs.Prelude.{ℕ, ℤ, pos, neg_ℤ, ◌+◌, ◌-◌, ◌*◌, ◌^◌, List, [], ◌∷◌, length, take, drop, Option, Some}
+use Rattle.std.specs.Prelude.{None, Bool, ◌==◌, ◌||◌, ◌&&◌, not, nat_lt, nat_le, if◌then◌else◌}
+use Rattle.std.specs.Option.{option_map, option_and_then}
+use Rattle.std.specs.List.{list_all, before_first, after_first, prefix_len}
+use Rattle.std.specs.Char.{is_ascii_digit}
+
+abbrev pub is_sign : ℕ → Bool
+is_sign byte = (byte == 43) || (byte == 45)
+
+abbrev pub is_point : ℕ → Bool
+is_point byte = byte == 46
+
+-- a byte that a number may hold
+unfoldable pub is_numeric : ℕ → Bool
+is_numeric byte = is_ascii_digit byte || is_sign byte || is_point byte
+
+abbrev pub are_digits : List ℕ → Bool
+are_digits run = list_all is_ascii_digit run
+
+-- the number that digits go on to, after n
+abbrev pub value_after : ℕ → List ℕ → ℕ
+value_after n [] = n
+value_after n (digit ∷ digits) = value_after (n * 10 + (digit - 48)) digits
+
+-- the value of digits
+unfoldable pub value_of : List ℕ → ℕ
+value_of digits = value_after 0 digits
+
+-- digits, at least one
+unfoldable pub natural : List ℕ → Option ℕ
+natural run = if (length run == 0) || not (are_digits run) then None else Some (value_of run)
+
+-- a number behind an optional sign
+unfoldable pub signed : (List ℕ → Option ℕ) → List ℕ → Option ℤ
+signed size [] = option_map pos (size [])
+signed size (first ∷ run) =
+    if first == 45 then option_map (λ n. neg_ℤ (pos n)) (size run)
+    else if first == 43 then option_map pos (size run) else option_map pos (size (first ∷ run))
+
+-- what decimals say in 10^-9 of a unit; those past the ninth are dropped
+unfoldable pub billionths : List ℕ → ℕ
+billionths digits = value_of (take 9 digits) * 10 ^ (9 - length digits)
+
+-- digits with an optional point, at least one digit and less than 10^6, in 10^-9 of a unit
+unfoldable pub unsigned_decimal : List ℕ → Option ℕ
+unsigned_decimal run =
+    let whole = before_first is_point run in
+    let decimals = after_first is_point run in
+    if not (are_digits whole && are_digits decimals) || (length whole + length decimals == 0)
+    || nat_le 1000000 (value_of whole) then None
+    else Some (value_of whole * 1000000000 + billionths decimals)
+
+-- the same behind an optional sign
+abbrev pub decimal : List ℕ → Option ℤ
+decimal run = signed unsigned_decimal run
+
+-- the greatest number of an aperture
+abbrev pub last_number : ℕ
+last_number = 2147483647
+
+abbrev pub within_numbers : ℕ → Option ℕ
+within_numbers n = if nat_lt last_number n then None else Some n
+
+-- the number that a definition gives an aperture: 10 to 2,147,483,647
+abbrev pub defined_number : List ℕ → Option ℕ
+defined_number run = option_and_then (λ n. if nat_lt n 10 then None else within_numbers n) (natural run)
+
+-- the run of digits, signs and points at the front of a text, and what follows
+abbrev pub run_of : List ℕ → List ℕ
+run_of text = take (prefix_len is_numeric text) text
+
+abbrev pub behind_run : List ℕ → List ℕ
+behind_run text = drop (prefix_len is_numeric text) text

@@ -1,0 +1,24 @@
+-- The limits of apertures.
+use Rattle.std.specs.Prelude.{◌≡◌, pos, ℤ, ◌≤ℤ◌, All}
+use Rattle.cam_units.specs.Board.{IsSize}
+use Rattle.cam_apertures.specs.declared.aperture.Aperture.{Aperture}
+use Rattle.cam_apertures.specs.declared.aperture.Aperture.TheVariants.{Circle, Rect, Obround, Prims}
+use Rattle.cam_apertures.specs.Primitives.{IsSoundPrim}
+
+-- a side of a rectangle or an obround, from 1 nm to 200 mm
+abbrev pub IsSide : ℤ → Type 0
+IsSide n = (pos 1 ≤ℤ n) × (n ≤ℤ pos 200000000)
+
+-- diameters and holes, from 0 to 200 mm, and sides
+abbrev pub IsSoundAperture : Aperture → Type 0
+IsSoundAperture (Circle diameter hole) = IsSize diameter.0 × IsSize hole.0
+IsSoundAperture (Rect width height hole) = IsSide width.0 × IsSide height.0 × IsSize hole.0
+IsSoundAperture (Obround width height hole) = IsSide width.0 × IsSide height.0 × IsSize hole.0
+IsSoundAperture (Prims prims) = All IsSoundPrim prims
+
+-- a circle without a hole, with which lines are drawn (Gerber Layer Format Specification, "Plotting")
+abbrev pub IsSolidCircle : Aperture → Type 0
+IsSolidCircle (Circle diameter hole) = hole.0 ≡ pos 0
+IsSolidCircle (Rect width height hole) = ⊥
+IsSolidCircle (Obround width height hole) = ⊥
+IsSolidCircle (Prims prims) = ⊥

@@ -1,0 +1,81 @@
+//! What can be wrong with an aperture definition.
+
+ghost use Rattle.std.specs.Prelude.{◌≡◌};
+ghost use Rattle.cam_apertures.specs.Faults.{number_of, of_macro};
+ghost use Rattle.cam_apertures.specs.declared.fault.AdFault.TheVariants.{OutOfMemory};
+
+use cam_macros::MacroFault;
+use std::alloc::{AllocError, AllocFailed};
+
+/// Why an aperture definition is refused (Gerber Layer Format Specification, "Aperture definition
+/// (AD)" and "Aperture macro (AM)").
+#[derive(Clone, Copy, Debug, PartialEq, Eq)]
+pub enum AdFault {
+    /// No number and name stand there, or a parameter holds another byte than digits, signs and
+    /// points.
+    UnknownForm,
+    /// The number is none from 10 to 2,147,483,647, a parameter is no decimal under 10^6, or a
+    /// circle, rectangle or obround has too few.
+    BadNumber,
+    /// The template is `P` or unknown, or has parameters behind the first hole.
+    TemplateRefused,
+    /// A primitive's code is none of 1, 2, 4, 20 and 21.
+    PrimitiveRefused,
+    /// A rotation of a primitive is no multiple of 90 degrees.
+    RotationRefused,
+    /// A size is out of its range: a diameter or hole past 0 to 200 mm, a side past 1 nm to 200
+    /// mm, or a size or coordinate of a primitive past 200 mm.
+    SizeRefused,
+    /// A primitive has a wrong count of fields, an exposure other than 0 or 1, an outline count
+    /// outside 1 to 5,000, a value of 10^6 units or more, or a divisor of 0.
+    Malformed,
+    OutOfMemory,
+}
+
+impl AdFault {
+    /// The number by which a refusal is told: 3, 4, 11, 12, 13, 24, 29 or 30.
+    pub fn code(self) -> u8
+        ensures { result ≡ number_of self }
+    {
+        match self {
+            AdFault::UnknownForm => 3,
+            AdFault::BadNumber => 4,
+            AdFault::TemplateRefused => 11,
+            AdFault::PrimitiveRefused => 12,
+            AdFault::RotationRefused => 13,
+            AdFault::SizeRefused => 24,
+            AdFault::Malformed => 29,
+            AdFault::OutOfMemory => 30,
+        }
+    }
+}
+
+impl From<MacroFault> for AdFault {
+    ghost from_gives = { λ fault told. told ≡ of_macro fault };
+
+    fn from(fault: MacroFault) -> AdFault {
+        match fault {
+            MacroFault::BadName | MacroFault::Malformed => AdFault::Malformed,
+            MacroFault::PrimitiveRefused => AdFault::PrimitiveRefused,
+            MacroFault::RotationRefused => AdFault::RotationRefused,
+            MacroFault::SizeRefused => AdFault::SizeRefused,
+            MacroFault::OutOfMemory => AdFault::OutOfMemory,
+        }
+    }
+}
+
+impl From<AllocError> for AdFault {
+    ghost from_gives = { λ _ fault. fault ≡ OutOfMemory };
+
+    fn from(_error: AllocError) -> AdFault {
+        AdFault::OutOfMemory
+    }
+}
+
+impl<T: Drop> From<AllocFailed<T>> for AdFault {
+    ghost from_gives = { λ _ fault. fault ≡ OutOfMemory };
+
+    fn from(_error: AllocFailed<T>) -> AdFault {
+        AdFault::OutOfMemory
+    }
+}

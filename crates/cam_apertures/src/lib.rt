@@ -1,0 +1,34 @@
+//! Apertures: what a flash paints.
+//!
+//! Sizes are in nanometres (nm), places in half nanometres (hn) from the flash point: a point
+//! `(x, y)` is the place `(2x, 2y)`, and a diameter or side of `d` nm reaches `d` hn to each side.
+//! An aperture is a standard one, or the primitives of a macro; it is mirrored and turned about
+//! the flash point when it is flashed.
+//!
+//! - [`Aperture::covers`]: whether an aperture covers a place; [`Aperture::bounds`]: its box. Neither
+//!   takes memory. [`Aperture::is_solid_circle`]: whether lines may be drawn with it.
+//! - [`Primitives`]: the primitives of a macro, with the box of all of them kept beside them.
+//! - [`parse_ad`]: the aperture that a definition of a Gerber file stands for, or the fault of least
+//!   number; [`ad_number`]: its number alone.
+//!
+//! What an aperture covers stands in `specs/Cover.antt`, its box in `specs/Bounds.antt`, its limits
+//! in `specs/Soundness.antt`, and what a definition stands for in `specs/Definition.antt`.
+#![tactic(auto)]
+
+mod aperture;
+mod boxes;
+mod definition;
+mod fault;
+mod laws;
+mod numbers;
+mod primitives;
+mod shape;
+mod sides;
+
+pub use aperture::Aperture;
+pub use definition::{ad_number, parse_ad};
+pub use fault::AdFault;
+pub use laws::{
+    covers_lie_in_their_box, holes_are_not_covered, test_tells_cover, turns_turn_the_cover,
+};
+pub use primitives::Primitives;

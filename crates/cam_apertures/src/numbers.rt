@@ -1,0 +1,154 @@
+//! The numbers of a file.
+
+ghost use Rattle.std.specs.Prelude.{◌≡◌, ◌≤◌, ◌<◌, ◌==◌, ◌^◌, ℤ, pos, min, length, IfSome, true};
+ghost use Rattle.std.specs.Option.{option_map};
+ghost use Rattle.std.specs.List.{position_or_len, prefix_len};
+ghost use Rattle.cam_apertures.specs.Numbers.{is_numeric, are_digits, value_of, natural, billionths};
+ghost use Rattle.cam_apertures.specs.Numbers.{unsigned_decimal, decimal, within_numbers, defined_number};
+
+/// Values of digits are told up to this. It is past every number that a file may hold.
+const VALUE_LIMIT: u64 = 1_000_000_000_000_000;
+
+/// The greatest number of an aperture.
+const LAST_APERTURE: u64 = 2_147_483_647;
+
+/// Whether a number may hold the byte: digits, signs and points.
+#[tactic(auto, unfolding(crate::specs::Numbers::is_numeric))]
+pub(crate) fn is_numeric(byte: u8) -> bool
+    ensures { result ≡ is_numeric byte }
+{
+    byte.is_ascii_digit() || matches!(byte, b'+' | b'-' | b'.')
+}
+
+/// How many digits, signs and points the text begins with.
+pub(crate) fn run_len(text: &[u8]) -> usize
+    ensures value { result ≡ prefix_len is_numeric text.now }
+    ensures within { result ≤ length text.now }
+{
+    for (place, byte) in text.iter().enumerate() {
+        if !is_numeric(*byte) {
+            return place;
+        }
+    }
+    text.len()
+}
+
+fn are_digits(run: &[u8]) -> bool
+    ensures { result ≡ are_digits run.now }
+{
+    run.iter().all(|byte| byte.is_ascii_digit())
+}
+
+/// The value of digits, at most `VALUE_LIMIT`.
+fn value_of(digits: &[u8]) -> u64
+    requires { are_digits digits.now ≡ true }
+    ensures value { result ≡ min 1000000000000000 (value_of digits.now) }
+    ensures bound { result ≤ 1000000000000000 }
+{
+    let mut value = 0;
+    for digit in digits {
+        value = VALUE_LIMIT.min(value * 10 + u64::from(*digit - b'0'));
+    }
+    value
+}
+
+/// The value of a run of digits, at most `VALUE_LIMIT`; `None` where it is empty or holds
+/// anything else.
+#[tactic(auto, unfolding(crate::specs::Numbers::natural))]
+pub(crate) fn natural(run: &[u8]) -> Option<u64>
+    ensures { result ≡ option_map (min 1000000000000000) (natural run.now) }
+{
+    if run.is_empty() {
+        return None;
+    }
+    if !are_digits(run) {
+        return None;
+    }
+    Some(value_of(run))
+}
+
+/// What decimals say in 10^-9 of a unit; those past the ninth are dropped.
+#[tactic(auto, unfolding(crate::specs::Numbers::billionths))]
+fn billionths(digits: &[u8]) -> u64
+    requires { are_digits digits.now ≡ true }
+    ensures value { result ≡ billionths digits.now }
+    ensures bound { result < 10 ^ 9 }
+{
+    if digits.len() >= 9 {
+        return value_of(&digits[..9]);
+    }
+    value_of(digits) * 10u64.pow(9 - digits.len() as u32)
+}
+
+/// Where the byte first stands, or the text's length.
+pub(crate) fn place_of(byte: u8, text: &[u8]) -> usize
+    ensures value { result ≡ position_or_len (λ b. b == byte) text.now }
+    ensures within { result ≤ length text.now }
+{
+    for (place, here) in text.iter().enumerate() {
+        if *here == byte {
+            return place;
+        }
+    }
+    text.len()
+}
+
+#[tactic(auto, unfolding(crate::specs::Numbers::unsigned_decimal))]
+fn unsigned_decimal(run: &[u8]) -> Option<u64>
+    ensures value { result ≡ unsigned_decimal run.now }
+    ensures bound { IfSome result (λ n. n < 10 ^ 15) }
+{
+    let place = place_of(b'.', run);
+    let whole = &run[..place];
+    let decimals = if place < run.len() {
+        &run[place + 1..]
+    } else {
+        &[]
+    };
+    if !are_digits(whole) || !are_digits(decimals) {
+        return None;
+    }
+    if whole.is_empty() && decimals.is_empty() {
+        return None;
+    }
+    let units = value_of(whole);
+    if units >= 1_000_000 {
+        return None;
+    }
+    Some(units * 1_000_000_000 + billionths(decimals))
+}
+
+/// A decimal in 10^-9 of a unit: an optional sign, digits with an optional point, at least
+/// one digit, below 10^6 in absolute value.
+#[tactic(auto, unfolding(crate::specs::Numbers::signed))]
+pub(crate) fn decimal(run: &[u8]) -> Option<i64>
+    ensures { result ≡ decimal run.now }
+{
+    match run {
+        [b'-', size @ ..] => Some(-(unsigned_decimal(size)? as i64)),
+        [b'+', size @ ..] => Some(unsigned_decimal(size)? as i64),
+        _ => Some(unsigned_decimal(run)? as i64),
+    }
+}
+
+/// The number of an aperture, if it is not past the greatest one.
+pub(crate) fn within_numbers(n: u64) -> Option<u32>
+    ensures { result ≡ within_numbers n }
+{
+    if n > LAST_APERTURE {
+        None
+    } else {
+        Some(n as u32)
+    }
+}
+
+/// The number that a definition gives an aperture: 10 to 2,147,483,647.
+pub(crate) fn defined_number(run: &[u8]) -> Option<u32>
+    ensures { result ≡ defined_number run.now }
+{
+    let number = natural(run)?;
+    if number < 10 {
+        return None;
+    }
+    within_numbers(number)
+}

@@ -1,0 +1,106 @@
+//! The primitives of a macro aperture.
+
+ghost use Rattle.std.specs.Prelude.{◌≡◌, ◌↔◌, All, IsTrue, map};
+ghost use Rattle.cam_units.specs.Board.{IsInReach};
+ghost use Rattle.cam_apertures.specs.Cover.{IsPainted};
+ghost use Rattle.cam_apertures.specs.Primitives.{IsSoundPrim, box_of_prims};
+ghost use Rattle.cam_apertures.specs.Turned.{turned_prim};
+
+use crate::boxes::{box_of_prims, has_place, turned};
+use crate::shape::holds;
+use cam_macros::{MacroPrimitive, Prims};
+use cam_units::{Bounds, Spot, Turn};
+use std::alloc::AllocError;
+use std::marker::Model;
+
+/// Primitives in their order, all within the limits, with the box of all of them beside them.
+#[derive(Debug, Drop)]
+pub struct Primitives {
+    prims: Prims,
+    bounds: Bounds,
+}
+
+impl Model for Primitives {
+    ghost use Rattle.std.specs.Prelude.{List};
+    ghost use Rattle.cam_macros.specs.declared.primitive.MacroPrimitive.{MacroPrimitive};
+    ghost use Rattle.cam_apertures.specs.Machinery.Boxes.{IsBoxed};
+
+    ghost Value = { List MacroPrimitive };
+
+    ghost view = { λ p. p.prims };
+
+    ghost invariant = { λ p. IsBoxed p.prims p.bounds };
+}
+
+impl Primitives {
+    /// These primitives: sizes from 0 to 200 mm, coordinates of at most 200 mm in absolute value,
+    /// outlines of 1 to 5,000 points.
+    pub fn from_prims(prims: Prims) -> Primitives
+        requires { All IsSoundPrim prims }
+        ensures { result ≡ prims }
+    {
+        let bounds = box_of_prims(prims.as_slice());
+        Primitives { prims, bounds }
+    }
+
+    /// The primitives in order.
+    pub fn as_slice(&self) -> &[MacroPrimitive]
+        ensures { result.now ≡ self.now }
+    {
+        self.prims.as_slice()
+    }
+
+    /// Whether the last primitive that holds the place, once they are turned, paints; false where
+    /// none holds it.
+    pub fn covers(&self, spot: Spot, turn: Turn) -> bool
+        requires { IsInReach spot }
+        ensures { IsTrue result ↔ IsPainted (map (turned_prim turn) self.now) spot }
+    {
+        if !has_place(self.bounds(turn), spot) {
+            return false;
+        }
+        is_painted(self.prims.as_slice(), spot, turn)
+    }
+
+    /// Whether all are within the limits: always, since no others are made.
+    pub(crate) fn are_sound(&self) -> bool
+        ensures { IsTrue result ↔ All IsSoundPrim self.now }
+    {
+        let _prims = &self.prims;
+        true
+    }
+
+    /// The box of all primitives, turned: those that paint and those that do not, of any size.
+    pub fn bounds(&self, turn: Turn) -> Bounds
+        ensures { result ≡ box_of_prims (map (turned_prim turn) self.now) }
+    {
+        turned(self.bounds, turn)
+    }
+}
+
+/// Whether the last of the primitives that holds the place, once they are turned, paints.
+fn is_painted(prims: &[MacroPrimitive], spot: Spot, turn: Turn) -> bool
+    requires prims { All IsSoundPrim prims.now }
+    requires spot { IsInReach spot }
+    ensures { IsTrue result ↔ IsPainted (map (turned_prim turn) prims.now) spot }
+{
+    for place in (0..prims.len()).rev() {
+        let prim = &prims[place];
+        if holds(&prim.shape, spot, turn) {
+            return prim.paint;
+        }
+    }
+    false
+}
+
+impl Clone for Primitives {
+    ghost is_clone = { λ x y. y ≡ x };
+
+    fn clone(&self) -> Result<Primitives, AllocError> {
+        let prims = self.prims.clone()?;
+        Ok(Primitives {
+            prims,
+            bounds: self.bounds,
+        })
+    }
+}
