@@ -2,7 +2,8 @@ pub mod Codes
 pub mod Dictionary
 pub mod Digits
 pub mod FaultNumbers
-pub mod Formats
+pub mod Fronts
+pub mod Grammar
 pub mod LowestFaults
 pub mod Obeying
 pub mod Places

@@ -1,22 +1,24 @@
 -- One more command: what the tests say of it, and what becomes of the state.
-use Rattle.std.proofs.Common.{◌≡◌, ℕ, ◌<◌, ◌≤◌, [], ◌∷◌, ◌++◌, Bool, true, false, cond, leb, ltb, not, Option, Some, None, refl, sym, ap, ◌∙◌, subst, arith}
+use Rattle.std.proofs.Common.{◌≡◌, ℕ, ◌≤◌, [], ◌∷◌, ◌++◌, Bool, true, false, cond, leb, ltb, not, Option, Some, None, refl, sym, ap, ap₂, ◌∙◌, subst, arith}
 use Rattle.std.specs.Prelude.{ℤ, pos, negsuc, ◌↔◌, ◌&&◌, IsTrue, IfSome, is_some, unsigned_abs}
 use Rattle.std.specs.Int.{w64}
-use mir.Val.{to_z, of_z}
-use Rattle.std.proofs.lemmas.Int.{ints}
+use mir.Val.{to_z, of_z, SFits}
+use Rattle.std.proofs.lemmas.Int.{ints, to_z-of_z}
 use Rattle.std.proofs.lemmas.Bool.{ltb-true, leb-true, le-leb}
-use Rattle.cam_units.specs.Board.{IsSize}
+use Rattle.cam_units.specs.Board.{IsOnBoard, IsSize}
 use Rattle.cam_units.specs.Nearest.{fix9_of}
 use Rattle.cam_units.specs.declared.length.Nm.{Nm}
 use Rattle.cam_units.specs.declared.length.Unit.{Unit as FileUnit}
 use Rattle.cam_units.specs.declared.point.Point.{Point}
-use Rattle.cam_objects.specs.declared.flash.Flash.{Flash}
+use Rattle.cam_flashes.specs.declared.flash.Flash.{Flash}
 use Rattle.cam_gerber.specs.declared.commands.Command.TheVariants.{Define}
+use Rattle.cam_gerber.specs.declared.commands.Coordinate.{Coordinate}
+use Rattle.cam_gerber.specs.declared.commands.Format.{Format}
 use Rattle.cam_gerber.specs.declared.state.GraphicsState.{GraphicsState}
-use Rattle.cam_objects.specs.Layers.{is_on_board, Content, IsSound, IsSoundFlash, diameter_at}
+use Rattle.cam_flashes.specs.Layers.{is_on_board, Content, IsSound, IsSoundFlash, diameter_at}
 use Rattle.cam_gerber.specs.GraphicsState.{Past, unit_in, aperture_in, apertures_in, size_nm}
 use Rattle.cam_gerber.specs.Faults.{faults, least, is_size}
-use Rattle.cam_gerber.specs.Tracking.{Tracks}
+use Rattle.cam_gerber.specs.Machinery.Tracking.{Tracks, moved, moved_point}
 use Rattle.cam_gerber.proofs.Dictionary.{current_stays, all_push}
 
 nat_not_le : (a b : ℕ) → (a ≤ b → ⊥) → leb a b ≡ false
@@ -69,29 +71,34 @@ definition_tracks past s number diameter n d u found size fits l t is made =
       unit = t.unit;
       diameter = current_stays (apertures_in past) _ (aperture_in past) s.diameter t.diameter t.selected;
       selected = t.selected;
-      x = t.x;
-      y = t.y;
+      point = t.point;
       layer = made ∙ rw (t.layer, is.is_number, is.is_diameter, unit, nm) refl;
     }
-
--- what is on the board fits
-stored : (z : ℤ) → unsigned_abs z < 1000000000 → to_z w64 (of_z w64 z) ≡ z
-stored z h = omega (arith, ints)
 
 both : (a b : Bool) → (a && b) ≡ true → (a ≡ true) × (b ≡ true)
 both true b h = (refl, h)
 both false b h = absurd cc
 
-pub flash_is_sound : (x y : ℤ) (p : Point) (d : Nm) (current : Option Nm) → record { x = x; y = y } ≡ p → is_on_board p ≡ true → current ≡ Some d → IfSome current (λ c. IsSize c.0)
-    → IsSoundFlash (record { at = record { x = to_z w64 (of_z w64 x); y = to_z w64 (of_z w64 y) }; diameter = d })
-flash_is_sound x y p d current e h is size =
+-- a number as it is kept
+abbrev kept : ℤ → ℤ
+kept z = to_z w64 (of_z w64 z)
+
+-- the point of two coordinates that an operation moves, all of which fit
+pub moved_point_is : (format : Format) (unit : FileUnit) (cx cy : Coordinate) (from : Point) (x y : ℤ) → SFits w64 from.x → SFits w64 from.y → SFits w64 x → SFits w64 y
+    → x ≡ moved (Some format) (Some unit) cx (kept from.x) → y ≡ moved (Some format) (Some unit) cy (kept from.y)
+    → record { x = kept x; y = kept y } ≡ moved_point format unit cx cy from
+moved_point_is format unit cx cy from x y from_x from_y fits_x fits_y ex ey =
+    let is_x : kept x ≡ moved (Some format) (Some unit) cx from.x = to_z-of_z w64 x fits_x ∙ ex ∙ ap (moved (Some format) (Some unit) cx) (to_z-of_z w64 from.x from_x) in
+    let is_y : kept y ≡ moved (Some format) (Some unit) cy from.y = to_z-of_z w64 y fits_y ∙ ey ∙ ap (moved (Some format) (Some unit) cy) (to_z-of_z w64 from.y from_y) in
+    ap₂ (λ a b. record { x = a; y = b }) is_x is_y
+
+pub flash_is_sound : (to p : Point) (d : Nm) (current : Option Nm) → to ≡ p → is_on_board p ≡ true → current ≡ Some d → IfSome current (λ c. IsSize c.0)
+    → IsSoundFlash (record { at = to; diameter = d })
+flash_is_sound to p d current e h is size =
     let on = both (ltb (unsigned_abs p.x) 1000000000) (ltb (unsigned_abs p.y) 1000000000) h in
-    let ex : x ≡ p.x = ap (λ (q : Point). q.x) e in
-    let ey : y ≡ p.y = ap (λ (q : Point). q.y) e in
-    let lx : unsigned_abs x < 1000000000 = rw ex (ltb-true _ _ on.0) in
-    let ly : unsigned_abs y < 1000000000 = rw ey (ltb-true _ _ on.1) in
+    let board : IsOnBoard p = record { x = ltb-true _ _ on.0; y = ltb-true _ _ on.1 } in
     let P : Option Nm → Type 0 = λ o. IfSome o (λ c. IsSize c.0) in
-    record { at = record { x = rw (stored x lx) lx; y = rw (stored y ly) ly }; diameter = subst P is size }
+    record { at = subst IsOnBoard (sym e) board; diameter = subst P is size }
 
 -- a sound layer and one more sound flash
 pub sound_with_flash : (l m : Content) (f : Flash) → IsSound l → IsSoundFlash f → m ≡ record l { flashes = l.flashes ++ f ∷ [] } → IsSound m

@@ -1,6 +1,7 @@
 -- The faults of a command after its past.
 use Rattle.std.specs.List.{AllByRecursion}
 use Rattle.std.specs.Prelude.{◌≡◌, ◌≤◌, ℕ, ℤ, pos, negsuc, List, [], ◌∷◌, length, Option, Some, None, Bool, true, false, ◌||◌, not, nat_le, is_some, is_none, if◌then◌else◌}
+use Rattle.cam_units.specs.Board.{size_limit}
 use Rattle.cam_units.specs.declared.length.Unit.{Unit as FileUnit}
 use Rattle.cam_units.specs.declared.length.Unit.TheVariants.{Mm, Inch}
 use Rattle.cam_gerber.specs.declared.commands.Format.{Format}
@@ -8,7 +9,7 @@ use Rattle.cam_gerber.specs.declared.commands.Coordinate.{Coordinate}
 use Rattle.cam_gerber.specs.declared.commands.Coordinate.TheVariants.{Omitted, Malformed, Written}
 use Rattle.cam_gerber.specs.declared.commands.Command.{Command}
 use Rattle.cam_gerber.specs.declared.commands.Command.TheVariants.{SetFormat, Refused, SetUnit, Define, Select, FlashAt, End, Nothing, Unknown}
-use Rattle.cam_objects.specs.Layers.{diameter_at, is_on_board}
+use Rattle.cam_flashes.specs.Layers.{diameter_at, is_on_board}
 use Rattle.cam_gerber.specs.Syntax.{same_format}
 use Rattle.cam_gerber.specs.GraphicsState.{Past, format_in, unit_in, aperture_in, point_in, apertures_in, flashes_in, size_nm}
 
@@ -84,7 +85,7 @@ is_defined past (Some number) = is_some (diameter_at (apertures_in past) number)
 
 -- from 0 to 200 mm
 unfoldable pub is_size : ℤ → Bool
-is_size (pos n) = nat_le n 200000000
+is_size (pos n) = nat_le n size_limit
 is_size (negsuc n) = false
 
 abbrev pub is_malformed : Coordinate → Bool
@@ -99,9 +100,10 @@ flash_limit = 1000000
 -- the tests of an operation that flashes
 abbrev pub flash_faults : Past → Coordinate → Coordinate → List (ℕ × Bool)
 flash_faults past x y =
-    (bad_number, is_malformed x || is_malformed y) ∷ (no_format, is_none (format_in past)) ∷ (no_unit, is_none (unit_in past))
-    ∷ (none_selected, is_none (aperture_in past))
-    ∷ (out_of_board, not (is_on_board (point_in (FlashAt x y ∷ past)))) ∷ (too_much, nat_le flash_limit (length (flashes_in past))) ∷ []
+    (bad_number, is_malformed x || is_malformed y) ∷ (no_format, is_none (format_in past))
+    ∷ (no_unit, is_none (unit_in past)) ∷ (none_selected, is_none (aperture_in past))
+    ∷ (out_of_board, not (is_on_board (point_in (FlashAt x y ∷ past))))
+    ∷ (too_much, nat_le flash_limit (length (flashes_in past))) ∷ []
 
 -- the numbers of the faults that a command may have, ascending, each with its test
 abbrev pub faults : Past → Command → List (ℕ × Bool)
@@ -109,7 +111,8 @@ faults past (SetFormat format) = (set_again, is_other_format (format_in past) fo
 faults past Refused = (format_refused, true) ∷ []
 faults past (SetUnit unit) = (set_again, is_other_unit (unit_in past) unit) ∷ []
 faults past (Define number size) =
-    (bad_number, is_none number || is_none size) ∷ (no_unit, is_none (unit_in past)) ∷ (redefined, is_defined past number)
+    (bad_number, is_none number || is_none size) ∷ (no_unit, is_none (unit_in past))
+    ∷ (redefined, is_defined past number)
     ∷ (size_refused, not (is_size (size_nm (unit_in past) size).0)) ∷ []
 faults past (Select number) = (bad_number, is_none number) ∷ (unknown_aperture, not (is_defined past number)) ∷ []
 faults past (FlashAt x y) = flash_faults past x y
@@ -119,4 +122,5 @@ faults past Unknown = (unknown_command, true) ∷ []
 
 -- of the faults of a command that hold, none has a lower number than the one that is told
 abbrev pub TellsLowest : Type 0
-TellsLowest = (past : Past) (command : Command) (n : ℕ) → least (faults past command) ≡ Some n → AllByRecursion (λ fault. fault.1 ≡ true → n ≤ fault.0) (faults past command)
+TellsLowest = (past : Past) (command : Command) (n : ℕ) → least (faults past command) ≡ Some n
+    → AllByRecursion (λ fault. fault.1 ≡ true → n ≤ fault.0) (faults past command)

@@ -12,9 +12,9 @@ use Rattle.cam_gerber.specs.declared.commands.Coordinate.{Coordinate}
 use Rattle.cam_gerber.specs.declared.commands.Coordinate.TheVariants.{Omitted, Malformed, Written}
 use Rattle.cam_gerber.specs.declared.commands.Command.{Command}
 use Rattle.cam_gerber.specs.declared.commands.Command.TheVariants.{SetFormat, SetUnit, Define, Select, FlashAt}
-use Rattle.cam_objects.specs.declared.aperture.Aperture.{Aperture}
-use Rattle.cam_objects.specs.declared.flash.Flash.{Flash}
-use Rattle.cam_objects.specs.Layers.{Content, diameter_at}
+use Rattle.cam_flashes.specs.declared.aperture.Aperture.{Aperture}
+use Rattle.cam_flashes.specs.declared.flash.Flash.{Flash}
+use Rattle.cam_flashes.specs.Layers.{Content, diameter_at}
 
 abbrev pub Past : Type 0
 Past = List Command
@@ -74,7 +74,8 @@ coordinate_nm format unit n = coord_of n (decimals_of format) (unit_or_mm unit)
 -- the coordinate that the newest operation with one has written
 abbrev pub newest_nm : (Command → Option ℤ) → Past → ℤ
 newest_nm tells [] = pos 0
-newest_nm tells (command ∷ older) = unwrap_or (option_map (coordinate_nm (format_in older) (unit_in older)) (tells command)) (newest_nm tells older)
+newest_nm tells (command ∷ older) =
+    unwrap_or (option_map (coordinate_nm (format_in older) (unit_in older)) (tells command)) (newest_nm tells older)
 
 -- the current point
 abbrev pub point_in : Past → Point
@@ -104,7 +105,8 @@ flash_of point diameter = record { at = point; diameter = unwrap_or diameter (re
 -- the flashes, in order
 abbrev pub flashes_in : Past → List Flash
 flashes_in [] = []
-flashes_in (FlashAt x y ∷ older) = flashes_in older ++ flash_of (point_in (FlashAt x y ∷ older)) (diameter_in older) ∷ []
+flashes_in (FlashAt x y ∷ older) =
+    flashes_in older ++ flash_of (point_in (FlashAt x y ∷ older)) (diameter_in older) ∷ []
 flashes_in (_ ∷ older) = flashes_in older
 
 abbrev pub layer_in : Past → Content

@@ -3,4 +3,4 @@ pub mod Syntax
 pub mod GraphicsState
 pub mod Faults
 pub mod Reading
-pub mod Tracking
+pub mod Machinery

@@ -1,5 +1,5 @@
 -- The numbers of a Gerber file. Gerber Layer Format Specification, "Data types" and "Coordinate data".
-use Rattle.std.specs.Prelude.{ℕ, ℤ, pos, neg_ℤ, ◌+◌, ◌-◌, ◌*◌, ◌^◌, List, [], ◌∷◌, length, take, Option, Some, None, Bool, ◌==◌, ◌||◌, ◌&&◌, not, nat_lt, nat_le, if◌then◌else◌}
+use Rattle.std.specs.Prelude.{ℕ, ◌≤◌, ℤ, pos, neg_ℤ, ◌+◌, ◌-◌, ◌*◌, ◌^◌, List, [], ◌∷◌, length, take, Option, Some, None, Bool, ◌==◌, ◌||◌, ◌&&◌, not, nat_lt, nat_le, if◌then◌else◌}
 use Rattle.std.specs.Option.{option_map, option_and_then}
 use Rattle.std.specs.List.{list_all, before_first, after_first}
 use Rattle.std.specs.Char.{is_ascii_digit}
@@ -34,7 +34,9 @@ natural run = if (length run == 0) || not (are_digits run) then None else Some (
 unfoldable pub signed : (List ℕ → Option ℕ) → List ℕ → Option ℤ
 signed size [] = option_map pos (size [])
 signed size (first ∷ run) =
-    if first == 45 then option_map (λ n. neg_ℤ (pos n)) (size run) else if first == 43 then option_map pos (size run) else option_map pos (size (first ∷ run))
+    if first == 45 then option_map (λ n. neg_ℤ (pos n)) (size run)
+    else if first == 43 then option_map pos (size run)
+    else option_map pos (size (first ∷ run))
 
 abbrev pub short_natural : List ℕ → Option ℕ
 short_natural run = if nat_lt 15 (length run) then None else natural run
@@ -52,20 +54,27 @@ unfoldable pub unsigned_decimal : List ℕ → Option ℕ
 unsigned_decimal run =
     let whole = before_first is_point run in
     let decimals = after_first is_point run in
-    if not (are_digits whole && are_digits decimals) || (length whole + length decimals == 0) || nat_le 1000000 (value_of whole) then None
+    if not (are_digits whole && are_digits decimals) || (length whole + length decimals == 0) || nat_le 1000000 (value_of whole)
+    then None
     else Some (value_of whole * 1000000000 + billionths decimals)
 
 -- the same behind an optional sign
 abbrev pub decimal : List ℕ → Option ℤ
 decimal run = signed unsigned_decimal run
 
--- the greatest number of an aperture
+-- the least and the greatest number of an aperture. "Aperture definition (AD)"
+abbrev pub first_number : ℕ
+first_number = 10
+
 abbrev pub last_number : ℕ
 last_number = 2147483647
+
+abbrev pub IsApertureNumber : ℕ → Type 0
+IsApertureNumber n = (first_number ≤ n) × (n ≤ last_number)
 
 abbrev pub within_numbers : ℕ → Option ℕ
 within_numbers n = if nat_lt last_number n then None else Some n
 
 -- the number that a definition gives an aperture: 10 to 2,147,483,647
 abbrev pub defined_number : List ℕ → Option ℕ
-defined_number run = option_and_then (λ n. if nat_lt n 10 then None else within_numbers n) (natural run)
+defined_number run = option_and_then (λ n. if nat_lt n first_number then None else within_numbers n) (natural run)

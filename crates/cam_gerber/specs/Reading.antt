@@ -1,15 +1,16 @@
 -- What a Gerber file means: its layer, or its first fault.
-use Rattle.std.specs.Prelude.{◌≡◌, ◌≤◌, ℕ, List, [], ◌∷◌, ◌++◌, length, map, reverse, Option, Some, None, Result, Ok, Err, ◌⊎◌, Bool, true, false, if◌then◌else◌}
+use Rattle.std.specs.Prelude.{◌≡◌, ◌≢◌, ◌≤◌, ℕ, List, [], ◌∷◌, ◌++◌, length, map, reverse, Option, Some, None, Result, Ok, Err, ◌⊎◌, Bool, true, false, if◌then◌else◌}
 use Rattle.std.specs.Option.{option_or, option_map}
-use Rattle.std.specs.List.{list_any}
+use Rattle.std.specs.List.{list_any, AllByRecursion, AllPairs}
 use Rattle.cam_words.specs.Reading.{Answer, reading}
 use Rattle.cam_gerber.specs.declared.read_fault.ReadFault.{ReadFault}
 use Rattle.cam_gerber.specs.declared.commands.Command.{Command}
 use Rattle.cam_gerber.specs.declared.commands.Command.TheVariants.{End, Nothing}
-use Rattle.cam_objects.specs.Layers.{Content, IsSound}
+use Rattle.cam_flashes.specs.Layers.{Content, IsSound}
+use Rattle.cam_gerber.specs.Numbers.{IsApertureNumber}
 use Rattle.cam_gerber.specs.Syntax.{command_of, place_of}
 use Rattle.cam_gerber.specs.GraphicsState.{Past, layer_in}
-use Rattle.cam_gerber.specs.Faults.{faults, least}
+use Rattle.cam_gerber.specs.Faults.{faults, flash_limit, least}
 
 abbrev pub is_end_command : Command → Bool
 is_end_command End = true
@@ -32,7 +33,8 @@ command_in (Err fault) = Nothing
 
 -- the fault of an answer after a past
 abbrev pub fault_of : Past → Answer → Option ReadFault
-fault_of past (Ok word) = option_map (λ code. record { code = code; at = place_of word }) (least (faults past (command_of word)))
+fault_of past (Ok word) =
+    option_map (λ code. record { code = code; at = place_of word }) (least (faults past (command_of word)))
 fault_of past (Err fault) = Some (record { code = fault.code; at = fault.at })
 
 -- the fault of the least place among answers, the newest of which stands first
@@ -51,11 +53,13 @@ unless_fault (Some fault) answer = Err fault
 
 -- the layer of what is told before the end of a file of so many bytes, the newest first
 abbrev pub layer_told : List Answer → Bool → ℕ → Result Content ReadFault
-layer_told told ends len = unless_fault (first_fault told) (if ends then Ok (layer_in (map command_in told)) else Err (no_end len))
+layer_told told ends len =
+    unless_fault (first_fault told) (if ends then Ok (layer_in (map command_in told)) else Err (no_end len))
 
 -- the layer of a file, or its first fault
 unfoldable pub reading_of : List ℕ → Result Content ReadFault
-reading_of bytes = layer_told (reverse (before_end (reading 0 bytes))) (list_any is_end (reading 0 bytes)) (length bytes)
+reading_of bytes =
+    layer_told (reverse (before_end (reading 0 bytes))) (list_any is_end (reading 0 bytes)) (length bytes)
 
 abbrev pub no_memory : ReadFault
 no_memory = record { code = 30; at = 0 }
@@ -68,11 +72,20 @@ IsReading bytes result = (result ≡ reading_of bytes) ⊎ (result ≡ Err no_me
 abbrev pub IsNoMemoryFault : Type 0
 IsNoMemoryFault = (bytes : List ℕ) (f : ReadFault) → reading_of bytes ≡ Err f → f.code ≡ 30 → ⊥
 
--- a layer that a file gives is sound
+-- The layer of a file is sound, has no more flashes than the limit, and its dictionary gives each number, one of an
+-- aperture's, to one aperture.
+pub record IsSoundReading (layer : Content) : Type 0 where
+  pub sound : IsSound layer
+  pub flashes : length layer.flashes ≤ flash_limit
+  pub numbers : AllByRecursion (λ a. IsApertureNumber a.number) layer.apertures
+  pub distinct : AllPairs (λ a b. a.number ≢ b.number) layer.apertures
+
+-- every layer that a file gives is so
 abbrev pub GivesSoundLayers : Type 0
-GivesSoundLayers = (bytes : List ℕ) (layer : Content) → reading_of bytes ≡ Ok layer → IsSound layer
+GivesSoundLayers = (bytes : List ℕ) (layer : Content) → reading_of bytes ≡ Ok layer → IsSoundReading layer
 
 -- of the faults before the end, none stands before the one that is told
 abbrev pub TellsFirst : Type 0
 TellsFirst = (bytes : List ℕ) (f g : ReadFault) (newer older : List Answer) (answer : Answer) → reading_of bytes ≡ Err f
-    → reverse (before_end (reading 0 bytes)) ≡ newer ++ (answer ∷ older) → fault_of (map command_in older) answer ≡ Some g → f.at ≤ g.at
+    → reverse (before_end (reading 0 bytes)) ≡ newer ++ (answer ∷ older)
+    → fault_of (map command_in older) answer ≡ Some g → f.at ≤ g.at

@@ -1,9 +1,10 @@
 -- What the words of a Gerber file say. Gerber Layer Format Specification, "Syntax" and the sections named below.
 use Rattle.std.specs.Prelude.{ℕ, ℤ, ◌-◌, List, [], ◌∷◌, length, take, drop, nat_eq, codes, Option, Some, None, Bool, ◌==◌, ◌&&◌, nat_lt, nat_le, is_none, if◌then◌else◌}
-use Rattle.std.specs.List.{prefix_len, starts_with}
+use Rattle.std.specs.List.{prefix_len, starts_with, list_any}
 use Rattle.std.specs.Option.{option_and_then}
 use Rattle.std.specs.Str.{bytes_eq}
 use Rattle.cam_units.specs.declared.length.Unit.TheVariants.{Mm, Inch}
+use Rattle.cam_words.specs.Bytes.{is_star}
 use Rattle.cam_words.specs.Cutting.{FoundWord}
 use Rattle.cam_words.specs.Heads.{packed}
 use Rattle.cam_words.specs.declared.word.Kind.{Kind}
@@ -56,7 +57,10 @@ selection code = if nat_lt code 10 then Unknown else Select (within_numbers code
 
 -- an operation by its code; one without a coordinate selects an aperture
 unfoldable pub operation_by : Option (List ℕ) → Option (List ℕ) → ℕ → Command
-operation_by x y code = if is_none x && is_none y then selection code else if code == 3 then FlashAt (coordinate x) (coordinate y) else Unknown
+operation_by x y code =
+    if is_none x && is_none y then selection code
+    else if code == 3 then FlashAt (coordinate x) (coordinate y)
+    else Unknown
 
 -- X (88), Y (89) and D (68) in this order, of which X and Y may be missing. "Operations (D01/D02/D03)"
 unfoldable pub operation : List ℕ → Command
@@ -81,7 +85,8 @@ is_format_digit byte = nat_le 49 byte && nat_le byte 54
 
 -- how many digits stand before and behind the decimal point
 unfoldable pub format_of : List ℕ → Option Format
-format_of (i ∷ d ∷ []) = if is_format_digit i && is_format_digit d then Some (record { integers = i - 48; decimals = d - 48 }) else None
+format_of (i ∷ d ∷ []) =
+    if is_format_digit i && is_format_digit d then Some (record { integers = i - 48; decimals = d - 48 }) else None
 format_of _ = None
 
 abbrev pub same_format : Format → Format → Bool
@@ -102,21 +107,31 @@ format_command text =
 
 -- what stands behind `MO`. "Unit (MO)"
 unfoldable pub unit_command : List ℕ → Command
-unit_command text = if bytes_eq text (codes "MM") then SetUnit Mm else if bytes_eq text (codes "IN") then SetUnit Inch else Refused
+unit_command text =
+    if bytes_eq text (codes "MM") then SetUnit Mm
+    else if bytes_eq text (codes "IN") then SetUnit Inch else Refused
 
 -- what stands behind `ADDnC,`: a run
 abbrev pub circle_command : List ℕ → List ℕ → Command
-circle_command number size = if length (behind_run size) == 0 then Define (defined_number number) (decimal size) else Unknown
+circle_command number size =
+    if length (behind_run size) == 0 then Define (defined_number number) (decimal size) else Unknown
 
 -- what stands behind `ADD`: a number and a solid circle. "Aperture definition (AD)"
 unfoldable pub definition_command : List ℕ → Command
 definition_command text = by_head (behind_head (codes "C,") (behind_run text)) (circle_command (run_of text)) Unknown
 
--- an extended command
-unfoldable pub extended_command : List ℕ → Command
-extended_command text =
+-- one extended command, by its letters
+abbrev pub lettered_command : List ℕ → Command
+lettered_command text =
     by_head (behind_head (codes "FSLA") text) format_command
-    (if starts_with nat_eq text (codes "FS") then Refused else by_head (behind_head (codes "MO") text) unit_command (by_head (behind_head (codes "ADD") text) definition_command Unknown))
+    (if starts_with nat_eq text (codes "FS") then Refused
+    else by_head (behind_head (codes "MO") text) unit_command
+    (by_head (behind_head (codes "ADD") text) definition_command Unknown))
+
+-- What stands between two `%`: one command. Only a macro's blocks end with `*` of their own, and no macro is read;
+-- of any other command a `*` would be the end, with a second command behind it. "Extended commands"
+unfoldable pub extended_command : List ℕ → Command
+extended_command text = if list_any is_star text then Unknown else lettered_command text
 
 -- what a text says, without its skipped bytes
 abbrev pub command_by : Kind → List ℕ → Command

@@ -3,7 +3,7 @@
 //! [`read_gerber`] gives the layer of a file, or its first fault with its number and its place. What a file
 //! means stands in `specs/`: `Numbers` and `Syntax` say what its words are, `GraphicsState` what is in force
 //! behind the commands so far, `Faults` what a command may be refused for, and `Reading` what the whole file
-//! gives. `specs/Tracking.antt` ties the running state of the code to them.
+//! gives. `specs/Machinery/Tracking.antt` ties the running state of the code to them.
 //!
 //! Read today are the format and the unit (FS, MO), definitions of solid circles (AD), selections (Dn),
 //! flashes with coordinates (D03) and the end (M02); every other form is refused 3.
@@ -17,8 +17,6 @@ mod read_fault;
 mod reader;
 mod state;
 mod syntax;
-#[cfg(test)]
-mod tests;
 
 pub use laws::{
     layers_are_sound, no_fault_of_memory, the_first_fault_is_told, the_lowest_fault_is_told,

@@ -1,9 +1,23 @@
 //! The numbers of a file.
 
-ghost use Rattle.std.specs.Prelude.{◌≡◌, ◌≤◌, ◌<◌, ◌^◌, ℤ, pos, min, length, IfSome, true};
+ghost use Rattle.std.specs.Prelude.{◌≡◌, ◌≤◌, ◌<◌, ◌^◌, ℤ, pos, IfSome, true};
+ghost use Rattle.std.specs.Prelude.{length, min, not, position};
 ghost use Rattle.std.specs.Option.{option_map};
 ghost use Rattle.std.specs.List.{position_or_len, prefix_len};
-ghost use Rattle.cam_gerber.specs.Numbers.{is_numeric, is_point, are_digits, value_of, natural, short_natural, integer, billionths, unsigned_decimal, decimal, within_numbers, defined_number};
+ghost use Rattle.cam_gerber.specs.Numbers.{
+  are_digits,
+  billionths,
+  decimal,
+  defined_number,
+  integer,
+  is_numeric,
+  is_point,
+  natural,
+  short_natural,
+  unsigned_decimal,
+  value_of,
+  within_numbers,
+};
 
 /// Values of digits are told up to this. It is past every number that a file may hold.
 const VALUE_LIMIT: u64 = 1_000_000_000_000_000;
@@ -22,17 +36,20 @@ fn is_numeric(byte: u8) -> bool
     byte.is_ascii_digit() || matches!(byte, b'+' | b'-' | b'.')
 }
 
+/// Where the first byte stands that no number may hold.
+fn run_end(text: &[u8]) -> Option<usize>
+    ensures { result ≡ position (λ byte. not (is_numeric byte)) text.now }
+{
+    text.iter().position(|byte| !is_numeric(*byte))
+}
+
 /// How many digits, signs and points the text begins with.
+#[tactic(auto, using(crate::proofs::Fronts::fronts))]
 pub fn run_len(text: &[u8]) -> usize
     ensures value { result ≡ prefix_len is_numeric text.now }
     ensures within { result ≤ length text.now }
 {
-    for (place, byte) in text.iter().enumerate() {
-        if !is_numeric(*byte) {
-            return place;
-        }
-    }
-    text.len()
+    run_end(text).unwrap_or(text.len())
 }
 
 fn are_digits(run: &[u8]) -> bool
@@ -104,17 +121,19 @@ fn billionths(digits: &[u8]) -> u64
     value_of(digits) * 10u64.pow(9 - digits.len() as u32)
 }
 
+fn first_point(run: &[u8]) -> Option<usize>
+    ensures { result ≡ position is_point run.now }
+{
+    run.iter().position(|byte| *byte == b'.')
+}
+
 /// Where the point stands, or the run's length.
+#[tactic(auto, using(crate::proofs::Fronts::fronts))]
 fn point_place(run: &[u8]) -> usize
     ensures value { result ≡ position_or_len is_point run.now }
     ensures within { result ≤ length run.now }
 {
-    for (place, byte) in run.iter().enumerate() {
-        if *byte == b'.' {
-            return place;
-        }
-    }
-    run.len()
+    first_point(run).unwrap_or(run.len())
 }
 
 #[tactic(auto, unfolding(crate::specs::Numbers::unsigned_decimal))]

@@ -8,7 +8,7 @@ use crate::faults;
 use crate::read_fault::ReadFault;
 use crate::state::{GraphicsState, Stop};
 use crate::syntax::{command_of, place_of};
-use cam_objects::Layer;
+use cam_flashes::Layer;
 use cam_words::Words;
 use std::alloc::Global;
 

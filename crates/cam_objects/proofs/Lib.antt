@@ -1,2 +1,9 @@
-pub mod ImageLemmas
-pub mod LayerLemmas
+pub mod TurningLemmas
+pub mod Dictionaries
+pub mod Placed
+pub mod Painting
+pub mod SoundLayers
+pub mod Inking
+pub mod DrillInking
+pub mod SoundTools
+pub mod SoundDrilling

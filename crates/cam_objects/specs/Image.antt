@@ -1,51 +1,46 @@
--- The image of a layer: painting in order, the last leaf that covers a place decides.
-use Rattle.std.specs.Prelude.{◌≡◌, pos, ◌↔◌, Bool, true, false, ◌&&◌, if◌then◌else◌, List, [], ◌∷◌, ◌++◌, All, map}
-use Rattle.std.specs.Int.RustNames.{int_lt, int_le}
+-- The image: painting in order, the last leaf that covers a place decides (Gerber Layer Format Specification,
+-- "Load Polarity (LP)" and "Graphics objects").
+use Rattle.std.specs.Prelude.{◌≡◌, pos, ◌-ℤ◌, ◌*ℤ◌, Bool, true, List, ◌∷◌, ◌++◌, All, Option, None, Some}
+use Rattle.cam_units.specs.declared.point.Point.{Point}
 use Rattle.cam_units.specs.declared.point.Spot.{Spot}
-use Rattle.cam_shapes.specs.declared.disc.Disc.{Disc}
+use Rattle.cam_shapes.specs.Arc.{IsInArc}
+use Rattle.cam_shapes.specs.Bar.{IsInCapsule}
+use Rattle.cam_shapes.specs.Contour.{IsInContour}
 use Rattle.cam_shapes.specs.Disc.{IsInDisc}
-use Rattle.cam_shapes.specs.Plane.{square, dot, seen_from}
-use Rattle.cam_objects.specs.declared.flash.Flash.{Flash}
-use Rattle.cam_objects.specs.Layers.{Content}
+use Rattle.cam_apertures.specs.Cover.{IsCovered}
+use Rattle.cam_objects.specs.Leaves.{Leaf, Shape, Stamp, Stroke, Sweep, Filled, Drilled}
 
--- one thing that is painted: a disc, in dark or in clear (Gerber Layer Format Specification, "Load Polarity (LP)")
-pub record Leaf : Type 0 where
-  pub disc : Disc
-  pub dark : Bool
+-- a place as it is seen from a point, in half nm
+abbrev pub relative : Point → Spot → Spot
+relative p s = record { x = s.x -ℤ pos 2 *ℤ p.x; y = s.y -ℤ pos 2 *ℤ p.y }
 
--- a flash is dark
-abbrev pub leaf_of : Flash → Leaf
-leaf_of f = record { disc = record { centre = f.at; diameter = f.diameter }; dark = true }
+abbrev pub Covers : Shape → Spot → Type 0
+Covers (Stamp aperture turn at) s = IsCovered aperture turn (relative at s)
+Covers (Stroke capsule) s = IsInCapsule s capsule
+Covers (Sweep arc) s = IsInArc s arc
+Covers (Filled contour) s = IsInContour s contour
+Covers (Drilled disc) s = IsInDisc s disc
 
--- what a layer paints, in order
-abbrev pub leaves_of : Content → List Leaf
-leaves_of c = map leaf_of c.flashes
+-- no leaf covers the place
+abbrev pub IsUncovered : List Leaf → Spot → Type 0
+IsUncovered leaves s = All (λ l. Covers l.shape s → ⊥) leaves
 
--- a leaf that covers the place is dark, and no later one covers it
-pub record IsBlack (leaves : List Leaf) (spot : Spot) : Type 0 where
+-- a leaf covers the place, and the last one that does has this polarity
+pub record IsPainted (leaves : List Leaf) (s : Spot) (dark : Bool) : Type 0 where
   pub before : List Leaf
-  pub leaf : Leaf
+  pub last : Leaf
   pub after : List Leaf
-  pub split : leaves ≡ before ++ leaf ∷ after
-  pub covered : IsInDisc spot leaf.disc
-  pub dark : leaf.dark ≡ true
-  pub uncovered : All (λ later. IsInDisc spot later.disc → ⊥) after
+  pub split : leaves ≡ before ++ last ∷ after
+  pub covered : Covers last.shape s
+  pub uncovered : IsUncovered after s
+  pub polarity : last.dark ≡ dark
 
--- the test that a leaf covers a place
-unfoldable pub covers : Leaf → Spot → Bool
-covers l s =
-    let way = seen_from l.disc.centre s in
-    int_lt (pos 0) l.disc.diameter.0 && int_le (dot way way) (square l.disc.diameter.0)
+-- the plane starts clear, dark leaves darken and clear ones clear: a place is black exactly where a leaf covers it
+-- and the last one that does is dark
+abbrev pub IsBlack : List Leaf → Spot → Type 0
+IsBlack leaves s = IsPainted leaves s true
 
--- the ink of a place after the leaves gave theirs, in order, to the places that they cover
-abbrev pub paint : Bool → List Leaf → Spot → Bool
-paint ink [] s = ink
-paint ink (l ∷ ls) s = paint (if covers l s then l.dark else ink) ls s
-
--- the test is true of the places of the disc
-abbrev pub CoverLaw : Type 0
-CoverLaw = (l : Leaf) (s : Spot) → (covers l s ≡ true) ↔ IsInDisc s l.disc
-
--- of a clear plane, painting blackens the black places
-abbrev pub PaintLaw : Type 0
-PaintLaw = (leaves : List Leaf) (s : Spot) → (paint false leaves s ≡ true) ↔ IsBlack leaves s
+-- the polarity of the last leaf that covers the place, or none where no leaf does
+abbrev pub Inks : List Leaf → Spot → Option Bool → Type 0
+Inks leaves s None = IsUncovered leaves s
+Inks leaves s (Some dark) = IsPainted leaves s dark

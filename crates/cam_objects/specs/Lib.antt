@@ -1,2 +1,10 @@
-pub mod Layers
+pub mod Turning
+pub mod Leaves
 pub mod Image
+pub mod Drilling
+pub mod Weights
+pub mod Refusals
+pub mod Soundness
+pub mod DrillSoundness
+pub mod Machinery
+pub mod Shifting

@@ -1,24 +1,15 @@
 //! Laws of layers. Each function does nothing: its contract is a law of what layers mean.
 
-ghost use Rattle.cam_objects.specs.Image.{CoverLaw, PaintLaw};
-ghost use Rattle.cam_objects.specs.Layers.{CanMoveLaw, EditLaw};
+ghost use Rattle.cam_objects.specs.DrillSoundness.{DrillGrowthLaw};
+ghost use Rattle.cam_objects.specs.Turning.{AfterLaw};
 
-/// A flash can be moved exactly where its shifted point lies on the board.
-pub fn moves_stay_on_the_board()
-    ensures { CanMoveLaw }
+/// One turn after another is the turn whose matrix is the product of theirs.
+pub fn turns_follow_their_matrices()
+    ensures { AfterLaw }
 {}
 
-/// A layer stays sound without an item, and with an item shifted on the board.
-pub fn edits_keep_soundness()
-    ensures { EditLaw }
-{}
-
-/// The test of a leaf is true of the places of its disc.
-pub fn leaves_cover_their_discs()
-    ensures { CoverLaw }
-{}
-
-/// Painting in order is that the last leaf that covers a place decides.
-pub fn the_last_leaf_decides()
-    ensures { PaintLaw }
+/// A drill layer stays sound with a sound item more that the limits leave room for, and with a tool
+/// more that may be added.
+pub fn drill_layers_stay_sound()
+    ensures { DrillGrowthLaw }
 {}

@@ -1,206 +1,98 @@
-//! A layer of flashes of solid circles.
+//! Layers.
 
-ghost use Rattle.std.specs.Prelude.{◌≡◌, ◌<◌, ◌++◌, ◌∷◌, ◌↔◌, [], true, false, length, map, IfOk, IsTrue, OnErr, OnOk};
-ghost use Rattle.std.specs.List.{AllByRecursion};
-ghost use Rattle.cam_units.specs.Board.{IsPlace, IsSize};
-ghost use Rattle.cam_objects.specs.Image.{IsBlack, leaf_of, leaves_of, paint};
-ghost use Rattle.cam_objects.specs.Layers.{IsSoundFlash, can_move_of, diameter_at, with_shifted, without_item};
+ghost use Rattle.std.specs.Prelude.{◌≡◌, ◌++◌, ◌∷◌, ◌↔◌, [], IfOk, IsTrue, OnErr, OnOk};
+ghost use Rattle.cam_units.specs.Board.{IsPlace};
+ghost use Rattle.cam_objects.specs.Image.{IsBlack};
+ghost use Rattle.cam_objects.specs.Leaves.{leaves_of};
+ghost use Rattle.cam_objects.specs.Soundness.{IsSound, IsSoundItem, KeepsLimits, MayAddEntry};
 
-use crate::aperture::Aperture;
-use crate::flash::Flash;
-use cam_units::{Nm, Spot};
+use crate::dictionary::Dictionary;
+use crate::entry::Entry;
+use crate::image::ink;
+use crate::item::Item;
+use cam_units::Spot;
 use std::alloc::{AllocError, Global};
-use std::marker::Model;
 
-/// A dictionary of apertures and the flashes in their order, all on the board.
+/// A layer (Gerber Layer Format Specification): its dictionary of apertures and blocks, and what it
+/// paints, in order.
+///
+/// It is sound where each entry might have been added to those before it, every item is sound, and
+/// the limits hold: at most 1,000,000 items, and at most 4,000,000 leaves.
 #[derive(Drop)]
 pub struct Layer {
-    apertures: Vec<Aperture>,
-    flashes: Vec<Flash>,
-}
-
-impl Model for Layer {
-    ghost use Rattle.cam_objects.specs.Layers.{Content, IsSound};
-
-    ghost Value = { Content };
-
-    ghost view = { λ l. record { apertures = l.apertures.items; flashes = l.flashes.items } };
-
-    ghost invariant = { λ l. IsSound (record { apertures = l.apertures.items; flashes = l.flashes.items }) };
+    pub apertures: Dictionary,
+    pub items: Vec<Item>,
 }
 
 impl Layer {
-    /// No aperture and no flash.
+    /// No entry and no item.
     pub fn new(alloc: Global) -> Layer
-        ensures { result ≡ record { apertures = []; flashes = [] } }
+        ensures apertures { result.apertures ≡ [] }
+        ensures items { result.items.items ≡ [] }
     {
         Layer {
-            apertures: Vec::new(alloc),
-            flashes: Vec::new(alloc),
+            apertures: Dictionary::new(alloc),
+            items: Vec::new(alloc),
         }
     }
 
-    /// Adds an aperture behind the others; refused for want of memory alone.
-    pub fn add_aperture(&mut self, aperture: Aperture) -> Result<(), AllocError>
-        requires { IsSize aperture.diameter.0 }
-        ensures ok { OnOk result (self.new
-            ≡ record self.old { apertures = self.old.apertures ++ aperture ∷ [] }) }
-        ensures err { OnErr result (self.new ≡ self.old) }
+    /// Adds an entry behind the others; refused for want of memory alone.
+    pub fn add_entry(&mut self, number: u32, entry: Entry) -> Result<(), AllocError>
+        requires { MayAddEntry self.old.apertures number entry }
+        ensures ok { OnOk result (self.new.apertures ≡ self.old.apertures ++ (number, entry) ∷ []) }
+        ensures err { OnErr result (self.new.apertures ≡ self.old.apertures) }
+        ensures items { self.new.items ≡ self.old.items }
     {
-        self.apertures.push(aperture)?;
+        self.apertures.push(number, entry)
+    }
+
+    /// Adds an item behind the others; refused for want of memory alone.
+    pub fn push(&mut self, item: Item) -> Result<(), AllocError>
+        requires item { IsSoundItem self.old.apertures item }
+        requires room { KeepsLimits self.old.apertures (self.old.items.items ++ item ∷ []) }
+        ensures ok { OnOk result (self.new.items.items ≡ self.old.items.items ++ item ∷ []) }
+        ensures err { OnErr result (self.new.items.items ≡ self.old.items.items) }
+        ensures apertures { self.new.apertures ≡ self.old.apertures }
+    {
+        self.items.push(item)?;
         Ok(())
     }
 
-    /// Adds a flash behind the others; refused for want of memory alone.
-    pub fn add_flash(&mut self, flash: Flash) -> Result<(), AllocError>
-        requires { IsSoundFlash flash }
-        ensures ok { OnOk result (self.new
-            ≡ record self.old { flashes = self.old.flashes ++ flash ∷ [] }) }
-        ensures err { OnErr result (self.new ≡ self.old) }
+    /// The dictionary.
+    pub fn entries(&self) -> &Dictionary
+        ensures { result.now ≡ self.now.apertures }
     {
-        self.flashes.push(flash)?;
-        Ok(())
+        &self.apertures
     }
 
-    /// The diameter, in nm, of the first aperture of this number.
-    pub fn diameter_of(&self, number: u32) -> Option<Nm>
-        ensures { result ≡ diameter_at self.now.apertures number }
+    /// The items, in order.
+    pub fn items(&self) -> &[Item]
+        ensures { result.now ≡ self.now.items.items }
     {
-        self.apertures
-            .iter()
-            .find(|aperture| aperture.number == number)
-            .map(|aperture| aperture.diameter)
-    }
-
-    /// How many apertures the dictionary has.
-    pub fn aperture_count(&self) -> usize
-        ensures { result ≡ length self.now.apertures }
-    {
-        self.apertures.len()
-    }
-
-    /// How many flashes there are.
-    pub fn flash_count(&self) -> usize
-        ensures { result ≡ length self.now.flashes }
-    {
-        self.flashes.len()
+        self.items.as_slice()
     }
 
     /// The same layer in memory of its own.
     pub fn try_copy(&self, alloc: Global) -> Result<Layer, AllocError>
-        ensures { IfOk result (λ copy. copy ≡ self.now) }
+        ensures apertures { IfOk result (λ copy. copy.apertures ≡ self.now.apertures) }
+        ensures items { IfOk result (λ copy. copy.items.items ≡ self.now.items.items) }
     {
-        Ok(Layer {
-            apertures: self.apertures.to_vec(alloc)?,
-            flashes: self.flashes.to_vec(alloc)?,
-        })
-    }
-
-    /// Takes out the flash at this place, counted from 0.
-    pub fn delete(&mut self, item: usize)
-        requires { item < length self.old.flashes }
-        ensures { self.new ≡ without_item self.old item }
-    {
-        self.flashes.remove(item);
-    }
-
-    /// Whether the flash at this place, shifted by so many nm, still lies on the board.
-    pub fn can_move(&self, item: usize, dx: i64, dy: i64) -> bool
-        requires { item < length self.now.flashes }
-        ensures { result ≡ can_move_of self.now item dx dy }
-    {
-        self.flashes[item].moved(dx, dy).is_some()
-    }
-
-    /// Shifts the flash at this place by so many nm.
-    pub fn shift(&mut self, item: usize, dx: i64, dy: i64)
-        requires within { item < length self.old.flashes }
-        requires on_board { can_move_of self.old item dx dy ≡ true }
-        ensures { self.new ≡ with_shifted self.old item dx dy }
-    {
-        if let Some(flash) = self.flashes[item].moved(dx, dy) {
-            self.flashes[item] = flash;
+        let apertures = self.apertures.try_clone(alloc)?;
+        let mut items = Vec::with_capacity(alloc, self.items.len())?;
+        for item in &self.items {
+            items.push(item.try_clone(alloc)?)?;
         }
+        Ok(Layer { apertures, items })
     }
+}
 
-    /// Whether a place, in half nm, is black: the last flash that covers it decides, and
-    /// each is dark.
+impl Layer {
+    /// Whether a place, in half nm, is black: a leaf covers it, and the last one that does is dark.
     pub fn black_at(&self, spot: Spot) -> bool
-        requires { IsPlace spot }
-        ensures image { IsTrue result ↔ IsBlack (leaves_of self.now) spot }
-        ensures ink { result ≡ paint false (leaves_of self.now) spot }
+        requires sound { IsSound self.now }
+        requires spot { IsPlace spot }
+        ensures { IsTrue result ↔ IsBlack (leaves_of self.now.apertures self.now.items.items) spot }
     {
-        is_painted(&self.flashes, spot)
-    }
-}
-
-/// Whether the flashes, in their order on a clear plane, paint the place.
-fn is_painted(flashes: &[Flash], spot: Spot) -> bool
-    requires flashes { AllByRecursion IsSoundFlash flashes.now }
-    requires spot { IsPlace spot }
-    ensures { result ≡ paint false (map leaf_of flashes.now) spot }
-{
-    for flash in flashes {
-        if flash.covers(spot) {
-            return true;
-        }
-    }
-    false
-}
-
-#[cfg(test)]
-mod tests {
-    use super::*;
-    use cam_units::Point;
-    use std::test::Fail;
-
-    const LEFT: Flash = Flash {
-        at: Point { x: 0, y: 0 },
-        diameter: Nm(1_000),
-    };
-
-    const RIGHT: Flash = Flash {
-        at: Point { x: 5_000, y: 0 },
-        diameter: Nm(1_000),
-    };
-
-    #[test]
-    fn keeps_apertures_and_flashes(rt: HostRuntime) -> Result<(), Fail> {
-        let mut layer = Layer::new(rt.alloc());
-        layer.add_aperture(Aperture {
-            number: 10,
-            diameter: Nm(1_000),
-        })?;
-        layer.add_aperture(Aperture {
-            number: 10,
-            diameter: Nm(2_000),
-        })?;
-        layer.add_flash(LEFT)?;
-        layer.add_flash(RIGHT)?;
-        assert_eq!(rt; layer.diameter_of(10), Some(Nm(1_000)));
-        assert_eq!(rt; layer.diameter_of(11), None);
-        assert_eq!(rt; layer.aperture_count(), 2);
-        assert_eq!(rt; layer.flash_count(), 2);
-        assert_eq!(rt; layer.try_copy(rt.alloc())?.flash_count(), 2);
-        Ok(())
-    }
-
-    #[test]
-    fn edits_change_the_image(rt: HostRuntime) -> Result<(), Fail> {
-        let mut layer = Layer::new(rt.alloc());
-        layer.add_flash(LEFT)?;
-        layer.add_flash(RIGHT)?;
-        assert_eq!(rt; layer.flash_count(), 2);
-        assert!(rt; layer.black_at(Spot { x: 1_000, y: 0 }));
-        assert!(rt; !layer.black_at(Spot { x: 1_001, y: 0 }));
-        layer.delete(0);
-        assert_eq!(rt; layer.flash_count(), 1);
-        assert!(rt; !layer.black_at(Spot { x: 1_000, y: 0 }));
-        assert!(rt; !layer.can_move(0, 999_995_000, 0));
-        assert!(rt; layer.can_move(0, -5_000, 7));
-        layer.shift(0, -5_000, 7);
-        assert!(rt; layer.black_at(Spot { x: 0, y: 1_014 }));
-        assert!(rt; !layer.black_at(Spot { x: 0, y: 1_015 }));
-        Ok(())
+        ink(&self.apertures, &self.items, spot).unwrap_or(false)
     }
 }

@@ -1,20 +1,33 @@
-//! Layers: a dictionary of apertures, the items in their order, and the image that they paint.
-//!
-//! Points and sizes are in nanometres, tested places in half nanometres. The plane starts clear; objects
-//! are painted in the order of the list, and a place is black exactly where the last one that covers it
-//! is dark. Today the apertures are solid circles and the items dark flashes.
-//!
-//! What a layer holds stands in `specs/Layers.antt`, and what it paints in `specs/Image.antt`.
+//! Layers and drill layers as lists, and the image that they paint.
 #![tactic(auto)]
 
-mod aperture;
-mod flash;
+mod dictionary;
+mod drill_checks;
+mod drill_image;
+mod drill_item;
+mod drill_layer;
+mod entry;
+mod image;
+mod item;
+mod item_fault;
 mod laws;
 mod layer;
+mod leaf;
+mod object;
+mod place;
+mod points;
+mod shifting;
+mod tools;
 
-pub use aperture::Aperture;
-pub use flash::Flash;
-pub use laws::{
-    edits_keep_soundness, leaves_cover_their_discs, moves_stay_on_the_board, the_last_leaf_decides,
-};
+pub use cam_shapes::{Contour, Seg, Segments};
+pub use dictionary::Dictionary;
+pub use drill_item::DrillItem;
+pub use drill_layer::DrillLayer;
+pub use entry::Entry;
+pub use item::Item;
+pub use item_fault::ItemFault;
+pub use laws::{drill_layers_stay_sound, turns_follow_their_matrices};
 pub use layer::Layer;
+pub use object::{Object, Objects};
+pub use points::Points;
+pub use tools::Tools;

@@ -1,6 +1,12 @@
--- A line with another count of words has not this form.
-use Rattle.std.proofs.Common.{◌≡◌, ◌≢◌, ℕ, List, [], ◌∷◌, length, None, refl, arith}
-use Rattle.cam_station.specs.Parsing.{load_line, window_line, plot_line, delete_line, move_line}
+-- What a line says, by its words: one with another count of words has not a form.
+use Rattle.std.proofs.Common.{◌≡◌, ◌≢◌, ◌≤◌, ◌∙◌, ap, ℕ, Bool, false, List, [], ◌∷◌, length, None, Some, Ok, Err, refl, arith}
+use Rattle.std.specs.Prelude.{slice_index}
+use Rattle.std.proofs.lemmas.Bool.{le-ltb, ne_eqb}
+use Rattle.cam_station.specs.declared.script.line.Line.{Line}
+use Rattle.cam_station.specs.declared.script.line.LineFault.{LineFault}
+use Rattle.cam_station.specs.Refusals.{line_limit}
+use Rattle.cam_station.specs.Words.{words}
+use Rattle.cam_station.specs.Parsing.{parsed, some_line, kept, line_in, is_no_memory, load_line, window_line, plot_line, delete_line, move_line}
 
 pub no_load : (ws : List (List ℕ)) → length ws ≢ 3 → load_line ws ≡ None
 no_load [] h = refl
@@ -37,3 +43,17 @@ no_move (a ∷ b ∷ []) h = refl
 no_move (a ∷ b ∷ c ∷ []) h = refl
 no_move (a ∷ b ∷ c ∷ d ∷ []) h = absurd (h (omega arith))
 no_move (a ∷ b ∷ c ∷ d ∷ e ∷ more) h = refl
+
+-- a line that is not too long, of a first word that begins no comment and the words behind it
+module _ (line verb : List ℕ) (rest : List (List ℕ)) (short : length line ≤ line_limit) (words_are : words line ≡ verb ∷ rest) (no_comment : slice_index verb 0 ≢ 35) where
+  by_words : (no_memory : Bool) → parsed line no_memory ≡ some_line (kept (line_in verb rest) no_memory)
+  by_words no_memory = rw (le-ltb line_limit (length line) short, words_are, ne_eqb (slice_index verb 0) 35 no_comment) refl
+
+  pub line_read : (said : Line) → kept (line_in verb rest) false ≡ Ok said → parsed line false ≡ Ok (Some said)
+  line_read said e = by_words false ∙ ap some_line e
+
+  pub line_refused : (f : LineFault) → kept (line_in verb rest) (is_no_memory {T = Line} (Err f)) ≡ Err f → parsed line (is_no_memory {T = Line} (Err f)) ≡ Err f
+  line_refused f e = by_words (is_no_memory {T = Line} (Err f)) ∙ ap some_line e
+
+pub line_without_words : (line : List ℕ) → length line ≤ line_limit → words line ≡ [] → parsed line false ≡ Ok None
+line_without_words line short e = rw (le-ltb line_limit (length line) short, e) refl

@@ -5,8 +5,11 @@ use Rattle.cam_station.specs.declared.reply.Reply.{Reply}
 use Rattle.cam_station.specs.declared.reply.Reply.TheVariants.{Bytes}
 use Rattle.cam_tiles.specs.declared.window.Window.{Window}
 use Rattle.cam_station.specs.Documents.{layer_at, layer_named, place_of}
-use Rattle.cam_objects.specs.Layers.{Content}
+use Rattle.cam_flashes.specs.Layers.{Content}
+use Rattle.cam_flashes.specs.Image.{leaves_of}
+use Rattle.cam_flashes.proofs.ImageLemmas.{paint_law}
 use Rattle.cam_station.specs.Machine.{State, Memory, Granted, RefusedToReader, RefusedToStation, fresh, plot_at, plot_in}
+use Rattle.cam_tiles.specs.LayerImage.{image_of}
 use Rattle.cam_tiles.specs.Picture.{accepts, plot_of, tiles_of}
 use Rattle.cam_station.specs.Plots.{ExactPlot, IsPlotOf}
 use Rattle.cam_station.specs.Undoing.{states_after}
@@ -17,7 +20,7 @@ use Rattle.cam_station.proofs.Reached.{IsReached, reached}
 record IsPicture (s : State) (c : Content) (reply : Reply) : Type 0 where
   window : Window
   in_force : s.window ≡ Some window
-  answered : reply ≡ Bytes (plot_of window c) (tiles_of window)
+  answered : reply ≡ Bytes (plot_of window (image_of c)) (tiles_of window)
 
 plotted_in : (s : State) (m : Memory) (c : Content) (w : Option Window) (reply : Reply) → s.window ≡ w → (plot_in s m c w).1 ≡ Ok reply → IsPicture s c reply
 plotted_in s m c None reply e h = absurd cc
@@ -31,12 +34,13 @@ shown s name c reply accepted named p =
     record {
       window = p.window;
       content = c;
-      bytes = plot_of p.window c;
+      bytes = plot_of p.window (image_of c);
       in_force = p.in_force;
       named = named;
       answered = p.answered;
       picture = refl;
-      pixels = plot_law p.window c (accepted p.window p.in_force);
+      pixels = plot_law p.window (image_of c) (accepted p.window p.in_force);
+      black = paint_law (leaves_of c);
     }
 
 plotted : (s : State) (m : Memory) (name : List ℕ) (place : Option ℕ) (reply : Reply) → ((w : Window) → s.window ≡ Some w → accepts w ≡ true)

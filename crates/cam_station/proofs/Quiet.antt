@@ -5,7 +5,7 @@ use Rattle.cam_station.specs.declared.command.Command.{Command}
 use Rattle.cam_station.specs.declared.command.Command.TheVariants.{Load, SetWindow, Plot, Delete, Move, Undo, Redo, ListAll, ListLayer}
 use Rattle.cam_tiles.specs.declared.window.Window.{Window}
 use Rattle.cam_station.specs.Documents.{layer_at, place_of}
-use Rattle.cam_objects.specs.Layers.{Content}
+use Rattle.cam_flashes.specs.Layers.{Content}
 use Rattle.cam_station.specs.Machine.{State, Outcome, Memory, Granted, RefusedToReader, RefusedToStation, step, plot_at, plot_in, list_layer_at}
 use Rattle.cam_station.specs.Undoing.{Call, state_after, states_after, RefusalLaw, IsLook, IsQuiet, AreQuiet}
 use Rattle.cam_station.proofs.Steps.{AfterEach, after_each}

@@ -1,5 +1,6 @@
 -- The laws of runs.
-use Rattle.std.proofs.Common.{◌≡◌, ℕ, ◌≤◌, ◌+◌, Bool, true, false, cond, List, [], ◌∷◌, ◌++◌, None, Some, Result, Ok, Err, refl, ap, sym, ◌∙◌, arith}
+use Rattle.std.proofs.Common.{◌≡◌, ℕ, ◌≤◌, ◌+◌, Bool, true, false, cond, List, [], ◌∷◌, ◌++◌, None, Some, Result, Ok, Err, refl, ap, ap₂, sym, ◌∙◌, arith, length, drop}
+use Rattle.std.specs.Prelude.{slice_get, count_by}
 use Rattle.std.proofs.lemmas.List.Sums.{sum_by-cons}
 use Rattle.cam_station.specs.declared.command.FileKind.{FileKind}
 use Rattle.cam_station.specs.declared.command.Command.TheVariants as commands
@@ -9,11 +10,11 @@ use Rattle.cam_station.specs.declared.reply.Reply.TheVariants.{Done, Numbers, By
 use Rattle.cam_station.specs.declared.script.line.Line.TheVariants.{Command, Load, Plot}
 use Rattle.cam_station.specs.declared.script.line.LineFault.TheVariants.{LineTooLong, BadLine, Memory as LineMemory}
 use Rattle.cam_station.specs.Machine.{State, Outcome, Memory, step}
-use Rattle.cam_station.specs.Undoing.{Call, states_after}
+use Rattle.cam_station.specs.Undoing.{Call, answers_to, states_after}
 use Rattle.cam_station.specs.Contents.{HasRisenBy}
 use Rattle.cam_station.specs.Parsing.{Parsed, parsed}
-use Rattle.cam_station.specs.Run.{World, Turn, turn, turns, parsed_turn, load_turn, plot_turn, ask_failures, FilesSeen}
-use Rattle.cam_station.specs.RunLaws.{is_file_refusal, file_refusals, FewFileRefusals, line_calls, load_calls, calls, RunIsCommands}
+use Rattle.cam_station.specs.Run.{World, Turn, turn, turns, parsed_turn, load_turn, plot_turn, ask_failures, is_refusal, refused_lines, FilesSeen}
+use Rattle.cam_station.specs.RunLaws.{is_file_refusal, file_refusals, FewFileRefusals, line_calls, load_calls, calls, last_state, Exchange, exchanges, load_exchange, plot_exchange, line_exchange, exchanges_by, RunIsCommands}
 use Rattle.cam_station.proofs.StepFacts.{step_gets_no_file}
 
 -- the turn is refused for a file only where the files failed
@@ -84,10 +85,74 @@ line_leads s w (Ok (Some (Command command))) = refl
 line_leads s w (Ok (Some (Load name kind path))) = load_leads s name kind path w.memory w.got
 line_leads s w (Ok (Some (Plot name path))) = plot_leads path w.put (step s (commands.Plot name) w.memory).0 (step s (commands.Plot name) w.memory).1
 
-pub run_commands : RunIsCommands
-run_commands s [] ws = refl
-run_commands s (line ∷ lines) [] = refl
-run_commands s (line ∷ lines) (w ∷ ws) =
-    run_commands (turn s line w).state lines ws
+last_state_is : (s : State) (lines : List (List ℕ)) (ws : List World) → last_state s (turns s lines ws) ≡ states_after s (calls lines ws)
+last_state_is s [] ws = refl
+last_state_is s (line ∷ lines) [] = refl
+last_state_is s (line ∷ lines) (w ∷ ws) =
+    last_state_is (turn s line w).state lines ws
     ∙ ap (λ (q : State). states_after q (calls lines ws)) (line_leads s w (parsed line w.line_refused))
     ∙ sym (after_both s (line_calls w (parsed line w.line_refused)) (calls lines ws))
+
+exchange_of : Turn → Exchange
+exchange_of t = (t.ask, t.reply)
+
+plot_exchanges : (path : List ℕ) (put : Result (Unit {0}) FileFault) (state : State) (reply : Outcome) → exchange_of (plot_turn path put (state, reply)) ≡ plot_exchange path put (Some reply)
+unfolding exchange_of
+plot_exchanges path put state (Ok (Bytes bytes drawn)) = refl
+plot_exchanges path put state (Ok Done) = refl
+plot_exchanges path put state (Ok (Numbers n)) = refl
+plot_exchanges path put state (Err f) = refl
+
+-- a line's exchange, in front of other commands
+module _ (s : State) (w : World) (ds : List Call) where
+  load_exchanges : (name : List ℕ) (kind : FileKind) (path : List ℕ) (got : Result (List ℕ) FileFault)
+      → exchange_of (load_turn s name kind path w.memory got) ≡ load_exchange path got (slice_get (answers_to s (load_calls name kind w.memory got ++ ds)) 0)
+  unfolding exchange_of
+  load_exchanges name kind path (Ok bytes) = refl
+  load_exchanges name kind path (Err f) = refl
+
+  line_exchanges : (p : Parsed) → exchange_of (parsed_turn s w p) ≡ line_exchange w p (slice_get (answers_to s (line_calls w p ++ ds)) 0)
+  unfolding exchange_of
+  line_exchanges (Err f) = refl
+  line_exchanges (Ok None) = refl
+  line_exchanges (Ok (Some (Command command))) = refl
+  line_exchanges (Ok (Some (Load name kind path))) = load_exchanges name kind path w.got
+  line_exchanges (Ok (Some (Plot name path))) = plot_exchanges path w.put (step s (commands.Plot name) w.memory).0 (step s (commands.Plot name) w.memory).1
+
+  load_left : (name : List ℕ) (kind : FileKind) (got : Result (List ℕ) FileFault)
+      → drop (length (load_calls name kind w.memory got)) (answers_to s (load_calls name kind w.memory got ++ ds)) ≡ answers_to (states_after s (load_calls name kind w.memory got)) ds
+  load_left name kind (Ok bytes) = refl
+  load_left name kind (Err f) = refl
+
+  -- the answers that are left to the commands behind it
+  line_left : (p : Parsed) → drop (length (line_calls w p)) (answers_to s (line_calls w p ++ ds)) ≡ answers_to (states_after s (line_calls w p)) ds
+  line_left (Err f) = refl
+  line_left (Ok None) = refl
+  line_left (Ok (Some (Command command))) = refl
+  line_left (Ok (Some (Load name kind path))) = load_left name kind w.got
+  line_left (Ok (Some (Plot name path))) = refl
+
+exchanges_are : (s : State) (lines : List (List ℕ)) (ws : List World) → exchanges (turns s lines ws) ≡ exchanges_by lines ws (answers_to s (calls lines ws))
+unfolding exchange_of
+exchanges_are s [] ws = refl
+exchanges_are s (line ∷ lines) [] = refl
+exchanges_are s (line ∷ lines) (w ∷ ws) =
+    let p : Parsed = parsed line w.line_refused in
+    let ds : List Call = calls lines ws in
+    let left : answers_to (turn s line w).state ds ≡ drop (length (line_calls w p)) (answers_to s (line_calls w p ++ ds)) =
+    ap (λ (q : State). answers_to q ds) (line_leads s w p) ∙ sym (line_left s w ds p) in
+    ap₂ ◌∷◌ (line_exchanges s w ds p) (exchanges_are (turn s line w).state lines ws ∙ ap (exchanges_by lines ws) left)
+
+refusals_in : (ts : List Turn) → refused_lines ts ≡ count_by (λ (x : Exchange). is_refusal x.1) (exchanges ts)
+refusals_in [] = refl
+refusals_in (t ∷ ts) =
+    sum_by-cons (λ (t : Turn). cond (is_refusal t.reply) 1 0) t ts
+    ∙ ap (λ n. cond (is_refusal t.reply) 1 0 + n) (refusals_in ts)
+    ∙ sym (sum_by-cons (λ (x : Exchange). cond (is_refusal x.1) 1 0) (t.ask, t.reply) (exchanges ts))
+
+pub run_commands : RunIsCommands
+run_commands s lines ws = record {
+  state = last_state_is s lines ws;
+  exchanged = exchanges_are s lines ws;
+  refused_count = refusals_in (turns s lines ws) ∙ ap (count_by (λ (x : Exchange). is_refusal x.1)) (exchanges_are s lines ws);
+}

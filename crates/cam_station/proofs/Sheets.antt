@@ -3,7 +3,7 @@ use Rattle.std.proofs.Common.{◌≡◌, ℕ, zero, suc, ◌<◌, List, [], ◌�
 use Rattle.std.specs.Prelude.{slice_get, slice_set}
 use Rattle.cam_station.specs.declared.document.Sheet.{Sheet}
 use Rattle.cam_station.specs.Documents.{layer_at, sheet, with_layer, with_layer_in}
-use Rattle.cam_objects.specs.Layers.{Content}
+use Rattle.cam_flashes.specs.Layers.{Content}
 
 behind : (x : Sheet) (sheets : List Sheet) (place : ℕ) (c : Content) (s : Option Sheet)
     → with_layer_in (x ∷ sheets) (suc place) c s ≡ x ∷ with_layer_in sheets place c s

@@ -9,9 +9,10 @@ use Rattle.cam_station.specs.declared.document.Sheet.{Sheet}
 use Rattle.cam_gerber.specs.declared.read_fault.ReadFault.{ReadFault}
 use Rattle.cam_tiles.specs.declared.window.Window.{Window}
 use Rattle.cam_station.specs.Documents.{layer_at, place_of}
-use Rattle.cam_objects.specs.Layers.{Content, can_move_of, with_shifted, without_item}
+use Rattle.cam_flashes.specs.Layers.{Content, can_move_of, with_shifted, without_item}
 use Rattle.cam_tiles.specs.Picture.{accepts}
 use Rattle.cam_station.specs.declared.reply.Reply.TheVariants.{Done}
+use Rattle.cam_station.specs.Refusals.{file_fault, layer_limit, name_taken, no_item, out_of_board, out_of_limits, too_many_layers}
 use Rattle.cam_station.specs.Machine.{State, Outcome, Memory, Granted, RefusedToReader, RefusedToStation, refused, step, with_room, load_read, load_step, window_step, reader_answer, plot_in, plot_at, edit_to, edit_at, delete_of, move_of, undo_to, redo_to, list_layer_at}
 use Rattle.cam_gerber.specs.Reading.{reading_of}
 use Rattle.cam_station.specs.RunLaws.{is_file_refusal}
@@ -30,8 +31,8 @@ roomed Granted s change h = h
 roomed RefusedToReader s change h = h
 roomed RefusedToStation s change h = refl
 
-low : (n : ℕ) → n ≤ 26 → (n == 82) ≡ false
-low n h = ne_eqb n 82 (λ e. omega arith)
+low : (n : ℕ) → n ≤ 26 → (n == file_fault) ≡ false
+low n h = ne_eqb n file_fault (λ e. omega arith)
 
 read_own : (s : State) (name : List ℕ) (m : Memory) (r : Result Content ReadFault) → ((f : ReadFault) → r ≡ Err f → f.code ≤ 26) → IsOwn (load_read s name m r)
 read_own s name m (Err f) numbered = low f.code (numbered f refl)
@@ -53,7 +54,7 @@ plot_own s m (Some place) = plot_in_own s m (layer_at s.document place) s.window
 -- an edit's refusals are its own
 abbrev IsOwnEdit : Result Content ℕ → Type 0
 IsOwnEdit (Ok content) = Unit {0}
-IsOwnEdit (Err code) = (code == 82) ≡ false
+IsOwnEdit (Err code) = (code == file_fault) ≡ false
 
 edit_choice : (b : Bool) (x y : Result Content ℕ) → IsOwnEdit x → IsOwnEdit y → IsOwnEdit (cond b x y)
 edit_choice true x y h k = h
@@ -82,20 +83,20 @@ list_own s (Some place) = refl
 load_step_own : (s : State) (name : List ℕ) (bytes : List ℕ) (m : Memory) → IsOwn (load_step s name Gerber bytes m)
 load_step_own s name bytes m =
     let answer : State × Outcome = load_read s name m (reader_answer m (reading_of bytes)) in
-    either (is_some (place_of name s.document)) (s, refused 83) (cond (nat_le 32 (length s.document)) (s, refused 85) answer) refl
-    (either (nat_le 32 (length s.document)) (s, refused 85) answer refl (load_own s name m bytes))
+    either (is_some (place_of name s.document)) (s, refused name_taken) (cond (nat_le layer_limit (length s.document)) (s, refused too_many_layers) answer) refl
+    (either (nat_le layer_limit (length s.document)) (s, refused too_many_layers) answer refl (load_own s name m bytes))
 
 window_own : (s : State) (w : Window) → IsOwn (window_step s w)
-window_own s w = either (accepts w) (record s { window = Some w }, Ok Done) (s, refused 50) refl refl
+window_own s w = either (accepts w) (record s { window = Some w }, Ok Done) (s, refused out_of_limits) refl refl
 
 delete_own : (item : ℕ) (c : Content) → IsOwnEdit (delete_of item c)
-delete_own item c = edit_choice (nat_lt item (length c.flashes)) (Ok (without_item c item)) (Err 61) tt refl
+delete_own item c = edit_choice (nat_lt item (length c.flashes)) (Ok (without_item c item)) (Err no_item) tt refl
 
 move_own : (item : ℕ) (dx dy : ℤ) (c : Content) → IsOwnEdit (move_of item dx dy c)
 move_own item dx dy c =
-    let shifted : Result Content ℕ = cond (can_move_of c item dx dy) (Ok (with_shifted c item dx dy)) (Err 65) in
-    edit_choice (nat_lt item (length c.flashes)) shifted (Err 61)
-    (edit_choice (can_move_of c item dx dy) (Ok (with_shifted c item dx dy)) (Err 65) tt refl) refl
+    let shifted : Result Content ℕ = cond (can_move_of c item dx dy) (Ok (with_shifted c item dx dy)) (Err out_of_board) in
+    edit_choice (nat_lt item (length c.flashes)) shifted (Err no_item)
+    (edit_choice (can_move_of c item dx dy) (Ok (with_shifted c item dx dy)) (Err out_of_board) tt refl) refl
 
 pub step_gets_no_file : (s : State) (command : Command) (memory : Memory) → is_file_refusal (Some (step s command memory).1) ≡ false
 step_gets_no_file s (Load name Gerber file) m = load_step_own s name file m

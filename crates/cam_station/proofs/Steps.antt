@@ -10,8 +10,9 @@ use Rattle.cam_station.specs.declared.reply.Reply.TheVariants.{Done, Numbers}
 use Rattle.cam_station.specs.declared.reply.Numbers.TheVariants.{One}
 use Rattle.cam_tiles.specs.declared.window.Window.{Window}
 use Rattle.cam_station.specs.Documents.{layer_at, place_of, with_layer}
-use Rattle.cam_objects.specs.Layers.{Content}
+use Rattle.cam_flashes.specs.Layers.{Content}
 use Rattle.cam_tiles.specs.Picture.{accepts}
+use Rattle.cam_station.specs.Refusals.{layer_limit, memory_refused, name_taken, no_layer, no_window, nothing_to_redo, nothing_to_undo, out_of_limits, too_many_layers}
 use Rattle.cam_station.specs.Machine.{State, Outcome, Memory, Granted, RefusedToReader, RefusedToStation, step, refused, refused_at, with_room, with_sheet, with_edit, edit_at, edit_to, load_read, meaning_of, reader_answer, plot_at, plot_in, undo_to, redo_to, list_layer_at, delete_of, move_of}
 
 -- P holds where the state stays, and after each kind of change
@@ -31,7 +32,7 @@ either P true p q hp hq = hp refl
 either P false p q hp hq = hq
 
 -- whether memory is refused or not
-room : (P : State × Outcome → Type 0) (m : Memory) (s : State) (p : State × Outcome) → P (s, refused 30) → P p → P (with_room m s p)
+room : (P : State × Outcome → Type 0) (m : Memory) (s : State) (p : State × Outcome) → P (s, refused memory_refused) → P p → P (with_room m s p)
 room P Granted s p hs hp = hp
 room P RefusedToReader s p hs hp = hp
 room P RefusedToStation s p hs hp = hs
@@ -39,42 +40,42 @@ room P RefusedToStation s p hs hp = hs
 load_each : (s : State) (P : State × Outcome → Type 0) (h : AfterEach s P) (name : List ℕ) (m : Memory) (meaning : Result Content ReadFault) → P (load_read s name m meaning)
 load_each s P h name m (Err f) = h.stays (refused_at f.code f.at)
 load_each s P h name m (Ok c) =
-    room P m s _ (h.stays (refused 30)) (h.loaded name c (Numbers (One (length c.flashes))))
+    room P m s _ (h.stays (refused memory_refused)) (h.loaded name c (Numbers (One (length c.flashes))))
 
 plot_in_each : (s : State) (P : State × Outcome → Type 0) (h : AfterEach s P) (m : Memory) (c : Content) (w : Option Window) → P (plot_in s m c w)
-plot_in_each s P h m c None = h.stays (refused 84)
-plot_in_each s P h m c (Some w) = room P m s _ (h.stays (refused 30)) (h.stays _)
+plot_in_each s P h m c None = h.stays (refused no_window)
+plot_in_each s P h m c (Some w) = room P m s _ (h.stays (refused memory_refused)) (h.stays _)
 
 plot_each : (s : State) (P : State × Outcome → Type 0) (h : AfterEach s P) (m : Memory) (place : Option ℕ) → P (plot_at s m place)
-plot_each s P h m None = h.stays (refused 60)
+plot_each s P h m None = h.stays (refused no_layer)
 plot_each s P h m (Some place) = plot_in_each s P h m (layer_at s.document place) s.window
 
 edit_to_each : (s : State) (P : State × Outcome → Type 0) (h : AfterEach s P) (m : Memory) (place : ℕ) (made : Result Content ℕ) → P (edit_to s m place made)
 edit_to_each s P h m place (Err code) = h.stays (refused code)
-edit_to_each s P h m place (Ok c) = room P m s _ (h.stays (refused 30)) (h.changed (with_layer s.document place c))
+edit_to_each s P h m place (Ok c) = room P m s _ (h.stays (refused memory_refused)) (h.changed (with_layer s.document place c))
 
 edit_each : (s : State) (P : State × Outcome → Type 0) (h : AfterEach s P) (m : Memory) (edit : Content → Result Content ℕ) (place : Option ℕ) → P (edit_at s m edit place)
-edit_each s P h m edit None = h.stays (refused 60)
+edit_each s P h m edit None = h.stays (refused no_layer)
 edit_each s P h m edit (Some place) = edit_to_each s P h m place (edit (layer_at s.document place))
 
 undo_each : (s : State) (P : State × Outcome → Type 0) (h : AfterEach s P) (m : Memory) (past : List (List Sheet)) → s.past ≡ past → P (undo_to s m past)
-undo_each s P h m [] e = h.stays (refused 70)
-undo_each s P h m (document ∷ past) e = room P m s _ (h.stays (refused 30)) (h.undone document past e)
+undo_each s P h m [] e = h.stays (refused nothing_to_undo)
+undo_each s P h m (document ∷ past) e = room P m s _ (h.stays (refused memory_refused)) (h.undone document past e)
 
 redo_each : (s : State) (P : State × Outcome → Type 0) (h : AfterEach s P) (m : Memory) (future : List (List Sheet)) → s.future ≡ future → P (redo_to s m future)
-redo_each s P h m [] e = h.stays (refused 71)
-redo_each s P h m (document ∷ future) e = room P m s _ (h.stays (refused 30)) (h.redone document future e)
+redo_each s P h m [] e = h.stays (refused nothing_to_redo)
+redo_each s P h m (document ∷ future) e = room P m s _ (h.stays (refused memory_refused)) (h.redone document future e)
 
 list_layer_each : (s : State) (P : State × Outcome → Type 0) (h : AfterEach s P) (place : Option ℕ) → P (list_layer_at s place)
-list_layer_each s P h None = h.stays (refused 60)
+list_layer_each s P h None = h.stays (refused no_layer)
 list_layer_each s P h (Some place) = h.stays _
 
 pub after_each : (s : State) (P : State × Outcome → Type 0) (h : AfterEach s P) (c : Command) (m : Memory) → P (step s c m)
 after_each s P h (Load name kind file) m =
-    either P (is_some (place_of name s.document)) _ _ (λ _. h.stays (refused 83))
-    (either P (nat_le 32 (length s.document)) _ _ (λ _. h.stays (refused 85))
+    either P (is_some (place_of name s.document)) _ _ (λ _. h.stays (refused name_taken))
+    (either P (nat_le layer_limit (length s.document)) _ _ (λ _. h.stays (refused too_many_layers))
     (load_each s P h name m (reader_answer m (meaning_of kind file))))
-after_each s P h (SetWindow w) m = either P (accepts w) _ _ (h.framed w) (h.stays (refused 50))
+after_each s P h (SetWindow w) m = either P (accepts w) _ _ (h.framed w) (h.stays (refused out_of_limits))
 after_each s P h (Plot name) m = plot_each s P h m (place_of name s.document)
 after_each s P h (Delete name item) m = edit_each s P h m (delete_of item) (place_of name s.document)
 after_each s P h (Move name item dx dy) m = edit_each s P h m (move_of item dx dy) (place_of name s.document)

@@ -5,8 +5,8 @@ use Rattle.cam_station.specs.declared.command.Command.{Command}
 use Rattle.cam_station.specs.declared.command.Command.TheVariants.{Load, SetWindow, Plot, Delete, Move, Undo, Redo, ListAll, ListLayer}
 use Rattle.cam_station.specs.declared.document.Sheet.{Sheet}
 use Rattle.cam_station.specs.declared.reply.Reply.TheVariants.{Done}
-use Rattle.cam_station.specs.Documents.{layer_at, place_of, with_layer, picture_of}
-use Rattle.cam_objects.specs.Layers.{Content}
+use Rattle.cam_station.specs.Documents.{layer_at, place_of, with_layer, picture_named}
+use Rattle.cam_flashes.specs.Layers.{Content}
 use Rattle.cam_station.specs.Machine.{State, Outcome, Memory, Granted, RefusedToReader, RefusedToStation, fresh, step, with_edit, edit_at, edit_to, delete_of, move_of}
 use Rattle.cam_station.specs.Undoing.{Call, state_after, states_after, answer_to, undo, redo, GivesBack, IsEdit, ExactUndo, ExactUndoEverywhere}
 use Rattle.cam_station.proofs.Quiet.{all_quiet_stay}
@@ -39,7 +39,7 @@ edits s (ListLayer name) m e = absurd e
 
 gives_back : (s : State) (c : Call) (document : List Sheet) → answer_to s c ≡ Ok Done → (state_after s c).document ≡ document → GivesBack s c document
 gives_back s c document accepted same =
-    record { accepted = accepted; layers = same; pictures = λ w name. ap (picture_of w name) same }
+    record { accepted = accepted; layers = same; pictures = λ w name. ap (picture_named w name) same }
 
 -- an undo right after the edit, and a redo right after that
 undo_back : (n : ℕ) (s left : State) (document : List Sheet) → s.depth ≡ suc n → left ≡ with_edit s document → GivesBack left undo s.document

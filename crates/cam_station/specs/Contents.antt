@@ -3,24 +3,34 @@ use Rattle.std.specs.Prelude.{◌≡◌, ◌≢◌, ℕ, ◌+◌, ◌-◌, ◌^�
 use Rattle.cam_station.specs.declared.files.FileFault.{FileFault}
 use Rattle.cam_station.specs.declared.files.FileFault.TheVariants.{Failed, Memory}
 
--- the bytes of each path whose bytes are told; nothing where the type tells of none
-abbrev pub Contents : Type 0
-Contents = Option (List ℕ → Option (List ℕ))
+-- what a path holds: no file, or a file of these bytes
+pub data Held : Type 0 where
+  Absent : Held
+  Holding : List ℕ → Held
 
--- what a get at this path gave is what the path holds
+-- what is told of each path, of some of them nothing; nothing at all where the type tells of none
+abbrev pub Contents : Type 0
+Contents = Option (List ℕ → Option Held)
+
+-- these bytes are the file's at this path, as far as it is told what the path holds
 abbrev pub Holds : Contents → List ℕ → List ℕ → Type 0
 Holds None path bytes = ⊤
-Holds (Some told) path bytes = IfSome (told path) (λ held. bytes ≡ held)
+Holds (Some told) path bytes = IfSome (told path) (λ held. held ≡ Holding bytes)
+
+-- where it is told that no file is at this path, the fault is that the file failed
+abbrev pub FailsIfAbsent : Contents → List ℕ → FileFault → Type 0
+FailsIfAbsent None path fault = ⊤
+FailsIfAbsent (Some told) path fault = told path ≡ Some Absent → fault ≡ Failed
 
 -- every path but this one holds what it held
-abbrev pub KeepsOthers : (List ℕ → Option (List ℕ)) → (List ℕ → Option (List ℕ)) → List ℕ → Type 0
+abbrev pub KeepsOthers : (List ℕ → Option Held) → (List ℕ → Option Held) → List ℕ → Type 0
 KeepsOthers old new path = (other : List ℕ) → other ≢ path → new other ≡ old other
 
 -- this path holds these bytes now, and every other what it held
 abbrev pub Stored : Contents → Contents → List ℕ → List ℕ → Type 0
 Stored None new path bytes = ⊤
 Stored (Some old) None path bytes = ⊥
-Stored (Some old) (Some new) path bytes = (new path ≡ Some bytes) × KeepsOthers old new path
+Stored (Some old) (Some new) path bytes = (new path ≡ Some (Holding bytes)) × KeepsOthers old new path
 
 -- nothing is told of what this path holds now, and every other holds what it held
 abbrev pub MayHaveStored : Contents → Contents → List ℕ → Type 0

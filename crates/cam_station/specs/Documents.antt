@@ -4,7 +4,8 @@ use Rattle.std.specs.Option.{option_map}
 use Rattle.std.specs.Str.{bytes_eq}
 use Rattle.cam_station.specs.declared.document.Sheet.{Sheet}
 use Rattle.cam_tiles.specs.declared.window.Window.{Window}
-use Rattle.cam_objects.specs.Layers.{Content}
+use Rattle.cam_flashes.specs.Layers.{Content}
+use Rattle.cam_tiles.specs.LayerImage.{image_of}
 use Rattle.cam_tiles.specs.Picture.{plot_of}
 
 abbrev pub sheet : List ℕ → Content → Sheet
@@ -39,9 +40,9 @@ abbrev pub layer_named : List ℕ → List Sheet → Option Content
 layer_named name sheets = option_map (layer_at sheets) (place_of name sheets)
 
 -- its picture in a window, as a PBM file
-abbrev pub picture_of : Window → List ℕ → List Sheet → Option (List ℕ)
-picture_of w name sheets = option_map (plot_of w) (layer_named name sheets)
+abbrev pub picture_named : Window → List ℕ → List Sheet → Option (List ℕ)
+picture_named w name sheets = option_map (λ c. plot_of w (image_of c)) (layer_named name sheets)
 
 -- in every window each layer has the same picture in both documents
 abbrev pub SamePictures : List Sheet → List Sheet → Type 0
-SamePictures sheets sheets' = (w : Window) (name : List ℕ) → picture_of w name sheets ≡ picture_of w name sheets'
+SamePictures sheets sheets' = (w : Window) (name : List ℕ) → picture_named w name sheets ≡ picture_named w name sheets'

@@ -1,4 +1,5 @@
 pub mod Documents
+pub mod Refusals
 pub mod Machine
 pub mod Undoing
 pub mod Plots

@@ -1,5 +1,5 @@
 -- The machine of documents that a station is: it keeps whole documents, and one command is one step.
-use Rattle.std.specs.Prelude.{◌≡◌, ℕ, ◌≤◌, nat_le, nat_lt, ℤ, true, ◌==◌, ◌&&◌, if◌then◌else◌, List, [], ◌∷◌, ◌++◌, length, take, Option, None, Some, Result, Ok, Err, is_some}
+use Rattle.std.specs.Prelude.{◌≡◌, ℕ, ◌≤◌, nat_le, nat_lt, ℤ, Bool, true, ◌==◌, ◌&&◌, if◌then◌else◌, List, [], ◌∷◌, ◌++◌, length, take, Option, None, Some, Result, Ok, Err, is_some}
 use Rattle.cam_station.specs.declared.command.Command.{Command}
 use Rattle.cam_station.specs.declared.command.Command.TheVariants.{Load, SetWindow, Plot, Delete, Move, Undo, Redo, ListAll, ListLayer}
 use Rattle.cam_station.specs.declared.command.FileKind.{FileKind}
@@ -11,8 +11,23 @@ use Rattle.cam_station.specs.declared.reply.Reply.{Reply}
 use Rattle.cam_station.specs.declared.reply.Reply.TheVariants.{Done, Numbers, Bytes}
 use Rattle.cam_station.specs.declared.reply.Numbers.TheVariants.{One, Two, Three}
 use Rattle.cam_tiles.specs.declared.window.Window.{Window}
+use Rattle.cam_station.specs.Refusals.{
+  greatest_depth,
+  layer_limit,
+  memory_refused,
+  name_taken,
+  no_item,
+  no_layer,
+  no_window,
+  nothing_to_redo,
+  nothing_to_undo,
+  out_of_board,
+  out_of_limits,
+  too_many_layers,
+}
 use Rattle.cam_station.specs.Documents.{layer_at, place_of, sheet, with_layer}
-use Rattle.cam_objects.specs.Layers.{Content, can_move_of, with_shifted, without_item}
+use Rattle.cam_flashes.specs.Layers.{Content, can_move_of, with_shifted, without_item}
+use Rattle.cam_tiles.specs.LayerImage.{image_of}
 use Rattle.cam_tiles.specs.Picture.{accepts, plot_of, tiles_of}
 use Rattle.cam_gerber.specs.Reading.{no_memory, reading_of}
 
@@ -40,9 +55,13 @@ refused code = Err (fault code)
 abbrev pub refused_at : ℕ → ℕ → Outcome
 refused_at code place = Err (record { code = code; at = Some place })
 
--- a station of this depth, or the refusal of a depth that is not from 1 to 1,000
+-- a depth that a station may have
+abbrev pub is_depth : ℕ → Bool
+is_depth depth = nat_le 1 depth && nat_le depth greatest_depth
+
+-- a station of this depth, or the refusal of another depth
 abbrev pub station_of : ℕ → Result State Fault
-station_of depth = if nat_le 1 depth && nat_le depth 1000 then Ok (fresh depth) else Err (fault 50)
+station_of depth = if is_depth depth then Ok (fresh depth) else Err (fault out_of_limits)
 
 -- whether a growth was refused, and to whom
 pub data Memory : Type 0 where
@@ -53,13 +72,14 @@ pub data Memory : Type 0 where
 -- what the answer tells of it
 abbrev pub memory_of : Outcome → Memory
 memory_of (Ok reply) = Granted
-memory_of (Err f) = if f.code == 30 then (if is_some f.at then RefusedToReader else RefusedToStation) else Granted
+memory_of (Err f) =
+    if f.code == memory_refused then (if is_some f.at then RefusedToReader else RefusedToStation) else Granted
 
 -- a change that needs room in the station: without it the command is refused, and nothing changes
 abbrev pub with_room : Memory → State → State × Outcome → State × Outcome
 with_room Granted s change = change
 with_room RefusedToReader s change = change
-with_room RefusedToStation s change = (s, refused 30)
+with_room RefusedToStation s change = (s, refused memory_refused)
 
 -- load ----------------------------------------------------------------------------------------
 
@@ -84,21 +104,21 @@ load_read s name memory (Ok content) =
 
 abbrev pub load_step : State → List ℕ → FileKind → List ℕ → Memory → State × Outcome
 load_step s name kind file memory =
-    if is_some (place_of name s.document) then (s, refused 83)
-    else (if nat_le 32 (length s.document) then (s, refused 85)
+    if is_some (place_of name s.document) then (s, refused name_taken)
+    else (if nat_le layer_limit (length s.document) then (s, refused too_many_layers)
     else load_read s name memory (reader_answer memory (meaning_of kind file)))
 
 -- window and plot -----------------------------------------------------------------------------
 
 abbrev pub window_step : State → Window → State × Outcome
-window_step s w = if accepts w then (record s { window = Some w }, Ok Done) else (s, refused 50)
+window_step s w = if accepts w then (record s { window = Some w }, Ok Done) else (s, refused out_of_limits)
 
 abbrev pub plot_in : State → Memory → Content → Option Window → State × Outcome
-plot_in s memory content None = (s, refused 84)
-plot_in s memory content (Some w) = with_room memory s (s, Ok (Bytes (plot_of w content) (tiles_of w)))
+plot_in s memory content None = (s, refused no_window)
+plot_in s memory content (Some w) = with_room memory s (s, Ok (Bytes (plot_of w (image_of content)) (tiles_of w)))
 
 abbrev pub plot_at : State → Memory → Option ℕ → State × Outcome
-plot_at s memory None = (s, refused 60)
+plot_at s memory None = (s, refused no_layer)
 plot_at s memory (Some place) = plot_in s memory (layer_at s.document place) s.window
 
 abbrev pub plot_step : State → List ℕ → Memory → State × Outcome
@@ -108,14 +128,14 @@ plot_step s name memory = plot_at s memory (place_of name s.document)
 
 -- the layer without an item, or the number of the refusal
 abbrev pub delete_of : ℕ → Content → Result Content ℕ
-delete_of item c = if nat_lt item (length c.flashes) then Ok (without_item c item) else Err 61
+delete_of item c = if nat_lt item (length c.flashes) then Ok (without_item c item) else Err no_item
 
 -- the layer with an item shifted, or the number of the refusal
 abbrev pub move_of : ℕ → ℤ → ℤ → Content → Result Content ℕ
 move_of item dx dy c =
     if nat_lt item (length c.flashes)
-    then (if can_move_of c item dx dy then Ok (with_shifted c item dx dy) else Err 65)
-    else Err 61
+    then (if can_move_of c item dx dy then Ok (with_shifted c item dx dy) else Err out_of_board)
+    else Err no_item
 
 -- the document as it is joins the earlier ones, of which the latest stay; none can be made again
 abbrev pub with_document_kept : State → State
@@ -130,7 +150,7 @@ edit_to s memory place (Err code) = (s, refused code)
 edit_to s memory place (Ok content) = with_room memory s (with_edit s (with_layer s.document place content), Ok Done)
 
 abbrev pub edit_at : State → Memory → (Content → Result Content ℕ) → Option ℕ → State × Outcome
-edit_at s memory edit None = (s, refused 60)
+edit_at s memory edit None = (s, refused no_layer)
 edit_at s memory edit (Some place) = edit_to s memory place (edit (layer_at s.document place))
 
 -- an edit of the layer of this name
@@ -146,7 +166,7 @@ move_step s name item dx dy memory = edit_step s name memory (move_of item dx dy
 -- undo and redo -------------------------------------------------------------------------------
 
 abbrev pub undo_to : State → Memory → List (List Sheet) → State × Outcome
-undo_to s memory [] = (s, refused 70)
+undo_to s memory [] = (s, refused nothing_to_undo)
 undo_to s memory (earlier ∷ past) =
     with_room memory s (record s { document = earlier; past = past; future = s.document ∷ s.future }, Ok Done)
 
@@ -155,7 +175,7 @@ abbrev pub undo_step : State → Memory → State × Outcome
 undo_step s memory = undo_to s memory s.past
 
 abbrev pub redo_to : State → Memory → List (List Sheet) → State × Outcome
-redo_to s memory [] = (s, refused 71)
+redo_to s memory [] = (s, refused nothing_to_redo)
 redo_to s memory (later ∷ future) =
     with_room memory s (record s { document = later; past = s.document ∷ s.past; future = future }, Ok Done)
 
@@ -172,7 +192,7 @@ abbrev pub list_content : Content → Outcome
 list_content c = Ok (Numbers (Two (length c.flashes) (length c.apertures)))
 
 abbrev pub list_layer_at : State → Option ℕ → State × Outcome
-list_layer_at s None = (s, refused 60)
+list_layer_at s None = (s, refused no_layer)
 list_layer_at s (Some place) = (s, list_content (layer_at s.document place))
 
 abbrev pub list_layer_step : State → List ℕ → State × Outcome
@@ -193,5 +213,5 @@ step s (ListLayer name) memory = list_layer_step s name
 -- what every station keeps: its depth is from 1 to 1,000, and the window in force was accepted
 pub record IsStation (depth : ℕ) (window : Option Window) : Type 0 where
   pub least : 1 ≤ depth
-  pub greatest : depth ≤ 1000
+  pub greatest : depth ≤ greatest_depth
   pub in_force : (w : Window) → window ≡ Some w → accepts w ≡ true

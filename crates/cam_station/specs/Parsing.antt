@@ -9,6 +9,7 @@ use Rattle.cam_station.specs.declared.script.line.Line.{Line}
 use Rattle.cam_station.specs.declared.script.line.Line.TheVariants as lines
 use Rattle.cam_station.specs.declared.script.line.LineFault.{LineFault}
 use Rattle.cam_station.specs.declared.script.line.LineFault.TheVariants.{LineTooLong, BadLine, Memory}
+use Rattle.cam_station.specs.Refusals.{bad_line, line_limit, line_too_long, memory_refused}
 use Rattle.cam_station.specs.Words.{words, is_name, is_path, count_in, length_in}
 
 -- what follows from the value that a word writes
@@ -17,13 +18,15 @@ reads value word follows = option_and_then follows (value word)
 
 -- load NAME gerber PATH
 abbrev pub load_line : List (List ℕ) → Option Line
-load_line (name ∷ kind ∷ path ∷ []) = if is_name name && bytes_eq kind (codes "gerber") && is_path path then Some (lines.Load name Gerber path) else None
+load_line (name ∷ kind ∷ path ∷ []) =
+    if is_name name && bytes_eq kind (codes "gerber") && is_path path then Some (lines.Load name Gerber path) else None
 load_line _ = None
 
 -- window X0 Y0 PITCH W H
 abbrev pub window_line : List (List ℕ) → Option Line
 window_line (x ∷ y ∷ pitch ∷ width ∷ height ∷ []) =
-    reads length_in x (λ x. reads length_in y (λ y. reads length_in pitch (λ pitch. reads count_in width (λ width. reads count_in height (λ height.
+    reads length_in x (λ x. reads length_in y (λ y. reads length_in pitch (λ pitch.
+    reads count_in width (λ width. reads count_in height (λ height.
     Some (lines.Command (commands.SetWindow (record { x = x; y = y; pitch = pitch; width = width; height = height }))))))))
 window_line _ = None
 
@@ -34,14 +37,16 @@ plot_line _ = None
 
 -- delete NAME K
 abbrev pub delete_line : List (List ℕ) → Option Line
-delete_line (name ∷ item ∷ []) = if is_name name then reads count_in item (λ item. Some (lines.Command (commands.Delete name item))) else None
+delete_line (name ∷ item ∷ []) =
+    if is_name name then reads count_in item (λ item. Some (lines.Command (commands.Delete name item))) else None
 delete_line _ = None
 
 -- move NAME K DX DY
 abbrev pub move_line : List (List ℕ) → Option Line
 move_line (name ∷ item ∷ dx ∷ dy ∷ []) =
     if is_name name
-    then reads count_in item (λ item. reads length_in dx (λ dx. reads length_in dy (λ dy. Some (lines.Command (commands.Move name item dx dy)))))
+    then reads count_in item (λ item. reads length_in dx (λ dx. reads length_in dy (λ dy.
+    Some (lines.Command (commands.Move name item dx dy)))))
     else None
 move_line _ = None
 
@@ -92,11 +97,12 @@ some_line (Err fault) = Err fault
 -- a line without a word is empty, and one whose first word begins with '#' is a comment
 abbrev pub said_by : List (List ℕ) → Bool → Parsed
 said_by [] no_memory = Ok None
-said_by (verb ∷ rest) no_memory = if slice_index verb 0 == 35 then Ok None else some_line (kept (line_in verb rest) no_memory)
+said_by (verb ∷ rest) no_memory =
+    if slice_index verb 0 == 35 then Ok None else some_line (kept (line_in verb rest) no_memory)
 
 -- what a line says, or why it says nothing
 abbrev pub parsed : List ℕ → Bool → Parsed
-parsed line no_memory = if nat_lt 65536 (length line) then Err LineTooLong else said_by (words line) no_memory
+parsed line no_memory = if nat_lt line_limit (length line) then Err LineTooLong else said_by (words line) no_memory
 
 -- whether the answer tells that memory was refused
 abbrev pub is_no_memory : {T : Type 0} → Result T LineFault → Bool
@@ -107,6 +113,6 @@ is_no_memory (Err Memory) = true
 
 -- the fault's number
 abbrev pub line_code : LineFault → ℕ
-line_code LineTooLong = 81
-line_code BadLine = 80
-line_code Memory = 30
+line_code LineTooLong = line_too_long
+line_code BadLine = bad_line
+line_code Memory = memory_refused

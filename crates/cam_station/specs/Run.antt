@@ -1,5 +1,5 @@
 -- A run of a script over bytes. What the world answered at each line is an input.
-use Rattle.std.specs.Prelude.{◌≡◌, ℕ, ◌+◌, nat_le, ◌&&◌, Bool, true, false, List, [], ◌∷◌, ◌++◌, length, Option, None, Some, IsSome, IfOk, Result, Ok, Err, count_by}
+use Rattle.std.specs.Prelude.{◌≡◌, ℕ, ◌+◌, Bool, true, false, List, [], ◌∷◌, ◌++◌, length, Option, None, Some, IsSome, Result, Ok, Err, MatchResult, count_by}
 use Rattle.std.specs.List.{flat_map}
 use Rattle.std.specs.Io.KnownBytes.{Appends}
 use Rattle.cam_station.specs.declared.command.FileKind.{FileKind}
@@ -11,8 +11,9 @@ use Rattle.cam_station.specs.declared.reply.Reply.TheVariants.{Bytes}
 use Rattle.cam_station.specs.declared.script.run.RunFault.{RunFault}
 use Rattle.cam_station.specs.declared.script.run.RunFault.TheVariants.{Depth, Output, Memory as RunMemory}
 use Rattle.cam_station.specs.declared.script.line.Line.TheVariants.{Command, Load, Plot}
-use Rattle.cam_station.specs.Machine.{State, Outcome, Memory, fresh, refused, step}
-use Rattle.cam_station.specs.Contents.{Contents, Holds, Stored, MayHaveStored, HasRisenBy, failures_of}
+use Rattle.cam_station.specs.Refusals.{file_fault, memory_refused}
+use Rattle.cam_station.specs.Machine.{State, Outcome, Memory, fresh, is_depth, refused, step}
+use Rattle.cam_station.specs.Contents.{Contents, FailsIfAbsent, Holds, Stored, MayHaveStored, HasRisenBy, failures_of}
 use Rattle.cam_station.specs.Parsing.{Parsed, parsed, line_code}
 use Rattle.cam_station.specs.Replies.{reply_line}
 
@@ -43,12 +44,13 @@ answered after ask = record { state = after.0; ask = ask; reply = Some after.1 }
 
 -- the number that tells of a file
 abbrev pub file_code : FileFault → ℕ
-file_code Failed = 82
-file_code NoMemory = 30
+file_code Failed = file_fault
+file_code NoMemory = memory_refused
 
 -- a load gets its file first
 abbrev pub load_turn : State → List ℕ → FileKind → List ℕ → Memory → Result (List ℕ) FileFault → Turn
-load_turn s name kind path memory (Ok bytes) = answered (step s (commands.Load name kind bytes) memory) (Get path (Ok bytes))
+load_turn s name kind path memory (Ok bytes) =
+    answered (step s (commands.Load name kind bytes) memory) (Get path (Ok bytes))
 load_turn s name kind path memory (Err fault) = answered (s, refused (file_code fault)) (Get path (Err fault))
 
 abbrev pub put_reply : Reply → Result (Unit {0}) FileFault → Outcome
@@ -106,7 +108,8 @@ files_seen contents failures = record { contents = contents; failures = failures
 
 abbrev pub ContentsAfter : Ask → Contents → Contents → Type 0
 ContentsAfter Nothing old new = new ≡ old
-ContentsAfter (Get path got) old new = (new ≡ old) × IfOk got (λ bytes. Holds old path bytes)
+ContentsAfter (Get path got) old new =
+    (new ≡ old) × MatchResult got (λ bytes. Holds old path bytes) (λ fault. FailsIfAbsent old path fault)
 ContentsAfter (Put path bytes (Ok done)) old new = Stored old new path bytes
 ContentsAfter (Put path bytes (Err fault)) old new = MayHaveStored old new path
 
@@ -133,7 +136,8 @@ pub record Moment : Type 0 where
   pub refused : ℕ
 
 abbrev pub moment : Contents → ℕ → Option (List ℕ) → ℕ → ℕ → Moment
-moment contents failures said out_failures refused = record { files = files_seen contents failures; said = said; out_failures = out_failures; refused = refused }
+moment contents failures said out_failures refused =
+    record { files = files_seen contents failures; said = said; out_failures = out_failures; refused = refused }
 
 -- These turns lead from one moment to the other.
 pub record Lead (ts : List Turn) (before after : Moment) : Type 0 where
@@ -160,15 +164,12 @@ pub record Stops (s : State) (lines : List (List ℕ)) (ws : List World) (before
   pub files : Answers last.ask between.files after.files
   pub out_failures : HasRisenBy 1 before.out_failures after.out_failures
 
--- a depth from 1 to 1,000
-abbrev pub is_depth : ℕ → Bool
-is_depth depth = nat_le 1 depth && nat_le depth 1000
-
 -- why the run did not come to the script's end, and what it did before
 abbrev pub EndsBy : RunFault → ℕ → List (List ℕ) → Moment → Moment → Type 0
 EndsBy Depth depth lines before after = (is_depth depth ≡ false) × (after ≡ before)
 EndsBy RunMemory depth lines before after = (is_depth depth ≡ true) × (after ≡ before)
-EndsBy Output depth lines before after = (is_depth depth ≡ true) × (ws : List World) × Stops (fresh depth) lines ws before after
+EndsBy Output depth lines before after =
+    (is_depth depth ≡ true) × (ws : List World) × Stops (fresh depth) lines ws before after
 
 -- parts of a run, and of a line ---------------------------------------------------------------------------------
 

@@ -4,6 +4,7 @@ use Rattle.cam_station.specs.declared.command.Command.{Command}
 use Rattle.cam_station.specs.declared.command.Command.TheVariants.{Plot, Delete, Move, Undo, Redo, ListAll, ListLayer}
 use Rattle.cam_station.specs.declared.document.Sheet.{Sheet}
 use Rattle.cam_station.specs.declared.reply.Reply.TheVariants.{Done}
+use Rattle.cam_station.specs.Refusals.{greatest_depth}
 use Rattle.cam_station.specs.Documents.{SamePictures}
 use Rattle.cam_station.specs.Machine.{State, Outcome, Memory, Granted, fresh, memory_of, step}
 
@@ -92,7 +93,8 @@ IsUndoExact s = (edit : Call) (between rest : List Call) → IsEdit edit.0 → I
 
 -- exact undo, in each state that a station can come to
 abbrev pub ExactUndo : Type 0
-ExactUndo = (depth : ℕ) → 1 ≤ depth → depth ≤ 1000 → (before : List Call) → IsUndoExact (states_after (fresh depth) before)
+ExactUndo = (depth : ℕ) → 1 ≤ depth → depth ≤ greatest_depth → (before : List Call)
+    → IsUndoExact (states_after (fresh depth) before)
 
 -- and in every other state that may keep a document
 abbrev pub ExactUndoEverywhere : Type 0

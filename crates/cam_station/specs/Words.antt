@@ -31,7 +31,9 @@ is_path word = nat_le 1 (length word) && nat_le (length word) 255 && list_all is
 
 -- the number that digits alone write, if it is at most this
 abbrev pub numeral_to : ℕ → List ℕ → Option ℕ
-numeral_to most digits = if is_filled digits && all_ascii_digits digits && nat_le (digits_value 10 digits) most then Some (digits_value 10 digits) else None
+numeral_to most digits =
+    if is_filled digits && all_ascii_digits digits && nat_le (digits_value 10 digits) most
+    then Some (digits_value 10 digits) else None
 
 -- a place or a count: digits alone, below 2^32
 abbrev pub count_in : List ℕ → Option ℕ
@@ -39,4 +41,5 @@ count_in word = numeral_to (2 ^ 32 - 1) word
 
 -- a length: an optional sign and digits, of at most 4,000,000,000 nm in absolute value
 abbrev pub length_in : List ℕ → Option ℤ
-length_in word = option_map (λ n. if starts_with_minus word then neg_ℤ (pos n) else pos n) (numeral_to 4000000000 (without_leading_sign word))
+length_in word =
+    option_map (λ n. if starts_with_minus word then neg_ℤ (pos n) else pos n) (numeral_to 4000000000 (without_leading_sign word))

@@ -1,12 +1,13 @@
 //! The document: named layers in order.
 
-ghost use Rattle.std.specs.Prelude.{◌≡◌, ◌<◌, ◌∷◌, ◌++◌, [], true, length, IfOk, IfSome, OnOk, OnErr};
+ghost use Rattle.std.specs.Prelude.{◌≡◌, ◌<◌, ◌∷◌, ◌++◌, [], true, length};
+ghost use Rattle.std.specs.Prelude.{IfOk, IfSome, OnOk, OnErr};
 ghost use Rattle.std.specs.Str.{bytes_eq};
 ghost use Rattle.cam_station.specs.Documents.{layer_at, place_of, sheet, with_layer};
-ghost use Rattle.cam_objects.specs.Layers.{can_move_of, with_shifted, without_item};
+ghost use Rattle.cam_flashes.specs.Layers.{can_move_of, with_shifted, without_item};
 
 use crate::name::Name;
-use cam_objects::Layer;
+use cam_flashes::Layer;
 use std::alloc::{AllocError, Global};
 use std::marker::Model;
 

@@ -1,7 +1,15 @@
 //! The files that a script reads and writes.
 
-ghost use Rattle.std.specs.Prelude.{◌≡◌, ℕ, IfOk, OnOk, OnErr};
-ghost use Rattle.cam_station.specs.Contents.{Contents, Holds, Stored, MayHaveStored, HasRisenBy, failures_of};
+ghost use Rattle.std.specs.Prelude.{◌≡◌, ℕ, IfErr, IfOk, OnOk, OnErr};
+ghost use Rattle.cam_station.specs.Contents.{
+  Contents,
+  FailsIfAbsent,
+  HasRisenBy,
+  Holds,
+  MayHaveStored,
+  Stored,
+  failures_of,
+};
 
 use std::alloc::Global;
 use thiserror::Error;
@@ -19,16 +27,17 @@ pub enum FileFault {
 
 /// Files by their paths.
 pub trait Files {
-    // The bytes of each path whose bytes the type can tell; nothing where it tells none.
+    // What each path holds, as far as the type can tell; nothing where it can tell of none.
     ghost contents: { Self → Contents };
 
     // How many calls failed; the count stays at `u64::MAX`.
     ghost failed: { Self → ℕ };
 
-    /// The bytes of a file.
+    /// The bytes of a file. A path without a file fails.
     fn get(&mut self, alloc: Global, path: &str) -> Result<Vec<u8>, FileFault>
         ensures kept { contents self.new ≡ contents self.old }
         ensures held { IfOk result (λ bytes. Holds (contents self.old) path.now bytes.items) }
+        ensures absent { IfErr result (λ fault. FailsIfAbsent (contents self.old) path.now fault) }
         ensures counted { HasRisenBy (failures_of result) (failed self.old) (failed self.new) };
 
     /// Writes a file anew. Where that fails nothing is known of what this path holds.

@@ -28,7 +28,6 @@ pub use laws::{depth_is_kept, plot_is_exact, refusals_change_nothing, undo_is_ex
 pub use name::Name;
 pub use out::Out;
 pub use reply::{Numbers, Reply};
-pub use reply_line::say_reply;
 pub use script::laws::{few_file_refusals, run_is_commands};
 pub use script::line::{Line, LineFault};
 pub use script::parse::parse_line;

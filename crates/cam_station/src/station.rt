@@ -17,6 +17,7 @@ ghost use Rattle.cam_station.specs.Machine.{
   window_step,
   with_document_kept,
 };
+ghost use Rattle.cam_station.specs.Refusals.{memory_refused};
 ghost use Rattle.cam_station.specs.Undoing.{IsRun};
 
 use crate::bytes::Bytes;
@@ -57,7 +58,13 @@ impl Model for Station {
 
     ghost Value = { State };
 
-    ghost view = { λ s. record { depth = s.depth; document = s.document; window = s.window; past = s.past.items; future = s.future.items } };
+    ghost view = { λ s. record {
+      depth = s.depth;
+      document = s.document;
+      window = s.window;
+      past = s.past.items;
+      future = s.future.items;
+    } };
 
     ghost invariant = { λ s. IsStation s.depth s.window };
 }
@@ -221,7 +228,7 @@ impl Station {
     fn remember(&mut self) -> Result<(), Fault>
         ensures ok { OnOk result (self.new ≡ with_document_kept self.old) }
         ensures err { OnErr result (self.new ≡ self.old) }
-        ensures no_memory { OnErr result (result ≡ Err (fault 30)) }
+        ensures no_memory { OnErr result (result ≡ Err (fault memory_refused)) }
     {
         let Ok(copy) = self.document.try_copy(self.alloc) else {
             return Err(refusal(refusals::NO_MEMORY));
@@ -287,6 +294,3 @@ impl Station {
         Ok(Reply::Numbers(Numbers::Two(items, apertures)))
     }
 }
-
-#[cfg(test)]
-mod tests;

@@ -1,5 +1,7 @@
 -- PBM files: the bits of a byte, the bytes of a row, the rows of a file.
-use Rattle.std.proofs.Common.{◌≡◌, ℕ, zero, suc, ◌+◌, ◌*◌, ◌-◌, ◌/◌, ◌%◌, ◌^◌, ◌<◌, ◌≤◌, refl, sym, ap, ◌∙◌, Bool, true, false, ◌&&◌, List, [], ◌∷◌, ◌++◌, length, get_or, take, map, All, length-append, append_assoc, add-one, zero-add, arith}
+use Rattle.std.proofs.Common.{◌≡◌, ℕ, zero, suc, ◌+◌, ◌*◌, ◌-◌, ◌/◌, ◌%◌, ◌^◌, ◌<◌, ◌≤◌, Bool, true, false, ◌&&◌}
+use Rattle.std.proofs.Common.{List, [], ◌∷◌, ◌++◌, length, get_or, take, map, All}
+use Rattle.std.proofs.Common.{refl, sym, ap, ◌∙◌, length-append, append_assoc, add-one, zero-add, arith}
 use Rattle.std.specs.Fmt.{decimal}
 use Rattle.std.specs.Int.{bit_at}
 use Rattle.std.specs.List.{range_with_len, flat_map}
@@ -30,7 +32,8 @@ record HasBits (a b c d e f g h : ℕ) : Type 0 where
   at_1 : weighed a b c d e f g h / 2 % 2 ≡ g
   at_0 : weighed a b c d e f g h / 1 % 2 ≡ h
 
-bits_of_weighed : (a b c d e f g h : ℕ) → a < 2 → b < 2 → c < 2 → d < 2 → e < 2 → f < 2 → g < 2 → h < 2 → HasBits a b c d e f g h
+bits_of_weighed : (a b c d e f g h : ℕ) → a < 2 → b < 2 → c < 2 → d < 2 → e < 2 → f < 2 → g < 2 → h < 2
+    → HasBits a b c d e f g h
 bits_of_weighed a b c d e f g h p q r s t u v w =
     record {
       at_7 = omega arith;
@@ -43,9 +46,13 @@ bits_of_weighed a b c d e f g h p q r s t u v w =
       at_0 = omega arith;
     }
 
-bits_of_pixels : (black : ℕ → Bool) → HasBits (bit_of (black 0)) (bit_of (black 1)) (bit_of (black 2)) (bit_of (black 3)) (bit_of (black 4)) (bit_of (black 5)) (bit_of (black 6)) (bit_of (black 7))
+bits_of_pixels : (black : ℕ → Bool)
+    → HasBits (bit_of (black 0)) (bit_of (black 1)) (bit_of (black 2)) (bit_of (black 3))
+    (bit_of (black 4)) (bit_of (black 5)) (bit_of (black 6)) (bit_of (black 7))
 bits_of_pixels black =
-    bits_of_weighed _ _ _ _ _ _ _ _ (bit_of-lt (black 0)) (bit_of-lt (black 1)) (bit_of-lt (black 2)) (bit_of-lt (black 3)) (bit_of-lt (black 4)) (bit_of-lt (black 5)) (bit_of-lt (black 6)) (bit_of-lt (black 7))
+    bits_of_weighed _ _ _ _ _ _ _ _
+    (bit_of-lt (black 0)) (bit_of-lt (black 1)) (bit_of-lt (black 2)) (bit_of-lt (black 3))
+    (bit_of-lt (black 4)) (bit_of-lt (black 5)) (bit_of-lt (black 6)) (bit_of-lt (black 7))
 
 -- the bits of a byte, from the highest down, are its pixels from the left
 bit_at-byte_of : (black : ℕ → Bool) (i : ℕ) → i < 8 → bit_at (byte_of black) (7 - i) ≡ bit_of (black i)
@@ -60,10 +67,16 @@ bit_at-byte_of black (suc (suc (suc (suc (suc (suc zero)))))) within = (bits_of_
 bit_at-byte_of black (suc (suc (suc (suc (suc (suc (suc zero))))))) within = (bits_of_pixels black).at_0
 bit_at-byte_of black (suc (suc (suc (suc (suc (suc (suc (suc i)))))))) within = absurd (omega arith)
 
+weighed-lt : (a b c d e f g h : ℕ) → a < 2 → b < 2 → c < 2 → d < 2 → e < 2 → f < 2 → g < 2 → h < 2
+    → weighed a b c d e f g h < 256
+weighed-lt a b c d e f g h p q r s t u v w = omega arith
+
 byte_of-lt : (black : ℕ → Bool) → byte_of black < 256
 unfolding byte_of
 byte_of-lt black =
-    omega (arith, bit_of-lt (black 0), bit_of-lt (black 1), bit_of-lt (black 2), bit_of-lt (black 3), bit_of-lt (black 4), bit_of-lt (black 5), bit_of-lt (black 6), bit_of-lt (black 7))
+    weighed-lt _ _ _ _ _ _ _ _
+    (bit_of-lt (black 0)) (bit_of-lt (black 1)) (bit_of-lt (black 2)) (bit_of-lt (black 3))
+    (bit_of-lt (black 4)) (bit_of-lt (black 5)) (bit_of-lt (black 6)) (bit_of-lt (black 7))
 
 -- pixels read from the left, each at the lower end of those before it
 abbrev pub scanned : (ℕ → Bool) → ℕ → ℕ
@@ -80,20 +93,26 @@ scanned-lt black (suc n) = omega (arith, scanned-lt black n, bit_of-lt (black n)
 
 pub scanned_fits : (black : ℕ → Bool) (n : ℕ) → n < 8 → scanned black n < 128
 scanned_fits black n h =
-    let most : 2 ^ n ≤ 2 ^ 7 = pow-le-pow_right {n = 2} (omega arith) {i = n} {j = 7} (omega arith) in omega (arith, scanned-lt black n, most)
+    let most : 2 ^ n ≤ 2 ^ 7 = pow-le-pow_right {n = 2} (omega arith) {i = n} {j = 7} (omega arith) in
+    omega (arith, scanned-lt black n, most)
+
+-- a byte of a row
+abbrev byte_in : (ℕ → Bool) → ℕ → ℕ → ℕ
+byte_in black width k = byte_of (λ i. padded black width (8 * k + i))
 
 length-row_of : (black : ℕ → Bool) (width : ℕ) → length (row_of black width) ≡ bytes_across width
 unfolding row_of
-length-row_of black width = length-map-range_with_len (λ k. byte_of (λ i. padded black width (8 * k + i))) 0 (bytes_across width)
+length-row_of black width = length-map-range_with_len (byte_in black width) 0 (bytes_across width)
 
 get_or-row_of : (black : ℕ → Bool) (width k : ℕ) → k < bytes_across width
-    → get_or (row_of black width) k 0 ≡ byte_of (λ i. padded black width (8 * k + i))
+    → get_or (row_of black width) k 0 ≡ byte_in black width k
 unfolding row_of
 get_or-row_of black width k h =
-    get_or-map-range_with_len (λ k. byte_of (λ i. padded black width (8 * k + i))) 0 (bytes_across width) k k 0 h (omega arith)
+    get_or-map-range_with_len (byte_in black width) 0 (bytes_across width) k k 0 h (omega arith)
 
 -- pieces of one length, one after another
-length-pieces : (f : ℕ → List ℕ) (m : ℕ) → ((k : ℕ) → length (f k) ≡ m) → (a n : ℕ) → length (flat_map f (range_with_len a n)) ≡ n * m
+length-pieces : (f : ℕ → List ℕ) (m : ℕ) → ((k : ℕ) → length (f k) ≡ m) → (a n : ℕ)
+    → length (flat_map f (range_with_len a n)) ≡ n * m
 length-pieces f m h a zero = omega arith
 length-pieces f m h a (suc n) =
     omega (arith, length-append (f a) (flat_map f (range_with_len (a + 1) n)), h a, length-pieces f m h (a + 1) n)
@@ -116,38 +135,54 @@ get_or-pieces f m h a (suc n) (suc r) j inside within =
     ∙ ap (λ i. get_or (f i) j 0) piece
 
 -- the rows of a picture
+abbrev pub row_in : (ℕ → ℕ → Bool) → ℕ → ℕ → List ℕ
+row_in black width row = row_of (λ column. black column row) width
+
 abbrev rows_of : (ℕ → ℕ → Bool) → ℕ → ℕ → List ℕ
-rows_of black width height = flat_map (λ row. row_of (λ column. black column row) width) (range_with_len 0 height)
+rows_of black width height = flat_map (row_in black width) (range_with_len 0 height)
 
-length-rows_of : (black : ℕ → ℕ → Bool) (width height : ℕ) → length (rows_of black width height) ≡ height * bytes_across width
+length-row_in : (black : ℕ → ℕ → Bool) (width row : ℕ) → length (row_in black width row) ≡ bytes_across width
+length-row_in black width row = length-row_of (λ column. black column row) width
+
+length-rows_of : (black : ℕ → ℕ → Bool) (width height : ℕ)
+    → length (rows_of black width height) ≡ height * bytes_across width
 length-rows_of black width height =
-    length-pieces (λ row. row_of (λ column. black column row) width) (bytes_across width) (λ row. length-row_of (λ column. black column row) width) 0 height
+    length-pieces (row_in black width) (bytes_across width) (length-row_in black width) 0 height
 
-pub length-pbm : (black : ℕ → ℕ → Bool) (width height : ℕ) → length (pbm black width height) ≡ length (header width height) + height * bytes_across width
+pub length-pbm : (black : ℕ → ℕ → Bool) (width height : ℕ)
+    → length (pbm black width height) ≡ length (header width height) + height * bytes_across width
 unfolding pbm
-length-pbm black width height = length-append (header width height) (rows_of black width height) ∙ ap (λ n. length (header width height) + n) (length-rows_of black width height)
+length-pbm black width height =
+    length-append (header width height) (rows_of black width height)
+    ∙ ap (λ n. length (header width height) + n) (length-rows_of black width height)
 
-pub take-pbm : (black : ℕ → ℕ → Bool) (width height : ℕ) → take (length (header width height)) (pbm black width height) ≡ header width height
+pub take-pbm : (black : ℕ → ℕ → Bool) (width height : ℕ)
+    → take (length (header width height)) (pbm black width height) ≡ header width height
 unfolding pbm
 take-pbm black width height = take-append_seam (header width height) (rows_of black width height)
 
 -- the byte of a pixel
 byte_at-pbm : (black : ℕ → ℕ → Bool) (width height column row : ℕ) → column / 8 < bytes_across width → row < height
-    → byte_at (pbm black width height) width height column row ≡ byte_of (λ i. padded (λ column. black column row) width (8 * (column / 8) + i))
+    → byte_at (pbm black width height) width height column row
+    ≡ byte_in (λ column. black column row) width (column / 8)
 unfolding pbm
 byte_at-pbm black width height column row inside below =
+    let start = length (header width height) in
     let file = header width height ++ rows_of black width height in
-    let grouped : length (header width height) + row * bytes_across width + column / 8 ≡ length (header width height) + (row * bytes_across width + column / 8) = omega arith in
+    let grouped : start + row * bytes_across width + column / 8 ≡ start + (row * bytes_across width + column / 8)
+    = omega arith in
     let this : 0 + row ≡ row = omega arith in
     ap (λ i. get_or file i 0) grouped
     ∙ get_or-append-add (header width height) (rows_of black width height) (row * bytes_across width + column / 8) 0
-    ∙ get_or-pieces (λ row. row_of (λ column. black column row) width) (bytes_across width) (λ row. length-row_of (λ column. black column row) width) 0 height row (column / 8) below inside
-    ∙ ap (λ r. get_or (row_of (λ column. black column r) width) (column / 8) 0) this
+    ∙ get_or-pieces (row_in black width) (bytes_across width) (length-row_in black width) 0 height
+    row (column / 8) below inside
+    ∙ ap (λ r. get_or (row_in black width r) (column / 8) 0) this
     ∙ get_or-row_of (λ column. black column row) width (column / 8) inside
 
 -- the bit of a pixel, padding too
 pub bit_at-pbm : (black : ℕ → ℕ → Bool) (width height column row : ℕ) → column < 8 * bytes_across width → row < height
-    → bit_at (byte_at (pbm black width height) width height column row) (7 - column % 8) ≡ bit_of (padded (λ column. black column row) width column)
+    → bit_at (byte_at (pbm black width height) width height column row) (7 - column % 8)
+    ≡ bit_of (padded (λ column. black column row) width column)
 bit_at-pbm black width height column row inside below =
     let here : 8 * (column / 8) + column % 8 ≡ column = omega arith in
     ap (λ n. bit_at n (7 - column % 8)) (byte_at-pbm black width height column row (omega arith) below)
@@ -171,7 +206,8 @@ pixel_set black width height column row inside below =
     )
 
 -- no bit behind the end of a row is set
-pub padding_clear : (black : ℕ → ℕ → Bool) (width height column row : ℕ) → width ≤ column → column < 8 * bytes_across width → row < height
+pub padding_clear : (black : ℕ → ℕ → Bool) (width height column row : ℕ)
+    → width ≤ column → column < 8 * bytes_across width → row < height
     → IsPixelSet (pbm black width height) width height column row → ⊥
 padding_clear black width height column row outside inside below h =
     let bit = bit_at-pbm black width height column row inside below in
@@ -179,39 +215,51 @@ padding_clear black width height column row outside inside below h =
     = ap (λ b. bit_of (b && black column row)) (le-ltb column width outside) in
     absurd (omega (arith, sym h ∙ bit ∙ clear))
 
-all_bytes_row : (black : ℕ → Bool) (width : ℕ) → All (λ byte. byte < 256) (row_of black width)
+abbrev pub AreBytes : List ℕ → Type 0
+AreBytes file = All (λ byte. byte < 256) file
+
+all_bytes_row : (black : ℕ → Bool) (width : ℕ) → AreBytes (row_of black width)
 all_bytes_row black width =
     All-from_get_or (λ byte. byte < 256) (row_of black width) 0 (λ k h.
     let at = get_or-row_of black width k (omega (arith, length-row_of black width)) in
     omega (arith, at, byte_of-lt (λ i. padded black width (8 * k + i))))
 
-all_bytes_pieces : (f : ℕ → List ℕ) → ((k : ℕ) → All (λ byte. byte < 256) (f k)) → (a n : ℕ) → All (λ byte. byte < 256) (flat_map f (range_with_len a n))
+joined : (a b : List ℕ) → AreBytes a → AreBytes b → AreBytes (a ++ b)
+joined a b = All-append (λ byte. byte < 256) a b
+
+all_bytes_pieces : (f : ℕ → List ℕ) → ((k : ℕ) → AreBytes (f k)) → (a n : ℕ)
+    → AreBytes (flat_map f (range_with_len a n))
 all_bytes_pieces f h a zero = All-nil (λ byte. byte < 256)
-all_bytes_pieces f h a (suc n) = All-append (λ byte. byte < 256) (f a) (flat_map f (range_with_len (a + 1) n)) (h a) (all_bytes_pieces f h (a + 1) n)
+all_bytes_pieces f h a (suc n) =
+    joined (f a) (flat_map f (range_with_len (a + 1) n)) (h a) (all_bytes_pieces f h (a + 1) n)
 
-all_bytes_decimal : (n : ℕ) → n < 2 ^ 64 → All (λ byte. byte < 256) (decimal n)
-all_bytes_decimal n h = All-from_get_or (λ byte. byte < 256) (decimal n) 0 (λ i below. omega (arith, IsAscii-decimal n h i))
+all_bytes_decimal : (n : ℕ) → n < 2 ^ 64 → AreBytes (decimal n)
+all_bytes_decimal n h =
+    All-from_get_or (λ byte. byte < 256) (decimal n) 0 (λ i below. omega (arith, IsAscii-decimal n h i))
 
-one_byte : (b : ℕ) → b < 256 → All (λ byte. byte < 256) (b ∷ [])
+one_byte : (b : ℕ) → b < 256 → AreBytes (b ∷ [])
 one_byte b h = All-cons (λ byte. byte < 256) b [] h (All-nil (λ byte. byte < 256))
 
-all_bytes_six : (a b c d e f : List ℕ) → All (λ byte. byte < 256) a → All (λ byte. byte < 256) b → All (λ byte. byte < 256) c
-    → All (λ byte. byte < 256) d → All (λ byte. byte < 256) e → All (λ byte. byte < 256) f → All (λ byte. byte < 256) (a ++ b ++ c ++ d ++ e ++ f)
+all_bytes_six : (a b c d e f : List ℕ)
+    → AreBytes a → AreBytes b → AreBytes c → AreBytes d → AreBytes e → AreBytes f
+    → AreBytes (a ++ b ++ c ++ d ++ e ++ f)
 all_bytes_six a b c d e f p q r s t u =
-    let P : ℕ → Type 0 = λ byte. byte < 256 in
-    All-append P (a ++ b ++ c ++ d ++ e) f (All-append P (a ++ b ++ c ++ d) e (All-append P (a ++ b ++ c) d (All-append P (a ++ b) c (All-append P a b p q) r) s) t) u
+    let four = joined (a ++ b ++ c) d (joined (a ++ b) c (joined a b p q) r) s in
+    joined (a ++ b ++ c ++ d ++ e) f (joined (a ++ b ++ c ++ d) e four t) u
 
-all_bytes_header : (width height : ℕ) → width < 2 ^ 64 → height < 2 ^ 64 → All (λ byte. byte < 256) (header width height)
+all_bytes_header : (width height : ℕ) → width < 2 ^ 64 → height < 2 ^ 64 → AreBytes (header width height)
 all_bytes_header width height w h =
+    let magic = joined (80 ∷ []) (52 ∷ []) (one_byte 80 (omega arith)) (one_byte 52 (omega arith)) in
+    let line_end = one_byte 10 (omega arith) in
     all_bytes_six (80 ∷ 52 ∷ []) (10 ∷ []) (decimal width) (32 ∷ []) (decimal height) (10 ∷ [])
-    (All-cons (λ byte. byte < 256) 80 (52 ∷ []) (omega arith) (one_byte 52 (omega arith))) (one_byte 10 (omega arith)) (all_bytes_decimal width w)
-    (one_byte 32 (omega arith)) (all_bytes_decimal height h) (one_byte 10 (omega arith))
+    magic line_end (all_bytes_decimal width w) (one_byte 32 (omega arith)) (all_bytes_decimal height h) line_end
 
-pub all_bytes_pbm : (black : ℕ → ℕ → Bool) (width height : ℕ) → width < 2 ^ 64 → height < 2 ^ 64 → All (λ byte. byte < 256) (pbm black width height)
+pub all_bytes_pbm : (black : ℕ → ℕ → Bool) (width height : ℕ) → width < 2 ^ 64 → height < 2 ^ 64
+    → AreBytes (pbm black width height)
 unfolding pbm
 all_bytes_pbm black width height w h =
-    All-append (λ byte. byte < 256) (header width height) (rows_of black width height) (all_bytes_header width height w h)
-    (all_bytes_pieces (λ row. row_of (λ column. black column row) width) (λ row. all_bytes_row (λ column. black column row) width) 0 height)
+    joined (header width height) (rows_of black width height) (all_bytes_header width height w h)
+    (all_bytes_pieces (row_in black width) (λ row. all_bytes_row (λ column. black column row) width) 0 height)
 
 -- one more row, and one more byte of a row
 range_more : (a n : ℕ) → range_with_len a (suc n) ≡ range_with_len a n ++ (a + n) ∷ []
@@ -220,14 +268,18 @@ range_more a (suc n) =
     let e : a + 1 + n ≡ a + suc n = omega arith in
     ap (λ r. a ∷ r) (range_more (a + 1) n ∙ ap (λ i. range_with_len (a + 1) n ++ i ∷ []) e)
 
-pub more_rows : (f : ℕ → List ℕ) (n : ℕ) (start before after : List ℕ) → after ≡ before ++ f n → before ≡ start ++ flat_map f (range_with_len 0 n)
+pub more_rows : (f : ℕ → List ℕ) (n : ℕ) (start before after : List ℕ)
+    → after ≡ before ++ f n → before ≡ start ++ flat_map f (range_with_len 0 n)
     → after ≡ start ++ flat_map f (range_with_len 0 (n + 1))
 more_rows f n start before after e so_far =
     let this : 0 + n ≡ n = omega arith in
-    e ∙ ap (λ b. b ++ f n) so_far ∙ flat_map_more f start (range_with_len 0 n) n
-    ∙ ap (λ r. start ++ flat_map f r) (ap (λ i. range_with_len 0 n ++ i ∷ []) (sym this) ∙ sym (range_more 0 n) ∙ ap (range_with_len 0) (sym (add-one n)))
+    let rows : range_with_len 0 n ++ n ∷ [] ≡ range_with_len 0 (n + 1) =
+    ap (λ i. range_with_len 0 n ++ i ∷ []) (sym this)
+    ∙ sym (range_more 0 n) ∙ ap (range_with_len 0) (sym (add-one n)) in
+    e ∙ ap (λ b. b ++ f n) so_far ∙ flat_map_more f start (range_with_len 0 n) n ∙ ap (λ r. start ++ flat_map f r) rows
 
-pub more_bytes : (f : ℕ → ℕ) (n byte : ℕ) (start before after : List ℕ) → after ≡ before ++ byte ∷ [] → byte ≡ f n → before ≡ start ++ map f (range_with_len 0 n)
+pub more_bytes : (f : ℕ → ℕ) (n byte : ℕ) (start before after : List ℕ)
+    → after ≡ before ++ byte ∷ [] → byte ≡ f n → before ≡ start ++ map f (range_with_len 0 n)
     → after ≡ start ++ map f (range_with_len 0 (n + 1))
 more_bytes f n byte start before after e v so_far =
     e ∙ ap (λ b. before ++ b ∷ []) v ∙ ap (λ b. b ++ f n ∷ []) so_far

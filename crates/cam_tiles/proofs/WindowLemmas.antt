@@ -1,24 +1,32 @@
 -- Windows: the centres between the first and the last, and the test of the limits.
-use Rattle.std.proofs.Common.{◌≡◌, ℕ, ◌+◌, ◌*◌, ◌-◌, ◌^◌, ◌<◌, ◌≤◌, ℤ, pos, negsuc, ◌+ℤ◌, ◌*ℤ◌, ◌≤ℤ◌, sym, ap, subst, ◌∙◌, true, FitsSigned, w64, arith}
+use Rattle.std.proofs.Common.{◌≡◌, ℕ, ◌+◌, ◌*◌, ◌-◌, ◌^◌, ◌<◌, ◌≤◌, ℤ, pos, negsuc, ◌+ℤ◌, ◌*ℤ◌, ◌≤ℤ◌, true}
+use Rattle.std.proofs.Common.{sym, ap, subst, ◌∙◌, FitsSigned, w64, arith}
 use Rattle.std.specs.Int.{w128, cast_signed, cast_unsigned}
 use Rattle.std.specs.Int.RustNames.{unsigned_abs, int_le}
 use Rattle.std.proofs.lemmas.Bool.{and_parts, and_from, ltb-true, lt-ltb, leb-true, le-leb}
 use Rattle.std.proofs.lemmas.Int.{ints, to_z-of_z, fits_signed_from_abs, unsigned_abs-mul}
 use Rattle.std.proofs.lemmas.Nat.{mul-le}
-use Rattle.cam_units.specs.Board.{IsPlace}
+use Rattle.cam_units.specs.Board.{IsPlace, place_limit}
 use Rattle.cam_units.specs.declared.point.Spot.{Spot}
 use Rattle.cam_tiles.specs.declared.window.Window.{Window}
-use Rattle.cam_tiles.specs.Picture.{IsAccepted, AcceptLaw, accepts, middle, centre_of, is_side, is_pitch, are_near}
+use Rattle.cam_tiles.specs.Picture.{IsAccepted, AcceptLaw, accepts, middle, centre_of}
+use Rattle.cam_tiles.specs.Picture.{is_side, is_pitch, are_near, longest_side}
+
+-- a coordinate of a place of the board
+abbrev pub IsNear : ℤ → Type 0
+IsNear n = unsigned_abs n < place_limit
 
 -- the middles between two that are near are near
-between : (e : ℤ) (a b c : ℕ) → a ≤ b → b ≤ c → unsigned_abs (pos 2 *ℤ e +ℤ pos a) < 2000000000 → unsigned_abs (pos 2 *ℤ e +ℤ pos c) < 2000000000
-    → unsigned_abs (pos 2 *ℤ e +ℤ pos b) < 2000000000
+between : (e : ℤ) (a b c : ℕ) → a ≤ b → b ≤ c → IsNear (pos 2 *ℤ e +ℤ pos a) → IsNear (pos 2 *ℤ e +ℤ pos c)
+    → IsNear (pos 2 *ℤ e +ℤ pos b)
 between e a b c h k first last = omega (arith, ints)
 
-middle_between : (e p : ℤ) (n m : ℕ) → pos 1 ≤ℤ p → n ≤ m → unsigned_abs (middle e p 0) < 2000000000 → unsigned_abs (middle e p m) < 2000000000
-    → unsigned_abs (middle e p n) < 2000000000
+middle_between : (e p : ℤ) (n m : ℕ) → pos 1 ≤ℤ p → n ≤ m → IsNear (middle e p 0) → IsNear (middle e p m)
+    → IsNear (middle e p n)
 middle_between e (pos q) n m h k first last =
-    between e (1 * q) ((2 * n + 1) * q) ((2 * m + 1) * q) (mul-le 1 q (2 * n + 1) q (omega arith) (omega arith)) (mul-le (2 * n + 1) q (2 * m + 1) q (omega arith) (omega arith)) first last
+    let low : 1 * q ≤ (2 * n + 1) * q = mul-le 1 q (2 * n + 1) q (omega arith) (omega arith) in
+    let high : (2 * n + 1) * q ≤ (2 * m + 1) * q = mul-le (2 * n + 1) q (2 * m + 1) q (omega arith) (omega arith) in
+    between e (1 * q) ((2 * n + 1) * q) ((2 * m + 1) * q) low high first last
 middle_between e (negsuc q) n m h k first last = absurd (omega (arith, ints))
 
 le_of : (a b : ℤ) → int_le a b ≡ true → a ≤ℤ b
@@ -27,15 +35,16 @@ le_of a b h = grind (arith, ints)
 from_le : (a b : ℤ) → a ≤ℤ b → int_le a b ≡ true
 from_le a b h = grind (arith, ints)
 
-side : (n : ℕ) → is_side n ≡ true → (1 ≤ n) × (n ≤ 32768)
+side : (n : ℕ) → is_side n ≡ true → (1 ≤ n) × (n ≤ longest_side)
 side n h = let both = and_parts _ _ h in (leb-true _ _ both.0, leb-true _ _ both.1)
 
-from_side : (n : ℕ) → (1 ≤ n) × (n ≤ 32768) → is_side n ≡ true
+from_side : (n : ℕ) → (1 ≤ n) × (n ≤ longest_side) → is_side n ≡ true
 from_side n h = and_from _ _ (le-leb _ _ h.0) (le-leb _ _ h.1)
 
-near : (e p : ℤ) (n m : ℕ) → pos 1 ≤ℤ p → n < m → are_near e p m ≡ true → unsigned_abs (middle e p n) < 2000000000
+near : (e p : ℤ) (n m : ℕ) → pos 1 ≤ℤ p → n < m → are_near e p m ≡ true → IsNear (middle e p n)
 near e p n m some within h =
-    let both = and_parts _ _ h in middle_between e p n (m - 1) some (omega arith) (ltb-true _ _ both.0) (ltb-true _ _ both.1)
+    let both = and_parts _ _ h in
+    middle_between e p n (m - 1) some (omega arith) (ltb-true _ _ both.0) (ltb-true _ _ both.1)
 
 pub accepted : (w : Window) → accepts w ≡ true → IsAccepted w
 unfolding accepts
@@ -62,10 +71,11 @@ from_accepted w h =
     let wide : 0 < w.width = h.width.0 in
     let tall : 0 < w.height = h.height.0 in
     let upper : IsPlace (centre_of w 0 0) = h.centres 0 0 wide tall in
-    let lower : IsPlace (centre_of w (w.width - 1) (w.height - 1)) = h.centres (w.width - 1) (w.height - 1) (omega arith) (omega arith) in
+    let lower : IsPlace (centre_of w (w.width - 1) (w.height - 1)) =
+    h.centres (w.width - 1) (w.height - 1) (omega arith) (omega arith) in
     let top : w.height - 1 - 0 ≡ w.height - 1 = omega arith in
     let bottom : w.height - 1 - (w.height - 1) ≡ 0 = omega arith in
-    let P : ℕ → Type 0 = λ n. unsigned_abs (middle w.y w.pitch n) < 2000000000 in
+    let P : ℕ → Type 0 = λ n. IsNear (middle w.y w.pitch n) in
     and_from _ _ (from_side w.width h.width)
     (and_from _ _ (from_side w.height h.height)
     (and_from _ _ (and_from _ _ (from_le _ _ h.pitch.0) (from_le _ _ h.pitch.1))
@@ -90,7 +100,8 @@ twice_bound : (e : ℤ) → unsigned_abs e ≤ 2 ^ 63 → unsigned_abs (pos 2 *�
 twice_bound e h = omega (arith, ints)
 
 product_bound : (n p : ℤ) → unsigned_abs n ≤ 2 ^ 34 → unsigned_abs p ≤ 2 ^ 63 → unsigned_abs (n *ℤ p) ≤ 2 ^ 97
-product_bound n p h k = omega (arith, unsigned_abs-mul n p, mul-le (unsigned_abs n) (unsigned_abs p) (2 ^ 34) (2 ^ 63) h k)
+product_bound n p h k =
+    omega (arith, unsigned_abs-mul n p, mul-le (unsigned_abs n) (unsigned_abs p) (2 ^ 34) (2 ^ 63) h k)
 
 -- the middle of a pixel as the code computes it
 pub middle_kept : (e n p edge pitch : ℤ) (pixel : ℕ) → e ≡ edge → n ≡ pos (2 * pixel + 1) → p ≡ pitch
@@ -115,34 +126,43 @@ middle_bound : (edge pitch : ℤ) (pixel : ℕ) → FitsSigned w64 edge → pixe
 middle_bound edge pitch pixel edge_fits few pitch_fits =
     let e_bound : unsigned_abs edge ≤ 2 ^ 63 = omega (arith, ints) in
     let p_bound : unsigned_abs pitch ≤ 2 ^ 63 = omega (arith, ints) in
-    sum_bound edge (pos (2 * pixel + 1) *ℤ pitch) e_bound (product_bound (pos (2 * pixel + 1)) pitch (omega arith) p_bound)
+    sum_bound edge (pos (2 * pixel + 1) *ℤ pitch) e_bound
+    (product_bound (pos (2 * pixel + 1)) pitch (omega arith) p_bound)
 
-pub middle_fits : (z edge pitch : ℤ) (pixel : ℕ) → z ≡ middle edge pitch pixel → FitsSigned w64 edge → pixel < 2 ^ 32 → FitsSigned w64 pitch
-    → FitsSigned w128 z
+pub middle_fits : (z edge pitch : ℤ) (pixel : ℕ) → z ≡ middle edge pitch pixel
+    → FitsSigned w64 edge → pixel < 2 ^ 32 → FitsSigned w64 pitch → FitsSigned w128 z
 middle_fits z edge pitch pixel e edge_fits few pitch_fits =
-    fits_signed_from_abs w128 z (omega (arith, ap unsigned_abs e, middle_bound edge pitch pixel edge_fits few pitch_fits))
+    let bound = middle_bound edge pitch pixel edge_fits few pitch_fits in
+    fits_signed_from_abs w128 z (omega (arith, ap unsigned_abs e, bound))
 
-pub kept_middle : (z edge pitch : ℤ) (pixel : ℕ) → z ≡ middle edge pitch pixel → FitsSigned w64 edge → pixel < 2 ^ 32 → FitsSigned w64 pitch
-    → kept z ≡ middle edge pitch pixel
+pub kept_middle : (z edge pitch : ℤ) (pixel : ℕ) → z ≡ middle edge pitch pixel
+    → FitsSigned w64 edge → pixel < 2 ^ 32 → FitsSigned w64 pitch → kept z ≡ middle edge pitch pixel
 kept_middle z edge pitch pixel e edge_fits few pitch_fits =
     to_z-of_z w128 z (middle_fits z edge pitch pixel e edge_fits few pitch_fits) ∙ e
 
 -- a centre of an accepted window, as the code casts it
-cast_near : (z m : ℤ) → z ≡ m → unsigned_abs m < 2000000000 → cast_signed w64 (cast_unsigned w64 (kept z)) ≡ m
+cast_near : (z m : ℤ) → z ≡ m → IsNear m → cast_signed w64 (cast_unsigned w64 (kept z)) ≡ m
 cast_near z m e h =
-    let bound : unsigned_abs z < 2000000000 = omega (arith, ap unsigned_abs e) in
+    let bound : IsNear z = omega (arith, ap unsigned_abs e) in
     ap (λ n. cast_signed w64 (cast_unsigned w64 n)) (kept-is z (omega arith))
     ∙ to_z-of_z w64 z (fits_signed_from_abs w64 z (omega arith)) ∙ e
 
-pub near_fits : (z m : ℤ) → z ≡ m → unsigned_abs m < 2000000000 → FitsSigned w64 (kept z)
+pub near_fits : (z m : ℤ) → z ≡ m → IsNear m → FitsSigned w64 (kept z)
 near_fits z m e h =
-    let bound : unsigned_abs z < 2000000000 = omega (arith, ap unsigned_abs e) in
+    let bound : IsNear z = omega (arith, ap unsigned_abs e) in
     subst (FitsSigned w64) (sym (kept-is z (omega arith))) (fits_signed_from_abs w64 z (omega arith))
 
-pub centre_cast : (w : Window) (column row : ℕ) (x y : ℤ) → x ≡ middle w.x w.pitch column → y ≡ middle w.y w.pitch (w.height - 1 - row) → IsPlace (centre_of w column row)
-    → record { x = cast_signed w64 (cast_unsigned w64 (kept x)); y = cast_signed w64 (cast_unsigned w64 (kept y)) } ≡ centre_of w column row
+-- a spot as the code casts it
+abbrev pub spot_cast : ℤ → ℤ → Spot
+spot_cast x y =
+    record { x = cast_signed w64 (cast_unsigned w64 (kept x)); y = cast_signed w64 (cast_unsigned w64 (kept y)) }
+
+pub centre_cast : (w : Window) (column row : ℕ) (x y : ℤ)
+    → x ≡ middle w.x w.pitch column → y ≡ middle w.y w.pitch (w.height - 1 - row)
+    → IsPlace (centre_of w column row) → spot_cast x y ≡ centre_of w column row
 centre_cast w column row x y e e' h =
     let across = cast_near x (middle w.x w.pitch column) e h.x in
     let up = cast_near y (middle w.y w.pitch (w.height - 1 - row)) e' h.y in
     let spot : ℤ → ℤ → Spot = λ a b. record { x = a; y = b } in
-    ap (λ a. spot a (cast_signed w64 (cast_unsigned w64 (kept y)))) across ∙ ap (λ b. spot (middle w.x w.pitch column) b) up
+    ap (λ a. spot a (cast_signed w64 (cast_unsigned w64 (kept y)))) across
+    ∙ ap (λ b. spot (middle w.x w.pitch column) b) up

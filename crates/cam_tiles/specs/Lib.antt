@@ -1,2 +1,3 @@
 pub mod Pbm
 pub mod Picture
+pub mod LayerImage

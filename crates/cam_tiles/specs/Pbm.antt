@@ -1,5 +1,6 @@
 -- Raw PBM pictures (netpbm's pbm(5), "P4").
-use Rattle.std.specs.Prelude.{◌≡◌, ℕ, ◌+◌, ◌*◌, ◌-◌, ◌/◌, ◌%◌, Bool, ◌&&◌, nat_lt, if◌then◌else◌, List, [], ◌∷◌, ◌++◌, length, map, codes, slice_index}
+use Rattle.std.specs.Prelude.{◌≡◌, ℕ, ◌+◌, ◌*◌, ◌-◌, ◌/◌, ◌%◌, Bool, ◌&&◌, nat_lt, if◌then◌else◌}
+use Rattle.std.specs.Prelude.{List, [], ◌∷◌, ◌++◌, length, map, codes, slice_index}
 use Rattle.std.specs.Fmt.{decimal}
 use Rattle.std.specs.Int.{bit_at}
 use Rattle.std.specs.List.{range_with_len, flat_map}
@@ -31,7 +32,9 @@ row_of black width = map (λ k. byte_of (λ i. padded black width (8 * k + i))) 
 
 -- the file of a picture, given by its pixels at a column and a row; rows go from the top
 unfoldable pub pbm : (ℕ → ℕ → Bool) → ℕ → ℕ → List ℕ
-pbm black width height = header width height ++ flat_map (λ row. row_of (λ column. black column row) width) (range_with_len 0 height)
+pbm black width height =
+    header width height
+    ++ flat_map (λ row. row_of (λ column. black column row) width) (range_with_len 0 height)
 
 -- the byte of a pixel, and its bit there
 abbrev pub byte_at : List ℕ → ℕ → ℕ → ℕ → ℕ → ℕ

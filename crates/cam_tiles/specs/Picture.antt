@@ -1,11 +1,10 @@
--- The picture of a layer in a window.
-use Rattle.std.specs.Prelude.{◌≡◌, ℕ, ◌+◌, ◌*◌, ◌-◌, ◌/◌, ◌<◌, ◌≤◌, ℤ, pos, ◌+ℤ◌, ◌*ℤ◌, ◌≤ℤ◌, ◌↔◌, Bool, true, false, ◌&&◌, nat_lt, nat_le, List, length, take, All}
+-- The picture of an image in a window. An image is a test of places, true where they are black.
+use Rattle.std.specs.Prelude.{◌≡◌, ℕ, ◌+◌, ◌*◌, ◌-◌, ◌/◌, ◌<◌, ◌≤◌, ℤ, pos, ◌+ℤ◌, ◌*ℤ◌, ◌≤ℤ◌, ◌↔◌}
+use Rattle.std.specs.Prelude.{Bool, true, ◌&&◌, nat_lt, nat_le, List, length, take, All}
 use Rattle.std.specs.Int.RustNames.{int_le, unsigned_abs}
 use Rattle.cam_units.specs.declared.point.Spot.{Spot}
-use Rattle.cam_units.specs.Board.{IsPlace}
+use Rattle.cam_units.specs.Board.{IsPlace, place_limit}
 use Rattle.cam_tiles.specs.declared.window.Window.{Window}
-use Rattle.cam_objects.specs.Layers.{Content}
-use Rattle.cam_objects.specs.Image.{IsBlack, leaves_of, paint}
 use Rattle.cam_tiles.specs.Pbm.{header, bytes_across, pbm, IsPixelSet}
 
 -- the middle of the pixel that stands so far from an edge, in half nanometres
@@ -16,21 +15,29 @@ middle edge pitch pixel = pos 2 *ℤ edge +ℤ pos (2 * pixel + 1) *ℤ pitch
 abbrev pub centre_of : Window → ℕ → ℕ → Spot
 centre_of w column row = record { x = middle w.x w.pitch column; y = middle w.y w.pitch (w.height - 1 - row) }
 
+-- the most pixels of a side
+abbrev pub longest_side : ℕ
+longest_side = 32768
+
+-- the greatest pitch, in nanometres
+abbrev pub coarsest_pitch : ℕ
+coarsest_pitch = 100000000
+
 -- a window within its limits: its centres are places of the board
 pub record IsAccepted (w : Window) : Type 0 where
-  pub width : (1 ≤ w.width) × (w.width ≤ 32768)
-  pub height : (1 ≤ w.height) × (w.height ≤ 32768)
-  pub pitch : (pos 1 ≤ℤ w.pitch) × (w.pitch ≤ℤ pos 100000000)
+  pub width : (1 ≤ w.width) × (w.width ≤ longest_side)
+  pub height : (1 ≤ w.height) × (w.height ≤ longest_side)
+  pub pitch : (pos 1 ≤ℤ w.pitch) × (w.pitch ≤ℤ pos coarsest_pitch)
   pub centres : (column row : ℕ) → column < w.width → row < w.height → IsPlace (centre_of w column row)
 
 abbrev pub is_side : ℕ → Bool
-is_side n = nat_le 1 n && nat_le n 32768
+is_side n = nat_le 1 n && nat_le n longest_side
 
 abbrev pub is_pitch : ℤ → Bool
-is_pitch n = int_le (pos 1) n && int_le n (pos 100000000)
+is_pitch n = int_le (pos 1) n && int_le n (pos coarsest_pitch)
 
 abbrev pub is_near : ℤ → Bool
-is_near n = nat_lt (unsigned_abs n) 2000000000
+is_near n = nat_lt (unsigned_abs n) place_limit
 
 -- the first and the last middle are near, and so all between them
 abbrev pub are_near : ℤ → ℤ → ℕ → Bool
@@ -38,15 +45,17 @@ are_near edge pitch count = is_near (middle edge pitch 0) && is_near (middle edg
 
 -- whether a window is within its limits
 unfoldable pub accepts : Window → Bool
-accepts w = is_side w.width && (is_side w.height && (is_pitch w.pitch && (are_near w.x w.pitch w.width && are_near w.y w.pitch w.height)))
+accepts w =
+    is_side w.width
+    && (is_side w.height && (is_pitch w.pitch && (are_near w.x w.pitch w.width && are_near w.y w.pitch w.height)))
 
--- whether a pixel is black: the ink at its centre
-abbrev pub picture_of : Window → Content → ℕ → ℕ → Bool
-picture_of w c column row = paint false (leaves_of c) (centre_of w column row)
+-- whether a pixel is black: the image at its centre
+abbrev pub pixels_of : Window → (Spot → Bool) → ℕ → ℕ → Bool
+pixels_of w image column row = image (centre_of w column row)
 
--- the PBM file of a layer's picture
-unfoldable pub plot_of : Window → Content → List ℕ
-plot_of w c = pbm (picture_of w c) w.width w.height
+-- the PBM file of an image's picture
+unfoldable pub plot_of : Window → (Spot → Bool) → List ℕ
+plot_of w image = pbm (pixels_of w image) w.width w.height
 
 -- how many tiles of 64 by 64 pixels a window has
 unfoldable pub tiles_of : Window → ℕ
@@ -56,13 +65,13 @@ tiles_of w = ((w.width + 63) / 64) * ((w.height + 63) / 64)
 abbrev pub IsPixelBlack : List ℕ → Window → ℕ → ℕ → Type 0
 IsPixelBlack file w column row = IsPixelSet file w.width w.height column row
 
--- the file shows the layer's image: each pixel is black where the image is black at its centre
-pub record Shows (file : List ℕ) (w : Window) (c : Content) : Type 0 where
+-- the file shows the image: each pixel is black where the image is black at its centre
+pub record Shows (file : List ℕ) (w : Window) (image : Spot → Bool) : Type 0 where
   pub head : take (length (header w.width w.height)) file ≡ header w.width w.height
   pub size : length file ≡ length (header w.width w.height) + w.height * bytes_across w.width
   pub values : All (λ byte. byte < 256) file
   pub pixels : (column row : ℕ) → column < w.width → row < w.height
-      → IsPixelBlack file w column row ↔ IsBlack (leaves_of c) (centre_of w column row)
+      → IsPixelBlack file w column row ↔ (image (centre_of w column row) ≡ true)
   pub padding : (column row : ℕ) → w.width ≤ column → column < 8 * bytes_across w.width → row < w.height
       → IsPixelBlack file w column row → ⊥
 
@@ -70,10 +79,11 @@ pub record Shows (file : List ℕ) (w : Window) (c : Content) : Type 0 where
 abbrev pub AcceptLaw : Type 0
 AcceptLaw = (w : Window) → (accepts w ≡ true) ↔ IsAccepted w
 
--- the plot of an accepted window shows the layer's image
+-- the plot of an accepted window shows the image
 abbrev pub PlotLaw : Type 0
-PlotLaw = (w : Window) (c : Content) → accepts w ≡ true → Shows (plot_of w c) w c
+PlotLaw = (w : Window) (image : Spot → Bool) → accepts w ≡ true → Shows (plot_of w image) w image
 
 -- and it is the only file that does
 abbrev pub OnePlotLaw : Type 0
-OnePlotLaw = (w : Window) (c : Content) (file : List ℕ) → accepts w ≡ true → Shows file w c → file ≡ plot_of w c
+OnePlotLaw =
+    (w : Window) (image : Spot → Bool) (file : List ℕ) → accepts w ≡ true → Shows file w image → file ≡ plot_of w image

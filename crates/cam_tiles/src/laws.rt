@@ -8,12 +8,12 @@ pub fn acceptance_is_by_all_centres()
     ensures { AcceptLaw }
 {}
 
-/// In a plot each pixel is black exactly where the layer's image is black at its centre.
+/// In a plot of any image each pixel is black exactly where the image is black at its centre.
 pub fn plots_show_the_image()
     ensures { PlotLaw }
 {}
 
-/// No other file than the plot shows the layer's image.
+/// No other file than the plot shows the image.
 pub fn one_file_shows_the_image()
     ensures { OnePlotLaw }
 {}

@@ -1,11 +1,11 @@
 //! Raw PBM files (netpbm's pbm(5), "P4").
 
-ghost use Rattle.std.specs.Prelude.{◌≡◌, ◌+◌, ◌*◌, ◌++◌, ◌<◌, true, OnOk};
+ghost use Rattle.std.specs.Prelude.{◌≡◌, ℕ, ◌+◌, ◌*◌, ◌++◌, ◌<◌, Bool, true, OnOk};
 ghost use Rattle.cam_tiles.specs.Pbm.{byte_of, header, padded, row_of};
-ghost use Rattle.cam_tiles.specs.Picture.{accepts, picture_of};
+ghost use Rattle.cam_tiles.specs.Picture.{accepts, pixels_of};
 
+use crate::image::Image;
 use crate::window::Window;
-use cam_objects::Layer;
 use std::alloc::{AllocError, Global};
 
 /// Writes the header of a window's file.
@@ -24,47 +24,50 @@ pub fn push_header(alloc: Global, file: &mut Vec<u8>, window: &Window) -> Result
 }
 
 /// Whether the pixel is black; one right of the window is not.
-fn is_black(layer: &Layer, window: &Window, column: u32, row: u32) -> bool
+fn is_pixel_black<I: Image>(image: &I, window: &Window, column: u32, row: u32) -> bool
     requires accepted { accepts window.now ≡ true }
+    requires ready { I.is_ready image.now }
     requires row { row < window.now.height }
     ensures { result
-        ≡ padded (λ i. picture_of window.now layer.now i row) window.now.width column }
+        ≡ padded (λ i. pixels_of window.now (I.is_black image.now) i row) window.now.width column }
 {
     if column >= window.width {
         return false;
     }
-    layer.black_at(window.centre(column, row))
+    image.black_at(window.centre(column, row))
 }
 
 /// The byte of eight pixels side by side, of which `column` is the leftmost.
-fn byte_from(layer: &Layer, window: &Window, column: u32, row: u32) -> u8
+fn byte_from<I: Image>(image: &I, window: &Window, column: u32, row: u32) -> u8
     requires accepted { accepts window.now ≡ true }
+    requires ready { I.is_ready image.now }
     requires row { row < window.now.height }
     requires column { column < window.now.width }
-    ensures { result ≡ byte_of (λ i.
-        padded (λ k. picture_of window.now layer.now k row) window.now.width (column + i)) }
+    ensures { let black : ℕ → Bool = λ k. pixels_of window.now (I.is_black image.now) k row in
+        result ≡ byte_of (λ i. padded black window.now.width (column + i)) }
 {
     let mut byte = 0;
     for i in 0..8 {
-        byte = 2 * byte + u8::from(is_black(layer, window, column + i, row));
+        byte = 2 * byte + u8::from(is_pixel_black(image, window, column + i, row));
     }
     byte
 }
 
 /// Writes the bytes of a row, which is counted from the top.
-pub fn push_row(
+pub fn push_row<I: Image>(
     file: &mut Vec<u8>,
-    layer: &Layer,
+    image: &I,
     window: &Window,
     row: u32,
 ) -> Result<(), AllocError>
     requires accepted { accepts window.now ≡ true }
+    requires ready { I.is_ready image.now }
     requires row { row < window.now.height }
-    ensures { OnOk result (file.new.items ≡ file.old.items
-        ++ row_of (λ column. picture_of window.now layer.now column row) window.now.width) }
+    ensures { let black : ℕ → Bool = λ column. pixels_of window.now (I.is_black image.now) column row in
+        OnOk result (file.new.items ≡ file.old.items ++ row_of black window.now.width) }
 {
     for k in 0..window.width.div_ceil(8) {
-        file.push(byte_from(layer, window, 8 * k, row))?;
+        file.push(byte_from(image, window, 8 * k, row))?;
     }
     Ok(())
 }

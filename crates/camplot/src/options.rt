@@ -81,6 +81,3 @@ pub fn options(alloc: Global, words: &[String]) -> Result<(String, u32), Options
     let depth = matches.get_one::<u32>("depth").unwrap();
     Ok((script.to_string(alloc)?, depth))
 }
-
-#[cfg(test)]
-mod tests;

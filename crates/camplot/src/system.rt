@@ -3,6 +3,7 @@
 //! No clause can say what the system's files and output hold, so these tell nothing of it.
 
 ghost use Rattle.std.specs.Prelude.{◌≡◌, ◌+◌, ◌^◌, ◌<◌, ◌≤◌, length, IfNone, IfOk, IfSome};
+ghost use Rattle.camplot.specs.Disk.{IsFaultOf, file_limit};
 
 use cam_station::{FileFault, Files, Out};
 use std::alloc::{AllocError, Global};
@@ -55,16 +56,19 @@ fn read_within<R: Read>(
 }
 
 /// Whether memory was refused, or the file failed.
-fn fault_of(error: &io::Error) -> FileFault {
-    if error.kind() == ErrorKind::OutOfMemory {
-        FileFault::Memory
-    } else {
-        FileFault::Failed
+fn fault_of(error: &io::Error) -> FileFault
+    ensures { IsFaultOf error.now result }
+{
+    match error.kind() {
+        ErrorKind::OutOfMemory => FileFault::Memory,
+        _ => FileFault::Failed,
     }
 }
 
 /// The bytes of the file at this path; a file of more than 268,435,456 bytes has failed.
-pub fn read_file<R: SystemFiles>(rt: &R, alloc: Global, path: &str) -> Result<Vec<u8>, FileFault> {
+pub fn read_file<R: SystemFiles>(rt: &R, alloc: Global, path: &str) -> Result<Vec<u8>, FileFault>
+    ensures { IfOk result (λ bytes. length bytes.items ≤ file_limit) }
+{
     let mut file = match fs::open(rt, path) {
         Ok(file) => file,
         Err(error) => return Err(fault_of(&error)),
@@ -93,13 +97,21 @@ impl<'a, R: SystemFiles> Disk<'a, R> {
 }
 
 impl<'a, R: SystemFiles> Files for Disk<'a, R> {
-    ghost use Rattle.std.specs.Prelude.{None};
+    ghost use Rattle.std.specs.Prelude.{◌≤◌, IfErr, IfOk, None, length};
+    ghost use Rattle.cam_station.specs.Contents.{FailsIfAbsent, HasRisenBy, Holds, failures_of};
+    ghost use Rattle.camplot.specs.Disk.{file_limit};
 
     ghost contents = { λ _. None };
 
     ghost failed = { λ disk. disk.failures };
 
-    fn get(&mut self, alloc: Global, path: &str) -> Result<Vec<u8>, FileFault> {
+    fn get(&mut self, alloc: Global, path: &str) -> Result<Vec<u8>, FileFault>
+        // Of the system's files nothing is told.
+        ensures held { IfOk result (λ bytes. Holds None path.now bytes.items) }
+        ensures absent { IfErr result (FailsIfAbsent None path.now) }
+        ensures counted { HasRisenBy (failures_of result) self.old.failures self.new.failures }
+        ensures bound { IfOk result (λ bytes. length bytes.items ≤ file_limit) }
+    {
         match read_file(self.rt, alloc, path) {
             Ok(bytes) => Ok(bytes),
             Err(FileFault::Memory) => Err(FileFault::Memory),

@@ -8,7 +8,8 @@ pub fn few_file_refusals()
     ensures { FewFileRefusals }
 {}
 
-/// A run over bytes is a run of the machine over its commands.
+/// A run over bytes is a run of the machine over its commands: the last state, what each line
+/// asks of the files and is answered, and how many lines are refused are told by the machine.
 pub fn run_is_commands()
     ensures { RunIsCommands }
 {}

@@ -32,10 +32,7 @@ fn numeral(digits: &[u8], most: u64) -> Option<u64>
 pub fn count(word: &[u8]) -> Option<u32>
     ensures { result ≡ count_in word.now }
 {
-    match numeral(word, u64::from(u32::MAX)) {
-        Some(value) => Some(value as u32),
-        None => None,
-    }
+    numeral(word, u64::from(u32::MAX)).map(|value| value as u32)
 }
 
 /// A length in nanometres: an optional sign and digits, of at most 4,000,000,000 in

@@ -5,7 +5,19 @@ ghost use Rattle.std.specs.Char.{is_ascii_graphic};
 ghost use Rattle.std.specs.List.{list_all};
 ghost use Rattle.std.specs.Str.{bytes_eq, IsAscii};
 ghost use Rattle.cam_station.specs.Words.{is_name, is_path, is_name_byte};
-ghost use Rattle.cam_station.specs.Parsing.{parsed, kept, line_in, is_no_memory, load_line, window_line, plot_line, delete_line, move_line, list_line, alone};
+ghost use Rattle.cam_station.specs.Parsing.{
+  alone,
+  delete_line,
+  is_no_memory,
+  kept,
+  line_in,
+  list_line,
+  load_line,
+  move_line,
+  parsed,
+  plot_line,
+  window_line,
+};
 
 use crate::command::{Command, FileKind};
 use crate::name::Name;

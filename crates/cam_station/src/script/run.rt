@@ -1,10 +1,26 @@
 //! Runs of scripts.
 
-ghost use Rattle.std.specs.Prelude.{◌≡◌, ◌+◌, ◌<◌, ◌≤◌, ◌^◌, ℕ, List, Result, Some, IfSome, IfNone, IfOk, IfErr, OnErr, true};
+ghost use Rattle.std.specs.Prelude.{◌≡◌, ◌+◌, ◌<◌, ◌≤◌, ◌^◌, ℕ, List, Result, Some, true};
+ghost use Rattle.std.specs.Prelude.{IfErr, IfNone, IfOk, IfSome, OnErr};
 ghost use Rattle.std.specs.Str.Lines.{lines};
 ghost use Rattle.cam_station.specs.declared.files.FileFault.{FileFault};
-ghost use Rattle.cam_station.specs.Machine.{Memory, fault, fresh, step};
-ghost use Rattle.cam_station.specs.Run.{World, Comes, HasNoBytes, Passes, IsUnsaid, Finishes, EndsBy, IsBegun, file_code, files_seen, moment, turn, load_turn, plot_turn, is_depth};
+ghost use Rattle.cam_station.specs.Machine.{Memory, fault, fresh, is_depth, step};
+ghost use Rattle.cam_station.specs.Run.{
+  Comes,
+  EndsBy,
+  Finishes,
+  HasNoBytes,
+  IsBegun,
+  IsUnsaid,
+  Passes,
+  World,
+  file_code,
+  files_seen,
+  load_turn,
+  moment,
+  plot_turn,
+  turn,
+};
 
 use crate::bytes::Bytes;
 use crate::command::{Command, FileKind};

@@ -1,6 +1,7 @@
 //! The words of a line.
 
-ghost use Rattle.std.specs.Prelude.{◌≡◌, ◌≢◌, nat_lt, ◌<◌, ◌∷◌, [], ◌++◌, IfSome, IfNone, filter, length, position};
+ghost use Rattle.std.specs.Prelude.{◌≡◌, ◌≢◌, nat_lt, ◌<◌, ◌∷◌, [], ◌++◌};
+ghost use Rattle.std.specs.Prelude.{IfNone, IfSome, filter, length, position};
 ghost use Rattle.cam_station.specs.Words.{is_blank, is_filled, words};
 
 use crate::script::pieces::{before, behind};

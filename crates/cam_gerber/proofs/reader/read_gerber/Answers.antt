@@ -1,6 +1,6 @@
 use Rattle.std.proofs.Common.{[], length, ap, sym, subst, ◌∙◌}
-use Rattle.cam_gerber.specs.Tracking.{IsWithinFormats}
-use Rattle.cam_gerber.proofs.Formats.{within_formats}
+use Rattle.cam_gerber.specs.Machinery.Tracking.{IsWithinFormats}
+use Rattle.cam_gerber.proofs.Grammar.{within_formats}
 use Rattle.cam_gerber.proofs.Readings.{goes_on, reading_goes_on}
 use Rattle.cam_gerber.proofs.reader.read_gerber.Goals as goal
 

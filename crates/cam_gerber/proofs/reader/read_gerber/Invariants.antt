@@ -1,7 +1,7 @@
 use Rattle.std.proofs.Common.{◌≡◌, length}
 use Rattle.cam_gerber.specs.Reading.{reading_of}
 use Rattle.cam_gerber.specs.GraphicsState.{Past}
-use Rattle.cam_gerber.specs.Tracking.{Tracks, IsReady}
+use Rattle.cam_gerber.specs.Machinery.Tracking.{Tracks, IsReady}
 use Rattle.cam_gerber.proofs.Readings.{goes_on}
 use Rattle.cam_gerber.proofs.reader.read_gerber.Given as goal
 

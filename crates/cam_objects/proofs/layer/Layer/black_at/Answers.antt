@@ -1,13 +1,25 @@
-use Rattle.std.proofs.Common.{false, ap, sym, map, ◌∙◌}
-use Rattle.cam_objects.specs.Image.{leaf_of, leaves_of, paint}
-use Rattle.cam_objects.specs.Layers.{Content}
-use Rattle.cam_objects.proofs.ImageLemmas.{paint_law}
+use Rattle.std.proofs.Common.{Bool, IsTrue, ◌↔◌, List, sym, subst}
+use Rattle.std.specs.List.{All}
+use Rattle.cam_objects.specs.declared.item.Item.{Item}
+use Rattle.cam_objects.specs.Image.{Inks, IsBlack}
+use Rattle.cam_objects.specs.Leaves.{leaves_of}
+use Rattle.cam_objects.specs.Machinery.Painting.{IsPaintableItem, IsReady}
+use Rattle.cam_objects.proofs.Inking.{black_from_ink}
+use Rattle.cam_objects.proofs.SoundLayers.{paintable_items, ready_layer}
 use Rattle.cam_objects.proofs.layer.Layer.black_at.Goals as goal
 
-pub returns-clause-image : goal.returns-clause-image
-returns-clause-image c =
-    let law = paint_law (leaves_of c.args.self.now) c.args.spot in
-    let ink = c.is_painted.ensures
-    ∙ ap (λ fs. paint false (map leaf_of fs) c.args.spot) c.deref.ensures.value
-    ∙ ap (λ (v : Content). paint false (leaves_of v) c.args.spot) c.self.view_is in
-    ((λ h. law.0 (sym ink ∙ h)), (λ h. ink ∙ law.1 h))
+pub ink-requires-clause-items : goal.ink-requires-clause-items
+ink-requires-clause-items c =
+    subst (λ (items : List Item). All IsPaintableItem items) (sym c.deref.ensures.value) (paintable_items c.args.self.now c.requires.sound)
+
+pub ink-requires-clause-ready : goal.ink-requires-clause-ready
+ink-requires-clause-ready c =
+    subst (λ (items : List Item). IsReady c.args.self.now.apertures c.args.spot (leaves_of c.args.self.now.apertures items)) (sym c.deref.ensures.value)
+    (ready_layer c.args.self.now c.args.spot c.requires.sound c.requires.spot)
+
+pub returns : goal.returns
+returns c =
+    let l = c.args.self.now in
+    let inks = subst (λ (items : List Item). Inks (leaves_of l.apertures items) c.args.spot c.ink.result) c.deref.ensures.value c.ink.ensures in
+    subst (λ (b : Bool). IsTrue b ↔ IsBlack (leaves_of l.apertures l.items.items) c.args.spot) (sym c.unwrap_or.ensures)
+    (black_from_ink c.args.spot (leaves_of l.apertures l.items.items) c.ink.result inks)

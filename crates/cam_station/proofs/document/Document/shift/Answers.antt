@@ -1,6 +1,6 @@
 use Rattle.std.proofs.Common.{◌≡◌, w64}
 use Rattle.std.proofs.lemmas.Int.{to_z-of_z}
-use Rattle.cam_objects.specs.Layers.{with_shifted}
+use Rattle.cam_flashes.specs.Layers.{with_shifted}
 use Rattle.cam_station.proofs.Sheets.{edit_in_place}
 use Rattle.cam_station.proofs.document.Document.shift.Goals as goal
 

@@ -16,4 +16,4 @@ returns-in-Err g c =
     load_gets_none c.args.station.now c.args.name c.args.kind c.args.path.now c.in-Err.fault c.file_refusal.result
     (files_seen (g.F.Files.contents c.args.files.now) (g.F.Files.failed c.args.files.now))
     (files_seen (g.F.Files.contents c.get.new.self) (g.F.Files.failed c.get.new.self))
-    c.file_refusal.ensures (record { contents = (c.in-Err.ensures.kept, tt); failures = c.in-Err.ensures.counted })
+    c.file_refusal.ensures (record { contents = (c.in-Err.ensures.kept, rw c.as_str.ensures at c.in-Err.ensures.absent); failures = c.in-Err.ensures.counted })

@@ -1,7 +1,7 @@
 use Rattle.std.proofs.Common.{◌≡◌, ◌≤◌, ◌+◌, List, length, true}
 use Rattle.std.specs.Str.Lines.{lines}
-use Rattle.cam_station.specs.Machine.{fresh}
-use Rattle.cam_station.specs.Run.{World, Moment, Finishes, Stops, moment, is_depth}
+use Rattle.cam_station.specs.Machine.{fresh, is_depth}
+use Rattle.cam_station.specs.Run.{World, Moment, Finishes, Stops, moment}
 use Rattle.cam_station.proofs.script.run.run.Given as goal
 
 -- what the lines that are left come to is, behind those that were run, what all of them come to

@@ -8,15 +8,15 @@ overflow_add-result c =
     let s = c.args.self in
     let edge : FitsSigned w64 s.edge = search rules in
     let pitch : FitsSigned w64 s.pitch = search rules in
-    middle_fits _ s.edge s.pitch c.args.pixel
-    (middle_kept c.from.result c.from-3.result c.from-4.result s.edge s.pitch c.args.pixel (omega (arith, ints)) (omega (arith, ints)) (omega (arith, ints)) edge (omega arith) pitch)
-    edge (omega arith) pitch
+    let middle = middle_kept c.from.result c.from-3.result c.from-4.result s.edge s.pitch c.args.pixel
+    (omega (arith, ints)) (omega (arith, ints)) (omega (arith, ints)) edge (omega arith) pitch in
+    middle_fits _ s.edge s.pitch c.args.pixel middle edge (omega arith) pitch
 
 pub returns : goal.returns
 returns c =
     let s = c.args.self in
     let edge : FitsSigned w64 s.edge = search rules in
     let pitch : FitsSigned w64 s.pitch = search rules in
-    kept_middle _ s.edge s.pitch c.args.pixel
-    (middle_kept c.from.result c.from-3.result c.from-4.result s.edge s.pitch c.args.pixel (omega (arith, ints)) (omega (arith, ints)) (omega (arith, ints)) edge (omega arith) pitch)
-    edge (omega arith) pitch
+    let middle = middle_kept c.from.result c.from-3.result c.from-4.result s.edge s.pitch c.args.pixel
+    (omega (arith, ints)) (omega (arith, ints)) (omega (arith, ints)) edge (omega arith) pitch in
+    kept_middle _ s.edge s.pitch c.args.pixel middle edge (omega arith) pitch

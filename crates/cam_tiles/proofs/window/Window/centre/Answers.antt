@@ -8,13 +8,16 @@ pub overflow_cast-result : goal.overflow_cast-result
 overflow_cast-result c =
     let w = c.args.self.now in
     let place = (accepted w c.requires.accepted).centres c.args.column c.args.row c.requires.column c.requires.row in
-    near_fits c.middle.result (middle w.x w.pitch c.args.column) (c.middle.ensures ∙ ap (λ s. middle s.edge s.pitch c.args.column) c.columns.ensures) place.x
+    let across = c.middle.ensures ∙ ap (λ s. middle s.edge s.pitch c.args.column) c.columns.ensures in
+    near_fits c.middle.result (middle w.x w.pitch c.args.column) across place.x
 
 pub overflow_cast-result-2 : goal.overflow_cast-result-2
 overflow_cast-result-2 c =
     let w = c.args.self.now in
+    let pixel = w.height - 1 - c.args.row in
     let place = (accepted w c.requires.accepted).centres c.args.column c.args.row c.requires.column c.requires.row in
-    near_fits c.middle-2.result (middle w.y w.pitch (w.height - 1 - c.args.row)) (c.middle-2.ensures ∙ ap (λ s. middle s.edge s.pitch (w.height - 1 - c.args.row)) c.rows.ensures) place.y
+    let up = c.middle-2.ensures ∙ ap (λ s. middle s.edge s.pitch pixel) c.rows.ensures in
+    near_fits c.middle-2.result (middle w.y w.pitch pixel) up place.y
 
 pub returns-clause-value : goal.returns-clause-value
 returns-clause-value c =
@@ -28,6 +31,4 @@ pub returns-clause-place : goal.returns-clause-place
 returns-clause-place c =
     let w = c.args.self.now in
     let place = (accepted w c.requires.accepted).centres c.args.column c.args.row c.requires.column c.requires.row in
-    subst IsPlace (sym (centre_cast w c.args.column c.args.row c.middle.result c.middle-2.result
-    (c.middle.ensures ∙ ap (λ s. middle s.edge s.pitch c.args.column) c.columns.ensures)
-    (c.middle-2.ensures ∙ ap (λ s. middle s.edge s.pitch (w.height - 1 - c.args.row)) c.rows.ensures) place)) place
+    subst IsPlace (sym (returns-clause-value c)) place

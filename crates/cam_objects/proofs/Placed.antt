@@ -1,0 +1,90 @@
+-- places and points that are moved and turned
+use Rattle.std.proofs.Common.{◌≡◌, ℕ, ◌+◌, ◌*◌, ◌^◌, ◌<◌, ◌≤◌, Bool, ℤ, ◌+ℤ◌, List, [], ◌∷◌, map, arith}
+use Rattle.std.specs.List.{All, flat_map}
+use Rattle.std.specs.Int.RustNames.{unsigned_abs}
+use Rattle.std.proofs.lemmas.Int.{ints}
+use Rattle.std.proofs.lemmas.List.Elements.{All-cons, All-head, All-nil, All-tail}
+use Rattle.cam_units.specs.Board.{IsOnBoard}
+use Rattle.cam_units.specs.Turns.{applied, matrix_of}
+use Rattle.cam_units.specs.declared.point.Point.{Point}
+use Rattle.cam_units.specs.declared.point.Spot.{Spot}
+use Rattle.cam_units.specs.declared.turn.Turn.{Turn}
+use Rattle.cam_units.specs.declared.turn.Turn.TheVariants.{R0, R90, R180, R270, M0, M90, M180, M270}
+use Rattle.cam_shapes.specs.declared.contour.Contour.{Contour}
+use Rattle.cam_shapes.specs.declared.segments.Seg.{Seg}
+use Rattle.cam_shapes.specs.declared.segments.Seg.TheVariants.{Line, Curve}
+use Rattle.cam_shapes.specs.Placing.{IsPlaceable, IsPlaceablePoint, IsPlaceableSeg, placed_contour, placed_point, placed_seg}
+use Rattle.cam_shapes.specs.Shifting.{IsShiftable}
+use Rattle.cam_objects.specs.declared.place.Place.{Place}
+use Rattle.cam_objects.specs.Leaves.{flashed, placed, shifted}
+use Rattle.cam_objects.specs.Machinery.Painting.{HasReach}
+use Rattle.cam_objects.specs.Soundness.{points_of_contour, points_of_seg}
+
+pub same_spot : (s t : Spot) → s.x ≡ t.x → s.y ≡ t.y → s ≡ t
+same_spot s t e f = λ i. record { x = e i; y = f i }
+
+-- a turn keeps the board
+pub turned_on_board : (t : Turn) (p : Point) → IsOnBoard p → IsOnBoard (applied (matrix_of t) p)
+turned_on_board R0 p h = record { x = omega (arith, ints); y = omega (arith, ints) }
+turned_on_board R90 p h = record { x = omega (arith, ints); y = omega (arith, ints) }
+turned_on_board R180 p h = record { x = omega (arith, ints); y = omega (arith, ints) }
+turned_on_board R270 p h = record { x = omega (arith, ints); y = omega (arith, ints) }
+turned_on_board M0 p h = record { x = omega (arith, ints); y = omega (arith, ints) }
+turned_on_board M90 p h = record { x = omega (arith, ints); y = omega (arith, ints) }
+turned_on_board M180 p h = record { x = omega (arith, ints); y = omega (arith, ints) }
+turned_on_board M270 p h = record { x = omega (arith, ints); y = omega (arith, ints) }
+
+-- ---- the reach of a place
+
+reach_sum : (n : ℕ) (a b : ℤ) → unsigned_abs a < 1000000000 → unsigned_abs b + (n + 1) * 1000000000 < 2 ^ 62 → unsigned_abs (a +ℤ b) + n * 1000000000 < 2 ^ 62
+reach_sum n a b h r = omega (arith, ints)
+
+-- a flash takes one placement of the reach
+pub reach_flashed : (n : ℕ) (p : Place) (at : Point) (t : Turn) (dark : Bool) → IsOnBoard at → HasReach (n + 1) p → HasReach n (flashed p at t dark)
+unfolding HasReach
+reach_flashed n p at t dark h reach =
+    let q = turned_on_board p.turn at h in
+    (reach_sum n (applied (matrix_of p.turn) at).x p.offset.x q.x reach.0, reach_sum n (applied (matrix_of p.turn) at).y p.offset.y q.y reach.1)
+
+pub reach_less : (m n : ℕ) (p : Place) → m ≤ n → HasReach n p → HasReach m p
+unfolding HasReach
+reach_less m n p h reach = (omega arith, omega arith)
+
+pub reach_offset : (n : ℕ) (p : Place) → HasReach n p → IsShiftable p.offset
+unfolding HasReach
+reach_offset n p reach = record { x = omega arith; y = omega arith }
+
+pub reach_shifted : (n : ℕ) (dx dy : ℤ) → n ≤ 2 ^ 31 → unsigned_abs dx < 2 ^ 53 → unsigned_abs dy < 2 ^ 53 → HasReach (n + 1) (shifted dx dy)
+unfolding HasReach
+reach_shifted n dx dy h x y = (omega arith, omega arith)
+
+-- ---- contours that stand on the board, and are placed on it
+
+placeable_segs : (t : Turn) (o : Point) (segs : List Seg) → All IsOnBoard (flat_map points_of_seg segs) → All IsOnBoard (flat_map points_of_seg (map (placed_seg t o) segs)) → All (IsPlaceableSeg t o) segs
+placeable_segs t o [] h k = All-nil (IsPlaceableSeg t o)
+placeable_segs t o (Line to ∷ segs) h k =
+    let here : IsOnBoard to = All-head IsOnBoard to (flat_map points_of_seg segs) h in
+    let there : IsOnBoard (placed_point t o to) = All-head IsOnBoard (placed_point t o to) (flat_map points_of_seg (map (placed_seg t o) segs)) k in
+    All-cons (IsPlaceableSeg t o) (Line to) segs (record { here = here; there = there })
+    (placeable_segs t o segs (All-tail IsOnBoard to (flat_map points_of_seg segs) h) (All-tail IsOnBoard (placed_point t o to) (flat_map points_of_seg (map (placed_seg t o) segs)) k))
+placeable_segs t o (Curve to centre ccw ∷ segs) h k =
+    let rest = flat_map points_of_seg segs in
+    let rest' = flat_map points_of_seg (map (placed_seg t o) segs) in
+    let h' = All-tail IsOnBoard to (centre ∷ rest) h in
+    let k' = All-tail IsOnBoard (placed_point t o to) (placed_point t o centre ∷ rest') k in
+    All-cons (IsPlaceableSeg t o) (Curve to centre ccw) segs (
+      record { here = All-head IsOnBoard to (centre ∷ rest) h; there = All-head IsOnBoard (placed_point t o to) (placed_point t o centre ∷ rest') k },
+      record { here = All-head IsOnBoard centre rest h'; there = All-head IsOnBoard (placed_point t o centre) rest' k' },
+    )
+    (placeable_segs t o segs (All-tail IsOnBoard centre rest h') (All-tail IsOnBoard (placed_point t o centre) rest' k'))
+
+pub placeable : (t : Turn) (o : Point) (c : Contour) → IsShiftable o → All IsOnBoard (points_of_contour c) → All IsOnBoard (points_of_contour (placed_contour t o c)) → IsPlaceable t o c
+placeable t o c offset h k = record {
+  start = record {
+    here = All-head IsOnBoard c.start (flat_map points_of_seg c.segs) h;
+    there = All-head IsOnBoard (placed_point t o c.start) (flat_map points_of_seg (map (placed_seg t o) c.segs)) k;
+  };
+  segs = placeable_segs t o c.segs
+      (All-tail IsOnBoard c.start (flat_map points_of_seg c.segs) h)
+      (All-tail IsOnBoard (placed_point t o c.start) (flat_map points_of_seg (map (placed_seg t o) c.segs)) k);
+}

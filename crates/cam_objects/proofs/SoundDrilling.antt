@@ -1,0 +1,56 @@
+-- drill layers stay sound as they grow
+use Rattle.std.proofs.Common.{◌≡◌, ℕ, Bool, true, false, cond, List, [], ◌∷◌, ◌++◌, Option, None, Some, nat_eq, is_some, refl, sym, ap, subst, ◌∙◌}
+use Rattle.std.specs.List.{All}
+use Rattle.std.specs.Map.{lookup}
+use Rattle.std.proofs.lemmas.List.Elements.{All-append, All-cons, All-nil, All-weaker}
+use Rattle.cam_units.specs.declared.length.Nm.{Nm}
+use Rattle.cam_objects.specs.declared.drill_item.DrillItem.{DrillItem}
+use Rattle.cam_objects.specs.declared.drill_layer.DrillLayer.{DrillLayer}
+use Rattle.cam_objects.specs.declared.item_fault.ItemFault.{ItemFault}
+use Rattle.cam_objects.specs.declared.item_fault.ItemFault.TheVariants.{Malformed, UnknownAperture, UnknownTool, WrongAperture, ZeroRadius, OutOfBoard, TooMuch}
+use Rattle.cam_objects.specs.Drilling.{diameter_of}
+use Rattle.cam_objects.specs.DrillSoundness.{DrillGrowthLaw, IsSoundDrillItem, IsSoundDrillLayer, IsSoundTool, KeepsDrillLimits, MayAddTool, tool_of}
+
+one_more : {X : Type 0} (P : X → Type 0) (xs : List X) (x : X) → All P xs → P x → All P (xs ++ x ∷ [])
+one_more P xs x all here = All-append P xs (x ∷ []) all (All-cons P x [] here (All-nil P))
+
+known_more : (tools more : List (ℕ × Nm)) (n : ℕ) → is_some (diameter_of tools n) ≡ true → is_some (diameter_of (tools ++ more) n) ≡ true
+known_more [] more n h = cc
+known_more (t ∷ ts) more n h = by (nat_eq n t.0) (known_more ts more n) h
+  where
+    by : (b : Bool) → (is_some (lookup (nat_eq n) ts) ≡ true → is_some (lookup (nat_eq n) (ts ++ more)) ≡ true)
+        → is_some (cond b (Some t.1) (lookup (nat_eq n) ts)) ≡ true → is_some (cond b (Some t.1) (lookup (nat_eq n) (ts ++ more))) ≡ true
+    by true rest e = refl
+    by false rest e = rest e
+
+sound_more : (tools more : List (ℕ × Nm)) (item : DrillItem) → IsSoundDrillItem tools item → IsSoundDrillItem (tools ++ more) item
+sound_more tools more item h Malformed = h Malformed
+sound_more tools more item h UnknownAperture = tt
+sound_more tools more item h UnknownTool = known_more tools more (tool_of item) (h UnknownTool)
+sound_more tools more item h WrongAperture = tt
+sound_more tools more item h ZeroRadius = tt
+sound_more tools more item h OutOfBoard = h OutOfBoard
+sound_more tools more item h TooMuch = h TooMuch
+
+abbrev AreSound : List (ℕ × Nm) → List DrillItem → Type 0
+AreSound tools items = All (IsSoundDrillItem tools) items
+
+abbrev AreTools : List (ℕ × Nm) → Type 0
+AreTools tools = All (λ (e : ℕ × Nm). IsSoundTool e.0 e.1) tools
+
+pub drill_growth : DrillGrowthLaw
+drill_growth = record {
+  push = λ l m item sound good room tools items. record {
+    tools = subst AreTools (sym tools) sound.tools;
+    items = subst (λ (ts : List (ℕ × Nm)). AreSound ts m.items.items) (sym tools)
+        (subst (λ (is : List DrillItem). AreSound l.tools is) (sym items) (one_more (IsSoundDrillItem l.tools) l.items.items item sound.items good));
+    limits = subst KeepsDrillLimits (sym items) room;
+  };
+  add_tool = λ l m tool diameter sound may tools items. record {
+    tools = subst AreTools (sym tools) (one_more (λ (e : ℕ × Nm). IsSoundTool e.0 e.1) l.tools (tool, diameter) sound.tools may.sound);
+    items = subst (λ (ts : List (ℕ × Nm)). AreSound ts m.items.items) (sym tools)
+        (subst (λ (is : List DrillItem). AreSound (l.tools ++ (tool, diameter) ∷ []) is) (sym items)
+        (All-weaker (IsSoundDrillItem l.tools) (IsSoundDrillItem (l.tools ++ (tool, diameter) ∷ [])) (sound_more l.tools ((tool, diameter) ∷ [])) l.items.items sound.items));
+    limits = subst KeepsDrillLimits (sym items) sound.limits;
+  };
+}

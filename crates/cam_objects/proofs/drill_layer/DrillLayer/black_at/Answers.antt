@@ -1,0 +1,13 @@
+use Rattle.std.proofs.Common.{List, subst}
+use Rattle.cam_objects.specs.declared.drill_item.DrillItem.{DrillItem}
+use Rattle.cam_objects.specs.Drilling.{drill_leaves}
+use Rattle.cam_objects.specs.Image.{Inks}
+use Rattle.cam_objects.specs.Machinery.Inking.{dark_where}
+use Rattle.cam_objects.proofs.DrillInking.{black_from_test}
+use Rattle.cam_objects.proofs.drill_layer.DrillLayer.black_at.Goals as goal
+
+pub returns : goal.returns
+returns c =
+    black_from_test c.args.spot (drill_leaves c.args.self.now.tools c.args.self.now.items.items) c.is_drilled.result
+    (subst (λ (items : List DrillItem). Inks (drill_leaves c.args.self.now.tools items) c.args.spot (dark_where c.is_drilled.result))
+    c.deref.ensures.value c.is_drilled.ensures)

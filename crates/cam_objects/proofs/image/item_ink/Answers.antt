@@ -1,0 +1,40 @@
+use Rattle.std.proofs.Common.{◌≡◌, ℕ, ◌+◌, List, pos, lit<, sym, subst, arith, FitsSigned, w64}
+use Rattle.std.proofs.lemmas.Int.{fits_signed_from_abs, to_z-of_z}
+use Rattle.cam_objects.specs.declared.item.Item.{Item}
+use Rattle.cam_objects.specs.declared.item.Item.TheVariants.{Repeat}
+use Rattle.cam_objects.specs.declared.object.Object.{Object}
+use Rattle.cam_objects.specs.declared.place.Place.{Place}
+use Rattle.cam_objects.specs.Image.{Inks}
+use Rattle.cam_objects.specs.Leaves.{Meaning, item_leaves, meaning_in, object_leaves, origin, repeat_leaves}
+use Rattle.cam_objects.specs.Machinery.Painting.{IsPaintable, IsPaintableItem, IsReady, meaning_before}
+use Rattle.cam_objects.proofs.Painting.{meaning_whole, paintable_copy}
+use Rattle.cam_objects.proofs.image.item_ink.Goals as goal
+
+pub object_ink-requires-clause-ready : goal.object_ink-requires-clause-ready
+object_ink-requires-clause-ready c =
+    let n = c.len.result in
+    let o = c.in-One.object in
+    let means = meaning_in c.args.entries.now in
+    let here = subst (λ (item : Item). IsReady c.args.entries.now c.args.spot (item_leaves means item)) c.in-One.is c.requires.ready in
+    let base = paintable_copy c.args.entries.now n c.args.spot (pos 0) (pos 0) (object_leaves means origin o) c.len.ensures.value (lit< tt) (lit< tt) here in
+    let named = subst (λ (m : ℕ → Meaning). IsPaintable c.args.entries.now n (n + 1) origin c.args.spot (object_leaves m origin o)) (sym (meaning_whole c.args.entries.now n c.len.ensures.value)) base in
+    subst (λ (q : Place). IsPaintable c.args.entries.now n (n + 1) q c.args.spot (object_leaves (meaning_before n c.args.entries.now) q o)) (sym c.shifted.ensures) named
+
+pub returns-in-One : goal.returns-in-One
+returns-in-One c =
+    let n = c.len.result in
+    let o = c.in-One.object in
+    let ink = c.object_ink.result in
+    let placed = subst (λ (q : Place). Inks (object_leaves (meaning_before n c.args.entries.now) q o) c.args.spot ink) c.shifted.ensures c.object_ink.ensures in
+    let whole = subst (λ (m : ℕ → Meaning). Inks (object_leaves m origin o) c.args.spot ink) (meaning_whole c.args.entries.now n c.len.ensures.value) placed in
+    subst (λ (item : Item). Inks (item_leaves (meaning_in c.args.entries.now) item) c.args.spot ink) (sym c.in-One.is) whole
+
+pub returns-in-Repeat : goal.returns-in-Repeat
+returns-in-Repeat c =
+    let r = c.in-Repeat in
+    let item : IsPaintableItem (Repeat r.columns r.rows r.i r.j r.objects) = subst IsPaintableItem r.is c.requires.item in
+    let fi : FitsSigned w64 r.i = fits_signed_from_abs w64 r.i (omega (arith, item.0.short)) in
+    let fj : FitsSigned w64 r.j = fits_signed_from_abs w64 r.j (omega (arith, item.1.short)) in
+    let inks = simp to_z-of_z at c.repeat_ink.ensures in
+    subst (λ (x : Item). Inks (item_leaves (meaning_in c.args.entries.now) x) c.args.spot c.repeat_ink.result) (sym r.is)
+    (subst (λ (os : List Object). Inks (repeat_leaves (meaning_in c.args.entries.now) r.columns r.rows r.i r.j os) c.args.spot c.repeat_ink.result) c.as_slice.ensures inks)

@@ -1,0 +1,53 @@
+-- What the search for the last leaf asks of a place and of the leaves that are painted there.
+use Rattle.std.specs.Prelude.{ℕ, ◌+◌, ◌*◌, ◌^◌, ◌<◌, ◌≤◌, ℤ, List, length, reverse, take, All}
+use Rattle.std.specs.Int.RustNames.{unsigned_abs}
+use Rattle.cam_units.specs.Board.{IsOnBoard, IsPlace}
+use Rattle.cam_units.specs.declared.point.Spot.{Spot}
+use Rattle.cam_objects.specs.declared.object.Object.{Object}
+use Rattle.cam_objects.specs.declared.entry.Entry.{Entry}
+use Rattle.cam_objects.specs.declared.item.Item.{Item}
+use Rattle.cam_objects.specs.declared.item.Item.TheVariants.{One, Repeat}
+use Rattle.cam_objects.specs.declared.place.Place.{Place}
+use Rattle.cam_objects.specs.Leaves.{Leaf, Meaning, meaning}
+use Rattle.cam_objects.specs.Soundness.{AreOnBoard, IsSoundDictionary, points_of}
+
+-- what the first k entries of a dictionary mean
+abbrev pub meaning_before : ℕ → List (ℕ × Entry) → ℕ → Meaning
+meaning_before k entries = meaning (reverse (take k entries))
+
+abbrev pub flash_leaves : ℕ → List (ℕ × Entry) → ℕ → Place → List Leaf
+flash_leaves k entries n p = (meaning_before k entries n).flash p
+
+-- the object's control points lie on the board, as they stand
+abbrev pub StandsOnBoard : Object → Type 0
+StandsOnBoard o = All IsOnBoard (points_of o)
+
+-- the offset of a place leaves room for n more points of the board
+unfoldable pub HasReach : ℕ → Place → Type 0
+HasReach n p =
+    (unsigned_abs p.offset.x + n * 1000000000 < 2 ^ 62) × (unsigned_abs p.offset.y + n * 1000000000 < 2 ^ 62)
+
+-- what is asked of a place at which leaves are painted, with n more placements to come
+pub record IsPaintable (entries : List (ℕ × Entry)) (upto n : ℕ) (p : Place) (s : Spot) (leaves : List Leaf) : Type 0 where
+  pub within : upto ≤ length entries
+  pub sound : IsSoundDictionary entries
+  pub board : AreOnBoard leaves
+  pub reach : HasReach n p
+  pub spot : IsPlace s
+
+-- what is asked of a dictionary, a place and the leaves that are painted as they stand
+pub record IsReady (entries : List (ℕ × Entry)) (s : Spot) (leaves : List Leaf) : Type 0 where
+  pub few : length entries ≤ 2 ^ 31
+  pub sound : IsSoundDictionary entries
+  pub board : AreOnBoard leaves
+  pub spot : IsPlace s
+
+-- n copies of objects, each a step from the one before
+pub record IsCopied (n : ℕ) (step : ℤ) (objects : List Object) : Type 0 where
+  pub copies : n ≤ 4000000
+  pub short : unsigned_abs step < 1000000000
+  pub points : All StandsOnBoard objects
+
+abbrev pub IsPaintableItem : Item → Type 0
+IsPaintableItem (One o) = StandsOnBoard o
+IsPaintableItem (Repeat columns rows i j objects) = IsCopied columns i objects × IsCopied rows j objects

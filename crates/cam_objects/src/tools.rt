@@ -1,0 +1,95 @@
+//! The tools of a drill layer.
+
+ghost use Rattle.std.specs.Prelude.{◌≡◌, ◌==◌, ◌++◌, ◌∷◌, [], None, IfOk, OnErr, OnOk, length, nat_eq, slice_get};
+ghost use Rattle.std.specs.List.{IsDistinct};
+ghost use Rattle.std.specs.Map.{keys_of};
+ghost use Rattle.cam_objects.specs.Drilling.{diameter_of};
+
+use cam_units::Nm;
+use indexmap::IndexMap;
+use std::alloc::{AllocError, Global};
+use std::marker::Model;
+
+/// The tools of a drill layer in their order: the diameter of each number, in nm. No number stands
+/// twice.
+#[derive(Drop)]
+pub struct Tools {
+    map: IndexMap<u16, Nm>,
+}
+
+impl Model for Tools {
+    ghost use Rattle.std.specs.Prelude.{List, ℕ};
+    ghost use Rattle.cam_units.specs.declared.length.Nm.{Nm};
+
+    ghost Value = { List (ℕ × Nm) };
+
+    ghost use Rattle.std.specs.Prelude.{nat_eq};
+    ghost use Rattle.std.specs.Map.{keys_of};
+    ghost use Rattle.std.specs.List.{IsDistinct};
+
+    ghost view = { λ t. t.map.entries };
+
+    ghost invariant = { λ t. IsDistinct nat_eq (keys_of t.map.entries) };
+}
+
+impl Tools {
+    /// No tool.
+    pub fn new(alloc: Global) -> Tools
+        ensures { result ≡ [] }
+    {
+        Tools {
+            map: IndexMap::new(alloc),
+        }
+    }
+
+    /// How many tools there are.
+    pub fn len(&self) -> usize
+        ensures value { result ≡ length self.now }
+        ensures distinct { IsDistinct nat_eq (keys_of self.now) }
+    {
+        self.map.len()
+    }
+
+    /// Whether there is no tool.
+    pub fn is_empty(&self) -> bool
+        ensures { result ≡ (length self.now == 0) }
+    {
+        self.map.is_empty()
+    }
+
+    /// The diameter of a tool, in nm.
+    pub fn get(&self, tool: u16) -> Option<Nm>
+        ensures { result ≡ diameter_of self.now tool }
+    {
+        self.map.get(&tool).copied()
+    }
+
+    /// The number and the diameter of the tool at a place in their order, counted from 0.
+    pub fn at(&self, place: usize) -> Option<(u16, Nm)>
+        ensures { result ≡ slice_get self.now place }
+    {
+        match self.map.get_index(place) {
+            Some((tool, diameter)) => Some((*tool, *diameter)),
+            None => None,
+        }
+    }
+
+    /// Adds a tool behind the others; refused for want of memory alone.
+    pub fn push(&mut self, tool: u16, diameter: Nm) -> Result<(), AllocError>
+        requires { diameter_of self.old tool ≡ None }
+        ensures ok { OnOk result (self.new ≡ self.old ++ (tool, diameter) ∷ []) }
+        ensures err { OnErr result (self.new ≡ self.old) }
+    {
+        self.map.insert(tool, diameter)?;
+        Ok(())
+    }
+
+    /// A copy; an error where no memory is left for it.
+    pub fn try_clone(&self) -> Result<Tools, AllocError>
+        ensures { IfOk result (λ tools. tools ≡ self.now) }
+    {
+        Ok(Tools {
+            map: self.map.clone()?,
+        })
+    }
+}
