@@ -1,0 +1,11 @@
+pub mod Kept
+pub mod Heads
+pub mod Runs
+pub mod Counting
+pub mod Naturals
+pub mod Fractions
+pub mod CodeNumbers
+pub mod NameLetters
+pub mod Written
+pub mod NameLaws
+pub mod OperationTexts

@@ -1,0 +1,34 @@
+//! What the words of a Gerber file say (Ucamco's "Gerber Layer Format Specification").
+//!
+//! ```text
+//! let mut words = Words::new(b"%MOMM*%X10Y-20D03*");
+//! // SetUnit { unit: Mm, style: Extended }, then Operate(Operation { x: Written(10), y: Written(-20), .. })
+//! while let Some(answer) = words.next() {
+//!     let command = command_of(answer?);
+//! }
+//! ```
+//!
+//! A command borrows its texts from the word and takes no memory. What a word says stands in `specs/`:
+//! `Commands` has the commands as plain data, `Numbers` and `Fields` what they are written with,
+//! `WordCommands` and `ExtendedCommands` every form, and `Syntax` puts them together. Where the letters of a
+//! command, their order and its separators are those of a form, the form is known, and a number that does not
+//! fit its grammar is told as such; any other text is an unknown command.
+#![tactic(auto)]
+
+mod command;
+mod extended;
+mod field;
+mod laws;
+mod names;
+mod numbers;
+mod old_forms;
+mod parts;
+mod syntax;
+mod text;
+mod words;
+
+pub use command::Command;
+pub use laws::{names_decide, operations_are_written, words_say_their_parts};
+pub use names::FreeText;
+pub use parts::{Format, Mirror, Mode, Operation, OperationCode, Polarity, Repeat, Slot, Style};
+pub use syntax::{command_of, place_of};

@@ -1,0 +1,11 @@
+pub mod Cuttings
+pub mod Digits
+pub mod Packing
+pub mod Declaring
+pub mod FaultTables
+pub mod Readings
+pub mod Places
+pub mod LeastFaults
+pub mod ToolNumbers
+pub mod SoundLayers
+pub mod SoundReadings

@@ -1,0 +1,9 @@
+pub mod Bytes
+pub mod Lines
+pub mod Numbers
+pub mod Syntax
+pub mod DrillState
+pub mod Faults
+pub mod Reading
+pub mod Laws
+pub mod Machinery

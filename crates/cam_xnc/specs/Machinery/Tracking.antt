@@ -1,0 +1,46 @@
+-- What the reader's running state has to do with the past.
+use Rattle.std.specs.Prelude.{◌≡◌, ℕ, ℤ, [], ◌∷◌, Option, Some, None, Result, Ok, Err, unwrap_or, if◌then◌else◌}
+use Rattle.std.specs.Option.{option_map}
+use Rattle.cam_units.specs.declared.length.Unit.{Unit as FileUnit}
+use Rattle.cam_units.specs.declared.point.Point.{Point}
+use Rattle.cam_xnc.specs.declared.statement.Coordinate.{Coordinate}
+use Rattle.cam_xnc.specs.declared.statement.Statement.{Statement}
+use Rattle.cam_xnc.specs.declared.state.DrillState.{DrillState}
+use Rattle.cam_xnc.specs.declared.state.Stop.{Stop}
+use Rattle.cam_xnc.specs.declared.state.Stop.TheVariants.{Memory, Fault}
+use Rattle.cam_xnc.specs.DrillState.{Past, part_in, unit_in, mode_in, tool_in, point_in, points_in, tools_in, items_in, leaves_in, value_told, length_nm}
+use Rattle.cam_xnc.specs.Faults.{Table}
+
+-- the state has the values of the past
+pub record Tracks (past : Past) (s : DrillState) : Type 0 where
+  pub part : s.part ≡ part_in past
+  pub unit : s.unit ≡ unit_in past
+  pub mode : s.mode ≡ mode_in past
+  pub tool : s.tool ≡ tool_in past
+  pub at : s.at ≡ point_in past
+  pub points : s.points.items ≡ points_in past
+  pub tools : s.layer.tools ≡ tools_in past
+  pub items : s.layer.items.items ≡ items_in past
+  pub leaves : s.leaves.count ≡ leaves_in past
+
+-- the first number that holds: the least, where the numbers ascend
+abbrev pub first_of : Table → Option ℕ
+first_of [] = None
+first_of (fault ∷ others) = if fault.1 then Some fault.0 else first_of others
+
+-- no fault of the table and what then holds, or the first one
+abbrev pub Answers : Result (Unit {0}) Stop → Table → Type 0 → Type 0
+Answers (Ok done) table P = (first_of table ≡ None) × P
+Answers (Err Memory) table P = Unit {0}
+Answers (Err (Fault code)) table P = first_of table ≡ Some code
+
+-- one more line, which says this, refused for the first of these faults or obeyed
+abbrev pub Obeys : (Past → Statement → Table) → Statement → DrillState → Result (Unit {0}) Stop → DrillState → Type 0
+Obeys table says old result new = (past : Past) → Tracks past old → Answers result (table past says) (Tracks (says ∷ past) new)
+
+-- the coordinate that a line leaves
+abbrev pub moved : Option FileUnit → Coordinate → ℤ → ℤ
+moved unit coordinate old = unwrap_or (option_map (length_nm unit) (value_told coordinate)) old
+
+abbrev pub moved_point : Option FileUnit → Coordinate → Coordinate → Point → Point
+moved_point unit x y from = record { x = moved unit x from.x; y = moved unit y from.y }

@@ -1,0 +1,93 @@
+-- What the lines of an XNC file say. XNC Format Specification, "Header", "Drilling" and "Routing".
+use Rattle.std.specs.Prelude.{ℕ, ℤ, List, [], ◌∷◌, length, take, drop, nat_eq, codes, Option, Some, None, Bool, ◌==◌, ◌||◌, ◌&&◌, not, is_none, if◌then◌else◌}
+use Rattle.std.specs.List.{prefix_len, starts_with, list_any}
+use Rattle.std.specs.Str.{bytes_eq}
+use Rattle.std.specs.Char.{is_ascii_digit}
+use Rattle.cam_units.specs.declared.length.Unit.TheVariants.{Mm, Inch}
+use Rattle.cam_xnc.specs.declared.statement.Statement.{Statement}
+use Rattle.cam_xnc.specs.declared.statement.Statement.TheVariants.{BeginHeader, SetUnit, Declare, Neutral, EndHeader, Select, DrillMode, HitAt, RoutTo, Lower, CutTo, Raise, CutArc, End, Unknown}
+use Rattle.cam_xnc.specs.declared.statement.Coordinate.{Coordinate}
+use Rattle.cam_xnc.specs.declared.statement.Coordinate.TheVariants.{Omitted, Malformed, Pointless, Written}
+use Rattle.cam_xnc.specs.Numbers.{is_numeric, decimal, is_pointed, is_whole, selected_tool, declared_tool}
+
+-- the run of digits, signs and points at the front of a text
+abbrev pub run_of : List ℕ → List ℕ
+run_of text = take (prefix_len is_numeric text) text
+
+abbrev pub behind_run : List ℕ → List ℕ
+behind_run text = drop (prefix_len is_numeric text) text
+
+-- a field, which is a letter and its run: the run, where the letter stands at the front of a text, and what follows
+unfoldable pub field : ℕ → List ℕ → Option (List ℕ) × List ℕ
+field letter [] = (None, [])
+field letter (first ∷ text) = if first == letter then (Some (run_of text), behind_run text) else (None, first ∷ text)
+
+abbrev pub written : Option ℤ → Coordinate
+written None = Malformed
+written (Some n) = Written n
+
+-- what a line says of X or of Y; without a point the digits do not say where they lie. "Coordinates"
+unfoldable pub coordinate : Option (List ℕ) → Coordinate
+coordinate None = Omitted
+coordinate (Some run) = if is_pointed run then written (decimal run) else if is_whole run then Pointless else Malformed
+
+-- X (88) and Y (89) in this order, of which one may be missing, and nothing else
+unfoldable pub coordinates_of : List ℕ → Option (Coordinate × Coordinate)
+coordinates_of text =
+    let x = field 88 text in
+    let y = field 89 x.1 in
+    if (length y.1 == 0) && not (is_none x.0 && is_none y.0) then Some (coordinate x.0, coordinate y.0) else None
+
+-- what is said with coordinates, where they stand there
+abbrev pub with_coordinates : (Coordinate → Coordinate → Statement) → Option (Coordinate × Coordinate) → Statement
+with_coordinates says None = Unknown
+with_coordinates says (Some coordinates) = says coordinates.0 coordinates.1
+
+-- what stands behind the number of a tool: nothing, or C (67) and the run of its diameter
+unfoldable pub tool_by : List ℕ → List ℕ → Statement
+tool_by number [] = Select (selected_tool number)
+tool_by number (first ∷ size) =
+    if (first == 67) && (length (behind_run size) == 0) then Declare (declared_tool number) (decimal size) else Unknown
+
+-- what stands behind T. "Tool declaration" and "Tool selection"
+unfoldable pub tool_statement : List ℕ → Statement
+tool_statement text = tool_by (run_of text) (behind_run text)
+
+-- the statements that are one word, and what each says
+abbrev pub header_words : List (List ℕ × Statement)
+header_words =
+    (codes "M48", BeginHeader) ∷ (codes "METRIC", SetUnit Mm) ∷ (codes "METRIC,LZ", SetUnit Mm) ∷ (codes "METRIC,TZ", SetUnit Mm)
+    ∷ (codes "INCH", SetUnit Inch) ∷ (codes "INCH,LZ", SetUnit Inch) ∷ (codes "INCH,TZ", SetUnit Inch) ∷ (codes "%", EndHeader) ∷ []
+
+abbrev pub body_words : List (List ℕ × Statement)
+body_words = (codes "FMAT,2", Neutral) ∷ (codes "G90", Neutral) ∷ (codes "G05", DrillMode) ∷ (codes "M15", Lower) ∷ (codes "M16", Raise) ∷ (codes "M30", End) ∷ []
+
+abbrev pub word_in : List (List ℕ × Statement) → List ℕ → Option Statement
+word_in [] text = None
+word_in (word ∷ others) text = if bytes_eq text word.0 then Some word.1 else word_in others text
+
+-- a G code of two digits, and no third
+abbrev pub begins_with_code : List ℕ → List ℕ → Bool
+begins_with_code code text = starts_with nat_eq text code && not (list_any is_ascii_digit (take 1 (drop 3 text)))
+
+-- a rout's lines with coordinates: `G00`, `G01`, and `G02` or `G03` with anything
+unfoldable pub rout_statement : List ℕ → Statement
+rout_statement text =
+    if starts_with nat_eq text (codes "G00") then with_coordinates RoutTo (coordinates_of (drop 3 text))
+    else if starts_with nat_eq text (codes "G01") then with_coordinates CutTo (coordinates_of (drop 3 text))
+    else if begins_with_code (codes "G02") text || begins_with_code (codes "G03") text then CutArc
+    else Unknown
+
+abbrev pub word_or : Option Statement → Statement → Statement
+word_or None otherwise = otherwise
+word_or (Some says) otherwise = says
+
+-- a line that begins neither with a coordinate nor with a tool
+unfoldable pub other_statement : List ℕ → Statement
+other_statement text = word_or (word_in body_words text) (word_or (word_in header_words text) (rout_statement text))
+
+-- what a line says, without its comment and its skipped bytes; T is 84
+unfoldable pub statement_of : List ℕ → Statement
+statement_of [] = Unknown
+statement_of (first ∷ text) =
+    if (first == 88) || (first == 89) then with_coordinates HitAt (coordinates_of (first ∷ text)) else if first == 84 then tool_statement text else other_statement (first ∷ text)

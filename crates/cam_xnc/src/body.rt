@@ -1,0 +1,306 @@
+//! Lines of the body.
+
+ghost use Rattle.std.specs.Prelude.{◌≡◌, ◌+◌, ◌≤◌, ◌∷◌, ◌||◌, false, IfNone};
+ghost use Rattle.cam_xnc.specs.declared.statement.Statement.TheVariants as statement;
+ghost use Rattle.cam_objects.specs.DrillSoundness.{drill_count_from};
+ghost use Rattle.cam_xnc.specs.DrillState.{Past, mode_in};
+ghost use Rattle.cam_xnc.specs.Faults.{body_faults, cut_faults, hit_faults, is_drilling, is_lowered, is_malformed, is_on_board, is_pointless, is_raised, is_too_much};
+ghost use Rattle.cam_xnc.specs.Machinery.Tracking.{Obeys, Tracks, first_of, moved, moved_point};
+
+use crate::faults;
+use crate::modes::Mode;
+use crate::state::{DrillState, Stop};
+use crate::statement::{Coordinate, Statement};
+use cam_objects::{DrillItem, Points};
+use cam_units::{Nm, Point, Unit, fits_board, fix9_nm};
+use std::mem;
+
+/// How many items a layer may have, and how many points a rout.
+const ITEM_LIMIT: usize = 1_000_000;
+
+fn is_malformed(coordinate: Coordinate) -> bool
+    ensures { result ≡ is_malformed coordinate }
+{
+    matches!(coordinate, Coordinate::Malformed)
+}
+
+fn is_pointless(coordinate: Coordinate) -> bool
+    ensures { result ≡ is_pointless coordinate }
+{
+    matches!(coordinate, Coordinate::Pointless)
+}
+
+fn is_drilling(mode: Mode) -> bool
+    ensures { result ≡ is_drilling mode }
+{
+    matches!(mode, Mode::Drilling)
+}
+
+fn is_raised(mode: Mode) -> bool
+    ensures { result ≡ is_raised mode }
+{
+    matches!(mode, Mode::Raised)
+}
+
+fn is_lowered(mode: Mode) -> bool
+    ensures { result ≡ is_lowered mode }
+{
+    matches!(mode, Mode::Lowered)
+}
+
+fn are_malformed(x: Coordinate, y: Coordinate) -> bool
+    ensures { result ≡ (is_malformed x || is_malformed y) }
+{
+    is_malformed(x) || is_malformed(y)
+}
+
+fn are_pointless(x: Coordinate, y: Coordinate) -> bool
+    ensures { result ≡ (is_pointless x || is_pointless y) }
+{
+    is_pointless(x) || is_pointless(y)
+}
+
+/// The coordinate that a line leaves, in nm; before the unit lengths are as in mm.
+#[tactic(auto, unfolding(crate::specs::DrillState::length_nm))]
+fn moved(unit: Option<Unit>, coordinate: Coordinate, old: Nm) -> Nm
+    ensures { result.0 ≡ moved unit coordinate old.0 }
+{
+    match coordinate {
+        Coordinate::Omitted | Coordinate::Malformed | Coordinate::Pointless => old,
+        Coordinate::Written(n) => fix9_nm(n, unit.unwrap_or(Unit::Mm)),
+    }
+}
+
+/// The point that a line leaves.
+fn moved_point(unit: Option<Unit>, x: Coordinate, y: Coordinate, from: Point) -> Point
+    ensures { result ≡ moved_point unit x y from }
+{
+    Point {
+        x: moved(unit, x, Nm(from.x)).0,
+        y: moved(unit, y, Nm(from.y)).0,
+    }
+}
+
+fn is_on_board(point: Point) -> bool
+    ensures { result ≡ is_on_board point }
+{
+    fits_board(point)
+}
+
+/// How many holes and slots a rout of these points is.
+fn rout_leaves(points: &[Point]) -> usize
+    ensures { result ≡ drill_count_from points.now }
+{
+    match points.len() {
+        0 => 0,
+        1 => 1,
+        len => len - 1,
+    }
+}
+
+impl DrillState {
+    /// Whether the layer with one item more, of so many holes and slots, is past a limit.
+    fn is_too_much(&self, more: usize) -> bool
+        ensures past { (past : Past) → Tracks past self.now → result ≡ is_too_much past more }
+        ensures room { result ≡ false → self.now.leaves.count + more ≤ 4000000 }
+    {
+        if self.layer.items.len() >= ITEM_LIMIT {
+            return true;
+        }
+        !self.leaves.has_room(more)
+    }
+
+    fn select(&mut self, number: Option<u16>) -> Result<(), Stop>
+        ensures { Obeys body_faults (statement.Select number) self.old result self.new }
+    {
+        let Some(number) = number else {
+            return Err(Stop::Fault(faults::BAD_NUMBER));
+        };
+        if number != 0 && self.layer.tools.get(number).is_none() {
+            return Err(Stop::Fault(faults::UNKNOWN_TOOL));
+        }
+        if is_lowered(self.mode) {
+            return Err(Stop::Fault(faults::ROUT_STATE));
+        }
+        self.tool = if number == 0 { None } else { Some(number) };
+        Ok(())
+    }
+
+    fn drill_mode(&mut self) -> Result<(), Stop>
+        ensures { Obeys body_faults statement.DrillMode self.old result self.new }
+    {
+        if is_lowered(self.mode) {
+            return Err(Stop::Fault(faults::ROUT_STATE));
+        }
+        self.mode = Mode::Drilling;
+        Ok(())
+    }
+
+    /// The fault of a hit.
+    fn hit_fault(&self, x: Coordinate, y: Coordinate, to: Point) -> Option<u8>
+        ensures first { (past : Past) → Tracks past self.now
+            → result ≡ first_of (hit_faults past x y to (mode_in past)) }
+        ensures room { IfNone result (self.now.leaves.count + 1 ≤ 4000000) }
+    {
+        if are_malformed(x, y) {
+            return Some(faults::BAD_NUMBER);
+        }
+        if !is_on_board(to) {
+            return Some(faults::OUT_OF_BOARD);
+        }
+        if !is_drilling(self.mode) {
+            if self.tool.is_none() {
+                return Some(faults::NO_TOOL_SELECTED);
+            }
+            if are_pointless(x, y) {
+                return Some(faults::NO_POINT);
+            }
+            return Some(faults::ROUT_STATE);
+        }
+        if self.is_too_much(1) {
+            return Some(faults::TOO_MUCH);
+        }
+        if self.tool.is_none() {
+            return Some(faults::NO_TOOL_SELECTED);
+        }
+        if are_pointless(x, y) {
+            return Some(faults::NO_POINT);
+        }
+        None
+    }
+
+    fn hit_at(&mut self, x: Coordinate, y: Coordinate) -> Result<(), Stop>
+        ensures { Obeys body_faults (statement.HitAt x y) self.old result self.new }
+    {
+        let at = moved_point(self.unit, x, y, self.at);
+        if let Some(code) = self.hit_fault(x, y, at) {
+            return Err(Stop::Fault(code));
+        }
+        let tool = self.tool.unwrap_or(0);
+        self.layer.items.push(DrillItem::Hit { tool, at })?;
+        self.leaves.add(1);
+        self.at = at;
+        Ok(())
+    }
+
+    fn rout_to(&mut self, x: Coordinate, y: Coordinate) -> Result<(), Stop>
+        ensures { Obeys body_faults (statement.RoutTo x y) self.old result self.new }
+    {
+        if are_malformed(x, y) {
+            return Err(Stop::Fault(faults::BAD_NUMBER));
+        }
+        let at = moved_point(self.unit, x, y, self.at);
+        if !is_on_board(at) {
+            return Err(Stop::Fault(faults::OUT_OF_BOARD));
+        }
+        if are_pointless(x, y) {
+            return Err(Stop::Fault(faults::NO_POINT));
+        }
+        if is_lowered(self.mode) {
+            return Err(Stop::Fault(faults::ROUT_STATE));
+        }
+        self.mode = Mode::Raised;
+        self.at = at;
+        Ok(())
+    }
+
+    fn lower(&mut self) -> Result<(), Stop>
+        ensures { Obeys body_faults statement.Lower self.old result self.new }
+    {
+        if self.tool.is_none() {
+            return Err(Stop::Fault(faults::NO_TOOL_SELECTED));
+        }
+        if !is_raised(self.mode) {
+            return Err(Stop::Fault(faults::ROUT_STATE));
+        }
+        let mut points = Vec::new(self.alloc);
+        points.push(self.at)?;
+        self.points = points;
+        self.mode = Mode::Lowered;
+        Ok(())
+    }
+
+    /// The fault of a cut.
+    fn cut_fault(&self, x: Coordinate, y: Coordinate, to: Point) -> Option<u8>
+        ensures { (past : Past) → Tracks past self.now
+            → result ≡ first_of (cut_faults past x y to (mode_in past)) }
+    {
+        if are_malformed(x, y) {
+            return Some(faults::BAD_NUMBER);
+        }
+        if !is_on_board(to) {
+            return Some(faults::OUT_OF_BOARD);
+        }
+        if !is_lowered(self.mode) {
+            if are_pointless(x, y) {
+                return Some(faults::NO_POINT);
+            }
+            return Some(faults::ROUT_STATE);
+        }
+        if self.points.len() >= ITEM_LIMIT {
+            return Some(faults::TOO_MUCH);
+        }
+        if are_pointless(x, y) {
+            return Some(faults::NO_POINT);
+        }
+        None
+    }
+
+    fn cut_to(&mut self, x: Coordinate, y: Coordinate) -> Result<(), Stop>
+        ensures { Obeys body_faults (statement.CutTo x y) self.old result self.new }
+    {
+        let at = moved_point(self.unit, x, y, self.at);
+        if let Some(code) = self.cut_fault(x, y, at) {
+            return Err(Stop::Fault(code));
+        }
+        self.points.push(at)?;
+        self.at = at;
+        Ok(())
+    }
+
+    fn raise(&mut self) -> Result<(), Stop>
+        ensures { Obeys body_faults statement.Raise self.old result self.new }
+    {
+        if !is_lowered(self.mode) {
+            return Err(Stop::Fault(faults::ROUT_STATE));
+        }
+        let more = rout_leaves(&self.points);
+        if self.is_too_much(more) {
+            return Err(Stop::Fault(faults::TOO_MUCH));
+        }
+        let tool = self.tool.unwrap_or(0);
+        let points = Points::from_vec(mem::replace(&mut self.points, Vec::new(self.alloc)));
+        self.layer.items.push(DrillItem::Rout { tool, points })?;
+        self.leaves.add(more);
+        self.mode = Mode::Raised;
+        Ok(())
+    }
+
+    fn end(&mut self) -> Result<(), Stop>
+        ensures { Obeys body_faults statement.End self.old result self.new }
+    {
+        if is_lowered(self.mode) {
+            return Err(Stop::Fault(faults::ROUT_STATE));
+        }
+        Ok(())
+    }
+
+    /// Takes what one more line of the body says.
+    pub fn obey_body(&mut self, statement: Statement) -> Result<(), Stop>
+        ensures { Obeys body_faults statement self.old result self.new }
+    {
+        match statement {
+            Statement::Neutral => Ok(()),
+            Statement::Select(number) => self.select(number),
+            Statement::DrillMode => self.drill_mode(),
+            Statement::HitAt { x, y } => self.hit_at(x, y),
+            Statement::RoutTo { x, y } => self.rout_to(x, y),
+            Statement::Lower => self.lower(),
+            Statement::CutTo { x, y } => self.cut_to(x, y),
+            Statement::Raise => self.raise(),
+            Statement::CutArc => Err(Stop::Fault(faults::ROUT_ARC)),
+            Statement::End => self.end(),
+            _ => Err(Stop::Fault(faults::UNKNOWN_LINE)),
+        }
+    }
+}

@@ -1,0 +1,102 @@
+//! Classes of bytes, and the places of bytes in a line.
+
+ghost use Rattle.std.specs.Prelude.{◌≡◌, ◌≤◌, ◌<◌, length, IfOk};
+ghost use Rattle.std.specs.List.{position_or_len, prefix_len, list_any};
+ghost use Rattle.cam_xnc.specs.Bytes.{is_line_end, is_semicolon, is_skipped, is_bad, is_blank, code_of, packed};
+ghost use Rattle.cam_xnc.specs.Machinery.Cutters.{end_len};
+
+use std::alloc::{AllocError, Global};
+
+fn is_line_end(byte: u8) -> bool
+    ensures { result ≡ is_line_end byte }
+{
+    matches!(byte, b'\n' | b'\r')
+}
+
+/// Whether the byte is a space or a tab.
+fn is_skipped(byte: u8) -> bool
+    ensures { result ≡ is_skipped byte }
+{
+    matches!(byte, b' ' | b'\t')
+}
+
+fn is_bad(byte: u8) -> bool
+    ensures { result ≡ is_bad byte }
+{
+    !is_skipped(byte) && !(byte >= 33 && byte <= 126)
+}
+
+/// How many bytes stand before the first line end, or the text's length where there is none.
+pub fn line_len(text: &[u8]) -> usize
+    ensures value { result ≡ position_or_len is_line_end text.now }
+    ensures within { result ≤ length text.now }
+{
+    text.iter().take_while(|byte| !is_line_end(**byte)).count()
+}
+
+/// How many bytes the line end has that stands at the front of a text.
+pub fn end_len(text: &[u8]) -> usize
+    ensures value { result ≡ end_len text.now }
+    ensures within { result ≤ length text.now }
+{
+    match text {
+        [] => 0,
+        [b'\r', b'\n', ..] => 2,
+        _ => 1,
+    }
+}
+
+/// How many bytes stand before the comment of a line, or its length where it has none.
+fn code_len(text: &[u8]) -> usize
+    ensures value { result ≡ position_or_len is_semicolon text.now }
+    ensures within { result ≤ length text.now }
+{
+    text.iter().take_while(|byte| **byte != b';').count()
+}
+
+/// The line without its comment.
+pub fn code_of(text: &[u8]) -> &[u8]
+    ensures value { result.now ≡ code_of text.now }
+    ensures within { length result.now ≤ length text.now }
+{
+    &text[..code_len(text)]
+}
+
+/// Whether there is nothing but skipped bytes.
+pub fn is_blank(text: &[u8]) -> bool
+    ensures { result ≡ is_blank text.now }
+{
+    text.iter().all(|byte| is_skipped(*byte))
+}
+
+/// How many skipped bytes the text begins with.
+pub fn leading_skipped(text: &[u8]) -> usize
+    ensures value { result ≡ prefix_len is_skipped text.now }
+    ensures within { result ≤ length text.now }
+{
+    text.iter().take_while(|byte| is_skipped(**byte)).count()
+}
+
+/// Whether the text holds a byte that no line holds outside its comment.
+pub fn holds_bad_byte(text: &[u8]) -> bool
+    ensures { result ≡ list_any is_bad text.now }
+{
+    text.iter().any(|byte| is_bad(*byte))
+}
+
+/// Whether the text holds a skipped byte.
+pub fn holds_skipped(text: &[u8]) -> bool
+    ensures { result ≡ list_any is_skipped text.now }
+{
+    text.iter().any(|byte| is_skipped(*byte))
+}
+
+/// The text without its skipped bytes.
+pub fn pack(alloc: Global, text: &[u8]) -> Result<Vec<u8>, AllocError>
+    ensures { IfOk result (λ v. v.items ≡ packed text.now) }
+{
+    text.iter()
+        .copied()
+        .filter(|byte| !is_skipped(*byte))
+        .collect(alloc)
+}

@@ -1,0 +1,46 @@
+//! Reads XNC drill files (Ucamco's "XNC Format Specification").
+//!
+//! [`read_xnc`] gives the drill layer of a file, or its first fault with its number and its place:
+//!
+//! ```text
+//! M48            the header begins
+//! METRIC         lengths are in mm
+//! T1C0.8         tool 1 is 0.8 mm wide
+//! %              the body begins
+//! T1             selects tool 1
+//! X1.0Y2.5       a hit at (1 mm, 2.5 mm)
+//! G00X3.0        to (3 mm, 2.5 mm), the start of a rout
+//! M15            lowers the tool
+//! G01Y4.0        cuts to (3 mm, 4 mm)
+//! M16            raises it: a slot
+//! M30            the end
+//! ```
+//!
+//! What a file means stands in `specs/`: `Lines` says how it is cut into lines, `Numbers` and `Syntax` what a line
+//! says, `DrillState` what is in force behind the lines so far, `Faults` what a line may be refused for, `Reading`
+//! what the whole file gives, and `Laws` what holds of that. `specs/Machinery/` ties the running state of the code
+//! to them.
+#![tactic(auto)]
+
+mod body;
+mod bytes;
+mod faults;
+mod header;
+mod laws;
+mod leaves;
+mod line;
+mod lines;
+mod modes;
+mod numbers;
+mod read_fault;
+mod reader;
+mod state;
+mod statement;
+mod syntax;
+
+pub use laws::{
+    layers_are_sound, layers_come_from_faultless_files, no_fault_of_memory, one_cutting_into_lines,
+    the_least_fault_is_told,
+};
+pub use read_fault::ReadFault;
+pub use reader::read_xnc;

@@ -1,0 +1,63 @@
+//! Reads drill layers.
+
+ghost use Rattle.std.specs.Prelude.{◌≡◌, IfOk};
+ghost use Rattle.cam_objects.specs.DrillSoundness.{IsSoundDrillLayer};
+ghost use Rattle.cam_xnc.specs.Reading.{IsReading, is_end_statement};
+
+use crate::bytes::{code_of, holds_bad_byte, is_blank, leading_skipped};
+use crate::faults;
+use crate::lines::Lines;
+use crate::read_fault::ReadFault;
+use crate::state::{DrillState, Stop};
+use crate::statement::Statement;
+use crate::syntax::statement_of;
+use cam_objects::DrillLayer;
+use std::alloc::Global;
+
+/// Whether the line is M30.
+fn is_end(statement: Statement) -> bool
+    ensures { result ≡ is_end_statement statement }
+{
+    matches!(statement, Statement::End)
+}
+
+/// The drill layer of an XNC file up to its first M30, or its first fault: that of the line
+/// which stands first, and of several at one line the one with the lowest number. Where
+/// memory is refused, the fault is number 30 at place 0. The layer is sound.
+///
+/// (XNC Format Specification, "Header", "Drilling" and "Routing".)
+pub fn read_xnc(alloc: Global, bytes: &[u8]) -> Result<DrillLayer, ReadFault>
+    ensures reads { IsReading bytes.now result }
+    ensures sound { IfOk result IsSoundDrillLayer }
+{
+    let mut state = DrillState::new(alloc);
+    let mut lines = Lines::new(bytes);
+    while let Some(line) = lines.next() {
+        let code = code_of(line.text);
+        if is_blank(code) {
+            continue;
+        }
+        let at = line.at + leading_skipped(code);
+        if holds_bad_byte(code) {
+            return Err(ReadFault {
+                code: faults::BAD_BYTE,
+                at,
+            });
+        }
+        let Ok(statement) = statement_of(alloc, code) else {
+            return Err(ReadFault::NO_MEMORY);
+        };
+        match state.obey(statement) {
+            Ok(()) => {}
+            Err(Stop::Memory) => return Err(ReadFault::NO_MEMORY),
+            Err(Stop::Fault(code)) => return Err(ReadFault { code, at }),
+        }
+        if is_end(statement) {
+            return Ok(state.into_layer());
+        }
+    }
+    Err(ReadFault {
+        code: state.end_fault(),
+        at: bytes.len(),
+    })
+}

@@ -1,0 +1,121 @@
+//! The state of a file, as one pass over its lines keeps it.
+
+ghost use Rattle.std.specs.Prelude.{◌≡◌, ◌∷◌, [], Some, None};
+ghost use Rattle.cam_xnc.specs.DrillState.{Past};
+ghost use Rattle.cam_xnc.specs.Faults.{end_faults, faults, is_malformed, is_pointless, start_of_file_faults};
+ghost use Rattle.cam_xnc.specs.Machinery.Tracking.{Obeys, Tracks, first_of, moved, moved_point};
+
+use crate::faults;
+use crate::leaves::Leaves;
+use crate::modes::{Mode, Part};
+use crate::statement::{Coordinate, Statement};
+use cam_objects::DrillLayer;
+use cam_units::{Point, Unit};
+use std::alloc::{AllocError, AllocFailed, Global};
+
+/// Why a line stops the reader: memory was refused, or a fault's number.
+#[derive(Debug, Drop)]
+pub enum Stop {
+    Memory,
+    Fault(u8),
+}
+
+impl From<AllocError> for Stop {
+    ghost use Rattle.std.specs.Prelude.{◌≡◌};
+    ghost use Rattle.cam_xnc.specs.declared.state.Stop.TheVariants.{Memory};
+
+    ghost from_gives = { λ _ stop. stop ≡ Memory };
+
+    fn from(_error: AllocError) -> Stop {
+        Stop::Memory
+    }
+}
+
+impl<T: Drop> From<AllocFailed<T>> for Stop {
+    ghost use Rattle.std.specs.Prelude.{◌≡◌};
+    ghost use Rattle.cam_xnc.specs.declared.state.Stop.TheVariants.{Memory};
+
+    ghost from_gives = { λ _ stop. stop ≡ Memory };
+
+    fn from(_error: AllocFailed<T>) -> Stop {
+        Stop::Memory
+    }
+}
+
+/// The values in force behind the lines so far, and the layer that they make.
+#[derive(Drop)]
+pub struct DrillState {
+    pub alloc: Global,
+    pub part: Part,
+    pub unit: Option<Unit>,
+    pub mode: Mode,
+    /// The number of the tool in force.
+    pub tool: Option<u16>,
+    /// The last point, in nm.
+    pub at: Point,
+    /// The points of the open rout.
+    pub points: Vec<Point>,
+    pub layer: DrillLayer,
+    pub leaves: Leaves,
+}
+
+impl DrillState {
+    /// Nothing is set, the last point is (0, 0), and the layer is empty.
+    pub fn new(alloc: Global) -> DrillState
+        ensures { Tracks [] result }
+    {
+        DrillState {
+            alloc,
+            part: Part::Start,
+            unit: None,
+            mode: Mode::Drilling,
+            tool: None,
+            at: Point { x: 0, y: 0 },
+            points: Vec::new(alloc),
+            layer: DrillLayer::new(alloc),
+            leaves: Leaves::new(),
+        }
+    }
+
+    /// The layer so far.
+    pub fn into_layer(self) -> DrillLayer
+        ensures { result ≡ self.layer }
+    {
+        self.layer
+    }
+
+    /// The first line: M48.
+    fn obey_first(&mut self, statement: Statement) -> Result<(), Stop>
+        ensures { Obeys (λ past. start_of_file_faults) statement self.old result self.new }
+    {
+        match statement {
+            Statement::BeginHeader => {
+                self.part = Part::Header;
+                Ok(())
+            }
+            _ => Err(Stop::Fault(faults::NO_HEADER)),
+        }
+    }
+
+    /// Takes what one more line says; it tells the line's fault of the lowest number, or that
+    /// memory was refused.
+    pub fn obey(&mut self, statement: Statement) -> Result<(), Stop>
+        ensures { Obeys faults statement self.old result self.new }
+    {
+        match self.part {
+            Part::Start => self.obey_first(statement),
+            Part::Header => self.obey_header(statement),
+            Part::Body => self.obey_body(statement),
+        }
+    }
+
+    /// The fault of an input that ends here, without M30.
+    pub fn end_fault(&self) -> u8
+        ensures { (past : Past) → Tracks past self.now → first_of (end_faults past) ≡ Some result }
+    {
+        match self.part {
+            Part::Start => faults::NO_HEADER,
+            Part::Header | Part::Body => faults::NO_END,
+        }
+    }
+}

@@ -1,0 +1,221 @@
+//! What the lines of a file say.
+
+ghost use Rattle.std.specs.Prelude.{◌≡◌, length, IfOk};
+ghost use Rattle.std.specs.Option.{option_copied};
+ghost use Rattle.cam_xnc.specs.Bytes.{packed};
+ghost use Rattle.cam_xnc.specs.Syntax.{field, coordinate, coordinates_of, tool_by, tool_statement, header_words, body_words, word_in, begins_with_code, rout_statement, other_statement, statement_of};
+
+use crate::bytes::{holds_skipped, pack};
+use crate::numbers::{decimal, declared_tool, is_pointed, is_whole, run_len, selected_tool};
+use crate::statement::{Coordinate, Statement};
+use cam_units::Unit;
+use std::alloc::{AllocError, Global};
+
+/// A letter's run of digits, signs and points, where the letter stands at the front of a
+/// text, and what follows.
+#[derive(Clone, Copy)]
+struct Field<'a> {
+    run: Option<&'a [u8]>,
+    behind: &'a [u8],
+}
+
+#[tactic(auto, unfolding(crate::specs::Syntax::field))]
+fn read_field<'a>(letter: u8, text: &'a [u8]) -> Field<'a>
+    ensures run { option_copied result.run ≡ (field letter text.now).0 }
+    ensures behind { result.behind.now ≡ (field letter text.now).1 }
+{
+    match text {
+        [first, rest @ ..] if *first == letter => {
+            let (run, behind) = rest.split_at(run_len(rest));
+            Field {
+                run: Some(run),
+                behind,
+            }
+        }
+        _ => Field {
+            run: None,
+            behind: text,
+        },
+    }
+}
+
+/// What a line says of X or of Y.
+#[tactic(auto, unfolding(crate::specs::Syntax::coordinate))]
+fn coordinate(run: Option<&[u8]>) -> Coordinate
+    ensures { result ≡ coordinate (option_copied run.entry) }
+{
+    let Some(run) = run else {
+        return Coordinate::Omitted;
+    };
+    if is_pointed(run) {
+        return match decimal(run) {
+            None => Coordinate::Malformed,
+            Some(n) => Coordinate::Written(n),
+        };
+    }
+    if is_whole(run) {
+        Coordinate::Pointless
+    } else {
+        Coordinate::Malformed
+    }
+}
+
+/// `X..Y..` and nothing else, one of them perhaps missing; `None` of any other text.
+#[tactic(auto, unfolding(crate::specs::Syntax::coordinates_of))]
+fn coordinates(text: &[u8]) -> Option<(Coordinate, Coordinate)>
+    ensures { result ≡ coordinates_of text.now }
+{
+    let x = read_field(b'X', text);
+    let y = read_field(b'Y', x.behind);
+    if !y.behind.is_empty() {
+        return None;
+    }
+    if x.run.is_none() && y.run.is_none() {
+        return None;
+    }
+    Some((coordinate(x.run), coordinate(y.run)))
+}
+
+/// What stands behind T: the number of a tool, and in its declaration C and its diameter.
+#[tactic(auto, unfolding(crate::specs::Syntax::tool_statement, crate::specs::Syntax::tool_by))]
+fn tool_statement(text: &[u8]) -> Statement
+    ensures { result ≡ tool_statement text.now }
+{
+    let (number, behind) = text.split_at(run_len(text));
+    match behind {
+        [] => Statement::Select(selected_tool(number)),
+        [b'C', size @ ..] if run_len(size) == size.len() => Statement::Declare {
+            number: declared_tool(number),
+            diameter: decimal(size),
+        },
+        _ => Statement::Unknown,
+    }
+}
+
+/// A statement of the header that is one word.
+fn header_word(text: &[u8]) -> Option<Statement>
+    ensures { result ≡ word_in header_words text.now }
+{
+    if text == b"M48".as_slice() {
+        return Some(Statement::BeginHeader);
+    }
+    if text == b"METRIC".as_slice()
+        || text == b"METRIC,LZ".as_slice()
+        || text == b"METRIC,TZ".as_slice()
+    {
+        return Some(Statement::SetUnit(Unit::Mm));
+    }
+    if text == b"INCH".as_slice()
+        || text == b"INCH,LZ".as_slice()
+        || text == b"INCH,TZ".as_slice()
+    {
+        return Some(Statement::SetUnit(Unit::Inch));
+    }
+    if text == b"%".as_slice() {
+        return Some(Statement::EndHeader);
+    }
+    None
+}
+
+/// A statement of the body that is one word.
+fn body_word(text: &[u8]) -> Option<Statement>
+    ensures { result ≡ word_in body_words text.now }
+{
+    if text == b"FMAT,2".as_slice() || text == b"G90".as_slice() {
+        return Some(Statement::Neutral);
+    }
+    if text == b"G05".as_slice() {
+        return Some(Statement::DrillMode);
+    }
+    if text == b"M15".as_slice() {
+        return Some(Statement::Lower);
+    }
+    if text == b"M16".as_slice() {
+        return Some(Statement::Raise);
+    }
+    if text == b"M30".as_slice() {
+        return Some(Statement::End);
+    }
+    None
+}
+
+/// Whether the text begins with the code, and no further digit.
+fn begins_with_code(text: &[u8], code: &[u8]) -> bool
+    requires { length code.now ≡ 3 }
+    ensures { result ≡ begins_with_code code.now text.now }
+{
+    if !text.starts_with(code) {
+        return false;
+    }
+    match &text[3..] {
+        [] => true,
+        [next, ..] => !next.is_ascii_digit(),
+    }
+}
+
+/// A line of a rout, `G00` to `G03`.
+#[tactic(auto, unfolding(crate::specs::Syntax::rout_statement))]
+fn rout_statement(text: &[u8]) -> Statement
+    ensures { result ≡ rout_statement text.now }
+{
+    if text.starts_with(b"G00") {
+        return match coordinates(&text[3..]) {
+            Some((x, y)) => Statement::RoutTo { x, y },
+            None => Statement::Unknown,
+        };
+    }
+    if text.starts_with(b"G01") {
+        return match coordinates(&text[3..]) {
+            Some((x, y)) => Statement::CutTo { x, y },
+            None => Statement::Unknown,
+        };
+    }
+    if begins_with_code(text, b"G02") {
+        return Statement::CutArc;
+    }
+    if begins_with_code(text, b"G03") {
+        return Statement::CutArc;
+    }
+    Statement::Unknown
+}
+
+/// A line that begins neither with a coordinate nor with a tool.
+#[tactic(auto, unfolding(crate::specs::Syntax::other_statement))]
+fn other_statement(text: &[u8]) -> Statement
+    ensures { result ≡ other_statement text.now }
+{
+    if let Some(statement) = body_word(text) {
+        return statement;
+    }
+    if let Some(statement) = header_word(text) {
+        return statement;
+    }
+    rout_statement(text)
+}
+
+/// What a packed line says.
+#[tactic(auto, unfolding(crate::specs::Syntax::statement_of))]
+fn packed_statement(text: &[u8]) -> Statement
+    ensures { result ≡ statement_of text.now }
+{
+    match text {
+        [] => Statement::Unknown,
+        [b'X' | b'Y', ..] => match coordinates(text) {
+            Some((x, y)) => Statement::HitAt { x, y },
+            None => Statement::Unknown,
+        },
+        [b'T', rest @ ..] => tool_statement(rest),
+        _ => other_statement(text),
+    }
+}
+
+/// What a line without its comment says. Takes memory only where it holds skipped bytes.
+#[tactic(auto, using(crate::proofs::Packing::packed_whole))]
+pub fn statement_of(alloc: Global, code: &[u8]) -> Result<Statement, AllocError>
+    ensures { IfOk result (λ statement. statement ≡ statement_of (packed code.now)) }
+{
+    if !holds_skipped(code) {
+        return Ok(packed_statement(code));
+    }
+    Ok(packed_statement(pack(alloc, code)?.as_slice()))
+}
