@@ -1,6 +1,7 @@
 //! Files in memory.
 
 ghost use Rattle.std.specs.Prelude.{◌≡◌, IfOk};
+ghost use Rattle.acceptance.specs.Memory.{IsEmpty};
 
 use crate::countdown::Countdown;
 use cam_station::{Bytes, FileFault, Files};
@@ -19,14 +20,18 @@ pub struct MemoryFiles {
 }
 
 impl MemoryFiles {
-    /// No file.
-    pub fn new(alloc: Global) -> MemoryFiles {
+    /// No file; no call is to fail.
+    pub fn new(alloc: Global) -> MemoryFiles
+        ensures { IsEmpty result 0 0 }
+    {
         MemoryFiles::failing(alloc, 0, 0)
     }
 
     /// No file; the get and the put of these numbers, counted from 1, are to fail, and none
     /// at 0.
-    pub fn failing(alloc: Global, get: u64, put: u64) -> MemoryFiles {
+    pub fn failing(alloc: Global, get: u64, put: u64) -> MemoryFiles
+        ensures { IsEmpty result get put }
+    {
         MemoryFiles {
             alloc,
             held: BTreeMap::new(alloc),
@@ -44,14 +49,41 @@ fn copy_of(alloc: Global, bytes: &[u8]) -> Result<Bytes, AllocError>
 }
 
 impl Files for MemoryFiles {
-    ghost use Rattle.std.specs.Prelude.{Some};
-    ghost use Rattle.std.specs.BTreeMap.{get_by_text};
+    ghost use Rattle.std.specs.Prelude.{◌≡◌, IfErr, IfOk, MatchResult, OnErr, OnOk};
+    ghost use Rattle.cam_station.specs.Contents.{
+      FailsIfAbsent,
+      HasRisenBy,
+      Holds,
+      MayHaveStored,
+      Stored,
+      failures_of,
+    };
+    ghost use Rattle.acceptance.specs.Memory.{
+      FailsBy,
+      IsAfterGet,
+      IsAfterPut,
+      KeepsFiles,
+      contents_of,
+      failed_calls,
+      get_of,
+      put_of,
+    };
 
-    ghost contents = { λ f. Some (λ path. get_by_text f.held path) };
+    ghost contents = { contents_of };
 
-    ghost failed = { λ f. f.failures };
+    ghost failed = { failed_calls };
 
-    fn get(&mut self, alloc: Global, path: &str) -> Result<Vec<u8>, FileFault> {
+    fn get(&mut self, alloc: Global, path: &str) -> Result<Vec<u8>, FileFault>
+        ensures kept { contents_of self.new ≡ contents_of self.old }
+        ensures held { IfOk result (λ bytes. Holds (contents_of self.old) path.now bytes.items) }
+        ensures absent { IfErr result (λ fault. FailsIfAbsent (contents_of self.old) path.now fault) }
+        ensures counted { HasRisenBy (failures_of result) (failed_calls self.old) (failed_calls self.new) }
+        // Memory alone can be wanting where the file is there.
+        ensures exact { MatchResult result
+            (λ bytes. get_of self.old path.now ≡ Ok bytes.items)
+            (FailsBy (get_of self.old path.now)) }
+        ensures left { IsAfterGet self.old self.new }
+    {
         if self.gets.strikes() {
             self.failures = self.failures.saturating_add(1);
             return Err(FileFault::Failed);
@@ -68,7 +100,18 @@ impl Files for MemoryFiles {
         }
     }
 
-    fn put(&mut self, path: &str, bytes: &[u8]) -> Result<(), FileFault> {
+    fn put(&mut self, path: &str, bytes: &[u8]) -> Result<(), FileFault>
+        ensures stored { OnOk result
+            (Stored (contents_of self.old) (contents_of self.new) path.now bytes.now) }
+        ensures lost { OnErr result
+            (MayHaveStored (contents_of self.old) (contents_of self.new) path.now) }
+        ensures counted { HasRisenBy (failures_of result) (failed_calls self.old) (failed_calls self.new) }
+        ensures exact { MatchResult result
+            (λ done. put_of self.old ≡ Ok done)
+            (FailsBy (put_of self.old)) }
+        ensures left { IsAfterPut self.old self.new }
+        ensures unchanged { OnErr result (KeepsFiles self.old self.new) }
+    {
         if self.puts.strikes() {
             self.failures = self.failures.saturating_add(1);
             return Err(FileFault::Failed);

@@ -1,15 +1,15 @@
 //! Whole scripts, run over files and an output in memory.
+//!
+//! A worked example is a row of a table in `tables`, and one loop plays them all. What a row cannot say, a call
+//! that fails or a text too long to write down, has a function of its own in `specials`.
 #![tactic(auto)]
 
 pub mod countdown;
 pub mod files;
-#[cfg(test)]
-mod histories;
-#[cfg(test)]
-mod limits;
 pub mod out;
-pub mod play;
 #[cfg(test)]
-mod plots;
+mod player;
 #[cfg(test)]
-mod refusals;
+mod specials;
+#[cfg(test)]
+mod tables;

@@ -1,0 +1,58 @@
+//! Plays the tables.
+
+use crate::files::MemoryFiles;
+use crate::out::MemoryOut;
+use crate::tables::histories::HISTORIES;
+use crate::tables::limits::LIMITS;
+use crate::tables::plots::PLOTS;
+use crate::tables::refusals::REFUSALS;
+use crate::tables::{File, Row};
+use cam_station::{Files, run};
+use std::alloc::Global;
+use std::process::Abort;
+use std::test::Fail;
+
+/// Files in memory that hold these.
+pub fn held(alloc: Global, found: &[File]) -> Result<MemoryFiles, Fail> {
+    let mut files = MemoryFiles::new(alloc);
+    for &(path, bytes) in found {
+        files.put(path, bytes)?;
+    }
+    Ok(files)
+}
+
+/// Whether the files are those that the row finds and those that it leaves.
+fn are_left(files: &MemoryFiles, row: &Row) -> bool {
+    for &(path, bytes) in row.written {
+        match files.held.get(path) {
+            Some(wrote) => {
+                if wrote.as_slice() != bytes {
+                    return false;
+                }
+            }
+            None => return false,
+        }
+    }
+    files.held.len() == row.files.len().saturating_add(row.written.len())
+}
+
+/// Runs the row's script and compares what comes of it.
+fn play(rt: &impl Abort, alloc: Global, row: &Row) -> Result<(), Fail> {
+    let mut files = held(alloc, row.files)?;
+    let mut out = MemoryOut::failing(alloc, 0);
+    let refused = run(alloc, row.depth, row.script, &mut files, &mut out)?;
+    assert_eq!(rt; out.said.as_slice(), row.replies, "{}", row.name);
+    assert!(rt; refused == row.refused, "{}", row.name);
+    assert!(rt; are_left(&files, row), "{}", row.name);
+    Ok(())
+}
+
+#[test]
+fn tables(rt: HostRuntime) -> Result<(), Fail> {
+    for table in [HISTORIES, LIMITS, PLOTS, REFUSALS] {
+        for row in table {
+            play(&rt, rt.alloc(), row)?;
+        }
+    }
+    Ok(())
+}

@@ -1,0 +1,135 @@
+//! What a row cannot say: texts too long to write down, and calls that fail.
+
+use crate::files::MemoryFiles;
+use crate::out::MemoryOut;
+use crate::player::held;
+use crate::tables::boards::{DISC, EMPTY};
+use cam_station::{Command, Files, Out, RunFault, Station, run};
+use std::alloc::{AllocError, Global};
+use std::collections::VecDeque;
+use std::process::Abort;
+use std::test::Fail;
+
+/// Appends a line so many times.
+fn append(text: &mut Vec<u8>, line: &[u8], times: u32) -> Result<(), AllocError> {
+    for _ in 0..times {
+        text.extend_from_slice(line)?;
+    }
+    Ok(())
+}
+
+/// Runs a script over files that hold a layer of one disc, and compares what it says.
+fn says(
+    rt: &impl Abort,
+    alloc: Global,
+    depth: u32,
+    script: &[u8],
+    replies: &[u8],
+) -> Result<(), Fail> {
+    let mut files = held(alloc, &[("a.gbr", DISC), ("e.gbr", EMPTY)])?;
+    let mut out = MemoryOut::failing(alloc, 0);
+    let _ = run(alloc, depth, script, &mut files, &mut out)?;
+    assert_eq!(rt; out.said.as_slice(), replies);
+    Ok(())
+}
+
+/// At depth 1,000 the last thousand of 1,001 edits are taken back and made again.
+#[test]
+fn a_deep_history(rt: HostRuntime) -> Result<(), Fail> {
+    let mut script = Vec::new(rt.alloc());
+    let mut replies = Vec::new(rt.alloc());
+    script.extend_from_slice(b"load top gerber a.gbr\n")?;
+    replies.extend_from_slice(b"ok 1\n")?;
+    append(&mut script, b"move top 0 1 0\n", 1_001)?;
+    append(&mut replies, b"ok\n", 1_001)?;
+    append(&mut script, b"undo\n", 1_001)?;
+    append(&mut replies, b"ok\n", 1_000)?;
+    script.extend_from_slice(b"list\n")?;
+    replies.extend_from_slice(b"refused 70\nok 1 0 1000\n")?;
+    append(&mut script, b"redo\n", 1_001)?;
+    append(&mut replies, b"ok\n", 1_000)?;
+    script.extend_from_slice(b"list\n")?;
+    replies.extend_from_slice(b"refused 71\nok 1 1000 0\n")?;
+    says(
+        &rt,
+        rt.alloc(),
+        1_000,
+        script.as_slice(),
+        replies.as_slice(),
+    )
+}
+
+#[test]
+fn one_layer_too_many(rt: HostRuntime) -> Result<(), Fail> {
+    let alloc = rt.alloc();
+    let mut script = Vec::new(alloc);
+    let mut replies = Vec::new(alloc);
+    for layer in 0..32u32 {
+        script.extend_from_slice(format!(in alloc; "load l{layer} gerber e.gbr\n")?.as_bytes())?;
+        replies.extend_from_slice(b"ok 0\n")?;
+    }
+    script.extend_from_slice(b"load l32 gerber e.gbr\nload l0 gerber e.gbr\nlist\n")?;
+    replies.extend_from_slice(b"refused 85\nrefused 83\nok 32 0 0\n")?;
+    says(&rt, alloc, 100, script.as_slice(), replies.as_slice())
+}
+
+/// A line of 65,536 bytes is read, one of a byte more is refused.
+#[test]
+fn long_lines(rt: HostRuntime) -> Result<(), Fail> {
+    let mut script = vec![in rt.alloc(); b' '; 65_537]?;
+    says(&rt, rt.alloc(), 100, script.as_slice(), b"refused 81\n")?;
+    let _ = script.pop();
+    script.extend_from_slice(b"\r\n")?;
+    says(&rt, rt.alloc(), 100, script.as_slice(), b"")
+}
+
+#[test]
+fn depths_out_of_range(rt: HostRuntime) {
+    for depth in [0, 1_001] {
+        let mut files = MemoryFiles::new(rt.alloc());
+        let mut out = MemoryOut::failing(rt.alloc(), 0);
+        let ended = run(rt.alloc(), depth, b"list\n", &mut files, &mut out);
+        assert!(rt; ended == Err(RunFault::Depth), "depth {depth}");
+    }
+}
+
+/// A load that fails and is called again, and a picture that fails and is plotted again.
+const TWICE: &[u8] = b"load top gerber a.gbr\nload top gerber a.gbr\nwindow 0 0 1 1 1\n\
+plot top x\nplot top y\n";
+
+/// The first get and the second put fail; the first put is the test's own.
+#[test]
+fn files_that_fail(rt: HostRuntime) -> Result<(), Fail> {
+    let mut files = MemoryFiles::failing(rt.alloc(), 1, 2);
+    files.put("a.gbr", EMPTY)?;
+    let mut out = MemoryOut::failing(rt.alloc(), 0);
+    let refused = run(rt.alloc(), 100, TWICE, &mut files, &mut out)?;
+    let replies = b"refused 82\nok 0\nok\nrefused 82\nok 1\n";
+    assert_eq!(rt; out.said.as_slice(), replies.as_slice());
+    assert!(rt; refused == 2 && files.failures() == 2);
+    assert!(rt; files.held.get("x").is_none() && files.held.get("y").is_some());
+    Ok(())
+}
+
+/// Nothing more is said, or counted, after the say that failed.
+#[test]
+fn an_output_that_fails(rt: HostRuntime) -> Result<(), Fail> {
+    let mut files = held(rt.alloc(), &[("a.gbr", EMPTY)])?;
+    let mut out = MemoryOut::failing(rt.alloc(), 5);
+    let ended = run(rt.alloc(), 100, TWICE, &mut files, &mut out);
+    assert!(rt; ended == Err(RunFault::Output) && out.failures() == 1);
+    assert_eq!(rt; out.said.as_slice(), b"ok 0\n".as_slice());
+    Ok(())
+}
+
+/// Commands that come as a list are each answered.
+#[test]
+fn a_list_of_commands(rt: HostRuntime) -> Result<(), Fail> {
+    let mut station = Station::new(rt.alloc(), 1)?;
+    let mut commands = VecDeque::new(rt.alloc());
+    commands.push_back(Command::Redo)?;
+    commands.push_back(Command::ListAll)?;
+    let answers = station.apply_all(commands)?;
+    assert!(rt; answers.len() == 2);
+    Ok(())
+}

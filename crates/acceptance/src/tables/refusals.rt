@@ -1,0 +1,47 @@
+//! What is refused, and in which order.
+
+use crate::tables::Row;
+use crate::tables::boards::{CUT_SHORT, DISC, EMPTY};
+
+/// Scripts with lines that are refused.
+pub const REFUSALS: &[Row] = &[
+    Row {
+        name: "in the order of their checks",
+        depth: 100,
+        files: &[("a.gbr", DISC)],
+        script: b"plot top x\nload top gerber a.gbr\nplot top x\nload top gerber a.gbr\n\
+window 0 0 0 1 1\nload b gerber none\nfrob\n",
+        replies: b"refused 60\nok 1\nrefused 84\nrefused 83\nrefused 50\nrefused 82\nrefused 80\n",
+        refused: 6,
+        written: &[],
+    },
+    Row {
+        name: "a file that fails is told before a name that is taken, and a line's form before both",
+        depth: 100,
+        files: &[("a.gbr", EMPTY)],
+        script: b"load top gerber a.gbr\nload top gerber none\nload top drill none\n\
+load top gerber none more\n# load\n \t\nload top gerber a.gbr\r\nundo\r",
+        replies: b"ok 0\nrefused 82\nrefused 80\nrefused 80\nrefused 83\nrefused 80\n",
+        refused: 5,
+        written: &[],
+    },
+    Row {
+        name: "a file cut short is refused at its length, and loads nothing",
+        depth: 100,
+        files: &[("a.gbr", CUT_SHORT)],
+        script: b"load top gerber a.gbr\nlist\n",
+        replies: b"refused 26 48\nok 0 0 0\n",
+        refused: 1,
+        written: &[],
+    },
+    Row {
+        name: "lists, and edits of no layer, of no item and past the board",
+        depth: 100,
+        files: &[("a.gbr", DISC)],
+        script: b"load top gerber a.gbr\nlist top\nmove top 1 0 0\ndelete top 1\n\
+move none 0 0 0\ndelete none 0\nlist none\nmove top 0 1000000000 0\nmove top 0 999999999 0\n",
+        replies: b"ok 1\nok 1 1\nrefused 61\nrefused 61\nrefused 60\nrefused 60\nrefused 60\nrefused 65\nok\n",
+        refused: 6,
+        written: &[],
+    },
+];

@@ -1,0 +1,146 @@
+//! Apertures (Gerber Layer Format Specification, "Standard apertures", "Aperture macro (AM)", "Aperture definition
+//! (AD)").
+
+mod tables;
+
+use cam_apertures::{AdFault, Aperture, ad_number, parse_ad};
+use cam_macros::{Macro, PrimShape};
+use cam_units::{Bounds, Point, Spot, Unit};
+use std::alloc::Global;
+use std::test::Fail;
+use tables::{BOXES, DEFINITIONS, NOTHING, NUMBERS, PLACES, SOLID, Text, Wanted};
+
+/// What the text behind AD reads in a file with this macro, or with none where its text is empty.
+fn defined(
+    alloc: Global,
+    macro_text: &[u8],
+    text: &[u8],
+    unit: Unit,
+) -> Result<Result<(u32, Aperture), AdFault>, Fail> {
+    let mut macros = Vec::new(alloc);
+    if !macro_text.is_empty() {
+        macros.push(Macro::parse(alloc, macro_text)?)?;
+    }
+    Ok(parse_ad(alloc, text, &macros, unit))
+}
+
+/// The aperture of the texts, in millimetres.
+fn aperture_of(alloc: Global, text: Text) -> Result<Aperture, Fail> {
+    let (_, aperture) = defined(alloc, text.0, text.1, Unit::Mm)??;
+    Ok(aperture)
+}
+
+/// Whether the aperture is one dark disc of this diameter, in nm, about the flash point.
+fn is_disc(aperture: &Aperture, wanted: i64) -> bool {
+    let Aperture::Prims(prims) = aperture else {
+        return false;
+    };
+    let [prim] = prims.as_slice() else {
+        return false;
+    };
+    match &prim.shape {
+        PrimShape::Disc { centre, diameter } => {
+            prim.paint && *centre == Point { x: 0, y: 0 } && diameter.0 == wanted
+        }
+        _ => false,
+    }
+}
+
+/// Whether this aperture is wanted.
+fn is(aperture: &Aperture, wanted: Wanted) -> bool {
+    match (aperture, wanted) {
+        (Aperture::Circle { diameter, hole }, Wanted::Circle(size, inner)) => {
+            diameter.0 == size && hole.0 == inner
+        }
+        (
+            Aperture::Rect {
+                width,
+                height,
+                hole,
+            },
+            Wanted::Rect(across, up, inner),
+        )
+        | (
+            Aperture::Obround {
+                width,
+                height,
+                hole,
+            },
+            Wanted::Obround(across, up, inner),
+        ) => width.0 == across && height.0 == up && hole.0 == inner,
+        (Aperture::Prims(_), Wanted::Disc(size)) => is_disc(aperture, size),
+        _ => false,
+    }
+}
+
+/// Whether a definition gives what is wanted.
+fn gives(answer: &Result<(u32, Aperture), AdFault>, number: u32, wanted: Wanted) -> bool {
+    match (answer, wanted) {
+        (Err(fault), Wanted::Fault(code)) => fault.code() == code,
+        (Ok((found, aperture)), _) => *found == number && is(aperture, wanted),
+        _ => false,
+    }
+}
+
+#[test]
+fn covers(rt: HostRuntime) -> Result<(), Fail> {
+    for &(text, turn, (x, y), wanted) in PLACES {
+        let aperture = aperture_of(rt.alloc(), text)?;
+        assert!(rt; aperture.is_sound());
+        let spot = Spot {
+            x: i64::from(x),
+            y: i64::from(y),
+        };
+        assert!(rt;
+            aperture.covers(spot, turn) == wanted,
+            "{text:?} {turn:?} at ({x}, {y})"
+        );
+    }
+    Ok(())
+}
+
+#[test]
+fn boxes(rt: HostRuntime) -> Result<(), Fail> {
+    for &(text, turn, [left, below, right, above]) in BOXES {
+        let aperture = aperture_of(rt.alloc(), text)?;
+        assert!(rt; aperture.is_sound());
+        let wanted = Bounds::Closed {
+            low: Spot { x: left, y: below },
+            high: Spot { x: right, y: above },
+        };
+        assert!(rt; aperture.bounds(turn) == wanted, "{text:?} {turn:?}");
+        let copy = aperture.clone()?;
+        assert!(rt; copy.is_sound());
+        assert!(rt; copy.bounds(turn) == wanted, "a copy of {text:?} {turn:?}");
+        let nothing = aperture_of(rt.alloc(), NOTHING)?;
+        assert!(rt; nothing.is_sound());
+        assert!(rt; nothing.bounds(turn) == Bounds::Empty, "{turn:?}");
+    }
+    Ok(())
+}
+
+#[test]
+fn solid_circles(rt: HostRuntime) -> Result<(), Fail> {
+    for &(text, wanted) in SOLID {
+        let aperture = aperture_of(rt.alloc(), text)?;
+        assert!(rt; aperture.is_solid_circle() == wanted, "{text:?}");
+    }
+    Ok(())
+}
+
+#[test]
+fn definitions(rt: HostRuntime) -> Result<(), Fail> {
+    for &(macro_text, text, unit, number, wanted) in DEFINITIONS {
+        let answer = defined(rt.alloc(), macro_text, text, unit)?;
+        assert!(rt; gives(&answer, number, wanted), "{text:?}");
+    }
+    Ok(())
+}
+
+#[test]
+fn numbers_of_definitions(rt: HostRuntime) -> Result<(), Fail> {
+    for &(text, wanted) in NUMBERS {
+        assert!(rt; ad_number(rt.alloc(), text)? == wanted, "{text:?}");
+    }
+    Ok(())
+}

@@ -1,0 +1,26 @@
+//! Known answers: values for single calls of the libraries, worked out from the standards by hand.
+//!
+//! The contracts of the libraries say what each call gives where memory lasts; no clause can say that it lasts, and
+//! none can refuse 'no memory' in place of a fault. So each call that takes memory is seen here to succeed and to
+//! tell each of its faults, and the definitions behind the contracts are held against values from outside. An
+//! example is a row of a table, and each table has one loop that plays it.
+#![tactic(auto)]
+
+#[cfg(test)]
+mod apertures;
+#[cfg(test)]
+mod gerber;
+#[cfg(test)]
+mod macros;
+#[cfg(test)]
+mod objects;
+#[cfg(test)]
+mod shapes;
+#[cfg(test)]
+mod text;
+#[cfg(test)]
+mod tiles;
+#[cfg(test)]
+mod units;
+#[cfg(test)]
+mod words;
