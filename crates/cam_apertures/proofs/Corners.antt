@@ -1,15 +1,15 @@
 -- Corners of boxes.
-use Rattle.std.proofs.Common.{◌≡◌, ℕ, ◌+◌, ◌<◌, ◌≤◌, Bool, true, false, cond, ℤ, pos, ◌+ℤ◌, ◌-ℤ◌, ◌*ℤ◌, refl, arith}
+use Rattle.std.proofs.Common.{◌≡◌, ℕ, ◌+◌, ◌<◌, ◌≤◌, Bool, true, false, cond, ℤ, arith}
 use Rattle.std.specs.Int.{int_min, int_max}
 use Rattle.std.specs.Int.RustNames.{unsigned_abs}
 use Rattle.std.proofs.lemmas.Int.{ints, clamps}
 use Rattle.std.proofs.lemmas.List.Sums.{fold_more}
-use Rattle.std.specs.Prelude.{List, fold, take, get_or, length, ⊤}
+use Rattle.std.specs.Prelude.{List, fold, take, get_or, length}
 use Rattle.cam_units.specs.declared.bounds.Bounds.{Bounds}
 use Rattle.cam_units.specs.declared.bounds.Bounds.TheVariants.{Empty, Closed}
 use Rattle.cam_units.specs.declared.point.Spot.{Spot}
-use Rattle.cam_units.specs.Boxes.{has_no_place, join_of, span_of, least_of, greatest_of}
-use Rattle.cam_apertures.specs.Machinery.Boxes.{IsSmallBox, IsSmallSpot}
+use Rattle.cam_units.specs.Boxes.{has_no_place, join_of, span_of}
+use Rattle.cam_apertures.specs.Machinery.Boxes.{IsSmallBox}
 
 abbrev pub spot : ℤ → ℤ → Spot
 spot x y = record { x = x; y = y }

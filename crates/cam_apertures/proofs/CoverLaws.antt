@@ -3,15 +3,11 @@ use Rattle.std.proofs.Common.{◌≡◌, ◌↔◌, zero, suc, Bool, true, false
 use Rattle.std.specs.Prelude.{not, ◌&&◌}
 use Rattle.std.proofs.lemmas.Bool.{and_parts, and_from, cases_Bool, false_from_ne_true, true≢false}
 use Rattle.cam_units.specs.declared.point.Spot.{Spot}
-use Rattle.cam_units.specs.declared.turn.Turn.{Turn}
 use Rattle.cam_shapes.proofs.TestLaws.{is_in_bar-meaning, is_in_contour-meaning, is_in_disc-meaning, is_in_hole-meaning, is_in_obround-meaning, is_in_rectangle-meaning}
 use Rattle.cam_shapes.specs.Outline.{outline_of}
-use Rattle.cam_shapes.specs.Disc.{IsInHole}
-use Rattle.cam_shapes.specs.Tests.{is_in_disc, is_in_hole, is_in_obround, is_in_rectangle}
 use Rattle.cam_macros.specs.declared.primitive.MacroPrimitive.{MacroPrimitive}
 use Rattle.cam_macros.specs.declared.primitive.PrimShape.{PrimShape}
 use Rattle.cam_macros.specs.declared.primitive.PrimShape.TheVariants.{Disc, Bar, Rect as Rectangular, Outline}
-use Rattle.cam_apertures.specs.declared.aperture.Aperture.{Aperture}
 use Rattle.cam_apertures.specs.declared.aperture.Aperture.TheVariants.{Circle, Rect, Obround, Prims}
 use Rattle.cam_apertures.specs.Cover.{disc, obround, origin, rectangle, IsInShape, IsPainted}
 use Rattle.cam_apertures.specs.Laws.{BoxLaw, HoleLaw}

@@ -1,8 +1,6 @@
 -- A turn of an aperture is a turn of its cover.
-use Rattle.std.proofs.Common.{◌≡◌, ◌↔◌, ◌*◌, ◌≤◌, Bool, false, cond, IsTrue, ℤ, pos, negsuc, neg_ℤ, ◌+ℤ◌, ◌-ℤ◌, ◌*ℤ◌, ◌≤ℤ◌, ◌<ℤ◌, ◌⊎◌, inl, inr, List, [], ◌∷◌, map, All, refl, ap, sym, ◌∙◌, subst, arith}
-use Rattle.std.specs.Int.RustNames.{unsigned_abs}
-use Rattle.std.proofs.lemmas.Int.{ints, by_lt_z}
-use Rattle.std.proofs.lemmas.Nat.{mul-le}
+use Rattle.std.proofs.Common.{◌≡◌, ◌↔◌, Bool, false, cond, IsTrue, ℤ, pos, ◌+ℤ◌, ◌-ℤ◌, ◌*ℤ◌, ◌≤ℤ◌, ◌<ℤ◌, List, [], ◌∷◌, map, All, refl, ap, sym, ◌∙◌, subst, arith}
+use Rattle.std.proofs.lemmas.Int.{ints}
 use Rattle.std.proofs.lemmas.List.Elements.{All-head, All-tail}
 use Rattle.std.proofs.lemmas.Bool.Decides.{same_from_decides}
 use Rattle.cam_units.specs.declared.length.Nm.{Nm}
@@ -15,16 +13,16 @@ use Rattle.cam_units.proofs.Ring.{Polynomial, Atom, Sum, Difference, Product, eq
 use Rattle.cam_units.proofs.TurnLaws.{applied_product}
 use Rattle.cam_shapes.specs.declared.vector.Vector.{Vector}
 use Rattle.cam_shapes.specs.Bar.{IsBeside, IsInBar}
-use Rattle.cam_shapes.specs.Box.{from_left_end, from_right_end, swapped, IsAlong, IsInObround, IsInRectangle, IsRounded}
+use Rattle.cam_shapes.specs.Box.{IsInObround, IsInRectangle}
 use Rattle.cam_shapes.specs.Disc.{IsInDisc, IsInHole}
-use Rattle.cam_shapes.specs.Plane.{cross, dot, place_of, seen_from, square, way, IsBetween, IsWithin}
+use Rattle.cam_shapes.specs.Plane.{cross, dot, place_of, seen_from, square, way}
 use Rattle.cam_shapes.proofs.Vectors.{same_vector}
 use Rattle.cam_macros.specs.declared.primitive.MacroPrimitive.{MacroPrimitive}
 use Rattle.cam_macros.specs.declared.primitive.PrimShape.{PrimShape}
 use Rattle.cam_macros.specs.declared.primitive.PrimShape.TheVariants.{Disc, Bar, Rect as Rectangular, Outline}
 use Rattle.cam_apertures.specs.declared.aperture.Aperture.{Aperture}
 use Rattle.cam_apertures.specs.declared.aperture.Aperture.TheVariants.{Circle, Rect, Obround, Prims}
-use Rattle.cam_apertures.specs.Cover.{disc, obround, origin, rectangle, IsCovered, IsInShape, IsPainted}
+use Rattle.cam_apertures.specs.Cover.{obround, origin, rectangle, IsCovered, IsInShape}
 use Rattle.cam_apertures.specs.Laws.{turned_place, HasNoOutline, IsNoOutline, TurnLaw}
 use Rattle.cam_apertures.specs.Tests.{is_in_shape, painted}
 use Rattle.cam_apertures.specs.Turned.{turned_height, turned_point, turned_prim, turned_shape, turned_width}

@@ -1,5 +1,5 @@
 -- The primitives of an expansion are within the limits.
-use Rattle.std.proofs.Common.{◌≡◌, ℕ, zero, suc, ◌+◌, ◌*◌, ◌/◌, ◌<◌, ◌≤◌, Bool, true, false, cond, leb, ltb, eqb, ℤ, pos, negsuc, ◌≤ℤ◌, ◌⊎◌, inl, inr, List, [], ◌∷◌, ◌++◌, length, take, drop, Option, Some, None, Result, Ok, Err, refl, ap, sym, ◌∙◌, subst, arith}
+use Rattle.std.proofs.Common.{◌≡◌, ℕ, ◌+◌, ◌*◌, ◌/◌, ◌<◌, ◌≤◌, Bool, true, false, cond, leb, ltb, eqb, ℤ, pos, negsuc, List, [], ◌∷◌, length, take, drop, Option, Some, None, Result, Ok, Err, refl, subst, arith}
 use Rattle.std.specs.Prelude.{All, ◌&&◌, ◌||◌, ◌%◌, ⊤}
 use Rattle.std.specs.Int.RustNames.{unsigned_abs}
 use Rattle.std.proofs.lemmas.Int.{ints}
@@ -17,13 +17,10 @@ use Rattle.cam_macros.specs.declared.fault.MacroFault.{MacroFault}
 use Rattle.cam_macros.specs.declared.part.Part.{Part}
 use Rattle.cam_macros.specs.declared.part.Part.TheVariants.{Assignment, Primitive}
 use Rattle.cam_macros.specs.declared.primitive.MacroPrimitive.{MacroPrimitive}
-use Rattle.cam_macros.specs.declared.primitive.PrimShape.{PrimShape}
-use Rattle.cam_macros.specs.declared.primitive.PrimShape.TheVariants.{Disc, Bar, Rect, Outline}
 use Rattle.cam_macros.specs.Tree.{Tree}
 use Rattle.cam_macros.specs.Arithmetic.{Values, parameter}
 use Rattle.cam_macros.specs.Expansion.{◌>>=◌, all_worth, bar_of, coordinate, coordinate_of, count_of, disc_of, expansion, expansion_of, outcome, outline_of, outline_through, paint_of, point_of, points_of, primitive_of, rect_of, rect_turned, shape_of, size, size_of, turn_of, values_after, worth}
-use Rattle.cam_apertures.specs.Primitives.{IsMacroPoint, IsSoundOutline, IsSoundPrim, IsSoundShape}
-use Rattle.cam_apertures.specs.Turned.{turned_point}
+use Rattle.cam_apertures.specs.Primitives.{IsMacroPoint, IsSoundPrim, IsSoundShape}
 use Rattle.cam_apertures.proofs.Outlines.{near_turned}
 
 -- what holds of an answer, if there is one

@@ -1,5 +1,5 @@
 -- One test after the other tells the least of the faults that hold.
-use Rattle.std.proofs.Common.{◌≡◌, ℕ, ◌+◌, ◌≤◌, ℤ, Bool, true, false, cond, ltb, ◌⊎◌, inl, inr, List, [], ◌∷◌, length, Option, Some, None, Result, Ok, Err, refl, ap, sym, ◌∙◌, subst, arith, lit≤}
+use Rattle.std.proofs.Common.{◌≡◌, ℕ, ◌+◌, ◌≤◌, ℤ, Bool, true, false, cond, ltb, inl, inr, List, [], ◌∷◌, length, Option, Some, None, Result, Ok, Err, refl, ap, sym, ◌∙◌, subst, arith, lit≤}
 use Rattle.std.specs.Prelude.{codes, is_none, not, unwrap_or, IfErr, IfOk}
 use Rattle.std.specs.Str.{bytes_eq}
 use Rattle.std.proofs.lemmas.Bool.{false≢true}
@@ -15,9 +15,9 @@ use Rattle.cam_apertures.specs.declared.aperture.Aperture.TheVariants.{Prims}
 use Rattle.cam_apertures.specs.declared.fault.AdFault.{AdFault}
 use Rattle.cam_apertures.specs.declared.fault.AdFault.TheVariants.{UnknownForm, BadNumber, TemplateRefused, PrimitiveRefused, RotationRefused, SizeRefused, Malformed, OutOfMemory}
 use Rattle.cam_apertures.specs.Faults.{number_of, of_macro}
-use Rattle.cam_apertures.specs.Numbers.{decimal, defined_number}
-use Rattle.cam_apertures.specs.Definition.{aperture_of, by_macro, by_name, circle, definition, definition_of, faults_of, has_sizes, macro_faults, named, obround, painted, rect, standard_faults, template_faults, values_of, with_value, Definition, IsAdFault, IsDefined, IsLeast, IsRefused, Table, Tells}
-use Rattle.cam_apertures.specs.Machinery.Outcomes.{macro_outcome, outcome, standard_outcome, template_outcome, with_aperture, with_number, with_values, IsErr}
+use Rattle.cam_numbers.specs.Numbers.{decimal, defined_number}
+use Rattle.cam_apertures.specs.Definition.{aperture_of, by_macro, by_name, circle, definition, definition_of, faults_of, has_sizes, macro_faults, named, obround, painted, rect, standard_faults, template_faults, values_of, with_value, Definition, IsDefined, IsLeast, IsRefused, Table, Tells}
+use Rattle.cam_apertures.specs.Machinery.Outcomes.{macro_outcome, outcome, standard_outcome, template_outcome, with_aperture, with_number, IsErr}
 
 -- an outcome, the faults that hold and the aperture that is meant say the same
 record Agrees (o : Result Aperture AdFault) (t : Table) (a : Option Aperture) : Type 0 where

@@ -1,9 +1,9 @@
 -- A place in a shape lies in the shape's box.
-use Rattle.std.proofs.Common.{◌≡◌, ◌↔◌, ℕ, zero, suc, ◌+◌, ◌*◌, ◌%◌, ◌<◌, ◌≤◌, Bool, true, false, cond, IsTrue, ℤ, pos, negsuc, neg_ℤ, ◌+ℤ◌, ◌-ℤ◌, ◌*ℤ◌, ◌≤ℤ◌, ◌<ℤ◌, ◌⊎◌, inl, inr, List, [], ◌∷◌, ◌++◌, length, get_or, map, All, count_by, refl, ap, sym, ◌∙◌, subst, arith}
+use Rattle.std.proofs.Common.{◌≡◌, ℕ, zero, suc, ◌+◌, ◌*◌, ◌%◌, ◌<◌, ◌≤◌, Bool, true, false, cond, IsTrue, ℤ, pos, negsuc, ◌+ℤ◌, ◌-ℤ◌, ◌*ℤ◌, ◌≤ℤ◌, ◌<ℤ◌, inl, inr, List, [], ◌∷◌, ◌++◌, length, get_or, All, count_by, refl, ap, sym, ◌∙◌, subst, arith}
 use Rattle.std.specs.Prelude.{fold, Any, ◌||◌}
 use Rattle.std.specs.Int.{int_min, int_max}
 use Rattle.std.specs.Int.RustNames.{int_lt, unsigned_abs}
-use Rattle.std.proofs.lemmas.Bool.{cases_lt, false≢true}
+use Rattle.std.proofs.lemmas.Bool.{cases_lt}
 use Rattle.std.proofs.lemmas.Int.{ints, clamps, by_lt_z, unsigned_abs-mul}
 use Rattle.std.proofs.lemmas.Nat.{mul-le, mul-lt}
 use Rattle.std.proofs.lemmas.List.Elements.{All-map, All-tail}
@@ -12,25 +12,20 @@ use Rattle.cam_units.specs.declared.bounds.Bounds.TheVariants.{Empty, Closed}
 use Rattle.cam_units.specs.declared.length.Nm.{Nm}
 use Rattle.cam_units.specs.declared.point.Point.{Point}
 use Rattle.cam_units.specs.declared.point.Spot.{Spot}
-use Rattle.cam_units.specs.Boxes.{Holds, IsBetween, has_no_place, join_of, span_of}
+use Rattle.cam_units.specs.Boxes.{Holds, has_no_place, join_of, span_of}
 use Rattle.cam_units.proofs.BoxLaws.{join_least}
 use Rattle.cam_units.proofs.Ring.{Polynomial, Atom, Sum, Difference, Product, equal}
-use Rattle.cam_shapes.specs.declared.bar.Bar.{Bar as ABar}
 use Rattle.cam_shapes.specs.declared.contour.Contour.{Contour}
-use Rattle.cam_shapes.specs.declared.disc.Disc.{Disc as ADisc}
-use Rattle.cam_shapes.specs.declared.obround.Obround.{Obround}
-use Rattle.cam_shapes.specs.declared.rectangle.Rectangle.{Rectangle}
-use Rattle.cam_shapes.specs.declared.segments.Seg.{Seg}
 use Rattle.cam_shapes.specs.declared.segments.Seg.TheVariants.{Line}
 use Rattle.cam_shapes.specs.declared.vector.Vector.{Vector}
-use Rattle.cam_shapes.specs.Bar.{IsBeside, IsInBar}
-use Rattle.cam_shapes.specs.Box.{from_left_end, from_right_end, swapped, IsAlong, IsInObround, IsInRectangle}
+use Rattle.cam_shapes.specs.Bar.{IsInBar}
+use Rattle.cam_shapes.specs.Box.{swapped, IsAlong, IsInObround, IsInRectangle}
 use Rattle.cam_shapes.specs.Cap.{is_in_cap}
-use Rattle.cam_shapes.specs.Contour.{caps_from, caps_of, edges_of, end_of, IsInContour}
+use Rattle.cam_shapes.specs.Contour.{caps_from, caps_of, end_of, IsInContour}
 use Rattle.cam_shapes.specs.Disc.{IsInDisc}
 use Rattle.cam_shapes.specs.Edge.{crosses_ray, edge, is_above, is_left, is_right}
 use Rattle.cam_shapes.specs.Outline.{lines_to, outline_of}
-use Rattle.cam_shapes.specs.Plane.{cross, dot, place_of, seen_from, square, way, IsBetween as IsWayBetween, IsWithin}
+use Rattle.cam_shapes.specs.Plane.{place_of, seen_from, way}
 use Rattle.cam_shapes.proofs.Boxes.{contour_box}
 use Rattle.cam_shapes.proofs.Parity.{count_by-cons, one_if}
 use Rattle.cam_macros.specs.declared.primitive.MacroPrimitive.{MacroPrimitive}
@@ -57,7 +52,7 @@ other_leg x y d h =
     root (unsigned_abs y) (unsigned_abs d) (omega (arith, ints, h, square_is x, square_is y, square_is d))
 
 -- a place that is so far from a point lies in the box about the point
-within_box : (p : Point) (s : Spot) (w h : ℤ) → pos (unsigned_abs (seen_from p s).x) ≤ℤ w → pos (unsigned_abs (seen_from p s).y) ≤ℤ h
+pub within_box : (p : Point) (s : Spot) (w h : ℤ) → pos (unsigned_abs (seen_from p s).x) ≤ℤ w → pos (unsigned_abs (seen_from p s).y) ≤ℤ h
     → Holds (box_about (place_of p) w h) s
 within_box p s w h a b = record {
   left = omega (arith, ints);
@@ -269,17 +264,17 @@ bar_box from to w s h =
     })
 
 -- boxes that are joined
-join_kept : {X : Type 0} (f : X → Bounds) (z : Bounds) (xs : List X) (s : Spot) → Holds z s → Holds (fold (λ b x. join_of b (f x)) z xs) s
+pub join_kept : {X : Type 0} (f : X → Bounds) (z : Bounds) (xs : List X) (s : Spot) → Holds z s → Holds (fold (λ b x. join_of b (f x)) z xs) s
 join_kept f z [] s h = h
 join_kept f z (x ∷ xs) s h = join_kept f (join_of z (f x)) xs s ((join_least z (f x)).first s h)
 
-join_found : {X : Type 0} (f : X → Bounds) (z : Bounds) (xs : List X) (k : ℕ) (d : X) (s : Spot) → k < length xs → Holds (f (get_or xs k d)) s
+pub join_found : {X : Type 0} (f : X → Bounds) (z : Bounds) (xs : List X) (k : ℕ) (d : X) (s : Spot) → k < length xs → Holds (f (get_or xs k d)) s
     → Holds (fold (λ b x. join_of b (f x)) z xs) s
 join_found f z [] k d s h held = absurd (omega arith)
 join_found f z (x ∷ xs) zero d s h held = join_kept f (join_of z (f x)) xs s ((join_least z (f x)).second s held)
 join_found f z (x ∷ xs) (suc k) d s h held = join_found f (join_of z (f x)) xs k d s (omega arith) held
 
-join_among : {X : Type 0} (f : X → Bounds) (z : Bounds) (before : List X) (x : X) (after : List X) (s : Spot) → Holds (f x) s
+pub join_among : {X : Type 0} (f : X → Bounds) (z : Bounds) (before : List X) (x : X) (after : List X) (s : Spot) → Holds (f x) s
     → Holds (fold (λ b x. join_of b (f x)) z (before ++ x ∷ after)) s
 join_among f z [] x after s h = join_kept f (join_of z (f x)) after s ((join_least z (f x)).second s h)
 join_among f z (y ∷ before) x after s h = join_among f (join_of z (f y)) before x after s h

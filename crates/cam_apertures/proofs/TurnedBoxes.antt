@@ -1,5 +1,5 @@
 -- Boxes of turned shapes are turned boxes.
-use Rattle.std.proofs.Common.{◌≡◌, Bool, true, false, cond, ◌||◌, ℤ, pos, neg_ℤ, ◌+ℤ◌, ◌-ℤ◌, ◌*ℤ◌, List, [], ◌∷◌, map, refl, ap, sym, ◌∙◌, arith}
+use Rattle.std.proofs.Common.{◌≡◌, Bool, true, false, cond, ◌||◌, ℤ, neg_ℤ, List, [], ◌∷◌, map, refl, ap, sym, ◌∙◌, arith}
 use Rattle.std.specs.Prelude.{fold}
 use Rattle.std.specs.Int.{int_min, int_max}
 use Rattle.std.specs.Int.RustNames.{int_lt}
@@ -8,7 +8,6 @@ use Rattle.cam_units.specs.declared.bounds.Bounds.{Bounds}
 use Rattle.cam_units.specs.declared.bounds.Bounds.TheVariants.{Empty, Closed}
 use Rattle.cam_units.specs.declared.length.Nm.{Nm}
 use Rattle.cam_units.specs.declared.point.Point.{Point}
-use Rattle.cam_units.specs.declared.point.Spot.{Spot}
 use Rattle.cam_units.specs.declared.turn.Turn.{Turn}
 use Rattle.cam_units.specs.declared.turn.Turn.TheVariants.{R0, R90, R180, R270, M0, M90, M180, M270}
 use Rattle.cam_units.specs.Boxes.{has_no_place, join_of, span_of}
@@ -17,8 +16,7 @@ use Rattle.cam_macros.specs.declared.primitive.MacroPrimitive.{MacroPrimitive}
 use Rattle.cam_macros.specs.declared.primitive.PrimShape.{PrimShape}
 use Rattle.cam_macros.specs.declared.primitive.PrimShape.TheVariants.{Disc, Bar, Rect, Outline}
 use Rattle.cam_apertures.specs.Primitives.{box_about, box_of_point, box_of_prims, box_of_shape}
-use Rattle.cam_apertures.specs.Turned.{exchanges_axes, turned_height, turned_point, turned_prim, turned_shape, turned_width}
-use Rattle.cam_apertures.specs.Machinery.Boxes.{turned_box, turned_corners}
+use Rattle.cam_apertures.specs.Turned.{exchanges_axes, turned_box, turned_corners, turned_height, turned_point, turned_prim, turned_shape, turned_width}
 use Rattle.cam_apertures.proofs.Corners.{same_box}
 
 negated : (a b : ℤ) → int_lt (neg_ℤ a) (neg_ℤ b) ≡ int_lt b a
@@ -40,7 +38,7 @@ both : (a b c d : Bool) → a ≡ c → b ≡ d → (a || b) ≡ (c || d)
 both a b c d e f = λ i. e i || f i
 
 -- a turn keeps whether a box has a place
-empty_turned : (t : Turn) (b : Bounds) → has_no_place (turned_box t b) ≡ has_no_place b
+pub empty_turned : (t : Turn) (b : Bounds) → has_no_place (turned_box t b) ≡ has_no_place b
 empty_turned t Empty = refl
 empty_turned R0 (Closed low high) = both _ _ (int_lt high.x low.x) (int_lt high.y low.y) refl refl
 empty_turned R90 (Closed low high) = both _ _ (int_lt high.y low.y) (int_lt high.x low.x) (negated low.y high.y) refl ∙ exchanged (int_lt high.y low.y) (int_lt high.x low.x)
@@ -81,7 +79,7 @@ turned_either t true x y = refl
 turned_either t false x y = refl
 
 -- a join turns with its boxes
-join_turned : (t : Turn) (a b : Bounds) → turned_box t (join_of a b) ≡ join_of (turned_box t a) (turned_box t b)
+pub join_turned : (t : Turn) (a b : Bounds) → turned_box t (join_of a b) ≡ join_of (turned_box t a) (turned_box t b)
 join_turned t a b =
     turned_either t (has_no_place a) b (cond (has_no_place b) a (span_of a b))
     ∙ ap (λ rest. cond (has_no_place a) (turned_box t b) rest)
@@ -91,7 +89,7 @@ join_turned t a b =
     ∙ ap (λ v. cond v (turned_box t b) (cond (has_no_place (turned_box t b)) (turned_box t a) (span_of (turned_box t a) (turned_box t b)))) (sym (empty_turned t a))
 
 -- a join of many boxes turns with them
-joins_turned : {X : Type 0} (t : Turn) (f : X → Bounds) (h : X → X) → ((x : X) → f (h x) ≡ turned_box t (f x)) → (z : Bounds) (xs : List X)
+pub joins_turned : {X : Type 0} (t : Turn) (f : X → Bounds) (h : X → X) → ((x : X) → f (h x) ≡ turned_box t (f x)) → (z : Bounds) (xs : List X)
     → fold (λ b x. join_of b (f x)) (turned_box t z) (map h xs) ≡ turned_box t (fold (λ b x. join_of b (f x)) z xs)
 joins_turned t f h same z [] = refl
 joins_turned t f h same z (x ∷ xs) =
@@ -112,7 +110,7 @@ about_turned M90 p w h = same_box _ _ _ _ _ _ _ _ (omega (arith, ints)) (omega (
 about_turned M180 p w h = same_box _ _ _ _ _ _ _ _ (omega (arith, ints)) (omega (arith, ints)) (omega (arith, ints)) (omega (arith, ints))
 about_turned M270 p w h = same_box _ _ _ _ _ _ _ _ (omega (arith, ints)) (omega (arith, ints)) (omega (arith, ints)) (omega (arith, ints))
 
-point_turned : (t : Turn) (p : Point) → box_of_point (turned_point t p) ≡ turned_box t (box_of_point p)
+pub point_turned : (t : Turn) (p : Point) → box_of_point (turned_point t p) ≡ turned_box t (box_of_point p)
 point_turned R0 p = same_box _ _ _ _ _ _ _ _ (omega (arith, ints)) (omega (arith, ints)) (omega (arith, ints)) (omega (arith, ints))
 point_turned R90 p = same_box _ _ _ _ _ _ _ _ (omega (arith, ints)) (omega (arith, ints)) (omega (arith, ints)) (omega (arith, ints))
 point_turned R180 p = same_box _ _ _ _ _ _ _ _ (omega (arith, ints)) (omega (arith, ints)) (omega (arith, ints)) (omega (arith, ints))
@@ -127,7 +125,7 @@ either_same true w = refl
 either_same false w = refl
 
 -- a box of equal sides about a point
-square_turned : (t : Turn) (p : Point) (w : Nm) → about (turned_point t p) w w ≡ turned_box t (about p w w)
+pub square_turned : (t : Turn) (p : Point) (w : Nm) → about (turned_point t p) w w ≡ turned_box t (about p w w)
 square_turned t p w =
     sym (ap (λ v. about (turned_point t p) v v) (either_same (exchanges_axes t) w)) ∙ about_turned t p w w
 

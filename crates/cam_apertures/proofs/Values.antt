@@ -1,12 +1,11 @@
 -- The values of parameters, one after the other.
-use Rattle.std.proofs.Common.{◌≡◌, ℕ, suc, ℤ, List, [], ◌∷◌, ◌++◌, length, Option, Some, None, Result, Ok, Err, refl, ap, sym, ◌∙◌, append_assoc, append-nil}
+use Rattle.std.proofs.Common.{◌≡◌, ℕ, suc, ℤ, List, [], ◌∷◌, ◌++◌, length, Option, Some, None, Err, refl, ap, sym, ◌∙◌, append_assoc, append-nil}
 use Rattle.std.specs.Borrow.{Bor}
-use Rattle.std.specs.Option.{option_copied, option_map}
+use Rattle.std.specs.Option.{option_map}
 use Rattle.std.specs.Prelude.{ok_or}
-use Rattle.cam_apertures.specs.declared.fault.AdFault.{AdFault}
 use Rattle.cam_apertures.specs.declared.fault.AdFault.TheVariants.{BadNumber}
-use Rattle.cam_apertures.specs.Definition.{parameters_of, values_of, with_value}
-use Rattle.cam_apertures.specs.Numbers.{decimal}
+use Rattle.cam_apertures.specs.Definition.{values_of, with_value}
+use Rattle.cam_numbers.specs.Numbers.{decimal}
 
 abbrev pub text_left : Option (Bor (List ℕ)) → ℕ
 text_left None = 0

@@ -1,7 +1,7 @@
 -- Aperture definitions (Gerber Layer Format Specification, "Aperture definition (AD)"): what stands
 -- behind `AD`, without the bytes that do not count.
 use Rattle.std.specs.Prelude.{◌≡◌, ◌≤◌, ◌⊎◌, ℕ, ◌+◌, ℤ, pos, List, [], ◌∷◌, length, find, codes, slice_index_or}
-use Rattle.std.specs.Prelude.{Option, Some, None, is_none, unwrap_or, Result, Ok, Err, Bool, true, false, ◌==◌, ◌||◌}
+use Rattle.std.specs.Prelude.{Option, Some, None, is_none, unwrap_or, Result, Ok, Err, Bool, true, ◌==◌, ◌||◌}
 use Rattle.std.specs.Prelude.{◌&&◌, not, nat_lt, if◌then◌else◌, ⊤}
 use Rattle.std.specs.List.{after_first, before_first, list_all, position_or_len, slice_split}
 use Rattle.std.specs.Int.RustNames.{int_le}
@@ -21,7 +21,7 @@ use Rattle.cam_apertures.specs.declared.fault.AdFault.TheVariants.{UnknownForm, 
 use Rattle.cam_apertures.specs.declared.fault.AdFault.TheVariants.{PrimitiveRefused, RotationRefused, SizeRefused}
 use Rattle.cam_apertures.specs.declared.fault.AdFault.TheVariants.{Malformed, OutOfMemory}
 use Rattle.cam_apertures.specs.Faults.{number_of, of_macro}
-use Rattle.cam_apertures.specs.Numbers.{behind_run, decimal, defined_number, is_numeric, run_of}
+use Rattle.cam_numbers.specs.Numbers.{behind_run, decimal, defined_number, is_numeric, run_of}
 
 -- the run of the number, the name of the template, and the runs of the parameters
 pub record Definition : Type 0 where

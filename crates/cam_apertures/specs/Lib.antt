@@ -4,7 +4,6 @@ pub mod Cover
 pub mod Bounds
 pub mod Soundness
 pub mod Tests
-pub mod Numbers
 pub mod Faults
 pub mod Definition
 pub mod Laws

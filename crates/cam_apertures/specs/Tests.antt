@@ -1,6 +1,6 @@
 -- Whether an aperture covers a place, as a test that computes, for those who define a picture by it.
 -- It says what `IsCovered` says (`TestLaw`).
-use Rattle.std.specs.Prelude.{◌↔◌, Bool, true, false, IsTrue, ◌&&◌, not, if◌then◌else◌, List, [], ◌∷◌, map}
+use Rattle.std.specs.Prelude.{◌↔◌, Bool, false, IsTrue, ◌&&◌, not, if◌then◌else◌, List, [], ◌∷◌, map}
 use Rattle.cam_units.specs.declared.point.Spot.{Spot}
 use Rattle.cam_units.specs.declared.turn.Turn.{Turn}
 use Rattle.cam_shapes.specs.Outline.{outline_of}

@@ -1,6 +1,6 @@
 //! Boxes of shapes, and their turns.
 
-ghost use Rattle.std.specs.Prelude.{◌≡◌, ◌≤◌, ◌↔◌, All, IsTrue};
+ghost use Rattle.std.specs.Prelude.{◌≡◌, ◌^◌, ◌<◌, ◌↔◌, All, IsTrue};
 ghost use Rattle.std.specs.Int.RustNames.{unsigned_abs};
 ghost use Rattle.cam_units.specs.Board.{IsSize};
 ghost use Rattle.cam_units.specs.Boxes.{Holds, IsBetween};
@@ -8,7 +8,8 @@ ghost use Rattle.cam_shapes.specs.Plane.{place_of};
 ghost use Rattle.cam_macros.specs.declared.primitive.PrimShape.TheVariants.{Outline};
 ghost use Rattle.cam_apertures.specs.Primitives.{IsMacroPoint, IsSoundPrim, IsSoundShape, box_about, box_of_point};
 ghost use Rattle.cam_apertures.specs.Primitives.{box_of_prims, box_of_shape};
-ghost use Rattle.cam_apertures.specs.Machinery.Boxes.{IsSmallBox, across, reversed, spanned, turned_box, up};
+ghost use Rattle.cam_apertures.specs.Machinery.Boxes.{IsSmallBox, across, reversed, spanned, up};
+ghost use Rattle.cam_apertures.specs.Turned.{IsTurnableBox, turned_box};
 
 use cam_macros::{MacroPrimitive, PrimShape};
 use cam_units::{Bounds, Nm, Point, Spot, Turn};
@@ -43,8 +44,8 @@ impl Span {
 
     /// The span on the other side of 0.
     fn reversed(self) -> Span
-        requires low { unsigned_abs self.low ≤ 600000000 }
-        requires high { unsigned_abs self.high ≤ 600000000 }
+        requires low { unsigned_abs self.low < 2 ^ 63 }
+        requires high { unsigned_abs self.high < 2 ^ 63 }
         ensures { result ≡ reversed self }
     {
         Span {
@@ -67,9 +68,9 @@ fn spanned(x: Span, y: Span) -> Bounds
     }
 }
 
-/// The box, mirrored and turned about (0, 0).
-pub(crate) fn turned(bounds: Bounds, turn: Turn) -> Bounds
-    requires { IsSmallBox bounds }
+/// The box, mirrored and turned about (0, 0); no coordinate is -2^63.
+pub fn turned(bounds: Bounds, turn: Turn) -> Bounds
+    requires { IsTurnableBox bounds }
     ensures { result ≡ turned_box turn bounds }
 {
     let Bounds::Closed { low, high } = bounds else {
@@ -106,7 +107,7 @@ fn is_between(low: Spot, high: Spot, spot: Spot) -> bool
 }
 
 /// Whether the place lies in the box or on its edge.
-pub(crate) fn has_place(bounds: Bounds, spot: Spot) -> bool
+pub fn has_place(bounds: Bounds, spot: Spot) -> bool
     ensures { IsTrue result ↔ Holds bounds spot }
 {
     match bounds {

@@ -1,7 +1,7 @@
 //! Aperture definitions.
 
 ghost use Rattle.std.specs.Prelude.{◌≡◌, ◌≤◌, ◌<◌, ◌==◌, ◌∷◌, [], IfOk, IfErr, MatchOption, length, ok_or};
-ghost use Rattle.std.specs.List.{before_first, list_all, slice_split};
+ghost use Rattle.std.specs.List.{before_first, list_all, position_or_len, slice_split};
 ghost use Rattle.std.specs.Option.{option_copied};
 ghost use Rattle.cam_words.specs.Heads.{packed};
 ghost use Rattle.cam_apertures.specs.Definition.{are_runs, behind_comma, circle, definition, definition_of, is_comma};
@@ -14,10 +14,11 @@ ghost use Rattle.cam_apertures.specs.Machinery.Outcomes.{IsErr};
 
 use crate::aperture::Aperture;
 use crate::fault::AdFault;
-use crate::numbers::{decimal, defined_number, is_numeric, place_of, run_len};
 use crate::primitives::Primitives;
 use cam_macros::Macro;
+use cam_numbers::{Blanks, decimal, defined_number, is_numeric, run_len};
 use cam_units::{Nm, Unit, fix9_nm};
+use cam_words::is_skipped;
 use std::alloc::{AllocError, Global};
 
 /// The aperture that the text behind `AD` of an extended command defines, without its final `*`,
@@ -49,7 +50,7 @@ pub fn ad_number(alloc: Global, text: &[u8]) -> Result<Option<u32>, AllocError>
     let Some(definition) = Definition::read(text.as_slice()) else {
         return Ok(None);
     };
-    Ok(defined_number(definition.number))
+    Ok(defined_number(definition.number, Blanks::Refused))
 }
 
 /// What a definition says.
@@ -113,8 +114,16 @@ fn pack(alloc: Global, text: &[u8]) -> Result<Vec<u8>, AllocError>
 {
     text.iter()
         .copied()
-        .filter(|byte| !matches!(*byte, b'\r' | b'\n' | b' ' | b'\t'))
+        .filter(|byte| !is_skipped(*byte))
         .collect(alloc)
+}
+
+/// Where the first comma stands, or the text's length.
+fn comma_place(text: &[u8]) -> usize
+    ensures value { result ≡ position_or_len is_comma text.now }
+    ensures within { result ≤ length text.now }
+{
+    text.iter().take_while(|byte| **byte != b',').count()
 }
 
 /// What stands before the first comma, and behind it.
@@ -123,7 +132,7 @@ fn at_comma(text: &[u8]) -> (&[u8], Option<&[u8]>)
     ensures name { result.0.now ≡ before_first is_comma text.now }
     ensures parameters { option_copied result.1 ≡ behind_comma text.now }
 {
-    let place = place_of(b',', text);
+    let place = comma_place(text);
     let name = &text[..place];
     if place < text.len() {
         (name, Some(&text[place + 1..]))
@@ -183,7 +192,7 @@ fn values(alloc: Global, parameters: Option<&[u8]>) -> Result<Vec<i64>, AdFault>
     let mut rest = parameters;
     while let Some(text) = rest {
         let (run, more) = cut(text, b'X');
-        let Some(value) = decimal(run) else {
+        let Some(value) = decimal(run, Blanks::Refused) else {
             return Err(AdFault::BadNumber);
         };
         values.push(value)?;
@@ -307,7 +316,7 @@ fn defined(
     let Some(definition) = Definition::read(text) else {
         return Err(AdFault::UnknownForm);
     };
-    let Some(number) = defined_number(definition.number) else {
+    let Some(number) = defined_number(definition.number, Blanks::Refused) else {
         return Err(AdFault::BadNumber);
     };
     let values = values(alloc, definition.parameters)?;

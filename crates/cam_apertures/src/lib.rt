@@ -7,6 +7,7 @@
 //!
 //! - [`Aperture::covers`]: whether an aperture covers a place; [`Aperture::bounds`]: its box. Neither
 //!   takes memory. [`Aperture::is_solid_circle`]: whether lines may be drawn with it.
+//! - [`turned`]: a box, mirrored and turned; [`has_place`]: whether a place lies in a box.
 //! - [`Primitives`]: the primitives of a macro, with the box of all of them kept beside them.
 //! - [`parse_ad`]: the aperture that a definition of a Gerber file stands for, or the fault of least
 //!   number; [`ad_number`]: its number alone.
@@ -20,12 +21,12 @@ mod boxes;
 mod definition;
 mod fault;
 mod laws;
-mod numbers;
 mod primitives;
 mod shape;
 mod sides;
 
 pub use aperture::Aperture;
+pub use boxes::{has_place, turned};
 pub use definition::{ad_number, parse_ad};
 pub use fault::AdFault;
 pub use laws::{

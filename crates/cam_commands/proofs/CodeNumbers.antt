@@ -1,12 +1,11 @@
 -- Code numbers, of which those past every limit say the same.
-use Rattle.std.proofs.Common.{◌≡◌, ℕ, ◌≤◌, min, List, true, false, Bool, None, Some, Option, refl, sym, ap, ◌∙◌, ◌⊎◌, inl, inr, arith, ne_eqb, eqb}
-use Rattle.std.specs.Prelude.{option_map, ◌==◌, nat_lt}
+use Rattle.std.proofs.Common.{◌≡◌, ℕ, ◌≤◌, min, List, false, None, Some, Option, refl, sym, ap, ◌∙◌, inl, inr, arith, ne_eqb}
+use Rattle.std.specs.Prelude.{option_map, ◌==◌}
 use Rattle.std.proofs.lemmas.Bool.{lt-ltb, le-ltb}
 use Rattle.cam_commands.specs.Commands.{Command, Unknown}
-use Rattle.cam_commands.specs.Numbers.{natural}
+use Rattle.cam_numbers.specs.Numbers.{natural, value_limit}
 use Rattle.cam_commands.specs.WordCommands.{Parts, by_code, said_by, operation_of, by_operation_code, operation_code, selection, function, lone_function, mode_of, program_code}
-use Rattle.cam_commands.specs.Machinery.Counting.{value_limit}
-use Rattle.cam_commands.proofs.Counting.{below_or}
+use Rattle.cam_numbers.proofs.Counting.{below_or}
 
 -- a meaning of code numbers that no number past the limit changes
 pub record IsSettled (meaning : ℕ → Command) : Type 0 where

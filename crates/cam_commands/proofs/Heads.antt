@@ -1,18 +1,10 @@
 -- Heads of texts, byte for byte.
-use Rattle.std.proofs.Common.{◌≡◌, ◌≢◌, ℕ, zero, suc, ◌+◌, ◌-◌, ◌<◌, ◌≤◌, List, [], ◌∷◌, length, take, drop, get_or, Bool, true, false, None, Some, Option, refl, sym, ap, ◌∙◌, ◌⊎◌, inl, inr, arith, eq-eqb, ne_eqb}
+use Rattle.std.proofs.Common.{◌≡◌, ℕ, suc, List, [], ◌∷◌, length, drop, true, false, None, Some, refl, sym, inl, inr, arith, eq-eqb, ne_eqb}
 use Rattle.std.specs.Prelude.{nat_eq, ◌&&◌, ◌==◌}
 use Rattle.std.specs.List.{starts_with}
 use Rattle.std.specs.Str.{bytes_eq}
 use Rattle.std.proofs.lemmas.Bool.{cases_eq}
-use Rattle.cam_commands.specs.Fields.{behind_head}
-
-pub behind_head-there : (head text rest : List ℕ) → starts_with nat_eq text head ≡ true → rest ≡ drop (length head) text → Some rest ≡ behind_head head text
-unfolding behind_head
-behind_head-there head text rest e is = rw (e, is) refl
-
-pub behind_head-absent : (head text : List ℕ) → starts_with nat_eq text head ≡ false → None ≡ behind_head head text
-unfolding behind_head
-behind_head-absent head text e = rw e refl
+use Rattle.cam_words.specs.Heads.{behind_head}
 
 whole : (head text : List ℕ) → bytes_eq text head ≡ (starts_with nat_eq text head && (length (drop (length head) text) == 0))
 whole [] [] = refl

@@ -1,9 +1,7 @@
 pub mod Kept
 pub mod Heads
 pub mod Runs
-pub mod Counting
-pub mod Naturals
-pub mod Fractions
+pub mod PlainNumbers
 pub mod CodeNumbers
 pub mod NameLetters
 pub mod Written

@@ -1,5 +1,5 @@
 -- The letters of an extended command decide what it says.
-use Rattle.std.proofs.Common.{◌≡◌, ◌≢◌, ℕ, List, [], ◌∷◌, ◌++◌, take, Bool, true, false, None, Some, Option, refl, sym, ap, ◌∙◌}
+use Rattle.std.proofs.Common.{◌≡◌, ◌≢◌, ℕ, List, [], ◌∷◌, ◌++◌, take, Bool, true, false, None, Option, refl, sym, ap}
 use Rattle.std.specs.Prelude.{◌&&◌, find}
 use Rattle.std.specs.List.{list_any}
 use Rattle.std.specs.Str.{bytes_eq}
@@ -11,8 +11,8 @@ use Rattle.cam_commands.specs.declared.names.Name.{Name}
 use Rattle.cam_commands.specs.declared.names.FreeText.TheVariants.{FileAttribute, ApertureAttribute, ObjectAttribute, DeleteAttribute, ImageName, LoadName}
 use Rattle.cam_commands.specs.declared.names.OldForm.TheVariants.{ImagePolarity, AxesSelect, ImageRotation, MirrorImage, Offset, ScaleFactor}
 use Rattle.cam_commands.specs.declared.names.Name.TheVariants.{FormatSpecification, UnitMode, ApertureDefinition, ApertureMacro, ApertureBlock, StepAndRepeat, LoadPolarity, LoadMirroring, LoadRotation, LoadScaling, Free, Old}
-use Rattle.cam_commands.specs.Fields.{behind_kept}
-use Rattle.cam_commands.specs.Commands.{Command, Unknown}
+use Rattle.cam_words.specs.Heads.{behind_kept}
+use Rattle.cam_commands.specs.Commands.{Unknown}
 use Rattle.cam_commands.specs.ExtendedCommands.{letters_of, names, name_of, by_name, named_command, extended_command}
 use Rattle.cam_commands.specs.Laws.{NamesDecide}
 

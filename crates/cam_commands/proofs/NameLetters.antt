@@ -8,8 +8,8 @@ use Rattle.cam_commands.specs.declared.names.Name.{Name}
 use Rattle.cam_commands.specs.declared.names.FreeText.TheVariants.{FileAttribute, ApertureAttribute, ObjectAttribute, DeleteAttribute, ImageName, LoadName}
 use Rattle.cam_commands.specs.declared.names.OldForm.TheVariants.{ImagePolarity, AxesSelect, ImageRotation, MirrorImage, Offset, ScaleFactor}
 use Rattle.cam_commands.specs.declared.names.Name.TheVariants.{FormatSpecification, UnitMode, ApertureDefinition, ApertureMacro, ApertureBlock, StepAndRepeat, LoadPolarity, LoadMirroring, LoadRotation, LoadScaling, Free, Old}
-use Rattle.cam_commands.specs.Fields.{behind_kept}
-use Rattle.cam_commands.specs.Commands.{Command, Unknown}
+use Rattle.cam_words.specs.Heads.{behind_kept}
+use Rattle.cam_commands.specs.Commands.{Unknown}
 use Rattle.cam_commands.specs.ExtendedCommands.{letters_of, name_of, by_name, named_command, may_hold_star, extended_command}
 use Rattle.cam_commands.proofs.Kept.{behind_more}
 

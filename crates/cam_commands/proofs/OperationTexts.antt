@@ -1,7 +1,7 @@
 -- A word that says an operation is written from its parts.
-use Rattle.std.proofs.Common.{◌≡◌, ℕ, suc, subst, ◌+◌, ◌<◌, ◌≤◌, List, [], ◌∷◌, ◌++◌, length, take, drop, Bool, true, false, None, Some, Option, refl, sym, ap, ◌∙◌, arith, cond, eqb}
+use Rattle.std.proofs.Common.{◌≡◌, ℕ, suc, subst, ◌+◌, List, [], ◌∷◌, ◌++◌, length, Bool, true, false, None, Some, Option, refl, sym, ap, ◌∙◌, arith, cond}
 use Rattle.std.specs.Prelude.{◌==◌}
-use Rattle.std.specs.List.{prefix_len, list_all}
+use Rattle.std.specs.List.{prefix_len}
 use Rattle.std.proofs.lemmas.Bool.{eqb-true}
 use Rattle.std.proofs.lemmas.List.{take-append-drop, nil_from_length}
 use Rattle.std.specs.Option.{option_and_then}
@@ -10,8 +10,8 @@ use Rattle.cam_units.specs.declared.length.Unit.TheVariants.{Mm, Inch}
 use Rattle.cam_commands.specs.declared.parts.Style.TheVariants.{Word}
 use Rattle.cam_commands.specs.declared.parts.Mode.{Mode}
 use Rattle.cam_commands.specs.declared.parts.Operation.{Operation}
-use Rattle.cam_commands.specs.Numbers.{is_numeric, natural}
-use Rattle.cam_commands.specs.Fields.{field, run_of, behind_run}
+use Rattle.cam_numbers.specs.Numbers.{run_of, behind_run, is_numeric, natural}
+use Rattle.cam_commands.specs.Fields.{field}
 use Rattle.cam_commands.specs.Commands.{Command, SetUnit, RefusedOld, SetMode, SingleQuadrant, MultiQuadrant, BeginRegion, EndRegion, Nothing, Select, Operate, End, Unknown}
 use Rattle.cam_commands.specs.WordCommands.{Parts, mode_of, selection, operation, operation_of, prefixed_selection, lone_function, program_code, word_command, by_function, function, by_run, by_code, by_mode}
 use Rattle.cam_commands.specs.Laws.{IsRun, IsRunIfWritten, AreRuns, field_text, text_of, IsWrittenFrom, OperationsAreWritten}

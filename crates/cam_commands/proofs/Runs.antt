@@ -1,13 +1,13 @@
 -- Runs of digits, signs and points among skipped bytes, and the fields that they make.
-use Rattle.std.proofs.Common.{◌≡◌, ◌≢◌, ℕ, zero, suc, ◌+◌, ◌-◌, ◌<◌, ◌≤◌, List, [], ◌∷◌, length, take, drop, Bool, true, false, None, Some, Option, refl, sym, ap, ◌∙◌, arith, eq-eqb, ne_eqb}
+use Rattle.std.proofs.Common.{◌≡◌, ◌≢◌, ℕ, suc, ◌+◌, ◌-◌, List, [], ◌∷◌, length, take, drop, Bool, true, false, None, Some, refl, ap, ◌∙◌, arith, eq-eqb, ne_eqb}
 use Rattle.std.specs.Prelude.{◌||◌}
 use Rattle.std.proofs.lemmas.Bool.{or_left, or_right, or_from}
 use Rattle.std.proofs.lemmas.List.{take_rest}
 use Rattle.std.specs.List.{prefix_len}
 use Rattle.cam_words.specs.Bytes.{is_skipped}
 use Rattle.cam_words.specs.Heads.{packed}
-use Rattle.cam_commands.specs.Numbers.{is_numeric}
-use Rattle.cam_commands.specs.Fields.{field, run_of, behind_run}
+use Rattle.cam_numbers.specs.Numbers.{run_of, behind_run, is_numeric}
+use Rattle.cam_commands.specs.Fields.{field}
 
 abbrev in_run : ℕ → Bool
 in_run byte = is_numeric byte || is_skipped byte

@@ -1,13 +1,13 @@
 -- Fields that are written one after another are read back.
-use Rattle.std.proofs.Common.{◌≡◌, ◌≢◌, ℕ, zero, suc, ◌+◌, ◌-◌, ◌<◌, ◌≤◌, List, [], ◌∷◌, ◌++◌, length, take, drop, Bool, true, false, None, Some, Option, refl, sym, ap, ◌∙◌, arith, eq-eqb, ne_eqb, ◌⊎◌, inl, inr, append_assoc}
-use Rattle.std.specs.Prelude.{◌||◌, ◌&&◌, ◌==◌}
+use Rattle.std.proofs.Common.{◌≡◌, ℕ, suc, ◌+◌, ◌<◌, List, [], ◌∷◌, ◌++◌, length, Bool, true, false, None, Some, Option, refl, sym, ap, ◌∙◌, arith, eq-eqb, ne_eqb, inl, inr}
+use Rattle.std.specs.Prelude.{◌||◌, ◌==◌}
 use Rattle.std.specs.List.{prefix_len, list_all}
 use Rattle.std.proofs.lemmas.Bool.{and_parts, or_cases, eqb-true, or_right, or_left}
 use Rattle.cam_commands.specs.declared.parts.Mode.{Mode}
-use Rattle.cam_commands.specs.Numbers.{is_numeric, natural}
-use Rattle.cam_commands.specs.Fields.{field, run_of, behind_run}
-use Rattle.cam_commands.specs.Commands.{Command, SetMode, Operate, Unknown}
-use Rattle.cam_commands.specs.WordCommands.{Parts, mode_of, operation, operation_of, word_command, by_function, function, by_run, by_code, by_mode}
+use Rattle.cam_numbers.specs.Numbers.{run_of, behind_run, is_numeric, natural}
+use Rattle.cam_commands.specs.Fields.{field}
+use Rattle.cam_commands.specs.Commands.{SetMode}
+use Rattle.cam_commands.specs.WordCommands.{Parts, mode_of, operation, operation_of, word_command, by_function, function}
 use Rattle.cam_commands.specs.Laws.{IsRun, IsRunIfWritten, AreRuns, field_text, text_of, WordsSayTheirParts}
 
 -- the first byte, if there is one, passes

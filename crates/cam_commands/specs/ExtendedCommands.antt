@@ -1,14 +1,14 @@
 -- What an extended command says: its name is its first two letters, and its data what follows.
 -- Gerber Layer Format Specification, "Syntax", "Extended commands", and "Deprecated format elements".
-use Rattle.std.specs.Prelude.{ℕ, ◌-◌, List, [], ◌∷◌, length, take, drop, codes, Option, Some, None, Bool, true, false, ◌==◌, ◌&&◌, ◌||◌, not, nat_le, is_some, if◌then◌else◌, find}
+use Rattle.std.specs.Prelude.{ℕ, ◌-◌, List, [], ◌∷◌, length, take, codes, Option, Some, None, Bool, true, false, ◌==◌, ◌&&◌, ◌||◌, not, nat_le, is_some, if◌then◌else◌, find}
 use Rattle.std.specs.Option.{option_and_then}
 use Rattle.std.specs.List.{list_any}
 use Rattle.std.specs.Str.{bytes_eq}
 use Rattle.cam_words.specs.Bytes.{is_star}
-use Rattle.cam_words.specs.Heads.{packed}
+use Rattle.cam_words.specs.Heads.{packed, behind_head, behind_kept}
 use Rattle.cam_units.specs.declared.length.Unit.TheVariants.{Mm, Inch}
 use Rattle.cam_commands.specs.declared.parts.Format.{Format}
-use Rattle.cam_commands.specs.declared.parts.Style.TheVariants.{Word, Extended}
+use Rattle.cam_commands.specs.declared.parts.Style.TheVariants.{Extended}
 use Rattle.cam_commands.specs.declared.parts.Polarity.TheVariants.{Dark, Clear}
 use Rattle.cam_commands.specs.declared.parts.Mirror.TheVariants as mirror
 use Rattle.cam_commands.specs.declared.names.FreeText.TheVariants.{FileAttribute, ApertureAttribute, ObjectAttribute, DeleteAttribute, ImageName, LoadName}
@@ -16,8 +16,9 @@ use Rattle.cam_commands.specs.declared.names.OldForm.{OldForm}
 use Rattle.cam_commands.specs.declared.names.OldForm.TheVariants.{ImagePolarity, AxesSelect, ImageRotation, MirrorImage, Offset, ScaleFactor}
 use Rattle.cam_commands.specs.declared.names.Name.{Name}
 use Rattle.cam_commands.specs.declared.names.Name.TheVariants.{FormatSpecification, UnitMode, ApertureDefinition, ApertureMacro, ApertureBlock, StepAndRepeat, LoadPolarity, LoadMirroring, LoadRotation, LoadScaling, Free, Old}
-use Rattle.cam_commands.specs.Numbers.{decimal, count, defined_number, is_plain}
-use Rattle.cam_commands.specs.Fields.{is_run, field, behind_head, behind_kept}
+use Rattle.cam_numbers.specs.Numbers.{decimal, defined_number}
+use Rattle.cam_commands.specs.Numbers.{count, is_plain}
+use Rattle.cam_commands.specs.Fields.{is_run, field}
 use Rattle.cam_commands.specs.Commands.{Command, SetFormat, RefusedFormat, SetUnit, DefineAperture, DefineMacro, SetPolarity, SetMirror, SetRotation, SetScale, OpenBlock, CloseBlock, SetRepeat, CloseRepeat, KeepText, NeutralOld, RefusedOld, Unknown}
 use Rattle.cam_commands.specs.WordCommands.{slot}
 

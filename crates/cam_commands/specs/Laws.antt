@@ -1,5 +1,5 @@
 -- What stands above the definitions: a word says what it is written from, and the two letters of an extended command decide.
-use Rattle.std.specs.Prelude.{◌≡◌, ◌≢◌, ℕ, ◌+◌, ◌<◌, List, [], ◌∷◌, ◌++◌, length, take, true, false, Option, Some, None}
+use Rattle.std.specs.Prelude.{◌≡◌, ◌≢◌, ℕ, ◌<◌, List, [], ◌∷◌, ◌++◌, length, take, true, false, Option, Some, None}
 use Rattle.std.specs.Option.{option_and_then}
 use Rattle.std.specs.List.{list_all, list_any}
 use Rattle.cam_words.specs.Bytes.{is_star}
@@ -8,8 +8,8 @@ use Rattle.cam_commands.specs.declared.parts.Mode.{Mode}
 use Rattle.cam_commands.specs.declared.parts.Operation.{Operation}
 use Rattle.cam_commands.specs.declared.names.Name.{Name}
 use Rattle.cam_commands.specs.declared.names.Name.TheVariants.{ApertureMacro}
-use Rattle.cam_commands.specs.Numbers.{is_numeric, natural}
-use Rattle.cam_commands.specs.Commands.{Command, SetMode, Operate, Unknown}
+use Rattle.cam_numbers.specs.Numbers.{is_numeric, natural}
+use Rattle.cam_commands.specs.Commands.{SetMode, Operate, Unknown}
 use Rattle.cam_commands.specs.WordCommands.{Parts, mode_of, operation_of, word_command}
 use Rattle.cam_commands.specs.ExtendedCommands.{letters_of, named_command, extended_command}
 

@@ -1,16 +1,15 @@
 -- What a word says, by its text without skipped bytes. Gerber Layer Format Specification, "Syntax", "Word commands".
-use Rattle.std.specs.Prelude.{ℕ, ℤ, List, [], ◌∷◌, length, Option, Some, None, Bool, ◌==◌, ◌||◌, nat_lt, is_some, is_none, if◌then◌else◌}
+use Rattle.std.specs.Prelude.{ℕ, List, length, Option, Some, None, Bool, ◌==◌, ◌||◌, nat_lt, is_some, if◌then◌else◌}
 use Rattle.std.specs.Option.{option_and_then}
 use Rattle.cam_units.specs.declared.length.Unit.TheVariants.{Mm, Inch}
 use Rattle.cam_commands.specs.declared.parts.Slot.{Slot}
 use Rattle.cam_commands.specs.declared.parts.Slot.TheVariants.{Omitted, Malformed, Written}
-use Rattle.cam_commands.specs.declared.parts.Style.TheVariants.{Word, Extended}
+use Rattle.cam_commands.specs.declared.parts.Style.TheVariants.{Word}
 use Rattle.cam_commands.specs.declared.parts.Mode.{Mode}
 use Rattle.cam_commands.specs.declared.parts.Mode.TheVariants.{Linear, Clockwise, Counterclockwise}
 use Rattle.cam_commands.specs.declared.parts.OperationCode.{OperationCode}
 use Rattle.cam_commands.specs.declared.parts.OperationCode.TheVariants.{Plot, Move, Flash}
-use Rattle.cam_commands.specs.declared.parts.Operation.{Operation}
-use Rattle.cam_commands.specs.Numbers.{natural, integer, within_numbers}
+use Rattle.cam_numbers.specs.Numbers.{natural, integer, within_numbers}
 use Rattle.cam_commands.specs.Fields.{field}
 use Rattle.cam_commands.specs.Commands.{Command, SetUnit, RefusedOld, SetMode, SingleQuadrant, MultiQuadrant, BeginRegion, EndRegion, Nothing, Select, Operate, End, Unknown}
 

@@ -3,17 +3,20 @@
 ghost use Rattle.std.specs.Prelude.{◌≡◌, option_map, Some};
 ghost use Rattle.std.specs.Option.{option_copied};
 ghost use Rattle.cam_words.specs.Heads.{packed};
-ghost use Rattle.cam_commands.specs.Numbers.{decimal, count};
+ghost use Rattle.cam_numbers.specs.Numbers.{decimal};
+ghost use Rattle.cam_commands.specs.Numbers.{count};
 ghost use Rattle.cam_commands.specs.WordCommands.{slot};
 ghost use Rattle.cam_commands.specs.ExtendedCommands.{is_format_digit, format_of, format_of_axes, format_command, unit_command, polarity_command, mirror_command, rotation_command, scale_command, block_command, repeat_command};
 ghost use Rattle.cam_commands.specs.Machinery.Shown.{shown};
 
 use crate::command::Command;
 use crate::field::{is_run, read_field};
-use crate::numbers::{count, decimal, defined_number};
+use crate::numbers::count;
 use crate::parts::{Format, Mirror, Polarity, Repeat, Slot, Style};
-use crate::text::{behind_head, first_kept, is_empty, is_text};
+use crate::text::{is_empty, is_text};
+use cam_numbers::{Blanks, decimal, defined_number};
 use cam_units::Unit;
+use cam_words::{behind_head, first_kept};
 
 fn is_format_digit(byte: u8) -> bool
     ensures { result ≡ is_format_digit byte }
@@ -139,7 +142,7 @@ pub fn rotation_command(text: &[u8]) -> Command<'static>
     if !is_run(text) {
         return Command::Unknown;
     }
-    Command::SetRotation(decimal(text))
+    Command::SetRotation(decimal(text, Blanks::Skipped))
 }
 
 /// What stands behind `LS`.
@@ -150,7 +153,7 @@ pub fn scale_command(text: &[u8]) -> Command<'static>
     if !is_run(text) {
         return Command::Unknown;
     }
-    Command::SetScale(decimal(text))
+    Command::SetScale(decimal(text, Blanks::Skipped))
 }
 
 /// What stands behind `AB`.
@@ -168,7 +171,7 @@ pub fn block_command(text: &[u8]) -> Command<'static>
     let Some(run) = d.run else {
         return Command::Unknown;
     };
-    Command::OpenBlock(defined_number(run))
+    Command::OpenBlock(defined_number(run, Blanks::Skipped))
 }
 
 /// A count of columns or rows.
@@ -190,7 +193,7 @@ fn step(run: Option<&[u8]>) -> Slot<i64>
 {
     match run {
         None => Slot::Omitted,
-        Some(run) => match decimal(run) {
+        Some(run) => match decimal(run, Blanks::Skipped) {
             None => Slot::Malformed,
             Some(n) => Slot::Written(n),
         },

@@ -5,10 +5,12 @@ ghost use Rattle.std.specs.Option.{option_copied};
 ghost use Rattle.std.specs.List.{prefix_len};
 ghost use Rattle.cam_words.specs.Bytes.{is_skipped};
 ghost use Rattle.cam_words.specs.Heads.{packed};
-ghost use Rattle.cam_commands.specs.Numbers.{is_numeric};
+ghost use Rattle.cam_numbers.specs.Numbers.{is_numeric};
 ghost use Rattle.cam_commands.specs.Fields.{field, is_run};
 
-use crate::text::{first_kept, is_empty, is_skipped};
+use crate::text::is_empty;
+use cam_numbers::is_numeric;
+use cam_words::{first_kept, is_skipped};
 
 /// What stands behind a letter at the front of a text.
 #[derive(Clone, Copy)]
@@ -16,14 +18,6 @@ pub struct Field<'a> {
     /// Digits, signs and points, where the letter stands there.
     pub run: Option<&'a [u8]>,
     pub behind: &'a [u8],
-}
-
-/// Whether a number may hold the byte: digits, signs and points.
-#[tactic(auto, unfolding(crate::specs::Numbers::is_numeric))]
-fn is_numeric(byte: u8) -> bool
-    ensures { result ≡ is_numeric byte }
-{
-    byte.is_ascii_digit() || matches!(byte, b'+' | b'-' | b'.')
 }
 
 /// How many digits, signs, points and skipped bytes the text begins with.

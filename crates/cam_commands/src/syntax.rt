@@ -15,9 +15,9 @@ use crate::extended::{
 use crate::names::{Name, name_of};
 use crate::old_forms::is_neutral;
 use crate::parts::Style;
-use crate::text::{first_kept, holds_star};
+use crate::text::holds_star;
 use crate::words::word_command;
-use cam_words::{Kind, Word};
+use cam_words::{Kind, Word, first_kept};
 
 /// An extended command by its name and what stands behind the two letters.
 #[tactic(auto, unfolding(crate::specs::ExtendedCommands::named_command))]

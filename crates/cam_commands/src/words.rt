@@ -3,7 +3,7 @@
 ghost use Rattle.std.specs.Prelude.{◌≡◌, option_map};
 ghost use Rattle.std.specs.Option.{option_copied};
 ghost use Rattle.cam_words.specs.Heads.{packed};
-ghost use Rattle.cam_commands.specs.Numbers.{integer};
+ghost use Rattle.cam_numbers.specs.Numbers.{integer};
 ghost use Rattle.cam_commands.specs.WordCommands.{slot, mode_of, operation_code, selection, has_coordinate, operate, by_operation_code, operation_of, operation, prefixed_selection, lone_function, function, program_code, by_function, word_command};
 ghost use Rattle.cam_commands.specs.Commands.{SetUnit};
 ghost use Rattle.cam_commands.specs.declared.parts.Style.TheVariants.{Word};
@@ -13,9 +13,9 @@ ghost use Rattle.cam_commands.specs.Machinery.WordParts.{parts_of};
 
 use crate::command::Command;
 use crate::field::read_field;
-use crate::numbers::{integer, natural, within_numbers};
 use crate::parts::{Mode, Operation, OperationCode, Slot, Style};
 use crate::text::is_empty;
+use cam_numbers::{Blanks, integer, natural, within_numbers};
 use cam_units::Unit;
 
 /// X, Y, I or J of an operation.
@@ -24,7 +24,7 @@ fn coordinate(run: Option<&[u8]>) -> Slot<i64>
 {
     match run {
         None => Slot::Omitted,
-        Some(run) => match integer(run) {
+        Some(run) => match integer(run, Blanks::Skipped) {
             None => Slot::Malformed,
             Some(n) => Slot::Written(n),
         },
@@ -122,7 +122,7 @@ fn operation_of(parts: Parts<'_>) -> Command<'static>
         }
         return Command::Unknown;
     };
-    let Some(code) = natural(run) else {
+    let Some(code) = natural(run, Blanks::Skipped) else {
         return Command::Unknown;
     };
     by_operation_code(parts, code)
@@ -163,7 +163,7 @@ fn prefixed_selection(text: &[u8]) -> Command<'static>
     let Some(run) = d.run else {
         return Command::Unknown;
     };
-    let Some(code) = natural(run) else {
+    let Some(code) = natural(run, Blanks::Skipped) else {
         return Command::Unknown;
     };
     selection(code)
@@ -238,7 +238,7 @@ fn by_function(text: &[u8]) -> Command<'static>
     let Some(run) = g.run else {
         return operation(None, text);
     };
-    let Some(code) = natural(run) else {
+    let Some(code) = natural(run, Blanks::Skipped) else {
         return Command::Unknown;
     };
     function(code, g.behind)
@@ -259,7 +259,7 @@ pub fn word_command(text: &[u8]) -> Command<'static>
     if !is_empty(m.behind) {
         return Command::Unknown;
     }
-    let Some(code) = natural(run) else {
+    let Some(code) = natural(run, Blanks::Skipped) else {
         return Command::Unknown;
     };
     program_code(code)

@@ -1,17 +1,17 @@
 -- What has been read of nested parentheses, as parts of sums.
-use Rattle.std.proofs.Common.{◌≡◌, ℕ, zero, suc, ◌+◌, ◌≤◌, Bool, true, false, cond, ltb, length, ◌==◌, ◌||◌, ◌&&◌}
-use Rattle.std.proofs.Common.{◌⊎◌, inl, inr, List, [], ◌∷◌, ◌++◌, replicate, Option, Some, None, refl, ap, sym, ◌∙◌}
+use Rattle.std.proofs.Common.{◌≡◌, ℕ, zero, suc, ◌+◌, ◌≤◌, Bool, true, false, cond, ltb, length, ◌==◌, ◌||◌}
+use Rattle.std.proofs.Common.{◌⊎◌, inl, inr, List, [], ◌∷◌, ◌++◌, replicate, Option, Some, None, refl, ap, sym, subst, ◌∙◌, ◌<◌}
 use Rattle.std.proofs.Common.{append_assoc, append-nil, arith}
-use Rattle.std.specs.List.{list_all, slice_split, join_with_byte}
-use Rattle.std.specs.Char.{is_ascii_digit}
-use Rattle.std.proofs.lemmas.Bool.{ltb-true, eqb-true}
-use Rattle.std.proofs.lemmas.List.Splits.{join_with_byte-slice_split}
+use Rattle.std.specs.Option.{option_and_then}
+use Rattle.cam_numbers.proofs.Written.{was_written, natural_found}
+use Rattle.std.proofs.lemmas.Bool.{ltb-false, eqb-true, eqb-false}
 use Rattle.cam_macros.specs.declared.expression.Operator.{Operator}
 use Rattle.cam_macros.specs.declared.expression.Step.{Step}
 use Rattle.cam_macros.specs.declared.expression.Step.TheVariants.{Negate, Apply}
 use Rattle.cam_macros.specs.declared.scanner.Level.{Level}
 use Rattle.cam_macros.specs.declared.mark.Mark.{Mark}
-use Rattle.cam_macros.specs.Numbers.{decimal, billionths}
+use Rattle.cam_numbers.specs.Numbers.{value_of, natural}
+use Rattle.cam_macros.specs.Numbers.{number_written}
 use Rattle.cam_macros.specs.Tree.{Number}
 use Rattle.cam_macros.specs.Machinery.Postfix.{postfix}
 use Rattle.cam_macros.specs.Grammar.{Sign, Plus, Minus, Cross, Decimal, Whole, Pointed, Sum, OneTerm, Added, Term}
@@ -19,27 +19,12 @@ use Rattle.cam_macros.specs.Grammar.{OneFactor, Multiplied, Factor, Signed, sign
 use Rattle.cam_macros.specs.Grammar.{sum_text, term_text, factor_text, sum_count, term_count, factor_count}
 use Rattle.cam_macros.specs.Grammar.{IsNumber, IsDecimal, IsVariable, IsSum, IsTerm, IsFactor, sign_operator}
 use Rattle.cam_macros.specs.Grammar.{cross_operator, decimal_tree, sum_tree, term_tree, factor_tree}
-use Rattle.cam_macros.specs.Machinery.Scanning.{is_numeric, mark_of, number_at, number_between, number_of}
+use Rattle.cam_macros.specs.Machinery.Scanning.{is_numeric, mark_of, number_of, variable_by}
 use Rattle.cam_macros.specs.Machinery.Scanning.{variable_of, with_operand, Scan, level_of, scan_of, waiting, Wanted}
 use Rattle.cam_macros.specs.Machinery.Scanning.{Behind, scan}
 use Rattle.cam_macros.specs.Bytes.{closing, dollar, large_x, minus, opening, plus, point, slash, small_x}
 
 -- leaves
-
-pub record HasFour {A : Type 0} (a b c d : Bool) (x v : A) : Type 0 where
-  pub first : a ≡ true
-  pub second : b ≡ true
-  pub third : c ≡ true
-  pub fourth : d ≡ true
-  pub value : x ≡ v
-
-pub four : {A : Type 0} (a b c d : Bool) (x v : A) → cond ((a && b) && (c && d)) (Some x) None ≡ Some v
-    → HasFour a b c d x v
-four true true true true x v e = record { first = refl; second = refl; third = refl; fourth = refl; value = cc }
-four false b c d x v e = cc
-four true false c d x v e = cc
-four true true false d x v e = cc
-four true true true false x v e = cc
 
 pub record IsLeaf (run : List ℕ) (v : ℕ) : Type 0 where
   pub leaf : Decimal
@@ -47,51 +32,43 @@ pub record IsLeaf (run : List ℕ) (v : ℕ) : Type 0 where
   pub fits : IsDecimal leaf
   pub same : decimal_tree leaf ≡ Number v
 
-pub number_found : (whole decimals : List ℕ) (v : ℕ) → number_at whole decimals ≡ Some v
-    → IsNumber whole decimals × (billionths whole decimals ≡ v)
-number_found whole decimals v e =
-    let h = four (list_all is_ascii_digit whole) (list_all is_ascii_digit decimals)
-    (ltb 0 (length whole + length decimals)) (ltb (decimal whole) 1000000) (billionths whole decimals) v e in (
-      record {
-        before = h.first;
-        behind = h.second;
-        some = ltb-true 0 (length whole + length decimals) h.third;
-        small = ltb-true (decimal whole) 1000000 h.fourth;
-      },
-      h.value,
-    )
-
-pub leaf_between : (parts : List (List ℕ)) (run : List ℕ) (v : ℕ) → join_with_byte point parts ≡ run
-    → number_between parts ≡ Some v → IsLeaf run v
-leaf_between [] run v e n = cc
-leaf_between (whole ∷ []) run v e n =
-    let h = number_found whole [] v n in
-    record { leaf = Whole whole; written = e; fits = h.0; same = ap Number h.1 }
-leaf_between (whole ∷ decimals ∷ []) run v e n =
-    let h = number_found whole decimals v n in
-    record { leaf = Pointed whole decimals; written = e; fits = h.0; same = ap Number h.1 }
-leaf_between (_ ∷ _ ∷ _ ∷ _) run v e n = cc
+leaf_written : (run whole decimals : List ℕ) (v : ℕ) → IsNumber whole decimals → number_written whole decimals ≡ v
+    → (decimals ≡ [] × run ≡ whole) ⊎ (run ≡ whole ++ point ∷ decimals) → IsLeaf run v
+leaf_written run whole decimals v h e (inl w) = record {
+  leaf = Whole whole;
+  written = sym w.1;
+  fits = subst (λ d. IsNumber whole d) w.0 h;
+  same = ap Number (ap (number_written whole) (sym w.0) ∙ e);
+}
+leaf_written run whole decimals v h e (inr w) =
+    record { leaf = Pointed whole decimals; written = sym w; fits = h; same = ap Number e }
 
 pub leaf_of : (run : List ℕ) (v : ℕ) → number_of run ≡ Some v → IsLeaf run v
-leaf_of run v n = leaf_between (slice_split (λ b. b == point) run) run v (join_with_byte-slice_split point run) n
+leaf_of run v n =
+    let r = was_written run v n in
+    let p = r.parts in
+    leaf_written run r.whole r.decimals v (record { before = p.before; behind = p.behind; some = p.some; small = p.small })
+    r.value r.written.parts
 
-pub three : {A : Type 0} (a c d : Bool) (x v : A) → cond (a && (c && d)) (Some x) None ≡ Some v → HasFour a true c d x v
-three true true true x v e = record { first = refl; second = refl; third = refl; fourth = refl; value = cc }
-three false c d x v e = cc
-three true false d x v e = cc
-three true true false x v e = cc
+variable_told : (n v : ℕ) → variable_by n ≡ Some v → (0 < n) × (n < 10000) × (n ≡ v)
+variable_told n v e = go (n == 0) (ltb 9999 n) refl refl e
+  where
+    go : (a b : Bool) → (n == 0) ≡ a → ltb 9999 n ≡ b → cond a None (cond b None (Some n)) ≡ Some v → (0 < n) × (n < 10000) × (n ≡ v)
+    go true b p q e = cc
+    go false true p q e = cc
+    go false false p q e = let some = eqb-false n 0 p in let le = ltb-false 9999 n q in (omega (arith, some), omega (arith, le), cc)
 
-pub variable_found : (digits : List ℕ) (v : ℕ) → variable_of digits ≡ Some v → IsVariable digits × (decimal digits ≡ v)
-variable_found digits v e =
-    let h = three (list_all is_ascii_digit digits) (ltb 0 (decimal digits)) (ltb (decimal digits) 10000)
-    (decimal digits) v e in (
-      record {
-        all = h.first;
-        some = ltb-true 0 (decimal digits) h.third;
-        small = ltb-true (decimal digits) 10000 h.fourth;
-      },
-      h.value,
-    )
+pub variable_found : (digits : List ℕ) (v : ℕ) → variable_of digits ≡ Some v → IsVariable digits × (value_of digits ≡ v)
+variable_found digits v e = go (natural digits) refl e
+  where
+    go : (o : Option ℕ) → natural digits ≡ o → option_and_then variable_by o ≡ Some v → IsVariable digits × (value_of digits ≡ v)
+    go None is e = cc
+    go (Some n) is e =
+        let found = natural_found digits n is in
+        let told = variable_told n v e in (
+          record { all = found.digits; some = omega (arith, found.value, told.0); small = omega (arith, found.value, told.1) },
+          found.value ∙ told.2,
+        )
 
 -- the byte of a mark
 

@@ -1,17 +1,21 @@
 -- Reading from left to right, against the grammar.
-use Rattle.std.proofs.Common.{◌≡◌, ℕ, zero, suc, ◌+◌, ◌-◌, Bool, true, false, cond, eqb, ltb, length, ◌==◌, ◌||◌}
-use Rattle.std.proofs.Common.{◌&&◌, List, [], ◌∷◌, ◌++◌, replicate, Option, Some, None, refl, ap, sym, subst, ◌∙◌}
+use Rattle.std.proofs.Common.{◌≡◌, ℕ, zero, suc, ◌+◌, ◌<◌, ◌-◌, Bool, true, false, cond, ◌==◌, ◌||◌}
+use Rattle.std.proofs.Common.{◌&&◌, List, [], ◌∷◌, ◌++◌, replicate, Option, Some, None, refl, ap, sym, ◌∙◌}
 use Rattle.std.proofs.Common.{append_assoc, append-nil, arith, take, one-add}
 use Rattle.std.specs.Prelude.{take_while, option_map}
-use Rattle.std.specs.List.{list_all, slice_split, onto_first, prefix_len}
-use Rattle.std.proofs.lemmas.Bool.{lt-ltb, ne_eqb}
+use Rattle.std.specs.Option.{option_and_then}
+use Rattle.std.specs.List.{list_all, prefix_len}
+use Rattle.std.proofs.lemmas.Bool.{le-ltb, ne_eqb}
 use Rattle.std.specs.Char.{is_ascii_digit}
 use Rattle.cam_macros.specs.declared.expression.Operator.{Operator}
 use Rattle.cam_macros.specs.declared.expression.Step.{Step}
 use Rattle.cam_macros.specs.declared.expression.Step.TheVariants.{Push, Read, Negate, Apply}
 use Rattle.cam_macros.specs.declared.scanner.Level.{Level}
 use Rattle.cam_macros.specs.declared.mark.Mark.TheVariants as Mark
-use Rattle.cam_macros.specs.Numbers.{decimal, billionths}
+use Rattle.cam_numbers.specs.Numbers.{value_of}
+use Rattle.cam_numbers.proofs.Naturals.{natural-digits}
+use Rattle.cam_numbers.proofs.Written.{AreParts, read_whole, read_pointed, some_digits}
+use Rattle.cam_macros.specs.Numbers.{number_written}
 use Rattle.cam_macros.specs.Tree.{Tree}
 use Rattle.cam_macros.specs.Machinery.Postfix.{postfix}
 use Rattle.cam_macros.specs.Grammar.{Sign, Plus, Minus, Cross, Small, Large, Slash, Whole, Pointed, Sum, OneTerm}
@@ -19,7 +23,7 @@ use Rattle.cam_macros.specs.Grammar.{Added, Term, OneFactor, Multiplied, Factor,
 use Rattle.cam_macros.specs.Grammar.{sign_byte, cross_byte, sum_text, term_text, factor_text, sum_count, term_count}
 use Rattle.cam_macros.specs.Grammar.{factor_count, AreDigits, IsNumber, IsVariable, IsSum, IsTerm, IsFactor}
 use Rattle.cam_macros.specs.Grammar.{sign_operator, cross_operator, sum_tree, term_tree, factor_tree, IsExpression}
-use Rattle.cam_macros.specs.Machinery.Scanning.{is_numeric, mark_of, number_at, number_between, number_of}
+use Rattle.cam_macros.specs.Machinery.Scanning.{is_numeric, mark_of, number_of, variable_by}
 use Rattle.cam_macros.specs.Machinery.Scanning.{variable_of, operand_at, operator_at, goes_on, with_operand}
 use Rattle.cam_macros.specs.Machinery.Scanning.{with_step, Scan, level_of, fresh, scan_of, waiting, Wanted, Behind}
 use Rattle.cam_macros.specs.Machinery.Scanning.{InNumber, InVariable, scan, scanned}
@@ -186,61 +190,23 @@ sign_apart Minus rest = refl
 
 -- decimals
 
-no_point : (b : ℕ) → is_ascii_digit b ≡ true → eqb b point ≡ false
-no_point b h = ne_eqb b point (λ e. let wrong : false ≡ true = subst (λ c. is_ascii_digit c ≡ true) e h in cc)
+are_parts : (whole decimals : List ℕ) → IsNumber whole decimals → AreParts whole decimals
+are_parts whole decimals h = record { before = h.before; behind = h.behind; some = h.some; small = h.small }
 
-digits_apart : (digits : List ℕ) → AreDigits digits → slice_split (λ b. b == point) digits ≡ digits ∷ []
-digits_apart [] h = refl
-digits_apart (b ∷ digits) h =
-    ap (λ v. cond v ([] ∷ slice_split (λ b. b == point) digits) (onto_first b (slice_split (λ b. b == point) digits)))
-    (no_point b (and_left (is_ascii_digit b) (list_all is_ascii_digit digits) h))
-    ∙ ap (onto_first b) (digits_apart digits (and_right (is_ascii_digit b) (list_all is_ascii_digit digits) h))
-
-point_apart : (whole rest : List ℕ) → AreDigits whole
-    → slice_split (λ b. b == point) (whole ++ point ∷ rest) ≡ whole ∷ slice_split (λ b. b == point) rest
-point_apart [] rest h = refl
-point_apart (b ∷ whole) rest h =
-    ap (λ v. cond v ([] ∷ slice_split (λ b. b == point) (whole ++ point ∷ rest))
-    (onto_first b (slice_split (λ b. b == point) (whole ++ point ∷ rest))))
-    (no_point b (and_left (is_ascii_digit b) (list_all is_ascii_digit whole) h))
-    ∙ ap (onto_first b) (point_apart whole rest (and_right (is_ascii_digit b) (list_all is_ascii_digit whole) h))
-
-chosen : {A : Type 0} (a b c d : Bool) (x : A) → a ≡ true → b ≡ true → c ≡ true → d ≡ true
-    → cond ((a && b) && (c && d)) (Some x) None ≡ Some x
-chosen true true true true x p q r s = refl
-chosen false b c d x p q r s = cc
-chosen true false c d x p q r s = cc
-chosen true true false d x p q r s = cc
-chosen true true true false x p q r s = cc
-
-chosen_of_three : {A : Type 0} (a c d : Bool) (x : A) → a ≡ true → c ≡ true → d ≡ true
-    → cond (a && (c && d)) (Some x) None ≡ Some x
-chosen_of_three true true true x p r s = refl
-chosen_of_three false c d x p r s = cc
-chosen_of_three true false d x p r s = cc
-chosen_of_three true true false x p r s = cc
-
-number_is : (whole decimals : List ℕ) → IsNumber whole decimals
-    → number_at whole decimals ≡ Some (billionths whole decimals)
-number_is whole decimals h =
-    chosen (list_all is_ascii_digit whole) (list_all is_ascii_digit decimals) (ltb 0 (length whole + length decimals))
-    (ltb (decimal whole) 1000000) (billionths whole decimals)
-    h.before h.behind (lt-ltb 0 (length whole + length decimals) h.some) (lt-ltb (decimal whole) 1000000 h.small)
-
-number_of_whole : (whole : List ℕ) → IsNumber whole [] → number_of whole ≡ Some (billionths whole [])
-number_of_whole whole h = ap number_between (digits_apart whole h.before) ∙ number_is whole [] h
+number_of_whole : (whole : List ℕ) → IsNumber whole [] → number_of whole ≡ Some (number_written whole [])
+number_of_whole whole h = read_whole whole (are_parts whole [] h)
 
 number_of_pointed : (whole decimals : List ℕ) → IsNumber whole decimals
-    → number_of (whole ++ point ∷ decimals) ≡ Some (billionths whole decimals)
-number_of_pointed whole decimals h =
-    ap number_between (point_apart whole decimals h.before ∙ ap (λ l. whole ∷ l) (digits_apart decimals h.behind))
-    ∙ number_is whole decimals h
+    → number_of (whole ++ point ∷ decimals) ≡ Some (number_written whole decimals)
+number_of_pointed whole decimals h = read_pointed whole decimals (are_parts whole decimals h)
 
-pub variable_is : (digits : List ℕ) → IsVariable digits → variable_of digits ≡ Some (decimal digits)
+variable_at : (n : ℕ) → 0 < n → n < 10000 → variable_by n ≡ Some n
+variable_at n some small = rw (ne_eqb n 0 (λ e. absurd (omega (arith, some, e))), le-ltb 9999 n (omega (arith, small))) refl
+
+pub variable_is : (digits : List ℕ) → IsVariable digits → variable_of digits ≡ Some (value_of digits)
 variable_is digits h =
-    chosen_of_three (list_all is_ascii_digit digits) (ltb 0 (decimal digits)) (ltb (decimal digits) 10000)
-    (decimal digits)
-    h.all (lt-ltb 0 (decimal digits) h.some) (lt-ltb (decimal digits) 10000 h.small)
+    ap (option_and_then variable_by) (natural-digits digits h.all (some_digits digits h.some))
+    ∙ variable_at (value_of digits) h.some h.small
 
 or_true : (a b : Bool) → a ≡ true → a || b ≡ true
 or_true true b h = refl
@@ -262,20 +228,20 @@ pointed_numeric (b ∷ whole) decimals h k =
     ∙ pointed_numeric whole decimals (and_right (is_ascii_digit b) (list_all is_ascii_digit whole) h) k
 
 whole_read : (s : Scan) (whole rest : List ℕ) → IsNumber whole [] → IsApart rest
-    → scan Wanted s (whole ++ rest) ≡ scan Behind (with_step (Push (billionths whole [])) s) rest
+    → scan Wanted s (whole ++ rest) ≡ scan Behind (with_step (Push (number_written whole [])) s) rest
 whole_read s [] rest h apart = absurd (omega (arith, h.some))
 whole_read s (b ∷ whole) rest h apart =
-    number_read s b whole rest (billionths (b ∷ whole) []) (digits_numeric (b ∷ whole) h.before)
+    number_read s b whole rest (number_written (b ∷ whole) []) (digits_numeric (b ∷ whole) h.before)
     (number_of_whole (b ∷ whole) h) apart
 
 pointed_read : (s : Scan) (whole decimals rest : List ℕ) → IsNumber whole decimals → IsApart rest
     → scan Wanted s ((whole ++ point ∷ decimals) ++ rest)
-    ≡ scan Behind (with_step (Push (billionths whole decimals)) s) rest
+    ≡ scan Behind (with_step (Push (number_written whole decimals)) s) rest
 pointed_read s [] decimals rest h apart =
-    number_read s point decimals rest (billionths [] decimals) (pointed_numeric [] decimals refl h.behind)
+    number_read s point decimals rest (number_written [] decimals) (pointed_numeric [] decimals refl h.behind)
     (number_of_pointed [] decimals h) apart
 pointed_read s (b ∷ whole) decimals rest h apart =
-    number_read s b (whole ++ point ∷ decimals) rest (billionths (b ∷ whole) decimals)
+    number_read s b (whole ++ point ∷ decimals) rest (number_written (b ∷ whole) decimals)
     (pointed_numeric (b ∷ whole) decimals h.before h.behind) (number_of_pointed (b ∷ whole) decimals h) apart
 
 -- the steps of a sum before its last operator, and that operator
@@ -371,7 +337,7 @@ mutual
       ∙ pointed_read (scan_of steps (level_of sum term minuses) outer room left) whole decimals rest h apart
   factor_read (Dollar digits) room steps sum term minuses outer left rest h apart =
       other_text steps (level_of sum term minuses) outer room (0 + left) left _ _ (omega arith) refl
-      ∙ variable_read (scan_of steps (level_of sum term minuses) outer room left) digits rest (decimal digits) h.all
+      ∙ variable_read (scan_of steps (level_of sum term minuses) outer room left) digits rest (value_of digits) h.all
       (variable_is digits h) apart
   factor_read (Signed Plus f) room steps sum term minuses outer left rest h apart =
       other_text steps (level_of sum term minuses) outer room _ (suc (factor_count f + left)) _ _ (omega arith) refl

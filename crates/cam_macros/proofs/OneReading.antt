@@ -4,7 +4,7 @@ use Rattle.cam_macros.specs.declared.part.Part.{Part}
 use Rattle.cam_macros.specs.declared.part.Part.TheVariants.{Assignment, Primitive}
 use Rattle.cam_macros.specs.Tree.{Tree}
 use Rattle.cam_macros.specs.Machinery.Postfix.{postfix, tree_of, tree_of-postfix}
-use Rattle.cam_macros.specs.Numbers.{decimal}
+use Rattle.cam_numbers.specs.Numbers.{value_of}
 use Rattle.cam_macros.specs.Grammar.{IsExpression, OneTreeLaw}
 use Rattle.cam_macros.specs.Reading.{AreExpressions, AreParts, IsPrimitive, IsPart, OneReadingLaw}
 use Rattle.cam_macros.proofs.Machine.{expression_read}
@@ -28,14 +28,14 @@ same_primitive : (piece : List ℕ) (c d : ℕ) (a b : List Tree) → IsPrimitiv
 same_primitive piece c d a b p q =
     let digits : p.digits ≡ q.digits = cc (p.written, q.written) in
     let texts : p.texts ≡ q.texts = cc (p.written, q.written) in
-    let code : c ≡ d = p.same ∙ ap (λ l. min (decimal l) 10000) digits ∙ sym q.same in
+    let code : c ≡ d = p.same ∙ ap (λ l. min (value_of l) 10000) digits ∙ sym q.same in
     let fields : a ≡ b = same_trees q.texts a b (subst (λ l. AreExpressions l a) texts p.reads) q.reads in
     cc
 
 same_part : (piece : List ℕ) (p q : Part) → IsPart piece p → IsPart piece q → p ≡ q
 same_part piece (Assignment m a) (Assignment n b) p q =
     let found = same_assignment piece m n a b p q in
-    let number : m ≡ n = p.same ∙ ap decimal found.0 ∙ sym q.same in
+    let number : m ≡ n = p.same ∙ ap value_of found.0 ∙ sym q.same in
     let value : a ≡ b = one_tree q.text a b (subst (λ l. IsExpression l a) found.1 p.reads) q.reads in
     cc
 same_part piece (Primitive c a) (Primitive d b) p q = same_primitive piece c d a b p q

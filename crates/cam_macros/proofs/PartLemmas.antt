@@ -1,14 +1,18 @@
 -- Parts by their first pieces.
-use Rattle.std.proofs.Common.{◌≡◌, ℕ, min, Bool, true, false, cond, eqb, ◌==◌, ◌&&◌, List, [], ◌∷◌, ◌++◌, Some}
+use Rattle.std.proofs.Common.{◌≡◌, ℕ, min, Bool, true, false, cond, eqb, ◌==◌, ◌&&◌, List, [], ◌∷◌, ◌++◌, length, Some, Option}
 use Rattle.std.proofs.Common.{None, refl, ap, sym, subst, ◌∙◌, arith}
 use Rattle.std.specs.List.{slice_split, onto_first, list_all, join_with_byte}
 use Rattle.std.specs.Char.{is_ascii_digit}
+use Rattle.std.specs.Prelude.{option_map}
+use Rattle.std.proofs.lemmas.List.{nil_from_length}
 use Rattle.std.proofs.lemmas.Bool.{ne_eqb}
 use Rattle.std.proofs.lemmas.List.Splits.{join_with_byte-slice_split}
 use Rattle.cam_macros.specs.declared.part.Part.TheVariants.{Assignment, Primitive}
 use Rattle.cam_macros.specs.declared.fault.MacroFault.{MacroFault}
 use Rattle.cam_macros.specs.Tree.{Tree}
-use Rattle.cam_macros.specs.Numbers.{decimal}
+use Rattle.cam_numbers.specs.Numbers.{value_of, natural, value_limit}
+use Rattle.cam_numbers.proofs.Naturals.{natural-digits}
+use Rattle.cam_numbers.proofs.Written.{natural_found}
 use Rattle.cam_macros.specs.Grammar.{AreDigits, IsExpression}
 use Rattle.cam_macros.specs.Machinery.Scanning.{variable_of}
 use Rattle.cam_macros.specs.Answers.{Nothing, Tells}
@@ -77,7 +81,7 @@ same_text behind digits text e variable value h =
 pub no_variable : (behind digits text : List ℕ) → cut_at equals behind ≡ digits ∷ cut_at equals text
     → variable_of digits ≡ None → (variable : ℕ) (value : Tree) → IsAssignment (dollar ∷ behind) variable value → ⊥
 no_variable behind digits text e none variable value h =
-    let some : variable_of digits ≡ Some (decimal h.digits) =
+    let some : variable_of digits ≡ Some (value_of h.digits) =
     ap variable_of (sym (same_digits behind digits text e variable value h)) ∙ variable_is h.digits h.number in
     cc
 
@@ -106,44 +110,43 @@ is_assignment behind digits text variable value e some reads =
 
 -- primitives
 
-digits_found : (digits : List ℕ) (code : ℕ)
-    → cond (list_all is_ascii_digit digits) (Some (min (decimal digits) 1000000)) None ≡ Some code
-    → AreDigits digits × (min (decimal digits) 1000000 ≡ code)
-digits_found digits code e =
-    elim (list_all is_ascii_digit digits) as (λ v. cond v (Some (min (decimal digits) 1000000)) None ≡ Some code
-    → (v ≡ true) × (min (decimal digits) 1000000 ≡ code)) [
-      | true ↦ λ e. (refl, cc)
-      | false ↦ λ e. cc
-    ] e
+-- the code that digits write, told up to the limit
+code_found : (digits : List ℕ) (code : ℕ) → option_map (min value_limit) (natural digits) ≡ Some code
+    → (digits ≡ [] → ⊥) × AreDigits digits × (min value_limit (value_of digits) ≡ code)
+code_found digits code e = go (natural digits) refl e
+  where
+    go : (o : Option ℕ) → natural digits ≡ o → option_map (min value_limit) o ≡ Some code
+        → (digits ≡ [] → ⊥) × AreDigits digits × (min value_limit (value_of digits) ≡ code)
+    go None is e = cc
+    go (Some n) is e =
+        let found = natural_found digits n is in
+        let same : min value_limit n ≡ code = cc in
+        ((λ none. found.some (ap length none)), found.digits, ap (min value_limit) found.value ∙ same)
 
 pub is_primitive : (piece digits : List ℕ) (texts : List (List ℕ)) (code capped : ℕ) (fields : List Tree)
-    → cut_at comma piece ≡ digits ∷ texts → (digits ≡ [] → ⊥)
-    → cond (list_all is_ascii_digit digits) (Some (min (decimal digits) 1000000)) None ≡ Some code
+    → cut_at comma piece ≡ digits ∷ texts → Some code ≡ option_map (min value_limit) (natural digits)
     → capped ≡ min code 10000 → AreExpressions texts fields → IsPrimitive piece capped fields
-is_primitive piece digits texts code capped fields e some number same reads =
-    let found = digits_found digits code number in
+is_primitive piece digits texts code capped fields e number same reads =
+    let found = code_found digits code (sym number) in
     record {
       digits = digits;
       texts = texts;
       written = e;
-      some = some;
-      number = found.0;
-      same = omega (arith, found.1, same);
+      some = found.0;
+      number = found.1;
+      same = omega (arith, found.2, same);
       reads = reads;
     }
 
-pub no_digits : (piece digits : List ℕ) (texts : List (List ℕ)) → cut_at comma piece ≡ digits ∷ texts → digits ≡ []
-    → (code : ℕ) (fields : List Tree) → IsPrimitive piece code fields → ⊥
-no_digits piece digits texts e none code fields h = h.some (cc (h.written))
-
 pub no_code : (piece digits : List ℕ) (texts : List (List ℕ)) → cut_at comma piece ≡ digits ∷ texts
-    → cond (list_all is_ascii_digit digits) (Some (min (decimal digits) 1000000)) None ≡ None
+    → None ≡ option_map (min value_limit) (natural digits)
     → (code : ℕ) (fields : List Tree) → IsPrimitive piece code fields → ⊥
 no_code piece digits texts e none code fields h =
     let same : h.digits ≡ digits = cc (h.written) in
-    let all : list_all is_ascii_digit digits ≡ true = ap (list_all is_ascii_digit) (sym same) ∙ h.number in
-    let found : Some (min (decimal digits) 1000000) ≡ None =
-    ap (λ v. cond v (Some (min (decimal digits) 1000000)) None) (sym all) ∙ none in
+    let there : natural h.digits ≡ Some (value_of h.digits) =
+    natural-digits h.digits h.number (λ empty. h.some (nil_from_length h.digits empty)) in
+    let found : None ≡ Some (min value_limit (value_of h.digits)) =
+    none ∙ ap (λ l. option_map (min value_limit) (natural l)) (sym same) ∙ ap (option_map (min value_limit)) there in
     cc
 
 pub no_fields : (fault : MacroFault) (piece digits : List ℕ) (texts : List (List ℕ))

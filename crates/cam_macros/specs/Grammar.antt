@@ -8,7 +8,8 @@ use Rattle.cam_macros.specs.declared.expression.Operator.{Operator}
 use Rattle.cam_macros.specs.declared.expression.Operator.TheVariants.{Add, Subtract, Multiply, Divide}
 use Rattle.cam_macros.specs.Bytes.{closing, dollar, large_x, minus, opening, plus, point, slash, small_x}
 use Rattle.cam_macros.specs.Tree.{Tree, Number, Variable, Negative, Binary}
-use Rattle.cam_macros.specs.Numbers.{decimal, billionths}
+use Rattle.cam_numbers.specs.Numbers.{value_of}
+use Rattle.cam_macros.specs.Numbers.{number_written}
 
 -- + or -, between terms or before a factor
 pub data Sign : Type 0 where
@@ -98,7 +99,7 @@ pub record IsNumber (whole decimals : List ℕ) : Type 0 where
   pub before : AreDigits whole
   pub behind : AreDigits decimals
   pub some : 0 < length whole + length decimals
-  pub small : decimal whole < 1000000
+  pub small : value_of whole < 1000000
 
 abbrev pub IsDecimal : Decimal → Type 0
 IsDecimal (Whole whole) = IsNumber whole []
@@ -107,8 +108,8 @@ IsDecimal (Pointed whole decimals) = IsNumber whole decimals
 -- the number of a variable, from 1 to 9,999
 pub record IsVariable (digits : List ℕ) : Type 0 where
   pub all : AreDigits digits
-  pub some : 0 < decimal digits
-  pub small : decimal digits < 10000
+  pub some : 0 < value_of digits
+  pub small : value_of digits < 10000
 
 -- leaves as they should be, and parentheses at most so deep
 
@@ -140,8 +141,8 @@ cross_operator Large = Multiply
 cross_operator Slash = Divide
 
 abbrev pub decimal_tree : Decimal → Tree
-decimal_tree (Whole whole) = Number (billionths whole [])
-decimal_tree (Pointed whole decimals) = Number (billionths whole decimals)
+decimal_tree (Whole whole) = Number (number_written whole [])
+decimal_tree (Pointed whole decimals) = Number (number_written whole decimals)
 
 abbrev pub signed_tree : Sign → Tree → Tree
 signed_tree Plus t = t
@@ -158,7 +159,7 @@ abbrev mutual
 
   pub factor_tree : Factor → Tree
   factor_tree (Numeral d) = decimal_tree d
-  factor_tree (Dollar digits) = Variable (decimal digits)
+  factor_tree (Dollar digits) = Variable (value_of digits)
   factor_tree (Signed o f) = signed_tree o (factor_tree f)
   factor_tree (Enclosed s) = sum_tree s
 

@@ -13,7 +13,7 @@ use Rattle.cam_words.specs.Heads.{packed}
 use Rattle.cam_macros.specs.Answers.{Nothing, Tells}
 use Rattle.cam_macros.specs.Bytes.{comma, dollar, equals, nought}
 use Rattle.cam_macros.specs.Tree.{Tree}
-use Rattle.cam_macros.specs.Numbers.{decimal}
+use Rattle.cam_numbers.specs.Numbers.{value_of}
 use Rattle.cam_macros.specs.Grammar.{AreDigits, IsVariable, IsExpression}
 
 -- the name and the parts, between which stand stars; line ends, spaces and tabs do not count
@@ -54,7 +54,7 @@ pub record IsAssignment (piece : List ℕ) (variable : ℕ) (value : Tree) : Typ
   pub text : List ℕ
   pub written : piece ≡ (dollar ∷ digits) ++ equals ∷ text
   pub number : IsVariable digits
-  pub same : variable ≡ decimal digits
+  pub same : variable ≡ value_of digits
   pub reads : IsExpression text value
 
 -- a code, and behind it expressions, each behind a comma; a code past 9,999 counts as 10,000
@@ -64,7 +64,7 @@ pub record IsPrimitive (piece : List ℕ) (code : ℕ) (fields : List Tree) : Ty
   pub written : slice_split (λ b. b == comma) piece ≡ digits ∷ texts
   pub some : digits ≡ [] → ⊥
   pub number : AreDigits digits
-  pub same : code ≡ min (decimal digits) 10000
+  pub same : code ≡ min (value_of digits) 10000
   pub reads : AreExpressions texts fields
 
 abbrev pub IsPart : List ℕ → Part → Type 0

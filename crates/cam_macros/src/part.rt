@@ -15,9 +15,10 @@ use crate::arithmetic::Fixed;
 use crate::expansion::{bar, disc, outline, rect};
 use crate::expression::Expression;
 use crate::fault::MacroFault;
-use crate::number::{cut, variable, whole_number};
+use crate::number::{cut, variable};
 use crate::primitive::{MacroPrimitive, Prims};
 use crate::variables::Variables;
+use cam_numbers::{Blanks, natural};
 use cam_units::Unit;
 use std::alloc::Global;
 use std::marker::Model;
@@ -135,15 +136,12 @@ impl Part {
             Tells fault ((code : ℕ) → Nothing (IsPrimitive piece.now code))) }
     {
         let (digits, texts) = cut(piece, b',');
-        if digits.is_empty() {
-            return Err(MacroFault::Malformed);
-        }
-        let Some(code) = whole_number(digits) else {
+        let Some(code) = natural(digits, Blanks::Refused) else {
             return Err(MacroFault::Malformed);
         };
         let fields = Fields::parse(alloc, texts)?;
         Ok(Part::Primitive {
-            code: code.min(10_000),
+            code: code.min(10_000) as u32,
             fields,
         })
     }

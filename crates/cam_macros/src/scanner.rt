@@ -14,7 +14,8 @@ ghost use Rattle.cam_macros.specs.Machinery.Scanning.{IsFaultOf, Wanted, Behind}
 use crate::expression::{Operator, Step};
 use crate::fault::MacroFault;
 use crate::mark::{Mark, mark_of};
-use crate::number::{number, variable};
+use crate::number::variable;
+use cam_numbers::{Blanks, unsigned_decimal};
 use std::alloc::{AllocError, Global};
 use std::marker::Model;
 
@@ -200,7 +201,7 @@ impl Scanner {
         ensures fault { IfErr result (λ fault. IsFaultOf fault (number_then self.old text.now)) }
     {
         let (run, text) = text.split_at(numeric_len(text));
-        let Some(number) = number(run) else {
+        let Some(number) = unsigned_decimal(run, Blanks::Refused) else {
             return Err(MacroFault::Malformed);
         };
         self.leaf(Step::Push(number))?;

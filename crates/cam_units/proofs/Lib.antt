@@ -1,4 +1,5 @@
 pub mod Ring
+pub mod Coordinates
 pub mod TurnLaws
 pub mod NearestLaws
 pub mod BoxLaws

@@ -1,11 +1,11 @@
 -- A head, byte for byte.
-use Rattle.std.proofs.Common.{◌≡◌, ◌≢◌, ℕ, ◌+◌, ◌<◌, ◌≤◌, List, [], ◌∷◌, length, take, drop, get_or, Bool, true}
+use Rattle.std.proofs.Common.{◌≡◌, ◌≢◌, ℕ, ◌+◌, ◌<◌, ◌≤◌, List, [], ◌∷◌, length, take, drop, get_or, Bool, true, Some, None}
 use Rattle.std.proofs.Common.{false, refl, sym, ap, ◌∙◌, eq-eqb, ne_eqb}
 use Rattle.std.specs.Prelude.{nat_eq, ◌||◌, not, codes}
 use Rattle.std.proofs.lemmas.List.{drop_more, drop_all, drop-drop}
 use Rattle.std.specs.List.{starts_with, list_any}
 use Rattle.cam_words.specs.Bytes.{is_digit}
-use Rattle.cam_words.specs.Heads.{packed, is_comment, is_free_text}
+use Rattle.cam_words.specs.Heads.{packed, behind_head, is_comment, is_free_text}
 
 pub starts_with-same : (text rest head : List ℕ) (i byte : ℕ) → text ≡ byte ∷ rest → i < length head
     → byte ≡ get_or head i 0 → starts_with nat_eq text (drop i head) ≡ starts_with nat_eq rest (drop (i + 1) head)
@@ -30,6 +30,15 @@ starts_with-end text head i past = rw (drop_all i head past) refl
 pub drop_one : (text rest whole : List ℕ) (i byte : ℕ) → text ≡ drop i whole → text ≡ byte ∷ rest
     → rest ≡ drop (i + 1) whole
 drop_one text rest whole i byte e f = ap (drop 1) (sym f ∙ e) ∙ drop-drop 1 i whole
+
+-- what stands behind a head
+pub behind_head-there : (head text rest : List ℕ) → starts_with nat_eq text head ≡ true → rest ≡ drop (length head) text → Some rest ≡ behind_head head text
+unfolding behind_head
+behind_head-there head text rest e is = rw (e, is) refl
+
+pub behind_head-absent : (head text : List ℕ) → starts_with nat_eq text head ≡ false → None ≡ behind_head head text
+unfolding behind_head
+behind_head-absent head text e = rw e refl
 
 -- a comment, by what the text begins with
 pub comment_at_G04 : (text : List ℕ) → true ≡ starts_with nat_eq (packed text) (codes "G04") → true ≡ is_comment text

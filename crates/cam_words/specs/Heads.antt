@@ -1,11 +1,22 @@
 -- What the first letters of a command make of it. Gerber Layer Format Specification, "Comment (G04)" and "Attributes".
-use Rattle.std.specs.Prelude.{ℕ, List, Bool, ◌||◌, ◌&&◌, not, filter, take, drop, nat_eq, codes, if◌then◌else◌}
+use Rattle.std.specs.Prelude.{ℕ, zero, suc, List, [], ◌∷◌, length, take, drop, filter, nat_eq, codes, Option}
+use Rattle.std.specs.Prelude.{Some, None, Bool, ◌||◌, ◌&&◌, not, if◌then◌else◌}
 use Rattle.std.specs.List.{starts_with, list_any}
 use Rattle.cam_words.specs.Bytes.{is_skipped, is_digit, is_control, is_forbidden_in_code, is_forbidden_in_plain}
 
 -- the text without its skipped bytes
 abbrev pub packed : List ℕ → List ℕ
 packed text = filter (λ byte. not (is_skipped byte)) text
+
+-- what stands behind the n-th byte that is not skipped
+abbrev pub behind_kept : ℕ → List ℕ → List ℕ
+behind_kept zero text = text
+behind_kept (suc n) [] = []
+behind_kept (suc n) (byte ∷ text) = if is_skipped byte then behind_kept (suc n) text else behind_kept n text
+
+-- what stands behind a head, if a text begins with it
+unfoldable pub behind_head : List ℕ → List ℕ → Option (List ℕ)
+behind_head head text = if starts_with nat_eq text head then Some (drop (length head) text) else None
 
 -- begins with G04, or with G4 and no digit after it
 abbrev pub begins_as_comment : List ℕ → Bool

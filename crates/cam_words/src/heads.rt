@@ -1,15 +1,17 @@
 //! What the first letters of a command make of it, skipped bytes left out.
 
-ghost use Rattle.std.specs.Prelude.{◌≡◌, length, take, drop, nat_eq, is_some, IfSome, MatchOption, [], ◌∷◌};
+ghost use Rattle.std.specs.Prelude.{◌≡◌, length, take, drop, nat_eq, is_some, option_map, IfSome, MatchOption, [], ◌∷◌};
+ghost use Rattle.std.specs.Option.{option_copied};
 ghost use Rattle.std.specs.List.{starts_with, list_any};
 ghost use Rattle.cam_words.specs.Bytes.{is_digit};
-ghost use Rattle.cam_words.specs.Heads.{packed, is_comment, is_free_text};
+ghost use Rattle.cam_words.specs.Heads.{packed, behind_kept, behind_head, is_comment, is_free_text};
 
 use crate::bytes::leading_skipped;
 
 /// The first byte that is not skipped, and what stands behind it.
-fn first_kept(text: &[u8]) -> Option<(u8, &[u8])>
-    ensures { MatchOption result (packed text.now ≡ []) (λ kept. packed text.now ≡ kept.0 ∷ packed kept.1.now) }
+pub fn first_kept(text: &[u8]) -> Option<(u8, &[u8])>
+    ensures behind { MatchOption result (behind_kept 1 text.now ≡ []) (λ kept. behind_kept 1 text.now ≡ kept.1.now) }
+    ensures kept { MatchOption result (packed text.now ≡ []) (λ kept. packed text.now ≡ kept.0 ∷ packed kept.1.now) }
 {
     match &text[leading_skipped(text)..] {
         [] => None,
@@ -18,13 +20,16 @@ fn first_kept(text: &[u8]) -> Option<(u8, &[u8])>
 }
 
 /// What stands behind the head, if the text begins with it.
-fn strip_head<'a>(text: &'a [u8], head: &[u8]) -> Option<&'a [u8]>
+pub fn behind_head<'a>(head: &[u8], text: &'a [u8]) -> Option<&'a [u8]>
+    ensures behind { option_map packed (option_copied result) ≡ behind_head head.now (packed text.now) }
     ensures begins { is_some result ≡ starts_with nat_eq (packed text.now) head.now }
     ensures rest { IfSome result (λ rest. packed rest.now ≡ drop (length head.now) (packed text.now)) }
 {
     let mut rest = text;
     for wanted in head {
-        let (byte, behind) = first_kept(rest)?;
+        let Some((byte, behind)) = first_kept(rest) else {
+            return None;
+        };
         if byte != *wanted {
             return None;
         }
@@ -36,7 +41,7 @@ fn strip_head<'a>(text: &'a [u8], head: &[u8]) -> Option<&'a [u8]>
 fn begins_with(text: &[u8], head: &[u8]) -> bool
     ensures { result ≡ starts_with nat_eq (packed text.now) head.now }
 {
-    strip_head(text, head).is_some()
+    behind_head(head, text).is_some()
 }
 
 fn begins_with_digit(text: &[u8]) -> bool
@@ -55,7 +60,7 @@ pub fn is_comment(text: &[u8]) -> bool
     if begins_with(text, b"G04") {
         return true;
     }
-    match strip_head(text, b"G4") {
+    match behind_head(b"G4", text) {
         Some(rest) => !begins_with_digit(rest),
         None => false,
     }

@@ -22,5 +22,6 @@ mod word;
 
 pub use bytes::is_skipped;
 pub use cutter::Words;
+pub use heads::{behind_head, first_kept};
 pub use laws::{at_most_one_cutting, reads_its_words, stops_at_the_longest_front};
 pub use word::{Kind, TextFault, Word};

@@ -1,6 +1,6 @@
 -- Aperture definitions by one test after the other.
 use Rattle.std.specs.Prelude.{◌≡◌, ℕ, ◌+◌, ℤ, List, length, Option, Some, None, Result, Ok, Err, nat_lt}
-use Rattle.std.specs.Prelude.{if◌then◌else◌, ⊤}
+use Rattle.std.specs.Prelude.{if◌then◌else◌}
 use Rattle.cam_units.specs.declared.length.Unit.{Unit as FileUnit}
 use Rattle.cam_macros.specs.declared.aperture_macro.Macro.{Macro}
 use Rattle.cam_macros.specs.declared.fault.MacroFault.{MacroFault}
@@ -12,7 +12,7 @@ use Rattle.cam_apertures.specs.declared.fault.AdFault.{AdFault}
 use Rattle.cam_apertures.specs.declared.fault.AdFault.TheVariants.{UnknownForm, BadNumber, TemplateRefused, SizeRefused}
 use Rattle.cam_apertures.specs.Faults.{of_macro}
 use Rattle.cam_apertures.specs.Definition.{by_name, circle, has_sizes, obround, rect, values_of, Definition, IsMeant}
-use Rattle.cam_apertures.specs.Numbers.{defined_number}
+use Rattle.cam_numbers.specs.Numbers.{defined_number}
 
 unfoldable pub standard_outcome : ℕ → ℕ → Aperture → Result Aperture AdFault
 standard_outcome fewest count aperture =

@@ -1,6 +1,4 @@
 -- What contracts see of the values that borrow a text: its bytes, without those that are skipped.
-use Rattle.std.specs.Prelude.{ℕ, List, Option}
-use Rattle.std.specs.Option.{option_map}
 use Rattle.cam_words.specs.Cutting.{FoundWord}
 use Rattle.cam_words.specs.Heads.{packed}
 use Rattle.cam_words.specs.declared.word.Word.{Word}

@@ -1,5 +1,5 @@
 -- The parts of an operation as the code borrows them.
-use Rattle.std.specs.Prelude.{List, ℕ, Option, option_map}
+use Rattle.std.specs.Prelude.{option_map}
 use Rattle.std.specs.Option.{option_copied}
 use Rattle.cam_words.specs.Heads.{packed}
 use Rattle.cam_commands.specs.declared.words.Parts.{Parts as BorrowedParts}

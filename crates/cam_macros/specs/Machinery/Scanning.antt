@@ -1,8 +1,9 @@
 -- How an expression is read from left to right; the contract of `Expression::parse` ties this to the grammar.
-use Rattle.std.specs.Prelude.{◌≡◌, ◌≤◌, Result, Ok, Err, ⊤, ℕ, zero, suc, ◌+◌, ◌==◌, ◌||◌, ◌&&◌, nat_lt, Bool, true}
+use Rattle.std.specs.Prelude.{◌≡◌, ◌≤◌, Result, Ok, Err, ⊤, ℕ, zero, suc, ◌+◌, ◌==◌, ◌||◌, nat_lt, Bool, true}
 use Rattle.std.specs.Prelude.{false, if◌then◌else◌, List, [], ◌∷◌, ◌++◌, length, replicate, take_while, take, drop}
 use Rattle.std.specs.Prelude.{Option, Some, None, option_map}
-use Rattle.std.specs.List.{slice_split, list_all, prefix_len}
+use Rattle.std.specs.Option.{option_and_then}
+use Rattle.std.specs.List.{prefix_len}
 use Rattle.std.specs.Char.{is_ascii_digit}
 use Rattle.cam_macros.specs.declared.expression.Operator.{Operator}
 use Rattle.cam_macros.specs.declared.expression.Operator.TheVariants.{Add, Subtract, Multiply, Divide}
@@ -15,7 +16,7 @@ use Rattle.cam_macros.specs.declared.scanner.Level.{Level}
 use Rattle.cam_macros.specs.declared.fault.MacroFault.{MacroFault}
 use Rattle.cam_macros.specs.Answers.{Tells}
 use Rattle.cam_macros.specs.Bytes.{closing, dollar, large_x, minus, opening, plus, point, slash, small_x}
-use Rattle.cam_macros.specs.Numbers.{decimal, billionths}
+use Rattle.cam_numbers.specs.Numbers.{natural, unsigned_decimal}
 
 -- a digit or a point
 abbrev pub is_numeric : ℕ → Bool
@@ -32,27 +33,16 @@ mark_of b =
     else (if (b == small_x) || (b == large_x) then Times
     else (if b == slash then Over else Other)))))))
 
--- digits before and behind a point
-abbrev pub number_at : List ℕ → List ℕ → Option ℕ
-number_at whole decimals =
-    if (list_all is_ascii_digit whole && list_all is_ascii_digit decimals)
-    && (nat_lt 0 (length whole + length decimals) && nat_lt (decimal whole) 1000000)
-    then Some (billionths whole decimals) else None
-
-abbrev pub number_between : List (List ℕ) → Option ℕ
-number_between [] = None
-number_between (whole ∷ []) = number_at whole []
-number_between (whole ∷ decimals ∷ []) = number_at whole decimals
-number_between (_ ∷ _ ∷ _ ∷ _) = None
-
 -- a run of digits and points
 abbrev pub number_of : List ℕ → Option ℕ
-number_of run = number_between (slice_split (λ b. b == point) run)
+number_of run = unsigned_decimal run
+
+-- the number of a variable
+abbrev pub variable_by : ℕ → Option ℕ
+variable_by n = if n == 0 then None else if nat_lt 9999 n then None else Some n
 
 abbrev pub variable_of : List ℕ → Option ℕ
-variable_of run =
-    if list_all is_ascii_digit run && (nat_lt 0 (decimal run) && nat_lt (decimal run) 10000) then Some (decimal run)
-    else None
+variable_of run = option_and_then variable_by (natural run)
 
 -- the steps so far; the operators that wait in the innermost parentheses and in each outer
 -- pair, innermost first; how many more pairs may open; how many more operators and signs may come

@@ -1,4 +1,4 @@
-use Rattle.std.proofs.Common.{◌-◌, ◌<◌, length, sym, arith}
+use Rattle.std.proofs.Common.{◌-◌, arith}
 use Rattle.cam_apertures.proofs.Painting.{decides_at, none_at, not_false, passes_at, round, through}
 use Rattle.cam_apertures.proofs.primitives.is_painted.Goals as goal
 

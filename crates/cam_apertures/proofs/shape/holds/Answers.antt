@@ -1,4 +1,4 @@
-use Rattle.std.proofs.Common.{◌≡◌, ◌↔◌, Bool, IsTrue, List, All, map, ap, sym, ◌∙◌, subst}
+use Rattle.std.proofs.Common.{◌≡◌, ◌↔◌, Bool, IsTrue, List, All, ap, sym, ◌∙◌, subst}
 use Rattle.cam_units.specs.declared.point.Point.{Point}
 use Rattle.cam_units.specs.declared.point.Spot.{Spot}
 use Rattle.cam_units.specs.declared.turn.Turn.{Turn}

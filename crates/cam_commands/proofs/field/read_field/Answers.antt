@@ -1,6 +1,6 @@
 use Rattle.std.proofs.Common.{◌≡◌, ap, ◌∙◌, sym, take, drop, Some, List, ℕ}
 use Rattle.cam_words.specs.Heads.{packed}
-use Rattle.cam_commands.specs.Fields.{run_of, behind_run}
+use Rattle.cam_numbers.specs.Numbers.{run_of, behind_run}
 use Rattle.cam_commands.proofs.Runs.{packed_behind_run, packed_run, field_there, field_other, field_of_nothing}
 use Rattle.cam_commands.proofs.field.read_field.Goals as goal
 

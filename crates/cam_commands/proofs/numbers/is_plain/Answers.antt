@@ -1,6 +1,6 @@
 use Rattle.std.proofs.Common.{◌∙◌}
 use Rattle.cam_words.specs.Heads.{packed}
-use Rattle.cam_commands.proofs.Fractions.{plain_nothing, plain_other, plain_alone, plain_unpointed, plain_pointed, zeros_packed}
+use Rattle.cam_commands.proofs.PlainNumbers.{plain_nothing, plain_other, plain_alone, plain_unpointed, plain_pointed, zeros_packed}
 use Rattle.cam_commands.proofs.numbers.is_plain.Goals as goal
 
 pub returns-in_default : goal.returns-in_default

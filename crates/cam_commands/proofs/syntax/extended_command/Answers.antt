@@ -1,5 +1,4 @@
 use Rattle.std.proofs.Common.{◌∙◌, sym}
-use Rattle.cam_words.specs.Heads.{packed}
 use Rattle.cam_commands.proofs.NameLetters.{nothing_said, one_letter_said, no_name_said, star_said, name_said}
 use Rattle.cam_commands.proofs.syntax.extended_command.Goals as goal
 

@@ -1,10 +1,22 @@
-use Rattle.std.proofs.Common.{map, List, ap, sym, ◌∙◌}
+use Rattle.std.proofs.Common.{map, List, ap, sym, ◌∙◌, arith}
+use Rattle.cam_units.specs.declared.bounds.Bounds.{Bounds}
+use Rattle.cam_units.specs.declared.bounds.Bounds.TheVariants.{Empty, Closed}
 use Rattle.cam_macros.specs.declared.primitive.MacroPrimitive.{MacroPrimitive}
+use Rattle.cam_apertures.specs.Machinery.Boxes.{IsSmallBox}
 use Rattle.cam_apertures.specs.Primitives.{box_of_prims}
-use Rattle.cam_apertures.specs.Turned.{turned_prim}
-use Rattle.cam_apertures.specs.Machinery.Boxes.{turned_box}
+use Rattle.cam_apertures.specs.Turned.{IsTurnableBox, turned_box, turned_prim}
 use Rattle.cam_apertures.proofs.TurnedBoxes.{prims_turned}
 use Rattle.cam_apertures.proofs.primitives.Primitives.bounds.Goals as goal
+
+turnable : (b : Bounds) → IsSmallBox b → IsTurnableBox b
+turnable Empty h = tt
+turnable (Closed low high) h = (
+  record { x = omega (arith, h.0.x); y = omega (arith, h.0.y) },
+  record { x = omega (arith, h.1.x); y = omega (arith, h.1.y) },
+)
+
+pub turned-requires : goal.turned-requires
+turned-requires c = turnable c.self.inside.bounds c.self.invariant.small
 
 pub returns : goal.returns
 returns c =

@@ -1,0 +1,40 @@
+-- Runs without the bytes that are passed over.
+use Rattle.std.proofs.Common.{◌≡◌, ℕ, ◌+◌, ◌<◌, ◌≤◌, List, [], ◌∷◌, length, drop, get_or, true, false, cond, not, refl, sym, ap, ◌∙◌}
+use Rattle.std.proofs.lemmas.List.{drop_more, at_drop_all}
+use Rattle.cam_numbers.specs.declared.blanks.Blanks.{Blanks}
+use Rattle.cam_numbers.specs.declared.blanks.Blanks.TheVariants.{Refused, Skipped}
+use Rattle.cam_numbers.specs.Blanks.{is_blank, passes, kept}
+
+kept_of_none : (blanks : Blanks) → kept blanks [] ≡ []
+kept_of_none Refused = refl
+kept_of_none Skipped = refl
+
+kept_of_more : (blanks : Blanks) (byte : ℕ) (run : List ℕ)
+    → kept blanks (byte ∷ run) ≡ cond (passes blanks byte) (kept blanks run) (byte ∷ kept blanks run)
+kept_of_more Refused byte run = refl
+kept_of_more Skipped byte run =
+    elim (is_blank byte) as
+    (λ b. cond (not b) (byte ∷ kept Skipped run) (kept Skipped run) ≡ cond b (kept Skipped run) (byte ∷ kept Skipped run)) [
+      | true ↦ refl
+      | false ↦ refl
+    ]
+
+-- a byte that is passed over
+pub kept_behind_passed : (blanks : Blanks) (run : List ℕ) (i : ℕ) → i < length run → passes blanks (get_or run i 0) ≡ true
+    → kept blanks (drop (i + 1) run) ≡ kept blanks (drop i run)
+kept_behind_passed blanks run i h e =
+    let more : kept blanks (get_or run i 0 ∷ drop (i + 1) run) ≡ kept blanks (drop (i + 1) run) =
+    kept_of_more blanks (get_or run i 0) (drop (i + 1) run) ∙ rw e refl in
+    sym more ∙ ap (kept blanks) (sym (drop_more run i 0 h))
+
+-- a byte that is not
+pub kept_at : (blanks : Blanks) (run : List ℕ) (i : ℕ) → i < length run → passes blanks (get_or run i 0) ≡ false
+    → kept blanks (drop i run) ≡ get_or run i 0 ∷ kept blanks (drop (i + 1) run)
+kept_at blanks run i h e =
+    let more : kept blanks (get_or run i 0 ∷ drop (i + 1) run) ≡ get_or run i 0 ∷ kept blanks (drop (i + 1) run) =
+    kept_of_more blanks (get_or run i 0) (drop (i + 1) run) ∙ rw e refl in
+    ap (kept blanks) (drop_more run i 0 h) ∙ more
+
+-- behind the last byte
+pub kept_at_end : (blanks : Blanks) (run : List ℕ) (i : ℕ) → length run ≤ i → kept blanks (drop i run) ≡ []
+kept_at_end blanks run i h = at_drop_all (kept blanks) run i h ∙ kept_of_none blanks

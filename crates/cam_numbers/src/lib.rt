@@ -1,0 +1,26 @@
+//! Reads the numbers of Gerber and of XNC files, each to its exact value.
+//!
+//! A run is the bytes that stand for one number. Its value is that of its digits, in decimal:
+//!
+//! - [`natural`], [`natural_within`]: digits, at least one.
+//! - [`integer`]: an optional sign and 1 to 15 digits, as coordinates are written.
+//! - [`decimal`]: an optional sign and digits with an optional point, in 10^-9 of a unit; [`unsigned_decimal`]: the
+//!   same without the sign.
+//! - [`defined_number`], [`within_numbers`]: the numbers of apertures.
+//! - [`run_len`]: how long the run at the front of a text is.
+//!
+//! Each gives the value or `None`, and takes no memory. A caller says by [`Blanks`] whether line ends, spaces
+//! and tabs may stand among the digits. `specs/Numbers.antt` says what every run stands for.
+#![tactic(auto)]
+
+mod apertures;
+mod blanks;
+mod decimals;
+mod runs;
+mod whole;
+
+pub use apertures::{defined_number, within_numbers};
+pub use blanks::Blanks;
+pub use decimals::{decimal, unsigned_decimal};
+pub use runs::{is_numeric, run_len};
+pub use whole::{integer, natural, natural_within};
