@@ -1,11 +1,11 @@
 -- what a number stands for, step by step
-use Rattle.std.proofs.Common.{◌≡◌, ℕ, zero, suc, ◌+◌, ◌<◌, ◌≤◌, Bool, true, false, cond, List, [], ◌∷◌, ◌++◌, length, take, reverse, get_or, slice_get, Option, None, Some, refl, sym, ap, subst, ◌∙◌, arith, nat_eq, map, inl, inr}
+use Rattle.std.proofs.Common.{◌≡◌, ℕ, zero, suc, ◌+◌, ◌<◌, ◌≤◌, Bool, true, false, cond, List, [], ◌∷◌, ◌++◌, length, take, reverse, get_or, slice_get, Option, None, Some, refl, sym, ap, ◌∙◌, arith, nat_eq, inl, inr}
 use Rattle.std.specs.List.{IsDistinct}
 use Rattle.std.specs.Map.{keys_of, lookup}
 use Rattle.std.proofs.lemmas.List.{take_all, take_more, reverse-append, get_or-map, get_or-take, length-map, length-take}
 use Rattle.std.proofs.lemmas.Option.{get_or_from_slice_get, slice_get-get_or, slice_get_within}
 use Rattle.std.proofs.lemmas.Map.Keys.{apart_from_distinct}
-use Rattle.std.proofs.lemmas.Bool.{eqb-true, eq-eqb, ne_eqb, eqb-false, cases_lt}
+use Rattle.std.proofs.lemmas.Bool.{eq-eqb, ne_eqb, eqb-false, cases_lt}
 use Rattle.cam_objects.specs.declared.entry.Entry.{Entry}
 use Rattle.cam_objects.specs.declared.entry.Entry.TheVariants.{Block}
 use Rattle.cam_objects.specs.Leaves.{stands_for}
@@ -13,7 +13,7 @@ use Rattle.cam_objects.specs.Leaves.{stands_for}
 abbrev Pairs : Type 0
 Pairs = List (ℕ × Entry)
 
-front_more : (es : Pairs) (k : ℕ) (d : ℕ × Entry) → k < length es → reverse (take (k + 1) es) ≡ get_or es k d ∷ reverse (take k es)
+pub front_more : (es : Pairs) (k : ℕ) (d : ℕ × Entry) → k < length es → reverse (take (k + 1) es) ≡ get_or es k d ∷ reverse (take k es)
 front_more es k d h = ap reverse (take_more es k d h) ∙ reverse-append (take k es) (get_or es k d ∷ [])
 
 pub whole : (es : Pairs) → take (length es) es ≡ es

@@ -1,11 +1,11 @@
 -- the last leaf that covers a place, in lists that are joined
-use Rattle.std.proofs.Common.{◌≡◌, ℕ, ◌+◌, ◌<◌, Bool, true, false, cond, List, [], ◌∷◌, ◌++◌, length, take, get_or, Option, None, Some, refl, sym, ap, subst, ◌∙◌, arith, IsTrue, ◌↔◌}
-use Rattle.std.specs.List.{All, flat_map}
+use Rattle.std.proofs.Common.{◌≡◌, ℕ, ◌+◌, ◌<◌, Bool, true, false, cond, List, [], ◌∷◌, ◌++◌, length, take, get_or, Option, None, Some, refl, sym, ap, subst, ◌∙◌, IsTrue, ◌↔◌}
+use Rattle.std.specs.List.{flat_map}
 use Rattle.std.specs.Option.{is_some, unwrap_or}
 use Rattle.std.proofs.lemmas.Bool.{false≢true}
 use Rattle.std.proofs.lemmas.List.{take_more, append-nil, append_assoc}
 use Rattle.std.proofs.lemmas.List.Concat.{flat_map-append}
-use Rattle.std.proofs.lemmas.List.Elements.{All-append, All-cons, All-get_or, All-head, All-nil, All-tail}
+use Rattle.std.proofs.lemmas.List.Elements.{All-append, All-cons, All-head, All-nil, All-tail}
 use Rattle.cam_units.specs.declared.point.Spot.{Spot}
 use Rattle.cam_objects.specs.Leaves.{Leaf}
 use Rattle.cam_objects.specs.Image.{Covers, Inks, IsBlack, IsPainted, IsUncovered}

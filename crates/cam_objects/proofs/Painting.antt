@@ -1,5 +1,5 @@
 -- what is asked of a place, and of the leaves that are painted there
-use Rattle.std.proofs.Common.{◌≡◌, ℕ, zero, suc, ◌+◌, ◌^◌, ◌<◌, ◌≤◌, Bool, List, [], ◌∷◌, ◌++◌, length, take, reverse, get_or, slice_get, Option, None, Some, refl, sym, ap, subst, ◌∙◌, arith, nat_eq, zero-add, pos, cond, true, false, ℤ}
+use Rattle.std.proofs.Common.{◌≡◌, ℕ, zero, suc, ◌+◌, ◌^◌, ◌<◌, ◌≤◌, Bool, List, [], ◌∷◌, ◌++◌, length, take, get_or, slice_get, Option, None, Some, refl, sym, ap, subst, ◌∙◌, arith, nat_eq, zero-add, pos, cond, true, false, ℤ}
 use Rattle.std.specs.List.{All, IsDistinct, flat_map, range_with_len}
 use Rattle.std.specs.Map.{keys_of, lookup}
 use Rattle.std.specs.Option.{IfSome, is_some}
@@ -8,7 +8,7 @@ use Rattle.std.specs.Int.RustNames.{unsigned_abs}
 use Rattle.std.proofs.lemmas.Option.{get_or_from_slice_get, slice_get_within}
 use Rattle.std.proofs.lemmas.List.Elements.{All-cons, All-head, All-nil, All-tail, All-weaker}
 use Rattle.std.proofs.lemmas.List.FromFn.{get_or-range_with_len, length-range_with_len}
-use Rattle.cam_units.specs.Board.{IsOnBoard, IsPlace, IsSize}
+use Rattle.cam_units.specs.Board.{IsOnBoard, IsSize}
 use Rattle.cam_units.specs.declared.length.Nm.{Nm}
 use Rattle.cam_units.specs.declared.point.Point.{Point}
 use Rattle.cam_units.specs.declared.point.Spot.{Spot}
@@ -27,7 +27,7 @@ use Rattle.cam_objects.specs.declared.item.Item.TheVariants.{One}
 use Rattle.cam_objects.specs.declared.item_fault.ItemFault.TheVariants.{OutOfBoard}
 use Rattle.cam_objects.specs.declared.place.Place.{Place}
 use Rattle.cam_objects.specs.Leaves.{Filled, Leaf, Meaning, Stamp, Stroke, Sweep, arc_leaves, block_leaves, draw_leaves, entry_meaning, leaf, meaning_in, no_meaning, object_leaves, placed, polarity_in, shifted, solid_diameter}
-use Rattle.cam_objects.specs.Machinery.Painting.{HasReach, IsPaintable, IsReady, StandsOnBoard, flash_leaves, meaning_before}
+use Rattle.cam_objects.specs.Machinery.Painting.{IsPaintable, IsReady, StandsOnBoard, flash_leaves, meaning_before}
 use Rattle.cam_objects.specs.Soundness.{AreOnBoard, IsInside, IsSoundBlock, IsSoundDictionary, IsSoundItem, MayAddEntry, points_of_shape}
 use Rattle.cam_objects.specs.Image.{Inks, IsPainted, IsUncovered}
 use Rattle.cam_objects.proofs.Dictionaries.{meant-at, meant-later, meant-absent, whole}
@@ -51,7 +51,7 @@ meaning-absent es k n absent within = meant-absent no_meaning entry_meaning es k
 
 -- ---- what a sound dictionary says of an entry
 
-entry_may : (es : List (ℕ × Entry)) (i n : ℕ) (e : Entry) → slice_get es i ≡ Some (n, e) → IsSoundDictionary es → MayAddEntry (take i es) n e
+pub entry_may : (es : List (ℕ × Entry)) (i n : ℕ) (e : Entry) → slice_get es i ≡ Some (n, e) → IsSoundDictionary es → MayAddEntry (take i es) n e
 entry_may es i n e at sound =
     subst (λ (x : ℕ × Entry). MayAddEntry (take i es) x.0 x.1) (get_or_from_slice_get es i (n, e) (n, e) at)
     (sound i (n, e) (slice_get_within es i (n, e) at))
@@ -97,11 +97,11 @@ paintable_stamp es upto i n a p s distinct at below h =
     all 0 l (omega arith) 0 p.offset (omega arith)
 
 -- what holds of all pieces holds of each
-All_left : {X : Type 0} (P : X → Type 0) (xs ys : List X) → All P (xs ++ ys) → All P xs
+pub All_left : {X : Type 0} (P : X → Type 0) (xs ys : List X) → All P (xs ++ ys) → All P xs
 All_left P [] ys h = All-nil P
 All_left P (x ∷ xs) ys h = All-cons P x xs (All-head P x (xs ++ ys) h) (All_left P xs ys (All-tail P x (xs ++ ys) h))
 
-All_right : {X : Type 0} (P : X → Type 0) (xs ys : List X) → All P (xs ++ ys) → All P ys
+pub All_right : {X : Type 0} (P : X → Type 0) (xs ys : List X) → All P (xs ++ ys) → All P ys
 All_right P [] ys h = h
 All_right P (x ∷ xs) ys h = All_right P xs ys (All-tail P x (xs ++ ys) h)
 

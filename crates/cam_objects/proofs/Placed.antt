@@ -13,10 +13,11 @@ use Rattle.cam_units.specs.declared.turn.Turn.TheVariants.{R0, R90, R180, R270, 
 use Rattle.cam_shapes.specs.declared.contour.Contour.{Contour}
 use Rattle.cam_shapes.specs.declared.segments.Seg.{Seg}
 use Rattle.cam_shapes.specs.declared.segments.Seg.TheVariants.{Line, Curve}
-use Rattle.cam_shapes.specs.Placing.{IsPlaceable, IsPlaceablePoint, IsPlaceableSeg, placed_contour, placed_point, placed_seg}
+use Rattle.cam_shapes.specs.Placing.{IsPlaceable, IsPlaceableSeg, placed_contour, placed_point, placed_seg}
 use Rattle.cam_shapes.specs.Shifting.{IsShiftable}
 use Rattle.cam_objects.specs.declared.place.Place.{Place}
-use Rattle.cam_objects.specs.Leaves.{flashed, placed, shifted}
+use Rattle.cam_objects.specs.Leaves.{flashed, shifted}
+use Rattle.cam_objects.specs.Machinery.Boxes.{IsBoxOffset}
 use Rattle.cam_objects.specs.Machinery.Painting.{HasReach}
 use Rattle.cam_objects.specs.Soundness.{points_of_contour, points_of_seg}
 
@@ -36,7 +37,7 @@ turned_on_board M270 p h = record { x = omega (arith, ints); y = omega (arith, i
 
 -- ---- the reach of a place
 
-reach_sum : (n : ℕ) (a b : ℤ) → unsigned_abs a < 1000000000 → unsigned_abs b + (n + 1) * 1000000000 < 2 ^ 62 → unsigned_abs (a +ℤ b) + n * 1000000000 < 2 ^ 62
+reach_sum : (n : ℕ) (a b : ℤ) → unsigned_abs a < 1000000000 → unsigned_abs b + (n + 1) * 1000000000 < 4400000000000000000 → unsigned_abs (a +ℤ b) + n * 1000000000 < 4400000000000000000
 reach_sum n a b h r = omega (arith, ints)
 
 -- a flash takes one placement of the reach
@@ -53,6 +54,10 @@ reach_less m n p h reach = (omega arith, omega arith)
 pub reach_offset : (n : ℕ) (p : Place) → HasReach n p → IsShiftable p.offset
 unfolding HasReach
 reach_offset n p reach = record { x = omega arith; y = omega arith }
+
+pub reach_box : (n : ℕ) (p : Place) → HasReach n p → IsBoxOffset p.offset
+unfolding HasReach
+reach_box n p reach = record { x = omega arith; y = omega arith }
 
 pub reach_shifted : (n : ℕ) (dx dy : ℤ) → n ≤ 2 ^ 31 → unsigned_abs dx < 2 ^ 53 → unsigned_abs dy < 2 ^ 53 → HasReach (n + 1) (shifted dx dy)
 unfolding HasReach

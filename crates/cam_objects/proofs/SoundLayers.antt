@@ -1,9 +1,9 @@
 -- what a sound layer says of its entries and its items
-use Rattle.std.proofs.Common.{◌≡◌, ℕ, zero, suc, ◌+◌, ◌*◌, ◌^◌, ◌<◌, ◌≤◌, Bool, true, false, ◌||◌, eqb, List, [], ◌∷◌, length, take, get_or, map, None, Some, nat_eq, refl, sym, ap, subst, ◌∙◌, arith, ℤ}
+use Rattle.std.proofs.Common.{◌≡◌, ℕ, zero, suc, ◌*◌, ◌^◌, ◌<◌, ◌≤◌, Bool, true, false, ◌||◌, eqb, List, [], ◌∷◌, length, take, get_or, nat_eq, refl, arith}
 use Rattle.std.specs.List.{All, IsDistinct, flat_map, list_any}
-use Rattle.std.specs.Map.{keys_of, lookup}
+use Rattle.std.specs.Map.{keys_of}
 use Rattle.std.proofs.Math.Nat.{mul-le-mul_left, mul_comm}
-use Rattle.std.proofs.lemmas.Bool.{eqb-true, cases_Bool, false≢true}
+use Rattle.std.proofs.lemmas.Bool.{eqb-true, false≢true}
 use Rattle.std.proofs.lemmas.List.{get_or-map, get_or-take, length-map, length-take}
 use Rattle.std.proofs.lemmas.List.Sums.{sum_by-cons}
 use Rattle.std.proofs.lemmas.List.Elements.{All-append, All-from_get_or, All-head, All-nil, All-tail, All-weaker}
@@ -16,13 +16,14 @@ use Rattle.cam_objects.specs.declared.object.Object.TheVariants.{Flash, Draw, Ar
 use Rattle.cam_objects.specs.declared.entry.Entry.{Entry}
 use Rattle.cam_objects.specs.declared.item.Item.{Item}
 use Rattle.cam_objects.specs.declared.item.Item.TheVariants.{One, Repeat}
-use Rattle.cam_objects.specs.declared.item_fault.ItemFault.TheVariants.{Malformed, OutOfBoard, TooMuch}
+use Rattle.cam_objects.specs.declared.item_fault.ItemFault.TheVariants.{Malformed, OutOfBoard, TooMuch, WrongAperture}
 use Rattle.cam_objects.specs.declared.layer.Layer.{Layer}
 use Rattle.cam_objects.specs.Leaves.{Leaf, item_leaves, leaves_of, meaning_in}
-use Rattle.cam_objects.specs.Machinery.Painting.{IsCopied, IsPaintableItem, IsReady, StandsOnBoard}
-use Rattle.cam_objects.specs.Soundness.{AreOnBoard, IsInside, IsRepeated, IsSound, IsSoundDictionary, IsSoundItem, IsWithinLimits, MayAddEntry, points_of_shape}
-use Rattle.cam_objects.specs.Weights.{Weight, block_count, item_count, object_count, weight_in}
-use Rattle.cam_objects.proofs.Dictionaries.{absent_at, flip}
+use Rattle.cam_objects.specs.Machinery.Painting.{IsPaintableItem, IsReady, StandsOnBoard}
+use Rattle.cam_objects.specs.Machinery.Inside.{ArePainted}
+use Rattle.cam_objects.specs.Soundness.{AreOnBoard, IsDrawable, IsInside, IsSound, IsSoundBlock, IsSoundDictionary, IsSoundItem, IsWithinLimits, points_of_shape}
+use Rattle.cam_objects.specs.Weights.{Weight, block_count, object_count, weight_in}
+use Rattle.cam_objects.proofs.Dictionaries.{absent_at}
 
 abbrev Pairs : Type 0
 Pairs = List (ℕ × Entry)
@@ -51,7 +52,7 @@ keys_low es sound =
     by [] sound i low = absurd (omega arith)
     by (e ∷ es) sound i low = rw (key_at (e ∷ es) i 0 e low) (omega (arith, (sound i e low).greatest))
 
-keys_distinct : (es : Pairs) → IsSoundDictionary es → IsDistinct nat_eq (keys_of es)
+pub keys_distinct : (es : Pairs) → IsSoundDictionary es → IsDistinct nat_eq (keys_of es)
 keys_distinct [] sound = IsDistinct-from_apart nat_eq [] (λ i j d low high. absurd (omega arith))
 keys_distinct (e ∷ es) sound =
     IsDistinct-from_apart nat_eq (keys_of (e ∷ es))
@@ -70,7 +71,7 @@ few_entries es sound =
 
 -- ---- the copies of a sound repeat
 
-count_some : (w : ℕ → Weight) (o : Object) → 1 ≤ object_count w o
+pub count_some : (w : ℕ → Weight) (o : Object) → 1 ≤ object_count w o
 count_some w (Flash n at t dark) = omega arith
 count_some w (Draw n from to t dark) = omega arith
 count_some w (Arc n from to centre ccw dark) = omega arith
@@ -101,13 +102,13 @@ paintable_item es (Repeat columns rows i j objects) h =
 
 -- ---- a sound layer may be painted
 
-board_all : {X : Type 0} (f : X → List Leaf) (xs : List X) → All (λ x. AreOnBoard (f x)) xs → AreOnBoard (flat_map f xs)
+pub board_all : {X : Type 0} (f : X → List Leaf) (xs : List X) → All (λ x. AreOnBoard (f x)) xs → AreOnBoard (flat_map f xs)
 board_all f [] h = All-nil (λ l. All IsOnBoard (points_of_shape l.shape))
 board_all f (x ∷ xs) h =
     All-append (λ l. All IsOnBoard (points_of_shape l.shape)) (f x) (flat_map f xs) (All-head (λ y. AreOnBoard (f y)) x xs h)
     (board_all f xs (All-tail (λ y. AreOnBoard (f y)) x xs h))
 
-inside_leaves : (es : Pairs) (item : Item) → IsInside es item → AreOnBoard (item_leaves (meaning_in es) item)
+pub inside_leaves : (es : Pairs) (item : Item) → IsInside es item → AreOnBoard (item_leaves (meaning_in es) item)
 inside_leaves es item h = h.leaves
 
 pub ready_layer : (l : Layer) (s : Spot) → IsSound l → IsPlace s → IsReady l.apertures s (leaves_of l.apertures l.items.items)
@@ -121,3 +122,10 @@ ready_layer l s sound place = record {
 
 pub paintable_items : (l : Layer) → IsSound l → All IsPaintableItem l.items.items
 paintable_items l sound = All-weaker (IsSoundItem l.apertures) IsPaintableItem (paintable_item l.apertures) l.items.items sound.items
+
+-- the objects of a sound block stand on the board, and each paints
+pub painted_block : (es : Pairs) (objects : List Object) → IsSoundBlock es objects → ArePainted es objects
+painted_block es objects block = record {
+  stands = All-weaker (λ o. IsSoundItem es (One o)) StandsOnBoard (λ o h. paintable_item es (One o) h) objects block.each;
+  drawable = All-weaker (λ o. IsSoundItem es (One o)) (IsDrawable (meaning_in es)) (λ o h. h WrongAperture 0 o (omega arith)) objects block.each;
+}

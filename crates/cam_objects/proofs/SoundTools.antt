@@ -1,5 +1,5 @@
 -- what a sound drill layer says of its tools
-use Rattle.std.proofs.Common.{◌≡◌, ℕ, Bool, true, false, cond, List, [], ◌∷◌, Option, None, Some, nat_eq, refl, subst, arith, pos, ◌≤ℤ◌}
+use Rattle.std.proofs.Common.{◌≡◌, ℕ, Bool, true, false, cond, List, [], ◌∷◌, Some, nat_eq, subst, arith}
 use Rattle.std.specs.List.{All}
 use Rattle.std.specs.Map.{lookup}
 use Rattle.std.proofs.lemmas.Int.{ints}

@@ -64,10 +64,13 @@ pub record KeepsDrillLimits (items : List DrillItem) : Type 0 where
   pub leaves : sum_by drill_count_of items ≤ 4000000
 
 -- every tool and every item is sound, and no limit is passed
-pub record IsSoundDrillLayer (l : DrillLayer) : Type 0 where
-  pub tools : All (λ (e : ℕ × Nm). IsSoundTool e.0 e.1) l.tools
-  pub items : All (IsSoundDrillItem l.tools) l.items.items
-  pub limits : KeepsDrillLimits l.items.items
+pub record IsSoundDrillContent (ts : List (ℕ × Nm)) (is : List DrillItem) : Type 0 where
+  pub tools : All (λ (t : ℕ × Nm). IsSoundTool t.0 t.1) ts
+  pub items : All (IsSoundDrillItem ts) is
+  pub limits : KeepsDrillLimits is
+
+abbrev pub IsSoundDrillLayer : DrillLayer → Type 0
+IsSoundDrillLayer l = IsSoundDrillContent l.tools l.items.items
 
 -- a sound item that the limits leave room for keeps a layer sound, and so does a tool that may be added
 pub record DrillGrowthLaw : Type 0 where

@@ -1,6 +1,6 @@
 -- Leaves: what a layer paints, one shape after another, with blocks and repeats unfolded (Gerber Layer Format
 -- Specification, "Block Aperture (AB)", "Step and Repeat (SR)" and "Aperture transformations (LP, LM, LR, LS)").
-use Rattle.std.specs.Prelude.{◌≡◌, ℕ, nat_eq, Bool, true, false, not, if◌then◌else◌, ℤ, pos, ◌*ℤ◌, List, [], ◌∷◌, reverse, Option, None, Some}
+use Rattle.std.specs.Prelude.{ℕ, nat_eq, Bool, true, false, not, if◌then◌else◌, ℤ, pos, ◌*ℤ◌, List, [], ◌∷◌, reverse, Option, None, Some}
 use Rattle.std.specs.List.{flat_map, range_with_len}
 use Rattle.std.specs.Ordering.{int_eq}
 use Rattle.cam_units.specs.declared.length.Nm.{Nm}

@@ -7,4 +7,9 @@ pub mod Refusals
 pub mod Soundness
 pub mod DrillSoundness
 pub mod Machinery
+pub mod Bounds
+pub mod Tests
+pub mod Contents
 pub mod Shifting
+pub mod BoxLaws
+pub mod LayerLaws

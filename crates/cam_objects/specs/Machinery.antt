@@ -1,3 +1,7 @@
 -- Words of the contracts of inner functions: they mirror the code. A reader who trusts the definitions beside this folder has read all that the theorems mean.
 pub mod Inking
 pub mod Painting
+pub mod Facts
+pub mod Boxes
+pub mod Tracing
+pub mod Inside

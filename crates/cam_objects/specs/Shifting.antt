@@ -1,5 +1,6 @@
 -- Objects and items that are moved: each control point is shifted by so many nm.
-use Rattle.std.specs.Prelude.{List, map, All}
+use Rattle.std.specs.Prelude.{◌≤◌, map, All}
+use Rattle.std.specs.Int.RustNames.{unsigned_abs}
 use Rattle.cam_units.specs.declared.point.Point.{Point}
 use Rattle.cam_shapes.specs.Shifting.{IsShiftable, IsShiftableContour, shifted_contour, shifted_point}
 use Rattle.cam_objects.specs.declared.object.Object.{Object}
@@ -39,3 +40,8 @@ IsShiftableItem (Repeat columns rows i j objects) = All IsShiftableObject object
 abbrev pub IsShiftableDrillItem : DrillItem → Type 0
 IsShiftableDrillItem (Hit tool at) = IsShiftable at
 IsShiftableDrillItem (Rout tool points) = All IsShiftable points
+
+-- so far may an item be moved at once: at most four metres along each axis
+pub record IsMove (by : Point) : Type 0 where
+  pub x : unsigned_abs by.x ≤ 4000000000
+  pub y : unsigned_abs by.y ≤ 4000000000

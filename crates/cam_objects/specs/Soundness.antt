@@ -1,12 +1,11 @@
 -- Sound layers: everything on the board and within the limits, and each number named after it is defined (Gerber Layer
 -- Format Specification, "Aperture dictionary", "Block Aperture (AB)" and "Region statement").
-use Rattle.std.specs.Prelude.{◌≡◌, ◌≢◌, ℕ, ◌*◌, ◌<◌, ◌≤◌, nat_eq, ℤ, List, [], ◌∷◌, ◌++◌, length, take, slice_index_or, None, IsSome, sum_by, All}
+use Rattle.std.specs.Prelude.{◌≡◌, ◌≢◌, ℕ, ◌*◌, ◌<◌, ◌≤◌, nat_eq, List, [], ◌∷◌, length, take, slice_index_or, None, IsSome, sum_by, All}
 use Rattle.std.specs.List.{flat_map}
 use Rattle.std.specs.Map.{lookup}
 use Rattle.std.specs.Int.RustNames.{unsigned_abs}
 use Rattle.cam_units.specs.Board.{IsOnBoard}
 use Rattle.cam_units.specs.declared.point.Point.{Point}
-use Rattle.cam_shapes.specs.Contour.{end_of}
 use Rattle.cam_shapes.specs.declared.contour.Contour.{Contour}
 use Rattle.cam_shapes.specs.declared.segments.Seg.{Seg}
 use Rattle.cam_shapes.specs.declared.segments.Seg.TheVariants.{Line, Curve}
@@ -159,7 +158,8 @@ pub record MayAddEntry (entries : List (ℕ × Entry)) (n : ℕ) (entry : Entry)
 -- every entry might have been added to those before it
 abbrev pub IsSoundDictionary : List (ℕ × Entry) → Type 0
 IsSoundDictionary entries =
-    (k : ℕ) (d : ℕ × Entry) → k < length entries → let e = slice_index_or entries k d in MayAddEntry (take k entries) e.0 e.1
+    (k : ℕ) (d : ℕ × Entry) → k < length entries
+    → let e = slice_index_or entries k d in MayAddEntry (take k entries) e.0 e.1
 
 -- ---- layers
 
@@ -167,7 +167,10 @@ pub record KeepsLimits (entries : List (ℕ × Entry)) (items : List Item) : Typ
   pub few : length items ≤ 1000000
   pub leaves : sum_by (item_count (weight_in entries)) items ≤ 4000000
 
-pub record IsSound (l : Layer) : Type 0 where
-  pub entries : IsSoundDictionary l.apertures
-  pub items : All (IsSoundItem l.apertures) l.items.items
-  pub limits : KeepsLimits l.apertures l.items.items
+pub record IsSoundContent (es : List (ℕ × Entry)) (is : List Item) : Type 0 where
+  pub entries : IsSoundDictionary es
+  pub items : All (IsSoundItem es) is
+  pub limits : KeepsLimits es is
+
+abbrev pub IsSound : Layer → Type 0
+IsSound l = IsSoundContent l.apertures l.items.items

@@ -1,19 +1,27 @@
 //! The dictionary of a layer.
 
-ghost use Rattle.std.specs.Prelude.{◌≡◌, ◌==◌, ◌++◌, ◌∷◌, [], None, Some, IfNone, IfOk, IfSome, OnErr, OnOk, length, nat_eq, slice_get};
+ghost use Rattle.std.specs.Prelude.{◌≡◌, ◌==◌, ◌++◌, ◌∷◌, ◌≤◌, [], None, Some, IfNone, IfOk, IfSome, OnErr, OnOk, length, nat_eq, slice_get};
 ghost use Rattle.std.specs.List.{IsDistinct};
 ghost use Rattle.std.specs.Map.{keys_of, lookup};
+ghost use Rattle.cam_objects.specs.Machinery.Boxes.{IsNearBox};
+ghost use Rattle.cam_objects.specs.Machinery.Facts.{facts_at};
+ghost use Rattle.cam_objects.specs.Machinery.Inside.{IsBoxOnBoard};
+ghost use Rattle.cam_objects.specs.Soundness.{IsSoundDictionary, MayAddEntry};
+ghost use Rattle.cam_objects.specs.Weights.{object_count, object_depth, weight_in};
 
 use crate::entry::Entry;
+use crate::facts::Facts;
+use crate::object::Object;
 use indexmap::IndexMap;
 use std::alloc::{AllocError, Global};
 use std::marker::Model;
 
 /// The dictionary of a layer: apertures and blocks by their numbers, in the order in which they
-/// were added. No number stands twice.
+/// were added. No number stands twice, and each entry might have been added to those before it.
 #[derive(Drop)]
 pub struct Dictionary {
     map: IndexMap<u32, Entry>,
+    facts: Vec<Facts>,
 }
 
 impl Model for Dictionary {
@@ -22,13 +30,11 @@ impl Model for Dictionary {
 
     ghost Value = { List (ℕ × Entry) };
 
-    ghost use Rattle.std.specs.Prelude.{nat_eq};
-    ghost use Rattle.std.specs.Map.{keys_of};
-    ghost use Rattle.std.specs.List.{IsDistinct};
+    ghost use Rattle.cam_objects.specs.Machinery.Facts.{IsKept};
 
     ghost view = { λ d. d.map.entries };
 
-    ghost invariant = { λ d. IsDistinct nat_eq (keys_of d.map.entries) };
+    ghost invariant = { λ d. IsKept d.map.entries d.facts.items };
 }
 
 impl Dictionary {
@@ -38,6 +44,7 @@ impl Dictionary {
     {
         Dictionary {
             map: IndexMap::new(alloc),
+            facts: Vec::new(alloc),
         }
     }
 
@@ -47,6 +54,13 @@ impl Dictionary {
         ensures distinct { IsDistinct nat_eq (keys_of self.now) }
     {
         self.map.len()
+    }
+
+    /// Each entry might have been added to those before it.
+    pub fn soundness(&self)
+        ensures { IsSoundDictionary self.now }
+    {
+        let _entries = &self.map;
     }
 
     /// Whether there is no entry.
@@ -79,20 +93,64 @@ impl Dictionary {
         }
     }
 
+    /// What is kept of a number.
+    pub(crate) fn facts(&self, number: u32) -> Facts
+        ensures value { result ≡ facts_at self.now number }
+        ensures few { result.leaves ≤ 4000000 }
+        ensures shallow { result.depth ≤ 8 }
+        ensures near { IsBoxOnBoard result.points }
+        ensures reach { IsNearBox result.bounds }
+    {
+        match self.find(number) {
+            Some((place, _)) => self.facts[place],
+            None => Facts::none(),
+        }
+    }
+
+    /// How many leaves an object counts: one, and for a flash of a block those of the block besides.
+    pub fn leaf_count(&self, object: &Object) -> u64
+        ensures value { result ≡ object_count (weight_in self.now) object.now }
+        ensures few { result ≤ 4000001 }
+    {
+        match object {
+            Object::Flash { aperture, .. } => 1 + u64::from(self.facts(*aperture).leaves),
+            _ => 1,
+        }
+    }
+
+    /// How many blocks lie in one another in what an object flashes.
+    pub fn depth(&self, object: &Object) -> u64
+        ensures value { result ≡ object_depth (weight_in self.now) object.now }
+        ensures shallow { result ≤ 8 }
+    {
+        match object {
+            Object::Flash { aperture, .. } => u64::from(self.facts(*aperture).depth),
+            _ => 0,
+        }
+    }
+
     /// Adds an entry behind the others; refused for want of memory alone.
     pub fn push(&mut self, number: u32, entry: Entry) -> Result<(), AllocError>
-        requires { lookup (nat_eq number) self.old ≡ None }
+        requires { MayAddEntry self.old number entry }
         ensures ok { OnOk result (self.new ≡ self.old ++ (number, entry) ∷ []) }
         ensures err { OnErr result (self.new ≡ self.old) }
     {
-        self.map.insert(number, entry)?;
-        Ok(())
+        let facts = Facts::of(self, &entry);
+        self.facts.push(facts)?;
+        match self.map.insert(number, entry) {
+            Ok(_) => Ok(()),
+            Err(_) => {
+                self.facts.pop();
+                Err(AllocError)
+            }
+        }
     }
 
     /// A copy; an error where no memory is left for it.
     pub fn try_clone(&self, alloc: Global) -> Result<Dictionary, AllocError>
         ensures { IfOk result (λ d. d ≡ self.now) }
     {
+        self.soundness();
         let mut copy = Dictionary::new(alloc);
         for place in 0..self.len() {
             match self.at(place) {

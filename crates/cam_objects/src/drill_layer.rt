@@ -6,6 +6,7 @@ ghost use Rattle.cam_objects.specs.Drilling.{drill_leaves};
 ghost use Rattle.cam_objects.specs.DrillSoundness.{IsSoundDrillItem, IsSoundDrillLayer, KeepsDrillLimits, MayAddTool, MeetsDrillItem};
 ghost use Rattle.cam_objects.specs.Image.{IsBlack};
 ghost use Rattle.cam_objects.specs.Refusals.{Tells};
+ghost use Rattle.cam_objects.specs.Tests.{is_black};
 
 use crate::drill_checks::{check_drilling, fits_limits, fits_tool};
 use crate::drill_image::is_drilled;
@@ -106,7 +107,8 @@ impl DrillLayer {
     pub fn black_at(&self, spot: Spot) -> bool
         requires sound { IsSoundDrillLayer self.now }
         requires spot { IsPlace spot }
-        ensures { IsTrue result ↔ IsBlack (drill_leaves self.now.tools self.now.items.items) spot }
+        ensures image { IsTrue result ↔ IsBlack (drill_leaves self.now.tools self.now.items.items) spot }
+        ensures test { result ≡ is_black (drill_leaves self.now.tools self.now.items.items) spot }
     {
         is_drilled(&self.tools, &self.items, spot)
     }

@@ -9,9 +9,11 @@ ghost use Rattle.cam_objects.specs.Leaves.{block_leaves, column_leaves, item_lea
 ghost use Rattle.cam_objects.specs.Soundness.{IsSoundDictionary};
 ghost use Rattle.cam_objects.specs.Machinery.Painting.{IsCopied, IsPaintable, IsPaintableItem, IsReady, StandsOnBoard, flash_leaves, meaning_before};
 
+use crate::copies::Copies;
 use crate::dictionary::Dictionary;
 use crate::entry::Entry;
 use crate::item::Item;
+use crate::item_bounds::{is_missed, is_repeat_missed};
 use crate::leaf::{filled_ink, solid_diameter, stamp_ink, stroke_ink, sweep_ink};
 use crate::object::Object;
 use crate::place::Place;
@@ -39,7 +41,12 @@ fn flash_ink(
     }
     match entry {
         Entry::Aperture(aperture) => stamp_ink(aperture, place, spot),
-        Entry::Block(objects) => block_ink(entries, at, objects.as_slice(), place, spot),
+        Entry::Block(objects) => {
+            if is_missed(entries, number, place, spot) {
+                return None;
+            }
+            block_ink(entries, at, objects.as_slice(), place, spot)
+        }
     }
 }
 
@@ -125,7 +132,7 @@ fn object_ink(
 }
 
 /// How wide the strokes of a number are, in nm.
-fn width(entries: &Dictionary, upto: usize, number: u32) -> Option<Nm>
+pub(crate) fn width(entries: &Dictionary, upto: usize, number: u32) -> Option<Nm>
     requires within { upto ≤ length entries.now }
     requires sound { IsSoundDictionary entries.now }
     ensures value { result ≡ (meaning_before upto entries.now number).width }
@@ -222,7 +229,19 @@ fn item_ink(entries: &Dictionary, item: &Item, spot: Spot) -> Option<bool>
             i,
             j,
             objects,
-        } => repeat_ink(entries, objects.as_slice(), *columns, *rows, *i, *j, spot),
+        } => {
+            let objects = objects.as_slice();
+            let copies = Copies {
+                columns: *columns,
+                rows: *rows,
+                i: *i,
+                j: *j,
+            };
+            if is_repeat_missed(entries, &copies, objects, spot) {
+                return None;
+            }
+            repeat_ink(entries, objects, *columns, *rows, *i, *j, spot)
+        }
     }
 }
 

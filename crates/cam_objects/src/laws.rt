@@ -1,6 +1,9 @@
 //! Laws of layers. Each function does nothing: its contract is a law of what layers mean.
 
+ghost use Rattle.cam_objects.specs.BoxLaws.{CoverBoxLaw, RedrawLaw};
 ghost use Rattle.cam_objects.specs.DrillSoundness.{DrillGrowthLaw};
+ghost use Rattle.cam_objects.specs.LayerLaws.{DrillEditLaw, LayerEditLaw};
+ghost use Rattle.cam_objects.specs.Tests.{CoverTestLaw, DrillInsideTestLaw, InsideTestLaw, TestLaw};
 ghost use Rattle.cam_objects.specs.Turning.{AfterLaw};
 
 /// One turn after another is the turn whose matrix is the product of theirs.
@@ -8,8 +11,43 @@ pub fn turns_follow_their_matrices()
     ensures { AfterLaw }
 {}
 
-/// A drill layer stays sound with a sound item more that the limits leave room for, and with a tool
-/// more that may be added.
+/// A drill layer stays sound with a sound item more that the limits leave room for, at any place; with a tool more
+/// that may be added; without an item; and with an item moved that stays on the board.
 pub fn drill_layers_stay_sound()
-    ensures { DrillGrowthLaw }
+    ensures growth { DrillGrowthLaw }
+    ensures edits { DrillEditLaw }
+{}
+
+/// Each place that a leaf covers lies in its box, and so in the box of all leaves of an item.
+pub fn covers_lie_in_their_bounds()
+    ensures { CoverBoxLaw }
+{}
+
+/// Outside the boxes of the items that are taken out and put in, or that go from one place of the list to
+/// another, a layer and a drill layer paint what they did.
+pub fn edits_stay_in_their_bounds()
+    ensures { RedrawLaw }
+{}
+
+/// The test of a shape that computes holds exactly of the places that the shape covers.
+pub fn tests_tell_covers()
+    ensures { CoverTestLaw }
+{}
+
+/// Painting leaves in order, each over those before it, makes exactly those places black of which
+/// the last leaf that covers them is dark.
+pub fn painting_in_order_makes_the_image()
+    ensures { TestLaw }
+{}
+
+/// The tests of items that compute hold exactly of those whose control points lie on the board.
+pub fn tests_tell_what_is_inside()
+    ensures items { InsideTestLaw }
+    ensures drill_items { DrillInsideTestLaw }
+{}
+
+/// A layer stays sound with one entry more that may be added, and paints what it painted; with one sound item more
+/// that the limits leave room for, at any place; without an item; and with an item moved that stays on the board.
+pub fn layers_stay_sound()
+    ensures { LayerEditLaw }
 {}

@@ -5,6 +5,7 @@ ghost use Rattle.cam_units.specs.Board.{IsPlace};
 ghost use Rattle.cam_objects.specs.Image.{IsBlack};
 ghost use Rattle.cam_objects.specs.Leaves.{leaves_of};
 ghost use Rattle.cam_objects.specs.Soundness.{IsSound, IsSoundItem, KeepsLimits, MayAddEntry};
+ghost use Rattle.cam_objects.specs.Tests.{is_black};
 
 use crate::dictionary::Dictionary;
 use crate::entry::Entry;
@@ -91,7 +92,8 @@ impl Layer {
     pub fn black_at(&self, spot: Spot) -> bool
         requires sound { IsSound self.now }
         requires spot { IsPlace spot }
-        ensures { IsTrue result ↔ IsBlack (leaves_of self.now.apertures self.now.items.items) spot }
+        ensures image { IsTrue result ↔ IsBlack (leaves_of self.now.apertures self.now.items.items) spot }
+        ensures test { result ≡ is_black (leaves_of self.now.apertures self.now.items.items) spot }
     {
         ink(&self.apertures, &self.items, spot).unwrap_or(false)
     }

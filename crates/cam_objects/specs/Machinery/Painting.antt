@@ -25,7 +25,8 @@ StandsOnBoard o = All IsOnBoard (points_of o)
 -- the offset of a place leaves room for n more points of the board
 unfoldable pub HasReach : ℕ → Place → Type 0
 HasReach n p =
-    (unsigned_abs p.offset.x + n * 1000000000 < 2 ^ 62) × (unsigned_abs p.offset.y + n * 1000000000 < 2 ^ 62)
+    (unsigned_abs p.offset.x + n * 1000000000 < 4400000000000000000)
+    × (unsigned_abs p.offset.y + n * 1000000000 < 4400000000000000000)
 
 -- what is asked of a place at which leaves are painted, with n more placements to come
 pub record IsPaintable (entries : List (ℕ × Entry)) (upto n : ℕ) (p : Place) (s : Spot) (leaves : List Leaf) : Type 0 where

@@ -8,8 +8,9 @@ use Rattle.cam_objects.specs.Leaves.{Leaf, Meaning, block_leaves, object_leaves}
 use Rattle.cam_objects.specs.Machinery.Painting.{HasReach, IsPaintable, StandsOnBoard, flash_leaves, meaning_before}
 use Rattle.cam_objects.specs.Soundness.{AreOnBoard}
 use Rattle.cam_objects.proofs.Inking.{decided_ink, no_ink, uncovered_nil, undecided}
+use Rattle.cam_objects.proofs.ItemBounds.{meaning_among}
 use Rattle.cam_objects.proofs.Painting.{aperture_sound, block_stands, drawn_points, filled_placeable, meaning-absent, meaning-at, meaning-later, paintable_block, paintable_object, paintable_stamp, stands_at, swept_points}
-use Rattle.cam_objects.proofs.Placed.{reach_flashed, reach_offset}
+use Rattle.cam_objects.proofs.Placed.{reach_box, reach_flashed, reach_offset}
 use Rattle.cam_objects.proofs.image.+ink.Goals as goal
 
 pub block_ink-object_ink-ink-requires : goal.block_ink-object_ink-ink-requires
@@ -84,8 +85,8 @@ flash_ink-returns-in-Aperture t c =
     (sym (meaning-at c.args.entries.now c.in-Some.found.0 c.args.upto c.args.number (Aperture c.in-Aperture.aperture) c.find.ensures.distinct at (omega arith) c.requires.within))
     c.stamp_ink.ensures
 
-pub flash_ink-returns-in-Block : goal.flash_ink-returns-in-Block
-flash_ink-returns-in-Block t c =
+pub flash_ink-returns-else-is_missed : goal.flash_ink-returns-else-is_missed
+flash_ink-returns-else-is_missed t c =
     let at : slice_get c.args.entries.now c.in-Some.found.0 ≡ Some (c.args.number, Block c.in-Block.objects) = c.in-Some.ensures.found ∙ ap (λ (e : Entry). Some (c.args.number, e)) c.in-Block.is in
     subst (λ (m : Meaning). Inks (m.flash c.args.place.now) c.args.spot c.block_ink.result)
     (sym (meaning-at c.args.entries.now c.in-Some.found.0 c.args.upto c.args.number (Block c.in-Block.objects) c.find.ensures.distinct at (omega arith) c.requires.within))
@@ -162,3 +163,12 @@ object_ink-returns-in-Flash t c =
     let means = meaning_before c.args.upto c.args.entries.now in
     subst (λ (o : Object). Inks (object_leaves means c.args.place.now o) c.args.spot c.flash_ink.result) (sym c.in-Flash.is)
     (subst (λ (q : Place). Inks (flash_leaves c.args.upto c.args.entries.now c.in-Flash.aperture q) c.args.spot c.flash_ink.result) c.flashed-inner.ensures c.flash_ink.ensures)
+
+pub flash_ink-is_missed-requires-clause-offset : goal.flash_ink-is_missed-requires-clause-offset
+flash_ink-is_missed-requires-clause-offset t c = reach_box c.args.upto c.args.place.now c.requires.reach
+
+pub flash_ink-returns-then-is_missed : goal.flash_ink-returns-then-is_missed
+flash_ink-returns-then-is_missed t c =
+    subst (λ (m : Meaning). IsUncovered (m.flash c.args.place.now) c.args.spot)
+    (sym (meaning_among c.args.entries.now c.in-Some.found.0 c.args.upto c.args.number c.in-Some.found.1.now c.find.ensures.distinct c.in-Some.ensures.found (omega arith) c.requires.within))
+    (c.is_missed.ensures c.if-is_missed.true)

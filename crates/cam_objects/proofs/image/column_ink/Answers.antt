@@ -1,4 +1,4 @@
-use Rattle.std.proofs.Common.{rules, ◌≡◌, ℕ, ℤ, pos, ◌+◌, ◌-◌, ◌*ℤ◌, List, length, sym, ap, subst, ◌∙◌, arith, FitsSigned, w64, None, refl}
+use Rattle.std.proofs.Common.{rules, ◌≡◌, ℕ, ℤ, pos, ◌+◌, ◌-◌, ◌*ℤ◌, List, sym, ap, subst, ◌∙◌, arith, FitsSigned, w64, None}
 use Rattle.std.proofs.lemmas.Int.{to_z-of_z}
 use Rattle.cam_objects.specs.declared.object.Object.{Object}
 use Rattle.cam_objects.specs.declared.place.Place.{Place}

@@ -1,14 +1,16 @@
-use Rattle.std.proofs.Common.{◌≡◌, ℕ, List, [], ◌∷◌, ◌++◌, None, Some, sym, ap, subst, ◌∙◌, nat_eq, arith, slice_get}
-use Rattle.std.specs.Map.{lookup}
-use Rattle.std.proofs.lemmas.Option.{slice_get-get_or}
+use Rattle.std.proofs.Common.{◌≡◌, ℕ, List, [], ◌∷◌, ◌++◌, Some, sym, ap, subst, ◌∙◌, arith}
 use Rattle.cam_objects.specs.declared.entry.Entry.{Entry}
-use Rattle.cam_objects.proofs.Dictionaries.{absent_before, not_past, take_pair}
+use Rattle.cam_objects.specs.Soundness.{MayAddEntry}
+use Rattle.cam_objects.proofs.Dictionaries.{not_past, take_pair}
+use Rattle.cam_objects.proofs.Painting.{entry_may}
 use Rattle.cam_objects.proofs.dictionary.Dictionary.try_clone.Goals as goal
 
 pub push-requires : goal.push-requires
 push-requires c =
-    subst (λ (es : List (ℕ × Entry)). lookup (nat_eq c.in-Some.number) es ≡ None) (sym c.loop-place.invariant)
-    (absent_before c.args.self.now c.loop-place.place c.in-Some.number c.in-Some.entry.now c.len-place-end.ensures.distinct c.in-Some.ensures.found)
+    let same : c.in_ok-try_clone-in-Some.field-0 ≡ c.in-Some.entry.now = c.in_ok-try_clone-in-Some.ensures in
+    subst (λ (e : Entry). MayAddEntry c.loop-place.copy c.in-Some.number e) (sym same)
+    (subst (λ (es : List (ℕ × Entry)). MayAddEntry es c.in-Some.number c.in-Some.entry.now) (sym c.loop-place.invariant)
+    (entry_may c.args.self.now c.loop-place.place c.in-Some.number c.in-Some.entry.now c.in-Some.ensures.found c.soundness.ensures))
 
 pub loop-place-preserved : goal.loop-place-preserved
 loop-place-preserved c =

@@ -1,0 +1,144 @@
+-- layers stay sound as they are edited
+use Rattle.std.proofs.Common.{◌≡◌, ℕ, suc, ◌+◌, ◌≤◌, List, [], ◌∷◌, ◌++◌, length, map, sum_by, refl, sym, ap, subst, ◌∙◌, arith}
+use Rattle.std.specs.List.{All}
+use Rattle.std.proofs.lemmas.List.{length-append, length-map}
+use Rattle.std.proofs.lemmas.List.Elements.{All-append, All-cons, All-head, All-nil, All-tail}
+use Rattle.std.proofs.lemmas.List.Sums.{sum_by-append, sum_by-cons}
+use Rattle.cam_units.specs.declared.length.Nm.{Nm}
+use Rattle.cam_units.specs.declared.point.Point.{Point}
+use Rattle.cam_shapes.specs.Shifting.{shifted_point}
+use Rattle.cam_objects.specs.declared.drill_item.DrillItem.{DrillItem}
+use Rattle.cam_objects.specs.declared.drill_item.DrillItem.TheVariants.{Hit, Rout}
+use Rattle.cam_objects.specs.declared.item_fault.ItemFault.TheVariants.{Malformed, UnknownAperture, UnknownTool, WrongAperture, ZeroRadius, OutOfBoard, TooMuch}
+use Rattle.cam_objects.specs.DrillSoundness.{IsSoundDrillItem, MeetsDrillItem, drill_count_from, drill_count_of}
+use Rattle.cam_objects.specs.LayerLaws.{DrillEditLaw, LayerEditLaw}
+use Rattle.cam_objects.specs.Shifting.{shifted_drill_item, shifted_item}
+use Rattle.cam_objects.specs.Soundness.{IsSoundItem}
+use Rattle.cam_objects.specs.Weights.{item_count, weight_in}
+use Rattle.cam_objects.proofs.GrownDictionaries.{grow, keep_leaves}
+use Rattle.cam_objects.proofs.MovedItems.{item_count_kept, sound_kept}
+use Rattle.cam_objects.proofs.Painting.{All_left, All_right}
+
+-- ---- lists with an element more, less or other
+
+module _ {X : Type 0} (P : X → Type 0) (before after : List X) where
+  all_with : (x : X) → P x → All P (before ++ after) → All P (before ++ x ∷ after)
+  all_with x h all = All-append P before (x ∷ after) (All_left P before after all) (All-cons P x after h (All_right P before after all))
+
+  all_without : (x : X) → All P (before ++ x ∷ after) → All P (before ++ after)
+  all_without x all = All-append P before after (All_left P before (x ∷ after) all) (All-tail P x after (All_right P before (x ∷ after) all))
+
+  all_at : (x : X) → All P (before ++ x ∷ after) → P x
+  all_at x all = All-head P x after (All_right P before (x ∷ after) all)
+
+module _ {X : Type 0} (f : X → ℕ) (before after : List X) (x : X) where
+  sum_at : sum_by f (before ++ x ∷ after) ≡ f x + sum_by f (before ++ after)
+  sum_at = omega (arith, sum_by-append f before (x ∷ after), sum_by-cons f x after, sum_by-append f before after)
+
+  length_at : length (before ++ x ∷ after) ≡ 1 + length (before ++ after)
+  length_at = omega (arith, length-append before (x ∷ after), length-append before after)
+
+  sum_behind : sum_by f ((before ++ after) ++ x ∷ []) ≡ f x + sum_by f (before ++ after)
+  sum_behind = omega (arith, sum_by-append f (before ++ after) (x ∷ []), sum_by-cons f x [])
+
+  length_behind : length ((before ++ after) ++ x ∷ []) ≡ 1 + length (before ++ after)
+  length_behind = omega (arith, length-append (before ++ after) (x ∷ []))
+
+-- ---- layers
+
+one_more : {X : Type 0} (P : X → Type 0) (xs : List X) (x : X) → All P xs → P x → All P (xs ++ x ∷ [])
+one_more P xs x all here = All-append P xs (x ∷ []) all (All-cons P x [] here (All-nil P))
+
+pub layer_edits : LayerEditLaw
+layer_edits = record {
+  add_entry = λ es items n entry h may. grow es n entry may.absent items h may;
+  keep_leaves = λ es items n entry h may. keep_leaves es n entry may.absent items h;
+  push = λ es items item h good room. record { entries = h.entries; items = one_more (IsSoundItem es) items item h.items good; limits = room };
+  insert = λ es before after item h good room. record {
+    entries = h.entries;
+    items = all_with (IsSoundItem es) before after item good h.items;
+    limits = record {
+      few = subst (λ k. k ≤ 1000000) (length_behind (item_count (weight_in es)) before after item ∙ sym (length_at (item_count (weight_in es)) before after item)) room.few;
+      leaves = subst (λ k. k ≤ 4000000) (sum_behind (item_count (weight_in es)) before after item ∙ sym (sum_at (item_count (weight_in es)) before after item)) room.leaves;
+    };
+  };
+  remove = λ es before after item h. record {
+    entries = h.entries;
+    items = all_without (IsSoundItem es) before after item h.items;
+    limits = record {
+      few = omega (arith, h.limits.few, length_at (item_count (weight_in es)) before after item);
+      leaves = omega (arith, h.limits.leaves, sum_at (item_count (weight_in es)) before after item);
+    };
+  };
+  move = λ es before after item by h inside.
+      let w = item_count (weight_in es) in
+      let there = shifted_item by item in record {
+        entries = h.entries;
+        items = all_with (IsSoundItem es) before after there (sound_kept by es item (all_at (IsSoundItem es) before after item h.items) inside)
+            (all_without (IsSoundItem es) before after item h.items);
+        limits = record {
+          few = subst (λ k. k ≤ 1000000) (length_at w before after item ∙ sym (length_at w before after there)) h.limits.few;
+          leaves = subst (λ k. k ≤ 4000000)
+              (sum_at w before after item ∙ ap (λ k. k + sum_by w (before ++ after)) (sym (item_count_kept by (weight_in es) item)) ∙ sym (sum_at w before after there)) h.limits.leaves;
+        };
+      };
+}
+
+-- ---- drill layers
+
+segments_kept : (by : Point) (points : List Point) → drill_count_from (map (shifted_point by) points) ≡ drill_count_from points
+segments_kept by [] = refl
+segments_kept by (p ∷ []) = refl
+segments_kept by (p ∷ q ∷ ps) = length-map (q ∷ ps) (shifted_point by)
+
+drill_count_kept : (by : Point) (item : DrillItem) → drill_count_of (shifted_drill_item by item) ≡ drill_count_of item
+drill_count_kept by (Hit tool at) = refl
+drill_count_kept by (Rout tool points) = segments_kept by points
+
+drill_kept : (ts : List (ℕ × Nm)) (by : Point) (item : DrillItem) → IsSoundDrillItem ts item → MeetsDrillItem ts (shifted_drill_item by item) OutOfBoard
+    → IsSoundDrillItem ts (shifted_drill_item by item)
+drill_kept ts by (Hit tool at) h inside Malformed = h Malformed
+drill_kept ts by (Hit tool at) h inside UnknownAperture = tt
+drill_kept ts by (Hit tool at) h inside UnknownTool = h UnknownTool
+drill_kept ts by (Hit tool at) h inside WrongAperture = tt
+drill_kept ts by (Hit tool at) h inside ZeroRadius = tt
+drill_kept ts by (Hit tool at) h inside OutOfBoard = inside
+drill_kept ts by (Hit tool at) h inside TooMuch = h TooMuch
+drill_kept ts by (Rout tool points) h inside Malformed = subst (λ k. suc 0 ≤ k) (sym (length-map points (shifted_point by))) (h Malformed)
+drill_kept ts by (Rout tool points) h inside UnknownAperture = tt
+drill_kept ts by (Rout tool points) h inside UnknownTool = h UnknownTool
+drill_kept ts by (Rout tool points) h inside WrongAperture = tt
+drill_kept ts by (Rout tool points) h inside ZeroRadius = tt
+drill_kept ts by (Rout tool points) h inside OutOfBoard = inside
+drill_kept ts by (Rout tool points) h inside TooMuch = subst (λ k. k ≤ 1000000) (sym (length-map points (shifted_point by))) (h TooMuch)
+
+pub drill_edits : DrillEditLaw
+drill_edits = record {
+  insert = λ ts before after item h good room. record {
+    tools = h.tools;
+    items = all_with (IsSoundDrillItem ts) before after item good h.items;
+    limits = record {
+      few = subst (λ k. k ≤ 1000000) (length_behind drill_count_of before after item ∙ sym (length_at drill_count_of before after item)) room.few;
+      leaves = subst (λ k. k ≤ 4000000) (sum_behind drill_count_of before after item ∙ sym (sum_at drill_count_of before after item)) room.leaves;
+    };
+  };
+  remove = λ ts before after item h. record {
+    tools = h.tools;
+    items = all_without (IsSoundDrillItem ts) before after item h.items;
+    limits = record {
+      few = omega (arith, h.limits.few, length_at drill_count_of before after item);
+      leaves = omega (arith, h.limits.leaves, sum_at drill_count_of before after item);
+    };
+  };
+  move = λ ts before after item by h inside.
+      let there = shifted_drill_item by item in record {
+        tools = h.tools;
+        items = all_with (IsSoundDrillItem ts) before after there (drill_kept ts by item (all_at (IsSoundDrillItem ts) before after item h.items) inside)
+            (all_without (IsSoundDrillItem ts) before after item h.items);
+        limits = record {
+          few = subst (λ k. k ≤ 1000000) (length_at drill_count_of before after item ∙ sym (length_at drill_count_of before after there)) h.limits.few;
+          leaves = subst (λ k. k ≤ 4000000)
+              (sum_at drill_count_of before after item ∙ ap (λ k. k + sum_by drill_count_of (before ++ after)) (sym (drill_count_kept by item)) ∙ sym (sum_at drill_count_of before after there)) h.limits.leaves;
+        };
+      };
+}

@@ -1,0 +1,154 @@
+-- an entry more changes the meaning of no number that is there
+use Rattle.std.proofs.Common.{◌≡◌, ℕ, ◌+◌, ◌*◌, ◌≤◌, Bool, true, false, cond, pos, ◌*ℤ◌, List, [], ◌∷◌, ◌++◌, reverse, None, Some, nat_eq, slice_index_or, sum_by, refl, sym, ap, subst, ◌∙◌}
+use Rattle.std.specs.List.{All, flat_map, range_with_len}
+use Rattle.std.specs.Map.{lookup}
+use Rattle.std.specs.Option.{IsSome}
+use Rattle.std.proofs.lemmas.Bool.{eqb-true, false≢true}
+use Rattle.std.proofs.lemmas.List.{reverse-append}
+use Rattle.std.proofs.lemmas.List.Elements.{All-head, All-tail, All-weaker}
+use Rattle.std.proofs.lemmas.List.Sums.{sum_by-cons}
+use Rattle.cam_shapes.specs.Placing.{placed_direction}
+use Rattle.cam_objects.specs.declared.entry.Entry.{Entry}
+use Rattle.cam_objects.specs.declared.item.Item.{Item}
+use Rattle.cam_objects.specs.declared.item.Item.TheVariants.{One, Repeat}
+use Rattle.cam_objects.specs.declared.item_fault.ItemFault.TheVariants.{Malformed, UnknownAperture, UnknownTool, WrongAperture, ZeroRadius, OutOfBoard, TooMuch}
+use Rattle.cam_objects.specs.declared.object.Object.{Object}
+use Rattle.cam_objects.specs.declared.object.Object.TheVariants.{Flash, Draw, Arc, Region}
+use Rattle.cam_objects.specs.declared.place.Place.{Place}
+use Rattle.cam_objects.specs.Leaves.{Meaning, arc_leaves, block_leaves, draw_leaves, entry_meaning, flashed, item_leaves, leaves_of, meaning_in, no_meaning, object_leaves, origin, placed, polarity_in, shifted, stands_for}
+use Rattle.cam_objects.specs.Soundness.{AreOnBoard, HasNumber, IsDrawable, IsInside, IsKnown, IsSoundContent, IsSoundItem, IsWithinLimits, MayAddEntry, objects_of}
+use Rattle.cam_objects.specs.Weights.{Weight, block_count, entry_weight, item_count, no_weight, object_count, weight_in}
+use Rattle.cam_objects.proofs.KeptFacts.{sound_grows}
+
+abbrev Pairs : Type 0
+Pairs = List (ℕ × Entry)
+
+apart : (es : Pairs) (n m : ℕ) → lookup (nat_eq n) es ≡ None → HasNumber es m → nat_eq n m ≡ false
+apart es n m absent known = by (nat_eq n m) refl
+  where
+    by : (b : Bool) → nat_eq n m ≡ b → b ≡ false
+    by true e =
+        let same : n ≡ m = eqb-true n m e in
+        absurd (false≢true (subst IsSome (ap (λ k. lookup (nat_eq k) es) (sym same) ∙ absent) known))
+    by false e = refl
+
+known_more : (es more : Pairs) (n : ℕ) → HasNumber es n → HasNumber (es ++ more) n
+known_more [] more n h = absurd (false≢true h)
+known_more (e ∷ es) more n h = by (nat_eq n e.0) (known_more es more n) h
+  where
+    by : (b : Bool) → (HasNumber es n → HasNumber (es ++ more) n)
+        → IsSome (cond b (Some e.1) (lookup (nat_eq n) es)) → IsSome (cond b (Some e.1) (lookup (nat_eq n) (es ++ more)))
+    by true rest h = refl
+    by false rest h = rest h
+
+module _ (es : Pairs) (n : ℕ) (e : Entry) (absent : lookup (nat_eq n) es ≡ None) where
+  abbrev grown : Pairs
+  grown = es ++ (n, e) ∷ []
+
+  stands_same : {M : Type 0} (nothing : M) (means : (ℕ → M) → Entry → M) (m : ℕ) → HasNumber es m
+      → stands_for nothing means (reverse grown) m ≡ stands_for nothing means (reverse es) m
+  stands_same nothing means m known =
+      ap (λ ds. stands_for nothing means ds m) (reverse-append es ((n, e) ∷ []))
+      ∙ ap (λ b. cond b (means (stands_for nothing means (reverse es)) e) (stands_for nothing means (reverse es) m)) (apart es n m absent known)
+
+  means_same : (m : ℕ) → HasNumber es m → meaning_in grown m ≡ meaning_in es m
+  means_same = stands_same no_meaning entry_meaning
+
+  weighs_same : (m : ℕ) → HasNumber es m → weight_in grown m ≡ weight_in es m
+  weighs_same = stands_same no_weight entry_weight
+
+  -- ---- objects
+
+  object_same : (p : Place) (o : Object) → IsKnown es o → object_leaves (meaning_in grown) p o ≡ object_leaves (meaning_in es) p o
+  object_same p (Flash m at t dark) h = ap (λ (x : Meaning). x.flash (flashed p at t dark)) (means_same m h)
+  object_same p (Draw m from to t dark) h =
+      ap (λ (x : Meaning). draw_leaves x.width (placed p from) (placed p to) (polarity_in p.dark dark)) (means_same m h)
+  object_same p (Arc m from to centre ccw dark) h =
+      ap (λ (x : Meaning). arc_leaves x.width (placed p from) (placed p to) (placed p centre) (placed_direction p.turn ccw) (polarity_in p.dark dark)) (means_same m h)
+  object_same p (Region c dark) h = refl
+
+  count_same : (o : Object) → IsKnown es o → object_count (weight_in grown) o ≡ object_count (weight_in es) o
+  count_same (Flash m at t dark) h = ap (λ (w : Weight). 1 + w.leaves) (weighs_same m h)
+  count_same (Draw m from to t dark) h = refl
+  count_same (Arc m from to centre ccw dark) h = refl
+  count_same (Region c dark) h = refl
+
+  drawable_same : (o : Object) → IsKnown es o → IsDrawable (meaning_in es) o → IsDrawable (meaning_in grown) o
+  drawable_same (Flash m at t dark) h k = tt
+  drawable_same (Draw m from to t dark) h k = subst (λ (x : Meaning). IsSome x.width) (sym (means_same m h)) k
+  drawable_same (Arc m from to centre ccw dark) h k = subst (λ (x : Meaning). IsSome x.width) (sym (means_same m h)) k
+  drawable_same (Region c dark) h k = tt
+
+  known_same : (o : Object) → IsKnown es o → IsKnown grown o
+  known_same (Flash m at t dark) h = known_more es ((n, e) ∷ []) m h
+  known_same (Draw m from to t dark) h = known_more es ((n, e) ∷ []) m h
+  known_same (Arc m from to centre ccw dark) h = known_more es ((n, e) ∷ []) m h
+  known_same (Region c dark) h = tt
+
+  -- ---- lists of them, and items
+
+  block_same : (objects : List Object) → All (IsKnown es) objects → (p : Place)
+      → block_leaves (meaning_in grown) p objects ≡ block_leaves (meaning_in es) p objects
+  block_same [] h p = refl
+  block_same (o ∷ objects) h p =
+      λ i. object_same p o (All-head (IsKnown es) o objects h) i ++ block_same objects (All-tail (IsKnown es) o objects h) p i
+
+  block_count_same : (objects : List Object) → All (IsKnown es) objects → block_count (weight_in grown) objects ≡ block_count (weight_in es) objects
+  block_count_same [] h = refl
+  block_count_same (o ∷ objects) h =
+      sum_by-cons (object_count (weight_in grown)) o objects
+      ∙ (λ i. count_same o (All-head (IsKnown es) o objects h) i + block_count_same objects (All-tail (IsKnown es) o objects h) i)
+      ∙ sym (sum_by-cons (object_count (weight_in es)) o objects)
+
+  drawable_all : (objects : List Object) → All (IsKnown es) objects → All (IsDrawable (meaning_in es)) objects → All (IsDrawable (meaning_in grown)) objects
+  drawable_all objects h k i d low = drawable_same (slice_index_or objects i d) (h i d low) (k i d low)
+
+  abbrev IsKnownItem : Item → Type 0
+  IsKnownItem item = All (IsKnown es) (objects_of item)
+
+  pub item_same : (item : Item) → All (IsKnown es) (objects_of item) → item_leaves (meaning_in grown) item ≡ item_leaves (meaning_in es) item
+  item_same (One o) h = object_same origin o (All-head (IsKnown es) o [] h)
+  item_same (Repeat columns rows x y objects) h =
+      λ i. flat_map (λ c. flat_map (λ r. block_same objects h (shifted (pos c *ℤ x) (pos r *ℤ y)) i) (range_with_len 0 rows)) (range_with_len 0 columns)
+
+  item_count_same : (item : Item) → IsKnownItem item → item_count (weight_in grown) item ≡ item_count (weight_in es) item
+  item_count_same (One o) h = count_same o (All-head (IsKnown es) o [] h)
+  item_count_same (Repeat columns rows x y objects) h = ap (λ k. columns * rows * k) (block_count_same objects h)
+
+  sound_same : (item : Item) → IsSoundItem es item → IsSoundItem grown item
+  sound_same item h Malformed = h Malformed
+  sound_same item h UnknownAperture = All-weaker (IsKnown es) (IsKnown grown) known_same (objects_of item) (h UnknownAperture)
+  sound_same item h UnknownTool = tt
+  sound_same item h WrongAperture = drawable_all (objects_of item) (h UnknownAperture) (h WrongAperture)
+  sound_same item h ZeroRadius = h ZeroRadius
+  sound_same item h OutOfBoard =
+      let inside : IsInside es item = h OutOfBoard in
+      record { points = inside.points; steps = inside.steps; leaves = subst AreOnBoard (sym (item_same item (h UnknownAperture))) inside.leaves }
+  sound_same item h TooMuch =
+      let limits : IsWithinLimits es item = h TooMuch in
+      record { segs = limits.segs; objects = limits.objects; leaves = subst (λ k. k ≤ 4000000) (sym (item_count_same item (h UnknownAperture))) limits.leaves }
+
+  sum_same : (items : List Item) → All IsKnownItem items
+      → sum_by (item_count (weight_in grown)) items ≡ sum_by (item_count (weight_in es)) items
+  sum_same [] h = refl
+  sum_same (x ∷ items) h =
+      sum_by-cons (item_count (weight_in grown)) x items
+      ∙ (λ i. item_count_same x (All-head IsKnownItem x items h) i + sum_same items (All-tail IsKnownItem x items h) i)
+      ∙ sym (sum_by-cons (item_count (weight_in es)) x items)
+
+  leaves_same : (items : List Item) → All IsKnownItem items → leaves_of grown items ≡ leaves_of es items
+  leaves_same [] h = refl
+  leaves_same (x ∷ items) h = λ i. item_same x (All-head IsKnownItem x items h) i ++ leaves_same items (All-tail IsKnownItem x items h) i
+
+  known_items : (items : List Item) → All (IsSoundItem es) items → All IsKnownItem items
+  known_items items h = All-weaker (IsSoundItem es) IsKnownItem (λ x k. k UnknownAperture) items h
+
+  pub keep_leaves : (items : List Item) → IsSoundContent es items → leaves_of grown items ≡ leaves_of es items
+  keep_leaves items h = leaves_same items (known_items items h.items)
+
+  pub grow : (items : List Item) → IsSoundContent es items → MayAddEntry es n e → IsSoundContent grown items
+  grow items h may = record {
+    entries = sound_grows es n e h.entries may;
+    items = All-weaker (IsSoundItem es) (IsSoundItem grown) sound_same items h.items;
+    limits = record { few = h.limits.few; leaves = subst (λ k. k ≤ 4000000) (sym (sum_same items (known_items items h.items))) h.limits.leaves };
+  }

@@ -1,0 +1,15 @@
+use Rattle.std.proofs.Common.{List, ap, sym, ◌∙◌, arith}
+use Rattle.std.proofs.lemmas.List.{take_all}
+use Rattle.cam_objects.specs.declared.object.Object.{Object}
+use Rattle.cam_objects.specs.Bounds.{bounds_of, box_of_all}
+use Rattle.cam_objects.specs.Leaves.{meaning_in, object_leaves, origin}
+use Rattle.cam_objects.proofs.ItemBounds.{bounded_block}
+use Rattle.cam_objects.proofs.item_bounds.block_bounds.Goals as goal
+
+pub returns : goal.returns
+returns c =
+    let es = c.args.entries.now in
+    c.loop-object.invariant
+    ∙ ap (λ (os : List Object). box_of_all (λ o. bounds_of (object_leaves (meaning_in es) origin o)) os)
+    (take_all c.loop-object.object-index c.args.objects.now (omega arith))
+    ∙ sym (bounded_block es c.soundness.ensures c.args.objects.now c.requires.board)

@@ -1,0 +1,41 @@
+-- Layers stay sound as they are edited.
+use Rattle.std.specs.Prelude.{◌≡◌, ℕ, List, [], ◌∷◌, ◌++◌}
+use Rattle.cam_units.specs.declared.length.Nm.{Nm}
+use Rattle.cam_units.specs.declared.point.Point.{Point}
+use Rattle.cam_objects.specs.declared.drill_item.DrillItem.{DrillItem}
+use Rattle.cam_objects.specs.declared.entry.Entry.{Entry}
+use Rattle.cam_objects.specs.declared.item.Item.{Item}
+use Rattle.cam_objects.specs.declared.item_fault.ItemFault.TheVariants.{OutOfBoard}
+use Rattle.cam_objects.specs.DrillSoundness.{IsSoundDrillContent, IsSoundDrillItem, KeepsDrillLimits, MeetsDrillItem}
+use Rattle.cam_objects.specs.Leaves.{leaves_of}
+use Rattle.cam_objects.specs.Shifting.{shifted_drill_item, shifted_item}
+use Rattle.cam_objects.specs.Soundness.{IsSoundContent, IsSoundItem, KeepsLimits, MayAddEntry, MeetsItem}
+
+-- with one entry more a layer stays sound and paints what it painted; it stays sound with one sound item more, at any
+-- place, where the limits leave room for it, without an item, and with an item moved that stays on the board
+pub record LayerEditLaw : Type 0 where
+  pub add_entry : (es : List (ℕ × Entry)) (items : List Item) (n : ℕ) (entry : Entry) → IsSoundContent es items
+      → MayAddEntry es n entry → IsSoundContent (es ++ (n, entry) ∷ []) items
+  pub keep_leaves : (es : List (ℕ × Entry)) (items : List Item) (n : ℕ) (entry : Entry) → IsSoundContent es items
+      → MayAddEntry es n entry → leaves_of (es ++ (n, entry) ∷ []) items ≡ leaves_of es items
+  pub push : (es : List (ℕ × Entry)) (items : List Item) (item : Item) → IsSoundContent es items → IsSoundItem es item
+      → KeepsLimits es (items ++ item ∷ []) → IsSoundContent es (items ++ item ∷ [])
+  pub insert : (es : List (ℕ × Entry)) (before after : List Item) (item : Item)
+      → IsSoundContent es (before ++ after) → IsSoundItem es item
+      → KeepsLimits es ((before ++ after) ++ item ∷ []) → IsSoundContent es (before ++ item ∷ after)
+  pub remove : (es : List (ℕ × Entry)) (before after : List Item) (item : Item)
+      → IsSoundContent es (before ++ item ∷ after) → IsSoundContent es (before ++ after)
+  pub move : (es : List (ℕ × Entry)) (before after : List Item) (item : Item) (by : Point)
+      → IsSoundContent es (before ++ item ∷ after) → MeetsItem es (shifted_item by item) OutOfBoard
+      → IsSoundContent es (before ++ shifted_item by item ∷ after)
+
+-- the same of the items of a drill layer
+pub record DrillEditLaw : Type 0 where
+  pub insert : (ts : List (ℕ × Nm)) (before after : List DrillItem) (item : DrillItem)
+      → IsSoundDrillContent ts (before ++ after) → IsSoundDrillItem ts item
+      → KeepsDrillLimits ((before ++ after) ++ item ∷ []) → IsSoundDrillContent ts (before ++ item ∷ after)
+  pub remove : (ts : List (ℕ × Nm)) (before after : List DrillItem) (item : DrillItem)
+      → IsSoundDrillContent ts (before ++ item ∷ after) → IsSoundDrillContent ts (before ++ after)
+  pub move : (ts : List (ℕ × Nm)) (before after : List DrillItem) (item : DrillItem) (by : Point)
+      → IsSoundDrillContent ts (before ++ item ∷ after) → MeetsDrillItem ts (shifted_drill_item by item) OutOfBoard
+      → IsSoundDrillContent ts (before ++ shifted_drill_item by item ∷ after)

@@ -1,0 +1,75 @@
+-- Boxes that are placed: of what is painted at a place, from the box of the same at the origin.
+use Rattle.std.specs.Prelude.{◌≡◌, ℕ, ◌*◌, ◌^◌, ◌<◌, IsTrue, ℤ, pos, ◌+ℤ◌, ◌-ℤ◌, ◌*ℤ◌, ◌≤ℤ◌, List, All, ⊤}
+use Rattle.std.specs.Int.RustNames.{unsigned_abs}
+use Rattle.cam_units.specs.declared.bounds.Bounds.{Bounds}
+use Rattle.cam_units.specs.declared.bounds.Bounds.TheVariants.{Empty, Closed}
+use Rattle.cam_units.specs.declared.length.Nm.{Nm}
+use Rattle.cam_units.specs.declared.point.Point.{Point}
+use Rattle.cam_units.specs.declared.point.Spot.{Spot}
+use Rattle.cam_units.specs.Board.{IsSize}
+use Rattle.cam_units.specs.Boxes.{has_no_place}
+use Rattle.cam_apertures.specs.Soundness.{IsSoundAperture}
+use Rattle.cam_apertures.specs.Turned.{turned_box}
+use Rattle.cam_objects.specs.declared.copies.Copies.{Copies}
+use Rattle.cam_objects.specs.declared.entry.Entry.{Entry}
+use Rattle.cam_objects.specs.declared.object.Object.{Object}
+use Rattle.cam_objects.specs.declared.place.Place.{Place}
+use Rattle.cam_objects.specs.Bounds.{moved}
+use Rattle.cam_objects.specs.Leaves.{Leaf, Shape, Stamp, Stroke, Sweep, Filled, Drilled, meaning_in, repeat_leaves}
+use Rattle.cam_objects.specs.Machinery.Painting.{StandsOnBoard}
+use Rattle.cam_objects.specs.Soundness.{AreOnBoard}
+
+-- a box that is turned with its place and then moved
+abbrev pub placed_bounds : Place → Bounds → Bounds
+placed_bounds p b = moved p.offset (turned_box p.turn b)
+
+-- a corner of the box of leaves on the board
+pub record IsNearSpot (s : Spot) : Type 0 where
+  pub x : unsigned_abs s.x < 2 ^ 33
+  pub y : unsigned_abs s.y < 2 ^ 33
+
+abbrev pub IsNearBox : Bounds → Type 0
+IsNearBox Empty = ⊤
+IsNearBox (Closed low high) = IsNearSpot low × IsNearSpot high
+
+-- an offset by which a near box can be moved
+pub record IsBoxOffset (o : Point) : Type 0 where
+  pub x : unsigned_abs o.x < 4500000000000000000
+  pub y : unsigned_abs o.y < 4500000000000000000
+
+abbrev pub moved_spot : Point → Spot → Spot
+moved_spot by s = record { x = s.x +ℤ pos 2 *ℤ by.x; y = s.y +ℤ pos 2 *ℤ by.y }
+
+-- where no place lies between its corners, it has none
+abbrev pub IsUncrossed : Bounds → Type 0
+IsUncrossed b = IsTrue (has_no_place b) → b ≡ Empty
+
+-- a leaf's aperture is sound, or its width or its diameter a size
+abbrev pub IsSizedShape : Shape → Type 0
+IsSizedShape (Stamp aperture turn at) = IsSoundAperture aperture
+IsSizedShape (Stroke capsule) = IsSize capsule.width.0
+IsSizedShape (Sweep arc) = IsSize arc.width.0
+IsSizedShape (Filled contour) = ⊤
+IsSizedShape (Drilled disc) = IsSize disc.diameter.0
+
+abbrev pub AreSized : List Leaf → Type 0
+AreSized leaves = All (λ l. IsSizedShape l.shape) leaves
+
+-- how far the square about an arc or the box of a hole reaches
+pub record IsBoxReach (reach : Nm) : Type 0 where
+  pub some : pos 0 ≤ℤ reach.0
+  pub few : reach.0 ≤ℤ pos 5700000000
+
+abbrev pub below : Spot → ℤ → Spot
+below s by = record { x = s.x -ℤ by; y = s.y -ℤ by }
+
+abbrev pub above : Spot → ℤ → Spot
+above s by = record { x = s.x +ℤ by; y = s.y +ℤ by }
+
+-- a repeat that lies on the board with all its copies
+pub record IsBoxedRepeat (entries : List (ℕ × Entry)) (copies : Copies) (objects : List Object) : Type 0 where
+  pub many : 1 < copies.columns * copies.rows
+  pub across : unsigned_abs copies.i < 1000000000
+  pub up : unsigned_abs copies.j < 1000000000
+  pub stands : All StandsOnBoard objects
+  pub board : AreOnBoard (repeat_leaves (meaning_in entries) copies.columns copies.rows copies.i copies.j objects)

@@ -1,0 +1,57 @@
+//! The copies of a repeat.
+
+ghost use Rattle.std.specs.Prelude.{◌≡◌, ◌*◌, ◌<◌, ◌-◌, ◌≤◌, ◌*ℤ◌, ◌+ℤ◌, ◌↔◌, IsTrue, pos};
+ghost use Rattle.std.specs.Int.RustNames.{unsigned_abs};
+ghost use Rattle.cam_objects.specs.Machinery.Boxes.{IsBoxOffset};
+ghost use Rattle.cam_objects.specs.Machinery.Inside.{last_copy};
+
+use cam_units::Point;
+
+/// How many columns and rows of copies a repeat has, and the steps from one to the next, in nm.
+#[derive(Clone, Copy, Debug, PartialEq, Eq)]
+pub(crate) struct Copies {
+    pub columns: u32,
+    pub rows: u32,
+    pub i: i64,
+    pub j: i64,
+}
+
+impl Copies {
+    /// How many copies there are.
+    pub(crate) fn count(&self) -> u64
+        ensures { result ≡ self.now.columns * self.now.rows }
+    {
+        u64::from(self.columns) * u64::from(self.rows)
+    }
+
+    /// Whether both steps are under 1,000,000,000 nm in absolute value.
+    pub(crate) fn are_short(&self) -> bool
+        ensures { IsTrue result ↔ ((unsigned_abs self.now.i < 1000000000) × (unsigned_abs self.now.j < 1000000000)) }
+    {
+        self.i.unsigned_abs() < 1_000_000_000 && self.j.unsigned_abs() < 1_000_000_000
+    }
+
+    /// Where the last copy lies, beside the first.
+    pub(crate) fn last(&self) -> Point
+        requires copies { 1 < self.now.columns * self.now.rows }
+        requires across { unsigned_abs self.now.i < 1000000000 }
+        requires up { unsigned_abs self.now.j < 1000000000 }
+        ensures value { result ≡ last_copy self.now.columns self.now.rows self.now.i self.now.j }
+        ensures reach { IsBoxOffset result }
+    {
+        Point {
+            x: last_step(self.columns, self.i),
+            y: last_step(self.rows, self.j),
+        }
+    }
+}
+
+/// So many steps but one, in nm.
+fn last_step(count: u32, step: i64) -> i64
+    requires count { 0 < count }
+    requires step { unsigned_abs step < 1000000000 }
+    ensures value { result ≡ pos (count - 1) *ℤ step }
+    ensures reach { unsigned_abs result < 4400000000000000000 }
+{
+    i64::from(count - 1) * step
+}

@@ -1,0 +1,167 @@
+//! Boxes of what objects and items paint, in half nm: a flash of a block costs one box.
+
+ghost use Rattle.std.specs.Prelude.{◌≡◌, ◌*◌, ◌<◌, All, IsTrue, Some, length, slice_get};
+ghost use Rattle.cam_objects.specs.Bounds.{bounds_of};
+ghost use Rattle.cam_objects.specs.Image.{IsUncovered};
+ghost use Rattle.cam_objects.specs.Leaves.{block_leaves, item_leaves, meaning_in, object_leaves, origin, repeat_leaves};
+ghost use Rattle.cam_objects.specs.Machinery.Boxes.{IsBoxOffset, IsBoxedRepeat};
+ghost use Rattle.cam_objects.specs.Machinery.Painting.{StandsOnBoard};
+ghost use Rattle.cam_objects.specs.Soundness.{AreOnBoard, IsSound, IsSoundDictionary, IsSoundItem};
+ghost use Rattle.cam_objects.specs.declared.item.Item.{Item};
+
+use crate::bounds::moved;
+use crate::copies::Copies;
+use crate::dictionary::Dictionary;
+use crate::image::width;
+use crate::item::Item;
+use crate::layer::Layer;
+use crate::object::Object;
+use crate::place::Place;
+use crate::shape_bounds::{contour_bounds, stroke_bounds, sweep_bounds};
+use cam_apertures::has_place;
+use cam_shapes::{Arc, Capsule};
+use cam_units::{Bounds, Spot};
+
+/// The box of what an object paints.
+pub(crate) fn object_bounds(entries: &Dictionary, object: &Object) -> Bounds
+    requires sound { IsSoundDictionary entries.now }
+    requires stands { StandsOnBoard object.now }
+    ensures { result ≡ bounds_of (object_leaves (meaning_in entries.now) origin object.now) }
+{
+    match object {
+        Object::Flash {
+            aperture,
+            at,
+            turn,
+            dark,
+        } => {
+            let place = Place::shifted(0, 0).flashed(*at, *turn, *dark);
+            place.bounds(entries.facts(*aperture).bounds)
+        }
+        Object::Draw {
+            aperture,
+            from,
+            to,
+            ..
+        } => match width(entries, entries.len(), *aperture) {
+            Some(width) => stroke_bounds(&Capsule {
+                from: *from,
+                to: *to,
+                width,
+            }),
+            None => Bounds::Empty,
+        },
+        Object::Arc {
+            aperture,
+            from,
+            to,
+            centre,
+            ccw,
+            ..
+        } => match width(entries, entries.len(), *aperture) {
+            Some(width) => sweep_bounds(&Arc {
+                from: *from,
+                to: *to,
+                centre: *centre,
+                ccw: *ccw,
+                width,
+            }),
+            None => Bounds::Empty,
+        },
+        Object::Region { contour, .. } => contour_bounds(contour),
+    }
+}
+
+/// The box of what the objects of a block paint.
+pub(crate) fn block_bounds(entries: &Dictionary, objects: &[Object]) -> Bounds
+    requires stands { All StandsOnBoard objects.now }
+    requires board { AreOnBoard (block_leaves (meaning_in entries.now) origin objects.now) }
+    ensures { result ≡ bounds_of (block_leaves (meaning_in entries.now) origin objects.now) }
+{
+    entries.soundness();
+    let mut all = Bounds::Empty;
+    for object in objects {
+        all = all.joined(object_bounds(entries, object));
+    }
+    all
+}
+
+/// Whether the place lies outside the box of what a flash of the number paints there, so that no leaf of it needs to
+/// be asked.
+pub(crate) fn is_missed(entries: &Dictionary, number: u32, place: &Place, spot: Spot) -> bool
+    requires sound { IsSoundDictionary entries.now }
+    requires offset { IsBoxOffset place.now.offset }
+    ensures { IsTrue result → IsUncovered ((meaning_in entries.now number).flash place.now) spot }
+{
+    let bounds = place.bounds(entries.facts(number).bounds);
+    !has_place(bounds, spot)
+}
+
+/// The box of all copies of a repeat: that of the first, joined with the last.
+fn repeat_bounds(entries: &Dictionary, copies: &Copies, objects: &[Object]) -> Bounds
+    requires entries { IsSoundDictionary entries.now }
+    requires repeat { IsBoxedRepeat entries.now copies.now objects.now }
+    ensures { result ≡ bounds_of (repeat_leaves (meaning_in entries.now)
+        copies.now.columns copies.now.rows copies.now.i copies.now.j objects.now) }
+{
+    let first = block_bounds(entries, objects);
+    first.joined(moved(first, copies.last()))
+}
+
+/// Whether the place lies outside the box of all copies of a repeat, so that none of them needs to be asked.
+pub(crate) fn is_repeat_missed(
+    entries: &Dictionary,
+    copies: &Copies,
+    objects: &[Object],
+    spot: Spot,
+) -> bool
+    requires entries { IsSoundDictionary entries.now }
+    requires repeat { 1 < copies.now.columns * copies.now.rows → IsBoxedRepeat entries.now copies.now objects.now }
+    ensures { IsTrue result → IsUncovered (repeat_leaves (meaning_in entries.now)
+        copies.now.columns copies.now.rows copies.now.i copies.now.j objects.now) spot }
+{
+    if copies.count() <= 1 {
+        return false;
+    }
+    !has_place(repeat_bounds(entries, copies, objects), spot)
+}
+
+impl Layer {
+    /// The least box that holds the boxes of all that a sound item paints: of a flash its aperture's, of a stroke its
+    /// ends' and, where it is an arc, the whole circle's, widened by half the width, of a region its points' and its
+    /// arcs' circles'. Takes no memory, and goes through no block.
+    pub fn bounds_of(&self, item: &Item) -> Bounds
+        requires { IsSoundItem self.now.apertures item.now }
+        ensures { result ≡ bounds_of (item_leaves (meaning_in self.now.apertures) item.now) }
+    {
+        self.apertures.soundness();
+        match item {
+            Item::One(object) => object_bounds(&self.apertures, object),
+            Item::Repeat {
+                columns,
+                rows,
+                i,
+                j,
+                objects,
+            } => {
+                let copies = Copies {
+                    columns: *columns,
+                    rows: *rows,
+                    i: *i,
+                    j: *j,
+                };
+                repeat_bounds(&self.apertures, &copies, objects.as_slice())
+            }
+        }
+    }
+
+    /// The box of the item at a place of the list, counted from 0.
+    pub fn item_bounds(&self, place: usize) -> Bounds
+        requires sound { IsSound self.now }
+        requires within { place < length self.now.items.items }
+        ensures { (item : Item) → slice_get self.now.items.items place ≡ Some item
+            → result ≡ bounds_of (item_leaves (meaning_in self.now.apertures) item) }
+    {
+        self.bounds_of(&self.items[place])
+    }
+}
