@@ -1,5 +1,4 @@
 pub mod Cuttings
-pub mod Digits
 pub mod Packing
 pub mod Declaring
 pub mod FaultTables

@@ -1,12 +1,10 @@
 -- The layer of a file is sound: each of its lines keeps the layer so.
 use Rattle.std.proofs.Common.{◌≡◌, ℕ, List, [], ◌∷◌, Bool, true, false, cond, Option, Some, None, Result, Ok, Err, refl, sym, ◌∙◌, subst, lit≤, lit<, length}
 use Rattle.std.specs.Option.{option_map}
-use Rattle.std.specs.List.{list_any, All}
+use Rattle.std.specs.List.{list_any}
 use Rattle.std.proofs.lemmas.List.Elements.{All-nil}
 use Rattle.cam_units.specs.Board.{IsOnBoard}
-use Rattle.cam_units.specs.declared.length.Nm.{Nm}
-use Rattle.cam_objects.specs.declared.drill_layer.DrillLayer.{DrillLayer}
-use Rattle.cam_objects.specs.DrillSoundness.{IsSoundTool, IsSoundDrillItem, IsSoundDrillLayer, KeepsDrillLimits}
+use Rattle.cam_objects.specs.DrillSoundness.{IsSoundDrillContent}
 use Rattle.cam_xnc.specs.declared.modes.Part.{Part}
 use Rattle.cam_xnc.specs.declared.modes.Part.TheVariants.{Start, Header, Body}
 use Rattle.cam_xnc.specs.declared.read_fault.ReadFault.{ReadFault}
@@ -16,7 +14,7 @@ use Rattle.cam_xnc.specs.Bytes.{is_bad, code_of, packed}
 use Rattle.cam_xnc.specs.Lines.{FoundLine, lines_of}
 use Rattle.cam_xnc.specs.DrillState.{Past, part_in, DrillContent, layer_in}
 use Rattle.cam_xnc.specs.Faults.{least, faults, faults_by, end_faults}
-use Rattle.cam_xnc.specs.Reading.{is_told, place_of, said, is_end, line_faults, fault_at, fault_of, layer_unless, content_of}
+use Rattle.cam_xnc.specs.Reading.{is_told, place_of, said, is_end, line_faults, fault_at, fault_of, layer_unless}
 use Rattle.cam_xnc.specs.Laws.{GivesSoundLayers}
 use Rattle.cam_xnc.specs.Machinery.Tracking.{first_of}
 use Rattle.cam_xnc.proofs.FaultTables.{least_is_first, line_faults_ascend}
@@ -100,19 +98,15 @@ line_step past line s e = go (least (line_faults past line)) refl e
     go None is h = step (part_in past) past (said line) s (has_tool_number (packed (code_of line.text))) (by_byte (list_any is_bad (code_of line.text)) (sym (least_is_first 1 (line_faults past line) (line_faults_ascend past line)) ∙ is))
     go (Some n) is h = absurd cc
 
--- the lists of a reading are those of sound lines
 abbrev IsSoundContent : DrillContent → Type 0
-IsSoundContent content = (layer : DrillLayer) → content_of layer ≡ content → IsSoundDrillLayer layer
+IsSoundContent content = IsSoundDrillContent content.tools content.items
 
 abbrev IsSoundReading : Result DrillContent ReadFault → Type 0
 IsSoundReading (Ok content) = IsSoundContent content
 IsSoundReading (Err fault) = Unit {0}
 
 sound_content : (past : Past) → IsSoundPast past → IsSoundContent (layer_in past)
-sound_content past s layer is =
-    let Sound : DrillContent → Type 0 = λ content. All (λ (e : ℕ × Nm). IsSoundTool e.0 e.1) content.tools × All (IsSoundDrillItem content.tools) content.items × KeepsDrillLimits content.items in
-    let sound = subst Sound (sym is) (s.tools, s.items, record { few = s.few; leaves = s.leaves }) in
-    record { tools = sound.0; items = sound.1; limits = sound.2 }
+sound_content past s = record { tools = s.tools; items = s.items; limits = record { few = s.few; leaves = s.leaves } }
 
 sound_from : (len : ℕ) (lines : List FoundLine) (past : Past) → IsSoundPast past → IsSoundReading (goes_on len past lines)
 sound_from len [] past s = go (fault_at len (end_faults past))
@@ -136,4 +130,4 @@ sound_from len (line ∷ lines) past s =
     by_fault (Some f) is more = tt
 
 pub reading_is_sound : GivesSoundLayers
-reading_is_sound bytes layer e = subst IsSoundReading (sym (reading_goes_on bytes) ∙ e) (sound_from (length bytes) (lines_of bytes) [] at_start) layer refl
+reading_is_sound bytes layer e = subst IsSoundReading (sym (reading_goes_on bytes) ∙ e) (sound_from (length bytes) (lines_of bytes) [] at_start)

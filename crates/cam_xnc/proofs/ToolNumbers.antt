@@ -8,8 +8,9 @@ use Rattle.std.proofs.lemmas.Bool.Decides.{eqb_tells}
 use Rattle.cam_xnc.specs.declared.statement.Coordinate.{Coordinate}
 use Rattle.cam_xnc.specs.declared.statement.Statement.{Statement}
 use Rattle.cam_xnc.specs.declared.statement.Statement.TheVariants.{Declare, Neutral, DrillMode, HitAt, RoutTo, Lower, CutTo, Raise, CutArc, End, Unknown}
-use Rattle.cam_xnc.specs.Numbers.{natural, declared_tool, decimal}
-use Rattle.cam_xnc.specs.Syntax.{with_coordinates, coordinates_of, tool_by, tool_statement, run_of, behind_run, header_words, body_words, word_in, word_or, rout_statement, other_statement, statement_of}
+use Rattle.cam_numbers.specs.Numbers.{run_of, behind_run, natural, decimal}
+use Rattle.cam_xnc.specs.Numbers.{declared_tool}
+use Rattle.cam_xnc.specs.Syntax.{with_coordinates, coordinates_of, tool_by, tool_statement, header_words, body_words, word_in, word_or, rout_statement, other_statement, statement_of}
 
 abbrev pub IsToolNumber : ℕ → Type 0
 IsToolNumber n = (1 ≤ n) × (n ≤ 9999)

@@ -2,8 +2,9 @@
 use Rattle.std.specs.Prelude.{◌≡◌, ◌≤◌, ◌<◌, ℕ, List, [], ◌∷◌, ◌++◌, length, map, reverse, Ok, Err, ◌⊎◌, true, false}
 use Rattle.std.specs.List.{list_any}
 use Rattle.cam_objects.specs.declared.drill_layer.DrillLayer.{DrillLayer}
-use Rattle.cam_objects.specs.DrillSoundness.{IsSoundDrillLayer}
+use Rattle.cam_objects.specs.DrillSoundness.{IsSoundDrillContent}
 use Rattle.cam_xnc.specs.declared.read_fault.ReadFault.{ReadFault}
+use Rattle.cam_xnc.specs.DrillState.{DrillContent}
 use Rattle.cam_xnc.specs.Lines.{FoundLine}
 use Rattle.cam_xnc.specs.Faults.{Table, end_faults}
 use Rattle.cam_xnc.specs.Reading.{said, place_of, is_end, told_lines, line_faults, content_of, reading_of}
@@ -49,4 +50,5 @@ IsNoMemoryFault = (bytes : List ℕ) (f : ReadFault) → reading_of bytes ≡ Er
 
 -- a layer that a file gives is sound
 abbrev pub GivesSoundLayers : Type 0
-GivesSoundLayers = (bytes : List ℕ) (layer : DrillLayer) → reading_of bytes ≡ Ok (content_of layer) → IsSoundDrillLayer layer
+GivesSoundLayers =
+    (bytes : List ℕ) (layer : DrillContent) → reading_of bytes ≡ Ok layer → IsSoundDrillContent layer.tools layer.items

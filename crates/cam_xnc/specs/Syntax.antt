@@ -1,6 +1,6 @@
 -- What the lines of an XNC file say. XNC Format Specification, "Header", "Drilling" and "Routing".
 use Rattle.std.specs.Prelude.{ℕ, ℤ, List, [], ◌∷◌, length, take, drop, nat_eq, codes, Option, Some, None, Bool, ◌==◌, ◌||◌, ◌&&◌, not, is_none, if◌then◌else◌}
-use Rattle.std.specs.List.{prefix_len, starts_with, list_any}
+use Rattle.std.specs.List.{starts_with, list_any}
 use Rattle.std.specs.Str.{bytes_eq}
 use Rattle.std.specs.Char.{is_ascii_digit}
 use Rattle.cam_units.specs.declared.length.Unit.TheVariants.{Mm, Inch}
@@ -8,14 +8,8 @@ use Rattle.cam_xnc.specs.declared.statement.Statement.{Statement}
 use Rattle.cam_xnc.specs.declared.statement.Statement.TheVariants.{BeginHeader, SetUnit, Declare, Neutral, EndHeader, Select, DrillMode, HitAt, RoutTo, Lower, CutTo, Raise, CutArc, End, Unknown}
 use Rattle.cam_xnc.specs.declared.statement.Coordinate.{Coordinate}
 use Rattle.cam_xnc.specs.declared.statement.Coordinate.TheVariants.{Omitted, Malformed, Pointless, Written}
-use Rattle.cam_xnc.specs.Numbers.{is_numeric, decimal, is_pointed, is_whole, selected_tool, declared_tool}
-
--- the run of digits, signs and points at the front of a text
-abbrev pub run_of : List ℕ → List ℕ
-run_of text = take (prefix_len is_numeric text) text
-
-abbrev pub behind_run : List ℕ → List ℕ
-behind_run text = drop (prefix_len is_numeric text) text
+use Rattle.cam_numbers.specs.Numbers.{run_of, behind_run, decimal}
+use Rattle.cam_xnc.specs.Numbers.{is_pointed, is_whole, selected_tool, declared_tool}
 
 -- a field, which is a letter and its run: the run, where the letter stands at the front of a text, and what follows
 unfoldable pub field : ℕ → List ℕ → Option (List ℕ) × List ℕ

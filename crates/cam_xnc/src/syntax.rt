@@ -6,8 +6,9 @@ ghost use Rattle.cam_xnc.specs.Bytes.{packed};
 ghost use Rattle.cam_xnc.specs.Syntax.{field, coordinate, coordinates_of, tool_by, tool_statement, header_words, body_words, word_in, begins_with_code, rout_statement, other_statement, statement_of};
 
 use crate::bytes::{holds_skipped, pack};
-use crate::numbers::{decimal, declared_tool, is_pointed, is_whole, run_len, selected_tool};
+use crate::numbers::{declared_tool, is_pointed, is_whole, selected_tool};
 use crate::statement::{Coordinate, Statement};
+use cam_numbers::{Blanks, decimal, run_len};
 use cam_units::Unit;
 use std::alloc::{AllocError, Global};
 
@@ -48,7 +49,7 @@ fn coordinate(run: Option<&[u8]>) -> Coordinate
         return Coordinate::Omitted;
     };
     if is_pointed(run) {
-        return match decimal(run) {
+        return match decimal(run, Blanks::Refused) {
             None => Coordinate::Malformed,
             Some(n) => Coordinate::Written(n),
         };
@@ -86,7 +87,7 @@ fn tool_statement(text: &[u8]) -> Statement
         [] => Statement::Select(selected_tool(number)),
         [b'C', size @ ..] if run_len(size) == size.len() => Statement::Declare {
             number: declared_tool(number),
-            diameter: decimal(size),
+            diameter: decimal(size, Blanks::Refused),
         },
         _ => Statement::Unknown,
     }

@@ -46,7 +46,7 @@ returns-then-is_end-clause-sound c =
     let obeyed = c.in-Ok-obey.ensures past c.loop-line.invariant.1 in
     let read = taken_end _ _ _ _ _ _ _ c.in-Ok.statement taken (sym c.holds_bad_byte.ensures ∙ c.if-holds_bad_byte.false) c.in-Ok.ensures obeyed.0 (sym c.is_end.ensures ∙ c.if-is_end.true) in
     let layer : content_of c.into_layer.result ≡ layer_in (c.in-Ok.statement ∷ past) = ap content_of c.into_layer.ensures ∙ layer_is _ c.obey.new.self obeyed.1 in
-    reading_is_sound c.args.bytes.now c.into_layer.result (read ∙ ap Ok (sym layer))
+    reading_is_sound c.args.bytes.now (content_of c.into_layer.result) (read ∙ ap Ok (sym layer))
 
 pub loop-line-preserved : goal.loop-line-preserved
 loop-line-preserved c =

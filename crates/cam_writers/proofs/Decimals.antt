@@ -1,0 +1,189 @@
+-- Decimals that canonical texts write are read as the numbers that they are.
+use Rattle.std.proofs.Common.{◌≡◌, ℕ, zero, suc, ◌+◌, ◌-◌, ◌*◌, ◌/◌, ◌%◌, ◌^◌, ◌<◌, ◌≤◌, List, [], ◌∷◌, ◌++◌, length, Bool, true, false, eqb, Option, Some, refl, sym, ap, ◌∙◌, arith, rules, ne_eqb}
+use Rattle.std.specs.Prelude.{ℤ, pos, negsuc, neg_ℤ, ◌||◌, ◌&&◌, decimal, unsigned_abs}
+use Rattle.std.specs.List.{list_all, list_any}
+use Rattle.std.specs.Char.{is_ascii_digit}
+use Rattle.std.proofs.lemmas.List.Folds.{list_all-append}
+use Rattle.std.proofs.lemmas.Bool.{le-ltb}
+use Rattle.std.proofs.lemmas.Bool.Decides.{nat_tests}
+use Rattle.std.proofs.lemmas.Str.Parse.{IsDigitsTest, IsNumeralModel, numerals_by_fold, numerals_by_value}
+use Rattle.std.proofs.lemmas.Fmt.{digits_decimal, digits_value-decimal, decimal_nonempty}
+use Rattle.std.proofs.Math.Nat.{div-div-eq-div-mul}
+use Rattle.cam_units.specs.Nearest.{nearest_of, rounded}
+use Rattle.std.specs.Str.Parse.{digits_value}
+use Rattle.cam_numbers.specs.Numbers.{is_numeric, is_sign, is_point, are_digits, value_of, natural, is_negative, behind_sign, signed, billionths, unsigned_decimal}
+use Rattle.cam_numbers.proofs.Naturals.{natural-digits}
+use Rattle.cam_numbers.proofs.Written.{read_pointed}
+use Rattle.cam_xnc.specs.Numbers.{is_pointed, selected_tool, declared_tool}
+use Rattle.cam_writers.specs.Lengths.{last_digit, last_six, unsigned_mm, mm}
+
+are_digits_test : IsDigitsTest (λ ds. are_digits ds ≡ true)
+are_digits_test = search rules
+
+own : IsNumeralModel (λ ds. are_digits ds ≡ true) (digits_value 10)
+own = numerals_by_value (λ ds. are_digits ds ≡ true) are_digits_test
+
+pub digits_of_decimal : (n : ℕ) → n < 2 ^ 64 → are_digits (decimal n) ≡ true
+digits_of_decimal n h = digits_decimal own n h
+
+pub value_of_decimal : (n : ℕ) → n < 2 ^ 64 → value_of (decimal n) ≡ n
+unfolding value_of
+value_of_decimal n h = digits_value-decimal own n h
+
+-- the number that digits go on to, after n
+abbrev value_after : ℕ → List ℕ → ℕ
+value_after n [] = n
+value_after n (digit ∷ digits) = value_after (n * 10 + (digit - 48)) digits
+
+by_digits : IsNumeralModel (λ ds. are_digits ds ≡ true) (value_after 0)
+by_digits = numerals_by_fold (λ ds. are_digits ds ≡ true) are_digits_test value_after (search rules)
+
+value_is : (ds : List ℕ) → are_digits ds ≡ true → value_of ds ≡ value_after 0 ds
+unfolding value_of
+value_is ds h = sym (by_digits.same ds (by_digits.to ds h))
+
+-- six digits
+
+last_is_digit : (n : ℕ) → is_ascii_digit (last_digit n) ≡ true
+last_is_digit n = grind (arith, nat_tests)
+
+pub six_digits : (n : ℕ) → are_digits (last_six n) ≡ true
+six_digits n = rw (last_is_digit (n / 100000), last_is_digit (n / 10000), last_is_digit (n / 1000), last_is_digit (n / 100), last_is_digit (n / 10), last_is_digit n) refl
+
+ten_more : (n k : ℕ) → n / k ≡ n / (k * 10) * 10 + n / k % 10
+ten_more n k =
+    let e : n / k / 10 ≡ n / (k * 10) = div-div-eq-div-mul n k 10 in
+    let d : n / k ≡ n / k / 10 * 10 + n / k % 10 = omega arith in
+    d ∙ ap (λ (q : ℕ). q * 10 + n / k % 10) e
+
+joined : (n q1 q2 q3 q4 q5 q6 d0 d1 d2 d3 d4 d5 : ℕ) → n ≡ q1 * 10 + d0 → q1 ≡ q2 * 10 + d1 → q2 ≡ q3 * 10 + d2 → q3 ≡ q4 * 10 + d3 → q4 ≡ q5 * 10 + d4 → q5 ≡ q6 * 10 + d5
+    → q6 * 1000000 + value_after 0 ((48 + d5) ∷ (48 + d4) ∷ (48 + d3) ∷ (48 + d2) ∷ (48 + d1) ∷ (48 + d0) ∷ []) ≡ n
+joined n q1 q2 q3 q4 q5 q6 d0 d1 d2 d3 d4 d5 e0 e1 e2 e3 e4 e5 = omega arith
+
+pub six_value : (n : ℕ) → n / 1000000 * 1000000 + value_of (last_six n) ≡ n
+six_value n =
+    ap (λ (v : ℕ). n / 1000000 * 1000000 + v) (value_is (last_six n) (six_digits n))
+    ∙ joined n (n / 10) (n / 100) (n / 1000) (n / 10000) (n / 100000) (n / 1000000) (n % 10) (n / 10 % 10) (n / 100 % 10) (n / 1000 % 10) (n / 10000 % 10) (n / 100000 % 10)
+    (omega arith) (ten_more n 10) (ten_more n 100) (ten_more n 1000) (ten_more n 10000) (ten_more n 100000)
+
+-- the point
+
+both : (a b : Bool) → (a && b) ≡ true → (a ≡ true) × (b ≡ true)
+both true b h = (refl, h)
+both false b h = absurd cc
+
+billionths_of_six : (n : ℕ) → billionths (last_six n) ≡ value_of (last_six n) * 1000
+unfolding billionths
+billionths_of_six n = refl
+
+pub unsigned_again : (n : ℕ) → n < 10 ^ 12 → unsigned_decimal (unsigned_mm n) ≡ Some (n * 1000)
+unfolding unsigned_mm
+unsigned_again n h =
+    let small : n / 1000000 < 1000000 = omega arith in
+    let v : value_of (decimal (n / 1000000)) ≡ n / 1000000 = value_of_decimal (n / 1000000) (omega arith) in
+    let sum : value_of (decimal (n / 1000000)) * 1000000000 + billionths (last_six n) ≡ n * 1000 = omega (arith, v, billionths_of_six n, six_value n) in
+    let some = decimal_nonempty (n / 1000000) (omega arith) in
+    read_pointed (decimal (n / 1000000)) (last_six n) (record {
+      before = digits_of_decimal (n / 1000000) (omega arith);
+      behind = six_digits n;
+      some = omega (arith, some);
+      small = omega (arith, v, small);
+    })
+    ∙ ap Some sum
+
+-- signs
+
+-- a run of digits and what follows begins with no sign
+record IsUnsigned (run : List ℕ) : Type 0 where
+  positive : is_negative run ≡ false
+  behind : behind_sign run ≡ run
+
+digit_no_sign : (d : ℕ) → is_ascii_digit d ≡ true → (eqb d 45 ≡ false) × (is_sign d ≡ false)
+digit_no_sign d h = (grind (arith, nat_tests), grind (arith, nat_tests))
+
+unsigned : (ds rest : List ℕ) → are_digits ds ≡ true → 0 < length ds → IsUnsigned (ds ++ rest)
+unsigned [] rest h some = absurd (omega (arith, some))
+unsigned (d ∷ ds) rest h some =
+    let k = digit_no_sign d (both (is_ascii_digit d) (are_digits ds) h).0 in
+    record { positive = k.0; behind = rw k.1 refl }
+
+signed_without : (size : List ℕ → Option ℕ) (run : List ℕ) (n : ℕ) → IsUnsigned run → size run ≡ Some n → signed size run ≡ Some (pos n)
+signed_without size run n u e = rw (u.behind, u.positive, e) refl
+
+signed_minus : (size : List ℕ → Option ℕ) (run : List ℕ) (n : ℕ) → size run ≡ Some n → signed size (45 ∷ run) ≡ Some (neg_ℤ (pos n))
+signed_minus size run n e = rw e refl
+
+-- a length in nm, in 10^-9 of a mm
+abbrev pub scaled : ℤ → ℤ
+scaled (pos n) = pos (n * 1000)
+scaled (negsuc n) = neg_ℤ (pos (suc n * 1000))
+
+pub mm_again : (z : ℤ) → unsigned_abs z < 10 ^ 12 → signed unsigned_decimal (mm z) ≡ Some (scaled z)
+unfolding unsigned_mm
+mm_again (pos n) h =
+    signed_without unsigned_decimal (unsigned_mm n) (n * 1000)
+    (unsigned (decimal (n / 1000000)) (46 ∷ last_six n) (digits_of_decimal (n / 1000000) (omega arith)) (decimal_nonempty (n / 1000000) (omega arith)))
+    (unsigned_again n h)
+mm_again (negsuc n) h = signed_minus unsigned_decimal (unsigned_mm (suc n)) (suc n * 1000) (unsigned_again (suc n) h)
+
+-- a thousandth of it is the length again
+thousandth : (n : ℕ) → rounded (n * 1000) 1000 ≡ n
+thousandth n = omega arith
+
+below_zero : (m n : ℕ) → m ≡ suc n * 1000 → nearest_of (neg_ℤ (pos m)) 1000 ≡ negsuc n
+below_zero zero n e = absurd (omega (arith, e))
+below_zero (suc m) n e =
+    let r : rounded (suc m) 1000 ≡ suc n = ap (λ (k : ℕ). rounded k 1000) e ∙ thousandth (suc n) in
+    ap (λ (k : ℕ). neg_ℤ (pos k)) r
+
+pub scaled_again : (z : ℤ) → nearest_of (scaled z) 1000 ≡ z
+scaled_again (pos n) = ap pos (thousandth n)
+scaled_again (negsuc n) = below_zero (suc n * 1000) n refl
+
+-- a point stands in it
+
+any_behind : (p : ℕ → Bool) (xs ys : List ℕ) → list_any p ys ≡ true → list_any p (xs ++ ys) ≡ true
+any_behind p [] ys h = h
+any_behind p (x ∷ xs) ys h = elim (p x) as (λ b. (b || list_any p (xs ++ ys)) ≡ true) [ true ↦ refl | false ↦ any_behind p xs ys h ]
+
+unsigned_pointed : (n : ℕ) → is_pointed (unsigned_mm n) ≡ true
+unfolding unsigned_mm
+unsigned_pointed n = any_behind is_point (decimal (n / 1000000)) (46 ∷ last_six n) refl
+
+pub mm_pointed : (z : ℤ) → is_pointed (mm z) ≡ true
+mm_pointed (pos n) = unsigned_pointed n
+mm_pointed (negsuc n) = unsigned_pointed (suc n)
+
+-- no other bytes stand in it
+
+digit_numeric : (b : ℕ) → is_ascii_digit b ≡ true → is_numeric b ≡ true
+unfolding is_numeric
+digit_numeric b h = rw h refl
+
+pub digits_numeric : (ds : List ℕ) → are_digits ds ≡ true → list_all is_numeric ds ≡ true
+digits_numeric [] h = refl
+digits_numeric (d ∷ ds) h = let k = both (is_ascii_digit d) (are_digits ds) h in rw (digit_numeric d k.0, digits_numeric ds k.1) refl
+
+unsigned_numeric : (n : ℕ) → n < 10 ^ 12 → list_all is_numeric (unsigned_mm n) ≡ true
+unfolding unsigned_mm is_numeric
+unsigned_numeric n h =
+    list_all-append is_numeric (decimal (n / 1000000)) (46 ∷ last_six n) ∙ rw (digits_numeric (decimal (n / 1000000)) (digits_of_decimal (n / 1000000) (omega arith)), digits_numeric (last_six n) (six_digits n)) refl
+
+pub mm_numeric : (z : ℤ) → unsigned_abs z < 10 ^ 12 → list_all is_numeric (mm z) ≡ true
+unfolding is_numeric
+mm_numeric (pos n) h = unsigned_numeric n h
+mm_numeric (negsuc n) h = unsigned_numeric (suc n) h
+
+-- numbers of tools
+
+natural_again : (n : ℕ) → n < 2 ^ 64 → natural (decimal n) ≡ Some n
+natural_again n h =
+    natural-digits (decimal n) (digits_of_decimal n h) (λ (z : length (decimal n) ≡ 0). omega (arith, decimal_nonempty n h)) ∙ ap Some (value_of_decimal n h)
+
+pub selected_again : (n : ℕ) → n ≤ 9999 → selected_tool (decimal n) ≡ Some n
+selected_again n h = rw (natural_again n (omega arith), le-ltb 9999 n h) refl
+
+pub declared_again : (n : ℕ) → 1 ≤ n → n ≤ 9999 → declared_tool (decimal n) ≡ Some n
+declared_again n some h =
+    let e : eqb n 0 ≡ false = ne_eqb n 0 (λ (z : n ≡ 0). omega (arith, some)) in
+    rw (natural_again n (omega arith), e, le-ltb 9999 n h) refl

@@ -1,0 +1,4 @@
+pub mod Lengths
+pub mod Canonical
+pub mod Laws
+pub mod Machinery

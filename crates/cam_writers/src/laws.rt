@@ -1,0 +1,19 @@
+//! Laws of canonical texts. Each function does nothing: its contract is a law.
+
+ghost use Rattle.cam_writers.specs.Laws.{ReadsBack, TellsItsLines, WritesAgain};
+
+/// The tool and the mode that the settings of an item are told by are those in which the reader of
+/// the text so far is.
+pub fn drill_texts_tell_their_lines()
+    ensures { TellsItsLines }
+{}
+
+/// The canonical text of a sound drill layer is read as the same tools and items.
+pub fn drill_texts_read_back()
+    ensures { ReadsBack }
+{}
+
+/// What was read from a canonical text is written as the same text.
+pub fn drill_texts_write_again()
+    ensures { WritesAgain }
+{}
