@@ -8,7 +8,7 @@ use Rattle.cam_words.specs.Reading.{Answer, reading, reading_within, answers_at,
 use Rattle.cam_gerber.specs.declared.read_fault.ReadFault.{ReadFault}
 use Rattle.cam_gerber.specs.declared.commands.Command.{Command}
 use Rattle.cam_gerber.specs.declared.commands.Command.TheVariants.{SetFormat, Refused, SetUnit, Define, Select, FlashAt, End, Nothing, Unknown}
-use Rattle.cam_flashes.specs.Layers.{Content}
+use Rattle.cam_objects.specs.Contents.{Content}
 use Rattle.cam_gerber.specs.Syntax.{command_of, place_of}
 use Rattle.cam_gerber.specs.GraphicsState.{Past, layer_in}
 use Rattle.cam_gerber.specs.Faults.{faults, least}

@@ -16,7 +16,7 @@ use Rattle.cam_gerber.specs.declared.commands.Command.{Command}
 use Rattle.cam_gerber.specs.declared.commands.Command.TheVariants.{SetFormat, Refused, SetUnit, Define, Select, FlashAt, End, Unknown}
 use Rattle.cam_gerber.specs.declared.commands.Format.{Format}
 use Rattle.cam_gerber.specs.Syntax.{command_of, command_by, plain_command, operation, operation_by, selection, by_code, by_head, extended_command, lettered_command, format_command, format_by, format_of, unit_command, definition_command, is_format_digit, same_format}
-use Rattle.cam_gerber.specs.Numbers.{natural, defined_number, first_number, last_number, within_numbers, IsApertureNumber}
+use Rattle.cam_numbers.specs.Numbers.{natural, defined_number, first_number, last_number, within_numbers, IsApertureNumber}
 use Rattle.cam_gerber.specs.Machinery.Tracking.{IsWithinFormats, IsWithinNumbers, IsShortFormat}
 
 record IsWithin (command : Command) : Type 0 where

@@ -1,8 +1,6 @@
 pub mod Codes
-pub mod Dictionary
-pub mod Digits
 pub mod FaultNumbers
-pub mod Fronts
+pub mod FlashLayers
 pub mod Grammar
 pub mod LowestFaults
 pub mod Obeying

@@ -6,7 +6,7 @@ use Rattle.std.specs.List.{list_any}
 use Rattle.cam_words.specs.Cutting.{FoundWord}
 use Rattle.cam_words.specs.Reading.{Answer, reading}
 use Rattle.cam_gerber.specs.declared.read_fault.ReadFault.{ReadFault}
-use Rattle.cam_flashes.specs.Layers.{Content}
+use Rattle.cam_objects.specs.Contents.{Content}
 use Rattle.cam_gerber.specs.Syntax.{command_of, place_of}
 use Rattle.cam_gerber.specs.GraphicsState.{Past, layer_in}
 use Rattle.cam_gerber.specs.Faults.{faults, least}

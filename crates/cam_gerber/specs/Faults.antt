@@ -1,6 +1,7 @@
 -- The faults of a command after its past.
 use Rattle.std.specs.List.{AllByRecursion}
-use Rattle.std.specs.Prelude.{◌≡◌, ◌≤◌, ℕ, ℤ, pos, negsuc, List, [], ◌∷◌, length, Option, Some, None, Bool, true, false, ◌||◌, not, nat_le, is_some, is_none, if◌then◌else◌}
+use Rattle.std.specs.Map.{lookup}
+use Rattle.std.specs.Prelude.{◌≡◌, ◌≤◌, ℕ, ℤ, pos, negsuc, List, [], ◌∷◌, length, Option, Some, None, Bool, true, false, ◌||◌, not, nat_eq, nat_le, is_some, is_none, if◌then◌else◌}
 use Rattle.cam_units.specs.Board.{size_limit}
 use Rattle.cam_units.specs.declared.length.Unit.{Unit as FileUnit}
 use Rattle.cam_units.specs.declared.length.Unit.TheVariants.{Mm, Inch}
@@ -9,7 +10,7 @@ use Rattle.cam_gerber.specs.declared.commands.Coordinate.{Coordinate}
 use Rattle.cam_gerber.specs.declared.commands.Coordinate.TheVariants.{Omitted, Malformed, Written}
 use Rattle.cam_gerber.specs.declared.commands.Command.{Command}
 use Rattle.cam_gerber.specs.declared.commands.Command.TheVariants.{SetFormat, Refused, SetUnit, Define, Select, FlashAt, End, Nothing, Unknown}
-use Rattle.cam_flashes.specs.Layers.{diameter_at, is_on_board}
+use Rattle.cam_objects.specs.Tests.{is_on_board}
 use Rattle.cam_gerber.specs.Syntax.{same_format}
 use Rattle.cam_gerber.specs.GraphicsState.{Past, format_in, unit_in, aperture_in, point_in, apertures_in, flashes_in, size_nm}
 
@@ -81,7 +82,7 @@ is_other_unit (Some Inch) Inch = false
 -- the number is in the dictionary
 abbrev pub is_defined : Past → Option ℕ → Bool
 is_defined past None = false
-is_defined past (Some number) = is_some (diameter_at (apertures_in past) number)
+is_defined past (Some number) = is_some (lookup (nat_eq number) (apertures_in past))
 
 -- from 0 to 200 mm
 unfoldable pub is_size : ℤ → Bool

@@ -1,20 +1,25 @@
 -- The graphics state of a Gerber file. The past of a command is the list of the commands before it, the newest
 -- first, and each value of the state is read off it. Gerber Layer Format Specification, "Graphics state".
-use Rattle.std.specs.Prelude.{ℕ, ℤ, pos, List, [], ◌∷◌, ◌++◌, Option, Some, None, unwrap_or}
-use Rattle.std.specs.Option.{option_or, option_map, option_and_then}
+use Rattle.std.specs.Prelude.{ℕ, ℤ, pos, true, List, [], ◌∷◌, ◌++◌, Option, Some, None, unwrap_or}
+use Rattle.std.specs.Option.{option_or, option_map}
 use Rattle.cam_units.specs.declared.length.Nm.{Nm}
 use Rattle.cam_units.specs.declared.length.Unit.{Unit as FileUnit}
 use Rattle.cam_units.specs.declared.length.Unit.TheVariants.{Mm}
 use Rattle.cam_units.specs.declared.point.Point.{Point}
+use Rattle.cam_units.specs.declared.turn.Turn.TheVariants.{R0}
 use Rattle.cam_units.specs.Nearest.{coord_of, fix9_of}
 use Rattle.cam_gerber.specs.declared.commands.Format.{Format}
 use Rattle.cam_gerber.specs.declared.commands.Coordinate.{Coordinate}
 use Rattle.cam_gerber.specs.declared.commands.Coordinate.TheVariants.{Omitted, Malformed, Written}
 use Rattle.cam_gerber.specs.declared.commands.Command.{Command}
 use Rattle.cam_gerber.specs.declared.commands.Command.TheVariants.{SetFormat, SetUnit, Define, Select, FlashAt}
-use Rattle.cam_flashes.specs.declared.aperture.Aperture.{Aperture}
-use Rattle.cam_flashes.specs.declared.flash.Flash.{Flash}
-use Rattle.cam_flashes.specs.Layers.{Content, diameter_at}
+use Rattle.cam_apertures.specs.declared.aperture.Aperture.TheVariants.{Circle}
+use Rattle.cam_objects.specs.declared.entry.Entry.{Entry}
+use Rattle.cam_objects.specs.declared.entry.Entry.TheVariants.{Aperture}
+use Rattle.cam_objects.specs.declared.item.Item.{Item}
+use Rattle.cam_objects.specs.declared.item.Item.TheVariants.{One}
+use Rattle.cam_objects.specs.declared.object.Object.TheVariants.{Flash}
+use Rattle.cam_objects.specs.Contents.{Content}
 
 abbrev pub Past : Type 0
 Past = List Command
@@ -85,29 +90,30 @@ point_in past = record { x = newest_nm x_told past; y = newest_nm y_told past }
 unfoldable pub size_nm : Option FileUnit → Option ℤ → Nm
 size_nm unit size = record { 0 = fix9_of (unwrap_or size (pos 0)) (unit_or_mm unit) }
 
--- the aperture that a definition makes after a past
-abbrev pub aperture_of : Past → Option ℕ → Option ℤ → Aperture
-aperture_of past number size = record { number = unwrap_or number 0; diameter = size_nm (unit_in past) size }
+-- a solid circle
+abbrev pub solid_circle : Nm → Entry
+solid_circle diameter = Aperture (Circle diameter (record { 0 = pos 0 }))
+
+-- the entry that a definition makes after a past, under its number
+abbrev pub entry_of : Past → Option ℕ → Option ℤ → ℕ × Entry
+entry_of past number size = (unwrap_or number 0, solid_circle (size_nm (unit_in past) size))
 
 -- the dictionary, in order
-abbrev pub apertures_in : Past → List Aperture
+abbrev pub apertures_in : Past → List (ℕ × Entry)
 apertures_in [] = []
-apertures_in (Define number size ∷ older) = apertures_in older ++ aperture_of older number size ∷ []
+apertures_in (Define number size ∷ older) = apertures_in older ++ entry_of older number size ∷ []
 apertures_in (_ ∷ older) = apertures_in older
 
--- the diameter of the current aperture
-abbrev pub diameter_in : Past → Option Nm
-diameter_in past = option_and_then (diameter_at (apertures_in past)) (aperture_in past)
-
-abbrev pub flash_of : Point → Option Nm → Flash
-flash_of point diameter = record { at = point; diameter = unwrap_or diameter (record { 0 = pos 0 }) }
+-- a dark flash of the current aperture, neither mirrored nor turned
+abbrev pub flash_of : Point → Option ℕ → Item
+flash_of point number = One (Flash (unwrap_or number 0) point R0 true)
 
 -- the flashes, in order
-abbrev pub flashes_in : Past → List Flash
+abbrev pub flashes_in : Past → List Item
 flashes_in [] = []
 flashes_in (FlashAt x y ∷ older) =
-    flashes_in older ++ flash_of (point_in (FlashAt x y ∷ older)) (diameter_in older) ∷ []
+    flashes_in older ++ flash_of (point_in (FlashAt x y ∷ older)) (aperture_in older) ∷ []
 flashes_in (_ ∷ older) = flashes_in older
 
 abbrev pub layer_in : Past → Content
-layer_in past = record { apertures = apertures_in past; flashes = flashes_in past }
+layer_in past = record { entries = apertures_in past; items = flashes_in past }

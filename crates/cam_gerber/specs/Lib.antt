@@ -1,4 +1,3 @@
-pub mod Numbers
 pub mod Syntax
 pub mod GraphicsState
 pub mod Faults

@@ -1,16 +1,17 @@
 -- What a Gerber file means: its layer, or its first fault.
-use Rattle.std.specs.Prelude.{◌≡◌, ◌≢◌, ◌≤◌, ℕ, List, [], ◌∷◌, ◌++◌, length, map, reverse, Option, Some, None, Result, Ok, Err, ◌⊎◌, Bool, true, false, if◌then◌else◌}
+use Rattle.std.specs.Prelude.{◌≡◌, ◌≤◌, ℕ, List, [], ◌∷◌, ◌++◌, length, map, reverse, Option, Some, None, Result, Ok, Err, ◌⊎◌, Bool, true, false, if◌then◌else◌}
 use Rattle.std.specs.Option.{option_or, option_map}
-use Rattle.std.specs.List.{list_any, AllByRecursion, AllPairs}
+use Rattle.std.specs.List.{list_any}
 use Rattle.cam_words.specs.Reading.{Answer, reading}
 use Rattle.cam_gerber.specs.declared.read_fault.ReadFault.{ReadFault}
 use Rattle.cam_gerber.specs.declared.commands.Command.{Command}
 use Rattle.cam_gerber.specs.declared.commands.Command.TheVariants.{End, Nothing}
-use Rattle.cam_flashes.specs.Layers.{Content, IsSound}
-use Rattle.cam_gerber.specs.Numbers.{IsApertureNumber}
+use Rattle.cam_objects.specs.declared.layer.Layer.{Layer}
+use Rattle.cam_objects.specs.Contents.{Content, content_of}
+use Rattle.cam_objects.specs.Soundness.{IsSoundContent}
 use Rattle.cam_gerber.specs.Syntax.{command_of, place_of}
 use Rattle.cam_gerber.specs.GraphicsState.{Past, layer_in}
-use Rattle.cam_gerber.specs.Faults.{faults, flash_limit, least}
+use Rattle.cam_gerber.specs.Faults.{faults, least}
 
 abbrev pub is_end_command : Command → Bool
 is_end_command End = true
@@ -64,25 +65,23 @@ reading_of bytes =
 abbrev pub no_memory : ReadFault
 no_memory = record { code = 30; at = 0 }
 
+-- an answer, without the room that a layer keeps for more
+abbrev pub answer_of : Result Layer ReadFault → Result Content ReadFault
+answer_of (Ok layer) = Ok (content_of layer)
+answer_of (Err fault) = Err fault
+
 -- the reader's answer: the file's, but where memory was refused
-abbrev pub IsReading : List ℕ → Result Content ReadFault → Type 0
-IsReading bytes result = (result ≡ reading_of bytes) ⊎ (result ≡ Err no_memory)
+abbrev pub IsReading : List ℕ → Result Layer ReadFault → Type 0
+IsReading bytes result = (answer_of result ≡ reading_of bytes) ⊎ (result ≡ Err no_memory)
 
 -- no fault of a file is one of memory
 abbrev pub IsNoMemoryFault : Type 0
 IsNoMemoryFault = (bytes : List ℕ) (f : ReadFault) → reading_of bytes ≡ Err f → f.code ≡ 30 → ⊥
 
--- The layer of a file is sound, has no more flashes than the limit, and its dictionary gives each number, one of an
--- aperture's, to one aperture.
-pub record IsSoundReading (layer : Content) : Type 0 where
-  pub sound : IsSound layer
-  pub flashes : length layer.flashes ≤ flash_limit
-  pub numbers : AllByRecursion (λ a. IsApertureNumber a.number) layer.apertures
-  pub distinct : AllPairs (λ a b. a.number ≢ b.number) layer.apertures
-
--- every layer that a file gives is so
+-- every layer that a file gives is sound
 abbrev pub GivesSoundLayers : Type 0
-GivesSoundLayers = (bytes : List ℕ) (layer : Content) → reading_of bytes ≡ Ok layer → IsSoundReading layer
+GivesSoundLayers =
+    (bytes : List ℕ) (layer : Content) → reading_of bytes ≡ Ok layer → IsSoundContent layer.entries layer.items
 
 -- of the faults before the end, none stands before the one that is told
 abbrev pub TellsFirst : Type 0

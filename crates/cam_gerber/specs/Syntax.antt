@@ -1,6 +1,6 @@
 -- What the words of a Gerber file say. Gerber Layer Format Specification, "Syntax" and the sections named below.
-use Rattle.std.specs.Prelude.{ℕ, ℤ, ◌-◌, List, [], ◌∷◌, length, take, drop, nat_eq, codes, Option, Some, None, Bool, ◌==◌, ◌&&◌, nat_lt, nat_le, is_none, if◌then◌else◌}
-use Rattle.std.specs.List.{prefix_len, starts_with, list_any}
+use Rattle.std.specs.Prelude.{ℕ, ℤ, ◌-◌, List, [], ◌∷◌, length, drop, nat_eq, codes, Option, Some, None, Bool, ◌==◌, ◌&&◌, nat_lt, nat_le, is_none, if◌then◌else◌}
+use Rattle.std.specs.List.{starts_with, list_any}
 use Rattle.std.specs.Option.{option_and_then}
 use Rattle.std.specs.Str.{bytes_eq}
 use Rattle.cam_units.specs.declared.length.Unit.TheVariants.{Mm, Inch}
@@ -14,14 +14,7 @@ use Rattle.cam_gerber.specs.declared.commands.Command.TheVariants.{SetFormat, Re
 use Rattle.cam_gerber.specs.declared.commands.Format.{Format}
 use Rattle.cam_gerber.specs.declared.commands.Coordinate.{Coordinate}
 use Rattle.cam_gerber.specs.declared.commands.Coordinate.TheVariants.{Omitted, Malformed, Written}
-use Rattle.cam_gerber.specs.Numbers.{is_numeric, natural, integer, decimal, within_numbers, defined_number}
-
--- the run of digits, signs and points at the front of a text
-abbrev pub run_of : List ℕ → List ℕ
-run_of text = take (prefix_len is_numeric text) text
-
-abbrev pub behind_run : List ℕ → List ℕ
-behind_run text = drop (prefix_len is_numeric text) text
+use Rattle.cam_numbers.specs.Numbers.{run_of, behind_run, natural, integer, decimal, within_numbers, defined_number}
 
 -- a field, which is a letter and its run: the run, where the letter stands at the front of a text, and what follows
 unfoldable pub field : ℕ → List ℕ → Option (List ℕ) × List ℕ

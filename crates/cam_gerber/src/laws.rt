@@ -8,8 +8,8 @@ pub fn no_fault_of_memory()
     ensures { IsNoMemoryFault }
 {}
 
-/// Every layer that a file gives is sound, has at most 1,000,000 flashes, and defines no number
-/// twice and none but 10 to 2,147,483,647.
+/// Every layer that a file gives is sound: its points lie on the board, it has at most 1,000,000
+/// flashes, and its dictionary no number twice and none but 10 to 2,147,483,647.
 pub fn layers_are_sound()
     ensures { GivesSoundLayers }
 {}

@@ -1,7 +1,7 @@
 //! Reads Gerber files (Ucamco's "Gerber Layer Format Specification").
 //!
 //! [`read_gerber`] gives the layer of a file, or its first fault with its number and its place. What a file
-//! means stands in `specs/`: `Numbers` and `Syntax` say what its words are, `GraphicsState` what is in force
+//! means stands in `specs/`: `Syntax` says what its words are, `GraphicsState` what is in force
 //! behind the commands so far, `Faults` what a command may be refused for, and `Reading` what the whole file
 //! gives. `specs/Machinery/Tracking.antt` ties the running state of the code to them.
 //!
@@ -12,7 +12,6 @@
 mod commands;
 mod faults;
 mod laws;
-mod numbers;
 mod read_fault;
 mod reader;
 mod state;

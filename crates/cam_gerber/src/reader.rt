@@ -1,6 +1,7 @@
 //! Reads Gerber layers.
 
-ghost use Rattle.std.specs.Prelude.{◌≡◌};
+ghost use Rattle.std.specs.Prelude.{◌≡◌, IfOk};
+ghost use Rattle.cam_objects.specs.Soundness.{IsSound};
 ghost use Rattle.cam_gerber.specs.Reading.{IsReading, is_end_command};
 
 use crate::commands::Command;
@@ -8,7 +9,7 @@ use crate::faults;
 use crate::read_fault::ReadFault;
 use crate::state::{GraphicsState, Stop};
 use crate::syntax::{command_of, place_of};
-use cam_flashes::Layer;
+use cam_objects::Layer;
 use cam_words::Words;
 use std::alloc::Global;
 
@@ -21,11 +22,12 @@ fn is_end(command: Command) -> bool
 
 /// The layer of a Gerber file up to its first M02, or its first fault: that of the command
 /// which stands first, and of several at one command the one with the lowest number. Where
-/// memory is refused, the fault is number 30 at place 0.
+/// memory is refused, the fault is number 30 at place 0. The layer is sound.
 ///
 /// (Gerber Layer Format Specification, "Syntax" and "Graphics state".)
 pub fn read_gerber(alloc: Global, bytes: &[u8]) -> Result<Layer, ReadFault>
-    ensures { IsReading bytes.now result }
+    ensures reads { IsReading bytes.now result }
+    ensures sound { IfOk result IsSound }
 {
     let mut state = GraphicsState::new(alloc);
     let mut words = Words::new(bytes);

@@ -1,13 +1,16 @@
 //! The graphics state, as one pass over the commands keeps it.
 
-ghost use Rattle.std.specs.Prelude.{◌≡◌, ◌≤◌, ◌∷◌, [], OnOk, MatchOption, true, false};
+ghost use Rattle.std.specs.Prelude.{◌≡◌, ◌≤◌, ◌∷◌, [], IfSome, OnOk, MatchOption, true, false, is_some, nat_eq};
+ghost use Rattle.std.specs.Map.{lookup};
 ghost use Rattle.cam_gerber.specs.declared.commands.Command.TheVariants as command;
 ghost use Rattle.cam_gerber.specs.Faults.{is_malformed};
-ghost use Rattle.cam_flashes.specs.Layers.{is_on_board};
+ghost use Rattle.cam_numbers.specs.Numbers.{IsApertureNumber};
+ghost use Rattle.cam_objects.specs.Tests.{is_on_board};
 ghost use Rattle.cam_gerber.specs.Machinery.Tracking.{
   IsReady,
   IsShortFormat,
   IsWithinFormats,
+  IsWithinNumbers,
   Takes,
   Tracks,
   is_on_axis,
@@ -17,8 +20,9 @@ ghost use Rattle.cam_gerber.specs.Machinery.Tracking.{
 
 use crate::commands::{Command, Coordinate, Format};
 use crate::faults;
-use cam_flashes::{Aperture, Flash, Layer};
-use cam_units::{Nm, Point, Unit, coord_nm, fits_board, fits_size, fix9_nm};
+use cam_apertures::Aperture;
+use cam_objects::{Entry, Item, Layer, Object};
+use cam_units::{Nm, Point, Turn, Unit, coord_nm, fits_board, fits_size, fix9_nm};
 use std::alloc::{AllocError, Global};
 
 /// How many flashes a layer may have.
@@ -48,8 +52,8 @@ impl From<AllocError> for Stop {
 pub struct GraphicsState {
     format: Option<Format>,
     unit: Option<Unit>,
-    /// Of the current aperture.
-    diameter: Option<Nm>,
+    /// The number of the current aperture.
+    aperture: Option<u32>,
     /// The current point.
     point: Point,
     layer: Layer,
@@ -97,6 +101,13 @@ fn moved_point(
     if fits_board(to) { Some(to) } else { None }
 }
 
+/// Whether the layer's dictionary has the number.
+fn is_defined(layer: &Layer, number: u32) -> bool
+    ensures { result ≡ is_some (lookup (nat_eq number) layer.now.apertures) }
+{
+    layer.entries().find(number).is_some()
+}
+
 impl GraphicsState {
     /// Nothing is set, the current point is (0, 0), and the layer is empty.
     pub fn new(alloc: Global) -> GraphicsState
@@ -106,7 +117,7 @@ impl GraphicsState {
         GraphicsState {
             format: None,
             unit: None,
-            diameter: None,
+            aperture: None,
             point: Point { x: 0, y: 0 },
             layer: Layer::new(alloc),
         }
@@ -149,7 +160,8 @@ impl GraphicsState {
     }
 
     fn define(&mut self, number: Option<u32>, diameter: Option<i64>) -> Result<(), Stop>
-        requires { IsReady self.old }
+        requires ready { IsReady self.old }
+        requires number { IfSome number IsApertureNumber }
         ensures step { Takes self.old (command.Define number diameter) result self.new }
         ensures still_ready { OnOk result (IsReady self.new) }
     {
@@ -162,14 +174,18 @@ impl GraphicsState {
         let Some(unit) = self.unit else {
             return Err(Stop::Fault(faults::NO_UNIT));
         };
-        if self.layer.diameter_of(number).is_some() {
+        if is_defined(&self.layer, number) {
             return Err(Stop::Fault(faults::REDEFINED));
         }
         let diameter = fix9_nm(diameter, unit);
         if !fits_size(diameter) {
             return Err(Stop::Fault(faults::SIZE_REFUSED));
         }
-        self.layer.add_aperture(Aperture { number, diameter })?;
+        let circle = Aperture::Circle {
+            diameter,
+            hole: Nm(0),
+        };
+        self.layer.add_entry(number, Entry::Aperture(circle))?;
         Ok(())
     }
 
@@ -181,10 +197,10 @@ impl GraphicsState {
         let Some(number) = number else {
             return Err(Stop::Fault(faults::BAD_NUMBER));
         };
-        let Some(diameter) = self.layer.diameter_of(number) else {
+        if !is_defined(&self.layer, number) {
             return Err(Stop::Fault(faults::UNKNOWN_APERTURE));
-        };
-        self.diameter = Some(diameter);
+        }
+        self.aperture = Some(number);
         Ok(())
     }
 
@@ -205,16 +221,21 @@ impl GraphicsState {
         let Some(unit) = self.unit else {
             return Err(Stop::Fault(faults::NO_UNIT));
         };
-        let Some(diameter) = self.diameter else {
+        let Some(aperture) = self.aperture else {
             return Err(Stop::Fault(faults::NONE_SELECTED));
         };
         let Some(at) = moved_point(format, unit, x, y, self.point) else {
             return Err(Stop::Fault(faults::OUT_OF_BOARD));
         };
-        if self.layer.flash_count() >= FLASH_LIMIT {
+        if self.layer.items().len() >= FLASH_LIMIT {
             return Err(Stop::Fault(faults::TOO_MUCH));
         }
-        self.layer.add_flash(Flash { at, diameter })?;
+        self.layer.push(Item::One(Object::Flash {
+            aperture,
+            at,
+            turn: Turn::R0,
+            dark: true,
+        }))?;
         self.point = at;
         Ok(())
     }
@@ -224,6 +245,7 @@ impl GraphicsState {
     pub fn obey(&mut self, command: Command) -> Result<(), Stop>
         requires ready { IsReady self.old }
         requires short { IsWithinFormats command }
+        requires numbers { IsWithinNumbers command }
         ensures step { Takes self.old command result self.new }
         ensures still_ready { OnOk result (IsReady self.new) }
     {

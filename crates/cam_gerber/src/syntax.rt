@@ -5,7 +5,6 @@ ghost use Rattle.std.specs.Option.{option_copied};
 ghost use Rattle.cam_words.specs.Heads.{packed};
 ghost use Rattle.cam_gerber.specs.Syntax.{
   behind_head,
-  behind_run,
   command_of,
   coordinate,
   definition_command,
@@ -18,16 +17,15 @@ ghost use Rattle.cam_gerber.specs.Syntax.{
   operation,
   place_of,
   plain_command,
-  run_of,
   selection,
   unit_command,
 };
 ghost use Rattle.cam_gerber.specs.Machinery.Tracking.{found};
 
 use crate::commands::{Command, Coordinate, Format};
-use crate::numbers::{decimal, defined_number, integer, natural, run_len, within_numbers};
+use cam_numbers::{Blanks, decimal, defined_number, integer, natural, run_len, within_numbers};
 use cam_units::Unit;
-use cam_words::{Kind, Word};
+use cam_words::{Kind, Word, is_skipped};
 use std::alloc::{AllocError, Global};
 
 /// A letter's run of digits, signs and points, where the letter stands at the front of a
@@ -77,7 +75,7 @@ fn coordinate(run: Option<&[u8]>) -> Coordinate
 {
     match run {
         None => Coordinate::Omitted,
-        Some(run) => match integer(run) {
+        Some(run) => match integer(run, Blanks::Refused) {
             None => Coordinate::Malformed,
             Some(n) => Coordinate::Written(n),
         },
@@ -110,7 +108,7 @@ fn operation(text: &[u8]) -> Command
     let Some(run) = d.run else {
         return Command::Unknown;
     };
-    let Some(code) = natural(run) else {
+    let Some(code) = natural(run, Blanks::Refused) else {
         return Command::Unknown;
     };
     if x.run.is_none() && y.run.is_none() {
@@ -133,7 +131,7 @@ fn plain_command(text: &[u8]) -> Command
     match text {
         [] => Command::Nothing,
         [b'M', code @ ..] => {
-            if natural(code) == Some(2) {
+            if natural(code, Blanks::Refused) == Some(2) {
                 Command::End
             } else {
                 Command::Unknown
@@ -220,8 +218,8 @@ fn definition_command(text: &[u8]) -> Command
         return Command::Unknown;
     }
     Command::Define {
-        number: defined_number(number),
-        diameter: decimal(size),
+        number: defined_number(number, Blanks::Refused),
+        diameter: decimal(size, Blanks::Refused),
     }
 }
 
@@ -262,7 +260,7 @@ fn pack(alloc: Global, text: &[u8]) -> Result<Vec<u8>, AllocError>
 {
     text.iter()
         .copied()
-        .filter(|byte| !matches!(*byte, b'\r' | b'\n' | b' ' | b'\t'))
+        .filter(|byte| !is_skipped(*byte))
         .collect(alloc)
 }
 

@@ -3,9 +3,11 @@
 ghost use Rattle.std.specs.Prelude.{◌≡◌, Bool};
 ghost use Rattle.cam_units.specs.declared.point.Spot.{Spot};
 ghost use Rattle.cam_units.specs.Board.{IsPlace};
+ghost use Rattle.cam_objects.specs.Contents.{content_of};
+ghost use Rattle.cam_objects.specs.Soundness.{IsSound};
 ghost use Rattle.cam_tiles.specs.LayerImage.{image_of};
 
-use cam_flashes::Layer;
+use cam_objects::Layer;
 use cam_units::Spot;
 
 /// An image of the plane, known by a test of each place of the board.
@@ -23,11 +25,11 @@ pub trait Image {
         ensures { result ≡ is_black self.now spot };
 }
 
-/// A layer is black where the last item that covers the place is dark; it may always be asked.
+/// A layer is black where the last leaf that covers the place is dark; a sound one may be asked.
 impl Image for Layer {
-    ghost is_black = { image_of };
+    ghost is_black = { λ layer. image_of (content_of layer) };
 
-    ghost is_ready = { λ layer. Unit {0} };
+    ghost is_ready = { IsSound };
 
     fn black_at(&self, spot: Spot) -> bool {
         Layer::black_at(self, spot)

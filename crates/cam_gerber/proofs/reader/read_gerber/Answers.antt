@@ -1,6 +1,6 @@
 use Rattle.std.proofs.Common.{[], length, ap, sym, subst, ◌∙◌}
-use Rattle.cam_gerber.specs.Machinery.Tracking.{IsWithinFormats}
-use Rattle.cam_gerber.proofs.Grammar.{within_formats}
+use Rattle.cam_gerber.specs.Machinery.Tracking.{IsWithinFormats, IsWithinNumbers}
+use Rattle.cam_gerber.proofs.Grammar.{within_formats, within_numbers_of}
 use Rattle.cam_gerber.proofs.Readings.{goes_on, reading_goes_on}
 use Rattle.cam_gerber.proofs.reader.read_gerber.Goals as goal
 
@@ -12,3 +12,6 @@ loop-answer-init c = record {
 
 pub obey-requires-clause-short : goal.obey-requires-clause-short
 obey-requires-clause-short c = subst IsWithinFormats (sym c.in-Ok-command_of.ensures) (within_formats _)
+
+pub obey-requires-clause-numbers : goal.obey-requires-clause-numbers
+obey-requires-clause-numbers c = subst IsWithinNumbers (sym c.in-Ok-command_of.ensures) (within_numbers_of _)

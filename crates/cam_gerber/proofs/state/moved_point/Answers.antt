@@ -2,7 +2,9 @@ use Rattle.std.proofs.Common.{subst, sym, rules}
 use Rattle.std.specs.Int.{w64}
 use mir.Val.{SFits}
 use Rattle.cam_units.specs.Board.{IsOnBoard}
-use Rattle.cam_flashes.proofs.LayerLemmas.{from_on_board, off_board}
+use Rattle.std.proofs.lemmas.Bool.{false_from_ne_true}
+use Rattle.cam_objects.specs.Tests.{is_on_board}
+use Rattle.cam_objects.proofs.TestLaws.{on_board}
 use Rattle.cam_gerber.specs.Machinery.Tracking.{moved_point}
 use Rattle.cam_gerber.proofs.Obeying.{moved_point_is}
 use Rattle.cam_gerber.proofs.state.moved_point.Goals as goal
@@ -15,7 +17,7 @@ returns-then-fits_board c =
     let from_x : SFits w64 c.args.from.x = search rules in
     let from_y : SFits w64 c.args.from.y = search rules in
     let same = moved_point_is c.args.format c.args.unit c.args.x c.args.y c.args.from _ _ from_x from_y x y c.in_ok-moved.ensures c.in_ok-moved-2.ensures in
-    (same, from_on_board to (subst IsOnBoard same (c.fits_board.ensures.0 c.if-fits_board.true)))
+    (same, (on_board to).1 (subst IsOnBoard same (c.fits_board.ensures.0 c.if-fits_board.true)))
 
 pub returns-else-fits_board : goal.returns-else-fits_board
 returns-else-fits_board c =
@@ -25,4 +27,4 @@ returns-else-fits_board c =
     let from_x : SFits w64 c.args.from.x = search rules in
     let from_y : SFits w64 c.args.from.y = search rules in
     let same = moved_point_is c.args.format c.args.unit c.args.x c.args.y c.args.from _ _ from_x from_y x y c.in_ok-moved.ensures c.in_ok-moved-2.ensures in
-    off_board to (λ on. let yes = c.fits_board.ensures.1 (subst IsOnBoard (sym same) on) in cc)
+    false_from_ne_true (is_on_board to) (λ on. let yes = c.fits_board.ensures.1 (subst IsOnBoard (sym same) ((on_board to).0 on)) in cc)
