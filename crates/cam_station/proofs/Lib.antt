@@ -1,6 +1,8 @@
 pub mod Cutting
+pub mod FaultNumbers
 pub mod Forms
 pub mod Loading
+pub mod Moves
 pub mod OneLine
 pub mod PlotLaws
 pub mod Quiet
@@ -9,7 +11,10 @@ pub mod RunLawProofs
 pub mod RunSteps
 pub mod Runs
 pub mod Saying
+pub mod SheetMoves
 pub mod Sheets
+pub mod SoundContents
+pub mod SoundEdits
 pub mod StepFacts
 pub mod Steps
 pub mod Tests

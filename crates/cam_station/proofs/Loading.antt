@@ -1,25 +1,49 @@
--- Loads that the reader refuses.
-use Rattle.std.proofs.Common.{◌≡◌, ℕ, false, List, length, nat_le, inl, inr, sym, refl, Err}
-use Rattle.std.specs.Prelude.{◌==◌, is_some}
+-- What the readers answer is what the file means, but where memory was refused.
+use Rattle.std.proofs.Common.{◌≡◌, ℕ, false, List, inl, inr, sym, refl, Result, Ok, Err}
+use Rattle.std.specs.Prelude.{◌==◌}
 use Rattle.std.proofs.lemmas.Bool.{ne_eqb}
-use Rattle.cam_station.specs.declared.command.FileKind.{FileKind}
-use Rattle.cam_station.specs.declared.command.FileKind.TheVariants.{Gerber}
-use Rattle.cam_gerber.specs.declared.read_fault.ReadFault.{ReadFault}
-use Rattle.cam_station.specs.Documents.{place_of}
-use Rattle.cam_station.specs.Refusals.{layer_limit, memory_refused}
-use Rattle.cam_station.specs.Machine.{State, load_step, load_read, memory_of, reader_answer, refused_at}
-use Rattle.cam_gerber.specs.Reading.{IsReading, no_memory, reading_of}
-use Rattle.cam_gerber.proofs.FaultNumbers.{no_fault_is_memory}
+use Rattle.cam_objects.specs.declared.drill_layer.DrillLayer.{DrillLayer}
+use Rattle.cam_objects.specs.declared.layer.Layer.{Layer}
+use Rattle.cam_objects.specs.Contents.{content_of as gerber_content}
+use Rattle.cam_gerber.specs.declared.read_fault.ReadFault.{ReadFault as GerberFault}
+use Rattle.cam_gerber.specs.Reading.{IsReading as IsGerberReading, no_memory as no_gerber_memory, reading_of as gerber_reading}
+use Rattle.cam_gerber.proofs.FaultNumbers.{no_fault_is_memory as no_gerber_fault_is_memory}
+use Rattle.cam_xnc.specs.declared.read_fault.ReadFault.{ReadFault as DrillFault}
+use Rattle.cam_xnc.specs.Reading.{IsReading as IsDrillReading, content_of as drill_content, no_memory as no_drill_memory, reading_of as drill_reading}
+use Rattle.cam_xnc.proofs.LeastFaults.{no_fault_is_memory as no_drill_fault_is_memory}
+use Rattle.cam_station.specs.declared.fault.Fault.{Fault}
+use Rattle.cam_station.specs.declared.sheet_layer.SheetLayer.{SheetLayer}
+use Rattle.cam_station.specs.Machine.{memory_of, reader_answer}
+use Rattle.cam_station.specs.Meanings.{drill_meaning, fault_at, gerber_meaning}
+use Rattle.cam_station.specs.Refusals.{memory_refused}
+use Rattle.cam_station.specs.Sheets.{Gerber, Drill}
 
--- the refusal of a file is the reader's, and says whether memory was refused to it
-read_refused : (s : State) (name file : List ℕ) (f : ReadFault) → IsReading file (Err f)
-    → load_read s name (memory_of (refused_at f.code f.at)) (reader_answer (memory_of (refused_at f.code f.at)) (reading_of file)) ≡ (s, refused_at f.code f.at)
-read_refused s name file f (inl e) =
-    let never : (f.code == memory_refused) ≡ false = ne_eqb f.code memory_refused (no_fault_is_memory file f (sym e)) in
+-- the answer to a file that is refused
+abbrev failed : ℕ → ℕ → Result SheetLayer Fault
+failed code at = Err (fault_at code at)
+
+pub drill_refused : (bytes : List ℕ) (f : DrillFault) → IsDrillReading bytes (Err f)
+    → reader_answer (memory_of (failed f.code f.at)) (drill_meaning (drill_reading bytes)) ≡ Err (fault_at f.code f.at)
+drill_refused bytes f (inl e) =
+    let never : (f.code == memory_refused) ≡ false = ne_eqb f.code memory_refused (no_drill_fault_is_memory bytes f (sym e)) in
     rw (never, ← e) refl
-read_refused s name file f (inr e) = let same : f ≡ no_memory = cc in rw same refl
+drill_refused bytes f (inr e) = let same : f ≡ no_drill_memory = cc in rw same refl
 
-pub load_refused : (s : State) (name : List ℕ) (kind : FileKind) (file : List ℕ) (f : ReadFault) → is_some (place_of name s.document) ≡ false
-    → nat_le layer_limit (length s.document) ≡ false → IsReading file (Err f)
-    → load_step s name kind file (memory_of (refused_at f.code f.at)) ≡ (s, refused_at f.code f.at)
-load_refused s name Gerber file f untaken room reading = rw (untaken, room) (read_refused s name file f reading)
+pub drill_read : (bytes : List ℕ) (layer : DrillLayer) → IsDrillReading bytes (Ok layer) → drill_meaning (drill_reading bytes) ≡ Ok (Drill (drill_content layer))
+drill_read bytes layer (inl e) = rw (← e) refl
+drill_read bytes layer (inr e) = absurd cc
+
+pub gerber_refused : (bytes : List ℕ) (f : GerberFault) → IsGerberReading bytes (Err f)
+    → reader_answer (memory_of (failed f.code f.at)) (gerber_meaning (gerber_reading bytes)) ≡ Err (fault_at f.code f.at)
+gerber_refused bytes f (inl e) =
+    let never : (f.code == memory_refused) ≡ false = ne_eqb f.code memory_refused (no_gerber_fault_is_memory bytes f (sym e)) in
+    rw (never, ← e) refl
+gerber_refused bytes f (inr e) = let same : f ≡ no_gerber_memory = cc in rw same refl
+
+pub gerber_read : (bytes : List ℕ) (layer : Layer) → IsGerberReading bytes (Ok layer) → gerber_meaning (gerber_reading bytes) ≡ Ok (Gerber (gerber_content layer))
+gerber_read bytes layer (inl e) = rw (← e) refl
+gerber_read bytes layer (inr e) = absurd cc
+
+pub ruleset gerber_answers = (gerber_refused, gerber_read)
+
+pub ruleset drill_answers = (drill_refused, drill_read)

@@ -1,16 +1,15 @@
 -- Exact plot.
 use Rattle.std.proofs.Common.{◌≡◌, ℕ, true, List, Option, None, Some, Ok, refl, ap}
+use Rattle.std.specs.Prelude.{◌↔◌}
 use Rattle.std.specs.Option.{option_map}
 use Rattle.cam_station.specs.declared.reply.Reply.{Reply}
 use Rattle.cam_station.specs.declared.reply.Reply.TheVariants.{Bytes}
 use Rattle.cam_tiles.specs.declared.window.Window.{Window}
-use Rattle.cam_station.specs.Documents.{layer_at, layer_named, place_of}
-use Rattle.cam_flashes.specs.Layers.{Content}
-use Rattle.cam_flashes.specs.Image.{leaves_of}
-use Rattle.cam_flashes.proofs.ImageLemmas.{paint_law}
+use Rattle.cam_objects.proofs.TestLaws.{black_law}
+use Rattle.cam_station.specs.Documents.{content_at, content_named, place_of}
+use Rattle.cam_station.specs.Sheets.{Content, image_of, leaves_of}
 use Rattle.cam_station.specs.Machine.{State, Memory, Granted, RefusedToReader, RefusedToStation, fresh, plot_at, plot_in}
-use Rattle.cam_tiles.specs.LayerImage.{image_of}
-use Rattle.cam_tiles.specs.Picture.{accepts, plot_of, tiles_of}
+use Rattle.cam_tiles.specs.Picture.{Shows, accepts, centre_of, plot_of, tiles_of}
 use Rattle.cam_station.specs.Plots.{ExactPlot, IsPlotOf}
 use Rattle.cam_station.specs.Undoing.{states_after}
 use Rattle.cam_tiles.proofs.PictureLemmas.{plot_law}
@@ -28,9 +27,13 @@ plotted_in s Granted c (Some w) reply e h = record { window = w; in_force = e; a
 plotted_in s RefusedToReader c (Some w) reply e h = record { window = w; in_force = e; answered = cc }
 plotted_in s RefusedToStation c (Some w) reply e h = absurd cc
 
+both : {A B C : Type 0} → A ↔ B → B ↔ C → A ↔ C
+both f g = (λ a. g.0 (f.0 a), λ c. f.1 (g.1 c))
+
 shown : (s : State) (name : List ℕ) (c : Content) (reply : Reply) → ((w : Window) → s.window ≡ Some w → accepts w ≡ true)
-    → layer_named name s.document ≡ Some c → IsPicture s c reply → IsPlotOf s name reply
+    → content_named name s.document ≡ Some c → IsPicture s c reply → IsPlotOf s name reply
 shown s name c reply accepted named p =
+    let shows : Shows (plot_of p.window (image_of c)) p.window (image_of c) = plot_law p.window (image_of c) (accepted p.window p.in_force) in
     record {
       window = p.window;
       content = c;
@@ -39,16 +42,16 @@ shown s name c reply accepted named p =
       named = named;
       answered = p.answered;
       picture = refl;
-      pixels = plot_law p.window (image_of c) (accepted p.window p.in_force);
-      black = paint_law (leaves_of c);
+      shows = shows;
+      pixels = λ column row across up. both (shows.pixels column row across up) (black_law (leaves_of c) (centre_of p.window column row));
     }
 
 plotted : (s : State) (m : Memory) (name : List ℕ) (place : Option ℕ) (reply : Reply) → ((w : Window) → s.window ≡ Some w → accepts w ≡ true)
     → place_of name s.document ≡ place → (plot_at s m place).1 ≡ Ok reply → IsPlotOf s name reply
 plotted s m name None reply accepted e h = absurd cc
 plotted s m name (Some place) reply accepted e h =
-    shown s name (layer_at s.document place) reply accepted (ap (option_map (layer_at s.document)) e)
-    (plotted_in s m (layer_at s.document place) s.window reply refl h)
+    shown s name (content_at s.document place) reply accepted (ap (option_map (content_at s.document)) e)
+    (plotted_in s m (content_at s.document place) s.window reply refl h)
 
 pub exact_plot : ExactPlot
 exact_plot depth before name m reply h =

@@ -4,8 +4,8 @@ use Rattle.std.specs.Prelude.{IsErr}
 use Rattle.cam_station.specs.declared.command.Command.{Command}
 use Rattle.cam_station.specs.declared.command.Command.TheVariants.{Load, SetWindow, Plot, Delete, Move, Undo, Redo, ListAll, ListLayer}
 use Rattle.cam_tiles.specs.declared.window.Window.{Window}
-use Rattle.cam_station.specs.Documents.{layer_at, place_of}
-use Rattle.cam_flashes.specs.Layers.{Content}
+use Rattle.cam_station.specs.Documents.{content_at, place_of}
+use Rattle.cam_station.specs.Sheets.{Content}
 use Rattle.cam_station.specs.Machine.{State, Outcome, Memory, Granted, RefusedToReader, RefusedToStation, step, plot_at, plot_in, list_layer_at}
 use Rattle.cam_station.specs.Undoing.{Call, state_after, states_after, RefusalLaw, IsLook, IsQuiet, AreQuiet}
 use Rattle.cam_station.proofs.Steps.{AfterEach, after_each}
@@ -17,9 +17,9 @@ stays_each : (s : State) → AfterEach s (Stays s)
 stays_each s =
     record {
       stays = λ o h. refl;
-      loaded = λ name c reply h. cc;
+      loaded = λ name c reply sound h. cc;
       framed = λ w accepted h. cc;
-      changed = λ document h. cc;
+      changed = λ document sound h. cc;
       undone = λ document past e h. cc;
       redone = λ document future e h. cc;
     }
@@ -35,7 +35,7 @@ plot_in_stays s RefusedToStation c (Some w) = refl
 
 plot_stays : (s : State) (m : Memory) (place : Option ℕ) → (plot_at s m place).0 ≡ s
 plot_stays s m None = refl
-plot_stays s m (Some place) = plot_in_stays s m (layer_at s.document place) s.window
+plot_stays s m (Some place) = plot_in_stays s m (content_at s.document place) s.window
 
 list_layer_stays : (s : State) (place : Option ℕ) → (list_layer_at s place).0 ≡ s
 list_layer_stays s None = refl

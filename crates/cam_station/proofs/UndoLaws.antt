@@ -3,10 +3,9 @@ use Rattle.std.proofs.Common.{◌≡◌, ℕ, zero, suc, ◌≤◌, List, Option
 use Rattle.std.specs.Prelude.{IsOk}
 use Rattle.cam_station.specs.declared.command.Command.{Command}
 use Rattle.cam_station.specs.declared.command.Command.TheVariants.{Load, SetWindow, Plot, Delete, Move, Undo, Redo, ListAll, ListLayer}
-use Rattle.cam_station.specs.declared.document.Sheet.{Sheet}
 use Rattle.cam_station.specs.declared.reply.Reply.TheVariants.{Done}
-use Rattle.cam_station.specs.Documents.{layer_at, place_of, with_layer, picture_named}
-use Rattle.cam_flashes.specs.Layers.{Content}
+use Rattle.cam_station.specs.Documents.{content_at, place_of, with_content, picture_named}
+use Rattle.cam_station.specs.Sheets.{Content, Sheet}
 use Rattle.cam_station.specs.Machine.{State, Outcome, Memory, Granted, RefusedToReader, RefusedToStation, fresh, step, with_edit, edit_at, edit_to, delete_of, move_of}
 use Rattle.cam_station.specs.Undoing.{Call, state_after, states_after, answer_to, undo, redo, GivesBack, IsEdit, ExactUndo, ExactUndoEverywhere}
 use Rattle.cam_station.proofs.Quiet.{all_quiet_stay}
@@ -18,17 +17,17 @@ Edits s p = IsOk p.1 → (document : List Sheet) × (p.0 ≡ with_edit s documen
 
 edits_to : (s : State) (m : Memory) (place : ℕ) (made : Result Content ℕ) → Edits s (edit_to s m place made)
 edits_to s m place (Err code) = λ h. cc
-edits_to s Granted place (Ok c) = λ h. (with_layer s.document place c, refl)
-edits_to s RefusedToReader place (Ok c) = λ h. (with_layer s.document place c, refl)
+edits_to s Granted place (Ok c) = λ h. (with_content s.document place c, refl)
+edits_to s RefusedToReader place (Ok c) = λ h. (with_content s.document place c, refl)
 edits_to s RefusedToStation place (Ok c) = λ h. cc
 
 edits_at : (s : State) (m : Memory) (edit : Content → Result Content ℕ) (place : Option ℕ) → Edits s (edit_at s m edit place)
 edits_at s m edit None = λ h. cc
-edits_at s m edit (Some place) = edits_to s m place (edit (layer_at s.document place))
+edits_at s m edit (Some place) = edits_to s m place (edit (content_at s.document place))
 
 edits : (s : State) (c : Command) (m : Memory) → IsEdit c → Edits s (step s c m)
 edits s (Delete name item) m e = edits_at s m (delete_of item) (place_of name s.document)
-edits s (Move name item dx dy) m e = edits_at s m (move_of item dx dy) (place_of name s.document)
+edits s (Move name item dx dy) m e = edits_at s m (move_of item (record { x = dx; y = dy })) (place_of name s.document)
 edits s (Load name kind file) m e = absurd e
 edits s (SetWindow w) m e = absurd e
 edits s (Plot name) m e = absurd e

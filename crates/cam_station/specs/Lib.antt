@@ -1,8 +1,12 @@
+pub mod Sheets
 pub mod Documents
 pub mod Refusals
+pub mod Meanings
+pub mod Kept
 pub mod Machine
 pub mod Undoing
 pub mod Plots
+pub mod Sound
 pub mod Contents
 pub mod Parsing
 pub mod Replies

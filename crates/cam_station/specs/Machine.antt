@@ -1,16 +1,14 @@
 -- The machine of documents that a station is: it keeps whole documents, and one command is one step.
-use Rattle.std.specs.Prelude.{◌≡◌, ℕ, ◌≤◌, nat_le, nat_lt, ℤ, Bool, true, ◌==◌, ◌&&◌, if◌then◌else◌, List, [], ◌∷◌, ◌++◌, length, take, Option, None, Some, Result, Ok, Err, is_some}
+use Rattle.std.specs.Prelude.{◌≡◌, ℕ, ◌≤◌, nat_le, nat_lt, Bool, true, ◌==◌, ◌&&◌, if◌then◌else◌, List, [], ◌∷◌, ◌++◌, length, take, Option, None, Some, Result, Ok, Err, is_some}
 use Rattle.cam_station.specs.declared.command.Command.{Command}
 use Rattle.cam_station.specs.declared.command.Command.TheVariants.{Load, SetWindow, Plot, Delete, Move, Undo, Redo, ListAll, ListLayer}
 use Rattle.cam_station.specs.declared.command.FileKind.{FileKind}
-use Rattle.cam_station.specs.declared.command.FileKind.TheVariants.{Gerber}
-use Rattle.cam_station.specs.declared.document.Sheet.{Sheet}
 use Rattle.cam_station.specs.declared.fault.Fault.{Fault}
-use Rattle.cam_gerber.specs.declared.read_fault.ReadFault.{ReadFault}
 use Rattle.cam_station.specs.declared.reply.Reply.{Reply}
 use Rattle.cam_station.specs.declared.reply.Reply.TheVariants.{Done, Numbers, Bytes}
 use Rattle.cam_station.specs.declared.reply.Numbers.TheVariants.{One, Two, Three}
 use Rattle.cam_tiles.specs.declared.window.Window.{Window}
+use Rattle.cam_units.specs.declared.point.Point.{Point}
 use Rattle.cam_station.specs.Refusals.{
   greatest_depth,
   layer_limit,
@@ -25,11 +23,10 @@ use Rattle.cam_station.specs.Refusals.{
   out_of_limits,
   too_many_layers,
 }
-use Rattle.cam_station.specs.Documents.{layer_at, place_of, sheet, with_layer}
-use Rattle.cam_flashes.specs.Layers.{Content, can_move_of, with_shifted, without_item}
-use Rattle.cam_tiles.specs.LayerImage.{image_of}
+use Rattle.cam_station.specs.Documents.{content_at, place_of, with_content}
+use Rattle.cam_station.specs.Meanings.{fault_at, meaning_of}
+use Rattle.cam_station.specs.Sheets.{Content, Sheet, can_move, entry_count, image_of, item_count, sheet, with_moved, without_item}
 use Rattle.cam_tiles.specs.Picture.{accepts, plot_of, tiles_of}
-use Rattle.cam_gerber.specs.Reading.{no_memory, reading_of}
 
 -- the document and the window; the earlier documents, the latest first; those that were taken back, the next first
 pub record State : Type 0 where
@@ -52,9 +49,6 @@ fault code = record { code = code; at = None }
 abbrev pub refused : ℕ → Outcome
 refused code = Err (fault code)
 
-abbrev pub refused_at : ℕ → ℕ → Outcome
-refused_at code place = Err (record { code = code; at = Some place })
-
 -- a depth that a station may have
 abbrev pub is_depth : ℕ → Bool
 is_depth depth = nat_le 1 depth && nat_le depth greatest_depth
@@ -70,8 +64,8 @@ pub data Memory : Type 0 where
   RefusedToStation : Memory
 
 -- what the answer tells of it
-abbrev pub memory_of : Outcome → Memory
-memory_of (Ok reply) = Granted
+abbrev pub memory_of : {T : Type 0} → Result T Fault → Memory
+memory_of (Ok given) = Granted
 memory_of (Err f) =
     if f.code == memory_refused then (if is_some f.at then RefusedToReader else RefusedToStation) else Granted
 
@@ -83,24 +77,20 @@ with_room RefusedToStation s change = (s, refused memory_refused)
 
 -- load ----------------------------------------------------------------------------------------
 
--- what a file of this kind means
-abbrev pub meaning_of : FileKind → List ℕ → Result Content ReadFault
-meaning_of Gerber bytes = reading_of bytes
-
--- what the reader answers
-abbrev pub reader_answer : Memory → Result Content ReadFault → Result Content ReadFault
+-- what the reader answers to a file of this meaning
+abbrev pub reader_answer : Memory → Result Content Fault → Result Content Fault
 reader_answer Granted meaning = meaning
-reader_answer RefusedToReader meaning = Err no_memory
+reader_answer RefusedToReader meaning = Err (fault_at memory_refused 0)
 reader_answer RefusedToStation meaning = meaning
 
 -- the sheet comes last, and no edit before it can be taken back
 abbrev pub with_sheet : State → List ℕ → Content → State
 with_sheet s name content = record s { document = s.document ++ sheet name content ∷ []; past = []; future = [] }
 
-abbrev pub load_read : State → List ℕ → Memory → Result Content ReadFault → State × Outcome
-load_read s name memory (Err f) = (s, refused_at f.code f.at)
+abbrev pub load_read : State → List ℕ → Memory → Result Content Fault → State × Outcome
+load_read s name memory (Err fault) = (s, Err fault)
 load_read s name memory (Ok content) =
-    with_room memory s (with_sheet s name content, Ok (Numbers (One (length content.flashes))))
+    with_room memory s (with_sheet s name content, Ok (Numbers (One (item_count content))))
 
 abbrev pub load_step : State → List ℕ → FileKind → List ℕ → Memory → State × Outcome
 load_step s name kind file memory =
@@ -119,22 +109,22 @@ plot_in s memory content (Some w) = with_room memory s (s, Ok (Bytes (plot_of w 
 
 abbrev pub plot_at : State → Memory → Option ℕ → State × Outcome
 plot_at s memory None = (s, refused no_layer)
-plot_at s memory (Some place) = plot_in s memory (layer_at s.document place) s.window
+plot_at s memory (Some place) = plot_in s memory (content_at s.document place) s.window
 
 abbrev pub plot_step : State → List ℕ → Memory → State × Outcome
 plot_step s name memory = plot_at s memory (place_of name s.document)
 
 -- edits ---------------------------------------------------------------------------------------
 
--- the layer without an item, or the number of the refusal
+-- the content without an item, or the number of the refusal
 abbrev pub delete_of : ℕ → Content → Result Content ℕ
-delete_of item c = if nat_lt item (length c.flashes) then Ok (without_item c item) else Err no_item
+delete_of item c = if nat_lt item (item_count c) then Ok (without_item item c) else Err no_item
 
--- the layer with an item shifted, or the number of the refusal
-abbrev pub move_of : ℕ → ℤ → ℤ → Content → Result Content ℕ
-move_of item dx dy c =
-    if nat_lt item (length c.flashes)
-    then (if can_move_of c item dx dy then Ok (with_shifted c item dx dy) else Err out_of_board)
+-- the content with an item moved, or the number of the refusal
+abbrev pub move_of : ℕ → Point → Content → Result Content ℕ
+move_of item by c =
+    if nat_lt item (item_count c)
+    then (if can_move item by c then Ok (with_moved item by c) else Err out_of_board)
     else Err no_item
 
 -- the document as it is joins the earlier ones, of which the latest stay; none can be made again
@@ -147,11 +137,11 @@ with_edit s document = record (with_document_kept s) { document = document }
 
 abbrev pub edit_to : State → Memory → ℕ → Result Content ℕ → State × Outcome
 edit_to s memory place (Err code) = (s, refused code)
-edit_to s memory place (Ok content) = with_room memory s (with_edit s (with_layer s.document place content), Ok Done)
+edit_to s memory place (Ok content) = with_room memory s (with_edit s (with_content s.document place content), Ok Done)
 
 abbrev pub edit_at : State → Memory → (Content → Result Content ℕ) → Option ℕ → State × Outcome
 edit_at s memory edit None = (s, refused no_layer)
-edit_at s memory edit (Some place) = edit_to s memory place (edit (layer_at s.document place))
+edit_at s memory edit (Some place) = edit_to s memory place (edit (content_at s.document place))
 
 -- an edit of the layer of this name
 abbrev pub edit_step : State → List ℕ → Memory → (Content → Result Content ℕ) → State × Outcome
@@ -160,8 +150,8 @@ edit_step s name memory edit = edit_at s memory edit (place_of name s.document)
 abbrev pub delete_step : State → List ℕ → ℕ → Memory → State × Outcome
 delete_step s name item memory = edit_step s name memory (delete_of item)
 
-abbrev pub move_step : State → List ℕ → ℕ → ℤ → ℤ → Memory → State × Outcome
-move_step s name item dx dy memory = edit_step s name memory (move_of item dx dy)
+abbrev pub move_step : State → List ℕ → ℕ → Point → Memory → State × Outcome
+move_step s name item by memory = edit_step s name memory (move_of item by)
 
 -- undo and redo -------------------------------------------------------------------------------
 
@@ -189,11 +179,11 @@ abbrev pub list_step : State → State × Outcome
 list_step s = (s, Ok (Numbers (Three (length s.document) (length s.past) (length s.future))))
 
 abbrev pub list_content : Content → Outcome
-list_content c = Ok (Numbers (Two (length c.flashes) (length c.apertures)))
+list_content c = Ok (Numbers (Two (item_count c) (entry_count c)))
 
 abbrev pub list_layer_at : State → Option ℕ → State × Outcome
 list_layer_at s None = (s, refused no_layer)
-list_layer_at s (Some place) = (s, list_content (layer_at s.document place))
+list_layer_at s (Some place) = (s, list_content (content_at s.document place))
 
 abbrev pub list_layer_step : State → List ℕ → State × Outcome
 list_layer_step s name = list_layer_at s (place_of name s.document)
@@ -204,7 +194,7 @@ step s (Load name kind file) memory = load_step s name kind file memory
 step s (SetWindow w) memory = window_step s w
 step s (Plot name) memory = plot_step s name memory
 step s (Delete name item) memory = delete_step s name item memory
-step s (Move name item dx dy) memory = move_step s name item dx dy memory
+step s (Move name item dx dy) memory = move_step s name item (record { x = dx; y = dy }) memory
 step s Undo memory = undo_step s memory
 step s Redo memory = redo_step s memory
 step s ListAll memory = list_step s

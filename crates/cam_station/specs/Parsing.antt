@@ -2,7 +2,8 @@
 use Rattle.std.specs.Prelude.{ℕ, ◌==◌, ◌&&◌, nat_lt, slice_index, Bool, true, false, if◌then◌else◌, List, [], ◌∷◌, length, codes, Option, None, Some, Result, Ok, Err}
 use Rattle.std.specs.Option.{option_and_then}
 use Rattle.std.specs.Str.{bytes_eq}
-use Rattle.cam_station.specs.declared.command.FileKind.TheVariants.{Gerber}
+use Rattle.cam_station.specs.declared.command.FileKind.{FileKind}
+use Rattle.cam_station.specs.declared.command.FileKind.TheVariants.{Gerber, Drill}
 use Rattle.cam_station.specs.declared.command.Command.{Command}
 use Rattle.cam_station.specs.declared.command.Command.TheVariants as commands
 use Rattle.cam_station.specs.declared.script.line.Line.{Line}
@@ -16,10 +17,19 @@ use Rattle.cam_station.specs.Words.{words, is_name, is_path, count_in, length_in
 abbrev pub reads : {T : Type 0} → (List ℕ → Option T) → List ℕ → (T → Option Line) → Option Line
 reads value word follows = option_and_then follows (value word)
 
--- load NAME gerber PATH
+-- the kind of file that a word names
+abbrev pub kind_in : List ℕ → Option FileKind
+kind_in word =
+    if bytes_eq word (codes "gerber") then Some Gerber
+    else if bytes_eq word (codes "drill") then Some Drill
+    else None
+
+-- load NAME gerber PATH, or load NAME drill PATH
 abbrev pub load_line : List (List ℕ) → Option Line
 load_line (name ∷ kind ∷ path ∷ []) =
-    if is_name name && bytes_eq kind (codes "gerber") && is_path path then Some (lines.Load name Gerber path) else None
+    if is_name name
+    then reads kind_in kind (λ kind. if is_path path then Some (lines.Load name kind path) else None)
+    else None
 load_line _ = None
 
 -- window X0 Y0 PITCH W H

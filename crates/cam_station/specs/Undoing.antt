@@ -2,10 +2,10 @@
 use Rattle.std.specs.Prelude.{◌≡◌, ℕ, ◌+◌, ◌≤◌, List, [], ◌∷◌, length, ◌⊎◌, IsOk, IsErr, Ok}
 use Rattle.cam_station.specs.declared.command.Command.{Command}
 use Rattle.cam_station.specs.declared.command.Command.TheVariants.{Plot, Delete, Move, Undo, Redo, ListAll, ListLayer}
-use Rattle.cam_station.specs.declared.document.Sheet.{Sheet}
 use Rattle.cam_station.specs.declared.reply.Reply.TheVariants.{Done}
 use Rattle.cam_station.specs.Refusals.{greatest_depth}
 use Rattle.cam_station.specs.Documents.{SamePictures}
+use Rattle.cam_station.specs.Sheets.{Sheet}
 use Rattle.cam_station.specs.Machine.{State, Outcome, Memory, Granted, fresh, memory_of, step}
 
 -- a command, and whether it is refused memory

@@ -8,6 +8,8 @@ use cam_tiles::Window;
 #[derive(Clone, Copy, Debug, PartialEq, Eq)]
 pub enum FileKind {
     Gerber,
+    /// An XNC drill file.
+    Drill,
 }
 
 /// A command. Lengths are in nanometres; `item` counts the items of a layer from 0.
@@ -43,7 +45,7 @@ pub enum Command {
     Redo,
     /// Counts the layers, and the edits that can be taken back and made again.
     ListAll,
-    /// Counts the items and the apertures of a layer.
+    /// Counts the items of a layer and its apertures and blocks, or its tools.
     ListLayer {
         name: Name,
     },

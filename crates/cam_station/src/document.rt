@@ -3,20 +3,14 @@
 ghost use Rattle.std.specs.Prelude.{◌≡◌, ◌<◌, ◌∷◌, ◌++◌, [], true, length};
 ghost use Rattle.std.specs.Prelude.{IfOk, IfSome, OnOk, OnErr};
 ghost use Rattle.std.specs.Str.{bytes_eq};
-ghost use Rattle.cam_station.specs.Documents.{layer_at, place_of, sheet, with_layer};
-ghost use Rattle.cam_flashes.specs.Layers.{can_move_of, with_shifted, without_item};
+ghost use Rattle.cam_station.specs.Documents.{content_at, place_of, with_content};
+ghost use Rattle.cam_station.specs.Sheets.{can_move, item_count, with_moved, without_item};
 
 use crate::name::Name;
-use cam_flashes::Layer;
+use crate::sheet::Sheet;
+use cam_units::Point;
 use std::alloc::{AllocError, Global};
 use std::marker::Model;
-
-/// A layer under its name.
-#[derive(Drop)]
-pub struct Sheet {
-    pub name: Name,
-    pub layer: Layer,
-}
 
 /// The sheets in the order in which they were loaded.
 #[derive(Drop)]
@@ -26,7 +20,7 @@ pub struct Document {
 
 impl Model for Document {
     ghost use Rattle.std.specs.Prelude.{List};
-    ghost use Rattle.cam_station.specs.declared.document.Sheet.{Sheet};
+    ghost use Rattle.cam_station.specs.Sheets.{Sheet};
 
     ghost Value = { List Sheet };
 
@@ -58,45 +52,43 @@ impl Document {
     {
         self.sheets
             .iter()
-            .position(|sheet| sheet.name.as_str() == name.as_str())
+            .position(|sheet| sheet.name().as_str() == name.as_str())
     }
 
-    /// The layer of the sheet at a place.
-    pub fn layer(&self, place: usize) -> &Layer
+    /// The sheet at a place.
+    pub fn sheet(&self, place: usize) -> &Sheet
         requires { place < length self.now }
-        ensures { result.now ≡ layer_at self.now place }
+        ensures { result.now.content ≡ content_at self.now place }
     {
-        &self.sheets[place].layer
+        &self.sheets[place]
     }
 
     /// Adds a sheet behind the others. Where memory is refused, nothing changes.
-    pub fn add(&mut self, name: Name, layer: Layer) -> Result<(), AllocError>
-        ensures ok { OnOk result (self.new ≡ self.old ++ sheet name layer ∷ []) }
+    pub fn add(&mut self, sheet: Sheet) -> Result<(), AllocError>
+        ensures ok { OnOk result (self.new ≡ self.old ++ sheet ∷ []) }
         ensures err { OnErr result (self.new ≡ self.old) }
     {
-        self.sheets.push(Sheet { name, layer })?;
+        self.sheets.push(sheet)?;
         Ok(())
     }
 
-    /// Takes an item out of the layer at a place.
+    /// Takes an item out of the sheet at a place.
     pub fn delete(&mut self, place: usize, item: usize)
         requires place { place < length self.old }
-        requires item { item < length (layer_at self.old place).flashes }
-        ensures { self.new ≡ with_layer self.old place (without_item (layer_at self.old place) item) }
+        requires item { item < item_count (content_at self.old place) }
+        ensures { self.new ≡ with_content self.old place (without_item item (content_at self.old place)) }
     {
-        let sheet = &mut self.sheets[place];
-        sheet.layer.delete(item);
+        self.sheets[place].delete(item);
     }
 
-    /// Shifts an item of the layer at a place, by `dx` and `dy` in nanometres.
-    pub fn shift(&mut self, place: usize, item: usize, dx: i64, dy: i64)
+    /// Moves an item of the sheet at a place by so many nm.
+    pub fn shift(&mut self, place: usize, item: usize, by: Point)
         requires place { place < length self.old }
-        requires item { item < length (layer_at self.old place).flashes }
-        requires on_board { can_move_of (layer_at self.old place) item dx dy ≡ true }
-        ensures { self.new ≡ with_layer self.old place (with_shifted (layer_at self.old place) item dx dy) }
+        requires item { item < item_count (content_at self.old place) }
+        requires on_board { can_move item by (content_at self.old place) ≡ true }
+        ensures { self.new ≡ with_content self.old place (with_moved item by (content_at self.old place)) }
     {
-        let sheet = &mut self.sheets[place];
-        sheet.layer.shift(item, dx, dy);
+        self.sheets[place].shift(item, by);
     }
 
     /// The same document in memory of its own.
@@ -105,9 +97,7 @@ impl Document {
     {
         let mut sheets = Vec::with_capacity(alloc, self.len())?;
         for sheet in &self.sheets {
-            let name = sheet.name.try_copy(alloc)?;
-            let layer = sheet.layer.try_copy(alloc)?;
-            sheets.push(Sheet { name, layer })?;
+            sheets.push(sheet.try_copy(alloc)?)?;
         }
         Ok(Document { sheets })
     }

@@ -1,6 +1,7 @@
 //! Laws of lists of commands.
 
 ghost use Rattle.cam_station.specs.Plots.{ExactPlot};
+ghost use Rattle.cam_station.specs.Sound.{SoundLaw};
 ghost use Rattle.cam_station.specs.Undoing.{DepthLaw, ExactUndo, ExactUndoEverywhere, RefusalLaw};
 
 /// A refused command changes nothing.
@@ -12,6 +13,12 @@ pub fn refusals_change_nothing()
 /// that were taken back together.
 pub fn depth_is_kept()
     ensures { DepthLaw }
+{}
+
+/// After any list of commands each layer is sound, and so are those that an undo or a redo
+/// brings back.
+pub fn documents_stay_sound()
+    ensures { SoundLaw }
 {}
 
 /// An accepted edit, quiet commands and then an undo give back the same layers and, in

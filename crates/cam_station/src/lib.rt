@@ -14,17 +14,22 @@ mod files;
 mod laws;
 mod name;
 mod out;
+mod reading;
 mod refusals;
 mod reply;
 mod reply_line;
 mod script;
+mod sheet;
+mod sheet_layer;
 mod station;
 
 pub use bytes::Bytes;
 pub use command::{Command, FileKind};
 pub use fault::Fault;
 pub use files::{FileFault, Files};
-pub use laws::{depth_is_kept, plot_is_exact, refusals_change_nothing, undo_is_exact};
+pub use laws::{
+    depth_is_kept, documents_stay_sound, plot_is_exact, refusals_change_nothing, undo_is_exact,
+};
 pub use name::Name;
 pub use out::Out;
 pub use reply::{Numbers, Reply};

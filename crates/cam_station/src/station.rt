@@ -25,10 +25,12 @@ use crate::command::{Command, FileKind};
 use crate::document::Document;
 use crate::fault::{Fault, refusal};
 use crate::name::Name;
+use crate::reading::read;
 use crate::refusals;
 use crate::reply::{Numbers, Reply};
-use cam_gerber::read_gerber;
-use cam_tiles::{Window, plot};
+use crate::sheet::Sheet;
+use cam_tiles::Window;
+use cam_units::Point;
 use std::alloc::{AllocError, Global};
 use std::collections::VecDeque;
 use std::marker::Model;
@@ -91,10 +93,13 @@ impl Station {
     /// One command. Where it is refused, nothing changes.
     ///
     /// The refusals, in the order of their checks: a load 83 where the name is taken, 85
-    /// where there are 32 layers, then the fault of its file; a window outside its limits
-    /// 50; a plot 60 without such a layer, 84 without a window; an edit 60, 61 without such
-    /// an item, 65 where a control point would leave the board; an undo 70 without an edit
-    /// to take back, a redo 71 without one to make again; a list of a layer 60. Last comes
+    /// where there are 32 layers, then the fault of its file, with its place: 1 to 26 of a
+    /// Gerber file; of a drill file 1, 4, 6, 23 to 25 and 40 to 48, as 40 where it does not
+    /// begin with M48, 42 a tool that is not declared, 45 a coordinate without a point, 47 a
+    /// line in the wrong mode, 48 no M30. A window outside its limits 50; a plot 60 without
+    /// such a layer, 84 without a window; an edit 60, 61 without such an item, 65 where a
+    /// control point would leave the board, as it stands or in a leaf; an undo 70 without an
+    /// edit to take back, a redo 71 without one to make again; a list of a layer 60. Last comes
     /// 30, where memory was refused. Where it was refused to the reader, 30 has the place 0
     /// and can come before a fault of the file. Windows and lists take no memory.
     pub fn apply(&mut self, command: Command) -> Result<Reply, Fault>
@@ -106,7 +111,9 @@ impl Station {
             Command::SetWindow(window) => self.set_window(window),
             Command::Plot { name } => self.plot(&name),
             Command::Delete { name, item } => self.delete(&name, item as usize),
-            Command::Move { name, item, dx, dy } => self.shift(&name, item as usize, dx, dy),
+            Command::Move { name, item, dx, dy } => {
+                self.shift(&name, item as usize, Point { x: dx, y: dy })
+            }
             Command::Undo => self.undo(),
             Command::Redo => self.redo(),
             Command::ListAll => Ok(self.list()),
@@ -132,7 +139,6 @@ impl Station {
     }
 
     /// Reads a file as the last layer; the edits before it can't be taken back any more.
-    #[tactic(auto, using(crate::proofs::Loading::load_refused))]
     fn load(&mut self, name: Name, kind: FileKind, file: &Bytes) -> Result<Reply, Fault>
         ensures { load_step self.old name kind file.now (memory_of result) ≡ (self.new, result) }
     {
@@ -142,20 +148,10 @@ impl Station {
         if LAYERS <= self.document.len() {
             return Err(refusal(refusals::TOO_MANY_LAYERS));
         }
-        let read = match kind {
-            FileKind::Gerber => read_gerber(self.alloc, file.as_slice()),
-        };
-        let layer = match read {
-            Ok(layer) => layer,
-            Err(fault) => {
-                return Err(Fault {
-                    code: fault.code,
-                    at: Some(fault.at),
-                });
-            }
-        };
-        let count = layer.flash_count() as u64;
-        if self.document.add(name, layer).is_err() {
+        let layer = read(self.alloc, kind, file)?;
+        let sheet = Sheet::new(name, layer);
+        let count = sheet.item_count() as u64;
+        if self.document.add(sheet).is_err() {
             return Err(refusal(refusals::NO_MEMORY));
         }
         self.past.clear();
@@ -183,7 +179,7 @@ impl Station {
             return Err(refusal(refusals::NO_WINDOW));
         };
         let drawn = window.tile_count();
-        match plot(self.alloc, self.document.layer(place), window) {
+        match self.document.sheet(place).plot(self.alloc, window) {
             Ok(bytes) => {
                 let bytes = Bytes::from_vec(bytes);
                 Ok(Reply::Bytes { bytes, drawn })
@@ -198,7 +194,7 @@ impl Station {
         let Some(place) = self.document.place(name) else {
             return Err(refusal(refusals::NO_LAYER));
         };
-        if self.document.layer(place).flash_count() <= item {
+        if self.document.sheet(place).item_count() <= item {
             return Err(refusal(refusals::NO_ITEM));
         }
         self.remember()?;
@@ -206,21 +202,21 @@ impl Station {
         Ok(Reply::Done)
     }
 
-    fn shift(&mut self, name: &Name, item: usize, dx: i64, dy: i64) -> Result<Reply, Fault>
-        ensures { move_step self.old name.now item dx dy (memory_of result) ≡ (self.new, result) }
+    fn shift(&mut self, name: &Name, item: usize, by: Point) -> Result<Reply, Fault>
+        ensures { move_step self.old name.now item by (memory_of result) ≡ (self.new, result) }
     {
         let Some(place) = self.document.place(name) else {
             return Err(refusal(refusals::NO_LAYER));
         };
-        let layer = self.document.layer(place);
-        if layer.flash_count() <= item {
+        let sheet = self.document.sheet(place);
+        if sheet.item_count() <= item {
             return Err(refusal(refusals::NO_ITEM));
         }
-        if !layer.can_move(item, dx, dy) {
+        if !sheet.can_move(item, by) {
             return Err(refusal(refusals::OUT_OF_BOARD));
         }
         self.remember()?;
-        self.document.shift(place, item, dx, dy);
+        self.document.shift(place, item, by);
         Ok(Reply::Done)
     }
 
@@ -288,9 +284,9 @@ impl Station {
         let Some(place) = self.document.place(name) else {
             return Err(refusal(refusals::NO_LAYER));
         };
-        let layer = self.document.layer(place);
-        let items = layer.flash_count() as u64;
-        let apertures = layer.aperture_count() as u64;
-        Ok(Reply::Numbers(Numbers::Two(items, apertures)))
+        let sheet = self.document.sheet(place);
+        let items = sheet.item_count() as u64;
+        let entries = sheet.entry_count() as u64;
+        Ok(Reply::Numbers(Numbers::Two(items, entries)))
     }
 }

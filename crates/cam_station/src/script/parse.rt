@@ -10,6 +10,7 @@ ghost use Rattle.cam_station.specs.Parsing.{
   delete_line,
   is_no_memory,
   kept,
+  kind_in,
   line_in,
   list_line,
   load_line,
@@ -109,6 +110,19 @@ fn path_of(alloc: Global, word: &[u8]) -> Result<FilePath, LineFault>
     }
 }
 
+/// The kind of file that a word names.
+fn kind_of(word: &[u8]) -> Option<FileKind>
+    ensures { result ≡ kind_in word.now }
+{
+    if is(word, b"gerber") {
+        return Some(FileKind::Gerber);
+    }
+    if is(word, b"drill") {
+        return Some(FileKind::Drill);
+    }
+    None
+}
+
 /// The words behind `load`.
 #[tactic(auto, using(crate::proofs::Forms::no_load))]
 fn load(alloc: Global, words: &mut Words<'_>) -> Result<Line, LineFault>
@@ -120,19 +134,15 @@ fn load(alloc: Global, words: &mut Words<'_>) -> Result<Line, LineFault>
     if !is_name(name) {
         return Err(LineFault::BadLine);
     }
-    if !is(kind, b"gerber") {
+    let Some(kind) = kind_of(kind) else {
         return Err(LineFault::BadLine);
-    }
+    };
     if !is_path(path) {
         return Err(LineFault::BadLine);
     }
     let name = name_of(alloc, name)?;
     let path = path_of(alloc, path)?;
-    Ok(Line::Load {
-        name,
-        kind: FileKind::Gerber,
-        path,
-    })
+    Ok(Line::Load { name, kind, path })
 }
 
 /// The words behind `window`.
