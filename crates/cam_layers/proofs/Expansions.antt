@@ -1,0 +1,156 @@
+-- No expansion of a macro is refused for want of memory.
+use Rattle.std.proofs.Common.{ℕ, suc, ◌+◌, ◌*◌, ◌%◌, List, [], ◌∷◌, length, take, drop, Bool, true, false, cond, Option, Some, None, Result, Ok, Err}
+use Rattle.std.specs.Prelude.{ℤ, pos, negsuc, ◌==◌, ◌&&◌, ◌||◌, nat_le, nat_lt, unsigned_abs, ok_or}
+use Rattle.cam_units.specs.declared.length.Unit.{Unit as FileUnit}
+use Rattle.cam_units.specs.declared.turn.Turn.{Turn}
+use Rattle.cam_units.specs.Nearest.{fix9_of}
+use Rattle.cam_macros.specs.declared.part.Part.{Part}
+use Rattle.cam_macros.specs.declared.part.Part.TheVariants.{Assignment, Primitive}
+use Rattle.cam_macros.specs.declared.primitive.MacroPrimitive.{MacroPrimitive}
+use Rattle.cam_macros.specs.declared.fault.MacroFault.{MacroFault}
+use Rattle.cam_macros.specs.declared.fault.MacroFault.TheVariants.{BadName, Malformed, PrimitiveRefused, RotationRefused, SizeRefused, OutOfMemory}
+use Rattle.cam_macros.specs.Numbers.{billion}
+use Rattle.cam_macros.specs.Tree.{Tree}
+use Rattle.cam_macros.specs.Arithmetic.{Values, parameter, value_of}
+use Rattle.cam_macros.specs.Expansion.{◌>>=◌, worth, all_worth, paint_of, rotation, turn_of, size, size_of, coordinate_of, point_of, points_of, disc_of, bar_of, rect_of, count_of, outline_of, shape_of, primitive_of, outcome, values_after, expansion, expansion_of}
+
+-- not for want of memory
+abbrev pub IsTrueFault : MacroFault → Type 0
+IsTrueFault BadName = Unit {0}
+IsTrueFault Malformed = Unit {0}
+IsTrueFault PrimitiveRefused = Unit {0}
+IsTrueFault RotationRefused = Unit {0}
+IsTrueFault SizeRefused = Unit {0}
+IsTrueFault OutOfMemory = ⊥
+
+abbrev pub MayBe : {A : Type 0} → Result A MacroFault → Type 0
+MayBe (Ok a) = Unit {0}
+MayBe (Err fault) = IsTrueFault fault
+
+bound : {A B : Type 0} (r : Result A MacroFault) (f : A → Result B MacroFault) → MayBe r → ((a : A) → MayBe (f a)) → MayBe (r >>= f)
+bound (Ok a) f h k = k a
+bound (Err fault) f h k = h
+
+either : {A : Type 0} (b : Bool) (x y : Result A MacroFault) → MayBe x → MayBe y → MayBe (cond b x y)
+either true x y h k = h
+either false x y h k = k
+
+worths : (values : Values) (tree : Tree) → MayBe (worth values tree)
+worths values tree = go (value_of values tree)
+  where
+    go : (o : Option ℤ) → MayBe (ok_or o Malformed)
+    go None = tt
+    go (Some v) = tt
+
+all_worths : (values : Values) (trees : List Tree) → MayBe (all_worth values trees)
+all_worths values [] = tt
+all_worths values (tree ∷ trees) =
+    bound (worth values tree) _ (worths values tree) λ v. bound (all_worth values trees) _ (all_worths values trees) λ vs. tt
+
+paints : (z : ℤ) → MayBe (paint_of z)
+paints (pos n) = either (n == 0) (Ok false) _ tt (either (n == billion) (Ok true) (Err Malformed) tt tt)
+paints (negsuc n) = tt
+
+rotations : (z : ℤ) → MayBe (rotation z)
+rotations (pos n) = either (n % 90000000000 == 0) _ (Err RotationRefused) tt tt
+rotations (negsuc n) = either (suc n % 90000000000 == 0) _ (Err RotationRefused) tt tt
+
+turns : (values : List ℤ) → MayBe (turn_of values)
+turns [] = tt
+turns (v ∷ []) = rotations v
+turns (v ∷ w ∷ values) = tt
+
+sizes : (z : ℤ) → MayBe (size z)
+sizes (pos n) = either (nat_le n 200000000) _ (Err SizeRefused) tt tt
+sizes (negsuc n) = tt
+
+points : (unit : FileUnit) (turn : Turn) (x y : ℤ) → MayBe (point_of unit turn x y)
+points unit turn x y =
+    bound (coordinate_of unit x) _ (either (nat_le (unsigned_abs (fix9_of x unit)) 200000000) _ (Err SizeRefused) tt tt)
+    λ a. bound (coordinate_of unit y) _ (either (nat_le (unsigned_abs (fix9_of y unit)) 200000000) _ (Err SizeRefused) tt tt) λ b. tt
+
+all_points : (unit : FileUnit) (turn : Turn) (values : List ℤ) → MayBe (points_of unit turn values)
+all_points unit turn [] = tt
+all_points unit turn (x ∷ []) = tt
+all_points unit turn (x ∷ y ∷ more) =
+    bound (point_of unit turn x y) _ (points unit turn x y) λ p. bound (points_of unit turn more) _ (all_points unit turn more) λ ps. tt
+
+discs : (unit : FileUnit) (values : List ℤ) → MayBe (disc_of unit values)
+discs unit (e ∷ d ∷ x ∷ y ∷ more) =
+    bound (paint_of e) _ (paints e) λ paint. bound (turn_of more) _ (turns more) λ turn.
+    bound (size_of unit d) _ (sizes (fix9_of d unit)) λ diameter. bound (point_of unit turn x y) _ (points unit turn x y) λ centre. tt
+discs unit [] = tt
+discs unit (e ∷ []) = tt
+discs unit (e ∷ d ∷ []) = tt
+discs unit (e ∷ d ∷ x ∷ []) = tt
+
+bars : (unit : FileUnit) (values : List ℤ) → MayBe (bar_of unit values)
+bars unit (e ∷ w ∷ x1 ∷ y1 ∷ x2 ∷ y2 ∷ more) =
+    bound (paint_of e) _ (paints e) λ paint. bound (turn_of more) _ (turns more) λ turn.
+    bound (size_of unit w) _ (sizes (fix9_of w unit)) λ width. bound (point_of unit turn x1 y1) _ (points unit turn x1 y1) λ from.
+    bound (point_of unit turn x2 y2) _ (points unit turn x2 y2) λ to. tt
+bars unit [] = tt
+bars unit (e ∷ []) = tt
+bars unit (e ∷ w ∷ []) = tt
+bars unit (e ∷ w ∷ x ∷ []) = tt
+bars unit (e ∷ w ∷ x ∷ y ∷ []) = tt
+bars unit (e ∷ w ∷ x ∷ y ∷ z ∷ []) = tt
+
+rects : (unit : FileUnit) (values : List ℤ) → MayBe (rect_of unit values)
+rects unit (e ∷ w ∷ h ∷ x ∷ y ∷ more) =
+    bound (paint_of e) _ (paints e) λ paint. bound (turn_of more) _ (turns more) λ turn.
+    bound (size_of unit w) _ (sizes (fix9_of w unit)) λ width. bound (size_of unit h) _ (sizes (fix9_of h unit)) λ height.
+    bound (point_of unit turn x y) _ (points unit turn x y) λ centre. tt
+rects unit [] = tt
+rects unit (e ∷ []) = tt
+rects unit (e ∷ w ∷ []) = tt
+rects unit (e ∷ w ∷ x ∷ []) = tt
+rects unit (e ∷ w ∷ x ∷ y ∷ []) = tt
+
+counts : (z : ℤ) → MayBe (count_of z)
+counts (pos n) = either ((n % billion == 0) && (nat_lt 0 n && nat_le n (5000 * billion))) _ (Err Malformed) tt tt
+counts (negsuc n) = tt
+
+outlines : (unit : FileUnit) (values : List ℤ) → MayBe (outline_of unit values)
+outlines unit (e ∷ n ∷ more) =
+    bound (paint_of e) _ (paints e) λ paint. bound (count_of n) _ (counts n) λ count.
+    either (nat_lt (length more) (2 * count + 2)) (Err Malformed) _ tt
+    (bound (turn_of (drop (2 * count + 2) more)) _ (turns (drop (2 * count + 2) more)) λ turn.
+    bound (points_of unit turn (take (2 * count) more)) _ (all_points unit turn (take (2 * count) more)) λ ps. tt)
+outlines unit [] = tt
+outlines unit (e ∷ []) = tt
+
+abbrev Maker : Type 0
+Maker = FileUnit → List ℤ → Result MacroPrimitive MacroFault
+
+-- a maker of shapes, if there is one
+record IsMaker (o : Option Maker) : Type 0 where
+  makes : (unit : FileUnit) (values : Values) (fields : List Tree) → MayBe (primitive_of o unit values fields)
+
+maker : (shape : Maker) → ((unit : FileUnit) (values : List ℤ) → MayBe (shape unit values)) → IsMaker (Some shape)
+maker shape h = record { makes = λ unit values fields. bound (all_worth values fields) (shape unit) (all_worths values fields) (h unit) }
+
+chosen : (b : Bool) (x y : Option Maker) → IsMaker x → IsMaker y → IsMaker (cond b x y)
+chosen true x y h k = h
+chosen false x y h k = k
+
+shapes : (code : ℕ) → IsMaker (shape_of code)
+shapes code =
+    chosen (code == 1) (Some disc_of) _ (maker disc_of discs)
+    (chosen ((code == 2) || (code == 20)) (Some bar_of) _ (maker bar_of bars)
+    (chosen (code == 21) (Some rect_of) _ (maker rect_of rects)
+    (chosen (code == 4) (Some outline_of) None (maker outline_of outlines) (record { makes = λ unit values fields. tt }))))
+
+outcomes : (unit : FileUnit) (values : Values) (part : Part) → MayBe (outcome unit values part)
+outcomes unit values (Assignment variable value) = bound (worth values value) _ (worths values value) λ v. tt
+outcomes unit values (Primitive code fields) =
+    bound (primitive_of (shape_of code) unit values fields) _ ((shapes code).makes unit values fields) λ made. tt
+
+expands : (unit : FileUnit) (values : Values) (parts : List Part) → MayBe (expansion unit values parts)
+expands unit values [] = tt
+expands unit values (part ∷ parts) =
+    bound (outcome unit values part) _ (outcomes unit values part)
+    λ made. bound (expansion unit (values_after values part) parts) _ (expands unit (values_after values part) parts) λ more. tt
+
+pub expansion_may_be : (unit : FileUnit) (params : List ℤ) (parts : List Part) → MayBe (expansion_of unit params parts)
+expansion_may_be unit params parts = expands unit (parameter params) parts

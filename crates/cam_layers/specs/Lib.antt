@@ -1,0 +1,9 @@
+pub mod Statements
+pub mod State
+pub mod Homes
+pub mod Making
+pub mod Layers
+pub mod Faults
+pub mod Reading
+pub mod Laws
+pub mod Machinery

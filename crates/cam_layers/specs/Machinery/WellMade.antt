@@ -1,0 +1,30 @@
+-- What holds of objects as they are made, whether or not their leaves lie on the board.
+use Rattle.std.specs.Prelude.{ℕ, List, All, Bool, true, false, Result, Ok, Err}
+use Rattle.cam_units.specs.Board.{IsOnBoard}
+use Rattle.cam_objects.specs.declared.entry.Entry.{Entry}
+use Rattle.cam_objects.specs.declared.item.Item.{Item}
+use Rattle.cam_objects.specs.declared.object.Object.{Object}
+use Rattle.cam_objects.specs.declared.item_fault.ItemFault.{ItemFault}
+use Rattle.cam_objects.specs.declared.item_fault.ItemFault.TheVariants.{OutOfBoard}
+use Rattle.cam_objects.specs.Leaves.{meaning_in}
+use Rattle.cam_objects.specs.Soundness.{HasRadius, HasShortSteps, IsDrawable, IsFormed, IsKnown, IsRepeated, objects_of, points_of}
+
+-- beside a dictionary
+pub record IsWellMade (entries : List (ℕ × Entry)) (object : Object) : Type 0 where
+  pub formed : IsFormed object
+  pub known : IsKnown entries object
+  pub drawable : IsDrawable (meaning_in entries) object
+  pub radius : HasRadius object
+  pub points : All IsOnBoard (points_of object)
+
+-- of an item
+pub record IsWellMadeItem (entries : List (ℕ × Entry)) (item : Item) : Type 0 where
+  pub repeated : IsRepeated item
+  pub steps : HasShortSteps item
+  pub objects : All (IsWellMade entries) (objects_of item)
+
+-- a check that is not passed for the board alone
+abbrev pub is_of_board : Result (Unit {0}) ItemFault → Bool
+is_of_board (Ok done) = false
+is_of_board (Err OutOfBoard) = true
+is_of_board (Err _) = false

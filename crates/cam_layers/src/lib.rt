@@ -1,0 +1,38 @@
+//! Reads Gerber files (Ucamco's "Gerber Layer Format Specification"): regions, arcs, macros, blocks and
+//! repeats among all commands of the profile.
+//!
+//! What a file means stands in `specs/`: `Statements` says what its words say, `State` what is in force behind
+//! the commands so far, `Homes` where an object belongs, `Making` what commands make, `Layers` the layer that it
+//! joins, `Faults` what a command may be refused for, `Reading` what the whole file gives, and `Laws` what holds
+//! of that. `specs/Machinery/` ties the running record of the code to them.
+#![tactic(auto)]
+
+mod blocks;
+mod built;
+mod checks;
+mod definitions;
+mod faults;
+mod flashes;
+mod frames;
+mod homes;
+mod laws;
+mod modal;
+mod obeying;
+mod object_list;
+mod operations;
+mod read_fault;
+mod reader;
+mod region;
+mod repeats;
+mod running;
+mod settings;
+mod state;
+mod stop;
+
+pub use laws::{
+    files_go_on_behind_their_front, files_mean_one_thing, homes_stay_apart, layers_are_sound,
+    layers_come_from_faultless_files, no_fault_of_memory, same_settings_change_nothing,
+    the_least_fault_is_told,
+};
+pub use read_fault::ReadFault;
+pub use reader::read_gerber;

@@ -1,0 +1,65 @@
+//! Reads Gerber layers.
+
+ghost use Rattle.std.specs.Prelude.{◌≡◌, IfOk};
+ghost use Rattle.cam_commands.specs.Machinery.Shown.{shown};
+ghost use Rattle.cam_objects.specs.Soundness.{IsSound};
+ghost use Rattle.cam_layers.specs.Reading.{IsReading, is_end_command};
+
+use crate::faults;
+use crate::read_fault::ReadFault;
+use crate::running::Running;
+use crate::stop::Stop;
+use cam_commands::{Command, command_of, place_of};
+use cam_objects::Layer;
+use cam_words::Words;
+use std::alloc::Global;
+
+/// Whether the command is M02.
+fn is_end(command: &Command<'_>) -> bool
+    ensures { result ≡ is_end_command (shown command.now) }
+{
+    matches!(command, Command::End)
+}
+
+/// The layer of a Gerber file up to its first M02, or its first fault: that of the command which stands
+/// first, and of several at one command the one with the lowest number. Where memory is refused, the fault
+/// is number 30 at place 0. The layer is sound.
+///
+/// (Gerber Layer Format Specification, "Syntax", "Graphics state" and "Graphics objects".)
+pub fn read_gerber(alloc: Global, bytes: &[u8]) -> Result<Layer, ReadFault>
+    ensures reads { IsReading bytes.now result }
+    ensures sound { IfOk result IsSound }
+{
+    let mut running = Running::new(alloc);
+    let mut words = Words::new(bytes);
+    while let Some(answer) = words.next() {
+        let word = match answer {
+            Ok(word) => word,
+            Err(fault) => {
+                return Err(ReadFault {
+                    code: fault.code,
+                    at: fault.at,
+                });
+            }
+        };
+        let command = command_of(word);
+        let ends = is_end(&command);
+        match running.obey(command) {
+            Ok(()) => {}
+            Err(Stop::Memory) => return Err(ReadFault::NO_MEMORY),
+            Err(Stop::Fault(code)) => {
+                return Err(ReadFault {
+                    code,
+                    at: place_of(word),
+                });
+            }
+        }
+        if ends {
+            return Ok(running.into_layer());
+        }
+    }
+    Err(ReadFault {
+        code: faults::NO_END,
+        at: bytes.len(),
+    })
+}
