@@ -2,6 +2,7 @@
 
 use crate::files::MemoryFiles;
 use crate::out::MemoryOut;
+use crate::tables::drills::DRILLS;
 use crate::tables::histories::HISTORIES;
 use crate::tables::limits::LIMITS;
 use crate::tables::plots::PLOTS;
@@ -49,7 +50,7 @@ fn play(rt: &impl Abort, alloc: Global, row: &Row) -> Result<(), Fail> {
 
 #[test]
 fn tables(rt: HostRuntime) -> Result<(), Fail> {
-    for table in [HISTORIES, LIMITS, PLOTS, REFUSALS] {
+    for table in [DRILLS, HISTORIES, LIMITS, PLOTS, REFUSALS] {
         for row in table {
             play(&rt, rt.alloc(), row)?;
         }

@@ -1,6 +1,7 @@
 //! Tables of whole scripts.
 
 pub mod boards;
+pub mod drills;
 pub mod histories;
 pub mod limits;
 pub mod plots;

@@ -1,14 +1,16 @@
 //! Apertures (Gerber Layer Format Specification, "Standard apertures", "Aperture macro (AM)", "Aperture definition
 //! (AD)").
 
-mod tables;
+mod covering;
+mod defining;
 
 use cam_apertures::{AdFault, Aperture, ad_number, parse_ad};
 use cam_macros::{Macro, PrimShape};
 use cam_units::{Bounds, Point, Spot, Unit};
+use covering::{BOXES, NOTHING, PLACES, SOLID, Text};
+use defining::{DEFINITIONS, NUMBERS, Wanted};
 use std::alloc::Global;
 use std::test::Fail;
-use tables::{BOXES, DEFINITIONS, NOTHING, NUMBERS, PLACES, SOLID, Text, Wanted};
 
 /// What the text behind AD reads in a file with this macro, or with none where its text is empty.
 fn defined(

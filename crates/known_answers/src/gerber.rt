@@ -1,7 +1,9 @@
 //! Gerber files, and what they give (Gerber Layer Format Specification).
 
 use crate::text::{Pieces, text_of};
+use cam_apertures::Aperture;
 use cam_gerber::{ReadFault, read_gerber};
+use cam_objects::{Dictionary, Entry};
 use cam_units::Nm;
 use std::alloc::Global;
 use std::test::Fail;
@@ -94,14 +96,22 @@ const FULL: Pieces = &[
     (b"M02*", 1),
 ];
 
+/// The diameter in nm of the circle of a number.
+fn diameter_of(apertures: &Dictionary, number: u32) -> Option<Nm> {
+    match apertures.find(number) {
+        Some((_, Entry::Aperture(Aperture::Circle { diameter, .. }))) => Some(*diameter),
+        _ => None,
+    }
+}
+
 /// Whether the file is a layer of so many apertures and flashes, and its aperture 10 of this diameter.
 fn is_layer(alloc: Global, row: &Layer) -> bool {
     let &(text, apertures, flashes, diameter) = row;
     match read_gerber(alloc, text) {
         Ok(layer) => {
-            layer.aperture_count() == apertures
-                && layer.flash_count() == flashes
-                && layer.diameter_of(10) == diameter.map(Nm)
+            layer.entries().len() == apertures
+                && layer.items().len() == flashes
+                && diameter_of(layer.entries(), 10) == diameter.map(Nm)
         }
         Err(_) => false,
     }

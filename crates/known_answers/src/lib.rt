@@ -9,11 +9,21 @@
 #[cfg(test)]
 mod apertures;
 #[cfg(test)]
+mod boards;
+#[cfg(test)]
+mod commands;
+#[cfg(test)]
+mod drills;
+#[cfg(test)]
 mod gerber;
+#[cfg(test)]
+mod layers;
 #[cfg(test)]
 mod macros;
 #[cfg(test)]
 mod objects;
+#[cfg(test)]
+mod places;
 #[cfg(test)]
 mod shapes;
 #[cfg(test)]
@@ -24,3 +34,7 @@ mod tiles;
 mod units;
 #[cfg(test)]
 mod words;
+#[cfg(test)]
+mod writers;
+#[cfg(test)]
+mod xnc;

@@ -1,32 +1,42 @@
-//! Layers: each call that takes memory, and the image of two flashes.
+//! Layers: a copy, and the image of two flashes.
 
-use cam_flashes::{Aperture, Flash, Layer};
-use cam_units::{Nm, Point, Spot};
+use cam_gerber::read_gerber;
+use cam_units::Spot;
+use std::alloc::{AllocError, Global};
 use std::test::Fail;
 
 /// A disc of a micrometre at the origin, and one 5 micrometres to its right.
-const LEFT: Flash = Flash {
-    at: Point { x: 0, y: 0 },
-    diameter: Nm(1_000),
-};
+const DISCS: &[u8] = b"%FSLAX66Y66*%%MOMM*%%ADD10C,0.001*%D10*X0Y0D03*X5000D03*M02*";
 
-const RIGHT: Flash = Flash {
-    at: Point { x: 5_000, y: 0 },
-    diameter: Nm(1_000),
-};
+/// Places in half nm, and whether they are black.
+const PLACES: &[(i16, i16, bool)] = &[
+    (0, 0, true),
+    (1_000, 0, true),
+    (1_001, 0, false),
+    (9_000, 0, true),
+    (10_000, -1_000, true),
+    (10_000, -1_001, false),
+];
+
+/// Whether the layer is black at a place, and how many entries and items its copy has; `None` where the file is no
+/// layer.
+fn shown(alloc: Global, x: i16, y: i16) -> Result<Option<(bool, usize, usize)>, AllocError> {
+    let Ok(layer) = read_gerber(alloc, DISCS) else {
+        return Ok(None);
+    };
+    let copy = layer.try_copy(alloc)?;
+    let black = layer.black_at(Spot {
+        x: i64::from(x),
+        y: i64::from(y),
+    });
+    Ok(Some((black, copy.entries().len(), copy.items().len())))
+}
 
 #[test]
 fn layers(rt: HostRuntime) -> Result<(), Fail> {
-    let mut layer = Layer::new(rt.alloc());
-    layer.add_aperture(Aperture {
-        number: 10,
-        diameter: Nm(1_000),
-    })?;
-    layer.add_flash(LEFT)?;
-    layer.add_flash(RIGHT)?;
-    let copy = layer.try_copy(rt.alloc())?;
-    assert!(rt; copy.diameter_of(10) == Some(Nm(1_000)));
-    assert!(rt; copy.aperture_count() == 1 && copy.flash_count() == 2);
-    assert!(rt; copy.black_at(Spot { x: 1_000, y: 0 }) && !copy.black_at(Spot { x: 1_001, y: 0 }));
+    for &(x, y, black) in PLACES {
+        let found = shown(rt.alloc(), x, y)?;
+        assert!(rt; found == Some((black, 1, 2)), "{x}, {y}");
+    }
     Ok(())
 }

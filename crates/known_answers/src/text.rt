@@ -3,10 +3,10 @@
 use std::alloc::{AllocError, Global};
 
 /// Pieces of a text, each so many times.
-pub type Pieces = &'static [(&'static [u8], u32)];
+pub(crate) type Pieces = &'static [(&'static [u8], u32)];
 
 /// The text of these pieces.
-pub fn text_of(alloc: Global, pieces: Pieces) -> Result<Vec<u8>, AllocError> {
+pub(crate) fn text_of(alloc: Global, pieces: Pieces) -> Result<Vec<u8>, AllocError> {
     let mut text = Vec::new(alloc);
     for &(piece, times) in pieces {
         for _ in 0..times {

@@ -1,8 +1,7 @@
 //! Pictures, by hand: a pixel is black where its centre lies in a flash (netpbm's pbm(5), "P4").
 
-use cam_flashes::{Flash, Layer};
+use cam_gerber::read_gerber;
 use cam_tiles::{Window, plot};
-use cam_units::{Nm, Point};
 use std::alloc::{AllocError, Global};
 use std::test::Fail;
 
@@ -15,25 +14,11 @@ const ROWS: &[(u32, u32, Option<(u64, &[u8])>)] = &[
     (1, 32_769, None),
 ];
 
-/// A layer of the two discs.
-fn discs(alloc: Global) -> Result<Layer, AllocError> {
-    let mut layer = Layer::new(alloc);
-    for (x, y) in [(1, 1), (17, 3)] {
-        layer.add_flash(Flash {
-            at: Point { x, y },
-            diameter: Nm(2),
-        })?;
-    }
-    Ok(layer)
-}
+/// A file of the two discs.
+const DISCS: &[u8] = b"%FSLAX66Y66*%%MOMM*%%ADD10C,0.000002*%D10*X1Y1D03*X17Y3D03*M02*";
 
-/// The tiles and the picture of the layer in a window of these sides.
-fn picture(
-    alloc: Global,
-    layer: &Layer,
-    width: u32,
-    height: u32,
-) -> Result<Option<(u64, Vec<u8>)>, AllocError> {
+/// The tiles and the picture of the discs in a window of these sides.
+fn picture(alloc: Global, width: u32, height: u32) -> Result<Option<(u64, Vec<u8>)>, AllocError> {
     let window = Window {
         x: 0,
         y: 0,
@@ -44,15 +29,17 @@ fn picture(
     if !window.is_accepted() {
         return Ok(None);
     }
-    let file = plot(alloc, layer, &window)?;
+    let Ok(layer) = read_gerber(alloc, DISCS) else {
+        return Ok(None);
+    };
+    let file = plot(alloc, &layer, &window)?;
     Ok(Some((window.tile_count(), file)))
 }
 
 #[test]
 fn pictures(rt: HostRuntime) -> Result<(), Fail> {
-    let layer = discs(rt.alloc())?;
     for &(width, height, wanted) in ROWS {
-        let found = picture(rt.alloc(), &layer, width, height)?;
+        let found = picture(rt.alloc(), width, height)?;
         let found = found
             .as_ref()
             .map(|(tiles, file)| (*tiles, file.as_slice()));

@@ -12,3 +12,9 @@ pub const TWO_DISCS: &[u8] =
 
 /// A layer without items.
 pub const EMPTY: &[u8] = b"%FSLAX36Y36*%\n%MOMM*%\nM02*\n";
+
+/// A hole of 0.8 mm at (1 mm, 1 mm), and a slot of 1 mm from (3 mm, 1 mm) over (5 mm, 1 mm) to
+/// (5 mm, 3 mm).
+pub const HOLE_AND_SLOT: &[u8] =
+    b"M48\n; DRILL file\nFMAT,2\nMETRIC\nT1C0.800\nT2C1.000\n%\nG90\nG05\n\
+T1\nX1.0Y1.0\nT2\nG00X3.0Y1.0\nM15\nG01X5.0Y1.0\nG01X5.0Y3.0\nM16\nG05\nT0\nM30";

@@ -19,7 +19,7 @@ window 0 0 0 1 1\nload b gerber none\nfrob\n",
         name: "a file that fails is told before a name that is taken, and a line's form before both",
         depth: 100,
         files: &[("a.gbr", EMPTY)],
-        script: b"load top gerber a.gbr\nload top gerber none\nload top drill none\n\
+        script: b"load top gerber a.gbr\nload top gerber none\nload top excellon none\n\
 load top gerber none more\n# load\n \t\nload top gerber a.gbr\r\nundo\r",
         replies: b"ok 0\nrefused 82\nrefused 80\nrefused 80\nrefused 83\nrefused 80\n",
         refused: 5,

@@ -1,0 +1,83 @@
+//! Drill layers.
+
+use crate::tables::Row;
+use crate::tables::boards::{DISC, HOLE_AND_SLOT};
+
+/// The picture of one pixel that is black.
+const BLACK: &[u8] = b"P4\n1 1\n\x80";
+
+/// The picture of one pixel that is white.
+const WHITE: &[u8] = b"P4\n1 1\n\x00";
+
+/// Drill layers that are plotted and edited.
+pub const DRILLS: &[Row] = &[
+    Row {
+        name: "a slot covers its edge, and a hole no more than its disc",
+        depth: 100,
+        files: &[("e.drl", HOLE_AND_SLOT)],
+        script: b"load top drill e.drl\nlist top\nlist\nwindow 5290000 590000 20000 1 1\nplot top edge\n\
+window 1440000 990000 20000 1 1\nplot top outside\n",
+        replies: b"ok 2\nok 2 2\nok 1 0 0\nok\nok 1\nok\nok 1\n",
+        refused: 0,
+        written: &[("edge", BLACK), ("outside", WHITE)],
+    },
+    Row {
+        name: "a hole that is moved, taken back and moved again",
+        depth: 100,
+        files: &[("e.drl", HOLE_AND_SLOT)],
+        script: b"load top drill e.drl\nwindow 1440000 990000 20000 1 1\nmove top 0 50000 0\nplot top moved\n\
+undo\nplot top back\nredo\nplot top again\nlist\n",
+        replies: b"ok 2\nok\nok\nok 1\nok\nok 1\nok\nok 1\nok 1 1 0\n",
+        refused: 0,
+        written: &[("moved", BLACK), ("back", WHITE), ("again", BLACK)],
+    },
+    Row {
+        name: "a slot that is deleted, taken back and deleted again",
+        depth: 100,
+        files: &[("e.drl", HOLE_AND_SLOT)],
+        script: b"load top drill e.drl\nwindow 5290000 590000 20000 1 1\ndelete top 1\nlist top\nplot top deleted\n\
+undo\nlist top\nplot top back\nredo\nplot top again\n",
+        replies: b"ok 2\nok\nok\nok 1 2\nok 1\nok\nok 2 2\nok 1\nok\nok 1\n",
+        refused: 0,
+        written: &[("deleted", WHITE), ("back", BLACK), ("again", WHITE)],
+    },
+    Row {
+        name: "edits of drill layers that are refused, and the farthest move that is not",
+        depth: 100,
+        files: &[("e.drl", HOLE_AND_SLOT)],
+        script: b"load top drill e.drl\nmove top 2 0 0\ndelete top 2\nmove none 0 0 0\n\
+move top 1 995000000 0\nmove top 1 0 -4000000000\nmove top 1 994999999 -1000999999\nlist\n",
+        replies: b"ok 2\nrefused 61\nrefused 61\nrefused 60\nrefused 65\nrefused 65\nok\nok 1 1 0\n",
+        refused: 5,
+        written: &[],
+    },
+    Row {
+        name: "layers of both kinds in one document",
+        depth: 100,
+        files: &[("a.gbr", DISC), ("e.drl", HOLE_AND_SLOT)],
+        script: b"load top gerber a.gbr\nload holes drill e.drl\nload holes gerber a.gbr\nload top drill e.drl\n\
+window 990000 990000 20000 1 1\nplot top top\nplot holes holes\ndelete top 0\nlist top\nlist holes\nundo\nlist top\n",
+        replies: b"ok 1\nok 2\nrefused 83\nrefused 83\n\
+ok\nok 1\nok 1\nok\nok 0 1\nok 2 2\nok\nok 1 1\n",
+        refused: 2,
+        written: &[("top", WHITE), ("holes", BLACK)],
+    },
+    Row {
+        name: "a coordinate without a point is refused at its line, and loads nothing",
+        depth: 100,
+        files: &[("e.drl", b"M48\nMETRIC\nT1C0.8\n%\nT1\nX10Y10\nM30")],
+        script: b"load top drill e.drl\nlist\n",
+        replies: b"refused 45 23\nok 0 0 0\n",
+        refused: 1,
+        written: &[],
+    },
+    Row {
+        name: "files of the other kind",
+        depth: 100,
+        files: &[("a.gbr", DISC), ("e.drl", HOLE_AND_SLOT)],
+        script: b"load top drill a.gbr\nload top gerber e.drl\n",
+        replies: b"refused 40 0\nrefused 1 0\n",
+        refused: 2,
+        written: &[],
+    },
+];

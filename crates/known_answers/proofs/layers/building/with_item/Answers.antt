@@ -1,0 +1,14 @@
+use Rattle.std.proofs.Common.{rules, ◌≡◌, ◌++◌, ◌∷◌, []}
+use Rattle.cam_objects.specs.Soundness.{IsSoundItem, KeepsLimits}
+use Rattle.known_answers.proofs.layers.building.with_item.Goals as goal
+
+pub returns : goal.returns
+returns c =
+    let l = c.args.layer in
+    let m = c.push.new.self in
+    let sound : IsSoundItem l.apertures c.args.item = search rules in
+    let room : KeepsLimits l.apertures (l.items.items ++ c.args.item ∷ []) = search rules in
+    let grown = c.layers_stay_sound.ensures.push l.apertures l.items.items c.args.item c.requires sound room in
+    let items : m.items.items ≡ l.items.items ++ c.args.item ∷ [] = search rules in
+    let entries : m.apertures ≡ l.apertures = search rules in
+    rw (entries, items) grown

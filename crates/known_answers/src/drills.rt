@@ -1,0 +1,208 @@
+//! Drill layers and their images (XNC Format Specification, "Drilling" and "Routing").
+
+ghost use Rattle.std.specs.Prelude.{IfOk, IfSome};
+ghost use Rattle.cam_objects.specs.DrillSoundness.{IsSoundDrillLayer};
+
+mod rows;
+
+use crate::places::{At, box_of, place};
+use crate::xnc::files::Drilled;
+use cam_objects::{DrillItem, DrillLayer, ItemFault, Points, drill_layers_stay_sound};
+use cam_units::{Nm, Point};
+use rows::{Boxed, DRILL_BOXES, DRILL_ITEMS, DRILLINGS, Drilling, KITS, Kit, LONG_ROUTS};
+use std::alloc::{AllocError, Global};
+use std::slice;
+use std::test::Fail;
+
+fn points_of(alloc: Global, places: &[At]) -> Result<Points, AllocError> {
+    let mut points = Vec::new(alloc);
+    for &(x, y) in places {
+        points.push(Point { x, y })?;
+    }
+    Ok(Points::from_vec(points))
+}
+
+fn item_of(alloc: Global, drilled: &Drilled) -> Result<DrillItem, AllocError> {
+    match *drilled {
+        Drilled::Hit(tool, (x, y)) => Ok(DrillItem::Hit {
+            tool,
+            at: Point { x, y },
+        }),
+        Drilled::Rout(tool, places) => Ok(DrillItem::Rout {
+            tool,
+            points: points_of(alloc, places)?,
+        }),
+    }
+}
+
+/// A rout of so many points.
+fn long_rout(alloc: Global, times: u32) -> Result<DrillItem, AllocError> {
+    let mut points = Vec::new(alloc);
+    for _ in 0..times {
+        points.push(Point { x: 0, y: 0 })?;
+    }
+    Ok(DrillItem::Rout {
+        tool: 1,
+        points: Points::from_vec(points),
+    })
+}
+
+/// No tool and no item.
+fn no_drills(alloc: Global) -> DrillLayer
+    ensures { IsSoundDrillLayer result }
+{
+    DrillLayer::new(alloc)
+}
+
+/// The layer with the tool behind the others; `None` where it may not be added.
+fn with_tool(
+    mut layer: DrillLayer,
+    tool: u16,
+    diameter: Nm,
+) -> Result<Option<DrillLayer>, AllocError>
+    requires { IsSoundDrillLayer layer }
+    ensures { IfOk result (λ made. IfSome made IsSoundDrillLayer) }
+{
+    drill_layers_stay_sound();
+    if !layer.check_tool(tool, diameter) {
+        return Ok(None);
+    }
+    layer.add_tool(tool, diameter)?;
+    Ok(Some(layer))
+}
+
+/// A layer of these tools; `None` where one may not be added.
+fn kit_of(alloc: Global, tools: Kit) -> Result<Option<DrillLayer>, AllocError>
+    ensures { IfOk result (λ made. IfSome made IsSoundDrillLayer) }
+{
+    let mut layer = no_drills(alloc);
+    for &(tool, diameter) in tools {
+        let Some(longer) = with_tool(layer, tool, Nm(diameter))? else {
+            return Ok(None);
+        };
+        layer = longer;
+    }
+    Ok(Some(layer))
+}
+
+/// The layer with the item behind the others; `None` where it is refused.
+fn with_item(mut layer: DrillLayer, item: DrillItem) -> Result<Option<DrillLayer>, AllocError>
+    requires { IsSoundDrillLayer layer }
+    ensures { IfOk result (λ made. IfSome made IsSoundDrillLayer) }
+{
+    drill_layers_stay_sound();
+    if layer.check_item(&item).is_err() {
+        return Ok(None);
+    }
+    if !layer.has_room(&item) {
+        return Ok(None);
+    }
+    layer.push(item)?;
+    Ok(Some(layer))
+}
+
+/// The layer of these tools and items; `None` where one of them is refused.
+fn layer_of(alloc: Global, tools: Kit, items: &[Drilled]) -> Result<Option<DrillLayer>, AllocError>
+    ensures { IfOk result (λ made. IfSome made IsSoundDrillLayer) }
+{
+    let Some(mut layer) = kit_of(alloc, tools)? else {
+        return Ok(None);
+    };
+    for drilled in items {
+        let Some(longer) = with_item(layer, item_of(alloc, drilled)?)? else {
+            return Ok(None);
+        };
+        layer = longer;
+    }
+    Ok(Some(layer))
+}
+
+/// Whether the places are all black, or all white.
+fn are(layer: &DrillLayer, places: &[At], black: bool) -> bool
+    requires { IsSoundDrillLayer layer.now }
+{
+    for at in places {
+        let Some(spot) = place(*at) else {
+            return false;
+        };
+        if layer.black_at(spot) != black {
+            return false;
+        }
+    }
+    true
+}
+
+/// Whether the layer is made, and it and a copy show the row's places.
+fn shows(alloc: Global, row: &Drilling) -> Result<bool, AllocError> {
+    let Some(layer) = layer_of(alloc, row.tools, row.items)? else {
+        return Ok(false);
+    };
+    let copy = layer.try_copy(alloc)?;
+    Ok(
+        are(&layer, row.black, true)
+            && are(&layer, row.white, false)
+            && are(&copy, row.black, true)
+            && are(&copy, row.white, false),
+    )
+}
+
+/// Whether the item has the wanted box, as it stands and as the only one of a layer.
+fn is_bounded(alloc: Global, row: &Boxed) -> Result<bool, AllocError> {
+    let Some(layer) = layer_of(alloc, row.0, slice::from_ref(&row.1))? else {
+        return Ok(false);
+    };
+    let item = item_of(alloc, &row.1)?;
+    if layer.check_item(&item).is_err() || layer.items.is_empty() {
+        return Ok(false);
+    }
+    let wanted = box_of(row.2);
+    Ok(layer.bounds_of(&item) == wanted && layer.item_bounds(0) == wanted)
+}
+
+#[test]
+fn drill_boxes(rt: HostRuntime) -> Result<(), Fail> {
+    for row in DRILL_BOXES {
+        assert!(rt; is_bounded(rt.alloc(), row)?, "{:?}", row.2);
+    }
+    Ok(())
+}
+
+#[test]
+fn drillings(rt: HostRuntime) -> Result<(), Fail> {
+    for (place, row) in DRILLINGS.iter().enumerate() {
+        assert!(rt; shows(rt.alloc(), row)?, "{place}");
+    }
+    Ok(())
+}
+
+#[test]
+fn drill_checks(rt: HostRuntime) -> Result<(), Fail> {
+    let mut layer = DrillLayer::new(rt.alloc());
+    for tool in [1, 2] {
+        assert!(rt; layer.check_tool(tool, Nm(5)));
+        layer.add_tool(tool, Nm(5))?;
+    }
+    for (drilled, wanted) in DRILL_ITEMS {
+        let item = item_of(rt.alloc(), drilled)?;
+        assert!(rt; layer.check_item(&item) == *wanted, "{item:?}");
+    }
+    for (times, wanted) in LONG_ROUTS {
+        let item = long_rout(rt.alloc(), *times)?;
+        assert!(rt; layer.check_item(&item) == *wanted, "{times}");
+    }
+    Ok(())
+}
+
+#[test]
+fn tool_checks(rt: HostRuntime) -> Result<(), Fail> {
+    let mut layer = DrillLayer::new(rt.alloc());
+    assert!(rt; layer.check_tool(5, Nm(5)));
+    layer.add_tool(5, Nm(5))?;
+    for &(tool, diameter, wanted) in KITS {
+        assert!(rt;
+            layer.check_tool(tool, Nm(diameter)) == wanted,
+            "{tool} {diameter}"
+        );
+    }
+    Ok(())
+}

@@ -1,0 +1,221 @@
+//! Layers and their images (Gerber Layer Format Specification, "Graphics objects", "Region statement", "Block Aperture
+//! (AB)" and "Step and Repeat (SR)").
+
+ghost use Rattle.cam_objects.specs.Soundness.{IsSound};
+
+mod blocks;
+mod boxes;
+mod building;
+mod dictionaries;
+mod forms;
+mod limits;
+mod reaches;
+mod regions;
+mod repeats;
+mod rows;
+mod strokes;
+
+use crate::places::{At, box_of, place};
+use blocks::BLOCKS;
+use boxes::BOXES;
+use building::{dictionary, entry, item, layer};
+use cam_objects::{ItemFault, Layer};
+use cam_units::{Bounds, Turn};
+use dictionaries::BASE;
+use forms::FORMS;
+use limits::{ENTRIES, ROOMS};
+use reaches::REACHES;
+use regions::REGIONS;
+use repeats::REPEATS;
+use rows::{Added, Boxed, Checked, Drawn, Filled, Listed, Picture};
+use std::alloc::{AllocError, Global};
+use std::slice;
+use std::test::Fail;
+use strokes::STROKES;
+
+/// A flash.
+const DOT: Listed = Listed::One(Drawn::Flash(10, (0, 0), Turn::R0, true));
+
+/// A number of items, and whether there is room behind them.
+const COUNTS: &[(u32, bool)] = &[(0, true), (999_999, true), (1_000_000, false)];
+
+/// Whether the places are all black, or all white.
+fn are(layer: &Layer, places: &[At], black: bool) -> bool
+    requires { IsSound layer.now }
+{
+    for at in places {
+        let Some(spot) = place(*at) else {
+            return false;
+        };
+        if layer.black_at(spot) != black {
+            return false;
+        }
+    }
+    true
+}
+
+/// Whether the layer is made, and it and a copy show the row's places.
+fn shows(alloc: Global, row: &Picture) -> Result<bool, AllocError> {
+    let Some(layer) = layer(alloc, row.entries, row.items)? else {
+        return Ok(false);
+    };
+    let copy = layer.try_copy(alloc)?;
+    Ok(
+        are(&layer, row.black, true)
+            && are(&layer, row.white, false)
+            && are(&copy, row.black, true)
+            && are(&copy, row.white, false),
+    )
+}
+
+/// What the check of an item says beside these entries; `None` where they are refused.
+fn verdict(alloc: Global, row: &Checked) -> Result<Option<Result<(), ItemFault>>, AllocError> {
+    let Some(layer) = dictionary(alloc, row.0)? else {
+        return Ok(None);
+    };
+    let item = item(alloc, &row.1)?;
+    Ok(Some(layer.check_item(&item)))
+}
+
+/// Whether the entry may be added beside these; `None` where they are refused.
+fn may_add(alloc: Global, row: &Added) -> Result<Option<bool>, AllocError> {
+    let Some(layer) = dictionary(alloc, row.0)? else {
+        return Ok(None);
+    };
+    let entry = entry(alloc, &row.2)?;
+    Ok(Some(layer.check_entry(row.1, &entry)))
+}
+
+/// Whether the layer of these items has room for one more; `None` where they are refused.
+fn has_room(alloc: Global, row: &Filled) -> Result<Option<bool>, AllocError> {
+    let Some(layer) = layer(alloc, row.0, row.1)? else {
+        return Ok(None);
+    };
+    let item = item(alloc, &row.2)?;
+    Ok(Some(layer.has_room(&item)))
+}
+
+/// Whether the item has the wanted box, as it stands and as the only one of a layer.
+fn is_bounded(alloc: Global, row: &Boxed) -> Result<bool, AllocError> {
+    let wanted = match row.2 {
+        Some(sides) => box_of(sides),
+        None => Bounds::Empty,
+    };
+    let Some(layer) = layer(alloc, row.0, slice::from_ref(&row.1))? else {
+        return Ok(false);
+    };
+    let item = item(alloc, &row.1)?;
+    if layer.check_item(&item).is_err() || layer.items.is_empty() {
+        return Ok(false);
+    }
+    Ok(layer.bounds_of(&item) == wanted && layer.item_bounds(0) == wanted)
+}
+
+/// Whether there is room behind so many items; `None` where the entries are refused.
+fn has_room_behind(alloc: Global, count: u32) -> Result<Option<bool>, AllocError> {
+    let Some(mut layer) = dictionary(alloc, BASE)? else {
+        return Ok(None);
+    };
+    for _ in 0..count {
+        layer.items.push(item(alloc, &DOT)?)?;
+    }
+    let item = item(alloc, &DOT)?;
+    Ok(Some(layer.has_room(&item)))
+}
+
+/// The place in the table of the first row that is not shown so.
+fn first_wrong(alloc: Global, rows: &[Picture]) -> Result<Option<usize>, AllocError> {
+    for (place, row) in rows.iter().enumerate() {
+        if !shows(alloc, row)? {
+            return Ok(Some(place));
+        }
+    }
+    Ok(None)
+}
+
+/// The place in the table of the first item that is not checked so.
+fn first_misjudged(alloc: Global, rows: &[Checked]) -> Result<Option<usize>, AllocError> {
+    for (place, row) in rows.iter().enumerate() {
+        if verdict(alloc, row)? != Some(row.2) {
+            return Ok(Some(place));
+        }
+    }
+    Ok(None)
+}
+
+#[test]
+fn stroke_pictures(rt: HostRuntime) -> Result<(), Fail> {
+    let wrong = first_wrong(rt.alloc(), STROKES)?;
+    assert!(rt; wrong.is_none(), "{wrong:?}");
+    Ok(())
+}
+
+#[test]
+fn region_pictures(rt: HostRuntime) -> Result<(), Fail> {
+    let wrong = first_wrong(rt.alloc(), REGIONS)?;
+    assert!(rt; wrong.is_none(), "{wrong:?}");
+    Ok(())
+}
+
+#[test]
+fn block_pictures(rt: HostRuntime) -> Result<(), Fail> {
+    let wrong = first_wrong(rt.alloc(), BLOCKS)?;
+    assert!(rt; wrong.is_none(), "{wrong:?}");
+    Ok(())
+}
+
+#[test]
+fn repeat_pictures(rt: HostRuntime) -> Result<(), Fail> {
+    let wrong = first_wrong(rt.alloc(), REPEATS)?;
+    assert!(rt; wrong.is_none(), "{wrong:?}");
+    Ok(())
+}
+
+#[test]
+fn form_checks(rt: HostRuntime) -> Result<(), Fail> {
+    let wrong = first_misjudged(rt.alloc(), FORMS)?;
+    assert!(rt; wrong.is_none(), "{wrong:?}");
+    Ok(())
+}
+
+#[test]
+fn reach_checks(rt: HostRuntime) -> Result<(), Fail> {
+    let wrong = first_misjudged(rt.alloc(), REACHES)?;
+    assert!(rt; wrong.is_none(), "{wrong:?}");
+    Ok(())
+}
+
+#[test]
+fn entry_checks(rt: HostRuntime) -> Result<(), Fail> {
+    for (place, row) in ENTRIES.iter().enumerate() {
+        assert!(rt; may_add(rt.alloc(), row)? == Some(row.3), "{place}");
+    }
+    Ok(())
+}
+
+#[test]
+fn room_checks(rt: HostRuntime) -> Result<(), Fail> {
+    for (place, row) in ROOMS.iter().enumerate() {
+        assert!(rt; has_room(rt.alloc(), row)? == Some(row.3), "{place}");
+    }
+    Ok(())
+}
+
+#[test]
+fn item_counts(rt: HostRuntime) -> Result<(), Fail> {
+    for &(count, wanted) in COUNTS {
+        assert!(rt;
+            has_room_behind(rt.alloc(), count)? == Some(wanted),
+            "{count}"
+        );
+    }
+    Ok(())
+}
+
+#[test]
+fn item_boxes(rt: HostRuntime) -> Result<(), Fail> {
+    for (place, row) in BOXES.iter().enumerate() {
+        assert!(rt; is_bounded(rt.alloc(), row)?, "{place}");
+    }
+    Ok(())
+}

@@ -1,0 +1,208 @@
+//! Layers, made of rows.
+
+ghost use Rattle.std.specs.Prelude.{IfOk, IfSome};
+ghost use Rattle.cam_objects.specs.Soundness.{IsSound};
+
+use crate::layers::rows::{Drawn, Entered, Entries, Listed, Side};
+use crate::places::At;
+use cam_apertures::Aperture;
+use cam_objects::{Contour, Entry, Item, Layer, Object, Objects, Seg, Segments, layers_stay_sound};
+use cam_units::{Nm, Point, Turn};
+use std::alloc::{AllocError, Global};
+
+pub fn point((x, y): At) -> Point {
+    Point { x, y }
+}
+
+fn seg(side: &Side) -> Seg {
+    match *side {
+        Side::Line(to) => Seg::Line { to: point(to) },
+        Side::Curve(to, centre, ccw) => Seg::Curve {
+            to: point(to),
+            centre: point(centre),
+            ccw,
+        },
+    }
+}
+
+fn segs(alloc: Global, sides: &[Side]) -> Result<Vec<Seg>, AllocError> {
+    let mut segs = Vec::new(alloc);
+    for side in sides {
+        segs.push(seg(side))?;
+    }
+    Ok(segs)
+}
+
+fn zigzag(alloc: Global, times: u32) -> Result<Vec<Seg>, AllocError> {
+    let mut segs = Vec::new(alloc);
+    for place in 0..times {
+        let x = if place % 2 == 0 { 1 } else { 0 };
+        segs.push(Seg::Line {
+            to: Point { x, y: 0 },
+        })?;
+    }
+    Ok(segs)
+}
+
+fn region(start: At, segs: Vec<Seg>, dark: bool) -> Object {
+    let contour = Contour {
+        start: point(start),
+        segs: Segments::from_vec(segs),
+    };
+    Object::Region { contour, dark }
+}
+
+fn object(alloc: Global, drawn: &Drawn) -> Result<Object, AllocError> {
+    match *drawn {
+        Drawn::Flash(aperture, at, turn, dark) => Ok(Object::Flash {
+            aperture,
+            at: point(at),
+            turn,
+            dark,
+        }),
+        // a turn that changes no place of it
+        Drawn::Draw(aperture, from, to, dark) => Ok(Object::Draw {
+            aperture,
+            from: point(from),
+            to: point(to),
+            turn: Turn::M90,
+            dark,
+        }),
+        Drawn::Arc(aperture, from, to, centre, ccw, dark) => Ok(Object::Arc {
+            aperture,
+            from: point(from),
+            to: point(to),
+            centre: point(centre),
+            ccw,
+            dark,
+        }),
+        Drawn::Region(start, sides, dark) => Ok(region(start, segs(alloc, sides)?, dark)),
+        Drawn::Zigzag(times) => Ok(region((0, 0), zigzag(alloc, times)?, true)),
+    }
+}
+
+fn objects(alloc: Global, drawn: &[Drawn]) -> Result<Objects, AllocError> {
+    let mut objects = Vec::new(alloc);
+    for one in drawn {
+        objects.push(object(alloc, one)?)?;
+    }
+    Ok(Objects::from_vec(objects))
+}
+
+/// An object, so many times.
+fn copies(alloc: Global, times: u32, drawn: &Drawn) -> Result<Objects, AllocError> {
+    let mut objects = Vec::new(alloc);
+    for _ in 0..times {
+        objects.push(object(alloc, drawn)?)?;
+    }
+    Ok(Objects::from_vec(objects))
+}
+
+pub fn entry(alloc: Global, entered: &Entered) -> Result<Entry, AllocError> {
+    match entered {
+        Entered::Circle(diameter, hole) => Ok(Entry::Aperture(Aperture::Circle {
+            diameter: Nm(*diameter),
+            hole: Nm(*hole),
+        })),
+        Entered::Rect(width, height, hole) => Ok(Entry::Aperture(Aperture::Rect {
+            width: Nm(*width),
+            height: Nm(*height),
+            hole: Nm(*hole),
+        })),
+        Entered::Obround(width, height, hole) => Ok(Entry::Aperture(Aperture::Obround {
+            width: Nm(*width),
+            height: Nm(*height),
+            hole: Nm(*hole),
+        })),
+        Entered::Block(drawn) => Ok(Entry::Block(objects(alloc, drawn)?)),
+        Entered::Many(times, drawn) => Ok(Entry::Block(copies(alloc, *times, drawn)?)),
+    }
+}
+
+fn repeat(columns: u32, rows: u32, (i, j): At, objects: Objects) -> Item {
+    Item::Repeat {
+        columns,
+        rows,
+        i,
+        j,
+        objects,
+    }
+}
+
+pub fn item(alloc: Global, listed: &Listed) -> Result<Item, AllocError> {
+    match listed {
+        Listed::One(drawn) => Ok(Item::One(object(alloc, drawn)?)),
+        Listed::Repeat(columns, rows, steps, drawn) => {
+            Ok(repeat(*columns, *rows, *steps, objects(alloc, drawn)?))
+        }
+        Listed::Repeats(columns, rows, steps, times, drawn) => {
+            Ok(repeat(*columns, *rows, *steps, copies(alloc, *times, drawn)?))
+        }
+    }
+}
+
+/// No entry and no item.
+fn no_layer(alloc: Global) -> Layer
+    ensures { IsSound result }
+{
+    Layer::new(alloc)
+}
+
+/// The layer with the entry behind the others; `None` where it may not be added.
+fn with_entry(mut layer: Layer, number: u32, entry: Entry) -> Result<Option<Layer>, AllocError>
+    requires { IsSound layer }
+    ensures { IfOk result (λ made. IfSome made IsSound) }
+{
+    layers_stay_sound();
+    if !layer.check_entry(number, &entry) {
+        return Ok(None);
+    }
+    layer.add_entry(number, entry)?;
+    Ok(Some(layer))
+}
+
+/// A layer of these entries, without an item; `None` where one may not be added.
+pub fn dictionary(alloc: Global, entries: Entries) -> Result<Option<Layer>, AllocError>
+    ensures { IfOk result (λ made. IfSome made IsSound) }
+{
+    let mut layer = no_layer(alloc);
+    for (number, entered) in entries {
+        let Some(longer) = with_entry(layer, *number, entry(alloc, entered)?)? else {
+            return Ok(None);
+        };
+        layer = longer;
+    }
+    Ok(Some(layer))
+}
+
+/// The layer with the item behind the others; `None` where it is refused.
+fn with_item(mut layer: Layer, item: Item) -> Result<Option<Layer>, AllocError>
+    requires { IsSound layer }
+    ensures { IfOk result (λ made. IfSome made IsSound) }
+{
+    layers_stay_sound();
+    if layer.check_item(&item).is_err() {
+        return Ok(None);
+    }
+    if !layer.has_room(&item) {
+        return Ok(None);
+    }
+    layer.push(item)?;
+    Ok(Some(layer))
+}
+
+/// The layer of these entries and items; `None` where one of them is refused.
+pub fn layer(alloc: Global, entries: Entries, items: &[Listed]) -> Result<Option<Layer>, AllocError>
+    ensures { IfOk result (λ made. IfSome made IsSound) }
+{
+    let Some(mut layer) = dictionary(alloc, entries)? else {
+        return Ok(None);
+    };
+    for listed in items {
+        let Some(longer) = with_item(layer, item(alloc, listed)?)? else {
+            return Ok(None);
+        };
+        layer = longer;
+    }
+    Ok(Some(layer))
+}

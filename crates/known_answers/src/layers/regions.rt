@@ -1,0 +1,398 @@
+//! Regions, and places that are black or not: painted by an independent program.
+
+use crate::layers::rows::{Drawn, Entered, Listed, Picture, Side};
+use Drawn::{Flash, Region};
+use Entered::Circle;
+use Listed::One;
+use Side::{Curve, Line};
+use Turn::R0;
+use cam_units::Turn;
+
+pub const REGIONS: &[Picture] = &[
+    // a square: its lower and its left side are its own, and of its corners the lower left one
+    Picture {
+        entries: &[],
+        items: &[One(Region(
+            (0, 0),
+            &[Line((4, 0)), Line((4, 4)), Line((0, 4)), Line((0, 0))],
+            true,
+        ))],
+        black: &[(0, 0), (0, 4), (4, 0), (7, 7)],
+        white: &[(8, 0), (8, 8), (0, 8), (8, 4), (4, 8), (-1, 4), (4, -1)],
+    },
+    // clockwise, and left open
+    Picture {
+        entries: &[],
+        items: &[One(Region((0, 0), &[Line((0, 4)), Line((4, 4)), Line((4, 0))], true))],
+        black: &[(0, 0), (0, 4), (4, 0), (7, 7)],
+        white: &[(8, 0), (8, 8), (0, 8), (8, 4), (4, 8), (-1, 4), (4, -1)],
+    },
+    // full circles: a place of the circle is inside left of its centre, and under it
+    Picture {
+        entries: &[],
+        items: &[One(Region((25, 0), &[Curve((25, 0), (0, 0), true)], true))],
+        black: &[
+            (0, 0),
+            (-50, 0),
+            (0, -50),
+            (-30, 40),
+            (-30, -40),
+            (-49, 0),
+            (49, 0),
+            (0, 49),
+            (0, -49),
+        ],
+        white: &[(50, 0), (0, 50), (30, 40), (30, -40), (-51, 0)],
+    },
+    Picture {
+        entries: &[],
+        items: &[One(Region((0, -25), &[Curve((0, -25), (0, 0), false)], true))],
+        black: &[
+            (0, 0),
+            (-50, 0),
+            (0, -50),
+            (-30, 40),
+            (-30, -40),
+            (-49, 0),
+            (49, 0),
+            (0, 49),
+            (0, -49),
+        ],
+        white: &[(50, 0), (0, 50), (30, 40), (30, -40), (-51, 0)],
+    },
+    // the upper half, each way: its chord is its own
+    Picture {
+        entries: &[],
+        items: &[One(Region((25, 0), &[Curve((-25, 0), (0, 0), true)], true))],
+        black: &[(0, 0), (-50, 0), (-30, 40), (-49, 0), (49, 0), (0, 49)],
+        white: &[
+            (50, 0),
+            (0, 50),
+            (0, -50),
+            (30, 40),
+            (-30, -40),
+            (30, -40),
+            (0, -49),
+            (-51, 0),
+        ],
+    },
+    Picture {
+        entries: &[],
+        items: &[One(Region((-25, 0), &[Curve((25, 0), (0, 0), false)], true))],
+        black: &[(0, 0), (-50, 0), (-30, 40), (-49, 0), (49, 0), (0, 49)],
+        white: &[
+            (50, 0),
+            (0, 50),
+            (0, -50),
+            (30, 40),
+            (-30, -40),
+            (30, -40),
+            (0, -49),
+            (-51, 0),
+        ],
+    },
+    // the lower half has not the chord
+    Picture {
+        entries: &[],
+        items: &[One(Region((-25, 0), &[Curve((25, 0), (0, 0), true)], true))],
+        black: &[(0, -50), (-30, -40), (0, -49)],
+        white: &[
+            (0, 0),
+            (-50, 0),
+            (50, 0),
+            (0, 50),
+            (30, 40),
+            (-30, 40),
+            (30, -40),
+            (-49, 0),
+            (49, 0),
+            (0, 49),
+            (-51, 0),
+        ],
+    },
+    Picture {
+        entries: &[],
+        items: &[One(Region((25, 0), &[Curve((-25, 0), (0, 0), false)], true))],
+        black: &[(0, -50), (-30, -40), (0, -49)],
+        white: &[
+            (0, 0),
+            (-50, 0),
+            (50, 0),
+            (0, 50),
+            (30, 40),
+            (-30, 40),
+            (30, -40),
+            (-49, 0),
+            (49, 0),
+            (0, 49),
+            (-51, 0),
+        ],
+    },
+    // the right half has its chord, and the lower end of that
+    Picture {
+        entries: &[],
+        items: &[One(Region((0, -25), &[Curve((0, 25), (0, 0), true)], true))],
+        black: &[(0, 0), (0, -50), (49, 0), (0, 49), (0, -49)],
+        white: &[
+            (-50, 0),
+            (50, 0),
+            (0, 50),
+            (30, 40),
+            (-30, 40),
+            (-30, -40),
+            (30, -40),
+            (-49, 0),
+            (-51, 0),
+        ],
+    },
+    Picture {
+        entries: &[],
+        items: &[One(Region((0, 25), &[Curve((0, -25), (0, 0), false)], true))],
+        black: &[(0, 0), (0, -50), (49, 0), (0, 49), (0, -49)],
+        white: &[
+            (-50, 0),
+            (50, 0),
+            (0, 50),
+            (30, 40),
+            (-30, 40),
+            (-30, -40),
+            (30, -40),
+            (-49, 0),
+            (-51, 0),
+        ],
+    },
+    // the left half has not the chord
+    Picture {
+        entries: &[],
+        items: &[One(Region((0, 25), &[Curve((0, -25), (0, 0), true)], true))],
+        black: &[(-50, 0), (-30, 40), (-30, -40), (-49, 0)],
+        white: &[
+            (0, 0),
+            (50, 0),
+            (0, 50),
+            (0, -50),
+            (30, 40),
+            (30, -40),
+            (49, 0),
+            (0, 49),
+            (0, -49),
+            (-51, 0),
+        ],
+    },
+    Picture {
+        entries: &[],
+        items: &[One(Region((0, -25), &[Curve((0, 25), (0, 0), false)], true))],
+        black: &[(-50, 0), (-30, 40), (-30, -40), (-49, 0)],
+        white: &[
+            (0, 0),
+            (50, 0),
+            (0, 50),
+            (0, -50),
+            (30, 40),
+            (30, -40),
+            (49, 0),
+            (0, 49),
+            (0, -49),
+            (-51, 0),
+        ],
+    },
+    // a quarter with its corner, and three quarters with the way back to their centre
+    Picture {
+        entries: &[],
+        items: &[One(Region((0, 0), &[Line((25, 0)), Curve((0, 25), (0, 0), true)], true))],
+        black: &[
+            (0, 0),
+            (49, 0),
+            (0, 49),
+            (20, 20),
+            (10, 40),
+            (25, 25),
+            (40, 10),
+        ],
+        white: &[
+            (-50, 0),
+            (50, 0),
+            (0, 50),
+            (0, -50),
+            (30, 40),
+            (-30, 40),
+            (-30, -40),
+            (30, -40),
+            (-49, 0),
+            (0, -49),
+            (-51, 0),
+            (36, 36),
+        ],
+    },
+    Picture {
+        entries: &[],
+        items: &[One(Region((0, 0), &[Line((0, 25)), Curve((25, 0), (0, 0), true)], true))],
+        black: &[
+            (-50, 0),
+            (0, -50),
+            (-30, 40),
+            (-30, -40),
+            (-49, 0),
+            (0, -49),
+            (-20, -20),
+            (20, -20),
+            (-20, 20),
+        ],
+        white: &[
+            (0, 0),
+            (50, 0),
+            (0, 50),
+            (30, 40),
+            (30, -40),
+            (49, 0),
+            (0, 49),
+            (-51, 0),
+            (20, 20),
+            (10, 40),
+            (25, 25),
+            (40, 10),
+            (36, 36),
+        ],
+    },
+    // a corner cut out by an arc that is bent inwards
+    Picture {
+        entries: &[],
+        items: &[One(Region(
+            (0, 0),
+            &[
+                Line((50, 0)),
+                Line((50, 25)),
+                Curve((25, 50), (50, 50), false),
+                Line((0, 50)),
+            ],
+            true,
+        ))],
+        black: &[(0, 0), (50, 50), (69, 60), (59, 70), (99, 49), (64, 64)],
+        white: &[
+            (70, 60),
+            (60, 70),
+            (100, 50),
+            (50, 100),
+            (100, 49),
+            (75, 75),
+            (66, 66),
+        ],
+    },
+    // contours that cross themselves: what is enclosed twice is outside
+    Picture {
+        entries: &[],
+        items: &[One(Region((0, 0), &[Line((4, 4)), Line((4, 0)), Line((0, 4))], true))],
+        black: &[(1, 4), (4, 4), (7, 4), (6, 4), (5, 4), (2, 4), (0, 4)],
+        white: &[(0, 0), (4, 1), (4, 7)],
+    },
+    Picture {
+        entries: &[],
+        items: &[One(Region(
+            (0, 0),
+            &[
+                Line((8, 0)),
+                Line((8, 8)),
+                Line((0, 8)),
+                Line((0, 0)),
+                Line((8, 0)),
+                Line((8, 8)),
+                Line((0, 8)),
+            ],
+            true,
+        ))],
+        black: &[],
+        white: &[(0, 0), (1, 1), (8, 8)],
+    },
+    Picture {
+        entries: &[],
+        items: &[One(Region(
+            (0, 20),
+            &[
+                Line((12, -16)),
+                Line((-19, 6)),
+                Line((19, 6)),
+                Line((-12, -16)),
+            ],
+            true,
+        ))],
+        black: &[(0, 39), (0, 14), (0, 12), (20, -24)],
+        white: &[(0, 0), (0, 11), (0, -10), (0, -20), (-37, 12), (-38, 12)],
+    },
+    Picture {
+        entries: &[],
+        items: &[One(Region(
+            (25, 0),
+            &[Curve((25, 0), (0, 0), true), Curve((25, 0), (0, 0), false)],
+            true,
+        ))],
+        black: &[],
+        white: &[(0, 0), (-50, 0), (50, 0), (0, 50), (0, -50), (30, 40)],
+    },
+    Picture {
+        entries: &[],
+        items: &[One(Region(
+            (25, 0),
+            &[
+                Curve((25, 0), (0, 0), true),
+                Line((10, 0)),
+                Curve((10, 0), (0, 0), true),
+                Line((25, 0)),
+            ],
+            true,
+        ))],
+        black: &[(20, 0), (-21, 0), (0, 20), (0, 21), (-50, 0), (21, 0)],
+        white: &[(0, 0), (19, 0), (-20, 0), (0, -20), (50, 0)],
+    },
+    // a clear disc over a region, and a dark one over that; the region stays in the hole of a clear flash
+    Picture {
+        entries: &[(10, Circle(20, 0)), (11, Circle(8, 0)), (12, Circle(16, 8))],
+        items: &[
+            One(Region(
+                (-20, -20),
+                &[Line((20, -20)), Line((20, 20)), Line((-20, 20))],
+                true,
+            )),
+            One(Flash(10, (0, 0), R0, false)),
+            One(Flash(11, (0, 0), R0, true)),
+            One(Flash(12, (10, 10), R0, false)),
+        ],
+        black: &[
+            (0, 0),
+            (8, 0),
+            (21, 0),
+            (20, 20),
+            (20, 27),
+            (20, 37),
+            (-40, 0),
+            (0, -40),
+        ],
+        white: &[
+            (9, 0),
+            (20, 0),
+            (12, 16),
+            (13, 16),
+            (20, 28),
+            (20, 36),
+            (40, 0),
+            (20, 12),
+        ],
+    },
+    // the same hole in millimetres
+    Picture {
+        entries: &[(10, Circle(2_000_000, 1_000_000))],
+        items: &[
+            One(Region(
+                (0, 0),
+                &[
+                    Line((4_000_000, 0)),
+                    Line((4_000_000, 4_000_000)),
+                    Line((0, 4_000_000)),
+                ],
+                true,
+            )),
+            One(Flash(10, (2_000_000, 2_000_000), R0, false)),
+        ],
+        black: &[(4_000_000, 4_000_000), (7_000_000, 4_000_000)],
+        white: &[(5_500_000, 4_000_000), (8_500_000, 4_000_000)],
+    },
+];
