@@ -40,7 +40,11 @@ X0Y1000000I-1000000J0D01*\nM02*\n",
         entries: 1,
         items: 1,
         black: &[(1_080_000, 1_440_000), (1_800_000, 0)],
-        white: &[(1_080_000, 1_439_998), (-1_400_000, 1_400_000), (0, 2_200_002)],
+        white: &[
+            (1_080_000, 1_439_998),
+            (-1_400_000, 1_400_000),
+            (0, 2_200_002),
+        ],
     },
     // an end off the circle
     Board {
@@ -112,7 +116,12 @@ X-2000000Y2000000D03*\n%SR*%\nM02*\n",
         text: b"%FSLAX36Y36*%\n%MOMM*%\n%ADD10R,2X1X0.5*%\n%LR90*%\nD10*\nX0Y0D03*\nM02*\n",
         entries: 1,
         items: 1,
-        black: &[(-1_000_000, 2_000_000), (0, 1_000_000), (-1_000_000, 0), (1_000_000, -2_000_000)],
+        black: &[
+            (-1_000_000, 2_000_000),
+            (0, 1_000_000),
+            (-1_000_000, 0),
+            (1_000_000, -2_000_000),
+        ],
         white: &[(0, 0), (-1_000_000, 2_000_001)],
     },
     // old forms, inches, and a plot without its code
@@ -137,6 +146,33 @@ Y10000*\nM02*\n",
 
 /// A file that is none: its text, and the number and the place of its fault.
 const FAULTS: &[(&[u8], u8, usize)] = &[
+    (b"%FSLAX36Y36*%\n%MOMM*%\nX\x01Y0D03*\nM02*\n", 1, 22),
+    (b"%FSLAX36Y36*%\n%MOMM*%\nX0Y0D03", 2, 22),
+    (b"%FSLAX36Y36*%\n%MOMM*%\nY0X0D03*\nM02*\n", 3, 22),
+    (b"%FSLAX36Y36*%\n%MOMM*%\n%ADD9C,1*%\nM02*\n", 4, 22),
+    (b"%MOMM*%\n%ADD10C,1*%\nD10*\nX0Y0D03*\nM02*\n", 5, 25),
+    (b"%FSLAX37Y37*%\nM02*\n", 8, 0),
+    (b"%FSLAX36Y36*%\n%MOMM*%\nD10*\nM02*\n", 9, 22),
+    (
+        b"%FSLAX36Y36*%\n%MOMM*%\n%ADD10C,1*%\n%ADD10C,1*%\nM02*\n",
+        10,
+        34,
+    ),
+    (
+        b"%FSLAX36Y36*%\n%MOMM*%\n%AMA*5,1,8,0,0,1,0*%\n%ADD10A*%\nM02*\n",
+        12,
+        43,
+    ),
+    (
+        b"%FSLAX36Y36*%\n%MOMM*%\nG75*\n%ADD10C,1*%\nD10*\nG02*\nX0Y0I0J0D01*\nM02*\n",
+        18,
+        49,
+    ),
+    (
+        b"%FSLAX36Y36*%\n%MOMM*%\n%ADD10C,200.000001*%\nM02*\n",
+        24,
+        22,
+    ),
     (b"%FSLAX36Y36*%\n%MOMM*%\n%ADD10P,1X6*%\nM02*\n", 11, 22),
     (b"%FSLAX36Y36*%\n%MOMM*%\n%LR45*%\nM02*\n", 13, 22),
     (
@@ -144,7 +180,11 @@ const FAULTS: &[(&[u8], u8, usize)] = &[
         17,
         61,
     ),
-    (b"%FSLAX36Y36*%\n%MOMM*%\n%ADD10C,1*%\nD10*\nX0Y0D03*\n", 26, 48),
+    (
+        b"%FSLAX36Y36*%\n%MOMM*%\n%ADD10C,1*%\nD10*\nX0Y0D03*\n",
+        26,
+        48,
+    ),
     (b"%FSLAX36Y36*%\n%MOMM*%\nX0Y0D03*\nM02*\n", 15, 22),
     (b"%FSLAX36Y36*%\n%MOMM*%\nG36*\nX0Y0D03*\nM02*\n", 19, 27),
     (b"%ADD10C,1*%\nM02*\n", 6, 0),
@@ -168,13 +208,29 @@ const FAULTS: &[(&[u8], u8, usize)] = &[
         66,
     ),
     // two at one command: the lower is told
-    (b"%FSLAX36Y36*%\n%MOMM*%\nG36*\n%SRX2Y2I1000J0*%\nM02*\n", 22, 27),
+    (
+        b"%FSLAX36Y36*%\n%MOMM*%\nG36*\n%SRX2Y2I1000J0*%\nM02*\n",
+        22,
+        27,
+    ),
     (b"%FSLAX36Y36*%\n%MOMM*%\nG37*\nM02*\n", 20, 22),
     (b"%FSLAX36Y36*%\n%MOMM*%\n%LS2*%\nM02*\n", 14, 22),
     (b"%FSLAX36Y36*%\n%MOMM*%\n%AB*%\nM02*\n", 22, 22),
-    (b"%FSLAX36Y36*%\n%MOMM*%\n%ABD10*%\n%SRX2Y1I1J0*%\nM02*\n", 21, 31),
-    (b"%FSLAX36Y36*%\n%MOMM*%\n%ADD11R,1X1*%\nD11*\nX0Y0D01*\nM02*\n", 16, 41),
-    (b"%FSLAX36Y36*%\n%MOMM*%\n%AMA*1,1,2,0*%\n%ADD10A*%\nM02*\n", 29, 37),
+    (
+        b"%FSLAX36Y36*%\n%MOMM*%\n%ABD10*%\n%SRX2Y1I1J0*%\nM02*\n",
+        21,
+        31,
+    ),
+    (
+        b"%FSLAX36Y36*%\n%MOMM*%\n%ADD11R,1X1*%\nD11*\nX0Y0D01*\nM02*\n",
+        16,
+        41,
+    ),
+    (
+        b"%FSLAX36Y36*%\n%MOMM*%\n%AMA*1,1,2,0*%\n%ADD10A*%\nM02*\n",
+        29,
+        37,
+    ),
 ];
 
 /// Whether the places are all black, or all white.

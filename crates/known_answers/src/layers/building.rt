@@ -10,7 +10,7 @@ use cam_objects::{Contour, Entry, Item, Layer, Object, Objects, Seg, Segments, l
 use cam_units::{Nm, Point, Turn};
 use std::alloc::{AllocError, Global};
 
-pub fn point((x, y): At) -> Point {
+pub(crate) fn point((x, y): At) -> Point {
     Point { x, y }
 }
 
@@ -98,7 +98,7 @@ fn copies(alloc: Global, times: u32, drawn: &Drawn) -> Result<Objects, AllocErro
     Ok(Objects::from_vec(objects))
 }
 
-pub fn entry(alloc: Global, entered: &Entered) -> Result<Entry, AllocError> {
+pub(crate) fn entry(alloc: Global, entered: &Entered) -> Result<Entry, AllocError> {
     match entered {
         Entered::Circle(diameter, hole) => Ok(Entry::Aperture(Aperture::Circle {
             diameter: Nm(*diameter),
@@ -129,7 +129,7 @@ fn repeat(columns: u32, rows: u32, (i, j): At, objects: Objects) -> Item {
     }
 }
 
-pub fn item(alloc: Global, listed: &Listed) -> Result<Item, AllocError> {
+pub(crate) fn item(alloc: Global, listed: &Listed) -> Result<Item, AllocError> {
     match listed {
         Listed::One(drawn) => Ok(Item::One(object(alloc, drawn)?)),
         Listed::Repeat(columns, rows, steps, drawn) => {
@@ -162,7 +162,7 @@ fn with_entry(mut layer: Layer, number: u32, entry: Entry) -> Result<Option<Laye
 }
 
 /// A layer of these entries, without an item; `None` where one may not be added.
-pub fn dictionary(alloc: Global, entries: Entries) -> Result<Option<Layer>, AllocError>
+pub(crate) fn dictionary(alloc: Global, entries: Entries) -> Result<Option<Layer>, AllocError>
     ensures { IfOk result (λ made. IfSome made IsSound) }
 {
     let mut layer = no_layer(alloc);
@@ -192,7 +192,11 @@ fn with_item(mut layer: Layer, item: Item) -> Result<Option<Layer>, AllocError>
 }
 
 /// The layer of these entries and items; `None` where one of them is refused.
-pub fn layer(alloc: Global, entries: Entries, items: &[Listed]) -> Result<Option<Layer>, AllocError>
+pub(crate) fn layer(
+    alloc: Global,
+    entries: Entries,
+    items: &[Listed],
+) -> Result<Option<Layer>, AllocError>
     ensures { IfOk result (λ made. IfSome made IsSound) }
 {
     let Some(mut layer) = dictionary(alloc, entries)? else {
