@@ -10,7 +10,8 @@ use Rattle.cam_commands.specs.Syntax.{command_of}
 use Rattle.cam_layers.specs.Statements.{Statement, Says, NamesMacro, Uncut, IsSaidBy, Told, IsTold}
 use Rattle.cam_layers.specs.State.{Past}
 use Rattle.cam_layers.specs.Layers.{Content, layer_in}
-use Rattle.cam_layers.specs.Faults.{no_end, faults, least}
+use Rattle.cam_layers.specs.Faults.{faults, least}
+use Rattle.cam_layers.specs.FaultNumbers.{no_end}
 use Rattle.cam_layers.specs.Reading.{is_end, fault_of, Gives, Leads, Means}
 use Rattle.cam_layers.specs.Laws.{AreTold, AreEndless, behind, Holds, IsFault, IsNotBehind, TellsLeastFault, GivesFaultlessFiles, IsNoMemoryFault}
 use Rattle.cam_layers.proofs.Reading.{same_told}

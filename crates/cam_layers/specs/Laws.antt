@@ -19,7 +19,8 @@ use Rattle.cam_layers.specs.State.{Past, format_in, unit_in, dark_in, is_dark, m
 use Rattle.cam_layers.specs.Homes.{open_blocks, open_repeat, home}
 use Rattle.cam_layers.specs.Making.{contour_in}
 use Rattle.cam_layers.specs.Layers.{Content, macros_in, layer_in}
-use Rattle.cam_layers.specs.Faults.{no_end, faults, least, is_defined}
+use Rattle.cam_layers.specs.Faults.{faults, least, is_defined}
+use Rattle.cam_layers.specs.FaultNumbers.{no_end}
 use Rattle.cam_layers.specs.Reading.{is_end, fault_of, Leads, Means, content_of}
 
 -- ---- what a file means

@@ -3,6 +3,7 @@ pub mod State
 pub mod Homes
 pub mod Making
 pub mod Layers
+pub mod FaultNumbers
 pub mod Faults
 pub mod Reading
 pub mod Laws

@@ -8,7 +8,8 @@ use Rattle.cam_layers.specs.declared.read_fault.ReadFault.{ReadFault}
 use Rattle.cam_layers.specs.Statements.{Statement, Says, Told, IsTold}
 use Rattle.cam_layers.specs.State.{Past}
 use Rattle.cam_layers.specs.Layers.{Content, layer_in}
-use Rattle.cam_layers.specs.Faults.{no_end, faults, least}
+use Rattle.cam_layers.specs.Faults.{faults, least}
+use Rattle.cam_layers.specs.FaultNumbers.{no_end}
 
 abbrev pub is_end_command : Command → Bool
 is_end_command End = true

@@ -11,7 +11,8 @@ use Rattle.cam_layers.specs.declared.frames.OpenRepeat.{OpenRepeat}
 use Rattle.cam_layers.specs.Homes.{count_of}
 use Rattle.cam_layers.specs.declared.built.Built.{Built}
 use Rattle.cam_layers.specs.declared.stop.Stop.{Stop}
-use Rattle.cam_layers.specs.Faults.{are_on_board, count_limit, leaf_limit, out_of_board, too_much}
+use Rattle.cam_layers.specs.Faults.{are_on_board, count_limit, leaf_limit}
+use Rattle.cam_layers.specs.FaultNumbers.{out_of_board, too_much}
 use Rattle.cam_layers.specs.Machinery.Tracking.{Answers}
 
 -- an item has joined the others

@@ -32,7 +32,8 @@ use Rattle.cam_layers.specs.State.{Past, format_in, unit_in, dark_in, mirror_in,
 use Rattle.cam_layers.specs.Homes.{home, InBlock, InRepeat, Opened, open_blocks, open_repeat}
 use Rattle.cam_layers.specs.Making.{start_in, segments_in, region_in, made, objects_of}
 use Rattle.cam_layers.specs.Layers.{macros_in, entries_in, items_in, closed_repeat, closed_leaves, leaves_of, leaves_in}
-use Rattle.cam_layers.specs.Faults.{command_faults, faults, least, closing_faults, operated_faults, path_faults, is_arc, is_on_board, is_full, holds_of_one, too_much}
+use Rattle.cam_layers.specs.Faults.{command_faults, faults, least, closing_faults, operated_faults, path_faults, is_arc, is_on_board, is_full, holds_of_one}
+use Rattle.cam_layers.specs.FaultNumbers.{too_much}
 use Rattle.cam_layers.specs.Laws.{IsFaultless}
 use Rattle.cam_layers.specs.Machinery.OpenNumbers.{AreWithin}
 
