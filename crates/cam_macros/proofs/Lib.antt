@@ -15,3 +15,4 @@ pub mod ExpressionLemmas
 pub mod ReadingLemmas
 pub mod PartLemmas
 pub mod OneReading
+pub mod Parsed

@@ -26,12 +26,12 @@ pub record AreReadBefore (left all : List (List ℕ)) (items : List Tree) : Type
 pub fields_start : (all : List (List ℕ)) → AreReadBefore all all []
 fields_start all = record { forth = λ more h. h; back = λ trees h. (trees, h) }
 
-tail_read : (text : List ℕ) (left : List (List ℕ)) (more : List Tree) → AreExpressions (text ∷ left) more
+pub tail_read : (text : List ℕ) (left : List (List ℕ)) (more : List Tree) → AreExpressions (text ∷ left) more
     → (rest : List Tree) × AreExpressions left rest
 tail_read text left [] h = absurd h
 tail_read text left (tree ∷ more) h = (more, h.1)
 
-head_read : (text : List ℕ) (left : List (List ℕ)) (more : List Tree) → AreExpressions (text ∷ left) more
+pub head_read : (text : List ℕ) (left : List (List ℕ)) (more : List Tree) → AreExpressions (text ∷ left) more
     → (tree : Tree) × IsExpression text tree
 head_read text left [] h = absurd h
 head_read text left (tree ∷ more) h = (tree, h.0)
@@ -66,12 +66,12 @@ pub record ArePartsBefore (left all : List (List ℕ)) (items : List Part) : Typ
 pub parts_start : (all : List (List ℕ)) → ArePartsBefore all all []
 parts_start all = record { forth = λ more h. h; back = λ parts h. (parts, h) }
 
-tail_part : (piece : List ℕ) (left : List (List ℕ)) (more : List Part) → AreParts (piece ∷ left) more
+pub tail_part : (piece : List ℕ) (left : List (List ℕ)) (more : List Part) → AreParts (piece ∷ left) more
     → (rest : List Part) × AreParts left rest
 tail_part piece left [] h = absurd h
 tail_part piece left (part ∷ more) h = (more, h.1)
 
-head_part : (piece : List ℕ) (left : List (List ℕ)) (more : List Part) → AreParts (piece ∷ left) more
+pub head_part : (piece : List ℕ) (left : List (List ℕ)) (more : List Part) → AreParts (piece ∷ left) more
     → (part : Part) × IsPart piece part
 head_part piece left [] h = absurd h
 head_part piece left (part ∷ more) h = (part, h.0)

@@ -4,6 +4,7 @@ pub mod Tree
 pub mod Numbers
 pub mod Grammar
 pub mod Reading
+pub mod Parsing
 pub mod Arithmetic
 pub mod Expansion
 pub mod Answers

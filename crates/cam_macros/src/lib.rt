@@ -18,6 +18,6 @@ mod variables;
 pub use aperture_macro::{Macro, Name};
 pub use expression::{Expression, Operator};
 pub use fault::MacroFault;
-pub use laws::{texts_have_one_reading, texts_have_one_tree};
+pub use laws::{texts_are_parsed_by_the_grammar, texts_have_one_reading, texts_have_one_tree};
 pub use part::{Fields, Part, Parts};
 pub use primitive::{MacroPrimitive, Points, PrimShape, Prims};
