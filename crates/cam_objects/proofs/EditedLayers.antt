@@ -116,6 +116,7 @@ pub drill_edits : DrillEditLaw
 drill_edits = record {
   insert = λ ts before after item h good room. record {
     tools = h.tools;
+    distinct = h.distinct;
     items = all_with (IsSoundDrillItem ts) before after item good h.items;
     limits = record {
       few = subst (λ k. k ≤ 1000000) (length_behind drill_count_of before after item ∙ sym (length_at drill_count_of before after item)) room.few;
@@ -124,6 +125,7 @@ drill_edits = record {
   };
   remove = λ ts before after item h. record {
     tools = h.tools;
+    distinct = h.distinct;
     items = all_without (IsSoundDrillItem ts) before after item h.items;
     limits = record {
       few = omega (arith, h.limits.few, length_at drill_count_of before after item);
@@ -133,6 +135,7 @@ drill_edits = record {
   move = λ ts before after item by h inside.
       let there = shifted_drill_item by item in record {
         tools = h.tools;
+        distinct = h.distinct;
         items = all_with (IsSoundDrillItem ts) before after there (drill_kept ts by item (all_at (IsSoundDrillItem ts) before after item h.items) inside)
             (all_without (IsSoundDrillItem ts) before after item h.items);
         limits = record {

@@ -1,5 +1,7 @@
 -- Sound drill layers (XNC Format Specification, "Drilling" and "Routing").
-use Rattle.std.specs.Prelude.{◌≡◌, ℕ, ◌<◌, ◌≤◌, pos, ◌≤ℤ◌, Bool, IsTrue, List, [], ◌∷◌, ◌++◌, length, None, is_some, sum_by, All}
+use Rattle.std.specs.Prelude.{◌≡◌, ℕ, ◌<◌, ◌≤◌, pos, ◌≤ℤ◌, Bool, IsTrue, List, [], ◌∷◌, ◌++◌, length, None, is_some, nat_eq, sum_by, All}
+use Rattle.std.specs.List.{IsDistinct}
+use Rattle.std.specs.Map.{keys_of}
 use Rattle.cam_units.specs.Board.{IsOnBoard}
 use Rattle.cam_units.specs.declared.length.Nm.{Nm}
 use Rattle.cam_units.specs.declared.point.Point.{Point}
@@ -63,9 +65,10 @@ pub record KeepsDrillLimits (items : List DrillItem) : Type 0 where
   pub few : length items ≤ 1000000
   pub leaves : sum_by drill_count_of items ≤ 4000000
 
--- every tool and every item is sound, and no limit is passed
+-- every tool and every item is sound, no tool's number stands twice, and no limit is passed
 pub record IsSoundDrillContent (ts : List (ℕ × Nm)) (is : List DrillItem) : Type 0 where
   pub tools : All (λ (t : ℕ × Nm). IsSoundTool t.0 t.1) ts
+  pub distinct : IsDistinct nat_eq (keys_of ts)
   pub items : All (IsSoundDrillItem ts) is
   pub limits : KeepsDrillLimits is
 

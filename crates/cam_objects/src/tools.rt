@@ -1,8 +1,8 @@
 //! The tools of a drill layer.
 
-ghost use Rattle.std.specs.Prelude.{◌≡◌, ◌==◌, ◌++◌, ◌∷◌, [], None, IfOk, OnErr, OnOk, length, nat_eq, slice_get};
+ghost use Rattle.std.specs.Prelude.{◌≡◌, ◌==◌, ◌++◌, ◌∷◌, [], None, Some, IfOk, IsSome, OnErr, OnOk, length, nat_eq, slice_get};
 ghost use Rattle.std.specs.List.{IsDistinct};
-ghost use Rattle.std.specs.Map.{keys_of};
+ghost use Rattle.std.specs.Map.{keys_of, set_value};
 ghost use Rattle.cam_objects.specs.Drilling.{diameter_of};
 
 use cam_units::Nm;
@@ -82,6 +82,15 @@ impl Tools {
     {
         self.map.insert(tool, diameter)?;
         Ok(())
+    }
+
+    /// Gives a tool another diameter, in its place in the order. The answer is the diameter before. Takes no memory.
+    pub fn replace(&mut self, tool: u16, diameter: Nm) -> Nm
+        requires { IsSome (diameter_of self.old tool) }
+        ensures tools { self.new ≡ set_value (nat_eq tool) self.old diameter }
+        ensures before { diameter_of self.old tool ≡ Some result }
+    {
+        self.map.insert(tool, diameter).unwrap().unwrap()
     }
 
     /// A copy; an error where no memory is left for it.

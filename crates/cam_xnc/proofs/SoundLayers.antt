@@ -1,8 +1,8 @@
 -- The layers that files give are sound.
 use Rattle.std.proofs.Common.{◌≡◌, ℕ, ◌+◌, ◌<◌, ◌≤◌, List, [], ◌∷◌, ◌++◌, length, Bool, true, false, cond, not, eqb, leb, ltb, nat_eq, Option, Some, None, refl, arith, lit≤, is_some, is_none, length-append}
 use Rattle.std.specs.Prelude.{ℤ, pos, negsuc, ◌&&◌, ◌||◌, unwrap_or, IfSome, unsigned_abs, sum_by}
-use Rattle.std.specs.List.{All}
-use Rattle.std.specs.Map.{lookup}
+use Rattle.std.specs.List.{All, IsDistinct}
+use Rattle.std.specs.Map.{keys_of, lookup}
 use Rattle.std.proofs.lemmas.Int.{ints}
 use Rattle.std.proofs.lemmas.Bool.{leb-true, leb-false, ltb-true}
 use Rattle.std.proofs.lemmas.List.Elements.{All-append, All-cons, All-nil, All-weaker}
@@ -15,6 +15,7 @@ use Rattle.cam_objects.specs.declared.drill_item.DrillItem.TheVariants.{Hit, Rou
 use Rattle.cam_objects.specs.declared.item_fault.ItemFault.TheVariants.{Malformed as NoPoints, UnknownAperture, UnknownTool, WrongAperture, ZeroRadius, OutOfBoard, TooMuch}
 use Rattle.cam_objects.specs.Drilling.{diameter_of}
 use Rattle.cam_objects.specs.DrillSoundness.{IsSoundTool, IsSoundDrillItem, drill_count_of, tool_of}
+use Rattle.cam_objects.proofs.SoundDrilling.{distinct_more}
 use Rattle.cam_xnc.specs.declared.statement.Coordinate.{Coordinate}
 use Rattle.cam_xnc.specs.declared.statement.Statement.TheVariants.{Declare, Select, DrillMode, HitAt, RoutTo, Lower, CutTo, Raise}
 use Rattle.cam_xnc.specs.DrillState.{Past, unit_in, mode_in, tool_in, point_in, length_nm, tools_in, points_in, hit_of, rout_of, items_in, leaves_in}
@@ -30,6 +31,7 @@ IsKnown tools (Some n) = is_some (diameter_of tools n) ≡ true
 -- what faultless lines leave
 pub record IsSoundPast (past : Past) : Type 0 where
   pub tools : All (λ (e : ℕ × Nm). IsSoundTool e.0 e.1) (tools_in past)
+  pub distinct : IsDistinct nat_eq (keys_of (tools_in past))
   pub items : All (IsSoundDrillItem (tools_in past)) (items_in past)
   pub few : length (items_in past) ≤ 1000000
   pub leaves : leaves_in past ≤ 4000000
@@ -51,6 +53,10 @@ fails false n o h = (refl, h)
 passes : (table : Table) → first_of table ≡ None → AllFail table
 passes [] h = tt
 passes (fault ∷ table) h = let both = fails fault.1 fault.0 (first_of table) h in (both.0, passes table both.1)
+
+none_of : {A : Type 0} (o : Option A) → is_some o ≡ false → o ≡ None
+none_of None h = refl
+none_of (Some x) h = absurd cc
 
 told : (b : Bool) → not b ≡ false → b ≡ true
 told true h = refl
@@ -139,6 +145,7 @@ declare_step past (Some n) (Some d) s h small =
     let pass = passes (header_faults past (Declare (Some n) (Some d))) h in
     record {
       tools = one_more (λ (e : ℕ × Nm). IsSoundTool e.0 e.1) (tools_in past) (n, record { 0 = length_nm (unit_in past) d }) s.tools (sound_tool n (length_nm (unit_in past) d) small pass.1.1.0);
+      distinct = distinct_more (tools_in past) n (record { 0 = length_nm (unit_in past) d }) s.distinct (none_of (diameter_of (tools_in past) n) pass.1.1.1.0);
       items = All-weaker (IsSoundDrillItem (tools_in past)) (IsSoundDrillItem (tools_in past ++ (n, record { 0 = length_nm (unit_in past) d }) ∷ [])) (sound_more (tools_in past) ((n, record { 0 = length_nm (unit_in past) d }) ∷ [])) (items_in past) s.items;
       few = s.few;
       leaves = s.leaves;
@@ -161,6 +168,7 @@ select_step past (Some n) s h =
     let pass = passes (body_faults past (Select (Some n))) h in
     record {
       tools = s.tools;
+      distinct = s.distinct;
       items = s.items;
       few = s.few;
       leaves = s.leaves;
@@ -172,7 +180,7 @@ select_step past (Some n) s h =
     }
 
 pub drill_mode_step : (past : Past) → IsSoundPast past → IsSoundPast (DrillMode ∷ past)
-drill_mode_step past s = record { tools = s.tools; items = s.items; few = s.few; leaves = s.leaves; at = s.at; points = s.points; room = s.room; lowered = λ low. absurd (let wrong : false ≡ true = low in cc); tool = s.tool }
+drill_mode_step past s = record { tools = s.tools; distinct = s.distinct; items = s.items; few = s.few; leaves = s.leaves; at = s.at; points = s.points; room = s.room; lowered = λ low. absurd (let wrong : false ≡ true = low in cc); tool = s.tool }
 
 pub hit_step : (past : Past) (x y : Coordinate) → IsSoundPast past → first_of (body_faults past (HitAt x y)) ≡ None → IsSoundPast (HitAt x y ∷ past)
 hit_step past x y s h =
@@ -183,6 +191,7 @@ hit_step past x y s h =
     let known = known_number (tools_in past) (tool_in past) s.tool pass.1.1.1.0 in
     record {
       tools = s.tools;
+      distinct = s.distinct;
       items = one_more (IsSoundDrillItem (tools_in past)) (items_in past) (hit_of past (point_in (HitAt x y ∷ past))) s.items (sound_hit (tools_in past) (unwrap_or (tool_in past) 0) (point_in (HitAt x y ∷ past)) known on);
       few = few_more past (hit_of past (point_in (HitAt x y ∷ past))) room;
       leaves = leaves_more past (hit_of past (point_in (HitAt x y ∷ past))) room;
@@ -205,12 +214,12 @@ hit_step past x y s h =
 pub rout_step : (past : Past) (x y : Coordinate) → IsSoundPast past → first_of (body_faults past (RoutTo x y)) ≡ None → IsSoundPast (RoutTo x y ∷ past)
 rout_step past x y s h =
     let pass = passes (body_faults past (RoutTo x y)) h in
-    record { tools = s.tools; items = s.items; few = s.few; leaves = s.leaves; at = on_board (point_in (RoutTo x y ∷ past)) pass.1.0; points = s.points; room = s.room; lowered = λ low. absurd (let wrong : false ≡ true = low in cc); tool = s.tool }
+    record { tools = s.tools; distinct = s.distinct; items = s.items; few = s.few; leaves = s.leaves; at = on_board (point_in (RoutTo x y ∷ past)) pass.1.0; points = s.points; room = s.room; lowered = λ low. absurd (let wrong : false ≡ true = low in cc); tool = s.tool }
 
 pub lower_step : (past : Past) → IsSoundPast past → first_of (body_faults past Lower) ≡ None → IsSoundPast (Lower ∷ past)
 lower_step past s h =
     let pass = passes (body_faults past Lower) h in
-    record { tools = s.tools; items = s.items; few = s.few; leaves = s.leaves; at = s.at; points = All-cons IsOnBoard (point_in past) [] s.at (All-nil IsOnBoard); room = lit≤ tt; lowered = λ low. (omega arith, pass.0); tool = s.tool }
+    record { tools = s.tools; distinct = s.distinct; items = s.items; few = s.few; leaves = s.leaves; at = s.at; points = All-cons IsOnBoard (point_in past) [] s.at (All-nil IsOnBoard); room = lit≤ tt; lowered = λ low. (omega arith, pass.0); tool = s.tool }
 
 pub cut_step : (past : Past) (x y : Coordinate) → IsSoundPast past → first_of (body_faults past (CutTo x y)) ≡ None → IsSoundPast (CutTo x y ∷ past)
 cut_step past x y s h =
@@ -221,6 +230,7 @@ cut_step past x y s h =
     let size = length-append (points_in past) (point_in (CutTo x y ∷ past) ∷ []) in
     record {
       tools = s.tools;
+      distinct = s.distinct;
       items = s.items;
       few = s.few;
       leaves = s.leaves;
@@ -239,6 +249,7 @@ raise_step past s h =
     let known = known_number (tools_in past) (tool_in past) s.tool (s.lowered lowered).1 in
     record {
       tools = s.tools;
+      distinct = s.distinct;
       items = one_more (IsSoundDrillItem (tools_in past)) (items_in past) (rout_of past) s.items (sound_rout (tools_in past) (unwrap_or (tool_in past) 0) (points_in past) known (s.lowered lowered).0 s.points s.room);
       few = few_more past (rout_of past) room;
       leaves = leaves_more past (rout_of past) room;

@@ -1,7 +1,7 @@
 -- The layer of a file is sound: each of its lines keeps the layer so.
-use Rattle.std.proofs.Common.{◌≡◌, ℕ, List, [], ◌∷◌, Bool, true, false, cond, Option, Some, None, Result, Ok, Err, refl, sym, ◌∙◌, subst, lit≤, lit<, length}
+use Rattle.std.proofs.Common.{◌≡◌, ℕ, List, [], ◌∷◌, Bool, true, false, cond, Option, Some, None, Result, Ok, Err, refl, sym, ◌∙◌, subst, lit≤, lit<, length, nat_eq}
 use Rattle.std.specs.Option.{option_map}
-use Rattle.std.specs.List.{list_any}
+use Rattle.std.specs.List.{IsDistinct, list_any}
 use Rattle.std.proofs.lemmas.List.Elements.{All-nil}
 use Rattle.cam_units.specs.Board.{IsOnBoard}
 use Rattle.cam_objects.specs.DrillSoundness.{IsSoundDrillContent}
@@ -27,7 +27,7 @@ told_one : {code : ℕ} → Some code ≡ None → ⊥
 told_one e = absurd cc
 
 step : (part : Part) (past : Past) (says : Statement) → IsSoundPast past → HasToolNumber says → first_of (faults_by part past says) ≡ None → IsSoundPast (says ∷ past)
-step Start past BeginHeader s n h = record { tools = s.tools; items = s.items; few = s.few; leaves = s.leaves; at = s.at; points = s.points; room = s.room; lowered = s.lowered; tool = s.tool }
+step Start past BeginHeader s n h = record { tools = s.tools; distinct = s.distinct; items = s.items; few = s.few; leaves = s.leaves; at = s.at; points = s.points; room = s.room; lowered = s.lowered; tool = s.tool }
 step Start past (SetUnit unit) s n h = absurd (told_one h)
 step Start past (Declare number diameter) s n h = absurd (told_one h)
 step Start past Neutral s n h = absurd (told_one h)
@@ -43,10 +43,10 @@ step Start past CutArc s n h = absurd (told_one h)
 step Start past End s n h = absurd (told_one h)
 step Start past Unknown s n h = absurd (told_one h)
 step Header past BeginHeader s n h = absurd (told_one h)
-step Header past (SetUnit unit) s n h = record { tools = s.tools; items = s.items; few = s.few; leaves = s.leaves; at = s.at; points = s.points; room = s.room; lowered = s.lowered; tool = s.tool }
+step Header past (SetUnit unit) s n h = record { tools = s.tools; distinct = s.distinct; items = s.items; few = s.few; leaves = s.leaves; at = s.at; points = s.points; room = s.room; lowered = s.lowered; tool = s.tool }
 step Header past (Declare number diameter) s n h = declare_step past number diameter s h n
-step Header past Neutral s n h = record { tools = s.tools; items = s.items; few = s.few; leaves = s.leaves; at = s.at; points = s.points; room = s.room; lowered = s.lowered; tool = s.tool }
-step Header past EndHeader s n h = record { tools = s.tools; items = s.items; few = s.few; leaves = s.leaves; at = s.at; points = s.points; room = s.room; lowered = s.lowered; tool = s.tool }
+step Header past Neutral s n h = record { tools = s.tools; distinct = s.distinct; items = s.items; few = s.few; leaves = s.leaves; at = s.at; points = s.points; room = s.room; lowered = s.lowered; tool = s.tool }
+step Header past EndHeader s n h = record { tools = s.tools; distinct = s.distinct; items = s.items; few = s.few; leaves = s.leaves; at = s.at; points = s.points; room = s.room; lowered = s.lowered; tool = s.tool }
 step Header past (Select number) s n h = absurd (told_one h)
 step Header past DrillMode s n h = absurd (told_one h)
 step Header past (HitAt x y) s n h = absurd (told_one h)
@@ -60,7 +60,7 @@ step Header past Unknown s n h = absurd (told_one h)
 step Body past BeginHeader s n h = absurd (told_one h)
 step Body past (SetUnit unit) s n h = absurd (told_one h)
 step Body past (Declare number diameter) s n h = absurd (told_one h)
-step Body past Neutral s n h = record { tools = s.tools; items = s.items; few = s.few; leaves = s.leaves; at = s.at; points = s.points; room = s.room; lowered = s.lowered; tool = s.tool }
+step Body past Neutral s n h = record { tools = s.tools; distinct = s.distinct; items = s.items; few = s.few; leaves = s.leaves; at = s.at; points = s.points; room = s.room; lowered = s.lowered; tool = s.tool }
 step Body past EndHeader s n h = absurd (told_one h)
 step Body past (Select number) s n h = select_step past number s h
 step Body past DrillMode s n h = drill_mode_step past s
@@ -70,12 +70,17 @@ step Body past Lower s n h = lower_step past s h
 step Body past (CutTo x y) s n h = cut_step past x y s h
 step Body past Raise s n h = raise_step past s h
 step Body past CutArc s n h = absurd (told_one h)
-step Body past End s n h = record { tools = s.tools; items = s.items; few = s.few; leaves = s.leaves; at = s.at; points = s.points; room = s.room; lowered = s.lowered; tool = s.tool }
+step Body past End s n h = record { tools = s.tools; distinct = s.distinct; items = s.items; few = s.few; leaves = s.leaves; at = s.at; points = s.points; room = s.room; lowered = s.lowered; tool = s.tool }
 step Body past Unknown s n h = absurd (told_one h)
+
+no_keys : IsDistinct nat_eq []
+unfolding IsDistinct
+no_keys = tt
 
 at_start : IsSoundPast []
 at_start = record {
   tools = All-nil _;
+  distinct = no_keys;
   items = All-nil _;
   few = lit≤ tt;
   leaves = lit≤ tt;
@@ -106,7 +111,7 @@ IsSoundReading (Ok content) = IsSoundContent content
 IsSoundReading (Err fault) = Unit {0}
 
 sound_content : (past : Past) → IsSoundPast past → IsSoundContent (layer_in past)
-sound_content past s = record { tools = s.tools; items = s.items; limits = record { few = s.few; leaves = s.leaves } }
+sound_content past s = record { tools = s.tools; distinct = s.distinct; items = s.items; limits = record { few = s.few; leaves = s.leaves } }
 
 sound_from : (len : ℕ) (lines : List FoundLine) (past : Past) → IsSoundPast past → IsSoundReading (goes_on len past lines)
 sound_from len [] past s = go (fault_at len (end_faults past))
