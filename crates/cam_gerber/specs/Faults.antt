@@ -1,127 +1,337 @@
--- The faults of a command after its past.
-use Rattle.std.specs.List.{AllByRecursion}
+-- The faults of a command behind its past.
+use Rattle.std.specs.Prelude.{ℕ, ◌+◌, ℤ, pos, List, [], ◌∷◌, ◌++◌, length, min, codes, Option, Some, None, Result, Ok, Err, Bool, true, false, ◌||◌, ◌&&◌, ◌==◌, not, nat_le, nat_lt, nat_eq, is_some, is_none, unsigned_abs, if◌then◌else◌}
+use Rattle.std.specs.List.{list_all, list_any}
 use Rattle.std.specs.Map.{lookup}
-use Rattle.std.specs.Prelude.{◌≡◌, ◌≤◌, ℕ, ℤ, pos, negsuc, List, [], ◌∷◌, length, Option, Some, None, Bool, true, false, ◌||◌, not, nat_eq, nat_le, is_some, is_none, if◌then◌else◌}
-use Rattle.cam_units.specs.Board.{size_limit}
+use Rattle.std.specs.Ordering.{int_eq}
+use Rattle.std.specs.Str.{bytes_eq}
 use Rattle.cam_units.specs.declared.length.Unit.{Unit as FileUnit}
 use Rattle.cam_units.specs.declared.length.Unit.TheVariants.{Mm, Inch}
-use Rattle.cam_gerber.specs.declared.commands.Format.{Format}
-use Rattle.cam_gerber.specs.declared.commands.Coordinate.{Coordinate}
-use Rattle.cam_gerber.specs.declared.commands.Coordinate.TheVariants.{Omitted, Malformed, Written}
-use Rattle.cam_gerber.specs.declared.commands.Command.{Command}
-use Rattle.cam_gerber.specs.declared.commands.Command.TheVariants.{SetFormat, Refused, SetUnit, Define, Select, FlashAt, End, Nothing, Unknown}
-use Rattle.cam_objects.specs.Tests.{is_on_board}
-use Rattle.cam_gerber.specs.Syntax.{same_format}
-use Rattle.cam_gerber.specs.GraphicsState.{Past, format_in, unit_in, aperture_in, point_in, apertures_in, flashes_in, size_nm}
+use Rattle.cam_units.specs.declared.point.Point.{Point}
+use Rattle.cam_macros.specs.Expansion.{rotation}
+use Rattle.cam_macros.specs.Reading.{is_name}
+use Rattle.cam_apertures.specs.Definition.{Table, definition_of, numbered, named, faults_of}
+use Rattle.cam_objects.specs.declared.object.Object.{Object}
+use Rattle.cam_objects.specs.declared.item.Item.{Item}
+use Rattle.cam_objects.specs.declared.item.Item.TheVariants as item
+use Rattle.cam_objects.specs.Leaves.{Leaf, item_leaves, meaning_in}
+use Rattle.cam_objects.specs.Soundness.{points_of_shape}
+use Rattle.cam_objects.specs.Weights.{object_count, object_depth, weight_in}
+use Rattle.cam_commands.specs.declared.parts.Format.{Format}
+use Rattle.cam_commands.specs.declared.parts.Slot.{Slot}
+use Rattle.cam_commands.specs.declared.parts.Slot.TheVariants.{Omitted, Malformed, Written}
+use Rattle.cam_commands.specs.declared.parts.Mode.{Mode}
+use Rattle.cam_commands.specs.declared.parts.Mode.TheVariants.{Linear, Clockwise, Counterclockwise}
+use Rattle.cam_commands.specs.declared.parts.Operation.{Operation}
+use Rattle.cam_commands.specs.declared.parts.OperationCode.{OperationCode}
+use Rattle.cam_commands.specs.declared.parts.OperationCode.TheVariants.{Plot, Move, Flash}
+use Rattle.cam_commands.specs.declared.parts.Repeat.{Repeat}
+use Rattle.cam_commands.specs.Commands.{Command, SetFormat, RefusedFormat, SetUnit, DefineAperture, SetPolarity, SetMirror, SetRotation, SetScale, OpenBlock, CloseBlock, SetRepeat, CloseRepeat, NeutralOld, RefusedOld, BeginRegion, EndRegion, Select, Operate, End, Unknown, is_style_extended}
+use Rattle.cam_commands.specs.ExtendedCommands.{is_same_format}
+use Rattle.cam_gerber.specs.FaultNumbers.{
+  unknown_command,
+  bad_number,
+  no_format,
+  no_unit,
+  set_again,
+  format_refused,
+  unknown_aperture,
+  redefined,
+  rotation_refused,
+  scale_refused,
+  none_selected,
+  wrong_aperture,
+  arc_mode,
+  zero_radius,
+  flash_in_region,
+  not_in_region,
+  nested_repeat,
+  stray_block,
+  out_of_board,
+  too_much,
+  old_refused,
+  macro_fault,
+}
+use Rattle.cam_gerber.specs.Statements.{Statement, Says, NamesMacro, Uncut}
+use Rattle.cam_gerber.specs.State.{Past, format_in, unit_in, aperture_in, mode_in, has_arcs, in_region, code_of, code_in, point_in, centre_of, unit_or_mm}
+use Rattle.cam_gerber.specs.Homes.{Home, InBlock, InRepeat, InLayer, open_blocks, open_repeat, home, is_repeated, step_of}
+use Rattle.cam_gerber.specs.Making.{segments_in, region_in, stroke_of, flash_of, objects_of}
+use Rattle.cam_gerber.specs.Layers.{macros_in, entries_in, items_in, closed_repeat, closed_leaves, leaves_of, leaves_in}
 
--- a word or an extended command of no known form
-abbrev pub unknown_command : ℕ
-unknown_command = 3
+-- ---- limits
 
--- a number that does not fit its grammar
-abbrev pub bad_number : ℕ
-bad_number = 4
+-- items of a layer, objects of a block or a repeat, segments of a contour
+abbrev pub count_limit : ℕ
+count_limit = 1000000
 
--- a coordinate before the format
-abbrev pub no_format : ℕ
-no_format = 5
+-- leaves of a layer, and of a block
+abbrev pub leaf_limit : ℕ
+leaf_limit = 4000000
 
--- a coordinate or a size before the unit
-abbrev pub no_unit : ℕ
-no_unit = 6
+-- blocks in one another, open or flashed
+abbrev pub depth_limit : ℕ
+depth_limit = 8
 
--- the format or the unit set to another value
-abbrev pub set_again : ℕ
-set_again = 7
+-- under a metre in absolute value
+abbrev pub is_short : ℤ → Bool
+is_short n = nat_lt (unsigned_abs n) 1000000000
 
--- a format or a unit that is not read
-abbrev pub format_refused : ℕ
-format_refused = 8
+abbrev pub is_on_board : Point → Bool
+is_on_board p = is_short p.x && is_short p.y
 
--- the selection of an aperture that is not defined
-abbrev pub unknown_aperture : ℕ
-unknown_aperture = 9
+-- every control point of the leaves lies on the board
+abbrev pub are_on_board : List Leaf → Bool
+are_on_board leaves = list_all (λ leaf. list_all is_on_board (points_of_shape leaf.shape)) leaves
 
--- an aperture defined again
-abbrev pub redefined : ℕ
-redefined = 10
+-- where it stands in the file, an item has a leaf outside the board
+unfoldable pub is_outside : Past → Item → Bool
+is_outside past stands = not (are_on_board (item_leaves (meaning_in (entries_in past)) stands))
 
--- a flash without an aperture
-abbrev pub none_selected : ℕ
-none_selected = 15
+-- ---- what holds behind a past
 
--- a point outside the board
-abbrev pub out_of_board : ℕ
-out_of_board = 23
-
--- a negative size, or one past 200 mm
-abbrev pub size_refused : ℕ
-size_refused = 24
-
--- a flash past the limit
-abbrev pub too_much : ℕ
-too_much = 25
-
--- the first number whose test holds: the least, where the numbers ascend
-abbrev pub least : List (ℕ × Bool) → Option ℕ
-least [] = None
-least (fault ∷ others) = if fault.1 then Some fault.0 else least others
-
--- another value than this is set
 abbrev pub is_other_format : Option Format → Format → Bool
 is_other_format None format = false
-is_other_format (Some set) format = not (same_format set format)
+is_other_format (Some set) format = not (is_same_format set format)
+
+abbrev pub is_same_unit : FileUnit → FileUnit → Bool
+is_same_unit Mm Mm = true
+is_same_unit Mm Inch = false
+is_same_unit Inch Mm = false
+is_same_unit Inch Inch = true
 
 abbrev pub is_other_unit : Option FileUnit → FileUnit → Bool
 is_other_unit None unit = false
-is_other_unit (Some Mm) Mm = false
-is_other_unit (Some Mm) Inch = true
-is_other_unit (Some Inch) Mm = true
-is_other_unit (Some Inch) Inch = false
+is_other_unit (Some set) unit = not (is_same_unit set unit)
 
 -- the number is in the dictionary
-abbrev pub is_defined : Past → Option ℕ → Bool
-is_defined past None = false
-is_defined past (Some number) = is_some (lookup (nat_eq number) (apertures_in past))
+abbrev pub is_defined : Past → ℕ → Bool
+is_defined past n = is_some (lookup (nat_eq n) (entries_in past))
 
--- from 0 to 200 mm
-unfoldable pub is_size : ℤ → Bool
-is_size (pos n) = nat_le n size_limit
-is_size (negsuc n) = false
+-- or that of an open block
+abbrev pub is_taken : Past → ℕ → Bool
+is_taken past n = is_defined past n || list_any (λ m. m == n) (open_blocks past)
 
-abbrev pub is_malformed : Coordinate → Bool
-is_malformed Malformed = true
+abbrev pub is_taken_again : Past → Option ℕ → Bool
+is_taken_again past None = false
+is_taken_again past (Some n) = is_taken past n
+
+abbrev pub is_undefined : Past → Option ℕ → Bool
+is_undefined past None = false
+is_undefined past (Some n) = not (is_defined past n)
+
+-- the standard templates
+unfoldable pub is_reserved : List ℕ → Bool
+is_reserved name =
+    bytes_eq name (codes "C") || bytes_eq name (codes "R") || bytes_eq name (codes "O") || bytes_eq name (codes "P")
+
+-- the current aperture is no solid circle, where there is one
+abbrev pub is_unfit : Past → Option ℕ → Bool
+is_unfit past None = false
+is_unfit past (Some n) = is_none (meaning_in (entries_in past) n).width
+
+abbrev pub is_err : {A B : Type 0} → Result A B → Bool
+is_err (Ok a) = false
+is_err (Err b) = true
+
+-- no multiple of 90 degrees
+unfoldable pub is_no_quarter : ℤ → Bool
+is_no_quarter angle = is_err (rotation angle)
+
+abbrev pub holds_of : {A : Type 0} → (A → Bool) → Option A → Bool
+holds_of test None = false
+holds_of test (Some a) = test a
+
+abbrev pub is_empty : {A : Type 0} → List A → Bool
+is_empty [] = true
+is_empty (x ∷ xs) = false
+
+-- ---- counts
+
+-- the layer has no room for one item more, of so many leaves
+abbrev pub is_layer_full : Past → ℕ → Bool
+is_layer_full past leaves = nat_le count_limit (length (items_in past)) || nat_lt leaf_limit (leaves_in past + leaves)
+
+-- an open block has no room for one object more
+abbrev pub is_block_full : Past → ℕ → Object → Bool
+is_block_full past n object =
+    nat_le count_limit (length (objects_of (InBlock n) past))
+    || nat_lt leaf_limit (leaves_of (InBlock n) past + object_count (weight_in (entries_in past)) object)
+    || nat_le depth_limit (object_depth (weight_in (entries_in past)) object)
+
+-- the home of the next object has no room for it
+abbrev pub is_full : Home → Past → Object → Bool
+is_full (InBlock n) past object = is_block_full past n object
+is_full (InRepeat before) past object = nat_le count_limit (length (objects_of (InRepeat before) past))
+is_full InLayer past object = is_layer_full past (object_count (weight_in (entries_in past)) object)
+
+-- of what is made or closed, at most one, this holds
+abbrev pub holds_of_one : {A : Type 0} → (A → Bool) → List A → Bool
+holds_of_one test [] = false
+holds_of_one test (x ∷ xs) = test x
+
+-- ---- tables: numbers, each with the test that says whether it holds
+
+-- a command that is no part of a region
+abbrev pub in_region_fault : Past → Table
+in_region_fault past = (stray_block, in_region past) ∷ []
+
+-- the close of a repeat
+abbrev pub closing_faults : Past → Bool → Table
+closing_faults past short_steps =
+    (out_of_board, not short_steps || holds_of_one (is_outside past) (closed_repeat past))
+    ∷ (too_much, not (is_empty (closed_repeat past)) && is_layer_full past (closed_leaves past)) ∷ []
+
+abbrev pub is_malformed : {A : Type 0} → Slot A → Bool
 is_malformed Omitted = false
+is_malformed Malformed = true
 is_malformed (Written n) = false
 
--- how many flashes a layer may have
-abbrev pub flash_limit : ℕ
-flash_limit = 1000000
+abbrev pub has_short_steps : Past → Repeat → Bool
+has_short_steps past repeat = is_short (step_of past repeat.i) && is_short (step_of past repeat.j)
 
--- the tests of an operation that flashes
-abbrev pub flash_faults : Past → Coordinate → Coordinate → List (ℕ × Bool)
-flash_faults past x y =
-    (bad_number, is_malformed x || is_malformed y) ∷ (no_format, is_none (format_in past))
-    ∷ (no_unit, is_none (unit_in past)) ∷ (none_selected, is_none (aperture_in past))
-    ∷ (out_of_board, not (is_on_board (point_in (FlashAt x y ∷ past))))
-    ∷ (too_much, nat_le flash_limit (length (flashes_in past))) ∷ []
+abbrev pub repeat_faults : Past → Repeat → Table
+repeat_faults past repeat = (
+  bad_number,
+  is_malformed repeat.columns || is_malformed repeat.rows || is_malformed repeat.i
+      || is_malformed repeat.j,
+)
+    ∷ (no_unit, is_none (unit_in past))
+    ∷ (nested_repeat, is_repeated repeat && not (is_empty (open_blocks past)))
+    ∷ (stray_block, in_region past)
+    ∷ closing_faults past (has_short_steps past repeat)
 
--- the numbers of the faults that a command may have, ascending, each with its test
-abbrev pub faults : Past → Command → List (ℕ × Bool)
-faults past (SetFormat format) = (set_again, is_other_format (format_in past) format) ∷ []
-faults past Refused = (format_refused, true) ∷ []
-faults past (SetUnit unit) = (set_again, is_other_unit (unit_in past) unit) ∷ []
-faults past (Define number size) =
-    (bad_number, is_none number || is_none size) ∷ (no_unit, is_none (unit_in past))
-    ∷ (redefined, is_defined past number)
-    ∷ (size_refused, not (is_size (size_nm (unit_in past) size).0)) ∷ []
-faults past (Select number) = (bad_number, is_none number) ∷ (unknown_aperture, not (is_defined past number)) ∷ []
-faults past (FlashAt x y) = flash_faults past x y
-faults past End = []
-faults past Nothing = []
-faults past Unknown = (unknown_command, true) ∷ []
+abbrev pub is_written : {A : Type 0} → Slot A → Bool
+is_written Omitted = false
+is_written Malformed = true
+is_written (Written n) = true
 
--- of the faults of a command that hold, none has a lower number than the one that is told
-abbrev pub TellsLowest : Type 0
-TellsLowest = (past : Past) (command : Command) (n : ℕ) → least (faults past command) ≡ Some n
-    → AllByRecursion (λ fault. fault.1 ≡ true → n ≤ fault.0) (faults past command)
+abbrev pub has_coordinate : Operation → Bool
+has_coordinate operation =
+    is_written operation.x || is_written operation.y || is_written operation.i || is_written operation.j
+
+abbrev pub has_malformed : Operation → Bool
+has_malformed operation =
+    is_malformed operation.x || is_malformed operation.y || is_malformed operation.i || is_malformed operation.j
+
+abbrev pub is_plot : OperationCode → Bool
+is_plot Plot = true
+is_plot Move = false
+is_plot Flash = false
+
+-- coordinates alone, and the last operation was no plot
+abbrev pub lacks_code : Past → Operation → Bool
+lacks_code past operation = is_none operation.code && not (holds_of is_plot (code_in past))
+
+abbrev pub is_arc : Mode → Bool
+is_arc Linear = false
+is_arc Clockwise = true
+is_arc Counterclockwise = true
+
+abbrev pub is_same_point : Point → Point → Bool
+is_same_point p q = int_eq p.x q.x && int_eq p.y q.y
+
+-- a line or an arc, in a region or not
+abbrev pub path_faults : Bool → Bool → Point → Point → Point → Table
+path_faults arc arcs from to centre =
+    (arc_mode, arc && not arcs) ∷ (zero_radius, arc && is_same_point from centre)
+    ∷ (out_of_board, not (is_on_board to) || (arc && not (is_on_board centre))) ∷ []
+
+-- of a plot
+abbrev pub plot_faults : Past → Operation → Table
+plot_faults past operation =
+    let now = Says (Operate operation)
+    ∷ past in path_faults (is_arc (mode_in now)) (has_arcs past) (point_in past) (point_in now)
+    (centre_of past operation)
+
+-- in a repeat the leaves of a flash are judged when it is closed
+abbrev pub is_outside_at : Home → Past → Object → Bool
+is_outside_at (InBlock n) past object = is_outside past (item.One object)
+is_outside_at (InRepeat before) past object = false
+is_outside_at InLayer past object = is_outside past (item.One object)
+
+-- an operation by what it does, in a region or not
+abbrev pub operated_faults : OperationCode → Bool → Past → Operation → Table
+operated_faults Plot false past operation =
+    (none_selected, is_none (aperture_in past)) ∷ (wrong_aperture, is_unfit past (aperture_in past))
+    ∷ (plot_faults past operation ++ (too_much, is_full (home past) past (stroke_of past operation)) ∷ [])
+operated_faults Plot true past operation =
+    plot_faults past operation ++ (too_much, nat_le count_limit (length (segments_in past))) ∷ []
+operated_faults Move false past operation =
+    (out_of_board, not (is_on_board (point_in (Says (Operate operation) ∷ past)))) ∷ []
+operated_faults Move true past operation =
+    (out_of_board, not (is_on_board (point_in (Says (Operate operation) ∷ past))))
+    ∷ (too_much, holds_of_one (is_full (home past) past) (region_in past)) ∷ []
+operated_faults Flash false past operation =
+    (none_selected, is_none (aperture_in past))
+    ∷ (
+      out_of_board,
+      not (is_on_board (point_in (Says (Operate operation) ∷ past)))
+          || is_outside_at (home past) past (flash_of past operation),
+    )
+    ∷ (too_much, is_full (home past) past (flash_of past operation)) ∷ []
+operated_faults Flash true past operation = (flash_in_region, true) ∷ []
+
+-- what any operation may be refused for
+abbrev pub leading_faults : Past → Operation → Table
+leading_faults past operation =
+    (unknown_command, lacks_code past operation) ∷ (bad_number, has_malformed operation)
+    ∷ (no_format, has_coordinate operation && is_none (format_in past))
+    ∷ (no_unit, has_coordinate operation && is_none (unit_in past)) ∷ []
+
+abbrev pub operation_faults : Past → Operation → Table
+operation_faults past operation =
+    leading_faults past operation ++ operated_faults (code_of operation) (in_region past) past operation
+
+abbrev pub command_faults : Past → Command → Table
+command_faults past (SetFormat format) = (set_again, is_other_format (format_in past) format) ∷ in_region_fault past
+command_faults past RefusedFormat = (format_refused, true) ∷ []
+command_faults past (SetUnit unit style) =
+    (set_again, is_other_unit (unit_in past) unit) ∷ (stray_block, is_style_extended style && in_region past) ∷ []
+command_faults past (DefineAperture text) =
+    (no_unit, is_none (unit_in past)) ∷ (redefined, is_taken_again past (numbered (definition_of text)))
+    ∷ (stray_block, in_region past)
+    ∷ faults_of (definition_of text) (macros_in past) (unit_or_mm (unit_in past))
+command_faults past (SetPolarity polarity) = in_region_fault past
+command_faults past (SetMirror mirror) = in_region_fault past
+command_faults past (SetRotation angle) =
+    (bad_number, is_none angle) ∷ (rotation_refused, holds_of is_no_quarter angle) ∷ in_region_fault past
+command_faults past (SetScale scale) =
+    (bad_number, is_none scale) ∷ (scale_refused, holds_of (λ n. not (int_eq n (pos 1000000000))) scale)
+    ∷ in_region_fault past
+command_faults past (OpenBlock number) =
+    (bad_number, is_none number) ∷ (redefined, is_taken_again past number) ∷ (
+      stray_block,
+      in_region past
+          || is_some (open_repeat past),
+    )
+    ∷ (too_much, nat_le depth_limit (length (open_blocks past))) ∷ []
+command_faults past CloseBlock = (stray_block, in_region past || is_empty (open_blocks past)) ∷ []
+command_faults past (SetRepeat repeat) = repeat_faults past repeat
+command_faults past CloseRepeat = (stray_block, in_region past) ∷ closing_faults past true
+command_faults past NeutralOld = in_region_fault past
+command_faults past (RefusedOld style) =
+    (stray_block, is_style_extended style && in_region past) ∷ (old_refused, true) ∷ []
+command_faults past BeginRegion = in_region_fault past
+command_faults past EndRegion =
+    (not_in_region, not (in_region past)) ∷ (too_much, holds_of_one (is_full (home past) past) (region_in past)) ∷ []
+command_faults past (Select number) = (bad_number, is_none number) ∷ (unknown_aperture, is_undefined past number) ∷ []
+command_faults past (Operate operation) = operation_faults past operation
+command_faults past End = (stray_block, in_region past || not (is_empty (open_blocks past))) ∷ closing_faults past true
+command_faults past Unknown = (unknown_command, true) ∷ []
+command_faults past _ = []
+
+-- the faults that a statement may have, each with its test
+abbrev pub faults : Past → Statement → Table
+faults past (Says command) = command_faults past command
+faults past (NamesMacro name parts) =
+    (unknown_command, not (is_name name)) ∷ (redefined, is_some (named (macros_in past) name) || is_reserved name)
+    ∷ (stray_block, in_region past) ∷ (macro_fault, is_none parts) ∷ []
+faults past (Uncut code) = (code, true) ∷ []
+
+abbrev pub lower_of : ℕ → Option ℕ → ℕ
+lower_of n None = n
+lower_of n (Some m) = min n m
+
+-- the least of the numbers that hold
+abbrev pub least : Table → Option ℕ
+least [] = None
+least (fault ∷ others) = if fault.1 then Some (lower_of fault.0 (least others)) else least others

@@ -1,5 +1,11 @@
-pub mod Syntax
-pub mod GraphicsState
+pub mod Statements
+pub mod State
+pub mod Homes
+pub mod Making
+pub mod Layers
+pub mod FaultNumbers
 pub mod Faults
 pub mod Reading
+pub mod Computing
+pub mod Laws
 pub mod Machinery

@@ -1,25 +1,59 @@
 //! Laws of reading. Each function does nothing: its contract is a law of what files mean.
 
-ghost use Rattle.cam_gerber.specs.Faults.{TellsLowest};
-ghost use Rattle.cam_gerber.specs.Reading.{IsNoMemoryFault, GivesSoundLayers, TellsFirst};
+ghost use Rattle.cam_gerber.specs.State.{Past};
+ghost use Rattle.cam_gerber.specs.Computing.{MeansItsReading};
+ghost use Rattle.cam_gerber.specs.Laws.{
+  GivesFaultlessFiles,
+  GivesSoundLayers,
+  GoesOnBehindItsFront,
+  IsNoMemoryFault,
+  KeepsHomesApart,
+  MeansOneThing,
+  SameSettingsChangeNothing,
+  TellsLeastFault,
+};
+
+/// A file means one thing at most: one layer, or one fault.
+pub fn files_mean_one_thing()
+    ensures { MeansOneThing }
+{}
+
+/// What a file means can be computed.
+pub fn files_mean_what_is_computed()
+    ensures { MeansItsReading }
+{}
+
+/// A front without end and without fault leads where the rest of the file leads behind it.
+pub fn files_go_on_behind_their_front()
+    ensures { GoesOnBehindItsFront }
+{}
+
+/// Each open block has a number of its own that no entry has, and no repeat is open with a block.
+pub fn homes_stay_apart()
+    ensures { KeepsHomesApart }
+{}
 
 /// No fault of a file has the number that stands for want of memory.
 pub fn no_fault_of_memory()
     ensures { IsNoMemoryFault }
 {}
 
-/// Every layer that a file gives is sound: its points lie on the board, it has at most 1,000,000
-/// flashes, and its dictionary no number twice and none but 10 to 2,147,483,647.
+/// The fault that is told is one of the file's, of the least place, and there of the least number.
+pub fn the_least_fault_is_told()
+    ensures { TellsLeastFault }
+{}
+
+/// A file that gives a layer has no fault.
+pub fn layers_come_from_faultless_files()
+    ensures { GivesFaultlessFiles }
+{}
+
+/// Every layer that a file gives is sound.
 pub fn layers_are_sound()
     ensures { GivesSoundLayers }
 {}
 
-/// Of the faults of a command that hold, none has a lower number than the one that is told.
-pub fn the_lowest_fault_is_told()
-    ensures { TellsLowest }
-{}
-
-/// Of the faults before the end, none stands before the one that is told.
-pub fn the_first_fault_is_told()
-    ensures { TellsFirst }
+/// A setting of the value that is in force changes nothing.
+pub fn same_settings_change_nothing()
+    ensures { (past : Past) → SameSettingsChangeNothing past }
 {}

@@ -1,24 +1,38 @@
-//! Reads Gerber files (Ucamco's "Gerber Layer Format Specification").
+//! Reads Gerber files (Ucamco's "Gerber Layer Format Specification"): regions, arcs, macros, blocks and
+//! repeats among all commands of the profile.
 //!
-//! [`read_gerber`] gives the layer of a file, or its first fault with its number and its place. What a file
-//! means stands in `specs/`: `Syntax` says what its words are, `GraphicsState` what is in force
-//! behind the commands so far, `Faults` what a command may be refused for, and `Reading` what the whole file
-//! gives. `specs/Machinery/Tracking.antt` ties the running state of the code to them.
-//!
-//! Read today are the format and the unit (FS, MO), definitions of solid circles (AD), selections (Dn),
-//! flashes with coordinates (D03) and the end (M02); every other form is refused 3.
+//! What a file means stands in `specs/`: `Statements` says what its words say, `State` what is in force behind
+//! the commands so far, `Homes` where an object belongs, `Making` what commands make, `Layers` the layer that it
+//! joins, `Faults` what a command may be refused for, `Reading` what the whole file gives, and `Laws` what holds
+//! of that. `specs/Machinery/` ties the running record of the code to them.
 #![tactic(auto)]
 
-mod commands;
+mod blocks;
+mod built;
+mod checks;
+mod definitions;
 mod faults;
+mod flashes;
+mod frames;
+mod homes;
 mod laws;
+mod modal;
+mod obeying;
+mod object_list;
+mod operations;
 mod read_fault;
 mod reader;
+mod region;
+mod repeats;
+mod running;
+mod settings;
 mod state;
-mod syntax;
+mod stop;
 
 pub use laws::{
-    layers_are_sound, no_fault_of_memory, the_first_fault_is_told, the_lowest_fault_is_told,
+    files_go_on_behind_their_front, files_mean_one_thing, files_mean_what_is_computed,
+    homes_stay_apart, layers_are_sound, layers_come_from_faultless_files, no_fault_of_memory,
+    same_settings_change_nothing, the_least_fault_is_told,
 };
 pub use read_fault::ReadFault;
 pub use reader::read_gerber;

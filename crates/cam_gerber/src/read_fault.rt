@@ -2,8 +2,9 @@
 
 use crate::faults;
 
-/// Why a file is no layer: the fault's number, and the place of the command, in bytes
-/// from the start of the file. For want of memory the number is 30 and the place 0.
+/// Why a file is no layer: the fault's number, and the place of the command's first byte, in bytes from
+/// the start of the file, or the file's length where the end is missing. For want of memory the number is
+/// 30 and the place 0.
 #[derive(Clone, Copy, Debug, PartialEq, Eq)]
 pub struct ReadFault {
     pub code: u8,

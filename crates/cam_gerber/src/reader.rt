@@ -1,35 +1,36 @@
 //! Reads Gerber layers.
 
 ghost use Rattle.std.specs.Prelude.{◌≡◌, IfOk};
+ghost use Rattle.cam_commands.specs.Machinery.Shown.{shown};
 ghost use Rattle.cam_objects.specs.Soundness.{IsSound};
 ghost use Rattle.cam_gerber.specs.Reading.{IsReading, is_end_command};
 
-use crate::commands::Command;
 use crate::faults;
 use crate::read_fault::ReadFault;
-use crate::state::{GraphicsState, Stop};
-use crate::syntax::{command_of, place_of};
+use crate::running::Running;
+use crate::stop::Stop;
+use cam_commands::{Command, command_of, place_of};
 use cam_objects::Layer;
 use cam_words::Words;
 use std::alloc::Global;
 
 /// Whether the command is M02.
-fn is_end(command: Command) -> bool
-    ensures { result ≡ is_end_command command }
+fn is_end(command: &Command<'_>) -> bool
+    ensures { result ≡ is_end_command (shown command.now) }
 {
     matches!(command, Command::End)
 }
 
-/// The layer of a Gerber file up to its first M02, or its first fault: that of the command
-/// which stands first, and of several at one command the one with the lowest number. Where
-/// memory is refused, the fault is number 30 at place 0. The layer is sound.
+/// The layer of a Gerber file up to its first M02, or its first fault: that of the command which stands
+/// first, and of several at one command the one with the lowest number. Where memory is refused, the fault
+/// is number 30 at place 0. The layer is sound.
 ///
-/// (Gerber Layer Format Specification, "Syntax" and "Graphics state".)
+/// (Gerber Layer Format Specification, "Syntax", "Graphics state" and "Graphics objects".)
 pub fn read_gerber(alloc: Global, bytes: &[u8]) -> Result<Layer, ReadFault>
     ensures reads { IsReading bytes.now result }
     ensures sound { IfOk result IsSound }
 {
-    let mut state = GraphicsState::new(alloc);
+    let mut running = Running::new(alloc);
     let mut words = Words::new(bytes);
     while let Some(answer) = words.next() {
         let word = match answer {
@@ -41,13 +42,9 @@ pub fn read_gerber(alloc: Global, bytes: &[u8]) -> Result<Layer, ReadFault>
                 });
             }
         };
-        let Ok(command) = command_of(alloc, word) else {
-            return Err(ReadFault::NO_MEMORY);
-        };
-        if is_end(command) {
-            return Ok(state.into_layer());
-        }
-        match state.obey(command) {
+        let command = command_of(word);
+        let ends = is_end(&command);
+        match running.obey(command) {
             Ok(()) => {}
             Err(Stop::Memory) => return Err(ReadFault::NO_MEMORY),
             Err(Stop::Fault(code)) => {
@@ -56,6 +53,9 @@ pub fn read_gerber(alloc: Global, bytes: &[u8]) -> Result<Layer, ReadFault>
                     at: place_of(word),
                 });
             }
+        }
+        if ends {
+            return Ok(running.into_layer());
         }
     }
     Err(ReadFault {

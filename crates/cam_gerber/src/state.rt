@@ -1,263 +1,279 @@
-//! The graphics state, as one pass over the commands keeps it.
+//! The graphics state.
 
-ghost use Rattle.std.specs.Prelude.{◌≡◌, ◌≤◌, ◌∷◌, [], IfSome, OnOk, MatchOption, true, false, is_some, nat_eq};
-ghost use Rattle.std.specs.Map.{lookup};
-ghost use Rattle.cam_gerber.specs.declared.commands.Command.TheVariants as command;
-ghost use Rattle.cam_gerber.specs.Faults.{is_malformed};
-ghost use Rattle.cam_numbers.specs.Numbers.{IsApertureNumber};
-ghost use Rattle.cam_objects.specs.Tests.{is_on_board};
-ghost use Rattle.cam_gerber.specs.Machinery.Tracking.{
-  IsReady,
-  IsShortFormat,
-  IsWithinFormats,
-  IsWithinNumbers,
-  Takes,
-  Tracks,
-  is_on_axis,
-  moved,
-  moved_point,
-};
+ghost use Rattle.std.specs.Prelude.{◌≡◌, ◌++◌, ◌≤◌, ◌<◌, ◌^◌, [], false, true, ◌+ℤ◌, pos, Some, None, unsigned_abs, MatchOption, IfOk};
+ghost use Rattle.cam_objects.specs.Turning.{after};
+ghost use Rattle.cam_units.specs.Board.{IsOnBoard};
+ghost use Rattle.cam_gerber.specs.Faults.{has_coordinate, has_malformed, is_malformed, is_on_board, is_same_point, is_written, lacks_code, leading_faults, path_faults};
+ghost use Rattle.cam_shapes.specs.declared.segments.Seg.TheVariants.{Line, Curve};
+ghost use Rattle.cam_gerber.specs.Making.{segment};
+ghost use Rattle.cam_gerber.specs.State.{Past, code_of, decimals_of, unit_or_mm};
+ghost use Rattle.cam_gerber.specs.Machinery.Tracking.{IsJudged, IsOperated, Tells, TracksModal, centre_by, first_of, mode_by, moved, moved_point, path_table, stroke_along};
 
-use crate::commands::{Command, Coordinate, Format};
 use crate::faults;
-use cam_apertures::Aperture;
-use cam_objects::{Entry, Item, Layer, Object};
-use cam_units::{Nm, Point, Turn, Unit, coord_nm, fits_board, fits_size, fix9_nm};
-use std::alloc::{AllocError, Global};
+use crate::modal::Modal;
+use crate::stop::Stop;
+use cam_commands::{Mode, Operation, OperationCode, Slot};
+use cam_objects::Object;
+use cam_shapes::Seg;
+use cam_units::{Nm, Point, Turn, Unit, coord_nm, fits_board};
 
-/// How many flashes a layer may have.
-const FLASH_LIMIT: usize = 1_000_000;
-
-/// Why a command stops the reader: memory was refused, or a fault's number.
-#[derive(Debug, Drop)]
-pub enum Stop {
-    Memory,
-    Fault(u8),
-}
-
-impl From<AllocError> for Stop {
-    ghost use Rattle.std.specs.Prelude.{◌≡◌};
-    ghost use Rattle.cam_gerber.specs.declared.state.Stop.TheVariants.{Memory};
-
-    ghost from_gives = { λ _ stop. stop ≡ Memory };
-
-    fn from(_error: AllocError) -> Stop {
-        Stop::Memory
-    }
-}
-
-/// The values in force behind the commands so far, and the layer that they make
-/// (Gerber Layer Format Specification, "Graphics state").
-#[derive(Drop)]
-pub struct GraphicsState {
-    format: Option<Format>,
-    unit: Option<Unit>,
-    /// The number of the current aperture.
-    aperture: Option<u32>,
-    /// The current point.
-    point: Point,
-    layer: Layer,
-}
-
-/// Whether the coordinate does not fit its grammar.
-fn is_malformed(coordinate: Coordinate) -> bool
-    ensures { result ≡ is_malformed coordinate }
+fn is_on_board(point: Point) -> bool
+    ensures { result ≡ is_on_board point }
 {
-    matches!(coordinate, Coordinate::Malformed)
+    fits_board(point)
 }
 
-/// The coordinate, in nm, that an operation leaves; `None` where it is 10^18 nm or more in
-/// absolute value.
-#[tactic(auto, unfolding(crate::specs::GraphicsState::coordinate_nm))]
-fn moved(format: Format, unit: Unit, coordinate: Coordinate, old: i64) -> Option<i64>
-    requires { IsShortFormat format }
-    ensures { let new_is = moved (Some format) (Some unit) coordinate old in
-        MatchOption result (is_on_axis new_is ≡ false) (λ new. new ≡ new_is) }
+fn is_same_point(p: Point, q: Point) -> bool
+    ensures { result ≡ is_same_point p q }
 {
-    match coordinate {
-        Coordinate::Omitted | Coordinate::Malformed => Some(old),
-        Coordinate::Written(n) => {
-            coord_nm(n, u32::from(format.decimals), unit).map(|length| length.0)
-        }
-    }
+    p == q
 }
 
-/// The point that an operation leaves, if it lies on the board.
-fn moved_point(
-    format: Format,
-    unit: Unit,
-    x: Coordinate,
-    y: Coordinate,
-    from: Point,
-) -> Option<Point>
-    requires { IsShortFormat format }
-    ensures { let to_is = moved_point format unit x y from in
-        MatchOption result (is_on_board to_is ≡ false) (λ to. (to ≡ to_is) × (is_on_board to_is ≡ true)) }
+/// The sum of a coordinate of the board and an offset.
+fn plus(from: Nm, offset: Nm) -> Nm
+    requires from { unsigned_abs from.0 < 10 ^ 9 }
+    requires offset { unsigned_abs offset.0 < 10 ^ 18 }
+    ensures { result.0 ≡ from.0 +ℤ offset.0 }
 {
-    let to = Point {
-        x: moved(format, unit, x, from.x)?,
-        y: moved(format, unit, y, from.y)?,
-    };
-    if fits_board(to) { Some(to) } else { None }
+    Nm(from.0 + offset.0)
 }
 
-/// Whether the layer's dictionary has the number.
-fn is_defined(layer: &Layer, number: u32) -> bool
-    ensures { result ≡ is_some (lookup (nat_eq number) layer.now.apertures) }
+fn is_malformed(slot: Slot<i64>) -> bool
+    ensures { result ≡ is_malformed slot }
 {
-    layer.entries().find(number).is_some()
+    matches!(slot, Slot::Malformed)
 }
 
-impl GraphicsState {
-    /// Nothing is set, the current point is (0, 0), and the layer is empty.
-    pub fn new(alloc: Global) -> GraphicsState
-        ensures tracks { Tracks [] result }
-        ensures ready { IsReady result }
+fn is_written(slot: Slot<i64>) -> bool
+    ensures { result ≡ is_written slot }
+{
+    !matches!(slot, Slot::Omitted)
+}
+
+/// Whether a number of the operation does not fit its grammar.
+fn has_malformed(operation: &Operation) -> bool
+    ensures { result ≡ has_malformed operation.now }
+{
+    is_malformed(operation.x)
+        || is_malformed(operation.y)
+        || is_malformed(operation.i)
+        || is_malformed(operation.j)
+}
+
+/// Whether the operation writes a coordinate.
+fn has_coordinate(operation: &Operation) -> bool
+    ensures { result ≡ has_coordinate operation.now }
+{
+    is_written(operation.x)
+        || is_written(operation.y)
+        || is_written(operation.i)
+        || is_written(operation.j)
+}
+
+/// What the operation does; coordinates alone plot.
+pub fn code_of(operation: &Operation) -> OperationCode
+    ensures { result ≡ code_of operation.now }
+{
+    operation.code.unwrap_or(OperationCode::Plot)
+}
+
+impl Modal {
+    /// Nothing is set, and the current point is (0, 0).
+    pub fn new() -> Modal
+        ensures { TracksModal [] result }
     {
-        GraphicsState {
+        Modal {
             format: None,
             unit: None,
-            aperture: None,
-            point: Point { x: 0, y: 0 },
-            layer: Layer::new(alloc),
-        }
-    }
-
-    /// The layer so far.
-    pub fn into_layer(self) -> Layer
-        ensures { result ≡ self.layer }
-    {
-        self.layer
-    }
-
-    fn set_format(&mut self, format: Format) -> Result<(), Stop>
-        requires ready { IsReady self.old }
-        requires short { IsShortFormat format }
-        ensures step { Takes self.old (command.SetFormat format) result self.new }
-        ensures still_ready { OnOk result (IsReady self.new) }
-    {
-        if let Some(set) = self.format {
-            if set != format {
-                return Err(Stop::Fault(faults::SET_AGAIN));
-            }
-        }
-        self.format = Some(format);
-        Ok(())
-    }
-
-    fn set_unit(&mut self, unit: Unit) -> Result<(), Stop>
-        requires { IsReady self.old }
-        ensures step { Takes self.old (command.SetUnit unit) result self.new }
-        ensures still_ready { OnOk result (IsReady self.new) }
-    {
-        if let Some(set) = self.unit {
-            if set != unit {
-                return Err(Stop::Fault(faults::SET_AGAIN));
-            }
-        }
-        self.unit = Some(unit);
-        Ok(())
-    }
-
-    fn define(&mut self, number: Option<u32>, diameter: Option<i64>) -> Result<(), Stop>
-        requires ready { IsReady self.old }
-        requires number { IfSome number IsApertureNumber }
-        ensures step { Takes self.old (command.Define number diameter) result self.new }
-        ensures still_ready { OnOk result (IsReady self.new) }
-    {
-        let Some(number) = number else {
-            return Err(Stop::Fault(faults::BAD_NUMBER));
-        };
-        let Some(diameter) = diameter else {
-            return Err(Stop::Fault(faults::BAD_NUMBER));
-        };
-        let Some(unit) = self.unit else {
-            return Err(Stop::Fault(faults::NO_UNIT));
-        };
-        if is_defined(&self.layer, number) {
-            return Err(Stop::Fault(faults::REDEFINED));
-        }
-        let diameter = fix9_nm(diameter, unit);
-        if !fits_size(diameter) {
-            return Err(Stop::Fault(faults::SIZE_REFUSED));
-        }
-        let circle = Aperture::Circle {
-            diameter,
-            hole: Nm(0),
-        };
-        self.layer.add_entry(number, Entry::Aperture(circle))?;
-        Ok(())
-    }
-
-    fn select(&mut self, number: Option<u32>) -> Result<(), Stop>
-        requires { IsReady self.old }
-        ensures step { Takes self.old (command.Select number) result self.new }
-        ensures still_ready { OnOk result (IsReady self.new) }
-    {
-        let Some(number) = number else {
-            return Err(Stop::Fault(faults::BAD_NUMBER));
-        };
-        if !is_defined(&self.layer, number) {
-            return Err(Stop::Fault(faults::UNKNOWN_APERTURE));
-        }
-        self.aperture = Some(number);
-        Ok(())
-    }
-
-    fn flash(&mut self, x: Coordinate, y: Coordinate) -> Result<(), Stop>
-        requires { IsReady self.old }
-        ensures step { Takes self.old (command.FlashAt x y) result self.new }
-        ensures still_ready { OnOk result (IsReady self.new) }
-    {
-        if is_malformed(x) {
-            return Err(Stop::Fault(faults::BAD_NUMBER));
-        }
-        if is_malformed(y) {
-            return Err(Stop::Fault(faults::BAD_NUMBER));
-        }
-        let Some(format) = self.format else {
-            return Err(Stop::Fault(faults::NO_FORMAT));
-        };
-        let Some(unit) = self.unit else {
-            return Err(Stop::Fault(faults::NO_UNIT));
-        };
-        let Some(aperture) = self.aperture else {
-            return Err(Stop::Fault(faults::NONE_SELECTED));
-        };
-        let Some(at) = moved_point(format, unit, x, y, self.point) else {
-            return Err(Stop::Fault(faults::OUT_OF_BOARD));
-        };
-        if self.layer.items().len() >= FLASH_LIMIT {
-            return Err(Stop::Fault(faults::TOO_MUCH));
-        }
-        self.layer.push(Item::One(Object::Flash {
-            aperture,
-            at,
-            turn: Turn::R0,
             dark: true,
-        }))?;
-        self.point = at;
-        Ok(())
+            mirror: Turn::R0,
+            rotation: Turn::R0,
+            aperture: None,
+            mode: Mode::Linear,
+            arcs: false,
+            code: None,
+            point: Point { x: 0, y: 0 },
+        }
     }
 
-    /// Takes one more command, which is not the end; it tells the command's fault of the
-    /// lowest number, or that memory was refused.
-    pub fn obey(&mut self, command: Command) -> Result<(), Stop>
-        requires ready { IsReady self.old }
-        requires short { IsWithinFormats command }
-        requires numbers { IsWithinNumbers command }
-        ensures step { Takes self.old command result self.new }
-        ensures still_ready { OnOk result (IsReady self.new) }
+    fn decimals(&self) -> u32
+        ensures value { result ≡ decimals_of self.now.format }
+        ensures short { result ≤ 6 }
     {
-        match command {
-            Command::SetFormat(format) => self.set_format(format),
-            Command::Refused => Err(Stop::Fault(faults::FORMAT_REFUSED)),
-            Command::SetUnit(unit) => self.set_unit(unit),
-            Command::Define { number, diameter } => self.define(number, diameter),
-            Command::Select(number) => self.select(number),
-            Command::FlashAt { x, y } => self.flash(x, y),
-            Command::End | Command::Nothing => Ok(()),
-            Command::Unknown => Err(Stop::Fault(faults::UNKNOWN_COMMAND)),
+        match self.format {
+            None => 0,
+            Some(format) => u32::from(format.decimals),
         }
+    }
+
+    /// The coordinate, in nm, that a slot leaves; `None` where it is 10^18 nm or more in absolute value.
+    #[tactic(auto, unfolding(crate::specs::State::coordinate_nm))]
+    fn moved(&self, slot: Slot<i64>, old: Nm) -> Option<Nm>
+        requires { unsigned_abs old.0 < 10 ^ 18 }
+        ensures { let new_is = moved self.now.format self.now.unit slot old.0 in MatchOption result
+            (10 ^ 18 ≤ unsigned_abs new_is)
+            (λ new. (new.0 ≡ new_is) × (unsigned_abs new.0 < 10 ^ 18)) }
+    {
+        match slot {
+            Slot::Omitted | Slot::Malformed => Some(old),
+            Slot::Written(n) => coord_nm(n, self.decimals(), self.unit.unwrap_or(Unit::Mm)),
+        }
+    }
+
+    /// The point that an operation leaves, if it lies on the board.
+    pub fn moved_point(&self, operation: &Operation) -> Option<Point>
+        ensures { IsJudged result (moved_point self.now operation.now) }
+    {
+        let x = self.moved(operation.x, Nm(self.point.x))?;
+        let y = self.moved(operation.y, Nm(self.point.y))?;
+        let to = Point { x: x.0, y: y.0 };
+        if is_on_board(to) { Some(to) } else { None }
+    }
+
+    /// The centre of the operation's arc, if it lies on the board.
+    fn centre(&self, operation: &Operation) -> Option<Point>
+        ensures { IsJudged result (centre_by self.now operation.now) }
+    {
+        let i = self.moved(operation.i, Nm(0))?;
+        let j = self.moved(operation.j, Nm(0))?;
+        let centre = Point {
+            x: plus(Nm(self.point.x), i).0,
+            y: plus(Nm(self.point.y), j).0,
+        };
+        if is_on_board(centre) {
+            Some(centre)
+        } else {
+            None
+        }
+    }
+
+    /// Whether coordinates stand alone, and the last operation was no plot.
+    fn lacks_code(&self, operation: &Operation) -> bool
+        ensures { (past : Past) → TracksModal past self.now → result ≡ lacks_code past operation.now }
+    {
+        if operation.code.is_some() {
+            return false;
+        }
+        self.code != Some(OperationCode::Plot)
+    }
+
+    /// What any operation may be refused for.
+    pub fn leading_fault(&self, operation: &Operation) -> Option<u8>
+        ensures { (past : Past) → TracksModal past self.now
+            → result ≡ first_of (leading_faults past operation.now) }
+    {
+        if self.lacks_code(operation) {
+            return Some(faults::UNKNOWN_COMMAND);
+        }
+        if has_malformed(operation) {
+            return Some(faults::BAD_NUMBER);
+        }
+        if !has_coordinate(operation) {
+            return None;
+        }
+        if self.format.is_none() {
+            return Some(faults::NO_FORMAT);
+        }
+        if self.unit.is_none() {
+            return Some(faults::NO_UNIT);
+        }
+        None
+    }
+
+    fn mode_of(&self, operation: &Operation) -> Mode
+        ensures { result ≡ mode_by self.now operation.now }
+    {
+        operation.mode.unwrap_or(self.mode)
+    }
+
+    /// The line to the point of the operation.
+    fn line(&self, operation: &Operation) -> Result<Seg, u8>
+        ensures ok { IfOk result (λ seg. seg ≡ Line (moved_point self.now operation.now)) }
+        ensures on_board { IfOk result (λ seg. is_on_board (moved_point self.now operation.now) ≡ true) }
+        ensures faults { Tells result
+            (path_faults false self.now.arcs self.now.point (moved_point self.now operation.now) (centre_by self.now operation.now)) }
+    {
+        match self.moved_point(operation) {
+            Some(to) => Ok(Seg::Line { to }),
+            None => Err(faults::OUT_OF_BOARD),
+        }
+    }
+
+    /// The arc to the point of the operation.
+    fn arc(&self, operation: &Operation, ccw: bool) -> Result<Seg, u8>
+        ensures ok { IfOk result (λ seg. seg
+            ≡ Curve (moved_point self.now operation.now) (centre_by self.now operation.now) ccw) }
+        ensures on_board { IfOk result (λ seg. is_on_board (moved_point self.now operation.now) ≡ true) }
+        ensures faults { Tells result
+            (path_faults true self.now.arcs self.now.point (moved_point self.now operation.now) (centre_by self.now operation.now)) }
+    {
+        if !self.arcs {
+            return Err(faults::ARC_MODE);
+        }
+        let Some(centre) = self.centre(operation) else {
+            return Err(faults::OUT_OF_BOARD);
+        };
+        if is_same_point(self.point, centre) {
+            return Err(faults::ZERO_RADIUS);
+        }
+        let Some(to) = self.moved_point(operation) else {
+            return Err(faults::OUT_OF_BOARD);
+        };
+        Ok(Seg::Curve { to, centre, ccw })
+    }
+
+    /// The line or the arc that is plotted.
+    pub fn path(&self, operation: &Operation) -> Result<Seg, u8>
+        ensures ok { IfOk result (λ seg. seg
+            ≡ segment (mode_by self.now operation.now) (moved_point self.now operation.now) (centre_by self.now operation.now)) }
+        ensures on_board { IfOk result (λ seg. is_on_board (moved_point self.now operation.now) ≡ true) }
+        ensures faults { Tells result (path_table self.now operation.now) }
+    {
+        let mode = self.mode_of(operation);
+        match mode {
+            Mode::Linear => self.line(operation),
+            Mode::Clockwise => self.arc(operation, false),
+            Mode::Counterclockwise => self.arc(operation, true),
+        }
+    }
+
+    /// Apertures are first mirrored, then rotated.
+    pub fn turn(&self) -> Turn
+        ensures { result ≡ after self.now.mirror self.now.rotation }
+    {
+        self.mirror.then(self.rotation)
+    }
+
+    /// The stroke of an aperture along a segment from the current point.
+    pub fn stroke(&self, aperture: u32, seg: Seg) -> Object
+        ensures { result ≡ stroke_along self.now aperture seg }
+    {
+        match seg {
+            Seg::Line { to } => Object::Draw {
+                aperture,
+                from: self.point,
+                to,
+                turn: self.turn(),
+                dark: self.dark,
+            },
+            Seg::Curve { to, centre, ccw } => Object::Arc {
+                aperture,
+                from: self.point,
+                to,
+                centre,
+                ccw,
+                dark: self.dark,
+            },
+        }
+    }
+
+    /// The operation went to a point.
+    pub fn operated(&mut self, operation: &Operation, to: Point)
+        requires { is_on_board to ≡ true }
+        ensures { IsOperated self.old operation.now to self.new }
+    {
+        self.mode = self.mode_of(operation);
+        self.code = Some(code_of(operation));
+        self.point = to;
     }
 }

@@ -1,102 +1,251 @@
--- What the reader's functions give, beside the definitions of what is to be read.
-use Rattle.std.specs.Prelude.{◌≡◌, ℕ, ℤ, ◌≤◌, ◌∷◌, Option, Some, None, Result, Ok, Err, Bool, nat_lt, unwrap_or, unsigned_abs, All, IfSome}
+-- What the running record keeps of the past.
+use Rattle.std.specs.Prelude.{◌≡◌, ◌≤◌, ℕ, ℤ, pos, ◌+ℤ◌, ◌+◌, true, false, Bool, List, [], ◌∷◌, ◌++◌, map, min, Option, Some, None, unwrap_or, Result, Ok, Err, if◌then◌else◌}
 use Rattle.std.specs.Option.{option_map}
-use Rattle.cam_words.specs.declared.word.Word.{Word}
-use Rattle.cam_words.specs.Cutting.{FoundWord}
 use Rattle.cam_units.specs.declared.length.Unit.{Unit as FileUnit}
 use Rattle.cam_units.specs.declared.point.Point.{Point}
-use Rattle.cam_units.specs.Board.{board_limit}
-use Rattle.cam_gerber.specs.declared.commands.Format.{Format}
-use Rattle.cam_gerber.specs.declared.commands.Coordinate.{Coordinate}
-use Rattle.cam_gerber.specs.declared.commands.Command.{Command}
-use Rattle.cam_gerber.specs.declared.commands.Command.TheVariants.{SetFormat, Define}
-use Rattle.cam_gerber.specs.declared.state.GraphicsState.{GraphicsState}
-use Rattle.cam_gerber.specs.declared.state.Stop.{Stop}
-use Rattle.cam_gerber.specs.declared.state.Stop.TheVariants.{Memory, Fault}
-use Rattle.cam_objects.specs.declared.entry.Entry.{Entry}
-use Rattle.cam_objects.specs.declared.entry.Entry.TheVariants.{Aperture, Block}
-use Rattle.cam_objects.specs.declared.item.Item.{Item}
-use Rattle.cam_objects.specs.declared.item.Item.TheVariants.{One, Repeat}
+use Rattle.cam_apertures.specs.Definition.{Table}
+use Rattle.cam_commands.specs.declared.parts.Format.{Format}
+use Rattle.cam_commands.specs.declared.parts.Slot.{Slot}
+use Rattle.cam_commands.specs.declared.parts.Mode.{Mode}
+use Rattle.cam_commands.specs.declared.parts.Operation.{Operation}
+use Rattle.cam_commands.specs.declared.parts.OperationCode.{OperationCode}
+use Rattle.cam_shapes.specs.declared.segments.Seg.{Seg}
+use Rattle.cam_shapes.specs.declared.segments.Seg.TheVariants.{Line, Curve}
+use Rattle.cam_objects.specs.Turning.{after}
 use Rattle.cam_objects.specs.declared.object.Object.{Object}
-use Rattle.cam_objects.specs.declared.object.Object.TheVariants.{Flash, Draw, Arc, Region}
-use Rattle.cam_objects.specs.Contents.{Content, content_of}
-use Rattle.cam_objects.specs.Soundness.{HasNumber, IsSoundContent}
-use Rattle.cam_gerber.specs.GraphicsState.{Past, format_in, unit_in, aperture_in, point_in, layer_in, value_told, coordinate_nm}
-use Rattle.cam_numbers.specs.Numbers.{IsApertureNumber}
-use Rattle.cam_gerber.specs.Faults.{faults, least}
+use Rattle.cam_objects.specs.declared.entry.Entry.{Entry}
+use Rattle.cam_objects.specs.Weights.{object_count, object_depth, weight_in}
+use Rattle.cam_gerber.specs.declared.homes.Weight.{Weight}
+use Rattle.cam_objects.specs.declared.object.Object.TheVariants.{Draw, Arc}
+use Rattle.cam_commands.specs.Commands.{Command, Operate, EndRegion, SetFormat}
+use Rattle.cam_gerber.specs.declared.modal.Modal.{Modal}
+use Rattle.cam_gerber.specs.declared.region.Region.{Region}
+use Rattle.cam_gerber.specs.declared.frames.Frames.{Frames}
+use Rattle.cam_gerber.specs.declared.frames.OpenBlock.{OpenBlock}
+use Rattle.cam_gerber.specs.declared.frames.OpenRepeat.{OpenRepeat}
+use Rattle.cam_gerber.specs.declared.built.Built.{Built}
+use Rattle.cam_gerber.specs.declared.running.Running.{Running}
+use Rattle.cam_gerber.specs.declared.stop.Stop.{Stop}
+use Rattle.cam_gerber.specs.declared.stop.Stop.TheVariants.{Memory, Fault}
+use Rattle.cam_gerber.specs.Statements.{Statement, Says, IsSaidBy}
+use Rattle.cam_gerber.specs.State.{Past, format_in, unit_in, dark_in, mirror_in, rotation_in, aperture_in, mode_in, has_arcs, in_region, code_in, point_in, value_of, coordinate_nm, code_of}
+use Rattle.cam_gerber.specs.Homes.{home, InBlock, InRepeat, Opened, open_blocks, open_repeat}
+use Rattle.cam_gerber.specs.Making.{start_in, segments_in, region_in, made, objects_of}
+use Rattle.cam_gerber.specs.Layers.{macros_in, entries_in, items_in, closed_repeat, closed_leaves, leaves_of, leaves_in}
+use Rattle.cam_gerber.specs.Faults.{command_faults, faults, least, closing_faults, operated_faults, path_faults, is_arc, is_on_board, is_full, holds_of_one}
+use Rattle.cam_gerber.specs.FaultNumbers.{too_much}
+use Rattle.cam_gerber.specs.Laws.{IsFaultless}
+use Rattle.cam_gerber.specs.Machinery.OpenNumbers.{AreWithin}
 
--- a word, without where its text lies in memory
-abbrev pub found : Word → FoundWord
-found word = record { kind = word.kind; text = word.text.now; at = word.at }
+-- the values in force
+pub record TracksModal (past : Past) (m : Modal) : Type 0 where
+  pub format : m.format ≡ format_in past
+  pub unit : m.unit ≡ unit_in past
+  pub dark : m.dark ≡ dark_in past
+  pub mirror : m.mirror ≡ mirror_in past
+  pub rotation : m.rotation ≡ rotation_in past
+  pub aperture : m.aperture ≡ aperture_in past
+  pub mode : m.mode ≡ mode_in past
+  pub arcs : m.arcs ≡ has_arcs past
+  pub code : m.code ≡ code_in past
+  pub point : m.point ≡ point_in past
 
--- the state has the values of the past
-pub record Tracks (past : Past) (s : GraphicsState) : Type 0 where
-  pub format : s.format ≡ format_in past
-  pub unit : s.unit ≡ unit_in past
-  pub aperture : s.aperture ≡ aperture_in past
-  pub point : s.point ≡ point_in past
-  pub layer : content_of s.layer ≡ layer_in past
+-- the contour so far
+pub record TracksRegion (past : Past) (r : Region) : Type 0 where
+  pub inside : r.inside ≡ in_region past
+  pub start : r.start ≡ start_in past
+  pub segs : r.segs.items ≡ segments_in past
 
-abbrev pub IsShortFormat : Format → Type 0
-IsShortFormat format = format.decimals ≤ 6
+abbrev pub block_of : Past → ℕ → OpenBlock
+block_of past n = record { number = n; objects = objects_of (InBlock n) past; leaves = leaves_of (InBlock n) past }
 
--- a format has at most six decimals
-abbrev pub IsWithinFormats : Command → Type 0
-IsWithinFormats (SetFormat format) = IsShortFormat format
-IsWithinFormats _ = Unit {0}
+-- the leaves of an open repeat are counted up to this
+abbrev pub leaf_cap : ℕ
+leaf_cap = 4000001
 
--- an aperture's number is one of those that a definition may give
-abbrev pub IsWithinNumbers : Command → Type 0
-IsWithinNumbers (Define number size) = IfSome number IsApertureNumber
-IsWithinNumbers _ = Unit {0}
+abbrev pub repeat_of : Past → Opened → OpenRepeat
+repeat_of past o =
+    record {
+      columns = o.columns;
+      rows = o.rows;
+      i = o.i;
+      j = o.j;
+      objects = objects_of
+          (InRepeat o.before) past;
+      leaves = min leaf_cap (leaves_of (InRepeat o.before) past);
+    }
 
--- the entry is no block
-abbrev pub IsAperture : Entry → Type 0
-IsAperture (Aperture a) = Unit {0}
-IsAperture (Block objects) = ⊥
+-- each open block has the objects of its number, and the open repeat those that were made behind its opening
+pub record TracksFrames (past : Past) (f : Frames) : Type 0 where
+  pub blocks : f.blocks.items ≡ map (block_of past) (open_blocks past)
+  pub repeat : f.repeat ≡ option_map (repeat_of past) (open_repeat past)
 
-abbrev pub IsFlashObject : Object → Type 0
-IsFlashObject (Flash n at t dark) = Unit {0}
-IsFlashObject (Draw n from to t dark) = ⊥
-IsFlashObject (Arc n from to centre ccw dark) = ⊥
-IsFlashObject (Region contour dark) = ⊥
+-- the layer so far
+pub record TracksBuilt (past : Past) (b : Built) : Type 0 where
+  pub entries : b.layer.apertures ≡ entries_in past
+  pub items : b.layer.items.items ≡ items_in past
+  pub macros : b.macros.items ≡ macros_in past
+  pub leaves : b.leaves ≡ leaves_in past
 
-abbrev pub IsFlash : Item → Type 0
-IsFlash (One object) = IsFlashObject object
-IsFlash (Repeat columns rows i j objects) = ⊥
-
--- a sound layer of flashes of apertures
-pub record IsFlashLayer (c : Content) : Type 0 where
-  pub entries : All (λ (e : ℕ × Entry). IsAperture e.1) c.entries
-  pub items : All IsFlash c.items
-  pub sound : IsSoundContent c.entries c.items
-
--- what the state's parts need of one another
-pub record IsReady (s : GraphicsState) : Type 0 where
-  pub format : IfSome s.format IsShortFormat
-  pub aperture : IfSome s.aperture (HasNumber s.layer.apertures)
-  pub layer : IsFlashLayer (content_of s.layer)
-
--- no fault and what then holds, or the least fault
-abbrev pub Answers : Result (Unit {0}) Stop → Past → Command → Type 0 → Type 0
-Answers (Ok done) past command P = (least (faults past command) ≡ None) × P
-Answers (Err Memory) past command P = Unit {0}
-Answers (Err (Fault code)) past command P = least (faults past command) ≡ Some code
-
--- one more command: whatever past the state has, the answer is the command's after that past, and the state follows it
-abbrev pub Takes : GraphicsState → Command → Result (Unit {0}) Stop → GraphicsState → Type 0
-Takes old command result new =
-    (past : Past) → Tracks past old → Answers result past command (Tracks (command ∷ past) new)
-
--- under a metre in absolute value
-abbrev pub is_on_axis : ℤ → Bool
-is_on_axis n = nat_lt (unsigned_abs n) board_limit
+pub record Tracks (past : Past) (r : Running) : Type 0 where
+  pub modal : TracksModal past r.modal
+  pub region : TracksRegion past r.region
+  pub frames : TracksFrames past r.frames
+  pub built : TracksBuilt past r.built
 
 -- the coordinate that an operation leaves
-abbrev pub moved : Option Format → Option FileUnit → Coordinate → ℤ → ℤ
-moved format unit coordinate old = unwrap_or (option_map (coordinate_nm format unit) (value_told coordinate)) old
+abbrev pub moved : Option Format → Option FileUnit → Slot ℤ → ℤ → ℤ
+moved format unit slot old = unwrap_or (option_map (coordinate_nm format unit) (value_of slot)) old
 
--- the point that an operation leaves
-abbrev pub moved_point : Format → FileUnit → Coordinate → Coordinate → Point → Point
-moved_point format unit x y from =
-    record { x = moved (Some format) (Some unit) x from.x; y = moved (Some format) (Some unit) y from.y }
+-- the point that it leaves
+abbrev pub moved_point : Modal → Operation → Point
+moved_point m operation =
+    record { x = moved m.format m.unit operation.x m.point.x; y = moved m.format m.unit operation.y m.point.y }
+
+-- the centre of its arc
+abbrev pub centre_by : Modal → Operation → Point
+centre_by m operation =
+    record {
+      x = m.point.x +ℤ moved m.format m.unit operation.i
+          (pos 0);
+      y = m.point.y +ℤ moved m.format m.unit operation.j (pos 0);
+    }
+
+-- its mode
+abbrev pub mode_by : Modal → Operation → Mode
+mode_by m operation = unwrap_or operation.mode m.mode
+
+-- an operation went to a point
+pub record IsOperated (m : Modal) (operation : Operation) (to : Point) (n : Modal) : Type 0 where
+  pub format : n.format ≡ m.format
+  pub unit : n.unit ≡ m.unit
+  pub dark : n.dark ≡ m.dark
+  pub mirror : n.mirror ≡ m.mirror
+  pub rotation : n.rotation ≡ m.rotation
+  pub aperture : n.aperture ≡ m.aperture
+  pub mode : n.mode ≡ mode_by m operation
+  pub arcs : n.arcs ≡ m.arcs
+  pub code : n.code ≡ Some (code_of operation)
+  pub point : n.point ≡ to
+
+-- a point that was judged
+abbrev pub IsJudged : Option Point → Point → Type 0
+IsJudged None p = is_on_board p ≡ false
+IsJudged (Some q) p = (q ≡ p) × (is_on_board p ≡ true)
+
+-- the faults of a plot's path
+abbrev pub path_table : Modal → Operation → Table
+path_table m operation =
+    path_faults (is_arc (mode_by m operation)) m.arcs m.point (moved_point m operation) (centre_by m operation)
+
+-- the stroke along a segment from the current point
+abbrev pub stroke_along : Modal → ℕ → Seg → Object
+stroke_along m n (Line to) = Draw n m.point to (after m.mirror m.rotation) m.dark
+stroke_along m n (Curve to centre ccw) = Arc n m.point to centre ccw m.dark
+
+-- the first number that holds: the least, where the numbers ascend
+abbrev pub first_of : Table → Option ℕ
+first_of [] = None
+first_of (fault ∷ others) = if fault.1 then Some fault.0 else first_of others
+
+-- none of the table's faults is told, or the first one
+abbrev pub Tells : {A : Type 0} → Result A ℕ → Table → Type 0
+Tells (Ok a) table = first_of table ≡ None
+Tells (Err code) table = first_of table ≡ Some code
+
+-- no fault of the table and what then holds, or the first one
+abbrev pub Answers : Result (Unit {0}) Stop → Table → Type 0 → Type 0
+Answers (Ok done) table P = (first_of table ≡ None) × P
+Answers (Err Memory) table P = Unit {0}
+Answers (Err (Fault code)) table P = first_of table ≡ Some code
+
+-- one more command, refused for the first of its faults or obeyed
+abbrev pub Takes : Command → Running → Result (Unit {0}) Stop → Running → Type 0
+Takes command old result new =
+    (past : Past) → IsFaultless past → Tracks past old
+    → Answers result (command_faults past command) (Tracks (Says command ∷ past) new)
+
+-- an operation of this code, in a region or not, behind what any operation may be refused for
+abbrev pub Operates : OperationCode → Bool → Operation → Running → Result (Unit {0}) Stop → Running → Type 0
+Operates code region operation old result new =
+    (past : Past) → IsFaultless past → Tracks past old → in_region past ≡ region → code_of operation ≡ code
+    → Answers result (operated_faults code region past operation) (Tracks (Says (Operate operation) ∷ past) new)
+
+-- it may make an object
+abbrev pub IsMaker : Statement → Type 0
+IsMaker (Says (Operate operation)) = Unit {0}
+IsMaker (Says EndRegion) = Unit {0}
+IsMaker _ = ⊥
+
+-- what is open and built behind a past
+pub record TracksPlaces (past : Past) (r : Running) : Type 0 where
+  pub frames : TracksFrames past r.frames
+  pub built : TracksBuilt past r.built
+
+-- what an object weighs beside a dictionary
+pub record Weighs (weight : Weight) (entries : List (ℕ × Entry)) (object : Object) : Type 0 where
+  pub leaves : weight.leaves ≡ object_count (weight_in entries) object
+  pub depth : weight.depth ≡ object_depth (weight_in entries) object
+
+-- a past without a fault
+abbrev pub HasPast : Running → Type 0
+HasPast r = (past : Past) × IsFaultless past × Tracks past r × AreWithin past
+
+-- an object that a statement makes joins its home, and nothing else changes
+pub record Keeps (object : Object) (leaves : ℕ) (old new : Running) : Type 0 where
+  pub modal : new.modal ≡ old.modal
+  pub region : new.region ≡ old.region
+  pub alloc : new.alloc ≡ old.alloc
+  pub places : (past : Past) (says : Statement) → IsFaultless past → TracksPlaces past old → IsMaker says
+      → made past says ≡ object ∷ [] → leaves ≡ object_count (weight_in (entries_in past)) object
+      → is_full (home past) past object ≡ false → TracksPlaces (says ∷ past) new
+
+-- a contour has ended: its region has joined its home
+pub record Ended (past : Past) (old new : Running) : Type 0 where
+  pub modal : new.modal ≡ old.modal
+  pub inside : new.region.inside ≡ old.region.inside
+  pub start : new.region.start ≡ old.region.start
+  pub segs : new.region.segs.items ≡ []
+  pub alloc : new.alloc ≡ old.alloc
+  pub places : TracksPlaces past new
+
+-- one more contour ends
+abbrev pub EndsContour : Running → Result (Unit {0}) Stop → Running → Type 0
+EndsContour old result new =
+    (past : Past) (says : Statement) → IsFaultless past → Tracks past old → IsMaker says
+    → made past says ≡ region_in past
+    → Answers result ((too_much, holds_of_one (is_full (home past) past) (region_in past)) ∷ []) (Ended (says
+    ∷ past) old new)
+
+-- one more command, as what it says is read
+abbrev pub Obeys : Command → Running → Result (Unit {0}) Stop → Running → Type 0
+Obeys command old (Ok done) new =
+    (past : Past) → IsFaultless past → Tracks past old
+    → (says : Statement) × IsSaidBy command says × (least (faults past says) ≡ None) × Tracks (says ∷ past) new
+Obeys command old (Err Memory) new = Unit {0}
+Obeys command old (Err (Fault code)) new =
+    (past : Past) → IsFaultless past → Tracks past old → (says : Statement) × IsSaidBy command says
+    × (least (faults past says) ≡ Some code)
+
+-- the repeat is closed
+pub record IsSettled (past : Past) (old new : Running) : Type 0 where
+  pub modal : new.modal ≡ old.modal
+  pub region : new.region ≡ old.region
+  pub alloc : new.alloc ≡ old.alloc
+  pub blocks : new.frames.blocks ≡ old.frames.blocks
+  pub repeat : new.frames.repeat ≡ None
+  pub macros : new.built.macros ≡ old.built.macros
+  pub entries : new.built.layer.apertures ≡ old.built.layer.apertures
+  pub items : new.built.layer.items.items ≡ items_in past ++ closed_repeat past
+  pub leaves : new.built.leaves ≡ leaves_in past + closed_leaves past
+
+-- the close of a repeat: for the first of its faults refused, or its item has joined the others
+abbrev pub Settles : Running → Result (Unit {0}) Stop → Running → Type 0
+Settles old result new =
+    (past : Past) → IsFaultless past → Tracks past old
+    → Answers result (closing_faults past true) (IsSettled past old new)
+
+-- a format has at most six decimals
+abbrev pub HasFewDecimals : Command → Type 0
+HasFewDecimals (SetFormat format) = format.decimals ≤ 6
+HasFewDecimals _ = Unit {0}

@@ -1,4 +1,4 @@
-use Rattle.cam_gerber.proofs.FaultNumbers.{no_fault_is_memory}
+use Rattle.cam_gerber.proofs.LeastFaults.{no_fault_is_memory}
 use Rattle.cam_gerber.proofs.laws.no_fault_of_memory.Goals as goal
 
 pub returns : goal.returns

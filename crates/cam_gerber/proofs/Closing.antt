@@ -1,0 +1,247 @@
+-- The open repeat is closed: it joins the items, if it has objects.
+use Rattle.std.proofs.Common.{◌≡◌, ℕ, ◌+◌, ◌*◌, ◌<◌, ◌≤◌, List, [], ◌∷◌, ◌++◌, length, min, Bool, true, false, cond, ltb, leb, Option, Some, None, Result, Ok, Err, refl, sym, ap, ap₂, subst, ◌∙◌, arith}
+use Rattle.std.specs.Prelude.{◌||◌, ◌&&◌, not, nat_le, nat_lt, IfSome}
+use Rattle.std.specs.Option.{option_map}
+use Rattle.std.proofs.lemmas.Bool.{or_parts, false≢true, ltb-true, ltb-false, lt-ltb, leb-true, leb-false}
+use Rattle.std.proofs.lemmas.List.{append-nil}
+use Rattle.std.proofs.lemmas.List.Elements.{All-weaker}
+use Rattle.std.proofs.Math.Nat.{mul-le-mul_right}
+use Rattle.cam_apertures.specs.Definition.{Table}
+use Rattle.cam_objects.specs.declared.entry.Entry.{Entry}
+use Rattle.cam_objects.specs.declared.item.Item.{Item}
+use Rattle.cam_objects.specs.declared.item.Item.TheVariants as item
+use Rattle.cam_objects.specs.declared.object.Object.{Object}
+use Rattle.cam_objects.specs.Leaves.{item_leaves, meaning_in}
+use Rattle.cam_objects.specs.Weights.{block_count, weight_in}
+use Rattle.cam_commands.specs.declared.parts.Repeat.{Repeat}
+use Rattle.cam_commands.specs.Commands.{CloseRepeat, End, EndRegion, Operate, SetRepeat}
+use Rattle.cam_gerber.specs.declared.built.Built.{Built}
+use Rattle.cam_gerber.specs.declared.frames.OpenRepeat.{OpenRepeat}
+use Rattle.cam_gerber.specs.declared.running.Running.{Running}
+use Rattle.cam_gerber.specs.declared.stop.Stop.{Stop}
+use Rattle.cam_gerber.specs.declared.stop.Stop.TheVariants.{Memory, Fault}
+use Rattle.cam_gerber.specs.Statements.{Statement, Says}
+use Rattle.cam_gerber.specs.State.{Past}
+use Rattle.cam_gerber.specs.Homes.{Home, InRepeat, Opened, count_of, is_repeated, open_repeat, opened}
+use Rattle.cam_gerber.specs.Making.{made_at, objects_of}
+use Rattle.cam_gerber.specs.Layers.{closed_leaves, closed_repeat, entries_in, items_in, leaves_in, leaves_of, made_leaves, repeat_by}
+use Rattle.cam_gerber.specs.Faults.{are_on_board, closing_faults, holds_of_one, is_empty, is_layer_full, is_outside}
+use Rattle.cam_gerber.specs.Machinery.Closing.{Adds, IsAdded}
+use Rattle.cam_gerber.specs.Machinery.Tracking.{Answers, HasPast, IsSettled, Tracks, first_of, repeat_of}
+use Rattle.cam_gerber.specs.Machinery.WellMade.{IsWellMade, IsWellMadeItem}
+use Rattle.cam_gerber.proofs.Pasts.{NoneHolds}
+use Rattle.cam_gerber.proofs.Outside.{outside_is}
+use Rattle.cam_gerber.proofs.SoundParts.{IsMade}
+use Rattle.cam_gerber.proofs.SoundViews.{IsRepeatView, repeat_at}
+use Rattle.cam_gerber.proofs.SoundPasts.{Sound}
+use Rattle.cam_gerber.proofs.SoundJoining.{sound_past}
+
+-- ---- the open repeat of a past
+
+-- it has more than one copy
+many_opened : (past : Past) (repeat : Repeat) (b : Bool) → is_repeated repeat ≡ b → IfSome (cond b (Some (opened past repeat)) None) (λ o. 1 < o.columns * o.rows)
+many_opened past repeat true many = ltb-true 1 (count_of repeat.columns * count_of repeat.rows) many
+many_opened past repeat false one = tt
+
+many_copies : (past : Past) → IfSome (open_repeat past) (λ o. 1 < o.columns * o.rows)
+many_copies [] = tt
+many_copies (Says (SetRepeat repeat) ∷ older) = many_opened older repeat (is_repeated repeat) refl
+many_copies (Says CloseRepeat ∷ older) = tt
+many_copies (Says End ∷ older) = tt
+many_copies (_ ∷ older) = many_copies older
+
+-- the repeat of the record is that of the past
+pub record IsOpened (past : Past) (r : OpenRepeat) : Type 0 where
+  pub o : Opened
+  pub opens : open_repeat past ≡ Some o
+  pub same : r ≡ repeat_of past o
+  pub many : 1 < o.columns * o.rows
+
+is_opened : (past : Past) (old : Running) (r : OpenRepeat) → Tracks past old → old.frames.repeat ≡ Some r → IsOpened past r
+is_opened past old r t e = go (open_repeat past) refl (many_copies past)
+  where
+    go : (o : Option Opened) → open_repeat past ≡ o → IfSome o (λ o. 1 < o.columns * o.rows) → IsOpened past r
+    go None is many = absurd (let wrong : Some r ≡ None = sym e ∙ t.frames.repeat ∙ ap (option_map (repeat_of past)) is in cc)
+    go (Some o) is many =
+        let joined : Some r ≡ Some (repeat_of past o) = sym e ∙ t.frames.repeat ∙ ap (option_map (repeat_of past)) is in
+        record { o = o; opens = is; same = cc; many = many }
+
+-- ---- a repeat without objects has no leaves
+
+both_nil : {A : Type 0} (xs ys : List A) → xs ++ ys ≡ [] → (xs ≡ []) × (ys ≡ [])
+both_nil [] ys h = (refl, h)
+both_nil (x ∷ xs) ys h = absurd cc
+
+none_more : (h : Home) (past : Past) (says : Statement) → made_at h past says ≡ [] → made_leaves h past says ≡ 0
+none_more h past says e = ap (block_count (weight_in (entries_in past))) e
+
+pub no_leaves : (h : Home) (past : Past) → objects_of h past ≡ [] → leaves_of h past ≡ 0
+no_leaves h [] e = refl
+no_leaves h (Says (Operate operation) ∷ older) e =
+    let both = both_nil (objects_of h older) (made_at h older (Says (Operate operation))) e in
+    omega (arith, no_leaves h older both.0, none_more h older (Says (Operate operation)) both.1)
+no_leaves h (Says EndRegion ∷ older) e =
+    let both = both_nil (objects_of h older) (made_at h older (Says EndRegion)) e in
+    omega (arith, no_leaves h older both.0, none_more h older (Says EndRegion) both.1)
+no_leaves h (_ ∷ older) e = no_leaves h older e
+
+-- ---- leaves are counted up to one past the limit
+
+at_least : (k n : ℕ) → 1 ≤ k → n ≤ k * n
+at_least k n h = omega (arith, mul-le-mul_right n h)
+
+pub within_cap : (b k n : ℕ) → 1 ≤ k → b + k * n ≤ 4000000 → min (k * min 4000001 n) 18446744073709551615 ≡ k * n
+within_cap b k n h few =
+    let small : min 4000001 n ≡ n = omega (arith, few, at_least k n h) in
+    ap (λ m. min (k * m) 18446744073709551615) small ∙ omega (arith, few)
+
+past_cap : (b k n : ℕ) → 1 ≤ k → 4000000 < b + k * n → 4000000 < b + min (k * min 4000001 n) 18446744073709551615
+past_cap b k n h many = go (leb n 4000001) refl
+  where
+    go : (t : Bool) → leb n 4000001 ≡ t → 4000000 < b + min (k * min 4000001 n) 18446744073709551615
+    go true e = let small : min 4000001 n ≡ n = omega (arith, leb-true n 4000001 e) in subst (λ m. 4000000 < b + min (k * m) 18446744073709551615) (sym small) (omega (arith, many))
+    go false e = let large : min 4000001 n ≡ 4000001 = omega (arith, leb-false n 4000001 e) in subst (λ m. 4000000 < b + min (k * m) 18446744073709551615) (sym large) (omega (arith, at_least k 4000001 h))
+
+pub same_over : (b k n : ℕ) → 1 ≤ k → nat_lt 4000000 (b + min (k * min 4000001 n) 18446744073709551615) ≡ nat_lt 4000000 (b + k * n)
+same_over b k n h = go (ltb 4000000 (b + k * n)) refl
+  where
+    go : (t : Bool) → ltb 4000000 (b + k * n) ≡ t → nat_lt 4000000 (b + min (k * min 4000001 n) 18446744073709551615) ≡ nat_lt 4000000 (b + k * n)
+    go true e = lt-ltb 4000000 (b + min (k * min 4000001 n) 18446744073709551615) (past_cap b k n h (ltb-true 4000000 (b + k * n) e)) ∙ sym e
+    go false e =
+        let few = ltb-false 4000000 (b + k * n) e in
+        ap (λ m. ltb 4000000 (b + m)) (within_cap b k n h few)
+
+-- ---- tables
+
+both_hold_not : (table : Table) → first_of table ≡ None → NoneHolds table
+both_hold_not [] h = tt
+both_hold_not (fault ∷ table) h = (elim fault.1 as (λ b. fault.1 ≡ b → cond b (Some fault.0) (first_of table) ≡ None → NoneHolds (fault ∷ table)) [
+  | true ↦ λ is e. absurd cc
+  | false ↦ λ is e. (is, both_hold_not table e)
+]) refl h
+
+-- what one table is answered by, answers one that tells the same
+pub answers_alike : (result : Result (Unit {0}) Stop) (a b : Table) (P Q : Type 0) → first_of a ≡ first_of b → (first_of b ≡ None → P → Q) → Answers result a P → Answers result b Q
+answers_alike (Ok done) a b P Q e f h = (sym e ∙ h.0, f (sym e ∙ h.0) h.1)
+answers_alike (Err Memory) a b P Q e f h = tt
+answers_alike (Err (Fault code)) a b P Q e f h = sym e ∙ h
+
+-- ---- a repeat without objects
+
+pub settles_none : (past : Past) (old : Running) (after : Option OpenRepeat) → Tracks past old → old.frames.repeat ≡ None → after ≡ None
+    → (first_of (closing_faults past true) ≡ None) × IsSettled past old (record old { frames = record old.frames { repeat = after } })
+settles_none past old after t e closed = go (open_repeat past) refl
+  where
+    go : (o : Option Opened) → open_repeat past ≡ o → (first_of (closing_faults past true) ≡ None) × IsSettled past old (record old { frames = record old.frames { repeat = after } })
+    go (Some o) is = absurd (let wrong : None ≡ Some (repeat_of past o) = sym e ∙ t.frames.repeat ∙ ap (option_map (repeat_of past)) is in cc)
+    go None is = (
+      rw is refl,
+      record {
+        modal = refl;
+        region = refl;
+        alloc = refl;
+        blocks = refl;
+        repeat = closed;
+        macros = refl;
+        entries = refl;
+        items = t.built.items ∙ rw (is, append-nil) refl;
+        leaves = t.built.leaves ∙ rw is (omega arith);
+      },
+    )
+
+nothing_from : (objects : List Object) → is_empty objects ≡ true → objects ≡ []
+nothing_from [] h = refl
+nothing_from (x ∷ xs) h = absurd (false≢true h)
+
+pub settles_empty : (past : Past) (old : Running) (r : OpenRepeat) (after : Option OpenRepeat) → Tracks past old → old.frames.repeat ≡ Some r → is_empty r.objects ≡ true → after ≡ None
+    → (first_of (closing_faults past true) ≡ None) × IsSettled past old (record old { frames = record old.frames { repeat = after } })
+settles_empty past old r after t e empty closed =
+    let opens = is_opened past old r t e in
+    let o = opens.o in
+    let objects : objects_of (InRepeat o.before) past ≡ [] = nothing_from (objects_of (InRepeat o.before) past) (ap (λ (r : OpenRepeat). is_empty r.objects) (sym opens.same) ∙ empty) in
+    let items : closed_repeat past ≡ [] = rw opens.opens (ap (repeat_by o) objects) in
+    let leaves : closed_leaves past ≡ 0 = rw opens.opens (ap (λ n. o.columns * o.rows * n) (no_leaves (InRepeat o.before) past objects) ∙ omega arith) in (
+      ap (λ all. first_of ((23, not true || holds_of_one (is_outside past) all) ∷ (25, not (is_empty all) && is_layer_full past (closed_leaves past)) ∷ [])) items,
+      record {
+        modal = refl;
+        region = refl;
+        alloc = refl;
+        blocks = refl;
+        repeat = closed;
+        macros = refl;
+        entries = refl;
+        items = t.built.items ∙ sym (ap (λ all. items_in past ++ all) items ∙ append-nil (items_in past));
+        leaves = omega (arith, t.built.leaves, leaves);
+      },
+    )
+
+-- ---- a repeat with objects
+
+some_objects : (objects : List Object) → is_empty objects ≡ false → 0 < length objects
+some_objects [] h = absurd (false≢true (sym h))
+some_objects (x ∷ xs) h = omega arith
+
+well_made : (es : List (ℕ × Entry)) (o : Object) → IsMade es o → IsWellMade es o
+well_made es o m = record { formed = m.formed; known = m.known; drawable = m.drawable; radius = m.radius; points = m.points }
+
+opened_well : (past : Past) (o : Opened) → Sound past → open_repeat past ≡ Some o → is_empty (objects_of (InRepeat o.before) past) ≡ false
+    → IsWellMadeItem (entries_in past) (item.Repeat o.columns o.rows o.i o.j (objects_of (InRepeat o.before) past))
+opened_well past o sound opens some =
+    let view = subst (λ repeat. IsRepeatView (entries_in past) (option_map (repeat_at past) repeat)) opens sound.repeat in
+    record {
+      repeated = (view.0.copies, some_objects (objects_of (InRepeat o.before) past) some);
+      steps = (view.0.steps_i, view.0.steps_j);
+      objects = All-weaker (IsMade (entries_in past)) (IsWellMade (entries_in past)) (well_made (entries_in past)) (objects_of (InRepeat o.before) past) view.1.each;
+    }
+
+pub closing_well : (old : Running) (r : OpenRepeat) → HasPast old → old.frames.repeat ≡ Some r → is_empty r.objects ≡ false
+    → IsWellMadeItem old.built.layer.apertures (item.Repeat r.columns r.rows r.i r.j r.objects)
+closing_well old r h e some =
+    let opens = is_opened h.0 old r h.2 e in
+    let o = opens.o in
+    subst (λ (r : OpenRepeat). IsWellMadeItem old.built.layer.apertures (item.Repeat r.columns r.rows r.i r.j r.objects)) (sym opens.same)
+    (subst (λ es. IsWellMadeItem es (item.Repeat o.columns o.rows o.i o.j (objects_of (InRepeat o.before) h.0))) (sym h.2.built.entries)
+    (opened_well h.0 o (sound_past h.0 h.1 h.3) opens.opens (ap (λ (r : OpenRepeat). is_empty r.objects) (sym opens.same) ∙ some)))
+
+one_item : (o : Opened) (objects : List Object) → is_empty objects ≡ false → repeat_by o objects ≡ item.Repeat o.columns o.rows o.i o.j objects ∷ []
+one_item o [] h = absurd (false≢true (sym h))
+one_item o (x ∷ xs) h = refl
+
+pub settles_some : (past : Past) (old : Running) (r : OpenRepeat) (after : Option OpenRepeat) (result : Result (Unit {0}) Stop) (built : Built) → Tracks past old
+    → old.frames.repeat ≡ Some r → is_empty r.objects ≡ false → after ≡ None
+    → Adds (item.Repeat r.columns r.rows r.i r.j r.objects) (min (r.columns * r.rows * r.leaves) 18446744073709551615) old.built result built
+    → Answers result (closing_faults past true) (IsSettled past old (record old { frames = record old.frames { repeat = after }; built = built }))
+settles_some past old r after result built t e some closed adds =
+    let opens = is_opened past old r t e in
+    let o = opens.o in
+    let k = o.columns * o.rows in
+    let n = leaves_of (InRepeat o.before) past in
+    let all : Item = item.Repeat o.columns o.rows o.i o.j (objects_of (InRepeat o.before) past) in
+    let more = min (k * min 4000001 n) 18446744073709551615 in
+    let one : 1 ≤ k = omega (arith, opens.many) in
+    let items : closed_repeat past ≡ all ∷ [] = rw opens.opens (one_item o (objects_of (InRepeat o.before) past) (ap (λ (r : OpenRepeat). is_empty r.objects) (sym opens.same) ∙ some)) in
+    let leaves : closed_leaves past ≡ k * n = rw opens.opens refl in
+    let added : Adds all more old.built result built =
+    subst (λ (r : OpenRepeat). Adds (item.Repeat r.columns r.rows r.i r.j r.objects) (min (r.columns * r.rows * r.leaves) 18446744073709551615) old.built result built) opens.same adds in
+    let full : (nat_le 1000000 (length old.built.layer.items.items) || nat_lt 4000000 (old.built.leaves + more)) ≡ is_layer_full past (closed_leaves past) =
+    ap₂ (λ a b. a || b) (ap (λ all. nat_le 1000000 (length all)) t.built.items)
+    (ap (λ b. nat_lt 4000000 (b + more)) t.built.leaves ∙ same_over (leaves_in past) k n one ∙ ap (λ m. nat_lt 4000000 (leaves_in past + m)) (sym leaves)) in
+    let outside : not (are_on_board (item_leaves (meaning_in old.built.layer.apertures) all)) ≡ is_outside past all =
+    ap (λ es. not (are_on_board (item_leaves (meaning_in es) all))) t.built.entries ∙ sym (outside_is past all) in
+    answers_alike result _ (closing_faults past true) (IsAdded all more old.built built) (IsSettled past old (record old { frames = record old.frames { repeat = after }; built = built }))
+    (ap₂ (λ a b. first_of ((23, a) ∷ (25, b) ∷ [])) outside full
+    ∙ ap (λ items. first_of ((23, not true || holds_of_one (is_outside past) items) ∷ (25, not (is_empty items) && is_layer_full past (closed_leaves past)) ∷ [])) (sym items))
+    (λ told h.
+    let fits : is_layer_full past (closed_leaves past) ≡ false = ap (λ items. not (is_empty items) && is_layer_full past (closed_leaves past)) (sym items) ∙ (both_hold_not (closing_faults past true) told).1.0 in
+    let few : leaves_in past + k * n ≤ 4000000 = ltb-false 4000000 (leaves_in past + k * n) (ap (λ m. nat_lt 4000000 (leaves_in past + m)) (sym leaves) ∙ (or_parts (nat_le 1000000 (length (items_in past))) _ fits).1) in
+    record {
+      modal = refl;
+      region = refl;
+      alloc = refl;
+      blocks = refl;
+      repeat = closed;
+      macros = h.macros;
+      entries = h.entries;
+      items = h.items ∙ ap₂ (λ a b. a ++ b) t.built.items (sym items);
+      leaves = omega (arith, h.leaves, t.built.leaves, within_cap (leaves_in past) k n one few, leaves);
+    }) added

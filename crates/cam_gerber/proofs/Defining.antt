@@ -1,0 +1,257 @@
+-- Definitions of apertures and macros.
+use Rattle.std.proofs.Common.{◌≡◌, ℕ, suc, ◌+◌, take, arith, List, [], ◌∷◌, ◌++◌, Bool, true, false, cond, Option, Some, None, refl, sym, ap, ap₂, ◌∙◌, subst, Global}
+use Rattle.std.specs.Prelude.{unwrap_or, is_none, is_some, nat_eq, not, ◌==◌, ◌||◌}
+use Rattle.cam_units.specs.declared.length.Unit.{Unit as FileUnit}
+use Rattle.cam_words.specs.Bytes.{is_skipped}
+use Rattle.cam_words.specs.Heads.{packed}
+use Rattle.cam_macros.specs.declared.aperture_macro.Macro.{Macro}
+use Rattle.cam_apertures.specs.declared.aperture.Aperture.{Aperture}
+use Rattle.cam_apertures.specs.Definition.{Table, definition, definition_of, named, numbered, faults_of, IsDefined, IsLeast, IsAdFault, IsMeant}
+use Rattle.cam_apertures.specs.declared.fault.AdFault.{AdFault}
+use Rattle.cam_apertures.specs.declared.fault.AdFault.TheVariants.{UnknownForm, BadNumber, TemplateRefused, PrimitiveRefused, RotationRefused, SizeRefused, Malformed, OutOfMemory}
+use Rattle.cam_objects.specs.declared.entry.Entry.{Entry}
+use Rattle.cam_objects.specs.declared.entry.Entry.TheVariants as entry
+use Rattle.cam_gerber.specs.State.{Past, unit_in, unit_or_mm, in_region}
+use Rattle.cam_gerber.specs.Layers.{macros_in, entries_in, defined, defined_by}
+use Rattle.cam_gerber.specs.Faults.{least, faults, command_faults, is_reserved, is_taken_again, is_defined}
+use Rattle.cam_gerber.specs.Statements.{Says, NamesMacro, IsMacroOf}
+use Rattle.std.specs.List.{slice_split, onto_first, before_first}
+use Rattle.std.specs.declared.vec.Vec.{Vec}
+use Rattle.cam_macros.specs.declared.part.Part.{Part}
+use Rattle.cam_macros.specs.Reading.{pieces, first, others, spoken, is_name, AreParts, IsReading, IsRefused}
+use Rattle.cam_macros.specs.declared.fault.MacroFault.{MacroFault}
+use Rattle.cam_macros.specs.declared.fault.MacroFault.TheVariants as macro
+use Rattle.cam_commands.specs.Commands.{DefineAperture}
+use Rattle.cam_objects.specs.declared.layer.Layer.{Layer}
+use Rattle.cam_gerber.specs.declared.running.Running.{Running}
+use Rattle.cam_gerber.specs.Machinery.Tracking.{Tracks}
+use Rattle.cam_gerber.proofs.Pasts.{none_holds}
+use Rattle.cam_gerber.proofs.Opening.{none_from}
+use Rattle.std.proofs.lemmas.Bool.{or_parts}
+use Rattle.std.specs.Map.{lookup}
+use Rattle.cam_gerber.proofs.Least.{least_of, least_none, told_more}
+
+-- bytes that do not count are dropped once
+pub packed_again : (text : List ℕ) → packed (packed text) ≡ packed text
+packed_again [] = refl
+packed_again (byte ∷ text) = (elim (not (is_skipped byte)) as (λ b. not (is_skipped byte) ≡ b → packed (cond b (byte ∷ packed text) (packed text)) ≡ cond b (byte ∷ packed text) (packed text)) [
+  | true ↦ λ e. rw e (ap (λ (rest : List ℕ). byte ∷ rest) (packed_again text))
+  | false ↦ λ e. packed_again text
+]) refl
+
+pub same_definition : (text : List ℕ) → definition_of (packed text) ≡ definition_of text
+same_definition text = ap definition (packed_again text)
+
+pub defined_number_is : (text : List ℕ) (macros : List Macro) (unit : FileUnit) (n : ℕ) (a : Aperture) → IsDefined text macros unit n a → numbered (definition_of text) ≡ Some n
+defined_number_is text macros unit n a d = ap numbered d.form ∙ d.number_is
+
+pub defined_entry : (text : List ℕ) (macros : List Macro) (unit : FileUnit) (n : ℕ) (a : Aperture) → IsDefined text macros unit n a
+    → defined_by (definition_of text) macros unit ≡ (n, entry.Aperture a) ∷ []
+defined_entry text macros unit n a d = rw (d.form, d.number_is, d.values_are, d.aperture_is) refl
+
+pub faultless_definition : (text : List ℕ) (macros : List Macro) (unit : FileUnit) (n : ℕ) (a : Aperture) → IsDefined text macros unit n a
+    → least (faults_of (definition_of text) macros unit) ≡ None
+faultless_definition text macros unit n a d = least_none _ d.faultless
+
+pub faulty_definition : (text : List ℕ) (macros : List Macro) (unit : FileUnit) (n : ℕ) → IsLeast (IsAdFault text macros unit) n
+    → least (faults_of (definition_of text) macros unit) ≡ Some n
+faulty_definition text macros unit n h = least_of _ n h
+
+-- what a definition is refused for, beside its own faults
+abbrev with_state : Past → Option ℕ → Table → Table
+with_state past number table = (6, is_none (unit_in past)) ∷ (10, is_taken_again past number) ∷ (22, in_region past) ∷ table
+
+pub definition_faults : (past : Past) (text : List ℕ) (macros : List Macro) (unit : FileUnit) (number told result : Option ℕ) → macros ≡ macros_in past → unit ≡ unit_or_mm (unit_in past)
+    → number ≡ numbered (definition_of text) → ((table : Table) → told ≡ least table → result ≡ least (with_state past number table)) → told ≡ least (faults_of (definition_of text) macros unit)
+    → result ≡ least (command_faults past (DefineAperture (packed text)))
+definition_faults past text macros unit number told result m u n lowest e =
+    lowest (faults_of (definition_of text) macros unit) e
+    ∙ ap (λ k. least (with_state past k (faults_of (definition_of text) macros unit))) n
+    ∙ ap₂ (λ ms v. least (with_state past (numbered (definition_of text)) (faults_of (definition_of text) ms v))) m u
+    ∙ ap (λ d. least (with_state past (numbered d) (faults_of d (macros_in past) (unit_or_mm (unit_in past))))) (sym (same_definition text))
+
+-- a definition's own fault makes one of the command
+pub some_fault : (past : Past) (number : Option ℕ) (table : Table) (result : Option ℕ) (code : ℕ) → least table ≡ Some code → result ≡ least (with_state past number table) → result ≡ Some (unwrap_or result code)
+some_fault past number table result code h e =
+    let one = told_more (22, in_region past) table code h in
+    let two = told_more (10, is_taken_again past number) ((22, in_region past) ∷ table) one.0 one.1 in
+    let three = told_more (6, is_none (unit_in past)) ((10, is_taken_again past number) ∷ (22, in_region past) ∷ table) two.0 two.1 in
+    go result (e ∙ three.1)
+  where
+    go : {m : ℕ} (o : Option ℕ) → o ≡ Some m → o ≡ Some (unwrap_or o code)
+    go None k = absurd cc
+    go (Some l) k = refl
+
+-- a number that is not refused is new
+pub new_number : (past : Past) (number : ℕ) (table : Table) (entries : List (ℕ × Entry)) → entries ≡ entries_in past → least (with_state past (Some number) table) ≡ None → lookup (nat_eq number) entries ≡ None
+new_number past number table entries e h =
+    let met = none_holds (with_state past (Some number) table) h in
+    let free : is_defined past number ≡ false = (or_parts (is_defined past number) _ met.1.0).0 in
+    ap (lookup (nat_eq number)) e ∙ none_from (lookup (nat_eq number) (entries_in past)) free
+
+pub defined_tracks : (past : Past) (text : List ℕ) (old : Running) (unit : FileUnit) (n : ℕ) (a : Aperture) (layer : Layer) → Tracks past old → unit ≡ unit_or_mm (unit_in past)
+    → IsDefined text old.built.macros.items unit n a → layer.apertures ≡ old.built.layer.apertures ++ (n, entry.Aperture a) ∷ [] → layer.items ≡ old.built.layer.items
+    → Tracks (Says (DefineAperture (packed text)) ∷ past) (record old { built = record old.built { layer = layer } })
+defined_tracks past text old unit n a layer t u d entries items = record {
+  modal = record {
+    format = t.modal.format;
+    unit = t.modal.unit;
+    dark = t.modal.dark;
+    mirror = t.modal.mirror;
+    rotation = t.modal.rotation;
+    aperture = t.modal.aperture;
+    mode = t.modal.mode;
+    arcs = t.modal.arcs;
+    code = t.modal.code;
+    point = t.modal.point;
+  };
+  region = record { inside = t.region.inside; start = t.region.start; segs = t.region.segs };
+  frames = record { blocks = t.frames.blocks; repeat = t.frames.repeat };
+  built = record {
+    entries = entries ∙ ap₂ (λ xs ys. xs ++ ys) t.built.entries (sym made);
+    items = ap (λ v. v.items) items ∙ t.built.items;
+    macros = t.built.macros;
+    leaves = t.built.leaves;
+  };
+}
+  where
+    made : defined past (packed text) ≡ (n, entry.Aperture a) ∷ []
+    made = ap (λ d. defined_by d (macros_in past) (unit_or_mm (unit_in past))) (same_definition text)
+        ∙ ap₂ (λ ms v. defined_by (definition_of text) ms v) (sym t.built.macros) (sym u) ∙ defined_entry text old.built.macros.items unit n a d
+
+-- a refusal that is not of memory
+pub meant : (fault : AdFault) (P : Type 0) → (fault ≡ OutOfMemory → ⊥) → IsMeant fault P → P
+meant UnknownForm P other h = h
+meant BadNumber P other h = h
+meant TemplateRefused P other h = h
+meant PrimitiveRefused P other h = h
+meant RotationRefused P other h = h
+meant SizeRefused P other h = h
+meant Malformed P other h = h
+meant OutOfMemory P other h = absurd (other refl)
+
+-- ---- macros
+
+same_pieces : (text : List ℕ) → pieces (packed text) ≡ pieces text
+same_pieces text = ap (slice_split (λ b. b == 42)) (packed_again text)
+
+-- a text and the same without the bytes that do not count stand for the same macros
+to_packed : (text name : List ℕ) (parts : List Part) → IsReading text name parts → IsReading (packed text) name parts
+to_packed text name parts r = record {
+  name_is = r.name_is ∙ ap first (sym (same_pieces text));
+  named = r.named;
+  parts_are = subst (λ ps. AreParts (spoken (others ps)) parts) (sym (same_pieces text)) r.parts_are;
+}
+
+from_packed : (text name : List ℕ) (parts : List Part) → IsReading (packed text) name parts → IsReading text name parts
+from_packed text name parts r = record {
+  name_is = r.name_is ∙ ap first (same_pieces text);
+  named = r.named;
+  parts_are = subst (λ ps. AreParts (spoken (others ps)) parts) (same_pieces text) r.parts_are;
+}
+
+abbrev macro_rows : Bool → Bool → Bool → Bool → Table
+macro_rows a b c d = (3, a) ∷ (10, b) ∷ (22, c) ∷ (29, d) ∷ []
+
+tells_3 : (b c d : Bool) → least (macro_rows true b c d) ≡ Some 3
+tells_3 true true true = refl
+tells_3 true true false = refl
+tells_3 true false true = refl
+tells_3 true false false = refl
+tells_3 false true true = refl
+tells_3 false true false = refl
+tells_3 false false true = refl
+tells_3 false false false = refl
+
+tells_10 : (c d : Bool) → least (macro_rows false true c d) ≡ Some 10
+tells_10 true true = refl
+tells_10 true false = refl
+tells_10 false true = refl
+tells_10 false false = refl
+
+tells_22 : (d : Bool) → least (macro_rows false false true d) ≡ Some 22
+tells_22 true = refl
+tells_22 false = refl
+
+-- what a macro's text says
+pub said_macro : (text name : List ℕ) (parts : List Part) → IsReading text name parts → IsMacroOf (packed text) (NamesMacro name (Some parts))
+said_macro text name parts r = (r.name_is ∙ ap first (sym (same_pieces text)), to_packed text name parts r)
+
+pub said_none : (text : List ℕ) → ((parts : List Part) → ¬ IsReading text (first (pieces text)) parts) → IsMacroOf (packed text) (NamesMacro (first (pieces text)) None)
+said_none text none = (ap first (sym (same_pieces text)), λ parts r. none parts (from_packed text (first (pieces text)) parts r))
+
+module _ (past : Past) (name : List ℕ) (parts : Option (List Part)) (macros : List Macro) (m : macros ≡ macros_in past) where
+  abbrev taken : Bool
+  taken = is_some (named (macros_in past) name) || is_reserved name
+
+  same_taken : (is_some (named macros name) || is_reserved name) ≡ taken
+  same_taken = ap (λ ms. is_some (named ms name) || is_reserved name) m
+
+  pub refused_name : is_name name ≡ false → least (faults past (NamesMacro name parts)) ≡ Some 3
+  refused_name h = ap (λ a. least (macro_rows (not a) taken (in_region past) (is_none parts))) h ∙ tells_3 taken (in_region past) (is_none parts)
+
+  pub refused_again : is_name name ≡ true → (is_some (named macros name) || is_reserved name) ≡ true → least (faults past (NamesMacro name parts)) ≡ Some 10
+  refused_again h k =
+      ap₂ (λ a b. least (macro_rows (not a) b (in_region past) (is_none parts))) h (sym same_taken ∙ k) ∙ tells_10 (in_region past) (is_none parts)
+
+  pub refused_inside : is_name name ≡ true → (is_some (named macros name) || is_reserved name) ≡ false → in_region past ≡ true → least (faults past (NamesMacro name parts)) ≡ Some 22
+  refused_inside h k l =
+      ap₂ (λ a b. least (macro_rows (not a) b (in_region past) (is_none parts))) h (sym same_taken ∙ k)
+      ∙ ap (λ c. least (macro_rows false false c (is_none parts))) l ∙ tells_22 (is_none parts)
+
+  pub by_parts : is_name name ≡ true → (is_some (named macros name) || is_reserved name) ≡ false → in_region past ≡ false
+      → least (faults past (NamesMacro name parts)) ≡ cond (is_none parts) (Some 29) None
+  by_parts h k l =
+      ap₂ (λ a b. least (macro_rows (not a) b (in_region past) (is_none parts))) h (sym same_taken ∙ k)
+      ∙ ap (λ c. least (macro_rows false false c (is_none parts))) l
+
+pub macro_tracks : (past : Past) (old : Running) (made : Macro) (macros : Vec Macro Global) → Tracks past old → macros.items ≡ old.built.macros.items ++ made ∷ []
+    → Tracks (NamesMacro made.name (Some made.parts) ∷ past) (record old { built = record old.built { macros = macros } })
+macro_tracks past old made macros t e = record {
+  modal = record {
+    format = t.modal.format;
+    unit = t.modal.unit;
+    dark = t.modal.dark;
+    mirror = t.modal.mirror;
+    rotation = t.modal.rotation;
+    aperture = t.modal.aperture;
+    mode = t.modal.mode;
+    arcs = t.modal.arcs;
+    code = t.modal.code;
+    point = t.modal.point;
+  };
+  region = record { inside = t.region.inside; start = t.region.start; segs = t.region.segs };
+  frames = record { blocks = t.frames.blocks; repeat = t.frames.repeat };
+  built = record {
+    entries = t.built.entries;
+    items = t.built.items;
+    macros = e ∙ ap (λ ms. ms ++ made ∷ []) t.built.macros;
+    leaves = t.built.leaves;
+  };
+}
+
+pub bad_parts : (text : List ℕ) (fault : MacroFault) → fault ≡ macro.Malformed → IsRefused text fault → (is_name (first (pieces text)) ≡ true) × ((parts : List Part) → ¬ IsReading text (first (pieces text)) parts)
+bad_parts text fault e h = let r = subst (IsRefused text) e h in (r.0, λ parts. r.1 (first (pieces text)) parts)
+
+pub bad_name : (text : List ℕ) (fault : MacroFault) → fault ≡ macro.BadName → IsRefused text fault → is_name (first (pieces text)) ≡ false
+bad_name text fault e h = subst (IsRefused text) e h
+
+pub no_name : (text : List ℕ) → is_name (first (pieces text)) ≡ false → (parts : List Part) → ¬ IsReading text (first (pieces text)) parts
+no_name text h parts r = let wrong : true ≡ false = sym r.named ∙ h in cc
+
+first_onto : (x : ℕ) (ps : List (List ℕ)) → first (onto_first x ps) ≡ x ∷ first ps
+first_onto x [] = refl
+first_onto x (piece ∷ ps) = refl
+
+one_more : (x n : ℕ) (xs : List ℕ) → x ∷ take n xs ≡ take (1 + n) (x ∷ xs)
+one_more x n xs = let e : suc n ≡ 1 + n = omega arith in ap (λ k. take k (x ∷ xs)) e
+
+first_piece : (p : ℕ → Bool) (xs : List ℕ) → first (slice_split p xs) ≡ before_first p xs
+first_piece p [] = refl
+first_piece p (x ∷ xs) = (elim (p x) as (λ b. p x ≡ b → first (cond b ([] ∷ slice_split p xs) (onto_first x (slice_split p xs))) ≡ before_first p (x ∷ xs)) [
+  | true ↦ λ e. rw e refl
+  | false ↦ λ e. first_onto x (slice_split p xs) ∙ ap (λ (ys : List ℕ). x ∷ ys) (first_piece p xs) ∙ rw e (one_more x _ xs)
+]) refl
+
+pub name_before_star : (text : List ℕ) → before_first (λ b. b == 42) (packed text) ≡ first (pieces text)
+name_before_star text = sym (first_piece (λ b. b == 42) (packed text))

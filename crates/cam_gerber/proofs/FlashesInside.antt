@@ -1,0 +1,68 @@
+-- A flash is well made, and a check tells whether a leaf of it lies outside the board.
+use Rattle.std.proofs.Common.{◌≡◌, ℕ, List, [], ◌∷◌, Bool, true, false, Option, Some, None, Result, refl, sym, ap, ap₂, subst, ◌∙◌}
+use Rattle.std.specs.Prelude.{map, ◌&&◌, not, is_some}
+use Rattle.std.specs.Option.{option_map}
+use Rattle.std.proofs.lemmas.List.Elements.{All-cons, All-nil}
+use Rattle.cam_units.specs.Board.{IsOnBoard}
+use Rattle.cam_units.specs.declared.point.Point.{Point}
+use Rattle.cam_units.specs.declared.turn.Turn.{Turn}
+use Rattle.cam_objects.specs.declared.item.Item.TheVariants.{One}
+use Rattle.cam_objects.specs.declared.item_fault.ItemFault.{ItemFault}
+use Rattle.cam_objects.specs.declared.object.Object.{Object}
+use Rattle.cam_objects.specs.declared.object.Object.TheVariants as object
+use Rattle.cam_objects.specs.Leaves.{item_leaves, meaning_in}
+use Rattle.cam_objects.specs.Refusals.{Tells}
+use Rattle.cam_objects.specs.Soundness.{HasNumber, MeetsItem}
+use Rattle.cam_gerber.specs.declared.running.Running.{Running}
+use Rattle.cam_gerber.specs.State.{Past}
+use Rattle.cam_gerber.specs.Homes.{Opened, home, home_by, open_blocks, open_repeat}
+use Rattle.cam_gerber.specs.Layers.{entries_in}
+use Rattle.cam_gerber.specs.Faults.{are_on_board, is_empty, is_on_board, is_outside, is_outside_at}
+use Rattle.cam_gerber.specs.Machinery.Tracking.{HasPast, TracksPlaces, block_of, repeat_of}
+use Rattle.cam_gerber.specs.Machinery.WellMade.{IsWellMade, is_of_board}
+use Rattle.cam_gerber.proofs.Outside.{on_board, outside_is, told_outside}
+use Rattle.cam_gerber.proofs.SoundViews.{IsKnownNumber}
+use Rattle.cam_gerber.proofs.SoundJoining.{sound_past}
+
+-- ---- what is judged at once
+
+empty_map : (past : Past) (numbers : List ℕ) → is_empty (map (block_of past) numbers) ≡ is_empty numbers
+empty_map past [] = refl
+empty_map past (n ∷ outer) = refl
+
+some_map : (past : Past) (repeat : Option Opened) → is_some (option_map (repeat_of past) repeat) ≡ is_some repeat
+some_map past None = refl
+some_map past (Some o) = refl
+
+in_repeat : (past : Past) (r : Running) → TracksPlaces past r → (is_empty r.frames.blocks.items && is_some r.frames.repeat) ≡ (is_empty (open_blocks past) && is_some (open_repeat past))
+in_repeat past r t =
+    ap₂ (λ a b. a && b) (ap is_empty t.frames.blocks ∙ empty_map past (open_blocks past)) (ap is_some t.frames.repeat ∙ some_map past (open_repeat past))
+
+judged : (past : Past) (blocks : List ℕ) (repeat : Option Opened) (o : Object) → is_outside_at (home_by blocks repeat) past o ≡ (not (is_empty blocks && is_some repeat) && is_outside past (One o))
+judged past (n ∷ outer) repeat o = refl
+judged past [] None o = refl
+judged past [] (Some opened) o = refl
+
+pub judged_later : (past : Past) (r : Running) (o : Object) → TracksPlaces past r → (is_empty r.frames.blocks.items && is_some r.frames.repeat) ≡ true → false ≡ is_outside_at (home past) past o
+judged_later past r o t e = sym (judged past (open_blocks past) (open_repeat past) o ∙ ap (λ b. not b && is_outside past (One o)) (sym (in_repeat past r t) ∙ e))
+
+pub judged_now : (past : Past) (r : Running) (o : Object) (check : Result (Unit {0}) ItemFault) → TracksPlaces past r → (is_empty r.frames.blocks.items && is_some r.frames.repeat) ≡ false
+    → IsWellMade r.built.layer.apertures o → Tells (MeetsItem r.built.layer.apertures (One o)) check → is_of_board check ≡ is_outside_at (home past) past o
+judged_now past r o check t e well tells =
+    told_outside r.built.layer.apertures (One o) check (record { repeated = tt; steps = tt; objects = All-cons (IsWellMade r.built.layer.apertures) o [] well (All-nil (IsWellMade r.built.layer.apertures)) }) tells
+    ∙ ap (λ es. not (are_on_board (item_leaves (meaning_in es) (One o)))) t.built.entries ∙ sym (outside_is past (One o))
+    ∙ sym (judged past (open_blocks past) (open_repeat past) o ∙ ap (λ b. not b && is_outside past (One o)) (sym (in_repeat past r t) ∙ e))
+
+-- ---- a flash
+
+pub flash_well : (old : Running) (n : ℕ) (at : Point) (turn : Turn) (dark : Bool) → HasPast old → old.modal.aperture ≡ Some n → is_on_board at ≡ true
+    → IsWellMade old.built.layer.apertures (object.Flash n at turn dark)
+flash_well old n at turn dark h a on =
+    let sound = sound_past h.0 h.1 h.3 in
+    record {
+      formed = tt;
+      known = subst (λ es. HasNumber es n) (sym h.2.built.entries) (subst (IsKnownNumber (entries_in h.0)) (sym h.2.modal.aperture ∙ a) sound.aperture);
+      drawable = tt;
+      radius = tt;
+      points = All-cons IsOnBoard at [] (on_board at on) (All-nil IsOnBoard);
+    }

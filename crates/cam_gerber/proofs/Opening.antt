@@ -1,0 +1,79 @@
+-- Blocks are opened and closed.
+use Rattle.std.proofs.Common.{◌≡◌, ℕ, List, [], ◌∷◌, length, false, cond, Option, Some, None, refl, sym, ap, ap₂, ◌∙◌, subst, Global, arith}
+use Rattle.std.specs.Prelude.{map, ◌||◌, nat_le, is_some, nat_eq}
+use Rattle.std.specs.Map.{lookup}
+use Rattle.std.specs.Option.{option_map}
+use Rattle.std.specs.declared.collections.VecDeque.{VecDeque}
+use Rattle.cam_objects.specs.declared.object.Object.{Object}
+use Rattle.cam_commands.specs.Commands.{OpenBlock}
+use Rattle.cam_gerber.specs.declared.frames.OpenBlock.{OpenBlock as Frame}
+use Rattle.cam_gerber.specs.declared.running.Running.{Running}
+use Rattle.cam_gerber.specs.Statements.{Says}
+use Rattle.cam_gerber.specs.State.{Past, in_region}
+use Rattle.cam_gerber.specs.Homes.{open_blocks, open_repeat}
+use Rattle.cam_gerber.specs.Layers.{entries_in}
+use Rattle.cam_gerber.specs.Faults.{command_faults, is_taken, is_defined}
+use Rattle.cam_gerber.specs.Machinery.Tracking.{Tracks, HasPast, first_of, block_of}
+use Rattle.cam_gerber.proofs.Pasts.{unused, stay_apart, AreFree}
+
+is_some_map : {A B : Type 0} (f : A → B) (o : Option A) → is_some (option_map f o) ≡ is_some o
+is_some_map f None = refl
+is_some_map f (Some x) = refl
+
+length_map : (past : Past) (numbers : List ℕ) → length (map (block_of past) numbers) ≡ length numbers
+length_map past [] = refl
+length_map past (n ∷ outer) = omega (arith, length_map past outer)
+
+-- a block is opened
+pub opened_tracks : (past : Past) (old : Running) (n : ℕ) (blocks : VecDeque Frame Global) → Tracks past old → is_taken past n ≡ false → old.region.inside ≡ false → is_some old.frames.repeat ≡ false
+    → nat_le 8 (length old.frames.blocks.items) ≡ false → blocks.items ≡ record { number = n; objects = []; leaves = 0 } ∷ old.frames.blocks.items
+    → (first_of (command_faults past (OpenBlock (Some n))) ≡ None) × Tracks (Says (OpenBlock (Some n)) ∷ past) (record old { frames = record old.frames { blocks = blocks } })
+opened_tracks past old n blocks t free outside closed few written =
+    let u = unused n past free in
+    let region : in_region past ≡ false = sym t.region.inside ∙ outside in
+    let repeat : is_some (open_repeat past) ≡ false = sym (is_some_map _ (open_repeat past)) ∙ ap is_some (sym t.frames.repeat) ∙ closed in
+    let room : nat_le 8 (length (open_blocks past)) ≡ false = ap (nat_le 8) (sym (length_map past (open_blocks past)) ∙ ap length (sym t.frames.blocks)) ∙ few in (
+      ap (λ b. cond {A = Option ℕ} b (Some 10) (cond (in_region past || is_some (open_repeat past)) (Some 22) (cond (nat_le 8 (length (open_blocks past))) (Some 25) None))) free
+          ∙ ap₂ (λ b d. cond {A = Option ℕ} (b || d) (Some 22) (cond (nat_le 8 (length (open_blocks past))) (Some 25) None)) region repeat
+          ∙ ap (λ b. cond {A = Option ℕ} b (Some 25) None) room,
+      record {
+        modal = record {
+          format = t.modal.format;
+          unit = t.modal.unit;
+          dark = t.modal.dark;
+          mirror = t.modal.mirror;
+          rotation = t.modal.rotation;
+          aperture = t.modal.aperture;
+          mode = t.modal.mode;
+          arcs = t.modal.arcs;
+          code = t.modal.code;
+          point = t.modal.point;
+        };
+        region = record { inside = t.region.inside; start = t.region.start; segs = t.region.segs };
+        frames = record {
+          blocks = written ∙ ap₂ (λ (b : Frame) (rest : List Frame). b ∷ rest)
+              (ap₂ (λ (all : List Object) (m : ℕ). record { number = n; objects = all; leaves = m }) (sym u.objects) (sym u.leaves)) t.frames.blocks;
+          repeat = t.frames.repeat;
+        };
+        built = record { entries = t.built.entries; items = t.built.items; macros = t.built.macros; leaves = t.built.leaves };
+      },
+    )
+
+pub none_from : {A : Type 0} (o : Option A) → is_some o ≡ false → o ≡ None
+none_from None h = refl
+none_from (Some x) h = absurd cc
+
+-- the innermost block has a number that no entry has
+pub closing_is_free : (old : Running) (block : Frame) (rest : List Frame) → HasPast old → old.frames.blocks.items ≡ block ∷ rest → lookup (nat_eq block.number) old.built.layer.apertures ≡ None
+closing_is_free old block rest h is = go (open_blocks h.0) refl
+  where
+    past : Past
+    past = h.0
+
+    go : (numbers : List ℕ) → open_blocks h.0 ≡ numbers → lookup (nat_eq block.number) old.built.layer.apertures ≡ None
+    go [] e = absurd (let none : block ∷ rest ≡ [] = sym is ∙ h.2.frames.blocks ∙ ap (map (block_of h.0)) e in cc)
+    go (n ∷ outer) e =
+        let joined : block ∷ rest ≡ block_of h.0 n ∷ map (block_of h.0) outer = sym is ∙ h.2.frames.blocks ∙ ap (map (block_of h.0)) e in
+        let top : block ≡ block_of h.0 n = cc in
+        let free : is_defined h.0 n ≡ false = (subst (AreFree (entries_in h.0)) e (stay_apart h.0 h.1).entries).0 in
+        ap₂ (λ (b : Frame) es. lookup (nat_eq b.number) es) top h.2.built.entries ∙ none_from (lookup (nat_eq n) (entries_in h.0)) free

@@ -1,0 +1,85 @@
+-- The tests of the board say what the demands say, and an item that is well made is refused for the board alone.
+use Rattle.std.proofs.Common.{◌≡◌, ℕ, List, Bool, true, false, Result, Ok, Err, refl, sym, ◌∙◌, arith}
+use Rattle.std.specs.Prelude.{not, nat_lt, unsigned_abs}
+use Rattle.std.specs.List.{All, list_all}
+use Rattle.std.proofs.lemmas.Bool.{and_parts, false≢true, lt-ltb, ltb-true}
+use Rattle.std.proofs.lemmas.List.Elements.{All-weaker}
+use Rattle.std.proofs.lemmas.List.Sums.{AllPass-from_list_all, list_all-from_AllPass}
+use Rattle.cam_units.specs.Board.{IsOnBoard}
+use Rattle.cam_units.specs.declared.point.Point.{Point}
+use Rattle.cam_objects.specs.declared.entry.Entry.{Entry}
+use Rattle.cam_objects.specs.declared.item.Item.{Item}
+use Rattle.cam_objects.specs.declared.item_fault.ItemFault.{ItemFault}
+use Rattle.cam_objects.specs.declared.item_fault.ItemFault.TheVariants.{Malformed, UnknownAperture, UnknownTool, WrongAperture, ZeroRadius, OutOfBoard, TooMuch}
+use Rattle.cam_objects.specs.Leaves.{Leaf, item_leaves, meaning_in}
+use Rattle.cam_objects.specs.Refusals.{Tells}
+use Rattle.cam_objects.specs.Soundness.{AreOnBoard, HasRadius, IsDrawable, IsFormed, IsInside, IsKnown, MeetsItem, objects_of, points_of, points_of_shape}
+use Rattle.cam_gerber.specs.State.{Past}
+use Rattle.cam_gerber.specs.Layers.{entries_in}
+use Rattle.cam_gerber.specs.Faults.{are_on_board, is_on_board, is_outside}
+use Rattle.cam_gerber.specs.Machinery.WellMade.{IsWellMade, IsWellMadeItem, is_of_board}
+
+pub on_board : (p : Point) → is_on_board p ≡ true → IsOnBoard p
+on_board p h =
+    let both = and_parts (nat_lt (unsigned_abs p.x) 1000000000) (nat_lt (unsigned_abs p.y) 1000000000) h in
+    record { x = ltb-true (unsigned_abs p.x) 1000000000 both.0; y = ltb-true (unsigned_abs p.y) 1000000000 both.1 }
+
+pub passes_board : (p : Point) → IsOnBoard p → is_on_board p ≡ true
+passes_board p h = rw (lt-ltb (unsigned_abs p.x) 1000000000 h.x, lt-ltb (unsigned_abs p.y) 1000000000 h.y) refl
+
+pub leaves_pass : (leaves : List Leaf) → AreOnBoard leaves → are_on_board leaves ≡ true
+leaves_pass leaves h =
+    list_all-from_AllPass _ leaves (All-weaker (λ (l : Leaf). All IsOnBoard (points_of_shape l.shape)) (λ (l : Leaf). list_all is_on_board (points_of_shape l.shape) ≡ true)
+    (λ l points. list_all-from_AllPass is_on_board (points_of_shape l.shape) (All-weaker IsOnBoard (λ p. is_on_board p ≡ true) passes_board (points_of_shape l.shape) points)) leaves h)
+
+leaves_on_board : (leaves : List Leaf) → are_on_board leaves ≡ true → AreOnBoard leaves
+leaves_on_board leaves h =
+    All-weaker (λ (l : Leaf). list_all is_on_board (points_of_shape l.shape) ≡ true) (λ (l : Leaf). All IsOnBoard (points_of_shape l.shape))
+    (λ l points. All-weaker (λ p. is_on_board p ≡ true) IsOnBoard on_board (points_of_shape l.shape) (AllPass-from_list_all is_on_board (points_of_shape l.shape) points)) leaves
+    (AllPass-from_list_all _ leaves h)
+
+module _ (es : List (ℕ × Entry)) (item : Item) (well : IsWellMadeItem es item) where
+  formed : MeetsItem es item Malformed
+  formed = (well.repeated, All-weaker (IsWellMade es) IsFormed (λ o w. w.formed) (objects_of item) well.objects)
+
+  known : MeetsItem es item UnknownAperture
+  known = All-weaker (IsWellMade es) (IsKnown es) (λ o w. w.known) (objects_of item) well.objects
+
+  drawable : MeetsItem es item WrongAperture
+  drawable = All-weaker (IsWellMade es) (IsDrawable (meaning_in es)) (λ o w. w.drawable) (objects_of item) well.objects
+
+  radii : MeetsItem es item ZeroRadius
+  radii = All-weaker (IsWellMade es) HasRadius (λ o w. w.radius) (objects_of item) well.objects
+
+  inside : are_on_board (item_leaves (meaning_in es) item) ≡ true → IsInside es item
+  inside h = record {
+    points = All-weaker (IsWellMade es) (λ o. All IsOnBoard (points_of o)) (λ o w. w.points) (objects_of item) well.objects;
+    steps = well.steps;
+    leaves = leaves_on_board _ h;
+  }
+
+  outside_if : (on : Bool) → are_on_board (item_leaves (meaning_in es) item) ≡ on → IsInside es item → on ≡ true
+  outside_if on e h = sym e ∙ leaves_pass _ h.leaves
+
+  told_by : (r : Result (Unit {0}) ItemFault) (on : Bool) → are_on_board (item_leaves (meaning_in es) item) ≡ on → Tells (MeetsItem es item) r → is_of_board r ≡ not on
+  told_by (Ok done) true e h = refl
+  told_by (Ok done) false e h = absurd (false≢true (outside_if false e (h OutOfBoard)))
+  told_by (Err OutOfBoard) true e h = absurd (h.unmet (inside e))
+  told_by (Err OutOfBoard) false e h = refl
+  told_by (Err TooMuch) true e h = refl
+  told_by (Err TooMuch) false e h = absurd (false≢true (outside_if false e (h.before OutOfBoard (omega arith))))
+  told_by (Err Malformed) on e h = absurd (h.unmet formed)
+  told_by (Err UnknownAperture) on e h = absurd (h.unmet known)
+  told_by (Err UnknownTool) on e h = absurd (h.unmet tt)
+  told_by (Err WrongAperture) on e h = absurd (h.unmet drawable)
+  told_by (Err ZeroRadius) on e h = absurd (h.unmet radii)
+
+-- a check tells the board exactly where a leaf lies outside
+pub told_outside : (es : List (ℕ × Entry)) (item : Item) (r : Result (Unit {0}) ItemFault) → IsWellMadeItem es item → Tells (MeetsItem es item) r
+    → is_of_board r ≡ not (are_on_board (item_leaves (meaning_in es) item))
+told_outside es item r well h = told_by es item well r (are_on_board (item_leaves (meaning_in es) item)) refl h
+
+-- the same as it is said of a past
+pub outside_is : (past : Past) (stands : Item) → is_outside past stands ≡ not (are_on_board (item_leaves (meaning_in (entries_in past)) stands))
+unfolding is_outside
+outside_is past stands = refl

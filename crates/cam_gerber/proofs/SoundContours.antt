@@ -1,0 +1,141 @@
+-- Contours of regions that operations without a fault make are sound, and end at the current point.
+use Rattle.std.proofs.Common.{◌≡◌, ◌≢◌, ◌<◌, ◌≤◌, List, [], ◌∷◌, ◌++◌, length, Bool, true, false, cond, refl, sym, ap, ◌∙◌, subst, arith, lit≤, length-append}
+use Rattle.std.specs.Prelude.{ℤ, ◌&&◌, not}
+use Rattle.std.specs.Ordering.{int_eq}
+use Rattle.std.specs.List.{All, flat_map}
+use Rattle.std.proofs.lemmas.Bool.{or_parts}
+use Rattle.std.proofs.lemmas.Bool.Decides.{Decides-int_eq}
+use Rattle.std.proofs.lemmas.List.Elements.{All-append, All-cons, All-head, All-nil, All-tail}
+use Rattle.cam_units.specs.Board.{IsOnBoard}
+use Rattle.cam_units.specs.declared.point.Point.{Point}
+use Rattle.cam_shapes.specs.declared.segments.Seg.{Seg}
+use Rattle.cam_shapes.specs.declared.segments.Seg.TheVariants.{Line, Curve}
+use Rattle.cam_objects.specs.Soundness.{HaveRadii, points_of_seg}
+use Rattle.cam_commands.specs.declared.parts.Mode.{Mode}
+use Rattle.cam_commands.specs.declared.parts.Mode.TheVariants.{Linear, Clockwise, Counterclockwise}
+use Rattle.cam_commands.specs.declared.parts.OperationCode.{OperationCode}
+use Rattle.cam_commands.specs.declared.parts.OperationCode.TheVariants.{Plot, Move, Flash}
+use Rattle.cam_gerber.specs.Making.{segment, segments_by, start_by}
+use Rattle.cam_gerber.specs.Faults.{is_arc, is_on_board, is_same_point, path_faults}
+use Rattle.cam_gerber.proofs.Pasts.{NoneHolds}
+use Rattle.cam_gerber.proofs.JoiningParts.{told, on_board}
+
+-- ---- the path of a plot
+
+pub record IsPath (mode : Mode) (from to centre : Point) : Type 0 where
+  pub to_on : IsOnBoard to
+  pub centre_on : is_arc mode ≡ true → IsOnBoard centre
+  pub radius : is_arc mode ≡ true → from ≢ centre
+
+under : (a b : Bool) → (a && b) ≡ false → a ≡ true → b ≡ false
+under true b h e = h
+under false b h e = absurd cc
+
+itself : (z : ℤ) → int_eq z z ≡ true
+itself z = (Decides-int_eq z z).1 refl
+
+apart : (p q : Point) → is_same_point p q ≡ false → p ≢ q
+apart p q h e =
+    let here : is_same_point p p ≡ true = rw (itself p.x, itself p.y) refl in
+    let wrong : true ≡ false = sym here ∙ ap (is_same_point p) e ∙ h in
+    absurd cc
+
+pub path_of : (mode : Mode) (arcs : Bool) (from to centre : Point) → NoneHolds (path_faults (is_arc mode) arcs from to centre) → IsPath mode from to centre
+path_of mode arcs from to centre pass =
+    let parts = or_parts (not (is_on_board to)) (is_arc mode && not (is_on_board centre)) pass.1.1.0 in
+    record {
+      to_on = on_board to (told (is_on_board to) parts.0);
+      centre_on = λ arc. on_board centre (told (is_on_board centre) (under (is_arc mode) (not (is_on_board centre)) parts.1 arc));
+      radius = λ arc. apart from centre (under (is_arc mode) (is_same_point from centre) pass.1.0 arc);
+    }
+
+-- ---- contours
+
+-- the point where a contour ends
+abbrev pub end_from : Point → List Seg → Point
+end_from here [] = here
+end_from here (Line to ∷ segs) = end_from to segs
+end_from here (Curve to centre ccw ∷ segs) = end_from to segs
+
+pub record IsSoundContour (start : Point) (segs : List Seg) : Type 0 where
+  pub start_on : IsOnBoard start
+  pub segs_on : All IsOnBoard (flat_map points_of_seg segs)
+  pub radii : HaveRadii start segs
+  pub few : length segs ≤ 1000000
+
+end_behind : (here : Point) (segs : List Seg) (seg : Seg) (to : Point) → ((p : Point) → end_from p (seg ∷ []) ≡ to) → end_from here (segs ++ seg ∷ []) ≡ to
+end_behind here [] seg to ends = ends here
+end_behind here (Line p ∷ segs) seg to ends = end_behind p segs seg to ends
+end_behind here (Curve p centre ccw ∷ segs) seg to ends = end_behind p segs seg to ends
+
+radii_behind : (here : Point) (segs : List Seg) (seg : Seg) → HaveRadii here segs → HaveRadii (end_from here segs) (seg ∷ []) → HaveRadii here (segs ++ seg ∷ [])
+radii_behind here [] seg h k = k
+radii_behind here (Line p ∷ segs) seg h k = radii_behind p segs seg h k
+radii_behind here (Curve p centre ccw ∷ segs) seg h k = (h.0, radii_behind p segs seg h.1 k)
+
+points_behind : (segs : List Seg) (seg : Seg) → All IsOnBoard (flat_map points_of_seg segs) → All IsOnBoard (points_of_seg seg) → All IsOnBoard (flat_map points_of_seg (segs ++ seg ∷ []))
+points_behind [] seg h k = All-append IsOnBoard (points_of_seg seg) [] k (All-nil IsOnBoard)
+points_behind (Line p ∷ segs) seg h k =
+    let rest = flat_map points_of_seg segs in
+    All-cons IsOnBoard p (flat_map points_of_seg (segs ++ seg ∷ [])) (All-head IsOnBoard p rest h) (points_behind segs seg (All-tail IsOnBoard p rest h) k)
+points_behind (Curve p centre ccw ∷ segs) seg h k =
+    let rest = flat_map points_of_seg segs in
+    let after = All-tail IsOnBoard p (centre ∷ rest) h in
+    let more = flat_map points_of_seg (segs ++ seg ∷ []) in
+    All-cons IsOnBoard p (centre ∷ more) (All-head IsOnBoard p (centre ∷ rest) h)
+    (All-cons IsOnBoard centre more (All-head IsOnBoard centre rest after) (points_behind segs seg (All-tail IsOnBoard centre rest after) k))
+
+-- a segment from a point
+record IsSegment (from to : Point) (seg : Seg) : Type 0 where
+  ends : (p : Point) → end_from p (seg ∷ []) ≡ to
+  points : All IsOnBoard (points_of_seg seg)
+  radius : HaveRadii from (seg ∷ [])
+
+segment_of : (mode : Mode) (from to centre : Point) → IsPath mode from to centre → IsSegment from to (segment mode to centre)
+segment_of Linear from to centre p = record { ends = λ q. refl; points = All-cons IsOnBoard to [] p.to_on (All-nil IsOnBoard); radius = tt }
+segment_of Clockwise from to centre p = record {
+  ends = λ q. refl;
+  points = All-cons IsOnBoard to (centre ∷ []) p.to_on (All-cons IsOnBoard centre [] (p.centre_on refl) (All-nil IsOnBoard));
+  radius = (p.radius refl, tt);
+}
+segment_of Counterclockwise from to centre p = record {
+  ends = λ q. refl;
+  points = All-cons IsOnBoard to (centre ∷ []) p.to_on (All-cons IsOnBoard centre [] (p.centre_on refl) (All-nil IsOnBoard));
+  radius = (p.radius refl, tt);
+}
+
+-- what an operation in a region meets
+abbrev pub IsTurnOf : OperationCode → Mode → Point → Point → Point → List Seg → Type 0
+IsTurnOf Plot mode from to centre segs = IsPath mode from to centre × (length segs < 1000000)
+IsTurnOf Move mode from to centre segs = IsOnBoard to
+IsTurnOf Flash mode from to centre segs = ⊥
+
+-- a contour, and in a region the point where it ends
+pub record IsContourTo (region : Bool) (start : Point) (segs : List Seg) (to : Point) : Type 0 where
+  pub sound : IsSoundContour start segs
+  pub ends : region ≡ true → end_from start segs ≡ to
+
+turned_by : (code : OperationCode) (mode : Mode) (start from to centre : Point) (segs : List Seg) → IsSoundContour start segs → end_from start segs ≡ from → IsTurnOf code mode from to centre segs
+    → IsContourTo true (start_by code start to) (segments_by code segs (segment mode to centre)) to
+turned_by Plot mode start from to centre segs s e t =
+    let seg = segment_of mode from to centre t.0 in
+    record {
+      sound = record {
+        start_on = s.start_on;
+        segs_on = points_behind segs (segment mode to centre) s.segs_on seg.points;
+        radii = radii_behind start segs (segment mode to centre) s.radii (subst (λ p. HaveRadii p (segment mode to centre ∷ [])) (sym e) seg.radius);
+        few = omega (arith, t.1, length-append segs (segment mode to centre ∷ []));
+      };
+      ends = λ r. end_behind start segs (segment mode to centre) to seg.ends;
+    }
+turned_by Move mode start from to centre segs s e t = record {
+  sound = record { start_on = t; segs_on = All-nil IsOnBoard; radii = tt; few = lit≤ tt };
+  ends = λ r. refl;
+}
+turned_by Flash mode start from to centre segs s e t = absurd t
+
+-- the contour behind an operation
+pub turned : (region : Bool) (code : OperationCode) (mode : Mode) (start from to centre : Point) (segs : List Seg) → IsContourTo region start segs from → (region ≡ true → IsTurnOf code mode from to centre segs)
+    → IsContourTo region (cond region (start_by code start to) start) (cond region (segments_by code segs (segment mode to centre)) segs) to
+turned true code mode start from to centre segs c t = turned_by code mode start from to centre segs c.sound (c.ends refl) (t refl)
+turned false code mode start from to centre segs c t = record { sound = c.sound; ends = λ r. absurd (let wrong : false ≡ true = r in cc) }

@@ -1,0 +1,13 @@
+use Rattle.std.proofs.Common.{sym, ◌∙◌}
+use Rattle.cam_gerber.proofs.Settling.{set_many}
+use Rattle.cam_gerber.proofs.running.Running.set_repeat.Goals as goal
+
+pub returns-then-is_repeated : goal.returns-then-is_repeated
+returns-then-is_repeated c = λ past none t.
+    set_many past c.args.self.now c.settle.new.self c.in-Some.unit c.args.repeat.now c.new.result t
+    (record {
+      formed = sym c.has_malformed.ensures ∙ c.if-has_malformed.false;
+      known = c.in-Some.is;
+      nested = sym c.is_nested.ensures ∙ c.if-is_nested.false;
+      outside = c.if-self.false;
+    }) (sym c.has_short_steps.ensures ∙ c.if-not-has_short_steps.false) (sym c.is_repeated.ensures ∙ c.if-is_repeated.true) c.new.ensures (c.in_default-settle.ensures past none t)

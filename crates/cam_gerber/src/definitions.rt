@@ -1,0 +1,170 @@
+//! Definitions of apertures and macros.
+
+ghost use Rattle.std.specs.Prelude.{◌≡◌, ◌==◌, ◌≤◌, length, ◌∷◌, ◌||◌, is_none, Some, IfOk, is_some, if◌then◌else◌};
+ghost use Rattle.std.specs.List.{before_first, position_or_len};
+ghost use Rattle.std.specs.Option.{option_copied};
+ghost use Rattle.cam_words.specs.Heads.{packed};
+ghost use Rattle.cam_words.specs.Bytes.{is_star};
+ghost use Rattle.cam_apertures.specs.Definition.{Table, named};
+ghost use Rattle.cam_commands.specs.Commands as command;
+ghost use Rattle.cam_gerber.specs.State.{Past, in_region, unit_in};
+ghost use Rattle.cam_gerber.specs.Faults.{is_reserved, is_taken_again, least, lower_of};
+ghost use Rattle.cam_gerber.specs.Machinery.Tracking.{HasPast, Obeys, Tracks};
+
+use crate::faults;
+use crate::running::Running;
+use crate::stop::Stop;
+use cam_apertures::{AdFault, ad_number, parse_ad};
+use cam_macros::{Macro, MacroFault};
+use cam_objects::Entry;
+use cam_units::Unit;
+use cam_words::is_skipped;
+use std::alloc::{AllocError, Global};
+
+/// The lower of a fault that is told and of another one, where that holds.
+fn lower(code: u8, holds: bool, told: Option<u8>) -> Option<u8>
+    ensures { result ≡ (if holds then Some (lower_of code told) else told) }
+{
+    if !holds {
+        return told;
+    }
+    match told {
+        None => Some(code),
+        Some(other) => Some(code.min(other)),
+    }
+}
+
+/// Whether the name is that of a standard template.
+#[tactic(auto, unfolding(crate::specs::Faults::is_reserved))]
+fn is_reserved(name: &[u8]) -> bool
+    ensures { result ≡ is_reserved name.now }
+{
+    name == b"C".as_slice()
+        || name == b"R".as_slice()
+        || name == b"O".as_slice()
+        || name == b"P".as_slice()
+}
+
+/// The text without the bytes that do not count.
+fn pack(alloc: Global, text: &[u8]) -> Result<Vec<u8>, AllocError>
+    ensures { IfOk result (λ v. v.items ≡ packed text.now) }
+{
+    text.iter()
+        .copied()
+        .filter(|byte| !is_skipped(*byte))
+        .collect(alloc)
+}
+
+/// Where the byte first stands, or the text's length.
+fn place_of(byte: u8, text: &[u8]) -> usize
+    ensures value { result ≡ position_or_len (λ b. b == byte) text.now }
+    ensures within { result ≤ length text.now }
+{
+    for (place, here) in text.iter().enumerate() {
+        if *here == byte {
+            return place;
+        }
+    }
+    text.len()
+}
+
+/// What stands before the first star.
+fn before_star(text: &[u8]) -> &[u8]
+    ensures { result.now ≡ before_first is_star text.now }
+{
+    &text[..place_of(b'*', text)]
+}
+
+/// The macro of this name.
+fn named<'a>(macros: &'a [Macro], name: &[u8]) -> Option<&'a Macro>
+    ensures { option_copied result ≡ named macros.now name.now }
+{
+    macros.iter().find(|found| found.name.as_slice() == name)
+}
+
+impl Running {
+    /// Whether a macro or a standard template has the name.
+    fn is_named(&self, name: &[u8]) -> bool
+        ensures { result ≡ (is_some (named self.now.built.macros.items name.now) || is_reserved name.now) }
+    {
+        if named(&self.built.macros, name).is_some() {
+            return true;
+        }
+        is_reserved(name)
+    }
+
+    /// The lower of a definition's fault and of those that the commands before it make.
+    fn lowest(&self, number: Option<u32>, told: Option<u8>) -> Option<u8>
+        ensures { (past : Past) (table : Table) → Tracks past self.now → told ≡ least table → result ≡ least
+            ((6, is_none (unit_in past)) ∷ (10, is_taken_again past number) ∷ (22, in_region past) ∷ table) }
+    {
+        let told = lower(faults::STRAY_BLOCK, self.region.inside, told);
+        let taken = match number {
+            None => false,
+            Some(number) => self.is_taken(number),
+        };
+        let told = lower(faults::REDEFINED, taken, told);
+        lower(faults::NO_UNIT, self.modal.unit.is_none(), told)
+    }
+
+    /// AD: an aperture joins the dictionary.
+    pub fn define(&mut self, text: &[u8]) -> Result<(), Stop>
+        requires { HasPast self.old }
+        ensures { Obeys (command.DefineAperture (packed text.now)) self.old result self.new }
+    {
+        let unit = self.modal.unit.unwrap_or(Unit::Mm);
+        match parse_ad(self.alloc, text, &self.built.macros, unit) {
+            Err(fault) => match fault {
+                AdFault::OutOfMemory => Err(Stop::Memory),
+                _ => {
+                    let number = ad_number(self.alloc, text)?;
+                    let code = fault.code();
+                    Err(Stop::Fault(self.lowest(number, Some(code)).unwrap_or(code)))
+                }
+            },
+            Ok((number, aperture)) => {
+                if let Some(code) = self.lowest(Some(number), None) {
+                    return Err(Stop::Fault(code));
+                }
+                self.built
+                    .layer
+                    .apertures
+                    .push(number, Entry::Aperture(aperture))?;
+                Ok(())
+            }
+        }
+    }
+
+    /// AM: a macro joins the others.
+    pub fn define_macro(&mut self, text: &[u8]) -> Result<(), Stop>
+        requires { HasPast self.old }
+        ensures { Obeys (command.DefineMacro (packed text.now)) self.old result self.new }
+    {
+        match Macro::parse(self.alloc, text) {
+            Err(fault) => match fault {
+                MacroFault::Malformed => {
+                    let text = pack(self.alloc, text)?;
+                    if self.is_named(before_star(&text)) {
+                        return Err(Stop::Fault(faults::REDEFINED));
+                    }
+                    if self.region.inside {
+                        return Err(Stop::Fault(faults::STRAY_BLOCK));
+                    }
+                    Err(Stop::Fault(faults::MACRO_FAULT))
+                }
+                MacroFault::BadName => Err(Stop::Fault(faults::UNKNOWN_COMMAND)),
+                _ => Err(Stop::Memory),
+            },
+            Ok(made) => {
+                if self.is_named(made.name.as_slice()) {
+                    return Err(Stop::Fault(faults::REDEFINED));
+                }
+                if self.region.inside {
+                    return Err(Stop::Fault(faults::STRAY_BLOCK));
+                }
+                self.built.macros.push(made)?;
+                Ok(())
+            }
+        }
+    }
+}

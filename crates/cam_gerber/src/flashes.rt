@@ -1,0 +1,114 @@
+//! Flashes, and what an operation does.
+
+ghost use Rattle.std.specs.Prelude.{◌≡◌, ◌&&◌, false, is_some, true};
+ghost use Rattle.cam_commands.specs.Commands as command;
+ghost use Rattle.cam_commands.specs.declared.parts.OperationCode.TheVariants as code;
+ghost use Rattle.cam_gerber.specs.Faults.{is_empty, is_outside_at};
+ghost use Rattle.cam_gerber.specs.Homes.{home};
+ghost use Rattle.cam_gerber.specs.State.{Past};
+ghost use Rattle.cam_gerber.specs.Machinery.WellMade.{IsWellMade};
+ghost use Rattle.cam_gerber.specs.Machinery.Tracking.{HasPast, Operates, Takes, TracksPlaces, Weighs};
+
+use crate::checks::is_of_board;
+use crate::faults;
+use crate::homes::Weight;
+use crate::running::Running;
+use crate::state::code_of;
+use crate::stop::Stop;
+use cam_commands::{Operation, OperationCode};
+use cam_objects::Object;
+
+impl Running {
+    /// How many leaves the object has, and how deep its blocks lie.
+    fn weight_of(&self, object: &Object) -> Weight
+        ensures { Weighs result self.now.built.layer.apertures object.now }
+    {
+        Weight {
+            leaves: self.built.layer.apertures.leaf_count(object),
+            depth: self.built.layer.apertures.depth(object),
+        }
+    }
+
+    /// Whether the next object belongs to a repeat.
+    fn is_in_repeat(&self) -> bool
+        ensures { result ≡ (is_empty self.now.frames.blocks.items && is_some self.now.frames.repeat) }
+    {
+        if !self.frames.blocks.is_empty() {
+            return false;
+        }
+        self.frames.repeat.is_some()
+    }
+
+    /// Whether a leaf of the flash lies outside the board; in a repeat that is judged when it is closed.
+    fn is_outside_at(&self, object: &Object) -> bool
+        requires { IsWellMade self.now.built.layer.apertures object.now }
+        ensures { (past : Past) → TracksPlaces past self.now → result ≡ is_outside_at (home past) past object.now }
+    {
+        if self.is_in_repeat() {
+            return false;
+        }
+        is_of_board(&self.built.layer.apertures.check_object(object))
+    }
+
+    /// D03 outside a region.
+    fn flash(&mut self, operation: &Operation) -> Result<(), Stop>
+        requires { HasPast self.old }
+        ensures { Operates code.Flash false operation.now self.old result self.new }
+    {
+        let Some(aperture) = self.modal.aperture else {
+            return Err(Stop::Fault(faults::NONE_SELECTED));
+        };
+        let Some(at) = self.modal.moved_point(operation) else {
+            return Err(Stop::Fault(faults::OUT_OF_BOARD));
+        };
+        let object = Object::Flash {
+            aperture,
+            at,
+            turn: self.modal.turn(),
+            dark: self.modal.dark,
+        };
+        if self.is_outside_at(&object) {
+            return Err(Stop::Fault(faults::OUT_OF_BOARD));
+        }
+        let weight = self.weight_of(&object);
+        if self.is_full(weight) {
+            return Err(Stop::Fault(faults::TOO_MUCH));
+        }
+        self.keep(object, weight.leaves)?;
+        self.modal.operated(operation, at);
+        Ok(())
+    }
+
+    /// An operation, by what it does and whether it stands in a region.
+    pub fn operate(&mut self, operation: &Operation) -> Result<(), Stop>
+        requires { HasPast self.old }
+        ensures { Takes (command.Operate operation.now) self.old result self.new }
+    {
+        if let Some(code) = self.modal.leading_fault(operation) {
+            return Err(Stop::Fault(code));
+        }
+        match code_of(operation) {
+            OperationCode::Plot => {
+                if self.region.inside {
+                    self.segment(operation)
+                } else {
+                    self.stroke(operation)
+                }
+            }
+            OperationCode::Move => {
+                if self.region.inside {
+                    self.next_contour(operation)
+                } else {
+                    self.move_to(operation)
+                }
+            }
+            OperationCode::Flash => {
+                if self.region.inside {
+                    Err(Stop::Fault(faults::FLASH_IN_REGION))
+                } else {
+                    self.flash(operation)
+                }
+            }
+        }
+    }
+}

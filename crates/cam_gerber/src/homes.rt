@@ -1,0 +1,122 @@
+//! Objects join the innermost open block, else the open repeat, else the layer.
+
+ghost use Rattle.std.specs.Prelude.{◌≡◌, ◌++◌, ◌∷◌, ◌≤◌, ◌<◌, [], false, true, Some, None, length, nat_eq, nat_le, ◌+◌, is_some, is_none, OnOk};
+ghost use Rattle.std.specs.Map.{lookup};
+ghost use Rattle.cam_objects.specs.Leaves.{meaning_in};
+ghost use Rattle.cam_objects.specs.declared.object.Object.{Object};
+ghost use Rattle.cam_gerber.specs.Faults.{is_full};
+ghost use Rattle.cam_gerber.specs.Homes.{home};
+ghost use Rattle.cam_gerber.specs.Laws.{IsFaultless};
+ghost use Rattle.cam_gerber.specs.State.{Past};
+ghost use Rattle.cam_gerber.specs.Machinery.Tracking.{Keeps, Tracks, TracksPlaces, Weighs};
+
+use crate::built::Built;
+use crate::running::Running;
+use cam_objects::{Entry, Item, Object};
+use std::alloc::AllocError;
+
+/// How many items a layer, and how many objects a block or a repeat may have.
+pub const COUNT_LIMIT: usize = 1_000_000;
+
+/// How many leaves a layer or a block may have.
+pub const LEAF_LIMIT: u64 = 4_000_000;
+
+/// The leaves of an open repeat are counted up to this.
+const LEAF_CAP: u64 = LEAF_LIMIT + 1;
+
+/// How many blocks may lie in one another.
+pub const DEPTH_LIMIT: u64 = 8;
+
+/// Whether there may be so many more leaves than there are.
+pub fn has_room(leaves: u64, more: u64) -> bool
+    ensures { result ≡ nat_le (leaves + more) 4000000 }
+{
+    if leaves > LEAF_LIMIT {
+        return false;
+    }
+    more <= LEAF_LIMIT - leaves
+}
+
+impl Built {
+    /// Whether the dictionary has the number.
+    pub fn is_defined(&self, number: u32) -> bool
+        ensures { result ≡ is_some (lookup (nat_eq number) self.now.layer.apertures) }
+    {
+        match self.layer.apertures.find(number) {
+            Some(_) => true,
+            None => false,
+        }
+    }
+
+    /// Whether the number is that of a solid circle.
+    pub fn is_solid(&self, number: u32) -> bool
+        ensures { result ≡ is_some (meaning_in self.now.layer.apertures number).width }
+    {
+        let Some((_, entry)) = self.layer.apertures.find(number) else {
+            return false;
+        };
+        match entry {
+            Entry::Aperture(aperture) => aperture.is_solid_circle(),
+            Entry::Block(_) => false,
+        }
+    }
+}
+
+/// How many leaves an object has, and how deep the blocks lie that it flashes.
+#[derive(Clone, Copy)]
+pub struct Weight {
+    pub leaves: u64,
+    pub depth: u64,
+}
+
+impl Weight {
+    /// Of a stroke, a region or a flash of an aperture.
+    pub const ONE: Weight = Weight {
+        leaves: 1,
+        depth: 0,
+    };
+}
+
+impl Running {
+    /// Whether the home of the next object has no room for one that weighs so much.
+    pub fn is_full(&self, weight: Weight) -> bool
+        ensures { (past : Past) (object : Object) → TracksPlaces past self.now → Weighs weight self.now.built.layer.apertures object
+            → result ≡ is_full (home past) past object }
+    {
+        if let Some(block) = self.frames.blocks.front() {
+            if block.objects.len() >= COUNT_LIMIT {
+                return true;
+            }
+            if !has_room(block.leaves, weight.leaves) {
+                return true;
+            }
+            return weight.depth >= DEPTH_LIMIT;
+        }
+        if let Some(repeat) = &self.frames.repeat {
+            return repeat.objects.len() >= COUNT_LIMIT;
+        }
+        if self.built.layer.items.len() >= COUNT_LIMIT {
+            return true;
+        }
+        !has_room(self.built.leaves, weight.leaves)
+    }
+
+    /// Adds an object of so many leaves to its home.
+    pub fn keep(&mut self, object: Object, leaves: u64) -> Result<(), AllocError>
+        ensures { OnOk result (Keeps object leaves self.old self.new) }
+    {
+        if let Some(block) = self.frames.blocks.front_mut() {
+            block.objects.push(object)?;
+            block.leaves = block.leaves.saturating_add(leaves);
+            return Ok(());
+        }
+        if let Some(repeat) = &mut self.frames.repeat {
+            repeat.objects.push(object)?;
+            repeat.leaves = repeat.leaves.saturating_add(leaves).min(LEAF_CAP);
+            return Ok(());
+        }
+        self.built.layer.items.push(Item::One(object))?;
+        self.built.leaves = self.built.leaves.saturating_add(leaves);
+        Ok(())
+    }
+}

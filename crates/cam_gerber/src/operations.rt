@@ -1,0 +1,131 @@
+//! Operations and regions.
+
+ghost use Rattle.std.specs.Prelude.{◌≡◌, false, true};
+ghost use Rattle.cam_shapes.specs.Contour.{end_of};
+ghost use Rattle.cam_commands.specs.Commands as command;
+ghost use Rattle.cam_commands.specs.declared.parts.OperationCode.TheVariants as code;
+ghost use Rattle.cam_gerber.specs.Machinery.Tracking.{EndsContour, Operates, Takes};
+
+use crate::faults;
+use crate::homes::{COUNT_LIMIT, Weight};
+use crate::running::Running;
+use crate::stop::Stop;
+use cam_commands::Operation;
+use cam_objects::Object;
+use cam_shapes::{Contour, Seg, Segments};
+use cam_units::Point;
+use std::mem;
+
+/// Where the segment ends.
+fn end_of(seg: Seg) -> Point
+    ensures { result ≡ end_of seg }
+{
+    match seg {
+        Seg::Line { to } => to,
+        Seg::Curve { to, .. } => to,
+    }
+}
+
+impl Running {
+    /// D01 outside a region.
+    pub fn stroke(&mut self, operation: &Operation) -> Result<(), Stop>
+        ensures { Operates code.Plot false operation.now self.old result self.new }
+    {
+        let Some(aperture) = self.modal.aperture else {
+            return Err(Stop::Fault(faults::NONE_SELECTED));
+        };
+        if !self.built.is_solid(aperture) {
+            return Err(Stop::Fault(faults::WRONG_APERTURE));
+        }
+        let seg = match self.modal.path(operation) {
+            Ok(seg) => seg,
+            Err(code) => return Err(Stop::Fault(code)),
+        };
+        let object = self.modal.stroke(aperture, seg);
+        if self.is_full(Weight::ONE) {
+            return Err(Stop::Fault(faults::TOO_MUCH));
+        }
+        self.keep(object, 1)?;
+        self.modal.operated(operation, end_of(seg));
+        Ok(())
+    }
+
+    /// D01 in a region.
+    pub fn segment(&mut self, operation: &Operation) -> Result<(), Stop>
+        ensures { Operates code.Plot true operation.now self.old result self.new }
+    {
+        let seg = match self.modal.path(operation) {
+            Ok(seg) => seg,
+            Err(code) => return Err(Stop::Fault(code)),
+        };
+        if self.region.segs.len() >= COUNT_LIMIT {
+            return Err(Stop::Fault(faults::TOO_MUCH));
+        }
+        self.region.segs.push(seg)?;
+        self.modal.operated(operation, end_of(seg));
+        Ok(())
+    }
+
+    /// D02 outside a region.
+    pub fn move_to(&mut self, operation: &Operation) -> Result<(), Stop>
+        ensures { Operates code.Move false operation.now self.old result self.new }
+    {
+        let Some(to) = self.modal.moved_point(operation) else {
+            return Err(Stop::Fault(faults::OUT_OF_BOARD));
+        };
+        self.modal.operated(operation, to);
+        Ok(())
+    }
+
+    /// D02 in a region.
+    pub fn next_contour(&mut self, operation: &Operation) -> Result<(), Stop>
+        ensures { Operates code.Move true operation.now self.old result self.new }
+    {
+        let Some(to) = self.modal.moved_point(operation) else {
+            return Err(Stop::Fault(faults::OUT_OF_BOARD));
+        };
+        if let Err(stop) = self.end_contour() {
+            return Err(stop);
+        }
+        self.region.start = to;
+        self.modal.operated(operation, to);
+        Ok(())
+    }
+
+    /// Makes the contour's region, if it has a segment.
+    fn end_contour(&mut self) -> Result<(), Stop>
+        ensures { EndsContour self.old result self.new }
+    {
+        if self.region.segs.is_empty() {
+            return Ok(());
+        }
+        let segs = mem::replace(&mut self.region.segs, Vec::new(self.alloc));
+        let contour = Contour {
+            start: self.region.start,
+            segs: Segments::from_vec(segs),
+        };
+        let object = Object::Region {
+            contour,
+            dark: self.modal.dark,
+        };
+        if self.is_full(Weight::ONE) {
+            return Err(Stop::Fault(faults::TOO_MUCH));
+        }
+        self.keep(object, 1)?;
+        Ok(())
+    }
+
+    /// G37: the region ends.
+    pub fn end_region(&mut self) -> Result<(), Stop>
+        ensures { Takes command.EndRegion self.old result self.new }
+    {
+        if !self.region.inside {
+            return Err(Stop::Fault(faults::NOT_IN_REGION));
+        }
+        if let Err(stop) = self.end_contour() {
+            return Err(stop);
+        }
+        self.region.inside = false;
+        Ok(())
+    }
+}

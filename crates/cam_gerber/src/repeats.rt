@@ -1,0 +1,232 @@
+//! Repeats, and the end of a file.
+
+ghost use Rattle.std.specs.Prelude.{◌≡◌, ◌*◌, ◌||◌, ◌&&◌, min, not};
+ghost use Rattle.cam_commands.specs.Commands as command;
+ghost use Rattle.cam_objects.specs.Leaves.{item_leaves, meaning_in};
+ghost use Rattle.cam_objects.specs.declared.item.Item.TheVariants as item;
+ghost use Rattle.cam_gerber.specs.Faults.{are_on_board, is_empty, is_malformed, is_short};
+ghost use Rattle.cam_gerber.specs.Homes.{count_of, is_repeated};
+ghost use Rattle.cam_gerber.specs.Machinery.Closing.{Adds, opened_by, step_by};
+ghost use Rattle.cam_gerber.specs.Machinery.Tracking.{HasPast, Settles, Takes};
+ghost use Rattle.cam_gerber.specs.Machinery.WellMade.{IsWellMadeItem};
+
+use crate::built::Built;
+use crate::checks::is_of_board;
+use crate::faults;
+use crate::frames::OpenRepeat;
+use crate::homes::{COUNT_LIMIT, has_room};
+use crate::object_list::ObjectList;
+use crate::running::Running;
+use crate::stop::Stop;
+use cam_commands::{Repeat, Slot};
+use cam_objects::Item;
+use cam_units::{Nm, Unit, fix9_nm};
+use std::alloc::Global;
+
+/// One column or row where none are written.
+fn count_of(slot: Slot<u32>) -> u32
+    ensures { result ≡ count_of slot }
+{
+    match slot {
+        Slot::Written(n) => n,
+        Slot::Omitted | Slot::Malformed => 1,
+    }
+}
+
+/// A step in nm; one that is not written is 0.
+fn step(unit: Unit, slot: &Slot<i64>) -> Nm
+    ensures { result.0 ≡ step_by unit slot.now }
+{
+    match slot {
+        Slot::Written(n) => fix9_nm(*n, unit),
+        Slot::Omitted | Slot::Malformed => Nm(0),
+    }
+}
+
+fn is_malformed<T>(slot: &Slot<T>) -> bool
+    ensures { result ≡ is_malformed slot.now }
+{
+    matches!(slot, Slot::Malformed)
+}
+
+/// Whether the step is under a metre.
+fn is_short(step: Nm) -> bool
+    ensures { result ≡ is_short step.0 }
+{
+    step.0.unsigned_abs() < 1_000_000_000
+}
+
+/// Whether there is more than one copy.
+fn is_repeated(repeat: &Repeat) -> bool
+    ensures { result ≡ is_repeated repeat.now }
+{
+    u64::from(count_of(repeat.columns)) * u64::from(count_of(repeat.rows)) > 1
+}
+
+/// Whether a number of the repeat does not fit its grammar.
+fn has_malformed(repeat: &Repeat) -> bool
+    ensures { result
+        ≡ (is_malformed repeat.now.columns || is_malformed repeat.now.rows || is_malformed repeat.now.i || is_malformed repeat.now.j) }
+{
+    is_malformed(&repeat.columns)
+        || is_malformed(&repeat.rows)
+        || is_malformed(&repeat.i)
+        || is_malformed(&repeat.j)
+}
+
+/// How many leaves copies of so many leaves have, up to the greatest number.
+fn copied_leaves(columns: u32, rows: u32, leaves: u64) -> u64
+    ensures { result ≡ min (columns * rows * leaves) 18446744073709551615 }
+{
+    let copies = u64::from(columns) * u64::from(rows);
+    copies.saturating_mul(leaves)
+}
+
+/// Whether the steps are under a metre.
+fn has_short_steps(unit: Unit, repeat: &Repeat) -> bool
+    ensures { result ≡ (is_short (step_by unit repeat.now.i) && is_short (step_by unit repeat.now.j)) }
+{
+    if !is_short(step(unit, &repeat.i)) {
+        return false;
+    }
+    is_short(step(unit, &repeat.j))
+}
+
+impl OpenRepeat {
+    /// A repeat that is opened, without an object.
+    fn new(alloc: Global, unit: Unit, repeat: &Repeat) -> OpenRepeat
+        ensures { result ≡ opened_by unit repeat.now }
+    {
+        OpenRepeat {
+            columns: count_of(repeat.columns),
+            rows: count_of(repeat.rows),
+            i: step(unit, &repeat.i).0,
+            j: step(unit, &repeat.j).0,
+            objects: ObjectList::new(alloc),
+            leaves: 0,
+        }
+    }
+
+    /// The item that it is when it is closed.
+    fn into_item(self) -> Item
+        ensures { result ≡ item.Repeat self.columns self.rows self.i self.j self.objects }
+    {
+        Item::Repeat {
+            columns: self.columns,
+            rows: self.rows,
+            i: self.i,
+            j: self.j,
+            objects: self.objects.into_objects(),
+        }
+    }
+}
+
+impl Built {
+    /// Whether a leaf of the item lies outside the board.
+    fn is_outside(&self, item: &Item) -> bool
+        requires { IsWellMadeItem self.now.layer.apertures item.now }
+        ensures { result ≡ not (are_on_board (item_leaves (meaning_in self.now.layer.apertures) item.now)) }
+    {
+        is_of_board(&self.layer.check_item(item))
+    }
+
+    /// Adds an item of so many leaves.
+    fn add_item(&mut self, item: Item, leaves: u64) -> Result<(), Stop>
+        requires { IsWellMadeItem self.old.layer.apertures item }
+        ensures { Adds item leaves self.old result self.new }
+    {
+        if self.is_outside(&item) {
+            return Err(Stop::Fault(faults::OUT_OF_BOARD));
+        }
+        if self.layer.items.len() >= COUNT_LIMIT {
+            return Err(Stop::Fault(faults::TOO_MUCH));
+        }
+        if !has_room(self.leaves, leaves) {
+            return Err(Stop::Fault(faults::TOO_MUCH));
+        }
+        self.layer.items.push(item)?;
+        self.leaves += leaves;
+        Ok(())
+    }
+}
+
+impl Running {
+    /// Closes the open repeat, which joins the items if it has objects.
+    fn settle(&mut self) -> Result<(), Stop>
+        requires { HasPast self.old }
+        ensures { Settles self.old result self.new }
+    {
+        let Some(repeat) = self.frames.repeat.take() else {
+            return Ok(());
+        };
+        if repeat.objects.is_empty() {
+            return Ok(());
+        }
+        let leaves = copied_leaves(repeat.columns, repeat.rows, repeat.leaves);
+        self.built.add_item(repeat.into_item(), leaves)
+    }
+
+    /// Whether the repeat would lie in a block.
+    fn is_nested(&self, repeat: &Repeat) -> bool
+        ensures { result ≡ (is_repeated repeat.now && not (is_empty self.now.frames.blocks.items)) }
+    {
+        if !is_repeated(repeat) {
+            return false;
+        }
+        !self.frames.blocks.is_empty()
+    }
+
+    /// SR with parameters: the open repeat is closed, and a repeat of more than one copy is opened.
+    pub fn set_repeat(&mut self, repeat: &Repeat) -> Result<(), Stop>
+        requires { HasPast self.old }
+        ensures { Takes (command.SetRepeat repeat.now) self.old result self.new }
+    {
+        if has_malformed(repeat) {
+            return Err(Stop::Fault(faults::BAD_NUMBER));
+        }
+        let Some(unit) = self.modal.unit else {
+            return Err(Stop::Fault(faults::NO_UNIT));
+        };
+        if self.is_nested(repeat) {
+            return Err(Stop::Fault(faults::NESTED_REPEAT));
+        }
+        if self.region.inside {
+            return Err(Stop::Fault(faults::STRAY_BLOCK));
+        }
+        if !has_short_steps(unit, repeat) {
+            return Err(Stop::Fault(faults::OUT_OF_BOARD));
+        }
+        if let Err(stop) = self.settle() {
+            return Err(stop);
+        }
+        if is_repeated(repeat) {
+            self.frames.repeat = Some(OpenRepeat::new(self.alloc, unit, repeat));
+        }
+        Ok(())
+    }
+
+    /// SR alone: the open repeat is closed.
+    pub fn close_repeat(&mut self) -> Result<(), Stop>
+        requires { HasPast self.old }
+        ensures { Takes command.CloseRepeat self.old result self.new }
+    {
+        if self.region.inside {
+            return Err(Stop::Fault(faults::STRAY_BLOCK));
+        }
+        self.settle()
+    }
+
+    /// M02: the open repeat is closed.
+    pub fn end(&mut self) -> Result<(), Stop>
+        requires { HasPast self.old }
+        ensures { Takes command.End self.old result self.new }
+    {
+        if self.region.inside {
+            return Err(Stop::Fault(faults::STRAY_BLOCK));
+        }
+        if !self.frames.blocks.is_empty() {
+            return Err(Stop::Fault(faults::STRAY_BLOCK));
+        }
+        self.settle()
+    }
+}

@@ -1,5 +1,0 @@
-use Rattle.cam_layers.proofs.Pasts.{homes_apart}
-use Rattle.cam_layers.proofs.laws.homes_stay_apart.Goals as goal
-
-pub returns : goal.returns
-returns c = homes_apart

@@ -1,5 +1,0 @@
-use Rattle.cam_layers.proofs.SoundReadings.{reading_is_sound}
-use Rattle.cam_layers.proofs.laws.layers_are_sound.Goals as goal
-
-pub returns : goal.returns
-returns c = reading_is_sound

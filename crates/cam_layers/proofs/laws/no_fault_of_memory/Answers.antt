@@ -1,5 +1,0 @@
-use Rattle.cam_layers.proofs.LeastFaults.{no_fault_is_memory}
-use Rattle.cam_layers.proofs.laws.no_fault_of_memory.Goals as goal
-
-pub returns : goal.returns
-returns c = no_fault_is_memory
