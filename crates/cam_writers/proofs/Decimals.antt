@@ -94,23 +94,23 @@ unsigned_again n h =
 -- signs
 
 -- a run of digits and what follows begins with no sign
-record IsUnsigned (run : List ℕ) : Type 0 where
-  positive : is_negative run ≡ false
-  behind : behind_sign run ≡ run
+pub record IsUnsigned (run : List ℕ) : Type 0 where
+  pub positive : is_negative run ≡ false
+  pub behind : behind_sign run ≡ run
 
 digit_no_sign : (d : ℕ) → is_ascii_digit d ≡ true → (eqb d 45 ≡ false) × (is_sign d ≡ false)
 digit_no_sign d h = (grind (arith, nat_tests), grind (arith, nat_tests))
 
-unsigned : (ds rest : List ℕ) → are_digits ds ≡ true → 0 < length ds → IsUnsigned (ds ++ rest)
+pub unsigned : (ds rest : List ℕ) → are_digits ds ≡ true → 0 < length ds → IsUnsigned (ds ++ rest)
 unsigned [] rest h some = absurd (omega (arith, some))
 unsigned (d ∷ ds) rest h some =
     let k = digit_no_sign d (both (is_ascii_digit d) (are_digits ds) h).0 in
     record { positive = k.0; behind = rw k.1 refl }
 
-signed_without : (size : List ℕ → Option ℕ) (run : List ℕ) (n : ℕ) → IsUnsigned run → size run ≡ Some n → signed size run ≡ Some (pos n)
+pub signed_without : (size : List ℕ → Option ℕ) (run : List ℕ) (n : ℕ) → IsUnsigned run → size run ≡ Some n → signed size run ≡ Some (pos n)
 signed_without size run n u e = rw (u.behind, u.positive, e) refl
 
-signed_minus : (size : List ℕ → Option ℕ) (run : List ℕ) (n : ℕ) → size run ≡ Some n → signed size (45 ∷ run) ≡ Some (neg_ℤ (pos n))
+pub signed_minus : (size : List ℕ → Option ℕ) (run : List ℕ) (n : ℕ) → size run ≡ Some n → signed size (45 ∷ run) ≡ Some (neg_ℤ (pos n))
 signed_minus size run n e = rw e refl
 
 -- a length in nm, in 10^-9 of a mm
@@ -176,7 +176,7 @@ mm_numeric (negsuc n) h = unsigned_numeric (suc n) h
 
 -- numbers of tools
 
-natural_again : (n : ℕ) → n < 2 ^ 64 → natural (decimal n) ≡ Some n
+pub natural_again : (n : ℕ) → n < 2 ^ 64 → natural (decimal n) ≡ Some n
 natural_again n h =
     natural-digits (decimal n) (digits_of_decimal n h) (λ (z : length (decimal n) ≡ 0). omega (arith, decimal_nonempty n h)) ∙ ap Some (value_of_decimal n h)
 

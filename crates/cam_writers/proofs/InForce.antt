@@ -21,7 +21,7 @@ use Rattle.cam_objects.specs.DrillSoundness.{IsSoundTool, IsSoundDrillItem, IsSo
 use Rattle.cam_xnc.specs.DrillState.{tool_in, mode_in}
 use Rattle.cam_xnc.specs.Faults.{is_drilling}
 use Rattle.cam_writers.specs.declared.drill_text.DrillText.{DrillText}
-use Rattle.cam_writers.specs.Canonical.{Lines, text_of, said_by, tool_line, declaration, point_line, with_tool, with_tools, opening, is_selected, with_selected, with_drill_mode, with_hit, with_cut, with_cuts, with_rout, lines_before_end, drill_text}
+use Rattle.cam_writers.specs.DrillTexts.{Lines, text_of, said_by, tool_line, declaration, point_line, with_tool, with_tools, opening, is_selected, with_selected, with_drill_mode, with_hit, with_cut, with_cuts, with_rout, lines_before_end, drill_text}
 use Rattle.cam_writers.specs.Machinery.Tracking.{Tracks, IsInRange}
 use Rattle.cam_writers.proofs.Saying.{tool_says, declaration_says, hit_says, start_says, cut_says, drill_says, body_says, lower_says, raise_says, unit_says, header_says}
 

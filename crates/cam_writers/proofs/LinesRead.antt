@@ -14,7 +14,7 @@ use Rattle.cam_xnc.specs.Reading.{is_told, said, is_end, is_end_statement, throu
 use Rattle.cam_xnc.specs.Machinery.Tracking.{first_of}
 use Rattle.cam_xnc.proofs.Cuttings.{one_cutting}
 use Rattle.cam_xnc.proofs.Readings.{goes_on, reading_goes_on, goes_past, ends_here}
-use Rattle.cam_writers.specs.Canonical.{Lines, text_of, said_by}
+use Rattle.cam_writers.specs.DrillTexts.{Lines, text_of, said_by}
 use Rattle.cam_writers.specs.Laws.{IsTold}
 use Rattle.cam_writers.proofs.Saying.{IsPlainLine, plain_line, end_says}
 use Rattle.cam_writers.proofs.Standing.{IsFaultless}

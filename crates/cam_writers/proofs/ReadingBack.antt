@@ -9,19 +9,17 @@ use Rattle.cam_units.specs.declared.point.Point.{Point}
 use Rattle.cam_units.specs.Board.{IsOnBoard}
 use Rattle.cam_objects.specs.declared.drill_item.DrillItem.{DrillItem}
 use Rattle.cam_objects.specs.declared.drill_item.DrillItem.TheVariants.{Hit, Rout}
-use Rattle.cam_objects.specs.declared.drill_layer.DrillLayer.{DrillLayer}
 use Rattle.cam_objects.specs.declared.item_fault.ItemFault.TheVariants.{Malformed, UnknownTool, OutOfBoard, TooMuch}
 use Rattle.cam_objects.specs.Drilling.{diameter_of}
-use Rattle.cam_objects.specs.DrillSoundness.{IsSoundDrillItem, KeepsDrillLimits, drill_count_from, drill_count_of}
+use Rattle.cam_objects.specs.DrillSoundness.{IsSoundDrillContent, IsSoundDrillItem, KeepsDrillLimits, drill_count_from, drill_count_of}
 use Rattle.cam_xnc.specs.declared.read_fault.ReadFault.{ReadFault}
 use Rattle.cam_xnc.specs.declared.statement.Statement.{Statement}
 use Rattle.cam_xnc.specs.declared.statement.Statement.TheVariants.{End}
 use Rattle.cam_xnc.specs.DrillState.{DrillContent, mode_in, tool_in}
 use Rattle.cam_xnc.specs.Faults.{is_drilling, faults}
-use Rattle.cam_xnc.specs.Reading.{content_of}
 use Rattle.cam_xnc.specs.Machinery.Tracking.{first_of}
-use Rattle.cam_writers.specs.Canonical.{Lines, said_by, tool_line, point_line, with_tool, with_tools, opening, is_selected, with_selected, with_hit, with_cut, with_cuts, with_rout, with_item, lines_before_end, drill_text}
-use Rattle.cam_writers.specs.Laws.{IsWritable, TellsItsLines, ReadsBack, WritesAgain}
+use Rattle.cam_writers.specs.DrillTexts.{Lines, said_by, tool_line, point_line, with_tool, with_tools, opening, is_selected, with_selected, with_hit, with_cut, with_cuts, with_rout, with_item, lines_before_end, drill_text}
+use Rattle.cam_writers.specs.Laws.{TellsItsLines, DrillReadsBack, DrillWritesAgain}
 use Rattle.cam_writers.specs.Machinery.Tracking.{IsInRange}
 use Rattle.cam_writers.proofs.InForce.{IsSoundPair, one_by_one, size_small, known_in_range, is_set}
 use Rattle.cam_writers.proofs.LinesRead.{text_read, front_told}
@@ -162,22 +160,21 @@ items_added (item ∷ new) is lines ts h tools sound limits =
     subst (λ (all : List DrillItem). Holds (fold with_item (with_item lines item) new) ts all) same
     (items_added new (is ++ item ∷ []) (with_item lines item) ts (item_added item new lines ts is h tools sound.0 limits) tools sound.1 (subst KeepsDrillLimits (sym same) limits))
 
-all_hold : (layer : DrillLayer) → IsWritable layer → Holds (lines_before_end layer.tools layer.items.items) layer.tools layer.items.items
-all_hold layer writable =
+all_hold : (layer : DrillContent) → IsSoundDrillContent layer.tools layer.items → Holds (lines_before_end layer.tools layer.items) layer.tools layer.items
+all_hold layer sound =
     let ts = layer.tools in
-    let sound = writable.sound in
-    items_added layer.items.items [] (opening ts) ts (opened ts writable.distinct (one_by_one IsSoundPair ts sound.tools)) sound.tools
-    (one_by_one (IsSoundDrillItem ts) layer.items.items sound.items) sound.limits
+    items_added layer.items [] (opening ts) ts (opened ts sound.distinct (one_by_one IsSoundPair ts sound.tools)) sound.tools
+    (one_by_one (IsSoundDrillItem ts) layer.items sound.items) sound.limits
 
 pub tells_its_lines : TellsItsLines
-tells_its_lines layer left writable =
-    let h = all_hold layer writable in front_told left (lines_before_end layer.tools layer.items.items) h.plain h.stands.faultless
+tells_its_lines layer left sound =
+    let h = all_hold layer sound in front_told left (lines_before_end layer.tools layer.items) h.plain h.stands.faultless
 
-pub reads_back : ReadsBack
+pub reads_back : DrillReadsBack
 unfolding drill_text
-reads_back layer writable =
-    let lines : Lines = lines_before_end layer.tools layer.items.items in
-    let h = all_hold layer writable in
+reads_back layer sound =
+    let lines : Lines = lines_before_end layer.tools layer.items in
+    let h = all_hold layer sound in
     let s = h.stands in
     let last : first_of (faults (said_by lines) End) ≡ None = rw (s.part, s.raised) refl in
     text_read lines h.plain s.faultless last ∙ rw (s.tools, s.items) refl
@@ -185,7 +182,6 @@ reads_back layer writable =
 same_content : (a b : DrillContent) {r : Result DrillContent ReadFault} → r ≡ Ok a → r ≡ Ok b → a ≡ b
 same_content a b e f = cc
 
-pub writes_again : WritesAgain
-writes_again layer again writable read =
-    let same : content_of again ≡ content_of layer = same_content (content_of again) (content_of layer) read (reads_back layer writable) in
-    ap (λ (c : DrillContent). drill_text c.tools c.items) same
+pub writes_again : DrillWritesAgain
+writes_again layer again sound read =
+    ap (λ (c : DrillContent). drill_text c.tools c.items) (same_content again layer read (reads_back layer sound))

@@ -15,7 +15,7 @@ use Rattle.cam_xnc.specs.Bytes.{is_line_end, is_skipped, is_semicolon, is_bad, c
 use Rattle.cam_numbers.specs.Numbers.{is_numeric, run_of, behind_run}
 use Rattle.cam_xnc.specs.Syntax.{field, coordinate, coordinates_of, with_coordinates, tool_by, tool_statement, rout_statement, other_statement, statement_of}
 use Rattle.cam_writers.specs.Lengths.{mm}
-use Rattle.cam_writers.specs.Canonical.{tool_line, declaration, point_line}
+use Rattle.cam_writers.specs.DrillTexts.{tool_line, declaration, point_line}
 use Rattle.cam_writers.proofs.Decimals.{scaled, digits_of_decimal, digits_numeric, mm_again, mm_pointed, mm_numeric, selected_again, declared_again}
 
 -- runs
@@ -36,10 +36,10 @@ run_length (d ∷ run) rest all stops =
     let k = both (is_numeric d) (list_all is_numeric run) all in
     rw (k.0, run_length run rest k.1 stops) (omega arith)
 
-run_read : (run rest : List ℕ) → list_all is_numeric run ≡ true → Stops rest → run_of (run ++ rest) ≡ run
+pub run_read : (run rest : List ℕ) → list_all is_numeric run ≡ true → Stops rest → run_of (run ++ rest) ≡ run
 run_read run rest all stops = rw (run_length run rest all stops) (take_at run rest (length run) refl)
 
-run_left : (run rest : List ℕ) → list_all is_numeric run ≡ true → Stops rest → behind_run (run ++ rest) ≡ rest
+pub run_left : (run rest : List ℕ) → list_all is_numeric run ≡ true → Stops rest → behind_run (run ++ rest) ≡ rest
 run_left run rest all stops = rw (run_length run rest all stops) (drop_at run rest (length run) refl)
 
 run_alone : (run : List ℕ) → list_all is_numeric run ≡ true → prefix_len is_numeric run ≡ length run
@@ -48,14 +48,14 @@ run_alone (d ∷ run) all =
     let k = both (is_numeric d) (list_all is_numeric run) all in
     rw (k.0, run_alone run k.1) (omega arith)
 
-run_alone_read : (run : List ℕ) → list_all is_numeric run ≡ true → run_of run ≡ run
+pub run_alone_read : (run : List ℕ) → list_all is_numeric run ≡ true → run_of run ≡ run
 run_alone_read run all = rw (run_alone run all) (take_all (length run) run (omega arith))
 
 drop_all : (run : List ℕ) → drop (length run) run ≡ []
 drop_all [] = refl
 drop_all (d ∷ run) = drop_all run
 
-run_alone_left : (run : List ℕ) → list_all is_numeric run ≡ true → behind_run run ≡ []
+pub run_alone_left : (run : List ℕ) → list_all is_numeric run ≡ true → behind_run run ≡ []
 run_alone_left run all = rw (run_alone run all) (drop_all run)
 
 field_read : (letter : ℕ) (run rest : List ℕ) → eqb letter letter ≡ true → list_all is_numeric run ≡ true → Stops rest → field letter (letter ∷ (run ++ rest)) ≡ (Some run, rest)

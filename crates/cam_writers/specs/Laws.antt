@@ -1,16 +1,14 @@
 -- Laws of canonical texts.
-use Rattle.std.specs.Prelude.{◌≡◌, ℕ, nat_eq, drop, map, reverse, Ok}
-use Rattle.std.specs.List.{IsDistinct}
-use Rattle.std.specs.Map.{keys_of}
-use Rattle.cam_objects.specs.declared.drill_layer.DrillLayer.{DrillLayer}
-use Rattle.cam_objects.specs.DrillSoundness.{IsSoundDrillLayer}
-use Rattle.cam_xnc.specs.Reading.{said, told_lines, content_of, reading_of}
-use Rattle.cam_writers.specs.Canonical.{Lines, text_of, said_by, lines_before_end, drill_text}
-
--- a sound layer, no number of whose tools stands twice
-pub record IsWritable (layer : DrillLayer) : Type 0 where
-  pub sound : IsSoundDrillLayer layer
-  pub distinct : IsDistinct nat_eq (keys_of layer.tools)
+use Rattle.std.specs.Prelude.{◌≡◌, ℕ, drop, map, reverse, Ok}
+use Rattle.cam_objects.specs.DrillSoundness.{IsSoundDrillContent}
+use Rattle.cam_objects.specs.Contents.{Content}
+use Rattle.cam_objects.specs.Soundness.{IsSoundContent}
+use Rattle.cam_words.specs.Reading.{reading}
+use Rattle.cam_gerber.specs.Computing.{told_of, reading_of as gerber_reading}
+use Rattle.cam_xnc.specs.DrillState.{DrillContent}
+use Rattle.cam_xnc.specs.Reading.{said, told_lines, reading_of as drill_reading}
+use Rattle.cam_writers.specs.DrillTexts.{Lines, text_of, said_by, lines_before_end, drill_text}
+use Rattle.cam_writers.specs.GerberTexts.{Commands, text_of as gerber_text_of, said_by as said_by_commands, commands_before_end, gerber_text}
 
 -- what the reader has read of the text of these lines is what they say
 abbrev pub IsTold : Lines → Type 0
@@ -19,18 +17,44 @@ IsTold lines = map said (reverse (told_lines (text_of lines))) ≡ said_by lines
 -- wherever a canonical text is cut behind a line: so the state that settings are read off is the reader's
 abbrev pub TellsItsLines : Type 0
 TellsItsLines =
-    (layer : DrillLayer) (left : ℕ) → IsWritable layer
-    → IsTold (drop left (lines_before_end layer.tools layer.items.items))
+    (layer : DrillContent) (left : ℕ) → IsSoundDrillContent layer.tools layer.items
+    → IsTold (drop left (lines_before_end layer.tools layer.items))
 
--- the canonical text of a layer is read as its tools and items
-abbrev pub ReadsBack : Type 0
-ReadsBack =
-    (layer : DrillLayer) → IsWritable layer
-    → reading_of (drill_text layer.tools layer.items.items) ≡ Ok (content_of layer)
+-- the canonical text of a drill layer is read as its tools and items
+abbrev pub DrillReadsBack : Type 0
+DrillReadsBack =
+    (layer : DrillContent) → IsSoundDrillContent layer.tools layer.items
+    → drill_reading (drill_text layer.tools layer.items) ≡ Ok layer
 
 -- what was read from a canonical text is written as the same text
-abbrev pub WritesAgain : Type 0
-WritesAgain =
-    (layer again : DrillLayer) → IsWritable layer
-    → reading_of (drill_text layer.tools layer.items.items) ≡ Ok (content_of again)
-    → drill_text again.tools again.items.items ≡ drill_text layer.tools layer.items.items
+abbrev pub DrillWritesAgain : Type 0
+DrillWritesAgain =
+    (layer again : DrillContent) → IsSoundDrillContent layer.tools layer.items
+    → drill_reading (drill_text layer.tools layer.items) ≡ Ok again
+    → drill_text again.tools again.items ≡ drill_text layer.tools layer.items
+
+-- ---- Gerber texts
+
+-- what the reader is told by the text of these commands is what they say
+abbrev pub IsToldByCommands : Commands → Type 0
+IsToldByCommands commands =
+    map (λ answer. (told_of answer).says) (reverse (reading 0 (gerber_text_of commands))) ≡ said_by_commands commands
+
+-- wherever a canonical text is cut behind a command: so the state that settings are read off is the reader's
+abbrev pub TellsItsCommands : Type 0
+TellsItsCommands =
+    (layer : Content) (left : ℕ) → IsSoundContent layer.entries layer.items
+    → IsToldByCommands (drop left (commands_before_end layer.entries layer.items))
+
+-- the canonical text of a layer is read as its dictionary and its items
+abbrev pub GerberReadsBack : Type 0
+GerberReadsBack =
+    (layer : Content) → IsSoundContent layer.entries layer.items
+    → gerber_reading (gerber_text layer.entries layer.items) ≡ Ok layer
+
+-- what was read from a canonical text is written as the same text
+abbrev pub GerberWritesAgain : Type 0
+GerberWritesAgain =
+    (layer again : Content) → IsSoundContent layer.entries layer.items
+    → gerber_reading (gerber_text layer.entries layer.items) ≡ Ok again
+    → gerber_text again.entries again.items ≡ gerber_text layer.entries layer.items

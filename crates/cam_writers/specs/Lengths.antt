@@ -1,5 +1,6 @@
--- Lengths as canonical texts write them: in millimetres with exactly six decimals. XNC Format Specification,
--- "Coordinates" and "Tool declaration".
+-- Lengths as canonical texts write them: coordinates of Gerber operations as whole nm, all others in millimetres with
+-- exactly six decimals. Gerber Layer Format Specification, "Coordinate data"; XNC Format Specification, "Coordinates"
+-- and "Tool declaration".
 use Rattle.std.specs.Prelude.{ℕ, suc, ◌+◌, ◌/◌, ◌%◌, ℤ, pos, negsuc, List, [], ◌∷◌, ◌++◌, decimal}
 
 -- the last digit of a number
@@ -20,3 +21,8 @@ unsigned_mm nm = decimal (nm / 1000000) ++ 46 ∷ last_six nm
 abbrev pub mm : ℤ → List ℕ
 mm (pos nm) = unsigned_mm nm
 mm (negsuc nm) = 45 ∷ unsigned_mm (suc nm)
+
+-- a length in nm, as a whole number
+abbrev pub whole : ℤ → List ℕ
+whole (pos nm) = decimal nm
+whole (negsuc nm) = 45 ∷ decimal (suc nm)

@@ -1,4 +1,6 @@
 pub mod Lengths
-pub mod Canonical
+pub mod Commands
+pub mod DrillTexts
+pub mod GerberTexts
 pub mod Laws
 pub mod Machinery

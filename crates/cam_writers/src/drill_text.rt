@@ -1,13 +1,11 @@
 //! The text of a drill layer.
 
-ghost use Rattle.std.specs.Prelude.{◌≡◌, ◌++◌, codes, nat_eq, All, IfOk, OnOk, Ok};
-ghost use Rattle.std.specs.List.{IsDistinct};
-ghost use Rattle.std.specs.Map.{keys_of};
+ghost use Rattle.std.specs.Prelude.{◌≡◌, ◌++◌, codes, All, IfOk, OnOk, Ok};
 ghost use Rattle.cam_units.specs.Board.{IsOnBoard};
 ghost use Rattle.cam_objects.specs.DrillSoundness.{IsSoundDrillLayer, drill_points_of, tool_of};
 ghost use Rattle.cam_xnc.specs.Reading.{content_of, reading_of};
-ghost use Rattle.cam_writers.specs.Canonical.{Lines, declaration, drill_text, opening, point_line, text_of, tool_line};
-ghost use Rattle.cam_writers.specs.Canonical.{with_cuts, with_drill_mode, with_hit, with_item, with_rout, with_selected, with_tools};
+ghost use Rattle.cam_writers.specs.DrillTexts.{Lines, declaration, drill_text, opening, point_line, text_of, tool_line};
+ghost use Rattle.cam_writers.specs.DrillTexts.{with_cuts, with_drill_mode, with_hit, with_item, with_rout, with_selected, with_tools};
 ghost use Rattle.cam_writers.specs.Machinery.Tracking.{AreSoundTools, IsInRange, Tracks};
 
 use crate::lengths::{push_mm, push_number};
@@ -24,7 +22,7 @@ fn push_line(text: &mut Vec<u8>, line: &[u8]) -> Result<(), AllocError>
 }
 
 /// Writes the line that selects a tool.
-#[tactic(auto, unfolding(crate::specs::Canonical::tool_line))]
+#[tactic(auto, unfolding(crate::specs::DrillTexts::tool_line))]
 fn push_tool_line(text: &mut Vec<u8>, tool: u16) -> Result<(), AllocError>
     ensures { OnOk result (text.new.items ≡ text.old.items ++ (tool_line tool ++ codes "\n")) }
 {
@@ -34,7 +32,7 @@ fn push_tool_line(text: &mut Vec<u8>, tool: u16) -> Result<(), AllocError>
 }
 
 /// Writes the line that declares a tool.
-#[tactic(auto, unfolding(crate::specs::Canonical::declaration))]
+#[tactic(auto, unfolding(crate::specs::DrillTexts::declaration))]
 fn push_declaration(text: &mut Vec<u8>, tool: u16, diameter: Nm) -> Result<(), AllocError>
     ensures { OnOk result
         (text.new.items ≡ text.old.items ++ (declaration (tool, diameter) ++ codes "\n")) }
@@ -48,9 +46,8 @@ fn push_declaration(text: &mut Vec<u8>, tool: u16, diameter: Nm) -> Result<(), A
 
 /// Writes the line of each tool.
 fn push_declarations(text: &mut Vec<u8>, tools: &Tools) -> Result<(), AllocError>
-    ensures text { (lines : Lines) → text.old.items ≡ text_of lines
+    ensures { (lines : Lines) → text.old.items ≡ text_of lines
         → OnOk result (text.new.items ≡ text_of (with_tools lines tools.now)) }
-    ensures distinct { IfOk result (λ _. IsDistinct nat_eq (keys_of tools.now)) }
 {
     for place in 0..tools.len() {
         if let Some((tool, diameter)) = tools.at(place) {
@@ -61,7 +58,7 @@ fn push_declarations(text: &mut Vec<u8>, tools: &Tools) -> Result<(), AllocError
 }
 
 /// Writes a line of a word and a point.
-#[tactic(auto, unfolding(crate::specs::Canonical::point_line))]
+#[tactic(auto, unfolding(crate::specs::DrillTexts::point_line))]
 fn push_point_line(text: &mut Vec<u8>, word: &[u8], at: Point) -> Result<(), AllocError>
     ensures { OnOk result
         (text.new.items ≡ text.old.items ++ (point_line word.now at ++ codes "\n")) }
@@ -99,8 +96,7 @@ impl DrillText {
     /// The lines before the items.
     fn new(alloc: Global, tools: &Tools) -> Result<DrillText, AllocError>
         requires { AreSoundTools tools.now }
-        ensures tracks { IfOk result (Tracks (opening tools.now)) }
-        ensures distinct { IfOk result (λ _. IsDistinct nat_eq (keys_of tools.now)) }
+        ensures { IfOk result (Tracks (opening tools.now)) }
     {
         let mut text = Vec::new(alloc);
         push_line(&mut text, b"M48")?;

@@ -1,7 +1,7 @@
 //! Numbers and lengths, as canonical texts write them.
 
 ghost use Rattle.std.specs.Prelude.{◌≡◌, ◌++◌, decimal, OnOk};
-ghost use Rattle.cam_writers.specs.Lengths.{last_digit, mm, unsigned_mm};
+ghost use Rattle.cam_writers.specs.Lengths.{last_digit, mm, unsigned_mm, whole};
 
 use cam_units::Nm;
 use itoa::Buffer;
@@ -50,4 +50,15 @@ pub fn push_mm(text: &mut Vec<u8>, length: Nm) -> Result<(), AllocError>
         text.push(b'-')?;
     }
     push_unsigned_mm(text, length.0.unsigned_abs())
+}
+
+/// Writes a length at the text's end, as a whole number of nm.
+pub fn push_whole(text: &mut Vec<u8>, length: Nm) -> Result<(), AllocError>
+    ensures { OnOk result (text.new.items ≡ text.old.items ++ whole length.0) }
+{
+    let nm = length.0;
+    if nm < 0 {
+        text.push(b'-')?;
+    }
+    push_number(text, nm.unsigned_abs())
 }

@@ -17,16 +17,45 @@
 //! M30
 //! ```
 //!
-//! A layer has one canonical text, and reading that text gives the layer again: see
-//! [`drill_texts_read_back`].
+//! [`gerber_text`] writes a layer as a Gerber file (Ucamco's "Gerber Layer Format Specification"):
 //!
-//! The text is defined in `specs/`: `Lengths` says how lengths are written, `Canonical` which lines a layer has,
-//! and `Laws` what holds of its text. `specs/Machinery/` ties the running state of the code to them.
+//! ```text
+//! %FSLAX46Y46*%
+//! %MOMM*%
+//! G01*
+//! G75*
+//! %ADD10C,0.500000*%                aperture 10 is a disc 0.5 mm wide
+//! D10*                              selects it
+//! X1000000Y0D03*                    a flash at (1 mm, 0)
+//! X3000000Y0D01*                    a line from there to (3 mm, 0)
+//! G03*                              arcs go counterclockwise
+//! X3000000Y2000000I0J1000000D01*    half a circle about (3 mm, 1 mm)
+//! %LPC*%                            what follows clears
+//! X3000000Y2000000D03*
+//! M02*
+//! ```
+//!
+//! A layer has one canonical text, in which each item stands behind the settings in which it differs from those in
+//! force. Reading that text gives the layer again: see [`gerber_texts_read_back`] and [`drill_texts_read_back`].
+//!
+//! The texts are defined in `specs/`: `Lengths` says how lengths are written, `DrillTexts` which lines a drill layer
+//! has, `Commands` how the commands of Gerber files are written and `GerberTexts` which of them a layer has, and `Laws`
+//! what holds of the texts. `specs/Machinery/` ties the running state of the code to them.
 #![tactic(auto)]
 
 mod drill_text;
+mod gerber_apertures;
+mod gerber_commands;
+mod gerber_layers;
+mod gerber_macros;
+mod gerber_objects;
+mod gerber_state;
 mod laws;
 mod lengths;
 
 pub use drill_text::xnc_text;
-pub use laws::{drill_texts_read_back, drill_texts_tell_their_lines, drill_texts_write_again};
+pub use gerber_layers::gerber_text;
+pub use laws::{
+    drill_texts_read_back, drill_texts_tell_their_lines, drill_texts_write_again,
+    gerber_texts_read_back, gerber_texts_tell_their_commands, gerber_texts_write_again,
+};

@@ -5,7 +5,7 @@ use Rattle.cam_objects.specs.DrillSoundness.{IsSoundTool}
 use Rattle.cam_xnc.specs.DrillState.{tool_in, mode_in}
 use Rattle.cam_xnc.specs.Faults.{is_drilling}
 use Rattle.cam_writers.specs.declared.drill_text.DrillText.{DrillText}
-use Rattle.cam_writers.specs.Canonical.{Lines, text_of, said_by}
+use Rattle.cam_writers.specs.DrillTexts.{Lines, text_of, said_by}
 
 -- the state has the lines' text, and the tool and the mode that are in force after them
 pub record Tracks (lines : Lines) (written : DrillText) : Type 0 where

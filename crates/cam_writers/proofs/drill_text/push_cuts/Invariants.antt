@@ -1,5 +1,5 @@
 use Rattle.std.proofs.Common.{◌≡◌, take}
-use Rattle.cam_writers.specs.Canonical.{Lines, text_of, with_cuts}
+use Rattle.cam_writers.specs.DrillTexts.{Lines, text_of, with_cuts}
 use Rattle.cam_writers.proofs.drill_text.push_cuts.Given as goal
 
 abbrev pub invariant-loop-to : goal.invariant-loop-to

@@ -1,5 +1,5 @@
 use Rattle.std.proofs.Common.{◌≡◌, take, length}
-use Rattle.cam_writers.specs.Canonical.{Lines, text_of, with_tools}
+use Rattle.cam_writers.specs.DrillTexts.{Lines, text_of, with_tools}
 use Rattle.cam_writers.proofs.drill_text.push_declarations.Given as goal
 
 abbrev pub invariant-loop-place : goal.invariant-loop-place

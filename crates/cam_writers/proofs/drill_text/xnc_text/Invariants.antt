@@ -1,5 +1,5 @@
 use Rattle.std.proofs.Common.{take}
-use Rattle.cam_writers.specs.Canonical.{lines_before_end}
+use Rattle.cam_writers.specs.DrillTexts.{lines_before_end}
 use Rattle.cam_writers.specs.Machinery.Tracking.{Tracks}
 use Rattle.cam_writers.proofs.drill_text.xnc_text.Given as goal
 

@@ -1,0 +1,209 @@
+//! The commands of Gerber texts, apertures and macros apart. Each ends its line.
+
+ghost use Rattle.std.specs.Prelude.{◌≡◌, ◌++◌, ◌-ℤ◌, OnOk};
+ghost use Rattle.cam_units.specs.Board.{IsOnBoard};
+ghost use Rattle.cam_writers.specs.Commands.{arc_command, coordinates, extended, flash_command, line_command, mirror_command, mode_command, move_command, offsets, open_block, open_repeat, polarity_command, rotation_command, selection_command, word};
+ghost use Rattle.cam_writers.specs.Machinery.Writing.{line_of, steps_text};
+
+use crate::lengths::{push_mm, push_number, push_whole};
+use cam_commands::Mode;
+use cam_units::{Nm, Point, Turn};
+use std::alloc::AllocError;
+
+/// How many times a repeat paints its objects, and how far apart.
+#[derive(Clone, Copy)]
+pub struct Grid {
+    pub columns: u32,
+    pub rows: u32,
+    /// The step of the columns, in nm.
+    pub i: Nm,
+    /// The step of the rows, in nm.
+    pub j: Nm,
+}
+
+/// Writes a word command.
+pub fn push_word(text: &mut Vec<u8>, command: &[u8]) -> Result<(), AllocError>
+    ensures { OnOk result (text.new.items ≡ text.old.items ++ line_of (word command.now)) }
+{
+    text.extend_from_slice(command)?;
+    text.extend_from_slice(b"*\n")
+}
+
+/// Writes an extended command.
+pub fn push_extended(text: &mut Vec<u8>, command: &[u8]) -> Result<(), AllocError>
+    ensures { OnOk result (text.new.items ≡ text.old.items ++ line_of (extended command.now)) }
+{
+    text.extend_from_slice(b"%")?;
+    text.extend_from_slice(command)?;
+    text.extend_from_slice(b"*%\n")
+}
+
+/// Writes the command that sets the polarity.
+#[tactic(auto, unfolding(crate::specs::Commands::polarity_command))]
+pub fn push_polarity(text: &mut Vec<u8>, dark: bool) -> Result<(), AllocError>
+    ensures { OnOk result (text.new.items ≡ text.old.items ++ line_of (polarity_command dark)) }
+{
+    push_extended(text, if dark { b"LPD" } else { b"LPC" })
+}
+
+/// Writes the command that sets the mirror of a turn.
+#[tactic(auto, unfolding(crate::specs::Commands::mirror_command))]
+pub fn push_mirror(text: &mut Vec<u8>, turn: Turn) -> Result<(), AllocError>
+    ensures { OnOk result (text.new.items ≡ text.old.items ++ line_of (mirror_command turn)) }
+{
+    match turn {
+        Turn::R0 | Turn::R90 | Turn::R180 | Turn::R270 => push_extended(text, b"LMN"),
+        Turn::M0 | Turn::M90 | Turn::M180 | Turn::M270 => push_extended(text, b"LMX"),
+    }
+}
+
+/// Writes the command that sets the rotation of a turn.
+#[tactic(auto, unfolding(crate::specs::Commands::rotation_command))]
+pub fn push_rotation(text: &mut Vec<u8>, turn: Turn) -> Result<(), AllocError>
+    ensures { OnOk result (text.new.items ≡ text.old.items ++ line_of (rotation_command turn)) }
+{
+    match turn {
+        Turn::R0 | Turn::M0 => push_extended(text, b"LR0"),
+        Turn::R90 | Turn::M90 => push_extended(text, b"LR90"),
+        Turn::R180 | Turn::M180 => push_extended(text, b"LR180"),
+        Turn::R270 | Turn::M270 => push_extended(text, b"LR270"),
+    }
+}
+
+/// Writes the command that selects an aperture.
+#[tactic(auto, unfolding(crate::specs::Commands::selection_command))]
+pub fn push_selection(text: &mut Vec<u8>, number: u32) -> Result<(), AllocError>
+    ensures { OnOk result (text.new.items ≡ text.old.items ++ line_of (selection_command number)) }
+{
+    text.extend_from_slice(b"D")?;
+    push_number(text, u64::from(number))?;
+    text.extend_from_slice(b"*\n")
+}
+
+/// Writes the command that sets the mode of plots.
+#[tactic(auto, unfolding(crate::specs::Commands::mode_command))]
+pub fn push_mode(text: &mut Vec<u8>, mode: Mode) -> Result<(), AllocError>
+    ensures { OnOk result (text.new.items ≡ text.old.items ++ line_of (mode_command mode)) }
+{
+    match mode {
+        Mode::Linear => push_word(text, b"G01"),
+        Mode::Clockwise => push_word(text, b"G02"),
+        Mode::Counterclockwise => push_word(text, b"G03"),
+    }
+}
+
+/// Writes the coordinates of a point.
+#[tactic(auto, unfolding(crate::specs::Commands::coordinates))]
+fn push_coordinates(text: &mut Vec<u8>, at: Point) -> Result<(), AllocError>
+    ensures { OnOk result (text.new.items ≡ text.old.items ++ coordinates at) }
+{
+    text.extend_from_slice(b"X")?;
+    push_whole(text, Nm(at.x))?;
+    text.extend_from_slice(b"Y")?;
+    push_whole(text, Nm(at.y))
+}
+
+/// Writes the command that goes to a point.
+#[tactic(auto, unfolding(crate::specs::Commands::move_command))]
+pub fn push_move(text: &mut Vec<u8>, to: Point) -> Result<(), AllocError>
+    ensures { OnOk result (text.new.items ≡ text.old.items ++ line_of (move_command to)) }
+{
+    push_coordinates(text, to)?;
+    text.extend_from_slice(b"D02*\n")
+}
+
+/// Writes the command that flashes at a point.
+#[tactic(auto, unfolding(crate::specs::Commands::flash_command))]
+pub fn push_flash(text: &mut Vec<u8>, at: Point) -> Result<(), AllocError>
+    ensures { OnOk result (text.new.items ≡ text.old.items ++ line_of (flash_command at)) }
+{
+    push_coordinates(text, at)?;
+    text.extend_from_slice(b"D03*\n")
+}
+
+/// Writes the command that plots a line to a point.
+#[tactic(auto, unfolding(crate::specs::Commands::line_command))]
+pub fn push_line(text: &mut Vec<u8>, to: Point) -> Result<(), AllocError>
+    ensures { OnOk result (text.new.items ≡ text.old.items ++ line_of (line_command to)) }
+{
+    push_coordinates(text, to)?;
+    text.extend_from_slice(b"D01*\n")
+}
+
+/// How far one point lies from another, in each coordinate.
+fn offset(from: Point, to: Point) -> Point
+    requires from { IsOnBoard from }
+    requires to { IsOnBoard to }
+    ensures x { result.x ≡ to.x -ℤ from.x }
+    ensures y { result.y ≡ to.y -ℤ from.y }
+{
+    Point {
+        x: to.x - from.x,
+        y: to.y - from.y,
+    }
+}
+
+/// Writes how far an arc's centre is from its start.
+#[tactic(auto, unfolding(crate::specs::Commands::offsets))]
+fn push_offsets(text: &mut Vec<u8>, start: Point, centre: Point) -> Result<(), AllocError>
+    requires start { IsOnBoard start }
+    requires centre { IsOnBoard centre }
+    ensures { OnOk result (text.new.items ≡ text.old.items ++ offsets start centre) }
+{
+    let offset = offset(start, centre);
+    text.extend_from_slice(b"I")?;
+    push_whole(text, Nm(offset.x))?;
+    text.extend_from_slice(b"J")?;
+    push_whole(text, Nm(offset.y))
+}
+
+/// Writes the command that plots an arc.
+#[tactic(auto, unfolding(crate::specs::Commands::arc_command))]
+pub fn push_arc(
+    text: &mut Vec<u8>,
+    start: Point,
+    to: Point,
+    centre: Point,
+) -> Result<(), AllocError>
+    requires start { IsOnBoard start }
+    requires centre { IsOnBoard centre }
+    ensures { OnOk result (text.new.items ≡ text.old.items ++ line_of (arc_command start to centre)) }
+{
+    push_coordinates(text, to)?;
+    push_offsets(text, start, centre)?;
+    text.extend_from_slice(b"D01*\n")
+}
+
+/// Writes the command that opens a block.
+#[tactic(auto, unfolding(crate::specs::Commands::open_block))]
+pub fn push_open_block(text: &mut Vec<u8>, number: u32) -> Result<(), AllocError>
+    ensures { OnOk result (text.new.items ≡ text.old.items ++ line_of (open_block number)) }
+{
+    text.extend_from_slice(b"%ABD")?;
+    push_number(text, u64::from(number))?;
+    text.extend_from_slice(b"*%\n")
+}
+
+/// Writes the steps of a repeat.
+fn push_steps(text: &mut Vec<u8>, i: Nm, j: Nm) -> Result<(), AllocError>
+    ensures { OnOk result (text.new.items ≡ text.old.items ++ steps_text i j) }
+{
+    text.extend_from_slice(b"I")?;
+    push_mm(text, i)?;
+    text.extend_from_slice(b"J")?;
+    push_mm(text, j)
+}
+
+/// Writes the command that opens a repeat.
+#[tactic(auto, unfolding(crate::specs::Commands::open_repeat))]
+pub fn push_open_repeat(text: &mut Vec<u8>, grid: Grid) -> Result<(), AllocError>
+    ensures { OnOk result (text.new.items
+        ≡ text.old.items ++ line_of (open_repeat grid.columns grid.rows grid.i.0 grid.j.0)) }
+{
+    text.extend_from_slice(b"%SRX")?;
+    push_number(text, u64::from(grid.columns))?;
+    text.extend_from_slice(b"Y")?;
+    push_number(text, u64::from(grid.rows))?;
+    push_steps(text, grid.i, grid.j)?;
+    text.extend_from_slice(b"*%\n")
+}

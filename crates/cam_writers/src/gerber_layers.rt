@@ -1,0 +1,141 @@
+//! The text of a Gerber layer.
+
+ghost use Rattle.std.specs.Prelude.{◌≡◌, All, IfOk, OnOk};
+ghost use Rattle.cam_numbers.specs.Numbers.{IsApertureNumber};
+ghost use Rattle.cam_apertures.specs.Soundness.{IsSoundAperture};
+ghost use Rattle.cam_objects.specs.Soundness.{IsSound, IsSoundDictionary};
+ghost use Rattle.cam_objects.specs.Contents.{content_of};
+ghost use Rattle.cam_gerber.specs.Computing.{reading_of};
+ghost use Rattle.cam_writers.specs.GerberTexts.{Commands, gerber_text, opening, with_entries, with_entry, with_item, with_macro};
+ghost use Rattle.cam_writers.specs.Machinery.GerberTracking.{IsWritableEntry, IsWritableGrid, IsWritableItem, IsWritableObject, TracksCommands};
+
+use crate::gerber_apertures::push_definition;
+use crate::gerber_commands::{Grid, push_extended, push_open_block, push_open_repeat, push_word};
+use crate::gerber_macros::push_macro;
+use crate::gerber_state::GerberText;
+use cam_apertures::Aperture;
+use cam_objects::{Dictionary, Entry, Item, Layer, Object};
+use cam_units::Nm;
+use std::alloc::{AllocError, Global};
+
+impl GerberText {
+    /// Writes the macro that an aperture is made of, where it is made of one.
+    fn write_macro(&mut self, number: u32, aperture: &Aperture) -> Result<(), AllocError>
+        ensures { (commands : Commands) → TracksCommands commands self.old
+            → OnOk result (TracksCommands (with_macro number aperture.now commands) self.new) }
+    {
+        match aperture {
+            Aperture::Prims(primitives) => {
+                push_macro(&mut self.text, number, primitives.as_slice())
+            }
+            _ => Ok(()),
+        }
+    }
+
+    /// Writes the definition of an aperture, behind the macro that it is made of.
+    fn write_aperture(&mut self, number: u32, aperture: &Aperture) -> Result<(), AllocError>
+        requires number { IsApertureNumber number }
+        requires aperture { IsSoundAperture aperture.now }
+        ensures { (commands : Commands) → TracksCommands commands self.old
+            → OnOk result (TracksCommands (with_entry commands (number, Entry.Aperture aperture.now)) self.new) }
+    {
+        self.write_macro(number, aperture)?;
+        push_definition(&mut self.text, number, aperture)
+    }
+
+    /// Writes a block.
+    fn write_block(&mut self, number: u32, objects: &[Object]) -> Result<(), AllocError>
+        requires number { IsApertureNumber number }
+        requires objects { All IsWritableObject objects.now }
+        ensures { (commands : Commands) → TracksCommands commands self.old
+            → OnOk result (TracksCommands (with_entry commands (number, Entry.Block objects.now)) self.new) }
+    {
+        push_open_block(&mut self.text, number)?;
+        self.write_objects(objects)?;
+        push_extended(&mut self.text, b"AB")
+    }
+
+    /// Writes an entry of the dictionary.
+    fn write_entry(&mut self, number: u32, entry: &Entry) -> Result<(), AllocError>
+        requires { IsWritableEntry number entry.now }
+        ensures { (commands : Commands) → TracksCommands commands self.old
+            → OnOk result (TracksCommands (with_entry commands (number, entry.now)) self.new) }
+    {
+        match entry {
+            Entry::Aperture(aperture) => self.write_aperture(number, aperture),
+            Entry::Block(objects) => self.write_block(number, objects.as_slice()),
+        }
+    }
+
+    /// Writes the entries of a dictionary in order.
+    fn write_entries(&mut self, entries: &Dictionary) -> Result<(), AllocError>
+        requires sound { IsSoundDictionary entries.now }
+        requires begun { TracksCommands opening self.old }
+        ensures { OnOk result (TracksCommands (with_entries entries.now) self.new) }
+    {
+        for place in 0..entries.len() {
+            if let Some((number, entry)) = entries.at(place) {
+                self.write_entry(number, entry)?;
+            }
+        }
+        Ok(())
+    }
+
+    /// Writes a repeat.
+    fn write_repeat(&mut self, grid: Grid, objects: &[Object]) -> Result<(), AllocError>
+        requires grid { IsWritableGrid grid.columns grid.rows grid.i.0 grid.j.0 }
+        requires objects { All IsWritableObject objects.now }
+        ensures { (commands : Commands) → TracksCommands commands self.old → OnOk result (TracksCommands
+            (with_item commands (Item.Repeat grid.columns grid.rows grid.i.0 grid.j.0 objects.now)) self.new) }
+    {
+        push_open_repeat(&mut self.text, grid)?;
+        self.write_objects(objects)?;
+        push_extended(&mut self.text, b"SR")
+    }
+
+    /// Writes an item.
+    fn write_item(&mut self, item: &Item) -> Result<(), AllocError>
+        requires { IsWritableItem item.now }
+        ensures { (commands : Commands) → TracksCommands commands self.old
+            → OnOk result (TracksCommands (with_item commands item.now) self.new) }
+    {
+        match item {
+            Item::One(object) => self.write_object(object),
+            Item::Repeat {
+                columns,
+                rows,
+                i,
+                j,
+                objects,
+            } => {
+                let grid = Grid {
+                    columns: *columns,
+                    rows: *rows,
+                    i: Nm(*i),
+                    j: Nm(*j),
+                };
+                self.write_repeat(grid, objects.as_slice())
+            }
+        }
+    }
+}
+
+/// The canonical text of a sound layer, a Gerber file; an error where no memory is left for it. It
+/// is read as the same dictionary and items.
+///
+/// (Gerber Layer Format Specification, "Graphics state", "Aperture dictionary", "Block aperture (AB)",
+/// "Step and repeat (SR)" and "Region statement (G36/G37)".)
+pub fn gerber_text(alloc: Global, layer: &Layer) -> Result<Vec<u8>, AllocError>
+    requires { IsSound layer.now }
+    ensures text { IfOk result (λ text.
+        text.items ≡ gerber_text layer.now.apertures layer.now.items.items) }
+    ensures reads_back { IfOk result (λ text. reading_of text.items ≡ Ok (content_of layer.now)) }
+{
+    let mut written = GerberText::new(alloc)?;
+    written.write_entries(layer.entries())?;
+    for item in layer.items() {
+        written.write_item(item)?;
+    }
+    push_word(&mut written.text, b"M02")?;
+    Ok(written.text)
+}
