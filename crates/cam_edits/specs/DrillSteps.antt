@@ -1,0 +1,88 @@
+-- What the steps of a drill layer do to what it lists, and which steps lead back.
+use Rattle.std.specs.Prelude.{ℕ, ◌+◌, ◌<◌, ◌≤◌, Bool, true, false, List, length, Option, None, Some, IsSome, count_by, insert, nat_eq, remove, slice_get, vec_capacity}
+use Rattle.std.specs.Map.{set_value}
+use Rattle.cam_units.specs.declared.length.Nm.{Nm}
+use Rattle.cam_shapes.specs.Shifting.{IsShiftable}
+use Rattle.cam_objects.specs.Drilling.{diameter_of}
+use Rattle.cam_objects.specs.DrillSoundness.{tool_of}
+use Rattle.cam_objects.specs.Shifting.{shifted_drill_item}
+use Rattle.cam_objects.specs.declared.drill_item.DrillItem.{DrillItem}
+use Rattle.cam_objects.specs.declared.drill_item.DrillItem.TheVariants.{Hit, Rout}
+use Rattle.cam_objects.specs.declared.drill_layer.DrillLayer.{DrillLayer}
+use Rattle.cam_edits.specs.declared.drill_step.DrillStep.{DrillStep}
+use Rattle.cam_edits.specs.declared.drill_step.DrillStep.TheVariants.{Insert, Delete, Move, Reorder, Tool, Diameter}
+use Rattle.cam_edits.specs.Moving.{IsMovableDrillItem, negated}
+use Rattle.cam_edits.specs.Places.{HasAt, changed, reordered}
+
+-- what a drill layer lists, without the room that is kept for more
+pub record DrillContent : Type 0 where
+  pub tools : List (ℕ × Nm)
+  pub items : List DrillItem
+
+abbrev pub drill_content_of : DrillLayer → DrillContent
+drill_content_of layer = record { tools = layer.tools; items = layer.items.items }
+
+abbrev pub with_tool : ℕ → DrillItem → DrillItem
+with_tool t (Hit _ at) = Hit t at
+with_tool t (Rout _ points) = Rout t points
+
+abbrev pub drill_items_after : DrillStep → List DrillItem → List DrillItem
+drill_items_after (Insert k item) items = insert items k item
+drill_items_after (Delete k) items = remove items k
+drill_items_after (Move k by) items = changed (shifted_drill_item by) items k
+drill_items_after (Reorder k m) items = reordered items k m
+drill_items_after (Tool k t) items = changed (with_tool t) items k
+drill_items_after (Diameter t d) items = items
+
+-- a diameter changes in the tool's place in the list
+abbrev pub tools_after : DrillStep → List (ℕ × Nm) → List (ℕ × Nm)
+tools_after (Insert k item) tools = tools
+tools_after (Delete k) tools = tools
+tools_after (Move k by) tools = tools
+tools_after (Reorder k m) tools = tools
+tools_after (Tool k t) tools = tools
+tools_after (Diameter t d) tools = set_value (nat_eq t) tools d
+
+abbrev pub after_drill_step : DrillStep → DrillContent → DrillContent
+after_drill_step step c = record { tools = tools_after step c.tools; items = drill_items_after step c.items }
+
+-- the step that leads back, by the item at the place and by the diameter of the tool before the step
+abbrev pub insertion_of : ℕ → Option DrillItem → DrillStep
+insertion_of k None = Delete k
+insertion_of k (Some item) = Insert k item
+
+abbrev pub tool_before : ℕ → ℕ → Option DrillItem → DrillStep
+tool_before k t None = Tool k t
+tool_before k t (Some item) = Tool k (tool_of item)
+
+abbrev pub diameter_before : ℕ → Nm → Option Nm → DrillStep
+diameter_before t d None = Diameter t d
+diameter_before t d (Some before) = Diameter t before
+
+abbrev pub inverse_drill_step : DrillStep → DrillContent → DrillStep
+inverse_drill_step (Insert k item) c = Delete k
+inverse_drill_step (Delete k) c = insertion_of k (slice_get c.items k)
+inverse_drill_step (Move k by) c = Move k (negated by)
+inverse_drill_step (Reorder k m) c = Reorder m k
+inverse_drill_step (Tool k t) c = tool_before k t (slice_get c.items k)
+inverse_drill_step (Diameter t d) c = diameter_before t d (diameter_of c.tools t)
+
+abbrev pub IsDrillFit : DrillStep → DrillContent → Type 0
+IsDrillFit (Insert k item) c = k ≤ length c.items
+IsDrillFit (Delete k) c = k < length c.items
+IsDrillFit (Move k by) c = IsShiftable by × HasAt (IsMovableDrillItem by) c.items k
+IsDrillFit (Reorder k m) c = (k < length c.items) × (m < length c.items)
+IsDrillFit (Tool k t) c = k < length c.items
+IsDrillFit (Diameter t d) c = IsSome (diameter_of c.tools t)
+
+abbrev pub is_drill_insertion : DrillStep → Bool
+is_drill_insertion (Insert k item) = true
+is_drill_insertion (Delete k) = false
+is_drill_insertion (Move k by) = false
+is_drill_insertion (Reorder k m) = false
+is_drill_insertion (Tool k t) = false
+is_drill_insertion (Diameter t d) = false
+
+-- there is a place for each item that the steps of the group insert
+abbrev pub HasDrillRoom : List DrillStep → DrillLayer → Type 0
+HasDrillRoom group layer = length layer.items.items + count_by is_drill_insertion group ≤ vec_capacity layer.items

@@ -1,0 +1,5 @@
+pub mod Places
+pub mod Moving
+pub mod Steps
+pub mod DrillSteps
+pub mod Machinery

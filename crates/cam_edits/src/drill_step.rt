@@ -1,0 +1,138 @@
+//! Steps that edit a drill layer.
+
+ghost use Rattle.std.specs.Prelude.{◌≡◌, count_by};
+ghost use Rattle.cam_objects.specs.DrillSoundness.{tool_of};
+ghost use Rattle.cam_edits.specs.DrillSteps.{
+  DrillContent,
+  HasDrillRoom,
+  IsDrillFit,
+  after_drill_step,
+  drill_content_of,
+  inverse_drill_step,
+  is_drill_insertion,
+  with_tool,
+};
+
+use crate::moving::{back, can_move_drill_item};
+use crate::reversible::Reversible;
+use cam_objects::{DrillItem, DrillLayer};
+use cam_units::{Nm, Point};
+use std::alloc::AllocError;
+use std::mem;
+
+/// A change of a drill layer, which turns into its inverse when it is played. Places are counted from 0.
+#[derive(Debug, Drop)]
+pub enum DrillStep {
+    /// The item stands at place `k`, those behind it one place further.
+    Insert { k: usize, item: DrillItem },
+    /// The list without place `k`.
+    Delete { k: usize },
+    /// The points of item `k` are shifted by so many nm.
+    Move { k: usize, by: Point },
+    /// Item `k` is taken out, and then stands at place `m`.
+    Reorder { k: usize, m: usize },
+    /// The item at place `k` gets the tool of that number.
+    Tool { k: usize, t: u16 },
+    /// The tool of that number gets another diameter, in nm.
+    Diameter { t: u16, d: Nm },
+}
+
+impl Reversible for DrillStep {
+    ghost use Rattle.cam_edits.specs.Machinery.DrillStepLaws.{
+      drill_answer_fits,
+      drill_gives_back_content,
+      drill_gives_back_step,
+      drill_last_has_room,
+    };
+
+    type Doc = DrillLayer;
+
+    ghost Content = { DrillContent };
+
+    ghost content = { drill_content_of };
+
+    ghost after = { after_drill_step };
+
+    ghost inverse = { inverse_drill_step };
+
+    ghost is_fit = { IsDrillFit };
+
+    ghost has_room = { HasDrillRoom };
+
+    ghost answer_fits = { drill_answer_fits };
+
+    ghost gives_back_content = { drill_gives_back_content };
+
+    ghost gives_back_step = { drill_gives_back_step };
+
+    ghost last_has_room = { drill_last_has_room };
+
+    fn fits(&self, layer: &DrillLayer) -> bool {
+        match self {
+            DrillStep::Insert { k, .. } => *k <= layer.items.len(),
+            DrillStep::Delete { k } => *k < layer.items.len(),
+            DrillStep::Move { k, by } => match layer.items.get(*k) {
+                Some(item) => can_move_drill_item(item, *by),
+                None => false,
+            },
+            DrillStep::Reorder { k, m } => *k < layer.items.len() && *m < layer.items.len(),
+            DrillStep::Tool { k, .. } => *k < layer.items.len(),
+            DrillStep::Diameter { t, .. } => layer.tools.get(*t).is_some(),
+        }
+    }
+
+    fn room(group: &[DrillStep], layer: &mut DrillLayer) -> Result<(), AllocError> {
+        layer.items.reserve(insertion_count(group))
+    }
+
+    fn play(self, layer: &mut DrillLayer) -> DrillStep {
+        match self {
+            DrillStep::Insert { k, item } => {
+                layer.items.insert(k, item).unwrap();
+                DrillStep::Delete { k }
+            }
+            DrillStep::Delete { k } => DrillStep::Insert {
+                k,
+                item: layer.items.remove(k),
+            },
+            DrillStep::Move { k, by } => {
+                layer.items[k].shift(by);
+                DrillStep::Move { k, by: back(by) }
+            }
+            DrillStep::Reorder { k, m } => {
+                let item = layer.items.remove(k);
+                layer.items.insert(m, item).unwrap();
+                DrillStep::Reorder { k: m, m: k }
+            }
+            DrillStep::Tool { k, t } => {
+                let t = set_tool(&mut layer.items[k], t);
+                DrillStep::Tool { k, t }
+            }
+            DrillStep::Diameter { t, d } => {
+                let d = layer.tools.replace(t, d);
+                DrillStep::Diameter { t, d }
+            }
+        }
+    }
+}
+
+/// How many of the steps insert an item.
+fn insertion_count(group: &[DrillStep]) -> usize
+    ensures { result ≡ count_by is_drill_insertion group.now }
+{
+    group
+        .iter()
+        .filter(|step| matches!(step, DrillStep::Insert { .. }))
+        .count()
+}
+
+/// Gives the item another tool. The answer is the number before.
+fn set_tool(item: &mut DrillItem, t: u16) -> u16
+    ensures item { item.new ≡ with_tool t item.old }
+    ensures before { result ≡ tool_of item.old }
+{
+    match item {
+        DrillItem::Hit { tool, .. } => mem::replace(tool, t),
+        DrillItem::Rout { tool, .. } => mem::replace(tool, t),
+    }
+}

@@ -1,0 +1,120 @@
+//! Whether items can be moved and moved back: each control point, where it stands and where it is moved to.
+
+ghost use Rattle.std.specs.Prelude.{◌≡◌, ◌↔◌, All, IsTrue};
+ghost use Rattle.cam_shapes.specs.Shifting.{IsShiftable};
+ghost use Rattle.cam_edits.specs.Moving.{
+  IsMovableContour,
+  IsMovableDrillItem,
+  IsMovableItem,
+  IsMovableObject,
+  IsMovablePoint,
+  IsMovableSeg,
+  negated,
+};
+
+use cam_objects::{Contour, DrillItem, Item, Object, Seg};
+use cam_shapes::shifted;
+use cam_units::Point;
+
+/// The way back.
+pub(crate) fn back(by: Point) -> Point
+    requires { IsShiftable by }
+    ensures { result ≡ negated by }
+{
+    Point { x: -by.x, y: -by.y }
+}
+
+/// Whether the item can be moved by so many nm, and back.
+pub(crate) fn can_move_item(item: &Item, by: Point) -> bool
+    ensures { IsTrue result ↔ IsShiftable by × IsMovableItem by item.now }
+{
+    if !is_shiftable(by) {
+        return false;
+    }
+    match item {
+        Item::One(object) => can_move_object(object, by),
+        Item::Repeat { objects, .. } => can_move_objects(objects.as_slice(), by),
+    }
+}
+
+/// Whether the item of a drill layer can be moved by so many nm, and back.
+pub(crate) fn can_move_drill_item(item: &DrillItem, by: Point) -> bool
+    ensures { IsTrue result ↔ IsShiftable by × IsMovableDrillItem by item.now }
+{
+    if !is_shiftable(by) {
+        return false;
+    }
+    match item {
+        DrillItem::Hit { at, .. } => can_move_point(*at, by),
+        DrillItem::Rout { points, .. } => can_move_points(points.as_slice(), by),
+    }
+}
+
+/// Whether the coordinates have sums with those of another such point.
+fn is_shiftable(point: Point) -> bool
+    ensures { IsTrue result ↔ IsShiftable point }
+{
+    point.x.unsigned_abs() < 1 << 62 && point.y.unsigned_abs() < 1 << 62
+}
+
+fn can_move_point(point: Point, by: Point) -> bool
+    requires { IsShiftable by }
+    ensures { IsTrue result ↔ IsMovablePoint by point }
+{
+    is_shiftable(point) && is_shiftable(shifted(point, by))
+}
+
+fn can_move_points(points: &[Point], by: Point) -> bool
+    requires { IsShiftable by }
+    ensures { IsTrue result ↔ All (IsMovablePoint by) points.now }
+{
+    points.iter().all(|point| can_move_point(*point, by))
+}
+
+fn can_move_seg(seg: Seg, by: Point) -> bool
+    requires { IsShiftable by }
+    ensures { IsTrue result ↔ IsMovableSeg by seg }
+{
+    match seg {
+        Seg::Line { to } => can_move_point(to, by),
+        Seg::Curve { to, centre, .. } => can_move_point(to, by) && can_move_point(centre, by),
+    }
+}
+
+fn can_move_segs(segs: &[Seg], by: Point) -> bool
+    requires { IsShiftable by }
+    ensures { IsTrue result ↔ All (IsMovableSeg by) segs.now }
+{
+    segs.iter().all(|seg| can_move_seg(*seg, by))
+}
+
+fn can_move_contour(contour: &Contour, by: Point) -> bool
+    requires { IsShiftable by }
+    ensures { IsTrue result ↔ IsMovableContour by contour.now }
+{
+    can_move_point(contour.start, by) && can_move_segs(contour.segs.as_slice(), by)
+}
+
+fn can_move_object(object: &Object, by: Point) -> bool
+    requires { IsShiftable by }
+    ensures { IsTrue result ↔ IsMovableObject by object.now }
+{
+    match object {
+        Object::Flash { at, .. } => can_move_point(*at, by),
+        Object::Draw { from, to, .. } => can_move_point(*from, by) && can_move_point(*to, by),
+        Object::Arc {
+            from,
+            to,
+            centre,
+            ..
+        } => { can_move_point(*from, by) && can_move_point(*to, by) && can_move_point(*centre, by) }
+        Object::Region { contour, .. } => can_move_contour(contour, by),
+    }
+}
+
+fn can_move_objects(objects: &[Object], by: Point) -> bool
+    requires { IsShiftable by }
+    ensures { IsTrue result ↔ All (IsMovableObject by) objects.now }
+{
+    objects.iter().all(|object| can_move_object(object, by))
+}

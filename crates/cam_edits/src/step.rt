@@ -1,0 +1,173 @@
+//! Steps that edit a layer.
+
+ghost use Rattle.std.specs.Prelude.{◌≡◌, ◌↔◌, IsTrue, count_by};
+ghost use Rattle.cam_objects.specs.Contents.{Content, content_of};
+ghost use Rattle.cam_edits.specs.Steps.{
+  HasAperture,
+  HasRoom,
+  IsFit,
+  IsOne,
+  after_step,
+  aperture_of,
+  inverse_step,
+  is_insertion,
+  polarity_of,
+  with_aperture,
+  with_object,
+  with_polarity,
+};
+
+use crate::moving::{back, can_move_item};
+use crate::reversible::Reversible;
+use cam_objects::{Item, Layer, Object};
+use cam_units::Point;
+use std::alloc::AllocError;
+use std::mem;
+
+/// A change of a layer's items, which turns into its inverse when it is played. Places are counted from 0.
+#[derive(Debug, Drop)]
+pub enum Step {
+    /// The item stands at place `k`, those behind it one place further.
+    Insert { k: usize, item: Item },
+    /// The list without place `k`.
+    Delete { k: usize },
+    /// The control points of item `k` are shifted by so many nm.
+    Move { k: usize, by: Point },
+    /// Item `k` is taken out, and then stands at place `m`.
+    Reorder { k: usize, m: usize },
+    /// The flash, draw or arc at place `k` gets the aperture of that number.
+    Aperture { k: usize, n: u32 },
+    /// The object at place `k` becomes dark or clear.
+    Polarity { k: usize, dark: bool },
+}
+
+impl Reversible for Step {
+    ghost use Rattle.cam_edits.specs.Machinery.StepLaws.{answer_fits, gives_back_content, gives_back_step, last_has_room};
+
+    type Doc = Layer;
+
+    ghost Content = { Content };
+
+    ghost content = { content_of };
+
+    ghost after = { after_step };
+
+    ghost inverse = { inverse_step };
+
+    ghost is_fit = { IsFit };
+
+    ghost has_room = { HasRoom };
+
+    ghost answer_fits = { answer_fits };
+
+    ghost gives_back_content = { gives_back_content };
+
+    ghost gives_back_step = { gives_back_step };
+
+    ghost last_has_room = { last_has_room };
+
+    fn fits(&self, layer: &Layer) -> bool {
+        match self {
+            Step::Insert { k, .. } => *k <= layer.items.len(),
+            Step::Delete { k } => *k < layer.items.len(),
+            Step::Move { k, by } => match layer.items.get(*k) {
+                Some(item) => can_move_item(item, *by),
+                None => false,
+            },
+            Step::Reorder { k, m } => *k < layer.items.len() && *m < layer.items.len(),
+            Step::Aperture { k, .. } => match layer.items.get(*k) {
+                Some(item) => has_aperture(item),
+                None => false,
+            },
+            Step::Polarity { k, .. } => match layer.items.get(*k) {
+                Some(item) => matches!(item, Item::One(_)),
+                None => false,
+            },
+        }
+    }
+
+    fn room(group: &[Step], layer: &mut Layer) -> Result<(), AllocError> {
+        layer.items.reserve(insertion_count(group))
+    }
+
+    fn play(self, layer: &mut Layer) -> Step {
+        match self {
+            Step::Insert { k, item } => {
+                layer.items.insert(k, item).unwrap();
+                Step::Delete { k }
+            }
+            Step::Delete { k } => Step::Insert {
+                k,
+                item: layer.items.remove(k),
+            },
+            Step::Move { k, by } => {
+                layer.items[k].shift(by);
+                Step::Move { k, by: back(by) }
+            }
+            Step::Reorder { k, m } => {
+                let item = layer.items.remove(k);
+                layer.items.insert(m, item).unwrap();
+                Step::Reorder { k: m, m: k }
+            }
+            Step::Aperture { k, n } => {
+                let n = set_aperture(&mut layer.items[k], n);
+                Step::Aperture { k, n }
+            }
+            Step::Polarity { k, dark } => {
+                let dark = set_polarity(&mut layer.items[k], dark);
+                Step::Polarity { k, dark }
+            }
+        }
+    }
+}
+
+/// How many of the steps insert an item.
+fn insertion_count(group: &[Step]) -> usize
+    ensures { result ≡ count_by is_insertion group.now }
+{
+    group
+        .iter()
+        .filter(|step| matches!(step, Step::Insert { .. }))
+        .count()
+}
+
+/// Whether the item is a flash, a draw or an arc.
+fn has_aperture(item: &Item) -> bool
+    ensures { IsTrue result ↔ IsOne HasAperture item.now }
+{
+    match item {
+        Item::One(Object::Region { .. }) => false,
+        Item::One(_) => true,
+        Item::Repeat { .. } => false,
+    }
+}
+
+/// Gives the object another aperture. The answer is the number before.
+fn set_aperture(item: &mut Item, n: u32) -> u32
+    requires { IsOne HasAperture item.old }
+    ensures item { item.new ≡ with_object (with_aperture n) item.old }
+    ensures before { IsOne (λ object. result ≡ aperture_of object) item.old }
+{
+    match item {
+        Item::One(Object::Flash { aperture, .. }) => mem::replace(aperture, n),
+        Item::One(Object::Draw { aperture, .. }) => mem::replace(aperture, n),
+        Item::One(Object::Arc { aperture, .. }) => mem::replace(aperture, n),
+        Item::One(Object::Region { .. }) => n,
+        Item::Repeat { .. } => n,
+    }
+}
+
+/// Makes the object dark or clear. The answer is its polarity before.
+fn set_polarity(item: &mut Item, dark: bool) -> bool
+    requires { IsOne (λ _. Unit {0}) item.old }
+    ensures item { item.new ≡ with_object (with_polarity dark) item.old }
+    ensures before { IsOne (λ object. result ≡ polarity_of object) item.old }
+{
+    match item {
+        Item::One(Object::Flash { dark: now, .. }) => mem::replace(now, dark),
+        Item::One(Object::Draw { dark: now, .. }) => mem::replace(now, dark),
+        Item::One(Object::Arc { dark: now, .. }) => mem::replace(now, dark),
+        Item::One(Object::Region { dark: now, .. }) => mem::replace(now, dark),
+        Item::Repeat { .. } => dark,
+    }
+}

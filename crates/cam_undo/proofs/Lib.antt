@@ -1,0 +1,4 @@
+pub mod Lasts
+pub mod Plays
+pub mod Documents
+pub mod Ties

@@ -1,0 +1,5 @@
+pub mod Machine
+pub mod Kept
+pub mod Timelines
+pub mod Laws
+pub mod Counted
