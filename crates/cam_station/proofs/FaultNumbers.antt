@@ -5,8 +5,8 @@ use Rattle.std.proofs.lemmas.Bool.{ne_eqb}
 use Rattle.std.proofs.lemmas.Bool.Decides.{nat_tests}
 use Rattle.cam_objects.specs.Contents.{Content as GerberContent}
 use Rattle.cam_gerber.specs.declared.read_fault.ReadFault.{ReadFault as GerberFault}
-use Rattle.cam_gerber.specs.Reading.{reading_of as gerber_reading}
-use Rattle.cam_gerber.proofs.FaultNumbers.{fault_number}
+use Rattle.cam_gerber.specs.Computing.{reading_of as gerber_reading}
+use Rattle.cam_gerber.proofs.Computed.{fault_number}
 use Rattle.cam_xnc.specs.declared.modes.Part.{Part}
 use Rattle.cam_xnc.specs.declared.modes.Part.TheVariants.{Start, Header, Body}
 use Rattle.cam_xnc.specs.declared.statement.Statement.{Statement}
@@ -111,9 +111,9 @@ abbrev pub IsOwnMeaning : Result Content Fault → Type 0
 IsOwnMeaning (Ok content) = Unit {0}
 IsOwnMeaning (Err f) = (f.code == file_fault) ≡ false
 
-gerber_own : (r : Result GerberContent GerberFault) → ((f : GerberFault) → r ≡ Err f → f.code ≤ 26) → IsOwnMeaning (gerber_meaning r)
+gerber_own : (r : Result GerberContent GerberFault) → ((f : GerberFault) → r ≡ Err f → f.code ≤ 29) → IsOwnMeaning (gerber_meaning r)
 gerber_own (Ok c) few = tt
-gerber_own (Err f) few = let low : f.code ≤ 26 = few f refl in not_a_file f.code (omega (arith, low))
+gerber_own (Err f) few = let low : f.code ≤ 29 = few f refl in not_a_file f.code (omega (arith, low))
 
 drill_own : (r : Result DrillContent DrillFault) → ((f : DrillFault) → r ≡ Err f → f.code ≤ 48) → IsOwnMeaning (drill_meaning r)
 drill_own (Ok c) few = tt

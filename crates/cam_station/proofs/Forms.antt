@@ -6,7 +6,7 @@ use Rattle.cam_station.specs.declared.script.line.Line.{Line}
 use Rattle.cam_station.specs.declared.script.line.LineFault.{LineFault}
 use Rattle.cam_station.specs.Refusals.{line_limit}
 use Rattle.cam_station.specs.Words.{words}
-use Rattle.cam_station.specs.Parsing.{parsed, some_line, kept, line_in, is_no_memory, load_line, window_line, plot_line, delete_line, move_line}
+use Rattle.cam_station.specs.Parsing.{parsed, some_line, kept, line_in, is_no_memory, load_line, window_line, plot_line, write_line, delete_line, move_line}
 
 pub no_load : (ws : List (List ℕ)) → length ws ≢ 3 → load_line ws ≡ None
 no_load [] h = refl
@@ -29,6 +29,12 @@ no_plot [] h = refl
 no_plot (a ∷ []) h = refl
 no_plot (a ∷ b ∷ []) h = absurd (h (omega arith))
 no_plot (a ∷ b ∷ c ∷ more) h = refl
+
+pub no_write : (ws : List (List ℕ)) → length ws ≢ 2 → write_line ws ≡ None
+no_write [] h = refl
+no_write (a ∷ []) h = refl
+no_write (a ∷ b ∷ []) h = absurd (h (omega arith))
+no_write (a ∷ b ∷ c ∷ more) h = refl
 
 pub no_delete : (ws : List (List ℕ)) → length ws ≢ 2 → delete_line ws ≡ None
 no_delete [] h = refl

@@ -19,3 +19,4 @@ pub mod StepFacts
 pub mod Steps
 pub mod Tests
 pub mod UndoLaws
+pub mod WriteLaws

@@ -1,13 +1,14 @@
 -- What the readers answer is what the file means, but where memory was refused.
-use Rattle.std.proofs.Common.{◌≡◌, ℕ, false, List, inl, inr, sym, refl, Result, Ok, Err}
+use Rattle.std.proofs.Common.{◌≡◌, ◌⊎◌, ℕ, false, List, inl, inr, sym, refl, Result, Ok, Err}
 use Rattle.std.specs.Prelude.{◌==◌}
 use Rattle.std.proofs.lemmas.Bool.{ne_eqb}
 use Rattle.cam_objects.specs.declared.drill_layer.DrillLayer.{DrillLayer}
 use Rattle.cam_objects.specs.declared.layer.Layer.{Layer}
 use Rattle.cam_objects.specs.Contents.{content_of as gerber_content}
 use Rattle.cam_gerber.specs.declared.read_fault.ReadFault.{ReadFault as GerberFault}
-use Rattle.cam_gerber.specs.Reading.{IsReading as IsGerberReading, no_memory as no_gerber_memory, reading_of as gerber_reading}
-use Rattle.cam_gerber.proofs.FaultNumbers.{no_fault_is_memory as no_gerber_fault_is_memory}
+use Rattle.cam_gerber.specs.Reading.{IsReading as IsGerberReading, no_memory as no_gerber_memory, answer_of as gerber_answer}
+use Rattle.cam_gerber.specs.Computing.{reading_of as gerber_reading}
+use Rattle.cam_gerber.proofs.Computed.{no_fault_is_memory as no_gerber_fault_is_memory, reading_answers as gerber_reads}
 use Rattle.cam_xnc.specs.declared.read_fault.ReadFault.{ReadFault as DrillFault}
 use Rattle.cam_xnc.specs.Reading.{IsReading as IsDrillReading, content_of as drill_content, no_memory as no_drill_memory, reading_of as drill_reading}
 use Rattle.cam_xnc.proofs.LeastFaults.{no_fault_is_memory as no_drill_fault_is_memory}
@@ -33,16 +34,27 @@ pub drill_read : (bytes : List ℕ) (layer : DrillLayer) → IsDrillReading byte
 drill_read bytes layer (inl e) = rw (← e) refl
 drill_read bytes layer (inr e) = absurd cc
 
-pub gerber_refused : (bytes : List ℕ) (f : GerberFault) → IsGerberReading bytes (Err f)
+-- what the reader answers, told by the function
+abbrev IsGerberAnswer : List ℕ → Result Layer GerberFault → Type 0
+IsGerberAnswer bytes result = (gerber_answer result ≡ gerber_reading bytes) ⊎ (result ≡ Err no_gerber_memory)
+
+refused_by : (bytes : List ℕ) (f : GerberFault) → IsGerberAnswer bytes (Err f)
     → reader_answer (memory_of (failed f.code f.at)) (gerber_meaning (gerber_reading bytes)) ≡ Err (fault_at f.code f.at)
-gerber_refused bytes f (inl e) =
+refused_by bytes f (inl e) =
     let never : (f.code == memory_refused) ≡ false = ne_eqb f.code memory_refused (no_gerber_fault_is_memory bytes f (sym e)) in
     rw (never, ← e) refl
-gerber_refused bytes f (inr e) = let same : f ≡ no_gerber_memory = cc in rw same refl
+refused_by bytes f (inr e) = let same : f ≡ no_gerber_memory = cc in rw same refl
+
+read_by : (bytes : List ℕ) (layer : Layer) → IsGerberAnswer bytes (Ok layer) → gerber_meaning (gerber_reading bytes) ≡ Ok (Gerber (gerber_content layer))
+read_by bytes layer (inl e) = rw (← e) refl
+read_by bytes layer (inr e) = absurd cc
+
+pub gerber_refused : (bytes : List ℕ) (f : GerberFault) → IsGerberReading bytes (Err f)
+    → reader_answer (memory_of (failed f.code f.at)) (gerber_meaning (gerber_reading bytes)) ≡ Err (fault_at f.code f.at)
+gerber_refused bytes f h = refused_by bytes f (gerber_reads bytes (Err f) h)
 
 pub gerber_read : (bytes : List ℕ) (layer : Layer) → IsGerberReading bytes (Ok layer) → gerber_meaning (gerber_reading bytes) ≡ Ok (Gerber (gerber_content layer))
-gerber_read bytes layer (inl e) = rw (← e) refl
-gerber_read bytes layer (inr e) = absurd cc
+gerber_read bytes layer h = read_by bytes layer (gerber_reads bytes (Ok layer) h)
 
 pub ruleset gerber_answers = (gerber_refused, gerber_read)
 

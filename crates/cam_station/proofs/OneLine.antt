@@ -1,5 +1,5 @@
 -- What one line comes to, by what was parsed.
-use Rattle.std.proofs.Common.{◌≡◌, ℕ, Bool, false, List, Option, None, Some, Result, Ok, Err, refl, sym, ap, subst, arith}
+use Rattle.std.proofs.Common.{◌≡◌, ℕ, Bool, false, List, Option, None, Some, Result, Ok, Err, refl, sym, ap, subst, ◌∙◌, arith}
 use Rattle.cam_station.specs.declared.command.FileKind.{FileKind}
 use Rattle.cam_station.specs.declared.command.Command.{Command as AnyCommand}
 use Rattle.cam_station.specs.declared.command.Command.TheVariants as commands
@@ -8,11 +8,11 @@ use Rattle.cam_station.specs.declared.files.FileFault.{FileFault}
 use Rattle.cam_station.specs.declared.files.FileFault.TheVariants.{Memory as NoMemory}
 use Rattle.cam_station.specs.declared.reply.Reply.TheVariants.{Done, Numbers, Bytes}
 use Rattle.cam_station.specs.declared.script.line.Line.{Line}
-use Rattle.cam_station.specs.declared.script.line.Line.TheVariants.{Command, Load, Plot}
+use Rattle.cam_station.specs.declared.script.line.Line.TheVariants.{Command, Load, Plot, Write}
 use Rattle.cam_station.specs.declared.script.line.LineFault.{LineFault}
 use Rattle.cam_station.specs.Machine.{State, Outcome, Memory, Granted, fault, step}
 use Rattle.cam_station.specs.Parsing.{parsed, Parsed, is_no_memory, line_code}
-use Rattle.cam_station.specs.Run.{World, FilesSeen, Nothing, Get, Put, file_code, HasNoBytes, Answers, Comes, turn, parsed_turn, load_turn, plot_turn}
+use Rattle.cam_station.specs.Run.{World, FilesSeen, Nothing, Get, Put, file_code, HasNoBytes, Answers, Comes, Tells, turn, parsed_turn, load_turn, plot_turn, put_turn, write_turn}
 
 abbrev world : Bool → Result (List ℕ) FileFault → Memory → Result (Unit {0}) FileFault → World
 world line_refused got memory put = record { line_refused = line_refused; got = got; memory = memory; put = put }
@@ -61,6 +61,13 @@ module _ (s : State) (line : List ℕ) where
   line_plots name path state reply old new e plots =
       by_parsed (world false (Err NoMemory) plots.0 plots.1) (Ok (Some (Plot name path))) state reply old new e plots.2
 
+  pub line_writes : (name path : List ℕ) (state : State) (reply : Option Outcome) (old new : FilesSeen)
+      → parsed line false ≡ Ok (Some (Write name path))
+      → (memory : Memory) × (put : Result (Unit {0}) FileFault) × Comes (write_turn path put (step s (commands.Write name) memory)) state reply old new
+      → (x : World) × Comes (turn s line x) state reply old new
+  line_writes name path state reply old new e writes =
+      by_parsed (world false (Err NoMemory) writes.0 writes.1) (Ok (Some (Write name path))) state reply old new e writes.2
+
 pub load_gets : (s : State) (name : List ℕ) (kind : FileKind) (path bytes : List ℕ) (memory : Memory) (state : State) (reply : Outcome) (old new : FilesSeen)
     → step s (commands.Load name kind bytes) memory ≡ (state, reply) → Answers (Get path (Ok bytes)) old new
     → (m : Memory) × (got : Result (List ℕ) FileFault) × Comes (load_turn s name kind path m got) state (Some reply) old new
@@ -73,59 +80,45 @@ pub load_gets_none : (s : State) (name : List ℕ) (kind : FileKind) (path : Lis
 load_gets_none s name kind path why told old new tells answers =
     (Granted, Err why, record { state_is = refl; reply_is = ap (λ (x : Fault). let o : Outcome = Err x in Some o) (sym tells); answers = answers })
 
--- the turn of a plot, where its step is known
-by_step : (path : List ℕ) (put : Result (Unit {0}) FileFault) (p q : State × Outcome) (state : State) (reply : Option Outcome) (old new : FilesSeen)
-    → p ≡ q → Comes (plot_turn path put q) state reply old new → Comes (plot_turn path put p) state reply old new
-by_step path put p q state reply old new e comes =
-    let P : State × Outcome → Type 0 = λ x. Comes (plot_turn path put x) state reply old new in subst P (sym e) comes
+-- a command whose bytes are put, in the turn of its line
+module _ (tells : Tells) (s : State) (command : AnyCommand) (path : List ℕ) where
+  -- its line comes to this state and this reply
+  abbrev ComesTo : State → Outcome → FilesSeen → FilesSeen → Type 0
+  ComesTo state reply old new =
+      (memory : Memory) × (put : Result (Unit {0}) FileFault) × Comes (put_turn tells path put (step s command memory)) state (Some reply) old new
 
-plot_puts : (s : State) (name path bytes : List ℕ) (drawn : ℕ) (memory : Memory) (state : State) (old new : FilesSeen)
-    → step s (commands.Plot name) memory ≡ (state, Ok (Bytes bytes drawn)) → Answers (Put path bytes (Ok tt)) old new
-    → (m : Memory) × (put : Result (Unit {0}) FileFault) × Comes (plot_turn path put (step s (commands.Plot name) m)) state (Some (Ok (Bytes bytes drawn))) old new
-plot_puts s name path bytes drawn memory state old new steps answers = (
-  memory,
-  Ok tt,
-  by_step path (Ok tt) (step s (commands.Plot name) memory) (state, Ok (Bytes bytes drawn)) state (Some (Ok (Bytes bytes drawn))) old new steps
-      (record { state_is = refl; reply_is = refl; answers = answers }),
-)
+  -- where its step is known
+  by_step : (memory : Memory) (put : Result (Unit {0}) FileFault) (after : State × Outcome) (state : State) (reply : Outcome) (old new : FilesSeen)
+      → step s command memory ≡ after → Comes (put_turn tells path put after) state (Some reply) old new → ComesTo state reply old new
+  by_step memory put after state reply old new e comes =
+      let P : State × Outcome → Type 0 = λ x. Comes (put_turn tells path put x) state (Some reply) old new in
+      (memory, put, subst P (sym e) comes)
 
-plot_puts_none : (s : State) (name path bytes : List ℕ) (drawn : ℕ) (memory : Memory) (state : State) (why : FileFault) (told : Fault) (old new : FilesSeen)
-    → step s (commands.Plot name) memory ≡ (state, Ok (Bytes bytes drawn)) → told ≡ fault (file_code why) → Answers (Put path bytes (Err why)) old new
-    → (m : Memory) × (put : Result (Unit {0}) FileFault) × Comes (plot_turn path put (step s (commands.Plot name) m)) state (Some (Err told)) old new
-plot_puts_none s name path bytes drawn memory state why told old new steps tells answers = (
-  memory,
-  Err why,
-  by_step path (Err why) (step s (commands.Plot name) memory) (state, Ok (Bytes bytes drawn)) state (Some (Err told)) old new steps
-      (record { state_is = refl; reply_is = ap (λ (x : Fault). let o : Outcome = Err x in Some o) (sym tells); answers = answers }),
-)
+  bare_turn : (put : Result (Unit {0}) FileFault) (state : State) (reply : Outcome) (seen : FilesSeen) → HasNoBytes reply
+      → Comes (put_turn tells path put (state, reply)) state (Some reply) seen seen
+  bare_turn put state (Ok (Bytes bytes drawn)) seen bare = absurd bare
+  bare_turn put state (Ok Done) seen bare = record { state_is = refl; reply_is = refl; answers = unasked seen }
+  bare_turn put state (Ok (Numbers n)) seen bare = record { state_is = refl; reply_is = refl; answers = unasked seen }
+  bare_turn put state (Err f) seen bare = record { state_is = refl; reply_is = refl; answers = unasked seen }
 
-bare_turn : (path : List ℕ) (put : Result (Unit {0}) FileFault) (state : State) (reply : Outcome) (seen : FilesSeen) → HasNoBytes reply
-    → Comes (plot_turn path put (state, reply)) state (Some reply) seen seen
-bare_turn path put state (Ok (Bytes bytes drawn)) seen bare = absurd bare
-bare_turn path put state (Ok Done) seen bare = record { state_is = refl; reply_is = refl; answers = unasked seen }
-bare_turn path put state (Ok (Numbers n)) seen bare = record { state_is = refl; reply_is = refl; answers = unasked seen }
-bare_turn path put state (Err f) seen bare = record { state_is = refl; reply_is = refl; answers = unasked seen }
+  pub puts_nothing : (memory : Memory) (state : State) (reply : Outcome) (seen : FilesSeen)
+      → step s command memory ≡ (state, reply) → HasNoBytes reply → ComesTo state reply seen seen
+  puts_nothing memory state reply seen steps bare =
+      by_step memory (Err NoMemory) (state, reply) state reply seen seen steps (bare_turn (Err NoMemory) state reply seen bare)
 
-pub plot_bare : (s : State) (name path : List ℕ) (memory : Memory) (state : State) (reply : Outcome) (seen : FilesSeen)
-    → step s (commands.Plot name) memory ≡ (state, reply) → HasNoBytes reply
-    → (m : Memory) × (put : Result (Unit {0}) FileFault) × Comes (plot_turn path put (step s (commands.Plot name) m)) state (Some reply) seen seen
-plot_bare s name path memory state reply seen steps bare = (
-  memory,
-  Err NoMemory,
-  by_step path (Err NoMemory) (step s (commands.Plot name) memory) (state, reply) state (Some reply) seen seen steps
-      (bare_turn path (Err NoMemory) state reply seen bare),
-)
+  -- the answer is told to have these bytes, and the reply to tell of them
+  pub puts : (bytes : List ℕ) (memory : Memory) (state : State) (answer reply : Outcome) (old new : FilesSeen)
+      → (drawn : ℕ) × (answer ≡ Ok (Bytes bytes drawn)) × (reply ≡ Ok (tells bytes drawn))
+      → step s command memory ≡ (state, answer) → Answers (Put path bytes (Ok tt)) old new → ComesTo state reply old new
+  puts bytes memory state answer reply old new told steps answers =
+      let after : State × Outcome = (state, Ok (Bytes bytes told.0)) in
+      by_step memory (Ok tt) after state reply old new (steps ∙ ap (λ o. (state, o)) told.1)
+      (record { state_is = refl; reply_is = ap (λ o. Some o) (sym told.2); answers = answers })
 
--- the same, where the answer is told to have these bytes
-module _ (s : State) (name path bytes : List ℕ) (memory : Memory) (state : State) (reply : Outcome) (old new : FilesSeen) where
-  pub told_puts : (drawn : ℕ) × (reply ≡ Ok (Bytes bytes drawn)) → step s (commands.Plot name) memory ≡ (state, reply) → Answers (Put path bytes (Ok tt)) old new
-      → (m : Memory) × (put : Result (Unit {0}) FileFault) × Comes (plot_turn path put (step s (commands.Plot name) m)) state (Some reply) old new
-  told_puts told steps answers =
-      let P : Outcome → Type 0 = λ o. (m : Memory) × (put : Result (Unit {0}) FileFault) × Comes (plot_turn path put (step s (commands.Plot name) m)) state (Some o) old new in
-      subst P (sym told.1) (plot_puts s name path bytes told.0 memory state old new (rw told.1 at steps) answers)
-
-  pub told_puts_none : (why : FileFault) (refusal : Fault) → (drawn : ℕ) × (reply ≡ Ok (Bytes bytes drawn)) → step s (commands.Plot name) memory ≡ (state, reply)
-      → refusal ≡ fault (file_code why) → Answers (Put path bytes (Err why)) old new
-      → (m : Memory) × (put : Result (Unit {0}) FileFault) × Comes (plot_turn path put (step s (commands.Plot name) m)) state (Some (Err refusal)) old new
-  told_puts_none why refusal told steps tells answers =
-      plot_puts_none s name path bytes told.0 memory state why refusal old new (rw told.1 at steps) tells answers
+  pub put_fails : (bytes : List ℕ) (memory : Memory) (state : State) (answer : Outcome) (why : FileFault) (refusal : Fault) (old new : FilesSeen)
+      → (drawn : ℕ) × (answer ≡ Ok (Bytes bytes drawn)) → step s command memory ≡ (state, answer) → refusal ≡ fault (file_code why)
+      → Answers (Put path bytes (Err why)) old new → ComesTo state (Err refusal) old new
+  put_fails bytes memory state answer why refusal old new told steps tells_why answers =
+      let after : State × Outcome = (state, Ok (Bytes bytes told.0)) in
+      by_step memory (Err why) after state (Err refusal) old new (steps ∙ ap (λ o. (state, o)) told.1)
+      (record { state_is = refl; reply_is = ap (λ (x : Fault). let o : Outcome = Err x in Some o) (sym tells_why); answers = answers })

@@ -2,11 +2,11 @@
 use Rattle.std.proofs.Common.{◌≡◌, ℕ, List, [], ◌∷◌, Option, None, Some, inl, inr, refl, ◌∙◌}
 use Rattle.std.specs.Prelude.{IsErr}
 use Rattle.cam_station.specs.declared.command.Command.{Command}
-use Rattle.cam_station.specs.declared.command.Command.TheVariants.{Load, SetWindow, Plot, Delete, Move, Undo, Redo, ListAll, ListLayer}
+use Rattle.cam_station.specs.declared.command.Command.TheVariants.{Load, SetWindow, Plot, Write, Delete, Move, Undo, Redo, ListAll, ListLayer}
 use Rattle.cam_tiles.specs.declared.window.Window.{Window}
 use Rattle.cam_station.specs.Documents.{content_at, place_of}
 use Rattle.cam_station.specs.Sheets.{Content}
-use Rattle.cam_station.specs.Machine.{State, Outcome, Memory, Granted, RefusedToReader, RefusedToStation, step, plot_at, plot_in, list_layer_at}
+use Rattle.cam_station.specs.Machine.{State, Outcome, Memory, Granted, RefusedToReader, RefusedToStation, step, plot_at, plot_in, write_at, list_layer_at}
 use Rattle.cam_station.specs.Undoing.{Call, state_after, states_after, RefusalLaw, IsLook, IsQuiet, AreQuiet}
 use Rattle.cam_station.proofs.Steps.{AfterEach, after_each}
 
@@ -37,12 +37,19 @@ plot_stays : (s : State) (m : Memory) (place : Option ℕ) → (plot_at s m plac
 plot_stays s m None = refl
 plot_stays s m (Some place) = plot_in_stays s m (content_at s.document place) s.window
 
+write_stays : (s : State) (m : Memory) (place : Option ℕ) → (write_at s m place).0 ≡ s
+write_stays s m None = refl
+write_stays s Granted (Some place) = refl
+write_stays s RefusedToReader (Some place) = refl
+write_stays s RefusedToStation (Some place) = refl
+
 list_layer_stays : (s : State) (place : Option ℕ) → (list_layer_at s place).0 ≡ s
 list_layer_stays s None = refl
 list_layer_stays s (Some place) = refl
 
 look_stays : (s : State) (c : Command) (m : Memory) → IsLook c → (step s c m).0 ≡ s
 look_stays s (Plot name) m h = plot_stays s m (place_of name s.document)
+look_stays s (Write name) m h = write_stays s m (place_of name s.document)
 look_stays s ListAll m h = refl
 look_stays s (ListLayer name) m h = list_layer_stays s (place_of name s.document)
 look_stays s (Load name kind file) m h = absurd h

@@ -7,14 +7,14 @@ use Rattle.cam_station.specs.declared.command.Command.TheVariants as commands
 use Rattle.cam_station.specs.declared.files.FileFault.{FileFault}
 use Rattle.cam_station.specs.declared.files.FileFault.TheVariants.{Failed, Memory as NoMemory}
 use Rattle.cam_station.specs.declared.reply.Reply.TheVariants.{Done, Numbers, Bytes}
-use Rattle.cam_station.specs.declared.script.line.Line.TheVariants.{Command, Load, Plot}
+use Rattle.cam_station.specs.declared.script.line.Line.TheVariants.{Command, Load, Plot, Write}
 use Rattle.cam_station.specs.declared.script.line.LineFault.TheVariants.{LineTooLong, BadLine, Memory as LineMemory}
 use Rattle.cam_station.specs.Machine.{State, Outcome, Memory, step}
 use Rattle.cam_station.specs.Undoing.{Call, answers_to, states_after}
 use Rattle.cam_station.specs.Contents.{HasRisenBy}
 use Rattle.cam_station.specs.Parsing.{Parsed, parsed}
-use Rattle.cam_station.specs.Run.{World, Turn, turn, turns, parsed_turn, load_turn, plot_turn, ask_failures, is_refusal, refused_lines, FilesSeen}
-use Rattle.cam_station.specs.RunLaws.{is_file_refusal, file_refusals, FewFileRefusals, line_calls, load_calls, calls, last_state, Exchange, exchanges, load_exchange, plot_exchange, line_exchange, exchanges_by, RunIsCommands}
+use Rattle.cam_station.specs.Run.{World, Tells, Turn, turn, turns, parsed_turn, load_turn, put_turn, byte_count, ask_failures, is_refusal, refused_lines, FilesSeen}
+use Rattle.cam_station.specs.RunLaws.{is_file_refusal, file_refusals, FewFileRefusals, line_calls, load_calls, calls, last_state, Exchange, exchanges, load_exchange, put_exchange, line_exchange, exchanges_by, RunIsCommands}
 use Rattle.cam_station.proofs.StepFacts.{step_gets_no_file}
 
 -- the turn is refused for a file only where the files failed
@@ -30,13 +30,13 @@ load_counted s name kind path memory (Ok bytes) = none_counted _ 0 (step_gets_no
 load_counted s name kind path memory (Err Failed) = omega arith
 load_counted s name kind path memory (Err NoMemory) = omega arith
 
-plot_counted : (path : List ℕ) (put : Result (Unit {0}) FileFault) (state : State) (reply : Outcome) → is_file_refusal (Some reply) ≡ false → IsCounted (plot_turn path put (state, reply))
-plot_counted path (Ok done) state (Ok (Bytes bytes drawn)) e = omega arith
-plot_counted path (Err Failed) state (Ok (Bytes bytes drawn)) e = omega arith
-plot_counted path (Err NoMemory) state (Ok (Bytes bytes drawn)) e = omega arith
-plot_counted path put state (Ok Done) e = omega arith
-plot_counted path put state (Ok (Numbers n)) e = omega arith
-plot_counted path put state (Err f) e = none_counted _ 0 e
+put_counted : (tells : Tells) (path : List ℕ) (put : Result (Unit {0}) FileFault) (state : State) (reply : Outcome) → is_file_refusal (Some reply) ≡ false → IsCounted (put_turn tells path put (state, reply))
+put_counted tells path (Ok done) state (Ok (Bytes bytes drawn)) e = omega arith
+put_counted tells path (Err Failed) state (Ok (Bytes bytes drawn)) e = omega arith
+put_counted tells path (Err NoMemory) state (Ok (Bytes bytes drawn)) e = omega arith
+put_counted tells path put state (Ok Done) e = omega arith
+put_counted tells path put state (Ok (Numbers n)) e = omega arith
+put_counted tells path put state (Err f) e = none_counted _ 0 e
 
 line_counted : (s : State) (w : World) (p : Parsed) → IsCounted (parsed_turn s w p)
 line_counted s w (Err LineTooLong) = omega arith
@@ -46,7 +46,9 @@ line_counted s w (Ok None) = omega arith
 line_counted s w (Ok (Some (Command command))) = none_counted _ 0 (step_gets_no_file s command w.memory)
 line_counted s w (Ok (Some (Load name kind path))) = load_counted s name kind path w.memory w.got
 line_counted s w (Ok (Some (Plot name path))) =
-    plot_counted path w.put (step s (commands.Plot name) w.memory).0 (step s (commands.Plot name) w.memory).1 (step_gets_no_file s (commands.Plot name) w.memory)
+    put_counted Bytes path w.put (step s (commands.Plot name) w.memory).0 (step s (commands.Plot name) w.memory).1 (step_gets_no_file s (commands.Plot name) w.memory)
+line_counted s w (Ok (Some (Write name path))) =
+    put_counted byte_count path w.put (step s (commands.Write name) w.memory).0 (step s (commands.Write name) w.memory).1 (step_gets_no_file s (commands.Write name) w.memory)
 
 risen_more : (k n rest all a b c : ℕ) → k ≤ n → all ≡ k + rest → HasRisenBy n a b → HasRisenBy rest b c → HasRisenBy all a c
 risen_more k n rest all a b c le e h j = omega arith
@@ -72,18 +74,19 @@ load_leads : (s : State) (name : List ℕ) (kind : FileKind) (path : List ℕ) (
 load_leads s name kind path memory (Ok bytes) = refl
 load_leads s name kind path memory (Err fault) = refl
 
-plot_leads : (path : List ℕ) (put : Result (Unit {0}) FileFault) (state : State) (reply : Outcome) → (plot_turn path put (state, reply)).state ≡ state
-plot_leads path put state (Ok (Bytes bytes drawn)) = refl
-plot_leads path put state (Ok Done) = refl
-plot_leads path put state (Ok (Numbers n)) = refl
-plot_leads path put state (Err f) = refl
+put_leads : (tells : Tells) (path : List ℕ) (put : Result (Unit {0}) FileFault) (state : State) (reply : Outcome) → (put_turn tells path put (state, reply)).state ≡ state
+put_leads tells path put state (Ok (Bytes bytes drawn)) = refl
+put_leads tells path put state (Ok Done) = refl
+put_leads tells path put state (Ok (Numbers n)) = refl
+put_leads tells path put state (Err f) = refl
 
 line_leads : (s : State) (w : World) (p : Parsed) → (parsed_turn s w p).state ≡ states_after s (line_calls w p)
 line_leads s w (Err f) = refl
 line_leads s w (Ok None) = refl
 line_leads s w (Ok (Some (Command command))) = refl
 line_leads s w (Ok (Some (Load name kind path))) = load_leads s name kind path w.memory w.got
-line_leads s w (Ok (Some (Plot name path))) = plot_leads path w.put (step s (commands.Plot name) w.memory).0 (step s (commands.Plot name) w.memory).1
+line_leads s w (Ok (Some (Plot name path))) = put_leads Bytes path w.put (step s (commands.Plot name) w.memory).0 (step s (commands.Plot name) w.memory).1
+line_leads s w (Ok (Some (Write name path))) = put_leads byte_count path w.put (step s (commands.Write name) w.memory).0 (step s (commands.Write name) w.memory).1
 
 last_state_is : (s : State) (lines : List (List ℕ)) (ws : List World) → last_state s (turns s lines ws) ≡ states_after s (calls lines ws)
 last_state_is s [] ws = refl
@@ -96,12 +99,12 @@ last_state_is s (line ∷ lines) (w ∷ ws) =
 exchange_of : Turn → Exchange
 exchange_of t = (t.ask, t.reply)
 
-plot_exchanges : (path : List ℕ) (put : Result (Unit {0}) FileFault) (state : State) (reply : Outcome) → exchange_of (plot_turn path put (state, reply)) ≡ plot_exchange path put (Some reply)
+put_exchanges : (tells : Tells) (path : List ℕ) (put : Result (Unit {0}) FileFault) (state : State) (reply : Outcome) → exchange_of (put_turn tells path put (state, reply)) ≡ put_exchange tells path put (Some reply)
 unfolding exchange_of
-plot_exchanges path put state (Ok (Bytes bytes drawn)) = refl
-plot_exchanges path put state (Ok Done) = refl
-plot_exchanges path put state (Ok (Numbers n)) = refl
-plot_exchanges path put state (Err f) = refl
+put_exchanges tells path put state (Ok (Bytes bytes drawn)) = refl
+put_exchanges tells path put state (Ok Done) = refl
+put_exchanges tells path put state (Ok (Numbers n)) = refl
+put_exchanges tells path put state (Err f) = refl
 
 -- a line's exchange, in front of other commands
 module _ (s : State) (w : World) (ds : List Call) where
@@ -117,7 +120,8 @@ module _ (s : State) (w : World) (ds : List Call) where
   line_exchanges (Ok None) = refl
   line_exchanges (Ok (Some (Command command))) = refl
   line_exchanges (Ok (Some (Load name kind path))) = load_exchanges name kind path w.got
-  line_exchanges (Ok (Some (Plot name path))) = plot_exchanges path w.put (step s (commands.Plot name) w.memory).0 (step s (commands.Plot name) w.memory).1
+  line_exchanges (Ok (Some (Plot name path))) = put_exchanges Bytes path w.put (step s (commands.Plot name) w.memory).0 (step s (commands.Plot name) w.memory).1
+  line_exchanges (Ok (Some (Write name path))) = put_exchanges byte_count path w.put (step s (commands.Write name) w.memory).0 (step s (commands.Write name) w.memory).1
 
   load_left : (name : List ℕ) (kind : FileKind) (got : Result (List ℕ) FileFault)
       → drop (length (load_calls name kind w.memory got)) (answers_to s (load_calls name kind w.memory got ++ ds)) ≡ answers_to (states_after s (load_calls name kind w.memory got)) ds
@@ -131,6 +135,7 @@ module _ (s : State) (w : World) (ds : List Call) where
   line_left (Ok (Some (Command command))) = refl
   line_left (Ok (Some (Load name kind path))) = load_left name kind w.got
   line_left (Ok (Some (Plot name path))) = refl
+  line_left (Ok (Some (Write name path))) = refl
 
 exchanges_are : (s : State) (lines : List (List ℕ)) (ws : List World) → exchanges (turns s lines ws) ≡ exchanges_by lines ws (answers_to s (calls lines ws))
 unfolding exchange_of

@@ -12,8 +12,8 @@ use Rattle.cam_objects.specs.Soundness.{IsSoundItem}
 use Rattle.cam_objects.specs.Tests.{is_drill_inside, is_inside}
 use Rattle.cam_objects.proofs.TestLaws.{drill_inside_law, inside_law}
 use Rattle.cam_gerber.specs.declared.read_fault.ReadFault.{ReadFault as GerberFault}
-use Rattle.cam_gerber.specs.Reading.{reading_of as gerber_reading}
-use Rattle.cam_gerber.proofs.SoundLayers.{reading_is_sound as gerber_is_sound}
+use Rattle.cam_gerber.specs.Computing.{reading_of as gerber_reading}
+use Rattle.cam_gerber.proofs.Computed.{reading_is_sound as gerber_is_sound}
 use Rattle.cam_xnc.specs.declared.read_fault.ReadFault.{ReadFault as DrillFault}
 use Rattle.cam_xnc.specs.DrillState.{DrillContent}
 use Rattle.cam_xnc.specs.Reading.{reading_of as drill_reading}

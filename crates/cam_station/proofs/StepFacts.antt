@@ -2,7 +2,7 @@
 use Rattle.std.proofs.Common.{◌≡◌, ℕ, Bool, true, false, cond, List, [], ◌∷◌, Option, None, Some, Result, Ok, Err, refl}
 use Rattle.std.specs.Prelude.{◌==◌, is_some, nat_le, nat_lt, length}
 use Rattle.cam_station.specs.declared.command.Command.{Command}
-use Rattle.cam_station.specs.declared.command.Command.TheVariants.{Load, SetWindow, Plot, Delete, Move, Undo, Redo, ListAll, ListLayer}
+use Rattle.cam_station.specs.declared.command.Command.TheVariants.{Load, SetWindow, Plot, Write, Delete, Move, Undo, Redo, ListAll, ListLayer}
 use Rattle.cam_station.specs.declared.command.FileKind.{FileKind}
 use Rattle.cam_station.specs.declared.fault.Fault.{Fault}
 use Rattle.cam_units.specs.declared.point.Point.{Point}
@@ -13,7 +13,7 @@ use Rattle.cam_station.specs.Sheets.{Content, Sheet, can_move, item_count, with_
 use Rattle.cam_tiles.specs.Picture.{accepts}
 use Rattle.cam_station.specs.declared.reply.Reply.TheVariants.{Done}
 use Rattle.cam_station.specs.Refusals.{file_fault, layer_limit, name_taken, no_item, out_of_board, out_of_limits, too_many_layers}
-use Rattle.cam_station.specs.Machine.{State, Outcome, Memory, Granted, RefusedToReader, RefusedToStation, refused, step, with_room, load_read, load_step, window_step, reader_answer, plot_in, plot_at, edit_to, edit_at, delete_of, move_of, undo_to, redo_to, list_layer_at}
+use Rattle.cam_station.specs.Machine.{State, Outcome, Memory, Granted, RefusedToReader, RefusedToStation, refused, step, with_room, load_read, load_step, window_step, reader_answer, plot_in, plot_at, write_at, edit_to, edit_at, delete_of, move_of, undo_to, redo_to, list_layer_at}
 use Rattle.cam_station.specs.RunLaws.{is_file_refusal}
 use Rattle.cam_station.proofs.FaultNumbers.{IsOwnMeaning, meaning_own}
 
@@ -46,6 +46,10 @@ plot_in_own s m c (Some w) = roomed m s _ refl
 plot_own : (s : State) (m : Memory) (place : Option ℕ) → IsOwn (plot_at s m place)
 plot_own s m None = refl
 plot_own s m (Some place) = plot_in_own s m (content_at s.document place) s.window
+
+write_own : (s : State) (m : Memory) (place : Option ℕ) → IsOwn (write_at s m place)
+write_own s m None = refl
+write_own s m (Some place) = roomed m s _ refl
 
 -- an edit's refusals are its own
 abbrev IsOwnEdit : Result Content ℕ → Type 0
@@ -98,6 +102,7 @@ pub step_gets_no_file : (s : State) (command : Command) (memory : Memory) → is
 step_gets_no_file s (Load name kind file) m = load_step_own s name kind file m
 step_gets_no_file s (SetWindow w) m = window_own s w
 step_gets_no_file s (Plot name) m = plot_own s m (place_of name s.document)
+step_gets_no_file s (Write name) m = write_own s m (place_of name s.document)
 step_gets_no_file s (Delete name item) m = edit_own s m (delete_of item) (place_of name s.document) (delete_own item)
 step_gets_no_file s (Move name item dx dy) m = edit_own s m (move_of item (record { x = dx; y = dy })) (place_of name s.document) (move_own item (record { x = dx; y = dy }))
 step_gets_no_file s Undo m = undo_own s m s.past

@@ -2,7 +2,7 @@
 use Rattle.std.proofs.Common.{◌≡◌, ℕ, Bool, true, false, List, [], ◌∷◌, length, Option, None, Some, Result, Ok, Err, refl, if◌then◌else◌, nat_le}
 use Rattle.std.specs.Prelude.{is_some}
 use Rattle.cam_station.specs.declared.command.Command.{Command}
-use Rattle.cam_station.specs.declared.command.Command.TheVariants.{Load, SetWindow, Plot, Delete, Move, Undo, Redo, ListAll, ListLayer}
+use Rattle.cam_station.specs.declared.command.Command.TheVariants.{Load, SetWindow, Plot, Write, Delete, Move, Undo, Redo, ListAll, ListLayer}
 use Rattle.cam_station.specs.declared.fault.Fault.{Fault}
 use Rattle.cam_station.specs.declared.reply.Reply.{Reply}
 use Rattle.cam_station.specs.declared.reply.Reply.TheVariants.{Done, Numbers}
@@ -14,7 +14,7 @@ use Rattle.cam_station.specs.Sheets.{Content, IsSound, Sheet, item_count}
 use Rattle.cam_station.specs.Sound.{AreSound}
 use Rattle.cam_tiles.specs.Picture.{accepts}
 use Rattle.cam_station.specs.Refusals.{layer_limit, memory_refused, name_taken, no_layer, no_window, nothing_to_redo, nothing_to_undo, out_of_limits, too_many_layers}
-use Rattle.cam_station.specs.Machine.{State, Outcome, Memory, Granted, RefusedToReader, RefusedToStation, step, refused, with_room, with_sheet, with_edit, edit_at, edit_to, load_read, reader_answer, plot_at, plot_in, undo_to, redo_to, list_layer_at, delete_of, move_of}
+use Rattle.cam_station.specs.Machine.{State, Outcome, Memory, Granted, RefusedToReader, RefusedToStation, step, refused, with_room, with_sheet, with_edit, edit_at, edit_to, load_read, reader_answer, plot_at, plot_in, write_at, undo_to, redo_to, list_layer_at, delete_of, move_of}
 use Rattle.cam_station.proofs.SoundContents.{IsSoundAnswer, delete_sound, load_sound, move_sound, place_sound, sheets_sound}
 
 -- P holds where the state stays, and after each kind of change
@@ -52,6 +52,10 @@ plot_each : (s : State) (P : State × Outcome → Type 0) (h : AfterEach s P) (m
 plot_each s P h m None = h.stays (refused no_layer)
 plot_each s P h m (Some place) = plot_in_each s P h m (content_at s.document place) s.window
 
+write_each : (s : State) (P : State × Outcome → Type 0) (h : AfterEach s P) (m : Memory) (place : Option ℕ) → P (write_at s m place)
+write_each s P h m None = h.stays (refused no_layer)
+write_each s P h m (Some place) = room P m s _ (h.stays (refused memory_refused)) (h.stays _)
+
 edit_to_each : (s : State) (P : State × Outcome → Type 0) (h : AfterEach s P) (m : Memory) (place : ℕ) (made : Result Content ℕ) → (AreSound s.document → IsSoundAnswer made) → P (edit_to s m place made)
 edit_to_each s P h m place (Err code) sound = h.stays (refused code)
 edit_to_each s P h m place (Ok c) sound =
@@ -82,6 +86,7 @@ after_each s P h (Load name kind file) m =
     (load_each s P h name m (reader_answer m (meaning_of kind file)) (load_sound m kind file)))
 after_each s P h (SetWindow w) m = either P (accepts w) _ _ (h.framed w) (h.stays (refused out_of_limits))
 after_each s P h (Plot name) m = plot_each s P h m (place_of name s.document)
+after_each s P h (Write name) m = write_each s P h m (place_of name s.document)
 after_each s P h (Delete name item) m = edit_each s P h m (delete_of item) (place_of name s.document) (delete_sound item)
 after_each s P h (Move name item dx dy) m = edit_each s P h m (move_of item (record { x = dx; y = dy })) (place_of name s.document) (move_sound item (record { x = dx; y = dy }))
 after_each s P h Undo m = undo_each s P h m s.past refl

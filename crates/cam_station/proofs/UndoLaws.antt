@@ -2,9 +2,9 @@
 use Rattle.std.proofs.Common.{◌≡◌, ℕ, zero, suc, ◌≤◌, List, Option, None, Some, Result, Ok, Err, refl, ap, arith, subst, sym, ◌∙◌}
 use Rattle.std.specs.Prelude.{IsOk}
 use Rattle.cam_station.specs.declared.command.Command.{Command}
-use Rattle.cam_station.specs.declared.command.Command.TheVariants.{Load, SetWindow, Plot, Delete, Move, Undo, Redo, ListAll, ListLayer}
+use Rattle.cam_station.specs.declared.command.Command.TheVariants.{Load, SetWindow, Plot, Write, Delete, Move, Undo, Redo, ListAll, ListLayer}
 use Rattle.cam_station.specs.declared.reply.Reply.TheVariants.{Done}
-use Rattle.cam_station.specs.Documents.{content_at, place_of, with_content, picture_named}
+use Rattle.cam_station.specs.Documents.{content_at, place_of, with_content, picture_named, text_named}
 use Rattle.cam_station.specs.Sheets.{Content, Sheet}
 use Rattle.cam_station.specs.Machine.{State, Outcome, Memory, Granted, RefusedToReader, RefusedToStation, fresh, step, with_edit, edit_at, edit_to, delete_of, move_of}
 use Rattle.cam_station.specs.Undoing.{Call, state_after, states_after, answer_to, undo, redo, GivesBack, IsEdit, ExactUndo, ExactUndoEverywhere}
@@ -31,6 +31,7 @@ edits s (Move name item dx dy) m e = edits_at s m (move_of item (record { x = dx
 edits s (Load name kind file) m e = absurd e
 edits s (SetWindow w) m e = absurd e
 edits s (Plot name) m e = absurd e
+edits s (Write name) m e = absurd e
 edits s Undo m e = absurd e
 edits s Redo m e = absurd e
 edits s ListAll m e = absurd e
@@ -38,7 +39,12 @@ edits s (ListLayer name) m e = absurd e
 
 gives_back : (s : State) (c : Call) (document : List Sheet) → answer_to s c ≡ Ok Done → (state_after s c).document ≡ document → GivesBack s c document
 gives_back s c document accepted same =
-    record { accepted = accepted; layers = same; pictures = λ w name. ap (picture_named w name) same }
+    record {
+      accepted = accepted;
+      layers = same;
+      texts = λ name. ap (text_named name) same;
+      pictures = λ w name. ap (picture_named w name) same;
+    }
 
 -- an undo right after the edit, and a redo right after that
 undo_back : (n : ℕ) (s left : State) (document : List Sheet) → s.depth ≡ suc n → left ≡ with_edit s document → GivesBack left undo s.document

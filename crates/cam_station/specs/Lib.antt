@@ -3,9 +3,11 @@ pub mod Documents
 pub mod Refusals
 pub mod Meanings
 pub mod Kept
+pub mod Writing
 pub mod Machine
 pub mod Undoing
 pub mod Plots
+pub mod Writes
 pub mod Sound
 pub mod Contents
 pub mod Parsing

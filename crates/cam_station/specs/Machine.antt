@@ -1,7 +1,7 @@
 -- The machine of documents that a station is: it keeps whole documents, and one command is one step.
 use Rattle.std.specs.Prelude.{◌≡◌, ℕ, ◌≤◌, nat_le, nat_lt, Bool, true, ◌==◌, ◌&&◌, if◌then◌else◌, List, [], ◌∷◌, ◌++◌, length, take, Option, None, Some, Result, Ok, Err, is_some}
 use Rattle.cam_station.specs.declared.command.Command.{Command}
-use Rattle.cam_station.specs.declared.command.Command.TheVariants.{Load, SetWindow, Plot, Delete, Move, Undo, Redo, ListAll, ListLayer}
+use Rattle.cam_station.specs.declared.command.Command.TheVariants.{Load, SetWindow, Plot, Write, Delete, Move, Undo, Redo, ListAll, ListLayer}
 use Rattle.cam_station.specs.declared.command.FileKind.{FileKind}
 use Rattle.cam_station.specs.declared.fault.Fault.{Fault}
 use Rattle.cam_station.specs.declared.reply.Reply.{Reply}
@@ -26,6 +26,7 @@ use Rattle.cam_station.specs.Refusals.{
 use Rattle.cam_station.specs.Documents.{content_at, place_of, with_content}
 use Rattle.cam_station.specs.Meanings.{fault_at, meaning_of}
 use Rattle.cam_station.specs.Sheets.{Content, Sheet, can_move, entry_count, image_of, item_count, sheet, with_moved, without_item}
+use Rattle.cam_station.specs.Writing.{text_of}
 use Rattle.cam_tiles.specs.Picture.{accepts, plot_of, tiles_of}
 
 -- the document and the window; the earlier documents, the latest first; those that were taken back, the next first
@@ -114,6 +115,16 @@ plot_at s memory (Some place) = plot_in s memory (content_at s.document place) s
 abbrev pub plot_step : State → List ℕ → Memory → State × Outcome
 plot_step s name memory = plot_at s memory (place_of name s.document)
 
+-- write ---------------------------------------------------------------------------------------
+
+abbrev pub write_at : State → Memory → Option ℕ → State × Outcome
+write_at s memory None = (s, refused no_layer)
+write_at s memory (Some place) = with_room memory s (s, Ok (Bytes (text_of (content_at s.document place)) 0))
+
+-- the canonical text of the layer of this name
+abbrev pub write_step : State → List ℕ → Memory → State × Outcome
+write_step s name memory = write_at s memory (place_of name s.document)
+
 -- edits ---------------------------------------------------------------------------------------
 
 -- the content without an item, or the number of the refusal
@@ -193,6 +204,7 @@ abbrev pub step : State → Command → Memory → State × Outcome
 step s (Load name kind file) memory = load_step s name kind file memory
 step s (SetWindow w) memory = window_step s w
 step s (Plot name) memory = plot_step s name memory
+step s (Write name) memory = write_step s name memory
 step s (Delete name item) memory = delete_step s name item memory
 step s (Move name item dx dy) memory = move_step s name item (record { x = dx; y = dy }) memory
 step s Undo memory = undo_step s memory

@@ -2,7 +2,7 @@
 use Rattle.std.specs.Prelude.{ℕ, List, Some, Result, Ok, Err}
 use Rattle.cam_objects.specs.Contents.{Content as GerberContent}
 use Rattle.cam_gerber.specs.declared.read_fault.ReadFault.{ReadFault as GerberFault}
-use Rattle.cam_gerber.specs.Reading.{reading_of as gerber_reading}
+use Rattle.cam_gerber.specs.Computing.{reading_of as gerber_reading}
 use Rattle.cam_xnc.specs.declared.read_fault.ReadFault.{ReadFault as DrillFault}
 use Rattle.cam_xnc.specs.DrillState.{DrillContent}
 use Rattle.cam_xnc.specs.Reading.{reading_of as drill_reading}

@@ -45,6 +45,11 @@ abbrev pub plot_line : List (List ℕ) → Option Line
 plot_line (name ∷ path ∷ []) = if is_name name && is_path path then Some (lines.Plot name path) else None
 plot_line _ = None
 
+-- write NAME PATH
+abbrev pub write_line : List (List ℕ) → Option Line
+write_line (name ∷ path ∷ []) = if is_name name && is_path path then Some (lines.Write name path) else None
+write_line _ = None
+
 -- delete NAME K
 abbrev pub delete_line : List (List ℕ) → Option Line
 delete_line (name ∷ item ∷ []) =
@@ -77,6 +82,7 @@ line_in verb rest =
     if bytes_eq verb (codes "load") then load_line rest
     else if bytes_eq verb (codes "window") then window_line rest
     else if bytes_eq verb (codes "plot") then plot_line rest
+    else if bytes_eq verb (codes "write") then write_line rest
     else if bytes_eq verb (codes "delete") then delete_line rest
     else if bytes_eq verb (codes "move") then move_line rest
     else if bytes_eq verb (codes "undo") then alone commands.Undo rest

@@ -7,10 +7,11 @@ use Rattle.cam_station.specs.declared.command.Command.TheVariants as commands
 use Rattle.cam_station.specs.declared.files.FileFault.{FileFault}
 use Rattle.cam_station.specs.declared.files.FileFault.TheVariants.{Failed, Memory as NoMemory}
 use Rattle.cam_station.specs.declared.reply.Reply.{Reply}
-use Rattle.cam_station.specs.declared.reply.Reply.TheVariants.{Bytes}
+use Rattle.cam_station.specs.declared.reply.Numbers.TheVariants.{One}
+use Rattle.cam_station.specs.declared.reply.Reply.TheVariants.{Bytes, Numbers}
 use Rattle.cam_station.specs.declared.script.run.RunFault.{RunFault}
 use Rattle.cam_station.specs.declared.script.run.RunFault.TheVariants.{Depth, Output, Memory as RunMemory}
-use Rattle.cam_station.specs.declared.script.line.Line.TheVariants.{Command, Load, Plot}
+use Rattle.cam_station.specs.declared.script.line.Line.TheVariants.{Command, Load, Plot, Write}
 use Rattle.cam_station.specs.Refusals.{file_fault, memory_refused}
 use Rattle.cam_station.specs.Machine.{State, Outcome, Memory, fresh, is_depth, refused, step}
 use Rattle.cam_station.specs.Contents.{Contents, FailsIfAbsent, Holds, Stored, MayHaveStored, HasRisenBy, failures_of}
@@ -57,10 +58,26 @@ abbrev pub put_reply : Reply → Result (Unit {0}) FileFault → Outcome
 put_reply reply (Ok done) = Ok reply
 put_reply reply (Err fault) = refused (file_code fault)
 
--- a plot puts its bytes last; an answer without bytes puts nothing
+-- what a reply tells of the bytes that were put, and of how many tiles were drawn for them
+abbrev pub Tells : Type 0
+Tells = List ℕ → ℕ → Reply
+
+-- the bytes of an answer are put last; an answer without bytes puts nothing
+abbrev pub put_turn : Tells → List ℕ → Result (Unit {0}) FileFault → State × Outcome → Turn
+put_turn tells path put (s, Ok (Bytes bytes drawn)) =
+    answered (s, put_reply (tells bytes drawn) put) (Put path bytes put)
+put_turn tells path put (s, reply) = answered (s, reply) Nothing
+
+-- a plot tells how many tiles were drawn
 abbrev pub plot_turn : List ℕ → Result (Unit {0}) FileFault → State × Outcome → Turn
-plot_turn path put (s, Ok (Bytes bytes drawn)) = answered (s, put_reply (Bytes bytes drawn) put) (Put path bytes put)
-plot_turn path put (s, reply) = answered (s, reply) Nothing
+plot_turn path put after = put_turn Bytes path put after
+
+-- a write tells how many bytes were put
+abbrev pub byte_count : Tells
+byte_count bytes drawn = Numbers (One (length bytes))
+
+abbrev pub write_turn : List ℕ → Result (Unit {0}) FileFault → State × Outcome → Turn
+write_turn path put after = put_turn byte_count path put after
 
 abbrev pub parsed_turn : State → World → Parsed → Turn
 parsed_turn s w (Err fault) = answered (s, refused (line_code fault)) Nothing
@@ -68,6 +85,7 @@ parsed_turn s w (Ok None) = record { state = s; ask = Nothing; reply = None }
 parsed_turn s w (Ok (Some (Command command))) = answered (step s command w.memory) Nothing
 parsed_turn s w (Ok (Some (Load name kind path))) = load_turn s name kind path w.memory w.got
 parsed_turn s w (Ok (Some (Plot name path))) = plot_turn path w.put (step s (commands.Plot name) w.memory)
+parsed_turn s w (Ok (Some (Write name path))) = write_turn path w.put (step s (commands.Write name) w.memory)
 
 abbrev pub turn : State → List ℕ → World → Turn
 turn s line w = parsed_turn s w (parsed line w.line_refused)

@@ -3,7 +3,7 @@ use Rattle.std.specs.Prelude.{◌≡◌, ℕ, ◌==◌, Bool, false, List, [], �
 use Rattle.cam_station.specs.declared.command.FileKind.{FileKind}
 use Rattle.cam_station.specs.declared.command.Command.TheVariants as commands
 use Rattle.cam_station.specs.declared.files.FileFault.{FileFault}
-use Rattle.cam_station.specs.declared.script.line.Line.TheVariants.{Command, Load, Plot}
+use Rattle.cam_station.specs.declared.script.line.Line.TheVariants.{Command, Load, Plot, Write}
 use Rattle.cam_station.specs.declared.reply.Reply.TheVariants.{Bytes}
 use Rattle.cam_station.specs.Refusals.{file_fault}
 use Rattle.cam_station.specs.Machine.{State, Outcome, Memory, refused}
@@ -17,8 +17,10 @@ use Rattle.cam_station.specs.Run.{
   Get,
   Nothing,
   Put,
+  Tells,
   Turn,
   World,
+  byte_count,
   file_code,
   is_refusal,
   put_reply,
@@ -53,6 +55,7 @@ line_calls w (Ok None) = []
 line_calls w (Ok (Some (Command command))) = (command, w.memory) ∷ []
 line_calls w (Ok (Some (Load name kind path))) = load_calls name kind w.memory w.got
 line_calls w (Ok (Some (Plot name path))) = (commands.Plot name, w.memory) ∷ []
+line_calls w (Ok (Some (Write name path))) = (commands.Write name, w.memory) ∷ []
 
 -- the commands that the lines give the station, each with what it was told of memory
 abbrev pub calls : List (List ℕ) → List World → List Call
@@ -76,11 +79,12 @@ abbrev pub load_exchange : List ℕ → Result (List ℕ) FileFault → Option O
 load_exchange path (Ok bytes) answer = (Get path (Ok bytes), answer)
 load_exchange path (Err fault) answer = (Get path (Err fault), Some (refused (file_code fault)))
 
--- a plot is answered as its command is, and the bytes in that answer are put; where that fails it is refused for the
--- file
-abbrev pub plot_exchange : List ℕ → Result (Unit {0}) FileFault → Option Outcome → Exchange
-plot_exchange path put (Some (Ok (Bytes bytes drawn))) = (Put path bytes put, Some (put_reply (Bytes bytes drawn) put))
-plot_exchange path put answer = (Nothing, answer)
+-- the bytes in the answer to a command are put, and the reply tells of them; where that fails the line is refused for
+-- the file
+abbrev pub put_exchange : Tells → List ℕ → Result (Unit {0}) FileFault → Option Outcome → Exchange
+put_exchange tells path put (Some (Ok (Bytes bytes drawn))) =
+    (Put path bytes put, Some (put_reply (tells bytes drawn) put))
+put_exchange tells path put answer = (Nothing, answer)
 
 -- the exchange of a line, by the answer to its command, where it gives one
 abbrev pub line_exchange : World → Parsed → Option Outcome → Exchange
@@ -88,7 +92,8 @@ line_exchange w (Err fault) answer = (Nothing, Some (refused (line_code fault)))
 line_exchange w (Ok None) answer = (Nothing, None)
 line_exchange w (Ok (Some (Command command))) answer = (Nothing, answer)
 line_exchange w (Ok (Some (Load name kind path))) answer = load_exchange path w.got answer
-line_exchange w (Ok (Some (Plot name path))) answer = plot_exchange path w.put answer
+line_exchange w (Ok (Some (Plot name path))) answer = put_exchange Bytes path w.put answer
+line_exchange w (Ok (Some (Write name path))) answer = put_exchange byte_count path w.put answer
 
 -- the exchanges of the lines, whose commands were answered so, one after another
 abbrev pub exchanges_by : List (List ℕ) → List World → List Outcome → List Exchange

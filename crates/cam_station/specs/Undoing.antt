@@ -1,10 +1,10 @@
 -- Lists of commands, and exact undo over them.
 use Rattle.std.specs.Prelude.{◌≡◌, ℕ, ◌+◌, ◌≤◌, List, [], ◌∷◌, length, ◌⊎◌, IsOk, IsErr, Ok}
 use Rattle.cam_station.specs.declared.command.Command.{Command}
-use Rattle.cam_station.specs.declared.command.Command.TheVariants.{Plot, Delete, Move, Undo, Redo, ListAll, ListLayer}
+use Rattle.cam_station.specs.declared.command.Command.TheVariants.{Plot, Write, Delete, Move, Undo, Redo, ListAll, ListLayer}
 use Rattle.cam_station.specs.declared.reply.Reply.TheVariants.{Done}
 use Rattle.cam_station.specs.Refusals.{greatest_depth}
-use Rattle.cam_station.specs.Documents.{SamePictures}
+use Rattle.cam_station.specs.Documents.{SamePictures, SameTexts}
 use Rattle.cam_station.specs.Sheets.{Sheet}
 use Rattle.cam_station.specs.Machine.{State, Outcome, Memory, Granted, fresh, memory_of, step}
 
@@ -57,6 +57,7 @@ IsEdit _ = ⊥
 -- the command only looks
 abbrev pub IsLook : Command → Type 0
 IsLook (Plot name) = Unit {0}
+IsLook (Write name) = Unit {0}
 IsLook ListAll = Unit {0}
 IsLook (ListLayer name) = Unit {0}
 IsLook _ = ⊥
@@ -77,10 +78,12 @@ undo = (Undo, Granted)
 abbrev pub redo : Call
 redo = (Redo, Granted)
 
--- the call is accepted, and gives back this document: the same layers and, in every window, the same pictures
+-- the call is accepted, and gives back this document: the same layers, the same texts and, in every window, the same
+-- pictures
 pub record GivesBack (s : State) (c : Call) (document : List Sheet) : Type 0 where
   pub accepted : answer_to s c ≡ Ok Done
   pub layers : (state_after s c).document ≡ document
+  pub texts : SameTexts (state_after s c).document document
   pub pictures : SamePictures (state_after s c).document document
 
 -- After an accepted edit and quiet commands an undo gives back the document before the edit;

@@ -27,6 +27,10 @@ pub enum Command {
     Plot {
         name: Name,
     },
+    /// Answers the canonical text of a layer, as a file of its kind.
+    Write {
+        name: Name,
+    },
     /// Takes an item out of a layer.
     Delete {
         name: Name,

@@ -3,6 +3,7 @@
 ghost use Rattle.cam_station.specs.Plots.{ExactPlot};
 ghost use Rattle.cam_station.specs.Sound.{SoundLaw};
 ghost use Rattle.cam_station.specs.Undoing.{DepthLaw, ExactUndo, ExactUndoEverywhere, RefusalLaw};
+ghost use Rattle.cam_station.specs.Writes.{ExactWrite, WrittenIsAccepted, WrittenLoadsAgain};
 
 /// A refused command changes nothing.
 pub fn refusals_change_nothing()
@@ -21,8 +22,9 @@ pub fn documents_stay_sound()
     ensures { SoundLaw }
 {}
 
-/// An accepted edit, quiet commands and then an undo give back the same layers and, in
-/// every window, the same pictures; after quiet commands again a redo gives the edited ones.
+/// An accepted edit, quiet commands and then an undo give back the same layers, the same texts
+/// and, in every window, the same pictures; after quiet commands again a redo gives the edited
+/// ones.
 pub fn undo_is_exact()
     ensures reached { ExactUndo }
     ensures everywhere { ExactUndoEverywhere }
@@ -32,4 +34,17 @@ pub fn undo_is_exact()
 /// the image of the layer as it then is.
 pub fn plot_is_exact()
     ensures { ExactPlot }
+{}
+
+/// After any list of commands each accepted write answers the canonical text of the layer as it
+/// then is, and that text means the layer.
+pub fn write_is_exact()
+    ensures { ExactWrite }
+{}
+
+/// A text that a write answered is accepted as a file of the layer's kind, and adds the layer
+/// again, with the same picture in every window.
+pub fn written_texts_load_again()
+    ensures again { WrittenLoadsAgain }
+    ensures accepted { WrittenIsAccepted }
 {}

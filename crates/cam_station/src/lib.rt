@@ -2,8 +2,9 @@
 //!
 //! A [`Station`] has a document of named layers, a window, and the documents before and after it.
 //! [`Station::apply`] is one step of the machine in `specs/Machine.antt`; [`undo_is_exact`] and
-//! [`plot_is_exact`] are the two halves of the theorem, over all lists of commands. [`run`] serves a script
-//! line by line, over [`Files`] and an [`Out`], as `specs/Run.antt` says.
+//! [`plot_is_exact`] are the two halves of the theorem, over all lists of commands, and [`write_is_exact`] says of
+//! texts what the second says of pictures. [`run`] serves a script line by line, over [`Files`] and an [`Out`], as
+//! `specs/Run.antt` says.
 #![tactic(auto)]
 
 mod bytes;
@@ -29,6 +30,7 @@ pub use fault::Fault;
 pub use files::{FileFault, Files};
 pub use laws::{
     depth_is_kept, documents_stay_sound, plot_is_exact, refusals_change_nothing, undo_is_exact,
+    write_is_exact, written_texts_load_again,
 };
 pub use name::Name;
 pub use out::Out;

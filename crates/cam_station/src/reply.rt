@@ -15,6 +15,6 @@ pub enum Numbers {
 pub enum Reply {
     Done,
     Numbers(Numbers),
-    /// The bytes for a file, and how many tiles of 64 by 64 pixels were drawn for them.
+    /// The bytes for a file, and how many tiles of 64 by 64 pixels were drawn for them, none for a text.
     Bytes { bytes: Bytes, drawn: u64 },
 }

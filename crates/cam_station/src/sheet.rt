@@ -3,6 +3,7 @@
 ghost use Rattle.std.specs.Prelude.{◌≡◌, ◌<◌, true, IfOk};
 ghost use Rattle.cam_station.specs.Kept.{content_of};
 ghost use Rattle.cam_station.specs.Sheets.{IsSound, can_move, entry_count, image_of, item_count, sheet, with_moved, without_item};
+ghost use Rattle.cam_station.specs.Writing.{text_of};
 ghost use Rattle.cam_tiles.specs.Picture.{accepts, plot_of};
 
 use crate::name::Name;
@@ -67,6 +68,13 @@ impl Sheet {
         ensures { IfOk result (λ bytes. bytes.items ≡ plot_of window.now (image_of self.now.content)) }
     {
         self.layer.plot(alloc, window)
+    }
+
+    /// The canonical text of its layer.
+    pub fn write(&self, alloc: Global) -> Result<Vec<u8>, AllocError>
+        ensures { IfOk result (λ text. text.items ≡ text_of self.now.content) }
+    {
+        self.layer.write(alloc)
     }
 
     /// The same sheet in memory of its own.

@@ -4,11 +4,13 @@ ghost use Rattle.std.specs.Prelude.{◌≡◌, ◌<◌, ◌↔◌, true, IfOk, I
 ghost use Rattle.cam_objects.specs.Shifting.{IsMove};
 ghost use Rattle.cam_station.specs.Kept.{content_of};
 ghost use Rattle.cam_station.specs.Sheets.{IsSound, can_move, entry_count, image_of, item_count, with_moved, without_item};
+ghost use Rattle.cam_station.specs.Writing.{text_of};
 ghost use Rattle.cam_tiles.specs.Picture.{accepts, plot_of};
 
 use cam_objects::{DrillLayer, Layer};
 use cam_tiles::{Window, plot};
 use cam_units::Point;
+use cam_writers::{gerber_text, xnc_text};
 use std::alloc::{AllocError, Global};
 
 /// The farthest that an item is moved to a side, in nm.
@@ -51,6 +53,17 @@ impl SheetLayer {
         match self {
             SheetLayer::Gerber(layer) => plot(alloc, layer, window),
             SheetLayer::Drill(layer) => plot(alloc, layer, window),
+        }
+    }
+
+    /// Its canonical text, as a file of its kind.
+    pub fn write(&self, alloc: Global) -> Result<Vec<u8>, AllocError>
+        requires sound { IsSound (content_of self.now) }
+        ensures { IfOk result (λ text. text.items ≡ text_of (content_of self.now)) }
+    {
+        match self {
+            SheetLayer::Gerber(layer) => gerber_text(alloc, layer),
+            SheetLayer::Drill(layer) => xnc_text(alloc, layer),
         }
     }
 

@@ -16,6 +16,7 @@ ghost use Rattle.cam_station.specs.Machine.{
   undo_step,
   window_step,
   with_document_kept,
+  write_step,
 };
 ghost use Rattle.cam_station.specs.Refusals.{memory_refused};
 ghost use Rattle.cam_station.specs.Undoing.{IsRun};
@@ -97,7 +98,7 @@ impl Station {
     /// Gerber file; of a drill file 1, 4, 6, 23 to 25 and 40 to 48, as 40 where it does not
     /// begin with M48, 42 a tool that is not declared, 45 a coordinate without a point, 47 a
     /// line in the wrong mode, 48 no M30. A window outside its limits 50; a plot 60 without
-    /// such a layer, 84 without a window; an edit 60, 61 without such an item, 65 where a
+    /// such a layer, 84 without a window; a write 60; an edit 60, 61 without such an item, 65 where a
     /// control point would leave the board, as it stands or in a leaf; an undo 70 without an
     /// edit to take back, a redo 71 without one to make again; a list of a layer 60. Last comes
     /// 30, where memory was refused. Where it was refused to the reader, 30 has the place 0
@@ -110,6 +111,7 @@ impl Station {
             Command::Load { name, kind, file } => self.load(name, kind, &file),
             Command::SetWindow(window) => self.set_window(window),
             Command::Plot { name } => self.plot(&name),
+            Command::Write { name } => self.write(&name),
             Command::Delete { name, item } => self.delete(&name, item as usize),
             Command::Move { name, item, dx, dy } => {
                 self.shift(&name, item as usize, Point { x: dx, y: dy })
@@ -184,6 +186,21 @@ impl Station {
                 let bytes = Bytes::from_vec(bytes);
                 Ok(Reply::Bytes { bytes, drawn })
             }
+            Err(_) => Err(refusal(refusals::NO_MEMORY)),
+        }
+    }
+
+    fn write(&self, name: &Name) -> Result<Reply, Fault>
+        ensures { write_step self.now name.now (memory_of result) ≡ (self.now, result) }
+    {
+        let Some(place) = self.document.place(name) else {
+            return Err(refusal(refusals::NO_LAYER));
+        };
+        match self.document.sheet(place).write(self.alloc) {
+            Ok(text) => Ok(Reply::Bytes {
+                bytes: Bytes::from_vec(text),
+                drawn: 0,
+            }),
             Err(_) => Err(refusal(refusals::NO_MEMORY)),
         }
     }

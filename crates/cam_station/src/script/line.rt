@@ -25,6 +25,11 @@ pub enum Line {
         name: Name,
         path: FilePath,
     },
+    /// Puts the canonical text of the layer of this name under the path.
+    Write {
+        name: Name,
+        path: FilePath,
+    },
 }
 
 /// Why a line says nothing.

@@ -18,6 +18,7 @@ ghost use Rattle.cam_station.specs.Parsing.{
   parsed,
   plot_line,
   window_line,
+  write_line,
 };
 
 use crate::command::{Command, FileKind};
@@ -184,6 +185,25 @@ fn plot(alloc: Global, words: &mut Words<'_>) -> Result<Line, LineFault>
     Ok(Line::Plot { name, path })
 }
 
+/// The words behind `write`.
+#[tactic(auto, using(crate::proofs::Forms::no_write))]
+fn write(alloc: Global, words: &mut Words<'_>) -> Result<Line, LineFault>
+    ensures { kept (write_line words.old) (is_no_memory result) ≡ result }
+{
+    let Some((name, path)) = words.two() else {
+        return Err(LineFault::BadLine);
+    };
+    if !is_name(name) {
+        return Err(LineFault::BadLine);
+    }
+    if !is_path(path) {
+        return Err(LineFault::BadLine);
+    }
+    let name = name_of(alloc, name)?;
+    let path = path_of(alloc, path)?;
+    Ok(Line::Write { name, path })
+}
+
 /// The words behind `delete`.
 #[tactic(auto, using(crate::proofs::Forms::no_delete))]
 fn delete(alloc: Global, words: &mut Words<'_>) -> Result<Line, LineFault>
@@ -272,6 +292,9 @@ fn line_of(alloc: Global, verb: &[u8], words: &mut Words<'_>) -> Result<Line, Li
     }
     if is(verb, b"plot") {
         return plot(alloc, words);
+    }
+    if is(verb, b"write") {
+        return write(alloc, words);
     }
     if is(verb, b"delete") {
         return delete(alloc, words);

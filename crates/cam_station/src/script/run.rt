@@ -20,6 +20,7 @@ ghost use Rattle.cam_station.specs.Run.{
   moment,
   plot_turn,
   turn,
+  write_turn,
 };
 
 use crate::bytes::Bytes;
@@ -29,7 +30,7 @@ use crate::files::{FileFault, Files};
 use crate::name::Name;
 use crate::out::Out;
 use crate::refusals;
-use crate::reply::Reply;
+use crate::reply::{Numbers, Reply};
 use crate::reply_line::say_reply;
 use crate::script::line::Line;
 use crate::script::lines::Lines;
@@ -123,6 +124,30 @@ fn plot<F: Files>(
     }
 }
 
+/// Writes a layer, and puts its text under the path.
+fn write<F: Files>(
+    station: &mut Station,
+    name: Name,
+    path: &FilePath,
+    files: &mut F,
+) -> Result<Reply, Fault>
+    ensures { (memory : Memory) × (put : Result (Unit {0}) FileFault)
+        × Comes (write_turn path.now put (step station.old (Command.Write name) memory))
+        station.new (Some result)
+        (files_seen (F.contents files.old) (F.failed files.old))
+        (files_seen (F.contents files.new) (F.failed files.new)) }
+{
+    let answer = station.apply(Command::Write { name });
+    let Some(bytes) = bytes_of(&answer) else {
+        return answer;
+    };
+    let text = bytes.as_slice();
+    match files.put(path.as_str(), text) {
+        Ok(()) => Ok(Reply::Numbers(Numbers::One(text.len() as u64))),
+        Err(fault) => Err(file_refusal(fault)),
+    }
+}
+
 /// Runs one line, up to its reply, if it has one.
 fn run_line<F: Files>(
     alloc: Global,
@@ -142,6 +167,7 @@ fn run_line<F: Files>(
             Some(load(alloc, station, name, kind, &path, files))
         }
         Ok(Some(Line::Plot { name, path })) => Some(plot(station, name, &path, files)),
+        Ok(Some(Line::Write { name, path })) => Some(write(station, name, &path, files)),
     }
 }
 
@@ -200,8 +226,8 @@ fn begin(alloc: Global, depth: u32) -> Result<Station, RunFault>
 /// were refused.
 ///
 /// Each line that is neither empty nor a comment has one reply line on `out`. A `load` gets
-/// its file before anything else is checked, and a `plot` puts its bytes last. A refused line
-/// does not end the run; a reply that cannot be said does, and then nothing is known of how
+/// its file before anything else is checked, and a `plot` or a `write` puts its bytes last. A
+/// refused line does not end the run; a reply that cannot be said does, and then nothing is known of how
 /// much of it was said.
 pub fn run<F: Files, O: Out>(
     alloc: Global,

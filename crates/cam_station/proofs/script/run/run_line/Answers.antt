@@ -31,3 +31,9 @@ returns-in-Ok-Some-Plot g c =
     one.line_plots c.args.station.now c.args.line.now c.in-Ok-Some-Plot.name c.in-Ok-Some-Plot.path c.plot.new.station (Some c.plot.result)
     (files_seen (g.F.Files.contents c.args.files.now) (g.F.Files.failed c.args.files.now))
     (files_seen (g.F.Files.contents c.plot.new.files) (g.F.Files.failed c.plot.new.files)) (rw (c.in-Ok-Some-Plot.field-0-is, c.in-Ok-Some-Plot.field-0-0-is) at c.in-Ok-Some-Plot.ensures) c.plot.ensures
+
+pub returns-in-Ok-Some-Write : goal.returns-in-Ok-Some-Write
+returns-in-Ok-Some-Write g c =
+    one.line_writes c.args.station.now c.args.line.now c.in-Ok-Some-Write.name c.in-Ok-Some-Write.path c.write.new.station (Some c.write.result)
+    (files_seen (g.F.Files.contents c.args.files.now) (g.F.Files.failed c.args.files.now))
+    (files_seen (g.F.Files.contents c.write.new.files) (g.F.Files.failed c.write.new.files)) (rw (c.in-Ok-Some-Write.field-0-is, c.in-Ok-Some-Write.field-0-0-is) at c.in-Ok-Some-Write.ensures) c.write.ensures
