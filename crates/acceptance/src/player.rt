@@ -2,11 +2,18 @@
 
 use crate::files::MemoryFiles;
 use crate::out::MemoryOut;
+use crate::tables::blocks::BLOCKS;
 use crate::tables::drills::DRILLS;
 use crate::tables::histories::HISTORIES;
 use crate::tables::limits::LIMITS;
 use crate::tables::plots::PLOTS;
 use crate::tables::refusals::REFUSALS;
+use crate::tables::regions::REGIONS;
+use crate::tables::strokes::STROKES;
+use crate::tables::templates::TEMPLATES;
+use crate::tables::texts::TEXTS;
+use crate::tables::units::UNITS;
+use crate::tables::unreadable::UNREADABLE;
 use crate::tables::{File, Row};
 use cam_station::{Files, run};
 use std::alloc::Global;
@@ -48,9 +55,20 @@ fn play(rt: &impl Abort, alloc: Global, row: &Row) -> Result<(), Fail> {
     Ok(())
 }
 
+/// Whole Gerber files, and pictures of their layers.
+#[test]
+fn files(rt: HostRuntime) -> Result<(), Fail> {
+    for table in [STROKES, REGIONS, BLOCKS, TEMPLATES, UNITS, UNREADABLE] {
+        for row in table {
+            play(&rt, rt.alloc(), row)?;
+        }
+    }
+    Ok(())
+}
+
 #[test]
 fn tables(rt: HostRuntime) -> Result<(), Fail> {
-    for table in [DRILLS, HISTORIES, LIMITS, PLOTS, REFUSALS] {
+    for table in [DRILLS, HISTORIES, LIMITS, PLOTS, REFUSALS, TEXTS] {
         for row in table {
             play(&rt, rt.alloc(), row)?;
         }

@@ -111,6 +111,23 @@ fn files_that_fail(rt: HostRuntime) -> Result<(), Fail> {
     Ok(())
 }
 
+/// The second put fails, and the text that is written again is told.
+#[test]
+fn a_text_that_fails(rt: HostRuntime) -> Result<(), Fail> {
+    let mut files = MemoryFiles::failing(rt.alloc(), 0, 2);
+    files.put("a.gbr", EMPTY)?;
+    let mut out = MemoryOut::failing(rt.alloc(), 0);
+    let script = b"load top gerber a.gbr\nwrite top x\nwrite top y\nlist\n";
+    let refused = run(rt.alloc(), 100, script, &mut files, &mut out)?;
+    assert_eq!(rt;
+        out.said.as_slice(),
+        b"ok 0\nrefused 82\nok 37\nok 1 0 0\n".as_slice()
+    );
+    assert!(rt; refused == 1 && files.failures() == 1);
+    assert!(rt; files.held.get("x").is_none() && files.held.get("y").is_some());
+    Ok(())
+}
+
 /// Nothing more is said, or counted, after the say that failed.
 #[test]
 fn an_output_that_fails(rt: HostRuntime) -> Result<(), Fail> {

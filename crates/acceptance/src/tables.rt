@@ -1,11 +1,18 @@
 //! Tables of whole scripts.
 
+pub mod blocks;
 pub mod boards;
 pub mod drills;
 pub mod histories;
 pub mod limits;
 pub mod plots;
 pub mod refusals;
+pub mod regions;
+pub mod strokes;
+pub mod templates;
+pub mod texts;
+pub mod units;
+pub mod unreadable;
 
 /// A path, and the bytes that it holds.
 pub type File = (&'static str, &'static [u8]);
@@ -27,3 +34,9 @@ pub struct Row {
     /// The files that it leaves beside those that it found; it leaves no other.
     pub written: &'static [File],
 }
+
+/// The picture of one pixel that is black.
+pub const BLACK: &[u8] = b"P4\n1 1\n\x80";
+
+/// The picture of one pixel that is white.
+pub const WHITE: &[u8] = b"P4\n1 1\n\x00";

@@ -1,93 +1,48 @@
-//! Gerber files, and what they give (Gerber Layer Format Specification).
+//! Gerber files: the layers that they give, and their faults (Gerber Layer Format Specification).
 
+ghost use Rattle.cam_objects.specs.Soundness.{IsSound};
+
+mod blocks;
+mod contours;
+mod faults;
+mod given;
+mod layers;
+mod limits;
+mod long;
+mod operations;
+mod refusals;
+mod repeats;
+mod several;
+mod sizes;
+
+use crate::places::{At, place};
 use crate::text::{Pieces, text_of};
-use cam_apertures::Aperture;
 use cam_gerber::{ReadFault, read_gerber};
-use cam_objects::{Dictionary, Entry};
-use cam_units::Nm;
+use cam_objects::Layer;
+use faults::FAULTS;
+use layers::LAYERS;
+use limits::LIMITS;
+use long::LONG_FILES;
+use refusals::REFUSALS;
+use several::SEVERAL;
+use sizes::SIZES;
 use std::alloc::Global;
 use std::test::Fail;
 
-/// A file that is a layer: its text, how many apertures and how many flashes it has, and the diameter of its
-/// aperture 10 in nm.
-type Layer = (&'static [u8], usize, usize, Option<i64>);
-
-const LAYERS: &[Layer] = &[
-    (b"M02*", 0, 0, None),
-    (
-        b"%FSLAX36Y36*%\n%MOMM*%\n%ADD10C,1*%\nD10*\nX0Y0D03*\nM02*\n",
-        1,
-        1,
-        Some(1_000_000),
-    ),
-    (
-        b"%FSLAX26Y26*%%MOIN*%%ADD10C,0.1*%D10*X1Y2D03*X3Y0D03*M02*",
-        1,
-        2,
-        Some(2_540_000),
-    ),
-    // settings again, numbers at their limits, code numbers by value, and what stands behind the end
-    (
-        b"%FSLAX66Y66*%%MOMM*%%FSLAX66Y66*%%MOMM*%%ADD2147483647C,200*%%ADD10C,0*%\
-D2147483647*X999999999Y-999999999D3*Y+0D03*D010*X-1D03*M02*%ADD10",
-        2,
-        3,
-        Some(0),
-    ),
-];
+/// A file that is a layer: its text, how many entries and items it has, and places in half nm that are black and white.
+struct File {
+    text: &'static [u8],
+    entries: usize,
+    items: usize,
+    black: &'static [At],
+    white: &'static [At],
+}
 
 /// A file that is none: its text, and the number and the place of its fault.
-const FAULTS: &[(&[u8], u8, usize)] = &[
-    (b"%MOMM*%\nX0\x01Y0D03*\nM02*\n", 1, 8),
-    (b"%MOMM*%\nX0Y0D03", 2, 8),
-    (b"%FSLAX36Y36*%%MOMM*%%ADD10C,1*%D10*Y0X0D03*M02*", 3, 35),
-    (b"%FSLAX36Y36*%%MOMM*%%ADX10C,1*%M02*", 3, 20),
-    (b"%MOMM*%X*M02*", 3, 7),
-    // several commands between two %
-    (b"%FSLAX36Y36*MOMM*%M02*", 3, 0),
-    (b"%MOMM*FSLAX36Y36*%M02*", 3, 0),
-    (b"%FSLAX36Y36*%%MOMM*%%ADD9C,1*%M02*", 4, 20),
-    (b"%FSLAX36Y36*%%MOMM*%%ADD2147483648C,1*%M02*", 4, 20),
-    (b"%FSLAX36Y36*%%MOMM*%%ADD10C,1.5.5*%M02*", 4, 20),
-    (b"%FSLAX36Y36*%%MOMM*%%ADD10C,1000000*%M02*", 4, 20),
-    (
-        b"%FSLAX36Y36*%%MOMM*%%ADD10C,1*%D10*X1234567890123456D03*M02*",
-        4,
-        35,
-    ),
-    (
-        b"%FSLAX36Y36*%%MOMM*%%ADD10C,1*%D10*X0Y1234567890123456D03*M02*",
-        4,
-        35,
-    ),
-    (b"%MOMM*%D2147483648*M02*", 4, 7),
-    (b"%MOMM*%%ADD10C,1*%D10*X0Y0D03*M02*", 5, 22),
-    (b"%FSLAX36Y36*%%ADD10C,1*%M02*", 6, 13),
-    (b"%FSLAX36Y36*%X0Y0D03*M02*", 6, 13),
-    (b"%FSLAX36Y36*%%MOMM*%%MOIN*%M02*", 7, 20),
-    (b"%FSLAX36Y36*%%MOMM*%%FSLAX46Y46*%M02*", 7, 20),
-    (b"%FSLAX37Y37*%M02*", 8, 0),
-    (b"%FSLAX36Y35*%M02*", 8, 0),
-    (b"%FSTAX36Y36*%M02*", 8, 0),
-    (b"%MOCM*%M02*", 8, 0),
-    (b"%FSLAX36Y36*%%MOMM*%D10*M02*", 9, 20),
-    (b"%FSLAX36Y36*%%MOMM*%%ADD10C,1*%%ADD10C,1*%M02*", 10, 31),
-    (b"%FSLAX36Y36*%%MOMM*%%ADD10C,1*%X0Y0D03*M02*", 15, 31),
-    (
-        b"%FSLAX36Y36*%%MOMM*%%ADD10C,1*%D10*X1000000000Y0D03*M02*",
-        23,
-        35,
-    ),
-    (
-        b"%FSLAX36Y36*%%MOMM*%%ADD10C,1*%D10*X0D03*Y-1000000000D03*M02*",
-        23,
-        41,
-    ),
-    (b"%FSLAX36Y36*%%MOMM*%%ADD10C,200.000001*%M02*", 24, 20),
-    (b"%FSLAX36Y36*%%MOMM*%%ADD10C,-1*%M02*", 24, 20),
-    (b"", 26, 0),
-    (b"%FSLAX36Y36*%\n%MOMM*%\n", 26, 22),
-];
+pub type Refused = (&'static [u8], u8, usize);
+
+/// A file that is read, one that is refused, and the number and the place of its fault.
+pub type Limit = (&'static [u8], &'static [u8], u8, usize);
 
 /// A file of one flash more than a layer has.
 const FULL: Pieces = &[
@@ -96,36 +51,43 @@ const FULL: Pieces = &[
     (b"M02*", 1),
 ];
 
-/// The diameter in nm of the circle of a number.
-fn diameter_of(apertures: &Dictionary, number: u32) -> Option<Nm> {
-    match apertures.find(number) {
-        Some((_, Entry::Aperture(Aperture::Circle { diameter, .. }))) => Some(*diameter),
-        _ => None,
+/// Whether the places are all black, or all white.
+fn are(layer: &Layer, places: &[At], black: bool) -> bool
+    requires { IsSound layer.now }
+{
+    for at in places {
+        let Some(spot) = place(*at) else {
+            return false;
+        };
+        if layer.black_at(spot) != black {
+            return false;
+        }
     }
+    true
 }
 
-/// Whether the file is a layer of so many apertures and flashes, and its aperture 10 of this diameter.
-fn is_layer(alloc: Global, row: &Layer) -> bool {
-    let &(text, apertures, flashes, diameter) = row;
-    match read_gerber(alloc, text) {
+/// Whether the file is a layer of so many entries and items that shows these places.
+fn is_layer(alloc: Global, file: &File) -> bool {
+    match read_gerber(alloc, file.text) {
         Ok(layer) => {
-            layer.entries().len() == apertures
-                && layer.items().len() == flashes
-                && diameter_of(layer.entries(), 10) == diameter.map(Nm)
+            layer.entries().len() == file.entries
+                && layer.items().len() == file.items
+                && are(&layer, file.black, true)
+                && are(&layer, file.white, false)
         }
         Err(_) => false,
     }
 }
 
 #[test]
-fn layers(rt: HostRuntime) {
-    for row in LAYERS {
-        assert!(rt; is_layer(rt.alloc(), row), "{:?}", row.0);
+fn layers_that_are_read(rt: HostRuntime) {
+    for file in LAYERS {
+        assert!(rt; is_layer(rt.alloc(), file), "{:?}", file.text);
     }
 }
 
 #[test]
-fn faults(rt: HostRuntime) {
+fn faults_that_are_told(rt: HostRuntime) {
     for &(text, code, at) in FAULTS {
         let fault = read_gerber(rt.alloc(), text).err();
         assert!(rt; fault == Some(ReadFault { code, at }), "{text:?}");
@@ -142,5 +104,47 @@ fn a_flash_too_many(rt: HostRuntime) -> Result<(), Fail> {
         at: 6_000_035,
     };
     assert!(rt; fault == Some(wanted), "{fault:?}");
+    Ok(())
+}
+
+#[test]
+fn refusals_of_files(rt: HostRuntime) {
+    for table in [REFUSALS, SEVERAL] {
+        for &(text, code, at) in table {
+            let fault = read_gerber(rt.alloc(), text).err();
+            assert!(rt; fault == Some(ReadFault { code, at }), "{text:?} {fault:?}");
+        }
+    }
+}
+
+/// Whether the first file of a row is read and the second refused.
+fn is_limit(alloc: Global, row: &Limit) -> bool {
+    let &(accepted, refused, code, at) = row;
+    read_gerber(alloc, accepted).is_ok()
+        && read_gerber(alloc, refused).err() == Some(ReadFault { code, at })
+}
+
+#[test]
+fn limits_of_files(rt: HostRuntime) {
+    for row in LIMITS {
+        assert!(rt; is_limit(rt.alloc(), row), "{row:?}");
+    }
+}
+
+#[test]
+fn sizes_in_files(rt: HostRuntime) {
+    for row in SIZES {
+        assert!(rt; is_limit(rt.alloc(), row), "{row:?}");
+    }
+}
+
+#[test]
+fn long_gerber_files(rt: HostRuntime) -> Result<(), Fail> {
+    for &(pieces, wanted) in LONG_FILES {
+        let text = text_of(rt.alloc(), pieces)?;
+        let fault = read_gerber(rt.alloc(), &text).err();
+        let wanted = wanted.map(|(code, at)| ReadFault { code, at });
+        assert!(rt; fault == wanted, "{pieces:?} {fault:?}");
+    }
     Ok(())
 }

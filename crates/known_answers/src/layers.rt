@@ -5,14 +5,14 @@ ghost use Rattle.cam_objects.specs.Soundness.{IsSound};
 
 mod blocks;
 mod boxes;
-mod building;
+pub(crate) mod building;
 mod dictionaries;
 mod forms;
 mod limits;
 mod reaches;
 mod regions;
 mod repeats;
-mod rows;
+pub(crate) mod rows;
 mod strokes;
 
 use crate::places::{At, box_of, place};

@@ -9,13 +9,13 @@
 #[cfg(test)]
 mod apertures;
 #[cfg(test)]
-mod boards;
-#[cfg(test)]
 mod commands;
 #[cfg(test)]
 mod drills;
 #[cfg(test)]
 mod gerber;
+#[cfg(test)]
+mod history;
 #[cfg(test)]
 mod layers;
 #[cfg(test)]

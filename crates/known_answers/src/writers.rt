@@ -1,7 +1,12 @@
-//! Drill files, and the canonical texts of what they give (XNC Format Specification).
+//! Gerber files and drill files, and the canonical texts of what they give (Gerber Layer Format Specification, XNC
+//! Format Specification).
 
-use cam_writers::xnc_text;
+mod layers;
+
+use cam_gerber::read_gerber;
+use cam_writers::{gerber_text, xnc_text};
 use cam_xnc::read_xnc;
+use layers::LAYERS;
 use std::alloc::Global;
 
 /// A drill file, and the canonical text of its layer.
@@ -36,8 +41,8 @@ X999.999999Y-999.999999\nG00X999.999999Y0.000000\nM15\nM16\nM30\n",
     ),
 ];
 
-/// Whether the file is read, and this text is written of its layer.
-fn is_written(alloc: Global, file: &[u8], text: &[u8]) -> bool {
+/// Whether the drill file is read, and this text is written of its layer.
+fn are_drills_written(alloc: Global, file: &[u8], text: &[u8]) -> bool {
     let Ok(layer) = read_xnc(alloc, file) else {
         return false;
     };
@@ -47,10 +52,29 @@ fn is_written(alloc: Global, file: &[u8], text: &[u8]) -> bool {
     }
 }
 
+/// Whether the Gerber file is read, and this text is written of its layer.
+fn is_layer_written(alloc: Global, file: &[u8], text: &[u8]) -> bool {
+    let Ok(layer) = read_gerber(alloc, file) else {
+        return false;
+    };
+    match gerber_text(alloc, &layer) {
+        Ok(written) => written.as_slice() == text,
+        Err(_) => false,
+    }
+}
+
 #[test]
-fn canonical_texts(rt: HostRuntime) {
+fn gerber_texts(rt: HostRuntime) {
+    for &(file, text) in LAYERS {
+        assert!(rt; is_layer_written(rt.alloc(), file, text), "{file:?}");
+        assert!(rt; is_layer_written(rt.alloc(), text, text), "{text:?}");
+    }
+}
+
+#[test]
+fn drill_texts(rt: HostRuntime) {
     for &(file, text) in DRILLS {
-        assert!(rt; is_written(rt.alloc(), file, text), "{file:?}");
-        assert!(rt; is_written(rt.alloc(), text, text), "{text:?}");
+        assert!(rt; are_drills_written(rt.alloc(), file, text), "{file:?}");
+        assert!(rt; are_drills_written(rt.alloc(), text, text), "{text:?}");
     }
 }

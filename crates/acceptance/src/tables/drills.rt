@@ -1,13 +1,7 @@
 //! Drill layers.
 
-use crate::tables::Row;
 use crate::tables::boards::{DISC, HOLE_AND_SLOT};
-
-/// The picture of one pixel that is black.
-const BLACK: &[u8] = b"P4\n1 1\n\x80";
-
-/// The picture of one pixel that is white.
-const WHITE: &[u8] = b"P4\n1 1\n\x00";
+use crate::tables::{BLACK, Row, WHITE};
 
 /// Drill layers that are plotted and edited.
 pub const DRILLS: &[Row] = &[

@@ -52,6 +52,16 @@ fn region(start: At, segs: Vec<Seg>, dark: bool) -> Object {
     Object::Region { contour, dark }
 }
 
+fn draw(aperture: u32, from: At, to: At, turn: Turn, dark: bool) -> Object {
+    Object::Draw {
+        aperture,
+        from: point(from),
+        to: point(to),
+        turn,
+        dark,
+    }
+}
+
 fn object(alloc: Global, drawn: &Drawn) -> Result<Object, AllocError> {
     match *drawn {
         Drawn::Flash(aperture, at, turn, dark) => Ok(Object::Flash {
@@ -61,13 +71,10 @@ fn object(alloc: Global, drawn: &Drawn) -> Result<Object, AllocError> {
             dark,
         }),
         // a turn that changes no place of it
-        Drawn::Draw(aperture, from, to, dark) => Ok(Object::Draw {
-            aperture,
-            from: point(from),
-            to: point(to),
-            turn: Turn::M90,
-            dark,
-        }),
+        Drawn::Draw(aperture, from, to, dark) => Ok(draw(aperture, from, to, Turn::M90, dark)),
+        Drawn::TurnedDraw(aperture, from, to, turn, dark) => {
+            Ok(draw(aperture, from, to, turn, dark))
+        }
         Drawn::Arc(aperture, from, to, centre, ccw, dark) => Ok(Object::Arc {
             aperture,
             from: point(from),

@@ -16,6 +16,8 @@ pub enum Drawn {
     Flash(u32, At, Turn, bool),
     /// Number and ends.
     Draw(u32, At, At, bool),
+    /// Number, ends and turn, which changes no place of a draw.
+    TurnedDraw(u32, At, At, Turn, bool),
     /// Number, ends, centre, and whether it goes counterclockwise.
     Arc(u32, At, At, At, bool, bool),
     /// Start and segments.

@@ -1,0 +1,73 @@
+//! Gerber files, and all that their layers hold.
+
+use crate::gerber::blocks::BLOCKS;
+use crate::gerber::contours::CONTOURS;
+use crate::gerber::operations::OPERATIONS;
+use crate::gerber::repeats::REPEATS;
+use crate::layers::building::{entry, item};
+use crate::layers::rows::{Entered, Entries, Listed};
+use cam_gerber::read_gerber;
+use cam_objects::{Dictionary, Item, Layer};
+use std::alloc::{AllocError, Global};
+use std::test::Fail;
+
+/// A file, and the layer that it gives: its entries and its items, each in order.
+pub type Given = (&'static [u8], Entries, &'static [Listed]);
+
+/// Whether the place of the dictionary has this entry under this number. Entries have no equality, so their texts are
+/// compared.
+fn is_entry(
+    alloc: Global,
+    entries: &Dictionary,
+    place: usize,
+    number: u32,
+    entered: &Entered,
+) -> Result<bool, AllocError> {
+    let wanted = entry(alloc, entered)?;
+    match entries.at(place) {
+        Some((found, entry)) => Ok(
+            found == number && format!(in alloc; "{entry:?}")? == format!(in alloc; "{wanted:?}")?,
+        ),
+        None => Ok(false),
+    }
+}
+
+/// Whether the item is the listed one, by their texts.
+fn is_item(alloc: Global, found: &Item, listed: &Listed) -> Result<bool, AllocError> {
+    let wanted = item(alloc, listed)?;
+    Ok(format!(in alloc; "{found:?}")? == format!(in alloc; "{wanted:?}")?)
+}
+
+/// Whether the layer has these entries and items, and no other.
+fn is_given(
+    alloc: Global,
+    layer: &Layer,
+    entries: Entries,
+    items: &[Listed],
+) -> Result<bool, AllocError> {
+    for (place, (number, entered)) in entries.iter().enumerate() {
+        if !is_entry(alloc, layer.entries(), place, *number, entered)? {
+            return Ok(false);
+        }
+    }
+    for (found, listed) in layer.items().iter().zip(items) {
+        if !is_item(alloc, found, listed)? {
+            return Ok(false);
+        }
+    }
+    Ok(layer.entries().len() == entries.len() && layer.items().len() == items.len())
+}
+
+#[test]
+fn layers_of_files(rt: HostRuntime) -> Result<(), Fail> {
+    for table in [OPERATIONS, CONTOURS, BLOCKS, REPEATS] {
+        for &(text, entries, items) in table {
+            let is_right = match read_gerber(rt.alloc(), text) {
+                Ok(layer) => is_given(rt.alloc(), &layer, entries, items)?,
+                Err(_) => false,
+            };
+            assert!(rt; is_right, "{text:?}");
+        }
+    }
+    Ok(())
+}
