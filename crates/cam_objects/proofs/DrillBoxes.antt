@@ -61,7 +61,7 @@ slots_box d z here (p ∷ ps) size h board all held =
     ∙ slots_box d next p ps size (within_join inner z (box_of_point p) h (board_point p to)) to (All-tail IsOnBoard p ps all)
     (join_assoc z (box_of_point p) (box_of_point p) ∙ ap (join_of z) (join_self (box_of_point p)))
 
-points_within : (ps : List Point) → All IsOnBoard ps → IsBoxWithin inner (box_of_all box_of_point ps)
+pub points_within : (ps : List Point) → All IsOnBoard ps → IsBoxWithin inner (box_of_all box_of_point ps)
 points_within ps h = within_all inner box_of_point ps (λ k e below. board_point _ (h k e below))
 
 pub points_near : (ps : List Point) → All IsOnBoard ps → IsNearBox (box_of_all box_of_point ps)

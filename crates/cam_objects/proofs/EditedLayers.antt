@@ -1,16 +1,21 @@
 -- layers stay sound as they are edited
-use Rattle.std.proofs.Common.{◌≡◌, ℕ, suc, ◌+◌, ◌≤◌, List, [], ◌∷◌, ◌++◌, length, map, sum_by, refl, sym, ap, subst, ◌∙◌, arith}
-use Rattle.std.specs.List.{All}
+use Rattle.std.proofs.Common.{◌≡◌, ℕ, suc, ◌+◌, ◌≤◌, nat_eq, Bool, true, false, cond, List, [], ◌∷◌, ◌++◌, length, map, sum_by, Some, IsSome, refl, sym, ap, subst, ◌∙◌, arith}
+use Rattle.std.specs.Cmp.{nat_eq_equiv}
+use Rattle.std.specs.List.{All, IsDistinct}
+use Rattle.std.specs.Map.{set_value}
+use Rattle.std.proofs.lemmas.Bool.{eqb-true}
 use Rattle.std.proofs.lemmas.List.{length-append, length-map}
-use Rattle.std.proofs.lemmas.List.Elements.{All-append, All-cons, All-head, All-nil, All-tail}
+use Rattle.std.proofs.lemmas.List.Elements.{All-append, All-cons, All-head, All-nil, All-tail, All-weaker}
 use Rattle.std.proofs.lemmas.List.Sums.{sum_by-append, sum_by-cons}
+use Rattle.std.proofs.lemmas.Map.{keys-set_value, lookup-set_value}
 use Rattle.cam_units.specs.declared.length.Nm.{Nm}
 use Rattle.cam_units.specs.declared.point.Point.{Point}
 use Rattle.cam_shapes.specs.Shifting.{shifted_point}
 use Rattle.cam_objects.specs.declared.drill_item.DrillItem.{DrillItem}
 use Rattle.cam_objects.specs.declared.drill_item.DrillItem.TheVariants.{Hit, Rout}
 use Rattle.cam_objects.specs.declared.item_fault.ItemFault.TheVariants.{Malformed, UnknownAperture, UnknownTool, WrongAperture, ZeroRadius, OutOfBoard, TooMuch}
-use Rattle.cam_objects.specs.DrillSoundness.{IsSoundDrillItem, MeetsDrillItem, drill_count_from, drill_count_of}
+use Rattle.cam_objects.specs.Drilling.{diameter_of}
+use Rattle.cam_objects.specs.DrillSoundness.{IsSoundDrillItem, IsSoundTool, MeetsDrillItem, drill_count_from, drill_count_of, tool_of}
 use Rattle.cam_objects.specs.LayerLaws.{DrillEditLaw, LayerEditLaw}
 use Rattle.cam_objects.specs.Shifting.{shifted_drill_item, shifted_item}
 use Rattle.cam_objects.specs.Soundness.{IsSoundItem}
@@ -28,6 +33,9 @@ module _ {X : Type 0} (P : X → Type 0) (before after : List X) where
   all_without : (x : X) → All P (before ++ x ∷ after) → All P (before ++ after)
   all_without x all = All-append P before after (All_left P before (x ∷ after) all) (All-tail P x after (All_right P before (x ∷ after) all))
 
+  all_other : (x y : X) → P y → All P (before ++ x ∷ after) → All P (before ++ y ∷ after)
+  all_other x y here all = all_with y here (all_without x all)
+
   all_at : (x : X) → All P (before ++ x ∷ after) → P x
   all_at x all = All-head P x after (All_right P before (x ∷ after) all)
 
@@ -43,6 +51,26 @@ module _ {X : Type 0} (f : X → ℕ) (before after : List X) (x : X) where
 
   length_behind : length ((before ++ after) ++ x ∷ []) ≡ 1 + length (before ++ after)
   length_behind = omega (arith, length-append (before ++ after) (x ∷ []))
+
+-- the same elements beside it, and it in another place
+module _ {X : Type 0} (before after before' after' : List X) (x : X) (same : before' ++ after' ≡ before ++ after) where
+  all_elsewhere : (P : X → Type 0) → All P (before ++ x ∷ after) → All P (before' ++ x ∷ after')
+  all_elsewhere P all =
+      all_with P before' after' x (all_at P before after x all) (subst (All P) (sym same) (all_without P before after x all))
+
+  sum_elsewhere : (f : X → ℕ) → sum_by f (before' ++ x ∷ after') ≡ sum_by f (before ++ x ∷ after)
+  sum_elsewhere f = sum_at f before' after' x ∙ ap (λ rest. f x + sum_by f rest) same ∙ sym (sum_at f before after x)
+
+  length_elsewhere : length (before' ++ x ∷ after') ≡ length (before ++ x ∷ after)
+  length_elsewhere =
+      omega (
+        arith,
+        ap length same,
+        length-append before' (x ∷ after'),
+        length-append before (x ∷ after),
+        length-append before' after',
+        length-append before after,
+      )
 
 -- ---- layers
 
@@ -82,6 +110,20 @@ layer_edits = record {
               (sum_at w before after item ∙ ap (λ k. k + sum_by w (before ++ after)) (sym (item_count_kept by (weight_in es) item)) ∙ sym (sum_at w before after there)) h.limits.leaves;
         };
       };
+  replace = λ es before after item new h good room. record {
+    entries = h.entries;
+    items = all_other (IsSoundItem es) before after item new good h.items;
+    limits = room;
+  };
+  reorder = λ es before after before' after' item h same.
+      let w = item_count (weight_in es) in record {
+        entries = h.entries;
+        items = all_elsewhere before after before' after' item same (IsSoundItem es) h.items;
+        limits = record {
+          few = subst (λ k. k ≤ 1000000) (sym (length_elsewhere before after before' after' item same)) h.limits.few;
+          leaves = subst (λ k. k ≤ 4000000) (sym (sum_elsewhere before after before' after' item same w)) h.limits.leaves;
+        };
+      };
 }
 
 -- ---- drill layers
@@ -111,6 +153,42 @@ drill_kept ts by (Rout tool points) h inside WrongAperture = tt
 drill_kept ts by (Rout tool points) h inside ZeroRadius = tt
 drill_kept ts by (Rout tool points) h inside OutOfBoard = inside
 drill_kept ts by (Rout tool points) h inside TooMuch = subst (λ k. k ≤ 1000000) (sym (length-map points (shifted_point by))) (h TooMuch)
+
+-- another diameter of a tool takes no tool away
+known_kept : (ts : List (ℕ × Nm)) (t n : ℕ) (d : Nm) → IsSome (diameter_of ts t) → IsSome (diameter_of ts n)
+    → IsSome (diameter_of (set_value (nat_eq t) ts d) n)
+known_kept ts t n d there known =
+    subst IsSome (sym (lookup-set_value nat_eq_equiv (nat_eq t) same_number n d ts there)) (by (nat_eq t n))
+  where
+    same_number : (x y : ℕ) → nat_eq t x ≡ true → nat_eq t y ≡ nat_eq x y
+    same_number x y e = ap (λ m. nat_eq m y) (eqb-true t x e)
+
+    by : (b : Bool) → IsSome (cond b (Some d) (diameter_of ts n))
+    by true = refl
+    by false = known
+
+item_kept : (ts : List (ℕ × Nm)) (t : ℕ) (d : Nm) (item : DrillItem) → IsSome (diameter_of ts t) → IsSoundDrillItem ts item
+    → IsSoundDrillItem (set_value (nat_eq t) ts d) item
+item_kept ts t d item there h Malformed = h Malformed
+item_kept ts t d item there h UnknownAperture = tt
+item_kept ts t d item there h UnknownTool = known_kept ts t (tool_of item) d there (h UnknownTool)
+item_kept ts t d item there h WrongAperture = tt
+item_kept ts t d item there h ZeroRadius = tt
+item_kept ts t d item there h OutOfBoard = h OutOfBoard
+item_kept ts t d item there h TooMuch = h TooMuch
+
+abbrev IsTool : ℕ × Nm → Type 0
+IsTool e = IsSoundTool e.0 e.1
+
+tools_kept : (ts : List (ℕ × Nm)) (t : ℕ) (d : Nm) → IsSoundTool t d → All IsTool ts → All IsTool (set_value (nat_eq t) ts d)
+tools_kept [] t d good h = h
+tools_kept (e ∷ ts) t d good h =
+    by (nat_eq t e.0) refl (All-tail IsTool e ts h) (tools_kept ts t d good (All-tail IsTool e ts h))
+  where
+    by : (b : Bool) → nat_eq t e.0 ≡ b → All IsTool ts → All IsTool (set_value (nat_eq t) ts d)
+        → All IsTool (cond b ((e.0, d) ∷ ts) (e ∷ set_value (nat_eq t) ts d))
+    by true same rest kept = All-cons IsTool (e.0, d) ts (subst (λ n. IsSoundTool n d) (eqb-true t e.0 same) good) rest
+    by false same rest kept = All-cons IsTool e (set_value (nat_eq t) ts d) (All-head IsTool e ts h) kept
 
 pub drill_edits : DrillEditLaw
 drill_edits = record {
@@ -144,4 +222,26 @@ drill_edits = record {
               (sum_at drill_count_of before after item ∙ ap (λ k. k + sum_by drill_count_of (before ++ after)) (sym (drill_count_kept by item)) ∙ sym (sum_at drill_count_of before after there)) h.limits.leaves;
         };
       };
+  replace = λ ts before after item new h good room. record {
+    tools = h.tools;
+    distinct = h.distinct;
+    items = all_other (IsSoundDrillItem ts) before after item new good h.items;
+    limits = room;
+  };
+  reorder = λ ts before after before' after' item h same. record {
+    tools = h.tools;
+    distinct = h.distinct;
+    items = all_elsewhere before after before' after' item same (IsSoundDrillItem ts) h.items;
+    limits = record {
+      few = subst (λ k. k ≤ 1000000) (sym (length_elsewhere before after before' after' item same)) h.limits.few;
+      leaves = subst (λ k. k ≤ 4000000) (sym (sum_elsewhere before after before' after' item same drill_count_of)) h.limits.leaves;
+    };
+  };
+  diameter = λ ts items t d h there good. record {
+    tools = tools_kept ts t d good h.tools;
+    distinct = subst (IsDistinct nat_eq) (sym (keys-set_value (nat_eq t) ts d)) h.distinct;
+    items = All-weaker (IsSoundDrillItem ts) (IsSoundDrillItem (set_value (nat_eq t) ts d))
+        (λ item sound. item_kept ts t d item there sound) items h.items;
+    limits = h.limits;
+  };
 }

@@ -8,6 +8,7 @@ pub mod DrillInking
 pub mod SoundTools
 pub mod SoundDrilling
 pub mod TestLaws
+pub mod DemandLaws
 pub mod KeptFacts
 pub mod PlacedJoins
 pub mod PlacedShapes
@@ -30,5 +31,6 @@ pub mod MovedBoxes
 pub mod Tracing
 pub mod ItemBounds
 pub mod DrillBoxes
+pub mod MovedBounds
 pub mod CoveredBoxes
 pub mod Redraws

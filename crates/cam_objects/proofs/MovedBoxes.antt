@@ -39,18 +39,18 @@ abbrev standing : Object → Bounds
 standing o = box_of_all box_of_point (points_of o)
 
 -- many boxes that are moved
-joins_moved : {X : Type 0} (by : Point) (f : X → Bounds) (z : Bounds) (xs : List X)
+pub joins_moved : {X : Type 0} (by : Point) (f : X → Bounds) (z : Bounds) (xs : List X)
     → fold (λ all x. join_of all (moved by (f x))) (moved by z) xs ≡ moved by (fold (λ all x. join_of all (f x)) z xs)
 joins_moved by f z [] = refl
 joins_moved by f z (x ∷ xs) =
     ap (λ first. fold (λ all x. join_of all (moved by (f x))) first xs) (sym (join_moved by z (f x))) ∙ joins_moved by f (join_of z (f x)) xs
 
-fold_over_map : {X Y : Type 0} (g : Bounds → Y → Bounds) (h : X → Y) (z : Bounds) (xs : List X)
+pub fold_over_map : {X Y : Type 0} (g : Bounds → Y → Bounds) (h : X → Y) (z : Bounds) (xs : List X)
     → fold g z (map h xs) ≡ fold (λ all x. g all (h x)) z xs
 fold_over_map g h z [] = refl
 fold_over_map g h z (x ∷ xs) = fold_over_map g h (g z (h x)) xs
 
-unturned : (b : Bounds) → turned_box R0 b ≡ b
+pub unturned : (b : Bounds) → turned_box R0 b ≡ b
 unturned Empty = refl
 unturned (Closed low high) = refl
 
@@ -125,7 +125,7 @@ module _ (by : Point) where
   segs_there (Curve to centre ccw ∷ segs) = λ i. Curve (point_there to i) (point_there centre i) (placed_direction R0 ccw) ∷ segs_there segs i
 
   module _ (means : ℕ → Meaning) where
-    object_there : (o : Object) → object_leaves means origin (shifted_object by o) ≡ object_leaves means (shifted by.x by.y) o
+    pub object_there : (o : Object) → object_leaves means origin (shifted_object by o) ≡ object_leaves means (shifted by.x by.y) o
     object_there (Flash n at t dark) =
         λ i. (means n).flash (record { turn = (flashed origin at t dark).turn; offset = point_there at i; dark = polarity_in true dark })
     object_there (Draw n from to t dark) = λ i. draw_leaves (means n).width (point_there from i) (point_there to i) (polarity_in true dark)
@@ -134,7 +134,7 @@ module _ (by : Point) where
     object_there (Region c dark) =
         λ i. leaf (Filled (record { start = point_there c.start i; segs = segs_there c.segs i })) (polarity_in true dark) ∷ []
 
-    block_there : (objects : List Object) → block_leaves means origin (map (shifted_object by) objects) ≡ block_leaves means (shifted by.x by.y) objects
+    pub block_there : (objects : List Object) → block_leaves means origin (map (shifted_object by) objects) ≡ block_leaves means (shifted by.x by.y) objects
     block_there [] = refl
     block_there (o ∷ objects) = λ i. object_there o i ++ block_there objects i
 

@@ -97,14 +97,14 @@ points_so = record {
 
 -- ---- what is covered
 
-about_moved : (o c : Point) (h : ℤ) → box_about (place_of (record { x = c.x +ℤ o.x; y = c.y +ℤ o.y })) h h ≡ moved o (box_about (place_of c) h h)
+pub about_moved : (o c : Point) (h : ℤ) → box_about (place_of (record { x = c.x +ℤ o.x; y = c.y +ℤ o.y })) h h ≡ moved o (box_about (place_of c) h h)
 about_moved o c h = same_box _ _ _ _ _ _ _ _ (omega (arith, ints)) (omega (arith, ints)) (omega (arith, ints)) (omega (arith, ints))
 
 about_placed : (p : Place) (c : Point) (h : ℤ) → box_about (place_of (placed p c)) h h ≡ placed_bounds p (box_about (place_of c) h h)
 about_placed p c h =
     about_moved p.offset (applied (matrix_of p.turn) c) h ∙ ap (moved p.offset) (square_turned p.turn c (record { 0 = h }))
 
-widened_moved : (w : ℤ) (o : Point) (b : Bounds) → widened w (moved o b) ≡ moved o (widened w b)
+pub widened_moved : (w : ℤ) (o : Point) (b : Bounds) → widened w (moved o b) ≡ moved o (widened w b)
 widened_moved w o Empty = refl
 widened_moved w o (Closed low high) = same_box _ _ _ _ _ _ _ _ (omega (arith, ints)) (omega (arith, ints)) (omega (arith, ints)) (omega (arith, ints))
 

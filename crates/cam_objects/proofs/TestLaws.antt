@@ -106,13 +106,13 @@ test_of_image s ls b told = same_test b (is_black ls s) told (black_law ls s)
 
 -- ---- items
 
-both : {P Q : Type 0} {x y : Bool} → Decides x P → Decides y Q → Decides (x && y) (P × Q)
+pub both : {P Q : Type 0} {x y : Bool} → Decides x P → Decides y Q → Decides (x && y) (P × Q)
 both {P} {Q} {x} {y} d k = Decides-and x y d k
 
-like : {P Q : Type 0} {x : Bool} → (P → Q) → (Q → P) → Decides x P → Decides x Q
+pub like : {P Q : Type 0} {x : Bool} → (P → Q) → (Q → P) → Decides x P → Decides x Q
 like {P} {Q} {x} f g d = Decides-like x f g d
 
-all : {X : Type 0} (p : X → Bool) (P : X → Type 0) → ((x : X) → Decides (p x) (P x)) → (xs : List X) → Decides (list_all p xs) (All P xs)
+pub all : {X : Type 0} (p : X → Bool) (P : X → Type 0) → ((x : X) → Decides (p x) (P x)) → (xs : List X) → Decides (list_all p xs) (All P xs)
 all p P each xs = Decides-by_and p P (list_all p) each refl (λ _ _. refl) xs
 
 pub on_board : (p : Point) → Decides (is_on_board p) (IsOnBoard p)

@@ -35,6 +35,11 @@ abbrev pub rout_leaves_with : Option Nm → List Point → List Leaf
 rout_leaves_with None points = []
 rout_leaves_with (Some diameter) points = rout_leaves diameter points
 
+-- what an item drills or routs with a tool of that diameter, if there is one
+abbrev pub leaves_with : Option Nm → DrillItem → List Leaf
+leaves_with diameter (Hit tool at) = hit_leaves_with diameter at
+leaves_with diameter (Rout tool points) = rout_leaves_with diameter points
+
 module _ (tools : List (ℕ × Nm)) where
   abbrev pub drill_item_leaves : DrillItem → List Leaf
   drill_item_leaves (Hit tool at) = hit_leaves_with (diameter_of tools tool) at

@@ -1,18 +1,21 @@
 -- Layers stay sound as they are edited.
-use Rattle.std.specs.Prelude.{◌≡◌, ℕ, List, [], ◌∷◌, ◌++◌}
+use Rattle.std.specs.Prelude.{◌≡◌, ℕ, nat_eq, List, [], ◌∷◌, ◌++◌, IsSome}
+use Rattle.std.specs.Map.{set_value}
 use Rattle.cam_units.specs.declared.length.Nm.{Nm}
 use Rattle.cam_units.specs.declared.point.Point.{Point}
 use Rattle.cam_objects.specs.declared.drill_item.DrillItem.{DrillItem}
 use Rattle.cam_objects.specs.declared.entry.Entry.{Entry}
 use Rattle.cam_objects.specs.declared.item.Item.{Item}
 use Rattle.cam_objects.specs.declared.item_fault.ItemFault.TheVariants.{OutOfBoard}
-use Rattle.cam_objects.specs.DrillSoundness.{IsSoundDrillContent, IsSoundDrillItem, KeepsDrillLimits, MeetsDrillItem}
+use Rattle.cam_objects.specs.Drilling.{diameter_of}
+use Rattle.cam_objects.specs.DrillSoundness.{IsSoundDrillContent, IsSoundDrillItem, IsSoundTool, KeepsDrillLimits, MeetsDrillItem}
 use Rattle.cam_objects.specs.Leaves.{leaves_of}
 use Rattle.cam_objects.specs.Shifting.{shifted_drill_item, shifted_item}
 use Rattle.cam_objects.specs.Soundness.{IsSoundContent, IsSoundItem, KeepsLimits, MayAddEntry, MeetsItem}
 
 -- with one entry more a layer stays sound and paints what it painted; it stays sound with one sound item more, at any
--- place, where the limits leave room for it, without an item, and with an item moved that stays on the board
+-- place, where the limits leave room for it, without an item, with an item moved that stays on the board, with another
+-- sound item in the place of one, where the limits are kept, and with an item taken to another place
 pub record LayerEditLaw : Type 0 where
   pub add_entry : (es : List (ℕ × Entry)) (items : List Item) (n : ℕ) (entry : Entry) → IsSoundContent es items
       → MayAddEntry es n entry → IsSoundContent (es ++ (n, entry) ∷ []) items
@@ -28,8 +31,14 @@ pub record LayerEditLaw : Type 0 where
   pub move : (es : List (ℕ × Entry)) (before after : List Item) (item : Item) (by : Point)
       → IsSoundContent es (before ++ item ∷ after) → MeetsItem es (shifted_item by item) OutOfBoard
       → IsSoundContent es (before ++ shifted_item by item ∷ after)
+  pub replace : (es : List (ℕ × Entry)) (before after : List Item) (item new : Item)
+      → IsSoundContent es (before ++ item ∷ after) → IsSoundItem es new
+      → KeepsLimits es (before ++ new ∷ after) → IsSoundContent es (before ++ new ∷ after)
+  pub reorder : (es : List (ℕ × Entry)) (before after before' after' : List Item) (item : Item)
+      → IsSoundContent es (before ++ item ∷ after) → before' ++ after' ≡ before ++ after
+      → IsSoundContent es (before' ++ item ∷ after')
 
--- the same of the items of a drill layer
+-- the same of the items of a drill layer, and it stays sound with another diameter of a tool
 pub record DrillEditLaw : Type 0 where
   pub insert : (ts : List (ℕ × Nm)) (before after : List DrillItem) (item : DrillItem)
       → IsSoundDrillContent ts (before ++ after) → IsSoundDrillItem ts item
@@ -39,3 +48,11 @@ pub record DrillEditLaw : Type 0 where
   pub move : (ts : List (ℕ × Nm)) (before after : List DrillItem) (item : DrillItem) (by : Point)
       → IsSoundDrillContent ts (before ++ item ∷ after) → MeetsDrillItem ts (shifted_drill_item by item) OutOfBoard
       → IsSoundDrillContent ts (before ++ shifted_drill_item by item ∷ after)
+  pub replace : (ts : List (ℕ × Nm)) (before after : List DrillItem) (item new : DrillItem)
+      → IsSoundDrillContent ts (before ++ item ∷ after) → IsSoundDrillItem ts new
+      → KeepsDrillLimits (before ++ new ∷ after) → IsSoundDrillContent ts (before ++ new ∷ after)
+  pub reorder : (ts : List (ℕ × Nm)) (before after before' after' : List DrillItem) (item : DrillItem)
+      → IsSoundDrillContent ts (before ++ item ∷ after) → before' ++ after' ≡ before ++ after
+      → IsSoundDrillContent ts (before' ++ item ∷ after')
+  pub diameter : (ts : List (ℕ × Nm)) (items : List DrillItem) (t : ℕ) (d : Nm) → IsSoundDrillContent ts items
+      → IsSome (diameter_of ts t) → IsSoundTool t d → IsSoundDrillContent (set_value (nat_eq t) ts d) items

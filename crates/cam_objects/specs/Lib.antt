@@ -9,6 +9,7 @@ pub mod DrillSoundness
 pub mod Machinery
 pub mod Bounds
 pub mod Tests
+pub mod Demands
 pub mod Contents
 pub mod Shifting
 pub mod BoxLaws

@@ -1,8 +1,8 @@
 //! The checks of a layer: whether an item or an entry may join it.
 
-ghost use Rattle.std.specs.Prelude.{◌++◌, ◌∷◌, ◌↔◌, [], IsTrue};
+ghost use Rattle.std.specs.Prelude.{◌++◌, ◌∷◌, ◌<◌, ◌↔◌, [], IsTrue, length, slice_set};
 ghost use Rattle.cam_objects.specs.Refusals.{Tells};
-ghost use Rattle.cam_objects.specs.Soundness.{IsSoundBlock, IsSoundEntry, KeepsLimits, MayAddEntry, MeetsItem};
+ghost use Rattle.cam_objects.specs.Soundness.{IsSound, IsSoundBlock, IsSoundEntry, KeepsLimits, MayAddEntry, MeetsItem};
 ghost use Rattle.cam_objects.specs.declared.item.Item.TheVariants.{One, Repeat};
 
 use crate::copies::Copies;
@@ -14,7 +14,7 @@ use crate::inside::{is_object_inside, is_repeat_inside};
 use crate::item::Item;
 use crate::item_fault::ItemFault;
 use crate::layer::Layer;
-use crate::limits::{LEAVES, OBJECTS, fits_object, fits_repeat, has_room};
+use crate::limits::{LEAVES, OBJECTS, fits_object, fits_repeat, has_room, has_room_at};
 use crate::object::Object;
 
 impl Layer {
@@ -48,6 +48,16 @@ impl Layer {
         ensures { IsTrue result ↔ KeepsLimits self.now.apertures (self.now.items.items ++ item.now ∷ []) }
     {
         has_room(&self.apertures, &self.items, item)
+    }
+
+    /// Whether the layer keeps its limits with the item in place of the one that stands at a place, counted from 0. Goes
+    /// through all items only where the item has more leaves than that one.
+    pub fn has_room_at(&self, place: usize, item: &Item) -> bool
+        requires sound { IsSound self.now }
+        requires within { place < length self.now.items.items }
+        ensures { IsTrue result ↔ KeepsLimits self.now.apertures (slice_set self.now.items.items place item.now) }
+    {
+        has_room_at(&self.apertures, &self.items, place, item)
     }
 
     /// Whether the entry may be added under the number, from 10 to 2,147,483,647 and new: a sound aperture, or a

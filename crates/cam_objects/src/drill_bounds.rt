@@ -3,10 +3,13 @@
 ghost use Rattle.std.specs.Prelude.{◌≡◌, ◌<◌, All, Some, length, slice_get};
 ghost use Rattle.cam_units.specs.Board.{IsOnBoard, IsSize};
 ghost use Rattle.cam_objects.specs.Bounds.{bounds_of};
-ghost use Rattle.cam_objects.specs.Drilling.{drill_item_leaves, rout_leaves};
-ghost use Rattle.cam_objects.specs.DrillSoundness.{IsSoundDrillItem, IsSoundDrillLayer};
+ghost use Rattle.cam_objects.specs.Drilling.{drill_item_leaves, leaves_with, rout_leaves};
+ghost use Rattle.cam_objects.specs.DrillSoundness.{IsSoundDrillItem, IsSoundDrillLayer, MeetsDrillItem, drill_points_of};
+ghost use Rattle.cam_objects.specs.Shifting.{IsMove, shifted_drill_item};
 ghost use Rattle.cam_objects.specs.declared.drill_item.DrillItem.{DrillItem};
+ghost use Rattle.cam_objects.specs.declared.item_fault.ItemFault.TheVariants.{OutOfBoard};
 
+use crate::bounds::moved;
 use crate::drill_item::DrillItem;
 use crate::drill_layer::DrillLayer;
 use crate::inside::joined_points;
@@ -23,6 +26,23 @@ fn rout_bounds(points: &[Point], diameter: &Nm) -> Bounds
     widened(&joined_points(Bounds::Empty, points), diameter)
 }
 
+impl DrillItem {
+    /// The box of the item with a tool of that diameter: of its points, widened by the radius. Takes no memory.
+    pub fn bounds(&self, diameter: Nm) -> Bounds
+        requires points { All IsOnBoard (drill_points_of self.now) }
+        requires diameter { IsSize diameter.0 }
+        ensures { result ≡ bounds_of (leaves_with (Some diameter) self.now) }
+    {
+        match self {
+            DrillItem::Hit { at, .. } => hole_bounds(&Disc {
+                centre: *at,
+                diameter,
+            }),
+            DrillItem::Rout { points, .. } => rout_bounds(points.as_slice(), &diameter),
+        }
+    }
+}
+
 impl DrillLayer {
     /// The least box that holds the boxes of all holes and slots of a sound item: of its points, widened by the radius
     /// of its tool. Takes no memory.
@@ -31,19 +51,20 @@ impl DrillLayer {
         requires item { IsSoundDrillItem self.now.tools item.now }
         ensures { result ≡ bounds_of (drill_item_leaves self.now.tools item.now) }
     {
-        match item {
-            DrillItem::Hit { tool, at } => match self.tools.get(*tool) {
-                Some(diameter) => hole_bounds(&Disc {
-                    centre: *at,
-                    diameter,
-                }),
-                None => Bounds::Empty,
-            },
-            DrillItem::Rout { tool, points } => match self.tools.get(*tool) {
-                Some(diameter) => rout_bounds(points.as_slice(), &diameter),
-                None => Bounds::Empty,
-            },
+        match self.tools.get(item.tool()) {
+            Some(diameter) => item.bounds(diameter),
+            None => Bounds::Empty,
         }
+    }
+
+    /// The box of a sound item that is moved by so many nm and stays on the board. Takes no memory.
+    pub fn moved_bounds(&self, item: &DrillItem, by: Point) -> Bounds
+        requires sound { IsSoundDrillLayer self.now }
+        requires item { IsSoundDrillItem self.now.tools item.now }
+        requires by { IsMove by }
+        ensures { result ≡ bounds_of (drill_item_leaves self.now.tools (shifted_drill_item by item.now)) }
+    {
+        moved(self.bounds_of(item), by)
     }
 
     /// The box of the item at a place of the list, counted from 0.

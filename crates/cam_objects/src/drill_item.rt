@@ -1,7 +1,7 @@
 //! Items of a drill layer.
 
 ghost use Rattle.std.specs.Prelude.{◌≡◌, IfOk};
-ghost use Rattle.cam_objects.specs.DrillSoundness.{drill_count_from, drill_count_of};
+ghost use Rattle.cam_objects.specs.DrillSoundness.{drill_count_from, drill_count_of, tool_of};
 
 use crate::points::Points;
 use cam_units::Point;
@@ -35,6 +35,15 @@ impl DrillItem {
                     points,
                 })
             }
+        }
+    }
+
+    /// The number of its tool.
+    pub(crate) fn tool(&self) -> u16
+        ensures { result ≡ tool_of self.now }
+    {
+        match self {
+            DrillItem::Hit { tool, .. } | DrillItem::Rout { tool, .. } => *tool,
         }
     }
 

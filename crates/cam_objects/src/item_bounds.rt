@@ -6,8 +6,10 @@ ghost use Rattle.cam_objects.specs.Image.{IsUncovered};
 ghost use Rattle.cam_objects.specs.Leaves.{block_leaves, item_leaves, meaning_in, object_leaves, origin, repeat_leaves};
 ghost use Rattle.cam_objects.specs.Machinery.Boxes.{IsBoxOffset, IsBoxedRepeat};
 ghost use Rattle.cam_objects.specs.Machinery.Painting.{StandsOnBoard};
-ghost use Rattle.cam_objects.specs.Soundness.{AreOnBoard, IsSound, IsSoundDictionary, IsSoundItem};
+ghost use Rattle.cam_objects.specs.Shifting.{IsMove, shifted_item};
+ghost use Rattle.cam_objects.specs.Soundness.{AreOnBoard, IsSound, IsSoundDictionary, IsSoundItem, MeetsItem};
 ghost use Rattle.cam_objects.specs.declared.item.Item.{Item};
+ghost use Rattle.cam_objects.specs.declared.item_fault.ItemFault.TheVariants.{OutOfBoard};
 
 use crate::bounds::moved;
 use crate::copies::Copies;
@@ -20,7 +22,7 @@ use crate::place::Place;
 use crate::shape_bounds::{contour_bounds, stroke_bounds, sweep_bounds};
 use cam_apertures::has_place;
 use cam_shapes::{Arc, Capsule};
-use cam_units::{Bounds, Spot};
+use cam_units::{Bounds, Point, Spot};
 
 /// The box of what an object paints.
 pub(crate) fn object_bounds(entries: &Dictionary, object: &Object) -> Bounds
@@ -153,6 +155,16 @@ impl Layer {
                 repeat_bounds(&self.apertures, &copies, objects.as_slice())
             }
         }
+    }
+
+    /// The box of a sound item that is moved by so many nm and stays on the board. Takes no memory.
+    pub fn moved_bounds(&self, item: &Item, by: Point) -> Bounds
+        requires item { IsSoundItem self.now.apertures item.now }
+        requires by { IsMove by }
+        ensures { result ≡ bounds_of (item_leaves (meaning_in self.now.apertures) (shifted_item by item.now)) }
+    {
+        self.apertures.soundness();
+        moved(self.bounds_of(item), by)
     }
 
     /// The box of the item at a place of the list, counted from 0.

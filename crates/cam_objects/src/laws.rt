@@ -1,6 +1,7 @@
 //! Laws of layers. Each function does nothing: its contract is a law of what layers mean.
 
 ghost use Rattle.cam_objects.specs.BoxLaws.{CoverBoxLaw, RedrawLaw};
+ghost use Rattle.cam_objects.specs.Demands.{DemandLaw, FirstLaw};
 ghost use Rattle.cam_objects.specs.DrillSoundness.{DrillGrowthLaw};
 ghost use Rattle.cam_objects.specs.LayerLaws.{DrillEditLaw, LayerEditLaw};
 ghost use Rattle.cam_objects.specs.Tests.{CoverTestLaw, DrillInsideTestLaw, InsideTestLaw, TestLaw};
@@ -12,7 +13,8 @@ pub fn turns_follow_their_matrices()
 {}
 
 /// A drill layer stays sound with a sound item more that the limits leave room for, at any place; with a tool more
-/// that may be added; without an item; and with an item moved that stays on the board.
+/// that may be added; without an item; with an item moved that stays on the board; with another sound item in the place
+/// of one; with an item taken to another place; and with another diameter of a tool.
 pub fn drill_layers_stay_sound()
     ensures growth { DrillGrowthLaw }
     ensures edits { DrillEditLaw }
@@ -46,8 +48,16 @@ pub fn tests_tell_what_is_inside()
     ensures drill_items { DrillInsideTestLaw }
 {}
 
+/// The tests of demands that compute hold exactly where a demand is met, and a check of an item answers the first that
+/// is not.
+pub fn tests_tell_demands()
+    ensures demands { DemandLaw }
+    ensures first { FirstLaw }
+{}
+
 /// A layer stays sound with one entry more that may be added, and paints what it painted; with one sound item more
-/// that the limits leave room for, at any place; without an item; and with an item moved that stays on the board.
+/// that the limits leave room for, at any place; without an item; with an item moved that stays on the board; with
+/// another sound item in the place of one, where the limits are kept; and with an item taken to another place.
 pub fn layers_stay_sound()
     ensures { LayerEditLaw }
 {}

@@ -39,7 +39,7 @@ pub use item::Item;
 pub use item_fault::ItemFault;
 pub use laws::{
     covers_lie_in_their_bounds, drill_layers_stay_sound, edits_stay_in_their_bounds,
-    layers_stay_sound, painting_in_order_makes_the_image, tests_tell_covers,
+    layers_stay_sound, painting_in_order_makes_the_image, tests_tell_covers, tests_tell_demands,
     tests_tell_what_is_inside, turns_follow_their_matrices,
 };
 pub use layer::Layer;

@@ -1,6 +1,6 @@
 //! How many leaves there are, and whether there is room for more.
 
-ghost use Rattle.std.specs.Prelude.{◌≡◌, ◌+◌, ◌*◌, ◌<◌, ◌≤◌, ◌++◌, ◌∷◌, ◌↔◌, [], All, IfNone, IfSome, IsTrue, length, sum_by};
+ghost use Rattle.std.specs.Prelude.{◌≡◌, ◌+◌, ◌*◌, ◌<◌, ◌≤◌, ◌++◌, ◌∷◌, ◌↔◌, [], All, IfNone, IfSome, IsTrue, length, slice_set, sum_by};
 ghost use Rattle.cam_objects.specs.Soundness.{IsWithinLimits, KeepsLimits, segs_of};
 ghost use Rattle.cam_objects.specs.Weights.{block_count, item_count, weight_in};
 ghost use Rattle.cam_objects.specs.declared.item.Item.TheVariants.{One, Repeat};
@@ -127,6 +127,31 @@ pub(crate) fn has_room(entries: &Dictionary, items: &[Item], item: &Item) -> boo
     }
     match room_behind_items(entries, items) {
         Some(room) => room_behind_item(entries, item, room).is_some(),
+        None => false,
+    }
+}
+
+/// How many leaves an item within the limits has.
+fn item_leaf_count(entries: &Dictionary, item: &Item) -> u64
+    requires { item_count (weight_in entries.now) item.now ≤ 4000000 }
+    ensures { result ≡ item_count (weight_in entries.now) item.now }
+{
+    LEAVES - room_behind_item(entries, item, LEAVES).unwrap()
+}
+
+/// Whether a layer of the items, which keeps the limits, keeps them with another item in the place of one.
+pub(crate) fn has_room_at(entries: &Dictionary, items: &[Item], place: usize, item: &Item) -> bool
+    requires limits { KeepsLimits entries.now items.now }
+    requires within { place < length items.now }
+    ensures { IsTrue result ↔ KeepsLimits entries.now (slice_set items.now place item.now) }
+{
+    let leaves = item_leaf_count(entries, &items[place]);
+    // Where the other item has no more leaves, those beside it need not be counted.
+    if room_behind_item(entries, item, leaves).is_some() {
+        return true;
+    }
+    match room_behind_items(entries, items) {
+        Some(room) => room_behind_item(entries, item, room + leaves).is_some(),
         None => false,
     }
 }

@@ -5,13 +5,14 @@ use Rattle.std.specs.Option.{option_map, option_or}
 use Rattle.std.specs.List.{list_any}
 use Rattle.cam_xnc.specs.declared.read_fault.ReadFault.{ReadFault}
 use Rattle.cam_xnc.specs.Lines.{FoundLine}
-use Rattle.cam_xnc.specs.DrillState.{DrillContent, layer_in}
+use Rattle.cam_xnc.specs.DrillState.{layer_in}
 use Rattle.cam_xnc.specs.Faults.{Table, least, end_faults}
-use Rattle.cam_xnc.specs.Reading.{place_of, said, is_end, told_lines, line_faults, fault_at, fault_of, first_fault, end_fault, layer_unless, reading_of, content_of}
+use Rattle.cam_xnc.specs.Reading.{place_of, said, is_end, told_lines, line_faults, fault_at, fault_of, first_fault, end_fault, layer_unless, reading_of}
 use Rattle.cam_xnc.specs.Laws.{Holds, IsLineFault, IsFault, IsNotBehind, TellsLeastFault, GivesFaultlessFiles, IsNoMemoryFault}
 use Rattle.cam_xnc.proofs.FaultTables.{line_faults_ascend, end_faults_ascend, least_holds, least_up_to, holds_not_thirty}
 use Rattle.cam_xnc.proofs.Readings.{older_fault}
 use Rattle.cam_xnc.proofs.Places.{AllBelow, older_below, line_inside}
+use Rattle.cam_objects.specs.Contents.{DrillContent, drill_content_of}
 
 -- a fault of a table, at its place
 record IsAt (here : ℕ) (table : Table) (f : ReadFault) : Type 0 where
@@ -153,7 +154,7 @@ tells_some bytes g (inr at) none = go (first_fault (reverse (told_lines bytes)))
     go (Some k) is h = never_both (Some k) k refl h
 
 pub faultless_files : GivesFaultlessFiles
-faultless_files bytes layer f e at = tells_some bytes f at (no_fault bytes (content_of layer) e)
+faultless_files bytes layer f e at = tells_some bytes f at (no_fault bytes (drill_content_of layer) e)
 
 not_thirty : (bytes : List ℕ) (f : ReadFault) → IsFault bytes f → f.code ≡ 30 → ⊥
 not_thirty bytes f (inl at) thirty = holds_not_thirty 1 f.code (line_faults (map said at.older) at.line) (line_faults_ascend (map said at.older) at.line) at.number thirty

@@ -10,11 +10,12 @@ use Rattle.cam_xnc.specs.declared.statement.Statement.{Statement}
 use Rattle.cam_xnc.specs.Bytes.{is_skipped, is_bad, is_blank, code_of, packed}
 use Rattle.cam_xnc.specs.Syntax.{statement_of}
 use Rattle.cam_xnc.specs.Lines.{FoundLine, lines_of}
-use Rattle.cam_xnc.specs.DrillState.{Past, DrillContent, layer_in}
+use Rattle.cam_xnc.specs.DrillState.{Past, layer_in}
 use Rattle.cam_xnc.specs.Faults.{least, faults, end_faults}
-use Rattle.cam_xnc.specs.Reading.{is_told, place_of, said, is_end, is_end_statement, through_end, told_lines, line_faults, fault_at, fault_of, first_fault, layer_unless, layer_told, reading_of, content_of}
+use Rattle.cam_xnc.specs.Reading.{is_told, place_of, said, is_end, is_end_statement, through_end, told_lines, line_faults, fault_at, fault_of, first_fault, layer_unless, layer_told, reading_of}
 use Rattle.cam_xnc.specs.Machinery.Tracking.{Tracks, first_of}
 use Rattle.cam_xnc.proofs.FaultTables.{least_is_first, line_faults_ascend, end_faults_ascend}
+use Rattle.cam_objects.specs.Contents.{DrillContent, drill_content_of}
 
 -- the answer at a fault, or else what follows
 abbrev pub unless_fault : Option ReadFault → Result DrillContent ReadFault → Result DrillContent ReadFault
@@ -168,5 +169,5 @@ input_ends len past code e =
     ap (λ (o : Option ℕ). layer_unless (option_map (λ code. record { code = code; at = len }) o) (layer_in past)) first
 
 -- the layer of the state
-pub layer_is : (past : Past) (s : DrillState) → Tracks past s → content_of s.layer ≡ layer_in past
+pub layer_is : (past : Past) (s : DrillState) → Tracks past s → drill_content_of s.layer ≡ layer_in past
 layer_is past s t = rw (t.tools, t.items) refl

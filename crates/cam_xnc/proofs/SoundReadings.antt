@@ -12,7 +12,7 @@ use Rattle.cam_xnc.specs.declared.statement.Statement.{Statement}
 use Rattle.cam_xnc.specs.declared.statement.Statement.TheVariants.{BeginHeader, SetUnit, Declare, Neutral, EndHeader, Select, DrillMode, HitAt, RoutTo, Lower, CutTo, Raise, CutArc, End, Unknown}
 use Rattle.cam_xnc.specs.Bytes.{is_bad, code_of, packed}
 use Rattle.cam_xnc.specs.Lines.{FoundLine, lines_of}
-use Rattle.cam_xnc.specs.DrillState.{Past, part_in, DrillContent, layer_in}
+use Rattle.cam_xnc.specs.DrillState.{Past, part_in, layer_in}
 use Rattle.cam_xnc.specs.Faults.{least, faults, faults_by, end_faults}
 use Rattle.cam_xnc.specs.Reading.{is_told, place_of, said, is_end, line_faults, fault_at, fault_of, layer_unless}
 use Rattle.cam_xnc.specs.Laws.{GivesSoundLayers}
@@ -21,6 +21,7 @@ use Rattle.cam_xnc.proofs.FaultTables.{least_is_first, line_faults_ascend}
 use Rattle.cam_xnc.proofs.Readings.{goes_on, unless_fault, reading_goes_on}
 use Rattle.cam_xnc.proofs.ToolNumbers.{HasToolNumber, has_tool_number}
 use Rattle.cam_xnc.proofs.SoundLayers.{IsSoundPast, declare_step, select_step, drill_mode_step, hit_step, rout_step, lower_step, cut_step, raise_step}
+use Rattle.cam_objects.specs.Contents.{DrillContent}
 
 -- a table of one test that holds
 told_one : {code : ℕ} → Some code ≡ None → ⊥

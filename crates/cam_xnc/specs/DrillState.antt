@@ -7,6 +7,7 @@ use Rattle.cam_units.specs.declared.length.Unit.{Unit as FileUnit}
 use Rattle.cam_units.specs.declared.length.Unit.TheVariants.{Mm}
 use Rattle.cam_units.specs.declared.point.Point.{Point}
 use Rattle.cam_units.specs.Nearest.{fix9_of}
+use Rattle.cam_objects.specs.Contents.{DrillContent}
 use Rattle.cam_objects.specs.declared.drill_item.DrillItem.{DrillItem}
 use Rattle.cam_objects.specs.declared.drill_item.DrillItem.TheVariants.{Hit, Rout}
 use Rattle.cam_objects.specs.DrillSoundness.{drill_count_of}
@@ -136,11 +137,6 @@ items_in (_ ∷ older) = items_in older
 -- how many holes and slots they are
 abbrev pub leaves_in : Past → ℕ
 leaves_in past = sum_by drill_count_of (items_in past)
-
--- the tools of a drill layer and its items
-pub record DrillContent : Type 0 where
-  pub tools : List (ℕ × Nm)
-  pub items : List DrillItem
 
 abbrev pub layer_in : Past → DrillContent
 layer_in past = record { tools = tools_in past; items = items_in past }

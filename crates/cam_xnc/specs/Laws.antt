@@ -4,10 +4,10 @@ use Rattle.std.specs.List.{list_any}
 use Rattle.cam_objects.specs.declared.drill_layer.DrillLayer.{DrillLayer}
 use Rattle.cam_objects.specs.DrillSoundness.{IsSoundDrillContent}
 use Rattle.cam_xnc.specs.declared.read_fault.ReadFault.{ReadFault}
-use Rattle.cam_xnc.specs.DrillState.{DrillContent}
 use Rattle.cam_xnc.specs.Lines.{FoundLine}
 use Rattle.cam_xnc.specs.Faults.{Table, end_faults}
-use Rattle.cam_xnc.specs.Reading.{said, place_of, is_end, told_lines, line_faults, content_of, reading_of}
+use Rattle.cam_xnc.specs.Reading.{said, place_of, is_end, told_lines, line_faults, reading_of}
+use Rattle.cam_objects.specs.Contents.{DrillContent, drill_content_of}
 
 -- the number holds in the table
 abbrev pub Holds : ℕ → Table → Type 0
@@ -42,7 +42,7 @@ TellsLeastFault = (bytes : List ℕ) (f : ReadFault) → reading_of bytes ≡ Er
 
 -- a file that gives a layer has no fault
 abbrev pub GivesFaultlessFiles : Type 0
-GivesFaultlessFiles = (bytes : List ℕ) (layer : DrillLayer) (f : ReadFault) → reading_of bytes ≡ Ok (content_of layer) → ¬ IsFault bytes f
+GivesFaultlessFiles = (bytes : List ℕ) (layer : DrillLayer) (f : ReadFault) → reading_of bytes ≡ Ok (drill_content_of layer) → ¬ IsFault bytes f
 
 -- no fault of a file is one of memory
 abbrev pub IsNoMemoryFault : Type 0

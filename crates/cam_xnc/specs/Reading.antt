@@ -9,8 +9,9 @@ use Rattle.cam_xnc.specs.declared.statement.Statement.TheVariants.{End}
 use Rattle.cam_xnc.specs.Bytes.{is_skipped, is_bad, is_blank, code_of, packed}
 use Rattle.cam_xnc.specs.Lines.{FoundLine, lines_of}
 use Rattle.cam_xnc.specs.Syntax.{statement_of}
-use Rattle.cam_xnc.specs.DrillState.{Past, DrillContent, layer_in}
+use Rattle.cam_xnc.specs.DrillState.{Past, layer_in}
 use Rattle.cam_xnc.specs.Faults.{Table, bad_byte, least, faults, end_faults}
+use Rattle.cam_objects.specs.Contents.{DrillContent, drill_content_of}
 
 -- the line says something: it is not blank without its comment
 abbrev pub is_told : FoundLine → Bool
@@ -76,12 +77,8 @@ reading_of bytes = layer_told (reverse (told_lines bytes)) (length bytes)
 abbrev pub no_memory : ReadFault
 no_memory = record { code = 30; at = 0 }
 
--- a layer, without the room of its lists
-abbrev pub content_of : DrillLayer → DrillContent
-content_of layer = record { tools = layer.tools; items = layer.items.items }
-
 abbrev pub answer_of : Result DrillLayer ReadFault → Result DrillContent ReadFault
-answer_of (Ok layer) = Ok (content_of layer)
+answer_of (Ok layer) = Ok (drill_content_of layer)
 answer_of (Err fault) = Err fault
 
 -- the reader's answer: the file's, but where memory was refused

@@ -1,9 +1,9 @@
 use Rattle.std.proofs.Common.{◌≡◌, [], ◌∷◌, length, sym, ap, ◌∙◌, inl, Ok}
 use Rattle.cam_xnc.specs.DrillState.{layer_in}
-use Rattle.cam_xnc.specs.Reading.{content_of}
 use Rattle.cam_xnc.proofs.Readings.{IsTaken, goes_on, reading_goes_on, taken_bad, taken_fault, taken_on, taken_end, layer_is}
 use Rattle.cam_xnc.proofs.SoundReadings.{reading_is_sound}
 use Rattle.cam_xnc.proofs.reader.read_xnc.Goals as goal
+use Rattle.cam_objects.specs.Contents.{drill_content_of}
 
 pub loop-line-init : goal.loop-line-init
 loop-line-init c = ([], c.new-state.ensures, reading_goes_on c.args.bytes.now ∙ ap (goes_on (length c.args.bytes.now) []) (sym c.new-lines.ensures))
@@ -45,8 +45,8 @@ returns-then-is_end-clause-sound c =
     } in
     let obeyed = c.in-Ok-obey.ensures past c.loop-line.invariant.1 in
     let read = taken_end _ _ _ _ _ _ _ c.in-Ok.statement taken (sym c.holds_bad_byte.ensures ∙ c.if-holds_bad_byte.false) c.in-Ok.ensures obeyed.0 (sym c.is_end.ensures ∙ c.if-is_end.true) in
-    let layer : content_of c.into_layer.result ≡ layer_in (c.in-Ok.statement ∷ past) = ap content_of c.into_layer.ensures ∙ layer_is _ c.obey.new.self obeyed.1 in
-    reading_is_sound c.args.bytes.now (content_of c.into_layer.result) (read ∙ ap Ok (sym layer))
+    let layer : drill_content_of c.into_layer.result ≡ layer_in (c.in-Ok.statement ∷ past) = ap drill_content_of c.into_layer.ensures ∙ layer_is _ c.obey.new.self obeyed.1 in
+    reading_is_sound c.args.bytes.now (drill_content_of c.into_layer.result) (read ∙ ap Ok (sym layer))
 
 pub loop-line-preserved : goal.loop-line-preserved
 loop-line-preserved c =
