@@ -15,7 +15,7 @@ use Rattle.cam_objects.specs.DrillSoundness.{IsSoundDrillContent, IsSoundDrillIt
 use Rattle.cam_xnc.specs.declared.read_fault.ReadFault.{ReadFault}
 use Rattle.cam_xnc.specs.declared.statement.Statement.{Statement}
 use Rattle.cam_xnc.specs.declared.statement.Statement.TheVariants.{End}
-use Rattle.cam_xnc.specs.DrillState.{DrillContent, mode_in, tool_in}
+use Rattle.cam_xnc.specs.DrillState.{mode_in, tool_in}
 use Rattle.cam_xnc.specs.Faults.{is_drilling, faults}
 use Rattle.cam_xnc.specs.Machinery.Tracking.{first_of}
 use Rattle.cam_writers.specs.DrillTexts.{Lines, said_by, tool_line, point_line, with_tool, with_tools, opening, is_selected, with_selected, with_hit, with_cut, with_cuts, with_rout, with_item, lines_before_end, drill_text}
@@ -25,6 +25,7 @@ use Rattle.cam_writers.proofs.InForce.{IsSoundPair, one_by_one, size_small, know
 use Rattle.cam_writers.proofs.LinesRead.{text_read, front_told}
 use Rattle.cam_writers.proofs.Saying.{IsPlainLine, plain_line, tool_says, declaration_says, hit_says, start_says, cut_says, drill_says, body_says, lower_says, raise_says, unit_says, header_says, hit_plain, start_plain, cut_plain, tool_plain, declaration_plain}
 use Rattle.cam_writers.proofs.Standing.{IsHeader, header_begun, declared, AreFresh, distinct_fresh, Stands, body_begun, drill_mode_set, HasTool, selected, HasRoom, hit_made, Cuts, rout_begun, cut_made, rout_made}
+use Rattle.cam_objects.specs.Contents.{DrillContent}
 
 -- the lines of the header
 

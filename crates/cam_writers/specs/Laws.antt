@@ -1,11 +1,10 @@
 -- Laws of canonical texts.
 use Rattle.std.specs.Prelude.{◌≡◌, ℕ, drop, map, reverse, Ok}
 use Rattle.cam_objects.specs.DrillSoundness.{IsSoundDrillContent}
-use Rattle.cam_objects.specs.Contents.{Content}
+use Rattle.cam_objects.specs.Contents.{Content, DrillContent}
 use Rattle.cam_objects.specs.Soundness.{IsSoundContent}
 use Rattle.cam_words.specs.Reading.{reading}
 use Rattle.cam_gerber.specs.Computing.{told_of, reading_of as gerber_reading}
-use Rattle.cam_xnc.specs.DrillState.{DrillContent}
 use Rattle.cam_xnc.specs.Reading.{said, told_lines, reading_of as drill_reading}
 use Rattle.cam_writers.specs.DrillTexts.{Lines, text_of, said_by, lines_before_end, drill_text}
 use Rattle.cam_writers.specs.GerberTexts.{Commands, text_of as gerber_text_of, said_by as said_by_commands, commands_before_end, gerber_text}

@@ -3,10 +3,11 @@
 ghost use Rattle.std.specs.Prelude.{◌≡◌, ◌++◌, codes, All, IfOk, OnOk, Ok};
 ghost use Rattle.cam_units.specs.Board.{IsOnBoard};
 ghost use Rattle.cam_objects.specs.DrillSoundness.{IsSoundDrillLayer, drill_points_of, tool_of};
-ghost use Rattle.cam_xnc.specs.Reading.{content_of, reading_of};
+ghost use Rattle.cam_xnc.specs.Reading.{reading_of};
 ghost use Rattle.cam_writers.specs.DrillTexts.{Lines, declaration, drill_text, opening, point_line, text_of, tool_line};
 ghost use Rattle.cam_writers.specs.DrillTexts.{with_cuts, with_drill_mode, with_hit, with_item, with_rout, with_selected, with_tools};
 ghost use Rattle.cam_writers.specs.Machinery.Tracking.{AreSoundTools, IsInRange, Tracks};
+ghost use Rattle.cam_objects.specs.Contents.{drill_content_of};
 
 use crate::lengths::{push_mm, push_number};
 use cam_objects::{DrillItem, DrillLayer, Tools};
@@ -191,7 +192,7 @@ pub fn xnc_text(alloc: Global, layer: &DrillLayer) -> Result<Vec<u8>, AllocError
     requires { IsSoundDrillLayer layer.now }
     ensures text { IfOk result (λ text.
         text.items ≡ drill_text layer.now.tools layer.now.items.items) }
-    ensures reads_back { IfOk result (λ text. reading_of text.items ≡ Ok (content_of layer.now)) }
+    ensures reads_back { IfOk result (λ text. reading_of text.items ≡ Ok (drill_content_of layer.now)) }
 {
     let mut written = DrillText::new(alloc, &layer.tools)?;
     for item in &layer.items {

@@ -1,9 +1,10 @@
 use Rattle.std.proofs.Common.{◌∙◌, ap}
 use Rattle.cam_objects.specs.declared.item_fault.ItemFault.TheVariants.{OutOfBoard}
-use Rattle.cam_xnc.specs.Reading.{content_of, reading_of}
+use Rattle.cam_xnc.specs.Reading.{reading_of}
 use Rattle.cam_writers.proofs.InForce.{item_sound, item_in_range, ended}
 use Rattle.cam_writers.proofs.ReadingBack.{reads_back}
 use Rattle.cam_writers.proofs.drill_text.xnc_text.Goals as goal
+use Rattle.cam_objects.specs.Contents.{drill_content_of}
 
 pub write_item-requires-clause-tool : goal.write_item-requires-clause-tool
 write_item-requires-clause-tool c =
@@ -19,4 +20,4 @@ returns-clause-text c =
     c.deref-item-items.ensures.value c.in_ok-push_line.ensures
 
 pub returns-clause-reads_back : goal.returns-clause-reads_back
-returns-clause-reads_back c = ap reading_of (returns-clause-text c) ∙ reads_back (content_of c.args.layer.now) c.requires
+returns-clause-reads_back c = ap reading_of (returns-clause-text c) ∙ reads_back (drill_content_of c.args.layer.now) c.requires
