@@ -3,6 +3,7 @@ use Rattle.std.specs.Prelude.{ℕ, ◌+◌, ◌<◌, ◌≤◌, Bool, true, fals
 use Rattle.std.specs.Map.{set_value}
 use Rattle.cam_units.specs.declared.length.Nm.{Nm}
 use Rattle.cam_shapes.specs.Shifting.{IsShiftable}
+use Rattle.cam_objects.specs.Contents.{DrillContent}
 use Rattle.cam_objects.specs.Drilling.{diameter_of}
 use Rattle.cam_objects.specs.DrillSoundness.{tool_of}
 use Rattle.cam_objects.specs.Shifting.{shifted_drill_item}
@@ -13,14 +14,6 @@ use Rattle.cam_edits.specs.declared.drill_step.DrillStep.{DrillStep}
 use Rattle.cam_edits.specs.declared.drill_step.DrillStep.TheVariants.{Insert, Delete, Move, Reorder, Tool, Diameter}
 use Rattle.cam_edits.specs.Moving.{IsMovableDrillItem, negated}
 use Rattle.cam_edits.specs.Places.{HasAt, changed, reordered}
-
--- what a drill layer lists, without the room that is kept for more
-pub record DrillContent : Type 0 where
-  pub tools : List (ℕ × Nm)
-  pub items : List DrillItem
-
-abbrev pub drill_content_of : DrillLayer → DrillContent
-drill_content_of layer = record { tools = layer.tools; items = layer.items.items }
 
 abbrev pub with_tool : ℕ → DrillItem → DrillItem
 with_tool t (Hit _ at) = Hit t at

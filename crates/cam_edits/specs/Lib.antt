@@ -2,4 +2,13 @@ pub mod Places
 pub mod Moving
 pub mod Steps
 pub mod DrillSteps
+pub mod Sheets
+pub mod Boards
+pub mod BoardSteps
+pub mod Editing
+pub mod Touched
+pub mod Touches
+pub mod Images
+pub mod BoxLaws
+pub mod Planning
 pub mod Machinery

@@ -4,3 +4,5 @@ pub mod PlaceLaws
 pub mod MovingLaws
 pub mod StepLaws
 pub mod DrillStepLaws
+pub mod BoardStepLaws
+pub mod Judging

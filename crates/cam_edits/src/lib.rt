@@ -1,14 +1,34 @@
-//! Edits of layers as steps that turn into their inverses.
+//! Edits of boards as steps that turn into their inverses.
 //!
-//! [`Reversible`] says what a step is: playing it changes its document and answers the step that leads back.
-//! [`Step`] edits the items of a layer, [`DrillStep`] the items and the tools of a drill layer.
+//! A [`Board`] is a list of named layers of two kinds. [`plan`] judges an [`Edit`] of it and answers the [`BoardStep`] that
+//! makes it, as `specs/Editing.antt` says. [`Reversible`] says what a step is: playing it changes its document and answers
+//! the step that leads back. [`Step`] edits the items of a layer, [`DrillStep`] the items and the tools of a drill layer.
 #![tactic(auto)]
 
+mod apertures;
+mod board;
+mod board_step;
+mod drill_judging;
 mod drill_step;
+mod edit;
+mod fault;
+mod item_refusal;
+mod judging;
+mod laws;
 mod moving;
+mod name;
+mod planning;
 mod reversible;
 mod step;
+mod touched;
 
+pub use board::{Board, Sheet, SheetContent};
+pub use board_step::BoardStep;
 pub use drill_step::DrillStep;
+pub use edit::{Change, Edit, NewItem};
+pub use fault::EditFault;
+pub use laws::{edits_stay_in_their_boxes, edits_stay_sound};
+pub use name::Name;
+pub use planning::plan;
 pub use reversible::Reversible;
 pub use step::Step;

@@ -1,6 +1,7 @@
 //! Whether items can be moved and moved back: each control point, where it stands and where it is moved to.
 
 ghost use Rattle.std.specs.Prelude.{◌≡◌, ◌↔◌, All, IsTrue};
+ghost use Rattle.cam_objects.specs.Shifting.{IsMove};
 ghost use Rattle.cam_shapes.specs.Shifting.{IsShiftable};
 ghost use Rattle.cam_edits.specs.Moving.{
   IsMovableContour,
@@ -15,6 +16,16 @@ ghost use Rattle.cam_edits.specs.Moving.{
 use cam_objects::{Contour, DrillItem, Item, Object, Seg};
 use cam_shapes::shifted;
 use cam_units::Point;
+
+/// The farthest that an item is moved to a side, in nm.
+const FARTHEST: u64 = 4_000_000_000;
+
+/// Whether it is not so far that an item of the board would leave it in any case.
+pub(crate) fn is_move(by: Point) -> bool
+    ensures { IsTrue result ↔ IsMove by }
+{
+    by.x.unsigned_abs() <= FARTHEST && by.y.unsigned_abs() <= FARTHEST
+}
 
 /// The way back.
 pub(crate) fn back(by: Point) -> Point

@@ -12,11 +12,12 @@ use Rattle.cam_objects.specs.declared.drill_item.DrillItem.TheVariants.{Hit, Rou
 use Rattle.cam_objects.specs.declared.drill_layer.DrillLayer.{DrillLayer}
 use Rattle.cam_edits.specs.declared.drill_step.DrillStep.{DrillStep}
 use Rattle.cam_edits.specs.declared.drill_step.DrillStep.TheVariants.{Insert, Delete, Move, Reorder, Tool, Diameter}
-use Rattle.cam_edits.specs.DrillSteps.{DrillContent, HasDrillRoom, IsDrillFit, after_drill_step, diameter_before, insertion_of, inverse_drill_step, is_drill_insertion, tool_before, with_tool}
+use Rattle.cam_edits.specs.DrillSteps.{HasDrillRoom, IsDrillFit, after_drill_step, diameter_before, insertion_of, inverse_drill_step, is_drill_insertion, tool_before, with_tool}
 use Rattle.cam_edits.specs.Machinery.MovingLaws.{drill_item_back, movable_drill_item, negated_twice, shiftable_negated}
 use Rattle.cam_edits.specs.Machinery.PlaceLaws.{changed_back, element_at, found, get_changed, get_inserted, has_changed, insert_removed, length_reordered, remove_inserted, reordered_back, within}
 use Rattle.cam_edits.specs.Moving.{IsMovableDrillItem, negated}
 use Rattle.cam_edits.specs.Places.{changed}
+use Rattle.cam_objects.specs.Contents.{DrillContent}
 
 -- ---- tools and diameters that are set and set back
 tool_back : (t : ℕ) (item : DrillItem) → with_tool (tool_of item) (with_tool t item) ≡ item

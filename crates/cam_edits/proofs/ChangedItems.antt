@@ -1,0 +1,184 @@
+-- Items with another aperture, polarity or tool: what they keep of the items before.
+use Rattle.std.proofs.Common.{◌≡◌, ℕ, ◌≤◌, Bool, List, [], length, Option, None, Some, reverse, refl, sym, subst, ◌∙◌}
+use Rattle.std.specs.List.{All}
+use Rattle.std.specs.Prelude.{IsTrue, is_some}
+use Rattle.std.proofs.lemmas.List.Elements.{All-cons, All-head, All-nil}
+use Rattle.cam_units.specs.declared.bounds.Bounds.{Bounds}
+use Rattle.cam_units.specs.declared.length.Nm.{Nm}
+use Rattle.cam_units.specs.declared.point.Point.{Point}
+use Rattle.cam_objects.specs.declared.drill_item.DrillItem.{DrillItem}
+use Rattle.cam_objects.specs.declared.drill_item.DrillItem.TheVariants.{Hit, Rout}
+use Rattle.cam_objects.specs.declared.entry.Entry.{Entry}
+use Rattle.cam_objects.specs.declared.item.Item.{Item}
+use Rattle.cam_objects.specs.declared.item.Item.TheVariants.{One, Repeat}
+use Rattle.cam_objects.specs.declared.item_fault.ItemFault.TheVariants.{Malformed, UnknownAperture, UnknownTool, WrongAperture, ZeroRadius, OutOfBoard, TooMuch}
+use Rattle.cam_objects.specs.declared.object.Object.{Object}
+use Rattle.cam_objects.specs.declared.object.Object.TheVariants.{Flash, Draw, Arc, Region}
+use Rattle.cam_objects.specs.Bounds.{bounds_of, box_of_shape}
+use Rattle.cam_objects.specs.Drilling.{diameter_of}
+use Rattle.cam_objects.specs.DrillSoundness.{IsSoundDrillItem, drill_count_of}
+use Rattle.cam_objects.specs.Leaves.{Meaning, Shape, arc_leaves, draw_leaves, flashed, item_leaves, meaning_in, object_leaves, origin}
+use Rattle.cam_objects.specs.Machinery.Inside.{IsBoxOnBoard}
+use Rattle.cam_objects.specs.Machinery.Painting.{StandsOnBoard}
+use Rattle.cam_objects.specs.Soundness.{HasRadius, IsDrawable, IsFormed, IsInside, IsKnown, IsSoundItem, IsWithinLimits, MeetsItem, objects_of, segs_of}
+use Rattle.cam_objects.specs.Weights.{Weight, item_count, object_count, weight_in}
+use Rattle.cam_objects.proofs.BoardBoxes.{board_leaves}
+use Rattle.cam_objects.proofs.PlacedBoxes.{box_of_leaves, flash_placed}
+use Rattle.cam_objects.proofs.PlacedShapes.{IsPlacedSo, box_of_points, points_so, shapes_so}
+use Rattle.cam_edits.specs.DrillSteps.{with_tool}
+use Rattle.cam_edits.specs.Steps.{with_aperture, with_object, with_polarity}
+
+-- what holds of each object, changed
+each_kept : (f : Object → Object) (P : Object → Type 0) → ((o : Object) → P o → P (f o)) → (item : Item)
+    → All P (objects_of item) → All P (objects_of (with_object f item))
+each_kept f P kept (One o) h = All-cons P (f o) [] (kept o (All-head P o [] h)) (All-nil P)
+each_kept f P kept (Repeat columns rows i j objects) h = h
+
+-- ---- another aperture
+
+aperture_formed : (n : ℕ) (o : Object) → IsFormed o → IsFormed (with_aperture n o)
+aperture_formed n (Flash m at t dark) h = tt
+aperture_formed n (Draw m from to t dark) h = tt
+aperture_formed n (Arc m from to centre ccw dark) h = tt
+aperture_formed n (Region contour dark) h = h
+
+pub formed_with_aperture : (es : List (ℕ × Entry)) (n : ℕ) (item : Item) → MeetsItem es item Malformed
+    → MeetsItem es (with_object (with_aperture n) item) Malformed
+formed_with_aperture es n (One o) h = (tt, each_kept (with_aperture n) IsFormed (aperture_formed n) (One o) h.1)
+formed_with_aperture es n (Repeat columns rows i j objects) h = h
+
+-- ---- another polarity
+
+module _ (dark : Bool) where
+  abbrev inked : Object → Object
+  inked o = with_polarity dark o
+
+  module _ (m : Shape → Bounds) (so : IsPlacedSo m) (es : List (ℕ × Entry)) where
+    drawn_box : (w : Option Nm) (from to : Point) (before : Bool)
+        → box_of_leaves m (draw_leaves w from to dark) ≡ box_of_leaves m (draw_leaves w from to before)
+    drawn_box None from to before = refl
+    drawn_box (Some w) from to before = refl
+
+    swept_box : (w : Option Nm) (from to centre : Point) (ccw before : Bool)
+        → box_of_leaves m (arc_leaves w from to centre ccw dark)
+        ≡ box_of_leaves m (arc_leaves w from to centre ccw before)
+    swept_box None from to centre ccw before = refl
+    swept_box (Some w) from to centre ccw before = refl
+
+    -- what paints the same shapes has the same box
+    inked_box : (o : Object)
+        → box_of_leaves m (object_leaves (meaning_in es) origin (inked o))
+        ≡ box_of_leaves m (object_leaves (meaning_in es) origin o)
+    inked_box (Flash n at t before) =
+        flash_placed m so (reverse es) n (flashed origin at t dark)
+        ∙ sym (flash_placed m so (reverse es) n (flashed origin at t before))
+    inked_box (Draw n from to t before) = drawn_box (meaning_in es n).width _ _ before
+    inked_box (Arc n from to centre ccw before) = swept_box (meaning_in es n).width _ _ _ _ before
+    inked_box (Region contour before) = refl
+
+  pub box_with_polarity : (es : List (ℕ × Entry)) (item : Item)
+      → bounds_of (item_leaves (meaning_in es) (with_object inked item)) ≡ bounds_of (item_leaves (meaning_in es) item)
+  box_with_polarity es (One o) = inked_box box_of_shape shapes_so es o
+  box_with_polarity es (Repeat columns rows i j objects) = refl
+
+  formed : (o : Object) → IsFormed o → IsFormed (inked o)
+  formed (Flash n at t before) h = tt
+  formed (Draw n from to t before) h = tt
+  formed (Arc n from to centre ccw before) h = tt
+  formed (Region contour before) h = h
+
+  known : (es : List (ℕ × Entry)) (o : Object) → IsKnown es o → IsKnown es (inked o)
+  known es (Flash n at t before) h = h
+  known es (Draw n from to t before) h = h
+  known es (Arc n from to centre ccw before) h = h
+  known es (Region contour before) h = tt
+
+  drawable : (means : ℕ → Meaning) (o : Object) → IsDrawable means o → IsDrawable means (inked o)
+  drawable means (Flash n at t before) h = tt
+  drawable means (Draw n from to t before) h = h
+  drawable means (Arc n from to centre ccw before) h = h
+  drawable means (Region contour before) h = tt
+
+  radius : (o : Object) → HasRadius o → HasRadius (inked o)
+  radius (Flash n at t before) h = tt
+  radius (Draw n from to t before) h = tt
+  radius (Arc n from to centre ccw before) h = h
+  radius (Region contour before) h = h
+
+  stands : (o : Object) → StandsOnBoard o → StandsOnBoard (inked o)
+  stands (Flash n at t before) h = h
+  stands (Draw n from to t before) h = h
+  stands (Arc n from to centre ccw before) h = h
+  stands (Region contour before) h = h
+
+  few_segs : (o : Object) → length (segs_of o) ≤ 1000000 → length (segs_of (inked o)) ≤ 1000000
+  few_segs (Flash n at t before) h = h
+  few_segs (Draw n from to t before) h = h
+  few_segs (Arc n from to centre ccw before) h = h
+  few_segs (Region contour before) h = h
+
+  counted : (w : ℕ → Weight) (o : Object) → object_count w (inked o) ≡ object_count w o
+  counted w (Flash n at t before) = refl
+  counted w (Draw n from to t before) = refl
+  counted w (Arc n from to centre ccw before) = refl
+  counted w (Region contour before) = refl
+
+  pub count_with_polarity : (w : ℕ → Weight) (item : Item) → item_count w (with_object inked item) ≡ item_count w item
+  count_with_polarity w (One o) = counted w o
+  count_with_polarity w (Repeat columns rows i j objects) = refl
+
+  inside : (es : List (ℕ × Entry)) (o : Object) → IsInside es (One o) → IsInside es (One (inked o))
+  inside es o h =
+      let here = board_leaves (object_leaves (meaning_in es) origin o) in
+      let there = board_leaves (object_leaves (meaning_in es) origin (inked o)) in record {
+        points = each_kept inked StandsOnBoard stands (One o) h.points;
+        steps = tt;
+        leaves = there.0 (subst IsBoxOnBoard (sym (inked_box box_of_points points_so es o)) (here.1 h.leaves));
+      }
+
+  -- a sound object of another polarity is sound
+  object_with_polarity : (es : List (ℕ × Entry)) (o : Object) → IsSoundItem es (One o) → IsSoundItem es (One (inked o))
+  object_with_polarity es o h Malformed =
+      let before = h Malformed in (tt, each_kept inked IsFormed formed (One o) before.1)
+  object_with_polarity es o h UnknownAperture = each_kept inked (IsKnown es) (known es) (One o) (h UnknownAperture)
+  object_with_polarity es o h UnknownTool = tt
+  object_with_polarity es o h WrongAperture =
+      each_kept inked (IsDrawable (meaning_in es)) (drawable (meaning_in es)) (One o) (h WrongAperture)
+  object_with_polarity es o h ZeroRadius = each_kept inked HasRadius radius (One o) (h ZeroRadius)
+  object_with_polarity es o h OutOfBoard = inside es o (h OutOfBoard)
+  object_with_polarity es o h TooMuch =
+      let limits : IsWithinLimits es (One o) = h TooMuch in record {
+        segs = each_kept inked (λ o. length (segs_of o) ≤ 1000000) few_segs (One o) limits.segs;
+        objects = limits.objects;
+        leaves = subst (λ k. k ≤ 4000000) (sym (counted (weight_in es) o)) limits.leaves;
+      }
+
+  pub sound_with_polarity : (es : List (ℕ × Entry)) (item : Item) → IsSoundItem es item
+      → IsSoundItem es (with_object inked item)
+  sound_with_polarity es (One o) h = object_with_polarity es o h
+  sound_with_polarity es (Repeat columns rows i j objects) h = h
+
+-- ---- another tool
+
+pub count_with_tool : (t : ℕ) (item : DrillItem) → drill_count_of (with_tool t item) ≡ drill_count_of item
+count_with_tool t (Hit before at) = refl
+count_with_tool t (Rout before points) = refl
+
+-- a sound item with another tool that there is is sound
+pub sound_with_tool : (ts : List (ℕ × Nm)) (t : ℕ) (item : DrillItem) → IsTrue (is_some (diameter_of ts t))
+    → IsSoundDrillItem ts item
+    → IsSoundDrillItem ts (with_tool t item)
+sound_with_tool ts t (Hit before at) there h Malformed = h Malformed
+sound_with_tool ts t (Hit before at) there h UnknownAperture = tt
+sound_with_tool ts t (Hit before at) there h UnknownTool = there
+sound_with_tool ts t (Hit before at) there h WrongAperture = tt
+sound_with_tool ts t (Hit before at) there h ZeroRadius = tt
+sound_with_tool ts t (Hit before at) there h OutOfBoard = h OutOfBoard
+sound_with_tool ts t (Hit before at) there h TooMuch = h TooMuch
+sound_with_tool ts t (Rout before points) there h Malformed = h Malformed
+sound_with_tool ts t (Rout before points) there h UnknownAperture = tt
+sound_with_tool ts t (Rout before points) there h UnknownTool = there
+sound_with_tool ts t (Rout before points) there h WrongAperture = tt
+sound_with_tool ts t (Rout before points) there h ZeroRadius = tt
+sound_with_tool ts t (Rout before points) there h OutOfBoard = h OutOfBoard
+sound_with_tool ts t (Rout before points) there h TooMuch = h TooMuch

@@ -1,0 +1,46 @@
+-- A step of a Gerber layer keeps the colour of each place outside the boxes of what it touches.
+use Rattle.std.proofs.Common.{◌≡◌, [], Some, refl}
+use Rattle.std.specs.Prelude.{slice_get}
+use Rattle.cam_units.specs.declared.point.Spot.{Spot}
+use Rattle.cam_objects.specs.Contents.{Content, content_leaves}
+use Rattle.cam_objects.specs.Leaves.{item_leaves, meaning_in}
+use Rattle.cam_objects.specs.Shifting.{shifted_item}
+use Rattle.cam_objects.specs.Tests.{is_black}
+use Rattle.cam_objects.proofs.Painting.{All_left}
+use Rattle.cam_edits.specs.declared.step.Step.{Step}
+use Rattle.cam_edits.specs.declared.step.Step.TheVariants.{Insert, Delete, Move, Reorder, Aperture, Polarity}
+use Rattle.cam_edits.specs.Editing.{meets_step}
+use Rattle.cam_edits.specs.Steps.{after_step, with_aperture, with_object, with_polarity}
+use Rattle.cam_edits.specs.Touched.{boxes_of, item_box, touched}
+use Rattle.cam_edits.proofs.MetDemands.{both, item_there}
+use Rattle.cam_edits.proofs.RedrawnItems.{AreOff, IsOff, carried_off, changed_off, item_off, put_in, taken_out}
+use Rattle.cam_edits.proofs.Refusals.{MeetsEach}
+
+pub step_keeps_outside : (c : Content) (step : Step) → MeetsEach (meets_step c step) → (s : Spot)
+    → AreOff s (touched step c) → is_black (content_leaves c) s ≡ is_black (content_leaves (after_step step c)) s
+unfolding meets_step touched
+step_keeps_outside c (Insert k item) met s off =
+    let paints = item_leaves (meaning_in c.entries) in
+    put_in paints s c.items k item (item_off paints s (Some item) item refl off)
+step_keeps_outside c (Delete k) met s off =
+    let paints = item_leaves (meaning_in c.entries) in
+    let there = item_there c.items k met.place in
+    taken_out paints s c.items k there.0 there.1
+    (item_off paints s (slice_get c.items k) there.0 there.1
+    (All_left (IsOff s) (boxes_of (item_box c.entries) (slice_get c.items k)) [] off))
+step_keeps_outside c (Move k by) met s off =
+    let there = item_there c.items k met.place in
+    changed_off (item_leaves (meaning_in c.entries)) s c.items k there.0 there.1 (shifted_item by) off
+step_keeps_outside c (Reorder k m) met s off =
+    let paints = item_leaves (meaning_in c.entries) in
+    let places = both _ _ met.place in
+    let there = item_there c.items k places.0 in
+    let boxes = boxes_of (item_box c.entries) (slice_get c.items k) in
+    carried_off paints s c.items k there.0 there.1
+    (item_off paints s (slice_get c.items k) there.0 there.1 (All_left (IsOff s) boxes boxes off)) m
+step_keeps_outside c (Aperture k n) met s off =
+    let there = item_there c.items k met.place in
+    changed_off (item_leaves (meaning_in c.entries)) s c.items k there.0 there.1 (with_object (with_aperture n)) off
+step_keeps_outside c (Polarity k dark) met s off =
+    let there = item_there c.items k met.place in
+    changed_off (item_leaves (meaning_in c.entries)) s c.items k there.0 there.1 (with_object (with_polarity dark)) off

@@ -1,0 +1,116 @@
+-- What a plan of an edit is, by what its sheet holds.
+use Rattle.std.proofs.Common.{◌≡◌, ℕ, ◌<◌, List, length, None, Some, Ok, Err, Global, refl, ap, sym, subst, ◌∙◌}
+use Rattle.std.specs.Prelude.{slice_get, slice_set}
+use Rattle.std.specs.declared.vec.Vec.{Vec}
+use Rattle.cam_units.specs.declared.bounds.Bounds.{Bounds}
+use Rattle.cam_objects.specs.Contents.{Content as GerberContent, DrillContent}
+use Rattle.cam_edits.specs.declared.board_step.BoardStep.TheVariants as plans
+use Rattle.cam_edits.specs.declared.drill_step.DrillStep.{DrillStep}
+use Rattle.cam_edits.specs.declared.edit.Edit.{Edit}
+use Rattle.cam_edits.specs.declared.fault.EditFault.{EditFault}
+use Rattle.cam_edits.specs.declared.fault.EditFault.TheVariants.{NoLayer, Memory}
+use Rattle.cam_edits.specs.declared.step.Step.{Step}
+use Rattle.cam_edits.specs.BoardSteps.{IsDrillFitOn, IsFitOn, after_drill_on, after_on}
+use Rattle.cam_edits.specs.Boards.{changed_at, content_at, held, place_of, with_content}
+use Rattle.cam_edits.specs.DrillSteps.{IsDrillFit, after_drill_step}
+use Rattle.cam_edits.specs.Editing.{drill_step_of, edited, edited_at, edited_sheet, judged, judged_drill, step_of, with_drill_step, with_step}
+use Rattle.cam_edits.specs.Machinery.PlaceLaws.{element_at}
+use Rattle.cam_edits.specs.Places.{changed_to}
+use Rattle.cam_edits.specs.Planning.{IsPlan, IsRefused, IsStepOf}
+use Rattle.cam_edits.specs.Sheets.{AreSound, Content, Gerber, Drill, IsSound, Sheet, sheet}
+use Rattle.cam_edits.specs.Steps.{IsFit, after_step}
+use Rattle.cam_edits.specs.Touched.{drill_touched, touched}
+use Rattle.cam_edits.proofs.DrillEdits as drill_edits
+use Rattle.cam_edits.proofs.GerberEdits as gerber_edits
+use Rattle.cam_edits.proofs.Refusals.{has_at, item_at}
+
+module _ (edit : Edit) (sheets : List Sheet) where
+  -- no sheet of the name
+  pub no_layer : place_of edit.name sheets ≡ None → IsRefused (edited edit sheets) NoLayer
+  unfolding edited
+  no_layer e = subst (λ r. IsRefused r NoLayer) (sym (ap (edited_at edit.change sheets) e)) refl
+
+  module _ (place : ℕ) (named : place_of edit.name sheets ≡ Some place) (within : place < length sheets) where
+    there : (s : Sheet) × (slice_get sheets place ≡ Some s)
+    there = element_at sheets place within
+
+    holds_there : (content : Content) → content_at sheets place ≡ content → there.0.content ≡ content
+    holds_there content e = sym (ap held there.1) ∙ e
+
+    pub sound_there : AreSound sheets → (content : Content) → content_at sheets place ≡ content → IsSound content
+    sound_there h content e =
+        subst IsSound (holds_there content e) (item_at (λ s. IsSound s.content) sheets place there.0 h there.1)
+
+    edited_there : (content : Content) → content_at sheets place ≡ content
+        → edited edit sheets ≡ edited_sheet edit.change sheets place content
+    unfolding edited
+    edited_there content e = ap (edited_at edit.change sheets) named ∙ ap (edited_sheet edit.change sheets place) e
+
+    -- two changes that make the same of what the sheet holds
+    same_change : (f g : Content → Content) → f there.0.content ≡ g there.0.content
+        → changed_at f place sheets ≡ changed_at g place sheets
+    same_change f g same =
+        ap (changed_to (with_content f) sheets place) there.1
+        ∙ (ap (λ content. slice_set sheets place (sheet there.0.name content)) same
+        ∙ sym (ap (changed_to (with_content g) sheets place) there.1))
+
+    -- ---- a Gerber layer
+
+    module _ (c : GerberContent) (holds : content_at sheets place ≡ Gerber c) where
+      pub told : (fault : EditFault) → judged c (step_of edit.change) ≡ Err fault → IsRefused (edited edit sheets) fault
+      told fault e =
+          subst (λ r. IsRefused r fault) (sym (edited_there (Gerber c) holds ∙ ap (with_step sheets place c) e)) refl
+
+      module _ (step : Step) (e : judged c (step_of edit.change) ≡ Ok step) where
+        edited_by : edited edit sheets ≡ Ok (changed_at (λ _. Gerber (after_step step c)) place sheets)
+        edited_by = edited_there (Gerber c) holds ∙ ap (with_step sheets place c) e
+
+        pub no_memory : (fault : EditFault) → fault ≡ Memory → IsRefused (edited edit sheets) fault
+        no_memory fault is = subst (λ r. IsRefused r fault) (sym edited_by) is
+
+        pub planned : (boxes : Vec Bounds Global) → boxes.items ≡ touched step c → IsFit step c
+            → IsPlan sheets edit (plans.Gerber place step boxes)
+        planned boxes are fit =
+            let is : there.0.content ≡ Gerber c = holds_there (Gerber c) holds in
+            let change : Content → Content = λ _. Gerber (after_step step c) in record {
+              edited_is = edited_by ∙ ap Ok (same_change change (after_on step) (ap (after_on step) (sym is)));
+              fits =
+                  has_at (λ s. IsFitOn step s.content) sheets place there.0 there.1 (subst (IsFitOn step) (sym is) fit);
+              named = named;
+              step_is =
+                  subst (λ content. IsStepOf edit.change content (plans.Gerber place step boxes)) (sym holds)
+                  ((gerber_edits.accepted c (step_of edit.change) step e).0, are);
+            }
+
+    -- ---- a drill layer
+
+    module _ (c : DrillContent) (holds : content_at sheets place ≡ Drill c) where
+      pub drill_told : (fault : EditFault) → judged_drill c (drill_step_of edit.change) ≡ Err fault
+          → IsRefused (edited edit sheets) fault
+      drill_told fault e =
+          subst (λ r. IsRefused r fault) (sym (edited_there (Drill c) holds ∙ ap (with_drill_step sheets place c) e))
+          refl
+
+      module _ (step : DrillStep) (e : judged_drill c (drill_step_of edit.change) ≡ Ok step) where
+        drill_edited_by : edited edit sheets ≡ Ok (changed_at (λ _. Drill (after_drill_step step c)) place sheets)
+        drill_edited_by = edited_there (Drill c) holds ∙ ap (with_drill_step sheets place c) e
+
+        pub drill_no_memory : (fault : EditFault) → fault ≡ Memory → IsRefused (edited edit sheets) fault
+        drill_no_memory fault is = subst (λ r. IsRefused r fault) (sym drill_edited_by) is
+
+        pub drill_planned : (boxes : Vec Bounds Global) → boxes.items ≡ drill_touched step c → IsDrillFit step c
+            → IsPlan sheets edit (plans.Drill place step boxes)
+        drill_planned boxes are fit =
+            let is : there.0.content ≡ Drill c = holds_there (Drill c) holds in
+            let change : Content → Content = λ _. Drill (after_drill_step step c) in record {
+              edited_is =
+                  drill_edited_by
+                  ∙ ap Ok (same_change change (after_drill_on step) (ap (after_drill_on step) (sym is)));
+              fits =
+                  has_at (λ s. IsDrillFitOn step s.content) sheets place there.0 there.1
+                  (subst (IsDrillFitOn step) (sym is) fit);
+              named = named;
+              step_is =
+                  subst (λ content. IsStepOf edit.change content (plans.Drill place step boxes)) (sym holds)
+                  ((drill_edits.accepted c (drill_step_of edit.change) step e).0, are);
+            }

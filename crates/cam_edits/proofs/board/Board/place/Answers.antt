@@ -1,0 +1,15 @@
+use Rattle.std.proofs.Common.{◌≡◌, ◌<◌, IfSome, length, map, subst}
+use Rattle.cam_edits.specs.Boards.{place_of}
+use Rattle.cam_edits.specs.Sheets.{sheet_of}
+use Rattle.cam_edits.proofs.Names.{named_place, place_within}
+use Rattle.cam_edits.proofs.board.Board.place.Goals as goal
+
+pub returns-clause-value : goal.returns-clause-value
+returns-clause-value c =
+    subst (λ sheets. c.place_among.result ≡ place_of c.args.name.now (map sheet_of sheets)) c.deref.ensures.value
+    (named_place c.deref.result.now c.args.name.now c.place_among.result c.place_among.ensures.value)
+
+pub returns-clause-within : goal.returns-clause-within
+returns-clause-within c =
+    subst (λ sheets. IfSome c.place_among.result (λ k. k < length (map sheet_of sheets))) c.deref.ensures.value
+    (place_within c.deref.result.now c.place_among.result c.place_among.ensures.within)

@@ -1,0 +1,83 @@
+use Rattle.std.proofs.Common.{ap, sym, ◌∙◌}
+use Rattle.cam_edits.proofs.BoardRoom.{drill_room_here, room_for_rest, room_here}
+use Rattle.cam_edits.proofs.BoardSheets.{content_is, sheet_at, sheets_changed, told_there}
+use Rattle.cam_edits.specs.declared.board_step.BoardStep.TheVariants as steps
+use Rattle.cam_edits.specs.declared.drill_step.DrillStep.{DrillStep}
+use Rattle.cam_edits.specs.declared.step.Step.{Step}
+use Rattle.cam_edits.specs.BoardSteps.{IsDrillFitOn, IsFitOn, after_drill_on, after_on, inverse_drill_on, inverse_on}
+use Rattle.cam_edits.specs.Sheets.{Sheet}
+use Rattle.cam_edits.proofs.board_step.BoardStepReversible.play.Goals as goal
+
+pub returns-in-Gerber-clause-content : goal.returns-in-Gerber-clause-content
+returns-in-Gerber-clause-content c =
+    let step = c.in-Gerber.step in
+    let xs = c.args.board.now.sheets.items in
+    let k = c.in-Gerber.sheet in
+    let s = c.index_mut.result.now in
+    let fits = rw c.in-Gerber.is at c.requires.fits in
+    let e = sheet_at (λ (t : Sheet). IsFitOn step t.content) xs k s fits c.index_mut.ensures.value in
+    rw c.in-Gerber.is
+    (sheets_changed xs k s e (after_on step) c.play_on.new.content c.play_on.ensures.content)
+
+pub returns-in-Gerber-clause-answer : goal.returns-in-Gerber-clause-answer
+returns-in-Gerber-clause-answer c =
+    let step = c.in-Gerber.step in
+    let xs = c.args.board.now.sheets.items in
+    let k = c.in-Gerber.sheet in
+    let s = c.index_mut.result.now in
+    let fits = rw c.in-Gerber.is at c.requires.fits in
+    let e = sheet_at (λ (t : Sheet). IsFitOn step t.content) xs k s fits c.index_mut.ensures.value in
+    rw c.in-Gerber.is
+    (ap (λ (answer : Step). steps.Gerber k answer c.in-Gerber.boxes)
+    (c.play_on.ensures.answer ∙ ap (inverse_on step) (sym (content_is xs k s e))))
+
+pub returns-in-Gerber-clause-room : goal.returns-in-Gerber-clause-room
+returns-in-Gerber-clause-room c = λ rest room.
+    let step = c.in-Gerber.step in
+    let xs = c.args.board.now.sheets.items in
+    let k = c.in-Gerber.sheet in
+    let s = c.index_mut.result.now in
+    let fits = rw c.in-Gerber.is at c.requires.fits in
+    let e = sheet_at (λ (t : Sheet). IsFitOn step t.content) xs k s fits c.index_mut.ensures.value in
+    let fit = told_there xs k s e (λ (t : Sheet). IsFitOn step t.content) fits in
+    room_for_rest rest (steps.Gerber k step c.in-Gerber.boxes) xs k s c.play_on.new.content e
+    (room_here k rest c.in-Gerber.boxes step s.content c.play_on.new.content fit c.play_on.ensures.content
+    c.play_on.ensures.room)
+    (rw c.in-Gerber.is at room)
+
+pub returns-in-Drill-clause-content : goal.returns-in-Drill-clause-content
+returns-in-Drill-clause-content c =
+    let step = c.in-Drill.step in
+    let xs = c.args.board.now.sheets.items in
+    let k = c.in-Drill.sheet in
+    let s = c.index_mut-in-Drill.result.now in
+    let fits = rw c.in-Drill.is at c.requires.fits in
+    let e = sheet_at (λ (t : Sheet). IsDrillFitOn step t.content) xs k s fits c.index_mut-in-Drill.ensures.value in
+    rw c.in-Drill.is
+    (sheets_changed xs k s e (after_drill_on step) c.play_drill_on.new.content c.play_drill_on.ensures.content)
+
+pub returns-in-Drill-clause-answer : goal.returns-in-Drill-clause-answer
+returns-in-Drill-clause-answer c =
+    let step = c.in-Drill.step in
+    let xs = c.args.board.now.sheets.items in
+    let k = c.in-Drill.sheet in
+    let s = c.index_mut-in-Drill.result.now in
+    let fits = rw c.in-Drill.is at c.requires.fits in
+    let e = sheet_at (λ (t : Sheet). IsDrillFitOn step t.content) xs k s fits c.index_mut-in-Drill.ensures.value in
+    rw c.in-Drill.is
+    (ap (λ (answer : DrillStep). steps.Drill k answer c.in-Drill.boxes)
+    (c.play_drill_on.ensures.answer ∙ ap (inverse_drill_on step) (sym (content_is xs k s e))))
+
+pub returns-in-Drill-clause-room : goal.returns-in-Drill-clause-room
+returns-in-Drill-clause-room c = λ rest room.
+    let step = c.in-Drill.step in
+    let xs = c.args.board.now.sheets.items in
+    let k = c.in-Drill.sheet in
+    let s = c.index_mut-in-Drill.result.now in
+    let fits = rw c.in-Drill.is at c.requires.fits in
+    let e = sheet_at (λ (t : Sheet). IsDrillFitOn step t.content) xs k s fits c.index_mut-in-Drill.ensures.value in
+    let fit = told_there xs k s e (λ (t : Sheet). IsDrillFitOn step t.content) fits in
+    room_for_rest rest (steps.Drill k step c.in-Drill.boxes) xs k s c.play_drill_on.new.content e
+    (drill_room_here k rest c.in-Drill.boxes step s.content c.play_drill_on.new.content fit
+    c.play_drill_on.ensures.content c.play_drill_on.ensures.room)
+    (rw c.in-Drill.is at room)

@@ -1,0 +1,119 @@
+use Rattle.std.proofs.Common.{◌≡◌, ap, sym, ◌∙◌}
+use Rattle.std.proofs.lemmas.Result.{err_from_is_err_and}
+use Rattle.cam_objects.specs.Contents.{content_of as gerber_content, drill_content_of as drill_content}
+use Rattle.cam_edits.proofs.DrillEdits as drill_edits
+use Rattle.cam_edits.proofs.GerberEdits as gerber_edits
+use Rattle.cam_edits.proofs.Plans.{drill_no_memory, drill_planned, drill_told, no_layer, no_memory, planned, sound_there, told}
+use Rattle.cam_edits.proofs.planning.plan.Goals as goal
+use Rattle.cam_edits.specs.Boards.{content_at}
+use Rattle.cam_edits.specs.Editing.{drill_step_of, step_of}
+use Rattle.cam_edits.specs.Sheets.{Gerber, Drill, content_of, sheets_of}
+
+pub returns-in_default-clause-refused : goal.returns-in_default-clause-refused
+returns-in_default-clause-refused c =
+    no_layer c.args.edit (sheets_of c.args.board.now) (sym c.in_default.ensures.value)
+
+pub judged-requires : goal.judged-requires
+judged-requires c =
+    let sheets = sheets_of c.args.board.now in
+    let holds : content_at sheets c.in-Some.sheet ≡ Gerber (gerber_content c.in-Gerber.layer) =
+    sym c.content.ensures ∙ ap content_of c.in-Gerber.is in
+    sound_there c.args.edit sheets c.in-Some.sheet (sym c.in-Some.ensures.value) c.in-Some.ensures.within c.requires
+    (Gerber (gerber_content c.in-Gerber.layer)) holds
+
+pub returns-in_err-step-in-Gerber-clause-refused : goal.returns-in_err-step-in-Gerber-clause-refused
+returns-in_err-step-in-Gerber-clause-refused c =
+    let sheets = sheets_of c.args.board.now in
+    let holds : content_at sheets c.in-Some.sheet ≡ Gerber (gerber_content c.in-Gerber.layer) =
+    sym c.content.ensures ∙ ap content_of c.in-Gerber.is in
+    let p = err_from_is_err_and c.from_residual.result c.from_residual.ensures.1 in
+    rw (p.1, p.2)
+    (told c.args.edit sheets c.in-Some.sheet (sym c.in-Some.ensures.value) c.in-Some.ensures.within
+    (gerber_content c.in-Gerber.layer) holds c.in_err-step-in-Gerber.field-0.0
+    (sym c.in_err-step-in-Gerber.ensures.value))
+
+pub touched-requires-clause-sound : goal.touched-requires-clause-sound
+touched-requires-clause-sound c =
+    let sheets = sheets_of c.args.board.now in
+    let holds : content_at sheets c.in-Some.sheet ≡ Gerber (gerber_content c.in-Gerber.layer) =
+    sym c.content.ensures ∙ ap content_of c.in-Gerber.is in
+    sound_there c.args.edit sheets c.in-Some.sheet (sym c.in-Some.ensures.value) c.in-Some.ensures.within c.requires
+    (Gerber (gerber_content c.in-Gerber.layer)) holds
+
+pub touched-requires-clause-accepted : goal.touched-requires-clause-accepted
+touched-requires-clause-accepted c =
+    (gerber_edits.accepted (gerber_content c.in-Gerber.layer) (step_of c.args.edit.change) c.in_ok-step-in-Gerber.step
+    (sym c.in_ok-step-in-Gerber.ensures.value)).1
+
+pub returns-in_err-boxes-in-Gerber-clause-refused : goal.returns-in_err-boxes-in-Gerber-clause-refused
+returns-in_err-boxes-in-Gerber-clause-refused c =
+    let sheets = sheets_of c.args.board.now in
+    let holds : content_at sheets c.in-Some.sheet ≡ Gerber (gerber_content c.in-Gerber.layer) =
+    sym c.content.ensures ∙ ap content_of c.in-Gerber.is in
+    let up = c.from_residual-in_err-boxes-in-Gerber in
+    let p = err_from_is_err_and up.result up.ensures.1 in
+    rw p.1
+    (no_memory c.args.edit sheets c.in-Some.sheet (sym c.in-Some.ensures.value) c.in-Some.ensures.within
+    (gerber_content c.in-Gerber.layer) holds c.in_ok-step-in-Gerber.step (sym c.in_ok-step-in-Gerber.ensures.value)
+    p.0 p.2)
+
+pub returns-in-Gerber-clause-planned : goal.returns-in-Gerber-clause-planned
+returns-in-Gerber-clause-planned c =
+    let sheets = sheets_of c.args.board.now in
+    let holds : content_at sheets c.in-Some.sheet ≡ Gerber (gerber_content c.in-Gerber.layer) =
+    sym c.content.ensures ∙ ap content_of c.in-Gerber.is in
+    planned c.args.edit sheets c.in-Some.sheet (sym c.in-Some.ensures.value) c.in-Some.ensures.within
+    (gerber_content c.in-Gerber.layer) holds c.in_ok-step-in-Gerber.step (sym c.in_ok-step-in-Gerber.ensures.value)
+    c.in_ok-boxes-in-Gerber.boxes c.in_ok-boxes-in-Gerber.ensures c.in_ok-step-in-Gerber.ensures.fits
+
+pub judged_drill-requires : goal.judged_drill-requires
+judged_drill-requires c =
+    let sheets = sheets_of c.args.board.now in
+    let holds : content_at sheets c.in-Some.sheet ≡ Drill (drill_content c.in-Drill.layer) =
+    sym c.content.ensures ∙ ap content_of c.in-Drill.is in
+    sound_there c.args.edit sheets c.in-Some.sheet (sym c.in-Some.ensures.value) c.in-Some.ensures.within c.requires
+    (Drill (drill_content c.in-Drill.layer)) holds
+
+pub returns-in_err-step-in-Drill-clause-refused : goal.returns-in_err-step-in-Drill-clause-refused
+returns-in_err-step-in-Drill-clause-refused c =
+    let sheets = sheets_of c.args.board.now in
+    let holds : content_at sheets c.in-Some.sheet ≡ Drill (drill_content c.in-Drill.layer) =
+    sym c.content.ensures ∙ ap content_of c.in-Drill.is in
+    let up = c.from_residual-in_err-step-in-Drill in
+    let p = err_from_is_err_and up.result up.ensures.1 in
+    rw (p.1, p.2)
+    (drill_told c.args.edit sheets c.in-Some.sheet (sym c.in-Some.ensures.value) c.in-Some.ensures.within
+    (drill_content c.in-Drill.layer) holds c.in_err-step-in-Drill.field-0.0 (sym c.in_err-step-in-Drill.ensures.value))
+
+pub drill_touched-requires-clause-sound : goal.drill_touched-requires-clause-sound
+drill_touched-requires-clause-sound c =
+    let sheets = sheets_of c.args.board.now in
+    let holds : content_at sheets c.in-Some.sheet ≡ Drill (drill_content c.in-Drill.layer) =
+    sym c.content.ensures ∙ ap content_of c.in-Drill.is in
+    sound_there c.args.edit sheets c.in-Some.sheet (sym c.in-Some.ensures.value) c.in-Some.ensures.within c.requires
+    (Drill (drill_content c.in-Drill.layer)) holds
+
+pub drill_touched-requires-clause-accepted : goal.drill_touched-requires-clause-accepted
+drill_touched-requires-clause-accepted c =
+    (drill_edits.accepted (drill_content c.in-Drill.layer) (drill_step_of c.args.edit.change) c.in_ok-step-in-Drill.step
+    (sym c.in_ok-step-in-Drill.ensures.value)).1
+
+pub returns-in_err-boxes-in-Drill-clause-refused : goal.returns-in_err-boxes-in-Drill-clause-refused
+returns-in_err-boxes-in-Drill-clause-refused c =
+    let sheets = sheets_of c.args.board.now in
+    let holds : content_at sheets c.in-Some.sheet ≡ Drill (drill_content c.in-Drill.layer) =
+    sym c.content.ensures ∙ ap content_of c.in-Drill.is in
+    let up = c.from_residual-in_err-boxes-in-Drill in
+    let p = err_from_is_err_and up.result up.ensures.1 in
+    rw p.1
+    (drill_no_memory c.args.edit sheets c.in-Some.sheet (sym c.in-Some.ensures.value) c.in-Some.ensures.within
+    (drill_content c.in-Drill.layer) holds c.in_ok-step-in-Drill.step (sym c.in_ok-step-in-Drill.ensures.value) p.0 p.2)
+
+pub returns-clause-planned : goal.returns-clause-planned
+returns-clause-planned c =
+    let sheets = sheets_of c.args.board.now in
+    let holds : content_at sheets c.in-Some.sheet ≡ Drill (drill_content c.in-Drill.layer) =
+    sym c.content.ensures ∙ ap content_of c.in-Drill.is in
+    drill_planned c.args.edit sheets c.in-Some.sheet (sym c.in-Some.ensures.value) c.in-Some.ensures.within
+    (drill_content c.in-Drill.layer) holds c.in_ok-step-in-Drill.step (sym c.in_ok-step-in-Drill.ensures.value)
+    c.in_ok-boxes-in-Drill.boxes c.in_ok-boxes-in-Drill.ensures c.in_ok-step-in-Drill.ensures.fits

@@ -1,0 +1,29 @@
+-- Boards: sheets in the order in which they were added, found by their names.
+use Rattle.std.specs.Prelude.{ℕ, List, [], Option, None, Some, position, slice_get}
+use Rattle.std.specs.Str.{bytes_eq}
+use Rattle.cam_edits.specs.Places.{changed}
+use Rattle.cam_edits.specs.Sheets.{Content, Gerber, Sheet, sheet}
+
+-- where the sheet of this name stands
+unfoldable pub place_of : List ℕ → List Sheet → Option ℕ
+place_of name sheets = position (λ s. bytes_eq s.name name) sheets
+
+-- a layer without entries and items
+abbrev pub empty_content : Content
+empty_content = Gerber (record { entries = []; items = [] })
+
+abbrev pub held : Option Sheet → Content
+held None = empty_content
+held (Some s) = s.content
+
+-- what the sheet at a place holds
+abbrev pub content_at : List Sheet → ℕ → Content
+content_at sheets place = held (slice_get sheets place)
+
+-- a sheet with what comes of its content
+abbrev pub with_content : (Content → Content) → Sheet → Sheet
+with_content change s = sheet s.name (change s.content)
+
+-- the sheets, what the one at a place holds changed
+abbrev pub changed_at : (Content → Content) → ℕ → List Sheet → List Sheet
+changed_at change place sheets = changed (with_content change) sheets place

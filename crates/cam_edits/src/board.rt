@@ -1,0 +1,124 @@
+//! Boards: named layers in order.
+
+ghost use Rattle.std.specs.Prelude.{◌≡◌, ◌<◌, ◌==◌, ◌++◌, ◌∷◌, [], IfSome, OnErr, OnOk, length, position};
+ghost use Rattle.std.specs.Str.{bytes_eq};
+ghost use Rattle.cam_edits.specs.BoardSteps.{HasPlaces};
+ghost use Rattle.cam_edits.specs.Boards.{content_at, place_of};
+ghost use Rattle.cam_edits.specs.Sheets.{content_of, entry_count, item_count, sheet_of, sheets_of};
+
+use crate::name::Name;
+use cam_objects::{DrillLayer, Layer};
+use std::alloc::{AllocError, Global};
+
+/// A layer of one of two kinds.
+#[derive(Drop)]
+pub enum SheetContent {
+    Gerber(Layer),
+    Drill(DrillLayer),
+}
+
+impl SheetContent {
+    /// How many items there are.
+    pub fn item_count(&self) -> usize
+        ensures { result ≡ item_count (content_of self.now) }
+    {
+        match self {
+            SheetContent::Gerber(layer) => layer.items().len(),
+            SheetContent::Drill(layer) => layer.items().len(),
+        }
+    }
+
+    /// How many apertures and blocks, or tools, are defined.
+    pub fn entry_count(&self) -> usize
+        ensures { result ≡ entry_count (content_of self.now) }
+    {
+        match self {
+            SheetContent::Gerber(layer) => layer.entries().len(),
+            SheetContent::Drill(layer) => layer.tools().len(),
+        }
+    }
+
+    /// Makes room for so many items more; refused for want of memory alone. The content stays.
+    pub(crate) fn reserve(&mut self, more: usize) -> Result<(), AllocError>
+        ensures content { content_of self.new ≡ content_of self.old }
+        ensures room { OnOk result (HasPlaces more self.new) }
+    {
+        match self {
+            SheetContent::Gerber(layer) => layer.items.reserve(more),
+            SheetContent::Drill(layer) => layer.items.reserve(more),
+        }
+    }
+}
+
+/// A layer under its name.
+#[derive(Drop)]
+pub struct Sheet {
+    pub name: Name,
+    pub content: SheetContent,
+}
+
+/// The sheets, in the order in which they were added.
+#[derive(Drop)]
+pub struct Board {
+    pub sheets: Vec<Sheet>,
+}
+
+impl Board {
+    /// No sheet.
+    pub fn new(alloc: Global) -> Board
+        ensures { sheets_of result ≡ [] }
+    {
+        Board {
+            sheets: Vec::new(alloc),
+        }
+    }
+
+    /// How many sheets there are.
+    pub fn len(&self) -> usize
+        ensures { result ≡ length (sheets_of self.now) }
+    {
+        self.sheets.len()
+    }
+
+    /// Whether there is no sheet.
+    pub fn is_empty(&self) -> bool
+        ensures { result ≡ (length (sheets_of self.now) == 0) }
+    {
+        self.sheets.is_empty()
+    }
+
+    /// The place, from 0, of the first sheet of this name.
+    pub fn place(&self, name: &Name) -> Option<usize>
+        ensures value { result ≡ place_of name.now (sheets_of self.now) }
+        ensures within { IfSome result (λ place. place < length (sheets_of self.now)) }
+    {
+        place_among(&self.sheets, name)
+    }
+
+    /// What the sheet at a place holds.
+    pub fn content(&self, place: usize) -> &SheetContent
+        requires { place < length (sheets_of self.now) }
+        ensures { content_of result.now ≡ content_at (sheets_of self.now) place }
+    {
+        &self.sheets[place].content
+    }
+
+    /// Adds a sheet behind the others; refused for want of memory alone.
+    pub fn add(&mut self, sheet: Sheet) -> Result<(), AllocError>
+        ensures ok { OnOk result (sheets_of self.new ≡ sheets_of self.old ++ sheet_of sheet ∷ []) }
+        ensures err { OnErr result (sheets_of self.new ≡ sheets_of self.old) }
+    {
+        self.sheets.push(sheet)?;
+        Ok(())
+    }
+}
+
+/// The place, from 0, of the first of the sheets that has this name.
+fn place_among(sheets: &[Sheet], name: &Name) -> Option<usize>
+    ensures value { result ≡ position (λ s. bytes_eq s.name name.now) sheets.now }
+    ensures within { IfSome result (λ place. place < length sheets.now) }
+{
+    sheets
+        .iter()
+        .position(|sheet| sheet.name.as_str() == name.as_str())
+}

@@ -1,0 +1,54 @@
+//! Why an edit is refused.
+
+ghost use Rattle.std.specs.Prelude.{◌≡◌};
+ghost use Rattle.cam_edits.specs.declared.fault.EditFault.TheVariants.{Memory};
+
+use std::alloc::AllocError;
+use thiserror::Error;
+
+/// Why an edit is refused, in the order in which the refusals are told.
+#[derive(Clone, Copy, Debug, PartialEq, Eq, Drop, Error)]
+pub enum EditFault {
+    /// There is no layer of the name (60).
+    #[error("there is no layer of this name")]
+    NoLayer,
+    /// The edit or its item does not go with the kind of the layer, or the item is malformed: a repeat of one copy or
+    /// none or without an object, a contour without a segment, a rout without a point (68).
+    #[error("the edit does not go with the layer")]
+    WrongKind,
+    /// The layer has no item at the place, or an insertion is to stand past its end (61).
+    #[error("the layer has no item at this place")]
+    NoItem,
+    /// A region or a repeat has no aperture, and a repeat no polarity (64).
+    #[error("the item has none")]
+    HasNone,
+    /// The layer has no aperture or block of the number (62).
+    #[error("the layer has no aperture of this number")]
+    NoAperture,
+    /// The drill layer has no tool of the number (66).
+    #[error("the layer has no tool of this number")]
+    NoTool,
+    /// A draw or an arc with anything but a solid circle (63).
+    #[error("draws and arcs need a solid circle")]
+    WrongAperture,
+    /// An arc of radius 0, or a tool's diameter outside 1 to 200,000,000 nm (67).
+    #[error("the size is outside its limits")]
+    SizeRefused,
+    /// A control point would leave the board, as it stands or in a leaf (65).
+    #[error("a control point would leave the board")]
+    OutOfBoard,
+    /// The item or the layer would have more than the limits allow (69).
+    #[error("the layer would pass its limits")]
+    TooMuch,
+    /// Memory was refused (30).
+    #[error("no memory")]
+    Memory,
+}
+
+impl From<AllocError> for EditFault {
+    ghost from_gives = { λ _ fault. fault ≡ Memory };
+
+    fn from(_error: AllocError) -> EditFault {
+        EditFault::Memory
+    }
+}

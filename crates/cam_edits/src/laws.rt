@@ -1,0 +1,15 @@
+//! Laws of edits. Each function does nothing: its contract is a law of what edits mean.
+
+ghost use Rattle.cam_edits.specs.BoxLaws.{EditBoxLaw};
+ghost use Rattle.cam_edits.specs.Planning.{EditsStaySound};
+
+/// What an edit makes of sound layers is sound.
+pub fn edits_stay_sound()
+    ensures { EditsStaySound }
+{}
+
+/// A place outside the boxes that an accepted edit touches has the same colour before and after it, and layers other
+/// than the edited one stay as they are.
+pub fn edits_stay_in_their_boxes()
+    ensures { EditBoxLaw }
+{}
