@@ -5,7 +5,6 @@ use Rattle.std.proofs.Common.{refl, sym, ap, ◌∙◌, length-append, append_as
 use Rattle.std.specs.Fmt.{decimal}
 use Rattle.std.specs.Int.{bit_at}
 use Rattle.std.specs.List.{range_with_len, flat_map}
-use Rattle.std.proofs.Math.Nat.{pow-suc, pow-le-pow_right}
 use Rattle.std.proofs.Math.Seq.{take-append_seam}
 use Rattle.std.proofs.lemmas.Bool.{lt-ltb, le-ltb}
 use Rattle.std.proofs.lemmas.Fmt.{IsAscii-decimal}
@@ -14,7 +13,7 @@ use Rattle.std.proofs.lemmas.List.Elements.{All-append, All-cons, All-nil, All-f
 use Rattle.std.proofs.lemmas.List.FromFn.{length-map-range_with_len, get_or-map-range_with_len, map-range_with_len_more}
 use Rattle.cam_tiles.specs.Pbm.{header, bit_of, byte_of, bytes_across, padded, row_of, pbm, byte_at, IsPixelSet}
 
-bit_of-lt : (b : Bool) → bit_of b < 2
+pub bit_of-lt : (b : Bool) → bit_of b < 2
 bit_of-lt true = omega arith
 bit_of-lt false = omega arith
 
@@ -78,26 +77,8 @@ byte_of-lt black =
     (bit_of-lt (black 0)) (bit_of-lt (black 1)) (bit_of-lt (black 2)) (bit_of-lt (black 3))
     (bit_of-lt (black 4)) (bit_of-lt (black 5)) (bit_of-lt (black 6)) (bit_of-lt (black 7))
 
--- pixels read from the left, each at the lower end of those before it
-abbrev pub scanned : (ℕ → Bool) → ℕ → ℕ
-scanned black zero = 0
-scanned black (suc n) = 2 * scanned black n + bit_of (black n)
-
-pub byte_of-scanned : (black : ℕ → Bool) → scanned black 8 ≡ byte_of black
-unfolding byte_of
-byte_of-scanned black = omega arith
-
-scanned-lt : (black : ℕ → Bool) (n : ℕ) → scanned black n < 2 ^ n
-scanned-lt black zero = omega arith
-scanned-lt black (suc n) = omega (arith, scanned-lt black n, bit_of-lt (black n), pow-suc 2 n)
-
-pub scanned_fits : (black : ℕ → Bool) (n : ℕ) → n < 8 → scanned black n < 128
-scanned_fits black n h =
-    let most : 2 ^ n ≤ 2 ^ 7 = pow-le-pow_right {n = 2} (omega arith) {i = n} {j = 7} (omega arith) in
-    omega (arith, scanned-lt black n, most)
-
 -- a byte of a row
-abbrev byte_in : (ℕ → Bool) → ℕ → ℕ → ℕ
+abbrev pub byte_in : (ℕ → Bool) → ℕ → ℕ → ℕ
 byte_in black width k = byte_of (λ i. padded black width (8 * k + i))
 
 length-row_of : (black : ℕ → Bool) (width : ℕ) → length (row_of black width) ≡ bytes_across width
@@ -138,7 +119,7 @@ get_or-pieces f m h a (suc n) (suc r) j inside within =
 abbrev pub row_in : (ℕ → ℕ → Bool) → ℕ → ℕ → List ℕ
 row_in black width row = row_of (λ column. black column row) width
 
-abbrev rows_of : (ℕ → ℕ → Bool) → ℕ → ℕ → List ℕ
+abbrev pub rows_of : (ℕ → ℕ → Bool) → ℕ → ℕ → List ℕ
 rows_of black width height = flat_map (row_in black width) (range_with_len 0 height)
 
 length-row_in : (black : ℕ → ℕ → Bool) (width row : ℕ) → length (row_in black width row) ≡ bytes_across width

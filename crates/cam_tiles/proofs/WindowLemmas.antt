@@ -29,10 +29,10 @@ middle_between e (pos q) n m h k first last =
     between e (1 * q) ((2 * n + 1) * q) ((2 * m + 1) * q) low high first last
 middle_between e (negsuc q) n m h k first last = absurd (omega (arith, ints))
 
-le_of : (a b : ℤ) → int_le a b ≡ true → a ≤ℤ b
+pub le_of : (a b : ℤ) → int_le a b ≡ true → a ≤ℤ b
 le_of a b h = grind (arith, ints)
 
-from_le : (a b : ℤ) → a ≤ℤ b → int_le a b ≡ true
+pub from_le : (a b : ℤ) → a ≤ℤ b → int_le a b ≡ true
 from_le a b h = grind (arith, ints)
 
 side : (n : ℕ) → is_side n ≡ true → (1 ≤ n) × (n ≤ longest_side)

@@ -1,3 +1,9 @@
+pub mod Kept
 pub mod Pbm
 pub mod Picture
-pub mod LayerImage
+pub mod Sources
+pub mod Spans
+pub mod Tables
+pub mod TileLaws
+pub mod Tiles
+pub mod Touched

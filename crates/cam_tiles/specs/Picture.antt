@@ -1,5 +1,5 @@
 -- The picture of an image in a window. An image is a test of places, true where they are black.
-use Rattle.std.specs.Prelude.{◌≡◌, ℕ, ◌+◌, ◌*◌, ◌-◌, ◌/◌, ◌<◌, ◌≤◌, ℤ, pos, ◌+ℤ◌, ◌*ℤ◌, ◌≤ℤ◌, ◌↔◌}
+use Rattle.std.specs.Prelude.{◌≡◌, ℕ, ◌+◌, ◌*◌, ◌-◌, ◌<◌, ◌≤◌, ℤ, pos, ◌+ℤ◌, ◌*ℤ◌, ◌≤ℤ◌, ◌↔◌}
 use Rattle.std.specs.Prelude.{Bool, true, ◌&&◌, nat_lt, nat_le, List, length, take, All}
 use Rattle.std.specs.Int.RustNames.{int_le, unsigned_abs}
 use Rattle.cam_units.specs.declared.point.Spot.{Spot}
@@ -56,10 +56,6 @@ pixels_of w image column row = image (centre_of w column row)
 -- the PBM file of an image's picture
 unfoldable pub plot_of : Window → (Spot → Bool) → List ℕ
 plot_of w image = pbm (pixels_of w image) w.width w.height
-
--- how many tiles of 64 by 64 pixels a window has
-unfoldable pub tiles_of : Window → ℕ
-tiles_of w = ((w.width + 63) / 64) * ((w.height + 63) / 64)
 
 -- the pixel's bit is set in the file of a window
 abbrev pub IsPixelBlack : List ℕ → Window → ℕ → ℕ → Type 0

@@ -1,6 +1,7 @@
 //! Laws of pictures. Each function does nothing: its contract is a law of what plots show.
 
 ghost use Rattle.cam_tiles.specs.Picture.{AcceptLaw, OnePlotLaw, PlotLaw};
+ghost use Rattle.cam_tiles.specs.TileLaws.{PictureLaw, RedrawLaw, TouchLaw};
 
 /// A window is accepted exactly where its sides and its pitch are in their limits and the
 /// centres of all its pixels are places of the board.
@@ -16,4 +17,20 @@ pub fn plots_show_the_image()
 /// No other file than the plot shows the image.
 pub fn one_file_shows_the_image()
     ensures { OnePlotLaw }
+{}
+
+/// Boxes make exactly those tiles dirty that hold a pixel centre in one of them, and keep the others and their pixels.
+pub fn boxes_touch_their_tiles()
+    ensures { TouchLaw }
+{}
+
+/// A redraw draws the dirty tiles of least number, as many as it may, and keeps all others.
+pub fn dirty_tiles_are_drawn_in_order()
+    ensures { RedrawLaw }
+{}
+
+/// Each clean tile shows an image from the beginning on, through redraws, and through changes of the image inside of
+/// boxes that touch them; and the file of clean tiles is the image's plot.
+pub fn clean_tiles_show_the_image()
+    ensures { PictureLaw }
 {}

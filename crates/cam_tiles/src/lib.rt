@@ -1,22 +1,33 @@
-//! Pictures of images in windows of pixels, as raw PBM files (netpbm's pbm(5), "P4").
+//! Rasters of windows of pixels, in tiles that are drawn where they are dirty, and their raw PBM files (netpbm's
+//! pbm(5), "P4").
 //!
-//! An [`Image`] tells of each place of the board whether it is black there; a layer is one, and so is a drill
-//! layer. A [`Window`] has its lower left corner and its pitch in nanometres and its sides in pixels; column 0 is
-//! at the left, row 0 at the top. A pixel is black exactly where the image is black at the pixel's centre. Each
-//! plot asks the image at every centre.
+//! A [`Window`] has its lower left corner and its pitch in nanometres and its sides in pixels; column 0 is at the left,
+//! row 0 at the top. A [`Raster`] keeps its tiles of 64 by 64 pixels: [`Raster::touch`] makes those dirty that a box
+//! reaches, [`Raster::redraw`] has a [`Painter`] draw as many of them as it may. A [`Source`] paints a layer of either
+//! kind: a pixel is black exactly where the layer is black at the pixel's centre.
 //!
-//! What a picture is stands in `specs/Picture.antt`, its file in `specs/Pbm.antt`, and the images of layers in
-//! `specs/LayerImage.antt`.
+//! What a picture is stands in `specs/Picture.antt`, its file in `specs/Pbm.antt`, tiles in `specs/Tiles.antt`, what is
+//! kept of them in `specs/Tables.antt`, and what boxes touch in `specs/Touched.antt`. The laws in `specs/TileLaws.antt`
+//! say that clean tiles show the image, whatever is touched and drawn in between.
 #![tactic(auto)]
 
-mod drill_image;
-mod image;
+mod fault;
+mod grid;
 mod laws;
+mod painter;
 mod pbm;
-mod picture;
+mod raster;
+mod source;
+mod touch;
 mod window;
 
-pub use image::Image;
-pub use laws::{acceptance_is_by_all_centres, one_file_shows_the_image, plots_show_the_image};
-pub use picture::plot;
+pub use fault::RasterFault;
+pub use grid::Grid;
+pub use laws::{
+    acceptance_is_by_all_centres, boxes_touch_their_tiles, clean_tiles_show_the_image,
+    dirty_tiles_are_drawn_in_order, one_file_shows_the_image, plots_show_the_image,
+};
+pub use painter::Painter;
+pub use raster::Raster;
+pub use source::Source;
 pub use window::Window;

@@ -2,8 +2,10 @@
 
 ghost use Rattle.std.specs.Prelude.{◌≡◌, ◌&&◌, ◌<◌, true};
 ghost use Rattle.cam_units.specs.Board.{IsPlace};
-ghost use Rattle.cam_tiles.specs.Picture.{accepts, are_near, centre_of, is_pitch, is_side, middle, tiles_of};
+ghost use Rattle.cam_tiles.specs.Picture.{accepts, are_near, centre_of, is_pitch, is_side, middle};
+ghost use Rattle.cam_tiles.specs.Tiles.{IsGrid, across, grid_of, tiles_of};
 
+use crate::grid::Grid;
 use cam_units::Spot;
 
 /// The most pixels of a side.
@@ -50,11 +52,36 @@ impl Window {
 
     /// How many tiles of 64 by 64 pixels the window has; those at its right and lower edge
     /// may be smaller.
-    pub fn tile_count(&self) -> u64
+    pub fn tile_count(&self) -> u32
         requires { accepts self.now ≡ true }
         ensures { result ≡ tiles_of self.now }
     {
-        u64::from(self.width.div_ceil(64)) * u64::from(self.height.div_ceil(64))
+        self.across() * self.height.div_ceil(64)
+    }
+
+    /// How many tiles stand side by side.
+    pub(crate) fn across(&self) -> u32
+        requires { accepts self.now ≡ true }
+        ensures { result ≡ across self.now }
+    {
+        self.width.div_ceil(64)
+    }
+
+    /// The centres of a tile, which is counted from the top left, row by row.
+    pub(crate) fn grid(&self, tile: u32) -> Grid
+        requires accepted { accepts self.now ≡ true }
+        requires tile { tile < tiles_of self.now }
+        ensures value { result ≡ grid_of self.now tile }
+        ensures grid { IsGrid result }
+    {
+        let left = 64 * (tile % self.across());
+        let top = 64 * (tile / self.across());
+        Grid {
+            first: self.centre(left, top),
+            step: 2 * self.pitch,
+            columns: (self.width - left).min(64),
+            rows: (self.height - top).min(64),
+        }
     }
 
     /// The centre of a pixel.

@@ -1,11 +1,14 @@
-use Rattle.std.proofs.Common.{◌≡◌, ℕ, ◌+◌, ◌*◌, ◌++◌, Bool, map}
+use Rattle.std.proofs.Common.{◌≡◌, ◌++◌, map}
 use Rattle.std.specs.List.{range_with_len}
-use Rattle.cam_tiles.specs.Pbm.{byte_of, padded}
-use Rattle.cam_tiles.specs.Picture.{pixels_of}
+use Rattle.cam_tiles.specs.Tables.{is_pixel_black}
+use Rattle.cam_tiles.proofs.PbmLemmas.{byte_in}
 use Rattle.cam_tiles.proofs.pbm.push_row.Given as goal
 
+-- the first bytes of the row
 abbrev pub invariant-loop-k : goal.invariant-loop-k
-invariant-loop-k g l =
-    let black : ℕ → Bool = λ column. pixels_of l.window (g.I.Image.is_black l.image) column l.row in
+invariant-loop-k l =
     l.file.items
-    ≡ l.fn.file.items ++ map (λ k. byte_of (λ i. padded black l.window.width (8 * k + i))) (range_with_len 0 l.k)
+    ≡ l.fn.file.items
+    ++ map
+    (byte_in (λ column. is_pixel_black (record { window = l.window; tiles = l.tiles }) column l.row) l.window.width)
+    (range_with_len 0 l.k)

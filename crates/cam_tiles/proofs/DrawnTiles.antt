@@ -1,0 +1,135 @@
+-- Redraws: the dirty tiles of least number are drawn, and the others kept.
+use Rattle.std.proofs.Common.{◌≡◌, ℕ, zero, suc, ◌+◌, ◌-◌, ◌<◌, min, Bool, nat_lt, if◌then◌else◌}
+use Rattle.std.proofs.Common.{List, [], ◌∷◌, ◌++◌, length, take, drop, count_by, cond, slice_get, Some, None}
+use Rattle.std.proofs.Common.{is_none, is_some, option_and_then, refl, sym, ap, ◌∙◌, inl, inr, arith}
+use Rattle.std.proofs.lemmas.Bool.{cases_lt, le-ltb, lt-ltb}
+use Rattle.std.proofs.lemmas.List.{take-append-drop}
+use Rattle.std.proofs.lemmas.List.Sums.{sum_by-cons}
+use Rattle.cam_units.specs.declared.point.Spot.{Spot}
+use Rattle.cam_tiles.specs.Tables.{Table, Tile, drawn_from}
+use Rattle.cam_tiles.specs.TileLaws.{RedrawLaw}
+use Rattle.cam_tiles.specs.Tiles.{grid_of, tile_rows}
+
+-- how many tiles are dirty
+abbrev pub dirty : List Tile → ℕ
+dirty tiles = count_by is_none tiles
+
+pub dirty_after_clean : (rows : List ℕ) (tiles : List Tile) → dirty (Some rows ∷ tiles) ≡ dirty tiles
+dirty_after_clean rows tiles = omega (arith, sum_by-cons (λ tile. cond (is_none tile) 1 0) (Some rows) tiles)
+
+pub dirty_after_dirty : (tiles : List Tile) → dirty (None ∷ tiles) ≡ 1 + dirty tiles
+dirty_after_dirty tiles = sum_by-cons (λ tile. cond (is_none tile) 1 0) None tiles
+
+module _ (draw : ℕ → List ℕ) where
+  -- where none is to be drawn, all are kept
+  pub none_drawn : (k : ℕ) (tiles : List Tile) → drawn_from draw k 0 tiles ≡ tiles
+  none_drawn k [] = refl
+  none_drawn k (Some rows ∷ tiles) = ap (λ rest. Some rows ∷ rest) (none_drawn (k + 1) tiles)
+  none_drawn k (None ∷ tiles) = refl
+
+  pub length-drawn_from : (k n : ℕ) (tiles : List Tile) → length (drawn_from draw k n tiles) ≡ length tiles
+  length-drawn_from k n [] = refl
+  length-drawn_from k n (Some rows ∷ tiles) = ap suc (length-drawn_from (k + 1) n tiles)
+  length-drawn_from k zero (None ∷ tiles) = refl
+  length-drawn_from k (suc n) (None ∷ tiles) = ap suc (length-drawn_from (k + 1) n tiles)
+
+  -- as many fewer are dirty as are drawn
+  pub dirty-drawn_from : (k n : ℕ) (tiles : List Tile) → dirty (drawn_from draw k n tiles) ≡ dirty tiles - n
+  dirty-drawn_from k n [] = omega arith
+  dirty-drawn_from k n (Some rows ∷ tiles) =
+      dirty_after_clean rows (drawn_from draw (k + 1) n tiles) ∙ dirty-drawn_from (k + 1) n tiles
+      ∙ ap (λ m. m - n) (sym (dirty_after_clean rows tiles))
+  dirty-drawn_from k zero (None ∷ tiles) = omega arith
+  dirty-drawn_from k (suc n) (None ∷ tiles) =
+      omega (
+        arith,
+        dirty_after_clean (draw k) (drawn_from draw (k + 1) n tiles),
+        dirty-drawn_from (k + 1) n tiles,
+        dirty_after_dirty tiles,
+      )
+
+  -- no more are drawn than are dirty
+  pub drawn_as_many : (k n m : ℕ) (tiles : List Tile) → m ≡ min n (dirty tiles)
+      → drawn_from draw k n tiles ≡ drawn_from draw k m tiles
+  drawn_as_many k n m [] e = refl
+  drawn_as_many k n m (Some rows ∷ tiles) e =
+      ap (λ rest. Some rows ∷ rest) (drawn_as_many (k + 1) n m tiles (omega (arith, dirty_after_clean rows tiles)))
+  drawn_as_many k zero zero (None ∷ tiles) e = refl
+  drawn_as_many k zero (suc m) (None ∷ tiles) e = absurd (omega arith)
+  drawn_as_many k (suc n) zero (None ∷ tiles) e = absurd (omega (arith, dirty_after_dirty tiles))
+  drawn_as_many k (suc n) (suc m) (None ∷ tiles) e =
+      ap (λ rest. Some (draw k) ∷ rest) (drawn_as_many (k + 1) n m tiles (omega (arith, dirty_after_dirty tiles)))
+
+  -- the tiles after those from number k on are drawn
+  abbrev pub drawn_behind : ℕ → ℕ → List Tile → List Tile
+  drawn_behind k n tiles = take k tiles ++ drawn_from draw k n (drop k tiles)
+
+  pub all_drawn : (k n : ℕ) (tiles drawn : List Tile) → drawn ≡ drawn_behind k n tiles → n ≡ 0 → tiles ≡ drawn
+  all_drawn k n tiles drawn e none =
+      sym (e ∙ ap (λ m. drawn_behind k m tiles) none ∙ ap (λ rest. take k tiles ++ rest) (none_drawn k (drop k tiles))
+      ∙ take-append-drop k tiles)
+
+-- what is kept of a tile in a list
+abbrev at : List Tile → ℕ → Tile
+at tiles k = option_and_then (λ tile. tile) (slice_get tiles k)
+
+-- a dirty tile is drawn where it is one of the first
+abbrev drawn_where : Bool → List ℕ → Tile → Tile
+drawn_where is_first rows tile = if is_some tile then tile else (if is_first then Some rows else None)
+
+before_one_more : (m n more : ℕ) → more ≡ 1 + m → nat_lt m n ≡ nat_lt more (suc n)
+before_one_more m n more e =
+    elim (cases_lt m n) [
+      | inl under ↦ lt-ltb m n under ∙ sym (lt-ltb more (suc n) (omega arith))
+      | inr over ↦ le-ltb m n over ∙ sym (le-ltb more (suc n) (omega arith))
+    ]
+
+module _ (draw : ℕ → List ℕ) (rows : List ℕ) where
+  tile-drawn_from : (a n : ℕ) (tiles : List Tile) (k : ℕ) → k < length tiles → rows ≡ draw (a + k)
+      → at (drawn_from draw a n tiles) k ≡ drawn_where (nat_lt (dirty (take k tiles)) n) rows (at tiles k)
+  tile-drawn_from a n [] k within e = absurd (omega arith)
+  tile-drawn_from a n (Some kept ∷ tiles) zero within e = refl
+  tile-drawn_from a zero (None ∷ tiles) zero within e = refl
+  tile-drawn_from a (suc n) (None ∷ tiles) zero within e =
+      let here : a + 0 ≡ a = omega arith in
+      ap Some (sym (ap draw here) ∙ sym e)
+      ∙ ap (λ first. drawn_where first rows None) (sym (lt-ltb 0 (suc n) (omega arith)))
+  tile-drawn_from a n (Some kept ∷ tiles) (suc k) within e =
+      let there : a + suc k ≡ a + 1 + k = omega arith in
+      tile-drawn_from (a + 1) n tiles k (omega arith) (e ∙ ap draw there)
+      ∙ ap (λ m. drawn_where (nat_lt m n) rows (at tiles k)) (sym (dirty_after_clean kept (take k tiles)))
+  tile-drawn_from a zero (None ∷ tiles) (suc k) within e =
+      let there : a + suc k ≡ a + 1 + k = omega arith in
+      ap (λ rest. at rest k) (sym (none_drawn draw (a + 1) tiles))
+      ∙ tile-drawn_from (a + 1) zero tiles k (omega arith) (e ∙ ap draw there)
+      ∙ ap (λ first. drawn_where first rows (at tiles k))
+      (le-ltb (dirty (take k tiles)) 0 (omega arith) ∙ sym (le-ltb (dirty (None ∷ take k tiles)) 0 (omega arith)))
+  tile-drawn_from a (suc n) (None ∷ tiles) (suc k) within e =
+      let there : a + suc k ≡ a + 1 + k = omega arith in
+      tile-drawn_from (a + 1) n tiles k (omega arith) (e ∙ ap draw there)
+      ∙ ap (λ first. drawn_where first rows (at tiles k))
+      (before_one_more (dirty (take k tiles)) n (dirty (None ∷ take k tiles)) (dirty_after_dirty (take k tiles)))
+
+pub redraw_law : RedrawLaw
+redraw_law = record {
+  tiles = λ image n t k is_table within.
+      let draw : ℕ → List ℕ = λ i. tile_rows image (grid_of t.window i) in
+      let here : k ≡ 0 + k = omega arith in
+      tile-drawn_from draw (draw k) 0 n t.tiles k (omega (arith, is_table.full)) (ap draw here);
+  count = λ image n t. dirty-drawn_from (λ i. tile_rows image (grid_of t.window i)) 0 n t.tiles;
+}
+
+-- what a redraw leaves, where m tiles are drawn of those that were there
+module _ (image : Spot → Bool) (n m : ℕ) (t : Table) (before drawn : List Tile) (few : m ≡ min n (dirty t.tiles))
+    (was : before ≡ t.tiles) (is : drawn ≡ drawn_from (λ k. tile_rows image (grid_of t.window k)) 0 m before) where
+  abbrev draw : ℕ → List ℕ
+  draw k = tile_rows image (grid_of t.window k)
+
+  pub redrawn_as_many : drawn ≡ drawn_from draw 0 n t.tiles
+  redrawn_as_many = is ∙ ap (drawn_from draw 0 m) was ∙ sym (drawn_as_many draw 0 n m t.tiles few)
+
+  pub redrawn_length : length drawn ≡ length t.tiles
+  redrawn_length = ap length redrawn_as_many ∙ length-drawn_from draw 0 n t.tiles
+
+  pub redrawn_dirty : dirty drawn ≡ dirty t.tiles - m
+  redrawn_dirty = ap dirty (is ∙ ap (drawn_from draw 0 m) was) ∙ dirty-drawn_from draw 0 m t.tiles

@@ -1,0 +1,97 @@
+-- Words: numbers whose bits a test says.
+use Rattle.std.proofs.Common.{◌≡◌, ℕ, zero, suc, ◌+◌, ◌-◌, ◌*◌, ◌%◌, ◌^◌, ◌<◌, ◌≤◌, Bool, true, false, cond, if◌then◌else◌}
+use Rattle.std.proofs.Common.{refl, ap, ◌∙◌, inl, inr, bit_or, nat_eq, arith}
+use Rattle.std.specs.Int.{bit_at}
+use Rattle.std.specs.Int.Bits.{or_shifted_r}
+use Rattle.std.proofs.Math.Nat.{pow-suc}
+use Rattle.std.proofs.lemmas.Bool.{cases_lt}
+use Rattle.std.proofs.lemmas.Nat.{pow_pos, shl_whole}
+use Rattle.std.proofs.lemmas.Nat.Bits.{bit_at_cat_low, bit_at_cat_high}
+use mir.Val.{bool_byte}
+use Rattle.cam_tiles.specs.Pbm.{bit_of}
+use Rattle.cam_tiles.specs.Tiles.{word}
+
+one_bit : (b : Bool) (n : ℕ) → n ≡ bool_byte b → n < 2
+one_bit true n e = omega arith
+one_bit false n e = omega arith
+
+bit_value : (b : Bool) (n power : ℕ) → n ≡ bool_byte b → n * power ≡ (if b then power else 0)
+bit_value true n power e = omega (arith, ap (λ m. m * power) e)
+bit_value false n power e = omega (arith, ap (λ m. m * power) e)
+
+last_bit : (b : Bool) (low power next : ℕ) → low < power → next ≡ 2 * power
+    → low + (if b then power else 0) < next
+last_bit true low power next h e = omega arith
+last_bit false low power next h e = omega arith
+
+pub word-lt : (bit : ℕ → Bool) (n : ℕ) → word bit n < 2 ^ n
+unfolding word
+word-lt bit zero = pow_pos 0
+word-lt bit (suc n) = last_bit (bit n) (word bit n) (2 ^ n) (2 ^ suc n) (word-lt bit n) (omega (arith, pow-suc 2 n))
+
+-- no bit
+pub word-zero : (bit : ℕ → Bool) → 0 ≡ word bit 0
+unfolding word
+word-zero bit = refl
+
+-- one bit more
+word-suc : (bit : ℕ → Bool) (n : ℕ) → word bit (n + 1) ≡ word bit n + (if bit n then 2 ^ n else 0)
+unfolding word
+word-suc bit n = let e : n + 1 ≡ suc n = omega arith in ap (word bit) e
+
+pub with_bit : (bit : ℕ → Bool) (n before byte : ℕ) (b : Bool) → n < 64 → before ≡ word bit n
+    → byte ≡ bool_byte b → b ≡ bit n → bit_or before (byte * 2 ^ n % 2 ^ 64) ≡ word bit (n + 1)
+with_bit bit n before byte b few so_far e same =
+    ap (λ m. bit_or before m) (shl_whole byte 1 n 64 (one_bit b byte e) (omega arith))
+    ∙ ap (λ m. bit_or m (byte * 2 ^ n)) so_far
+    ∙ or_shifted_r byte n (word bit n) (word-lt bit n)
+    ∙ ap (λ m. m + word bit n) (bit_value b byte (2 ^ n) e)
+    ∙ ap (λ c. (if c then 2 ^ n else 0) + word bit n) same
+    ∙ omega (arith, word-suc bit n)
+
+-- bits that are clear add nothing
+pub clear_above : (bit : ℕ → Bool) (n more : ℕ) → ((i : ℕ) → n ≤ i → bit i ≡ false) → word bit (n + more) ≡ word bit n
+clear_above bit n zero clear = let e : n + 0 ≡ n = omega arith in ap (word bit) e
+clear_above bit n (suc more) clear =
+    let e : n + suc more ≡ n + more + 1 = omega arith in
+    let none = ap (λ b. if b then 2 ^ (n + more) else 0) (clear (n + more) (omega arith)) in
+    ap (word bit) e ∙ omega (arith, word-suc bit (n + more), none, clear_above bit n more clear)
+
+-- ---- bit by bit
+
+-- the bit that a word gains stands above the others
+on_top : (b : Bool) (low power : ℕ) → low + cond b power 0 ≡ bit_of b * power + low
+on_top true low power = omega arith
+on_top false low power = omega arith
+
+lone_bit : (b : Bool) → bit_at (bit_of b) 0 ≡ bit_of b
+lone_bit true = refl
+lone_bit false = refl
+
+pub bit_at-word : (bit : ℕ → Bool) (n i : ℕ) → i < n → bit_at (word bit n) i ≡ bit_of (bit i)
+unfolding word
+bit_at-word bit zero i h = absurd (omega arith)
+bit_at-word bit (suc n) i h =
+    ap (λ m. bit_at m i) (on_top (bit n) (word bit n) (2 ^ n)) ∙ elim (cases_lt i n) [
+      | inl low ↦ bit_at_cat_low (bit_of (bit n)) n (word bit n) i low ∙ bit_at-word bit n i low
+      | inr high ↦
+          (let last : n ≡ i = omega arith in
+          let lowest : i - n ≡ 0 = omega arith in
+          bit_at_cat_high (bit_of (bit n)) n (word bit n) i (word-lt bit n) high
+          ∙ ap (bit_at (bit_of (bit n))) lowest ∙ lone_bit (bit n) ∙ ap (λ k. bit_of (bit k)) last)
+    ]
+
+is_one : (b : Bool) → nat_eq (bit_of b) 1 ≡ b
+is_one true = refl
+is_one false = refl
+
+-- the test of a word's bit
+pub word_bit : (bit : ℕ → Bool) (n i : ℕ) → i < n → nat_eq (bit_at (word bit n) i) 1 ≡ bit i
+word_bit bit n i h = ap (λ m. nat_eq m 1) (bit_at-word bit n i h) ∙ is_one (bit i)
+
+pub same_word : (bit other : ℕ → Bool) (n : ℕ) → ((i : ℕ) → i < n → bit i ≡ other i) → word bit n ≡ word other n
+unfolding word
+same_word bit other zero same = refl
+same_word bit other (suc n) same =
+    ap (λ m. m + cond (bit n) (2 ^ n) 0) (same_word bit other n (λ i low. same i (omega arith)))
+    ∙ ap (λ b. word other n + cond b (2 ^ n) 0) (same n (omega arith))

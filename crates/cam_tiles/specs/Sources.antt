@@ -1,0 +1,35 @@
+-- What paints a layer: its leaves in order, and how many tiles were asked for.
+use Rattle.std.specs.Prelude.{ℕ, Bool, List}
+use Rattle.cam_units.specs.declared.point.Spot.{Spot}
+use Rattle.cam_objects.specs.Contents.{content_leaves, content_of, drill_content_leaves, drill_content_of}
+use Rattle.cam_objects.specs.DrillSoundness.{IsSoundDrillLayer}
+use Rattle.cam_objects.specs.Leaves.{Leaf}
+use Rattle.cam_objects.specs.Soundness.{IsSound}
+use Rattle.cam_objects.specs.Tests.{is_black}
+use Rattle.cam_tiles.specs.declared.source.Shown.{Shown}
+use Rattle.cam_tiles.specs.declared.source.Shown.TheVariants.{Gerber, Drill}
+use Rattle.cam_tiles.specs.declared.source.Source.TheInside.{Inside}
+
+pub record Painted : Type 0 where
+  pub leaves : List Leaf
+  pub asked : ℕ
+
+-- the image, as a test of places: painting in order
+abbrev pub picture_of : Painted → Spot → Bool
+picture_of p = is_black p.leaves
+
+-- nobody has asked yet
+abbrev pub unasked : List Leaf → Painted
+unasked leaves = record { leaves = leaves; asked = 0 }
+
+abbrev pub leaves_of : Shown → List Leaf
+leaves_of (Gerber layer) = content_leaves (content_of layer.now)
+leaves_of (Drill layer) = drill_content_leaves (drill_content_of layer.now)
+
+-- a sound layer
+abbrev pub IsReady : Shown → Type 0
+IsReady (Gerber layer) = IsSound layer.now
+IsReady (Drill layer) = IsSoundDrillLayer layer.now
+
+abbrev pub painted_by : Inside → Painted
+painted_by s = record { leaves = leaves_of s.shown; asked = s.asked }

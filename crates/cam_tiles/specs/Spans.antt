@@ -1,0 +1,17 @@
+-- Spans: tiles side by side, in a row or in a column of them.
+use Rattle.std.specs.Prelude.{ℕ, ◌*◌, ◌-◌, ℤ, min, Bool, ◌&&◌, nat_le, nat_lt}
+use Rattle.std.specs.Int.RustNames.{int_le}
+use Rattle.std.specs.List.{list_any, range_with_len}
+use Rattle.cam_tiles.specs.declared.touch.Span.{Span}
+
+-- whether the tile is one of the span
+abbrev pub is_in_span : Span → ℕ → Bool
+is_in_span s tile = nat_le s.first tile && nat_lt tile s.end
+
+-- whether a coordinate lies between two others, or is one of them
+abbrev pub is_between : ℤ → ℤ → ℤ → Bool
+is_between low high n = int_le low n && int_le n high
+
+-- whether some pixel of the tile passes, where so many pixels stand side by side
+unfoldable pub has_pixel : (ℕ → Bool) → ℕ → ℕ → Bool
+has_pixel passes pixels tile = list_any passes (range_with_len (64 * tile) (min 64 (pixels - 64 * tile)))

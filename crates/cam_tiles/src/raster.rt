@@ -1,0 +1,162 @@
+//! Rasters: the tiles of a window, each drawn or dirty.
+
+ghost use Rattle.std.specs.Prelude.{◌≡◌, ◌+◌, ◌<◌, ◌≤◌, ◌^◌, min, count_by, is_none, is_some, length, IfErr, IfOk, OnOk, None, true};
+ghost use Rattle.cam_tiles.specs.Picture.{accepts};
+ghost use Rattle.cam_tiles.specs.Tables.{
+  IsRefusal,
+  blank,
+  dirty_count,
+  drawn_from,
+  file_fault,
+  pbm_of,
+  pixel_of,
+  redrawn,
+  tile_in,
+  window_fault,
+};
+ghost use Rattle.cam_tiles.specs.Tiles.{grid_of, tile_rows, tiles_of};
+ghost use Rattle.cam_tiles.specs.Touched.{touched};
+
+use crate::fault::RasterFault;
+use crate::painter::Painter;
+use crate::pbm::bitmap;
+use crate::touch::wipe;
+use crate::window::Window;
+use cam_units::Bounds;
+use std::alloc::{AllocError, Global};
+use std::marker::Model;
+
+/// The rows of a tile from the top, bit i for column i; or nothing, where it is dirty.
+pub(crate) type Tile = Option<[u64; 64]>;
+
+/// The tiles of a window, 64 by 64 pixels each, in order from the top left, row by row; those at the right and at the
+/// lower edge may be smaller. Each is clean, and its pixels are known, or dirty.
+#[derive(Drop)]
+pub struct Raster {
+    window: Window,
+    across: u32,
+    dirty: u32,
+    tiles: Vec<Tile>,
+}
+
+impl Model for Raster {
+    ghost use Rattle.cam_tiles.specs.Kept.{IsKept, table_of};
+    ghost use Rattle.cam_tiles.specs.Tables.{Table};
+
+    ghost Value = { Table };
+
+    ghost view = { table_of };
+
+    ghost invariant = { IsKept };
+}
+
+impl Raster {
+    /// A raster whose tiles are all dirty; 50 for a window outside its limits, and 30 where memory was refused.
+    pub fn new(alloc: Global, window: Window) -> Result<Raster, RasterFault>
+        ensures made { IfOk result (λ raster. raster ≡ blank window) }
+        ensures refused { IfErr result (λ fault. IsRefusal (window_fault window) fault) }
+        ensures accepted { OnOk result (window_fault window ≡ None) }
+    {
+        if !window.is_accepted() {
+            return Err(RasterFault::WindowRefused);
+        }
+        let dirty = window.tile_count();
+        let tiles = vec![in alloc; None; dirty as usize]?;
+        Ok(Raster {
+            window,
+            across: window.across(),
+            dirty,
+            tiles,
+        })
+    }
+
+    /// How many tiles are dirty.
+    pub fn dirty(&self) -> u32
+        ensures { result ≡ dirty_count self.now }
+    {
+        self.dirty
+    }
+
+    /// Whether the tile is there and clean.
+    pub fn is_clean(&self, tile: u32) -> bool
+        ensures { result ≡ is_some (tile_in self.now tile) }
+    {
+        matches!(self.tiles.get(tile as usize), Some(Some(_)))
+    }
+
+    /// Whether the pixel is black; `None` where its tile is dirty, or outside the window.
+    pub fn pixel(&self, column: u32, row: u32) -> Option<bool>
+        ensures { result ≡ pixel_of self.now column row }
+    {
+        if column >= self.window.width || row >= self.window.height {
+            return None;
+        }
+        match &self.tiles[(row / 64 * self.across + column / 64) as usize] {
+            Some(rows) => Some((rows[row as usize % 64] >> (column % 64)) & 1 == 1),
+            None => None,
+        }
+    }
+
+    /// Makes dirty the tiles that hold a pixel centre in the box, or on its edge.
+    pub fn touch(&mut self, bounds: Bounds)
+        ensures { self.new ≡ touched bounds self.old }
+    {
+        let Bounds::Closed { low, high } = bounds else {
+            return;
+        };
+        let columns = self.window.columns_between(&low, &high);
+        let rows = self.window.rows_between(&low, &high);
+        self.dirty += wipe(&mut self.tiles, self.across, columns, rows);
+    }
+
+    /// Draws dirty tiles, those of least number first: `at_most` of them, or all where there are fewer. Answers how
+    /// many, and asks the painter once for each.
+    pub fn redraw<P: Painter>(&mut self, painter: &mut P, at_most: u32) -> u32
+        requires room { P.count painter.old + min at_most (dirty_count self.old) < 2 ^ 64 }
+        ensures drawn { result ≡ min at_most (dirty_count self.old) }
+        ensures tiles { self.new ≡ redrawn (P.picture painter.old) at_most self.old }
+        ensures kept { P.picture painter.new ≡ P.picture painter.old }
+        ensures asked { P.count painter.new ≡ P.count painter.old + result }
+    {
+        let drawn = at_most.min(self.dirty);
+        draw_first(&mut self.tiles, &self.window, painter, drawn);
+        self.dirty -= drawn;
+        drawn
+    }
+
+    /// The raw PBM file of the pixels (netpbm's pbm(5), "P4"): 1 is black, the rows go from the top, and each is padded
+    /// with zero bits to a byte. 51 where some tile is dirty, and 30 where memory was refused.
+    pub fn to_pbm(&self, alloc: Global) -> Result<Vec<u8>, RasterFault>
+        ensures bytes { IfOk result (λ bytes. bytes.items ≡ pbm_of self.now) }
+        ensures refused { IfErr result (λ fault. IsRefusal (file_fault self.now) fault) }
+        ensures clean { OnOk result (file_fault self.now ≡ None) }
+    {
+        if self.dirty > 0 {
+            return Err(RasterFault::StillDirty);
+        }
+        Ok(bitmap(alloc, &self.tiles, &self.window)?)
+    }
+}
+
+/// Draws the first `count` dirty tiles.
+fn draw_first<P: Painter>(tiles: &mut [Tile], window: &Window, painter: &mut P, count: u32)
+    requires accepted { accepts window.now ≡ true }
+    requires full { length tiles.old ≡ tiles_of window.now }
+    requires enough { count ≤ count_by is_none tiles.old }
+    requires room { P.count painter.old + count < 2 ^ 64 }
+    ensures tiles { tiles.new
+        ≡ drawn_from (λ k. tile_rows (P.picture painter.old) (grid_of window.now k)) 0 count tiles.old }
+    ensures kept { P.picture painter.new ≡ P.picture painter.old }
+    ensures asked { P.count painter.new ≡ P.count painter.old + count }
+{
+    let mut left = count;
+    for k in 0..tiles.len() {
+        if left == 0 {
+            break;
+        }
+        if tiles[k].is_none() {
+            tiles[k] = Some(painter.tile(window.grid(k as u32)));
+            left -= 1;
+        }
+    }
+}
