@@ -1,0 +1,143 @@
+-- What a line says, by its words: one with another count of words has not a form.
+use Rattle.std.proofs.Common.{◌≡◌, ◌≢◌, ◌≤◌, ◌∙◌, ap, ℕ, Bool, false, List, [], ◌∷◌, length, None, Some, Ok, Err, refl, arith}
+use Rattle.std.specs.Prelude.{slice_index}
+use Rattle.std.proofs.lemmas.Bool.{le-ltb, ne_eqb}
+use Rattle.cam_script.specs.declared.line.Line.{Line}
+use Rattle.cam_script.specs.declared.line.LineFault.{LineFault}
+use Rattle.cam_script.specs.Words.{words}
+use Rattle.cam_script.specs.Parsing.{parsed, some_line, kept, line_in, is_no_memory, line_limit}
+use Rattle.cam_script.specs.Parsing.{load_line, window_line, redraw_line, plot_line, write_line}
+use Rattle.cam_script.specs.Parsing.{delete_change, move_change, reorder_change, aperture_change, polarity_change}
+use Rattle.cam_script.specs.Parsing.{tool_change, diameter_change}
+use Rattle.cam_script.specs.Items.{flash_in, draw_in, arc_in, hit_in}
+
+pub no_load : (ws : List (List ℕ)) → length ws ≢ 3 → load_line ws ≡ None
+no_load [] h = refl
+no_load (a ∷ []) h = refl
+no_load (a ∷ b ∷ []) h = refl
+no_load (a ∷ b ∷ c ∷ []) h = absurd (h (omega arith))
+no_load (a ∷ b ∷ c ∷ d ∷ more) h = refl
+
+pub no_window : (ws : List (List ℕ)) → length ws ≢ 5 → window_line ws ≡ None
+no_window [] h = refl
+no_window (a ∷ []) h = refl
+no_window (a ∷ b ∷ []) h = refl
+no_window (a ∷ b ∷ c ∷ []) h = refl
+no_window (a ∷ b ∷ c ∷ d ∷ []) h = refl
+no_window (a ∷ b ∷ c ∷ d ∷ e ∷ []) h = absurd (h (omega arith))
+no_window (a ∷ b ∷ c ∷ d ∷ e ∷ f ∷ more) h = refl
+
+pub no_plot : (ws : List (List ℕ)) → length ws ≢ 2 → plot_line ws ≡ None
+no_plot [] h = refl
+no_plot (a ∷ []) h = refl
+no_plot (a ∷ b ∷ []) h = absurd (h (omega arith))
+no_plot (a ∷ b ∷ c ∷ more) h = refl
+
+pub no_write : (ws : List (List ℕ)) → length ws ≢ 2 → write_line ws ≡ None
+no_write [] h = refl
+no_write (a ∷ []) h = refl
+no_write (a ∷ b ∷ []) h = absurd (h (omega arith))
+no_write (a ∷ b ∷ c ∷ more) h = refl
+
+pub no_redraw : (ws : List (List ℕ)) → length ws ≢ 1 → redraw_line ws ≡ None
+no_redraw [] h = refl
+no_redraw (a ∷ []) h = absurd (h (omega arith))
+no_redraw (a ∷ b ∷ more) h = refl
+
+pub no_delete : (ws : List (List ℕ)) → length ws ≢ 1 → delete_change ws ≡ None
+no_delete [] h = refl
+no_delete (a ∷ []) h = absurd (h (omega arith))
+no_delete (a ∷ b ∷ more) h = refl
+
+pub no_move : (ws : List (List ℕ)) → length ws ≢ 3 → move_change ws ≡ None
+no_move [] h = refl
+no_move (a ∷ []) h = refl
+no_move (a ∷ b ∷ []) h = refl
+no_move (a ∷ b ∷ c ∷ []) h = absurd (h (omega arith))
+no_move (a ∷ b ∷ c ∷ d ∷ more) h = refl
+
+pub no_reorder : (ws : List (List ℕ)) → length ws ≢ 2 → reorder_change ws ≡ None
+no_reorder [] h = refl
+no_reorder (a ∷ []) h = refl
+no_reorder (a ∷ b ∷ []) h = absurd (h (omega arith))
+no_reorder (a ∷ b ∷ c ∷ more) h = refl
+
+pub no_aperture : (ws : List (List ℕ)) → length ws ≢ 2 → aperture_change ws ≡ None
+no_aperture [] h = refl
+no_aperture (a ∷ []) h = refl
+no_aperture (a ∷ b ∷ []) h = absurd (h (omega arith))
+no_aperture (a ∷ b ∷ c ∷ more) h = refl
+
+pub no_polarity : (ws : List (List ℕ)) → length ws ≢ 2 → polarity_change ws ≡ None
+no_polarity [] h = refl
+no_polarity (a ∷ []) h = refl
+no_polarity (a ∷ b ∷ []) h = absurd (h (omega arith))
+no_polarity (a ∷ b ∷ c ∷ more) h = refl
+
+pub no_tool : (ws : List (List ℕ)) → length ws ≢ 2 → tool_change ws ≡ None
+no_tool [] h = refl
+no_tool (a ∷ []) h = refl
+no_tool (a ∷ b ∷ []) h = absurd (h (omega arith))
+no_tool (a ∷ b ∷ c ∷ more) h = refl
+
+pub no_diameter : (ws : List (List ℕ)) → length ws ≢ 2 → diameter_change ws ≡ None
+no_diameter [] h = refl
+no_diameter (a ∷ []) h = refl
+no_diameter (a ∷ b ∷ []) h = absurd (h (omega arith))
+no_diameter (a ∷ b ∷ c ∷ more) h = refl
+
+pub no_flash : (ws : List (List ℕ)) → length ws ≢ 5 → flash_in ws ≡ None
+no_flash [] h = refl
+no_flash (a ∷ []) h = refl
+no_flash (a ∷ b ∷ []) h = refl
+no_flash (a ∷ b ∷ c ∷ []) h = refl
+no_flash (a ∷ b ∷ c ∷ d ∷ []) h = refl
+no_flash (a ∷ b ∷ c ∷ d ∷ e ∷ []) h = absurd (h (omega arith))
+no_flash (a ∷ b ∷ c ∷ d ∷ e ∷ f ∷ more) h = refl
+
+pub no_draw : (ws : List (List ℕ)) → length ws ≢ 7 → draw_in ws ≡ None
+no_draw [] h = refl
+no_draw (a ∷ []) h = refl
+no_draw (a ∷ b ∷ []) h = refl
+no_draw (a ∷ b ∷ c ∷ []) h = refl
+no_draw (a ∷ b ∷ c ∷ d ∷ []) h = refl
+no_draw (a ∷ b ∷ c ∷ d ∷ e ∷ []) h = refl
+no_draw (a ∷ b ∷ c ∷ d ∷ e ∷ f ∷ []) h = refl
+no_draw (a ∷ b ∷ c ∷ d ∷ e ∷ f ∷ g ∷ []) h = absurd (h (omega arith))
+no_draw (a ∷ b ∷ c ∷ d ∷ e ∷ f ∷ g ∷ p ∷ more) h = refl
+
+pub no_arc : (ws : List (List ℕ)) → length ws ≢ 9 → arc_in ws ≡ None
+no_arc [] h = refl
+no_arc (a ∷ []) h = refl
+no_arc (a ∷ b ∷ []) h = refl
+no_arc (a ∷ b ∷ c ∷ []) h = refl
+no_arc (a ∷ b ∷ c ∷ d ∷ []) h = refl
+no_arc (a ∷ b ∷ c ∷ d ∷ e ∷ []) h = refl
+no_arc (a ∷ b ∷ c ∷ d ∷ e ∷ f ∷ []) h = refl
+no_arc (a ∷ b ∷ c ∷ d ∷ e ∷ f ∷ g ∷ []) h = refl
+no_arc (a ∷ b ∷ c ∷ d ∷ e ∷ f ∷ g ∷ p ∷ []) h = refl
+no_arc (a ∷ b ∷ c ∷ d ∷ e ∷ f ∷ g ∷ p ∷ q ∷ []) h = absurd (h (omega arith))
+no_arc (a ∷ b ∷ c ∷ d ∷ e ∷ f ∷ g ∷ p ∷ q ∷ r ∷ more) h = refl
+
+pub no_hit : (ws : List (List ℕ)) → length ws ≢ 3 → hit_in ws ≡ None
+no_hit [] h = refl
+no_hit (a ∷ []) h = refl
+no_hit (a ∷ b ∷ []) h = refl
+no_hit (a ∷ b ∷ c ∷ []) h = absurd (h (omega arith))
+no_hit (a ∷ b ∷ c ∷ d ∷ more) h = refl
+
+-- a line that is not too long, of a first word that begins no comment and the words behind it
+module _ (line verb : List ℕ) (rest : List (List ℕ)) (short : length line ≤ line_limit)
+    (words_are : words line ≡ verb ∷ rest) (no_comment : slice_index verb 0 ≢ 35) where
+  by_words : (no_memory : Bool) → parsed line no_memory ≡ some_line (kept (line_in verb rest) no_memory)
+  by_words no_memory = rw (le-ltb line_limit (length line) short, words_are, ne_eqb (slice_index verb 0) 35 no_comment) refl
+
+  pub line_read : (said : Line) → kept (line_in verb rest) false ≡ Ok said → parsed line false ≡ Ok (Some said)
+  line_read said e = by_words false ∙ ap some_line e
+
+  pub line_refused : (f : LineFault) → kept (line_in verb rest) (is_no_memory {T = Line} (Err f)) ≡ Err f
+      → parsed line (is_no_memory {T = Line} (Err f)) ≡ Err f
+  line_refused f e = by_words (is_no_memory {T = Line} (Err f)) ∙ ap some_line e
+
+pub line_without_words : (line : List ℕ) → length line ≤ line_limit → words line ≡ [] → parsed line false ≡ Ok None
+line_without_words line short e = rw (le-ltb line_limit (length line) short, e) refl

@@ -1,0 +1,67 @@
+-- What was read in part, and what it makes of the whole.
+use Rattle.std.proofs.Common.{◌≡◌, refl, ℕ, true, false, List, ◌∷◌, Option, None, Some, Ok, Err}
+use Rattle.std.specs.Option.{option_map}
+use Rattle.cam_edits.specs.declared.edit.Change.{Change}
+use Rattle.cam_edits.specs.declared.edit.Change.TheVariants as changes
+use Rattle.cam_edits.specs.declared.edit.NewItem.{NewItem}
+use Rattle.cam_script.specs.declared.command.Command.TheVariants as commands
+use Rattle.cam_script.specs.declared.line.Line.{Line}
+use Rattle.cam_script.specs.declared.line.Line.TheVariants as lines
+use Rattle.cam_script.specs.declared.line.LineFault.{LineFault}
+use Rattle.cam_script.specs.declared.line.LineFault.TheVariants.{LineTooLong, BadLine, Memory}
+use Rattle.cam_script.specs.Words.{count_in, is_name}
+use Rattle.cam_script.specs.Items.{item_in}
+use Rattle.cam_script.specs.Parsing.{is_no_memory, insert_change, edit_line, kept}
+use Rattle.cam_script.specs.Reading.{held}
+
+-- a part was refused, and so is the whole
+pub held_refused : {T U : Type 0} (part : Option T) (whole : T → U) (fault : LineFault)
+    → held part (is_no_memory {T = T} (Err fault)) ≡ Err fault
+    → held (option_map whole part) (is_no_memory {T = U} (Err fault)) ≡ Err fault
+held_refused None whole LineTooLong e = cc
+held_refused None whole BadLine e = refl
+held_refused None whole Memory e = cc
+held_refused (Some part) whole LineTooLong e = cc
+held_refused (Some part) whole BadLine e = cc
+held_refused (Some part) whole Memory e = refl
+
+pub insert_refused : (words : List (List ℕ)) (k form : List ℕ) (rest : List (List ℕ)) (place : ℕ)
+    (fault : LineFault) → words ≡ k ∷ form ∷ rest → Some place ≡ count_in k
+    → held (item_in form rest) (is_no_memory {T = NewItem} (Err fault)) ≡ Err fault
+    → held (insert_change words) (is_no_memory {T = Change} (Err fault)) ≡ Err fault
+insert_refused words k form rest place fault cut count e =
+    rw (cut, ← count) (held_refused (item_in form rest) (λ item. changes.Insert place item) fault e)
+
+-- an edit of a name and a change of the words behind it
+module _ (change : List (List ℕ) → Option Change) (words : List (List ℕ)) (name : List ℕ) (rest : List (List ℕ))
+    (cut : words ≡ name ∷ rest) (named : is_name name ≡ true) where
+  edit_of : Option Change → Option Line
+  edit_of read = option_map (λ change. lines.Command (commands.Edit (record { name = name; change = change }))) read
+
+  edit_read : edit_line change words ≡ edit_of (change rest)
+  unfolding edit_of
+  edit_read = rw (cut, named) refl
+
+  pub edit_refused : (fault : LineFault) → held (change rest) (is_no_memory {T = Change} (Err fault)) ≡ Err fault
+      → kept (edit_line change words) (is_no_memory {T = Line} (Err fault)) ≡ Err fault
+  unfolding edit_of
+  edit_refused fault e = rw edit_read (by_change (change rest) fault e)
+    where
+      by_change : (read : Option Change) (fault : LineFault)
+          → held read (is_no_memory {T = Change} (Err fault)) ≡ Err fault
+          → kept (edit_of read) (is_no_memory {T = Line} (Err fault)) ≡ Err fault
+      by_change None LineTooLong e = cc
+      by_change None BadLine e = refl
+      by_change None Memory e = cc
+      by_change (Some read) LineTooLong e = cc
+      by_change (Some read) BadLine e = cc
+      by_change (Some read) Memory e = refl
+
+  pub edit_starved : (made : Change) → held (change rest) false ≡ Ok made
+      → kept (edit_line change words) true ≡ Err Memory
+  unfolding edit_of
+  edit_starved made e = rw edit_read (by_change (change rest) e)
+    where
+      by_change : (read : Option Change) → held read false ≡ Ok made → kept (edit_of read) true ≡ Err Memory
+      by_change None e = cc
+      by_change (Some read) e = refl

@@ -1,0 +1,6 @@
+pub mod Cutting
+pub mod Tests
+pub mod Forms
+pub mod Parts
+pub mod FirstSegments
+pub mod Held

@@ -1,0 +1,201 @@
+-- What a line of a script says.
+use Rattle.std.specs.Prelude.{ℕ, ◌==◌, ◌&&◌, nat_lt, slice_index, Bool, true, false, if◌then◌else◌, List, [], ◌∷◌, length, codes, Option, None, Some, Result, Ok, Err}
+use Rattle.std.specs.Option.{option_map}
+use Rattle.std.specs.Str.{bytes_eq}
+use Rattle.cam_edits.specs.declared.edit.Change.{Change}
+use Rattle.cam_edits.specs.declared.edit.Change.TheVariants as changes
+use Rattle.cam_script.specs.declared.command.FileKind.{FileKind}
+use Rattle.cam_script.specs.declared.command.FileKind.TheVariants.{Gerber, Drill}
+use Rattle.cam_script.specs.declared.command.Command.{Command}
+use Rattle.cam_script.specs.declared.command.Command.TheVariants as commands
+use Rattle.cam_script.specs.declared.line.Line.{Line}
+use Rattle.cam_script.specs.declared.line.Line.TheVariants as lines
+use Rattle.cam_script.specs.declared.line.LineFault.{LineFault}
+use Rattle.cam_script.specs.declared.line.LineFault.TheVariants.{LineTooLong, BadLine, Memory}
+use Rattle.cam_script.specs.Items.{item_in, polarity_in, reads, reads_point}
+use Rattle.cam_script.specs.Words.{words, is_name, is_path, count_in, length_in, tool_in}
+
+-- how many bytes a line may have
+abbrev pub line_limit : ℕ
+line_limit = 65536
+
+-- the kind of file that a word names
+abbrev pub kind_in : List ℕ → Option FileKind
+kind_in word =
+    if bytes_eq word (codes "gerber") then Some Gerber
+    else if bytes_eq word (codes "drill") then Some Drill
+    else None
+
+-- load NAME gerber PATH, or load NAME drill PATH
+abbrev pub load_line : List (List ℕ) → Option Line
+load_line (name ∷ kind ∷ path ∷ []) =
+    if is_name name
+    then reads kind_in kind (λ kind. if is_path path then Some (lines.Load name kind path) else None)
+    else None
+load_line _ = None
+
+-- window X0 Y0 PITCH W H
+abbrev pub window_line : List (List ℕ) → Option Line
+window_line (x ∷ y ∷ pitch ∷ width ∷ height ∷ []) =
+    reads length_in x (λ x. reads length_in y (λ y. reads length_in pitch (λ pitch.
+    reads count_in width (λ width. reads count_in height (λ height.
+    Some (lines.Command (commands.SetWindow (record { x = x; y = y; pitch = pitch; width = width; height = height }))))))))
+window_line _ = None
+
+-- redraw N
+abbrev pub redraw_line : List (List ℕ) → Option Line
+redraw_line (count ∷ []) = reads count_in count (λ n. Some (lines.Command (commands.Redraw n)))
+redraw_line _ = None
+
+-- plot NAME PATH
+abbrev pub plot_line : List (List ℕ) → Option Line
+plot_line (name ∷ path ∷ []) = if is_name name && is_path path then Some (lines.Plot name path) else None
+plot_line _ = None
+
+-- write NAME PATH
+abbrev pub write_line : List (List ℕ) → Option Line
+write_line (name ∷ path ∷ []) = if is_name name && is_path path then Some (lines.Write name path) else None
+write_line _ = None
+
+-- ---- edits
+
+-- insert .. K ITEM
+abbrev pub insert_change : List (List ℕ) → Option Change
+insert_change (k ∷ form ∷ words) =
+    reads count_in k (λ k. option_map (λ item. changes.Insert k item) (item_in form words))
+insert_change _ = None
+
+-- delete .. K
+abbrev pub delete_change : List (List ℕ) → Option Change
+delete_change (k ∷ []) = reads count_in k (λ k. Some (changes.Delete k))
+delete_change _ = None
+
+-- move .. K DX DY
+abbrev pub move_change : List (List ℕ) → Option Change
+move_change (k ∷ dx ∷ dy ∷ []) = reads count_in k (λ k. reads_point dx dy (λ by. Some (changes.Move k by)))
+move_change _ = None
+
+-- reorder .. K M
+abbrev pub reorder_change : List (List ℕ) → Option Change
+reorder_change (k ∷ m ∷ []) = reads count_in k (λ k. reads count_in m (λ m. Some (changes.Reorder k m)))
+reorder_change _ = None
+
+-- aperture .. K N
+abbrev pub aperture_change : List (List ℕ) → Option Change
+aperture_change (k ∷ n ∷ []) = reads count_in k (λ k. reads count_in n (λ n. Some (changes.Aperture k n)))
+aperture_change _ = None
+
+-- polarity .. K dark, or polarity .. K clear
+abbrev pub polarity_change : List (List ℕ) → Option Change
+polarity_change (k ∷ polarity ∷ []) =
+    reads count_in k (λ k. reads polarity_in polarity (λ dark. Some (changes.Polarity k dark)))
+polarity_change _ = None
+
+-- tool .. K T
+abbrev pub tool_change : List (List ℕ) → Option Change
+tool_change (k ∷ tool ∷ []) = reads count_in k (λ k. reads tool_in tool (λ t. Some (changes.Tool k t)))
+tool_change _ = None
+
+-- diameter .. T D
+abbrev pub diameter_change : List (List ℕ) → Option Change
+diameter_change (tool ∷ diameter ∷ []) =
+    reads tool_in tool (λ t. reads length_in diameter (λ d. Some (changes.Diameter t (record { 0 = d }))))
+diameter_change _ = None
+
+-- the change that the first word names, where it names one
+abbrev pub change_in : List ℕ → Option (List (List ℕ) → Option Change)
+change_in verb =
+    if bytes_eq verb (codes "insert") then Some insert_change
+    else if bytes_eq verb (codes "delete") then Some delete_change
+    else if bytes_eq verb (codes "move") then Some move_change
+    else if bytes_eq verb (codes "reorder") then Some reorder_change
+    else if bytes_eq verb (codes "aperture") then Some aperture_change
+    else if bytes_eq verb (codes "polarity") then Some polarity_change
+    else if bytes_eq verb (codes "tool") then Some tool_change
+    else if bytes_eq verb (codes "diameter") then Some diameter_change
+    else None
+
+-- the name of the layer stands before the change
+abbrev pub edit_line : (List (List ℕ) → Option Change) → List (List ℕ) → Option Line
+edit_line change [] = None
+edit_line change (name ∷ words) =
+    if is_name name
+    then option_map (λ change. lines.Command (commands.Edit (record { name = name; change = change }))) (change words)
+    else None
+
+-- ---- lines
+
+-- a command that is its word alone
+abbrev pub alone : Command → List (List ℕ) → Option Line
+alone command [] = Some (lines.Command command)
+alone command (word ∷ more) = None
+
+-- list, or list NAME
+abbrev pub list_line : List (List ℕ) → Option Line
+list_line [] = Some (lines.Command commands.ListAll)
+list_line (name ∷ []) = if is_name name then Some (lines.Command (commands.ListLayer name)) else None
+list_line _ = None
+
+-- the form that the first word names, if it names no edit
+abbrev pub other_line : List ℕ → List (List ℕ) → Option Line
+other_line verb rest =
+    if bytes_eq verb (codes "load") then load_line rest
+    else if bytes_eq verb (codes "window") then window_line rest
+    else if bytes_eq verb (codes "redraw") then redraw_line rest
+    else if bytes_eq verb (codes "plot") then plot_line rest
+    else if bytes_eq verb (codes "write") then write_line rest
+    else if bytes_eq verb (codes "begin") then alone commands.Begin rest
+    else if bytes_eq verb (codes "end") then alone commands.End rest
+    else if bytes_eq verb (codes "abort") then alone commands.Abort rest
+    else if bytes_eq verb (codes "undo") then alone commands.Undo rest
+    else if bytes_eq verb (codes "redo") then alone commands.Redo rest
+    else if bytes_eq verb (codes "list") then list_line rest
+    else None
+
+abbrev pub line_by : Option (List (List ℕ) → Option Change) → List ℕ → List (List ℕ) → Option Line
+line_by None verb rest = other_line verb rest
+line_by (Some change) verb rest = edit_line change rest
+
+abbrev pub line_in : List ℕ → List (List ℕ) → Option Line
+line_in verb rest = line_by (change_in verb) verb rest
+
+abbrev pub Parsed : Type 0
+Parsed = Result (Option Line) LineFault
+
+-- a line that holds a name takes memory for it
+abbrev pub names_a_layer : Line → Bool
+names_a_layer (lines.Command (commands.SetWindow window)) = false
+names_a_layer (lines.Command (commands.Redraw n)) = false
+names_a_layer (lines.Command commands.Begin) = false
+names_a_layer (lines.Command commands.End) = false
+names_a_layer (lines.Command commands.Abort) = false
+names_a_layer (lines.Command commands.Undo) = false
+names_a_layer (lines.Command commands.Redo) = false
+names_a_layer (lines.Command commands.ListAll) = false
+names_a_layer _ = true
+
+-- the line that was read; where it is one, its memory may be refused
+abbrev pub kept : Option Line → Bool → Result Line LineFault
+kept None no_memory = Err BadLine
+kept (Some line) no_memory = if no_memory && names_a_layer line then Err Memory else Ok line
+
+abbrev pub some_line : Result Line LineFault → Parsed
+some_line (Ok line) = Ok (Some line)
+some_line (Err fault) = Err fault
+
+-- a line without a word is empty, and one whose first word begins with '#' is a comment
+abbrev pub said_by : List (List ℕ) → Bool → Parsed
+said_by [] no_memory = Ok None
+said_by (verb ∷ rest) no_memory =
+    if slice_index verb 0 == 35 then Ok None else some_line (kept (line_in verb rest) no_memory)
+
+-- what a line says, or why it says nothing
+abbrev pub parsed : List ℕ → Bool → Parsed
+parsed line no_memory = if nat_lt line_limit (length line) then Err LineTooLong else said_by (words line) no_memory
+
+-- whether the answer tells that memory was refused
+abbrev pub is_no_memory : {T : Type 0} → Result T LineFault → Bool
+is_no_memory (Ok x) = false
+is_no_memory (Err LineTooLong) = false
+is_no_memory (Err BadLine) = false
+is_no_memory (Err Memory) = true

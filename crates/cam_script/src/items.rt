@@ -1,0 +1,194 @@
+//! The items that a line names.
+
+ghost use Rattle.std.specs.Prelude.{◌≡◌, false};
+ghost use Rattle.cam_script.specs.Items.{
+  arc_in,
+  as_item,
+  draw_in,
+  flash_in,
+  hit_in,
+  item_in,
+  region_in,
+  rout_in,
+};
+ghost use Rattle.cam_script.specs.Parsing.{is_no_memory};
+ghost use Rattle.cam_script.specs.Reading.{held};
+
+use crate::line::LineFault;
+use crate::marks::{direction, polarity, turn};
+use crate::numbers::{count, point, tool};
+use crate::pieces::is;
+use crate::segments::{count_points, count_segments, take_points, take_segments};
+use crate::words::Words;
+use cam_edits::NewItem;
+use cam_objects::{DrillItem, Item, Object};
+use cam_shapes::Contour;
+use std::alloc::Global;
+
+/// The words behind `flash`.
+#[tactic(auto, using(crate::proofs::Forms::no_flash))]
+fn flash(words: &mut Words<'_>) -> Option<Object>
+    ensures { result ≡ flash_in words.old }
+{
+    let (number, x, y, orientation, tone) = words.five()?;
+    let aperture = count(number)?;
+    let at = point((x, y))?;
+    let turn = turn(orientation)?;
+    let dark = polarity(tone)?;
+    Some(Object::Flash {
+        aperture,
+        at,
+        turn,
+        dark,
+    })
+}
+
+/// The words behind `draw`.
+#[tactic(auto, using(crate::proofs::Forms::no_draw))]
+fn draw(words: &mut Words<'_>) -> Option<Object>
+    ensures { result ≡ draw_in words.old }
+{
+    let number = words.next()?;
+    let from = words.next_two()?;
+    let to = words.next_two()?;
+    let (orientation, tone) = words.two()?;
+    let aperture = count(number)?;
+    let from = point(from)?;
+    let to = point(to)?;
+    let turn = turn(orientation)?;
+    let dark = polarity(tone)?;
+    Some(Object::Draw {
+        aperture,
+        from,
+        to,
+        turn,
+        dark,
+    })
+}
+
+/// The words behind `arc`.
+#[tactic(auto, using(crate::proofs::Forms::no_arc))]
+fn arc(words: &mut Words<'_>) -> Option<Object>
+    ensures { result ≡ arc_in words.old }
+{
+    let number = words.next()?;
+    let from = words.next_two()?;
+    let to = words.next_two()?;
+    let centre = words.next_two()?;
+    let (sense, tone) = words.two()?;
+    let aperture = count(number)?;
+    let from = point(from)?;
+    let to = point(to)?;
+    let centre = point(centre)?;
+    let ccw = direction(sense)?;
+    let dark = polarity(tone)?;
+    Some(Object::Arc {
+        aperture,
+        from,
+        to,
+        centre,
+        ccw,
+        dark,
+    })
+}
+
+/// The words behind `region`. Its segments are counted, and so judged, before memory is asked for.
+fn region(alloc: Global, words: &mut Words<'_>) -> Result<Object, LineFault>
+    ensures { held (region_in words.old) (is_no_memory result) ≡ result }
+{
+    let Some(tone) = words.next() else {
+        return Err(LineFault::BadLine);
+    };
+    let Some(start) = words.next_two() else {
+        return Err(LineFault::BadLine);
+    };
+    let Some(dark) = polarity(tone) else {
+        return Err(LineFault::BadLine);
+    };
+    let Some(start) = point(start) else {
+        return Err(LineFault::BadLine);
+    };
+    let Some(segment_count) = count_segments(words) else {
+        return Err(LineFault::BadLine);
+    };
+    if segment_count == 0 {
+        return Err(LineFault::BadLine);
+    }
+    let segs = take_segments(alloc, words, segment_count)?;
+    Ok(Object::Region {
+        contour: Contour { start, segs },
+        dark,
+    })
+}
+
+/// The words behind `hit`.
+#[tactic(auto, using(crate::proofs::Forms::no_hit))]
+fn hit(words: &mut Words<'_>) -> Option<NewItem>
+    ensures { result ≡ hit_in words.old }
+{
+    let (number, x, y) = words.three()?;
+    let tool = tool(number)?;
+    let at = point((x, y))?;
+    Some(NewItem::Drill(DrillItem::Hit { tool, at }))
+}
+
+/// The words behind `rout`. Its points are counted, and so judged, before memory is asked for.
+fn rout(alloc: Global, words: &mut Words<'_>) -> Result<NewItem, LineFault>
+    ensures { held (rout_in words.old) (is_no_memory result) ≡ result }
+{
+    let Some(number) = words.next() else {
+        return Err(LineFault::BadLine);
+    };
+    let Some(tool) = tool(number) else {
+        return Err(LineFault::BadLine);
+    };
+    let Some(point_count) = count_points(words) else {
+        return Err(LineFault::BadLine);
+    };
+    if point_count == 0 {
+        return Err(LineFault::BadLine);
+    }
+    let points = take_points(alloc, words, point_count)?;
+    Ok(NewItem::Drill(DrillItem::Rout { tool, points }))
+}
+
+/// The item of an object that takes no memory.
+fn object_item(object: Option<Object>) -> Result<NewItem, LineFault>
+    ensures { result ≡ held (as_item object) false }
+{
+    let object = object.ok_or(LineFault::BadLine)?;
+    Ok(NewItem::Gerber(Item::One(object)))
+}
+
+/// The item of a region.
+fn region_item(alloc: Global, words: &mut Words<'_>) -> Result<NewItem, LineFault>
+    ensures { held (as_item (region_in words.old)) (is_no_memory result) ≡ result }
+{
+    let object = region(alloc, words)?;
+    Ok(NewItem::Gerber(Item::One(object)))
+}
+
+/// The item of a form and of the words behind it.
+pub fn item(alloc: Global, form: &[u8], words: &mut Words<'_>) -> Result<NewItem, LineFault>
+    ensures { held (item_in form.now words.old) (is_no_memory result) ≡ result }
+{
+    if is(form, b"flash") {
+        return object_item(flash(words));
+    }
+    if is(form, b"draw") {
+        return object_item(draw(words));
+    }
+    if is(form, b"arc") {
+        return object_item(arc(words));
+    }
+    if is(form, b"region") {
+        return region_item(alloc, words);
+    }
+    if is(form, b"hit") {
+        return hit(words).ok_or(LineFault::BadLine);
+    }
+    if is(form, b"rout") {
+        return rout(alloc, words);
+    }
+    Err(LineFault::BadLine)
+}

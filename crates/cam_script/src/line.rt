@@ -1,0 +1,43 @@
+//! What a line of a script says.
+
+use crate::command::{Command, FileKind};
+use crate::path::FilePath;
+use cam_edits::Name;
+use thiserror::Error;
+
+/// A command, or one that reads or writes a file, with the file's path.
+#[derive(Drop)]
+pub enum Line {
+    /// A command that no file goes with.
+    Command(Command),
+    /// Gets a file and loads it as a layer of this name.
+    Load {
+        name: Name,
+        kind: FileKind,
+        path: FilePath,
+    },
+    /// Plots the layer of this name and puts the picture under the path.
+    Plot {
+        name: Name,
+        path: FilePath,
+    },
+    /// Puts the canonical text of the layer of this name under the path.
+    Write {
+        name: Name,
+        path: FilePath,
+    },
+}
+
+/// Why a line says nothing.
+#[derive(Clone, Copy, Debug, PartialEq, Eq, Drop, Error)]
+pub enum LineFault {
+    /// More than 65,536 bytes (81).
+    #[error("the line is too long")]
+    LineTooLong,
+    /// The words are no command (80).
+    #[error("the line is no command")]
+    BadLine,
+    /// Memory for a name, a path or an item was refused (30).
+    #[error("no memory")]
+    Memory,
+}
