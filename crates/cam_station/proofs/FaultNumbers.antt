@@ -1,28 +1,31 @@
 -- The numbers of the readers' faults: none is that of a file that failed.
-use Rattle.std.proofs.Common.{◌≡◌, ℕ, ◌≤◌, Bool, true, false, List, [], ◌∷◌, Result, Ok, Err, refl, arith, inl, inr, nat_le}
+use Rattle.std.proofs.Common.{◌≡◌, ℕ, ◌≤◌, Bool, true, false, List, [], ◌∷◌, Result, Ok, Err, refl, arith, inl, inr}
+use Rattle.std.proofs.Common.{nat_le}
 use Rattle.std.specs.Prelude.{◌&&◌, ◌==◌, map, reverse}
 use Rattle.std.proofs.lemmas.Bool.{ne_eqb}
 use Rattle.std.proofs.lemmas.Bool.Decides.{nat_tests}
-use Rattle.cam_objects.specs.Contents.{Content as GerberContent}
+use Rattle.cam_objects.specs.Contents.{Content as GerberContent, DrillContent}
 use Rattle.cam_gerber.specs.declared.read_fault.ReadFault.{ReadFault as GerberFault}
 use Rattle.cam_gerber.specs.Computing.{reading_of as gerber_reading}
 use Rattle.cam_gerber.proofs.Computed.{fault_number}
 use Rattle.cam_xnc.specs.declared.modes.Part.{Part}
 use Rattle.cam_xnc.specs.declared.modes.Part.TheVariants.{Start, Header, Body}
 use Rattle.cam_xnc.specs.declared.statement.Statement.{Statement}
-use Rattle.cam_xnc.specs.declared.statement.Statement.TheVariants.{BeginHeader, SetUnit, Declare, Neutral, EndHeader, Select, DrillMode, HitAt, RoutTo, Lower, CutTo, Raise, CutArc, End, Unknown}
+use Rattle.cam_xnc.specs.declared.statement.Statement.TheVariants.{BeginHeader, SetUnit, Declare, Neutral, EndHeader}
+use Rattle.cam_xnc.specs.declared.statement.Statement.TheVariants.{Select, DrillMode, HitAt, RoutTo, Lower, CutTo}
+use Rattle.cam_xnc.specs.declared.statement.Statement.TheVariants.{Raise, CutArc, End, Unknown}
 use Rattle.cam_xnc.specs.declared.read_fault.ReadFault.{ReadFault as DrillFault}
-use Rattle.cam_xnc.specs.DrillState.{DrillContent, Past, part_in}
+use Rattle.cam_xnc.specs.DrillState.{Past, part_in}
 use Rattle.cam_xnc.specs.Faults.{Table, body_faults, end_faults, faults_by, header_faults, start_of_file_faults}
 use Rattle.cam_xnc.specs.Laws.{Holds, IsFault}
 use Rattle.cam_xnc.specs.Reading.{line_faults, reading_of as drill_reading, said, told_lines}
 use Rattle.cam_xnc.proofs.LeastFaults.{tells_least}
-use Rattle.cam_station.specs.declared.command.FileKind.{FileKind}
-use Rattle.cam_station.specs.declared.command.FileKind.TheVariants as kinds
+use Rattle.cam_script.specs.declared.command.FileKind.{FileKind}
+use Rattle.cam_script.specs.declared.command.FileKind.TheVariants as kinds
 use Rattle.cam_station.specs.declared.fault.Fault.{Fault}
 use Rattle.cam_station.specs.Meanings.{drill_meaning, gerber_meaning, meaning_of}
 use Rattle.cam_station.specs.Refusals.{file_fault}
-use Rattle.cam_station.specs.Sheets.{Content}
+use Rattle.cam_edits.specs.Sheets.{Content}
 
 -- no number of the table is past the last one of a drill file
 abbrev is_few : Table → Bool
@@ -111,11 +114,13 @@ abbrev pub IsOwnMeaning : Result Content Fault → Type 0
 IsOwnMeaning (Ok content) = Unit {0}
 IsOwnMeaning (Err f) = (f.code == file_fault) ≡ false
 
-gerber_own : (r : Result GerberContent GerberFault) → ((f : GerberFault) → r ≡ Err f → f.code ≤ 29) → IsOwnMeaning (gerber_meaning r)
+gerber_own : (r : Result GerberContent GerberFault)
+    → ((f : GerberFault) → r ≡ Err f → f.code ≤ 29) → IsOwnMeaning (gerber_meaning r)
 gerber_own (Ok c) few = tt
 gerber_own (Err f) few = let low : f.code ≤ 29 = few f refl in not_a_file f.code (omega (arith, low))
 
-drill_own : (r : Result DrillContent DrillFault) → ((f : DrillFault) → r ≡ Err f → f.code ≤ 48) → IsOwnMeaning (drill_meaning r)
+drill_own : (r : Result DrillContent DrillFault)
+    → ((f : DrillFault) → r ≡ Err f → f.code ≤ 48) → IsOwnMeaning (drill_meaning r)
 drill_own (Ok c) few = tt
 drill_own (Err f) few = not_a_file f.code (few f refl)
 

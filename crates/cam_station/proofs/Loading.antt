@@ -4,23 +4,23 @@ use Rattle.std.specs.Prelude.{◌==◌}
 use Rattle.std.proofs.lemmas.Bool.{ne_eqb}
 use Rattle.cam_objects.specs.declared.drill_layer.DrillLayer.{DrillLayer}
 use Rattle.cam_objects.specs.declared.layer.Layer.{Layer}
-use Rattle.cam_objects.specs.Contents.{content_of as gerber_content}
+use Rattle.cam_objects.specs.Contents.{content_of as gerber_content, drill_content_of as drill_content}
 use Rattle.cam_gerber.specs.declared.read_fault.ReadFault.{ReadFault as GerberFault}
 use Rattle.cam_gerber.specs.Reading.{IsReading as IsGerberReading, no_memory as no_gerber_memory, answer_of as gerber_answer}
 use Rattle.cam_gerber.specs.Computing.{reading_of as gerber_reading}
 use Rattle.cam_gerber.proofs.Computed.{no_fault_is_memory as no_gerber_fault_is_memory, reading_answers as gerber_reads}
 use Rattle.cam_xnc.specs.declared.read_fault.ReadFault.{ReadFault as DrillFault}
-use Rattle.cam_xnc.specs.Reading.{IsReading as IsDrillReading, content_of as drill_content, no_memory as no_drill_memory, reading_of as drill_reading}
+use Rattle.cam_xnc.specs.Reading.{IsReading as IsDrillReading, no_memory as no_drill_memory, reading_of as drill_reading}
 use Rattle.cam_xnc.proofs.LeastFaults.{no_fault_is_memory as no_drill_fault_is_memory}
+use Rattle.cam_edits.specs.Sheets.{Gerber, Drill}
+use Rattle.cam_edits.specs.declared.board.SheetContent.{SheetContent}
 use Rattle.cam_station.specs.declared.fault.Fault.{Fault}
-use Rattle.cam_station.specs.declared.sheet_layer.SheetLayer.{SheetLayer}
 use Rattle.cam_station.specs.Machine.{memory_of, reader_answer}
 use Rattle.cam_station.specs.Meanings.{drill_meaning, fault_at, gerber_meaning}
 use Rattle.cam_station.specs.Refusals.{memory_refused}
-use Rattle.cam_station.specs.Sheets.{Gerber, Drill}
 
 -- the answer to a file that is refused
-abbrev failed : ℕ → ℕ → Result SheetLayer Fault
+abbrev failed : ℕ → ℕ → Result SheetContent Fault
 failed code at = Err (fault_at code at)
 
 pub drill_refused : (bytes : List ℕ) (f : DrillFault) → IsDrillReading bytes (Err f)

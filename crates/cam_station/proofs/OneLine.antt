@@ -1,17 +1,18 @@
 -- What one line comes to, by what was parsed.
 use Rattle.std.proofs.Common.{◌≡◌, ℕ, Bool, false, List, Option, None, Some, Result, Ok, Err, refl, sym, ap, subst, ◌∙◌, arith}
-use Rattle.cam_station.specs.declared.command.FileKind.{FileKind}
-use Rattle.cam_station.specs.declared.command.Command.{Command as AnyCommand}
-use Rattle.cam_station.specs.declared.command.Command.TheVariants as commands
+use Rattle.cam_script.specs.declared.command.FileKind.{FileKind}
+use Rattle.cam_script.specs.declared.command.Command.{Command as AnyCommand}
+use Rattle.cam_script.specs.declared.command.Command.TheVariants as commands
 use Rattle.cam_station.specs.declared.fault.Fault.{Fault}
 use Rattle.cam_station.specs.declared.files.FileFault.{FileFault}
 use Rattle.cam_station.specs.declared.files.FileFault.TheVariants.{Memory as NoMemory}
 use Rattle.cam_station.specs.declared.reply.Reply.TheVariants.{Done, Numbers, Bytes}
-use Rattle.cam_station.specs.declared.script.line.Line.{Line}
-use Rattle.cam_station.specs.declared.script.line.Line.TheVariants.{Command, Load, Plot, Write}
-use Rattle.cam_station.specs.declared.script.line.LineFault.{LineFault}
+use Rattle.cam_script.specs.declared.line.Line.{Line}
+use Rattle.cam_script.specs.declared.line.Line.TheVariants.{Command, Load, Plot, Write}
+use Rattle.cam_script.specs.declared.line.LineFault.{LineFault}
 use Rattle.cam_station.specs.Machine.{State, Outcome, Memory, Granted, fault, step}
-use Rattle.cam_station.specs.Parsing.{parsed, Parsed, is_no_memory, line_code}
+use Rattle.cam_station.specs.Refusals.{line_code}
+use Rattle.cam_script.specs.Parsing.{parsed, Parsed, is_no_memory}
 use Rattle.cam_station.specs.Run.{World, FilesSeen, Nothing, Get, Put, file_code, HasNoBytes, Answers, Comes, Tells, turn, parsed_turn, load_turn, plot_turn, put_turn, write_turn}
 
 abbrev world : Bool → Result (List ℕ) FileFault → Memory → Result (Unit {0}) FileFault → World

@@ -1,68 +1,84 @@
--- Refused commands, and those that only look, change nothing.
-use Rattle.std.proofs.Common.{◌≡◌, ℕ, List, [], ◌∷◌, Option, None, Some, inl, inr, refl, ◌∙◌}
-use Rattle.std.specs.Prelude.{IsErr}
-use Rattle.cam_station.specs.declared.command.Command.{Command}
-use Rattle.cam_station.specs.declared.command.Command.TheVariants.{Load, SetWindow, Plot, Write, Delete, Move, Undo, Redo, ListAll, ListLayer}
+-- Quiet commands keep the documents.
+use Rattle.std.proofs.Common.{◌≡◌, ℕ, List, [], ◌∷◌, Option, None, Some, inl, inr, refl, ap, ◌∙◌}
 use Rattle.cam_tiles.specs.declared.window.Window.{Window}
-use Rattle.cam_station.specs.Documents.{content_at, place_of}
-use Rattle.cam_station.specs.Sheets.{Content}
-use Rattle.cam_station.specs.Machine.{State, Outcome, Memory, Granted, RefusedToReader, RefusedToStation, step, plot_at, plot_in, write_at, list_layer_at}
-use Rattle.cam_station.specs.Undoing.{Call, state_after, states_after, RefusalLaw, IsLook, IsQuiet, AreQuiet}
-use Rattle.cam_station.proofs.Steps.{AfterEach, after_each}
+use Rattle.cam_edits.specs.Boards.{place_of}
+use Rattle.cam_edits.specs.Sheets.{Sheet}
+use Rattle.cam_undo.specs.Machine.{State as Timeline}
+use Rattle.cam_script.specs.declared.command.Command.{Command}
+use Rattle.cam_script.specs.declared.command.Command.TheVariants as commands
+use Rattle.cam_station.specs.Machine.{
+  State,
+  Memory,
+  Granted,
+  RefusedToReader,
+  RefusedToStation,
+  step,
+  list_layer_at,
+  redraw_in,
+  write_at,
+}
+use Rattle.cam_station.specs.Undoing.{
+  Call,
+  IsLook,
+  IsQuiet,
+  AreQuiet,
+  after_refusal,
+  drawn_named,
+  drawn_where,
+  state_after,
+  states_after,
+}
+use Rattle.cam_station.proofs.Refusing.{plot_draws, refusal_stays}
 
-abbrev Stays : State → State × Outcome → Type 0
-Stays s p = IsErr p.1 → p.0 ≡ s
+-- the documents, and how many of them may be kept
+abbrev pub Documents : Type 0
+Documents = ℕ × Timeline (List Sheet)
 
-stays_each : (s : State) → AfterEach s (Stays s)
-stays_each s =
-    record {
-      stays = λ o h. refl;
-      loaded = λ name c reply sound h. cc;
-      framed = λ w accepted h. cc;
-      changed = λ document sound h. cc;
-      undone = λ document past e h. cc;
-      redone = λ document future e h. cc;
-    }
+abbrev pub documents_of : State → Documents
+documents_of s = (s.depth, s.timeline)
 
-pub refusal_stays : RefusalLaw
-refusal_stays s c h = after_each s (Stays s) (stays_each s) c.0 c.1 h
+abbrev Keeps : State → State → Type 0
+Keeps s after = documents_of after ≡ documents_of s
 
-plot_in_stays : (s : State) (m : Memory) (c : Content) (w : Option Window) → (plot_in s m c w).0 ≡ s
-plot_in_stays s m c None = refl
-plot_in_stays s Granted c (Some w) = refl
-plot_in_stays s RefusedToReader c (Some w) = refl
-plot_in_stays s RefusedToStation c (Some w) = refl
+drawn_keeps : (s : State) (w : Option Window) (place : Option ℕ) → Keeps s (drawn_where s w place)
+drawn_keeps s None place = refl
+drawn_keeps s (Some w) None = refl
+drawn_keeps s (Some w) (Some place) = refl
 
-plot_stays : (s : State) (m : Memory) (place : Option ℕ) → (plot_at s m place).0 ≡ s
-plot_stays s m None = refl
-plot_stays s m (Some place) = plot_in_stays s m (content_at s.document place) s.window
+named_keeps : (s : State) (name : List ℕ) → Keeps s (drawn_named name s)
+named_keeps s name = drawn_keeps s s.window (place_of name s.timeline.document)
 
-write_stays : (s : State) (m : Memory) (place : Option ℕ) → (write_at s m place).0 ≡ s
-write_stays s m None = refl
-write_stays s Granted (Some place) = refl
-write_stays s RefusedToReader (Some place) = refl
-write_stays s RefusedToStation (Some place) = refl
+refusal_keeps : (s : State) (c : Command) → Keeps s (after_refusal s c)
+refusal_keeps s (commands.Plot name) = named_keeps s name
+refusal_keeps s _ = refl
 
-list_layer_stays : (s : State) (place : Option ℕ) → (list_layer_at s place).0 ≡ s
-list_layer_stays s None = refl
-list_layer_stays s (Some place) = refl
+redraw_keeps : (s : State) (n : ℕ) (w : Option Window) → Keeps s (redraw_in s n w).0
+redraw_keeps s n None = refl
+redraw_keeps s n (Some w) = refl
 
-look_stays : (s : State) (c : Command) (m : Memory) → IsLook c → (step s c m).0 ≡ s
-look_stays s (Plot name) m h = plot_stays s m (place_of name s.document)
-look_stays s (Write name) m h = write_stays s m (place_of name s.document)
-look_stays s ListAll m h = refl
-look_stays s (ListLayer name) m h = list_layer_stays s (place_of name s.document)
-look_stays s (Load name kind file) m h = absurd h
-look_stays s (SetWindow w) m h = absurd h
-look_stays s (Delete name item) m h = absurd h
-look_stays s (Move name item dx dy) m h = absurd h
-look_stays s Undo m h = absurd h
-look_stays s Redo m h = absurd h
+write_keeps : (s : State) (m : Memory) (place : Option ℕ) → Keeps s (write_at s m place).0
+write_keeps s m None = refl
+write_keeps s Granted (Some place) = refl
+write_keeps s RefusedToReader (Some place) = refl
+write_keeps s RefusedToStation (Some place) = refl
 
-quiet_stays : (s : State) (c : Call) → IsQuiet s c → state_after s c ≡ s
-quiet_stays s c (inl looks) = look_stays s c.0 c.1 looks
-quiet_stays s c (inr refused) = refusal_stays s c refused
+list_layer_keeps : (s : State) (place : Option ℕ) → Keeps s (list_layer_at s place).0
+list_layer_keeps s None = refl
+list_layer_keeps s (Some place) = refl
 
-pub all_quiet_stay : (s : State) (calls : List Call) → AreQuiet s calls → states_after s calls ≡ s
-all_quiet_stay s [] h = refl
-all_quiet_stay s (c ∷ calls) h = all_quiet_stay (state_after s c) calls h.1 ∙ quiet_stays s c h.0
+look_keeps : (s : State) (c : Command) (m : Memory) → IsLook c → Keeps s (step s c m).0
+look_keeps s (commands.Redraw n) m h = redraw_keeps s n s.window
+look_keeps s (commands.Plot name) m h = ap documents_of (plot_draws s name m) ∙ named_keeps s name
+look_keeps s (commands.Write name) m h = write_keeps s m (place_of name s.timeline.document)
+look_keeps s commands.ListAll m h = refl
+look_keeps s (commands.ListLayer name) m h = list_layer_keeps s (place_of name s.timeline.document)
+look_keeps s _ m h = absurd h
+
+pub quiet_keeps : (s : State) (c : Call) → IsQuiet s c → documents_of (state_after s c) ≡ documents_of s
+quiet_keeps s c (inl looks) = look_keeps s c.0 c.1 looks
+quiet_keeps s c (inr refused) = ap documents_of (refusal_stays s c refused) ∙ refusal_keeps s c.0
+
+pub all_quiet_keep : (s : State) (calls : List Call) → AreQuiet s calls
+    → documents_of (states_after s calls) ≡ documents_of s
+all_quiet_keep s [] h = refl
+all_quiet_keep s (c ∷ calls) h = all_quiet_keep (state_after s c) calls h.1 ∙ quiet_keeps s c h.0

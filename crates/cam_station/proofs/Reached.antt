@@ -1,99 +1,39 @@
 -- What holds in each state that a station can come to.
-use Rattle.std.proofs.Common.{◌≡◌, ℕ, ◌+◌, ◌≤◌, List, [], ◌∷◌, length, Some, true, refl, ap, arith, length-take}
-use Rattle.std.specs.Prelude.{All}
-use Rattle.std.proofs.lemmas.List.Elements.{All-append, All-cons, All-head, All-nil, All-tail, All-take}
+use Rattle.std.proofs.Common.{◌≡◌, ℕ, List, [], ◌∷◌, Some, true}
 use Rattle.cam_tiles.specs.declared.window.Window.{Window}
-use Rattle.cam_station.specs.Machine.{State, Outcome, fresh}
 use Rattle.cam_tiles.specs.Picture.{accepts}
-use Rattle.cam_station.specs.Sheets.{IsSound, Sheet, sheet}
-use Rattle.cam_station.specs.Sound.{AreSound, IsSoundState, SoundLaw}
-use Rattle.cam_station.specs.Undoing.{Call, DepthLaw, state_after, states_after}
-use Rattle.cam_station.proofs.Steps.{AfterEach, after_each}
+use Rattle.cam_station.specs.Machine.{State, fresh}
+use Rattle.cam_station.specs.Sound.{IsSoundTimeline, SoundLaw}
+use Rattle.cam_station.specs.Undoing.{Call, state_after, states_after}
+use Rattle.cam_station.proofs.SoundSteps.{AfterEach, after_each, sound_start}
 
--- the depth is the first one, no more documents are kept, the window in force was accepted, and all layers are sound
-pub record IsReached (depth : ℕ) (s : State) : Type 0 where
-  pub depth_is : s.depth ≡ depth
-  pub kept : length s.past + length s.future ≤ depth
+-- the window in force was accepted, and all layers are sound
+pub record IsReached (s : State) : Type 0 where
   pub in_force : (w : Window) → s.window ≡ Some w → accepts w ≡ true
-  pub sound : IsSoundState s
+  pub sound : IsSoundTimeline s.timeline
 
-abbrev IsSoundSheet : Sheet → Type 0
-IsSoundSheet s = IsSound s.content
-
-abbrev Leads : ℕ → State × Outcome → Type 0
-Leads depth p = IsReached depth p.0
-
-leads_each : (depth : ℕ) (s : State) → IsReached depth s → AfterEach s (Leads depth)
-leads_each depth s h =
+reached_each : (s : State) → IsReached s → AfterEach s IsReached
+reached_each s h =
     record {
-      stays = λ o. h;
-      loaded = λ name c reply sound. record {
-        depth_is = h.depth_is;
-        kept = omega arith;
-        in_force = h.in_force;
-        sound = record {
-          document = All-append IsSoundSheet s.document (sheet name c ∷ []) h.sound.document (All-cons IsSoundSheet (sheet name c) [] sound (All-nil IsSoundSheet));
-          past = All-nil AreSound;
-          future = All-nil AreSound;
-        };
-      };
+      stays = h;
+      drawn = λ tables. record { in_force = h.in_force; sound = h.sound };
+      moved = λ t touches tables sound. record { in_force = h.in_force; sound = sound h.sound };
       framed = λ w accepted. record {
-        depth_is = h.depth_is;
-        kept = h.kept;
         in_force = λ w' e. let same : w ≡ w' = cc in rw (← same) accepted;
-        sound = record { document = h.sound.document; past = h.sound.past; future = h.sound.future };
-      };
-      changed = λ document sound. record {
-        depth_is = h.depth_is;
-        kept = omega (arith, h.depth_is, length-take s.depth (s.document ∷ s.past));
-        in_force = h.in_force;
-        sound = record {
-          document = sound h.sound.document;
-          past = All-take AreSound s.depth (s.document ∷ s.past) (All-cons AreSound s.document s.past h.sound.document h.sound.past);
-          future = All-nil AreSound;
-        };
-      };
-      undone = λ document past e. record {
-        depth_is = h.depth_is;
-        kept = omega (arith, h.kept, ap length e);
-        in_force = h.in_force;
-        sound = let all : All AreSound (document ∷ past) = rw e at h.sound.past in record {
-          document = All-head AreSound document past all;
-          past = All-tail AreSound document past all;
-          future = All-cons AreSound s.document s.future h.sound.document h.sound.future;
-        };
-      };
-      redone = λ document future e. record {
-        depth_is = h.depth_is;
-        kept = omega (arith, h.kept, ap length e);
-        in_force = h.in_force;
-        sound = let all : All AreSound (document ∷ future) = rw e at h.sound.future in record {
-          document = All-head AreSound document future all;
-          past = All-cons AreSound s.document s.past h.sound.document h.sound.past;
-          future = All-tail AreSound document future all;
-        };
+        sound = h.sound;
       };
     }
 
-fresh_reached : (depth : ℕ) → IsReached depth (fresh depth)
-fresh_reached depth =
-    record {
-      depth_is = refl;
-      kept = omega arith;
-      in_force = λ w e. cc;
-      sound = record { document = All-nil IsSoundSheet; past = All-nil AreSound; future = All-nil AreSound };
-    }
+fresh_reached : (depth : ℕ) → IsReached (fresh depth)
+fresh_reached depth = record { in_force = λ w e. absurd cc; sound = sound_start depth }
 
-reached_after : (depth : ℕ) (s : State) (calls : List Call) → IsReached depth s → IsReached depth (states_after s calls)
-reached_after depth s [] h = h
-reached_after depth s (c ∷ calls) h =
-    reached_after depth (state_after s c) calls (after_each s (Leads depth) (leads_each depth s h) c.0 c.1)
+reached_after : (s : State) (calls : List Call) → IsReached s → IsReached (states_after s calls)
+reached_after s [] h = h
+reached_after s (c ∷ calls) h =
+    reached_after (state_after s c) calls (after_each s IsReached (reached_each s h) c.0 c.1)
 
-pub reached : (depth : ℕ) (calls : List Call) → IsReached depth (states_after (fresh depth) calls)
-reached depth calls = reached_after depth (fresh depth) calls (fresh_reached depth)
-
-pub depth_law : DepthLaw
-depth_law depth before = (reached depth before).kept
+pub reached : (depth : ℕ) (calls : List Call) → IsReached (states_after (fresh depth) calls)
+reached depth calls = reached_after (fresh depth) calls (fresh_reached depth)
 
 pub sound_law : SoundLaw
 sound_law depth before = (reached depth before).sound

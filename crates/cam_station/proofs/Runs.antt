@@ -1,6 +1,6 @@
 -- Runs of commands, one after another.
 use Rattle.std.proofs.Common.{◌≡◌, suc, List, [], ◌∷◌, ◌++◌, refl, ap, ap₂, arith, ◌∙◌}
-use Rattle.cam_station.specs.declared.command.Command.{Command}
+use Rattle.cam_script.specs.declared.command.Command.{Command}
 use Rattle.cam_station.specs.Machine.{State, Outcome, memory_of, step}
 use Rattle.cam_station.specs.Undoing.{IsRun, answer_to, answers_to, calls_of, state_after, states_after}
 

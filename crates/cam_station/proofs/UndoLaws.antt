@@ -1,43 +1,89 @@
 -- Exact undo.
-use Rattle.std.proofs.Common.{◌≡◌, ℕ, zero, suc, ◌≤◌, List, Option, None, Some, Result, Ok, Err, refl, ap, arith, subst, sym, ◌∙◌}
-use Rattle.std.specs.Prelude.{IsOk}
-use Rattle.cam_station.specs.declared.command.Command.{Command}
-use Rattle.cam_station.specs.declared.command.Command.TheVariants.{Load, SetWindow, Plot, Write, Delete, Move, Undo, Redo, ListAll, ListLayer}
+use Rattle.std.proofs.Common.{◌≡◌, ℕ, ◌-◌, ◌<◌, List, [], ◌∷◌, ◌++◌, length, None, Some, Ok, refl, ap, arith}
+use Rattle.std.proofs.Common.{get_or, length-append, subst, sym, ◌∙◌}
+use Rattle.std.specs.Prelude.{slice_get}
+use Rattle.std.proofs.lemmas.Option.{slice_get-get_or}
+use Rattle.cam_edits.specs.Sheets.{Sheet}
+use Rattle.cam_undo.specs.declared.fault.HistoryFault.{HistoryFault}
+use Rattle.cam_undo.specs.declared.fault.HistoryFault.TheVariants.{NothingToRedo, NothingToUndo}
+use Rattle.cam_undo.specs.Machine.{
+  State as Timeline,
+  accepted,
+  begun,
+  fault_by_list,
+  redo_fault,
+  redone,
+  undo_fault,
+  undone,
+}
+use Rattle.cam_undo.specs.Laws.{all_accepted, group_accepted}
+use Rattle.cam_undo.proofs.Documents.{exact_edits, exact_groups}
+use Rattle.cam_script.specs.declared.command.Command.TheVariants.{Redo, Undo}
 use Rattle.cam_station.specs.declared.reply.Reply.TheVariants.{Done}
-use Rattle.cam_station.specs.Documents.{content_at, place_of, with_content, picture_named, text_named}
-use Rattle.cam_station.specs.Sheets.{Content, Sheet}
-use Rattle.cam_station.specs.Machine.{State, Outcome, Memory, Granted, RefusedToReader, RefusedToStation, fresh, step, with_edit, edit_at, edit_to, delete_of, move_of}
-use Rattle.cam_station.specs.Undoing.{Call, state_after, states_after, answer_to, undo, redo, GivesBack, IsEdit, ExactUndo, ExactUndoEverywhere}
-use Rattle.cam_station.proofs.Quiet.{all_quiet_stay}
-use Rattle.cam_station.proofs.Reached.{IsReached, reached}
+use Rattle.cam_station.specs.Documents.{picture_named, text_named}
+use Rattle.cam_station.specs.Machine.{State, Granted, fresh, moved_to, step}
+use Rattle.cam_station.specs.Touches.{redone_touches, touched_by_redo, touched_by_undo, undone_touches}
+use Rattle.cam_station.specs.Undoing.{
+  Call,
+  ExactUndo,
+  ExactUndoEverywhere,
+  GivesBack,
+  IsAccepted,
+  IsGroup,
+  IsTakenBack,
+  answer_to,
+  group_of,
+  redo,
+  state_after,
+  states_after,
+  undo,
+}
+use Rattle.cam_station.proofs.Depths.{IsWithinDepth, within_depth}
+use Rattle.cam_station.proofs.Groups.{After, Ends, IsMade, edit_made, ends, group_made, grown}
+use Rattle.cam_station.proofs.Quiet.{all_quiet_keep}
 
--- an accepted edit puts some document in the place of the one before
-abbrev Edits : State → State × Outcome → Type 0
-Edits s p = IsOk p.1 → (document : List Sheet) × (p.0 ≡ with_edit s document)
+module _ {D : Type 0} where
+  -- the last step of the past leads back to the document `before`, and then forth again
+  record Reverts (t : Timeline D) (before : D) : Type 0 where
+    closed : t.group ≡ None
+    stands : 0 < length t.past
+    back : (undone t).document ≡ before
+    forth : redone (undone t) ≡ t
 
-edits_to : (s : State) (m : Memory) (place : ℕ) (made : Result Content ℕ) → Edits s (edit_to s m place made)
-edits_to s m place (Err code) = λ h. cc
-edits_to s Granted place (Ok c) = λ h. (with_content s.document place c, refl)
-edits_to s RefusedToReader place (Ok c) = λ h. (with_content s.document place c, refl)
-edits_to s RefusedToStation place (Ok c) = λ h. cc
+  has_some : (xs : List D) (f : HistoryFault) → 0 < length xs → fault_by_list xs f ≡ None
+  has_some [] f some = absurd (omega arith)
+  has_some (x ∷ xs) f some = refl
 
-edits_at : (s : State) (m : Memory) (edit : Content → Result Content ℕ) (place : Option ℕ) → Edits s (edit_at s m edit place)
-edits_at s m edit None = λ h. cc
-edits_at s m edit (Some place) = edits_to s m place (edit (content_at s.document place))
+  may_undo : (t : Timeline D) → t.group ≡ None → 0 < length t.past → undo_fault t ≡ None
+  may_undo t none some = rw none (has_some t.past NothingToUndo some)
 
-edits : (s : State) (c : Command) (m : Memory) → IsEdit c → Edits s (step s c m)
-edits s (Delete name item) m e = edits_at s m (delete_of item) (place_of name s.document)
-edits s (Move name item dx dy) m e = edits_at s m (move_of item (record { x = dx; y = dy })) (place_of name s.document)
-edits s (Load name kind file) m e = absurd e
-edits s (SetWindow w) m e = absurd e
-edits s (Plot name) m e = absurd e
-edits s (Write name) m e = absurd e
-edits s Undo m e = absurd e
-edits s Redo m e = absurd e
-edits s ListAll m e = absurd e
-edits s (ListLayer name) m e = absurd e
+  may_redo : (t : Timeline D) → t.group ≡ None → 0 < length t.past → redo_fault (undone t) ≡ None
+  may_redo t none some =
+      let last : slice_get t.past (length t.past - 1) ≡ Some (get_or t.past (length t.past - 1) t.document) =
+      slice_get-get_or t.past (length t.past - 1) t.document (omega (arith, some)) in
+      rw (last, none)
+      (has_some (t.future ++ t.document ∷ []) NothingToRedo (omega (arith, length-append t.future (t.document ∷ []))))
 
-gives_back : (s : State) (c : Call) (document : List Sheet) → answer_to s c ≡ Ok Done → (state_after s c).document ≡ document → GivesBack s c document
+  edit_reverts : (depth : ℕ) (edited : D) (t : Timeline D) → 0 < depth → t.group ≡ None
+      → Reverts (accepted depth edited t) t.document
+  edit_reverts depth edited t some none =
+      let exact = exact_edits {D = D} depth edited t some none in
+      record {
+        closed = rw none refl;
+        stands = rw none (grown depth t.past t.document some);
+        back = exact.0;
+        forth = exact.1;
+      }
+
+  group_reverts : (depth : ℕ) (edited : D) (later : List D) (t : Timeline D) → 0 < depth
+      → Reverts (group_accepted D depth (edited ∷ later) t) t.document
+  group_reverts depth edited later t some =
+      let exact = exact_groups {D = D} depth edited later t some in
+      let end : Ends depth (all_accepted D depth (edited ∷ later) (begun t)) = ends depth edited later t some in
+      record { closed = end.closed; stands = end.stands; back = exact.0; forth = exact.1 }
+
+gives_back : (s : State) (c : Call) (document : List Sheet) → answer_to s c ≡ Ok Done
+    → (state_after s c).timeline.document ≡ document → GivesBack s c document
 gives_back s c document accepted same =
     record {
       accepted = accepted;
@@ -46,33 +92,70 @@ gives_back s c document accepted same =
       pictures = λ w name. ap (picture_named w name) same;
     }
 
--- an undo right after the edit, and a redo right after that
-undo_back : (n : ℕ) (s left : State) (document : List Sheet) → s.depth ≡ suc n → left ≡ with_edit s document → GivesBack left undo s.document
-undo_back n s left document depth e = gives_back left undo s.document (rw (e, depth) refl) (rw (e, depth) refl)
+undo_made : (s : State) → undo_fault s.timeline ≡ None
+    → step s Undo Granted
+    ≡ (moved_to s (undone s.timeline) (undone_touches s.touches) (touched_by_undo s.touches), Ok Done)
+undo_made s may = rw may refl
 
-redo_back : (n : ℕ) (s left : State) (document : List Sheet) → s.depth ≡ suc n → left ≡ with_edit s document → GivesBack (state_after left undo) redo left.document
-redo_back n s left document depth e = gives_back (state_after left undo) redo left.document (rw (e, depth) refl) (rw (e, depth) refl)
+redo_made : (s : State) → redo_fault s.timeline ≡ None
+    → step s Redo Granted
+    ≡ (moved_to s (redone s.timeline) (redone_touches s.touches) (touched_by_redo s.touches), Ok Done)
+redo_made s may = rw may refl
 
-predecessor : (n : ℕ) → 1 ≤ n → (m : ℕ) × (n ≡ suc m)
-predecessor zero h = absurd (omega arith)
-predecessor (suc n) h = (n, refl)
+module _ (s : State) (before : List Sheet) (r : Reverts s.timeline before) where
+  back : GivesBack s undo before
+  back =
+      let undo_is = undo_made s (may_undo s.timeline r.closed r.stands) in
+      gives_back s undo before (ap (λ p. p.1) undo_is) (ap (λ p. p.0.timeline.document) undo_is ∙ r.back)
+
+  -- from each state whose documents are those after the undo
+  forth : (left : State) → left.timeline ≡ undone s.timeline → GivesBack left redo s.timeline.document
+  forth left left_is =
+      let may : redo_fault left.timeline ≡ None = ap redo_fault left_is ∙ may_redo s.timeline r.closed r.stands in
+      let redo_is = redo_made left may in
+      gives_back left redo s.timeline.document (ap (λ p. p.1) redo_is)
+      (ap (λ p. p.0.timeline.document) redo_is
+      ∙ (ap (λ t. (redone t).document) left_is ∙ ap (λ t. t.document) r.forth))
+
+taken_back : (edited : State) (before : List Sheet) → Reverts edited.timeline before → IsTakenBack edited before
+taken_back edited before r between rest quiet quiet_rest =
+    let left : State = states_after edited between in
+    let left_is : left.timeline ≡ edited.timeline = ap (λ d. d.1) (all_quiet_keep edited between quiet) in
+    let reverts : Reverts left.timeline before = subst (λ t. Reverts t before) (sym left_is) r in
+    let undo_is = undo_made left (may_undo left.timeline reverts.closed reverts.stands) in
+    let last : State = states_after (state_after left undo) rest in
+    let last_is : last.timeline ≡ undone left.timeline =
+    ap (λ d. d.1) (all_quiet_keep (state_after left undo) rest quiet_rest) ∙ ap (λ p. p.0.timeline) undo_is in (
+      back left before reverts,
+      subst (λ d. GivesBack last redo d) (ap (λ t. t.document) left_is) (forth left before reverts last last_is),
+    )
+
+edit_taken_back : (s : State) (edit : Call) → 0 < s.depth → s.timeline.group ≡ None → IsAccepted s edit
+    → IsTakenBack (state_after s edit) s.timeline.document
+edit_taken_back s edit some none is =
+    let made : After s (state_after s edit) = edit_made s edit is in
+    taken_back (state_after s edit) s.timeline.document
+    (subst (λ t. Reverts t s.timeline.document) (sym (ap (λ d. d.1) made.1))
+    (edit_reverts s.depth made.0 s.timeline some none))
+
+group_taken_back : (s : State) (quiet : List Call) (edit : Call) (more : List Call) → 0 < s.depth
+    → s.timeline.group ≡ None → IsGroup s quiet edit more
+    → IsTakenBack (states_after s (group_of quiet edit more)) s.timeline.document
+group_taken_back s quiet edit more some none is =
+    let made : IsMade s (states_after s (group_of quiet edit more)) = group_made s quiet edit more some none is in
+    taken_back (states_after s (group_of quiet edit more)) s.timeline.document
+    (subst (λ t. Reverts t s.timeline.document) (sym made.is)
+    (group_reverts s.depth made.edited made.later s.timeline some))
 
 pub exact_everywhere : ExactUndoEverywhere
-exact_everywhere s depth edit between rest is_edit accepted quiet quiet_rest =
-    let after : State = state_after s edit in
-    let left : State = states_after after between in
-    let left_is : left ≡ after = all_quiet_stay after between quiet in
-    let undone : State = state_after left undo in
-    let rest_is : states_after undone rest ≡ undone = all_quiet_stay undone rest quiet_rest in
-    let n : (m : ℕ) × (s.depth ≡ suc m) = predecessor s.depth depth in
-    let made : (document : List Sheet) × (after ≡ with_edit s document) = edits s edit.0 edit.1 is_edit accepted in
-    let left_made : left ≡ with_edit s made.0 = left_is ∙ made.1 in
-    let again : GivesBack undone redo left.document = redo_back n.0 s left made.0 n.1 left_made in
-    let again_edited : GivesBack undone redo after.document = subst (λ x. GivesBack undone redo x.document) left_is again in
-    (undo_back n.0 s left made.0 n.1 left_made, subst (λ x. GivesBack x redo after.document) (sym rest_is) again_edited)
+exact_everywhere s depth =
+    record {
+      edits = λ edit none is. edit_taken_back s edit depth none is;
+      groups = λ quiet edit more none is. group_taken_back s quiet edit more depth none is;
+    }
 
 pub exact_undo : ExactUndo
 exact_undo depth least greatest before =
     let s : State = states_after (fresh depth) before in
-    let h : IsReached depth s = reached depth before in
+    let h : IsWithinDepth depth s = within_depth depth before in
     exact_everywhere s (rw h.depth_is least)

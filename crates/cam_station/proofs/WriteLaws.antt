@@ -1,5 +1,6 @@
 -- Exact write, and loads of what was written.
-use Rattle.std.proofs.Common.{◌≡◌, ℕ, ◌+◌, ◌<◌, ◌≤◌, Bool, true, false, cond, eqb, List, [], ◌∷◌, ◌++◌, length, Option, None, Some, Ok, refl, sym, ap, ◌∙◌, subst, arith, nat_le, nat_lt, position, length-append}
+use Rattle.std.proofs.Common.{◌≡◌, ℕ, ◌+◌, ◌<◌, ◌≤◌, Bool, true, false, cond, eqb, List, [], ◌∷◌, ◌++◌, length, Option}
+use Rattle.std.proofs.Common.{None, Some, Ok, refl, sym, ap, ◌∙◌, subst, arith, nat_le, nat_lt, position, length-append}
 use Rattle.std.specs.Prelude.{is_some, not, slice_get}
 use Rattle.std.specs.List.{position_or_len}
 use Rattle.std.specs.Option.{option_map}
@@ -11,17 +12,19 @@ use Rattle.std.proofs.lemmas.List.Sums.{prefix_len-le-length}
 use Rattle.std.proofs.lemmas.Slice.Eq.{bytes_eq-Decides}
 use Rattle.cam_writers.proofs.GerberReadingBack.{gerber_reads_back}
 use Rattle.cam_writers.proofs.ReadingBack.{reads_back}
-use Rattle.cam_station.specs.declared.command.Command.TheVariants.{Load}
-use Rattle.cam_station.specs.declared.command.FileKind.{FileKind}
+use Rattle.cam_script.specs.declared.command.Command.TheVariants.{Load}
+use Rattle.cam_script.specs.declared.command.FileKind.{FileKind}
 use Rattle.cam_station.specs.declared.reply.Numbers.TheVariants.{One}
 use Rattle.cam_station.specs.declared.reply.Reply.{Reply}
 use Rattle.cam_station.specs.declared.reply.Reply.TheVariants.{Bytes, Numbers}
-use Rattle.cam_station.specs.Documents.{content_at, content_named, content_of, place_of}
-use Rattle.cam_station.specs.Machine.{State, Outcome, Memory, Granted, RefusedToReader, RefusedToStation, fresh, load_read, reader_answer, refused, step, with_sheet, write_at}
+use Rattle.cam_edits.specs.Boards.{content_at, held, place_of}
+use Rattle.cam_edits.specs.Sheets.{AreSound, Content, Gerber, Drill, IsSound, Sheet, item_count, sheet}
+use Rattle.cam_station.specs.Documents.{content_named}
+use Rattle.cam_edits.specs.Images.{image_of}
+use Rattle.cam_station.specs.Machine.{State, Outcome, Memory, Granted, RefusedToReader, RefusedToStation, fresh}
+use Rattle.cam_station.specs.Machine.{load_read, reader_answer, refused, step, with_sheet, write_at}
 use Rattle.cam_station.specs.Meanings.{drill_meaning, gerber_meaning, meaning_of}
-use Rattle.cam_station.specs.Refusals.{layer_limit, name_taken, too_many_layers}
-use Rattle.cam_station.specs.Sheets.{Content, Gerber, Drill, IsSound, Sheet, image_of, item_count, sheet}
-use Rattle.cam_station.specs.Sound.{AreSound}
+use Rattle.cam_station.specs.Refusals.{group_open, layer_limit, name_taken, too_many_layers}
 use Rattle.cam_station.specs.Undoing.{Call, state_after, states_after}
 use Rattle.cam_station.specs.Writes.{ExactWrite, IsWriteOf, IsWritten, WrittenIsAccepted, WrittenLoadsAgain, load_of}
 use Rattle.cam_station.specs.Writing.{kind_of, text_of}
@@ -68,13 +71,15 @@ last_named : (name : List ℕ) (sheets : List Sheet) (c : Content) → place_of 
 last_named name sheets c free =
     let all : List Sheet = sheets ++ sheet name c ∷ [] in
     ap (option_map (content_at all)) (last_place name sheets c free)
-    ∙ ap (λ o. Some (content_of o)) (last_there sheets (sheet name c))
+    ∙ ap (λ o. Some (held o)) (last_there sheets (sheet name c))
 
 -- ---- loads
 
 -- a load of a file of a known meaning, in its state
-module _ (s : State) (name : List ℕ) (kind : FileKind) (file : List ℕ) (c : Content) (means : meaning_of kind file ≡ Ok c) where
-  passed : (test : Bool) (code : ℕ) (after : State × Outcome) (reply : Reply) → (cond test (s, refused code) after).1 ≡ Ok reply → test ≡ false
+module _ (s : State) (name : List ℕ) (kind : FileKind) (file : List ℕ) (c : Content)
+    (means : meaning_of kind file ≡ Ok c) where
+  passed : (test : Bool) (code : ℕ) (after : State × Outcome) (reply : Reply)
+      → (cond test (s, refused code) after).1 ≡ Ok reply → test ≡ false
   passed true code after reply h = absurd cc
   passed false code after reply h = refl
 
@@ -93,28 +98,34 @@ module _ (s : State) (name : List ℕ) (kind : FileKind) (file : List ℕ) (c : 
 
   -- the name was free, and the layer stands last
   record Adds (m : Memory) : Type 0 where
-    free : place_of name s.document ≡ None
+    free : place_of name s.timeline.document ≡ None
     after : (step s (Load name kind file) m).0 ≡ with_sheet s name c
 
   load_adds : (m : Memory) (reply : Reply) → (step s (Load name kind file) m).1 ≡ Ok reply → Adds m
   unfolding read_in
   load_adds m reply h =
-      let taken : Bool = is_some (place_of name s.document) in
-      let full : Bool = nat_le layer_limit (length s.document) in
+      let open_group : Bool = is_some s.timeline.group in
+      let taken : Bool = is_some (place_of name s.timeline.document) in
+      let full : Bool = nat_le layer_limit (length s.timeline.document) in
       let read : State × Outcome = load_read s name m (reader_answer m (meaning_of kind file)) in
-      let free : taken ≡ false = passed taken name_taken (cond full (s, refused too_many_layers) read) reply h in
-      let few : full ≡ false = passed full too_many_layers read reply (rw free at h) in
-      let h' : (read_in m).1 ≡ Ok reply = rw (free, few, means) at h in
+      let fitting : State × Outcome = cond full (s, refused too_many_layers) read in
+      let named : State × Outcome = cond taken (s, refused name_taken) fitting in
+      let closed : open_group ≡ false = passed open_group group_open named reply h in
+      let free : taken ≡ false = passed taken name_taken fitting reply (rw closed at h) in
+      let few : full ≡ false = passed full too_many_layers read reply (rw (closed, free) at h) in
+      let h' : (read_in m).1 ≡ Ok reply = rw (closed, free, few, means) at h in
       record {
-        free = untaken (place_of name s.document) free;
-        after = rw (free, few, means) (read_adds m reply h');
+        free = untaken (place_of name s.timeline.document) free;
+        after = rw (closed, free, few, means) (read_adds m reply h');
       }
 
-  load_accepted : place_of name s.document ≡ None → length s.document < layer_limit
+  load_accepted : s.timeline.group ≡ None → place_of name s.timeline.document ≡ None
+      → length s.timeline.document < layer_limit
       → (step s (Load name kind file) Granted).1 ≡ Ok (Numbers (One (item_count c)))
-  load_accepted free few =
-      let room : nat_le layer_limit (length s.document) ≡ false = lt-leb layer_limit (length s.document) few in
-      rw (free, room, means) refl
+  load_accepted closed free few =
+      let room : nat_le layer_limit (length s.timeline.document) ≡ false =
+      lt-leb layer_limit (length s.timeline.document) few in
+      rw (closed, free, room, means) refl
 
 -- ---- what is written
 
@@ -123,26 +134,26 @@ read_back (Gerber c) sound = ap gerber_meaning (gerber_reads_back c sound)
 read_back (Drill c) sound = ap drill_meaning (reads_back c sound)
 
 written_here : (s : State) (m : Memory) (place : ℕ) (reply : Reply) → (write_at s m (Some place)).1 ≡ Ok reply
-    → reply ≡ Bytes (text_of (content_at s.document place)) 0
+    → reply ≡ Bytes (text_of (content_at s.timeline.document place)) 0
 written_here s Granted place reply h = cc
 written_here s RefusedToReader place reply h = cc
 written_here s RefusedToStation place reply h = absurd cc
 
-written : (s : State) (m : Memory) (name : List ℕ) (place : Option ℕ) (reply : Reply) → AreSound s.document
-    → place_of name s.document ≡ place → (write_at s m place).1 ≡ Ok reply → IsWriteOf s name reply
+written : (s : State) (m : Memory) (name : List ℕ) (place : Option ℕ) (reply : Reply) → AreSound s.timeline.document
+    → place_of name s.timeline.document ≡ place → (write_at s m place).1 ≡ Ok reply → IsWriteOf s name reply
 written s m name None reply sound e h = absurd cc
 written s m name (Some place) reply sound e h = record {
-  content = content_at s.document place;
-  named = ap (option_map (content_at s.document)) e;
+  content = content_at s.timeline.document place;
+  named = ap (option_map (content_at s.timeline.document)) e;
   answered = written_here s m place reply h;
-  read_back = read_back (content_at s.document place) (place_sound s.document place sound);
+  read_back = read_back (content_at s.timeline.document place) (place_sound s.timeline.document place sound);
 }
 
 pub exact_write : ExactWrite
 exact_write depth before name m reply h =
     let s : State = states_after (fresh depth) before in
-    let r : IsReached depth s = reached depth before in
-    written s m name (place_of name s.document) reply r.sound.document refl h
+    let r : IsReached s = reached depth before in
+    written s m name (place_of name s.timeline.document) reply r.sound.document refl h
 
 same_content : (a b : Content) (o : Option Content) → o ≡ Some a → o ≡ Some b → a ≡ b
 same_content a b o e f = cc
@@ -155,7 +166,9 @@ means_layer : (depth : ℕ) (before : List Call) (name : List ℕ) (c : Content)
     → IsWritten (states_after (fresh depth) before) name c bytes → meaning_of (kind_of c) bytes ≡ Ok c
 means_layer depth before name c bytes h =
     let w = exact_write depth before name h.memory (Bytes bytes h.drawn) h.answered in
-    let same : w.content ≡ c = same_content w.content c (content_named name (states_after (fresh depth) before).document) w.named h.named in
+    let s : State = states_after (fresh depth) before in
+    let same : w.content ≡ c =
+    same_content w.content c (content_named name s.timeline.document) w.named h.named in
     let text : bytes ≡ text_of c = same_bytes bytes (text_of w.content) h.drawn 0 w.answered ∙ ap text_of same in
     rw text (subst (λ (x : Content). meaning_of (kind_of x) (text_of x) ≡ Ok x) same w.read_back)
 
@@ -164,8 +177,10 @@ loads_again depth before name c bytes h there other m reply accepted =
     let means : meaning_of (kind_of c) bytes ≡ Ok c = means_layer depth before name c bytes h in
     let after : State = state_after there (load_of other c bytes m) in
     let adds = load_adds there other (kind_of c) bytes c means m reply accepted in
-    let added : after.document ≡ there.document ++ sheet other c ∷ [] = ap (λ (x : State). x.document) adds.after in
-    let again : content_named other after.document ≡ Some c = ap (content_named other) added ∙ last_named other there.document c adds.free in
+    let added : after.timeline.document ≡ there.timeline.document ++ sheet other c ∷ [] =
+    ap (λ (x : State). x.timeline.document) adds.after in
+    let again : content_named other after.timeline.document ≡ Some c =
+    ap (content_named other) added ∙ last_named other there.timeline.document c adds.free in
     record {
       added = added;
       named = again;
@@ -173,5 +188,5 @@ loads_again depth before name c bytes h there other m reply accepted =
     }
 
 pub is_accepted : WrittenIsAccepted
-is_accepted depth before name c bytes h there other free few =
-    load_accepted there other (kind_of c) bytes c (means_layer depth before name c bytes h) free few
+is_accepted depth before name c bytes h there other closed free few =
+    load_accepted there other (kind_of c) bytes c (means_layer depth before name c bytes h) closed free few

@@ -1,45 +1,91 @@
--- The machine of documents that a station is: it keeps whole documents, and one command is one step.
-use Rattle.std.specs.Prelude.{◌≡◌, ℕ, ◌≤◌, nat_le, nat_lt, Bool, true, ◌==◌, ◌&&◌, if◌then◌else◌, List, [], ◌∷◌, ◌++◌, length, take, Option, None, Some, Result, Ok, Err, is_some}
-use Rattle.cam_station.specs.declared.command.Command.{Command}
-use Rattle.cam_station.specs.declared.command.Command.TheVariants.{Load, SetWindow, Plot, Write, Delete, Move, Undo, Redo, ListAll, ListLayer}
-use Rattle.cam_station.specs.declared.command.FileKind.{FileKind}
+-- The machine that a station is: a document with its earlier and later documents, a window, and the tiles of each layer
+-- in it; one command is one step.
+use Rattle.std.specs.Prelude.{◌≡◌, ℕ, ◌≤◌, min, nat_le, Bool, true, ◌==◌, ◌&&◌, if◌then◌else◌, List, [], ◌∷◌, ◌++◌, length, Option, None, Some, Result, Ok, Err, is_some}
+use Rattle.cam_tiles.specs.declared.window.Window.{Window}
+use Rattle.cam_tiles.specs.Picture.{accepts}
+use Rattle.cam_tiles.specs.Tables.{Table, dirty_count, pbm_of}
+use Rattle.cam_edits.specs.declared.edit.Edit.{Edit}
+use Rattle.cam_edits.specs.declared.fault.EditFault.{EditFault}
+use Rattle.cam_edits.specs.Boards.{content_at, place_of}
+use Rattle.cam_edits.specs.Editing.{edited}
+use Rattle.cam_edits.specs.Places.{changed}
+use Rattle.cam_edits.specs.Sheets.{Content, Sheet, entry_count, item_count, sheet}
+use Rattle.cam_edits.specs.Touches.{Touch, touch_of_edit}
+use Rattle.cam_undo.specs.declared.fault.HistoryFault.{HistoryFault}
+use Rattle.cam_undo.specs.Machine.{State as Timeline, abort_fault, aborted, accepted, begin_fault, begun, end_fault, ended, redo_fault, redone, undo_fault, undone}
+use Rattle.cam_script.specs.declared.command.Command.{Command}
+use Rattle.cam_script.specs.declared.command.Command.TheVariants as commands
+use Rattle.cam_script.specs.declared.command.FileKind.{FileKind}
 use Rattle.cam_station.specs.declared.fault.Fault.{Fault}
 use Rattle.cam_station.specs.declared.reply.Reply.{Reply}
 use Rattle.cam_station.specs.declared.reply.Reply.TheVariants.{Done, Numbers, Bytes}
 use Rattle.cam_station.specs.declared.reply.Numbers.TheVariants.{One, Two, Three}
-use Rattle.cam_tiles.specs.declared.window.Window.{Window}
-use Rattle.cam_units.specs.declared.point.Point.{Point}
+use Rattle.cam_station.specs.Layers.{AreTables, blanks, dirty_in, drawn, redrawn_in, table_at, touched_in, with_blank}
+use Rattle.cam_station.specs.Meanings.{fault_at, meaning_of}
 use Rattle.cam_station.specs.Refusals.{
+  edit_code,
   greatest_depth,
+  group_open,
+  history_code,
   layer_limit,
   memory_refused,
   name_taken,
-  no_item,
   no_layer,
   no_window,
-  nothing_to_redo,
-  nothing_to_undo,
-  out_of_board,
   out_of_limits,
   too_many_layers,
 }
-use Rattle.cam_station.specs.Documents.{content_at, place_of, with_content}
-use Rattle.cam_station.specs.Meanings.{fault_at, meaning_of}
-use Rattle.cam_station.specs.Sheets.{Content, Sheet, can_move, entry_count, image_of, item_count, sheet, with_moved, without_item}
+use Rattle.cam_station.specs.Touches.{
+  Touches,
+  aborted_touches,
+  accepted_touches,
+  begun_touches,
+  ended_touches,
+  no_touches,
+  redone_touches,
+  touched_by_abort,
+  touched_by_redo,
+  touched_by_undo,
+  undone_touches,
+}
 use Rattle.cam_station.specs.Writing.{text_of}
-use Rattle.cam_tiles.specs.Picture.{accepts, plot_of, tiles_of}
 
--- the document and the window; the earlier documents, the latest first; those that were taken back, the next first
+-- the sheets as they are, with the earlier ones and those that were taken back; what the ways there touch; the window in
+-- force, and in it the tiles of each sheet
 pub record State : Type 0 where
   pub depth : ℕ
-  pub document : List Sheet
   pub window : Option Window
-  pub past : List (List Sheet)
-  pub future : List (List Sheet)
+  pub timeline : Timeline (List Sheet)
+  pub touches : Touches
+  pub tables : List Table
+
+-- the sheets without any before or after them
+abbrev pub alone : List Sheet → Timeline (List Sheet)
+alone sheets = record { document = sheets; past = []; future = []; group = None }
 
 -- a station as it is made
 abbrev pub fresh : ℕ → State
-fresh depth = record { depth = depth; document = []; window = None; past = []; future = [] }
+fresh depth = record { depth = depth; window = None; timeline = alone []; touches = no_touches; tables = [] }
+
+-- other tiles are clean
+abbrev pub with_tables : State → List Table → State
+with_tables s tables = record {
+  depth = s.depth;
+  window = s.window;
+  timeline = s.timeline;
+  touches = s.touches;
+  tables = tables;
+}
+
+-- other documents, the ways between them, and the tiles that the way to this one touches
+abbrev pub moved_to : State → Timeline (List Sheet) → Touches → List Touch → State
+moved_to s timeline touches way = record {
+  depth = s.depth;
+  window = s.window;
+  timeline = timeline;
+  touches = touches;
+  tables = touched_in way s.tables;
+}
 
 abbrev pub Outcome : Type 0
 Outcome = Result Reply Fault
@@ -49,14 +95,6 @@ fault code = record { code = code; at = None }
 
 abbrev pub refused : ℕ → Outcome
 refused code = Err (fault code)
-
--- a depth that a station may have
-abbrev pub is_depth : ℕ → Bool
-is_depth depth = nat_le 1 depth && nat_le depth greatest_depth
-
--- a station of this depth, or the refusal of another depth
-abbrev pub station_of : ℕ → Result State Fault
-station_of depth = if is_depth depth then Ok (fresh depth) else Err (fault out_of_limits)
 
 -- whether a growth was refused, and to whom
 pub data Memory : Type 0 where
@@ -76,6 +114,19 @@ with_room Granted s change = change
 with_room RefusedToReader s change = change
 with_room RefusedToStation s change = (s, refused memory_refused)
 
+-- a depth that a station may have
+abbrev pub is_depth : ℕ → Bool
+is_depth depth = nat_le 1 depth && nat_le depth greatest_depth
+
+abbrev pub made : ℕ → Memory → Result State Fault
+made depth Granted = Ok (fresh depth)
+made depth RefusedToReader = Ok (fresh depth)
+made depth RefusedToStation = Err (fault memory_refused)
+
+-- a station of this depth, or the refusal of another depth
+abbrev pub station_of : ℕ → Memory → Result State Fault
+station_of depth memory = if is_depth depth then made depth memory else Err (fault out_of_limits)
+
 -- load ----------------------------------------------------------------------------------------
 
 -- what the reader answers to a file of this meaning
@@ -84,9 +135,15 @@ reader_answer Granted meaning = meaning
 reader_answer RefusedToReader meaning = Err (fault_at memory_refused 0)
 reader_answer RefusedToStation meaning = meaning
 
--- the sheet comes last, and no edit before it can be taken back
+-- the sheet comes last with its tiles dirty, and no edit before it can be taken back
 abbrev pub with_sheet : State → List ℕ → Content → State
-with_sheet s name content = record s { document = s.document ++ sheet name content ∷ []; past = []; future = [] }
+with_sheet s name content = record {
+  depth = s.depth;
+  window = s.window;
+  timeline = alone (s.timeline.document ++ sheet name content ∷ []);
+  touches = no_touches;
+  tables = with_blank s.window s.tables;
+}
 
 abbrev pub load_read : State → List ℕ → Memory → Result Content Fault → State × Outcome
 load_read s name memory (Err fault) = (s, Err fault)
@@ -95,125 +152,148 @@ load_read s name memory (Ok content) =
 
 abbrev pub load_step : State → List ℕ → FileKind → List ℕ → Memory → State × Outcome
 load_step s name kind file memory =
-    if is_some (place_of name s.document) then (s, refused name_taken)
-    else (if nat_le layer_limit (length s.document) then (s, refused too_many_layers)
-    else load_read s name memory (reader_answer memory (meaning_of kind file)))
+    if is_some s.timeline.group then (s, refused group_open)
+    else (if is_some (place_of name s.timeline.document) then (s, refused name_taken)
+    else (if nat_le layer_limit (length s.timeline.document) then (s, refused too_many_layers)
+    else load_read s name memory (reader_answer memory (meaning_of kind file))))
 
--- window and plot -----------------------------------------------------------------------------
+-- window, redraw and plot ---------------------------------------------------------------------
 
-abbrev pub window_step : State → Window → State × Outcome
-window_step s w = if accepts w then (record s { window = Some w }, Ok Done) else (s, refused out_of_limits)
+-- all tiles are dirty
+abbrev pub with_window : State → Window → State
+with_window s w = record {
+  depth = s.depth;
+  window = Some w;
+  timeline = s.timeline;
+  touches = s.touches;
+  tables = blanks w s.timeline.document;
+}
 
-abbrev pub plot_in : State → Memory → Content → Option Window → State × Outcome
-plot_in s memory content None = (s, refused no_window)
-plot_in s memory content (Some w) = with_room memory s (s, Ok (Bytes (plot_of w (image_of content)) (tiles_of w)))
+abbrev pub window_step : State → Window → Memory → State × Outcome
+window_step s w memory =
+    if accepts w then with_room memory s (with_window s w, Ok Done) else (s, refused out_of_limits)
+
+-- the first n dirty tiles are drawn, by layer and then by number
+abbrev pub redraw_in : State → ℕ → Option Window → State × Outcome
+redraw_in s n None = (s, refused no_window)
+redraw_in s n (Some w) =
+    (with_tables s (redrawn_in n s.timeline.document s.tables), Ok (Numbers (One (min n (dirty_in s.tables)))))
+
+abbrev pub redraw_step : State → ℕ → State × Outcome
+redraw_step s n = redraw_in s n s.window
+
+-- the dirty tiles of the layer at a place are drawn
+abbrev pub with_drawn : State → ℕ → State
+with_drawn s place = with_tables s (changed (drawn (content_at s.timeline.document place)) s.tables place)
+
+-- the dirty tiles of the layer are drawn, also where there is no memory for the file
+abbrev pub plot_in : State → Memory → ℕ → Option Window → State × Outcome
+plot_in s memory place None = (s, refused no_window)
+plot_in s memory place (Some w) =
+    with_room memory (with_drawn s place) (
+      with_drawn s place,
+      Ok (Bytes (pbm_of (table_at w (with_drawn s place).tables place)) (dirty_count (table_at w s.tables place))),
+    )
 
 abbrev pub plot_at : State → Memory → Option ℕ → State × Outcome
 plot_at s memory None = (s, refused no_layer)
-plot_at s memory (Some place) = plot_in s memory (content_at s.document place) s.window
+plot_at s memory (Some place) = plot_in s memory place s.window
 
 abbrev pub plot_step : State → List ℕ → Memory → State × Outcome
-plot_step s name memory = plot_at s memory (place_of name s.document)
+plot_step s name memory = plot_at s memory (place_of name s.timeline.document)
 
 -- write ---------------------------------------------------------------------------------------
 
 abbrev pub write_at : State → Memory → Option ℕ → State × Outcome
 write_at s memory None = (s, refused no_layer)
-write_at s memory (Some place) = with_room memory s (s, Ok (Bytes (text_of (content_at s.document place)) 0))
+write_at s memory (Some place) =
+    with_room memory s (s, Ok (Bytes (text_of (content_at s.timeline.document place)) 0))
 
 -- the canonical text of the layer of this name
 abbrev pub write_step : State → List ℕ → Memory → State × Outcome
-write_step s name memory = write_at s memory (place_of name s.document)
+write_step s name memory = write_at s memory (place_of name s.timeline.document)
 
 -- edits ---------------------------------------------------------------------------------------
 
--- the content without an item, or the number of the refusal
-abbrev pub delete_of : ℕ → Content → Result Content ℕ
-delete_of item c = if nat_lt item (item_count c) then Ok (without_item item c) else Err no_item
+-- the edited sheets, with what the edit touches
+abbrev pub with_edit : State → List Sheet → Touch → State
+with_edit s sheets touch =
+    moved_to s (accepted s.depth sheets s.timeline) (accepted_touches s.depth touch s.touches) (touch ∷ [])
 
--- the content with an item moved, or the number of the refusal
-abbrev pub move_of : ℕ → Point → Content → Result Content ℕ
-move_of item by c =
-    if nat_lt item (item_count c)
-    then (if can_move item by c then Ok (with_moved item by c) else Err out_of_board)
-    else Err no_item
+abbrev pub edit_to : State → Memory → Touch → Result (List Sheet) EditFault → State × Outcome
+edit_to s memory touch (Err fault) = (s, refused (edit_code fault))
+edit_to s memory touch (Ok sheets) = with_room memory s (with_edit s sheets touch, Ok Done)
 
--- the document as it is joins the earlier ones, of which the latest stay; none can be made again
-abbrev pub with_document_kept : State → State
-with_document_kept s = record s { past = take s.depth (s.document ∷ s.past); future = [] }
+abbrev pub edit_step : State → Edit → Memory → State × Outcome
+edit_step s edit memory =
+    edit_to s memory (touch_of_edit edit s.timeline.document) (edited edit s.timeline.document)
 
--- the state after an accepted edit
-abbrev pub with_edit : State → List Sheet → State
-with_edit s document = record (with_document_kept s) { document = document }
+-- groups, undo and redo -----------------------------------------------------------------------
 
-abbrev pub edit_to : State → Memory → ℕ → Result Content ℕ → State × Outcome
-edit_to s memory place (Err code) = (s, refused code)
-edit_to s memory place (Ok content) = with_room memory s (with_edit s (with_content s.document place content), Ok Done)
+-- the change of a command of the history, unless there is a fault
+abbrev pub unless : Option HistoryFault → State → State × Outcome → State × Outcome
+unless None s change = change
+unless (Some fault) s change = (s, refused (history_code fault))
 
-abbrev pub edit_at : State → Memory → (Content → Result Content ℕ) → Option ℕ → State × Outcome
-edit_at s memory edit None = (s, refused no_layer)
-edit_at s memory edit (Some place) = edit_to s memory place (edit (content_at s.document place))
+abbrev pub begin_step : State → State × Outcome
+begin_step s =
+    unless (begin_fault s.timeline) s (moved_to s (begun s.timeline) (begun_touches s.touches) [], Ok Done)
 
--- an edit of the layer of this name
-abbrev pub edit_step : State → List ℕ → Memory → (Content → Result Content ℕ) → State × Outcome
-edit_step s name memory edit = edit_at s memory edit (place_of name s.document)
+abbrev pub end_step : State → State × Outcome
+end_step s =
+    unless (end_fault s.timeline) s
+    (moved_to s (ended s.depth s.timeline) (ended_touches s.depth s.touches) [], Ok Done)
 
-abbrev pub delete_step : State → List ℕ → ℕ → Memory → State × Outcome
-delete_step s name item memory = edit_step s name memory (delete_of item)
+abbrev pub abort_step : State → Memory → State × Outcome
+abort_step s memory =
+    unless (abort_fault s.timeline) s (with_room memory s
+    (moved_to s (aborted s.timeline) (aborted_touches s.touches) (touched_by_abort s.touches), Ok Done))
 
-abbrev pub move_step : State → List ℕ → ℕ → Point → Memory → State × Outcome
-move_step s name item by memory = edit_step s name memory (move_of item by)
-
--- undo and redo -------------------------------------------------------------------------------
-
-abbrev pub undo_to : State → Memory → List (List Sheet) → State × Outcome
-undo_to s memory [] = (s, refused nothing_to_undo)
-undo_to s memory (earlier ∷ past) =
-    with_room memory s (record s { document = earlier; past = past; future = s.document ∷ s.future }, Ok Done)
-
--- back to the latest earlier document
 abbrev pub undo_step : State → Memory → State × Outcome
-undo_step s memory = undo_to s memory s.past
+undo_step s memory =
+    unless (undo_fault s.timeline) s (with_room memory s
+    (moved_to s (undone s.timeline) (undone_touches s.touches) (touched_by_undo s.touches), Ok Done))
 
-abbrev pub redo_to : State → Memory → List (List Sheet) → State × Outcome
-redo_to s memory [] = (s, refused nothing_to_redo)
-redo_to s memory (later ∷ future) =
-    with_room memory s (record s { document = later; past = s.document ∷ s.past; future = future }, Ok Done)
-
--- to the next of those that were taken back
 abbrev pub redo_step : State → Memory → State × Outcome
-redo_step s memory = redo_to s memory s.future
+redo_step s memory =
+    unless (redo_fault s.timeline) s (with_room memory s
+    (moved_to s (redone s.timeline) (redone_touches s.touches) (touched_by_redo s.touches), Ok Done))
 
 -- lists ---------------------------------------------------------------------------------------
 
 abbrev pub list_step : State → State × Outcome
-list_step s = (s, Ok (Numbers (Three (length s.document) (length s.past) (length s.future))))
+list_step s =
+    (s, Ok (Numbers (Three (length s.timeline.document) (length s.timeline.past) (length s.timeline.future))))
 
 abbrev pub list_content : Content → Outcome
 list_content c = Ok (Numbers (Two (item_count c) (entry_count c)))
 
 abbrev pub list_layer_at : State → Option ℕ → State × Outcome
 list_layer_at s None = (s, refused no_layer)
-list_layer_at s (Some place) = (s, list_content (content_at s.document place))
+list_layer_at s (Some place) = (s, list_content (content_at s.timeline.document place))
 
 abbrev pub list_layer_step : State → List ℕ → State × Outcome
-list_layer_step s name = list_layer_at s (place_of name s.document)
+list_layer_step s name = list_layer_at s (place_of name s.timeline.document)
 
 -- one command: the state after it, and its answer
 abbrev pub step : State → Command → Memory → State × Outcome
-step s (Load name kind file) memory = load_step s name kind file memory
-step s (SetWindow w) memory = window_step s w
-step s (Plot name) memory = plot_step s name memory
-step s (Write name) memory = write_step s name memory
-step s (Delete name item) memory = delete_step s name item memory
-step s (Move name item dx dy) memory = move_step s name item (record { x = dx; y = dy }) memory
-step s Undo memory = undo_step s memory
-step s Redo memory = redo_step s memory
-step s ListAll memory = list_step s
-step s (ListLayer name) memory = list_layer_step s name
+step s (commands.Load name kind file) memory = load_step s name kind file memory
+step s (commands.SetWindow w) memory = window_step s w memory
+step s (commands.Redraw n) memory = redraw_step s n
+step s (commands.Plot name) memory = plot_step s name memory
+step s (commands.Write name) memory = write_step s name memory
+step s (commands.Edit edit) memory = edit_step s edit memory
+step s commands.Begin memory = begin_step s
+step s commands.End memory = end_step s
+step s commands.Abort memory = abort_step s memory
+step s commands.Undo memory = undo_step s memory
+step s commands.Redo memory = redo_step s memory
+step s commands.ListAll memory = list_step s
+step s (commands.ListLayer name) memory = list_layer_step s name
 
--- what every station keeps: its depth is from 1 to 1,000, and the window in force was accepted
-pub record IsStation (depth : ℕ) (window : Option Window) : Type 0 where
+-- what every station keeps: its depth is from 1 to 1,000, the window in force was accepted, and each layer has its table
+pub record IsStation (depth : ℕ) (window : Option Window) (sheets : List Sheet) (kept : List Table) : Type 0 where
   pub least : 1 ≤ depth
   pub greatest : depth ≤ greatest_depth
   pub in_force : (w : Window) → window ≡ Some w → accepts w ≡ true
+  pub tables : AreTables window (length sheets) kept

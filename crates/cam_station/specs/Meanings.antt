@@ -1,15 +1,15 @@
 -- What a file of each kind means: the content of its layer, or its first fault.
 use Rattle.std.specs.Prelude.{ℕ, List, Some, Result, Ok, Err}
-use Rattle.cam_objects.specs.Contents.{Content as GerberContent}
+use Rattle.cam_objects.specs.Contents.{Content as GerberContent, DrillContent}
 use Rattle.cam_gerber.specs.declared.read_fault.ReadFault.{ReadFault as GerberFault}
 use Rattle.cam_gerber.specs.Computing.{reading_of as gerber_reading}
 use Rattle.cam_xnc.specs.declared.read_fault.ReadFault.{ReadFault as DrillFault}
-use Rattle.cam_xnc.specs.DrillState.{DrillContent}
 use Rattle.cam_xnc.specs.Reading.{reading_of as drill_reading}
-use Rattle.cam_station.specs.declared.command.FileKind.{FileKind}
-use Rattle.cam_station.specs.declared.command.FileKind.TheVariants as kinds
+use Rattle.cam_script.specs.declared.command.FileKind.{FileKind}
+use Rattle.cam_script.specs.declared.command.FileKind.TheVariants as kinds
 use Rattle.cam_station.specs.declared.fault.Fault.{Fault}
-use Rattle.cam_station.specs.Sheets.{Content, Gerber, Drill}
+use Rattle.cam_edits.specs.declared.board.SheetContent.{SheetContent}
+use Rattle.cam_edits.specs.Sheets.{Content, Gerber, Drill, content_of}
 
 -- a reader's fault, with its place in the file
 abbrev pub fault_at : ℕ → ℕ → Fault
@@ -26,3 +26,8 @@ drill_meaning (Err f) = Err (fault_at f.code f.at)
 abbrev pub meaning_of : FileKind → List ℕ → Result Content Fault
 meaning_of kinds.Gerber bytes = gerber_meaning (gerber_reading bytes)
 meaning_of kinds.Drill bytes = drill_meaning (drill_reading bytes)
+
+-- what a reader answers, without the room that the layer's lists keep
+abbrev pub answer_of : Result SheetContent Fault → Result Content Fault
+answer_of (Ok content) = Ok (content_of content)
+answer_of (Err fault) = Err fault

@@ -1,25 +1,27 @@
 -- Plots: each answers the picture of a layer as it then is.
 use Rattle.std.specs.Prelude.{◌≡◌, ℕ, ◌↔◌, ◌<◌, List, Some, Ok}
 use Rattle.cam_objects.specs.Image.{IsBlack}
-use Rattle.cam_station.specs.declared.command.Command.TheVariants.{Plot}
+use Rattle.cam_script.specs.declared.command.Command.TheVariants.{Plot}
 use Rattle.cam_station.specs.declared.reply.Reply.{Reply}
 use Rattle.cam_station.specs.declared.reply.Reply.TheVariants.{Bytes}
 use Rattle.cam_tiles.specs.declared.window.Window.{Window}
 use Rattle.cam_station.specs.Documents.{content_named}
-use Rattle.cam_station.specs.Sheets.{Content, image_of, leaves_of}
+use Rattle.cam_edits.specs.Sheets.{Content}
+use Rattle.cam_edits.specs.Images.{image_of, leaves_of}
 use Rattle.cam_station.specs.Machine.{State, Memory, fresh}
-use Rattle.cam_tiles.specs.Picture.{IsPixelBlack, Shows, centre_of, plot_of, tiles_of}
+use Rattle.cam_tiles.specs.Picture.{IsPixelBlack, Shows, centre_of, plot_of}
 use Rattle.cam_station.specs.Undoing.{Call, answer_to, states_after}
 
 -- The reply is the picture, in the window in force, of the layer of this name in the document: painting its leaves in
--- order makes black the centres of exactly those pixels whose bit is set.
+-- order makes black the centres of exactly those pixels whose bit is set. It tells how many tiles were drawn for it.
 pub record IsPlotOf (s : State) (name : List ℕ) (reply : Reply) : Type 0 where
   pub window : Window
   pub content : Content
   pub bytes : List ℕ
   pub in_force : s.window ≡ Some window
-  pub named : content_named name s.document ≡ Some content
-  pub answered : reply ≡ Bytes bytes (tiles_of window)
+  pub named : content_named name s.timeline.document ≡ Some content
+  pub drawn : ℕ
+  pub answered : reply ≡ Bytes bytes drawn
   pub picture : bytes ≡ plot_of window (image_of content)
   pub shows : Shows bytes window (image_of content)
   pub pixels : (column row : ℕ) → column < window.width → row < window.height

@@ -1,5 +1,11 @@
 -- The numbers of refusals, and the limits of a station.
 use Rattle.std.specs.Prelude.{ℕ}
+use Rattle.cam_edits.specs.declared.fault.EditFault.{EditFault}
+use Rattle.cam_edits.specs.declared.fault.EditFault.TheVariants as edits
+use Rattle.cam_script.specs.declared.line.LineFault.{LineFault}
+use Rattle.cam_script.specs.declared.line.LineFault.TheVariants as lines
+use Rattle.cam_undo.specs.declared.fault.HistoryFault.{HistoryFault}
+use Rattle.cam_undo.specs.declared.fault.HistoryFault.TheVariants as histories
 
 -- memory was refused
 abbrev pub memory_refused : ℕ
@@ -13,29 +19,9 @@ out_of_limits = 50
 abbrev pub no_layer : ℕ
 no_layer = 60
 
--- the layer has no item at this place
-abbrev pub no_item : ℕ
-no_item = 61
-
--- a control point would leave the board
-abbrev pub out_of_board : ℕ
-out_of_board = 65
-
--- there is no edit to take back
-abbrev pub nothing_to_undo : ℕ
-nothing_to_undo = 70
-
--- there is no edit to make again
-abbrev pub nothing_to_redo : ℕ
-nothing_to_redo = 71
-
--- the words of a line are no command
-abbrev pub bad_line : ℕ
-bad_line = 80
-
--- a line is longer than lines may be
-abbrev pub line_too_long : ℕ
-line_too_long = 81
+-- a group is open
+abbrev pub group_open : ℕ
+group_open = 72
 
 -- a file could not be read or written
 abbrev pub file_fault : ℕ
@@ -57,10 +43,35 @@ too_many_layers = 85
 abbrev pub layer_limit : ℕ
 layer_limit = 32
 
--- how many edits a station may keep
+-- how many edits and groups a station may keep
 abbrev pub greatest_depth : ℕ
 greatest_depth = 1000
 
--- how many bytes a line may have
-abbrev pub line_limit : ℕ
-line_limit = 65536
+-- why an edit is refused
+abbrev pub edit_code : EditFault → ℕ
+edit_code edits.NoLayer = no_layer
+edit_code edits.WrongKind = 68
+edit_code edits.NoItem = 61
+edit_code edits.HasNone = 64
+edit_code edits.NoAperture = 62
+edit_code edits.NoTool = 66
+edit_code edits.WrongAperture = 63
+edit_code edits.SizeRefused = 67
+edit_code edits.OutOfBoard = 65
+edit_code edits.TooMuch = 69
+edit_code edits.Memory = memory_refused
+
+-- why a history refuses
+abbrev pub history_code : HistoryFault → ℕ
+history_code histories.Depth = out_of_limits
+history_code histories.GroupOpen = group_open
+history_code histories.NoGroup = 73
+history_code histories.NothingToUndo = 70
+history_code histories.NothingToRedo = 71
+history_code histories.Memory = memory_refused
+
+-- why a line says nothing
+abbrev pub line_code : LineFault → ℕ
+line_code lines.LineTooLong = 81
+line_code lines.BadLine = 80
+line_code lines.Memory = memory_refused

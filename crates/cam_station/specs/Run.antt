@@ -2,20 +2,20 @@
 use Rattle.std.specs.Prelude.{◌≡◌, ℕ, ◌+◌, Bool, true, false, List, [], ◌∷◌, ◌++◌, length, Option, None, Some, IsSome, Result, Ok, Err, MatchResult, count_by}
 use Rattle.std.specs.List.{flat_map}
 use Rattle.std.specs.Io.KnownBytes.{Appends}
-use Rattle.cam_station.specs.declared.command.FileKind.{FileKind}
-use Rattle.cam_station.specs.declared.command.Command.TheVariants as commands
+use Rattle.cam_script.specs.declared.command.FileKind.{FileKind}
+use Rattle.cam_script.specs.declared.command.Command.TheVariants as commands
 use Rattle.cam_station.specs.declared.files.FileFault.{FileFault}
 use Rattle.cam_station.specs.declared.files.FileFault.TheVariants.{Failed, Memory as NoMemory}
 use Rattle.cam_station.specs.declared.reply.Reply.{Reply}
 use Rattle.cam_station.specs.declared.reply.Numbers.TheVariants.{One}
 use Rattle.cam_station.specs.declared.reply.Reply.TheVariants.{Bytes, Numbers}
-use Rattle.cam_station.specs.declared.script.run.RunFault.{RunFault}
-use Rattle.cam_station.specs.declared.script.run.RunFault.TheVariants.{Depth, Output, Memory as RunMemory}
-use Rattle.cam_station.specs.declared.script.line.Line.TheVariants.{Command, Load, Plot, Write}
-use Rattle.cam_station.specs.Refusals.{file_fault, memory_refused}
+use Rattle.cam_station.specs.declared.running.RunFault.{RunFault}
+use Rattle.cam_station.specs.declared.running.RunFault.TheVariants.{Depth, Output, Memory as RunMemory}
+use Rattle.cam_script.specs.declared.line.Line.TheVariants.{Command, Load, Plot, Write}
+use Rattle.cam_station.specs.Refusals.{file_fault, line_code, memory_refused}
 use Rattle.cam_station.specs.Machine.{State, Outcome, Memory, fresh, is_depth, refused, step}
 use Rattle.cam_station.specs.Contents.{Contents, FailsIfAbsent, Holds, Stored, MayHaveStored, HasRisenBy, failures_of}
-use Rattle.cam_station.specs.Parsing.{Parsed, parsed, line_code}
+use Rattle.cam_script.specs.Parsing.{Parsed, parsed}
 use Rattle.cam_station.specs.Replies.{reply_line}
 
 -- what the world answered at a line: whether the line itself was refused memory, what a get gave,

@@ -1,15 +1,15 @@
 -- Laws of runs.
 use Rattle.std.specs.Prelude.{◌≡◌, ℕ, ◌==◌, Bool, false, List, [], ◌∷◌, ◌++◌, length, drop, map, slice_get, Option, None, Some, Result, Ok, Err, count_by, fold}
-use Rattle.cam_station.specs.declared.command.FileKind.{FileKind}
-use Rattle.cam_station.specs.declared.command.Command.TheVariants as commands
+use Rattle.cam_script.specs.declared.command.FileKind.{FileKind}
+use Rattle.cam_script.specs.declared.command.Command.TheVariants as commands
 use Rattle.cam_station.specs.declared.files.FileFault.{FileFault}
-use Rattle.cam_station.specs.declared.script.line.Line.TheVariants.{Command, Load, Plot, Write}
+use Rattle.cam_script.specs.declared.line.Line.TheVariants.{Command, Load, Plot, Write}
 use Rattle.cam_station.specs.declared.reply.Reply.TheVariants.{Bytes}
-use Rattle.cam_station.specs.Refusals.{file_fault}
+use Rattle.cam_station.specs.Refusals.{file_fault, line_code}
 use Rattle.cam_station.specs.Machine.{State, Outcome, Memory, refused}
 use Rattle.cam_station.specs.Undoing.{Call, answers_to, states_after}
 use Rattle.cam_station.specs.Contents.{HasRisenBy}
-use Rattle.cam_station.specs.Parsing.{Parsed, line_code, parsed}
+use Rattle.cam_script.specs.Parsing.{Parsed, parsed}
 use Rattle.cam_station.specs.Run.{
   AllAnswer,
   Ask,

@@ -2,9 +2,9 @@
 use Rattle.std.specs.Prelude.{ℕ, List}
 use Rattle.cam_writers.specs.DrillTexts.{drill_text}
 use Rattle.cam_writers.specs.GerberTexts.{gerber_text}
-use Rattle.cam_station.specs.declared.command.FileKind.{FileKind}
-use Rattle.cam_station.specs.declared.command.FileKind.TheVariants as kinds
-use Rattle.cam_station.specs.Sheets.{Content, Gerber, Drill}
+use Rattle.cam_script.specs.declared.command.FileKind.{FileKind}
+use Rattle.cam_script.specs.declared.command.FileKind.TheVariants as kinds
+use Rattle.cam_edits.specs.Sheets.{Content, Gerber, Drill}
 
 abbrev pub text_of : Content → List ℕ
 text_of (Gerber c) = gerber_text c.entries c.items

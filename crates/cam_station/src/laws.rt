@@ -1,11 +1,12 @@
 //! Laws of lists of commands.
 
+ghost use Rattle.cam_station.specs.Locality.{CleanTiles, DirtyTiles, DrawnTiles, KeptTiles};
 ghost use Rattle.cam_station.specs.Plots.{ExactPlot};
 ghost use Rattle.cam_station.specs.Sound.{SoundLaw};
 ghost use Rattle.cam_station.specs.Undoing.{DepthLaw, ExactUndo, ExactUndoEverywhere, RefusalLaw};
 ghost use Rattle.cam_station.specs.Writes.{ExactWrite, WrittenIsAccepted, WrittenLoadsAgain};
 
-/// A refused command changes nothing.
+/// A refused command changes nothing, but that a plot keeps the tiles that it drew.
 pub fn refusals_change_nothing()
     ensures { RefusalLaw }
 {}
@@ -22,9 +23,9 @@ pub fn documents_stay_sound()
     ensures { SoundLaw }
 {}
 
-/// An accepted edit, quiet commands and then an undo give back the same layers, the same texts
-/// and, in every window, the same pictures; after quiet commands again a redo gives the edited
-/// ones.
+/// An accepted edit, or a group from its beginning to its end with an accepted edit, then quiet commands and an undo give
+/// back the same layers and drill tools, the same texts and, in every window, the same pictures; after quiet commands
+/// again a redo gives the edited ones.
 pub fn undo_is_exact()
     ensures reached { ExactUndo }
     ensures everywhere { ExactUndoEverywhere }
@@ -42,9 +43,19 @@ pub fn write_is_exact()
     ensures { ExactWrite }
 {}
 
-/// A text that a write answered is accepted as a file of the layer's kind, and adds the layer
+/// A text that a write answered is accepted as a file of the layer's kind, where no group is open, and adds the layer
 /// again, with the same picture in every window.
 pub fn written_texts_load_again()
     ensures again { WrittenLoadsAgain }
     ensures accepted { WrittenIsAccepted }
+{}
+
+/// In any order of edits, groups, aborts, undos, redos and partial redraws each clean tile shows its layer as it is now;
+/// an accepted edit, abort, undo or redo makes exactly those tiles dirty that the boxes touch of the steps that it plays;
+/// and a redraw and a plot tell how many they drew.
+pub fn tiles_are_local()
+    ensures kept { KeptTiles }
+    ensures clean { CleanTiles }
+    ensures dirty { DirtyTiles }
+    ensures drawn { DrawnTiles }
 {}

@@ -1,22 +1,20 @@
 //! Reads files of each kind.
 
 ghost use Rattle.std.specs.Prelude.{◌≡◌, IfOk};
-ghost use Rattle.cam_station.specs.Kept.{answer_of, content_of};
+ghost use Rattle.cam_edits.specs.Sheets.{IsSound, content_of};
 ghost use Rattle.cam_station.specs.Machine.{memory_of, reader_answer};
-ghost use Rattle.cam_station.specs.Meanings.{meaning_of};
-ghost use Rattle.cam_station.specs.Sheets.{IsSound};
+ghost use Rattle.cam_station.specs.Meanings.{answer_of, meaning_of};
 
-use crate::bytes::Bytes;
-use crate::command::FileKind;
 use crate::fault::Fault;
-use crate::sheet_layer::SheetLayer;
+use cam_edits::SheetContent;
 use cam_gerber::read_gerber;
+use cam_script::{Bytes, FileKind};
 use cam_xnc::read_xnc;
 use std::alloc::Global;
 
 /// The layer of a file of this kind, which is sound, or its first fault; want of memory is
 /// number 30 at place 0.
-pub(crate) fn read(alloc: Global, kind: FileKind, file: &Bytes) -> Result<SheetLayer, Fault>
+pub(crate) fn read(alloc: Global, kind: FileKind, file: &Bytes) -> Result<SheetContent, Fault>
     ensures reads { reader_answer (memory_of result) (meaning_of kind file.now) ≡ answer_of result }
     ensures sound { IfOk result (λ layer. IsSound (content_of layer)) }
 {
@@ -28,12 +26,12 @@ pub(crate) fn read(alloc: Global, kind: FileKind, file: &Bytes) -> Result<SheetL
 
 /// The layer of a Gerber file.
 #[tactic(auto, using(crate::proofs::Loading::gerber_answers))]
-fn read_gerber_layer(alloc: Global, file: &Bytes) -> Result<SheetLayer, Fault>
+fn read_gerber_layer(alloc: Global, file: &Bytes) -> Result<SheetContent, Fault>
     ensures reads { reader_answer (memory_of result) (meaning_of FileKind.Gerber file.now) ≡ answer_of result }
     ensures sound { IfOk result (λ layer. IsSound (content_of layer)) }
 {
     match read_gerber(alloc, file.as_slice()) {
-        Ok(layer) => Ok(SheetLayer::Gerber(layer)),
+        Ok(layer) => Ok(SheetContent::Gerber(layer)),
         Err(fault) => Err(Fault {
             code: fault.code,
             at: Some(fault.at),
@@ -43,12 +41,12 @@ fn read_gerber_layer(alloc: Global, file: &Bytes) -> Result<SheetLayer, Fault>
 
 /// The layer of a drill file.
 #[tactic(auto, using(crate::proofs::Loading::drill_answers))]
-fn read_drill_layer(alloc: Global, file: &Bytes) -> Result<SheetLayer, Fault>
+fn read_drill_layer(alloc: Global, file: &Bytes) -> Result<SheetContent, Fault>
     ensures reads { reader_answer (memory_of result) (meaning_of FileKind.Drill file.now) ≡ answer_of result }
     ensures sound { IfOk result (λ layer. IsSound (content_of layer)) }
 {
     match read_xnc(alloc, file.as_slice()) {
-        Ok(layer) => Ok(SheetLayer::Drill(layer)),
+        Ok(layer) => Ok(SheetContent::Drill(layer)),
         Err(fault) => Err(Fault {
             code: fault.code,
             at: Some(fault.at),

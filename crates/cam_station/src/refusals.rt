@@ -1,5 +1,12 @@
 //! The numbers of refusals.
 
+ghost use Rattle.std.specs.Prelude.{◌≡◌};
+ghost use Rattle.cam_station.specs.Refusals.{edit_code, history_code, line_code};
+
+use cam_edits::EditFault;
+use cam_script::LineFault;
+use cam_undo::HistoryFault;
+
 /// Memory was refused.
 pub const NO_MEMORY: u8 = 30;
 
@@ -9,23 +16,8 @@ pub const OUT_OF_LIMITS: u8 = 50;
 /// There is no layer of this name.
 pub const NO_LAYER: u8 = 60;
 
-/// The layer has no item at this place.
-pub const NO_ITEM: u8 = 61;
-
-/// A control point would leave the board.
-pub const OUT_OF_BOARD: u8 = 65;
-
-/// There is no edit to take back.
-pub const NOTHING_TO_UNDO: u8 = 70;
-
-/// There is no edit to make again.
-pub const NOTHING_TO_REDO: u8 = 71;
-
-/// The words of a line are no command.
-pub const BAD_LINE: u8 = 80;
-
-/// A line has more than 65,536 bytes.
-pub const LINE_TOO_LONG: u8 = 81;
+/// A group is open.
+pub const GROUP_OPEN: u8 = 72;
 
 /// A file could not be read or written.
 pub const FILE_FAULT: u8 = 82;
@@ -38,3 +30,47 @@ pub const NO_WINDOW: u8 = 84;
 
 /// There are 32 layers.
 pub const TOO_MANY_LAYERS: u8 = 85;
+
+/// Why an edit is refused.
+pub fn of_edit(fault: EditFault) -> u8
+    ensures { result ≡ edit_code fault }
+{
+    match fault {
+        EditFault::NoLayer => NO_LAYER,
+        EditFault::WrongKind => 68,
+        EditFault::NoItem => 61,
+        EditFault::HasNone => 64,
+        EditFault::NoAperture => 62,
+        EditFault::NoTool => 66,
+        EditFault::WrongAperture => 63,
+        EditFault::SizeRefused => 67,
+        EditFault::OutOfBoard => 65,
+        EditFault::TooMuch => 69,
+        EditFault::Memory => NO_MEMORY,
+    }
+}
+
+/// Why a history refuses.
+pub fn of_history(fault: HistoryFault) -> u8
+    ensures { result ≡ history_code fault }
+{
+    match fault {
+        HistoryFault::Depth => OUT_OF_LIMITS,
+        HistoryFault::GroupOpen => GROUP_OPEN,
+        HistoryFault::NoGroup => 73,
+        HistoryFault::NothingToUndo => 70,
+        HistoryFault::NothingToRedo => 71,
+        HistoryFault::Memory => NO_MEMORY,
+    }
+}
+
+/// Why a line says nothing.
+pub fn of_line(fault: LineFault) -> u8
+    ensures { result ≡ line_code fault }
+{
+    match fault {
+        LineFault::LineTooLong => 81,
+        LineFault::BadLine => 80,
+        LineFault::Memory => NO_MEMORY,
+    }
+}

@@ -1,6 +1,6 @@
 //! What an accepted command answers.
 
-use crate::bytes::Bytes;
+use cam_script::Bytes;
 
 /// Up to three numbers.
 #[derive(Clone, Copy, Debug, PartialEq, Eq)]

@@ -1,41 +1,43 @@
-//! The station: a document, its window, and the documents before and after it.
+//! The station: a board, the tiles of its layers in a window, and the history of what was done to the board.
 
-ghost use Rattle.std.specs.Prelude.{◌≡◌, IfOk, OnErr, OnOk, Err};
+ghost use Rattle.std.specs.Prelude.{◌≡◌, IfErr, IfOk, None, Ok, OnErr, OnOk};
+ghost use Rattle.cam_edits.specs.Sheets.{IsSound, sheet_of};
 ghost use Rattle.cam_station.specs.Machine.{
-  delete_step,
+  abort_step,
+  begin_step,
+  edit_step,
+  end_step,
   fault,
   list_layer_step,
   list_step,
   load_step,
   memory_of,
-  move_step,
   plot_step,
   redo_step,
+  redraw_step,
   station_of,
   step,
   undo_step,
   window_step,
-  with_document_kept,
+  with_sheet,
   write_step,
 };
 ghost use Rattle.cam_station.specs.Refusals.{memory_refused};
-ghost use Rattle.cam_station.specs.Undoing.{IsRun};
+ghost use Rattle.cam_station.specs.Undoing.{IsRun, after_refusal};
 
-use crate::bytes::Bytes;
-use crate::command::{Command, FileKind};
-use crate::document::Document;
 use crate::fault::{Fault, refusal};
-use crate::name::Name;
 use crate::reading::read;
 use crate::refusals;
 use crate::reply::{Numbers, Reply};
-use crate::sheet::Sheet;
-use cam_tiles::Window;
-use cam_units::Point;
+use crate::showing::{blank_in, blanks, draw, draw_all, text};
+use crate::touching::{touch, touch_accepted, touch_group};
+use cam_edits::{Board, BoardStep, Edit, Name, Reversible, Sheet, plan};
+use cam_script::{Bytes, Command, FileKind};
+use cam_tiles::{Raster, Window};
+use cam_undo::History;
 use std::alloc::{AllocError, Global};
 use std::collections::VecDeque;
 use std::marker::Model;
-use std::mem;
 
 /// The greatest number of layers.
 const LAYERS: usize = 32;
@@ -43,79 +45,83 @@ const LAYERS: usize = 32;
 /// The greatest depth.
 const DEPTH: u32 = 1_000;
 
-/// A document with its window, and up to `depth` edits that can be taken back.
+/// A board, the tiles of each of its layers in a window, and up to `depth` edits and groups that can be taken back.
 #[derive(Drop)]
 pub struct Station {
     alloc: Global,
-    depth: u32,
-    document: Document,
+    board: Board,
     window: Option<Window>,
-    /// The earlier documents, the latest first.
-    past: VecDeque<Document>,
-    /// The documents that were taken back, the next one to be made again first.
-    future: VecDeque<Document>,
+    rasters: Vec<Raster>,
+    history: History<BoardStep>,
 }
 
 impl Model for Station {
+    ghost use Rattle.cam_edits.specs.Sheets.{sheets_of};
+    ghost use Rattle.cam_undo.specs.Timelines.{IsTied, state_of};
     ghost use Rattle.cam_station.specs.Machine.{State, IsStation};
+    ghost use Rattle.cam_station.specs.Sound.{IsSoundTimeline};
+    ghost use Rattle.cam_station.specs.Touches.{touches_of};
 
     ghost Value = { State };
 
     ghost view = { λ s. record {
-      depth = s.depth;
-      document = s.document;
+      depth = s.history.depth;
       window = s.window;
-      past = s.past.items;
-      future = s.future.items;
+      timeline = state_of ⟦<BoardStep as Reversible>⟧ s.history s.board;
+      touches = touches_of s.history;
+      tables = s.rasters.items;
     } };
 
-    ghost invariant = { λ s. IsStation s.depth s.window };
+    ghost invariant = { λ s. IsStation s.history.depth s.window (sheets_of s.board) s.rasters.items
+        × IsTied ⟦<BoardStep as Reversible>⟧ s.history s.board
+        × IsSoundTimeline (state_of ⟦<BoardStep as Reversible>⟧ s.history s.board) };
 }
 
 impl Station {
-    /// An empty station that can take back `depth` edits, from 1 to 1,000; 50 at any other
-    /// depth.
+    /// An empty station that can take back `depth` edits and groups, from 1 to 1,000; 50 at any other
+    /// depth, and 30 where memory was refused.
     pub fn new(alloc: Global, depth: u32) -> Result<Station, Fault>
-        ensures { result ≡ station_of depth }
+        ensures { station_of depth (memory_of result) ≡ result }
     {
         if depth < 1 || DEPTH < depth {
             return Err(refusal(refusals::OUT_OF_LIMITS));
         }
+        let Ok(history) = History::new(alloc, depth as usize) else {
+            return Err(refusal(refusals::NO_MEMORY));
+        };
         Ok(Station {
             alloc,
-            depth,
-            document: Document::new(alloc),
+            board: Board::new(alloc),
             window: None,
-            past: VecDeque::new(alloc),
-            future: VecDeque::new(alloc),
+            rasters: Vec::new(alloc),
+            history,
         })
     }
 
-    /// One command. Where it is refused, nothing changes.
+    /// One command. Where it is refused, nothing changes, but that a plot keeps the tiles that it drew.
     ///
-    /// The refusals, in the order of their checks: a load 83 where the name is taken, 85
-    /// where there are 32 layers, then the fault of its file, with its place: 1 to 26 of a
-    /// Gerber file; of a drill file 1, 4, 6, 23 to 25 and 40 to 48, as 40 where it does not
-    /// begin with M48, 42 a tool that is not declared, 45 a coordinate without a point, 47 a
-    /// line in the wrong mode, 48 no M30. A window outside its limits 50; a plot 60 without
-    /// such a layer, 84 without a window; a write 60; an edit 60, 61 without such an item, 65 where a
-    /// control point would leave the board, as it stands or in a leaf; an undo 70 without an
-    /// edit to take back, a redo 71 without one to make again; a list of a layer 60. Last comes
+    /// The refusals, in the order of their checks: a load 72 while a group is open, 83 where the name is taken, 85
+    /// where there are 32 layers, then the fault of its file, with its place: 1 to 26, 28 and 29 of a
+    /// Gerber file; of a drill file 1, 4, 6, 23 to 25 and 40 to 48. A window outside its limits 50; a redraw 84 without
+    /// a window; a plot 60 without such a layer, 84 without a window; a write 60; an edit as [`plan`] refuses it; a
+    /// begin 72 while a group is open; an end or an abort 73 without one; an undo or a redo 72, then 70 or 71 where there
+    /// is nothing to take back or to make again; a list of a layer 60. Last comes
     /// 30, where memory was refused. Where it was refused to the reader, 30 has the place 0
-    /// and can come before a fault of the file. Windows and lists take no memory.
+    /// and can come before a fault of the file. Redraws, begins, ends and lists take no memory.
     pub fn apply(&mut self, command: Command) -> Result<Reply, Fault>
         ensures step { step self.old command (memory_of result) ≡ (self.new, result) }
-        ensures refused { OnErr result (self.new ≡ self.old) }
+        ensures refused { OnErr result (self.new ≡ after_refusal self.old command) }
     {
         match command {
             Command::Load { name, kind, file } => self.load(name, kind, &file),
             Command::SetWindow(window) => self.set_window(window),
+            Command::Redraw { at_most } => self.redraw(at_most),
             Command::Plot { name } => self.plot(&name),
             Command::Write { name } => self.write(&name),
-            Command::Delete { name, item } => self.delete(&name, item as usize),
-            Command::Move { name, item, dx, dy } => {
-                self.shift(&name, item as usize, Point { x: dx, y: dy })
-            }
+            Command::Edit(edit) => self.edit(edit),
+            Command::Begin => self.begin(),
+            Command::End => self.end(),
+            Command::Abort => self.abort(),
             Command::Undo => self.undo(),
             Command::Redo => self.redo(),
             Command::ListAll => Ok(self.list()),
@@ -140,52 +146,85 @@ impl Station {
         Ok(answers)
     }
 
-    /// Reads a file as the last layer; the edits before it can't be taken back any more.
+    /// Reads a file as the last layer; what was done before it can't be taken back any more.
     fn load(&mut self, name: Name, kind: FileKind, file: &Bytes) -> Result<Reply, Fault>
         ensures { load_step self.old name kind file.now (memory_of result) ≡ (self.new, result) }
     {
-        if self.document.place(&name).is_some() {
+        if self.history.open_group().is_some() {
+            return Err(refusal(refusals::GROUP_OPEN));
+        }
+        if self.board.place(&name).is_some() {
             return Err(refusal(refusals::NAME_TAKEN));
         }
-        if LAYERS <= self.document.len() {
+        if LAYERS <= self.board.len() {
             return Err(refusal(refusals::TOO_MANY_LAYERS));
         }
-        let layer = read(self.alloc, kind, file)?;
-        let sheet = Sheet::new(name, layer);
-        let count = sheet.item_count() as u64;
-        if self.document.add(sheet).is_err() {
-            return Err(refusal(refusals::NO_MEMORY));
-        }
-        self.past.clear();
-        self.future.clear();
+        let content = read(self.alloc, kind, file)?;
+        let count = content.item_count() as u64;
+        self.add(Sheet { name, content })?;
         Ok(Reply::Numbers(Numbers::One(count)))
     }
 
+    /// Adds a layer, its tiles dirty, and forgets what was done before. Where memory was refused, nothing changes.
+    fn add(&mut self, sheet: Sheet) -> Result<(), Fault>
+        requires closed { self.old.timeline.group ≡ None }
+        requires sound { IsSound (sheet_of sheet).content }
+        ensures ok { OnOk result (self.new ≡ with_sheet self.old (sheet_of sheet).name (sheet_of sheet).content) }
+        ensures err { OnErr result (self.new ≡ self.old) }
+        ensures memory { IfErr result (λ told. told ≡ fault memory_refused) }
+    {
+        let raster = blank_in(self.alloc, self.window)?;
+        if self.rasters.reserve(1).is_err() || self.board.add(sheet).is_err() {
+            return Err(refusal(refusals::NO_MEMORY));
+        }
+        if let Some(raster) = raster {
+            self.rasters.push_reserved(raster);
+        }
+        self.history.clear();
+        Ok(())
+    }
+
+    /// Makes all tiles dirty in another window.
     fn set_window(&mut self, window: Window) -> Result<Reply, Fault>
-        ensures { window_step self.old window ≡ (self.new, result) }
+        ensures { window_step self.old window (memory_of result) ≡ (self.new, result) }
     {
         if !window.is_accepted() {
             return Err(refusal(refusals::OUT_OF_LIMITS));
         }
+        self.rasters = blanks(self.alloc, window, self.board.len())?;
         self.window = Some(window);
         Ok(Reply::Done)
     }
 
-    fn plot(&self, name: &Name) -> Result<Reply, Fault>
-        ensures { plot_step self.now name.now (memory_of result) ≡ (self.now, result) }
+    /// Draws dirty tiles, by layer and then by number.
+    fn redraw(&mut self, at_most: u32) -> Result<Reply, Fault>
+        ensures { redraw_step self.old at_most ≡ (self.new, result) }
     {
-        let Some(place) = self.document.place(name) else {
+        if self.window.is_none() {
+            return Err(refusal(refusals::NO_WINDOW));
+        }
+        let drawn = draw_all(&self.board, &mut self.rasters, at_most);
+        Ok(Reply::Numbers(Numbers::One(u64::from(drawn))))
+    }
+
+    /// Draws the dirty tiles of a layer, and keeps them also where there is no memory for the file.
+    fn plot(&mut self, name: &Name) -> Result<Reply, Fault>
+        ensures { plot_step self.old name.now (memory_of result) ≡ (self.new, result) }
+    {
+        let Some(place) = self.board.place(name) else {
             return Err(refusal(refusals::NO_LAYER));
         };
-        let Some(window) = &self.window else {
+        if self.window.is_none() {
             return Err(refusal(refusals::NO_WINDOW));
-        };
-        let drawn = window.tile_count();
-        match self.document.sheet(place).plot(self.alloc, window) {
-            Ok(bytes) => {
-                let bytes = Bytes::from_vec(bytes);
-                Ok(Reply::Bytes { bytes, drawn })
-            }
+        }
+        let raster = &mut self.rasters[place];
+        let dirty = raster.dirty();
+        let drawn = draw(self.board.content(place), raster, dirty);
+        match raster.to_pbm(self.alloc) {
+            Ok(bytes) => Ok(Reply::Bytes {
+                bytes: Bytes::from_vec(bytes),
+                drawn: u64::from(drawn),
+            }),
             Err(_) => Err(refusal(refusals::NO_MEMORY)),
         }
     }
@@ -193,10 +232,10 @@ impl Station {
     fn write(&self, name: &Name) -> Result<Reply, Fault>
         ensures { write_step self.now name.now (memory_of result) ≡ (self.now, result) }
     {
-        let Some(place) = self.document.place(name) else {
+        let Some(place) = self.board.place(name) else {
             return Err(refusal(refusals::NO_LAYER));
         };
-        match self.document.sheet(place).write(self.alloc) {
+        match text(self.alloc, self.board.content(place)) {
             Ok(text) => Ok(Reply::Bytes {
                 bytes: Bytes::from_vec(text),
                 drawn: 0,
@@ -205,105 +244,92 @@ impl Station {
         }
     }
 
-    fn delete(&mut self, name: &Name, item: usize) -> Result<Reply, Fault>
-        ensures { delete_step self.old name.now item (memory_of result) ≡ (self.new, result) }
+    fn edit(&mut self, edit: Edit) -> Result<Reply, Fault>
+        ensures { edit_step self.old edit (memory_of result) ≡ (self.new, result) }
     {
-        let Some(place) = self.document.place(name) else {
-            return Err(refusal(refusals::NO_LAYER));
-        };
-        if self.document.sheet(place).item_count() <= item {
-            return Err(refusal(refusals::NO_ITEM));
+        match plan(self.alloc, &self.board, edit) {
+            Ok(step) => match self.history.accept(&mut self.board, step) {
+                Ok(()) => {
+                    touch_accepted(&mut self.rasters, &self.history);
+                    Ok(Reply::Done)
+                }
+                Err(_) => Err(refusal(refusals::NO_MEMORY)),
+            },
+            Err(fault) => Err(refusal(refusals::of_edit(fault))),
         }
-        self.remember()?;
-        self.document.delete(place, item);
-        Ok(Reply::Done)
     }
 
-    fn shift(&mut self, name: &Name, item: usize, by: Point) -> Result<Reply, Fault>
-        ensures { move_step self.old name.now item by (memory_of result) ≡ (self.new, result) }
+    fn begin(&mut self) -> Result<Reply, Fault>
+        ensures { begin_step self.old ≡ (self.new, result) }
     {
-        let Some(place) = self.document.place(name) else {
-            return Err(refusal(refusals::NO_LAYER));
-        };
-        let sheet = self.document.sheet(place);
-        if sheet.item_count() <= item {
-            return Err(refusal(refusals::NO_ITEM));
+        match self.history.begin() {
+            Ok(()) => Ok(Reply::Done),
+            Err(fault) => Err(refusal(refusals::of_history(fault))),
         }
-        if !sheet.can_move(item, by) {
-            return Err(refusal(refusals::OUT_OF_BOARD));
-        }
-        self.remember()?;
-        self.document.shift(place, item, by);
-        Ok(Reply::Done)
     }
 
-    /// Keeps a copy of the document as the latest earlier one, before an edit changes it.
-    fn remember(&mut self) -> Result<(), Fault>
-        ensures ok { OnOk result (self.new ≡ with_document_kept self.old) }
-        ensures err { OnErr result (self.new ≡ self.old) }
-        ensures no_memory { OnErr result (result ≡ Err (fault memory_refused)) }
+    fn end(&mut self) -> Result<Reply, Fault>
+        ensures { end_step self.old ≡ (self.new, result) }
     {
-        let Ok(copy) = self.document.try_copy(self.alloc) else {
-            return Err(refusal(refusals::NO_MEMORY));
-        };
-        if self.past.push_front(copy).is_err() {
-            return Err(refusal(refusals::NO_MEMORY));
+        match self.history.end() {
+            Ok(()) => Ok(Reply::Done),
+            Err(fault) => Err(refusal(refusals::of_history(fault))),
         }
-        self.past.truncate(self.depth as usize);
-        self.future.clear();
-        Ok(())
+    }
+
+    fn abort(&mut self) -> Result<Reply, Fault>
+        ensures { abort_step self.old (memory_of result) ≡ (self.new, result) }
+    {
+        match self.history.abort(&mut self.board) {
+            Ok(steps) => {
+                touch(&mut self.rasters, &steps);
+                Ok(Reply::Done)
+            }
+            Err(fault) => Err(refusal(refusals::of_history(fault))),
+        }
     }
 
     fn undo(&mut self) -> Result<Reply, Fault>
         ensures { undo_step self.old (memory_of result) ≡ (self.new, result) }
     {
-        if self.past.is_empty() {
-            return Err(refusal(refusals::NOTHING_TO_UNDO));
+        match self.history.undo(&mut self.board) {
+            Ok(()) => {
+                touch_group(&mut self.rasters, self.history.last_redo());
+                Ok(Reply::Done)
+            }
+            Err(fault) => Err(refusal(refusals::of_history(fault))),
         }
-        if self.future.reserve(1).is_err() {
-            return Err(refusal(refusals::NO_MEMORY));
-        }
-        if let Some(earlier) = self.past.pop_front() {
-            let present = mem::replace(&mut self.document, earlier);
-            self.future.push_front_reserved(present);
-        }
-        Ok(Reply::Done)
     }
 
     fn redo(&mut self) -> Result<Reply, Fault>
         ensures { redo_step self.old (memory_of result) ≡ (self.new, result) }
     {
-        if self.future.is_empty() {
-            return Err(refusal(refusals::NOTHING_TO_REDO));
+        match self.history.redo(&mut self.board) {
+            Ok(()) => {
+                touch_group(&mut self.rasters, self.history.last_undo());
+                Ok(Reply::Done)
+            }
+            Err(fault) => Err(refusal(refusals::of_history(fault))),
         }
-        if self.past.reserve(1).is_err() {
-            return Err(refusal(refusals::NO_MEMORY));
-        }
-        if let Some(later) = self.future.pop_front() {
-            let present = mem::replace(&mut self.document, later);
-            self.past.push_front_reserved(present);
-        }
-        Ok(Reply::Done)
     }
 
     fn list(&self) -> Reply
         ensures { list_step self.now ≡ (self.now, Ok result) }
     {
-        let layers = self.document.len() as u64;
-        let past = self.past.len() as u64;
-        let future = self.future.len() as u64;
-        Reply::Numbers(Numbers::Three(layers, past, future))
+        let layers = self.board.len() as u64;
+        let counts = self.history.counts();
+        Reply::Numbers(Numbers::Three(layers, counts.past as u64, counts.future as u64))
     }
 
     fn list_layer(&self, name: &Name) -> Result<Reply, Fault>
         ensures { list_layer_step self.now name.now ≡ (self.now, result) }
     {
-        let Some(place) = self.document.place(name) else {
+        let Some(place) = self.board.place(name) else {
             return Err(refusal(refusals::NO_LAYER));
         };
-        let sheet = self.document.sheet(place);
-        let items = sheet.item_count() as u64;
-        let entries = sheet.entry_count() as u64;
+        let content = self.board.content(place);
+        let items = content.item_count() as u64;
+        let entries = content.entry_count() as u64;
         Ok(Reply::Numbers(Numbers::Two(items, entries)))
     }
 }

@@ -1,4 +1,4 @@
-use Rattle.cam_station.proofs.Reached.{depth_law}
+use Rattle.cam_station.proofs.Depths.{depth_law}
 use Rattle.cam_station.proofs.laws.depth_is_kept.Goals as goal
 
 pub returns : goal.returns

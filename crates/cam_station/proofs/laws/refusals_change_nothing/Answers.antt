@@ -1,4 +1,4 @@
-use Rattle.cam_station.proofs.Quiet.{refusal_stays}
+use Rattle.cam_station.proofs.Refusing.{refusal_stays}
 use Rattle.cam_station.proofs.laws.refusals_change_nothing.Goals as goal
 
 pub returns : goal.returns

@@ -1,7 +1,7 @@
 use Rattle.std.proofs.Common.{◌≡◌, ◌≤◌, ◌+◌, List, ◌++◌, vec_len}
 use Rattle.std.specs.Prelude.{vec_capacity}
 use Rattle.std.specs.VecDeque.{deque_len}
-use Rattle.cam_station.specs.declared.command.Command.{Command}
+use Rattle.cam_script.specs.declared.command.Command.{Command}
 use Rattle.cam_station.specs.Undoing.{IsRun}
 use Rattle.cam_station.proofs.station.Station.apply_all.Given as goal
 

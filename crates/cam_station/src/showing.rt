@@ -1,0 +1,95 @@
+//! What layers are drawn and written as.
+
+ghost use Rattle.std.specs.Prelude.{◌≡◌, ◌≤◌, length, min, option_map, replicate, true, IfErr, IfOk, Some};
+ghost use Rattle.cam_edits.specs.Images.{image_of};
+ghost use Rattle.cam_edits.specs.Sheets.{AreSound, IsSound, content_of, sheets_of};
+ghost use Rattle.cam_station.specs.Layers.{dirty_in, redrawn_in};
+ghost use Rattle.cam_station.specs.Machine.{fault};
+ghost use Rattle.cam_station.specs.Refusals.{memory_refused};
+ghost use Rattle.cam_station.specs.Writing.{text_of};
+ghost use Rattle.cam_tiles.specs.Picture.{accepts};
+ghost use Rattle.cam_tiles.specs.declared.window.Window.{Window};
+ghost use Rattle.cam_tiles.specs.Tables.{blank, dirty_count, redrawn};
+
+use crate::fault::{Fault, refusal};
+use crate::refusals;
+use cam_edits::{Board, SheetContent};
+use cam_tiles::{Raster, Source, Window};
+use cam_writers::{gerber_text, xnc_text};
+use std::alloc::{AllocError, Global};
+
+/// A raster of an accepted window, its tiles dirty; 30 where memory was refused.
+fn blank(alloc: Global, window: Window) -> Result<Raster, Fault>
+    requires { accepts window ≡ true }
+    ensures made { IfOk result (λ raster. raster ≡ blank window) }
+    ensures memory { IfErr result (λ told. told ≡ fault memory_refused) }
+{
+    match Raster::new(alloc, window) {
+        Ok(raster) => Ok(raster),
+        Err(_) => Err(refusal(refusals::NO_MEMORY)),
+    }
+}
+
+/// A raster of the window in force, if one is.
+pub(crate) fn blank_in(alloc: Global, window: Option<Window>) -> Result<Option<Raster>, Fault>
+    requires { (w : Window) → window ≡ Some w → accepts w ≡ true }
+    ensures made { IfOk result (λ raster. raster ≡ option_map blank window) }
+    ensures memory { IfErr result (λ told. told ≡ fault memory_refused) }
+{
+    match window {
+        Some(window) => Ok(Some(blank(alloc, window)?)),
+        None => Ok(None),
+    }
+}
+
+/// So many rasters of an accepted window, their tiles dirty; 30 where memory was refused.
+pub(crate) fn blanks(alloc: Global, window: Window, count: usize) -> Result<Vec<Raster>, Fault>
+    requires { accepts window ≡ true }
+    ensures made { IfOk result (λ rasters. rasters.items ≡ replicate count (blank window)) }
+    ensures memory { IfErr result (λ told. told ≡ fault memory_refused) }
+{
+    let Ok(mut rasters) = Vec::with_capacity(alloc, count) else {
+        return Err(refusal(refusals::NO_MEMORY));
+    };
+    for _ in 0..count {
+        rasters.push_reserved(blank(alloc, window)?);
+    }
+    Ok(rasters)
+}
+
+/// Draws dirty tiles, by layer and then by number, and answers how many.
+pub(crate) fn draw_all(board: &Board, rasters: &mut [Raster], at_most: u32) -> u32
+    requires sound { AreSound (sheets_of board.now) }
+    requires layers { length rasters.old ≤ length (sheets_of board.now) }
+    ensures drawn { result ≡ min at_most (dirty_in rasters.old) }
+    ensures tiles { rasters.new ≡ redrawn_in at_most (sheets_of board.now) rasters.old }
+{
+    let mut left = at_most;
+    for place in 0..rasters.len() {
+        left -= draw(board.content(place), &mut rasters[place], left);
+    }
+    at_most - left
+}
+
+/// Draws dirty tiles of a layer, those of least number first, and answers how many.
+pub(crate) fn draw(content: &SheetContent, raster: &mut Raster, at_most: u32) -> u32
+    requires { IsSound (content_of content.now) }
+    ensures drawn { result ≡ min at_most (dirty_count raster.old) }
+    ensures tiles { raster.new ≡ redrawn (image_of (content_of content.now)) at_most raster.old }
+{
+    match content {
+        SheetContent::Gerber(layer) => raster.redraw(&mut Source::gerber(layer), at_most),
+        SheetContent::Drill(layer) => raster.redraw(&mut Source::drill(layer), at_most),
+    }
+}
+
+/// The canonical text of a layer, as a file of its kind.
+pub(crate) fn text(alloc: Global, content: &SheetContent) -> Result<Vec<u8>, AllocError>
+    requires sound { IsSound (content_of content.now) }
+    ensures { IfOk result (λ text. text.items ≡ text_of (content_of content.now)) }
+{
+    match content {
+        SheetContent::Gerber(layer) => gerber_text(alloc, layer),
+        SheetContent::Drill(layer) => xnc_text(alloc, layer),
+    }
+}
