@@ -4,6 +4,8 @@ use crate::files::MemoryFiles;
 use crate::out::MemoryOut;
 use crate::tables::blocks::BLOCKS;
 use crate::tables::drills::DRILLS;
+use crate::tables::edits::EDITS;
+use crate::tables::groups::GROUPS;
 use crate::tables::histories::HISTORIES;
 use crate::tables::limits::LIMITS;
 use crate::tables::plots::PLOTS;
@@ -12,6 +14,7 @@ use crate::tables::regions::REGIONS;
 use crate::tables::strokes::STROKES;
 use crate::tables::templates::TEMPLATES;
 use crate::tables::texts::TEXTS;
+use crate::tables::tiles::TILES;
 use crate::tables::units::UNITS;
 use crate::tables::unreadable::UNREADABLE;
 use crate::tables::{File, Row};
@@ -68,7 +71,9 @@ fn files(rt: HostRuntime) -> Result<(), Fail> {
 
 #[test]
 fn tables(rt: HostRuntime) -> Result<(), Fail> {
-    for table in [DRILLS, HISTORIES, LIMITS, PLOTS, REFUSALS, TEXTS] {
+    for table in [
+        DRILLS, EDITS, GROUPS, HISTORIES, LIMITS, PLOTS, REFUSALS, TEXTS, TILES,
+    ] {
         for row in table {
             play(&rt, rt.alloc(), row)?;
         }

@@ -93,7 +93,7 @@ fn depths_out_of_range(rt: HostRuntime) {
     }
 }
 
-/// A load that fails and is called again, and a picture that fails and is plotted again.
+/// A load that fails and is called again, and a picture that fails, whose tiles are kept, and is plotted again.
 const TWICE: &[u8] = b"load top gerber a.gbr\nload top gerber a.gbr\nwindow 0 0 1 1 1\n\
 plot top x\nplot top y\n";
 
@@ -104,7 +104,7 @@ fn files_that_fail(rt: HostRuntime) -> Result<(), Fail> {
     files.put("a.gbr", EMPTY)?;
     let mut out = MemoryOut::failing(rt.alloc(), 0);
     let refused = run(rt.alloc(), 100, TWICE, &mut files, &mut out)?;
-    let replies = b"refused 82\nok 0\nok\nrefused 82\nok 1\n";
+    let replies = b"refused 82\nok 0\nok\nrefused 82\nok 0\n";
     assert_eq!(rt; out.said.as_slice(), replies.as_slice());
     assert!(rt; refused == 2 && files.failures() == 2);
     assert!(rt; files.held.get("x").is_none() && files.held.get("y").is_some());

@@ -3,6 +3,8 @@
 pub mod blocks;
 pub mod boards;
 pub mod drills;
+pub mod edits;
+pub mod groups;
 pub mod histories;
 pub mod limits;
 pub mod plots;
@@ -11,6 +13,7 @@ pub mod regions;
 pub mod strokes;
 pub mod templates;
 pub mod texts;
+pub mod tiles;
 pub mod units;
 pub mod unreadable;
 

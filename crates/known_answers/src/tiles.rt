@@ -1,49 +1,151 @@
-//! Pictures, by hand: a pixel is black where its centre lies in a flash (netpbm's pbm(5), "P4").
+//! Tiles and pictures, by hand: a pixel is black where its centre lies in a flash (netpbm's pbm(5), "P4"), and a box
+//! touches the tiles that hold a pixel centre in it or on its edge.
 
 use cam_gerber::read_gerber;
-use cam_tiles::{Window, plot};
-use std::alloc::{AllocError, Global};
+use cam_tiles::{Painter, Raster, RasterFault, Source, Window};
+use cam_units::{Bounds, Spot};
+use std::alloc::Global;
 use std::test::Fail;
 
 /// The sides in pixels of a window from the origin, of 2 nm a pixel, its tiles, and the picture in it of two discs
-/// of 2 nm at (1, 1) and (17, 3); `None` where the window is not accepted.
-const ROWS: &[(u32, u32, Option<(u64, &[u8])>)] = &[
-    (9, 2, Some((1, b"P4\n9 2\n\x00\x80\x80\x00"))),
-    (65, 1, Some((2, b"P4\n65 1\n\x80\0\0\0\0\0\0\0\0"))),
-    (0, 1, None),
-    (1, 32_769, None),
+/// of 2 nm at (1, 1) and (17, 3); or why there is none.
+const ROWS: &[(u32, u32, Result<(u32, &[u8]), RasterFault>)] = &[
+    (9, 2, Ok((1, b"P4\n9 2\n\x00\x80\x80\x00"))),
+    (65, 1, Ok((2, b"P4\n65 1\n\x80\0\0\0\0\0\0\0\0"))),
+    (0, 1, Err(RasterFault::WindowRefused)),
+    (1, 32_769, Err(RasterFault::WindowRefused)),
+];
+
+/// The low and the high corner of a box in half nm, and the tiles that it touches in a window of 130 by 70 pixels of 5 nm
+/// from the origin.
+const BOXES: &[((i64, i64), (i64, i64), &[u32])] = &[
+    ((0, 0), (4, 4), &[]),
+    ((0, 0), (5, 5), &[3]),
+    ((5, 5), (5, 5), &[3]),
+    ((6, 5), (14, 5), &[]),
+    ((0, 0), (5, 64), &[3]),
+    ((0, 0), (5, 65), &[0, 3]),
+    ((0, 56), (5, 64), &[]),
+    ((636, 0), (644, 1000), &[]),
+    ((636, 0), (645, 1000), &[1, 4]),
+    ((635, 300), (645, 310), &[0, 1]),
+    ((1285, 0), (2000, 10), &[5]),
+    ((1286, 0), (1294, 10), &[]),
+    ((1295, 695), (1295, 695), &[2]),
+    ((1296, 0), (2000, 700), &[]),
+    ((0, 696), (2000, 2000), &[]),
+    ((20, 0), (10, 100), &[]),
+    (
+        (i64::MIN, i64::MIN),
+        (i64::MAX, i64::MAX),
+        &[0, 1, 2, 3, 4, 5],
+    ),
 ];
 
 /// A file of the two discs.
 const DISCS: &[u8] = b"%FSLAX66Y66*%%MOMM*%%ADD10C,0.000002*%D10*X1Y1D03*X17Y3D03*M02*";
 
-/// The tiles and the picture of the discs in a window of these sides.
-fn picture(alloc: Global, width: u32, height: u32) -> Result<Option<(u64, Vec<u8>)>, AllocError> {
+/// A raster of a window from the origin.
+fn raster(alloc: Global, pitch: i64, width: u32, height: u32) -> Result<Raster, RasterFault> {
     let window = Window {
         x: 0,
         y: 0,
-        pitch: 2,
+        pitch,
         width,
         height,
     };
-    if !window.is_accepted() {
-        return Ok(None);
-    }
+    Raster::new(alloc, window)
+}
+
+/// The tiles and the picture of the discs in a window of these sides; all but one tile are drawn first, and no file comes
+/// of them.
+fn picture(alloc: Global, width: u32, height: u32) -> Result<(u32, Vec<u8>), RasterFault> {
+    let mut raster = raster(alloc, 2, width, height)?;
     let Ok(layer) = read_gerber(alloc, DISCS) else {
-        return Ok(None);
+        return Err(RasterFault::Memory);
     };
-    let file = plot(alloc, &layer, &window)?;
-    Ok(Some((window.tile_count(), file)))
+    let mut source = Source::gerber(&layer);
+    let tiles = raster.dirty();
+    raster.redraw(&mut source, tiles.saturating_sub(1));
+    if !matches!(raster.to_pbm(alloc), Err(RasterFault::StillDirty)) {
+        return Err(RasterFault::StillDirty);
+    }
+    raster.redraw(&mut source, u32::MAX);
+    let file = raster.to_pbm(alloc)?;
+    if source.asked() != u64::from(tiles) {
+        return Err(RasterFault::StillDirty);
+    }
+    Ok((tiles, file))
 }
 
 #[test]
 fn pictures(rt: HostRuntime) -> Result<(), Fail> {
     for &(width, height, wanted) in ROWS {
-        let found = picture(rt.alloc(), width, height)?;
-        let found = found
-            .as_ref()
-            .map(|(tiles, file)| (*tiles, file.as_slice()));
+        let found = picture(rt.alloc(), width, height);
+        let found = match &found {
+            Ok((tiles, file)) => Ok((*tiles, file.as_slice())),
+            Err(fault) => Err(*fault),
+        };
         assert!(rt; found == wanted, "{width} by {height}");
+    }
+    Ok(())
+}
+
+/// Whether a box touches these tiles of a clean raster, and no other.
+fn touches(alloc: Global, bounds: Bounds, wanted: &[u32]) -> Result<bool, RasterFault> {
+    let mut raster = raster(alloc, 5, 130, 70)?;
+    let Ok(layer) = read_gerber(alloc, DISCS) else {
+        return Err(RasterFault::Memory);
+    };
+    raster.redraw(&mut Source::gerber(&layer), u32::MAX);
+    raster.touch(bounds);
+    for tile in 0..6 {
+        if raster.is_clean(tile) == wanted.contains(&tile) {
+            return Ok(false);
+        }
+    }
+    Ok(raster.dirty() as usize == wanted.len())
+}
+
+#[test]
+fn boxes(rt: HostRuntime) -> Result<(), Fail> {
+    for &((left, bottom), (right, top), wanted) in BOXES {
+        let low = Spot { x: left, y: bottom };
+        let high = Spot { x: right, y: top };
+        let told = touches(rt.alloc(), Bounds::Closed { low, high }, wanted);
+        assert!(rt;
+            told == Ok(true),
+            "from ({left}, {bottom}) to ({right}, {top})"
+        );
+    }
+    Ok(())
+}
+
+/// Pixels of the window of 65 by 1 of which the second tile is dirty.
+const PIXELS: &[(u32, u32, Option<bool>)] = &[
+    (0, 0, Some(true)),
+    (1, 0, Some(false)),
+    (63, 0, Some(false)),
+    (64, 0, None),
+    (65, 0, None),
+    (0, 1, None),
+];
+
+/// What is known of the pixel, with the first tile drawn.
+fn pixel(alloc: Global, column: u32, row: u32) -> Result<Option<bool>, RasterFault> {
+    let mut raster = raster(alloc, 2, 65, 1)?;
+    let Ok(layer) = read_gerber(alloc, DISCS) else {
+        return Err(RasterFault::Memory);
+    };
+    raster.redraw(&mut Source::gerber(&layer), 1);
+    Ok(raster.pixel(column, row))
+}
+
+#[test]
+fn pixels(rt: HostRuntime) -> Result<(), Fail> {
+    for &(column, row, wanted) in PIXELS {
+        let found = pixel(rt.alloc(), column, row);
+        assert!(rt; found == Ok(wanted), "column {column}, row {row}");
     }
     Ok(())
 }

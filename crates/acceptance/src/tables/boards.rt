@@ -10,6 +10,10 @@ pub const CUT_SHORT: &[u8] = b"%FSLAX36Y36*%\n%MOMM*%\n%ADD10C,1*%\nD10*\nX0Y0D0
 pub const TWO_DISCS: &[u8] =
     b"%FSLAX36Y36*%\n%MOMM*%\n%ADD10C,1*%\nD10*\nX0Y0D03*\nX2000000D03*\nM02*\n";
 
+/// A flash, a draw and a flash, of a disc and of a rectangle.
+pub const FLASHES: &[u8] = b"%FSLAX36Y36*%\n%MOMM*%\n%ADD10C,1*%\n%ADD11R,2X1*%\nD10*\nX0Y0D03*\n\
+X2000000Y0D02*\nX4000000Y0D01*\nD11*\nX0Y2000000D03*\nM02*\n";
+
 /// A layer without items.
 pub const EMPTY: &[u8] = b"%FSLAX36Y36*%\n%MOMM*%\nM02*\n";
 

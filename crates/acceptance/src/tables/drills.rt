@@ -1,7 +1,14 @@
 //! Drill layers.
 
 use crate::tables::boards::{DISC, HOLE_AND_SLOT};
+use crate::tables::texts::DRILL_TEXT;
 use crate::tables::{BLACK, Row, WHITE};
+
+/// The hole with the other tool, between a rout of one point and a hit.
+const EDITED_TEXT: &[u8] =
+    b"M48\nMETRIC\nT1C0.800000\nT2C1.000000\n%\nG05\nT1\nG00X0.000000Y0.000000\nM15\nM16\n\
+T2\nG05\nX1.000000Y1.000000\nG00X3.000000Y1.000000\nM15\nG01X5.000000Y1.000000\nG01X5.000000Y3.000000\nM16\n\
+T1\nG05\nX0.000000Y0.000000\nM30\n";
 
 /// Drill layers that are plotted and edited.
 pub const DRILLS: &[Row] = &[
@@ -44,6 +51,34 @@ move top 1 995000000 0\nmove top 1 0 -4000000000\nmove top 1 994999999 -10009999
         replies: b"ok 2\nrefused 61\nrefused 61\nrefused 60\nrefused 65\nrefused 65\nok\nok 1 1 0\n",
         refused: 5,
         written: &[],
+    },
+    Row {
+        name: "a tool becomes wider and, taken back, narrow again, in picture and text",
+        depth: 100,
+        files: &[("e.drl", HOLE_AND_SLOT)],
+        script: b"load top drill e.drl\nwrite top loaded\nwindow 5290000 590000 20000 1 1\nplot top slot\n\
+window 1440000 990000 20000 1 1\nplot top narrow\ndiameter top 1 1000000\nplot top wide\n\
+undo\nplot top back\nwrite top text\n",
+        replies: b"ok 2\nok 144\nok\nok 1\nok\nok 1\nok\nok 1\nok\nok 1\nok 144\n",
+        refused: 0,
+        written: &[
+            ("loaded", DRILL_TEXT),
+            ("slot", BLACK),
+            ("narrow", WHITE),
+            ("wide", BLACK),
+            ("back", WHITE),
+            ("text", DRILL_TEXT),
+        ],
+    },
+    Row {
+        name: "another tool, a hit and a rout of one point; no such tool, no polarity and no diameter of 0",
+        depth: 100,
+        files: &[("e.drl", HOLE_AND_SLOT)],
+        script: b"load top drill e.drl\ntool top 0 2\ntool top 0 3\npolarity top 0 clear\ndiameter top 2 0\n\
+insert top 2 hit 1 0 0\ninsert top 0 rout 1 0 0\nwrite top t\n",
+        replies: b"ok 2\nok\nrefused 66\nrefused 68\nrefused 67\nok\nok\nok 204\n",
+        refused: 3,
+        written: &[("t", EDITED_TEXT)],
     },
     Row {
         name: "layers of both kinds in one document",

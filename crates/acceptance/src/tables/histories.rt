@@ -3,6 +3,10 @@
 use crate::tables::Row;
 use crate::tables::boards::{DISC, TWO_DISCS};
 
+/// The disc, 3 mm to the right and clear.
+const CLEAR_TEXT: &[u8] = b"%FSLAX46Y46*%\n%MOMM*%\nG01*\nG75*\n%ADD10C,1.000000*%\n%LPC*%\nD10*\n\
+X3000000Y0D03*\nM02*\n";
+
 /// Edits that are taken back and made again.
 pub const HISTORIES: &[Row] = &[
     Row {
@@ -20,6 +24,16 @@ delete top 0\nredo\nplot top deleted\nundo\nplot top back\nlist\n",
             ("deleted", b"P4\n4 4\n\x00\x00\x00\x00"),
             ("back", b"P4\n4 4\n\x00\x30\x30\x00"),
         ],
+    },
+    Row {
+        name: "at depth 2 the oldest of three edits is dropped, and what was made again is edited further",
+        depth: 2,
+        files: &[("a.gbr", DISC)],
+        script: b"load top gerber a.gbr\nmove top 0 1000000 0\nmove top 0 1000000 0\nmove top 0 1000000 0\n\
+undo\nundo\nundo\nredo\nredo\npolarity top 0 clear\nredo\nlist\nwrite top t\n",
+        replies: b"ok 1\nok\nok\nok\nok\nok\nrefused 70\nok\nok\nok\nrefused 71\nok 1 2 0\nok 83\n",
+        refused: 2,
+        written: &[("t", CLEAR_TEXT)],
     },
     Row {
         name: "edits are taken back and made again in turn",

@@ -6,13 +6,16 @@ use crate::tables::boards::{CUT_SHORT, DISC, EMPTY};
 /// Scripts with lines that are refused.
 pub const REFUSALS: &[Row] = &[
     Row {
-        name: "in the order of their checks",
+        name: "in turn, from an empty station on",
         depth: 100,
         files: &[("a.gbr", DISC)],
-        script: b"plot top x\nload top gerber a.gbr\nplot top x\nload top gerber a.gbr\n\
-window 0 0 0 1 1\nload b gerber none\nfrob\n",
-        replies: b"refused 60\nok 1\nrefused 84\nrefused 83\nrefused 50\nrefused 82\nrefused 80\n",
-        refused: 6,
+        script: b"plot top x\nload top gerber a.gbr\nplot top x\nredraw 5\nload top gerber a.gbr\nmove top 1 0 0\n\
+insert top 2 flash 10 0 0 r0 dark\naperture top 0 11\ntool top 0 1\nmove top 0 1000000000 0\nwindow 0 0 0 1 1\n\
+begin\nload b gerber a.gbr\nbegin\nend\nend\nabort\nundo\nfrob\nload b gerber none\n",
+        replies: b"refused 60\nok 1\nrefused 84\nrefused 84\nrefused 83\nrefused 61\n\
+refused 61\nrefused 62\nrefused 68\nrefused 65\nrefused 50\n\
+ok\nrefused 72\nrefused 72\nok\nrefused 73\nrefused 73\nrefused 70\nrefused 80\nrefused 82\n",
+        refused: 17,
         written: &[],
     },
     Row {

@@ -1,7 +1,7 @@
 //! Canonical texts, and layers that are loaded from them again.
 
 use crate::tables::Row;
-use crate::tables::boards::{DISC, EMPTY, HOLE_AND_SLOT};
+use crate::tables::boards::{DISC, EMPTY, FLASHES, HOLE_AND_SLOT};
 
 /// The text of a layer without items.
 const EMPTY_TEXT: &[u8] = b"%FSLAX46Y46*%\n%MOMM*%\nG01*\nG75*\nM02*\n";
@@ -18,7 +18,7 @@ const MOVED_TEXT: &[u8] =
 const APERTURE_TEXT: &[u8] = b"%FSLAX46Y46*%\n%MOMM*%\nG01*\nG75*\n%ADD10C,1.000000*%\nM02*\n";
 
 /// Flashes and a draw of two apertures.
-const FLASHES_TEXT: &[u8] = b"%FSLAX46Y46*%\n%MOMM*%\nG01*\nG75*\n%ADD10C,1.000000*%\n\
+pub const FLASHES_TEXT: &[u8] = b"%FSLAX46Y46*%\n%MOMM*%\nG01*\nG75*\n%ADD10C,1.000000*%\n\
 %ADD11R,2.000000X1.000000*%\nD10*\nX0Y0D03*\nX2000000Y0D02*\nX4000000Y0D01*\nD11*\n\
 X0Y2000000D03*\nM02*\n";
 
@@ -44,7 +44,7 @@ const MACRO_TEXT: &[u8] = b"%FSLAX46Y46*%\n%MOMM*%\nG01*\nG75*\n%AMM10*\n\
 20,1,0.500000,0.500000,-0.250000,-0.500000,-0.250000,0*\n%\n%ADD10M10*%\nD10*\nX0Y0D03*\nM02*\n";
 
 /// A hole and a slot.
-const DRILL_TEXT: &[u8] = b"M48\nMETRIC\nT1C0.800000\nT2C1.000000\n%\nG05\nT1\n\
+pub const DRILL_TEXT: &[u8] = b"M48\nMETRIC\nT1C0.800000\nT2C1.000000\n%\nG05\nT1\n\
 X1.000000Y1.000000\nT2\nG00X3.000000Y1.000000\nM15\nG01X5.000000Y1.000000\nG01X5.000000Y3.000000\nM16\nM30\n";
 
 /// The slot alone, 1 nm to the left and 0.5 mm up.
@@ -103,11 +103,7 @@ X25400000Y25400000D01*\nM02*\n",
     Row {
         name: "an aperture is selected where another is in force, and a draw starts where the point is another",
         depth: 100,
-        files: &[(
-            "c.gbr",
-            b"%FSLAX36Y36*%\n%MOMM*%\n%ADD10C,1*%\n%ADD11R,2X1*%\nD10*\nX0Y0D03*\nX2000000Y0D02*\n\
-X4000000Y0D01*\nD11*\nX0Y2000000D03*\nM02*\n",
-        )],
+        files: &[("c.gbr", FLASHES)],
         script: b"load top gerber c.gbr\nwrite top t\nload again gerber t\nwrite again u\n",
         replies: b"ok 3\nok 148\nok 3\nok 148\n",
         refused: 0,
