@@ -1,8 +1,9 @@
 -- Outlines that are turned, and then moved by nothing.
-use Rattle.std.proofs.Common.{◌≡◌, ℤ, pos, ◌+ℤ◌, List, [], ◌∷◌, map, All, refl, ◌∙◌, arith}
+use Rattle.std.proofs.Common.{◌≡◌, ℤ, pos, ◌+ℤ◌, List, [], ◌∷◌, map, All, refl, ap, sym, subst, ◌∙◌, arith}
 use Rattle.std.proofs.lemmas.Int.{ints}
 use Rattle.std.proofs.lemmas.List.Elements.{All-weaker}
 use Rattle.cam_units.specs.declared.point.Point.{Point}
+use Rattle.cam_units.specs.declared.point.Spot.{Spot}
 use Rattle.cam_units.specs.declared.turn.Turn.{Turn}
 use Rattle.cam_units.specs.declared.turn.Turn.TheVariants.{R0, R90, R180, R270, M0, M90, M180, M270}
 use Rattle.cam_units.specs.Board.{IsOnBoard}
@@ -10,11 +11,14 @@ use Rattle.cam_units.proofs.TurnLaws.{same_point}
 use Rattle.cam_shapes.specs.declared.contour.Contour.{Contour}
 use Rattle.cam_shapes.specs.declared.segments.Seg.{Seg}
 use Rattle.cam_shapes.specs.declared.segments.Seg.TheVariants.{Line}
+use Rattle.cam_shapes.specs.Contour.{IsInContour}
 use Rattle.cam_shapes.specs.Outline.{lines_to, outline_of}
 use Rattle.cam_shapes.specs.Placing.{placed_contour, placed_point, placed_seg, IsPlaceablePoint}
-use Rattle.cam_apertures.specs.Cover.{origin}
-use Rattle.cam_apertures.specs.Primitives.{IsMacroPoint}
-use Rattle.cam_apertures.specs.Turned.{turned_point}
+use Rattle.cam_macros.specs.declared.primitive.PrimShape.{PrimShape}
+use Rattle.cam_macros.specs.declared.primitive.PrimShape.TheVariants.{Outline}
+use Rattle.cam_apertures.specs.Cover.{origin, IsInShape}
+use Rattle.cam_apertures.specs.Primitives.{IsMacroPoint, IsSoundShape}
+use Rattle.cam_apertures.specs.Turned.{turned_point, turned_shape}
 
 pub on_board : (p : Point) → IsMacroPoint p → IsOnBoard p
 on_board p h = record { x = omega (arith, h.x); y = omega (arith, h.y) }
@@ -55,7 +59,7 @@ contour_by : Point → List Seg → Contour
 contour_by start segs = record { start = start; segs = segs }
 
 -- the outline through turned points
-pub outline_turned : (t : Turn) (points : List Point) → placed_contour t origin (outline_of points) ≡ outline_of (map (turned_point t) points)
+outline_turned : (t : Turn) (points : List Point) → placed_contour t origin (outline_of points) ≡ outline_of (map (turned_point t) points)
 outline_turned t [] = let e = placed_is_turned t origin ∙ origin_turned t in λ i. record { start = e i; segs = [] }
 outline_turned t (p ∷ ps) = λ i. record { start = placed_is_turned t p i; segs = placed_lines t ps i }
 
@@ -65,5 +69,20 @@ placeable t p h = record {
   there = rw (placed_is_turned t p) (on_board (turned_point t p) (near_turned t p h));
 }
 
-pub all_placeable : (t : Turn) (points : List Point) → All IsMacroPoint points → All (IsPlaceablePoint t origin) points
+all_placeable : (t : Turn) (points : List Point) → All IsMacroPoint points → All (IsPlaceablePoint t origin) points
 all_placeable t points h = All-weaker IsMacroPoint (IsPlaceablePoint t origin) (placeable t) points h
+
+-- ---- the shape of a primitive that is an outline
+
+pub outline_placeable : (t : Turn) (shape : PrimShape) (points slice : List Point) → shape ≡ Outline points
+    → slice ≡ points → IsSoundShape shape → All (IsPlaceablePoint t origin) slice
+outline_placeable t shape points slice e f sound =
+    let outline : IsSoundShape (Outline points) = subst IsSoundShape e sound in
+    all_placeable t slice (rw f outline.near)
+
+pub outline_places : (t : Turn) (shape : PrimShape) (points slice : List Point) (s : Spot) → shape ≡ Outline points
+    → slice ≡ points → IsInContour s (placed_contour t origin (outline_of slice)) ≡ IsInShape (turned_shape t shape) s
+outline_places t shape points slice s e f =
+    ap (λ v. IsInContour s (placed_contour t origin (outline_of v))) f
+    ∙ ap (λ c. IsInContour s c) (outline_turned t points)
+    ∙ sym (ap (λ v. IsInShape (turned_shape t v) s) e)

@@ -33,3 +33,4 @@ pub use laws::{
     covers_lie_in_their_box, holes_are_not_covered, test_tells_cover, turns_turn_the_cover,
 };
 pub use primitives::Primitives;
+pub use sides::{turned_height, turned_width};

@@ -16,14 +16,14 @@ fn exchanges_axes(turn: Turn) -> bool
 }
 
 /// How wide a shape is, once it is turned.
-pub(crate) fn turned_width(turn: Turn, width: Nm, height: Nm) -> Nm
+pub fn turned_width(turn: Turn, width: Nm, height: Nm) -> Nm
     ensures { result ≡ turned_width turn width height }
 {
     if exchanges_axes(turn) { height } else { width }
 }
 
 /// How high a shape is, once it is turned.
-pub(crate) fn turned_height(turn: Turn, width: Nm, height: Nm) -> Nm
+pub fn turned_height(turn: Turn, width: Nm, height: Nm) -> Nm
     ensures { result ≡ turned_height turn width height }
 {
     if exchanges_axes(turn) { width } else { height }

@@ -3,6 +3,7 @@ pub mod Vectors
 pub mod Obrounds
 pub mod Circles
 pub mod Places
+pub mod Reaches
 pub mod Parity
 pub mod Strokes
 pub mod Crossings

@@ -12,8 +12,8 @@ use Rattle.cam_shapes.specs.Arc.{ArcSquareLaw, CircleDistanceLaw, IsBetweenCircl
 use Rattle.cam_shapes.proofs.Widths.{square_is}
 use Rattle.cam_shapes.proofs.Circles.{same_inequality}
 
--- beyond m + r the left side is more than the right one
-beyond : (p q r m : ℕ) → q < m * m → (m + r) * (m + r) < p → 4 * (r * r) * q < (p - (q + r * r)) * (p - (q + r * r))
+-- from m + r on the left side is more than the right one
+beyond : (p q r m : ℕ) → q < m * m → (m + r) * (m + r) ≤ p → 4 * (r * r) * q < (p - (q + r * r)) * (p - (q + r * r))
 beyond p q r m inside far =
     let gap = p - (q + r * r) in
     let wide : 2 * m * r + 1 ≤ gap = omega arith in
@@ -22,7 +22,7 @@ beyond p q r m inside far =
 gap_is : (p q s : ℕ) → q + s ≤ p → pos p -ℤ pos q -ℤ pos s ≡ pos (p - (q + s))
 gap_is p q s h = omega (arith, ints)
 
-not_beyond : (p q r m : ℕ) → q < m * m → (m + r) * (m + r) < p → IsNearCircle (pos p) (pos q) (pos r) → ⊥
+pub not_beyond : (p q r m : ℕ) → q < m * m → (m + r) * (m + r) ≤ p → IsNearCircle (pos p) (pos q) (pos r) → ⊥
 not_beyond p q r m inside far (inl sum) = omega (arith, ints)
 not_beyond p q r m inside far (inr between) =
     let gap = p - (q + r * r) in
@@ -37,7 +37,10 @@ squares_order x n h =
 
 within : (p q r m : ℕ) → q < m * m → IsNearCircle (pos p) (pos q) (pos r) → p ≤ (m + r) * (m + r)
 within p q r m inside near =
-    elim (cases_lt ((m + r) * (m + r)) p) [ inl far ↦ absurd (not_beyond p q r m inside far near) | inr most ↦ most ]
+    elim (cases_lt ((m + r) * (m + r)) p) [
+      | inl far ↦ absurd (not_beyond p q r m inside (omega arith) near)
+      | inr most ↦ most
+    ]
 
 pub dot_is : (v : Vector) → dot v v ≡ pos (unsigned_abs v.x * unsigned_abs v.x + unsigned_abs v.y * unsigned_abs v.y)
 dot_is v = omega (arith, ints, square_is v.x, square_is v.y)
@@ -55,7 +58,7 @@ near_is_between v u r m inside near =
       along = omega (arith, ints, squares_order y (m + r) (omega arith));
     }
 
-natural_or_not : (r : ℤ) → pos 0 <ℤ r → (n : ℕ) × (r ≡ pos n)
+pub natural_or_not : (r : ℤ) → pos 0 <ℤ r → (n : ℕ) × (r ≡ pos n)
 natural_or_not (pos n) h = (n, refl)
 natural_or_not (negsuc n) h = absurd (omega (arith, ints))
 

@@ -46,6 +46,7 @@ pub use laws::{
 };
 pub use obround::{Obround, in_obround};
 pub use outline::in_outline;
+pub use placing::Placing;
 pub use rectangle::{Rectangle, in_rect};
 pub use segments::{Seg, Segments};
 pub use shifting::shifted;

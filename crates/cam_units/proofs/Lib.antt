@@ -3,3 +3,4 @@ pub mod Coordinates
 pub mod TurnLaws
 pub mod NearestLaws
 pub mod BoxLaws
+pub mod NewtonRoots

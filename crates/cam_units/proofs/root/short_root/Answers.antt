@@ -1,0 +1,16 @@
+use Rattle.std.proofs.Common.{arith}
+use Rattle.cam_units.proofs.NewtonRoots.{first_root, next_root}
+use Rattle.cam_units.proofs.root.short_root.Goals as goal
+
+pub loop-quotient-init : goal.loop-quotient-init
+loop-quotient-init c =
+    let first = first_root c.args.n c.ilog2.result 32 c.ilog2.ensures.next_power_gt c.ilog2.ensures.bound in
+    record { from = first.0; short = first.1 }
+
+pub loop-quotient-preserved : goal.loop-quotient-preserved
+loop-quotient-preserved c = record {
+  from =
+      next_root c.args.n c.loop-quotient.root c.loop-quotient.quotient (omega (arith, c.if-n-eq0.false))
+      c.loop-quotient.invariant.from c.loop-quotient-test.true;
+  short = omega (arith, c.loop-quotient.invariant.short);
+}
