@@ -2,8 +2,8 @@
 //!
 //! The contracts of the libraries say what each call gives where memory lasts; no clause can say that it lasts, and
 //! none can refuse 'no memory' in place of a fault. So each call that takes memory is seen here to succeed and to
-//! tell each of its faults, and the definitions behind the contracts are held against values from outside. An
-//! example is a row of a table, and each table has one loop that plays it.
+//! tell each of its faults, and the definitions behind the contracts are held against values from outside; rows of
+//! centres are held against point tests. An example is a row of a table, and each table has one loop that plays it.
 #![tactic(auto)]
 
 #[cfg(test)]
@@ -24,6 +24,8 @@ mod macros;
 mod objects;
 #[cfg(test)]
 mod places;
+#[cfg(test)]
+mod rows;
 #[cfg(test)]
 mod shapes;
 #[cfg(test)]

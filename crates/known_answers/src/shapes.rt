@@ -1,6 +1,6 @@
 //! Worked places of the shapes. Points and sizes are in nm, places in half nanometres.
 
-ghost use Rattle.std.specs.Prelude.{IfSome};
+ghost use Rattle.std.specs.Prelude.{◌≡◌, IfSome};
 ghost use Rattle.cam_units.specs.Board.{IsInReach};
 
 use cam_shapes::{
@@ -12,7 +12,7 @@ use std::alloc::{AllocError, Global};
 use std::test::Fail;
 
 /// The greatest coordinate of a point of the board, and the greatest size.
-const FAR: i64 = 999_999_999;
+pub(crate) const FAR: i64 = 999_999_999;
 
 const WIDE: Nm = Nm(200_000_000);
 
@@ -109,7 +109,8 @@ const CONTOURS: &[(Placed, &[Wanted])] = &[
 ];
 
 /// A shape but for contours.
-enum Shape {
+#[derive(Clone, Copy, Debug)]
+pub(crate) enum Shape {
     Arc(Arc),
     Disc(Disc),
     Hole(Disc),
@@ -292,9 +293,12 @@ macro_rules! within {
     }};
 }
 
+pub(crate) use within;
+
 /// The place, where it can be tested.
-fn place(x: i64, y: i64) -> Option<Spot>
-    ensures { IfSome result IsInReach }
+pub(crate) fn reach(x: i64, y: i64) -> Option<Spot>
+    ensures reach { IfSome result IsInReach }
+    ensures same { IfSome result (λ s. (s.x ≡ x) × (s.y ≡ y)) }
 {
     if x.unsigned_abs() >= 4_000_000_000 {
         return None;
@@ -306,8 +310,8 @@ fn place(x: i64, y: i64) -> Option<Spot>
 }
 
 /// Whether the shape holds the place; `None` past the limits of the board.
-fn holds(shape: &Shape, x: i64, y: i64) -> Option<bool> {
-    let spot = place(x, y)?;
+pub(crate) fn holds(shape: &Shape, x: i64, y: i64) -> Option<bool> {
+    let spot = reach(x, y)?;
     match *shape {
         Shape::Arc(arc) => within!(in_arc(spot, arc), arc.from, arc.to, arc.centre; arc.width),
         Shape::Disc(disc) => within!(in_disc(spot, disc), disc.centre; disc.diameter),
@@ -323,7 +327,7 @@ fn holds(shape: &Shape, x: i64, y: i64) -> Option<bool> {
 
 /// Whether the contour holds the place as it is placed; `None` past the limits of the board.
 fn encloses(contour: &Contour, placed: &Placed, x: i64, y: i64) -> Option<bool> {
-    let spot = place(x, y)?;
+    let spot = reach(x, y)?;
     if !fits_contour(contour, placed.turn, placed.offset) {
         return None;
     }

@@ -1,0 +1,71 @@
+-- How far a disc, a hole or a rectangle reaches from its centre, at the height of a row.
+use Rattle.std.proofs.Common.{◌≡◌, ℕ, ◌+◌, ◌*◌, ◌<◌, ◌≤◌, ◌↔◌, ℤ, pos, ◌+ℤ◌, ◌-ℤ◌, ◌≤ℤ◌, ◌<ℤ◌}
+use Rattle.std.proofs.Common.{to_z, of_z, w64, sym, arith}
+use Rattle.std.specs.Int.RustNames.{unsigned_abs}
+use Rattle.std.proofs.lemmas.Int.{ints}
+use Rattle.std.proofs.lemmas.Nat.{mul-le}
+use Rattle.cam_units.specs.declared.point.Spot.{Spot}
+use Rattle.cam_units.specs.Board.{IsSize}
+use Rattle.cam_shapes.specs.declared.disc.Disc.{Disc}
+use Rattle.cam_shapes.specs.declared.rectangle.Rectangle.{Rectangle}
+use Rattle.cam_shapes.specs.Plane.{dot, seen_from, square}
+use Rattle.cam_shapes.specs.Disc.{IsInDisc, IsInHole}
+use Rattle.cam_shapes.specs.Box.{IsInRectangle}
+use Rattle.cam_shapes.proofs.Reaches.{other_leg}
+use Rattle.cam_shapes.proofs.Strokes.{dot_is}
+use Rattle.cam_rows.proofs.Circling.{square_of}
+
+-- a size without its sign, as 64 bits pass it
+pub cast_size : (z : ℤ) → IsSize z → unsigned_abs z ≡ unsigned_abs (to_z w64 (of_z w64 z))
+cast_size z size = omega (arith, ints, size.0, size.1)
+
+-- the places of a strip about a vertical
+pub in_reach : (x middle left right : ℤ) (reach : ℕ) → left ≡ middle -ℤ pos reach → right ≡ middle +ℤ pos reach
+    → (unsigned_abs (x -ℤ middle) ≤ reach) ↔ ((left ≤ℤ x) × (x ≤ℤ right))
+in_reach x middle left right reach is_left is_right = (
+  (λ near. (omega (arith, ints, is_left), omega (arith, ints, is_right))),
+  (λ p. omega (arith, ints, p.0, p.1, is_left, is_right)),
+)
+
+-- discs and holes by the square of their radius
+at_most_is : (z m : ℤ) (n : ℕ) → pos n ≡ m → (z ≤ℤ m) ↔ (z <ℤ pos (n + 1))
+at_most_is z m n e = ((λ h. omega (arith, ints, e)), (λ h. omega (arith, ints, e)))
+
+pub in_disc_is : (s : Spot) (d : Disc) (r bound : ℕ) → pos 0 <ℤ d.diameter.0 → r ≡ unsigned_abs d.diameter.0
+    → bound ≡ r * r + 1 → IsInDisc s d ↔ (dot (seen_from d.centre s) (seen_from d.centre s) <ℤ pos bound)
+in_disc_is s d r bound some e f =
+    let v = seen_from d.centre s in
+    let same = at_most_is (dot v v) (square d.diameter.0) (r * r) (square_of r d.diameter.0 e) in
+    rw f ((λ inside. same.0 inside.near), (λ less. record { some = some; near = same.1 less }))
+
+pub in_hole_is : (s : Spot) (d : Disc) (r bound : ℕ) → pos 0 <ℤ d.diameter.0 → r ≡ unsigned_abs d.diameter.0
+    → bound ≡ r * r → IsInHole s d ↔ (dot (seen_from d.centre s) (seen_from d.centre s) <ℤ pos bound)
+in_hole_is s d r bound some e f =
+    rw (f, square_of r d.diameter.0 e) ((λ inside. inside.near), (λ less. record { some = some; near = less }))
+
+-- a row above or below a disc holds none of it, and one that touches it none of its hole
+pub over_disc : (s : Spot) (d : Disc) (high r : ℕ) → r ≡ unsigned_abs d.diameter.0
+    → high ≡ unsigned_abs (seen_from d.centre s).y → r < high → IsInDisc s d → ⊥
+over_disc s d high r e f over inside =
+    let within = other_leg (seen_from d.centre s) d.diameter.0 inside.near in omega arith
+
+pub over_hole : (s : Spot) (d : Disc) (high r : ℕ) → r ≡ unsigned_abs d.diameter.0
+    → high ≡ unsigned_abs (seen_from d.centre s).y → r ≤ high → IsInHole s d → ⊥
+over_hole s d high r e f over inside =
+    let v = seen_from d.centre s in
+    let squares = rw (sym f) at (dot_is v) in
+    omega (arith, ints, inside.near, squares, square_of r d.diameter.0 e, mul-le r r high high over over)
+
+-- a row across a rectangle
+pub in_width : (s : Spot) (r : Rectangle) (wide high : ℕ) → pos 0 <ℤ r.width.0 → pos 0 <ℤ r.height.0
+    → unsigned_abs r.width.0 ≡ wide → unsigned_abs (seen_from r.centre s).y ≡ high → high ≤ unsigned_abs r.height.0
+    → IsInRectangle s r ↔ (unsigned_abs (seen_from r.centre s).x ≤ wide)
+in_width s r wide high some_width some_height is_width is_high across =
+    let v = seen_from r.centre s in (
+      (λ inside. omega (arith, ints, inside.between.across)),
+      (λ near. record {
+        wide = some_width;
+        high = some_height;
+        between = record { across = omega (arith, ints); along = omega (arith, ints) };
+      }),
+    )

@@ -1,0 +1,15 @@
+pub mod BesideWays
+pub mod CapTies
+pub mod Chords
+pub mod Circling
+pub mod EdgeSides
+pub mod JoinedLanes
+pub mod LinearTurns
+pub mod Marked
+pub mod Quarters
+pub mod Rings
+pub mod RowBytes
+pub mod SetBits
+pub mod Steps
+pub mod Sweeps
+pub mod WayProducts

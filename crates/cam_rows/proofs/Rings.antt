@@ -1,0 +1,130 @@
+-- Places near a circle, between two bounds of the square of their distance from its centre.
+use Rattle.std.proofs.Common.{◌≡◌, ◌↔◌, ◌⊎◌, ℕ, ◌+◌, ◌-◌, ◌*◌, ◌<◌, ◌≤◌, ℤ, pos, ◌-ℤ◌, ◌≤ℤ◌, ◌<ℤ◌, inl, inr, sym, arith}
+use Rattle.std.specs.Int.RustNames.{unsigned_abs}
+use Rattle.std.proofs.lemmas.Int.{ints}
+use Rattle.std.proofs.lemmas.Bool.{cases_lt}
+use Rattle.std.proofs.lemmas.Nat.{mul-le}
+use Rattle.cam_shapes.specs.declared.vector.Vector.{Vector}
+use Rattle.cam_shapes.specs.Plane.{dot, square}
+use Rattle.cam_shapes.specs.Arc.{IsNearCircle}
+use Rattle.cam_shapes.proofs.Widths.{square_is}
+use Rattle.cam_shapes.proofs.Circles.{same_inequality}
+use Rattle.cam_shapes.proofs.Strokes.{dot_is, not_beyond}
+use Rattle.cam_rows.proofs.Circling.{below_root}
+
+-- p, q and s are squares: of the distance, of the circle's radius and of the stroke's; the root is that of 4sq
+abbrev IsRoot : ℕ → ℕ → Type 0
+IsRoot root n = (root * root ≤ n) × (n < (root + 1) * (root + 1))
+
+abbrev IsByRoot : ℕ → ℕ → ℕ → ℕ → Type 0
+IsByRoot p q s root = (q + s ≤ p + root) × (p ≤ q + s + root)
+
+gap_within : (p q s root : ℕ) → (unsigned_abs (pos p -ℤ pos q -ℤ pos s) ≤ root) ↔ IsByRoot p q s root
+gap_within p q s root = (
+  (λ h. (omega (arith, ints), omega (arith, ints))),
+  (λ h. omega (arith, ints, h.0, h.1)),
+)
+
+square_within : (z : ℤ) (n : ℕ) → (square z ≤ℤ pos n) ↔ (unsigned_abs z * unsigned_abs z ≤ n)
+square_within z n = rw (square_is z) ((λ h. omega (arith, ints)), (λ h. omega (arith, ints)))
+
+between_by_root : (p q s root : ℕ) → IsRoot root (4 * s * q)
+    → (square (pos p -ℤ pos q -ℤ pos s) ≤ℤ pos (4 * s * q)) ↔ IsByRoot p q s root
+between_by_root p q s root is =
+    let z = pos p -ℤ pos q -ℤ pos s in
+    let root_of = below_root (unsigned_abs z) (4 * s * q) root is.0 is.1 in
+    let within = square_within z (4 * s * q) in
+    let gap = gap_within p q s root in (
+      (λ h. gap.0 (root_of.0 (within.0 h))),
+      (λ h. within.1 (root_of.1 (gap.1 h))),
+    )
+
+near_by_root : (p q s root : ℕ) (r : ℤ) → pos s ≡ square r → IsRoot root (4 * s * q)
+    → IsNearCircle (pos p) (pos q) r ↔ ((p + q ≤ s) ⊎ IsByRoot p q s root)
+near_by_root p q s root r e is =
+    let between = between_by_root p q s root is in
+    let forms = same_inequality (pos p) (pos q) (pos s) in
+    rw (← e) (
+      (λ near. elim near [
+        | inl sum ↦ inl (omega (arith, ints))
+        | inr circles ↦ inr (between.0 (forms.0 circles))
+      ]),
+      (λ near. elim near [
+        | inl sum ↦ inl (omega (arith, ints))
+        | inr root_near ↦ inr (forms.1 (between.1 root_near))
+      ]),
+    )
+
+-- where the stroke is as wide as the circle, it holds the centre
+long_root : (q s root : ℕ) → q ≤ s → IsRoot root (4 * s * q) → 2 * q ≤ root
+long_root q s root order is =
+    elim (cases_lt root (2 * q)) [
+      | inl short ↦ absurd (omega (
+        arith,
+        is.1,
+        mul-le q q s q order (omega arith),
+        mul-le (root + 1) (root + 1) (2 * q) (2 * q) (omega arith) (omega arith),
+      ))
+      | inr long ↦ long
+    ]
+
+full_ring : (p q s root : ℕ) → q ≤ s → IsRoot root (4 * s * q)
+    → ((p + q ≤ s) ⊎ IsByRoot p q s root) ↔ ((0 ≤ p) × (p < q + s + root + 1))
+full_ring p q s root order is =
+    let long = long_root q s root order is in (
+      (λ h. elim h [ inl sum ↦ (omega arith, omega arith) | inr near ↦ (omega arith, omega arith) ]),
+      (λ h. elim (cases_lt s (p + q)) [
+        | inl more ↦ inr (omega arith, omega arith)
+        | inr sum ↦ inl sum
+      ]),
+    )
+
+open_ring : (p q s root : ℕ) → s < q
+    → ((p + q ≤ s) ⊎ IsByRoot p q s root) ↔ ((q + s - root ≤ p) × (p < q + s + root + 1))
+open_ring p q s root order = (
+  (λ h. elim h [ inl sum ↦ absurd (omega arith) | inr near ↦ (omega arith, omega arith) ]),
+  (λ h. inr (omega arith, omega arith)),
+)
+
+through : {A B C : Type 0} → (A ↔ B) → (B ↔ C) → A ↔ C
+through f g = ((λ a. g.0 (f.0 a)), (λ c. f.1 (g.1 c)))
+
+pub near_in_full_ring : (p q s root : ℕ) (d r : ℤ) → pos q ≡ d → pos s ≡ square r → root * root ≤ 4 * s * q
+    → 4 * s * q < (root + 1) * (root + 1) → q ≤ s
+    → IsNearCircle (pos p) d r ↔ ((0 ≤ p) × (p < q + s + root + 1))
+near_in_full_ring p q s root d r e f least greatest order =
+    rw (← e) (through (near_by_root p q s root r f (least, greatest)) (full_ring p q s root order (least, greatest)))
+
+pub near_in_open_ring : (p q s root : ℕ) (d r : ℤ) → pos q ≡ d → pos s ≡ square r → root * root ≤ 4 * s * q
+    → 4 * s * q < (root + 1) * (root + 1) → s < q
+    → IsNearCircle (pos p) d r ↔ ((q + s - root ≤ p) × (p < q + s + root + 1))
+near_in_open_ring p q s root d r e f least greatest order =
+    rw (← e) (through (near_by_root p q s root r f (least, greatest)) (open_ring p q s root order))
+
+-- no place near a circle lies higher over its centre than the circle by more than the width
+pub past_ring : (v : Vector) (q r : ℤ) (radius width over high : ℕ) → pos radius ≡ q → r ≡ pos width
+    → over + width ≡ high → high ≡ unsigned_abs v.y → radius < over * over → IsNearCircle (dot v v) q r → ⊥
+past_ring v q r radius width over high e f g k far near =
+    let p = unsigned_abs v.x * unsigned_abs v.x + unsigned_abs v.y * unsigned_abs v.y in
+    let least : (over + width) * (over + width) ≤ p = rw (g, k) (omega arith) in
+    not_beyond p radius width over far least (rw (sym e, f, dot_is v) at near)
+
+natural_below : (p n : ℕ) → (pos p <ℤ pos n) ↔ (p < n)
+natural_below p n = ((λ h. omega (arith, ints)), (λ h. omega (arith, ints)))
+
+at_least : (m n : ℕ) → (n < m → ⊥) → m ≤ n
+at_least m n not_less = elim (cases_lt n m) [ inl less ↦ absurd (not_less less) | inr least ↦ least ]
+
+-- the places between the bounds are those in the outer circle and not in the inner one
+pub between_circles : (v : Vector) (q r : ℤ) (inner outer : ℕ)
+    → ((p : ℕ) → IsNearCircle (pos p) q r ↔ ((inner ≤ p) × (p < outer)))
+    → IsNearCircle (dot v v) q r ↔ ((dot v v <ℤ pos outer) × (dot v v <ℤ pos inner → ⊥))
+between_circles v q r inner outer near =
+    let p = unsigned_abs v.x * unsigned_abs v.x + unsigned_abs v.y * unsigned_abs v.y in
+    let in_outer = natural_below p outer in
+    let in_inner = natural_below p inner in
+    rw (dot_is v) (
+      (λ h. let bounds = (near p).0 h in
+          (in_outer.1 bounds.1, (λ less. absurd (omega (arith, bounds.0, in_inner.0 less))))),
+      (λ h. (near p).1 (at_least inner p (λ less. h.1 (in_inner.1 less)), in_outer.0 h.0)),
+    )

@@ -1,0 +1,25 @@
+//! Runs of bits.
+
+ghost use Rattle.std.specs.Prelude.{◌<◌, ◌≤◌, ◌↔◌, ℕ};
+ghost use Rattle.std.specs.Int.{IsBitSet};
+
+/// The row whose bits from `first` up to `end`, without `end`, are set.
+pub(crate) fn bits_between(first: u32, end: u32) -> u64
+    requires ordered { first ≤ end }
+    requires within { end ≤ 64 }
+    ensures { (i : ℕ) → i < 64 → IsBitSet result i ↔ ((first ≤ i) × (i < end)) }
+{
+    bits_below(end) & !bits_below(first)
+}
+
+/// The row whose bits below `end` are set.
+fn bits_below(end: u32) -> u64
+    requires { end ≤ 64 }
+    ensures { (i : ℕ) → i < 64 → IsBitSet result i ↔ (i < end) }
+{
+    if end == 64 {
+        u64::MAX
+    } else {
+        (1u64 << end) - 1
+    }
+}

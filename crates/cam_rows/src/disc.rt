@@ -1,0 +1,26 @@
+//! The row of a disc.
+
+ghost use Rattle.cam_shapes.specs.Disc.{IsInDisc, IsSoundDisc};
+ghost use Rattle.cam_rows.specs.Rows.{IsRow, Marks};
+
+use crate::centres::Centres;
+use crate::circle::circle_row;
+use cam_shapes::Disc;
+
+/// The centres in a disc or on its edge: one run, as wide as the chord on which the row lies, or none where the row
+/// lies above or below the disc, or its diameter is 0. Bit i is that of centre i, from the left; the diameter is in
+/// nanometres, the centres in half nanometres.
+pub fn disc_row(disc: Disc, centres: Centres) -> u64
+    requires disc { IsSoundDisc disc }
+    requires row { IsRow centres }
+    ensures { Marks result centres (λ s. IsInDisc s disc) }
+{
+    if disc.diameter.0 == 0 {
+        return 0;
+    }
+    let radius = disc.diameter.0 as u64;
+    if centres.height_over(&disc.centre) > radius {
+        return 0;
+    }
+    circle_row(&disc.centre, u128::from(radius * radius + 1), &centres)
+}
