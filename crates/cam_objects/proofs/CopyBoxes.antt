@@ -113,7 +113,7 @@ step_within k v (Closed low high) = by (has_no_place (Closed low high)) refl
         (greatest_between high.y (steps k v).y v.y (steps (suc k) v).y (step_more k v.y) (same_way k v.y))
         ∙ sym (λ i. joined (e i) (e'' i) b next)
 
-range_more : (a n : ℕ) → range_with_len a (suc n) ≡ range_with_len a n ++ (a + n) ∷ []
+pub range_more : (a n : ℕ) → range_with_len a (suc n) ≡ range_with_len a n ++ (a + n) ∷ []
 range_more a zero = λ i. plus_none a i ∷ []
   where
     plus_none : (a : ℕ) → a ≡ a + 0
@@ -203,6 +203,14 @@ module _ (m : Shape → Bounds) (law : IsPlacedSo m) (es : List (ℕ × Entry)) 
   abbrev P : Leaf → Type 0
   P l = IsUncrossed (m l.shape)
 
+  -- the box of a copy is that of the first, moved
+  pub copy_box : (objects : List Object) (dx dy : ℤ)
+      → box_of_leaves m (block_leaves (meaning es) (shifted dx dy) objects)
+      ≡ moved (record { x = dx; y = dy }) (box_of_leaves m (block_leaves (meaning es) origin objects))
+  copy_box objects dx dy =
+      block_box_placed m law es objects (shifted dx dy)
+      ∙ ap (moved (record { x = dx; y = dy })) (unturned (box_of_leaves m (block_leaves (meaning es) origin objects)))
+
   module _ (objects : List Object) (clear : All P (block_leaves (meaning es) origin objects)) where
     abbrev b : Bounds
     b = box_of_leaves m (block_leaves (meaning es) origin objects)
@@ -214,9 +222,6 @@ module _ (m : Shape → Bounds) (law : IsPlacedSo m) (es : List (ℕ × Entry)) 
         (All-map IsUncrossed (placed_bounds p) (boxes_of m (block_leaves (meaning es) origin objects))
         (All-weaker IsUncrossed (λ c. IsUncrossed (placed_bounds p c)) (uncrossed_placed p) (boxes_of m (block_leaves (meaning es) origin objects))
         (All-map IsUncrossed (λ l. m l.shape) (block_leaves (meaning es) origin objects) clear))))
-
-    copy_box : (dx dy : ℤ) → box_of_leaves m (block_leaves (meaning es) (shifted dx dy) objects) ≡ moved (record { x = dx; y = dy }) b
-    copy_box dx dy = block_box_placed m law es objects (shifted dx dy) ∙ ap (moved (record { x = dx; y = dy })) (unturned b)
 
     abbrev upward : ℤ → ℕ → Bounds
     upward j r = moved (steps r (record { x = pos 0; y = j })) b
@@ -239,14 +244,14 @@ module _ (m : Shape → Bounds) (law : IsPlacedSo m) (es : List (ℕ × Entry)) 
     joins_moved o f z (k ∷ ks) =
         ap (λ first. fold (λ all k. join_of all (moved o (f k))) first ks) (sym (join_moved o z (f k))) ∙ joins_moved o f (join_of z (f k)) ks
 
-    column_box : (dx : ℤ) (rows : ℕ) (j : ℤ)
+    pub column_box : (dx : ℤ) (rows : ℕ) (j : ℤ)
         → box_of_leaves m (column_leaves (meaning es) dx (suc rows) j objects)
         ≡ moved (record { x = dx; y = pos 0 }) (join_of b (moved (record { x = pos 0; y = pos rows *ℤ j }) b))
     column_box dx rows j =
         let copies : ℕ → List Leaf = λ r. block_leaves (meaning es) (shifted dx (pos r *ℤ j)) objects in
         let ks = range_with_len 0 (suc rows) in
         all_flat (λ l. m l.shape) copies ks (all_flat_map P copies (λ r. copy_clear (shifted dx (pos r *ℤ j))) ks)
-        ∙ (λ i. box_of_all (λ r. (copy_box dx (pos r *ℤ j) ∙ up_steps dx r j) i) ks)
+        ∙ (λ i. box_of_all (λ r. (copy_box objects dx (pos r *ℤ j) ∙ up_steps dx r j) i) ks)
         ∙ joins_moved (record { x = dx; y = pos 0 }) (upward j) Empty ks
         ∙ ap (moved (record { x = dx; y = pos 0 })) (row_box (record { x = pos 0; y = j }) b rows
         ∙ (λ i. join_of b (moved (record { x = times_none rows i; y = pos rows *ℤ j }) b)))

@@ -15,7 +15,7 @@ pub inks_test : (s : Spot) (l : Leaf) (b : Bool) → l.dark ≡ true → IsTrue 
 inks_test s l true dark told = subst (λ d. IsPainted (l ∷ []) s d) dark (inks_one s l (told.0 refl))
 inks_test s l false dark told = inks_none s l (λ on. false≢true (told.1 on))
 
-abbrev slot : Nm → Point → Point → Leaf
+abbrev pub slot : Nm → Point → Point → Leaf
 slot d p q = leaf (Stroke (record { from = p; to = q; width = d })) true
 
 -- the first of the slots from the point at i leads to the next point

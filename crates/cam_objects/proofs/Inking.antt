@@ -62,7 +62,7 @@ inks_none s l off = uncovered_cons s l [] off (uncovered_nil s)
 
 -- ---- one element after another, from the last
 
-front_more : {X : Type 0} (f : X → List Leaf) (xs : List X) (i : ℕ) (x : X) → i < length xs → x ≡ get_or xs i x
+pub front_more : {X : Type 0} (f : X → List Leaf) (xs : List X) (i : ℕ) (x : X) → i < length xs → x ≡ get_or xs i x
     → flat_map f (take (i + 1) xs) ≡ flat_map f (take i xs) ++ f x
 front_more f xs i x h e =
     ap (λ ys. flat_map f ys) (take_more xs i x h)

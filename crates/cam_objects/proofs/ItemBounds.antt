@@ -1,5 +1,5 @@
 -- the boxes of what objects, blocks and repeats paint
-use Rattle.std.proofs.Common.{◌≡◌, ℕ, zero, suc, ◌+◌, ◌-◌, ◌*◌, ◌<◌, ◌≤◌, Bool, true, false, IsTrue, ℤ, pos, ◌*ℤ◌, List, length, take, reverse, slice_get, nat_eq, Option, Some, sym, ap, subst, ◌∙◌, arith}
+use Rattle.std.proofs.Common.{◌≡◌, ℕ, zero, suc, ◌+◌, ◌-◌, ◌*◌, ◌<◌, ◌≤◌, Bool, true, false, IsTrue, ℤ, pos, ◌+ℤ◌, ◌*ℤ◌, List, length, take, reverse, slice_get, nat_eq, Option, Some, sym, ap, subst, ◌∙◌, arith}
 use Rattle.std.specs.List.{All, IsDistinct, flat_map, range_with_len}
 use Rattle.std.proofs.lemmas.Int.{ints}
 use Rattle.std.proofs.lemmas.List.Elements.{All-weaker}
@@ -30,12 +30,12 @@ use Rattle.cam_objects.specs.Soundness.{AreOnBoard, IsSoundDictionary, points_of
 use Rattle.cam_units.specs.Board.{IsOnBoard}
 use Rattle.cam_objects.proofs.BoardBoxes.{board_leaves}
 use Rattle.cam_objects.proofs.BoxLimits.{IsBoxWithin, within_near, within_uncrossed}
-use Rattle.cam_objects.proofs.CopyBoxes.{all_flat, repeat_box}
+use Rattle.cam_objects.proofs.CopyBoxes.{all_flat, column_box, repeat_box}
 use Rattle.cam_objects.proofs.Dictionaries.{whole}
 use Rattle.cam_objects.proofs.CoveredBoxes.{outside_box}
 use Rattle.cam_objects.proofs.Painting.{All_left, meaning-at}
 use Rattle.cam_objects.proofs.PlacedBoxes.{flash_placed}
-use Rattle.cam_objects.proofs.PlacedJoins.{placed_nowhere}
+use Rattle.cam_objects.proofs.PlacedJoins.{join_moved, moved_twice, placed_nowhere}
 use Rattle.cam_objects.proofs.PlacedShapes.{shapes_so, stroke, sweep}
 use Rattle.cam_objects.proofs.SizedLeaves.{block_sized, bounds_within, leaves_within, meaning_sized, reach}
 
@@ -108,16 +108,53 @@ module _ (es : List (ℕ × Entry)) (sound : IsSoundDictionary es) (objects : Li
   one_less : (n : ℕ) → n ≡ suc n - 1
   one_less n = omega arith
 
-  pub bounded_repeat : (columns rows : ℕ) (i j : ℤ) → 1 < columns * rows
+  -- the box of a column is that of its first copy joined with its last
+  column_bounds : (dx : ℤ) (rows : ℕ) (j : ℤ) → 0 < rows
+      → bounds_of (column_leaves (meaning_in es) dx rows j objects)
+      ≡ join_of (moved (record { x = dx; y = pos 0 }) (bounds_of leaves))
+      (moved (record { x = dx; y = pos (rows - 1) *ℤ j }) (bounds_of leaves))
+  column_bounds dx zero j h = absurd (omega arith)
+  column_bounds dx (suc rows) j h =
+      let across : Point = record { x = dx; y = pos 0 } in
+      let up : Point = record { x = pos 0; y = pos rows *ℤ j } in
+      column_box box_of_shape shapes_so (reverse es) objects (clear_leaves leaves sized board) dx rows j
+      ∙ join_moved across (bounds_of leaves) (moved up (bounds_of leaves))
+      ∙ ap (join_of (moved across (bounds_of leaves))) (moved_twice across up (bounds_of leaves)
+      ∙ (λ k. moved (record { x = from_none dx k; y = to_none (pos (one_less rows k) *ℤ j) k }) (bounds_of leaves)))
+    where
+      from_none : (z : ℤ) → pos 0 +ℤ z ≡ z
+      from_none z = omega (arith, ints)
+
+      to_none : (z : ℤ) → z +ℤ pos 0 ≡ z
+      to_none z = omega (arith, ints)
+
+  pub bounded_column : (dx : ℤ) (rows : ℕ) (j : ℤ) (first from to b : Bounds) → 0 < rows → first ≡ bounds_of leaves
+      → from ≡ moved (record { x = dx; y = pos 0 }) first → to ≡ moved (record { x = dx; y = pos (rows - 1) *ℤ j }) first
+      → b ≡ join_of from to → b ≡ bounds_of (column_leaves (meaning_in es) dx rows j objects)
+  bounded_column dx rows j first from to b some is here there box =
+      let across : Point = record { x = dx; y = pos 0 } in
+      let far : Point = record { x = dx; y = pos (rows - 1) *ℤ j } in
+      let low : from ≡ moved across (bounds_of leaves) = here ∙ ap (moved across) is in
+      let high : to ≡ moved far (bounds_of leaves) = there ∙ ap (moved far) is in
+      box ∙ (λ k. join_of (low k) (high k)) ∙ sym (column_bounds dx rows j some)
+
+  repeat_bounds : (columns rows : ℕ) (i j : ℤ) → 0 < columns * rows
       → bounds_of (repeat_leaves (meaning_in es) columns rows i j objects) ≡ join_of (bounds_of leaves) (moved (last_copy columns rows i j) (bounds_of leaves))
-  bounded_repeat zero rows i j h = absurd (omega arith)
-  bounded_repeat (suc columns) zero i j h = absurd (omega arith)
-  bounded_repeat (suc columns) (suc rows) i j h =
+  repeat_bounds zero rows i j h = absurd (omega arith)
+  repeat_bounds (suc columns) zero i j h = absurd (omega arith)
+  repeat_bounds (suc columns) (suc rows) i j h =
       repeat_box box_of_shape shapes_so (reverse es) objects (clear_leaves leaves sized board) columns rows i j
       ∙ (λ k. join_of (bounds_of leaves) (moved (record { x = pos (one_less columns k) *ℤ i; y = pos (one_less rows k) *ℤ j }) (bounds_of leaves)))
 
+  pub bounded_repeat : (columns rows : ℕ) (i j : ℤ) (first b : Bounds) → 0 < columns * rows → first ≡ bounds_of leaves
+      → b ≡ join_of first (moved (last_copy columns rows i j) first)
+      → b ≡ bounds_of (repeat_leaves (meaning_in es) columns rows i j objects)
+  bounded_repeat columns rows i j first b some is box =
+      let last : Point = last_copy columns rows i j in
+      box ∙ (λ k. join_of (is k) (moved last (is k))) ∙ sym (repeat_bounds columns rows i j some)
+
 -- the first copy lies on the board with the others
-pub first_on_board : (means : ℕ → Meaning) (columns rows : ℕ) (i j : ℤ) (objects : List Object) → 1 < columns * rows
+pub first_on_board : (means : ℕ → Meaning) (columns rows : ℕ) (i j : ℤ) (objects : List Object) → 0 < columns * rows
     → AreOnBoard (repeat_leaves means columns rows i j objects) → AreOnBoard (block_leaves means origin objects)
 first_on_board means zero rows i j objects h board = absurd (omega arith)
 first_on_board means (suc columns) zero i j objects h board = absurd (omega arith)
@@ -136,13 +173,17 @@ pub refuted : (b : Bool) → IsTrue (not b) → IsTrue b → ⊥
 refuted true other h = absurd (false≢true other)
 refuted false other h = absurd (false≢true h)
 
--- a place outside the placed box of a flash is covered by none of its leaves
+-- the placed box of a flash is that of its leaves
+pub flash_box : (es : List (ℕ × Entry)) (n : ℕ) (p : Place) (f : Facts) (b : Bounds) → f ≡ facts_at es n → b ≡ placed_bounds p f.bounds
+    → b ≡ bounds_of ((meaning_in es n).flash p)
+flash_box es n p f b facts box =
+    box ∙ ap (λ (x : Facts). placed_bounds p x.bounds) facts ∙ sym (flash_placed box_of_shape shapes_so (reverse es) n p)
+
+-- a place outside it is covered by none of them
 pub missed : (es : List (ℕ × Entry)) (n : ℕ) (p : Place) (f : Facts) (b : Bounds) (s : Spot) → f ≡ facts_at es n → b ≡ placed_bounds p f.bounds
     → (Holds b s → ⊥) → IsUncovered ((meaning_in es n).flash p) s
 missed es n p f b s facts box out =
-    outside_box ((meaning_in es n).flash p) s
-    (subst (λ (x : Bounds). Holds x s → ⊥)
-    (box ∙ ap (λ (x : Facts). placed_bounds p x.bounds) facts ∙ sym (flash_placed box_of_shape shapes_so (reverse es) n p)) out)
+    outside_box ((meaning_in es n).flash p) s (subst (λ (x : Bounds). Holds x s → ⊥) (flash_box es n p f b facts box) out)
 
 -- an entry among the first ones means what it does among all
 pub meaning_among : (es : List (ℕ × Entry)) (i upto n : ℕ) (e : Entry) → IsDistinct nat_eq (keys_of es) → slice_get es i ≡ Some (n, e) → i < upto → upto ≤ length es

@@ -103,9 +103,6 @@ near_found es n f sound is board =
 
 -- ---- a dictionary that grows
 
-pub within_kept : (es : Pairs) (fs : List Facts) (i n : ℕ) (e : Entry) → IsKept es fs → slice_get es i ≡ Some (n, e) → i < length fs
-within_kept es fs i n e kept found = omega (arith, kept.facts.many, slice_get_within es i (n, e) found)
-
 end_at : (es : Pairs) (k : ℕ) (n : ℕ) (e : Entry) → k < length (es ++ (n, e) ∷ []) → length es ≤ k → k ≡ length es
 end_at es k n e within past = omega (arith, length-append es ((n, e) ∷ []))
 

@@ -33,4 +33,6 @@ pub mod ItemBounds
 pub mod DrillBoxes
 pub mod MovedBounds
 pub mod CoveredBoxes
+pub mod Canvases
+pub mod PaintedLists
 pub mod Redraws

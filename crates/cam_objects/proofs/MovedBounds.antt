@@ -181,7 +181,7 @@ module _ (by : Point) where
   drill_moved (Some d) (Rout tool points) = rout_moved d points
 
 -- the leaves of an item are those with the diameter of its tool
-tool_leaves : (tools : List (ℕ × Nm)) (item : DrillItem)
+pub tool_leaves : (tools : List (ℕ × Nm)) (item : DrillItem)
     → drill_item_leaves tools item ≡ leaves_with (diameter_of tools (tool_of item)) item
 tool_leaves tools (Hit tool at) = refl
 tool_leaves tools (Rout tool points) = refl

@@ -157,12 +157,12 @@ filled_placeable means p contour dark offset stands board =
 
 -- ---- copies
 
-take-range : (k n a : ℕ) → k ≤ n → take k (range_with_len a n) ≡ range_with_len a k
+pub take-range : (k n a : ℕ) → k ≤ n → take k (range_with_len a n) ≡ range_with_len a k
 take-range zero n a h = refl
 take-range (suc k) zero a h = absurd (omega arith)
 take-range (suc k) (suc n) a h = ap (λ xs. a ∷ xs) (take-range k n (a + 1) (omega arith))
 
-at_range : (i n : ℕ) → i < n → i ≡ get_or (range_with_len 0 n) i i
+pub at_range : (i n : ℕ) → i < n → i ≡ get_or (range_with_len 0 n) i i
 at_range i n h = sym (get_or-range_with_len 0 n i i h ∙ zero-add i)
 
 -- the copy at i paints the place
@@ -193,7 +193,7 @@ ready_copy es s f n i h ready =
     let len = length-range_with_len 0 n in
     ready_piece es s f (range_with_len 0 n) i i (omega arith) (at_range i n h) ready
 
-pub paintable_copy : (es : List (ℕ × Entry)) (k : ℕ) (s : Spot) (dx dy : ℤ) (leaves : List Leaf) → k ≡ length es → unsigned_abs dx < 2 ^ 53 → unsigned_abs dy < 2 ^ 53 → IsReady es s leaves → IsPaintable es k (k + 1) (shifted dx dy) s leaves
+paintable_copy : (es : List (ℕ × Entry)) (k : ℕ) (s : Spot) (dx dy : ℤ) (leaves : List Leaf) → k ≡ length es → unsigned_abs dx < 2 ^ 53 → unsigned_abs dy < 2 ^ 53 → IsReady es s leaves → IsPaintable es k (k + 1) (shifted dx dy) s leaves
 paintable_copy es k s dx dy leaves e x y ready = record {
   within = omega arith;
   sound = ready.sound;
@@ -205,6 +205,15 @@ paintable_copy es k s dx dy leaves e x y ready = record {
 -- at the layer's own level every entry counts
 pub meaning_whole : (es : List (ℕ × Entry)) (k : ℕ) → k ≡ length es → meaning_before k es ≡ meaning_in es
 meaning_whole es k e = ap (λ (xs : List (ℕ × Entry)). meaning_in xs) (ap (λ j. take j es) e ∙ whole es)
+
+-- where leaves are painted at that level, shifted, they may be painted with the entries so counted
+pub paintable_whole : (es : List (ℕ × Entry)) (k : ℕ) (s : Spot) (dx dy : ℤ) (p : Place) (leaves : (ℕ → Meaning) → Place → List Leaf)
+    → k ≡ length es → p ≡ shifted dx dy → unsigned_abs dx < 2 ^ 53 → unsigned_abs dy < 2 ^ 53
+    → IsReady es s (leaves (meaning_in es) (shifted dx dy)) → IsPaintable es k (k + 1) p s (leaves (meaning_before k es) p)
+paintable_whole es k s dx dy p leaves all place x y ready =
+    subst (λ q. IsPaintable es k (k + 1) q s (leaves (meaning_before k es) q)) (sym place)
+    (subst (λ means. IsPaintable es k (k + 1) (shifted dx dy) s (leaves means (shifted dx dy))) (sym (meaning_whole es k all))
+    (paintable_copy es k s dx dy (leaves (meaning_in es) (shifted dx dy)) all x y ready))
 
 pub copy_inked : (s : Spot) (f : ℕ → List Leaf) (i j : ℕ) (ink : Option Bool) → i + 1 ≡ j → is_some ink ≡ true → Inks (f i) s ink → Inks (flat_map f (range_with_len 0 j)) s ink
 copy_inked s f i j None one some inks = cc

@@ -93,3 +93,29 @@ placeable t o c offset h k = record {
       (All-tail IsOnBoard c.start (flat_map points_of_seg c.segs) h)
       (All-tail IsOnBoard (placed_point t o c.start) (flat_map points_of_seg (map (placed_seg t o) c.segs)) k);
 }
+
+-- its points stand on the board
+standing_segs : (t : Turn) (o : Point) (segs : List Seg) → All (IsPlaceableSeg t o) segs → All IsOnBoard (flat_map points_of_seg segs)
+standing_segs t o [] h = All-nil IsOnBoard
+standing_segs t o (Line to ∷ segs) h =
+    let here : IsPlaceableSeg t o (Line to) = All-head (IsPlaceableSeg t o) (Line to) segs h in
+    All-cons IsOnBoard to (flat_map points_of_seg segs) here.here
+    (standing_segs t o segs (All-tail (IsPlaceableSeg t o) (Line to) segs h))
+standing_segs t o (Curve to centre ccw ∷ segs) h =
+    let here : IsPlaceableSeg t o (Curve to centre ccw) = All-head (IsPlaceableSeg t o) (Curve to centre ccw) segs h in
+    All-cons IsOnBoard to (centre ∷ flat_map points_of_seg segs) here.0.here
+    (All-cons IsOnBoard centre (flat_map points_of_seg segs) here.1.here
+    (standing_segs t o segs (All-tail (IsPlaceableSeg t o) (Curve to centre ccw) segs h)))
+
+pub standing : (t : Turn) (o : Point) (c : Contour) → IsPlaceable t o c → All IsOnBoard (points_of_contour c)
+standing t o c h = All-cons IsOnBoard c.start (flat_map points_of_seg c.segs) h.start.here (standing_segs t o c.segs h.segs)
+
+-- and its offset is no farther than the board is wide
+board_offset : (a o : ℤ) → unsigned_abs a < 1000000000 → unsigned_abs (a +ℤ o) < 1000000000 → unsigned_abs o < 4500000000000000000
+board_offset a o h k = omega (arith, ints)
+
+pub contour_offset : (t : Turn) (o : Point) (c : Contour) → IsPlaceable t o c → IsBoxOffset o
+contour_offset t o c h =
+    let p = applied (matrix_of t) c.start in
+    let turned = turned_on_board t c.start h.start.here in
+    record { x = board_offset p.x o.x turned.x h.start.there.x; y = board_offset p.y o.y turned.y h.start.there.y }

@@ -33,7 +33,7 @@ abbrev IsOff : Spot → Leaf → Type 0
 IsOff s l = Covers l.shape s → ⊥
 
 -- ink that no leaf covers stays
-painted_off : (ink : Bool) (ls : List Leaf) (s : Spot) → IsUncovered ls s → painted ink ls s ≡ ink
+pub painted_off : (ink : Bool) (ls : List Leaf) (s : Spot) → IsUncovered ls s → painted ink ls s ≡ ink
 painted_off ink [] s h = refl
 painted_off ink (l ∷ ls) s h =
     let here : covers l.shape s ≡ false =
@@ -41,7 +41,7 @@ painted_off ink (l ∷ ls) s h =
     painted_off (cond (covers l.shape s) l.dark ink) ls s (All-tail (IsOff s) l ls h)
     ∙ ap (λ b. cond b l.dark ink) here
 
-painted-append : (ink : Bool) (a b : List Leaf) (s : Spot) → painted ink (a ++ b) s ≡ painted (painted ink a s) b s
+pub painted-append : (ink : Bool) (a b : List Leaf) (s : Spot) → painted ink (a ++ b) s ≡ painted (painted ink a s) b s
 painted-append ink [] b s = refl
 painted-append ink (l ∷ a) b s = painted-append (cond (covers l.shape s) l.dark ink) a b s
 

@@ -8,6 +8,7 @@ pub mod Soundness
 pub mod DrillSoundness
 pub mod Machinery
 pub mod Bounds
+pub mod Canvases
 pub mod Tests
 pub mod Demands
 pub mod Contents

@@ -2,10 +2,13 @@
 
 ghost use Rattle.std.specs.Prelude.{◌≡◌, ◌*◌, ◌<◌, ◌-◌, ◌≤◌, ◌*ℤ◌, ◌+ℤ◌, ◌↔◌, IsTrue, pos};
 ghost use Rattle.std.specs.Int.RustNames.{unsigned_abs};
-ghost use Rattle.cam_objects.specs.Machinery.Boxes.{IsBoxOffset};
+ghost use Rattle.cam_units.specs.Boxes.{join_of};
+ghost use Rattle.cam_objects.specs.Bounds.{moved};
+ghost use Rattle.cam_objects.specs.Machinery.Boxes.{IsBoxOffset, IsNearBox};
 ghost use Rattle.cam_objects.specs.Machinery.Inside.{last_copy};
 
-use cam_units::Point;
+use crate::bounds::moved;
+use cam_units::{Bounds, Point};
 
 /// How many columns and rows of copies a repeat has, and the steps from one to the next, in nm.
 #[derive(Clone, Copy, Debug, PartialEq, Eq)]
@@ -33,7 +36,7 @@ impl Copies {
 
     /// Where the last copy lies, beside the first.
     pub(crate) fn last(&self) -> Point
-        requires copies { 1 < self.now.columns * self.now.rows }
+        requires copies { 0 < self.now.columns * self.now.rows }
         requires across { unsigned_abs self.now.i < 1000000000 }
         requires up { unsigned_abs self.now.j < 1000000000 }
         ensures value { result ≡ last_copy self.now.columns self.now.rows self.now.i self.now.j }
@@ -43,6 +46,18 @@ impl Copies {
             x: last_step(self.columns, self.i),
             y: last_step(self.rows, self.j),
         }
+    }
+
+    /// The box of all copies of what has this box: that of the first, joined with the last.
+    pub(crate) fn bounds(&self, first: Bounds) -> Bounds
+        requires copies { 0 < self.now.columns * self.now.rows }
+        requires across { unsigned_abs self.now.i < 1000000000 }
+        requires up { unsigned_abs self.now.j < 1000000000 }
+        requires first { IsNearBox first }
+        ensures { result ≡ join_of first
+            (moved (last_copy self.now.columns self.now.rows self.now.i self.now.j) first) }
+    {
+        first.joined(moved(first, self.last()))
     }
 }
 

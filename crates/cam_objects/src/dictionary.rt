@@ -82,6 +82,23 @@ impl Dictionary {
         }
     }
 
+    /// The place of a number in the order, counted from 0, its entry, and what is kept of it.
+    pub(crate) fn find_with_facts(&self, number: u32) -> Option<(usize, &Entry, &Facts)>
+        ensures found { IfSome result (λ r. slice_get self.now r.0 ≡ Some (number, r.1.now)) }
+        ensures value { IfSome result (λ r. r.2.now ≡ facts_at self.now number) }
+        ensures few { IfSome result (λ r. r.2.now.leaves ≤ 4000000) }
+        ensures shallow { IfSome result (λ r. r.2.now.depth ≤ 8) }
+        ensures near { IfSome result (λ r. IsBoxOnBoard r.2.now.points) }
+        ensures reach { IfSome result (λ r. IsNearBox r.2.now.bounds) }
+        ensures absent { IfNone result (lookup (nat_eq number) self.now ≡ None) }
+        ensures distinct { IsDistinct nat_eq (keys_of self.now) }
+    {
+        match self.find(number) {
+            Some((place, entry)) => Some((place, entry, &self.facts[place])),
+            None => None,
+        }
+    }
+
     /// The number and the entry at a place in the order, counted from 0.
     pub fn at(&self, place: usize) -> Option<(u32, &Entry)>
         ensures found { IfSome result (λ r. slice_get self.now place ≡ Some (r.0, r.1.now)) }
@@ -101,8 +118,8 @@ impl Dictionary {
         ensures near { IsBoxOnBoard result.points }
         ensures reach { IsNearBox result.bounds }
     {
-        match self.find(number) {
-            Some((place, _)) => self.facts[place],
+        match self.find_with_facts(number) {
+            Some((_, _, facts)) => *facts,
             None => Facts::none(),
         }
     }

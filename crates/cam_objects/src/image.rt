@@ -13,10 +13,11 @@ use crate::copies::Copies;
 use crate::dictionary::Dictionary;
 use crate::entry::Entry;
 use crate::item::Item;
-use crate::item_bounds::{is_missed, is_repeat_missed};
+use crate::item_bounds::is_repeat_missed;
 use crate::leaf::{filled_ink, solid_diameter, stamp_ink, stroke_ink, sweep_ink};
 use crate::object::Object;
 use crate::place::Place;
+use cam_apertures::has_place;
 use cam_shapes::Arc;
 use cam_units::{Nm, Spot};
 
@@ -32,7 +33,7 @@ fn flash_ink(
     requires { IsPaintable entries.now upto upto place.now spot (flash_leaves upto entries.now number place.now) }
     ensures { Inks (flash_leaves upto entries.now number place.now) spot result }
 {
-    let (at, entry) = match entries.find(number) {
+    let (at, entry, facts) = match entries.find_with_facts(number) {
         Some(found) => found,
         None => return None,
     };
@@ -42,7 +43,8 @@ fn flash_ink(
     match entry {
         Entry::Aperture(aperture) => stamp_ink(aperture, place, spot),
         Entry::Block(objects) => {
-            if is_missed(entries, number, place, spot) {
+            let bounds = place.bounds(facts.bounds);
+            if !has_place(bounds, spot) {
                 return None;
             }
             block_ink(entries, at, objects.as_slice(), place, spot)
@@ -176,7 +178,7 @@ fn column_ink(
 }
 
 /// So many steps, in nm.
-fn steps(count: u32, step: i64) -> i64
+pub(crate) fn steps(count: u32, step: i64) -> i64
     requires count { count ≤ 4000000 }
     requires step { unsigned_abs step < 1000000000 }
     ensures value { result ≡ pos count *ℤ step }

@@ -4,7 +4,7 @@ ghost use Rattle.std.specs.Prelude.{◌≡◌, ◌*◌, ◌<◌, All, IsTrue, So
 ghost use Rattle.cam_objects.specs.Bounds.{bounds_of};
 ghost use Rattle.cam_objects.specs.Image.{IsUncovered};
 ghost use Rattle.cam_objects.specs.Leaves.{block_leaves, item_leaves, meaning_in, object_leaves, origin, repeat_leaves};
-ghost use Rattle.cam_objects.specs.Machinery.Boxes.{IsBoxOffset, IsBoxedRepeat};
+ghost use Rattle.cam_objects.specs.Machinery.Boxes.{IsBoxedRepeat, IsNearBox};
 ghost use Rattle.cam_objects.specs.Machinery.Painting.{StandsOnBoard};
 ghost use Rattle.cam_objects.specs.Shifting.{IsMove, shifted_item};
 ghost use Rattle.cam_objects.specs.Soundness.{AreOnBoard, IsSound, IsSoundDictionary, IsSoundItem, MeetsItem};
@@ -78,7 +78,8 @@ pub(crate) fn object_bounds(entries: &Dictionary, object: &Object) -> Bounds
 pub(crate) fn block_bounds(entries: &Dictionary, objects: &[Object]) -> Bounds
     requires stands { All StandsOnBoard objects.now }
     requires board { AreOnBoard (block_leaves (meaning_in entries.now) origin objects.now) }
-    ensures { result ≡ bounds_of (block_leaves (meaning_in entries.now) origin objects.now) }
+    ensures value { result ≡ bounds_of (block_leaves (meaning_in entries.now) origin objects.now) }
+    ensures near { IsNearBox result }
 {
     entries.soundness();
     let mut all = Bounds::Empty;
@@ -88,17 +89,6 @@ pub(crate) fn block_bounds(entries: &Dictionary, objects: &[Object]) -> Bounds
     all
 }
 
-/// Whether the place lies outside the box of what a flash of the number paints there, so that no leaf of it needs to
-/// be asked.
-pub(crate) fn is_missed(entries: &Dictionary, number: u32, place: &Place, spot: Spot) -> bool
-    requires sound { IsSoundDictionary entries.now }
-    requires offset { IsBoxOffset place.now.offset }
-    ensures { IsTrue result → IsUncovered ((meaning_in entries.now number).flash place.now) spot }
-{
-    let bounds = place.bounds(entries.facts(number).bounds);
-    !has_place(bounds, spot)
-}
-
 /// The box of all copies of a repeat: that of the first, joined with the last.
 fn repeat_bounds(entries: &Dictionary, copies: &Copies, objects: &[Object]) -> Bounds
     requires entries { IsSoundDictionary entries.now }
@@ -106,8 +96,7 @@ fn repeat_bounds(entries: &Dictionary, copies: &Copies, objects: &[Object]) -> B
     ensures { result ≡ bounds_of (repeat_leaves (meaning_in entries.now)
         copies.now.columns copies.now.rows copies.now.i copies.now.j objects.now) }
 {
-    let first = block_bounds(entries, objects);
-    first.joined(moved(first, copies.last()))
+    copies.bounds(block_bounds(entries, objects))
 }
 
 /// Whether the place lies outside the box of all copies of a repeat, so that none of them needs to be asked.

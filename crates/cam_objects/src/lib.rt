@@ -2,6 +2,7 @@
 #![tactic(auto)]
 
 mod bounds;
+mod canvas;
 mod checks;
 mod copies;
 mod demands;
@@ -11,6 +12,7 @@ mod drill_checks;
 mod drill_image;
 mod drill_item;
 mod drill_layer;
+mod drill_painting;
 mod entry;
 mod facts;
 mod image;
@@ -20,17 +22,21 @@ mod item_bounds;
 mod item_fault;
 mod laws;
 mod layer;
+mod layer_painting;
 mod leaf;
 mod limits;
 mod moving;
 mod object;
+mod object_painting;
 mod place;
 mod points;
+mod prints;
 mod shape_bounds;
 mod shifting;
 mod tools;
 
 pub use cam_shapes::{Contour, Seg, Segments};
+pub use canvas::{Canvas, Figure, Print};
 pub use dictionary::Dictionary;
 pub use drill_item::DrillItem;
 pub use drill_layer::DrillLayer;

@@ -1,5 +1,5 @@
 -- What the search for the last leaf asks of a place and of the leaves that are painted there.
-use Rattle.std.specs.Prelude.{ℕ, ◌+◌, ◌*◌, ◌^◌, ◌<◌, ◌≤◌, ℤ, List, length, reverse, take, All}
+use Rattle.std.specs.Prelude.{ℕ, ◌+◌, ◌*◌, ◌^◌, ◌<◌, ◌≤◌, ℤ, pos, List, length, reverse, take, All}
 use Rattle.std.specs.Int.RustNames.{unsigned_abs}
 use Rattle.cam_units.specs.Board.{IsOnBoard, IsPlace}
 use Rattle.cam_units.specs.declared.point.Spot.{Spot}
@@ -52,3 +52,14 @@ pub record IsCopied (n : ℕ) (step : ℤ) (objects : List Object) : Type 0 wher
 abbrev pub IsPaintableItem : Item → Type 0
 IsPaintableItem (One o) = StandsOnBoard o
 IsPaintableItem (Repeat columns rows i j objects) = IsCopied columns i objects × IsCopied rows j objects
+
+-- ---- where no one place is asked for
+
+abbrev pub middle : Spot
+middle = record { x = pos 0; y = pos 0 }
+
+abbrev pub IsPrintable : List (ℕ × Entry) → ℕ → ℕ → Place → List Leaf → Type 0
+IsPrintable entries upto n p leaves = IsPaintable entries upto n p middle leaves
+
+abbrev pub IsReadyToPrint : List (ℕ × Entry) → List Leaf → Type 0
+IsReadyToPrint entries leaves = IsReady entries middle leaves

@@ -1,4 +1,5 @@
 use Rattle.std.proofs.Common.{◌≡◌, ℕ, ◌+◌, ◌-◌, ◌<◌, List, length, take, ap, sym, subst, ◌∙◌, arith, slice_get, Some, None, get_or}
+use Rattle.std.proofs.lemmas.Bool.{false≢true}
 use Rattle.cam_objects.specs.declared.object.Object.{Object}
 use Rattle.cam_objects.specs.declared.entry.Entry.{Entry}
 use Rattle.cam_objects.specs.declared.entry.Entry.TheVariants.{Aperture, Block}
@@ -8,7 +9,7 @@ use Rattle.cam_objects.specs.Leaves.{Leaf, Meaning, block_leaves, object_leaves}
 use Rattle.cam_objects.specs.Machinery.Painting.{HasReach, IsPaintable, StandsOnBoard, flash_leaves, meaning_before}
 use Rattle.cam_objects.specs.Soundness.{AreOnBoard}
 use Rattle.cam_objects.proofs.Inking.{decided_ink, no_ink, uncovered_nil, undecided}
-use Rattle.cam_objects.proofs.ItemBounds.{meaning_among}
+use Rattle.cam_objects.proofs.ItemBounds.{meaning_among, missed}
 use Rattle.cam_objects.proofs.Painting.{aperture_sound, block_stands, drawn_points, filled_placeable, meaning-absent, meaning-at, meaning-later, paintable_block, paintable_object, paintable_stamp, stands_at, swept_points}
 use Rattle.cam_objects.proofs.Placed.{reach_box, reach_flashed, reach_offset}
 use Rattle.cam_objects.proofs.image.+ink.Goals as goal
@@ -54,7 +55,7 @@ flash_ink-returns-in-None t c =
 pub flash_ink-returns-then-upto-at : goal.flash_ink-returns-then-upto-at
 flash_ink-returns-then-upto-at t c =
     subst (λ (m : Meaning). IsUncovered (m.flash c.args.place.now) c.args.spot)
-    (sym (meaning-later c.args.entries.now c.in-Some.found.0 c.args.upto c.args.number c.in-Some.found.1.now c.find.ensures.distinct c.in-Some.ensures.found c.if-upto-at.true)) (uncovered_nil c.args.spot)
+    (sym (meaning-later c.args.entries.now c.in-Some.found.0 c.args.upto c.args.number c.in-Some.found.1.now c.find_with_facts.ensures.distinct c.in-Some.ensures.found c.if-upto-at.true)) (uncovered_nil c.args.spot)
 
 pub flash_ink-stamp_ink-requires-clause-aperture : goal.flash_ink-stamp_ink-requires-clause-aperture
 flash_ink-stamp_ink-requires-clause-aperture t c =
@@ -64,7 +65,7 @@ flash_ink-stamp_ink-requires-clause-aperture t c =
 pub flash_ink-stamp_ink-requires-clause-at : goal.flash_ink-stamp_ink-requires-clause-at
 flash_ink-stamp_ink-requires-clause-at t c =
     let at : slice_get c.args.entries.now c.in-Some.found.0 ≡ Some (c.args.number, Aperture c.in-Aperture.aperture) = c.in-Some.ensures.found ∙ ap (λ (e : Entry). Some (c.args.number, e)) c.in-Aperture.is in
-    paintable_stamp c.args.entries.now c.args.upto c.in-Some.found.0 c.args.number c.in-Aperture.aperture c.args.place.now c.args.spot c.find.ensures.distinct at (omega arith) c.requires
+    paintable_stamp c.args.entries.now c.args.upto c.in-Some.found.0 c.args.number c.in-Aperture.aperture c.args.place.now c.args.spot c.find_with_facts.ensures.distinct at (omega arith) c.requires
 
 pub flash_ink-block_ink-requires : goal.flash_ink-block_ink-requires
 flash_ink-block_ink-requires t c =
@@ -74,7 +75,7 @@ flash_ink-block_ink-requires t c =
       (
         subst (λ (os : List Object). (k : ℕ) (d : Object) → k < length os → StandsOnBoard (get_or os k d)) same (block_stands c.args.entries.now c.in-Some.found.0 c.args.number c.in-Block.objects at c.requires.sound),
         subst (λ (os : List Object). IsPaintable c.args.entries.now c.in-Some.found.0 (c.in-Some.found.0 + 1) c.args.place.now c.args.spot (block_leaves (meaning_before c.in-Some.found.0 c.args.entries.now) c.args.place.now os)) same
-            (paintable_block c.args.entries.now c.args.upto c.in-Some.found.0 c.args.number c.in-Block.objects c.args.place.now c.args.spot c.find.ensures.distinct at (omega arith) c.requires),
+            (paintable_block c.args.entries.now c.args.upto c.in-Some.found.0 c.args.number c.in-Block.objects c.args.place.now c.args.spot c.find_with_facts.ensures.distinct at (omega arith) c.requires),
       ),
     )
 
@@ -82,14 +83,14 @@ pub flash_ink-returns-in-Aperture : goal.flash_ink-returns-in-Aperture
 flash_ink-returns-in-Aperture t c =
     let at : slice_get c.args.entries.now c.in-Some.found.0 ≡ Some (c.args.number, Aperture c.in-Aperture.aperture) = c.in-Some.ensures.found ∙ ap (λ (e : Entry). Some (c.args.number, e)) c.in-Aperture.is in
     subst (λ (m : Meaning). Inks (m.flash c.args.place.now) c.args.spot c.stamp_ink.result)
-    (sym (meaning-at c.args.entries.now c.in-Some.found.0 c.args.upto c.args.number (Aperture c.in-Aperture.aperture) c.find.ensures.distinct at (omega arith) c.requires.within))
+    (sym (meaning-at c.args.entries.now c.in-Some.found.0 c.args.upto c.args.number (Aperture c.in-Aperture.aperture) c.find_with_facts.ensures.distinct at (omega arith) c.requires.within))
     c.stamp_ink.ensures
 
-pub flash_ink-returns-else-is_missed : goal.flash_ink-returns-else-is_missed
-flash_ink-returns-else-is_missed t c =
+pub flash_ink-returns-else-not-has_place : goal.flash_ink-returns-else-not-has_place
+flash_ink-returns-else-not-has_place t c =
     let at : slice_get c.args.entries.now c.in-Some.found.0 ≡ Some (c.args.number, Block c.in-Block.objects) = c.in-Some.ensures.found ∙ ap (λ (e : Entry). Some (c.args.number, e)) c.in-Block.is in
     subst (λ (m : Meaning). Inks (m.flash c.args.place.now) c.args.spot c.block_ink.result)
-    (sym (meaning-at c.args.entries.now c.in-Some.found.0 c.args.upto c.args.number (Block c.in-Block.objects) c.find.ensures.distinct at (omega arith) c.requires.within))
+    (sym (meaning-at c.args.entries.now c.in-Some.found.0 c.args.upto c.args.number (Block c.in-Block.objects) c.find_with_facts.ensures.distinct at (omega arith) c.requires.within))
     (subst (λ (os : List Object). Inks (block_leaves (meaning_before c.in-Some.found.0 c.args.entries.now) c.args.place.now os) c.args.spot c.block_ink.result) c.as_slice.ensures c.block_ink.ensures)
 
 pub object_ink-flashed-inner-requires-clause-offset : goal.object_ink-flashed-inner-requires-clause-offset
@@ -164,11 +165,15 @@ object_ink-returns-in-Flash t c =
     subst (λ (o : Object). Inks (object_leaves means c.args.place.now o) c.args.spot c.flash_ink.result) (sym c.in-Flash.is)
     (subst (λ (q : Place). Inks (flash_leaves c.args.upto c.args.entries.now c.in-Flash.aperture q) c.args.spot c.flash_ink.result) c.flashed-inner.ensures c.flash_ink.ensures)
 
-pub flash_ink-is_missed-requires-clause-offset : goal.flash_ink-is_missed-requires-clause-offset
-flash_ink-is_missed-requires-clause-offset t c = reach_box c.args.upto c.args.place.now c.requires.reach
+pub flash_ink-bounds-bounds-requires-clause-offset : goal.flash_ink-bounds-bounds-requires-clause-offset
+flash_ink-bounds-bounds-requires-clause-offset t c = reach_box c.args.upto c.args.place.now c.requires.reach
 
-pub flash_ink-returns-then-is_missed : goal.flash_ink-returns-then-is_missed
-flash_ink-returns-then-is_missed t c =
-    subst (λ (m : Meaning). IsUncovered (m.flash c.args.place.now) c.args.spot)
-    (sym (meaning_among c.args.entries.now c.in-Some.found.0 c.args.upto c.args.number c.in-Some.found.1.now c.find.ensures.distinct c.in-Some.ensures.found (omega arith) c.requires.within))
-    (c.is_missed.ensures c.if-is_missed.true)
+pub flash_ink-returns-then-not-has_place : goal.flash_ink-returns-then-not-has_place
+flash_ink-returns-then-not-has_place t c =
+    let es = c.args.entries.now in
+    let p = c.args.place.now in
+    let found = c.in-Some.found in
+    let among = meaning_among es found.0 c.args.upto c.args.number found.1.now c.find_with_facts.ensures.distinct c.in-Some.ensures.found (omega arith) c.requires.within in
+    subst (λ (m : Meaning). IsUncovered (m.flash p) c.args.spot) (sym among)
+    (missed es c.args.number p found.2.now c.bounds-bounds.result c.args.spot c.in-Some.ensures.value c.bounds-bounds.ensures
+    (λ held. false≢true (sym c.if-not-has_place.true ∙ c.has_place.ensures.1 held)))

@@ -1,12 +1,12 @@
-use Rattle.std.proofs.Common.{rules, ◌≡◌, ℕ, ℤ, pos, ◌+◌, ◌-◌, ◌*ℤ◌, List, sym, ap, subst, ◌∙◌, arith, FitsSigned, w64, None}
+use Rattle.std.proofs.Common.{rules, ◌≡◌, ℕ, ℤ, pos, ◌-◌, ◌*ℤ◌, List, sym, ap, subst, ◌∙◌, arith, FitsSigned, w64, None}
 use Rattle.std.proofs.lemmas.Int.{to_z-of_z}
 use Rattle.cam_objects.specs.declared.object.Object.{Object}
 use Rattle.cam_objects.specs.declared.place.Place.{Place}
 use Rattle.cam_objects.specs.Image.{Inks, IsUncovered}
 use Rattle.cam_objects.specs.Leaves.{Leaf, Meaning, block_leaves, column_leaves, meaning_in, shifted}
-use Rattle.cam_objects.specs.Machinery.Painting.{IsPaintable, IsReady, meaning_before}
+use Rattle.cam_objects.specs.Machinery.Painting.{IsReady, meaning_before}
 use Rattle.cam_objects.proofs.Inking.{no_ink, uncovered_nil}
-use Rattle.cam_objects.proofs.Painting.{copy_inked, copy_undecided, meaning_whole, paintable_copy, ready_copy}
+use Rattle.cam_objects.proofs.Painting.{copy_inked, copy_undecided, meaning_whole, paintable_whole, ready_copy}
 use Rattle.cam_objects.proofs.image.column_ink.Goals as goal
 
 -- the leaves of the copy, as the call has them and as the column does
@@ -26,9 +26,8 @@ block_ink-ink-requires-clause-ready c =
     let f : ℕ → List Leaf = λ r. block_leaves means (shifted c.args.dx (pos r *ℤ c.args.j)) c.args.objects.now in
     let piece = ready_copy c.args.entries.now c.args.spot f c.args.rows (c.loop-r.r - 1) (omega arith) c.requires.ready in
     let here = subst (λ (dy : ℤ). IsReady c.args.entries.now c.args.spot (block_leaves means (shifted c.args.dx dy) c.args.objects.now)) (sym step) piece in
-    let base = paintable_copy c.args.entries.now c.len.result c.args.spot c.args.dx c.steps.result (block_leaves means (shifted c.args.dx c.steps.result) c.args.objects.now) c.len.ensures.value c.requires.near c.steps.ensures.near here in
-    let named = subst (λ (m : ℕ → Meaning). IsPaintable c.args.entries.now c.len.result (c.len.result + 1) (shifted c.args.dx c.steps.result) c.args.spot (block_leaves m (shifted c.args.dx c.steps.result) c.args.objects.now)) (sym (meaning_whole c.args.entries.now c.len.result c.len.ensures.value)) base in
-    subst (λ (q : Place). IsPaintable c.args.entries.now c.len.result (c.len.result + 1) q c.args.spot (block_leaves (meaning_before c.len.result c.args.entries.now) q c.args.objects.now)) (sym place) named
+    paintable_whole c.args.entries.now c.len.result c.args.spot c.args.dx c.steps.result c.shifted-place.result
+    (λ means p. block_leaves means p c.args.objects.now) c.len.ensures.value place c.requires.near c.steps.ensures.near here
 
 pub returns-then-is_some : goal.returns-then-is_some
 returns-then-is_some c =

@@ -1,4 +1,4 @@
-use Rattle.std.proofs.Common.{ℕ, ◌+◌, List, pos, lit<, sym, subst, arith, FitsSigned, w64}
+use Rattle.std.proofs.Common.{ℕ, List, pos, lit<, sym, subst, arith, FitsSigned, w64}
 use Rattle.std.proofs.lemmas.Int.{fits_signed_from_abs, to_z-of_z}
 use Rattle.cam_objects.specs.declared.item.Item.{Item}
 use Rattle.cam_objects.specs.declared.item.Item.TheVariants.{Repeat}
@@ -7,8 +7,8 @@ use Rattle.cam_objects.specs.declared.place.Place.{Place}
 use Rattle.cam_objects.specs.Image.{Inks, IsUncovered}
 use Rattle.cam_objects.specs.Leaves.{Meaning, item_leaves, meaning_in, object_leaves, origin, repeat_leaves}
 use Rattle.cam_objects.specs.Machinery.Boxes.{IsBoxedRepeat}
-use Rattle.cam_objects.specs.Machinery.Painting.{IsPaintable, IsPaintableItem, IsReady, meaning_before}
-use Rattle.cam_objects.proofs.Painting.{meaning_whole, paintable_copy}
+use Rattle.cam_objects.specs.Machinery.Painting.{IsPaintableItem, IsReady, meaning_before}
+use Rattle.cam_objects.proofs.Painting.{meaning_whole, paintable_whole}
 use Rattle.cam_objects.proofs.image.item_ink.Goals as goal
 
 pub object_ink-requires-clause-ready : goal.object_ink-requires-clause-ready
@@ -17,9 +17,8 @@ object_ink-requires-clause-ready c =
     let o = c.in-One.object in
     let means = meaning_in c.args.entries.now in
     let here = subst (λ (item : Item). IsReady c.args.entries.now c.args.spot (item_leaves means item)) c.in-One.is c.requires.ready in
-    let base = paintable_copy c.args.entries.now n c.args.spot (pos 0) (pos 0) (object_leaves means origin o) c.len.ensures.value (lit< tt) (lit< tt) here in
-    let named = subst (λ (m : ℕ → Meaning). IsPaintable c.args.entries.now n (n + 1) origin c.args.spot (object_leaves m origin o)) (sym (meaning_whole c.args.entries.now n c.len.ensures.value)) base in
-    subst (λ (q : Place). IsPaintable c.args.entries.now n (n + 1) q c.args.spot (object_leaves (meaning_before n c.args.entries.now) q o)) (sym c.shifted.ensures) named
+    paintable_whole c.args.entries.now n c.args.spot (pos 0) (pos 0) c.shifted.result (λ means p. object_leaves means p o)
+    c.len.ensures.value c.shifted.ensures (lit< tt) (lit< tt) here
 
 pub returns-in-One : goal.returns-in-One
 returns-in-One c =

@@ -27,4 +27,4 @@ block_bounds-requires c =
 pub returns-in-Block : goal.returns-in-Block
 returns-in-Block c =
     block_facts c.args.entries.now c.args.entry.now c.in-Block.objects c.as_slice-objects.result.now c.leaf_count.result c.depth.result c.painted_boxes.result c.block_bounds.result
-    c.in-Block.is c.as_slice-objects.ensures c.leaf_count.ensures.value c.depth.ensures.value c.painted_boxes.ensures c.block_bounds.ensures
+    c.in-Block.is c.as_slice-objects.ensures c.leaf_count.ensures.value c.depth.ensures.value c.painted_boxes.ensures c.block_bounds.ensures.value

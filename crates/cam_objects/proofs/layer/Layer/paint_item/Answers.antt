@@ -1,0 +1,30 @@
+use Rattle.std.proofs.Common.{lit<, sym, subst, ◌∙◌, arith}
+use Rattle.std.proofs.lemmas.Option.{get_or_from_slice_get}
+use Rattle.cam_objects.specs.declared.item.Item.{Item}
+use Rattle.cam_objects.specs.Canvases.{Paints}
+use Rattle.cam_objects.specs.Leaves.{item_leaves, meaning_in}
+use Rattle.cam_objects.specs.Machinery.Painting.{IsPaintableItem, middle}
+use Rattle.cam_objects.proofs.Painting.{ready_piece}
+use Rattle.cam_objects.proofs.SoundLayers.{paintable_items, ready_layer}
+use Rattle.cam_objects.proofs.layer.Layer.paint_item.Goals as goal
+
+pub paint_item-requires-clause-item : goal.paint_item-requires-clause-item
+paint_item-requires-clause-item g c =
+    let layer = c.args.self.now in
+    subst IsPaintableItem (sym c.index.ensures)
+    (paintable_items layer c.requires.sound _ c.index.result.now (omega arith))
+
+pub paint_item-requires-clause-ready : goal.paint_item-requires-clause-ready
+paint_item-requires-clause-ready g c =
+    let layer = c.args.self.now in
+    ready_piece layer.apertures middle (item_leaves (meaning_in layer.apertures)) layer.items.items _ c.index.result.now
+    (omega arith) c.index.ensures
+    (ready_layer layer middle c.requires.sound (record { x = lit< tt; y = lit< tt }))
+
+pub returns : goal.returns
+returns g c = λ item at.
+    let canvas = g.C.Canvas in
+    let layer = c.args.self.now in
+    let same = c.index.ensures ∙ get_or_from_slice_get layer.items.items c.args.place item c.index.result.now at in
+    subst (λ (x : Item). Paints canvas.has canvas.place canvas.ink c.args.canvas.now
+    (item_leaves (meaning_in layer.apertures) x) c.paint_item.new.canvas) same c.paint_item.ensures
