@@ -1,151 +1,131 @@
--- Bytes of a file out of a tile's rows: eight bits of a row the other way round, clear past the window's edge.
-use Rattle.std.proofs.Common.{◌≡◌, ℕ, zero, suc, ◌+◌, ◌*◌, ◌-◌, ◌/◌, ◌%◌, ◌^◌, ◌<◌, ◌≤◌, Bool, false, ◌&&◌}
-use Rattle.std.proofs.Common.{List, Some, None, slice_index, bit_and, nat_eq, nat_lt}
-use Rattle.std.proofs.Common.{refl, sym, ap, ◌∙◌, inl, inr, w8, shr-shr, arith}
-use Rattle.std.specs.Int.{bit_at, reverse_bits, reverse_bits_onto}
-use Rattle.std.proofs.lemmas.Bool.{cases_lt, lt-ltb, le-ltb}
+-- Bytes of a file out of the words of tiles: eight bits of a word the other way round, clear past the window's edge.
+use Rattle.std.proofs.Common.{◌≡◌, ◌↔◌, ℕ, ◌+◌, ◌*◌, ◌-◌, ◌/◌, ◌%◌, ◌^◌, ◌<◌, ◌≤◌, Bool, false, ◌&&◌, IsTrue}
+use Rattle.std.proofs.Common.{List, Some, None, option_map, unwrap_or, slice_index, slice_index_or, bit_and, nat_eq}
+use Rattle.std.proofs.Common.{min, refl, sym, subst, ap, ◌∙◌, inl, inr, shr-shr, arith}
+use Rattle.std.specs.Int.{IsBitSet, bit_at}
+use Rattle.std.proofs.lemmas.Bool.{cases_lt, eq-eqb, eqb-true, false≢true, lt-ltb, le-ltb}
 use Rattle.std.proofs.lemmas.Nat.{mul-le}
-use Rattle.std.proofs.lemmas.Nat.Bits.{bit_at-lt, bit_at_and, bit_at_ones}
-use Rattle.cam_tiles.specs.Pbm.{bit_of, byte_of, padded}
+use Rattle.std.proofs.lemmas.Nat.Bits.{same_from_bits_below}
+use Rattle.cam_rows.proofs.SetBits.{set_in_and, set_is_one, whole_run}
+use Rattle.cam_tiles.specs.Pbm.{byte_of, padded}
 use Rattle.cam_tiles.specs.Tables.{Table, Tile, is_pixel_black, tile_in}
 use Rattle.cam_tiles.specs.Tiles.{across, tile_of}
-use Rattle.cam_tiles.proofs.PbmLemmas.{bit_of-lt}
-use Rattle.cam_tiles.proofs.SameFiles.{same_byte}
-use Rattle.cam_tiles.proofs.TableFacts.{black_in_tile}
+use Rattle.cam_tiles.proofs.MaskWords.{bit_told}
+use Rattle.cam_tiles.proofs.PbmLemmas.{bit_at-byte_of, byte_of-lt}
+use Rattle.cam_tiles.proofs.TableFacts.{black_in_tile, tile_found}
+use Rattle.cam_tiles.proofs.TablePixels.{bit_in}
 
-bit_of_test : (n : ℕ) → n < 2 → bit_of (nat_eq n 1) ≡ n
-bit_of_test zero h = refl
-bit_of_test (suc zero) h = refl
-bit_of_test (suc (suc n)) h = absurd (omega arith)
+-- ---- the bytes of a word
 
--- bit i of a number in the i-th place from the left
-reversed : (n : ℕ) → reverse_bits w8 n ≡ byte_of (λ i. nat_eq (bit_at n i) 1)
-unfolding reverse_bits_onto byte_of
-reversed n =
-    omega (
-      arith,
-      bit_of_test (bit_at n 0) (bit_at-lt n 0),
-      bit_of_test (bit_at n 1) (bit_at-lt n 1),
-      bit_of_test (bit_at n 2) (bit_at-lt n 2),
-      bit_of_test (bit_at n 3) (bit_at-lt n 3),
-      bit_of_test (bit_at n 4) (bit_at-lt n 4),
-      bit_of_test (bit_at n 5) (bit_at-lt n 5),
-      bit_of_test (bit_at n 6) (bit_at-lt n 6),
-      bit_of_test (bit_at n 7) (bit_at-lt n 7),
-    )
+-- a byte is known by its bits, from the highest down
+byte_told : (black : ℕ → Bool) (byte : ℕ) → byte < 2 ^ 8
+    → ((i : ℕ) → i < 8 → IsBitSet byte (7 - i) ↔ IsTrue (black i)) → byte ≡ byte_of black
+byte_told black byte fits told =
+    same_from_bits_below 8 byte (byte_of black) fits (byte_of-lt black) (λ i low.
+    let turned : 7 - (7 - i) ≡ i = omega arith in
+    let left : 7 - i < 8 = omega arith in
+    subst (λ at. bit_at byte at ≡ bit_at (byte_of black) at) turned
+    (bit_told (black (7 - i)) byte (7 - (7 - i)) (told (7 - i) left) ∙ sym (bit_at-byte_of black (7 - i) left)))
 
--- each pixel is one bit
-record AreBits (black : ℕ → Bool) : Type 0 where
-  at_0 : bit_of (black 0) < 2
-  at_1 : bit_of (black 1) < 2
-  at_2 : bit_of (black 2) < 2
-  at_3 : bit_of (black 3) < 2
-  at_4 : bit_of (black 4) < 2
-  at_5 : bit_of (black 5) < 2
-  at_6 : bit_of (black 6) < 2
-  at_7 : bit_of (black 7) < 2
+-- the bytes of a word whose bits are pixels from a place on
+pub bytes_told : (black : ℕ → Bool) (place from word : ℕ) (bytes : List ℕ) → place ≡ 8 * from
+    → ((i : ℕ) → i < 64 → IsBitSet (slice_index bytes (i / 8)) (7 - i % 8) ↔ IsBitSet word i)
+    → ((i : ℕ) → i < 64 → IsBitSet word i ↔ IsTrue (black (place + i)))
+    → (j : ℕ) → j < 8 → slice_index bytes j < 2 ^ 8
+    → slice_index bytes j ≡ byte_of (λ i. black (8 * (from + j) + i))
+bytes_told black place from word bytes whole turned told j near fits =
+    byte_told (λ i. black (8 * (from + j) + i)) (slice_index bytes j) fits (λ i low.
+    let of_byte : (8 * j + i) / 8 ≡ j = omega arith in
+    let at_bit : (8 * j + i) % 8 ≡ i = omega arith in
+    let of_row : place + (8 * j + i) ≡ 8 * (from + j) + i = omega arith in
+    let bit : IsBitSet (slice_index bytes j) (7 - i) ↔ IsBitSet word (8 * j + i) =
+    subst (λ byte. IsBitSet (slice_index bytes byte) (7 - i) ↔ IsBitSet word (8 * j + i)) of_byte
+    (subst (λ bit. IsBitSet (slice_index bytes ((8 * j + i) / 8)) (7 - bit) ↔ IsBitSet word (8 * j + i)) at_bit
+    (turned (8 * j + i) (omega arith))) in
+    let pixel : IsBitSet word (8 * j + i) ↔ IsTrue (black (8 * (from + j) + i)) =
+    subst (λ at. IsBitSet word (8 * j + i) ↔ IsTrue (black at)) of_row (told (8 * j + i) (omega arith)) in
+    ((λ h. pixel.0 (bit.0 h)), (λ h. bit.1 (pixel.1 h))))
 
-all_bits : (black : ℕ → Bool) → AreBits black
-all_bits black =
-    record {
-      at_0 = bit_of-lt (black 0);
-      at_1 = bit_of-lt (black 1);
-      at_2 = bit_of-lt (black 2);
-      at_3 = bit_of-lt (black 3);
-      at_4 = bit_of-lt (black 4);
-      at_5 = bit_of-lt (black 5);
-      at_6 = bit_of-lt (black 6);
-      at_7 = bit_of-lt (black 7);
-    }
+-- ---- the words of tiles
 
--- the last pixels of a byte cleared
-cleared : (black : ℕ → Bool) (past : ℕ) → past < 8
-    → byte_of black / 2 ^ past * 2 ^ past % 256 ≡ byte_of (λ i. nat_lt (i + past) 8 && black i)
-unfolding byte_of
-cleared black zero h = let bits = all_bits black in omega arith
-cleared black (suc zero) h = let bits = all_bits black in omega arith
-cleared black (suc (suc zero)) h = let bits = all_bits black in omega arith
-cleared black (suc (suc (suc zero))) h = let bits = all_bits black in omega arith
-cleared black (suc (suc (suc (suc zero)))) h = let bits = all_bits black in omega arith
-cleared black (suc (suc (suc (suc (suc zero))))) h = let bits = all_bits black in omega arith
-cleared black (suc (suc (suc (suc (suc (suc zero)))))) h = let bits = all_bits black in omega arith
-cleared black (suc (suc (suc (suc (suc (suc (suc zero))))))) h = let bits = all_bits black in omega arith
-cleared black (suc (suc (suc (suc (suc (suc (suc (suc past)))))))) h = absurd (omega arith)
+shifted_down : (n from i : ℕ) → IsBitSet (n / 2 ^ from) i ↔ IsBitSet n (from + i)
+shifted_down n from i =
+    let same : bit_at (n / 2 ^ from) i ≡ bit_at n (from + i) = ap (λ m. m % 2) (shr-shr n from i) in
+    let low = set_is_one (n / 2 ^ from) i in
+    let high = set_is_one n (from + i) in
+    ((λ h. high.1 (sym same ∙ low.0 h)), (λ h. low.1 (same ∙ high.0 h)))
 
--- the lowest bits of a number shifted down
-low_bit : (n from i : ℕ) → i < 8 → bit_at (bit_and (n / 2 ^ from) 255) i ≡ bit_at n (from + i)
-low_bit n from i h =
-    let kept : bit_at (bit_and (n / 2 ^ from) 255) i ≡ bit_at (n / 2 ^ from) i =
-    omega (arith, bit_at_and (n / 2 ^ from) 255 i, bit_at_ones 8 i h, bit_at-lt (n / 2 ^ from) i) in
-    kept ∙ ap (λ m. m % 2) (shr-shr n from i)
+-- so many bits from the lowest on
+lowest_bits : (count i : ℕ) → count ≤ 64 → IsBitSet ((2 ^ 64 - 1) / 2 ^ (64 - count)) i ↔ (i < count)
+lowest_bits count i few =
+    let bit = shifted_down (2 ^ 64 - 1) (64 - count) i in
+    let run = whole_run 64 (64 - count + i) refl in
+    ((λ h. let end = run.0 (bit.0 h) in omega arith), (λ h. bit.1 (run.1 (omega arith))))
 
-pub eight_bits : (row from past byte : ℕ) → past < 8 → byte ≡ reverse_bits w8 (bit_and (row / 2 ^ from) 255)
-    → byte / 2 ^ past * 2 ^ past % 256 ≡ byte_of (λ i. nat_lt (i + past) 8 && nat_eq (bit_at row (from + i)) 1)
-eight_bits row from past byte few is =
-    let black : ℕ → Bool = λ i. nat_eq (bit_at (bit_and (row / 2 ^ from) 255) i) 1 in
-    ap (λ b. b / 2 ^ past * 2 ^ past % 256) (is ∙ reversed (bit_and (row / 2 ^ from) 255))
-    ∙ cleared black past few
-    ∙ same_byte (λ i. nat_lt (i + past) 8 && black i) (λ i. nat_lt (i + past) 8 && nat_eq (bit_at row (from + i)) 1)
-    (λ i low. ap (λ n. nat_lt (i + past) 8 && nat_eq n 1) (low_bit row from i low))
+set_test : (n i : ℕ) → IsBitSet n i ↔ IsTrue (nat_eq (bit_at n i) 1)
+set_test n i = ((λ h. eq-eqb _ 1 ((set_is_one n i).0 h)), (λ h. (set_is_one n i).1 (eqb-true _ 1 h)))
 
-module _ (t : Table) (column row : ℕ)
-    (within : column < t.window.width) (below : row < t.window.height) (whole : column % 8 ≡ 0) where
+module _ (t : Table) (column row : ℕ) (below : row < t.window.height) where
   abbrev width : ℕ
   width = t.window.width
 
-  -- how many of the eight pixels lie past the window
-  abbrev past : ℕ
-  past = column + 8 - width
+  abbrev place : ℕ → ℕ
+  place i = 64 * column + i
 
   abbrev black : ℕ → Bool
-  black i = is_pixel_black t (column + i) row
+  black k = is_pixel_black t k row
 
   abbrev shown : ℕ → Bool
-  shown i = padded (λ k. is_pixel_black t k row) width (column + i)
+  shown i = padded black width (place i)
 
-  abbrev bit : List ℕ → ℕ → Bool
-  bit lines i = nat_eq (bit_at (slice_index lines (row % 64)) (column % 64 + i)) 1
+  -- all of them stand in one tile
+  pub tile_there : (wide : ℕ) (tile : Tile) → wide ≡ across t.window
+      → slice_index_or t.tiles (row / 64 * wide + column) None ≡ tile
+      → (i : ℕ) → i < 64 → tile_in t (tile_of t.window (place i) row) ≡ tile
+  tile_there wide tile is_wide found i low =
+      let beside : place i / 64 ≡ column = omega arith in
+      tile_found t (place i) row wide tile is_wide
+      (ap (λ n. slice_index_or t.tiles (row / 64 * wide + n) None) beside ∙ found)
 
-  -- all eight stand in one tile
-  same_tile : (tile : Tile) → tile_in t (tile_of t.window column row) ≡ tile → (i : ℕ) → i < 8
-      → tile_in t (tile_of t.window (column + i) row) ≡ tile
-  same_tile tile is i low =
-      let beside : (column + i) / 64 ≡ column / 64 = omega arith in
-      ap (λ n. tile_in t ((row / 64) * across t.window + n)) beside ∙ is
+  shown_inside : (tile : Tile) (i : ℕ) → place i < width → tile_in t (tile_of t.window (place i) row) ≡ tile
+      → shown i ≡ unwrap_or (option_map (bit_in (place i) row) tile) false
+  shown_inside tile i within there =
+      ap (λ b. b && black (place i)) (lt-ltb (place i) width within)
+      ∙ black_in_tile t tile (place i) row within below there
 
-  clean_pixel : (lines : List ℕ) → tile_in t (tile_of t.window column row) ≡ Some lines → (i : ℕ) → i < 8
-      → (nat_lt (i + past) 8 && bit lines i) ≡ shown i
-  clean_pixel lines is i low = elim (cases_lt (column + i) width) [
-    | inl inside ↦
-        (let place : column % 64 + i ≡ (column + i) % 64 = omega arith in
-        ap (λ b. b && bit lines i) (lt-ltb (i + past) 8 (omega arith))
-        ∙ ap (λ n. nat_eq (bit_at (slice_index lines (row % 64)) n) 1) place
-        ∙ sym (black_in_tile t (Some lines) (column + i) row inside below (same_tile (Some lines) is i low))
-        ∙ ap (λ b. b && black i) (sym (lt-ltb (column + i) width inside)))
-    | inr outside ↦
-        ap (λ b. b && bit lines i) (le-ltb (i + past) 8 (omega arith))
-        ∙ ap (λ b. b && black i) (sym (le-ltb (column + i) width outside))
-  ]
+  clear_outside : (i : ℕ) → width ≤ place i → shown i ≡ false
+  clear_outside i past = ap (λ b. b && black (place i)) (le-ltb (place i) width past)
 
-  dirty_pixel : tile_in t (tile_of t.window column row) ≡ None → (i : ℕ) → i < 8 → false ≡ shown i
-  dirty_pixel is i low = elim (cases_lt (column + i) width) [
-    | inl inside ↦
-        sym (black_in_tile t None (column + i) row inside below (same_tile None is i low))
-        ∙ ap (λ b. b && black i) (sym (lt-ltb (column + i) width inside))
-    | inr outside ↦ ap (λ b. b && black i) (sym (le-ltb (column + i) width outside))
-  ]
-
-  -- the byte of a clean tile
-  pub clean_byte : (lines : List ℕ) (clear : ℕ) → clear ≡ past → tile_in t (tile_of t.window column row) ≡ Some lines
-      → byte_of (λ i. nat_lt (i + clear) 8 && bit lines i) ≡ byte_of shown
-  clean_byte lines clear is_past is =
-      ap (λ n. byte_of (λ i. nat_lt (i + n) 8 && bit lines i)) is_past
-      ∙ same_byte (λ i. nat_lt (i + past) 8 && bit lines i) shown (clean_pixel lines is)
+  -- the word of a clean tile, its bits past the window cleared
+  pub clean_word : (rows : List ℕ) (inside i : ℕ) → inside ≡ min (width - 64 * column) 64 → i < 64
+      → tile_in t (tile_of t.window (place i) row) ≡ Some rows
+      → IsBitSet (bit_and (slice_index rows (row % 64)) ((2 ^ 64 - 1) / 2 ^ (64 - inside))) i ↔ IsTrue (shown i)
+  clean_word rows inside i count low there =
+      let line = slice_index rows (row % 64) in
+      let both = set_in_and line ((2 ^ 64 - 1) / 2 ^ (64 - inside)) i in
+      let kept = lowest_bits inside i (omega arith) in
+      elim (cases_lt (place i) width) [
+        | inl within ↦
+            (let at : place i % 64 ≡ i = omega arith in
+            let pixel : shown i ≡ nat_eq (bit_at line i) 1 =
+            shown_inside (Some rows) i within there ∙ ap (λ n. nat_eq (bit_at line n) 1) at in
+            let test = set_test line i in
+            ((λ h. pixel ∙ test.0 (both.0 h).0), (λ h. both.1 (test.1 (sym pixel ∙ h), kept.1 (omega arith)))))
+        | inr past ↦ (
+          (λ h. let in_run = kept.0 (both.0 h).1 in absurd (omega arith)),
+          (λ h. absurd (false≢true (sym (clear_outside i past) ∙ h))),
+        )
+      ]
 
   -- nothing is known to be black in a dirty one
-  pub dirty_byte : tile_in t (tile_of t.window column row) ≡ None → 0 ≡ byte_of shown
-  unfolding byte_of
-  dirty_byte is = same_byte (λ i. false) shown (dirty_pixel is)
+  pub dirty_word : (i : ℕ) → i < 64 → tile_in t (tile_of t.window (place i) row) ≡ None
+      → IsBitSet 0 i ↔ IsTrue (shown i)
+  dirty_word i low there =
+      let clear : shown i ≡ false = elim (cases_lt (place i) width) [
+        | inl within ↦ shown_inside None i within there
+        | inr past ↦ clear_outside i past
+      ] in
+      ((λ h. absurd (h refl)), (λ h. absurd (false≢true (sym clear ∙ h))))
 
 -- the number of a tile fits
 pub few_before : (r a c : ℕ) → r < 512 → a ≤ 512 → c < a → r * a + c < 2 ^ 32

@@ -63,6 +63,7 @@ on_board w k h there =
     let from_left = left_within w k limits.width.0 in
     let from_top = top_within w k limits.width.0 there in
     record {
+      step = omega (arith, ints, limits.pitch);
       columns = (omega arith, omega arith);
       rows = (omega arith, omega arith);
       centres = λ column row c r. subst IsPlace (sym (centre_in_grid w k column row (omega (arith, r))))

@@ -1,14 +1,15 @@
 -- PBM files: the bits of a byte, the bytes of a row, the rows of a file.
 use Rattle.std.proofs.Common.{◌≡◌, ℕ, zero, suc, ◌+◌, ◌*◌, ◌-◌, ◌/◌, ◌%◌, ◌^◌, ◌<◌, ◌≤◌, Bool, true, false, ◌&&◌}
-use Rattle.std.proofs.Common.{List, [], ◌∷◌, ◌++◌, length, get_or, take, map, All}
-use Rattle.std.proofs.Common.{refl, sym, ap, ◌∙◌, length-append, append_assoc, add-one, zero-add, arith}
+use Rattle.std.proofs.Common.{List, [], ◌∷◌, ◌++◌, length, get_or, take, min, map, All}
+use Rattle.std.proofs.Common.{refl, sym, ap, ◌∙◌, length-append, length-take-le, append_assoc, append-nil}
+use Rattle.std.proofs.Common.{add-one, zero-add, arith}
 use Rattle.std.specs.Fmt.{decimal}
 use Rattle.std.specs.Int.{bit_at}
 use Rattle.std.specs.List.{range_with_len, flat_map}
 use Rattle.std.proofs.Math.Seq.{take-append_seam}
 use Rattle.std.proofs.lemmas.Bool.{lt-ltb, le-ltb}
 use Rattle.std.proofs.lemmas.Fmt.{IsAscii-decimal}
-use Rattle.std.proofs.lemmas.List.{get_or_append_left, get_or-append-add, flat_map_more}
+use Rattle.std.proofs.lemmas.List.{get_or-take, get_or_append_left, get_or-append-add, flat_map_more}
 use Rattle.std.proofs.lemmas.List.Elements.{All-append, All-cons, All-nil, All-from_get_or}
 use Rattle.std.proofs.lemmas.List.FromFn.{length-map-range_with_len, get_or-map-range_with_len, map-range_with_len_more}
 use Rattle.cam_tiles.specs.Pbm.{header, bit_of, byte_of, bytes_across, padded, row_of, pbm, byte_at, IsPixelSet}
@@ -54,7 +55,7 @@ bits_of_pixels black =
     (bit_of-lt (black 4)) (bit_of-lt (black 5)) (bit_of-lt (black 6)) (bit_of-lt (black 7))
 
 -- the bits of a byte, from the highest down, are its pixels from the left
-bit_at-byte_of : (black : ℕ → Bool) (i : ℕ) → i < 8 → bit_at (byte_of black) (7 - i) ≡ bit_of (black i)
+pub bit_at-byte_of : (black : ℕ → Bool) (i : ℕ) → i < 8 → bit_at (byte_of black) (7 - i) ≡ bit_of (black i)
 unfolding byte_of
 bit_at-byte_of black zero within = (bits_of_pixels black).at_7
 bit_at-byte_of black (suc zero) within = (bits_of_pixels black).at_6
@@ -70,7 +71,7 @@ weighed-lt : (a b c d e f g h : ℕ) → a < 2 → b < 2 → c < 2 → d < 2 →
     → weighed a b c d e f g h < 256
 weighed-lt a b c d e f g h p q r s t u v w = omega arith
 
-byte_of-lt : (black : ℕ → Bool) → byte_of black < 256
+pub byte_of-lt : (black : ℕ → Bool) → byte_of black < 256
 unfolding byte_of
 byte_of-lt black =
     weighed-lt _ _ _ _ _ _ _ _
@@ -259,10 +260,51 @@ more_rows f n start before after e so_far =
     ∙ sym (range_more 0 n) ∙ ap (range_with_len 0) (sym (add-one n)) in
     e ∙ ap (λ b. b ++ f n) so_far ∙ flat_map_more f start (range_with_len 0 n) n ∙ ap (λ r. start ++ flat_map f r) rows
 
-pub more_bytes : (f : ℕ → ℕ) (n byte : ℕ) (start before after : List ℕ)
-    → after ≡ before ++ byte ∷ [] → byte ≡ f n → before ≡ start ++ map f (range_with_len 0 n)
-    → after ≡ start ++ map f (range_with_len 0 (n + 1))
-more_bytes f n byte start before after e v so_far =
-    e ∙ ap (λ b. before ++ b ∷ []) v ∙ ap (λ b. b ++ f n ∷ []) so_far
-    ∙ append_assoc start (map f (range_with_len 0 n)) (f n ∷ [])
-    ∙ ap (λ r. start ++ r) (sym (map-range_with_len_more f 0 n n (zero-add n)))
+-- some more bytes of a row
+bytes_on : (f : ℕ → ℕ) (from : ℕ) (bytes : List ℕ)
+    → ((j : ℕ) → j < length bytes → get_or bytes j 0 ≡ f (from + j))
+    → bytes ≡ map f (range_with_len from (length bytes))
+bytes_on f from [] same = refl
+bytes_on f from (byte ∷ bytes) same =
+    let first : byte ≡ f from = same 0 (omega arith) ∙ ap f (omega arith) in
+    ap (λ b. b ∷ bytes) first
+    ∙ ap (λ r. f from ∷ r) (bytes_on f (from + 1) bytes (λ j below.
+    same (suc j) (omega (arith, below)) ∙ ap f (omega arith)))
+
+range_on : (f : ℕ → ℕ) (from n more : ℕ)
+    → map f (range_with_len from n) ++ map f (range_with_len (from + n) more) ≡ map f (range_with_len from (n + more))
+range_on f from n zero =
+    append-nil (map f (range_with_len from n)) ∙ ap (λ k. map f (range_with_len from k)) (omega arith)
+range_on f from n (suc more) =
+    let last = f (from + n) in
+    let rest = map f (range_with_len (from + n + 1) more) in
+    let next : from + n + 1 ≡ from + (n + 1) = omega arith in
+    sym (append_assoc (map f (range_with_len from n)) (last ∷ []) rest)
+    ∙ ap (λ front. front ++ rest) (sym (map-range_with_len_more f from n (from + n) refl))
+    ∙ ap (λ k. map f (range_with_len from (n + 1)) ++ map f (range_with_len k more)) next
+    ∙ range_on f from (n + 1) more ∙ ap (λ k. map f (range_with_len from k)) (omega arith)
+
+more_bytes : (f : ℕ → ℕ) (n all : ℕ) (bytes start before after : List ℕ)
+    → ((j : ℕ) → j < length bytes → get_or bytes j 0 ≡ f (n + j)) → n + length bytes ≡ all
+    → after ≡ before ++ bytes → before ≡ start ++ map f (range_with_len 0 n)
+    → after ≡ start ++ map f (range_with_len 0 all)
+more_bytes f n all bytes start before after same to_all e so_far =
+    e ∙ ap (λ b. b ++ bytes) so_far
+    ∙ ap (λ r. (start ++ map f (range_with_len 0 n)) ++ r) (bytes_on f n bytes same)
+    ∙ append_assoc start (map f (range_with_len 0 n)) (map f (range_with_len n (length bytes)))
+    ∙ ap (λ k. start ++ (map f (range_with_len 0 n) ++ map f (range_with_len k (length bytes)))) (sym (zero-add n))
+    ∙ ap (λ r. start ++ r) (range_on f 0 n (length bytes))
+    ∙ ap (λ k. start ++ map f (range_with_len 0 k)) to_all
+
+-- the bytes of one more tile of a row of n bytes, cut to the row's
+pub more_of_row : (f : ℕ → ℕ) (n column count : ℕ) (bytes start before after : List ℕ)
+    → 8 * column < n → count ≡ min (n - 8 * column) 8 → length bytes ≡ 8
+    → ((k : ℕ) → k < 8 → get_or bytes k 0 ≡ f (8 * column + k)) → after ≡ before ++ take count bytes
+    → before ≡ start ++ map f (range_with_len 0 (min (8 * column) n))
+    → after ≡ start ++ map f (range_with_len 0 (min (8 * (column + 1)) n))
+more_of_row f n column count bytes start before after inside count_is whole told after_is so_far =
+    let front : length (take count bytes) ≡ count = length-take-le count bytes (omega arith) in
+    let here : min (8 * column) n ≡ 8 * column = omega arith in
+    more_bytes f (8 * column) (min (8 * (column + 1)) n) (take count bytes) start before after
+    (λ k below. get_or-take count bytes k 0 (omega (arith, front)) ∙ told k (omega (arith, front)))
+    (omega (arith, front)) after_is (so_far ∙ ap (λ m. start ++ map f (range_with_len 0 m)) here)

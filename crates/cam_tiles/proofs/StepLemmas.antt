@@ -40,39 +40,37 @@ down_is y d e same here short = omega (arith, ints)
 fits_near : (z m : ℤ) → z ≡ m → IsNear m → FitsSigned w64 z
 fits_near z m e h = omega (arith, ints, ap unsigned_abs e)
 
-long_near : (z m : ℤ) → z ≡ m → IsNear m → long z ≡ m
+pub long_near : (z m : ℤ) → z ≡ m → IsNear m → long z ≡ m
 long_near z m e h = to_z-of_z w64 z (fits_near z m e h) ∙ e
 
-no_step : (x s : ℤ) → x +ℤ pos 0 *ℤ s ≡ x
+pub no_step : (x s : ℤ) → x +ℤ pos 0 *ℤ s ≡ x
 no_step x s = equal (Sum (Atom x) (Product (Atom (pos 0)) (Atom s))) (Atom x) (omega arith)
 
-no_step_down : (y s : ℤ) → y -ℤ pos 0 *ℤ s ≡ y
+pub no_step_down : (y s : ℤ) → y -ℤ pos 0 *ℤ s ≡ y
 no_step_down y s = equal (Difference (Atom y) (Product (Atom (pos 0)) (Atom s))) (Atom y) (omega arith)
+
+-- the first centre
+pub first_x : (g : Grid) → IsGrid g → IsNear g.first.x
+first_x g grid = subst IsNear (no_step g.first.x g.step) (grid.centres 0 0 grid.columns.0 grid.rows.0).x
+
+pub first_y : (g : Grid) → IsGrid g → IsNear g.first.y
+first_y g grid = subst IsNear (no_step_down g.first.y g.step) (grid.centres 0 0 grid.columns.0 grid.rows.0).y
 
 module _ (g : Grid) (column row : ℕ) (grid : IsGrid g) (inside : column < g.columns) (below : row < g.rows)
     (fits : FitsSigned w64 g.step) where
-  here : IsPlace (centre_in g 0 0)
-  here = grid.centres 0 0 grid.columns.0 grid.rows.0
-
   there : IsPlace (centre_in g column row)
   there = grid.centres column row inside below
 
-  first_x : IsNear g.first.x
-  first_x = subst IsNear (no_step g.first.x g.step) here.x
-
-  first_y : IsNear g.first.y
-  first_y = subst IsNear (no_step_down g.first.y g.step) here.y
-
   short_right : unsigned_abs (pos column *ℤ g.step) < 4000000000
-  short_right = way_right g.first.x (pos column *ℤ g.step) first_x there.x
+  short_right = way_right g.first.x (pos column *ℤ g.step) (first_x g grid) there.x
 
-  short_down : unsigned_abs (pos row *ℤ g.step) < 4000000000
-  short_down = way_down g.first.y (pos row *ℤ g.step) first_y there.y
+  pub short_down : unsigned_abs (pos row *ℤ g.step) < 4000000000
+  short_down = way_down g.first.y (pos row *ℤ g.step) (first_y g grid) there.y
 
   way_right_is : (n : ℤ) → n ≡ pos column → long n *ℤ long g.step ≡ pos column *ℤ g.step
   way_right_is n e = way_kept n g.step column e (omega (arith, grid.columns)) fits
 
-  way_down_is : (n : ℤ) → n ≡ pos row → long n *ℤ long g.step ≡ pos row *ℤ g.step
+  pub way_down_is : (n : ℤ) → n ≡ pos row → long n *ℤ long g.step ≡ pos row *ℤ g.step
   way_down_is n e = way_kept n g.step row e (omega (arith, grid.rows)) fits
 
   pub right_way_fits : (n : ℤ) → n ≡ pos column → FitsSigned w64 (long n *ℤ long g.step)
@@ -83,16 +81,21 @@ module _ (g : Grid) (column row : ℕ) (grid : IsGrid g) (inside : column < g.co
 
   x_is : (n : ℤ) → n ≡ pos column
       → long g.first.x +ℤ long (long n *ℤ long g.step) ≡ g.first.x +ℤ pos column *ℤ g.step
-  x_is n e = right_is g.first.x (long n *ℤ long g.step) (pos column *ℤ g.step) (way_right_is n e) first_x short_right
+  x_is n e =
+      right_is g.first.x (long n *ℤ long g.step) (pos column *ℤ g.step) (way_right_is n e) (first_x g grid) short_right
 
   y_is : (n : ℤ) → n ≡ pos row → long g.first.y -ℤ long (long n *ℤ long g.step) ≡ g.first.y -ℤ pos row *ℤ g.step
-  y_is n e = down_is g.first.y (long n *ℤ long g.step) (pos row *ℤ g.step) (way_down_is n e) first_y short_down
+  y_is n e = down_is g.first.y (long n *ℤ long g.step) (pos row *ℤ g.step) (way_down_is n e) (first_y g grid) short_down
 
   pub x_fits : (n : ℤ) → n ≡ pos column → FitsSigned w64 (long g.first.x +ℤ long (long n *ℤ long g.step))
   x_fits n e = fits_near _ _ (x_is n e) there.x
 
   pub y_fits : (n : ℤ) → n ≡ pos row → FitsSigned w64 (long g.first.y -ℤ long (long n *ℤ long g.step))
   y_fits n e = fits_near _ _ (y_is n e) there.y
+
+  pub y_kept : (n : ℤ) → n ≡ pos row
+      → long (long g.first.y -ℤ long (long n *ℤ long g.step)) ≡ g.first.y -ℤ pos row *ℤ g.step
+  y_kept n e = long_near _ _ (y_is n e) there.y
 
   -- the centre as the code computes it
   pub centre_kept : (m n : ℤ) → m ≡ pos column → n ≡ pos row → ◌≡◌ {A = Spot} record {
@@ -102,4 +105,4 @@ module _ (g : Grid) (column row : ℕ) (grid : IsGrid g) (inside : column < g.co
   centre_kept m n e f =
       let spot : ℤ → ℤ → Spot = λ x y. record { x = x; y = y } in
       ap (λ x. spot x (long (long g.first.y -ℤ long (long n *ℤ long g.step)))) (long_near _ _ (x_is m e) there.x)
-      ∙ ap (spot (g.first.x +ℤ pos column *ℤ g.step)) (long_near _ _ (y_is n f) there.y)
+      ∙ ap (spot (g.first.x +ℤ pos column *ℤ g.step)) (y_kept n f)

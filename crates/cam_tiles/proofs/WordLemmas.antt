@@ -1,23 +1,13 @@
 -- Words: numbers whose bits a test says.
-use Rattle.std.proofs.Common.{◌≡◌, ℕ, zero, suc, ◌+◌, ◌-◌, ◌*◌, ◌%◌, ◌^◌, ◌<◌, ◌≤◌, Bool, true, false, cond, if◌then◌else◌}
-use Rattle.std.proofs.Common.{refl, ap, ◌∙◌, inl, inr, bit_or, nat_eq, arith}
+use Rattle.std.proofs.Common.{◌≡◌, ℕ, zero, suc, ◌+◌, ◌-◌, ◌*◌, ◌^◌, ◌<◌, Bool, true, false, cond, if◌then◌else◌}
+use Rattle.std.proofs.Common.{refl, ap, ◌∙◌, inl, inr, nat_eq, arith}
 use Rattle.std.specs.Int.{bit_at}
-use Rattle.std.specs.Int.Bits.{or_shifted_r}
 use Rattle.std.proofs.Math.Nat.{pow-suc}
 use Rattle.std.proofs.lemmas.Bool.{cases_lt}
-use Rattle.std.proofs.lemmas.Nat.{pow_pos, shl_whole}
+use Rattle.std.proofs.lemmas.Nat.{pow_pos}
 use Rattle.std.proofs.lemmas.Nat.Bits.{bit_at_cat_low, bit_at_cat_high}
-use mir.Val.{bool_byte}
 use Rattle.cam_tiles.specs.Pbm.{bit_of}
 use Rattle.cam_tiles.specs.Tiles.{word}
-
-one_bit : (b : Bool) (n : ℕ) → n ≡ bool_byte b → n < 2
-one_bit true n e = omega arith
-one_bit false n e = omega arith
-
-bit_value : (b : Bool) (n power : ℕ) → n ≡ bool_byte b → n * power ≡ (if b then power else 0)
-bit_value true n power e = omega (arith, ap (λ m. m * power) e)
-bit_value false n power e = omega (arith, ap (λ m. m * power) e)
 
 last_bit : (b : Bool) (low power next : ℕ) → low < power → next ≡ 2 * power
     → low + (if b then power else 0) < next
@@ -28,34 +18,6 @@ pub word-lt : (bit : ℕ → Bool) (n : ℕ) → word bit n < 2 ^ n
 unfolding word
 word-lt bit zero = pow_pos 0
 word-lt bit (suc n) = last_bit (bit n) (word bit n) (2 ^ n) (2 ^ suc n) (word-lt bit n) (omega (arith, pow-suc 2 n))
-
--- no bit
-pub word-zero : (bit : ℕ → Bool) → 0 ≡ word bit 0
-unfolding word
-word-zero bit = refl
-
--- one bit more
-word-suc : (bit : ℕ → Bool) (n : ℕ) → word bit (n + 1) ≡ word bit n + (if bit n then 2 ^ n else 0)
-unfolding word
-word-suc bit n = let e : n + 1 ≡ suc n = omega arith in ap (word bit) e
-
-pub with_bit : (bit : ℕ → Bool) (n before byte : ℕ) (b : Bool) → n < 64 → before ≡ word bit n
-    → byte ≡ bool_byte b → b ≡ bit n → bit_or before (byte * 2 ^ n % 2 ^ 64) ≡ word bit (n + 1)
-with_bit bit n before byte b few so_far e same =
-    ap (λ m. bit_or before m) (shl_whole byte 1 n 64 (one_bit b byte e) (omega arith))
-    ∙ ap (λ m. bit_or m (byte * 2 ^ n)) so_far
-    ∙ or_shifted_r byte n (word bit n) (word-lt bit n)
-    ∙ ap (λ m. m + word bit n) (bit_value b byte (2 ^ n) e)
-    ∙ ap (λ c. (if c then 2 ^ n else 0) + word bit n) same
-    ∙ omega (arith, word-suc bit n)
-
--- bits that are clear add nothing
-pub clear_above : (bit : ℕ → Bool) (n more : ℕ) → ((i : ℕ) → n ≤ i → bit i ≡ false) → word bit (n + more) ≡ word bit n
-clear_above bit n zero clear = let e : n + 0 ≡ n = omega arith in ap (word bit) e
-clear_above bit n (suc more) clear =
-    let e : n + suc more ≡ n + more + 1 = omega arith in
-    let none = ap (λ b. if b then 2 ^ (n + more) else 0) (clear (n + more) (omega arith)) in
-    ap (word bit) e ∙ omega (arith, word-suc bit (n + more), none, clear_above bit n more clear)
 
 -- ---- bit by bit
 

@@ -1,4 +1,6 @@
+pub mod Indexes
 pub mod Kept
+pub mod Masks
 pub mod Pbm
 pub mod Picture
 pub mod Sources

@@ -1,6 +1,6 @@
 -- Tiles: the pixels of a window in squares of 64 by 64, counted from the top left, row by row. Those at the right and at
 -- the lower edge may be smaller.
-use Rattle.std.specs.Prelude.{ℕ, zero, suc, ◌+◌, ◌*◌, ◌-◌, ◌/◌, ◌%◌, ◌^◌, ◌<◌, ◌≤◌, min, nat_lt, pos, ◌+ℤ◌, ◌-ℤ◌, ◌*ℤ◌}
+use Rattle.std.specs.Prelude.{ℕ, zero, suc, ◌+◌, ◌*◌, ◌-◌, ◌/◌, ◌%◌, ◌^◌, ◌<◌, ◌≤◌, min, nat_lt, pos, ◌+ℤ◌, ◌-ℤ◌, ◌*ℤ◌, ◌≤ℤ◌}
 use Rattle.std.specs.Prelude.{Bool, ◌&&◌, if◌then◌else◌, List, map}
 use Rattle.std.specs.List.{range_with_len}
 use Rattle.cam_units.specs.Board.{IsPlace}
@@ -51,8 +51,9 @@ grid_of w k = record {
 abbrev pub centre_in : Grid → ℕ → ℕ → Spot
 centre_in g column row = record { x = g.first.x +ℤ pos column *ℤ g.step; y = g.first.y -ℤ pos row *ℤ g.step }
 
--- a grid of at most 64 by 64 centres, all of them places of the board
+-- a grid of at most 64 by 64 centres, each right of or below the one before it, all of them places of the board
 pub record IsGrid (g : Grid) : Type 0 where
+  pub step : pos 1 ≤ℤ g.step
   pub columns : (1 ≤ g.columns) × (g.columns ≤ 64)
   pub rows : (1 ≤ g.rows) × (g.rows ≤ 64)
   pub centres : (column row : ℕ) → column < g.columns → row < g.rows → IsPlace (centre_in g column row)

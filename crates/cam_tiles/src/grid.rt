@@ -1,6 +1,13 @@
 //! The pixel centres of a tile.
 
-use cam_units::Spot;
+ghost use Rattle.std.specs.Prelude.{◌≡◌, ◌<◌, ℕ};
+ghost use Rattle.cam_units.specs.Board.{IsPlace};
+ghost use Rattle.cam_units.specs.Boxes.{Holds};
+ghost use Rattle.cam_tiles.specs.Masks.{IsWithin};
+ghost use Rattle.cam_tiles.specs.Tiles.{IsGrid, centre_in};
+
+use crate::masks::heights::Heights;
+use cam_units::{Bounds, Spot};
 
 /// The pixel centres of a tile, in half nanometres: the upper left one and the distance of neighbours; and how many
 /// columns and rows of them there are, from 1 to 64.
@@ -10,4 +17,51 @@ pub struct Grid {
     pub step: i64,
     pub columns: u32,
     pub rows: u32,
+}
+
+impl Grid {
+    /// The box of the centres, in half nm.
+    pub(crate) fn bounds(&self) -> Bounds
+        requires { IsGrid self.now }
+        ensures { (column row : ℕ) → column < self.now.columns → row < self.now.rows
+            → Holds result (centre_in self.now column row) }
+    {
+        let last = self.centre(self.columns - 1, self.rows - 1);
+        Bounds::Closed {
+            low: Spot {
+                x: self.first.x,
+                y: last.y,
+            },
+            high: Spot {
+                x: last.x,
+                y: self.first.y,
+            },
+        }
+    }
+
+    /// The heights of the centres, from the last row to the first.
+    pub(crate) fn heights(&self) -> Heights
+        requires { IsGrid self.now }
+        ensures { (column row : ℕ) → column < self.now.columns → row < self.now.rows
+            → IsWithin result (centre_in self.now column row) }
+    {
+        Heights {
+            low: self.centre(0, self.rows - 1).y,
+            high: self.first.y,
+        }
+    }
+
+    /// The centre in a column and a row, which are counted from the upper left one.
+    pub(crate) fn centre(&self, column: u32, row: u32) -> Spot
+        requires grid { IsGrid self.now }
+        requires column { column < self.now.columns }
+        requires row { row < self.now.rows }
+        ensures value { result ≡ centre_in self.now column row }
+        ensures place { IsPlace result }
+    {
+        Spot {
+            x: self.first.x + i64::from(column) * self.step,
+            y: self.first.y - i64::from(row) * self.step,
+        }
+    }
 }

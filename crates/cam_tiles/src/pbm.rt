@@ -1,13 +1,18 @@
 //! Raw PBM files (netpbm's pbm(5), "P4").
 
-ghost use Rattle.std.specs.Int.{bit_at};
-ghost use Rattle.std.specs.Prelude.{◌≡◌, ◌+◌, ◌%◌, ◌++◌, ◌<◌, ◌==◌, ◌&&◌, nat_lt, IfOk, OnOk};
+ghost use Rattle.std.specs.Int.{IsBitSet};
+ghost use Rattle.std.specs.Prelude.{◌≡◌, ℕ, ◌+◌, ◌*◌, ◌++◌, ◌<◌, ◌↔◌, slice_index, IsTrue, IfOk, OnOk};
 ghost use Rattle.cam_tiles.specs.Pbm.{byte_of, header, padded, row_of};
 ghost use Rattle.cam_tiles.specs.Tables.{IsTable, is_pixel_black, pbm_of};
+ghost use Rattle.cam_tiles.specs.Tiles.{across};
 
 use crate::raster::Tile;
 use crate::window::Window;
+use cam_rows::pbm_bytes;
 use std::alloc::{AllocError, Global};
+
+/// The most bytes of a header: "P4", both sides, and what parts them.
+const LONGEST_HEADER: usize = 15;
 
 /// Writes the header of a window's file.
 fn push_header(alloc: Global, file: &mut Vec<u8>, window: &Window) -> Result<(), AllocError>
@@ -24,45 +29,49 @@ fn push_header(alloc: Global, file: &mut Vec<u8>, window: &Window) -> Result<(),
     Ok(())
 }
 
-/// The byte of eight pixels of a tile's row, of which `column` is the leftmost, in the highest bit. The last `past` of
-/// them are clear.
-fn eight_pixels(row: u64, column: u32, past: u32) -> u8
-    requires column { column < 64 }
-    requires past { past < 8 }
-    ensures { result ≡ byte_of (λ i. nat_lt (i + past) 8 && bit_at row (column + i) == 1) }
-{
-    let byte = ((row >> column) & 0xff) as u8;
-    (byte.reverse_bits() >> past) << past
-}
-
-/// The byte of eight pixels side by side, of which `column` is the leftmost.
-fn byte_from(tiles: &[Tile], window: &Window, column: u32, row: u32) -> u8
+/// The pixels of a row in one column of tiles, bit i for column i of the tile; those past the window are clear.
+fn word_in(tiles: &[Tile], window: &Window, column: u32, row: u32) -> u64
     requires table { IsTable (record { window = window.now; tiles = tiles.now }) }
     requires row { row < window.now.height }
-    requires column { column < window.now.width }
-    requires whole { column % 8 ≡ 0 }
-    ensures { result ≡ byte_of (λ i. padded
-        (λ k. is_pixel_black (record { window = window.now; tiles = tiles.now }) k row) window.now.width (column + i)) }
+    requires column { column < across window.now }
+    ensures { (i : ℕ) → i < 64 → IsBitSet result i ↔ IsTrue (padded
+        (λ pixel. is_pixel_black (record { window = window.now; tiles = tiles.now }) pixel row)
+        window.now.width (64 * column + i)) }
 {
-    let tile = row / 64 * window.across() + column / 64;
+    let tile = row / 64 * window.across() + column;
     match &tiles[tile as usize] {
         Some(rows) => {
-            let past = (column + 8).saturating_sub(window.width);
-            eight_pixels(rows[row as usize % 64], column % 64, past)
+            let inside = (window.width - 64 * column).min(64);
+            rows[row as usize % 64] & (u64::MAX >> (64 - inside))
         }
         None => 0,
     }
 }
 
-/// Writes the bytes of a row, which is counted from the top.
+/// The bytes of the pixels of a row in one column of tiles.
+fn bytes_in(tiles: &[Tile], window: &Window, column: u32, row: u32) -> [u8; 8]
+    requires table { IsTable (record { window = window.now; tiles = tiles.now }) }
+    requires row { row < window.now.height }
+    requires column { column < across window.now }
+    ensures { (k : ℕ) → k < 8 → slice_index result k ≡ byte_of (λ i. padded
+        (λ pixel. is_pixel_black (record { window = window.now; tiles = tiles.now }) pixel row)
+        window.now.width (8 * (8 * column + k) + i)) }
+{
+    pbm_bytes(word_in(tiles, window, column, row))
+}
+
+/// Writes the bytes of a row, which is counted from the top: from each tile those of its pixels.
 fn push_row(file: &mut Vec<u8>, tiles: &[Tile], window: &Window, row: u32) -> Result<(), AllocError>
     requires table { IsTable (record { window = window.now; tiles = tiles.now }) }
     requires row { row < window.now.height }
     ensures { OnOk result (file.new.items ≡ file.old.items ++ row_of
         (λ column. is_pixel_black (record { window = window.now; tiles = tiles.now }) column row) window.now.width) }
 {
-    for k in 0..window.width.div_ceil(8) {
-        file.push(byte_from(tiles, window, 8 * k, row))?;
+    let row_bytes = window.width.div_ceil(8);
+    for column in 0..window.across() {
+        let bytes = bytes_in(tiles, window, column, row);
+        let count = (row_bytes - 8 * column).min(8);
+        file.extend_from_slice(&bytes[..count as usize])?;
     }
     Ok(())
 }
@@ -72,7 +81,8 @@ pub(crate) fn bitmap(alloc: Global, tiles: &[Tile], window: &Window) -> Result<V
     requires table { IsTable (record { window = window.now; tiles = tiles.now }) }
     ensures { IfOk result (λ bytes. bytes.items ≡ pbm_of (record { window = window.now; tiles = tiles.now })) }
 {
-    let mut file = Vec::new(alloc);
+    let rows = window.height as usize * window.width.div_ceil(8) as usize;
+    let mut file = Vec::with_capacity(alloc, LONGEST_HEADER + rows)?;
     push_header(alloc, &mut file, window)?;
     for row in 0..window.height {
         push_row(&mut file, tiles, window, row)?;

@@ -1,0 +1,36 @@
+-- The box of a grid's centres: from the first one to the last.
+use Rattle.std.proofs.Common.{◌≡◌, ℕ, ◌*◌, ◌-◌, ◌<◌, ◌≤◌, ℤ, pos, negsuc, ◌+ℤ◌, ◌-ℤ◌, ◌*ℤ◌, ◌≤ℤ◌, arith}
+use Rattle.std.proofs.lemmas.Int.{ints}
+use Rattle.std.proofs.lemmas.Nat.{mul-le}
+use Rattle.cam_units.specs.Boxes.{IsBetween}
+use Rattle.cam_tiles.specs.declared.grid.Grid.{Grid}
+use Rattle.cam_tiles.specs.Tiles.{IsGrid, centre_in}
+
+-- more steps lead further
+steps_up : (a b : ℕ) (s : ℤ) → pos 1 ≤ℤ s → a ≤ b → (pos a *ℤ s) ≤ℤ (pos b *ℤ s)
+steps_up a b (pos q) some more = let longer : a * q ≤ b * q = mul-le a q b q more (omega arith) in omega (arith, ints)
+steps_up a b (negsuc q) some more = absurd (omega (arith, ints))
+
+steps_on : (a : ℕ) (s : ℤ) → pos 1 ≤ℤ s → pos 0 ≤ℤ (pos a *ℤ s)
+steps_on a (pos q) some = omega (arith, ints)
+steps_on a (negsuc q) some = absurd (omega (arith, ints))
+
+module _ (g : Grid) (column row : ℕ) (grid : IsGrid g) (inside : column < g.columns) (below : row < g.rows) where
+  across : (pos column *ℤ g.step) ≤ℤ (pos (g.columns - 1) *ℤ g.step)
+  across = steps_up column (g.columns - 1) g.step grid.step (omega arith)
+
+  down : (pos row *ℤ g.step) ≤ℤ (pos (g.rows - 1) *ℤ g.step)
+  down = steps_up row (g.rows - 1) g.step grid.step (omega arith)
+
+  pub between_ends : (left bottom right top : ℤ) → left ≡ g.first.x → top ≡ g.first.y
+      → right ≡ g.first.x +ℤ pos (g.columns - 1) *ℤ g.step → bottom ≡ g.first.y -ℤ pos (g.rows - 1) *ℤ g.step
+      → IsBetween (record { x = left; y = bottom }) (record { x = right; y = top }) (centre_in g column row)
+  between_ends left bottom right top is_left is_top is_right is_bottom =
+      let some_across = steps_on column g.step grid.step in
+      let some_down = steps_on row g.step grid.step in
+      record {
+        left = omega (arith, ints, some_across);
+        right = omega (arith, ints, across);
+        below = omega (arith, ints, down);
+        above = omega (arith, ints, some_down);
+      }

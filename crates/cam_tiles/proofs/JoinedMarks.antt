@@ -1,0 +1,136 @@
+-- Marks that are joined with those of a shape, row after row.
+use Rattle.std.proofs.Common.{◌≡◌, ◌≢◌, ◌↔◌, ℕ, ◌+◌, ◌^◌, ◌<◌, ◌≤◌, ◌⊎◌, List, slice_index, slice_set}
+use Rattle.std.proofs.Common.{get_or-set_other, get_or-set_same, inl, inr, ◌∙◌, arith}
+use Rattle.std.proofs.Math.ListN.{length-set}
+use Rattle.std.specs.Int.{IsBitSet}
+use Rattle.std.proofs.lemmas.Bool.{cases_eq, cases_lt}
+use Rattle.cam_units.specs.declared.point.Point.{Point}
+use Rattle.cam_units.specs.declared.point.Spot.{Spot}
+use Rattle.cam_apertures.proofs.Painting.{through}
+use Rattle.cam_objects.specs.Image.{relative}
+use Rattle.cam_tiles.specs.declared.grid.Grid.{Grid}
+use Rattle.cam_tiles.specs.declared.masks.heights.Heights.{Heights}
+use Rattle.cam_tiles.specs.declared.masks.join.Join.{Join}
+use Rattle.cam_tiles.specs.declared.masks.join.Join.TheVariants.{Add, Clear, Turn}
+use Rattle.cam_tiles.specs.Masks.{IsIn, IsMarked, IsMask, IsWithin, Joins, Marking, joined}
+use Rattle.cam_tiles.specs.Tiles.{centre_in}
+
+-- ---- one mark
+
+-- with the same marks
+pub joined_with : (how : Join) (P Q R : Type 0) → Q ↔ R → joined how P Q ↔ joined how P R
+joined_with Add P Q R same = grind (arith, same)
+joined_with Clear P Q R same = grind (arith, same)
+joined_with Turn P Q R same = grind (arith, same)
+
+-- where the shape holds nothing, a mark stays
+joined_none : (how : Join) (P Q : Type 0) → (Q → ⊥) → P ↔ joined how P Q
+joined_none Add P Q none = grind (arith, none)
+joined_none Clear P Q none = grind (arith, none)
+joined_none Turn P Q none = grind (arith, none)
+
+-- what is joined was marked before, or is held
+joined_from : (how : Join) (P Q R : Type 0) → (P → R) → (Q → R) → joined how P Q → R
+joined_from Add P Q R was held h = elim h [ inl p ↦ was p | inr q ↦ held q ]
+joined_from Clear P Q R was held h = was h.0
+joined_from Turn P Q R was held h = elim h [ inl p ↦ was p.0 | inr q ↦ held q.1 ]
+
+-- ---- row after row
+
+-- the rows from one to another are joined, and the others as they were
+pub record AreRowsJoined (how : Join) (IsHeld : Spot → Type 0) (old new : Marking) (first end : ℕ) : Type 0 where
+  pub mask : IsMask new
+  pub grid : new.grid ≡ old.grid
+  pub marks : (column row : ℕ) → IsIn old.grid column row → first ≤ row → row < end
+      → IsMarked new column row ↔ joined how (IsMarked old column row) (IsHeld (centre_in old.grid column row))
+  pub kept : (row : ℕ) → (row < first) ⊎ (end ≤ row) → slice_index new.rows row ≡ slice_index old.rows row
+
+-- one row more: its word is what the row becomes, and the others stay
+module _ (how : Join) (IsHeld : Spot → Type 0) (old new : Marking) (first row word : ℕ) (from : first ≤ row)
+    (below : row < new.grid.rows) (before : AreRowsJoined how IsHeld old new first row)
+    (here : (i : ℕ) → i < 64 → IsBitSet word i
+    ↔ joined how (IsMarked new i row) ((i < new.grid.columns) × IsHeld (centre_in new.grid i row))) where
+  abbrev pub rows : List ℕ
+  rows = slice_set new.rows row word
+
+  low : row < 64
+  low = omega (arith, below, before.mask.grid.rows)
+
+  this : (k : ℕ) → k ≡ row → slice_index rows k ≡ word
+  this k e = rw e (get_or-set_same new.rows row word 0 (omega (arith, low, before.mask.whole)))
+
+  other : (k : ℕ) → k ≢ row → slice_index rows k ≡ slice_index new.rows k
+  other k apart = get_or-set_other new.rows row k word 0 apart
+
+  -- a mark of that row is one of a centre of the grid
+  within : (i : ℕ) → i < 64 → IsBitSet word i → IsIn new.grid i row
+  within i near set =
+      joined_from how (IsMarked new i row) ((i < new.grid.columns) × IsHeld (centre_in new.grid i row))
+      (IsIn new.grid i row) (before.mask.inside i row near low) (λ held. (held.0, below)) ((here i near).0 set)
+
+  marked : (i : ℕ) → i < new.grid.columns
+      → IsBitSet word i ↔ joined how (IsMarked old i row) (IsHeld (centre_in new.grid i row))
+  marked i inside =
+      rw (← before.kept row (inr (omega arith))) (
+      through (here i (omega (arith, inside, before.mask.grid.columns)))
+      (joined_with how (IsMarked new i row) ((i < new.grid.columns) × IsHeld (centre_in new.grid i row))
+      (IsHeld (centre_in new.grid i row)) ((λ h. h.1), (λ h. (inside, h))))
+      )
+
+  pub next_row : word < 2 ^ 64 → AreRowsJoined how IsHeld old (record { grid = new.grid; rows = rows }) first (row + 1)
+  next_row fits = record {
+    grid = before.grid;
+    mask = record {
+      grid = before.mask.grid;
+      whole = length-set new.rows row word ∙ before.mask.whole;
+      fit = λ k. elim (cases_eq k row) [
+        | inl e ↦ rw (this k e) fits
+        | inr apart ↦ rw (other k apart) (before.mask.fit k)
+      ];
+      inside = λ i k near there set. elim (cases_eq k row) [
+        | inl e ↦ rw e (within i near (rw (this k e) at set))
+        | inr apart ↦ before.mask.inside i k near there (rw (other k apart) at set)
+      ];
+    };
+    marks = λ i k inside after until. elim (cases_eq k row) [
+      | inl e ↦ rw (this k e, e) (rw before.grid at (marked i (rw before.grid inside.0)))
+      | inr apart ↦ rw (other k apart) (before.marks i k inside after (omega (arith, apart, until)))
+    ];
+    kept = λ k outside. elim outside [
+      | inl early ↦ (let apart : k ≢ row = omega arith in other k apart ∙ before.kept k (inl early))
+      | inr late ↦ (let apart : k ≢ row = omega arith in other k apart ∙ before.kept k (inr (omega arith)))
+    ];
+  }
+
+-- all rows, where the shape holds no centre of the others
+pub all_joined : (how : Join) (IsHeld : Spot → Type 0) (old new : Marking) (first end : ℕ)
+    → AreRowsJoined how IsHeld old new first end
+    → ((column row : ℕ) → IsIn old.grid column row → (row < first) ⊎ (end ≤ row)
+    → IsHeld (centre_in old.grid column row) → ⊥)
+    → Joins how IsHeld old new
+all_joined how IsHeld old new first end rows none =
+    let stays : (column row : ℕ) → IsIn old.grid column row → (row < first) ⊎ (end ≤ row)
+    → IsMarked new column row ↔ joined how (IsMarked old column row) (IsHeld (centre_in old.grid column row)) =
+    λ column row inside outside. rw (rows.kept row outside) (
+    joined_none how (IsMarked old column row) (IsHeld (centre_in old.grid column row)) (none column row inside outside)
+    ) in
+    record {
+      grid = rows.grid;
+      marks = λ column row inside. elim (cases_lt row first) [
+        | inl early ↦ stays column row inside (inl early)
+        | inr after ↦ elim (cases_lt row end) [
+          | inl until ↦ rows.marks column row inside after until
+          | inr late ↦ stays column row inside (inr late)
+        ]
+      ];
+    }
+
+-- the centres that a shape holds lie in the rows between its heights
+pub none_outside : (IsHeld : Spot → Type 0) (h : Heights) (at : Point) (g : Grid) (first end stop : ℕ)
+    → ((row : ℕ) → row < g.rows
+    → ((first ≤ row) × (row < end)) ↔ IsWithin h (relative at (centre_in g 0 row)))
+    → ((s : Spot) → IsHeld s → IsWithin h s) → end ≤ stop → (column row : ℕ) → IsIn g column row
+    → (row < first) ⊎ (stop ≤ row) → IsHeld (relative at (centre_in g column row)) → ⊥
+none_outside IsHeld h at g first end stop band heights done column row inside outside held =
+    let between = (band row inside.1).1 (heights (relative at (centre_in g column row)) held) in
+    elim outside [ inl early ↦ omega (arith, between.0) | inr late ↦ omega (arith, between.1, done) ]

@@ -1,0 +1,139 @@
+-- What a shape holds lies between its heights.
+use Rattle.std.proofs.Common.{◌≡◌, ◌*◌, ℤ, pos, ◌+ℤ◌, ◌-ℤ◌, ◌*ℤ◌, ◌≤ℤ◌, ◌<ℤ◌, IsTrue, ◌⊎◌, inl, inr, arith}
+use Rattle.std.specs.Int.{int_max, int_min}
+use Rattle.std.proofs.lemmas.Bool.{false≢true}
+use Rattle.std.proofs.lemmas.Int.{ints, clamps, by_lt_z}
+use Rattle.cam_units.specs.Boxes.{Holds}
+use Rattle.cam_units.specs.declared.length.Nm.{Nm}
+use Rattle.cam_units.specs.declared.point.Point.{Point}
+use Rattle.cam_units.specs.declared.point.Spot.{Spot}
+use Rattle.cam_shapes.specs.declared.disc.Disc.{Disc}
+use Rattle.cam_shapes.specs.declared.rectangle.Rectangle.{Rectangle}
+use Rattle.cam_shapes.specs.declared.obround.Obround.{Obround}
+use Rattle.cam_shapes.specs.declared.bar.Bar.{Bar}
+use Rattle.cam_shapes.specs.declared.capsule.Capsule.{Capsule}
+use Rattle.cam_shapes.specs.declared.arc.Arc.{Arc}
+use Rattle.cam_shapes.specs.declared.cap.Cap.{Cap}
+use Rattle.cam_shapes.specs.Arc.{IsInArc}
+use Rattle.cam_shapes.specs.Bar.{IsInBar, IsInCapsule}
+use Rattle.cam_shapes.specs.Box.{IsInObround, IsInRectangle}
+use Rattle.cam_shapes.specs.Cap.{is_in_cap}
+use Rattle.cam_shapes.specs.Disc.{IsInDisc, IsInHole}
+use Rattle.cam_shapes.specs.Edge.{crosses_ray, edge}
+use Rattle.cam_shapes.specs.Plane.{dot, place_of, square, way}
+use Rattle.cam_shapes.proofs.Caps.{cap_square}
+use Rattle.cam_shapes.proofs.Crossings.{not_under, under}
+use Rattle.cam_shapes.proofs.Strokes.{arc_square, natural_or_not}
+use Rattle.cam_apertures.specs.Primitives.{box_about}
+use Rattle.cam_apertures.proofs.ShapeBoxes.{bar_span, disc_box, less_at_most, obround_box, rectangle_box, within_box}
+use Rattle.cam_tiles.specs.declared.masks.heights.Heights.{Heights}
+use Rattle.cam_tiles.specs.Masks.{IsWithin}
+
+-- heights so far to both sides of a point
+pub record AreAbout (p : Point) (r : ℤ) (h : Heights) : Type 0 where
+  pub low : h.low ≡ pos 2 *ℤ p.y -ℤ r
+  pub high : h.high ≡ pos 2 *ℤ p.y +ℤ r
+
+-- the heights of the way between two points, and so far above and below it
+pub record AreAlong (p q : Point) (r : ℤ) (h : Heights) : Type 0 where
+  pub low : h.low ≡ pos 2 *ℤ int_min p.y q.y -ℤ r
+  pub high : h.high ≡ pos 2 *ℤ int_max p.y q.y +ℤ r
+
+in_box : (p : Point) (w r : ℤ) (h : Heights) → AreAbout p r h → (s : Spot) → Holds (box_about (place_of p) w r) s
+    → IsWithin h s
+in_box p w r h a s on = (omega (arith, ints, a.low, on.below), omega (arith, ints, a.high, on.above))
+
+pub in_disc : (d : Disc) (h : Heights) → AreAbout d.centre d.diameter.0 h → (s : Spot) → IsInDisc s d → IsWithin h s
+in_disc d h a s on = in_box d.centre d.diameter.0 d.diameter.0 h a s (disc_box d.centre s d.diameter on)
+
+pub in_hole : (d : Disc) (h : Heights) → AreAbout d.centre d.diameter.0 h → (s : Spot) → IsInHole s d → IsWithin h s
+in_hole d h a s on =
+    in_disc d h a s (record { some = on.some; near = less_at_most _ (square d.diameter.0) on.near })
+
+pub in_rectangle : (r : Rectangle) (h : Heights) → AreAbout r.centre r.height.0 h
+    → (s : Spot) → IsInRectangle s r → IsWithin h s
+in_rectangle r h a s on = in_box r.centre r.width.0 r.height.0 h a s (rectangle_box r.centre s r.width r.height on)
+
+pub in_obround : (o : Obround) (h : Heights) → AreAbout o.centre o.height.0 h
+    → (s : Spot) → IsInObround s o → IsWithin h s
+in_obround o h a s on = in_box o.centre o.width.0 o.height.0 h a s (obround_box o.centre s o.width o.height on)
+
+-- ---- ways
+
+-- in a disc about an end of a way, or beside it
+module _ (p q : Point) (w : Nm) (h : Heights) (a : AreAlong p q w.0 h) (s : Spot) where
+  at_start : IsInDisc s (record { centre = p; diameter = w }) → IsWithin h s
+  at_start on =
+      let b = disc_box p s w on in
+      (omega (arith, ints, clamps, a.low, b.below), omega (arith, ints, clamps, a.high, b.above))
+
+  at_end : IsInDisc s (record { centre = q; diameter = w }) → IsWithin h s
+  at_end on =
+      let b = disc_box q s w on in
+      (omega (arith, ints, clamps, a.low, b.below), omega (arith, ints, clamps, a.high, b.above))
+
+  beside : IsInBar s (record { from = p; to = q; width = w }) → IsWithin h s
+  beside on =
+      let b = bar_span p q w s on in
+      (omega (arith, ints, clamps, a.low, b.below), omega (arith, ints, clamps, a.high, b.above))
+
+pub in_bar : (b : Bar) (h : Heights) → AreAlong b.from b.to b.width.0 h → (s : Spot) → IsInBar s b → IsWithin h s
+in_bar b h a s on = beside b.from b.to b.width h a s on
+
+pub in_capsule : (c : Capsule) (h : Heights) → AreAlong c.from c.to c.width.0 h
+    → (s : Spot) → IsInCapsule s c → IsWithin h s
+in_capsule c h a s on = elim on.near [
+  | inl near ↦ at_start c.from c.to c.width h a s (record { some = on.wide; near = near })
+  | inr (inl near) ↦ at_end c.from c.to c.width h a s (record { some = on.wide; near = near })
+  | inr (inr near) ↦ beside c.from c.to c.width h a s (record { wide = on.wide; beside = near })
+]
+
+-- ---- edges
+
+-- an edge falls or rises across the height of a place from which a ray crosses it
+module _ (p q : Point) (h : Heights) (a : AreAlong p q (pos 0) h) (s : Spot) where
+  falls : s.y <ℤ (pos 2 *ℤ p.y) → (pos 2 *ℤ q.y) ≤ℤ s.y → IsWithin h s
+  falls from to = (omega (arith, ints, clamps, a.low), omega (arith, ints, clamps, a.high))
+
+  rises : (pos 2 *ℤ p.y) ≤ℤ s.y → s.y <ℤ (pos 2 *ℤ q.y) → IsWithin h s
+  rises from to = (omega (arith, ints, clamps, a.low), omega (arith, ints, clamps, a.high))
+
+  pub in_edge : IsTrue (crosses_ray s (edge p q)) → IsWithin h s
+  in_edge on =
+      let from = pos 2 *ℤ p.y in
+      let to = pos 2 *ℤ q.y in
+      by_lt_z s.y from
+      (λ below. by_lt_z s.y to
+      (λ low. absurd (false≢true (rw (under s.y from below, under s.y to low) at on)))
+      (λ high. falls below high))
+      (λ over. by_lt_z s.y to
+      (λ low. rises over low)
+      (λ high. absurd (false≢true (rw (not_under s.y from over, not_under s.y to high) at on))))
+
+-- ---- circles
+
+-- the square of the radius of the circle about a point through another
+abbrev squared_radius : Point → Point → ℤ
+squared_radius centre from = dot (way centre from) (way centre from)
+
+pub in_cap : (c : Cap) (r : ℤ) (h : Heights) → squared_radius c.centre c.from <ℤ square r → pos 0 <ℤ r
+    → AreAbout c.centre r h → (s : Spot) → IsTrue (is_in_cap s c) → IsWithin h s
+in_cap c r h past some a s on =
+    let n = natural_or_not r some in
+    let room = less_at_most (squared_radius c.centre c.from) (pos (n.0 * n.0)) (rw n.1 at past) in
+    let k = cap_square s c n.0 room on in
+    in_box c.centre r r h a s (within_box c.centre s r r (rw n.1 k.across) (rw n.1 k.along))
+
+-- an arc lies between the heights of its circle, widened, or between those of its ends
+pub in_arc : (a : Arc) (r : ℤ) (circle ends : Heights) → squared_radius a.centre a.from <ℤ square r → pos 0 <ℤ r
+    → AreAbout a.centre (r +ℤ a.width.0) circle → AreAlong a.from a.to a.width.0 ends
+    → (s : Spot) → IsInArc s a → IsWithin circle s ⊎ IsWithin ends s
+in_arc a r circle ends past some around along s on =
+    let reach = r +ℤ a.width.0 in
+    let n = natural_or_not r some in
+    elim (arc_square s a n.0 (rw n.1 at past) on) [
+      | inl k ↦ inl (in_box a.centre reach reach circle around s
+          (within_box a.centre s reach reach (rw n.1 k.across) (rw n.1 k.along)))
+      | inr (inl near) ↦ inr (at_start a.from a.to a.width ends along s (record { some = on.wide; near = near }))
+      | inr (inr near) ↦ inr (at_end a.from a.to a.width ends along s (record { some = on.wide; near = near }))
+    ]

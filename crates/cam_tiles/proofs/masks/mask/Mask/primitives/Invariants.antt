@@ -1,0 +1,14 @@
+use Rattle.std.proofs.Common.{◌≡◌, map, take}
+use Rattle.cam_apertures.specs.Cover.{IsPainted}
+use Rattle.cam_apertures.specs.Turned.{turned_prim}
+use Rattle.cam_objects.specs.Image.{relative}
+use Rattle.cam_tiles.proofs.Joined.{Shows}
+use Rattle.cam_tiles.proofs.masks.mask.Mask.primitives.Given as goal
+
+-- what the primitives so far paint
+abbrev pub invariant-loop-primitive : goal.invariant-loop-primitive
+invariant-loop-primitive l = record {
+  grid : l.own.grid ≡ l.self.grid;
+  shown : Shows
+      (λ s. IsPainted (map (turned_prim l.turn) (take l.primitive-index l.prims)) (relative l.at s)) l.own;
+}

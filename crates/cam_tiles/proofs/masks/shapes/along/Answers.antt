@@ -1,0 +1,15 @@
+use Rattle.std.proofs.Common.{arith}
+use Rattle.std.proofs.lemmas.Int.{ints, clamps}
+use Rattle.cam_tiles.proofs.masks.shapes.along.Goals as goal
+
+pub overflow_sub-result : goal.overflow_sub-result
+overflow_sub-result c = omega (arith, ints, clamps, c.min.ensures.value)
+
+pub overflow_add-result : goal.overflow_add-result
+overflow_add-result c = omega (arith, ints, clamps, c.max.ensures.value)
+
+pub returns-clause-low : goal.returns-clause-low
+returns-clause-low c = omega (arith, ints, clamps, c.min.ensures.value)
+
+pub returns-clause-high : goal.returns-clause-high
+returns-clause-high c = omega (arith, ints, clamps, c.max.ensures.value)

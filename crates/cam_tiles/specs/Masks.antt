@@ -1,0 +1,59 @@
+-- Masks: which centres of a grid are marked, by 64 rows of 64 bits.
+use Rattle.std.specs.Prelude.{◌≡◌, ◌↔◌, ℕ, ◌^◌, ◌<◌, ◌⊎◌, Bool, true, false, List, length, slice_index, ◌≤ℤ◌}
+use Rattle.std.specs.Int.{IsBitSet}
+use Rattle.cam_units.specs.declared.point.Spot.{Spot}
+use Rattle.cam_tiles.specs.declared.grid.Grid.{Grid}
+use Rattle.cam_tiles.specs.declared.masks.heights.Heights.{Heights}
+use Rattle.cam_tiles.specs.declared.masks.join.Join.{Join}
+use Rattle.cam_tiles.specs.declared.masks.join.Join.TheVariants.{Add, Clear, Turn}
+use Rattle.cam_tiles.specs.Tiles.{IsGrid, centre_in}
+
+pub record Marking : Type 0 where
+  pub grid : Grid
+  pub rows : List ℕ
+
+-- whether a grid has a centre in a column and a row
+abbrev pub IsIn : Grid → ℕ → ℕ → Type 0
+IsIn g column row = (column < g.columns) × (row < g.rows)
+
+-- bit i of a row, which is counted from the top, is the centre in column i
+abbrev pub IsMarked : Marking → ℕ → ℕ → Type 0
+IsMarked m column row = IsBitSet (slice_index m.rows row) column
+
+-- 64 rows of 64 bits, of which none is set past the grid
+pub record IsMask (m : Marking) : Type 0 where
+  pub grid : IsGrid m.grid
+  pub whole : length m.rows ≡ 64
+  pub fit : (row : ℕ) → slice_index m.rows row < 2 ^ 64
+  pub inside : (column row : ℕ) → column < 64 → row < 64 → IsMarked m column row → IsIn m.grid column row
+
+-- no centre is marked
+abbrev pub IsBlank : Marking → Type 0
+IsBlank m = (column row : ℕ) → IsIn m.grid column row → IsMarked m column row → ⊥
+
+-- what marks become: those of a shape are added, are cleared, or turn what was
+abbrev pub joined : Join → Type 0 → Type 0 → Type 0
+joined Add was held = was ⊎ held
+joined Clear was held = was × (held → ⊥)
+joined Turn was held = (was × (held → ⊥)) ⊎ ((was → ⊥) × held)
+
+-- what is dark is added, what is clear is cleared
+abbrev pub inked : Bool → Join
+inked true = Add
+inked false = Clear
+
+-- the marks of a grid, joined with the places of a shape
+pub record Joins (how : Join) (IsHeld : Spot → Type 0) (old new : Marking) : Type 0 where
+  pub grid : new.grid ≡ old.grid
+  pub marks : (column row : ℕ) → IsIn old.grid column row
+      → IsMarked new column row ↔ joined how (IsMarked old column row) (IsHeld (centre_in old.grid column row))
+
+-- and with the marks of another mask
+pub record Merges (how : Join) (other old new : Marking) : Type 0 where
+  pub grid : new.grid ≡ old.grid
+  pub marks : (column row : ℕ) → IsIn old.grid column row
+      → IsMarked new column row ↔ joined how (IsMarked old column row) (IsMarked other column row)
+
+-- a height between two, or at one of them
+abbrev pub IsWithin : Heights → Spot → Type 0
+IsWithin h s = (h.low ≤ℤ s.y) × (s.y ≤ℤ h.high)

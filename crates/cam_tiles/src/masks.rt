@@ -1,0 +1,10 @@
+//! Masks: which pixel centres of a tile are marked.
+
+pub(crate) mod canvas;
+pub(crate) mod contours;
+pub(crate) mod heights;
+pub(crate) mod join;
+pub(crate) mod mask;
+pub(crate) mod row_shape;
+pub(crate) mod shapes;
+pub(crate) mod stamps;

@@ -1,0 +1,38 @@
+//! Masks as canvases: a mark is a dark pixel.
+
+ghost use Rattle.std.specs.Int.{bit_at};
+ghost use Rattle.std.specs.Prelude.{◌==◌, slice_index};
+ghost use Rattle.cam_tiles.specs.Masks.{IsIn};
+ghost use Rattle.cam_tiles.specs.Tiles.{centre_in};
+
+use crate::masks::join::Join;
+use crate::masks::mask::{Mask, ORIGIN};
+use cam_objects::{Canvas, Figure, Print};
+use cam_units::Bounds;
+
+impl Canvas for Mask {
+    ghost has = { λ m. IsIn m.grid };
+
+    ghost place = { λ m. centre_in m.grid };
+
+    ghost ink = { λ m column row. bit_at (slice_index m.rows row) column == 1 };
+
+    fn misses(&self, bounds: Bounds) -> bool {
+        !bounds.meets(self.grid().bounds())
+    }
+
+    fn paint(&mut self, print: Print<'_>) {
+        let how = Join::inked(print.dark);
+        match print.figure {
+            Figure::Stamp { aperture, turn, at } => self.stamp(aperture, turn, at, how),
+            Figure::Stroke(capsule) => self.join(&capsule, ORIGIN, how),
+            Figure::Sweep(arc) => self.join(&arc, ORIGIN, how),
+            Figure::Filled {
+                contour,
+                turn,
+                offset,
+            } => self.fill(contour, turn, offset, how),
+            Figure::Drilled(disc) => self.join(&disc, ORIGIN, how),
+        }
+    }
+}

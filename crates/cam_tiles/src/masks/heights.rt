@@ -1,0 +1,24 @@
+//! Heights between which a shape lies.
+
+ghost use Rattle.std.specs.Prelude.{◌⊎◌};
+ghost use Rattle.cam_units.specs.declared.point.Spot.{Spot};
+ghost use Rattle.cam_tiles.specs.Masks.{IsWithin};
+
+/// The heights from a low to a high one, both included, in half nm; none where `high` is less than `low`.
+#[derive(Clone, Copy, Debug, PartialEq, Eq)]
+pub(crate) struct Heights {
+    pub(crate) low: i64,
+    pub(crate) high: i64,
+}
+
+impl Heights {
+    /// Heights between which lies what lies between either.
+    pub(crate) fn joined(self, other: Heights) -> Heights
+        ensures { (s : Spot) → IsWithin self s ⊎ IsWithin other s → IsWithin result s }
+    {
+        Heights {
+            low: self.low.min(other.low),
+            high: self.high.max(other.high),
+        }
+    }
+}

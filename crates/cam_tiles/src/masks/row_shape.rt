@@ -1,0 +1,28 @@
+//! Shapes that mark rows of centres.
+
+ghost use Rattle.cam_units.specs.declared.point.Spot.{Spot};
+ghost use Rattle.cam_rows.specs.Rows.{IsRow, Marks};
+ghost use Rattle.cam_tiles.specs.Masks.{IsWithin};
+
+use crate::masks::heights::Heights;
+use cam_rows::Centres;
+
+/// A shape whose rows are known.
+pub(crate) trait RowShape {
+    /// Whether its sizes and points are within the limits.
+    ghost is_sound: { Self → Type 0 };
+
+    /// The places that it holds.
+    ghost holds: { Self → Spot → Type 0 };
+
+    /// Heights between which all of them lie.
+    fn heights(&self) -> Heights
+        requires { is_sound self.now }
+        ensures { (s : Spot) → holds self.now s → IsWithin result s };
+
+    /// Bit i is set exactly where it holds centre i; bits past the last centre are 0.
+    fn row(&self, centres: Centres) -> u64
+        requires sound { is_sound self.now }
+        requires row { IsRow centres }
+        ensures { Marks result centres (holds self.now) };
+}

@@ -1,0 +1,142 @@
+//! Apertures, stamped on masks.
+
+ghost use Rattle.std.specs.Prelude.{◌≡◌, All, map};
+ghost use Rattle.cam_units.specs.Board.{IsOnBoard, IsSize};
+ghost use Rattle.cam_shapes.specs.Disc.{IsInHole};
+ghost use Rattle.cam_apertures.specs.Cover.{IsCovered, IsInShape, IsPainted, disc};
+ghost use Rattle.cam_apertures.specs.Primitives.{IsSoundPrim};
+ghost use Rattle.cam_apertures.specs.Soundness.{IsSoundAperture};
+ghost use Rattle.cam_apertures.specs.Turned.{turned_prim, turned_shape};
+ghost use Rattle.cam_objects.specs.Image.{relative};
+ghost use Rattle.cam_tiles.specs.Masks.{Joins, inked};
+
+use crate::masks::join::Join;
+use crate::masks::mask::{Mask, ORIGIN};
+use crate::masks::row_shape::RowShape;
+use crate::masks::shapes::Hole;
+use cam_apertures::{Aperture, turned_height, turned_width};
+use cam_macros::{MacroPrimitive, PrimShape};
+use cam_shapes::{Bar, Disc, Obround, Rectangle};
+use cam_units::{Nm, Point, Turn};
+
+impl Mask {
+    /// Joins the marks with what an aperture covers, mirrored and turned, at a point: one with a hole, and the
+    /// primitives of a macro, are composed in a mask of their own.
+    pub(crate) fn stamp(&mut self, aperture: &Aperture, turn: Turn, at: Point, how: Join)
+        requires aperture { IsSoundAperture aperture.now }
+        requires at { IsOnBoard at }
+        ensures { Joins how (λ s. IsCovered aperture.now turn (relative at s)) self.old self.new }
+    {
+        match aperture {
+            Aperture::Circle { diameter, hole } => {
+                self.pierced(&disc(*diameter), *hole, at, how);
+            }
+            Aperture::Rect {
+                width,
+                height,
+                hole,
+            } => {
+                let rectangle = Rectangle {
+                    centre: ORIGIN,
+                    width: turned_width(turn, *width, *height),
+                    height: turned_height(turn, *width, *height),
+                };
+                self.pierced(&rectangle, *hole, at, how);
+            }
+            Aperture::Obround {
+                width,
+                height,
+                hole,
+            } => {
+                let obround = Obround {
+                    centre: ORIGIN,
+                    width: turned_width(turn, *width, *height),
+                    height: turned_height(turn, *width, *height),
+                };
+                self.pierced(&obround, *hole, at, how);
+            }
+            Aperture::Prims(prims) => self.primitives(prims.as_slice(), turn, at, how),
+        }
+    }
+
+    /// Joins the marks with a shape that has a round hole about the flash point; a hole of 0 is none.
+    fn pierced<S: RowShape>(&mut self, shape: &S, hole: Nm, at: Point, how: Join)
+        requires shape { S.is_sound shape.now }
+        requires hole { IsSize hole.0 }
+        requires at { IsOnBoard at }
+        ensures { Joins how (λ s. S.holds shape.now (relative at s) × (IsInHole (relative at s) (disc hole) → ⊥))
+            self.old self.new }
+    {
+        if hole.0 == 0 {
+            self.join(shape, at, how);
+            return;
+        }
+        let mut own = Mask::blank(self.grid());
+        own.join(shape, at, Join::Add);
+        own.join(&Hole(disc(hole)), at, Join::Clear);
+        self.merge(&own, how);
+    }
+
+    /// Joins the marks with what primitives paint, once they are turned: a later one takes back what it clears.
+    fn primitives(&mut self, prims: &[MacroPrimitive], turn: Turn, at: Point, how: Join)
+        requires prims { All IsSoundPrim prims.now }
+        requires at { IsOnBoard at }
+        ensures { Joins how (λ s. IsPainted (map (turned_prim turn) prims.now) (relative at s)) self.old self.new }
+    {
+        let mut own = Mask::blank(self.grid());
+        for primitive in prims {
+            own.primitive(primitive, turn, at);
+        }
+        self.merge(&own, how);
+    }
+
+    /// Adds what a primitive paints, or clears what it takes back.
+    fn primitive(&mut self, primitive: &MacroPrimitive, turn: Turn, at: Point)
+        requires primitive { IsSoundPrim primitive.now }
+        requires at { IsOnBoard at }
+        ensures { Joins (inked primitive.now.paint)
+            (λ s. IsInShape (turned_shape turn primitive.now.shape) (relative at s)) self.old self.new }
+    {
+        let how = Join::inked(primitive.paint);
+        match &primitive.shape {
+            PrimShape::Disc { centre, diameter } => {
+                let disc = Disc {
+                    centre: turn.apply(*centre),
+                    diameter: *diameter,
+                };
+                self.join(&disc, at, how);
+            }
+            PrimShape::Bar { from, to, width } => {
+                let bar = Bar {
+                    from: turn.apply(*from),
+                    to: turn.apply(*to),
+                    width: *width,
+                };
+                self.join(&bar, at, how);
+            }
+            PrimShape::Rect {
+                centre,
+                width,
+                height,
+            } => {
+                let rectangle = Rectangle {
+                    centre: turn.apply(*centre),
+                    width: turned_width(turn, *width, *height),
+                    height: turned_height(turn, *width, *height),
+                };
+                self.join(&rectangle, at, how);
+            }
+            PrimShape::Outline { points } => self.fill_outline(points.as_slice(), turn, at, how),
+        }
+    }
+}
+
+/// A disc about the flash point.
+fn disc(diameter: Nm) -> Disc
+    ensures { result ≡ disc diameter }
+{
+    Disc {
+        centre: ORIGIN,
+        diameter,
+    }
+}
