@@ -18,6 +18,9 @@ use cam_tiles::{Raster, Source, Window};
 use cam_writers::{gerber_text, xnc_text};
 use std::alloc::{AllocError, Global};
 
+/// To draw no more tiles than this, each item is asked for its box at each; for more, their boxes are kept at hand.
+const FEW_TILES: u32 = 8;
+
 /// A raster of an accepted window, its tiles dirty; 30 where memory was refused.
 fn blank(alloc: Global, window: Window) -> Result<Raster, Fault>
     requires { accepts window ≡ true }
@@ -58,7 +61,7 @@ pub(crate) fn blanks(alloc: Global, window: Window, count: usize) -> Result<Vec<
 }
 
 /// Draws dirty tiles, by layer and then by number, and answers how many.
-pub(crate) fn draw_all(board: &Board, rasters: &mut [Raster], at_most: u32) -> u32
+pub(crate) fn draw_all(alloc: Global, board: &Board, rasters: &mut [Raster], at_most: u32) -> u32
     requires sound { AreSound (sheets_of board.now) }
     requires layers { length rasters.old ≤ length (sheets_of board.now) }
     ensures drawn { result ≡ min at_most (dirty_in rasters.old) }
@@ -66,21 +69,25 @@ pub(crate) fn draw_all(board: &Board, rasters: &mut [Raster], at_most: u32) -> u
 {
     let mut left = at_most;
     for place in 0..rasters.len() {
-        left -= draw(board.content(place), &mut rasters[place], left);
+        left -= draw(alloc, board.content(place), &mut rasters[place], left);
     }
     at_most - left
 }
 
 /// Draws dirty tiles of a layer, those of least number first, and answers how many.
-pub(crate) fn draw(content: &SheetContent, raster: &mut Raster, at_most: u32) -> u32
+pub(crate) fn draw(alloc: Global, content: &SheetContent, raster: &mut Raster, at_most: u32) -> u32
     requires { IsSound (content_of content.now) }
     ensures drawn { result ≡ min at_most (dirty_count raster.old) }
     ensures tiles { raster.new ≡ redrawn (image_of (content_of content.now)) at_most raster.old }
 {
-    match content {
-        SheetContent::Gerber(layer) => raster.redraw(&mut Source::gerber(layer), at_most),
-        SheetContent::Drill(layer) => raster.redraw(&mut Source::drill(layer), at_most),
+    let mut source = match content {
+        SheetContent::Gerber(layer) => Source::gerber(layer),
+        SheetContent::Drill(layer) => Source::drill(layer),
+    };
+    if raster.dirty().min(at_most) > FEW_TILES {
+        source.keep_boxes(alloc);
     }
+    raster.redraw(&mut source, at_most)
 }
 
 /// The canonical text of a layer, as a file of its kind.

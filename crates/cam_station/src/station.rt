@@ -203,7 +203,7 @@ impl Station {
         if self.window.is_none() {
             return Err(refusal(refusals::NO_WINDOW));
         }
-        let drawn = draw_all(&self.board, &mut self.rasters, at_most);
+        let drawn = draw_all(self.alloc, &self.board, &mut self.rasters, at_most);
         Ok(Reply::Numbers(Numbers::One(u64::from(drawn))))
     }
 
@@ -219,7 +219,7 @@ impl Station {
         }
         let raster = &mut self.rasters[place];
         let dirty = raster.dirty();
-        let drawn = draw(self.board.content(place), raster, dirty);
+        let drawn = draw(self.alloc, self.board.content(place), raster, dirty);
         match raster.to_pbm(self.alloc) {
             Ok(bytes) => Ok(Reply::Bytes {
                 bytes: Bytes::from_vec(bytes),
