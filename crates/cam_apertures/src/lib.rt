@@ -8,6 +8,7 @@
 //! - [`Aperture::covers`]: whether an aperture covers a place; [`Aperture::bounds`]: its box. Neither
 //!   takes memory. [`Aperture::is_solid_circle`]: whether lines may be drawn with it.
 //! - [`turned`]: a box, mirrored and turned; [`has_place`]: whether a place lies in a box.
+//! - [`turned_width`], [`turned_height`]: the sides of a shape, once it is turned.
 //! - [`Primitives`]: the primitives of a macro, with the box of all of them kept beside them.
 //! - [`parse_ad`]: the aperture that a definition of a Gerber file stands for, or the fault of least
 //!   number; [`ad_number`]: its number alone.

@@ -11,6 +11,7 @@
 //! - [`in_bar`]: a line of a macro; [`in_capsule`], [`in_arc`]: the strokes of a round tool.
 //! - [`in_contour`]: a region, by an odd number of [`in_edge`] and [`in_cap`]; [`in_outline`]: an
 //!   outline of a macro, by its points.
+//! - [`Placing`]: where the points and segments of a contour come to lie, once it is turned and moved.
 //!
 //! A shape with a diameter, side or width of 0 covers nothing. No test takes memory.
 #![tactic(auto)]

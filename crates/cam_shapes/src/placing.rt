@@ -22,7 +22,7 @@ pub struct Placing {
 impl Placing {
     /// Whether both coordinates of the offset are under two metres in absolute value; a longer one
     /// leads each point off the board.
-    pub fn fits_offset(self) -> bool
+    pub(crate) fn fits_offset(self) -> bool
         ensures { IsTrue result ↔ IsOffset self.offset }
     {
         self.offset.x.unsigned_abs() < OFFSET && self.offset.y.unsigned_abs() < OFFSET
@@ -42,7 +42,7 @@ impl Placing {
     }
 
     /// Whether the point lies on the board, also once it is placed.
-    pub fn fits_point(self, point: Point) -> bool
+    pub(crate) fn fits_point(self, point: Point) -> bool
         requires { IsOffset self.offset }
         ensures { IsTrue result ↔ IsPlaceablePoint self.turn self.offset point }
     {
@@ -61,7 +61,7 @@ impl Placing {
     }
 
     /// Whether the points of all segments lie on the board, also once they are placed.
-    pub fn fits_segs(self, segs: &[Seg]) -> bool
+    pub(crate) fn fits_segs(self, segs: &[Seg]) -> bool
         requires { IsOffset self.offset }
         ensures { IsTrue result ↔ All (IsPlaceableSeg self.turn self.offset) segs.now }
     {
