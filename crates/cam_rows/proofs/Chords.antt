@@ -13,7 +13,11 @@ use Rattle.cam_shapes.specs.Disc.{IsInDisc, IsInHole}
 use Rattle.cam_shapes.specs.Box.{IsInRectangle}
 use Rattle.cam_shapes.proofs.Reaches.{other_leg}
 use Rattle.cam_shapes.proofs.Strokes.{dot_is}
+use Rattle.cam_rows.specs.declared.centres.Centres.{Centres}
+use Rattle.cam_rows.specs.Columns.{IsInColumns}
+use Rattle.cam_rows.specs.Rows.{Marks}
 use Rattle.cam_rows.proofs.Circling.{square_of}
+use Rattle.cam_rows.proofs.Marked.{marks_none, marks_same}
 
 -- a size without its sign, as 64 bits pass it
 pub cast_size : (z : ℤ) → IsSize z → unsigned_abs z ≡ unsigned_abs (to_z w64 (of_z w64 z))
@@ -69,3 +73,28 @@ in_width s r wide high some_width some_height is_width is_high across =
         between = record { across = omega (arith, ints); along = omega (arith, ints) };
       }),
     )
+
+-- and the columns that it spans
+pub in_columns : (s : Spot) (r : Rectangle) (wide : ℕ) → pos 0 <ℤ r.width.0 → pos 0 <ℤ r.height.0
+    → unsigned_abs r.width.0 ≡ wide → IsInColumns s r ↔ (unsigned_abs (seen_from r.centre s).x ≤ wide)
+in_columns s r wide some_width some_height is_width = (
+  (λ inside. omega (arith, ints, inside.2)),
+  (λ near. (some_width, some_height, omega (arith, ints))),
+)
+
+-- the same run in each row that lies across
+pub across_columns : (run : ℕ) (c : Centres) (r : Rectangle) → Marks run c (λ s. IsInColumns s r)
+    → pos (unsigned_abs (seen_from r.centre c.first).y) ≤ℤ r.height.0 → Marks run c (λ s. IsInRectangle s r)
+across_columns run c r told across =
+    marks_same run c (λ s. IsInColumns s r) (λ s. IsInRectangle s r) told
+    (λ i _. (
+      (λ inside. (inside.wide, inside.high, inside.between.across)),
+      (λ p. record { wide = p.0; high = p.1; between = record { across = p.2; along = across } }),
+    ))
+
+-- none of it lies in a row above or below it
+pub past_rectangle : (run : ℕ) (c : Centres) (r : Rectangle) → run ≡ 0
+    → r.height.0 <ℤ pos (unsigned_abs (seen_from r.centre c.first).y) → Marks run c (λ s. IsInRectangle s r)
+past_rectangle run c r none over =
+    marks_none run c (λ s. IsInRectangle s r) none
+    (λ i _ inside. omega (arith, ints, inside.between.along, over))

@@ -1,12 +1,17 @@
 -- Which side of an edge a place is on, by its ends in either order.
-use Rattle.std.proofs.Common.{◌≡◌, ◌↔◌, true, false, IsTrue, ℤ, pos, ◌-ℤ◌, ◌<ℤ◌, arith}
+use Rattle.std.proofs.Common.{◌≡◌, ◌≢◌, ◌↔◌, ℕ, Bool, true, false, IsTrue, ℤ, pos, negsuc, ◌-ℤ◌, ◌*ℤ◌, ◌≤ℤ◌, ◌<ℤ◌}
+use Rattle.std.proofs.Common.{inl, inr, subst, sym, ◌∙◌, arith}
+use Rattle.std.proofs.lemmas.Bool.{cases_Bool}
 use Rattle.std.proofs.lemmas.Int.{ints}
 use Rattle.cam_units.specs.declared.point.Point.{Point}
 use Rattle.cam_units.specs.declared.point.Spot.{Spot}
 use Rattle.cam_units.proofs.Ring.{Polynomial, Atom, Difference, Product, equal}
 use Rattle.cam_shapes.specs.Edge.{crosses_ray, edge, is_above}
 use Rattle.cam_shapes.specs.Plane.{cross, seen_from, way}
-use Rattle.cam_shapes.proofs.Crossings.{less_is}
+use Rattle.cam_shapes.proofs.Crossings.{less_is, under}
+use Rattle.cam_rows.specs.declared.centres.Centres.{Centres}
+use Rattle.cam_rows.specs.Rows.{centre_at, row_below}
+use Rattle.cam_rows.proofs.Slopes.{top_row}
 
 -- a place left of the one is right of the other
 reversed : (p q : Point) (s : Spot)
@@ -32,3 +37,52 @@ left_of_reverse s p q above below =
     rw (above, below) (through
     (negative (cross (way p q) (seen_from p s)) (cross (way q p) (seen_from q s)) (reversed p q s))
     (less_is (cross (way p q) (seen_from p s)) (pos 0)))
+
+-- and one that rises, from its own left
+left_of_edge : (s : Spot) (p q : Point) → is_above p s ≡ false → is_above q s ≡ true
+    → (pos 0 <ℤ cross (way p q) (seen_from p s)) ↔ IsTrue (crosses_ray s (edge p q))
+left_of_edge s p q below above =
+    let told = less_is (pos 0) (cross (way p q) (seen_from p s)) in rw (below, above) (told.1, told.0)
+
+-- a point above a row is above the rows below it
+no_higher : (step : ℤ) (k : ℕ) → pos 1 ≤ℤ step → pos 0 ≤ℤ (pos k *ℤ step)
+no_higher (pos n) k up = omega (arith, ints)
+no_higher (negsuc n) k up = absurd (omega (arith, ints))
+
+above_lower : (p : Point) (c : Centres) (k : ℕ) → pos 1 ≤ℤ c.step → is_above p c.first ≡ true
+    → is_above p (row_below c k).first ≡ true
+above_lower p c k up above =
+    let high = (less_is c.first.y (pos 2 *ℤ p.y)).0 above in
+    under (c.first.y -ℤ pos k *ℤ c.step) (pos 2 *ℤ p.y) (omega (arith, ints, high, no_higher c.step k up))
+
+-- of two ends on different sides of a row's height
+other_below : (a b : Bool) → a ≡ true → a ≢ b → b ≡ false
+other_below a b e apart = elim (cases_Bool b) [ inl same ↦ absurd (apart (e ∙ sym same)) | inr other ↦ other ]
+
+other_above : (a b : Bool) → a ≡ false → a ≢ b → b ≡ true
+other_above a b e apart = elim (cases_Bool b) [ inl other ↦ other | inr same ↦ absurd (apart (e ∙ sym same)) ]
+
+-- exactly one end of the edge is above the row
+abbrev IsCrossed : Point → Point → Centres → Type 0
+IsCrossed p q c = is_above p c.first ≢ is_above q c.first
+
+-- an edge whose start is above the top row falls through each row that it crosses, and another rises
+pub falls_through : (p q : Point) (c : Centres) (k i : ℕ) → pos 1 ≤ℤ c.step → is_above p c.first ≡ true
+    → IsCrossed p q (row_below c k)
+    → (pos 0 <ℤ cross (way q p) (seen_from q (centre_at (row_below c k) i)))
+    ↔ IsTrue (crosses_ray (centre_at (row_below c k) i) (edge p q))
+falls_through p q c k i up above crossed =
+    let here = above_lower p c k up above in
+    left_of_reverse (centre_at (row_below c k) i) p q here
+    (other_below (is_above p (row_below c k).first) (is_above q (row_below c k).first) here crossed)
+
+pub rises_through : (p q : Point) (c : Centres) (k i : ℕ) → pos 1 ≤ℤ c.step → is_above p c.first ≡ false
+    → IsCrossed p q (row_below c 0) → IsCrossed p q (row_below c k)
+    → (pos 0 <ℤ cross (way p q) (seen_from p (centre_at (row_below c k) i)))
+    ↔ IsTrue (crosses_ray (centre_at (row_below c k) i) (edge p q))
+rises_through p q c k i up below top crossed =
+    let there = other_above (is_above p c.first) (is_above q c.first) below (subst (IsCrossed p q) (top_row c) top) in
+    let here = above_lower q c k up there in
+    left_of_edge (centre_at (row_below c k) i) p q
+    (other_below (is_above q (row_below c k).first) (is_above p (row_below c k).first) here (λ e. crossed (sym e)))
+    here

@@ -1,10 +1,10 @@
 -- Rows of what two shapes hold.
-use Rattle.std.proofs.Common.{◌≡◌, ℕ, ◌^◌, ◌<◌, ◌↔◌, ◌⊎◌, bit_and, arith}
+use Rattle.std.proofs.Common.{◌≡◌, ℕ, ◌^◌, ◌<◌, ◌↔◌, ◌⊎◌, bit_and, bit_or, arith}
 use Rattle.std.specs.Int.{IsBitSet, bit_not, w64}
 use Rattle.cam_units.specs.declared.point.Spot.{Spot}
 use Rattle.cam_rows.specs.declared.centres.Centres.{Centres}
 use Rattle.cam_rows.specs.Rows.{Marks, centre_at}
-use Rattle.cam_rows.proofs.SetBits.{none_set, set_in_and, set_in_rest}
+use Rattle.cam_rows.proofs.SetBits.{none_set, set_in_and, set_in_or, set_in_rest}
 
 -- of a centre: one bit by the bits of two rows
 pub in_both : (r a b k P Q R : Type 0) → (r ↔ (a × b)) → (a ↔ (k × P)) → (b ↔ (k × Q)) → (k → R ↔ (P × Q)) → r ↔ (k × R)
@@ -41,6 +41,12 @@ pub marks_both : (a b : ℕ) (c : Centres) (P Q R : Spot → Type 0) → Marks a
 marks_both a b c P Q R first second meaning i within =
     in_both (IsBitSet (bit_and a b) i) (IsBitSet a i) (IsBitSet b i) (i < c.count) (P (centre_at c i))
     (Q (centre_at c i)) (R (centre_at c i)) (set_in_and a b i) (first i within) (second i within) (meaning i)
+
+pub marks_either : (a b : ℕ) (c : Centres) (P Q R : Spot → Type 0) → Marks a c P → Marks b c Q
+    → AtCentres c (λ s. R s ↔ (P s ⊎ Q s)) → Marks (bit_or a b) c R
+marks_either a b c P Q R first second meaning i within =
+    in_either (IsBitSet (bit_or a b) i) (IsBitSet a i) (IsBitSet b i) (i < c.count) (P (centre_at c i))
+    (Q (centre_at c i)) (R (centre_at c i)) (set_in_or a b i) (first i within) (second i within) (meaning i)
 
 pub marks_rest : (a b : ℕ) (c : Centres) (P Q R : Spot → Type 0) → b < 2 ^ 64 → Marks a c P → Marks b c Q
     → AtCentres c (λ s. R s ↔ (P s × (Q s → ⊥))) → Marks (bit_and a (bit_not w64 b)) c R

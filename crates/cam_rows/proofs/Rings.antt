@@ -1,5 +1,5 @@
 -- Places near a circle, between two bounds of the square of their distance from its centre.
-use Rattle.std.proofs.Common.{◌≡◌, ◌↔◌, ◌⊎◌, ℕ, ◌+◌, ◌-◌, ◌*◌, ◌<◌, ◌≤◌, ℤ, pos, ◌-ℤ◌, ◌≤ℤ◌, ◌<ℤ◌, inl, inr, sym, arith}
+use Rattle.std.proofs.Common.{◌≡◌, ◌↔◌, ◌⊎◌, ℕ, ◌+◌, ◌-◌, ◌*◌, ◌<◌, ◌≤◌, ℤ, pos, ◌-ℤ◌, ◌≤ℤ◌, ◌<ℤ◌, inl, inr, arith}
 use Rattle.std.specs.Int.RustNames.{unsigned_abs}
 use Rattle.std.proofs.lemmas.Int.{ints}
 use Rattle.std.proofs.lemmas.Bool.{cases_lt}
@@ -9,7 +9,7 @@ use Rattle.cam_shapes.specs.Plane.{dot, square}
 use Rattle.cam_shapes.specs.Arc.{IsNearCircle}
 use Rattle.cam_shapes.proofs.Widths.{square_is}
 use Rattle.cam_shapes.proofs.Circles.{same_inequality}
-use Rattle.cam_shapes.proofs.Strokes.{dot_is, not_beyond}
+use Rattle.cam_shapes.proofs.Strokes.{dot_is}
 use Rattle.cam_rows.proofs.Circling.{below_root}
 
 -- p, q and s are squares: of the distance, of the circle's radius and of the stroke's; the root is that of 4sq
@@ -100,14 +100,6 @@ pub near_in_open_ring : (p q s root : ℕ) (d r : ℤ) → pos q ≡ d → pos s
     → IsNearCircle (pos p) d r ↔ ((q + s - root ≤ p) × (p < q + s + root + 1))
 near_in_open_ring p q s root d r e f least greatest order =
     rw (← e) (through (near_by_root p q s root r f (least, greatest)) (open_ring p q s root order))
-
--- no place near a circle lies higher over its centre than the circle by more than the width
-pub past_ring : (v : Vector) (q r : ℤ) (radius width over high : ℕ) → pos radius ≡ q → r ≡ pos width
-    → over + width ≡ high → high ≡ unsigned_abs v.y → radius < over * over → IsNearCircle (dot v v) q r → ⊥
-past_ring v q r radius width over high e f g k far near =
-    let p = unsigned_abs v.x * unsigned_abs v.x + unsigned_abs v.y * unsigned_abs v.y in
-    let least : (over + width) * (over + width) ≤ p = rw (g, k) (omega arith) in
-    not_beyond p radius width over far least (rw (sym e, f, dot_is v) at near)
 
 natural_below : (p n : ℕ) → (pos p <ℤ pos n) ↔ (p < n)
 natural_below p n = ((λ h. omega (arith, ints)), (λ h. omega (arith, ints)))

@@ -1,8 +1,9 @@
 -- Which bits are set in rows that are joined, and in runs of bits.
-use Rattle.std.proofs.Common.{◌≡◌, ℕ, ◌*◌, ◌-◌, ◌%◌, ◌^◌, ◌<◌, ◌↔◌, ◌⊎◌, refl, arith, bit_and, bit_or}
+use Rattle.std.proofs.Common.{◌≡◌, ℕ, ◌+◌, ◌*◌, ◌-◌, ◌/◌, ◌%◌, ◌^◌, ◌<◌, ◌↔◌, ◌⊎◌}
+use Rattle.std.proofs.Common.{refl, ap, ◌∙◌, arith, bit_and, bit_or}
 use Rattle.std.specs.Int.{IsBitSet, bit_at, bit_not, w64}
 use Rattle.std.specs.Int.RustNames.{bit_xor}
-use Rattle.std.proofs.lemmas.Nat.{bit_set_by_shift, one_shl}
+use Rattle.std.proofs.lemmas.Nat.{bit_set_by_shift, one_shl, shr-shr}
 use Rattle.std.proofs.lemmas.Nat.Bits.{bit_at-lt, bit_at_and, bit_at_not, bit_at_ones, bit_at_ones_above, bit_at_or}
 use Rattle.std.proofs.lemmas.Nat.Bits.{bit_at_xor, shr_and_one}
 
@@ -35,6 +36,13 @@ set_in_not a i fits within = grind (arith, bit_values, bit_at_not w64 a i fits w
 pub set_in_rest : (a b i : ℕ) → b < 2 ^ 64 → i < 64
     → IsBitSet (bit_and a (bit_not w64 b)) i ↔ (IsBitSet a i × (IsBitSet b i → ⊥))
 set_in_rest a b i fits within = grind (arith, set_in_and, set_in_not b i fits within)
+
+-- a row that is shifted down
+pub set_in_shr : (n places i : ℕ) → IsBitSet (n / 2 ^ places) i ↔ IsBitSet n (i + places)
+set_in_shr n places i =
+    let same : bit_at (n / 2 ^ places) i ≡ bit_at n (i + places) =
+    ap (λ m. m % 2) (shr-shr n places i) ∙ ap (bit_at n) (omega arith) in
+    grind (arith, set_is_one, same)
 
 -- the run of bits below an end, as shifts compute it
 run_below : (end i : ℕ) → IsBitSet (2 ^ end - 1) i ↔ (i < end)

@@ -5,7 +5,7 @@ use Rattle.std.specs.Int.RustNames.{unsigned_abs}
 use Rattle.std.proofs.lemmas.Int.{ints}
 use Rattle.cam_units.specs.declared.point.Point.{Point}
 use Rattle.cam_units.proofs.TurnLaws.{same_point}
-use Rattle.cam_units.proofs.Ring.{Atom, Difference, Polynomial, Product, Sum, equal}
+use Rattle.cam_units.proofs.Ring.{Atom, Product, Sum, equal}
 use Rattle.cam_shapes.specs.declared.vector.Vector.{Vector}
 use Rattle.cam_shapes.specs.Plane.{cross, place_of, seen_from, way}
 use Rattle.cam_shapes.specs.Arc.{IsInSweep, IsNarrow}
@@ -17,34 +17,21 @@ use Rattle.cam_rows.specs.declared.linear.Linear.{Linear}
 use Rattle.cam_rows.specs.Linear.{number_at}
 use Rattle.cam_rows.specs.Rows.{centre_at}
 
--- the only centre of a row, at a point
-no_steps : (x step : ℤ) → x +ℤ pos 0 *ℤ step ≡ x
+pub no_steps : (x step : ℤ) → x +ℤ pos 0 *ℤ step ≡ x
 no_steps x step = equal (Sum (Atom x) (Product (Atom (pos 0)) (Atom step))) (Atom x) (omega arith)
 
+-- the only centre of a row, at a point
 pub seen_alone : (o p : Point) (c : Centres) → c.first ≡ place_of p → seen_from o (centre_at c 0) ≡ way o p
 seen_alone o p c e =
     same_vector (seen_from o (centre_at c 0)) (way o p)
     (ap (λ x. x -ℤ pos 2 *ℤ o.x) (no_steps c.first.x c.step ∙ ap (λ s. s.x) e))
     (ap (λ s. s.y -ℤ pos 2 *ℤ o.y) e)
 
-same_wide : (z : ℤ) → unsigned_abs z < 2 ^ 100 → wide z ≡ z
+pub same_wide : (z : ℤ) → unsigned_abs z < 2 ^ 100 → wide z ≡ z
 same_wide z h = omega (arith, ints)
 
 pub first_number : (l : Linear) (z : ℤ) → unsigned_abs l.first < 2 ^ 100 → number_at l 0 ≡ z → wide l.first ≡ z
 first_number l z short e = same_wide l.first short ∙ sym (no_steps l.first l.step) ∙ e
-
--- the other way round
-cross_turned : (v e : Vector) → cross v e ≡ pos 0 -ℤ cross e v
-cross_turned v e =
-    let product : ℤ → ℤ → Polynomial = λ m n. Product (Atom m) (Atom n) in
-    equal
-    (Difference (product v.x e.y) (product v.y e.x))
-    (Difference (Atom (pos 0)) (Difference (product e.x v.y) (product e.y v.x)))
-    (omega arith)
-
--- before the end, by the opposite of the side of the end
-pub before_end : (e v : Vector) (m n : ℤ) → m ≡ pos 0 -ℤ n → n ≡ cross e v → m ≡ cross v e
-before_end e v m n f g = f ∙ ap (λ z. pos 0 -ℤ z) g ∙ sym (cross_turned v e)
 
 shifted_same : (a b c : ℤ) → pos 2 *ℤ a -ℤ pos 2 *ℤ c ≡ pos 2 *ℤ b -ℤ pos 2 *ℤ c → a ≡ b
 shifted_same a b c e = omega (arith, ints)

@@ -101,6 +101,9 @@ kept_sum z h = kept_wide z (omega arith)
 pub sum_fits : (z : ℤ) → unsigned_abs z < 2 ^ 100 → FitsSigned w128 z
 sum_fits z h = fits_signed_from_abs w128 z (omega arith)
 
+pub opposite_short : (z : ℤ) → unsigned_abs z < 2 ^ 100 → unsigned_abs (pos 0 -ℤ z) < 2 ^ 100
+opposite_short z h = omega (arith, ints)
+
 -- the leftmost centre is in reach
 pub first_x : (c : Centres) → IsRow c → unsigned_abs c.first.x < 4000000000
 first_x c row =

@@ -1,21 +1,17 @@
-//! The row of an arc's stroke.
+//! Rows of an arc's stroke.
 
-ghost use Rattle.std.specs.Prelude.{◌≡◌, ◌^◌, ◌<◌, ◌≤◌, ◌↔◌, ℕ, IsTrue, pos, ◌<ℤ◌};
-ghost use Rattle.std.specs.Int.RustNames.{unsigned_abs};
-ghost use Rattle.cam_units.specs.Board.{IsOnBoard};
-ghost use Rattle.cam_units.specs.declared.point.Spot.{Spot};
-ghost use Rattle.cam_shapes.specs.Arc.{IsInArc, IsInSweep, IsNarrow, IsNearCircle, IsSoundArc, IsSwept};
-ghost use Rattle.cam_shapes.specs.Plane.{cross, dot, place_of, seen_from, square, way};
-ghost use Rattle.cam_rows.specs.Rows.{IsRow, Marks};
+ghost use Rattle.std.specs.Prelude.{◌≡◌, ◌^◌, ◌<◌, pos, ◌<ℤ◌, length};
+ghost use Rattle.cam_shapes.specs.Arc.{IsInArc, IsNearCircle, IsSoundArc, IsSwept};
+ghost use Rattle.cam_shapes.specs.Plane.{dot, seen_from, square, way};
+ghost use Rattle.cam_rows.specs.Rings.{IsRingOf};
+ghost use Rattle.cam_rows.specs.Rows.{AreMarked, AreRows, IsRow, Marks};
 
-use crate::bits::bits_between;
 use crate::centres::Centres;
-use crate::circle::{circle_row, squared_distance};
-use crate::disc::disc_row;
-use crate::linear::natural_row;
-use crate::way::{across, along};
+use crate::chord::Chord;
+use crate::circle::squared_distance;
+use crate::sweep::Sweep;
 use cam_shapes::{Arc, Disc};
-use cam_units::{Point, Spot, isqrt};
+use cam_units::isqrt;
 
 /// The centres in an arc's stroke or on its edge: those in a disc about one of its ends, and those in its sweep between
 /// the circles that bound the stroke. Bit i is that of centre i, from the left; points and the width are in nanometres,
@@ -28,153 +24,101 @@ pub fn arc_row(arc: Arc, centres: Centres) -> u64
     if arc.width.0 == 0 {
         return 0;
     }
-    let start = Disc {
-        centre: arc.from,
-        diameter: arc.width,
-    };
-    let end = Disc {
-        centre: arc.to,
-        diameter: arc.width,
-    };
-    let ends = disc_row(start, centres) | disc_row(end, centres);
-    let ring = ring_row(&arc, &centres);
-    if ring == 0 {
-        return ends;
+    let swept = Sweep::of(&arc, &centres).row();
+    StrokeChords::about(&arc, &centres).row(&arc, &ring_of(&arc), swept, &centres)
+}
+
+/// The rows of an arc's stroke, one below another from the top one: each is that of [`arc_row`].
+pub fn arc_rows(arc: Arc, top: Centres, rows: &mut [u64])
+    requires arc { IsSoundArc arc }
+    requires rows { AreRows top (length rows.old) }
+    ensures { AreMarked rows.new top (λ s. IsInArc s arc) }
+{
+    if rows.is_empty() {
+        return;
     }
-    ends | ring & swept_row(&arc, &centres)
-}
-
-/// The row of the centres in whose directions an arc passes.
-fn swept_row(arc: &Arc, centres: &Centres) -> u64
-    requires arc { IsSoundArc arc.now }
-    requires row { IsRow centres.now }
-    ensures { Marks result centres.now
-        (λ s. IsSwept arc.now.ccw (way arc.now.centre arc.now.from) (way arc.now.centre arc.now.to)
-        (seen_from arc.now.centre s)) }
-{
-    if arc.ccw {
-        return sweep_row(&arc.centre, &arc.from, &arc.to, centres);
+    if arc.width.0 == 0 {
+        rows.fill(0);
+        return;
     }
-    sweep_row(&arc.centre, &arc.to, &arc.from, centres)
-}
-
-/// The row of the centres in the sweep about a point, counterclockwise from a start to an end.
-fn sweep_row(centre: &Point, start: &Point, end: &Point, centres: &Centres) -> u64
-    requires centre { IsOnBoard centre.now }
-    requires start { IsOnBoard start.now }
-    requires end { IsOnBoard end.now }
-    requires row { IsRow centres.now }
-    ensures { Marks result centres.now
-        (λ s. IsInSweep (way centre.now start.now) (way centre.now end.now) (seen_from centre.now s)) }
-{
-    if *start == *end {
-        return bits_between(0, centres.count);
-    }
-    let after_start = natural_row(&across(centre, start, centres), centres.count);
-    let before_end = natural_row(&across(centre, end, centres).opposite(), centres.count);
-    if is_narrow(centre, start, end) {
-        return after_start & before_end;
-    }
-    if is_wide(centre, start, end) {
-        return after_start | before_end;
-    }
-    0
-}
-
-/// Whether the sweep about a point, counterclockwise from a start to an end, is at most a half turn.
-fn is_narrow(centre: &Point, start: &Point, end: &Point) -> bool
-    requires centre { IsOnBoard centre.now }
-    requires start { IsOnBoard start.now }
-    requires end { IsOnBoard end.now }
-    ensures { IsTrue result ↔ IsNarrow (way centre.now start.now) (way centre.now end.now) }
-{
-    let turn = cross_product(centre, start, end);
-    turn > 0 || turn == 0 && dot_product(centre, start, end) < 0
-}
-
-/// Whether that sweep is more than a half turn.
-fn is_wide(centre: &Point, start: &Point, end: &Point) -> bool
-    requires centre { IsOnBoard centre.now }
-    requires start { IsOnBoard start.now }
-    requires end { IsOnBoard end.now }
-    ensures { IsTrue result ↔ cross (way centre.now start.now) (way centre.now end.now) <ℤ pos 0 }
-{
-    cross_product(centre, start, end) < 0
-}
-
-/// The cross product of two points as they are seen from a third.
-fn cross_product(centre: &Point, start: &Point, end: &Point) -> i128
-    requires centre { IsOnBoard centre.now }
-    requires start { IsOnBoard start.now }
-    requires end { IsOnBoard end.now }
-    ensures value { result ≡ cross (way centre.now start.now) (way centre.now end.now) }
-    ensures bound { unsigned_abs result < 2 ^ 100 }
-{
-    across(centre, start, &alone(end)).first
-}
-
-/// The dot product of two points as they are seen from a third.
-fn dot_product(centre: &Point, start: &Point, end: &Point) -> i128
-    requires centre { IsOnBoard centre.now }
-    requires start { IsOnBoard start.now }
-    requires end { IsOnBoard end.now }
-    ensures value { result ≡ dot (way centre.now start.now) (way centre.now end.now) }
-    ensures bound { unsigned_abs result < 2 ^ 100 }
-{
-    along(centre, start, &alone(end)).first
-}
-
-/// The row of one centre, at a point.
-fn alone(point: &Point) -> Centres
-    requires { IsOnBoard point.now }
-    ensures first { result.first ≡ place_of point.now }
-    ensures row { IsRow result }
-{
-    Centres {
-        first: Spot {
-            x: 2 * point.x,
-            y: 2 * point.y,
-        },
-        step: 1,
-        count: 1,
+    let ring = ring_of(&arc);
+    let mut chords = StrokeChords::about(&arc, &top);
+    let mut sweep = Sweep::of(&arc, &top);
+    for (k, row) in rows.iter_mut().enumerate() {
+        if k > 0 {
+            sweep.step_down();
+        }
+        *row = chords.row(&arc, &ring, sweep.row(), &top.below(k));
     }
 }
 
-/// The row of the centres near an arc's circle.
-fn ring_row(arc: &Arc, centres: &Centres) -> u64
-    requires arc { IsSoundArc arc.now }
-    requires row { IsRow centres.now }
-    ensures { Marks result centres.now
-        (λ s. IsNearCircle (dot (seen_from arc.now.centre s) (seen_from arc.now.centre s))
-        (dot (way arc.now.centre arc.now.from) (way arc.now.centre arc.now.from)) arc.now.width.0) }
-{
-    if passes_by(arc, centres) {
-        return 0;
-    }
-    let Ring { inner, outer } = ring_of(arc);
-    let within_outer = circle_row(&arc.centre, outer, centres);
-    let within_inner = circle_row(&arc.centre, inner, centres);
-    within_outer & !within_inner
+/// The chords of the circles that bound an arc's stroke, and of the discs about its ends.
+#[derive(Clone, Copy)]
+struct StrokeChords {
+    outer: Chord,
+    inner: Chord,
+    start: Chord,
+    end: Chord,
 }
 
-/// Whether the row lies above or below an arc's circle by more than the width.
-fn passes_by(arc: &Arc, centres: &Centres) -> bool
-    requires arc { IsSoundArc arc.now }
-    requires row { IsRow centres.now }
-    ensures { IsTrue result → (s : Spot) → s.y ≡ centres.now.first.y
-        → IsNearCircle (dot (seen_from arc.now.centre s) (seen_from arc.now.centre s))
-        (dot (way arc.now.centre arc.now.from) (way arc.now.centre arc.now.from)) arc.now.width.0 → ⊥ }
-{
-    let height = centres.height_over(&arc.centre);
-    let width = arc.width.0 as u64;
-    if height <= width {
-        return false;
+impl StrokeChords {
+    /// Guesses for an arc's stroke.
+    fn about(arc: &Arc, centres: &Centres) -> StrokeChords
+        requires arc { IsSoundArc arc.now }
+        requires row { IsRow centres.now }
+    {
+        let middle = Chord::about(&arc.centre, centres);
+        StrokeChords {
+            outer: middle,
+            inner: middle,
+            start: Chord::about(&arc.from, centres),
+            end: Chord::about(&arc.to, centres),
+        }
     }
-    let over = u128::from(height - width);
-    over * over > squared_distance(&arc.centre, &arc.from)
+
+    /// The row of an arc's stroke, where `swept` is that of the centres in its sweep.
+    fn row(&mut self, arc: &Arc, ring: &Ring, swept: u64, centres: &Centres) -> u64
+        requires arc { IsSoundArc arc.now }
+        requires wide { pos 0 <ℤ arc.now.width.0 }
+        requires ring { IsRingOf ring.now arc.now }
+        requires swept { Marks swept centres.now
+            (λ s. IsSwept arc.now.ccw (way arc.now.centre arc.now.from) (way arc.now.centre arc.now.to)
+            (seen_from arc.now.centre s)) }
+        requires row { IsRow centres.now }
+        ensures { Marks result centres.now (λ s. IsInArc s arc.now) }
+    {
+        let start = Disc {
+            centre: arc.from,
+            diameter: arc.width,
+        };
+        let end = Disc {
+            centre: arc.to,
+            diameter: arc.width,
+        };
+        let ends = self.start.disc_row(&start, centres) | self.end.disc_row(&end, centres);
+        if swept == 0 {
+            return ends;
+        }
+        ends | self.ring_row(arc, ring, centres) & swept
+    }
+
+    /// The row of the centres near an arc's circle.
+    fn ring_row(&mut self, arc: &Arc, ring: &Ring, centres: &Centres) -> u64
+        requires arc { IsSoundArc arc.now }
+        requires ring { IsRingOf ring.now arc.now }
+        requires row { IsRow centres.now }
+        ensures { Marks result centres.now
+            (λ s. IsNearCircle (dot (seen_from arc.now.centre s) (seen_from arc.now.centre s))
+            (dot (way arc.now.centre arc.now.from) (way arc.now.centre arc.now.from)) arc.now.width.0) }
+    {
+        let within_outer = self.outer.circle_row(&arc.centre, ring.outer, centres);
+        let within_inner = self.inner.circle_row(&arc.centre, ring.inner, centres);
+        within_outer & !within_inner
+    }
 }
 
 /// The squares of the distances from an arc's centre at which its stroke begins, and behind which it ends.
+#[derive(Clone, Copy)]
 struct Ring {
     inner: u128,
     outer: u128,
@@ -183,11 +127,7 @@ struct Ring {
 /// Where the circles lie that bound an arc's stroke, by one root.
 fn ring_of(arc: &Arc) -> Ring
     requires { IsSoundArc arc.now }
-    ensures near { (p : ℕ)
-        → IsNearCircle (pos p) (dot (way arc.now.centre arc.now.from) (way arc.now.centre arc.now.from)) arc.now.width.0
-        ↔ ((result.inner ≤ p) × (p < result.outer)) }
-    ensures inner { result.inner < 2 ^ 68 }
-    ensures outer { result.outer < 2 ^ 68 }
+    ensures { IsRingOf result arc.now }
 {
     let radius = squared_distance(&arc.centre, &arc.from);
     let width = squared_width(arc);

@@ -1,10 +1,10 @@
 //! The row of a cap.
 
-ghost use Rattle.std.specs.Prelude.{◌≡◌, ◌+◌, ◌*◌, ◌^◌, ◌<◌, ◌≤◌, ◌↔◌, ℤ, IsTrue, pos, ◌-ℤ◌, ◌≤ℤ◌};
+ghost use Rattle.std.specs.Prelude.{◌≡◌, ◌+◌, ◌*◌, ◌^◌, ◌<◌, ◌≤◌, ◌↔◌, ℤ, IsTrue, pos, ◌-ℤ◌, ◌≤ℤ◌, length};
 ghost use Rattle.std.specs.Int.RustNames.{unsigned_abs};
 ghost use Rattle.cam_shapes.specs.Cap.{IsSoundCap, is_in_cap, is_in_circle, is_left_of_chord};
 ghost use Rattle.cam_shapes.specs.Plane.{seen_from, way};
-ghost use Rattle.cam_rows.specs.Rows.{IsRow, Marks};
+ghost use Rattle.cam_rows.specs.Rows.{AreMarked, AreRows, IsRow, Marks};
 ghost use Rattle.cam_rows.specs.Ties.{is_inside_chord, leads_down_or_right};
 
 use crate::centres::Centres;
@@ -31,6 +31,17 @@ pub fn cap_row(cap: Cap, centres: Centres) -> u64
         return inside & !left;
     }
     inside & left
+}
+
+/// The rows of a cap, one below another from the top one: each is that of [`cap_row`].
+pub fn cap_rows(cap: Cap, top: Centres, rows: &mut [u64])
+    requires cap { IsSoundCap cap }
+    requires rows { AreRows top (length rows.old) }
+    ensures { AreMarked rows.new top (λ s. IsTrue (is_in_cap s cap)) }
+{
+    for (k, row) in rows.iter_mut().enumerate() {
+        *row = cap_row(cap, top.below(k));
+    }
 }
 
 /// The row of the centres in a cap's circle, or on it before its centre: one run, by one root.

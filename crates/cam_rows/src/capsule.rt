@@ -1,12 +1,13 @@
-//! The row of a capsule.
+//! Rows of capsules.
 
+ghost use Rattle.std.specs.Prelude.{length};
 ghost use Rattle.cam_shapes.specs.Bar.{IsInCapsule, IsSoundCapsule};
-ghost use Rattle.cam_rows.specs.Rows.{IsRow, Marks};
+ghost use Rattle.cam_rows.specs.Rows.{AreMarked, AreRows, IsRow, Marks};
 
-use crate::bar::beside_row;
+use crate::beside::Beside;
 use crate::centres::Centres;
-use crate::disc::disc_row;
-use cam_shapes::{Capsule, Disc};
+use crate::chord::Chord;
+use cam_shapes::{Bar, Capsule, Disc};
 
 /// The centres in a capsule or on its edge: those in the discs about its ends, and those beside the way between them;
 /// none where its width is 0. Bit i is that of centre i, from the left; the width and the ends are in nanometres, the
@@ -16,10 +17,21 @@ pub fn capsule_row(capsule: Capsule, centres: Centres) -> u64
     requires row { IsRow centres }
     ensures { Marks result centres (λ s. IsInCapsule s capsule) }
 {
-    let Capsule { from, to, width } = capsule;
-    if width.0 == 0 {
-        return 0;
+    let mut rows = [0];
+    capsule_rows(capsule, centres, &mut rows);
+    rows[0]
+}
+
+/// The rows of a capsule, one below another from the top one: each is that of [`capsule_row`].
+pub fn capsule_rows(capsule: Capsule, top: Centres, rows: &mut [u64])
+    requires capsule { IsSoundCapsule capsule }
+    requires rows { AreRows top (length rows.old) }
+    ensures { AreMarked rows.new top (λ s. IsInCapsule s capsule) }
+{
+    if rows.is_empty() {
+        return;
     }
+    let Capsule { from, to, width } = capsule;
     let start = Disc {
         centre: from,
         diameter: width,
@@ -28,5 +40,15 @@ pub fn capsule_row(capsule: Capsule, centres: Centres) -> u64
         centre: to,
         diameter: width,
     };
-    disc_row(start, centres) | disc_row(end, centres) | beside_row(&from, &to, width, &centres)
+    let mut start_chord = Chord::about(&from, &top);
+    let mut end_chord = Chord::about(&to, &top);
+    let mut beside = Beside::new(&Bar { from, to, width }, &top);
+    for (k, row) in rows.iter_mut().enumerate() {
+        if k > 0 {
+            beside.step_down();
+        }
+        let centres = top.below(k);
+        let ends = start_chord.disc_row(&start, &centres) | end_chord.disc_row(&end, &centres);
+        *row = ends | beside.row();
+    }
 }

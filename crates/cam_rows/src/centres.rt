@@ -4,7 +4,7 @@ ghost use Rattle.std.specs.Prelude.{◌≡◌};
 ghost use Rattle.std.specs.Int.RustNames.{unsigned_abs};
 ghost use Rattle.cam_units.specs.Board.{IsOnBoard};
 ghost use Rattle.cam_shapes.specs.Plane.{seen_from};
-ghost use Rattle.cam_rows.specs.Rows.{IsRow};
+ghost use Rattle.cam_rows.specs.Rows.{IsRow, row_below};
 
 use cam_units::{Point, Spot};
 
@@ -25,5 +25,16 @@ impl Centres {
         ensures { result ≡ unsigned_abs (seen_from point.now self.now.first).y }
     {
         (self.first.y - 2 * point.y).unsigned_abs()
+    }
+
+    /// The row that lies so many steps lower.
+    pub(crate) fn below(&self, steps: usize) -> Centres
+        requires top { IsRow self.now }
+        requires row { IsRow (row_below self.now steps) }
+        ensures { result ≡ row_below self.now steps }
+    {
+        let mut row = *self;
+        row.first.y -= steps as i64 * self.step;
+        row
     }
 }

@@ -1,9 +1,11 @@
 //! The row of a disc.
 
+ghost use Rattle.std.specs.Prelude.{length};
 ghost use Rattle.cam_shapes.specs.Disc.{IsInDisc, IsSoundDisc};
-ghost use Rattle.cam_rows.specs.Rows.{IsRow, Marks};
+ghost use Rattle.cam_rows.specs.Rows.{AreMarked, AreRows, IsRow, Marks};
 
 use crate::centres::Centres;
+use crate::chord::Chord;
 use crate::circle::circle_row;
 use cam_shapes::Disc;
 
@@ -23,4 +25,19 @@ pub fn disc_row(disc: Disc, centres: Centres) -> u64
         return 0;
     }
     circle_row(&disc.centre, u128::from(radius * radius + 1), &centres)
+}
+
+/// The rows of a disc, one below another from the top one: each is that of [`disc_row`].
+pub fn disc_rows(disc: Disc, top: Centres, rows: &mut [u64])
+    requires disc { IsSoundDisc disc }
+    requires rows { AreRows top (length rows.old) }
+    ensures { AreMarked rows.new top (λ s. IsInDisc s disc) }
+{
+    if rows.is_empty() {
+        return;
+    }
+    let mut chord = Chord::about(&disc.centre, &top);
+    for (k, row) in rows.iter_mut().enumerate() {
+        *row = chord.disc_row(&disc, &top.below(k));
+    }
 }

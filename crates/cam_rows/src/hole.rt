@@ -1,9 +1,11 @@
 //! The row of a hole.
 
+ghost use Rattle.std.specs.Prelude.{length};
 ghost use Rattle.cam_shapes.specs.Disc.{IsInHole, IsSoundDisc};
-ghost use Rattle.cam_rows.specs.Rows.{IsRow, Marks};
+ghost use Rattle.cam_rows.specs.Rows.{AreMarked, AreRows, IsRow, Marks};
 
 use crate::centres::Centres;
+use crate::chord::Chord;
 use crate::circle::circle_row;
 use cam_shapes::Disc;
 
@@ -20,4 +22,19 @@ pub fn hole_row(disc: Disc, centres: Centres) -> u64
         return 0;
     }
     circle_row(&disc.centre, u128::from(radius * radius), &centres)
+}
+
+/// The rows of a hole, one below another from the top one: each is that of [`hole_row`].
+pub fn hole_rows(disc: Disc, top: Centres, rows: &mut [u64])
+    requires disc { IsSoundDisc disc }
+    requires rows { AreRows top (length rows.old) }
+    ensures { AreMarked rows.new top (λ s. IsInHole s disc) }
+{
+    if rows.is_empty() {
+        return;
+    }
+    let mut chord = Chord::about(&disc.centre, &top);
+    for (k, row) in rows.iter_mut().enumerate() {
+        *row = chord.hole_row(&disc, &top.below(k));
+    }
 }

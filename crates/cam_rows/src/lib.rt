@@ -2,48 +2,55 @@
 //!
 //! A shape's row has bit i set exactly where the point test of `cam_shapes` holds at centre i of [`Centres`]; bits
 //! behind the last centre are 0. The ends of runs are found by division: those of a strip, of one side of a line, and
-//! of a circle's chord, half of which is a root. What lies near a line is found by two tests that turn once along the
-//! row, each made at most seven times. Masks join by `&` and `|` as the definitions join the parts. None of them
-//! rounds, and no call takes memory. Where a row lies above or below a shape, or the circle of an arc or a cap, it is 0
-//! before any division or root.
+//! of a circle's chord, half of which is a root. A bar lies between four lines: those across its ends, and its long
+//! edges, whose distance is one root. Masks join by `&` and `|` as the definitions join the parts. None of them rounds,
+//! and no call takes memory. Where a row lies above or below a disc, a rectangle or an obround, or the circle of a cap,
+//! it is 0 before any division or root.
+//!
+//! Each shape has a second call, such as [`disc_rows`], for rows one below another, which finds once what they share.
+//! Where a line crosses the rows moves by a quotient and a remainder from each to the next, and to the ends of a chord it
+//! walks from those of the row above: with no root and no division for a row.
 //!
 //! - [`disc_row`], [`rect_row`], [`obround_row`], [`hole_row`]: the standard apertures and their holes, one run each.
 //! - [`bar_row`]: a line of a macro; [`capsule_row`], [`arc_row`]: the strokes of a round tool.
-//! - [`edge_row`], [`cap_row`]: parts of a region.
+//! - [`edge_row`], [`cap_row`]: parts of a region; [`turn_edge`] turns over what an edge of it changes.
 //! - [`or_rows`], [`clear_rows`], [`xor_rows`]: the 64 rows of a tile; [`pbm_bytes`]: a row in a file.
 //!
-//! What a row is stands in `specs/Rows.antt`, what turns in `specs/Turns.antt`, and rows joined lane by lane in
-//! `specs/Lanes.antt`.
+//! What a row is stands in `specs/Rows.antt`, numbers that change from row to row in `specs/Slopes.antt`, and rows
+//! joined lane by lane in `specs/Lanes.antt`.
 #![tactic(auto)]
 
 mod arc;
 mod bar;
+mod beside;
 mod bits;
 mod cap;
 mod capsule;
 mod centres;
+mod chord;
 mod circle;
 mod disc;
 mod edge;
 mod hole;
 mod lanes;
 mod linear;
-mod near;
 mod obround;
 mod rect;
 mod runs;
+mod slope;
+mod sweep;
 mod turns;
 mod way;
 
-pub use arc::arc_row;
-pub use bar::bar_row;
-pub use cap::cap_row;
-pub use capsule::capsule_row;
+pub use arc::{arc_row, arc_rows};
+pub use bar::{bar_row, bar_rows};
+pub use cap::{cap_row, cap_rows};
+pub use capsule::{capsule_row, capsule_rows};
 pub use centres::Centres;
 pub use circle::squared_distance;
-pub use disc::disc_row;
-pub use edge::edge_row;
-pub use hole::hole_row;
+pub use disc::{disc_row, disc_rows};
+pub use edge::{edge_row, turn_edge};
+pub use hole::{hole_row, hole_rows};
 pub use lanes::{clear_rows, or_rows, pbm_bytes, xor_rows};
-pub use obround::obround_row;
-pub use rect::rect_row;
+pub use obround::{obround_row, obround_rows};
+pub use rect::{rect_row, rect_rows};

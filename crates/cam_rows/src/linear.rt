@@ -1,6 +1,6 @@
 //! Numbers that change by one step from each centre of a row to the next.
 
-ghost use Rattle.std.specs.Prelude.{◌≡◌, ◌^◌, ◌<◌, ◌≤◌, ◌*◌, ◌↔◌, ℕ, pos, ◌-ℤ◌, ◌≤ℤ◌, ◌<ℤ◌};
+ghost use Rattle.std.specs.Prelude.{◌≡◌, ◌^◌, ◌<◌, ◌≤◌, ◌*◌, ◌↔◌, ℕ, pos, ◌+ℤ◌, ◌-ℤ◌, ◌≤ℤ◌, ◌<ℤ◌};
 ghost use Rattle.std.specs.Int.{IsBitSet};
 ghost use Rattle.std.specs.Int.RustNames.{unsigned_abs};
 ghost use Rattle.cam_rows.specs.Linear.{IsShortLinear, number_at};
@@ -15,16 +15,6 @@ pub struct Linear {
 }
 
 impl Linear {
-    /// The number at a centre, which is counted from the left.
-    pub(crate) fn at(&self, index: u32) -> i128
-        requires short { IsShortLinear self.now }
-        requires index { index < 64 }
-        ensures value { result ≡ number_at self.now index }
-        ensures bound { unsigned_abs result < 2 ^ 110 }
-    {
-        self.first + i128::from(index) * self.step
-    }
-
     /// The opposite number.
     pub(crate) fn opposite(&self) -> Linear
         requires { IsShortLinear self.now }
@@ -34,6 +24,19 @@ impl Linear {
         Linear {
             first: -self.first,
             step: -self.step,
+        }
+    }
+
+    /// The number that is greater everywhere by the same.
+    pub(crate) fn raised(&self, by: i128) -> Linear
+        requires short { IsShortLinear self.now }
+        requires by { unsigned_abs by < 2 ^ 100 }
+        ensures first { result.first ≡ self.now.first +ℤ by }
+        ensures step { result.step ≡ self.now.step }
+    {
+        Linear {
+            first: self.first + by,
+            step: self.step,
         }
     }
 }

@@ -1,9 +1,9 @@
 //! The row of an obround.
 
-ghost use Rattle.std.specs.Prelude.{◌^◌, ◌<◌, ◌≤◌, ◌↔◌, ℕ};
+ghost use Rattle.std.specs.Prelude.{◌^◌, ◌<◌, ◌≤◌, ◌↔◌, ℕ, length};
 ghost use Rattle.cam_shapes.specs.Box.{IsInObround, IsSoundObround};
 ghost use Rattle.cam_rows.specs.Quarters.{IsInQuarter};
-ghost use Rattle.cam_rows.specs.Rows.{IsRow, Marks};
+ghost use Rattle.cam_rows.specs.Rows.{AreMarked, AreRows, IsRow, Marks};
 
 use crate::centres::Centres;
 use crate::circle::half_chord;
@@ -34,6 +34,17 @@ pub fn obround_row(obround: Obround, centres: Centres) -> u64
         reach_at(over, width.0 as u64, height.0 as u64),
         &centres,
     )
+}
+
+/// The rows of an obround, one below another from the top one: each is that of [`obround_row`].
+pub fn obround_rows(obround: Obround, top: Centres, rows: &mut [u64])
+    requires obround { IsSoundObround obround }
+    requires rows { AreRows top (length rows.old) }
+    ensures { AreMarked rows.new top (λ s. IsInObround s obround) }
+{
+    for (k, row) in rows.iter_mut().enumerate() {
+        *row = obround_row(obround, top.below(k));
+    }
 }
 
 /// How far an obround of these sides reaches to the left and to the right of its centre, so far over it: half its

@@ -20,7 +20,7 @@ pub(crate) struct Strip {
 
 impl Centres {
     /// How many of the centres lie left of the vertical at `x`. It divides only where some do, and some do not.
-    fn count_left_of(&self, x: i64) -> u32
+    pub(crate) fn count_left_of(&self, x: i64) -> u32
         requires row { IsRow self.now }
         requires short { unsigned_abs x < 2 ^ 62 }
         ensures each { (i : ℕ) → i < self.now.count → (i < result) ↔ ((centre_at self.now i).x <ℤ x) }

@@ -1,10 +1,7 @@
-//! Tests of the centres of a row that turn once along it.
+//! Tests of the centres of a row that hold up to some centre, and at none behind it.
 
-ghost use Rattle.std.specs.Prelude.{◌<◌, ◌≤◌, ◌↔◌, ℕ, IsTrue, not};
-ghost use Rattle.std.specs.Int.{IsBitSet};
-ghost use Rattle.cam_rows.specs.Turns.{Tells, TurnsOnce};
-
-use crate::bits::bits_between;
+ghost use Rattle.std.specs.Prelude.{◌<◌, ◌≤◌, ◌↔◌, ℕ, IsTrue};
+ghost use Rattle.cam_rows.specs.Turns.{Falls};
 
 /// A test of the centres of a row, which are counted from the left.
 pub(crate) trait RowTest {
@@ -20,44 +17,26 @@ pub(crate) trait RowTest {
         ensures { IsTrue result ↔ holds self.now index };
 }
 
-/// The row of the first `count` centres at which the test holds, by at most seven tests.
-pub(crate) fn row_of<T: RowTest>(test: &T, count: u32) -> u64
-    requires some { 1 ≤ count }
+/// How many of the first `count` centres pass a test that holds up to some centre and at none after it: found by
+/// walking from a guess, so that a near guess takes a few tests. Any guess is right.
+pub(crate) fn turn_near<T: RowTest>(test: &T, guess: u32, count: u32) -> u32
     requires few { count ≤ 64 }
     requires ready { (i : ℕ) → i < count → T.is_ready test.now i }
-    requires turns { TurnsOnce (T.holds test.now) count }
-    ensures { (i : ℕ) → i < 64 → IsBitSet result i ↔ ((i < count) × T.holds test.now i) }
-{
-    let first = test.test(0);
-    let turn = turn_of(test, first, count);
-    if first {
-        bits_between(0, turn)
-    } else {
-        bits_between(turn, count)
-    }
-}
-
-/// The first centre at which the test answers otherwise than at the leftmost one; `count` where there is none. Each
-/// test halves what is left of the row.
-fn turn_of<T: RowTest>(test: &T, first: bool, count: u32) -> u32
-    requires some { 1 ≤ count }
-    requires few { count ≤ 64 }
-    requires ready { (i : ℕ) → i < count → T.is_ready test.now i }
-    requires turns { TurnsOnce (T.holds test.now) count }
-    requires start { Tells first (T.holds test.now 0) }
+    requires falls { Falls (T.holds test.now) count }
     ensures within { result ≤ count }
-    ensures same { (i : ℕ) → i < result → Tells first (T.holds test.now i) }
-    ensures other { (i : ℕ) → result ≤ i → i < count → Tells (not first) (T.holds test.now i) }
+    ensures passes { (i : ℕ) → i < result → T.holds test.now i }
+    ensures fails { (i : ℕ) → result ≤ i → i < count → T.holds test.now i → ⊥ }
 {
-    let mut low = 1;
-    let mut high = count;
-    while low < high {
-        let middle = low + (high - low) / 2;
-        if test.test(middle) == first {
-            low = middle + 1;
-        } else {
-            high = middle;
-        }
+    let start = guess.min(count);
+    let mut turn = start;
+    while turn < count && test.test(turn) {
+        turn += 1;
     }
-    low
+    if start < turn {
+        return turn;
+    }
+    while 0 < turn && !test.test(turn - 1) {
+        turn -= 1;
+    }
+    turn
 }

@@ -35,7 +35,7 @@ impl Way {
     }
 
     /// The way of the same length that leads off to the left.
-    fn turned_left(&self) -> Way
+    pub(crate) fn turned_left(&self) -> Way
         requires { IsShortWay self.now }
         ensures x { result.x ≡ pos 0 -ℤ self.now.y }
         ensures y { result.y ≡ self.now.x }
@@ -80,6 +80,15 @@ impl Way {
         ensures bound { unsigned_abs result < 2 ^ 100 }
     {
         i128::from(self.x) * i128::from(centres.step)
+    }
+
+    /// How much more the dot product is at the centre below.
+    pub(crate) fn dot_down(&self, centres: &Centres) -> i128
+        requires short { IsShortWay self.now }
+        ensures value { result ≡ pos 0 -ℤ self.now.y *ℤ centres.now.step }
+        ensures bound { unsigned_abs result < 2 ^ 100 }
+    {
+        -(i128::from(self.y) * i128::from(centres.step))
     }
 
     /// The dot products with the ways from a point to the centres.

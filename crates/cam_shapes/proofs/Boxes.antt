@@ -1,5 +1,5 @@
 -- Places outside a box of a contour's points.
-use Rattle.std.proofs.Common.{◌≡◌, ℕ, ◌+◌, ◌%◌, ℤ, pos, ◌+ℤ◌, ◌-ℤ◌, ◌*ℤ◌, ◌≤ℤ◌, ◌<ℤ◌, inl, inr, Bool, true, false}
+use Rattle.std.proofs.Common.{◌≡◌, ℕ, ◌+◌, ◌%◌, ℤ, pos, negsuc, ◌+ℤ◌, ◌-ℤ◌, ◌*ℤ◌, ◌≤ℤ◌, ◌<ℤ◌, inl, inr, Bool, true, false}
 use Rattle.std.proofs.Common.{List, [], ◌∷◌, count_by, refl, ap, ◌∙◌, sym, arith}
 use Rattle.std.specs.Prelude.{All, Any}
 use Rattle.std.proofs.Common.{◌||◌}
@@ -50,7 +50,7 @@ alike true = refl
 alike false = refl
 
 -- a test that tells both ends of each edge apart where the edge crosses the ray
-abbrev Tells : Spot → (Point → Type 0) → (Point → Bool) → Type 0
+abbrev pub Tells : Spot → (Point → Type 0) → (Point → Bool) → Type 0
 Tells s P g = (p q : Point) → P p → P q → crosses_ray s (edge p q) ≡ differ (g p) (g q)
 
 round : (s : Spot) (P : Point → Type 0) (g : Point → Bool) → Tells s P g
@@ -85,7 +85,7 @@ gap a b = b -ℤ a
 abbrev over_ends : ℤ → ℤ → ℤ → ℤ → ℤ
 over_ends u w v z = u *ℤ w +ℤ v *ℤ z
 
-abbrev twice : ℤ → ℤ
+abbrev pub twice : ℤ → ℤ
 twice z = pos 2 *ℤ z
 
 abbrev two : ℤ → Polynomial
@@ -120,13 +120,13 @@ left_falling_is s p q =
     (omega arith)
 
 right_rising_is : (s : Spot) (p q : Point)
-    → side s (edge p q) ≡ pos 0 -ℤ over_ends (gap (twice p.x) s.x) (gap s.y (twice q.y)) (gap (twice q.x) s.x)
-    (gap (twice p.y) s.y)
+    → side s (edge p q) ≡ pos 0 -ℤ over_ends (gap (twice q.x) s.x) (gap (twice p.y) s.y) (gap (twice p.x) s.x)
+    (gap s.y (twice q.y))
 right_rising_is s p q =
     equal (side_of s p q)
     (Difference (Atom (pos 0))
-    (sum_of (Difference (Atom s.x) (two p.x)) (Difference (two q.y) (Atom s.y)) (Difference (Atom s.x) (two q.x))
-    (Difference (Atom s.y) (two p.y))))
+    (sum_of (Difference (Atom s.x) (two q.x)) (Difference (Atom s.y) (two p.y)) (Difference (Atom s.x) (two p.x))
+    (Difference (two q.y) (Atom s.y))))
     (omega arith)
 
 right_falling_is : (s : Spot) (p q : Point)
@@ -159,6 +159,20 @@ first_above u w v z a b c d = sums (u *ℤ w) (v *ℤ z) (product_above u w a b)
 second_above : (u w v z : ℤ) → pos 0 <ℤ u → pos 0 ≤ℤ w → pos 0 <ℤ v → pos 0 <ℤ z → pos 0 <ℤ over_ends u w v z
 second_above u w v z a b c d = sums_turned (u *ℤ w) (v *ℤ z) (least_turned u w a b) (product_above v z c d)
 
+product_natural : (w r : ℤ) → pos 0 ≤ℤ w → pos 0 ≤ℤ r → pos 0 ≤ℤ (w *ℤ r)
+product_natural (pos m) (pos n) p q = omega (arith, ints)
+product_natural (pos m) (negsuc n) p q = absurd (omega (arith, ints))
+product_natural (negsuc m) r p q = absurd (omega (arith, ints))
+
+sums_least : (m n : ℤ) → pos 0 ≤ℤ m → pos 0 ≤ℤ n → pos 0 ≤ℤ (m +ℤ n)
+sums_least m n h k = omega (arith, ints)
+
+none_below : (u w v z : ℤ) → pos 0 ≤ℤ u → pos 0 ≤ℤ w → pos 0 ≤ℤ v → pos 0 <ℤ z → pos 0 ≤ℤ over_ends u w v z
+none_below u w v z a b c d = sums_least (u *ℤ w) (v *ℤ z) (product_natural u w a b) (product_least v z c d)
+
+opposite_most : (d n : ℤ) → d ≡ pos 0 -ℤ n → pos 0 ≤ℤ n → d ≤ℤ pos 0
+opposite_most d n e h = omega (arith, ints)
+
 opposite_below : (d n : ℤ) → d ≡ pos 0 -ℤ n → pos 0 <ℤ n → d <ℤ pos 0
 opposite_below d n e h = omega (arith, ints)
 
@@ -166,11 +180,12 @@ less_at_most : (a b : ℤ) → a <ℤ b → a ≤ℤ b
 less_at_most a b h = omega (arith, ints)
 
 -- the place is on one side of a point
-abbrev IsLeftOf : Spot → Point → Type 0
+abbrev pub IsLeftOf : Spot → Point → Type 0
 IsLeftOf s p = s.x <ℤ twice p.x
 
-abbrev IsRightOf : Spot → Point → Type 0
-IsRightOf s p = twice p.x <ℤ s.x
+-- right of it, or at its x
+abbrev pub IsRightOf : Spot → Point → Type 0
+IsRightOf s p = twice p.x ≤ℤ s.x
 
 abbrev IsBelow : Spot → Point → Type 0
 IsBelow s p = s.y <ℤ twice p.y
@@ -184,7 +199,7 @@ tells_below s p q at_p at_q = rw (under s.y (twice p.y) at_p, under s.y (twice q
 tells_over : (s : Spot) → Tells s (IsOver s) (λ _. false)
 tells_over s p q at_p at_q = rw (not_under s.y (twice p.y) at_p, not_under s.y (twice q.y) at_q) refl
 
-tells_left : (s : Spot) → Tells s (IsLeftOf s) (λ p. is_above p s)
+pub tells_left : (s : Spot) → Tells s (IsLeftOf s) (λ p. is_above p s)
 tells_left s p q at_p at_q =
     by_lt_z s.y (twice p.y)
     (λ a. by_lt_z s.y (twice q.y)
@@ -200,22 +215,20 @@ tells_left s p q at_p at_q =
     rw (not_under s.y (twice p.y) a, under s.y (twice q.y) b) (under (pos 0) (side s (edge p q)) over))
     (λ b. rw (not_under s.y (twice p.y) a, not_under s.y (twice q.y) b) refl))
 
-tells_right : (s : Spot) → Tells s (IsRightOf s) (λ _. false)
+pub tells_right : (s : Spot) → Tells s (IsRightOf s) (λ _. false)
 tells_right s p q at_p at_q =
     by_lt_z s.y (twice p.y)
     (λ a. by_lt_z s.y (twice q.y)
     (λ b. rw (under s.y (twice p.y) a, under s.y (twice q.y) b) refl)
-    (λ b. let sum = second_above (gap (twice p.x) s.x) (gap (twice q.y) s.y) (gap (twice q.x) s.x) (gap s.y (twice p.y))
-    (above (twice p.x) s.x at_p) (from (twice q.y) s.y b) (above (twice q.x) s.x at_q) (above s.y (twice p.y) a) in
-    let over : pos 0 <ℤ side s (edge p q) = rw (right_falling_is s p q) sum in
-    rw (under s.y (twice p.y) a, not_under s.y (twice q.y) b)
-    (not_under (side s (edge p q)) (pos 0) (less_at_most (pos 0) (side s (edge p q)) over))))
+    (λ b. let sum = none_below (gap (twice p.x) s.x) (gap (twice q.y) s.y) (gap (twice q.x) s.x) (gap s.y (twice p.y))
+    (from (twice p.x) s.x at_p) (from (twice q.y) s.y b) (from (twice q.x) s.x at_q) (above s.y (twice p.y) a) in
+    let over : pos 0 ≤ℤ side s (edge p q) = rw (right_falling_is s p q) sum in
+    rw (under s.y (twice p.y) a, not_under s.y (twice q.y) b) (not_under (side s (edge p q)) (pos 0) over)))
     (λ a. by_lt_z s.y (twice q.y)
-    (λ b. let sum = first_above (gap (twice p.x) s.x) (gap s.y (twice q.y)) (gap (twice q.x) s.x) (gap (twice p.y) s.y)
-    (above (twice p.x) s.x at_p) (above s.y (twice q.y) b) (above (twice q.x) s.x at_q) (from (twice p.y) s.y a) in
-    let below = opposite_below (side s (edge p q)) _ (right_rising_is s p q) sum in
-    rw (not_under s.y (twice p.y) a, under s.y (twice q.y) b)
-    (not_under (pos 0) (side s (edge p q)) (less_at_most (side s (edge p q)) (pos 0) below)))
+    (λ b. let sum = none_below (gap (twice q.x) s.x) (gap (twice p.y) s.y) (gap (twice p.x) s.x) (gap s.y (twice q.y))
+    (from (twice q.x) s.x at_q) (from (twice p.y) s.y a) (from (twice p.x) s.x at_p) (above s.y (twice q.y) b) in
+    let below = opposite_most (side s (edge p q)) _ (right_rising_is s p q) sum in
+    rw (not_under s.y (twice p.y) a, under s.y (twice q.y) b) (not_under (pos 0) (side s (edge p q)) below))
     (λ b. rw (not_under s.y (twice p.y) a, not_under s.y (twice q.y) b) refl))
 
 none_before : (b r : Bool) (k m : ℕ) → (b || r) ≡ false → k ≡ one_if b + m → (r ≡ false → m ≡ 0) → k ≡ 0
@@ -261,7 +274,7 @@ contour_box s c low high points inside =
     (λ p h. before s.x low.x (twice p.x) left h.left) points inside))
     (λ l. by_lt_z high.x s.x
     (λ right. inr (in_some_cap s (IsRightOf s) (λ _. false) (tells_right s) low high c
-    (λ p h. behind (twice p.x) high.x s.x h.right right) points inside))
+    (λ p h. less_at_most (twice p.x) s.x (behind (twice p.x) high.x s.x h.right right)) points inside))
     (λ r. by_lt_z s.y low.y
     (λ below. inr (in_some_cap s (IsBelow s) (λ _. true) (tells_below s) low high c
     (λ p h. before s.y low.y (twice p.y) below h.below) points inside))

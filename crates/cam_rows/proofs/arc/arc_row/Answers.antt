@@ -1,53 +1,11 @@
-use Rattle.std.proofs.Common.{pos, ◌<ℤ◌, inl, inr, bit_and, bit_or, arith}
-use Rattle.std.proofs.lemmas.Int.{ints}
-use Rattle.cam_rows.proofs.SetBits.{none_set, set_in_and, set_in_or}
+use Rattle.cam_shapes.specs.Arc.{IsSwept}
+use Rattle.cam_shapes.specs.Plane.{seen_from, way}
+use Rattle.cam_rows.proofs.SweepRows.{swept_top}
 use Rattle.cam_rows.proofs.arc.arc_row.Goals as goal
 
-pub returns-then-ring-eq0 : goal.returns-then-ring-eq0
-returns-then-ring-eq0 c = λ i within.
-    let wide : pos 0 <ℤ c.args.arc.width.0 = omega (arith, ints, c.requires.arc.width.0) in
-    let ends = set_in_or c.disc_row.result c.disc_row-2.result i in
-    let start = c.disc_row.ensures i within in
-    let end = c.disc_row-2.ensures i within in
-    let ring = c.ring_row-ring.ensures i within in (
-      (λ set. elim (ends.0 set) [
-        | inl first ↦ let p = start.0 first in (p.0, record { wide = wide; near = inl p.1.near })
-        | inr last ↦ let p = end.0 last in (p.0, record { wide = wide; near = inr (inl p.1.near) })
-      ]),
-      (λ p. elim p.1.near [
-        | inl first ↦ ends.1 (inl (start.1 (p.0, record { some = wide; near = first })))
-        | inr other ↦ elim other [
-          | inl last ↦ ends.1 (inr (end.1 (p.0, record { some = wide; near = last })))
-          | inr on ↦ absurd (none_set c.ring_row-ring.result i c.if-ring-eq0.true (ring.1 (p.0, on.1)))
-        ]
-      ]),
-    )
-
-pub returns : goal.returns
-returns c = λ i within.
-    let wide : pos 0 <ℤ c.args.arc.width.0 = omega (arith, ints, c.requires.arc.width.0) in
-    let ends = set_in_or c.disc_row.result c.disc_row-2.result i in
-    let middle = set_in_and c.ring_row-ring.result c.swept_row.result i in
-    let all = set_in_or (bit_or c.disc_row.result c.disc_row-2.result)
-    (bit_and c.ring_row-ring.result c.swept_row.result) i in
-    let start = c.disc_row.ensures i within in
-    let end = c.disc_row-2.ensures i within in
-    let ring = c.ring_row-ring.ensures i within in
-    let swept = c.swept_row.ensures i within in (
-      (λ set. elim (all.0 set) [
-        | inl disc ↦ elim (ends.0 disc) [
-          | inl first ↦ let p = start.0 first in (p.0, record { wide = wide; near = inl p.1.near })
-          | inr last ↦ let p = end.0 last in (p.0, record { wide = wide; near = inr (inl p.1.near) })
-        ]
-        | inr rest ↦
-            let p = ring.0 (middle.0 rest).0 in
-            (p.0, record { wide = wide; near = inr (inr ((swept.0 (middle.0 rest).1).1, p.1)) })
-      ]),
-      (λ p. elim p.1.near [
-        | inl first ↦ all.1 (inl (ends.1 (inl (start.1 (p.0, record { some = wide; near = first })))))
-        | inr other ↦ elim other [
-          | inl last ↦ all.1 (inl (ends.1 (inr (end.1 (p.0, record { some = wide; near = last })))))
-          | inr on ↦ all.1 (inr (middle.1 (ring.1 (p.0, on.1), swept.1 (p.0, on.0))))
-        ]
-      ]),
-    )
+pub row-requires-clause-swept : goal.row-requires-clause-swept
+row-requires-clause-swept c =
+    let arc = c.args.arc in
+    swept_top c.row-swept.result c.of.result c.args.centres
+    (λ s. IsSwept arc.ccw (way arc.centre arc.from) (way arc.centre arc.to) (seen_from arc.centre s)) c.of.ensures
+    c.row-swept.ensures

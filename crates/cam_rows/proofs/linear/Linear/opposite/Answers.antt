@@ -1,4 +1,4 @@
-use Rattle.cam_rows.proofs.LinearTurns.{opposite_numbers}
+use Rattle.cam_rows.proofs.Opposites.{opposite_numbers}
 use Rattle.cam_rows.proofs.linear.Linear.opposite.Goals as goal
 
 pub returns-clause-value : goal.returns-clause-value

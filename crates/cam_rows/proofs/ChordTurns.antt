@@ -1,0 +1,115 @@
+-- Chords by the distances of centres from the middle of a circle: which of them lie left of the chord, and which in it.
+use Rattle.std.proofs.Common.{◌≡◌, ◌<◌, ◌≤◌, ◌↔◌, ℕ, ℤ, pos, ◌-◌, ◌+ℤ◌, ◌-ℤ◌, ◌*ℤ◌, ◌≤ℤ◌, ◌<ℤ◌, inl, inr, arith}
+use Rattle.std.specs.Int.RustNames.{unsigned_abs}
+use Rattle.std.proofs.lemmas.Bool.{cases_lt}
+use Rattle.std.proofs.lemmas.Int.{by_lt_z, ints}
+use Rattle.std.proofs.lemmas.Nat.{mul-le}
+use Rattle.cam_units.specs.Board.{place_limit}
+use Rattle.cam_shapes.specs.declared.vector.Vector.{Vector}
+use Rattle.cam_shapes.specs.Plane.{dot, square}
+use Rattle.cam_shapes.proofs.Widths.{square_is}
+use Rattle.cam_rows.specs.Chords.{AreShort, IsBeforeChord, IsBeforeEnd, offset}
+use Rattle.cam_rows.specs.Turns.{Falls}
+
+-- how far centres lie from a point
+pub offset_is : (x step middle first pitch : ℤ) (i : ℕ) → first ≡ x -ℤ middle → pitch ≡ step
+    → offset first pitch i ≡ (x +ℤ pos i *ℤ step) -ℤ middle
+offset_is x step middle first pitch i e f = rw (e, f) (omega (arith, ints))
+
+pub offset_short : (x step middle first pitch : ℤ) (i : ℕ) → first ≡ x -ℤ middle → pitch ≡ step
+    → unsigned_abs middle < place_limit → unsigned_abs x < 4000000000 → unsigned_abs (x +ℤ pos i *ℤ step) < 4000000000
+    → AreShort first pitch i
+offset_short x step middle first pitch i e f h k l =
+    rw (offset_is x step middle first pitch i e f) (omega (arith, ints), omega (arith, ints))
+
+-- a later centre lies farther to the right
+goes_right : (first step : ℤ) (i j : ℕ) → pos 1 ≤ℤ step → i ≤ j → offset first step i ≤ℤ offset first step j
+goes_right first step i j h k =
+    let pitch = unsigned_abs step in
+    let is : step ≡ pos pitch = omega (arith, ints) in
+    rw is (omega (arith, ints, mul-le i pitch j pitch k (omega arith)))
+
+left_square : (x y : ℤ) → x ≤ℤ y → y <ℤ pos 0 → square y ≤ℤ square x
+left_square x y h k =
+    let less : unsigned_abs y ≤ unsigned_abs x = omega (arith, ints) in
+    let squares = mul-le (unsigned_abs y) (unsigned_abs y) (unsigned_abs x) (unsigned_abs x) less less in
+    omega (arith, ints, square_is x, square_is y, squares)
+
+right_square : (x y : ℤ) → x ≤ℤ y → pos 0 ≤ℤ x → square x ≤ℤ square y
+right_square x y h k =
+    let less : unsigned_abs x ≤ unsigned_abs y = omega (arith, ints) in
+    let squares = mul-le (unsigned_abs x) (unsigned_abs x) (unsigned_abs y) (unsigned_abs y) less less in
+    omega (arith, ints, square_is x, square_is y, squares)
+
+pub before_chord_falls : (first step : ℤ) (room count : ℕ) → pos 1 ≤ℤ step
+    → Falls (λ i. IsBeforeChord (offset first step i) room) count
+before_chord_falls first step room count h i j order _ before =
+    let x = offset first step i in
+    let y = offset first step j in
+    let right = goes_right first step i j h order in
+    let squares = left_square x y right before.0 in
+    (omega (arith, ints, right, before.0), omega (arith, ints, squares, before.1))
+
+pub before_end_falls : (first step : ℤ) (room count : ℕ) → pos 1 ≤ℤ step
+    → Falls (λ i. IsBeforeEnd (offset first step i) room) count
+before_end_falls first step room count h i j order _ before =
+    let x = offset first step i in
+    let y = offset first step j in
+    let right = goes_right first step i j h order in
+    by_lt_z x (pos 0) (λ left. inl left) (λ past. inr (elim before [
+      | inl left ↦ absurd (omega (arith, ints, right, past, left))
+      | inr near ↦ omega (arith, ints, right_square x y right past, near)
+    ]))
+
+-- what lies before the chord lies before its end
+pub chord_ordered : (first end count : ℕ) (x : ℕ → ℤ) (room : ℕ) → first ≤ count
+    → ((i : ℕ) → i < first → IsBeforeChord (x i) room)
+    → ((i : ℕ) → end ≤ i → i < count → IsBeforeEnd (x i) room → ⊥) → first ≤ end
+chord_ordered first end count x room within before after =
+    elim (cases_lt end first) [
+      | inl less ↦ absurd (after end (omega arith) (omega arith) (inl (before end less).0))
+      | inr order ↦ order
+    ]
+
+-- the centres of the run are those in the chord
+in_run : (i first end count : ℕ) (x : ℤ) (room : ℕ) → i < count
+    → (i < first → IsBeforeChord x room) → (first ≤ i → IsBeforeChord x room → ⊥)
+    → (i < end → IsBeforeEnd x room) → (end ≤ i → IsBeforeEnd x room → ⊥)
+    → ((first ≤ i) × (i < end)) ↔ (square x <ℤ pos room)
+in_run i first end count x room within before not_before until not_until = (
+  (λ run. elim (until run.1) [
+    | inr near ↦ near
+    | inl left ↦ by_lt_z (square x) (pos room) (λ near. near) (λ far. absurd (not_before run.0 (left, far)))
+  ]),
+  (λ near. (
+    elim (cases_lt i first) [ inl early ↦ absurd (omega (arith, ints, (before early).1, near)) | inr late ↦ late ],
+    elim (cases_lt i end) [ inl early ↦ early | inr late ↦ absurd (not_until late (inr near)) ],
+  )),
+)
+
+-- x and y are the legs of the way from the circle's middle
+seen_in_chord : (v : Vector) (height bound : ℕ) → pos height ≡ square v.y → height < bound
+    → (square v.x <ℤ pos (bound - height)) ↔ (dot v v <ℤ pos bound)
+seen_in_chord v height bound e some = (
+  (λ near. omega (arith, ints, e, some)),
+  (λ near. omega (arith, ints, e, some)),
+)
+
+-- one bit of a chord's row
+pub chord_bit : (B : Type 0) (i first end count : ℕ) (v : Vector) (height bound : ℕ) → pos height ≡ square v.y
+    → height < bound → end ≤ count
+    → (i < first → IsBeforeChord v.x (bound - height))
+    → (i < count → first ≤ i → IsBeforeChord v.x (bound - height) → ⊥)
+    → (i < end → IsBeforeEnd v.x (bound - height))
+    → (i < count → end ≤ i → IsBeforeEnd v.x (bound - height) → ⊥)
+    → B ↔ ((first ≤ i) × (i < end)) → B ↔ ((i < count) × (dot v v <ℤ pos bound))
+chord_bit B i first end count v height bound e some within before not_before until not_until told =
+    let seen = seen_in_chord v height bound e some in
+    let in_chord : i < count → ((first ≤ i) × (i < end)) ↔ (square v.x <ℤ pos (bound - height)) =
+    λ h. in_run i first end count v.x (bound - height) h before (not_before h) until (not_until h) in (
+      (λ set.
+          let run = told.0 set in
+          let inside : i < count = omega (arith, run.1, within) in
+          (inside, seen.0 ((in_chord inside).0 run))),
+      (λ on. told.1 ((in_chord on.0).1 (seen.1 on.1))),
+    )

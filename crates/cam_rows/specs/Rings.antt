@@ -1,0 +1,14 @@
+-- Rings between the circles that bound an arc's stroke.
+use Rattle.std.specs.Prelude.{◌↔◌, ℕ, ◌^◌, ◌<◌, ◌≤◌, pos}
+use Rattle.cam_shapes.specs.declared.arc.Arc.{Arc}
+use Rattle.cam_shapes.specs.Arc.{IsNearCircle}
+use Rattle.cam_shapes.specs.Plane.{dot, way}
+use Rattle.cam_rows.specs.declared.arc.Ring.{Ring}
+
+-- the squares of distances from the centre at which places are near the arc's circle
+pub record IsRingOf (r : Ring) (a : Arc) : Type 0 where
+  pub near : (p : ℕ)
+      → IsNearCircle (pos p) (dot (way a.centre a.from) (way a.centre a.from)) a.width.0
+      ↔ ((r.inner ≤ p) × (p < r.outer))
+  pub inner : r.inner < 2 ^ 68
+  pub outer : r.outer < 2 ^ 68

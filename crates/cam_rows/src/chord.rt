@@ -1,0 +1,156 @@
+//! Chords of a circle, row after row.
+
+ghost use Rattle.std.specs.Prelude.{◌≡◌, ◌^◌, ◌<◌, ◌↔◌, ℕ, IsTrue, pos, ◌≤ℤ◌, ◌<ℤ◌};
+ghost use Rattle.cam_units.specs.Board.{IsOnBoard};
+ghost use Rattle.cam_shapes.specs.Disc.{IsInDisc, IsInHole, IsSoundDisc};
+ghost use Rattle.cam_shapes.specs.Plane.{dot, seen_from, square};
+ghost use Rattle.cam_rows.specs.Chords.{AreShort, IsBeforeChord, IsBeforeEnd, offset};
+ghost use Rattle.cam_rows.specs.Rows.{IsRow, Marks, centre_at};
+
+use crate::bits::bits_between;
+use crate::centres::Centres;
+use crate::circle::squared_height;
+use crate::turns::{RowTest, turn_near};
+use cam_shapes::Disc;
+use cam_units::Point;
+
+/// Where the chord of one row began and ended, as counts of centres: a guess for the row above or below it, from which
+/// the chord is found by a few tests. Any guess is right, and a near one is quick.
+#[derive(Clone, Copy)]
+pub(crate) struct Chord {
+    first: u32,
+    end: u32,
+}
+
+impl Chord {
+    /// A guess for circles about a point: the centre next to it.
+    pub(crate) fn about(point: &Point, centres: &Centres) -> Chord
+        requires point { IsOnBoard point.now }
+        requires row { IsRow centres.now }
+    {
+        let middle = centres.count_left_of(2 * point.x);
+        Chord {
+            first: middle,
+            end: middle,
+        }
+    }
+
+    /// The row of the centres whose squared distance from a point is less than a bound, with no root and no division.
+    pub(crate) fn circle_row(&mut self, point: &Point, bound: u128, centres: &Centres) -> u64
+        requires point { IsOnBoard point.now }
+        requires bound { bound < 2 ^ 68 }
+        requires row { IsRow centres.now }
+        ensures { Marks result centres.now
+            (λ s. dot (seen_from point.now s) (seen_from point.now s) <ℤ pos bound) }
+    {
+        let height = squared_height(point, centres);
+        if bound <= height {
+            return 0;
+        }
+        let offsets = Offsets::new(point, bound - height, centres);
+        self.first = turn_near(&BeforeChord(offsets), self.first, centres.count);
+        self.end = turn_near(&BeforeEnd(offsets), self.end, centres.count);
+        bits_between(self.first, self.end)
+    }
+
+    /// The row of the centres in a disc or on its edge; 0 at once where the row lies above or below it.
+    pub(crate) fn disc_row(&mut self, disc: &Disc, centres: &Centres) -> u64
+        requires disc { IsSoundDisc disc.now }
+        requires row { IsRow centres.now }
+        ensures { Marks result centres.now (λ s. IsInDisc s disc.now) }
+    {
+        let radius = disc.diameter.0 as u64;
+        if radius == 0 {
+            return 0;
+        }
+        if centres.height_over(&disc.centre) > radius {
+            return 0;
+        }
+        self.circle_row(&disc.centre, u128::from(radius * radius + 1), centres)
+    }
+
+    /// The row of the centres in a disc, but not on its edge; 0 at once where the row lies above or below it.
+    pub(crate) fn hole_row(&mut self, disc: &Disc, centres: &Centres) -> u64
+        requires disc { IsSoundDisc disc.now }
+        requires row { IsRow centres.now }
+        ensures { Marks result centres.now (λ s. IsInHole s disc.now) }
+    {
+        let radius = disc.diameter.0 as u64;
+        if centres.height_over(&disc.centre) >= radius {
+            return 0;
+        }
+        self.circle_row(&disc.centre, u128::from(radius * radius), centres)
+    }
+}
+
+/// How far the centres of a row lie to the right of a circle's middle, and the square of half the row's chord.
+#[derive(Clone, Copy)]
+struct Offsets {
+    first: i64,
+    step: i64,
+    room: u128,
+}
+
+impl Offsets {
+    /// Those from a point, where the square of half the chord is `room`.
+    fn new(point: &Point, room: u128, centres: &Centres) -> Offsets
+        requires point { IsOnBoard point.now }
+        requires row { IsRow centres.now }
+        ensures each { (i : ℕ) → offset result.first result.step i ≡ (seen_from point.now (centre_at centres.now i)).x }
+        ensures step { pos 1 ≤ℤ result.step }
+        ensures short { (i : ℕ) → i < centres.now.count → AreShort result.first result.step i }
+        ensures room { result.room ≡ room }
+    {
+        Offsets {
+            first: centres.first.x - 2 * point.x,
+            step: centres.step,
+            room,
+        }
+    }
+
+    /// How far to the right a centre lies.
+    fn at(&self, index: u32) -> i64
+        requires { AreShort self.now.first self.now.step index }
+        ensures { result ≡ offset self.now.first self.now.step index }
+    {
+        self.first + i64::from(index) * self.step
+    }
+
+    /// Whether a place so far to the right is in the chord.
+    fn has_within(&self, offset: i64) -> bool
+        ensures { IsTrue result ↔ (square offset <ℤ pos self.now.room) }
+    {
+        let offset = u128::from(offset.unsigned_abs());
+        offset * offset < self.room
+    }
+}
+
+/// The test that a centre lies left of a chord.
+#[derive(Clone, Copy)]
+struct BeforeChord(Offsets);
+
+impl RowTest for BeforeChord {
+    ghost is_ready = { λ t i. AreShort t.0.first t.0.step i };
+
+    ghost holds = { λ t i. IsBeforeChord (offset t.0.first t.0.step i) t.0.room };
+
+    fn test(&self, index: u32) -> bool {
+        let offset = self.0.at(index);
+        offset < 0 && !self.0.has_within(offset)
+    }
+}
+
+/// The test that a centre lies left of a chord or in it.
+#[derive(Clone, Copy)]
+struct BeforeEnd(Offsets);
+
+impl RowTest for BeforeEnd {
+    ghost is_ready = { λ t i. AreShort t.0.first t.0.step i };
+
+    ghost holds = { λ t i. IsBeforeEnd (offset t.0.first t.0.step i) t.0.room };
+
+    fn test(&self, index: u32) -> bool {
+        let offset = self.0.at(index);
+        offset < 0 || self.0.has_within(offset)
+    }
+}
