@@ -195,7 +195,7 @@ all_flat_map Q f h (x ∷ xs) = All-append Q (f x) (flat_map f xs) (h x) (all_fl
 times_none : (n : ℕ) → pos n *ℤ pos 0 ≡ pos 0
 times_none n = omega (arith, ints)
 
-unturned : (b : Bounds) → turned_box R0 b ≡ b
+pub unturned : (b : Bounds) → turned_box R0 b ≡ b
 unturned Empty = refl
 unturned (Closed low high) = refl
 

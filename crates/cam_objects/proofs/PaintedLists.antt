@@ -46,11 +46,6 @@ no_copies means (suc columns) zero i j objects none = no_columns (range_with_len
 no_copies means (suc columns) (suc rows) i j objects none =
     absurd (omega (arith, none, mul-pos {m = suc columns} {n = suc rows} (omega arith) (omega arith)))
 
--- one with some copy has a row
-pub some_row : (columns rows : ℕ) → 0 < columns * rows → 0 < rows
-some_row columns zero some = absurd (omega arith)
-some_row columns (suc rows) some = omega arith
-
 -- ---- on a canvas
 
 module _ {V : Type 0} (has : V → ℕ → ℕ → Type 0) (place : V → ℕ → ℕ → Spot) (ink : V → ℕ → ℕ → Bool) where

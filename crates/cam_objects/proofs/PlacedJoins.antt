@@ -167,7 +167,7 @@ pub placed_join : (p : Place) (a b : Bounds) → placed_bounds p (join_of a b) �
 placed_join p a b = ap (moved p.offset) (join_turned p.turn a b) ∙ join_moved p.offset (turned_box p.turn a) (turned_box p.turn b)
 
 -- the place of a flash: turned and moved with the flash, and then with the place
-placed_flash : (p : Place) (at : Point) (t : Turn) (dark : Bool) (b : Bounds)
+pub placed_flash : (p : Place) (at : Point) (t : Turn) (dark : Bool) (b : Bounds)
     → placed_bounds (flashed p at t dark) b ≡ placed_bounds p (moved at (turned_box t b))
 placed_flash p at t dark b =
     ap (moved (flashed p at t dark).offset) (sym (turned_twice t p.turn b))

@@ -12,7 +12,7 @@ use Rattle.cam_units.specs.declared.length.Nm.{Nm}
 use Rattle.cam_units.specs.declared.point.Point.{Point}
 use Rattle.cam_units.specs.declared.turn.Turn.{Turn}
 use Rattle.cam_units.specs.declared.turn.Turn.TheVariants.{R0}
-use Rattle.cam_units.specs.Boxes.{join_of}
+use Rattle.cam_units.specs.Boxes.{join_of, span_of}
 use Rattle.cam_shapes.specs.declared.contour.Contour.{Contour}
 use Rattle.cam_shapes.specs.declared.segments.Seg.{Seg}
 use Rattle.cam_shapes.specs.declared.segments.Seg.TheVariants.{Line, Curve}
@@ -39,7 +39,8 @@ use Rattle.cam_objects.specs.Leaves.{Filled, Leaf, Meaning, Shape, Stamp, Stroke
 use Rattle.cam_objects.specs.Machinery.Boxes.{AreSized, IsSizedShape}
 use Rattle.cam_objects.specs.Machinery.Painting.{meaning_before}
 use Rattle.cam_objects.specs.Soundness.{AreOnBoard, IsSoundDictionary, IsSoundEntry, MayAddEntry, points_of_contour, points_of_seg, points_of_shape}
-use Rattle.cam_objects.proofs.BoxLimits.{IsBoxWithin, within_about, within_all, within_join, within_less, within_moved, within_point, within_turned, within_widened}
+use Rattle.cam_objects.proofs.BoxJoins.{joined}
+use Rattle.cam_objects.proofs.BoxLimits.{IsBoxWithin, has_place, within_about, within_all, within_join, within_less, within_moved, within_point, within_turned, within_widened}
 use Rattle.cam_objects.proofs.CopyBoxes.{all_flat_map}
 use Rattle.cam_objects.proofs.Dictionaries.{front_more, whole}
 use Rattle.cam_objects.proofs.Painting.{solid_size}
@@ -241,6 +242,14 @@ at_third p q r ps h = All-head IsOnBoard r ps (All-tail IsOnBoard q (r ∷ ps) (
 
 pub ends_of_stroke : (from to : Point) → IsOnBoard from → IsOnBoard to → IsBoxWithin inner (join_of (box_of_point from) (box_of_point to))
 ends_of_stroke from to h k = within_join inner (box_of_point from) (box_of_point to) (board_point from h) (board_point to k)
+
+-- the box of two points spans theirs
+pub ends_spanned : (from to : Point) → IsOnBoard from → IsOnBoard to
+    → join_of (box_of_point from) (box_of_point to) ≡ span_of (box_of_point from) (box_of_point to)
+ends_spanned from to h k =
+    let here = has_place inner (place_of from) (place_of from) (board_point from h) in
+    let there = has_place inner (place_of to) (place_of to) (board_point to k) in
+    λ i. joined (here i) (there i) (box_of_point from) (box_of_point to)
 
 -- the box of a leaf of the board reaches less than 2^33 half nm
 pub shape_within : (s : Shape) → IsSizedShape s → All IsOnBoard (points_of_shape s) → IsBoxWithin reach (box_of_shape s)

@@ -5,3 +5,5 @@ pub mod Facts
 pub mod Boxes
 pub mod Tracing
 pub mod Inside
+pub mod Runs
+pub mod Extents

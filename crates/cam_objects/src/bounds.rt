@@ -7,7 +7,7 @@ ghost use Rattle.cam_objects.specs.Machinery.Boxes.{IsBoxOffset, IsNearBox, IsNe
 
 use crate::place::Place;
 use cam_apertures::turned;
-use cam_units::{Bounds, Point, Spot};
+use cam_units::{Bounds, Point, Spot, Turn};
 
 /// A place, moved by so many nm.
 fn moved_spot(spot: Spot, by: Point) -> Spot
@@ -43,6 +43,9 @@ impl Place {
         requires bounds { IsNearBox bounds }
         ensures { result ≡ placed_bounds self.now bounds }
     {
-        moved(turned(bounds, self.turn), self.offset)
+        match self.turn {
+            Turn::R0 => moved(bounds, self.offset),
+            turn => moved(turned(bounds, turn), self.offset),
+        }
     }
 }

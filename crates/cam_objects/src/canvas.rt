@@ -51,13 +51,20 @@ pub trait Canvas {
     /// Its ink: whether it is dark.
     ghost ink: { Self → ℕ → ℕ → Bool };
 
-    /// Whether no pixel has its place in the box; false also where that is not known.
-    fn misses(&self, bounds: Bounds) -> bool
-        ensures { IsTrue result
-            → (column row : ℕ) → has self.now column row → Holds bounds (place self.now column row) → ⊥ };
+    /// A box that holds the places of all pixels, in half nm.
+    fn bounds(&self) -> Bounds
+        ensures { (column row : ℕ) → has self.now column row → Holds result (place self.now column row) };
 
     /// Paints a leaf: each pixel whose place it covers takes its polarity.
     fn paint(&mut self, print: Print<'_>)
         requires { IsSoundPrint print }
         ensures { Paints has place ink self.old (leaf_of print.entry ∷ []) self.new };
+}
+
+/// Whether the box meets no place of the canvas's own box, so that no pixel has its place in it.
+pub(crate) fn misses<C: Canvas>(canvas: &C, bounds: Bounds) -> bool
+    ensures { IsTrue result
+        → (column row : ℕ) → C.has canvas.now column row → Holds bounds (C.place canvas.now column row) → ⊥ }
+{
+    !bounds.meets(canvas.bounds())
 }

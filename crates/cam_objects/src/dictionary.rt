@@ -10,7 +10,7 @@ ghost use Rattle.cam_objects.specs.Soundness.{IsSoundDictionary, MayAddEntry};
 ghost use Rattle.cam_objects.specs.Weights.{object_count, object_depth, weight_in};
 
 use crate::entry::Entry;
-use crate::facts::Facts;
+use crate::facts::{Facts, NO_FACTS};
 use crate::object::Object;
 use indexmap::IndexMap;
 use std::alloc::{AllocError, Global};
@@ -111,16 +111,16 @@ impl Dictionary {
     }
 
     /// What is kept of a number.
-    pub(crate) fn facts(&self, number: u32) -> Facts
-        ensures value { result ≡ facts_at self.now number }
-        ensures few { result.leaves ≤ 4000000 }
-        ensures shallow { result.depth ≤ 8 }
-        ensures near { IsBoxOnBoard result.points }
-        ensures reach { IsNearBox result.bounds }
+    pub(crate) fn facts(&self, number: u32) -> &Facts
+        ensures value { result.now ≡ facts_at self.now number }
+        ensures few { result.now.leaves ≤ 4000000 }
+        ensures shallow { result.now.depth ≤ 8 }
+        ensures near { IsBoxOnBoard result.now.points }
+        ensures reach { IsNearBox result.now.bounds }
     {
         match self.find_with_facts(number) {
-            Some((_, _, facts)) => *facts,
-            None => Facts::none(),
+            Some((_, _, facts)) => facts,
+            None => &NO_FACTS,
         }
     }
 

@@ -1,6 +1,6 @@
 //! Boxes of what a drill layer drills and routs, in half nm.
 
-ghost use Rattle.std.specs.Prelude.{◌≡◌, ◌<◌, All, Some, length, slice_get};
+ghost use Rattle.std.specs.Prelude.{◌≡◌, ◌<◌, All, IfSome, Some, length, slice_get};
 ghost use Rattle.cam_units.specs.Board.{IsOnBoard, IsSize};
 ghost use Rattle.cam_objects.specs.Bounds.{bounds_of};
 ghost use Rattle.cam_objects.specs.Drilling.{drill_item_leaves, leaves_with, rout_leaves};
@@ -41,6 +41,18 @@ impl DrillItem {
             DrillItem::Rout { points, .. } => rout_bounds(points.as_slice(), &diameter),
         }
     }
+
+    /// The same, empty where there is no such tool.
+    pub(crate) fn bounds_with(&self, diameter: Option<Nm>) -> Bounds
+        requires points { All IsOnBoard (drill_points_of self.now) }
+        requires diameter { IfSome diameter (λ d. IsSize d.0) }
+        ensures { result ≡ bounds_of (leaves_with diameter self.now) }
+    {
+        match diameter {
+            Some(diameter) => self.bounds(diameter),
+            None => Bounds::Empty,
+        }
+    }
 }
 
 impl DrillLayer {
@@ -51,10 +63,7 @@ impl DrillLayer {
         requires item { IsSoundDrillItem self.now.tools item.now }
         ensures { result ≡ bounds_of (drill_item_leaves self.now.tools item.now) }
     {
-        match self.tools.get(item.tool()) {
-            Some(diameter) => item.bounds(diameter),
-            None => Bounds::Empty,
-        }
+        item.bounds_with(self.tools.get(item.tool()))
     }
 
     /// The box of a sound item that is moved by so many nm and stays on the board. Takes no memory.

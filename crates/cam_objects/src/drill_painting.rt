@@ -9,7 +9,7 @@ ghost use Rattle.cam_objects.specs.Drilling.{drill_item_leaves, drill_leaves, ro
 ghost use Rattle.cam_objects.specs.DrillSoundness.{IsSoundDrillItem, IsSoundDrillLayer, IsSoundTool};
 ghost use Rattle.cam_objects.specs.declared.drill_item.DrillItem.{DrillItem};
 
-use crate::canvas::{Canvas, Figure, Print};
+use crate::canvas::{Canvas, Figure, Print, misses};
 use crate::drill_item::DrillItem;
 use crate::drill_layer::DrillLayer;
 use crate::prints::{paint_hole, paint_leaf};
@@ -58,7 +58,7 @@ fn paint_item<C: Canvas>(tools: &Tools, item: &DrillItem, canvas: &mut C)
     let Some(diameter) = tools.get(item.tool()) else {
         return;
     };
-    if canvas.misses(item.bounds(diameter)) {
+    if misses(canvas, item.bounds(diameter)) {
         return;
     }
     match item {

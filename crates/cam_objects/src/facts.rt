@@ -26,19 +26,15 @@ pub(crate) struct Facts {
     pub bounds: Bounds,
 }
 
-impl Facts {
-    /// Of a number that no entry has.
-    pub(crate) fn none() -> Facts
-        ensures { result ≡ no_facts }
-    {
-        Facts {
-            leaves: 0,
-            depth: 0,
-            points: Bounds::Empty,
-            bounds: Bounds::Empty,
-        }
-    }
+/// What is kept of a number that no entry has.
+pub(crate) static NO_FACTS: Facts = Facts {
+    leaves: 0,
+    depth: 0,
+    points: Bounds::Empty,
+    bounds: Bounds::Empty,
+};
 
+impl Facts {
     /// Of an entry that joins these.
     pub(crate) fn of(entries: &Dictionary, entry: &Entry) -> Facts
         requires { IsSoundEntry entries.now entry.now }

@@ -14,7 +14,7 @@ use crate::dictionary::Dictionary;
 use crate::entry::Entry;
 use crate::item::Item;
 use crate::item_bounds::is_repeat_missed;
-use crate::leaf::{filled_ink, solid_diameter, stamp_ink, stroke_ink, sweep_ink};
+use crate::leaf::{filled_ink, stamp_ink, stroke_ink, sweep_ink};
 use crate::object::Object;
 use crate::place::Place;
 use cam_apertures::has_place;
@@ -147,10 +147,7 @@ pub(crate) fn width(entries: &Dictionary, upto: usize, number: u32) -> Option<Nm
     if upto <= at {
         return None;
     }
-    match entry {
-        Entry::Aperture(aperture) => solid_diameter(aperture),
-        Entry::Block(_) => None,
-    }
+    entry.width()
 }
 
 /// The polarity of the last leaf of one column of a repeat that covers the place.

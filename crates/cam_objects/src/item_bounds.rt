@@ -3,7 +3,7 @@
 ghost use Rattle.std.specs.Prelude.{◌≡◌, ◌*◌, ◌<◌, All, IsTrue, Some, length, slice_get};
 ghost use Rattle.cam_objects.specs.Bounds.{bounds_of};
 ghost use Rattle.cam_objects.specs.Image.{IsUncovered};
-ghost use Rattle.cam_objects.specs.Leaves.{block_leaves, item_leaves, meaning_in, object_leaves, origin, repeat_leaves};
+ghost use Rattle.cam_objects.specs.Leaves.{block_leaves, item_leaves, meaning_in, origin, repeat_leaves};
 ghost use Rattle.cam_objects.specs.Machinery.Boxes.{IsBoxedRepeat, IsNearBox};
 ghost use Rattle.cam_objects.specs.Machinery.Painting.{StandsOnBoard};
 ghost use Rattle.cam_objects.specs.Shifting.{IsMove, shifted_item};
@@ -14,65 +14,12 @@ ghost use Rattle.cam_objects.specs.declared.item_fault.ItemFault.TheVariants.{Ou
 use crate::bounds::moved;
 use crate::copies::Copies;
 use crate::dictionary::Dictionary;
-use crate::image::width;
+use crate::extent::Extent;
 use crate::item::Item;
 use crate::layer::Layer;
 use crate::object::Object;
-use crate::place::Place;
-use crate::shape_bounds::{contour_bounds, stroke_bounds, sweep_bounds};
 use cam_apertures::has_place;
-use cam_shapes::{Arc, Capsule};
 use cam_units::{Bounds, Point, Spot};
-
-/// The box of what an object paints.
-pub(crate) fn object_bounds(entries: &Dictionary, object: &Object) -> Bounds
-    requires sound { IsSoundDictionary entries.now }
-    requires stands { StandsOnBoard object.now }
-    ensures { result ≡ bounds_of (object_leaves (meaning_in entries.now) origin object.now) }
-{
-    match object {
-        Object::Flash {
-            aperture,
-            at,
-            turn,
-            dark,
-        } => {
-            let place = Place::shifted(0, 0).flashed(*at, *turn, *dark);
-            place.bounds(entries.facts(*aperture).bounds)
-        }
-        Object::Draw {
-            aperture,
-            from,
-            to,
-            ..
-        } => match width(entries, entries.len(), *aperture) {
-            Some(width) => stroke_bounds(&Capsule {
-                from: *from,
-                to: *to,
-                width,
-            }),
-            None => Bounds::Empty,
-        },
-        Object::Arc {
-            aperture,
-            from,
-            to,
-            centre,
-            ccw,
-            ..
-        } => match width(entries, entries.len(), *aperture) {
-            Some(width) => sweep_bounds(&Arc {
-                from: *from,
-                to: *to,
-                centre: *centre,
-                ccw: *ccw,
-                width,
-            }),
-            None => Bounds::Empty,
-        },
-        Object::Region { contour, .. } => contour_bounds(contour),
-    }
-}
 
 /// The box of what the objects of a block paint.
 pub(crate) fn block_bounds(entries: &Dictionary, objects: &[Object]) -> Bounds
@@ -82,9 +29,10 @@ pub(crate) fn block_bounds(entries: &Dictionary, objects: &[Object]) -> Bounds
     ensures near { IsNearBox result }
 {
     entries.soundness();
+    let mut extent = Extent::none(entries);
     let mut all = Bounds::Empty;
     for object in objects {
-        all = all.joined(object_bounds(entries, object));
+        all = all.joined(extent.object_bounds(entries, object));
     }
     all
 }
@@ -127,7 +75,9 @@ impl Layer {
     {
         self.apertures.soundness();
         match item {
-            Item::One(object) => object_bounds(&self.apertures, object),
+            Item::One(object) => {
+                Extent::none(&self.apertures).object_bounds(&self.apertures, object)
+            }
             Item::Repeat {
                 columns,
                 rows,

@@ -1,17 +1,15 @@
 //! Layers, painted on a canvas, item by item.
 
-ghost use Rattle.std.specs.Prelude.{◌<◌, ◌^◌, ◌≡◌, All, Some, length, slice_get};
+ghost use Rattle.std.specs.Prelude.{ℕ, ◌<◌, ◌^◌, ◌≡◌, ◌*ℤ◌, pos, All, Some, length, slice_get};
 ghost use Rattle.std.specs.Int.RustNames.{unsigned_abs};
-ghost use Rattle.cam_objects.specs.Bounds.{bounds_of};
 ghost use Rattle.cam_objects.specs.Canvases.{Paints};
 ghost use Rattle.cam_objects.specs.Contents.{content_leaves, content_of};
-ghost use Rattle.cam_objects.specs.Leaves.{block_leaves, column_leaves, item_leaves, leaves_of, meaning_in, origin, repeat_leaves, shifted};
-ghost use Rattle.cam_objects.specs.Machinery.Boxes.{IsNearBox};
-ghost use Rattle.cam_objects.specs.Machinery.Painting.{IsCopied, IsPaintableItem, IsReadyToPrint, StandsOnBoard};
-ghost use Rattle.cam_objects.specs.Soundness.{AreOnBoard, IsSound};
+ghost use Rattle.cam_objects.specs.Leaves.{block_leaves, column_leaves, item_leaves, leaves_of, meaning_in, repeat_leaves, shifted};
+ghost use Rattle.cam_objects.specs.Machinery.Painting.{IsCopied, IsPaintableItem, IsReadyToPrint, IsUnseen, StandsOnBoard};
+ghost use Rattle.cam_objects.specs.Machinery.Runs.{IsInRun, IsWithinCount};
+ghost use Rattle.cam_objects.specs.Soundness.{IsSound};
 ghost use Rattle.cam_objects.specs.declared.item.Item.{Item};
 
-use crate::bounds::moved;
 use crate::canvas::Canvas;
 use crate::copies::Copies;
 use crate::dictionary::Dictionary;
@@ -22,71 +20,52 @@ use crate::layer::Layer;
 use crate::object::Object;
 use crate::object_painting::{paint_block, paint_object};
 use crate::place::Place;
-use cam_units::{Bounds, Point};
+use crate::run::Run;
+use cam_units::Point;
 
-/// Paints a copy of objects whose box, where they stand, is `first`; if the copy's own meets the canvas.
-fn paint_copy<C: Canvas>(
-    entries: &Dictionary,
-    objects: &[Object],
-    first: Bounds,
-    by: Point,
-    canvas: &mut C,
-)
+/// Paints a copy of objects, moved by so many nm.
+fn paint_copy<C: Canvas>(entries: &Dictionary, objects: &[Object], by: Point, canvas: &mut C)
     requires objects { All StandsOnBoard objects.now }
     requires across { unsigned_abs by.x < 2 ^ 53 }
     requires up { unsigned_abs by.y < 2 ^ 53 }
     requires ready { IsReadyToPrint entries.now
         (block_leaves (meaning_in entries.now) (shifted by.x by.y) objects.now) }
-    requires first { first ≡ bounds_of (block_leaves (meaning_in entries.now) origin objects.now) }
-    requires near { IsNearBox first }
     ensures { Paints C.has C.place C.ink canvas.old
         (block_leaves (meaning_in entries.now) (shifted by.x by.y) objects.now) canvas.new }
 {
-    if canvas.misses(moved(first, by)) {
-        return;
-    }
     let place = Place::shifted(by.x, by.y);
     paint_block(entries, entries.len(), objects, &place, canvas);
 }
 
-/// Paints one column of a repeat, if the box of its first copy, joined with its last, meets the canvas.
+/// Paints one column of a repeat: the copies in a run of its rows, where no other covers a pixel.
 fn paint_column<C: Canvas>(
     entries: &Dictionary,
+    copies: &Copies,
     objects: &[Object],
-    first: Bounds,
     dx: i64,
-    rows: u32,
-    j: i64,
+    seen: Run,
     canvas: &mut C,
 )
-    requires some { 0 < rows }
-    requires copies { IsCopied rows j objects.now }
+    requires copies { IsCopied copies.now.rows copies.now.j objects.now }
     requires across { unsigned_abs dx < 2 ^ 53 }
-    requires ready { IsReadyToPrint entries.now (column_leaves (meaning_in entries.now) dx rows j objects.now) }
-    requires board { AreOnBoard (block_leaves (meaning_in entries.now) origin objects.now) }
-    requires first { first ≡ bounds_of (block_leaves (meaning_in entries.now) origin objects.now) }
-    requires near { IsNearBox first }
+    requires ready { IsReadyToPrint entries.now
+        (column_leaves (meaning_in entries.now) dx copies.now.rows copies.now.j objects.now) }
+    requires within { IsWithinCount copies.now.rows seen }
+    requires unseen { (r : ℕ) → r < copies.now.rows → ¬ IsInRun seen r → IsUnseen C.has C.place canvas.old
+        (block_leaves (meaning_in entries.now) (shifted dx (pos r *ℤ copies.now.j)) objects.now) }
     ensures { Paints C.has C.place C.ink canvas.old
-        (column_leaves (meaning_in entries.now) dx rows j objects.now) canvas.new }
+        (column_leaves (meaning_in entries.now) dx copies.now.rows copies.now.j objects.now) canvas.new }
 {
-    let from = Point { x: dx, y: 0 };
-    let to = Point {
-        x: dx,
-        y: steps(rows - 1, j),
-    };
-    if canvas.misses(moved(first, from).joined(moved(first, to))) {
-        return;
-    }
-    for r in 0..rows {
+    for r in seen.first..seen.end {
         let by = Point {
             x: dx,
-            y: steps(r, j),
+            y: steps(r, copies.j),
         };
-        paint_copy(entries, objects, first, by, canvas);
+        paint_copy(entries, objects, by, canvas);
     }
 }
 
-/// Paints a repeat, column by column, if the box of all its copies meets the canvas.
+/// Paints a repeat, column by column: the copies whose boxes meet that of the canvas.
 fn paint_repeat<C: Canvas>(
     entries: &Dictionary,
     copies: &Copies,
@@ -104,12 +83,15 @@ fn paint_repeat<C: Canvas>(
         return;
     }
     let first = block_bounds(entries, objects);
-    if canvas.misses(copies.bounds(first)) {
+    let whole = canvas.bounds();
+    let rows = copies.rows_over(first, whole);
+    if rows.is_empty() {
         return;
     }
-    for c in 0..copies.columns {
+    let columns = copies.columns_over(first, whole);
+    for c in columns.first..columns.end {
         let dx = steps(c, copies.i);
-        paint_column(entries, objects, first, dx, copies.rows, copies.j, canvas);
+        paint_column(entries, copies, objects, dx, rows, canvas);
     }
 }
 

@@ -5,7 +5,7 @@ ghost use Rattle.cam_objects.specs.Canvases.{Paints};
 ghost use Rattle.cam_objects.specs.Leaves.{block_leaves, object_leaves};
 ghost use Rattle.cam_objects.specs.Machinery.Painting.{IsPrintable, StandsOnBoard, flash_leaves, meaning_before};
 
-use crate::canvas::{Canvas, Figure, Print};
+use crate::canvas::{Canvas, Figure, Print, misses};
 use crate::dictionary::Dictionary;
 use crate::entry::Entry;
 use crate::image::width;
@@ -34,7 +34,7 @@ fn paint_flash<C: Canvas>(
         return;
     }
     let bounds = place.bounds(facts.bounds);
-    if canvas.misses(bounds) {
+    if misses(canvas, bounds) {
         return;
     }
     match entry {

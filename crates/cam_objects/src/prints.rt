@@ -8,7 +8,7 @@ ghost use Rattle.cam_shapes.specs.Shifting.{IsShiftable};
 ghost use Rattle.cam_objects.specs.Canvases.{IsSoundPrint, Paints, leaf_of};
 ghost use Rattle.cam_objects.specs.Leaves.{Drilled, Filled, arc_leaves, draw_leaves, leaf, placed, polarity_in};
 
-use crate::canvas::{Canvas, Figure, Print};
+use crate::canvas::{Canvas, Figure, Print, misses};
 use crate::place::Place;
 use crate::shape_bounds::{contour_bounds, hole_bounds, stroke_bounds, sweep_bounds};
 use cam_shapes::{Arc, Capsule, Contour, Disc};
@@ -19,7 +19,7 @@ pub(crate) fn paint_leaf<C: Canvas>(print: Print<'_>, canvas: &mut C)
     requires { IsSoundPrint print }
     ensures { Paints C.has C.place C.ink canvas.old (leaf_of print.entry ∷ []) canvas.new }
 {
-    if canvas.misses(print.bounds) {
+    if misses(canvas, print.bounds) {
         return;
     }
     canvas.paint(print);

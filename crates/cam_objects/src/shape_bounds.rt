@@ -118,7 +118,16 @@ fn ends(from: &Point, to: &Point) -> Bounds
     requires to { IsOnBoard to.now }
     ensures { result ≡ join_of (box_of_point from.now) (box_of_point to.now) }
 {
-    point_bounds(from).joined(point_bounds(to))
+    Bounds::Closed {
+        low: Spot {
+            x: 2 * from.x.min(to.x),
+            y: 2 * from.y.min(to.y),
+        },
+        high: Spot {
+            x: 2 * from.x.max(to.x),
+            y: 2 * from.y.max(to.y),
+        },
+    }
 }
 
 /// The box of a stroke along a line.

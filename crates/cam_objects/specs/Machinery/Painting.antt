@@ -8,6 +8,7 @@ use Rattle.cam_objects.specs.declared.entry.Entry.{Entry}
 use Rattle.cam_objects.specs.declared.item.Item.{Item}
 use Rattle.cam_objects.specs.declared.item.Item.TheVariants.{One, Repeat}
 use Rattle.cam_objects.specs.declared.place.Place.{Place}
+use Rattle.cam_objects.specs.Image.{IsUncovered}
 use Rattle.cam_objects.specs.Leaves.{Leaf, Meaning, meaning}
 use Rattle.cam_objects.specs.Soundness.{AreOnBoard, IsSoundDictionary, points_of}
 
@@ -63,3 +64,8 @@ IsPrintable entries upto n p leaves = IsPaintable entries upto n p middle leaves
 
 abbrev pub IsReadyToPrint : List (ℕ × Entry) → List Leaf → Type 0
 IsReadyToPrint entries leaves = IsReady entries middle leaves
+
+-- leaves that cover no pixel of a canvas
+abbrev pub IsUnseen : {V : Type 0} → (V → ℕ → ℕ → Type 0) → (V → ℕ → ℕ → Spot) → V → List Leaf → Type 0
+IsUnseen has place canvas leaves =
+    (column row : ℕ) → has canvas column row → IsUncovered leaves (place canvas column row)

@@ -1,11 +1,11 @@
-use Rattle.std.proofs.Common.{◌≡◌, ap, sym, subst, ◌∙◌, arith, slice_get, Some, Option}
+use Rattle.std.proofs.Common.{ap, sym, subst, ◌∙◌, arith, Option}
 use Rattle.std.specs.Option.{IfSome}
 use Rattle.cam_units.specs.Board.{IsSize}
 use Rattle.cam_units.specs.declared.length.Nm.{Nm}
-use Rattle.cam_objects.specs.declared.entry.Entry.{Entry}
-use Rattle.cam_objects.specs.declared.entry.Entry.TheVariants.{Aperture, Block}
 use Rattle.cam_objects.specs.Leaves.{Meaning}
-use Rattle.cam_objects.proofs.Painting.{aperture_sound, meaning-at, meaning-later, meaning-absent, solid_size}
+use Rattle.cam_objects.specs.Machinery.Painting.{meaning_before}
+use Rattle.cam_objects.proofs.Painting.{meaning-absent, meaning-at, meaning-later}
+use Rattle.cam_objects.proofs.SizedLeaves.{before_sized}
 use Rattle.cam_objects.proofs.image.width.Goals as goal
 
 pub returns-in-None-clause-value : goal.returns-in-None-clause-value
@@ -16,18 +16,16 @@ pub returns-then-upto-at-clause-value : goal.returns-then-upto-at-clause-value
 returns-then-upto-at-clause-value c =
     ap (λ (m : Meaning). m.width) (sym (meaning-later c.args.entries.now c.in-Some.found.0 c.args.upto c.args.number c.in-Some.found.1.now c.find.ensures.distinct c.in-Some.ensures.found c.if-upto-at.true))
 
-pub returns-in-Aperture-clause-value : goal.returns-in-Aperture-clause-value
-returns-in-Aperture-clause-value c =
-    let at : slice_get c.args.entries.now c.in-Some.found.0 ≡ Some (c.args.number, Aperture c.in-Aperture.aperture) = c.in-Some.ensures.found ∙ ap (λ (e : Entry). Some (c.args.number, e)) c.in-Aperture.is in
-    c.solid_diameter.ensures ∙ ap (λ (m : Meaning). m.width) (sym (meaning-at c.args.entries.now c.in-Some.found.0 c.args.upto c.args.number (Aperture c.in-Aperture.aperture) c.find.ensures.distinct at (omega arith) c.requires.within))
+pub returns-clause-value : goal.returns-clause-value
+returns-clause-value c =
+    let es = c.args.entries.now in
+    let at = c.in-Some.found.0 in
+    c.width.ensures (meaning_before at es)
+    ∙ ap (λ (m : Meaning). m.width)
+    (sym (meaning-at es at c.args.upto c.args.number c.in-Some.found.1.now c.find.ensures.distinct
+    c.in-Some.ensures.found (omega arith) c.requires.within))
 
-pub returns-in-Aperture-clause-size : goal.returns-in-Aperture-clause-size
-returns-in-Aperture-clause-size c =
-    let at : slice_get c.args.entries.now c.in-Some.found.0 ≡ Some (c.args.number, Aperture c.in-Aperture.aperture) = c.in-Some.ensures.found ∙ ap (λ (e : Entry). Some (c.args.number, e)) c.in-Aperture.is in
-    subst (λ (o : Option Nm). IfSome o (λ w. IsSize w.0)) (sym c.solid_diameter.ensures)
-    (solid_size c.in-Aperture.aperture (aperture_sound c.args.entries.now c.in-Some.found.0 c.args.number c.in-Aperture.aperture at c.requires.sound))
-
-pub returns-in-Block-clause-value : goal.returns-in-Block-clause-value
-returns-in-Block-clause-value c =
-    let at : slice_get c.args.entries.now c.in-Some.found.0 ≡ Some (c.args.number, Block c.in-Block.field-0) = c.in-Some.ensures.found ∙ ap (λ (e : Entry). Some (c.args.number, e)) c.in-Block.is in
-    ap (λ (m : Meaning). m.width) (sym (meaning-at c.args.entries.now c.in-Some.found.0 c.args.upto c.args.number (Block c.in-Block.field-0) c.find.ensures.distinct at (omega arith) c.requires.within))
+pub returns-clause-size : goal.returns-clause-size
+returns-clause-size c =
+    subst (λ (o : Option Nm). IfSome o (λ w. IsSize w.0)) (sym (returns-clause-value c))
+    (before_sized c.args.entries.now c.args.upto c.args.number c.requires.sound c.requires.within).width

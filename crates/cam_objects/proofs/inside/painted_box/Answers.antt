@@ -9,7 +9,7 @@ use Rattle.cam_objects.proofs.inside.painted_box.Goals as goal
 pub returns-in-Flash : goal.returns-in-Flash
 returns-in-Flash c =
     let place = c.flashed-place.ensures ∙ ap (λ (p : Place). flashed p c.in-Flash.at c.in-Flash.turn c.in-Flash.dark) c.shifted.ensures in
-    painted_flash c.args.entries.now c.in-Flash.aperture c.in-Flash.at c.in-Flash.turn c.in-Flash.dark c.flashed-place.result c.facts.result c.bounds.result
+    painted_flash c.args.entries.now c.in-Flash.aperture c.in-Flash.at c.in-Flash.turn c.in-Flash.dark c.flashed-place.result c.facts.result.now c.bounds.result
     place c.facts.ensures.value c.bounds.ensures
     ∙ ap (λ (o : Object). points_bounds_of (object_leaves (meaning_in c.args.entries.now) origin o)) (sym c.in-Flash.is)
 

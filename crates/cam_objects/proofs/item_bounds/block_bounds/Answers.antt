@@ -10,7 +10,7 @@ use Rattle.cam_objects.proofs.item_bounds.block_bounds.Goals as goal
 pub returns-clause-value : goal.returns-clause-value
 returns-clause-value c =
     let es = c.args.entries.now in
-    c.loop-object.invariant
+    c.loop-object.invariant.box
     ∙ ap (λ (os : List Object). box_of_all (λ o. bounds_of (object_leaves (meaning_in es) origin o)) os)
     (take_all c.loop-object.object-index c.args.objects.now (omega arith))
     ∙ sym (bounded_block es c.soundness.ensures c.args.objects.now c.requires.board)

@@ -1,11 +1,12 @@
-use Rattle.std.proofs.Common.{rules, ◌≡◌, ◌*◌, ◌<◌, ℤ, pos, ◌*ℤ◌, List, sym, subst, FitsSigned, w64, arith}
+use Rattle.std.proofs.Common.{rules, ◌≡◌, ◌*◌, ◌<◌, ◌≤◌, ℤ, pos, ◌*ℤ◌, List, refl, sym, subst, FitsSigned, w64, arith}
 use Rattle.std.proofs.lemmas.Int.{to_z-of_z}
 use Rattle.cam_objects.specs.Canvases.{Paints}
-use Rattle.cam_objects.specs.Leaves.{Leaf, column_leaves, meaning_in, repeat_leaves}
-use Rattle.cam_objects.specs.Machinery.Painting.{IsReadyToPrint, middle}
-use Rattle.cam_objects.proofs.Canvases.{paints_missed, paints_nothing}
-use Rattle.cam_objects.proofs.ItemBounds.{bounded_repeat, first_on_board}
-use Rattle.cam_objects.proofs.PaintedLists.{no_copies, paints_copy, some_row}
+use Rattle.cam_objects.specs.Leaves.{Leaf, block_leaves, column_leaves, meaning_in, repeat_leaves, shifted}
+use Rattle.cam_objects.specs.Machinery.Painting.{IsReadyToPrint, IsUnseen, middle}
+use Rattle.cam_objects.proofs.Canvases.{paints_nothing}
+use Rattle.cam_objects.proofs.ItemBounds.{first_on_board}
+use Rattle.cam_objects.proofs.PaintedLists.{no_copies, paints_copy}
+use Rattle.cam_objects.proofs.PaintedRuns.{column_unseen, paints_none, paints_rest, pieces_unseen, row_unseen, still_unseen}
 use Rattle.cam_objects.proofs.Painting.{ready_copy}
 use Rattle.cam_objects.proofs.layer_painting.paint_repeat.Goals as goal
 
@@ -25,23 +26,40 @@ block_bounds-first-requires-clause-board g c =
     first_on_board (meaning_in c.args.entries.now) p.columns p.rows p.i p.j c.args.objects.now
     (omega arith) c.requires.ready.board
 
-pub returns-then-misses : goal.returns-then-misses
-returns-then-misses g c =
+pub returns-then-is_empty : goal.returns-then-is_empty
+returns-then-is_empty g c =
     let canvas = g.C.Canvas in
     let a = c.args in
     let p = a.copies.now in
     let es = a.entries.now in
-    let os = a.objects.now in
-    let some : 0 < p.columns * p.rows = omega arith in
-    let board = first_on_board (meaning_in es) p.columns p.rows p.i p.j os some c.requires.ready.board in
-    paints_missed canvas.has canvas.place canvas.ink a.canvas.now
-    (repeat_leaves (meaning_in es) p.columns p.rows p.i p.j os) c.bounds.result
-    (bounded_repeat es c.requires.ready.sound os board p.columns p.rows p.i p.j c.block_bounds-first.result
-    c.bounds.result some c.block_bounds-first.ensures.value c.bounds.ensures)
-    (c.misses.ensures c.if-misses.true)
+    let empty : c.rows_over-rows.result.end ≤ c.rows_over-rows.result.first = c.if-is_empty.ensures.0 refl in
+    paints_none canvas.has canvas.place canvas.ink a.canvas.now
+    (λ k. column_leaves (meaning_in es) (pos k *ℤ p.i) p.rows p.j a.objects.now) p.columns
+    (λ k here.
+    pieces_unseen canvas.has canvas.place a.canvas.now
+    (λ r. block_leaves (meaning_in es) (shifted (pos k *ℤ p.i) (pos r *ℤ p.j)) a.objects.now) 0 p.rows (λ r from below.
+    row_unseen canvas.has canvas.place a.canvas.now es p a.objects.now c.block_bounds-first.result c.bounds-whole.result
+    c.block_bounds-first.ensures.value c.bounds-whole.ensures c.rows_over-rows.result k r
+    (c.rows_over-rows.ensures.each r (pos k *ℤ p.i) (omega arith)) (λ h. omega (arith, h.from, h.below))))
 
-pub paint_column-requires-clause-some : goal.paint_column-requires-clause-some
-paint_column-requires-clause-some g c = some_row c.args.copies.now.columns c.args.copies.now.rows (omega arith)
+pub loop-c-init : goal.loop-c-init
+loop-c-init g c =
+    let canvas = g.C.Canvas in
+    let a = c.args in
+    let p = a.copies.now in
+    let es = a.entries.now in
+    let within = c.columns_over-columns.ensures.within in
+    record {
+      within = within.first;
+      painted =
+          paints_none canvas.has canvas.place canvas.ink a.canvas.now
+          (λ k. column_leaves (meaning_in es) (pos k *ℤ p.i) p.rows p.j a.objects.now)
+          c.columns_over-columns.result.first (λ k here.
+          column_unseen canvas.has canvas.place a.canvas.now es p a.objects.now c.block_bounds-first.result
+          c.bounds-whole.result c.block_bounds-first.ensures.value c.bounds-whole.ensures
+          c.columns_over-columns.result k
+          (λ dy. c.columns_over-columns.ensures.each k dy (omega (arith, within.first))) (λ h. omega (arith, h.from)));
+    }
 
 pub paint_column-requires-clause-ready : goal.paint_column-requires-clause-ready
 paint_column-requires-clause-ready g c =
@@ -52,15 +70,29 @@ paint_column-requires-clause-ready g c =
     let step = simp to_z-of_z at c.steps-dx.ensures.value in
     let es = c.args.entries.now in
     let column : ℤ → List Leaf = λ dx. column_leaves (meaning_in es) dx p.rows p.j c.args.objects.now in
-    let here = ready_copy es middle (λ k. column (pos k *ℤ p.i)) p.columns c.loop-c.c
-    c.loop-c-test.true c.requires.ready in
+    let below : c.loop-c.c < p.columns = omega (arith, c.columns_over-columns.ensures.within.end) in
+    let here = ready_copy es middle (λ k. column (pos k *ℤ p.i)) p.columns c.loop-c.c below c.requires.ready in
     simp to_z-of_z (subst (λ dx. IsReadyToPrint es (column dx)) (sym step) here)
 
-pub paint_column-requires-clause-board : goal.paint_column-requires-clause-board
-paint_column-requires-clause-board g c =
-    let p = c.args.copies.now in
-    first_on_board (meaning_in c.args.entries.now) p.columns p.rows p.i p.j c.args.objects.now
-    (omega arith) c.requires.ready.board
+pub paint_column-requires-clause-unseen : goal.paint_column-requires-clause-unseen
+paint_column-requires-clause-unseen g c = λ r below off.
+    let canvas = g.C.Canvas in
+    let a = c.args in
+    let p = a.copies.now in
+    let es = a.entries.now in
+    let fi : FitsSigned w64 p.i = search rules in
+    let fj : FitsSigned w64 p.j = search rules in
+    let fs : FitsSigned w64 c.steps-dx.result = search rules in
+    let step = simp to_z-of_z at c.steps-dx.ensures.value in
+    let copy : ℤ → List Leaf = λ dx. block_leaves (meaning_in es) (shifted dx (pos r *ℤ p.j)) a.objects.now in
+    let here =
+    still_unseen canvas.has canvas.place canvas.ink a.canvas.now c.loop-c.canvas
+    (repeat_leaves (meaning_in es) c.loop-c.c p.rows p.i p.j a.objects.now) (copy (pos c.loop-c.c *ℤ p.i))
+    c.loop-c.invariant.painted
+    (row_unseen canvas.has canvas.place a.canvas.now es p a.objects.now c.block_bounds-first.result
+    c.bounds-whole.result c.block_bounds-first.ensures.value c.bounds-whole.ensures c.rows_over-rows.result c.loop-c.c r
+    (c.rows_over-rows.ensures.each r (pos c.loop-c.c *ℤ p.i) below) off) in
+    simp to_z-of_z (subst (λ dx. IsUnseen canvas.has canvas.place c.loop-c.canvas (copy dx)) (sym step) here)
 
 pub loop-c-preserved : goal.loop-c-preserved
 loop-c-preserved g c =
@@ -75,4 +107,23 @@ loop-c-preserved g c =
     let column : ℤ → List Leaf = λ dx. column_leaves means dx p.rows p.j c.args.objects.now in
     let here = subst (λ dx. Paints canvas.has canvas.place canvas.ink c.loop-c.canvas (column dx) c.paint_column.new.canvas)
     step painted in
-    paints_copy canvas.has canvas.place canvas.ink _ _ _ (λ k. column (pos k *ℤ p.i)) c.loop-c.c c.loop-c.invariant here
+    record {
+      within = omega (arith, c.columns_over-columns.ensures.within.end);
+      painted =
+          paints_copy canvas.has canvas.place canvas.ink _ _ _ (λ k. column (pos k *ℤ p.i)) c.loop-c.c
+          c.loop-c.invariant.painted here;
+    }
+
+pub returns : goal.returns
+returns g c =
+    let canvas = g.C.Canvas in
+    let a = c.args in
+    let p = a.copies.now in
+    let es = a.entries.now in
+    paints_rest canvas.has canvas.place canvas.ink a.canvas.now c.loop-c.canvas
+    (λ k. column_leaves (meaning_in es) (pos k *ℤ p.i) p.rows p.j a.objects.now) c.loop-c.c p.columns
+    c.loop-c.invariant.within c.loop-c.invariant.painted
+    (λ k from below.
+    column_unseen canvas.has canvas.place a.canvas.now es p a.objects.now c.block_bounds-first.result
+    c.bounds-whole.result c.block_bounds-first.ensures.value c.bounds-whole.ensures c.columns_over-columns.result k
+    (λ dy. c.columns_over-columns.ensures.each k dy below) (λ h. omega (arith, h.below)))

@@ -1,15 +1,25 @@
-use Rattle.std.proofs.Common.{ap, sym, ◌∙◌}
+use Rattle.std.proofs.Common.{Option, ap, sym, subst, ◌∙◌}
+use Rattle.std.specs.Option.{IfSome}
+use Rattle.cam_units.specs.Board.{IsSize}
+use Rattle.cam_units.specs.declared.length.Nm.{Nm}
 use Rattle.cam_objects.specs.declared.item_fault.ItemFault.TheVariants.{OutOfBoard}
-use Rattle.cam_objects.specs.Drilling.{diameter_of}
-use Rattle.cam_objects.specs.DrillSoundness.{tool_of}
-use Rattle.cam_objects.proofs.SoundTools.{tool_size}
+use Rattle.cam_objects.specs.Bounds.{bounds_of}
+use Rattle.cam_objects.specs.Drilling.{diameter_of, leaves_with}
+use Rattle.cam_objects.proofs.SoundTools.{leaves_of_tool, tools_sized}
 use Rattle.cam_objects.proofs.drill_layer.DrillLayer.bounds_of.Goals as goal
 
-pub bounds-requires-clause-points : goal.bounds-requires-clause-points
-bounds-requires-clause-points c = c.requires.item OutOfBoard
+pub bounds_with-requires-clause-points : goal.bounds_with-requires-clause-points
+bounds_with-requires-clause-points c = c.requires.item OutOfBoard
 
-pub bounds-requires-clause-diameter : goal.bounds-requires-clause-diameter
-bounds-requires-clause-diameter c =
+pub bounds_with-requires-clause-diameter : goal.bounds_with-requires-clause-diameter
+bounds_with-requires-clause-diameter c =
+    subst (λ (o : Option Nm). IfSome o (λ d. IsSize d.0)) (sym c.get.ensures)
+    (tools_sized c.args.self.now.tools c.tool.result c.requires.sound.tools)
+
+pub returns : goal.returns
+returns c =
     let tools = c.args.self.now.tools in
-    tool_size tools (tool_of c.args.item.now) c.in-Some.diameter c.requires.sound.tools
-    (ap (diameter_of tools) (sym c.tool.ensures) ∙ sym c.in-Some.ensures)
+    let item = c.args.item.now in
+    c.bounds_with.ensures
+    ∙ ap (λ (o : Option Nm). bounds_of (leaves_with o item)) (c.get.ensures ∙ ap (diameter_of tools) c.tool.ensures)
+    ∙ ap bounds_of (leaves_of_tool tools item)

@@ -1,0 +1,20 @@
+-- What readers of boxes keep of the aperture or the tool that an item named last.
+use Rattle.std.specs.Prelude.{◌≡◌, ℕ, List}
+use Rattle.cam_units.specs.declared.length.Nm.{Nm}
+use Rattle.cam_objects.specs.declared.drill_item_boxes.LastTool.{LastTool}
+use Rattle.cam_objects.specs.declared.entry.Entry.{Entry}
+use Rattle.cam_objects.specs.declared.extent.Extent.{Extent}
+use Rattle.cam_objects.specs.Bounds.{bounds_of}
+use Rattle.cam_objects.specs.Drilling.{diameter_of}
+use Rattle.cam_objects.specs.Leaves.{meaning_in, origin}
+use Rattle.cam_objects.specs.Machinery.Boxes.{IsNearBox}
+
+-- how far flashes and strokes of a number reach, among these entries
+pub record IsExtentIn (entries : List (ℕ × Entry)) (e : Extent) : Type 0 where
+  pub bounds : e.bounds ≡ bounds_of ((meaning_in entries e.number).flash origin)
+  pub width : e.width ≡ (meaning_in entries e.number).width
+  pub near : IsNearBox e.bounds
+
+-- a tool with its diameter among these
+abbrev pub IsLastToolIn : List (ℕ × Nm) → LastTool → Type 0
+IsLastToolIn tools last = last.diameter ≡ diameter_of tools last.tool
