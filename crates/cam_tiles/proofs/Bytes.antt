@@ -1,12 +1,12 @@
 -- Bytes of a file out of the words of tiles: eight bits of a word the other way round, clear past the window's edge.
 use Rattle.std.proofs.Common.{◌≡◌, ◌↔◌, ℕ, ◌+◌, ◌*◌, ◌-◌, ◌/◌, ◌%◌, ◌^◌, ◌<◌, ◌≤◌, Bool, false, ◌&&◌, IsTrue}
 use Rattle.std.proofs.Common.{List, Some, None, option_map, unwrap_or, slice_index, slice_index_or, bit_and, nat_eq}
-use Rattle.std.proofs.Common.{min, refl, sym, subst, ap, ◌∙◌, inl, inr, shr-shr, arith}
+use Rattle.std.proofs.Common.{min, refl, sym, subst, ap, ◌∙◌, inl, inr, arith}
 use Rattle.std.specs.Int.{IsBitSet, bit_at}
 use Rattle.std.proofs.lemmas.Bool.{cases_lt, eq-eqb, eqb-true, false≢true, lt-ltb, le-ltb}
 use Rattle.std.proofs.lemmas.Nat.{mul-le}
 use Rattle.std.proofs.lemmas.Nat.Bits.{same_from_bits_below}
-use Rattle.cam_rows.proofs.SetBits.{set_in_and, set_is_one, whole_run}
+use Rattle.cam_rows.proofs.SetBits.{set_in_and, set_in_shr, set_is_one, whole_run}
 use Rattle.cam_tiles.specs.Pbm.{byte_of, padded}
 use Rattle.cam_tiles.specs.Tables.{Table, Tile, is_pixel_black, tile_in}
 use Rattle.cam_tiles.specs.Tiles.{across, tile_of}
@@ -48,18 +48,11 @@ bytes_told black place from word bytes whole turned told j near fits =
 
 -- ---- the words of tiles
 
-shifted_down : (n from i : ℕ) → IsBitSet (n / 2 ^ from) i ↔ IsBitSet n (from + i)
-shifted_down n from i =
-    let same : bit_at (n / 2 ^ from) i ≡ bit_at n (from + i) = ap (λ m. m % 2) (shr-shr n from i) in
-    let low = set_is_one (n / 2 ^ from) i in
-    let high = set_is_one n (from + i) in
-    ((λ h. high.1 (sym same ∙ low.0 h)), (λ h. low.1 (same ∙ high.0 h)))
-
 -- so many bits from the lowest on
 lowest_bits : (count i : ℕ) → count ≤ 64 → IsBitSet ((2 ^ 64 - 1) / 2 ^ (64 - count)) i ↔ (i < count)
 lowest_bits count i few =
-    let bit = shifted_down (2 ^ 64 - 1) (64 - count) i in
-    let run = whole_run 64 (64 - count + i) refl in
+    let bit = set_in_shr (2 ^ 64 - 1) (64 - count) i in
+    let run = whole_run 64 (i + (64 - count)) refl in
     ((λ h. let end = run.0 (bit.0 h) in omega arith), (λ h. bit.1 (run.1 (omega arith))))
 
 set_test : (n i : ℕ) → IsBitSet n i ↔ IsTrue (nat_eq (bit_at n i) 1)

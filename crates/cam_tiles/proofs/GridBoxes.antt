@@ -7,11 +7,11 @@ use Rattle.cam_tiles.specs.declared.grid.Grid.{Grid}
 use Rattle.cam_tiles.specs.Tiles.{IsGrid, centre_in}
 
 -- more steps lead further
-steps_up : (a b : ℕ) (s : ℤ) → pos 1 ≤ℤ s → a ≤ b → (pos a *ℤ s) ≤ℤ (pos b *ℤ s)
+pub steps_up : (a b : ℕ) (s : ℤ) → pos 1 ≤ℤ s → a ≤ b → (pos a *ℤ s) ≤ℤ (pos b *ℤ s)
 steps_up a b (pos q) some more = let longer : a * q ≤ b * q = mul-le a q b q more (omega arith) in omega (arith, ints)
 steps_up a b (negsuc q) some more = absurd (omega (arith, ints))
 
-steps_on : (a : ℕ) (s : ℤ) → pos 1 ≤ℤ s → pos 0 ≤ℤ (pos a *ℤ s)
+pub steps_on : (a : ℕ) (s : ℤ) → pos 1 ≤ℤ s → pos 0 ≤ℤ (pos a *ℤ s)
 steps_on a (pos q) some = omega (arith, ints)
 steps_on a (negsuc q) some = absurd (omega (arith, ints))
 

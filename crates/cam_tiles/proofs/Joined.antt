@@ -1,12 +1,11 @@
--- Marks that are joined: with shapes that hold the same centres, by turns in a row, and with masks that show one shape.
-use Rattle.std.proofs.Common.{◌≡◌, ◌↔◌, ◌⊎◌, ℕ, ◌^◌, pos, ◌-ℤ◌, ◌*ℤ◌, Bool, true, false, IsTrue, bit_and}
+-- Marks that are joined: with shapes that hold the same centres, and with masks that show one shape.
+use Rattle.std.proofs.Common.{◌≡◌, ◌↔◌, ◌⊎◌, ℕ, ◌^◌, pos, ◌-ℤ◌, ◌*ℤ◌, bit_and}
 use Rattle.std.proofs.Common.{sym, ◌∙◌, subst, inl, inr, arith}
 use Rattle.std.specs.Int.{IsBitSet}
 use Rattle.std.proofs.lemmas.Bool.{cases_eq}
 use Rattle.std.proofs.lemmas.Int.{ints}
 use Rattle.cam_units.specs.declared.point.Spot.{Spot}
 use Rattle.cam_apertures.proofs.Painting.{through}
-use Rattle.cam_shapes.specs.Machinery.Sides.{differ}
 use Rattle.cam_objects.specs.Image.{relative}
 use Rattle.cam_tiles.specs.declared.grid.Grid.{Grid}
 use Rattle.cam_tiles.specs.declared.masks.join.Join.{Join}
@@ -16,7 +15,7 @@ use Rattle.cam_tiles.specs.Tiles.{centre_in}
 
 -- ---- one mark
 
-set_or_not : (n i : ℕ) → IsBitSet n i ⊎ (IsBitSet n i → ⊥)
+pub set_or_not : (n i : ℕ) → IsBitSet n i ⊎ (IsBitSet n i → ⊥)
 set_or_not n i = elim (cases_eq (bit_and n (2 ^ i)) 0) [ inl clear ↦ inr (λ set. set clear) | inr set ↦ inl set ]
 
 -- marks and places that are the same are joined to the same
@@ -29,24 +28,9 @@ joined_like Turn New Was Be Held Other w e h = grind arith
 same : {A : Type 0} → A ↔ A
 same = ((λ a. a), (λ a. a))
 
-turned_twice : (f g : Bool) (Was Between New : Type 0) → Was ⊎ (Was → ⊥) → Between ↔ joined Turn Was (IsTrue f)
-    → New ↔ joined Turn Between (IsTrue g) → New ↔ joined Turn Was (IsTrue (differ f g))
-turned_twice true true Was Between New either h k = grind arith
-turned_twice true false Was Between New either h k = grind arith
-turned_twice false true Was Between New either h k = grind arith
-turned_twice false false Was Between New either h k = grind arith
-
 -- ---- the marks of a grid
 
--- the centres of a grid, by the one that a mask has
-joins_at : (how : Join) (P : Spot → Type 0) (old new : Marking) (g : Grid) → old.grid ≡ g → Joins how P old new
-    → (column row : ℕ) → IsIn g column row
-    → IsMarked new column row ↔ joined how (IsMarked old column row) (P (centre_in g column row))
-joins_at how P old new g e h =
-    subst (λ (f : Grid). (column row : ℕ) → IsIn f column row
-    → IsMarked new column row ↔ joined how (IsMarked old column row) (P (centre_in f column row))) e h.marks
-
-seen_itself : (P : Spot → Type 0) (s : Spot) → P (relative (record { x = pos 0; y = pos 0 }) s) ↔ P s
+pub seen_itself : (P : Spot → Type 0) (s : Spot) → P (relative (record { x = pos 0; y = pos 0 }) s) ↔ P s
 seen_itself P s =
     let x : s.x -ℤ pos 2 *ℤ pos 0 ≡ s.x = omega (arith, ints) in
     let y : s.y -ℤ pos 2 *ℤ pos 0 ≡ s.y = omega (arith, ints) in
@@ -67,16 +51,6 @@ pub joins_from_origin : (how : Join) (P : Spot → Type 0) (old new : Marking)
     → Joins how (λ s. P (relative (record { x = pos 0; y = pos 0 }) s)) old new → Joins how P old new
 joins_from_origin how P old new h =
     joins_like how _ P old new (λ column row within. seen_itself P (centre_in old.grid column row)) h
-
--- two turns in a row
-pub turns_twice : (f g : Spot → Bool) (old between new : Marking)
-    → Joins Turn (λ s. IsTrue (f s)) old between → Joins Turn (λ s. IsTrue (g s)) between new
-    → Joins Turn (λ s. IsTrue (differ (f s) (g s))) old new
-turns_twice f g old between new h k = record {
-  grid = k.grid ∙ h.grid;
-  marks = λ column row within. turned_twice _ _ _ _ _ (set_or_not _ column) (h.marks column row within)
-      (joins_at Turn (λ s. IsTrue (g s)) between new old.grid h.grid k column row within);
-}
 
 -- ---- masks that show a shape
 
@@ -103,12 +77,7 @@ shows_joined how P Q old new h j = record {
       (λ column row within. joined_like how _ _ _ _ _ (h.marks column row within) same (j.marks column row within));
 }
 
--- a blank mask shows what it is turned by, or what is added to it
-pub shows_turned : (P : Spot → Type 0) (blank own : Marking) → IsBlank blank → Joins Turn P blank own → Shows P own
-shows_turned P blank own none j =
-    shows_like (λ s. joined Turn ⊥ (P s)) P own (λ s. grind arith)
-    (shows_joined Turn (λ s. ⊥) P blank own (shows_nothing blank none) j)
-
+-- a blank mask shows what is added to it
 pub shows_added : (P : Spot → Type 0) (blank own : Marking) → IsBlank blank → Joins Add P blank own → Shows P own
 shows_added P blank own none j =
     shows_like (λ s. joined Add ⊥ (P s)) P own (λ s. grind arith)
@@ -125,13 +94,7 @@ merges_shown how P own old new e h m = record {
       (m.marks column row within);
 }
 
--- a mask that was blank and is turned by a shape
-pub merged : (how : Join) (P : Spot → Type 0) (blank own old new : Marking) → blank.grid ≡ old.grid
-    → IsBlank blank → Joins Turn P blank own → Merges how own old new → Joins how P old new
-merged how P blank own old new e none j m =
-    merges_shown how P own old new (j.grid ∙ e) (shows_turned P blank own none j) m
-
--- or that a shape is added to
+-- a mask that was blank, and that a shape is added to
 pub merged_added : (how : Join) (P : Spot → Type 0) (blank own old new : Marking) → blank.grid ≡ old.grid
     → IsBlank blank → Joins Add P blank own → Merges how own old new → Joins how P old new
 merged_added how P blank own old new e none j m =

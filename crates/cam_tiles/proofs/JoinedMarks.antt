@@ -1,4 +1,4 @@
--- Marks that are joined with those of a shape, row after row.
+-- Marks that are joined, row after row: with those of a shape, or with what is held in a column and a row.
 use Rattle.std.proofs.Common.{◌≡◌, ◌≢◌, ◌↔◌, ℕ, ◌+◌, ◌^◌, ◌<◌, ◌≤◌, ◌⊎◌, List, slice_index, slice_set}
 use Rattle.std.proofs.Common.{get_or-set_other, get_or-set_same, inl, inr, ◌∙◌, arith}
 use Rattle.std.proofs.Math.ListN.{length-set}
@@ -30,26 +30,31 @@ joined_none Clear P Q none = grind (arith, none)
 joined_none Turn P Q none = grind (arith, none)
 
 -- what is joined was marked before, or is held
-joined_from : (how : Join) (P Q R : Type 0) → (P → R) → (Q → R) → joined how P Q → R
+pub joined_from : (how : Join) (P Q R : Type 0) → (P → R) → (Q → R) → joined how P Q → R
 joined_from Add P Q R was held h = elim h [ inl p ↦ was p | inr q ↦ held q ]
 joined_from Clear P Q R was held h = was h.0
 joined_from Turn P Q R was held h = elim h [ inl p ↦ was p.0 | inr q ↦ held q.1 ]
 
 -- ---- row after row
 
--- the rows from one to another are joined, and the others as they were
-pub record AreRowsJoined (how : Join) (IsHeld : Spot → Type 0) (old new : Marking) (first end : ℕ) : Type 0 where
+-- the rows from one to another are joined with what is held in a column and a row, and the others are as they were
+pub record AreJoinedAt (how : Join) (IsHeld : ℕ → ℕ → Type 0) (old new : Marking) (first end : ℕ) : Type 0 where
   pub mask : IsMask new
   pub grid : new.grid ≡ old.grid
   pub marks : (column row : ℕ) → IsIn old.grid column row → first ≤ row → row < end
-      → IsMarked new column row ↔ joined how (IsMarked old column row) (IsHeld (centre_in old.grid column row))
+      → IsMarked new column row ↔ joined how (IsMarked old column row) (IsHeld column row)
   pub kept : (row : ℕ) → (row < first) ⊎ (end ≤ row) → slice_index new.rows row ≡ slice_index old.rows row
 
+-- the same with a shape that holds centres
+abbrev pub AreRowsJoined : Join → (Spot → Type 0) → Marking → Marking → ℕ → ℕ → Type 0
+AreRowsJoined how IsHeld old new first end =
+    AreJoinedAt how (λ column row. IsHeld (centre_in old.grid column row)) old new first end
+
 -- one row more: its word is what the row becomes, and the others stay
-module _ (how : Join) (IsHeld : Spot → Type 0) (old new : Marking) (first row word : ℕ) (from : first ≤ row)
-    (below : row < new.grid.rows) (before : AreRowsJoined how IsHeld old new first row)
-    (here : (i : ℕ) → i < 64 → IsBitSet word i
-    ↔ joined how (IsMarked new i row) ((i < new.grid.columns) × IsHeld (centre_in new.grid i row))) where
+module _ (how : Join) (IsHeld : ℕ → ℕ → Type 0) (old new : Marking) (first row word : ℕ) (from : first ≤ row)
+    (below : row < new.grid.rows) (before : AreJoinedAt how IsHeld old new first row)
+    (here : (i : ℕ) → i < 64
+    → IsBitSet word i ↔ joined how (IsMarked new i row) ((i < new.grid.columns) × IsHeld i row)) where
   abbrev pub rows : List ℕ
   rows = slice_set new.rows row word
 
@@ -65,20 +70,20 @@ module _ (how : Join) (IsHeld : Spot → Type 0) (old new : Marking) (first row 
   -- a mark of that row is one of a centre of the grid
   within : (i : ℕ) → i < 64 → IsBitSet word i → IsIn new.grid i row
   within i near set =
-      joined_from how (IsMarked new i row) ((i < new.grid.columns) × IsHeld (centre_in new.grid i row))
-      (IsIn new.grid i row) (before.mask.inside i row near low) (λ held. (held.0, below)) ((here i near).0 set)
+      joined_from how (IsMarked new i row) ((i < new.grid.columns) × IsHeld i row) (IsIn new.grid i row)
+      (before.mask.inside i row near low) (λ held. (held.0, below)) ((here i near).0 set)
 
-  marked : (i : ℕ) → i < new.grid.columns
-      → IsBitSet word i ↔ joined how (IsMarked old i row) (IsHeld (centre_in new.grid i row))
+  marked : (i : ℕ) → i < new.grid.columns → IsBitSet word i ↔ joined how (IsMarked old i row) (IsHeld i row)
   marked i inside =
       rw (← before.kept row (inr (omega arith))) (
       through (here i (omega (arith, inside, before.mask.grid.columns)))
-      (joined_with how (IsMarked new i row) ((i < new.grid.columns) × IsHeld (centre_in new.grid i row))
-      (IsHeld (centre_in new.grid i row)) ((λ h. h.1), (λ h. (inside, h))))
+      (joined_with how (IsMarked new i row) ((i < new.grid.columns) × IsHeld i row) (IsHeld i row)
+      ((λ h. h.1), (λ h. (inside, h))))
       )
 
-  pub next_row : word < 2 ^ 64 → AreRowsJoined how IsHeld old (record { grid = new.grid; rows = rows }) first (row + 1)
-  next_row fits = record {
+  pub next_row_at : word < 2 ^ 64
+      → AreJoinedAt how IsHeld old (record { grid = new.grid; rows = rows }) first (row + 1)
+  next_row_at fits = record {
     grid = before.grid;
     mask = record {
       grid = before.mask.grid;
@@ -93,7 +98,7 @@ module _ (how : Join) (IsHeld : Spot → Type 0) (old new : Marking) (first row 
       ];
     };
     marks = λ i k inside after until. elim (cases_eq k row) [
-      | inl e ↦ rw (this k e, e) (rw before.grid at (marked i (rw before.grid inside.0)))
+      | inl e ↦ rw (this k e, e) (marked i (rw before.grid inside.0))
       | inr apart ↦ rw (other k apart) (before.marks i k inside after (omega (arith, apart, until)))
     ];
     kept = λ k outside. elim outside [
@@ -102,28 +107,34 @@ module _ (how : Join) (IsHeld : Spot → Type 0) (old new : Marking) (first row 
     ];
   }
 
--- all rows, where the shape holds no centre of the others
+-- all rows, where nothing is held in the others
+pub all_joined_at : (how : Join) (IsHeld : ℕ → ℕ → Type 0) (old new : Marking) (first end : ℕ)
+    → AreJoinedAt how IsHeld old new first end
+    → ((column row : ℕ) → IsIn old.grid column row → (row < first) ⊎ (end ≤ row) → IsHeld column row → ⊥)
+    → (column row : ℕ) → IsIn old.grid column row
+    → IsMarked new column row ↔ joined how (IsMarked old column row) (IsHeld column row)
+all_joined_at how IsHeld old new first end rows none =
+    let stays : (column row : ℕ) → IsIn old.grid column row → (row < first) ⊎ (end ≤ row)
+    → IsMarked new column row ↔ joined how (IsMarked old column row) (IsHeld column row) =
+    λ column row inside outside. rw (rows.kept row outside)
+    (joined_none how (IsMarked old column row) (IsHeld column row) (none column row inside outside)) in
+    λ column row inside. elim (cases_lt row first) [
+      | inl early ↦ stays column row inside (inl early)
+      | inr after ↦ elim (cases_lt row end) [
+        | inl until ↦ rows.marks column row inside after until
+        | inr late ↦ stays column row inside (inr late)
+      ]
+    ]
+
 pub all_joined : (how : Join) (IsHeld : Spot → Type 0) (old new : Marking) (first end : ℕ)
     → AreRowsJoined how IsHeld old new first end
     → ((column row : ℕ) → IsIn old.grid column row → (row < first) ⊎ (end ≤ row)
     → IsHeld (centre_in old.grid column row) → ⊥)
     → Joins how IsHeld old new
-all_joined how IsHeld old new first end rows none =
-    let stays : (column row : ℕ) → IsIn old.grid column row → (row < first) ⊎ (end ≤ row)
-    → IsMarked new column row ↔ joined how (IsMarked old column row) (IsHeld (centre_in old.grid column row)) =
-    λ column row inside outside. rw (rows.kept row outside) (
-    joined_none how (IsMarked old column row) (IsHeld (centre_in old.grid column row)) (none column row inside outside)
-    ) in
-    record {
-      grid = rows.grid;
-      marks = λ column row inside. elim (cases_lt row first) [
-        | inl early ↦ stays column row inside (inl early)
-        | inr after ↦ elim (cases_lt row end) [
-          | inl until ↦ rows.marks column row inside after until
-          | inr late ↦ stays column row inside (inr late)
-        ]
-      ];
-    }
+all_joined how IsHeld old new first end rows none = record {
+  grid = rows.grid;
+  marks = all_joined_at how (λ column row. IsHeld (centre_in old.grid column row)) old new first end rows none;
+}
 
 -- the centres that a shape holds lie in the rows between its heights
 pub none_outside : (IsHeld : Spot → Type 0) (h : Heights) (at : Point) (g : Grid) (first end stop : ℕ)

@@ -1,24 +1,19 @@
 -- Marks as pixels: where the places of a shape are joined as an ink is, a leaf is painted.
-use Rattle.std.proofs.Common.{◌≡◌, ◌↔◌, ℕ, ◌==◌, Bool, true, false, cond, inl, inr, ◌∷◌, [], slice_index}
+use Rattle.std.proofs.Common.{◌≡◌, ◌↔◌, ℕ, Bool, true, false, cond, inl, inr, ◌∷◌, [], slice_index}
 use Rattle.std.proofs.Common.{sym, ap, subst, ◌∙◌}
-use Rattle.std.specs.Int.{bit_at}
 use Rattle.std.proofs.lemmas.Bool.{cases_Bool, eq-eqb, eqb-true, false_from_ne_true, true≢false}
 use Rattle.cam_units.specs.declared.point.Spot.{Spot}
 use Rattle.cam_rows.proofs.SetBits.{set_is_one}
 use Rattle.cam_objects.specs.declared.canvas.Figure.{Figure}
-use Rattle.cam_objects.specs.Canvases.{Paints, shape_of}
+use Rattle.cam_objects.specs.Canvases.{shape_of}
 use Rattle.cam_objects.specs.Image.{Covers}
 use Rattle.cam_objects.specs.Leaves.{Shape, leaf}
 use Rattle.cam_objects.specs.Tests.{covers}
 use Rattle.cam_objects.proofs.TestLaws.{cover_law}
 use Rattle.cam_tiles.specs.declared.grid.Grid.{Grid}
 use Rattle.cam_tiles.specs.declared.masks.join.Join.{Join}
-use Rattle.cam_tiles.specs.Masks.{IsIn, IsMarked, Joins, Marking, inked, joined}
+use Rattle.cam_tiles.specs.Masks.{IsIn, IsMarked, Joins, Marking, PaintsMask, ink_of, inked, joined}
 use Rattle.cam_tiles.specs.Tiles.{centre_in}
-
--- whether a pixel is dark
-abbrev pub ink_of : Marking → ℕ → ℕ → Bool
-ink_of m column row = bit_at (slice_index m.rows row) column == 1
 
 pub dark_if_marked : (m : Marking) (column row : ℕ) → IsMarked m column row → ink_of m column row ≡ true
 dark_if_marked m column row h = eq-eqb _ 1 ((set_is_one (slice_index m.rows row) column).0 h)
@@ -69,8 +64,9 @@ new_ink shape dark m n column row s told =
           ∙ ap (λ b. cond b dark (ink_of m column row)) (sym off)
     ]
 
-joined_is_painted : (shape : Shape) (dark : Bool) (old new : Marking) → Joins (inked dark) (Covers shape) old new
-    → Paints (λ (m : Marking). IsIn m.grid) (λ (m : Marking). centre_in m.grid) ink_of old (leaf shape dark ∷ []) new
+-- the places of a shape, joined by its ink
+pub joined_is_painted : (shape : Shape) (dark : Bool) (old new : Marking) → Joins (inked dark) (Covers shape) old new
+    → PaintsMask old (leaf shape dark ∷ []) new
 joined_is_painted shape dark old new h = record {
   pixels = λ column row. (
     (λ there. subst (λ (g : Grid). IsIn g column row) h.grid there),
@@ -84,9 +80,7 @@ joined_is_painted shape dark old new h = record {
 -- a figure of this shape is painted
 pub figure_is_painted : (figure : Figure) (shape : Shape) (dark : Bool) (how : Join) (old new : Marking)
     → shape_of figure ≡ shape → how ≡ inked dark → Joins how (Covers shape) old new
-    → Paints (λ (m : Marking). IsIn m.grid) (λ (m : Marking). centre_in m.grid) ink_of
-    old (leaf (shape_of figure) dark ∷ []) new
+    → PaintsMask old (leaf (shape_of figure) dark ∷ []) new
 figure_is_painted figure shape dark how old new is_shape is_how h =
-    subst (λ (it : Shape). Paints (λ (m : Marking). IsIn m.grid) (λ (m : Marking). centre_in m.grid) ink_of
-    old (leaf it dark ∷ []) new) (sym is_shape)
+    subst (λ (it : Shape). PaintsMask old (leaf it dark ∷ []) new) (sym is_shape)
     (joined_is_painted shape dark old new (subst (λ (j : Join). Joins j (Covers shape) old new) is_how h))

@@ -1,17 +1,18 @@
 -- PBM files: the bits of a byte, the bytes of a row, the rows of a file.
 use Rattle.std.proofs.Common.{◌≡◌, ℕ, zero, suc, ◌+◌, ◌*◌, ◌-◌, ◌/◌, ◌%◌, ◌^◌, ◌<◌, ◌≤◌, Bool, true, false, ◌&&◌}
-use Rattle.std.proofs.Common.{List, [], ◌∷◌, ◌++◌, length, get_or, take, min, map, All}
-use Rattle.std.proofs.Common.{refl, sym, ap, ◌∙◌, length-append, length-take-le, append_assoc, append-nil}
-use Rattle.std.proofs.Common.{add-one, zero-add, arith}
+use Rattle.std.proofs.Common.{List, [], ◌∷◌, ◌++◌, length, get_or, set, take, map, All}
+use Rattle.std.proofs.Common.{refl, sym, ap, ◌∙◌, length-append, length-take-le}
+use Rattle.std.proofs.Common.{add-one, inl, inr, arith}
 use Rattle.std.specs.Fmt.{decimal}
 use Rattle.std.specs.Int.{bit_at}
 use Rattle.std.specs.List.{range_with_len, flat_map}
 use Rattle.std.proofs.Math.Seq.{take-append_seam}
-use Rattle.std.proofs.lemmas.Bool.{lt-ltb, le-ltb}
+use Rattle.std.proofs.lemmas.Bool.{cases_lt, lt-ltb, le-ltb}
 use Rattle.std.proofs.lemmas.Fmt.{IsAscii-decimal}
-use Rattle.std.proofs.lemmas.List.{get_or-take, get_or_append_left, get_or-append-add, flat_map_more}
+use Rattle.std.proofs.lemmas.List.{get_or-take, get_or_append_left, get_or-append-add, get_or-set_other, flat_map_more}
+use Rattle.std.proofs.lemmas.Grind.{get_or-set_at}
 use Rattle.std.proofs.lemmas.List.Elements.{All-append, All-cons, All-nil, All-from_get_or}
-use Rattle.std.proofs.lemmas.List.FromFn.{length-map-range_with_len, get_or-map-range_with_len, map-range_with_len_more}
+use Rattle.std.proofs.lemmas.List.FromFn.{length-map-range_with_len, get_or-map-range_with_len}
 use Rattle.cam_tiles.specs.Pbm.{header, bit_of, byte_of, bytes_across, padded, row_of, pbm, byte_at, IsPixelSet}
 
 pub bit_of-lt : (b : Bool) → bit_of b < 2
@@ -260,7 +261,8 @@ more_rows f n start before after e so_far =
     ∙ sym (range_more 0 n) ∙ ap (range_with_len 0) (sym (add-one n)) in
     e ∙ ap (λ b. b ++ f n) so_far ∙ flat_map_more f start (range_with_len 0 n) n ∙ ap (λ r. start ++ flat_map f r) rows
 
--- some more bytes of a row
+-- ---- a row, put together from the bytes of its tiles
+
 bytes_on : (f : ℕ → ℕ) (from : ℕ) (bytes : List ℕ)
     → ((j : ℕ) → j < length bytes → get_or bytes j 0 ≡ f (from + j))
     → bytes ≡ map f (range_with_len from (length bytes))
@@ -271,40 +273,50 @@ bytes_on f from (byte ∷ bytes) same =
     ∙ ap (λ r. f from ∷ r) (bytes_on f (from + 1) bytes (λ j below.
     same (suc j) (omega (arith, below)) ∙ ap f (omega arith)))
 
-range_on : (f : ℕ → ℕ) (from n more : ℕ)
-    → map f (range_with_len from n) ++ map f (range_with_len (from + n) more) ≡ map f (range_with_len from (n + more))
-range_on f from n zero =
-    append-nil (map f (range_with_len from n)) ∙ ap (λ k. map f (range_with_len from k)) (omega arith)
-range_on f from n (suc more) =
-    let last = f (from + n) in
-    let rest = map f (range_with_len (from + n + 1) more) in
-    let next : from + n + 1 ≡ from + (n + 1) = omega arith in
-    sym (append_assoc (map f (range_with_len from n)) (last ∷ []) rest)
-    ∙ ap (λ front. front ++ rest) (sym (map-range_with_len_more f from n (from + n) refl))
-    ∙ ap (λ k. map f (range_with_len from (n + 1)) ++ map f (range_with_len k more)) next
-    ∙ range_on f from (n + 1) more ∙ ap (λ k. map f (range_with_len from k)) (omega arith)
+-- lists of eight bytes, so many of them, which are those of a function from a place on
+abbrev pub AreEights : (ℕ → ℕ) → ℕ → ℕ → List (List ℕ) → Type 0
+AreEights f from count eights =
+    (k : ℕ) → k < count
+    → (length (get_or eights k []) ≡ 8) × ((i : ℕ) → i < 8 → get_or (get_or eights k []) i 0 ≡ f (from + (8 * k + i)))
 
-more_bytes : (f : ℕ → ℕ) (n all : ℕ) (bytes start before after : List ℕ)
-    → ((j : ℕ) → j < length bytes → get_or bytes j 0 ≡ f (n + j)) → n + length bytes ≡ all
-    → after ≡ before ++ bytes → before ≡ start ++ map f (range_with_len 0 n)
-    → after ≡ start ++ map f (range_with_len 0 all)
-more_bytes f n all bytes start before after same to_all e so_far =
-    e ∙ ap (λ b. b ++ bytes) so_far
-    ∙ ap (λ r. (start ++ map f (range_with_len 0 n)) ++ r) (bytes_on f n bytes same)
-    ∙ append_assoc start (map f (range_with_len 0 n)) (map f (range_with_len n (length bytes)))
-    ∙ ap (λ k. start ++ (map f (range_with_len 0 n) ++ map f (range_with_len k (length bytes)))) (sym (zero-add n))
-    ∙ ap (λ r. start ++ r) (range_on f 0 n (length bytes))
-    ∙ ap (λ k. start ++ map f (range_with_len 0 k)) to_all
+-- one more of them is written
+pub more_eights : (f : ℕ → ℕ) (n : ℕ) (eights : List (List ℕ)) (bytes : List ℕ) → n < length eights → length bytes ≡ 8
+    → ((i : ℕ) → i < 8 → get_or bytes i 0 ≡ f (8 * n + i)) → AreEights f 0 n eights
+    → AreEights f 0 (n + 1) (set eights n bytes)
+more_eights f n eights bytes inside eight told so_far k below =
+    elim (cases_lt k n) [
+      | inl before ↦ rw (get_or-set_other eights n k bytes [] (omega arith)) (so_far k before)
+      | inr last ↦
+          (let this : k ≡ n = omega arith in
+          rw (get_or-set_at eights n k bytes [] this inside)
+          (eight, λ i low. told i low ∙ ap f (omega arith)))
+    ]
 
--- the bytes of one more tile of a row of n bytes, cut to the row's
-pub more_of_row : (f : ℕ → ℕ) (n column count : ℕ) (bytes start before after : List ℕ)
-    → 8 * column < n → count ≡ min (n - 8 * column) 8 → length bytes ≡ 8
-    → ((k : ℕ) → k < 8 → get_or bytes k 0 ≡ f (8 * column + k)) → after ≡ before ++ take count bytes
-    → before ≡ start ++ map f (range_with_len 0 (min (8 * column) n))
-    → after ≡ start ++ map f (range_with_len 0 (min (8 * (column + 1)) n))
-more_of_row f n column count bytes start before after inside count_is whole told after_is so_far =
-    let front : length (take count bytes) ≡ count = length-take-le count bytes (omega arith) in
-    let here : min (8 * column) n ≡ 8 * column = omega arith in
-    more_bytes f (8 * column) (min (8 * (column + 1)) n) (take count bytes) start before after
-    (λ k below. get_or-take count bytes k 0 (omega (arith, front)) ∙ told k (omega (arith, front)))
-    (omega (arith, front)) after_is (so_far ∙ ap (λ m. start ++ map f (range_with_len 0 m)) here)
+eights_at : (f : ℕ → ℕ) (from count j : ℕ) (eights : List (List ℕ)) → count ≤ length eights → j < 8 * count
+    → AreEights f from count eights → get_or (flat_map (λ bytes. bytes) eights) j 0 ≡ f (from + j)
+eights_at f from count j [] enough within told = absurd (omega arith)
+eights_at f from zero j (bytes ∷ eights) enough within told = absurd (omega arith)
+eights_at f from (suc count) j (bytes ∷ eights) enough within told =
+    let first = told 0 (omega arith) in
+    let rest = flat_map (λ bytes. bytes) eights in
+    elim (cases_lt j 8) [
+      | inl here ↦ get_or_append_left bytes rest 0 j (omega (arith, first.0)) ∙ first.1 j here ∙ ap f (omega arith)
+      | inr behind ↦
+          (let at : j ≡ length bytes + (j - 8) = omega (arith, first.0) in
+          ap (λ i. get_or (bytes ++ rest) i 0) at ∙ get_or-append-add bytes rest (j - 8) 0
+          ∙ eights_at f (from + 8) count (j - 8) eights (omega arith) (omega arith) (λ k below.
+          let next = told (suc k) (omega arith) in
+          (next.0, λ i low. next.1 i low ∙ ap f (omega arith)))
+          ∙ ap f (omega arith))
+    ]
+
+-- the row that they begin with
+pub row_of_eights : (f : ℕ → ℕ) (count n : ℕ) (eights : List (List ℕ)) (all : List ℕ)
+    → all ≡ flat_map (λ bytes. bytes) eights → count ≤ length eights → n ≤ 8 * count → n ≤ length all
+    → AreEights f 0 count eights → take n all ≡ map f (range_with_len 0 n)
+row_of_eights f count n eights all is enough short within told =
+    let whole : length (take n all) ≡ n = length-take-le n all within in
+    bytes_on f 0 (take n all) (λ j below.
+    get_or-take n all j 0 (omega (arith, whole)) ∙ ap (λ bytes. get_or bytes j 0) is
+    ∙ eights_at f 0 count j eights enough (omega (arith, whole)) told)
+    ∙ ap (λ m. map f (range_with_len 0 m)) whole

@@ -15,7 +15,7 @@ use Rattle.cam_tiles.proofs.StepLemmas.{first_x, y_kept}
 use Rattle.cam_tiles.proofs.WindowLemmas.{IsNear}
 
 -- a height or a width, as it is seen from another
-seen_fits : (z here away : ℤ) → z ≡ here → IsNear here → unsigned_abs away < board_limit
+pub seen_fits : (z here away : ℤ) → z ≡ here → IsNear here → unsigned_abs away < board_limit
     → FitsSigned w64 (z -ℤ long (pos 2 *ℤ long away))
 seen_fits z here away is_here near short = rw is_here (omega (arith, ints))
 

@@ -1,8 +1,7 @@
 -- What a shape holds lies between its heights.
-use Rattle.std.proofs.Common.{◌≡◌, ◌*◌, ℤ, pos, ◌+ℤ◌, ◌-ℤ◌, ◌*ℤ◌, ◌≤ℤ◌, ◌<ℤ◌, IsTrue, ◌⊎◌, inl, inr, arith}
+use Rattle.std.proofs.Common.{◌≡◌, ◌*◌, ℤ, pos, ◌+ℤ◌, ◌-ℤ◌, ◌*ℤ◌, ◌<ℤ◌, IsTrue, ◌⊎◌, inl, inr, arith}
 use Rattle.std.specs.Int.{int_max, int_min}
-use Rattle.std.proofs.lemmas.Bool.{false≢true}
-use Rattle.std.proofs.lemmas.Int.{ints, clamps, by_lt_z}
+use Rattle.std.proofs.lemmas.Int.{ints, clamps}
 use Rattle.cam_units.specs.Boxes.{Holds}
 use Rattle.cam_units.specs.declared.length.Nm.{Nm}
 use Rattle.cam_units.specs.declared.point.Point.{Point}
@@ -19,10 +18,8 @@ use Rattle.cam_shapes.specs.Bar.{IsInBar, IsInCapsule}
 use Rattle.cam_shapes.specs.Box.{IsInObround, IsInRectangle}
 use Rattle.cam_shapes.specs.Cap.{is_in_cap}
 use Rattle.cam_shapes.specs.Disc.{IsInDisc, IsInHole}
-use Rattle.cam_shapes.specs.Edge.{crosses_ray, edge}
 use Rattle.cam_shapes.specs.Plane.{dot, place_of, square, way}
 use Rattle.cam_shapes.proofs.Caps.{cap_square}
-use Rattle.cam_shapes.proofs.Crossings.{not_under, under}
 use Rattle.cam_shapes.proofs.Strokes.{arc_square, natural_or_not}
 use Rattle.cam_apertures.specs.Primitives.{box_about}
 use Rattle.cam_apertures.proofs.ShapeBoxes.{bar_span, disc_box, less_at_most, obround_box, rectangle_box, within_box}
@@ -88,32 +85,10 @@ in_capsule c h a s on = elim on.near [
   | inr (inr near) ↦ beside c.from c.to c.width h a s (record { wide = on.wide; beside = near })
 ]
 
--- ---- edges
-
--- an edge falls or rises across the height of a place from which a ray crosses it
-module _ (p q : Point) (h : Heights) (a : AreAlong p q (pos 0) h) (s : Spot) where
-  falls : s.y <ℤ (pos 2 *ℤ p.y) → (pos 2 *ℤ q.y) ≤ℤ s.y → IsWithin h s
-  falls from to = (omega (arith, ints, clamps, a.low), omega (arith, ints, clamps, a.high))
-
-  rises : (pos 2 *ℤ p.y) ≤ℤ s.y → s.y <ℤ (pos 2 *ℤ q.y) → IsWithin h s
-  rises from to = (omega (arith, ints, clamps, a.low), omega (arith, ints, clamps, a.high))
-
-  pub in_edge : IsTrue (crosses_ray s (edge p q)) → IsWithin h s
-  in_edge on =
-      let from = pos 2 *ℤ p.y in
-      let to = pos 2 *ℤ q.y in
-      by_lt_z s.y from
-      (λ below. by_lt_z s.y to
-      (λ low. absurd (false≢true (rw (under s.y from below, under s.y to low) at on)))
-      (λ high. falls below high))
-      (λ over. by_lt_z s.y to
-      (λ low. rises over low)
-      (λ high. absurd (false≢true (rw (not_under s.y from over, not_under s.y to high) at on))))
-
 -- ---- circles
 
 -- the square of the radius of the circle about a point through another
-abbrev squared_radius : Point → Point → ℤ
+abbrev pub squared_radius : Point → Point → ℤ
 squared_radius centre from = dot (way centre from) (way centre from)
 
 pub in_cap : (c : Cap) (r : ℤ) (h : Heights) → squared_radius c.centre c.from <ℤ square r → pos 0 <ℤ r

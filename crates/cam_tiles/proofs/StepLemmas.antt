@@ -20,7 +20,7 @@ way_down : (y d : ℤ) → IsNear y → IsNear (y -ℤ d) → unsigned_abs d < 4
 way_down y d here there = omega (arith, ints)
 
 -- so many steps
-way_kept : (n s : ℤ) (k : ℕ) → n ≡ pos k → k < 64 → FitsSigned w64 s → long n *ℤ long s ≡ pos k *ℤ s
+pub way_kept : (n s : ℤ) (k : ℕ) → n ≡ pos k → k < 64 → FitsSigned w64 s → long n *ℤ long s ≡ pos k *ℤ s
 way_kept n s k e few fits =
     ap (λ z. long z *ℤ long s) e ∙ ap (λ z. z *ℤ long s) (to_z-of_z w64 (pos k) (omega (arith, ints)))
     ∙ ap (λ z. pos k *ℤ z) (to_z-of_z w64 s fits)

@@ -1,6 +1,9 @@
+pub mod Filing
 pub mod Indexes
 pub mod Kept
+pub mod Levels
 pub mod Masks
+pub mod Parities
 pub mod Pbm
 pub mod Picture
 pub mod Sources

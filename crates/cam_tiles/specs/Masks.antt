@@ -1,11 +1,16 @@
 -- Masks: which centres of a grid are marked, by 64 rows of 64 bits.
-use Rattle.std.specs.Prelude.{◌≡◌, ◌↔◌, ℕ, ◌^◌, ◌<◌, ◌⊎◌, Bool, true, false, List, length, slice_index, ◌≤ℤ◌}
-use Rattle.std.specs.Int.{IsBitSet}
+use Rattle.std.specs.Prelude.{◌≡◌, ◌↔◌, ℕ, ◌^◌, ◌==◌, ◌<◌, ◌⊎◌, Bool, true, false, List, length, slice_index, ◌≤ℤ◌}
+use Rattle.std.specs.Int.{IsBitSet, bit_at}
+use Rattle.cam_units.specs.Boxes.{Holds}
+use Rattle.cam_units.specs.declared.bounds.Bounds.{Bounds}
 use Rattle.cam_units.specs.declared.point.Spot.{Spot}
+use Rattle.cam_objects.specs.Canvases.{Paints}
+use Rattle.cam_objects.specs.Leaves.{Leaf}
 use Rattle.cam_tiles.specs.declared.grid.Grid.{Grid}
 use Rattle.cam_tiles.specs.declared.masks.heights.Heights.{Heights}
 use Rattle.cam_tiles.specs.declared.masks.join.Join.{Join}
 use Rattle.cam_tiles.specs.declared.masks.join.Join.TheVariants.{Add, Clear, Turn}
+use Rattle.cam_tiles.specs.declared.masks.mask.Mask.TheInside.{Inside}
 use Rattle.cam_tiles.specs.Tiles.{IsGrid, centre_in}
 
 pub record Marking : Type 0 where
@@ -26,6 +31,18 @@ pub record IsMask (m : Marking) : Type 0 where
   pub whole : length m.rows ≡ 64
   pub fit : (row : ℕ) → slice_index m.rows row < 2 ^ 64
   pub inside : (column row : ℕ) → column < 64 → row < 64 → IsMarked m column row → IsIn m.grid column row
+
+-- a box with all centres of a grid
+abbrev pub HoldsCentres : Bounds → Grid → Type 0
+HoldsCentres box g = (column row : ℕ) → IsIn g column row → Holds box (centre_in g column row)
+
+-- what is seen of a mask, beside which it keeps the box of its centres
+abbrev pub marking_of : Inside → Marking
+marking_of m = record { grid = m.grid; rows = m.rows }
+
+pub record IsBoxedMask (m : Inside) : Type 0 where
+  pub mask : IsMask (marking_of m)
+  pub bounds : HoldsCentres m.bounds m.grid
 
 -- no centre is marked
 abbrev pub IsBlank : Marking → Type 0
@@ -53,6 +70,15 @@ pub record Merges (how : Join) (other old new : Marking) : Type 0 where
   pub grid : new.grid ≡ old.grid
   pub marks : (column row : ℕ) → IsIn old.grid column row
       → IsMarked new column row ↔ joined how (IsMarked old column row) (IsMarked other column row)
+
+-- whether a pixel is dark: it is marked
+abbrev pub ink_of : Marking → ℕ → ℕ → Bool
+ink_of m column row = bit_at (slice_index m.rows row) column == 1
+
+-- leaves painted on a mask, in order
+abbrev pub PaintsMask : Marking → List Leaf → Marking → Type 0
+PaintsMask old leaves new =
+    Paints (λ (m : Marking). IsIn m.grid) (λ (m : Marking). centre_in m.grid) ink_of old leaves new
 
 -- a height between two, or at one of them
 abbrev pub IsWithin : Heights → Spot → Type 0

@@ -3,10 +3,8 @@
 ghost use Rattle.std.specs.Prelude.{◌≡◌, ◌<◌, ℕ};
 ghost use Rattle.cam_units.specs.Board.{IsPlace};
 ghost use Rattle.cam_units.specs.Boxes.{Holds};
-ghost use Rattle.cam_tiles.specs.Masks.{IsWithin};
 ghost use Rattle.cam_tiles.specs.Tiles.{IsGrid, centre_in};
 
-use crate::masks::heights::Heights;
 use cam_units::{Bounds, Spot};
 
 /// The pixel centres of a tile, in half nanometres: the upper left one and the distance of neighbours; and how many
@@ -36,18 +34,6 @@ impl Grid {
                 x: last.x,
                 y: self.first.y,
             },
-        }
-    }
-
-    /// The heights of the centres, from the last row to the first.
-    pub(crate) fn heights(&self) -> Heights
-        requires { IsGrid self.now }
-        ensures { (column row : ℕ) → column < self.now.columns → row < self.now.rows
-            → IsWithin result (centre_in self.now column row) }
-    {
-        Heights {
-            low: self.centre(0, self.rows - 1).y,
-            high: self.first.y,
         }
     }
 

@@ -1,85 +1,282 @@
-//! The boxes of a layer's items at hand, so that a tile asks those items alone that it may show.
+//! What of a layer a redraw may show: the boxes of its items, and for the tiles of a row those that reach it.
 
-ghost use Rattle.std.specs.Prelude.{◌≡◌, ◌≤◌, IfOk, Some, length};
-ghost use Rattle.cam_tiles.specs.Indexes.{reaches, reaching};
-ghost use Rattle.cam_tiles.specs.declared.masks.heights.Heights.{Heights};
+ghost use Rattle.std.specs.Prelude.{◌≡◌, ◌↔◌, ◌<◌, ◌≤◌, ◌≤ℤ◌, ℕ, [], All, IfOk, IfSome, IsTrue, Some};
+ghost use Rattle.std.specs.Prelude.{length, take, vec_capacity};
+ghost use Rattle.std.specs.List.{slice_index_or};
+ghost use Rattle.cam_units.specs.Boxes.{Holds};
+ghost use Rattle.cam_units.specs.declared.point.Spot.{Spot};
+ghost use Rattle.cam_tiles.specs.Indexes.{IsBoxed, IsEntry, IsFiled, IsIndexOf, IsOnLevels, PaintAlike};
+ghost use Rattle.cam_tiles.specs.Indexes.{band_leaves, boxed_leaves};
+ghost use Rattle.cam_tiles.specs.Levels.{IsLevels, levels_of};
+ghost use Rattle.cam_tiles.specs.Masks.{IsIn, PaintsMask};
+ghost use Rattle.cam_tiles.specs.Sources.{IsReady, leaves_by_item, leaves_of};
+ghost use Rattle.cam_tiles.specs.Tiles.{centre_in};
 
-use crate::masks::heights::Heights;
-use cam_units::Bounds;
+use crate::levels::Levels;
+use crate::masks::filing::{FiledSegment, file_contour};
+use crate::masks::join::Join;
+use crate::masks::mask::Mask;
+use crate::shown::Shown;
+use cam_apertures::has_place;
+use cam_units::{Bounds, Spot};
 use std::alloc::{AllocError, Global};
 use std::marker::Model;
 
-/// The boxes of items in their order, and the places in the list of those that reach into a band of heights. Tiles are
-/// drawn row by row, so that a band serves all tiles of a row.
+/// The box of the item at a place of the list, from its low to its high corner, in half nm.
+#[derive(Clone, Copy)]
+pub(crate) struct Boxed {
+    place: u32,
+    low: Spot,
+    high: Spot,
+}
+
+/// A part of the segments that are filed, the first of them included and the end not.
+#[derive(Clone, Copy)]
+pub(crate) struct Span {
+    first: u32,
+    end: u32,
+}
+
+/// An item that reaches the rows of a band: its place in the list, the sides of its box, in half nm, and its segments,
+/// where it is a region and they are filed.
+// In this order of the fields an entry has 32 bytes: a band of many is gone through for each tile.
+#[derive(Clone, Copy)]
+pub(crate) struct Entry {
+    place: u32,
+    filed: Option<Span>,
+    left: i64,
+    right: i64,
+}
+
+/// The boxes of the items that meet a box, in the order of the items, and those of them that reach the rows of a band.
+/// Tiles are drawn row by row, so that a band serves all tiles of a row.
 #[derive(Drop)]
 pub(crate) struct Index {
-    boxes: Vec<Bounds>,
-    heights: Option<Heights>,
-    band: Vec<u32>,
+    within: Bounds,
+    boxed: Vec<Boxed>,
+    levels: Option<Levels>,
+    band: Vec<Entry>,
+    segments: Vec<FiledSegment>,
+}
+
+impl Boxed {
+    /// Whether it has a height from the bottom to the top.
+    #[inline]
+    fn reaches(&self, bottom: i64, top: i64) -> bool
+        ensures { IsTrue result ↔ ((self.now.low.y ≤ℤ top) × (bottom ≤ℤ self.now.high.y)) }
+    {
+        self.low.y <= top && bottom <= self.high.y
+    }
+
+    /// Its entry in a band.
+    #[inline]
+    fn entry(&self, filed: Option<Span>) -> Entry
+        ensures { result ≡ record {
+          place = self.now.place;
+          filed = filed;
+          left = self.now.low.x;
+          right = self.now.high.x;
+        } }
+    {
+        Entry {
+            place: self.place,
+            filed,
+            left: self.low.x,
+            right: self.high.x,
+        }
+    }
+}
+
+impl Entry {
+    /// Whether its box has a place from the first column of a tile to the last.
+    #[inline]
+    fn reaches(&self, first: i64, last: i64) -> bool
+        ensures { IsTrue result ↔ ((self.now.left ≤ℤ last) × (first ≤ℤ self.now.right)) }
+    {
+        self.left <= last && first <= self.right
+    }
 }
 
 impl Model for Index {
-    ghost use Rattle.cam_tiles.specs.Indexes.{Filed, IsIndex, filed_in};
+    ghost use Rattle.cam_tiles.specs.Indexes.{Indexed, IsRoomy, indexed_in};
 
-    ghost Value = { Filed };
+    ghost Value = { Indexed };
 
-    ghost view = { filed_in };
+    ghost view = { indexed_in };
 
-    ghost invariant = { IsIndex };
-}
-
-/// Whether a box has a height in the band.
-fn reaches(heights: Heights, bounds: Bounds) -> bool
-    ensures { result ≡ reaches heights bounds }
-{
-    match bounds {
-        Bounds::Empty => false,
-        Bounds::Closed { low, high } => low.y <= heights.high && heights.low <= high.y,
-    }
+    ghost invariant = { IsRoomy };
 }
 
 impl Index {
-    /// An index of boxes, with room for a band of all of them; its band has no height yet.
-    pub(crate) fn new(alloc: Global, boxes: Vec<Bounds>) -> Result<Index, AllocError>
-        requires { length boxes.items ≤ 1000000 }
-        ensures { IfOk result (λ index. index.boxes ≡ boxes.items) }
+    /// An index of the items that meet a box, in half nm; its band has no rows yet.
+    pub(crate) fn new(alloc: Global, shown: &Shown<'_>, within: Bounds) -> Result<Index, AllocError>
+        requires { IsReady shown.now }
+        ensures { IfOk result (λ index. IsIndexOf (leaves_by_item shown.now) index) }
     {
-        let band = Vec::with_capacity(alloc, boxes.len())?;
+        let count = shown.len();
+        let mut boxed = Vec::with_capacity(alloc, count)?;
+        let mut room = 0;
+        let mut boxes = shown.boxes();
+        for place in 0..count {
+            let bounds = boxes.read(place);
+            let Bounds::Closed { low, high } = bounds else {
+                continue;
+            };
+            if bounds.meets(within) {
+                boxed.push_reserved(Boxed {
+                    place: place as u32,
+                    low,
+                    high,
+                });
+                room += shown.room_to_file(place);
+            }
+        }
+        let band = Vec::with_capacity(alloc, boxed.len())?;
+        let segments = Vec::with_capacity(alloc, room)?;
         Ok(Index {
-            boxes,
-            heights: None,
+            within,
+            boxed,
+            levels: None,
             band,
+            segments,
         })
     }
 
-    /// Turns to a band of heights: one look at each box, and none where it is the band already.
-    pub(crate) fn turn_to(&mut self, heights: Heights)
-        ensures boxes { self.new.boxes ≡ self.old.boxes }
-        ensures heights { self.new.heights ≡ Some heights }
+    /// Whether a box lies in that of the index.
+    pub(crate) fn holds(&self, bounds: Bounds) -> bool
+        ensures { IsTrue result → (s : Spot) → Holds bounds s → Holds self.now.within s }
     {
-        if self.heights == Some(heights) {
+        let Bounds::Closed { low, high } = bounds else {
+            return false;
+        };
+        has_place(self.within, low) && has_place(self.within, high)
+    }
+
+    /// Turns to the rows of a tile: one look at each box, and none where they are those of the band already.
+    fn turn_to(&mut self, levels: Levels, shown: &Shown<'_>)
+        requires ready { IsReady shown.now }
+        requires levels { IsLevels levels }
+        requires index { IsIndexOf (leaves_by_item shown.now) self.old }
+        ensures index { IsIndexOf (leaves_by_item shown.now) self.new }
+        ensures within { self.new.within ≡ self.old.within }
+        ensures turned { self.new.levels ≡ Some levels }
+    {
+        if self.levels == Some(levels) {
             return;
         }
-        self.heights = Some(heights);
+        self.levels = Some(levels);
         self.band.clear();
-        for place in 0..self.boxes.len() {
-            if reaches(heights, self.boxes[place]) {
-                self.band.push_reserved(place as u32);
-            }
+        self.segments.clear();
+        file_band(
+            &self.boxed,
+            levels,
+            shown,
+            &mut self.band,
+            &mut self.segments,
+        );
+    }
+
+    /// Paints all items, in order, on the mask of a tile in the box: by the band of its rows those alone that it may
+    /// show, since the others leave it as it is.
+    pub(crate) fn paint(&mut self, shown: &Shown<'_>, mask: &mut Mask)
+        requires ready { IsReady shown.now }
+        requires index { IsIndexOf (leaves_by_item shown.now) self.old }
+        requires within { (column row : ℕ) → IsIn mask.old.grid column row
+            → Holds self.old.within (centre_in mask.old.grid column row) }
+        ensures index { IsIndexOf (leaves_by_item shown.now) self.new }
+        ensures painted { PaintsMask mask.old (leaves_of shown.now) mask.new }
+    {
+        self.turn_to(mask.grid().levels(), shown);
+        paint_band(&self.band, &self.segments, shown, mask);
+    }
+}
+
+/// Files the boxes that have a height from the lowest row's to the top one's, in order.
+fn file_band(
+    boxed: &[Boxed],
+    levels: Levels,
+    shown: &Shown<'_>,
+    band: &mut Vec<Entry>,
+    segments: &mut Vec<FiledSegment>,
+)
+    requires ready { IsReady shown.now }
+    requires levels { IsLevels levels }
+    requires boxed { All (IsBoxed (leaves_by_item shown.now)) boxed.now }
+    requires room { length boxed.now ≤ vec_capacity band.old }
+    requires empty { band.old.items ≡ [] }
+    ensures each { All (IsEntry (leaves_by_item shown.now) levels segments.new.items) band.new.items }
+    ensures enough { PaintAlike (IsOnLevels levels) (band_leaves (leaves_by_item shown.now) band.new.items)
+        (boxed_leaves (leaves_by_item shown.now) boxed.now) }
+    ensures room { vec_capacity band.new ≡ vec_capacity band.old }
+{
+    let bottom = levels.bottom();
+    for item in boxed {
+        if item.reaches(bottom, levels.top) {
+            let filed = file_item(item.place as usize, levels, shown, segments);
+            band.push_reserved(item.entry(filed));
         }
     }
+}
 
-    /// The boxes, in the order of the items.
-    pub(crate) fn boxes(&self) -> &[Bounds]
-        ensures { result.now ≡ self.now.boxes }
-    {
-        &self.boxes
+/// Files the segments of the item at a place for some rows, if it is a region alone and there is room for them.
+fn file_item(
+    place: usize,
+    levels: Levels,
+    shown: &Shown<'_>,
+    segments: &mut Vec<FiledSegment>,
+) -> Option<Span>
+    requires ready { IsReady shown.now }
+    requires place { place < length (leaves_by_item shown.now) }
+    requires levels { IsLevels levels }
+    ensures before { take (length segments.old.items) segments.new.items ≡ segments.old.items }
+    ensures filed { IfSome result
+        (λ span. IsFiled (slice_index_or (leaves_by_item shown.now) place []) levels segments.new.items span) }
+{
+    let region = shown.region(place)?;
+    let first = segments.len();
+    if segments.capacity() - first <= region.contour.segs.as_slice().len() {
+        return None;
     }
+    file_contour(region.contour, levels, segments);
+    let end = segments.len();
+    if end > u32::MAX as usize {
+        return None;
+    }
+    Some(Span {
+        first: first as u32,
+        end: end as u32,
+    })
+}
 
-    /// The places of the boxes that reach into the band, in order.
-    pub(crate) fn band(&self) -> &[u32]
-        ensures { (h : Heights) → self.now.heights ≡ Some h → result.now ≡ reaching h self.now.boxes }
+/// Paints the items of a band, in order, on the mask of a tile in its rows.
+fn paint_band(band: &[Entry], segments: &[FiledSegment], shown: &Shown<'_>, mask: &mut Mask)
+    requires ready { IsReady shown.now }
+    requires band { All (IsEntry (leaves_by_item shown.now) (levels_of mask.old.grid) segments.now) band.now }
+    ensures { PaintsMask mask.old (band_leaves (leaves_by_item shown.now) band.now) mask.new }
+{
+    let grid = mask.grid();
+    let first = grid.first.x;
+    let last = grid.centre(grid.columns - 1, 0).x;
+    for entry in band {
+        if entry.reaches(first, last) {
+            paint_entry(entry, segments, shown, mask);
+        }
+    }
+}
+
+/// Paints an item of a band.
+fn paint_entry(entry: &Entry, segments: &[FiledSegment], shown: &Shown<'_>, mask: &mut Mask)
+    requires ready { IsReady shown.now }
+    requires entry { IsEntry (leaves_by_item shown.now) (levels_of mask.old.grid) segments.now entry.now }
+    ensures { PaintsMask mask.old (slice_index_or (leaves_by_item shown.now) entry.now.place []) mask.new }
+{
+    let place = entry.place as usize;
+    if let Some(span) = entry.filed
+        && let Some(region) = shown.region(place)
     {
-        &self.band
+        let filed = &segments[span.first as usize..span.end as usize];
+        mask.fill_filed(region.contour, filed, Join::inked(region.dark));
+    } else {
+        shown.paint_item(place, mask);
     }
 }

@@ -15,6 +15,7 @@ mod fault;
 mod grid;
 mod index;
 mod laws;
+mod levels;
 mod masks;
 mod painter;
 mod pbm;

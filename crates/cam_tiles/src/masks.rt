@@ -2,9 +2,11 @@
 
 pub(crate) mod canvas;
 pub(crate) mod contours;
+pub(crate) mod filing;
 pub(crate) mod heights;
 pub(crate) mod join;
 pub(crate) mod mask;
+pub(crate) mod parity;
 pub(crate) mod row_shape;
 pub(crate) mod shapes;
 pub(crate) mod stamps;

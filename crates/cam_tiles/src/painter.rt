@@ -5,6 +5,7 @@ ghost use Rattle.cam_units.specs.declared.point.Spot.{Spot};
 ghost use Rattle.cam_tiles.specs.Tiles.{IsGrid, tile_rows};
 
 use crate::grid::Grid;
+use cam_units::Bounds;
 
 /// Draws the tiles of a picture, and counts them.
 ///
@@ -15,6 +16,12 @@ pub trait Painter {
 
     /// How many tiles it was asked for.
     ghost count: { Self → ℕ };
+
+    /// Is told, before it is asked for tiles, a box that holds their centres, in half nm. The picture and the count
+    /// stay.
+    fn prepare(&mut self, within: Bounds)
+        ensures picture { picture self.new ≡ picture self.old }
+        ensures count { count self.new ≡ count self.old };
 
     /// The rows of a tile from the top: bit i of a row is set where the picture is black at the centre in column i.
     /// Bits and rows past the grid are 0.

@@ -14,6 +14,9 @@ use std::alloc::{AllocError, Global};
 /// The most bytes of a header: "P4", both sides, and what parts them.
 const LONGEST_HEADER: usize = 15;
 
+/// The bytes of a row, eight for each column of tiles; no window has more columns of them.
+type Line = [[u8; 8]; 512];
+
 /// Writes the header of a window's file.
 fn push_header(alloc: Global, file: &mut Vec<u8>, window: &Window) -> Result<(), AllocError>
     ensures { OnOk result (file.new.items
@@ -60,20 +63,25 @@ fn bytes_in(tiles: &[Tile], window: &Window, column: u32, row: u32) -> [u8; 8]
     pbm_bytes(word_in(tiles, window, column, row))
 }
 
-/// Writes the bytes of a row, which is counted from the top: from each tile those of its pixels.
-fn push_row(file: &mut Vec<u8>, tiles: &[Tile], window: &Window, row: u32) -> Result<(), AllocError>
+/// Writes the bytes of a row, which is counted from the top: from each tile those of its pixels. They are put side by
+/// side in `line` first, where a word is written at once, and the row is copied from there.
+fn push_row(
+    file: &mut Vec<u8>,
+    line: &mut Line,
+    tiles: &[Tile],
+    window: &Window,
+    row: u32,
+) -> Result<(), AllocError>
     requires table { IsTable (record { window = window.now; tiles = tiles.now }) }
     requires row { row < window.now.height }
     ensures { OnOk result (file.new.items ≡ file.old.items ++ row_of
         (λ column. is_pixel_black (record { window = window.now; tiles = tiles.now }) column row) window.now.width) }
 {
-    let row_bytes = window.width.div_ceil(8);
     for column in 0..window.across() {
-        let bytes = bytes_in(tiles, window, column, row);
-        let count = (row_bytes - 8 * column).min(8);
-        file.extend_from_slice(&bytes[..count as usize])?;
+        line[column as usize] = bytes_in(tiles, window, column, row);
     }
-    Ok(())
+    let bytes = window.width.div_ceil(8) as usize;
+    file.extend_from_slice(&line.as_flattened()[..bytes])
 }
 
 /// The raw PBM file of tiles that are all clean.
@@ -84,8 +92,9 @@ pub(crate) fn bitmap(alloc: Global, tiles: &[Tile], window: &Window) -> Result<V
     let rows = window.height as usize * window.width.div_ceil(8) as usize;
     let mut file = Vec::with_capacity(alloc, LONGEST_HEADER + rows)?;
     push_header(alloc, &mut file, window)?;
+    let mut line = [[0; 8]; 512];
     for row in 0..window.height {
-        push_row(&mut file, tiles, window, row)?;
+        push_row(&mut file, &mut line, tiles, window, row)?;
     }
     Ok(file)
 }

@@ -119,6 +119,7 @@ impl Raster {
         ensures asked { P.count painter.new ≡ P.count painter.old + result }
     {
         let drawn = at_most.min(self.dirty);
+        prepare_first(&self.tiles, &self.window, painter, drawn);
         draw_first(&mut self.tiles, &self.window, painter, drawn);
         self.dirty -= drawn;
         drawn
@@ -135,6 +136,37 @@ impl Raster {
             return Err(RasterFault::StillDirty);
         }
         Ok(bitmap(alloc, &self.tiles, &self.window)?)
+    }
+}
+
+/// The box of the centres of the first `count` dirty tiles, in half nm.
+fn box_of_first(tiles: &[Tile], window: &Window, count: u32) -> Bounds
+    requires accepted { accepts window.now ≡ true }
+    requires full { length tiles.now ≡ tiles_of window.now }
+{
+    let mut all = Bounds::Empty;
+    let mut left = count;
+    for (k, tile) in tiles.iter().enumerate() {
+        if left == 0 {
+            return all;
+        }
+        if tile.is_none() {
+            all = all.joined(window.grid(k as u32).bounds());
+            left -= 1;
+        }
+    }
+    all
+}
+
+/// Tells the painter where the first `count` dirty tiles are, if it is to draw any.
+fn prepare_first<P: Painter>(tiles: &[Tile], window: &Window, painter: &mut P, count: u32)
+    requires accepted { accepts window.now ≡ true }
+    requires full { length tiles.now ≡ tiles_of window.now }
+    ensures kept { P.picture painter.new ≡ P.picture painter.old }
+    ensures asked { P.count painter.new ≡ P.count painter.old }
+{
+    if count > 0 {
+        painter.prepare(box_of_first(tiles, window, count));
     }
 }
 

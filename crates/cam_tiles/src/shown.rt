@@ -1,16 +1,14 @@
 //! Layers of either kind, and how they are painted, item by item.
 
-ghost use Rattle.std.specs.Prelude.{◌≡◌, ◌<◌, ℕ, IfOk, [], length, slice_index_or};
+ghost use Rattle.std.specs.Prelude.{◌≡◌, ◌<◌, ◌≤◌, [], ◌∷◌, IfSome, length, slice_index_or};
 ghost use Rattle.cam_objects.specs.Bounds.{bounds_of};
 ghost use Rattle.cam_objects.specs.Canvases.{Paints};
-ghost use Rattle.cam_tiles.specs.Masks.{IsWithin};
-ghost use Rattle.cam_tiles.specs.Sources.{IsReady, boxes_of, leaves_by_item, leaves_of};
+ghost use Rattle.cam_objects.specs.Leaves.{Filled, leaf};
+ghost use Rattle.cam_tiles.specs.Filing.{IsOnBoardWhole};
+ghost use Rattle.cam_tiles.specs.Sources.{IsReady, leaves_by_item, leaves_of, lists_of};
 
-use crate::index::Index;
-use crate::masks::heights::Heights;
-use cam_objects::{Canvas, DrillLayer, Layer};
+use cam_objects::{Canvas, Contour, DrillItemBoxes, DrillLayer, Item, ItemBoxes, Layer, Object};
 use cam_units::Bounds;
-use std::alloc::{AllocError, Global};
 
 /// A layer of either kind.
 #[derive(Drop)]
@@ -19,9 +17,50 @@ pub(crate) enum Shown<'a> {
     Drill(&'a DrillLayer),
 }
 
+/// Reads the boxes of the items of a layer of either kind, one after another.
+#[derive(Drop)]
+pub(crate) enum Boxes<'a> {
+    Gerber(ItemBoxes<'a>),
+    Drill(DrillItemBoxes<'a>),
+}
+
+impl<'a> Boxes<'a> {
+    /// The box of the item at a place of the list, counted from 0.
+    pub(crate) fn read(&mut self, place: usize) -> Bounds
+        requires { place < length (lists_of self.old) }
+        ensures value { result ≡ bounds_of (slice_index_or (lists_of self.old) place []) }
+        ensures lists { lists_of self.new ≡ lists_of self.old }
+    {
+        match self {
+            Boxes::Gerber(boxes) => boxes.read(place),
+            Boxes::Drill(boxes) => boxes.read(place),
+        }
+    }
+}
+
+/// A region: the inside of a contour, dark or clear.
+#[derive(Clone, Copy)]
+pub(crate) struct Region<'a> {
+    pub(crate) contour: &'a Contour,
+    pub(crate) dark: bool,
+}
+
+/// The region that an item is, if it is one alone.
+fn region_in(item: &Item) -> Option<Region<'_>>
+    ensures { IfSome result (λ region. item.now ≡ Item.One (Object.Region region.contour.now region.dark)) }
+{
+    match item {
+        Item::One(Object::Region { contour, dark }) => Some(Region {
+            contour,
+            dark: *dark,
+        }),
+        _ => None,
+    }
+}
+
 impl<'a> Shown<'a> {
     /// How many items it has.
-    fn len(&self) -> usize
+    pub(crate) fn len(&self) -> usize
         ensures { result ≡ length (leaves_by_item self.now) }
     {
         match self {
@@ -30,37 +69,41 @@ impl<'a> Shown<'a> {
         }
     }
 
-    /// The box of the item at a place of the list, counted from 0.
-    fn item_bounds(&self, place: usize) -> Bounds
-        requires ready { IsReady self.now }
-        requires within { place < length (leaves_by_item self.now) }
-        ensures { result ≡ bounds_of (slice_index_or (leaves_by_item self.now) place []) }
+    /// Reads the boxes of the items.
+    pub(crate) fn boxes(&self) -> Boxes<'_>
+        requires { IsReady self.now }
+        ensures { lists_of result ≡ leaves_by_item self.now }
     {
         match self {
-            Shown::Gerber(layer) => layer.item_bounds(place),
-            Shown::Drill(layer) => layer.item_bounds(place),
+            Shown::Gerber(layer) => Boxes::Gerber(layer.boxes()),
+            Shown::Drill(layer) => Boxes::Drill(layer.boxes()),
         }
     }
 
-    /// The boxes of all items, in order.
-    fn boxes(&self, alloc: Global) -> Result<Vec<Bounds>, AllocError>
-        requires { IsReady self.now }
-        ensures { IfOk result (λ boxes. boxes.items ≡ boxes_of self.now) }
+    /// The region at a place of the list, counted from 0, if the item there is one alone.
+    pub(crate) fn region(&self, place: usize) -> Option<Region<'_>>
+        requires ready { IsReady self.now }
+        requires within { place < length (leaves_by_item self.now) }
+        ensures leaves { IfSome result (λ region. slice_index_or (leaves_by_item self.now) place []
+            ≡ leaf (Filled region.contour.now) region.dark ∷ []) }
+        ensures contour { IfSome result (λ region. IsOnBoardWhole region.contour.now) }
     {
-        let count = self.len();
-        let mut boxes = Vec::with_capacity(alloc, count)?;
-        for place in 0..count {
-            boxes.push_reserved(self.item_bounds(place));
+        match self {
+            Shown::Gerber(layer) => region_in(&layer.items[place]),
+            Shown::Drill(_) => None,
         }
-        Ok(boxes)
     }
 
-    /// An index of the boxes of all items.
-    pub(crate) fn index(&self, alloc: Global) -> Result<Index, AllocError>
-        requires { IsReady self.now }
-        ensures { IfOk result (λ index. index.boxes ≡ boxes_of self.now) }
+    /// How many segments may be filed of the item at a place of the list, counted from 0.
+    pub(crate) fn room_to_file(&self, place: usize) -> usize
+        requires ready { IsReady self.now }
+        requires within { place < length (leaves_by_item self.now) }
+        ensures { result ≤ 1000001 }
     {
-        Index::new(alloc, self.boxes(alloc)?)
+        match self.region(place) {
+            Some(region) => region.contour.segs.as_slice().len() + 1,
+            None => 0,
+        }
     }
 
     /// Paints all items, in order.
@@ -74,32 +117,8 @@ impl<'a> Shown<'a> {
         }
     }
 
-    /// Paints all items, in order, on a canvas whose places lie in a band of heights: by the index of their boxes those
-    /// alone that it may show, since the others leave it as it is.
-    pub(crate) fn paint_indexed<C: Canvas>(
-        &self,
-        index: &mut Index,
-        heights: Heights,
-        canvas: &mut C,
-    )
-        requires ready { IsReady self.now }
-        requires boxes { index.old.boxes ≡ boxes_of self.now }
-        requires held { (column row : ℕ) → C.has canvas.old column row
-            → IsWithin heights (C.place canvas.old column row) }
-        ensures boxes { index.new.boxes ≡ index.old.boxes }
-        ensures painted { Paints C.has C.place C.ink canvas.old (leaves_of self.now) canvas.new }
-    {
-        index.turn_to(heights);
-        for place in index.band() {
-            let place = *place as usize;
-            if !canvas.misses(index.boxes()[place]) {
-                self.paint_item(place, canvas);
-            }
-        }
-    }
-
     /// Paints the item at a place of the list, counted from 0.
-    fn paint_item<C: Canvas>(&self, place: usize, canvas: &mut C)
+    pub(crate) fn paint_item<C: Canvas>(&self, place: usize, canvas: &mut C)
         requires ready { IsReady self.now }
         requires within { place < length (leaves_by_item self.now) }
         ensures { Paints C.has C.place C.ink canvas.old (slice_index_or (leaves_by_item self.now) place []) canvas.new }

@@ -12,6 +12,7 @@ use crate::masks::mask::Mask;
 use crate::painter::Painter;
 use crate::shown::Shown;
 use cam_objects::{DrillLayer, Layer};
+use cam_units::Bounds;
 use std::alloc::Global;
 use std::marker::Model;
 
@@ -20,6 +21,7 @@ use std::marker::Model;
 #[derive(Drop)]
 pub struct Source<'a> {
     shown: Shown<'a>,
+    alloc: Option<Global>,
     index: Option<Index>,
     asked: u64,
 }
@@ -42,6 +44,7 @@ impl<'a> Source<'a> {
     {
         Source {
             shown: Shown::Gerber(layer),
+            alloc: None,
             index: None,
             asked: 0,
         }
@@ -54,17 +57,18 @@ impl<'a> Source<'a> {
     {
         Source {
             shown: Shown::Drill(layer),
+            alloc: None,
             index: None,
             asked: 0,
         }
     }
 
-    /// Keeps the boxes of all items at hand, so that a tile asks those alone that it may show; where memory for them is
-    /// refused, each tile asks every item. What is painted is the same.
+    /// Lets the boxes of items be kept at hand, so that a tile asks those alone that it may show; where memory for them
+    /// is refused, each tile asks every item. What is painted is the same.
     pub fn keep_boxes(&mut self, alloc: Global)
         ensures { self.new ≡ self.old }
     {
-        self.index = self.shown.index(alloc).ok();
+        self.alloc = Some(alloc);
     }
 }
 
@@ -73,11 +77,18 @@ impl<'a> Painter for Source<'a> {
 
     ghost count = { λ s. s.asked };
 
+    fn prepare(&mut self, within: Bounds) {
+        self.index = match self.alloc {
+            Some(alloc) => Index::new(alloc, &self.shown, within).ok(),
+            None => None,
+        };
+    }
+
     fn tile(&mut self, grid: Grid) -> [u64; 64] {
         let mut mask = Mask::blank(grid);
         match &mut self.index {
-            Some(index) => self.shown.paint_indexed(index, grid.heights(), &mut mask),
-            None => self.shown.paint(&mut mask),
+            Some(index) if index.holds(grid.bounds()) => index.paint(&self.shown, &mut mask),
+            _ => self.shown.paint(&mut mask),
         }
         self.asked += 1;
         mask.into_rows()

@@ -17,8 +17,8 @@ impl Canvas for Mask {
 
     ghost ink = { λ m column row. bit_at (slice_index m.rows row) column == 1 };
 
-    fn misses(&self, bounds: Bounds) -> bool {
-        !bounds.meets(self.grid().bounds())
+    fn bounds(&self) -> Bounds {
+        self.grid_bounds()
     }
 
     fn paint(&mut self, print: Print<'_>) {

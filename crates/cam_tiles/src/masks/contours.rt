@@ -10,12 +10,12 @@ ghost use Rattle.cam_shapes.specs.Outline.{lines_to, outline_of};
 ghost use Rattle.cam_shapes.specs.Placing.{IsOffset, IsPlaceable, IsPlaceablePoint, placed_contour, placed_seg};
 ghost use Rattle.cam_objects.specs.Image.{relative};
 ghost use Rattle.cam_objects.specs.Leaves.{origin};
-ghost use Rattle.cam_tiles.specs.declared.masks.join.Join.TheVariants.{Turn as Turned};
 ghost use Rattle.cam_tiles.specs.Masks.{Joins};
+ghost use Rattle.cam_tiles.specs.Parities.{Changes};
 
 use crate::masks::join::Join;
 use crate::masks::mask::{Mask, ORIGIN};
-use crate::masks::shapes::Edge;
+use crate::masks::parity::Parity;
 use cam_shapes::{Cap, Contour, Placing, Seg};
 use cam_units::{Point, Turn};
 
@@ -25,24 +25,9 @@ impl Mask {
         requires { IsPlaceable turn offset contour.now }
         ensures { Joins how (λ s. IsInContour s (placed_contour turn offset contour.now)) self.old self.new }
     {
-        let mut inside = Mask::blank(self.grid());
+        let mut inside = Parity::even(self.grid());
         inside.turn_contour(contour, Placing { turn, offset });
-        self.merge(&inside, how);
-    }
-
-    /// Turns over the inside of a contour.
-    fn turn_contour(&mut self, contour: &Contour, placing: Placing)
-        requires { IsPlaceable placing.turn placing.offset contour.now }
-        ensures { Joins Turned
-            (λ s. IsInContour s (placed_contour placing.turn placing.offset contour.now)) self.old self.new }
-    {
-        let start = placing.point(contour.start);
-        let mut here = start;
-        for seg in contour.segs.as_slice() {
-            let seg = placing.seg(*seg);
-            here = self.turn_segment(here, seg);
-        }
-        self.turn_edge(here, start, ORIGIN);
+        self.merge(&inside.into_mask(), how);
     }
 
     /// Joins the marks with the inside of the polygon through points that are turned about (0, 0), as it is seen from a
@@ -61,19 +46,36 @@ impl Mask {
             turn,
             offset: ORIGIN,
         };
-        let mut inside = Mask::blank(self.grid());
+        let mut inside = Parity::even(self.grid());
         inside.turn_outline(placing.point(*first), others, placing, at);
-        self.merge(&inside, how);
+        self.merge(&inside.into_mask(), how);
+    }
+}
+
+impl Parity {
+    /// Counts the inside of a contour.
+    fn turn_contour(&mut self, contour: &Contour, placing: Placing)
+        requires { IsPlaceable placing.turn placing.offset contour.now }
+        ensures { Changes
+            (λ s. IsInContour s (placed_contour placing.turn placing.offset contour.now)) self.old self.new }
+    {
+        let start = placing.point(contour.start);
+        let mut here = start;
+        for seg in contour.segs.as_slice() {
+            let seg = placing.seg(*seg);
+            here = self.turn_segment(here, seg);
+        }
+        self.turn_edge(here, start, ORIGIN);
     }
 
-    /// Turns over the inside of the closed polygon from a point through others, which are placed, as it is seen from a
+    /// Counts the inside of the closed polygon from a point through others, which are placed, as it is seen from a
     /// point.
     fn turn_outline(&mut self, start: Point, others: &[Point], placing: Placing, at: Point)
         requires start { IsOnBoard start }
         requires offset { IsOffset placing.offset }
         requires others { All (IsPlaceablePoint placing.turn placing.offset) others.now }
         requires at { IsOnBoard at }
-        ensures { Joins Turned
+        ensures { Changes
             (λ s. IsTrue (change_side (relative at s) start start
             (map (placed_seg placing.turn placing.offset) (lines_to others.now)))) self.old self.new }
     {
@@ -86,11 +88,11 @@ impl Mask {
         self.turn_edge(here, start, at);
     }
 
-    /// Turns over what a segment from a point changes; answers where it ends.
-    fn turn_segment(&mut self, here: Point, seg: Seg) -> Point
+    /// Counts what a segment from a point changes; answers where it ends.
+    pub(crate) fn turn_segment(&mut self, here: Point, seg: Seg) -> Point
         requires here { IsOnBoard here }
         requires seg { IsSoundSeg seg }
-        ensures turned { Joins Turned (λ s. IsTrue (changes_side s here seg)) self.old self.new }
+        ensures turned { Changes (λ s. IsTrue (changes_side s here seg)) self.old self.new }
         ensures end { result ≡ end_of seg }
         ensures board { IsOnBoard result }
     {
@@ -107,19 +109,9 @@ impl Mask {
                     ccw,
                 };
                 self.turn_edge(here, to, ORIGIN);
-                self.join(&cap, ORIGIN, Join::Turn);
+                self.turn_cap(&cap);
                 to
             }
         }
-    }
-
-    /// Turns over the places, as they are seen from a point, from which the ray to the right crosses an edge.
-    fn turn_edge(&mut self, from: Point, to: Point, at: Point)
-        requires from { IsOnBoard from }
-        requires to { IsOnBoard to }
-        requires at { IsOnBoard at }
-        ensures { Joins Turned (λ s. IsTrue (crosses_ray (relative at s) (edge from to))) self.old self.new }
-    {
-        self.join(&Edge { from, to }, at, Join::Turn);
     }
 }

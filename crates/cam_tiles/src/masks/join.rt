@@ -1,7 +1,6 @@
 //! How marks are joined.
 
-ghost use Rattle.std.specs.Prelude.{◌≡◌, ◌↔◌, ◌<◌, ◌^◌, ℕ, slice_index};
-ghost use Rattle.std.specs.Int.{IsBitSet};
+ghost use Rattle.std.specs.Prelude.{◌≡◌, ◌<◌, ◌^◌, ℕ, slice_index};
 ghost use Rattle.cam_rows.specs.Lanes.{AreJoined};
 ghost use Rattle.cam_tiles.specs.Masks.{inked, joined};
 
@@ -26,17 +25,6 @@ impl Join {
         if dark { Join::Add } else { Join::Clear }
     }
 
-    /// What a row becomes where another is joined with it, bit by bit.
-    pub(crate) fn joined_row(self, row: u64, other: u64) -> u64
-        ensures { (i : ℕ) → i < 64 → IsBitSet result i ↔ joined self (IsBitSet row i) (IsBitSet other i) }
-    {
-        match self {
-            Join::Add => row | other,
-            Join::Clear => row & !other,
-            Join::Turn => row ^ other,
-        }
-    }
-
     /// Joins rows with others, each with the one of its place.
     pub(crate) fn join_rows(self, rows: &mut [u64; 64], others: &[u64; 64])
         ensures bits { AreJoined (joined self) rows.old others.now rows.new }
@@ -52,6 +40,6 @@ impl Join {
 }
 
 /// Numbers of 64 bits are less than 2^64: a proof is told so of a slice, and not of an array.
-fn told_by_type(rows: &[u64])
+pub(crate) fn told_by_type(rows: &[u64])
     ensures { (row : ℕ) → slice_index rows.now row < 2 ^ 64 }
 {}

@@ -1,54 +1,69 @@
 //! A mask, and how it gains and loses marks.
 
-ghost use Rattle.std.specs.Prelude.{◌≡◌, ◌↔◌, ◌<◌, ◌≤◌, ℕ, pos, ◌*ℤ◌, ◌<ℤ◌};
+ghost use Rattle.std.specs.Prelude.{◌≡◌, ◌≢◌, ◌↔◌, ◌<◌, ◌≤◌, ℕ, IsTrue};
 ghost use Rattle.std.specs.Int.{IsBitSet};
 ghost use Rattle.cam_units.specs.Board.{IsOnBoard};
+ghost use Rattle.cam_shapes.specs.Edge.{crosses_ray, edge, is_above};
 ghost use Rattle.cam_objects.specs.Image.{relative};
 ghost use Rattle.cam_rows.specs.Rows.{IsRow, centre_at};
-ghost use Rattle.cam_tiles.specs.Masks.{IsBlank, IsMask, IsWithin, Joins, Merges};
+ghost use Rattle.cam_tiles.specs.declared.masks.join.Join.TheVariants.{Turn as Turned};
+ghost use Rattle.cam_tiles.specs.Masks.{HoldsCentres, IsBlank, IsIn, IsMarked, IsMask, IsWithin, Joins, Merges, joined};
 ghost use Rattle.cam_tiles.specs.Tiles.{IsGrid, centre_in};
 
 use crate::grid::Grid;
+use crate::levels::Levels;
 use crate::masks::heights::Heights;
-use crate::masks::join::Join;
+use crate::masks::join::{Join, told_by_type};
 use crate::masks::row_shape::RowShape;
-use cam_rows::Centres;
-use cam_units::{Point, Spot};
+use cam_rows::{Centres, turn_edge};
+use cam_units::{Bounds, Point, Spot};
 use std::marker::Model;
 
 /// The origin, from which places are seen as they are.
 pub(crate) const ORIGIN: Point = Point { x: 0, y: 0 };
 
 /// Which centres of a grid are marked: bit i of a row, from the top, is the centre in column i. Nothing is marked past
-/// the grid.
+/// the grid. The box of the centres is kept beside them, since it is asked for at each leaf.
 #[derive(Drop)]
 pub(crate) struct Mask {
     grid: Grid,
+    bounds: Bounds,
     rows: [u64; 64],
 }
 
 impl Model for Mask {
-    ghost use Rattle.cam_tiles.specs.Masks.{IsMask, Marking};
+    ghost use Rattle.cam_tiles.specs.Masks.{IsBoxedMask, Marking, marking_of};
 
     ghost Value = { Marking };
 
-    ghost view = { λ m. record { grid = m.grid; rows = m.rows } };
+    ghost view = { marking_of };
 
-    ghost invariant = { λ m. IsMask (record { grid = m.grid; rows = m.rows }) };
+    ghost invariant = { IsBoxedMask };
 }
 
 /// Rows from one to another, the first of them included and the last not.
 #[derive(Clone, Copy)]
-struct Band {
-    first: u32,
-    end: u32,
+pub(crate) struct Band {
+    pub(crate) first: u32,
+    pub(crate) end: u32,
 }
 
-const NO_ROWS: Band = Band { first: 0, end: 0 };
+pub(crate) const NO_ROWS: Band = Band { first: 0, end: 0 };
+
+impl Band {
+    /// Its rows as bits: bit k for row k.
+    pub(crate) fn bits(self) -> u64
+        requires some { self.first < self.end }
+        requires few { self.end ≤ 64 }
+        ensures { (row : ℕ) → row < 64 → IsBitSet result row ↔ ((self.first ≤ row) × (row < self.end)) }
+    {
+        (u64::MAX >> (64 - self.end)) & (u64::MAX << self.first)
+    }
+}
 
 impl Grid {
     /// The centres of a row, which is counted from the top, as they are seen from a point.
-    fn row_from(&self, row: u32, at: Point) -> Centres
+    pub(crate) fn row_from(&self, row: u32, at: Point) -> Centres
         requires grid { IsGrid self.now }
         requires row { row < self.now.rows }
         requires at { IsOnBoard at }
@@ -68,41 +83,19 @@ impl Grid {
 
     /// The rows whose centres lie, as they are seen from a point, between two heights: by a division for each, where
     /// there are any.
-    fn band(&self, heights: Heights, at: Point) -> Band
+    pub(crate) fn band(&self, heights: Heights, at: Point) -> Band
         requires grid { IsGrid self.now }
         requires at { IsOnBoard at }
         ensures rows { (row : ℕ) → row < self.now.rows
             → ((result.first ≤ row) × (row < result.end)) ↔ IsWithin heights (relative at (centre_in self.now 0 row)) }
         ensures end { result.end ≤ self.now.rows }
     {
-        let top = self.first.y - 2 * at.y;
-        if top < heights.low {
-            return NO_ROWS;
-        }
-        let bottom = top - i64::from(self.rows - 1) * self.step;
-        if heights.high < bottom {
-            return NO_ROWS;
-        }
-        Band {
-            first: self.rows_above(top - heights.high.min(top)),
-            end: self.rows_above(top - heights.low.max(bottom) + 1),
-        }
-    }
-
-    /// How many of the rows lie less than a distance below the first.
-    fn rows_above(&self, distance: i64) -> u32
-        requires { IsGrid self.now }
-        ensures rows { (row : ℕ) → row < self.now.rows → (row < result) ↔ ((pos row *ℤ self.now.step) <ℤ distance) }
-        ensures end { result ≤ self.now.rows }
-    {
-        if distance <= 0 {
-            return 0;
-        }
-        let last = i64::from(self.rows - 1) * self.step;
-        if distance > last {
-            return self.rows;
-        }
-        (distance as u64).div_ceil(self.step as u64) as u32
+        let levels = Levels {
+            top: self.first.y - 2 * at.y,
+            step: self.step,
+            rows: self.rows,
+        };
+        levels.band(heights)
     }
 }
 
@@ -115,6 +108,7 @@ impl Mask {
     {
         Mask {
             grid,
+            bounds: grid.bounds(),
             rows: [0; 64],
         }
     }
@@ -125,6 +119,13 @@ impl Mask {
         ensures grid { IsGrid result }
     {
         self.grid
+    }
+
+    /// The box of the centres, in half nm.
+    pub(crate) fn grid_bounds(&self) -> Bounds
+        ensures { HoldsCentres result self.now.grid }
+    {
+        self.bounds
     }
 
     /// The rows, from the top.
@@ -144,10 +145,47 @@ impl Mask {
         ensures { Joins how (λ s. S.holds shape.now (relative at s)) self.old self.new }
     {
         let band = self.grid.band(shape.heights(), at);
-        for row in band.first..band.end {
-            let marks = shape.row(self.grid.row_from(row, at));
-            let was = self.rows[row as usize];
-            self.rows[row as usize] = how.joined_row(was, marks);
+        if band.end <= band.first {
+            return;
+        }
+        let mut marks = [0; 64];
+        let rows = &mut marks[band.first as usize..band.end as usize];
+        shape.rows(self.grid.row_from(band.first, at), rows);
+        how.join_rows(&mut self.rows, &marks);
+    }
+
+    /// Turns over the marks at the centres, as they are seen from a point, from which the ray to the right crosses an
+    /// edge: in the rows of a band, which are those that the edge crosses.
+    pub(crate) fn turn_edge(&mut self, from: Point, to: Point, at: Point, band: Band)
+        requires from { IsOnBoard from }
+        requires to { IsOnBoard to }
+        requires at { IsOnBoard at }
+        requires some { band.first < band.end }
+        requires end { band.end ≤ self.old.grid.rows }
+        requires crossed { (row : ℕ) → row < self.old.grid.rows
+            → (let s = relative at (centre_in self.old.grid 0 row) in
+            ((band.first ≤ row) × (row < band.end)) ↔ (is_above from s ≢ is_above to s)) }
+        ensures { Joins Turned (λ s. IsTrue (crosses_ray (relative at s) (edge from to))) self.old self.new }
+    {
+        let top = self.grid.row_from(band.first, at);
+        let rows = &mut self.rows[band.first as usize..band.end as usize];
+        turn_edge(from, to, top, rows);
+        told_by_type(rows);
+    }
+
+    /// Turns over all marks of some rows: bit k of `rows` for row k from the top.
+    pub(crate) fn turn_rows(&mut self, rows: u64)
+        ensures grid { self.new.grid ≡ self.old.grid }
+        ensures marks { (column row : ℕ) → IsIn self.old.grid column row
+            → IsMarked self.new column row ↔ joined Turned (IsMarked self.old column row) (IsBitSet rows row) }
+    {
+        if rows == 0 {
+            return;
+        }
+        let columns = u64::MAX >> (64 - self.grid.columns);
+        for row in 0..self.grid.rows {
+            let turned = if (rows >> row) & 1 == 1 { columns } else { 0 };
+            self.rows[row as usize] ^= turned;
         }
     }
 

@@ -1,7 +1,8 @@
 //! Shapes that mark rows of centres.
 
+ghost use Rattle.std.specs.Prelude.{length};
 ghost use Rattle.cam_units.specs.declared.point.Spot.{Spot};
-ghost use Rattle.cam_rows.specs.Rows.{IsRow, Marks};
+ghost use Rattle.cam_rows.specs.Rows.{AreMarked, AreRows};
 ghost use Rattle.cam_tiles.specs.Masks.{IsWithin};
 
 use crate::masks::heights::Heights;
@@ -20,9 +21,10 @@ pub(crate) trait RowShape {
         requires { is_sound self.now }
         ensures { (s : Spot) → holds self.now s → IsWithin result s };
 
-    /// Bit i is set exactly where it holds centre i; bits past the last centre are 0.
-    fn row(&self, centres: Centres) -> u64
+    /// Rows, one below another from the top one: bit i of each is set exactly where it holds centre i of that row; bits
+    /// past the last centre are 0.
+    fn rows(&self, top: Centres, rows: &mut [u64])
         requires sound { is_sound self.now }
-        requires row { IsRow centres }
-        ensures { Marks result centres (holds self.now) };
+        requires rows { AreRows top (length rows.old) }
+        ensures { AreMarked rows.new top (holds self.now) };
 }

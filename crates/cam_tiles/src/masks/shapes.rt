@@ -9,14 +9,13 @@ ghost use Rattle.cam_shapes.specs.Bar.{IsInBar, IsInCapsule, IsSoundBar, IsSound
 ghost use Rattle.cam_shapes.specs.Box.{IsInObround, IsInRectangle, IsSoundObround, IsSoundRectangle};
 ghost use Rattle.cam_shapes.specs.Cap.{IsSoundCap, is_in_cap};
 ghost use Rattle.cam_shapes.specs.Disc.{IsInDisc, IsInHole, IsSoundDisc};
-ghost use Rattle.cam_shapes.specs.Edge.{crosses_ray, edge};
 ghost use Rattle.cam_shapes.specs.Plane.{dot, square, way};
 
 use crate::masks::heights::Heights;
 use crate::masks::row_shape::RowShape;
 use cam_rows::{
-    Centres, arc_row, bar_row, cap_row, capsule_row, disc_row, edge_row, hole_row, obround_row,
-    rect_row, squared_distance,
+    Centres, arc_rows, bar_rows, cap_rows, capsule_rows, disc_rows, hole_rows, obround_rows,
+    rect_rows, squared_distance,
 };
 use cam_shapes::{Arc, Bar, Cap, Capsule, Disc, Obround, Rectangle};
 use cam_units::{Nm, Point, isqrt};
@@ -24,13 +23,6 @@ use cam_units::{Nm, Point, isqrt};
 /// The open disc of a hole.
 #[derive(Clone, Copy, Debug)]
 pub(crate) struct Hole(pub(crate) Disc);
-
-/// The edge from a point to another: it holds the places from which the ray to the right crosses it.
-#[derive(Clone, Copy, Debug)]
-pub(crate) struct Edge {
-    pub(crate) from: Point,
-    pub(crate) to: Point,
-}
 
 impl RowShape for Disc {
     ghost is_sound = { IsSoundDisc };
@@ -41,8 +33,8 @@ impl RowShape for Disc {
         about(self.centre, self.diameter)
     }
 
-    fn row(&self, centres: Centres) -> u64 {
-        disc_row(*self, centres)
+    fn rows(&self, top: Centres, rows: &mut [u64]) {
+        disc_rows(*self, top, rows);
     }
 }
 
@@ -55,8 +47,8 @@ impl RowShape for Hole {
         about(self.0.centre, self.0.diameter)
     }
 
-    fn row(&self, centres: Centres) -> u64 {
-        hole_row(self.0, centres)
+    fn rows(&self, top: Centres, rows: &mut [u64]) {
+        hole_rows(self.0, top, rows);
     }
 }
 
@@ -69,8 +61,8 @@ impl RowShape for Rectangle {
         about(self.centre, self.height)
     }
 
-    fn row(&self, centres: Centres) -> u64 {
-        rect_row(*self, centres)
+    fn rows(&self, top: Centres, rows: &mut [u64]) {
+        rect_rows(*self, top, rows);
     }
 }
 
@@ -83,8 +75,8 @@ impl RowShape for Obround {
         about(self.centre, self.height)
     }
 
-    fn row(&self, centres: Centres) -> u64 {
-        obround_row(*self, centres)
+    fn rows(&self, top: Centres, rows: &mut [u64]) {
+        obround_rows(*self, top, rows);
     }
 }
 
@@ -97,8 +89,8 @@ impl RowShape for Bar {
         along(self.from, self.to, self.width)
     }
 
-    fn row(&self, centres: Centres) -> u64 {
-        bar_row(*self, centres)
+    fn rows(&self, top: Centres, rows: &mut [u64]) {
+        bar_rows(*self, top, rows);
     }
 }
 
@@ -112,8 +104,8 @@ impl RowShape for Capsule {
         along(from, to, width)
     }
 
-    fn row(&self, centres: Centres) -> u64 {
-        capsule_row(*self, centres)
+    fn rows(&self, top: Centres, rows: &mut [u64]) {
+        capsule_rows(*self, top, rows);
     }
 }
 
@@ -127,22 +119,8 @@ impl RowShape for Arc {
         about(self.centre, Nm(reach)).joined(along(self.from, self.to, self.width))
     }
 
-    fn row(&self, centres: Centres) -> u64 {
-        arc_row(*self, centres)
-    }
-}
-
-impl RowShape for Edge {
-    ghost is_sound = { λ e. IsOnBoard e.from × IsOnBoard e.to };
-
-    ghost holds = { λ e s. IsTrue (crosses_ray s (edge e.from e.to)) };
-
-    fn heights(&self) -> Heights {
-        along(self.from, self.to, Nm(0))
-    }
-
-    fn row(&self, centres: Centres) -> u64 {
-        edge_row(self.from, self.to, centres)
+    fn rows(&self, top: Centres, rows: &mut [u64]) {
+        arc_rows(*self, top, rows);
     }
 }
 
@@ -155,13 +133,13 @@ impl RowShape for Cap {
         about(self.centre, past_circle(self.centre, self.from))
     }
 
-    fn row(&self, centres: Centres) -> u64 {
-        cap_row(*self, centres)
+    fn rows(&self, top: Centres, rows: &mut [u64]) {
+        cap_rows(*self, top, rows);
     }
 }
 
 /// The heights so far to both sides of a point.
-fn about(point: Point, reach: Nm) -> Heights
+pub(crate) fn about(point: Point, reach: Nm) -> Heights
     requires point { IsOnBoard point }
     requires reach { unsigned_abs reach.0 < 2 ^ 35 }
     ensures low { result.low ≡ pos 2 *ℤ point.y -ℤ reach.0 }
@@ -188,7 +166,7 @@ fn along(from: Point, to: Point, reach: Nm) -> Heights
 }
 
 /// More than the radius of the circle about a point through another, in half nm.
-fn past_circle(centre: Point, from: Point) -> Nm
+pub(crate) fn past_circle(centre: Point, from: Point) -> Nm
     requires centre { IsOnBoard centre }
     requires from { IsOnBoard from }
     ensures past { dot (way centre from) (way centre from) <ℤ square result.0 }

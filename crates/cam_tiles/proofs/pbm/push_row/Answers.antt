@@ -1,25 +1,36 @@
-use Rattle.std.proofs.Common.{◌≡◌, ◌*◌, ◌++◌, ap, map, min, ◌∙◌, arith, rules}
-use Rattle.std.specs.List.{range_with_len}
+use Rattle.std.proofs.Common.{◌≡◌, arith, rules}
+use Rattle.std.proofs.lemmas.Grind.{common_steps}
 use Rattle.cam_tiles.specs.Pbm.{bytes_across, row_of}
 use Rattle.cam_tiles.specs.Tables.{Table, is_pixel_black}
-use Rattle.cam_tiles.proofs.PbmLemmas.{byte_in, more_of_row}
+use Rattle.cam_tiles.proofs.PbmLemmas.{byte_in, more_eights, row_of_eights}
+use Rattle.cam_tiles.proofs.WindowLemmas.{accepted}
 use Rattle.cam_tiles.proofs.pbm.push_row.Goals as goal
+
+pub bounds-line-column : goal.bounds-line-column
+bounds-line-column c =
+    let limits = accepted c.args.window.now c.requires.table.accepted in
+    omega arith
 
 pub loop-column-preserved : goal.loop-column-preserved
 loop-column-preserved c =
     let w = c.args.window.now in
     let t : Table = record { window = w; tiles = c.args.tiles.now } in
-    more_of_row (byte_in (λ column. is_pixel_black t column c.args.row) w.width) (bytes_across w.width)
-    c.loop-column.column c.min-count.result c.bytes_in-bytes.result c.args.file.now.items c.loop-column.file.items _
-    (omega arith) (omega arith) (search rules) c.bytes_in-bytes.ensures c.in_ok-extend_from_slice.ensures.items
-    c.loop-column.invariant
+    let limits = accepted c.args.window.now c.requires.table.accepted in
+    record {
+      whole = search rules;
+      bytes = more_eights (byte_in (λ column. is_pixel_black t column c.args.row) w.width) c.loop-column.column
+          c.loop-column.line c.bytes_in.result (omega arith) (search rules) c.bytes_in.ensures
+          c.loop-column.invariant.bytes;
+    }
 
 pub returns : goal.returns
 unfolding row_of
 returns c =
     let w = c.args.window.now in
     let t : Table = record { window = w; tiles = c.args.tiles.now } in
-    let all : min (8 * c.loop-column.column) (bytes_across w.width) ≡ bytes_across w.width = omega arith in
-    c.loop-column.invariant
-    ∙ ap (λ n. c.args.file.now.items
-    ++ map (byte_in (λ column. is_pixel_black t column c.args.row) w.width) (range_with_len 0 n)) all
+    let limits = accepted w c.requires.table.accepted in
+    let row = row_of_eights (byte_in (λ column. is_pixel_black t column c.args.row) w.width) c.loop-column.column
+    c.div_ceil-bytes.result c.loop-column.line c.as_flattened.result.now c.as_flattened.ensures.value
+    (omega arith) (omega arith) (omega (arith, c.as_flattened.ensures.len)) c.loop-column.invariant.bytes in
+    let count : c.div_ceil-bytes.result ≡ bytes_across w.width = omega arith in
+    grind (arith, common_steps, row, count)

@@ -1,7 +1,9 @@
-use Rattle.std.proofs.Common.{◌≡◌, ◌-◌, List, length, min, ap, sym, ◌∙◌}
+use Rattle.std.proofs.Common.{◌≡◌, ◌-◌, Bool, List, length, min, ap, sym, ◌∙◌}
 use Rattle.std.proofs.lemmas.List.{with_items_is}
+use Rattle.cam_units.specs.declared.point.Spot.{Spot}
 use Rattle.cam_tiles.specs.Kept.{table_of}
-use Rattle.cam_tiles.specs.Tables.{Table, Tile, redrawn}
+use Rattle.cam_tiles.specs.Tables.{Table, Tile, drawn_from, redrawn}
+use Rattle.cam_tiles.specs.Tiles.{grid_of, tile_rows}
 use Rattle.cam_tiles.proofs.DrawnTiles.{dirty, redrawn_as_many, redrawn_dirty, redrawn_length}
 use Rattle.cam_tiles.proofs.raster.Raster.redraw.Goals as goal
 
@@ -14,7 +16,9 @@ invariant_of-self g c =
     let was = c.deref_mut.ensures.value in
     let few : c.min-drawn.result ≡ min c.args.at_most (dirty t.tiles) =
     c.min-drawn.ensures ∙ ap (min c.args.at_most) c.self.invariant.counted in
-    let is = c.draw_first.ensures.tiles in
+    let drawn_as = λ (picture : Spot → Bool).
+    drawn_from (λ k. tile_rows picture (grid_of t.window k)) 0 c.min-drawn.result c.deref_mut.result.now in
+    let is = c.draw_first.ensures.tiles ∙ ap drawn_as c.prepare_first.ensures.kept in
     let size = redrawn_length image c.args.at_most c.min-drawn.result t c.deref_mut.result.now drawn few was is in
     let items = with_items_is raster.tiles drawn (size ∙ sym (ap length was) ∙ c.deref_mut.ensures.len) in
     record {
@@ -37,7 +41,9 @@ returns-clause-tiles g c =
     let was = c.deref_mut.ensures.value in
     let few : c.min-drawn.result ≡ min c.args.at_most (dirty t.tiles) =
     c.min-drawn.ensures ∙ ap (min c.args.at_most) c.self.invariant.counted in
-    let is = c.draw_first.ensures.tiles in
+    let drawn_as = λ (picture : Spot → Bool).
+    drawn_from (λ k. tile_rows picture (grid_of t.window k)) 0 c.min-drawn.result c.deref_mut.result.now in
+    let is = c.draw_first.ensures.tiles ∙ ap drawn_as c.prepare_first.ensures.kept in
     let size = redrawn_length image c.args.at_most c.min-drawn.result t c.deref_mut.result.now drawn few was is in
     let table : List Tile → Table = λ tiles. record { window = raster.window; tiles = tiles } in
     let items = with_items_is raster.tiles drawn (size ∙ sym (ap length was) ∙ c.deref_mut.ensures.len) in

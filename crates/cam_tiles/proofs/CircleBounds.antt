@@ -1,0 +1,71 @@
+-- A bound on the radius of a circle, without a root: the sum of how far its point lies across and along.
+use Rattle.std.proofs.Common.{◌≡◌, ℕ, ◌+◌, ◌*◌, ◌^◌, ◌<◌, ℤ, pos, ◌+ℤ◌, ◌-ℤ◌, ◌*ℤ◌, ◌≤ℤ◌, ap, ◌∙◌, FitsSigned, w64}
+use Rattle.std.proofs.Common.{arith}
+use Rattle.std.specs.Int.RustNames.{unsigned_abs}
+use Rattle.std.proofs.lemmas.Int.{ints}
+use Rattle.cam_units.specs.Board.{board_limit}
+use Rattle.cam_units.specs.declared.point.Point.{Point}
+use Rattle.cam_shapes.specs.declared.vector.Vector.{Vector}
+use Rattle.cam_shapes.specs.Plane.{dot, square, way}
+use Rattle.cam_shapes.proofs.Strokes.{dot_is}
+use Rattle.cam_tiles.proofs.GridLemmas.{long}
+
+-- how far two coordinates are apart, as the code computes it
+gap_kept : (a b : ℤ) → unsigned_abs a < board_limit → unsigned_abs b < board_limit → long (long a -ℤ long b) ≡ a -ℤ b
+gap_kept a b near near_too = omega (arith, ints)
+
+gap_short : (a b : ℤ) → unsigned_abs a < board_limit → unsigned_abs b < board_limit → unsigned_abs (a -ℤ b) < 2000000000
+gap_short a b near near_too = omega (arith, ints)
+
+pub gap_is : (a b r : ℤ) → unsigned_abs a < board_limit → unsigned_abs b < board_limit
+    → r ≡ pos (unsigned_abs (long (long a -ℤ long b))) → r ≡ pos (unsigned_abs (a -ℤ b))
+gap_is a b r near near_too e = e ∙ ap (λ z. pos (unsigned_abs z)) (gap_kept a b near near_too)
+
+sum_is : (m n : ℕ) → m < 2000000000 → n < 2000000000
+    → long (pos 2 *ℤ long (long (pos m) +ℤ long (pos n))) ≡ pos (2 * (m + n))
+sum_is m n short short_too = omega (arith, ints)
+
+sum_fits : (m n : ℕ) → m < 2000000000 → n < 2000000000
+    → FitsSigned w64 (pos 2 *ℤ long (long (pos m) +ℤ long (pos n)))
+sum_fits m n short short_too = omega (arith, ints)
+
+-- twice their sum is at least the way's length
+long_enough : (v : Vector) (m n : ℕ) → unsigned_abs v.x ≡ 2 * m → unsigned_abs v.y ≡ 2 * n
+    → dot v v ≤ℤ square (pos (2 * (m + n)))
+long_enough v m n e f = omega (arith, ints, dot_is v, ap (λ k. k * k) e, ap (λ k. k * k) f)
+
+double : (a b : ℤ) → unsigned_abs (pos 2 *ℤ a -ℤ pos 2 *ℤ b) ≡ 2 * unsigned_abs (a -ℤ b)
+double a b = omega (arith, ints)
+
+-- the bound about p of a circle through q, as the code computes it
+module _ (p q : Point) (across along : ℤ) (is_across : across ≡ pos (unsigned_abs (q.x -ℤ p.x)))
+    (is_along : along ≡ pos (unsigned_abs (q.y -ℤ p.y)))
+    (px : unsigned_abs p.x < board_limit) (py : unsigned_abs p.y < board_limit)
+    (qx : unsigned_abs q.x < board_limit) (qy : unsigned_abs q.y < board_limit) where
+  abbrev m : ℕ
+  m = unsigned_abs (q.x -ℤ p.x)
+
+  abbrev n : ℕ
+  n = unsigned_abs (q.y -ℤ p.y)
+
+  abbrev pub r : ℤ
+  r = long (pos 2 *ℤ long (long across +ℤ long along))
+
+  bound_is : r ≡ pos (2 * (m + n))
+  bound_is =
+      ap (λ z. long (pos 2 *ℤ long (long z +ℤ long along))) is_across
+      ∙ ap (λ z. long (pos 2 *ℤ long (long (pos m) +ℤ long z))) is_along
+      ∙ sum_is m n (gap_short q.x p.x qx px) (gap_short q.y p.y qy py)
+
+  pub bounded : dot (way p q) (way p q) ≤ℤ square r
+  bounded = rw bound_is (long_enough (way p q) m n (double q.x p.x) (double q.y p.y))
+
+  pub bound_some : pos 0 ≤ℤ r
+  bound_some = rw bound_is (omega (arith, ints))
+
+  pub bound_short : r ≤ℤ pos (2 ^ 34)
+  bound_short = rw bound_is (omega (arith, ints, gap_short q.x p.x qx px, gap_short q.y p.y qy py))
+
+  pub bound_fits : FitsSigned w64 (pos 2 *ℤ long (long across +ℤ long along))
+  bound_fits =
+      rw (is_across, is_along) (sum_fits m n (gap_short q.x p.x qx px) (gap_short q.y p.y qy py))

@@ -1,0 +1,166 @@
+-- Rows of a band, one below another from its first: as they are seen from a point, and once their marks are turned.
+use Rattle.std.proofs.Common.{◌≡◌, ◌≢◌, ◌↔◌, ◌⊎◌, ℕ, ◌+◌, ◌-◌, ◌^◌, ◌<◌, ◌≤◌, ℤ, pos, ◌+ℤ◌, ◌-ℤ◌, ◌*ℤ◌}
+use Rattle.std.proofs.Common.{List, length, slice_index, refl, sym, ap, ◌∙◌, subst, inl, inr, rules, arith}
+use Rattle.std.specs.Int.RustNames.{int_lt}
+use Rattle.std.proofs.lemmas.Bool.{cases_lt}
+use Rattle.std.proofs.lemmas.Int.{ints}
+use Rattle.std.proofs.lemmas.List.{places}
+use borrow.Rule.Slice.PartMut.{mid_of, put_mid}
+use Rattle.cam_units.specs.Board.{IsOnBoard}
+use Rattle.cam_units.specs.declared.point.Point.{Point}
+use Rattle.cam_units.specs.declared.point.Spot.{Spot}
+use Rattle.cam_units.proofs.Ring.{equal}
+use Rattle.cam_units.proofs.Ring.Polynomial.{Atom, Difference, Product}
+use Rattle.cam_apertures.proofs.Painting.{through}
+use Rattle.cam_shapes.specs.Edge.{is_above}
+use Rattle.cam_objects.specs.Image.{relative}
+use Rattle.cam_rows.specs.declared.centres.Centres.{Centres}
+use Rattle.cam_rows.specs.Rows.{AreTurned, IsRow, centre_at, row_below}
+use Rattle.cam_tiles.specs.declared.grid.Grid.{Grid}
+use Rattle.cam_tiles.specs.declared.masks.join.Join.TheVariants.{Turn}
+use Rattle.cam_tiles.specs.Masks.{IsIn, IsMarked, IsMask, Marking, joined}
+use Rattle.cam_tiles.specs.Tiles.{IsGrid, centre_in}
+use Rattle.cam_tiles.proofs.JoinedMarks.{AreRowsJoined, joined_from, joined_with}
+use Rattle.cam_tiles.proofs.SeenRows.{in_reach}
+
+-- ---- a part of a list that is written
+
+module _ (first end : ℕ) (old part : List ℕ) (some : first < end) (long : end ≤ length old)
+    (size : length part ≡ end - first) where
+  abbrev pub written : List ℕ
+  written = put_mid first (end - first) old part
+
+  pub written_length : length written ≡ length old
+  written_length = search (rules, places)
+
+  pub part_at : (row : ℕ) → first ≤ row → row < end → slice_index written row ≡ slice_index part (row - first)
+  part_at row after until = search (rules, places)
+
+  pub others_kept : (row : ℕ) → (row < first) ⊎ (end ≤ row) → slice_index written row ≡ slice_index old row
+  others_kept row (inl early) = search (rules, places)
+  others_kept row (inr late) = search (rules, places)
+
+pub part_length : (first end : ℕ) (old : List ℕ) → first < end → end ≤ length old
+    → length (mid_of first (end - first) old) ≡ end - first
+part_length first end old some long = search (rules, places)
+
+part_was : (first end k : ℕ) (old : List ℕ) → k < end - first
+    → slice_index (mid_of first (end - first) old) k ≡ slice_index old (first + k)
+part_was first end k old inside = search (rules, places)
+
+-- ---- centres
+
+step_is : (x s first step away : ℤ) → x +ℤ pos 0 *ℤ s ≡ first +ℤ pos 0 *ℤ step -ℤ away
+    → x +ℤ pos 1 *ℤ s ≡ first +ℤ pos 1 *ℤ step -ℤ away → s ≡ step
+step_is x s first step away e f = omega (arith, ints)
+
+further_down : (y step away : ℤ) (first k : ℕ)
+    → y -ℤ pos first *ℤ step -ℤ away -ℤ pos k *ℤ step ≡ y -ℤ pos (first + k) *ℤ step -ℤ away
+further_down y step away first k =
+    equal
+    (Difference (Difference (Difference (Atom y) (Product (Atom (pos first)) (Atom step))) (Atom away))
+    (Product (Atom (pos k)) (Atom step)))
+    (Difference (Difference (Atom y) (Product (Atom (pos (first + k))) (Atom step))) (Atom away))
+    (omega arith)
+
+-- the rows below one of a grid are those of the grid
+module _ (g : Grid) (at : Point) (top : Centres) (first : ℕ)
+    (centres : (i : ℕ) → centre_at top i ≡ relative at (centre_in g i first)) where
+  step_kept : top.step ≡ g.step
+  step_kept =
+      step_is top.first.x top.step g.first.x g.step (pos 2 *ℤ at.x) (ap (λ s. s.x) (centres 0))
+      (ap (λ s. s.x) (centres 1))
+
+  height_below : (k : ℕ)
+      → top.first.y -ℤ pos k *ℤ top.step ≡ g.first.y -ℤ pos (first + k) *ℤ g.step -ℤ pos 2 *ℤ at.y
+  height_below k =
+      ap (λ s. s.y -ℤ pos k *ℤ top.step) (centres 0)
+      ∙ ap (λ s. g.first.y -ℤ pos first *ℤ g.step -ℤ pos 2 *ℤ at.y -ℤ pos k *ℤ s) step_kept
+      ∙ further_down g.first.y g.step (pos 2 *ℤ at.y) first k
+
+  pub below_seen : (k i : ℕ) → centre_at (row_below top k) i ≡ relative at (centre_in g i (first + k))
+  below_seen k i = λ j. record { x = (centres i j).x; y = height_below k j }
+
+  pub rows_below : IsGrid g → IsOnBoard at → top.count ≡ g.columns → IsRow top
+      → (k : ℕ) → first + k < g.rows → IsRow (row_below top k)
+  rows_below grid board count row k below = record {
+    count = row.count;
+    step = row.step;
+    centres = λ i inside. rw (below_seen k i) (in_reach at (centre_in g i (first + k)) board
+        (grid.centres i (first + k) (rw (← count) inside) below));
+  }
+
+  -- an edge that crosses a row of the grid crosses it there
+  pub crossed_below : (p q : Point) (k : ℕ)
+      → is_above p (relative at (centre_in g 0 (first + k))) ≢ is_above q (relative at (centre_in g 0 (first + k)))
+      → is_above p (row_below top k).first ≢ is_above q (row_below top k).first
+  crossed_below p q k apart =
+      subst (λ y. int_lt y (pos 2 *ℤ p.y) ≢ int_lt y (pos 2 *ℤ q.y)) (sym (height_below k)) apart
+
+-- ---- marks
+
+-- a row lies above a band, in it or below it
+pub by_band : (first end row : ℕ) {Q : Type 0} → (row < first → Q) → (first ≤ row → row < end → Q) → (end ≤ row → Q) → Q
+by_band first end row above within below =
+    elim (cases_lt row first) [
+      | inl early ↦ above early
+      | inr after ↦ elim (cases_lt row end) [ inl until ↦ within after until | inr late ↦ below late ]
+    ]
+
+-- a part of the rows of a mask, whose bits are turned over where a shape holds their centres as they are seen from a
+-- point
+module _ (P : Spot → Type 0) (at : Point) (top : Centres) (old : Marking) (first end : ℕ) (part : List ℕ)
+    (mask : IsMask old) (some : first < end) (low : end ≤ old.grid.rows) (size : length part ≡ end - first)
+    (fits : (k : ℕ) → slice_index part k < 2 ^ 64) (count : top.count ≡ old.grid.columns)
+    (centres : (i : ℕ) → centre_at top i ≡ relative at (centre_in old.grid i first))
+    (turned : AreTurned (mid_of first (end - first) old.rows) top P part) where
+  long : end ≤ length old.rows
+  long = omega (arith, mask.whole, mask.grid.rows)
+
+  abbrev pub new : Marking
+  new = record { grid = old.grid; rows = put_mid first (end - first) old.rows part }
+
+  there : (i row : ℕ) → i < 64 → first ≤ row → row < end
+      → IsMarked new i row
+      ↔ joined Turn (IsMarked old i row) ((i < old.grid.columns) × P (relative at (centre_in old.grid i row)))
+  there i row near after until =
+      let k = row - first in
+      let inside : k < end - first = omega arith in
+      let same : first + k ≡ row = omega arith in
+      let held = turned k i (rw (part_length first end old.rows some long) inside) near in
+      rw (part_at first end old.rows part some long size row after until) (rw (
+        part_was first end k old.rows inside,
+        below_seen old.grid at top first centres k i,
+        count,
+        same,
+      ) at held)
+
+  bits_inside : (i row : ℕ) → i < 64 → first ≤ row → row < end → IsMarked new i row → IsIn old.grid i row
+  bits_inside i row near after until set =
+      joined_from Turn (IsMarked old i row) ((i < old.grid.columns) × P (relative at (centre_in old.grid i row)))
+      (IsIn old.grid i row) (mask.inside i row near (omega (arith, low, until, mask.grid.rows)))
+      (λ held. (held.0, omega (arith, low, until))) ((there i row near after until).0 set)
+
+  pub band_turned : AreRowsJoined Turn (λ s. P (relative at s)) old new first end
+  band_turned =
+      let kept = others_kept first end old.rows part some long size in
+      record {
+        grid = refl;
+        mask = record {
+          grid = mask.grid;
+          whole = written_length first end old.rows part some long size ∙ mask.whole;
+          fit = λ row. by_band first end row (λ early. rw (kept row (inl early)) (mask.fit row))
+              (λ after until.
+              rw (part_at first end old.rows part some long size row after until) (fits (row - first)))
+              (λ late. rw (kept row (inr late)) (mask.fit row));
+          inside = λ i row near under. by_band first end row (λ early. rw (kept row (inl early)) (mask.inside i row near under))
+              (λ after until. bits_inside i row near after until)
+              (λ late. rw (kept row (inr late)) (mask.inside i row near under));
+        };
+        marks = λ i row inside after until.
+            through (there i row (omega (arith, inside.0, mask.grid.columns)) after until)
+            (joined_with Turn (IsMarked old i row)
+            ((i < old.grid.columns) × P (relative at (centre_in old.grid i row)))
+            (P (relative at (centre_in old.grid i row))) ((λ h. h.1), (λ h. (inside.0, h))));
+        kept = kept;
+      }

@@ -1,0 +1,44 @@
+use Rattle.std.proofs.Common.{FitsSigned, w64, pos, ◌*ℤ◌, ◌<◌, refl, rules, arith, ◌-◌}
+use Rattle.std.specs.Int.RustNames.{unsigned_abs}
+use Rattle.std.proofs.lemmas.Int.{clamps, ints}
+use Rattle.cam_tiles.specs.Levels.{height}
+use Rattle.cam_tiles.proofs.LevelRows.{below_top, between_cut, last_within, over_bottom, top_short, under_kept}
+use Rattle.cam_tiles.proofs.levels.Levels.band.Goals as goal
+
+pub overflow_sub-self-2 : goal.overflow_sub-self-2
+overflow_sub-self-2 c =
+    let l = c.args.self.now in
+    let reached = c.if-not-reach.ensures.0 refl in
+    let low : FitsSigned w64 c.args.heights.low = search rules in
+    let top = top_short l c.requires in
+    let bottom = c.requires.heights (l.rows - 1) (last_within l c.requires) in
+    omega (arith, ints, clamps, top, bottom, c.bottom.ensures, c.max.ensures, reached.0, reached.1)
+
+pub overflow_add-self : goal.overflow_add-self
+overflow_add-self c =
+    let l = c.args.self.now in
+    let reached = c.if-not-reach.ensures.0 refl in
+    let low : FitsSigned w64 c.args.heights.low = search rules in
+    let top = top_short l c.requires in
+    let bottom = c.requires.heights (l.rows - 1) (last_within l c.requires) in
+    omega (arith, ints, clamps, top, bottom, c.bottom.ensures, c.max.ensures, reached.0, reached.1)
+
+pub returns-clause-rows : goal.returns-clause-rows
+returns-clause-rows c = λ row s on.
+    let l = c.args.self.now in
+    let reached = c.if-not-reach.ensures.0 refl in
+    let low : FitsSigned w64 c.args.heights.low = search rules in
+    let high : FitsSigned w64 c.args.heights.high = search rules in
+    let top = top_short l c.requires in
+    let last = c.requires.heights (l.rows - 1) (last_within l c.requires) in
+    let near : unsigned_abs c.max.result < 8000000000 =
+    omega (arith, ints, clamps, low, top, last, c.bottom.ensures, c.max.ensures, reached.0, reached.1) in
+    between_cut row _ _ (pos row *ℤ l.step) s.y l.top (height l (l.rows - 1)) c.args.heights.low c.args.heights.high
+    c.max.result c.min.result _ _
+    on.1 (rw on.1 (over_bottom l c.requires row on.0))
+    (rw on.1 (below_top l c.requires row on.0))
+    (omega (arith, ints, clamps, high, top, c.min.ensures))
+    (omega (arith, ints, clamps, low, last, c.bottom.ensures, c.max.ensures))
+    (omega (arith, ints, clamps, high, top, c.min.ensures))
+    (under_kept l.top c.max.result top near)
+    (c.rows_above.ensures.rows row on.0) (c.rows_above-2.ensures.rows row on.0)

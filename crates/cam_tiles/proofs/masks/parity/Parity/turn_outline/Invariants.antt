@@ -1,0 +1,17 @@
+use Rattle.std.proofs.Common.{List, drop}
+use Rattle.cam_units.specs.declared.point.Point.{Point}
+use Rattle.cam_units.specs.Board.{IsOnBoard}
+use Rattle.cam_shapes.specs.declared.segments.Seg.{Seg}
+use Rattle.cam_objects.specs.Image.{relative}
+use Rattle.cam_tiles.proofs.TurnedContours.{TurnsBut, lines}
+use Rattle.cam_tiles.proofs.masks.parity.Parity.turn_outline.Given as goal
+
+-- the marks are turned by all edges but those that are left
+abbrev pub invariant-loop-point : goal.invariant-loop-point
+invariant-loop-point l =
+    let edges : List Point → List Seg = lines l.placing.turn l.placing.offset in
+    record {
+      on_board : IsOnBoard l.here;
+      turned : TurnsBut (relative l.at) l.start l.here (edges (drop l.point-index l.others)) (edges l.others)
+          l.fn.self l.self;
+    }

@@ -1,0 +1,90 @@
+//! The heights of the rows of a tile.
+
+ghost use Rattle.std.specs.Prelude.{◌≡◌, ◌↔◌, ℕ, ◌-◌, ◌<◌, ◌≤◌, IsTrue, pos, ◌*ℤ◌, ◌≤ℤ◌, ◌<ℤ◌};
+ghost use Rattle.cam_units.specs.declared.point.Spot.{Spot};
+ghost use Rattle.cam_tiles.specs.Levels.{AreLevels, IsLevels, IsOnRow, height, levels_of};
+ghost use Rattle.cam_tiles.specs.Masks.{IsWithin};
+ghost use Rattle.cam_tiles.specs.Tiles.{IsGrid};
+
+use crate::grid::Grid;
+use crate::masks::heights::Heights;
+use crate::masks::mask::{Band, NO_ROWS};
+
+/// Rows of centres, one below another: the height of the top one and how far they are apart, in half nm, and how many
+/// they are, from 1 to 64.
+#[derive(Clone, Copy, Debug, PartialEq, Eq)]
+pub(crate) struct Levels {
+    pub(crate) top: i64,
+    pub(crate) step: i64,
+    pub(crate) rows: u32,
+}
+
+impl Grid {
+    /// The heights of its rows.
+    pub(crate) fn levels(&self) -> Levels
+        requires { IsGrid self.now }
+        ensures value { result ≡ levels_of self.now }
+        ensures levels { IsLevels result }
+    {
+        Levels {
+            top: self.first.y,
+            step: self.step,
+            rows: self.rows,
+        }
+    }
+}
+
+impl Levels {
+    /// Whether the rows reach heights: these lie neither all above them nor all below.
+    #[inline]
+    pub(crate) fn reach(&self, heights: Heights) -> bool
+        requires { AreLevels self.now }
+        ensures { IsTrue result
+            ↔ ((heights.low ≤ℤ self.now.top) × (height self.now (self.now.rows - 1) ≤ℤ heights.high)) }
+    {
+        heights.low <= self.top && self.bottom() <= heights.high
+    }
+
+    /// The rows at some heights: by a division for each end of these that lies inside the rows.
+    #[inline]
+    pub(crate) fn band(&self, heights: Heights) -> Band
+        requires { AreLevels self.now }
+        ensures rows { (row : ℕ) (s : Spot) → IsOnRow self.now row s
+            → ((result.first ≤ row) × (row < result.end)) ↔ IsWithin heights s }
+        ensures end { result.end ≤ self.now.rows }
+    {
+        if !self.reach(heights) {
+            return NO_ROWS;
+        }
+        Band {
+            first: self.rows_above(self.top - heights.high.min(self.top)),
+            end: self.rows_above(self.top - heights.low.max(self.bottom()) + 1),
+        }
+    }
+
+    /// The height of the lowest row, in half nm.
+    #[inline]
+    pub(crate) fn bottom(&self) -> i64
+        requires { AreLevels self.now }
+        ensures { result ≡ height self.now (self.now.rows - 1) }
+    {
+        self.top - i64::from(self.rows - 1) * self.step
+    }
+
+    /// How many of the rows lie less than a distance below the first.
+    #[inline]
+    fn rows_above(&self, distance: i64) -> u32
+        requires { AreLevels self.now }
+        ensures rows { (row : ℕ) → row < self.now.rows → (row < result) ↔ ((pos row *ℤ self.now.step) <ℤ distance) }
+        ensures end { result ≤ self.now.rows }
+    {
+        if distance <= 0 {
+            return 0;
+        }
+        let last = i64::from(self.rows - 1) * self.step;
+        if distance > last {
+            return self.rows;
+        }
+        (distance as u64).div_ceil(self.step as u64) as u32
+    }
+}
