@@ -18,9 +18,6 @@ use cam_tiles::{Raster, Source, Window};
 use cam_writers::{gerber_text, xnc_text};
 use std::alloc::{AllocError, Global};
 
-/// To draw no more tiles than this, each item is asked for its box at each; for more, their boxes are kept at hand.
-const FEW_TILES: u32 = 8;
-
 /// A raster of an accepted window, its tiles dirty; 30 where memory was refused.
 fn blank(alloc: Global, window: Window) -> Result<Raster, Fault>
     requires { accepts window ≡ true }
@@ -84,9 +81,7 @@ pub(crate) fn draw(alloc: Global, content: &SheetContent, raster: &mut Raster, a
         SheetContent::Gerber(layer) => Source::gerber(layer),
         SheetContent::Drill(layer) => Source::drill(layer),
     };
-    if raster.dirty().min(at_most) > FEW_TILES {
-        source.keep_boxes(alloc);
-    }
+    source.keep_boxes(alloc);
     raster.redraw(&mut source, at_most)
 }
 
