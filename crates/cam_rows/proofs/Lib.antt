@@ -6,6 +6,7 @@ pub mod ChordTurns
 pub mod Chords
 pub mod Circling
 pub mod EdgeSides
+pub mod EqualRows
 pub mod JoinedLanes
 pub mod Marked
 pub mod OneRow

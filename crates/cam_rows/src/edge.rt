@@ -55,8 +55,30 @@ pub fn turn_edge(from: Point, to: Point, top: Centres, rows: &mut [u64])
 }
 
 /// Turns over the bits of the centres strictly left of the line through two points, as it leads from the first to the
-/// second, in rows one below another from the top one.
+/// second, in rows one below another from the top one. Where the top row and the lowest are alike, all are.
 fn turn_left(from: &Point, to: &Point, top: &Centres, rows: &mut [u64])
+    requires from { IsOnBoard from.now }
+    requires to { IsOnBoard to.now }
+    requires rows { AreRows top.now (length rows.old) }
+    ensures { AreTurned rows.old top.now (λ s. pos 0 <ℤ cross (way from.now to.now) (seen_from from.now s)) rows.new }
+{
+    if rows.is_empty() {
+        return;
+    }
+    let highest = left_row(from, to, top);
+    let lowest = left_row(from, to, &top.below(rows.len() - 1));
+    if highest != lowest {
+        turn_by_slope(from, to, top, rows);
+        return;
+    }
+    for k in 0..rows.len() {
+        rows[k] ^= highest;
+    }
+}
+
+/// Turns over the bits of the centres strictly left of the line through two points, as it leads from the first to the
+/// second, in rows one below another from the top one: by the slope of the line.
+fn turn_by_slope(from: &Point, to: &Point, top: &Centres, rows: &mut [u64])
     requires from { IsOnBoard from.now }
     requires to { IsOnBoard to.now }
     requires rows { AreRows top.now (length rows.old) }
