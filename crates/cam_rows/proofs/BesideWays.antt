@@ -1,34 +1,31 @@
 -- Places in a bar, by how far they are along its way from either end, and across it.
-use Rattle.std.proofs.Common.{◌≡◌, ◌+◌, ◌*◌, ◌^◌, ◌<◌, ◌≤◌, ◌↔◌, ℕ, ℤ, pos, ◌+ℤ◌, ◌-ℤ◌, ◌*ℤ◌, ◌≤ℤ◌, ◌<ℤ◌}
-use Rattle.std.proofs.Common.{ap, refl, sym, ◌∙◌, arith}
+use Rattle.std.proofs.Common.{◌≡◌, ◌+◌, ◌*◌, ◌^◌, ◌<◌, ◌≤◌, ◌↔◌, ℕ, ℤ, pos, ◌+ℤ◌, ◌-ℤ◌, ◌*ℤ◌, ◌≤ℤ◌, ◌<ℤ◌, arith}
 use Rattle.std.specs.Int.RustNames.{unsigned_abs}
 use Rattle.std.proofs.lemmas.Int.{ints}
 use Rattle.std.proofs.lemmas.Nat.{mul-lt}
 use Rattle.cam_units.specs.declared.point.Point.{Point}
 use Rattle.cam_units.specs.declared.point.Spot.{Spot}
-use Rattle.cam_units.specs.Board.{IsOnBoard}
 use Rattle.cam_units.proofs.Ring.{Polynomial, Atom, Sum, Difference, Product, equal}
 use Rattle.cam_shapes.specs.declared.bar.Bar.{Bar}
 use Rattle.cam_shapes.specs.Bar.{IsInBar}
 use Rattle.cam_shapes.specs.Plane.{cross, dot, seen_from, square, way}
-use Rattle.cam_shapes.proofs.Widths.{cross_bound, square_is}
-use Rattle.cam_rows.specs.declared.beside.Beside.{Beside}
-use Rattle.cam_rows.specs.declared.centres.Centres.{Centres}
-use Rattle.cam_rows.specs.declared.linear.Linear.{Linear}
-use Rattle.cam_rows.specs.Beside.{IsHeldByAll, IsInside, IsWithinReach}
-use Rattle.cam_rows.specs.Linear.{number_at}
-use Rattle.cam_rows.specs.Rows.{IsRow, centre_at, row_below}
-use Rattle.cam_rows.specs.Slopes.{Sloped, lowered, number_on}
+use Rattle.cam_shapes.proofs.Widths.{square_is}
+use Rattle.cam_rows.specs.Machinery.Beside.{IsInside, IsWithinReach}
 use Rattle.cam_rows.proofs.Circling.{below_root}
-use Rattle.cam_rows.proofs.Slopes.{first_in_reach, first_is, lower_cross, no_steps, short_seen, short_way}
+
+abbrev twice : ℤ → Polynomial
+twice z = Product (Atom (pos 2)) (Atom z)
+
+abbrev gap : ℤ → ℤ → Polynomial
+gap z w = Difference (twice z) (twice w)
+
+abbrev seen : ℤ → ℤ → Polynomial
+seen z w = Difference (Atom z) (twice w)
 
 -- how far a place lies before the end, by the way back
 from_the_end : (p q : Point) (s : Spot)
     → dot (way q p) (seen_from q s) ≡ dot (way p q) (way p q) -ℤ dot (way p q) (seen_from p s)
 from_the_end p q s =
-    let twice : ℤ → Polynomial = λ z. Product (Atom (pos 2)) (Atom z) in
-    let gap : ℤ → ℤ → Polynomial = λ z w. Difference (twice z) (twice w) in
-    let seen : ℤ → ℤ → Polynomial = λ z w. Difference (Atom z) (twice w) in
     let product : Polynomial → Polynomial → Polynomial → Polynomial → Polynomial =
     λ a b x y. Sum (Product a x) (Product b y) in
     equal
@@ -38,152 +35,71 @@ from_the_end p q s =
     (product (gap q.x p.x) (gap q.y p.y) (seen s.x p.x) (seen s.y p.y)))
     (omega arith)
 
+-- what is left of the way back is right of the way
+from_the_right : (p q : Point) (s : Spot)
+    → cross (way q p) (seen_from q s) ≡ pos 0 -ℤ cross (way p q) (seen_from p s)
+from_the_right p q s =
+    let product : Polynomial → Polynomial → Polynomial → Polynomial → Polynomial =
+    λ a b x y. Difference (Product a y) (Product b x) in
+    equal
+    (product (gap p.x q.x) (gap p.y q.y) (seen s.x q.x) (seen s.y q.y))
+    (Difference (Atom (pos 0)) (product (gap q.x p.x) (gap q.y p.y) (seen s.x p.x) (seen s.y p.y)))
+    (omega arith)
+
 below_difference : (d l m : ℤ) → d ≡ l -ℤ m → (pos 0 ≤ℤ d) ↔ (m ≤ℤ l)
 below_difference d l m e = ((λ h. omega (arith, ints)), (λ h. omega (arith, ints)))
 
--- a cross product is less by the same in each row
-across_falls : (p q : Point) (c : Centres) (k i : ℕ)
-    → cross (way p q) (seen_from p (centre_at (row_below c k) i))
-    ≡ cross (way p q) (seen_from p (centre_at c i)) +ℤ pos k *ℤ (pos 0 -ℤ (way p q).x *ℤ c.step)
-across_falls p q c k i =
-    let a = way p q in
-    sym (lower_cross a.x a.y (seen_from p (centre_at c i)).x c.first.y p.y c.step (pos 0 -ℤ a.x *ℤ c.step) k refl)
+below_reach : (d z reach : ℤ) → d ≡ pos 0 -ℤ z → (pos 0 ≤ℤ (d +ℤ reach)) ↔ (pos 0 ≤ℤ (reach -ℤ z))
+below_reach d z reach e = ((λ h. omega (arith, ints)), (λ h. omega (arith, ints)))
 
--- a number that is greater by the reach, and the reach less the number, row after row
-left_number : (f t r m z : ℤ) (k i : ℕ) → f +ℤ pos i *ℤ t ≡ z
-    → (f +ℤ r) +ℤ pos k *ℤ m +ℤ pos i *ℤ t ≡ (z +ℤ pos k *ℤ m) +ℤ r
-left_number f t r m z k i e =
-    let steps = Product (Atom (pos i)) (Atom t) in
-    let fall = Product (Atom (pos k)) (Atom m) in
-    rw (← e) (equal
-    (Sum (Sum (Sum (Atom f) (Atom r)) fall) steps)
-    (Sum (Sum (Sum (Atom f) steps) fall) (Atom r))
-    (omega arith))
+-- a place is ahead of one point, as one looks to the other
+abbrev pub IsAhead : Point → Point → Spot → Type 0
+IsAhead p q s = pos 0 ≤ℤ dot (way p q) (seen_from p s)
 
-right_number : (f t r m z : ℤ) (k i : ℕ) → f +ℤ pos i *ℤ t ≡ pos 0 -ℤ z
-    → (f +ℤ r) +ℤ pos k *ℤ (pos 0 -ℤ m) +ℤ pos i *ℤ t ≡ r -ℤ (z +ℤ pos k *ℤ m)
-right_number f t r m z k i e =
-    let steps = Product (Atom (pos i)) (Atom t) in
-    let fall = Product (Atom (pos k)) (Atom m) in
-    let rest = Difference (Atom r) fall in
-    equal
-    (Sum (Sum (Sum (Atom f) (Atom r)) (Product (Atom (pos k)) (Difference (Atom (pos 0)) (Atom m)))) steps)
-    (Sum (Sum (Atom f) steps) rest)
-    (omega arith)
-    ∙ ap (λ u. u +ℤ (r -ℤ pos k *ℤ m)) e
-    ∙ equal (Sum (Difference (Atom (pos 0)) (Atom z)) rest) (Difference (Atom r) (Sum (Atom z) fall)) (omega arith)
+-- or left of the line through both, or near it
+abbrev pub IsLeft : Point → Point → ℤ → Spot → Type 0
+IsLeft p q reach s = pos 0 ≤ℤ (cross (way p q) (seen_from p s) +ℤ reach)
 
--- the slopes of a bar's long edges
-module _ (p q : Point) (c : Centres) (l : Linear) (s : Sloped) (reach : ℤ) where
-  pub left_numbers : ((i : ℕ) → number_at l i ≡ cross (way p q) (seen_from p (centre_at c i)))
-      → s.first ≡ l.first +ℤ reach → s.step ≡ l.step → s.down ≡ pos 0 -ℤ (way p q).x *ℤ c.step
-      → (k i : ℕ) → number_on (lowered k s) i ≡ cross (way p q) (seen_from p (centre_at (row_below c k) i)) +ℤ reach
-  left_numbers value first step down k i =
-      let z = cross (way p q) (seen_from p (centre_at c i)) in
-      rw (first, step, down, across_falls p q c k i)
-      (left_number l.first l.step reach (pos 0 -ℤ (way p q).x *ℤ c.step) z k i (value i))
+-- before the end of a way, as one looks back from there
+before_end : (p q : Point) (s : Spot) → IsAhead q p s ↔ (dot (way p q) (seen_from p s) ≤ℤ dot (way p q) (way p q))
+before_end p q s =
+    below_difference (dot (way q p) (seen_from q s)) (dot (way p q) (way p q)) (dot (way p q) (seen_from p s))
+    (from_the_end p q s)
 
-  pub right_numbers : ((i : ℕ) → number_at l i ≡ pos 0 -ℤ cross (way p q) (seen_from p (centre_at c i)))
-      → s.first ≡ l.first +ℤ reach → s.step ≡ l.step → s.down ≡ pos 0 -ℤ (pos 0 -ℤ (way p q).x *ℤ c.step)
-      → (k i : ℕ) → number_on (lowered k s) i ≡ reach -ℤ cross (way p q) (seen_from p (centre_at (row_below c k) i))
-  right_numbers value first step down k i =
-      let z = cross (way p q) (seen_from p (centre_at c i)) in
-      rw (first, step, down, across_falls p q c k i)
-      (right_number l.first l.step reach (pos 0 -ℤ (way p q).x *ℤ c.step) z k i (value i))
+pub between_ends : (s : Spot) (bar : Bar) → IsInBar s bar → IsAhead bar.from bar.to s × IsAhead bar.to bar.from s
+between_ends s bar inside =
+    let between = inside.beside.between in
+    (between.after_start, (before_end bar.from bar.to s).1 between.before_end)
 
--- which centres the four slopes hold, by what their numbers are
-pub record Tells (b : Beside) (bar : Bar) (s : Spot) (count i : ℕ) (reach : ℤ) : Type 0 where
-  pub start_count : b.start.count ≡ count
-  pub end_count : b.end.count ≡ count
-  pub left_count : b.left.count ≡ count
-  pub right_count : b.right.count ≡ count
-  pub start : number_on b.start i ≡ dot (way bar.from bar.to) (seen_from bar.from s)
-  pub end : number_on b.end i ≡ dot (way bar.to bar.from) (seen_from bar.to s)
-  pub left : number_on b.left i ≡ cross (way bar.from bar.to) (seen_from bar.from s) +ℤ reach
-  pub right : number_on b.right i ≡ reach -ℤ cross (way bar.from bar.to) (seen_from bar.from s)
-
-pub held_in_bar : (b : Beside) (bar : Bar) (s : Spot) (count i : ℕ) (reach : ℤ) → Tells b bar s count i reach
+-- a bar is where four half planes meet
+pub in_bar : (s : Spot) (bar : Bar) (reach : ℤ)
     → ((z : ℤ) → IsWithinReach z reach
     ↔ IsInside z bar.width.0 (dot (way bar.from bar.to) (way bar.from bar.to)))
-    → IsHeldByAll b i ↔ ((i < count) × IsInBar s bar)
-held_in_bar b bar s count i reach told each =
-    let a = way bar.from bar.to in
-    let v = seen_from bar.from s in
-    let near = each (cross a v) in
-    let back =
-    below_difference (dot (way bar.to bar.from) (seen_from bar.to s)) (dot a a) (dot a v)
-    (from_the_end bar.from bar.to s) in (
-      (λ held.
-          let inside = near.0 (record { left = rw told.left at held.left.1; right = rw told.right at held.right.1 }) in (
-            rw told.start_count at held.start.0,
-            record {
-              wide = inside.wide;
-              beside = record {
-                between = record {
-                  long = inside.long;
-                  after_start = rw told.start at held.start.1;
-                  before_end = back.0 (rw told.end at held.end.1);
-                };
-                near = inside.near;
-              };
-            },
-          )),
+    → IsInBar s bar ↔ (IsAhead bar.from bar.to s × IsAhead bar.to bar.from s
+    × IsLeft bar.from bar.to reach s × IsLeft bar.to bar.from reach s)
+in_bar s bar reach each =
+    let z = cross (way bar.from bar.to) (seen_from bar.from s) in
+    let right =
+    below_reach (cross (way bar.to bar.from) (seen_from bar.to s)) z reach (from_the_right bar.from bar.to s) in (
       (λ p.
-          let beside = p.1.beside in
-          let inside = near.1 (record { wide = p.1.wide; long = beside.between.long; near = beside.near }) in
+          let ends = between_ends s bar p in
+          let inside =
+          (each z).1 (record { wide = p.wide; long = p.beside.between.long; near = p.beside.near }) in
+          (ends.0, ends.1, inside.left, right.1 inside.right)),
+      (λ held.
+          let inside = (each z).0 (record { left = held.2; right = right.0 held.3 }) in
           record {
-            start = (rw told.start_count p.0, rw told.start beside.between.after_start);
-            end = (rw told.end_count p.0, rw told.end (back.1 beside.between.before_end));
-            left = (rw told.left_count p.0, rw told.left inside.left);
-            right = (rw told.right_count p.0, rw told.right inside.right);
+            wide = inside.wide;
+            beside = record {
+              between = record {
+                long = inside.long;
+                after_start = held.0;
+                before_end = (before_end bar.from bar.to s).0 held.1;
+              };
+              near = inside.near;
+            };
           }),
     )
-
--- how far the numbers of the long edges go
-cross_short : (p q : Point) (c : Centres) → IsOnBoard p → IsOnBoard q → IsRow c
-    → unsigned_abs (cross (way p q) (seen_from p (centre_at c 0))) < 2 ^ 67
-cross_short p q c h m row =
-    cross_bound (way p q) (seen_from p (centre_at c 0)) (short_way p q h m)
-    (short_seen p (centre_at c 0) h (first_in_reach c row))
-
-short_sum : (z r t : ℤ) → unsigned_abs z < 2 ^ 67 → unsigned_abs r < 2 ^ 64 → t ≡ z +ℤ r → unsigned_abs t < 2 ^ 100
-short_sum z r t h k e = omega (arith, ints)
-
-short_difference : (z r t : ℤ) → unsigned_abs z < 2 ^ 67 → unsigned_abs r < 2 ^ 64 → t ≡ r -ℤ z → unsigned_abs t < 2 ^ 100
-short_difference z r t h k e = omega (arith, ints)
-
-pub first_left : (p q : Point) (c : Centres) (l : Linear) (r t : ℤ) → IsOnBoard p → IsOnBoard q → IsRow c
-    → ((i : ℕ) → number_at l i ≡ cross (way p q) (seen_from p (centre_at c i)))
-    → unsigned_abs r < 2 ^ 64 → t ≡ l.first +ℤ r → unsigned_abs t < 2 ^ 100
-first_left p q c l r t h m row value small e =
-    let z = cross (way p q) (seen_from p (centre_at c 0)) in
-    let first : l.first ≡ z = rw (no_steps l.first l.step) at (value 0) in
-    short_sum z r t (cross_short p q c h m row) small (rw first at e)
-
-pub first_right : (p q : Point) (c : Centres) (l : Linear) (r t : ℤ) → IsOnBoard p → IsOnBoard q → IsRow c
-    → ((i : ℕ) → number_at l i ≡ pos 0 -ℤ cross (way p q) (seen_from p (centre_at c i)))
-    → unsigned_abs r < 2 ^ 64 → t ≡ l.first +ℤ r → unsigned_abs t < 2 ^ 100
-first_right p q c l r t h m row value small e =
-    let z = cross (way p q) (seen_from p (centre_at c 0)) in
-    let first : l.first ≡ pos 0 -ℤ z = rw (no_steps l.first l.step) at (value 0) in
-    short_difference z r t (cross_short p q c h m row) small (omega (arith, ints))
-
-pub short_left : (s : Sloped) (p q : Point) (c : Centres) (r : ℤ) (k : ℕ) → IsOnBoard p → IsOnBoard q
-    → IsRow (row_below c k) → unsigned_abs r < 2 ^ 64
-    → ((k i : ℕ) → number_on (lowered k s) i ≡ cross (way p q) (seen_from p (centre_at (row_below c k) i)) +ℤ r)
-    → unsigned_abs (lowered k s).first < 2 ^ 100
-short_left s p q c r k h m row small value =
-    let z = cross (way p q) (seen_from p (centre_at (row_below c k) 0)) in
-    short_sum z r (lowered k s).first (cross_short p q (row_below c k) h m row) small (first_is s k (z +ℤ r) (value k 0))
-
-pub short_right : (s : Sloped) (p q : Point) (c : Centres) (r : ℤ) (k : ℕ) → IsOnBoard p → IsOnBoard q
-    → IsRow (row_below c k) → unsigned_abs r < 2 ^ 64
-    → ((k i : ℕ) → number_on (lowered k s) i ≡ r -ℤ cross (way p q) (seen_from p (centre_at (row_below c k) i)))
-    → unsigned_abs (lowered k s).first < 2 ^ 100
-short_right s p q c r k h m row small value =
-    let z = cross (way p q) (seen_from p (centre_at (row_below c k) 0)) in
-    short_difference z r (lowered k s).first (cross_short p q (row_below c k) h m row) small
-    (first_is s k (r -ℤ z) (value k 0))
 
 -- a whole number is at most a root from 0, rounded down, exactly where its square is at most the square
 pub inside_by_root : (z w length : ℤ) (root n : ℕ) → pos 0 <ℤ w → pos 0 <ℤ length → pos n ≡ square w *ℤ length

@@ -1,21 +1,18 @@
--- Caps by rows: how ties are decided, and the sides of a chord.
-use Rattle.std.proofs.Common.{◌≡◌, ◌↔◌, ◌⊎◌, ℕ, ◌+◌, ◌-◌, ◌*◌, ◌<◌, ◌≤◌, ℤ, pos, ◌+ℤ◌, ◌-ℤ◌, ◌*ℤ◌, ◌≤ℤ◌, ◌<ℤ◌}
-use Rattle.std.proofs.Common.{inl, inr, Bool, true, false, ◌&&◌, if◌then◌else◌, IsTrue, ap, sym, ◌∙◌, arith}
-use Rattle.std.specs.Int.RustNames.{int_lt, unsigned_abs}
+-- Caps by rows: how ties are decided, which centres of a row are in the circle, and where a chord leads.
+use Rattle.std.proofs.Common.{◌≡◌, ◌↔◌, ◌⊎◌, ℕ, ◌+◌, ◌-◌, ◌<◌, ◌≤◌, ℤ, pos, ◌+ℤ◌, ◌-ℤ◌, ◌*ℤ◌, ◌≤ℤ◌, ◌<ℤ◌}
+use Rattle.std.proofs.Common.{inl, inr, Bool, true, false, IsTrue, ap, sym, ◌∙◌, arith}
+use Rattle.std.specs.Int.RustNames.{int_lt}
 use Rattle.std.specs.Ordering.{int_eq}
 use Rattle.std.proofs.lemmas.Int.{ints, by_lt_z}
-use Rattle.std.proofs.lemmas.Nat.{mul-le, mul-lt}
 use Rattle.std.proofs.lemmas.Bool.{cases_Bool, cases_lt, false≢true}
 use Rattle.std.proofs.lemmas.Bool.Decides.{Decides-int_eq}
-use Rattle.cam_units.specs.declared.point.Spot.{Spot}
-use Rattle.cam_shapes.specs.declared.cap.Cap.{Cap}
 use Rattle.cam_shapes.specs.declared.vector.Vector.{Vector}
-use Rattle.cam_shapes.specs.Cap.{is_full_circle, is_in_cap, is_in_circle, is_left_of_chord, is_less}
-use Rattle.cam_shapes.specs.Plane.{cross, dot, seen_from, square, way}
+use Rattle.cam_shapes.specs.Cap.{is_in_circle, is_less}
+use Rattle.cam_shapes.specs.Plane.{dot, square}
 use Rattle.cam_shapes.proofs.Crossings.{less_is, not_under, under}
 use Rattle.cam_shapes.proofs.Widths.{square_is}
-use Rattle.cam_rows.specs.Ties.{is_inside_chord, leads_down_or_right}
-use Rattle.cam_rows.proofs.Circling.{below_root}
+use Rattle.cam_rows.specs.Machinery.Chords.{IsBeforeChord, IsBeforeEnd}
+use Rattle.cam_rows.specs.Machinery.Ties.{is_inside_chord, leads_down_or_right}
 
 tied : (m n : ℤ) (tie : Bool) → m ≡ n → IsTrue tie ↔ ((m <ℤ n) ⊎ ((m ≤ℤ n) × IsTrue tie))
 tied m n tie same = (
@@ -40,14 +37,14 @@ less_or_tied m n tie = elim (cases_Bool (int_eq m n)) [
 ]
 
 -- the tie holds, or not
-at_most_by_tie : (m n : ℤ) (tie : Bool) → tie ≡ true → IsTrue (is_less m n tie) ↔ (m ≤ℤ n)
+pub at_most_by_tie : (m n : ℤ) (tie : Bool) → tie ≡ true → IsTrue (is_less m n tie) ↔ (m ≤ℤ n)
 at_most_by_tie m n tie holds =
     let either = less_or_tied m n tie in (
       (λ t. elim (either.0 t) [ inl less ↦ omega (arith, ints) | inr both ↦ both.0 ]),
       (λ most. either.1 (inr (most, holds))),
     )
 
-less_by_tie : (m n : ℤ) (tie : Bool) → tie ≡ false → IsTrue (is_less m n tie) ↔ (m <ℤ n)
+pub less_by_tie : (m n : ℤ) (tie : Bool) → tie ≡ false → IsTrue (is_less m n tie) ↔ (m <ℤ n)
 less_by_tie m n tie fails =
     let either = less_or_tied m n tie in (
       (λ t. elim (either.0 t) [ inl less ↦ less | inr both ↦ absurd (false≢true (sym fails ∙ both.1)) ]),
@@ -78,91 +75,88 @@ in_circle_is u v radius height is_below e f low g =
     rw g (lowered (dot v v) (dot u u) (square v.x) (pos (radius - height)) (pos height) (is_less v.x (pos 0) is_below)
     (ap (λ z. square v.x +ℤ z) (sym f)) (sym e ∙ whole))
 
--- a chord's places by how far they lie from its middle
-abbrev IsByDistance : ℤ → ℕ → ℕ → Bool → Type 0
-IsByDistance x half room is_below =
-    (unsigned_abs x * unsigned_abs x < room)
-    ⊎ ((unsigned_abs x ≤ half) × ((x <ℤ pos 0) ⊎ ((x ≤ℤ pos 0) × IsTrue is_below)))
-
-by_distance : (x : ℤ) (half room : ℕ) (is_below : Bool) → half * half ≤ room → room < (half + 1) * (half + 1)
-    → IsTrue (is_inside_chord x room is_below) ↔ IsByDistance x half room is_below
-by_distance x half room is_below least greatest =
+-- a chord's places to the left of its middle, with its end
+inside_left : (x : ℤ) (room : ℕ) (is_below : Bool) → x <ℤ pos 0
+    → IsTrue (is_inside_chord x room is_below) ↔ (square x <ℤ pos (room + 1))
+inside_left x room is_below left =
     let outer = less_or_tied (square x) (pos room) (is_less x (pos 0) is_below) in
-    let inner = less_or_tied x (pos 0) is_below in
-    let root = below_root (unsigned_abs x) room half least greatest in (
-      (λ t. elim (outer.0 t) [
-        | inl less ↦ inl (omega (arith, ints, square_is x, less))
-        | inr both ↦ inr (root.0 (omega (arith, ints, square_is x, both.0)), inner.0 both.1)
-      ]),
-      (λ h. elim h [
-        | inl less ↦ outer.1 (inl (omega (arith, ints, square_is x)))
-        | inr both ↦
-            let most = root.1 both.0 in
-            outer.1 (inr (omega (arith, ints, square_is x, most), inner.1 both.1))
-      ]),
+    let inner = less_or_tied x (pos 0) is_below in (
+      (λ t. elim (outer.0 t) [ inl less ↦ omega (arith, ints, less) | inr both ↦ omega (arith, ints, both.0) ]),
+      (λ near. outer.1 (inr (omega (arith, ints, near), inner.1 (inl left)))),
     )
 
-squares_less : (m n : ℕ) → (m * m < n * n) ↔ (m < n)
-squares_less m n = (
-  (λ h. elim (cases_lt m n) [ inl less ↦ less | inr most ↦ absurd (omega (arith, h, mul-le n n m m most most)) ]),
-  (λ h. mul-lt m m n n h h),
-)
-
-within_half : (x : ℤ) (half room : ℕ) (is_below : Bool) → half * half ≤ room → room < (half + 1) * (half + 1)
-    → IsByDistance x half room is_below → unsigned_abs x ≤ half
-within_half x half room is_below least greatest (inl less) =
-    (below_root (unsigned_abs x) room half least greatest).0 (omega (arith, less))
-within_half x half room is_below least greatest (inr both) = both.0
-
-from_ends : (x last : ℤ) (half : ℕ) → last ≡ pos half
-    → (unsigned_abs x ≤ half) ↔ (((pos 0 -ℤ pos half) ≤ℤ x) × (x ≤ℤ last))
-from_ends x last half e = (
-  (λ near. (omega (arith, ints), omega (arith, ints))),
-  (λ p. omega (arith, ints, p.0, p.1)),
-)
-
--- the strip of a chord's places
-pub in_strip : (P : Type 0) (x middle last left right : ℤ) (half : ℕ) → left ≡ middle -ℤ pos half
-    → right ≡ middle +ℤ last → P ↔ (((pos 0 -ℤ pos half) ≤ℤ (x -ℤ middle)) × ((x -ℤ middle) ≤ℤ last))
-    → P ↔ ((left ≤ℤ x) × (x ≤ℤ right))
-in_strip P x middle last left right half e f told = (
-  (λ p. let ends = told.0 p in (omega (arith, ints, ends.0), omega (arith, ints, ends.1))),
-  (λ ends. told.1 (omega (arith, ints, ends.0), omega (arith, ints, ends.1))),
-)
-
--- the chord ends between places
-pub open_end : (x last : ℤ) (half room : ℕ) (is_below : Bool) → half * half ≤ room → room < (half + 1) * (half + 1)
-    → (half * half ≡ room → ⊥) → last ≡ pos half
-    → IsTrue (is_inside_chord x room is_below) ↔ (((pos 0 -ℤ pos half) ≤ℤ x) × (x ≤ℤ last))
-open_end x last half room is_below least greatest other e =
-    let told = by_distance x half room is_below least greatest in
-    let ends = from_ends x last half e in
-    let n = unsigned_abs x in (
-      (λ t. ends.0 (within_half x half room is_below least greatest (told.0 t))),
-      (λ p. let near = ends.1 p in told.1 (inl (omega (arith, other, least, mul-le n n half half near near)))),
+-- the run of a chord's places
+in_run : (i first end : ℕ) (x : ℤ) (room to_right : ℕ) (is_below : Bool)
+    → (pos 0 ≤ℤ x → IsTrue (is_inside_chord x room is_below) ↔ (square x <ℤ pos to_right))
+    → (i < first → IsBeforeChord x (room + 1)) → (first ≤ i → IsBeforeChord x (room + 1) → ⊥)
+    → (i < end → IsBeforeEnd x to_right) → (end ≤ i → IsBeforeEnd x to_right → ⊥)
+    → ((first ≤ i) × (i < end)) ↔ IsTrue (is_inside_chord x room is_below)
+in_run i first end x room to_right is_below right before not_before until not_until =
+    let left = inside_left x room is_below in (
+      (λ run. by_lt_z x (pos 0)
+          (λ h. by_lt_z (square x) (pos (room + 1))
+          (λ near. (left h).1 near)
+          (λ far. absurd (not_before run.0 (h, far))))
+          (λ h. elim (until run.1) [
+            | inl other ↦ absurd (omega (arith, ints, h, other))
+            | inr near ↦ (right h).1 near
+          ])),
+      (λ inside. (
+        elim (cases_lt i first) [
+          | inl early ↦
+              let far = before early in
+              absurd (omega (arith, ints, far.1, (left far.0).0 inside))
+          | inr late ↦ late
+        ],
+        elim (cases_lt i end) [
+          | inl early ↦ early
+          | inr late ↦ by_lt_z x (pos 0)
+              (λ h. absurd (not_until late (inl h)))
+              (λ h. absurd (not_until late (inr ((right h).0 inside))))
+        ],
+      )),
     )
 
--- the chord ends on the circle
-pub closed_end : (x last : ℤ) (half room : ℕ) (is_below : Bool) → half * half ≡ room
-    → (half ≡ 0 → IsTrue is_below → ⊥) → last ≡ pos half -ℤ pos 1
-    → IsTrue (is_inside_chord x room is_below) ↔ (((pos 0 -ℤ pos half) ≤ℤ x) × (x ≤ℤ last))
-closed_end x last half room is_below whole higher e =
-    let told = by_distance x half room is_below (omega (arith, whole)) (omega (arith, whole)) in
-    let inner = rw whole at (squares_less (unsigned_abs x) half) in (
-      (λ t. elim (told.0 t) [
-        | inl less ↦ let near = inner.0 less in (omega (arith, ints), omega (arith, ints))
-        | inr both ↦ elim both.1 [
-          | inl left ↦ (omega (arith, ints, both.0), omega (arith, ints, left))
-          | inr on ↦ elim (cases_lt 0 half) [
-            | inl some ↦ (omega (arith, ints, both.0), omega (arith, ints, on.0))
-            | inr none ↦ absurd (higher (omega (arith, none)) on.1)
-          ]
-        ]
-      ]),
-      (λ p. told.1 (by_lt_z x (pos 0)
-          (λ left. inr (omega (arith, ints, p.0), inl left))
-          (λ right. inl (inner.1 (omega (arith, ints, p.1)))))),
+-- one bit of a row of the circle through u
+pub circle_bit : (B : Type 0) (i first end count : ℕ) (u v : Vector) (radius height to_right : ℕ) (is_below : Bool)
+    → IsTrue (is_in_circle u v) ↔ IsTrue (is_inside_chord v.x (radius - height) is_below)
+    → (pos 0 ≤ℤ v.x → IsTrue (is_inside_chord v.x (radius - height) is_below) ↔ (square v.x <ℤ pos to_right))
+    → end ≤ count
+    → (i < first → IsBeforeChord v.x (radius - height + 1))
+    → (i < count → first ≤ i → IsBeforeChord v.x (radius - height + 1) → ⊥)
+    → (i < end → IsBeforeEnd v.x to_right)
+    → (i < count → end ≤ i → IsBeforeEnd v.x to_right → ⊥)
+    → B ↔ ((first ≤ i) × (i < end)) → B ↔ ((i < count) × IsTrue (is_in_circle u v))
+circle_bit B i first end count u v radius height to_right is_below circle right within before not_before until
+    not_until told =
+    let run : i < count → ((first ≤ i) × (i < end)) ↔ IsTrue (is_inside_chord v.x (radius - height) is_below) =
+    λ h. in_run i first end v.x (radius - height) to_right is_below right before (not_before h) until (not_until h) in (
+      (λ set.
+          let ends = told.0 set in
+          let inside : i < count = omega (arith, ends.1, within) in
+          (inside, circle.1 ((run inside).0 ends))),
+      (λ on. told.1 ((run on.0).1 (circle.0 on.1))),
     )
+
+-- what lies before the chord lies before its end
+pub ends_ordered : (first end count : ℕ) (x : ℕ → ℤ) (room to_right : ℕ) → first ≤ count
+    → ((i : ℕ) → i < first → IsBeforeChord (x i) room)
+    → ((i : ℕ) → end ≤ i → i < count → IsBeforeEnd (x i) to_right → ⊥) → first ≤ end
+ends_ordered first end count x room to_right within before after =
+    elim (cases_lt end first) [
+      | inl less ↦ absurd (after end (omega arith) (omega arith) (inl (before end less).0))
+      | inr order ↦ order
+    ]
+
+-- a row above or below the circle
+pub over_circle : (u v : Vector) (radius height : ℕ) → pos radius ≡ dot u u → pos height ≡ square v.y
+    → radius < height → IsTrue (is_in_circle u v) → ⊥
+over_circle u v radius height e f over inside =
+    let either = less_or_tied (dot v v) (dot u u) (is_less v.x (pos 0) (int_lt v.y (pos 0))) in
+    elim (either.0 inside) [
+      | inl less ↦ omega (arith, ints, less, square_is v.x)
+      | inr both ↦ omega (arith, ints, both.0, square_is v.x)
+    ]
 
 -- where a row is below, by the coordinates
 same_order : (a b m n : ℤ) → (a <ℤ b → m <ℤ n) → (b ≤ℤ a → n ≤ℤ m) → int_lt a b ≡ int_lt m n
@@ -188,39 +182,3 @@ leads_down d a b slant e =
       | inl level ↦ absurd (slant ((Decides-int_eq d.y (pos 0)).0 level))
       | inr other ↦ rw other (same_order a b d.y (pos 0) (λ h. omega (arith, ints)) (λ h. omega (arith, ints)))
     ]
-
--- the side of a chord, by the cross product with it
-pub left_or_on : (d v : Vector) (z : ℤ) → z ≡ cross d v → leads_down_or_right d ≡ true
-    → IsTrue (is_left_of_chord d v) ↔ (pos 0 ≤ℤ z)
-left_or_on d v z e holds = rw e (at_most_by_tie (pos 0) (cross d v) (leads_down_or_right d) holds)
-
-pub left_alone : (d v : Vector) (z : ℤ) → z ≡ cross d v → leads_down_or_right d ≡ false
-    → IsTrue (is_left_of_chord d v) ↔ (pos 0 <ℤ z)
-left_alone d v z e fails = rw e (less_by_tie (pos 0) (cross d v) (leads_down_or_right d) fails)
-
--- what a cap keeps of its circle
-right_of : (inside left : Bool)
-    → IsTrue (inside && (if false then true else (if true then (if left then false else true) else left)))
-    ↔ (IsTrue inside × (IsTrue left → ⊥))
-right_of inside left = grind arith
-
-left_of : (inside left : Bool)
-    → IsTrue (inside && (if false then true else (if false then (if left then false else true) else left)))
-    ↔ (IsTrue inside × IsTrue left)
-left_of inside left = grind arith
-
-pub right_cap : (s : Spot) (c : Cap) → is_full_circle c ≡ false → c.ccw ≡ true
-    → IsTrue (is_in_cap s c)
-    ↔ (IsTrue (is_in_circle (way c.centre c.from) (seen_from c.centre s))
-    × (IsTrue (is_left_of_chord (way c.from c.to) (seen_from c.from s)) → ⊥))
-right_cap s c part ccw =
-    rw (part, ccw) (right_of (is_in_circle (way c.centre c.from) (seen_from c.centre s))
-    (is_left_of_chord (way c.from c.to) (seen_from c.from s)))
-
-pub left_cap : (s : Spot) (c : Cap) → is_full_circle c ≡ false → c.ccw ≡ false
-    → IsTrue (is_in_cap s c)
-    ↔ (IsTrue (is_in_circle (way c.centre c.from) (seen_from c.centre s))
-    × IsTrue (is_left_of_chord (way c.from c.to) (seen_from c.from s)))
-left_cap s c part clockwise =
-    rw (part, clockwise) (left_of (is_in_circle (way c.centre c.from) (seen_from c.centre s))
-    (is_left_of_chord (way c.from c.to) (seen_from c.from s)))

@@ -8,8 +8,8 @@ use Rattle.cam_units.specs.Board.{place_limit}
 use Rattle.cam_shapes.specs.declared.vector.Vector.{Vector}
 use Rattle.cam_shapes.specs.Plane.{dot, square}
 use Rattle.cam_shapes.proofs.Widths.{square_is}
-use Rattle.cam_rows.specs.Chords.{AreShort, IsBeforeChord, IsBeforeEnd, offset}
-use Rattle.cam_rows.specs.Turns.{Falls}
+use Rattle.cam_rows.specs.Machinery.Chords.{AreShort, IsBeforeChord, IsBeforeEnd, offset}
+use Rattle.cam_rows.specs.Machinery.Turns.{Falls}
 
 -- how far centres lie from a point
 pub offset_is : (x step middle first pitch : ℤ) (i : ℕ) → first ≡ x -ℤ middle → pitch ≡ step

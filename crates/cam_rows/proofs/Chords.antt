@@ -14,7 +14,7 @@ use Rattle.cam_shapes.specs.Box.{IsInRectangle}
 use Rattle.cam_shapes.proofs.Reaches.{other_leg}
 use Rattle.cam_shapes.proofs.Strokes.{dot_is}
 use Rattle.cam_rows.specs.declared.centres.Centres.{Centres}
-use Rattle.cam_rows.specs.Columns.{IsInColumns}
+use Rattle.cam_rows.specs.Machinery.Columns.{IsInColumns}
 use Rattle.cam_rows.specs.Rows.{Marks}
 use Rattle.cam_rows.proofs.Circling.{square_of}
 use Rattle.cam_rows.proofs.Marked.{marks_none, marks_same}

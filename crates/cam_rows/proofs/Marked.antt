@@ -1,17 +1,10 @@
 -- Rows of what two shapes hold.
-use Rattle.std.proofs.Common.{◌≡◌, ℕ, ◌^◌, ◌<◌, ◌↔◌, ◌⊎◌, bit_and, bit_or, arith}
+use Rattle.std.proofs.Common.{◌≡◌, ℕ, ◌^◌, ◌<◌, ◌↔◌, ◌⊎◌, bit_and, arith}
 use Rattle.std.specs.Int.{IsBitSet, bit_not, w64}
 use Rattle.cam_units.specs.declared.point.Spot.{Spot}
 use Rattle.cam_rows.specs.declared.centres.Centres.{Centres}
 use Rattle.cam_rows.specs.Rows.{Marks, centre_at}
-use Rattle.cam_rows.proofs.SetBits.{none_set, set_in_and, set_in_or, set_in_rest}
-
--- of a centre: one bit by the bits of two rows
-pub in_both : (r a b k P Q R : Type 0) → (r ↔ (a × b)) → (a ↔ (k × P)) → (b ↔ (k × Q)) → (k → R ↔ (P × Q)) → r ↔ (k × R)
-in_both r a b k P Q R join first second meaning = (
-  (λ set. let p = first.0 (join.0 set).0 in let q = second.0 (join.0 set).1 in (p.0, (meaning p.0).1 (p.1, q.1))),
-  (λ on. let p = (meaning on.0).0 on.1 in join.1 (first.1 (on.0, p.0), second.1 (on.0, p.1))),
-)
+use Rattle.cam_rows.proofs.SetBits.{none_set, set_in_rest}
 
 pub in_either : (r a b k P Q R : Type 0) → (r ↔ (a ⊎ b)) → (a ↔ (k × P)) → (b ↔ (k × Q)) → (k → R ↔ (P ⊎ Q))
     → r ↔ (k × R)
@@ -35,18 +28,6 @@ in_same r k P Q told meaning = (
 -- what is told of a shape's centres by those of two others
 abbrev pub AtCentres : Centres → (Spot → Type 0) → Type 0
 AtCentres c Holds = (i : ℕ) → i < c.count → Holds (centre_at c i)
-
-pub marks_both : (a b : ℕ) (c : Centres) (P Q R : Spot → Type 0) → Marks a c P → Marks b c Q
-    → AtCentres c (λ s. R s ↔ (P s × Q s)) → Marks (bit_and a b) c R
-marks_both a b c P Q R first second meaning i within =
-    in_both (IsBitSet (bit_and a b) i) (IsBitSet a i) (IsBitSet b i) (i < c.count) (P (centre_at c i))
-    (Q (centre_at c i)) (R (centre_at c i)) (set_in_and a b i) (first i within) (second i within) (meaning i)
-
-pub marks_either : (a b : ℕ) (c : Centres) (P Q R : Spot → Type 0) → Marks a c P → Marks b c Q
-    → AtCentres c (λ s. R s ↔ (P s ⊎ Q s)) → Marks (bit_or a b) c R
-marks_either a b c P Q R first second meaning i within =
-    in_either (IsBitSet (bit_or a b) i) (IsBitSet a i) (IsBitSet b i) (i < c.count) (P (centre_at c i))
-    (Q (centre_at c i)) (R (centre_at c i)) (set_in_or a b i) (first i within) (second i within) (meaning i)
 
 pub marks_rest : (a b : ℕ) (c : Centres) (P Q R : Spot → Type 0) → b < 2 ^ 64 → Marks a c P → Marks b c Q
     → AtCentres c (λ s. R s ↔ (P s × (Q s → ⊥))) → Marks (bit_and a (bit_not w64 b)) c R

@@ -11,7 +11,7 @@ use Rattle.cam_shapes.specs.declared.vector.Vector.{Vector}
 use Rattle.cam_shapes.specs.Box.{IsAlong, IsInObround, IsRounded, from_left_end, from_right_end, swapped}
 use Rattle.cam_shapes.specs.Plane.{IsWithin, seen_from}
 use Rattle.cam_shapes.proofs.Strokes.{dot_is, squares_order}
-use Rattle.cam_rows.specs.Quarters.{IsInQuarter, past}
+use Rattle.cam_rows.specs.Machinery.Quarters.{IsInQuarter, past}
 use Rattle.cam_rows.proofs.Circling.{below_root}
 
 -- a place near a stretch of the line, by how far it is past the stretch and how far beside it

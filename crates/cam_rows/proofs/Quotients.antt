@@ -7,7 +7,7 @@ use Rattle.std.proofs.lemmas.Int.{fits_signed_from_abs, ints}
 use Rattle.std.proofs.lemmas.Nat.{mul-le}
 use Rattle.cam_units.proofs.Ring.{Atom, Difference, Product, Sum, equal}
 use Rattle.cam_shapes.proofs.Widths.{wide}
-use Rattle.cam_rows.specs.Slopes.{IsDivisor, IsRest, whole}
+use Rattle.cam_rows.specs.Machinery.Slopes.{IsDivisor, IsRest, whole}
 
 -- a number, a divisor and their quotient, where the number is not negative
 least_natural : (a b q : ℕ) → 0 < b → q ≡ a / b → (pos q *ℤ pos b) ≤ℤ pos a

@@ -7,7 +7,8 @@ use Rattle.std.proofs.lemmas.Int.{ints}
 use Rattle.cam_shapes.proofs.Widths.{narrow, wide}
 use Rattle.cam_rows.specs.declared.slope.LongSlope.TheInside.{Inside}
 use Rattle.cam_rows.specs.declared.slope.ShortSlope.TheInside.{Inside as ShortInside}
-use Rattle.cam_rows.specs.Slopes.{IsRest, IsShortSlope, IsSlope, Sloped, lowered, short_sloped, sloped, widened}
+use Rattle.cam_rows.specs.Machinery.Slopes.{IsRest, IsShortSlope, IsSlope, Sloped}
+use Rattle.cam_rows.specs.Machinery.Slopes.{lowered, short_sloped, sloped, widened}
 use Rattle.cam_rows.proofs.SlopeParts.{few_rest, few_whole, many_rest, many_whole, with_rest, with_whole}
 
 -- how 64 bits compute them

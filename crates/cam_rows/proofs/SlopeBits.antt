@@ -6,7 +6,8 @@ use Rattle.cam_units.proofs.Ring.{Atom, Difference, Product, Sum, equal}
 use Rattle.cam_rows.specs.declared.slope.Side.{Side}
 use Rattle.cam_rows.specs.declared.slope.Side.TheVariants.{Left, Right, Level}
 use Rattle.cam_rows.specs.declared.slope.LongSlope.TheInside.{Inside}
-use Rattle.cam_rows.specs.Slopes.{IsBeside, IsDivisor, IsRest, IsSlope, Sloped, number_on, numbers, sloped, whole}
+use Rattle.cam_rows.specs.Machinery.Slopes.{IsBeside, IsDivisor, IsRest, IsSlope, Sloped}
+use Rattle.cam_rows.specs.Machinery.Slopes.{number_on, numbers, sloped, whole}
 
 -- a number is negative where its quotient is
 natural_whole : (a b : ℕ) (r : ℤ) → pos 0 ≤ℤ r → pos 0 ≤ℤ whole (pos a) (pos b) r

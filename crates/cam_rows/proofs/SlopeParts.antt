@@ -9,7 +9,7 @@ use Rattle.cam_shapes.proofs.Widths.{wide}
 use Rattle.cam_rows.specs.declared.slope.Side.{Side}
 use Rattle.cam_rows.specs.declared.slope.Side.TheVariants.{Left, Right, Level}
 use Rattle.cam_rows.specs.declared.slope.LongSlope.TheInside.{Inside}
-use Rattle.cam_rows.specs.Slopes.{IsDivisor, IsRest, IsSlope, Sloped, lowered, numbers, sloped, whole}
+use Rattle.cam_rows.specs.Machinery.Slopes.{IsDivisor, IsRest, IsSlope, Sloped, lowered, numbers, sloped, whole}
 use Rattle.cam_rows.proofs.Quotients.{kept_divisor, kept_number, kept_rest, short_part}
 
 -- a number n by its quotient and its remainder

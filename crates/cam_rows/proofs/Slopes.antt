@@ -1,7 +1,6 @@
 -- Numbers at the centres of rows, one row below another.
-use Rattle.std.proofs.Common.{◌≡◌, ◌↔◌, ℕ, ◌+◌, ◌-◌, ◌<◌, ◌^◌, ℤ, pos, ◌+ℤ◌, ◌-ℤ◌, ◌*ℤ◌, ◌≤ℤ◌, ◌<ℤ◌}
+use Rattle.std.proofs.Common.{◌≡◌, ℕ, ◌+◌, ◌-◌, ◌<◌, ◌^◌, ℤ, pos, ◌+ℤ◌, ◌-ℤ◌, ◌*ℤ◌}
 use Rattle.std.proofs.Common.{ap, sym, ◌∙◌, arith}
-use Rattle.std.specs.Int.{IsBitSet}
 use Rattle.std.specs.Int.RustNames.{unsigned_abs}
 use Rattle.std.proofs.lemmas.Int.{ints}
 use Rattle.cam_units.specs.declared.point.Point.{Point}
@@ -9,11 +8,10 @@ use Rattle.cam_units.specs.declared.point.Spot.{Spot}
 use Rattle.cam_units.specs.Board.{IsInReach, IsOnBoard}
 use Rattle.cam_units.proofs.Ring.{Atom, Difference, Product, Sum, equal}
 use Rattle.cam_shapes.specs.Plane.{IsShort, cross, dot, seen_from, way}
-use Rattle.cam_shapes.proofs.Widths.{cross_bound, dot_bound, wide}
+use Rattle.cam_shapes.proofs.Widths.{cross_bound}
 use Rattle.cam_rows.specs.declared.centres.Centres.{Centres}
-use Rattle.cam_rows.specs.Rows.{IsRow, Marks, centre_at, row_below}
-use Rattle.cam_rows.specs.Slopes.{Sloped, lowered, number_on}
-use Rattle.cam_rows.proofs.Marked.{in_same}
+use Rattle.cam_rows.specs.Rows.{IsRow, centre_at, row_below}
+use Rattle.cam_rows.specs.Machinery.Slopes.{Sloped, lowered, number_on}
 
 -- no steps, and one more step
 pub no_steps : (x step : ℤ) → x +ℤ pos 0 *ℤ step ≡ x
@@ -67,30 +65,11 @@ first_in_reach c row = row.centres 0 (omega (arith, row.count.0))
 pub first_is : (s : Sloped) (k : ℕ) (z : ℤ) → number_on (lowered k s) 0 ≡ z → (lowered k s).first ≡ z
 first_is s k z e = sym (no_steps (s.first +ℤ pos k *ℤ s.down) s.step) ∙ e
 
-short_cross : (p q : Point) (c : Centres) → IsOnBoard p → IsOnBoard q → IsRow c
+pub short_cross : (p q : Point) (c : Centres) → IsOnBoard p → IsOnBoard q → IsRow c
     → unsigned_abs (cross (way p q) (seen_from p (centre_at c 0))) < 2 ^ 67
 short_cross p q c h m row =
     cross_bound (way p q) (seen_from p (centre_at c 0)) (short_way p q h m)
     (short_seen p (centre_at c 0) h (first_in_reach c row))
-
-short_number : (a z : ℤ) → a ≡ z → unsigned_abs z < 2 ^ 67 → unsigned_abs a < 2 ^ 100
-short_number a z e h = omega (arith, rw (← e) at h)
-
-pub short_across : (s : Sloped) (p q : Point) (c : Centres) (k : ℕ) → IsOnBoard p → IsOnBoard q → IsRow (row_below c k)
-    → ((k i : ℕ) → number_on (lowered k s) i ≡ cross (way p q) (seen_from p (centre_at (row_below c k) i)))
-    → unsigned_abs (lowered k s).first < 2 ^ 100
-short_across s p q c k h m row value =
-    let side = cross (way p q) (seen_from p (centre_at (row_below c k) 0)) in
-    short_number (lowered k s).first side (first_is s k side (value k 0)) (short_cross p q (row_below c k) h m row)
-
-pub short_along : (s : Sloped) (p q : Point) (c : Centres) (k : ℕ) → IsOnBoard p → IsOnBoard q → IsRow (row_below c k)
-    → ((k i : ℕ) → number_on (lowered k s) i ≡ dot (way p q) (seen_from p (centre_at (row_below c k) i)))
-    → unsigned_abs (lowered k s).first < 2 ^ 100
-short_along s p q c k h m row value =
-    let seen = seen_from p (centre_at (row_below c k) 0) in
-    short_number (lowered k s).first (dot (way p q) seen) (first_is s k (dot (way p q) seen) (value k 0))
-    (dot_bound (way p q) seen (short_way p q h m)
-    (short_seen p (centre_at (row_below c k) 0) h (first_in_reach (row_below c k) row)))
 
 -- the numbers of the rows below, by those of the top one
 below_first : (f t z w d : ℤ) (k i : ℕ) → f +ℤ pos i *ℤ t ≡ z → z +ℤ pos k *ℤ d ≡ w
@@ -148,62 +127,3 @@ cross_below p q c s k i e down =
 
 pub stepped : (k : ℕ) (s : Sloped) → 0 < k → lowered 1 (lowered (k - 1) s) ≡ lowered k s
 stepped k s some = lowered_more (k - 1) s ∙ ap (λ n. lowered n s) (omega arith)
-
--- the numbers of a side, less 1, which are not negative strictly on it
-less_number : (f t z : ℤ) (i : ℕ) → f +ℤ pos i *ℤ t ≡ z → (f -ℤ pos 1) +ℤ pos i *ℤ t ≡ z -ℤ pos 1
-less_number f t z i e =
-    equal
-    (Sum (Difference (Atom f) (Atom (pos 1))) (Product (Atom (pos i)) (Atom t)))
-    (Difference (Sum (Atom f) (Product (Atom (pos i)) (Atom t))) (Atom (pos 1)))
-    (omega arith)
-    ∙ ap (λ n. n -ℤ pos 1) e
-
-less_below : (z w d : ℤ) (k : ℕ) → z +ℤ pos k *ℤ d ≡ w → (z -ℤ pos 1) +ℤ pos k *ℤ d ≡ w -ℤ pos 1
-less_below z w d k e =
-    equal
-    (Sum (Difference (Atom z) (Atom (pos 1))) (Product (Atom (pos k)) (Atom d)))
-    (Difference (Sum (Atom z) (Product (Atom (pos k)) (Atom d))) (Atom (pos 1)))
-    (omega arith)
-    ∙ ap (λ n. n -ℤ pos 1) e
-
-pub kept_less : (z : ℤ) → unsigned_abs z < 2 ^ 100 → wide (wide z -ℤ pos 1) ≡ z -ℤ pos 1
-kept_less z h = omega (arith, ints)
-
-pub less_short : (f t : ℤ) (p q : Point) (c : Centres) → IsOnBoard p → IsOnBoard q → IsRow c
-    → f +ℤ pos 0 *ℤ t ≡ cross (way p q) (seen_from p (centre_at c 0)) → unsigned_abs (f -ℤ pos 1) < 2 ^ 100
-less_short f t p q c h m row e = omega (arith, ints, rw (← (sym (no_steps f t) ∙ e)) at (short_cross p q c h m row))
-
-pub left_below : (p q : Point) (c : Centres) (s : Sloped) (f : ℤ) (k i : ℕ)
-    → f +ℤ pos i *ℤ s.step ≡ cross (way p q) (seen_from p (centre_at c i)) → s.first ≡ f -ℤ pos 1
-    → s.down ≡ pos 0 -ℤ (way p q).x *ℤ c.step
-    → number_on (lowered k s) i ≡ cross (way p q) (seen_from p (centre_at (row_below c k) i)) -ℤ pos 1
-left_below p q c s f k i e less down =
-    let here = cross (way p q) (seen_from p (centre_at c i)) in
-    let there = cross (way p q) (seen_from p (centre_at (row_below c k) i)) in
-    below_first s.first s.step (here -ℤ pos 1) (there -ℤ pos 1) s.down k i
-    (rw less (less_number f s.step here i e))
-    (less_below here there s.down k
-    (lower_cross (way p q).x (way p q).y (seen_from p (centre_at c i)).x c.first.y p.y c.step s.down k down))
-
--- the slope of a side, less 1
-abbrev pub IsLeftSlope : Sloped → Point → Point → Centres → Type 0
-IsLeftSlope s p q c =
-    (k i : ℕ) → number_on (lowered k s) i ≡ cross (way p q) (seen_from p (centre_at (row_below c k) i)) -ℤ pos 1
-
-pub short_left : (s : Sloped) (p q : Point) (c : Centres) (k : ℕ) → IsOnBoard p → IsOnBoard q → IsRow (row_below c k)
-    → IsLeftSlope s p q c → unsigned_abs (lowered k s).first < 2 ^ 100
-short_left s p q c k h m row value =
-    let side = cross (way p q) (seen_from p (centre_at (row_below c k) 0)) in
-    let bound : unsigned_abs side < 2 ^ 67 = short_cross p q (row_below c k) h m row in
-    rw (first_is s k (side -ℤ pos 1) (value k 0)) (omega (arith, ints, bound))
-
-natural_less : (n z : ℤ) → n ≡ z -ℤ pos 1 → (pos 0 <ℤ z) ↔ (pos 0 ≤ℤ n)
-natural_less n z e = ((λ h. omega (arith, ints)), (λ h. omega (arith, ints)))
-
-pub marks_left : (row : ℕ) (s : Sloped) (p q : Point) (c : Centres) (k : ℕ) → IsLeftSlope s p q c → s.count ≡ c.count
-    → ((i : ℕ) → i < 64 → IsBitSet row i ↔ ((i < s.count) × (pos 0 ≤ℤ number_on (lowered k s) i)))
-    → Marks row (row_below c k) (λ z. pos 0 <ℤ cross (way p q) (seen_from p z))
-marks_left row s p q c k value same bits = λ i small.
-    in_same (IsBitSet row i) (i < c.count) (pos 0 ≤ℤ number_on (lowered k s) i) _ (rw same at (bits i small))
-    (λ _. natural_less (number_on (lowered k s) i) (cross (way p q) (seen_from p (centre_at (row_below c k) i)))
-    (value k i))

@@ -14,7 +14,7 @@ use Rattle.cam_shapes.proofs.Vectors.{same_vector}
 use Rattle.cam_shapes.proofs.Widths.{wide}
 use Rattle.cam_rows.specs.declared.centres.Centres.{Centres}
 use Rattle.cam_rows.specs.declared.linear.Linear.{Linear}
-use Rattle.cam_rows.specs.Linear.{number_at}
+use Rattle.cam_rows.specs.Machinery.Linear.{number_at}
 use Rattle.cam_rows.specs.Rows.{centre_at}
 
 pub no_steps : (x step : ℤ) → x +ℤ pos 0 *ℤ step ≡ x

@@ -1,14 +1,3 @@
-pub mod Beside
-pub mod Chords
-pub mod Columns
-pub mod Forms
 pub mod Lanes
-pub mod Linear
-pub mod Quarters
-pub mod Rings
+pub mod Machinery
 pub mod Rows
-pub mod Slopes
-pub mod Sweeps
-pub mod Ties
-pub mod Turns
-pub mod Ways

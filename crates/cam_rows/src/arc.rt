@@ -1,14 +1,16 @@
 //! Rows of an arc's stroke.
 
-ghost use Rattle.std.specs.Prelude.{◌≡◌, ◌^◌, ◌<◌, pos, ◌<ℤ◌, length};
-ghost use Rattle.cam_shapes.specs.Arc.{IsInArc, IsNearCircle, IsSoundArc, IsSwept};
+ghost use Rattle.std.specs.Prelude.{◌≡◌, ◌^◌, ◌<◌, pos, length};
+ghost use Rattle.cam_shapes.specs.Arc.{IsInArc, IsNearCircle, IsSoundArc};
 ghost use Rattle.cam_shapes.specs.Plane.{dot, seen_from, square, way};
-ghost use Rattle.cam_rows.specs.Rings.{IsRingOf};
+ghost use Rattle.cam_rows.specs.Machinery.Kept.{AreKept, Has};
+ghost use Rattle.cam_rows.specs.Machinery.Rings.{IsRingOf};
 ghost use Rattle.cam_rows.specs.Rows.{AreMarked, AreRows, IsRow, Marks};
 
 use crate::centres::Centres;
 use crate::chord::Chord;
 use crate::circle::squared_distance;
+use crate::disc::add_disc;
 use crate::sweep::Sweep;
 use cam_shapes::{Arc, Disc};
 use cam_units::isqrt;
@@ -21,11 +23,9 @@ pub fn arc_row(arc: Arc, centres: Centres) -> u64
     requires row { IsRow centres }
     ensures { Marks result centres (λ s. IsInArc s arc) }
 {
-    if arc.width.0 == 0 {
-        return 0;
-    }
-    let swept = Sweep::of(&arc, &centres).row();
-    StrokeChords::about(&arc, &centres).row(&arc, &ring_of(&arc), swept, &centres)
+    let mut rows = [0];
+    arc_rows(arc, centres, &mut rows);
+    rows[0]
 }
 
 /// The rows of an arc's stroke, one below another from the top one: each is that of [`arc_row`].
@@ -41,80 +41,20 @@ pub fn arc_rows(arc: Arc, top: Centres, rows: &mut [u64])
         rows.fill(0);
         return;
     }
-    let ring = ring_of(&arc);
-    let mut chords = StrokeChords::about(&arc, &top);
-    let mut sweep = Sweep::of(&arc, &top);
-    for (k, row) in rows.iter_mut().enumerate() {
-        if k > 0 {
-            sweep.step_down();
-        }
-        *row = chords.row(&arc, &ring, sweep.row(), &top.below(k));
+    rows.fill(u64::MAX);
+    if Sweep::of(&arc, &top).keep(rows) {
+        ring_of(&arc).keep(&arc, &top, rows);
     }
-}
-
-/// The chords of the circles that bound an arc's stroke, and of the discs about its ends.
-#[derive(Clone, Copy)]
-struct StrokeChords {
-    outer: Chord,
-    inner: Chord,
-    start: Chord,
-    end: Chord,
-}
-
-impl StrokeChords {
-    /// Guesses for an arc's stroke.
-    fn about(arc: &Arc, centres: &Centres) -> StrokeChords
-        requires arc { IsSoundArc arc.now }
-        requires row { IsRow centres.now }
-    {
-        let middle = Chord::about(&arc.centre, centres);
-        StrokeChords {
-            outer: middle,
-            inner: middle,
-            start: Chord::about(&arc.from, centres),
-            end: Chord::about(&arc.to, centres),
-        }
-    }
-
-    /// The row of an arc's stroke, where `swept` is that of the centres in its sweep.
-    fn row(&mut self, arc: &Arc, ring: &Ring, swept: u64, centres: &Centres) -> u64
-        requires arc { IsSoundArc arc.now }
-        requires wide { pos 0 <ℤ arc.now.width.0 }
-        requires ring { IsRingOf ring.now arc.now }
-        requires swept { Marks swept centres.now
-            (λ s. IsSwept arc.now.ccw (way arc.now.centre arc.now.from) (way arc.now.centre arc.now.to)
-            (seen_from arc.now.centre s)) }
-        requires row { IsRow centres.now }
-        ensures { Marks result centres.now (λ s. IsInArc s arc.now) }
-    {
-        let start = Disc {
-            centre: arc.from,
-            diameter: arc.width,
-        };
-        let end = Disc {
-            centre: arc.to,
-            diameter: arc.width,
-        };
-        let ends = self.start.disc_row(&start, centres) | self.end.disc_row(&end, centres);
-        if swept == 0 {
-            return ends;
-        }
-        ends | self.ring_row(arc, ring, centres) & swept
-    }
-
-    /// The row of the centres near an arc's circle.
-    fn ring_row(&mut self, arc: &Arc, ring: &Ring, centres: &Centres) -> u64
-        requires arc { IsSoundArc arc.now }
-        requires ring { IsRingOf ring.now arc.now }
-        requires row { IsRow centres.now }
-        ensures { Marks result centres.now
-            (λ s. IsNearCircle (dot (seen_from arc.now.centre s) (seen_from arc.now.centre s))
-            (dot (way arc.now.centre arc.now.from) (way arc.now.centre arc.now.from)) arc.now.width.0) }
-    {
-        let within_outer = self.outer.circle_row(&arc.centre, ring.outer, centres);
-        let within_inner = self.inner.circle_row(&arc.centre, ring.inner, centres);
-        within_outer & !within_inner
-    }
+    let start = Disc {
+        centre: arc.from,
+        diameter: arc.width,
+    };
+    let end = Disc {
+        centre: arc.to,
+        diameter: arc.width,
+    };
+    add_disc(&start, &top, rows);
+    add_disc(&end, &top, rows);
 }
 
 /// The squares of the distances from an arc's centre at which its stroke begins, and behind which it ends.
@@ -122,6 +62,33 @@ impl StrokeChords {
 struct Ring {
     inner: u128,
     outer: u128,
+}
+
+impl Ring {
+    /// Clears the bits of the centres that are not near an arc's circle, in rows one below another from the top one. It
+    /// looks at no row in which no bit is left.
+    fn keep(&self, arc: &Arc, top: &Centres, rows: &mut [u64])
+        requires arc { IsSoundArc arc.now }
+        requires ring { IsRingOf self.now arc.now }
+        requires rows { AreRows top.now (length rows.old) }
+        ensures { AreKept rows.old
+            (Has top.now (λ s. IsNearCircle (dot (seen_from arc.now.centre s) (seen_from arc.now.centre s))
+            (dot (way arc.now.centre arc.now.from) (way arc.now.centre arc.now.from)) arc.now.width.0)) rows.new }
+    {
+        if rows.is_empty() {
+            return;
+        }
+        let mut outer = Chord::about(&arc.centre, top);
+        let mut inner = outer;
+        for k in 0..rows.len() {
+            if rows[k] != 0 {
+                let centres = top.below(k);
+                let within_outer = outer.circle_row(&arc.centre, self.outer, &centres);
+                let within_inner = inner.circle_row(&arc.centre, self.inner, &centres);
+                rows[k] &= within_outer & !within_inner;
+            }
+        }
+    }
 }
 
 /// Where the circles lie that bound an arc's stroke, by one root.

@@ -4,7 +4,7 @@ ghost use Rattle.std.specs.Prelude.{length};
 ghost use Rattle.cam_shapes.specs.Bar.{IsInBar, IsSoundBar};
 ghost use Rattle.cam_rows.specs.Rows.{AreMarked, AreRows, IsRow, Marks};
 
-use crate::beside::Beside;
+use crate::beside::keep_beside;
 use crate::centres::Centres;
 use cam_shapes::Bar;
 
@@ -15,7 +15,9 @@ pub fn bar_row(bar: Bar, centres: Centres) -> u64
     requires row { IsRow centres }
     ensures { Marks result centres (λ s. IsInBar s bar) }
 {
-    Beside::new(&bar, &centres).row()
+    let mut rows = [0];
+    bar_rows(bar, centres, &mut rows);
+    rows[0]
 }
 
 /// The rows of a bar, one below another from the top one: each is that of [`bar_row`].
@@ -24,14 +26,6 @@ pub fn bar_rows(bar: Bar, top: Centres, rows: &mut [u64])
     requires rows { AreRows top (length rows.old) }
     ensures { AreMarked rows.new top (λ s. IsInBar s bar) }
 {
-    if rows.is_empty() {
-        return;
-    }
-    let mut beside = Beside::new(&bar, &top);
-    for (k, row) in rows.iter_mut().enumerate() {
-        if k > 0 {
-            beside.step_down();
-        }
-        *row = beside.row();
-    }
+    rows.fill(u64::MAX);
+    keep_beside(&bar, &top, rows);
 }

@@ -1,66 +1,40 @@
-//! What lies beside a way, row after row: between the lines across its ends, and near its line.
+//! What lies beside a way: between the lines across its ends, and near its line.
 
-ghost use Rattle.std.specs.Prelude.{◌≡◌, ◌^◌, ◌<◌, ◌↔◌, ℕ, ℤ};
-ghost use Rattle.std.specs.Int.{IsBitSet};
+ghost use Rattle.std.specs.Prelude.{◌^◌, ◌<◌, ◌↔◌, ℤ, length};
 ghost use Rattle.std.specs.Int.RustNames.{unsigned_abs};
-ghost use Rattle.cam_shapes.specs.Bar.{IsSoundBar};
+ghost use Rattle.cam_shapes.specs.Bar.{IsInBar, IsSoundBar};
 ghost use Rattle.cam_shapes.specs.Plane.{dot, way};
-ghost use Rattle.cam_rows.specs.Beside.{AreOfBar, AreShortSlopes, IsHeldByAll, IsInside, IsWithinReach, all_lowered};
-ghost use Rattle.cam_rows.specs.Rows.{IsRow};
+ghost use Rattle.cam_rows.specs.Machinery.Beside.{IsInside, IsWithinReach};
+ghost use Rattle.cam_rows.specs.Machinery.Kept.{AreKept, Has};
+ghost use Rattle.cam_rows.specs.Rows.{AreRows};
 
 use crate::centres::Centres;
 use crate::circle::squared_distance;
-use crate::slope::{Slope, along_slope};
-use crate::way::{Way, across};
+use crate::half_plane::HalfPlane;
 use cam_shapes::Bar;
 use cam_units::isqrt;
 
-/// The inside of a bar by four half planes: past its start, before its end, and between its long edges, which lie where
-/// the cross product with its way is as far from 0 as its reach.
-#[derive(Drop)]
-pub(crate) struct Beside {
-    start: Slope,
-    end: Slope,
-    left: Slope,
-    right: Slope,
-}
-
-impl Beside {
-    /// A bar from the top row on, by one root and a few divisions. It holds nothing where its width or its length is 0.
-    pub(crate) fn new(bar: &Bar, top: &Centres) -> Beside
-        requires bar { IsSoundBar bar.now }
-        requires row { IsRow top.now }
-        ensures { AreOfBar result bar.now top.now }
-    {
-        let Bar { from, to, .. } = *bar;
-        let left = across(&from, &to, top);
-        let down = Way::between(&from, &to).turned_left().dot_down(top);
-        let reach = reach_of(bar);
-        Beside {
-            start: along_slope(&from, &to, top),
-            end: along_slope(&to, &from, top),
-            left: Slope::new(&left.raised(reach), down, top.count),
-            right: Slope::new(&left.opposite().raised(reach), -down, top.count),
-        }
+/// Clears the bits of the centres outside of a bar, in rows one below another from the top one: by the four half
+/// planes whose inside it is, one after another while bits are left. It needs no root where the rows lie before the
+/// bar's start or behind its end.
+pub(crate) fn keep_beside(bar: &Bar, top: &Centres, rows: &mut [u64])
+    requires bar { IsSoundBar bar.now }
+    requires rows { AreRows top.now (length rows.old) }
+    ensures { AreKept rows.old (Has top.now (λ s. IsInBar s bar.now)) rows.new }
+{
+    if rows.is_empty() {
+        return;
     }
-
-    /// The row of the centres in the bar.
-    pub(crate) fn row(&self) -> u64
-        ensures { (i : ℕ) → i < 64 → IsBitSet result i ↔ IsHeldByAll self.now i }
-    {
-        self.start.row() & self.end.row() & self.left.row() & self.right.row()
+    let Bar { from, to, .. } = *bar;
+    if !HalfPlane::ahead(&from, &to, top).keep(rows) {
+        return;
     }
-
-    /// Goes to the next row.
-    pub(crate) fn step_down(&mut self)
-        requires here { AreShortSlopes self.old }
-        requires there { AreShortSlopes (all_lowered 1 self.old) }
-        ensures { self.new ≡ all_lowered 1 self.old }
-    {
-        self.start.step_down();
-        self.end.step_down();
-        self.left.step_down();
-        self.right.step_down();
+    if !HalfPlane::ahead(&to, &from, top).keep(rows) {
+        return;
+    }
+    let reach = reach_of(bar);
+    if HalfPlane::left(&from, &to, reach, top).keep(rows) {
+        HalfPlane::left(&to, &from, reach, top).keep(rows);
     }
 }
 

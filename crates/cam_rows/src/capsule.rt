@@ -4,9 +4,9 @@ ghost use Rattle.std.specs.Prelude.{length};
 ghost use Rattle.cam_shapes.specs.Bar.{IsInCapsule, IsSoundCapsule};
 ghost use Rattle.cam_rows.specs.Rows.{AreMarked, AreRows, IsRow, Marks};
 
-use crate::beside::Beside;
+use crate::bar::bar_rows;
 use crate::centres::Centres;
-use crate::chord::Chord;
+use crate::disc::add_disc;
 use cam_shapes::{Bar, Capsule, Disc};
 
 /// The centres in a capsule or on its edge: those in the discs about its ends, and those beside the way between them;
@@ -28,9 +28,6 @@ pub fn capsule_rows(capsule: Capsule, top: Centres, rows: &mut [u64])
     requires rows { AreRows top (length rows.old) }
     ensures { AreMarked rows.new top (λ s. IsInCapsule s capsule) }
 {
-    if rows.is_empty() {
-        return;
-    }
     let Capsule { from, to, width } = capsule;
     let start = Disc {
         centre: from,
@@ -40,15 +37,7 @@ pub fn capsule_rows(capsule: Capsule, top: Centres, rows: &mut [u64])
         centre: to,
         diameter: width,
     };
-    let mut start_chord = Chord::about(&from, &top);
-    let mut end_chord = Chord::about(&to, &top);
-    let mut beside = Beside::new(&Bar { from, to, width }, &top);
-    for (k, row) in rows.iter_mut().enumerate() {
-        if k > 0 {
-            beside.step_down();
-        }
-        let centres = top.below(k);
-        let ends = start_chord.disc_row(&start, &centres) | end_chord.disc_row(&end, &centres);
-        *row = ends | beside.row();
-    }
+    bar_rows(Bar { from, to, width }, top, rows);
+    add_disc(&start, &top, rows);
+    add_disc(&end, &top, rows);
 }

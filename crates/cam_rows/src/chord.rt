@@ -1,17 +1,19 @@
 //! Chords of a circle, row after row.
 
-ghost use Rattle.std.specs.Prelude.{◌≡◌, ◌^◌, ◌<◌, ◌↔◌, ℕ, IsTrue, pos, ◌≤ℤ◌, ◌<ℤ◌};
+ghost use Rattle.std.specs.Prelude.{◌≡◌, ◌^◌, ◌<◌, ◌↔◌, ℕ, ℤ, IsTrue, pos, ◌≤ℤ◌, ◌<ℤ◌};
 ghost use Rattle.cam_units.specs.Board.{IsOnBoard};
+ghost use Rattle.cam_shapes.specs.Cap.{IsSoundCap, is_in_circle};
 ghost use Rattle.cam_shapes.specs.Disc.{IsInDisc, IsInHole, IsSoundDisc};
-ghost use Rattle.cam_shapes.specs.Plane.{dot, seen_from, square};
-ghost use Rattle.cam_rows.specs.Chords.{AreShort, IsBeforeChord, IsBeforeEnd, offset};
+ghost use Rattle.cam_shapes.specs.Plane.{dot, seen_from, square, way};
+ghost use Rattle.cam_rows.specs.Machinery.Chords.{AreShort, IsBeforeChord, IsBeforeEnd, offset};
+ghost use Rattle.cam_rows.specs.Machinery.Ties.{is_inside_chord};
 ghost use Rattle.cam_rows.specs.Rows.{IsRow, Marks, centre_at};
 
 use crate::bits::bits_between;
 use crate::centres::Centres;
-use crate::circle::squared_height;
+use crate::circle::{squared_distance, squared_height};
 use crate::turns::{RowTest, turn_near};
-use cam_shapes::Disc;
+use cam_shapes::{Cap, Disc};
 use cam_units::Point;
 
 /// Where the chord of one row began and ended, as counts of centres: a guess for the row above or below it, from which
@@ -153,4 +155,39 @@ impl RowTest for BeforeEnd {
         let offset = self.0.at(index);
         offset < 0 || self.0.has_within(offset)
     }
+}
+
+impl Chord {
+    /// The row of the centres in a cap's circle, or on it before its centre, with no root and no division: an end of
+    /// the row's chord is inside where it is left of the middle, or is the circle's lowest place.
+    pub(crate) fn cap_row(&mut self, cap: &Cap, centres: &Centres) -> u64
+        requires cap { IsSoundCap cap.now }
+        requires row { IsRow centres.now }
+        ensures { Marks result centres.now
+            (λ s. IsTrue (is_in_circle (way cap.now.centre cap.now.from) (seen_from cap.now.centre s))) }
+    {
+        let radius = squared_distance(&cap.centre, &cap.from);
+        let height = squared_height(&cap.centre, centres);
+        if height > radius {
+            return 0;
+        }
+        let room = radius - height;
+        let to_right = right_room(room, centres.first.y < 2 * cap.centre.y);
+        let left = Offsets::new(&cap.centre, room + 1, centres);
+        let right = Offsets::new(&cap.centre, to_right, centres);
+        self.first = turn_near(&BeforeChord(left), self.first, centres.count);
+        self.end = turn_near(&BeforeEnd(right), self.end, centres.count);
+        bits_between(self.first, self.end)
+    }
+}
+
+/// What the squares of the places inside a chord are less than, from its middle to the right, where the square of half
+/// the chord is `room`: its end is not inside, but for the middle of the circle's lowest row.
+fn right_room(room: u128, is_below: bool) -> u128
+    ensures { (x : ℤ) → pos 0 ≤ℤ x → IsTrue (is_inside_chord x room is_below) ↔ (square x <ℤ pos result) }
+{
+    if room == 0 && is_below {
+        return 1;
+    }
+    room
 }

@@ -1,17 +1,15 @@
 //! Rows of edges of closed polygons.
 
-ghost use Rattle.std.specs.Prelude.{◌≡◌, ◌≢◌, ◌<◌, ◌↔◌, ℕ, IsTrue, length, pos, ◌-ℤ◌, ◌<ℤ◌};
-ghost use Rattle.std.specs.Int.{IsBitSet};
+ghost use Rattle.std.specs.Prelude.{◌≡◌, ◌≢◌, ◌<◌, ℕ, IsTrue, length, pos, ◌<ℤ◌};
 ghost use Rattle.cam_units.specs.Board.{IsOnBoard};
 ghost use Rattle.cam_shapes.specs.Edge.{crosses_ray, edge, is_above};
 ghost use Rattle.cam_shapes.specs.Plane.{cross, seen_from, way};
-ghost use Rattle.cam_rows.specs.Rows.{AreRows, AreTurned, IsRow, Marks, centre_at, row_below};
-ghost use Rattle.cam_rows.specs.Slopes.{lowered, number_on};
+ghost use Rattle.cam_rows.specs.Rows.{AreRows, AreTurned, IsRow, Marks, row_below};
 
 use crate::centres::Centres;
-use crate::linear::{Linear, positive_row};
-use crate::slope::Slope;
-use crate::way::{Way, across};
+use crate::half_plane::HalfPlane;
+use crate::linear::positive_row;
+use crate::way::across;
 use cam_units::Point;
 
 /// The row of the edge: bit i is set exactly where the edge crosses the ray that goes right from centre i.
@@ -55,7 +53,7 @@ pub fn turn_edge(from: Point, to: Point, top: Centres, rows: &mut [u64])
 }
 
 /// Turns over the bits of the centres strictly left of the line through two points, as it leads from the first to the
-/// second, in rows one below another from the top one. Where the top row and the lowest are alike, all are.
+/// second, in rows one below another from the top one.
 fn turn_left(from: &Point, to: &Point, top: &Centres, rows: &mut [u64])
     requires from { IsOnBoard from.now }
     requires to { IsOnBoard to.now }
@@ -65,35 +63,7 @@ fn turn_left(from: &Point, to: &Point, top: &Centres, rows: &mut [u64])
     if rows.is_empty() {
         return;
     }
-    let highest = left_row(from, to, top);
-    let lowest = left_row(from, to, &top.below(rows.len() - 1));
-    if highest != lowest {
-        turn_by_slope(from, to, top, rows);
-        return;
-    }
-    for k in 0..rows.len() {
-        rows[k] ^= highest;
-    }
-}
-
-/// Turns over the bits of the centres strictly left of the line through two points, as it leads from the first to the
-/// second, in rows one below another from the top one: by the slope of the line.
-fn turn_by_slope(from: &Point, to: &Point, top: &Centres, rows: &mut [u64])
-    requires from { IsOnBoard from.now }
-    requires to { IsOnBoard to.now }
-    requires rows { AreRows top.now (length rows.old) }
-    ensures { AreTurned rows.old top.now (λ s. pos 0 <ℤ cross (way from.now to.now) (seen_from from.now s)) rows.new }
-{
-    if rows.is_empty() {
-        return;
-    }
-    let mut slope = left_slope(from, to, top);
-    for k in 0..rows.len() {
-        if k > 0 {
-            slope.step_down();
-        }
-        rows[k] ^= slope.row();
-    }
+    HalfPlane::left(from, to, -1, top).turn(rows);
 }
 
 /// Whether the point is higher than the centres.
@@ -112,26 +82,4 @@ fn left_row(from: &Point, to: &Point, centres: &Centres) -> u64
     ensures { Marks result centres.now (λ s. pos 0 <ℤ cross (way from.now to.now) (seen_from from.now s)) }
 {
     positive_row(&across(from, to, centres), centres.count)
-}
-
-/// How far the centres lie to the left of the way from one point to another, less 1, row after row: it is not negative
-/// strictly left of the line through them.
-fn left_slope(from: &Point, to: &Point, top: &Centres) -> Slope
-    requires from { IsOnBoard from.now }
-    requires to { IsOnBoard to.now }
-    requires row { IsRow top.now }
-    ensures value { (k i : ℕ) → number_on (lowered k result) i
-        ≡ cross (way from.now to.now) (seen_from from.now (centre_at (row_below top.now k) i)) -ℤ pos 1 }
-    ensures count { result.count ≡ top.now.count }
-{
-    let side = across(from, to, top);
-    let less = Linear {
-        first: side.first - 1,
-        step: side.step,
-    };
-    Slope::new(
-        &less,
-        Way::between(from, to).turned_left().dot_down(top),
-        top.count,
-    )
 }

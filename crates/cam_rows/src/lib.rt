@@ -1,23 +1,25 @@
 //! Rows of up to 64 pixel centres of a shape, found at once in place of 64 point tests.
 //!
 //! A shape's row has bit i set exactly where the point test of `cam_shapes` holds at centre i of [`Centres`]; bits
-//! behind the last centre are 0. The ends of runs are found by division: those of a strip, of one side of a line, and
-//! of a circle's chord, half of which is a root. A bar lies between four lines: those across its ends, and its long
-//! edges, whose distance is one root. Masks join by `&` and `|` as the definitions join the parts. None of them rounds,
-//! and no call takes memory. Where a row lies above or below a disc, a rectangle or an obround, or the circle of a cap,
-//! it is 0 before any division or root.
+//! behind the last centre are 0. None of them rounds, and no call takes memory. Runs end where a division tells, and
+//! those of a single row of a disc or an obround by half a chord, which is a root; where the row lies above or below a
+//! disc, a rectangle or an obround, it is 0 before any division or root.
 //!
 //! Each shape has a second call, such as [`disc_rows`], for rows one below another, which finds once what they share.
-//! Where a line crosses the rows moves by a quotient and a remainder from each to the next, and to the ends of a chord it
-//! walks from those of the row above: with no root and no division for a row.
+//! A bar is what four half planes keep of full rows, one after another: those across its ends, and those of its long
+//! edges, whose distance is one root. A capsule is a bar to which the discs about its ends are added, an arc what its
+//! sweep and its ring keep, with such discs, and a cap what its side and its circle keep.
+//!
+//! Where the line of a half plane crosses the rows moves by a quotient and a remainder from each to the next, and the
+//! ends of a chord are found by a walk from those of the row above: with no root and no division for a row. Where the
+//! line crosses none of them, all are changed alike.
 //!
 //! - [`disc_row`], [`rect_row`], [`obround_row`], [`hole_row`]: the standard apertures and their holes, one run each.
 //! - [`bar_row`]: a line of a macro; [`capsule_row`], [`arc_row`]: the strokes of a round tool.
 //! - [`edge_row`], [`cap_row`]: parts of a region; [`turn_edge`] turns over what an edge of it changes.
 //! - [`or_rows`], [`clear_rows`], [`xor_rows`]: the 64 rows of a tile; [`pbm_bytes`]: a row in a file.
 //!
-//! What a row is stands in `specs/Rows.antt`, numbers that change from row to row in `specs/Slopes.antt`, and rows
-//! joined lane by lane in `specs/Lanes.antt`.
+//! What a row is stands in `specs/Rows.antt`, rows joined lane by lane in `specs/Lanes.antt`.
 #![tactic(auto)]
 
 mod arc;
@@ -31,7 +33,9 @@ mod chord;
 mod circle;
 mod disc;
 mod edge;
+mod half_plane;
 mod hole;
+mod keeping;
 mod lanes;
 mod linear;
 mod obround;

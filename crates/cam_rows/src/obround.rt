@@ -2,7 +2,7 @@
 
 ghost use Rattle.std.specs.Prelude.{◌^◌, ◌<◌, ◌≤◌, ◌↔◌, ℕ, length};
 ghost use Rattle.cam_shapes.specs.Box.{IsInObround, IsSoundObround};
-ghost use Rattle.cam_rows.specs.Quarters.{IsInQuarter};
+ghost use Rattle.cam_rows.specs.Machinery.Quarters.{IsInQuarter};
 ghost use Rattle.cam_rows.specs.Rows.{AreMarked, AreRows, IsRow, Marks};
 
 use crate::centres::Centres;

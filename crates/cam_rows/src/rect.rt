@@ -2,7 +2,7 @@
 
 ghost use Rattle.std.specs.Prelude.{length};
 ghost use Rattle.cam_shapes.specs.Box.{IsInRectangle, IsSoundRectangle};
-ghost use Rattle.cam_rows.specs.Columns.{IsInColumns};
+ghost use Rattle.cam_rows.specs.Machinery.Columns.{IsInColumns};
 ghost use Rattle.cam_rows.specs.Rows.{AreMarked, AreRows, IsRow, Marks};
 
 use crate::centres::Centres;

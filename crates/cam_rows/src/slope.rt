@@ -1,21 +1,17 @@
 //! Half planes, row after row: where a run ends moves by a quotient and a remainder from each row to the next.
 
-ghost use Rattle.std.specs.Prelude.{◌≡◌, ◌^◌, ◌/◌, ◌<◌, ◌≤◌, ◌↔◌, IsTrue, ℕ, pos, ◌+ℤ◌, ◌*ℤ◌, ◌≤ℤ◌, ◌<ℤ◌};
+ghost use Rattle.std.specs.Prelude.{◌≡◌, ◌-◌, ◌^◌, ◌/◌, ◌<◌, ◌≤◌, ◌↔◌, IsTrue, ℕ, length, pos, ◌+ℤ◌, ◌*ℤ◌, ◌≤ℤ◌, ◌<ℤ◌};
 ghost use Rattle.std.specs.Int.{IsBitSet};
 ghost use Rattle.std.specs.Int.RustNames.{unsigned_abs};
-ghost use Rattle.cam_units.specs.Board.{IsOnBoard};
-ghost use Rattle.cam_shapes.specs.Plane.{cross, dot, seen_from, way};
-ghost use Rattle.cam_rows.specs.Forms.{in_form};
-ghost use Rattle.cam_rows.specs.Linear.{IsShortLinear};
-ghost use Rattle.cam_rows.specs.Rows.{IsRow, centre_at, row_below};
-ghost use Rattle.cam_rows.specs.Slopes.{IsBeside, IsDivisor, IsRest, lowered, number_on, numbers, whole};
+ghost use Rattle.cam_rows.specs.Machinery.Changes.{AreChanged, AreChangedAbove, IsNatural};
+ghost use Rattle.cam_rows.specs.Machinery.Forms.{in_form};
+ghost use Rattle.cam_rows.specs.Machinery.Linear.{IsShortLinear};
+ghost use Rattle.cam_rows.specs.Machinery.Slopes.{IsBeside, IsDivisor, IsRest, lowered, number_on, numbers, whole};
 ghost use Rattle.cam_rows.specs.declared.slope.Side.TheVariants.{Level};
 
 use crate::bits::bits_between;
-use crate::centres::Centres;
+use crate::keeping::Change;
 use crate::linear::Linear;
-use crate::way::{Way, across, along};
-use cam_units::Point;
 use std::marker::Model;
 
 /// Where the numbers are not negative.
@@ -71,7 +67,7 @@ struct LongSlope {
 }
 
 impl Model for ShortSlope {
-    ghost use Rattle.cam_rows.specs.Slopes.{IsShortSlope, Sloped, short_sloped};
+    ghost use Rattle.cam_rows.specs.Machinery.Slopes.{IsShortSlope, Sloped, short_sloped};
 
     ghost Value = { Sloped };
 
@@ -81,7 +77,7 @@ impl Model for ShortSlope {
 }
 
 impl Model for LongSlope {
-    ghost use Rattle.cam_rows.specs.Slopes.{IsSlope, Sloped, sloped};
+    ghost use Rattle.cam_rows.specs.Machinery.Slopes.{IsSlope, Sloped, sloped};
 
     ghost Value = { Sloped };
 
@@ -91,8 +87,8 @@ impl Model for LongSlope {
 }
 
 impl Model for Slope {
-    ghost use Rattle.cam_rows.specs.Forms.{in_form};
-    ghost use Rattle.cam_rows.specs.Slopes.{Sloped};
+    ghost use Rattle.cam_rows.specs.Machinery.Forms.{in_form};
+    ghost use Rattle.cam_rows.specs.Machinery.Slopes.{Sloped};
 
     ghost Value = { Sloped };
 
@@ -131,7 +127,6 @@ impl Slope {
     #[inline]
     pub(crate) fn step_down(&mut self)
         requires here { unsigned_abs self.old.first < 2 ^ 100 }
-        requires there { unsigned_abs (lowered 1 self.old).first < 2 ^ 100 }
         ensures { self.new ≡ lowered 1 self.old }
     {
         let mut longer = match &mut self.form {
@@ -148,6 +143,23 @@ impl Slope {
         };
         longer.step_down();
         self.form = Form::Long(longer);
+    }
+
+    /// Changes rows, one below another from its own on, at the centres at which the number is not negative.
+    pub(crate) fn change(self, change: Change, rows: &mut [u64])
+        requires { (k : ℕ) → k < length rows.old → unsigned_abs (lowered k self).first < 2 ^ 100 }
+        ensures { AreChanged change rows.old (IsNatural self) rows.new }
+    {
+        let (done, mut slope) = match self.form {
+            Form::Short(slope) => slope.change(change, rows),
+            Form::Long(slope) => (0, slope),
+        };
+        for k in done..rows.len() {
+            if k > 0 {
+                slope.step_down();
+            }
+            rows[k] = change.of(rows[k], slope.row());
+        }
     }
 }
 
@@ -177,6 +189,22 @@ impl ShortSlope {
             self.end += 1;
         }
         true
+    }
+
+    /// Changes rows, one below another from its own on, at the centres at which the number is not negative: up to one
+    /// below which it may not fit. It tells how many, and the slope at the last of them.
+    fn change(mut self, change: Change, rows: &mut [u64]) -> (usize, LongSlope)
+        ensures within { result.0 ≤ length rows.old }
+        ensures changed { AreChangedAbove change rows.old (IsNatural self) result.0 rows.new }
+        ensures slope { result.0 < length rows.old → result.1 ≡ lowered (result.0 - 1) self }
+    {
+        for k in 0..rows.len() {
+            rows[k] = change.of(rows[k], self.row());
+            if !self.step_down() {
+                return (k + 1, self.widened());
+            }
+        }
+        (rows.len(), self.widened())
     }
 
     /// The same numbers, in 128 bits.
@@ -267,7 +295,6 @@ impl LongSlope {
     /// Goes to the next row.
     fn step_down(&mut self)
         requires here { unsigned_abs self.old.first < 2 ^ 100 }
-        requires there { unsigned_abs (lowered 1 self.old).first < 2 ^ 100 }
         ensures { self.new ≡ lowered 1 self.old }
     {
         self.end += self.end_step;
@@ -279,66 +306,34 @@ impl LongSlope {
     }
 }
 
-/// How far the centres lie along the way from one point to another, as `along` tells it, row after row.
-pub(crate) fn along_slope(from: &Point, to: &Point, top: &Centres) -> Slope
-    requires from { IsOnBoard from.now }
-    requires to { IsOnBoard to.now }
-    requires row { IsRow top.now }
-    ensures value { (k i : ℕ) → number_on (lowered k result) i
-        ≡ dot (way from.now to.now) (seen_from from.now (centre_at (row_below top.now k) i)) }
-    ensures count { result.count ≡ top.now.count }
-{
-    Slope::new(
-        &along(from, to, top),
-        Way::between(from, to).dot_down(top),
-        top.count,
-    )
-}
-
-/// How far the centres lie to the left of the way from one point to another, as `across` tells it, row after row.
-pub(crate) fn across_slope(from: &Point, to: &Point, top: &Centres) -> Slope
-    requires from { IsOnBoard from.now }
-    requires to { IsOnBoard to.now }
-    requires row { IsRow top.now }
-    ensures value { (k i : ℕ) → number_on (lowered k result) i
-        ≡ cross (way from.now to.now) (seen_from from.now (centre_at (row_below top.now k) i)) }
-    ensures count { result.count ≡ top.now.count }
-{
-    Slope::new(
-        &across(from, to, top),
-        Way::between(from, to).turned_left().dot_down(top),
-        top.count,
-    )
-}
-
 /// The centres of a row on one side of the end of a run.
 #[inline]
 fn bits_beside(side: Side, end: i64, count: u32) -> u64
     requires few { count ≤ 64 }
     ensures { (i : ℕ) → i < 64 → IsBitSet result i ↔ ((i < count) × IsBeside side end i) }
 {
+    let all = bits_between(0, count);
+    let run = bits_up_to(end);
     match side {
-        Side::Left => bits_between(0, run_up_to(end, count)),
-        Side::Right => bits_between(run_up_to(end, count), count),
-        Side::Level if end >= 0 => bits_between(0, count),
+        Side::Left => all & run,
+        Side::Right => all & !run,
+        Side::Level if end >= 0 => all,
         Side::Level => 0,
     }
 }
 
-/// How many of `count` centres a run has that goes from the left up to the centre `end`.
+/// The run of centres from the left up to the centre `end`.
 #[inline]
-fn run_up_to(end: i64, count: u32) -> u32
-    requires few { count ≤ 64 }
-    ensures few { result ≤ count }
-    ensures each { (i : ℕ) → i < count → (i < result) ↔ (pos i ≤ℤ end) }
+fn bits_up_to(end: i64) -> u64
+    ensures { (i : ℕ) → i < 64 → IsBitSet result i ↔ (pos i ≤ℤ end) }
 {
     if end < 0 {
         return 0;
     }
-    if end >= i64::from(count) {
-        return count;
+    if end >= 63 {
+        return u64::MAX;
     }
-    end as u32 + 1
+    u64::MAX >> (63 - end as u32)
 }
 
 /// An end on the same side of each centre of a row.

@@ -1,28 +1,27 @@
 //! Sweeps about a point, row after row.
 
-ghost use Rattle.std.specs.Prelude.{◌≡◌, ◌^◌, ◌<◌, ◌↔◌, ℕ, pos, ◌≤ℤ◌};
-ghost use Rattle.std.specs.Int.{IsBitSet};
+ghost use Rattle.std.specs.Prelude.{◌≡◌, ◌⊎◌, ◌^◌, ◌<◌, IsTrue, length, pos, ◌≤ℤ◌};
 ghost use Rattle.std.specs.Int.RustNames.{unsigned_abs};
 ghost use Rattle.cam_units.specs.Board.{IsOnBoard};
 ghost use Rattle.cam_shapes.specs.Arc.{IsInSweep, IsSoundArc, IsSwept};
 ghost use Rattle.cam_shapes.specs.Plane.{cross, dot, place_of, seen_from, way};
+ghost use Rattle.cam_rows.specs.Machinery.HalfPlanes.{HasCentre, IsShortIn};
+ghost use Rattle.cam_rows.specs.Machinery.Kept.{AreClear, AreKept};
+ghost use Rattle.cam_rows.specs.Machinery.Sweeps.{Holds, IsShortSweep, IsSweep};
 ghost use Rattle.cam_rows.specs.Rows.{IsRow};
-ghost use Rattle.cam_rows.specs.Sweeps.{HasCount, Holds, IsShortSweep, IsSweep, lowered_sweep};
 
 use crate::centres::Centres;
-use crate::linear::Linear;
-use crate::slope::{Slope, across_slope};
+use crate::half_plane::HalfPlane;
 use crate::way::{across, along};
 use cam_shapes::Arc;
 use cam_units::{Point, Spot};
 
-/// The centres in a sweep about a point, row after row, by two numbers at each centre: one is not negative to the left
-/// of the way to the sweep's start, the other to the right of that to its end. In a sweep of at most a half turn both
-/// are so, and in a wider one at least one.
-#[derive(Drop)]
+/// The centres in a sweep about a point, row after row, by two half planes: left of the way to the sweep's start, and
+/// right of that to its end. A sweep of at most a half turn is what both hold, and a wider one what either does.
+#[derive(Clone, Copy)]
 pub(crate) struct Sweep {
-    after_start: Slope,
-    before_end: Slope,
+    after_start: HalfPlane,
+    before_end: HalfPlane,
     is_wide: bool,
 }
 
@@ -31,9 +30,9 @@ impl Sweep {
     pub(crate) fn of(arc: &Arc, top: &Centres) -> Sweep
         requires arc { IsSoundArc arc.now }
         requires row { IsRow top.now }
-        ensures { IsSweep result top.now
+        ensures { IsSweep top.now
             (λ s. IsSwept arc.now.ccw (way arc.now.centre arc.now.from) (way arc.now.centre arc.now.to)
-            (seen_from arc.now.centre s)) }
+            (seen_from arc.now.centre s)) result }
     {
         if arc.ccw {
             return Sweep::between(&arc.centre, &arc.from, &arc.to, top);
@@ -47,8 +46,8 @@ impl Sweep {
         requires start { IsOnBoard start.now }
         requires end { IsOnBoard end.now }
         requires row { IsRow top.now }
-        ensures { IsSweep result top.now
-            (λ s. IsInSweep (way centre.now start.now) (way centre.now end.now) (seen_from centre.now s)) }
+        ensures { IsSweep top.now
+            (λ s. IsInSweep (way centre.now start.now) (way centre.now end.now) (seen_from centre.now s)) result }
     {
         if *start == *end {
             return Sweep::level(0, top);
@@ -58,8 +57,8 @@ impl Sweep {
             return Sweep::level(-1, top);
         }
         Sweep {
-            after_start: across_slope(centre, start, top),
-            before_end: across_slope(end, centre, top),
+            after_start: HalfPlane::left(centre, start, 0, top),
+            before_end: HalfPlane::left(end, centre, 0, top),
             is_wide: turn < 0,
         }
     }
@@ -68,43 +67,45 @@ impl Sweep {
     fn level(number: i128, top: &Centres) -> Sweep
         requires short { unsigned_abs number < 2 }
         requires row { IsRow top.now }
-        ensures tells { (k i : ℕ) → Holds (lowered_sweep k result) i ↔ (pos 0 ≤ℤ number) }
-        ensures short { (k : ℕ) → IsShortSweep (lowered_sweep k result) }
-        ensures count { HasCount result top.now.count }
+        ensures { IsSweep top.now (λ s. pos 0 ≤ℤ number) result }
     {
-        let row = Linear {
-            first: number,
-            step: 0,
-        };
+        let level = HalfPlane::level(number, top);
         Sweep {
-            after_start: Slope::new(&row, 0, top.count),
-            before_end: Slope::new(&row, 0, top.count),
+            after_start: level,
+            before_end: level,
             is_wide: false,
         }
     }
 
-    /// The row of the centres in the sweep.
-    pub(crate) fn row(&self) -> u64
-        requires { self.now.before_end.count ≡ self.now.after_start.count }
-        ensures { (i : ℕ) → i < 64
-            → IsBitSet result i ↔ ((i < self.now.after_start.count) × Holds self.now i) }
+    /// Clears the bits of the centres outside of it, in rows one below another from the top one. Where it answers
+    /// `false`, no bit is left.
+    pub(crate) fn keep(&self, rows: &mut [u64]) -> bool
+        requires { IsShortSweep (length rows.old) self.now }
+        ensures kept { AreKept rows.old (Holds self.now) rows.new }
+        ensures none { (IsTrue result → ⊥) → AreClear rows.new }
     {
-        let after_start = self.after_start.row();
-        let before_end = self.before_end.row();
         if self.is_wide {
-            return after_start | before_end;
+            keep_either(&self.after_start, &self.before_end, rows);
+            return true;
         }
-        after_start & before_end
+        self.after_start.keep(rows) && self.before_end.keep(rows)
     }
+}
 
-    /// Goes to the next row.
-    pub(crate) fn step_down(&mut self)
-        requires here { IsShortSweep self.old }
-        requires there { IsShortSweep (lowered_sweep 1 self.old) }
-        ensures { self.new ≡ lowered_sweep 1 self.old }
-    {
-        self.after_start.step_down();
-        self.before_end.step_down();
+/// Clears the bits of the centres outside of both half planes.
+fn keep_either(first: &HalfPlane, second: &HalfPlane, rows: &mut [u64])
+    requires first { IsShortIn (length rows.old) first.now }
+    requires second { IsShortIn (length rows.old) second.now }
+    ensures { AreKept rows.old (λ k i. HasCentre first.now k i ⊎ HasCentre second.now k i) rows.new }
+{
+    let mut in_first = first.slope();
+    let mut in_second = second.slope();
+    for k in 0..rows.len() {
+        if k > 0 {
+            in_first.step_down();
+            in_second.step_down();
+        }
+        rows[k] &= in_first.row() | in_second.row();
     }
 }
 

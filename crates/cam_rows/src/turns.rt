@@ -1,7 +1,7 @@
 //! Tests of the centres of a row that hold up to some centre, and at none behind it.
 
 ghost use Rattle.std.specs.Prelude.{◌<◌, ◌≤◌, ◌↔◌, ℕ, IsTrue};
-ghost use Rattle.cam_rows.specs.Turns.{Falls};
+ghost use Rattle.cam_rows.specs.Machinery.Turns.{Falls};
 
 /// A test of the centres of a row, which are counted from the left.
 pub(crate) trait RowTest {

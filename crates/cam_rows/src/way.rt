@@ -4,9 +4,9 @@ ghost use Rattle.std.specs.Prelude.{◌≡◌, ◌^◌, ◌<◌, ℕ, pos, ◌+�
 ghost use Rattle.std.specs.Int.RustNames.{unsigned_abs};
 ghost use Rattle.cam_units.specs.Board.{IsOnBoard};
 ghost use Rattle.cam_shapes.specs.Plane.{cross, dot, seen_from, square, way};
-ghost use Rattle.cam_rows.specs.Linear.{IsShortLinear, number_at};
+ghost use Rattle.cam_rows.specs.Machinery.Linear.{IsShortLinear, number_at};
 ghost use Rattle.cam_rows.specs.Rows.{IsRow, centre_at};
-ghost use Rattle.cam_rows.specs.Ways.{IsShortWay};
+ghost use Rattle.cam_rows.specs.Machinery.Ways.{IsShortWay};
 
 use crate::centres::Centres;
 use crate::linear::Linear;

@@ -1,5 +1,5 @@
 use Rattle.cam_shapes.specs.Plane.{seen_from}
-use Rattle.cam_rows.specs.Chords.{offset}
+use Rattle.cam_rows.specs.Machinery.Chords.{offset}
 use Rattle.cam_rows.specs.Rows.{centre_at}
 use Rattle.cam_rows.proofs.ChordTurns.{before_chord_falls, before_end_falls, chord_bit, chord_ordered}
 use Rattle.cam_rows.proofs.chord.Chord.circle_row.Goals as goal

@@ -1,5 +1,5 @@
 use Rattle.std.proofs.Common.{FitsSigned, rules, w64}
-use Rattle.cam_rows.specs.Slopes.{widened}
+use Rattle.cam_rows.specs.Machinery.Slopes.{widened}
 use Rattle.cam_rows.proofs.ShortSlopes.{kept_fitting}
 use Rattle.cam_rows.proofs.SlopeBits.{sloped_bit}
 use Rattle.cam_rows.proofs.slope.ShortSlope.row.Goals as goal

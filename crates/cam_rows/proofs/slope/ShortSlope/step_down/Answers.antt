@@ -1,7 +1,7 @@
 use Rattle.std.proofs.Common.{◌^◌, ◌≤◌, ◌≤ℤ◌, ◌<ℤ◌, ◌+ℤ◌, FitsSigned, w64, arith, rules}
 use Rattle.std.specs.Int.RustNames.{unsigned_abs}
 use Rattle.std.proofs.lemmas.Int.{ints}
-use Rattle.cam_rows.specs.Slopes.{widened}
+use Rattle.cam_rows.specs.Machinery.Slopes.{widened}
 use Rattle.cam_rows.proofs.ShortSlopes.{AreNear, few_numbers, few_slope, many_numbers, many_slope, near_parts}
 use Rattle.cam_rows.proofs.ShortSlopes.{next_end_fits}
 use Rattle.cam_rows.proofs.slope.ShortSlope.step_down.Goals as goal

@@ -14,11 +14,10 @@ returns-then-eq c =
     let same : c.args.start.now ≡ c.args.end.now = search rules in
     record {
       tells = λ k i. (
-        (λ _. inl (ap (way c.args.centre.now) same)),
-        (λ _. (c.level.ensures.tells k i).1 (search rules)),
+        (λ h. (((c.level.ensures.tells k i).0 h).0, inl (ap (way c.args.centre.now) same))),
+        (λ on. (c.level.ensures.tells k i).1 (on.0, search rules)),
       );
-      short = λ k _. c.level.ensures.short k;
-      count = c.level.ensures.count;
+      short = c.level.ensures.short;
     }
 
 pub returns-then-dot_product-ge0 : goal.returns-then-dot_product-ge0
@@ -35,12 +34,11 @@ returns-then-dot_product-ge0 c =
     let not_wide : cross start end <ℤ pos 0 → ⊥ = λ right. omega (arith, ints, right, none, turn.ensures.value) in
     record {
       tells = λ k i. (
-        (λ h. absurd (omega (arith, ints, (c.level-then-dot_product-ge0.ensures.tells k i).0 h))),
-        (λ h. absurd (no_sweep start end (seen_from centre (centre_at (row_below c.args.top.now k) i))
-            (λ e. other (same_way centre c.args.start.now c.args.end.now e)) not_narrow not_wide h)),
+        (λ h. absurd (omega (arith, ints, ((c.level-then-dot_product-ge0.ensures.tells k i).0 h).1))),
+        (λ on. absurd (no_sweep start end (seen_from centre (centre_at (row_below c.args.top.now k) i))
+            (λ e. other (same_way centre c.args.start.now c.args.end.now e)) not_narrow not_wide on.1)),
       );
-      short = λ k _. c.level-then-dot_product-ge0.ensures.short k;
-      count = c.level-then-dot_product-ge0.ensures.count;
+      short = c.level-then-dot_product-ge0.ensures.short;
     }
 
 pub returns : goal.returns
@@ -56,10 +54,8 @@ returns c =
           (negative_by_test w.dot_product.result w.dot_product.ensures.bound w.if-dot_product-ge0.false)
       | else-turn-eq0-via-else-turn-eq0 w ↦ absurd (omega (arith, ints, w.if-turn-eq0.false, none))
     ] in
-    line_sweep c.across_slope.result c.across_slope-2.result centre c.args.start.now c.args.end.now c.args.top.now _
-    c.requires.centre c.requires.start c.requires.end
+    line_sweep c.left.result c.left-2.result centre c.args.start.now c.args.end.now c.args.top.now _
     (other_points c.args.start.now c.args.end.now c.eq.result c.eq.ensures c.if-eq.false)
     (λ e. rw turn.ensures.value at (right_by_test turn.result turn.ensures.bound e))
     (λ e. narrow_by_turn start end turn.result turn.ensures.value (left_by_test turn.result turn.ensures.bound e) back)
-    c.across_slope.ensures.value c.across_slope-2.ensures.value c.across_slope.ensures.count
-    c.across_slope-2.ensures.count
+    c.left.ensures c.left-2.ensures

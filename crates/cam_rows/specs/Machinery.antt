@@ -1,0 +1,17 @@
+-- Words of the contracts of inner functions: they mirror the code. A reader who trusts the definitions beside this
+-- folder has read all that the theorems mean.
+pub mod Beside
+pub mod Changes
+pub mod Chords
+pub mod Columns
+pub mod Forms
+pub mod HalfPlanes
+pub mod Kept
+pub mod Linear
+pub mod Quarters
+pub mod Rings
+pub mod Slopes
+pub mod Sweeps
+pub mod Ties
+pub mod Turns
+pub mod Ways

@@ -1,0 +1,30 @@
+-- Half planes, row after row: the centres at which a number is not negative.
+use Rattle.std.specs.Prelude.{◌↔◌, ℕ, ◌^◌, ◌<◌, ◌≤◌, pos, ◌≤ℤ◌}
+use Rattle.std.specs.Int.RustNames.{unsigned_abs}
+use Rattle.cam_units.specs.declared.point.Spot.{Spot}
+use Rattle.cam_rows.specs.declared.centres.Centres.{Centres}
+use Rattle.cam_rows.specs.declared.half_plane.HalfPlane.{HalfPlane}
+use Rattle.cam_rows.specs.Machinery.Kept.{Has}
+use Rattle.cam_rows.specs.Machinery.Linear.{IsShortLinear}
+use Rattle.cam_rows.specs.Machinery.Slopes.{Sloped, lowered, number_on}
+use Rattle.cam_rows.specs.Rows.{AreRows}
+
+-- its numbers
+abbrev pub numbers_of : HalfPlane → Sloped
+numbers_of h = record { first = h.row.first; step = h.row.step; down = h.down; count = h.count }
+
+-- it holds centre i of the row that lies k steps below the top one
+abbrev pub HasCentre : HalfPlane → ℕ → ℕ → Type 0
+HasCentre h k i = (i < h.count) × (pos 0 ≤ℤ number_on (lowered k (numbers_of h)) i)
+
+-- its numbers fit 128 bits, in each of so many rows
+pub record IsShortIn (n : ℕ) (h : HalfPlane) : Type 0 where
+  pub row : IsShortLinear h.row
+  pub down : unsigned_abs h.down < 2 ^ 100
+  pub few : h.count ≤ 64
+  pub rows : (k : ℕ) → k < n → unsigned_abs (lowered k (numbers_of h)).first < 2 ^ 100
+
+-- in rows from the top one on, it holds the centres in a shape, and fits
+pub record IsHalfPlaneOf (top : Centres) (IsIn : Spot → Type 0) (h : HalfPlane) : Type 0 where
+  pub has : (k i : ℕ) → HasCentre h k i ↔ Has top IsIn k i
+  pub short : (n : ℕ) → AreRows top n → IsShortIn n h

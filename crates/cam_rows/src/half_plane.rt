@@ -1,0 +1,71 @@
+//! Half planes, row after row: the centres on one side of a line, by the sign of a number.
+
+ghost use Rattle.std.specs.Prelude.{◌^◌, ◌<◌, pos, ◌+ℤ◌, ◌≤ℤ◌};
+ghost use Rattle.std.specs.Int.RustNames.{unsigned_abs};
+ghost use Rattle.cam_units.specs.Board.{IsOnBoard};
+ghost use Rattle.cam_shapes.specs.Plane.{cross, dot, seen_from, way};
+ghost use Rattle.cam_rows.specs.Machinery.HalfPlanes.{IsHalfPlaneOf};
+ghost use Rattle.cam_rows.specs.Rows.{IsRow};
+
+use crate::centres::Centres;
+use crate::linear::Linear;
+use crate::way::{Way, across, along};
+use cam_units::Point;
+
+/// The centres of rows, one below another, at which a number is not negative: that of the top row, how much more it is
+/// in each row below, and how many centres a row has.
+#[derive(Clone, Copy)]
+pub struct HalfPlane {
+    pub row: Linear,
+    pub down: i128,
+    pub count: u32,
+}
+
+impl HalfPlane {
+    /// The places ahead of a point, or beside it, as one looks from there to another point.
+    pub(crate) fn ahead(from: &Point, to: &Point, top: &Centres) -> HalfPlane
+        requires from { IsOnBoard from.now }
+        requires to { IsOnBoard to.now }
+        requires row { IsRow top.now }
+        ensures { IsHalfPlaneOf top.now (λ s. pos 0 ≤ℤ dot (way from.now to.now) (seen_from from.now s)) result }
+    {
+        HalfPlane {
+            row: along(from, to, top),
+            down: Way::between(from, to).dot_down(top),
+            count: top.count,
+        }
+    }
+
+    /// The places left of the line through two points, as it leads from the first to the second, on it, or right of it
+    /// where the cross product with the way is at most `reach` below 0.
+    pub(crate) fn left(from: &Point, to: &Point, reach: i128, top: &Centres) -> HalfPlane
+        requires from { IsOnBoard from.now }
+        requires to { IsOnBoard to.now }
+        requires reach { unsigned_abs reach < 2 ^ 64 }
+        requires row { IsRow top.now }
+        ensures { IsHalfPlaneOf top.now
+            (λ s. pos 0 ≤ℤ (cross (way from.now to.now) (seen_from from.now s) +ℤ reach)) result }
+    {
+        HalfPlane {
+            row: across(from, to, top).raised(reach),
+            down: Way::between(from, to).turned_left().dot_down(top),
+            count: top.count,
+        }
+    }
+
+    /// All places where a number is not negative, and else none.
+    pub(crate) fn level(number: i128, top: &Centres) -> HalfPlane
+        requires short { unsigned_abs number < 2 }
+        requires row { IsRow top.now }
+        ensures { IsHalfPlaneOf top.now (λ s. pos 0 ≤ℤ number) result }
+    {
+        HalfPlane {
+            row: Linear {
+                first: number,
+                step: 0,
+            },
+            down: 0,
+            count: top.count,
+        }
+    }
+}
