@@ -31,6 +31,7 @@ pub mod ShownRegions
 pub mod SpanLemmas
 pub mod Stamps
 pub mod StepLemmas
+pub mod Strips
 pub mod TableFacts
 pub mod TablePixels
 pub mod TileCounts

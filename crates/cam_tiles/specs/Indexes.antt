@@ -15,8 +15,10 @@ use Rattle.cam_tiles.specs.declared.index.Index.TheInside.{Inside}
 use Rattle.cam_tiles.specs.declared.index.Span.{Span}
 use Rattle.cam_tiles.specs.declared.levels.Levels.{Levels}
 use Rattle.cam_tiles.specs.declared.masks.filing.FiledSegment.{FiledSegment}
+use Rattle.cam_tiles.specs.declared.masks.heights.Heights.{Heights}
 use Rattle.cam_tiles.specs.Filing.{AreFiled}
 use Rattle.cam_tiles.specs.Levels.{IsOnRow}
+use Rattle.cam_tiles.specs.Masks.{IsWithin}
 
 -- the lists that were boxed, and those of a band, one after another
 abbrev pub boxed_leaves : List (List Leaf) → List Boxed → List Leaf
@@ -47,6 +49,11 @@ pub record AreBoxed (lists : List (List Leaf)) (within : Bounds) (boxed : List B
   pub each : All (IsBoxed lists) boxed
   pub enough : Suffices lists (boxed_leaves lists boxed) (Holds within)
 
+-- boxes of all lists that paint the places of a box at some heights
+pub record AreNear (lists : List (List Leaf)) (within : Bounds) (strip : Heights) (near : List Boxed) : Type 0 where
+  pub each : All (IsBoxed lists) near
+  pub enough : Suffices lists (boxed_leaves lists near) (λ s. Holds within s × IsWithin strip s)
+
 -- where the leaves are the inside of a contour, these are its segments, filed for some rows
 pub record IsFiled (leaves : List Leaf) (levels : Levels) (segments : List FiledSegment) (span : Span) : Type 0 where
   pub within : (span.first ≤ span.end) × (span.end ≤ length segments)
@@ -54,7 +61,8 @@ pub record IsFiled (leaves : List Leaf) (levels : Levels) (segments : List Filed
       → AreFiled contour levels (slice_range segments span.first span.end)
 
 -- the leaves at a place of the lists lie between the sides of their entry
-pub record IsEntry (lists : List (List Leaf)) (levels : Levels) (segments : List FiledSegment) (e : Entry) : Type 0 where
+pub record IsEntry (lists : List (List Leaf)) (levels : Levels) (segments : List FiledSegment) (e : Entry)
+    : Type 0 where
   pub within : e.place < length lists
   pub sides : (s : Spot) → Holds (bounds_of (slice_index_or lists e.place [])) s
       → (e.left ≤ℤ s.x) × (s.x ≤ℤ e.right)
@@ -66,27 +74,34 @@ pub record IsBand (lists : List (List Leaf)) (within : Bounds) (levels : Levels)
   pub each : All (IsEntry lists levels segments) band
   pub enough : Suffices lists (band_leaves lists band) (λ s. Holds within s × IsOnLevels levels s)
 
--- a box, the boxes of what it shows, and a band of some rows where one was filed
+-- a box, the boxes of what it shows, those of a strip and a band of some rows where they were filed
 pub record Indexed : Type 0 where
   pub within : Bounds
   pub boxed : List Boxed
+  pub strip : Option Heights
+  pub near : List Boxed
   pub levels : Option Levels
   pub band : List Entry
   pub segments : List FiledSegment
 
 pub record IsIndexOf (lists : List (List Leaf)) (i : Indexed) : Type 0 where
   pub boxed : AreBoxed lists i.within i.boxed
+  pub near : (strip : Heights) → i.strip ≡ Some strip → AreNear lists i.within strip i.near
   pub band : (levels : Levels) → i.levels ≡ Some levels → IsBand lists i.within levels i.segments i.band
 
 abbrev pub indexed_in : Inside → Indexed
 indexed_in i = record {
   within = i.within;
   boxed = i.boxed.items;
+  strip = i.strip;
+  near = i.near.items;
   levels = i.levels;
   band = i.band.items;
   segments = i.segments.items;
 }
 
--- there is room for a band of all boxes
-abbrev pub IsRoomy : Inside → Type 0
-IsRoomy i = length i.boxed.items ≤ vec_capacity i.band
+-- there is room for a strip of all boxes, and for a band of those in it
+pub record IsRoomy (i : Inside) : Type 0 where
+  pub near : length i.boxed.items ≤ vec_capacity i.near
+  pub few : length i.near.items ≤ length i.boxed.items
+  pub band : length i.boxed.items ≤ vec_capacity i.band

@@ -1,19 +1,21 @@
 //! What of a layer a redraw may show: the boxes of its items, and for the tiles of a row those that reach it.
 
-ghost use Rattle.std.specs.Prelude.{◌≡◌, ◌↔◌, ◌<◌, ◌≤◌, ◌≤ℤ◌, ℕ, [], All, IfOk, IfSome, IsTrue, Some};
-ghost use Rattle.std.specs.Prelude.{length, take, vec_capacity};
+ghost use Rattle.std.specs.Prelude.{◌≡◌, ◌↔◌, ◌<◌, ◌≤◌, ◌≤ℤ◌, ℕ, [], All, IfOk, IfSome, IsTrue, List, MatchOption};
+ghost use Rattle.std.specs.Prelude.{Some, length, take, vec_capacity};
 ghost use Rattle.std.specs.List.{slice_index_or};
 ghost use Rattle.cam_units.specs.Boxes.{Holds};
 ghost use Rattle.cam_units.specs.declared.point.Spot.{Spot};
+ghost use Rattle.cam_objects.specs.Leaves.{Leaf};
 ghost use Rattle.cam_tiles.specs.Indexes.{IsBoxed, IsEntry, IsFiled, IsIndexOf, IsOnLevels, PaintAlike};
 ghost use Rattle.cam_tiles.specs.Indexes.{band_leaves, boxed_leaves};
 ghost use Rattle.cam_tiles.specs.Levels.{IsLevels, levels_of};
-ghost use Rattle.cam_tiles.specs.Masks.{IsIn, PaintsMask};
+ghost use Rattle.cam_tiles.specs.Masks.{IsIn, IsWithin, PaintsMask};
 ghost use Rattle.cam_tiles.specs.Sources.{IsReady, leaves_by_item, leaves_of};
 ghost use Rattle.cam_tiles.specs.Tiles.{centre_in};
 
 use crate::levels::Levels;
 use crate::masks::filing::{FiledSegment, file_contour};
+use crate::masks::heights::Heights;
 use crate::masks::join::Join;
 use crate::masks::mask::Mask;
 use crate::shown::Shown;
@@ -37,6 +39,9 @@ pub(crate) struct Span {
     end: u32,
 }
 
+/// How many rows a strip has below those of the tile that it was filed for: the rows of seven tiles.
+const ROWS_BELOW: i64 = 7 * 64;
+
 /// An item that reaches the rows of a band: its place in the list, the sides of its box, in half nm, and its segments,
 /// where it is a region and they are filed.
 // In this order of the fields an entry has 32 bytes: a band of many is gone through for each tile.
@@ -48,12 +53,15 @@ pub(crate) struct Entry {
     right: i64,
 }
 
-/// The boxes of the items that meet a box, in the order of the items, and those of them that reach the rows of a band.
-/// Tiles are drawn row by row, so that a band serves all tiles of a row.
+/// The boxes of the items that meet a box, in the order of the items, those of them that reach the heights of a strip,
+/// and of these the ones that reach the rows of a band. Tiles are drawn row by row, so that a band serves all tiles of
+/// a row, and a strip some rows of tiles.
 #[derive(Drop)]
 pub(crate) struct Index {
     within: Bounds,
     boxed: Vec<Boxed>,
+    strip: Option<Heights>,
+    near: Vec<Boxed>,
     levels: Option<Levels>,
     band: Vec<Entry>,
     segments: Vec<FiledSegment>,
@@ -131,11 +139,14 @@ impl Index {
                 room += shown.room_to_file(place);
             }
         }
+        let near = Vec::with_capacity(alloc, boxed.len())?;
         let band = Vec::with_capacity(alloc, boxed.len())?;
         let segments = Vec::with_capacity(alloc, room)?;
         Ok(Index {
             within,
             boxed,
+            strip: None,
+            near,
             levels: None,
             band,
             segments,
@@ -152,7 +163,33 @@ impl Index {
         has_place(self.within, low) && has_place(self.within, high)
     }
 
-    /// Turns to the rows of a tile: one look at each box, and none where they are those of the band already.
+    /// Turns to a strip that holds the rows of a tile: one look at each box, and none where the strip that was filed
+    /// last holds them. Since tiles are drawn from the top, a new strip goes on below them.
+    fn approach(&mut self, levels: Levels)
+        requires { IsLevels levels }
+        ensures index { (lists : List (List Leaf)) → IsIndexOf lists self.old → IsIndexOf lists self.new }
+        ensures within { self.new.within ≡ self.old.within }
+        ensures rows { MatchOption self.new.strip ⊥ (λ strip. (s : Spot) → IsOnLevels levels s → IsWithin strip s) }
+    {
+        let bottom = levels.bottom();
+        if let Some(strip) = self.strip
+            && strip.low <= bottom
+            && levels.top <= strip.high
+        {
+            return;
+        }
+        let below = levels.step.saturating_mul(ROWS_BELOW);
+        let strip = Heights {
+            low: bottom.saturating_sub(below),
+            high: levels.top,
+        };
+        self.near.clear();
+        file_strip(&self.boxed, strip, &mut self.near);
+        self.strip = Some(strip);
+    }
+
+    /// Turns to the rows of a tile: one look at each box of the strip that holds them, and none where they are those of
+    /// the band already.
     fn turn_to(&mut self, levels: Levels, shown: &Shown<'_>)
         requires ready { IsReady shown.now }
         requires levels { IsLevels levels }
@@ -164,11 +201,12 @@ impl Index {
         if self.levels == Some(levels) {
             return;
         }
+        self.approach(levels);
         self.levels = Some(levels);
         self.band.clear();
         self.segments.clear();
         file_band(
-            &self.boxed,
+            &self.near,
             levels,
             shown,
             &mut self.band,
@@ -188,6 +226,23 @@ impl Index {
     {
         self.turn_to(mask.grid().levels(), shown);
         paint_band(&self.band, &self.segments, shown, mask);
+    }
+}
+
+/// Files the boxes that have a height of a strip, in order.
+fn file_strip(boxed: &[Boxed], strip: Heights, near: &mut Vec<Boxed>)
+    requires room { length boxed.now ≤ vec_capacity near.old }
+    requires empty { near.old.items ≡ [] }
+    ensures each { (lists : List (List Leaf)) → All (IsBoxed lists) boxed.now → All (IsBoxed lists) near.new.items }
+    ensures enough { (lists : List (List Leaf)) → All (IsBoxed lists) boxed.now
+        → PaintAlike (IsWithin strip) (boxed_leaves lists near.new.items) (boxed_leaves lists boxed.now) }
+    ensures few { length near.new.items ≤ length boxed.now }
+    ensures room { vec_capacity near.new ≡ vec_capacity near.old }
+{
+    for item in boxed {
+        if item.reaches(strip.low, strip.high) {
+            near.push_reserved(*item);
+        }
     }
 }
 
