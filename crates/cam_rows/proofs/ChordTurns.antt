@@ -1,34 +1,19 @@
 -- Chords by the distances of centres from the middle of a circle: which of them lie left of the chord, and which in it.
-use Rattle.std.proofs.Common.{◌≡◌, ◌<◌, ◌≤◌, ◌↔◌, ℕ, ℤ, pos, ◌-◌, ◌+ℤ◌, ◌-ℤ◌, ◌*ℤ◌, ◌≤ℤ◌, ◌<ℤ◌, inl, inr, arith}
+use Rattle.std.proofs.Common.{◌≡◌, ◌<◌, ◌≤◌, ◌↔◌, ℕ, ℤ, pos, ◌-◌, ◌≤ℤ◌, ◌<ℤ◌, inl, inr, arith}
+use Rattle.std.specs.Int.{IsBitSet}
 use Rattle.std.specs.Int.RustNames.{unsigned_abs}
 use Rattle.std.proofs.lemmas.Bool.{cases_lt}
 use Rattle.std.proofs.lemmas.Int.{by_lt_z, ints}
 use Rattle.std.proofs.lemmas.Nat.{mul-le}
-use Rattle.cam_units.specs.Board.{place_limit}
 use Rattle.cam_shapes.specs.declared.vector.Vector.{Vector}
 use Rattle.cam_shapes.specs.Plane.{dot, square}
 use Rattle.cam_shapes.proofs.Widths.{square_is}
-use Rattle.cam_rows.specs.Machinery.Chords.{AreShort, IsBeforeChord, IsBeforeEnd, offset}
+use Rattle.cam_rows.specs.Machinery.Chords.{IsBeforeChord, IsBeforeEnd, offset}
 use Rattle.cam_rows.specs.Machinery.Turns.{Falls}
+use Rattle.cam_rows.proofs.Columns.{goes_right}
+use Rattle.cam_rows.proofs.SetBits.{none_set}
 
--- how far centres lie from a point
-pub offset_is : (x step middle first pitch : ℤ) (i : ℕ) → first ≡ x -ℤ middle → pitch ≡ step
-    → offset first pitch i ≡ (x +ℤ pos i *ℤ step) -ℤ middle
-offset_is x step middle first pitch i e f = rw (e, f) (omega (arith, ints))
-
-pub offset_short : (x step middle first pitch : ℤ) (i : ℕ) → first ≡ x -ℤ middle → pitch ≡ step
-    → unsigned_abs middle < place_limit → unsigned_abs x < 4000000000 → unsigned_abs (x +ℤ pos i *ℤ step) < 4000000000
-    → AreShort first pitch i
-offset_short x step middle first pitch i e f h k l =
-    rw (offset_is x step middle first pitch i e f) (omega (arith, ints), omega (arith, ints))
-
--- a later centre lies farther to the right
-goes_right : (first step : ℤ) (i j : ℕ) → pos 1 ≤ℤ step → i ≤ j → offset first step i ≤ℤ offset first step j
-goes_right first step i j h k =
-    let pitch = unsigned_abs step in
-    let is : step ≡ pos pitch = omega (arith, ints) in
-    rw is (omega (arith, ints, mul-le i pitch j pitch k (omega arith)))
-
+-- of the squares of two places on the same side
 left_square : (x y : ℤ) → x ≤ℤ y → y <ℤ pos 0 → square y ≤ℤ square x
 left_square x y h k =
     let less : unsigned_abs y ≤ unsigned_abs x = omega (arith, ints) in
@@ -88,28 +73,44 @@ in_run i first end count x room within before not_before until not_until = (
 )
 
 -- x and y are the legs of the way from the circle's middle
-seen_in_chord : (v : Vector) (height bound : ℕ) → pos height ≡ square v.y → height < bound
+seen_in_chord : (v : Vector) (height bound : ℕ) → pos height ≡ square v.y
     → (square v.x <ℤ pos (bound - height)) ↔ (dot v v <ℤ pos bound)
-seen_in_chord v height bound e some = (
-  (λ near. omega (arith, ints, e, some)),
-  (λ near. omega (arith, ints, e, some)),
-)
+seen_in_chord v height bound e =
+    let wide = square_is v.x in
+    ((λ near. omega (arith, ints, e, wide, near)), (λ near. omega (arith, ints, e, wide, near)))
+
+-- one bit of a row that lies so high, by its chord
+pub in_chord_is : (B : Type 0) (i count : ℕ) (v : Vector) (x : ℤ) (height bound : ℕ) → pos height ≡ square v.y
+    → x ≡ v.x → B ↔ ((i < count) × (square x <ℤ pos (bound - height))) → B ↔ ((i < count) × (dot v v <ℤ pos bound))
+in_chord_is B i count v x height bound e f told =
+    let seen = seen_in_chord v height bound e in
+    let here = rw f at told in (
+      (λ set. let on = here.0 set in (on.0, seen.0 on.1)),
+      (λ on. here.1 (on.0, seen.1 on.1)),
+    )
 
 -- one bit of a chord's row
-pub chord_bit : (B : Type 0) (i first end count : ℕ) (v : Vector) (height bound : ℕ) → pos height ≡ square v.y
-    → height < bound → end ≤ count
-    → (i < first → IsBeforeChord v.x (bound - height))
-    → (i < count → first ≤ i → IsBeforeChord v.x (bound - height) → ⊥)
-    → (i < end → IsBeforeEnd v.x (bound - height))
-    → (i < count → end ≤ i → IsBeforeEnd v.x (bound - height) → ⊥)
-    → B ↔ ((first ≤ i) × (i < end)) → B ↔ ((i < count) × (dot v v <ℤ pos bound))
-chord_bit B i first end count v height bound e some within before not_before until not_until told =
-    let seen = seen_in_chord v height bound e some in
-    let in_chord : i < count → ((first ≤ i) × (i < end)) ↔ (square v.x <ℤ pos (bound - height)) =
-    λ h. in_run i first end count v.x (bound - height) h before (not_before h) until (not_until h) in (
+pub chord_bit : (B : Type 0) (i first end count : ℕ) (x : ℤ) (room : ℕ) → end ≤ count
+    → (i < first → IsBeforeChord x room)
+    → (i < count → first ≤ i → IsBeforeChord x room → ⊥)
+    → (i < end → IsBeforeEnd x room)
+    → (i < count → end ≤ i → IsBeforeEnd x room → ⊥)
+    → B ↔ ((first ≤ i) × (i < end)) → B ↔ ((i < count) × (square x <ℤ pos room))
+chord_bit B i first end count x room within before not_before until not_until told =
+    let in_chord : i < count → ((first ≤ i) × (i < end)) ↔ (square x <ℤ pos room) =
+    λ h. in_run i first end count x room h before (not_before h) until (not_until h) in (
       (λ set.
           let run = told.0 set in
           let inside : i < count = omega (arith, run.1, within) in
-          (inside, seen.0 ((in_chord inside).0 run))),
-      (λ on. told.1 ((in_chord on.0).1 (seen.1 on.1))),
+          (inside, (in_chord inside).0 run)),
+      (λ on. told.1 ((in_chord on.0).1 on.1)),
+    )
+
+-- no centre is in a chord that is no longer than a place
+pub no_chord : (row i : ℕ) (count : ℕ) (x : ℤ) (room : ℕ) → row ≡ 0 → room ≡ 0
+    → IsBitSet row i ↔ ((i < count) × (square x <ℤ pos room))
+no_chord row i count x room e none =
+    let wide = square_is x in (
+      (λ set. absurd (none_set row i e set)),
+      (λ on. absurd (omega (arith, ints, wide, none, on.1))),
     )

@@ -10,6 +10,7 @@ pub mod ChangedRows
 pub mod ChordTurns
 pub mod Chords
 pub mod Circling
+pub mod Columns
 pub mod EdgeSides
 pub mod EqualRows
 pub mod HalfPlanes

@@ -1,15 +1,13 @@
 -- Places near a circle, between two bounds of the square of their distance from its centre.
-use Rattle.std.proofs.Common.{◌≡◌, ◌↔◌, ◌⊎◌, ℕ, ◌+◌, ◌-◌, ◌*◌, ◌<◌, ◌≤◌, ℤ, pos, ◌-ℤ◌, ◌≤ℤ◌, ◌<ℤ◌, inl, inr, arith}
+use Rattle.std.proofs.Common.{◌≡◌, ◌↔◌, ◌⊎◌, ℕ, ◌+◌, ◌-◌, ◌*◌, ◌<◌, ◌≤◌, ℤ, pos, ◌-ℤ◌, ◌≤ℤ◌, inl, inr, arith}
 use Rattle.std.specs.Int.RustNames.{unsigned_abs}
 use Rattle.std.proofs.lemmas.Int.{ints}
 use Rattle.std.proofs.lemmas.Bool.{cases_lt}
 use Rattle.std.proofs.lemmas.Nat.{mul-le}
-use Rattle.cam_shapes.specs.declared.vector.Vector.{Vector}
-use Rattle.cam_shapes.specs.Plane.{dot, square}
+use Rattle.cam_shapes.specs.Plane.{square}
 use Rattle.cam_shapes.specs.Arc.{IsNearCircle}
 use Rattle.cam_shapes.proofs.Widths.{square_is}
 use Rattle.cam_shapes.proofs.Circles.{same_inequality}
-use Rattle.cam_shapes.proofs.Strokes.{dot_is}
 use Rattle.cam_rows.proofs.Circling.{below_root}
 
 -- p, q and s are squares: of the distance, of the circle's radius and of the stroke's; the root is that of 4sq
@@ -100,23 +98,3 @@ pub near_in_open_ring : (p q s root : ℕ) (d r : ℤ) → pos q ≡ d → pos s
     → IsNearCircle (pos p) d r ↔ ((q + s - root ≤ p) × (p < q + s + root + 1))
 near_in_open_ring p q s root d r e f least greatest order =
     rw (← e) (through (near_by_root p q s root r f (least, greatest)) (open_ring p q s root order))
-
-natural_below : (p n : ℕ) → (pos p <ℤ pos n) ↔ (p < n)
-natural_below p n = ((λ h. omega (arith, ints)), (λ h. omega (arith, ints)))
-
-at_least : (m n : ℕ) → (n < m → ⊥) → m ≤ n
-at_least m n not_less = elim (cases_lt n m) [ inl less ↦ absurd (not_less less) | inr least ↦ least ]
-
--- the places between the bounds are those in the outer circle and not in the inner one
-pub between_circles : (v : Vector) (q r : ℤ) (inner outer : ℕ)
-    → ((p : ℕ) → IsNearCircle (pos p) q r ↔ ((inner ≤ p) × (p < outer)))
-    → IsNearCircle (dot v v) q r ↔ ((dot v v <ℤ pos outer) × (dot v v <ℤ pos inner → ⊥))
-between_circles v q r inner outer near =
-    let p = unsigned_abs v.x * unsigned_abs v.x + unsigned_abs v.y * unsigned_abs v.y in
-    let in_outer = natural_below p outer in
-    let in_inner = natural_below p inner in
-    rw (dot_is v) (
-      (λ h. let bounds = (near p).0 h in
-          (in_outer.1 bounds.1, (λ less. absurd (omega (arith, bounds.0, in_inner.0 less))))),
-      (λ h. (near p).1 (at_least inner p (λ less. h.1 (in_inner.1 less)), in_outer.0 h.0)),
-    )

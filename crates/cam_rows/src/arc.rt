@@ -1,16 +1,19 @@
 //! Rows of an arc's stroke.
 
-ghost use Rattle.std.specs.Prelude.{◌≡◌, ◌^◌, ◌<◌, pos, length};
+ghost use Rattle.std.specs.Prelude.{◌≡◌, ◌↔◌, ◌+◌, ◌^◌, ◌<◌, ℕ, pos, length};
+ghost use Rattle.std.specs.Int.{IsBitSet};
 ghost use Rattle.cam_shapes.specs.Arc.{IsInArc, IsNearCircle, IsSoundArc};
 ghost use Rattle.cam_shapes.specs.Plane.{dot, seen_from, square, way};
+ghost use Rattle.cam_rows.specs.Machinery.Chords.{AreSteady, IsBandOf, side};
 ghost use Rattle.cam_rows.specs.Machinery.Kept.{AreKept, Has};
-ghost use Rattle.cam_rows.specs.Machinery.Rings.{IsRingOf};
+ghost use Rattle.cam_rows.specs.Machinery.Rings.{IsBetween, IsRingOf};
 ghost use Rattle.cam_rows.specs.Rows.{AreMarked, AreRows, IsRow, Marks};
 
 use crate::centres::Centres;
 use crate::chord::Chord;
-use crate::circle::squared_distance;
+use crate::circle::{squared_distance, squared_height};
 use crate::disc::add_disc;
+use crate::offsets::{Band, Offsets};
 use crate::sweep::Sweep;
 use cam_shapes::{Arc, Disc};
 use cam_units::isqrt;
@@ -78,16 +81,42 @@ impl Ring {
         if rows.is_empty() {
             return;
         }
+        let offsets = Offsets::from(&arc.centre, top);
+        let band = offsets.band();
         let mut outer = Chord::about(&arc.centre, top);
         let mut inner = outer;
         for k in 0..rows.len() {
             if rows[k] != 0 {
-                let centres = top.below(k);
-                let within_outer = outer.circle_row(&arc.centre, self.outer, &centres);
-                let within_inner = inner.circle_row(&arc.centre, self.inner, &centres);
-                rows[k] &= within_outer & !within_inner;
+                let height = squared_height(&arc.centre, &top.below(k));
+                rows[k] &= self.row(height, &offsets, &band, &mut outer, &mut inner);
             }
         }
+    }
+
+    /// The row of the centres near the arc's circle, by the square of the row's height over the arc's centre: those in
+    /// the chord of the outer circle and not in that of the inner one. Neither is looked for where none of the columns
+    /// comes near.
+    #[inline]
+    fn row(
+        &self,
+        height: u128,
+        offsets: &Offsets,
+        band: &Band,
+        outer: &mut Chord,
+        inner: &mut Chord,
+    ) -> u64
+        requires height { height < 2 ^ 66 }
+        requires offsets { AreSteady offsets.now }
+        requires band { IsBandOf offsets.now band.now }
+        ensures { (i : ℕ) → i < 64 → IsBitSet result i
+            ↔ ((i < offsets.now.count) × IsBetween self.now (height + side offsets.now i)) }
+    {
+        if self.outer <= height + band.nearest || height + band.farthest < self.inner {
+            return 0;
+        }
+        let in_outer = outer.row(offsets, self.outer.saturating_sub(height));
+        let in_inner = inner.row(offsets, self.inner.saturating_sub(height));
+        in_outer & !in_inner
     }
 }
 

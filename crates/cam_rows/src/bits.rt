@@ -4,6 +4,7 @@ ghost use Rattle.std.specs.Prelude.{◌<◌, ◌≤◌, ◌↔◌, ℕ};
 ghost use Rattle.std.specs.Int.{IsBitSet};
 
 /// The row whose bits from `first` up to `end`, without `end`, are set.
+#[inline]
 pub(crate) fn bits_between(first: u32, end: u32) -> u64
     requires ordered { first ≤ end }
     requires within { end ≤ 64 }
@@ -13,6 +14,7 @@ pub(crate) fn bits_between(first: u32, end: u32) -> u64
 }
 
 /// The row whose bits below `end` are set.
+#[inline]
 fn bits_below(end: u32) -> u64
     requires { end ≤ 64 }
     ensures { (i : ℕ) → i < 64 → IsBitSet result i ↔ (i < end) }

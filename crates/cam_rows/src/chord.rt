@@ -1,17 +1,19 @@
 //! Chords of a circle, row after row.
 
-ghost use Rattle.std.specs.Prelude.{◌≡◌, ◌^◌, ◌<◌, ◌↔◌, ℕ, ℤ, IsTrue, pos, ◌≤ℤ◌, ◌<ℤ◌};
+ghost use Rattle.std.specs.Prelude.{◌^◌, ◌<◌, ◌↔◌, ℕ, ℤ, IsTrue, pos, ◌≤ℤ◌, ◌<ℤ◌};
+ghost use Rattle.std.specs.Int.{IsBitSet};
 ghost use Rattle.cam_units.specs.Board.{IsOnBoard};
 ghost use Rattle.cam_shapes.specs.Cap.{IsSoundCap, is_in_circle};
 ghost use Rattle.cam_shapes.specs.Disc.{IsInDisc, IsInHole, IsSoundDisc};
 ghost use Rattle.cam_shapes.specs.Plane.{dot, seen_from, square, way};
-ghost use Rattle.cam_rows.specs.Machinery.Chords.{AreShort, IsBeforeChord, IsBeforeEnd, offset};
+ghost use Rattle.cam_rows.specs.Machinery.Chords.{AreShort, AreSteady, IsBeforeChord, IsBeforeEnd, offset};
 ghost use Rattle.cam_rows.specs.Machinery.Ties.{is_inside_chord};
-ghost use Rattle.cam_rows.specs.Rows.{IsRow, Marks, centre_at};
+ghost use Rattle.cam_rows.specs.Rows.{IsRow, Marks};
 
 use crate::bits::bits_between;
 use crate::centres::Centres;
 use crate::circle::{squared_distance, squared_height};
+use crate::offsets::Offsets;
 use crate::turns::{RowTest, turn_near};
 use cam_shapes::{Cap, Disc};
 use cam_units::Point;
@@ -46,12 +48,23 @@ impl Chord {
             (λ s. dot (seen_from point.now s) (seen_from point.now s) <ℤ pos bound) }
     {
         let height = squared_height(point, centres);
-        if bound <= height {
+        self.row(&Offsets::from(point, centres), bound.saturating_sub(height))
+    }
+
+    /// The row of the centres in a chord: the square of how far one lies to the side is less than `room`. No row has one
+    /// where that is 0.
+    #[inline]
+    pub(crate) fn row(&mut self, offsets: &Offsets, room: u128) -> u64
+        requires { AreSteady offsets.now }
+        ensures { (i : ℕ) → i < 64 → IsBitSet result i
+            ↔ ((i < offsets.now.count) × (square (offset offsets.now.first offsets.now.step i) <ℤ pos room)) }
+    {
+        if room == 0 {
             return 0;
         }
-        let offsets = Offsets::new(point, bound - height, centres);
-        self.first = turn_near(&BeforeChord(offsets), self.first, centres.count);
-        self.end = turn_near(&BeforeEnd(offsets), self.end, centres.count);
+        let offsets = *offsets;
+        self.first = turn_near(&BeforeChord { offsets, room }, self.first, offsets.count);
+        self.end = turn_near(&BeforeEnd { offsets, room }, self.end, offsets.count);
         bits_between(self.first, self.end)
     }
 
@@ -85,76 +98,51 @@ impl Chord {
     }
 }
 
-/// How far the centres of a row lie to the right of a circle's middle, and the square of half the row's chord.
+/// The test that a centre lies left of a chord, where the square of half the chord is `room`.
 #[derive(Clone, Copy)]
-struct Offsets {
-    first: i64,
-    step: i64,
+struct BeforeChord {
+    offsets: Offsets,
     room: u128,
 }
 
-impl Offsets {
-    /// Those from a point, where the square of half the chord is `room`.
-    fn new(point: &Point, room: u128, centres: &Centres) -> Offsets
-        requires point { IsOnBoard point.now }
-        requires row { IsRow centres.now }
-        ensures each { (i : ℕ) → offset result.first result.step i ≡ (seen_from point.now (centre_at centres.now i)).x }
-        ensures step { pos 1 ≤ℤ result.step }
-        ensures short { (i : ℕ) → i < centres.now.count → AreShort result.first result.step i }
-        ensures room { result.room ≡ room }
-    {
-        Offsets {
-            first: centres.first.x - 2 * point.x,
-            step: centres.step,
-            room,
-        }
-    }
-
-    /// How far to the right a centre lies.
-    fn at(&self, index: u32) -> i64
-        requires { AreShort self.now.first self.now.step index }
-        ensures { result ≡ offset self.now.first self.now.step index }
-    {
-        self.first + i64::from(index) * self.step
-    }
-
-    /// Whether a place so far to the right is in the chord.
-    fn has_within(&self, offset: i64) -> bool
-        ensures { IsTrue result ↔ (square offset <ℤ pos self.now.room) }
-    {
-        let offset = u128::from(offset.unsigned_abs());
-        offset * offset < self.room
-    }
-}
-
-/// The test that a centre lies left of a chord.
-#[derive(Clone, Copy)]
-struct BeforeChord(Offsets);
-
 impl RowTest for BeforeChord {
-    ghost is_ready = { λ t i. AreShort t.0.first t.0.step i };
+    ghost is_ready = { λ t i. AreShort t.offsets.first t.offsets.step i };
 
-    ghost holds = { λ t i. IsBeforeChord (offset t.0.first t.0.step i) t.0.room };
+    ghost holds = { λ t i. IsBeforeChord (offset t.offsets.first t.offsets.step i) t.room };
 
+    #[inline]
     fn test(&self, index: u32) -> bool {
-        let offset = self.0.at(index);
-        offset < 0 && !self.0.has_within(offset)
+        let offset = self.offsets.at(index);
+        offset < 0 && !is_within(offset, self.room)
     }
 }
 
-/// The test that a centre lies left of a chord or in it.
+/// The test that a centre lies left of a chord or in it, where the square of half the chord is `room`.
 #[derive(Clone, Copy)]
-struct BeforeEnd(Offsets);
+struct BeforeEnd {
+    offsets: Offsets,
+    room: u128,
+}
 
 impl RowTest for BeforeEnd {
-    ghost is_ready = { λ t i. AreShort t.0.first t.0.step i };
+    ghost is_ready = { λ t i. AreShort t.offsets.first t.offsets.step i };
 
-    ghost holds = { λ t i. IsBeforeEnd (offset t.0.first t.0.step i) t.0.room };
+    ghost holds = { λ t i. IsBeforeEnd (offset t.offsets.first t.offsets.step i) t.room };
 
+    #[inline]
     fn test(&self, index: u32) -> bool {
-        let offset = self.0.at(index);
-        offset < 0 || self.0.has_within(offset)
+        let offset = self.offsets.at(index);
+        offset < 0 || is_within(offset, self.room)
     }
+}
+
+/// Whether the square of a distance is less than `room`.
+#[inline]
+fn is_within(distance: i64, room: u128) -> bool
+    ensures { IsTrue result ↔ (square distance <ℤ pos room) }
+{
+    let distance = u128::from(distance.unsigned_abs());
+    distance * distance < room
 }
 
 impl Chord {
@@ -173,10 +161,17 @@ impl Chord {
         }
         let room = radius - height;
         let to_right = right_room(room, centres.first.y < 2 * cap.centre.y);
-        let left = Offsets::new(&cap.centre, room + 1, centres);
-        let right = Offsets::new(&cap.centre, to_right, centres);
-        self.first = turn_near(&BeforeChord(left), self.first, centres.count);
-        self.end = turn_near(&BeforeEnd(right), self.end, centres.count);
+        let offsets = Offsets::from(&cap.centre, centres);
+        let left = BeforeChord {
+            offsets,
+            room: room + 1,
+        };
+        let right = BeforeEnd {
+            offsets,
+            room: to_right,
+        };
+        self.first = turn_near(&left, self.first, centres.count);
+        self.end = turn_near(&right, self.end, centres.count);
         bits_between(self.first, self.end)
     }
 }

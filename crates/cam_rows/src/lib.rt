@@ -39,6 +39,7 @@ mod keeping;
 mod lanes;
 mod linear;
 mod obround;
+mod offsets;
 mod rect;
 mod runs;
 mod slope;

@@ -19,6 +19,7 @@ pub(crate) trait RowTest {
 
 /// How many of the first `count` centres pass a test that holds up to some centre and at none after it: found by
 /// walking from a guess, so that a near guess takes a few tests. Any guess is right.
+#[inline]
 pub(crate) fn turn_near<T: RowTest>(test: &T, guess: u32, count: u32) -> u32
     requires few { count ≤ 64 }
     requires ready { (i : ℕ) → i < count → T.is_ready test.now i }

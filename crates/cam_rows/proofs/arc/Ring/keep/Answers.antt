@@ -1,21 +1,23 @@
 use Rattle.std.proofs.Common.{bit_and, length, slice_index, arith, rules}
-use Rattle.std.specs.Int.{bit_not, w64}
 use Rattle.cam_rows.specs.Machinery.Kept.{Has}
 use Rattle.cam_rows.specs.Rows.{Marks, row_below}
 use Rattle.cam_rows.proofs.ChangedRows.{next_row}
-use Rattle.cam_rows.proofs.RingRows.{IsInRing, marks_ring, masked, passed_row}
+use Rattle.cam_rows.proofs.RingRows.{IsInRing, masked, passed_row, ring_marks}
 use Rattle.cam_rows.proofs.RowsBelow.{top_is_row}
 use Rattle.cam_rows.proofs.arc.Ring.keep.Goals as goal
 use Rattle.cam_rows.proofs.arc.Ring.keep.Goals.{then-rows-k-ne0, else-rows-k-ne0}
 
-pub below-centres-requires-clause-top : goal.below-centres-requires-clause-top
-below-centres-requires-clause-top c = top_is_row c.args.top.now (length c.args.rows.now) (omega arith) c.requires.rows
+pub from-offsets-requires-clause-row : goal.from-offsets-requires-clause-row
+from-offsets-requires-clause-row c = top_is_row c.args.top.now (length c.args.rows.now) (search rules) c.requires.rows
 
-pub circle_row-within_outer-requires-clause-row : goal.circle_row-within_outer-requires-clause-row
-circle_row-within_outer-requires-clause-row c = rw c.below-centres.ensures (c.requires.rows c.loop-k.k (omega arith))
+pub about-outer-requires-clause-row : goal.about-outer-requires-clause-row
+about-outer-requires-clause-row c = top_is_row c.args.top.now (length c.args.rows.now) (search rules) c.requires.rows
 
-pub circle_row-within_inner-requires-clause-row : goal.circle_row-within_inner-requires-clause-row
-circle_row-within_inner-requires-clause-row c = rw c.below-centres.ensures (c.requires.rows c.loop-k.k (omega arith))
+pub below-requires-clause-top : goal.below-requires-clause-top
+below-requires-clause-top c = top_is_row c.args.top.now (length c.args.rows.now) (omega arith) c.requires.rows
+
+pub squared_height-height-requires-clause-row : goal.squared_height-height-requires-clause-row
+squared_height-height-requires-clause-row c = rw c.below.ensures (c.requires.rows c.loop-k.k (omega arith))
 
 pub loop-k-preserved : goal.loop-k-preserved
 loop-k-preserved c =
@@ -26,12 +28,10 @@ loop-k-preserved c =
     let k = c.loop-k.k in
     elim c.if-rows-k-ne0.branch [
       | then-rows-k-ne0 w ↦
-          let outer = w.circle_row-within_outer.result in
-          let inner = w.circle_row-within_inner.result in
-          let ring = bit_and outer (bit_not w64 inner) in
+          let ring = w.row.result in
           let marks : Marks ring (row_below top k) (IsInRing arc) =
-          rw w.below-centres.ensures at (marks_ring outer inner w.below-centres.result arc c.args.self.now
-          (search rules) c.requires.ring w.circle_row-within_outer.ensures w.circle_row-within_inner.ensures) in
+          ring_marks ring top arc c.args.self.now c.from-offsets.result k w.squared_height-height.result c.requires.ring
+          c.from-offsets.ensures (rw w.below.ensures at w.squared_height-height.ensures.value) w.row.ensures in
           rw w.rows-is (next_row (λ P Q. P × Q) old (Has top (IsInRing arc)) rows k (bit_and (slice_index rows k) ring)
           (omega arith) c.loop-k.invariant (λ i small. masked (slice_index rows k) ring i _ (marks i small)))
       | else-rows-k-ne0 w ↦

@@ -20,23 +20,30 @@ returns-then-height-radius c = λ i _. (
 
 pub turn_near-self-requires-clause-falls : goal.turn_near-self-requires-clause-falls
 turn_near-self-requires-clause-falls c =
-    let left = c.new-left.result in
-    before_chord_falls left.first left.step left.room c.args.centres.now.count c.new-left.ensures.step
+    let offsets = c.from-offsets.result in
+    before_chord_falls offsets.first offsets.step _ c.args.centres.now.count c.from-offsets.ensures.steady.step
 
 pub turn_near-self-requires-2-clause-falls : goal.turn_near-self-requires-2-clause-falls
 turn_near-self-requires-2-clause-falls c =
-    let right = c.new-right.result in
-    before_end_falls right.first right.step right.room c.args.centres.now.count c.new-right.ensures.step
+    let offsets = c.from-offsets.result in
+    before_end_falls offsets.first offsets.step _ c.args.centres.now.count c.from-offsets.ensures.steady.step
+
+pub turn_near-self-requires-clause-ready : goal.turn_near-self-requires-clause-ready
+turn_near-self-requires-clause-ready c = λ i within.
+    c.from-offsets.ensures.steady.short i (rw c.from-offsets.ensures.count within)
+
+pub turn_near-self-requires-2-clause-ready : goal.turn_near-self-requires-2-clause-ready
+turn_near-self-requires-2-clause-ready c = λ i within.
+    c.from-offsets.ensures.steady.short i (rw c.from-offsets.ensures.count within)
 
 pub bits_between-requires-clause-ordered : goal.bits_between-requires-clause-ordered
 bits_between-requires-clause-ordered c =
     let centre = c.args.cap.now.centre in
     let row = c.args.centres.now in
     ends_ordered c.turn_near-self.result c.turn_near-self-2.result row.count
-    (λ i. (seen_from centre (centre_at row i)).x) c.new-left.result.room c.new-right.result.room
-    c.turn_near-self.ensures.within
-    (λ i h. rw (c.new-left.ensures.each i) at (c.turn_near-self.ensures.passes i h))
-    (λ i h k. rw (c.new-right.ensures.each i) at (c.turn_near-self-2.ensures.fails i h k))
+    (λ i. (seen_from centre (centre_at row i)).x) _ _ c.turn_near-self.ensures.within
+    (λ i h. rw (c.from-offsets.ensures.each i) at (c.turn_near-self.ensures.passes i h))
+    (λ i h k. rw (c.from-offsets.ensures.each i) at (c.turn_near-self-2.ensures.fails i h k))
 
 pub returns : goal.returns
 returns c = λ i within.
@@ -54,8 +61,8 @@ returns c = λ i within.
     height.ensures.value c.if-height-radius.false below in
     circle_bit _ i c.turn_near-self.result c.turn_near-self-2.result row.count (way cap.centre cap.from) v
     radius.result height.result c.right_room-to_right.result _ circle (c.right_room-to_right.ensures v.x) end.within
-    (rw (c.new-left.ensures.room, c.new-left.ensures.each i) at (begin.passes i))
-    (λ h k. rw (c.new-left.ensures.room, c.new-left.ensures.each i) at (begin.fails i k h))
-    (rw (c.new-right.ensures.room, c.new-right.ensures.each i) at (end.passes i))
-    (λ h k. rw (c.new-right.ensures.room, c.new-right.ensures.each i) at (end.fails i k h))
+    (rw (c.from-offsets.ensures.each i) at (begin.passes i))
+    (λ h k. rw (c.from-offsets.ensures.each i) at (begin.fails i k h))
+    (rw (c.from-offsets.ensures.each i) at (end.passes i))
+    (λ h k. rw (c.from-offsets.ensures.each i) at (end.fails i k h))
     (c.bits_between.ensures i within)
