@@ -1,11 +1,9 @@
 -- Rows of caps: what is kept of rows in which every bit is set.
-use Rattle.std.proofs.Common.{◌≡◌, ◌↔◌, ℕ, ◌+◌, ◌-◌, ◌^◌, ◌<◌, Bool, true, false, not, ◌&&◌, if◌then◌else◌, IsTrue}
-use Rattle.std.proofs.Common.{List, length, replicate, slice_index, slice_set, bit_and, inl, inr, refl, ap, arith}
+use Rattle.std.proofs.Common.{◌≡◌, ◌↔◌, ℕ, ◌-◌, ◌^◌, ◌<◌, Bool, true, false, not, ◌&&◌, if◌then◌else◌, IsTrue}
+use Rattle.std.proofs.Common.{List, length, replicate, slice_index, refl, ap, arith}
 use Rattle.std.proofs.Math.ListN.{length-replicate}
 use Rattle.std.specs.Int.{IsBitSet}
-use Rattle.std.proofs.lemmas.Bool.{cases_lt}
 use Rattle.std.proofs.lemmas.List.{get_or-replicate}
-use Rattle.cam_units.specs.declared.point.Spot.{Spot}
 use Rattle.cam_shapes.specs.declared.cap.Cap.{Cap}
 use Rattle.cam_shapes.specs.Cap.{is_full_circle, is_in_cap, is_in_circle, is_on_side}
 use Rattle.cam_shapes.specs.Plane.{seen_from, way}
@@ -13,49 +11,8 @@ use Rattle.cam_rows.specs.declared.centres.Centres.{Centres}
 use Rattle.cam_rows.specs.declared.half_plane.HalfPlane.{HalfPlane}
 use Rattle.cam_rows.specs.Machinery.HalfPlanes.{HasCentre, IsHalfPlaneOf}
 use Rattle.cam_rows.specs.Machinery.Kept.{AreClear, AreKept, Has}
-use Rattle.cam_rows.specs.Rows.{AreMarked, Marks, centre_at, row_below}
-use Rattle.cam_rows.proofs.ChangedRows.{AreChangedAbove, next_row}
-use Rattle.cam_rows.proofs.SetBits.{none_set, set_in_and, whole_run}
-
-abbrev Both : Type 0 → Type 0 → Type 0
-Both P Q = P × Q
-
--- the rows above an end keep what is held
-abbrev pub AreKeptAbove : List ℕ → (ℕ → ℕ → Type 0) → List ℕ → ℕ → Type 0
-AreKeptAbove old IsHeld new end = AreChangedAbove Both old IsHeld new end
-
--- one more row, joined with that of a shape
-kept_here : (row mask : ℕ) (top : Centres) (IsIn : Spot → Type 0) (k : ℕ) → Marks mask (row_below top k) IsIn
-    → (i : ℕ) → i < 64 → IsBitSet (bit_and row mask) i ↔ (IsBitSet row i × Has top IsIn k i)
-kept_here row mask top IsIn k marks i small =
-    let joined = set_in_and row mask i in (
-      (λ set. let both = joined.0 set in (both.0, (marks i small).0 both.1)),
-      (λ both. joined.1 (both.0, (marks i small).1 both.1)),
-    )
-
-pub kept_row : (old : List ℕ) (top : Centres) (IsIn : Spot → Type 0) (new : List ℕ) (end mask : ℕ) → end < length old
-    → AreKeptAbove old (Has top IsIn) new end → Marks mask (row_below top end) IsIn
-    → AreKeptAbove old (Has top IsIn) (slice_set new end (bit_and (slice_index new end) mask)) (end + 1)
-kept_row old top IsIn new end mask within above marks =
-    next_row Both old (Has top IsIn) new end (bit_and (slice_index new end) mask) within above
-    (kept_here (slice_index new end) mask top IsIn end marks)
-
--- and one of which nothing is left
-pub none_here : (old : List ℕ) (IsHeld : ℕ → ℕ → Type 0) (new : List ℕ) (end : ℕ) → end < length old
-    → AreKeptAbove old IsHeld new end → slice_index new end ≡ 0 → AreKeptAbove old IsHeld new (end + 1)
-none_here old IsHeld new end within above none = record {
-  changed = λ k i early small. elim (cases_lt k end) [
-    | inl before ↦ above.changed k i before small
-    | inr after ↦
-        let is : k ≡ end = omega arith in
-        rw is (
-          (λ set. absurd (none_set (slice_index new end) i none set)),
-          (λ both. absurd (none_set (slice_index old end) i (rw (above.same end (omega arith)) at none) both.0)),
-        )
-  ];
-  size = above.size;
-  same = λ k late. above.same k (omega arith);
-}
+use Rattle.cam_rows.specs.Rows.{AreMarked, centre_at, row_below}
+use Rattle.cam_rows.proofs.SetBits.{whole_run}
 
 -- two tests that both hold
 both_true : (a b : Bool) → IsTrue (a && b) ↔ (IsTrue a × IsTrue b)

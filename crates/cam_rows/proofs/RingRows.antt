@@ -1,5 +1,5 @@
--- Rows of the ring between two circles, and rows of which a ring is kept.
-use Rattle.std.proofs.Common.{◌≡◌, ℕ, ◌+◌, ◌-◌, ◌*◌, ◌^◌, ◌<◌, ◌≤◌, ◌↔◌, ℤ, pos, ◌<ℤ◌, List, slice_index}
+-- Rows of the ring between two circles.
+use Rattle.std.proofs.Common.{◌≡◌, ℕ, ◌+◌, ◌-◌, ◌*◌, ◌^◌, ◌<◌, ◌≤◌, ◌↔◌, ℤ, pos, ◌<ℤ◌}
 use Rattle.std.proofs.Common.{bit_and, inl, inr, refl, ap, ◌∙◌, arith}
 use Rattle.std.specs.Int.{IsBitSet, bit_not, w64}
 use Rattle.std.specs.Int.RustNames.{unsigned_abs}
@@ -17,8 +17,7 @@ use Rattle.cam_rows.specs.declared.offsets.Offsets.{Offsets}
 use Rattle.cam_rows.specs.Machinery.Chords.{AreOffsets, offset, side}
 use Rattle.cam_rows.specs.Machinery.Rings.{IsBetween, IsRingOf}
 use Rattle.cam_rows.specs.Rows.{Marks, centre_at, row_below}
-use Rattle.cam_rows.proofs.ChangedRows.{AreChangedAbove}
-use Rattle.cam_rows.proofs.SetBits.{none_set, set_in_and, set_in_rest}
+use Rattle.cam_rows.proofs.SetBits.{set_in_rest}
 
 -- the square of a place's distance from the arc's centre
 abbrev pub distance_of : Arc → Spot → ℤ
@@ -74,29 +73,3 @@ ring_marks row top a r o k height ring columns e bits i small =
       (λ set. let on = here.0 set in (rw columns.count at on.0, near.1 on.1)),
       (λ on. here.1 (rw columns.count on.0, near.0 on.1)),
     )
-
--- one bit of a row that is masked by another
-pub masked : (old row i : ℕ) (P : Type 0) → (IsBitSet row i ↔ P)
-    → IsBitSet (bit_and old row) i ↔ (IsBitSet old i × P)
-masked old row i P told =
-    let both = set_in_and old row i in (
-      (λ set. let on = both.0 set in (on.0, told.0 on.1)),
-      (λ on. both.1 (on.0, told.1 on.1)),
-    )
-
--- a row without a set bit is passed over
-pub passed_row : (old new : List ℕ) (IsHeld : ℕ → ℕ → Type 0) (end : ℕ) → slice_index new end ≡ 0
-    → AreChangedAbove (λ P Q. P × Q) old IsHeld new end → AreChangedAbove (λ P Q. P × Q) old IsHeld new (end + 1)
-passed_row old new IsHeld end clear above = record {
-  changed = λ k i early small. elim (cases_lt k end) [
-    | inl before ↦ above.changed k i before small
-    | inr after ↦
-        let is : k ≡ end = omega arith in
-        rw is (
-          (λ set. absurd (none_set (slice_index new end) i clear set)),
-          (λ on. absurd (none_set (slice_index new end) i clear (rw (above.same end (omega arith)) on.0))),
-        )
-  ];
-  size = above.size;
-  same = λ k late. above.same k (omega arith);
-}

@@ -51,8 +51,7 @@ impl Chord {
         self.row(&Offsets::from(point, centres), bound.saturating_sub(height))
     }
 
-    /// The row of the centres in a chord: the square of how far one lies to the side is less than `room`. No row has one
-    /// where that is 0.
+    /// The row of the centres in a chord: those whose distance to the side has a square less than `room`.
     #[inline]
     pub(crate) fn row(&mut self, offsets: &Offsets, room: u128) -> u64
         requires { AreSteady offsets.now }

@@ -62,8 +62,8 @@ impl Offsets {
     }
 }
 
-/// The squares of how far the nearest of some columns lies to the left or right of a point, which is 0 where they lie on
-/// both sides, and the farthest.
+/// The squares of how far the nearest of some columns lies to the left or right of a point, and the farthest. The
+/// former is 0 where they lie on both sides.
 #[derive(Clone, Copy)]
 pub struct Band {
     pub nearest: u128,

@@ -2,7 +2,7 @@ use Rattle.std.proofs.Common.{IsTrue, arith}
 use Rattle.cam_shapes.specs.Cap.{is_in_circle}
 use Rattle.cam_shapes.specs.Plane.{seen_from, way}
 use Rattle.cam_rows.specs.Machinery.Kept.{Has}
-use Rattle.cam_rows.proofs.CapRows.{kept_row, none_here}
+use Rattle.cam_rows.proofs.KeptRows.{kept_row, none_here}
 use Rattle.cam_rows.proofs.cap.keep_inside.Goals as goal
 use Rattle.cam_rows.proofs.cap.keep_inside.Goals.{then-rows-k-ne0, else-rows-k-ne0}
 

@@ -2,7 +2,7 @@ use Rattle.std.proofs.Common.{IsTrue}
 use Rattle.cam_shapes.specs.Cap.{is_in_circle}
 use Rattle.cam_shapes.specs.Plane.{seen_from, way}
 use Rattle.cam_rows.specs.Machinery.Kept.{Has}
-use Rattle.cam_rows.proofs.CapRows.{AreKeptAbove}
+use Rattle.cam_rows.proofs.KeptRows.{AreKeptAbove}
 use Rattle.cam_rows.proofs.cap.keep_inside.Given as goal
 
 abbrev pub invariant-loop-k : goal.invariant-loop-k

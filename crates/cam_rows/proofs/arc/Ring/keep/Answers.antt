@@ -1,8 +1,8 @@
-use Rattle.std.proofs.Common.{bit_and, length, slice_index, arith, rules}
+use Rattle.std.proofs.Common.{length, arith, rules}
 use Rattle.cam_rows.specs.Machinery.Kept.{Has}
 use Rattle.cam_rows.specs.Rows.{Marks, row_below}
-use Rattle.cam_rows.proofs.ChangedRows.{next_row}
-use Rattle.cam_rows.proofs.RingRows.{IsInRing, masked, passed_row, ring_marks}
+use Rattle.cam_rows.proofs.KeptRows.{kept_row, none_here}
+use Rattle.cam_rows.proofs.RingRows.{IsInRing, ring_marks}
 use Rattle.cam_rows.proofs.RowsBelow.{top_is_row}
 use Rattle.cam_rows.proofs.arc.Ring.keep.Goals as goal
 use Rattle.cam_rows.proofs.arc.Ring.keep.Goals.{then-rows-k-ne0, else-rows-k-ne0}
@@ -32,9 +32,8 @@ loop-k-preserved c =
           let marks : Marks ring (row_below top k) (IsInRing arc) =
           ring_marks ring top arc c.args.self.now c.from-offsets.result k w.squared_height-height.result c.requires.ring
           c.from-offsets.ensures (rw w.below.ensures at w.squared_height-height.ensures.value) w.row.ensures in
-          rw w.rows-is (next_row (λ P Q. P × Q) old (Has top (IsInRing arc)) rows k (bit_and (slice_index rows k) ring)
-          (omega arith) c.loop-k.invariant (λ i small. masked (slice_index rows k) ring i _ (marks i small)))
+          rw w.rows-is (kept_row old top (IsInRing arc) rows k ring (omega arith) c.loop-k.invariant marks)
       | else-rows-k-ne0 w ↦
-          rw w.rows-is (passed_row old rows (Has top (IsInRing arc)) k (omega (arith, w.if-rows-k-ne0.false))
-          c.loop-k.invariant)
+          rw w.rows-is (none_here old (Has top (IsInRing arc)) rows k (omega arith) c.loop-k.invariant
+          w.if-rows-k-ne0.false)
     ]

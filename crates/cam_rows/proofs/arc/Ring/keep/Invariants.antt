@@ -1,7 +1,7 @@
 use Rattle.cam_rows.specs.Machinery.Kept.{Has}
-use Rattle.cam_rows.proofs.ChangedRows.{AreChangedAbove}
+use Rattle.cam_rows.proofs.KeptRows.{AreKeptAbove}
 use Rattle.cam_rows.proofs.RingRows.{IsInRing}
 use Rattle.cam_rows.proofs.arc.Ring.keep.Given as goal
 
 abbrev pub invariant-loop-k : goal.invariant-loop-k
-invariant-loop-k l = AreChangedAbove (λ P Q. P × Q) l.initial.rows (Has l.top (IsInRing l.arc)) l.rows l.k
+invariant-loop-k l = AreKeptAbove l.initial.rows (Has l.top (IsInRing l.arc)) l.rows l.k
