@@ -12,6 +12,7 @@ pub mod Chords
 pub mod Circling
 pub mod Columns
 pub mod EdgeSides
+pub mod EitherRows
 pub mod EqualRows
 pub mod HalfPlanes
 pub mod JoinedLanes

@@ -1,6 +1,6 @@
 //! What half planes keep of rows, and what of them they turn over.
 
-ghost use Rattle.std.specs.Prelude.{◌≡◌, ◌↔◌, ◌+◌, ◌^◌, ◌<◌, ◌≤◌, ℕ, IfSome, IsTrue, length};
+ghost use Rattle.std.specs.Prelude.{◌≡◌, ◌↔◌, ◌⊎◌, ◌+◌, ◌^◌, ◌<◌, ◌≤◌, ℕ, IfSome, IsTrue, length};
 ghost use Rattle.std.specs.Int.{IsBitSet};
 ghost use Rattle.std.specs.Int.RustNames.{unsigned_abs};
 ghost use Rattle.cam_rows.specs.Machinery.Changes.{AreChanged, IsRowOfAll, IsSetBy};
@@ -117,6 +117,43 @@ impl HalfPlane {
         ensures { AreChanged change rows.old (HasCentre self.now) rows.new }
     {
         self.slope().change(change, rows);
+    }
+}
+
+/// Clears the bits of the centres outside of both half planes, in rows one below another from the top one: at once where
+/// one has all of 64 centres, or none, or both have the same ones in each row.
+pub(crate) fn keep_either(first: &HalfPlane, second: &HalfPlane, rows: &mut [u64])
+    requires first { IsShortIn (length rows.old) first.now }
+    requires second { IsShortIn (length rows.old) second.now }
+    ensures { AreKept rows.old (λ k i. HasCentre first.now k i ⊎ HasCentre second.now k i) rows.new }
+{
+    let in_first = first.row_of_all(rows.len());
+    let in_second = second.row_of_all(rows.len());
+    if in_first == Some(u64::MAX) || in_second == Some(u64::MAX) {
+        return;
+    }
+    match (in_first, in_second) {
+        (Some(held), Some(others)) => change_alike(Change::Keep, held | others, rows),
+        (Some(0), None) => second.change_by_slope(Change::Keep, rows),
+        (None, Some(0)) => first.change_by_slope(Change::Keep, rows),
+        _ => keep_by_slopes(first, second, rows),
+    }
+}
+
+/// Clears the bits of the centres outside of both half planes, by the slopes of both.
+fn keep_by_slopes(first: &HalfPlane, second: &HalfPlane, rows: &mut [u64])
+    requires first { IsShortIn (length rows.old) first.now }
+    requires second { IsShortIn (length rows.old) second.now }
+    ensures { AreKept rows.old (λ k i. HasCentre first.now k i ⊎ HasCentre second.now k i) rows.new }
+{
+    let mut in_first = first.slope();
+    let mut in_second = second.slope();
+    for k in 0..rows.len() {
+        if k > 0 {
+            in_first.step_down();
+            in_second.step_down();
+        }
+        rows[k] &= in_first.row() | in_second.row();
     }
 }
 

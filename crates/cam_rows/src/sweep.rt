@@ -1,17 +1,17 @@
 //! Sweeps about a point, row after row.
 
-ghost use Rattle.std.specs.Prelude.{◌≡◌, ◌⊎◌, ◌^◌, ◌<◌, IsTrue, length, pos, ◌≤ℤ◌};
+ghost use Rattle.std.specs.Prelude.{◌≡◌, ◌^◌, ◌<◌, IsTrue, length, pos, ◌≤ℤ◌};
 ghost use Rattle.std.specs.Int.RustNames.{unsigned_abs};
 ghost use Rattle.cam_units.specs.Board.{IsOnBoard};
 ghost use Rattle.cam_shapes.specs.Arc.{IsInSweep, IsSoundArc, IsSwept};
 ghost use Rattle.cam_shapes.specs.Plane.{cross, dot, place_of, seen_from, way};
-ghost use Rattle.cam_rows.specs.Machinery.HalfPlanes.{HasCentre, IsShortIn};
 ghost use Rattle.cam_rows.specs.Machinery.Kept.{AreClear, AreKept};
 ghost use Rattle.cam_rows.specs.Machinery.Sweeps.{Holds, IsShortSweep, IsSweep};
 ghost use Rattle.cam_rows.specs.Rows.{IsRow};
 
 use crate::centres::Centres;
 use crate::half_plane::HalfPlane;
+use crate::keeping::keep_either;
 use crate::way::{across, along};
 use cam_shapes::Arc;
 use cam_units::{Point, Spot};
@@ -89,23 +89,6 @@ impl Sweep {
             return true;
         }
         self.after_start.keep(rows) && self.before_end.keep(rows)
-    }
-}
-
-/// Clears the bits of the centres outside of both half planes.
-fn keep_either(first: &HalfPlane, second: &HalfPlane, rows: &mut [u64])
-    requires first { IsShortIn (length rows.old) first.now }
-    requires second { IsShortIn (length rows.old) second.now }
-    ensures { AreKept rows.old (λ k i. HasCentre first.now k i ⊎ HasCentre second.now k i) rows.new }
-{
-    let mut in_first = first.slope();
-    let mut in_second = second.slope();
-    for k in 0..rows.len() {
-        if k > 0 {
-            in_first.step_down();
-            in_second.step_down();
-        }
-        rows[k] &= in_first.row() | in_second.row();
     }
 }
 

@@ -4,8 +4,8 @@ use Rattle.cam_rows.specs.Machinery.Slopes.{lowered}
 use Rattle.cam_rows.proofs.ChangedRows.{next_row, no_rows}
 use Rattle.cam_rows.proofs.Slopes.{lowered_none, stepped}
 use Rattle.cam_rows.proofs.SweepRows.{kept_by_either}
-use Rattle.cam_rows.proofs.sweep.keep_either.Goals as goal
-use Rattle.cam_rows.proofs.sweep.keep_either.Goals.{Joined-k-gt0, then-k-gt0, else-k-gt0}
+use Rattle.cam_rows.proofs.keeping.keep_by_slopes.Goals as goal
+use Rattle.cam_rows.proofs.keeping.keep_by_slopes.Goals.{Joined-k-gt0, then-k-gt0, else-k-gt0}
 
 -- the slopes of a row, by those of the top one
 first_here : (c : Joined-k-gt0) → c.if-k-gt0.in_first ≡ lowered c.loop-k.k (numbers_of c.args.first.now)

@@ -2,7 +2,7 @@ use Rattle.std.proofs.Common.{◌≡◌, ◌⊎◌, ◌-◌}
 use Rattle.cam_rows.specs.Machinery.HalfPlanes.{HasCentre, numbers_of}
 use Rattle.cam_rows.specs.Machinery.Slopes.{lowered}
 use Rattle.cam_rows.proofs.ChangedRows.{AreChangedAbove}
-use Rattle.cam_rows.proofs.sweep.keep_either.Given as goal
+use Rattle.cam_rows.proofs.keeping.keep_by_slopes.Given as goal
 
 -- the slopes lag one row behind, from the second one on
 abbrev pub invariant-loop-k : goal.invariant-loop-k
