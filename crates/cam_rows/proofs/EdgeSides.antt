@@ -39,7 +39,7 @@ left_of_reverse s p q above below =
     (less_is (cross (way p q) (seen_from p s)) (pos 0)))
 
 -- and one that rises, from its own left
-left_of_edge : (s : Spot) (p q : Point) → is_above p s ≡ false → is_above q s ≡ true
+pub left_of_edge : (s : Spot) (p q : Point) → is_above p s ≡ false → is_above q s ≡ true
     → (pos 0 <ℤ cross (way p q) (seen_from p s)) ↔ IsTrue (crosses_ray s (edge p q))
 left_of_edge s p q below above =
     let told = less_is (pos 0) (cross (way p q) (seen_from p s)) in rw (below, above) (told.1, told.0)

@@ -16,7 +16,8 @@
 //!
 //! - [`disc_row`], [`rect_row`], [`obround_row`], [`hole_row`]: the standard apertures and their holes, one run each.
 //! - [`bar_row`]: a line of a macro; [`capsule_row`], [`arc_row`]: the strokes of a round tool.
-//! - [`edge_row`], [`cap_row`]: parts of a region; [`turn_edge`] turns over what an edge of it changes.
+//! - [`edge_row`], [`cap_row`]: parts of a region; [`turn_edge`] turns over what an edge of it changes, [`edge_end`]
+//!   tells where that ends at one height.
 //! - [`or_rows`], [`clear_rows`], [`xor_rows`]: the 64 rows of a tile; [`pbm_bytes`]: a row in a file.
 //!
 //! What a row is stands in `specs/Rows.antt`, rows joined lane by lane in `specs/Lanes.antt`.
@@ -54,7 +55,7 @@ pub use capsule::{capsule_row, capsule_rows};
 pub use centres::Centres;
 pub use circle::squared_distance;
 pub use disc::{disc_row, disc_rows};
-pub use edge::{edge_row, turn_edge};
+pub use edge::{edge_end, edge_row, turn_edge};
 pub use hole::{hole_row, hole_rows};
 pub use lanes::{clear_rows, or_rows, pbm_bytes, xor_rows};
 pub use obround::{obround_row, obround_rows};

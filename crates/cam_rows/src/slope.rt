@@ -358,7 +358,7 @@ fn is_short(part: i128) -> bool
 }
 
 /// The greatest whole number that is at most the quotient, and what is left of the number.
-fn floor_division(number: i128, divisor: i128) -> (i128, i128)
+pub(crate) fn floor_division(number: i128, divisor: i128) -> (i128, i128)
     requires number { unsigned_abs number ≤ 2 ^ 100 }
     requires divisor { IsDivisor divisor }
     ensures whole { whole result.0 divisor result.1 ≡ number }
