@@ -20,28 +20,21 @@ use Rattle.cam_apertures.proofs.ShapeBoxes.{less_at_most}
 use Rattle.cam_tiles.specs.declared.levels.Levels.{Levels}
 use Rattle.cam_tiles.specs.declared.masks.filing.FiledSegment.{FiledSegment}
 use Rattle.cam_tiles.specs.declared.masks.heights.Heights.{Heights}
-use Rattle.cam_tiles.specs.Filing.{IsFiledAs, Misses}
+use Rattle.cam_tiles.specs.Filing.{AreEndsIn, IsFiledAs, Misses}
 use Rattle.cam_tiles.specs.Levels.{AreLevels, IsOnRow, height}
 use Rattle.cam_tiles.specs.Masks.{IsWithin}
-use Rattle.cam_tiles.proofs.EdgeSpans.{met_apart, met_left, missed_right}
+use Rattle.cam_tiles.proofs.EdgeSpans.{met_apart}
 use Rattle.cam_tiles.proofs.GridLemmas.{long}
 use Rattle.cam_tiles.proofs.LevelRows.{rows_reached}
 use Rattle.cam_tiles.proofs.ShapeHeights.{AreAbout, squared_radius}
 
 -- ---- lines
 
-left_of_ends : (x a b left : ℤ) → left ≡ pos 2 *ℤ int_min a b → x <ℤ left → (x <ℤ (pos 2 *ℤ a)) × (x <ℤ (pos 2 *ℤ b))
-left_of_ends x a b left e h = (omega (arith, ints, clamps), omega (arith, ints, clamps))
-
-before_both : (x a b least : ℤ) → least ≡ int_min a b → x <ℤ least → (x <ℤ a) × (x <ℤ b)
+pub before_both : (x a b least : ℤ) → least ≡ int_min a b → x <ℤ least → (x <ℤ a) × (x <ℤ b)
 before_both x a b least e h = (omega (arith, ints, clamps), omega (arith, ints, clamps))
 
-after_both : (x a b most : ℤ) → most ≡ int_max a b → most ≤ℤ x → (a ≤ℤ x) × (b ≤ℤ x)
+pub after_both : (x a b most : ℤ) → most ≡ int_max a b → most ≤ℤ x → (a ≤ℤ x) × (b ≤ℤ x)
 after_both x a b most e h = (omega (arith, ints, clamps), omega (arith, ints, clamps))
-
-right_of_ends : (x a b right : ℤ) → right ≡ pos 2 *ℤ int_max a b → right ≤ℤ x
-    → ((pos 2 *ℤ a) ≤ℤ x) × ((pos 2 *ℤ b) ≤ℤ x)
-right_of_ends x a b right e h = (omega (arith, ints, clamps), omega (arith, ints, clamps))
 
 -- a line, of which the rows between its heights are those from a first one up to below an end
 module _ (l : Levels) (p q : Point) (h : Heights) (first end : ℕ)
@@ -56,19 +49,16 @@ module _ (l : Levels) (p q : Point) (h : Heights) (first end : ℕ)
 
   pub line_filed : (k bits : ℕ) (left right : ℤ) → l.rows ≤ 64
       → ((row : ℕ) → row < 64 → IsBitSet bits row ↔ ((first ≤ row) × (row < end)))
-      → left ≡ pos 2 *ℤ int_min p.x q.x → right ≡ pos 2 *ℤ int_max p.x q.x
+      → AreEndsIn l p q first end left right
       → IsFiledAs l k p (Line q) (record { place = k; rows = bits; left = left; right = right })
-  line_filed k bits left right few told is_left is_right = record {
+  line_filed k bits left right few told ends = record {
     place = refl;
     left = λ row s on before.
-        let bit = told row (omega (arith, on.0, few)) in
-        let ends = left_of_ends s.x p.x q.x left is_left before in (
+        let bit = told row (omega (arith, on.0, few)) in (
           (λ met. bit.1 (crossed_rows row s on met)),
-          (λ set. met_left s p q ends.0 ends.1 ((heights s).0 ((rows row s on).0 (bit.0 set)))),
+          (λ set. ends.left row s on (bit.0 set) before),
         );
-    right = λ row s on after.
-        let ends = right_of_ends s.x p.x q.x right is_right after in
-        missed_right s p q ends.0 ends.1;
+    right = λ row s on after met. ends.right row s on (crossed_rows row s on met) after met;
   }
 
 -- ---- caps

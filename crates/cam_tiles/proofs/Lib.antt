@@ -2,6 +2,7 @@ pub mod Bands
 pub mod Bytes
 pub mod ChangedParities
 pub mod CircleBounds
+pub mod ClippedLines
 pub mod CountedSegments
 pub mod DrawnTiles
 pub mod EdgeSpans

@@ -68,7 +68,17 @@ impl Levels {
         requires { AreLevels self.now }
         ensures { result ≡ height self.now (self.now.rows - 1) }
     {
-        self.top - i64::from(self.rows - 1) * self.step
+        self.height(self.rows - 1)
+    }
+
+    /// The height of a row, in half nm.
+    #[inline]
+    pub(crate) fn height(&self, row: u32) -> i64
+        requires levels { AreLevels self.now }
+        requires row { row < self.now.rows }
+        ensures { result ≡ height self.now row }
+    {
+        self.top - i64::from(row) * self.step
     }
 
     /// How many of the rows lie less than a distance below the first.

@@ -1,6 +1,7 @@
 //! Masks: which pixel centres of a tile are marked.
 
 pub(crate) mod canvas;
+pub(crate) mod clipping;
 pub(crate) mod contours;
 pub(crate) mod filing;
 pub(crate) mod heights;

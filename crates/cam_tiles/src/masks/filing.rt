@@ -14,6 +14,7 @@ ghost use Rattle.cam_tiles.specs.Masks.{Joins};
 ghost use Rattle.cam_tiles.specs.Parities.{Changes};
 
 use crate::levels::Levels;
+use crate::masks::clipping::ends_in_rows;
 use crate::masks::join::Join;
 use crate::masks::mask::Mask;
 use crate::masks::parity::{Parity, crossed_heights};
@@ -78,8 +79,8 @@ fn filed_segment(place: u32, here: Point, seg: Seg, levels: Levels) -> Option<Fi
     }
 }
 
-/// What is filed of a line: it changes all places left of both its ends, in the rows that it crosses, and none right of
-/// them.
+/// What is filed of a line: in the rows that it crosses it changes all places left of what of it lies there, and none
+/// right of that.
 #[inline]
 fn filed_line(place: u32, from: Point, to: Point, levels: Levels) -> Option<FiledSegment>
     requires from { IsOnBoard from }
@@ -91,11 +92,12 @@ fn filed_line(place: u32, from: Point, to: Point, levels: Levels) -> Option<File
     if band.end <= band.first {
         return None;
     }
+    let (left, right) = ends_in_rows(from, to, levels, band);
     Some(FiledSegment {
         place,
         rows: band.bits(),
-        left: 2 * from.x.min(to.x),
-        right: 2 * from.x.max(to.x),
+        left,
+        right,
     })
 }
 
