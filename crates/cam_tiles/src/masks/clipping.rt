@@ -13,6 +13,9 @@ use cam_rows::edge_end;
 use cam_units::Point;
 
 /// Between which places a line lies in rows that it crosses, in half nm: where it crosses the top one and the lowest.
+///
+/// It stands apart, so that filing stays short where a line crosses none of the rows, as most do.
+#[inline(never)]
 pub(crate) fn ends_in_rows(from: Point, to: Point, levels: Levels, band: Band) -> (i64, i64)
     requires from { IsOnBoard from }
     requires to { IsOnBoard to }
