@@ -19,28 +19,11 @@ use crate::number::{cut, variable};
 use crate::primitive::{MacroPrimitive, Prims};
 use crate::variables::Variables;
 use cam_numbers::{Blanks, natural};
-use cam_units::Unit;
+use cam_units::{Items, Unit};
 use std::alloc::Global;
-use std::marker::Model;
 
 /// The expressions of a primitive, in order.
-#[derive(Debug, Drop)]
-pub struct Fields {
-    items: Vec<Expression>,
-}
-
-impl Model for Fields {
-    ghost use Rattle.std.specs.Prelude.{List};
-    ghost use Rattle.std.specs.Coded.{coded_list};
-    ghost use Rattle.cam_macros.specs.Tree.{Tree};
-    ghost use Rattle.cam_macros.specs.Machinery.Postfix.{tree_code};
-
-    ghost Value = { List Tree };
-
-    ghost coded = { coded_list tree_code };
-
-    ghost view = { λ fields. fields.items.items };
-}
+pub type Fields = Items<Expression>;
 
 /// A part of a macro that is no comment.
 #[derive(Debug, Drop)]
@@ -52,79 +35,64 @@ pub enum Part {
 }
 
 /// The parts of a macro, in order.
-#[derive(Debug, Drop)]
-pub struct Parts {
-    items: Vec<Part>,
+pub type Parts = Items<Part>;
+
+/// The expressions of the texts between commas; `Malformed` where one is outside the grammar.
+fn fields_of(alloc: Global, texts: Option<&[u8]>) -> Result<Fields, MacroFault>
+    ensures ok { IfOk result (AreExpressions (pieces_between comma texts.entry)) }
+    ensures fault { IfErr result (λ fault.
+        Tells fault (Nothing (AreExpressions (pieces_between comma texts.entry)))) }
+{
+    let mut items = Vec::new(alloc);
+    let mut rest = texts;
+    while let Some(texts) = rest {
+        let (text, more) = cut(texts, b',');
+        items.push(Expression::parse(alloc, text)?)?;
+        rest = more;
+    }
+    Ok(Fields::from_vec(items))
 }
 
-impl Model for Parts {
-    ghost use Rattle.std.specs.Prelude.{List};
-    ghost use Rattle.cam_macros.specs.declared.part.Part.{Part};
-
-    ghost Value = { List Part };
-
-    ghost use Rattle.std.specs.Coded.{coded_list};
-    ghost use Rattle.cam_macros.specs.contracts.part.Part as of_part;
-
-    ghost coded = { coded_list of_part.the_row.coded };
-
-    ghost view = { λ parts. parts.items.items };
+/// The values in order.
+fn values(
+    alloc: Global,
+    fields: &[Expression],
+    variables: &Variables<'_>,
+) -> Result<Vec<Fixed>, MacroFault>
+    ensures ok { IfOk result (λ values.
+        all_worth (looked_up variables.now) fields.now ≡ Ok (numbers values.items)) }
+    ensures fault { IfErr result (λ fault.
+        IsUnlessMemory fault (all_worth (looked_up variables.now) fields.now)) }
+{
+    let mut values = Vec::new(alloc);
+    for field in fields {
+        values.push(field.value(alloc, variables)?)?;
+    }
+    Ok(values)
 }
 
-impl Fields {
-    /// The expressions of the texts between commas; `Malformed` where one is outside the grammar.
-    fn parse(alloc: Global, texts: Option<&[u8]>) -> Result<Fields, MacroFault>
-        ensures ok { IfOk result (AreExpressions (pieces_between comma texts.entry)) }
-        ensures fault { IfErr result (λ fault.
-            Tells fault (Nothing (AreExpressions (pieces_between comma texts.entry)))) }
-    {
-        let mut items = Vec::new(alloc);
-        let mut rest = texts;
-        while let Some(texts) = rest {
-            let (text, more) = cut(texts, b',');
-            items.push(Expression::parse(alloc, text)?)?;
-            rest = more;
-        }
-        Ok(Fields { items })
+/// The primitive of this code; `PrimitiveRefused` where there is none.
+fn primitive(
+    alloc: Global,
+    code: u32,
+    fields: &[Expression],
+    variables: &Variables<'_>,
+    unit: Unit,
+) -> Result<MacroPrimitive, MacroFault>
+    ensures ok { IfOk result (λ prim.
+        primitive_of (shape_of code) unit (looked_up variables.now) fields.now ≡ Ok prim) }
+    ensures fault { IfErr result (λ fault.
+        IsUnlessMemory fault (primitive_of (shape_of code) unit (looked_up variables.now) fields.now)) }
+{
+    if !matches!(code, 1 | 2 | 4 | 20 | 21) {
+        return Err(MacroFault::PrimitiveRefused);
     }
-
-    /// The values in order.
-    fn values(&self, alloc: Global, variables: &Variables<'_>) -> Result<Vec<Fixed>, MacroFault>
-        ensures ok { IfOk result (λ values.
-            all_worth (looked_up variables.now) self.now ≡ Ok (numbers values.items)) }
-        ensures fault { IfErr result (λ fault.
-            IsUnlessMemory fault (all_worth (looked_up variables.now) self.now)) }
-    {
-        let mut values = Vec::new(alloc);
-        for field in &self.items {
-            values.push(field.value(alloc, variables)?)?;
-        }
-        Ok(values)
-    }
-
-    /// The primitive of this code; `PrimitiveRefused` where there is none.
-    fn primitive(
-        &self,
-        alloc: Global,
-        code: u32,
-        variables: &Variables<'_>,
-        unit: Unit,
-    ) -> Result<MacroPrimitive, MacroFault>
-        ensures ok { IfOk result (λ prim.
-            primitive_of (shape_of code) unit (looked_up variables.now) self.now ≡ Ok prim) }
-        ensures fault { IfErr result (λ fault.
-            IsUnlessMemory fault (primitive_of (shape_of code) unit (looked_up variables.now) self.now)) }
-    {
-        if !matches!(code, 1 | 2 | 4 | 20 | 21) {
-            return Err(MacroFault::PrimitiveRefused);
-        }
-        let values = self.values(alloc, variables)?;
-        match code {
-            1 => disc(unit, values.as_slice()),
-            4 => outline(alloc, unit, values.as_slice()),
-            21 => rect(unit, values.as_slice()),
-            _ => bar(unit, values.as_slice()),
-        }
+    let values = values(alloc, fields, variables)?;
+    match code {
+        1 => disc(unit, values.as_slice()),
+        4 => outline(alloc, unit, values.as_slice()),
+        21 => rect(unit, values.as_slice()),
+        _ => bar(unit, values.as_slice()),
     }
 }
 
@@ -139,7 +107,7 @@ impl Part {
         let Some(code) = natural(digits, Blanks::Refused) else {
             return Err(MacroFault::Malformed);
         };
-        let fields = Fields::parse(alloc, texts)?;
+        let fields = fields_of(alloc, texts)?;
         Ok(Part::Primitive {
             code: code.min(10_000) as u32,
             fields,
@@ -196,49 +164,47 @@ impl Part {
                 variables.set(*variable, value)?;
             }
             Part::Primitive { code, fields } => {
-                prims.push(fields.primitive(alloc, *code, variables, unit)?)?;
+                prims.push(primitive(alloc, *code, fields.as_slice(), variables, unit)?)?;
             }
         }
         Ok(())
     }
 }
 
-impl Parts {
-    /// The parts of the texts between stars, of which empty ones and comments are none.
-    pub(crate) fn parse(alloc: Global, texts: Option<&[u8]>) -> Result<Parts, MacroFault>
-        ensures ok { IfOk result (AreParts (spoken (pieces_between star texts.entry))) }
-        ensures fault { IfErr result (λ fault.
-            Tells fault (Nothing (AreParts (spoken (pieces_between star texts.entry))))) }
-    {
-        let mut items = Vec::new(alloc);
-        let mut rest = texts;
-        while let Some(text) = rest {
-            let (piece, more) = cut(text, b'*');
-            rest = more;
-            if !is_silent(piece) {
-                items.push(Part::parse(alloc, piece)?)?;
-            }
+/// The parts of the texts between stars, of which empty ones and comments are none.
+pub(crate) fn parts_of(alloc: Global, texts: Option<&[u8]>) -> Result<Parts, MacroFault>
+    ensures ok { IfOk result (AreParts (spoken (pieces_between star texts.entry))) }
+    ensures fault { IfErr result (λ fault.
+        Tells fault (Nothing (AreParts (spoken (pieces_between star texts.entry))))) }
+{
+    let mut items = Vec::new(alloc);
+    let mut rest = texts;
+    while let Some(text) = rest {
+        let (piece, more) = cut(text, b'*');
+        rest = more;
+        if !is_silent(piece) {
+            items.push(Part::parse(alloc, piece)?)?;
         }
-        Ok(Parts { items })
     }
+    Ok(Parts::from_vec(items))
+}
 
-    /// The primitives of the parts in order, or the fault of the first faulty part.
-    pub(crate) fn expand(
-        &self,
-        alloc: Global,
-        params: &[i64],
-        unit: Unit,
-    ) -> Result<Prims, MacroFault>
-        ensures ok { IfOk result (λ prims. expansion_of unit params.now self.now ≡ Ok prims) }
-        ensures fault { IfErr result (λ fault. IsUnlessMemory fault (expansion_of unit params.now self.now)) }
-    {
-        let mut variables = Variables::new(alloc, params);
-        let mut prims = Vec::new(alloc);
-        for part in &self.items {
-            part.expand(alloc, &mut variables, unit, &mut prims)?;
-        }
-        Ok(Prims::from_vec(prims))
+/// The primitives of the parts in order, or the fault of the first faulty part.
+pub(crate) fn expanded(
+    alloc: Global,
+    parts: &[Part],
+    params: &[i64],
+    unit: Unit,
+) -> Result<Prims, MacroFault>
+    ensures ok { IfOk result (λ prims. expansion_of unit params.now parts.now ≡ Ok prims) }
+    ensures fault { IfErr result (λ fault. IsUnlessMemory fault (expansion_of unit params.now parts.now)) }
+{
+    let mut variables = Variables::new(alloc, params);
+    let mut prims = Vec::new(alloc);
+    for part in parts {
+        part.expand(alloc, &mut variables, unit, &mut prims)?;
     }
+    Ok(Prims::from_vec(prims))
 }
 
 /// Whether a piece is empty or a comment.

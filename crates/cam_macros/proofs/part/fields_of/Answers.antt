@@ -3,7 +3,7 @@ use Rattle.std.proofs.lemmas.Result.{err_from_is_err_and}
 use Rattle.cam_macros.specs.Reading.{pieces_between}
 use Rattle.cam_macros.proofs.ReadingLemmas.{AreReadBefore, fields_end, fields_fault}
 use Rattle.cam_macros.specs.Bytes.{comma}
-use Rattle.cam_macros.proofs.part.Fields.parse.Goals as goal
+use Rattle.cam_macros.proofs.part.fields_of.Goals as goal
 
 pub returns-in_err-parse-clause-fault : goal.returns-in_err-parse-clause-fault
 returns-in_err-parse-clause-fault c =
@@ -19,6 +19,7 @@ returns-in_err-parse-clause-fault c =
 pub returns-clause-ok : goal.returns-clause-ok
 returns-clause-ok c =
     let all = pieces_between comma c.args.texts in
-    fields_end all c.loop-rest.items.items
+    rw c.from_vec.ensures
+    (fields_end all c.loop-rest.items.items
     (subst (λ l. AreReadBefore l all c.loop-rest.items.items) (ap (pieces_between comma) c.in_default.is)
-    c.loop-rest.invariant)
+    c.loop-rest.invariant))

@@ -1,7 +1,7 @@
 use Rattle.cam_macros.specs.Reading.{pieces_between}
 use Rattle.cam_macros.proofs.ReadingLemmas.{AreReadBefore, text_left}
 use Rattle.cam_macros.specs.Bytes.{comma}
-use Rattle.cam_macros.proofs.part.Fields.parse.Given as goal
+use Rattle.cam_macros.proofs.part.fields_of.Given as goal
 
 abbrev pub decreases-loop-rest : goal.decreases-loop-rest
 decreases-loop-rest l = text_left l.rest

@@ -3,11 +3,11 @@ use Rattle.cam_macros.specs.Machinery.Values.{numbers}
 use Rattle.cam_macros.specs.Machinery.Variables.{looked_up}
 use Rattle.cam_macros.specs.Expansion.{all_worth}
 use Rattle.cam_macros.proofs.ExpansionLemmas.{with_more, worth_next}
-use Rattle.cam_macros.proofs.part.Fields.values.Goals as goal
+use Rattle.cam_macros.proofs.part.values.Goals as goal
 
 pub loop-field-preserved : goal.loop-field-preserved
 loop-field-preserved c =
-    let trees = c.deref-field-items.result.now in
+    let trees = c.args.fields.now in
     let values = looked_up c.args.variables.now in
     let at = c.loop-field.field-index in
     ap (λ l. with_more (numbers l) (all_worth values (drop (at + 1) trees))) c.in_ok-push.ensures.items

@@ -3,7 +3,7 @@ use Rattle.std.proofs.lemmas.Result.{err_from_is_err_and}
 use Rattle.cam_macros.specs.Reading.{pieces_between, spoken}
 use Rattle.cam_macros.proofs.ReadingLemmas.{ArePartsBefore, parts_end, parts_fault}
 use Rattle.cam_words.specs.Bytes.{star}
-use Rattle.cam_macros.proofs.part.Parts.parse.Goals as goal
+use Rattle.cam_macros.proofs.part.parts_of.Goals as goal
 
 pub returns-in_err-parse-clause-fault : goal.returns-in_err-parse-clause-fault
 returns-in_err-parse-clause-fault c =
@@ -20,6 +20,7 @@ returns-in_err-parse-clause-fault c =
 pub returns-clause-ok : goal.returns-clause-ok
 returns-clause-ok c =
     let all = pieces_between star c.args.texts in
-    parts_end (spoken all) c.loop-rest.items.items
+    rw c.from_vec.ensures
+    (parts_end (spoken all) c.loop-rest.items.items
     (subst (λ l. ArePartsBefore (spoken l) (spoken all) c.loop-rest.items.items)
-    (ap (pieces_between star) c.in_default.is) c.loop-rest.invariant)
+    (ap (pieces_between star) c.in_default.is) c.loop-rest.invariant))

@@ -1,7 +1,7 @@
 use Rattle.cam_macros.specs.Reading.{pieces_between, spoken}
 use Rattle.cam_macros.proofs.ReadingLemmas.{ArePartsBefore, text_left}
 use Rattle.cam_words.specs.Bytes.{star}
-use Rattle.cam_macros.proofs.part.Parts.parse.Given as goal
+use Rattle.cam_macros.proofs.part.parts_of.Given as goal
 
 abbrev pub decreases-loop-rest : goal.decreases-loop-rest
 decreases-loop-rest l = text_left l.rest
