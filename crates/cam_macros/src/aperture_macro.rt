@@ -6,9 +6,11 @@ ghost use Rattle.cam_macros.specs.Answers.{IsUnlessMemory};
 ghost use Rattle.cam_macros.specs.Expansion.{expansion_of};
 ghost use Rattle.cam_macros.specs.Reading.{IsReading, IsRefused, is_name};
 
+use crate::expansion::parts::expanded;
 use crate::fault::MacroFault;
-use crate::number::cut;
-use crate::part::{Parts, expanded, parts_of};
+use crate::parsing::parts::parts_of;
+use crate::parsing::pieces::cut;
+use crate::part::Parts;
 use crate::primitive::Prims;
 use cam_units::{Items, Unit};
 use cam_words::is_skipped;
