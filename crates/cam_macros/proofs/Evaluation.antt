@@ -6,10 +6,10 @@ use Rattle.std.proofs.lemmas.List.{reverse-append}
 use Rattle.cam_macros.specs.declared.expression.Step.{Step}
 use Rattle.cam_macros.specs.declared.expression.Step.TheVariants.{Negate, Apply}
 use Rattle.cam_macros.specs.Tree.{Tree, Number, Variable, Negative, Binary}
-use Rattle.cam_macros.specs.Machinery.Postfix.{postfix}
+use Rattle.cam_macros.specs.Postfix.{postfix}
 use Rattle.cam_macros.specs.Arithmetic.{Values, within, applied, value_of}
 use Rattle.cam_macros.specs.Machinery.Values.{numbers}
-use Rattle.cam_macros.specs.declared.arithmetic.Fixed.{Fixed}
+use Rattle.cam_macros.specs.declared.expansion.arithmetic.Fixed.{Fixed}
 use Rattle.cam_macros.specs.declared.fault.MacroFault.TheVariants.{Malformed}
 use Rattle.cam_macros.specs.Expansion.{worth}
 use Rattle.cam_macros.specs.Machinery.Stack.{stack_of, put, run, answer}

@@ -2,9 +2,10 @@
 use Rattle.std.proofs.Common.{◌≡◌, ℕ, List, Some, sym, ap, ◌∙◌, subst}
 use Rattle.cam_macros.specs.declared.expression.Step.{Step}
 use Rattle.cam_macros.specs.declared.fault.MacroFault.{MacroFault}
-use Rattle.cam_macros.specs.Machinery.Postfix.{postfix, tree_of, tree_of-postfix}
+use Rattle.cam_macros.specs.Postfix.{postfix, tree_of, tree_of-postfix}
 use Rattle.cam_macros.specs.Grammar.{IsExpression}
-use Rattle.cam_macros.specs.Machinery.Scanning.{scanned, IsFaultOf}
+use Rattle.cam_macros.specs.Scanning.{scanned}
+use Rattle.cam_macros.specs.Machinery.Scanning.{IsFaultOf}
 use Rattle.cam_macros.specs.Answers.{Nothing, Tells}
 use Rattle.cam_macros.proofs.FaultLemmas.{tells_also}
 use Rattle.cam_macros.proofs.Machine.{expression_read}

@@ -1,7 +1,7 @@
 -- Primitives of too few fields.
 use Rattle.std.proofs.Common.{◌≡◌, ◌<◌, ◌≤◌, List, [], ◌∷◌, length, Err, refl, arith}
 use Rattle.cam_units.specs.declared.length.Unit.{Unit as FileUnit}
-use Rattle.cam_macros.specs.declared.arithmetic.Fixed.{Fixed}
+use Rattle.cam_macros.specs.declared.expansion.arithmetic.Fixed.{Fixed}
 use Rattle.cam_macros.specs.declared.fault.MacroFault.TheVariants.{Malformed}
 use Rattle.cam_macros.specs.Machinery.Values.{numbers}
 use Rattle.cam_macros.specs.Expansion.{turn_of, disc_of, bar_of, rect_of, outline_of}

@@ -8,20 +8,20 @@ use Rattle.std.proofs.lemmas.Bool.{ltb-false, eqb-true, eqb-false}
 use Rattle.cam_macros.specs.declared.expression.Operator.{Operator}
 use Rattle.cam_macros.specs.declared.expression.Step.{Step}
 use Rattle.cam_macros.specs.declared.expression.Step.TheVariants.{Negate, Apply}
-use Rattle.cam_macros.specs.declared.scanner.Level.{Level}
-use Rattle.cam_macros.specs.declared.mark.Mark.{Mark}
+use Rattle.cam_macros.specs.declared.parsing.scanner.Level.{Level}
+use Rattle.cam_macros.specs.declared.parsing.mark.Mark.{Mark}
 use Rattle.cam_numbers.specs.Numbers.{value_of, natural}
 use Rattle.cam_macros.specs.Numbers.{number_written}
 use Rattle.cam_macros.specs.Tree.{Number}
-use Rattle.cam_macros.specs.Machinery.Postfix.{postfix}
+use Rattle.cam_macros.specs.Postfix.{postfix}
 use Rattle.cam_macros.specs.Grammar.{Sign, Plus, Minus, Cross, Decimal, Whole, Pointed, Sum, OneTerm, Added, Term}
 use Rattle.cam_macros.specs.Grammar.{OneFactor, Multiplied, Factor, Signed, sign_byte, cross_byte, decimal_text}
 use Rattle.cam_macros.specs.Grammar.{sum_text, term_text, factor_text, sum_count, term_count, factor_count}
 use Rattle.cam_macros.specs.Grammar.{IsNumber, IsDecimal, IsVariable, IsSum, IsTerm, IsFactor, sign_operator}
 use Rattle.cam_macros.specs.Grammar.{cross_operator, decimal_tree, sum_tree, term_tree, factor_tree}
-use Rattle.cam_macros.specs.Machinery.Scanning.{is_numeric, mark_of, number_of, variable_by}
-use Rattle.cam_macros.specs.Machinery.Scanning.{variable_of, with_operand, Scan, level_of, scan_of, waiting, Wanted}
-use Rattle.cam_macros.specs.Machinery.Scanning.{Behind, scan}
+use Rattle.cam_macros.specs.Scanning.{is_numeric, mark_of, number_of, variable_by}
+use Rattle.cam_macros.specs.Scanning.{variable_of, with_operand, Scan, level_of, scan_of, waiting, Wanted}
+use Rattle.cam_macros.specs.Scanning.{Behind, scan}
 use Rattle.cam_macros.specs.Bytes.{closing, dollar, large_x, minus, opening, plus, point, slash, small_x}
 
 -- leaves

@@ -10,23 +10,23 @@ use Rattle.std.specs.Char.{is_ascii_digit}
 use Rattle.cam_macros.specs.declared.expression.Operator.{Operator}
 use Rattle.cam_macros.specs.declared.expression.Step.{Step}
 use Rattle.cam_macros.specs.declared.expression.Step.TheVariants.{Push, Read, Negate, Apply}
-use Rattle.cam_macros.specs.declared.scanner.Level.{Level}
-use Rattle.cam_macros.specs.declared.mark.Mark.TheVariants as Mark
+use Rattle.cam_macros.specs.declared.parsing.scanner.Level.{Level}
+use Rattle.cam_macros.specs.declared.parsing.mark.Mark.TheVariants as Mark
 use Rattle.cam_numbers.specs.Numbers.{value_of}
 use Rattle.cam_numbers.proofs.Naturals.{natural-digits}
 use Rattle.cam_numbers.proofs.Written.{AreParts, read_whole, read_pointed, some_digits}
 use Rattle.cam_macros.specs.Numbers.{number_written}
 use Rattle.cam_macros.specs.Tree.{Tree}
-use Rattle.cam_macros.specs.Machinery.Postfix.{postfix}
+use Rattle.cam_macros.specs.Postfix.{postfix}
 use Rattle.cam_macros.specs.Grammar.{Sign, Plus, Minus, Cross, Small, Large, Slash, Whole, Pointed, Sum, OneTerm}
 use Rattle.cam_macros.specs.Grammar.{Added, Term, OneFactor, Multiplied, Factor, Numeral, Dollar, Signed, Enclosed}
 use Rattle.cam_macros.specs.Grammar.{sign_byte, cross_byte, sum_text, term_text, factor_text, sum_count, term_count}
 use Rattle.cam_macros.specs.Grammar.{factor_count, AreDigits, IsNumber, IsVariable, IsSum, IsTerm, IsFactor}
 use Rattle.cam_macros.specs.Grammar.{sign_operator, cross_operator, sum_tree, term_tree, factor_tree, IsExpression}
-use Rattle.cam_macros.specs.Machinery.Scanning.{is_numeric, mark_of, number_of, variable_by}
-use Rattle.cam_macros.specs.Machinery.Scanning.{variable_of, operand_at, operator_at, goes_on, with_operand}
-use Rattle.cam_macros.specs.Machinery.Scanning.{with_step, Scan, level_of, fresh, scan_of, waiting, Wanted, Behind}
-use Rattle.cam_macros.specs.Machinery.Scanning.{InNumber, InVariable, scan, scanned}
+use Rattle.cam_macros.specs.Scanning.{is_numeric, mark_of, number_of, variable_by}
+use Rattle.cam_macros.specs.Scanning.{variable_of, operand_at, operator_at, goes_on, with_operand}
+use Rattle.cam_macros.specs.Scanning.{with_step, Scan, level_of, fresh, scan_of, waiting, Wanted, Behind}
+use Rattle.cam_macros.specs.Scanning.{InNumber, InVariable, scan, scanned}
 use Rattle.cam_macros.specs.Bytes.{closing, dollar, opening, point}
 
 -- what follows is no part of a number or a variable

@@ -7,14 +7,16 @@ use Rattle.std.specs.Char.{is_ascii_digit}
 use Rattle.std.proofs.lemmas.List.{take_all}
 use Rattle.cam_macros.specs.declared.expression.Step.{Step}
 use Rattle.cam_macros.specs.declared.expression.Step.TheVariants.{Push, Read}
-use Rattle.cam_macros.specs.declared.mark.Mark.{Mark}
-use Rattle.cam_macros.specs.declared.mark.Mark.TheVariants.{Numeral, Dollar, Open, Close, Plus, Minus, Times, Over}
-use Rattle.cam_macros.specs.declared.mark.Mark.TheVariants.{Other}
+use Rattle.cam_macros.specs.declared.parsing.mark.Mark.{Mark}
+use Rattle.cam_macros.specs.declared.parsing.mark.Mark.TheVariants.{Numeral, Dollar, Open, Close, Plus, Minus, Times, Over}
+use Rattle.cam_macros.specs.declared.parsing.mark.Mark.TheVariants.{Other}
 use Rattle.cam_macros.specs.declared.fault.MacroFault.{MacroFault}
 use Rattle.cam_macros.proofs.FaultLemmas.{tells_also}
-use Rattle.cam_macros.specs.Machinery.Scanning.{is_numeric, mark_of, number_of, variable_of, operand_at}
-use Rattle.cam_macros.specs.Machinery.Scanning.{operator_at, prefixed, finished, goes_on, with_step, Scan, Status}
-use Rattle.cam_macros.specs.Machinery.Scanning.{Wanted, Behind, InNumber, InVariable, scan, scan_behind}
+use Rattle.cam_macros.specs.Scanning.{is_numeric, mark_of, number_of, variable_of, operand_at}
+use Rattle.cam_macros.specs.Scanning.{operator_at, finished, goes_on, with_step, Scan, Status}
+use Rattle.cam_macros.specs.Machinery.Scanning.{prefixed}
+use Rattle.cam_macros.specs.Scanning.{Wanted, Behind, InNumber, InVariable, scan}
+use Rattle.cam_macros.specs.Machinery.Scanning.{scan_behind}
 use Rattle.cam_macros.specs.Machinery.Scanning.{scan_wanted, number_then, variable_then, status_of, IsFaultOf}
 use Rattle.cam_macros.specs.Bytes.{closing, dollar, large_x, minus, opening, plus, slash, small_x}
 

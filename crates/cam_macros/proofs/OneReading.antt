@@ -3,7 +3,7 @@ use Rattle.std.proofs.Common.{◌≡◌, ℕ, min, List, [], ◌∷◌, refl, ap
 use Rattle.cam_macros.specs.declared.part.Part.{Part}
 use Rattle.cam_macros.specs.declared.part.Part.TheVariants.{Assignment, Primitive}
 use Rattle.cam_macros.specs.Tree.{Tree}
-use Rattle.cam_macros.specs.Machinery.Postfix.{postfix, tree_of, tree_of-postfix}
+use Rattle.cam_macros.specs.Postfix.{postfix, tree_of, tree_of-postfix}
 use Rattle.cam_numbers.specs.Numbers.{value_of}
 use Rattle.cam_macros.specs.Grammar.{IsExpression, OneTreeLaw}
 use Rattle.cam_macros.specs.Reading.{AreExpressions, AreParts, IsPrimitive, IsPart, OneReadingLaw}

@@ -6,7 +6,7 @@ use Rattle.std.proofs.lemmas.Bool.{lt-ltb, le-ltb}
 use Rattle.cam_units.specs.declared.length.Unit.{Unit as FileUnit}
 use Rattle.cam_units.specs.declared.point.Point.{Point}
 use Rattle.cam_units.specs.declared.turn.Turn.{Turn}
-use Rattle.cam_macros.specs.declared.arithmetic.Fixed.{Fixed}
+use Rattle.cam_macros.specs.declared.expansion.arithmetic.Fixed.{Fixed}
 use Rattle.cam_macros.specs.declared.primitive.PrimShape.TheVariants.{Outline}
 use Rattle.cam_macros.specs.declared.fault.MacroFault.{MacroFault}
 use Rattle.cam_macros.specs.declared.fault.MacroFault.TheVariants.{Malformed}

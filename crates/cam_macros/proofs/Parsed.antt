@@ -15,8 +15,8 @@ use Rattle.cam_macros.specs.Tree.{Tree}
 use Rattle.cam_macros.specs.Grammar.{IsExpression}
 use Rattle.cam_macros.specs.Reading.{AreExpressions, IsPart, AreParts, pieces, first, others, spoken}
 use Rattle.cam_macros.specs.Reading.{is_name}
-use Rattle.cam_macros.specs.Machinery.Postfix.{tree_of}
-use Rattle.cam_macros.specs.Machinery.Scanning.{scanned, variable_of}
+use Rattle.cam_macros.specs.Postfix.{tree_of}
+use Rattle.cam_macros.specs.Scanning.{scanned, variable_of}
 use Rattle.cam_macros.specs.Parsing.{with_both, all_read, expression_read, assignment_read, primitive_by}
 use Rattle.cam_macros.specs.Parsing.{primitive_read, part_read, parts_of, IsReadAs, IsParsedByTheGrammar}
 use Rattle.cam_macros.proofs.CutLemmas.{first_piece, split_nowhere}

@@ -14,7 +14,7 @@ use Rattle.cam_numbers.specs.Numbers.{value_of, natural, value_limit}
 use Rattle.cam_numbers.proofs.Naturals.{natural-digits}
 use Rattle.cam_numbers.proofs.Written.{natural_found}
 use Rattle.cam_macros.specs.Grammar.{AreDigits, IsExpression}
-use Rattle.cam_macros.specs.Machinery.Scanning.{variable_of}
+use Rattle.cam_macros.specs.Scanning.{variable_of}
 use Rattle.cam_macros.specs.Answers.{Nothing, Tells}
 use Rattle.cam_macros.specs.Reading.{AreExpressions, IsAssignment, IsPrimitive, IsPart}
 use Rattle.cam_macros.proofs.FaultLemmas.{tells_also}

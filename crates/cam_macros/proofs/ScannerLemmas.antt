@@ -1,7 +1,7 @@
 -- The counts of a scanner.
 use Rattle.std.proofs.Common.{◌≡◌, ℕ, ◌+◌, ◌≤◌, List, [], ◌∷◌, ◌++◌, reverse, arith, length-append}
 use Rattle.std.proofs.lemmas.List.{reverse-append}
-use Rattle.cam_macros.specs.declared.scanner.Level.{Level}
+use Rattle.cam_macros.specs.declared.parsing.scanner.Level.{Level}
 use Rattle.cam_macros.specs.Machinery.Scanning.{HaveFew, IsScanner}
 
 pub reverse_push : (outer : List Level) (level : Level) → reverse (outer ++ level ∷ []) ≡ level ∷ reverse outer

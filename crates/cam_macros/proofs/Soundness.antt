@@ -8,16 +8,18 @@ use Rattle.std.specs.List.{prefix_len}
 use Rattle.std.specs.Char.{is_ascii_digit}
 use Rattle.cam_macros.specs.declared.expression.Step.{Step}
 use Rattle.cam_macros.specs.declared.expression.Step.TheVariants.{Push, Read}
-use Rattle.cam_macros.specs.declared.mark.Mark.{Mark}
+use Rattle.cam_macros.specs.declared.parsing.mark.Mark.{Mark}
 use Rattle.cam_macros.specs.Tree.{Tree}
-use Rattle.cam_macros.specs.Machinery.Postfix.{postfix}
+use Rattle.cam_macros.specs.Postfix.{postfix}
 use Rattle.cam_macros.specs.Grammar.{Sign, Plus, Minus, Cross, Small, Large, Slash, Decimal, Sum, Term, Factor}
 use Rattle.cam_macros.specs.Grammar.{Numeral, Dollar, Enclosed, sign_byte, cross_byte, sum_text, term_text}
 use Rattle.cam_macros.specs.Grammar.{factor_text, factor_count, IsDecimal, IsVariable, IsSum, IsFactor}
 use Rattle.cam_macros.specs.Grammar.{sign_operator, cross_operator, sum_tree, term_tree, factor_tree, IsExpression}
-use Rattle.cam_macros.specs.Machinery.Scanning.{is_numeric, mark_of, number_of, variable_of, operator_at, prefixed}
-use Rattle.cam_macros.specs.Machinery.Scanning.{goes_on, with_operand, with_step, Scan, level_of, fresh, scan_of}
-use Rattle.cam_macros.specs.Machinery.Scanning.{waiting, Wanted, Behind, scan, scanned, finished, scan_behind}
+use Rattle.cam_macros.specs.Scanning.{is_numeric, mark_of, number_of, variable_of, operator_at}
+use Rattle.cam_macros.specs.Machinery.Scanning.{prefixed}
+use Rattle.cam_macros.specs.Scanning.{goes_on, with_operand, with_step, Scan, level_of, fresh, scan_of}
+use Rattle.cam_macros.specs.Scanning.{waiting, Wanted, Behind, scan, scanned, finished}
+use Rattle.cam_macros.specs.Machinery.Scanning.{scan_behind}
 use Rattle.cam_macros.specs.Machinery.Scanning.{scan_wanted}
 use Rattle.cam_macros.proofs.Marks.{numeric_from_mark, numeral_is, dollar_is, prefix_then, operator_then}
 use Rattle.cam_macros.proofs.Marks.{none_wanted, finished_is}

@@ -4,6 +4,8 @@ pub mod Tree
 pub mod Numbers
 pub mod Grammar
 pub mod Reading
+pub mod Scanning
+pub mod Postfix
 pub mod Parsing
 pub mod Arithmetic
 pub mod Expansion

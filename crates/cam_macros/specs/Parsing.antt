@@ -8,8 +8,8 @@ use Rattle.cam_macros.specs.declared.part.Part.TheVariants.{Assignment, Primitiv
 use Rattle.cam_macros.specs.Bytes.{comma, dollar, equals}
 use Rattle.cam_macros.specs.Tree.{Tree}
 use Rattle.cam_macros.specs.Reading.{pieces, first, others, spoken, is_name, IsReading}
-use Rattle.cam_macros.specs.Machinery.Postfix.{tree_of}
-use Rattle.cam_macros.specs.Machinery.Scanning.{scanned, variable_of}
+use Rattle.cam_macros.specs.Postfix.{tree_of}
+use Rattle.cam_macros.specs.Scanning.{scanned, variable_of}
 use Rattle.cam_numbers.specs.Numbers.{natural}
 
 -- two answers, where there are both

@@ -6,60 +6,24 @@ ghost use Rattle.cam_macros.specs.Answers.{IsUnlessMemory};
 ghost use Rattle.cam_macros.specs.Expansion.{expansion_of};
 ghost use Rattle.cam_macros.specs.Reading.{IsReading, IsRefused, is_name};
 
+use crate::expansion::parts::expanded;
 use crate::fault::MacroFault;
-use crate::number::cut;
+use crate::parsing::parts::parts_of;
+use crate::parsing::pieces::cut;
 use crate::part::Parts;
 use crate::primitive::Prims;
-use cam_units::Unit;
+use cam_units::{Items, Unit};
 use cam_words::is_skipped;
 use std::alloc::{AllocError, Global};
-use std::marker::Model;
 
-/// The name of a macro.
-#[derive(Debug, Drop)]
-pub struct Name {
-    bytes: Vec<u8>,
-}
-
-impl Model for Name {
-    ghost use Rattle.std.specs.Prelude.{List, ℕ};
-
-    ghost Value = { List ℕ };
-
-    ghost view = { λ name. name.bytes.items };
-}
+/// The name of a macro, byte by byte.
+pub type Name = Items<u8>;
 
 /// An aperture macro (Gerber Layer Format Specification, "Aperture macro (AM)").
 #[derive(Debug, Drop)]
 pub struct Macro {
     pub name: Name,
     pub parts: Parts,
-}
-
-impl Name {
-    /// The vector of the bytes, in order.
-    pub fn into_vec(self) -> Vec<u8>
-        ensures { result.items ≡ self }
-    {
-        let Name { bytes } = self;
-        bytes
-    }
-
-    /// The bytes, in order.
-    pub fn as_slice(&self) -> &[u8]
-        ensures { result.now ≡ self.now }
-    {
-        self.bytes.as_slice()
-    }
-
-    /// A copy; an error where no memory is left for it.
-    pub fn try_clone(&self, alloc: Global) -> Result<Name, AllocError>
-        ensures { IfOk result (λ name. name ≡ self.now) }
-    {
-        Ok(Name {
-            bytes: self.as_slice().to_vec(alloc)?,
-        })
-    }
 }
 
 impl Macro {
@@ -77,9 +41,9 @@ impl Macro {
             return Err(MacroFault::BadName);
         }
         let bytes = name.to_vec(alloc)?;
-        let parts = Parts::parse(alloc, rest)?;
+        let parts = parts_of(alloc, rest)?;
         Ok(Macro {
-            name: Name { bytes },
+            name: Name::from_vec(bytes),
             parts,
         })
     }
@@ -92,7 +56,7 @@ impl Macro {
         ensures ok { IfOk result (λ prims. expansion_of unit params.now self.now.parts ≡ Ok prims) }
         ensures fault { IfErr result (λ fault. IsUnlessMemory fault (expansion_of unit params.now self.now.parts)) }
     {
-        self.parts.expand(alloc, params, unit)
+        expanded(alloc, self.parts.as_slice(), params, unit)
     }
 }
 

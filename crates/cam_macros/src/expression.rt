@@ -6,11 +6,11 @@ ghost use Rattle.cam_macros.specs.Expansion.{worth};
 ghost use Rattle.cam_macros.specs.Answers.{IsUnlessMemory, Nothing, Tells};
 ghost use Rattle.cam_macros.specs.Machinery.Variables.{looked_up};
 
-use crate::arithmetic::Fixed;
+use crate::expansion::arithmetic::Fixed;
+use crate::expansion::stack::evaluated;
+use crate::expansion::variables::Variables;
 use crate::fault::MacroFault;
-use crate::scanner::steps;
-use crate::stack::evaluated;
-use crate::variables::Variables;
+use crate::parsing::scanner::steps;
 use std::alloc::Global;
 use std::marker::Model;
 
@@ -44,14 +44,14 @@ pub struct Expression {
 
 impl Model for Expression {
     ghost use Rattle.cam_macros.specs.Tree.{Tree};
-    ghost use Rattle.cam_macros.specs.Machinery.Postfix.{tree_code};
+    ghost use Rattle.cam_macros.specs.Postfix.{tree_code};
 
     ghost Value = { Tree };
 
     ghost coded = { tree_code };
 
     ghost use Rattle.std.specs.Prelude.{◌≡◌};
-    ghost use Rattle.cam_macros.specs.Machinery.Postfix.{tree_of, postfix};
+    ghost use Rattle.cam_macros.specs.Postfix.{tree_of, postfix};
 
     ghost view = { λ expression. tree_of expression.steps.items };
 

@@ -1,19 +1,42 @@
-//! Aperture macros of Gerber files, read once and expanded in whole numbers of 10^-9 units.
+//! Aperture macros (Gerber Layer Format Specification, "Aperture macro (AM)"), read once and expanded for each
+//! aperture that names them, in whole numbers of 10^-9 units.
+//!
+//! [`Macro::parse`] reads the text of a macro, or tells the fault for which there is none; [`Macro::expand`] gives its
+//! primitives under the parameters of an aperture, or the fault of its first faulty part:
+//!
+//! ```text
+//! PAD*                      its name
+//! 0 a plate with a hole*    a comment
+//! $3=$1/2*                  sets a variable; $1, $2 and on are the parameters
+//! 21,1,$1,$3,0,0,90*        paints a rectangle, which is turned by 90 degrees
+//! 1,0,$2,$3-.25,0*          clears a disc
+//! ```
+//!
+//! Under the parameters 1.5 and 0.4, in millimetres, it expands to two primitives in nm:
+//!
+//! ```text
+//! paint: true,  Rect { centre: (0, 0), width: 750_000, height: 1_500_000 }
+//! paint: false, Disc { centre: (500_000, 0), diameter: 400_000 }
+//! ```
+//!
+//! Products and quotients are rounded to the nearest 10^-9 of a unit, lengths to the nearest nanometre, ties away from
+//! zero. A [`MacroFault`] has the number by which a refusal is told.
+//!
+//! What a macro means stands in `specs/`: `Grammar` says which texts are expressions and for which trees they stand,
+//! `Reading` which texts are macros, `Arithmetic` what trees are worth, and `Expansion` which primitives the parts make.
+//! `Parsing` computes a macro from its text, from left to right, by `Scanning`; that it gives what the grammar says is a
+//! law. `specs/Machinery/` ties the running state of the code to them. In `src/`, `parsing` reads parts and expressions,
+//! and `expansion` evaluates them and makes the primitives.
 #![tactic(auto)]
 
 mod aperture_macro;
-mod arithmetic;
 mod expansion;
 mod expression;
 mod fault;
 mod laws;
-mod mark;
-mod number;
+mod parsing;
 mod part;
 mod primitive;
-mod scanner;
-mod stack;
-mod variables;
 
 pub use aperture_macro::{Macro, Name};
 pub use expression::{Expression, Operator};

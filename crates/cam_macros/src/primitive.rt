@@ -2,24 +2,11 @@
 
 ghost use Rattle.std.specs.Prelude.{◌≡◌};
 
-use cam_units::{Nm, Point};
+use cam_units::{Items, Nm, Point};
 use std::alloc::AllocError;
-use std::marker::Model;
 
 /// A list of points, in nm.
-#[derive(Debug, Drop)]
-pub struct Points {
-    points: Vec<Point>,
-}
-
-impl Model for Points {
-    ghost use Rattle.std.specs.Prelude.{List};
-    ghost use Rattle.cam_units.specs.declared.point.Point.{Point};
-
-    ghost Value = { List Point };
-
-    ghost view = { λ list. list.points.items };
-}
+pub type Points = Items<Point>;
 
 /// The shape of a primitive, in nm about the macro's origin, already rotated.
 #[derive(Debug, Drop)]
@@ -55,76 +42,7 @@ pub struct MacroPrimitive {
 }
 
 /// The primitives of a macro, in order.
-#[derive(Debug, Drop)]
-pub struct Prims {
-    prims: Vec<MacroPrimitive>,
-}
-
-impl Model for Prims {
-    ghost use Rattle.std.specs.Prelude.{List};
-    ghost use Rattle.cam_macros.specs.declared.primitive.MacroPrimitive.{MacroPrimitive};
-
-    ghost Value = { List MacroPrimitive };
-
-    ghost view = { λ list. list.prims.items };
-}
-
-impl Points {
-    /// The points of a vector, in order.
-    pub fn from_vec(points: Vec<Point>) -> Points
-        ensures { result ≡ points.items }
-    {
-        Points { points }
-    }
-
-    /// The vector of the points, in order.
-    pub fn into_vec(self) -> Vec<Point>
-        ensures { result.items ≡ self }
-    {
-        let Points { points } = self;
-        points
-    }
-
-    /// The points, in order.
-    pub fn as_slice(&self) -> &[Point]
-        ensures { result.now ≡ self.now }
-    {
-        self.points.as_slice()
-    }
-}
-
-impl Prims {
-    /// The primitives of a vector, in order.
-    pub fn from_vec(prims: Vec<MacroPrimitive>) -> Prims
-        ensures { result ≡ prims.items }
-    {
-        Prims { prims }
-    }
-
-    /// The vector of the primitives, in order.
-    pub fn into_vec(self) -> Vec<MacroPrimitive>
-        ensures { result.items ≡ self }
-    {
-        let Prims { prims } = self;
-        prims
-    }
-
-    /// The primitives, in order.
-    pub fn as_slice(&self) -> &[MacroPrimitive]
-        ensures { result.now ≡ self.now }
-    {
-        self.prims.as_slice()
-    }
-}
-
-impl Clone for Points {
-    ghost is_clone = { λ x y. y ≡ x };
-
-    fn clone(&self) -> Result<Points, AllocError> {
-        let points = self.points.clone()?;
-        Ok(Points::from_vec(points))
-    }
-}
+pub type Prims = Items<MacroPrimitive>;
 
 impl Clone for PrimShape {
     ghost is_clone = { λ x y. y ≡ x };
@@ -166,14 +84,5 @@ impl Clone for MacroPrimitive {
             paint: self.paint,
             shape,
         })
-    }
-}
-
-impl Clone for Prims {
-    ghost is_clone = { λ x y. y ≡ x };
-
-    fn clone(&self) -> Result<Prims, AllocError> {
-        let prims = self.prims.clone()?;
-        Ok(Prims::from_vec(prims))
     }
 }

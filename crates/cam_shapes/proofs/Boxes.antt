@@ -19,7 +19,7 @@ use Rattle.cam_shapes.specs.declared.contour.Contour.{Contour}
 use Rattle.cam_shapes.specs.Plane.{place_of}
 use Rattle.cam_shapes.specs.Edge.{edge, crosses_ray, is_above, side}
 use Rattle.cam_shapes.specs.Contour.{caps_of, edges_from, edges_of, end_of, ContourBoxLaw, HasPointsIn, IsInContour}
-use Rattle.cam_shapes.specs.Machinery.Sides.{differ}
+use Rattle.cam_shapes.specs.Sides.{differ}
 use Rattle.cam_shapes.proofs.Crossings.{not_under, product_above, product_least, under}
 use Rattle.cam_shapes.proofs.Parity.{count_by-cons, one_if}
 

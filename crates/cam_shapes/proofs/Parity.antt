@@ -12,7 +12,7 @@ use Rattle.cam_shapes.specs.declared.contour.Contour.{Contour}
 use Rattle.cam_shapes.specs.Edge.{edge, crosses_ray}
 use Rattle.cam_shapes.specs.Cap.{is_in_cap}
 use Rattle.cam_shapes.specs.Contour.{caps_from, edges_from, IsInContour}
-use Rattle.cam_shapes.specs.Machinery.Sides.{change_side, differ}
+use Rattle.cam_shapes.specs.Sides.{change_side, differ}
 
 abbrev pub one_if : Bool → ℕ
 one_if b = cond b 1 0

@@ -1,5 +1,6 @@
 -- Contours (Gerber Layer Format Specification, "Region statement": contours).
 use Rattle.std.specs.Prelude.{◌≡◌, ◌+◌, ◌%◌, ◌⊎◌, IsTrue, List, [], ◌∷◌, All, Any, count_by}
+use Rattle.cam_units.specs.Board.{IsOnBoard}
 use Rattle.cam_units.specs.Boxes.{IsBetween}
 use Rattle.cam_units.specs.declared.point.Point.{Point}
 use Rattle.cam_units.specs.declared.point.Spot.{Spot}
@@ -15,6 +16,11 @@ use Rattle.cam_shapes.specs.Cap.{is_in_cap}
 abbrev pub end_of : Seg → Point
 end_of (Line to) = to
 end_of (Curve to centre ccw) = to
+
+-- the points of a segment lie on the board
+abbrev pub IsSoundSeg : Seg → Type 0
+IsSoundSeg (Line to) = IsOnBoard to
+IsSoundSeg (Curve to centre ccw) = IsOnBoard to × IsOnBoard centre
 
 -- the chords from a point through the segments' ends, and the line that closes them
 abbrev pub edges_from : Point → Point → List Seg → List Edge

@@ -3,9 +3,9 @@ pub mod Bar
 pub mod Box
 pub mod Cap
 pub mod Contour
+pub mod Sides
 pub mod Disc
 pub mod Edge
-pub mod Machinery
 pub mod Outline
 pub mod Placing
 pub mod Plane

@@ -20,6 +20,7 @@ use Rattle.cam_shapes.specs.Arc.{IsInArc}
 use Rattle.cam_shapes.specs.Edge.{crosses_ray}
 use Rattle.cam_shapes.specs.Cap.{is_in_cap}
 use Rattle.cam_shapes.specs.Contour.{caps_of, edges_of, IsInContour}
+use Rattle.cam_shapes.specs.Sides.{change_side}
 
 -- a way that is at most r long
 unfoldable pub is_within : Vector → ℤ → Bool
@@ -131,3 +132,4 @@ pub record TestsLaw : Type 0 where
   pub capsule : (s : Spot) (c : Capsule) → IsTrue (is_in_capsule s c) ↔ IsInCapsule s c
   pub arc : (s : Spot) (a : Arc) → IsTrue (is_in_arc s a) ↔ IsInArc s a
   pub contour : (s : Spot) (c : Contour) → IsTrue (is_in_contour s c) ↔ IsInContour s c
+  pub sides : (s : Spot) (c : Contour) → IsTrue (change_side s c.start c.start c.segs) ↔ IsInContour s c

@@ -2,9 +2,9 @@
 
 ghost use Rattle.std.specs.Prelude.{◌≡◌, ◌↔◌, All, IfOk, IsTrue, map};
 ghost use Rattle.cam_units.specs.Board.{IsInReach, IsOnBoard};
-ghost use Rattle.cam_shapes.specs.Contour.{IsInContour, end_of};
+ghost use Rattle.cam_shapes.specs.Contour.{IsInContour, IsSoundSeg, end_of};
 ghost use Rattle.cam_shapes.specs.Placing.{IsOffset, IsPlaceable, IsPlaceableSeg, placed_contour, placed_seg};
-ghost use Rattle.cam_shapes.specs.Machinery.Sides.{IsSoundSeg, change_side, changes_side};
+ghost use Rattle.cam_shapes.specs.Sides.{change_side, changes_side};
 
 use crate::cap::{Cap, in_cap};
 use crate::edge::in_edge;

@@ -5,7 +5,7 @@ ghost use Rattle.cam_units.specs.Board.{IsInReach, IsOnBoard};
 ghost use Rattle.cam_shapes.specs.Contour.{IsInContour};
 ghost use Rattle.cam_shapes.specs.Outline.{lines_to, outline_of};
 ghost use Rattle.cam_shapes.specs.Placing.{IsOffset, IsPlaceablePoint, placed_contour, placed_seg};
-ghost use Rattle.cam_shapes.specs.Machinery.Sides.{change_side};
+ghost use Rattle.cam_shapes.specs.Sides.{change_side};
 
 use crate::edge::in_edge;
 use crate::placing::Placing;

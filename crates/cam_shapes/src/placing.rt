@@ -4,7 +4,7 @@ ghost use Rattle.std.specs.Prelude.{◌≡◌, ◌↔◌, All, IsTrue};
 ghost use Rattle.cam_units.specs.Board.{IsOnBoard};
 ghost use Rattle.cam_shapes.specs.Placing.{IsOffset, IsPlaceablePoint, IsPlaceableSeg, placed_direction};
 ghost use Rattle.cam_shapes.specs.Placing.{placed_point, placed_seg};
-ghost use Rattle.cam_shapes.specs.Machinery.Sides.{IsSoundSeg};
+ghost use Rattle.cam_shapes.specs.Contour.{IsSoundSeg};
 
 use crate::segments::Seg;
 use cam_units::{Point, Turn, fits_board};

@@ -4,7 +4,7 @@ ghost use Rattle.std.specs.Prelude.{◌≡◌};
 ghost use Rattle.cam_shapes.specs.Shifting.{IsShiftable, IsShiftableContour, IsShiftableSeg, shifted_contour, shifted_point, shifted_seg};
 
 use crate::contour::Contour;
-use crate::segments::Seg;
+use crate::segments::{Seg, shift_segments};
 use cam_units::Point;
 
 /// The point, moved by so many nm.
@@ -47,6 +47,6 @@ impl Contour {
         ensures { self.new ≡ shifted_contour by self.old }
     {
         self.start = shifted(self.start, by);
-        self.segs.shift(by);
+        shift_segments(&mut self.segs, by);
     }
 }

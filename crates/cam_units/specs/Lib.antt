@@ -2,3 +2,4 @@ pub mod Nearest
 pub mod Turns
 pub mod Board
 pub mod Boxes
+pub mod Lending

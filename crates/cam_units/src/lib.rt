@@ -6,6 +6,7 @@
 
 mod board;
 mod bounds;
+mod items;
 mod laws;
 mod length;
 mod point;
@@ -14,6 +15,7 @@ mod turn;
 
 pub use board::{fits_board, fits_size};
 pub use bounds::Bounds;
+pub use items::Items;
 pub use laws::{
     nearest_is_nearest, then_is_apply_after_apply, turns_associate, turns_go_by_quarters,
     turns_have_inverses,

@@ -1,7 +1,8 @@
 -- What a text gives: its words in order, and where it cannot be cut any further one fault.
-use Rattle.std.specs.Prelude.{ℕ, zero, suc, ◌+◌, ◌-◌, List, [], ◌∷◌, length, take, drop, map, Result, Ok, Err}
+use Rattle.std.specs.Prelude.{◌≡◌, ◌<◌, ℕ, zero, suc, ◌+◌, ◌-◌, List, [], ◌∷◌, length, take, drop, map, Result, Ok, Err}
 use Rattle.std.specs.Prelude.{if◌then◌else◌, ◌==◌, slice_index}
 use Rattle.std.specs.List.{before_first, prefix_len, suffix_len, list_any}
+use Rattle.cam_words.specs.declared.word.Word.{Word}
 use Rattle.cam_words.specs.declared.word.TextFault.{TextFault}
 use Rattle.cam_words.specs.Bytes.{is_star, is_percent, is_skipped}
 use Rattle.cam_words.specs.Heads.{is_forbidden_in_word, is_forbidden_in_extended}
@@ -12,6 +13,17 @@ Answer = Result FoundWord TextFault
 
 abbrev pub told : List FoundWord → List Answer
 told words = map Ok words
+
+-- an answer, with the bytes of its word in place of a slice
+abbrev pub answer_of : Result Word TextFault → Answer
+answer_of (Ok word) = Ok (record { kind = word.kind; text = word.text.now; at = word.at })
+answer_of (Err fault) = Err fault
+
+-- the word is the slice of the source at its place, and its delimiter follows; a fault lies in the source
+abbrev pub IsWithin : List ℕ → Answer → Type 0
+IsWithin source (Ok word) =
+    (word.text ≡ take (length word.text) (drop word.at source)) × (word.at + length word.text < length source)
+IsWithin source (Err fault) = fault.at < length source
 
 -- a fault's number: the command holds a byte that it may not hold
 abbrev pub bad_byte : ℕ

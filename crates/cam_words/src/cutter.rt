@@ -1,7 +1,6 @@
 ghost use Rattle.std.specs.Prelude.{◌≡◌, [], ◌∷◌, IfSome, IfNone, IsErr};
 ghost use Rattle.std.specs.List.{AllByRecursion};
-ghost use Rattle.cam_words.specs.Reading.{reading};
-ghost use Rattle.cam_words.specs.Machinery.Views.{answer_of, IsWithin};
+ghost use Rattle.cam_words.specs.Reading.{IsWithin, answer_of, reading};
 
 use crate::bytes::leading_skipped;
 use crate::command::front;
@@ -19,13 +18,11 @@ pub struct Words<'a> {
 
 impl<'a> Model for Words<'a> {
     ghost use Rattle.std.specs.Prelude.{List, ◌+◌, ◌<◌, ◌^◌, length};
-    ghost use Rattle.cam_words.specs.Reading.{Answer};
+    ghost use Rattle.cam_words.specs.Reading.{Answer, reading};
 
     ghost Value = { List Answer };
 
-    ghost use Rattle.cam_words.specs.Machinery.Left.{left};
-
-    ghost view = { left };
+    ghost view = { λ words. reading words.at words.rest.now };
 
     ghost invariant = { λ words. words.at + length words.rest.now < 2 ^ 64 };
 }

@@ -1,7 +1,7 @@
 -- Evaluation on a stack, the top first.
 use Rattle.std.specs.Prelude.{List, [], ◌∷◌, reverse, ℤ, pos, neg_ℤ, Option, Some, None, option_and_then, Result}
 use Rattle.std.specs.Prelude.{Ok, Err}
-use Rattle.cam_macros.specs.declared.arithmetic.Fixed.{Fixed}
+use Rattle.cam_macros.specs.declared.expansion.arithmetic.Fixed.{Fixed}
 use Rattle.cam_macros.specs.declared.expression.Step.{Step}
 use Rattle.cam_macros.specs.declared.expression.Step.TheVariants.{Push, Read, Negate, Apply}
 use Rattle.cam_macros.specs.declared.fault.MacroFault.{MacroFault}

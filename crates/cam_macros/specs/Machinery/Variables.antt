@@ -2,7 +2,7 @@
 use Rattle.std.specs.Option.{option_map_or}
 use Rattle.std.specs.Ordering.{nat_cmp}
 use Rattle.std.specs.BTreeMap.{get}
-use Rattle.cam_macros.specs.declared.variables.Variables.{Variables}
+use Rattle.cam_macros.specs.declared.expansion.variables.Variables.{Variables}
 use Rattle.cam_macros.specs.Arithmetic.{Values, parameter}
 
 abbrev pub looked_up : Variables → Values

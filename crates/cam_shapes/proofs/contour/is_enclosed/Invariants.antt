@@ -1,7 +1,7 @@
 use Rattle.std.proofs.Common.{◌≡◌, drop, map}
 use Rattle.cam_units.specs.Board.{IsOnBoard}
 use Rattle.cam_shapes.specs.Placing.{placed_seg}
-use Rattle.cam_shapes.specs.Machinery.Sides.{change_side, differ}
+use Rattle.cam_shapes.specs.Sides.{change_side, differ}
 use Rattle.cam_shapes.proofs.contour.is_enclosed.Given as goal
 
 abbrev pub invariant-loop-seg : goal.invariant-loop-seg

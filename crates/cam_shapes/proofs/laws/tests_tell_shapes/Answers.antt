@@ -1,3 +1,6 @@
+use Rattle.std.proofs.Common.{refl}
+use Rattle.cam_shapes.specs.Sides.{change_side}
+use Rattle.cam_shapes.proofs.Parity.{sides_are_parity}
 use Rattle.cam_shapes.proofs.TestLaws.{is_in_arc-meaning, is_in_bar-meaning, is_in_capsule-meaning}
 use Rattle.cam_shapes.proofs.TestLaws.{is_in_contour-meaning}
 use Rattle.cam_shapes.proofs.TestLaws.{is_in_disc-meaning, is_in_hole-meaning, is_in_obround-meaning}
@@ -14,4 +17,5 @@ returns c = record {
   capsule = is_in_capsule-meaning;
   arc = is_in_arc-meaning;
   contour = is_in_contour-meaning;
+  sides = λ s c. sides_are_parity s c (change_side s c.start c.start c.segs) refl;
 }

@@ -6,7 +6,7 @@ use Rattle.cam_units.specs.declared.turn.Turn.{Turn}
 use Rattle.cam_shapes.specs.Contour.{IsInContour}
 use Rattle.cam_shapes.specs.Outline.{lines_to, outline_of}
 use Rattle.cam_shapes.specs.Placing.{placed_contour, placed_point, placed_seg}
-use Rattle.cam_shapes.specs.Machinery.Sides.{change_side}
+use Rattle.cam_shapes.specs.Sides.{change_side}
 use Rattle.cam_shapes.proofs.Parity.{sides_are_parity}
 use Rattle.cam_shapes.proofs.outline.in_outline.Goals as goal
 

@@ -1,0 +1,8 @@
+use Rattle.std.proofs.Common.{sym, ap, ◌∙◌, Ok}
+use Rattle.cam_macros.proofs.OutlineLemmas.{points_end}
+use Rattle.cam_macros.proofs.expansion.shapes.points.Goals as goal
+
+pub returns-clause-ok : goal.returns-clause-ok
+returns-clause-ok c =
+    points_end c.args.unit c.args.turn c.loop-rest.rest.now c.loop-rest.points.items _ c.in_default.len_below
+    c.loop-rest.invariant ∙ ap Ok (sym c.from_vec.ensures)

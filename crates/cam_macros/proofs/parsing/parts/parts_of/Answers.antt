@@ -1,0 +1,26 @@
+use Rattle.std.proofs.Common.{ap, sym, ◌∙◌, subst}
+use Rattle.std.proofs.lemmas.Result.{err_from_is_err_and}
+use Rattle.cam_macros.specs.Reading.{pieces_between, spoken}
+use Rattle.cam_macros.proofs.ReadingLemmas.{ArePartsBefore, parts_end, parts_fault}
+use Rattle.cam_words.specs.Bytes.{star}
+use Rattle.cam_macros.proofs.parsing.parts.parts_of.Goals as goal
+
+pub returns-in_err-parse-clause-fault : goal.returns-in_err-parse-clause-fault
+returns-in_err-parse-clause-fault c =
+    let p = err_from_is_err_and c.from_residual.result c.from_residual.ensures.1 in
+    let all = pieces_between star c.args.texts in
+    rw (p.1, p.2)
+    (parts_fault c.in_err-parse.field-0.0 c.cut.result.0.now (pieces_between star c.cut.result.1) all
+    c.loop-rest.items.items
+    (sym c.is_silent.ensures ∙ c.if-not-is_silent.true)
+    (subst (λ l. ArePartsBefore (spoken l) (spoken all) c.loop-rest.items.items)
+    (ap (pieces_between star) c.in-Some.is ∙ c.cut.ensures.all) c.loop-rest.invariant)
+    c.in_err-parse.ensures.fault)
+
+pub returns-clause-ok : goal.returns-clause-ok
+returns-clause-ok c =
+    let all = pieces_between star c.args.texts in
+    rw c.from_vec.ensures
+    (parts_end (spoken all) c.loop-rest.items.items
+    (subst (λ l. ArePartsBefore (spoken l) (spoken all) c.loop-rest.items.items)
+    (ap (pieces_between star) c.in_default.is) c.loop-rest.invariant))

@@ -1,7 +1,0 @@
-use Rattle.std.proofs.Common.{◌≡◌, ◌+◌, drop}
-use Rattle.std.specs.List.{prefix_len}
-use Rattle.cam_macros.specs.Machinery.Scanning.{is_numeric}
-use Rattle.cam_macros.proofs.scanner.numeric_len.Given as goal
-
-abbrev pub invariant-loop-place : goal.invariant-loop-place
-invariant-loop-place l = l.place + prefix_len is_numeric (drop l.place l.text) ≡ prefix_len is_numeric l.text

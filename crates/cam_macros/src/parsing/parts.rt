@@ -1,0 +1,107 @@
+//! Parts from their texts.
+
+ghost use Rattle.std.specs.Prelude.{◌≡◌, ◌∷◌, ℕ, IfOk, IfErr};
+ghost use Rattle.cam_words.specs.Bytes.{star};
+ghost use Rattle.cam_macros.specs.Answers.{Nothing, Tells};
+ghost use Rattle.cam_macros.specs.Bytes.{comma, dollar};
+ghost use Rattle.cam_macros.specs.Reading.{AreExpressions, AreParts, IsAssignment, IsPart, IsPrimitive};
+ghost use Rattle.cam_macros.specs.Reading.{is_silent, pieces_between, spoken};
+
+use crate::expression::Expression;
+use crate::fault::MacroFault;
+use crate::parsing::pieces::{cut, variable};
+use crate::part::{Fields, Part, Parts};
+use cam_numbers::{Blanks, natural};
+use std::alloc::Global;
+
+/// The expressions of the texts between commas; `Malformed` where one is outside the grammar.
+fn fields_of(alloc: Global, texts: Option<&[u8]>) -> Result<Fields, MacroFault>
+    ensures ok { IfOk result (AreExpressions (pieces_between comma texts.entry)) }
+    ensures fault { IfErr result (λ fault.
+        Tells fault (Nothing (AreExpressions (pieces_between comma texts.entry)))) }
+{
+    let mut items = Vec::new(alloc);
+    let mut rest = texts;
+    while let Some(texts) = rest {
+        let (text, more) = cut(texts, b',');
+        items.push(Expression::parse(alloc, text)?)?;
+        rest = more;
+    }
+    Ok(Fields::from_vec(items))
+}
+
+impl Part {
+    /// The primitive of a code and its fields.
+    fn primitive(alloc: Global, piece: &[u8]) -> Result<Part, MacroFault>
+        ensures ok { IfOk result (IsPart piece.now) }
+        ensures fault { IfErr result (λ fault.
+            Tells fault ((code : ℕ) → Nothing (IsPrimitive piece.now code))) }
+    {
+        let (digits, texts) = cut(piece, b',');
+        let Some(code) = natural(digits, Blanks::Refused) else {
+            return Err(MacroFault::Malformed);
+        };
+        let fields = fields_of(alloc, texts)?;
+        Ok(Part::Primitive {
+            code: code.min(10_000) as u32,
+            fields,
+        })
+    }
+
+    /// The assignment of which this stands behind `$`.
+    fn assignment(alloc: Global, piece: &[u8]) -> Result<Part, MacroFault>
+        ensures ok { IfOk result (IsPart (dollar ∷ piece.now)) }
+        ensures fault { IfErr result (λ fault.
+            Tells fault ((variable : ℕ) → Nothing (IsAssignment (dollar ∷ piece.now) variable))) }
+    {
+        let (digits, text) = cut(piece, b'=');
+        let Some(text) = text else {
+            return Err(MacroFault::Malformed);
+        };
+        let Some(variable) = variable(digits) else {
+            return Err(MacroFault::Malformed);
+        };
+        let value = Expression::parse(alloc, text)?;
+        Ok(Part::Assignment { variable, value })
+    }
+
+    /// The part of a text without the bytes that do not count; `Malformed` where it is
+    /// outside the grammar.
+    fn parse(alloc: Global, piece: &[u8]) -> Result<Part, MacroFault>
+        ensures ok { IfOk result (IsPart piece.now) }
+        ensures fault { IfErr result (λ fault. Tells fault (Nothing (IsPart piece.now))) }
+    {
+        match piece {
+            [b'$', behind @ ..] => Part::assignment(alloc, behind),
+            _ => Part::primitive(alloc, piece),
+        }
+    }
+}
+
+/// The parts of the texts between stars, of which empty ones and comments are none.
+pub(crate) fn parts_of(alloc: Global, texts: Option<&[u8]>) -> Result<Parts, MacroFault>
+    ensures ok { IfOk result (AreParts (spoken (pieces_between star texts.entry))) }
+    ensures fault { IfErr result (λ fault.
+        Tells fault (Nothing (AreParts (spoken (pieces_between star texts.entry))))) }
+{
+    let mut items = Vec::new(alloc);
+    let mut rest = texts;
+    while let Some(text) = rest {
+        let (piece, more) = cut(text, b'*');
+        rest = more;
+        if !is_silent(piece) {
+            items.push(Part::parse(alloc, piece)?)?;
+        }
+    }
+    Ok(Parts::from_vec(items))
+}
+
+/// Whether a piece is empty or a comment.
+fn is_silent(piece: &[u8]) -> bool
+    ensures { result ≡ is_silent piece.now }
+{
+    match piece.first() {
+        Some(byte) => *byte == b'0',
+        None => true,
+    }
+}
