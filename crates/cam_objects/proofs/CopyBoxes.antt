@@ -15,7 +15,7 @@ use Rattle.cam_apertures.specs.Turned.{turned_box}
 use Rattle.cam_apertures.proofs.Corners.{same_box}
 use Rattle.cam_objects.specs.declared.object.Object.{Object}
 use Rattle.cam_objects.specs.declared.entry.Entry.{Entry}
-use Rattle.cam_objects.specs.declared.place.Place.{Place}
+use Rattle.cam_objects.specs.declared.placing.place.Place.{Place}
 use Rattle.cam_objects.specs.Bounds.{box_of_all, moved}
 use Rattle.cam_objects.specs.Leaves.{Leaf, Shape, block_leaves, column_leaves, meaning, origin, repeat_leaves, shifted}
 use Rattle.cam_objects.specs.Machinery.Boxes.{IsUncrossed, placed_bounds}

@@ -14,8 +14,8 @@ use Rattle.cam_units.specs.declared.turn.Turn.{Turn}
 use Rattle.cam_shapes.specs.declared.contour.Contour.{Contour}
 use Rattle.cam_shapes.specs.Placing.{placed_direction}
 use Rattle.cam_objects.specs.declared.entry.Entry.{Entry}
-use Rattle.cam_objects.specs.declared.extent.Extent.{Extent}
-use Rattle.cam_objects.specs.declared.facts.Facts.{Facts}
+use Rattle.cam_objects.specs.declared.boxes.extent.Extent.{Extent}
+use Rattle.cam_objects.specs.declared.checks.facts.Facts.{Facts}
 use Rattle.cam_objects.specs.declared.object.Object.TheVariants.{Flash, Draw, Arc, Region}
 use Rattle.cam_objects.specs.Bounds.{bounds_of, box_of_contour, box_of_shape, moved}
 use Rattle.cam_apertures.specs.Turned.{turned_box}

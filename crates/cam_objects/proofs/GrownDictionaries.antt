@@ -14,7 +14,7 @@ use Rattle.cam_objects.specs.declared.item.Item.TheVariants.{One, Repeat}
 use Rattle.cam_objects.specs.declared.item_fault.ItemFault.TheVariants.{Malformed, UnknownAperture, UnknownTool, WrongAperture, ZeroRadius, OutOfBoard, TooMuch}
 use Rattle.cam_objects.specs.declared.object.Object.{Object}
 use Rattle.cam_objects.specs.declared.object.Object.TheVariants.{Flash, Draw, Arc, Region}
-use Rattle.cam_objects.specs.declared.place.Place.{Place}
+use Rattle.cam_objects.specs.declared.placing.place.Place.{Place}
 use Rattle.cam_objects.specs.Leaves.{Meaning, arc_leaves, block_leaves, draw_leaves, entry_meaning, flashed, item_leaves, leaves_of, meaning_in, no_meaning, object_leaves, origin, placed, polarity_in, shifted, stands_for}
 use Rattle.cam_objects.specs.Soundness.{AreOnBoard, HasNumber, IsDrawable, IsInside, IsKnown, IsSoundContent, IsSoundItem, IsWithinLimits, MayAddEntry, objects_of}
 use Rattle.cam_objects.specs.Weights.{Weight, block_count, entry_weight, item_count, no_weight, object_count, weight_in}

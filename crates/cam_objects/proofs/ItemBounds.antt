@@ -13,8 +13,8 @@ use Rattle.cam_units.specs.declared.bounds.Bounds.{Bounds}
 use Rattle.cam_units.specs.declared.point.Point.{Point}
 use Rattle.cam_objects.specs.declared.object.Object.{Object}
 use Rattle.cam_objects.specs.declared.entry.Entry.{Entry}
-use Rattle.cam_objects.specs.declared.facts.Facts.{Facts}
-use Rattle.cam_objects.specs.declared.place.Place.{Place}
+use Rattle.cam_objects.specs.declared.checks.facts.Facts.{Facts}
+use Rattle.cam_objects.specs.declared.placing.place.Place.{Place}
 use Rattle.cam_objects.specs.Bounds.{bounds_of, box_of_all, box_of_shape, moved}
 use Rattle.cam_objects.specs.Leaves.{Leaf, Meaning, block_leaves, column_leaves, meaning, meaning_in, object_leaves, origin, repeat_leaves, shifted}
 use Rattle.cam_objects.specs.Machinery.Boxes.{AreSized, IsNearBox, IsUncrossed, placed_bounds}

@@ -14,6 +14,7 @@ pub mod Extents
 pub mod GrownDictionaries
 pub mod Inking
 pub mod ItemBounds
+pub mod ItemCopies
 pub mod KeptFacts
 pub mod MovedBounds
 pub mod MovedBoxes

@@ -15,11 +15,11 @@ use Rattle.cam_units.specs.declared.turn.Turn.{Turn}
 use Rattle.cam_shapes.specs.Placing.{placed_direction}
 use Rattle.cam_apertures.specs.Primitives.{box_of_point}
 use Rattle.cam_objects.specs.declared.entry.Entry.{Entry}
-use Rattle.cam_objects.specs.declared.facts.Facts.{Facts}
+use Rattle.cam_objects.specs.declared.checks.facts.Facts.{Facts}
 use Rattle.cam_objects.specs.declared.item.Item.TheVariants.{One, Repeat}
 use Rattle.cam_objects.specs.declared.object.Object.{Object}
 use Rattle.cam_objects.specs.declared.object.Object.TheVariants.{Flash, Draw, Arc, Region}
-use Rattle.cam_objects.specs.declared.place.Place.{Place}
+use Rattle.cam_objects.specs.declared.placing.place.Place.{Place}
 use Rattle.cam_objects.specs.Bounds.{box_of_all, moved}
 use Rattle.cam_objects.specs.Leaves.{Filled, Leaf, Meaning, arc_leaves, block_leaves, draw_leaves, flashed, meaning_in, object_leaves, origin, placed, polarity_in, repeat_leaves}
 use Rattle.cam_objects.specs.Machinery.Boxes.{IsUncrossed, placed_bounds}

@@ -8,10 +8,10 @@ use Rattle.cam_units.specs.declared.bounds.Bounds.{Bounds}
 use Rattle.cam_units.specs.declared.bounds.Bounds.TheVariants.{Empty, Closed}
 use Rattle.cam_units.specs.declared.point.Point.{Point}
 use Rattle.cam_units.specs.declared.point.Spot.{Spot}
-use Rattle.cam_objects.specs.declared.copies.Copies.{Copies}
+use Rattle.cam_objects.specs.declared.placing.copies.Copies.{Copies}
 use Rattle.cam_objects.specs.declared.entry.Entry.{Entry}
 use Rattle.cam_objects.specs.declared.object.Object.{Object}
-use Rattle.cam_objects.specs.declared.run.Run.{Run}
+use Rattle.cam_objects.specs.declared.paint.run.Run.{Run}
 use Rattle.cam_objects.specs.Bounds.{bounds_of, box_of_shape, moved}
 use Rattle.cam_objects.specs.Canvases.{Paints}
 use Rattle.cam_objects.specs.Image.{Covers, IsUncovered}

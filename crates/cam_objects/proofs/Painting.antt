@@ -25,7 +25,7 @@ use Rattle.cam_objects.specs.declared.entry.Entry.{Entry}
 use Rattle.cam_objects.specs.declared.entry.Entry.TheVariants.{Aperture, Block}
 use Rattle.cam_objects.specs.declared.item.Item.TheVariants.{One}
 use Rattle.cam_objects.specs.declared.item_fault.ItemFault.TheVariants.{OutOfBoard}
-use Rattle.cam_objects.specs.declared.place.Place.{Place}
+use Rattle.cam_objects.specs.declared.placing.place.Place.{Place}
 use Rattle.cam_objects.specs.Leaves.{Filled, Leaf, Meaning, Stamp, Stroke, Sweep, arc_leaves, block_leaves, draw_leaves, entry_meaning, leaf, meaning_in, no_meaning, object_leaves, placed, polarity_in, shifted, solid_diameter}
 use Rattle.cam_objects.specs.Machinery.Painting.{IsPaintable, IsReady, StandsOnBoard, flash_leaves, meaning_before}
 use Rattle.cam_objects.specs.Soundness.{AreOnBoard, IsInside, IsSoundBlock, IsSoundDictionary, IsSoundItem, MayAddEntry, points_of_shape}

@@ -1,5 +1,5 @@
 -- places and points that are moved and turned
-use Rattle.std.proofs.Common.{◌≡◌, ℕ, ◌+◌, ◌*◌, ◌^◌, ◌<◌, ◌≤◌, Bool, ℤ, ◌+ℤ◌, List, [], ◌∷◌, map, arith}
+use Rattle.std.proofs.Common.{◌≡◌, ℕ, ◌+◌, ◌*◌, ◌^◌, ◌<◌, ◌≤◌, Bool, ℤ, pos, ◌+ℤ◌, List, [], ◌∷◌, map, arith, lit<}
 use Rattle.std.specs.List.{All, flat_map}
 use Rattle.std.specs.Int.RustNames.{unsigned_abs}
 use Rattle.std.proofs.lemmas.Int.{ints}
@@ -15,8 +15,8 @@ use Rattle.cam_shapes.specs.declared.segments.Seg.{Seg}
 use Rattle.cam_shapes.specs.declared.segments.Seg.TheVariants.{Line, Curve}
 use Rattle.cam_shapes.specs.Placing.{IsPlaceable, IsPlaceableSeg, placed_contour, placed_point, placed_seg}
 use Rattle.cam_shapes.specs.Shifting.{IsShiftable}
-use Rattle.cam_objects.specs.declared.place.Place.{Place}
-use Rattle.cam_objects.specs.Leaves.{flashed, shifted}
+use Rattle.cam_objects.specs.declared.placing.place.Place.{Place}
+use Rattle.cam_objects.specs.Leaves.{flashed, origin, shifted}
 use Rattle.cam_objects.specs.Machinery.Boxes.{IsBoxOffset}
 use Rattle.cam_objects.specs.Machinery.Painting.{HasReach}
 use Rattle.cam_objects.specs.Soundness.{points_of_contour, points_of_seg}
@@ -62,6 +62,12 @@ reach_box n p reach = record { x = omega arith; y = omega arith }
 pub reach_shifted : (n : ℕ) (dx dy : ℤ) → n ≤ 2 ^ 31 → unsigned_abs dx < 2 ^ 53 → unsigned_abs dy < 2 ^ 53 → HasReach (n + 1) (shifted dx dy)
 unfolding HasReach
 reach_shifted n dx dy h x y = (omega arith, omega arith)
+
+-- a flash at a point of the board, by the layer itself
+pub flashed_box : (at : Point) (t : Turn) (dark : Bool) → IsOnBoard at → IsBoxOffset (flashed origin at t dark).offset
+flashed_box at t dark h =
+    reach_box 0 (flashed origin at t dark)
+    (reach_flashed 0 origin at t dark h (reach_shifted 0 (pos 0) (pos 0) (omega arith) (lit< tt) (lit< tt)))
 
 -- ---- contours that stand on the board, and are placed on it
 

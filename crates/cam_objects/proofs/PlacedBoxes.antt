@@ -15,7 +15,7 @@ use Rattle.cam_objects.specs.declared.object.Object.{Object}
 use Rattle.cam_objects.specs.declared.object.Object.TheVariants.{Flash, Draw, Arc, Region}
 use Rattle.cam_objects.specs.declared.entry.Entry.{Entry}
 use Rattle.cam_objects.specs.declared.entry.Entry.TheVariants.{Aperture, Block}
-use Rattle.cam_objects.specs.declared.place.Place.{Place}
+use Rattle.cam_objects.specs.declared.placing.place.Place.{Place}
 use Rattle.cam_objects.specs.Bounds.{box_of_all}
 use Rattle.cam_objects.specs.Leaves.{Leaf, Meaning, Shape, arc_leaves, block_leaves, draw_leaves, entry_meaning, flashed, meaning, object_leaves, origin, placed, polarity_in}
 use Rattle.cam_objects.specs.Machinery.Boxes.{placed_bounds}

@@ -14,7 +14,7 @@ use Rattle.cam_units.specs.Turns.{applied, matrix_of}
 use Rattle.cam_apertures.specs.Turned.{IsTurnableBox, turned_box}
 use Rattle.cam_apertures.proofs.Corners.{same_box}
 use Rattle.cam_apertures.proofs.TurnedBoxes.{empty_turned, join_turned}
-use Rattle.cam_objects.specs.declared.place.Place.{Place}
+use Rattle.cam_objects.specs.declared.placing.place.Place.{Place}
 use Rattle.cam_objects.specs.Bounds.{moved}
 use Rattle.cam_objects.specs.Leaves.{flashed, origin}
 use Rattle.cam_objects.specs.Machinery.Boxes.{IsNearBox, IsUncrossed, placed_bounds}

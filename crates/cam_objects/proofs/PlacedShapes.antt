@@ -26,7 +26,7 @@ use Rattle.cam_apertures.specs.Primitives.{box_about, box_of_point, box_of_prims
 use Rattle.cam_apertures.specs.Turned.{turned_box}
 use Rattle.cam_apertures.proofs.Corners.{same_box}
 use Rattle.cam_apertures.proofs.TurnedBoxes.{about_turned, point_turned, prims_turned, square_turned}
-use Rattle.cam_objects.specs.declared.place.Place.{Place}
+use Rattle.cam_objects.specs.declared.placing.place.Place.{Place}
 use Rattle.cam_objects.specs.Bounds.{box_of_all, box_of_cap, box_of_contour, box_of_shape, circle_square, moved, root, widened}
 use Rattle.cam_objects.specs.Leaves.{Shape, Stamp, Stroke, Sweep, Filled, placed}
 use Rattle.cam_objects.specs.Machinery.Boxes.{placed_bounds}

@@ -6,7 +6,7 @@ use Rattle.std.proofs.Math.Nat.{le-div_iff_mul-le}
 use Rattle.std.proofs.lemmas.Int.{by_lt_z, ints}
 use Rattle.std.proofs.lemmas.Bool.{cases_lt}
 use Rattle.std.proofs.lemmas.Nat.{mul-le}
-use Rattle.cam_objects.specs.declared.run.Run.{Run}
+use Rattle.cam_objects.specs.declared.paint.run.Run.{Run}
 use Rattle.cam_objects.specs.Machinery.Runs.{IsInRun}
 
 -- those at most so far ahead are those up to the quotient

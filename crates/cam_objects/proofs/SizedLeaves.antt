@@ -33,7 +33,7 @@ use Rattle.cam_objects.specs.declared.object.Object.{Object}
 use Rattle.cam_objects.specs.declared.object.Object.TheVariants.{Flash, Draw, Arc, Region}
 use Rattle.cam_objects.specs.declared.entry.Entry.{Entry}
 use Rattle.cam_objects.specs.declared.entry.Entry.TheVariants.{Aperture, Block}
-use Rattle.cam_objects.specs.declared.place.Place.{Place}
+use Rattle.cam_objects.specs.declared.placing.place.Place.{Place}
 use Rattle.cam_objects.specs.Bounds.{bounds_of, box_of_all, box_of_cap, box_of_contour, box_of_shape, circle_square, root}
 use Rattle.cam_objects.specs.Leaves.{Filled, Leaf, Meaning, Shape, Stamp, Stroke, Sweep, Drilled, arc_leaves, block_leaves, draw_leaves, entry_meaning, flashed, leaf, meaning, meaning_in, no_meaning, object_leaves, placed, polarity_in}
 use Rattle.cam_objects.specs.Machinery.Boxes.{AreSized, IsSizedShape}

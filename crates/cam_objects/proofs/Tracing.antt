@@ -10,7 +10,7 @@ use Rattle.cam_shapes.specs.declared.segments.Seg.{Seg}
 use Rattle.cam_shapes.specs.declared.segments.Seg.TheVariants.{Line, Curve}
 use Rattle.cam_shapes.specs.Contour.{caps_from, end_of}
 use Rattle.cam_apertures.specs.Primitives.{box_of_point}
-use Rattle.cam_objects.specs.declared.shape_bounds.Trace.{Trace}
+use Rattle.cam_objects.specs.declared.boxes.shapes.Trace.{Trace}
 use Rattle.cam_objects.specs.Bounds.{box_of_cap, box_of_contour}
 use Rattle.cam_objects.specs.Machinery.Tracing.{followed, started}
 use Rattle.cam_objects.specs.Soundness.{points_of_seg}

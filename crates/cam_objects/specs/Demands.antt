@@ -18,6 +18,7 @@ use Rattle.cam_objects.specs.declared.object.Object.TheVariants.{Flash, Draw, Ar
 use Rattle.cam_objects.specs.Drilling.{diameter_of}
 use Rattle.cam_objects.specs.DrillSoundness.{KeepsDrillLimits, MeetsDrillItem, drill_count_of, drill_points_of, tool_of}
 use Rattle.cam_objects.specs.Leaves.{Meaning, meaning_in}
+use Rattle.cam_objects.specs.Limits.{item_limit, leaf_limit, object_limit, point_limit, segment_limit}
 use Rattle.cam_objects.specs.Refusals.{Tells}
 use Rattle.cam_objects.specs.Soundness.{KeepsLimits, MeetsItem, objects_of, segs_of}
 use Rattle.cam_objects.specs.Tests.{is_drill_inside, is_inside}
@@ -73,8 +74,8 @@ is_repeated (Repeat columns rows i j objects) = nat_lt 1 (columns * rows) && nat
 
 abbrev pub is_within_limits : List (ℕ × Entry) → Item → Bool
 is_within_limits entries item =
-    list_all (λ o. nat_le (length (segs_of o)) 1000000) (objects_of item)
-    && (nat_le (length (objects_of item)) 1000000 && nat_le (item_count (weight_in entries) item) 4000000)
+    list_all (λ o. nat_le (length (segs_of o)) segment_limit) (objects_of item)
+    && (nat_le (length (objects_of item)) object_limit && nat_le (item_count (weight_in entries) item) leaf_limit)
 
 -- what an item has to meet, not to be refused so
 unfoldable pub meets_item : List (ℕ × Entry) → Item → ItemFault → Bool
@@ -94,16 +95,16 @@ meets_drill_item tools item UnknownTool = is_some (diameter_of tools (tool_of it
 meets_drill_item tools item WrongAperture = true
 meets_drill_item tools item ZeroRadius = true
 meets_drill_item tools item OutOfBoard = is_drill_inside item
-meets_drill_item tools item TooMuch = nat_le (length (drill_points_of item)) 1000000
+meets_drill_item tools item TooMuch = nat_le (length (drill_points_of item)) point_limit
 
 -- the limits of a layer
 unfoldable pub keeps_limits : List (ℕ × Entry) → List Item → Bool
 keeps_limits entries items =
-    nat_le (length items) 1000000 && nat_le (sum_by (item_count (weight_in entries)) items) 4000000
+    nat_le (length items) item_limit && nat_le (sum_by (item_count (weight_in entries)) items) leaf_limit
 
 -- the limits of a drill layer
 unfoldable pub keeps_drill_limits : List DrillItem → Bool
-keeps_drill_limits items = nat_le (length items) 1000000 && nat_le (sum_by drill_count_of items) 4000000
+keeps_drill_limits items = nat_le (length items) item_limit && nat_le (sum_by drill_count_of items) leaf_limit
 
 -- ---- the answer of a check
 

@@ -2,7 +2,7 @@
 use Rattle.std.specs.Prelude.{◌≡◌, ℕ, ◌<◌, ◌≤◌, pos, ◌≤ℤ◌, Bool, IsTrue, List, [], ◌∷◌, ◌++◌, length, None, is_some, nat_eq, sum_by, All}
 use Rattle.std.specs.List.{IsDistinct}
 use Rattle.std.specs.Map.{keys_of}
-use Rattle.cam_units.specs.Board.{IsOnBoard}
+use Rattle.cam_units.specs.Board.{IsOnBoard, size_limit}
 use Rattle.cam_units.specs.declared.length.Nm.{Nm}
 use Rattle.cam_units.specs.declared.point.Point.{Point}
 use Rattle.cam_objects.specs.declared.drill_item.DrillItem.{DrillItem}
@@ -11,14 +11,15 @@ use Rattle.cam_objects.specs.declared.drill_layer.DrillLayer.{DrillLayer}
 use Rattle.cam_objects.specs.declared.item_fault.ItemFault.{ItemFault}
 use Rattle.cam_objects.specs.declared.item_fault.ItemFault.TheVariants.{Malformed, UnknownAperture, UnknownTool, WrongAperture, ZeroRadius, OutOfBoard, TooMuch}
 use Rattle.cam_objects.specs.Drilling.{diameter_of}
+use Rattle.cam_objects.specs.Limits.{item_limit, last_tool, leaf_limit, point_limit}
 use Rattle.cam_objects.specs.Refusals.{MeetsAll}
 
 -- a tool has a number from 1 to 9,999 and a diameter from 1 nm to 200 mm
 pub record IsSoundTool (tool : ℕ) (diameter : Nm) : Type 0 where
   pub some : 1 ≤ tool
-  pub few : tool ≤ 9999
+  pub few : tool ≤ last_tool
   pub wide : pos 1 ≤ℤ diameter.0
-  pub narrow : diameter.0 ≤ℤ pos 200000000
+  pub narrow : diameter.0 ≤ℤ pos size_limit
 
 abbrev pub tool_of : DrillItem → ℕ
 tool_of (Hit tool at) = tool
@@ -47,7 +48,7 @@ MeetsDrilling known points UnknownTool = IsTrue known
 MeetsDrilling known points WrongAperture = Unit {0}
 MeetsDrilling known points ZeroRadius = Unit {0}
 MeetsDrilling known points OutOfBoard = All IsOnBoard points
-MeetsDrilling known points TooMuch = length points ≤ 1000000
+MeetsDrilling known points TooMuch = length points ≤ point_limit
 
 abbrev pub MeetsDrillItem : List (ℕ × Nm) → DrillItem → ItemFault → Type 0
 MeetsDrillItem tools item = MeetsDrilling (is_some (diameter_of tools (tool_of item))) (drill_points_of item)
@@ -62,8 +63,8 @@ pub record MayAddTool (tools : List (ℕ × Nm)) (tool : ℕ) (diameter : Nm) : 
 
 -- the limits of a drill layer
 pub record KeepsDrillLimits (items : List DrillItem) : Type 0 where
-  pub few : length items ≤ 1000000
-  pub leaves : sum_by drill_count_of items ≤ 4000000
+  pub few : length items ≤ item_limit
+  pub leaves : sum_by drill_count_of items ≤ leaf_limit
 
 -- every tool and every item is sound, no tool's number stands twice, and no limit is passed
 pub record IsSoundDrillContent (ts : List (ℕ × Nm)) (is : List DrillItem) : Type 0 where

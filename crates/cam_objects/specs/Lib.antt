@@ -8,6 +8,7 @@ pub mod Drilling
 pub mod Image
 pub mod LayerLaws
 pub mod Leaves
+pub mod Limits
 pub mod Machinery
 pub mod Refusals
 pub mod Shifting

@@ -3,6 +3,7 @@ use Rattle.std.specs.Prelude.{◌≤◌, map, All}
 use Rattle.std.specs.Int.RustNames.{unsigned_abs}
 use Rattle.cam_units.specs.declared.point.Point.{Point}
 use Rattle.cam_shapes.specs.Shifting.{IsShiftable, IsShiftableContour, shifted_contour, shifted_point}
+use Rattle.cam_objects.specs.Limits.{move_limit}
 use Rattle.cam_objects.specs.declared.object.Object.{Object}
 use Rattle.cam_objects.specs.declared.object.Object.TheVariants.{Flash, Draw, Arc, Region}
 use Rattle.cam_objects.specs.declared.item.Item.{Item}
@@ -43,5 +44,5 @@ IsShiftableDrillItem (Rout tool points) = All IsShiftable points
 
 -- so far may an item be moved at once: at most four metres along each axis
 pub record IsMove (by : Point) : Type 0 where
-  pub x : unsigned_abs by.x ≤ 4000000000
-  pub y : unsigned_abs by.y ≤ 4000000000
+  pub x : unsigned_abs by.x ≤ move_limit
+  pub y : unsigned_abs by.y ≤ move_limit

@@ -4,7 +4,7 @@ use Rattle.std.specs.Prelude.{◌≡◌, ◌≢◌, ℕ, ◌*◌, ◌<◌, ◌�
 use Rattle.std.specs.List.{flat_map}
 use Rattle.std.specs.Map.{lookup}
 use Rattle.std.specs.Int.RustNames.{unsigned_abs}
-use Rattle.cam_units.specs.Board.{IsOnBoard}
+use Rattle.cam_units.specs.Board.{IsOnBoard, board_limit}
 use Rattle.cam_units.specs.declared.point.Point.{Point}
 use Rattle.cam_shapes.specs.declared.contour.Contour.{Contour}
 use Rattle.cam_shapes.specs.declared.segments.Seg.{Seg}
@@ -20,6 +20,7 @@ use Rattle.cam_objects.specs.declared.item_fault.ItemFault.{ItemFault}
 use Rattle.cam_objects.specs.declared.item_fault.ItemFault.TheVariants.{Malformed, UnknownAperture, UnknownTool, WrongAperture, ZeroRadius, OutOfBoard, TooMuch}
 use Rattle.cam_objects.specs.declared.layer.Layer.{Layer}
 use Rattle.cam_objects.specs.Leaves.{Leaf, Shape, Stamp, Stroke, Sweep, Filled, Drilled, Meaning, item_leaves, meaning_in}
+use Rattle.cam_objects.specs.Limits.{depth_limit, first_number, item_limit, last_number, leaf_limit, object_limit, segment_limit}
 use Rattle.cam_objects.specs.Refusals.{MeetsAll}
 use Rattle.cam_objects.specs.Weights.{block_count, block_depth, item_count, weight_in}
 
@@ -108,7 +109,7 @@ IsRepeated (Repeat columns rows i j objects) = (1 < columns * rows) × (0 < leng
 -- its steps are under a metre in absolute value
 abbrev pub HasShortSteps : Item → Type 0
 HasShortSteps (One object) = Unit {0}
-HasShortSteps (Repeat columns rows i j objects) = (unsigned_abs i < 1000000000) × (unsigned_abs j < 1000000000)
+HasShortSteps (Repeat columns rows i j objects) = (unsigned_abs i < board_limit) × (unsigned_abs j < board_limit)
 
 -- every control point lies on the board, as it stands and in each leaf
 pub record IsInside (entries : List (ℕ × Entry)) (item : Item) : Type 0 where
@@ -117,9 +118,9 @@ pub record IsInside (entries : List (ℕ × Entry)) (item : Item) : Type 0 where
   pub leaves : AreOnBoard (item_leaves (meaning_in entries) item)
 
 pub record IsWithinLimits (entries : List (ℕ × Entry)) (item : Item) : Type 0 where
-  pub segs : All (λ o. length (segs_of o) ≤ 1000000) (objects_of item)
-  pub objects : length (objects_of item) ≤ 1000000
-  pub leaves : item_count (weight_in entries) item ≤ 4000000
+  pub segs : All (λ o. length (segs_of o) ≤ segment_limit) (objects_of item)
+  pub objects : length (objects_of item) ≤ object_limit
+  pub leaves : item_count (weight_in entries) item ≤ leaf_limit
 
 -- what an item has to meet beside a dictionary, not to be refused so
 abbrev pub MeetsItem : List (ℕ × Entry) → Item → ItemFault → Type 0
@@ -139,9 +140,9 @@ IsSoundItem entries item = MeetsAll (MeetsItem entries item)
 -- each object of a block would be sound as an item, and no limit is passed
 pub record IsSoundBlock (entries : List (ℕ × Entry)) (objects : List Object) : Type 0 where
   pub each : All (λ o. IsSoundItem entries (One o)) objects
-  pub few : length objects ≤ 1000000
-  pub leaves : block_count (weight_in entries) objects ≤ 4000000
-  pub depth : block_depth (weight_in entries) objects ≤ 8
+  pub few : length objects ≤ object_limit
+  pub leaves : block_count (weight_in entries) objects ≤ leaf_limit
+  pub depth : block_depth (weight_in entries) objects ≤ depth_limit
 
 abbrev pub IsSoundEntry : List (ℕ × Entry) → Entry → Type 0
 IsSoundEntry entries (Aperture a) = IsSoundAperture a
@@ -150,8 +151,8 @@ IsSoundEntry entries (Block objects) = IsSoundBlock entries objects
 -- an entry may stand behind the others where its number is one of an aperture, and new, and its objects name
 -- numbers that are there
 pub record MayAddEntry (entries : List (ℕ × Entry)) (n : ℕ) (entry : Entry) : Type 0 where
-  pub least : 10 ≤ n
-  pub greatest : n ≤ 2147483647
+  pub least : first_number ≤ n
+  pub greatest : n ≤ last_number
   pub absent : lookup (nat_eq n) entries ≡ None
   pub sound : IsSoundEntry entries entry
 
@@ -164,8 +165,8 @@ IsSoundDictionary entries =
 -- ---- layers
 
 pub record KeepsLimits (entries : List (ℕ × Entry)) (items : List Item) : Type 0 where
-  pub few : length items ≤ 1000000
-  pub leaves : sum_by (item_count (weight_in entries)) items ≤ 4000000
+  pub few : length items ≤ item_limit
+  pub leaves : sum_by (item_count (weight_in entries)) items ≤ leaf_limit
 
 pub record IsSoundContent (es : List (ℕ × Entry)) (is : List Item) : Type 0 where
   pub entries : IsSoundDictionary es

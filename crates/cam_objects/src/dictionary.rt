@@ -1,16 +1,17 @@
 //! The dictionary of a layer.
 
-ghost use Rattle.std.specs.Prelude.{◌≡◌, ◌==◌, ◌++◌, ◌∷◌, ◌≤◌, [], None, Some, IfNone, IfOk, IfSome, OnErr, OnOk, length, nat_eq, slice_get};
+ghost use Rattle.std.specs.Prelude.{◌≡◌, ◌+◌, ◌==◌, ◌++◌, ◌∷◌, ◌≤◌, [], None, Some, IfNone, IfOk, IfSome, OnErr, OnOk, length, nat_eq, slice_get};
 ghost use Rattle.std.specs.List.{IsDistinct};
 ghost use Rattle.std.specs.Map.{keys_of, lookup};
+ghost use Rattle.cam_objects.specs.Limits.{depth_limit, leaf_limit};
 ghost use Rattle.cam_objects.specs.Machinery.Boxes.{IsNearBox};
 ghost use Rattle.cam_objects.specs.Machinery.Facts.{facts_at};
 ghost use Rattle.cam_objects.specs.Machinery.Inside.{IsBoxOnBoard};
 ghost use Rattle.cam_objects.specs.Soundness.{IsSoundDictionary, MayAddEntry};
 ghost use Rattle.cam_objects.specs.Weights.{object_count, object_depth, weight_in};
 
+use crate::checks::facts::{Facts, NO_FACTS};
 use crate::entry::Entry;
-use crate::facts::{Facts, NO_FACTS};
 use crate::object::Object;
 use indexmap::IndexMap;
 use std::alloc::{AllocError, Global};
@@ -86,8 +87,8 @@ impl Dictionary {
     pub(crate) fn find_with_facts(&self, number: u32) -> Option<(usize, &Entry, &Facts)>
         ensures found { IfSome result (λ r. slice_get self.now r.0 ≡ Some (number, r.1.now)) }
         ensures value { IfSome result (λ r. r.2.now ≡ facts_at self.now number) }
-        ensures few { IfSome result (λ r. r.2.now.leaves ≤ 4000000) }
-        ensures shallow { IfSome result (λ r. r.2.now.depth ≤ 8) }
+        ensures few { IfSome result (λ r. r.2.now.leaves ≤ leaf_limit) }
+        ensures shallow { IfSome result (λ r. r.2.now.depth ≤ depth_limit) }
         ensures near { IfSome result (λ r. IsBoxOnBoard r.2.now.points) }
         ensures reach { IfSome result (λ r. IsNearBox r.2.now.bounds) }
         ensures absent { IfNone result (lookup (nat_eq number) self.now ≡ None) }
@@ -113,8 +114,8 @@ impl Dictionary {
     /// What is kept of a number.
     pub(crate) fn facts(&self, number: u32) -> &Facts
         ensures value { result.now ≡ facts_at self.now number }
-        ensures few { result.now.leaves ≤ 4000000 }
-        ensures shallow { result.now.depth ≤ 8 }
+        ensures few { result.now.leaves ≤ leaf_limit }
+        ensures shallow { result.now.depth ≤ depth_limit }
         ensures near { IsBoxOnBoard result.now.points }
         ensures reach { IsNearBox result.now.bounds }
     {
@@ -127,7 +128,7 @@ impl Dictionary {
     /// How many leaves an object counts: one, and for a flash of a block those of the block besides.
     pub fn leaf_count(&self, object: &Object) -> u64
         ensures value { result ≡ object_count (weight_in self.now) object.now }
-        ensures few { result ≤ 4000001 }
+        ensures few { result ≤ leaf_limit + 1 }
     {
         match object {
             Object::Flash { aperture, .. } => 1 + u64::from(self.facts(*aperture).leaves),
@@ -138,7 +139,7 @@ impl Dictionary {
     /// How many blocks lie in one another in what an object flashes.
     pub fn depth(&self, object: &Object) -> u64
         ensures value { result ≡ object_depth (weight_in self.now) object.now }
-        ensures shallow { result ≤ 8 }
+        ensures shallow { result ≤ depth_limit }
     {
         match object {
             Object::Flash { aperture, .. } => u64::from(self.facts(*aperture).depth),

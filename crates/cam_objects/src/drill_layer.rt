@@ -8,8 +8,8 @@ ghost use Rattle.cam_objects.specs.Image.{IsBlack};
 ghost use Rattle.cam_objects.specs.Refusals.{Tells};
 ghost use Rattle.cam_objects.specs.Tests.{is_black};
 
-use crate::drill_checks::{check_drilling, fits_limits, fits_tool};
-use crate::drill_image::is_drilled;
+use crate::drill::checks::{check_drilling, fits_limits, fits_tool};
+use crate::drill::image::is_drilled;
 use crate::drill_item::DrillItem;
 use crate::item_fault::ItemFault;
 use crate::tools::Tools;

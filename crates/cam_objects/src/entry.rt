@@ -3,7 +3,7 @@
 ghost use Rattle.std.specs.Prelude.{◌≡◌, ℕ, IfOk};
 ghost use Rattle.cam_objects.specs.Leaves.{Meaning, entry_meaning};
 
-use crate::leaf::solid_diameter;
+use crate::image::leaf::solid_diameter;
 use crate::object::Objects;
 use cam_apertures::Aperture;
 use cam_units::Nm;

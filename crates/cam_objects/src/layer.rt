@@ -9,7 +9,7 @@ ghost use Rattle.cam_objects.specs.Tests.{is_black};
 
 use crate::dictionary::Dictionary;
 use crate::entry::Entry;
-use crate::image::ink;
+use crate::image::search::ink;
 use crate::item::Item;
 use cam_units::Spot;
 use std::alloc::{AllocError, Global};

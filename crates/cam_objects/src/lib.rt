@@ -1,53 +1,63 @@
-//! Layers and drill layers as lists, and the image that they paint.
+//! Gerber layers and drill layers: what they list, what they paint, their limits and boxes.
+//!
+//! A [`Layer`] is a [`Dictionary`] of apertures and blocks, and a list of [`Item`]s: an [`Object`], or a repeat of
+//! objects. A [`DrillLayer`] is [`Tools`] and a list of [`DrillItem`]s. What a layer paints are its *leaves*, one shape
+//! after another, blocks and repeats unfolded: each makes dark or clear what it covers, so that the last leaf that
+//! covers a place decides. Nothing is unfolded in memory.
+//!
+//! ```text
+//! if layer.check_entry(10, &circle) {
+//!     layer.add_entry(10, circle)?;                    number 10 is a circle
+//! }
+//! let pad = Item::One(Object::Flash { aperture: 10, at, turn: Turn::R0, dark: true });
+//! if layer.check_item(&pad).is_ok() && layer.has_room(&pad) {
+//!     layer.push(pad)?;                                a flash of it at a point
+//! }
+//! layer.black_at(spot)                                 whether a place is black
+//! layer.item_bounds(0)                                 the box of what the first item paints
+//! layer.paint(&mut canvas);                            each pixel of a `Canvas` becomes dark or clear
+//! ```
+//!
+//! Beside the types that layers list, `checks` tells what keeps a layer sound, `image` which places are black,
+//! `paint` how leaves come onto a [`Canvas`], `boxes` how far they reach, `placing` where they come to lie, and
+//! `drill` all of that for drill layers.
+//!
+//! What a layer means stands in `specs/`: `Leaves` and `Drilling` unfold it, `Image` says which places are black and
+//! `Canvases` how pixels are painted, `Bounds` the boxes, `Soundness` and `DrillSoundness` which layers are sound,
+//! `Limits` the limits and `Weights` what counts towards them, `Refusals` the order in which faults are told,
+//! `Shifting` what a move makes of items. `Tests` and `Demands` have the same as tests that compute; `LayerLaws` and
+//! `BoxLaws` say what holds of edits. `specs/Machinery/` mirrors code.
 #![tactic(auto)]
 
-mod bounds;
+mod boxes;
 mod canvas;
 mod checks;
-mod copies;
-mod demands;
 mod dictionary;
-mod drill_bounds;
-mod drill_checks;
-mod drill_image;
+mod drill;
 mod drill_item;
-mod drill_item_boxes;
 mod drill_layer;
-mod drill_painting;
 mod entry;
-mod extent;
-mod facts;
 mod image;
-mod inside;
 mod item;
-mod item_bounds;
-mod item_boxes;
 mod item_fault;
 mod laws;
 mod layer;
-mod layer_painting;
-mod leaf;
 mod limits;
-mod moving;
 mod object;
-mod object_painting;
-mod place;
+mod paint;
+mod placing;
 mod points;
-mod prints;
-mod run;
-mod shape_bounds;
-mod shifting;
 mod tools;
 
+pub use boxes::item_boxes::ItemBoxes;
 pub use cam_shapes::{Contour, Seg, Segments};
 pub use canvas::{Canvas, Figure, Print};
 pub use dictionary::Dictionary;
+pub use drill::item_boxes::DrillItemBoxes;
 pub use drill_item::DrillItem;
-pub use drill_item_boxes::DrillItemBoxes;
 pub use drill_layer::DrillLayer;
 pub use entry::Entry;
 pub use item::Item;
-pub use item_boxes::ItemBoxes;
 pub use item_fault::ItemFault;
 pub use laws::{
     covers_lie_in_their_bounds, drill_layers_stay_sound, edits_stay_in_their_bounds,

@@ -1,157 +1,37 @@
-//! How many leaves there are, and whether there is room for more.
+//! The limits, by the names that they have in `specs/Limits` and in those of `cam_units`.
 
-ghost use Rattle.std.specs.Prelude.{◌≡◌, ◌+◌, ◌*◌, ◌<◌, ◌≤◌, ◌++◌, ◌∷◌, ◌↔◌, [], All, IfNone, IfSome, IsTrue, length, slice_set, sum_by};
-ghost use Rattle.cam_objects.specs.Soundness.{IsWithinLimits, KeepsLimits, segs_of};
-ghost use Rattle.cam_objects.specs.Weights.{block_count, item_count, weight_in};
-ghost use Rattle.cam_objects.specs.declared.item.Item.TheVariants.{One, Repeat};
+/// The greatest number of items of a layer, and of a drill layer.
+pub(crate) const ITEM_LIMIT: usize = 1_000_000;
 
-use crate::dictionary::Dictionary;
-use crate::facts::leaf_count;
-use crate::item::Item;
-use crate::object::Object;
-
-/// The greatest number of items of a layer.
-const ITEMS: usize = 1_000_000;
-
-/// The greatest number of objects of a block or of a repeat.
-pub(crate) const OBJECTS: usize = 1_000_000;
+/// The greatest number of objects of a block, and of a repeat.
+pub(crate) const OBJECT_LIMIT: usize = 1_000_000;
 
 /// The greatest number of segments of a contour.
-const SEGMENTS: usize = 1_000_000;
+pub(crate) const SEGMENT_LIMIT: usize = 1_000_000;
 
-/// The greatest number of leaves of a layer or of a block.
-pub(crate) const LEAVES: u64 = 4_000_000;
+/// The greatest number of points of a rout.
+pub(crate) const POINT_LIMIT: usize = 1_000_000;
 
-/// Whether the object, as an item, is within the limits.
-pub(crate) fn fits_object(entries: &Dictionary, object: &Object) -> bool
-    ensures { IsTrue result ↔ IsWithinLimits entries.now (One object.now) }
-{
-    has_few_segs(object) && entries.leaf_count(object) <= LEAVES
-}
+/// The greatest number of leaves of a layer, of an item and of a block, and of holes and slots of a drill layer.
+pub(crate) const LEAF_LIMIT: u64 = 4_000_000;
 
-/// Whether a repeat of so many copies is within the limits.
-pub(crate) fn fits_repeat(entries: &Dictionary, copies: u64, objects: &[Object]) -> bool
-    ensures { IsTrue result ↔ (All (λ o. length (segs_of o) ≤ 1000000) objects.now
-        × ((length objects.now ≤ 1000000) × (copies * block_count (weight_in entries.now) objects.now ≤ 4000000))) }
-{
-    if objects.len() > OBJECTS {
-        return false;
-    }
-    objects.iter().all(has_few_segs)
-        && room_behind(leaf_count(entries, objects), copies, LEAVES).is_some()
-}
+/// The greatest number of blocks in one another.
+pub(crate) const DEPTH_LIMIT: u64 = 8;
 
-/// Whether the contour of a region has at most 1,000,000 segments.
-fn has_few_segs(object: &Object) -> bool
-    ensures { IsTrue result ↔ (length (segs_of object.now) ≤ 1000000) }
-{
-    match object {
-        Object::Region { contour, .. } => contour.segs.as_slice().len() <= SEGMENTS,
-        _ => true,
-    }
-}
+/// The least number of an aperture or a block.
+pub(crate) const FIRST_NUMBER: u32 = 10;
 
-/// The room that is left behind so many copies of so many leaves, if there is room for them.
-fn room_behind(leaves: u64, copies: u64, room: u64) -> Option<u64>
-    ensures fits { IfSome result (λ left. left + copies * leaves ≡ room) }
-    ensures past { IfNone result (room < copies * leaves) }
-{
-    let all = u128::from(copies) * u128::from(leaves);
-    if all <= u128::from(room) {
-        return Some(room - all as u64);
-    }
-    None
-}
+/// The greatest number of an aperture or a block.
+pub(crate) const LAST_NUMBER: u32 = 2_147_483_647;
 
-/// The room that is left behind so many copies of the objects, if there is room for them.
-fn room_behind_copies(
-    entries: &Dictionary,
-    copies: u64,
-    objects: &[Object],
-    room: u64,
-) -> Option<u64>
-    requires { room ≤ 4000000 }
-    ensures fits { IfSome result (λ left. left + copies * block_count (weight_in entries.now) objects.now ≡ room) }
-    ensures past { IfNone result (room < copies * block_count (weight_in entries.now) objects.now) }
-{
-    if copies == 0 {
-        return Some(room);
-    }
-    if objects.len() > 4_000_000 {
-        return None;
-    }
-    room_behind(leaf_count(entries, objects), copies, room)
-}
+/// The greatest number of a tool.
+pub(crate) const LAST_TOOL: u16 = 9_999;
 
-/// The room that is left behind an item, if there is room for it.
-fn room_behind_item(entries: &Dictionary, item: &Item, room: u64) -> Option<u64>
-    requires { room ≤ 4000000 }
-    ensures fits { IfSome result (λ left. left + item_count (weight_in entries.now) item.now ≡ room) }
-    ensures past { IfNone result (room < item_count (weight_in entries.now) item.now) }
-{
-    match item {
-        Item::One(object) => room_behind(entries.leaf_count(object), 1, room),
-        Item::Repeat {
-            columns,
-            rows,
-            objects,
-            ..
-        } => {
-            let copies = u64::from(*columns) * u64::from(*rows);
-            room_behind_copies(entries, copies, objects.as_slice(), room)
-        }
-    }
-}
+/// The coordinates of a point on the board and the steps of a repeat are below this in absolute value, in nm.
+pub(crate) const BOARD_LIMIT: u64 = 1_000_000_000;
 
-/// The room for leaves that is left behind the items of a layer, if there is room for them.
-fn room_behind_items(entries: &Dictionary, items: &[Item]) -> Option<u64>
-    ensures fits { IfSome result (λ left. left + sum_by (item_count (weight_in entries.now)) items.now ≡ 4000000) }
-    ensures past { IfNone result (4000000 < sum_by (item_count (weight_in entries.now)) items.now) }
-{
-    let mut room = LEAVES;
-    for item in items {
-        match room_behind_item(entries, item, room) {
-            Some(left) => room = left,
-            None => return None,
-        }
-    }
-    Some(room)
-}
+/// The coordinates of a place on the board are below this in absolute value, in half nm.
+pub(crate) const PLACE_LIMIT: u64 = 2_000_000_000;
 
-/// Whether a layer of the items keeps the limits with one more behind them.
-pub(crate) fn has_room(entries: &Dictionary, items: &[Item], item: &Item) -> bool
-    ensures { IsTrue result ↔ KeepsLimits entries.now (items.now ++ item.now ∷ []) }
-{
-    if items.len() >= ITEMS {
-        return false;
-    }
-    match room_behind_items(entries, items) {
-        Some(room) => room_behind_item(entries, item, room).is_some(),
-        None => false,
-    }
-}
-
-/// How many leaves an item within the limits has.
-fn item_leaf_count(entries: &Dictionary, item: &Item) -> u64
-    requires { item_count (weight_in entries.now) item.now ≤ 4000000 }
-    ensures { result ≡ item_count (weight_in entries.now) item.now }
-{
-    LEAVES - room_behind_item(entries, item, LEAVES).unwrap()
-}
-
-/// Whether a layer of the items, which keeps the limits, keeps them with another item in the place of one.
-pub(crate) fn has_room_at(entries: &Dictionary, items: &[Item], place: usize, item: &Item) -> bool
-    requires limits { KeepsLimits entries.now items.now }
-    requires within { place < length items.now }
-    ensures { IsTrue result ↔ KeepsLimits entries.now (slice_set items.now place item.now) }
-{
-    let leaves = item_leaf_count(entries, &items[place]);
-    // Where the other item has no more leaves, those beside it need not be counted.
-    if room_behind_item(entries, item, leaves).is_some() {
-        return true;
-    }
-    match room_behind_items(entries, items) {
-        Some(room) => room_behind_item(entries, item, room + leaves).is_some(),
-        None => false,
-    }
-}
+/// The greatest diameter, in nm.
+pub(crate) const SIZE_LIMIT: i64 = 200_000_000;

@@ -6,14 +6,16 @@ use Rattle.cam_units.specs.declared.bounds.Bounds.TheVariants.{Empty, Closed}
 use Rattle.cam_units.specs.declared.length.Nm.{Nm}
 use Rattle.cam_units.specs.declared.point.Point.{Point}
 use Rattle.cam_units.specs.declared.point.Spot.{Spot}
-use Rattle.cam_units.specs.Board.{IsSize}
+use Rattle.cam_units.specs.Board.{IsSize, board_limit}
 use Rattle.cam_units.specs.Boxes.{has_no_place}
 use Rattle.cam_apertures.specs.Soundness.{IsSoundAperture}
 use Rattle.cam_apertures.specs.Turned.{turned_box}
-use Rattle.cam_objects.specs.declared.copies.Copies.{Copies}
+use Rattle.cam_objects.specs.declared.placing.copies.Copies.{Copies}
 use Rattle.cam_objects.specs.declared.entry.Entry.{Entry}
+use Rattle.cam_objects.specs.declared.item.Item.{Item}
+use Rattle.cam_objects.specs.declared.item.Item.TheVariants.{One, Repeat}
 use Rattle.cam_objects.specs.declared.object.Object.{Object}
-use Rattle.cam_objects.specs.declared.place.Place.{Place}
+use Rattle.cam_objects.specs.declared.placing.place.Place.{Place}
 use Rattle.cam_objects.specs.Bounds.{moved}
 use Rattle.cam_objects.specs.Leaves.{Leaf, Shape, Stamp, Stroke, Sweep, Filled, Drilled, meaning_in, repeat_leaves}
 use Rattle.cam_objects.specs.Machinery.Painting.{StandsOnBoard}
@@ -66,10 +68,15 @@ below s by = record { x = s.x -ℤ by; y = s.y -ℤ by }
 abbrev pub above : Spot → ℤ → Spot
 above s by = record { x = s.x +ℤ by; y = s.y +ℤ by }
 
+-- the copies of an item, of an object the one that it is
+abbrev pub copies_of : Item → Copies
+copies_of (One object) = record { columns = 1; rows = 1; i = pos 0; j = pos 0 }
+copies_of (Repeat columns rows i j objects) = record { columns = columns; rows = rows; i = i; j = j }
+
 -- a repeat that lies on the board with all its copies
 pub record IsBoxedRepeat (entries : List (ℕ × Entry)) (copies : Copies) (objects : List Object) : Type 0 where
   pub many : 1 < copies.columns * copies.rows
-  pub across : unsigned_abs copies.i < 1000000000
-  pub up : unsigned_abs copies.j < 1000000000
+  pub across : unsigned_abs copies.i < board_limit
+  pub up : unsigned_abs copies.j < board_limit
   pub stands : All StandsOnBoard objects
   pub board : AreOnBoard (repeat_leaves (meaning_in entries) copies.columns copies.rows copies.i copies.j objects)

@@ -1,9 +1,9 @@
 -- What readers of boxes keep of the aperture or the tool that an item named last.
 use Rattle.std.specs.Prelude.{◌≡◌, ℕ, List}
 use Rattle.cam_units.specs.declared.length.Nm.{Nm}
-use Rattle.cam_objects.specs.declared.drill_item_boxes.LastTool.{LastTool}
+use Rattle.cam_objects.specs.declared.drill.item_boxes.LastTool.{LastTool}
 use Rattle.cam_objects.specs.declared.entry.Entry.{Entry}
-use Rattle.cam_objects.specs.declared.extent.Extent.{Extent}
+use Rattle.cam_objects.specs.declared.boxes.extent.Extent.{Extent}
 use Rattle.cam_objects.specs.Bounds.{bounds_of}
 use Rattle.cam_objects.specs.Drilling.{diameter_of}
 use Rattle.cam_objects.specs.Leaves.{meaning_in, origin}

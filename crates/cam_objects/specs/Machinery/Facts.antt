@@ -8,7 +8,7 @@ use Rattle.cam_apertures.specs.Primitives.{box_of_point}
 use Rattle.cam_apertures.specs.Soundness.{IsSolidCircle}
 use Rattle.cam_objects.specs.declared.entry.Entry.{Entry}
 use Rattle.cam_objects.specs.declared.entry.Entry.TheVariants.{Aperture, Block}
-use Rattle.cam_objects.specs.declared.facts.Facts.{Facts}
+use Rattle.cam_objects.specs.declared.checks.facts.Facts.{Facts}
 use Rattle.cam_objects.specs.Bounds.{bounds_of, box_of_all}
 use Rattle.cam_objects.specs.Leaves.{Leaf, entry_meaning, meaning_in, origin}
 use Rattle.cam_objects.specs.Soundness.{IsSoundDictionary, points_of_shape}

@@ -1,15 +1,16 @@
 -- What the search for the last leaf asks of a place and of the leaves that are painted there.
 use Rattle.std.specs.Prelude.{ℕ, ◌+◌, ◌*◌, ◌^◌, ◌<◌, ◌≤◌, ℤ, pos, List, length, reverse, take, All}
 use Rattle.std.specs.Int.RustNames.{unsigned_abs}
-use Rattle.cam_units.specs.Board.{IsOnBoard, IsPlace}
+use Rattle.cam_units.specs.Board.{IsOnBoard, IsPlace, board_limit}
 use Rattle.cam_units.specs.declared.point.Spot.{Spot}
 use Rattle.cam_objects.specs.declared.object.Object.{Object}
 use Rattle.cam_objects.specs.declared.entry.Entry.{Entry}
 use Rattle.cam_objects.specs.declared.item.Item.{Item}
 use Rattle.cam_objects.specs.declared.item.Item.TheVariants.{One, Repeat}
-use Rattle.cam_objects.specs.declared.place.Place.{Place}
+use Rattle.cam_objects.specs.declared.placing.place.Place.{Place}
 use Rattle.cam_objects.specs.Image.{IsUncovered}
 use Rattle.cam_objects.specs.Leaves.{Leaf, Meaning, meaning}
+use Rattle.cam_objects.specs.Limits.{leaf_limit}
 use Rattle.cam_objects.specs.Soundness.{AreOnBoard, IsSoundDictionary, points_of}
 
 -- what the first k entries of a dictionary mean
@@ -26,8 +27,8 @@ StandsOnBoard o = All IsOnBoard (points_of o)
 -- the offset of a place leaves room for n more points of the board
 unfoldable pub HasReach : ℕ → Place → Type 0
 HasReach n p =
-    (unsigned_abs p.offset.x + n * 1000000000 < 4400000000000000000)
-    × (unsigned_abs p.offset.y + n * 1000000000 < 4400000000000000000)
+    (unsigned_abs p.offset.x + n * board_limit < 4400000000000000000)
+    × (unsigned_abs p.offset.y + n * board_limit < 4400000000000000000)
 
 -- what is asked of a place at which leaves are painted, with n more placements to come
 pub record IsPaintable (entries : List (ℕ × Entry)) (upto n : ℕ) (p : Place) (s : Spot) (leaves : List Leaf) : Type 0 where
@@ -46,8 +47,8 @@ pub record IsReady (entries : List (ℕ × Entry)) (s : Spot) (leaves : List Lea
 
 -- n copies of objects, each a step from the one before
 pub record IsCopied (n : ℕ) (step : ℤ) (objects : List Object) : Type 0 where
-  pub copies : n ≤ 4000000
-  pub short : unsigned_abs step < 1000000000
+  pub copies : n ≤ leaf_limit
+  pub short : unsigned_abs step < board_limit
   pub points : All StandsOnBoard objects
 
 abbrev pub IsPaintableItem : Item → Type 0

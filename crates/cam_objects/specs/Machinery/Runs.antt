@@ -2,7 +2,7 @@
 use Rattle.std.specs.Prelude.{ℕ, ◌<◌, ◌≤◌, ◌≤ℤ◌}
 use Rattle.cam_units.specs.declared.bounds.Bounds.{Bounds}
 use Rattle.cam_units.specs.declared.bounds.Bounds.TheVariants.{Empty, Closed}
-use Rattle.cam_objects.specs.declared.run.Run.{Run}
+use Rattle.cam_objects.specs.declared.paint.run.Run.{Run}
 
 -- the copy of that number is one of the run
 pub record IsInRun (run : Run) (k : ℕ) : Type 0 where

@@ -5,7 +5,7 @@ use Rattle.cam_shapes.specs.declared.contour.Contour.{Contour}
 use Rattle.cam_shapes.specs.declared.segments.Seg.{Seg}
 use Rattle.cam_shapes.specs.declared.segments.Seg.TheVariants.{Line, Curve}
 use Rattle.cam_apertures.specs.Primitives.{box_of_point}
-use Rattle.cam_objects.specs.declared.shape_bounds.Trace.{Trace}
+use Rattle.cam_objects.specs.declared.boxes.shapes.Trace.{Trace}
 use Rattle.cam_objects.specs.Bounds.{circle_square}
 
 -- behind one segment more

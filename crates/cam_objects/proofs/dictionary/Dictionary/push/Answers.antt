@@ -2,7 +2,7 @@ use Rattle.std.proofs.Common.{◌≡◌, ℕ, List, [], ◌∷◌, ◌++◌, sym
 use Rattle.std.specs.Map.{lookup}
 use Rattle.indexmap.proofs.CallerLemmas.{insert_entry-new}
 use Rattle.cam_objects.specs.declared.entry.Entry.{Entry}
-use Rattle.cam_objects.specs.declared.facts.Facts.{Facts}
+use Rattle.cam_objects.specs.declared.checks.facts.Facts.{Facts}
 use Rattle.cam_objects.specs.Machinery.Facts.{IsKept, facts_of}
 use Rattle.cam_objects.specs.Soundness.{MayAddEntry}
 use Rattle.cam_objects.proofs.KeptFacts.{kept_grows}

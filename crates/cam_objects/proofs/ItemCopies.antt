@@ -1,0 +1,32 @@
+-- a repeat and its copies
+use Rattle.std.proofs.Common.{◌≡◌, ℕ, ℤ, List, sym, ap, subst, ◌∙◌}
+use Rattle.cam_objects.specs.declared.item.Item.{Item}
+use Rattle.cam_objects.specs.declared.item.Item.TheVariants.{Repeat}
+use Rattle.cam_objects.specs.declared.item_fault.ItemFault.TheVariants.{Malformed, OutOfBoard}
+use Rattle.cam_objects.specs.declared.entry.Entry.{Entry}
+use Rattle.cam_objects.specs.declared.object.Object.{Object}
+use Rattle.cam_objects.specs.declared.placing.copies.Copies.{Copies}
+use Rattle.cam_objects.specs.Machinery.Boxes.{IsBoxedRepeat, copies_of}
+use Rattle.cam_objects.specs.Soundness.{IsSoundItem}
+
+abbrev pub repeat_of : Copies → List Object → Item
+repeat_of copies objects = Repeat copies.columns copies.rows copies.i copies.j objects
+
+-- a repeat is that of its copies and its objects
+pub repeat_again : (item : Item) (copies : Copies) (columns rows : ℕ) (i j : ℤ) (objects again : List Object)
+    → item ≡ Repeat columns rows i j objects → copies ≡ copies_of item → again ≡ objects → item ≡ repeat_of copies again
+repeat_again item copies columns rows i j objects again is same e =
+    let k : copies ≡ record { columns = columns; rows = rows; i = i; j = j } = same ∙ ap copies_of is in
+    is ∙ subst (λ (k : Copies). Repeat columns rows i j objects ≡ repeat_of k again) (sym k)
+    (ap (λ (os : List Object). Repeat columns rows i j os) (sym e))
+
+-- a sound one lies on the board with all its copies
+pub boxed_repeat : (es : List (ℕ × Entry)) (copies : Copies) (objects : List Object)
+    → IsSoundItem es (repeat_of copies objects) → IsBoxedRepeat es copies objects
+boxed_repeat es copies objects sound = record {
+  many = (sound Malformed).0.0;
+  across = (sound OutOfBoard).steps.0;
+  up = (sound OutOfBoard).steps.1;
+  stands = (sound OutOfBoard).points;
+  board = (sound OutOfBoard).leaves;
+}

@@ -1,0 +1,65 @@
+use Rattle.std.proofs.Common.{ap, sym, subst, ◌∙◌, arith}
+use Rattle.cam_objects.specs.declared.object.Object.{Object}
+use Rattle.cam_objects.specs.Bounds.{bounds_of}
+use Rattle.cam_objects.specs.Leaves.{meaning_in, object_leaves, origin}
+use Rattle.cam_objects.specs.Machinery.Painting.{StandsOnBoard}
+use Rattle.cam_objects.proofs.Extents.{bounded_arc, bounded_draw, bounded_flash, bounded_region, sized}
+use Rattle.cam_objects.proofs.boxes.extent.Extent.object_bounds.Goals as goal
+
+pub stroke_bounds-requires : goal.stroke_bounds-requires
+stroke_bounds-requires c =
+    let go = c.go_to-in-Draw in
+    let stands = subst StandsOnBoard c.in-Draw.is c.requires.stands in record {
+      from = stands 0 c.in-Draw.from (omega arith);
+      to = stands 1 c.in-Draw.from (omega arith);
+      width =
+          sized c.args.entries.now go.new.self go.ensures.extent c.in-Draw.aperture go.ensures.number c.requires.sound
+          c.in-Some.width c.in-Some.is;
+    }
+
+pub sweep_bounds-requires : goal.sweep_bounds-requires
+sweep_bounds-requires c =
+    let go = c.go_to-in-Arc in
+    let stands = subst StandsOnBoard c.in-Arc.is c.requires.stands in record {
+      from = stands 0 c.in-Arc.from (omega arith);
+      to = stands 1 c.in-Arc.from (omega arith);
+      centre = stands 2 c.in-Arc.from (omega arith);
+      width =
+          sized c.args.entries.now go.new.self go.ensures.extent c.in-Arc.aperture go.ensures.number c.requires.sound
+          c.in-Some-width.width c.in-Some-width.is;
+    }
+
+pub contour_bounds-requires : goal.contour_bounds-requires
+contour_bounds-requires c = rw c.in-Region.is at c.requires.stands
+
+pub returns-in-Flash-clause-value : goal.returns-in-Flash-clause-value
+returns-in-Flash-clause-value c =
+    let es = c.args.entries.now in
+    let here = c.in-Flash in
+    bounded_flash es c.go_to.new.self c.go_to.ensures.extent here.aperture c.go_to.ensures.number here.at here.turn
+    here.dark c.bounds.result c.bounds.ensures
+    ∙ ap (λ (o : Object). bounds_of (object_leaves (meaning_in es) origin o)) (sym here.is)
+
+pub returns-in-Some-clause-value : goal.returns-in-Some-clause-value
+returns-in-Some-clause-value c =
+    let es = c.args.entries.now in
+    let go = c.go_to-in-Draw in
+    let here = c.in-Draw in
+    bounded_draw es go.new.self go.ensures.extent here.aperture go.ensures.number here.from here.to here.turn here.dark
+    c.in-Some.width c.stroke_bounds.result c.in-Some.is c.stroke_bounds.ensures
+    ∙ ap (λ (o : Object). bounds_of (object_leaves (meaning_in es) origin o)) (sym here.is)
+
+pub returns-in-Some-width-clause-value : goal.returns-in-Some-width-clause-value
+returns-in-Some-width-clause-value c =
+    let es = c.args.entries.now in
+    let go = c.go_to-in-Arc in
+    let here = c.in-Arc in
+    bounded_arc es go.new.self go.ensures.extent here.aperture go.ensures.number here.from here.to here.centre here.ccw
+    here.dark c.in-Some-width.width c.sweep_bounds.result c.in-Some-width.is c.sweep_bounds.ensures
+    ∙ ap (λ (o : Object). bounds_of (object_leaves (meaning_in es) origin o)) (sym here.is)
+
+pub returns-in-Region-clause-value : goal.returns-in-Region-clause-value
+returns-in-Region-clause-value c =
+    let means = meaning_in c.args.entries.now in
+    bounded_region means c.in-Region.contour c.in-Region.dark c.contour_bounds.result c.contour_bounds.ensures
+    ∙ ap (λ (o : Object). bounds_of (object_leaves means origin o)) (sym c.in-Region.is)

@@ -1,0 +1,49 @@
+use Rattle.std.proofs.Common.{◌≡◌, ℕ, ◌<◌, length, get_or, slice_get, Some, ap, sym, subst, ◌∙◌, arith}
+use Rattle.std.proofs.lemmas.Option.{get_or_from_slice_get}
+use Rattle.cam_units.specs.declared.bounds.Bounds.{Bounds}
+use Rattle.cam_objects.specs.declared.item.Item.{Item}
+use Rattle.cam_objects.specs.declared.item.Item.TheVariants.{One}
+use Rattle.cam_objects.specs.declared.item_fault.ItemFault.TheVariants.{OutOfBoard}
+use Rattle.cam_objects.specs.declared.layer.Layer.{Layer}
+use Rattle.cam_objects.specs.Bounds.{bounds_of}
+use Rattle.cam_objects.specs.Leaves.{item_leaves, meaning_in}
+use Rattle.cam_objects.specs.Soundness.{IsInside, IsSoundItem}
+use Rattle.cam_objects.proofs.boxes.item_boxes.ItemBoxes.read.Goals as goal
+
+pub object_bounds-requires-clause-stands : goal.object_bounds-requires-clause-stands
+object_bounds-requires-clause-stands c =
+    let layer = c.self.inside.layer.now in
+    let es = layer.apertures in
+    let within : c.args.place < length layer.items.items =
+    subst (λ (l : Layer). c.args.place < length l.items.items) (sym c.self.view_is) c.requires in
+    let listed = c.self.invariant.0.items c.args.place c.index-item.result.now within in
+    let sound : IsSoundItem es (One c.in-One.object) =
+    subst (IsSoundItem es) (sym c.index-item.ensures ∙ c.in-One.is) listed in
+    let inside : IsInside es (One c.in-One.object) = sound OutOfBoard in
+    inside.points 0 c.in-One.object (omega arith)
+
+-- the item read is that of the layer shown
+read_box : (layer shown : Layer) (place : ℕ) (x item : Item) (b : Bounds) → layer ≡ shown
+    → x ≡ get_or layer.items.items place x → slice_get shown.items.items place ≡ Some item
+    → b ≡ bounds_of (item_leaves (meaning_in layer.apertures) x)
+    → b ≡ bounds_of (item_leaves (meaning_in shown.apertures) item)
+read_box layer shown place x item b is here at box =
+    box
+    ∙ ap (λ (l : Layer). bounds_of (item_leaves (meaning_in l.apertures) x)) is
+    ∙ ap (λ (y : Item). bounds_of (item_leaves (meaning_in shown.apertures) y))
+    (here
+    ∙ ap (λ (l : Layer). get_or l.items.items place x) is
+    ∙ get_or_from_slice_get shown.items.items place item x at)
+
+pub returns-in-One-clause-value : goal.returns-in-One-clause-value
+returns-in-One-clause-value c = λ item at.
+    let layer = c.self.inside.layer.now in
+    read_box layer c.args.self.now c.args.place c.index-item.result.now item c.object_bounds.result c.self.view_is
+    c.index-item.ensures at
+    (c.object_bounds.ensures.value
+    ∙ ap (λ (x : Item). bounds_of (item_leaves (meaning_in layer.apertures) x)) (sym c.in-One.is))
+
+pub returns-in-Repeat-clause-value : goal.returns-in-Repeat-clause-value
+returns-in-Repeat-clause-value c = λ item at.
+    read_box c.self.inside.layer.now c.args.self.now c.args.place c.index-item.result.now item c.bounds_of.result
+    c.self.view_is c.index-item.ensures at c.bounds_of.ensures

@@ -1,0 +1,7 @@
+//! Boxes of what is painted, in half nm.
+
+pub(crate) mod extent;
+pub(crate) mod item_boxes;
+pub(crate) mod items;
+pub(crate) mod placed;
+pub(crate) mod shapes;

@@ -1,0 +1,132 @@
+//! How far flashes and strokes of an aperture reach.
+
+ghost use Rattle.std.specs.Prelude.{◌≡◌, Some};
+ghost use Rattle.cam_units.specs.Board.{IsOnBoard};
+ghost use Rattle.cam_objects.specs.Bounds.{bounds_of};
+ghost use Rattle.cam_objects.specs.Leaves.{arc_leaves, draw_leaves, meaning_in, object_leaves, origin};
+ghost use Rattle.cam_objects.specs.Machinery.Extents.{IsExtentIn};
+ghost use Rattle.cam_objects.specs.Machinery.Painting.{StandsOnBoard};
+ghost use Rattle.cam_objects.specs.Soundness.{IsSoundDictionary};
+
+use crate::boxes::shapes::{contour_bounds, stroke_bounds, sweep_bounds};
+use crate::dictionary::Dictionary;
+use crate::object::Object;
+use crate::placing::place::Place;
+use cam_shapes::{Arc, Capsule};
+use cam_units::{Bounds, Nm, Point};
+
+/// What the boxes of objects need of a number: the box of what one flash of it paints at (0, 0), neither mirrored nor
+/// turned, in half nm, and how wide its strokes are, in nm.
+#[derive(Clone, Copy, Debug)]
+pub(crate) struct Extent {
+    pub number: u32,
+    pub bounds: Bounds,
+    pub width: Option<Nm>,
+}
+
+impl Extent {
+    /// Of 0, a number that no entry has.
+    pub(crate) fn none(entries: &Dictionary) -> Extent
+        ensures { IsExtentIn entries.now result }
+    {
+        entries.soundness();
+        Extent {
+            number: 0,
+            bounds: Bounds::Empty,
+            width: None,
+        }
+    }
+
+    /// Of a number.
+    fn of(entries: &Dictionary, number: u32) -> Extent
+        ensures extent { IsExtentIn entries.now result }
+        ensures number { result.number ≡ number }
+    {
+        match entries.find_with_facts(number) {
+            Some((_, entry, facts)) => Extent {
+                number,
+                bounds: facts.bounds,
+                width: entry.width(),
+            },
+            None => Extent {
+                number,
+                bounds: Bounds::Empty,
+                width: None,
+            },
+        }
+    }
+
+    /// Makes it that of a number, which is looked up only where it is another one.
+    fn go_to(&mut self, entries: &Dictionary, number: u32)
+        requires { IsExtentIn entries.now self.old }
+        ensures extent { IsExtentIn entries.now self.new }
+        ensures number { self.new.number ≡ number }
+    {
+        if self.number != number {
+            *self = Extent::of(entries, number);
+        }
+    }
+
+    /// The box of what an object paints. It becomes the extent of the aperture that the object names.
+    pub(crate) fn object_bounds(&mut self, entries: &Dictionary, object: &Object) -> Bounds
+        requires extent { IsExtentIn entries.now self.old }
+        requires sound { IsSoundDictionary entries.now }
+        requires stands { StandsOnBoard object.now }
+        ensures value { result ≡ bounds_of (object_leaves (meaning_in entries.now) origin object.now) }
+        ensures extent { IsExtentIn entries.now self.new }
+    {
+        match object {
+            Object::Flash {
+                aperture,
+                at,
+                turn,
+                ..
+            } => {
+                self.go_to(entries, *aperture);
+                let place = Place {
+                    turn: *turn,
+                    offset: *at,
+                    dark: true,
+                };
+                place.bounds(self.bounds)
+            }
+            Object::Draw {
+                aperture,
+                from,
+                to,
+                ..
+            } => {
+                self.go_to(entries, *aperture);
+                match self.width {
+                    Some(width) => stroke_bounds(&Capsule {
+                        from: *from,
+                        to: *to,
+                        width,
+                    }),
+                    None => Bounds::Empty,
+                }
+            }
+            Object::Arc {
+                aperture,
+                from,
+                to,
+                centre,
+                ccw,
+                ..
+            } => {
+                self.go_to(entries, *aperture);
+                match self.width {
+                    Some(width) => sweep_bounds(&Arc {
+                        from: *from,
+                        to: *to,
+                        centre: *centre,
+                        ccw: *ccw,
+                        width,
+                    }),
+                    None => Bounds::Empty,
+                }
+            }
+            Object::Region { contour, .. } => contour_bounds(contour),
+        }
+    }
+}

@@ -1,0 +1,63 @@
+//! The boxes of the items of a layer, one after another.
+
+ghost use Rattle.std.specs.Prelude.{◌≡◌, ◌<◌, Some, length, slice_get};
+ghost use Rattle.cam_objects.specs.Bounds.{bounds_of};
+ghost use Rattle.cam_objects.specs.Leaves.{item_leaves, meaning_in};
+ghost use Rattle.cam_objects.specs.Soundness.{IsSound};
+ghost use Rattle.cam_objects.specs.declared.item.Item.{Item};
+
+use crate::boxes::extent::Extent;
+use crate::item::Item;
+use crate::layer::Layer;
+use cam_units::Bounds;
+use std::marker::Model;
+
+/// Reads the boxes of the items of a layer: an aperture that the item read before named is not looked up again.
+#[derive(Drop)]
+pub struct ItemBoxes<'a> {
+    layer: &'a Layer,
+    last: Extent,
+}
+
+impl<'a> Model for ItemBoxes<'a> {
+    ghost use Rattle.cam_objects.specs.declared.layer.Layer.{Layer};
+
+    ghost Value = { Layer };
+
+    ghost use Rattle.cam_objects.specs.Machinery.Extents.{IsExtentIn};
+    ghost use Rattle.cam_objects.specs.Soundness.{IsSound};
+
+    ghost view = { λ r. r.layer.now };
+
+    ghost invariant = { λ r. IsSound r.layer.now × IsExtentIn r.layer.now.apertures r.last };
+}
+
+impl Layer {
+    /// Reads the boxes of the items of a sound layer.
+    pub fn boxes(&self) -> ItemBoxes<'_>
+        requires { IsSound self.now }
+        ensures { result ≡ self.now }
+    {
+        ItemBoxes {
+            layer: self,
+            last: Extent::none(&self.apertures),
+        }
+    }
+}
+
+impl<'a> ItemBoxes<'a> {
+    /// The box of the item at a place of the list, counted from 0: that of `Layer::item_bounds`. Takes no memory.
+    pub fn read(&mut self, place: usize) -> Bounds
+        requires { place < length self.old.items.items }
+        ensures value { (item : Item) → slice_get self.old.items.items place ≡ Some item
+            → result ≡ bounds_of (item_leaves (meaning_in self.old.apertures) item) }
+        ensures layer { self.new ≡ self.old }
+    {
+        let layer = self.layer;
+        let item = &layer.items[place];
+        match item {
+            Item::One(object) => self.last.object_bounds(&layer.apertures, object),
+            Item::Repeat { .. } => layer.bounds_of(item),
+        }
+    }
+}

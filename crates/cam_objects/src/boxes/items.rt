@@ -1,0 +1,107 @@
+//! Boxes of what objects and items paint, in half nm: a flash of a block costs one box.
+
+ghost use Rattle.std.specs.Prelude.{◌≡◌, ◌*◌, ◌<◌, All, IsTrue, Some, length, slice_get};
+ghost use Rattle.cam_objects.specs.Bounds.{bounds_of};
+ghost use Rattle.cam_objects.specs.Image.{IsUncovered};
+ghost use Rattle.cam_objects.specs.Leaves.{block_leaves, item_leaves, meaning_in, origin, repeat_leaves};
+ghost use Rattle.cam_objects.specs.Machinery.Boxes.{IsBoxedRepeat, IsNearBox};
+ghost use Rattle.cam_objects.specs.Machinery.Painting.{StandsOnBoard};
+ghost use Rattle.cam_objects.specs.Shifting.{IsMove, shifted_item};
+ghost use Rattle.cam_objects.specs.Soundness.{AreOnBoard, IsSound, IsSoundDictionary, IsSoundItem, MeetsItem};
+ghost use Rattle.cam_objects.specs.declared.item.Item.{Item};
+ghost use Rattle.cam_objects.specs.declared.item_fault.ItemFault.TheVariants.{OutOfBoard};
+
+use crate::boxes::extent::Extent;
+use crate::boxes::placed::moved;
+use crate::dictionary::Dictionary;
+use crate::item::Item;
+use crate::layer::Layer;
+use crate::object::Object;
+use crate::placing::copies::Copies;
+use cam_apertures::has_place;
+use cam_units::{Bounds, Point, Spot};
+
+/// The box of what the objects of a block paint.
+pub(crate) fn block_bounds(entries: &Dictionary, objects: &[Object]) -> Bounds
+    requires stands { All StandsOnBoard objects.now }
+    requires board { AreOnBoard (block_leaves (meaning_in entries.now) origin objects.now) }
+    ensures value { result ≡ bounds_of (block_leaves (meaning_in entries.now) origin objects.now) }
+    ensures near { IsNearBox result }
+{
+    entries.soundness();
+    let mut extent = Extent::none(entries);
+    let mut all = Bounds::Empty;
+    for object in objects {
+        all = all.joined(extent.object_bounds(entries, object));
+    }
+    all
+}
+
+/// The box of all copies of a repeat: that of the first, joined with the last.
+fn repeat_bounds(entries: &Dictionary, copies: &Copies, objects: &[Object]) -> Bounds
+    requires entries { IsSoundDictionary entries.now }
+    requires repeat { IsBoxedRepeat entries.now copies.now objects.now }
+    ensures { result ≡ bounds_of (repeat_leaves (meaning_in entries.now)
+        copies.now.columns copies.now.rows copies.now.i copies.now.j objects.now) }
+{
+    copies.bounds(block_bounds(entries, objects))
+}
+
+/// Whether the place lies outside the box of all copies of a repeat, so that none of them needs to be asked.
+pub(crate) fn is_repeat_missed(
+    entries: &Dictionary,
+    copies: &Copies,
+    objects: &[Object],
+    spot: Spot,
+) -> bool
+    requires entries { IsSoundDictionary entries.now }
+    requires repeat { 1 < copies.now.columns * copies.now.rows → IsBoxedRepeat entries.now copies.now objects.now }
+    ensures { IsTrue result → IsUncovered (repeat_leaves (meaning_in entries.now)
+        copies.now.columns copies.now.rows copies.now.i copies.now.j objects.now) spot }
+{
+    if copies.count() <= 1 {
+        return false;
+    }
+    !has_place(repeat_bounds(entries, copies, objects), spot)
+}
+
+impl Layer {
+    /// The least box that holds the boxes of all that a sound item paints: of a flash its aperture's, of a stroke its
+    /// ends' and, where it is an arc, the whole circle's, widened by half the width, of a region its points' and its
+    /// arcs' circles'. Takes no memory, and goes through no block.
+    pub fn bounds_of(&self, item: &Item) -> Bounds
+        requires { IsSoundItem self.now.apertures item.now }
+        ensures { result ≡ bounds_of (item_leaves (meaning_in self.now.apertures) item.now) }
+    {
+        self.apertures.soundness();
+        match item {
+            Item::One(object) => {
+                Extent::none(&self.apertures).object_bounds(&self.apertures, object)
+            }
+            Item::Repeat { objects, .. } => {
+                let copies = item.copies();
+                repeat_bounds(&self.apertures, &copies, objects.as_slice())
+            }
+        }
+    }
+
+    /// The box of a sound item that is moved by so many nm and stays on the board. Takes no memory.
+    pub fn moved_bounds(&self, item: &Item, by: Point) -> Bounds
+        requires item { IsSoundItem self.now.apertures item.now }
+        requires by { IsMove by }
+        ensures { result ≡ bounds_of (item_leaves (meaning_in self.now.apertures) (shifted_item by item.now)) }
+    {
+        self.apertures.soundness();
+        moved(self.bounds_of(item), by)
+    }
+
+    /// The box of the item at a place of the list, counted from 0.
+    pub fn item_bounds(&self, place: usize) -> Bounds
+        requires sound { IsSound self.now }
+        requires within { place < length self.now.items.items }
+        ensures { (item : Item) → slice_get self.now.items.items place ≡ Some item
+            → result ≡ bounds_of (item_leaves (meaning_in self.now.apertures) item) }
+    {
+        self.bounds_of(&self.items[place])
+    }
+}

@@ -1,0 +1,146 @@
+//! The checks of a layer: whether an item or an entry may join it.
+
+ghost use Rattle.std.specs.Prelude.{◌++◌, ◌∷◌, ◌<◌, ◌↔◌, [], IsTrue, length, slice_set};
+ghost use Rattle.cam_objects.specs.Refusals.{Tells};
+ghost use Rattle.cam_objects.specs.Soundness.{IsSound, IsSoundBlock, IsSoundEntry, KeepsLimits, MayAddEntry, MeetsItem};
+ghost use Rattle.cam_objects.specs.declared.item.Item.TheVariants.{One, Repeat};
+
+use crate::checks::demands::{are_drawable, are_formed, are_known, has_number, have_radii};
+use crate::checks::facts::{depth, leaf_count};
+use crate::checks::inside::{is_object_inside, is_repeat_inside};
+use crate::checks::room::{fits_object, fits_repeat, has_room, has_room_at};
+use crate::dictionary::Dictionary;
+use crate::entry::Entry;
+use crate::item::Item;
+use crate::item_fault::ItemFault;
+use crate::layer::Layer;
+use crate::limits::{DEPTH_LIMIT, FIRST_NUMBER, LAST_NUMBER, LEAF_LIMIT, OBJECT_LIMIT};
+use crate::object::Object;
+use crate::placing::copies::Copies;
+
+impl Layer {
+    /// Whether the item is sound beside the layer's dictionary, or the first of its faults.
+    pub fn check_item(&self, item: &Item) -> Result<(), ItemFault>
+        ensures { Tells (MeetsItem self.now.apertures item.now) result }
+    {
+        match item {
+            Item::One(object) => self.apertures.check_object(object),
+            Item::Repeat { objects, .. } => {
+                let copies = item.copies();
+                check_repeat(&self.apertures, &copies, objects.as_slice())
+            }
+        }
+    }
+
+    /// Whether the layer with the item behind the others keeps its limits. Goes through all items and counts their
+    /// leaves.
+    pub fn has_room(&self, item: &Item) -> bool
+        ensures { IsTrue result ↔ KeepsLimits self.now.apertures (self.now.items.items ++ item.now ∷ []) }
+    {
+        has_room(&self.apertures, &self.items, item)
+    }
+
+    /// Whether the layer keeps its limits with the item in place of the one that stands at a place, counted from 0. Goes
+    /// through all items only where the item has more leaves than that one.
+    pub fn has_room_at(&self, place: usize, item: &Item) -> bool
+        requires sound { IsSound self.now }
+        requires within { place < length self.now.items.items }
+        ensures { IsTrue result ↔ KeepsLimits self.now.apertures (slice_set self.now.items.items place item.now) }
+    {
+        has_room_at(&self.apertures, &self.items, place, item)
+    }
+
+    /// Whether the entry may be added under the number, from 10 to 2,147,483,647 and new: a sound aperture, or a
+    /// block of sound objects that name entries of the layer, with at most 1,000,000 objects and 4,000,000 leaves,
+    /// and at most 8 blocks in one another.
+    pub fn check_entry(&self, number: u32, entry: &Entry) -> bool
+        ensures { IsTrue result ↔ MayAddEntry self.now.apertures number entry.now }
+    {
+        if number < FIRST_NUMBER || number > LAST_NUMBER {
+            return false;
+        }
+        if has_number(&self.apertures, number) {
+            return false;
+        }
+        is_sound(&self.apertures, entry)
+    }
+}
+
+impl Dictionary {
+    /// Whether the object is sound as an item beside these entries, or the first of its faults.
+    pub fn check_object(&self, object: &Object) -> Result<(), ItemFault>
+        ensures { Tells (MeetsItem self.now (One object.now)) result }
+    {
+        let objects = std::slice::from_ref(object);
+        if !are_formed(objects) {
+            return Err(ItemFault::Malformed);
+        }
+        if !are_known(self, objects) {
+            return Err(ItemFault::UnknownAperture);
+        }
+        if !are_drawable(self, objects) {
+            return Err(ItemFault::WrongAperture);
+        }
+        if !have_radii(objects) {
+            return Err(ItemFault::ZeroRadius);
+        }
+        if !is_object_inside(self, object) {
+            return Err(ItemFault::OutOfBoard);
+        }
+        if !fits_object(self, object) {
+            return Err(ItemFault::TooMuch);
+        }
+        Ok(())
+    }
+}
+
+/// Whether the repeat is sound as an item beside the entries, or the first of its faults.
+fn check_repeat(entries: &Dictionary, copies: &Copies, objects: &[Object]) -> Result<(), ItemFault>
+    ensures { Tells
+        (MeetsItem entries.now
+        (Repeat copies.now.columns copies.now.rows copies.now.i copies.now.j objects.now)) result }
+{
+    if copies.count() <= 1 || objects.is_empty() || !are_formed(objects) {
+        return Err(ItemFault::Malformed);
+    }
+    if !are_known(entries, objects) {
+        return Err(ItemFault::UnknownAperture);
+    }
+    if !are_drawable(entries, objects) {
+        return Err(ItemFault::WrongAperture);
+    }
+    if !have_radii(objects) {
+        return Err(ItemFault::ZeroRadius);
+    }
+    if !is_repeat_inside(entries, copies, objects) {
+        return Err(ItemFault::OutOfBoard);
+    }
+    if !fits_repeat(entries, copies.count(), objects) {
+        return Err(ItemFault::TooMuch);
+    }
+    Ok(())
+}
+
+/// Whether the entry is sound behind the others.
+fn is_sound(entries: &Dictionary, entry: &Entry) -> bool
+    ensures { IsTrue result ↔ IsSoundEntry entries.now entry.now }
+{
+    match entry {
+        Entry::Aperture(aperture) => aperture.is_sound(),
+        Entry::Block(objects) => is_sound_block(entries, objects.as_slice()),
+    }
+}
+
+/// Whether a block of the objects is sound behind the others.
+fn is_sound_block(entries: &Dictionary, objects: &[Object]) -> bool
+    ensures { IsTrue result ↔ IsSoundBlock entries.now objects.now }
+{
+    if objects.len() > OBJECT_LIMIT {
+        return false;
+    }
+    objects
+        .iter()
+        .all(|object| entries.check_object(object).is_ok())
+        && leaf_count(entries, objects) <= LEAF_LIMIT
+        && depth(entries, objects) <= DEPTH_LIMIT
+}

@@ -1,0 +1,147 @@
+//! How many leaves there are, and whether there is room for more.
+
+ghost use Rattle.std.specs.Prelude.{◌≡◌, ◌+◌, ◌*◌, ◌<◌, ◌≤◌, ◌++◌, ◌∷◌, ◌↔◌, [], All, IfNone, IfSome, IsTrue, length, slice_set, sum_by};
+ghost use Rattle.cam_objects.specs.Limits.{leaf_limit, object_limit, segment_limit};
+ghost use Rattle.cam_objects.specs.Soundness.{IsWithinLimits, KeepsLimits, segs_of};
+ghost use Rattle.cam_objects.specs.Weights.{block_count, item_count, weight_in};
+ghost use Rattle.cam_objects.specs.declared.item.Item.TheVariants.{One, Repeat};
+
+use crate::checks::facts::leaf_count;
+use crate::dictionary::Dictionary;
+use crate::item::Item;
+use crate::limits::{ITEM_LIMIT, LEAF_LIMIT, OBJECT_LIMIT, SEGMENT_LIMIT};
+use crate::object::Object;
+
+/// Whether the object, as an item, is within the limits.
+pub(crate) fn fits_object(entries: &Dictionary, object: &Object) -> bool
+    ensures { IsTrue result ↔ IsWithinLimits entries.now (One object.now) }
+{
+    has_few_segs(object) && entries.leaf_count(object) <= LEAF_LIMIT
+}
+
+/// Whether a repeat of so many copies is within the limits.
+pub(crate) fn fits_repeat(entries: &Dictionary, copies: u64, objects: &[Object]) -> bool
+    ensures { IsTrue result ↔ (All (λ o. length (segs_of o) ≤ segment_limit) objects.now
+        × ((length objects.now ≤ object_limit) × (copies * block_count (weight_in entries.now) objects.now ≤ leaf_limit))) }
+{
+    if objects.len() > OBJECT_LIMIT {
+        return false;
+    }
+    objects.iter().all(has_few_segs)
+        && room_behind(leaf_count(entries, objects), copies, LEAF_LIMIT).is_some()
+}
+
+/// Whether the contour of a region has at most 1,000,000 segments.
+fn has_few_segs(object: &Object) -> bool
+    ensures { IsTrue result ↔ (length (segs_of object.now) ≤ segment_limit) }
+{
+    match object {
+        Object::Region { contour, .. } => contour.segs.as_slice().len() <= SEGMENT_LIMIT,
+        _ => true,
+    }
+}
+
+/// The room that is left behind so many copies of so many leaves, if there is room for them.
+fn room_behind(leaves: u64, copies: u64, room: u64) -> Option<u64>
+    ensures fits { IfSome result (λ left. left + copies * leaves ≡ room) }
+    ensures past { IfNone result (room < copies * leaves) }
+{
+    let all = u128::from(copies) * u128::from(leaves);
+    if all <= u128::from(room) {
+        return Some(room - all as u64);
+    }
+    None
+}
+
+/// The room that is left behind so many copies of the objects, if there is room for them.
+fn room_behind_copies(
+    entries: &Dictionary,
+    copies: u64,
+    objects: &[Object],
+    room: u64,
+) -> Option<u64>
+    requires { room ≤ leaf_limit }
+    ensures fits { IfSome result (λ left. left + copies * block_count (weight_in entries.now) objects.now ≡ room) }
+    ensures past { IfNone result (room < copies * block_count (weight_in entries.now) objects.now) }
+{
+    if copies == 0 {
+        return Some(room);
+    }
+    if objects.len() as u64 > LEAF_LIMIT {
+        return None;
+    }
+    room_behind(leaf_count(entries, objects), copies, room)
+}
+
+/// The room that is left behind an item, if there is room for it.
+fn room_behind_item(entries: &Dictionary, item: &Item, room: u64) -> Option<u64>
+    requires { room ≤ leaf_limit }
+    ensures fits { IfSome result (λ left. left + item_count (weight_in entries.now) item.now ≡ room) }
+    ensures past { IfNone result (room < item_count (weight_in entries.now) item.now) }
+{
+    match item {
+        Item::One(object) => room_behind(entries.leaf_count(object), 1, room),
+        Item::Repeat {
+            columns,
+            rows,
+            objects,
+            ..
+        } => {
+            let copies = u64::from(*columns) * u64::from(*rows);
+            room_behind_copies(entries, copies, objects.as_slice(), room)
+        }
+    }
+}
+
+/// The room for leaves that is left behind the items of a layer, if there is room for them.
+fn room_behind_items(entries: &Dictionary, items: &[Item]) -> Option<u64>
+    ensures fits { IfSome result (λ left. left + sum_by (item_count (weight_in entries.now)) items.now ≡ leaf_limit) }
+    ensures past { IfNone result (leaf_limit < sum_by (item_count (weight_in entries.now)) items.now) }
+{
+    let mut room = LEAF_LIMIT;
+    for item in items {
+        match room_behind_item(entries, item, room) {
+            Some(left) => room = left,
+            None => return None,
+        }
+    }
+    Some(room)
+}
+
+/// Whether a layer of the items keeps the limits with one more behind them.
+pub(crate) fn has_room(entries: &Dictionary, items: &[Item], item: &Item) -> bool
+    ensures { IsTrue result ↔ KeepsLimits entries.now (items.now ++ item.now ∷ []) }
+{
+    if items.len() >= ITEM_LIMIT {
+        return false;
+    }
+    match room_behind_items(entries, items) {
+        Some(room) => room_behind_item(entries, item, room).is_some(),
+        None => false,
+    }
+}
+
+/// How many leaves an item within the limits has.
+fn item_leaf_count(entries: &Dictionary, item: &Item) -> u64
+    requires { item_count (weight_in entries.now) item.now ≤ leaf_limit }
+    ensures { result ≡ item_count (weight_in entries.now) item.now }
+{
+    LEAF_LIMIT - room_behind_item(entries, item, LEAF_LIMIT).unwrap()
+}
+
+/// Whether a layer of the items, which keeps the limits, keeps them with another item in the place of one.
+pub(crate) fn has_room_at(entries: &Dictionary, items: &[Item], place: usize, item: &Item) -> bool
+    requires limits { KeepsLimits entries.now items.now }
+    requires within { place < length items.now }
+    ensures { IsTrue result ↔ KeepsLimits entries.now (slice_set items.now place item.now) }
+{
+    let leaves = item_leaf_count(entries, &items[place]);
+    // Where the other item has no more leaves, those beside it need not be counted.
+    if room_behind_item(entries, item, leaves).is_some() {
+        return true;
+    }
+    match room_behind_items(entries, items) {
+        Some(room) => room_behind_item(entries, item, room + leaves).is_some(),
+        None => false,
+    }
+}

@@ -1,0 +1,73 @@
+//! The checks of a drill layer.
+
+ghost use Rattle.std.specs.Prelude.{◌≡◌, ◌+◌, ◌++◌, ◌∷◌, ◌↔◌, ◌≤◌, [], All, IsTrue, sum_by};
+ghost use Rattle.cam_units.specs.Board.{IsOnBoard};
+ghost use Rattle.cam_objects.specs.DrillSoundness.{IsSoundTool, KeepsDrillLimits, MeetsDrilling, drill_count_of};
+ghost use Rattle.cam_objects.specs.Limits.{leaf_limit};
+ghost use Rattle.cam_objects.specs.Refusals.{Tells};
+
+use crate::drill_item::DrillItem;
+use crate::item_fault::ItemFault;
+use crate::limits::{ITEM_LIMIT, LAST_TOOL, LEAF_LIMIT, POINT_LIMIT, SIZE_LIMIT};
+use cam_units::{Nm, Point, fits_board};
+
+/// Whether a tool has a number from 1 to 9,999 and a diameter from 1 to 200,000,000 nm.
+pub(crate) fn fits_tool(tool: u16, diameter: Nm) -> bool
+    ensures { IsTrue result ↔ IsSoundTool tool diameter }
+{
+    1 <= tool && tool <= LAST_TOOL && 1 <= diameter.0 && diameter.0 <= SIZE_LIMIT
+}
+
+/// Whether an item of these points is sound, where its tool is known or not, or its first fault.
+pub(crate) fn check_drilling(known: bool, points: &[Point]) -> Result<(), ItemFault>
+    ensures { Tells (MeetsDrilling known points.now) result }
+{
+    if points.is_empty() {
+        return Err(ItemFault::Malformed);
+    }
+    if !known {
+        return Err(ItemFault::UnknownTool);
+    }
+    if !are_on_board(points) {
+        return Err(ItemFault::OutOfBoard);
+    }
+    if points.len() > POINT_LIMIT {
+        return Err(ItemFault::TooMuch);
+    }
+    Ok(())
+}
+
+/// Whether each point lies on the board.
+fn are_on_board(points: &[Point]) -> bool
+    ensures { IsTrue result ↔ All IsOnBoard points.now }
+{
+    points.iter().all(|point| fits_board(*point))
+}
+
+/// Whether items keep the limits with one more behind them.
+pub(crate) fn fits_limits(items: &[DrillItem], item: &DrillItem) -> bool
+    requires { KeepsDrillLimits items.now }
+    ensures { IsTrue result ↔ KeepsDrillLimits (items.now ++ item.now ∷ []) }
+{
+    items.len() < ITEM_LIMIT && adds_up(leaf_count(items), item.leaf_count())
+}
+
+/// Whether so many leaves and so many more are within the limit.
+fn adds_up(leaves: usize, more: usize) -> bool
+    requires { leaves ≤ leaf_limit }
+    ensures { IsTrue result ↔ (leaves + more ≤ leaf_limit) }
+{
+    more as u64 <= LEAF_LIMIT - leaves as u64
+}
+
+/// How many leaves the items have.
+fn leaf_count(items: &[DrillItem]) -> usize
+    requires { sum_by drill_count_of items.now ≤ leaf_limit }
+    ensures { result ≡ sum_by drill_count_of items.now }
+{
+    let mut leaves = 0;
+    for item in items {
+        leaves += item.leaf_count();
+    }
+    leaves
+}

@@ -1,0 +1,141 @@
+//! Layers, painted on a canvas, item by item.
+
+ghost use Rattle.std.specs.Prelude.{ℕ, ◌<◌, ◌^◌, ◌≡◌, ◌*ℤ◌, pos, All, Some, length, slice_get};
+ghost use Rattle.std.specs.Int.RustNames.{unsigned_abs};
+ghost use Rattle.cam_objects.specs.Canvases.{Paints};
+ghost use Rattle.cam_objects.specs.Contents.{content_leaves, content_of};
+ghost use Rattle.cam_objects.specs.Leaves.{block_leaves, column_leaves, item_leaves, leaves_of, meaning_in, repeat_leaves, shifted};
+ghost use Rattle.cam_objects.specs.Machinery.Painting.{IsCopied, IsPaintableItem, IsReadyToPrint, IsUnseen, StandsOnBoard};
+ghost use Rattle.cam_objects.specs.Machinery.Runs.{IsInRun, IsWithinCount};
+ghost use Rattle.cam_objects.specs.Soundness.{IsSound};
+ghost use Rattle.cam_objects.specs.declared.item.Item.{Item};
+
+use crate::boxes::items::block_bounds;
+use crate::canvas::Canvas;
+use crate::dictionary::Dictionary;
+use crate::item::Item;
+use crate::layer::Layer;
+use crate::object::Object;
+use crate::paint::objects::{paint_block, paint_object};
+use crate::paint::run::Run;
+use crate::placing::copies::Copies;
+use crate::placing::place::Place;
+use cam_units::Point;
+
+/// Paints a copy of objects, moved by so many nm.
+fn paint_copy<C: Canvas>(entries: &Dictionary, objects: &[Object], by: Point, canvas: &mut C)
+    requires objects { All StandsOnBoard objects.now }
+    requires across { unsigned_abs by.x < 2 ^ 53 }
+    requires up { unsigned_abs by.y < 2 ^ 53 }
+    requires ready { IsReadyToPrint entries.now
+        (block_leaves (meaning_in entries.now) (shifted by.x by.y) objects.now) }
+    ensures { Paints C.has C.place C.ink canvas.old
+        (block_leaves (meaning_in entries.now) (shifted by.x by.y) objects.now) canvas.new }
+{
+    let place = Place::shifted(by);
+    paint_block(entries, entries.len(), objects, &place, canvas);
+}
+
+/// Paints one column of a repeat: the copies in a run of its rows, where no other covers a pixel.
+fn paint_column<C: Canvas>(
+    entries: &Dictionary,
+    copies: &Copies,
+    objects: &[Object],
+    column: u32,
+    seen: Run,
+    canvas: &mut C,
+)
+    requires across { IsCopied copies.now.columns copies.now.i objects.now }
+    requires up { IsCopied copies.now.rows copies.now.j objects.now }
+    requires column { column < copies.now.columns }
+    requires ready { IsReadyToPrint entries.now
+        (column_leaves (meaning_in entries.now) (pos column *ℤ copies.now.i) copies.now.rows copies.now.j objects.now) }
+    requires within { IsWithinCount copies.now.rows seen }
+    requires unseen { (r : ℕ) → r < copies.now.rows → ¬ IsInRun seen r → IsUnseen C.has C.place canvas.old
+        (block_leaves (meaning_in entries.now)
+        (shifted (pos column *ℤ copies.now.i) (pos r *ℤ copies.now.j)) objects.now) }
+    ensures { Paints C.has C.place C.ink canvas.old (column_leaves (meaning_in entries.now)
+        (pos column *ℤ copies.now.i) copies.now.rows copies.now.j objects.now) canvas.new }
+{
+    for r in seen.first..seen.end {
+        let by = copies.offset(column, r);
+        paint_copy(entries, objects, by, canvas);
+    }
+}
+
+/// Paints a repeat, column by column: the copies whose boxes meet that of the canvas.
+fn paint_repeat<C: Canvas>(
+    entries: &Dictionary,
+    copies: &Copies,
+    objects: &[Object],
+    canvas: &mut C,
+)
+    requires across { IsCopied copies.now.columns copies.now.i objects.now }
+    requires up { IsCopied copies.now.rows copies.now.j objects.now }
+    requires ready { IsReadyToPrint entries.now (repeat_leaves (meaning_in entries.now)
+        copies.now.columns copies.now.rows copies.now.i copies.now.j objects.now) }
+    ensures { Paints C.has C.place C.ink canvas.old (repeat_leaves (meaning_in entries.now)
+        copies.now.columns copies.now.rows copies.now.i copies.now.j objects.now) canvas.new }
+{
+    if copies.count() == 0 {
+        return;
+    }
+    let first = block_bounds(entries, objects);
+    let whole = canvas.bounds();
+    let rows = copies.rows_over(first, whole);
+    if rows.is_empty() {
+        return;
+    }
+    let columns = copies.columns_over(first, whole);
+    for c in columns.first..columns.end {
+        paint_column(entries, copies, objects, c, rows, canvas);
+    }
+}
+
+/// Paints an item.
+fn paint_item<C: Canvas>(entries: &Dictionary, item: &Item, canvas: &mut C)
+    requires item { IsPaintableItem item.now }
+    requires ready { IsReadyToPrint entries.now (item_leaves (meaning_in entries.now) item.now) }
+    ensures { Paints C.has C.place C.ink canvas.old (item_leaves (meaning_in entries.now) item.now) canvas.new }
+{
+    match item {
+        Item::One(object) => {
+            paint_object(entries, entries.len(), object, &Place::origin(), canvas);
+        }
+        Item::Repeat { objects, .. } => {
+            let copies = item.copies();
+            paint_repeat(entries, &copies, objects.as_slice(), canvas);
+        }
+    }
+}
+
+/// Paints items in order.
+fn paint_items<C: Canvas>(entries: &Dictionary, items: &[Item], canvas: &mut C)
+    requires items { All IsPaintableItem items.now }
+    requires ready { IsReadyToPrint entries.now (leaves_of entries.now items.now) }
+    ensures { Paints C.has C.place C.ink canvas.old (leaves_of entries.now items.now) canvas.new }
+{
+    for item in items {
+        paint_item(entries, item, canvas);
+    }
+}
+
+impl Layer {
+    /// Paints a sound layer on a canvas: its leaves in order. What has its box outside of the canvas is passed over.
+    pub fn paint<C: Canvas>(&self, canvas: &mut C)
+        requires { IsSound self.now }
+        ensures { Paints C.has C.place C.ink canvas.old (content_leaves (content_of self.now)) canvas.new }
+    {
+        paint_items(&self.apertures, &self.items, canvas);
+    }
+
+    /// Paints the item at a place of the list, counted from 0.
+    pub fn paint_item<C: Canvas>(&self, place: usize, canvas: &mut C)
+        requires sound { IsSound self.now }
+        requires within { place < length self.now.items.items }
+        ensures { (item : Item) → slice_get self.now.items.items place ≡ Some item
+            → Paints C.has C.place C.ink canvas.old (item_leaves (meaning_in self.now.apertures) item) canvas.new }
+    {
+        paint_item(&self.apertures, &self.items[place], canvas);
+    }
+}

@@ -1,0 +1,131 @@
+//! Objects, painted on a canvas in order. Nothing is unfolded.
+
+ghost use Rattle.std.specs.Prelude.{◌+◌, All};
+ghost use Rattle.cam_objects.specs.Canvases.{Paints};
+ghost use Rattle.cam_objects.specs.Leaves.{block_leaves, object_leaves};
+ghost use Rattle.cam_objects.specs.Machinery.Painting.{IsPrintable, StandsOnBoard, flash_leaves, meaning_before};
+
+use crate::canvas::{Canvas, Figure, Print, misses};
+use crate::dictionary::Dictionary;
+use crate::entry::Entry;
+use crate::image::search::width;
+use crate::object::Object;
+use crate::paint::prints::{paint_region, paint_stroke, paint_sweep};
+use crate::placing::place::Place;
+use cam_shapes::Arc;
+
+/// Paints what a flash of the number paints at a place, if its box meets the canvas.
+#[cycle(paint)]
+fn paint_flash<C: Canvas>(
+    entries: &Dictionary,
+    upto: usize,
+    number: u32,
+    place: &Place,
+    canvas: &mut C,
+)
+    requires { IsPrintable entries.now upto upto place.now (flash_leaves upto entries.now number place.now) }
+    ensures { Paints C.has C.place C.ink canvas.old (flash_leaves upto entries.now number place.now) canvas.new }
+{
+    let (at, entry, facts) = match entries.find_with_facts(number) {
+        Some(found) => found,
+        None => return,
+    };
+    if upto <= at {
+        return;
+    }
+    let bounds = place.bounds(facts.bounds);
+    if misses(canvas, bounds) {
+        return;
+    }
+    match entry {
+        Entry::Aperture(aperture) => canvas.paint(Print {
+            figure: Figure::Stamp {
+                aperture,
+                turn: place.turn,
+                at: place.offset,
+            },
+            dark: place.dark,
+            bounds,
+        }),
+        Entry::Block(objects) => paint_block(entries, at, objects.as_slice(), place, canvas),
+    }
+}
+
+/// Paints the objects of a block at a place, in order.
+#[cycle(paint)]
+pub(crate) fn paint_block<C: Canvas>(
+    entries: &Dictionary,
+    upto: usize,
+    objects: &[Object],
+    place: &Place,
+    canvas: &mut C,
+)
+    requires objects { All StandsOnBoard objects.now }
+    requires ready { IsPrintable entries.now upto (upto + 1) place.now
+        (block_leaves (meaning_before upto entries.now) place.now objects.now) }
+    ensures { Paints C.has C.place C.ink canvas.old
+        (block_leaves (meaning_before upto entries.now) place.now objects.now) canvas.new }
+{
+    for object in objects {
+        paint_object(entries, upto, object, place, canvas);
+    }
+}
+
+/// Paints an object at a place.
+#[cycle(paint)]
+pub(crate) fn paint_object<C: Canvas>(
+    entries: &Dictionary,
+    upto: usize,
+    object: &Object,
+    place: &Place,
+    canvas: &mut C,
+)
+    requires object { StandsOnBoard object.now }
+    requires ready { IsPrintable entries.now upto (upto + 1) place.now
+        (object_leaves (meaning_before upto entries.now) place.now object.now) }
+    ensures { Paints C.has C.place C.ink canvas.old
+        (object_leaves (meaning_before upto entries.now) place.now object.now) canvas.new }
+{
+    match object {
+        Object::Flash {
+            aperture,
+            at,
+            turn,
+            dark,
+        } => {
+            let inner = place.flashed(*at, *turn, *dark);
+            paint_flash(entries, upto, *aperture, &inner, canvas);
+        }
+        Object::Draw {
+            aperture,
+            from,
+            to,
+            dark,
+            ..
+        } => {
+            if let Some(width) = width(entries, upto, *aperture) {
+                paint_stroke(place, *from, *to, width, *dark, canvas);
+            }
+        }
+        Object::Arc {
+            aperture,
+            from,
+            to,
+            centre,
+            ccw,
+            dark,
+        } => {
+            if let Some(width) = width(entries, upto, *aperture) {
+                let stroke = Arc {
+                    from: *from,
+                    to: *to,
+                    centre: *centre,
+                    ccw: *ccw,
+                    width,
+                };
+                paint_sweep(place, stroke, *dark, canvas);
+            }
+        }
+        Object::Region { contour, dark } => paint_region(place, contour, *dark, canvas),
+    }
+}
