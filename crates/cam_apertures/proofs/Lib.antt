@@ -10,3 +10,4 @@ pub mod Expansions
 pub mod Refusals
 pub mod ObroundTurns
 pub mod CoverTurns
+pub mod MacroNames

@@ -1,9 +1,10 @@
 -- Aperture definitions (Gerber Layer Format Specification, "Aperture definition (AD)"): what stands
 -- behind `AD`, without the bytes that do not count.
-use Rattle.std.specs.Prelude.{◌≡◌, ◌≤◌, ◌⊎◌, ℕ, ◌+◌, ℤ, pos, List, [], ◌∷◌, length, find, codes, slice_index_or}
+use Rattle.std.specs.Prelude.{◌≡◌, ◌≤◌, ◌⊎◌, ℕ, ◌+◌, ℤ, pos, List, [], ◌∷◌, length, take, drop, find, codes, slice_index_or}
 use Rattle.std.specs.Prelude.{Option, Some, None, is_none, unwrap_or, Result, Ok, Err, Bool, true, ◌==◌, ◌||◌}
 use Rattle.std.specs.Prelude.{◌&&◌, not, nat_lt, if◌then◌else◌, ⊤}
-use Rattle.std.specs.List.{after_first, before_first, list_all, position_or_len, slice_split}
+use Rattle.std.specs.Char.{is_ascii_digit}
+use Rattle.std.specs.List.{after_first, before_first, list_all, position_or_len, prefix_len, slice_split}
 use Rattle.std.specs.Int.RustNames.{int_le}
 use Rattle.std.specs.Str.{bytes_eq}
 use Rattle.cam_units.specs.declared.length.Nm.{Nm}
@@ -21,9 +22,9 @@ use Rattle.cam_apertures.specs.declared.fault.AdFault.TheVariants.{UnknownForm, 
 use Rattle.cam_apertures.specs.declared.fault.AdFault.TheVariants.{PrimitiveRefused, RotationRefused, SizeRefused}
 use Rattle.cam_apertures.specs.declared.fault.AdFault.TheVariants.{Malformed, OutOfMemory}
 use Rattle.cam_apertures.specs.Faults.{number_of, of_macro}
-use Rattle.cam_numbers.specs.Numbers.{behind_run, decimal, defined_number, is_numeric, run_of}
+use Rattle.cam_numbers.specs.Numbers.{decimal, defined_number, is_numeric}
 
--- the run of the number, the name of the template, and the runs of the parameters
+-- the digits of the number, the name of the template, and the runs of the parameters
 pub record Definition : Type 0 where
   pub number : List ℕ
   pub name : List ℕ
@@ -65,10 +66,17 @@ with_number number text =
       parameters = parameters_of (behind_comma text);
     })
 
--- `D`, the run of the number, and the rest
+-- the digits at the front of a text, and what follows
+abbrev pub digits_of : List ℕ → List ℕ
+digits_of text = take (prefix_len is_ascii_digit text) text
+
+abbrev pub behind_digits : List ℕ → List ℕ
+behind_digits text = drop (prefix_len is_ascii_digit text) text
+
+-- `D`, the digits of the number, and the rest. A name begins with no digit, and may begin with a point or a sign
 unfoldable pub definition : List ℕ → Option Definition
 definition [] = None
-definition (first ∷ text) = if first == 68 then with_number (run_of text) (behind_run text) else None
+definition (first ∷ text) = if first == 68 then with_number (digits_of text) (behind_digits text) else None
 
 -- the form of a text, if it is one
 abbrev pub definition_of : List ℕ → Option Definition

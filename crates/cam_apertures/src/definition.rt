@@ -1,11 +1,12 @@
 //! Aperture definitions.
 
 ghost use Rattle.std.specs.Prelude.{◌≡◌, ◌≤◌, ◌<◌, ◌==◌, ◌∷◌, [], IfOk, IfErr, MatchOption, length, ok_or};
-ghost use Rattle.std.specs.List.{before_first, list_all, position_or_len, slice_split};
+ghost use Rattle.std.specs.Char.{is_ascii_digit};
+ghost use Rattle.std.specs.List.{before_first, list_all, position_or_len, prefix_len, slice_split};
 ghost use Rattle.std.specs.Option.{option_copied};
 ghost use Rattle.cam_words.specs.Heads.{packed};
 ghost use Rattle.cam_apertures.specs.Definition.{are_runs, behind_comma, circle, definition, definition_of, is_comma};
-ghost use Rattle.cam_apertures.specs.Definition.{is_of_runs, length_at, named, numbered, obround, parameters_of};
+ghost use Rattle.cam_apertures.specs.Definition.{is_of_runs, length_at, numbered, obround, parameters_of};
 ghost use Rattle.cam_apertures.specs.Definition.{pieces_of, rect, values_of, with_number, IsDefined, IsRefused};
 ghost use Rattle.cam_macros.specs.Expansion.{expansion_of};
 ghost use Rattle.cam_apertures.specs.declared.fault.AdFault.TheVariants.{BadNumber};
@@ -14,9 +15,10 @@ ghost use Rattle.cam_apertures.specs.Machinery.Outcomes.{IsErr};
 
 use crate::aperture::Aperture;
 use crate::fault::AdFault;
+use crate::macros::Macros;
 use crate::primitives::Primitives;
 use cam_macros::Macro;
-use cam_numbers::{Blanks, decimal, defined_number, is_numeric, run_len};
+use cam_numbers::{Blanks, decimal, defined_number, is_numeric};
 use cam_units::{Nm, Unit, fix9_nm};
 use cam_words::is_skipped;
 use std::alloc::{AllocError, Global};
@@ -26,12 +28,13 @@ use std::alloc::{AllocError, Global};
 ///
 /// The form is `D`, a number, a name and, behind a comma, parameters between `X`: `C,d[Xhole]`,
 /// `R,xXy[Xhole]`, `O,xXy[Xhole]`, or the name of one of the macros and its parameters (Gerber
-/// Layer Format Specification, "Aperture definition (AD)"). The fault is the one of least number;
-/// `OutOfMemory` may come before.
+/// Layer Format Specification, "Aperture definition (AD)"). The number is the digits behind `D`, and
+/// the name begins with the byte behind them, which may be a point or a sign. The fault is the one
+/// of least number; `OutOfMemory` may come before.
 pub fn parse_ad(
     alloc: Global,
     text: &[u8],
-    macros: &[Macro],
+    macros: &Macros,
     unit: Unit,
 ) -> Result<(u32, Aperture), AdFault>
     ensures ok { IfOk result (λ made. IsDefined text.now macros.now unit made.0 made.1) }
@@ -75,7 +78,7 @@ impl<'a> Definition<'a> {
     {
         match text {
             [b'D', rest @ ..] => {
-                let (number, behind) = rest.split_at(run_len(rest));
+                let (number, behind) = rest.split_at(digit_count(rest));
                 Definition::with_number(number, behind)
             }
             _ => None,
@@ -116,6 +119,14 @@ fn pack(alloc: Global, text: &[u8]) -> Result<Vec<u8>, AllocError>
         .copied()
         .filter(|byte| !is_skipped(*byte))
         .collect(alloc)
+}
+
+/// How many digits the text begins with.
+fn digit_count(text: &[u8]) -> usize
+    ensures value { result ≡ prefix_len is_ascii_digit text.now }
+    ensures within { result ≤ length text.now }
+{
+    text.iter().take_while(|byte| byte.is_ascii_digit()).count()
 }
 
 /// Where the first comma stands, or the text's length.
@@ -256,13 +267,6 @@ fn standard(fewest: usize, count: usize, aperture: Aperture) -> Result<Aperture,
     Ok(aperture)
 }
 
-/// The macro of this name.
-fn named<'a>(macros: &'a [Macro], name: &[u8]) -> Option<&'a Macro>
-    ensures { option_copied result ≡ named macros.now name.now }
-{
-    macros.iter().find(|found| found.name.as_slice() == name)
-}
-
 /// The primitives that the macro makes of the parameters.
 fn expanded(alloc: Global, found: &Macro, unit: Unit, values: &[i64]) -> Result<Aperture, AdFault>
     ensures ok { IfOk result (λ a. macro_outcome (expansion_of unit values.now found.now.parts) ≡ Ok a) }
@@ -277,7 +281,7 @@ fn expanded(alloc: Global, found: &Macro, unit: Unit, values: &[i64]) -> Result<
 fn template(
     alloc: Global,
     name: &[u8],
-    macros: &[Macro],
+    macros: &Macros,
     unit: Unit,
     values: &[i64],
 ) -> Result<Aperture, AdFault>
@@ -296,7 +300,7 @@ fn template(
     if name == b"P".as_slice() {
         return Err(AdFault::TemplateRefused);
     }
-    match named(macros, name) {
+    match macros.find(name) {
         None => Err(AdFault::TemplateRefused),
         Some(found) => expanded(alloc, found, unit, values),
     }
@@ -307,7 +311,7 @@ fn template(
 fn defined(
     alloc: Global,
     text: &[u8],
-    macros: &[Macro],
+    macros: &Macros,
     unit: Unit,
 ) -> Result<(u32, Aperture), AdFault>
     ensures ok { IfOk result (λ made. outcome (definition text.now) macros.now unit ≡ Ok made) }

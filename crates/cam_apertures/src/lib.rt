@@ -10,6 +10,7 @@
 //! - [`turned`]: a box, mirrored and turned; [`has_place`]: whether a place lies in a box.
 //! - [`turned_width`], [`turned_height`]: the sides of a shape, once it is turned.
 //! - [`Primitives`]: the primitives of a macro, with the box of all of them kept beside them.
+//! - [`Macros`]: the macros of a file, each found by its name.
 //! - [`parse_ad`]: the aperture that a definition of a Gerber file stands for, or the fault of least
 //!   number; [`ad_number`]: its number alone.
 //!
@@ -22,6 +23,7 @@ mod boxes;
 mod definition;
 mod fault;
 mod laws;
+mod macros;
 mod primitives;
 mod shape;
 mod sides;
@@ -33,5 +35,6 @@ pub use fault::AdFault;
 pub use laws::{
     covers_lie_in_their_box, holes_are_not_covered, test_tells_cover, turns_turn_the_cover,
 };
+pub use macros::Macros;
 pub use primitives::Primitives;
 pub use sides::{turned_height, turned_width};

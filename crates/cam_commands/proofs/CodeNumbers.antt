@@ -4,7 +4,8 @@ use Rattle.std.specs.Prelude.{option_map, ◌==◌}
 use Rattle.std.proofs.lemmas.Bool.{lt-ltb, le-ltb}
 use Rattle.cam_commands.specs.Commands.{Command, Unknown}
 use Rattle.cam_numbers.specs.Numbers.{natural, value_limit}
-use Rattle.cam_commands.specs.WordCommands.{Parts, by_code, said_by, operation_of, by_operation_code, operation_code, selection, function, lone_function, mode_of, program_code}
+use Rattle.cam_commands.specs.WordCommands.{Parts, by_code, said_by, operation_of, by_operation_code, operation_code}
+use Rattle.cam_commands.specs.WordCommands.{selection, function, lone_function, mode_of, program_code}
 use Rattle.cam_numbers.proofs.Counting.{below_or}
 
 -- a meaning of code numbers that no number past the limit changes
@@ -15,11 +16,13 @@ pub code_absent : (code : Option ℕ) (meaning : ℕ → Command) → None ≡ o
 code_absent None meaning e = refl
 code_absent (Some code) meaning e = absurd cc
 
-pub code_there : (code : Option ℕ) (capped : ℕ) (meaning : ℕ → Command) → IsSettled meaning → Some capped ≡ option_map (min value_limit) code → meaning capped ≡ by_code code meaning
+pub code_there : (code : Option ℕ) (capped : ℕ) (meaning : ℕ → Command) → IsSettled meaning
+    → Some capped ≡ option_map (min value_limit) code → meaning capped ≡ by_code code meaning
 code_there None capped meaning settled e = absurd cc
 code_there (Some code) capped meaning settled e =
     let is : capped ≡ min value_limit code = cc in
-    ap meaning is ∙ elim (below_or value_limit code) [ inl same ↦ ap meaning same | inr past ↦ ap meaning past.0 ∙ sym (settled.same code past.1) ]
+    ap meaning is
+    ∙ elim (below_or value_limit code) [ inl same ↦ ap meaning same | inr past ↦ ap meaning past.0 ∙ sym (settled.same code past.1) ]
 
 other : (k code : ℕ) → k ≤ 1000 → value_limit ≤ code → (code == k) ≡ false
 other k code small past = ne_eqb code k (λ e. absurd (omega arith))
@@ -37,7 +40,12 @@ unselected p code past = rw (settled_selection.same code past) refl
 
 pub settled_operation : (p : Parts) → IsSettled (λ code. by_operation_code p code (operation_code code))
 unfolding operation_code
-settled_operation p = record { same = λ code past. rw (other 1 code (omega arith) past, other 2 code (omega arith) past, other 3 code (omega arith) past) (unselected p code past) }
+settled_operation p =
+    record {
+      same =
+          λ code past. rw (other 1 code (omega arith) past, other 2 code (omega arith) past, other 3 code (omega arith) past)
+          (unselected p code past);
+    }
 
 pub settled_function : (rest : List ℕ) → IsSettled (function rest)
 unfolding function lone_function mode_of
@@ -60,9 +68,11 @@ settled_function rest = record {
       ) refl;
 }
 
-pub ruleset settled = (settled_program, settled_selection, settled_operation, settled_function)
+pub ruleset capped = (code_absent, code_there, settled_program, settled_selection, settled_operation, settled_function)
 
 -- an operation by its D code
-pub said_there : (p : Parts) (run : List ℕ) (code : ℕ) → p.d ≡ Some run → Some code ≡ option_map (min value_limit) (natural run) → by_operation_code p code (operation_code code) ≡ operation_of p
+pub said_there : (p : Parts) (run : List ℕ) (code : ℕ) → p.d ≡ Some run → Some code ≡ option_map (min value_limit) (natural run)
+    → by_operation_code p code (operation_code code) ≡ operation_of p
 unfolding operation_of
-said_there p run code is e = code_there (natural run) code (λ n. by_operation_code p n (operation_code n)) (settled_operation p) e ∙ ap (said_by p) (sym is)
+said_there p run code is e = code_there (natural run) code (λ n. by_operation_code p n (operation_code n)) (settled_operation p) e
+    ∙ ap (said_by p) (sym is)

@@ -21,7 +21,8 @@ pub text_by_head : (head text rest : List ℕ) → Some rest ≡ behind_head hea
 unfolding behind_head
 text_by_head head text rest e =
     (elim (starts_with nat_eq text head) as (λ b. starts_with nat_eq text head ≡ b → (length rest == 0) ≡ bytes_eq text head) [
-      | true ↦ λ t. let same : Some rest ≡ Some (drop (length head) text) = rw t at e in let is : rest ≡ drop (length head) text = cc in rw (whole head text, t, is) refl
+      | true ↦ λ t. let same : Some rest ≡ Some (drop (length head) text) = rw t at e in let is : rest ≡ drop (length head) text = cc in
+          rw (whole head text, t, is) refl
       | false ↦ λ t. let none : Some rest ≡ None = rw t at e in absurd cc
     ]) refl
 

@@ -11,7 +11,8 @@ behind_more n [] = behind_none n
     behind_none zero = refl
     behind_none (suc n) = refl
 behind_more n (byte ∷ text) =
-    (elim (is_skipped byte) as (λ b. is_skipped byte ≡ b → behind_kept n (behind_kept 1 (byte ∷ text)) ≡ behind_kept (suc n) (byte ∷ text)) [
+    (elim (is_skipped byte)
+    as (λ b. is_skipped byte ≡ b → behind_kept n (behind_kept 1 (byte ∷ text)) ≡ behind_kept (suc n) (byte ∷ text)) [
       | true ↦ λ e. rw e (behind_more n text)
       | false ↦ λ e. rw e refl
     ]) refl

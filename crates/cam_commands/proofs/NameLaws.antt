@@ -8,15 +8,21 @@ use Rattle.std.proofs.lemmas.Slice.Eq.{bytes_eq-Decides}
 use Rattle.cam_words.specs.Bytes.{is_star}
 use Rattle.cam_words.specs.Heads.{packed}
 use Rattle.cam_commands.specs.declared.names.Name.{Name}
-use Rattle.cam_commands.specs.declared.names.FreeText.TheVariants.{FileAttribute, ApertureAttribute, ObjectAttribute, DeleteAttribute, ImageName, LoadName}
-use Rattle.cam_commands.specs.declared.names.OldForm.TheVariants.{ImagePolarity, AxesSelect, ImageRotation, MirrorImage, Offset, ScaleFactor}
-use Rattle.cam_commands.specs.declared.names.Name.TheVariants.{FormatSpecification, UnitMode, ApertureDefinition, ApertureMacro, ApertureBlock, StepAndRepeat, LoadPolarity, LoadMirroring, LoadRotation, LoadScaling, Free, Old}
+use Rattle.cam_commands.specs.declared.names.FreeText.TheVariants.{FileAttribute, ApertureAttribute, ObjectAttribute}
+use Rattle.cam_commands.specs.declared.names.FreeText.TheVariants.{DeleteAttribute, ImageName, LoadName}
+use Rattle.cam_commands.specs.declared.names.OldForm.TheVariants.{ImagePolarity, AxesSelect, ImageRotation, MirrorImage}
+use Rattle.cam_commands.specs.declared.names.OldForm.TheVariants.{Offset, ScaleFactor}
+use Rattle.cam_commands.specs.declared.names.Name.TheVariants.{FormatSpecification, UnitMode, ApertureDefinition}
+use Rattle.cam_commands.specs.declared.names.Name.TheVariants.{ApertureMacro, ApertureBlock, StepAndRepeat}
+use Rattle.cam_commands.specs.declared.names.Name.TheVariants.{LoadPolarity, LoadMirroring, LoadRotation, LoadScaling}
+use Rattle.cam_commands.specs.declared.names.Name.TheVariants.{Free, Old}
 use Rattle.cam_words.specs.Heads.{behind_kept}
 use Rattle.cam_commands.specs.Commands.{Unknown}
 use Rattle.cam_commands.specs.ExtendedCommands.{letters_of, names, name_of, by_name, named_command, extended_command}
 use Rattle.cam_commands.specs.Laws.{NamesDecide}
 
-known_said : (name : Name) (text : List ℕ) → list_any is_star text ≡ false → extended_command (letters_of name ++ text) ≡ named_command name text
+known_said : (name : Name) (text : List ℕ) → list_any is_star text ≡ false
+    → extended_command (letters_of name ++ text) ≡ named_command name text
 unfolding extended_command name_of
 known_said FormatSpecification text e = rw e refl
 known_said UnitMode text e = rw e refl
@@ -49,7 +55,8 @@ macro_said : (text : List ℕ) → extended_command (letters_of ApertureMacro ++
 unfolding extended_command name_of
 macro_said text = rw (and_false (list_any is_star text)) refl
 
-several_said : (name : Name) (text : List ℕ) → name ≢ ApertureMacro → list_any is_star text ≡ true → extended_command (letters_of name ++ text) ≡ Unknown
+several_said : (name : Name) (text : List ℕ) → name ≢ ApertureMacro → list_any is_star text ≡ true
+    → extended_command (letters_of name ++ text) ≡ Unknown
 unfolding extended_command name_of
 several_said FormatSpecification text h e = rw e refl
 several_said UnitMode text h e = rw e refl

@@ -5,9 +5,14 @@ use Rattle.std.specs.List.{list_any}
 use Rattle.cam_words.specs.Bytes.{is_star}
 use Rattle.cam_words.specs.Heads.{packed}
 use Rattle.cam_commands.specs.declared.names.Name.{Name}
-use Rattle.cam_commands.specs.declared.names.FreeText.TheVariants.{FileAttribute, ApertureAttribute, ObjectAttribute, DeleteAttribute, ImageName, LoadName}
-use Rattle.cam_commands.specs.declared.names.OldForm.TheVariants.{ImagePolarity, AxesSelect, ImageRotation, MirrorImage, Offset, ScaleFactor}
-use Rattle.cam_commands.specs.declared.names.Name.TheVariants.{FormatSpecification, UnitMode, ApertureDefinition, ApertureMacro, ApertureBlock, StepAndRepeat, LoadPolarity, LoadMirroring, LoadRotation, LoadScaling, Free, Old}
+use Rattle.cam_commands.specs.declared.names.FreeText.TheVariants.{FileAttribute, ApertureAttribute, ObjectAttribute}
+use Rattle.cam_commands.specs.declared.names.FreeText.TheVariants.{DeleteAttribute, ImageName, LoadName}
+use Rattle.cam_commands.specs.declared.names.OldForm.TheVariants.{ImagePolarity, AxesSelect, ImageRotation, MirrorImage}
+use Rattle.cam_commands.specs.declared.names.OldForm.TheVariants.{Offset, ScaleFactor}
+use Rattle.cam_commands.specs.declared.names.Name.TheVariants.{FormatSpecification, UnitMode, ApertureDefinition}
+use Rattle.cam_commands.specs.declared.names.Name.TheVariants.{ApertureMacro, ApertureBlock, StepAndRepeat}
+use Rattle.cam_commands.specs.declared.names.Name.TheVariants.{LoadPolarity, LoadMirroring, LoadRotation, LoadScaling}
+use Rattle.cam_commands.specs.declared.names.Name.TheVariants.{Free, Old}
 use Rattle.cam_words.specs.Heads.{behind_kept}
 use Rattle.cam_commands.specs.Commands.{Unknown}
 use Rattle.cam_commands.specs.ExtendedCommands.{letters_of, name_of, by_name, named_command, may_hold_star, extended_command}
@@ -50,23 +55,30 @@ pub none_behind_77 : (first second : ℕ) → first ≡ 77 → (second ≡ 79 �
 unfolding name_of
 none_behind_77 first second is n79 n73 = rw (is, other 79 second n79, other 73 second n73) refl
 
-pub none_behind_65 : (first second : ℕ) → first ≡ 65 → (second ≡ 68 → ⊥) → (second ≡ 77 → ⊥) → (second ≡ 66 → ⊥) → (second ≡ 83 → ⊥) → None ≡ name_of (first ∷ second ∷ [])
+pub none_behind_65 : (first second : ℕ) → first ≡ 65 → (second ≡ 68 → ⊥) → (second ≡ 77 → ⊥) → (second ≡ 66 → ⊥) → (second ≡ 83 → ⊥)
+    → None ≡ name_of (first ∷ second ∷ [])
 unfolding name_of
-none_behind_65 first second is n68 n77 n66 n83 = rw (is, other 68 second n68, other 77 second n77, other 66 second n66, other 83 second n83) refl
+none_behind_65 first second is n68 n77 n66 n83 =
+    rw (is, other 68 second n68, other 77 second n77, other 66 second n66, other 83 second n83) refl
 
 pub none_behind_83 : (first second : ℕ) → first ≡ 83 → (second ≡ 82 → ⊥) → (second ≡ 70 → ⊥) → None ≡ name_of (first ∷ second ∷ [])
 unfolding name_of
 none_behind_83 first second is n82 n70 = rw (is, other 82 second n82, other 70 second n70) refl
 
-pub none_behind_76 : (first second : ℕ) → first ≡ 76 → (second ≡ 80 → ⊥) → (second ≡ 77 → ⊥) → (second ≡ 82 → ⊥) → (second ≡ 83 → ⊥) → (second ≡ 78 → ⊥) → None ≡ name_of (first ∷ second ∷ [])
+pub none_behind_76 : (first second : ℕ) → first ≡ 76 → (second ≡ 80 → ⊥) → (second ≡ 77 → ⊥) → (second ≡ 82 → ⊥) → (second ≡ 83 → ⊥)
+    → (second ≡ 78 → ⊥) → None ≡ name_of (first ∷ second ∷ [])
 unfolding name_of
-none_behind_76 first second is n80 n77 n82 n83 n78 = rw (is, other 80 second n80, other 77 second n77, other 82 second n82, other 83 second n83, other 78 second n78) refl
+none_behind_76 first second is n80 n77 n82 n83 n78 =
+    rw (is, other 80 second n80, other 77 second n77, other 82 second n82, other 83 second n83, other 78 second n78) refl
 
-pub none_behind_84 : (first second : ℕ) → first ≡ 84 → (second ≡ 70 → ⊥) → (second ≡ 65 → ⊥) → (second ≡ 79 → ⊥) → (second ≡ 68 → ⊥) → None ≡ name_of (first ∷ second ∷ [])
+pub none_behind_84 : (first second : ℕ) → first ≡ 84 → (second ≡ 70 → ⊥) → (second ≡ 65 → ⊥) → (second ≡ 79 → ⊥) → (second ≡ 68 → ⊥)
+    → None ≡ name_of (first ∷ second ∷ [])
 unfolding name_of
-none_behind_84 first second is n70 n65 n79 n68 = rw (is, other 70 second n70, other 65 second n65, other 79 second n79, other 68 second n68) refl
+none_behind_84 first second is n70 n65 n79 n68 =
+    rw (is, other 70 second n70, other 65 second n65, other 79 second n79, other 68 second n68) refl
 
-pub none_behind_73 : (first second : ℕ) → first ≡ 73 → (second ≡ 78 → ⊥) → (second ≡ 80 → ⊥) → (second ≡ 82 → ⊥) → None ≡ name_of (first ∷ second ∷ [])
+pub none_behind_73 : (first second : ℕ) → first ≡ 73 → (second ≡ 78 → ⊥) → (second ≡ 80 → ⊥) → (second ≡ 82 → ⊥)
+    → None ≡ name_of (first ∷ second ∷ [])
 unfolding name_of
 none_behind_73 first second is n78 n80 n82 = rw (is, other 78 second n78, other 80 second n80, other 82 second n82) refl
 
@@ -74,9 +86,20 @@ pub none_behind_79 : (first second : ℕ) → first ≡ 79 → (second ≡ 70 �
 unfolding name_of
 none_behind_79 first second is n70 = rw (is, other 70 second n70) refl
 
-pub none_of_letters : (first second : ℕ) → (first ≡ 70 → ⊥) → (first ≡ 77 → ⊥) → (first ≡ 65 → ⊥) → (first ≡ 83 → ⊥) → (first ≡ 76 → ⊥) → (first ≡ 84 → ⊥) → (first ≡ 73 → ⊥) → (first ≡ 79 → ⊥) → None ≡ name_of (first ∷ second ∷ [])
+pub none_of_letters : (first second : ℕ) → (first ≡ 70 → ⊥) → (first ≡ 77 → ⊥) → (first ≡ 65 → ⊥) → (first ≡ 83 → ⊥) → (first ≡ 76 → ⊥)
+    → (first ≡ 84 → ⊥) → (first ≡ 73 → ⊥) → (first ≡ 79 → ⊥) → None ≡ name_of (first ∷ second ∷ [])
 unfolding name_of
-none_of_letters first second n70 n77 n65 n83 n76 n84 n73 n79 = rw (other 70 first n70, other 77 first n77, other 65 first n65, other 83 first n83, other 76 first n76, other 84 first n84, other 73 first n73, other 79 first n79) refl
+none_of_letters first second n70 n77 n65 n83 n76 n84 n73 n79 =
+    rw (
+      other 70 first n70,
+      other 77 first n77,
+      other 65 first n65,
+      other 83 first n83,
+      other 76 first n76,
+      other 84 first n84,
+      other 73 first n73,
+      other 79 first n79,
+    ) refl
 
 and_false : (b : Bool) → (b && false) ≡ false
 and_false true = refl
@@ -94,7 +117,8 @@ pub nothing_said : (text : List ℕ) → packed text ≡ [] → Unknown ≡ exte
 unfolding extended_command
 nothing_said text e = rw (e, none_of_nothing) refl
 
-pub one_letter_said : (text behind : List ℕ) (first : ℕ) → packed text ≡ first ∷ packed behind → packed behind ≡ [] → Unknown ≡ extended_command text
+pub one_letter_said : (text behind : List ℕ) (first : ℕ) → packed text ≡ first ∷ packed behind → packed behind ≡ []
+    → Unknown ≡ extended_command text
 unfolding extended_command
 one_letter_said text behind first e f = rw (e, f, none_of_one first) refl
 
@@ -105,23 +129,28 @@ pub record Begins (text behind rest : List ℕ) (first second : ℕ) : Type 0 wh
   pub once : behind_kept 1 text ≡ behind
   pub twice : behind_kept 1 behind ≡ rest
 
-said_by_name : (text behind rest : List ℕ) (first second : ℕ) → Begins text behind rest first second → by_name (name_of (first ∷ second ∷ [])) rest ≡ extended_command text
+said_by_name : (text behind rest : List ℕ) (first second : ℕ) → Begins text behind rest first second
+    → by_name (name_of (first ∷ second ∷ [])) rest ≡ extended_command text
 unfolding extended_command
 said_by_name text behind rest first second b =
     let letters : take 2 (packed text) ≡ first ∷ second ∷ [] = rw (b.one, b.two) refl in
     let behind_two : behind_kept 2 text ≡ rest = sym (behind_more 1 text) ∙ ap (behind_kept 1) b.once ∙ b.twice in
-    ap (by_name (name_of (first ∷ second ∷ []))) (sym behind_two) ∙ ap (λ (l : List ℕ). by_name (name_of l) (behind_kept 2 text)) (sym letters)
+    ap (by_name (name_of (first ∷ second ∷ []))) (sym behind_two)
+    ∙ ap (λ (l : List ℕ). by_name (name_of l) (behind_kept 2 text)) (sym letters)
 
-pub no_name_said : (text behind rest : List ℕ) (first second : ℕ) → Begins text behind rest first second → None ≡ name_of (first ∷ second ∷ []) → Unknown ≡ extended_command text
+pub no_name_said : (text behind rest : List ℕ) (first second : ℕ) → Begins text behind rest first second
+    → None ≡ name_of (first ∷ second ∷ []) → Unknown ≡ extended_command text
 no_name_said text behind rest first second b e = ap (λ (n : Option Name). by_name n rest) e ∙ said_by_name text behind rest first second b
 
-pub star_said : (text behind rest : List ℕ) (first second : ℕ) (name : Name) → Begins text behind rest first second → Some name ≡ name_of (first ∷ second ∷ []) → (list_any is_star rest && not (may_hold_star name)) ≡ true
+pub star_said : (text behind rest : List ℕ) (first second : ℕ) (name : Name) → Begins text behind rest first second
+    → Some name ≡ name_of (first ∷ second ∷ []) → (list_any is_star rest && not (may_hold_star name)) ≡ true
     → Unknown ≡ extended_command text
 star_said text behind rest first second name b e star =
     let held : Unknown ≡ by_name (Some name) rest = rw star refl in
     held ∙ ap (λ (n : Option Name). by_name n rest) e ∙ said_by_name text behind rest first second b
 
-pub name_said : (text behind rest : List ℕ) (first second : ℕ) (name : Name) → Begins text behind rest first second → Some name ≡ name_of (first ∷ second ∷ []) → (list_any is_star rest && not (may_hold_star name)) ≡ false
+pub name_said : (text behind rest : List ℕ) (first second : ℕ) (name : Name) → Begins text behind rest first second
+    → Some name ≡ name_of (first ∷ second ∷ []) → (list_any is_star rest && not (may_hold_star name)) ≡ false
     → named_command name rest ≡ extended_command text
 name_said text behind rest first second name b e none =
     let held : named_command name rest ≡ by_name (Some name) rest = rw none refl in

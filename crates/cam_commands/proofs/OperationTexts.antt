@@ -1,5 +1,6 @@
 -- A word that says an operation is written from its parts.
-use Rattle.std.proofs.Common.{◌≡◌, ℕ, suc, subst, ◌+◌, List, [], ◌∷◌, ◌++◌, length, Bool, true, false, None, Some, Option, refl, sym, ap, ◌∙◌, arith, cond}
+use Rattle.std.proofs.Common.{◌≡◌, ℕ, suc, subst, ◌+◌, List, [], ◌∷◌, ◌++◌, length, Bool, true, false, None, Some}
+use Rattle.std.proofs.Common.{Option, refl, sym, ap, ◌∙◌, arith, cond}
 use Rattle.std.specs.Prelude.{◌==◌}
 use Rattle.std.specs.List.{prefix_len}
 use Rattle.std.proofs.lemmas.Bool.{eqb-true}
@@ -12,8 +13,11 @@ use Rattle.cam_commands.specs.declared.parts.Mode.{Mode}
 use Rattle.cam_commands.specs.declared.parts.Operation.{Operation}
 use Rattle.cam_numbers.specs.Numbers.{run_of, behind_run, is_numeric, natural}
 use Rattle.cam_commands.specs.Fields.{field}
-use Rattle.cam_commands.specs.Commands.{Command, SetUnit, RefusedOld, SetMode, SingleQuadrant, MultiQuadrant, BeginRegion, EndRegion, Nothing, Select, Operate, End, Unknown}
-use Rattle.cam_commands.specs.WordCommands.{Parts, mode_of, selection, operation, operation_of, prefixed_selection, lone_function, program_code, word_command, by_function, function, by_run, by_code, by_mode}
+use Rattle.cam_commands.specs.Commands.{Command, SetUnit, RefusedOld, SetMode, SingleQuadrant, MultiQuadrant}
+use Rattle.cam_commands.specs.Commands.{BeginRegion, EndRegion, Nothing, Select, Operate, End, Unknown}
+use Rattle.cam_commands.specs.WordCommands.{Parts, mode_of, selection, operation, operation_of, prefixed_selection}
+use Rattle.cam_commands.specs.WordCommands.{lone_function, program_code, word_command, by_function, function, by_run}
+use Rattle.cam_commands.specs.WordCommands.{by_code, by_mode}
 use Rattle.cam_commands.specs.Laws.{IsRun, IsRunIfWritten, AreRuns, field_text, text_of, IsWrittenFrom, OperationsAreWritten}
 
 one_more : (n : ℕ) → 1 + n ≡ suc n
@@ -36,9 +40,11 @@ is_read : (letter : ℕ) (text : List ℕ) → IsRead letter text (field letter 
 unfolding field
 is_read letter [] = record { text_is = refl; run = tt }
 is_read letter (first ∷ text) =
-    (elim (first == letter) as (λ b. (first == letter) ≡ b → IsRead letter (first ∷ text) (cond b (Some (run_of text), behind_run text) (None, first ∷ text))) [
+    (elim (first == letter)
+    as (λ b. (first == letter) ≡ b → IsRead letter (first ∷ text) (cond b (Some (run_of text), behind_run text) (None, first ∷ text))) [
       | true ↦ λ e. record {
-        text_is = ap (λ b. b ∷ text) (eqb-true first letter e) ∙ ap (λ t. letter ∷ t) (sym (take-append-drop (prefix_len is_numeric text) text));
+        text_is = ap (λ b. b ∷ text) (eqb-true first letter e)
+            ∙ ap (λ t. letter ∷ t) (sym (take-append-drop (prefix_len is_numeric text) text));
         run = run_is_numeric text;
       }
       | false ↦ λ e. record { text_is = refl; run = tt }
@@ -78,11 +84,14 @@ nothing_more (byte ∷ text) = ap (λ t. byte ∷ t) (nothing_more text)
 text_in : (mode : Option Mode) (text : List ℕ) → (length (d_in text).1 == 0) ≡ true → text ≡ text_of (parts_in mode text)
 text_in mode text e =
     let none : (d_in text).1 ≡ [] = nil_from_length (d_in text).1 (eqb-true (length (d_in text).1) 0 e) in
-    let d : (j_in text).1 ≡ field_text 68 (d_in text).0 = (is_read 68 (j_in text).1).text_is ∙ ap (λ (t : List ℕ). field_text 68 (d_in text).0 ++ t) none ∙ nothing_more (field_text 68 (d_in text).0) in
-    let j : (i_in text).1 ≡ field_text 74 (j_in text).0 ++ field_text 68 (d_in text).0 = (is_read 74 (i_in text).1).text_is ∙ ap (λ (t : List ℕ). field_text 74 (j_in text).0 ++ t) d in
+    let d : (j_in text).1 ≡ field_text 68 (d_in text).0 = (is_read 68 (j_in text).1).text_is
+    ∙ ap (λ (t : List ℕ). field_text 68 (d_in text).0 ++ t) none ∙ nothing_more (field_text 68 (d_in text).0) in
+    let j : (i_in text).1 ≡ field_text 74 (j_in text).0 ++ field_text 68 (d_in text).0 = (is_read 74 (i_in text).1).text_is
+    ∙ ap (λ (t : List ℕ). field_text 74 (j_in text).0 ++ t) d in
     let i : (y_in text).1 ≡ field_text 73 (i_in text).0 ++ (field_text 74 (j_in text).0 ++ field_text 68 (d_in text).0) =
     (is_read 73 (y_in text).1).text_is ∙ ap (λ (t : List ℕ). field_text 73 (i_in text).0 ++ t) j in
-    let y : (x_in text).1 ≡ field_text 89 (y_in text).0 ++ (field_text 73 (i_in text).0 ++ (field_text 74 (j_in text).0 ++ field_text 68 (d_in text).0)) =
+    let y : (x_in text).1 ≡ field_text 89 (y_in text).0
+    ++ (field_text 73 (i_in text).0 ++ (field_text 74 (j_in text).0 ++ field_text 68 (d_in text).0)) =
     (is_read 89 (x_in text).1).text_is ∙ ap (λ (t : List ℕ). field_text 89 (y_in text).0 ++ t) i in
     (is_read 88 text).text_is ∙ ap (λ (t : List ℕ). field_text 88 (x_in text).0 ++ t) y
 
@@ -147,24 +156,29 @@ lone_none : (code : ℕ) → IsNone (lone_function code)
 unfolding lone_function
 lone_none code =
     either _ _ _ begin_none (either _ _ _ close_none (either _ _ _ (unit_none Inch) (either _ _ _ (unit_none Mm)
-    (either _ _ _ single_none (either _ _ _ multi_none (either _ _ _ nothing_none (either _ _ _ refused_none (either _ _ _ refused_none unknown_none))))))))
+    (either _ _ _ single_none
+    (either _ _ _ multi_none (either _ _ _ nothing_none (either _ _ _ refused_none (either _ _ _ refused_none unknown_none))))))))
 
 -- what follows from a command that is an operation, by the cases of the command
-from_if : (b : Bool) (x y : Command) (o : Operation) (Goal : Type 0) → (b ≡ true → x ≡ Operate o → Goal) → (b ≡ false → y ≡ Operate o → Goal) → cond b x y ≡ Operate o → Goal
+from_if : (b : Bool) (x y : Command) (o : Operation) (Goal : Type 0) → (b ≡ true → x ≡ Operate o → Goal)
+    → (b ≡ false → y ≡ Operate o → Goal) → cond b x y ≡ Operate o → Goal
 from_if true x y o Goal h k e = h refl e
 from_if false x y o Goal h k e = k refl e
 
 from_run : (run : Option (List ℕ)) (meaning : List ℕ → Command) (otherwise : Command) (o : Operation) (Goal : Type 0)
-    → ((r : List ℕ) → run ≡ Some r → meaning r ≡ Operate o → Goal) → (run ≡ None → otherwise ≡ Operate o → Goal) → by_run run meaning otherwise ≡ Operate o → Goal
+    → ((r : List ℕ) → run ≡ Some r → meaning r ≡ Operate o → Goal) → (run ≡ None → otherwise ≡ Operate o → Goal)
+    → by_run run meaning otherwise ≡ Operate o → Goal
 from_run None meaning otherwise o Goal h k e = k refl e
 from_run (Some r) meaning otherwise o Goal h k e = h r refl e
 
-from_code : (code : Option ℕ) (meaning : ℕ → Command) (o : Operation) (Goal : Type 0) → ((n : ℕ) → code ≡ Some n → meaning n ≡ Operate o → Goal) → by_code code meaning ≡ Operate o → Goal
+from_code : (code : Option ℕ) (meaning : ℕ → Command) (o : Operation) (Goal : Type 0)
+    → ((n : ℕ) → code ≡ Some n → meaning n ≡ Operate o → Goal) → by_code code meaning ≡ Operate o → Goal
 from_code None meaning o Goal h e = absurd (unknown_none.none o e)
 from_code (Some n) meaning o Goal h e = h n refl e
 
 from_mode : (mode : Option Mode) (rest : List ℕ) (otherwise : Command) (o : Operation) (Goal : Type 0)
-    → ((m : Mode) → mode ≡ Some m → cond (length rest == 0) (SetMode m) (operation (Some m) rest) ≡ Operate o → Goal) → (otherwise ≡ Operate o → Goal) → by_mode mode rest otherwise ≡ Operate o → Goal
+    → ((m : Mode) → mode ≡ Some m → cond (length rest == 0) (SetMode m) (operation (Some m) rest) ≡ Operate o → Goal)
+    → (otherwise ≡ Operate o → Goal) → by_mode mode rest otherwise ≡ Operate o → Goal
 from_mode None rest otherwise o Goal h k e = k e
 from_mode (Some m) rest otherwise o Goal h k e = h m refl e
 
@@ -172,7 +186,8 @@ abbrev IsWritten : List ℕ → Operation → Type 0
 IsWritten text o = (p : Parts) × (prefix : Option (List ℕ)) × IsWrittenFrom text p prefix × (operation_of p ≡ Operate o)
 
 -- an operation behind a prefix
-behind : (mode : Option Mode) (text rest : List ℕ) (prefix : Option (List ℕ)) (o : Operation) → IsRunIfWritten prefix → mode ≡ option_and_then (λ run. option_and_then mode_of (natural run)) prefix
+behind : (mode : Option Mode) (text rest : List ℕ) (prefix : Option (List ℕ)) (o : Operation) → IsRunIfWritten prefix
+    → mode ≡ option_and_then (λ run. option_and_then mode_of (natural run)) prefix
     → text ≡ field_text 71 prefix ++ rest → operation mode rest ≡ Operate o → IsWritten text o
 unfolding operation
 behind mode text rest prefix o run is whole e =
@@ -180,30 +195,41 @@ behind mode text rest prefix o run is whole e =
     (λ ends said. (
       parts_in mode rest,
       prefix,
-      record { runs = runs_in mode rest; prefix_run = run; mode_is = is; text_is = whole ∙ ap (λ (t : List ℕ). field_text 71 prefix ++ t) (text_in mode rest ends) },
+      record {
+        runs = runs_in mode rest;
+        prefix_run = run;
+        mode_is = is;
+        text_is = whole
+            ∙ ap (λ (t : List ℕ). field_text 71 prefix ++ t) (text_in mode rest ends);
+      },
       said,
     ))
     (λ goes_on said. absurd (unknown_none.none o said)) e
 
 -- behind the G code that was read
-behind_code : (text : List ℕ) (o : Operation) (run : List ℕ) (code : ℕ) → (field 71 text).0 ≡ Some run → natural run ≡ Some code → function (field 71 text).1 code ≡ Operate o → IsWritten text o
+behind_code : (text : List ℕ) (o : Operation) (run : List ℕ) (code : ℕ) → (field 71 text).0 ≡ Some run → natural run ≡ Some code
+    → function (field 71 text).1 code ≡ Operate o → IsWritten text o
 unfolding function
 behind_code text o run code is n e =
     let read : IsRead 71 text (field 71 text) = is_read 71 text in
     let written : IsRunIfWritten (Some run) = subst IsRunIfWritten is read.run in
-    let whole : text ≡ field_text 71 (Some run) ++ (field 71 text).1 = read.text_is ∙ ap (λ (r : Option (List ℕ)). field_text 71 r ++ (field 71 text).1) is in
+    let whole : text ≡ field_text 71 (Some run) ++ (field 71 text).1 = read.text_is
+    ∙ ap (λ (r : Option (List ℕ)). field_text 71 r ++ (field 71 text).1) is in
     from_mode (mode_of code) (field 71 text).1 _ o (IsWritten text o)
     (λ mode m said.
     from_if (length (field 71 text).1 == 0) (SetMode mode) (operation (Some mode) (field 71 text).1) o (IsWritten text o)
     (λ ends lone. absurd ((mode_none mode).none o lone))
     (λ goes_on operates. behind (Some mode) text (field 71 text).1 (Some run) o written (rw (n, m) refl) whole operates) said)
-    (λ said. absurd ((either (code == 54) _ _ (prefixed_none (field 71 text).1) (either (length (field 71 text).1 == 0) _ _ (lone_none code) unknown_none)).none o said)) e
+    (λ said. absurd
+    ((either (code == 54) _ _ (prefixed_none (field 71 text).1)
+    (either (length (field 71 text).1 == 0) _ _ (lone_none code) unknown_none)).none o said)) e
 
 by_g : (text : List ℕ) (o : Operation) → by_function (field 71 text) text ≡ Operate o → IsWritten text o
 unfolding by_function
 by_g text o e =
     from_run (field 71 text).0 (λ run. by_code (natural run) (function (field 71 text).1)) (operation None text) o (IsWritten text o)
-    (λ run is said. from_code (natural run) (function (field 71 text).1) o (IsWritten text o) (λ code n operates. behind_code text o run code is n operates) said)
+    (λ run is said. from_code (natural run) (function (field 71 text).1) o (IsWritten text o)
+    (λ code n operates. behind_code text o run code is n operates) said)
     (λ none said. behind None text text None o tt refl refl said) e
 
 pub operations_are_written : OperationsAreWritten
@@ -211,6 +237,8 @@ unfolding word_command
 operations_are_written text o e =
     from_if (length text == 0) Nothing _ o (IsWritten text o) (λ empty said. absurd (nothing_none.none o said))
     (λ some said.
-    from_run (field 77 text).0 (λ run. cond (length (field 77 text).1 == 0) (by_code (natural run) program_code) Unknown) (by_function (field 71 text) text) o (IsWritten text o)
-    (λ run is ends. absurd ((either (length (field 77 text).1 == 0) _ _ (coded (natural run) program_code program_none) unknown_none).none o ends))
+    from_run (field 77 text).0 (λ run. cond (length (field 77 text).1 == 0) (by_code (natural run) program_code) Unknown)
+    (by_function (field 71 text) text) o (IsWritten text o)
+    (λ run is ends.
+    absurd ((either (length (field 77 text).1 == 0) _ _ (coded (natural run) program_code program_none) unknown_none).none o ends))
     (λ none operates. by_g text o operates) said) e

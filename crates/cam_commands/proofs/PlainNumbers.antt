@@ -20,21 +20,28 @@ pub plain_alone : (digit first : ℕ) (run rest : List ℕ) → run ≡ first �
 unfolding is_plain
 plain_alone digit first run rest e same none = rw (e, eq-eqb first digit same, none) refl
 
-pub plain_unpointed : (digit first point : ℕ) (run rest zeros : List ℕ) → run ≡ first ∷ rest → first ≡ digit → rest ≡ point ∷ zeros → (point ≡ 46 → ⊥) → false ≡ is_plain digit run
+pub plain_unpointed : (digit first point : ℕ) (run rest zeros : List ℕ) → run ≡ first ∷ rest → first ≡ digit → rest ≡ point ∷ zeros
+    → (point ≡ 46 → ⊥) → false ≡ is_plain digit run
 unfolding is_plain
 plain_unpointed digit first point run rest zeros e same f other = rw (e, eq-eqb first digit same, f, ne_eqb point 46 other) refl
 
-pub plain_pointed : (digit first point : ℕ) (run rest zeros : List ℕ) → run ≡ first ∷ rest → first ≡ digit → rest ≡ point ∷ zeros → point ≡ 46 → list_all (λ byte. byte == 48) zeros ≡ is_plain digit run
+pub plain_pointed : (digit first point : ℕ) (run rest zeros : List ℕ) → run ≡ first ∷ rest → first ≡ digit → rest ≡ point ∷ zeros
+    → point ≡ 46 → list_all (λ byte. byte == 48) zeros ≡ is_plain digit run
 unfolding is_plain
 plain_pointed digit first point run rest zeros e same f is = rw (e, eq-eqb first digit same, f, eq-eqb point 46 is) refl
 
 pub zeros_packed : (run : List ℕ) → list_all (λ byte. (byte == 48) || is_skipped byte) run ≡ list_all (λ byte. byte == 48) (packed run)
 zeros_packed [] = refl
 zeros_packed (byte ∷ run) =
-    (elim (is_skipped byte) as (λ s. is_skipped byte ≡ s → list_all (λ digit. (digit == 48) || is_skipped digit) (byte ∷ run) ≡ list_all (λ digit. digit == 48) (packed (byte ∷ run))) [
-      | true ↦ λ e. let r : ((byte == 48) || is_skipped byte) ≡ true = or_right (byte == 48) (is_skipped byte) e in rw (r, e) (zeros_packed run)
+    (elim (is_skipped byte)
+    as (λ s. is_skipped byte ≡ s → list_all (λ digit. (digit == 48) || is_skipped digit) (byte ∷ run)
+    ≡ list_all (λ digit. digit == 48) (packed (byte ∷ run))) [
+      | true ↦ λ e. let r : ((byte == 48) || is_skipped byte) ≡ true = or_right (byte == 48) (is_skipped byte) e in
+          rw (r, e) (zeros_packed run)
       | false ↦ λ e.
-          (elim (byte == 48) as (λ z. (byte == 48) ≡ z → list_all (λ digit. (digit == 48) || is_skipped digit) (byte ∷ run) ≡ list_all (λ digit. digit == 48) (packed (byte ∷ run))) [
+          (elim (byte == 48)
+          as (λ z. (byte == 48) ≡ z → list_all (λ digit. (digit == 48) || is_skipped digit) (byte ∷ run)
+          ≡ list_all (λ digit. digit == 48) (packed (byte ∷ run))) [
             | true ↦ λ z. rw (z, e, z) (zeros_packed run)
             | false ↦ λ z. rw (z, e, z) refl
           ]) refl

@@ -1,5 +1,6 @@
 -- Fields that are written one after another are read back.
-use Rattle.std.proofs.Common.{◌≡◌, ℕ, suc, ◌+◌, ◌<◌, List, [], ◌∷◌, ◌++◌, length, Bool, true, false, None, Some, Option, refl, sym, ap, ◌∙◌, arith, eq-eqb, ne_eqb, inl, inr}
+use Rattle.std.proofs.Common.{◌≡◌, ℕ, suc, ◌+◌, ◌<◌, List, [], ◌∷◌, ◌++◌, length, Bool, true, false, None, Some, Option}
+use Rattle.std.proofs.Common.{refl, sym, ap, ◌∙◌, arith, eq-eqb, ne_eqb, inl, inr}
 use Rattle.std.specs.Prelude.{◌||◌, ◌==◌}
 use Rattle.std.specs.List.{prefix_len, list_all}
 use Rattle.std.proofs.lemmas.Bool.{and_parts, or_cases, eqb-true, or_right, or_left}
@@ -41,16 +42,19 @@ absent : (p : ℕ → Bool) (letter : ℕ) (rest : List ℕ) → FirstIs p rest 
 unfolding field
 absent p letter [] f e = refl
 absent p letter (byte ∷ rest) f e =
-    let apart : byte ≡ letter → ⊥ = λ same. let t : p letter ≡ true = ap p (sym same) ∙ f in let no_way : true ≡ false = sym t ∙ e in absurd cc in
+    let apart : byte ≡ letter → ⊥ = λ same. let t : p letter ≡ true = ap p (sym same) ∙ f in let no_way : true ≡ false = sym t ∙ e in
+    absurd cc in
     rw (ne_eqb byte letter apart) refl
 
-reads : (p : ℕ → Bool) (letter : ℕ) (o : Option (List ℕ)) (rest : List ℕ) → IsBare p → FirstIs p rest → p letter ≡ false → IsRunIfWritten o → field letter (field_text letter o ++ rest) ≡ (o, rest)
+reads : (p : ℕ → Bool) (letter : ℕ) (o : Option (List ℕ)) (rest : List ℕ) → IsBare p → FirstIs p rest → p letter ≡ false
+    → IsRunIfWritten o → field letter (field_text letter o ++ rest) ≡ (o, rest)
 unfolding field
 reads p letter None rest b f e h = absent p letter rest f e
 reads p letter (Some run) rest b f e h = rw (eq-eqb letter letter refl, run_front p run rest b f h, run_behind p run rest b f h) refl
 
 -- one letter more in front
-first_of : (p : ℕ → Bool) (letter : ℕ) (o : Option (List ℕ)) (rest : List ℕ) → FirstIs p rest → FirstIs (λ byte. (byte == letter) || p byte) (field_text letter o ++ rest)
+first_of : (p : ℕ → Bool) (letter : ℕ) (o : Option (List ℕ)) (rest : List ℕ) → FirstIs p rest
+    → FirstIs (λ byte. (byte == letter) || p byte) (field_text letter o ++ rest)
 first_of p letter None [] f = tt
 first_of p letter None (byte ∷ rest) f = or_right (byte == letter) (p byte) f
 first_of p letter (Some run) rest f = or_left (letter == letter) (p letter) (eq-eqb letter letter refl)
@@ -165,19 +169,23 @@ no_m : (text : List ℕ) → field 77 (71 ∷ text) ≡ (None, 71 ∷ text)
 unfolding field
 no_m text = refl
 
-behind_said : (p : Parts) (run : List ℕ) (code : ℕ) (mode : Mode) → AreRuns p → IsRun run → natural run ≡ Some code → mode_of code ≡ Some mode → p.mode ≡ Some mode
+behind_said : (p : Parts) (run : List ℕ) (code : ℕ) (mode : Mode) → AreRuns p → IsRun run → natural run ≡ Some code
+    → mode_of code ≡ Some mode → p.mode ≡ Some mode
     → 0 < length (text_of p) → word_command (71 ∷ run ++ text_of p) ≡ operation_of p
 unfolding word_command by_function function
 behind_said p run code mode h is n m same some =
     let some_byte : (length (71 ∷ run ++ text_of p) == 0) ≡ false = some_length (71 ∷ run ++ text_of p) (omega arith) in
     let g = reads from_x 71 (Some run) (text_of p) bare_x (first_x p) refl is in
-    rw (no_m (run ++ text_of p), some_byte, g, n, m, some_length (text_of p) some) (ap (λ mode. operation mode (text_of p)) (sym same) ∙ operation_said p h)
+    rw (no_m (run ++ text_of p), some_byte, g, n, m, some_length (text_of p) some)
+    (ap (λ mode. operation mode (text_of p)) (sym same) ∙ operation_said p h)
 
-alone_said : (run : List ℕ) (code : ℕ) (mode : Mode) → IsRun run → natural run ≡ Some code → mode_of code ≡ Some mode → word_command (71 ∷ run) ≡ SetMode mode
+alone_said : (run : List ℕ) (code : ℕ) (mode : Mode) → IsRun run → natural run ≡ Some code → mode_of code ≡ Some mode
+    → word_command (71 ∷ run) ≡ SetMode mode
 unfolding word_command by_function function
 alone_said run code mode is n m =
     let some_byte : (length (71 ∷ run) == 0) ≡ false = some_length (71 ∷ run) (omega arith) in
-    let g : field 71 (71 ∷ run) ≡ (Some run, []) = ap (λ r. field 71 (71 ∷ r)) (sym (nothing_more run)) ∙ reads passes_none 71 (Some run) [] bare_none tt refl is in
+    let g : field 71 (71 ∷ run) ≡ (Some run, []) = ap (λ r. field 71 (71 ∷ r)) (sym (nothing_more run))
+    ∙ reads passes_none 71 (Some run) [] bare_none tt refl is in
     rw (no_m run, some_byte, g, n, m) refl
 
 pub words_say_their_parts : WordsSayTheirParts

@@ -1,6 +1,7 @@
 -- What an extended command says: its name is its first two letters, and its data what follows.
 -- Gerber Layer Format Specification, "Syntax", "Extended commands", and "Deprecated format elements".
-use Rattle.std.specs.Prelude.{ℕ, ◌-◌, List, [], ◌∷◌, length, take, codes, Option, Some, None, Bool, true, false, ◌==◌, ◌&&◌, ◌||◌, not, nat_le, is_some, if◌then◌else◌, find}
+use Rattle.std.specs.Prelude.{ℕ, ◌-◌, List, [], ◌∷◌, length, take, codes, Option, Some, None, Bool, true, false, ◌==◌}
+use Rattle.std.specs.Prelude.{◌&&◌, ◌||◌, not, nat_le, is_some, if◌then◌else◌, find}
 use Rattle.std.specs.Option.{option_and_then}
 use Rattle.std.specs.List.{list_any}
 use Rattle.std.specs.Str.{bytes_eq}
@@ -11,15 +12,22 @@ use Rattle.cam_commands.specs.declared.parts.Format.{Format}
 use Rattle.cam_commands.specs.declared.parts.Style.TheVariants.{Extended}
 use Rattle.cam_commands.specs.declared.parts.Polarity.TheVariants.{Dark, Clear}
 use Rattle.cam_commands.specs.declared.parts.Mirror.TheVariants as mirror
-use Rattle.cam_commands.specs.declared.names.FreeText.TheVariants.{FileAttribute, ApertureAttribute, ObjectAttribute, DeleteAttribute, ImageName, LoadName}
+use Rattle.cam_commands.specs.declared.names.FreeText.TheVariants.{FileAttribute, ApertureAttribute, ObjectAttribute}
+use Rattle.cam_commands.specs.declared.names.FreeText.TheVariants.{DeleteAttribute, ImageName, LoadName}
 use Rattle.cam_commands.specs.declared.names.OldForm.{OldForm}
-use Rattle.cam_commands.specs.declared.names.OldForm.TheVariants.{ImagePolarity, AxesSelect, ImageRotation, MirrorImage, Offset, ScaleFactor}
+use Rattle.cam_commands.specs.declared.names.OldForm.TheVariants.{ImagePolarity, AxesSelect, ImageRotation, MirrorImage}
+use Rattle.cam_commands.specs.declared.names.OldForm.TheVariants.{Offset, ScaleFactor}
 use Rattle.cam_commands.specs.declared.names.Name.{Name}
-use Rattle.cam_commands.specs.declared.names.Name.TheVariants.{FormatSpecification, UnitMode, ApertureDefinition, ApertureMacro, ApertureBlock, StepAndRepeat, LoadPolarity, LoadMirroring, LoadRotation, LoadScaling, Free, Old}
+use Rattle.cam_commands.specs.declared.names.Name.TheVariants.{FormatSpecification, UnitMode, ApertureDefinition}
+use Rattle.cam_commands.specs.declared.names.Name.TheVariants.{ApertureMacro, ApertureBlock, StepAndRepeat}
+use Rattle.cam_commands.specs.declared.names.Name.TheVariants.{LoadPolarity, LoadMirroring, LoadRotation, LoadScaling}
+use Rattle.cam_commands.specs.declared.names.Name.TheVariants.{Free, Old}
 use Rattle.cam_numbers.specs.Numbers.{decimal, defined_number}
 use Rattle.cam_commands.specs.Numbers.{count, is_plain}
 use Rattle.cam_commands.specs.Fields.{is_run, field}
-use Rattle.cam_commands.specs.Commands.{Command, SetFormat, RefusedFormat, SetUnit, DefineAperture, DefineMacro, SetPolarity, SetMirror, SetRotation, SetScale, OpenBlock, CloseBlock, SetRepeat, CloseRepeat, KeepText, NeutralOld, RefusedOld, Unknown}
+use Rattle.cam_commands.specs.Commands.{Command, SetFormat, RefusedFormat, SetUnit, DefineAperture, DefineMacro}
+use Rattle.cam_commands.specs.Commands.{SetPolarity, SetMirror, SetRotation, SetScale, OpenBlock, CloseBlock, SetRepeat}
+use Rattle.cam_commands.specs.Commands.{CloseRepeat, KeepText, NeutralOld, RefusedOld, Unknown}
 use Rattle.cam_commands.specs.WordCommands.{slot}
 
 -- the letters of each name
@@ -140,7 +148,8 @@ repeat_command text =
     let i = field 73 y.1 in
     let j = field 74 i.1 in
     if length text == 0 then CloseRepeat
-    else if length j.1 == 0 then SetRepeat (record { columns = slot count x.0; rows = slot count y.0; i = slot decimal i.0; j = slot decimal j.0 })
+    else if length j.1 == 0 then SetRepeat
+    (record { columns = slot count x.0; rows = slot count y.0; i = slot decimal i.0; j = slot decimal j.0 })
     else Unknown
 
 abbrev pub is_plain_or_missing : ℕ → Option (List ℕ) → Bool

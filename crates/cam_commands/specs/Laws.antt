@@ -40,9 +40,11 @@ text_of p = field_text 88 p.x ++ (field_text 89 p.y ++ (field_text 73 p.i ++ (fi
 -- a word that is written from parts says their operation, also behind the G code (71) of a mode, which may stand alone
 pub record WordsSayTheirParts : Type 0 where
   pub bare : (p : Parts) → AreRuns p → p.mode ≡ None → 0 < length (text_of p) → word_command (text_of p) ≡ operation_of p
-  pub behind_mode : (p : Parts) (run : List ℕ) (code : ℕ) (mode : Mode) → AreRuns p → IsRun run → natural run ≡ Some code → mode_of code ≡ Some mode → p.mode ≡ Some mode
+  pub behind_mode : (p : Parts) (run : List ℕ) (code : ℕ) (mode : Mode) → AreRuns p → IsRun run → natural run ≡ Some code
+      → mode_of code ≡ Some mode → p.mode ≡ Some mode
       → 0 < length (text_of p) → word_command (71 ∷ run ++ text_of p) ≡ operation_of p
-  pub mode_alone : (run : List ℕ) (code : ℕ) (mode : Mode) → IsRun run → natural run ≡ Some code → mode_of code ≡ Some mode → word_command (71 ∷ run) ≡ SetMode mode
+  pub mode_alone : (run : List ℕ) (code : ℕ) (mode : Mode) → IsRun run → natural run ≡ Some code → mode_of code ≡ Some mode
+      → word_command (71 ∷ run) ≡ SetMode mode
 
 -- the text is written from the parts of an operation, behind the G code of its mode or without one
 pub record IsWrittenFrom (text : List ℕ) (p : Parts) (prefix : Option (List ℕ)) : Type 0 where
@@ -59,7 +61,9 @@ OperationsAreWritten =
 
 -- the two letters of an extended command decide what it says of its data
 pub record NamesDecide : Type 0 where
-  pub known : (name : Name) (text : List ℕ) → list_any is_star text ≡ false → extended_command (letters_of name ++ text) ≡ named_command name text
+  pub known : (name : Name) (text : List ℕ) → list_any is_star text ≡ false
+      → extended_command (letters_of name ++ text) ≡ named_command name text
   pub macro : (text : List ℕ) → extended_command (letters_of ApertureMacro ++ text) ≡ named_command ApertureMacro text
-  pub several : (name : Name) (text : List ℕ) → name ≢ ApertureMacro → list_any is_star text ≡ true → extended_command (letters_of name ++ text) ≡ Unknown
+  pub several : (name : Name) (text : List ℕ) → name ≢ ApertureMacro → list_any is_star text ≡ true
+      → extended_command (letters_of name ++ text) ≡ Unknown
   pub unknown : (text : List ℕ) → ((name : Name) → take 2 (packed text) ≢ letters_of name) → extended_command text ≡ Unknown

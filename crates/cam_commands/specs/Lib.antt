@@ -1,5 +1,6 @@
 pub mod Numbers
 pub mod Commands
+pub mod Borrowed
 pub mod Fields
 pub mod WordCommands
 pub mod ExtendedCommands

@@ -11,7 +11,8 @@ use Rattle.cam_commands.specs.declared.parts.OperationCode.{OperationCode}
 use Rattle.cam_commands.specs.declared.parts.OperationCode.TheVariants.{Plot, Move, Flash}
 use Rattle.cam_numbers.specs.Numbers.{natural, integer, within_numbers}
 use Rattle.cam_commands.specs.Fields.{field}
-use Rattle.cam_commands.specs.Commands.{Command, SetUnit, RefusedOld, SetMode, SingleQuadrant, MultiQuadrant, BeginRegion, EndRegion, Nothing, Select, Operate, End, Unknown}
+use Rattle.cam_commands.specs.Commands.{Command, SetUnit, RefusedOld, SetMode, SingleQuadrant, MultiQuadrant}
+use Rattle.cam_commands.specs.Commands.{BeginRegion, EndRegion, Nothing, Select, Operate, End, Unknown}
 
 -- what a run means, where its letter stands there, or else another command
 abbrev pub by_run : Option (List ℕ) → (List ℕ → Command) → Command → Command
@@ -57,7 +58,8 @@ abbrev pub has_coordinate : Parts → Bool
 has_coordinate p = is_some p.x || is_some p.y || is_some p.i || is_some p.j
 
 abbrev pub operate : Parts → Option OperationCode → Command
-operate p code = Operate (record { mode = p.mode; x = slot integer p.x; y = slot integer p.y; i = slot integer p.i; j = slot integer p.j; code = code })
+operate p code =
+    Operate (record { mode = p.mode; x = slot integer p.x; y = slot integer p.y; i = slot integer p.i; j = slot integer p.j; code = code })
 
 -- an operation by its D code; another code selects, where it stands alone
 abbrev pub by_operation_code : Parts → ℕ → Option OperationCode → Command

@@ -2,7 +2,7 @@
 
 ghost use Rattle.std.specs.Prelude.{◌≡◌};
 ghost use Rattle.cam_commands.specs.Commands.{is_extended};
-ghost use Rattle.cam_commands.specs.Machinery.Shown.{shown};
+ghost use Rattle.cam_commands.specs.Borrowed.{shown};
 
 use crate::names::FreeText;
 use crate::parts::{Format, Mirror, Mode, Operation, Polarity, Repeat, Style};

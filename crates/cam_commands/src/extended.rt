@@ -6,8 +6,10 @@ ghost use Rattle.cam_words.specs.Heads.{packed};
 ghost use Rattle.cam_numbers.specs.Numbers.{decimal};
 ghost use Rattle.cam_commands.specs.Numbers.{count};
 ghost use Rattle.cam_commands.specs.WordCommands.{slot};
-ghost use Rattle.cam_commands.specs.ExtendedCommands.{is_format_digit, format_of, format_of_axes, format_command, unit_command, polarity_command, mirror_command, rotation_command, scale_command, block_command, repeat_command};
-ghost use Rattle.cam_commands.specs.Machinery.Shown.{shown};
+ghost use Rattle.cam_commands.specs.ExtendedCommands.{is_format_digit, format_of, format_of_axes, format_command};
+ghost use Rattle.cam_commands.specs.ExtendedCommands.{unit_command, polarity_command, mirror_command};
+ghost use Rattle.cam_commands.specs.ExtendedCommands.{rotation_command, scale_command, block_command, repeat_command};
+ghost use Rattle.cam_commands.specs.Borrowed.{shown};
 
 use crate::command::Command;
 use crate::field::{is_run, read_field};

@@ -5,7 +5,7 @@ ghost use Rattle.std.specs.List.{list_any};
 ghost use Rattle.cam_words.specs.Bytes.{is_star};
 ghost use Rattle.cam_commands.specs.ExtendedCommands.{may_hold_star, named_command, extended_command};
 ghost use Rattle.cam_commands.specs.Syntax.{command_of, place_of};
-ghost use Rattle.cam_commands.specs.Machinery.Shown.{shown, found};
+ghost use Rattle.cam_commands.specs.Borrowed.{shown, found};
 
 use crate::command::Command;
 use crate::extended::{

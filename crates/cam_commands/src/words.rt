@@ -4,11 +4,13 @@ ghost use Rattle.std.specs.Prelude.{◌≡◌, option_map};
 ghost use Rattle.std.specs.Option.{option_copied};
 ghost use Rattle.cam_words.specs.Heads.{packed};
 ghost use Rattle.cam_numbers.specs.Numbers.{integer};
-ghost use Rattle.cam_commands.specs.WordCommands.{slot, mode_of, operation_code, selection, has_coordinate, operate, by_operation_code, operation_of, operation, prefixed_selection, lone_function, function, program_code, by_function, word_command};
+ghost use Rattle.cam_commands.specs.WordCommands.{slot, mode_of, operation_code, selection, has_coordinate, operate};
+ghost use Rattle.cam_commands.specs.WordCommands.{by_operation_code, operation_of, operation, prefixed_selection};
+ghost use Rattle.cam_commands.specs.WordCommands.{lone_function, function, program_code, by_function, word_command};
 ghost use Rattle.cam_commands.specs.Commands.{SetUnit};
 ghost use Rattle.cam_commands.specs.declared.parts.Style.TheVariants.{Word};
 ghost use Rattle.cam_commands.specs.Fields.{field};
-ghost use Rattle.cam_commands.specs.Machinery.Shown.{shown};
+ghost use Rattle.cam_commands.specs.Borrowed.{shown};
 ghost use Rattle.cam_commands.specs.Machinery.WordParts.{parts_of};
 
 use crate::command::Command;
@@ -112,7 +114,7 @@ fn by_operation_code(parts: Parts<'_>, code: u64) -> Command<'static>
     selection(code)
 }
 
-#[tactic(auto, using(crate::proofs::CodeNumbers::code_absent, crate::proofs::CodeNumbers::code_there, crate::proofs::CodeNumbers::settled), unfolding(crate::specs::WordCommands::operation_of))]
+#[tactic(auto, using(crate::proofs::CodeNumbers::capped), unfolding(crate::specs::WordCommands::operation_of))]
 fn operation_of(parts: Parts<'_>) -> Command<'static>
     ensures { shown result ≡ operation_of (parts_of parts.entry) }
 {
@@ -129,7 +131,7 @@ fn operation_of(parts: Parts<'_>) -> Command<'static>
 }
 
 /// `[X..][Y..][I..][J..][D..]`, behind the G code of the mode or without one.
-#[tactic(auto, using(crate::proofs::CodeNumbers::code_absent, crate::proofs::CodeNumbers::code_there, crate::proofs::CodeNumbers::settled), unfolding(crate::specs::WordCommands::operation))]
+#[tactic(auto, using(crate::proofs::CodeNumbers::capped), unfolding(crate::specs::WordCommands::operation))]
 fn operation(mode: Option<Mode>, text: &[u8]) -> Command<'static>
     ensures { shown result ≡ operation mode (packed text.now) }
 {
@@ -152,7 +154,7 @@ fn operation(mode: Option<Mode>, text: &[u8]) -> Command<'static>
 }
 
 /// What stands behind G54.
-#[tactic(auto, using(crate::proofs::CodeNumbers::code_absent, crate::proofs::CodeNumbers::code_there, crate::proofs::CodeNumbers::settled), unfolding(crate::specs::WordCommands::prefixed_selection))]
+#[tactic(auto, using(crate::proofs::CodeNumbers::capped), unfolding(crate::specs::WordCommands::prefixed_selection))]
 fn prefixed_selection(text: &[u8]) -> Command<'static>
     ensures { shown result ≡ prefixed_selection (packed text.now) }
 {
@@ -230,7 +232,7 @@ fn program_code(code: u64) -> Command<'static>
 }
 
 /// A word that does not begin with an M code.
-#[tactic(auto, using(crate::proofs::CodeNumbers::code_absent, crate::proofs::CodeNumbers::code_there, crate::proofs::CodeNumbers::settled), unfolding(crate::specs::WordCommands::by_function))]
+#[tactic(auto, using(crate::proofs::CodeNumbers::capped), unfolding(crate::specs::WordCommands::by_function))]
 fn by_function(text: &[u8]) -> Command<'static>
     ensures { shown result ≡ by_function (field 71 (packed text.now)) (packed text.now) }
 {
@@ -245,7 +247,7 @@ fn by_function(text: &[u8]) -> Command<'static>
 }
 
 /// What a word says.
-#[tactic(auto, using(crate::proofs::CodeNumbers::code_absent, crate::proofs::CodeNumbers::code_there, crate::proofs::CodeNumbers::settled), unfolding(crate::specs::WordCommands::word_command))]
+#[tactic(auto, using(crate::proofs::CodeNumbers::capped), unfolding(crate::specs::WordCommands::word_command))]
 pub fn word_command(text: &[u8]) -> Command<'static>
     ensures { shown result ≡ word_command (packed text.now) }
 {

@@ -1,5 +1,6 @@
 -- The open repeat is closed: it joins the items, if it has objects.
-use Rattle.std.proofs.Common.{◌≡◌, ℕ, ◌+◌, ◌*◌, ◌<◌, ◌≤◌, List, [], ◌∷◌, ◌++◌, length, min, Bool, true, false, cond, ltb, leb, Option, Some, None, Result, Ok, Err, refl, sym, ap, ap₂, subst, ◌∙◌, arith}
+use Rattle.std.proofs.Common.{◌≡◌, ℕ, ◌+◌, ◌*◌, ◌<◌, ◌≤◌, List, [], ◌∷◌, ◌++◌, length, min, Bool, true, false, cond}
+use Rattle.std.proofs.Common.{ltb, leb, Option, Some, None, Result, Ok, Err, refl, sym, ap, ap₂, subst, ◌∙◌, arith}
 use Rattle.std.specs.Prelude.{◌||◌, ◌&&◌, not, nat_le, nat_lt, IfSome}
 use Rattle.std.specs.Option.{option_map}
 use Rattle.std.proofs.lemmas.Bool.{or_parts, false≢true, ltb-true, ltb-false, lt-ltb, leb-true, leb-false}
@@ -39,7 +40,8 @@ use Rattle.cam_gerber.proofs.SoundJoining.{sound_past}
 -- ---- the open repeat of a past
 
 -- it has more than one copy
-many_opened : (past : Past) (repeat : Repeat) (b : Bool) → is_repeated repeat ≡ b → IfSome (cond b (Some (opened past repeat)) None) (λ o. 1 < o.columns * o.rows)
+many_opened : (past : Past) (repeat : Repeat) (b : Bool) → is_repeated repeat ≡ b
+    → IfSome (cond b (Some (opened past repeat)) None) (λ o. 1 < o.columns * o.rows)
 many_opened past repeat true many = ltb-true 1 (count_of repeat.columns * count_of repeat.rows) many
 many_opened past repeat false one = tt
 
@@ -99,14 +101,18 @@ past_cap : (b k n : ℕ) → 1 ≤ k → 4000000 < b + k * n → 4000000 < b + m
 past_cap b k n h many = go (leb n 4000001) refl
   where
     go : (t : Bool) → leb n 4000001 ≡ t → 4000000 < b + min (k * min 4000001 n) 18446744073709551615
-    go true e = let small : min 4000001 n ≡ n = omega (arith, leb-true n 4000001 e) in subst (λ m. 4000000 < b + min (k * m) 18446744073709551615) (sym small) (omega (arith, many))
-    go false e = let large : min 4000001 n ≡ 4000001 = omega (arith, leb-false n 4000001 e) in subst (λ m. 4000000 < b + min (k * m) 18446744073709551615) (sym large) (omega (arith, at_least k 4000001 h))
+    go true e = let small : min 4000001 n ≡ n = omega (arith, leb-true n 4000001 e) in
+        subst (λ m. 4000000 < b + min (k * m) 18446744073709551615) (sym small) (omega (arith, many))
+    go false e = let large : min 4000001 n ≡ 4000001 = omega (arith, leb-false n 4000001 e) in
+        subst (λ m. 4000000 < b + min (k * m) 18446744073709551615) (sym large) (omega (arith, at_least k 4000001 h))
 
 pub same_over : (b k n : ℕ) → 1 ≤ k → nat_lt 4000000 (b + min (k * min 4000001 n) 18446744073709551615) ≡ nat_lt 4000000 (b + k * n)
 same_over b k n h = go (ltb 4000000 (b + k * n)) refl
   where
-    go : (t : Bool) → ltb 4000000 (b + k * n) ≡ t → nat_lt 4000000 (b + min (k * min 4000001 n) 18446744073709551615) ≡ nat_lt 4000000 (b + k * n)
-    go true e = lt-ltb 4000000 (b + min (k * min 4000001 n) 18446744073709551615) (past_cap b k n h (ltb-true 4000000 (b + k * n) e)) ∙ sym e
+    go : (t : Bool) → ltb 4000000 (b + k * n) ≡ t
+        → nat_lt 4000000 (b + min (k * min 4000001 n) 18446744073709551615) ≡ nat_lt 4000000 (b + k * n)
+    go true e = lt-ltb 4000000 (b + min (k * min 4000001 n) 18446744073709551615)
+        (past_cap b k n h (ltb-true 4000000 (b + k * n) e)) ∙ sym e
     go false e =
         let few = ltb-false 4000000 (b + k * n) e in
         ap (λ m. ltb 4000000 (b + m)) (within_cap b k n h few)
@@ -115,13 +121,15 @@ same_over b k n h = go (ltb 4000000 (b + k * n)) refl
 
 both_hold_not : (table : Table) → first_of table ≡ None → NoneHolds table
 both_hold_not [] h = tt
-both_hold_not (fault ∷ table) h = (elim fault.1 as (λ b. fault.1 ≡ b → cond b (Some fault.0) (first_of table) ≡ None → NoneHolds (fault ∷ table)) [
-  | true ↦ λ is e. absurd cc
-  | false ↦ λ is e. (is, both_hold_not table e)
-]) refl h
+both_hold_not (fault ∷ table) h =
+    (elim fault.1 as (λ b. fault.1 ≡ b → cond b (Some fault.0) (first_of table) ≡ None → NoneHolds (fault ∷ table)) [
+      | true ↦ λ is e. absurd cc
+      | false ↦ λ is e. (is, both_hold_not table e)
+    ]) refl h
 
 -- what one table is answered by, answers one that tells the same
-pub answers_alike : (result : Result (Unit {0}) Stop) (a b : Table) (P Q : Type 0) → first_of a ≡ first_of b → (first_of b ≡ None → P → Q) → Answers result a P → Answers result b Q
+pub answers_alike : (result : Result (Unit {0}) Stop) (a b : Table) (P Q : Type 0) → first_of a ≡ first_of b
+    → (first_of b ≡ None → P → Q) → Answers result a P → Answers result b Q
 answers_alike (Ok done) a b P Q e f h = (sym e ∙ h.0, f (sym e ∙ h.0) h.1)
 answers_alike (Err Memory) a b P Q e f h = tt
 answers_alike (Err (Fault code)) a b P Q e f h = sym e ∙ h
@@ -132,8 +140,10 @@ pub settles_none : (past : Past) (old : Running) (after : Option OpenRepeat) →
     → (first_of (closing_faults past true) ≡ None) × IsSettled past old (record old { frames = record old.frames { repeat = after } })
 settles_none past old after t e closed = go (open_repeat past) refl
   where
-    go : (o : Option Opened) → open_repeat past ≡ o → (first_of (closing_faults past true) ≡ None) × IsSettled past old (record old { frames = record old.frames { repeat = after } })
-    go (Some o) is = absurd (let wrong : None ≡ Some (repeat_of past o) = sym e ∙ t.frames.repeat ∙ ap (option_map (repeat_of past)) is in cc)
+    go : (o : Option Opened) → open_repeat past ≡ o
+        → (first_of (closing_faults past true) ≡ None) × IsSettled past old (record old { frames = record old.frames { repeat = after } })
+    go (Some o) is =
+        absurd (let wrong : None ≡ Some (repeat_of past o) = sym e ∙ t.frames.repeat ∙ ap (option_map (repeat_of past)) is in cc)
     go None is = (
       rw is refl,
       record {
@@ -153,15 +163,20 @@ nothing_from : (objects : List Object) → is_empty objects ≡ true → objects
 nothing_from [] h = refl
 nothing_from (x ∷ xs) h = absurd (false≢true h)
 
-pub settles_empty : (past : Past) (old : Running) (r : OpenRepeat) (after : Option OpenRepeat) → Tracks past old → old.frames.repeat ≡ Some r → is_empty r.objects ≡ true → after ≡ None
+pub settles_empty : (past : Past) (old : Running) (r : OpenRepeat) (after : Option OpenRepeat) → Tracks past old
+    → old.frames.repeat ≡ Some r → is_empty r.objects ≡ true → after ≡ None
     → (first_of (closing_faults past true) ≡ None) × IsSettled past old (record old { frames = record old.frames { repeat = after } })
 settles_empty past old r after t e empty closed =
     let opens = is_opened past old r t e in
     let o = opens.o in
-    let objects : objects_of (InRepeat o.before) past ≡ [] = nothing_from (objects_of (InRepeat o.before) past) (ap (λ (r : OpenRepeat). is_empty r.objects) (sym opens.same) ∙ empty) in
+    let objects : objects_of (InRepeat o.before) past ≡ [] =
+    nothing_from (objects_of (InRepeat o.before) past) (ap (λ (r : OpenRepeat). is_empty r.objects) (sym opens.same) ∙ empty) in
     let items : closed_repeat past ≡ [] = rw opens.opens (ap (repeat_by o) objects) in
-    let leaves : closed_leaves past ≡ 0 = rw opens.opens (ap (λ n. o.columns * o.rows * n) (no_leaves (InRepeat o.before) past objects) ∙ omega arith) in (
-      ap (λ all. first_of ((23, not true || holds_of_one (is_outside past) all) ∷ (25, not (is_empty all) && is_layer_full past (closed_leaves past)) ∷ [])) items,
+    let leaves : closed_leaves past ≡ 0 =
+    rw opens.opens (ap (λ n. o.columns * o.rows * n) (no_leaves (InRepeat o.before) past objects) ∙ omega arith) in (
+      ap (λ all. first_of
+          ((23, not true || holds_of_one (is_outside past) all)
+          ∷ (25, not (is_empty all) && is_layer_full past (closed_leaves past)) ∷ [])) items,
       record {
         modal = refl;
         region = refl;
@@ -191,7 +206,8 @@ opened_well past o sound opens some =
     record {
       repeated = (view.0.copies, some_objects (objects_of (InRepeat o.before) past) some);
       steps = (view.0.steps_i, view.0.steps_j);
-      objects = All-weaker (IsMade (entries_in past)) (IsWellMade (entries_in past)) (well_made (entries_in past)) (objects_of (InRepeat o.before) past) view.1.each;
+      objects = All-weaker (IsMade (entries_in past)) (IsWellMade (entries_in past)) (well_made (entries_in past))
+          (objects_of (InRepeat o.before) past) view.1.each;
     }
 
 pub closing_well : (old : Running) (r : OpenRepeat) → HasPast old → old.frames.repeat ≡ Some r → is_empty r.objects ≡ false
@@ -203,14 +219,18 @@ closing_well old r h e some =
     (subst (λ es. IsWellMadeItem es (item.Repeat o.columns o.rows o.i o.j (objects_of (InRepeat o.before) h.0))) (sym h.2.built.entries)
     (opened_well h.0 o (sound_past h.0 h.1 h.3) opens.opens (ap (λ (r : OpenRepeat). is_empty r.objects) (sym opens.same) ∙ some)))
 
-one_item : (o : Opened) (objects : List Object) → is_empty objects ≡ false → repeat_by o objects ≡ item.Repeat o.columns o.rows o.i o.j objects ∷ []
+one_item : (o : Opened) (objects : List Object) → is_empty objects ≡ false
+    → repeat_by o objects ≡ item.Repeat o.columns o.rows o.i o.j objects ∷ []
 one_item o [] h = absurd (false≢true (sym h))
 one_item o (x ∷ xs) h = refl
 
-pub settles_some : (past : Past) (old : Running) (r : OpenRepeat) (after : Option OpenRepeat) (result : Result (Unit {0}) Stop) (built : Built) → Tracks past old
+pub settles_some : (past : Past) (old : Running) (r : OpenRepeat) (after : Option OpenRepeat) (result : Result (Unit {0}) Stop)
+    (built : Built) → Tracks past old
     → old.frames.repeat ≡ Some r → is_empty r.objects ≡ false → after ≡ None
-    → Adds (item.Repeat r.columns r.rows r.i r.j r.objects) (min (r.columns * r.rows * r.leaves) 18446744073709551615) old.built result built
-    → Answers result (closing_faults past true) (IsSettled past old (record old { frames = record old.frames { repeat = after }; built = built }))
+    → Adds (item.Repeat r.columns r.rows r.i r.j r.objects)
+    (min (r.columns * r.rows * r.leaves) 18446744073709551615) old.built result built
+    → Answers result (closing_faults past true)
+    (IsSettled past old (record old { frames = record old.frames { repeat = after }; built = built }))
 settles_some past old r after result built t e some closed adds =
     let opens = is_opened past old r t e in
     let o = opens.o in
@@ -219,21 +239,33 @@ settles_some past old r after result built t e some closed adds =
     let all : Item = item.Repeat o.columns o.rows o.i o.j (objects_of (InRepeat o.before) past) in
     let more = min (k * min 4000001 n) 18446744073709551615 in
     let one : 1 ≤ k = omega (arith, opens.many) in
-    let items : closed_repeat past ≡ all ∷ [] = rw opens.opens (one_item o (objects_of (InRepeat o.before) past) (ap (λ (r : OpenRepeat). is_empty r.objects) (sym opens.same) ∙ some)) in
+    let items : closed_repeat past ≡ all ∷ [] =
+    rw opens.opens
+    (one_item o (objects_of (InRepeat o.before) past) (ap (λ (r : OpenRepeat). is_empty r.objects) (sym opens.same) ∙ some)) in
     let leaves : closed_leaves past ≡ k * n = rw opens.opens refl in
     let added : Adds all more old.built result built =
-    subst (λ (r : OpenRepeat). Adds (item.Repeat r.columns r.rows r.i r.j r.objects) (min (r.columns * r.rows * r.leaves) 18446744073709551615) old.built result built) opens.same adds in
-    let full : (nat_le 1000000 (length old.built.layer.items.items) || nat_lt 4000000 (old.built.leaves + more)) ≡ is_layer_full past (closed_leaves past) =
+    subst (λ (r : OpenRepeat). Adds (item.Repeat r.columns r.rows r.i r.j r.objects)
+    (min (r.columns * r.rows * r.leaves) 18446744073709551615) old.built result built) opens.same adds in
+    let full : (nat_le 1000000 (length old.built.layer.items.items) || nat_lt 4000000 (old.built.leaves + more))
+    ≡ is_layer_full past (closed_leaves past) =
     ap₂ (λ a b. a || b) (ap (λ all. nat_le 1000000 (length all)) t.built.items)
-    (ap (λ b. nat_lt 4000000 (b + more)) t.built.leaves ∙ same_over (leaves_in past) k n one ∙ ap (λ m. nat_lt 4000000 (leaves_in past + m)) (sym leaves)) in
+    (ap (λ b. nat_lt 4000000 (b + more)) t.built.leaves ∙ same_over (leaves_in past) k n one
+    ∙ ap (λ m. nat_lt 4000000 (leaves_in past + m)) (sym leaves)) in
     let outside : not (are_on_board (item_leaves (meaning_in old.built.layer.apertures) all)) ≡ is_outside past all =
     ap (λ es. not (are_on_board (item_leaves (meaning_in es) all))) t.built.entries ∙ sym (outside_is past all) in
-    answers_alike result _ (closing_faults past true) (IsAdded all more old.built built) (IsSettled past old (record old { frames = record old.frames { repeat = after }; built = built }))
+    answers_alike result _ (closing_faults past true) (IsAdded all more old.built built)
+    (IsSettled past old (record old { frames = record old.frames { repeat = after }; built = built }))
     (ap₂ (λ a b. first_of ((23, a) ∷ (25, b) ∷ [])) outside full
-    ∙ ap (λ items. first_of ((23, not true || holds_of_one (is_outside past) items) ∷ (25, not (is_empty items) && is_layer_full past (closed_leaves past)) ∷ [])) (sym items))
+    ∙ ap (λ items.
+    first_of ((23, not true || holds_of_one (is_outside past) items)
+    ∷ (25, not (is_empty items) && is_layer_full past (closed_leaves past)) ∷ [])) (sym items))
     (λ told h.
-    let fits : is_layer_full past (closed_leaves past) ≡ false = ap (λ items. not (is_empty items) && is_layer_full past (closed_leaves past)) (sym items) ∙ (both_hold_not (closing_faults past true) told).1.0 in
-    let few : leaves_in past + k * n ≤ 4000000 = ltb-false 4000000 (leaves_in past + k * n) (ap (λ m. nat_lt 4000000 (leaves_in past + m)) (sym leaves) ∙ (or_parts (nat_le 1000000 (length (items_in past))) _ fits).1) in
+    let fits : is_layer_full past (closed_leaves past) ≡ false =
+    ap (λ items. not (is_empty items) && is_layer_full past (closed_leaves past)) (sym items)
+    ∙ (both_hold_not (closing_faults past true) told).1.0 in
+    let few : leaves_in past + k * n ≤ 4000000 =
+    ltb-false 4000000 (leaves_in past + k * n)
+    (ap (λ m. nat_lt 4000000 (leaves_in past + m)) (sym leaves) ∙ (or_parts (nat_le 1000000 (length (items_in past))) _ fits).1) in
     record {
       modal = refl;
       region = refl;

@@ -1,5 +1,6 @@
 -- The contour of a region.
-use Rattle.std.proofs.Common.{◌≡◌, ℕ, List, [], ◌∷◌, ◌++◌, length, min, true, false, cond, Option, Some, None, refl, sym, ap, ap₂, ◌∙◌, subst, arith}
+use Rattle.std.proofs.Common.{◌≡◌, ℕ, List, [], ◌∷◌, ◌++◌, length, min, true, false, cond, Option, Some, None, refl}
+use Rattle.std.proofs.Common.{sym, ap, ap₂, ◌∙◌, subst, arith}
 use Rattle.std.specs.Prelude.{map, nat_le, not, Err}
 use Rattle.cam_gerber.specs.declared.stop.Stop.{Stop}
 use Rattle.cam_gerber.specs.declared.stop.Stop.TheVariants.{Memory, Fault}
@@ -27,12 +28,15 @@ use Rattle.cam_gerber.specs.State.{Past, mode_in, point_in, centre_of, code_of, 
 use Rattle.cam_gerber.specs.Homes.{Home, InBlock, InRepeat, InLayer, Opened, home, is_same_home, open_blocks, open_repeat}
 use Rattle.cam_gerber.specs.Making.{segment, segments_in, region_in, made, made_at, objects_of}
 use Rattle.cam_gerber.specs.Faults.{command_faults, operated_faults, is_full, is_on_board, holds_of_one}
-use Rattle.cam_gerber.specs.Machinery.Tracking.{Tracks, Answers, Ended, TracksModal, TracksFrames, TracksBuilt, TracksPlaces, IsOperated, IsMaker, mode_by, moved_point, centre_by, path_table, first_of, block_of, repeat_of}
+use Rattle.cam_gerber.specs.Machinery.Tracking.{Tracks, Answers, Ended, TracksModal, TracksFrames, TracksBuilt}
+use Rattle.cam_gerber.specs.Machinery.Tracking.{TracksPlaces, IsOperated, IsMaker, mode_by, moved_point, centre_by}
+use Rattle.cam_gerber.specs.Machinery.Tracking.{path_table, first_of, block_of, repeat_of}
 use Rattle.cam_gerber.proofs.Pasts.{Joins, joins}
 use Rattle.cam_gerber.proofs.Operated.{told_before, passed, mode_same, point_same, centre_same, table_same, operated_tracks, end_same}
 
 none_at : (h : Home) (past : Past) (says : Statement) → made past says ≡ [] → made_at h past says ≡ []
-none_at h past says none = elim (is_same_home (home past) h) as (λ b. cond {A = List Object} b (made past says) [] ≡ []) [ true ↦ none | false ↦ refl ]
+none_at h past says none =
+    elim (is_same_home (home past) h) as (λ b. cond {A = List Object} b (made past says) [] ≡ []) [ true ↦ none | false ↦ refl ]
 
 module _ (past : Past) (says : Statement) (j : Joins past says) (none : made past says ≡ []) where
   objects_stay : (h : Home) → objects_of h (says ∷ past) ≡ objects_of h past
@@ -44,12 +48,16 @@ module _ (past : Past) (says : Statement) (j : Joins past says) (none : made pas
   blocks_stay : (numbers : List ℕ) → map (block_of past) numbers ≡ map (block_of (says ∷ past)) numbers
   blocks_stay [] = refl
   blocks_stay (n ∷ outer) =
-      ap₂ (λ (b : OpenBlock) rest. b ∷ rest) (ap₂ (λ (all : List Object) (m : ℕ). record { number = n; objects = all; leaves = m }) (sym (objects_stay (InBlock n))) (sym (leaves_stay (InBlock n)))) (blocks_stay outer)
+      ap₂ (λ (b : OpenBlock) rest. b ∷ rest)
+      (ap₂ (λ (all : List Object) (m : ℕ). record { number = n; objects = all; leaves = m }) (sym (objects_stay (InBlock n)))
+      (sym (leaves_stay (InBlock n)))) (blocks_stay outer)
 
   repeat_stays : (repeat : Option Opened) → option_map (repeat_of past) repeat ≡ option_map (repeat_of (says ∷ past)) repeat
   repeat_stays None = refl
   repeat_stays (Some o) =
-      ap₂ (λ (all : List Object) (m : ℕ). Some (record { columns = o.columns; rows = o.rows; i = o.i; j = o.j; objects = all; leaves = min 4000001 m })) (sym (objects_stay (InRepeat o.before))) (sym (leaves_stay (InRepeat o.before)))
+      ap₂ (λ (all : List Object) (m : ℕ). Some
+      (record { columns = o.columns; rows = o.rows; i = o.i; j = o.j; objects = all; leaves = min 4000001 m }))
+      (sym (objects_stay (InRepeat o.before))) (sym (leaves_stay (InRepeat o.before)))
 
   stay_open : (f : Frames) → TracksFrames past f → TracksFrames (says ∷ past) f
   stay_open f t = record {
@@ -60,36 +68,47 @@ module _ (past : Past) (says : Statement) (j : Joins past says) (none : made pas
   stay_built : (b : Built) → TracksBuilt past b → TracksBuilt (says ∷ past) b
   stay_built b t = record {
     entries = t.entries ∙ sym j.entries;
-    items = t.items ∙ sym (j.items ∙ ap (λ (more : List Object). items_in past ++ map One more) (none_at InLayer past says none) ∙ append-nil (items_in past));
+    items = t.items
+        ∙ sym (j.items ∙ ap (λ (more : List Object). items_in past ++ map One more) (none_at InLayer past says none)
+        ∙ append-nil (items_in past));
     macros = t.macros ∙ sym j.macros;
     leaves = omega (arith, t.leaves, j.all_leaves, ap (block_count (weight_in (entries_in past))) (none_at InLayer past says none));
   }
 
 -- a statement that makes nothing leaves what is open and built
-pub nothing_made : (past : Past) (says : Statement) (r : Running) → IsMaker says → made past says ≡ [] → TracksPlaces past r → TracksPlaces (says ∷ past) r
+pub nothing_made : (past : Past) (says : Statement) (r : Running) → IsMaker says → made past says ≡ [] → TracksPlaces past r
+    → TracksPlaces (says ∷ past) r
 nothing_made past says r maker none t = record {
   frames = stay_open past says (joins past says maker) none r.frames t.frames;
   built = stay_built past says (joins past says maker) none r.built t.built;
 }
 
 -- a segment of a region joins the contour
-pub segment_tracks : (past : Past) (operation : Operation) (old : Running) (region : Region) (m : Modal) (seg : Seg) → Tracks past old → in_region past ≡ true → code_of operation ≡ Plot
+pub segment_tracks : (past : Past) (operation : Operation) (old : Running) (region : Region) (m : Modal) (seg : Seg)
+    → Tracks past old → in_region past ≡ true → code_of operation ≡ Plot
     → first_of (path_table old.modal operation) ≡ None → nat_le 1000000 (length old.region.segs.items) ≡ false
     → seg ≡ segment (mode_by old.modal operation) (moved_point old.modal operation) (centre_by old.modal operation)
     → region.inside ≡ old.region.inside → region.start ≡ old.region.start → region.segs.items ≡ old.region.segs.items ++ seg ∷ []
     → IsOperated old.modal operation (end_of seg) m
-    → (first_of (operated_faults Plot true past operation) ≡ None) × Tracks (Says (Operate operation) ∷ past) (record old { modal = m; region = region })
+    → (first_of (operated_faults Plot true past operation) ≡ None)
+    × Tracks (Says (Operate operation) ∷ past) (record old { modal = m; region = region })
 segment_tracks past operation old region m seg t inside plots path few seg_is inside_is start_is segs_is done =
     let now = Says (Operate operation) ∷ past in
     let room : nat_le 1000000 (length (segments_in past)) ≡ false = ap (λ segs. nat_le 1000000 (length segs)) (sym t.region.segs) ∙ few in
     let same : seg ≡ segment (mode_in now) (point_in now) (centre_of past operation) =
-    seg_is ∙ ap (λ mode. segment mode (moved_point old.modal operation) (centre_by old.modal operation)) (mode_same past old.modal operation t.modal)
-    ∙ ap₂ (λ to centre. segment (mode_in now) to centre) (point_same past old.modal operation t.modal) (centre_same past old.modal operation t.modal) in
-    let places = nothing_made past (Says (Operate operation)) old tt (rw (plots, inside) refl) (record { frames = t.frames; built = t.built }) in (
-      ap (λ table. first_of (table ++ (25, nat_le 1000000 (length (segments_in past))) ∷ [])) (sym (table_same past old.modal operation t.modal))
-          ∙ passed (path_table old.modal operation) ((25, nat_le 1000000 (length (segments_in past))) ∷ []) path ∙ ap (λ b. cond {A = Option ℕ} b (Some 25) None) room,
+    seg_is ∙ ap (λ mode. segment mode (moved_point old.modal operation) (centre_by old.modal operation))
+    (mode_same past old.modal operation t.modal)
+    ∙ ap₂ (λ to centre. segment (mode_in now) to centre) (point_same past old.modal operation t.modal)
+    (centre_same past old.modal operation t.modal) in
+    let places = nothing_made past (Says (Operate operation)) old tt (rw (plots, inside) refl)
+    (record { frames = t.frames; built = t.built }) in (
+      ap (λ table. first_of (table ++ (25, nat_le 1000000 (length (segments_in past))) ∷ []))
+          (sym (table_same past old.modal operation t.modal))
+          ∙ passed (path_table old.modal operation) ((25, nat_le 1000000 (length (segments_in past))) ∷ []) path
+          ∙ ap (λ b. cond {A = Option ℕ} b (Some 25) None) room,
       record {
-        modal = operated_tracks past old.modal m operation (end_of seg) t.modal done (ap end_of seg_is ∙ end_same (mode_by old.modal operation) (moved_point old.modal operation) (centre_by old.modal operation));
+        modal = operated_tracks past old.modal m operation (end_of seg) t.modal done
+            (ap end_of seg_is ∙ end_same (mode_by old.modal operation) (moved_point old.modal operation) (centre_by old.modal operation));
         region = record {
           inside = inside_is ∙ t.region.inside;
           start = start_is ∙ rw (inside, plots) t.region.start;
@@ -100,18 +119,22 @@ segment_tracks past operation old region m seg t inside plots path few seg_is in
       },
     )
 
-pub segment_told : (past : Past) (operation : Operation) (m : Modal) (code : ℕ) → TracksModal past m → first_of (path_table m operation) ≡ Some code
+pub segment_told : (past : Past) (operation : Operation) (m : Modal) (code : ℕ) → TracksModal past m
+    → first_of (path_table m operation) ≡ Some code
     → first_of (operated_faults Plot true past operation) ≡ Some code
 segment_told past operation m code t path =
     ap (λ table. first_of (table ++ (25, nat_le 1000000 (length (segments_in past))) ∷ [])) (sym (table_same past m operation t))
     ∙ told_before (path_table m operation) ((25, nat_le 1000000 (length (segments_in past))) ∷ []) code path
 
-pub segment_full : (past : Past) (operation : Operation) (old : Running) → Tracks past old → first_of (path_table old.modal operation) ≡ None → nat_le 1000000 (length old.region.segs.items) ≡ true
+pub segment_full : (past : Past) (operation : Operation) (old : Running) → Tracks past old
+    → first_of (path_table old.modal operation) ≡ None → nat_le 1000000 (length old.region.segs.items) ≡ true
     → first_of (operated_faults Plot true past operation) ≡ Some 25
 segment_full past operation old t path full =
     let room : nat_le 1000000 (length (segments_in past)) ≡ true = ap (λ segs. nat_le 1000000 (length segs)) (sym t.region.segs) ∙ full in
-    ap (λ table. first_of (table ++ (25, nat_le 1000000 (length (segments_in past))) ∷ [])) (sym (table_same past old.modal operation t.modal))
-    ∙ passed (path_table old.modal operation) ((25, nat_le 1000000 (length (segments_in past))) ∷ []) path ∙ ap (λ b. cond {A = Option ℕ} b (Some 25) None) room
+    ap (λ table. first_of (table ++ (25, nat_le 1000000 (length (segments_in past))) ∷ []))
+    (sym (table_same past old.modal operation t.modal))
+    ∙ passed (path_table old.modal operation) ((25, nat_le 1000000 (length (segments_in past))) ∷ []) path
+    ∙ ap (λ b. cond {A = Option ℕ} b (Some 25) None) room
 
 -- ---- a contour ends
 
@@ -120,16 +143,21 @@ pub refused_alike : (stop : Stop) (a b : Table) (P Q : Type 0) → first_of a �
 refused_alike Memory a b P Q e h = tt
 refused_alike (Fault code) a b P Q e h = sym e ∙ h
 
-pub next_table : (past : Past) (operation : Operation) (old : Running) → Tracks past old → is_on_board (moved_point old.modal operation) ≡ true
+pub next_table : (past : Past) (operation : Operation) (old : Running) → Tracks past old
+    → is_on_board (moved_point old.modal operation) ≡ true
     → first_of ((25, holds_of_one (is_full (home past) past) (region_in past)) ∷ []) ≡ first_of (operated_faults Move true past operation)
 next_table past operation old t on =
-    let fine : is_on_board (point_in (Says (Operate operation) ∷ past)) ≡ true = ap is_on_board (sym (point_same past old.modal operation t.modal)) ∙ on in
-    ap (λ b. cond {A = Option ℕ} (not b) (Some 23) (first_of ((25, holds_of_one (is_full (home past) past) (region_in past)) ∷ []))) (sym fine)
+    let fine : is_on_board (point_in (Says (Operate operation) ∷ past)) ≡ true =
+    ap is_on_board (sym (point_same past old.modal operation t.modal)) ∙ on in
+    ap (λ b. cond {A = Option ℕ} (not b) (Some 23) (first_of ((25, holds_of_one (is_full (home past) past) (region_in past)) ∷ [])))
+    (sym fine)
 
-pub next_made : (past : Past) (operation : Operation) → in_region past ≡ true → code_of operation ≡ Move → made past (Says (Operate operation)) ≡ region_in past
+pub next_made : (past : Past) (operation : Operation) → in_region past ≡ true → code_of operation ≡ Move
+    → made past (Says (Operate operation)) ≡ region_in past
 next_made past operation inside moves = rw (moves, inside) refl
 
-pub next_tracks : (past : Past) (operation : Operation) (old kept : Running) (to : Point) (m : Modal) → Tracks past old → in_region past ≡ true → code_of operation ≡ Move
+pub next_tracks : (past : Past) (operation : Operation) (old kept : Running) (to : Point) (m : Modal) → Tracks past old
+    → in_region past ≡ true → code_of operation ≡ Move
     → Ended (Says (Operate operation) ∷ past) old kept → to ≡ moved_point old.modal operation → IsOperated kept.modal operation to m
     → Tracks (Says (Operate operation) ∷ past) (record kept { modal = m; region = record kept.region { start = to } })
 next_tracks past operation old kept to m t inside moves ended e done = record {
@@ -167,4 +195,5 @@ pub closed_table : (past : Past) (old : Running) → Tracks past old → old.reg
     → first_of ((25, holds_of_one (is_full (home past) past) (region_in past)) ∷ []) ≡ first_of (command_faults past EndRegion)
 closed_table past old t inside =
     let fine : in_region past ≡ true = sym t.region.inside ∙ inside in
-    ap (λ b. cond {A = Option ℕ} (not b) (Some 20) (first_of ((25, holds_of_one (is_full (home past) past) (region_in past)) ∷ []))) (sym fine)
+    ap (λ b. cond {A = Option ℕ} (not b) (Some 20) (first_of ((25, holds_of_one (is_full (home past) past) (region_in past)) ∷ [])))
+    (sym fine)

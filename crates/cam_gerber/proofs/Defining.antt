@@ -1,14 +1,18 @@
 -- Definitions of apertures and macros.
-use Rattle.std.proofs.Common.{◌≡◌, ℕ, suc, ◌+◌, take, arith, List, [], ◌∷◌, ◌++◌, Bool, true, false, cond, Option, Some, None, refl, sym, ap, ap₂, ◌∙◌, subst, Global}
+use Rattle.std.proofs.Common.{◌≡◌, ℕ, suc, ◌+◌, take, arith, List, [], ◌∷◌, ◌++◌, Bool, true, false, cond, Option, Some}
+use Rattle.std.proofs.Common.{None, refl, sym, ap, ap₂, ◌∙◌, subst}
 use Rattle.std.specs.Prelude.{unwrap_or, is_none, is_some, nat_eq, not, ◌==◌, ◌||◌}
 use Rattle.cam_units.specs.declared.length.Unit.{Unit as FileUnit}
 use Rattle.cam_words.specs.Bytes.{is_skipped}
 use Rattle.cam_words.specs.Heads.{packed}
 use Rattle.cam_macros.specs.declared.aperture_macro.Macro.{Macro}
 use Rattle.cam_apertures.specs.declared.aperture.Aperture.{Aperture}
-use Rattle.cam_apertures.specs.Definition.{Table, definition, definition_of, named, numbered, faults_of, IsDefined, IsLeast, IsAdFault, IsMeant}
+use Rattle.cam_apertures.specs.Definition.{Table, definition, definition_of, named, numbered, faults_of, IsDefined}
+use Rattle.cam_apertures.specs.Definition.{IsLeast, IsAdFault, IsMeant}
 use Rattle.cam_apertures.specs.declared.fault.AdFault.{AdFault}
-use Rattle.cam_apertures.specs.declared.fault.AdFault.TheVariants.{UnknownForm, BadNumber, TemplateRefused, PrimitiveRefused, RotationRefused, SizeRefused, Malformed, OutOfMemory}
+use Rattle.cam_apertures.specs.declared.fault.AdFault.TheVariants.{UnknownForm, BadNumber, TemplateRefused}
+use Rattle.cam_apertures.specs.declared.fault.AdFault.TheVariants.{PrimitiveRefused, RotationRefused, SizeRefused}
+use Rattle.cam_apertures.specs.declared.fault.AdFault.TheVariants.{Malformed, OutOfMemory}
 use Rattle.cam_objects.specs.declared.entry.Entry.{Entry}
 use Rattle.cam_objects.specs.declared.entry.Entry.TheVariants as entry
 use Rattle.cam_gerber.specs.State.{Past, unit_in, unit_or_mm, in_region}
@@ -16,7 +20,6 @@ use Rattle.cam_gerber.specs.Layers.{macros_in, entries_in, defined, defined_by}
 use Rattle.cam_gerber.specs.Faults.{least, faults, command_faults, is_reserved, is_taken_again, is_defined}
 use Rattle.cam_gerber.specs.Statements.{Says, NamesMacro, IsMacroOf}
 use Rattle.std.specs.List.{slice_split, onto_first, before_first}
-use Rattle.std.specs.declared.vec.Vec.{Vec}
 use Rattle.cam_macros.specs.declared.part.Part.{Part}
 use Rattle.cam_macros.specs.Reading.{pieces, first, others, spoken, is_name, AreParts, IsReading, IsRefused}
 use Rattle.cam_macros.specs.declared.fault.MacroFault.{MacroFault}
@@ -34,15 +37,19 @@ use Rattle.cam_gerber.proofs.Least.{least_of, least_none, told_more}
 -- bytes that do not count are dropped once
 pub packed_again : (text : List ℕ) → packed (packed text) ≡ packed text
 packed_again [] = refl
-packed_again (byte ∷ text) = (elim (not (is_skipped byte)) as (λ b. not (is_skipped byte) ≡ b → packed (cond b (byte ∷ packed text) (packed text)) ≡ cond b (byte ∷ packed text) (packed text)) [
-  | true ↦ λ e. rw e (ap (λ (rest : List ℕ). byte ∷ rest) (packed_again text))
-  | false ↦ λ e. packed_again text
-]) refl
+packed_again (byte ∷ text) =
+    (elim (not (is_skipped byte))
+    as (λ b. not (is_skipped byte) ≡ b → packed (cond b (byte ∷ packed text) (packed text))
+    ≡ cond b (byte ∷ packed text) (packed text)) [
+      | true ↦ λ e. rw e (ap (λ (rest : List ℕ). byte ∷ rest) (packed_again text))
+      | false ↦ λ e. packed_again text
+    ]) refl
 
 pub same_definition : (text : List ℕ) → definition_of (packed text) ≡ definition_of text
 same_definition text = ap definition (packed_again text)
 
-pub defined_number_is : (text : List ℕ) (macros : List Macro) (unit : FileUnit) (n : ℕ) (a : Aperture) → IsDefined text macros unit n a → numbered (definition_of text) ≡ Some n
+pub defined_number_is : (text : List ℕ) (macros : List Macro) (unit : FileUnit) (n : ℕ) (a : Aperture)
+    → IsDefined text macros unit n a → numbered (definition_of text) ≡ Some n
 defined_number_is text macros unit n a d = ap numbered d.form ∙ d.number_is
 
 pub defined_entry : (text : List ℕ) (macros : List Macro) (unit : FileUnit) (n : ℕ) (a : Aperture) → IsDefined text macros unit n a
@@ -61,8 +68,11 @@ faulty_definition text macros unit n h = least_of _ n h
 abbrev with_state : Past → Option ℕ → Table → Table
 with_state past number table = (6, is_none (unit_in past)) ∷ (10, is_taken_again past number) ∷ (22, in_region past) ∷ table
 
-pub definition_faults : (past : Past) (text : List ℕ) (macros : List Macro) (unit : FileUnit) (number told result : Option ℕ) → macros ≡ macros_in past → unit ≡ unit_or_mm (unit_in past)
-    → number ≡ numbered (definition_of text) → ((table : Table) → told ≡ least table → result ≡ least (with_state past number table)) → told ≡ least (faults_of (definition_of text) macros unit)
+pub definition_faults : (past : Past) (text : List ℕ) (macros : List Macro) (unit : FileUnit) (number told result : Option ℕ)
+    → macros ≡ macros_in past → unit ≡ unit_or_mm (unit_in past)
+    → number ≡ numbered (definition_of text)
+    → ((table : Table) → told ≡ least table → result ≡ least (with_state past number table))
+    → told ≡ least (faults_of (definition_of text) macros unit)
     → result ≡ least (command_faults past (DefineAperture (packed text)))
 definition_faults past text macros unit number told result m u n lowest e =
     lowest (faults_of (definition_of text) macros unit) e
@@ -71,7 +81,8 @@ definition_faults past text macros unit number told result m u n lowest e =
     ∙ ap (λ d. least (with_state past (numbered d) (faults_of d (macros_in past) (unit_or_mm (unit_in past))))) (sym (same_definition text))
 
 -- a definition's own fault makes one of the command
-pub some_fault : (past : Past) (number : Option ℕ) (table : Table) (result : Option ℕ) (code : ℕ) → least table ≡ Some code → result ≡ least (with_state past number table) → result ≡ Some (unwrap_or result code)
+pub some_fault : (past : Past) (number : Option ℕ) (table : Table) (result : Option ℕ) (code : ℕ) → least table ≡ Some code
+    → result ≡ least (with_state past number table) → result ≡ Some (unwrap_or result code)
 some_fault past number table result code h e =
     let one = told_more (22, in_region past) table code h in
     let two = told_more (10, is_taken_again past number) ((22, in_region past) ∷ table) one.0 one.1 in
@@ -83,14 +94,17 @@ some_fault past number table result code h e =
     go (Some l) k = refl
 
 -- a number that is not refused is new
-pub new_number : (past : Past) (number : ℕ) (table : Table) (entries : List (ℕ × Entry)) → entries ≡ entries_in past → least (with_state past (Some number) table) ≡ None → lookup (nat_eq number) entries ≡ None
+pub new_number : (past : Past) (number : ℕ) (table : Table) (entries : List (ℕ × Entry)) → entries ≡ entries_in past
+    → least (with_state past (Some number) table) ≡ None → lookup (nat_eq number) entries ≡ None
 new_number past number table entries e h =
     let met = none_holds (with_state past (Some number) table) h in
     let free : is_defined past number ≡ false = (or_parts (is_defined past number) _ met.1.0).0 in
     ap (lookup (nat_eq number)) e ∙ none_from (lookup (nat_eq number) (entries_in past)) free
 
-pub defined_tracks : (past : Past) (text : List ℕ) (old : Running) (unit : FileUnit) (n : ℕ) (a : Aperture) (layer : Layer) → Tracks past old → unit ≡ unit_or_mm (unit_in past)
-    → IsDefined text old.built.macros.items unit n a → layer.apertures ≡ old.built.layer.apertures ++ (n, entry.Aperture a) ∷ [] → layer.items ≡ old.built.layer.items
+pub defined_tracks : (past : Past) (text : List ℕ) (old : Running) (unit : FileUnit) (n : ℕ) (a : Aperture) (layer : Layer)
+    → Tracks past old → unit ≡ unit_or_mm (unit_in past)
+    → IsDefined text old.built.macros unit n a → layer.apertures ≡ old.built.layer.apertures ++ (n, entry.Aperture a) ∷ []
+    → layer.items ≡ old.built.layer.items
     → Tracks (Says (DefineAperture (packed text)) ∷ past) (record old { built = record old.built { layer = layer } })
 defined_tracks past text old unit n a layer t u d entries items = record {
   modal = record {
@@ -117,7 +131,7 @@ defined_tracks past text old unit n a layer t u d entries items = record {
   where
     made : defined past (packed text) ≡ (n, entry.Aperture a) ∷ []
     made = ap (λ d. defined_by d (macros_in past) (unit_or_mm (unit_in past))) (same_definition text)
-        ∙ ap₂ (λ ms v. defined_by (definition_of text) ms v) (sym t.built.macros) (sym u) ∙ defined_entry text old.built.macros.items unit n a d
+        ∙ ap₂ (λ ms v. defined_by (definition_of text) ms v) (sym t.built.macros) (sym u) ∙ defined_entry text old.built.macros unit n a d
 
 -- a refusal that is not of memory
 pub meant : (fault : AdFault) (P : Type 0) → (fault ≡ OutOfMemory → ⊥) → IsMeant fault P → P
@@ -174,10 +188,12 @@ tells_22 true = refl
 tells_22 false = refl
 
 -- what a macro's text says
-pub said_macro : (text name : List ℕ) (parts : List Part) → IsReading text name parts → IsMacroOf (packed text) (NamesMacro name (Some parts))
+pub said_macro : (text name : List ℕ) (parts : List Part) → IsReading text name parts
+    → IsMacroOf (packed text) (NamesMacro name (Some parts))
 said_macro text name parts r = (r.name_is ∙ ap first (sym (same_pieces text)), to_packed text name parts r)
 
-pub said_none : (text : List ℕ) → ((parts : List Part) → ¬ IsReading text (first (pieces text)) parts) → IsMacroOf (packed text) (NamesMacro (first (pieces text)) None)
+pub said_none : (text : List ℕ) → ((parts : List Part) → ¬ IsReading text (first (pieces text)) parts)
+    → IsMacroOf (packed text) (NamesMacro (first (pieces text)) None)
 said_none text none = (ap first (sym (same_pieces text)), λ parts r. none parts (from_packed text (first (pieces text)) parts r))
 
 module _ (past : Past) (name : List ℕ) (parts : Option (List Part)) (macros : List Macro) (m : macros ≡ macros_in past) where
@@ -188,13 +204,17 @@ module _ (past : Past) (name : List ℕ) (parts : Option (List Part)) (macros : 
   same_taken = ap (λ ms. is_some (named ms name) || is_reserved name) m
 
   pub refused_name : is_name name ≡ false → least (faults past (NamesMacro name parts)) ≡ Some 3
-  refused_name h = ap (λ a. least (macro_rows (not a) taken (in_region past) (is_none parts))) h ∙ tells_3 taken (in_region past) (is_none parts)
+  refused_name h = ap (λ a. least (macro_rows (not a) taken (in_region past) (is_none parts))) h
+      ∙ tells_3 taken (in_region past) (is_none parts)
 
-  pub refused_again : is_name name ≡ true → (is_some (named macros name) || is_reserved name) ≡ true → least (faults past (NamesMacro name parts)) ≡ Some 10
+  pub refused_again : is_name name ≡ true → (is_some (named macros name) || is_reserved name) ≡ true
+      → least (faults past (NamesMacro name parts)) ≡ Some 10
   refused_again h k =
-      ap₂ (λ a b. least (macro_rows (not a) b (in_region past) (is_none parts))) h (sym same_taken ∙ k) ∙ tells_10 (in_region past) (is_none parts)
+      ap₂ (λ a b. least (macro_rows (not a) b (in_region past) (is_none parts))) h (sym same_taken ∙ k)
+      ∙ tells_10 (in_region past) (is_none parts)
 
-  pub refused_inside : is_name name ≡ true → (is_some (named macros name) || is_reserved name) ≡ false → in_region past ≡ true → least (faults past (NamesMacro name parts)) ≡ Some 22
+  pub refused_inside : is_name name ≡ true → (is_some (named macros name) || is_reserved name) ≡ false → in_region past ≡ true
+      → least (faults past (NamesMacro name parts)) ≡ Some 22
   refused_inside h k l =
       ap₂ (λ a b. least (macro_rows (not a) b (in_region past) (is_none parts))) h (sym same_taken ∙ k)
       ∙ ap (λ c. least (macro_rows false false c (is_none parts))) l ∙ tells_22 (is_none parts)
@@ -205,7 +225,13 @@ module _ (past : Past) (name : List ℕ) (parts : Option (List Part)) (macros : 
       ap₂ (λ a b. least (macro_rows (not a) b (in_region past) (is_none parts))) h (sym same_taken ∙ k)
       ∙ ap (λ c. least (macro_rows false false c (is_none parts))) l
 
-pub macro_tracks : (past : Past) (old : Running) (made : Macro) (macros : Vec Macro Global) → Tracks past old → macros.items ≡ old.built.macros.items ++ made ∷ []
+-- a name that is not taken is that of no macro
+pub not_taken : {A : Type 0} (found : Option A) (reserved : Bool) → (is_some found || reserved) ≡ false → found ≡ None
+not_taken None reserved h = refl
+not_taken (Some a) reserved h = absurd (cc)
+
+pub macro_tracks : (past : Past) (old : Running) (made : Macro) (macros : List Macro) → Tracks past old
+    → macros ≡ old.built.macros ++ made ∷ []
     → Tracks (NamesMacro made.name (Some made.parts) ∷ past) (record old { built = record old.built { macros = macros } })
 macro_tracks past old made macros t e = record {
   modal = record {
@@ -230,7 +256,8 @@ macro_tracks past old made macros t e = record {
   };
 }
 
-pub bad_parts : (text : List ℕ) (fault : MacroFault) → fault ≡ macro.Malformed → IsRefused text fault → (is_name (first (pieces text)) ≡ true) × ((parts : List Part) → ¬ IsReading text (first (pieces text)) parts)
+pub bad_parts : (text : List ℕ) (fault : MacroFault) → fault ≡ macro.Malformed → IsRefused text fault
+    → (is_name (first (pieces text)) ≡ true) × ((parts : List Part) → ¬ IsReading text (first (pieces text)) parts)
 bad_parts text fault e h = let r = subst (IsRefused text) e h in (r.0, λ parts. r.1 (first (pieces text)) parts)
 
 pub bad_name : (text : List ℕ) (fault : MacroFault) → fault ≡ macro.BadName → IsRefused text fault → is_name (first (pieces text)) ≡ false
@@ -248,10 +275,11 @@ one_more x n xs = let e : suc n ≡ 1 + n = omega arith in ap (λ k. take k (x �
 
 first_piece : (p : ℕ → Bool) (xs : List ℕ) → first (slice_split p xs) ≡ before_first p xs
 first_piece p [] = refl
-first_piece p (x ∷ xs) = (elim (p x) as (λ b. p x ≡ b → first (cond b ([] ∷ slice_split p xs) (onto_first x (slice_split p xs))) ≡ before_first p (x ∷ xs)) [
-  | true ↦ λ e. rw e refl
-  | false ↦ λ e. first_onto x (slice_split p xs) ∙ ap (λ (ys : List ℕ). x ∷ ys) (first_piece p xs) ∙ rw e (one_more x _ xs)
-]) refl
+first_piece p (x ∷ xs) =
+    (elim (p x) as (λ b. p x ≡ b → first (cond b ([] ∷ slice_split p xs) (onto_first x (slice_split p xs))) ≡ before_first p (x ∷ xs)) [
+      | true ↦ λ e. rw e refl
+      | false ↦ λ e. first_onto x (slice_split p xs) ∙ ap (λ (ys : List ℕ). x ∷ ys) (first_piece p xs) ∙ rw e (one_more x _ xs)
+    ]) refl
 
 pub name_before_star : (text : List ℕ) → before_first (λ b. b == 42) (packed text) ≡ first (pieces text)
 name_before_star text = sym (first_piece (λ b. b == 42) (packed text))

@@ -1,5 +1,6 @@
 -- No expansion of a macro is refused for want of memory.
-use Rattle.std.proofs.Common.{ℕ, suc, ◌+◌, ◌*◌, ◌%◌, List, [], ◌∷◌, length, take, drop, Bool, true, false, cond, Option, Some, None, Result, Ok, Err}
+use Rattle.std.proofs.Common.{ℕ, suc, ◌+◌, ◌*◌, ◌%◌, List, [], ◌∷◌, length, take, drop, Bool, true, false, cond, Option}
+use Rattle.std.proofs.Common.{Some, None, Result, Ok, Err}
 use Rattle.std.specs.Prelude.{ℤ, pos, negsuc, ◌==◌, ◌&&◌, ◌||◌, nat_le, nat_lt, unsigned_abs, ok_or}
 use Rattle.cam_units.specs.declared.length.Unit.{Unit as FileUnit}
 use Rattle.cam_units.specs.declared.turn.Turn.{Turn}
@@ -8,11 +9,15 @@ use Rattle.cam_macros.specs.declared.part.Part.{Part}
 use Rattle.cam_macros.specs.declared.part.Part.TheVariants.{Assignment, Primitive}
 use Rattle.cam_macros.specs.declared.primitive.MacroPrimitive.{MacroPrimitive}
 use Rattle.cam_macros.specs.declared.fault.MacroFault.{MacroFault}
-use Rattle.cam_macros.specs.declared.fault.MacroFault.TheVariants.{BadName, Malformed, PrimitiveRefused, RotationRefused, SizeRefused, OutOfMemory}
+use Rattle.cam_macros.specs.declared.fault.MacroFault.TheVariants.{BadName, Malformed, PrimitiveRefused}
+use Rattle.cam_macros.specs.declared.fault.MacroFault.TheVariants.{RotationRefused, SizeRefused, OutOfMemory}
 use Rattle.cam_macros.specs.Numbers.{billion}
 use Rattle.cam_macros.specs.Tree.{Tree}
 use Rattle.cam_macros.specs.Arithmetic.{Values, parameter, value_of}
-use Rattle.cam_macros.specs.Expansion.{◌>>=◌, worth, all_worth, paint_of, rotation, turn_of, size, size_of, coordinate_of, point_of, points_of, disc_of, bar_of, rect_of, count_of, outline_of, shape_of, primitive_of, outcome, values_after, expansion, expansion_of}
+use Rattle.cam_macros.specs.Expansion.{◌>>=◌, worth, all_worth, paint_of, rotation, turn_of, size, size_of}
+use Rattle.cam_macros.specs.Expansion.{coordinate_of, point_of, points_of, disc_of, bar_of, rect_of, count_of}
+use Rattle.cam_macros.specs.Expansion.{outline_of, shape_of, primitive_of, outcome, values_after, expansion}
+use Rattle.cam_macros.specs.Expansion.{expansion_of}
 
 -- not for want of memory
 abbrev pub IsTrueFault : MacroFault → Type 0

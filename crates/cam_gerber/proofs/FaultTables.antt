@@ -1,14 +1,17 @@
 -- Tables of faults: the least number that holds, and all under that of memory.
-use Rattle.std.proofs.Common.{◌≡◌, ℕ, ◌≤◌, List, [], ◌∷◌, length, Bool, true, false, cond, Option, Some, None, Result, Ok, Err, refl, sym, ap, ◌∙◌, inl, inr}
+use Rattle.std.proofs.Common.{◌≡◌, ℕ, ◌≤◌, List, [], ◌∷◌, length, Bool, true, false, cond, Option, Some, None, Result}
+use Rattle.std.proofs.Common.{Ok, Err, refl, sym, ap, ◌∙◌, inl, inr}
 use Rattle.std.specs.Prelude.{ℤ, codes, nat_le, unwrap_or}
 use Rattle.std.specs.Str.{bytes_eq}
 use Rattle.cam_units.specs.declared.length.Unit.{Unit as FileUnit}
 use Rattle.cam_macros.specs.declared.aperture_macro.Macro.{Macro}
 use Rattle.cam_macros.specs.declared.fault.MacroFault.{MacroFault}
-use Rattle.cam_macros.specs.declared.fault.MacroFault.TheVariants.{BadName, Malformed, PrimitiveRefused, RotationRefused, SizeRefused, OutOfMemory}
+use Rattle.cam_macros.specs.declared.fault.MacroFault.TheVariants.{BadName, Malformed, PrimitiveRefused}
+use Rattle.cam_macros.specs.declared.fault.MacroFault.TheVariants.{RotationRefused, SizeRefused, OutOfMemory}
 use Rattle.cam_macros.specs.declared.primitive.MacroPrimitive.{MacroPrimitive}
 use Rattle.cam_macros.specs.Expansion.{expansion_of}
-use Rattle.cam_apertures.specs.Definition.{Table, Tells, Definition, definition_of, named, by_macro, macro_faults, template_faults, faults_of, values_of}
+use Rattle.cam_apertures.specs.Definition.{Table, Tells, Definition, definition_of, named, by_macro, macro_faults}
+use Rattle.cam_apertures.specs.Definition.{template_faults, faults_of, values_of}
 use Rattle.cam_commands.specs.declared.parts.Operation.{Operation}
 use Rattle.cam_commands.specs.declared.parts.OperationCode.{OperationCode}
 use Rattle.cam_commands.specs.declared.parts.OperationCode.TheVariants.{Plot, Move, Flash}
@@ -92,11 +95,13 @@ of_expansion (Err RotationRefused) h = (refl, tt)
 of_expansion (Err SizeRefused) h = (refl, tt)
 of_expansion (Err OutOfMemory) h = absurd h
 
-of_macro : (found : Option Macro) (unit : FileUnit) (values : List ℤ) → AreTrue (by_macro found ((11, true) ∷ []) (λ m. macro_faults (expansion_of unit values m.parts)))
+of_macro : (found : Option Macro) (unit : FileUnit) (values : List ℤ)
+    → AreTrue (by_macro found ((11, true) ∷ []) (λ m. macro_faults (expansion_of unit values m.parts)))
 of_macro None unit values = (refl, tt)
 of_macro (Some m) unit values = of_expansion (expansion_of unit values m.parts) (expansion_may_be unit values m.parts)
 
-of_template : (name : List ℕ) (macros : List Macro) (unit : FileUnit) (count : ℕ) (values : List ℤ) → AreTrue (template_faults name macros unit count values)
+of_template : (name : List ℕ) (macros : List Macro) (unit : FileUnit) (count : ℕ) (values : List ℤ)
+    → AreTrue (template_faults name macros unit count values)
 of_template name macros unit count values =
     either (bytes_eq name (codes "C")) _ _ (refl, (refl, (refl, tt)))
     (either (bytes_eq name (codes "R")) _ _ (refl, (refl, (refl, tt)))
@@ -105,9 +110,11 @@ of_template name macros unit count values =
 
 of_definition : (d : Option Definition) (macros : List Macro) (unit : FileUnit) → AreTrue (faults_of d macros unit)
 of_definition None macros unit = (refl, tt)
-of_definition (Some d) macros unit = (refl, (refl, of_template d.name macros unit (length d.parameters) (unwrap_or (values_of d.parameters) [])))
+of_definition (Some d) macros unit =
+    (refl, (refl, of_template d.name macros unit (length d.parameters) (unwrap_or (values_of d.parameters) [])))
 
-of_operated : (code : OperationCode) (region : Bool) (past : Past) (operation : Operation) → AreTrue (operated_faults code region past operation)
+of_operated : (code : OperationCode) (region : Bool) (past : Past) (operation : Operation)
+    → AreTrue (operated_faults code region past operation)
 of_operated Plot false past operation = (refl, (refl, (refl, (refl, (refl, (refl, tt))))))
 of_operated Plot true past operation = (refl, (refl, (refl, (refl, tt))))
 of_operated Move false past operation = (refl, tt)
@@ -119,7 +126,8 @@ of_command : (past : Past) (command : Command) → AreTrue (command_faults past 
 of_command past (SetFormat format) = (refl, (refl, tt))
 of_command past RefusedFormat = (refl, tt)
 of_command past (SetUnit unit style) = (refl, (refl, tt))
-of_command past (DefineAperture text) = (refl, (refl, (refl, of_definition (definition_of text) (macros_in past) (unit_or_mm (unit_in past)))))
+of_command past (DefineAperture text) =
+    (refl, (refl, (refl, of_definition (definition_of text) (macros_in past) (unit_or_mm (unit_in past)))))
 of_command past (DefineMacro text) = tt
 of_command past (SetPolarity polarity) = (refl, tt)
 of_command past (SetMirror mirroring) = (refl, tt)

@@ -34,34 +34,49 @@ some_map : (past : Past) (repeat : Option Opened) → is_some (option_map (repea
 some_map past None = refl
 some_map past (Some o) = refl
 
-in_repeat : (past : Past) (r : Running) → TracksPlaces past r → (is_empty r.frames.blocks.items && is_some r.frames.repeat) ≡ (is_empty (open_blocks past) && is_some (open_repeat past))
+in_repeat : (past : Past) (r : Running) → TracksPlaces past r
+    → (is_empty r.frames.blocks.items && is_some r.frames.repeat) ≡ (is_empty (open_blocks past) && is_some (open_repeat past))
 in_repeat past r t =
-    ap₂ (λ a b. a && b) (ap is_empty t.frames.blocks ∙ empty_map past (open_blocks past)) (ap is_some t.frames.repeat ∙ some_map past (open_repeat past))
+    ap₂ (λ a b. a && b) (ap is_empty t.frames.blocks ∙ empty_map past (open_blocks past))
+    (ap is_some t.frames.repeat ∙ some_map past (open_repeat past))
 
-judged : (past : Past) (blocks : List ℕ) (repeat : Option Opened) (o : Object) → is_outside_at (home_by blocks repeat) past o ≡ (not (is_empty blocks && is_some repeat) && is_outside past (One o))
+judged : (past : Past) (blocks : List ℕ) (repeat : Option Opened) (o : Object)
+    → is_outside_at (home_by blocks repeat) past o ≡ (not (is_empty blocks && is_some repeat) && is_outside past (One o))
 judged past (n ∷ outer) repeat o = refl
 judged past [] None o = refl
 judged past [] (Some opened) o = refl
 
-pub judged_later : (past : Past) (r : Running) (o : Object) → TracksPlaces past r → (is_empty r.frames.blocks.items && is_some r.frames.repeat) ≡ true → false ≡ is_outside_at (home past) past o
-judged_later past r o t e = sym (judged past (open_blocks past) (open_repeat past) o ∙ ap (λ b. not b && is_outside past (One o)) (sym (in_repeat past r t) ∙ e))
+pub judged_later : (past : Past) (r : Running) (o : Object) → TracksPlaces past r
+    → (is_empty r.frames.blocks.items && is_some r.frames.repeat) ≡ true → false ≡ is_outside_at (home past) past o
+judged_later past r o t e =
+    sym (judged past (open_blocks past) (open_repeat past) o ∙ ap (λ b. not b && is_outside past (One o)) (sym (in_repeat past r t) ∙ e))
 
-pub judged_now : (past : Past) (r : Running) (o : Object) (check : Result (Unit {0}) ItemFault) → TracksPlaces past r → (is_empty r.frames.blocks.items && is_some r.frames.repeat) ≡ false
-    → IsWellMade r.built.layer.apertures o → Tells (MeetsItem r.built.layer.apertures (One o)) check → is_of_board check ≡ is_outside_at (home past) past o
+pub judged_now : (past : Past) (r : Running) (o : Object) (check : Result (Unit {0}) ItemFault) → TracksPlaces past r
+    → (is_empty r.frames.blocks.items && is_some r.frames.repeat) ≡ false
+    → IsWellMade r.built.layer.apertures o → Tells (MeetsItem r.built.layer.apertures (One o)) check
+    → is_of_board check ≡ is_outside_at (home past) past o
 judged_now past r o check t e well tells =
-    told_outside r.built.layer.apertures (One o) check (record { repeated = tt; steps = tt; objects = All-cons (IsWellMade r.built.layer.apertures) o [] well (All-nil (IsWellMade r.built.layer.apertures)) }) tells
+    told_outside r.built.layer.apertures (One o) check
+    (record {
+      repeated = tt;
+      steps = tt;
+      objects =
+          All-cons (IsWellMade r.built.layer.apertures) o [] well (All-nil (IsWellMade r.built.layer.apertures));
+    }) tells
     ∙ ap (λ es. not (are_on_board (item_leaves (meaning_in es) (One o)))) t.built.entries ∙ sym (outside_is past (One o))
     ∙ sym (judged past (open_blocks past) (open_repeat past) o ∙ ap (λ b. not b && is_outside past (One o)) (sym (in_repeat past r t) ∙ e))
 
 -- ---- a flash
 
-pub flash_well : (old : Running) (n : ℕ) (at : Point) (turn : Turn) (dark : Bool) → HasPast old → old.modal.aperture ≡ Some n → is_on_board at ≡ true
+pub flash_well : (old : Running) (n : ℕ) (at : Point) (turn : Turn) (dark : Bool) → HasPast old → old.modal.aperture ≡ Some n
+    → is_on_board at ≡ true
     → IsWellMade old.built.layer.apertures (object.Flash n at turn dark)
 flash_well old n at turn dark h a on =
     let sound = sound_past h.0 h.1 h.3 in
     record {
       formed = tt;
-      known = subst (λ es. HasNumber es n) (sym h.2.built.entries) (subst (IsKnownNumber (entries_in h.0)) (sym h.2.modal.aperture ∙ a) sound.aperture);
+      known = subst (λ es. HasNumber es n) (sym h.2.built.entries)
+          (subst (IsKnownNumber (entries_in h.0)) (sym h.2.modal.aperture ∙ a) sound.aperture);
       drawable = tt;
       radius = tt;
       points = All-cons IsOnBoard at [] (on_board at on) (All-nil IsOnBoard);

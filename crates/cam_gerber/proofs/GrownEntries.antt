@@ -1,5 +1,7 @@
 -- One entry more changes the meaning of no number that is there, and a dictionary that it may join stays sound.
-use Rattle.std.proofs.Common.{◌≡◌, ℕ, ◌+◌, ◌*◌, ◌<◌, ◌≤◌, Bool, true, false, cond, ℤ, pos, ◌*ℤ◌, List, [], ◌∷◌, ◌++◌, length, take, get_or, reverse, None, Some, nat_eq, slice_index_or, sum_by, refl, sym, ap, subst, ◌∙◌, arith, inl, inr}
+use Rattle.std.proofs.Common.{◌≡◌, ℕ, ◌+◌, ◌*◌, ◌<◌, ◌≤◌, Bool, true, false, cond, ℤ, pos, ◌*ℤ◌, List, [], ◌∷◌, ◌++◌}
+use Rattle.std.proofs.Common.{length, take, get_or, reverse, None, Some, nat_eq, slice_index_or, sum_by, refl, sym, ap}
+use Rattle.std.proofs.Common.{subst, ◌∙◌, arith, inl, inr}
 use Rattle.std.specs.List.{All, flat_map, range_with_len}
 use Rattle.std.specs.Map.{lookup}
 use Rattle.std.specs.Option.{IsSome}
@@ -12,11 +14,15 @@ use Rattle.cam_shapes.specs.Placing.{placed_direction}
 use Rattle.cam_objects.specs.declared.entry.Entry.{Entry}
 use Rattle.cam_objects.specs.declared.item.Item.{Item}
 use Rattle.cam_objects.specs.declared.item.Item.TheVariants.{One, Repeat}
-use Rattle.cam_objects.specs.declared.item_fault.ItemFault.TheVariants.{Malformed, UnknownAperture, UnknownTool, WrongAperture, ZeroRadius, OutOfBoard, TooMuch}
+use Rattle.cam_objects.specs.declared.item_fault.ItemFault.TheVariants.{Malformed, UnknownAperture, UnknownTool}
+use Rattle.cam_objects.specs.declared.item_fault.ItemFault.TheVariants.{WrongAperture, ZeroRadius, OutOfBoard, TooMuch}
 use Rattle.cam_objects.specs.declared.object.Object.{Object}
 use Rattle.cam_objects.specs.declared.object.Object.TheVariants.{Flash, Draw, Arc, Region}
-use Rattle.cam_objects.specs.Leaves.{Meaning, arc_leaves, block_leaves, draw_leaves, entry_meaning, flashed, item_leaves, meaning_in, no_meaning, object_leaves, placed, polarity_in, shifted, stands_for}
-use Rattle.cam_objects.specs.Soundness.{IsSoundDictionary, AreOnBoard, HasNumber, IsDrawable, IsInside, IsKnown, IsSoundItem, IsWithinLimits, MayAddEntry, objects_of}
+use Rattle.cam_objects.specs.Leaves.{Meaning, arc_leaves, block_leaves, draw_leaves, entry_meaning, flashed}
+use Rattle.cam_objects.specs.Leaves.{item_leaves, meaning_in, no_meaning, object_leaves, placed, polarity_in, shifted}
+use Rattle.cam_objects.specs.Leaves.{stands_for}
+use Rattle.cam_objects.specs.Soundness.{IsSoundDictionary, AreOnBoard, HasNumber, IsDrawable, IsInside, IsKnown}
+use Rattle.cam_objects.specs.Soundness.{IsSoundItem, IsWithinLimits, MayAddEntry, objects_of}
 use Rattle.cam_objects.specs.Weights.{Weight, block_count, entry_weight, item_count, no_weight, object_count, weight_in}
 use Rattle.std.proofs.lemmas.Bool.{cases_lt}
 use Rattle.std.proofs.lemmas.List.{get_or_append_left, length-append, take-append-le}
@@ -52,7 +58,8 @@ module _ (es : Pairs) (n : ℕ) (e : Entry) (absent : lookup (nat_eq n) es ≡ N
       → stands_for nothing means (reverse grown) m ≡ stands_for nothing means (reverse es) m
   stands_same nothing means m known =
       ap (λ ds. stands_for nothing means ds m) (reverse-append es ((n, e) ∷ []))
-      ∙ ap (λ b. cond b (means (stands_for nothing means (reverse es)) e) (stands_for nothing means (reverse es) m)) (apart es n m absent known)
+      ∙ ap (λ b. cond b (means (stands_for nothing means (reverse es)) e) (stands_for nothing means (reverse es) m))
+      (apart es n m absent known)
 
   pub means_same : (m : ℕ) → HasNumber es m → meaning_in grown m ≡ meaning_in es m
   means_same = stands_same no_meaning entry_meaning
@@ -62,12 +69,15 @@ module _ (es : Pairs) (n : ℕ) (e : Entry) (absent : lookup (nat_eq n) es ≡ N
 
   -- ---- objects
 
-  pub object_same : (x y : ℤ) (o : Object) → IsKnown es o → object_leaves (meaning_in grown) (shifted x y) o ≡ object_leaves (meaning_in es) (shifted x y) o
+  pub object_same : (x y : ℤ) (o : Object) → IsKnown es o
+      → object_leaves (meaning_in grown) (shifted x y) o ≡ object_leaves (meaning_in es) (shifted x y) o
   object_same x y (Flash m at t dark) h = ap (λ (d : Meaning). d.flash (flashed (shifted x y) at t dark)) (means_same m h)
   object_same x y (Draw m from to t dark) h =
-      ap (λ (d : Meaning). draw_leaves d.width (placed (shifted x y) from) (placed (shifted x y) to) (polarity_in true dark)) (means_same m h)
+      ap (λ (d : Meaning). draw_leaves d.width (placed (shifted x y) from) (placed (shifted x y) to) (polarity_in true dark))
+      (means_same m h)
   object_same x y (Arc m from to centre ccw dark) h =
-      ap (λ (d : Meaning). arc_leaves d.width (placed (shifted x y) from) (placed (shifted x y) to) (placed (shifted x y) centre) (placed_direction R0 ccw) (polarity_in true dark)) (means_same m h)
+      ap (λ (d : Meaning). arc_leaves d.width (placed (shifted x y) from) (placed (shifted x y) to) (placed (shifted x y) centre)
+      (placed_direction R0 ccw) (polarity_in true dark)) (means_same m h)
   object_same x y (Region c dark) h = refl
 
   pub count_same : (o : Object) → IsKnown es o → object_count (weight_in grown) o ≡ object_count (weight_in es) o
@@ -96,23 +106,27 @@ module _ (es : Pairs) (n : ℕ) (e : Entry) (absent : lookup (nat_eq n) es ≡ N
   block_same (o ∷ objects) h x y =
       λ i. object_same x y o (All-head (IsKnown es) o objects h) i ++ block_same objects (All-tail (IsKnown es) o objects h) x y i
 
-  pub block_count_same : (objects : List Object) → All (IsKnown es) objects → block_count (weight_in grown) objects ≡ block_count (weight_in es) objects
+  pub block_count_same : (objects : List Object) → All (IsKnown es) objects
+      → block_count (weight_in grown) objects ≡ block_count (weight_in es) objects
   block_count_same [] h = refl
   block_count_same (o ∷ objects) h =
       sum_by-cons (object_count (weight_in grown)) o objects
       ∙ (λ i. count_same o (All-head (IsKnown es) o objects h) i + block_count_same objects (All-tail (IsKnown es) o objects h) i)
       ∙ sym (sum_by-cons (object_count (weight_in es)) o objects)
 
-  drawable_all : (objects : List Object) → All (IsKnown es) objects → All (IsDrawable (meaning_in es)) objects → All (IsDrawable (meaning_in grown)) objects
+  drawable_all : (objects : List Object) → All (IsKnown es) objects → All (IsDrawable (meaning_in es)) objects
+      → All (IsDrawable (meaning_in grown)) objects
   drawable_all objects h k i d low = drawable_same (slice_index_or objects i d) (h i d low) (k i d low)
 
   abbrev IsKnownItem : Item → Type 0
   IsKnownItem item = All (IsKnown es) (objects_of item)
 
-  pub item_same : (item : Item) → All (IsKnown es) (objects_of item) → item_leaves (meaning_in grown) item ≡ item_leaves (meaning_in es) item
+  pub item_same : (item : Item) → All (IsKnown es) (objects_of item)
+      → item_leaves (meaning_in grown) item ≡ item_leaves (meaning_in es) item
   item_same (One o) h = object_same (pos 0) (pos 0) o (All-head (IsKnown es) o [] h)
   item_same (Repeat columns rows x y objects) h =
-      λ i. flat_map (λ c. flat_map (λ r. block_same objects h (pos c *ℤ x) (pos r *ℤ y) i) (range_with_len 0 rows)) (range_with_len 0 columns)
+      λ i. flat_map (λ c. flat_map (λ r. block_same objects h (pos c *ℤ x) (pos r *ℤ y) i) (range_with_len 0 rows))
+      (range_with_len 0 columns)
 
   pub item_count_same : (item : Item) → IsKnownItem item → item_count (weight_in grown) item ≡ item_count (weight_in es) item
   item_count_same (One o) h = count_same o (All-head (IsKnown es) o [] h)
@@ -126,10 +140,20 @@ module _ (es : Pairs) (n : ℕ) (e : Entry) (absent : lookup (nat_eq n) es ≡ N
   sound_same item h ZeroRadius = h ZeroRadius
   sound_same item h OutOfBoard =
       let inside : IsInside es item = h OutOfBoard in
-      record { points = inside.points; steps = inside.steps; leaves = subst AreOnBoard (sym (item_same item (h UnknownAperture))) inside.leaves }
+      record {
+        points = inside.points;
+        steps = inside.steps;
+        leaves =
+            subst AreOnBoard (sym (item_same item (h UnknownAperture))) inside.leaves;
+      }
   sound_same item h TooMuch =
       let limits : IsWithinLimits es item = h TooMuch in
-      record { segs = limits.segs; objects = limits.objects; leaves = subst (λ k. k ≤ 4000000) (sym (item_count_same item (h UnknownAperture))) limits.leaves }
+      record {
+        segs = limits.segs;
+        objects = limits.objects;
+        leaves =
+            subst (λ k. k ≤ 4000000) (sym (item_count_same item (h UnknownAperture))) limits.leaves;
+      }
 
   pub sum_same : (items : List Item) → All IsKnownItem items
       → sum_by (item_count (weight_in grown)) items ≡ sum_by (item_count (weight_in es)) items
@@ -151,10 +175,12 @@ sound_grows es n e sound may k d within =
       | inl low ↦
           let front : take k es' ≡ take k es = take-append-le k es ((n, e) ∷ []) (omega arith) in
           let item : get_or es' k d ≡ get_or es k d = get_or_append_left es ((n, e) ∷ []) d k low in
-          subst (λ (p : Pairs × (ℕ × Entry)). MayAddEntry p.0 p.1.0 p.1.1) (sym (ap (λ xs. (xs, get_or es' k d)) front ∙ ap (λ x. (take k es, x)) item)) (sound k d low)
+          subst (λ (p : Pairs × (ℕ × Entry)). MayAddEntry p.0 p.1.0 p.1.1)
+          (sym (ap (λ xs. (xs, get_or es' k d)) front ∙ ap (λ x. (take k es, x)) item)) (sound k d low)
       | inr past ↦
           let last = end_at es k n e within past in
           let front : take k es' ≡ es = ap (λ j. take j es') last ∙ take-append-le (length es) es ((n, e) ∷ []) (omega arith) ∙ whole es in
           let item : get_or es' k d ≡ (n, e) = ap (λ j. get_or es' j d) last ∙ get_or-append_seam es (n, e) [] d in
-          subst (λ (p : Pairs × (ℕ × Entry)). MayAddEntry p.0 p.1.0 p.1.1) (sym (ap (λ xs. (xs, get_or es' k d)) front ∙ ap (λ x. (es, x)) item)) may
+          subst (λ (p : Pairs × (ℕ × Entry)). MayAddEntry p.0 p.1.0 p.1.1)
+          (sym (ap (λ xs. (xs, get_or es' k d)) front ∙ ap (λ x. (es, x)) item)) may
     ]

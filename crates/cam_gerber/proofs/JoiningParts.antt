@@ -1,5 +1,6 @@
 -- What is sound stays so where a sound object joins it that fits, and where a repeat is closed.
-use Rattle.std.proofs.Common.{◌≡◌, ℕ, ◌+◌, ◌*◌, ◌<◌, ◌≤◌, List, [], ◌∷◌, ◌++◌, length, map, leb, Bool, true, false, cond, refl, sym, ap, ◌∙◌, subst, arith, append-nil, length-append}
+use Rattle.std.proofs.Common.{◌≡◌, ℕ, ◌+◌, ◌*◌, ◌<◌, ◌≤◌, List, [], ◌∷◌, ◌++◌, length, map, leb, Bool, true, false}
+use Rattle.std.proofs.Common.{cond, refl, sym, ap, ◌∙◌, subst, arith, append-nil, length-append}
 use Rattle.std.specs.Prelude.{not, unsigned_abs}
 use Rattle.std.specs.List.{All, list_all}
 use Rattle.std.proofs.lemmas.Bool.{eqb-true, leb-false, ltb-false, ltb-true, or_parts, and_parts}
@@ -10,9 +11,11 @@ use Rattle.cam_units.specs.declared.point.Point.{Point}
 use Rattle.cam_objects.specs.declared.object.Object.{Object}
 use Rattle.cam_objects.specs.declared.item.Item.{Item}
 use Rattle.cam_objects.specs.declared.item.Item.TheVariants.{One, Repeat}
-use Rattle.cam_objects.specs.declared.item_fault.ItemFault.TheVariants.{Malformed, UnknownAperture, UnknownTool, WrongAperture, ZeroRadius, OutOfBoard, TooMuch}
+use Rattle.cam_objects.specs.declared.item_fault.ItemFault.TheVariants.{Malformed, UnknownAperture, UnknownTool}
+use Rattle.cam_objects.specs.declared.item_fault.ItemFault.TheVariants.{WrongAperture, ZeroRadius, OutOfBoard, TooMuch}
 use Rattle.cam_objects.specs.Leaves.{Leaf, item_leaves, meaning_in, object_leaves, origin}
-use Rattle.cam_objects.specs.Soundness.{AreOnBoard, HasRadius, IsDrawable, IsFormed, IsKnown, IsSoundItem, points_of, points_of_shape, segs_of}
+use Rattle.cam_objects.specs.Soundness.{AreOnBoard, HasRadius, IsDrawable, IsFormed, IsKnown, IsSoundItem, points_of}
+use Rattle.cam_objects.specs.Soundness.{points_of_shape, segs_of}
 use Rattle.cam_objects.specs.Weights.{block_count, item_count, object_count, object_depth, weight_in}
 use Rattle.cam_gerber.specs.State.{Past}
 use Rattle.cam_gerber.specs.Homes.{Home, InBlock, InRepeat, InLayer, is_same_home, Opened}
@@ -32,13 +35,15 @@ on_board p h = let on = and_parts _ _ h in record { x = ltb-true _ _ on.0; y = l
 
 points_on_board : (ps : List Point) → list_all is_on_board ps ≡ true → All IsOnBoard ps
 points_on_board [] h = All-nil IsOnBoard
-points_on_board (p ∷ ps) h = let on = and_parts (is_on_board p) (list_all is_on_board ps) h in All-cons IsOnBoard p ps (on_board p on.0) (points_on_board ps on.1)
+points_on_board (p ∷ ps) h = let on = and_parts (is_on_board p) (list_all is_on_board ps) h in
+    All-cons IsOnBoard p ps (on_board p on.0) (points_on_board ps on.1)
 
 pub leaves_on_board : (leaves : List Leaf) → are_on_board leaves ≡ true → AreOnBoard leaves
 leaves_on_board [] h = All-nil (λ l. All IsOnBoard (points_of_shape l.shape))
 leaves_on_board (l ∷ leaves) h =
     let on = and_parts (list_all is_on_board (points_of_shape l.shape)) (are_on_board leaves) h in
-    All-cons (λ l. All IsOnBoard (points_of_shape l.shape)) l leaves (points_on_board (points_of_shape l.shape) on.0) (leaves_on_board leaves on.1)
+    All-cons (λ l. All IsOnBoard (points_of_shape l.shape)) l leaves (points_on_board (points_of_shape l.shape) on.0)
+    (leaves_on_board leaves on.1)
 
 -- ---- homes
 
@@ -79,8 +84,10 @@ added b objects = cond b objects []
 one_count : (es : Pairs) (o : Object) → block_count (weight_in es) (o ∷ []) ≡ object_count (weight_in es) o
 one_count es o = omega (arith, sum_by-cons (object_count (weight_in es)) o [])
 
-pub joined_block : (past : Past) (n : ℕ) (more : List Object) (b : Bool) → (b ≡ true → AreFit past more (InBlock n)) → IsSoundOpen (entries_in past) (objects_of (InBlock n) past) (leaves_of (InBlock n) past)
-    → IsSoundOpen (entries_in past) (objects_of (InBlock n) past ++ cond b more []) (leaves_of (InBlock n) past + block_count (weight_in (entries_in past)) (cond b more []))
+pub joined_block : (past : Past) (n : ℕ) (more : List Object) (b : Bool) → (b ≡ true → AreFit past more (InBlock n))
+    → IsSoundOpen (entries_in past) (objects_of (InBlock n) past) (leaves_of (InBlock n) past)
+    → IsSoundOpen (entries_in past) (objects_of (InBlock n) past ++ cond b more [])
+    (leaves_of (InBlock n) past + block_count (weight_in (entries_in past)) (cond b more []))
 joined_block past n more b fits s = by b more fits
   where
     objects : List Object
@@ -98,7 +105,8 @@ joined_block past n more b fits s = by b more fits
         zero_more : leaves ≡ leaves + block_count (weight_in es) []
         zero_more = omega arith
 
-    by : (b : Bool) (more : List Object) → (b ≡ true → AreFit past more (InBlock n)) → IsSoundOpen es (objects ++ cond b more []) (leaves + block_count (weight_in es) (cond b more []))
+    by : (b : Bool) (more : List Object) → (b ≡ true → AreFit past more (InBlock n))
+        → IsSoundOpen es (objects ++ cond b more []) (leaves + block_count (weight_in es) (cond b more []))
     by false more fits = none
     by true [] fits = none
     by true (o ∷ p ∷ more) fits = absurd (fits refl)
@@ -110,7 +118,8 @@ joined_block past n more b fits s = by b more fits
         let room = ltb-false 4000000 (leaves + object_count (weight_in es) o) counts.1 in
         let deep = leb-false 8 (object_depth (weight_in es) o) parts.1 in
         record {
-          each = All-push (λ x. IsSoundItem es (One x)) objects o s.each (one_item es o (record { made = fit.made; leaves = fit.bound; count = omega (arith, room) }));
+          each = All-push (λ x. IsSoundItem es (One x)) objects o s.each
+              (one_item es o (record { made = fit.made; leaves = fit.bound; count = omega (arith, room) }));
           few = omega (arith, few, length-append objects (o ∷ []));
           count = omega (arith, s.count, sum_by-append (object_count (weight_in es)) objects (o ∷ []));
           most = omega (arith, room, one_count es o);
@@ -119,7 +128,8 @@ joined_block past n more b fits s = by b more fits
 
 pub joined_repeat : (past : Past) (before : ℕ) (more : List Object) (b : Bool) → (b ≡ true → AreFit past more (InRepeat before))
     → IsSoundRepeated (entries_in past) (objects_of (InRepeat before) past) (leaves_of (InRepeat before) past)
-    → IsSoundRepeated (entries_in past) (objects_of (InRepeat before) past ++ cond b more []) (leaves_of (InRepeat before) past + block_count (weight_in (entries_in past)) (cond b more []))
+    → IsSoundRepeated (entries_in past) (objects_of (InRepeat before) past ++ cond b more [])
+    (leaves_of (InRepeat before) past + block_count (weight_in (entries_in past)) (cond b more []))
 joined_repeat past before more b fits s = by b more fits
   where
     objects : List Object
@@ -137,7 +147,8 @@ joined_repeat past before more b fits s = by b more fits
         zero_more : leaves ≡ leaves + block_count (weight_in es) []
         zero_more = omega arith
 
-    by : (b : Bool) (more : List Object) → (b ≡ true → AreFit past more (InRepeat before)) → IsSoundRepeated es (objects ++ cond b more []) (leaves + block_count (weight_in es) (cond b more []))
+    by : (b : Bool) (more : List Object) → (b ≡ true → AreFit past more (InRepeat before))
+        → IsSoundRepeated es (objects ++ cond b more []) (leaves + block_count (weight_in es) (cond b more []))
     by false more fits = none
     by true [] fits = none
     by true (o ∷ p ∷ more) fits = absurd (fits refl)
@@ -150,8 +161,10 @@ joined_repeat past before more b fits s = by b more fits
           count = omega (arith, s.count, sum_by-append (object_count (weight_in es)) objects (o ∷ []));
         }
 
-pub joined_layer : (past : Past) (more : List Object) (b : Bool) → (b ≡ true → AreFit past more InLayer) → IsSoundBuilt (entries_in past) (items_in past) (leaves_in past)
-    → IsSoundBuilt (entries_in past) (items_in past ++ map One (cond b more [])) (leaves_in past + block_count (weight_in (entries_in past)) (cond b more []))
+pub joined_layer : (past : Past) (more : List Object) (b : Bool) → (b ≡ true → AreFit past more InLayer)
+    → IsSoundBuilt (entries_in past) (items_in past) (leaves_in past)
+    → IsSoundBuilt (entries_in past) (items_in past ++ map One (cond b more []))
+    (leaves_in past + block_count (weight_in (entries_in past)) (cond b more []))
 joined_layer past more b fits s = by b more fits
   where
     items : List Item
@@ -169,7 +182,8 @@ joined_layer past more b fits s = by b more fits
         zero_more : leaves ≡ leaves + block_count (weight_in es) []
         zero_more = omega arith
 
-    by : (b : Bool) (more : List Object) → (b ≡ true → AreFit past more InLayer) → IsSoundBuilt es (items ++ map One (cond b more [])) (leaves + block_count (weight_in es) (cond b more []))
+    by : (b : Bool) (more : List Object) → (b ≡ true → AreFit past more InLayer)
+        → IsSoundBuilt es (items ++ map One (cond b more [])) (leaves + block_count (weight_in es) (cond b more []))
     by false more fits = none
     by true [] fits = none
     by true (o ∷ p ∷ more) fits = absurd (fits refl)
@@ -179,9 +193,16 @@ joined_layer past more b fits s = by b more fits
         let few = leb-false 1000000 (length items) counts.0 in
         let room = ltb-false 4000000 (leaves + object_count (weight_in es) o) counts.1 in
         record {
-          each = All-push (IsSoundItem es) items (One o) s.each (one_item es o (record { made = fit.made; leaves = fit.bound; count = omega (arith, room) }));
+          each = All-push (IsSoundItem es) items (One o) s.each
+              (one_item es o (record { made = fit.made; leaves = fit.bound; count = omega (arith, room) }));
           few = omega (arith, few, length-append items (One o ∷ []));
-          count = omega (arith, s.count, one_count es o, sum_by-append (item_count (weight_in es)) items (One o ∷ []), sum_by-cons (item_count (weight_in es)) (One o) []);
+          count = omega (
+            arith,
+            s.count,
+            one_count es o,
+            sum_by-append (item_count (weight_in es)) items (One o ∷ []),
+            sum_by-cons (item_count (weight_in es)) (One o) [],
+          );
           most = omega (arith, room, one_count es o);
         }
 
@@ -197,12 +218,15 @@ pub record IsOpening (o : Opened) : Type 0 where
 abbrev pub IsClosable : Pairs → Opened → List Object → Type 0
 IsClosable es o objects = AreOnBoard (item_leaves (meaning_in es) (Repeat o.columns o.rows o.i o.j objects))
 
-repeat_item : (es : Pairs) (o : Opened) (x : Object) (xs : List Object) (leaves : ℕ) → IsOpening o → IsSoundRepeated es (x ∷ xs) leaves → IsClosable es o (x ∷ xs)
+repeat_item : (es : Pairs) (o : Opened) (x : Object) (xs : List Object) (leaves : ℕ) → IsOpening o
+    → IsSoundRepeated es (x ∷ xs) leaves → IsClosable es o (x ∷ xs)
     → o.columns * o.rows * block_count (weight_in es) (x ∷ xs) ≤ 4000000 → IsSoundItem es (Repeat o.columns o.rows o.i o.j (x ∷ xs))
-repeat_item es o x xs leaves opening s board light Malformed = ((opening.copies, omega arith), All-weaker (IsMade es) IsFormed (λ o m. m.formed) (x ∷ xs) s.each)
+repeat_item es o x xs leaves opening s board light Malformed =
+    ((opening.copies, omega arith), All-weaker (IsMade es) IsFormed (λ o m. m.formed) (x ∷ xs) s.each)
 repeat_item es o x xs leaves opening s board light UnknownAperture = All-weaker (IsMade es) (IsKnown es) (λ o m. m.known) (x ∷ xs) s.each
 repeat_item es o x xs leaves opening s board light UnknownTool = tt
-repeat_item es o x xs leaves opening s board light WrongAperture = All-weaker (IsMade es) (IsDrawable (meaning_in es)) (λ o m. m.drawable) (x ∷ xs) s.each
+repeat_item es o x xs leaves opening s board light WrongAperture =
+    All-weaker (IsMade es) (IsDrawable (meaning_in es)) (λ o m. m.drawable) (x ∷ xs) s.each
 repeat_item es o x xs leaves opening s board light ZeroRadius = All-weaker (IsMade es) HasRadius (λ o m. m.radius) (x ∷ xs) s.each
 repeat_item es o x xs leaves opening s board light OutOfBoard = record {
   points = All-weaker (IsMade es) (λ o. All IsOnBoard (points_of o)) (λ o m. m.points) (x ∷ xs) s.each;
@@ -215,8 +239,10 @@ repeat_item es o x xs leaves opening s board light TooMuch = record {
   leaves = light;
 }
 
-pub settled : (es : Pairs) (items : List Item) (all : ℕ) (o : Opened) (objects : List Object) (leaves : ℕ) → IsOpening o → IsSoundRepeated es objects leaves → IsSoundBuilt es items all
-    → (is_empty (repeat_by o objects) ≡ false → IsClosable es o objects × (length items < 1000000) × (all + o.columns * o.rows * leaves ≤ 4000000))
+pub settled : (es : Pairs) (items : List Item) (all : ℕ) (o : Opened) (objects : List Object) (leaves : ℕ) → IsOpening o
+    → IsSoundRepeated es objects leaves → IsSoundBuilt es items all
+    → (is_empty (repeat_by o objects) ≡ false
+    → IsClosable es o objects × (length items < 1000000) × (all + o.columns * o.rows * leaves ≤ 4000000))
     → IsSoundBuilt es (items ++ repeat_by o objects) (all + o.columns * o.rows * leaves)
 settled es items all o [] leaves opening s b room =
     subst (λ (p : List Item × ℕ). IsSoundBuilt es p.0 p.1) (λ i. (sym (append-nil items) i, zero_more i)) b
@@ -225,11 +251,18 @@ settled es items all o [] leaves opening s b room =
     zero_more = sym (ap (λ n. all + o.columns * o.rows * n) s.count ∙ omega arith)
 settled es items all o (x ∷ xs) leaves opening s b room =
     let fits = room refl in
-    let weighs : o.columns * o.rows * leaves ≡ o.columns * o.rows * block_count (weight_in es) (x ∷ xs) = ap (λ n. o.columns * o.rows * n) s.count in
+    let weighs : o.columns * o.rows * leaves ≡ o.columns * o.rows * block_count (weight_in es) (x ∷ xs) =
+    ap (λ n. o.columns * o.rows * n) s.count in
     let item : Item = Repeat o.columns o.rows o.i o.j (x ∷ xs) in
     record {
       each = All-push (IsSoundItem es) items item b.each (repeat_item es o x xs leaves opening s fits.0 (omega (arith, weighs, fits.2)));
       few = omega (arith, fits.1, length-append items (item ∷ []));
-      count = omega (arith, weighs, b.count, sum_by-append (item_count (weight_in es)) items (item ∷ []), sum_by-cons (item_count (weight_in es)) item []);
+      count = omega (
+        arith,
+        weighs,
+        b.count,
+        sum_by-append (item_count (weight_in es)) items (item ∷ []),
+        sum_by-cons (item_count (weight_in es)) item [],
+      );
       most = fits.2;
     }

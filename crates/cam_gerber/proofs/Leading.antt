@@ -30,7 +30,8 @@ pub record LeadsOn (bytes : List ℕ) (running : Running) (rest : List Answer) :
   pub opens : AreWithin past
   pub leads : (result : Result Content ReadFault) → Leads (length bytes) past rest result → Leads (length bytes) [] (reading 0 bytes) result
 
-pub starts : (bytes : List ℕ) (running : Running) (rest : List Answer) → Tracks [] running → rest ≡ reading 0 bytes → LeadsOn bytes running rest
+pub starts : (bytes : List ℕ) (running : Running) (rest : List Answer) → Tracks [] running → rest ≡ reading 0 bytes
+    → LeadsOn bytes running rest
 starts bytes running rest t e = record {
   past = [];
   none = tt;
@@ -44,28 +45,37 @@ unfolding Means
 means bytes result h = h
 
 -- no end stands in the file
-pub unended : (bytes : List ℕ) (running : Running) (rest : List Answer) → LeadsOn bytes running rest → rest ≡ [] → IsReading bytes (Err (record { code = 26; at = length bytes }))
-unended bytes running rest l e = inl (means bytes _ (l.leads _ (subst (λ all. Leads (length bytes) l.past all (Err (record { code = 26; at = length bytes }))) (sym e) refl)))
+pub unended : (bytes : List ℕ) (running : Running) (rest : List Answer) → LeadsOn bytes running rest → rest ≡ []
+    → IsReading bytes (Err (record { code = 26; at = length bytes }))
+unended bytes running rest l e =
+    inl (means bytes _
+    (l.leads _ (subst (λ all. Leads (length bytes) l.past all (Err (record { code = 26; at = length bytes }))) (sym e) refl)))
 
 -- the text cannot be cut
-pub uncut : (bytes : List ℕ) (running : Running) (rest after : List Answer) (fault : TextFault) → LeadsOn bytes running rest → rest ≡ Err fault ∷ after
+pub uncut : (bytes : List ℕ) (running : Running) (rest after : List Answer) (fault : TextFault) → LeadsOn bytes running rest
+    → rest ≡ Err fault ∷ after
     → IsReading bytes (Err (record { code = fault.code; at = fault.at }))
 uncut bytes running rest after fault l e =
-    inl (means bytes _ (l.leads _ (subst (λ all. Leads (length bytes) l.past all (Err (record { code = fault.code; at = fault.at }))) (sym e)
+    inl (means bytes _
+    (l.leads _ (subst (λ all. Leads (length bytes) l.past all (Err (record { code = fault.code; at = fault.at }))) (sym e)
     (record { says = Uncut fault.code; at = fault.at }, (refl, refl), refl))))
 
-fault_is : (past : Past) (told : Told) (code : ℕ) → least (faults past told.says) ≡ Some code → fault_of past told ≡ Some (record { code = code; at = told.at })
+fault_is : (past : Past) (told : Told) (code : ℕ) → least (faults past told.says) ≡ Some code
+    → fault_of past told ≡ Some (record { code = code; at = told.at })
 fault_is past told code e = ap (option_map (λ (code : ℕ). record { code = code; at = told.at })) e
 
-pub refused : (bytes : List ℕ) (running new : Running) (rest after : List Answer) (word : FoundWord) (code : ℕ) → LeadsOn bytes running rest → rest ≡ Ok word ∷ after
+pub refused : (bytes : List ℕ) (running new : Running) (rest after : List Answer) (word : FoundWord) (code : ℕ)
+    → LeadsOn bytes running rest → rest ≡ Ok word ∷ after
     → Obeys (command_of word) running (Err (Fault code)) new → IsReading bytes (Err (record { code = code; at = place_of word }))
 refused bytes running new rest after word code l e obeys =
     let said = obeys l.past l.none l.tracks in
     let told : Told = record { says = said.0; at = place_of word } in
-    inl (means bytes _ (l.leads _ (subst (λ all. Leads (length bytes) l.past all (Err (record { code = code; at = place_of word }))) (sym e) (
+    inl (means bytes _
+    (l.leads _ (subst (λ all. Leads (length bytes) l.past all (Err (record { code = code; at = place_of word }))) (sym e) (
       told,
       (said.1, refl),
-      subst (λ o. Gives o (is_end told.says) (layer_in (told.says ∷ l.past)) (Leads (length bytes) (told.says ∷ l.past) after (Err (record { code = code; at = place_of word })))
+      subst (λ o. Gives o (is_end told.says) (layer_in (told.says ∷ l.past))
+          (Leads (length bytes) (told.says ∷ l.past) after (Err (record { code = code; at = place_of word })))
           (Err (record { code = code; at = place_of word }))) (sym (fault_is l.past told code said.2)) refl,
     ))))
 
@@ -84,8 +94,10 @@ none_is past told e = ap (option_map (λ (code : ℕ). record { code = code; at 
 content_is : (past : Past) (running : Running) → Tracks past running → content_of running.built.layer ≡ layer_in past
 content_is past running t = ap₂ (λ entries items. record { entries = entries; items = items }) t.built.entries t.built.items
 
-pub ended : (bytes : List ℕ) (running new : Running) (rest after : List Answer) (word : FoundWord) (layer : Layer) → LeadsOn bytes running rest → rest ≡ Ok word ∷ after
-    → Obeys (command_of word) running (Ok tt) new → is_end_command (command_of word) ≡ true → layer ≡ new.built.layer → Means bytes (Ok (content_of layer))
+pub ended : (bytes : List ℕ) (running new : Running) (rest after : List Answer) (word : FoundWord) (layer : Layer)
+    → LeadsOn bytes running rest → rest ≡ Ok word ∷ after
+    → Obeys (command_of word) running (Ok tt) new → is_end_command (command_of word) ≡ true → layer ≡ new.built.layer
+    → Means bytes (Ok (content_of layer))
 ended bytes running new rest after word layer l e obeys ends is =
     let said = obeys l.past l.none l.tracks in
     let told : Told = record { says = said.0; at = place_of word } in
@@ -94,11 +106,14 @@ ended bytes running new rest after word layer l e obeys ends is =
     means bytes result (l.leads result (subst (λ all. Leads (length bytes) l.past all result) (sym e) (
       told,
       (said.1, refl),
-      subst (λ o. Gives o (is_end told.says) (layer_in (told.says ∷ l.past)) (Leads (length bytes) (told.says ∷ l.past) after result) result) (sym (none_is l.past told said.2))
-          (subst (λ b. Gives None b (layer_in (told.says ∷ l.past)) (Leads (length bytes) (told.says ∷ l.past) after result) result) (sym (end_same (command_of word) said.0 said.1 ∙ ends)) (ap Ok same)),
+      subst (λ o. Gives o (is_end told.says) (layer_in (told.says ∷ l.past))
+          (Leads (length bytes) (told.says ∷ l.past) after result) result) (sym (none_is l.past told said.2))
+          (subst (λ b. Gives None b (layer_in (told.says ∷ l.past)) (Leads (length bytes) (told.says ∷ l.past) after result) result)
+          (sym (end_same (command_of word) said.0 said.1 ∙ ends)) (ap Ok same)),
     )))
 
-pub goes_on : (bytes : List ℕ) (running new : Running) (rest after : List Answer) (word : FoundWord) → LeadsOn bytes running rest → rest ≡ Ok word ∷ after
+pub goes_on : (bytes : List ℕ) (running new : Running) (rest after : List Answer) (word : FoundWord) → LeadsOn bytes running rest
+    → rest ≡ Ok word ∷ after
     → Obeys (command_of word) running (Ok tt) new → is_end_command (command_of word) ≡ false → LeadsOn bytes new after
 goes_on bytes running new rest after word l e obeys goes =
     let said = obeys l.past l.none l.tracks in
@@ -111,7 +126,9 @@ goes_on bytes running new rest after word l e obeys goes =
       leads = λ result h. l.leads result (subst (λ all. Leads (length bytes) l.past all result) (sym e) (
         told,
         (said.1, refl),
-        subst (λ o. Gives o (is_end told.says) (layer_in (told.says ∷ l.past)) (Leads (length bytes) (told.says ∷ l.past) after result) result) (sym (none_is l.past told said.2))
-            (subst (λ b. Gives None b (layer_in (told.says ∷ l.past)) (Leads (length bytes) (told.says ∷ l.past) after result) result) (sym (end_same (command_of word) said.0 said.1 ∙ goes)) h),
+        subst (λ o. Gives o (is_end told.says) (layer_in (told.says ∷ l.past))
+            (Leads (length bytes) (told.says ∷ l.past) after result) result) (sym (none_is l.past told said.2))
+            (subst (λ b. Gives None b (layer_in (told.says ∷ l.past))
+            (Leads (length bytes) (told.says ∷ l.past) after result) result) (sym (end_same (command_of word) said.0 said.1 ∙ goes)) h),
       ));
     }

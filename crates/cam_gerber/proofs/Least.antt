@@ -1,5 +1,6 @@
 -- The least number of a table that holds.
-use Rattle.std.proofs.Common.{◌≡◌, ℕ, zero, suc, ◌≤◌, min, [], ◌∷◌, Bool, true, false, cond, Option, Some, None, refl, sym, ap, ◌∙◌, arith, ◌⊎◌, inl, inr}
+use Rattle.std.proofs.Common.{◌≡◌, ℕ, zero, suc, ◌≤◌, min, [], ◌∷◌, Bool, true, false, cond, Option, Some, None, refl}
+use Rattle.std.proofs.Common.{sym, ap, ◌∙◌, arith, ◌⊎◌, inl, inr}
 use Rattle.cam_apertures.specs.Definition.{Table, Tells, IsLeast}
 use Rattle.cam_gerber.specs.Faults.{least, lower_of}
 
@@ -15,14 +16,18 @@ min_either (suc a) (suc b) = elim (min_either a b) [ inl h ↦ inl (omega arith)
 
 pub least_tells : (table : Table) (n : ℕ) → least table ≡ Some n → Tells table n
 least_tells [] n h = absurd cc
-least_tells (fault ∷ table) n h = (elim fault.1 as (λ b. fault.1 ≡ b → cond b (Some (lower_of fault.0 (least table))) (least table) ≡ Some n → Tells (fault ∷ table) n) [
-  | true ↦ λ is e. held (λ m k. least_tells table m k) (least table) refl is (let same : lower_of fault.0 (least table) ≡ n = cc in same)
-  | false ↦ λ is e. inr (least_tells table n e)
-]) refl h
+least_tells (fault ∷ table) n h =
+    (elim fault.1 as (λ b. fault.1 ≡ b → cond b (Some (lower_of fault.0 (least table))) (least table) ≡ Some n → Tells (fault ∷ table) n) [
+      | true ↦ λ is e. held (λ m k. least_tells table m k) (least table) refl is
+          (let same : lower_of fault.0 (least table) ≡ n = cc in same)
+      | false ↦ λ is e. inr (least_tells table n e)
+    ]) refl h
   where
-    held : ((m : ℕ) → least table ≡ Some m → Tells table m) → (o : Option ℕ) → least table ≡ o → fault.1 ≡ true → lower_of fault.0 o ≡ n → Tells (fault ∷ table) n
+    held : ((m : ℕ) → least table ≡ Some m → Tells table m) → (o : Option ℕ) → least table ≡ o → fault.1 ≡ true
+        → lower_of fault.0 o ≡ n → Tells (fault ∷ table) n
     held deeper None l is e = inl (e, is)
-    held deeper (Some m) l is e = elim (min_either fault.0 m) [ inl k ↦ inl (sym k ∙ e, is) | inr k ↦ inr (deeper n (l ∙ ap Some (sym k ∙ e))) ]
+    held deeper (Some m) l is e =
+        elim (min_either fault.0 m) [ inl k ↦ inl (sym k ∙ e, is) | inr k ↦ inr (deeper n (l ∙ ap Some (sym k ∙ e))) ]
 
 -- a number that is no greater is told
 pub least_below : (table : Table) (n : ℕ) → Tells table n → (m : ℕ) × (least table ≡ Some m) × (m ≤ n)
@@ -54,7 +59,8 @@ least_none table h = go (least table) refl
 
 -- a table that tells a number tells one with a row more
 pub told_more : (fault : ℕ × Bool) (table : Table) (n : ℕ) → least table ≡ Some n → (m : ℕ) × (least (fault ∷ table) ≡ Some m)
-told_more fault table n h = elim fault.1 as (λ b. (m : ℕ) × (cond {A = Option ℕ} b (Some (lower_of fault.0 (least table))) (least table) ≡ Some m)) [
-  | true ↦ (lower_of fault.0 (least table), refl)
-  | false ↦ (n, h)
-]
+told_more fault table n h =
+    elim fault.1 as (λ b. (m : ℕ) × (cond {A = Option ℕ} b (Some (lower_of fault.0 (least table))) (least table) ≡ Some m)) [
+      | true ↦ (lower_of fault.0 (least table), refl)
+      | false ↦ (n, h)
+    ]

@@ -1,5 +1,6 @@
 -- The fault that is told is the least.
-use Rattle.std.proofs.Common.{◌≡◌, ℕ, suc, ◌≤◌, List, [], ◌∷◌, ◌++◌, length, Bool, true, false, not, Option, Some, None, Ok, Err, refl, sym, ap, ◌∙◌, subst, arith, inl, inr}
+use Rattle.std.proofs.Common.{◌≡◌, ℕ, suc, ◌≤◌, List, [], ◌∷◌, ◌++◌, length, Bool, true, false, not, Option, Some, None}
+use Rattle.std.proofs.Common.{Ok, Err, refl, sym, ap, ◌∙◌, subst, arith, inl, inr}
 use Rattle.std.specs.Prelude.{◌⊎◌, ◌&&◌, nat_le}
 use Rattle.std.specs.Option.{option_map}
 use Rattle.std.specs.List.{list_all}
@@ -15,7 +16,8 @@ use Rattle.cam_gerber.specs.Layers.{layer_in}
 use Rattle.cam_gerber.specs.Faults.{faults, least}
 use Rattle.cam_gerber.specs.FaultNumbers.{no_end}
 use Rattle.cam_gerber.specs.Reading.{is_end, fault_of, Gives, Leads, Means}
-use Rattle.cam_gerber.specs.Laws.{AreTold, AreEndless, behind, Holds, IsFault, IsNotBehind, TellsLeastFault, GivesFaultlessFiles, IsNoMemoryFault}
+use Rattle.cam_gerber.specs.Laws.{AreTold, AreEndless, behind, Holds, IsFault, IsNotBehind, TellsLeastFault}
+use Rattle.cam_gerber.specs.Laws.{GivesFaultlessFiles, IsNoMemoryFault}
 use Rattle.cam_gerber.proofs.Reading.{same_told}
 use Rattle.cam_gerber.proofs.FaultTables.{least_holds, least_up_to, true_number, true_faults, IsTrueCut}
 use Rattle.cam_gerber.proofs.Places.{place, IsTrueAnswer, IsWithin, reading_within_file}
@@ -43,16 +45,22 @@ unless : (b : Bool) → not b ≡ true → b ≡ false
 unless true e = absurd cc
 unless false e = refl
 
-at_command : (len : ℕ) (past : Past) (before after : List Answer) (answer : Answer) (older : List Told) (told : Told) (g : ReadFault) → AreTold before older → AreEndless older → IsTold answer told
+at_command : (len : ℕ) (past : Past) (before after : List Answer) (answer : Answer) (older : List Told) (told : Told)
+    (g : ReadFault) → AreTold before older → AreEndless older → IsTold answer told
     → g.at ≡ told.at → Holds g.code (faults (behind past older) told.says) → FaultIn len past (before ++ (answer ∷ after)) g
 at_command len past [] after answer [] told g are endless is at holds = (told, is, inl (at, holds))
 at_command len past [] after answer (o ∷ older) told g are endless is at holds = absurd are
 at_command len past (b ∷ before) after answer [] told g are endless is at holds = absurd are
 at_command len past (b ∷ before) after answer (o ∷ older) told g are endless is at holds =
-    let none = both (not (is_end o.says)) (list_all (λ t. not (is_end t.says)) older) endless in
-    (o, are.0, inr (unless (is_end o.says) none.0, at_command len (o.says ∷ past) before after answer older told g are.1 none.1 is at holds))
+    let none = both (not (is_end o.says)) (list_all (λ t. not (is_end t.says)) older) endless in (
+      o,
+      are.0,
+      inr
+          (unless (is_end o.says) none.0, at_command len (o.says ∷ past) before after answer older told g are.1 none.1 is at holds),
+    )
 
-at_end : (len : ℕ) (past : Past) (answers : List Answer) (older : List Told) (g : ReadFault) → AreTold answers older → AreEndless older → g.at ≡ len → g.code ≡ no_end → FaultIn len past answers g
+at_end : (len : ℕ) (past : Past) (answers : List Answer) (older : List Told) (g : ReadFault) → AreTold answers older
+    → AreEndless older → g.at ≡ len → g.code ≡ no_end → FaultIn len past answers g
 at_end len past [] older g are endless at code = (at, code)
 at_end len past (answer ∷ answers) [] g are endless at code = absurd are
 at_end len past (answer ∷ answers) (o ∷ older) g are endless at code =
@@ -60,7 +68,9 @@ at_end len past (answer ∷ answers) (o ∷ older) g are endless at code =
     (o, are.0, inr (unless (is_end o.says) none.0, at_end len (o.says ∷ past) answers older g are.1 none.1 at code))
 
 inside : (bytes : List ℕ) (g : ReadFault) → IsFault bytes g → FaultIn (length bytes) [] (reading 0 bytes) g
-inside bytes g (inl f) = subst (λ answers. FaultIn (length bytes) [] answers g) (sym f.cut) (at_command (length bytes) [] f.before f.after f.answer f.older f.told g f.are_older f.endless f.is_told f.place f.number)
+inside bytes g (inl f) =
+    subst (λ answers. FaultIn (length bytes) [] answers g) (sym f.cut)
+    (at_command (length bytes) [] f.before f.after f.answer f.older f.told g f.are_older f.endless f.is_told f.place f.number)
 inside bytes g (inr f) = at_end (length bytes) [] (reading 0 bytes) f.older g f.are_older f.endless f.place f.number
 
 -- a fault, with what is told before it
@@ -84,14 +94,29 @@ record IsEndless (len : ℕ) (answers : List Answer) (g : ReadFault) : Type 0 wh
   place : g.at ≡ len
   number : g.code ≡ no_end
 
-found : (len : ℕ) (past : Past) (answers : List Answer) (g : ReadFault) → FaultIn len past answers g → IsFound past answers g ⊎ IsEndless len answers g
+found : (len : ℕ) (past : Past) (answers : List Answer) (g : ReadFault) → FaultIn len past answers g
+    → IsFound past answers g ⊎ IsEndless len answers g
 found len past [] g f = inr (record { older = []; are_older = tt; endless = refl; place = f.0; number = f.1 })
 found len past (answer ∷ answers) g f = by f.2 (found len (f.0.says ∷ past) answers g)
   where
     by : IsHere past f.0 g ⊎ IsLater f.0 (FaultIn len (f.0.says ∷ past) answers g)
         → (FaultIn len (f.0.says ∷ past) answers g → IsFound (f.0.says ∷ past) answers g ⊎ IsEndless len answers g)
         → IsFound past (answer ∷ answers) g ⊎ IsEndless len (answer ∷ answers) g
-    by (inl here) more = inl (record { before = []; answer = answer; after = answers; cut = refl; older = []; are_older = tt; endless = refl; told = f.0; is_told = f.1; place = here.0; number = here.1 })
+    by (inl here) more =
+        inl (record {
+          before = [];
+          answer = answer;
+          after = answers;
+          cut = refl;
+          older = [];
+          are_older = tt;
+          endless = refl;
+          told =
+              f.0;
+          is_told = f.1;
+          place = here.0;
+          number = here.1;
+        })
     by (inr later) more = elim (more later.1) [
       | inl k ↦ inl (record {
         before = answer ∷ k.before;
@@ -106,7 +131,15 @@ found len past (answer ∷ answers) g f = by f.2 (found len (f.0.says ∷ past) 
         place = k.place;
         number = k.number;
       })
-      | inr k ↦ inr (record { older = f.0 ∷ k.older; are_older = (f.1, k.are_older); endless = rw later.0 k.endless; place = k.place; number = k.number })
+      | inr k ↦ inr
+          (record {
+            older = f.0 ∷ k.older;
+            are_older = (f.1, k.are_older);
+            endless = rw later.0 k.endless;
+            place = k.place;
+            number =
+                k.number;
+          })
     ]
 
 outside : (bytes : List ℕ) (g : ReadFault) → FaultIn (length bytes) [] (reading 0 bytes) g → IsFault bytes g
@@ -137,22 +170,26 @@ record IsLeast (past : Past) (told : Told) (f : ReadFault) : Type 0 where
 is_least : (past : Past) (told : Told) (f : ReadFault) → fault_of past told ≡ Some f → IsLeast past told f
 is_least past told f e = go (least (faults past told.says)) refl e
   where
-    go : (o : Option ℕ) → least (faults past told.says) ≡ o → option_map (λ code. record { code = code; at = told.at }) o ≡ Some f → IsLeast past told f
+    go : (o : Option ℕ) → least (faults past told.says) ≡ o → option_map (λ code. record { code = code; at = told.at }) o ≡ Some f
+        → IsLeast past told f
     go None is h = absurd cc
     go (Some n) is h =
-        let same : record { code = n; at = told.at } ≡ f = cc in record { at = sym (ap (λ (g : ReadFault). g.at) same); number = is ∙ ap (λ (g : ReadFault). Some g.code) same }
+        let same : record { code = n; at = told.at } ≡ f = cc in
+        record { at = sym (ap (λ (g : ReadFault). g.at) same); number = is ∙ ap (λ (g : ReadFault). Some g.code) same }
 
 -- a statement that is not refused
 pub no_least : (past : Past) (told : Told) → fault_of past told ≡ None → least (faults past told.says) ≡ None
 no_least past told e = go (least (faults past told.says)) refl e
   where
-    go : (o : Option ℕ) → least (faults past told.says) ≡ o → option_map {U = ReadFault} (λ code. record { code = code; at = told.at }) o ≡ None → least (faults past told.says) ≡ None
+    go : (o : Option ℕ) → least (faults past told.says) ≡ o
+        → option_map {U = ReadFault} (λ code. record { code = code; at = told.at }) o ≡ None → least (faults past told.says) ≡ None
     go None is h = is
     go (Some n) is h = absurd cc
 
 -- what is told is a fault
 told_in : (len : ℕ) (past : Past) (answers : List Answer) (f : ReadFault) → Leads len past answers (Err f) → FaultIn len past answers f
-told_in len past [] f h = let same : f ≡ record { code = no_end; at = len } = cc in (ap (λ (g : ReadFault). g.at) same, ap (λ (g : ReadFault). g.code) same)
+told_in len past [] f h = let same : f ≡ record { code = no_end; at = len } = cc in
+    (ap (λ (g : ReadFault). g.at) same, ap (λ (g : ReadFault). g.code) same)
 told_in len past (answer ∷ answers) f h =
     go (fault_of past h.0) refl (is_end h.0.says) refl h.2 (told_in len (h.0.says ∷ past) answers f)
   where
@@ -161,7 +198,8 @@ told_in len past (answer ∷ answers) f h =
         → (Leads len (h.0.says ∷ past) answers (Err f) → FaultIn len (h.0.says ∷ past) answers f) → FaultIn len past (answer ∷ answers) f
     go (Some g) is ends e given more =
         let same : f ≡ g = cc in
-        let at = is_least past h.0 f (is ∙ ap Some (sym same)) in (h.0, h.1, inl (at.at, least_holds (faults past h.0.says) f.code at.number))
+        let at = is_least past h.0 f (is ∙ ap Some (sym same)) in
+        (h.0, h.1, inl (at.at, least_holds (faults past h.0.says) f.code at.number))
     go None is true e given more = absurd cc
     go None is false e given more = (h.0, h.1, inr (e, more given))
 
@@ -170,11 +208,13 @@ place_told (Ok word) told is = is.1
 place_told (Err fault) told is = is.1
 
 -- a fault is not before what is left
-from : (low len : ℕ) (past : Past) (answers : List Answer) (g : ReadFault) → low ≤ len → IsWithin low len answers → FaultIn len past answers g → low ≤ g.at
+from : (low len : ℕ) (past : Past) (answers : List Answer) (g : ReadFault) → low ≤ len → IsWithin low len answers
+    → FaultIn len past answers g → low ≤ g.at
 from low len past [] g le within f = omega (arith, le, f.0)
 from low len past (answer ∷ answers) g le within f = by f.2 (from (suc (place answer)) len (f.0.says ∷ past) answers g within.1 within.3)
   where
-    by : IsHere past f.0 g ⊎ IsLater f.0 (FaultIn len (f.0.says ∷ past) answers g) → (FaultIn len (f.0.says ∷ past) answers g → suc (place answer) ≤ g.at) → low ≤ g.at
+    by : IsHere past f.0 g ⊎ IsLater f.0 (FaultIn len (f.0.says ∷ past) answers g)
+        → (FaultIn len (f.0.says ∷ past) answers g → suc (place answer) ≤ g.at) → low ≤ g.at
     by (inl here) more = omega (arith, here.0, place_told answer f.0 f.1, within.0)
     by (inr later) more = omega (arith, more later.1, within.0)
 
@@ -185,13 +225,15 @@ never_least : (table_least : Option ℕ) (low : ℕ) → table_least ≡ Some lo
 never_least None low some none = absurd cc
 never_least (Some n) low some none = absurd cc
 
-pub not_behind : (len : ℕ) (past : Past) (answers : List Answer) (low : ℕ) (f g : ReadFault) → IsWithin low len answers → Leads len past answers (Err f) → FaultIn len past answers g → IsNotBehind f g
+pub not_behind : (len : ℕ) (past : Past) (answers : List Answer) (low : ℕ) (f g : ReadFault) → IsWithin low len answers
+    → Leads len past answers (Err f) → FaultIn len past answers g → IsNotBehind f g
 not_behind len past [] low f g within h k =
     let same : f ≡ record { code = no_end; at = len } = cc in
     inr (ap (λ (e : ReadFault). e.at) same ∙ sym k.0, omega (arith, ap (λ (e : ReadFault). e.code) same, k.1))
 not_behind len past (answer ∷ answers) low f g within h k =
     let same : k.0 ≡ h.0 = same_told answer k.0 h.0 k.1 h.1 in
-    go (fault_of past h.0) refl (is_end h.0.says) refl h.2 (subst (Found len past answers g) same k.2) (not_behind len (h.0.says ∷ past) answers (suc (place answer)) f g within.3)
+    go (fault_of past h.0) refl (is_end h.0.says) refl h.2 (subst (Found len past answers g) same k.2)
+    (not_behind len (h.0.says ∷ past) answers (suc (place answer)) f g within.3)
   where
     go : (o : Option ReadFault) → fault_of past h.0 ≡ o → (ends : Bool) → is_end h.0.says ≡ ends
         → Gives o ends (layer_in (h.0.says ∷ past)) (Leads len (h.0.says ∷ past) answers (Err f)) (Err f) → Found len past answers g h.0
@@ -206,7 +248,12 @@ not_behind len past (answer ∷ answers) low f g within h k =
     go (Some e) is ends ending given (inr later) more =
         let same : f ≡ e = cc in
         let at = is_least past h.0 f (is ∙ ap Some (sym same)) in
-        inl (omega (arith, at.at, place_told answer h.0 h.1, from (suc (place answer)) len (h.0.says ∷ past) answers g within.1 within.3 later.1))
+        inl (omega (
+          arith,
+          at.at,
+          place_told answer h.0 h.1,
+          from (suc (place answer)) len (h.0.says ∷ past) answers g within.1 within.3 later.1,
+        ))
     go None is true ending given other more = absurd cc
     go None is false ending given (inl here) more =
         let up = least_up_to (faults past h.0.says) g.code here.1 in
@@ -226,18 +273,22 @@ never_true : (b : Bool) → b ≡ true → b ≡ false → ⊥
 never_true true e k = absurd cc
 never_true false e k = absurd cc
 
-faultless : (len : ℕ) (past : Past) (answers : List Answer) (layer : Content) (g : ReadFault) → Leads len past answers (Ok layer) → FaultIn len past answers g → ⊥
+faultless : (len : ℕ) (past : Past) (answers : List Answer) (layer : Content) (g : ReadFault) → Leads len past answers (Ok layer)
+    → FaultIn len past answers g → ⊥
 faultless len past [] layer g h k = absurd cc
 faultless len past (answer ∷ answers) layer g h k =
     let same : k.0 ≡ h.0 = same_told answer k.0 h.0 k.1 h.1 in
-    go (fault_of past h.0) refl (is_end h.0.says) refl h.2 (subst (Found len past answers g) same k.2) (faultless len (h.0.says ∷ past) answers layer g)
+    go (fault_of past h.0) refl (is_end h.0.says) refl h.2 (subst (Found len past answers g) same k.2)
+    (faultless len (h.0.says ∷ past) answers layer g)
   where
     go : (o : Option ReadFault) → fault_of past h.0 ≡ o → (ends : Bool) → is_end h.0.says ≡ ends
-        → Gives o ends (layer_in (h.0.says ∷ past)) (Leads len (h.0.says ∷ past) answers (Ok layer)) (Ok layer) → Found len past answers g h.0
+        → Gives o ends (layer_in (h.0.says ∷ past)) (Leads len (h.0.says ∷ past) answers (Ok layer)) (Ok layer)
+        → Found len past answers g h.0
         → (Leads len (h.0.says ∷ past) answers (Ok layer) → FaultIn len (h.0.says ∷ past) answers g → ⊥) → ⊥
     go (Some e) is ends ending given other more = absurd cc
     go None is ends ending given (inl here) more =
-        let up = least_up_to (faults past h.0.says) g.code here.1 in never_least (least (faults past h.0.says)) up.0 up.1 (no_least past h.0 is)
+        let up = least_up_to (faults past h.0.says) g.code here.1 in
+        never_least (least (faults past h.0.says)) up.0 up.1 (no_least past h.0 is)
     go None is true ending given (inr later) more = never_true (is_end h.0.says) ending later.0
     go None is false ending given (inr later) more = more given later.1
 
@@ -263,7 +314,8 @@ true_cut (Ok word) told is t = elim told.says as (λ s. IsSaidBy (command_of wor
 ] is.0
 true_cut (Err fault) told is t = subst IsTrueCut (sym is.0) t
 
-true_fault : (low len : ℕ) (past : Past) (answers : List Answer) (g : ReadFault) → IsWithin low len answers → FaultIn len past answers g → nat_le g.code 29 ≡ true
+true_fault : (low len : ℕ) (past : Past) (answers : List Answer) (g : ReadFault) → IsWithin low len answers
+    → FaultIn len past answers g → nat_le g.code 29 ≡ true
 true_fault low len past [] g within f = ap (λ n. nat_le n 29) f.1
 true_fault low len past (answer ∷ answers) g within f = by f.2 (true_fault (suc (place answer)) len (f.0.says ∷ past) answers g within.3)
   where
@@ -274,7 +326,8 @@ true_fault low len past (answer ∷ answers) g within f = by f.2 (true_fault (su
 pub faults_are_numbered : (bytes : List ℕ) (f : ReadFault) → Means bytes (Err f) → f.code ≤ 29
 unfolding Means
 faults_are_numbered bytes f h =
-    leb-true f.code 29 (true_fault 0 (length bytes) [] (reading 0 bytes) f (reading_within_file bytes) (told_in (length bytes) [] (reading 0 bytes) f h))
+    leb-true f.code 29
+    (true_fault 0 (length bytes) [] (reading 0 bytes) f (reading_within_file bytes) (told_in (length bytes) [] (reading 0 bytes) f h))
 
 pub no_fault_is_memory : IsNoMemoryFault
 no_fault_is_memory bytes f h thirty = omega (arith, thirty, faults_are_numbered bytes f h)

@@ -21,28 +21,36 @@ said (DefineAperture text) h = absurd h
 said (DefineMacro text) h = absurd h
 said _ h = refl
 
-pub obeys : (command : Command) (old new : Running) (result : Result (Unit {0}) Stop) → IsPlain command → Takes command old result new → Obeys command old result new
+pub obeys : (command : Command) (old new : Running) (result : Result (Unit {0}) Stop) → IsPlain command
+    → Takes command old result new → Obeys command old result new
 obeys command old new (Ok done) plain takes = λ past none t.
     let k = takes past none t in
     (Says command, said command plain, least_of_command past command plain ∙ k.0, k.1)
 obeys command old new (Err Memory) plain takes = tt
-obeys command old new (Err (Fault code)) plain takes = λ past none t. (Says command, said command plain, least_of_command past command plain ∙ takes past none t)
+obeys command old new (Err (Fault code)) plain takes =
+    λ past none t. (Says command, said command plain, least_of_command past command plain ∙ takes past none t)
 
 -- what holds behind a front of a table that tells nothing holds of the whole table
-lift : (result : Result (Unit {0}) Stop) (front rest : Table) (P : Type 0) → first_of front ≡ None → Answers result rest P → Answers result (front ++ rest) P
+lift : (result : Result (Unit {0}) Stop) (front rest : Table) (P : Type 0) → first_of front ≡ None → Answers result rest P
+    → Answers result (front ++ rest) P
 lift (Ok done) front rest P none h = (passed front rest none ∙ h.0, h.1)
 lift (Err Memory) front rest P none h = tt
 lift (Err (Fault code)) front rest P none h = passed front rest none ∙ h
 
 -- an operation, by what it does
-pub operates : (past : Past) (operation : Operation) (code : OperationCode) (region : Bool) (result : Result (Unit {0}) Stop) (P : Type 0) → code_of operation ≡ code → in_region past ≡ region
-    → first_of (leading_faults past operation) ≡ None → Answers result (operated_faults code region past operation) P → Answers result (command_faults past (Operate operation)) P
+pub operates : (past : Past) (operation : Operation) (code : OperationCode) (region : Bool) (result : Result (Unit {0}) Stop)
+    (P : Type 0) → code_of operation ≡ code → in_region past ≡ region
+    → first_of (leading_faults past operation) ≡ None → Answers result (operated_faults code region past operation) P
+    → Answers result (command_faults past (Operate operation)) P
 operates past operation code region result P c r none h =
     lift result (leading_faults past operation) (operated_faults (code_of operation) (in_region past) past operation) P none
-    (subst (λ k. Answers result (operated_faults k (in_region past) past operation) P) (sym c) (subst (λ b. Answers result (operated_faults code b past operation) P) (sym r) h))
+    (subst (λ k. Answers result (operated_faults k (in_region past) past operation) P) (sym c)
+    (subst (λ b. Answers result (operated_faults code b past operation) P) (sym r) h))
 
-pub leads : (past : Past) (operation : Operation) (code : ℕ) → first_of (leading_faults past operation) ≡ Some code → first_of (command_faults past (Operate operation)) ≡ Some code
-leads past operation code h = told_before (leading_faults past operation) (operated_faults (code_of operation) (in_region past) past operation) code h
+pub leads : (past : Past) (operation : Operation) (code : ℕ) → first_of (leading_faults past operation) ≡ Some code
+    → first_of (command_faults past (Operate operation)) ≡ Some code
+leads past operation code h =
+    told_before (leading_faults past operation) (operated_faults (code_of operation) (in_region past) past operation) code h
 
 -- a text that nobody reads
 pub idle : (past : Past) (r : Running) → Tracks past r → Tracks (Says Nothing ∷ past) r

@@ -15,12 +15,23 @@ use Rattle.cam_commands.specs.declared.parts.Mirror.{Mirror}
 use Rattle.cam_commands.specs.declared.parts.Polarity.{Polarity}
 use Rattle.cam_commands.specs.declared.parts.OperationCode.{OperationCode}
 use Rattle.cam_commands.specs.declared.names.Name.{Name}
-use Rattle.cam_commands.specs.declared.names.Name.TheVariants.{FormatSpecification, UnitMode, ApertureDefinition, ApertureMacro, ApertureBlock, StepAndRepeat, LoadPolarity, LoadMirroring, LoadRotation, LoadScaling, Free, Old}
-use Rattle.cam_commands.specs.Commands.{Command, SetFormat, RefusedFormat, SetUnit, SetPolarity, SetMirror, SetRotation, SetScale, CloseBlock, SetRepeat, CloseRepeat, NeutralOld, RefusedOld, SetMode, SingleQuadrant, MultiQuadrant, BeginRegion, EndRegion, Nothing, End, Unknown}
+use Rattle.cam_commands.specs.declared.names.Name.TheVariants.{FormatSpecification, UnitMode, ApertureDefinition}
+use Rattle.cam_commands.specs.declared.names.Name.TheVariants.{ApertureMacro, ApertureBlock, StepAndRepeat}
+use Rattle.cam_commands.specs.declared.names.Name.TheVariants.{LoadPolarity, LoadMirroring, LoadRotation, LoadScaling}
+use Rattle.cam_commands.specs.declared.names.Name.TheVariants.{Free, Old}
+use Rattle.cam_commands.specs.Commands.{Command, SetFormat, RefusedFormat, SetUnit, SetPolarity, SetMirror, SetRotation}
+use Rattle.cam_commands.specs.Commands.{SetScale, CloseBlock, SetRepeat, CloseRepeat, NeutralOld, RefusedOld, SetMode}
+use Rattle.cam_commands.specs.Commands.{SingleQuadrant, MultiQuadrant, BeginRegion, EndRegion, Nothing, End, Unknown}
 use Rattle.cam_numbers.specs.Numbers.{natural}
 use Rattle.cam_commands.specs.Fields.{field}
-use Rattle.cam_commands.specs.WordCommands.{Parts, by_run, by_code, by_mode, by_operation_code, operate, said_by, selection, operation_of, operation, prefixed_selection, lone_function, function, program_code, by_function, word_command}
-use Rattle.cam_commands.specs.ExtendedCommands.{name_of, format_by, format_of, format_by_head, format_of_axes, is_format_digit, is_same_format, format_command, unit_command, polarity_command, mirror_command, rotation_command, scale_command, open_block, block_command, repeat_command, named_command, by_name, extended_command}
+use Rattle.cam_commands.specs.WordCommands.{Parts, by_run, by_code, by_mode, by_operation_code, operate, said_by}
+use Rattle.cam_commands.specs.WordCommands.{selection, operation_of, operation, prefixed_selection, lone_function}
+use Rattle.cam_commands.specs.WordCommands.{function, program_code, by_function, word_command}
+use Rattle.cam_commands.specs.ExtendedCommands.{name_of, format_by, format_of, format_by_head, format_of_axes}
+use Rattle.cam_commands.specs.ExtendedCommands.{is_format_digit, is_same_format, format_command, unit_command}
+use Rattle.cam_commands.specs.ExtendedCommands.{polarity_command, mirror_command, rotation_command, scale_command}
+use Rattle.cam_commands.specs.ExtendedCommands.{open_block, block_command, repeat_command, named_command, by_name}
+use Rattle.cam_commands.specs.ExtendedCommands.{extended_command}
 use Rattle.cam_commands.specs.Syntax.{command_by, command_of}
 use Rattle.cam_gerber.specs.Machinery.OpenNumbers.{OpensWithin}
 use Rattle.cam_gerber.specs.Machinery.Tracking.{HasFewDecimals}
@@ -39,7 +50,8 @@ coded : (o : Option ℕ) (meaning : ℕ → Command) → ((n : ℕ) → IsWithin
 coded None meaning h = record { opens = tt; short = tt }
 coded (Some n) meaning h = h n
 
-running : (o : Option (List ℕ)) (meaning : List ℕ → Command) (otherwise : Command) → ((run : List ℕ) → IsWithin (meaning run)) → IsWithin otherwise → IsWithin (by_run o meaning otherwise)
+running : (o : Option (List ℕ)) (meaning : List ℕ → Command) (otherwise : Command) → ((run : List ℕ) → IsWithin (meaning run))
+    → IsWithin otherwise → IsWithin (by_run o meaning otherwise)
 running None meaning otherwise h k = k
 running (Some run) meaning otherwise h k = h run
 
@@ -100,11 +112,13 @@ lone code = search (either, begins, ends, sets_unit, single, multi, nothing, ref
 
 moded : (mode : Option Mode) (rest : List ℕ) (otherwise : Command) → IsWithin otherwise → IsWithin (by_mode mode rest otherwise)
 moded None rest otherwise h = h
-moded (Some mode) rest otherwise h = either _ (SetMode mode) (operation (Some mode) rest) (record { opens = tt; short = tt }) (operation_within (Some mode) rest)
+moded (Some mode) rest otherwise h =
+    either _ (SetMode mode) (operation (Some mode) rest) (record { opens = tt; short = tt }) (operation_within (Some mode) rest)
 
 functions : (rest : List ℕ) (code : ℕ) → IsWithin (function rest code)
 unfolding function
-functions rest code = moded _ rest _ (either _ (prefixed_selection rest) _ (prefixed rest) (either _ (lone_function code) Unknown (lone code) unknown))
+functions rest code =
+    moded _ rest _ (either _ (prefixed_selection rest) _ (prefixed rest) (either _ (lone_function code) Unknown (lone code) unknown))
 
 programs : (code : ℕ) → IsWithin (program_code code)
 unfolding program_code
@@ -118,9 +132,11 @@ words : (text : List ℕ) → IsWithin (word_command text)
 unfolding word_command
 words text =
     let m = field 77 text in
-    either (length text == 0) Nothing (by_run m.0 (λ run. cond (length m.1 == 0) (by_code (natural run) program_code) Unknown) (by_function (field 71 text) text)) nothing
+    either (length text == 0) Nothing
+    (by_run m.0 (λ run. cond (length m.1 == 0) (by_code (natural run) program_code) Unknown) (by_function (field 71 text) text)) nothing
     (running m.0 (λ run. cond (length m.1 == 0) (by_code (natural run) program_code) Unknown) (by_function (field 71 text) text)
-    (λ run. either (length m.1 == 0) (by_code (natural run) program_code) Unknown (coded (natural run) program_code programs) unknown) (by_g (field 71 text) text))
+    (λ run. either (length m.1 == 0) (by_code (natural run) program_code) Unknown
+    (coded (natural run) program_code programs) unknown) (by_g (field 71 text) text))
 
 -- ---- extended commands
 
@@ -132,7 +148,8 @@ blocks : (text : List ℕ) → IsWithin (block_command text)
 unfolding block_command
 blocks text =
     let d = field 68 text in
-    either (length text == 0) CloseBlock (cond (length d.1 == 0) (open_block d.0) Unknown) (record { opens = tt; short = tt }) (either (length d.1 == 0) (open_block d.0) Unknown (opened d.0) unknown)
+    either (length text == 0) CloseBlock (cond (length d.1 == 0) (open_block d.0) Unknown) (record { opens = tt; short = tt })
+    (either (length d.1 == 0) (open_block d.0) Unknown (opened d.0) unknown)
 
 sets_format : (format : Format) → format.decimals ≤ 6 → IsWithin (SetFormat format)
 sets_format format few = record { opens = tt; short = few }
@@ -168,7 +185,8 @@ scales text = either _ (SetScale _) Unknown (record { opens = tt; short = tt }) 
 
 repeats : (text : List ℕ) → IsWithin (repeat_command text)
 unfolding repeat_command
-repeats text = either _ CloseRepeat _ (record { opens = tt; short = tt }) (either _ (SetRepeat _) Unknown (record { opens = tt; short = tt }) unknown)
+repeats text =
+    either _ CloseRepeat _ (record { opens = tt; short = tt }) (either _ (SetRepeat _) Unknown (record { opens = tt; short = tt }) unknown)
 
 digit_small : (d : ℕ) → is_format_digit d ≡ true → d - 48 ≤ 6
 digit_small d h = grind (arith, nat_tests)
@@ -179,7 +197,8 @@ few_decimals [] = tt
 few_decimals (i ∷ []) = tt
 few_decimals (i ∷ d ∷ []) = go (is_format_digit i) (is_format_digit d) refl
   where
-    go : (a b : Bool) → is_format_digit d ≡ b → IfSome {T = Format} (cond (a && b) (Some (record { integers = i - 48; decimals = d - 48 })) None) (λ (f : Format). f.decimals ≤ 6)
+    go : (a b : Bool) → is_format_digit d ≡ b
+        → IfSome {T = Format} (cond (a && b) (Some (record { integers = i - 48; decimals = d - 48 })) None) (λ (f : Format). f.decimals ≤ 6)
     go true true e = digit_small d e
     go true false e = tt
     go false b e = tt
@@ -200,7 +219,8 @@ formats_of axes =
     let x = field 88 axes in
     let y = field 89 x.1 in
     let f = option_and_then format_of x.0 in
-    let g = option_and_then format_of y.0 in either (length y.1 == 0) (format_by f g) RefusedFormat (formats_by f g (few_of x.0)) refused_format
+    let g = option_and_then format_of y.0 in
+    either (length y.1 == 0) (format_by f g) RefusedFormat (formats_by f g (few_of x.0)) refused_format
 
 formats_head : (o : Option (List ℕ)) → IsWithin (format_by_head o)
 formats_head None = refused_format

@@ -25,15 +25,20 @@ length_map past [] = refl
 length_map past (n ∷ outer) = omega (arith, length_map past outer)
 
 -- a block is opened
-pub opened_tracks : (past : Past) (old : Running) (n : ℕ) (blocks : VecDeque Frame Global) → Tracks past old → is_taken past n ≡ false → old.region.inside ≡ false → is_some old.frames.repeat ≡ false
-    → nat_le 8 (length old.frames.blocks.items) ≡ false → blocks.items ≡ record { number = n; objects = []; leaves = 0 } ∷ old.frames.blocks.items
-    → (first_of (command_faults past (OpenBlock (Some n))) ≡ None) × Tracks (Says (OpenBlock (Some n)) ∷ past) (record old { frames = record old.frames { blocks = blocks } })
+pub opened_tracks : (past : Past) (old : Running) (n : ℕ) (blocks : VecDeque Frame Global) → Tracks past old
+    → is_taken past n ≡ false → old.region.inside ≡ false → is_some old.frames.repeat ≡ false
+    → nat_le 8 (length old.frames.blocks.items) ≡ false
+    → blocks.items ≡ record { number = n; objects = []; leaves = 0 } ∷ old.frames.blocks.items
+    → (first_of (command_faults past (OpenBlock (Some n))) ≡ None)
+    × Tracks (Says (OpenBlock (Some n)) ∷ past) (record old { frames = record old.frames { blocks = blocks } })
 opened_tracks past old n blocks t free outside closed few written =
     let u = unused n past free in
     let region : in_region past ≡ false = sym t.region.inside ∙ outside in
     let repeat : is_some (open_repeat past) ≡ false = sym (is_some_map _ (open_repeat past)) ∙ ap is_some (sym t.frames.repeat) ∙ closed in
-    let room : nat_le 8 (length (open_blocks past)) ≡ false = ap (nat_le 8) (sym (length_map past (open_blocks past)) ∙ ap length (sym t.frames.blocks)) ∙ few in (
-      ap (λ b. cond {A = Option ℕ} b (Some 10) (cond (in_region past || is_some (open_repeat past)) (Some 22) (cond (nat_le 8 (length (open_blocks past))) (Some 25) None))) free
+    let room : nat_le 8 (length (open_blocks past)) ≡ false =
+    ap (nat_le 8) (sym (length_map past (open_blocks past)) ∙ ap length (sym t.frames.blocks)) ∙ few in (
+      ap (λ b. cond {A = Option ℕ} b (Some 10)
+          (cond (in_region past || is_some (open_repeat past)) (Some 22) (cond (nat_le 8 (length (open_blocks past))) (Some 25) None))) free
           ∙ ap₂ (λ b d. cond {A = Option ℕ} (b || d) (Some 22) (cond (nat_le 8 (length (open_blocks past))) (Some 25) None)) region repeat
           ∙ ap (λ b. cond {A = Option ℕ} b (Some 25) None) room,
       record {
@@ -52,7 +57,8 @@ opened_tracks past old n blocks t free outside closed few written =
         region = record { inside = t.region.inside; start = t.region.start; segs = t.region.segs };
         frames = record {
           blocks = written ∙ ap₂ (λ (b : Frame) (rest : List Frame). b ∷ rest)
-              (ap₂ (λ (all : List Object) (m : ℕ). record { number = n; objects = all; leaves = m }) (sym u.objects) (sym u.leaves)) t.frames.blocks;
+              (ap₂ (λ (all : List Object) (m : ℕ). record { number = n; objects = all; leaves = m }) (sym u.objects) (sym u.leaves))
+              t.frames.blocks;
           repeat = t.frames.repeat;
         };
         built = record { entries = t.built.entries; items = t.built.items; macros = t.built.macros; leaves = t.built.leaves };
@@ -64,7 +70,8 @@ none_from None h = refl
 none_from (Some x) h = absurd cc
 
 -- the innermost block has a number that no entry has
-pub closing_is_free : (old : Running) (block : Frame) (rest : List Frame) → HasPast old → old.frames.blocks.items ≡ block ∷ rest → lookup (nat_eq block.number) old.built.layer.apertures ≡ None
+pub closing_is_free : (old : Running) (block : Frame) (rest : List Frame) → HasPast old → old.frames.blocks.items ≡ block ∷ rest
+    → lookup (nat_eq block.number) old.built.layer.apertures ≡ None
 closing_is_free old block rest h is = go (open_blocks h.0) refl
   where
     past : Past

@@ -23,28 +23,34 @@ use Rattle.cam_gerber.specs.Laws.{IsFaultless}
 use Rattle.cam_shapes.specs.Contour.{end_of}
 use Rattle.cam_units.specs.declared.length.Nm.{Nm}
 use Rattle.cam_gerber.specs.Statements.{Says}
-use Rattle.cam_gerber.specs.State.{Past, mode_in, mode_told, newest, point_in, centre_of, code_of, has_arcs, in_region, aperture_in, turn_in, dark_in}
+use Rattle.cam_gerber.specs.State.{Past, mode_in, mode_told, newest, point_in, centre_of, code_of, has_arcs, in_region}
+use Rattle.cam_gerber.specs.State.{aperture_in, turn_in, dark_in}
 use Rattle.cam_gerber.specs.Homes.{home}
 use Rattle.cam_gerber.specs.Making.{segment, stroke, stroke_of, number_in, made}
 use Rattle.cam_gerber.specs.Layers.{entries_in}
 use Rattle.cam_gerber.specs.Faults.{operated_faults, plot_faults, path_faults, is_full, is_unfit, is_arc}
-use Rattle.cam_gerber.specs.Machinery.Tracking.{Tracks, TracksModal, TracksRegion, Keeps, IsOperated, mode_by, moved_point, centre_by, path_table, stroke_along, first_of}
+use Rattle.cam_gerber.specs.Machinery.Tracking.{Tracks, TracksModal, TracksRegion, Keeps, IsOperated, mode_by}
+use Rattle.cam_gerber.specs.Machinery.Tracking.{moved_point, centre_by, path_table, stroke_along, first_of}
 
 -- ---- tables
 
 pub told_before : (table rest : Table) (code : ℕ) → first_of table ≡ Some code → first_of (table ++ rest) ≡ Some code
 told_before [] rest code h = absurd cc
-told_before (fault ∷ table) rest code h = elim fault.1 as (λ b. cond b (Some fault.0) (first_of table) ≡ Some code → cond b (Some fault.0) (first_of (table ++ rest)) ≡ Some code) [
-  | true ↦ λ e. e
-  | false ↦ λ e. told_before table rest code e
-] h
+told_before (fault ∷ table) rest code h =
+    elim fault.1 as (λ b. cond b (Some fault.0) (first_of table) ≡ Some code
+    → cond b (Some fault.0) (first_of (table ++ rest)) ≡ Some code) [
+      | true ↦ λ e. e
+      | false ↦ λ e. told_before table rest code e
+    ] h
 
 pub passed : (table rest : Table) → first_of table ≡ None → first_of (table ++ rest) ≡ first_of rest
 passed [] rest h = refl
-passed (fault ∷ table) rest h = elim fault.1 as (λ b. cond b (Some fault.0) (first_of table) ≡ None → cond b (Some fault.0) (first_of (table ++ rest)) ≡ first_of rest) [
-  | true ↦ λ e. absurd cc
-  | false ↦ λ e. passed table rest e
-] h
+passed (fault ∷ table) rest h =
+    elim fault.1 as (λ b. cond b (Some fault.0) (first_of table) ≡ None
+    → cond b (Some fault.0) (first_of (table ++ rest)) ≡ first_of rest) [
+      | true ↦ λ e. absurd cc
+      | false ↦ λ e. passed table rest e
+    ] h
 
 -- ---- values in force
 
@@ -52,25 +58,31 @@ either : (a b : Option Mode) (m d : Mode) → m ≡ unwrap_or b d → unwrap_or 
 either None b m d h = h
 either (Some mode) b m d h = refl
 
-pub mode_same : (past : Past) (m : Modal) (operation : Operation) → TracksModal past m → mode_by m operation ≡ mode_in (Says (Operate operation) ∷ past)
+pub mode_same : (past : Past) (m : Modal) (operation : Operation) → TracksModal past m
+    → mode_by m operation ≡ mode_in (Says (Operate operation) ∷ past)
 mode_same past m operation t = either operation.mode (newest mode_told past) m.mode Linear t.mode
 
-pub point_same : (past : Past) (m : Modal) (operation : Operation) → TracksModal past m → moved_point m operation ≡ point_in (Says (Operate operation) ∷ past)
+pub point_same : (past : Past) (m : Modal) (operation : Operation) → TracksModal past m
+    → moved_point m operation ≡ point_in (Says (Operate operation) ∷ past)
 point_same past m operation t = rw (t.format, t.unit, t.point) refl
 
 pub centre_same : (past : Past) (m : Modal) (operation : Operation) → TracksModal past m → centre_by m operation ≡ centre_of past operation
 centre_same past m operation t = rw (t.format, t.unit, t.point) refl
 
-pub table_same : (past : Past) (m : Modal) (operation : Operation) → TracksModal past m → path_table m operation ≡ plot_faults past operation
+pub table_same : (past : Past) (m : Modal) (operation : Operation) → TracksModal past m
+    → path_table m operation ≡ plot_faults past operation
 table_same past m operation t =
     let now = Says (Operate operation) ∷ past in
     ap (λ mode. path_faults (is_arc mode) m.arcs m.point (moved_point m operation) (centre_by m operation)) (mode_same past m operation t)
     ∙ ap (λ arcs. path_faults (is_arc (mode_in now)) arcs m.point (moved_point m operation) (centre_by m operation)) t.arcs
     ∙ ap (λ from. path_faults (is_arc (mode_in now)) (has_arcs past) from (moved_point m operation) (centre_by m operation)) t.point
-    ∙ ap (λ to. path_faults (is_arc (mode_in now)) (has_arcs past) (point_in past) to (centre_by m operation)) (point_same past m operation t)
-    ∙ ap (λ centre. path_faults (is_arc (mode_in now)) (has_arcs past) (point_in past) (point_in now) centre) (centre_same past m operation t)
+    ∙ ap (λ to. path_faults (is_arc (mode_in now)) (has_arcs past) (point_in past) to (centre_by m operation))
+    (point_same past m operation t)
+    ∙ ap (λ centre. path_faults (is_arc (mode_in now)) (has_arcs past) (point_in past) (point_in now) centre)
+    (centre_same past m operation t)
 
-pub operated_tracks : (past : Past) (m n : Modal) (operation : Operation) (to : Point) → TracksModal past m → IsOperated m operation to n → to ≡ moved_point m operation
+pub operated_tracks : (past : Past) (m n : Modal) (operation : Operation) (to : Point) → TracksModal past m
+    → IsOperated m operation to n → to ≡ moved_point m operation
     → TracksModal (Says (Operate operation) ∷ past) n
 operated_tracks past m n operation to t is e = record {
   format = is.format ∙ t.format;
@@ -88,12 +100,14 @@ operated_tracks past m n operation to t is e = record {
 -- ---- contours
 
 -- an operation outside a region leaves the contour
-pub contour_stays : (past : Past) (r : Region) (operation : Operation) → TracksRegion past r → in_region past ≡ false → TracksRegion (Says (Operate operation) ∷ past) r
+pub contour_stays : (past : Past) (r : Region) (operation : Operation) → TracksRegion past r → in_region past ≡ false
+    → TracksRegion (Says (Operate operation) ∷ past) r
 contour_stays past r operation t h = record { inside = t.inside; start = rw h t.start; segs = rw h t.segs }
 
 -- ---- strokes
 
-along : (m : Modal) (n : ℕ) (mode : Mode) (to centre : Point) → stroke_along m n (segment mode to centre) ≡ stroke mode n m.point to centre (after m.mirror m.rotation) m.dark
+along : (m : Modal) (n : ℕ) (mode : Mode) (to centre : Point)
+    → stroke_along m n (segment mode to centre) ≡ stroke mode n m.point to centre (after m.mirror m.rotation) m.dark
 along m n Linear to centre = refl
 along m n Clockwise to centre = refl
 along m n Counterclockwise to centre = refl
@@ -102,7 +116,17 @@ pub stroke_same : (past : Past) (m : Modal) (n : ℕ) (operation : Operation) �
     → stroke_along m n (segment (mode_by m operation) (moved_point m operation) (centre_by m operation)) ≡ stroke_of past operation
 stroke_same past m n operation t a =
     along m n (mode_by m operation) (moved_point m operation) (centre_by m operation)
-    ∙ rw (mode_same past m operation t, point_same past m operation t, centre_same past m operation t, sym t.aperture ∙ a, t.point, t.mirror, t.rotation, t.dark) refl
+    ∙ rw (
+      mode_same past m operation t,
+      point_same past m operation t,
+      centre_same past m operation t,
+      sym t.aperture
+          ∙ a,
+      t.point,
+      t.mirror,
+      t.rotation,
+      t.dark,
+    ) refl
 
 pub stroke_count : (weigh : ℕ → Weighing) (mode : Mode) (n : ℕ) (from to centre : Point) (turn : Turn) (dark : Bool)
     → (1 ≡ object_count weigh (stroke mode n from to centre turn dark)) × (0 ≡ object_depth weigh (stroke mode n from to centre turn dark))
@@ -115,18 +139,23 @@ none_by None k = absurd cc
 none_by (Some w) k = refl
 
 -- a stroke with a solid circle is refused for its path or its home alone
-pub stroke_table : (past : Past) (m : Modal) (entries : List (ℕ × Entry)) (n : ℕ) (operation : Operation) → TracksModal past m → entries ≡ entries_in past → m.aperture ≡ Some n
+pub stroke_table : (past : Past) (m : Modal) (entries : List (ℕ × Entry)) (n : ℕ) (operation : Operation) → TracksModal past m
+    → entries ≡ entries_in past → m.aperture ≡ Some n
     → true ≡ is_some (meaning_in entries n).width
-    → first_of (operated_faults Plot false past operation) ≡ first_of (path_table m operation ++ (25, is_full (home past) past (stroke_of past operation)) ∷ [])
+    → first_of (operated_faults Plot false past operation)
+    ≡ first_of (path_table m operation ++ (25, is_full (home past) past (stroke_of past operation)) ∷ [])
 stroke_table past m entries n operation t e a solid =
     let some : aperture_in past ≡ Some n = sym t.aperture ∙ a in
-    let fit : is_unfit past (Some n) ≡ false = none_by (meaning_in (entries_in past) n).width (solid ∙ ap (λ es. is_some (meaning_in es n).width) e) in
+    let fit : is_unfit past (Some n) ≡ false =
+    none_by (meaning_in (entries_in past) n).width (solid ∙ ap (λ es. is_some (meaning_in es n).width) e) in
     let rest : Table = (25, is_full (home past) past (stroke_of past operation)) ∷ [] in
-    ap (λ o. cond {A = Option ℕ} (is_none o) (Some 15) (cond (is_unfit past o) (Some 16) (first_of (plot_faults past operation ++ rest)))) some
+    ap (λ o. cond {A = Option ℕ} (is_none o) (Some 15)
+    (cond (is_unfit past o) (Some 16) (first_of (plot_faults past operation ++ rest)))) some
     ∙ ap (λ b. cond {A = Option ℕ} b (Some 16) (first_of (plot_faults past operation ++ rest))) fit
     ∙ ap (λ table. first_of (table ++ rest)) (sym (table_same past m operation t))
 
-pub stroke_made : (past : Past) (operation : Operation) → in_region past ≡ false → code_of operation ≡ Plot → made past (Says (Operate operation)) ≡ stroke_of past operation ∷ []
+pub stroke_made : (past : Past) (operation : Operation) → in_region past ≡ false → code_of operation ≡ Plot
+    → made past (Says (Operate operation)) ≡ stroke_of past operation ∷ []
 stroke_made past operation h e = rw (e, h) refl
 
 pub end_same : (mode : Mode) (to centre : Point) → end_of (segment mode to centre) ≡ to
@@ -135,25 +164,34 @@ end_same Clockwise to centre = refl
 end_same Counterclockwise to centre = refl
 
 -- a stroke joins its home
-pub stroke_tracks : (past : Past) (operation : Operation) (old kept : Running) (m : Modal) (n : ℕ) (seg : Seg) → IsFaultless past → Tracks past old → in_region past ≡ false → code_of operation ≡ Plot
-    → old.modal.aperture ≡ Some n → true ≡ is_some (meaning_in old.built.layer.apertures n).width → first_of (path_table old.modal operation) ≡ None
+pub stroke_tracks : (past : Past) (operation : Operation) (old kept : Running) (m : Modal) (n : ℕ) (seg : Seg) → IsFaultless past
+    → Tracks past old → in_region past ≡ false → code_of operation ≡ Plot
+    → old.modal.aperture ≡ Some n → true ≡ is_some (meaning_in old.built.layer.apertures n).width
+    → first_of (path_table old.modal operation) ≡ None
     → seg ≡ segment (mode_by old.modal operation) (moved_point old.modal operation) (centre_by old.modal operation)
-    → ((object : Object) → 1 ≡ object_count (weight_in old.built.layer.apertures) object → 0 ≡ object_depth (weight_in old.built.layer.apertures) object → false ≡ is_full (home past) past object)
+    → ((object : Object) → 1 ≡ object_count (weight_in old.built.layer.apertures) object
+    → 0 ≡ object_depth (weight_in old.built.layer.apertures) object → false ≡ is_full (home past) past object)
     → Keeps (stroke_along old.modal n seg) 1 old kept → IsOperated kept.modal operation (end_of seg) m
     → (first_of (operated_faults Plot false past operation) ≡ None) × Tracks (Says (Operate operation) ∷ past) (record kept { modal = m })
 stroke_tracks past operation old kept m n seg none t out plots a solid path seg_is full keeps done =
-    let object : stroke_along old.modal n seg ≡ stroke_of past operation = ap (stroke_along old.modal n) seg_is ∙ stroke_same past old.modal n operation t.modal a in
+    let object : stroke_along old.modal n seg ≡ stroke_of past operation = ap (stroke_along old.modal n) seg_is
+    ∙ stroke_same past old.modal n operation t.modal a in
     let now = Says (Operate operation) ∷ past in
-    let counts = stroke_count (weight_in old.built.layer.apertures) (mode_in now) (number_in past) (point_in past) (point_in now) (centre_of past operation) (turn_in past) (dark_in past) in
+    let counts = stroke_count (weight_in old.built.layer.apertures) (mode_in now) (number_in past) (point_in past) (point_in now)
+    (centre_of past operation) (turn_in past) (dark_in past) in
     let room : is_full (home past) past (stroke_of past operation) ≡ false = sym (full (stroke_of past operation) counts.0 counts.1) in
-    let made_is : made past (Says (Operate operation)) ≡ stroke_along old.modal n seg ∷ [] = stroke_made past operation out plots ∙ ap (λ o. o ∷ []) (sym object) in
+    let made_is : made past (Says (Operate operation)) ≡ stroke_along old.modal n seg ∷ [] = stroke_made past operation out plots
+    ∙ ap (λ o. o ∷ []) (sym object) in
     let places = keeps.places past (Says (Operate operation)) none (record { frames = t.frames; built = t.built }) tt made_is
-    (counts.0 ∙ ap (object_count (weight_in old.built.layer.apertures)) (sym object) ∙ ap (λ es. object_count (weight_in es) (stroke_along old.modal n seg)) t.built.entries)
+    (counts.0 ∙ ap (object_count (weight_in old.built.layer.apertures)) (sym object)
+    ∙ ap (λ es. object_count (weight_in es) (stroke_along old.modal n seg)) t.built.entries)
     (ap (is_full (home past) past) object ∙ room) in (
       stroke_table past old.modal old.built.layer.apertures n operation t.modal t.built.entries a solid
-          ∙ passed (path_table old.modal operation) ((25, is_full (home past) past (stroke_of past operation)) ∷ []) path ∙ ap (λ b. cond {A = Option ℕ} b (Some 25) None) room,
+          ∙ passed (path_table old.modal operation) ((25, is_full (home past) past (stroke_of past operation)) ∷ []) path
+          ∙ ap (λ b. cond {A = Option ℕ} b (Some 25) None) room,
       record {
-        modal = operated_tracks past old.modal m operation (end_of seg) t.modal (subst (λ (k : Modal). IsOperated k operation (end_of seg) m) keeps.modal done)
+        modal = operated_tracks past old.modal m operation (end_of seg) t.modal
+            (subst (λ (k : Modal). IsOperated k operation (end_of seg) m) keeps.modal done)
             (ap end_of seg_is ∙ end_same (mode_by old.modal operation) (moved_point old.modal operation) (centre_by old.modal operation));
         region = contour_stays past kept.region operation (subst (TracksRegion past) (sym keeps.region) t.region) out;
         frames = places.frames;
@@ -162,13 +200,17 @@ stroke_tracks past operation old kept m n seg none t out plots a solid path seg_
     )
 
 -- its home is full
-pub stroke_full : (past : Past) (operation : Operation) (old : Running) (n : ℕ) → Tracks past old → old.modal.aperture ≡ Some n → true ≡ is_some (meaning_in old.built.layer.apertures n).width
+pub stroke_full : (past : Past) (operation : Operation) (old : Running) (n : ℕ) → Tracks past old → old.modal.aperture ≡ Some n
+    → true ≡ is_some (meaning_in old.built.layer.apertures n).width
     → first_of (path_table old.modal operation) ≡ None
-    → ((object : Object) → 1 ≡ object_count (weight_in old.built.layer.apertures) object → 0 ≡ object_depth (weight_in old.built.layer.apertures) object → true ≡ is_full (home past) past object)
+    → ((object : Object) → 1 ≡ object_count (weight_in old.built.layer.apertures) object
+    → 0 ≡ object_depth (weight_in old.built.layer.apertures) object → true ≡ is_full (home past) past object)
     → first_of (operated_faults Plot false past operation) ≡ Some 25
 stroke_full past operation old n t a solid path full =
     let now = Says (Operate operation) ∷ past in
-    let counts = stroke_count (weight_in old.built.layer.apertures) (mode_in now) (number_in past) (point_in past) (point_in now) (centre_of past operation) (turn_in past) (dark_in past) in
+    let counts = stroke_count (weight_in old.built.layer.apertures) (mode_in now) (number_in past) (point_in past) (point_in now)
+    (centre_of past operation) (turn_in past) (dark_in past) in
     let room : is_full (home past) past (stroke_of past operation) ≡ true = sym (full (stroke_of past operation) counts.0 counts.1) in
     stroke_table past old.modal old.built.layer.apertures n operation t.modal t.built.entries a solid
-    ∙ passed (path_table old.modal operation) ((25, is_full (home past) past (stroke_of past operation)) ∷ []) path ∙ ap (λ b. cond {A = Option ℕ} b (Some 25) None) room
+    ∙ passed (path_table old.modal operation) ((25, is_full (home past) past (stroke_of past operation)) ∷ []) path
+    ∙ ap (λ b. cond {A = Option ℕ} b (Some 25) None) room

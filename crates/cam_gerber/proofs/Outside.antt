@@ -10,10 +10,12 @@ use Rattle.cam_units.specs.declared.point.Point.{Point}
 use Rattle.cam_objects.specs.declared.entry.Entry.{Entry}
 use Rattle.cam_objects.specs.declared.item.Item.{Item}
 use Rattle.cam_objects.specs.declared.item_fault.ItemFault.{ItemFault}
-use Rattle.cam_objects.specs.declared.item_fault.ItemFault.TheVariants.{Malformed, UnknownAperture, UnknownTool, WrongAperture, ZeroRadius, OutOfBoard, TooMuch}
+use Rattle.cam_objects.specs.declared.item_fault.ItemFault.TheVariants.{Malformed, UnknownAperture, UnknownTool}
+use Rattle.cam_objects.specs.declared.item_fault.ItemFault.TheVariants.{WrongAperture, ZeroRadius, OutOfBoard, TooMuch}
 use Rattle.cam_objects.specs.Leaves.{Leaf, item_leaves, meaning_in}
 use Rattle.cam_objects.specs.Refusals.{Tells}
-use Rattle.cam_objects.specs.Soundness.{AreOnBoard, HasRadius, IsDrawable, IsFormed, IsInside, IsKnown, MeetsItem, objects_of, points_of, points_of_shape}
+use Rattle.cam_objects.specs.Soundness.{AreOnBoard, HasRadius, IsDrawable, IsFormed, IsInside, IsKnown, MeetsItem}
+use Rattle.cam_objects.specs.Soundness.{objects_of, points_of, points_of_shape}
 use Rattle.cam_gerber.specs.State.{Past}
 use Rattle.cam_gerber.specs.Layers.{entries_in}
 use Rattle.cam_gerber.specs.Faults.{are_on_board, is_on_board, is_outside}
@@ -29,13 +31,17 @@ passes_board p h = rw (lt-ltb (unsigned_abs p.x) 1000000000 h.x, lt-ltb (unsigne
 
 pub leaves_pass : (leaves : List Leaf) → AreOnBoard leaves → are_on_board leaves ≡ true
 leaves_pass leaves h =
-    list_all-from_AllPass _ leaves (All-weaker (λ (l : Leaf). All IsOnBoard (points_of_shape l.shape)) (λ (l : Leaf). list_all is_on_board (points_of_shape l.shape) ≡ true)
-    (λ l points. list_all-from_AllPass is_on_board (points_of_shape l.shape) (All-weaker IsOnBoard (λ p. is_on_board p ≡ true) passes_board (points_of_shape l.shape) points)) leaves h)
+    list_all-from_AllPass _ leaves
+    (All-weaker (λ (l : Leaf). All IsOnBoard (points_of_shape l.shape))
+    (λ (l : Leaf). list_all is_on_board (points_of_shape l.shape) ≡ true)
+    (λ l points. list_all-from_AllPass is_on_board (points_of_shape l.shape)
+    (All-weaker IsOnBoard (λ p. is_on_board p ≡ true) passes_board (points_of_shape l.shape) points)) leaves h)
 
 leaves_on_board : (leaves : List Leaf) → are_on_board leaves ≡ true → AreOnBoard leaves
 leaves_on_board leaves h =
     All-weaker (λ (l : Leaf). list_all is_on_board (points_of_shape l.shape) ≡ true) (λ (l : Leaf). All IsOnBoard (points_of_shape l.shape))
-    (λ l points. All-weaker (λ p. is_on_board p ≡ true) IsOnBoard on_board (points_of_shape l.shape) (AllPass-from_list_all is_on_board (points_of_shape l.shape) points)) leaves
+    (λ l points. All-weaker (λ p. is_on_board p ≡ true) IsOnBoard on_board (points_of_shape l.shape)
+    (AllPass-from_list_all is_on_board (points_of_shape l.shape) points)) leaves
     (AllPass-from_list_all _ leaves h)
 
 module _ (es : List (ℕ × Entry)) (item : Item) (well : IsWellMadeItem es item) where
@@ -61,7 +67,8 @@ module _ (es : List (ℕ × Entry)) (item : Item) (well : IsWellMadeItem es item
   outside_if : (on : Bool) → are_on_board (item_leaves (meaning_in es) item) ≡ on → IsInside es item → on ≡ true
   outside_if on e h = sym e ∙ leaves_pass _ h.leaves
 
-  told_by : (r : Result (Unit {0}) ItemFault) (on : Bool) → are_on_board (item_leaves (meaning_in es) item) ≡ on → Tells (MeetsItem es item) r → is_of_board r ≡ not on
+  told_by : (r : Result (Unit {0}) ItemFault) (on : Bool) → are_on_board (item_leaves (meaning_in es) item) ≡ on
+      → Tells (MeetsItem es item) r → is_of_board r ≡ not on
   told_by (Ok done) true e h = refl
   told_by (Ok done) false e h = absurd (false≢true (outside_if false e (h OutOfBoard)))
   told_by (Err OutOfBoard) true e h = absurd (h.unmet (inside e))
@@ -75,11 +82,13 @@ module _ (es : List (ℕ × Entry)) (item : Item) (well : IsWellMadeItem es item
   told_by (Err ZeroRadius) on e h = absurd (h.unmet radii)
 
 -- a check tells the board exactly where a leaf lies outside
-pub told_outside : (es : List (ℕ × Entry)) (item : Item) (r : Result (Unit {0}) ItemFault) → IsWellMadeItem es item → Tells (MeetsItem es item) r
+pub told_outside : (es : List (ℕ × Entry)) (item : Item) (r : Result (Unit {0}) ItemFault) → IsWellMadeItem es item
+    → Tells (MeetsItem es item) r
     → is_of_board r ≡ not (are_on_board (item_leaves (meaning_in es) item))
 told_outside es item r well h = told_by es item well r (are_on_board (item_leaves (meaning_in es) item)) refl h
 
 -- the same as it is said of a past
-pub outside_is : (past : Past) (stands : Item) → is_outside past stands ≡ not (are_on_board (item_leaves (meaning_in (entries_in past)) stands))
+pub outside_is : (past : Past) (stands : Item)
+    → is_outside past stands ≡ not (are_on_board (item_leaves (meaning_in (entries_in past)) stands))
 unfolding is_outside
 outside_is past stands = refl

@@ -1,5 +1,7 @@
 -- What pasts have made: homes do not collide, and a home that was left never comes back.
-use Rattle.std.proofs.Common.{◌≡◌, ◌≢◌, ℕ, zero, suc, ◌+◌, ◌<◌, List, [], ◌∷◌, ◌++◌, length, drop, get_or, Bool, true, false, cond, eqb, eq-eqb, Option, Some, None, refl, sym, ap, ap₂, ◌∙◌, arith, ◌⊎◌, inl, inr}
+use Rattle.std.proofs.Common.{◌≡◌, ◌≢◌, ℕ, zero, suc, ◌+◌, ◌<◌, List, [], ◌∷◌, ◌++◌, length, drop, get_or, Bool, true}
+use Rattle.std.proofs.Common.{false, cond, eqb, eq-eqb, Option, Some, None, refl, sym, ap, ap₂, ◌∙◌, arith, ◌⊎◌, inl}
+use Rattle.std.proofs.Common.{inr}
 use Rattle.std.specs.Prelude.{map, ◌||◌, ◌&&◌, not, ◌==◌, unwrap_or, is_some, nat_eq}
 use Rattle.std.specs.List.{list_any, AllByRecursion, AllPairs}
 use Rattle.std.specs.Map.{lookup}
@@ -10,9 +12,11 @@ use Rattle.cam_objects.specs.Weights.{block_count, weight_in}
 use Rattle.cam_commands.specs.Commands.{OpenBlock, CloseBlock, SetRepeat, CloseRepeat, End, EndRegion, Operate, DefineAperture}
 use Rattle.cam_gerber.specs.Statements.{Statement, Says}
 use Rattle.cam_gerber.specs.State.{Past}
-use Rattle.cam_gerber.specs.Homes.{open_blocks, Opened, opened, is_repeated, open_repeat, Home, InBlock, InLayer, home_by, home, is_same_home}
+use Rattle.cam_gerber.specs.Homes.{open_blocks, Opened, opened, is_repeated, open_repeat, Home, InBlock, InLayer}
+use Rattle.cam_gerber.specs.Homes.{home_by, home, is_same_home}
 use Rattle.cam_gerber.specs.Making.{made, made_at, objects_of}
-use Rattle.cam_gerber.specs.Layers.{entries_in, items_in, leaves_of, leaves_in, macros_in, item_at, closed_block, defined_by, numbered_aperture}
+use Rattle.cam_gerber.specs.Layers.{entries_in, items_in, leaves_of, leaves_in, macros_in, item_at, closed_block}
+use Rattle.cam_gerber.specs.Layers.{defined_by, numbered_aperture}
 use Rattle.cam_gerber.specs.Faults.{least, lower_of, command_faults, is_defined, is_taken, is_taken_again, is_empty}
 use Rattle.cam_gerber.specs.State.{in_region, unit_in, unit_or_mm}
 use Rattle.cam_apertures.specs.Definition.{Table, Definition, definition_of, numbered}
@@ -67,7 +71,8 @@ elsewhere h past says e = rw e refl
 pub here : (h : Home) (past : Past) (says : Statement) → is_same_home (home past) h ≡ true → made_at h past says ≡ made past says
 here h past says e = rw e refl
 
-pub home_is : (past : Past) (numbers : List ℕ) (repeat : Option Opened) → open_blocks past ≡ numbers → open_repeat past ≡ repeat → home past ≡ home_by numbers repeat
+pub home_is : (past : Past) (numbers : List ℕ) (repeat : Option Opened) → open_blocks past ≡ numbers → open_repeat past ≡ repeat
+    → home past ≡ home_by numbers repeat
 home_is past numbers repeat h k = rw (h, k) refl
 
 -- ---- what a command without a fault has met
@@ -79,10 +84,11 @@ NoneHolds (fault ∷ table) = (fault.1 ≡ false) × NoneHolds table
 
 pub none_holds : (table : Table) → least table ≡ None → NoneHolds table
 none_holds [] h = tt
-none_holds (fault ∷ table) h = (elim fault.1 as (λ b. fault.1 ≡ b → cond b (Some (lower_of fault.0 (least table))) (least table) ≡ None → NoneHolds (fault ∷ table)) [
-  | true ↦ λ is e. absurd cc
-  | false ↦ λ is e. (is, none_holds table e)
-]) refl h
+none_holds (fault ∷ table) h =
+    (elim fault.1 as (λ b. fault.1 ≡ b → cond b (Some (lower_of fault.0 (least table))) (least table) ≡ None → NoneHolds (fault ∷ table)) [
+      | true ↦ λ is e. absurd cc
+      | false ↦ λ is e. (is, none_holds table e)
+    ]) refl h
 
 -- ---- homes do not collide
 
@@ -102,12 +108,14 @@ pub record StayApart (past : Past) : Type 0 where
   pub entries : AreFree (entries_in past) (open_blocks past)
   pub repeat : (open_blocks past ≡ []) ⊎ (open_repeat past ≡ None)
 
-lookup_append : (es : List (ℕ × Entry)) (n m : ℕ) (e : Entry) → eqb n m ≡ false → lookup (nat_eq n) (es ++ (m, e) ∷ []) ≡ lookup (nat_eq n) es
+lookup_append : (es : List (ℕ × Entry)) (n m : ℕ) (e : Entry) → eqb n m ≡ false
+    → lookup (nat_eq n) (es ++ (m, e) ∷ []) ≡ lookup (nat_eq n) es
 lookup_append [] n m e h = rw h refl
 lookup_append (x ∷ es) n m e h = ap (λ o. cond (nat_eq n x.0) (Some x.1) o) (lookup_append es n m e h)
 
 -- a number that is no open block's may be defined
-still_free : (es : List (ℕ × Entry)) (m : ℕ) (e : Entry) (numbers : List ℕ) → has m numbers ≡ false → AreFree es numbers → AreFree (es ++ (m, e) ∷ []) numbers
+still_free : (es : List (ℕ × Entry)) (m : ℕ) (e : Entry) (numbers : List ℕ) → has m numbers ≡ false → AreFree es numbers
+    → AreFree (es ++ (m, e) ∷ []) numbers
 still_free es m e [] h free = tt
 still_free es m e (n ∷ numbers) h free =
     let parts = or_parts (eqb n m) (has m numbers) h in
@@ -125,14 +133,16 @@ closed past (n ∷ outer) h free = (h.1, still_free (entries_in past) n _ outer 
 unchanged : (es : List (ℕ × Entry)) (numbers : List ℕ) → AreFree es numbers → AreFree (es ++ []) numbers
 unchanged es numbers free = rw append-nil free
 
-numbering : (past : Past) (n : Option ℕ) (aperture : Option Aperture) → is_taken_again past n ≡ false → AreFree (entries_in past) (open_blocks past)
+numbering : (past : Past) (n : Option ℕ) (aperture : Option Aperture) → is_taken_again past n ≡ false
+    → AreFree (entries_in past) (open_blocks past)
     → AreFree (entries_in past ++ numbered_aperture n aperture) (open_blocks past)
 numbering past None aperture h free = unchanged (entries_in past) (open_blocks past) free
 numbering past (Some n) None h free = unchanged (entries_in past) (open_blocks past) free
 numbering past (Some n) (Some a) h free =
     still_free (entries_in past) n _ (open_blocks past) (or_parts (is_defined past n) (has n (open_blocks past)) h).1 free
 
-defining : (past : Past) (d : Option Definition) (macros : List Macro) (unit : FileUnit) → is_taken_again past (numbered d) ≡ false → AreFree (entries_in past) (open_blocks past)
+defining : (past : Past) (d : Option Definition) (macros : List Macro) (unit : FileUnit) → is_taken_again past (numbered d) ≡ false
+    → AreFree (entries_in past) (open_blocks past)
     → AreFree (entries_in past ++ defined_by d macros unit) (open_blocks past)
 defining past None macros unit h free = unchanged (entries_in past) (open_blocks past) free
 defining past (Some d) macros unit h free = numbering past (defined_number d.number) _ h free
@@ -141,14 +151,16 @@ outside : (numbers : List ℕ) (repeat : Option Opened) → (numbers ≡ []) ⊎
 outside numbers repeat (inl none) = inl (ap (drop 1) none)
 outside numbers repeat (inr none) = inr none
 
-repeating : (many empty : Bool) (numbers : List ℕ) (o : Opened) → (many && not (is_empty numbers)) ≡ false → (numbers ≡ []) ⊎ (cond many (Some o) None ≡ None)
+repeating : (many empty : Bool) (numbers : List ℕ) (o : Opened) → (many && not (is_empty numbers)) ≡ false
+    → (numbers ≡ []) ⊎ (cond many (Some o) None ≡ None)
 repeating true empty [] o h = inl refl
 repeating true empty (n ∷ outer) o h = absurd cc
 repeating false empty numbers o h = inr refl
 
 pub stay_apart : (past : Past) → IsFaultless past → StayApart past
 stay_apart [] h = record { numbers = tt; entries = tt; repeat = inl refl }
-stay_apart (Says (OpenBlock None) ∷ older) h = absurd (let met : true ≡ false = (none_holds (command_faults older (OpenBlock None)) h.0).0 in cc)
+stay_apart (Says (OpenBlock None) ∷ older) h =
+    absurd (let met : true ≡ false = (none_holds (command_faults older (OpenBlock None)) h.0).0 in cc)
 stay_apart (Says (OpenBlock (Some n)) ∷ older) h =
     let met = none_holds (command_faults older (OpenBlock (Some n))) h.0 in
     let before = stay_apart older h.1 in
@@ -166,29 +178,47 @@ stay_apart (Says CloseBlock ∷ older) h =
 stay_apart (Says (DefineAperture text) ∷ older) h =
     let before = stay_apart older h.1 in
     let met = none_holds (command_faults older (DefineAperture text)) h.0 in
-    record { numbers = before.numbers; entries = defining older (definition_of text) (macros_in older) (unit_or_mm (unit_in older)) met.1.0 before.entries; repeat = before.repeat }
+    record {
+      numbers = before.numbers;
+      entries =
+          defining older (definition_of text) (macros_in older) (unit_or_mm (unit_in older)) met.1.0 before.entries;
+      repeat = before.repeat;
+    }
 stay_apart (Says (SetRepeat repeat) ∷ older) h =
     let before = stay_apart older h.1 in
     let met = none_holds (command_faults older (SetRepeat repeat)) h.0 in
-    record { numbers = before.numbers; entries = before.entries; repeat = repeating (is_repeated repeat) (is_repeated repeat) (open_blocks older) (opened older repeat) met.1.1.0 }
-stay_apart (Says CloseRepeat ∷ older) h = let before = stay_apart older h.1 in record { numbers = before.numbers; entries = before.entries; repeat = inr refl }
-stay_apart (Says End ∷ older) h = let before = stay_apart older h.1 in record { numbers = before.numbers; entries = before.entries; repeat = inr refl }
-stay_apart (_ ∷ older) h = let before = stay_apart older h.1 in record { numbers = before.numbers; entries = before.entries; repeat = before.repeat }
+    record {
+      numbers = before.numbers;
+      entries = before.entries;
+      repeat =
+          repeating (is_repeated repeat) (is_repeated repeat) (open_blocks older) (opened older repeat) met.1.1.0;
+    }
+stay_apart (Says CloseRepeat ∷ older) h = let before = stay_apart older h.1 in
+    record { numbers = before.numbers; entries = before.entries; repeat = inr refl }
+stay_apart (Says End ∷ older) h = let before = stay_apart older h.1 in
+    record { numbers = before.numbers; entries = before.entries; repeat = inr refl }
+stay_apart (_ ∷ older) h = let before = stay_apart older h.1 in
+    record { numbers = before.numbers; entries = before.entries; repeat = before.repeat }
 
 -- ---- an object in the innermost block
 
-pub others_stay : (past : Past) (says : Statement) (n : ℕ) (outer : List ℕ) → Joins past says → home past ≡ InBlock n → has n outer ≡ false → map (block_of (says ∷ past)) outer ≡ map (block_of past) outer
+pub others_stay : (past : Past) (says : Statement) (n : ℕ) (outer : List ℕ) → Joins past says → home past ≡ InBlock n
+    → has n outer ≡ false → map (block_of (says ∷ past)) outer ≡ map (block_of past) outer
 others_stay past says n [] j h e = refl
 others_stay past says n (m ∷ outer) j h e =
     let parts = or_parts (eqb m n) (has n outer) e in
-    let away : made_at (InBlock m) past says ≡ [] = elsewhere (InBlock m) past says (rw h (ne_eqb n m (λ k. eqb-false m n parts.0 (sym k)))) in
-    let objects : objects_of (InBlock m) (says ∷ past) ≡ objects_of (InBlock m) past = j.objects (InBlock m) ∙ ap (λ all. objects_of (InBlock m) past ++ all) away ∙ append-nil _ in
-    let leaves : leaves_of (InBlock m) (says ∷ past) ≡ leaves_of (InBlock m) past = omega (arith, j.leaves (InBlock m), ap (block_count (weight_in (entries_in past))) away) in
+    let away : made_at (InBlock m) past says ≡ [] =
+    elsewhere (InBlock m) past says (rw h (ne_eqb n m (λ k. eqb-false m n parts.0 (sym k)))) in
+    let objects : objects_of (InBlock m) (says ∷ past) ≡ objects_of (InBlock m) past = j.objects (InBlock m)
+    ∙ ap (λ all. objects_of (InBlock m) past ++ all) away ∙ append-nil _ in
+    let leaves : leaves_of (InBlock m) (says ∷ past) ≡ leaves_of (InBlock m) past =
+    omega (arith, j.leaves (InBlock m), ap (block_count (weight_in (entries_in past))) away) in
     rw (objects, leaves, others_stay past says n outer j h parts.1) refl
 
 -- ---- a number that is not taken has no objects
 
-not_home : (n : ℕ) (blocks : List ℕ) (repeat : Option Opened) → has n blocks ≡ false → is_same_home (home_by blocks repeat) (InBlock n) ≡ false
+not_home : (n : ℕ) (blocks : List ℕ) (repeat : Option Opened) → has n blocks ≡ false
+    → is_same_home (home_by blocks repeat) (InBlock n) ≡ false
 not_home n [] None h = refl
 not_home n [] (Some repeat) h = refl
 not_home n (m ∷ outer) repeat h = (or_parts (eqb m n) (has n outer) h).0
@@ -198,7 +228,8 @@ pub record IsUnused (n : ℕ) (past : Past) : Type 0 where
   pub objects : objects_of (InBlock n) past ≡ []
   pub leaves : leaves_of (InBlock n) past ≡ 0
 
-still_unused : (n : ℕ) (past : Past) (says : Statement) → IsMaker says → has n (open_blocks past) ≡ false → IsUnused n past → IsUnused n (says ∷ past)
+still_unused : (n : ℕ) (past : Past) (says : Statement) → IsMaker says → has n (open_blocks past) ≡ false → IsUnused n past
+    → IsUnused n (says ∷ past)
 still_unused n past says maker h u =
     let j = joins past says maker in
     let away = elsewhere (InBlock n) past says (not_home n (open_blocks past) (open_repeat past) h) in
@@ -207,18 +238,25 @@ still_unused n past says maker h u =
       leaves = omega (arith, j.leaves (InBlock n), u.leaves, ap (block_count (weight_in (entries_in past))) away);
     }
 
-lookup_before : (es : List (ℕ × Entry)) (n m : ℕ) (e : Entry) → is_some (lookup (nat_eq n) (es ++ (m, e) ∷ [])) ≡ false → (is_some (lookup (nat_eq n) es) ≡ false) × (eqb n m ≡ false)
-lookup_before [] n m e h = (elim (eqb n m) as (λ b. is_some (cond b (Some e) None) ≡ false → (false ≡ false) × (b ≡ false)) [ true ↦ λ k. absurd cc | false ↦ λ k. (refl, refl) ]) h
-lookup_before (x ∷ es) n m e h = (elim (nat_eq n x.0) as (λ b. is_some (cond b (Some x.1) (lookup (nat_eq n) (es ++ (m, e) ∷ []))) ≡ false → (is_some (cond b (Some x.1) (lookup (nat_eq n) es)) ≡ false) × (eqb n m ≡ false)) [
-  | true ↦ λ k. absurd cc
-  | false ↦ λ k. lookup_before es n m e k
-]) h
+lookup_before : (es : List (ℕ × Entry)) (n m : ℕ) (e : Entry) → is_some (lookup (nat_eq n) (es ++ (m, e) ∷ [])) ≡ false
+    → (is_some (lookup (nat_eq n) es) ≡ false) × (eqb n m ≡ false)
+lookup_before [] n m e h =
+    (elim (eqb n m) as (λ b. is_some (cond b (Some e) None) ≡ false → (false ≡ false) × (b ≡ false))
+    [ true ↦ λ k. absurd cc | false ↦ λ k. (refl, refl) ]) h
+lookup_before (x ∷ es) n m e h =
+    (elim (nat_eq n x.0)
+    as (λ b. is_some (cond b (Some x.1) (lookup (nat_eq n) (es ++ (m, e) ∷ []))) ≡ false
+    → (is_some (cond b (Some x.1) (lookup (nat_eq n) es)) ≡ false) × (eqb n m ≡ false)) [
+      | true ↦ λ k. absurd cc
+      | false ↦ λ k. lookup_before es n m e k
+    ]) h
 
 eqb-swap : (m n : ℕ) → eqb m n ≡ false → eqb n m ≡ false
 eqb-swap m n h = ne_eqb n m (λ e. eqb-false m n h (sym e))
 
 -- a number that was not taken before a command either
-before_close : (n : ℕ) (past : Past) (numbers : List ℕ) → (is_some (lookup (nat_eq n) (entries_in past ++ closed_block past numbers)) || has n (drop 1 numbers)) ≡ false
+before_close : (n : ℕ) (past : Past) (numbers : List ℕ)
+    → (is_some (lookup (nat_eq n) (entries_in past ++ closed_block past numbers)) || has n (drop 1 numbers)) ≡ false
     → (is_defined past n || has n numbers) ≡ false
 before_close n past [] h = rw append-nil at h
 before_close n past (m ∷ outer) h =
@@ -226,44 +264,54 @@ before_close n past (m ∷ outer) h =
     let both = lookup_before (entries_in past) n m _ parts.0 in
     rw (both.0, eqb-swap n m both.1, parts.1) refl
 
-before_number : (n : ℕ) (past : Past) (k : Option ℕ) (aperture : Option Aperture) → is_some (lookup (nat_eq n) (entries_in past ++ numbered_aperture k aperture)) ≡ false → is_defined past n ≡ false
+before_number : (n : ℕ) (past : Past) (k : Option ℕ) (aperture : Option Aperture)
+    → is_some (lookup (nat_eq n) (entries_in past ++ numbered_aperture k aperture)) ≡ false → is_defined past n ≡ false
 before_number n past None aperture h = rw append-nil at h
 before_number n past (Some k) None h = rw append-nil at h
 before_number n past (Some k) (Some a) h = (lookup_before (entries_in past) n k _ h).0
 
-before_definition : (n : ℕ) (past : Past) (d : Option Definition) (macros : List Macro) (unit : FileUnit) → is_some (lookup (nat_eq n) (entries_in past ++ defined_by d macros unit)) ≡ false
+before_definition : (n : ℕ) (past : Past) (d : Option Definition) (macros : List Macro) (unit : FileUnit)
+    → is_some (lookup (nat_eq n) (entries_in past ++ defined_by d macros unit)) ≡ false
     → is_defined past n ≡ false
 before_definition n past None macros unit h = rw append-nil at h
 before_definition n past (Some d) macros unit h = before_number n past (defined_number d.number) _ h
 
 pub unused : (n : ℕ) (past : Past) → is_taken past n ≡ false → IsUnused n past
 unused n [] h = record { objects = refl; leaves = refl }
-unused n (Says (Operate operation) ∷ older) h = still_unused n older (Says (Operate operation)) tt (or_parts (is_defined older n) _ h).1 (unused n older h)
+unused n (Says (Operate operation) ∷ older) h =
+    still_unused n older (Says (Operate operation)) tt (or_parts (is_defined older n) _ h).1 (unused n older h)
 unused n (Says EndRegion ∷ older) h = still_unused n older (Says EndRegion) tt (or_parts (is_defined older n) _ h).1 (unused n older h)
 unused n (Says (OpenBlock number) ∷ older) h =
     let parts = or_parts (is_defined older n) _ h in
     let u = unused n older (rw (parts.0, (or_parts (eqb (unwrap_or number 0) n) _ parts.1).1) refl) in
     record { objects = u.objects; leaves = u.leaves }
-unused n (Says CloseBlock ∷ older) h = let u = unused n older (before_close n older (open_blocks older) h) in record { objects = u.objects; leaves = u.leaves }
+unused n (Says CloseBlock ∷ older) h = let u = unused n older (before_close n older (open_blocks older) h) in
+    record { objects = u.objects; leaves = u.leaves }
 unused n (Says (DefineAperture text) ∷ older) h =
-    let parts = or_parts (is_some (lookup (nat_eq n) (entries_in older ++ defined_by (definition_of text) (macros_in older) (unit_or_mm (unit_in older))))) _ h in
-    let u = unused n older (rw (before_definition n older (definition_of text) (macros_in older) (unit_or_mm (unit_in older)) parts.0, parts.1) refl) in
+    let parts = or_parts
+    (is_some (lookup (nat_eq n)
+    (entries_in older ++ defined_by (definition_of text) (macros_in older) (unit_or_mm (unit_in older))))) _ h in
+    let u = unused n older
+    (rw (before_definition n older (definition_of text) (macros_in older) (unit_or_mm (unit_in older)) parts.0, parts.1) refl) in
     record { objects = u.objects; leaves = u.leaves }
 unused n (_ ∷ older) h = let u = unused n older h in record { objects = u.objects; leaves = u.leaves }
 
-numbers_of : (n : ℕ) (past : Past) (numbers : List ℕ) → list_any (λ (b : Frame). b.number == n) (map (block_of past) numbers) ≡ has n numbers
+numbers_of : (n : ℕ) (past : Past) (numbers : List ℕ)
+    → list_any (λ (b : Frame). b.number == n) (map (block_of past) numbers) ≡ has n numbers
 numbers_of n past [] = refl
 numbers_of n past (m ∷ outer) = ap (λ b. eqb m n || b) (numbers_of n past outer)
 
 -- the tests of the code for a number
-pub open_same : (past : Past) (blocks : List Frame) (n : ℕ) → blocks ≡ map (block_of past) (open_blocks past) → list_any (λ (b : Frame). b.number == n) blocks ≡ has n (open_blocks past)
+pub open_same : (past : Past) (blocks : List Frame) (n : ℕ) → blocks ≡ map (block_of past) (open_blocks past)
+    → list_any (λ (b : Frame). b.number == n) blocks ≡ has n (open_blocks past)
 open_same past blocks n e = ap (list_any (λ (b : Frame). b.number == n)) e ∙ numbers_of n past (open_blocks past)
 
 -- ---- the law of homes
 
 not_at : (n : ℕ) (numbers : List ℕ) (k d : ℕ) → has n numbers ≡ false → k < length numbers → get_or numbers k d ≢ n
 not_at n [] k d h lt = absurd (omega (arith, lt))
-not_at n (m ∷ numbers) zero d h lt = λ e. let is : eqb m n ≡ true = eq-eqb m n e in absurd (let wrong : true ≡ false = sym is ∙ (or_parts (eqb m n) (has n numbers) h).0 in cc)
+not_at n (m ∷ numbers) zero d h lt = λ e. let is : eqb m n ≡ true = eq-eqb m n e in
+    absurd (let wrong : true ≡ false = sym is ∙ (or_parts (eqb m n) (has n numbers) h).0 in cc)
 not_at n (m ∷ numbers) (suc k) d h lt = not_at n numbers k d (or_parts (eqb m n) (has n numbers) h).1 (omega arith)
 
 all_apart : (numbers : List ℕ) → AreApart numbers → AllPairs (λ m n. m ≢ n) numbers
@@ -280,4 +328,9 @@ all_free past (n ∷ numbers) h = (h.0, all_free past numbers h.1)
 pub homes_apart : KeepsHomesApart
 homes_apart past none =
     let apart = stay_apart past none in
-    record { blocks = all_apart (open_blocks past) apart.numbers; entries = all_free past (open_blocks past) apart.entries; repeat = apart.repeat }
+    record {
+      blocks = all_apart (open_blocks past) apart.numbers;
+      entries = all_free past (open_blocks past) apart.entries;
+      repeat =
+          apart.repeat;
+    }

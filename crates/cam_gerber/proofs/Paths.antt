@@ -46,6 +46,7 @@ pub end_outside : (arcs : Bool) (from to centre : Point) → arcs ≡ true → i
     → first_of (path_faults true arcs from to centre) ≡ Some 23
 end_outside arcs from to centre a h k = rw (a, h, k) refl
 
-pub no_fault : (arcs : Bool) (from to centre : Point) → arcs ≡ true → is_same_point from centre ≡ false → is_on_board to ≡ true → is_on_board centre ≡ true
+pub no_fault : (arcs : Bool) (from to centre : Point) → arcs ≡ true → is_same_point from centre ≡ false → is_on_board to ≡ true
+    → is_on_board centre ≡ true
     → first_of (path_faults true arcs from to centre) ≡ None
 no_fault arcs from to centre a h k l = rw (a, h, k, l) refl

@@ -1,11 +1,13 @@
 -- The places of what a file's cutting answers ascend, and lie within the file; its faults have the numbers of cutting.
-use Rattle.std.proofs.Common.{◌≡◌, ℕ, zero, suc, ◌+◌, ◌<◌, ◌≤◌, List, [], ◌∷◌, length, drop, Bool, true, false, cond, Result, Ok, Err, refl, arith, length-append, length-drop}
+use Rattle.std.proofs.Common.{◌≡◌, ℕ, zero, suc, ◌+◌, ◌<◌, ◌≤◌, List, [], ◌∷◌, length, drop, Bool, true, false, cond}
+use Rattle.std.proofs.Common.{Result, Ok, Err, refl, arith, length-append, length-drop}
 use Rattle.std.specs.Prelude.{nat_le}
 use Rattle.std.specs.List.{prefix_len}
 use Rattle.cam_words.specs.Bytes.{is_skipped, star}
 use Rattle.cam_words.specs.Heads.{is_comment}
 use Rattle.cam_words.specs.Cutting.{Command as CutCommand, WordCommand, ExtendedCommand, word_of, bytes_of_command}
-use Rattle.cam_words.specs.Reading.{Answer, reading, reading_within, answers_at, answers_by, command_at, word_at, extended_at, command_within}
+use Rattle.cam_words.specs.Reading.{Answer, reading, reading_within, answers_at, answers_by, command_at, word_at}
+use Rattle.cam_words.specs.Reading.{extended_at, command_within}
 use Rattle.cam_words.specs.declared.word.Kind.TheVariants.{Plain, Comment}
 use Rattle.cam_commands.specs.Syntax.{place_of, place_by}
 
@@ -21,7 +23,8 @@ IsTrueAnswer (Err fault) = nat_le fault.code 29 ≡ true
 -- the places ascend, from one on and below another
 abbrev pub IsWithin : ℕ → ℕ → List Answer → Type 0
 IsWithin low high [] = Unit {0}
-IsWithin low high (answer ∷ answers) = (low ≤ place answer) × (place answer < high) × IsTrueAnswer answer × IsWithin (suc (place answer)) high answers
+IsWithin low high (answer ∷ answers) = (low ≤ place answer) × (place answer < high) × IsTrueAnswer answer
+    × IsWithin (suc (place answer)) high answers
 
 lower : (low from high : ℕ) (answers : List Answer) → low ≤ from → IsWithin from high answers → IsWithin low high answers
 lower low from high [] le h = tt
@@ -64,7 +67,8 @@ cut first rest = search (cut_either, cut_extended, cut_word)
 -- ---- the places
 
 place_of_command : (at : ℕ) (command : CutCommand) → place_of (word_of at command) ≡ at
-place_of_command at (WordCommand text) = elim (is_comment text) as (λ b. place_by (cond b Comment Plain) at ≡ at) [ true ↦ refl | false ↦ refl ]
+place_of_command at (WordCommand text) =
+    elim (is_comment text) as (λ b. place_by (cond b Comment Plain) at ≡ at) [ true ↦ refl | false ↦ refl ]
 place_of_command at (ExtendedCommand text tail) = omega arith
 
 some_bytes : (command : CutCommand) → 0 < length (bytes_of_command command)
@@ -78,7 +82,8 @@ Fits high at text = 0 < length text → at + length text ≤ high
 abbrev Ascends : ℕ → (ℕ → List ℕ → List Answer) → Type 0
 Ascends high behind = (at : ℕ) (text : List ℕ) → Fits high at text → IsWithin at high (behind at text)
 
-by_command : (high : ℕ) (behind : ℕ → List ℕ → List Answer) (low at : ℕ) (text : List ℕ) (found : Result CutCommand ℕ) → IsCut found → low ≤ at → 0 < length text → at + length text ≤ high → Ascends high behind
+by_command : (high : ℕ) (behind : ℕ → List ℕ → List Answer) (low at : ℕ) (text : List ℕ) (found : Result CutCommand ℕ) → IsCut found
+    → low ≤ at → 0 < length text → at + length text ≤ high → Ascends high behind
     → IsWithin low high (answers_by behind at text found)
 by_command high behind low at text (Err code) cut le some fits rest = (le, omega (arith, some, fits), cut.number, tt)
 by_command high behind low at text (Ok command) cut le some fits rest =
@@ -88,7 +93,8 @@ by_command high behind low at text (Ok command) cut le some fits rest =
       omega (arith, is, some, fits),
       tt,
       lower _ (at + length (bytes_of_command command)) high _ (omega (arith, is, some_bytes command))
-          (rest (at + length (bytes_of_command command)) (drop (length (bytes_of_command command)) text) (λ more. omega (arith, more, size, fits))),
+          (rest (at + length (bytes_of_command command)) (drop (length (bytes_of_command command)) text)
+          (λ more. omega (arith, more, size, fits))),
     )
 
 ascend : (high commands : ℕ) → Ascends high (reading_within commands)
@@ -103,7 +109,8 @@ ascend high (suc commands) at text fits =
         → IsWithin at high (answers_at (reading_within commands) (at + prefix_len is_skipped text) rest)
     begun [] h fit = tt
     begun (first ∷ rest) h fit =
-        by_command high (reading_within commands) at (at + prefix_len is_skipped text) (first ∷ rest) (command_at first rest) (cut first rest) (omega arith) (omega arith) (fit (omega arith)) h
+        by_command high (reading_within commands) at (at + prefix_len is_skipped text) (first ∷ rest) (command_at first rest)
+        (cut first rest) (omega arith) (omega arith) (fit (omega arith)) h
 
 pub reading_within_file : (bytes : List ℕ) → IsWithin 0 (length bytes) (reading 0 bytes)
 reading_within_file bytes = ascend (length bytes) _ 0 bytes (λ some. omega arith)

@@ -1,9 +1,8 @@
 -- Another repeat is opened.
-use Rattle.std.proofs.Common.{◌≡◌, ℕ, List, [], ◌∷◌, length, min, Bool, true, false, cond, Option, Some, None, Global, refl, sym, ap, ap₂, subst, ◌∙◌, arith}
+use Rattle.std.proofs.Common.{◌≡◌, ℕ, List, [], ◌∷◌, length, min, Bool, true, false, cond, Option, Some, None, Global}
+use Rattle.std.proofs.Common.{refl, sym, ap, ap₂, subst, ◌∙◌, arith}
 use Rattle.std.specs.Prelude.{ℤ, map, ◌||◌, ◌&&◌, not, is_none}
 use Rattle.std.specs.declared.collections.VecDeque.{VecDeque}
-use Rattle.std.specs.declared.vec.Vec.{Vec}
-use Rattle.cam_macros.specs.declared.aperture_macro.Macro.{Macro}
 use Rattle.cam_objects.specs.declared.object.Object.{Object}
 use Rattle.cam_commands.specs.declared.parts.Repeat.{Repeat}
 use Rattle.cam_commands.specs.declared.parts.Slot.{Slot}
@@ -43,33 +42,55 @@ pub record IsSettable (old : Running) (unit : FileUnit) (repeat : Repeat) : Type
   pub nested : (is_repeated repeat && not (is_empty old.frames.blocks.items)) ≡ false
   pub outside : old.region.inside ≡ false
 
-opening_table : (past : Past) (old : Running) (unit : FileUnit) (repeat : Repeat) (short : Bool) → Tracks past old → IsSettable old unit repeat
-    → (is_short (step_by unit repeat.i) && is_short (step_by unit repeat.j)) ≡ short → first_of (command_faults past (SetRepeat repeat)) ≡ first_of (closing_faults past short)
+opening_table : (past : Past) (old : Running) (unit : FileUnit) (repeat : Repeat) (short : Bool) → Tracks past old
+    → IsSettable old unit repeat
+    → (is_short (step_by unit repeat.i) && is_short (step_by unit repeat.j)) ≡ short
+    → first_of (command_faults past (SetRepeat repeat)) ≡ first_of (closing_faults past short)
 opening_table past old unit repeat short t s e =
     let set : unit_in past ≡ Some unit = sym t.modal.unit ∙ s.known in
-    let nested : (is_repeated repeat && not (is_empty (open_blocks past))) ≡ false = ap (λ b. is_repeated repeat && not b) (sym (no_blocks past old t)) ∙ s.nested in
+    let nested : (is_repeated repeat && not (is_empty (open_blocks past))) ≡ false =
+    ap (λ b. is_repeated repeat && not b) (sym (no_blocks past old t)) ∙ s.nested in
     let out : in_region past ≡ false = sym t.region.inside ∙ s.outside in
-    let steps : has_short_steps past repeat ≡ short = ap₂ (λ i j. is_short i && is_short j) (sym (step_same past unit repeat.i set)) (sym (step_same past unit repeat.j set)) ∙ e in
+    let steps : has_short_steps past repeat ≡ short =
+    ap₂ (λ i j. is_short i && is_short j) (sym (step_same past unit repeat.i set)) (sym (step_same past unit repeat.j set)) ∙ e in
     let told = λ (short : Bool). first_of (closing_faults past short) in
-    ap (λ b. cond {A = Option ℕ} b (Some 4) (cond (is_none (unit_in past)) (Some 6) (cond (is_repeated repeat && not (is_empty (open_blocks past))) (Some 21) (cond (in_region past) (Some 22) (told (has_short_steps past repeat)))))) s.formed
-    ∙ ap (λ u. cond {A = Option ℕ} (is_none u) (Some 6) (cond (is_repeated repeat && not (is_empty (open_blocks past))) (Some 21) (cond (in_region past) (Some 22) (told (has_short_steps past repeat))))) set
+    ap (λ b. cond {A = Option ℕ} b (Some 4)
+    (cond (is_none (unit_in past)) (Some 6)
+    (cond (is_repeated repeat && not (is_empty (open_blocks past))) (Some 21)
+    (cond (in_region past) (Some 22) (told (has_short_steps past repeat)))))) s.formed
+    ∙ ap (λ u. cond {A = Option ℕ} (is_none u) (Some 6)
+    (cond (is_repeated repeat && not (is_empty (open_blocks past))) (Some 21)
+    (cond (in_region past) (Some 22) (told (has_short_steps past repeat))))) set
     ∙ ap₂ (λ a b. cond {A = Option ℕ} a (Some 21) (cond b (Some 22) (told (has_short_steps past repeat)))) nested out
     ∙ ap told steps
 
 -- ---- a repeat that is opened has no object yet
 
-opened_same : (past : Past) (unit : FileUnit) (repeat : Repeat) → unit_in past ≡ Some unit → opened_by unit repeat ≡ repeat_of (Says (SetRepeat repeat) ∷ past) (opened past repeat)
+opened_same : (past : Past) (unit : FileUnit) (repeat : Repeat) → unit_in past ≡ Some unit
+    → opened_by unit repeat ≡ repeat_of (Says (SetRepeat repeat) ∷ past) (opened past repeat)
 opened_same past unit repeat e =
     let none = unused_repeat past (length past) (omega arith) in
-    ap₂ (λ (i j : ℤ). record { columns = count_of repeat.columns; rows = count_of repeat.rows; i = i; j = j; objects = []; leaves = 0 }) (step_same past unit repeat.i e) (step_same past unit repeat.j e)
+    ap₂ (λ (i j : ℤ).
+    record { columns = count_of repeat.columns; rows = count_of repeat.rows; i = i; j = j; objects = []; leaves = 0 })
+    (step_same past unit repeat.i e) (step_same past unit repeat.j e)
     ∙ ap₂ (λ (objects : List Object) (leaves : ℕ).
-    record { columns = count_of repeat.columns; rows = count_of repeat.rows; i = step_of past repeat.i; j = step_of past repeat.j; objects = objects; leaves = min 4000001 leaves })
+    record {
+      columns = count_of repeat.columns;
+      rows = count_of repeat.rows;
+      i = step_of past repeat.i;
+      j = step_of past repeat.j;
+      objects = objects;
+      leaves = min 4000001 leaves;
+    })
     (sym none.objects) (sym none.leaves)
 
-pub set_many : (past : Past) (old new : Running) (unit : FileUnit) (repeat : Repeat) (opens : OpenRepeat) → Tracks past old → IsSettable old unit repeat
-    → (is_short (step_by unit repeat.i) && is_short (step_by unit repeat.j)) ≡ true → is_repeated repeat ≡ true → opens ≡ opened_by unit repeat
+pub set_many : (past : Past) (old new : Running) (unit : FileUnit) (repeat : Repeat) (opens : OpenRepeat) → Tracks past old
+    → IsSettable old unit repeat
+    → (is_short (step_by unit repeat.i) && is_short (step_by unit repeat.j)) ≡ true → is_repeated repeat ≡ true
+    → opens ≡ opened_by unit repeat
     → (first_of (closing_faults past true) ≡ None) × IsSettled past old new
-    → (first_of (command_faults past (SetRepeat repeat)) ≡ None) × Tracks (Says (SetRepeat repeat) ∷ past) (record new { frames = record new.frames { repeat = Some opens } })
+    → (first_of (command_faults past (SetRepeat repeat)) ≡ None)
+    × Tracks (Says (SetRepeat repeat) ∷ past) (record new { frames = record new.frames { repeat = Some opens } })
 set_many past old new unit repeat opens t s short many made (none, settled) =
     let now : Past = Says (SetRepeat repeat) ∷ past in (
       opening_table past old unit repeat true t s short ∙ none,
@@ -86,7 +107,8 @@ set_many past old new unit repeat opens t s short many made (none, settled) =
           code = t.modal.code;
           point = t.modal.point;
         });
-        region = subst (TracksRegion now) (sym settled.region) (record { inside = t.region.inside; start = t.region.start; segs = t.region.segs });
+        region = subst (TracksRegion now) (sym settled.region)
+            (record { inside = t.region.inside; start = t.region.start; segs = t.region.segs });
         frames = record {
           blocks = ap (λ (blocks : VecDeque OpenBlock Global). blocks.items) settled.blocks ∙ t.frames.blocks;
           repeat = ap Some (made ∙ opened_same past unit repeat (sym t.modal.unit ∙ s.known)) ∙ rw many refl;
@@ -94,7 +116,7 @@ set_many past old new unit repeat opens t s short many made (none, settled) =
         built = record {
           entries = settled.entries ∙ t.built.entries;
           items = settled.items;
-          macros = ap (λ (macros : Vec Macro Global). macros.items) settled.macros ∙ t.built.macros;
+          macros = settled.macros ∙ t.built.macros;
           leaves = settled.leaves;
         };
       },

@@ -1,5 +1,6 @@
 -- Contours of regions that operations without a fault make are sound, and end at the current point.
-use Rattle.std.proofs.Common.{◌≡◌, ◌≢◌, ◌<◌, ◌≤◌, List, [], ◌∷◌, ◌++◌, length, Bool, true, false, cond, refl, sym, ap, ◌∙◌, subst, arith, lit≤, length-append}
+use Rattle.std.proofs.Common.{◌≡◌, ◌≢◌, ◌<◌, ◌≤◌, List, [], ◌∷◌, ◌++◌, length, Bool, true, false, cond, refl, sym, ap}
+use Rattle.std.proofs.Common.{◌∙◌, subst, arith, lit≤, length-append}
 use Rattle.std.specs.Prelude.{ℤ, ◌&&◌, not}
 use Rattle.std.specs.Ordering.{int_eq}
 use Rattle.std.specs.List.{All, flat_map}
@@ -40,7 +41,8 @@ apart p q h e =
     let wrong : true ≡ false = sym here ∙ ap (is_same_point p) e ∙ h in
     absurd cc
 
-pub path_of : (mode : Mode) (arcs : Bool) (from to centre : Point) → NoneHolds (path_faults (is_arc mode) arcs from to centre) → IsPath mode from to centre
+pub path_of : (mode : Mode) (arcs : Bool) (from to centre : Point) → NoneHolds (path_faults (is_arc mode) arcs from to centre)
+    → IsPath mode from to centre
 path_of mode arcs from to centre pass =
     let parts = or_parts (not (is_on_board to)) (is_arc mode && not (is_on_board centre)) pass.1.1.0 in
     record {
@@ -63,27 +65,32 @@ pub record IsSoundContour (start : Point) (segs : List Seg) : Type 0 where
   pub radii : HaveRadii start segs
   pub few : length segs ≤ 1000000
 
-end_behind : (here : Point) (segs : List Seg) (seg : Seg) (to : Point) → ((p : Point) → end_from p (seg ∷ []) ≡ to) → end_from here (segs ++ seg ∷ []) ≡ to
+end_behind : (here : Point) (segs : List Seg) (seg : Seg) (to : Point) → ((p : Point) → end_from p (seg ∷ []) ≡ to)
+    → end_from here (segs ++ seg ∷ []) ≡ to
 end_behind here [] seg to ends = ends here
 end_behind here (Line p ∷ segs) seg to ends = end_behind p segs seg to ends
 end_behind here (Curve p centre ccw ∷ segs) seg to ends = end_behind p segs seg to ends
 
-radii_behind : (here : Point) (segs : List Seg) (seg : Seg) → HaveRadii here segs → HaveRadii (end_from here segs) (seg ∷ []) → HaveRadii here (segs ++ seg ∷ [])
+radii_behind : (here : Point) (segs : List Seg) (seg : Seg) → HaveRadii here segs → HaveRadii (end_from here segs) (seg ∷ [])
+    → HaveRadii here (segs ++ seg ∷ [])
 radii_behind here [] seg h k = k
 radii_behind here (Line p ∷ segs) seg h k = radii_behind p segs seg h k
 radii_behind here (Curve p centre ccw ∷ segs) seg h k = (h.0, radii_behind p segs seg h.1 k)
 
-points_behind : (segs : List Seg) (seg : Seg) → All IsOnBoard (flat_map points_of_seg segs) → All IsOnBoard (points_of_seg seg) → All IsOnBoard (flat_map points_of_seg (segs ++ seg ∷ []))
+points_behind : (segs : List Seg) (seg : Seg) → All IsOnBoard (flat_map points_of_seg segs) → All IsOnBoard (points_of_seg seg)
+    → All IsOnBoard (flat_map points_of_seg (segs ++ seg ∷ []))
 points_behind [] seg h k = All-append IsOnBoard (points_of_seg seg) [] k (All-nil IsOnBoard)
 points_behind (Line p ∷ segs) seg h k =
     let rest = flat_map points_of_seg segs in
-    All-cons IsOnBoard p (flat_map points_of_seg (segs ++ seg ∷ [])) (All-head IsOnBoard p rest h) (points_behind segs seg (All-tail IsOnBoard p rest h) k)
+    All-cons IsOnBoard p (flat_map points_of_seg (segs ++ seg ∷ [])) (All-head IsOnBoard p rest h)
+    (points_behind segs seg (All-tail IsOnBoard p rest h) k)
 points_behind (Curve p centre ccw ∷ segs) seg h k =
     let rest = flat_map points_of_seg segs in
     let after = All-tail IsOnBoard p (centre ∷ rest) h in
     let more = flat_map points_of_seg (segs ++ seg ∷ []) in
     All-cons IsOnBoard p (centre ∷ more) (All-head IsOnBoard p (centre ∷ rest) h)
-    (All-cons IsOnBoard centre more (All-head IsOnBoard centre rest after) (points_behind segs seg (All-tail IsOnBoard centre rest after) k))
+    (All-cons IsOnBoard centre more (All-head IsOnBoard centre rest after)
+    (points_behind segs seg (All-tail IsOnBoard centre rest after) k))
 
 -- a segment from a point
 record IsSegment (from to : Point) (seg : Seg) : Type 0 where
@@ -115,7 +122,8 @@ pub record IsContourTo (region : Bool) (start : Point) (segs : List Seg) (to : P
   pub sound : IsSoundContour start segs
   pub ends : region ≡ true → end_from start segs ≡ to
 
-turned_by : (code : OperationCode) (mode : Mode) (start from to centre : Point) (segs : List Seg) → IsSoundContour start segs → end_from start segs ≡ from → IsTurnOf code mode from to centre segs
+turned_by : (code : OperationCode) (mode : Mode) (start from to centre : Point) (segs : List Seg) → IsSoundContour start segs
+    → end_from start segs ≡ from → IsTurnOf code mode from to centre segs
     → IsContourTo true (start_by code start to) (segments_by code segs (segment mode to centre)) to
 turned_by Plot mode start from to centre segs s e t =
     let seg = segment_of mode from to centre t.0 in
@@ -123,7 +131,8 @@ turned_by Plot mode start from to centre segs s e t =
       sound = record {
         start_on = s.start_on;
         segs_on = points_behind segs (segment mode to centre) s.segs_on seg.points;
-        radii = radii_behind start segs (segment mode to centre) s.radii (subst (λ p. HaveRadii p (segment mode to centre ∷ [])) (sym e) seg.radius);
+        radii = radii_behind start segs (segment mode to centre) s.radii
+            (subst (λ p. HaveRadii p (segment mode to centre ∷ [])) (sym e) seg.radius);
         few = omega (arith, t.1, length-append segs (segment mode to centre ∷ []));
       };
       ends = λ r. end_behind start segs (segment mode to centre) to seg.ends;
@@ -135,7 +144,8 @@ turned_by Move mode start from to centre segs s e t = record {
 turned_by Flash mode start from to centre segs s e t = absurd t
 
 -- the contour behind an operation
-pub turned : (region : Bool) (code : OperationCode) (mode : Mode) (start from to centre : Point) (segs : List Seg) → IsContourTo region start segs from → (region ≡ true → IsTurnOf code mode from to centre segs)
+pub turned : (region : Bool) (code : OperationCode) (mode : Mode) (start from to centre : Point) (segs : List Seg)
+    → IsContourTo region start segs from → (region ≡ true → IsTurnOf code mode from to centre segs)
     → IsContourTo region (cond region (start_by code start to) start) (cond region (segments_by code segs (segment mode to centre)) segs) to
 turned true code mode start from to centre segs c t = turned_by code mode start from to centre segs c.sound (c.ends refl) (t refl)
 turned false code mode start from to centre segs c t = record { sound = c.sound; ends = λ r. absurd (let wrong : false ≡ true = r in cc) }

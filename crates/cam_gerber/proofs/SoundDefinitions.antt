@@ -13,7 +13,9 @@ use Rattle.cam_macros.specs.declared.primitive.MacroPrimitive.{MacroPrimitive}
 use Rattle.cam_macros.specs.Expansion.{expansion_of}
 use Rattle.cam_apertures.specs.declared.aperture.Aperture.{Aperture}
 use Rattle.cam_apertures.specs.declared.aperture.Aperture.TheVariants.{Prims}
-use Rattle.cam_apertures.specs.Definition.{Table, Definition, aperture_of, by_macro, circle, faults_of, has_sizes, is_between, macro_faults, named, obround, painted, rect, standard_faults, template_faults, values_of}
+use Rattle.cam_apertures.specs.Definition.{Table, Definition, aperture_of, by_macro, circle, faults_of, has_sizes}
+use Rattle.cam_apertures.specs.Definition.{is_between, macro_faults, named, obround, painted, rect, standard_faults}
+use Rattle.cam_apertures.specs.Definition.{template_faults, values_of}
 use Rattle.cam_numbers.specs.Numbers.{defined_number, natural}
 use Rattle.cam_apertures.specs.Soundness.{IsSide, IsSoundAperture}
 use Rattle.cam_apertures.proofs.Expansions.{expanded_sound}
@@ -26,19 +28,22 @@ use Rattle.cam_gerber.proofs.JoiningParts.{told}
 
 -- ---- numbers
 
-within : (n : ℕ) (low high : Bool) → nat_lt n 10 ≡ low → nat_lt 2147483647 n ≡ high → IfSome (cond low None (cond high None (Some n))) IsEntryNumber
+within : (n : ℕ) (low high : Bool) → nat_lt n 10 ≡ low → nat_lt 2147483647 n ≡ high
+    → IfSome (cond low None (cond high None (Some n))) IsEntryNumber
 within n true high e f = tt
 within n false true e f = tt
 within n false false e f = (ltb-false n 10 e, ltb-false 2147483647 n f)
 
-pub numbers_within : (o : Option ℕ) → IfSome (option_and_then (λ n. cond (nat_lt n 10) None (cond (nat_lt 2147483647 n) None (Some n))) o) IsEntryNumber
+pub numbers_within : (o : Option ℕ)
+    → IfSome (option_and_then (λ n. cond (nat_lt n 10) None (cond (nat_lt 2147483647 n) None (Some n))) o) IsEntryNumber
 numbers_within None = tt
 numbers_within (Some n) = within n (nat_lt n 10) (nat_lt 2147483647 n) refl refl
 
 -- ---- apertures
 
 sized : (z : ℤ) → is_between (pos 0) z ≡ true → IsSize z
-sized (pos n) h = let on = and_parts (leb 0 n) (leb n 200000000) h in let high = leb-true n 200000000 on.1 in (omega (arith, ints), omega (arith, ints, high))
+sized (pos n) h = let on = and_parts (leb 0 n) (leb n 200000000) h in let high = leb-true n 200000000 on.1 in
+    (omega (arith, ints), omega (arith, ints, high))
 sized (negsuc n) h = absurd cc
 
 sided : (z : ℤ) → is_between (pos 1) z ≡ true → IsSide z
@@ -60,25 +65,34 @@ sides w h k e =
 abbrev IfMade : Option Aperture → Type 0
 IfMade o = IfSome o IsSoundAperture
 
-by_test : (b : Bool) (s t : Table) (a c : Option Aperture) → (NoneHolds s → IfMade a) → (NoneHolds t → IfMade c) → NoneHolds (cond b s t) → IfMade (cond b a c)
+by_test : (b : Bool) (s t : Table) (a c : Option Aperture) → (NoneHolds s → IfMade a) → (NoneHolds t → IfMade c)
+    → NoneHolds (cond b s t) → IfMade (cond b a c)
 by_test true s t a c h k all = h all
 by_test false s t a c h k all = k all
 
-of_made : (made : Result (List MacroPrimitive) MacroFault) → ((prims : List MacroPrimitive) → made ≡ Ok prims → IsSoundAperture (Prims prims)) → IfMade (painted made)
+of_made : (made : Result (List MacroPrimitive) MacroFault)
+    → ((prims : List MacroPrimitive) → made ≡ Ok prims → IsSoundAperture (Prims prims)) → IfMade (painted made)
 of_made (Ok prims) h = h prims refl
 of_made (Err fault) h = tt
 
-of_macro : (found : Option Macro) (unit : FileUnit) (values : List ℤ) → IfMade (by_macro found None (λ m. painted (expansion_of unit values m.parts)))
+of_macro : (found : Option Macro) (unit : FileUnit) (values : List ℤ)
+    → IfMade (by_macro found None (λ m. painted (expansion_of unit values m.parts)))
 of_macro None unit values = tt
 of_macro (Some m) unit values = of_made (expansion_of unit values m.parts) (λ prims e. expanded_sound unit values m.parts prims e)
 
-sound_template : (name : List ℕ) (macros : List Macro) (unit : FileUnit) (count : ℕ) (values : List ℤ) → NoneHolds (template_faults name macros unit count values) → IfMade (aperture_of name macros unit values)
+sound_template : (name : List ℕ) (macros : List Macro) (unit : FileUnit) (count : ℕ) (values : List ℤ)
+    → NoneHolds (template_faults name macros unit count values) → IfMade (aperture_of name macros unit values)
 sound_template name macros unit count values =
-    by_test (bytes_eq name (codes "C")) (standard_faults 1 count (circle unit values)) _ (Some (circle unit values)) _ (λ all. circles _ _ (told (has_sizes (circle unit values)) all.1.1.0))
-    (by_test (bytes_eq name (codes "R")) (standard_faults 2 count (rect unit values)) _ (Some (rect unit values)) _ (λ all. sides _ _ _ (told (has_sizes (rect unit values)) all.1.1.0))
-    (by_test (bytes_eq name (codes "O")) (standard_faults 2 count (obround unit values)) _ (Some (obround unit values)) _ (λ all. sides _ _ _ (told (has_sizes (obround unit values)) all.1.1.0))
-    (by_test (bytes_eq name (codes "P")) ((11, true) ∷ []) (by_macro (named macros name) ((11, true) ∷ []) (λ m. macro_faults (expansion_of unit values m.parts))) None
-    (by_macro (named macros name) None (λ m. painted (expansion_of unit values m.parts))) (λ all. tt) (λ all. of_macro (named macros name) unit values))))
+    by_test (bytes_eq name (codes "C")) (standard_faults 1 count (circle unit values)) _ (Some (circle unit values)) _
+    (λ all. circles _ _ (told (has_sizes (circle unit values)) all.1.1.0))
+    (by_test (bytes_eq name (codes "R")) (standard_faults 2 count (rect unit values)) _ (Some (rect unit values)) _
+    (λ all. sides _ _ _ (told (has_sizes (rect unit values)) all.1.1.0))
+    (by_test (bytes_eq name (codes "O")) (standard_faults 2 count (obround unit values)) _ (Some (obround unit values)) _
+    (λ all. sides _ _ _ (told (has_sizes (obround unit values)) all.1.1.0))
+    (by_test (bytes_eq name (codes "P")) ((11, true) ∷ [])
+    (by_macro (named macros name) ((11, true) ∷ []) (λ m. macro_faults (expansion_of unit values m.parts))) None
+    (by_macro (named macros name) None (λ m. painted (expansion_of unit values m.parts))) (λ all. tt)
+    (λ all. of_macro (named macros name) unit values))))
 
 -- an entry that a definition makes
 abbrev pub IsDefinedEntry : ℕ × Entry → Type 0
@@ -90,11 +104,13 @@ AreDefined [] = Unit {0}
 AreDefined (e ∷ []) = IsDefinedEntry e
 AreDefined (e ∷ f ∷ entries) = ⊥
 
-pub sound_definition : (d : Option Definition) (macros : List Macro) (unit : FileUnit) → NoneHolds (faults_of d macros unit) → AreDefined (defined_by d macros unit)
+pub sound_definition : (d : Option Definition) (macros : List Macro) (unit : FileUnit) → NoneHolds (faults_of d macros unit)
+    → AreDefined (defined_by d macros unit)
 sound_definition None macros unit all = tt
 sound_definition (Some d) macros unit all =
     let values = unwrap_or (values_of d.parameters) [] in
-    by (defined_number d.number) (aperture_of d.name macros unit values) (numbers_within (natural d.number)) (sound_template d.name macros unit (length d.parameters) values all.1.1)
+    by (defined_number d.number) (aperture_of d.name macros unit values) (numbers_within (natural d.number))
+    (sound_template d.name macros unit (length d.parameters) values all.1.1)
   where
     by : (n : Option ℕ) (a : Option Aperture) → IfSome n IsEntryNumber → IfMade a → AreDefined (numbered_aperture n a)
     by None a h k = tt

@@ -30,12 +30,15 @@ closing_may_add old block rest h is = go (open_blocks h.0) refl
         let joined : block ∷ rest ≡ block_of h.0 n ∷ map (block_of h.0) outer = sym is ∙ h.2.frames.blocks ∙ ap (map (block_of h.0)) e in
         let top : block ≡ block_of h.0 n = cc in
         subst (λ (b : Frame). MayAddEntry old.built.layer.apertures b.number (entry.Block b.objects)) (sym top)
-        (subst (λ es. MayAddEntry es n (entry.Block (objects_of (InBlock n) h.0))) (sym h.2.built.entries) (block_may_join h.0 n outer h.1 h.3 e))
+        (subst (λ es. MayAddEntry es n (entry.Block (objects_of (InBlock n) h.0))) (sym h.2.built.entries)
+        (block_may_join h.0 n outer h.1 h.3 e))
 
 -- what a definition defines
-pub definition_may_add : (es : List (ℕ × Entry)) (text : List ℕ) (macros : List Macro) (unit : FileUnit) (n : ℕ) (a : Aperture) → IsDefined text macros unit n a → lookup (nat_eq n) es ≡ None
+pub definition_may_add : (es : List (ℕ × Entry)) (text : List ℕ) (macros : List Macro) (unit : FileUnit) (n : ℕ) (a : Aperture)
+    → IsDefined text macros unit n a → lookup (nat_eq n) es ≡ None
     → MayAddEntry es n (entry.Aperture a)
 definition_may_add es text macros unit n a d free =
     let sound = subst AreDefined (defined_entry text macros unit n a d)
-    (sound_definition (definition_of text) macros unit (none_holds (faults_of (definition_of text) macros unit) (faultless_definition text macros unit n a d))) in
+    (sound_definition (definition_of text) macros unit
+    (none_holds (faults_of (definition_of text) macros unit) (faultless_definition text macros unit n a d))) in
     record { least = sound.0.0; greatest = sound.0.1; absent = free; sound = sound.1 es }

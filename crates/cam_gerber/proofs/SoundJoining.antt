@@ -20,7 +20,8 @@ sound_past [] faultless within = at_start
 sound_past (says ∷ past) faultless within = sound_step past says within.0 faultless.1 (sound_past past faultless.1 within.1) faultless.0
 
 -- the innermost open block
-pub block_may_join : (past : Past) (n : ℕ) (outer : List ℕ) → IsFaultless past → AreWithin past → open_blocks past ≡ n ∷ outer → MayAddEntry (entries_in past) n (Block (objects_of (InBlock n) past))
+pub block_may_join : (past : Past) (n : ℕ) (outer : List ℕ) → IsFaultless past → AreWithin past → open_blocks past ≡ n ∷ outer
+    → MayAddEntry (entries_in past) n (Block (objects_of (InBlock n) past))
 block_may_join past n outer faultless within e =
     let s = sound_past past faultless within in
     let blocks = subst (λ ns. AllByRecursion (IsBlockView (entries_in past)) (map (block_at past) ns)) e s.blocks in

@@ -52,10 +52,19 @@ record IsMark (es : Pairs) (o : Object) : Type 0 where
   made : IsMade es o
   none : IsNoFlash o
 
-stroked : (es : Pairs) (mode : Mode) (n : ℕ) (from to centre : Point) (turn : Turn) (dark : Bool) → HasNumber es n → IsSome (meaning_in es n).width → IsOnBoard from → IsPath mode from to centre
+stroked : (es : Pairs) (mode : Mode) (n : ℕ) (from to centre : Point) (turn : Turn) (dark : Bool) → HasNumber es n
+    → IsSome (meaning_in es n).width → IsOnBoard from → IsPath mode from to centre
     → IsMark es (stroke mode n from to centre turn dark)
 stroked es Linear n from to centre turn dark known wide on path = record {
-  made = record { formed = tt; known = known; drawable = wide; radius = tt; points = All-cons IsOnBoard from (to ∷ []) on (All-cons IsOnBoard to [] path.to_on (All-nil IsOnBoard)); segs = lit≤ tt };
+  made = record {
+    formed = tt;
+    known = known;
+    drawable = wide;
+    radius = tt;
+    points =
+        All-cons IsOnBoard from (to ∷ []) on (All-cons IsOnBoard to [] path.to_on (All-nil IsOnBoard));
+    segs = lit≤ tt;
+  };
   none = tt;
 }
 stroked es Clockwise n from to centre turn dark known wide on path = record {
@@ -64,7 +73,8 @@ stroked es Clockwise n from to centre turn dark known wide on path = record {
     known = known;
     drawable = wide;
     radius = path.radius refl;
-    points = All-cons IsOnBoard from (to ∷ centre ∷ []) on (All-cons IsOnBoard to (centre ∷ []) path.to_on (All-cons IsOnBoard centre [] (path.centre_on refl) (All-nil IsOnBoard)));
+    points = All-cons IsOnBoard from (to ∷ centre ∷ []) on
+        (All-cons IsOnBoard to (centre ∷ []) path.to_on (All-cons IsOnBoard centre [] (path.centre_on refl) (All-nil IsOnBoard)));
     segs = lit≤ tt;
   };
   none = tt;
@@ -75,14 +85,21 @@ stroked es Counterclockwise n from to centre turn dark known wide on path = reco
     known = known;
     drawable = wide;
     radius = path.radius refl;
-    points = All-cons IsOnBoard from (to ∷ centre ∷ []) on (All-cons IsOnBoard to (centre ∷ []) path.to_on (All-cons IsOnBoard centre [] (path.centre_on refl) (All-nil IsOnBoard)));
+    points = All-cons IsOnBoard from (to ∷ centre ∷ []) on
+        (All-cons IsOnBoard to (centre ∷ []) path.to_on (All-cons IsOnBoard centre [] (path.centre_on refl) (All-nil IsOnBoard)));
     segs = lit≤ tt;
   };
   none = tt;
 }
 
 fit_mark : (past : Past) (o : Object) → IsMark (entries_in past) o → is_full (home past) past o ≡ false → AreFit past (o ∷ []) (home past)
-fit_mark past o m room = record { made = m.made; room = room; bound = bound (home past) past o (leaves_stand (meaning_in (entries_in past)) o m.none m.made.points) }
+fit_mark past o m room =
+    record {
+      made = m.made;
+      room = room;
+      bound =
+          bound (home past) past o (leaves_stand (meaning_in (entries_in past)) o m.none m.made.points);
+    }
 
 -- ---- the current aperture
 
@@ -94,16 +111,19 @@ some_of : {A : Type 0} (o : Option A) → is_none o ≡ false → IsSome o
 some_of None h = absurd cc
 some_of (Some a) h = refl
 
-wide_number : (past : Past) (a : Option ℕ) → is_none a ≡ false → is_unfit past a ≡ false → IsSome (meaning_in (entries_in past) (unwrap_or a 0)).width
+wide_number : (past : Past) (a : Option ℕ) → is_none a ≡ false → is_unfit past a ≡ false
+    → IsSome (meaning_in (entries_in past) (unwrap_or a 0)).width
 wide_number past None some h = absurd cc
 wide_number past (Some n) some h = some_of (meaning_in (entries_in past) n).width h
 
 -- ---- regions
 
-pub fit_region : (past : Past) → IsSoundContour (start_in past) (segments_in past) → holds_of_one (is_full (home past) past) (region_in past) ≡ false → AreFit past (region_in past) (home past)
+pub fit_region : (past : Past) → IsSoundContour (start_in past) (segments_in past)
+    → holds_of_one (is_full (home past) past) (region_in past) ≡ false → AreFit past (region_in past) (home past)
 fit_region past c room = by (start_in past) (segments_in past) c room
   where
-    by : (start : Point) (segs : List Seg) → IsSoundContour start segs → holds_of_one (is_full (home past) past) (region_by start segs (dark_in past)) ≡ false
+    by : (start : Point) (segs : List Seg) → IsSoundContour start segs
+        → holds_of_one (is_full (home past) past) (region_by start segs (dark_in past)) ≡ false
         → AreFit past (region_by start segs (dark_in past)) (home past)
     by start [] c room = tt
     by start (seg ∷ segs) c room = fit_mark past (object.Region (record { start = start; segs = seg ∷ segs }) (dark_in past))
@@ -126,33 +146,42 @@ fit_region past c room = by (start_in past) (segments_in past) c room
 pub record IsDone (past : Past) (operation : Operation) (code : OperationCode) (region : Bool) : Type 0 where
   pub fit : AreFit past (operated code region past operation) (home past)
   pub to_on : IsOnBoard (point_in (Says (Operate operation) ∷ past))
-  pub turn : region ≡ true → IsTurnOf code (mode_in (Says (Operate operation) ∷ past)) (point_in past) (point_in (Says (Operate operation) ∷ past)) (centre_of past operation) (segments_in past)
+  pub turn : region ≡ true
+      → IsTurnOf code (mode_in (Says (Operate operation) ∷ past)) (point_in past) (point_in (Says (Operate operation) ∷ past))
+      (centre_of past operation) (segments_in past)
 
 never : {A : Type 0} → false ≡ true → A
 never e = absurd cc
 
-pub done : (code : OperationCode) (region : Bool) (past : Past) (operation : Operation) → IsSoundView (view past) → NoneHolds (operated_faults code region past operation) → IsDone past operation code region
+pub done : (code : OperationCode) (region : Bool) (past : Past) (operation : Operation) → IsSoundView (view past)
+    → NoneHolds (operated_faults code region past operation) → IsDone past operation code region
 done Plot false past operation s pass =
     let now = Says (Operate operation) ∷ past in
     let paths = pass.1.1 in
-    let path = path_of (mode_in now) (has_arcs past) (point_in past) (point_in now) (centre_of past operation) (paths.0, (paths.1.0, (paths.1.1.0, tt))) in
+    let path = path_of (mode_in now) (has_arcs past) (point_in past) (point_in now) (centre_of past operation)
+    (paths.0, (paths.1.0, (paths.1.1.0, tt))) in
     record {
       fit = fit_mark past (stroke_of past operation)
-          (stroked (entries_in past) (mode_in now) (number_in past) (point_in past) (point_in now) (centre_of past operation) (turn_in past) (dark_in past)
-          (known_number (entries_in past) (aperture_in past) pass.0 s.aperture) (wide_number past (aperture_in past) pass.0 pass.1.0) s.point path)
+          (stroked (entries_in past) (mode_in now) (number_in past) (point_in past) (point_in now) (centre_of past operation)
+          (turn_in past) (dark_in past)
+          (known_number (entries_in past) (aperture_in past) pass.0 s.aperture)
+          (wide_number past (aperture_in past) pass.0 pass.1.0) s.point path)
           paths.1.1.1.0;
       to_on = path.to_on;
       turn = λ e. never e;
     }
 done Plot true past operation s pass =
     let now = Says (Operate operation) ∷ past in
-    let path = path_of (mode_in now) (has_arcs past) (point_in past) (point_in now) (centre_of past operation) (pass.0, (pass.1.0, (pass.1.1.0, tt))) in
+    let path = path_of (mode_in now) (has_arcs past) (point_in past) (point_in now) (centre_of past operation)
+    (pass.0, (pass.1.0, (pass.1.1.0, tt))) in
     record { fit = tt; to_on = path.to_on; turn = λ e. (path, leb-false 1000000 (length (segments_in past)) pass.1.1.1.0) }
 done Move false past operation s pass =
-    let on = on_board (point_in (Says (Operate operation) ∷ past)) (told (is_on_board (point_in (Says (Operate operation) ∷ past))) pass.0) in
+    let on = on_board (point_in (Says (Operate operation) ∷ past))
+    (told (is_on_board (point_in (Says (Operate operation) ∷ past))) pass.0) in
     record { fit = tt; to_on = on; turn = λ e. never e }
 done Move true past operation s pass =
-    let on = on_board (point_in (Says (Operate operation) ∷ past)) (told (is_on_board (point_in (Says (Operate operation) ∷ past))) pass.0) in
+    let on = on_board (point_in (Says (Operate operation) ∷ past))
+    (told (is_on_board (point_in (Says (Operate operation) ∷ past))) pass.0) in
     record { fit = fit_region past s.contour.sound pass.1.0; to_on = on; turn = λ e. on }
 done Flash false past operation s pass =
     let to = point_in (Says (Operate operation) ∷ past) in

@@ -11,9 +11,11 @@ use Rattle.cam_objects.specs.declared.object.Object.TheVariants.{Flash, Draw, Ar
 use Rattle.cam_objects.specs.declared.entry.Entry.{Entry}
 use Rattle.cam_objects.specs.declared.item.Item.{Item}
 use Rattle.cam_objects.specs.declared.item.Item.TheVariants.{One}
-use Rattle.cam_objects.specs.declared.item_fault.ItemFault.TheVariants.{Malformed, UnknownAperture, UnknownTool, WrongAperture, ZeroRadius, OutOfBoard, TooMuch}
+use Rattle.cam_objects.specs.declared.item_fault.ItemFault.TheVariants.{Malformed, UnknownAperture, UnknownTool}
+use Rattle.cam_objects.specs.declared.item_fault.ItemFault.TheVariants.{WrongAperture, ZeroRadius, OutOfBoard, TooMuch}
 use Rattle.cam_objects.specs.Leaves.{meaning_in, object_leaves, origin}
-use Rattle.cam_objects.specs.Soundness.{AreOnBoard, HasRadius, IsDrawable, IsFormed, IsKnown, IsSoundBlock, IsSoundItem, objects_of, points_of, segs_of}
+use Rattle.cam_objects.specs.Soundness.{AreOnBoard, HasRadius, IsDrawable, IsFormed, IsKnown, IsSoundBlock, IsSoundItem}
+use Rattle.cam_objects.specs.Soundness.{objects_of, points_of, segs_of}
 use Rattle.cam_objects.specs.Weights.{Weight, block_count, item_count, object_count, object_depth, weight_in}
 use Rattle.cam_gerber.proofs.GrownEntries.{block_count_same, drawable_same, known_same, sound_same, sum_same, weighs_same}
 
@@ -79,7 +81,8 @@ deepest : (w : ℕ → Weight) (objects : List Object) (so_far : ℕ) → so_far
     → fold (λ deep object. max deep (object_depth w object)) so_far objects ≤ 7
 deepest w [] so_far le h = le
 deepest w (o ∷ objects) so_far le h =
-    deepest w objects (max so_far (object_depth w o)) (omega (arith, le, All-head (λ x. object_depth w x ≤ 7) o objects h)) (All-tail (λ x. object_depth w x ≤ 7) o objects h)
+    deepest w objects (max so_far (object_depth w o)) (omega (arith, le, All-head (λ x. object_depth w x ≤ 7) o objects h))
+    (All-tail (λ x. object_depth w x ≤ 7) o objects h)
 
 pub closed : (es : Pairs) (objects : List Object) (leaves : ℕ) → IsSoundOpen es objects leaves → IsSoundBlock es objects
 closed es objects leaves s = record {
@@ -111,7 +114,8 @@ module _ (es : Pairs) (n : ℕ) (e : Entry) (absent : lookup (nat_eq n) es ≡ N
   depth_same (Arc m from to centre ccw dark) h = refl
   depth_same (Region c dark) h = refl
 
-  depths : (objects : List Object) → All (IsKnown es) objects → All (λ o. object_depth (weight_in es) o ≤ 7) objects → All (λ o. object_depth (weight_in (es ++ (n, e) ∷ [])) o ≤ 7) objects
+  depths : (objects : List Object) → All (IsKnown es) objects → All (λ o. object_depth (weight_in es) o ≤ 7) objects
+      → All (λ o. object_depth (weight_in (es ++ (n, e) ∷ [])) o ≤ 7) objects
   depths [] h k = All-nil (λ o. object_depth (weight_in (es ++ (n, e) ∷ [])) o ≤ 7)
   depths (o ∷ objects) h k =
       All-cons (λ o. object_depth (weight_in (es ++ (n, e) ∷ [])) o ≤ 7) o objects
@@ -122,14 +126,16 @@ module _ (es : Pairs) (n : ℕ) (e : Entry) (absent : lookup (nat_eq n) es ≡ N
   open_more objects leaves s =
       let known = All-weaker (λ o. IsSoundItem es (One o)) (IsKnown es) (known_one es) objects s.each in
       record {
-        each = All-weaker (λ o. IsSoundItem es (One o)) (λ o. IsSoundItem (es ++ (n, e) ∷ []) (One o)) (λ o. sound_same es n e absent (One o)) objects s.each;
+        each = All-weaker (λ o. IsSoundItem es (One o)) (λ o. IsSoundItem (es ++ (n, e) ∷ []) (One o))
+            (λ o. sound_same es n e absent (One o)) objects s.each;
         few = s.few;
         count = s.count ∙ sym (block_count_same es n e absent objects known);
         most = s.most;
         depth = depths objects known s.depth;
       }
 
-  pub repeated_more : (objects : List Object) (leaves : ℕ) → IsSoundRepeated es objects leaves → IsSoundRepeated (es ++ (n, e) ∷ []) objects leaves
+  pub repeated_more : (objects : List Object) (leaves : ℕ) → IsSoundRepeated es objects leaves
+      → IsSoundRepeated (es ++ (n, e) ∷ []) objects leaves
   repeated_more objects leaves s = record {
     each = All-weaker (IsMade es) (IsMade (es ++ (n, e) ∷ [])) made_more objects s.each;
     few = s.few;
@@ -140,6 +146,8 @@ module _ (es : Pairs) (n : ℕ) (e : Entry) (absent : lookup (nat_eq n) es ≡ N
   built_more items leaves s = record {
     each = All-weaker (IsSoundItem es) (IsSoundItem (es ++ (n, e) ∷ [])) (sound_same es n e absent) items s.each;
     few = s.few;
-    count = s.count ∙ sym (sum_same es n e absent items (All-weaker (IsSoundItem es) (λ item. All (IsKnown es) (objects_of item)) (λ item h. h UnknownAperture) items s.each));
+    count = s.count
+        ∙ sym (sum_same es n e absent items
+        (All-weaker (IsSoundItem es) (λ item. All (IsKnown es) (objects_of item)) (λ item h. h UnknownAperture) items s.each));
     most = s.most;
   }

@@ -1,5 +1,6 @@
 -- Each statement without a fault leaves what is in hand sound.
-use Rattle.std.proofs.Common.{◌≡◌, ℕ, ◌+◌, ◌*◌, ◌<◌, ◌≤◌, List, [], ◌∷◌, ◌++◌, drop, length, map, Bool, true, false, cond, Option, Some, None, nat_eq, refl, sym, subst, arith, lit≤, lit<}
+use Rattle.std.proofs.Common.{◌≡◌, ℕ, ◌+◌, ◌*◌, ◌<◌, ◌≤◌, List, [], ◌∷◌, ◌++◌, drop, length, map, Bool, true, false}
+use Rattle.std.proofs.Common.{cond, Option, Some, None, nat_eq, refl, sym, subst, arith, lit≤, lit<}
 use Rattle.std.specs.Prelude.{◌||◌, ◌&&◌, not, IfSome, is_some, unsigned_abs, unwrap_or}
 use Rattle.std.specs.Option.{option_map}
 use Rattle.std.specs.List.{AllByRecursion, list_any}
@@ -17,13 +18,18 @@ use Rattle.cam_objects.specs.declared.object.Object.{Object}
 use Rattle.cam_objects.specs.Weights.{object_depth, weight_in}
 use Rattle.cam_commands.specs.declared.parts.Operation.{Operation}
 use Rattle.cam_commands.specs.declared.parts.Repeat.{Repeat}
-use Rattle.cam_commands.specs.Commands.{SetFormat, RefusedFormat, SetUnit, DefineAperture, DefineMacro, SetPolarity, SetMirror, SetRotation, SetScale, OpenBlock, CloseBlock, SetRepeat, CloseRepeat, KeepText, NeutralOld, RefusedOld, SetMode, SingleQuadrant, MultiQuadrant, BeginRegion, EndRegion, Nothing, Select, Operate, End, Unknown}
+use Rattle.cam_commands.specs.Commands.{SetFormat, RefusedFormat, SetUnit, DefineAperture, DefineMacro, SetPolarity}
+use Rattle.cam_commands.specs.Commands.{SetMirror, SetRotation, SetScale, OpenBlock, CloseBlock, SetRepeat, CloseRepeat}
+use Rattle.cam_commands.specs.Commands.{KeepText, NeutralOld, RefusedOld, SetMode, SingleQuadrant, MultiQuadrant}
+use Rattle.cam_commands.specs.Commands.{BeginRegion, EndRegion, Nothing, Select, Operate, End, Unknown}
 use Rattle.cam_gerber.specs.Statements.{Statement, Says, NamesMacro, Uncut}
 use Rattle.cam_gerber.specs.State.{Past, centre_of, code_of, in_region, mode_in, point_in, unit_in, unit_or_mm}
 use Rattle.cam_gerber.specs.Homes.{InBlock, InRepeat, count_of, is_repeated, open_blocks, open_repeat, opened, step_of}
 use Rattle.cam_gerber.specs.Making.{made, objects_of, region_in, segments_in, start_in}
-use Rattle.cam_gerber.specs.Layers.{closed_block, closed_leaves, closed_repeat, defined, defined_by, entries_in, items_in, leaves_in, leaves_of, macros_in, numbered_aperture}
-use Rattle.cam_gerber.specs.Faults.{faults, has_short_steps, holds_of_one, is_defined, is_empty, is_layer_full, is_outside, is_short, is_taken, is_taken_again, least}
+use Rattle.cam_gerber.specs.Layers.{closed_block, closed_leaves, closed_repeat, defined, defined_by, entries_in}
+use Rattle.cam_gerber.specs.Layers.{items_in, leaves_in, leaves_of, macros_in, numbered_aperture}
+use Rattle.cam_gerber.specs.Faults.{faults, has_short_steps, holds_of_one, is_defined, is_empty, is_layer_full}
+use Rattle.cam_gerber.specs.Faults.{is_outside, is_short, is_taken, is_taken_again, least}
 use Rattle.cam_gerber.specs.Laws.{IsFaultless}
 use Rattle.cam_gerber.specs.Machinery.OpenNumbers.{IsEntryNumber, StatesWithin}
 use Rattle.cam_gerber.proofs.Pasts.{AreFree, none_holds, stay_apart, unused}
@@ -32,7 +38,8 @@ use Rattle.cam_gerber.proofs.SoundParts.{Pairs, IsSoundOpen, IsSoundRepeated, Is
 use Rattle.cam_gerber.proofs.SoundContours.{turned}
 use Rattle.cam_gerber.proofs.SoundDefinitions.{sound_definition}
 use Rattle.cam_gerber.proofs.JoiningParts.{told}
-use Rattle.cam_gerber.proofs.SoundViews.{IsBlockView, IsRepeatView, IsSoundView, RepeatView, View, block_at, defines, grown, made_blocks, made_layer, made_repeat, repeat_at, settles, view}
+use Rattle.cam_gerber.proofs.SoundViews.{IsBlockView, IsRepeatView, IsSoundView, RepeatView, View, block_at, defines}
+use Rattle.cam_gerber.proofs.SoundViews.{grown, made_blocks, made_layer, made_repeat, repeat_at, settles, view}
 use Rattle.cam_gerber.proofs.SoundMaking.{done, fit_region}
 
 abbrev pub Sound : Past → Type 0
@@ -44,7 +51,8 @@ pub no_some : {A : Type 0} (o : Option A) → is_some o ≡ false → o ≡ None
 no_some None e = refl
 no_some (Some a) e = absurd cc
 
-operates : (past : Past) (operation : Operation) → Sound past → least (faults past (Says (Operate operation))) ≡ None → Sound (Says (Operate operation) ∷ past)
+operates : (past : Past) (operation : Operation) → Sound past → least (faults past (Says (Operate operation))) ≡ None
+    → Sound (Says (Operate operation) ∷ past)
 operates past operation s h =
     let now = Says (Operate operation) ∷ past in
     let pass = none_holds (faults past (Says (Operate operation))) h in
@@ -57,7 +65,8 @@ operates past operation s h =
       repeat = made_repeat past more d.fit (open_repeat past) s.repeat;
       aperture = s.aperture;
       point = d.to_on;
-      contour = turned (in_region past) (code_of operation) (mode_in now) (start_in past) (point_in past) (point_in now) (centre_of past operation) (segments_in past) s.contour d.turn;
+      contour = turned (in_region past) (code_of operation) (mode_in now) (start_in past) (point_in past) (point_in now)
+          (centre_of past operation) (segments_in past) s.contour d.turn;
     }
 
 ends_region : (past : Past) → Sound past → least (faults past (Says EndRegion)) ≡ None → Sound (Says EndRegion ∷ past)
@@ -88,7 +97,8 @@ begins_region past s = record {
   contour = record { sound = record { start_on = s.point; segs_on = All-nil IsOnBoard; radii = tt; few = lit≤ tt }; ends = λ r. refl };
 }
 
-selects : (past : Past) (number : Option ℕ) → Sound past → least (faults past (Says (Select number))) ≡ None → Sound (Says (Select number) ∷ past)
+selects : (past : Past) (number : Option ℕ) → Sound past → least (faults past (Says (Select number))) ≡ None
+    → Sound (Says (Select number) ∷ past)
 selects past None s h = absurd cc
 selects past (Some n) s h =
     let pass = none_holds (faults past (Says (Select (Some n)))) h in
@@ -113,7 +123,8 @@ no_objects es objects leaves e k = subst (λ (p : List Object × ℕ). IsSoundOp
   depth = All-nil (λ o. object_depth (weight_in es) o ≤ 7);
 })
 
-opens : (past : Past) (number : Option ℕ) → IfSome number IsEntryNumber → Sound past → least (faults past (Says (OpenBlock number))) ≡ None → Sound (Says (OpenBlock number) ∷ past)
+opens : (past : Past) (number : Option ℕ) → IfSome number IsEntryNumber → Sound past
+    → least (faults past (Says (OpenBlock number))) ≡ None → Sound (Says (OpenBlock number) ∷ past)
 opens past None within s h = absurd cc
 opens past (Some n) within s h =
     let pass = none_holds (faults past (Says (OpenBlock (Some n)))) h in
@@ -121,7 +132,13 @@ opens past (Some n) within s h =
     record {
       dictionary = s.dictionary;
       built = s.built;
-      blocks = ((within, no_objects (entries_in past) (objects_of (InBlock n) past) (leaves_of (InBlock n) past) none.objects none.leaves), s.blocks);
+      blocks = (
+        (
+          within,
+          no_objects (entries_in past) (objects_of (InBlock n) past) (leaves_of (InBlock n) past) none.objects none.leaves,
+        ),
+        s.blocks,
+      );
       repeat = s.repeat;
       aperture = s.aperture;
       point = s.point;
@@ -132,7 +149,8 @@ opens past (Some n) within s h =
 abbrev closed_view : Past → List ℕ → View
 closed_view past ns = record (view past) { entries = entries_in past ++ closed_block past ns; blocks = map (block_at past) (drop 1 ns) }
 
-closes_at : (past : Past) (ns : List ℕ) → is_empty ns ≡ false → AreFree (entries_in past) ns → AllByRecursion (IsBlockView (entries_in past)) (map (block_at past) ns) → Sound past
+closes_at : (past : Past) (ns : List ℕ) → is_empty ns ≡ false → AreFree (entries_in past) ns
+    → AllByRecursion (IsBlockView (entries_in past)) (map (block_at past) ns) → Sound past
     → IsSoundView (closed_view past ns)
 closes_at past [] some free blocks s = absurd cc
 closes_at past (n ∷ ns) some free blocks s =
@@ -157,25 +175,34 @@ closes_at past (n ∷ ns) some free blocks s =
 closes : (past : Past) → IsFaultless past → Sound past → least (faults past (Says CloseBlock)) ≡ None → Sound (Says CloseBlock ∷ past)
 closes past faultless s h =
     let pass = none_holds (faults past (Says CloseBlock)) h in
-    closes_at past (open_blocks past) (or_parts (in_region past) (is_empty (open_blocks past)) pass.0).1 (stay_apart past faultless).entries s.blocks s
+    closes_at past (open_blocks past) (or_parts (in_region past) (is_empty (open_blocks past)) pass.0).1
+    (stay_apart past faultless).entries s.blocks s
 
 -- ---- definitions
 
 pub defined_free : (past : Past) (d : Option Definition) (macros : List Macro) (unit : FileUnit) → is_taken_again past (numbered d) ≡ false
     → AllByRecursion (λ e. is_taken past e.0 ≡ false) (defined_by d macros unit)
 defined_free past None macros unit h = tt
-defined_free past (Some d) macros unit h = by (defined_number d.number) (aperture_of d.name macros unit (unwrap_or (values_of d.parameters) [])) h
+defined_free past (Some d) macros unit h =
+    by (defined_number d.number) (aperture_of d.name macros unit (unwrap_or (values_of d.parameters) [])) h
   where
-    by : (n : Option ℕ) (a : Option Aperture) → is_taken_again past n ≡ false → AllByRecursion (λ e. is_taken past e.0 ≡ false) (numbered_aperture n a)
+    by : (n : Option ℕ) (a : Option Aperture) → is_taken_again past n ≡ false
+        → AllByRecursion (λ e. is_taken past e.0 ≡ false) (numbered_aperture n a)
     by None a k = tt
     by (Some n) None k = tt
     by (Some n) (Some a) k = (k, tt)
 
-pub all_absent : (past : Past) (more : Pairs) → AllByRecursion (λ e. is_taken past e.0 ≡ false) more → AllByRecursion (λ e. lookup (nat_eq e.0) (entries_in past) ≡ None) more
+pub all_absent : (past : Past) (more : Pairs) → AllByRecursion (λ e. is_taken past e.0 ≡ false) more
+    → AllByRecursion (λ e. lookup (nat_eq e.0) (entries_in past) ≡ None) more
 all_absent past [] h = tt
-all_absent past (e ∷ more) h = (no_some (lookup (nat_eq e.0) (entries_in past)) (or_parts (is_defined past e.0) (list_any (λ m. nat_eq m e.0) (open_blocks past)) h.0).0, all_absent past more h.1)
+all_absent past (e ∷ more) h = (
+  no_some (lookup (nat_eq e.0) (entries_in past))
+      (or_parts (is_defined past e.0) (list_any (λ m. nat_eq m e.0) (open_blocks past)) h.0).0,
+  all_absent past more h.1,
+)
 
-defines_at : (past : Past) (text : List ℕ) → Sound past → least (faults past (Says (DefineAperture text))) ≡ None → Sound (Says (DefineAperture text) ∷ past)
+defines_at : (past : Past) (text : List ℕ) → Sound past → least (faults past (Says (DefineAperture text))) ≡ None
+    → Sound (Says (DefineAperture text) ∷ past)
 defines_at past text s h =
     let pass = none_holds (faults past (Says (DefineAperture text))) h in
     let unit = unit_or_mm (unit_in past) in
@@ -186,13 +213,17 @@ defines_at past text s h =
 
 -- what closes a repeat, with what is then open
 abbrev settled_view : Past → Option RepeatView → View
-settled_view past r = record (view past) { items = items_in past ++ closed_repeat past; leaves = leaves_in past + closed_leaves past; repeat = r }
+settled_view past r =
+    record (view past) { items = items_in past ++ closed_repeat past; leaves = leaves_in past + closed_leaves past; repeat = r }
 
-settles_to : (past : Past) (r : Option RepeatView) (short : Bool) → (not short || holds_of_one (is_outside past) (closed_repeat past)) ≡ false
-    → (not (is_empty (closed_repeat past)) && is_layer_full past (closed_leaves past)) ≡ false → IsRepeatView (entries_in past) r → Sound past → IsSoundView (settled_view past r)
+settles_to : (past : Past) (r : Option RepeatView) (short : Bool)
+    → (not short || holds_of_one (is_outside past) (closed_repeat past)) ≡ false
+    → (not (is_empty (closed_repeat past)) && is_layer_full past (closed_leaves past)) ≡ false → IsRepeatView (entries_in past) r
+    → Sound past → IsSoundView (settled_view past r)
 settles_to past r short out full repeat s = record {
   dictionary = s.dictionary;
-  built = settles past (open_repeat past) s.repeat (or_parts (not short) (holds_of_one (is_outside past) (closed_repeat past)) out).1 full s.built;
+  built = settles past (open_repeat past) s.repeat
+      (or_parts (not short) (holds_of_one (is_outside past) (closed_repeat past)) out).1 full s.built;
   blocks = s.blocks;
   repeat = repeat;
   aperture = s.aperture;
@@ -201,24 +232,36 @@ settles_to past r short out full repeat s = record {
 }
 
 no_repeated : (es : Pairs) (objects : List Object) (leaves : ℕ) → objects ≡ [] → leaves ≡ 0 → IsSoundRepeated es objects leaves
-no_repeated es objects leaves e k = subst (λ (p : List Object × ℕ). IsSoundRepeated es p.0 p.1) (λ i. (sym e i, sym k i)) (record { each = All-nil (IsMade es); few = lit≤ tt; count = refl })
+no_repeated es objects leaves e k =
+    subst (λ (p : List Object × ℕ). IsSoundRepeated es p.0 p.1) (λ i. (sym e i, sym k i))
+    (record { each = All-nil (IsMade es); few = lit≤ tt; count = refl })
 
-short_steps : (past : Past) (repeat : Repeat) → has_short_steps past repeat ≡ true → (unsigned_abs (step_of past repeat.i) < 1000000000) × (unsigned_abs (step_of past repeat.j) < 1000000000)
-short_steps past repeat h = let parts = and_parts (is_short (step_of past repeat.i)) (is_short (step_of past repeat.j)) h in (ltb-true _ _ parts.0, ltb-true _ _ parts.1)
+short_steps : (past : Past) (repeat : Repeat) → has_short_steps past repeat ≡ true
+    → (unsigned_abs (step_of past repeat.i) < 1000000000) × (unsigned_abs (step_of past repeat.j) < 1000000000)
+short_steps past repeat h = let parts = and_parts (is_short (step_of past repeat.i)) (is_short (step_of past repeat.j)) h in
+    (ltb-true _ _ parts.0, ltb-true _ _ parts.1)
 
-repeats : (past : Past) (repeat : Repeat) → Sound past → least (faults past (Says (SetRepeat repeat))) ≡ None → Sound (Says (SetRepeat repeat) ∷ past)
+repeats : (past : Past) (repeat : Repeat) → Sound past → least (faults past (Says (SetRepeat repeat))) ≡ None
+    → Sound (Says (SetRepeat repeat) ∷ past)
 repeats past repeat s h =
     let pass = none_holds (faults past (Says (SetRepeat repeat))) h in
     let closing = pass.1.1.1.1 in
     let none = unused_repeat past (length past) (omega arith) in
-    let steps = short_steps past repeat (told (has_short_steps past repeat) (or_parts (not (has_short_steps past repeat)) (holds_of_one (is_outside past) (closed_repeat past)) closing.0).0) in
-    settles_to past (option_map (repeat_at (Says (SetRepeat repeat) ∷ past)) (open_repeat (Says (SetRepeat repeat) ∷ past))) (has_short_steps past repeat) closing.0 closing.1.0
-    (by (is_repeated repeat) refl (no_repeated (entries_in past) (objects_of (InRepeat (length past)) past) (leaves_of (InRepeat (length past)) past) none.objects none.leaves) steps) s
+    let steps = short_steps past repeat
+    (told (has_short_steps past repeat)
+    (or_parts (not (has_short_steps past repeat)) (holds_of_one (is_outside past) (closed_repeat past)) closing.0).0) in
+    settles_to past (option_map (repeat_at (Says (SetRepeat repeat) ∷ past)) (open_repeat (Says (SetRepeat repeat) ∷ past)))
+    (has_short_steps past repeat) closing.0 closing.1.0
+    (by (is_repeated repeat) refl
+    (no_repeated (entries_in past) (objects_of (InRepeat (length past)) past)
+    (leaves_of (InRepeat (length past)) past) none.objects none.leaves) steps) s
   where
-    by : (b : Bool) → is_repeated repeat ≡ b → IsSoundRepeated (entries_in past) (objects_of (InRepeat (length past)) past) (leaves_of (InRepeat (length past)) past)
+    by : (b : Bool) → is_repeated repeat ≡ b
+        → IsSoundRepeated (entries_in past) (objects_of (InRepeat (length past)) past) (leaves_of (InRepeat (length past)) past)
         → (unsigned_abs (step_of past repeat.i) < 1000000000) × (unsigned_abs (step_of past repeat.j) < 1000000000)
         → IsRepeatView (entries_in past) (option_map (repeat_at (Says (SetRepeat repeat) ∷ past)) (cond b (Some (opened past repeat)) None))
-    by true is none steps = (record { copies = ltb-true 1 (count_of repeat.columns * count_of repeat.rows) is; steps_i = steps.0; steps_j = steps.1 }, none)
+    by true is none steps =
+        (record { copies = ltb-true 1 (count_of repeat.columns * count_of repeat.rows) is; steps_i = steps.0; steps_j = steps.1 }, none)
     by false is none steps = tt
 
 closes_repeat : (past : Past) → Sound past → least (faults past (Says CloseRepeat)) ≡ None → Sound (Says CloseRepeat ∷ past)
@@ -229,7 +272,8 @@ ends past s h = let pass = none_holds (faults past (Says End)) h in settles_to p
 
 -- ---- any statement
 
-pub sound_step : (past : Past) (says : Statement) → StatesWithin says → IsFaultless past → Sound past → least (faults past says) ≡ None → Sound (says ∷ past)
+pub sound_step : (past : Past) (says : Statement) → StatesWithin says → IsFaultless past → Sound past
+    → least (faults past says) ≡ None → Sound (says ∷ past)
 sound_step past (Says (DefineAperture text)) within a s h = defines_at past text s h
 sound_step past (Says (OpenBlock number)) within a s h = opens past number within s h
 sound_step past (Says CloseBlock) within a s h = closes past a s h

@@ -41,18 +41,22 @@ sound_lists past s = record {
   limits = record { few = s.built.few; leaves = omega (arith, s.built.most, s.built.count) };
 }
 
-sound_from : (len : ℕ) (past : Past) (answers : List Answer) (content : Content) → IsFaultless past → Sound past → Leads len past answers (Ok content) → IsSoundContent content.entries content.items
+sound_from : (len : ℕ) (past : Past) (answers : List Answer) (content : Content) → IsFaultless past → Sound past
+    → Leads len past answers (Ok content) → IsSoundContent content.entries content.items
 sound_from len past [] content a s h = absurd cc
 sound_from len past (answer ∷ answers) content a s h =
     go (fault_of past h.0) refl (is_end h.0.says) h.2 (λ a s. sound_from len (h.0.says ∷ past) answers content a s)
   where
-    go : (o : Option ReadFault) → fault_of past h.0 ≡ o → (ends : Bool) → Gives o ends (layer_in (h.0.says ∷ past)) (Leads len (h.0.says ∷ past) answers (Ok content)) (Ok content)
-        → (IsFaultless (h.0.says ∷ past) → Sound (h.0.says ∷ past) → Leads len (h.0.says ∷ past) answers (Ok content) → IsSoundContent content.entries content.items) → IsSoundContent content.entries content.items
+    go : (o : Option ReadFault) → fault_of past h.0 ≡ o → (ends : Bool)
+        → Gives o ends (layer_in (h.0.says ∷ past)) (Leads len (h.0.says ∷ past) answers (Ok content)) (Ok content)
+        → (IsFaultless (h.0.says ∷ past) → Sound (h.0.says ∷ past) → Leads len (h.0.says ∷ past) answers (Ok content)
+        → IsSoundContent content.entries content.items) → IsSoundContent content.entries content.items
     go (Some f) is ends given more = absurd cc
     go None is true given more =
         let none = no_least past h.0 is in
         let same : layer_in (h.0.says ∷ past) ≡ content = cc in
-        subst (λ (c : Content). IsSoundContent c.entries c.items) same (sound_lists (h.0.says ∷ past) (sound_step past h.0.says (told_within answer h.0 h.1) a s none))
+        subst (λ (c : Content). IsSoundContent c.entries c.items) same
+        (sound_lists (h.0.says ∷ past) (sound_step past h.0.says (told_within answer h.0 h.1) a s none))
     go None is false given more =
         let none = no_least past h.0 is in more (none, a) (sound_step past h.0.says (told_within answer h.0 h.1) a s none) given
 

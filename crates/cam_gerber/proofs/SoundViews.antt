@@ -1,5 +1,6 @@
 -- What a reading without a fault has in hand behind a past, and that it is sound.
-use Rattle.std.proofs.Common.{◌≡◌, ℕ, ◌+◌, ◌*◌, ◌<◌, ◌≤◌, List, [], ◌∷◌, ◌++◌, length, map, leb, Bool, true, false, cond, Option, Some, None, nat_eq, sym, subst, arith, append-nil}
+use Rattle.std.proofs.Common.{◌≡◌, ℕ, ◌+◌, ◌*◌, ◌<◌, ◌≤◌, List, [], ◌∷◌, ◌++◌, length, map, leb, Bool, true, false}
+use Rattle.std.proofs.Common.{cond, Option, Some, None, nat_eq, sym, subst, arith, append-nil}
 use Rattle.std.specs.Prelude.{◌&&◌, not}
 use Rattle.std.specs.Option.{option_map}
 use Rattle.std.specs.List.{AllByRecursion}
@@ -25,7 +26,8 @@ use Rattle.cam_gerber.proofs.GrownEntries.{known_more, sound_grows}
 use Rattle.cam_gerber.proofs.SoundParts.{Pairs, IsSoundOpen, IsSoundRepeated, IsSoundBuilt, open_more, repeated_more, built_more}
 use Rattle.cam_gerber.proofs.SoundContours.{IsContourTo}
 use Rattle.cam_gerber.proofs.SoundDefinitions.{AreDefined}
-use Rattle.cam_gerber.proofs.JoiningParts.{AreFit, IsClosable, IsOpening, joined_block, joined_layer, joined_repeat, leaves_on_board, same_home, settled, told}
+use Rattle.cam_gerber.proofs.JoiningParts.{AreFit, IsClosable, IsOpening, joined_block, joined_layer, joined_repeat}
+use Rattle.cam_gerber.proofs.JoiningParts.{leaves_on_board, same_home, settled, told}
 
 -- an open block and the open repeat, with what they have
 pub record OpenView : Type 0 where
@@ -95,11 +97,13 @@ pub record IsSoundView (v : View) : Type 0 where
 abbrev pub with_entries : View → Pairs → View
 with_entries v more = record v { entries = v.entries ++ more }
 
-blocks_more : (es : Pairs) (n : ℕ) (e : Entry) → lookup (nat_eq n) es ≡ None → (blocks : List OpenView) → AllByRecursion (IsBlockView es) blocks → AllByRecursion (IsBlockView (es ++ (n, e) ∷ [])) blocks
+blocks_more : (es : Pairs) (n : ℕ) (e : Entry) → lookup (nat_eq n) es ≡ None → (blocks : List OpenView)
+    → AllByRecursion (IsBlockView es) blocks → AllByRecursion (IsBlockView (es ++ (n, e) ∷ [])) blocks
 blocks_more es n e absent [] h = tt
 blocks_more es n e absent (b ∷ blocks) h = ((h.0.0, open_more es n e absent b.objects b.leaves h.0.1), blocks_more es n e absent blocks h.1)
 
-repeat_more : (es : Pairs) (n : ℕ) (e : Entry) → lookup (nat_eq n) es ≡ None → (r : Option RepeatView) → IsRepeatView es r → IsRepeatView (es ++ (n, e) ∷ []) r
+repeat_more : (es : Pairs) (n : ℕ) (e : Entry) → lookup (nat_eq n) es ≡ None → (r : Option RepeatView) → IsRepeatView es r
+    → IsRepeatView (es ++ (n, e) ∷ []) r
 repeat_more es n e absent None h = tt
 repeat_more es n e absent (Some r) h = (h.0, repeated_more es n e absent r.objects r.leaves h.1)
 
@@ -118,17 +122,21 @@ grown v n e may s = record {
   contour = s.contour;
 }
 
-pub defines : (v : View) (more : Pairs) → AreDefined more → AllByRecursion (λ e. lookup (nat_eq e.0) v.entries ≡ None) more → IsSoundView v → IsSoundView (with_entries v more)
+pub defines : (v : View) (more : Pairs) → AreDefined more → AllByRecursion (λ e. lookup (nat_eq e.0) v.entries ≡ None) more
+    → IsSoundView v → IsSoundView (with_entries v more)
 defines v [] are absent s = subst (λ (es : Pairs). IsSoundView (record v { entries = es })) (sym (append-nil v.entries)) s
-defines v (e ∷ []) are absent s = grown v e.0 e.1 (record { least = are.0.0; greatest = are.0.1; absent = absent.0; sound = are.1 v.entries }) s
+defines v (e ∷ []) are absent s =
+    grown v e.0 e.1 (record { least = are.0.0; greatest = are.0.1; absent = absent.0; sound = are.1 v.entries }) s
 defines v (e ∷ f ∷ more) are absent s = absurd are
 
 -- ---- objects that are made
 
-fit_at : (past : Past) (more : List Object) (k : Home) → AreFit past more (home past) → is_same_home (home past) k ≡ true → AreFit past more k
+fit_at : (past : Past) (more : List Object) (k : Home) → AreFit past more (home past) → is_same_home (home past) k ≡ true
+    → AreFit past more k
 fit_at past more k fit same = subst (AreFit past more) (same_home (home past) k same) fit
 
-pub made_layer : (past : Past) (more : List Object) → AreFit past more (home past) → IsSoundBuilt (entries_in past) (items_in past) (leaves_in past)
+pub made_layer : (past : Past) (more : List Object) → AreFit past more (home past)
+    → IsSoundBuilt (entries_in past) (items_in past) (leaves_in past)
     → IsSoundBuilt (entries_in past) (items_in past ++ map One (cond (is_same_home (home past) InLayer) more []))
     (leaves_in past + block_count (weight_in (entries_in past)) (cond (is_same_home (home past) InLayer) more []))
 made_layer past more fit s = joined_layer past more (is_same_home (home past) InLayer) (fit_at past more InLayer fit) s
@@ -136,22 +144,38 @@ made_layer past more fit s = joined_layer past more (is_same_home (home past) In
 abbrev pub block_with : Past → List Object → ℕ → OpenView
 block_with past more n =
     let added = cond (is_same_home (home past) (InBlock n)) more [] in
-    record { number = n; objects = objects_of (InBlock n) past ++ added; leaves = leaves_of (InBlock n) past + block_count (weight_in (entries_in past)) added }
+    record {
+      number = n;
+      objects = objects_of (InBlock n) past ++ added;
+      leaves =
+          leaves_of (InBlock n) past + block_count (weight_in (entries_in past)) added;
+    }
 
-pub made_blocks : (past : Past) (more : List Object) → AreFit past more (home past) → (ns : List ℕ) → AllByRecursion (IsBlockView (entries_in past)) (map (block_at past) ns)
+pub made_blocks : (past : Past) (more : List Object) → AreFit past more (home past) → (ns : List ℕ)
+    → AllByRecursion (IsBlockView (entries_in past)) (map (block_at past) ns)
     → AllByRecursion (IsBlockView (entries_in past)) (map (block_with past more) ns)
 made_blocks past more fit [] h = tt
-made_blocks past more fit (n ∷ ns) h = ((h.0.0, joined_block past n more (is_same_home (home past) (InBlock n)) (fit_at past more (InBlock n) fit) h.0.1), made_blocks past more fit ns h.1)
+made_blocks past more fit (n ∷ ns) h = (
+  (h.0.0, joined_block past n more (is_same_home (home past) (InBlock n)) (fit_at past more (InBlock n) fit) h.0.1),
+  made_blocks past more fit ns h.1,
+)
 
 abbrev pub repeat_with : Past → List Object → Opened → RepeatView
 repeat_with past more o =
     let added = cond (is_same_home (home past) (InRepeat o.before)) more [] in
-    record { opened = o; objects = objects_of (InRepeat o.before) past ++ added; leaves = leaves_of (InRepeat o.before) past + block_count (weight_in (entries_in past)) added }
+    record {
+      opened = o;
+      objects = objects_of (InRepeat o.before) past ++ added;
+      leaves =
+          leaves_of (InRepeat o.before) past + block_count (weight_in (entries_in past)) added;
+    }
 
-pub made_repeat : (past : Past) (more : List Object) → AreFit past more (home past) → (r : Option Opened) → IsRepeatView (entries_in past) (option_map (repeat_at past) r)
+pub made_repeat : (past : Past) (more : List Object) → AreFit past more (home past) → (r : Option Opened)
+    → IsRepeatView (entries_in past) (option_map (repeat_at past) r)
     → IsRepeatView (entries_in past) (option_map (repeat_with past more) r)
 made_repeat past more fit None h = tt
-made_repeat past more fit (Some o) h = (h.0, joined_repeat past o.before more (is_same_home (home past) (InRepeat o.before)) (fit_at past more (InRepeat o.before) fit) h.1)
+made_repeat past more fit (Some o) h =
+    (h.0, joined_repeat past o.before more (is_same_home (home past) (InRepeat o.before)) (fit_at past more (InRepeat o.before) fit) h.1)
 
 -- ---- a repeat that is closed
 
@@ -161,26 +185,35 @@ under false b h e = h
 
 pub inside : (past : Past) (item : Item) → is_outside past item ≡ false → AreOnBoard (item_leaves (meaning_in (entries_in past)) item)
 unfolding is_outside
-inside past item h = leaves_on_board (item_leaves (meaning_in (entries_in past)) item) (told (are_on_board (item_leaves (meaning_in (entries_in past)) item)) h)
+inside past item h =
+    leaves_on_board (item_leaves (meaning_in (entries_in past)) item)
+    (told (are_on_board (item_leaves (meaning_in (entries_in past)) item)) h)
 
-closable : (past : Past) (o : Opened) (objects : List Object) → holds_of_one (is_outside past) (repeat_by o objects) ≡ false → is_empty (repeat_by o objects) ≡ false → IsClosable (entries_in past) o objects
+closable : (past : Past) (o : Opened) (objects : List Object) → holds_of_one (is_outside past) (repeat_by o objects) ≡ false
+    → is_empty (repeat_by o objects) ≡ false → IsClosable (entries_in past) o objects
 closable past o [] h some = absurd cc
 closable past o (x ∷ xs) h some = inside past (Repeat o.columns o.rows o.i o.j (x ∷ xs)) h
 
-pub settles : (past : Past) (r : Option Opened) → IsRepeatView (entries_in past) (option_map (repeat_at past) r) → holds_of_one (is_outside past) (closed_by past r) ≡ false
-    → (not (is_empty (closed_by past r)) && is_layer_full past (copied_leaves past r)) ≡ false → IsSoundBuilt (entries_in past) (items_in past) (leaves_in past)
+pub settles : (past : Past) (r : Option Opened) → IsRepeatView (entries_in past) (option_map (repeat_at past) r)
+    → holds_of_one (is_outside past) (closed_by past r) ≡ false
+    → (not (is_empty (closed_by past r)) && is_layer_full past (copied_leaves past r)) ≡ false
+    → IsSoundBuilt (entries_in past) (items_in past) (leaves_in past)
     → IsSoundBuilt (entries_in past) (items_in past ++ closed_by past r) (leaves_in past + copied_leaves past r)
-settles past None h out full s = subst (λ (p : List Item × ℕ). IsSoundBuilt (entries_in past) p.0 p.1) (λ i. (sym (append-nil (items_in past)) i, zero_more i)) s
+settles past None h out full s =
+    subst (λ (p : List Item × ℕ). IsSoundBuilt (entries_in past) p.0 p.1) (λ i. (sym (append-nil (items_in past)) i, zero_more i)) s
   where
     zero_more : leaves_in past ≡ leaves_in past + 0
     zero_more = omega arith
 settles past (Some o) h out full s =
-    settled (entries_in past) (items_in past) (leaves_in past) o (objects_of (InRepeat o.before) past) (leaves_of (InRepeat o.before) past) h.0 h.1 s room
+    settled (entries_in past) (items_in past) (leaves_in past) o (objects_of (InRepeat o.before) past)
+    (leaves_of (InRepeat o.before) past) h.0 h.1 s room
   where
-    room : is_empty (closed_by past (Some o)) ≡ false → IsClosable (entries_in past) o (objects_of (InRepeat o.before) past) × (length (items_in past) < 1000000)
+    room : is_empty (closed_by past (Some o)) ≡ false
+        → IsClosable (entries_in past) o (objects_of (InRepeat o.before) past) × (length (items_in past) < 1000000)
         × (leaves_in past + o.columns * o.rows * leaves_of (InRepeat o.before) past ≤ 4000000)
     room some =
-        let counts = or_parts (leb 1000000 (length (items_in past))) _ (under (is_empty (closed_by past (Some o))) (is_layer_full past (copied_leaves past (Some o))) full some) in (
+        let counts = or_parts (leb 1000000 (length (items_in past))) _
+        (under (is_empty (closed_by past (Some o))) (is_layer_full past (copied_leaves past (Some o))) full some) in (
           closable past o (objects_of (InRepeat o.before) past) out some,
           leb-false 1000000 (length (items_in past)) counts.0,
           ltb-false 4000000 (leaves_in past + o.columns * o.rows * leaves_of (InRepeat o.before) past) counts.1,

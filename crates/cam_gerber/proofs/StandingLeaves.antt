@@ -29,22 +29,27 @@ drawn : (width : Option Nm) (from to : Point) (dark : Bool) → IsOnBoard from �
 drawn None from to dark h k = All-nil IsLeafOnBoard
 drawn (Some width) from to dark h k = one _ (All-cons IsOnBoard from (to ∷ []) h (All-cons IsOnBoard to [] k (All-nil IsOnBoard)))
 
-arced : (width : Option Nm) (from to centre : Point) (ccw dark : Bool) → IsOnBoard from → IsOnBoard to → IsOnBoard centre → AreOnBoard (arc_leaves width from to centre ccw dark)
+arced : (width : Option Nm) (from to centre : Point) (ccw dark : Bool) → IsOnBoard from → IsOnBoard to → IsOnBoard centre
+    → AreOnBoard (arc_leaves width from to centre ccw dark)
 arced None from to centre ccw dark h k l = All-nil IsLeafOnBoard
 arced (Some width) from to centre ccw dark h k l =
-    one _ (All-cons IsOnBoard from (to ∷ centre ∷ []) h (All-cons IsOnBoard to (centre ∷ []) k (All-cons IsOnBoard centre [] l (All-nil IsOnBoard))))
+    one _ (All-cons IsOnBoard from (to ∷ centre ∷ []) h
+    (All-cons IsOnBoard to (centre ∷ []) k (All-cons IsOnBoard centre [] l (All-nil IsOnBoard))))
 
-segments : (segs : List Seg) → All IsOnBoard (flat_map points_of_seg segs) → All IsOnBoard (flat_map points_of_seg (map (placed_seg origin.turn origin.offset) segs))
+segments : (segs : List Seg) → All IsOnBoard (flat_map points_of_seg segs)
+    → All IsOnBoard (flat_map points_of_seg (map (placed_seg origin.turn origin.offset) segs))
 segments [] h = All-nil IsOnBoard
 segments (Line to ∷ segs) h =
     let rest = flat_map points_of_seg segs in
-    All-cons IsOnBoard (placed origin to) (flat_map points_of_seg (map (placed_seg origin.turn origin.offset) segs)) (stands to (All-head IsOnBoard to rest h)) (segments segs (All-tail IsOnBoard to rest h))
+    All-cons IsOnBoard (placed origin to) (flat_map points_of_seg (map (placed_seg origin.turn origin.offset) segs))
+    (stands to (All-head IsOnBoard to rest h)) (segments segs (All-tail IsOnBoard to rest h))
 segments (Curve to centre ccw ∷ segs) h =
     let rest = flat_map points_of_seg segs in
     let after = All-tail IsOnBoard to (centre ∷ rest) h in
     let placed_rest = flat_map points_of_seg (map (placed_seg origin.turn origin.offset) segs) in
     All-cons IsOnBoard (placed origin to) (placed origin centre ∷ placed_rest) (stands to (All-head IsOnBoard to (centre ∷ rest) h))
-    (All-cons IsOnBoard (placed origin centre) placed_rest (stands centre (All-head IsOnBoard centre rest after)) (segments segs (All-tail IsOnBoard centre rest after)))
+    (All-cons IsOnBoard (placed origin centre) placed_rest (stands centre (All-head IsOnBoard centre rest after))
+    (segments segs (All-tail IsOnBoard centre rest after)))
 
 -- it is no flash
 abbrev pub IsNoFlash : Object → Type 0
@@ -53,16 +58,20 @@ IsNoFlash (Draw n from to t dark) = Unit {0}
 IsNoFlash (Arc n from to centre ccw dark) = Unit {0}
 IsNoFlash (Region c dark) = Unit {0}
 
-pub leaves_stand : (means : ℕ → Meaning) (o : Object) → IsNoFlash o → All IsOnBoard (points_of o) → AreOnBoard (object_leaves means origin o)
+pub leaves_stand : (means : ℕ → Meaning) (o : Object) → IsNoFlash o → All IsOnBoard (points_of o)
+    → AreOnBoard (object_leaves means origin o)
 leaves_stand means (Flash n at t dark) none h = absurd none
 leaves_stand means (Draw n from to t dark) none h =
-    drawn (means n).width (placed origin from) (placed origin to) (polarity_in origin.dark dark) (stands from (All-head IsOnBoard from (to ∷ []) h))
+    drawn (means n).width (placed origin from) (placed origin to) (polarity_in origin.dark dark)
+    (stands from (All-head IsOnBoard from (to ∷ []) h))
     (stands to (All-head IsOnBoard to [] (All-tail IsOnBoard from (to ∷ []) h)))
 leaves_stand means (Arc n from to centre ccw dark) none h =
     let after = All-tail IsOnBoard from (to ∷ centre ∷ []) h in
-    arced (means n).width (placed origin from) (placed origin to) (placed origin centre) (placed_direction origin.turn ccw) (polarity_in origin.dark dark)
+    arced (means n).width (placed origin from) (placed origin to) (placed origin centre) (placed_direction origin.turn ccw)
+    (polarity_in origin.dark dark)
     (stands from (All-head IsOnBoard from (to ∷ centre ∷ []) h)) (stands to (All-head IsOnBoard to (centre ∷ []) after))
     (stands centre (All-head IsOnBoard centre [] (All-tail IsOnBoard to (centre ∷ []) after)))
 leaves_stand means (Region c dark) none h =
     one _ (All-cons IsOnBoard (placed origin c.start) (flat_map points_of_seg (map (placed_seg origin.turn origin.offset) c.segs))
-    (stands c.start (All-head IsOnBoard c.start (flat_map points_of_seg c.segs) h)) (segments c.segs (All-tail IsOnBoard c.start (flat_map points_of_seg c.segs) h)))
+    (stands c.start (All-head IsOnBoard c.start (flat_map points_of_seg c.segs) h))
+    (segments c.segs (All-tail IsOnBoard c.start (flat_map points_of_seg c.segs) h)))

@@ -5,7 +5,10 @@ use Rattle.cam_apertures.specs.Definition.{Table}
 use Rattle.cam_commands.specs.declared.parts.Operation.{Operation}
 use Rattle.cam_commands.specs.declared.parts.OperationCode.{OperationCode}
 use Rattle.cam_commands.specs.declared.parts.OperationCode.TheVariants.{Plot, Move, Flash}
-use Rattle.cam_commands.specs.Commands.{Command, SetFormat, RefusedFormat, SetUnit, DefineAperture, DefineMacro, SetPolarity, SetMirror, SetRotation, SetScale, OpenBlock, CloseBlock, SetRepeat, CloseRepeat, KeepText, NeutralOld, RefusedOld, SetMode, SingleQuadrant, MultiQuadrant, BeginRegion, EndRegion, Nothing, Select, Operate, End, Unknown}
+use Rattle.cam_commands.specs.Commands.{Command, SetFormat, RefusedFormat, SetUnit, DefineAperture, DefineMacro}
+use Rattle.cam_commands.specs.Commands.{SetPolarity, SetMirror, SetRotation, SetScale, OpenBlock, CloseBlock, SetRepeat}
+use Rattle.cam_commands.specs.Commands.{CloseRepeat, KeepText, NeutralOld, RefusedOld, SetMode, SingleQuadrant}
+use Rattle.cam_commands.specs.Commands.{MultiQuadrant, BeginRegion, EndRegion, Nothing, Select, Operate, End, Unknown}
 use Rattle.cam_gerber.specs.State.{Past, code_of, in_region}
 use Rattle.cam_gerber.specs.Faults.{command_faults, operated_faults, least, lower_of}
 use Rattle.cam_gerber.specs.Machinery.Tracking.{first_of}
@@ -32,12 +35,16 @@ lower_same n (Some m) h = omega (arith, h.above)
 
 pub least_is_first : (low : ℕ) (table : Table) → IsAscending low table → least table ≡ first_of table
 least_is_first low [] h = refl
-least_is_first low (fault ∷ table) h = elim fault.1 as (λ b. cond b (Some (lower_of fault.0 (least table))) (least table) ≡ cond b (Some fault.0) (first_of table)) [
-  | true ↦ ap Some (lower_same fault.0 (least table) (subst (IsFrom fault.0) (sym (least_is_first fault.0 table h.1)) (first_from fault.0 fault.0 table (omega arith) h.1)))
-  | false ↦ least_is_first fault.0 table h.1
-]
+least_is_first low (fault ∷ table) h =
+    elim fault.1 as (λ b. cond b (Some (lower_of fault.0 (least table))) (least table) ≡ cond b (Some fault.0) (first_of table)) [
+      | true ↦ ap Some
+          (lower_same fault.0 (least table)
+          (subst (IsFrom fault.0) (sym (least_is_first fault.0 table h.1)) (first_from fault.0 fault.0 table (omega arith) h.1)))
+      | false ↦ least_is_first fault.0 table h.1
+    ]
 
-operated_ascend : (code : OperationCode) (region : Bool) (past : Past) (operation : Operation) → IsAscending 6 (operated_faults code region past operation)
+operated_ascend : (code : OperationCode) (region : Bool) (past : Past) (operation : Operation)
+    → IsAscending 6 (operated_faults code region past operation)
 operated_ascend Plot false past operation = (lit≤ tt, (lit≤ tt, (lit≤ tt, (lit≤ tt, (lit≤ tt, (lit≤ tt, tt))))))
 operated_ascend Plot true past operation = (lit≤ tt, (lit≤ tt, (lit≤ tt, (lit≤ tt, tt))))
 operated_ascend Move false past operation = (lit≤ tt, tt)
@@ -75,9 +82,11 @@ ascend past BeginRegion h = (lit≤ tt, tt)
 ascend past EndRegion h = (lit≤ tt, (lit≤ tt, tt))
 ascend past Nothing h = tt
 ascend past (Select number) h = (lit≤ tt, (lit≤ tt, tt))
-ascend past (Operate operation) h = (lit≤ tt, (lit≤ tt, (lit≤ tt, (lit≤ tt, operated_ascend (code_of operation) (in_region past) past operation))))
+ascend past (Operate operation) h =
+    (lit≤ tt, (lit≤ tt, (lit≤ tt, (lit≤ tt, operated_ascend (code_of operation) (in_region past) past operation))))
 ascend past End h = (lit≤ tt, (lit≤ tt, (lit≤ tt, tt)))
 ascend past Unknown h = (lit≤ tt, tt)
 
-pub least_of_command : (past : Past) (command : Command) → IsPlain command → least (command_faults past command) ≡ first_of (command_faults past command)
+pub least_of_command : (past : Past) (command : Command) → IsPlain command
+    → least (command_faults past command) ≡ first_of (command_faults past command)
 least_of_command past command h = least_is_first 1 (command_faults past command) (ascend past command h)

@@ -1,5 +1,6 @@
 -- Nothing was made in a repeat that is not yet open.
-use Rattle.std.proofs.Common.{◌≡◌, ℕ, ◌+◌, ◌<◌, ◌≤◌, List, [], ◌∷◌, ◌++◌, length, Bool, true, false, cond, Option, Some, None, refl, ◌∙◌, arith, append-nil}
+use Rattle.std.proofs.Common.{◌≡◌, ℕ, ◌+◌, ◌<◌, ◌≤◌, List, [], ◌∷◌, ◌++◌, length, Bool, true, false, cond, Option, Some}
+use Rattle.std.proofs.Common.{None, refl, ◌∙◌, arith, append-nil}
 use Rattle.std.proofs.lemmas.Bool.{ne_eqb}
 use Rattle.cam_objects.specs.declared.object.Object.{Object}
 use Rattle.cam_objects.specs.Weights.{block_count, weight_in}
@@ -40,7 +41,8 @@ opened_before (Says CloseRepeat ∷ past) = tt
 opened_before (Says End ∷ past) = tt
 opened_before (says ∷ past) = later (length past) (length (says ∷ past)) (open_repeat past) (omega arith) (opened_before past)
 
-other_repeat : (before : ℕ) (ns : List ℕ) (repeat : Option Opened) (len : ℕ) → IsOpenedBefore len repeat → len ≤ before → is_same_home (home_by ns repeat) (InRepeat before) ≡ false
+other_repeat : (before : ℕ) (ns : List ℕ) (repeat : Option Opened) (len : ℕ) → IsOpenedBefore len repeat → len ≤ before
+    → is_same_home (home_by ns repeat) (InRepeat before) ≡ false
 other_repeat before [] None len h le = refl
 other_repeat before [] (Some o) len h le = ne_eqb o.before before (λ e. absurd (omega (arith, e, h, le)))
 other_repeat before (n ∷ ns) repeat len h le = refl
@@ -49,12 +51,14 @@ pub unused_repeat : (past : Past) (before : ℕ) → length past ≤ before → 
 unused_repeat [] before le = record { objects = refl; leaves = refl }
 unused_repeat (Says (Operate operation) ∷ past) before le =
     let less : length past ≤ before = omega (arith, le) in
-    let none = none_added past (InRepeat before) (made past (Says (Operate operation))) (is_same_home (home past) (InRepeat before)) (other_repeat before (open_blocks past) (open_repeat past) (length past) (opened_before past) less)
+    let none = none_added past (InRepeat before) (made past (Says (Operate operation))) (is_same_home (home past) (InRepeat before))
+    (other_repeat before (open_blocks past) (open_repeat past) (length past) (opened_before past) less)
     (unused_repeat past before less) in
     record { objects = none.0; leaves = none.1 }
 unused_repeat (Says EndRegion ∷ past) before le =
     let less : length past ≤ before = omega (arith, le) in
-    let none = none_added past (InRepeat before) (made past (Says EndRegion)) (is_same_home (home past) (InRepeat before)) (other_repeat before (open_blocks past) (open_repeat past) (length past) (opened_before past) less)
+    let none = none_added past (InRepeat before) (made past (Says EndRegion)) (is_same_home (home past) (InRepeat before))
+    (other_repeat before (open_blocks past) (open_repeat past) (length past) (opened_before past) less)
     (unused_repeat past before less) in
     record { objects = none.0; leaves = none.1 }
 unused_repeat (says ∷ past) before le =

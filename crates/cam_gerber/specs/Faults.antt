@@ -1,5 +1,7 @@
 -- The faults of a command behind its past.
-use Rattle.std.specs.Prelude.{ℕ, ◌+◌, ℤ, pos, List, [], ◌∷◌, ◌++◌, length, min, codes, Option, Some, None, Result, Ok, Err, Bool, true, false, ◌||◌, ◌&&◌, ◌==◌, not, nat_le, nat_lt, nat_eq, is_some, is_none, unsigned_abs, if◌then◌else◌}
+use Rattle.std.specs.Prelude.{ℕ, ◌+◌, ℤ, pos, List, [], ◌∷◌, ◌++◌, length, min, codes, Option, Some, None, Result, Ok}
+use Rattle.std.specs.Prelude.{Err, Bool, true, false, ◌||◌, ◌&&◌, ◌==◌, not, nat_le, nat_lt, nat_eq, is_some, is_none}
+use Rattle.std.specs.Prelude.{unsigned_abs, if◌then◌else◌}
 use Rattle.std.specs.List.{list_all, list_any}
 use Rattle.std.specs.Map.{lookup}
 use Rattle.std.specs.Ordering.{int_eq}
@@ -25,7 +27,10 @@ use Rattle.cam_commands.specs.declared.parts.Operation.{Operation}
 use Rattle.cam_commands.specs.declared.parts.OperationCode.{OperationCode}
 use Rattle.cam_commands.specs.declared.parts.OperationCode.TheVariants.{Plot, Move, Flash}
 use Rattle.cam_commands.specs.declared.parts.Repeat.{Repeat}
-use Rattle.cam_commands.specs.Commands.{Command, SetFormat, RefusedFormat, SetUnit, DefineAperture, SetPolarity, SetMirror, SetRotation, SetScale, OpenBlock, CloseBlock, SetRepeat, CloseRepeat, NeutralOld, RefusedOld, BeginRegion, EndRegion, Select, Operate, End, Unknown, is_style_extended}
+use Rattle.cam_commands.specs.Commands.{Command, SetFormat, RefusedFormat, SetUnit, DefineAperture, SetPolarity}
+use Rattle.cam_commands.specs.Commands.{SetMirror, SetRotation, SetScale, OpenBlock, CloseBlock, SetRepeat, CloseRepeat}
+use Rattle.cam_commands.specs.Commands.{NeutralOld, RefusedOld, BeginRegion, EndRegion, Select, Operate, End, Unknown}
+use Rattle.cam_commands.specs.Commands.{is_style_extended}
 use Rattle.cam_commands.specs.ExtendedCommands.{is_same_format}
 use Rattle.cam_gerber.specs.FaultNumbers.{
   unknown_command,
@@ -52,7 +57,8 @@ use Rattle.cam_gerber.specs.FaultNumbers.{
   macro_fault,
 }
 use Rattle.cam_gerber.specs.Statements.{Statement, Says, NamesMacro, Uncut}
-use Rattle.cam_gerber.specs.State.{Past, format_in, unit_in, aperture_in, mode_in, has_arcs, in_region, code_of, code_in, point_in, centre_of, unit_or_mm}
+use Rattle.cam_gerber.specs.State.{Past, format_in, unit_in, aperture_in, mode_in, has_arcs, in_region, code_of}
+use Rattle.cam_gerber.specs.State.{code_in, point_in, centre_of, unit_or_mm}
 use Rattle.cam_gerber.specs.Homes.{Home, InBlock, InRepeat, InLayer, open_blocks, open_repeat, home, is_repeated, step_of}
 use Rattle.cam_gerber.specs.Making.{segments_in, region_in, stroke_of, flash_of, objects_of}
 use Rattle.cam_gerber.specs.Layers.{macros_in, entries_in, items_in, closed_repeat, closed_leaves, leaves_of, leaves_in}

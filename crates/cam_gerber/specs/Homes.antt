@@ -1,6 +1,7 @@
 -- Where an object belongs: to the innermost open block, else to the open repeat, else to the layer.
 -- Gerber Layer Format Specification, "Block aperture (AB)" and "Step and repeat (SR)".
-use Rattle.std.specs.Prelude.{ℕ, ◌*◌, ℤ, pos, List, [], ◌∷◌, length, drop, Option, Some, None, unwrap_or, Bool, true, false, nat_lt, ◌==◌, if◌then◌else◌}
+use Rattle.std.specs.Prelude.{ℕ, ◌*◌, ℤ, pos, List, [], ◌∷◌, length, drop, Option, Some, None, unwrap_or, Bool, true}
+use Rattle.std.specs.Prelude.{false, nat_lt, ◌==◌, if◌then◌else◌}
 use Rattle.cam_units.specs.Nearest.{fix9_of}
 use Rattle.cam_commands.specs.declared.parts.Slot.{Slot}
 use Rattle.cam_commands.specs.declared.parts.Slot.TheVariants.{Omitted, Malformed, Written}

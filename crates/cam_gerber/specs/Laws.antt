@@ -16,7 +16,8 @@ use Rattle.std.specs.Prelude.{ℤ, not}
 use Rattle.cam_objects.specs.Contents.{Content, content_of}
 use Rattle.cam_gerber.specs.declared.read_fault.ReadFault.{ReadFault}
 use Rattle.cam_gerber.specs.Statements.{Says, Told, IsTold}
-use Rattle.cam_gerber.specs.State.{Past, format_in, unit_in, dark_in, is_dark, mirror_in, turn_of_mirror, rotation_in, turn_of_angle, aperture_in, mode_in, has_arcs, in_region, code_in, point_in}
+use Rattle.cam_gerber.specs.State.{Past, format_in, unit_in, dark_in, is_dark, mirror_in, turn_of_mirror, rotation_in}
+use Rattle.cam_gerber.specs.State.{turn_of_angle, aperture_in, mode_in, has_arcs, in_region, code_in, point_in}
 use Rattle.cam_gerber.specs.Homes.{open_blocks, open_repeat, home}
 use Rattle.cam_gerber.specs.Making.{contour_in}
 use Rattle.cam_gerber.specs.Layers.{macros_in, layer_in}

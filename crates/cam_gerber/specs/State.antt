@@ -24,7 +24,8 @@ use Rattle.cam_commands.specs.declared.parts.Mode.TheVariants.{Linear}
 use Rattle.cam_commands.specs.declared.parts.Operation.{Operation}
 use Rattle.cam_commands.specs.declared.parts.OperationCode.{OperationCode}
 use Rattle.cam_commands.specs.declared.parts.OperationCode.TheVariants.{Plot}
-use Rattle.cam_commands.specs.Commands.{Command, SetFormat, SetUnit, SetPolarity, SetMirror, SetRotation, SetMode, SingleQuadrant, MultiQuadrant, BeginRegion, EndRegion, Select, Operate}
+use Rattle.cam_commands.specs.Commands.{Command, SetFormat, SetUnit, SetPolarity, SetMirror, SetRotation, SetMode}
+use Rattle.cam_commands.specs.Commands.{SingleQuadrant, MultiQuadrant, BeginRegion, EndRegion, Select, Operate}
 use Rattle.cam_gerber.specs.Statements.{Statement, Says}
 
 abbrev pub Past : Type 0

@@ -3,7 +3,7 @@
 ghost use Rattle.std.specs.Prelude.{◌≡◌, []};
 ghost use Rattle.cam_gerber.specs.Machinery.Tracking.{TracksBuilt};
 
-use cam_macros::Macro;
+use cam_apertures::Macros;
 use cam_objects::Layer;
 use std::alloc::Global;
 
@@ -11,7 +11,7 @@ use std::alloc::Global;
 #[derive(Drop)]
 pub struct Built {
     pub layer: Layer,
-    pub macros: Vec<Macro>,
+    pub macros: Macros,
     /// How many leaves the items have.
     pub leaves: u64,
 }
@@ -23,10 +23,11 @@ impl Built {
     {
         Built {
             layer: Layer::new(alloc),
-            macros: Vec::new(alloc),
+            macros: Macros::new(alloc),
             leaves: 0,
         }
     }
+
     /// The layer.
     pub fn into_layer(self) -> Layer
         ensures { result ≡ self.layer }

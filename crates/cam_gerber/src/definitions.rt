@@ -2,7 +2,6 @@
 
 ghost use Rattle.std.specs.Prelude.{◌≡◌, ◌==◌, ◌≤◌, length, ◌∷◌, ◌||◌, is_none, Some, IfOk, is_some, if◌then◌else◌};
 ghost use Rattle.std.specs.List.{before_first, position_or_len};
-ghost use Rattle.std.specs.Option.{option_copied};
 ghost use Rattle.cam_words.specs.Heads.{packed};
 ghost use Rattle.cam_words.specs.Bytes.{is_star};
 ghost use Rattle.cam_apertures.specs.Definition.{Table, named};
@@ -75,19 +74,12 @@ fn before_star(text: &[u8]) -> &[u8]
     &text[..place_of(b'*', text)]
 }
 
-/// The macro of this name.
-fn named<'a>(macros: &'a [Macro], name: &[u8]) -> Option<&'a Macro>
-    ensures { option_copied result ≡ named macros.now name.now }
-{
-    macros.iter().find(|found| found.name.as_slice() == name)
-}
-
 impl Running {
     /// Whether a macro or a standard template has the name.
     fn is_named(&self, name: &[u8]) -> bool
-        ensures { result ≡ (is_some (named self.now.built.macros.items name.now) || is_reserved name.now) }
+        ensures { result ≡ (is_some (named self.now.built.macros name.now) || is_reserved name.now) }
     {
-        if named(&self.built.macros, name).is_some() {
+        if self.built.macros.contains(name) {
             return true;
         }
         is_reserved(name)
@@ -162,7 +154,7 @@ impl Running {
                 if self.region.inside {
                     return Err(Stop::Fault(faults::STRAY_BLOCK));
                 }
-                self.built.macros.push(made)?;
+                self.built.macros.add(self.alloc, made)?;
                 Ok(())
             }
         }

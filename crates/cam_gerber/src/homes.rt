@@ -1,6 +1,7 @@
 //! Objects join the innermost open block, else the open repeat, else the layer.
 
-ghost use Rattle.std.specs.Prelude.{◌≡◌, ◌++◌, ◌∷◌, ◌≤◌, ◌<◌, [], false, true, Some, None, length, nat_eq, nat_le, ◌+◌, is_some, is_none, OnOk};
+ghost use Rattle.std.specs.Prelude.{◌≡◌, ◌++◌, ◌∷◌, ◌≤◌, ◌<◌, [], false, true, Some, None, length, nat_eq, nat_le};
+ghost use Rattle.std.specs.Prelude.{◌+◌, is_some, is_none, OnOk};
 ghost use Rattle.std.specs.Map.{lookup};
 ghost use Rattle.cam_objects.specs.Leaves.{meaning_in};
 ghost use Rattle.cam_objects.specs.declared.object.Object.{Object};
@@ -80,8 +81,8 @@ impl Weight {
 impl Running {
     /// Whether the home of the next object has no room for one that weighs so much.
     pub fn is_full(&self, weight: Weight) -> bool
-        ensures { (past : Past) (object : Object) → TracksPlaces past self.now → Weighs weight self.now.built.layer.apertures object
-            → result ≡ is_full (home past) past object }
+        ensures { (past : Past) (object : Object) → TracksPlaces past self.now
+            → Weighs weight self.now.built.layer.apertures object → result ≡ is_full (home past) past object }
     {
         if let Some(block) = self.frames.blocks.front() {
             if block.objects.len() >= COUNT_LIMIT {

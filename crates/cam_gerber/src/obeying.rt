@@ -1,7 +1,7 @@
 //! One more command.
 
 ghost use Rattle.std.specs.Prelude.{◌≡◌};
-ghost use Rattle.cam_commands.specs.Machinery.Shown.{shown};
+ghost use Rattle.cam_commands.specs.Borrowed.{shown};
 ghost use Rattle.cam_gerber.specs.Machinery.Tracking.{HasFewDecimals, HasPast, Obeys};
 
 use crate::faults;

@@ -1,7 +1,7 @@
 //! Reads Gerber layers.
 
 ghost use Rattle.std.specs.Prelude.{◌≡◌, IfOk};
-ghost use Rattle.cam_commands.specs.Machinery.Shown.{shown};
+ghost use Rattle.cam_commands.specs.Borrowed.{shown};
 ghost use Rattle.cam_objects.specs.Soundness.{IsSound};
 ghost use Rattle.cam_gerber.specs.Reading.{IsReading, is_end_command};
 

@@ -66,7 +66,8 @@ fn is_repeated(repeat: &Repeat) -> bool
 /// Whether a number of the repeat does not fit its grammar.
 fn has_malformed(repeat: &Repeat) -> bool
     ensures { result
-        ≡ (is_malformed repeat.now.columns || is_malformed repeat.now.rows || is_malformed repeat.now.i || is_malformed repeat.now.j) }
+        ≡ (is_malformed repeat.now.columns || is_malformed repeat.now.rows
+        || is_malformed repeat.now.i || is_malformed repeat.now.j) }
 {
     is_malformed(&repeat.columns)
         || is_malformed(&repeat.rows)

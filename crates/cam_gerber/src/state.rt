@@ -1,13 +1,16 @@
 //! The graphics state.
 
-ghost use Rattle.std.specs.Prelude.{◌≡◌, ◌++◌, ◌≤◌, ◌<◌, ◌^◌, [], false, true, ◌+ℤ◌, pos, Some, None, unsigned_abs, MatchOption, IfOk};
+ghost use Rattle.std.specs.Prelude.{◌≡◌, ◌++◌, ◌≤◌, ◌<◌, ◌^◌, [], false, true, ◌+ℤ◌, pos, Some, None, unsigned_abs};
+ghost use Rattle.std.specs.Prelude.{MatchOption, IfOk};
 ghost use Rattle.cam_objects.specs.Turning.{after};
 ghost use Rattle.cam_units.specs.Board.{IsOnBoard};
-ghost use Rattle.cam_gerber.specs.Faults.{has_coordinate, has_malformed, is_malformed, is_on_board, is_same_point, is_written, lacks_code, leading_faults, path_faults};
+ghost use Rattle.cam_gerber.specs.Faults.{has_coordinate, has_malformed, is_malformed, is_on_board, is_same_point};
+ghost use Rattle.cam_gerber.specs.Faults.{is_written, lacks_code, leading_faults, path_faults};
 ghost use Rattle.cam_shapes.specs.declared.segments.Seg.TheVariants.{Line, Curve};
 ghost use Rattle.cam_gerber.specs.Making.{segment};
 ghost use Rattle.cam_gerber.specs.State.{Past, code_of, decimals_of, unit_or_mm};
-ghost use Rattle.cam_gerber.specs.Machinery.Tracking.{IsJudged, IsOperated, Tells, TracksModal, centre_by, first_of, mode_by, moved, moved_point, path_table, stroke_along};
+ghost use Rattle.cam_gerber.specs.Machinery.Tracking.{IsJudged, IsOperated, Tells, TracksModal, centre_by, first_of};
+ghost use Rattle.cam_gerber.specs.Machinery.Tracking.{mode_by, moved, moved_point, path_table, stroke_along};
 
 use crate::faults;
 use crate::modal::Modal;
@@ -191,7 +194,8 @@ impl Modal {
         ensures ok { IfOk result (λ seg. seg ≡ Line (moved_point self.now operation.now)) }
         ensures on_board { IfOk result (λ seg. is_on_board (moved_point self.now operation.now) ≡ true) }
         ensures faults { Tells result
-            (path_faults false self.now.arcs self.now.point (moved_point self.now operation.now) (centre_by self.now operation.now)) }
+            (path_faults false self.now.arcs self.now.point
+            (moved_point self.now operation.now) (centre_by self.now operation.now)) }
     {
         match self.moved_point(operation) {
             Some(to) => Ok(Seg::Line { to }),
@@ -205,7 +209,8 @@ impl Modal {
             ≡ Curve (moved_point self.now operation.now) (centre_by self.now operation.now) ccw) }
         ensures on_board { IfOk result (λ seg. is_on_board (moved_point self.now operation.now) ≡ true) }
         ensures faults { Tells result
-            (path_faults true self.now.arcs self.now.point (moved_point self.now operation.now) (centre_by self.now operation.now)) }
+            (path_faults true self.now.arcs self.now.point
+            (moved_point self.now operation.now) (centre_by self.now operation.now)) }
     {
         if !self.arcs {
             return Err(faults::ARC_MODE);
@@ -225,7 +230,8 @@ impl Modal {
     /// The line or the arc that is plotted.
     pub fn path(&self, operation: &Operation) -> Result<Seg, u8>
         ensures ok { IfOk result (λ seg. seg
-            ≡ segment (mode_by self.now operation.now) (moved_point self.now operation.now) (centre_by self.now operation.now)) }
+            ≡ segment (mode_by self.now operation.now) (moved_point self.now operation.now)
+            (centre_by self.now operation.now)) }
         ensures on_board { IfOk result (λ seg. is_on_board (moved_point self.now operation.now) ≡ true) }
         ensures faults { Tells result (path_table self.now operation.now) }
     {

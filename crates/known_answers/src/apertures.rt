@@ -4,7 +4,7 @@
 mod covering;
 mod defining;
 
-use cam_apertures::{AdFault, Aperture, ad_number, parse_ad};
+use cam_apertures::{AdFault, Aperture, Macros, ad_number, parse_ad};
 use cam_macros::{Macro, PrimShape};
 use cam_units::{Bounds, Point, Spot, Unit};
 use covering::{BOXES, NOTHING, PLACES, SOLID, Text};
@@ -19,9 +19,9 @@ fn defined(
     text: &[u8],
     unit: Unit,
 ) -> Result<Result<(u32, Aperture), AdFault>, Fail> {
-    let mut macros = Vec::new(alloc);
+    let mut macros = Macros::new(alloc);
     if !macro_text.is_empty() {
-        macros.push(Macro::parse(alloc, macro_text)?)?;
+        macros.add(alloc, Macro::parse(alloc, macro_text)?)?;
     }
     Ok(parse_ad(alloc, text, &macros, unit))
 }

@@ -1,5 +1,6 @@
 -- What the running record keeps of the past.
-use Rattle.std.specs.Prelude.{◌≡◌, ◌≤◌, ℕ, ℤ, pos, ◌+ℤ◌, ◌+◌, true, false, Bool, List, [], ◌∷◌, ◌++◌, map, min, Option, Some, None, unwrap_or, Result, Ok, Err, if◌then◌else◌}
+use Rattle.std.specs.Prelude.{◌≡◌, ◌≤◌, ℕ, ℤ, pos, ◌+ℤ◌, ◌+◌, true, false, Bool, List, [], ◌∷◌, ◌++◌, map, min, Option}
+use Rattle.std.specs.Prelude.{Some, None, unwrap_or, Result, Ok, Err, if◌then◌else◌}
 use Rattle.std.specs.Option.{option_map}
 use Rattle.cam_units.specs.declared.length.Unit.{Unit as FileUnit}
 use Rattle.cam_units.specs.declared.point.Point.{Point}
@@ -28,11 +29,13 @@ use Rattle.cam_gerber.specs.declared.running.Running.{Running}
 use Rattle.cam_gerber.specs.declared.stop.Stop.{Stop}
 use Rattle.cam_gerber.specs.declared.stop.Stop.TheVariants.{Memory, Fault}
 use Rattle.cam_gerber.specs.Statements.{Statement, Says, IsSaidBy}
-use Rattle.cam_gerber.specs.State.{Past, format_in, unit_in, dark_in, mirror_in, rotation_in, aperture_in, mode_in, has_arcs, in_region, code_in, point_in, value_of, coordinate_nm, code_of}
+use Rattle.cam_gerber.specs.State.{Past, format_in, unit_in, dark_in, mirror_in, rotation_in, aperture_in, mode_in}
+use Rattle.cam_gerber.specs.State.{has_arcs, in_region, code_in, point_in, value_of, coordinate_nm, code_of}
 use Rattle.cam_gerber.specs.Homes.{home, InBlock, InRepeat, Opened, open_blocks, open_repeat}
 use Rattle.cam_gerber.specs.Making.{start_in, segments_in, region_in, made, objects_of}
 use Rattle.cam_gerber.specs.Layers.{macros_in, entries_in, items_in, closed_repeat, closed_leaves, leaves_of, leaves_in}
-use Rattle.cam_gerber.specs.Faults.{command_faults, faults, least, closing_faults, operated_faults, path_faults, is_arc, is_on_board, is_full, holds_of_one}
+use Rattle.cam_gerber.specs.Faults.{command_faults, faults, least, closing_faults, operated_faults, path_faults, is_arc}
+use Rattle.cam_gerber.specs.Faults.{is_on_board, is_full, holds_of_one}
 use Rattle.cam_gerber.specs.FaultNumbers.{too_much}
 use Rattle.cam_gerber.specs.Laws.{IsFaultless}
 use Rattle.cam_gerber.specs.Machinery.OpenNumbers.{AreWithin}
@@ -84,7 +87,7 @@ pub record TracksFrames (past : Past) (f : Frames) : Type 0 where
 pub record TracksBuilt (past : Past) (b : Built) : Type 0 where
   pub entries : b.layer.apertures ≡ entries_in past
   pub items : b.layer.items.items ≡ items_in past
-  pub macros : b.macros.items ≡ macros_in past
+  pub macros : b.macros ≡ macros_in past
   pub leaves : b.leaves ≡ leaves_in past
 
 pub record Tracks (past : Past) (r : Running) : Type 0 where

@@ -212,6 +212,29 @@ pub const DEFINITIONS: &[(&[u8], &[u8], Unit, u32, Wanted)] = &[
         Wanted::Circle(1_000_000, 0),
     ),
     (b"P*1,1,1,0,0", b"D10P,1", Unit::Mm, 0, Wanted::Fault(11)),
+    (
+        b".abc*1,1,1,0,0",
+        b"D10.abc",
+        Unit::Mm,
+        10,
+        Wanted::Disc(1_000_000),
+    ),
+    (
+        b".5C*1,1,$1,0,0",
+        b"D10.5C,1",
+        Unit::Mm,
+        10,
+        Wanted::Disc(1_000_000),
+    ),
+    (
+        b"-$_+1*1,1,$1,0,0",
+        b"D10-$_+1,1",
+        Unit::Mm,
+        10,
+        Wanted::Disc(1_000_000),
+    ),
+    (b"", b"D10.5C,1", Unit::Mm, 0, Wanted::Fault(11)),
+    (b"", b"D-10C,1", Unit::Mm, 0, Wanted::Fault(4)),
 ];
 
 /// The text behind AD, and the number that it defines.
@@ -219,7 +242,9 @@ pub const NUMBERS: &[(&[u8], Option<u32>)] = &[
     (b"D10C,1", Some(10)),
     (b"D10NONE,1", Some(10)),
     (b"D10C,-", Some(10)),
+    (b"D10.5C,1", Some(10)),
     (b"D9C,1", None),
+    (b"D-10C,1", None),
     (b"D10C,abc", None),
     (b"D10", None),
 ];

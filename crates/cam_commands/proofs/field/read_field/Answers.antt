@@ -12,20 +12,31 @@ returns-in_default-clause-behind c = ap (λ p. p.1) (sym (field_of_nothing c.arg
 
 pub returns-then-first-letter-clause-run : goal.returns-then-first-letter-clause-run
 returns-then-first-letter-clause-run c =
-    ap (λ p. p.0) (sym (field_other c.args.letter c.in-Some.first (packed c.args.text.now) (packed c.in-Some.rest.now) c.in-Some.ensures.kept c.if-first-letter.true))
+    ap (λ p. p.0)
+    (sym (field_other c.args.letter c.in-Some.first (packed c.args.text.now)
+    (packed c.in-Some.rest.now) c.in-Some.ensures.kept c.if-first-letter.true))
 
 pub returns-then-first-letter-clause-behind : goal.returns-then-first-letter-clause-behind
 returns-then-first-letter-clause-behind c =
-    ap (λ p. p.1) (sym (field_other c.args.letter c.in-Some.first (packed c.args.text.now) (packed c.in-Some.rest.now) c.in-Some.ensures.kept c.if-first-letter.true))
+    ap (λ p. p.1)
+    (sym (field_other c.args.letter c.in-Some.first (packed c.args.text.now)
+    (packed c.in-Some.rest.now) c.in-Some.ensures.kept c.if-first-letter.true))
 
 pub returns-clause-run : goal.returns-clause-run
 returns-clause-run c =
     let rest = c.in-Some.rest.now in
-    let run : packed c.split_at.result.0.now ≡ run_of (packed rest) = ap packed c.split_at.ensures.front ∙ ap (λ (n : ℕ). packed (take n rest)) c.run_len.ensures.value ∙ packed_run rest in
-    ap (λ (r : List ℕ). Some r) run ∙ ap (λ p. p.0) (sym (field_there c.args.letter c.in-Some.first (packed c.args.text.now) (packed rest) c.in-Some.ensures.kept c.if-first-letter.false))
+    let run : packed c.split_at.result.0.now ≡ run_of (packed rest) = ap packed c.split_at.ensures.front
+    ∙ ap (λ (n : ℕ). packed (take n rest)) c.run_len.ensures.value ∙ packed_run rest in
+    ap (λ (r : List ℕ). Some r) run
+    ∙ ap (λ p. p.0)
+    (sym (field_there c.args.letter c.in-Some.first (packed c.args.text.now)
+    (packed rest) c.in-Some.ensures.kept c.if-first-letter.false))
 
 pub returns-clause-behind : goal.returns-clause-behind
 returns-clause-behind c =
     let rest = c.in-Some.rest.now in
-    let run : packed c.split_at.result.1.now ≡ behind_run (packed rest) = ap packed c.split_at.ensures.back ∙ ap (λ (n : ℕ). packed (drop n rest)) c.run_len.ensures.value ∙ packed_behind_run rest in
-    run ∙ ap (λ p. p.1) (sym (field_there c.args.letter c.in-Some.first (packed c.args.text.now) (packed rest) c.in-Some.ensures.kept c.if-first-letter.false))
+    let run : packed c.split_at.result.1.now ≡ behind_run (packed rest) = ap packed c.split_at.ensures.back
+    ∙ ap (λ (n : ℕ). packed (drop n rest)) c.run_len.ensures.value ∙ packed_behind_run rest in
+    run ∙ ap (λ p. p.1)
+    (sym (field_there c.args.letter c.in-Some.first (packed c.args.text.now)
+    (packed rest) c.in-Some.ensures.kept c.if-first-letter.false))

@@ -7,11 +7,15 @@ use Rattle.cam_gerber.proofs.running.Running.flash.Goals as goal
 
 pub returns : goal.returns
 returns c = λ past none t out flashes.
-    flash_tracks past c.args.operation.now c.args.self.now c.keep.new.self c.operated.new.self c.in-Some.aperture c.weight_of-weight.result.leaves c.in-Some-moved_point.at
-    (Flash c.in-Some.aperture c.in-Some-moved_point.at c.turn.result c.args.self.now.modal.dark) none t out flashes c.in-Some.is c.in-Some-moved_point.ensures.0 c.in-Some-moved_point.ensures.1
+    flash_tracks past c.args.operation.now c.args.self.now c.keep.new.self c.operated.new.self c.in-Some.aperture
+    c.weight_of-weight.result.leaves c.in-Some-moved_point.at
+    (Flash c.in-Some.aperture c.in-Some-moved_point.at c.turn.result c.args.self.now.modal.dark) none t out flashes c.in-Some.is
+    c.in-Some-moved_point.ensures.0 c.in-Some-moved_point.ensures.1
     (ap (λ turn. Flash c.in-Some.aperture c.in-Some-moved_point.at turn c.args.self.now.modal.dark) c.turn.ensures)
     (sym c.if-is_outside_at.false ∙ c.is_outside_at.ensures past (record { frames = t.frames; built = t.built }))
-    (sym c.if-is_full.false ∙ c.is_full.ensures past (Flash c.in-Some.aperture c.in-Some-moved_point.at c.turn.result c.args.self.now.modal.dark) (record { frames = t.frames; built = t.built }) c.weight_of-weight.ensures)
+    (sym c.if-is_full.false
+    ∙ c.is_full.ensures past (Flash c.in-Some.aperture c.in-Some-moved_point.at c.turn.result c.args.self.now.modal.dark)
+    (record { frames = t.frames; built = t.built }) c.weight_of-weight.ensures)
     c.weight_of-weight.ensures.leaves c.in_ok-keep.ensures c.operated.ensures
 
 pub is_outside_at-requires : goal.is_outside_at-requires

@@ -9,6 +9,7 @@ returns-in-Some c = record {
   alloc = refl;
   places = λ past says none t maker is count room.
       let some : 0 < length c.args.self.now.frames.blocks.items = search rules in
-      made_in_block past says c.args.self.now c.args.object c.args.leaves c.saturating_add-block.result c.in-Some.block.now c.push.new.self _ none t maker is count room some
+      made_in_block past says c.args.self.now c.args.object c.args.leaves c.saturating_add-block.result c.in-Some.block.now
+      c.push.new.self _ none t maker is count room some
       c.in-Some.ensures.value c.in_ok-push.ensures c.saturating_add-block.ensures refl;
 }

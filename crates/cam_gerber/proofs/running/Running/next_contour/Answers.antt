@@ -11,7 +11,9 @@ returns-in-Err c = λ past none t inside moves.
 
 pub returns : goal.returns
 returns c = λ past none t inside moves.
-    let k = c.in_default-end_contour.ensures past (Says (Operate c.args.operation.now)) none t tt (next_made past c.args.operation.now inside moves) in (
+    let k = c.in_default-end_contour.ensures past (Says (Operate c.args.operation.now)) none t tt
+    (next_made past c.args.operation.now inside moves) in (
       sym (next_table past c.args.operation.now c.args.self.now t c.in-Some.ensures.1) ∙ k.0,
-      next_tracks past c.args.operation.now c.args.self.now c.end_contour.new.self c.in-Some.to c.operated.new.self t inside moves k.1 c.in-Some.ensures.0 c.operated.ensures,
+      next_tracks past c.args.operation.now c.args.self.now c.end_contour.new.self c.in-Some.to c.operated.new.self t inside moves
+          k.1 c.in-Some.ensures.0 c.operated.ensures,
     )

@@ -9,8 +9,13 @@ use Rattle.cam_gerber.proofs.running.Running.open_block.Goals as goal
 
 pub returns : goal.returns
 returns c = λ past none t.
-    subst (λ number. (first_of (command_faults past (OpenBlock number)) ≡ None) × Tracks (Says (OpenBlock number) ∷ past) (record c.args.self.now { frames = record c.args.self.now.frames { blocks = c.push_front.new.self } }))
+    subst (λ number. (first_of (command_faults past (OpenBlock number)) ≡ None)
+    × Tracks (Says (OpenBlock number) ∷ past)
+    (record c.args.self.now { frames = record c.args.self.now.frames { blocks = c.push_front.new.self } }))
     (sym c.in-Some.is)
-    (opened_tracks past c.args.self.now c.in-Some.number c.push_front.new.self t (sym (c.is_taken.ensures past (record { frames = t.frames; built = t.built })) ∙ c.if-is_taken.false) c.if-self.false
+    (opened_tracks past c.args.self.now c.in-Some.number c.push_front.new.self t
+    (sym (c.is_taken.ensures past (record { frames = t.frames; built = t.built })) ∙ c.if-is_taken.false) c.if-self.false
     (sym c.is_some.ensures ∙ c.if-is_some.false) (lt-leb 8 (length c.args.self.now.frames.blocks.items) (omega arith))
-    (c.in_ok-push_front.ensures.items ∙ ap (λ objects. record { number = c.in-Some.number; objects = objects; leaves = 0 } ∷ c.args.self.now.frames.blocks.items) c.new-objects.ensures))
+    (c.in_ok-push_front.ensures.items
+    ∙ ap (λ objects. record { number = c.in-Some.number; objects = objects; leaves = 0 } ∷ c.args.self.now.frames.blocks.items)
+    c.new-objects.ensures))

@@ -10,4 +10,5 @@ returns-then-is_repeated c = λ past none t.
       known = c.in-Some.is;
       nested = sym c.is_nested.ensures ∙ c.if-is_nested.false;
       outside = c.if-self.false;
-    }) (sym c.has_short_steps.ensures ∙ c.if-not-has_short_steps.false) (sym c.is_repeated.ensures ∙ c.if-is_repeated.true) c.new.ensures (c.in_default-settle.ensures past none t)
+    }) (sym c.has_short_steps.ensures ∙ c.if-not-has_short_steps.false)
+    (sym c.is_repeated.ensures ∙ c.if-is_repeated.true) c.new.ensures (c.in_default-settle.ensures past none t)

@@ -9,24 +9,31 @@ use Rattle.cam_gerber.proofs.running.Running.stroke.Goals as goal
 
 pub returns-in-Err : goal.returns-in-Err
 returns-in-Err c = λ past none t out plots.
-    stroke_table past c.args.self.now.modal c.args.self.now.built.layer.apertures c.in-Some.aperture c.args.operation.now t.modal t.built.entries c.in-Some.is (sym c.if-not-is_solid.false ∙ c.is_solid.ensures)
-    ∙ told_before (path_table c.args.self.now.modal c.args.operation.now) ((25, is_full (home past) past (stroke_of past c.args.operation.now)) ∷ []) _ c.in-Err.ensures.faults
+    stroke_table past c.args.self.now.modal c.args.self.now.built.layer.apertures c.in-Some.aperture c.args.operation.now t.modal
+    t.built.entries c.in-Some.is (sym c.if-not-is_solid.false ∙ c.is_solid.ensures)
+    ∙ told_before (path_table c.args.self.now.modal c.args.operation.now)
+    ((25, is_full (home past) past (stroke_of past c.args.operation.now)) ∷ []) _ c.in-Err.ensures.faults
 
 pub returns-then-is_full : goal.returns-then-is_full
 returns-then-is_full c = λ past none t out plots.
-    stroke_full past c.args.operation.now c.args.self.now c.in-Some.aperture t c.in-Some.is (sym c.if-not-is_solid.false ∙ c.is_solid.ensures) c.in-Ok.ensures.faults
-    (λ object leaves depth. sym c.if-is_full.true ∙ c.is_full.ensures past object (record { frames = t.frames; built = t.built }) (record { leaves = leaves; depth = depth }))
+    stroke_full past c.args.operation.now c.args.self.now c.in-Some.aperture t c.in-Some.is
+    (sym c.if-not-is_solid.false ∙ c.is_solid.ensures) c.in-Ok.ensures.faults
+    (λ object leaves depth. sym c.if-is_full.true
+    ∙ c.is_full.ensures past object (record { frames = t.frames; built = t.built }) (record { leaves = leaves; depth = depth }))
 
 pub operated-requires : goal.operated-requires
 operated-requires c =
     let m = c.args.self.now.modal in
     let o = c.args.operation.now in
-    ap is_on_board c.end_of.ensures ∙ ap (λ s. is_on_board (end_of s)) c.in-Ok.ensures.ok ∙ ap is_on_board (end_same (mode_by m o) (moved_point m o) (centre_by m o)) ∙ c.in-Ok.ensures.on_board
+    ap is_on_board c.end_of.ensures ∙ ap (λ s. is_on_board (end_of s)) c.in-Ok.ensures.ok
+    ∙ ap is_on_board (end_same (mode_by m o) (moved_point m o) (centre_by m o)) ∙ c.in-Ok.ensures.on_board
 
 pub returns : goal.returns
 returns c = λ past none t out plots.
-    stroke_tracks past c.args.operation.now c.args.self.now c.keep.new.self c.operated.new.self c.in-Some.aperture c.in-Ok.seg none t out plots c.in-Some.is
+    stroke_tracks past c.args.operation.now c.args.self.now c.keep.new.self c.operated.new.self c.in-Some.aperture c.in-Ok.seg none
+    t out plots c.in-Some.is
     (sym c.if-not-is_solid.false ∙ c.is_solid.ensures) c.in-Ok.ensures.faults c.in-Ok.ensures.ok
-    (λ object leaves depth. sym c.if-is_full.false ∙ c.is_full.ensures past object (record { frames = t.frames; built = t.built }) (record { leaves = leaves; depth = depth }))
+    (λ object leaves depth. sym c.if-is_full.false
+    ∙ c.is_full.ensures past object (record { frames = t.frames; built = t.built }) (record { leaves = leaves; depth = depth }))
     (subst (λ made. Keeps made 1 c.args.self.now c.keep.new.self) c.stroke-object.ensures c.in_ok-keep.ensures)
     (subst (λ to. IsOperated c.keep.new.self.modal c.args.operation.now to c.operated.new.self) c.end_of.ensures c.operated.ensures)

@@ -1,14 +1,20 @@
--- What contracts see of the values that borrow a text: its bytes, without those that are skipped.
+-- The commands that borrow their texts from a file, as plain data: of a text without the bytes that do not count, but of
+-- an attribute or a name with all of them.
 use Rattle.cam_words.specs.Cutting.{FoundWord}
 use Rattle.cam_words.specs.Heads.{packed}
 use Rattle.cam_words.specs.declared.word.Word.{Word}
 use Rattle.cam_commands.specs.declared.command.Command.{Command as BorrowedCommand}
 use Rattle.cam_commands.specs.declared.command.Command.TheVariants as borrowed
-use Rattle.cam_commands.specs.Commands.{Command, SetFormat, RefusedFormat, SetUnit, DefineAperture, DefineMacro, SetPolarity, SetMirror, SetRotation, SetScale, OpenBlock, CloseBlock, SetRepeat, CloseRepeat, KeepText, NeutralOld, RefusedOld, SetMode, SingleQuadrant, MultiQuadrant, BeginRegion, EndRegion, Nothing, Select, Operate, End, Unknown}
+use Rattle.cam_commands.specs.Commands.{Command, SetFormat, RefusedFormat, SetUnit, DefineAperture, DefineMacro}
+use Rattle.cam_commands.specs.Commands.{SetPolarity, SetMirror, SetRotation, SetScale, OpenBlock, CloseBlock, SetRepeat}
+use Rattle.cam_commands.specs.Commands.{CloseRepeat, KeepText, NeutralOld, RefusedOld, SetMode, SingleQuadrant}
+use Rattle.cam_commands.specs.Commands.{MultiQuadrant, BeginRegion, EndRegion, Nothing, Select, Operate, End, Unknown}
 
+-- the word that is found in a text
 abbrev pub found : Word → FoundWord
 found word = record { kind = word.kind; text = word.text.now; at = word.at }
 
+-- the command that a borrowed one stands for
 abbrev pub shown : BorrowedCommand → Command
 shown (borrowed.SetFormat format) = SetFormat format
 shown borrowed.RefusedFormat = RefusedFormat
