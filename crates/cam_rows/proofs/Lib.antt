@@ -16,6 +16,7 @@ pub mod EdgeSides
 pub mod EitherRows
 pub mod EqualRows
 pub mod Falls
+pub mod Gaps
 pub mod HalfPlanes
 pub mod JoinedLanes
 pub mod KeptRows

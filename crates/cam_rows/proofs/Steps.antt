@@ -37,12 +37,7 @@ left_by_division first step x n gap pitch steps positive is_step is_x is_steps =
       (λ left. before.1 (omega (arith, ints, left))),
     )
 
--- the first of some centres and the last one are places of the board
-pub first_near : (c : Centres) → IsRow c → unsigned_abs c.first.x < 4000000000
-first_near c row =
-    let first = (row.centres 0 (omega (arith, row.count.0))).x in
-    omega (arith, ints, first)
-
+-- the last of some centres is a place of the board
 pub last_near : (c : Centres) → IsRow c → unsigned_abs (c.first.x +ℤ pos (c.count - 1) *ℤ c.step) < 4000000000
 last_near c row = (row.centres (c.count - 1) (omega (arith, row.count.0))).x
 

@@ -14,7 +14,7 @@ use Rattle.cam_shapes.specs.Edge.{crosses_ray, edge}
 use Rattle.cam_shapes.specs.Machinery.Sides.{IsSoundSeg, change_side, changes_side, differ}
 use Rattle.cam_tiles.specs.declared.levels.Levels.{Levels}
 use Rattle.cam_tiles.specs.declared.masks.filing.FiledSegment.{FiledSegment}
-use Rattle.cam_tiles.specs.Levels.{IsOnRow}
+use Rattle.cam_tiles.specs.Machinery.Levels.{IsOnRow}
 
 -- segment k of a contour; behind the last one stands the line that closes it
 abbrev pub segment_of : Contour → ℕ → Seg

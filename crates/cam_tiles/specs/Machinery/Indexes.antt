@@ -16,9 +16,9 @@ use Rattle.cam_tiles.specs.declared.index.Span.{Span}
 use Rattle.cam_tiles.specs.declared.levels.Levels.{Levels}
 use Rattle.cam_tiles.specs.declared.masks.filing.FiledSegment.{FiledSegment}
 use Rattle.cam_tiles.specs.declared.masks.heights.Heights.{Heights}
-use Rattle.cam_tiles.specs.Filing.{AreFiled}
-use Rattle.cam_tiles.specs.Levels.{IsOnRow}
-use Rattle.cam_tiles.specs.Masks.{IsWithin}
+use Rattle.cam_tiles.specs.Machinery.Filing.{AreFiled}
+use Rattle.cam_tiles.specs.Machinery.Levels.{IsOnRow}
+use Rattle.cam_tiles.specs.Machinery.Masks.{IsWithin}
 
 -- the lists that were boxed, and those of a band, one after another
 abbrev pub boxed_leaves : List (List Leaf) → List Boxed → List Leaf

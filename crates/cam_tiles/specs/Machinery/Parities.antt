@@ -3,7 +3,7 @@ use Rattle.std.specs.Prelude.{◌≡◌, ◌↔◌, ℕ}
 use Rattle.std.specs.Int.{IsBitSet}
 use Rattle.cam_units.specs.declared.point.Spot.{Spot}
 use Rattle.cam_tiles.specs.declared.masks.join.Join.TheVariants.{Turn}
-use Rattle.cam_tiles.specs.Masks.{IsIn, IsMarked, Marking, joined}
+use Rattle.cam_tiles.specs.Machinery.Masks.{IsIn, IsMarked, Marking, joined}
 use Rattle.cam_tiles.specs.Tiles.{centre_in}
 
 -- marks, and by its bits the rows that are turned over whole
