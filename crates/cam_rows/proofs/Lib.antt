@@ -15,6 +15,8 @@ pub mod EdgeEnds
 pub mod EdgeSides
 pub mod EitherRows
 pub mod EqualRows
+pub mod Falls
+pub mod Gaps
 pub mod HalfPlanes
 pub mod JoinedLanes
 pub mod KeptRows

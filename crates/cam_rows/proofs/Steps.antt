@@ -1,10 +1,15 @@
 -- Centres by steps from the first one, and the runs of those in a strip.
-use Rattle.std.proofs.Common.{◌≡◌, ℕ, ◌+◌, ◌*◌, ◌<◌, ◌≤◌, ◌↔◌, ℤ, pos, ◌+ℤ◌, ◌*ℤ◌, ◌≤ℤ◌, ◌<ℤ◌, inl, inr, arith}
+use Rattle.std.proofs.Common.{◌≡◌, ℕ, ◌+◌, ◌-◌, ◌*◌, ◌^◌, ◌<◌, ◌≤◌, ◌↔◌, ℤ, pos, ◌+ℤ◌, ◌-ℤ◌, ◌*ℤ◌, ◌≤ℤ◌, ◌<ℤ◌}
+use Rattle.std.proofs.Common.{Fits, FitsSigned, w64, inl, inr, arith}
 use Rattle.std.specs.Int.{div_ceil}
+use Rattle.std.specs.Int.RustNames.{unsigned_abs}
 use Rattle.std.proofs.lemmas.Bool.{cases_lt}
 use Rattle.std.proofs.lemmas.Grind.{div_ceil_times}
 use Rattle.std.proofs.lemmas.Int.{by_lt_z, ints}
 use Rattle.std.proofs.lemmas.Nat.{mul-le}
+use Rattle.cam_shapes.proofs.Widths.{narrow}
+use Rattle.cam_rows.specs.declared.centres.Centres.{Centres}
+use Rattle.cam_rows.specs.Rows.{IsRow}
 
 -- how many steps end before a gap, by division
 steps_before : (n gap step : ℕ) → 0 < step → (n < div_ceil gap step) ↔ (n * step < gap)
@@ -31,6 +36,44 @@ left_by_division first step x n gap pitch steps positive is_step is_x is_steps =
       (λ few. omega (arith, ints, before.0 few)),
       (λ left. before.1 (omega (arith, ints, left))),
     )
+
+-- the last of some centres is a place of the board
+pub last_near : (c : Centres) → IsRow c → unsigned_abs (c.first.x +ℤ pos (c.count - 1) *ℤ c.step) < 4000000000
+last_near c row = (row.centres (c.count - 1) (omega (arith, row.count.0))).x
+
+-- a gap, and how far the last centre lies from the first one, as 64 bits compute them
+pub gap_fits : (x first : ℤ) → unsigned_abs x < 2 ^ 62 → unsigned_abs first < 4000000000
+    → FitsSigned w64 (narrow x -ℤ narrow first)
+gap_fits x first h k = omega (arith, ints)
+
+pub reach_fits : (last count pitch : ℕ) (first step : ℤ) → last ≡ count - 1 → step ≡ pos pitch
+    → unsigned_abs first < 4000000000 → unsigned_abs (first +ℤ pos (count - 1) *ℤ step) < 4000000000
+    → Fits w64 (last * pitch)
+reach_fits last count pitch first step is_last is_step h k =
+    let reach : unsigned_abs (first +ℤ pos (count - 1) *ℤ pos pitch) < 4000000000 = rw is_step at k in
+    rw is_last (omega (arith, ints, h, reach))
+
+-- where x is not right of the first one, none lies left of it, and where it is right of the last one, all do
+pub none_left : (first step x : ℤ) (n pitch : ℕ) → step ≡ pos pitch → x ≤ℤ first
+    → (n < 0) ↔ ((first +ℤ pos n *ℤ step) <ℤ x)
+none_left first step x n pitch is_step over =
+    rw is_step ((λ h. absurd (omega (arith, h))), (λ left. absurd (omega (arith, ints, left, over))))
+
+pub all_left : (first step x : ℤ) (n count last pitch gap : ℕ) → step ≡ pos pitch → x ≡ first +ℤ pos gap
+    → last ≡ count - 1 → last * pitch < gap → n < count → (n < count) ↔ ((first +ℤ pos n *ℤ step) <ℤ x)
+all_left first step x n count last pitch gap is_step is_x is_last far within =
+    let near = mul-le n pitch last pitch (omega arith) (omega arith) in
+    rw (is_step, is_x) ((λ _. omega (arith, ints, far, near)), (λ _. within))
+
+-- and else as many lie left of it as steps end before the gap
+pub few_before : (gap pitch steps last : ℕ) → 0 < pitch → steps ≡ div_ceil gap pitch → gap ≤ last * pitch → steps ≤ last
+few_before gap pitch steps last some is within =
+    elim (cases_lt last steps) [
+      | inl h ↦
+          let short = (steps_before last gap pitch some).0 (rw is at h) in
+          absurd (omega (arith, within, short))
+      | inr h ↦ h
+    ]
 
 -- a run of bits as the centres of a strip, of which `first` lie left of it and `end` not right of it
 pub run_in_strip : (B : Type 0) (n first end count : ℕ) (x left right low high : ℤ)

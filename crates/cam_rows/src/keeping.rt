@@ -120,8 +120,8 @@ impl HalfPlane {
     }
 }
 
-/// Clears the bits of the centres outside of both half planes, in rows one below another from the top one: at once where
-/// one has all of 64 centres, or none, or both have the same ones in each row.
+/// Clears the bits of the centres outside of both half planes, in rows one below another from the top one: at once
+/// where one has all of 64 centres, or none, or both have the same ones in each row.
 pub(crate) fn keep_either(first: &HalfPlane, second: &HalfPlane, rows: &mut [u64])
     requires first { IsShortIn (length rows.old) first.now }
     requires second { IsShortIn (length rows.old) second.now }

@@ -17,9 +17,9 @@ use Rattle.cam_tiles.specs.declared.index.Entry.{Entry}
 use Rattle.cam_tiles.specs.declared.index.Span.{Span}
 use Rattle.cam_tiles.specs.declared.levels.Levels.{Levels}
 use Rattle.cam_tiles.specs.declared.masks.filing.FiledSegment.{FiledSegment}
-use Rattle.cam_tiles.specs.Filing.{AreFiled}
-use Rattle.cam_tiles.specs.Indexes.{IsBoxed, IsEntry, IsFiled, IsOnLevels, PaintAlike, band_leaves, boxed_leaves}
-use Rattle.cam_tiles.specs.Levels.{IsLevels, height}
+use Rattle.cam_tiles.specs.Machinery.Filing.{AreFiled}
+use Rattle.cam_tiles.specs.Machinery.Indexes.{IsBoxed, IsEntry, IsFiled, IsOnLevels, PaintAlike, band_leaves, boxed_leaves}
+use Rattle.cam_tiles.specs.Machinery.Levels.{IsLevels, height}
 use Rattle.cam_tiles.proofs.GridBoxes.{steps_on, steps_up}
 use Rattle.cam_tiles.proofs.Indexed.{alike_are, alike_more, alike_unseen, at, leaves_more}
 

@@ -9,8 +9,8 @@ use Rattle.cam_rows.proofs.SetBits.{set_in_xor}
 use Rattle.cam_tiles.specs.declared.grid.Grid.{Grid}
 use Rattle.cam_tiles.specs.declared.masks.join.Join.{Join}
 use Rattle.cam_tiles.specs.declared.masks.join.Join.TheVariants.{Turn}
-use Rattle.cam_tiles.specs.Masks.{IsIn, IsMarked, Joins, Marking, Merges, joined}
-use Rattle.cam_tiles.specs.Parities.{Changes, IsEven, IsOdd, Parities}
+use Rattle.cam_tiles.specs.Machinery.Masks.{IsIn, IsMarked, Joins, Marking, Merges, joined}
+use Rattle.cam_tiles.specs.Machinery.Parities.{Changes, IsEven, IsOdd, Parities}
 use Rattle.cam_tiles.specs.Tiles.{centre_in}
 use Rattle.cam_tiles.proofs.Joined.{merges_shown, seen_itself, set_or_not}
 

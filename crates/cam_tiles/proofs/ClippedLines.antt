@@ -11,8 +11,8 @@ use Rattle.cam_shapes.specs.Edge.{crosses_ray, crossing, edge, is_above, rise, r
 use Rattle.cam_shapes.proofs.Crossings.{falling, rising}
 use Rattle.cam_rows.proofs.EdgeEnds.{crossed_between}
 use Rattle.cam_tiles.specs.declared.levels.Levels.{Levels}
-use Rattle.cam_tiles.specs.Filing.{AreEndsIn}
-use Rattle.cam_tiles.specs.Levels.{AreLevels, IsOnRow, height}
+use Rattle.cam_tiles.specs.Machinery.Filing.{AreEndsIn}
+use Rattle.cam_tiles.specs.Machinery.Levels.{AreLevels, IsOnRow, height}
 use Rattle.cam_tiles.proofs.FiledSegments.{after_both, before_both}
 use Rattle.cam_tiles.proofs.LevelRows.{down_to}
 

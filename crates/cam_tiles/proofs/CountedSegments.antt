@@ -23,10 +23,10 @@ use Rattle.cam_apertures.proofs.Painting.{through}
 use Rattle.cam_tiles.specs.declared.grid.Grid.{Grid}
 use Rattle.cam_tiles.specs.declared.masks.filing.FiledSegment.{FiledSegment}
 use Rattle.cam_tiles.specs.declared.masks.join.Join.TheVariants.{Turn}
-use Rattle.cam_tiles.specs.Filing.{AreFiled, IsFiledSegment, changes_at, corner_of, filed_change, segment_of}
-use Rattle.cam_tiles.specs.Levels.{levels_of}
-use Rattle.cam_tiles.specs.Masks.{IsIn, joined}
-use Rattle.cam_tiles.specs.Parities.{Changes, IsOdd, Parities}
+use Rattle.cam_tiles.specs.Machinery.Filing.{AreFiled, IsFiledSegment, changes_at, corner_of, filed_change, segment_of}
+use Rattle.cam_tiles.specs.Machinery.Levels.{levels_of}
+use Rattle.cam_tiles.specs.Machinery.Masks.{IsIn, joined}
+use Rattle.cam_tiles.specs.Machinery.Parities.{Changes, IsOdd, Parities}
 use Rattle.cam_tiles.specs.Tiles.{IsGrid, centre_in}
 use Rattle.cam_tiles.proofs.ChangedParities.{Either, odd_or_not, turned_like}
 use Rattle.cam_tiles.proofs.FiledContours.{changed_more}

@@ -15,7 +15,7 @@ use Rattle.cam_apertures.proofs.Painting.{through}
 use Rattle.cam_objects.specs.Image.{relative}
 use Rattle.cam_tiles.specs.declared.grid.Grid.{Grid}
 use Rattle.cam_tiles.specs.declared.masks.heights.Heights.{Heights}
-use Rattle.cam_tiles.specs.Masks.{IsWithin}
+use Rattle.cam_tiles.specs.Machinery.Masks.{IsWithin}
 use Rattle.cam_tiles.specs.Tiles.{centre_in}
 
 -- ---- the heights that an edge crosses

@@ -16,9 +16,9 @@ use Rattle.cam_shapes.specs.Contour.{end_of}
 use Rattle.cam_shapes.specs.Machinery.Sides.{IsSoundSeg, change_side, changes_side, differ}
 use Rattle.cam_tiles.specs.declared.levels.Levels.{Levels}
 use Rattle.cam_tiles.specs.declared.masks.filing.FiledSegment.{FiledSegment}
-use Rattle.cam_tiles.specs.Filing.{AreFiled, IsFiledAs, IsFiledSegment, Misses, changes_at, corner_of, filed_change}
-use Rattle.cam_tiles.specs.Filing.{segment_of}
-use Rattle.cam_tiles.specs.Levels.{IsOnRow}
+use Rattle.cam_tiles.specs.Machinery.Filing.{AreFiled, IsFiledAs, IsFiledSegment, Misses, changes_at, corner_of, filed_change}
+use Rattle.cam_tiles.specs.Machinery.Filing.{segment_of}
+use Rattle.cam_tiles.specs.Machinery.Levels.{IsOnRow}
 
 -- ---- changes in a row
 

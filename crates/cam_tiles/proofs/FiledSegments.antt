@@ -20,9 +20,9 @@ use Rattle.cam_apertures.proofs.ShapeBoxes.{less_at_most}
 use Rattle.cam_tiles.specs.declared.levels.Levels.{Levels}
 use Rattle.cam_tiles.specs.declared.masks.filing.FiledSegment.{FiledSegment}
 use Rattle.cam_tiles.specs.declared.masks.heights.Heights.{Heights}
-use Rattle.cam_tiles.specs.Filing.{AreEndsIn, IsFiledAs, Misses}
-use Rattle.cam_tiles.specs.Levels.{AreLevels, IsOnRow, height}
-use Rattle.cam_tiles.specs.Masks.{IsWithin}
+use Rattle.cam_tiles.specs.Machinery.Filing.{AreEndsIn, IsFiledAs, Misses}
+use Rattle.cam_tiles.specs.Machinery.Levels.{AreLevels, IsOnRow, height}
+use Rattle.cam_tiles.specs.Machinery.Masks.{IsWithin}
 use Rattle.cam_tiles.proofs.EdgeSpans.{met_apart}
 use Rattle.cam_tiles.proofs.GridLemmas.{long}
 use Rattle.cam_tiles.proofs.LevelRows.{rows_reached}

@@ -18,7 +18,7 @@ use Rattle.cam_objects.proofs.CoveredBoxes.{outside_box}
 use Rattle.cam_objects.proofs.Inking.{front_more}
 use Rattle.cam_objects.proofs.TestLaws.{painted_off, painted-append}
 use Rattle.cam_tiles.specs.declared.index.Boxed.{Boxed}
-use Rattle.cam_tiles.specs.Indexes.{AreBoxed, IsBoxed, PaintAlike, boxed_leaves}
+use Rattle.cam_tiles.specs.Machinery.Indexes.{AreBoxed, IsBoxed, PaintAlike, boxed_leaves}
 
 -- the leaves at a place of a list of lists
 abbrev pub at : List (List Leaf) → ℕ → List Leaf

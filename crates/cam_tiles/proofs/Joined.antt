@@ -10,7 +10,7 @@ use Rattle.cam_objects.specs.Image.{relative}
 use Rattle.cam_tiles.specs.declared.grid.Grid.{Grid}
 use Rattle.cam_tiles.specs.declared.masks.join.Join.{Join}
 use Rattle.cam_tiles.specs.declared.masks.join.Join.TheVariants.{Add, Clear, Turn}
-use Rattle.cam_tiles.specs.Masks.{IsBlank, IsIn, IsMarked, Joins, Marking, Merges, joined}
+use Rattle.cam_tiles.specs.Machinery.Masks.{IsBlank, IsIn, IsMarked, Joins, Marking, Merges, joined}
 use Rattle.cam_tiles.specs.Tiles.{centre_in}
 
 -- ---- one mark

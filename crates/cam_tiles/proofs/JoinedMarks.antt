@@ -12,7 +12,7 @@ use Rattle.cam_tiles.specs.declared.grid.Grid.{Grid}
 use Rattle.cam_tiles.specs.declared.masks.heights.Heights.{Heights}
 use Rattle.cam_tiles.specs.declared.masks.join.Join.{Join}
 use Rattle.cam_tiles.specs.declared.masks.join.Join.TheVariants.{Add, Clear, Turn}
-use Rattle.cam_tiles.specs.Masks.{IsIn, IsMarked, IsMask, IsWithin, Joins, Marking, joined}
+use Rattle.cam_tiles.specs.Machinery.Masks.{IsIn, IsMarked, IsMask, IsWithin, Joins, Marking, joined}
 use Rattle.cam_tiles.specs.Tiles.{centre_in}
 
 -- ---- one mark

@@ -14,8 +14,8 @@ use Rattle.cam_objects.specs.Image.{relative}
 use Rattle.cam_tiles.specs.declared.grid.Grid.{Grid}
 use Rattle.cam_tiles.specs.declared.levels.Levels.{Levels}
 use Rattle.cam_tiles.specs.declared.masks.heights.Heights.{Heights}
-use Rattle.cam_tiles.specs.Levels.{AreLevels, IsLevels, IsOnRow, height, levels_of}
-use Rattle.cam_tiles.specs.Masks.{IsWithin}
+use Rattle.cam_tiles.specs.Machinery.Levels.{AreLevels, IsLevels, IsOnRow, height, levels_of}
+use Rattle.cam_tiles.specs.Machinery.Masks.{IsWithin}
 use Rattle.cam_tiles.specs.Tiles.{IsGrid, centre_in}
 use Rattle.cam_tiles.proofs.GridLemmas.{long}
 use Rattle.cam_tiles.proofs.SeenRows.{seen_kept}

@@ -10,7 +10,7 @@ use Rattle.cam_rows.specs.Lanes.{AreJoined}
 use Rattle.cam_rows.specs.Rows.{AreMarked, centre_at}
 use Rattle.cam_rows.proofs.SetBits.{none_set}
 use Rattle.cam_tiles.specs.declared.masks.join.Join.{Join}
-use Rattle.cam_tiles.specs.Masks.{IsIn, IsMarked, IsMask, Joins, Marking, joined}
+use Rattle.cam_tiles.specs.Machinery.Masks.{IsIn, IsMarked, IsMask, Joins, Marking, joined}
 use Rattle.cam_tiles.specs.Tiles.{centre_in}
 use Rattle.cam_tiles.proofs.Joined.{Shows, merges_shown}
 use Rattle.cam_tiles.proofs.JoinedMarks.{joined_from}

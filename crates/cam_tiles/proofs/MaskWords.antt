@@ -8,7 +8,7 @@ use Rattle.std.proofs.lemmas.Nat.Bits.{bit_at-lt, same_from_bits_below}
 use Rattle.cam_units.specs.declared.point.Spot.{Spot}
 use Rattle.cam_rows.proofs.SetBits.{set_is_one}
 use Rattle.cam_tiles.specs.declared.grid.Grid.{Grid}
-use Rattle.cam_tiles.specs.Masks.{IsIn, IsMarked, IsMask, Marking}
+use Rattle.cam_tiles.specs.Machinery.Masks.{IsIn, IsMarked, IsMask, Marking}
 use Rattle.cam_tiles.specs.Pbm.{bit_of}
 use Rattle.cam_tiles.specs.Tiles.{centre_in, is_black_in, tile_rows, word}
 use Rattle.cam_tiles.proofs.TileRowLemmas.{clear_past, get_or-tile_rows, length-tile_rows, shown_within}

@@ -10,9 +10,9 @@ use Rattle.cam_objects.proofs.Canvases.{paints_missed, paints_next}
 use Rattle.cam_tiles.specs.declared.grid.Grid.{Grid}
 use Rattle.cam_tiles.specs.declared.index.Entry.{Entry}
 use Rattle.cam_tiles.specs.declared.masks.filing.FiledSegment.{FiledSegment}
-use Rattle.cam_tiles.specs.Indexes.{IsEntry, PaintAlike, band_leaves}
-use Rattle.cam_tiles.specs.Levels.{levels_of}
-use Rattle.cam_tiles.specs.Masks.{IsIn, Marking, PaintsMask, ink_of}
+use Rattle.cam_tiles.specs.Machinery.Indexes.{IsEntry, PaintAlike, band_leaves}
+use Rattle.cam_tiles.specs.Machinery.Levels.{levels_of}
+use Rattle.cam_tiles.specs.Machinery.Masks.{IsIn, Marking, PaintsMask, ink_of}
 use Rattle.cam_tiles.specs.Tiles.{IsGrid, centre_in}
 use Rattle.cam_tiles.proofs.GridBoxes.{between_ends}
 use Rattle.cam_tiles.proofs.Indexed.{at}

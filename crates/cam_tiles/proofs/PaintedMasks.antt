@@ -12,7 +12,7 @@ use Rattle.cam_objects.specs.Tests.{covers}
 use Rattle.cam_objects.proofs.TestLaws.{cover_law}
 use Rattle.cam_tiles.specs.declared.grid.Grid.{Grid}
 use Rattle.cam_tiles.specs.declared.masks.join.Join.{Join}
-use Rattle.cam_tiles.specs.Masks.{IsIn, IsMarked, Joins, Marking, PaintsMask, ink_of, inked, joined}
+use Rattle.cam_tiles.specs.Machinery.Masks.{IsIn, IsMarked, Joins, Marking, PaintsMask, ink_of, inked, joined}
 use Rattle.cam_tiles.specs.Tiles.{centre_in}
 
 pub dark_if_marked : (m : Marking) (column row : ℕ) → IsMarked m column row → ink_of m column row ≡ true

@@ -8,7 +8,7 @@ use Rattle.cam_units.proofs.Ring.Polynomial.{Atom, Product}
 use Rattle.cam_objects.specs.Leaves.{Leaf}
 use Rattle.cam_objects.specs.Tests.{is_black, painted}
 use Rattle.cam_tiles.specs.declared.grid.Grid.{Grid}
-use Rattle.cam_tiles.specs.Masks.{IsBlank, IsIn, IsMarked, IsMask, Marking, PaintsMask, ink_of}
+use Rattle.cam_tiles.specs.Machinery.Masks.{IsBlank, IsIn, IsMarked, IsMask, Marking, PaintsMask, ink_of}
 use Rattle.cam_tiles.specs.Tiles.{IsGrid, centre_in, tile_rows}
 use Rattle.cam_tiles.proofs.MaskWords.{rows_of_marks}
 use Rattle.cam_tiles.proofs.PaintedMasks.{clear_if_unmarked, dark_if_marked, marked_if_dark}

@@ -24,7 +24,7 @@ use Rattle.cam_shapes.proofs.Strokes.{arc_square, natural_or_not}
 use Rattle.cam_apertures.specs.Primitives.{box_about}
 use Rattle.cam_apertures.proofs.ShapeBoxes.{bar_span, disc_box, less_at_most, obround_box, rectangle_box, within_box}
 use Rattle.cam_tiles.specs.declared.masks.heights.Heights.{Heights}
-use Rattle.cam_tiles.specs.Masks.{IsWithin}
+use Rattle.cam_tiles.specs.Machinery.Masks.{IsWithin}
 
 -- heights so far to both sides of a point
 pub record AreAbout (p : Point) (r : ℤ) (h : Heights) : Type 0 where

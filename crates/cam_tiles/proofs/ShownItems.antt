@@ -7,7 +7,7 @@ use Rattle.cam_objects.specs.Drilling.{drill_item_leaves}
 use Rattle.cam_objects.specs.Leaves.{Leaf, item_leaves, meaning_in}
 use Rattle.cam_tiles.specs.declared.shown.Shown.{Shown}
 use Rattle.cam_tiles.specs.declared.shown.Shown.TheVariants.{Gerber, Drill}
-use Rattle.cam_tiles.specs.Sources.{leaves_by_item, leaves_of}
+use Rattle.cam_tiles.specs.Machinery.Shown.{leaves_by_item, leaves_of}
 
 -- what holds of what each element paints holds of the list at its place
 pub at_place : {X : Type 0} (f : X → List Leaf) (xs : List X) (k : ℕ) (P : List Leaf → Type 0) → k < length (map f xs)

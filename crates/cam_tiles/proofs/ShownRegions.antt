@@ -19,7 +19,7 @@ use Rattle.cam_objects.specs.declared.layer.Layer.{Layer}
 use Rattle.cam_objects.specs.declared.object.Object.TheVariants.{Region}
 use Rattle.cam_objects.specs.Leaves.{Filled, item_leaves, leaf, meaning_in, origin}
 use Rattle.cam_objects.specs.Soundness.{IsSound, IsSoundItem, points_of, points_of_contour, points_of_seg, segs_of}
-use Rattle.cam_tiles.specs.Filing.{IsOnBoardWhole}
+use Rattle.cam_tiles.specs.Machinery.Filing.{IsOnBoardWhole}
 
 -- ---- what is not turned and not moved stays where it is
 

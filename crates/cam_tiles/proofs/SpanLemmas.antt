@@ -10,7 +10,7 @@ use Rattle.std.proofs.Math.Nat.{le-div_iff_mul-le}
 use Rattle.std.proofs.lemmas.List.Folds.{Any-from_list_any, list_any_at}
 use Rattle.std.proofs.lemmas.List.FromFn.{get_or-range_with_len, length-range_with_len}
 use Rattle.cam_tiles.specs.Picture.{middle}
-use Rattle.cam_tiles.specs.Spans.{has_pixel, is_between}
+use Rattle.cam_tiles.specs.Machinery.Spans.{has_pixel, is_between}
 use Rattle.cam_tiles.proofs.WindowLemmas.{le_of, from_le}
 
 -- a number of a range that passes

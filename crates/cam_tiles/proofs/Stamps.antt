@@ -10,7 +10,7 @@ use Rattle.cam_apertures.specs.Tests.{is_in_shape}
 use Rattle.cam_apertures.specs.Turned.{turned_prim, turned_shape}
 use Rattle.cam_apertures.proofs.CoverLaws.{in_shape}
 use Rattle.cam_apertures.proofs.Painting.{decides_at, passes_at}
-use Rattle.cam_tiles.specs.Masks.{inked, joined}
+use Rattle.cam_tiles.specs.Machinery.Masks.{inked, joined}
 
 -- a shape holds a place or does not
 held_or_not : (p : MacroPrimitive) (s : Spot) → IsInShape p.shape s ⊎ (IsInShape p.shape s → ⊥)

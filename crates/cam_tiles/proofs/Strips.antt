@@ -20,10 +20,10 @@ use Rattle.cam_tiles.specs.declared.index.Entry.{Entry}
 use Rattle.cam_tiles.specs.declared.levels.Levels.{Levels}
 use Rattle.cam_tiles.specs.declared.masks.heights.Heights.{Heights}
 use Rattle.cam_tiles.specs.declared.masks.filing.FiledSegment.{FiledSegment}
-use Rattle.cam_tiles.specs.Indexes.{AreNear, Indexed, IsBand, IsBoxed, IsEntry, IsIndexOf, IsOnLevels, PaintAlike}
-use Rattle.cam_tiles.specs.Indexes.{band_leaves, boxed_leaves}
-use Rattle.cam_tiles.specs.Levels.{IsLevels, height}
-use Rattle.cam_tiles.specs.Masks.{IsWithin}
+use Rattle.cam_tiles.specs.Machinery.Indexes.{AreNear, Indexed, IsBand, IsBoxed, IsEntry, IsIndexOf, IsOnLevels, PaintAlike}
+use Rattle.cam_tiles.specs.Machinery.Indexes.{band_leaves, boxed_leaves}
+use Rattle.cam_tiles.specs.Machinery.Levels.{IsLevels, height}
+use Rattle.cam_tiles.specs.Machinery.Masks.{IsWithin}
 use Rattle.cam_tiles.proofs.Bands.{above_bottom, below_top}
 use Rattle.cam_tiles.proofs.Indexed.{alike_are, alike_more, alike_unseen, at, leaves_more}
 

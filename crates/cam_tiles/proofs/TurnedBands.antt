@@ -18,7 +18,7 @@ use Rattle.cam_rows.specs.declared.centres.Centres.{Centres}
 use Rattle.cam_rows.specs.Rows.{AreTurned, IsRow, centre_at, row_below}
 use Rattle.cam_tiles.specs.declared.grid.Grid.{Grid}
 use Rattle.cam_tiles.specs.declared.masks.join.Join.TheVariants.{Turn}
-use Rattle.cam_tiles.specs.Masks.{IsIn, IsMarked, IsMask, Marking, joined}
+use Rattle.cam_tiles.specs.Machinery.Masks.{IsIn, IsMarked, IsMask, Marking, joined}
 use Rattle.cam_tiles.specs.Tiles.{IsGrid, centre_in}
 use Rattle.cam_tiles.proofs.JoinedMarks.{AreRowsJoined, joined_from, joined_with}
 use Rattle.cam_tiles.proofs.SeenRows.{in_reach}

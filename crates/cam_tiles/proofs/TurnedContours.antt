@@ -17,7 +17,7 @@ use Rattle.cam_shapes.specs.Placing.{placed_contour, placed_point, placed_seg}
 use Rattle.cam_shapes.specs.Machinery.Sides.{change_side, changes_side, differ}
 use Rattle.cam_shapes.proofs.Parity.{sides_are_parity}
 use Rattle.cam_objects.specs.Image.{relative}
-use Rattle.cam_tiles.specs.Parities.{Changes, Parities}
+use Rattle.cam_tiles.specs.Machinery.Parities.{Changes, Parities}
 use Rattle.cam_tiles.proofs.ChangedParities.{changes_from_origin, changes_like, changes_twice}
 
 -- one more is counted where a test says so

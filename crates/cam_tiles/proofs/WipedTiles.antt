@@ -14,7 +14,7 @@ use Rattle.cam_units.specs.declared.point.Spot.{Spot}
 use Rattle.cam_tiles.specs.declared.touch.Span.{Span}
 use Rattle.cam_tiles.specs.declared.window.Window.{Window}
 use Rattle.cam_tiles.specs.Picture.{accepts, middle}
-use Rattle.cam_tiles.specs.Spans.{has_pixel, is_between, is_in_span}
+use Rattle.cam_tiles.specs.Machinery.Spans.{has_pixel, is_between, is_in_span}
 use Rattle.cam_tiles.specs.Tables.{IsTable, Table, Tile}
 use Rattle.cam_tiles.specs.Tiles.{across, columns, down, left, rows, tiles_of, top}
 use Rattle.cam_tiles.specs.Touched.{touched, touches, wiped_from}

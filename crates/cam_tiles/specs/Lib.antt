@@ -1,13 +1,7 @@
-pub mod Filing
-pub mod Indexes
-pub mod Kept
-pub mod Levels
-pub mod Masks
-pub mod Parities
+pub mod Machinery
 pub mod Pbm
 pub mod Picture
 pub mod Sources
-pub mod Spans
 pub mod Tables
 pub mod TileLaws
 pub mod Tiles

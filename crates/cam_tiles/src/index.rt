@@ -6,11 +6,11 @@ ghost use Rattle.std.specs.List.{slice_index_or};
 ghost use Rattle.cam_units.specs.Boxes.{Holds};
 ghost use Rattle.cam_units.specs.declared.point.Spot.{Spot};
 ghost use Rattle.cam_objects.specs.Leaves.{Leaf};
-ghost use Rattle.cam_tiles.specs.Indexes.{IsBoxed, IsEntry, IsFiled, IsIndexOf, IsOnLevels, PaintAlike};
-ghost use Rattle.cam_tiles.specs.Indexes.{band_leaves, boxed_leaves};
-ghost use Rattle.cam_tiles.specs.Levels.{IsLevels, levels_of};
-ghost use Rattle.cam_tiles.specs.Masks.{IsIn, IsWithin, PaintsMask};
-ghost use Rattle.cam_tiles.specs.Sources.{IsReady, leaves_by_item, leaves_of};
+ghost use Rattle.cam_tiles.specs.Machinery.Indexes.{IsBoxed, IsEntry, IsFiled, IsIndexOf, IsOnLevels, PaintAlike};
+ghost use Rattle.cam_tiles.specs.Machinery.Indexes.{band_leaves, boxed_leaves};
+ghost use Rattle.cam_tiles.specs.Machinery.Levels.{IsLevels, levels_of};
+ghost use Rattle.cam_tiles.specs.Machinery.Masks.{IsIn, IsWithin, PaintsMask};
+ghost use Rattle.cam_tiles.specs.Machinery.Shown.{IsReady, leaves_by_item, leaves_of};
 ghost use Rattle.cam_tiles.specs.Tiles.{centre_in};
 
 use crate::levels::Levels;
@@ -106,7 +106,7 @@ impl Entry {
 }
 
 impl Model for Index {
-    ghost use Rattle.cam_tiles.specs.Indexes.{Indexed, IsRoomy, indexed_in};
+    ghost use Rattle.cam_tiles.specs.Machinery.Indexes.{Indexed, IsRoomy, indexed_in};
 
     ghost Value = { Indexed };
 

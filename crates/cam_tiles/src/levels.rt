@@ -2,8 +2,8 @@
 
 ghost use Rattle.std.specs.Prelude.{◌≡◌, ◌↔◌, ℕ, ◌-◌, ◌<◌, ◌≤◌, IsTrue, pos, ◌*ℤ◌, ◌≤ℤ◌, ◌<ℤ◌};
 ghost use Rattle.cam_units.specs.declared.point.Spot.{Spot};
-ghost use Rattle.cam_tiles.specs.Levels.{AreLevels, IsLevels, IsOnRow, height, levels_of};
-ghost use Rattle.cam_tiles.specs.Masks.{IsWithin};
+ghost use Rattle.cam_tiles.specs.Machinery.Levels.{AreLevels, IsLevels, IsOnRow, height, levels_of};
+ghost use Rattle.cam_tiles.specs.Machinery.Masks.{IsWithin};
 ghost use Rattle.cam_tiles.specs.Tiles.{IsGrid};
 
 use crate::grid::Grid;

@@ -6,9 +6,9 @@
 //! reaches, [`Raster::redraw`] has a [`Painter`] draw as many of them as it may. A [`Source`] paints a layer of either
 //! kind, leaf by leaf on a mask of the tile: a pixel is black exactly where the layer is black at the pixel's centre.
 //!
-//! What a picture is stands in `specs/Picture.antt`, its file in `specs/Pbm.antt`, tiles in `specs/Tiles.antt`, masks in
-//! `specs/Masks.antt`, what is kept of tiles in `specs/Tables.antt`, and what boxes touch in `specs/Touched.antt`. The
-//! laws in `specs/TileLaws.antt` say that clean tiles show the image, whatever is touched and drawn in between.
+//! What a picture is stands in `specs/Picture.antt`, its file in `specs/Pbm.antt`, tiles in `specs/Tiles.antt`, what is
+//! kept of them in `specs/Tables.antt`, and what boxes touch in `specs/Touched.antt`. The laws in `specs/TileLaws.antt`
+//! say that clean tiles show the image, whatever is touched and drawn in between.
 #![tactic(auto)]
 
 mod fault;

@@ -1,6 +1,7 @@
 //! Rasters: the tiles of a window, each drawn or dirty.
 
-ghost use Rattle.std.specs.Prelude.{◌≡◌, ◌+◌, ◌<◌, ◌≤◌, ◌^◌, min, count_by, is_none, is_some, length, IfErr, IfOk, OnOk, None, true};
+ghost use Rattle.std.specs.Prelude.{◌≡◌, ◌+◌, ◌<◌, ◌≤◌, ◌^◌, IfErr, IfOk, None, OnOk, true};
+ghost use Rattle.std.specs.Prelude.{count_by, is_none, is_some, length, min};
 ghost use Rattle.cam_tiles.specs.Picture.{accepts};
 ghost use Rattle.cam_tiles.specs.Tables.{
   IsRefusal,
@@ -40,7 +41,7 @@ pub struct Raster {
 }
 
 impl Model for Raster {
-    ghost use Rattle.cam_tiles.specs.Kept.{IsKept, table_of};
+    ghost use Rattle.cam_tiles.specs.Machinery.Kept.{IsKept, table_of};
     ghost use Rattle.cam_tiles.specs.Tables.{Table};
 
     ghost Value = { Table };

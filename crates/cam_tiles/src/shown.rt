@@ -4,8 +4,8 @@ ghost use Rattle.std.specs.Prelude.{◌≡◌, ◌<◌, ◌≤◌, [], ◌∷◌
 ghost use Rattle.cam_objects.specs.Bounds.{bounds_of};
 ghost use Rattle.cam_objects.specs.Canvases.{Paints};
 ghost use Rattle.cam_objects.specs.Leaves.{Filled, leaf};
-ghost use Rattle.cam_tiles.specs.Filing.{IsOnBoardWhole};
-ghost use Rattle.cam_tiles.specs.Sources.{IsReady, leaves_by_item, leaves_of, lists_of};
+ghost use Rattle.cam_tiles.specs.Machinery.Filing.{IsOnBoardWhole};
+ghost use Rattle.cam_tiles.specs.Machinery.Shown.{IsReady, leaves_by_item, leaves_of, lists_of};
 
 use cam_objects::{Canvas, Contour, DrillItemBoxes, DrillLayer, Item, ItemBoxes, Layer, Object};
 use cam_units::Bounds;

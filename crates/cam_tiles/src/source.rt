@@ -27,7 +27,8 @@ pub struct Source<'a> {
 }
 
 impl<'a> Model for Source<'a> {
-    ghost use Rattle.cam_tiles.specs.Sources.{IsIndexed, Painted, painted_by};
+    ghost use Rattle.cam_tiles.specs.Machinery.Kept.{IsIndexed, painted_by};
+    ghost use Rattle.cam_tiles.specs.Sources.{Painted};
 
     ghost Value = { Painted };
 

@@ -4,7 +4,7 @@ ghost use Rattle.std.specs.Prelude.{◌≡◌, ℕ, ◌+◌, ◌-◌, ◌*◌, �
 ghost use Rattle.std.specs.Prelude.{◌&&◌, nat_le, nat_lt, if◌then◌else◌, true};
 ghost use Rattle.std.specs.Prelude.{None, count_by, is_none, length, slice_index_or};
 ghost use Rattle.cam_tiles.specs.Picture.{accepts, middle};
-ghost use Rattle.cam_tiles.specs.Spans.{has_pixel, is_between, is_in_span};
+ghost use Rattle.cam_tiles.specs.Machinery.Spans.{has_pixel, is_between, is_in_span};
 ghost use Rattle.cam_tiles.specs.Tiles.{across, down};
 
 use crate::raster::Tile;

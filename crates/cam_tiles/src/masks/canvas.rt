@@ -2,7 +2,7 @@
 
 ghost use Rattle.std.specs.Int.{bit_at};
 ghost use Rattle.std.specs.Prelude.{◌==◌, slice_index};
-ghost use Rattle.cam_tiles.specs.Masks.{IsIn};
+ghost use Rattle.cam_tiles.specs.Machinery.Masks.{IsIn};
 ghost use Rattle.cam_tiles.specs.Tiles.{centre_in};
 
 use crate::masks::join::Join;

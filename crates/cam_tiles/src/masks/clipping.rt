@@ -4,8 +4,8 @@ ghost use Rattle.std.specs.Prelude.{◌≡◌, ◌≢◌, ◌<◌, ◌≤◌, �
 ghost use Rattle.cam_units.specs.Board.{IsOnBoard};
 ghost use Rattle.cam_units.specs.declared.point.Spot.{Spot};
 ghost use Rattle.cam_shapes.specs.Edge.{is_above};
-ghost use Rattle.cam_tiles.specs.Filing.{AreEndsIn};
-ghost use Rattle.cam_tiles.specs.Levels.{IsLevels, IsOnRow};
+ghost use Rattle.cam_tiles.specs.Machinery.Filing.{AreEndsIn};
+ghost use Rattle.cam_tiles.specs.Machinery.Levels.{IsLevels, IsOnRow};
 
 use crate::levels::Levels;
 use crate::masks::mask::Band;

@@ -10,8 +10,8 @@ ghost use Rattle.cam_shapes.specs.Outline.{lines_to, outline_of};
 ghost use Rattle.cam_shapes.specs.Placing.{IsOffset, IsPlaceable, IsPlaceablePoint, placed_contour, placed_seg};
 ghost use Rattle.cam_objects.specs.Image.{relative};
 ghost use Rattle.cam_objects.specs.Leaves.{origin};
-ghost use Rattle.cam_tiles.specs.Masks.{Joins};
-ghost use Rattle.cam_tiles.specs.Parities.{Changes};
+ghost use Rattle.cam_tiles.specs.Machinery.Masks.{Joins};
+ghost use Rattle.cam_tiles.specs.Machinery.Parities.{Changes};
 
 use crate::masks::join::Join;
 use crate::masks::mask::{Mask, ORIGIN};

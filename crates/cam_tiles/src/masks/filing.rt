@@ -1,17 +1,17 @@
 //! Contours whose segments are filed for the rows of a tile, so that a tile asks those alone that cross its rows.
 
-ghost use Rattle.std.specs.Prelude.{◌≡◌, ◌+◌, ◌<◌, ◌≤◌, ◌^◌, ◌*ℤ◌, ◌+ℤ◌, ◌-ℤ◌, ◌≤ℤ◌, ◌<ℤ◌, IsTrue, drop, length, pos, take};
-ghost use Rattle.std.specs.Prelude.{vec_capacity};
+ghost use Rattle.std.specs.Prelude.{◌≡◌, ◌+◌, ◌<◌, ◌≤◌, ◌^◌, ◌*ℤ◌, ◌+ℤ◌, ◌-ℤ◌, ◌≤ℤ◌, ◌<ℤ◌};
+ghost use Rattle.std.specs.Prelude.{IsTrue, drop, length, pos, take, vec_capacity};
 ghost use Rattle.cam_units.specs.Board.{IsOnBoard};
 ghost use Rattle.cam_shapes.specs.declared.segments.Seg.TheVariants.{Line, Curve};
 ghost use Rattle.cam_shapes.specs.Cap.{IsSoundCap};
 ghost use Rattle.cam_shapes.specs.Contour.{IsInContour, end_of};
 ghost use Rattle.cam_shapes.specs.Machinery.Sides.{IsSoundSeg};
 ghost use Rattle.cam_shapes.specs.Plane.{dot, square, way};
-ghost use Rattle.cam_tiles.specs.Filing.{AreFiled, Files, IsOnBoardWhole, Misses, changes_at};
-ghost use Rattle.cam_tiles.specs.Levels.{IsLevels, levels_of};
-ghost use Rattle.cam_tiles.specs.Masks.{Joins};
-ghost use Rattle.cam_tiles.specs.Parities.{Changes};
+ghost use Rattle.cam_tiles.specs.Machinery.Filing.{AreFiled, Files, IsOnBoardWhole, Misses, changes_at};
+ghost use Rattle.cam_tiles.specs.Machinery.Levels.{IsLevels, levels_of};
+ghost use Rattle.cam_tiles.specs.Machinery.Masks.{Joins};
+ghost use Rattle.cam_tiles.specs.Machinery.Parities.{Changes};
 
 use crate::levels::Levels;
 use crate::masks::clipping::ends_in_rows;

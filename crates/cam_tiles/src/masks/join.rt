@@ -2,7 +2,7 @@
 
 ghost use Rattle.std.specs.Prelude.{◌≡◌, ◌<◌, ◌^◌, ℕ, slice_index};
 ghost use Rattle.cam_rows.specs.Lanes.{AreJoined};
-ghost use Rattle.cam_tiles.specs.Masks.{inked, joined};
+ghost use Rattle.cam_tiles.specs.Machinery.Masks.{inked, joined};
 
 use cam_rows::{clear_rows, or_rows, xor_rows};
 

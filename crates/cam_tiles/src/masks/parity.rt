@@ -8,8 +8,8 @@ ghost use Rattle.cam_shapes.specs.Cap.{IsSoundCap, is_in_cap};
 ghost use Rattle.cam_shapes.specs.Edge.{crosses_ray, edge, is_above};
 ghost use Rattle.cam_objects.specs.Image.{relative};
 ghost use Rattle.cam_tiles.specs.declared.masks.join.Join.TheVariants.{Turn as Turned};
-ghost use Rattle.cam_tiles.specs.Masks.{IsIn, IsMarked, IsWithin, joined};
-ghost use Rattle.cam_tiles.specs.Parities.{Changes, IsEven, IsOdd};
+ghost use Rattle.cam_tiles.specs.Machinery.Masks.{IsIn, IsMarked, IsWithin, joined};
+ghost use Rattle.cam_tiles.specs.Machinery.Parities.{Changes, IsEven, IsOdd};
 ghost use Rattle.cam_tiles.specs.Tiles.{IsGrid, centre_in};
 
 use crate::grid::Grid;
@@ -30,7 +30,7 @@ pub(crate) struct Parity {
 }
 
 impl Model for Parity {
-    ghost use Rattle.cam_tiles.specs.Parities.{Parities};
+    ghost use Rattle.cam_tiles.specs.Machinery.Parities.{Parities};
 
     ghost Value = { Parities };
 

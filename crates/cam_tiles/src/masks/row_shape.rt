@@ -3,7 +3,7 @@
 ghost use Rattle.std.specs.Prelude.{length};
 ghost use Rattle.cam_units.specs.declared.point.Spot.{Spot};
 ghost use Rattle.cam_rows.specs.Rows.{AreMarked, AreRows};
-ghost use Rattle.cam_tiles.specs.Masks.{IsWithin};
+ghost use Rattle.cam_tiles.specs.Machinery.Masks.{IsWithin};
 
 use crate::masks::heights::Heights;
 use cam_rows::Centres;

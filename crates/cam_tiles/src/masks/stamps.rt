@@ -8,7 +8,7 @@ ghost use Rattle.cam_apertures.specs.Primitives.{IsSoundPrim};
 ghost use Rattle.cam_apertures.specs.Soundness.{IsSoundAperture};
 ghost use Rattle.cam_apertures.specs.Turned.{turned_prim, turned_shape};
 ghost use Rattle.cam_objects.specs.Image.{relative};
-ghost use Rattle.cam_tiles.specs.Masks.{Joins, inked};
+ghost use Rattle.cam_tiles.specs.Machinery.Masks.{Joins, inked};
 
 use crate::masks::join::Join;
 use crate::masks::mask::{Mask, ORIGIN};

@@ -10,6 +10,59 @@ use Rattle.cam_rows.proofs.RowsBelow.{top_is_row}
 use Rattle.cam_rows.proofs.beside.keep_beside.Goals as goal
 use Rattle.cam_rows.proofs.beside.keep_beside.Goals.{After-keep-2, After-keep-3}
 
+pub returns-then-is_empty : goal.returns-then-is_empty
+returns-then-is_empty c = λ k i within _.
+    let none : length c.args.rows.now ≡ 0 = search rules in
+    absurd (omega (arith, none, within))
+
+pub ahead-requires : goal.ahead-requires
+ahead-requires c = record {
+  from = c.requires.bar.from;
+  to = c.requires.bar.to;
+  row = top_is_row c.args.top.now (length c.args.rows.now) (search rules) c.requires.rows;
+}
+
+pub keep-requires : goal.keep-requires
+keep-requires c = c.ahead.ensures.short _ c.requires.rows
+
+pub returns-then-not-keep : goal.returns-then-not-keep
+returns-then-not-keep c =
+    let bar = c.args.bar.now in
+    let top = c.args.top.now in
+    kept_none c.args.rows.now c.keep.new.rows (Has top (IsAhead bar.from bar.to)) (Has top (λ s. IsInBar s bar))
+    c.keep.auto.rows
+    (kept_first c.args.rows.now c.keep.new.rows top c.ahead.result (IsAhead bar.from bar.to) c.ahead.ensures
+    c.keep.ensures.kept)
+    (c.keep.ensures.none (search rules)) (λ k i on. (has_between top bar k i on).0)
+
+pub ahead-requires-2 : goal.ahead-requires-2
+ahead-requires-2 c = record {
+  from = c.requires.bar.to;
+  to = c.requires.bar.from;
+  row = top_is_row c.args.top.now (length c.args.rows.now) (search rules) c.requires.rows;
+}
+
+pub reach_of-reach-requires : goal.reach_of-reach-requires
+reach_of-reach-requires c = c.requires.bar
+
+pub left-requires-clause-from : goal.left-requires-clause-from
+left-requires-clause-from c = c.requires.bar.from
+
+pub left-requires-clause-to : goal.left-requires-clause-to
+left-requires-clause-to c = c.requires.bar.to
+
+pub left-requires-then-keep-clause-from : goal.left-requires-then-keep-clause-from
+left-requires-then-keep-clause-from c = c.requires.bar.to
+
+pub left-requires-then-keep-clause-to : goal.left-requires-then-keep-clause-to
+left-requires-then-keep-clause-to c = c.requires.bar.from
+
+pub left-requires-clause-reach : goal.left-requires-clause-reach
+left-requires-clause-reach c = omega (arith, ints, c.reach_of-reach.ensures.bound)
+
+pub left-requires-then-keep-clause-reach : goal.left-requires-then-keep-clause-reach
+left-requires-then-keep-clause-reach c = omega (arith, ints, c.reach_of-reach.ensures.bound)
+
 pub keep-requires-2 : goal.keep-requires-2
 keep-requires-2 c = c.ahead-2.ensures.short _ (rw c.keep.auto.rows c.requires.rows)
 

@@ -9,6 +9,23 @@ use Rattle.cam_rows.proofs.RowsBelow.{next_row, top_is_row}
 use Rattle.cam_rows.proofs.rect.rect_rows.Goals as goal
 use Rattle.cam_rows.proofs.rect.rect_rows.Goals.{then-height_over-height, else-height_over-height}
 
+pub returns-then-is_empty : goal.returns-then-is_empty
+returns-then-is_empty c = λ k within.
+    let none : length c.args.rows.now ≡ 0 = search rules in
+    absurd (omega (arith, none, within))
+
+pub columns_row-run-requires-clause-rectangle : goal.columns_row-run-requires-clause-rectangle
+columns_row-run-requires-clause-rectangle c = c.requires.rectangle
+
+pub below-requires-clause-row : goal.below-requires-clause-row
+below-requires-clause-row c = c.requires.rows c.loop-k.k (omega arith)
+
+pub height_over-requires-clause-point : goal.height_over-requires-clause-point
+height_over-requires-clause-point c = c.requires.rectangle.centre
+
+pub loop-k-init : goal.loop-k-init
+loop-k-init c = λ k within. absurd (omega (arith, within))
+
 pub columns_row-run-requires-clause-row : goal.columns_row-run-requires-clause-row
 columns_row-run-requires-clause-row c = top_is_row c.args.top (length c.args.rows.now) (search rules) c.requires.rows
 

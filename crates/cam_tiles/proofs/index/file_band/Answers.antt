@@ -7,8 +7,8 @@ use Rattle.std.proofs.lemmas.List.{get_or_default, length_push}
 use Rattle.cam_tiles.specs.declared.index.Boxed.{Boxed}
 use Rattle.cam_tiles.specs.declared.index.Entry.{Entry}
 use Rattle.cam_tiles.specs.declared.masks.filing.FiledSegment.{FiledSegment}
-use Rattle.cam_tiles.specs.Indexes.{IsFiled}
-use Rattle.cam_tiles.specs.Sources.{leaves_by_item}
+use Rattle.cam_tiles.specs.Machinery.Indexes.{IsFiled}
+use Rattle.cam_tiles.specs.Machinery.Shown.{leaves_by_item}
 use Rattle.cam_tiles.proofs.Bands.{IsBandTo, above_bottom, below_top, band_entered, next_entered, next_passed, no_band}
 use Rattle.cam_tiles.proofs.Indexed.{at}
 use Rattle.cam_tiles.proofs.index.file_band.Goals.{then-reaches, else-reaches}

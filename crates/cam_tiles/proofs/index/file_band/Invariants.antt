@@ -1,5 +1,5 @@
 use Rattle.std.proofs.Common.{◌≡◌, ◌≤◌, length, vec_capacity}
-use Rattle.cam_tiles.specs.Sources.{leaves_by_item}
+use Rattle.cam_tiles.specs.Machinery.Shown.{leaves_by_item}
 use Rattle.cam_tiles.proofs.Bands.{IsBandTo}
 use Rattle.cam_tiles.proofs.index.file_band.Given as goal
 

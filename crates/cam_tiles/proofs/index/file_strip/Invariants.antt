@@ -1,7 +1,7 @@
 use Rattle.std.proofs.Common.{◌≡◌, ◌≤◌, List, length, vec_capacity}
 use Rattle.std.specs.List.{All}
 use Rattle.cam_objects.specs.Leaves.{Leaf}
-use Rattle.cam_tiles.specs.Indexes.{IsBoxed}
+use Rattle.cam_tiles.specs.Machinery.Indexes.{IsBoxed}
 use Rattle.cam_tiles.proofs.Strips.{IsStripTo}
 use Rattle.cam_tiles.proofs.index.file_strip.Given as goal
 

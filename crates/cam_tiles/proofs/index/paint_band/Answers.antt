@@ -6,10 +6,10 @@ use Rattle.std.proofs.lemmas.List.Elements.{All-get_or}
 use Rattle.cam_units.specs.declared.point.Spot.{Spot}
 use Rattle.cam_tiles.specs.declared.grid.Grid.{Grid}
 use Rattle.cam_tiles.specs.declared.index.Entry.{Entry}
-use Rattle.cam_tiles.specs.Indexes.{IsEntry, band_leaves}
-use Rattle.cam_tiles.specs.Levels.{levels_of}
-use Rattle.cam_tiles.specs.Masks.{Marking, PaintsMask}
-use Rattle.cam_tiles.specs.Sources.{leaves_by_item}
+use Rattle.cam_tiles.specs.Machinery.Indexes.{IsEntry, band_leaves}
+use Rattle.cam_tiles.specs.Machinery.Levels.{levels_of}
+use Rattle.cam_tiles.specs.Machinery.Masks.{Marking, PaintsMask}
+use Rattle.cam_tiles.specs.Machinery.Shown.{leaves_by_item}
 use Rattle.cam_tiles.specs.Tiles.{IsGrid, centre_in}
 use Rattle.cam_tiles.proofs.PaintedBands.{beside_tile, next_beside, next_painted}
 use Rattle.cam_tiles.proofs.PaintedTiles.{painted_grid}

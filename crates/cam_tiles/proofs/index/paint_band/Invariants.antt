@@ -1,7 +1,7 @@
 use Rattle.std.proofs.Common.{take}
-use Rattle.cam_tiles.specs.Indexes.{band_leaves}
-use Rattle.cam_tiles.specs.Masks.{PaintsMask}
-use Rattle.cam_tiles.specs.Sources.{leaves_by_item}
+use Rattle.cam_tiles.specs.Machinery.Indexes.{band_leaves}
+use Rattle.cam_tiles.specs.Machinery.Masks.{PaintsMask}
+use Rattle.cam_tiles.specs.Machinery.Shown.{leaves_by_item}
 use Rattle.cam_tiles.proofs.index.paint_band.Given as goal
 
 abbrev pub invariant-loop-entry : goal.invariant-loop-entry

@@ -2,7 +2,7 @@ use Rattle.std.proofs.Common.{List, sym, subst}
 use Rattle.cam_objects.specs.Leaves.{Filled, Leaf}
 use Rattle.cam_tiles.specs.declared.masks.join.Join.{Join}
 use Rattle.cam_objects.specs.Image.{Covers}
-use Rattle.cam_tiles.specs.Masks.{Joins, PaintsMask}
+use Rattle.cam_tiles.specs.Machinery.Masks.{Joins, PaintsMask}
 use Rattle.cam_tiles.proofs.PaintedMasks.{joined_is_painted}
 use Rattle.cam_tiles.proofs.index.paint_entry.Goals as goal
 

@@ -1,6 +1,6 @@
 use Rattle.std.proofs.Common.{◌≡◌, ℕ, ◌+◌, ◌%◌, ◌/◌, ◌&&◌, nat_le, nat_lt, slice_index_or, count_by, if◌then◌else◌}
 use Rattle.std.specs.Prelude.{None, is_none}
-use Rattle.cam_tiles.specs.Spans.{is_in_span}
+use Rattle.cam_tiles.specs.Machinery.Spans.{is_in_span}
 use Rattle.cam_tiles.proofs.touch.wipe.Given as goal
 
 abbrev pub invariant-loop-row : goal.invariant-loop-row

@@ -5,6 +5,7 @@ use Rattle.cam_shapes.proofs.Widths.{narrow}
 use Rattle.cam_rows.specs.Rows.{centre_at}
 use Rattle.cam_rows.proofs.CapTies.{circle_bit, ends_ordered, in_circle_is, is_below, over_circle}
 use Rattle.cam_rows.proofs.ChordTurns.{before_chord_falls, before_end_falls}
+use Rattle.cam_rows.proofs.Gaps.{twice_fits}
 use Rattle.cam_rows.proofs.SetBits.{none_set}
 use Rattle.cam_rows.proofs.chord.Chord.cap_row.Goals as goal
 
@@ -17,6 +18,27 @@ returns-then-height-radius c = λ i _. (
       c.squared_distance-radius.result c.squared_height-height.result c.squared_distance-radius.ensures.value
       c.squared_height-height.ensures.value c.if-height-radius.true on.1)),
 )
+
+pub squared_distance-radius-requires : goal.squared_distance-radius-requires
+squared_distance-radius-requires c = record { from = c.requires.cap.centre; to = c.requires.cap.from }
+
+pub squared_height-height-requires : goal.squared_height-height-requires
+squared_height-height-requires c = record { point = c.requires.cap.centre; row = c.requires.row }
+
+pub overflow_mul-cap : goal.overflow_mul-cap
+overflow_mul-cap c = twice_fits c.args.cap.now.centre.y c.requires.cap.centre.y
+
+pub from-offsets-requires : goal.from-offsets-requires
+from-offsets-requires c = record { point = c.requires.cap.centre; row = c.requires.row }
+
+pub turn_near-self-requires-clause-few : goal.turn_near-self-requires-clause-few
+turn_near-self-requires-clause-few c = c.requires.row.count.1
+
+pub turn_near-self-requires-2-clause-few : goal.turn_near-self-requires-2-clause-few
+turn_near-self-requires-2-clause-few c = c.requires.row.count.1
+
+pub bits_between-requires-clause-within : goal.bits_between-requires-clause-within
+bits_between-requires-clause-within c = omega (arith, c.requires.row.count.1, c.turn_near-self-2.ensures.within)
 
 pub turn_near-self-requires-clause-falls : goal.turn_near-self-requires-clause-falls
 turn_near-self-requires-clause-falls c =

@@ -2,7 +2,7 @@ use Rattle.std.proofs.Common.{rules, ◌≤ℤ◌, FitsSigned, w64, arith, sym, 
 use Rattle.std.specs.List.{All}
 use Rattle.std.specs.Option.{MatchOption}
 use Rattle.std.proofs.lemmas.Int.{ints, to_z-of_z}
-use Rattle.cam_tiles.specs.Indexes.{Indexed, IsBoxed, IsIndexOf}
+use Rattle.cam_tiles.specs.Machinery.Indexes.{Indexed, IsBoxed, IsIndexOf}
 use Rattle.cam_tiles.proofs.Strips.{HoldsRows, holds_rows, strip_begins, strip_held}
 use Rattle.cam_tiles.proofs.index.Index.approach.Goals as goal
 

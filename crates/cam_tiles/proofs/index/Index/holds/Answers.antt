@@ -1,6 +1,6 @@
 use Rattle.std.proofs.Common.{ap, subst}
 use Rattle.cam_units.specs.Boxes.{Holds}
-use Rattle.cam_tiles.specs.Indexes.{Indexed}
+use Rattle.cam_tiles.specs.Machinery.Indexes.{Indexed}
 use Rattle.cam_tiles.proofs.Indexed.{corners_held}
 use Rattle.cam_tiles.proofs.index.Index.holds.Goals as goal
 

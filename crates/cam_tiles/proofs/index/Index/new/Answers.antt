@@ -8,7 +8,7 @@ use Rattle.cam_units.specs.declared.bounds.Bounds.{Bounds}
 use Rattle.cam_objects.specs.Bounds.{bounds_of}
 use Rattle.cam_objects.specs.Leaves.{Leaf}
 use Rattle.cam_tiles.specs.declared.index.Boxed.{Boxed}
-use Rattle.cam_tiles.specs.Sources.{leaves_by_item}
+use Rattle.cam_tiles.specs.Machinery.Shown.{leaves_by_item}
 use Rattle.cam_tiles.proofs.Indexed.{AreBoxedTo, all_boxed, next_boxed, next_missed, none_boxed}
 use Rattle.cam_tiles.proofs.index.Index.new.Goals.{then-meets, else-meets}
 use Rattle.cam_tiles.proofs.index.Index.new.Goals as goal

@@ -1,5 +1,5 @@
 use Rattle.std.proofs.Common.{◌≡◌, ◌*◌, ◌≤◌, length, vec_capacity}
-use Rattle.cam_tiles.specs.Sources.{leaves_by_item, lists_of}
+use Rattle.cam_tiles.specs.Machinery.Shown.{leaves_by_item, lists_of}
 use Rattle.cam_tiles.proofs.Indexed.{AreBoxedTo}
 use Rattle.cam_tiles.proofs.index.Index.new.Given as goal
 

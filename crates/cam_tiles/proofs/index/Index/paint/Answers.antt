@@ -4,10 +4,10 @@ use Rattle.cam_units.specs.declared.bounds.Bounds.{Bounds}
 use Rattle.cam_objects.specs.Leaves.{Leaf}
 use Rattle.cam_tiles.specs.declared.grid.Grid.{Grid}
 use Rattle.cam_tiles.specs.declared.index.Entry.{Entry}
-use Rattle.cam_tiles.specs.Indexes.{Indexed, IsOnLevels, band_leaves}
-use Rattle.cam_tiles.specs.Levels.{levels_of}
-use Rattle.cam_tiles.specs.Masks.{PaintsMask}
-use Rattle.cam_tiles.specs.Sources.{leaves_by_item}
+use Rattle.cam_tiles.specs.Machinery.Indexes.{Indexed, IsOnLevels, band_leaves}
+use Rattle.cam_tiles.specs.Machinery.Levels.{levels_of}
+use Rattle.cam_tiles.specs.Machinery.Masks.{PaintsMask}
+use Rattle.cam_tiles.specs.Machinery.Shown.{leaves_by_item}
 use Rattle.cam_tiles.specs.Tiles.{centre_in}
 use Rattle.cam_tiles.proofs.PaintedBands.{painted_alike}
 use Rattle.cam_tiles.proofs.ShownItems.{leaves_are}

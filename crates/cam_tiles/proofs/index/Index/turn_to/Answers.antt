@@ -1,7 +1,7 @@
 use Rattle.std.proofs.Common.{sym, ap, subst, ◌∙◌}
 use Rattle.std.specs.Option.{MatchOption}
-use Rattle.cam_tiles.specs.Indexes.{Indexed, IsIndexOf}
-use Rattle.cam_tiles.specs.Sources.{leaves_by_item}
+use Rattle.cam_tiles.specs.Machinery.Indexes.{Indexed, IsIndexOf}
+use Rattle.cam_tiles.specs.Machinery.Shown.{leaves_by_item}
 use Rattle.cam_tiles.proofs.Strips.{HoldsRows, band_held, near_boxed}
 use Rattle.cam_tiles.proofs.index.Index.turn_to.Goals as goal
 

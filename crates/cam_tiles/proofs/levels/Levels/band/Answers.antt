@@ -1,7 +1,7 @@
 use Rattle.std.proofs.Common.{FitsSigned, w64, pos, ◌*ℤ◌, ◌<◌, refl, rules, arith, ◌-◌}
 use Rattle.std.specs.Int.RustNames.{unsigned_abs}
 use Rattle.std.proofs.lemmas.Int.{clamps, ints}
-use Rattle.cam_tiles.specs.Levels.{height}
+use Rattle.cam_tiles.specs.Machinery.Levels.{height}
 use Rattle.cam_tiles.proofs.LevelRows.{below_top, between_cut, last_within, over_bottom, top_short, under_kept}
 use Rattle.cam_tiles.proofs.levels.Levels.band.Goals as goal
 

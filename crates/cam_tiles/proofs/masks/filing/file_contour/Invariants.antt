@@ -1,6 +1,6 @@
 use Rattle.std.proofs.Common.{◌≡◌, vec_capacity}
 use Rattle.cam_units.specs.Board.{IsOnBoard}
-use Rattle.cam_tiles.specs.Filing.{corner_of}
+use Rattle.cam_tiles.specs.Machinery.Filing.{corner_of}
 use Rattle.cam_tiles.proofs.FiledContours.{IsFiledBut, rest_from}
 use Rattle.cam_tiles.proofs.masks.filing.file_contour.Given as goal
 

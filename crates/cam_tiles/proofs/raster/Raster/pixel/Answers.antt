@@ -1,6 +1,6 @@
 use Rattle.std.proofs.Common.{ap, sym, ◌∙◌, arith}
 use Rattle.std.specs.Prelude.{Some, option_map}
-use Rattle.cam_tiles.specs.Kept.{table_of}
+use Rattle.cam_tiles.specs.Machinery.Kept.{table_of}
 use Rattle.cam_tiles.specs.Tables.{pixel_of}
 use Rattle.cam_tiles.proofs.TablePixels.{bit_in, bit_shifted, pixel_in, tile_number-lt}
 use Rattle.cam_tiles.proofs.raster.Raster.pixel.Goals as goal

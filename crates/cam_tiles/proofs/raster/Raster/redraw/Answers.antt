@@ -1,7 +1,7 @@
 use Rattle.std.proofs.Common.{◌≡◌, ◌-◌, Bool, List, length, min, ap, sym, ◌∙◌}
 use Rattle.std.proofs.lemmas.List.{with_items_is}
 use Rattle.cam_units.specs.declared.point.Spot.{Spot}
-use Rattle.cam_tiles.specs.Kept.{table_of}
+use Rattle.cam_tiles.specs.Machinery.Kept.{table_of}
 use Rattle.cam_tiles.specs.Tables.{Table, Tile, drawn_from, redrawn}
 use Rattle.cam_tiles.specs.Tiles.{grid_of, tile_rows}
 use Rattle.cam_tiles.proofs.DrawnTiles.{dirty, redrawn_as_many, redrawn_dirty, redrawn_length}

@@ -2,8 +2,8 @@ use Rattle.std.proofs.Common.{◌≡◌, ◌%◌, ◌/◌, ◌&&◌, ℕ, Bool, 
 use Rattle.std.specs.Prelude.{None, is_none}
 use Rattle.std.proofs.lemmas.List.{with_items_is}
 use Rattle.std.proofs.lemmas.List.Sums.{count_by-le-length}
-use Rattle.cam_tiles.specs.Kept.{table_of}
-use Rattle.cam_tiles.specs.Spans.{is_in_span}
+use Rattle.cam_tiles.specs.Machinery.Kept.{table_of}
+use Rattle.cam_tiles.specs.Machinery.Spans.{is_in_span}
 use Rattle.cam_tiles.specs.Touched.{touched}
 use Rattle.cam_tiles.proofs.TileCounts.{few_tiles, some_across}
 use Rattle.cam_tiles.proofs.WipedTiles.{touched_empty, touched_spans}

@@ -3,7 +3,7 @@ use Rattle.cam_objects.specs.Bounds.{bounds_of}
 use Rattle.cam_objects.specs.Drilling.{drill_item_leaves}
 use Rattle.cam_objects.specs.Leaves.{Leaf, item_leaves, meaning_in}
 use Rattle.cam_tiles.specs.declared.shown.Boxes.{Boxes}
-use Rattle.cam_tiles.specs.Sources.{lists_of}
+use Rattle.cam_tiles.specs.Machinery.Shown.{lists_of}
 use Rattle.cam_tiles.proofs.ShownItems.{at_place}
 use Rattle.cam_tiles.proofs.shown.Boxes.read.Goals as goal
 

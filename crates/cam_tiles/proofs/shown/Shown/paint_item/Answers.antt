@@ -3,7 +3,7 @@ use Rattle.cam_objects.specs.Canvases.{Paints}
 use Rattle.cam_objects.specs.Drilling.{drill_item_leaves}
 use Rattle.cam_objects.specs.Leaves.{Leaf, item_leaves, meaning_in}
 use Rattle.cam_tiles.specs.declared.shown.Shown.{Shown}
-use Rattle.cam_tiles.specs.Sources.{leaves_by_item}
+use Rattle.cam_tiles.specs.Machinery.Shown.{leaves_by_item}
 use Rattle.cam_tiles.proofs.ShownItems.{at_place}
 use Rattle.cam_tiles.proofs.shown.Shown.paint_item.Goals as goal
 

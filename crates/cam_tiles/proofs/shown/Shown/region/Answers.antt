@@ -3,7 +3,7 @@ use Rattle.std.proofs.lemmas.Option.{IfSome_then}
 use Rattle.cam_objects.specs.Leaves.{Filled, leaf}
 use Rattle.cam_tiles.specs.declared.shown.Region.{Region}
 use Rattle.cam_tiles.specs.declared.shown.Shown.{Shown}
-use Rattle.cam_tiles.specs.Sources.{IsReady, leaves_by_item}
+use Rattle.cam_tiles.specs.Machinery.Shown.{IsReady, leaves_by_item}
 use Rattle.cam_tiles.proofs.ShownRegions.{region_at, region_whole}
 use Rattle.cam_tiles.proofs.shown.Shown.region.Goals as goal
 

@@ -4,9 +4,11 @@ use Rattle.cam_units.specs.Boxes.{Holds}
 use Rattle.cam_tiles.specs.declared.grid.Grid.{Grid}
 use Rattle.cam_tiles.specs.declared.shown.Shown.{Shown}
 use Rattle.cam_tiles.specs.declared.source.Source.TheInside.{Inside}
-use Rattle.cam_tiles.specs.Indexes.{IsIndexOf}
-use Rattle.cam_tiles.specs.Masks.{IsIn, PaintsMask}
-use Rattle.cam_tiles.specs.Sources.{IsIndexed, IsReady, Painted, leaves_by_item, leaves_of, picture_of}
+use Rattle.cam_tiles.specs.Machinery.Indexes.{IsIndexOf}
+use Rattle.cam_tiles.specs.Machinery.Masks.{IsIn, PaintsMask}
+use Rattle.cam_tiles.specs.Machinery.Kept.{IsIndexed}
+use Rattle.cam_tiles.specs.Machinery.Shown.{IsReady, leaves_by_item, leaves_of}
+use Rattle.cam_tiles.specs.Sources.{Painted, picture_of}
 use Rattle.cam_tiles.specs.Tiles.{centre_in, tile_rows}
 use Rattle.cam_tiles.proofs.PaintedTiles.{painted_rows}
 use Rattle.cam_tiles.proofs.source.SourcePainter.tile.Goals.{in-Some, in_default}

@@ -1,5 +1,5 @@
 use Rattle.std.proofs.Common.{◌*◌, pos}
-use Rattle.cam_tiles.specs.Spans.{is_between}
+use Rattle.cam_tiles.specs.Machinery.Spans.{is_between}
 use Rattle.cam_tiles.proofs.SpanLemmas.{between_counts, no_tile_between, tiles_between}
 use Rattle.cam_tiles.proofs.touch.Line.span.Goals as goal
 

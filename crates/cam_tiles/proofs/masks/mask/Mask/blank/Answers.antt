@@ -3,7 +3,7 @@ use Rattle.std.specs.Int.{IsBitSet}
 use Rattle.std.proofs.lemmas.Nat.Bits.{bit_at-zero}
 use Rattle.cam_rows.proofs.SetBits.{set_is_one}
 use Rattle.cam_tiles.specs.declared.grid.Grid.{Grid}
-use Rattle.cam_tiles.specs.Masks.{IsMask}
+use Rattle.cam_tiles.specs.Machinery.Masks.{IsMask}
 use Rattle.cam_tiles.specs.Tiles.{IsGrid}
 use Rattle.cam_tiles.proofs.TileRowLemmas.{clear_rows}
 use Rattle.cam_tiles.proofs.masks.mask.Mask.blank.Goals as goal

@@ -3,7 +3,7 @@ use borrow.Rule.Slice.PartMut.{mid_of}
 use Rattle.cam_units.specs.declared.point.Spot.{Spot}
 use Rattle.cam_objects.specs.Image.{relative}
 use Rattle.cam_tiles.proofs.JoinedMarks.{none_outside}
-use Rattle.cam_tiles.specs.Masks.{IsMask, Joins, Marking}
+use Rattle.cam_tiles.specs.Machinery.Masks.{IsMask, Joins, Marking}
 use Rattle.cam_tiles.proofs.MarkedBands.{band_joined}
 use Rattle.cam_tiles.proofs.TileRowLemmas.{clear_rows}
 use Rattle.cam_tiles.proofs.TurnedBands.{part_length, rows_below}

@@ -2,7 +2,7 @@ use Rattle.std.proofs.Common.{subst}
 use Rattle.cam_units.specs.declared.point.Spot.{Spot}
 use Rattle.cam_apertures.proofs.Outlines.{outline_placeable, outline_places}
 use Rattle.cam_objects.specs.Image.{relative}
-use Rattle.cam_tiles.specs.Masks.{Joins, inked}
+use Rattle.cam_tiles.specs.Machinery.Masks.{Joins, inked}
 use Rattle.cam_tiles.proofs.masks.mask.Mask.primitive.Goals as goal
 
 pub fill_outline-requires-clause-points : goal.fill_outline-requires-clause-points

@@ -5,7 +5,7 @@ use Rattle.cam_apertures.specs.Cover.{IsInShape, IsPainted}
 use Rattle.cam_apertures.specs.Turned.{turned_prim, turned_shape}
 use Rattle.cam_apertures.proofs.Painting.{none_painted}
 use Rattle.cam_objects.specs.Image.{relative}
-use Rattle.cam_tiles.specs.Masks.{inked}
+use Rattle.cam_tiles.specs.Machinery.Masks.{inked}
 use Rattle.cam_tiles.proofs.Joined.{merges_shown, shows_joined, shows_like, shows_nothing}
 use Rattle.cam_tiles.proofs.Stamps.{painted_more}
 use Rattle.cam_tiles.proofs.masks.mask.Mask.primitives.Goals as goal

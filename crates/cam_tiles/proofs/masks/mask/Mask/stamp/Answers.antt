@@ -7,7 +7,7 @@ use Rattle.cam_shapes.specs.Box.{IsInObround, IsInRectangle}
 use Rattle.cam_shapes.specs.Disc.{IsInHole}
 use Rattle.cam_apertures.specs.Cover.{disc, origin}
 use Rattle.cam_objects.specs.Image.{relative}
-use Rattle.cam_tiles.specs.Masks.{Joins}
+use Rattle.cam_tiles.specs.Machinery.Masks.{Joins}
 use Rattle.cam_tiles.proofs.masks.mask.Mask.stamp.Goals as goal
 
 abbrev IsOutsideHole : Nm → Spot → Type 0

@@ -4,7 +4,7 @@ use Rattle.cam_units.specs.declared.point.Spot.{Spot}
 use Rattle.cam_shapes.specs.Edge.{crosses_ray, edge}
 use Rattle.cam_objects.specs.Image.{relative}
 use Rattle.cam_tiles.specs.declared.masks.join.Join.TheVariants.{Turn as Turned}
-use Rattle.cam_tiles.specs.Masks.{Marking}
+use Rattle.cam_tiles.specs.Machinery.Masks.{Marking}
 use Rattle.cam_tiles.specs.Tiles.{centre_in}
 use Rattle.cam_tiles.proofs.EdgeSpans.{met_apart}
 use Rattle.cam_tiles.proofs.JoinedMarks.{AreRowsJoined, all_joined}

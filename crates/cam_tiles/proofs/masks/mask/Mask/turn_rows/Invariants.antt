@@ -1,6 +1,6 @@
 use Rattle.std.specs.Int.{IsBitSet}
 use Rattle.cam_tiles.specs.declared.masks.join.Join.TheVariants.{Turn as Turned}
-use Rattle.cam_tiles.specs.Masks.{HoldsCentres}
+use Rattle.cam_tiles.specs.Machinery.Masks.{HoldsCentres}
 use Rattle.cam_tiles.proofs.JoinedMarks.{AreJoinedAt}
 use Rattle.cam_tiles.proofs.masks.mask.Mask.turn_rows.Given as goal
 

@@ -3,7 +3,7 @@ use Rattle.std.proofs.lemmas.List.{take_more}
 use Rattle.cam_units.specs.declared.point.Spot.{Spot}
 use Rattle.cam_tiles.specs.declared.grid.Grid.{Grid}
 use Rattle.cam_tiles.specs.declared.masks.filing.FiledSegment.{FiledSegment}
-use Rattle.cam_tiles.specs.Parities.{Parities}
+use Rattle.cam_tiles.specs.Machinery.Parities.{Parities}
 use Rattle.cam_tiles.specs.Tiles.{IsGrid, centre_in}
 use Rattle.cam_tiles.proofs.CountedSegments.{AreCounted, all_counted, left_of, none_counted, place_counted, right_of}
 use Rattle.cam_tiles.proofs.CountedSegments.{row_counted}

@@ -1,5 +1,5 @@
 use Rattle.std.proofs.Common.{◌≡◌, ◌∙◌, arith}
-use Rattle.cam_tiles.specs.Filing.{corner_of, segment_of}
+use Rattle.cam_tiles.specs.Machinery.Filing.{corner_of, segment_of}
 use Rattle.cam_tiles.proofs.CountedSegments.{changed_at, corner_before, corner_first, segment_closing, segment_there}
 use Rattle.cam_tiles.proofs.masks.parity.Parity.turn_place.Goals.{After-turn_segment, else-place-eq0, then-place-eq0}
 use Rattle.cam_tiles.proofs.masks.parity.Parity.turn_place.Goals.{else-place-segs, then-place-segs}

@@ -1,0 +1,10 @@
+-- Words of the contracts of inner functions: they mirror the code. A reader who trusts the definitions beside this
+-- folder has read all that the theorems mean.
+pub mod Filing
+pub mod Indexes
+pub mod Kept
+pub mod Levels
+pub mod Masks
+pub mod Parities
+pub mod Shown
+pub mod Spans

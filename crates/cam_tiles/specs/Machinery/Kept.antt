@@ -1,0 +1,26 @@
+-- What rasters and sources keep, and what is seen of them.
+use Rattle.std.specs.Prelude.{◌≡◌, Some}
+use Rattle.cam_tiles.specs.declared.raster.Raster.TheInside.{Inside}
+use Rattle.cam_tiles.specs.declared.source.Source.TheInside.{Inside as SourceInside}
+use Rattle.cam_tiles.specs.Machinery.Indexes.{Indexed, IsIndexOf}
+use Rattle.cam_tiles.specs.Machinery.Shown.{IsReady, leaves_by_item, leaves_of}
+use Rattle.cam_tiles.specs.Sources.{Painted}
+use Rattle.cam_tiles.specs.Tables.{IsTable, Table, dirty_count}
+use Rattle.cam_tiles.specs.Tiles.{across}
+
+abbrev pub table_of : Inside → Table
+table_of r = record { window = r.window; tiles = r.tiles.items }
+
+-- all tiles of an accepted window are there, and the dirty ones are counted
+pub record IsKept (r : Inside) : Type 0 where
+  pub table : IsTable (table_of r)
+  pub wide : r.across ≡ across r.window
+  pub counted : r.dirty ≡ dirty_count (table_of r)
+
+abbrev pub painted_by : SourceInside → Painted
+painted_by s = record { leaves = leaves_of s.shown; asked = s.asked }
+
+-- a sound layer; what is indexed, if anything is, are the leaves of its items
+pub record IsIndexed (s : SourceInside) : Type 0 where
+  pub ready : IsReady s.shown
+  pub index : (index : Indexed) → s.index ≡ Some index → IsIndexOf (leaves_by_item s.shown) index
