@@ -1,5 +1,6 @@
 -- Room on the sheets of a board, for what a group of steps inserts there.
-use Rattle.std.proofs.Common.{◌≡◌, ℕ, ◌<◌, ◌+◌, ◌≤◌, Bool, true, false, ◌&&◌, cond, eqb, List, [], ◌∷◌, ◌++◌, length, count_by, Option, None, Some, refl, ap, subst, ◌∙◌, arith}
+use Rattle.std.proofs.Common.{◌≡◌, ℕ, ◌<◌, ◌+◌, ◌≤◌, Bool, true, false, ◌&&◌, cond, eqb, List, [], ◌∷◌}
+use Rattle.std.proofs.Common.{◌++◌, length, count_by, Option, None, Some, refl, ap, subst, ◌∙◌, arith}
 use Rattle.std.proofs.lemmas.Bool.{eq-eqb}
 use Rattle.std.proofs.lemmas.List.Sums.{sum_by-cons}
 use Rattle.std.proofs.lemmas.Option.{slice_get_within}
@@ -14,7 +15,8 @@ use Rattle.cam_edits.specs.declared.board_step.BoardStep.{BoardStep}
 use Rattle.cam_edits.specs.declared.board_step.BoardStep.TheVariants as steps
 use Rattle.cam_edits.specs.declared.drill_step.DrillStep.{DrillStep}
 use Rattle.cam_edits.specs.declared.step.Step.{Step}
-use Rattle.cam_edits.specs.BoardSteps.{HasPlaces, HasRoomOn, IsDrillFitOn, IsFitOn, after_drill_on, after_on, drill_steps_on, inserts_at, joined_if, steps_on}
+use Rattle.cam_edits.specs.BoardSteps.{HasRoomOn, IsDrillFitOn, IsFitOn, after_drill_on, after_on, drill_steps_on, joined_if, steps_on}
+use Rattle.cam_edits.specs.Machinery.Room.{HasPlaces, inserts_at}
 use Rattle.cam_edits.specs.DrillSteps.{is_drill_insertion}
 use Rattle.cam_edits.specs.Machinery.BoardStepLaws.{HasDrillPlacesFor, HasPlacesFor, drill_steps_joined, rest_has_room_on, steps_joined}
 use Rattle.cam_edits.specs.Sheets.{content_of}

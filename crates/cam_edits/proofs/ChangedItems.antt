@@ -11,7 +11,8 @@ use Rattle.cam_objects.specs.declared.drill_item.DrillItem.TheVariants.{Hit, Rou
 use Rattle.cam_objects.specs.declared.entry.Entry.{Entry}
 use Rattle.cam_objects.specs.declared.item.Item.{Item}
 use Rattle.cam_objects.specs.declared.item.Item.TheVariants.{One, Repeat}
-use Rattle.cam_objects.specs.declared.item_fault.ItemFault.TheVariants.{Malformed, UnknownAperture, UnknownTool, WrongAperture, ZeroRadius, OutOfBoard, TooMuch}
+use Rattle.cam_objects.specs.declared.item_fault.ItemFault.TheVariants.{Malformed, UnknownAperture, UnknownTool, WrongAperture}
+use Rattle.cam_objects.specs.declared.item_fault.ItemFault.TheVariants.{ZeroRadius, OutOfBoard, TooMuch}
 use Rattle.cam_objects.specs.declared.object.Object.{Object}
 use Rattle.cam_objects.specs.declared.object.Object.TheVariants.{Flash, Draw, Arc, Region}
 use Rattle.cam_objects.specs.Bounds.{bounds_of, box_of_shape}
@@ -20,7 +21,8 @@ use Rattle.cam_objects.specs.DrillSoundness.{IsSoundDrillItem, drill_count_of}
 use Rattle.cam_objects.specs.Leaves.{Meaning, Shape, arc_leaves, draw_leaves, flashed, item_leaves, meaning_in, object_leaves, origin}
 use Rattle.cam_objects.specs.Machinery.Inside.{IsBoxOnBoard}
 use Rattle.cam_objects.specs.Machinery.Painting.{StandsOnBoard}
-use Rattle.cam_objects.specs.Soundness.{HasRadius, IsDrawable, IsFormed, IsInside, IsKnown, IsSoundItem, IsWithinLimits, MeetsItem, objects_of, segs_of}
+use Rattle.cam_objects.specs.Soundness.{HasRadius, IsDrawable, IsFormed, IsInside, IsKnown, IsSoundItem}
+use Rattle.cam_objects.specs.Soundness.{IsWithinLimits, MeetsItem, objects_of, segs_of}
 use Rattle.cam_objects.specs.Weights.{Weight, item_count, object_count, weight_in}
 use Rattle.cam_objects.proofs.BoardBoxes.{board_leaves}
 use Rattle.cam_objects.proofs.PlacedBoxes.{box_of_leaves, flash_placed}

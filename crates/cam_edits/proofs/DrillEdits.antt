@@ -1,5 +1,6 @@
 -- How edits of a drill layer are judged, and that those without a refusal fit.
-use Rattle.std.proofs.Common.{◌≡◌, ◌↔◌, ℕ, ◌<◌, ◌≤◌, Bool, true, false, ◌&&◌, nat_le, nat_lt, IsTrue, List, [], ◌∷◌, ◌++◌, length, sum_by, Option, None, Some, Result, Ok, Err, IfOk, refl, ap, sym, subst, ◌∙◌, arith}
+use Rattle.std.proofs.Common.{◌≡◌, ◌↔◌, ℕ, ◌<◌, ◌≤◌, Bool, true, false, ◌&&◌, nat_le, nat_lt, IsTrue, List, [], ◌∷◌, ◌++◌}
+use Rattle.std.proofs.Common.{length, sum_by, Option, None, Some, Result, Ok, Err, IfOk, refl, ap, sym, subst, ◌∙◌, arith}
 use Rattle.std.specs.Prelude.{insert, is_some, slice_get}
 use Rattle.std.proofs.lemmas.Bool.{leb-true, ltb-true}
 use Rattle.std.proofs.lemmas.List.{length-append}
@@ -27,7 +28,8 @@ use Rattle.cam_edits.specs.Machinery.PlaceLaws.{element_at}
 use Rattle.cam_edits.specs.Moving.{IsMovableDrillItem}
 use Rattle.cam_objects.proofs.DemandLaws.{demand_law, first_law}
 use Rattle.cam_edits.proofs.ItemMoves.{movable_drill_item, shiftable_way, short_drill_item}
-use Rattle.cam_edits.proofs.Refusals.{IsTold, MeetsEach, and_parts, below, both, both_met, each_met, first_told, has_at, has_its_place, here_at, item_at, limit_met, limit_told, never, not_below, refused_so, same_test, second_told}
+use Rattle.cam_edits.proofs.Refusals.{IsTold, MeetsEach, and_parts, below, both, both_met, each_met, first_told, has_at, has_its_place}
+use Rattle.cam_edits.proofs.Refusals.{here_at, item_at, limit_met, limit_told, never, not_below, refused_so, same_test, second_told}
 
 -- ---- the limits of a drill layer with an item more
 

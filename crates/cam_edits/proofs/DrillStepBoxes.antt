@@ -18,7 +18,7 @@ use Rattle.cam_edits.specs.declared.drill_step.DrillStep.{DrillStep}
 use Rattle.cam_edits.specs.declared.drill_step.DrillStep.TheVariants.{Insert, Delete, Move, Reorder, Tool, Diameter}
 use Rattle.cam_edits.specs.DrillSteps.{after_drill_step, with_tool}
 use Rattle.cam_edits.specs.Editing.{meets_drill_step}
-use Rattle.cam_edits.specs.Touched.{boxes_of, drill_box, drill_touched}
+use Rattle.cam_edits.specs.Touched.{box_if_there, drill_box, drill_touched}
 use Rattle.cam_edits.proofs.MetDemands.{both, item_there}
 use Rattle.cam_edits.proofs.RedrawnItems.{AreOff, IsOff, carried_off, changed_off, item_off, put_in, repainted, taken_out}
 use Rattle.cam_edits.proofs.Refusals.{MeetsEach}
@@ -49,7 +49,7 @@ drill_step_keeps_outside c (Insert k item) met s off =
 drill_step_keeps_outside c (Delete k) met s off =
     let paints = drill_item_leaves c.tools in
     let there = item_there c.items k met.place in
-    let boxes = boxes_of (drill_box c.tools) (slice_get c.items k) in
+    let boxes = box_if_there (drill_box c.tools) (slice_get c.items k) in
     taken_out paints s c.items k there.0 there.1
     (item_off paints s (slice_get c.items k) there.0 there.1
     (All_left (IsOff s) boxes [] (All_left (IsOff s) (boxes ++ []) [] off)))
@@ -61,7 +61,7 @@ drill_step_keeps_outside c (Reorder k m) met s off =
     let paints = drill_item_leaves c.tools in
     let places = both _ _ met.place in
     let there = item_there c.items k places.0 in
-    let boxes = boxes_of (drill_box c.tools) (slice_get c.items k) in
+    let boxes = box_if_there (drill_box c.tools) (slice_get c.items k) in
     carried_off paints s c.items k there.0 there.1
     (item_off paints s (slice_get c.items k) there.0 there.1
     (All_left (IsOff s) boxes boxes (All_left (IsOff s) (boxes ++ boxes) [] off))) m

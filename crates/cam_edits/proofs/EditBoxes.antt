@@ -10,9 +10,10 @@ use Rattle.cam_edits.specs.declared.edit.Change.{Change}
 use Rattle.cam_edits.specs.declared.fault.EditFault.{EditFault}
 use Rattle.cam_edits.specs.declared.step.Step.{Step}
 use Rattle.cam_edits.specs.BoxLaws.{ChangesInside, EditBoxLaw}
-use Rattle.cam_edits.specs.Boards.{changed_at, content_at, held, place_of, with_content}
+use Rattle.cam_edits.specs.Boards.{changed_at, content_at, held, place_named, with_content}
 use Rattle.cam_edits.specs.DrillSteps.{after_drill_step}
-use Rattle.cam_edits.specs.Editing.{drill_step_of, edited, edited_at, edited_sheet, judged, judged_drill, meets_drill_step, meets_step, step_of, with_drill_step, with_step}
+use Rattle.cam_edits.specs.Editing.{drill_step_of, edited, edited_at, edited_sheet, judged, judged_drill}
+use Rattle.cam_edits.specs.Editing.{meets_drill_step, meets_step, step_of, with_drill_step, with_step}
 use Rattle.cam_edits.specs.Images.{image_of}
 use Rattle.cam_edits.specs.Machinery.PlaceLaws.{get_set}
 use Rattle.cam_edits.specs.Places.{changed_to}
@@ -113,4 +114,4 @@ board_edited change sheets after (Some place) e =
 pub edits_stay_in_their_boxes : EditBoxLaw
 unfolding edited touch_of_edit
 edits_stay_in_their_boxes edit sheets after e =
-    board_edited edit.change sheets after (place_of edit.name sheets) e
+    board_edited edit.change sheets after (place_named edit.name sheets) e

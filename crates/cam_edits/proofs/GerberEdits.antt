@@ -1,5 +1,6 @@
 -- How edits of a Gerber layer are judged, and that those without a refusal fit.
-use Rattle.std.proofs.Common.{◌≡◌, ◌↔◌, ℕ, ◌<◌, ◌≤◌, Bool, true, false, ◌&&◌, nat_le, nat_lt, IsTrue, List, [], ◌∷◌, ◌++◌, length, sum_by, Option, None, Some, Result, Ok, Err, IfOk, refl, ap, sym, subst, ◌∙◌, arith}
+use Rattle.std.proofs.Common.{◌≡◌, ◌↔◌, ℕ, ◌<◌, ◌≤◌, Bool, true, false, ◌&&◌, nat_le, nat_lt, IsTrue, List, [], ◌∷◌, ◌++◌}
+use Rattle.std.proofs.Common.{length, sum_by, Option, None, Some, Result, Ok, Err, IfOk, refl, ap, sym, subst, ◌∙◌, arith}
 use Rattle.std.specs.Prelude.{insert, slice_get, slice_set}
 use Rattle.std.proofs.lemmas.Bool.{leb-true, ltb-true}
 use Rattle.std.proofs.lemmas.List.{length-append}
@@ -30,7 +31,9 @@ use Rattle.cam_edits.specs.Places.{changed, changed_to}
 use Rattle.cam_edits.specs.Steps.{HasAperture, IsFit, IsOne, items_after, with_aperture, with_object}
 use Rattle.cam_objects.proofs.DemandLaws.{demand_law, first_law}
 use Rattle.cam_edits.proofs.ItemMoves.{movable_item, shiftable_way, short_item}
-use Rattle.cam_edits.proofs.Refusals.{IsTold, MeetsEach, and_parts, below, both, both_met, each_met, first_told, has_at, has_its_place, has_told, here_at, item_at, item_told, limit_met, limit_told, never, not_below, refused_so, same_test, second_told}
+use Rattle.cam_edits.proofs.Refusals.{IsTold, MeetsEach, and_parts, below, both, both_met, each_met, first_told, has_at, has_its_place}
+use Rattle.cam_edits.proofs.Refusals.{has_told, here_at, item_at, item_told, limit_met, limit_told, never, not_below, refused_so}
+use Rattle.cam_edits.proofs.Refusals.{same_test, second_told}
 
 -- ---- the limits of a layer with an item more
 

@@ -1,11 +1,12 @@
 -- Where the sheet of a name stands.
-use Rattle.std.proofs.Common.{◌≡◌, ℕ, ◌<◌, Bool, List, [], ◌∷◌, ◌+◌, cond, length, map, None, Option, Some, nat_lt, not, IfSome, refl, ap, sym, subst, ◌∙◌}
+use Rattle.std.proofs.Common.{◌≡◌, ℕ, ◌<◌, Bool, List, [], ◌∷◌, ◌+◌, cond, length, map, None}
+use Rattle.std.proofs.Common.{Option, Some, nat_lt, not, IfSome, refl, ap, sym, subst, ◌∙◌}
 use Rattle.std.specs.Prelude.{position}
 use Rattle.std.specs.List.{position_or_len}
 use Rattle.std.specs.Str.{bytes_eq}
 use Rattle.std.proofs.lemmas.List.{length-map}
 use Rattle.cam_edits.specs.declared.board.Sheet.{Sheet}
-use Rattle.cam_edits.specs.Boards.{place_of}
+use Rattle.cam_edits.specs.Boards.{place_named}
 use Rattle.cam_edits.specs.Sheets.{sheet_of}
 
 -- a place among what comes of elements is a place among the elements
@@ -22,8 +23,8 @@ position_map f test xs =
     (length-map xs f)
 
 pub named_place : (sheets : List Sheet) (name : List ℕ) (result : Option ℕ)
-    → result ≡ position (λ s. bytes_eq s.name name) sheets → result ≡ place_of name (map sheet_of sheets)
-unfolding place_of
+    → result ≡ position (λ s. bytes_eq s.name name) sheets → result ≡ place_named name (map sheet_of sheets)
+unfolding place_named
 named_place sheets name result e = e ∙ sym (position_map sheet_of (λ s. bytes_eq s.name name) sheets)
 
 pub place_within : (sheets : List Sheet) (result : Option ℕ) → IfSome result (λ k. k < length sheets)

@@ -5,13 +5,13 @@ use Rattle.cam_edits.specs.declared.board_step.BoardStep.TheVariants as steps
 use Rattle.cam_edits.specs.declared.edit.Change.{Change}
 use Rattle.cam_edits.specs.declared.edit.Edit.{Edit}
 use Rattle.cam_edits.specs.Boards.{content_at}
-use Rattle.cam_edits.specs.BoardSteps.{boxes_of, inverse_board_step, sheet_place}
+use Rattle.cam_edits.specs.BoardSteps.{step_boxes, inverse_board_step, sheet_place}
 use Rattle.cam_edits.specs.Planning.{IsPlan, IsStepOf}
 use Rattle.cam_edits.specs.Sheets.{Content, Gerber, Drill, Sheet}
 use Rattle.cam_edits.specs.Touches.{Touch, boxes_in, boxes_of_drill_step, boxes_of_step, touch_at, touch_of, touch_of_edit}
 
 planned_boxes : (change : Change) (c : Content) (step : BoardStep) → IsStepOf change c step
-    → boxes_of step ≡ boxes_in change c
+    → step_boxes step ≡ boxes_in change c
 planned_boxes change (Gerber c) (steps.Gerber place step boxes) h = h.1 ∙ sym (ap (λ o. boxes_of_step o c) h.0)
 planned_boxes change (Gerber c) (steps.Drill place step boxes) h = absurd h
 planned_boxes change (Drill c) (steps.Gerber place step boxes) h = absurd h

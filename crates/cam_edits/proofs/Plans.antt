@@ -11,9 +11,10 @@ use Rattle.cam_edits.specs.declared.fault.EditFault.{EditFault}
 use Rattle.cam_edits.specs.declared.fault.EditFault.TheVariants.{NoLayer, Memory}
 use Rattle.cam_edits.specs.declared.step.Step.{Step}
 use Rattle.cam_edits.specs.BoardSteps.{IsDrillFitOn, IsFitOn, after_drill_on, after_on}
-use Rattle.cam_edits.specs.Boards.{changed_at, content_at, held, place_of, with_content}
+use Rattle.cam_edits.specs.Boards.{changed_at, content_at, held, place_named, with_content}
 use Rattle.cam_edits.specs.DrillSteps.{IsDrillFit, after_drill_step}
-use Rattle.cam_edits.specs.Editing.{drill_step_of, edited, edited_at, edited_sheet, judged, judged_drill, step_of, with_drill_step, with_step}
+use Rattle.cam_edits.specs.Editing.{drill_step_of, edited, edited_at, edited_sheet, judged}
+use Rattle.cam_edits.specs.Editing.{judged_drill, step_of, with_drill_step, with_step}
 use Rattle.cam_edits.specs.Machinery.PlaceLaws.{element_at}
 use Rattle.cam_edits.specs.Places.{changed_to}
 use Rattle.cam_edits.specs.Planning.{IsPlan, IsRefused, IsStepOf}
@@ -26,11 +27,11 @@ use Rattle.cam_edits.proofs.Refusals.{has_at, item_at}
 
 module _ (edit : Edit) (sheets : List Sheet) where
   -- no sheet of the name
-  pub no_layer : place_of edit.name sheets ≡ None → IsRefused (edited edit sheets) NoLayer
+  pub no_layer : place_named edit.name sheets ≡ None → IsRefused (edited edit sheets) NoLayer
   unfolding edited
   no_layer e = subst (λ r. IsRefused r NoLayer) (sym (ap (edited_at edit.change sheets) e)) refl
 
-  module _ (place : ℕ) (named : place_of edit.name sheets ≡ Some place) (within : place < length sheets) where
+  module _ (place : ℕ) (named : place_named edit.name sheets ≡ Some place) (within : place < length sheets) where
     there : (s : Sheet) × (slice_get sheets place ≡ Some s)
     there = element_at sheets place within
 

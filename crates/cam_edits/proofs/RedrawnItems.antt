@@ -1,5 +1,6 @@
 -- What lists of items paint at a place that lies outside the boxes of those that change.
-use Rattle.std.proofs.Common.{◌≡◌, ℕ, suc, Bool, true, false, cond, List, [], ◌∷◌, ◌++◌, take, drop, Option, None, Some, refl, ap, sym, subst, ◌∙◌}
+use Rattle.std.proofs.Common.{◌≡◌, ℕ, suc, Bool, true, false, cond, List, [], ◌∷◌, ◌++◌}
+use Rattle.std.proofs.Common.{take, drop, Option, None, Some, refl, ap, sym, subst, ◌∙◌}
 use Rattle.std.specs.Prelude.{All, filter, insert, remove, slice_get}
 use Rattle.std.specs.List.{flat_map}
 use Rattle.std.specs.Option.{option_map}
@@ -16,7 +17,7 @@ use Rattle.cam_objects.proofs.Redraws.{keeps_outside}
 use Rattle.cam_objects.proofs.TestLaws.{black_law, test_of_image}
 use Rattle.cam_edits.specs.Machinery.PlaceLaws.{changed_is, reordered_is, within}
 use Rattle.cam_edits.specs.Places.{changed, reordered}
-use Rattle.cam_edits.specs.Touched.{boxes_of}
+use Rattle.cam_edits.specs.Touched.{box_if_there}
 use Rattle.cam_edits.proofs.EditedLists.{set_here, split_here}
 
 -- the place lies outside the box, or outside each of them
@@ -74,18 +75,18 @@ module _ {X : Type 0} (paints : X → List Leaf) (s : Spot) where
         ∙ ap colour (sym (changed_is xs k x here f ∙ set_here xs k (f x) (within xs k x here)))
 
   -- the box of an item that is there is one of the boxes
-  pub item_off : (o : Option X) (x : X) → o ≡ Some x → AreOff s (boxes_of box o) → IsItemOff x
+  pub item_off : (o : Option X) (x : X) → o ≡ Some x → AreOff s (box_if_there box o) → IsItemOff x
   item_off None x e h = absurd cc
   item_off (Some y) x e h =
       let same : y ≡ x = cc in subst IsItemOff same (All-head (IsOff s) (box y) [] h)
 
   -- an item that becomes another
   pub changed_off : (xs : List X) (k : ℕ) (x : X) → slice_get xs k ≡ Some x → (f : X → X)
-      → AreOff s (boxes_of box (slice_get xs k) ++ boxes_of box (option_map f (slice_get xs k)))
+      → AreOff s (box_if_there box (slice_get xs k) ++ box_if_there box (option_map f (slice_get xs k)))
       → colour xs ≡ colour (changed f xs k)
   changed_off xs k x here f off =
-      let before = boxes_of box (slice_get xs k) in
-      let after = boxes_of box (option_map f (slice_get xs k)) in
+      let before = box_if_there box (slice_get xs k) in
+      let after = box_if_there box (option_map f (slice_get xs k)) in
       replaced xs k x here (item_off (slice_get xs k) x here (All_left (IsOff s) before after off)) f
       (item_off (option_map f (slice_get xs k)) (f x) (ap (option_map f) here) (All_right (IsOff s) before after off))
 

@@ -1,5 +1,6 @@
 -- Which refusal of an edit is told first.
-use Rattle.std.proofs.Common.{◌≡◌, ◌↔◌, ℕ, ◌<◌, ◌≤◌, Bool, true, false, ◌&&◌, nat_lt, cond, IsTrue, List, length, slice_index_or, Option, None, Some, Result, Ok, Err, refl, ap, sym, subst, ◌∙◌, arith}
+use Rattle.std.proofs.Common.{◌≡◌, ◌↔◌, ℕ, ◌<◌, ◌≤◌, Bool, true, false, ◌&&◌, nat_lt, cond, IsTrue, List, length, slice_index_or}
+use Rattle.std.proofs.Common.{Option, None, Some, Result, Ok, Err, refl, ap, sym, subst, ◌∙◌, arith}
 use Rattle.std.specs.Prelude.{MatchOption, slice_get}
 use Rattle.std.specs.List.{All}
 use Rattle.std.proofs.lemmas.Bool.{lt-ltb, ltb-true}
@@ -9,7 +10,8 @@ use Rattle.cam_objects.specs.declared.item_fault.ItemFault.{ItemFault}
 use Rattle.cam_objects.specs.declared.item_fault.ItemFault.TheVariants.{Malformed, UnknownAperture, UnknownTool, ZeroRadius}
 use Rattle.cam_objects.specs.declared.item_fault.ItemFault.TheVariants as items
 use Rattle.cam_edits.specs.declared.fault.EditFault.{EditFault}
-use Rattle.cam_edits.specs.declared.fault.EditFault.TheVariants.{WrongKind, NoItem, HasNone, NoAperture, NoTool, WrongAperture, SizeRefused, OutOfBoard, TooMuch}
+use Rattle.cam_edits.specs.declared.fault.EditFault.TheVariants.{WrongKind, NoItem, HasNone, NoAperture, NoTool, WrongAperture}
+use Rattle.cam_edits.specs.declared.fault.EditFault.TheVariants.{SizeRefused, OutOfBoard, TooMuch}
 use Rattle.cam_edits.specs.Editing.{first_refusal}
 use Rattle.cam_edits.specs.Machinery.Judging.{insertion_answer}
 use Rattle.cam_edits.specs.Places.{HasAt}

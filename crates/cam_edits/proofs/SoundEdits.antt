@@ -1,5 +1,6 @@
 -- What an edit makes of sound layers is sound.
-use Rattle.std.proofs.Common.{◌≡◌, ℕ, suc, ◌≤◌, Bool, ◌&&◌, List, [], ◌∷◌, ◌++◌, take, drop, Option, None, Some, Result, Ok, refl, sym, subst, ◌∙◌, arith}
+use Rattle.std.proofs.Common.{◌≡◌, ℕ, suc, ◌≤◌, Bool, ◌&&◌, List, [], ◌∷◌, ◌++◌, take, drop}
+use Rattle.std.proofs.Common.{Option, None, Some, Result, Ok, refl, sym, subst, ◌∙◌, arith}
 use Rattle.std.specs.Prelude.{IsTrue, insert, remove, slice_get}
 use Rattle.std.proofs.lemmas.List.{take-append-drop}
 use Rattle.std.proofs.lemmas.List.Elements.{All-nil, All-set}
@@ -22,9 +23,10 @@ use Rattle.cam_edits.specs.declared.edit.Change.{Change}
 use Rattle.cam_edits.specs.declared.fault.EditFault.{EditFault}
 use Rattle.cam_edits.specs.declared.step.Step.{Step}
 use Rattle.cam_edits.specs.declared.step.Step.TheVariants as steps
-use Rattle.cam_edits.specs.Boards.{changed_at, content_at, empty_content, held as held_content, place_of, with_content}
+use Rattle.cam_edits.specs.Boards.{changed_at, content_at, empty_content, held as held_content, place_named, with_content}
 use Rattle.cam_edits.specs.DrillSteps.{after_drill_step}
-use Rattle.cam_edits.specs.Editing.{drill_step_of, edited, edited_at, edited_sheet, first_refusal, drill_step_unless, holds_at, holds_of, judged, judged_drill, meets_drill_step, meets_step, step_of, step_unless, with_drill_step, with_step}
+use Rattle.cam_edits.specs.Editing.{drill_step_of, edited, edited_at, edited_sheet, first_refusal, drill_step_unless, holds_at, holds_of}
+use Rattle.cam_edits.specs.Editing.{judged, judged_drill, meets_drill_step, meets_step, step_of, step_unless, with_drill_step, with_step}
 use Rattle.cam_edits.specs.Machinery.PlaceLaws.{changed_is, reordered_is, within}
 use Rattle.cam_edits.specs.Places.{changed, changed_to, reordered}
 use Rattle.cam_edits.specs.Planning.{EditsStaySound}
@@ -263,4 +265,4 @@ module _ (sheets after : List Sheet) (h : AreSound sheets) where
 
 pub edits_stay_sound : EditsStaySound
 unfolding edited
-edits_stay_sound edit sheets after h e = edited_at_sound sheets after h edit.change (place_of edit.name sheets) e
+edits_stay_sound edit sheets after h e = edited_at_sound sheets after h edit.change (place_named edit.name sheets) e

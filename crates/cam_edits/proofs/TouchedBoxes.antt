@@ -14,7 +14,7 @@ use Rattle.cam_edits.specs.declared.step.Step.TheVariants as steps
 use Rattle.cam_edits.specs.Editing.{first_refusal, meets_step}
 use Rattle.cam_edits.specs.Machinery.PlaceLaws.{element_at}
 use Rattle.cam_edits.specs.Steps.{with_aperture, with_object, with_polarity}
-use Rattle.cam_edits.specs.Touched.{boxes_of, item_box, touched}
+use Rattle.cam_edits.specs.Touched.{box_if_there, item_box, touched}
 use Rattle.cam_edits.proofs.ChangedItems.{box_with_polarity}
 use Rattle.cam_edits.proofs.EditedLists.{all_here}
 use Rattle.cam_edits.proofs.MetDemands.{both, less_than}
@@ -30,26 +30,26 @@ module _ {X : Type 0} (box : X → Bounds) (xs : List X) (k : ℕ) where
   IsBoxAt b = (x : X) → slice_get xs k ≡ Some x → b ≡ box x
 
   module _ (within : k < length xs) (b : Bounds) (before : IsBoxAt b) where
-    pub alone : b ∷ [] ≡ boxes_of box (slice_get xs k)
+    pub alone : b ∷ [] ≡ box_if_there box (slice_get xs k)
     alone =
         let there = element_at xs k within in
-        ap (λ b. b ∷ []) (before there.0 there.1) ∙ sym (ap (boxes_of box) there.1)
+        ap (λ b. b ∷ []) (before there.0 there.1) ∙ sym (ap (box_if_there box) there.1)
 
     -- the boxes of an item that becomes another of the same box
     kept : (f : X → X) → ((x : X) → box (f x) ≡ box x)
-        → b ∷ b ∷ [] ≡ boxes_of box (slice_get xs k) ++ boxes_of box (option_map f (slice_get xs k))
+        → b ∷ b ∷ [] ≡ box_if_there box (slice_get xs k) ++ box_if_there box (option_map f (slice_get xs k))
     kept f same =
         let there = element_at xs k within in
         let is = before there.0 there.1 in
         (λ i. is i ∷ (is ∙ sym (same there.0)) i ∷ [])
-        ∙ sym (ap (λ o. boxes_of box o ++ boxes_of box (option_map f o)) there.1)
+        ∙ sym (ap (λ o. box_if_there box o ++ box_if_there box (option_map f o)) there.1)
 
     -- and of one that becomes any other
     pub changed : (f : X → X) (x : X) (after : Bounds) → x ≡ get_or xs k x → after ≡ box (f x)
-        → b ∷ after ∷ [] ≡ boxes_of box (slice_get xs k) ++ boxes_of box (option_map f (slice_get xs k))
+        → b ∷ after ∷ [] ≡ box_if_there box (slice_get xs k) ++ box_if_there box (option_map f (slice_get xs k))
     changed f x after at is =
         let here = slice_get_read xs (length xs) k x refl within at in
-        (λ i. before x here i ∷ is i ∷ []) ∙ sym (ap (λ o. boxes_of box o ++ boxes_of box (option_map f o)) here)
+        (λ i. before x here i ∷ is i ∷ []) ∙ sym (ap (λ o. box_if_there box o ++ box_if_there box (option_map f o)) here)
 
 -- ---- Gerber layers
 
@@ -126,7 +126,7 @@ module _ (c : GerberContent) (step : Step) (none : first_refusal (meets_step c s
   delete_box k is b before =
       let there = element_at c.items k (delete_within k is) in
       boxes_are (steps.Delete k) is (b ∷ [])
-      (ap (λ b. b ∷ []) (before there.0 there.1) ∙ sym (ap (λ (o : Option Item). boxes_of box o ++ []) there.1))
+      (ap (λ b. b ∷ []) (before there.0 there.1) ∙ sym (ap (λ (o : Option Item). box_if_there box o ++ []) there.1))
 
   pub move_boxes : (k : ℕ) (by : Point) → step ≡ steps.Move k by → (x : Item) → x ≡ get_or c.items k x
       → (b after : Bounds) → IsBoxAt box c.items k b → after ≡ box (shifted_item by x) → b ∷ after ∷ [] ≡ touched step c

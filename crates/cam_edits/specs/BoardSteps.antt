@@ -1,5 +1,5 @@
 -- What the steps of a board do to its sheets, and which steps lead back: a step changes one sheet, which is of its kind.
-use Rattle.std.specs.Prelude.{ℕ, ◌+◌, ◌≤◌, ◌==◌, ◌&&◌, Bool, if◌then◌else◌, List, [], ◌∷◌, length, vec_capacity, MatchOption, slice_get}
+use Rattle.std.specs.Prelude.{ℕ, ◌==◌, Bool, if◌then◌else◌, List, [], ◌∷◌, MatchOption, slice_get}
 use Rattle.cam_units.specs.declared.bounds.Bounds.{Bounds}
 use Rattle.cam_edits.specs.declared.board.Board.{Board}
 use Rattle.cam_edits.specs.declared.board.SheetContent.{SheetContent}
@@ -9,10 +9,10 @@ use Rattle.cam_edits.specs.declared.board_step.BoardStep.TheVariants as steps
 use Rattle.cam_edits.specs.declared.drill_step.DrillStep.{DrillStep}
 use Rattle.cam_edits.specs.declared.step.Step.{Step}
 use Rattle.cam_edits.specs.Boards.{changed_at, content_at}
-use Rattle.cam_edits.specs.DrillSteps.{HasDrillRoom, IsDrillFit, after_drill_step, inverse_drill_step, is_drill_insertion}
+use Rattle.cam_edits.specs.DrillSteps.{HasDrillRoom, IsDrillFit, after_drill_step, inverse_drill_step}
 use Rattle.cam_edits.specs.Places.{HasAt}
 use Rattle.cam_edits.specs.Sheets.{Content, Gerber, Drill, Sheet}
-use Rattle.cam_edits.specs.Steps.{HasRoom, IsFit, after_step, inverse_step, is_insertion}
+use Rattle.cam_edits.specs.Steps.{HasRoom, IsFit, after_step, inverse_step}
 
 -- ---- one sheet
 
@@ -48,9 +48,9 @@ sheet_place (steps.Gerber place step boxes) = place
 sheet_place (steps.Drill place step boxes) = place
 
 -- the boxes of what it touches
-abbrev pub boxes_of : BoardStep → List Bounds
-boxes_of (steps.Gerber place step boxes) = boxes.items
-boxes_of (steps.Drill place step boxes) = boxes.items
+abbrev pub step_boxes : BoardStep → List Bounds
+step_boxes (steps.Gerber place step boxes) = boxes.items
+step_boxes (steps.Drill place step boxes) = boxes.items
 
 abbrev pub after_board_step : BoardStep → List Sheet → List Sheet
 after_board_step (steps.Gerber place step boxes) sheets = changed_at (after_on step) place sheets
@@ -83,19 +83,9 @@ drill_steps_on place [] = []
 drill_steps_on place (steps.Gerber at step boxes ∷ group) = drill_steps_on place group
 drill_steps_on place (steps.Drill at step boxes ∷ group) = joined_if (at == place) step (drill_steps_on place group)
 
--- there are so many places for more items
-abbrev pub HasPlaces : ℕ → SheetContent → Type 0
-HasPlaces more (kept.Gerber layer) = length layer.items.items + more ≤ vec_capacity layer.items
-HasPlaces more (kept.Drill layer) = length layer.items.items + more ≤ vec_capacity layer.items
-
 abbrev pub HasRoomOn : ℕ → List BoardStep → SheetContent → Type 0
 HasRoomOn place group (kept.Gerber layer) = HasRoom (steps_on place group) layer
 HasRoomOn place group (kept.Drill layer) = HasDrillRoom (drill_steps_on place group) layer
-
--- whether a step inserts an item into the sheet at a place
-abbrev pub inserts_at : ℕ → BoardStep → Bool
-inserts_at place (steps.Gerber at step boxes) = (at == place) && is_insertion step
-inserts_at place (steps.Drill at step boxes) = (at == place) && is_drill_insertion step
 
 -- each sheet has room for the steps of the group that change it
 abbrev pub HasBoardRoom : List BoardStep → Board → Type 0

@@ -5,8 +5,8 @@ use Rattle.cam_edits.specs.Places.{changed}
 use Rattle.cam_edits.specs.Sheets.{Content, Gerber, Sheet, sheet}
 
 -- where the sheet of this name stands
-unfoldable pub place_of : List ℕ → List Sheet → Option ℕ
-place_of name sheets = position (λ s. bytes_eq s.name name) sheets
+unfoldable pub place_named : List ℕ → List Sheet → Option ℕ
+place_named name sheets = position (λ s. bytes_eq s.name name) sheets
 
 -- a layer without entries and items
 abbrev pub empty_content : Content

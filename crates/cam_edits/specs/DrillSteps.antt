@@ -1,5 +1,6 @@
 -- What the steps of a drill layer do to what it lists, and which steps lead back.
-use Rattle.std.specs.Prelude.{ℕ, ◌+◌, ◌<◌, ◌≤◌, Bool, true, false, List, length, Option, None, Some, IsSome, count_by, insert, nat_eq, remove, slice_get, vec_capacity}
+use Rattle.std.specs.Prelude.{ℕ, ◌+◌, ◌<◌, ◌≤◌, Bool, true, false, List, length, Option, None, Some}
+use Rattle.std.specs.Prelude.{IsSome, count_by, insert, nat_eq, remove, slice_get, vec_capacity}
 use Rattle.std.specs.Map.{set_value}
 use Rattle.cam_units.specs.declared.length.Nm.{Nm}
 use Rattle.cam_shapes.specs.Shifting.{IsShiftable}

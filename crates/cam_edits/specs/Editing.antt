@@ -1,5 +1,6 @@
 -- What an edit makes of the sheets, by lists alone, or its first refusal.
-use Rattle.std.specs.Prelude.{ℕ, nat_le, nat_lt, int_le, Bool, true, false, ◌&&◌, if◌then◌else◌, pos, List, [], ◌∷◌, length, Option, None, Some, Result, Ok, Err, is_some, slice_get}
+use Rattle.std.specs.Prelude.{ℕ, nat_le, nat_lt, int_le, Bool, true, false, ◌&&◌, if◌then◌else◌, pos, List}
+use Rattle.std.specs.Prelude.{[], ◌∷◌, length, Option, None, Some, Result, Ok, Err, is_some, slice_get}
 use Rattle.cam_units.specs.declared.length.Nm.{Nm}
 use Rattle.cam_objects.specs.Contents.{Content as GerberContent, DrillContent}
 use Rattle.cam_objects.specs.Demands.{keeps_drill_limits, keeps_limits, meets_drill_item, meets_item}
@@ -17,10 +18,11 @@ use Rattle.cam_edits.specs.declared.edit.Change.TheVariants as changes
 use Rattle.cam_edits.specs.declared.edit.Edit.{Edit}
 use Rattle.cam_edits.specs.declared.edit.NewItem.TheVariants as new_items
 use Rattle.cam_edits.specs.declared.fault.EditFault.{EditFault}
-use Rattle.cam_edits.specs.declared.fault.EditFault.TheVariants.{NoLayer, WrongKind, NoItem, HasNone, NoAperture, NoTool, WrongAperture, SizeRefused, OutOfBoard, TooMuch, Memory}
+use Rattle.cam_edits.specs.declared.fault.EditFault.TheVariants.{NoLayer, WrongKind, NoItem, HasNone, NoAperture, NoTool}
+use Rattle.cam_edits.specs.declared.fault.EditFault.TheVariants.{WrongAperture, SizeRefused, OutOfBoard, TooMuch, Memory}
 use Rattle.cam_edits.specs.declared.step.Step.{Step}
 use Rattle.cam_edits.specs.declared.step.Step.TheVariants as steps
-use Rattle.cam_edits.specs.Boards.{changed_at, content_at, place_of}
+use Rattle.cam_edits.specs.Boards.{changed_at, content_at, place_named}
 use Rattle.cam_edits.specs.DrillSteps.{after_drill_step, drill_items_after}
 use Rattle.cam_edits.specs.Sheets.{Content, Gerber, Drill, Sheet}
 use Rattle.cam_edits.specs.Steps.{after_step, items_after, with_aperture, with_object}
@@ -260,4 +262,4 @@ edited_at change sheets (Some place) = edited_sheet change sheets place (content
 
 -- the sheets after an edit, or why it is refused
 unfoldable pub edited : Edit → List Sheet → Result (List Sheet) EditFault
-edited edit sheets = edited_at edit.change sheets (place_of edit.name sheets)
+edited edit sheets = edited_at edit.change sheets (place_named edit.name sheets)

@@ -7,10 +7,10 @@ use Rattle.cam_objects.specs.Tests.{is_black}
 use Rattle.cam_edits.specs.Sheets.{Content, Gerber, Drill}
 
 -- what it paints, in order
-abbrev pub leaves_of : Content → List Leaf
-leaves_of (Gerber c) = content_leaves c
-leaves_of (Drill c) = drill_content_leaves c
+abbrev pub sheet_leaves : Content → List Leaf
+sheet_leaves (Gerber c) = content_leaves c
+sheet_leaves (Drill c) = drill_content_leaves c
 
 -- the image, as a test of places: painting in order
 abbrev pub image_of : Content → Spot → Bool
-image_of c s = is_black (leaves_of c) s
+image_of c s = is_black (sheet_leaves c) s

@@ -8,7 +8,7 @@ use Rattle.cam_edits.specs.declared.edit.Edit.{Edit}
 use Rattle.cam_edits.specs.declared.fault.EditFault.{EditFault}
 use Rattle.cam_edits.specs.declared.fault.EditFault.TheVariants.{Memory}
 use Rattle.cam_edits.specs.BoardSteps.{IsBoardFit, after_board_step, sheet_place}
-use Rattle.cam_edits.specs.Boards.{content_at, place_of}
+use Rattle.cam_edits.specs.Boards.{content_at, place_named}
 use Rattle.cam_edits.specs.Editing.{drill_step_of, edited, step_of}
 use Rattle.cam_edits.specs.Sheets.{AreSound, Content, Gerber, Drill, Sheet}
 use Rattle.cam_edits.specs.Touched.{drill_touched, touched}
@@ -25,7 +25,7 @@ IsStepOf change (Drill c) (steps.Drill place step boxes) =
 pub record IsPlan (sheets : List Sheet) (edit : Edit) (step : BoardStep) : Type 0 where
   pub edited_is : edited edit sheets ≡ Ok (after_board_step step sheets)
   pub fits : IsBoardFit step sheets
-  pub named : place_of edit.name sheets ≡ Some (sheet_place step)
+  pub named : place_named edit.name sheets ≡ Some (sheet_place step)
   pub step_is : IsStepOf edit.change (content_at sheets (sheet_place step)) step
 
 -- the fault of an edit that is not planned: memory is refused only where nothing else is

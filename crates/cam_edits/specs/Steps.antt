@@ -1,5 +1,6 @@
 -- What the steps of a layer do to what it lists, and which steps lead back.
-use Rattle.std.specs.Prelude.{ℕ, ◌+◌, ◌<◌, ◌≤◌, Bool, true, false, List, length, Option, None, Some, count_by, insert, remove, slice_get, vec_capacity}
+use Rattle.std.specs.Prelude.{ℕ, ◌+◌, ◌<◌, ◌≤◌, Bool, true, false, List, length, Option, None}
+use Rattle.std.specs.Prelude.{Some, count_by, insert, remove, slice_get, vec_capacity}
 use Rattle.cam_shapes.specs.Shifting.{IsShiftable}
 use Rattle.cam_objects.specs.Contents.{Content}
 use Rattle.cam_objects.specs.Shifting.{shifted_item}
@@ -78,16 +79,16 @@ inverse_at (Aperture k n) before = Aperture k n
 inverse_at (Polarity k dark) (Some (One object)) = Polarity k (polarity_of object)
 inverse_at (Polarity k dark) before = Polarity k dark
 
-abbrev pub place_of : Step → ℕ
-place_of (Insert k item) = k
-place_of (Delete k) = k
-place_of (Move k by) = k
-place_of (Reorder k m) = k
-place_of (Aperture k n) = k
-place_of (Polarity k dark) = k
+abbrev pub step_place : Step → ℕ
+step_place (Insert k item) = k
+step_place (Delete k) = k
+step_place (Move k by) = k
+step_place (Reorder k m) = k
+step_place (Aperture k n) = k
+step_place (Polarity k dark) = k
 
 abbrev pub inverse_step : Step → Content → Step
-inverse_step step c = inverse_at step (slice_get c.items (place_of step))
+inverse_step step c = inverse_at step (slice_get c.items (step_place step))
 
 abbrev pub Fits : Step → List Item → Type 0
 Fits (Insert k item) items = k ≤ length items

@@ -21,9 +21,9 @@ use Rattle.cam_edits.specs.DrillSteps.{tools_after, with_tool}
 use Rattle.cam_edits.specs.Steps.{with_aperture, with_object, with_polarity}
 
 -- the boxes of those that are there
-abbrev pub boxes_of : {X : Type 0} → (X → Bounds) → Option X → List Bounds
-boxes_of box None = []
-boxes_of box (Some x) = box x ∷ []
+abbrev pub box_if_there : {X : Type 0} → (X → Bounds) → Option X → List Bounds
+box_if_there box None = []
+box_if_there box (Some x) = box x ∷ []
 
 -- ---- a Gerber layer
 
@@ -50,7 +50,7 @@ item_after (steps.Polarity k dark) items = option_map (with_object (with_polarit
 
 unfoldable pub touched : Step → GerberContent → List Bounds
 touched step c =
-    boxes_of (item_box c.entries) (item_before step c.items) ++ boxes_of (item_box c.entries) (item_after step c.items)
+    box_if_there (item_box c.entries) (item_before step c.items) ++ box_if_there (item_box c.entries) (item_after step c.items)
 
 -- ---- a drill layer
 
@@ -85,7 +85,7 @@ items_of_tool (drill_steps.Diameter t d) items = filter (λ item. tool_of item =
 
 unfoldable pub drill_touched : DrillStep → DrillContent → List Bounds
 drill_touched step c =
-    boxes_of (drill_box c.tools) (drill_item_before step c.items)
-    ++ boxes_of (drill_box c.tools) (drill_item_after step c.items)
+    box_if_there (drill_box c.tools) (drill_item_before step c.items)
+    ++ box_if_there (drill_box c.tools) (drill_item_after step c.items)
     ++ flat_map (λ item. drill_box c.tools item ∷ drill_box (tools_after step c.tools) item ∷ [])
     (items_of_tool step c.items)

@@ -7,8 +7,8 @@ use Rattle.cam_edits.specs.declared.drill_step.DrillStep.{DrillStep}
 use Rattle.cam_edits.specs.declared.edit.Change.{Change}
 use Rattle.cam_edits.specs.declared.edit.Edit.{Edit}
 use Rattle.cam_edits.specs.declared.step.Step.{Step}
-use Rattle.cam_edits.specs.Boards.{content_at, place_of}
-use Rattle.cam_edits.specs.BoardSteps.{boxes_of, sheet_place}
+use Rattle.cam_edits.specs.Boards.{content_at, place_named}
+use Rattle.cam_edits.specs.BoardSteps.{step_boxes, sheet_place}
 use Rattle.cam_edits.specs.Editing.{drill_step_of, step_of}
 use Rattle.cam_edits.specs.Sheets.{Content, Gerber, Drill, Sheet}
 use Rattle.cam_edits.specs.Touched.{drill_touched, touched}
@@ -37,8 +37,8 @@ touch_at change sheets (Some place) = record { sheet = place; boxes = boxes_in c
 
 -- what an edit of these sheets touches
 unfoldable pub touch_of_edit : Edit → List Sheet → Touch
-touch_of_edit edit sheets = touch_at edit.change sheets (place_of edit.name sheets)
+touch_of_edit edit sheets = touch_at edit.change sheets (place_named edit.name sheets)
 
 -- what the step of a plan touches, and its answer
 abbrev pub touch_of : BoardStep → Touch
-touch_of step = record { sheet = sheet_place step; boxes = boxes_of step }
+touch_of step = record { sheet = sheet_place step; boxes = step_boxes step }

@@ -2,8 +2,8 @@
 
 ghost use Rattle.std.specs.Prelude.{◌≡◌, ◌<◌, ◌==◌, ◌++◌, ◌∷◌, [], IfSome, OnErr, OnOk, length, position};
 ghost use Rattle.std.specs.Str.{bytes_eq};
-ghost use Rattle.cam_edits.specs.BoardSteps.{HasPlaces};
-ghost use Rattle.cam_edits.specs.Boards.{content_at, place_of};
+ghost use Rattle.cam_edits.specs.Machinery.Room.{HasPlaces};
+ghost use Rattle.cam_edits.specs.Boards.{content_at, place_named};
 ghost use Rattle.cam_edits.specs.Sheets.{content_of, entry_count, item_count, sheet_of, sheets_of};
 
 use crate::name::Name;
@@ -89,7 +89,7 @@ impl Board {
 
     /// The place, from 0, of the first sheet of this name.
     pub fn place(&self, name: &Name) -> Option<usize>
-        ensures value { result ≡ place_of name.now (sheets_of self.now) }
+        ensures value { result ≡ place_named name.now (sheets_of self.now) }
         ensures within { IfSome result (λ place. place < length (sheets_of self.now)) }
     {
         place_among(&self.sheets, name)

@@ -9,13 +9,13 @@ ghost use Rattle.cam_edits.specs.BoardSteps.{
   after_board_step,
   after_drill_on,
   after_on,
-  boxes_of,
-  inserts_at,
+  step_boxes,
   inverse_board_step,
   inverse_drill_on,
   inverse_on,
   sheet_place,
 };
+ghost use Rattle.cam_edits.specs.Machinery.Room.{inserts_at};
 ghost use Rattle.cam_edits.specs.Machinery.BoardStepLaws.{HasDrillPlacesFor, HasPlacesFor};
 ghost use Rattle.cam_edits.specs.Sheets.{Sheet, content_of, sheets_of};
 
@@ -55,7 +55,7 @@ impl BoardStep {
 
     /// The boxes of what the edit touches, in half nm.
     pub fn boxes(&self) -> &[Bounds]
-        ensures { result.now ≡ boxes_of self.now }
+        ensures { result.now ≡ step_boxes self.now }
     {
         match self {
             BoardStep::Gerber { boxes, .. } => boxes.as_slice(),
@@ -178,7 +178,8 @@ fn play_on(step: Step, content: &mut SheetContent) -> Step
     requires room { HasPlacesFor (step ∷ []) content.old }
     ensures content { content_of content.new ≡ after_on step (content_of content.old) }
     ensures answer { result ≡ inverse_on step (content_of content.old) }
-    ensures room { (rest : List Step) → HasPlacesFor (rest ++ step ∷ []) content.old → HasPlacesFor rest content.new }
+    ensures room { (rest : List Step)
+        → HasPlacesFor (rest ++ step ∷ []) content.old → HasPlacesFor rest content.new }
 {
     match content {
         SheetContent::Gerber(layer) => step.play(layer),
@@ -192,7 +193,8 @@ fn play_drill_on(step: DrillStep, content: &mut SheetContent) -> DrillStep
     requires room { HasDrillPlacesFor (step ∷ []) content.old }
     ensures content { content_of content.new ≡ after_drill_on step (content_of content.old) }
     ensures answer { result ≡ inverse_drill_on step (content_of content.old) }
-    ensures room { (rest : List DrillStep) → HasDrillPlacesFor (rest ++ step ∷ []) content.old → HasDrillPlacesFor rest content.new }
+    ensures room { (rest : List DrillStep)
+        → HasDrillPlacesFor (rest ++ step ∷ []) content.old → HasDrillPlacesFor rest content.new }
 {
     match content {
         SheetContent::Gerber(_) => step,

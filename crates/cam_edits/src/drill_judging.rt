@@ -6,7 +6,14 @@ ghost use Rattle.cam_objects.specs.Drilling.{diameter_of};
 ghost use Rattle.cam_objects.specs.DrillSoundness.{IsSoundDrillLayer};
 ghost use Rattle.cam_edits.specs.DrillSteps.{IsDrillFit};
 ghost use Rattle.cam_edits.specs.Editing.{drill_step_of, is_tool_size, judged_drill};
-ghost use Rattle.cam_edits.specs.declared.drill_step.DrillStep.TheVariants.{Delete, Diameter, Insert, Move, Reorder, Tool};
+ghost use Rattle.cam_edits.specs.declared.drill_step.DrillStep.TheVariants.{
+  Delete,
+  Diameter,
+  Insert,
+  Move,
+  Reorder,
+  Tool,
+};
 
 use crate::drill_step::DrillStep;
 use crate::edit::{Change, NewItem};

@@ -2,7 +2,14 @@
 
 ghost use Rattle.std.specs.Prelude.{◌≡◌, count_by};
 ghost use Rattle.cam_objects.specs.DrillSoundness.{tool_of};
-ghost use Rattle.cam_edits.specs.DrillSteps.{HasDrillRoom, IsDrillFit, after_drill_step, inverse_drill_step, is_drill_insertion, with_tool};
+ghost use Rattle.cam_edits.specs.DrillSteps.{
+  HasDrillRoom,
+  IsDrillFit,
+  after_drill_step,
+  inverse_drill_step,
+  is_drill_insertion,
+  with_tool,
+};
 ghost use Rattle.cam_objects.specs.Contents.{DrillContent, drill_content_of};
 
 use crate::moving::{back, can_move_drill_item};

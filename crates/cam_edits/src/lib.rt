@@ -1,8 +1,9 @@
 //! Edits of boards as steps that turn into their inverses.
 //!
-//! A [`Board`] is a list of named layers of two kinds. [`plan`] judges an [`Edit`] of it and answers the [`BoardStep`] that
-//! makes it, as `specs/Editing.antt` says. [`Reversible`] says what a step is: playing it changes its document and answers
-//! the step that leads back. [`Step`] edits the items of a layer, [`DrillStep`] the items and the tools of a drill layer.
+//! A [`Board`] is a list of named layers of two kinds. [`plan`] judges an [`Edit`] of it and answers the [`BoardStep`]
+//! that makes it, as `specs/Editing.antt` says. [`Reversible`] says what a step is: playing it changes its document and
+//! answers the step that leads back. [`Step`] edits the items of a layer, [`DrillStep`] the items and the tools of a
+//! drill layer.
 #![tactic(auto)]
 
 mod apertures;

@@ -14,14 +14,14 @@ use crate::judging::judged;
 use crate::touched::{drill_touched, touched};
 use std::alloc::Global;
 
-/// The step that makes an edit, which fits the board, with the boxes of what the edit touches. The board's layers have to
-/// be sound.
+/// The step that makes an edit, which fits the board, with the boxes of what the edit touches. The board's layers have
+/// to be sound.
 ///
-/// The refusals, in the order in which they are told: no layer of the name (60); an edit or an item that does not go with
-/// the layer's kind, or a malformed item (68); no item at the place (61); an item without what is to change (64); an
-/// aperture (62) or a tool (66) that the layer does not have; a draw or an arc without a solid circle (63); an arc of
-/// radius 0, or a tool's diameter outside its limits (67); a control point off the board (65); more than the limits allow
-/// (69). Last comes want of memory (30).
+/// The refusals, in the order in which they are told: no layer of the name (60); an edit or an item that does not go
+/// with the layer's kind, or a malformed item (68); no item at the place (61); an item without what is to change (64);
+/// an aperture (62) or a tool (66) that the layer does not have; a draw or an arc without a solid circle (63); an arc
+/// of radius 0, or a tool's diameter outside its limits (67); a control point off the board (65); more than the limits
+/// allow (69). Last comes want of memory (30).
 pub fn plan(alloc: Global, board: &Board, edit: Edit) -> Result<BoardStep, EditFault>
     requires { AreSound (sheets_of board.now) }
     ensures planned { IfOk result (λ step. IsPlan (sheets_of board.now) edit step) }

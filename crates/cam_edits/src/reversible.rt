@@ -48,9 +48,12 @@ pub trait Reversible: Sized + Drop {
 
     ghost answer_fits: { (step : Self) (c : Content) → is_fit step c → is_fit (inverse step c) (after step c) };
 
-    ghost gives_back_content: { (step : Self) (c : Content) → is_fit step c → after (inverse step c) (after step c) ≡ c };
+    ghost gives_back_content: { (step : Self) (c : Content) → is_fit step c
+        → after (inverse step c) (after step c) ≡ c };
 
-    ghost gives_back_step: { (step : Self) (c : Content) → is_fit step c → inverse (inverse step c) (after step c) ≡ step };
+    ghost gives_back_step: { (step : Self) (c : Content) → is_fit step c
+        → inverse (inverse step c) (after step c) ≡ step };
 
-    ghost last_has_room: { (rest : List Self) (step : Self) (doc : Self.Doc) → has_room (rest ++ step ∷ []) doc → has_room (step ∷ []) doc };
+    ghost last_has_room: { (rest : List Self) (step : Self) (doc : Self.Doc)
+        → has_room (rest ++ step ∷ []) doc → has_room (step ∷ []) doc };
 }

@@ -42,7 +42,12 @@ pub enum Step {
 }
 
 impl Reversible for Step {
-    ghost use Rattle.cam_edits.specs.Machinery.StepLaws.{answer_fits, gives_back_content, gives_back_step, last_has_room};
+    ghost use Rattle.cam_edits.specs.Machinery.StepLaws.{
+      answer_fits,
+      gives_back_content,
+      gives_back_step,
+      last_has_room,
+    };
 
     type Doc = Layer;
 

@@ -1,4 +1,5 @@
-use Rattle.std.specs.Prelude.{◌≡◌, ℕ, ◌+◌, ◌==◌, Bool, true, false, cond, List, [], ◌∷◌, ◌++◌, Option, None, Some, MatchOption, count_by, slice_get}
+use Rattle.std.specs.Prelude.{◌≡◌, ℕ, ◌+◌, ◌==◌, Bool, true, false, cond, List, [], ◌∷◌, ◌++◌}
+use Rattle.std.specs.Prelude.{Option, None, Some, MatchOption, count_by, slice_get}
 use Rattle.std.proofs.Common.{refl, ap, sym, subst, ◌∙◌, arith}
 use Rattle.std.proofs.lemmas.List.Sums.{sum_by-append}
 use Rattle.cam_edits.specs.declared.board.Board.{Board}
@@ -10,7 +11,9 @@ use Rattle.cam_edits.specs.declared.board_step.BoardStep.TheVariants as steps
 use Rattle.cam_edits.specs.declared.drill_step.DrillStep.{DrillStep}
 use Rattle.cam_edits.specs.declared.step.Step.{Step}
 use Rattle.cam_edits.specs.Boards.{changed_at, held, with_content}
-use Rattle.cam_edits.specs.BoardSteps.{HasBoardRoom, HasPlaces, HasRoomOn, IsBoardFit, IsDrillFitOn, IsFitOn, after_board_step, after_drill_on, after_on, drill_steps_on, inverse_board_step, inverse_drill_on, inverse_on, joined_if, steps_on}
+use Rattle.cam_edits.specs.BoardSteps.{HasBoardRoom, HasRoomOn, IsBoardFit, IsDrillFitOn, IsFitOn, after_board_step, after_drill_on}
+use Rattle.cam_edits.specs.BoardSteps.{after_on, drill_steps_on, inverse_board_step, inverse_drill_on, inverse_on, joined_if, steps_on}
+use Rattle.cam_edits.specs.Machinery.Room.{HasPlaces}
 use Rattle.cam_edits.specs.DrillSteps.{is_drill_insertion}
 use Rattle.cam_edits.specs.Machinery.DrillStepLaws.{drill_answer_fits, drill_gives_back_content, drill_gives_back_step}
 use Rattle.cam_edits.specs.Machinery.PlaceLaws.{changed_back, found, get_changed, has_changed}

@@ -1,4 +1,5 @@
-use Rattle.std.specs.Prelude.{◌≡◌, ℕ, ◌≤◌, Bool, true, false, cond, List, [], ◌∷◌, ◌++◌, length, Option, None, Some, IsSome, is_some, nat_eq, remove}
+use Rattle.std.specs.Prelude.{◌≡◌, ℕ, ◌≤◌, Bool, true, false, cond, List, [], ◌∷◌, ◌++◌, length}
+use Rattle.std.specs.Prelude.{Option, None, Some, IsSome, is_some, nat_eq, remove}
 use Rattle.std.specs.Map.{set_value}
 use Rattle.std.proofs.Common.{refl, ap, sym, subst, ◌∙◌, arith}
 use Rattle.std.proofs.lemmas.List.Edits.{length-insert, length-remove}
@@ -12,9 +13,11 @@ use Rattle.cam_objects.specs.declared.drill_item.DrillItem.TheVariants.{Hit, Rou
 use Rattle.cam_objects.specs.declared.drill_layer.DrillLayer.{DrillLayer}
 use Rattle.cam_edits.specs.declared.drill_step.DrillStep.{DrillStep}
 use Rattle.cam_edits.specs.declared.drill_step.DrillStep.TheVariants.{Insert, Delete, Move, Reorder, Tool, Diameter}
-use Rattle.cam_edits.specs.DrillSteps.{HasDrillRoom, IsDrillFit, after_drill_step, diameter_before, insertion_of, inverse_drill_step, is_drill_insertion, tool_before, with_tool}
+use Rattle.cam_edits.specs.DrillSteps.{HasDrillRoom, IsDrillFit, after_drill_step, diameter_before, insertion_of}
+use Rattle.cam_edits.specs.DrillSteps.{inverse_drill_step, is_drill_insertion, tool_before, with_tool}
 use Rattle.cam_edits.specs.Machinery.MovingLaws.{drill_item_back, movable_drill_item, negated_twice, shiftable_negated}
-use Rattle.cam_edits.specs.Machinery.PlaceLaws.{changed_back, element_at, found, get_changed, get_inserted, has_changed, insert_removed, length_reordered, remove_inserted, reordered_back, within}
+use Rattle.cam_edits.specs.Machinery.PlaceLaws.{changed_back, element_at, found, get_changed, get_inserted, has_changed, insert_removed}
+use Rattle.cam_edits.specs.Machinery.PlaceLaws.{length_reordered, remove_inserted, reordered_back, within}
 use Rattle.cam_edits.specs.Moving.{IsMovableDrillItem, negated}
 use Rattle.cam_edits.specs.Places.{changed}
 use Rattle.cam_objects.specs.Contents.{DrillContent}

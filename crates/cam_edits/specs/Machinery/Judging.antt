@@ -7,7 +7,8 @@ use Rattle.cam_objects.specs.declared.item_fault.ItemFault.TheVariants.{Malforme
 use Rattle.cam_objects.specs.declared.item_fault.ItemFault.TheVariants as items
 use Rattle.cam_objects.specs.declared.object.Object.TheVariants.{Flash, Draw, Arc, Region}
 use Rattle.cam_edits.specs.declared.fault.EditFault.{EditFault}
-use Rattle.cam_edits.specs.declared.fault.EditFault.TheVariants.{WrongKind, NoItem, NoAperture, NoTool, WrongAperture, SizeRefused, OutOfBoard, TooMuch}
+use Rattle.cam_edits.specs.declared.fault.EditFault.TheVariants.{WrongKind, NoItem, NoAperture, NoTool, WrongAperture}
+use Rattle.cam_edits.specs.declared.fault.EditFault.TheVariants.{SizeRefused, OutOfBoard, TooMuch}
 
 -- the refusal of an edit whose item has that fault
 abbrev pub refusal_of : ItemFault → EditFault

@@ -6,7 +6,8 @@ use Rattle.cam_units.specs.declared.point.Point.{Point}
 use Rattle.cam_shapes.specs.Shifting.{IsShiftable, IsShiftableSeg, shifted_point, shifted_seg}
 use Rattle.cam_shapes.specs.declared.segments.Seg.{Seg}
 use Rattle.cam_shapes.specs.declared.segments.Seg.TheVariants.{Line, Curve}
-use Rattle.cam_objects.specs.Shifting.{IsShiftableObject, IsShiftableItem, IsShiftableDrillItem, shifted_object, shifted_item, shifted_drill_item}
+use Rattle.cam_objects.specs.Shifting.{IsShiftableObject, IsShiftableItem, IsShiftableDrillItem}
+use Rattle.cam_objects.specs.Shifting.{shifted_object, shifted_item, shifted_drill_item}
 use Rattle.cam_objects.specs.declared.object.Object.{Object}
 use Rattle.cam_objects.specs.declared.object.Object.TheVariants.{Flash, Draw, Arc, Region}
 use Rattle.cam_objects.specs.declared.item.Item.{Item}

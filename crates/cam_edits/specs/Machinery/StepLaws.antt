@@ -13,9 +13,11 @@ use Rattle.cam_edits.specs.declared.step.Step.{Step}
 use Rattle.cam_edits.specs.declared.step.Step.TheVariants.{Insert, Delete, Move, Reorder, Aperture, Polarity}
 use Rattle.cam_edits.specs.Moving.{IsMovableItem, negated}
 use Rattle.cam_edits.specs.Machinery.MovingLaws.{item_back, movable_item, negated_twice, shiftable_negated}
-use Rattle.cam_edits.specs.Machinery.PlaceLaws.{changed_back, element_at, found, get_changed, get_inserted, has_changed, insert_removed, length_reordered, remove_inserted, reordered_back}
+use Rattle.cam_edits.specs.Machinery.PlaceLaws.{changed_back, element_at, found, get_changed, get_inserted, has_changed}
+use Rattle.cam_edits.specs.Machinery.PlaceLaws.{insert_removed, length_reordered, remove_inserted, reordered_back}
 use Rattle.cam_edits.specs.Places.{HasAt, changed}
-use Rattle.cam_edits.specs.Steps.{Fits, HasAperture, HasRoom, IsFit, IsOne, after_step, aperture_of, inverse_at, inverse_step, items_after, is_insertion, place_of, polarity_of, with_aperture, with_object, with_polarity}
+use Rattle.cam_edits.specs.Steps.{Fits, HasAperture, HasRoom, IsFit, IsOne, after_step, aperture_of, inverse_at, inverse_step}
+use Rattle.cam_edits.specs.Steps.{items_after, is_insertion, step_place, polarity_of, with_aperture, with_object, with_polarity}
 
 -- ---- apertures and polarities that are set and set back
 has_aperture : (n : ℕ) (object : Object) → HasAperture object → HasAperture (with_aperture n object)
@@ -62,7 +64,7 @@ one_at P items k h =
 module _ (items : List Item) where
   -- ---- the answer fits
   fits_back : (step : Step) → Fits step items
-      → Fits (inverse_at step (slice_get items (place_of step))) (items_after step items)
+      → Fits (inverse_at step (slice_get items (step_place step))) (items_after step items)
   fits_back (Insert k item) h = let n = length-insert items k item h in omega arith
   fits_back (Delete k) h =
       let e = (element_at items k h).1 in
@@ -91,7 +93,7 @@ module _ (items : List Item) where
 
   -- ---- it gives back the items
   items_back : (step : Step) → Fits step items
-      → items_after (inverse_at step (slice_get items (place_of step))) (items_after step items) ≡ items
+      → items_after (inverse_at step (slice_get items (step_place step))) (items_after step items) ≡ items
   items_back (Insert k item) h = remove_inserted items k item h
   items_back (Delete k) h =
       let e = element_at items k h in
@@ -116,7 +118,7 @@ module _ (items : List Item) where
 
   -- ---- and its own answer is the step
   abbrev again : List Item → Step → Step
-  again after step = inverse_at step (slice_get after (place_of step))
+  again after step = inverse_at step (slice_get after (step_place step))
 
   step_back : (step : Step) → Fits step items → again (items_after step items) (again items step) ≡ step
   step_back (Insert k item) h = ap (inverse_at (Delete k)) (get_inserted items k item h)

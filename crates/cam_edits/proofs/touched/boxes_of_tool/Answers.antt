@@ -2,7 +2,8 @@ use Rattle.std.proofs.Common.{[], ◌∷◌, ◌++◌, ap, refl, sym, ◌∙◌}
 use Rattle.cam_objects.specs.declared.item_fault.ItemFault.TheVariants.{OutOfBoard}
 use Rattle.cam_objects.specs.Contents.{drill_content_of}
 use Rattle.cam_edits.specs.declared.drill_step.DrillStep.TheVariants.{Diameter}
-use Rattle.cam_edits.proofs.TouchedDrillBoxes.{boxes_of_all, diameter_boxes, diameter_size, has_tool, item_of_other, item_of_tool, sound_read}
+use Rattle.cam_edits.proofs.TouchedDrillBoxes.{boxes_of_all, diameter_boxes, diameter_size, has_tool}
+use Rattle.cam_edits.proofs.TouchedDrillBoxes.{item_of_other, item_of_tool, sound_read}
 use Rattle.cam_edits.proofs.touched.boxes_of_tool.Goals as goal
 use Rattle.cam_edits.proofs.touched.boxes_of_tool.Goals.{then-tool-t+in_ok-push+in_ok-push-2, else-tool-t}
 

@@ -1,7 +1,8 @@
 use Rattle.std.proofs.Common.{◌≡◌, IfOk, List, ◌<◌, subst, sym}
 use Rattle.cam_units.specs.declared.bounds.Bounds.{Bounds}
 use Rattle.cam_objects.specs.Contents.{drill_content_of}
-use Rattle.cam_edits.proofs.TouchedDrillBoxes.{delete_box, delete_within, insert_box, move_boxes, move_within, reorder_boxes, reorder_within, short_move, sound_insertion, sound_there, tool_boxes, tool_within}
+use Rattle.cam_edits.proofs.TouchedDrillBoxes.{delete_box, delete_within, insert_box, move_boxes, move_within, reorder_boxes}
+use Rattle.cam_edits.proofs.TouchedDrillBoxes.{reorder_within, short_move, sound_insertion, sound_there, tool_boxes, tool_within}
 use Rattle.cam_edits.proofs.touched.drill_touched.Goals as goal
 
 pub bounds_of-requires-clause-item : goal.bounds_of-requires-clause-item

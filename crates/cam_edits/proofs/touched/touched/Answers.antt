@@ -1,7 +1,9 @@
 use Rattle.std.proofs.Common.{◌≡◌, IfOk, List, ◌<◌, subst, sym}
 use Rattle.cam_units.specs.declared.bounds.Bounds.{Bounds}
 use Rattle.cam_objects.specs.Contents.{content_of}
-use Rattle.cam_edits.proofs.TouchedBoxes.{aperture_boxes, aperture_within, delete_box, delete_within, insert_box, move_boxes, move_within, polarity_boxes, polarity_within, reorder_boxes, reorder_within, short_move, sound_aperture, sound_before, sound_insertion}
+use Rattle.cam_edits.proofs.TouchedBoxes.{aperture_boxes, aperture_within, delete_box, delete_within, insert_box, move_boxes, move_within}
+use Rattle.cam_edits.proofs.TouchedBoxes.{polarity_boxes, polarity_within, reorder_boxes, reorder_within, short_move, sound_aperture}
+use Rattle.cam_edits.proofs.TouchedBoxes.{sound_before, sound_insertion}
 use Rattle.cam_edits.proofs.touched.touched.Goals as goal
 
 pub bounds_of-requires : goal.bounds_of-requires

@@ -3,7 +3,7 @@ use Rattle.std.proofs.lemmas.Option.{slice_get_read}
 use Rattle.std.specs.List.{slice_get}
 use Rattle.cam_edits.proofs.BoardRoom.{one_more, room_on_each}
 use Rattle.cam_edits.proofs.BoardSheets.{same_length, sheets_kept}
-use Rattle.cam_edits.specs.BoardSteps.{HasPlaces}
+use Rattle.cam_edits.specs.Machinery.Room.{HasPlaces}
 use Rattle.cam_edits.proofs.board_step.BoardStepReversible.room.Goals as goal
 
 pub returns-in_err-reserve-clause-content : goal.returns-in_err-reserve-clause-content
