@@ -10,7 +10,7 @@ use Rattle.cam_units.specs.declared.point.Point.{Point}
 use Rattle.cam_units.specs.declared.point.Spot.{Spot}
 use Rattle.cam_units.proofs.Ring.{Atom, Difference, Product, Sum, equal}
 use Rattle.cam_shapes.specs.Edge.{crosses_ray, edge, is_above}
-use Rattle.cam_shapes.specs.Machinery.Sides.{differ}
+use Rattle.cam_shapes.specs.Sides.{differ}
 use Rattle.cam_shapes.specs.Plane.{cross, seen_from, way}
 use Rattle.cam_shapes.proofs.Boxes.{tells_left, tells_right}
 use Rattle.cam_shapes.proofs.Crossings.{not_under, product_least, under}

@@ -3,7 +3,7 @@ use Rattle.std.proofs.Common.{◌≡◌, ◌↔◌, ◌⊎◌, ℕ, pos, Bool, t
 use Rattle.std.specs.Int.{IsBitSet}
 use Rattle.std.specs.Int.RustNames.{bit_xor}
 use Rattle.cam_units.specs.declared.point.Spot.{Spot}
-use Rattle.cam_shapes.specs.Machinery.Sides.{differ}
+use Rattle.cam_shapes.specs.Sides.{differ}
 use Rattle.cam_objects.specs.Image.{relative}
 use Rattle.cam_rows.proofs.SetBits.{set_in_xor}
 use Rattle.cam_tiles.specs.declared.grid.Grid.{Grid}

@@ -15,7 +15,7 @@ use Rattle.cam_shapes.specs.declared.contour.Contour.{Contour}
 use Rattle.cam_shapes.specs.declared.segments.Seg.{Seg}
 use Rattle.cam_shapes.specs.declared.segments.Seg.TheVariants.{Line}
 use Rattle.cam_shapes.specs.Contour.{IsInContour, end_of}
-use Rattle.cam_shapes.specs.Machinery.Sides.{change_side, changes_side, differ}
+use Rattle.cam_shapes.specs.Sides.{change_side, changes_side, differ}
 use Rattle.cam_shapes.proofs.Crossings.{less_is}
 use Rattle.cam_shapes.proofs.Parity.{sides_are_parity}
 use Rattle.cam_rows.proofs.SetBits.{set_in_xor}

@@ -8,7 +8,7 @@ use Rattle.std.proofs.lemmas.Int.{by_lt_z, clamps, ints}
 use Rattle.cam_units.specs.declared.point.Point.{Point}
 use Rattle.cam_units.specs.declared.point.Spot.{Spot}
 use Rattle.cam_shapes.specs.Edge.{crosses_ray, edge, is_above, is_left, is_right}
-use Rattle.cam_shapes.specs.Machinery.Sides.{differ}
+use Rattle.cam_shapes.specs.Sides.{differ}
 use Rattle.cam_shapes.proofs.Boxes.{tells_left, tells_right}
 use Rattle.cam_shapes.proofs.Crossings.{not_under, under}
 use Rattle.cam_apertures.proofs.Painting.{through}

@@ -13,7 +13,8 @@ use Rattle.cam_shapes.specs.declared.contour.Contour.{Contour}
 use Rattle.cam_shapes.specs.declared.segments.Seg.{Seg}
 use Rattle.cam_shapes.specs.declared.segments.Seg.TheVariants.{Curve, Line}
 use Rattle.cam_shapes.specs.Contour.{end_of}
-use Rattle.cam_shapes.specs.Machinery.Sides.{IsSoundSeg, change_side, changes_side, differ}
+use Rattle.cam_shapes.specs.Sides.{change_side, changes_side, differ}
+use Rattle.cam_shapes.specs.Contour.{IsSoundSeg}
 use Rattle.cam_tiles.specs.declared.levels.Levels.{Levels}
 use Rattle.cam_tiles.specs.declared.masks.filing.FiledSegment.{FiledSegment}
 use Rattle.cam_tiles.specs.Machinery.Filing.{AreFiled, IsFiledAs, IsFiledSegment, Misses, changes_at, corner_of, filed_change}

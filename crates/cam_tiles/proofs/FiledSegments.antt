@@ -12,7 +12,7 @@ use Rattle.cam_shapes.specs.declared.cap.Cap.{Cap}
 use Rattle.cam_shapes.specs.declared.segments.Seg.TheVariants.{Line, Curve}
 use Rattle.cam_shapes.specs.Cap.{is_in_cap}
 use Rattle.cam_shapes.specs.Edge.{crosses_ray, edge, is_above}
-use Rattle.cam_shapes.specs.Machinery.Sides.{differ}
+use Rattle.cam_shapes.specs.Sides.{differ}
 use Rattle.cam_shapes.specs.Plane.{IsBetween, seen_from, square}
 use Rattle.cam_shapes.proofs.Caps.{cap_square}
 use Rattle.cam_apertures.proofs.Painting.{through}

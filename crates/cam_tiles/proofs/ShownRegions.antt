@@ -10,7 +10,7 @@ use Rattle.cam_units.specs.declared.point.Point.{Point}
 use Rattle.cam_shapes.specs.declared.contour.Contour.{Contour}
 use Rattle.cam_shapes.specs.declared.segments.Seg.{Seg}
 use Rattle.cam_shapes.specs.declared.segments.Seg.TheVariants.{Line, Curve}
-use Rattle.cam_shapes.specs.Machinery.Sides.{IsSoundSeg}
+use Rattle.cam_shapes.specs.Contour.{IsSoundSeg}
 use Rattle.cam_shapes.specs.Placing.{placed_contour, placed_point, placed_seg}
 use Rattle.cam_objects.specs.declared.item.Item.{Item}
 use Rattle.cam_objects.specs.declared.item.Item.TheVariants.{One}

@@ -14,7 +14,7 @@ use Rattle.cam_shapes.specs.Cap.{is_in_cap}
 use Rattle.cam_shapes.specs.Contour.{IsInContour, end_of}
 use Rattle.cam_shapes.specs.Outline.{lines_to, outline_of}
 use Rattle.cam_shapes.specs.Placing.{placed_contour, placed_point, placed_seg}
-use Rattle.cam_shapes.specs.Machinery.Sides.{change_side, changes_side, differ}
+use Rattle.cam_shapes.specs.Sides.{change_side, changes_side, differ}
 use Rattle.cam_shapes.proofs.Parity.{sides_are_parity}
 use Rattle.cam_objects.specs.Image.{relative}
 use Rattle.cam_tiles.specs.Machinery.Parities.{Changes, Parities}

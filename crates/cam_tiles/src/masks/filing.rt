@@ -6,7 +6,7 @@ ghost use Rattle.cam_units.specs.Board.{IsOnBoard};
 ghost use Rattle.cam_shapes.specs.declared.segments.Seg.TheVariants.{Line, Curve};
 ghost use Rattle.cam_shapes.specs.Cap.{IsSoundCap};
 ghost use Rattle.cam_shapes.specs.Contour.{IsInContour, end_of};
-ghost use Rattle.cam_shapes.specs.Machinery.Sides.{IsSoundSeg};
+ghost use Rattle.cam_shapes.specs.Contour.{IsSoundSeg};
 ghost use Rattle.cam_shapes.specs.Plane.{dot, square, way};
 ghost use Rattle.cam_tiles.specs.Machinery.Filing.{AreFiled, Files, IsOnBoardWhole, Misses, changes_at};
 ghost use Rattle.cam_tiles.specs.Machinery.Levels.{IsLevels, levels_of};

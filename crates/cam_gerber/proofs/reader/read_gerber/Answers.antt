@@ -1,7 +1,7 @@
 use Rattle.std.proofs.Common.{◌∷◌, sym, ap, subst, ◌∙◌, inl}
 use Rattle.std.specs.Prelude.{Ok, Err}
 use Rattle.cam_gerber.specs.declared.stop.Stop.TheVariants.{Fault}
-use Rattle.cam_words.specs.Machinery.Views.{answer_of}
+use Rattle.cam_words.specs.Reading.{answer_of}
 use Rattle.cam_commands.specs.Syntax.{command_of}
 use Rattle.cam_commands.specs.Borrowed.{found, shown}
 use Rattle.cam_gerber.specs.Reading.{IsReading, is_end_command}
