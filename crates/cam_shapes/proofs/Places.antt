@@ -9,6 +9,7 @@ use Rattle.cam_units.specs.declared.turn.Turn.TheVariants.{R0, R90, R180, R270, 
 use Rattle.cam_units.specs.Turns.{applied, matrix_of, IsTurnable}
 use Rattle.cam_units.proofs.TurnLaws.{same_point}
 use Rattle.cam_shapes.specs.Placing.{IsOffset, IsPlaceablePoint}
+use Rattle.cam_shapes.specs.Shifting.{IsShiftable}
 use Rattle.cam_shapes.proofs.Widths.{narrow}
 
 abbrev pub sum_of : Point → Point → Point
@@ -35,6 +36,19 @@ sum_fits a b p q =
     let first : narrow a ≡ a = omega (arith, ints) in
     let second : narrow b ≡ b = omega (arith, ints) in
     rw (first, second) (fits_signed_from_abs w64 (a +ℤ b) (short_sum a b p q))
+
+-- the same of points that may be moved
+pub long_sum_fits : (a b : ℤ) → unsigned_abs a < 2 ^ 62 → unsigned_abs b < 2 ^ 62
+    → FitsSigned w64 (narrow a +ℤ narrow b)
+long_sum_fits a b p q = omega (arith, ints)
+
+kept_long_sum : (a b : ℤ) → unsigned_abs a < 2 ^ 62 → unsigned_abs b < 2 ^ 62
+    → narrow (narrow a +ℤ narrow b) ≡ a +ℤ b
+kept_long_sum a b p q = omega (arith, ints)
+
+pub kept_shift : (p by : Point) → IsShiftable p → IsShiftable by → computed_sum p by ≡ sum_of p by
+kept_shift p by h k =
+    same_point (computed_sum p by) (sum_of p by) (kept_long_sum p.x by.x h.x k.x) (kept_long_sum p.y by.y h.y k.y)
 
 -- a turn keeps a point on the board
 on_board_turned : (t : Turn) (p : Point) → IsOnBoard p → IsOnBoard (applied (matrix_of t) p)

@@ -1,8 +1,8 @@
 -- Products of short numbers, as 128 bits compute them.
-use Rattle.std.proofs.Common.{◌*◌, ◌≡◌, ◌^◌, ◌<◌, ◌≤◌, ◌↔◌, IsTrue, Bool, ℤ, pos, negsuc, ◌≤ℤ◌, refl, ◌+ℤ◌, ◌-ℤ◌}
+use Rattle.std.proofs.Common.{◌*◌, ◌≡◌, ◌^◌, ◌<◌, ◌≤◌, ◌↔◌, IsTrue, Bool, ℤ, pos, negsuc, ◌≤ℤ◌, ◌<ℤ◌, refl, ◌+ℤ◌, ◌-ℤ◌}
 use Rattle.std.proofs.Common.{◌*ℤ◌, FitsSigned, to_z, of_z, w64, arith, ◌∙◌}
 use Rattle.std.specs.Int.{w128}
-use lib.Signed.{le_z}
+use lib.Signed.{le_z, lt_z}
 use Rattle.std.proofs.lemmas.Int.{ints, unsigned_abs-mul, fits_signed_from_abs}
 use Rattle.std.proofs.lemmas.Nat.{mul-le, mul-lt}
 use Rattle.std.specs.Int.RustNames.{unsigned_abs}
@@ -107,6 +107,10 @@ fits z h = fits_signed_from_abs w128 z (omega arith)
 pub kept : (z : ℤ) → unsigned_abs z < 2 ^ 67 → wide z ≡ z
 kept z h = kept_wide z (omega arith)
 
+-- the square of a size is as short
+pub short_square : (z : ℤ) → unsigned_abs z < 2 ^ 56 → unsigned_abs z < 2 ^ 67
+short_square z h = omega arith
+
 -- a difference of three products, as 128 bits compute it
 pub differences_bound : (a b c : ℤ) → unsigned_abs a < 2 ^ 67 → unsigned_abs b < 2 ^ 67 → unsigned_abs c < 2 ^ 67
     → unsigned_abs (a -ℤ b -ℤ c) < 2 ^ 70
@@ -121,18 +125,46 @@ kept_differences a b c p q r =
     let bound : unsigned_abs (a -ℤ b -ℤ c) < 2 ^ 70 = differences_bound a b c p q r in
     rw (one_difference a b p q, kept c r) (kept_wide (a -ℤ b -ℤ c) (omega arith))
 
+pub difference_fits : (a b : ℤ) → unsigned_abs a < 2 ^ 67 → unsigned_abs b < 2 ^ 67 → FitsSigned w128 (wide a -ℤ wide b)
+difference_fits a b p q = omega (arith, ints)
+
 pub differences_fit : (a b c : ℤ) → unsigned_abs a < 2 ^ 67 → unsigned_abs b < 2 ^ 67 → unsigned_abs c < 2 ^ 67
     → FitsSigned w128 (wide (wide a -ℤ wide b) -ℤ wide c)
 differences_fit a b c p q r =
     let bound : unsigned_abs (a -ℤ b -ℤ c) < 2 ^ 70 = differences_bound a b c p q r in
     rw (one_difference a b p q, kept c r) (fits_signed_from_abs w128 (a -ℤ b -ℤ c) (omega arith))
 
+-- four times a product, as 128 bits compute it
+fourfold_short : (z : ℤ) → unsigned_abs z < 2 ^ 123 → unsigned_abs (pos 4 *ℤ z) < 2 ^ 126
+fourfold_short z h = omega (arith, ints)
+
+pub fourfold_fits : (z : ℤ) → unsigned_abs z < 2 ^ 123 → FitsSigned w128 (pos 4 *ℤ wide z)
+fourfold_fits z h = omega (arith, ints)
+
+pub kept_fourfold : (z : ℤ) → unsigned_abs z < 2 ^ 123
+    → (wide (pos 4 *ℤ wide z) ≡ pos 4 *ℤ z) × (unsigned_abs (wide (pos 4 *ℤ wide z)) < 2 ^ 126)
+kept_fourfold z h =
+    let same : wide (pos 4 *ℤ wide z) ≡ pos 4 *ℤ z = omega (arith, ints) in
+    (same, rw same (fourfold_short z h))
+
+-- one product against another, as 128 bits compare them
+pub at_most_is : (a b : ℤ) → IsTrue (le_z a b) ↔ a ≤ℤ b
+at_most_is a b = ((λ h. grind (arith, ints)), (λ h. grind (arith, ints)))
+
+pub less_is : (a b : ℤ) → IsTrue (lt_z a b) ↔ a <ℤ b
+less_is a b = ((λ h. grind (arith, ints)), (λ h. grind (arith, ints)))
+
+pub passed_at_most : (a b u v : ℤ) → unsigned_abs a < 2 ^ 67 → unsigned_abs b < 2 ^ 67 → a ≡ u → b ≡ v
+    → IsTrue (le_z (wide a) (wide b)) ↔ u ≤ℤ v
+passed_at_most a b u v p q e f = rw (kept a p, kept b q, e, f) (at_most_is u v)
+
+pub passed_less : (a b u v : ℤ) → unsigned_abs a < 2 ^ 67 → unsigned_abs b < 2 ^ 67 → a ≡ u → b ≡ v
+    → IsTrue (lt_z (wide a) (wide b)) ↔ u <ℤ v
+passed_less a b u v p q e f = rw (kept a p, kept b q, e, f) (less_is u v)
+
 -- a sum of two products against a third, as 128 bits compare it
 kept_sum : (a b : ℤ) → unsigned_abs a < 2 ^ 67 → unsigned_abs b < 2 ^ 67 → wide (wide a +ℤ wide b) ≡ a +ℤ b
 kept_sum a b p q = omega (arith, ints)
-
-pub at_most_is : (a b : ℤ) → IsTrue (le_z a b) ↔ a ≤ℤ b
-at_most_is a b = ((λ h. grind (arith, ints)), (λ h. grind (arith, ints)))
 
 pub passed_sum : (a b c u v w : ℤ) → unsigned_abs a < 2 ^ 67 → unsigned_abs b < 2 ^ 67 → unsigned_abs c < 2 ^ 67
     → a ≡ u → b ≡ v → c ≡ w → IsTrue (le_z (wide (wide a +ℤ wide b)) (wide c)) ↔ (u +ℤ v) ≤ℤ w

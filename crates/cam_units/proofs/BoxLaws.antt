@@ -155,6 +155,16 @@ join_least a b = by_first (has_no_place a) refl
     }
     by_first false e = by_second (has_no_place b) refl e
 
+-- a join, by which of the boxes is empty
+pub first_empty : (a b : Bounds) → has_no_place a ≡ true → b ≡ join_of a b
+first_empty a b e = rw e refl
+
+pub second_empty : (a b : Bounds) → has_no_place a ≡ false → has_no_place b ≡ true → a ≡ join_of a b
+second_empty a b e f = rw (e, f) refl
+
+pub none_empty : (a b : Bounds) → has_no_place a ≡ false → has_no_place b ≡ false → span_of a b ≡ join_of a b
+none_empty a b e f = rw (e, f) refl
+
 some_place : (c : Bounds) → has_no_place c ≡ false → (s : Spot) × Holds c s
 some_place Empty e = absurd (let bad : true ≡ false = e in cc)
 some_place (Closed low high) e = (low, (corners low high e).0)

@@ -4,3 +4,4 @@ pub mod TurnLaws
 pub mod NearestLaws
 pub mod BoxLaws
 pub mod NewtonRoots
+pub mod Nanometres

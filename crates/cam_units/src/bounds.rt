@@ -13,6 +13,7 @@ ghost use Rattle.cam_units.specs.Boxes.{
   has_no_place,
   join_of,
   least_of,
+  span_of,
 };
 
 use crate::point::Spot;
@@ -64,6 +65,25 @@ fn between(low: Spot, high: Spot) -> Bounds
     Bounds::Closed { low, high }
 }
 
+/// The box from the least to the greatest corner of two boxes that hold places.
+fn spanned(first: Bounds, second: Bounds) -> Bounds
+    ensures { result ≡ span_of first second }
+{
+    match (first, second) {
+        (
+            Bounds::Closed { low, high },
+            Bounds::Closed {
+                low: left,
+                high: right,
+            },
+        ) => Bounds::Closed {
+            low: least(low, left),
+            high: greatest(high, right),
+        },
+        (Bounds::Empty, only) | (only, Bounds::Empty) => only,
+    }
+}
+
 impl Bounds {
     /// Whether no place lies in the box.
     pub fn is_empty(self) -> bool
@@ -94,21 +114,7 @@ impl Bounds {
         if other.is_empty() {
             return self;
         }
-        match (self, other) {
-            (
-                Bounds::Closed { low, high },
-                Bounds::Closed {
-                    low: left,
-                    high: right,
-                },
-            ) => {
-                Bounds::Closed {
-                    low: least(low, left),
-                    high: greatest(high, right),
-                }
-            }
-            (Bounds::Empty, only) | (only, Bounds::Empty) => only,
-        }
+        spanned(self, other)
     }
 
     /// The box of the places that lie in both; `Empty` where there is none.

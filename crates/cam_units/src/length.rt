@@ -95,11 +95,14 @@ pub fn coord_nm(n: i64, decimals: u32, unit: Unit) -> Option<Nm>
     }
 }
 
-/// The length of `v` parts of 10^-9 of a unit, to the nearest nanometre, ties away from zero.
-pub fn fix9_nm(v: i64, unit: Unit) -> Nm
-    ensures { result.0 ≡ fix9_of v unit }
+/// So many parts of 10^-9 of a unit in nanometres, not yet rounded.
+fn billionths(v: i64, unit: Unit) -> Quotient
+    ensures value { nearest_of result.above result.below ≡ fix9_of v unit }
+    ensures some { 0 < result.below }
+    ensures short { unsigned_abs result.above ≤ 2 ^ 126 }
+    ensures length { unsigned_abs (nearest_of result.above result.below) < 2 ^ 63 }
 {
-    let length = match unit {
+    match unit {
         Unit::Mm => Quotient {
             above: i128::from(v),
             below: 1_000,
@@ -108,6 +111,12 @@ pub fn fix9_nm(v: i64, unit: Unit) -> Nm
             above: i128::from(v) * 254,
             below: 10_000,
         },
-    };
-    Nm(length.nearest() as i64)
+    }
+}
+
+/// The length of `v` parts of 10^-9 of a unit, to the nearest nanometre, ties away from zero.
+pub fn fix9_nm(v: i64, unit: Unit) -> Nm
+    ensures { result.0 ≡ fix9_of v unit }
+{
+    Nm(billionths(v, unit).nearest() as i64)
 }

@@ -122,7 +122,6 @@ fn turn(fields: &[Fixed]) -> Result<Turn, MacroFault>
 }
 
 /// A disc: exposure, diameter, x, y [, rotation].
-#[tactic(auto, using(crate::proofs::FieldLemmas::disc_short))]
 pub(crate) fn disc(unit: Unit, fields: &[Fixed]) -> Result<MacroPrimitive, MacroFault>
     ensures { result ≡ disc_of unit (numbers fields.now) }
 {
@@ -140,7 +139,6 @@ pub(crate) fn disc(unit: Unit, fields: &[Fixed]) -> Result<MacroPrimitive, Macro
 }
 
 /// A bar: exposure, width, x1, y1, x2, y2 [, rotation].
-#[tactic(auto, using(crate::proofs::FieldLemmas::bar_short))]
 pub(crate) fn bar(unit: Unit, fields: &[Fixed]) -> Result<MacroPrimitive, MacroFault>
     ensures { result ≡ bar_of unit (numbers fields.now) }
 {
@@ -159,7 +157,6 @@ pub(crate) fn bar(unit: Unit, fields: &[Fixed]) -> Result<MacroPrimitive, MacroF
 }
 
 /// A rectangle: exposure, width, height, x, y [, rotation].
-#[tactic(auto, using(crate::proofs::FieldLemmas::rect_short))]
 pub(crate) fn rect(unit: Unit, fields: &[Fixed]) -> Result<MacroPrimitive, MacroFault>
     ensures { result ≡ rect_of unit (numbers fields.now) }
 {

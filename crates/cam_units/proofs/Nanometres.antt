@@ -1,0 +1,86 @@
+-- Lengths in parts of a unit, to the nearest nanometre: they stay short.
+use Rattle.std.proofs.Common.{◌≡◌, ◌*◌, ◌^◌, ◌<◌, ◌≤◌, ℤ, pos, negsuc, ◌*ℤ◌, FitsSigned, to_z, of_z, w64, ℕ, refl, arith}
+use Rattle.std.specs.Int.{w128}
+use Rattle.std.proofs.lemmas.Int.{ints, fits_signed_from_abs, unsigned_abs-mul}
+use Rattle.std.proofs.lemmas.Nat.{mul-le}
+use Rattle.std.specs.Int.RustNames.{unsigned_abs}
+use Rattle.cam_units.specs.declared.length.Unit.{Unit as FileUnit}
+use Rattle.cam_units.specs.declared.length.Unit.TheVariants.{Mm, Inch}
+use Rattle.cam_units.specs.Nearest.{fix9_of, nearest_of}
+
+abbrev pub wide : ℤ → ℤ
+wide z = to_z w128 (of_z w128 z)
+
+abbrev pub narrow : ℤ → ℤ
+narrow z = to_z w64 (of_z w64 z)
+
+short_quotient : (v : ℤ) → unsigned_abs v ≤ 2 ^ 63 → unsigned_abs (nearest_of v 1000) < 2 ^ 63
+short_quotient (pos n) h = omega arith
+short_quotient (negsuc n) h = omega (arith, ints)
+
+longer_quotient : (v : ℤ) → unsigned_abs v ≤ 2 ^ 71 → unsigned_abs (nearest_of v 10000) < 2 ^ 63
+longer_quotient (pos n) h = omega arith
+longer_quotient (negsuc n) h = omega (arith, ints)
+
+-- what is kept of a quotient's parts
+pub record IsOf (v : ℤ) (unit : FileUnit) (above : ℤ) (below : ℕ) : Type 0 where
+  pub value : nearest_of above below ≡ fix9_of v unit
+  pub short : unsigned_abs above ≤ 2 ^ 126
+  pub length : unsigned_abs (nearest_of above below) < 2 ^ 63
+
+at_most : (v : ℤ) → FitsSigned w64 v → unsigned_abs v ≤ 2 ^ 63
+at_most v h = omega (arith, ints, h)
+
+pub of_millimetres : (v r : ℤ) (unit : FileUnit) → FitsSigned w64 v → r ≡ narrow v → unit ≡ Mm → IsOf v unit (wide r) 1000
+of_millimetres v r unit fits e mm =
+    let h = at_most v fits in
+    let kept : wide r ≡ v = omega (arith, ints) in
+    rw (kept, mm) record { value = refl; short = omega arith; length = short_quotient v h }
+
+pub of_inches : (v r : ℤ) (unit : FileUnit) → FitsSigned w64 v → r ≡ narrow v → unit ≡ Inch
+    → IsOf v unit (wide (wide r *ℤ pos 254)) 10000
+of_inches v r unit fits e inch =
+    let h = at_most v fits in
+    let kept : wide (wide r *ℤ pos 254) ≡ v *ℤ pos 254 = omega (arith, ints) in
+    let short : unsigned_abs (v *ℤ pos 254) ≤ 2 ^ 71 = omega (arith, ints) in
+    rw (kept, inch) record { value = refl; short = omega arith; length = longer_quotient (v *ℤ pos 254) short }
+
+-- a short length as 64 bits have it
+pub kept_length : (r n : ℤ) → r ≡ n → unsigned_abs n < 2 ^ 63 → narrow (wide r) ≡ n
+kept_length r n e h = omega (arith, ints)
+
+pub fitting_length : (r n : ℤ) → r ≡ n → unsigned_abs n < 2 ^ 63 → FitsSigned w64 (wide r)
+fitting_length r n e h = omega (arith, ints)
+
+-- a number of 64 bits, passed on
+pub kept_number : (v : ℤ) → FitsSigned w64 v → narrow v ≡ v
+kept_number v h = omega (arith, ints, h)
+
+kept_wide : (z : ℤ) → unsigned_abs z ≤ 2 ^ 88 → wide z ≡ z
+kept_wide z h = omega (arith, ints)
+
+-- a coordinate times the nanometres of a unit
+product_short : (n : ℤ) (k : ℕ) → unsigned_abs n ≤ 2 ^ 63 → k < 2 ^ 25 → unsigned_abs (n *ℤ pos k) ≤ 2 ^ 88
+product_short n k p q =
+    let long : k ≤ 2 ^ 25 = omega arith in
+    omega (arith, unsigned_abs-mul n (pos k), mul-le (unsigned_abs n) k (2 ^ 63) (2 ^ 25) p long)
+
+factors : (n r t : ℤ) (k : ℕ) → FitsSigned w64 n → r ≡ narrow n → t ≡ pos k → k < 2 ^ 25
+    → wide r *ℤ wide t ≡ n *ℤ pos k
+factors n r t k h e f q =
+    let first : wide r ≡ n = omega (arith, ints) in
+    let second : wide t ≡ pos k = omega (arith, ints) in
+    rw (first, second) refl
+
+pub product_fits : (n r t : ℤ) (k : ℕ) → FitsSigned w64 n → r ≡ narrow n → t ≡ pos k → k < 2 ^ 25
+    → FitsSigned w128 (wide r *ℤ wide t)
+product_fits n r t k h e f q =
+    let short = product_short n k (at_most n h) q in
+    rw (factors n r t k h e f q) (fits_signed_from_abs w128 (n *ℤ pos k) (omega (arith, short)))
+
+pub kept_product : (n r t : ℤ) (k m : ℕ) → FitsSigned w64 n → r ≡ narrow n → t ≡ pos k → k < 2 ^ 25 → k ≡ m
+    → (wide (wide r *ℤ wide t) ≡ n *ℤ pos m) × (unsigned_abs (wide (wide r *ℤ wide t)) ≤ 2 ^ 126)
+kept_product n r t k m h e f q same =
+    let short : unsigned_abs (n *ℤ pos k) ≤ 2 ^ 88 = product_short n k (at_most n h) q in
+    let kept : wide (n *ℤ pos k) ≡ n *ℤ pos k = kept_wide (n *ℤ pos k) short in
+    rw (factors n r t k h e f q, kept, ← same) (refl, omega (arith, short))
