@@ -2,6 +2,8 @@ pub mod BoardBoxes
 pub mod BoxJoins
 pub mod BoxLimits
 pub mod Canvases
+pub mod Computed
+pub mod Copied
 pub mod CopyBoxes
 pub mod Counting
 pub mod CoveredBoxes

@@ -10,7 +10,7 @@ use Rattle.cam_units.specs.declared.point.Point.{Point}
 use Rattle.cam_units.specs.declared.turn.Turn.{Turn}
 use Rattle.cam_units.specs.declared.turn.Turn.TheVariants.{R0, R90, R180, R270, M0, M90, M180, M270}
 use Rattle.cam_units.specs.Boxes.{has_no_place, join_of, span_of}
-use Rattle.cam_units.specs.Turns.{applied, matrix_of}
+use Rattle.cam_units.specs.Turns.{applied, matrix_of, minus}
 use Rattle.cam_apertures.specs.Turned.{IsTurnableBox, turned_box}
 use Rattle.cam_apertures.proofs.Corners.{same_box}
 use Rattle.cam_apertures.proofs.TurnedBoxes.{empty_turned, join_turned}
@@ -32,17 +32,38 @@ moved_twice o q Empty = refl
 moved_twice o q (Closed low high) =
     same_box _ _ _ _ _ _ _ _ (omega (arith, ints)) (omega (arith, ints)) (omega (arith, ints)) (omega (arith, ints))
 
+-- an edge that is moved and turned
+right_on : (z a b : ℤ) → z +ℤ pos 2 *ℤ a ≡ z +ℤ pos 2 *ℤ (pos 1 *ℤ a +ℤ pos 0 *ℤ b)
+right_on z a b = omega (arith, ints)
+
+up_on : (z a b : ℤ) → z +ℤ pos 2 *ℤ b ≡ z +ℤ pos 2 *ℤ (pos 0 *ℤ a +ℤ pos 1 *ℤ b)
+up_on z a b = omega (arith, ints)
+
+right_back : (z a b : ℤ) → neg_ℤ (z +ℤ pos 2 *ℤ a) ≡ neg_ℤ z +ℤ pos 2 *ℤ (minus *ℤ a +ℤ pos 0 *ℤ b)
+right_back z a b = omega (arith, ints)
+
+up_back : (z a b : ℤ) → neg_ℤ (z +ℤ pos 2 *ℤ b) ≡ neg_ℤ z +ℤ pos 2 *ℤ (pos 0 *ℤ a +ℤ minus *ℤ b)
+up_back z a b = omega (arith, ints)
+
 -- a box that is moved and then turned is one that is turned and then moved, by the turned way
 turned_moved : (t : Turn) (o : Point) (b : Bounds) → turned_box t (moved o b) ≡ moved (applied (matrix_of t) o) (turned_box t b)
 turned_moved t o Empty = refl
-turned_moved R0 o (Closed low high) = same_box _ _ _ _ _ _ _ _ (omega (arith, ints)) (omega (arith, ints)) (omega (arith, ints)) (omega (arith, ints))
-turned_moved R90 o (Closed low high) = same_box _ _ _ _ _ _ _ _ (omega (arith, ints)) (omega (arith, ints)) (omega (arith, ints)) (omega (arith, ints))
-turned_moved R180 o (Closed low high) = same_box _ _ _ _ _ _ _ _ (omega (arith, ints)) (omega (arith, ints)) (omega (arith, ints)) (omega (arith, ints))
-turned_moved R270 o (Closed low high) = same_box _ _ _ _ _ _ _ _ (omega (arith, ints)) (omega (arith, ints)) (omega (arith, ints)) (omega (arith, ints))
-turned_moved M0 o (Closed low high) = same_box _ _ _ _ _ _ _ _ (omega (arith, ints)) (omega (arith, ints)) (omega (arith, ints)) (omega (arith, ints))
-turned_moved M90 o (Closed low high) = same_box _ _ _ _ _ _ _ _ (omega (arith, ints)) (omega (arith, ints)) (omega (arith, ints)) (omega (arith, ints))
-turned_moved M180 o (Closed low high) = same_box _ _ _ _ _ _ _ _ (omega (arith, ints)) (omega (arith, ints)) (omega (arith, ints)) (omega (arith, ints))
-turned_moved M270 o (Closed low high) = same_box _ _ _ _ _ _ _ _ (omega (arith, ints)) (omega (arith, ints)) (omega (arith, ints)) (omega (arith, ints))
+turned_moved R0 o (Closed low high) =
+    same_box _ _ _ _ _ _ _ _ (right_on low.x o.x o.y) (up_on low.y o.x o.y) (right_on high.x o.x o.y) (up_on high.y o.x o.y)
+turned_moved R90 o (Closed low high) =
+    same_box _ _ _ _ _ _ _ _ (up_back high.y o.x o.y) (right_on low.x o.x o.y) (up_back low.y o.x o.y) (right_on high.x o.x o.y)
+turned_moved R180 o (Closed low high) =
+    same_box _ _ _ _ _ _ _ _ (right_back high.x o.x o.y) (up_back high.y o.x o.y) (right_back low.x o.x o.y) (up_back low.y o.x o.y)
+turned_moved R270 o (Closed low high) =
+    same_box _ _ _ _ _ _ _ _ (up_on low.y o.x o.y) (right_back high.x o.x o.y) (up_on high.y o.x o.y) (right_back low.x o.x o.y)
+turned_moved M0 o (Closed low high) =
+    same_box _ _ _ _ _ _ _ _ (right_back high.x o.x o.y) (up_on low.y o.x o.y) (right_back low.x o.x o.y) (up_on high.y o.x o.y)
+turned_moved M90 o (Closed low high) =
+    same_box _ _ _ _ _ _ _ _ (up_back high.y o.x o.y) (right_back high.x o.x o.y) (up_back low.y o.x o.y) (right_back low.x o.x o.y)
+turned_moved M180 o (Closed low high) =
+    same_box _ _ _ _ _ _ _ _ (right_on low.x o.x o.y) (up_back high.y o.x o.y) (right_on high.x o.x o.y) (up_back low.y o.x o.y)
+turned_moved M270 o (Closed low high) =
+    same_box _ _ _ _ _ _ _ _ (up_on low.y o.x o.y) (right_on low.x o.x o.y) (up_on high.y o.x o.y) (right_on high.x o.x o.y)
 
 lt_moved : (a b c : ℤ) → int_lt (a +ℤ c) (b +ℤ c) ≡ int_lt a b
 lt_moved a b c = grind (arith, ints)

@@ -1,5 +1,5 @@
 -- the box of a shape that is placed is the box of the shape, placed
-use Rattle.std.proofs.Common.{◌≡◌, ◌+◌, ◌*◌, Bool, ℤ, pos, negsuc, ◌+ℤ◌, ◌*ℤ◌, List, [], ◌∷◌, map, refl, ap, sym, ◌∙◌, arith}
+use Rattle.std.proofs.Common.{◌≡◌, ◌+◌, ◌*◌, Bool, ℤ, pos, negsuc, neg_ℤ, ◌+ℤ◌, ◌-ℤ◌, ◌*ℤ◌, List, [], ◌∷◌, map, refl, ap, sym, ◌∙◌, arith}
 use Rattle.std.specs.Prelude.{fold}
 use Rattle.std.specs.List.{flat_map}
 use Rattle.std.specs.Int.RustNames.{unsigned_abs}
@@ -11,7 +11,7 @@ use Rattle.cam_units.specs.declared.point.Point.{Point}
 use Rattle.cam_units.specs.declared.turn.Turn.{Turn}
 use Rattle.cam_units.specs.declared.turn.Turn.TheVariants.{R0, R90, R180, R270, M0, M90, M180, M270}
 use Rattle.cam_units.specs.Boxes.{join_of}
-use Rattle.cam_units.specs.Turns.{applied, matrix_of}
+use Rattle.cam_units.specs.Turns.{applied, matrix_of, minus}
 use Rattle.cam_shapes.specs.declared.contour.Contour.{Contour}
 use Rattle.cam_shapes.specs.declared.segments.Seg.{Seg}
 use Rattle.cam_shapes.specs.declared.segments.Seg.TheVariants.{Line, Curve}
@@ -52,8 +52,11 @@ pub record IsPlacedSo (m : Shape → Bounds) : Type 0 where
 
 -- ---- points
 
+doubled_sum : (a b : ℤ) → pos 2 *ℤ (a +ℤ b) ≡ pos 2 *ℤ a +ℤ pos 2 *ℤ b
+doubled_sum a b = omega (arith, ints)
+
 pub point_moved : (o q : Point) → box_of_point (record { x = q.x +ℤ o.x; y = q.y +ℤ o.y }) ≡ moved o (box_of_point q)
-point_moved o q = same_box _ _ _ _ _ _ _ _ (omega (arith, ints)) (omega (arith, ints)) (omega (arith, ints)) (omega (arith, ints))
+point_moved o q = same_box _ _ _ _ _ _ _ _ (doubled_sum q.x o.x) (doubled_sum q.y o.y) (doubled_sum q.x o.x) (doubled_sum q.y o.y)
 
 pub point_placed : (p : Place) (q : Point) → box_of_point (placed p q) ≡ placed_bounds p (box_of_point q)
 point_placed p q = point_moved p.offset (applied (matrix_of p.turn) q) ∙ ap (moved p.offset) (point_turned p.turn q)
@@ -97,8 +100,14 @@ points_so = record {
 
 -- ---- what is covered
 
+less_moved : (a b h : ℤ) → pos 2 *ℤ (a +ℤ b) -ℤ h ≡ pos 2 *ℤ a -ℤ h +ℤ pos 2 *ℤ b
+less_moved a b h = omega (arith, ints)
+
+more_moved : (a b h : ℤ) → pos 2 *ℤ (a +ℤ b) +ℤ h ≡ pos 2 *ℤ a +ℤ h +ℤ pos 2 *ℤ b
+more_moved a b h = omega (arith, ints)
+
 pub about_moved : (o c : Point) (h : ℤ) → box_about (place_of (record { x = c.x +ℤ o.x; y = c.y +ℤ o.y })) h h ≡ moved o (box_about (place_of c) h h)
-about_moved o c h = same_box _ _ _ _ _ _ _ _ (omega (arith, ints)) (omega (arith, ints)) (omega (arith, ints)) (omega (arith, ints))
+about_moved o c h = same_box _ _ _ _ _ _ _ _ (less_moved c.x o.x h) (less_moved c.y o.y h) (more_moved c.x o.x h) (more_moved c.y o.y h)
 
 about_placed : (p : Place) (c : Point) (h : ℤ) → box_about (place_of (placed p c)) h h ≡ placed_bounds p (box_about (place_of c) h h)
 about_placed p c h =
@@ -108,16 +117,25 @@ pub widened_moved : (w : ℤ) (o : Point) (b : Bounds) → widened w (moved o b)
 widened_moved w o Empty = refl
 widened_moved w o (Closed low high) = same_box _ _ _ _ _ _ _ _ (omega (arith, ints)) (omega (arith, ints)) (omega (arith, ints)) (omega (arith, ints))
 
+-- an edge that is turned
+less_turned : (z w : ℤ) → neg_ℤ z -ℤ w ≡ neg_ℤ (z +ℤ w)
+less_turned z w = omega (arith, ints)
+
+more_turned : (z w : ℤ) → neg_ℤ z +ℤ w ≡ neg_ℤ (z -ℤ w)
+more_turned z w = omega (arith, ints)
+
 widened_turned : (w : ℤ) (t : Turn) (b : Bounds) → widened w (turned_box t b) ≡ turned_box t (widened w b)
 widened_turned w t Empty = refl
-widened_turned w R0 (Closed low high) = same_box _ _ _ _ _ _ _ _ (omega (arith, ints)) (omega (arith, ints)) (omega (arith, ints)) (omega (arith, ints))
-widened_turned w R90 (Closed low high) = same_box _ _ _ _ _ _ _ _ (omega (arith, ints)) (omega (arith, ints)) (omega (arith, ints)) (omega (arith, ints))
-widened_turned w R180 (Closed low high) = same_box _ _ _ _ _ _ _ _ (omega (arith, ints)) (omega (arith, ints)) (omega (arith, ints)) (omega (arith, ints))
-widened_turned w R270 (Closed low high) = same_box _ _ _ _ _ _ _ _ (omega (arith, ints)) (omega (arith, ints)) (omega (arith, ints)) (omega (arith, ints))
-widened_turned w M0 (Closed low high) = same_box _ _ _ _ _ _ _ _ (omega (arith, ints)) (omega (arith, ints)) (omega (arith, ints)) (omega (arith, ints))
-widened_turned w M90 (Closed low high) = same_box _ _ _ _ _ _ _ _ (omega (arith, ints)) (omega (arith, ints)) (omega (arith, ints)) (omega (arith, ints))
-widened_turned w M180 (Closed low high) = same_box _ _ _ _ _ _ _ _ (omega (arith, ints)) (omega (arith, ints)) (omega (arith, ints)) (omega (arith, ints))
-widened_turned w M270 (Closed low high) = same_box _ _ _ _ _ _ _ _ (omega (arith, ints)) (omega (arith, ints)) (omega (arith, ints)) (omega (arith, ints))
+widened_turned w R0 (Closed low high) = refl
+widened_turned w R90 (Closed low high) = same_box _ _ _ _ _ _ _ _ (less_turned high.y w) refl (more_turned low.y w) refl
+widened_turned w R180 (Closed low high) =
+    same_box _ _ _ _ _ _ _ _ (less_turned high.x w) (less_turned high.y w) (more_turned low.x w) (more_turned low.y w)
+widened_turned w R270 (Closed low high) = same_box _ _ _ _ _ _ _ _ refl (less_turned high.x w) refl (more_turned low.x w)
+widened_turned w M0 (Closed low high) = same_box _ _ _ _ _ _ _ _ (less_turned high.x w) refl (more_turned low.x w) refl
+widened_turned w M90 (Closed low high) =
+    same_box _ _ _ _ _ _ _ _ (less_turned high.y w) (less_turned high.x w) (more_turned low.y w) (more_turned low.x w)
+widened_turned w M180 (Closed low high) = same_box _ _ _ _ _ _ _ _ refl (less_turned high.y w) refl (more_turned low.y w)
+widened_turned w M270 (Closed low high) = refl
 
 pub widened_placed : (w : ℤ) (p : Place) (b : Bounds) → widened w (placed_bounds p b) ≡ placed_bounds p (widened w b)
 widened_placed w p b = widened_moved w p.offset (turned_box p.turn b) ∙ ap (moved p.offset) (widened_turned w p.turn b)
@@ -138,15 +156,31 @@ exchanged a b = omega (arith, ints)
 crosswise : (x y x' y' : ℤ) → unsigned_abs x' ≡ unsigned_abs y → unsigned_abs y' ≡ unsigned_abs x → x' *ℤ x' +ℤ y' *ℤ y' ≡ x *ℤ x +ℤ y *ℤ y
 crosswise x y x' y' e f = straight y x x' y' e f ∙ exchanged (y *ℤ y) (x *ℤ x)
 
+-- how far two coordinates lie from one another once their points are turned and moved
+abbrev turned_way : ℤ → ℤ → ℤ → Point → Point → ℤ
+turned_way a b o p q = pos 2 *ℤ ((a *ℤ q.x +ℤ b *ℤ q.y) +ℤ o) -ℤ pos 2 *ℤ ((a *ℤ p.x +ℤ b *ℤ p.y) +ℤ o)
+
+along_x : (o : ℤ) (p q : Point) → unsigned_abs (turned_way (pos 1) (pos 0) o p q) ≡ unsigned_abs (way p q).x
+along_x o p q = omega (arith, ints)
+
+along_y : (o : ℤ) (p q : Point) → unsigned_abs (turned_way (pos 0) (pos 1) o p q) ≡ unsigned_abs (way p q).y
+along_y o p q = omega (arith, ints)
+
+against_x : (o : ℤ) (p q : Point) → unsigned_abs (turned_way minus (pos 0) o p q) ≡ unsigned_abs (way p q).x
+against_x o p q = omega (arith, ints)
+
+against_y : (o : ℤ) (p q : Point) → unsigned_abs (turned_way (pos 0) minus o p q) ≡ unsigned_abs (way p q).y
+against_y o p q = omega (arith, ints)
+
 same_way : (t : Turn) (o p q : Point) → dot (way (placed_point t o p) (placed_point t o q)) (way (placed_point t o p) (placed_point t o q)) ≡ dot (way p q) (way p q)
-same_way R0 o p q = straight (way p q).x (way p q).y _ _ (omega (arith, ints)) (omega (arith, ints))
-same_way R90 o p q = crosswise (way p q).x (way p q).y _ _ (omega (arith, ints)) (omega (arith, ints))
-same_way R180 o p q = straight (way p q).x (way p q).y _ _ (omega (arith, ints)) (omega (arith, ints))
-same_way R270 o p q = crosswise (way p q).x (way p q).y _ _ (omega (arith, ints)) (omega (arith, ints))
-same_way M0 o p q = straight (way p q).x (way p q).y _ _ (omega (arith, ints)) (omega (arith, ints))
-same_way M90 o p q = crosswise (way p q).x (way p q).y _ _ (omega (arith, ints)) (omega (arith, ints))
-same_way M180 o p q = straight (way p q).x (way p q).y _ _ (omega (arith, ints)) (omega (arith, ints))
-same_way M270 o p q = crosswise (way p q).x (way p q).y _ _ (omega (arith, ints)) (omega (arith, ints))
+same_way R0 o p q = straight (way p q).x (way p q).y _ _ (along_x o.x p q) (along_y o.y p q)
+same_way R90 o p q = crosswise (way p q).x (way p q).y _ _ (against_y o.x p q) (along_x o.y p q)
+same_way R180 o p q = straight (way p q).x (way p q).y _ _ (against_x o.x p q) (against_y o.y p q)
+same_way R270 o p q = crosswise (way p q).x (way p q).y _ _ (along_y o.x p q) (against_x o.y p q)
+same_way M0 o p q = straight (way p q).x (way p q).y _ _ (against_x o.x p q) (along_y o.y p q)
+same_way M90 o p q = crosswise (way p q).x (way p q).y _ _ (against_y o.x p q) (against_x o.y p q)
+same_way M180 o p q = straight (way p q).x (way p q).y _ _ (along_x o.x p q) (against_y o.y p q)
+same_way M270 o p q = crosswise (way p q).x (way p q).y _ _ (along_y o.x p q) (along_x o.y p q)
 
 pub circle_placed : (p : Place) (centre from : Point) → circle_square (placed p centre) (placed p from) ≡ placed_bounds p (circle_square centre from)
 circle_placed p centre from =

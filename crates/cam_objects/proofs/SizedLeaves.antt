@@ -36,11 +36,11 @@ use Rattle.cam_objects.specs.declared.entry.Entry.TheVariants.{Aperture, Block}
 use Rattle.cam_objects.specs.declared.placing.place.Place.{Place}
 use Rattle.cam_objects.specs.Bounds.{bounds_of, box_of_all, box_of_cap, box_of_contour, box_of_shape, circle_square, root}
 use Rattle.cam_objects.specs.Leaves.{Filled, Leaf, Meaning, Shape, Stamp, Stroke, Sweep, Drilled, arc_leaves, block_leaves, draw_leaves, entry_meaning, flashed, leaf, meaning, meaning_in, no_meaning, object_leaves, placed, polarity_in}
-use Rattle.cam_objects.specs.Machinery.Boxes.{AreSized, IsSizedShape}
+use Rattle.cam_objects.specs.Machinery.Boxes.{AreSized, IsNearBox, IsSizedShape}
 use Rattle.cam_objects.specs.Machinery.Painting.{meaning_before}
 use Rattle.cam_objects.specs.Soundness.{AreOnBoard, IsSoundDictionary, IsSoundEntry, MayAddEntry, points_of_contour, points_of_seg, points_of_shape}
 use Rattle.cam_objects.proofs.BoxJoins.{joined}
-use Rattle.cam_objects.proofs.BoxLimits.{IsBoxWithin, has_place, within_about, within_all, within_join, within_less, within_moved, within_point, within_turned, within_widened}
+use Rattle.cam_objects.proofs.BoxLimits.{IsBoxWithin, has_place, within_about, within_all, within_join, within_less, within_moved, within_near, within_point, within_turned, within_widened}
 use Rattle.cam_objects.proofs.CopyBoxes.{all_flat_map}
 use Rattle.cam_objects.proofs.Dictionaries.{front_more, whole}
 use Rattle.cam_objects.proofs.Painting.{solid_size}
@@ -156,6 +156,9 @@ inner = 7800000000
 
 pub board_point : (p : Point) → IsOnBoard p → IsBoxWithin inner (box_of_point p)
 board_point p h = within_less (2 * 1000000000) inner (box_of_point p) (omega arith) (within_point 1000000000 p (omega (arith, h.x)) (omega (arith, h.y)))
+
+pub near_point : (p : Point) → IsOnBoard p → IsNearBox (box_of_point p)
+near_point p h = within_near inner (box_of_point p) (omega arith) (board_point p h)
 
 square_is : (z : ℤ) → unsigned_abs (z *ℤ z) ≡ unsigned_abs z * unsigned_abs z
 square_is z = unsigned_abs-mul z z

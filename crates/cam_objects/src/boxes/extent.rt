@@ -17,7 +17,7 @@ use cam_units::{Bounds, Nm, Point};
 
 /// What the boxes of objects need of a number: the box of what one flash of it paints at (0, 0), neither mirrored nor
 /// turned, in half nm, and how wide its strokes are, in nm.
-#[derive(Clone, Copy, Debug)]
+#[derive(Clone, Copy)]
 pub(crate) struct Extent {
     pub number: u32,
     pub bounds: Bounds,

@@ -15,7 +15,7 @@ use cam_units::{Bounds, Spot, Turn};
 
 /// What a check and a picture need of an entry, found once when it joins the dictionary: of what one flash of it
 /// paints at (0, 0), neither mirrored nor turned.
-#[derive(Clone, Copy, Debug, PartialEq, Eq)]
+#[derive(Clone, Copy)]
 pub(crate) struct Facts {
     /// How many leaves it adds to its flash.
     pub leaves: u32,

@@ -14,7 +14,7 @@ use cam_units::{Bounds, Nm};
 use std::marker::Model;
 
 /// The tool that was asked for last, and its diameter, in nm.
-#[derive(Clone, Copy, Debug)]
+#[derive(Clone, Copy)]
 pub(crate) struct LastTool {
     pub tool: u16,
     pub diameter: Option<Nm>,

@@ -10,7 +10,7 @@ use crate::placing::copies::Copies;
 use cam_units::Bounds;
 
 /// Copies one behind another, by their numbers: from a first one up to an end.
-#[derive(Clone, Copy, Debug, PartialEq, Eq)]
+#[derive(Clone, Copy)]
 pub(crate) struct Run {
     pub first: u32,
     pub end: u32,

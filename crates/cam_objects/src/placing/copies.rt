@@ -15,7 +15,7 @@ use crate::limits::BOARD_LIMIT;
 use cam_units::{Bounds, Point};
 
 /// How many columns and rows of copies a repeat has, and the steps from one to the next, in nm.
-#[derive(Clone, Copy, Debug, PartialEq, Eq)]
+#[derive(Clone, Copy)]
 pub(crate) struct Copies {
     pub columns: u32,
     pub rows: u32,

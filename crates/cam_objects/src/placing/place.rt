@@ -10,7 +10,7 @@ use cam_units::{Point, Turn};
 
 /// Where the objects of a block or of a copy are painted: turned about (0, 0), then moved by an
 /// offset in nm; where `dark` is false, what is dark clears there, and what is clear darkens.
-#[derive(Clone, Copy, Debug, PartialEq, Eq)]
+#[derive(Clone, Copy)]
 pub(crate) struct Place {
     pub turn: Turn,
     pub offset: Point,

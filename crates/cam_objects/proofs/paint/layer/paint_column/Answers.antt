@@ -36,7 +36,7 @@ loop-r-preserved g c =
     let p = c.args.copies.now in
     let copy : Point → List Leaf = λ by. block_leaves (meaning_in c.args.entries.now) (shifted by.x by.y) c.args.objects.now in
     let here = subst (λ (by : Point). Paints canvas.has canvas.place canvas.ink c.loop-r.canvas (copy by) c.paint_copy.new.canvas)
-    c.offset-by.ensures.value c.paint_copy.ensures in
+    {y = record { x = pos c.args.column *ℤ p.i; y = pos c.loop-r.r *ℤ p.j }} c.offset-by.ensures.value c.paint_copy.ensures in
     record {
       within = omega (arith, c.requires.within.end);
       painted =
