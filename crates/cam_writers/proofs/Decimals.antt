@@ -1,5 +1,6 @@
 -- Decimals that canonical texts write are read as the numbers that they are.
-use Rattle.std.proofs.Common.{◌≡◌, ℕ, zero, suc, ◌+◌, ◌-◌, ◌*◌, ◌/◌, ◌%◌, ◌^◌, ◌<◌, ◌≤◌, List, [], ◌∷◌, ◌++◌, length, Bool, true, false, eqb, Option, Some, refl, sym, ap, ◌∙◌, arith, rules, ne_eqb}
+use Rattle.std.proofs.Common.{◌≡◌, ℕ, zero, suc, ◌+◌, ◌-◌, ◌*◌, ◌/◌, ◌%◌, ◌^◌, ◌<◌, ◌≤◌, List, [], ◌∷◌, ◌++◌, length}
+use Rattle.std.proofs.Common.{Bool, true, false, eqb, Option, Some, refl, sym, ap, ◌∙◌, arith, rules, ne_eqb}
 use Rattle.std.specs.Prelude.{ℤ, pos, negsuc, neg_ℤ, ◌||◌, ◌&&◌, decimal, unsigned_abs}
 use Rattle.std.specs.List.{list_all, list_any}
 use Rattle.std.specs.Char.{is_ascii_digit}
@@ -11,7 +12,8 @@ use Rattle.std.proofs.lemmas.Fmt.{digits_decimal, digits_value-decimal, decimal_
 use Rattle.std.proofs.Math.Nat.{div-div-eq-div-mul}
 use Rattle.cam_units.specs.Nearest.{nearest_of, rounded}
 use Rattle.std.specs.Str.Parse.{digits_value}
-use Rattle.cam_numbers.specs.Numbers.{is_numeric, is_sign, is_point, are_digits, value_of, natural, is_negative, behind_sign, signed, billionths, unsigned_decimal}
+use Rattle.cam_numbers.specs.Numbers.{is_numeric, is_sign, is_point, are_digits, value_of, natural, is_negative}
+use Rattle.cam_numbers.specs.Numbers.{behind_sign, signed, billionths, unsigned_decimal}
 use Rattle.cam_numbers.proofs.Naturals.{natural-digits}
 use Rattle.cam_numbers.proofs.Written.{read_pointed}
 use Rattle.cam_xnc.specs.Numbers.{is_pointed, selected_tool, declared_tool}
@@ -48,7 +50,15 @@ last_is_digit : (n : ℕ) → is_ascii_digit (last_digit n) ≡ true
 last_is_digit n = grind (arith, nat_tests)
 
 pub six_digits : (n : ℕ) → are_digits (last_six n) ≡ true
-six_digits n = rw (last_is_digit (n / 100000), last_is_digit (n / 10000), last_is_digit (n / 1000), last_is_digit (n / 100), last_is_digit (n / 10), last_is_digit n) refl
+six_digits n =
+    rw (
+      last_is_digit (n / 100000),
+      last_is_digit (n / 10000),
+      last_is_digit (n / 1000),
+      last_is_digit (n / 100),
+      last_is_digit (n / 10),
+      last_is_digit n,
+    ) refl
 
 ten_more : (n k : ℕ) → n / k ≡ n / (k * 10) * 10 + n / k % 10
 ten_more n k =
@@ -56,14 +66,16 @@ ten_more n k =
     let d : n / k ≡ n / k / 10 * 10 + n / k % 10 = omega arith in
     d ∙ ap (λ (q : ℕ). q * 10 + n / k % 10) e
 
-joined : (n q1 q2 q3 q4 q5 q6 d0 d1 d2 d3 d4 d5 : ℕ) → n ≡ q1 * 10 + d0 → q1 ≡ q2 * 10 + d1 → q2 ≡ q3 * 10 + d2 → q3 ≡ q4 * 10 + d3 → q4 ≡ q5 * 10 + d4 → q5 ≡ q6 * 10 + d5
+joined : (n q1 q2 q3 q4 q5 q6 d0 d1 d2 d3 d4 d5 : ℕ) → n ≡ q1 * 10 + d0 → q1 ≡ q2 * 10 + d1 → q2 ≡ q3 * 10 + d2 → q3 ≡ q4 * 10 + d3
+    → q4 ≡ q5 * 10 + d4 → q5 ≡ q6 * 10 + d5
     → q6 * 1000000 + value_after 0 ((48 + d5) ∷ (48 + d4) ∷ (48 + d3) ∷ (48 + d2) ∷ (48 + d1) ∷ (48 + d0) ∷ []) ≡ n
 joined n q1 q2 q3 q4 q5 q6 d0 d1 d2 d3 d4 d5 e0 e1 e2 e3 e4 e5 = omega arith
 
 pub six_value : (n : ℕ) → n / 1000000 * 1000000 + value_of (last_six n) ≡ n
 six_value n =
     ap (λ (v : ℕ). n / 1000000 * 1000000 + v) (value_is (last_six n) (six_digits n))
-    ∙ joined n (n / 10) (n / 100) (n / 1000) (n / 10000) (n / 100000) (n / 1000000) (n % 10) (n / 10 % 10) (n / 100 % 10) (n / 1000 % 10) (n / 10000 % 10) (n / 100000 % 10)
+    ∙ joined n (n / 10) (n / 100) (n / 1000) (n / 10000) (n / 100000) (n / 1000000) (n % 10) (n / 10 % 10) (n / 100 % 10)
+    (n / 1000 % 10) (n / 10000 % 10) (n / 100000 % 10)
     (omega arith) (ten_more n 10) (ten_more n 100) (ten_more n 1000) (ten_more n 10000) (ten_more n 100000)
 
 -- the point
@@ -81,7 +93,8 @@ unfolding unsigned_mm
 unsigned_again n h =
     let small : n / 1000000 < 1000000 = omega arith in
     let v : value_of (decimal (n / 1000000)) ≡ n / 1000000 = value_of_decimal (n / 1000000) (omega arith) in
-    let sum : value_of (decimal (n / 1000000)) * 1000000000 + billionths (last_six n) ≡ n * 1000 = omega (arith, v, billionths_of_six n, six_value n) in
+    let sum : value_of (decimal (n / 1000000)) * 1000000000 + billionths (last_six n) ≡ n * 1000 =
+    omega (arith, v, billionths_of_six n, six_value n) in
     let some = decimal_nonempty (n / 1000000) (omega arith) in
     read_pointed (decimal (n / 1000000)) (last_six n) (record {
       before = digits_of_decimal (n / 1000000) (omega arith);
@@ -122,7 +135,8 @@ pub mm_again : (z : ℤ) → unsigned_abs z < 10 ^ 12 → signed unsigned_decima
 unfolding unsigned_mm
 mm_again (pos n) h =
     signed_without unsigned_decimal (unsigned_mm n) (n * 1000)
-    (unsigned (decimal (n / 1000000)) (46 ∷ last_six n) (digits_of_decimal (n / 1000000) (omega arith)) (decimal_nonempty (n / 1000000) (omega arith)))
+    (unsigned (decimal (n / 1000000)) (46 ∷ last_six n) (digits_of_decimal (n / 1000000) (omega arith))
+    (decimal_nonempty (n / 1000000) (omega arith)))
     (unsigned_again n h)
 mm_again (negsuc n) h = signed_minus unsigned_decimal (unsigned_mm (suc n)) (suc n * 1000) (unsigned_again (suc n) h)
 
@@ -167,7 +181,11 @@ digits_numeric (d ∷ ds) h = let k = both (is_ascii_digit d) (are_digits ds) h 
 unsigned_numeric : (n : ℕ) → n < 10 ^ 12 → list_all is_numeric (unsigned_mm n) ≡ true
 unfolding unsigned_mm is_numeric
 unsigned_numeric n h =
-    list_all-append is_numeric (decimal (n / 1000000)) (46 ∷ last_six n) ∙ rw (digits_numeric (decimal (n / 1000000)) (digits_of_decimal (n / 1000000) (omega arith)), digits_numeric (last_six n) (six_digits n)) refl
+    list_all-append is_numeric (decimal (n / 1000000)) (46 ∷ last_six n)
+    ∙ rw (
+      digits_numeric (decimal (n / 1000000)) (digits_of_decimal (n / 1000000) (omega arith)),
+      digits_numeric (last_six n) (six_digits n),
+    ) refl
 
 pub mm_numeric : (z : ℤ) → unsigned_abs z < 10 ^ 12 → list_all is_numeric (mm z) ≡ true
 unfolding is_numeric
@@ -178,7 +196,8 @@ mm_numeric (negsuc n) h = unsigned_numeric (suc n) h
 
 pub natural_again : (n : ℕ) → n < 2 ^ 64 → natural (decimal n) ≡ Some n
 natural_again n h =
-    natural-digits (decimal n) (digits_of_decimal n h) (λ (z : length (decimal n) ≡ 0). omega (arith, decimal_nonempty n h)) ∙ ap Some (value_of_decimal n h)
+    natural-digits (decimal n) (digits_of_decimal n h) (λ (z : length (decimal n) ≡ 0). omega (arith, decimal_nonempty n h))
+    ∙ ap Some (value_of_decimal n h)
 
 pub selected_again : (n : ℕ) → n ≤ 9999 → selected_tool (decimal n) ≡ Some n
 selected_again n h = rw (natural_again n (omega arith), le-ltb 9999 n h) refl

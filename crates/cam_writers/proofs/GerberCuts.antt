@@ -1,11 +1,13 @@
 -- From the commands of a text to what the reader is told by it, and to the layer that it reads.
-use Rattle.std.proofs.Common.{◌≡◌, ℕ, ◌+◌, List, [], ◌∷◌, ◌++◌, length, map, Bool, true, false, Option, None, refl, sym, ap, ◌∙◌, arith, codes, append_assoc, Result, Ok}
+use Rattle.std.proofs.Common.{◌≡◌, ℕ, ◌+◌, List, [], ◌∷◌, ◌++◌, length, map, Bool, true, false, Option, None, refl, sym}
+use Rattle.std.proofs.Common.{ap, ◌∙◌, arith, codes, append_assoc, Result, Ok}
 use Rattle.std.specs.Prelude.{reverse}
 use Rattle.std.specs.Option.{option_map}
 use Rattle.std.specs.List.{flat_map, AllByRecursion}
 use Rattle.std.proofs.lemmas.List.{reverse-append, map-append}
 use Rattle.std.proofs.lemmas.List.Concat.{flat_map-append}
-use Rattle.cam_words.specs.Cutting.{Command, WordCommand, ExtendedCommand, Piece, Blank, Whole, bytes_of_command, bytes_of, IsCommand, IsPiece, IsApart, AreApart, IsCutting, word_of, words_of}
+use Rattle.cam_words.specs.Cutting.{Command, WordCommand, ExtendedCommand, Piece, Blank, Whole, bytes_of_command}
+use Rattle.cam_words.specs.Cutting.{bytes_of, IsCommand, IsPiece, IsApart, AreApart, IsCutting, word_of, words_of}
 use Rattle.cam_words.specs.Reading.{Answer, reading, told}
 use Rattle.cam_words.proofs.Cuttings.{reads_its_words}
 use Rattle.cam_objects.specs.Contents.{Content}
@@ -48,7 +50,8 @@ apart_of : (piece : Piece) (command : Command) (rest : List Piece) → IsApart p
 apart_of (Blank run) command rest = tt
 apart_of (Whole other) command rest = tt
 
-apart_more : (xs : List Piece) (command : Command) (rest : List Piece) → AreApart xs → AreApart (Whole command ∷ rest) → AreApart (xs ++ Whole command ∷ rest)
+apart_more : (xs : List Piece) (command : Command) (rest : List Piece) → AreApart xs → AreApart (Whole command ∷ rest)
+    → AreApart (xs ++ Whole command ∷ rest)
 apart_more [] command rest h k = k
 apart_more (x ∷ []) command rest h k = (apart_of x command rest, k)
 apart_more (x ∷ Blank run ∷ xs) command rest h k = (still x run xs h.0, apart_more (Blank run ∷ xs) command rest h.1 k)
@@ -56,7 +59,8 @@ apart_more (x ∷ Blank run ∷ xs) command rest h k = (still x run xs h.0, apar
     still : (x : Piece) (run : List ℕ) (xs : List Piece) → IsApart x (Blank run ∷ xs) → IsApart x (Blank run ∷ (xs ++ Whole command ∷ rest))
     still (Blank other) run xs h = h
     still (Whole other) run xs h = h
-apart_more (x ∷ Whole next ∷ xs) command rest h k = (apart_of x next (xs ++ Whole command ∷ rest), apart_more (Whole next ∷ xs) command rest h.1 k)
+apart_more (x ∷ Whole next ∷ xs) command rest h k =
+    (apart_of x next (xs ++ Whole command ∷ rest), apart_more (Whole next ∷ xs) command rest h.1 k)
 
 apart : (commands : Commands) → AreApart (pieces_of commands)
 apart [] = tt
@@ -78,7 +82,8 @@ words_more at (Whole command ∷ xs) ys =
 abbrev answers_of : Commands → List Answer
 answers_of commands = told (words_of 0 (pieces_of commands))
 
-answers_more : (command : Command) (older : Commands) → (k : ℕ) × (answers_of (command ∷ older) ≡ answers_of older ++ Ok (word_of k command) ∷ [])
+answers_more : (command : Command) (older : Commands)
+    → (k : ℕ) × (answers_of (command ∷ older) ≡ answers_of older ++ Ok (word_of k command) ∷ [])
 answers_more command older =
     let more = words_more 0 (pieces_of older) (Whole command ∷ Blank (codes "\n") ∷ []) in
     (more.0, ap told more.1 ∙ map-append Ok (words_of 0 (pieces_of older)) (word_of more.0 command ∷ []))
@@ -104,7 +109,8 @@ answers_say (command ∷ older) =
     ∙ ap (λ s. s ∷ map says_of (reverse (answers_of older))) (said_anywhere more.0 command)
     ∙ ap (λ past. says command ∷ past) (answers_say older)
 
-pub told_by_commands : (commands : Commands) → AllByRecursion IsCommand commands → map (λ answer. (told_of answer).says) (reverse (reading 0 (text_of commands))) ≡ said_by commands
+pub told_by_commands : (commands : Commands) → AllByRecursion IsCommand commands
+    → map (λ answer. (told_of answer).says) (reverse (reading 0 (text_of commands))) ≡ said_by commands
 told_by_commands commands h = ap (λ answers. map says_of (reverse answers)) (read_as commands h) ∙ answers_say commands
 
 -- ---- the layer
@@ -112,11 +118,13 @@ told_by_commands commands h = ap (λ answers. map says_of (reverse answers)) (re
 abbrev pub AreEndless : Past → Type 0
 AreEndless past = AllByRecursion (λ says. is_end says ≡ false) past
 
-none_told : (past : Past) (answer : Answer) (says : Statement) → (told_of answer).says ≡ says → least (faults past says) ≡ None → fault_of past (told_of answer) ≡ None
+none_told : (past : Past) (answer : Answer) (says : Statement) → (told_of answer).says ≡ says → least (faults past says) ≡ None
+    → fault_of past (told_of answer) ≡ None
 none_told past answer says same none =
     ap (option_map (λ (code : ℕ). record { code = code; at = (told_of answer).at })) (ap (λ s. least (faults past s)) same ∙ none)
 
-goes_on : (fault : Option ReadFault) (ends : Bool) (layer : Content) (others : Result Content ReadFault) → fault ≡ None → ends ≡ false → given fault ends layer others ≡ others
+goes_on : (fault : Option ReadFault) (ends : Bool) (layer : Content) (others : Result Content ReadFault) → fault ≡ None
+    → ends ≡ false → given fault ends layer others ≡ others
 goes_on fault ends layer others none goes = rw (none, goes) refl
 
 lead_commands : (commands : Commands) (len : ℕ) (rest : List Answer) → IsFaultless (said_by commands) → AreEndless (said_by commands)
@@ -129,14 +137,17 @@ lead_commands (command ∷ older) len rest none endless =
     ap (λ answers. lead_of len [] (answers ++ rest)) more.1
     ∙ ap (lead_of len []) (append_assoc (answers_of older) (answer ∷ []) rest)
     ∙ lead_commands older len (answer ∷ rest) none.1 endless.1
-    ∙ goes_on (fault_of (said_by older) (told_of answer)) (is_end (told_of answer).says) _ _ (none_told (said_by older) answer (says command) same none.0) (ap is_end same ∙ endless.0)
+    ∙ goes_on (fault_of (said_by older) (told_of answer)) (is_end (told_of answer).says) _ _
+    (none_told (said_by older) answer (says command) same none.0) (ap is_end same ∙ endless.0)
     ∙ ap (λ s. lead_of len (s ∷ said_by older) rest) same
 
-ends_here : (fault : Option ReadFault) (ends : Bool) (layer : Content) (others : Result Content ReadFault) → fault ≡ None → ends ≡ true → given fault ends layer others ≡ Ok layer
+ends_here : (fault : Option ReadFault) (ends : Bool) (layer : Content) (others : Result Content ReadFault) → fault ≡ None
+    → ends ≡ true → given fault ends layer others ≡ Ok layer
 ends_here fault ends layer others none last = rw (none, last) refl
 
 -- a text of commands without a fault, the last of which is the end, is read as the layer behind them
-pub reads_commands : (last : Command) (commands : Commands) → AllByRecursion IsCommand (last ∷ commands) → IsFaultless (said_by (last ∷ commands)) → AreEndless (said_by commands)
+pub reads_commands : (last : Command) (commands : Commands) → AllByRecursion IsCommand (last ∷ commands)
+    → IsFaultless (said_by (last ∷ commands)) → AreEndless (said_by commands)
     → is_end (says last) ≡ true → reading_of (text_of (last ∷ commands)) ≡ Ok (layer_in (said_by (last ∷ commands)))
 unfolding reading_of
 reads_commands last commands cut none endless ends =
@@ -146,5 +157,6 @@ reads_commands last commands cut none endless ends =
     let same : (told_of answer).says ≡ says last = said_anywhere more.0 last in
     ap (lead_of len []) (read_as (last ∷ commands) cut ∙ more.1)
     ∙ lead_commands commands len (answer ∷ []) none.1 endless
-    ∙ ends_here (fault_of (said_by commands) (told_of answer)) (is_end (told_of answer).says) _ _ (none_told (said_by commands) answer (says last) same none.0) (ap is_end same ∙ ends)
+    ∙ ends_here (fault_of (said_by commands) (told_of answer)) (is_end (told_of answer).says) _ _
+    (none_told (said_by commands) answer (says last) same none.0) (ap is_end same ∙ ends)
     ∙ ap (λ s. Ok (layer_in (s ∷ said_by commands))) same

@@ -1,20 +1,23 @@
 -- What the definitions of apertures of canonical texts say, and their form: the number, the name and the parameters.
-use Rattle.std.proofs.Common.{◌≡◌, ℕ, ◌+◌, ◌^◌, ◌<◌, ◌≤◌, List, [], ◌∷◌, ◌++◌, length, map, Bool, true, false, cond, eqb, ltb, ne_eqb, Some, None, refl, ap, ◌∙◌, arith, append-nil, codes, decimal}
+use Rattle.std.proofs.Common.{◌≡◌, ℕ, ◌+◌, ◌^◌, ◌<◌, ◌≤◌, List, [], ◌∷◌, ◌++◌, length, map, Bool, true, false, cond}
+use Rattle.std.proofs.Common.{eqb, ltb, ne_eqb, Some, None, refl, ap, ◌∙◌, arith, append-nil, codes, decimal}
 use Rattle.std.specs.Prelude.{ℤ, pos, ◌==◌, ◌&&◌, unsigned_abs, if◌then◌else◌}
-use Rattle.std.specs.List.{list_all, position_or_len, slice_split, before_first, AllByRecursion}
+use Rattle.std.specs.Char.{is_ascii_digit}
+use Rattle.std.specs.List.{list_all, position_or_len, prefix_len, slice_split, before_first, AllByRecursion}
 use Rattle.std.specs.Ordering.{int_eq}
 use Rattle.std.proofs.lemmas.Bool.{lt-ltb, le-ltb}
 use Rattle.std.proofs.lemmas.Bool.Decides.{nat_tests}
 use Rattle.std.proofs.lemmas.Int.{ints}
-use Rattle.std.proofs.lemmas.List.{take_all}
+use Rattle.std.proofs.lemmas.List.{drop_at, take_all, take_at}
 use Rattle.std.proofs.lemmas.List.Folds.{list_all-append}
 use Rattle.cam_units.specs.declared.length.Nm.{Nm}
 use Rattle.cam_units.specs.Board.{IsSize}
 use Rattle.cam_words.specs.Cutting.{IsCommand}
-use Rattle.cam_numbers.specs.Numbers.{is_numeric}
+use Rattle.cam_numbers.specs.Numbers.{are_digits, is_numeric}
 use Rattle.cam_apertures.specs.declared.aperture.Aperture.{Aperture}
 use Rattle.cam_apertures.specs.declared.aperture.Aperture.TheVariants.{Circle, Rect, Obround, Prims}
-use Rattle.cam_apertures.specs.Definition.{Definition, definition, definition_of, with_number, is_comma, behind_comma, is_of_runs, are_runs}
+use Rattle.cam_apertures.specs.Definition.{Definition, behind_digits, definition, definition_of, digits_of, with_number}
+use Rattle.cam_apertures.specs.Definition.{is_comma, behind_comma, is_of_runs, are_runs}
 use Rattle.cam_apertures.specs.Soundness.{IsSide, IsSoundAperture}
 use Rattle.cam_commands.specs.declared.names.Name.TheVariants.{ApertureDefinition}
 use Rattle.cam_commands.specs.Commands.{DefineAperture}
@@ -23,10 +26,10 @@ use Rattle.cam_gerber.specs.Statements.{Says}
 use Rattle.cam_writers.specs.Lengths.{mm}
 use Rattle.cam_writers.specs.Commands.{hole_text, macro_name, template_text, definition_command}
 use Rattle.cam_writers.specs.GerberTexts.{says}
-use Rattle.cam_writers.proofs.Decimals.{mm_numeric}
-use Rattle.cam_writers.proofs.Saying.{Stops, run_read, run_left}
+use Rattle.cam_writers.proofs.Decimals.{digits_of_decimal, mm_numeric}
 use Rattle.cam_writers.proofs.GerberPasts.{definition_text}
-use Rattle.cam_writers.proofs.GerberSayings.{is_code, IsCode, code_append, packed_code, extended_found, extended_says, decimal_run, decimal_code, mm_code}
+use Rattle.cam_writers.proofs.GerberSayings.{is_code, IsCode, code_append, packed_code, extended_found, extended_says}
+use Rattle.cam_writers.proofs.GerberSayings.{decimal_run, decimal_code, mm_code}
 
 -- ---- the sizes of apertures
 
@@ -185,15 +188,34 @@ macro_form number digits all =
     let behind : behind_comma (77 ∷ digits) ≡ None = rw (place, none) refl in
     named_alone number (77 ∷ digits) whole some behind
 
+-- what follows is no digit
+abbrev StopsDigits : List ℕ → Type 0
+StopsDigits [] = Unit {0}
+StopsDigits (byte ∷ rest) = is_ascii_digit byte ≡ false
+
+digits_length : (digits rest : List ℕ) → are_digits digits ≡ true → StopsDigits rest
+    → prefix_len is_ascii_digit (digits ++ rest) ≡ length digits
+digits_length [] [] all stops = refl
+digits_length [] (byte ∷ rest) all stops = rw stops refl
+digits_length (digit ∷ digits) rest all stops =
+    let k = both (is_ascii_digit digit) (are_digits digits) all in
+    rw (k.0, digits_length digits rest k.1 stops) (omega arith)
+
+digits_read : (digits rest : List ℕ) → are_digits digits ≡ true → StopsDigits rest → digits_of (digits ++ rest) ≡ digits
+digits_read digits rest all stops = rw (digits_length digits rest all stops) (take_at digits rest (length digits) refl)
+
+digits_left : (digits rest : List ℕ) → are_digits digits ≡ true → StopsDigits rest → behind_digits (digits ++ rest) ≡ rest
+digits_left digits rest all stops = rw (digits_length digits rest all stops) (drop_at digits rest (length digits) refl)
+
 -- `D` before a number
-numbered_form : (n : ℕ) (rest : List ℕ) → n < 2 ^ 64 → Stops rest
+numbered_form : (n : ℕ) (rest : List ℕ) → n < 2 ^ 64 → StopsDigits rest
     → definition (68 ∷ (decimal n ++ rest)) ≡ with_number (decimal n) rest
 unfolding definition
 numbered_form n rest small stops =
-    let all = decimal_run n small in rw (run_read (decimal n) rest all stops, run_left (decimal n) rest all stops) refl
+    let all = digits_of_decimal n small in
+    rw (digits_read (decimal n) rest all stops, digits_left (decimal n) rest all stops) refl
 
-template_stops : (n : ℕ) (a : Aperture) → Stops (template_text n a)
-unfolding is_numeric
+template_stops : (n : ℕ) (a : Aperture) → StopsDigits (template_text n a)
 template_stops n (Circle diameter hole) = refl
 template_stops n (Rect width height hole) = refl
 template_stops n (Obround width height hole) = refl

@@ -1,5 +1,6 @@
 -- An aperture of a canonical text: its macro is named where it is one of primitives, and it joins the dictionary.
-use Rattle.std.proofs.Common.{◌≡◌, ℕ, ◌≤◌, List, [], ◌∷◌, ◌++◌, Bool, true, false, cond, Option, Some, None, nat_eq, eq-eqb, refl, sym, ap, ap₂, ◌∙◌, append-nil}
+use Rattle.std.proofs.Common.{◌≡◌, ℕ, ◌≤◌, List, [], ◌∷◌, ◌++◌, Bool, true, false, cond, Option, Some, None, nat_eq}
+use Rattle.std.proofs.Common.{eq-eqb, refl, sym, ap, ap₂, ◌∙◌, append-nil}
 use Rattle.std.specs.Prelude.{is_none, find}
 use Rattle.std.specs.List.{AllByRecursion}
 use Rattle.std.specs.Map.{lookup}
@@ -25,7 +26,8 @@ use Rattle.cam_writers.specs.Commands.{macro_name}
 use Rattle.cam_writers.proofs.GerberPasts.{Stands, definition_text, parts_for, past_entry, past_macro}
 use Rattle.cam_writers.proofs.GerberRepeats.{defined_again}
 use Rattle.cam_writers.proofs.GerberDefinitions.{definition_form}
-use Rattle.cam_writers.proofs.GerberApertures.{IsMade, definition_again, definition_faultless, macro_named, macro_names_differ, macro_unreserved}
+use Rattle.cam_writers.proofs.GerberApertures.{IsMade, definition_again, definition_faultless, macro_named}
+use Rattle.cam_writers.proofs.GerberApertures.{macro_names_differ, macro_unreserved}
 use Rattle.cam_writers.proofs.GerberMacroExpansions.{expands}
 use Rattle.cam_writers.proofs.GerberEntriesBetween.{Between, macros_more, macros_of, macros_of_template}
 

@@ -1,5 +1,6 @@
 -- What holds between the entries and the items of a canonical text, and of the objects of a block or a repeat in it.
-use Rattle.std.proofs.Common.{◌≡◌, ℕ, ◌+◌, ◌<◌, ◌≤◌, List, [], ◌∷◌, ◌++◌, length, true, cond, None, sum_by, refl, ap, ap₂, ◌∙◌, arith, eq-eqb, append-nil, length-append}
+use Rattle.std.proofs.Common.{◌≡◌, ℕ, ◌+◌, ◌<◌, ◌≤◌, List, [], ◌∷◌, ◌++◌, length, true, cond, None, sum_by, refl, ap}
+use Rattle.std.proofs.Common.{ap₂, ◌∙◌, arith, eq-eqb, append-nil, length-append}
 use Rattle.std.specs.Prelude.{max, fold}
 use Rattle.std.specs.List.{All, flat_map}
 use Rattle.std.proofs.lemmas.List.Concat.{flat_map-append}
@@ -14,7 +15,8 @@ use Rattle.cam_objects.specs.declared.entry.Entry.{Entry}
 use Rattle.cam_objects.specs.declared.entry.Entry.TheVariants.{Aperture, Block}
 use Rattle.cam_objects.specs.declared.item.Item.{Item}
 use Rattle.cam_objects.specs.declared.item.Item.TheVariants.{One}
-use Rattle.cam_objects.specs.declared.item_fault.ItemFault.TheVariants.{Malformed, UnknownAperture, WrongAperture, ZeroRadius, OutOfBoard, TooMuch}
+use Rattle.cam_objects.specs.declared.item_fault.ItemFault.TheVariants.{Malformed, UnknownAperture, WrongAperture}
+use Rattle.cam_objects.specs.declared.item_fault.ItemFault.TheVariants.{ZeroRadius, OutOfBoard, TooMuch}
 use Rattle.cam_objects.specs.Leaves.{meaning_in}
 use Rattle.cam_objects.specs.Soundness.{HasRadius, IsDrawable, IsFormed, IsInside, IsKnown, IsSoundItem, IsWithinLimits, points_of, segs_of}
 use Rattle.cam_objects.specs.Weights.{Weight, block_count, item_count, object_depth, weight_in}

@@ -1,5 +1,6 @@
 -- A block of a canonical text: it is opened, its objects gather in it, and it joins the dictionary where it is closed.
-use Rattle.std.proofs.Common.{◌≡◌, ℕ, ◌+◌, ◌<◌, ◌≤◌, List, [], ◌∷◌, ◌++◌, length, drop, false, Some, None, refl, sym, ap, ◌∙◌, arith, append-nil, subst}
+use Rattle.std.proofs.Common.{◌≡◌, ℕ, ◌+◌, ◌<◌, ◌≤◌, List, [], ◌∷◌, ◌++◌, length, drop, false, Some, None, refl, sym}
+use Rattle.std.proofs.Common.{ap, ◌∙◌, arith, append-nil, subst}
 use Rattle.std.specs.Prelude.{◌||◌, nat_le, nat_lt}
 use Rattle.std.specs.List.{All}
 use Rattle.std.proofs.lemmas.Bool.{le-ltb, lt-leb}
@@ -20,7 +21,8 @@ use Rattle.cam_gerber.proofs.SoundParts.{Pairs}
 use Rattle.cam_gerber.proofs.UnusedRepeats.{IsEmptyHome}
 use Rattle.cam_writers.proofs.GerberPasts.{Stands, Joined, past_entry, past_objects}
 use Rattle.cam_writers.proofs.GerberEntriesObjects.{IsSoundAt, HasRoom, objects_join}
-use Rattle.cam_writers.proofs.GerberEntriesBetween.{Between, Gathered, at_seam, depths, fewer, gathered, lighter, macros_more, macros_of, sound_one}
+use Rattle.cam_writers.proofs.GerberEntriesBetween.{Between, Gathered, at_seam, depths, fewer, gathered, lighter}
+use Rattle.cam_writers.proofs.GerberEntriesBetween.{macros_more, macros_of, sound_one}
 
 -- a block has room for one object more
 block_room : (count leaves depth : ℕ) → count < 1000000 → leaves ≤ 4000000 → depth ≤ 7

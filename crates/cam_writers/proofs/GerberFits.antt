@@ -1,5 +1,6 @@
 -- What stands in sound layers can be written.
-use Rattle.std.proofs.Common.{◌≡◌, ℕ, ◌*◌, ◌<◌, ◌≤◌, zero, suc, List, [], ◌∷◌, take, Bool, true, false, cond, Some, nat_eq, refl, sym, subst, arith, slice_index_or}
+use Rattle.std.proofs.Common.{◌≡◌, ℕ, ◌*◌, ◌<◌, ◌≤◌, zero, suc, List, [], ◌∷◌, take, Bool, true, false, cond, Some}
+use Rattle.std.proofs.Common.{nat_eq, refl, sym, subst, arith, slice_index_or}
 use Rattle.std.specs.List.{All, AllByRecursion, flat_map}
 use Rattle.std.specs.Map.{lookup}
 use Rattle.std.specs.Option.{IsSome}

@@ -23,7 +23,9 @@ use Rattle.cam_gerber.specs.Reading.{is_end}
 use Rattle.cam_gerber.proofs.SoundParts.{Pairs}
 use Rattle.cam_writers.specs.Commands.{mirror_of, rotation_of}
 use Rattle.cam_writers.specs.GerberTexts.{arc_mode, end_of, is_same_polarity, is_same_turn, is_selected, is_same_mode}
-use Rattle.cam_writers.proofs.GerberPasts.{past_aperture, past_before_end, past_entries, past_entry, past_item, past_macro, past_mirror, past_mode, past_object, past_objects, past_opening, past_polarity, past_segment, past_segments, past_start, past_turn}
+use Rattle.cam_writers.proofs.GerberPasts.{past_aperture, past_before_end, past_entries, past_entry, past_item}
+use Rattle.cam_writers.proofs.GerberPasts.{past_macro, past_mirror, past_mode, past_object, past_objects, past_opening}
+use Rattle.cam_writers.proofs.GerberPasts.{past_polarity, past_segment, past_segments, past_start, past_turn}
 
 abbrev pub IsEndless : Past → Type 0
 IsEndless past = AllByRecursion (λ says. is_end says ≡ false) past

@@ -1,5 +1,6 @@
 -- The parts of canonical macros expand to their primitives.
-use Rattle.std.proofs.Common.{◌≡◌, ℕ, ◌+◌, ◌*◌, ◌/◌, ◌%◌, ◌<◌, ◌≤◌, List, [], ◌∷◌, ◌++◌, length, take, drop, Bool, true, false, leb, ltb, Ok, refl, ap, sym, ◌∙◌, arith, append_assoc, length-append}
+use Rattle.std.proofs.Common.{◌≡◌, ℕ, ◌+◌, ◌*◌, ◌/◌, ◌%◌, ◌<◌, ◌≤◌, List, [], ◌∷◌, ◌++◌, length, take, drop, Bool, true}
+use Rattle.std.proofs.Common.{false, leb, ltb, Ok, refl, ap, sym, ◌∙◌, arith, append_assoc, length-append}
 use Rattle.std.specs.Prelude.{ℤ, pos, negsuc, ◌+ℤ◌, ◌*ℤ◌, unsigned_abs}
 use Rattle.std.specs.List.{flat_map, All, AllByRecursion}
 use Rattle.std.proofs.Math.Seq.{take-append_seam, drop-append_seam}
@@ -17,7 +18,9 @@ use Rattle.cam_macros.specs.declared.primitive.PrimShape.{PrimShape}
 use Rattle.cam_macros.specs.declared.primitive.PrimShape.TheVariants.{Disc, Bar, Rect as Rectangle, Outline}
 use Rattle.cam_macros.specs.Numbers.{billion}
 use Rattle.cam_macros.specs.Arithmetic.{Values, parameter}
-use Rattle.cam_macros.specs.Expansion.{paint_of, size, size_of, coordinate, coordinate_of, point_of, points_of, count_of, outline_through, shape_of, disc_of, bar_of, rect_of, outline_of, primitive_of, all_worth, expansion, expansion_of, ◌>>=◌}
+use Rattle.cam_macros.specs.Expansion.{paint_of, size, size_of, coordinate, coordinate_of, point_of, points_of}
+use Rattle.cam_macros.specs.Expansion.{count_of, outline_through, shape_of, disc_of, bar_of, rect_of, outline_of}
+use Rattle.cam_macros.specs.Expansion.{primitive_of, all_worth, expansion, expansion_of, ◌>>=◌}
 use Rattle.cam_apertures.specs.Primitives.{IsMacroPoint, IsSoundShape, IsSoundPrim}
 use Rattle.cam_writers.specs.Commands.{fields_of}
 use Rattle.cam_writers.proofs.Decimals.{scaled, scaled_again}

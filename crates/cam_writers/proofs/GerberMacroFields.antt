@@ -1,6 +1,7 @@
 -- The fields of the primitives of canonical macros: runs of bytes that numbers may hold, which stand for trees by the
 -- grammar of macros, and the trees for values whatever the variables are.
-use Rattle.std.proofs.Common.{◌≡◌, ℕ, zero, suc, ◌*◌, ◌/◌, ◌^◌, ◌<◌, List, [], ◌∷◌, ◌++◌, length, take, Bool, true, false, Some, refl, ap, arith, decimal, codes, Ok}
+use Rattle.std.proofs.Common.{◌≡◌, ℕ, zero, suc, ◌*◌, ◌/◌, ◌^◌, ◌<◌, List, [], ◌∷◌, ◌++◌, length, take, Bool, true}
+use Rattle.std.proofs.Common.{false, Some, refl, ap, arith, decimal, codes, Ok}
 use Rattle.std.specs.Prelude.{ℤ, pos, negsuc, neg_ℤ, unsigned_abs}
 use Rattle.std.specs.List.{list_all, flat_map, All, AllByRecursion}
 use Rattle.std.proofs.lemmas.Bool.{lt-ltb}

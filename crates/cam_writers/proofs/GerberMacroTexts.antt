@@ -1,6 +1,7 @@
 -- The texts of canonical macros, cut: at stars into the name and the primitives, and each of those at commas into its
 -- fields.
-use Rattle.std.proofs.Common.{◌≡◌, ℕ, ◌≤◌, List, [], ◌∷◌, ◌++◌, map, min, Bool, true, false, eqb, Option, Some, None, refl, ap, sym, subst, ◌∙◌, arith, eq-eqb, append-nil, codes}
+use Rattle.std.proofs.Common.{◌≡◌, ℕ, ◌≤◌, List, [], ◌∷◌, ◌++◌, map, min, Bool, true, false, eqb, Option, Some, None}
+use Rattle.std.proofs.Common.{refl, ap, sym, subst, ◌∙◌, arith, eq-eqb, append-nil, codes}
 use Rattle.std.specs.Prelude.{◌==◌, ◌||◌, not}
 use Rattle.std.specs.List.{list_all, list_any, slice_split, flat_map, AllByRecursion}
 use Rattle.std.specs.Char.{is_ascii_digit}

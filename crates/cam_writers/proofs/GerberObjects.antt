@@ -18,7 +18,8 @@ use Rattle.cam_writers.specs.GerberTexts.{arc_mode}
 use Rattle.cam_writers.proofs.GerberPasts.{Stands, Joined, past_aperture, past_mode, past_object, past_polarity, past_start, past_turn}
 use Rattle.cam_writers.proofs.GerberObjectsContours.{region_made}
 use Rattle.cam_writers.proofs.GerberObjectsOperations.{scales}
-use Rattle.cam_writers.proofs.GerberObjectsSettings.{Values, Set, aperture_set, mirror_set, mode_set, point_set, polarity_set, rotation_set, unset, values_in}
+use Rattle.cam_writers.proofs.GerberObjectsSettings.{Values, Set, aperture_set, mirror_set, mode_set, point_set}
+use Rattle.cam_writers.proofs.GerberObjectsSettings.{polarity_set, rotation_set, unset, values_in}
 use Rattle.cam_writers.proofs.GerberObjectsStrokes.{flash_made, stroke_made}
 use Rattle.cam_writers.proofs.GerberObjectsValues.{both_parts}
 

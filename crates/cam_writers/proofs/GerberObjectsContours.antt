@@ -1,5 +1,6 @@
 -- Regions of canonical texts: a contour grows by its segments, and its end makes one region.
-use Rattle.std.proofs.Common.{◌≡◌, ℕ, ◌+◌, ◌<◌, ◌≤◌, List, [], ◌∷◌, ◌++◌, length, Bool, true, false, cond, None, refl, sym, ap, ap₂, ◌∙◌, subst, arith, append-nil, append_assoc, length-append}
+use Rattle.std.proofs.Common.{◌≡◌, ℕ, ◌+◌, ◌<◌, ◌≤◌, List, [], ◌∷◌, ◌++◌, length, Bool, true, false, cond, None, refl}
+use Rattle.std.proofs.Common.{sym, ap, ap₂, ◌∙◌, subst, arith, append-nil, append_assoc, length-append}
 use Rattle.std.specs.Prelude.{nat_le}
 use Rattle.std.specs.List.{All, flat_map}
 use Rattle.std.proofs.lemmas.Bool.Decides.{nat_tests}
@@ -29,7 +30,8 @@ use Rattle.cam_writers.proofs.GerberObjectsPlaces.{Kept, kept_on, nothing_made, 
 use Rattle.cam_writers.proofs.GerberObjectsOperations.{Scales, on_board_after, point_after, unrefused}
 use Rattle.cam_writers.proofs.GerberObjectsSettings.{setting_keeps}
 use Rattle.cam_writers.proofs.GerberObjectsStrokes.{full_kept}
-use Rattle.cam_writers.proofs.GerberObjectsPaths.{MayPlot, IsPlottable, end_is, mode_of, path_none, plot_along, plot_to, plot_unrefused, segment_again, segment_is_plot}
+use Rattle.cam_writers.proofs.GerberObjectsPaths.{MayPlot, IsPlottable, end_is, mode_of, path_none, plot_along, plot_to}
+use Rattle.cam_writers.proofs.GerberObjectsPaths.{plot_unrefused, segment_again, segment_is_plot}
 use Rattle.cam_writers.proofs.GerberObjectsValues.{same_mode}
 
 -- a contour begun, with these segments so far

@@ -14,10 +14,12 @@ use Rattle.cam_gerber.specs.Making.{made}
 use Rattle.cam_gerber.specs.Faults.{command_faults, faults, is_defined, is_no_quarter, is_same_point, least}
 use Rattle.cam_writers.specs.Commands.{mirror_of, rotation_of}
 use Rattle.cam_writers.specs.GerberTexts.{is_same_polarity, is_same_turn, is_selected, is_same_mode}
-use Rattle.cam_writers.proofs.GerberPasts.{Stands, polarity_of, mirroring_of, angle_of, move_to, past_polarity, past_mirror, past_rotation, past_aperture, past_mode, past_start}
+use Rattle.cam_writers.proofs.GerberPasts.{Stands, polarity_of, mirroring_of, angle_of, move_to, past_polarity}
+use Rattle.cam_writers.proofs.GerberPasts.{past_mirror, past_rotation, past_aperture, past_mode, past_start}
 use Rattle.cam_writers.proofs.GerberObjectsPlaces.{Kept, kept_all, kept_on, nothing_made}
 use Rattle.cam_writers.proofs.GerberObjectsOperations.{Scales, scales, move_unrefused, point_after}
-use Rattle.cam_writers.proofs.GerberObjectsValues.{same_polarity, same_turn, same_number, same_mode, same_point, dark_again, mirror_again, rotation_again, by_quarters}
+use Rattle.cam_writers.proofs.GerberObjectsValues.{same_polarity, same_turn, same_number, same_mode, same_point}
+use Rattle.cam_writers.proofs.GerberObjectsValues.{dark_again, mirror_again, rotation_again, by_quarters}
 
 -- ---- one setting
 

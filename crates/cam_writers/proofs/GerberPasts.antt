@@ -35,9 +35,12 @@ use Rattle.cam_commands.specs.declared.parts.Mode.{Mode}
 use Rattle.cam_commands.specs.declared.parts.Mode.TheVariants.{Linear}
 use Rattle.cam_commands.specs.declared.parts.OperationCode.{OperationCode}
 use Rattle.cam_commands.specs.declared.parts.OperationCode.TheVariants.{Plot, Move, Flash as FlashCode}
-use Rattle.cam_commands.specs.Commands.{SetFormat, SetUnit, DefineAperture, SetPolarity, SetMirror, SetRotation, OpenBlock, CloseBlock, SetRepeat, CloseRepeat, SetMode, MultiQuadrant, BeginRegion, EndRegion, Select, Operate}
+use Rattle.cam_commands.specs.Commands.{SetFormat, SetUnit, DefineAperture, SetPolarity, SetMirror, SetRotation}
+use Rattle.cam_commands.specs.Commands.{OpenBlock, CloseBlock, SetRepeat, CloseRepeat, SetMode, MultiQuadrant}
+use Rattle.cam_commands.specs.Commands.{BeginRegion, EndRegion, Select, Operate}
 use Rattle.cam_gerber.specs.Statements.{Statement, Says, NamesMacro}
-use Rattle.cam_gerber.specs.State.{Past, format_in, unit_in, dark_in, mirror_in, rotation_in, aperture_in, mode_in, has_arcs, in_region, point_in}
+use Rattle.cam_gerber.specs.State.{Past, format_in, unit_in, dark_in, mirror_in, rotation_in, aperture_in, mode_in}
+use Rattle.cam_gerber.specs.State.{has_arcs, in_region, point_in}
 use Rattle.cam_gerber.specs.Homes.{Home, InLayer, home, is_same_home, open_blocks, open_repeat}
 use Rattle.cam_gerber.specs.Making.{objects_of}
 use Rattle.cam_gerber.specs.Layers.{macros_in, entries_in, items_in, leaves_of, leaves_in}
@@ -71,7 +74,8 @@ angle_of M180 = pos 180000000000
 angle_of M270 = pos 270000000000
 
 abbrev pub operation_to : Point → Slot ℤ → Slot ℤ → OperationCode → Statement
-operation_to to across up code = Says (Operate (record { mode = None; x = Written to.x; y = Written to.y; i = across; j = up; code = Some code }))
+operation_to to across up code =
+    Says (Operate (record { mode = None; x = Written to.x; y = Written to.y; i = across; j = up; code = Some code }))
 
 abbrev pub move_to : Point → Statement
 move_to to = operation_to to Omitted Omitted Move
@@ -225,6 +229,7 @@ pub record Joined (older newer : Past) (made : List Object) : Type 0 where
   pub blocks : open_blocks newer ≡ open_blocks older
   pub repeat : open_repeat newer ≡ open_repeat older
   pub objects : (h : Home) → objects_of h newer ≡ objects_of h older ++ made_here (home older) h made
-  pub leaves : (h : Home) → leaves_of h newer ≡ leaves_of h older + block_count (weight_in (entries_in older)) (made_here (home older) h made)
+  pub leaves : (h : Home) → leaves_of h newer
+      ≡ leaves_of h older + block_count (weight_in (entries_in older)) (made_here (home older) h made)
   pub items : items_in newer ≡ items_in older ++ map One (made_here (home older) InLayer made)
   pub layer_leaves : leaves_in newer ≡ leaves_in older + block_count (weight_in (entries_in older)) (made_here (home older) InLayer made)

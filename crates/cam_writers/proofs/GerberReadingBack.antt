@@ -28,15 +28,18 @@ left_commands zero commands h = h
 left_commands (suc left) [] h = tt
 left_commands (suc left) (command ∷ commands) h = left_commands left commands h.1
 
-said : (entries : List (ℕ × Entry)) (items : List Item) → IsSoundContent entries items → said_by (commands_before_end entries items) ≡ past_before_end entries items
+said : (entries : List (ℕ × Entry)) (items : List Item) → IsSoundContent entries items
+    → said_by (commands_before_end entries items) ≡ past_before_end entries items
 said entries items sound =
     all_said entries items (entries_fit entries are_said_macros sound.entries)
-    (items_fit entries items sound.entries sound.items (All-weaker (IsSoundItem entries) HasFewCopies (few_copies entries) items sound.items))
+    (items_fit entries items sound.entries sound.items
+    (All-weaker (IsSoundItem entries) HasFewCopies (few_copies entries) items sound.items))
 
 found : (entries : List (ℕ × Entry)) (items : List Item) → IsSoundContent entries items → AreCommands (commands_before_end entries items)
 found entries items sound =
     all_found entries items (entries_fit entries are_said_macros sound.entries)
-    (items_fit entries items sound.entries sound.items (All-weaker (IsSoundItem entries) HasFewCopies (few_copies entries) items sound.items))
+    (items_fit entries items sound.entries sound.items
+    (All-weaker (IsSoundItem entries) HasFewCopies (few_copies entries) items sound.items))
 
 pub tells_its_commands : TellsItsCommands
 tells_its_commands layer left sound =
@@ -49,9 +52,12 @@ gerber_reads_back layer sound =
     let commands : Commands = commands_before_end layer.entries layer.items in
     let past : Past = past_before_end layer.entries layer.items in
     let same : said_by commands ≡ past = said layer.entries layer.items sound in
-    let ended : said_by (word (codes "M02") ∷ commands) ≡ Says End ∷ past = ap (λ s. s ∷ said_by commands) end_says ∙ ap (λ p. Says End ∷ p) same in
+    let ended : said_by (word (codes "M02") ∷ commands) ≡ Says End ∷ past = ap (λ s. s ∷ said_by commands) end_says
+    ∙ ap (λ p. Says End ∷ p) same in
     reads_commands (word (codes "M02")) commands (end_found, found layer.entries layer.items sound)
-    (subst IsFaultless (sym ended) (end_is_faultless layer.entries layer.items sound, past_is_faultless layer.entries layer.items sound)) (subst AreEndless (sym same) (past_is_endless layer.entries layer.items)) (rw end_says refl)
+    (subst IsFaultless (sym ended)
+    (end_is_faultless layer.entries layer.items sound, past_is_faultless layer.entries layer.items sound))
+    (subst AreEndless (sym same) (past_is_endless layer.entries layer.items)) (rw end_says refl)
     ∙ ap (λ p. Ok (layer_in p)) ended ∙ ap Ok (past_is_layer layer.entries layer.items sound)
 
 same_content : (a b : Content) {r : Result Content ReadFault} → r ≡ Ok a → r ≡ Ok b → a ≡ b

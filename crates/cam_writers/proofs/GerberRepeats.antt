@@ -1,5 +1,6 @@
 -- What the commands of blocks and repeats of canonical texts say.
-use Rattle.std.proofs.Common.{◌≡◌, ℕ, ◌<◌, ◌≤◌, List, [], ◌∷◌, ◌++◌, length, true, false, eqb, Some, refl, ap, ◌∙◌, arith, eq-eqb, ne_eqb, codes, decimal}
+use Rattle.std.proofs.Common.{◌≡◌, ℕ, ◌<◌, ◌≤◌, List, [], ◌∷◌, ◌++◌, length, true, false, eqb, Some, refl, ap, ◌∙◌}
+use Rattle.std.proofs.Common.{arith, eq-eqb, ne_eqb, codes, decimal}
 use Rattle.std.specs.Prelude.{ℤ, pos, negsuc, unsigned_abs}
 use Rattle.std.specs.List.{list_all}
 use Rattle.std.proofs.lemmas.Bool.{le-ltb}
@@ -20,7 +21,8 @@ use Rattle.cam_writers.specs.GerberTexts.{says}
 use Rattle.cam_writers.proofs.Decimals.{scaled, natural_again, mm_again, mm_numeric}
 use Rattle.cam_writers.proofs.Saying.{Stops, run_read, run_left, run_alone_read, run_alone_left}
 use Rattle.cam_writers.proofs.GerberPasts.{step_of_nm, opening_of}
-use Rattle.cam_writers.proofs.GerberSayings.{IsCode, code_append, packed_code, extended_found, extended_says, decimal_run, decimal_code, mm_code}
+use Rattle.cam_writers.proofs.GerberSayings.{IsCode, code_append, packed_code, extended_found, extended_says}
+use Rattle.cam_writers.proofs.GerberSayings.{decimal_run, decimal_code, mm_code}
 
 -- ---- fields
 

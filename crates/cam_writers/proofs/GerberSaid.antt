@@ -25,12 +25,27 @@ use Rattle.cam_commands.specs.Commands.{DefineAperture, OpenBlock, CloseBlock, C
 use Rattle.cam_gerber.specs.Statements.{Statement, Says, NamesMacro}
 use Rattle.cam_gerber.specs.State.{Past, dark_in, mirror_in, rotation_in, aperture_in, mode_in, point_in}
 use Rattle.cam_gerber.specs.Faults.{is_same_point}
-use Rattle.cam_writers.specs.Commands.{word, mirror_of, rotation_of, polarity_command, mirror_command, rotation_command, selection_command, mode_command, move_command, flash_command, line_command, arc_command, macro_name, macro_command, definition_command, open_block, close_block, open_repeat, close_repeat}
-use Rattle.cam_writers.specs.GerberTexts.{Commands, says, said_by, opening, is_same_polarity, is_same_turn, is_selected, is_same_mode, arc_mode, with_polarity, with_turn, with_aperture, with_mode, with_start, with_segments, with_contour, with_object, with_objects, with_macro, with_entry, with_item, with_entries, commands_before_end}
-use Rattle.cam_writers.proofs.GerberPasts.{definition_text, opening_of, move_to, flash_at, line_to, arc_to, past_polarity, past_turn, past_aperture, past_mode, past_start, past_segments, past_contour, past_object, past_objects, past_macro, past_entry, past_item, past_opening, past_entries, past_before_end, parts_for}
-use Rattle.cam_writers.proofs.GerberSettings.{polarity_says, polarity_found, mirror_says, mirror_found, rotation_says, rotation_found, selection_says, selection_found, mode_says, mode_found, region_begun, region_begun_found, region_ended, region_ended_found, opening_says, opening_found}
+use Rattle.cam_writers.specs.Commands.{word, mirror_of, rotation_of, polarity_command, mirror_command, rotation_command}
+use Rattle.cam_writers.specs.Commands.{selection_command, mode_command, move_command, flash_command, line_command}
+use Rattle.cam_writers.specs.Commands.{arc_command, macro_name, macro_command, definition_command, open_block}
+use Rattle.cam_writers.specs.Commands.{close_block, open_repeat, close_repeat}
+use Rattle.cam_writers.specs.GerberTexts.{Commands, says, said_by, opening, is_same_polarity, is_same_turn, is_selected}
+use Rattle.cam_writers.specs.GerberTexts.{is_same_mode, arc_mode, with_polarity, with_turn, with_aperture, with_mode}
+use Rattle.cam_writers.specs.GerberTexts.{with_start, with_segments, with_contour, with_object, with_objects}
+use Rattle.cam_writers.specs.GerberTexts.{with_macro, with_entry, with_item, with_entries, commands_before_end}
+use Rattle.cam_writers.proofs.GerberPasts.{definition_text, opening_of, move_to, flash_at, line_to, arc_to}
+use Rattle.cam_writers.proofs.GerberPasts.{past_polarity, past_turn, past_aperture, past_mode, past_start}
+use Rattle.cam_writers.proofs.GerberPasts.{past_segments, past_contour, past_object, past_objects, past_macro}
+use Rattle.cam_writers.proofs.GerberPasts.{past_entry, past_item, past_opening, past_entries, past_before_end}
+use Rattle.cam_writers.proofs.GerberPasts.{parts_for}
+use Rattle.cam_writers.proofs.GerberSettings.{polarity_says, polarity_found, mirror_says, mirror_found, rotation_says}
+use Rattle.cam_writers.proofs.GerberSettings.{rotation_found, selection_says, selection_found, mode_says, mode_found}
+use Rattle.cam_writers.proofs.GerberSettings.{region_begun, region_begun_found, region_ended, region_ended_found}
+use Rattle.cam_writers.proofs.GerberSettings.{opening_says, opening_found}
 use Rattle.cam_writers.proofs.GerberOperations.{move_says, move_found, flash_says, flash_found, line_says, line_found, arc_says, arc_found}
-use Rattle.cam_writers.proofs.GerberRepeats.{IsWritableRepeat, open_block_says, open_block_found, close_block_says, close_block_found, open_repeat_says, open_repeat_found, close_repeat_says, close_repeat_found}
+use Rattle.cam_writers.proofs.GerberRepeats.{IsWritableRepeat, open_block_says, open_block_found, close_block_says}
+use Rattle.cam_writers.proofs.GerberRepeats.{close_block_found, open_repeat_says, open_repeat_found, close_repeat_says}
+use Rattle.cam_writers.proofs.GerberRepeats.{close_repeat_found}
 use Rattle.cam_writers.proofs.GerberDefinitions.{definition_says, definition_found}
 
 -- ---- what can be written

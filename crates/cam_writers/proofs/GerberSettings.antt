@@ -12,9 +12,13 @@ use Rattle.cam_commands.specs.declared.parts.Mode.{Mode}
 use Rattle.cam_commands.specs.declared.parts.Mode.TheVariants.{Linear, Clockwise, Counterclockwise}
 use Rattle.cam_commands.specs.declared.names.Name.TheVariants.{FormatSpecification, UnitMode, LoadPolarity, LoadMirroring, LoadRotation}
 use Rattle.cam_commands.specs.Fields.{field}
-use Rattle.cam_commands.specs.Commands.{SetFormat, SetUnit, SetPolarity, SetMirror, SetRotation, SetMode, MultiQuadrant, BeginRegion, EndRegion, End, Select}
-use Rattle.cam_commands.specs.WordCommands.{Parts, word_command, by_function, function, mode_of, lone_function, program_code, operation_code, selection, operation_of}
-use Rattle.cam_commands.specs.ExtendedCommands.{named_command, polarity_command as load_polarity, mirror_command as load_mirroring, rotation_command as load_rotation, format_command, format_of_axes, format_of, unit_command}
+use Rattle.cam_commands.specs.Commands.{SetFormat, SetUnit, SetPolarity, SetMirror, SetRotation, SetMode, MultiQuadrant}
+use Rattle.cam_commands.specs.Commands.{BeginRegion, EndRegion, End, Select}
+use Rattle.cam_commands.specs.WordCommands.{Parts, word_command, by_function, function, mode_of, lone_function}
+use Rattle.cam_commands.specs.WordCommands.{program_code, operation_code, selection, operation_of}
+use Rattle.cam_commands.specs.ExtendedCommands.{named_command, polarity_command as load_polarity}
+use Rattle.cam_commands.specs.ExtendedCommands.{mirror_command as load_mirroring, rotation_command as load_rotation}
+use Rattle.cam_commands.specs.ExtendedCommands.{format_command, format_of_axes, format_of, unit_command}
 use Rattle.cam_commands.specs.Laws.{AreRuns}
 use Rattle.cam_commands.proofs.Written.{words_say_their_parts}
 use Rattle.cam_words.specs.Heads.{behind_head}

@@ -14,9 +14,11 @@ use Rattle.cam_commands.specs.declared.parts.Format.{Format}
 use Rattle.cam_commands.specs.declared.parts.Mode.{Mode}
 use Rattle.cam_commands.specs.declared.parts.Slot.{Slot}
 use Rattle.cam_commands.specs.declared.parts.OperationCode.{OperationCode}
-use Rattle.cam_commands.specs.Commands.{DefineAperture, SetPolarity, SetMirror, SetRotation, SetMode, Select, OpenBlock, CloseBlock, CloseRepeat, BeginRegion, EndRegion}
+use Rattle.cam_commands.specs.Commands.{DefineAperture, SetPolarity, SetMirror, SetRotation, SetMode, Select, OpenBlock}
+use Rattle.cam_commands.specs.Commands.{CloseBlock, CloseRepeat, BeginRegion, EndRegion}
 use Rattle.cam_gerber.specs.Statements.{Statement, Says, NamesMacro}
-use Rattle.cam_gerber.specs.State.{Past, format_in, unit_in, dark_in, mirror_in, rotation_in, aperture_in, mode_in, point_in, is_dark, turn_of_mirror, turn_of_angle, coordinate_nm}
+use Rattle.cam_gerber.specs.State.{Past, format_in, unit_in, dark_in, mirror_in, rotation_in, aperture_in, mode_in}
+use Rattle.cam_gerber.specs.State.{point_in, is_dark, turn_of_mirror, turn_of_angle, coordinate_nm}
 use Rattle.cam_writers.specs.declared.gerber_state.GerberText.{GerberText}
 use Rattle.cam_writers.specs.Commands.{mirror_of, rotation_of}
 use Rattle.cam_writers.specs.Machinery.GerberTracking.{TracksPast}

@@ -26,16 +26,24 @@ use Rattle.cam_commands.specs.declared.parts.Mode.TheVariants.{Linear}
 use Rattle.cam_gerber.specs.Statements.{Statement}
 use Rattle.cam_gerber.specs.State.{Past, mirror_in, rotation_in}
 use Rattle.cam_writers.specs.declared.gerber_state.GerberText.{GerberText}
-use Rattle.cam_writers.specs.Commands.{mirror_of, rotation_of, polarity_command, mirror_command, rotation_command, selection_command, mode_command, move_command, flash_command, line_command, arc_command, word, extended, primitive_text, macro_name, definition_command, macro_command, open_block, close_block, open_repeat, close_repeat}
-use Rattle.cam_writers.specs.GerberTexts.{Commands, text_of, says, said_by, is_same_polarity, is_same_turn, is_selected, is_same_mode, with_polarity, with_mirror, with_rotation, with_aperture, with_mode, with_macro, opening}
+use Rattle.cam_writers.specs.Commands.{mirror_of, rotation_of, polarity_command, mirror_command, rotation_command}
+use Rattle.cam_writers.specs.Commands.{selection_command, mode_command, move_command, flash_command, line_command}
+use Rattle.cam_writers.specs.Commands.{arc_command, word, extended, primitive_text, macro_name, definition_command}
+use Rattle.cam_writers.specs.Commands.{macro_command, open_block, close_block, open_repeat, close_repeat}
+use Rattle.cam_writers.specs.GerberTexts.{Commands, text_of, says, said_by, is_same_polarity, is_same_turn, is_selected}
+use Rattle.cam_writers.specs.GerberTexts.{is_same_mode, with_polarity, with_mirror, with_rotation, with_aperture}
+use Rattle.cam_writers.specs.GerberTexts.{with_mode, with_macro, opening}
 use Rattle.cam_writers.specs.Machinery.Writing.{line_of}
 use Rattle.cam_writers.specs.Machinery.GerberTracking.{TracksPast, TracksCommands, IsWritableGrid}
 use Rattle.cam_writers.proofs.GerberPasts.{definition_text}
-use Rattle.cam_writers.proofs.GerberSettings.{polarity_says, mirror_says, rotation_says, selection_says, mode_says, region_begun, region_ended, opening_says}
+use Rattle.cam_writers.proofs.GerberSettings.{polarity_says, mirror_says, rotation_says, selection_says, mode_says}
+use Rattle.cam_writers.proofs.GerberSettings.{region_begun, region_ended, opening_says}
 use Rattle.cam_writers.proofs.GerberOperations.{move_says, flash_says, line_says, arc_says}
 use Rattle.cam_writers.proofs.GerberRepeats.{open_block_says, close_block_says, open_repeat_says, close_repeat_says}
 use Rattle.cam_writers.proofs.GerberDefinitions.{definition_says}
-use Rattle.cam_writers.proofs.GerberStates.{after_polarity, after_mirror, after_rotation, after_selection, after_mode, after_operation, SetsNothing, region_begins, region_ends, block_opens, block_closes, repeat_opens, repeat_closes, aperture_defined, macro_named}
+use Rattle.cam_writers.proofs.GerberStates.{after_polarity, after_mirror, after_rotation, after_selection, after_mode}
+use Rattle.cam_writers.proofs.GerberStates.{after_operation, SetsNothing, region_begins, region_ends, block_opens}
+use Rattle.cam_writers.proofs.GerberStates.{block_closes, repeat_opens, repeat_closes, aperture_defined, macro_named}
 
 -- a text with the line of one command more
 abbrev pub IsLonger : Command → GerberText → Vec ℕ → Type 0

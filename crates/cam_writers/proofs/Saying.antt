@@ -1,5 +1,6 @@
 -- What the lines of a canonical text say.
-use Rattle.std.proofs.Common.{◌≡◌, ℕ, ◌^◌, ◌<◌, ◌≤◌, List, [], ◌∷◌, ◌++◌, length, drop, Bool, true, false, eqb, Some, refl, ap, ◌∙◌, arith, codes, decimal}
+use Rattle.std.proofs.Common.{◌≡◌, ℕ, ◌^◌, ◌<◌, ◌≤◌, List, [], ◌∷◌, ◌++◌, length, drop, Bool, true, false, eqb, Some}
+use Rattle.std.proofs.Common.{refl, ap, ◌∙◌, arith, codes, decimal}
 use Rattle.std.specs.Prelude.{ℤ, not, ◌&&◌, nat_le, ◌==◌, unsigned_abs}
 use Rattle.std.specs.List.{list_all, list_any, prefix_len, position_or_len, AllByRecursion}
 use Rattle.std.proofs.lemmas.List.{take_at, drop_at, take_all}
@@ -9,14 +10,17 @@ use Rattle.cam_units.specs.declared.length.Nm.{Nm}
 use Rattle.cam_units.specs.declared.length.Unit.TheVariants.{Mm}
 use Rattle.cam_units.specs.declared.point.Point.{Point}
 use Rattle.cam_units.specs.Board.{IsOnBoard}
-use Rattle.cam_xnc.specs.declared.statement.Statement.TheVariants.{BeginHeader, SetUnit, Declare, EndHeader, Select, DrillMode, HitAt, RoutTo, Lower, CutTo, Raise, End}
+use Rattle.cam_xnc.specs.declared.statement.Statement.TheVariants.{BeginHeader, SetUnit, Declare, EndHeader, Select}
+use Rattle.cam_xnc.specs.declared.statement.Statement.TheVariants.{DrillMode, HitAt, RoutTo, Lower, CutTo, Raise, End}
 use Rattle.cam_xnc.specs.declared.statement.Coordinate.TheVariants.{Written}
 use Rattle.cam_xnc.specs.Bytes.{is_line_end, is_skipped, is_semicolon, is_bad, code_of, packed, is_blank}
 use Rattle.cam_numbers.specs.Numbers.{is_numeric, run_of, behind_run}
-use Rattle.cam_xnc.specs.Syntax.{field, coordinate, coordinates_of, with_coordinates, tool_by, tool_statement, rout_statement, other_statement, statement_of}
+use Rattle.cam_xnc.specs.Syntax.{field, coordinate, coordinates_of, with_coordinates, tool_by, tool_statement}
+use Rattle.cam_xnc.specs.Syntax.{rout_statement, other_statement, statement_of}
 use Rattle.cam_writers.specs.Lengths.{mm}
 use Rattle.cam_writers.specs.DrillTexts.{tool_line, declaration, point_line}
-use Rattle.cam_writers.proofs.Decimals.{scaled, digits_of_decimal, digits_numeric, mm_again, mm_pointed, mm_numeric, selected_again, declared_again}
+use Rattle.cam_writers.proofs.Decimals.{scaled, digits_of_decimal, digits_numeric, mm_again, mm_pointed, mm_numeric}
+use Rattle.cam_writers.proofs.Decimals.{selected_again, declared_again}
 
 -- runs
 
@@ -58,11 +62,13 @@ drop_all (d ∷ run) = drop_all run
 pub run_alone_left : (run : List ℕ) → list_all is_numeric run ≡ true → behind_run run ≡ []
 run_alone_left run all = rw (run_alone run all) (drop_all run)
 
-field_read : (letter : ℕ) (run rest : List ℕ) → eqb letter letter ≡ true → list_all is_numeric run ≡ true → Stops rest → field letter (letter ∷ (run ++ rest)) ≡ (Some run, rest)
+field_read : (letter : ℕ) (run rest : List ℕ) → eqb letter letter ≡ true → list_all is_numeric run ≡ true → Stops rest
+    → field letter (letter ∷ (run ++ rest)) ≡ (Some run, rest)
 unfolding field
 field_read letter run rest same all stops = rw (same, run_read run rest all stops, run_left run rest all stops) refl
 
-field_alone : (letter : ℕ) (run : List ℕ) → eqb letter letter ≡ true → list_all is_numeric run ≡ true → field letter (letter ∷ run) ≡ (Some run, [])
+field_alone : (letter : ℕ) (run : List ℕ) → eqb letter letter ≡ true → list_all is_numeric run ≡ true
+    → field letter (letter ∷ run) ≡ (Some run, [])
 unfolding field
 field_alone letter run same all = rw (same, run_alone_read run all, run_alone_left run all) refl
 
@@ -76,7 +82,8 @@ y_stops : (rest : List ℕ) → Stops (89 ∷ rest)
 unfolding is_numeric
 y_stops rest = refl
 
-coordinates_again : (x y : ℤ) → unsigned_abs x < 10 ^ 12 → unsigned_abs y < 10 ^ 12 → coordinates_of (88 ∷ (mm x ++ 89 ∷ mm y)) ≡ Some (Written (scaled x), Written (scaled y))
+coordinates_again : (x y : ℤ) → unsigned_abs x < 10 ^ 12 → unsigned_abs y < 10 ^ 12
+    → coordinates_of (88 ∷ (mm x ++ 89 ∷ mm y)) ≡ Some (Written (scaled x), Written (scaled y))
 unfolding coordinates_of
 coordinates_again x y hx hy =
     let fx = field_read 88 (mm x) (89 ∷ mm y) refl (mm_numeric x hx) (y_stops (mm y)) in
@@ -87,7 +94,8 @@ pub hit_says : (p : Point) → IsOnBoard p → statement_of (point_line [] p) �
 unfolding point_line statement_of
 hit_says p on = ap (with_coordinates HitAt) (coordinates_again p.x p.y (omega (arith, on.x)) (omega (arith, on.y)))
 
-pub start_says : (p : Point) → IsOnBoard p → statement_of (point_line (codes "G00") p) ≡ RoutTo (Written (scaled p.x)) (Written (scaled p.y))
+pub start_says : (p : Point) → IsOnBoard p → statement_of (point_line (codes "G00") p)
+    ≡ RoutTo (Written (scaled p.x)) (Written (scaled p.y))
 unfolding point_line statement_of other_statement rout_statement
 start_says p on = ap (with_coordinates RoutTo) (coordinates_again p.x p.y (omega (arith, on.x)) (omega (arith, on.y)))
 
@@ -115,11 +123,13 @@ declared_by : (run : List ℕ) (size : List ℕ) → list_all is_numeric run ≡
 unfolding tool_statement
 declared_by run size all sizes = rw (run_read run (67 ∷ size) all (c_stops size), run_left run (67 ∷ size) all (c_stops size)) refl
 
-pub declaration_says : (n : ℕ) (d : Nm) → 1 ≤ n → n ≤ 9999 → unsigned_abs d.0 < 10 ^ 12 → statement_of (declaration (n, d)) ≡ Declare (Some n) (Some (scaled d.0))
+pub declaration_says : (n : ℕ) (d : Nm) → 1 ≤ n → n ≤ 9999 → unsigned_abs d.0 < 10 ^ 12
+    → statement_of (declaration (n, d)) ≡ Declare (Some n) (Some (scaled d.0))
 unfolding declaration statement_of tool_by
 declaration_says n d some h small =
     let sizes = mm_numeric d.0 small in
-    declared_by (decimal n) (mm d.0) (decimal_numeric n (omega arith)) sizes ∙ rw (run_alone_left (mm d.0) sizes, declared_again n some h, mm_again d.0 small) refl
+    declared_by (decimal n) (mm d.0) (decimal_numeric n (omega arith)) sizes
+    ∙ rw (run_alone_left (mm d.0) sizes, declared_again n some h, mm_again d.0 small) refl
 
 -- words
 
@@ -246,4 +256,5 @@ tool_plain n h = plain_line 84 (decimal n) (decimal_plain n (omega arith))
 pub declaration_plain : (n : ℕ) (d : Nm) → n ≤ 9999 → unsigned_abs d.0 < 10 ^ 12 → IsPlainLine (declaration (n, d))
 unfolding declaration
 declaration_plain n d h small =
-    plain_line 84 (decimal n ++ 67 ∷ mm d.0) (list_all-append is_plain (decimal n) (67 ∷ mm d.0) ∙ rw (decimal_plain n (omega arith), mm_plain d.0 small) refl)
+    plain_line 84 (decimal n ++ 67 ∷ mm d.0)
+    (list_all-append is_plain (decimal n) (67 ∷ mm d.0) ∙ rw (decimal_plain n (omega arith), mm_plain d.0 small) refl)

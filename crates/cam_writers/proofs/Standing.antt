@@ -1,5 +1,6 @@
 -- Pasts of canonical texts: what their lines say has no fault, and makes the tools and the items so far.
-use Rattle.std.proofs.Common.{◌≡◌, ℕ, ◌+◌, ◌<◌, ◌≤◌, List, [], ◌∷◌, ◌++◌, length, Bool, true, false, cond, eqb, ltb, leb, Option, Some, None, refl, arith, is_some, nat_eq, sum_by}
+use Rattle.std.proofs.Common.{◌≡◌, ℕ, ◌+◌, ◌<◌, ◌≤◌, List, [], ◌∷◌, ◌++◌, length, Bool, true, false, cond, eqb, ltb}
+use Rattle.std.proofs.Common.{leb, Option, Some, None, refl, arith, is_some, nat_eq, sum_by}
 use Rattle.std.specs.Prelude.{ℤ, pos, negsuc, ◌≤ℤ◌, unsigned_abs}
 use Rattle.std.specs.List.{AllByRecursion, IsDistinct}
 use Rattle.std.specs.Map.{keys_of}
@@ -16,7 +17,8 @@ use Rattle.cam_objects.specs.Drilling.{diameter_of}
 use Rattle.cam_objects.specs.DrillSoundness.{IsSoundTool, drill_count_from, drill_count_of}
 use Rattle.cam_xnc.specs.declared.modes.Part.TheVariants.{Header, Body}
 use Rattle.cam_xnc.specs.declared.modes.Mode.TheVariants.{Lowered}
-use Rattle.cam_xnc.specs.declared.statement.Statement.TheVariants.{BeginHeader, SetUnit, Declare, EndHeader, Select, DrillMode, HitAt, RoutTo, Lower, CutTo, Raise}
+use Rattle.cam_xnc.specs.declared.statement.Statement.TheVariants.{BeginHeader, SetUnit, Declare, EndHeader, Select}
+use Rattle.cam_xnc.specs.declared.statement.Statement.TheVariants.{DrillMode, HitAt, RoutTo, Lower, CutTo, Raise}
 use Rattle.cam_xnc.specs.declared.statement.Coordinate.{Coordinate}
 use Rattle.cam_xnc.specs.declared.statement.Coordinate.TheVariants.{Written}
 use Rattle.cam_xnc.specs.DrillState.{Past, part_in, unit_in, mode_in, tool_in, tools_in, items_in, points_in, length_nm}
@@ -65,7 +67,8 @@ sound_diameter (pos n) low high =
     at_least {a} {b} h = grind (arith, nat_tests)
 sound_diameter (negsuc n) low high = absurd (omega (arith, ints))
 
-pub declared : (past : Past) (ts : List (ℕ × Nm)) (n : ℕ) (d : Nm) → IsHeader past ts → IsSoundTool n d → diameter_of ts n ≡ None → IsHeader (Declare (Some n) (Some (scaled d.0)) ∷ past) (ts ++ (n, d) ∷ [])
+pub declared : (past : Past) (ts : List (ℕ × Nm)) (n : ℕ) (d : Nm) → IsHeader past ts → IsSoundTool n d → diameter_of ts n ≡ None
+    → IsHeader (Declare (Some n) (Some (scaled d.0)) ∷ past) (ts ++ (n, d) ∷ [])
 declared past ts n d h sound fresh =
     let e : length_nm (unit_in past) (scaled d.0) ≡ d.0 = same_nm (unit_in past) d.0 h.unit in
     record {
@@ -82,7 +85,8 @@ abbrev pub AreFresh : List (ℕ × Nm) → List (ℕ × Nm) → Type 0
 AreFresh before [] = Unit {0}
 AreFresh before (t ∷ ts) = (diameter_of before t.0 ≡ None) × AreFresh (before ++ t ∷ []) ts
 
-none_more : (before : List (ℕ × Nm)) (t : ℕ × Nm) (n : ℕ) → diameter_of before n ≡ None → nat_eq n t.0 ≡ false → diameter_of (before ++ t ∷ []) n ≡ None
+none_more : (before : List (ℕ × Nm)) (t : ℕ × Nm) (n : ℕ) → diameter_of before n ≡ None → nat_eq n t.0 ≡ false
+    → diameter_of (before ++ t ∷ []) n ≡ None
 none_more [] t n h other = rw other refl
 none_more (b ∷ before) t n h other = by (nat_eq n b.0) (none_more before t n) h
   where
@@ -94,12 +98,15 @@ none_more (b ∷ before) t n h other = by (nat_eq n b.0) (none_more before t n) 
 turned_round : (a b : ℕ) → nat_eq a b ≡ false → nat_eq b a ≡ false
 turned_round a b h = grind (arith, nat_tests)
 
-later_fresh : (before : List (ℕ × Nm)) (t : ℕ × Nm) (ts : List (ℕ × Nm)) → AllByRecursion (λ (u : ℕ × Nm). diameter_of before u.0 ≡ None) ts → AllByRecursion (λ (n : ℕ). nat_eq t.0 n ≡ false) (keys_of ts)
+later_fresh : (before : List (ℕ × Nm)) (t : ℕ × Nm) (ts : List (ℕ × Nm))
+    → AllByRecursion (λ (u : ℕ × Nm). diameter_of before u.0 ≡ None) ts → AllByRecursion (λ (n : ℕ). nat_eq t.0 n ≡ false) (keys_of ts)
     → AllByRecursion (λ (u : ℕ × Nm). diameter_of (before ++ t ∷ []) u.0 ≡ None) ts
 later_fresh before t [] old apart = tt
-later_fresh before t (u ∷ ts) old apart = (none_more before t u.0 old.0 (turned_round t.0 u.0 apart.0), later_fresh before t ts old.1 apart.1)
+later_fresh before t (u ∷ ts) old apart =
+    (none_more before t u.0 old.0 (turned_round t.0 u.0 apart.0), later_fresh before t ts old.1 apart.1)
 
-fresh_behind : (before ts : List (ℕ × Nm)) → AllByRecursion (λ (u : ℕ × Nm). diameter_of before u.0 ≡ None) ts → IsDistinct nat_eq (keys_of ts) → AreFresh before ts
+fresh_behind : (before ts : List (ℕ × Nm)) → AllByRecursion (λ (u : ℕ × Nm). diameter_of before u.0 ≡ None) ts
+    → IsDistinct nat_eq (keys_of ts) → AreFresh before ts
 unfolding IsDistinct
 fresh_behind before [] old apart = tt
 fresh_behind before (t ∷ ts) old apart = (old.0, fresh_behind (before ++ t ∷ []) ts (later_fresh before t ts old.1 apart.0) apart.1)
@@ -146,7 +153,8 @@ pub record HasTool (past : Past) (ts : List (ℕ × Nm)) (is : List DrillItem) (
   pub stands : Stands past ts is
   pub tool : tool_in past ≡ Some n
 
-pub selected : (past : Past) (ts : List (ℕ × Nm)) (is : List DrillItem) (n : ℕ) → Stands past ts is → is_some (diameter_of ts n) ≡ true → eqb n 0 ≡ false → HasTool (Select (Some n) ∷ past) ts is n
+pub selected : (past : Past) (ts : List (ℕ × Nm)) (is : List DrillItem) (n : ℕ) → Stands past ts is
+    → is_some (diameter_of ts n) ≡ true → eqb n 0 ≡ false → HasTool (Select (Some n) ∷ past) ts is n
 selected past ts is n h known some = record {
   stands = record {
     faultless = (rw (h.part, h.tools, known, some, h.raised) refl, refl, h.faultless);
@@ -174,7 +182,8 @@ within p on = record { x = below on.x; y = below on.y }
     below : {a b : ℕ} → a < b → ltb a b ≡ true
     below {a} {b} h = grind (arith, nat_tests)
 
-pub hit_made : (past : Past) (ts : List (ℕ × Nm)) (is : List DrillItem) (n : ℕ) (p : Point) → HasTool past ts is n → is_drilling (mode_in past) ≡ true → IsOnBoard p → HasRoom is 1
+pub hit_made : (past : Past) (ts : List (ℕ × Nm)) (is : List DrillItem) (n : ℕ) (p : Point) → HasTool past ts is n
+    → is_drilling (mode_in past) ≡ true → IsOnBoard p → HasRoom is 1
     → Stands (HitAt (at_x p) (at_y p) ∷ past) ts (is ++ Hit n p ∷ [])
 hit_made past ts is n p h mode on room =
     let s = h.stands in
@@ -201,7 +210,8 @@ pub record Cuts (past : Past) (ts : List (ℕ × Nm)) (is : List DrillItem) (n :
   pub mode : mode_in past ≡ Lowered
   pub points_are : points_in past ≡ points
 
-pub rout_begun : (past : Past) (ts : List (ℕ × Nm)) (is : List DrillItem) (n : ℕ) (p : Point) → HasTool past ts is n → IsOnBoard p → Cuts (Lower ∷ RoutTo (at_x p) (at_y p) ∷ past) ts is n (p ∷ [])
+pub rout_begun : (past : Past) (ts : List (ℕ × Nm)) (is : List DrillItem) (n : ℕ) (p : Point) → HasTool past ts is n → IsOnBoard p
+    → Cuts (Lower ∷ RoutTo (at_x p) (at_y p) ∷ past) ts is n (p ∷ [])
 rout_begun past ts is n p h on =
     let s = h.stands in
     let ex = same_nm (unit_in past) p.x s.unit in
@@ -218,7 +228,8 @@ rout_begun past ts is n p h on =
       points_are = rw (ex, ey) refl;
     }
 
-pub cut_made : (past : Past) (ts : List (ℕ × Nm)) (is : List DrillItem) (n : ℕ) (points : List Point) (p : Point) → Cuts past ts is n points → IsOnBoard p → leb 1000000 (length points) ≡ false
+pub cut_made : (past : Past) (ts : List (ℕ × Nm)) (is : List DrillItem) (n : ℕ) (points : List Point) (p : Point)
+    → Cuts past ts is n points → IsOnBoard p → leb 1000000 (length points) ≡ false
     → Cuts (CutTo (at_x p) (at_y p) ∷ past) ts is n (points ++ p ∷ [])
 cut_made past ts is n points p h on few =
     let ex = same_nm (unit_in past) p.x h.unit in
@@ -235,7 +246,8 @@ cut_made past ts is n points p h on few =
       points_are = rw (h.points_are, ex, ey) refl;
     }
 
-pub rout_made : (past : Past) (ts : List (ℕ × Nm)) (is : List DrillItem) (n : ℕ) (points : List Point) → Cuts past ts is n points → HasRoom is (drill_count_from points)
+pub rout_made : (past : Past) (ts : List (ℕ × Nm)) (is : List DrillItem) (n : ℕ) (points : List Point) → Cuts past ts is n points
+    → HasRoom is (drill_count_from points)
     → Stands (Raise ∷ past) ts (is ++ Rout n points ∷ [])
 rout_made past ts is n points h room = record {
   faultless = (rw (h.part, h.mode, h.items, h.points_are, room.few, room.leaves) refl, refl, h.faultless);

@@ -27,7 +27,10 @@ use Rattle.cam_gerber.specs.Statements.{Statement}
 use Rattle.cam_gerber.specs.State.{Past, dark_in, mirror_in, rotation_in, aperture_in, mode_in, point_in}
 use Rattle.cam_gerber.specs.Faults.{is_same_point}
 use Rattle.cam_gerber.specs.Computing.{statement_of}
-use Rattle.cam_writers.specs.Commands.{word, extended, polarity_command, mirror_of, mirror_command, rotation_of, rotation_command, selection_command, mode_command, move_command, flash_command, line_command, arc_command, definition_command, macro_command, open_block, close_block, open_repeat, close_repeat}
+use Rattle.cam_writers.specs.Commands.{word, extended, polarity_command, mirror_of, mirror_command, rotation_of}
+use Rattle.cam_writers.specs.Commands.{rotation_command, selection_command, mode_command, move_command, flash_command}
+use Rattle.cam_writers.specs.Commands.{line_command, arc_command, definition_command, macro_command, open_block}
+use Rattle.cam_writers.specs.Commands.{close_block, open_repeat, close_repeat}
 
 -- the commands of a text so far, the newest first
 abbrev pub Commands : Type 0

@@ -7,7 +7,8 @@ use Rattle.cam_words.specs.Reading.{reading}
 use Rattle.cam_gerber.specs.Computing.{told_of, reading_of as gerber_reading}
 use Rattle.cam_xnc.specs.Reading.{said, told_lines, reading_of as drill_reading}
 use Rattle.cam_writers.specs.DrillTexts.{Lines, text_of, said_by, lines_before_end, drill_text}
-use Rattle.cam_writers.specs.GerberTexts.{Commands, text_of as gerber_text_of, said_by as said_by_commands, commands_before_end, gerber_text}
+use Rattle.cam_writers.specs.GerberTexts.{Commands, text_of as gerber_text_of, said_by as said_by_commands}
+use Rattle.cam_writers.specs.GerberTexts.{commands_before_end, gerber_text}
 
 -- what the reader has read of the text of these lines is what they say
 abbrev pub IsTold : Lines → Type 0

@@ -5,7 +5,8 @@ ghost use Rattle.cam_units.specs.Board.{IsOnBoard};
 ghost use Rattle.cam_objects.specs.DrillSoundness.{IsSoundDrillLayer, drill_points_of, tool_of};
 ghost use Rattle.cam_xnc.specs.Reading.{reading_of};
 ghost use Rattle.cam_writers.specs.DrillTexts.{Lines, declaration, drill_text, opening, point_line, text_of, tool_line};
-ghost use Rattle.cam_writers.specs.DrillTexts.{with_cuts, with_drill_mode, with_hit, with_item, with_rout, with_selected, with_tools};
+ghost use Rattle.cam_writers.specs.DrillTexts.{with_cuts, with_drill_mode, with_hit, with_item, with_rout};
+ghost use Rattle.cam_writers.specs.DrillTexts.{with_selected, with_tools};
 ghost use Rattle.cam_writers.specs.Machinery.Tracking.{AreSoundTools, IsInRange, Tracks};
 ghost use Rattle.cam_objects.specs.Contents.{drill_content_of};
 

@@ -2,7 +2,10 @@
 
 ghost use Rattle.std.specs.Prelude.{◌≡◌, ◌++◌, ◌-ℤ◌, OnOk};
 ghost use Rattle.cam_units.specs.Board.{IsOnBoard};
-ghost use Rattle.cam_writers.specs.Commands.{arc_command, coordinates, extended, flash_command, line_command, mirror_command, mode_command, move_command, offsets, open_block, open_repeat, polarity_command, rotation_command, selection_command, word};
+ghost use Rattle.cam_writers.specs.Commands.{arc_command, coordinates, extended, flash_command, line_command};
+ghost use Rattle.cam_writers.specs.Commands.{mirror_command, mode_command, move_command, offsets, open_block};
+ghost use Rattle.cam_writers.specs.Commands.{open_repeat, polarity_command, rotation_command, selection_command};
+ghost use Rattle.cam_writers.specs.Commands.{word};
 ghost use Rattle.cam_writers.specs.Machinery.Writing.{line_of, steps_text};
 
 use crate::lengths::{push_mm, push_number, push_whole};

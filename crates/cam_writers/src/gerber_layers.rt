@@ -6,8 +6,10 @@ ghost use Rattle.cam_apertures.specs.Soundness.{IsSoundAperture};
 ghost use Rattle.cam_objects.specs.Soundness.{IsSound, IsSoundDictionary};
 ghost use Rattle.cam_objects.specs.Contents.{content_of};
 ghost use Rattle.cam_gerber.specs.Computing.{reading_of};
-ghost use Rattle.cam_writers.specs.GerberTexts.{Commands, gerber_text, opening, with_entries, with_entry, with_item, with_macro};
-ghost use Rattle.cam_writers.specs.Machinery.GerberTracking.{IsWritableEntry, IsWritableGrid, IsWritableItem, IsWritableObject, TracksCommands};
+ghost use Rattle.cam_writers.specs.GerberTexts.{Commands, gerber_text, opening, with_entries, with_entry, with_item};
+ghost use Rattle.cam_writers.specs.GerberTexts.{with_macro};
+ghost use Rattle.cam_writers.specs.Machinery.GerberTracking.{IsWritableEntry, IsWritableGrid, IsWritableItem};
+ghost use Rattle.cam_writers.specs.Machinery.GerberTracking.{IsWritableObject, TracksCommands};
 
 use crate::gerber_apertures::push_definition;
 use crate::gerber_commands::{Grid, push_extended, push_open_block, push_open_repeat, push_word};

@@ -4,7 +4,8 @@ ghost use Rattle.std.specs.Prelude.{◌≡◌, ◌++◌, OnOk};
 ghost use Rattle.std.specs.List.{flat_map};
 ghost use Rattle.cam_writers.specs.Commands.{macro_command, point_fields, primitive_text, shape_code, shape_fields};
 ghost use Rattle.cam_writers.specs.Lengths.{mm};
-ghost use Rattle.cam_writers.specs.Machinery.Writing.{behind_comma, fields_text, line_of, outline_fields, primitive_lines};
+ghost use Rattle.cam_writers.specs.Machinery.Writing.{behind_comma, fields_text, line_of, outline_fields};
+ghost use Rattle.cam_writers.specs.Machinery.Writing.{primitive_lines};
 
 use crate::gerber_apertures::push_macro_name;
 use crate::lengths::{push_mm, push_number};

@@ -2,8 +2,10 @@
 
 ghost use Rattle.std.specs.Prelude.{◌≡◌, All, OnOk};
 ghost use Rattle.cam_units.specs.Board.{IsOnBoard};
-ghost use Rattle.cam_writers.specs.GerberTexts.{Commands, arc_mode, end_of, with_contour, with_object, with_objects, with_segment, with_segments};
-ghost use Rattle.cam_writers.specs.Machinery.GerberTracking.{IsWritableContour, IsWritableObject, IsWritableSegment, TracksCommands};
+ghost use Rattle.cam_writers.specs.GerberTexts.{Commands, arc_mode, end_of, with_contour, with_object, with_objects};
+ghost use Rattle.cam_writers.specs.GerberTexts.{with_segment, with_segments};
+ghost use Rattle.cam_writers.specs.Machinery.GerberTracking.{IsWritableContour, IsWritableObject, IsWritableSegment};
+ghost use Rattle.cam_writers.specs.Machinery.GerberTracking.{TracksCommands};
 
 use crate::gerber_commands::push_word;
 use crate::gerber_state::GerberText;

@@ -4,8 +4,11 @@ ghost use Rattle.std.specs.Prelude.{◌≡◌, ◌∷◌, IfOk, OnOk};
 ghost use Rattle.cam_units.specs.Board.{IsOnBoard};
 ghost use Rattle.cam_numbers.specs.Numbers.{IsApertureNumber};
 ghost use Rattle.cam_gerber.specs.Faults.{is_same_point};
-ghost use Rattle.cam_writers.specs.Commands.{arc_command, flash_command, line_command, mirror_of, move_command, rotation_of};
-ghost use Rattle.cam_writers.specs.GerberTexts.{Commands, is_same_mode, is_same_turn, opening, with_aperture, with_mirror, with_mode, with_polarity, with_rotation, with_start, with_turn};
+ghost use Rattle.cam_writers.specs.Commands.{arc_command, flash_command, line_command, mirror_of, move_command};
+ghost use Rattle.cam_writers.specs.Commands.{rotation_of};
+ghost use Rattle.cam_writers.specs.GerberTexts.{Commands, is_same_mode, is_same_turn, opening, with_aperture};
+ghost use Rattle.cam_writers.specs.GerberTexts.{with_mirror, with_mode, with_polarity, with_rotation, with_start};
+ghost use Rattle.cam_writers.specs.GerberTexts.{with_turn};
 ghost use Rattle.cam_writers.specs.Machinery.GerberTracking.{TracksCommands};
 
 use crate::gerber_commands::{

@@ -1,6 +1,7 @@
 //! Laws of canonical texts. Each function does nothing: its contract is a law.
 
-ghost use Rattle.cam_writers.specs.Laws.{DrillReadsBack, DrillWritesAgain, GerberReadsBack, GerberWritesAgain, TellsItsCommands, TellsItsLines};
+ghost use Rattle.cam_writers.specs.Laws.{DrillReadsBack, DrillWritesAgain, GerberReadsBack, GerberWritesAgain};
+ghost use Rattle.cam_writers.specs.Laws.{TellsItsCommands, TellsItsLines};
 
 /// The tool and the mode that the settings of an item are told by are those in which the reader of
 /// the text so far is.

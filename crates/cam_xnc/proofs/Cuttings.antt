@@ -1,10 +1,14 @@
 -- A text has one cutting into lines, and that is the computed one.
-use Rattle.std.proofs.Common.{◌≡◌, ◌≢◌, ℕ, suc, ◌+◌, ◌-◌, ◌<◌, ◌≤◌, not, List, [], ◌∷◌, ◌++◌, length, take, drop, Bool, true, false, cond, eqb, refl, sym, ap, ◌∙◌, subst, arith, length-append, append_assoc, append-nil, inl, inr}
+use Rattle.std.proofs.Common.{◌≡◌, ◌≢◌, ℕ, suc, ◌+◌, ◌-◌, ◌<◌, ◌≤◌, not, List, [], ◌∷◌, ◌++◌, length, take, drop, Bool}
+use Rattle.std.proofs.Common.{true, false, cond, eqb, refl, sym, ap, ◌∙◌, subst, arith, length-append, append_assoc}
+use Rattle.std.proofs.Common.{append-nil, inl, inr}
 use Rattle.std.specs.List.{flat_map, AllByRecursion, position_or_len}
 use Rattle.std.proofs.lemmas.List.{take-append-drop, drop-drop, length-take-le, take_rest}
 use Rattle.std.proofs.lemmas.Bool.Decides.{eqb_tells}
 use Rattle.cam_xnc.specs.Bytes.{is_line_end}
-use Rattle.cam_xnc.specs.Lines.{LineEnd, LineFeed, CarriageReturn, ReturnAndFeed, InputEnd, TextLine, bytes_of_end, bytes_of, IsLine, BeginsWithFeed, IsEndedBefore, AreEnded, IsCutting, OneCutting, onto_line, empty_line, return_before, cut, found_at}
+use Rattle.cam_xnc.specs.Lines.{LineEnd, LineFeed, CarriageReturn, ReturnAndFeed, InputEnd, TextLine, bytes_of_end}
+use Rattle.cam_xnc.specs.Lines.{bytes_of, IsLine, BeginsWithFeed, IsEndedBefore, AreEnded, IsCutting, OneCutting}
+use Rattle.cam_xnc.specs.Lines.{onto_line, empty_line, return_before, cut, found_at}
 use Rattle.cam_xnc.specs.Machinery.Cutters.{end_len}
 
 -- which byte stands at the front
@@ -41,7 +45,8 @@ return_alone [] never = refl
 return_alone (line ∷ lines) never = go line.text line.ending never
   where
     go : (text : List ℕ) (ending : LineEnd) → ¬ ((text ≡ []) × (ending ≡ LineFeed))
-        → return_before (record { text = text; ending = ending } ∷ lines) ≡ empty_line CarriageReturn ∷ record { text = text; ending = ending } ∷ lines
+        → return_before (record { text = text; ending = ending } ∷ lines)
+        ≡ empty_line CarriageReturn ∷ record { text = text; ending = ending } ∷ lines
     go [] LineFeed never = absurd (never (refl, refl))
     go [] CarriageReturn never = refl
     go [] ReturnAndFeed never = refl
@@ -61,7 +66,8 @@ onto_text (byte ∷ bytes) text ending lines all e = elim (front byte) [
   | IsOther h k ↦ cut-other byte (bytes ++ text) h k ∙ ap (onto_line byte) (onto_text bytes text ending lines all.1 e)
 ]
 
-last_text : (text : List ℕ) → AllByRecursion (λ byte. is_line_end byte ≡ false) text → 0 < length text → cut text ≡ record { text = text; ending = InputEnd } ∷ []
+last_text : (text : List ℕ) → AllByRecursion (λ byte. is_line_end byte ≡ false) text → 0 < length text
+    → cut text ≡ record { text = text; ending = InputEnd } ∷ []
 last_text [] all h = absurd (omega (arith, h))
 last_text (byte ∷ []) all h = elim (front byte) [
   | IsFeed h ↦ absurd (let wrong : is_line_end 10 ≡ false = subst (λ (b : ℕ). is_line_end b ≡ false) h all.0 in cc)
@@ -75,20 +81,27 @@ last_text (byte ∷ next ∷ text) all h = elim (front byte) [
 ]
 
 -- the lines of a cutting are found again
-cut_line : (text : List ℕ) (ending : LineEnd) (lines : List TextLine) → AllByRecursion (λ byte. is_line_end byte ≡ false) text → IsEndedBefore (record { text = text; ending = ending }) lines ending
-    → cut (flat_map bytes_of lines) ≡ lines → cut ((text ++ bytes_of_end ending) ++ flat_map bytes_of lines) ≡ record { text = text; ending = ending } ∷ lines
+cut_line : (text : List ℕ) (ending : LineEnd) (lines : List TextLine) → AllByRecursion (λ byte. is_line_end byte ≡ false) text
+    → IsEndedBefore (record { text = text; ending = ending }) lines ending
+    → cut (flat_map bytes_of lines) ≡ lines → cut ((text ++ bytes_of_end ending) ++ flat_map bytes_of lines)
+    ≡ record { text = text; ending = ending } ∷ lines
 cut_line text LineFeed lines all here more =
-    ap cut (append_assoc text (10 ∷ []) (flat_map bytes_of lines)) ∙ onto_text text (10 ∷ flat_map bytes_of lines) LineFeed lines all (cut-feed (flat_map bytes_of lines) ∙ ap (λ (ls : List TextLine). empty_line LineFeed ∷ ls) more)
+    ap cut (append_assoc text (10 ∷ []) (flat_map bytes_of lines))
+    ∙ onto_text text (10 ∷ flat_map bytes_of lines) LineFeed lines all
+    (cut-feed (flat_map bytes_of lines) ∙ ap (λ (ls : List TextLine). empty_line LineFeed ∷ ls) more)
 cut_line text CarriageReturn lines all here more =
     ap cut (append_assoc text (13 ∷ []) (flat_map bytes_of lines))
-    ∙ onto_text text (13 ∷ flat_map bytes_of lines) CarriageReturn lines all (cut-return (flat_map bytes_of lines) ∙ ap return_before more ∙ return_alone lines here)
+    ∙ onto_text text (13 ∷ flat_map bytes_of lines) CarriageReturn lines all
+    (cut-return (flat_map bytes_of lines) ∙ ap return_before more ∙ return_alone lines here)
 cut_line text ReturnAndFeed lines all here more =
     ap cut (append_assoc text (13 ∷ 10 ∷ []) (flat_map bytes_of lines))
     ∙ onto_text text (13 ∷ 10 ∷ flat_map bytes_of lines) ReturnAndFeed lines all
-    (cut-return (10 ∷ flat_map bytes_of lines) ∙ ap return_before (cut-feed (flat_map bytes_of lines)) ∙ ap (λ (ls : List TextLine). empty_line ReturnAndFeed ∷ ls) more)
+    (cut-return (10 ∷ flat_map bytes_of lines) ∙ ap return_before (cut-feed (flat_map bytes_of lines))
+    ∙ ap (λ (ls : List TextLine). empty_line ReturnAndFeed ∷ ls) more)
 cut_line text InputEnd lines all here more =
     let none : flat_map bytes_of lines ≡ [] = ap (flat_map bytes_of) here.1 in
-    ap cut (append_assoc text [] (flat_map bytes_of lines) ∙ ap (λ (bytes : List ℕ). text ++ bytes) none ∙ append-nil text) ∙ last_text text all here.0 ∙ ap (λ (ls : List TextLine). record { text = text; ending = InputEnd } ∷ ls) (sym here.1)
+    ap cut (append_assoc text [] (flat_map bytes_of lines) ∙ ap (λ (bytes : List ℕ). text ++ bytes) none ∙ append-nil text)
+    ∙ last_text text all here.0 ∙ ap (λ (ls : List TextLine). record { text = text; ending = InputEnd } ∷ ls) (sym here.1)
 
 cut_again : (lines : List TextLine) → AllByRecursion IsLine lines → AreEnded lines → cut (flat_map bytes_of lines) ≡ lines
 cut_again [] each ended = cut-nil
@@ -98,15 +111,18 @@ cut_again (first ∷ lines) each ended = cut_line first.text first.ending lines 
 feed_before : (text : List ℕ) (lines : List TextLine) → IsCutting text lines → IsCutting (10 ∷ text) (empty_line LineFeed ∷ lines)
 feed_before text lines is = record { joined = ap (λ (bytes : List ℕ). 10 ∷ bytes) is.joined; each = (tt, is.each); ended = (tt, is.ended) }
 
-alone : (text : List ℕ) (lines : List TextLine) → ¬ BeginsWithFeed lines → IsCutting text lines → IsCutting (13 ∷ text) (return_before lines)
+alone : (text : List ℕ) (lines : List TextLine) → ¬ BeginsWithFeed lines → IsCutting text lines
+    → IsCutting (13 ∷ text) (return_before lines)
 alone text lines never is =
-    subst (IsCutting (13 ∷ text)) (sym (return_alone lines never)) (record { joined = ap (λ (bytes : List ℕ). 13 ∷ bytes) is.joined; each = (tt, is.each); ended = (never, is.ended) })
+    subst (IsCutting (13 ∷ text)) (sym (return_alone lines never))
+    (record { joined = ap (λ (bytes : List ℕ). 13 ∷ bytes) is.joined; each = (tt, is.each); ended = (never, is.ended) })
 
 return_onto_cutting : (text : List ℕ) (lines : List TextLine) → IsCutting text lines → IsCutting (13 ∷ text) (return_before lines)
 return_onto_cutting text [] is = alone text [] (λ never. never) is
 return_onto_cutting text (first ∷ lines) is = go first.text first.ending is
   where
-    go : (front : List ℕ) (ending : LineEnd) → IsCutting text (record { text = front; ending = ending } ∷ lines) → IsCutting (13 ∷ text) (return_before (record { text = front; ending = ending } ∷ lines))
+    go : (front : List ℕ) (ending : LineEnd) → IsCutting text (record { text = front; ending = ending } ∷ lines)
+        → IsCutting (13 ∷ text) (return_before (record { text = front; ending = ending } ∷ lines))
     go [] LineFeed is = record { joined = ap (λ (bytes : List ℕ). 13 ∷ bytes) is.joined; each = (tt, is.each.1); ended = (tt, is.ended.1) }
     go [] CarriageReturn is = alone text _ (λ never. absurd (let wrong : CarriageReturn ≡ LineFeed = never.1 in cc)) is
     go [] ReturnAndFeed is = alone text _ (λ never. absurd (let wrong : ReturnAndFeed ≡ LineFeed = never.1 in cc)) is
@@ -116,22 +132,37 @@ return_onto_cutting text (first ∷ lines) is = go first.text first.ending is
 no_end : (byte : ℕ) → eqb byte 10 ≡ false → eqb byte 13 ≡ false → is_line_end byte ≡ false
 no_end byte h k = rw (h, k) refl
 
-onto_cutting : (byte : ℕ) (text : List ℕ) (lines : List TextLine) → is_line_end byte ≡ false → IsCutting text lines → IsCutting (byte ∷ text) (onto_line byte lines)
-onto_cutting byte text [] h is = record { joined = ap (λ (bytes : List ℕ). byte ∷ bytes) is.joined; each = ((h, tt), tt); ended = ((omega arith, refl), tt) }
+onto_cutting : (byte : ℕ) (text : List ℕ) (lines : List TextLine) → is_line_end byte ≡ false → IsCutting text lines
+    → IsCutting (byte ∷ text) (onto_line byte lines)
+onto_cutting byte text [] h is =
+    record { joined = ap (λ (bytes : List ℕ). byte ∷ bytes) is.joined; each = ((h, tt), tt); ended = ((omega arith, refl), tt) }
 onto_cutting byte text (first ∷ lines) h is = go first.text first.ending is
   where
-    go : (front : List ℕ) (ending : LineEnd) → IsCutting text (record { text = front; ending = ending } ∷ lines) → IsCutting (byte ∷ text) (record { text = byte ∷ front; ending = ending } ∷ lines)
-    go front LineFeed is = record { joined = ap (λ (bytes : List ℕ). byte ∷ bytes) is.joined; each = ((h, is.each.0), is.each.1); ended = (tt, is.ended.1) }
-    go front CarriageReturn is = record { joined = ap (λ (bytes : List ℕ). byte ∷ bytes) is.joined; each = ((h, is.each.0), is.each.1); ended = is.ended }
-    go front ReturnAndFeed is = record { joined = ap (λ (bytes : List ℕ). byte ∷ bytes) is.joined; each = ((h, is.each.0), is.each.1); ended = (tt, is.ended.1) }
-    go front InputEnd is = record { joined = ap (λ (bytes : List ℕ). byte ∷ bytes) is.joined; each = ((h, is.each.0), is.each.1); ended = ((omega arith, is.ended.0.1), is.ended.1) }
+    go : (front : List ℕ) (ending : LineEnd) → IsCutting text (record { text = front; ending = ending } ∷ lines)
+        → IsCutting (byte ∷ text) (record { text = byte ∷ front; ending = ending } ∷ lines)
+    go front LineFeed is =
+        record { joined = ap (λ (bytes : List ℕ). byte ∷ bytes) is.joined; each = ((h, is.each.0), is.each.1); ended = (tt, is.ended.1) }
+    go front CarriageReturn is =
+        record { joined = ap (λ (bytes : List ℕ). byte ∷ bytes) is.joined; each = ((h, is.each.0), is.each.1); ended = is.ended }
+    go front ReturnAndFeed is =
+        record { joined = ap (λ (bytes : List ℕ). byte ∷ bytes) is.joined; each = ((h, is.each.0), is.each.1); ended = (tt, is.ended.1) }
+    go front InputEnd is =
+        record {
+          joined = ap (λ (bytes : List ℕ). byte ∷ bytes) is.joined;
+          each = ((h, is.each.0), is.each.1);
+          ended =
+              ((omega arith, is.ended.0.1), is.ended.1);
+        }
 
 pub cut_is_cutting : (text : List ℕ) → IsCutting text (cut text)
 cut_is_cutting [] = subst (IsCutting []) (sym cut-nil) (record { joined = refl; each = tt; ended = tt })
 cut_is_cutting (byte ∷ text) = elim (front byte) [
-  | IsFeed h ↦ subst (λ (b : ℕ). IsCutting (b ∷ text) (cut (b ∷ text))) (sym h) (subst (IsCutting (10 ∷ text)) (sym (cut-feed text)) (feed_before text (cut text) (cut_is_cutting text)))
-  | IsReturn h ↦ subst (λ (b : ℕ). IsCutting (b ∷ text) (cut (b ∷ text))) (sym h) (subst (IsCutting (13 ∷ text)) (sym (cut-return text)) (return_onto_cutting text (cut text) (cut_is_cutting text)))
-  | IsOther h k ↦ subst (IsCutting (byte ∷ text)) (sym (cut-other byte text h k)) (onto_cutting byte text (cut text) (no_end byte h k) (cut_is_cutting text))
+  | IsFeed h ↦ subst (λ (b : ℕ). IsCutting (b ∷ text) (cut (b ∷ text))) (sym h)
+      (subst (IsCutting (10 ∷ text)) (sym (cut-feed text)) (feed_before text (cut text) (cut_is_cutting text)))
+  | IsReturn h ↦ subst (λ (b : ℕ). IsCutting (b ∷ text) (cut (b ∷ text))) (sym h)
+      (subst (IsCutting (13 ∷ text)) (sym (cut-return text)) (return_onto_cutting text (cut text) (cut_is_cutting text)))
+  | IsOther h k ↦ subst (IsCutting (byte ∷ text)) (sym (cut-other byte text h k))
+      (onto_cutting byte text (cut text) (no_end byte h k) (cut_is_cutting text))
 ]
 
 pub one_cutting : OneCutting
@@ -152,14 +183,19 @@ front_of [] = record { lacks = tt; ends = tt }
 front_of (byte ∷ text) =
     let more = front_of text in
     let one : suc (position_or_len is_line_end text) ≡ 1 + position_or_len is_line_end text = omega arith in
-    (elim (is_line_end byte) as (λ b. is_line_end byte ≡ b → IsFront (byte ∷ text) (cond (not b) (1 + position_or_len is_line_end text) 0)) [
+    (elim (is_line_end byte)
+    as (λ b. is_line_end byte ≡ b → IsFront (byte ∷ text) (cond (not b) (1 + position_or_len is_line_end text) 0)) [
       | true ↦ λ e. record { lacks = tt; ends = e }
       | false ↦ λ e. subst (IsFront (byte ∷ text)) one (record { lacks = (e, more.lacks); ends = more.ends })
     ]) refl
 
 feed_first : (lines : List TextLine) → BeginsWithFeed lines → (rest : List ℕ) × (flat_map bytes_of lines ≡ 10 ∷ rest)
 feed_first [] h = absurd h
-feed_first (first ∷ lines) h = (flat_map bytes_of lines, ap (λ (text : List ℕ). (text ++ bytes_of_end first.ending) ++ flat_map bytes_of lines) h.0 ∙ ap (λ (ending : LineEnd). bytes_of_end ending ++ flat_map bytes_of lines) h.1)
+feed_first (first ∷ lines) h = (
+  flat_map bytes_of lines,
+  ap (λ (text : List ℕ). (text ++ bytes_of_end first.ending) ++ flat_map bytes_of lines) h.0
+      ∙ ap (λ (ending : LineEnd). bytes_of_end ending ++ flat_map bytes_of lines) h.1,
+)
 
 no_feed : (byte : ℕ) (text : List ℕ) → eqb byte 10 ≡ false → ¬ BeginsWithFeed (cut (byte ∷ text))
 no_feed byte text h begins =
@@ -175,13 +211,21 @@ record IsEnd (text : List ℕ) : Type 0 where
   len : length (bytes_of_end ending) ≡ end_len text
 
 return_end : (text : List ℕ) → IsEnd (13 ∷ text)
-return_end [] = record { ending = CarriageReturn; cuts = cut-return [] ∙ ap return_before cut-nil ∙ ap (λ (ls : List TextLine). empty_line CarriageReturn ∷ ls) (sym cut-nil); len = refl }
+return_end [] =
+    record {
+      ending = CarriageReturn;
+      cuts = cut-return [] ∙ ap return_before cut-nil
+          ∙ ap (λ (ls : List TextLine). empty_line CarriageReturn ∷ ls) (sym cut-nil);
+      len = refl;
+    }
 return_end (byte ∷ text) = elim (eqb_tells byte 10) [
-  | inl h ↦ subst (λ (b : ℕ). IsEnd (13 ∷ b ∷ text)) (sym h.1) (record { ending = ReturnAndFeed; cuts = cut-return (10 ∷ text) ∙ ap return_before (cut-feed text); len = refl })
+  | inl h ↦ subst (λ (b : ℕ). IsEnd (13 ∷ b ∷ text)) (sym h.1)
+      (record { ending = ReturnAndFeed; cuts = cut-return (10 ∷ text) ∙ ap return_before (cut-feed text); len = refl })
   | inr h ↦ let one : end_len (13 ∷ byte ∷ text) ≡ 1 = rw h.0 refl in
       record {
         ending = CarriageReturn;
-        cuts = cut-return (byte ∷ text) ∙ return_alone (cut (byte ∷ text)) (no_feed byte text h.0) ∙ ap (λ (n : ℕ). empty_line CarriageReturn ∷ cut (drop n (13 ∷ byte ∷ text))) (sym one);
+        cuts = cut-return (byte ∷ text) ∙ return_alone (cut (byte ∷ text)) (no_feed byte text h.0)
+            ∙ ap (λ (n : ℕ). empty_line CarriageReturn ∷ cut (drop n (13 ∷ byte ∷ text))) (sym one);
         len = sym one;
       }
 ]
@@ -199,44 +243,58 @@ record IsNext (text : List ℕ) (len : ℕ) : Type 0 where
   cuts : cut text ≡ record { text = take len text; ending = ending } ∷ cut (drop (len + end_len (drop len text)) text)
   ending_len : length (bytes_of_end ending) ≡ end_len (drop len text)
 
-next_by : (text tail : List ℕ) (len : ℕ) → 0 < length text → drop len text ≡ tail → AllByRecursion (λ byte. is_line_end byte ≡ false) (take len text) → EndsHere tail → IsNext text len
+next_by : (text tail : List ℕ) (len : ℕ) → 0 < length text → drop len text ≡ tail
+    → AllByRecursion (λ byte. is_line_end byte ≡ false) (take len text) → EndsHere tail → IsNext text len
 next_by text [] len some is lacks ends =
-    let whole : text ≡ take len text = sym (take-append-drop len text) ∙ ap (λ (rest : List ℕ). take len text ++ rest) is ∙ append-nil (take len text) in
+    let whole : text ≡ take len text = sym (take-append-drop len text) ∙ ap (λ (rest : List ℕ). take len text ++ rest) is
+    ∙ append-nil (take len text) in
     let none : drop (len + end_len (drop len text)) text ≡ [] = sym (drop-drop (end_len (drop len text)) len text) ∙ rw is refl in
     record {
       ending = InputEnd;
-      cuts = ap cut whole ∙ last_text (take len text) lacks (subst (λ (t : List ℕ). 0 < length t) whole some) ∙ ap (λ (ls : List TextLine). record { text = take len text; ending = InputEnd } ∷ ls) (sym cut-nil ∙ ap cut (sym none));
+      cuts = ap cut whole ∙ last_text (take len text) lacks (subst (λ (t : List ℕ). 0 < length t) whole some)
+          ∙ ap (λ (ls : List TextLine). record { text = take len text; ending = InputEnd } ∷ ls) (sym cut-nil ∙ ap cut (sym none));
       ending_len = rw is refl;
     }
 next_by text (byte ∷ tail) len some is lacks ends =
     let end = end_at byte tail ends in
-    let whole : text ≡ take len text ++ (byte ∷ tail) = sym (take-append-drop len text) ∙ ap (λ (rest : List ℕ). take len text ++ rest) is in
-    let behind : drop (len + end_len (drop len text)) text ≡ drop (end_len (byte ∷ tail)) (byte ∷ tail) = sym (drop-drop (end_len (drop len text)) len text) ∙ rw is refl in
+    let whole : text ≡ take len text ++ (byte ∷ tail) = sym (take-append-drop len text)
+    ∙ ap (λ (rest : List ℕ). take len text ++ rest) is in
+    let behind : drop (len + end_len (drop len text)) text ≡ drop (end_len (byte ∷ tail)) (byte ∷ tail) =
+    sym (drop-drop (end_len (drop len text)) len text) ∙ rw is refl in
     record {
       ending = end.ending;
-      cuts = ap cut whole ∙ onto_text (take len text) (byte ∷ tail) end.ending (cut (drop (end_len (byte ∷ tail)) (byte ∷ tail))) lacks end.cuts ∙ ap (λ (t : List ℕ). record { text = take len text; ending = end.ending } ∷ cut t) (sym behind);
+      cuts = ap cut whole
+          ∙ onto_text (take len text) (byte ∷ tail) end.ending (cut (drop (end_len (byte ∷ tail)) (byte ∷ tail))) lacks end.cuts
+          ∙ ap (λ (t : List ℕ). record { text = take len text; ending = end.ending } ∷ cut t) (sym behind);
       ending_len = end.len ∙ rw is refl;
     }
 
 -- one line is found, and then those behind it
 pub found_next : (at len : ℕ) (text : List ℕ) → 0 < length text → len ≡ position_or_len is_line_end text → len ≤ length text
-    → found_at at (cut text) ≡ record { text = take len text; at = at } ∷ found_at (at + (len + end_len (drop len text))) (cut (drop (len + end_len (drop len text)) text))
+    → found_at at (cut text) ≡ record { text = take len text; at = at }
+    ∷ found_at (at + (len + end_len (drop len text))) (cut (drop (len + end_len (drop len text)) text))
 found_next at len text some is within =
     let here : IsFront text len = subst (IsFront text) (sym is) (front_of text) in
     let next = next_by text (drop len text) len some refl here.lacks here.ends in
-    let size : at + length (take len text ++ bytes_of_end next.ending) ≡ at + (len + end_len (drop len text)) = omega (arith, length-append (take len text) (bytes_of_end next.ending), length-take-le len text within, next.ending_len) in
-    ap (found_at at) next.cuts ∙ ap (λ (n : ℕ). record { text = take len text; at = at } ∷ found_at n (cut (drop (len + end_len (drop len text)) text))) size
+    let size : at + length (take len text ++ bytes_of_end next.ending) ≡ at + (len + end_len (drop len text)) =
+    omega (arith, length-append (take len text) (bytes_of_end next.ending), length-take-le len text within, next.ending_len) in
+    ap (found_at at) next.cuts
+    ∙ ap (λ (n : ℕ). record { text = take len text; at = at } ∷ found_at n (cut (drop (len + end_len (drop len text)) text))) size
 
 pub nothing_left : (at : ℕ) (text : List ℕ) → length text ≡ 0 → found_at at (cut text) ≡ []
 nothing_left at [] is = ap (found_at at) cut-nil
 nothing_left at (byte ∷ text) is = absurd (omega (arith, is))
 
 pub some_left : (n : ℕ) (empty : Bool) → empty ≡ eqb n 0 → empty ≡ false → 0 < n
-some_left n empty is no_more = elim (eqb_tells n 0) [ inl h ↦ absurd (let wrong : true ≡ false = sym h.0 ∙ sym is ∙ no_more in cc) | inr h ↦ (let some : n ≢ 0 = h.1 in omega arith) ]
+some_left n empty is no_more =
+    elim (eqb_tells n 0)
+    [ inl h ↦ absurd (let wrong : true ≡ false = sym h.0 ∙ sym is ∙ no_more in cc) | inr h ↦ (let some : n ≢ 0 = h.1 in omega arith) ]
 
 -- the same, of slices
-pub given_next : (at len after : ℕ) (text : List ℕ) → 0 < length text → len ≡ position_or_len is_line_end text → len ≤ length text → after ≡ end_len (take (length text - len) (drop len text))
-    → found_at at (cut text) ≡ record { text = take len text; at = at } ∷ found_at (at + (len + after)) (cut (take (length text - (len + after)) (drop (len + after) text)))
+pub given_next : (at len after : ℕ) (text : List ℕ) → 0 < length text → len ≡ position_or_len is_line_end text → len ≤ length text
+    → after ≡ end_len (take (length text - len) (drop len text))
+    → found_at at (cut text) ≡ record { text = take len text; at = at }
+    ∷ found_at (at + (len + after)) (cut (take (length text - (len + after)) (drop (len + after) text)))
 given_next at len after text some is within ends =
     let end : after ≡ end_len (drop len text) = ends ∙ ap end_len (take_rest text len) in
     rw (take_rest text (len + after), end) (found_next at len text some is within)

@@ -12,7 +12,8 @@ use Rattle.cam_xnc.specs.Faults.{header_faults, is_diameter}
 use Rattle.cam_xnc.specs.Machinery.Tracking.{Tracks, first_of}
 
 -- what the tests of a declaration found
-pub record IsTested (s : DrillState) (number : Option ℕ) (diameter : Option ℤ) (n : ℕ) (d : ℤ) (u : FileUnit) (size : Nm) (fits : Bool) : Type 0 where
+pub record IsTested (s : DrillState) (number : Option ℕ) (diameter : Option ℤ) (n : ℕ) (d : ℤ) (u : FileUnit) (size : Nm)
+    (fits : Bool) : Type 0 where
   pub is_number : number ≡ Some n
   pub is_length : diameter ≡ Some d
   pub is_unit : s.unit ≡ Some u
@@ -20,19 +21,23 @@ pub record IsTested (s : DrillState) (number : Option ℕ) (diameter : Option �
   pub has_fits : fits ≡ is_diameter size.0
 
 -- what they say of it
-pub declaration_answer : (past : Past) (s : DrillState) (number : Option ℕ) (diameter : Option ℤ) (n : ℕ) (d : ℤ) (u : FileUnit) (size : Nm) (fits found : Bool) → Tracks past s
+pub declaration_answer : (past : Past) (s : DrillState) (number : Option ℕ) (diameter : Option ℤ) (n : ℕ) (d : ℤ) (u : FileUnit)
+    (size : Nm) (fits found : Bool) → Tracks past s
     → IsTested s number diameter n d u size fits → found ≡ is_some (diameter_of s.layer.tools n)
     → first_of (header_faults past (Declare number diameter)) ≡ cond {A = Option ℕ} (not fits) (Some 24) (cond found (Some 43) None)
 unfolding length_nm
 declaration_answer past s number diameter n d u size fits found t is here =
     let unit : unit_in past ≡ Some u = sym t.unit ∙ is.is_unit in
     let fit : is_diameter (fix9_of d u) ≡ fits = ap is_diameter (sym is.is_size) ∙ sym is.has_fits in
-    let again : is_some (diameter_of (tools_in past) n) ≡ found = ap (λ (tools : List (ℕ × Nm)). is_some (diameter_of tools n)) (sym t.tools) ∙ sym here in
+    let again : is_some (diameter_of (tools_in past) n) ≡ found =
+    ap (λ (tools : List (ℕ × Nm)). is_some (diameter_of tools n)) (sym t.tools) ∙ sym here in
     rw (is.is_number, is.is_length, unit, fit, again) refl
 
 -- the tools behind a declaration
-pub declared_tools : (past : Past) (s : DrillState) (number : Option ℕ) (diameter : Option ℤ) (n : ℕ) (d : ℤ) (u : FileUnit) (size : Nm) (fits : Bool) (tools : List (ℕ × Nm)) → Tracks past s
-    → IsTested s number diameter n d u size fits → tools ≡ s.layer.tools ++ (n, size) ∷ [] → tools ≡ tools_in (Declare number diameter ∷ past)
+pub declared_tools : (past : Past) (s : DrillState) (number : Option ℕ) (diameter : Option ℤ) (n : ℕ) (d : ℤ) (u : FileUnit)
+    (size : Nm) (fits : Bool) (tools : List (ℕ × Nm)) → Tracks past s
+    → IsTested s number diameter n d u size fits → tools ≡ s.layer.tools ++ (n, size) ∷ []
+    → tools ≡ tools_in (Declare number diameter ∷ past)
 unfolding length_nm
 declared_tools past s number diameter n d u size fits tools t is made =
     let unit : unit_in past ≡ Some u = sym t.unit ∙ is.is_unit in

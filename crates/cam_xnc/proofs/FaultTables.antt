@@ -1,10 +1,13 @@
 -- Tables of faults: the least number that holds, and where the numbers ascend the first.
-use Rattle.std.proofs.Common.{◌≡◌, ℕ, ◌≤◌, [], ◌∷◌, true, false, cond, eqb, eq-eqb, Option, Some, None, refl, sym, ap, ◌∙◌, subst, arith, lit≤, inl, inr}
+use Rattle.std.proofs.Common.{◌≡◌, ℕ, ◌≤◌, [], ◌∷◌, true, false, cond, eqb, eq-eqb, Option, Some, None, refl, sym, ap}
+use Rattle.std.proofs.Common.{◌∙◌, subst, arith, lit≤, inl, inr}
 use Rattle.std.specs.Prelude.{IfSome}
 use Rattle.cam_xnc.specs.declared.modes.Part.{Part}
 use Rattle.cam_xnc.specs.declared.modes.Part.TheVariants.{Start, Header, Body}
 use Rattle.cam_xnc.specs.declared.statement.Statement.{Statement}
-use Rattle.cam_xnc.specs.declared.statement.Statement.TheVariants.{BeginHeader, SetUnit, Declare, Neutral, EndHeader, Select, DrillMode, HitAt, RoutTo, Lower, CutTo, Raise, CutArc, End, Unknown}
+use Rattle.cam_xnc.specs.declared.statement.Statement.TheVariants.{BeginHeader, SetUnit, Declare, Neutral, EndHeader}
+use Rattle.cam_xnc.specs.declared.statement.Statement.TheVariants.{Select, DrillMode, HitAt, RoutTo, Lower, CutTo}
+use Rattle.cam_xnc.specs.declared.statement.Statement.TheVariants.{Raise, CutArc, End, Unknown}
 use Rattle.cam_xnc.specs.DrillState.{Past, part_in}
 use Rattle.cam_xnc.specs.Faults.{Table, lower_of, least, faults_by, start_of_file_faults, header_faults, body_faults, end_faults}
 use Rattle.cam_xnc.specs.Lines.{FoundLine}
@@ -35,10 +38,13 @@ lower_same n (Some m) h = omega (arith, h.above)
 -- where the numbers ascend the least is the first
 pub least_is_first : (low : ℕ) (table : Table) → IsAscending low table → least table ≡ first_of table
 least_is_first low [] h = refl
-least_is_first low (fault ∷ table) h = elim fault.1 as (λ b. cond b (Some (lower_of fault.0 (least table))) (least table) ≡ cond b (Some fault.0) (first_of table)) [
-  | true ↦ ap Some (lower_same fault.0 (least table) (subst (IsFrom fault.0) (sym (least_is_first fault.0 table h.2)) (first_from fault.0 fault.0 table (omega arith) h.2)))
-  | false ↦ least_is_first fault.0 table h.2
-]
+least_is_first low (fault ∷ table) h =
+    elim fault.1 as (λ b. cond b (Some (lower_of fault.0 (least table))) (least table) ≡ cond b (Some fault.0) (first_of table)) [
+      | true ↦ ap Some
+          (lower_same fault.0 (least table)
+          (subst (IsFrom fault.0) (sym (least_is_first fault.0 table h.2)) (first_from fault.0 fault.0 table (omega arith) h.2)))
+      | false ↦ least_is_first fault.0 table h.2
+    ]
 
 starts_ascend : (says : Statement) → IsAscending 1 (start_of_file_faults says)
 starts_ascend BeginHeader = tt
@@ -105,10 +111,11 @@ end_faults_ascend past = (lit≤ tt, refl, (lit≤ tt, refl, tt))
 -- the number that is told holds
 first_holds : (table : Table) (n : ℕ) → first_of table ≡ Some n → Holds n table
 first_holds [] n e = absurd cc
-first_holds (fault ∷ table) n e = (elim fault.1 as (λ b. fault.1 ≡ b → cond b (Some fault.0) (first_of table) ≡ Some n → Holds n (fault ∷ table)) [
-  | true ↦ λ is h. let same : fault.0 ≡ n = cc in inl (same, is)
-  | false ↦ λ is h. inr (first_holds table n h)
-]) refl e
+first_holds (fault ∷ table) n e =
+    (elim fault.1 as (λ b. fault.1 ≡ b → cond b (Some fault.0) (first_of table) ≡ Some n → Holds n (fault ∷ table)) [
+      | true ↦ λ is h. let same : fault.0 ≡ n = cc in inl (same, is)
+      | false ↦ λ is h. inr (first_holds table n h)
+    ]) refl e
 
 pub least_holds : (low n : ℕ) (table : Table) → IsAscending low table → least table ≡ Some n → Holds n table
 least_holds low n table h e = first_holds table n (sym (least_is_first low table h) ∙ e)

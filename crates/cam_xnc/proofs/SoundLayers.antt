@@ -1,5 +1,6 @@
 -- The layers that files give are sound.
-use Rattle.std.proofs.Common.{◌≡◌, ℕ, ◌+◌, ◌<◌, ◌≤◌, List, [], ◌∷◌, ◌++◌, length, Bool, true, false, cond, not, eqb, leb, ltb, nat_eq, Option, Some, None, refl, arith, lit≤, is_some, is_none, length-append}
+use Rattle.std.proofs.Common.{◌≡◌, ℕ, ◌+◌, ◌<◌, ◌≤◌, List, [], ◌∷◌, ◌++◌, length, Bool, true, false, cond, not, eqb}
+use Rattle.std.proofs.Common.{leb, ltb, nat_eq, Option, Some, None, refl, arith, lit≤, is_some, is_none, length-append}
 use Rattle.std.specs.Prelude.{ℤ, pos, negsuc, ◌&&◌, ◌||◌, unwrap_or, IfSome, unsigned_abs, sum_by}
 use Rattle.std.specs.List.{All, IsDistinct}
 use Rattle.std.specs.Map.{keys_of, lookup}
@@ -12,13 +13,16 @@ use Rattle.cam_units.specs.declared.length.Nm.{Nm}
 use Rattle.cam_units.specs.declared.point.Point.{Point}
 use Rattle.cam_objects.specs.declared.drill_item.DrillItem.{DrillItem}
 use Rattle.cam_objects.specs.declared.drill_item.DrillItem.TheVariants.{Hit, Rout}
-use Rattle.cam_objects.specs.declared.item_fault.ItemFault.TheVariants.{Malformed as NoPoints, UnknownAperture, UnknownTool, WrongAperture, ZeroRadius, OutOfBoard, TooMuch}
+use Rattle.cam_objects.specs.declared.item_fault.ItemFault.TheVariants.{Malformed as NoPoints, UnknownAperture}
+use Rattle.cam_objects.specs.declared.item_fault.ItemFault.TheVariants.{UnknownTool, WrongAperture, ZeroRadius}
+use Rattle.cam_objects.specs.declared.item_fault.ItemFault.TheVariants.{OutOfBoard, TooMuch}
 use Rattle.cam_objects.specs.Drilling.{diameter_of}
 use Rattle.cam_objects.specs.DrillSoundness.{IsSoundTool, IsSoundDrillItem, drill_count_of, tool_of}
 use Rattle.cam_objects.proofs.SoundDrilling.{distinct_more}
 use Rattle.cam_xnc.specs.declared.statement.Coordinate.{Coordinate}
 use Rattle.cam_xnc.specs.declared.statement.Statement.TheVariants.{Declare, Select, DrillMode, HitAt, RoutTo, Lower, CutTo, Raise}
-use Rattle.cam_xnc.specs.DrillState.{Past, unit_in, mode_in, tool_in, point_in, length_nm, tools_in, points_in, hit_of, rout_of, items_in, leaves_in}
+use Rattle.cam_xnc.specs.DrillState.{Past, unit_in, mode_in, tool_in, point_in, length_nm, tools_in, points_in, hit_of}
+use Rattle.cam_xnc.specs.DrillState.{rout_of, items_in, leaves_in}
 use Rattle.cam_xnc.specs.Faults.{Table, header_faults, body_faults, is_diameter, is_on_board, is_drilling, is_lowered, is_too_much}
 use Rattle.cam_xnc.specs.Machinery.Tracking.{first_of}
 use Rattle.cam_xnc.proofs.ToolNumbers.{IsToolNumber}
@@ -103,12 +107,14 @@ still_known : (tools more : List (ℕ × Nm)) (tool : Option ℕ) → IsKnown to
 still_known tools more None h = tt
 still_known tools more (Some n) h = known_more tools more n h
 
-known_number : (tools : List (ℕ × Nm)) (tool : Option ℕ) → IsKnown tools tool → is_none tool ≡ false → is_some (diameter_of tools (unwrap_or tool 0)) ≡ true
+known_number : (tools : List (ℕ × Nm)) (tool : Option ℕ) → IsKnown tools tool → is_none tool ≡ false
+    → is_some (diameter_of tools (unwrap_or tool 0)) ≡ true
 known_number tools None h some = absurd cc
 known_number tools (Some n) h some = h
 
 on_board : (p : Point) → not (is_on_board p) ≡ false → IsOnBoard p
-on_board p h = let on = both (ltb (unsigned_abs p.x) 1000000000) (ltb (unsigned_abs p.y) 1000000000) (told (is_on_board p) h) in record { x = ltb-true _ _ on.0; y = ltb-true _ _ on.1 }
+on_board p h = let on = both (ltb (unsigned_abs p.x) 1000000000) (ltb (unsigned_abs p.y) 1000000000) (told (is_on_board p) h) in
+    record { x = ltb-true _ _ on.0; y = ltb-true _ _ on.1 }
 
 -- a tool of this number and diameter is sound
 sound_tool : (n : ℕ) (z : ℤ) → IsToolNumber n → not (is_diameter z) ≡ false → IsSoundTool n (record { 0 = z })
@@ -128,25 +134,35 @@ record HasRoom (past : Past) (more : ℕ) : Type 0 where
 has_room : (past : Past) (more : ℕ) → is_too_much past more ≡ false → HasRoom past more
 has_room past more h =
     let sides = neither (leb 1000000 (length (items_in past))) (not (leb (leaves_in past + more) 4000000)) h in
-    record { few = leb-false 1000000 (length (items_in past)) sides.0; leaves = leb-true (leaves_in past + more) 4000000 (told (leb (leaves_in past + more) 4000000) sides.1) }
+    record {
+      few = leb-false 1000000 (length (items_in past)) sides.0;
+      leaves =
+          leb-true (leaves_in past + more) 4000000 (told (leb (leaves_in past + more) 4000000) sides.1);
+    }
 
 few_more : (past : Past) (item : DrillItem) → HasRoom past (drill_count_of item) → length (items_in past ++ item ∷ []) ≤ 1000000
 few_more past item room = omega (arith, room.few, length-append (items_in past) (item ∷ []))
 
-leaves_more : (past : Past) (item : DrillItem) → HasRoom past (drill_count_of item) → sum_by drill_count_of (items_in past ++ item ∷ []) ≤ 4000000
+leaves_more : (past : Past) (item : DrillItem) → HasRoom past (drill_count_of item)
+    → sum_by drill_count_of (items_in past ++ item ∷ []) ≤ 4000000
 leaves_more past item room = omega (arith, room.leaves, sum_by-append drill_count_of (items_in past) (item ∷ []))
 
 -- the lines of the header
-pub declare_step : (past : Past) (number : Option ℕ) (diameter : Option ℤ) → IsSoundPast past → first_of (header_faults past (Declare number diameter)) ≡ None → IfSome number IsToolNumber
+pub declare_step : (past : Past) (number : Option ℕ) (diameter : Option ℤ) → IsSoundPast past
+    → first_of (header_faults past (Declare number diameter)) ≡ None → IfSome number IsToolNumber
     → IsSoundPast (Declare number diameter ∷ past)
 declare_step past None diameter s h small = absurd cc
 declare_step past (Some n) None s h small = absurd cc
 declare_step past (Some n) (Some d) s h small =
     let pass = passes (header_faults past (Declare (Some n) (Some d))) h in
     record {
-      tools = one_more (λ (e : ℕ × Nm). IsSoundTool e.0 e.1) (tools_in past) (n, record { 0 = length_nm (unit_in past) d }) s.tools (sound_tool n (length_nm (unit_in past) d) small pass.1.1.0);
-      distinct = distinct_more (tools_in past) n (record { 0 = length_nm (unit_in past) d }) s.distinct (none_of (diameter_of (tools_in past) n) pass.1.1.1.0);
-      items = All-weaker (IsSoundDrillItem (tools_in past)) (IsSoundDrillItem (tools_in past ++ (n, record { 0 = length_nm (unit_in past) d }) ∷ [])) (sound_more (tools_in past) ((n, record { 0 = length_nm (unit_in past) d }) ∷ [])) (items_in past) s.items;
+      tools = one_more (λ (e : ℕ × Nm). IsSoundTool e.0 e.1) (tools_in past) (n, record { 0 = length_nm (unit_in past) d }) s.tools
+          (sound_tool n (length_nm (unit_in past) d) small pass.1.1.0);
+      distinct = distinct_more (tools_in past) n (record { 0 = length_nm (unit_in past) d }) s.distinct
+          (none_of (diameter_of (tools_in past) n) pass.1.1.1.0);
+      items = All-weaker (IsSoundDrillItem (tools_in past))
+          (IsSoundDrillItem (tools_in past ++ (n, record { 0 = length_nm (unit_in past) d }) ∷ []))
+          (sound_more (tools_in past) ((n, record { 0 = length_nm (unit_in past) d }) ∷ [])) (items_in past) s.items;
       few = s.few;
       leaves = s.leaves;
       at = s.at;
@@ -158,11 +174,13 @@ declare_step past (Some n) (Some d) s h small =
 
 -- the lines of the body
 
-chosen : (tools : List (ℕ × Nm)) (n : ℕ) (b : Bool) → eqb n 0 ≡ b → (not b && not (is_some (diameter_of tools n))) ≡ false → IsKnown tools (cond b None (Some n))
+chosen : (tools : List (ℕ × Nm)) (n : ℕ) (b : Bool) → eqb n 0 ≡ b → (not b && not (is_some (diameter_of tools n))) ≡ false
+    → IsKnown tools (cond b None (Some n))
 chosen tools n true e h = tt
 chosen tools n false e h = told (is_some (diameter_of tools n)) h
 
-pub select_step : (past : Past) (number : Option ℕ) → IsSoundPast past → first_of (body_faults past (Select number)) ≡ None → IsSoundPast (Select number ∷ past)
+pub select_step : (past : Past) (number : Option ℕ) → IsSoundPast past → first_of (body_faults past (Select number)) ≡ None
+    → IsSoundPast (Select number ∷ past)
 select_step past None s h = absurd cc
 select_step past (Some n) s h =
     let pass = passes (body_faults past (Select (Some n))) h in
@@ -180,9 +198,22 @@ select_step past (Some n) s h =
     }
 
 pub drill_mode_step : (past : Past) → IsSoundPast past → IsSoundPast (DrillMode ∷ past)
-drill_mode_step past s = record { tools = s.tools; distinct = s.distinct; items = s.items; few = s.few; leaves = s.leaves; at = s.at; points = s.points; room = s.room; lowered = λ low. absurd (let wrong : false ≡ true = low in cc); tool = s.tool }
+drill_mode_step past s =
+    record {
+      tools = s.tools;
+      distinct = s.distinct;
+      items = s.items;
+      few = s.few;
+      leaves = s.leaves;
+      at = s.at;
+      points = s.points;
+      room = s.room;
+      lowered = λ low. absurd (let wrong : false ≡ true = low in cc);
+      tool = s.tool;
+    }
 
-pub hit_step : (past : Past) (x y : Coordinate) → IsSoundPast past → first_of (body_faults past (HitAt x y)) ≡ None → IsSoundPast (HitAt x y ∷ past)
+pub hit_step : (past : Past) (x y : Coordinate) → IsSoundPast past → first_of (body_faults past (HitAt x y)) ≡ None
+    → IsSoundPast (HitAt x y ∷ past)
 hit_step past x y s h =
     let pass = passes (body_faults past (HitAt x y)) h in
     let drilling = told (is_drilling (mode_in past)) pass.1.1.1.1.1.0 in
@@ -192,7 +223,8 @@ hit_step past x y s h =
     record {
       tools = s.tools;
       distinct = s.distinct;
-      items = one_more (IsSoundDrillItem (tools_in past)) (items_in past) (hit_of past (point_in (HitAt x y ∷ past))) s.items (sound_hit (tools_in past) (unwrap_or (tool_in past) 0) (point_in (HitAt x y ∷ past)) known on);
+      items = one_more (IsSoundDrillItem (tools_in past)) (items_in past) (hit_of past (point_in (HitAt x y ∷ past))) s.items
+          (sound_hit (tools_in past) (unwrap_or (tool_in past) 0) (point_in (HitAt x y ∷ past)) known on);
       few = few_more past (hit_of past (point_in (HitAt x y ∷ past))) room;
       leaves = leaves_more past (hit_of past (point_in (HitAt x y ∷ past))) room;
       at = on;
@@ -202,7 +234,8 @@ hit_step past x y s h =
       tool = s.tool;
     }
   where
-    sound_hit : (tools : List (ℕ × Nm)) (n : ℕ) (p : Point) → is_some (diameter_of tools n) ≡ true → IsOnBoard p → IsSoundDrillItem tools (Hit n p)
+    sound_hit : (tools : List (ℕ × Nm)) (n : ℕ) (p : Point) → is_some (diameter_of tools n) ≡ true → IsOnBoard p
+        → IsSoundDrillItem tools (Hit n p)
     sound_hit tools n p known on NoPoints = omega arith
     sound_hit tools n p known on UnknownAperture = tt
     sound_hit tools n p known on UnknownTool = known
@@ -211,22 +244,51 @@ hit_step past x y s h =
     sound_hit tools n p known on OutOfBoard = All-cons IsOnBoard p [] on (All-nil IsOnBoard)
     sound_hit tools n p known on TooMuch = lit≤ tt
 
-pub rout_step : (past : Past) (x y : Coordinate) → IsSoundPast past → first_of (body_faults past (RoutTo x y)) ≡ None → IsSoundPast (RoutTo x y ∷ past)
+pub rout_step : (past : Past) (x y : Coordinate) → IsSoundPast past → first_of (body_faults past (RoutTo x y)) ≡ None
+    → IsSoundPast (RoutTo x y ∷ past)
 rout_step past x y s h =
     let pass = passes (body_faults past (RoutTo x y)) h in
-    record { tools = s.tools; distinct = s.distinct; items = s.items; few = s.few; leaves = s.leaves; at = on_board (point_in (RoutTo x y ∷ past)) pass.1.0; points = s.points; room = s.room; lowered = λ low. absurd (let wrong : false ≡ true = low in cc); tool = s.tool }
+    record {
+      tools = s.tools;
+      distinct = s.distinct;
+      items = s.items;
+      few = s.few;
+      leaves = s.leaves;
+      at =
+          on_board (point_in (RoutTo x y ∷ past)) pass.1.0;
+      points = s.points;
+      room = s.room;
+      lowered =
+          λ low. absurd (let wrong : false ≡ true = low in cc);
+      tool = s.tool;
+    }
 
 pub lower_step : (past : Past) → IsSoundPast past → first_of (body_faults past Lower) ≡ None → IsSoundPast (Lower ∷ past)
 lower_step past s h =
     let pass = passes (body_faults past Lower) h in
-    record { tools = s.tools; distinct = s.distinct; items = s.items; few = s.few; leaves = s.leaves; at = s.at; points = All-cons IsOnBoard (point_in past) [] s.at (All-nil IsOnBoard); room = lit≤ tt; lowered = λ low. (omega arith, pass.0); tool = s.tool }
+    record {
+      tools = s.tools;
+      distinct = s.distinct;
+      items = s.items;
+      few = s.few;
+      leaves = s.leaves;
+      at = s.at;
+      points =
+          All-cons IsOnBoard (point_in past) [] s.at (All-nil IsOnBoard);
+      room = lit≤ tt;
+      lowered = λ low. (omega arith, pass.0);
+      tool = s.tool;
+    }
 
-pub cut_step : (past : Past) (x y : Coordinate) → IsSoundPast past → first_of (body_faults past (CutTo x y)) ≡ None → IsSoundPast (CutTo x y ∷ past)
+pub cut_step : (past : Past) (x y : Coordinate) → IsSoundPast past → first_of (body_faults past (CutTo x y)) ≡ None
+    → IsSoundPast (CutTo x y ∷ past)
 cut_step past x y s h =
     let pass = passes (body_faults past (CutTo x y)) h in
     let lowered = told (is_lowered (mode_in past)) pass.1.1.1.1.0 in
     let on : IsOnBoard (point_in (CutTo x y ∷ past)) = on_board (point_in (CutTo x y ∷ past)) pass.1.0 in
-    let short : length (points_in past) < 1000000 = leb-false 1000000 (length (points_in past)) (under (is_lowered (mode_in past)) (leb 1000000 (length (points_in past))) pass.1.1.0 lowered) in
+    let short : length (points_in past) < 1000000 =
+    leb-false 1000000 (length (points_in past))
+    (under (is_lowered (mode_in past)) (leb 1000000 (length (points_in past))) pass.1.1.0 lowered) in
     let size = length-append (points_in past) (point_in (CutTo x y ∷ past) ∷ []) in
     record {
       tools = s.tools;
@@ -245,12 +307,14 @@ pub raise_step : (past : Past) → IsSoundPast past → first_of (body_faults pa
 raise_step past s h =
     let pass = passes (body_faults past Raise) h in
     let lowered = told (is_lowered (mode_in past)) pass.1.0 in
-    let room = has_room past (drill_count_of (rout_of past)) (under (is_lowered (mode_in past)) (is_too_much past (drill_count_of (rout_of past))) pass.0 lowered) in
+    let room = has_room past (drill_count_of (rout_of past))
+    (under (is_lowered (mode_in past)) (is_too_much past (drill_count_of (rout_of past))) pass.0 lowered) in
     let known = known_number (tools_in past) (tool_in past) s.tool (s.lowered lowered).1 in
     record {
       tools = s.tools;
       distinct = s.distinct;
-      items = one_more (IsSoundDrillItem (tools_in past)) (items_in past) (rout_of past) s.items (sound_rout (tools_in past) (unwrap_or (tool_in past) 0) (points_in past) known (s.lowered lowered).0 s.points s.room);
+      items = one_more (IsSoundDrillItem (tools_in past)) (items_in past) (rout_of past) s.items
+          (sound_rout (tools_in past) (unwrap_or (tool_in past) 0) (points_in past) known (s.lowered lowered).0 s.points s.room);
       few = few_more past (rout_of past) room;
       leaves = leaves_more past (rout_of past) room;
       at = s.at;
@@ -260,7 +324,8 @@ raise_step past s h =
       tool = s.tool;
     }
   where
-    sound_rout : (tools : List (ℕ × Nm)) (n : ℕ) (ps : List Point) → is_some (diameter_of tools n) ≡ true → 0 < length ps → All IsOnBoard ps → length ps ≤ 1000000 → IsSoundDrillItem tools (Rout n ps)
+    sound_rout : (tools : List (ℕ × Nm)) (n : ℕ) (ps : List Point) → is_some (diameter_of tools n) ≡ true → 0 < length ps
+        → All IsOnBoard ps → length ps ≤ 1000000 → IsSoundDrillItem tools (Rout n ps)
     sound_rout tools n ps known some on few NoPoints = some
     sound_rout tools n ps known some on few UnknownAperture = tt
     sound_rout tools n ps known some on few UnknownTool = known

@@ -7,10 +7,12 @@ use Rattle.std.proofs.lemmas.Bool.{ltb-false}
 use Rattle.std.proofs.lemmas.Bool.Decides.{eqb_tells}
 use Rattle.cam_xnc.specs.declared.statement.Coordinate.{Coordinate}
 use Rattle.cam_xnc.specs.declared.statement.Statement.{Statement}
-use Rattle.cam_xnc.specs.declared.statement.Statement.TheVariants.{Declare, Neutral, DrillMode, HitAt, RoutTo, Lower, CutTo, Raise, CutArc, End, Unknown}
+use Rattle.cam_xnc.specs.declared.statement.Statement.TheVariants.{Declare, Neutral, DrillMode, HitAt, RoutTo, Lower}
+use Rattle.cam_xnc.specs.declared.statement.Statement.TheVariants.{CutTo, Raise, CutArc, End, Unknown}
 use Rattle.cam_numbers.specs.Numbers.{run_of, behind_run, natural, decimal}
 use Rattle.cam_xnc.specs.Numbers.{declared_tool}
-use Rattle.cam_xnc.specs.Syntax.{with_coordinates, coordinates_of, tool_by, tool_statement, header_words, body_words, word_in, word_or, rout_statement, other_statement, statement_of}
+use Rattle.cam_xnc.specs.Syntax.{with_coordinates, coordinates_of, tool_by, tool_statement, header_words, body_words}
+use Rattle.cam_xnc.specs.Syntax.{word_in, word_or, rout_statement, other_statement, statement_of}
 
 abbrev pub IsToolNumber : ℕ → Type 0
 IsToolNumber n = (1 ≤ n) × (n ≤ 9999)
@@ -32,7 +34,8 @@ unknown = record { number = tt }
 arc : IsNumbered CutArc
 arc = record { number = tt }
 
-placed : (says : Coordinate → Coordinate → Statement) (o : Option (Coordinate × Coordinate)) → ((x y : Coordinate) → IsNumbered (says x y)) → IsNumbered (with_coordinates says o)
+placed : (says : Coordinate → Coordinate → Statement) (o : Option (Coordinate × Coordinate))
+    → ((x y : Coordinate) → IsNumbered (says x y)) → IsNumbered (with_coordinates says o)
 placed says None h = unknown
 placed says (Some c) h = h c.0 c.1
 
@@ -58,7 +61,8 @@ small n = elim (eqb_tells n 0) [
 declared_small : (run : List ℕ) → IfSome (declared_tool run) IsToolNumber
 declared_small run = go (natural run)
   where
-    go : (o : Option ℕ) → IfSome (elim o as (λ x. Option ℕ) [ None ↦ None | Some n ↦ cond (eqb n 0) None (cond (ltb 9999 n) None (Some n)) ]) IsToolNumber
+    go : (o : Option ℕ)
+        → IfSome (elim o as (λ x. Option ℕ) [ None ↦ None | Some n ↦ cond (eqb n 0) None (cond (ltb 9999 n) None (Some n)) ]) IsToolNumber
     go None = tt
     go (Some n) = small n
 
@@ -70,12 +74,14 @@ unfolding tool_by
 tools number [] = record { number = tt }
 tools number (first ∷ size) = either (eqb first 67 && eqb (length (behind_run size)) 0) _ Unknown (declares number size) unknown
 
-words_numbered : (words : List (List ℕ × Statement)) (text : List ℕ) (otherwise : Statement) → AllByRecursion (λ word. IsNumbered word.1) words → IsNumbered otherwise → IsNumbered (word_or (word_in words text) otherwise)
+words_numbered : (words : List (List ℕ × Statement)) (text : List ℕ) (otherwise : Statement)
+    → AllByRecursion (λ word. IsNumbered word.1) words → IsNumbered otherwise → IsNumbered (word_or (word_in words text) otherwise)
 words_numbered [] text otherwise all other = other
-words_numbered (word ∷ words) text otherwise all other = elim (bytes_eq text word.0) as (λ b. IsNumbered (word_or (cond b (Some word.1) (word_in words text)) otherwise)) [
-  | true ↦ all.0
-  | false ↦ words_numbered words text otherwise all.1 other
-]
+words_numbered (word ∷ words) text otherwise all other =
+    elim (bytes_eq text word.0) as (λ b. IsNumbered (word_or (cond b (Some word.1) (word_in words text)) otherwise)) [
+      | true ↦ all.0
+      | false ↦ words_numbered words text otherwise all.1 other
+    ]
 
 plain : (says : Statement) → HasToolNumber says → IsNumbered says
 plain says h = record { number = h }
@@ -87,8 +93,10 @@ routs text = search (either, placed, starts, cuts, arc, unknown)
 others : (text : List ℕ) → IsNumbered (other_statement text)
 unfolding other_statement
 others text =
-    words_numbered body_words text (word_or (word_in header_words text) (rout_statement text)) (plain Neutral tt, (plain Neutral tt, (plain DrillMode tt, (plain Lower tt, (plain Raise tt, (plain End tt, tt))))))
-    (words_numbered header_words text (rout_statement text) (plain _ tt, (plain _ tt, (plain _ tt, (plain _ tt, (plain _ tt, (plain _ tt, (plain _ tt, (plain _ tt, tt)))))))) (routs text))
+    words_numbered body_words text (word_or (word_in header_words text) (rout_statement text))
+    (plain Neutral tt, (plain Neutral tt, (plain DrillMode tt, (plain Lower tt, (plain Raise tt, (plain End tt, tt))))))
+    (words_numbered header_words text (rout_statement text)
+    (plain _ tt, (plain _ tt, (plain _ tt, (plain _ tt, (plain _ tt, (plain _ tt, (plain _ tt, (plain _ tt, tt)))))))) (routs text))
 
 tool_lines : (text : List ℕ) → IsNumbered (tool_statement text)
 unfolding tool_statement
@@ -97,7 +105,9 @@ tool_lines text = tools (run_of text) (behind_run text)
 says_numbered : (text : List ℕ) → IsNumbered (statement_of text)
 unfolding statement_of
 says_numbered [] = unknown
-says_numbered (first ∷ text) = either (eqb first 88 || eqb first 89) _ _ (placed HitAt (coordinates_of (first ∷ text)) hits) (either (eqb first 84) _ _ (tool_lines text) (others (first ∷ text)))
+says_numbered (first ∷ text) =
+    either (eqb first 88 || eqb first 89) _ _ (placed HitAt (coordinates_of (first ∷ text)) hits)
+    (either (eqb first 84) _ _ (tool_lines text) (others (first ∷ text)))
 
 pub has_tool_number : (text : List ℕ) → HasToolNumber (statement_of text)
 has_tool_number text = (says_numbered text).number

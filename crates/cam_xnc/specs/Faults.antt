@@ -1,5 +1,6 @@
 -- The faults of a line after its past.
-use Rattle.std.specs.Prelude.{ℕ, ◌+◌, ℤ, pos, negsuc, List, [], ◌∷◌, length, min, Option, Some, None, Bool, true, false, ◌||◌, ◌&&◌, ◌==◌, not, nat_le, nat_lt, is_some, is_none, unsigned_abs, if◌then◌else◌}
+use Rattle.std.specs.Prelude.{ℕ, ◌+◌, ℤ, pos, negsuc, List, [], ◌∷◌, length, min, Option, Some, None, Bool, true, false}
+use Rattle.std.specs.Prelude.{◌||◌, ◌&&◌, ◌==◌, not, nat_le, nat_lt, is_some, is_none, unsigned_abs, if◌then◌else◌}
 use Rattle.cam_units.specs.declared.length.Unit.{Unit as FileUnit}
 use Rattle.cam_units.specs.declared.length.Unit.TheVariants.{Mm, Inch}
 use Rattle.cam_units.specs.declared.point.Point.{Point}
@@ -12,8 +13,11 @@ use Rattle.cam_xnc.specs.declared.modes.Mode.TheVariants.{Drilling, Raised, Lowe
 use Rattle.cam_xnc.specs.declared.statement.Coordinate.{Coordinate}
 use Rattle.cam_xnc.specs.declared.statement.Coordinate.TheVariants.{Omitted, Malformed, Pointless, Written}
 use Rattle.cam_xnc.specs.declared.statement.Statement.{Statement}
-use Rattle.cam_xnc.specs.declared.statement.Statement.TheVariants.{BeginHeader, SetUnit, Declare, Neutral, EndHeader, Select, DrillMode, HitAt, RoutTo, Lower, CutTo, Raise, CutArc, End}
-use Rattle.cam_xnc.specs.DrillState.{Past, part_in, unit_in, mode_in, tool_in, point_in, tool_of, tools_in, points_in, hit_of, rout_of, items_in, leaves_in}
+use Rattle.cam_xnc.specs.declared.statement.Statement.TheVariants.{BeginHeader, SetUnit, Declare, Neutral, EndHeader}
+use Rattle.cam_xnc.specs.declared.statement.Statement.TheVariants.{Select, DrillMode, HitAt, RoutTo, Lower, CutTo}
+use Rattle.cam_xnc.specs.declared.statement.Statement.TheVariants.{Raise, CutArc, End}
+use Rattle.cam_xnc.specs.DrillState.{Past, part_in, unit_in, mode_in, tool_in, point_in, tool_of, tools_in, points_in}
+use Rattle.cam_xnc.specs.DrillState.{hit_of, rout_of, items_in, leaves_in}
 
 -- the numbers that faults are told by
 
@@ -176,13 +180,15 @@ header_faults past _ = (unknown_line, true) ∷ []
 -- a hit, or a coordinate in a rout mode, which is none
 abbrev pub hit_faults : Past → Coordinate → Coordinate → Point → Mode → Table
 hit_faults past x y to mode =
-    (bad_number, is_malformed x || is_malformed y) ∷ (out_of_board, not (is_on_board to)) ∷ (too_much, is_drilling mode && is_too_much past (drill_count_of (hit_of past to)))
+    (bad_number, is_malformed x || is_malformed y) ∷ (out_of_board, not (is_on_board to))
+    ∷ (too_much, is_drilling mode && is_too_much past (drill_count_of (hit_of past to)))
     ∷ (no_tool_selected, is_none (tool_in past)) ∷ (no_point, is_pointless x || is_pointless y) ∷ (rout_state, not (is_drilling mode)) ∷ []
 
 -- the way to a rout's start
 abbrev pub start_faults : Coordinate → Coordinate → Point → Mode → Table
 start_faults x y to mode =
-    (bad_number, is_malformed x || is_malformed y) ∷ (out_of_board, not (is_on_board to)) ∷ (no_point, is_pointless x || is_pointless y) ∷ (rout_state, is_lowered mode) ∷ []
+    (bad_number, is_malformed x || is_malformed y) ∷ (out_of_board, not (is_on_board to))
+    ∷ (no_point, is_pointless x || is_pointless y) ∷ (rout_state, is_lowered mode) ∷ []
 
 -- a cut
 abbrev pub cut_faults : Past → Coordinate → Coordinate → Point → Mode → Table
@@ -193,13 +199,15 @@ cut_faults past x y to mode =
 -- lines of the body
 abbrev pub body_faults : Past → Statement → Table
 body_faults past Neutral = []
-body_faults past (Select number) = (bad_number, is_none number) ∷ (unknown_tool, is_unknown_tool past number) ∷ (rout_state, is_lowered (mode_in past)) ∷ []
+body_faults past (Select number) = (bad_number, is_none number) ∷ (unknown_tool, is_unknown_tool past number)
+    ∷ (rout_state, is_lowered (mode_in past)) ∷ []
 body_faults past DrillMode = (rout_state, is_lowered (mode_in past)) ∷ []
 body_faults past (HitAt x y) = hit_faults past x y (point_in (HitAt x y ∷ past)) (mode_in past)
 body_faults past (RoutTo x y) = start_faults x y (point_in (RoutTo x y ∷ past)) (mode_in past)
 body_faults past Lower = (no_tool_selected, is_none (tool_in past)) ∷ (rout_state, not (is_raised (mode_in past))) ∷ []
 body_faults past (CutTo x y) = cut_faults past x y (point_in (CutTo x y ∷ past)) (mode_in past)
-body_faults past Raise = (too_much, is_lowered (mode_in past) && is_too_much past (drill_count_of (rout_of past))) ∷ (rout_state, not (is_lowered (mode_in past))) ∷ []
+body_faults past Raise = (too_much, is_lowered (mode_in past) && is_too_much past (drill_count_of (rout_of past)))
+    ∷ (rout_state, not (is_lowered (mode_in past))) ∷ []
 body_faults past CutArc = (rout_arc, true) ∷ []
 body_faults past End = (rout_state, is_lowered (mode_in past)) ∷ []
 body_faults past _ = (unknown_line, true) ∷ []

@@ -38,11 +38,13 @@ IsNotBehind f g = (f.at < g.at) ⊎ ((f.at ≡ g.at) × (f.code ≤ g.code))
 
 -- the fault that is told is one of the file's, of the least place, and there of the least number
 abbrev pub TellsLeastFault : Type 0
-TellsLeastFault = (bytes : List ℕ) (f : ReadFault) → reading_of bytes ≡ Err f → IsFault bytes f × ((g : ReadFault) → IsFault bytes g → IsNotBehind f g)
+TellsLeastFault = (bytes : List ℕ) (f : ReadFault) → reading_of bytes ≡ Err f
+    → IsFault bytes f × ((g : ReadFault) → IsFault bytes g → IsNotBehind f g)
 
 -- a file that gives a layer has no fault
 abbrev pub GivesFaultlessFiles : Type 0
-GivesFaultlessFiles = (bytes : List ℕ) (layer : DrillLayer) (f : ReadFault) → reading_of bytes ≡ Ok (drill_content_of layer) → ¬ IsFault bytes f
+GivesFaultlessFiles = (bytes : List ℕ) (layer : DrillLayer) (f : ReadFault) → reading_of bytes ≡ Ok (drill_content_of layer)
+    → ¬ IsFault bytes f
 
 -- no fault of a file is one of memory
 abbrev pub IsNoMemoryFault : Type 0

@@ -73,7 +73,8 @@ return_before (line ∷ lines) = return_onto line.text line.ending line lines
 
 -- a byte before lines
 abbrev pub byte_before : ℕ → List TextLine → List TextLine
-byte_before byte lines = if byte == 10 then empty_line LineFeed ∷ lines else if byte == 13 then return_before lines else onto_line byte lines
+byte_before byte lines = if byte == 10 then empty_line LineFeed
+    ∷ lines else if byte == 13 then return_before lines else onto_line byte lines
 
 unfoldable pub cut : List ℕ → List TextLine
 cut [] = []

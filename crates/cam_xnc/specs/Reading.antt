@@ -1,5 +1,6 @@
 -- What an XNC file means: its drill layer, or its first fault.
-use Rattle.std.specs.Prelude.{◌≡◌, ℕ, ◌+◌, List, [], ◌∷◌, length, map, filter, reverse, Option, Some, None, Result, Ok, Err, ◌⊎◌, Bool, true, false, not, if◌then◌else◌}
+use Rattle.std.specs.Prelude.{◌≡◌, ℕ, ◌+◌, List, [], ◌∷◌, length, map, filter, reverse, Option, Some, None, Result, Ok}
+use Rattle.std.specs.Prelude.{Err, ◌⊎◌, Bool, true, false, not, if◌then◌else◌}
 use Rattle.std.specs.Option.{option_or, option_map}
 use Rattle.std.specs.List.{list_any, prefix_len}
 use Rattle.cam_objects.specs.declared.drill_layer.DrillLayer.{DrillLayer}

@@ -1,11 +1,14 @@
 -- What the lines of an XNC file say. XNC Format Specification, "Header", "Drilling" and "Routing".
-use Rattle.std.specs.Prelude.{ℕ, ℤ, List, [], ◌∷◌, length, take, drop, nat_eq, codes, Option, Some, None, Bool, ◌==◌, ◌||◌, ◌&&◌, not, is_none, if◌then◌else◌}
+use Rattle.std.specs.Prelude.{ℕ, ℤ, List, [], ◌∷◌, length, take, drop, nat_eq, codes, Option, Some, None, Bool, ◌==◌}
+use Rattle.std.specs.Prelude.{◌||◌, ◌&&◌, not, is_none, if◌then◌else◌}
 use Rattle.std.specs.List.{starts_with, list_any}
 use Rattle.std.specs.Str.{bytes_eq}
 use Rattle.std.specs.Char.{is_ascii_digit}
 use Rattle.cam_units.specs.declared.length.Unit.TheVariants.{Mm, Inch}
 use Rattle.cam_xnc.specs.declared.statement.Statement.{Statement}
-use Rattle.cam_xnc.specs.declared.statement.Statement.TheVariants.{BeginHeader, SetUnit, Declare, Neutral, EndHeader, Select, DrillMode, HitAt, RoutTo, Lower, CutTo, Raise, CutArc, End, Unknown}
+use Rattle.cam_xnc.specs.declared.statement.Statement.TheVariants.{BeginHeader, SetUnit, Declare, Neutral, EndHeader}
+use Rattle.cam_xnc.specs.declared.statement.Statement.TheVariants.{Select, DrillMode, HitAt, RoutTo, Lower, CutTo}
+use Rattle.cam_xnc.specs.declared.statement.Statement.TheVariants.{Raise, CutArc, End, Unknown}
 use Rattle.cam_xnc.specs.declared.statement.Coordinate.{Coordinate}
 use Rattle.cam_xnc.specs.declared.statement.Coordinate.TheVariants.{Omitted, Malformed, Pointless, Written}
 use Rattle.cam_numbers.specs.Numbers.{run_of, behind_run, decimal}
@@ -54,7 +57,8 @@ header_words =
     ∷ (codes "INCH", SetUnit Inch) ∷ (codes "INCH,LZ", SetUnit Inch) ∷ (codes "INCH,TZ", SetUnit Inch) ∷ (codes "%", EndHeader) ∷ []
 
 abbrev pub body_words : List (List ℕ × Statement)
-body_words = (codes "FMAT,2", Neutral) ∷ (codes "G90", Neutral) ∷ (codes "G05", DrillMode) ∷ (codes "M15", Lower) ∷ (codes "M16", Raise) ∷ (codes "M30", End) ∷ []
+body_words = (codes "FMAT,2", Neutral) ∷ (codes "G90", Neutral) ∷ (codes "G05", DrillMode) ∷ (codes "M15", Lower)
+    ∷ (codes "M16", Raise) ∷ (codes "M30", End) ∷ []
 
 abbrev pub word_in : List (List ℕ × Statement) → List ℕ → Option Statement
 word_in [] text = None
@@ -84,4 +88,5 @@ other_statement text = word_or (word_in body_words text) (word_or (word_in heade
 unfoldable pub statement_of : List ℕ → Statement
 statement_of [] = Unknown
 statement_of (first ∷ text) =
-    if (first == 88) || (first == 89) then with_coordinates HitAt (coordinates_of (first ∷ text)) else if first == 84 then tool_statement text else other_statement (first ∷ text)
+    if (first == 88) || (first == 89) then with_coordinates HitAt
+    (coordinates_of (first ∷ text)) else if first == 84 then tool_statement text else other_statement (first ∷ text)

@@ -3,7 +3,9 @@
 ghost use Rattle.std.specs.Prelude.{◌≡◌, length, IfOk};
 ghost use Rattle.std.specs.Option.{option_copied};
 ghost use Rattle.cam_xnc.specs.Bytes.{packed};
-ghost use Rattle.cam_xnc.specs.Syntax.{field, coordinate, coordinates_of, tool_by, tool_statement, header_words, body_words, word_in, begins_with_code, rout_statement, other_statement, statement_of};
+ghost use Rattle.cam_xnc.specs.Syntax.{field, coordinate, coordinates_of, tool_by, tool_statement, header_words};
+ghost use Rattle.cam_xnc.specs.Syntax.{body_words, word_in, begins_with_code, rout_statement, other_statement};
+ghost use Rattle.cam_xnc.specs.Syntax.{statement_of};
 
 use crate::bytes::{holds_skipped, pack};
 use crate::numbers::{declared_tool, is_pointed, is_whole, selected_tool};

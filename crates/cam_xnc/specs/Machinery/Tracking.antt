@@ -8,7 +8,8 @@ use Rattle.cam_xnc.specs.declared.statement.Statement.{Statement}
 use Rattle.cam_xnc.specs.declared.state.DrillState.{DrillState}
 use Rattle.cam_xnc.specs.declared.state.Stop.{Stop}
 use Rattle.cam_xnc.specs.declared.state.Stop.TheVariants.{Memory, Fault}
-use Rattle.cam_xnc.specs.DrillState.{Past, part_in, unit_in, mode_in, tool_in, point_in, points_in, tools_in, items_in, leaves_in, value_told, length_nm}
+use Rattle.cam_xnc.specs.DrillState.{Past, part_in, unit_in, mode_in, tool_in, point_in, points_in, tools_in, items_in}
+use Rattle.cam_xnc.specs.DrillState.{leaves_in, value_told, length_nm}
 use Rattle.cam_xnc.specs.Faults.{Table}
 
 -- the state has the values of the past

@@ -118,6 +118,8 @@ pub const REFUSALS: &[Refused] = &[
     // names that no macro has yet, and parameters past the hole
     (b"%FSLAX36Y36*%%MOMM*%%ADD10A*%%AMA*1,1,1,0,0*%M02*", 11, 20),
     (b"%FSLAX36Y36*%%MOMM*%%AMA*1,1,1,0,0*%%ADD10a*%M02*", 11, 36),
+    (b"%FSLAX36Y36*%%MOMM*%%ADD10.5C,1*%M02*", 11, 20),
+    (b"%FSLAX36Y36*%%MOMM*%%ADD-10C,1*%M02*", 4, 20),
     (b"%FSLAX36Y36*%%MOMM*%%ADD10C,1X0.5X0.5*%M02*", 11, 20),
     (b"%FSLAX36Y36*%%MOMM*%%ADD10R,1X1X1X1*%M02*", 11, 20),
     (b"%FSLAX36Y36*%%MOMM*%%ADD10O,1X1X1X0*%M02*", 11, 20),

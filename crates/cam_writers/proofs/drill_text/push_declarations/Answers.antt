@@ -9,9 +9,12 @@ loop-place-preserved c =
     elim c.match-at.branch [
       | in-Some+in_ok-push_declaration w ↦ record {
         text = λ lines e. ap (λ (v : Vec ℕ). v.items) w.text-is
-            ∙ tool_added c.args.tools.now c.loop-place.place (w.in-Some.tool, w.in-Some.diameter) lines c.loop-place.text.items w.push_declaration.new.text.items (omega (arith, c.loop-place.invariant.end))
+            ∙ tool_added c.args.tools.now c.loop-place.place
+            (w.in-Some.tool, w.in-Some.diameter) lines c.loop-place.text.items w.push_declaration.new.text.items
+            (omega (arith, c.loop-place.invariant.end))
             (sym c.at.ensures ∙ w.in-Some.is) (c.loop-place.invariant.text lines e) w.in_ok-push_declaration.ensures;
         end = c.loop-place.invariant.end;
       }
-      | in_default w ↦ absurd (never_past c.args.tools.now c.loop-place.place (omega (arith, c.loop-place.invariant.end)) (sym c.at.ensures ∙ w.in_default.is))
+      | in_default w ↦ absurd
+          (never_past c.args.tools.now c.loop-place.place (omega (arith, c.loop-place.invariant.end)) (sym c.at.ensures ∙ w.in_default.is))
     ]

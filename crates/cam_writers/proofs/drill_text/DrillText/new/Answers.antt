@@ -12,4 +12,6 @@ returns c =
     let tools = c.in_ok-push_declarations.ensures (codes "METRIC" ∷ codes "M48" ∷ []) head in
     let e3 = c.in_ok-push_line-3.ensures in
     let e4 = c.in_ok-push_line-4.ensures in
-    opened c.args.tools.now _ c.requires (e4 ∙ ap (λ (front : List ℕ). front ++ (codes "G05" ++ codes "\n")) (e3 ∙ ap (λ (front : List ℕ). front ++ (codes "%" ++ codes "\n")) tools)) refl refl
+    opened c.args.tools.now _ c.requires
+    (e4 ∙ ap (λ (front : List ℕ). front ++ (codes "G05" ++ codes "\n"))
+    (e3 ∙ ap (λ (front : List ℕ). front ++ (codes "%" ++ codes "\n")) tools)) refl refl

@@ -11,4 +11,6 @@ returns-then-is_empty-clause-none c =
 pub returns-clause-some : goal.returns-clause-some
 returns-clause-some c =
     sym c.self.view_is
-    ∙ given_next c.self.inside.at c.line_len-len.result c.end_len.result c.self.inside.rest.now (some_left _ _ c.is_empty.ensures c.if-is_empty.false) c.line_len-len.ensures.value c.line_len-len.ensures.within c.end_len.ensures.value
+    ∙ given_next c.self.inside.at c.line_len-len.result c.end_len.result c.self.inside.rest.now
+    (some_left _ _ c.is_empty.ensures c.if-is_empty.false) c.line_len-len.ensures.value c.line_len-len.ensures.within
+    c.end_len.ensures.value

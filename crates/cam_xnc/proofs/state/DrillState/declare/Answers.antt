@@ -11,7 +11,8 @@ pub returns-then-not-is_diameter : goal.returns-then-not-is_diameter
 returns-then-not-is_diameter c = λ past t.
     let within : SFits w64 c.in-Some-diameter.diameter = search rules in
     let size = c.fix9_nm-diameter.ensures ∙ ap (λ d. fix9_of d c.in-Some-unit.unit) (to_z-of_z w64 c.in-Some-diameter.diameter within) in
-    let tested : IsTested c.args.self.now c.args.number c.args.diameter c.in-Some.number c.in-Some-diameter.diameter c.in-Some-unit.unit c.fix9_nm-diameter.result c.is_diameter.result = record {
+    let tested : IsTested c.args.self.now c.args.number c.args.diameter c.in-Some.number c.in-Some-diameter.diameter
+    c.in-Some-unit.unit c.fix9_nm-diameter.result c.is_diameter.result = record {
       is_number = c.in-Some.is;
       is_length = c.in-Some-diameter.is;
       is_unit = c.in-Some-unit.is;
@@ -24,27 +25,32 @@ pub returns-then-is_some : goal.returns-then-is_some
 returns-then-is_some c = λ past t.
     let within : SFits w64 c.in-Some-diameter.diameter = search rules in
     let size = c.fix9_nm-diameter.ensures ∙ ap (λ d. fix9_of d c.in-Some-unit.unit) (to_z-of_z w64 c.in-Some-diameter.diameter within) in
-    let tested : IsTested c.args.self.now c.args.number c.args.diameter c.in-Some.number c.in-Some-diameter.diameter c.in-Some-unit.unit c.fix9_nm-diameter.result c.is_diameter.result = record {
+    let tested : IsTested c.args.self.now c.args.number c.args.diameter c.in-Some.number c.in-Some-diameter.diameter
+    c.in-Some-unit.unit c.fix9_nm-diameter.result c.is_diameter.result = record {
       is_number = c.in-Some.is;
       is_length = c.in-Some-diameter.is;
       is_unit = c.in-Some-unit.is;
       is_size = size;
       has_fits = c.is_diameter.ensures;
     } in
-    rw (c.if-not-is_diameter.false, c.if-is_some.true) at (declaration_answer past _ _ _ _ _ _ _ c.is_diameter.result c.is_some.result t tested (c.is_some.ensures ∙ ap is_some c.get.ensures))
+    rw (c.if-not-is_diameter.false, c.if-is_some.true) at
+    (declaration_answer past _ _ _ _ _ _ _ c.is_diameter.result c.is_some.result t tested
+    (c.is_some.ensures ∙ ap is_some c.get.ensures))
 
 pub returns : goal.returns
 returns c = λ past t.
     let within : SFits w64 c.in-Some-diameter.diameter = search rules in
     let size = c.fix9_nm-diameter.ensures ∙ ap (λ d. fix9_of d c.in-Some-unit.unit) (to_z-of_z w64 c.in-Some-diameter.diameter within) in
-    let tested : IsTested c.args.self.now c.args.number c.args.diameter c.in-Some.number c.in-Some-diameter.diameter c.in-Some-unit.unit c.fix9_nm-diameter.result c.is_diameter.result = record {
+    let tested : IsTested c.args.self.now c.args.number c.args.diameter c.in-Some.number c.in-Some-diameter.diameter
+    c.in-Some-unit.unit c.fix9_nm-diameter.result c.is_diameter.result = record {
       is_number = c.in-Some.is;
       is_length = c.in-Some-diameter.is;
       is_unit = c.in-Some-unit.is;
       is_size = size;
       has_fits = c.is_diameter.ensures;
     } in
-    let answer = declaration_answer past _ _ _ _ _ _ _ c.is_diameter.result c.is_some.result t tested (c.is_some.ensures ∙ ap is_some c.get.ensures) in (
+    let answer = declaration_answer past _ _ _ _ _ _ _ c.is_diameter.result c.is_some.result t tested
+    (c.is_some.ensures ∙ ap is_some c.get.ensures) in (
       rw (c.if-not-is_diameter.false, c.if-is_some.false) at answer,
       record {
         part = t.part;
