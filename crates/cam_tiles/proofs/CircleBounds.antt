@@ -1,5 +1,5 @@
 -- A bound on the radius of a circle, without a root: the sum of how far its point lies across and along.
-use Rattle.std.proofs.Common.{◌≡◌, ℕ, ◌+◌, ◌*◌, ◌^◌, ◌<◌, ℤ, pos, ◌+ℤ◌, ◌-ℤ◌, ◌*ℤ◌, ◌≤ℤ◌, ap, ◌∙◌, FitsSigned, w64}
+use Rattle.std.proofs.Common.{◌≡◌, ℕ, ◌+◌, ◌*◌, ◌^◌, ◌<◌, ℤ, pos, ◌+ℤ◌, ◌-ℤ◌, ◌*ℤ◌, ◌≤ℤ◌, neg_ℤ, ap, ◌∙◌, FitsSigned, w64}
 use Rattle.std.proofs.Common.{arith}
 use Rattle.std.specs.Int.RustNames.{unsigned_abs}
 use Rattle.std.proofs.lemmas.Int.{ints}
@@ -16,6 +16,24 @@ gap_kept a b near near_too = omega (arith, ints)
 
 gap_short : (a b : ℤ) → unsigned_abs a < board_limit → unsigned_abs b < board_limit → unsigned_abs (a -ℤ b) < 2000000000
 gap_short a b near near_too = omega (arith, ints)
+
+pub gap_fits : (a b : ℤ) → unsigned_abs a < board_limit → unsigned_abs b < board_limit
+    → FitsSigned w64 (long a -ℤ long b)
+gap_fits a b near near_too = omega (arith, ints)
+
+pub back_fits : (a b : ℤ) → unsigned_abs a < board_limit → unsigned_abs b < board_limit
+    → FitsSigned w64 (neg_ℤ (long (long a -ℤ long b)))
+back_fits a b near near_too = omega (arith, ints)
+
+sizes_fit : (m n : ℕ) → m < 2000000000 → n < 2000000000 → FitsSigned w64 (long (pos m) +ℤ long (pos n))
+sizes_fit m n short short_too = omega (arith, ints)
+
+pub gaps_fit : (a b d e r t : ℤ) → r ≡ pos (unsigned_abs (a -ℤ b)) → t ≡ pos (unsigned_abs (d -ℤ e))
+    → unsigned_abs a < board_limit → unsigned_abs b < board_limit → unsigned_abs d < board_limit
+    → unsigned_abs e < board_limit → FitsSigned w64 (long r +ℤ long t)
+gaps_fit a b d e r t is_gap is_other near_a near_b near_d near_e =
+    rw (is_gap, is_other) (sizes_fit (unsigned_abs (a -ℤ b)) (unsigned_abs (d -ℤ e)) (gap_short a b near_a near_b)
+    (gap_short d e near_d near_e))
 
 pub gap_is : (a b r : ℤ) → unsigned_abs a < board_limit → unsigned_abs b < board_limit
     → r ≡ pos (unsigned_abs (long (long a -ℤ long b))) → r ≡ pos (unsigned_abs (a -ℤ b))

@@ -1,9 +1,9 @@
 -- Segments of a contour, filed one after another.
 use Rattle.std.proofs.Common.{◌≡◌, ◌↔◌, ℕ, ◌+◌, ◌<◌, ◌≤◌, Bool, true, false, IsTrue, List, [], ◌∷◌, ◌++◌}
-use Rattle.std.proofs.Common.{length, drop, get_or, refl, sym, ap, subst, ◌∙◌, append_assoc, add-one, arith}
+use Rattle.std.proofs.Common.{length, drop, take, get_or, refl, sym, ap, subst, ◌∙◌, append_assoc, add-one, arith}
 use Rattle.std.specs.Prelude.{All}
 use Rattle.std.specs.Int.{IsBitSet}
-use Rattle.std.proofs.Math.Seq.{drop-append_seam}
+use Rattle.std.proofs.Math.Seq.{drop-append_seam, take-append_seam}
 use Rattle.std.proofs.lemmas.List.{at_drop_all, at_drop_more, get_or_default, get_or_past, length-append}
 use Rattle.std.proofs.lemmas.List.Elements.{All-push}
 use Rattle.cam_units.specs.Board.{IsOnBoard}
@@ -74,6 +74,20 @@ pub record IsFiledBut (c : Contour) (l : Levels) (old new : List FiledSegment) (
   pub change : (row : ℕ) (s : Spot) → IsOnRow l row s
       → differ (filed_change c added s) (rest s) ≡ change_side s c.start c.start c.segs
 
+-- so many are filed, and those before them stay
+module _ (c : Contour) (l : Levels) (old new : List FiledSegment) (n : ℕ) (rest : Spot → Bool)
+    (so_far : IsFiledBut c l old new n rest) where
+  pub few_filed : length new ≤ length old + n
+  few_filed = omega (arith, ap length so_far.pushed, length-append old so_far.added, so_far.few)
+
+  pub before_kept : take (length old) new ≡ old
+  before_kept = ap (take (length old)) so_far.pushed ∙ take-append_seam old so_far.added
+
+  pub before_more : (f : FiledSegment) (now : List FiledSegment) → now ≡ new ++ f ∷ [] → take (length old) now ≡ old
+  before_more f now is_now =
+      ap (take (length old)) (is_now ∙ ap (λ fs. fs ++ f ∷ []) so_far.pushed
+      ∙ append_assoc old so_far.added (f ∷ [])) ∙ take-append_seam old (so_far.added ++ f ∷ [])
+
 rest_like : (c : Contour) (l : Levels) (old new : List FiledSegment) (n : ℕ) (rest other : Spot → Bool)
     → ((s : Spot) → rest s ≡ other s) → IsFiledBut c l old new n rest → IsFiledBut c l old new n other
 rest_like c l old new n rest other same so_far = record {
@@ -125,6 +139,12 @@ pub end_on_board : (c : Contour) (segs : List Seg) (k : ℕ) (d : Seg) (there : 
 end_on_board c segs k d there is_segs within sound is_end =
     let all : All IsSoundSeg segs = subst (All IsSoundSeg) (sym is_segs) sound in
     subst IsOnBoard (sym is_end) (sound_end (get_or segs k d) (all k d within))
+
+pub sound_at : (c : Contour) (segs : List Seg) (k : ℕ) (d : Seg) → segs ≡ c.segs → k < length segs
+    → All IsSoundSeg c.segs → IsSoundSeg (get_or segs k d)
+sound_at c segs k d is_segs within sound =
+    let all : All IsSoundSeg segs = subst (All IsSoundSeg) (sym is_segs) sound in
+    all k d within
 
 -- what is to come from a point on
 abbrev pub rest_from : Contour → Point → ℕ → Spot → Bool

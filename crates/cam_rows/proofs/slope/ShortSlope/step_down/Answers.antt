@@ -15,9 +15,6 @@ near c =
     let short = c.self.invariant in
     near_parts (widened c.self.inside) short.slope end short.end_step short.divisor
 
-pub same-self : goal.same-self
-same-self c = refl
-
 pub returns-then-self-clause-stays : goal.returns-then-self-clause-stays
 returns-then-self-clause-stays c = λ _. refl
 

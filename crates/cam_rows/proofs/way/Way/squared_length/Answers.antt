@@ -21,8 +21,9 @@ overflow_add-result c = omega (arith, across c, along c)
 
 pub returns-clause-value : goal.returns-clause-value
 returns-clause-value c =
-    omega (arith, ints, square_of c.from-x.result c.args.self.now.x c.from-x.ensures,
-    square_of c.from-y.result c.args.self.now.y c.from-y.ensures)
+    let x = square_of c.from-x.result c.args.self.now.x (omega (arith, ints, c.requires.x)) in
+    let y = square_of c.from-y.result c.args.self.now.y (omega (arith, ints, c.requires.y)) in
+    omega (arith, ints, x, y)
 
 pub returns-clause-bound : goal.returns-clause-bound
 returns-clause-bound c = omega (arith, across c, along c)

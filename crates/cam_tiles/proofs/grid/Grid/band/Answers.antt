@@ -1,8 +1,18 @@
-use Rattle.std.proofs.Common.{FitsSigned, w64, rules}
+use Rattle.std.proofs.Common.{FitsSigned, w64, arith, rules}
 use Rattle.cam_objects.specs.Image.{relative}
+use Rattle.cam_rows.proofs.Gaps.{gap_fits, twice_fits}
 use Rattle.cam_tiles.specs.Tiles.{centre_in}
 use Rattle.cam_tiles.proofs.LevelRows.{are_seen, seen_on_row}
+use Rattle.cam_tiles.proofs.StepLemmas.{first_y}
 use Rattle.cam_tiles.proofs.grid.Grid.band.Goals as goal
+
+pub overflow_mul-levels : goal.overflow_mul-levels
+overflow_mul-levels c = twice_fits c.args.at.y c.requires.at.y
+
+pub overflow_sub-levels : goal.overflow_sub-levels
+overflow_sub-levels c =
+    let near = first_y c.args.self.now c.requires.grid in
+    gap_fits c.args.self.now.first.y c.args.at.y (omega (arith, near)) c.requires.at.y
 
 pub band-requires : goal.band-requires
 band-requires c =
@@ -16,3 +26,6 @@ returns-clause-rows c = λ row within.
     let fits : FitsSigned w64 g.step = search rules in
     c.band.ensures.rows row (relative c.args.at (centre_in g 0 row))
     (seen_on_row g c.args.at c.requires.grid c.requires.at fits row within)
+
+pub returns-clause-end : goal.returns-clause-end
+returns-clause-end c = c.band.ensures.end

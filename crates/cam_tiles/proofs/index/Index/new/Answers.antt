@@ -20,6 +20,15 @@ is_box : {box : Bounds} {read lists : List (List Leaf)} (k : ℕ) → box ≡ bo
     → box ≡ bounds_of (get_or lists k [])
 is_box k told same = told ∙ ap (λ (these : List (List Leaf)). bounds_of (get_or these k [])) same
 
+pub boxes-boxes-requires : goal.boxes-boxes-requires
+boxes-boxes-requires c = c.requires
+
+pub read-bounds-requires : goal.read-bounds-requires
+read-bounds-requires c = omega (arith, ap length c.loop-place.invariant.lists)
+
+pub room_to_file-room-requires : goal.room_to_file-room-requires
+room_to_file-room-requires c = record { ready = c.requires; within = omega arith }
+
 pub loop-place-init : goal.loop-place-init
 loop-place-init c = record {
   lists = c.boxes-boxes.ensures;

@@ -1,9 +1,46 @@
-use Rattle.std.proofs.Common.{FitsSigned, w64, pos, ◌*ℤ◌, ◌<◌, refl, rules, arith, ◌-◌}
+use Rattle.std.proofs.Common.{FitsSigned, w64, pos, ◌*ℤ◌, ◌≤ℤ◌, ◌<◌, refl, rules, arith, ◌-◌}
 use Rattle.std.specs.Int.RustNames.{unsigned_abs}
+use Rattle.std.proofs.lemmas.Bool.{false≢true}
 use Rattle.std.proofs.lemmas.Int.{clamps, ints}
 use Rattle.cam_tiles.specs.Machinery.Levels.{height}
 use Rattle.cam_tiles.proofs.LevelRows.{below_top, between_cut, last_within, over_bottom, top_short, under_kept}
 use Rattle.cam_tiles.proofs.levels.Levels.band.Goals as goal
+
+pub reach-requires : goal.reach-requires
+reach-requires c = c.requires
+
+pub returns-then-not-reach-clause-rows : goal.returns-then-not-reach-clause-rows
+returns-then-not-reach-clause-rows c = λ row s on.
+    let l = c.args.self.now in
+    let over : height l (l.rows - 1) ≤ℤ s.y = rw on.1 (over_bottom l c.requires row on.0) in
+    let under : s.y ≤ℤ l.top = rw on.1 (below_top l c.requires row on.0) in (
+      (λ h. absurd (omega (arith, h.1))),
+      (λ within. absurd (false≢true (c.if-not-reach.ensures.1 (
+        omega (arith, ints, within.0, under),
+        omega (arith, ints, within.1, over),
+      )))),
+    )
+
+pub overflow_sub-self : goal.overflow_sub-self
+overflow_sub-self c =
+    let l = c.args.self.now in
+    let reached = c.if-not-reach.ensures.0 refl in
+    let high : FitsSigned w64 c.args.heights.high = search rules in
+    let top = top_short l c.requires in
+    let bottom = c.requires.heights (l.rows - 1) (last_within l c.requires) in
+    omega (arith, ints, clamps, top, bottom, high, c.min.ensures, reached.0, reached.1)
+
+pub rows_above-requires : goal.rows_above-requires
+rows_above-requires c = c.requires
+
+pub bottom-requires : goal.bottom-requires
+bottom-requires c = c.requires
+
+pub rows_above-requires-2 : goal.rows_above-requires-2
+rows_above-requires-2 c = c.requires
+
+pub returns-clause-end : goal.returns-clause-end
+returns-clause-end c = c.rows_above-2.ensures.end
 
 pub overflow_sub-self-2 : goal.overflow_sub-self-2
 overflow_sub-self-2 c =

@@ -1,9 +1,28 @@
 use Rattle.std.proofs.Common.{◌≡◌, ◌+◌, length, sym, ap, subst, ◌∙◌, arith, Vec, Global, vec_capacity}
 use Rattle.cam_tiles.specs.declared.masks.filing.FiledSegment.{FiledSegment}
-use Rattle.cam_tiles.proofs.FiledContours.{IsFiledBut, end_on_board, filed_last, filed_next, next_corner, passed_last}
-use Rattle.cam_tiles.proofs.FiledContours.{passed_next, rest_from}
+use Rattle.std.proofs.lemmas.List.{length_push}
+use Rattle.cam_tiles.proofs.FiledContours.{IsFiledBut, before_kept, before_more, end_on_board, few_filed, filed_last}
+use Rattle.cam_tiles.proofs.FiledContours.{filed_next, next_corner, passed_last, passed_next, rest_from, sound_at}
 use Rattle.cam_tiles.proofs.masks.filing.file_contour.Goals.{in-Some, in_default}
 use Rattle.cam_tiles.proofs.masks.filing.file_contour.Goals as goal
+
+pub overflow_cast-place : goal.overflow_cast-place
+overflow_cast-place c =
+    omega (arith, ap length c.as_slice-segs.ensures, c.requires.contour.few, c.loop-place-test.true)
+
+pub filed_segment-requires : goal.filed_segment-requires
+filed_segment-requires c = record {
+  here = c.loop-place.invariant.on_board;
+  seg = sound_at c.args.contour.now c.as_slice-segs.result.now c.loop-place.place _ c.as_slice-segs.ensures
+      c.loop-place-test.true c.requires.contour.segs;
+  levels = c.requires.levels;
+}
+
+pub push_reserved-requires : goal.push_reserved-requires
+push_reserved-requires c =
+    let so_far = c.loop-place.invariant in
+    let few = few_filed _ _ _ _ _ _ so_far.filed in
+    omega (arith, few, so_far.room, c.requires.room, ap length c.as_slice-segs.ensures, c.loop-place-test.true)
 
 pub loop-place-preserved : goal.loop-place-preserved
 loop-place-preserved c =
@@ -34,6 +53,48 @@ loop-place-preserved c =
             c.loop-place-test.true so_far.corner so_far.filed end.result end.ensures w.in_default.ensures)
       ];
     }
+
+pub overflow_cast-segs : goal.overflow_cast-segs
+overflow_cast-segs c = omega (arith, ap length c.as_slice-segs.ensures, c.requires.contour.few)
+
+pub filed_line-requires : goal.filed_line-requires
+filed_line-requires c = record {
+  from = c.loop-place.invariant.on_board;
+  to = c.requires.contour.start;
+  levels = c.requires.levels;
+}
+
+pub push_reserved-requires-in-Some-filed_line : goal.push_reserved-requires-in-Some-filed_line
+push_reserved-requires-in-Some-filed_line c =
+    let so_far = c.loop-place.invariant in
+    let few = few_filed _ _ _ _ _ _ so_far.filed in
+    omega (arith, few, so_far.room, c.requires.room, ap length c.as_slice-segs.ensures)
+
+pub returns-in-Some-filed_line-clause-before : goal.returns-in-Some-filed_line-clause-before
+returns-in-Some-filed_line-clause-before c =
+    before_more _ _ _ _ _ _ c.loop-place.invariant.filed _ _ c.push_reserved-in-Some-filed_line.ensures.items
+
+pub returns-in-Some-filed_line-clause-few : goal.returns-in-Some-filed_line-clause-few
+returns-in-Some-filed_line-clause-few c =
+    let few = few_filed _ _ _ _ _ _ c.loop-place.invariant.filed in
+    let added = ap length c.push_reserved-in-Some-filed_line.ensures.items in
+    omega (arith, few, added, length_push c.loop-place.filed.items c.in-Some-filed_line.closing,
+    ap length c.as_slice-segs.ensures)
+
+pub returns-in-Some-filed_line-clause-room : goal.returns-in-Some-filed_line-clause-room
+returns-in-Some-filed_line-clause-room c =
+    c.push_reserved-in-Some-filed_line.ensures.capacity ∙ c.loop-place.invariant.room
+
+pub returns-in_default-filed_line-clause-before : goal.returns-in_default-filed_line-clause-before
+returns-in_default-filed_line-clause-before c = before_kept _ _ _ _ _ _ c.loop-place.invariant.filed
+
+pub returns-in_default-filed_line-clause-few : goal.returns-in_default-filed_line-clause-few
+returns-in_default-filed_line-clause-few c =
+    let few = few_filed _ _ _ _ _ _ c.loop-place.invariant.filed in
+    omega (arith, few, ap length c.as_slice-segs.ensures)
+
+pub returns-in_default-filed_line-clause-room : goal.returns-in_default-filed_line-clause-room
+returns-in_default-filed_line-clause-room c = c.loop-place.invariant.room
 
 pub returns-in-Some-filed_line-clause-filed : goal.returns-in-Some-filed_line-clause-filed
 returns-in-Some-filed_line-clause-filed c =

@@ -5,6 +5,37 @@ use Rattle.cam_tiles.proofs.ChangedParities.{changes_marks, changes_nothing, cha
 use Rattle.cam_tiles.proofs.EdgeSpans.{row_met, rows_crossed}
 use Rattle.cam_tiles.proofs.masks.parity.Parity.turn_edge.Goals as goal
 
+pub is_right_of-requires : goal.is_right_of-requires
+is_right_of-requires c = record {
+  grid = c.grid-grid.ensures.grid;
+  from = c.requires.from;
+  to = c.requires.to;
+  at = c.requires.at;
+}
+
+pub crossed_heights-requires : goal.crossed_heights-requires
+crossed_heights-requires c = record { from = c.requires.from; to = c.requires.to }
+
+pub band-band-requires : goal.band-band-requires
+band-band-requires c = record { grid = c.grid-grid.ensures.grid; at = c.requires.at }
+
+pub is_left_of-requires : goal.is_left_of-requires
+is_left_of-requires c = record {
+  grid = c.grid-grid.ensures.grid;
+  from = c.requires.from;
+  to = c.requires.to;
+  at = c.requires.at;
+}
+
+pub turn_edge-requires-clause-from : goal.turn_edge-requires-clause-from
+turn_edge-requires-clause-from c = c.requires.from
+
+pub turn_edge-requires-clause-to : goal.turn_edge-requires-clause-to
+turn_edge-requires-clause-to c = c.requires.to
+
+pub turn_edge-requires-clause-at : goal.turn_edge-requires-clause-at
+turn_edge-requires-clause-at c = c.requires.at
+
 pub turn_edge-requires-clause-crossed : goal.turn_edge-requires-clause-crossed
 turn_edge-requires-clause-crossed c =
     rows_crossed c.self.inside.mask.grid c.crossed_heights.result c.args.from c.args.to c.args.at
