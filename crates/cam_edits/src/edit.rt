@@ -5,14 +5,14 @@ use cam_objects::{DrillItem, Item};
 use cam_units::{Nm, Point};
 
 /// An item of a layer of one of two kinds.
-#[derive(Debug, Drop)]
+#[derive(Drop)]
 pub enum NewItem {
     Gerber(Item),
     Drill(DrillItem),
 }
 
 /// What an edit changes in its layer. Places are counted from 0; lengths are in nm.
-#[derive(Debug, Drop)]
+#[derive(Drop)]
 pub enum Change {
     /// The item stands at place `k`, at most behind the last one.
     Insert { k: usize, item: NewItem },

@@ -25,7 +25,7 @@ use std::alloc::AllocError;
 use std::mem;
 
 /// A change of a layer's items, which turns into its inverse when it is played. Places are counted from 0.
-#[derive(Debug, Drop)]
+#[derive(Drop)]
 pub enum Step {
     /// The item stands at place `k`, those behind it one place further.
     Insert { k: usize, item: Item },

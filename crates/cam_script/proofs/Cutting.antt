@@ -1,5 +1,6 @@
 -- The first piece of a list that is cut where a test passes.
-use Rattle.std.proofs.Common.{◌≡◌, ℕ, suc, ◌+◌, ◌<◌, ◌≤◌, Bool, true, false, cond, List, [], ◌∷◌, ◌++◌, None, Some, take, drop, length, refl, ap, ◌∙◌, arith, nat_lt, ◌==◌, position, if◌then◌else◌}
+use Rattle.std.proofs.Common.{◌≡◌, ℕ, suc, ◌+◌, ◌<◌, ◌≤◌, Bool, true, false, cond, List, [], ◌∷◌, ◌++◌, None, Some}
+use Rattle.std.proofs.Common.{take, drop, length, refl, ap, ◌∙◌, arith, nat_lt, ◌==◌, position, if◌then◌else◌}
 use Rattle.std.specs.Prelude.{filter}
 use Rattle.std.specs.List.{slice_split, position_or_len}
 use Rattle.std.specs.Str.Lines.{lines, lines_of_parts, strip_carriage_return}
@@ -16,7 +17,8 @@ no_place : (n m : ℕ) → cond (nat_lt n m) (Some n) None ≡ None → m ≤ n
 no_place n m e = grind (arith, nat_tests)
 
 -- the first piece ends where the test first passes
-pub split_there : (p : ℕ → Bool) (xs : List ℕ) (i : ℕ) → position p xs ≡ Some i → slice_split p xs ≡ take i xs ∷ slice_split p (drop (i + 1) xs)
+pub split_there : (p : ℕ → Bool) (xs : List ℕ) (i : ℕ) → position p xs ≡ Some i
+    → slice_split p xs ≡ take i xs ∷ slice_split p (drop (i + 1) xs)
 split_there p xs i e =
     let told : (position_or_len p xs < length xs) × (i ≡ position_or_len p xs) = place_told (position_or_len p xs) (length xs) i e in
     rw told.1 (slice_split_first p xs 0 told.0)
@@ -34,7 +36,8 @@ two_filtered p x xs = by_test (p x)
     by_test true = refl
     by_test false = refl
 
-pub words_there : (xs : List ℕ) (i : ℕ) → position is_blank xs ≡ Some i → words xs ≡ filter is_filled (take i xs ∷ []) ++ words (drop (i + 1) xs)
+pub words_there : (xs : List ℕ) (i : ℕ) → position is_blank xs ≡ Some i
+    → words xs ≡ filter is_filled (take i xs ∷ []) ++ words (drop (i + 1) xs)
 words_there xs i e =
     ap (filter is_filled) (split_there is_blank xs i e) ∙ two_filtered is_filled (take i xs) (slice_split is_blank (drop (i + 1) xs))
 
@@ -57,10 +60,12 @@ split_filled p (x ∷ xs) = by_test (p x) (slice_split p xs)
     by_test true parts = ([], parts, refl)
     by_test false parts = onto_filled parts
 
-line_first : (line : List ℕ) (parts : List (List ℕ)) → Filled parts → lines_of_parts (line ∷ parts) ≡ strip_carriage_return line ∷ lines_of_parts parts
+line_first : (line : List ℕ) (parts : List (List ℕ)) → Filled parts
+    → lines_of_parts (line ∷ parts) ≡ strip_carriage_return line ∷ lines_of_parts parts
 line_first line parts filled = rw filled.2 refl
 
-pub lines_there : (xs : List ℕ) (i : ℕ) → position (λ b. b == 10) xs ≡ Some i → lines xs ≡ strip_carriage_return (take i xs) ∷ lines (drop (i + 1) xs)
+pub lines_there : (xs : List ℕ) (i : ℕ) → position (λ b. b == 10) xs ≡ Some i
+    → lines xs ≡ strip_carriage_return (take i xs) ∷ lines (drop (i + 1) xs)
 lines_there xs i e =
     ap lines_of_parts (split_there (λ b. b == 10) xs i e)
     ∙ line_first (take i xs) (slice_split (λ b. b == 10) (drop (i + 1) xs)) (split_filled (λ b. b == 10) (drop (i + 1) xs))
@@ -83,7 +88,9 @@ one_at_most false line = omega arith
 
 longer_first : (x : ℕ) (parts : List (List ℕ)) → length (lines_of_parts (onto_first x parts)) ≤ 1 + length (lines_of_parts parts)
 longer_first x [] = one_at_most (length (x ∷ []) == 0) (x ∷ [])
-longer_first x (part ∷ []) = let one : length (lines_of_parts ((x ∷ part) ∷ [])) ≤ 1 = one_at_most (length (x ∷ part) == 0) (x ∷ part) in omega (arith, one)
+longer_first x (part ∷ []) =
+    let one : length (lines_of_parts ((x ∷ part) ∷ [])) ≤ 1 = one_at_most (length (x ∷ part) == 0) (x ∷ part) in
+    omega (arith, one)
 longer_first x (part ∷ next ∷ parts) = omega arith
 
 empty_first : (parts : List (List ℕ)) → length (lines_of_parts ([] ∷ parts)) ≤ 1 + length (lines_of_parts parts)
@@ -95,7 +102,8 @@ few_lines [] = omega arith
 few_lines (x ∷ xs) = by_test (x == 10) (few_lines xs)
   where
     by_test : (b : Bool) → length (lines_of_parts (slice_split (λ b. b == 10) xs)) ≤ length xs
-        → length (lines_of_parts (cond b ([] ∷ slice_split (λ b. b == 10) xs) (onto_first x (slice_split (λ b. b == 10) xs)))) ≤ suc (length xs)
+        → length (lines_of_parts (cond b ([] ∷ slice_split (λ b. b == 10) xs) (onto_first x (slice_split (λ b. b == 10) xs))))
+        ≤ suc (length xs)
     by_test true rest = omega (arith, rest, empty_first (slice_split (λ b. b == 10) xs))
     by_test false rest = omega (arith, rest, longer_first x (slice_split (λ b. b == 10) xs))
 

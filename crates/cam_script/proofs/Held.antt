@@ -12,7 +12,7 @@ use Rattle.cam_script.specs.declared.line.LineFault.TheVariants.{LineTooLong, Ba
 use Rattle.cam_script.specs.Words.{count_in, is_name}
 use Rattle.cam_script.specs.Items.{item_in}
 use Rattle.cam_script.specs.Parsing.{is_no_memory, insert_change, edit_line, kept}
-use Rattle.cam_script.specs.Reading.{held}
+use Rattle.cam_script.specs.Machinery.Reading.{held}
 
 -- a part was refused, and so is the whole
 pub held_refused : {T U : Type 0} (part : Option T) (whole : T → U) (fault : LineFault)

@@ -1,5 +1,6 @@
 -- Tests that were made.
-use Rattle.std.proofs.Common.{◌≡◌, ℕ, ◌<◌, ◌≤◌, ◌^◌, Bool, true, false, List, [], ◌∷◌, length, get_or, None, Some, Ok, Err, Result, refl, sym, arith, nat_le, ◌≢◌, if◌then◌else◌}
+use Rattle.std.proofs.Common.{◌≡◌, ℕ, ◌<◌, ◌≤◌, ◌^◌, Bool, true, false, List, [], ◌∷◌, length, get_or, None}
+use Rattle.std.proofs.Common.{Some, Ok, Err, Result, refl, sym, arith, nat_le, ◌≢◌, if◌then◌else◌}
 use Rattle.std.specs.Prelude.{◌&&◌, IsUtf8}
 use Rattle.std.specs.Str.{all_ascii_digits, IsAscii}
 use Rattle.std.specs.Char.{is_ascii_digit, is_ascii_graphic}
@@ -64,7 +65,8 @@ pub no_numeral_plus : (most : ℕ) (digits : List ℕ) → get_or digits 0 0 ≡
 no_numeral_plus most [] e = refl
 no_numeral_plus most (c ∷ cs) e =
     sym (closed (is_filled (c ∷ cs)) (all_ascii_digits (c ∷ cs)) (nat_le (digits_value 10 (c ∷ cs)) most) (digits_value 10 (c ∷ cs))
-    (λ filled all few. let digit : is_ascii_digit c ≡ true = (both (is_ascii_digit c) (all_ascii_digits cs) all).0 in grind (arith, nat_tests)))
+    (λ filled all few. let digit : is_ascii_digit c ≡ true = (both (is_ascii_digit c) (all_ascii_digits cs) all).0 in
+    grind (arith, nat_tests)))
 
 pub no_numeral_parsed : {E : Type 0} → (most : ℕ) (digits text : List ℕ) (e : E) → text ≡ digits → get_or digits 0 0 ≢ 43 → most < 2 ^ 64
     → ParsesUnsigned 64 10 text (Err e) → None ≡ numeral_to most digits
@@ -104,9 +106,11 @@ last_of true false c e = absurd cc
 last_of false b c e = absurd cc
 
 pub name_ascii : (word : List ℕ) → is_name word ≡ true → IsAscii word
-name_ascii word e = ascii_by is_name_byte name_byte_low word (last_of (nat_le 1 (length word)) (nat_le (length word) 32) (list_all is_name_byte word) e)
+name_ascii word e = ascii_by is_name_byte name_byte_low word
+    (last_of (nat_le 1 (length word)) (nat_le (length word) 32) (list_all is_name_byte word) e)
 
 pub path_ascii : (word : List ℕ) → is_path word ≡ true → IsAscii word
-path_ascii word e = ascii_by is_ascii_graphic graphic_low word (last_of (nat_le 1 (length word)) (nat_le (length word) 255) (list_all is_ascii_graphic word) e)
+path_ascii word e = ascii_by is_ascii_graphic graphic_low word
+    (last_of (nat_le 1 (length word)) (nat_le (length word) 255) (list_all is_ascii_graphic word) e)
 
 pub ruleset ascii_words = (name_ascii, path_ascii)

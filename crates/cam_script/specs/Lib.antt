@@ -1,4 +1,4 @@
 pub mod Words
 pub mod Items
 pub mod Parsing
-pub mod Reading
+pub mod Machinery

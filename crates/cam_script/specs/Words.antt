@@ -1,5 +1,6 @@
 -- The words of a line, and the values that they write.
-use Rattle.std.specs.Prelude.{ℕ, ℤ, pos, neg_ℤ, ◌==◌, ◌&&◌, ◌||◌, ◌-◌, ◌^◌, nat_lt, nat_le, min, Bool, if◌then◌else◌, List, length, filter, Option, None, Some}
+use Rattle.std.specs.Prelude.{ℕ, ℤ, pos, neg_ℤ, ◌==◌, ◌&&◌, ◌||◌, ◌-◌, ◌^◌, nat_lt, nat_le, min}
+use Rattle.std.specs.Prelude.{Bool, if◌then◌else◌, List, length, filter, Option, None, Some}
 use Rattle.std.specs.List.{slice_split, list_all}
 use Rattle.std.specs.Option.{option_map}
 use Rattle.std.specs.Char.{is_ascii_alphanumeric, is_ascii_graphic}

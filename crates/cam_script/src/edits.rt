@@ -16,7 +16,7 @@ ghost use Rattle.cam_script.specs.Parsing.{
   reorder_change,
   tool_change,
 };
-ghost use Rattle.cam_script.specs.Reading.{change_by, held};
+ghost use Rattle.cam_script.specs.Machinery.Reading.{change_by, held};
 ghost use Rattle.cam_script.specs.Words.{count_in};
 
 use crate::command::Command;

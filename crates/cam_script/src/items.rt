@@ -12,7 +12,7 @@ ghost use Rattle.cam_script.specs.Items.{
   rout_in,
 };
 ghost use Rattle.cam_script.specs.Parsing.{is_no_memory};
-ghost use Rattle.cam_script.specs.Reading.{held};
+ghost use Rattle.cam_script.specs.Machinery.Reading.{held};
 
 use crate::line::LineFault;
 use crate::marks::{direction, polarity, turn};

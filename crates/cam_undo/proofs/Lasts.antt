@@ -38,7 +38,8 @@ module _ {X : Type 0} where
 
   of_ending : (xs : List X) (x : X) → last_item xs ≡ Some x → Ending xs → xs ≡ all_but_last xs ++ x ∷ []
   of_ending xs x h e =
-      let same : e.last ≡ x = (let both : Some e.last ≡ Some x = sym (last_item-snoc e.front e.last) ∙ (ap last_item (sym e.is) ∙ h) in cc) in
+      let both : Some e.last ≡ Some x = sym (last_item-snoc e.front e.last) ∙ (ap last_item (sym e.is) ∙ h) in
+      let same : e.last ≡ x = cc in
       let front : all_but_last xs ≡ e.front = ap all_but_last e.is ∙ all_but_last-snoc e.front e.last in
       rw (front, ← same) e.is
 

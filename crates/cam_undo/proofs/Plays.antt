@@ -1,6 +1,7 @@
 -- What a step more at the end of a group, or a group more at the end of a list, changes.
 use Rattle.cam_edits.specs.declared.reversible.Reversible.{Ghosts}
-use Rattle.cam_undo.specs.Timelines.{GroupFits, GroupsFit, Shifted, after_group, after_groups, answers, contents}
+use Rattle.cam_undo.specs.Timelines.{GroupFits, GroupsFit, after_group, after_groups, answers, contents}
+use Rattle.cam_undo.specs.Machinery.Shifting.{Shifted}
 use Rattle.std.proofs.Common.{◌∙◌, ◌≡◌, ℕ, List, [], ap, drop, length, refl, subst, suc, sym, zero, ◌++◌, ◌∷◌}
 
 module _ {S D : Type 0} (r : Ghosts S D) where

@@ -9,7 +9,8 @@ use Rattle.cam_undo.specs.Counted.{counts_at, counts_of, edit_count, group_lengt
 use Rattle.cam_undo.specs.Kept.{Kept}
 use Rattle.cam_undo.specs.declared.history.Counts.{Counts}
 use Rattle.cam_undo.specs.Machine.{accepted, all_but_last, ended, redo_fault, redone, undo_fault, undone}
-use Rattle.cam_undo.specs.Timelines.{Fits, GroupFits, GroupsFit, Shifted, after_group, contents, ended_by, group_of}
+use Rattle.cam_undo.specs.Timelines.{Fits, GroupFits, GroupsFit, after_group, contents, ended_by, group_of}
+use Rattle.cam_undo.specs.Machinery.Shifting.{Shifted}
 use Rattle.cam_undo.specs.Timelines.{start_of, state_at, with_last_redone, with_last_undone, with_step}
 use Rattle.std.proofs.Common.{◌-◌, ◌∙◌, ◌<◌, ◌≡◌, ℕ, List, None, Option, Some, [], ap, arith, length, length-append}
 use Rattle.std.proofs.Common.{refl, subst, sym, ◌++◌, ◌∷◌}

@@ -3,3 +3,4 @@ pub mod Kept
 pub mod Timelines
 pub mod Laws
 pub mod Counted
+pub mod Machinery

@@ -146,11 +146,3 @@ module _ {S D : Type 0} (r : Ghosts S D) where
   -- the next group of the future was played, and its answers lead back
   abbrev pub with_last_redone : r.Content → Kept S → Kept S
   with_last_redone c kept = redone_by c kept (last_item kept.future)
-
-  -- The last group of `from` was played, and its answers stand last in `to`.
-  pub record Shifted (from to : List (List S)) (c : r.Content) (left grown : List (List S)) (reached : r.Content)
-      : Type 0 where
-    pub group : List S
-    pub taken : from ≡ left ++ group ∷ []
-    pub put : grown ≡ to ++ answers group c ∷ []
-    pub played : reached ≡ after_group group c

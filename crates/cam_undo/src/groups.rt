@@ -2,7 +2,8 @@
 
 ghost use Rattle.std.specs.Prelude.{◌≡◌, ◌≤◌, ◌<◌, ◌+◌, [], ◌∷◌, ◌++◌, length, vec_len, vec_capacity, OnOk, OnErr};
 ghost use Rattle.cam_undo.specs.Kept.{steps_of};
-ghost use Rattle.cam_undo.specs.Timelines.{GroupFits, GroupsFit, Shifted, after_group, answers};
+ghost use Rattle.cam_undo.specs.Timelines.{GroupFits, GroupsFit, after_group, answers};
+ghost use Rattle.cam_undo.specs.Machinery.Shifting.{Shifted};
 ghost use Rattle.circular_buffer.specs.Buffer.{buffer, keep_last};
 
 use cam_edits::Reversible;
