@@ -23,10 +23,10 @@
 //! zero. A [`MacroFault`] has the number by which a refusal is told.
 //!
 //! What a macro means stands in `specs/`: `Grammar` says which texts are expressions and for which trees they stand,
-//! `Reading` which texts are macros, `Arithmetic` what trees are worth, and `Expansion` which primitives the parts make.
-//! `Parsing` computes a macro from its text, from left to right, by `Scanning`; that it gives what the grammar says is a
-//! law. `specs/Machinery/` ties the running state of the code to them. In `src/`, `parsing` reads parts and expressions,
-//! and `expansion` evaluates them and makes the primitives.
+//! `Reading` which texts are macros, `Arithmetic` what trees are worth, and `Expansion` which primitives the parts
+//! make. `Parsing` computes a macro from its text, from left to right, by `Scanning`; that it gives what the grammar
+//! says is a law. `specs/Machinery/` ties the running state of the code to them. In `src/`, `parsing` reads parts and
+//! expressions, and `expansion` evaluates them and makes the primitives.
 #![tactic(auto)]
 
 mod aperture_macro;

@@ -1,5 +1,6 @@
 -- The loops over digits, one byte at a time.
-use Rattle.std.proofs.Common.{◌≡◌, ℕ, zero, suc, ◌+◌, ◌-◌, ◌*◌, ◌/◌, ◌^◌, ◌<◌, ◌≤◌, min, List, [], ◌∷◌, length, take, Bool, true, false, refl, sym, ap, ◌∙◌, ◌⊎◌, inl, inr, arith, None, Some, add_assoc}
+use Rattle.std.proofs.Common.{◌≡◌, ℕ, zero, suc, ◌+◌, ◌-◌, ◌*◌, ◌/◌, ◌^◌, ◌<◌, ◌≤◌, min, List, [], ◌∷◌, length, take}
+use Rattle.std.proofs.Common.{Bool, true, false, refl, sym, ap, ◌∙◌, ◌⊎◌, inl, inr, arith, None, Some, add_assoc}
 use Rattle.std.specs.Prelude.{◌&&◌}
 use Rattle.std.specs.Char.{is_ascii_digit, digit_value}
 use Rattle.std.specs.Str.Parse.{AllDigits, digits_value_after}
@@ -87,7 +88,8 @@ pub not_said : (run : List ℕ) → None ≡ digits_of run → are_digits run �
 unfolding digits_after
 not_said run e =
     (elim (are_digits run) as (λ b. are_digits run ≡ b → are_digits run ≡ false) [
-      | true ↦ λ t. let some : None ≡ Some (record { count = 0 + length run; value = min value_limit (digits_value_after 10 0 run) }) = rw t at e in absurd cc
+      | true ↦ λ t. let some : None ≡ Some (record { count = 0 + length run; value = min value_limit (digits_value_after 10 0 run) }) = rw
+          t at e in absurd cc
       | false ↦ λ t. t
     ]) refl
 
@@ -97,7 +99,8 @@ pub decimals_after-digit : (counted sum worth byte : ℕ) (run : List ℕ) → i
 unfolding decimals_after
 decimals_after-digit counted sum worth byte run e =
     let more : counted + 1 + length run ≡ counted + length (byte ∷ run) = omega arith in
-    let step : decimals_after counted sum worth (byte ∷ run) ≡ decimals_after (counted + 1) (sum + digit_value byte * worth) (worth / 10) run =
+    let step : decimals_after counted sum worth (byte ∷ run) ≡ decimals_after (counted + 1) (sum + digit_value byte * worth)
+        (worth / 10) run =
     rw (e, more, add_assoc sum (digit_value byte * worth) (worth_of (worth / 10) run)) refl in
     step ∙ ap (λ d. decimals_after (counted + 1) (sum + d * worth) (worth / 10) run) (digit_is byte e)
 
@@ -169,7 +172,8 @@ told run d e =
       | true ↦ λ t.
           let same : Some d ≡ Some (record { count = 0 + length run; value = 0 + worth_of 100000000 run }) = rw t at e in
           let is : d ≡ record { count = 0 + length run; value = 0 + worth_of 100000000 run } = cc in
-          record { digits = t; counts = ap (λ r. r.count) is ∙ (omega arith); values = ap (λ r. r.value) is ∙ omega arith ∙ billionths_are run }
+          record { digits = t; counts = ap (λ r. r.count) is ∙ (omega arith); values = ap (λ r. r.value) is ∙ omega arith
+              ∙ billionths_are run }
       | false ↦ λ t. let none : Some d ≡ None = rw t at e in absurd cc
     ]) refl
 

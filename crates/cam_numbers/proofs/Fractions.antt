@@ -1,5 +1,6 @@
 -- Decimals by what stands before and behind their point.
-use Rattle.std.proofs.Common.{◌≡◌, ℕ, suc, ◌+◌, ◌-◌, ◌*◌, ◌<◌, ◌≤◌, List, [], ◌∷◌, length, take, drop, true, false, refl, sym, ap, ◌∙◌, arith, None, Some, Option, cond, eq-eqb, ne_eqb}
+use Rattle.std.proofs.Common.{◌≡◌, ℕ, suc, ◌+◌, ◌-◌, ◌*◌, ◌<◌, ◌≤◌, List, [], ◌∷◌, length, take, drop, true, false}
+use Rattle.std.proofs.Common.{refl, sym, ap, ◌∙◌, arith, None, Some, Option, cond, eq-eqb, ne_eqb}
 use Rattle.std.specs.Prelude.{◌||◌, ◌&&◌, ◌==◌, not, nat_le}
 use Rattle.std.specs.List.{position_or_len, before_first, after_first}
 use Rattle.std.proofs.lemmas.Bool.{le-leb, lt-leb}
@@ -29,33 +30,43 @@ unpointed byte e = grind (arith, nat_tests)
 skipped_before : (run : List ℕ) → kept Skipped (take (position_or_len is_point run) run) ≡ before_first is_point (kept Skipped run)
 skipped_before [] = refl
 skipped_before (byte ∷ run) =
-    (elim (is_blank byte) as (λ s. is_blank byte ≡ s → kept Skipped (take (position_or_len is_point (byte ∷ run)) (byte ∷ run)) ≡ before_first is_point (kept Skipped (byte ∷ run))) [
+    (elim (is_blank byte) as (λ s. is_blank byte ≡ s → kept Skipped (take (position_or_len is_point (byte ∷ run)) (byte ∷ run))
+        ≡ before_first is_point (kept Skipped (byte ∷ run))) [
       | true ↦ λ e. rw (unpointed byte e, one_more (position_or_len is_point run), e) (skipped_before run)
       | false ↦ λ e.
-          (elim (is_point byte) as (λ p. is_point byte ≡ p → kept Skipped (take (position_or_len is_point (byte ∷ run)) (byte ∷ run)) ≡ before_first is_point (kept Skipped (byte ∷ run))) [
+          (elim (is_point byte) as (λ p. is_point byte ≡ p → kept Skipped (take (position_or_len is_point (byte ∷ run)) (byte ∷ run))
+              ≡ before_first is_point (kept Skipped (byte ∷ run))) [
             | true ↦ λ p. rw (p, e, p) refl
-            | false ↦ λ p. rw (p, one_more (position_or_len is_point run), e, p, one_more (position_or_len is_point (kept Skipped run))) (ap (λ rest. byte ∷ rest) (skipped_before run))
+            | false ↦ λ p. rw (p, one_more (position_or_len is_point run), e, p, one_more (position_or_len is_point (kept Skipped run)))
+                (ap (λ rest. byte ∷ rest) (skipped_before run))
           ]) refl
     ]) refl
 
 skipped_after : (run : List ℕ) → kept Skipped (drop (position_or_len is_point run + 1) run) ≡ after_first is_point (kept Skipped run)
 skipped_after [] = refl
 skipped_after (byte ∷ run) =
-    (elim (is_blank byte) as (λ s. is_blank byte ≡ s → kept Skipped (drop (position_or_len is_point (byte ∷ run) + 1) (byte ∷ run)) ≡ after_first is_point (kept Skipped (byte ∷ run))) [
-      | true ↦ λ e. rw (unpointed byte e, one_more (position_or_len is_point run), more_one (position_or_len is_point run), e) (skipped_after run)
+    (elim (is_blank byte) as (λ s. is_blank byte ≡ s → kept Skipped (drop (position_or_len is_point (byte ∷ run) + 1) (byte ∷ run))
+        ≡ after_first is_point (kept Skipped (byte ∷ run))) [
+      | true ↦ λ e. rw (unpointed byte e, one_more (position_or_len is_point run), more_one (position_or_len is_point run), e)
+          (skipped_after run)
       | false ↦ λ e.
-          (elim (is_point byte) as (λ p. is_point byte ≡ p → kept Skipped (drop (position_or_len is_point (byte ∷ run) + 1) (byte ∷ run)) ≡ after_first is_point (kept Skipped (byte ∷ run))) [
+          (elim (is_point byte) as (λ p. is_point byte ≡ p → kept Skipped (drop (position_or_len is_point (byte ∷ run) + 1) (byte ∷ run))
+              ≡ after_first is_point (kept Skipped (byte ∷ run))) [
             | true ↦ λ p. rw (p, e, p) refl
             | false ↦ λ p.
-                rw (p, one_more (position_or_len is_point run), more_one (position_or_len is_point run), e, p, one_more (position_or_len is_point (kept Skipped run)), more_one (position_or_len is_point (kept Skipped run))) (skipped_after run)
+                rw (p, one_more (position_or_len is_point run), more_one (position_or_len is_point run), e, p,
+                    one_more (position_or_len is_point (kept Skipped run)), more_one (position_or_len is_point (kept Skipped run)))
+                    (skipped_after run)
           ]) refl
     ]) refl
 
-kept_before : (blanks : Blanks) (run : List ℕ) → kept blanks (take (position_or_len is_point run) run) ≡ before_first is_point (kept blanks run)
+kept_before : (blanks : Blanks) (run : List ℕ) → kept blanks (take (position_or_len is_point run) run)
+    ≡ before_first is_point (kept blanks run)
 kept_before Refused run = refl
 kept_before Skipped run = skipped_before run
 
-kept_after : (blanks : Blanks) (run : List ℕ) → kept blanks (drop (position_or_len is_point run + 1) run) ≡ after_first is_point (kept blanks run)
+kept_after : (blanks : Blanks) (run : List ℕ) → kept blanks (drop (position_or_len is_point run + 1) run)
+    ≡ after_first is_point (kept blanks run)
 kept_after Refused run = refl
 kept_after Skipped run = skipped_after run
 
@@ -80,7 +91,8 @@ module _ (blanks : Blanks) (run : List ℕ) (n : ℕ) (is : n ≡ position_or_le
 -- a decimal of these two parts
 abbrev pub made_of : List ℕ → List ℕ → Option ℕ
 made_of whole decimals =
-    cond (not (are_digits whole && are_digits decimals) || (length whole + length decimals == 0) || nat_le 1000000 (value_of whole)) None (Some (value_of whole * 1000000000 + billionths decimals))
+    cond (not (are_digits whole && are_digits decimals) || (length whole + length decimals == 0) || nat_le 1000000 (value_of whole)) None
+        (Some (value_of whole * 1000000000 + billionths decimals))
 
 pub is_made : (run : List ℕ) → unsigned_decimal run ≡ made_of (before_first is_point run) (after_first is_point run)
 unfolding unsigned_decimal
@@ -98,9 +110,11 @@ no_digit w d e f none = rw (e, f, eq-eqb (length w + length d) 0 none) refl
 too_much : (w d : List ℕ) → are_digits w ≡ true → are_digits d ≡ true → 1000000 ≤ value_of w → None ≡ made_of w d
 too_much w d e f much =
     rw (e, f, le-leb 1000000 (value_of w) much)
-    (elim (length w + length d == 0) as (λ b. None ≡ cond (b || true) None (Some (value_of w * 1000000000 + billionths d))) [ true ↦ refl | false ↦ refl ])
+    (elim (length w + length d == 0) as (λ b. None ≡ cond (b || true) None (Some (value_of w * 1000000000 + billionths d)))
+        [ true ↦ refl | false ↦ refl ])
 
-pub just_right : (w d : List ℕ) → are_digits w ≡ true → are_digits d ≡ true → (length w + length d ≡ 0 → ⊥) → value_of w < 1000000 → Some (value_of w * 1000000000 + billionths d) ≡ made_of w d
+pub just_right : (w d : List ℕ) → are_digits w ≡ true → are_digits d ≡ true → (length w + length d ≡ 0 → ⊥) → value_of w < 1000000
+    → Some (value_of w * 1000000000 + billionths d) ≡ made_of w d
 just_right w d e f some low = rw (e, f, ne_eqb (length w + length d) 0 some, lt-leb 1000000 (value_of w) low) refl
 
 pub decimal_without_whole : (run w : List ℕ) → w ≡ before_first is_point run → None ≡ digits_of w → None ≡ unsigned_decimal run
@@ -116,22 +130,26 @@ parted : (run w d : List ℕ) → Parted run w d → made_of w d ≡ unsigned_de
 parted run w d p =
     ap (λ (x : List ℕ). made_of x d) p.whole ∙ ap (λ (x : List ℕ). made_of (before_first is_point run) x) p.decimals ∙ sym (is_made run)
 
-pub decimal_without_decimals : (run w d : List ℕ) (n : Digits) → Parted run w d → Some n ≡ digits_of w → None ≡ decimals_of d → None ≡ unsigned_decimal run
+pub decimal_without_decimals : (run w d : List ℕ) (n : Digits) → Parted run w d → Some n ≡ digits_of w → None ≡ decimals_of d
+    → None ≡ unsigned_decimal run
 decimal_without_decimals run w d n p e f = no_decimals w d (said w n e).digits (not_told d f) ∙ parted run w d p
 
-pub decimal_without_digit : (run w d : List ℕ) (n : Digits) (m : Decimals) → Parted run w d → Some n ≡ digits_of w → Some m ≡ decimals_of d → n.count ≡ 0 → m.count ≡ 0 → None ≡ unsigned_decimal run
+pub decimal_without_digit : (run w d : List ℕ) (n : Digits) (m : Decimals) → Parted run w d → Some n ≡ digits_of w
+    → Some m ≡ decimals_of d → n.count ≡ 0 → m.count ≡ 0 → None ≡ unsigned_decimal run
 decimal_without_digit run w d n m p e f z y =
     let s = said w n e in
     let t = told d m f in
     no_digit w d s.digits t.digits (omega (arith, s.counts, t.counts, z, y)) ∙ parted run w d p
 
-pub decimal_too_much : (run w d : List ℕ) (n : Digits) (m : Decimals) → Parted run w d → Some n ≡ digits_of w → Some m ≡ decimals_of d → 1000000 ≤ n.value → None ≡ unsigned_decimal run
+pub decimal_too_much : (run w d : List ℕ) (n : Digits) (m : Decimals) → Parted run w d → Some n ≡ digits_of w → Some m ≡ decimals_of d
+    → 1000000 ≤ n.value → None ≡ unsigned_decimal run
 decimal_too_much run w d n m p e f much =
     let s = said w n e in
     let t = told d m f in
     too_much w d s.digits t.digits (omega (arith, s.values, much)) ∙ parted run w d p
 
-pub decimal_of_parts : (run w d : List ℕ) (n : Digits) (m : Decimals) → Parted run w d → Some n ≡ digits_of w → Some m ≡ decimals_of d → (n.count + m.count ≡ 0 → ⊥) → n.value < 1000000 → Some (n.value * 1000000000 + m.value) ≡ unsigned_decimal run
+pub decimal_of_parts : (run w d : List ℕ) (n : Digits) (m : Decimals) → Parted run w d → Some n ≡ digits_of w → Some m ≡ decimals_of d
+    → (n.count + m.count ≡ 0 → ⊥) → n.value < 1000000 → Some (n.value * 1000000000 + m.value) ≡ unsigned_decimal run
 decimal_of_parts run w d n m p e f some low =
     let s = said w n e in
     let t = told d m f in

@@ -1,5 +1,6 @@
 -- Naturals by their digits.
-use Rattle.std.proofs.Common.{◌≡◌, ℕ, ◌^◌, ◌<◌, ◌≤◌, min, List, length, Bool, true, false, refl, sym, ap, ◌∙◌, arith, None, Some, Option, eqb, eq-eqb, ne_eqb, cond}
+use Rattle.std.proofs.Common.{◌≡◌, ℕ, ◌^◌, ◌<◌, ◌≤◌, min, List, length, Bool, true, false, refl, sym, ap, ◌∙◌, arith}
+use Rattle.std.proofs.Common.{None, Some, Option, eqb, eq-eqb, ne_eqb, cond}
 use Rattle.std.specs.Prelude.{◌||◌, option_map, nat_lt}
 use Rattle.std.proofs.lemmas.Bool.{le-ltb, lt-ltb}
 use Rattle.std.proofs.Math.Nat.{pow-le-pow_right}
@@ -10,7 +11,8 @@ use Rattle.cam_numbers.proofs.Counting.{Said, said, not_said, short_value}
 
 natural-other : (run : List ℕ) → are_digits run ≡ false → natural run ≡ None
 unfolding natural
-natural-other run e = rw e (elim (eqb (length run) 0) as (λ b. (cond (b || true) None (Some (value_of run))) ≡ None) [ true ↦ refl | false ↦ refl ])
+natural-other run e = rw e (elim (eqb (length run) 0) as (λ b. (cond (b || true) None (Some (value_of run))) ≡ None)
+    [ true ↦ refl | false ↦ refl ])
 
 natural-empty : (run : List ℕ) → length run ≡ 0 → natural run ≡ None
 unfolding natural
@@ -64,7 +66,8 @@ whole_value most run d s le few =
     let limit : 10 ^ most ≤ 10 ^ 15 = pow-le-pow_right {n = 10} (omega arith) {i = most} {j = 15} few in
     omega (arith, s.values, low, limit)
 
-pub within_of_digits : (most : ℕ) (run : List ℕ) (d : Digits) → Some d ≡ digits_of run → (d.count ≡ 0 → ⊥) → d.count ≤ most → most ≤ 15 → Some d.value ≡ natural_within most run
+pub within_of_digits : (most : ℕ) (run : List ℕ) (d : Digits) → Some d ≡ digits_of run → (d.count ≡ 0 → ⊥) → d.count ≤ most → most ≤ 15
+    → Some d.value ≡ natural_within most run
 within_of_digits most run d e some le few =
     let s = said run d e in
     ap (λ (v : ℕ). Some v) (whole_value most run d s le few)

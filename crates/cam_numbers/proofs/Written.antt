@@ -1,5 +1,6 @@
 -- Numbers that are written, and what a number that is read was written as.
-use Rattle.std.proofs.Common.{◌≡◌, ℕ, suc, ◌+◌, ◌*◌, ◌<◌, List, [], ◌∷◌, ◌++◌, length, Bool, true, false, None, Some, cond, refl, sym, ap, subst, ◌∙◌, ◌⊎◌, inl, inr, arith}
+use Rattle.std.proofs.Common.{◌≡◌, ℕ, suc, ◌+◌, ◌*◌, ◌<◌, List, [], ◌∷◌, ◌++◌, length, Bool, true, false, None, Some}
+use Rattle.std.proofs.Common.{cond, refl, sym, ap, subst, ◌∙◌, ◌⊎◌, inl, inr, arith}
 use Rattle.std.specs.Prelude.{◌||◌, ◌&&◌, ◌==◌, not, nat_le}
 use Rattle.std.specs.List.{position_or_len, before_first, after_first}
 use Rattle.std.specs.Char.{is_ascii_digit}
@@ -56,7 +57,8 @@ abbrev pub number_of : List ℕ → List ℕ → ℕ
 number_of whole decimals = value_of whole * 1000000000 + billionths decimals
 
 made : (whole decimals : List ℕ) → AreParts whole decimals → made_of whole decimals ≡ Some (number_of whole decimals)
-made whole decimals h = sym (just_right whole decimals h.before h.behind (λ none. let some = h.some in absurd (omega (arith, some, none))) h.small)
+made whole decimals h = sym (just_right whole decimals h.before h.behind
+    (λ none. let some = h.some in absurd (omega (arith, some, none))) h.small)
 
 pub read_pointed : (whole decimals : List ℕ) → AreParts whole decimals
     → unsigned_decimal (whole ++ 46 ∷ decimals) ≡ Some (number_of whole decimals)
@@ -77,7 +79,8 @@ pub record IsWritten (run whole decimals : List ℕ) : Type 0 where
 split : (run : List ℕ) → IsWritten run (before_first is_point run) (after_first is_point run)
 split [] = record { parts = inl (refl, refl) }
 split (byte ∷ run) =
-    (elim (is_point byte) as (λ p. is_point byte ≡ p → IsWritten (byte ∷ run) (before_first is_point (byte ∷ run)) (after_first is_point (byte ∷ run))) [
+    (elim (is_point byte) as (λ p. is_point byte ≡ p → IsWritten (byte ∷ run) (before_first is_point (byte ∷ run))
+        (after_first is_point (byte ∷ run))) [
       | true ↦ λ p. rw p (record { parts = inr (ap (λ b. b ∷ run) (eqb-true byte 46 p)) })
       | false ↦ λ p.
           rw (p, one_more (position_or_len is_point run), more_one (position_or_len is_point run))
@@ -112,7 +115,8 @@ pub was_written : (run : List ℕ) (n : ℕ) → unsigned_decimal run ≡ Some n
 was_written run n e =
     let w = before_first is_point run in
     let d = after_first is_point run in
-    let h = chosen (are_digits w) (are_digits d) (length w + length d == 0) (nat_le 1000000 (value_of w)) (number_of w d) n (sym (is_made run) ∙ e) in
+    let h = chosen (are_digits w) (are_digits d) (length w + length d == 0) (nat_le 1000000 (value_of w)) (number_of w d) n
+        (sym (is_made run) ∙ e) in
     let some = eqb-false (length w + length d) 0 h.third in
     record {
       whole = w;

@@ -2,7 +2,8 @@
 
 ghost use Rattle.std.specs.Prelude.{◌≡◌, ◌≤◌, ◌<◌, ◌^◌, min, IfSome, option_map};
 ghost use Rattle.cam_numbers.specs.Blanks.{kept};
-ghost use Rattle.cam_numbers.specs.Numbers.{value_limit, natural, natural_within, integer, is_negative, behind_sign, with_sign};
+ghost use Rattle.cam_numbers.specs.Numbers.{value_limit, natural, natural_within, integer, is_negative, behind_sign};
+ghost use Rattle.cam_numbers.specs.Numbers.{with_sign};
 ghost use Rattle.cam_numbers.specs.Machinery.Counting.{digits_of};
 
 use crate::blanks::{Blanks, first_kept};

@@ -1,7 +1,8 @@
 //! Points, segments and contours that are moved.
 
 ghost use Rattle.std.specs.Prelude.{◌≡◌};
-ghost use Rattle.cam_shapes.specs.Shifting.{IsShiftable, IsShiftableContour, IsShiftableSeg, shifted_contour, shifted_point, shifted_seg};
+ghost use Rattle.cam_shapes.specs.Shifting.{IsShiftable, IsShiftableContour, IsShiftableSeg, shifted_contour};
+ghost use Rattle.cam_shapes.specs.Shifting.{shifted_point, shifted_seg};
 
 use crate::contour::Contour;
 use crate::segments::{Seg, shift_segments};

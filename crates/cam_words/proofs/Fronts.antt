@@ -62,17 +62,21 @@ packed_first text slice skipped e is some =
 behind_first : (text : List ℕ) → behind_kept 1 text ≡ drop 1 (drop (prefix_len is_skipped text) text)
 behind_first [] = refl
 behind_first (byte ∷ text) =
-    (elim (is_skipped byte) as (λ b. is_skipped byte ≡ b → behind_kept 1 (byte ∷ text) ≡ drop 1 (drop (prefix_len is_skipped (byte ∷ text)) (byte ∷ text))) [
+    (elim (is_skipped byte) as (λ b. is_skipped byte ≡ b → behind_kept 1 (byte ∷ text)
+    ≡ drop 1 (drop (prefix_len is_skipped (byte ∷ text)) (byte ∷ text))) [
       | true ↦ λ e. let s : 1 + prefix_len is_skipped text ≡ suc (prefix_len is_skipped text) = omega arith in rw (e, s) (behind_first text)
       | false ↦ λ e. rw e refl
     ]) refl
 
-pub behind_nothing : (text : List ℕ) (skipped : ℕ) → skipped ≡ prefix_len is_skipped text → length (take (length text - skipped) (drop skipped text)) < 1 → behind_kept 1 text ≡ []
+pub behind_nothing : (text : List ℕ) (skipped : ℕ) → skipped ≡ prefix_len is_skipped text
+    → length (take (length text - skipped) (drop skipped text)) < 1 → behind_kept 1 text ≡ []
 behind_nothing text skipped e none =
     let short : length (drop skipped text) < 1 = rw (take_rest text skipped) at none in
     let nil : drop skipped text ≡ [] = nil_from_length (drop skipped text) (omega arith) in
     behind_first text ∙ ap (λ (n : ℕ). drop 1 (drop n text)) (sym e) ∙ ap (drop 1) nil
 
-pub behind_slice : (text slice : List ℕ) (skipped : ℕ) → skipped ≡ prefix_len is_skipped text → slice ≡ take (length text - skipped) (drop skipped text) → behind_kept 1 text ≡ take (length slice - 1) (drop 1 slice)
+pub behind_slice : (text slice : List ℕ) (skipped : ℕ) → skipped ≡ prefix_len is_skipped text
+    → slice ≡ take (length text - skipped) (drop skipped text) → behind_kept 1 text ≡ take (length slice - 1) (drop 1 slice)
 behind_slice text slice skipped e is =
-    behind_first text ∙ ap (λ (n : ℕ). drop 1 (drop n text)) (sym e) ∙ ap (drop 1) (sym (is ∙ take_rest text skipped)) ∙ sym (take_rest slice 1)
+    behind_first text ∙ ap (λ (n : ℕ). drop 1 (drop n text)) (sym e) ∙ ap (drop 1) (sym (is ∙ take_rest text skipped))
+    ∙ sym (take_rest slice 1)

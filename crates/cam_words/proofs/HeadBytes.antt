@@ -32,7 +32,8 @@ pub drop_one : (text rest whole : List ℕ) (i byte : ℕ) → text ≡ drop i w
 drop_one text rest whole i byte e f = ap (drop 1) (sym f ∙ e) ∙ drop-drop 1 i whole
 
 -- what stands behind a head
-pub behind_head-there : (head text rest : List ℕ) → starts_with nat_eq text head ≡ true → rest ≡ drop (length head) text → Some rest ≡ behind_head head text
+pub behind_head-there : (head text rest : List ℕ) → starts_with nat_eq text head ≡ true → rest ≡ drop (length head) text
+    → Some rest ≡ behind_head head text
 unfolding behind_head
 behind_head-there head text rest e is = rw (e, is) refl
 

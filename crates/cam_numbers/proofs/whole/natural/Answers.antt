@@ -6,7 +6,8 @@ pub returns-in_err-digits : goal.returns-in_err-digits
 returns-in_err-digits c = rw c.from_residual.ensures (natural_of_none (kept c.args.blanks c.args.run.now) c.in_err-digits.ensures)
 
 pub returns-then-digits-eq0 : goal.returns-then-digits-eq0
-returns-then-digits-eq0 c = natural_of_empty (kept c.args.blanks c.args.run.now) c.in_ok-digits.digits c.in_ok-digits.ensures c.if-digits-eq0.true
+returns-then-digits-eq0 c = natural_of_empty (kept c.args.blanks c.args.run.now) c.in_ok-digits.digits c.in_ok-digits.ensures
+    c.if-digits-eq0.true
 
 pub returns : goal.returns
 returns c = natural_of_digits (kept c.args.blanks c.args.run.now) c.in_ok-digits.digits c.in_ok-digits.ensures c.if-digits-eq0.false

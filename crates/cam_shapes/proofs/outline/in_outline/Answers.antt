@@ -11,7 +11,8 @@ use Rattle.cam_shapes.proofs.Parity.{sides_are_parity}
 use Rattle.cam_shapes.proofs.outline.in_outline.Goals as goal
 
 -- the outline through a first point and others
-enclosed : (s : Spot) (t : Turn) (o : Point) (points : List Point) (d start : Point) (b : Bool) → 1 ≤ length points → start ≡ placed_point t o (get_or points 0 d)
+enclosed : (s : Spot) (t : Turn) (o : Point) (points : List Point) (d start : Point) (b : Bool) → 1 ≤ length points
+    → start ≡ placed_point t o (get_or points 0 d)
     → b ≡ change_side s start start (map (placed_seg t o) (lines_to (take (length points - 1) (drop 1 points))))
     → IsTrue b ↔ IsInContour s (placed_contour t o (outline_of points))
 enclosed s t o [] d start b h e f = absurd (omega arith)

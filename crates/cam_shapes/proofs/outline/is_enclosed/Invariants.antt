@@ -8,6 +8,7 @@ use Rattle.cam_shapes.proofs.outline.is_enclosed.Given as goal
 abbrev pub invariant-loop-point : goal.invariant-loop-point
 invariant-loop-point l = record {
   on_board : IsOnBoard l.here;
-  side : differ l.inside (change_side l.spot l.start l.here (map (placed_seg l.placing.turn l.placing.offset) (lines_to (drop l.point-index l.others))))
+  side : differ l.inside (change_side l.spot l.start l.here (map (placed_seg l.placing.turn l.placing.offset)
+      (lines_to (drop l.point-index l.others))))
       ≡ change_side l.spot l.start l.start (map (placed_seg l.placing.turn l.placing.offset) (lines_to l.others));
 }

@@ -1,19 +1,22 @@
 use Rattle.std.proofs.Common.{◌≡◌, ◌∙◌, ap, arith, ◌≢◌, drop, get_or, length}
 use Rattle.cam_words.specs.Heads.{packed}
-use Rattle.cam_words.proofs.HeadBytes.{starts_with-same, starts_with-other, starts_with-short, starts_with-end, drop_one, behind_head-there, behind_head-absent}
+use Rattle.cam_words.proofs.HeadBytes.{starts_with-same, starts_with-other, starts_with-short, starts_with-end}
+use Rattle.cam_words.proofs.HeadBytes.{drop_one, behind_head-there, behind_head-absent}
 use Rattle.cam_words.proofs.heads.behind_head.Goals as goal
 
 pub returns-in_default-clause-behind : goal.returns-in_default-clause-behind
 returns-in_default-clause-behind c =
     behind_head-absent c.args.head.now (packed c.args.text.now)
-    (c.loop-wanted.invariant.begins ∙ starts_with-short (packed c.loop-wanted.rest.now) c.args.head.now c.loop-wanted.wanted-index c.in_default.ensures.kept c.loop-wanted-test.true)
+    (c.loop-wanted.invariant.begins ∙ starts_with-short (packed c.loop-wanted.rest.now) c.args.head.now c.loop-wanted.wanted-index
+    c.in_default.ensures.kept c.loop-wanted-test.true)
 
 pub returns-then-byte-wanted-clause-behind : goal.returns-then-byte-wanted-clause-behind
 returns-then-byte-wanted-clause-behind c =
     let head = c.args.head.now in
     let other : c.in-Some.byte ≢ get_or head c.loop-wanted.wanted-index 0 = c.if-byte-wanted.true in
     behind_head-absent head (packed c.args.text.now)
-    (c.loop-wanted.invariant.begins ∙ starts_with-other (packed c.loop-wanted.rest.now) (packed c.in-Some.behind.now) head c.loop-wanted.wanted-index c.in-Some.byte c.in-Some.ensures.kept c.loop-wanted-test.true other)
+    (c.loop-wanted.invariant.begins ∙ starts_with-other (packed c.loop-wanted.rest.now)
+    (packed c.in-Some.behind.now) head c.loop-wanted.wanted-index c.in-Some.byte c.in-Some.ensures.kept c.loop-wanted-test.true other)
 
 pub loop-wanted-preserved : goal.loop-wanted-preserved
 loop-wanted-preserved c = record {
