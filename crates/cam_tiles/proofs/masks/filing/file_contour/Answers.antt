@@ -78,8 +78,13 @@ pub returns-in-Some-filed_line-clause-few : goal.returns-in-Some-filed_line-clau
 returns-in-Some-filed_line-clause-few c =
     let few = few_filed _ _ _ _ _ _ c.loop-place.invariant.filed in
     let added = ap length c.push_reserved-in-Some-filed_line.ensures.items in
-    omega (arith, few, added, length_push c.loop-place.filed.items c.in-Some-filed_line.closing,
-    ap length c.as_slice-segs.ensures)
+    omega (
+      arith,
+      few,
+      added,
+      length_push c.loop-place.filed.items c.in-Some-filed_line.closing,
+      ap length c.as_slice-segs.ensures,
+    )
 
 pub returns-in-Some-filed_line-clause-room : goal.returns-in-Some-filed_line-clause-room
 returns-in-Some-filed_line-clause-room c =

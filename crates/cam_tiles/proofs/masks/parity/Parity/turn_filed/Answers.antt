@@ -1,4 +1,4 @@
-use Rattle.std.proofs.Common.{◌+◌, ◌-◌, ℕ, FitsSigned, w64, rules, get_or, pos, take, sym, ap, subst, ◌∙◌}
+use Rattle.std.proofs.Common.{◌+◌, ◌-◌, ℕ, FitsSigned, w64, rules, arith, get_or, pos, take, sym, ap, subst, ◌∙◌}
 use Rattle.std.proofs.lemmas.List.{take_more}
 use Rattle.cam_units.specs.declared.point.Spot.{Spot}
 use Rattle.cam_tiles.specs.declared.grid.Grid.{Grid}
@@ -11,6 +11,19 @@ use Rattle.cam_tiles.proofs.masks.parity.Parity.turn_filed.Goals.{else-last-segm
 use Rattle.cam_tiles.proofs.masks.parity.Parity.turn_filed.Goals.{else-last-segment+then-first-segment}
 use Rattle.cam_tiles.proofs.masks.parity.Parity.turn_filed.Goals.{then-last-segment}
 use Rattle.cam_tiles.proofs.masks.parity.Parity.turn_filed.Goals as goal
+
+pub overflow_sub-grid : goal.overflow_sub-grid
+overflow_sub-grid c = c.grid-grid.ensures.grid.columns.0
+
+pub centre-last-requires : goal.centre-last-requires
+centre-last-requires c =
+    let grid = c.grid-grid.ensures.grid in
+    record { grid = grid; column = omega (arith, grid.columns.0); row = grid.rows.0 }
+
+pub turn_place-requires : goal.turn_place-requires
+turn_place-requires c =
+    let filed = c.requires.filed.each c.loop-segment.segment-index _ c.loop-segment-test.true in
+    record { contour = c.requires.contour; place = filed.place }
 
 pub loop-segment-preserved : goal.loop-segment-preserved
 loop-segment-preserved c =
