@@ -8,7 +8,7 @@ use Rattle.cam_objects.specs.Image.{IsBlack}
 use Rattle.cam_objects.proofs.TestLaws.{black_law}
 use Rattle.cam_edits.proofs.EditedLists.{all_here}
 use Rattle.cam_edits.specs.Boards.{content_at}
-use Rattle.cam_edits.specs.Images.{image_of, leaves_of}
+use Rattle.cam_edits.specs.Images.{image_of, sheet_leaves}
 use Rattle.cam_edits.specs.Sheets.{Content}
 use Rattle.cam_station.specs.Layers.{AreTables}
 use Rattle.cam_station.specs.Locality.{CleanTiles, IsClean}
@@ -35,10 +35,10 @@ in_force (Some w) count tables place t h here =
 -- the test of a place tells whether it is black
 black_where : (c : Content) (t : Table) (column row : ℕ) (black : Bool)
     → black ≡ image_of c (centre_of t.window column row)
-    → (black ≡ true) ↔ IsBlack (leaves_of c) (centre_of t.window column row)
+    → (black ≡ true) ↔ IsBlack (sheet_leaves c) (centre_of t.window column row)
 black_where c t column row black same = (
-  λ is. (black_law (leaves_of c) (centre_of t.window column row)).0 (sym same ∙ is),
-  λ is. same ∙ (black_law (leaves_of c) (centre_of t.window column row)).1 is,
+  λ is. (black_law (sheet_leaves c) (centre_of t.window column row)).0 (sym same ∙ is),
+  λ is. same ∙ (black_law (sheet_leaves c) (centre_of t.window column row)).1 is,
 )
 
 clean : (s : State) → IsShown s → (place : ℕ) (t : Table) → slice_get s.tables place ≡ Some t → IsClean s place t

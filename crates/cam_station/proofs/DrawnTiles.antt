@@ -5,7 +5,7 @@ use Rattle.std.specs.Prelude.{slice_get}
 use Rattle.std.proofs.lemmas.List.Sums.{sum_by-cons}
 use Rattle.cam_tiles.specs.Tables.{Table, blank, dirty_count, redrawn}
 use Rattle.cam_tiles.specs.declared.window.Window.{Window}
-use Rattle.cam_edits.specs.Boards.{content_at, place_of}
+use Rattle.cam_edits.specs.Boards.{content_at, place_named}
 use Rattle.cam_edits.specs.Images.{image_of}
 use Rattle.cam_edits.specs.Places.{changed}
 use Rattle.cam_edits.specs.Sheets.{Content, Sheet}
@@ -121,7 +121,7 @@ module _ (s : State) (h : IsShown s) where
   plot_counts RefusedToStation (Some w) place bytes count is within answered = absurd cc
 
   plotted_counts : (name : List ℕ) (memory : Memory) (place : Option ℕ) (bytes : List ℕ) (count : ℕ)
-      → place_of name s.timeline.document ≡ place → (plot_at s memory place).1 ≡ Ok (Bytes bytes count)
+      → place_named name s.timeline.document ≡ place → (plot_at s memory place).1 ≡ Ok (Bytes bytes count)
       → ((plot_at s memory place).0 ≡ drawn_where s s.window place)
       × (dirty_in (drawn_where s s.window place).tables + count ≡ dirty_in s.tables)
   plotted_counts name memory None bytes count named answered = absurd cc
@@ -137,7 +137,7 @@ drawn_tiles =
           redrawn_counts (states_after (fresh depth) before) (shown depth before) n memory count answered;
       plot = λ depth before name memory bytes count answered.
           let s : State = states_after (fresh depth) before in
-          let both = plotted_counts s (shown depth before) name memory (place_of name s.timeline.document) bytes count
+          let both = plotted_counts s (shown depth before) name memory (place_named name s.timeline.document) bytes count
           refl answered in
           record { after = both.0; left = both.1 };
     }

@@ -1,5 +1,6 @@
 -- Tables stay tables of the window, one for each layer.
-use Rattle.std.proofs.Common.{◌≡◌, ◌∙◌, ℕ, ◌+◌, ◌-◌, Bool, true, List, [], ◌∷◌, ◌++◌, length, replicate, drop, take, append-nil, slice_get, Option, None, Some, ap, arith, refl, suc, zero}
+use Rattle.std.proofs.Common.{◌≡◌, ◌∙◌, ℕ, ◌+◌, ◌-◌, Bool, true, List, [], ◌∷◌, ◌++◌, length, replicate, drop}
+use Rattle.std.proofs.Common.{take, append-nil, slice_get, Option, None, Some, ap, arith, refl, suc, zero}
 use Rattle.std.specs.Prelude.{All}
 use Rattle.std.proofs.lemmas.List.{drop_all, length-append, length-replicate, length-set, take_all}
 use Rattle.std.proofs.lemmas.List.Elements.{All-cons, All-head, All-tail, All-push, All-replicate, All-set}

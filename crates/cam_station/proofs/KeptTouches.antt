@@ -1,7 +1,9 @@
 -- What the steps of a history touch is what the machine keeps of them.
-use Rattle.std.proofs.Common.{◌≡◌, ◌∙◌, ℕ, ◌-◌, ◌≤◌, List, [], ◌∷◌, ◌++◌, length, map, drop, take, Option, None, Some, ap, arith, refl, sym, reverse, unwrap_or}
+use Rattle.std.proofs.Common.{◌≡◌, ◌∙◌, ℕ, ◌-◌, ◌≤◌, List, [], ◌∷◌, ◌++◌, length, map, drop, take}
+use Rattle.std.proofs.Common.{Option, None, Some, ap, arith, refl, sym, reverse, unwrap_or}
 use Rattle.std.specs.Option.{option_map}
-use Rattle.std.proofs.lemmas.List.{drop-append-le, drop-map, drop_at, length-append, length-drop, length-map, map-append, reverse-append, take-map, take_all}
+use Rattle.std.proofs.lemmas.List.{drop-append-le, drop-map, drop_at, length-append, length-drop}
+use Rattle.std.proofs.lemmas.List.{length-map, map-append, reverse-append, take-map, take_all}
 use Rattle.std.proofs.lemmas.Option.{slice_get-map}
 use Rattle.circular_buffer.specs.Buffer.{keep_last, last_item}
 use Rattle.cam_edits.specs.declared.board_step.BoardStep.{BoardStep}
@@ -29,7 +31,10 @@ use Rattle.cam_undo.specs.Timelines.{
   with_step,
 }
 use Rattle.cam_undo.proofs.Lasts.{ending, last_item-snoc}
-use Rattle.cam_station.specs.Touches.{Touches, accepted_touches, accepted_touches_in, ended_touches, ended_touches_in, group_touches, last_accepted, last_accepted_in, played, redone_touches, redone_touches_by, touched_by_redo, touched_by_undo, touches_of, undone_touches, undone_touches_by}
+use Rattle.cam_station.specs.Touches.{Touches, accepted_touches, accepted_touches_in, ended_touches, ended_touches_in, played}
+use Rattle.cam_station.specs.Touches.{redone_touches, redone_touches_by, touched_by_redo, touched_by_undo, touches_of, undone_touches}
+use Rattle.cam_station.specs.Touches.{undone_touches_by}
+use Rattle.cam_station.specs.Machinery.Touching.{group_touches, last_accepted, last_accepted_in}
 
 -- ---- the ends of lists
 

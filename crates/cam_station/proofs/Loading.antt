@@ -30,7 +30,8 @@ drill_refused bytes f (inl e) =
     rw (never, ← e) refl
 drill_refused bytes f (inr e) = let same : f ≡ no_drill_memory = cc in rw same refl
 
-pub drill_read : (bytes : List ℕ) (layer : DrillLayer) → IsDrillReading bytes (Ok layer) → drill_meaning (drill_reading bytes) ≡ Ok (Drill (drill_content layer))
+pub drill_read : (bytes : List ℕ) (layer : DrillLayer) → IsDrillReading bytes (Ok layer)
+    → drill_meaning (drill_reading bytes) ≡ Ok (Drill (drill_content layer))
 drill_read bytes layer (inl e) = rw (← e) refl
 drill_read bytes layer (inr e) = absurd cc
 
@@ -45,7 +46,8 @@ refused_by bytes f (inl e) =
     rw (never, ← e) refl
 refused_by bytes f (inr e) = let same : f ≡ no_gerber_memory = cc in rw same refl
 
-read_by : (bytes : List ℕ) (layer : Layer) → IsGerberAnswer bytes (Ok layer) → gerber_meaning (gerber_reading bytes) ≡ Ok (Gerber (gerber_content layer))
+read_by : (bytes : List ℕ) (layer : Layer) → IsGerberAnswer bytes (Ok layer)
+    → gerber_meaning (gerber_reading bytes) ≡ Ok (Gerber (gerber_content layer))
 read_by bytes layer (inl e) = rw (← e) refl
 read_by bytes layer (inr e) = absurd cc
 
@@ -53,7 +55,8 @@ pub gerber_refused : (bytes : List ℕ) (f : GerberFault) → IsGerberReading by
     → reader_answer (memory_of (failed f.code f.at)) (gerber_meaning (gerber_reading bytes)) ≡ Err (fault_at f.code f.at)
 gerber_refused bytes f h = refused_by bytes f (gerber_reads bytes (Err f) h)
 
-pub gerber_read : (bytes : List ℕ) (layer : Layer) → IsGerberReading bytes (Ok layer) → gerber_meaning (gerber_reading bytes) ≡ Ok (Gerber (gerber_content layer))
+pub gerber_read : (bytes : List ℕ) (layer : Layer) → IsGerberReading bytes (Ok layer)
+    → gerber_meaning (gerber_reading bytes) ≡ Ok (Gerber (gerber_content layer))
 gerber_read bytes layer h = read_by bytes layer (gerber_reads bytes (Ok layer) h)
 
 pub ruleset gerber_answers = (gerber_refused, gerber_read)

@@ -7,8 +7,8 @@ use Rattle.cam_station.specs.declared.reply.Reply.{Reply}
 use Rattle.cam_station.specs.declared.reply.Reply.TheVariants.{Bytes}
 use Rattle.cam_tiles.specs.declared.window.Window.{Window}
 use Rattle.cam_objects.proofs.TestLaws.{black_law}
-use Rattle.cam_edits.specs.Boards.{content_at, place_of}
-use Rattle.cam_edits.specs.Images.{image_of, leaves_of}
+use Rattle.cam_edits.specs.Boards.{content_at, place_named}
+use Rattle.cam_edits.specs.Images.{image_of, sheet_leaves}
 use Rattle.cam_edits.specs.Sheets.{Content}
 use Rattle.cam_station.specs.Layers.{drawn, table_at}
 use Rattle.cam_station.specs.Machine.{
@@ -82,7 +82,7 @@ module _ (s : State) (h : IsShown s) (w : Window) (e : s.window ≡ Some w) (pla
       ∙ ap (λ v. plot_of v (image_of content)) (same_window s.window w t.window e forced.window)
 
 pictured : (s : State) (h : IsShown s) (name : List ℕ) (place : ℕ) (reply : Reply)
-    → place_of name s.timeline.document ≡ Some place → IsFile s place reply → IsPlotOf s name reply
+    → place_named name s.timeline.document ≡ Some place → IsFile s place reply → IsPlotOf s name reply
 pictured s h name place reply named file =
     let c : Content = content_at s.timeline.document place in
     let shows : Shows (plot_of file.window (image_of c)) file.window (image_of c) =
@@ -100,11 +100,11 @@ pictured s h name place reply named file =
       picture = refl;
       shows = shows;
       pixels = λ column row across up.
-          both (shows.pixels column row across up) (black_law (leaves_of c) (centre_of file.window column row));
+          both (shows.pixels column row across up) (black_law (sheet_leaves c) (centre_of file.window column row));
     }
 
 plotted : (s : State) (h : IsShown s) (m : Memory) (name : List ℕ) (place : Option ℕ) (reply : Reply)
-    → place_of name s.timeline.document ≡ place → (plot_at s m place).1 ≡ Ok reply → IsPlotOf s name reply
+    → place_named name s.timeline.document ≡ place → (plot_at s m place).1 ≡ Ok reply → IsPlotOf s name reply
 plotted s h m name None reply e answered = absurd cc
 plotted s h m name (Some place) reply e answered =
     pictured s h name place reply e (plotted_in s m place s.window reply refl answered)
@@ -112,4 +112,4 @@ plotted s h m name (Some place) reply e answered =
 pub exact_plot : ExactPlot
 exact_plot depth before name m reply h =
     let s : State = states_after (fresh depth) before in
-    plotted s (shown depth before) m name (place_of name s.timeline.document) reply refl h
+    plotted s (shown depth before) m name (place_named name s.timeline.document) reply refl h

@@ -1,7 +1,7 @@
 -- Quiet commands keep the documents.
 use Rattle.std.proofs.Common.{◌≡◌, ℕ, List, [], ◌∷◌, Option, None, Some, inl, inr, refl, ap, ◌∙◌}
 use Rattle.cam_tiles.specs.declared.window.Window.{Window}
-use Rattle.cam_edits.specs.Boards.{place_of}
+use Rattle.cam_edits.specs.Boards.{place_named}
 use Rattle.cam_edits.specs.Sheets.{Sheet}
 use Rattle.cam_undo.specs.Machine.{State as Timeline}
 use Rattle.cam_script.specs.declared.command.Command.{Command}
@@ -46,7 +46,7 @@ drawn_keeps s (Some w) None = refl
 drawn_keeps s (Some w) (Some place) = refl
 
 named_keeps : (s : State) (name : List ℕ) → Keeps s (drawn_named name s)
-named_keeps s name = drawn_keeps s s.window (place_of name s.timeline.document)
+named_keeps s name = drawn_keeps s s.window (place_named name s.timeline.document)
 
 refusal_keeps : (s : State) (c : Command) → Keeps s (after_refusal s c)
 refusal_keeps s (commands.Plot name) = named_keeps s name
@@ -69,9 +69,9 @@ list_layer_keeps s (Some place) = refl
 look_keeps : (s : State) (c : Command) (m : Memory) → IsLook c → Keeps s (step s c m).0
 look_keeps s (commands.Redraw n) m h = redraw_keeps s n s.window
 look_keeps s (commands.Plot name) m h = ap documents_of (plot_draws s name m) ∙ named_keeps s name
-look_keeps s (commands.Write name) m h = write_keeps s m (place_of name s.timeline.document)
+look_keeps s (commands.Write name) m h = write_keeps s m (place_named name s.timeline.document)
 look_keeps s commands.ListAll m h = refl
-look_keeps s (commands.ListLayer name) m h = list_layer_keeps s (place_of name s.timeline.document)
+look_keeps s (commands.ListLayer name) m h = list_layer_keeps s (place_named name s.timeline.document)
 look_keeps s _ m h = absurd h
 
 pub quiet_keeps : (s : State) (c : Call) → IsQuiet s c → documents_of (state_after s c) ≡ documents_of s

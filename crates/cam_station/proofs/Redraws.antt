@@ -1,5 +1,6 @@
 -- Tables that are drawn one after another.
-use Rattle.std.proofs.Common.{◌≡◌, ◌∙◌, ℕ, ◌+◌, ◌-◌, ◌<◌, ◌≤◌, List, [], ◌∷◌, ◌++◌, append_assoc, append-nil, length, min, slice_index_or, slice_set, drop, take, ap, arith, refl, sym, suc, zero}
+use Rattle.std.proofs.Common.{◌≡◌, ◌∙◌, ℕ, ◌+◌, ◌-◌, ◌<◌, ◌≤◌, List, [], ◌∷◌, ◌++◌, append_assoc, append-nil, length}
+use Rattle.std.proofs.Common.{min, slice_index_or, slice_set, drop, take, ap, arith, refl, sym, suc, zero}
 use Rattle.std.proofs.lemmas.List.{drop-set-lt, drop_all, take_all, take_more_set}
 use Rattle.std.proofs.lemmas.List.Sums.{sum_by-drop_more}
 use Rattle.cam_tiles.specs.Tables.{Table, dirty_count, redrawn}

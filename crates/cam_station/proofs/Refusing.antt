@@ -7,7 +7,7 @@ use Rattle.cam_tiles.specs.Picture.{accepts}
 use Rattle.cam_edits.specs.declared.edit.Edit.{Edit}
 use Rattle.cam_edits.specs.declared.fault.EditFault.{EditFault}
 use Rattle.cam_edits.specs.declared.fault.EditFault.TheVariants as edits
-use Rattle.cam_edits.specs.Boards.{place_of}
+use Rattle.cam_edits.specs.Boards.{place_named}
 use Rattle.cam_edits.specs.Editing.{edited}
 use Rattle.cam_edits.specs.Sheets.{Content, Sheet, item_count}
 use Rattle.cam_edits.specs.Touches.{touch_of_edit}
@@ -195,14 +195,14 @@ module _ (s : State) (P : State × Outcome → Type 0) (h : AfterOthers s P) whe
   after_others : (c : Command) (m : Memory) → IsOther c → P (step s c m)
   after_others (commands.Load name kind file) m other =
       either (is_some s.timeline.group) _ _ (λ _. without group_open refl)
-      (either (is_some (place_of name s.timeline.document)) _ _ (λ _. without name_taken refl)
+      (either (is_some (place_named name s.timeline.document)) _ _ (λ _. without name_taken refl)
       (either (nat_le layer_limit (length s.timeline.document)) _ _ (λ _. without too_many_layers refl)
       (load name kind file m)))
   after_others (commands.SetWindow w) m other =
       either (accepts w) _ _ (λ fits. room m _ (h.framed w fits)) (without out_of_limits refl)
   after_others (commands.Redraw n) m other = redraw n s.window refl
   after_others (commands.Plot name) m other = absurd other
-  after_others (commands.Write name) m other = write_named m (place_of name s.timeline.document)
+  after_others (commands.Write name) m other = write_named m (place_named name s.timeline.document)
   after_others (commands.Edit edit) m other = change edit m (edited edit s.timeline.document) refl
   after_others commands.Begin m other = history (begin_fault s.timeline) _ h.opened
   after_others commands.End m other = history (end_fault s.timeline) _ h.closed
@@ -210,7 +210,7 @@ module _ (s : State) (P : State × Outcome → Type 0) (h : AfterOthers s P) whe
   after_others commands.Undo m other = history (undo_fault s.timeline) _ (λ may. room m _ (h.taken_back may))
   after_others commands.Redo m other = history (redo_fault s.timeline) _ (λ may. room m _ (h.made_again may))
   after_others commands.ListAll m other = h.looked _
-  after_others (commands.ListLayer name) m other = list_named (place_of name s.timeline.document)
+  after_others (commands.ListLayer name) m other = list_named (place_named name s.timeline.document)
 
 module _ (s : State) (P : State × Outcome → Type 0) (h : AfterEach s P) where
   plot : (m : Memory) (place : ℕ) (w : Option Window) → s.window ≡ w → P (plot_in s m place w)
@@ -224,7 +224,7 @@ module _ (s : State) (P : State × Outcome → Type 0) (h : AfterEach s P) where
   plot_named m (Some place) = plot m place s.window refl
 
   pub after_each : (c : Command) (m : Memory) → P (step s c m)
-  after_each (commands.Plot name) m = plot_named m (place_of name s.timeline.document)
+  after_each (commands.Plot name) m = plot_named m (place_named name s.timeline.document)
   after_each c m = after_others s P h.others c m tt
 
 -- ---- refusals
@@ -246,7 +246,7 @@ draws_at s m (Some place) = draws_in s m place s.window
 
 -- a plot draws its layer, whether it is refused or not
 pub plot_draws : (s : State) (name : List ℕ) (m : Memory) → (plot_step s name m).0 ≡ drawn_named name s
-plot_draws s name m = draws_at s m (place_of name s.timeline.document)
+plot_draws s name m = draws_at s m (place_named name s.timeline.document)
 
 abbrev Stays : State → State × Outcome → Type 0
 Stays s p = IsErr p.1 → p.0 ≡ s

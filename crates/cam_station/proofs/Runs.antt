@@ -26,7 +26,8 @@ others_are a b xs ys e = cc
 
 -- one more command behind a run
 pub run_more : (s mid last : State) (c : Command) (answer : Outcome) (commands : List Command) (answers : List Outcome)
-    → IsRun s commands answers mid → step mid c (memory_of answer) ≡ (last, answer) → IsRun s (commands ++ c ∷ []) (answers ++ answer ∷ []) last
+    → IsRun s commands answers mid → step mid c (memory_of answer) ≡ (last, answer)
+    → IsRun s (commands ++ c ∷ []) (answers ++ answer ∷ []) last
 run_more s mid last c answer [] [] r e =
     let here : s ≡ mid = r.last_is in
     let now : step s c (memory_of answer) ≡ (last, answer) = ap (λ x. step x c (memory_of answer)) here ∙ e in

@@ -1,5 +1,6 @@
 -- One more number of a line that is said.
-use Rattle.std.proofs.Common.{◌≡◌, ℕ, ◌+◌, ◌<◌, List, [], ◌∷◌, ◌++◌, Option, take, length, get_or, subst, sym, ap, ◌∙◌, append-nil, append_assoc, arith}
+use Rattle.std.proofs.Common.{◌≡◌, ℕ, ◌+◌, ◌<◌, List, [], ◌∷◌, ◌++◌, Option, take, length, get_or}
+use Rattle.std.proofs.Common.{subst, sym, ap, ◌∙◌, append-nil, append_assoc, arith}
 use Rattle.std.specs.Prelude.{codes, decimal}
 use Rattle.std.specs.List.{flat_map}
 use Rattle.std.specs.Io.KnownBytes.{Appends}
@@ -20,7 +21,8 @@ one_more ns i lt =
     ∙ flat_map-append spaced (take i ns) (get_or ns i 0 ∷ [])
     ∙ ap (λ (w : List ℕ). flat_map spaced (take i ns) ++ w) (append-nil (spaced (get_or ns i 0))))
 
-pub number_said : (a b c : Option (List ℕ)) (word ns : List ℕ) (i : ℕ) → i < length ns → Appends a b (word ++ flat_map (λ n. codes " " ++ decimal n) (take i ns))
+pub number_said : (a b c : Option (List ℕ)) (word ns : List ℕ) (i : ℕ) → i < length ns
+    → Appends a b (word ++ flat_map (λ n. codes " " ++ decimal n) (take i ns))
     → Appends b c (codes " " ++ decimal (get_or ns i 0)) → Appends a c (word ++ flat_map (λ n. codes " " ++ decimal n) (take (i + 1) ns))
 number_said a b c word ns i lt h k =
     let P : List ℕ → Type 0 = λ w. Appends a c w in

@@ -10,7 +10,7 @@ use Rattle.cam_tiles.specs.Picture.{accepts}
 use Rattle.cam_tiles.specs.Tables.{Table, blank, dirty_count}
 use Rattle.cam_tiles.specs.TileLaws.{IsPictured}
 use Rattle.cam_tiles.specs.Touched.{touched_by}
-use Rattle.cam_edits.specs.Boards.{content_at, empty_content, place_of}
+use Rattle.cam_edits.specs.Boards.{content_at, empty_content, place_named}
 use Rattle.cam_edits.specs.Images.{image_of}
 use Rattle.cam_edits.specs.Machinery.PlaceLaws.{element_at}
 use Rattle.cam_edits.specs.Places.{changed}
@@ -264,9 +264,9 @@ shown depth calls = shown_after (fresh depth) calls (fresh_shown depth)
 
 -- ---- the table of a layer
 
-pub named_within : (name : List ℕ) (sheets : List Sheet) (place : ℕ) → place_of name sheets ≡ Some place
+pub named_within : (name : List ℕ) (sheets : List Sheet) (place : ℕ) → place_named name sheets ≡ Some place
     → place < length sheets
-unfolding place_of
+unfolding place_named
 named_within name sheets place named =
     (position-Some (λ s. bytes_eq s.name name) sheets place (sheet [] empty_content) named).0
 

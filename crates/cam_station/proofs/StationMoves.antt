@@ -12,15 +12,21 @@ use Rattle.cam_edits.specs.Sheets.{Sheet}
 use Rattle.cam_edits.specs.Touches.{Touch, touch_of, touch_of_edit}
 use Rattle.circular_buffer.specs.Buffer.{last_item}
 use Rattle.cam_undo.specs.Kept.{Kept}
-use Rattle.cam_undo.specs.Machine.{State as Timeline, abort_fault, aborted, accepted, end_fault, ended, redo_fault, redone, undo_fault, undone}
-use Rattle.cam_undo.specs.Timelines.{ended_by, open_answers, redone_by, state_at, undone_by, with_group_closed, with_group_ended, with_last_redone, with_last_undone, with_step}
+use Rattle.cam_undo.specs.Machine.{State as Timeline, abort_fault, aborted, accepted, end_fault}
+use Rattle.cam_undo.specs.Machine.{ended, redo_fault, redone, undo_fault, undone}
+use Rattle.cam_undo.specs.Timelines.{ended_by, open_answers, redone_by, state_at, undone_by, with_group_closed}
+use Rattle.cam_undo.specs.Timelines.{with_group_ended, with_last_redone, with_last_undone, with_step}
 use Rattle.cam_station.specs.declared.reply.Reply.TheVariants.{Done}
 use Rattle.cam_station.specs.Layers.{touched_in}
-use Rattle.cam_station.specs.Machine.{Granted, IsStation, State, abort_step, edit_step, edit_to, end_step, moved_to, redo_step, undo_step, unless}
-use Rattle.cam_station.specs.Touches.{Touches, aborted_touches, accepted_touches, ended_touches, group_touches, last_accepted, redone_touches, touched_by_abort, touched_by_redo, touched_by_undo, touches_of, undone_touches}
+use Rattle.cam_station.specs.Machine.{Granted, IsStation, State, abort_step, edit_step, edit_to}
+use Rattle.cam_station.specs.Machine.{end_step, moved_to, redo_step, undo_step, unless}
+use Rattle.cam_station.specs.Touches.{Touches, aborted_touches, accepted_touches, ended_touches, redone_touches, touched_by_abort}
+use Rattle.cam_station.specs.Touches.{touched_by_redo, touched_by_undo, touches_of, undone_touches}
+use Rattle.cam_station.specs.Machinery.Touching.{group_touches, last_accepted}
 use Rattle.cam_edits.proofs.PlannedTouch.{planned_touch, touch_kept}
 use Rattle.cam_station.proofs.KeptTables.{length-touched_in, touches_stay, written_over}
-use Rattle.cam_station.proofs.KeptTouches.{accepted_last, played_by_abort, played_by_redo, played_by_undo, touches_accepted, touches_ended, touches_redone, touches_undone}
+use Rattle.cam_station.proofs.KeptTouches.{accepted_last, played_by_abort, played_by_redo, played_by_undo, touches_accepted}
+use Rattle.cam_station.proofs.KeptTouches.{touches_ended, touches_redone, touches_undone}
 
 -- what is seen of a station's fields
 abbrev pub seen : Option Window → Kept BoardStep → List Sheet → List Table → State

@@ -1,16 +1,18 @@
 -- What a station shows once tiles are drawn, and that it stays a station.
-use Rattle.std.proofs.Common.{◌≡◌, ◌∙◌, ℕ, ◌<◌, false, List, ◌++◌, length, drop, take, slice_get, slice_index_or, slice_set, Option, None, Some, ap, refl, sym, unwrap_or}
+use Rattle.std.proofs.Common.{◌≡◌, ◌∙◌, ℕ, ◌<◌, false, List, ◌++◌, length, drop, take, slice_get, slice_index_or}
+use Rattle.std.proofs.Common.{slice_set, Option, None, Some, ap, refl, sym, unwrap_or}
 use Rattle.std.specs.Prelude.{Ok, is_none}
 use Rattle.std.proofs.lemmas.Option.{slice_get_read}
 use Rattle.cam_tiles.specs.declared.window.Window.{Window}
 use Rattle.cam_tiles.specs.Tables.{Table, blank, dirty_count, pbm_of}
-use Rattle.cam_edits.specs.Boards.{content_at, place_of}
+use Rattle.cam_edits.specs.Boards.{content_at, place_named}
 use Rattle.cam_edits.specs.Machinery.PlaceLaws.{changed_is, get_changed}
 use Rattle.cam_edits.specs.Places.{changed}
 use Rattle.cam_edits.specs.Sheets.{Content, Sheet}
 use Rattle.cam_station.specs.declared.reply.Reply.TheVariants.{Bytes}
 use Rattle.cam_station.specs.Layers.{AreTables, drawn, redrawn_in, table_at}
-use Rattle.cam_station.specs.Machine.{Granted, IsStation, RefusedToStation, State, Outcome, plot_at, plot_in, plot_step, refused, with_drawn}
+use Rattle.cam_station.specs.Machine.{Granted, IsStation, RefusedToStation, State, Outcome}
+use Rattle.cam_station.specs.Machine.{plot_at, plot_in, plot_step, refused, with_drawn}
 use Rattle.cam_station.specs.Refusals.{memory_refused}
 use Rattle.cam_station.proofs.KeptTables.{drawn_stays, length-redrawn_in, redraw_stays, written_over}
 
@@ -60,7 +62,7 @@ station_drawn depth window sheets content tables new place h e = record {
   tables = rw e (drawn_stays window (length sheets) content place tables h.tables);
 }
 
-module _ (s : State) (name : List ℕ) (place : ℕ) (named : place_of name s.timeline.document ≡ Some place)
+module _ (s : State) (name : List ℕ) (place : ℕ) (named : place_named name s.timeline.document ≡ Some place)
     (framed : is_none s.window ≡ false) where
   refused_in : (window : Option Window) → is_none window ≡ false
       → plot_in s RefusedToStation place window ≡ (with_drawn s place, refused memory_refused)

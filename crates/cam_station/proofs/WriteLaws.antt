@@ -17,7 +17,7 @@ use Rattle.cam_script.specs.declared.command.FileKind.{FileKind}
 use Rattle.cam_station.specs.declared.reply.Numbers.TheVariants.{One}
 use Rattle.cam_station.specs.declared.reply.Reply.{Reply}
 use Rattle.cam_station.specs.declared.reply.Reply.TheVariants.{Bytes, Numbers}
-use Rattle.cam_edits.specs.Boards.{content_at, held, place_of}
+use Rattle.cam_edits.specs.Boards.{content_at, held, place_named}
 use Rattle.cam_edits.specs.Sheets.{AreSound, Content, Gerber, Drill, IsSound, Sheet, item_count, sheet}
 use Rattle.cam_station.specs.Documents.{content_named}
 use Rattle.cam_edits.specs.Images.{image_of}
@@ -61,12 +61,12 @@ last_first test sheets s none passes =
 own_name : (name : List ℕ) → bytes_eq name name ≡ true
 own_name name = (bytes_eq-Decides name name).1 refl
 
-last_place : (name : List ℕ) (sheets : List Sheet) (c : Content) → place_of name sheets ≡ None
-    → place_of name (sheets ++ sheet name c ∷ []) ≡ Some (length sheets)
-unfolding place_of
+last_place : (name : List ℕ) (sheets : List Sheet) (c : Content) → place_named name sheets ≡ None
+    → place_named name (sheets ++ sheet name c ∷ []) ≡ Some (length sheets)
+unfolding place_named
 last_place name sheets c free = last_first (λ s. bytes_eq s.name name) sheets (sheet name c) free (own_name name)
 
-last_named : (name : List ℕ) (sheets : List Sheet) (c : Content) → place_of name sheets ≡ None
+last_named : (name : List ℕ) (sheets : List Sheet) (c : Content) → place_named name sheets ≡ None
     → content_named name (sheets ++ sheet name c ∷ []) ≡ Some c
 last_named name sheets c free =
     let all : List Sheet = sheets ++ sheet name c ∷ [] in
@@ -98,14 +98,14 @@ module _ (s : State) (name : List ℕ) (kind : FileKind) (file : List ℕ) (c : 
 
   -- the name was free, and the layer stands last
   record Adds (m : Memory) : Type 0 where
-    free : place_of name s.timeline.document ≡ None
+    free : place_named name s.timeline.document ≡ None
     after : (step s (Load name kind file) m).0 ≡ with_sheet s name c
 
   load_adds : (m : Memory) (reply : Reply) → (step s (Load name kind file) m).1 ≡ Ok reply → Adds m
   unfolding read_in
   load_adds m reply h =
       let open_group : Bool = is_some s.timeline.group in
-      let taken : Bool = is_some (place_of name s.timeline.document) in
+      let taken : Bool = is_some (place_named name s.timeline.document) in
       let full : Bool = nat_le layer_limit (length s.timeline.document) in
       let read : State × Outcome = load_read s name m (reader_answer m (meaning_of kind file)) in
       let fitting : State × Outcome = cond full (s, refused too_many_layers) read in
@@ -115,11 +115,11 @@ module _ (s : State) (name : List ℕ) (kind : FileKind) (file : List ℕ) (c : 
       let few : full ≡ false = passed full too_many_layers read reply (rw (closed, free) at h) in
       let h' : (read_in m).1 ≡ Ok reply = rw (closed, free, few, means) at h in
       record {
-        free = untaken (place_of name s.timeline.document) free;
+        free = untaken (place_named name s.timeline.document) free;
         after = rw (closed, free, few, means) (read_adds m reply h');
       }
 
-  load_accepted : s.timeline.group ≡ None → place_of name s.timeline.document ≡ None
+  load_accepted : s.timeline.group ≡ None → place_named name s.timeline.document ≡ None
       → length s.timeline.document < layer_limit
       → (step s (Load name kind file) Granted).1 ≡ Ok (Numbers (One (item_count c)))
   load_accepted closed free few =
@@ -140,7 +140,7 @@ written_here s RefusedToReader place reply h = cc
 written_here s RefusedToStation place reply h = absurd cc
 
 written : (s : State) (m : Memory) (name : List ℕ) (place : Option ℕ) (reply : Reply) → AreSound s.timeline.document
-    → place_of name s.timeline.document ≡ place → (write_at s m place).1 ≡ Ok reply → IsWriteOf s name reply
+    → place_named name s.timeline.document ≡ place → (write_at s m place).1 ≡ Ok reply → IsWriteOf s name reply
 written s m name None reply sound e h = absurd cc
 written s m name (Some place) reply sound e h = record {
   content = content_at s.timeline.document place;
@@ -153,7 +153,7 @@ pub exact_write : ExactWrite
 exact_write depth before name m reply h =
     let s : State = states_after (fresh depth) before in
     let r : IsReached s = reached depth before in
-    written s m name (place_of name s.timeline.document) reply r.sound.document refl h
+    written s m name (place_named name s.timeline.document) reply r.sound.document refl h
 
 same_content : (a b : Content) (o : Option Content) → o ≡ Some a → o ≡ Some b → a ≡ b
 same_content a b o e f = cc

@@ -3,14 +3,14 @@ use Rattle.std.specs.Prelude.{◌≡◌, ℕ, List, Option}
 use Rattle.std.specs.Option.{option_map}
 use Rattle.cam_tiles.specs.declared.window.Window.{Window}
 use Rattle.cam_tiles.specs.Picture.{plot_of}
-use Rattle.cam_edits.specs.Boards.{content_at, place_of}
+use Rattle.cam_edits.specs.Boards.{content_at, place_named}
 use Rattle.cam_edits.specs.Sheets.{Content, Sheet}
 use Rattle.cam_edits.specs.Images.{image_of}
 use Rattle.cam_station.specs.Writing.{text_of}
 
 -- what the sheet of this name holds, where there is one
 abbrev pub content_named : List ℕ → List Sheet → Option Content
-content_named name sheets = option_map (content_at sheets) (place_of name sheets)
+content_named name sheets = option_map (content_at sheets) (place_named name sheets)
 
 -- its picture in a window, as a PBM file
 abbrev pub picture_named : Window → List ℕ → List Sheet → Option (List ℕ)

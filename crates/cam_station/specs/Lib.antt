@@ -14,3 +14,4 @@ pub mod Contents
 pub mod Replies
 pub mod Run
 pub mod RunLaws
+pub mod Machinery

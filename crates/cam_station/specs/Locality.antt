@@ -1,5 +1,6 @@
 -- Tile locality: clean tiles show the document as it is now, and edits leave clean what their boxes do not reach.
-use Rattle.std.specs.Prelude.{◌≡◌, ◌↔◌, ℕ, ◌+◌, min, ◌==◌, Bool, true, if◌then◌else◌, List, [], ◌∷◌, length, slice_get, IsOk, Ok, None, Some}
+use Rattle.std.specs.Prelude.{◌≡◌, ◌↔◌, ℕ, ◌+◌, min, ◌==◌, Bool, true, if◌then◌else◌}
+use Rattle.std.specs.Prelude.{List, [], ◌∷◌, length, slice_get, IsOk, Ok, None, Some}
 use Rattle.std.specs.List.{flat_map}
 use Rattle.cam_units.specs.declared.bounds.Bounds.{Bounds}
 use Rattle.cam_objects.specs.Image.{IsBlack}
@@ -9,7 +10,7 @@ use Rattle.cam_tiles.specs.TileLaws.{IsPictured}
 use Rattle.cam_tiles.specs.Touched.{is_touched}
 use Rattle.cam_edits.specs.declared.edit.Edit.{Edit}
 use Rattle.cam_edits.specs.Boards.{content_at}
-use Rattle.cam_edits.specs.Images.{image_of, leaves_of}
+use Rattle.cam_edits.specs.Images.{image_of, sheet_leaves}
 use Rattle.cam_edits.specs.Sheets.{Content}
 use Rattle.cam_edits.specs.Touches.{Touch, touch_of_edit}
 use Rattle.cam_script.specs.declared.command.Command.TheVariants as commands
@@ -27,7 +28,7 @@ use Rattle.cam_station.specs.Undoing.{Call, answer_to, drawn_named, state_after,
 pub record ShowsLayer (t : Table) (content : Content) : Type 0 where
   pub tiles : IsPictured (image_of content) t
   pub pixels : (column row : ℕ) (black : Bool) → pixel_of t column row ≡ Some black
-      → (black ≡ true) ↔ IsBlack (leaves_of content) (centre_of t.window column row)
+      → (black ≡ true) ↔ IsBlack (sheet_leaves content) (centre_of t.window column row)
 
 -- after any list of commands each layer has its tiles, once a window is in force
 abbrev pub KeptTiles : Type 0

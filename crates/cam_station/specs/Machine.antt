@@ -1,18 +1,20 @@
 -- The machine that a station is: a document with its earlier and later documents, a window, and the tiles of each layer
 -- in it; one command is one step.
-use Rattle.std.specs.Prelude.{◌≡◌, ℕ, ◌≤◌, min, nat_le, Bool, true, ◌==◌, ◌&&◌, if◌then◌else◌, List, [], ◌∷◌, ◌++◌, length, Option, None, Some, Result, Ok, Err, is_some}
+use Rattle.std.specs.Prelude.{◌≡◌, ℕ, ◌≤◌, min, nat_le, Bool, true, ◌==◌, ◌&&◌, if◌then◌else◌, List}
+use Rattle.std.specs.Prelude.{[], ◌∷◌, ◌++◌, length, Option, None, Some, Result, Ok, Err, is_some}
 use Rattle.cam_tiles.specs.declared.window.Window.{Window}
 use Rattle.cam_tiles.specs.Picture.{accepts}
 use Rattle.cam_tiles.specs.Tables.{Table, dirty_count, pbm_of}
 use Rattle.cam_edits.specs.declared.edit.Edit.{Edit}
 use Rattle.cam_edits.specs.declared.fault.EditFault.{EditFault}
-use Rattle.cam_edits.specs.Boards.{content_at, place_of}
+use Rattle.cam_edits.specs.Boards.{content_at, place_named}
 use Rattle.cam_edits.specs.Editing.{edited}
 use Rattle.cam_edits.specs.Places.{changed}
 use Rattle.cam_edits.specs.Sheets.{Content, Sheet, entry_count, item_count, sheet}
 use Rattle.cam_edits.specs.Touches.{Touch, touch_of_edit}
 use Rattle.cam_undo.specs.declared.fault.HistoryFault.{HistoryFault}
-use Rattle.cam_undo.specs.Machine.{State as Timeline, abort_fault, aborted, accepted, begin_fault, begun, end_fault, ended, redo_fault, redone, undo_fault, undone}
+use Rattle.cam_undo.specs.Machine.{State as Timeline, abort_fault, aborted, accepted, begin_fault, begun}
+use Rattle.cam_undo.specs.Machine.{end_fault, ended, redo_fault, redone, undo_fault, undone}
 use Rattle.cam_script.specs.declared.command.Command.{Command}
 use Rattle.cam_script.specs.declared.command.Command.TheVariants as commands
 use Rattle.cam_script.specs.declared.command.FileKind.{FileKind}
@@ -153,7 +155,7 @@ load_read s name memory (Ok content) =
 abbrev pub load_step : State → List ℕ → FileKind → List ℕ → Memory → State × Outcome
 load_step s name kind file memory =
     if is_some s.timeline.group then (s, refused group_open)
-    else (if is_some (place_of name s.timeline.document) then (s, refused name_taken)
+    else (if is_some (place_named name s.timeline.document) then (s, refused name_taken)
     else (if nat_le layer_limit (length s.timeline.document) then (s, refused too_many_layers)
     else load_read s name memory (reader_answer memory (meaning_of kind file))))
 
@@ -200,7 +202,7 @@ plot_at s memory None = (s, refused no_layer)
 plot_at s memory (Some place) = plot_in s memory place s.window
 
 abbrev pub plot_step : State → List ℕ → Memory → State × Outcome
-plot_step s name memory = plot_at s memory (place_of name s.timeline.document)
+plot_step s name memory = plot_at s memory (place_named name s.timeline.document)
 
 -- write ---------------------------------------------------------------------------------------
 
@@ -211,7 +213,7 @@ write_at s memory (Some place) =
 
 -- the canonical text of the layer of this name
 abbrev pub write_step : State → List ℕ → Memory → State × Outcome
-write_step s name memory = write_at s memory (place_of name s.timeline.document)
+write_step s name memory = write_at s memory (place_named name s.timeline.document)
 
 -- edits ---------------------------------------------------------------------------------------
 
@@ -273,7 +275,7 @@ list_layer_at s None = (s, refused no_layer)
 list_layer_at s (Some place) = (s, list_content (content_at s.timeline.document place))
 
 abbrev pub list_layer_step : State → List ℕ → State × Outcome
-list_layer_step s name = list_layer_at s (place_of name s.timeline.document)
+list_layer_step s name = list_layer_at s (place_named name s.timeline.document)
 
 -- one command: the state after it, and its answer
 abbrev pub step : State → Command → Memory → State × Outcome

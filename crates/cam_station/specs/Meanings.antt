@@ -8,8 +8,7 @@ use Rattle.cam_xnc.specs.Reading.{reading_of as drill_reading}
 use Rattle.cam_script.specs.declared.command.FileKind.{FileKind}
 use Rattle.cam_script.specs.declared.command.FileKind.TheVariants as kinds
 use Rattle.cam_station.specs.declared.fault.Fault.{Fault}
-use Rattle.cam_edits.specs.declared.board.SheetContent.{SheetContent}
-use Rattle.cam_edits.specs.Sheets.{Content, Gerber, Drill, content_of}
+use Rattle.cam_edits.specs.Sheets.{Content, Gerber, Drill}
 
 -- a reader's fault, with its place in the file
 abbrev pub fault_at : ℕ → ℕ → Fault
@@ -26,8 +25,3 @@ drill_meaning (Err f) = Err (fault_at f.code f.at)
 abbrev pub meaning_of : FileKind → List ℕ → Result Content Fault
 meaning_of kinds.Gerber bytes = gerber_meaning (gerber_reading bytes)
 meaning_of kinds.Drill bytes = drill_meaning (drill_reading bytes)
-
--- what a reader answers, without the room that the layer's lists keep
-abbrev pub answer_of : Result SheetContent Fault → Result Content Fault
-answer_of (Ok content) = Ok (content_of content)
-answer_of (Err fault) = Err fault

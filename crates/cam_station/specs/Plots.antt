@@ -7,7 +7,7 @@ use Rattle.cam_station.specs.declared.reply.Reply.TheVariants.{Bytes}
 use Rattle.cam_tiles.specs.declared.window.Window.{Window}
 use Rattle.cam_station.specs.Documents.{content_named}
 use Rattle.cam_edits.specs.Sheets.{Content}
-use Rattle.cam_edits.specs.Images.{image_of, leaves_of}
+use Rattle.cam_edits.specs.Images.{image_of, sheet_leaves}
 use Rattle.cam_station.specs.Machine.{State, Memory, fresh}
 use Rattle.cam_tiles.specs.Picture.{IsPixelBlack, Shows, centre_of, plot_of}
 use Rattle.cam_station.specs.Undoing.{Call, answer_to, states_after}
@@ -25,7 +25,7 @@ pub record IsPlotOf (s : State) (name : List ℕ) (reply : Reply) : Type 0 where
   pub picture : bytes ≡ plot_of window (image_of content)
   pub shows : Shows bytes window (image_of content)
   pub pixels : (column row : ℕ) → column < window.width → row < window.height
-      → IsPixelBlack bytes window column row ↔ IsBlack (leaves_of content) (centre_of window column row)
+      → IsPixelBlack bytes window column row ↔ IsBlack (sheet_leaves content) (centre_of window column row)
 
 -- exact plot: after any list of commands, each accepted plot answers the picture as it then is
 abbrev pub ExactPlot : Type 0

@@ -1,6 +1,6 @@
 -- Lists of commands, and exact undo over them.
 use Rattle.std.specs.Prelude.{◌≡◌, ℕ, ◌+◌, ◌≤◌, List, [], ◌∷◌, ◌++◌, length, Option, None, Some, ◌⊎◌, IsOk, IsErr, Ok}
-use Rattle.cam_edits.specs.Boards.{place_of}
+use Rattle.cam_edits.specs.Boards.{place_named}
 use Rattle.cam_edits.specs.Sheets.{Sheet}
 use Rattle.cam_tiles.specs.declared.window.Window.{Window}
 use Rattle.cam_script.specs.declared.command.Command.{Command}
@@ -48,7 +48,7 @@ drawn_where s (Some w) None = s
 drawn_where s (Some w) (Some place) = with_drawn s place
 
 abbrev pub drawn_named : List ℕ → State → State
-drawn_named name s = drawn_where s s.window (place_of name s.timeline.document)
+drawn_named name s = drawn_where s s.window (place_named name s.timeline.document)
 
 -- a refused command changes nothing, but that a plot keeps the tiles that it drew
 abbrev pub after_refusal : State → Command → State

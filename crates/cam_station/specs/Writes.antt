@@ -5,7 +5,7 @@ use Rattle.cam_script.specs.declared.command.Command.TheVariants.{Load, Write}
 use Rattle.cam_station.specs.declared.reply.Numbers.TheVariants.{One}
 use Rattle.cam_station.specs.declared.reply.Reply.{Reply}
 use Rattle.cam_station.specs.declared.reply.Reply.TheVariants.{Bytes, Numbers}
-use Rattle.cam_edits.specs.Boards.{place_of}
+use Rattle.cam_edits.specs.Boards.{place_named}
 use Rattle.cam_edits.specs.Sheets.{Content, item_count, sheet}
 use Rattle.cam_station.specs.Documents.{content_named, picture_named}
 use Rattle.cam_station.specs.Refusals.{layer_limit}
@@ -58,6 +58,6 @@ WrittenLoadsAgain = (depth : ℕ) (before : List Call) (name : List ℕ) (conten
 abbrev pub WrittenIsAccepted : Type 0
 WrittenIsAccepted = (depth : ℕ) (before : List Call) (name : List ℕ) (content : Content) (bytes : List ℕ)
     → IsWritten (states_after (fresh depth) before) name content bytes
-    → (there : State) (other : List ℕ) → there.timeline.group ≡ None → place_of other there.timeline.document ≡ None
+    → (there : State) (other : List ℕ) → there.timeline.group ≡ None → place_named other there.timeline.document ≡ None
     → length there.timeline.document < layer_limit
     → answer_to there (load_of other content bytes Granted) ≡ Ok (Numbers (One (item_count content)))

@@ -23,9 +23,9 @@ pub fn documents_stay_sound()
     ensures { SoundLaw }
 {}
 
-/// An accepted edit, or a group from its beginning to its end with an accepted edit, then quiet commands and an undo give
-/// back the same layers and drill tools, the same texts and, in every window, the same pictures; after quiet commands
-/// again a redo gives the edited ones.
+/// An accepted edit, or a group from its beginning to its end with an accepted edit, then quiet commands and an undo
+/// give back the same layers and drill tools, the same texts and, in every window, the same pictures; after quiet
+/// commands again a redo gives the edited ones.
 pub fn undo_is_exact()
     ensures reached { ExactUndo }
     ensures everywhere { ExactUndoEverywhere }
@@ -50,9 +50,9 @@ pub fn written_texts_load_again()
     ensures accepted { WrittenIsAccepted }
 {}
 
-/// In any order of edits, groups, aborts, undos, redos and partial redraws each clean tile shows its layer as it is now;
-/// an accepted edit, abort, undo or redo makes exactly those tiles dirty that the boxes touch of the steps that it plays;
-/// and a redraw and a plot tell how many they drew.
+/// In any order of edits, groups, aborts, undos, redos and partial redraws each clean tile shows its layer as it is
+/// now; an accepted edit, abort, undo or redo makes exactly those tiles dirty that the boxes touch of the steps that it
+/// plays; and a redraw and a plot tell how many they drew.
 pub fn tiles_are_local()
     ensures kept { KeptTiles }
     ensures clean { CleanTiles }

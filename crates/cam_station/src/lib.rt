@@ -1,11 +1,10 @@
 //! The station: commands one by one, runs of scripts, and the theorem that they keep.
 //!
 //! A [`Station`] has a board of named layers, a window with the tiles of each layer in it, and the history of what was
-//! done to the board.
-//! [`Station::apply`] is one step of the machine in `specs/Machine.antt`; [`undo_is_exact`] and
-//! [`plot_is_exact`] are the two halves of the theorem, over all lists of commands, and [`write_is_exact`] says of
-//! texts what the second says of pictures, and [`tiles_are_local`] which tiles are clean. [`run`] serves a script line by line, over [`Files`] and an [`Out`], as
-//! `specs/Run.antt` says.
+//! done to the board. [`Station::apply`] is one step of the machine in `specs/Machine.antt`; [`undo_is_exact`] and
+//! [`plot_is_exact`] are the two halves of the theorem, over all lists of commands, [`write_is_exact`] says of texts
+//! what the second says of pictures, and [`tiles_are_local`] which tiles are clean. [`run`] serves a script line by
+//! line, over [`Files`] and an [`Out`], as `specs/Run.antt` says.
 #![tactic(auto)]
 
 mod fault;

@@ -3,7 +3,8 @@
 ghost use Rattle.std.specs.Prelude.{◌≡◌, IfOk};
 ghost use Rattle.cam_edits.specs.Sheets.{IsSound, content_of};
 ghost use Rattle.cam_station.specs.Machine.{memory_of, reader_answer};
-ghost use Rattle.cam_station.specs.Meanings.{answer_of, meaning_of};
+ghost use Rattle.cam_station.specs.Meanings.{meaning_of};
+ghost use Rattle.cam_station.specs.Machinery.Answers.{answer_of};
 
 use crate::fault::Fault;
 use cam_edits::SheetContent;

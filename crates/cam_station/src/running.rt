@@ -6,13 +6,8 @@ ghost use Rattle.std.specs.Str.Lines.{lines};
 ghost use Rattle.cam_station.specs.declared.files.FileFault.{FileFault};
 ghost use Rattle.cam_station.specs.Machine.{Memory, fault, fresh, is_depth, step};
 ghost use Rattle.cam_station.specs.Run.{
-  Comes,
   EndsBy,
   Finishes,
-  HasNoBytes,
-  IsBegun,
-  IsUnsaid,
-  Passes,
   World,
   file_code,
   files_seen,
@@ -22,6 +17,7 @@ ghost use Rattle.cam_station.specs.Run.{
   turn,
   write_turn,
 };
+ghost use Rattle.cam_station.specs.Machinery.Lines.{Comes, HasNoBytes, IsBegun, IsUnsaid, Passes};
 
 use crate::fault::{Fault, refusal};
 use crate::files::{FileFault, Files};

@@ -101,13 +101,13 @@ impl Station {
     /// One command. Where it is refused, nothing changes, but that a plot keeps the tiles that it drew.
     ///
     /// The refusals, in the order of their checks: a load 72 while a group is open, 83 where the name is taken, 85
-    /// where there are 32 layers, then the fault of its file, with its place: 1 to 26, 28 and 29 of a
-    /// Gerber file; of a drill file 1, 4, 6, 23 to 25 and 40 to 48. A window outside its limits 50; a redraw 84 without
-    /// a window; a plot 60 without such a layer, 84 without a window; a write 60; an edit as [`plan`] refuses it; a
-    /// begin 72 while a group is open; an end or an abort 73 without one; an undo or a redo 72, then 70 or 71 where there
-    /// is nothing to take back or to make again; a list of a layer 60. Last comes
-    /// 30, where memory was refused. Where it was refused to the reader, 30 has the place 0
-    /// and can come before a fault of the file. Redraws, begins, ends and lists take no memory.
+    /// where there are 32 layers, then the fault of its file, with its place: 1 to 26, 28 and 29 of a Gerber file; of a
+    /// drill file 1, 4, 6, 23 to 25 and 40 to 48. A window outside its limits 50; a redraw 84 without a window; a plot
+    /// 60 without such a layer, 84 without a window; a write 60; an edit as [`plan`] refuses it; a begin 72 while a
+    /// group is open; an end or an abort 73 without one; an undo or a redo 72, then 70 or 71 where there is nothing to
+    /// take back or to make again; a list of a layer 60. Last comes 30, where memory was refused. Where it was refused
+    /// to the reader, 30 has the place 0 and can come before a fault of the file. Redraws, begins, ends and lists take
+    /// no memory.
     pub fn apply(&mut self, command: Command) -> Result<Reply, Fault>
         ensures step { step self.old command (memory_of result) ≡ (self.new, result) }
         ensures refused { OnErr result (self.new ≡ after_refusal self.old command) }

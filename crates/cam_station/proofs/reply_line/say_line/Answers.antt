@@ -12,7 +12,8 @@ loop-number-init g c =
 pub loop-number-preserved : goal.loop-number-preserved
 loop-number-preserved g c =
     record {
-      said = number_said (g.O.Out.said c.args.out.now) (g.O.Out.said c.loop-number.out) (g.O.Out.said c.say_number.new.out) c.args.word.now c.args.numbers.now
+      said = number_said (g.O.Out.said c.args.out.now) (g.O.Out.said c.loop-number.out)
+          (g.O.Out.said c.say_number.new.out) c.args.word.now c.args.numbers.now
           c.loop-number.number-index c.loop-number-test.true c.loop-number.invariant.said c.if-not-say_number.ensures.said;
       counted = omega (arith, c.loop-number.invariant.counted, c.if-not-say_number.ensures.counted);
     }

@@ -8,6 +8,7 @@ use Rattle.cam_station.proofs.reply_line.say_line.Given as goal
 abbrev pub invariant-loop-number : goal.invariant-loop-number
 invariant-loop-number g l =
     record {
-      said : Appends (g.O.Out.said l.fn.out) (g.O.Out.said l.out) (l.word ++ flat_map (λ n. codes " " ++ decimal n) (take l.number-index l.numbers));
+      said : Appends (g.O.Out.said l.fn.out) (g.O.Out.said l.out)
+          (l.word ++ flat_map (λ n. codes " " ++ decimal n) (take l.number-index l.numbers));
       counted : HasRisenBy 0 (g.O.Out.failed l.fn.out) (g.O.Out.failed l.out);
     }

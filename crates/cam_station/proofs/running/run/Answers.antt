@@ -1,6 +1,7 @@
 use Rattle.std.proofs.Common.{◌∷◌, [], length, arith, ap}
 use Rattle.std.proofs.lemmas.Result.{err_from_is_err_and}
-use Rattle.cam_station.specs.Run.{World, Moment, Passes, IsUnsaid, moment, turn}
+use Rattle.cam_station.specs.Run.{World, Moment, moment, turn}
+use Rattle.cam_station.specs.Machinery.Lines.{Passes, IsUnsaid}
 use Rattle.cam_script.proofs.Cutting.{few_lines}
 use Rattle.cam_station.proofs.RunSteps.{finishes_none, finishes_more, stops_here, stops_more}
 use Rattle.cam_station.proofs.running.run.Goals as goal
@@ -16,28 +17,37 @@ loop-line-init g c =
 
 pub loop-line-preserved : goal.loop-line-preserved
 loop-line-preserved g c =
-    let before : Moment = moment (g.F.Files.contents c.loop-line.files) (g.F.Files.failed c.loop-line.files) (g.O.Out.said c.loop-line.out) (g.O.Out.failed c.loop-line.out) c.loop-line.refused in
-    let between : Moment = moment (g.F.Files.contents c.serve_line.new.files) (g.F.Files.failed c.serve_line.new.files) (g.O.Out.said c.serve_line.new.out) (g.O.Out.failed c.serve_line.new.out) c.in_ok-refused.refused in
-    let line : (w : World) × Passes (turn c.loop-line.station c.in-Some.line.now w) c.serve_line.new.station before between = c.in_ok-refused.ensures.ok in
+    let before : Moment = moment (g.F.Files.contents c.loop-line.files) (g.F.Files.failed c.loop-line.files)
+    (g.O.Out.said c.loop-line.out) (g.O.Out.failed c.loop-line.out) c.loop-line.refused in
+    let between : Moment = moment (g.F.Files.contents c.serve_line.new.files) (g.F.Files.failed c.serve_line.new.files)
+    (g.O.Out.said c.serve_line.new.out) (g.O.Out.failed c.serve_line.new.out) c.in_ok-refused.refused in
+    let line : (w : World) × Passes (turn c.loop-line.station c.in-Some.line.now w) c.serve_line.new.station before between =
+    c.in_ok-refused.ensures.ok in
     record {
       depth = c.loop-line.invariant.depth;
       finishes = λ ws after h. c.loop-line.invariant.finishes (line.0 ∷ ws) after
-          (rw c.in-Some.ensures.some (finishes_more c.loop-line.station c.in-Some.line.now c.next.new.self line.0 c.serve_line.new.station ws before between after line.1 h));
+          (rw c.in-Some.ensures.some (finishes_more c.loop-line.station c.in-Some.line.now c.next.new.self
+          line.0 c.serve_line.new.station ws before between after line.1 h));
       stops = λ ws after h. c.loop-line.invariant.stops (line.0 ∷ ws) after
-          (rw c.in-Some.ensures.some (stops_more c.loop-line.station c.in-Some.line.now c.next.new.self line.0 c.serve_line.new.station ws before between after line.1 h));
+          (rw c.in-Some.ensures.some (stops_more c.loop-line.station c.in-Some.line.now c.next.new.self
+          line.0 c.serve_line.new.station ws before between after line.1 h));
       few = omega (arith, ap length c.in-Some.ensures.some, c.loop-line.invariant.few, c.in_ok-refused.ensures.bound);
     }
 
 pub returns-clause-ok : goal.returns-clause-ok
 returns-clause-ok g c =
-    let now : Moment = moment (g.F.Files.contents c.loop-line.files) (g.F.Files.failed c.loop-line.files) (g.O.Out.said c.loop-line.out) (g.O.Out.failed c.loop-line.out) c.loop-line.refused in
-    let all = c.loop-line.invariant.finishes [] now (rw (rw c.in_default.is at c.next.ensures.none).0 (finishes_none c.loop-line.station now)) in
+    let now : Moment = moment (g.F.Files.contents c.loop-line.files) (g.F.Files.failed c.loop-line.files)
+    (g.O.Out.said c.loop-line.out) (g.O.Out.failed c.loop-line.out) c.loop-line.refused in
+    let all = c.loop-line.invariant.finishes [] now
+    (rw (rw c.in_default.is at c.next.ensures.none).0 (finishes_none c.loop-line.station now)) in
     (c.loop-line.invariant.depth, all.0, all.1)
 
 pub returns-in_err-refused-clause-err : goal.returns-in_err-refused-clause-err
 returns-in_err-refused-clause-err g c =
-    let before : Moment = moment (g.F.Files.contents c.loop-line.files) (g.F.Files.failed c.loop-line.files) (g.O.Out.said c.loop-line.out) (g.O.Out.failed c.loop-line.out) c.loop-line.refused in
-    let after : Moment = moment (g.F.Files.contents c.serve_line.new.files) (g.F.Files.failed c.serve_line.new.files) (g.O.Out.said c.serve_line.new.out) (g.O.Out.failed c.serve_line.new.out) 0 in
+    let before : Moment = moment (g.F.Files.contents c.loop-line.files) (g.F.Files.failed c.loop-line.files)
+    (g.O.Out.said c.loop-line.out) (g.O.Out.failed c.loop-line.out) c.loop-line.refused in
+    let after : Moment = moment (g.F.Files.contents c.serve_line.new.files) (g.F.Files.failed c.serve_line.new.files)
+    (g.O.Out.said c.serve_line.new.out) (g.O.Out.failed c.serve_line.new.out) 0 in
     let unsaid : (w : World) × IsUnsaid (turn c.loop-line.station c.in-Some.line.now w) before after = c.in_err-refused.ensures.stops in
     let all = c.loop-line.invariant.stops (unsaid.0 ∷ []) after
     (rw c.in-Some.ensures.some (stops_here c.loop-line.station c.in-Some.line.now c.next.new.self unsaid.0 before after unsaid.1)) in

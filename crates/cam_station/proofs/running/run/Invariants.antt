@@ -10,11 +10,13 @@ invariant-loop-line g l =
     record {
       depth : is_depth l.fn.depth ≡ true;
       finishes : (ws : List World) (after : Moment)
-          → Finishes l.station l.lines ws (moment (g.F.Files.contents l.files) (g.F.Files.failed l.files) (g.O.Out.said l.out) (g.O.Out.failed l.out) l.refused) after
+          → Finishes l.station l.lines ws (moment (g.F.Files.contents l.files) (g.F.Files.failed l.files)
+          (g.O.Out.said l.out) (g.O.Out.failed l.out) l.refused) after
           → (all : List World) × Finishes (fresh l.fn.depth) (lines l.script) all
           (moment (g.F.Files.contents l.fn.files) (g.F.Files.failed l.fn.files) (g.O.Out.said l.fn.out) (g.O.Out.failed l.fn.out) 0) after;
       stops : (ws : List World) (after : Moment)
-          → Stops l.station l.lines ws (moment (g.F.Files.contents l.files) (g.F.Files.failed l.files) (g.O.Out.said l.out) (g.O.Out.failed l.out) l.refused) after
+          → Stops l.station l.lines ws (moment (g.F.Files.contents l.files) (g.F.Files.failed l.files)
+          (g.O.Out.said l.out) (g.O.Out.failed l.out) l.refused) after
           → (all : List World) × Stops (fresh l.fn.depth) (lines l.script) all
           (moment (g.F.Files.contents l.fn.files) (g.F.Files.failed l.fn.files) (g.O.Out.said l.fn.out) (g.O.Out.failed l.fn.out) 0) after;
       few : l.refused + length l.lines ≤ length l.script;

@@ -17,23 +17,30 @@ returns-in-Ok-None g c =
 
 pub returns-in-Ok-Some-Command : goal.returns-in-Ok-Some-Command
 returns-in-Ok-Some-Command g c =
-    one.line_applies c.args.station.now c.args.line.now c.in-Ok-Some-Command.command (memory_of c.apply.result) c.apply.new.self c.apply.result
-    (files_seen (g.F.Files.contents c.args.files.now) (g.F.Files.failed c.args.files.now)) (rw (c.in-Ok-Some-Command.field-0-is, c.in-Ok-Some-Command.field-0-0-is) at c.in-Ok-Some-Command.ensures) c.apply.ensures.step
+    one.line_applies c.args.station.now c.args.line.now c.in-Ok-Some-Command.command
+    (memory_of c.apply.result) c.apply.new.self c.apply.result
+    (files_seen (g.F.Files.contents c.args.files.now) (g.F.Files.failed c.args.files.now))
+    (rw (c.in-Ok-Some-Command.field-0-is, c.in-Ok-Some-Command.field-0-0-is) at c.in-Ok-Some-Command.ensures) c.apply.ensures.step
 
 pub returns-in-Ok-Some-Load : goal.returns-in-Ok-Some-Load
 returns-in-Ok-Some-Load g c =
-    one.line_loads c.args.station.now c.args.line.now c.in-Ok-Some-Load.name c.in-Ok-Some-Load.kind c.in-Ok-Some-Load.path c.load.new.station (Some c.load.result)
+    one.line_loads c.args.station.now c.args.line.now c.in-Ok-Some-Load.name c.in-Ok-Some-Load.kind
+    c.in-Ok-Some-Load.path c.load.new.station (Some c.load.result)
     (files_seen (g.F.Files.contents c.args.files.now) (g.F.Files.failed c.args.files.now))
-    (files_seen (g.F.Files.contents c.load.new.files) (g.F.Files.failed c.load.new.files)) (rw (c.in-Ok-Some-Load.field-0-is, c.in-Ok-Some-Load.field-0-0-is) at c.in-Ok-Some-Load.ensures) c.load.ensures
+    (files_seen (g.F.Files.contents c.load.new.files) (g.F.Files.failed c.load.new.files))
+    (rw (c.in-Ok-Some-Load.field-0-is, c.in-Ok-Some-Load.field-0-0-is) at c.in-Ok-Some-Load.ensures) c.load.ensures
 
 pub returns-in-Ok-Some-Plot : goal.returns-in-Ok-Some-Plot
 returns-in-Ok-Some-Plot g c =
     one.line_plots c.args.station.now c.args.line.now c.in-Ok-Some-Plot.name c.in-Ok-Some-Plot.path c.plot.new.station (Some c.plot.result)
     (files_seen (g.F.Files.contents c.args.files.now) (g.F.Files.failed c.args.files.now))
-    (files_seen (g.F.Files.contents c.plot.new.files) (g.F.Files.failed c.plot.new.files)) (rw (c.in-Ok-Some-Plot.field-0-is, c.in-Ok-Some-Plot.field-0-0-is) at c.in-Ok-Some-Plot.ensures) c.plot.ensures
+    (files_seen (g.F.Files.contents c.plot.new.files) (g.F.Files.failed c.plot.new.files))
+    (rw (c.in-Ok-Some-Plot.field-0-is, c.in-Ok-Some-Plot.field-0-0-is) at c.in-Ok-Some-Plot.ensures) c.plot.ensures
 
 pub returns-in-Ok-Some-Write : goal.returns-in-Ok-Some-Write
 returns-in-Ok-Some-Write g c =
-    one.line_writes c.args.station.now c.args.line.now c.in-Ok-Some-Write.name c.in-Ok-Some-Write.path c.write.new.station (Some c.write.result)
+    one.line_writes c.args.station.now c.args.line.now c.in-Ok-Some-Write.name c.in-Ok-Some-Write.path c.write.new.station
+    (Some c.write.result)
     (files_seen (g.F.Files.contents c.args.files.now) (g.F.Files.failed c.args.files.now))
-    (files_seen (g.F.Files.contents c.write.new.files) (g.F.Files.failed c.write.new.files)) (rw (c.in-Ok-Some-Write.field-0-is, c.in-Ok-Some-Write.field-0-0-is) at c.in-Ok-Some-Write.ensures) c.write.ensures
+    (files_seen (g.F.Files.contents c.write.new.files) (g.F.Files.failed c.write.new.files))
+    (rw (c.in-Ok-Some-Write.field-0-is, c.in-Ok-Some-Write.field-0-0-is) at c.in-Ok-Some-Write.ensures) c.write.ensures

@@ -13,12 +13,15 @@ told_by bytes = Ok (Numbers (One (length bytes)))
 
 pub returns-in_default : goal.returns-in_default
 returns-in_default g c =
-    puts_nothing byte_count c.args.station.now (Write c.args.name) c.args.path.now (memory_of c.apply-answer.result) c.apply-answer.new.self c.apply-answer.result
-    (files_seen (g.F.Files.contents c.args.files.now) (g.F.Files.failed c.args.files.now)) c.apply-answer.ensures.step c.in_default.ensures.none
+    puts_nothing byte_count c.args.station.now (Write c.args.name) c.args.path.now
+    (memory_of c.apply-answer.result) c.apply-answer.new.self c.apply-answer.result
+    (files_seen (g.F.Files.contents c.args.files.now) (g.F.Files.failed c.args.files.now)) c.apply-answer.ensures.step
+    c.in_default.ensures.none
 
 pub returns-in-Ok : goal.returns-in-Ok
 returns-in-Ok g c =
-    puts byte_count c.args.station.now (Write c.args.name) c.args.path.now c.in-Some.bytes.now (memory_of c.apply-answer.result) c.apply-answer.new.self c.apply-answer.result (told_by c.as_slice-text.result.now)
+    puts byte_count c.args.station.now (Write c.args.name) c.args.path.now c.in-Some.bytes.now
+    (memory_of c.apply-answer.result) c.apply-answer.new.self c.apply-answer.result (told_by c.as_slice-text.result.now)
     (files_seen (g.F.Files.contents c.args.files.now) (g.F.Files.failed c.args.files.now))
     (files_seen (g.F.Files.contents c.put.new.self) (g.F.Files.failed c.put.new.self))
     (c.in-Some.ensures.some.0, c.in-Some.ensures.some.1, ap told_by c.as_slice-text.ensures) c.apply-answer.ensures.step
@@ -26,7 +29,8 @@ returns-in-Ok g c =
 
 pub returns : goal.returns
 returns g c =
-    put_fails byte_count c.args.station.now (Write c.args.name) c.args.path.now c.in-Some.bytes.now (memory_of c.apply-answer.result) c.apply-answer.new.self c.apply-answer.result
+    put_fails byte_count c.args.station.now (Write c.args.name) c.args.path.now c.in-Some.bytes.now
+    (memory_of c.apply-answer.result) c.apply-answer.new.self c.apply-answer.result
     c.in-Err.fault c.file_refusal.result
     (files_seen (g.F.Files.contents c.args.files.now) (g.F.Files.failed c.args.files.now))
     (files_seen (g.F.Files.contents c.put.new.self) (g.F.Files.failed c.put.new.self))

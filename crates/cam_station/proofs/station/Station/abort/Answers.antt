@@ -10,7 +10,8 @@ use Rattle.cam_station.proofs.station.Station.abort.Goals as goal
 pub returns-in-Ok : goal.returns-in-Ok
 returns-in-Ok c =
     let i = c.self.inside in
-    let touched = touched_over i.rasters.len (map touch_of c.in-Ok.steps.items) i.rasters.items c.touch.new.rasters (search rules) (search rules) in
+    let touched = touched_over i.rasters.len (map touch_of c.in-Ok.steps.items) i.rasters.items c.touch.new.rasters
+    (search rules) (search rules) in
     let made = abort_made i.window i.history c.abort.new.self (sheets_of i.board) (sheets_of c.abort.new.doc) i.rasters.items _
     c.in-Ok.steps.items c.in-Ok.ensures.allowed c.in-Ok.ensures.kept c.in-Ok.ensures.aborted c.in-Ok.ensures.answers touched in
     ap (λ s. abort_step s Granted) (sym c.self.view_is) ∙ made
@@ -20,7 +21,8 @@ invariant_of-self c =
     let i = c.self.inside in
     let many = ap (λ t. length t.document) c.in-Ok.ensures.aborted ∙ aborted_count i.history (sheets_of i.board) in (
       station_touched i.history.depth c.abort.new.self.depth i.window (sheets_of i.board) (sheets_of c.abort.new.doc)
-          i.rasters.len (map touch_of c.in-Ok.steps.items) i.rasters.items c.touch.new.rasters c.self.invariant.0 (ap (λ k. k.depth) c.in-Ok.ensures.kept) many (search rules) (search rules),
+          i.rasters.len (map touch_of c.in-Ok.steps.items) i.rasters.items c.touch.new.rasters c.self.invariant.0
+          (ap (λ k. k.depth) c.in-Ok.ensures.kept) many (search rules) (search rules),
       c.abort.ensures.tied,
       rw c.in-Ok.ensures.aborted (sound_abort _ c.in-Ok.ensures.allowed c.self.invariant.2),
     )

@@ -4,7 +4,8 @@ use Rattle.cam_edits.specs.BoardSteps.{after_board_step}
 use Rattle.cam_edits.specs.Sheets.{sheets_of}
 use Rattle.cam_undo.specs.Timelines.{state_of}
 use Rattle.cam_station.specs.Machine.{Granted, edit_step}
-use Rattle.cam_station.specs.Touches.{last_accepted, touches_of}
+use Rattle.cam_station.specs.Touches.{touches_of}
+use Rattle.cam_station.specs.Machinery.Touching.{last_accepted}
 use Rattle.cam_station.proofs.LayerCounts.{accepted_count}
 use Rattle.cam_station.proofs.StationMoves.{edit_made, station_touched, touched_over}
 use Rattle.cam_station.proofs.Tied.{sound_edit}

@@ -11,7 +11,8 @@ returns c =
     elim c.match-end.branch [
       | in-Ok w ↦ (
           let e = w.in-Ok.ensures in
-          let made = end_made i.window i.history c.end.new.self (sheets_of i.board) i.rasters.items (e.allowed i.board) e.kept (e.ended i.board) in
+          let made = end_made i.window i.history c.end.new.self (sheets_of i.board) i.rasters.items
+          (e.allowed i.board) e.kept (e.ended i.board) in
           rw w.result-is (ap end_step (sym c.self.view_is) ∙ made)
           )
       | in-Err w ↦ search rules
