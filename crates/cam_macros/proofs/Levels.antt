@@ -19,9 +19,8 @@ use Rattle.cam_macros.specs.Grammar.{OneFactor, Multiplied, Factor, Signed, sign
 use Rattle.cam_macros.specs.Grammar.{sum_text, term_text, factor_text, sum_count, term_count, factor_count}
 use Rattle.cam_macros.specs.Grammar.{IsNumber, IsDecimal, IsVariable, IsSum, IsTerm, IsFactor, sign_operator}
 use Rattle.cam_macros.specs.Grammar.{cross_operator, decimal_tree, sum_tree, term_tree, factor_tree}
-use Rattle.cam_macros.specs.Scanning.{is_numeric, mark_of, number_of, variable_by}
-use Rattle.cam_macros.specs.Scanning.{variable_of, with_operand, Scan, level_of, scan_of, waiting, Wanted}
-use Rattle.cam_macros.specs.Scanning.{Behind, scan}
+use Rattle.cam_macros.specs.Scanning.{Behind, is_numeric, level_of, mark_of, number_of, Scan, scan, scan_of}
+use Rattle.cam_macros.specs.Scanning.{variable_by, variable_of, waiting, Wanted, with_operand}
 use Rattle.cam_macros.specs.Bytes.{closing, dollar, large_x, minus, opening, plus, point, slash, small_x}
 
 -- leaves

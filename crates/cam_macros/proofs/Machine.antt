@@ -23,10 +23,9 @@ use Rattle.cam_macros.specs.Grammar.{Added, Term, OneFactor, Multiplied, Factor,
 use Rattle.cam_macros.specs.Grammar.{sign_byte, cross_byte, sum_text, term_text, factor_text, sum_count, term_count}
 use Rattle.cam_macros.specs.Grammar.{factor_count, AreDigits, IsNumber, IsVariable, IsSum, IsTerm, IsFactor}
 use Rattle.cam_macros.specs.Grammar.{sign_operator, cross_operator, sum_tree, term_tree, factor_tree, IsExpression}
-use Rattle.cam_macros.specs.Scanning.{is_numeric, mark_of, number_of, variable_by}
-use Rattle.cam_macros.specs.Scanning.{variable_of, operand_at, operator_at, goes_on, with_operand}
-use Rattle.cam_macros.specs.Scanning.{with_step, Scan, level_of, fresh, scan_of, waiting, Wanted, Behind}
-use Rattle.cam_macros.specs.Scanning.{InNumber, InVariable, scan, scanned}
+use Rattle.cam_macros.specs.Scanning.{Behind, fresh, goes_on, InNumber, InVariable, is_numeric, level_of, mark_of}
+use Rattle.cam_macros.specs.Scanning.{number_of, operand_at, operator_at, scan, Scan, scan_of, scanned, variable_by}
+use Rattle.cam_macros.specs.Scanning.{variable_of, waiting, Wanted, with_operand, with_step}
 use Rattle.cam_macros.specs.Bytes.{closing, dollar, opening, point}
 
 -- what follows is no part of a number or a variable

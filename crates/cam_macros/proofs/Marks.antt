@@ -12,12 +12,10 @@ use Rattle.cam_macros.specs.declared.parsing.mark.Mark.TheVariants.{Numeral, Dol
 use Rattle.cam_macros.specs.declared.parsing.mark.Mark.TheVariants.{Other}
 use Rattle.cam_macros.specs.declared.fault.MacroFault.{MacroFault}
 use Rattle.cam_macros.proofs.FaultLemmas.{tells_also}
-use Rattle.cam_macros.specs.Scanning.{is_numeric, mark_of, number_of, variable_of, operand_at}
-use Rattle.cam_macros.specs.Scanning.{operator_at, finished, goes_on, with_step, Scan, Status}
-use Rattle.cam_macros.specs.Machinery.Scanning.{prefixed}
-use Rattle.cam_macros.specs.Scanning.{Wanted, Behind, InNumber, InVariable, scan}
-use Rattle.cam_macros.specs.Machinery.Scanning.{scan_behind}
-use Rattle.cam_macros.specs.Machinery.Scanning.{scan_wanted, number_then, variable_then, status_of, IsFaultOf}
+use Rattle.cam_macros.specs.Scanning.{Behind, finished, goes_on, InNumber, InVariable, is_numeric, mark_of, number_of}
+use Rattle.cam_macros.specs.Scanning.{operand_at, operator_at, Scan, scan, Status, variable_of, Wanted, with_step}
+use Rattle.cam_macros.specs.Machinery.Scanning.{IsFaultOf, number_then, prefixed, scan_behind, scan_wanted, status_of}
+use Rattle.cam_macros.specs.Machinery.Scanning.{variable_then}
 use Rattle.cam_macros.specs.Bytes.{closing, dollar, large_x, minus, opening, plus, slash, small_x}
 
 drop_one : (n b : ℕ) (xs : List ℕ) → drop (1 + n) (b ∷ xs) ≡ drop n xs

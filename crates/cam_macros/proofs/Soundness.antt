@@ -15,12 +15,10 @@ use Rattle.cam_macros.specs.Grammar.{Sign, Plus, Minus, Cross, Small, Large, Sla
 use Rattle.cam_macros.specs.Grammar.{Numeral, Dollar, Enclosed, sign_byte, cross_byte, sum_text, term_text}
 use Rattle.cam_macros.specs.Grammar.{factor_text, factor_count, IsDecimal, IsVariable, IsSum, IsFactor}
 use Rattle.cam_macros.specs.Grammar.{sign_operator, cross_operator, sum_tree, term_tree, factor_tree, IsExpression}
-use Rattle.cam_macros.specs.Scanning.{is_numeric, mark_of, number_of, variable_of, operator_at}
-use Rattle.cam_macros.specs.Machinery.Scanning.{prefixed}
-use Rattle.cam_macros.specs.Scanning.{goes_on, with_operand, with_step, Scan, level_of, fresh, scan_of}
-use Rattle.cam_macros.specs.Scanning.{waiting, Wanted, Behind, scan, scanned, finished}
-use Rattle.cam_macros.specs.Machinery.Scanning.{scan_behind}
-use Rattle.cam_macros.specs.Machinery.Scanning.{scan_wanted}
+use Rattle.cam_macros.specs.Scanning.{Behind, finished, fresh, goes_on, is_numeric, level_of, mark_of, number_of}
+use Rattle.cam_macros.specs.Scanning.{operator_at, Scan, scan, scan_of, scanned, variable_of, waiting, Wanted}
+use Rattle.cam_macros.specs.Scanning.{with_operand, with_step}
+use Rattle.cam_macros.specs.Machinery.Scanning.{prefixed, scan_behind, scan_wanted}
 use Rattle.cam_macros.proofs.Marks.{numeric_from_mark, numeral_is, dollar_is, prefix_then, operator_then}
 use Rattle.cam_macros.proofs.Marks.{none_wanted, finished_is}
 use Rattle.cam_macros.proofs.Levels.{leaf_of, variable_found, IsMarked, marked, SumPart, NoSum, SumBefore, NoTerm}
