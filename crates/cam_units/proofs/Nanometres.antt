@@ -1,12 +1,16 @@
--- Lengths in parts of a unit, to the nearest nanometre: they stay short.
-use Rattle.std.proofs.Common.{◌≡◌, ◌*◌, ◌^◌, ◌<◌, ◌≤◌, ℤ, pos, negsuc, ◌*ℤ◌, FitsSigned, to_z, of_z, w64, ℕ, refl, arith}
+-- Lengths as 128 and 64 bits compute them, to the nearest nanometre: they stay short.
+use Rattle.std.proofs.Common.{◌≡◌, ℕ, suc, ◌^◌, ◌<◌, ◌≤◌, ℤ, pos, negsuc, ◌-ℤ◌, ◌*ℤ◌, ◌≤ℤ◌, ◌<ℤ◌, true, false}
+use Rattle.std.proofs.Common.{FitsSigned, to_z, of_z, w64, refl, ap, ◌∙◌, arith}
 use Rattle.std.specs.Int.{w128}
 use Rattle.std.proofs.lemmas.Int.{ints, fits_signed_from_abs, unsigned_abs-mul}
 use Rattle.std.proofs.lemmas.Nat.{mul-le}
 use Rattle.std.specs.Int.RustNames.{unsigned_abs}
 use Rattle.cam_units.specs.declared.length.Unit.{Unit as FileUnit}
 use Rattle.cam_units.specs.declared.length.Unit.TheVariants.{Mm, Inch}
-use Rattle.cam_units.specs.Nearest.{fix9_of, nearest_of}
+use Rattle.cam_units.specs.Nearest.{fix9_of, nearest_of, rounded}
+use Rattle.cam_units.proofs.NearestLaws.{rounded_below}
+use lib.IntN.{neg_ℤ}
+use lib.Signed.{lt_z}
 
 abbrev pub wide : ℤ → ℤ
 wide z = to_z w128 (of_z w128 z)
@@ -84,3 +88,46 @@ kept_product n r t k m h e f q same =
     let short : unsigned_abs (n *ℤ pos k) ≤ 2 ^ 88 = product_short n k (at_most n h) q in
     let kept : wide (n *ℤ pos k) ≡ n *ℤ pos k = kept_wide (n *ℤ pos k) short in
     rw (factors n r t k h e f q, kept, ← same) (refl, omega (arith, short))
+
+-- a rounded quotient with its sign, as 128 bits compute it
+kept_size : (m : ℕ) → m ≤ 2 ^ 126 → to_z w128 m ≡ pos m
+kept_size m h = omega (arith, ints)
+
+kept_negative : (m : ℕ) → m ≤ 2 ^ 126 → wide (pos 0 -ℤ pos m) ≡ neg_ℤ (pos m)
+kept_negative m h = omega (arith, ints)
+
+pub own_size : (a : ℤ) (n : ℕ) → n ≡ unsigned_abs (wide a) → unsigned_abs a ≤ 2 ^ 126 → n ≡ unsigned_abs a
+own_size a n e short = let same : wide a ≡ a = omega (arith, ints) in e ∙ ap unsigned_abs same
+
+pub below_nought : (a : ℤ) → unsigned_abs a ≤ 2 ^ 126 → lt_z (wide a) (pos 0) ≡ true → a <ℤ pos 0
+below_nought a short e =
+    let same : wide a ≡ a = omega (arith, ints) in
+    let told : lt_z a (pos 0) ≡ true = rw same at e in
+    grind (arith, ints)
+
+pub from_nought : (a : ℤ) → unsigned_abs a ≤ 2 ^ 126 → lt_z (wide a) (pos 0) ≡ false → pos 0 ≤ℤ a
+from_nought a short e =
+    let same : wide a ≡ a = omega (arith, ints) in
+    let told : lt_z a (pos 0) ≡ false = rw same at e in
+    grind (arith, ints)
+
+size_negative : (m : ℕ) → unsigned_abs (neg_ℤ (pos m)) ≡ m
+size_negative m = omega (arith, ints)
+
+pub nearest_size : (a : ℤ) (b : ℕ) → 0 < b → unsigned_abs (nearest_of a b) ≤ unsigned_abs a
+nearest_size (pos n) b h = omega (arith, rounded_below n b h)
+nearest_size (negsuc n) b h = rw (size_negative (rounded (suc n) b)) (omega (arith, rounded_below (suc n) b h))
+
+pub negative_nearest : (a : ℤ) (b n q : ℕ) → n ≡ unsigned_abs a → q ≡ b → 0 < b → unsigned_abs a ≤ 2 ^ 126
+    → a <ℤ pos 0 → wide (pos 0 -ℤ to_z w128 (rounded n q)) ≡ nearest_of a b
+negative_nearest (pos m) b n q e f some short low = absurd (omega (arith, ints, low))
+negative_nearest (negsuc m) b n q e f some short low =
+    let fits : rounded (suc m) b ≤ 2 ^ 126 = omega (arith, rounded_below (suc m) b some, short) in
+    rw (e, f, kept_size (rounded (suc m) b) fits) (kept_negative (rounded (suc m) b) fits)
+
+pub positive_nearest : (a : ℤ) (b n q : ℕ) → n ≡ unsigned_abs a → q ≡ b → 0 < b → unsigned_abs a ≤ 2 ^ 126
+    → pos 0 ≤ℤ a → to_z w128 (rounded n q) ≡ nearest_of a b
+positive_nearest (pos m) b n q e f some short low =
+    let fits : rounded m b ≤ 2 ^ 126 = omega (arith, rounded_below m b some, short) in
+    rw (e, f) (kept_size (rounded m b) fits)
+positive_nearest (negsuc m) b n q e f some short low = absurd (omega (arith, ints, low))
