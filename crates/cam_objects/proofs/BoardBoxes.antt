@@ -134,7 +134,8 @@ ordered_leaves leaves = ordered_from points_box ordered_leaf Empty leaves tt
 pub board_leaves : (leaves : List Leaf) → IsBoxOnBoard (points_bounds_of leaves) ↔ AreOnBoard leaves
 board_leaves leaves =
     through (board_of_all points_box ordered_leaf leaves)
-    (All_same (λ l. IsBoxOnBoard (points_box l)) (λ l. All IsOnBoard (points_of_shape l.shape)) (λ l. board_points (points_of_shape l.shape)) leaves)
+    (All_same (λ l. IsBoxOnBoard (points_box l)) (λ l. All IsOnBoard (points_of_shape l.shape))
+    (λ l. board_points (points_of_shape l.shape)) leaves)
 
 -- a box on the board is near
 near_board : (a : ℤ) → unsigned_abs a < 2000000000 → unsigned_abs a < 2 ^ 33

@@ -59,7 +59,8 @@ joined x y a b = cond x b (cond y a (span_of a b))
 pub join_assoc : (a b c : Bounds) → join_of (join_of a b) c ≡ join_of a (join_of b c)
 join_assoc a b c = by_a (has_no_place a) refl
   where
-    by_c : (z : Bool) → has_no_place c ≡ z → has_no_place a ≡ false → has_no_place b ≡ false → join_of (join_of a b) c ≡ join_of a (join_of b c)
+    by_c : (z : Bool) → has_no_place c ≡ z → has_no_place a ≡ false → has_no_place b ≡ false
+        → join_of (join_of a b) c ≡ join_of a (join_of b c)
     by_c true e f g =
         let ab : join_of a b ≡ span_of a b = λ i. joined (f i) (g i) a b in
         let abc : join_of (span_of a b) c ≡ span_of a b = λ i. joined (some_span a b f i) (e i) (span_of a b) c in

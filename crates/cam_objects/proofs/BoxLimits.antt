@@ -1,5 +1,31 @@
 -- boxes whose corners stand in order, at most n from the origin
-use Rattle.std.proofs.Common.{◌≡◌, ℕ, ◌+◌, ◌*◌, ◌^◌, ◌<◌, ◌≤◌, true, false, ◌||◌, ℤ, pos, neg_ℤ, ◌+ℤ◌, ◌-ℤ◌, ◌*ℤ◌, ◌≤ℤ◌, List, [], ◌∷◌, refl, sym, subst, ◌∙◌, arith}
+use Rattle.std.proofs.Common.{
+  ◌≡◌,
+  ℕ,
+  ◌+◌,
+  ◌*◌,
+  ◌^◌,
+  ◌<◌,
+  ◌≤◌,
+  true,
+  false,
+  ◌||◌,
+  ℤ,
+  pos,
+  neg_ℤ,
+  ◌+ℤ◌,
+  ◌-ℤ◌,
+  ◌*ℤ◌,
+  ◌≤ℤ◌,
+  List,
+  [],
+  ◌∷◌,
+  refl,
+  sym,
+  subst,
+  ◌∙◌,
+  arith,
+}
 use Rattle.std.specs.Prelude.{fold, ⊤}
 use Rattle.std.specs.List.{All}
 use Rattle.std.specs.Int.{int_min, int_max}
@@ -83,7 +109,8 @@ within_less m n Empty few h = tt
 within_less m n (Closed low high) few h = (span_less m n low.x high.x few h.0, span_less m n low.y high.y few h.1)
 
 span_minus : (n : ℕ) (low high : ℤ) → IsSpan n low high → IsSpan n (neg_ℤ high) (neg_ℤ low)
-span_minus n low high h = record { order = omega (arith, ints, h.order); least = omega (arith, ints, h.most); most = omega (arith, ints, h.least) }
+span_minus n low high h =
+    record { order = omega (arith, ints, h.order); least = omega (arith, ints, h.most); most = omega (arith, ints, h.least) }
 
 pub within_turned : (n : ℕ) (t : Turn) (b : Bounds) → IsBoxWithin n b → IsBoxWithin n (turned_box t b)
 within_turned n t Empty h = tt
@@ -96,7 +123,8 @@ within_turned n M90 (Closed low high) h = (span_minus n low.y high.y h.1, span_m
 within_turned n M180 (Closed low high) h = (h.0, span_minus n low.y high.y h.1)
 within_turned n M270 (Closed low high) h = (h.1, h.0)
 
-span_moved : (m n : ℕ) (low high by : ℤ) → unsigned_abs by ≤ m → IsSpan n low high → IsSpan (n + 2 * m) (low +ℤ pos 2 *ℤ by) (high +ℤ pos 2 *ℤ by)
+span_moved : (m n : ℕ) (low high by : ℤ) → unsigned_abs by ≤ m → IsSpan n low high
+    → IsSpan (n + 2 * m) (low +ℤ pos 2 *ℤ by) (high +ℤ pos 2 *ℤ by)
 span_moved m n low high by far h = record {
   order = omega (arith, ints, h.order);
   least = omega (arith, ints, h.least, far);
@@ -121,7 +149,8 @@ within_widened m n by (Closed low high) some few h =
     (span_widened m n low.x high.x by some few h.0, span_widened m n low.y high.y by some few h.1)
 
 -- boxes about a point that is at most k nm from the origin along each axis
-span_about : (k m : ℕ) (p by : ℤ) → unsigned_abs p ≤ k → pos 0 ≤ℤ by → by ≤ℤ pos m → IsSpan (2 * k + m) (pos 2 *ℤ p -ℤ by) (pos 2 *ℤ p +ℤ by)
+span_about : (k m : ℕ) (p by : ℤ) → unsigned_abs p ≤ k → pos 0 ≤ℤ by → by ≤ℤ pos m
+    → IsSpan (2 * k + m) (pos 2 *ℤ p -ℤ by) (pos 2 *ℤ p +ℤ by)
 span_about k m p by far some few = record {
   order = omega (arith, ints);
   least = omega (arith, ints);

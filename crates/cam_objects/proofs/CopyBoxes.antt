@@ -1,5 +1,34 @@
 -- the boxes of blocks and of copies
-use Rattle.std.proofs.Common.{◌≡◌, ℕ, zero, suc, ◌+◌, Bool, true, false, ℤ, pos, negsuc, ◌+ℤ◌, ◌*ℤ◌, ◌≤ℤ◌, ◌⊎◌, inl, inr, List, [], ◌∷◌, ◌++◌, map, refl, ap, sym, subst, ◌∙◌, arith}
+use Rattle.std.proofs.Common.{
+  ◌≡◌,
+  ℕ,
+  zero,
+  suc,
+  ◌+◌,
+  Bool,
+  true,
+  false,
+  ℤ,
+  pos,
+  negsuc,
+  ◌+ℤ◌,
+  ◌*ℤ◌,
+  ◌≤ℤ◌,
+  ◌⊎◌,
+  inl,
+  inr,
+  List,
+  [],
+  ◌∷◌,
+  ◌++◌,
+  map,
+  refl,
+  ap,
+  sym,
+  subst,
+  ◌∙◌,
+  arith,
+}
 use Rattle.std.specs.Prelude.{fold}
 use Rattle.std.specs.List.{All, flat_map, range_with_len}
 use Rattle.std.specs.Int.{int_min, int_max}
@@ -45,7 +74,8 @@ module _ {X Y : Type 0} (g : Y → Bounds) (f : X → List Y) where
       let rest = All_right P (f x) (flat_map f xs) h in
       all_append g (f x) (flat_map f xs) here rest
       ∙ ap (join_of (box_of_all g (f x))) (all_flat xs rest)
-      ∙ sym (all_from (λ x. box_of_all g (f x)) (box_of_all g (f x)) xs (uncrossed_from g Empty (f x) uncrossed_empty here) (all_pieces xs rest))
+      ∙ sym (all_from (λ x. box_of_all g (f x)) (box_of_all g (f x)) xs (uncrossed_from g Empty (f x) uncrossed_empty here)
+      (all_pieces xs rest))
 
 -- ---- steps
 
@@ -80,7 +110,8 @@ join_self (Closed low high) = by (has_no_place (Closed low high)) refl
     by true e = λ i. joined (e i) (e i) (Closed low high) (Closed low high)
     by false e =
         (λ i. joined (e i) (e i) (Closed low high) (Closed low high))
-        ∙ same_box _ _ _ _ low.x low.y high.x high.y (omega (arith, ints, clamps)) (omega (arith, ints, clamps)) (omega (arith, ints, clamps)) (omega (arith, ints, clamps))
+        ∙ same_box _ _ _ _ low.x low.y high.x high.y (omega (arith, ints, clamps)) (omega (arith, ints, clamps))
+        (omega (arith, ints, clamps)) (omega (arith, ints, clamps))
 
 -- a copy that lies between two others adds nothing to their box
 step_within : (k : ℕ) (v : Point) (b : Bounds)
@@ -91,7 +122,8 @@ step_within k v (Closed low high) = by (has_no_place (Closed low high)) refl
     b : Bounds
     b = Closed low high
 
-    by : (w : Bool) → has_no_place b ≡ w → join_of (join_of b (moved (steps k v) b)) (moved (steps (suc k) v) b) ≡ join_of b (moved (steps (suc k) v) b)
+    by : (w : Bool) → has_no_place b ≡ w → join_of (join_of b (moved (steps k v) b)) (moved (steps (suc k) v) b)
+        ≡ join_of b (moved (steps (suc k) v) b)
     by true e =
         let here = moved (steps k v) b in
         let next = moved (steps (suc k) v) b in
@@ -130,7 +162,8 @@ no_steps v = λ i. record { x = none v.x i; y = none v.y i }
     none z = omega (arith, ints)
 
 -- the box of a row of copies is that of the first joined with the last
-row_box : (v : Point) (b : Bounds) (n : ℕ) → box_of_all (λ k. moved (steps k v) b) (range_with_len 0 (suc n)) ≡ join_of b (moved (steps n v) b)
+row_box : (v : Point) (b : Bounds) (n : ℕ) → box_of_all (λ k. moved (steps k v) b) (range_with_len 0 (suc n))
+    ≡ join_of b (moved (steps n v) b)
 row_box v b zero =
     let same = ap (λ o. moved o b) (no_steps v) ∙ moved_nowhere b in
     same ∙ sym (join_self b) ∙ ap (join_of b) (sym same)
@@ -178,7 +211,8 @@ grid_box x y (Closed low high) = by (has_no_place (Closed low high)) refl
         = empty_moved (record { x = x; y = pos 0 }) (span_of b above) ∙ s in
         ap (λ u. join_of u (moved (record { x = x; y = pos 0 }) u)) up
         ∙ (λ i. joined (s i) (s' i) (span_of b above) (moved (record { x = x; y = pos 0 }) (span_of b above)))
-        ∙ same_box _ _ _ _ _ _ _ _ (omega (arith, ints, clamps)) (omega (arith, ints, clamps)) (omega (arith, ints, clamps)) (omega (arith, ints, clamps))
+        ∙ same_box _ _ _ _ _ _ _ _ (omega (arith, ints, clamps)) (omega (arith, ints, clamps)) (omega (arith, ints, clamps))
+        (omega (arith, ints, clamps))
         ∙ sym (λ i. joined (e i) (f i) b far)
 
 -- ---- repeats
@@ -220,14 +254,16 @@ module _ (m : Shape → Bounds) (law : IsPlacedSo m) (es : List (ℕ × Entry)) 
         unmapped IsUncrossed (λ l. m l.shape) (block_leaves (meaning es) p objects)
         (subst (All IsUncrossed) (sym (block_placed m law (meaning es) (meaning_placed m law es) objects p))
         (All-map IsUncrossed (placed_bounds p) (boxes_of m (block_leaves (meaning es) origin objects))
-        (All-weaker IsUncrossed (λ c. IsUncrossed (placed_bounds p c)) (uncrossed_placed p) (boxes_of m (block_leaves (meaning es) origin objects))
+        (All-weaker IsUncrossed (λ c. IsUncrossed (placed_bounds p c)) (uncrossed_placed p)
+        (boxes_of m (block_leaves (meaning es) origin objects))
         (All-map IsUncrossed (λ l. m l.shape) (block_leaves (meaning es) origin objects) clear))))
 
     abbrev upward : ℤ → ℕ → Bounds
     upward j r = moved (steps r (record { x = pos 0; y = j })) b
 
     up_steps : (dx : ℤ) (r : ℕ) (j : ℤ)
-        → moved (record { x = dx; y = pos r *ℤ j }) b ≡ moved (record { x = dx; y = pos 0 }) (moved (steps r (record { x = pos 0; y = j })) b)
+        → moved (record { x = dx; y = pos r *ℤ j }) b ≡ moved (record { x = dx; y = pos 0 })
+        (moved (steps r (record { x = pos 0; y = j })) b)
     up_steps dx r j =
         sym (moved_twice (record { x = dx; y = pos 0 }) (steps r (record { x = pos 0; y = j })) b
         ∙ (λ i. moved (record { x = across dx r i; y = upright (pos r *ℤ j) i }) b))
@@ -242,7 +278,8 @@ module _ (m : Shape → Bounds) (law : IsPlacedSo m) (es : List (ℕ × Entry)) 
         → fold (λ all k. join_of all (moved o (f k))) (moved o z) ks ≡ moved o (fold (λ all k. join_of all (f k)) z ks)
     joins_moved o f z [] = refl
     joins_moved o f z (k ∷ ks) =
-        ap (λ first. fold (λ all k. join_of all (moved o (f k))) first ks) (sym (join_moved o z (f k))) ∙ joins_moved o f (join_of z (f k)) ks
+        ap (λ first. fold (λ all k. join_of all (moved o (f k))) first ks) (sym (join_moved o z (f k)))
+        ∙ joins_moved o f (join_of z (f k)) ks
 
     pub column_box : (dx : ℤ) (rows : ℕ) (j : ℤ)
         → box_of_leaves m (column_leaves (meaning es) dx (suc rows) j objects)
@@ -273,5 +310,6 @@ module _ (m : Shape → Bounds) (law : IsPlacedSo m) (es : List (ℕ × Entry)) 
         ∙ (λ k. join_of up (moved (record { x = pos columns *ℤ i; y = times_none columns k }) up))
         ∙ grid_box (pos columns *ℤ i) (pos rows *ℤ j) b
       where
-        across : (c : ℕ) (i : ℤ) (up : Bounds) → moved (record { x = pos c *ℤ i; y = pos 0 }) up ≡ moved (steps c (record { x = i; y = pos 0 })) up
+        across : (c : ℕ) (i : ℤ) (up : Bounds) → moved (record { x = pos c *ℤ i; y = pos 0 }) up
+            ≡ moved (steps c (record { x = i; y = pos 0 })) up
         across c i up = λ k. moved (record { x = pos c *ℤ i; y = sym (times_none c) k }) up

@@ -1,5 +1,29 @@
 -- a place that a leaf covers lies in its box
-use Rattle.std.proofs.Common.{◌≡◌, ℕ, ◌+◌, ◌*◌, ◌≤◌, IsTrue, ℤ, pos, ◌+ℤ◌, ◌≤ℤ◌, ◌<ℤ◌, ◌⊎◌, inl, inr, List, ◌∷◌, get_or, map, sym, ap, subst, ◌∙◌, arith}
+use Rattle.std.proofs.Common.{
+  ◌≡◌,
+  ℕ,
+  ◌+◌,
+  ◌*◌,
+  ◌≤◌,
+  IsTrue,
+  ℤ,
+  pos,
+  ◌+ℤ◌,
+  ◌≤ℤ◌,
+  ◌<ℤ◌,
+  ◌⊎◌,
+  inl,
+  inr,
+  List,
+  ◌∷◌,
+  get_or,
+  map,
+  sym,
+  ap,
+  subst,
+  ◌∙◌,
+  arith,
+}
 use Rattle.std.specs.Prelude.{Any}
 use Rattle.std.specs.List.{All}
 use Rattle.std.specs.Int.RustNames.{unsigned_abs}
@@ -73,8 +97,10 @@ in_stroke c s h =
     subst (λ b. Holds b s) (sym (ends_widened c.from c.to w h.wide))
     (by around.first around.second h.near)
   where
-    by : ((s : Spot) → Holds (box_about (place_of c.from) c.width.0 c.width.0) s → Holds (join_of (box_about (place_of c.from) c.width.0 c.width.0) (box_about (place_of c.to) c.width.0 c.width.0)) s)
-        → ((s : Spot) → Holds (box_about (place_of c.to) c.width.0 c.width.0) s → Holds (join_of (box_about (place_of c.from) c.width.0 c.width.0) (box_about (place_of c.to) c.width.0 c.width.0)) s)
+    by : ((s : Spot) → Holds (box_about (place_of c.from) c.width.0 c.width.0) s
+        → Holds (join_of (box_about (place_of c.from) c.width.0 c.width.0) (box_about (place_of c.to) c.width.0 c.width.0)) s)
+        → ((s : Spot) → Holds (box_about (place_of c.to) c.width.0 c.width.0) s
+        → Holds (join_of (box_about (place_of c.from) c.width.0 c.width.0) (box_about (place_of c.to) c.width.0 c.width.0)) s)
         → IsNearSegment s c
         → Holds (join_of (box_about (place_of c.from) c.width.0 c.width.0) (box_about (place_of c.to) c.width.0 c.width.0)) s
     by first second (inl near) = first s (disc_box c.from s c.width (record { some = h.wide; near = near }))
@@ -89,7 +115,8 @@ beyond_root z = omega (arith, ints, (root_square (unsigned_abs z)).1)
 up_to_root : (z : ℤ) → z ≤ℤ pos ((root (unsigned_abs z) + 1) * (root (unsigned_abs z) + 1))
 up_to_root z = omega (arith, ints, (root_square (unsigned_abs z)).1)
 
-wider : (p : Point) (s : Spot) (m w : ℤ) → Holds (box_about (place_of p) (m +ℤ w) (m +ℤ w)) s → Holds (widened w (box_about (place_of p) m m)) s
+wider : (p : Point) (s : Spot) (m w : ℤ) → Holds (box_about (place_of p) (m +ℤ w) (m +ℤ w)) s
+    → Holds (widened w (box_about (place_of p) m m)) s
 wider p s m w h = record {
   left = omega (arith, ints, h.left);
   right = omega (arith, ints, h.right);
@@ -98,7 +125,8 @@ wider p s m w h = record {
 }
 
 sweep_widened : (a : Arc) → pos 0 <ℤ a.width.0
-    → box_of_shape (Sweep a) ≡ join_of (widened a.width.0 (circle_square a.centre a.from)) (join_of (box_about (place_of a.from) a.width.0 a.width.0) (box_about (place_of a.to) a.width.0 a.width.0))
+    → box_of_shape (Sweep a) ≡ join_of (widened a.width.0 (circle_square a.centre a.from))
+    (join_of (box_about (place_of a.from) a.width.0 a.width.0) (box_about (place_of a.to) a.width.0 a.width.0))
 sweep_widened a some =
     let w = a.width.0 in
     let m = root (unsigned_abs (dot (way a.centre a.from) (way a.centre a.from))) + 1 in
@@ -107,7 +135,8 @@ sweep_widened a some =
     let ends = join_of (box_of_point a.from) (box_of_point a.to) in
     widened_join n (unsigned_abs w) w circle ends (at_least w some) (at_most w some)
     (within_less (2 * far a.centre + m) n circle (omega arith)
-    (within_about (far a.centre) m a.centre (pos m) (pos m) (omega arith) (omega arith) (omega (arith, ints)) (omega (arith, ints)) (omega (arith, ints)) (omega (arith, ints))))
+    (within_about (far a.centre) m a.centre (pos m) (pos m) (omega arith) (omega arith) (omega (arith, ints)) (omega (arith, ints))
+    (omega (arith, ints)) (omega (arith, ints))))
     (within_join n (box_of_point a.from) (box_of_point a.to) (point_within n a.from (omega arith)) (point_within n a.to (omega arith)))
     ∙ ap (join_of (widened w circle)) (ends_widened a.from a.to w some)
 
@@ -122,7 +151,8 @@ in_sweep a s h =
     let ends = join_least from to in
     let place : Holds (join_of circle (join_of from to)) s =
     elim (arc_square s a m (beyond_root (dot (way a.centre a.from) (way a.centre a.from))) h) [
-      | inl between ↦ all.first s (wider a.centre s (pos m) w (within_box a.centre s (pos m +ℤ w) (pos m +ℤ w) between.across between.along))
+      | inl between ↦ all.first s (wider a.centre s (pos m) w
+          (within_box a.centre s (pos m +ℤ w) (pos m +ℤ w) between.across between.along))
       | inr (inl near) ↦ all.second s (ends.first s (disc_box a.from s a.width (record { some = h.wide; near = near })))
       | inr (inr near) ↦ all.second s (ends.second s (disc_box a.to s a.width (record { some = h.wide; near = near })))
     ] in
@@ -137,7 +167,8 @@ in_cap c s h =
     let k = cap_square s c m (up_to_root z) h in
     within_box c.centre s (pos m) (pos m) k.across k.along
 
-in_points : (b : Bounds) (c : Contour) (s : Spot) → Holds b (place_of c.start) → All (λ seg. Holds b (place_of (end_of seg))) c.segs → IsInContour s c
+in_points : (b : Bounds) (c : Contour) (s : Spot) → Holds b (place_of c.start) → All (λ seg. Holds b (place_of (end_of seg))) c.segs
+    → IsInContour s c
     → Holds b s ⊎ Any (λ cap. IsTrue (is_in_cap s cap)) (caps_of c)
 in_points Empty c s start ends inside = absurd start
 in_points (Closed low high) c s start ends inside = contour_box s c low high (record { start = start; ends = ends }) inside
@@ -154,11 +185,16 @@ in_contour c s h =
     let caps = box_of_all box_of_cap (caps_of c) in
     let all = join_least points caps in
     let held : All (λ p. Holds points (place_of p)) (c.start ∷ map end_of c.segs)
-    = λ k d below. join_found box_of_point Empty (c.start ∷ map end_of c.segs) k d (place_of (get_or (c.start ∷ map end_of c.segs) k d)) below (point_place (get_or (c.start ∷ map end_of c.segs) k d)) in
-    elim (in_points points c s (held 0 c.start (omega arith)) (unmapped (λ p. Holds points (place_of p)) end_of c.segs (All-tail (λ p. Holds points (place_of p)) c.start (map end_of c.segs) held)) h) [
+    =
+    λ k d below. join_found box_of_point Empty (c.start ∷ map end_of c.segs) k d
+    (place_of (get_or (c.start ∷ map end_of c.segs) k d)) below (point_place (get_or (c.start ∷ map end_of c.segs) k d)) in
+    elim (in_points points c s (held 0 c.start (omega arith))
+    (unmapped (λ p. Holds points (place_of p)) end_of c.segs
+    (All-tail (λ p. Holds points (place_of p)) c.start (map end_of c.segs) held)) h) [
       | inl inside ↦ all.first s inside
       | inr any ↦ all.second s
-          (join_found box_of_cap Empty (caps_of c) any.0 any.1 s any.2 (subst (λ y. Holds (box_of_cap y) s) (sym any.3) (in_cap any.1 s any.4)))
+          (join_found box_of_cap Empty (caps_of c) any.0 any.1 s any.2
+          (subst (λ y. Holds (box_of_cap y) s) (sym any.3) (in_cap any.1 s any.4)))
     ]
 
 -- ---- leaves

@@ -1,5 +1,30 @@
 -- the tests that compute what an item has to meet mean what the relations say
-use Rattle.std.proofs.Common.{◌≡◌, ℕ, ◌*◌, ℤ, Bool, true, false, ◌⊎◌, inl, inr, List, [], ◌∷◌, length, None, Some, Result, Ok, Err, refl, sym, ap, ◌∙◌, arith}
+use Rattle.std.proofs.Common.{
+  ◌≡◌,
+  ℕ,
+  ◌*◌,
+  ℤ,
+  Bool,
+  true,
+  false,
+  ◌⊎◌,
+  inl,
+  inr,
+  List,
+  [],
+  ◌∷◌,
+  length,
+  None,
+  Some,
+  Result,
+  Ok,
+  Err,
+  refl,
+  sym,
+  ap,
+  ◌∙◌,
+  arith,
+}
 use Rattle.std.specs.Bool.{Decides}
 use Rattle.std.specs.Prelude.{◌<◌, ◌≤◌, ◌≢◌, nat_le, sum_by}
 use Rattle.std.proofs.lemmas.Bool.{le-leb, leb-true, true_from_ne_false, false_from_ne_true, false≢true}
@@ -14,14 +39,51 @@ use Rattle.cam_objects.specs.declared.entry.Entry.{Entry}
 use Rattle.cam_objects.specs.declared.item.Item.{Item}
 use Rattle.cam_objects.specs.declared.item.Item.TheVariants.{One, Repeat}
 use Rattle.cam_objects.specs.declared.item_fault.ItemFault.{ItemFault}
-use Rattle.cam_objects.specs.declared.item_fault.ItemFault.TheVariants.{Malformed, UnknownAperture, UnknownTool, WrongAperture, ZeroRadius, OutOfBoard, TooMuch}
+use Rattle.cam_objects.specs.declared.item_fault.ItemFault.TheVariants.{
+  Malformed,
+  UnknownAperture,
+  UnknownTool,
+  WrongAperture,
+  ZeroRadius,
+  OutOfBoard,
+  TooMuch,
+}
 use Rattle.cam_objects.specs.declared.object.Object.{Object}
 use Rattle.cam_objects.specs.declared.object.Object.TheVariants.{Flash, Draw, Arc, Region}
-use Rattle.cam_objects.specs.Demands.{DemandLaw, FirstLaw, answer_of, first_unmet, has_radius, have_radii, is_apart, is_drawable, is_formed, is_known, is_repeated, is_within_limits, keeps_drill_limits, keeps_limits, meets_drill_item, meets_item}
+use Rattle.cam_objects.specs.Demands.{
+  DemandLaw,
+  FirstLaw,
+  answer_of,
+  first_unmet,
+  has_radius,
+  have_radii,
+  is_apart,
+  is_drawable,
+  is_formed,
+  is_known,
+  is_repeated,
+  is_within_limits,
+  keeps_drill_limits,
+  keeps_limits,
+  meets_drill_item,
+  meets_item,
+}
 use Rattle.cam_objects.specs.DrillSoundness.{KeepsDrillLimits, MeetsDrillItem, drill_count_of, drill_points_of}
 use Rattle.cam_objects.specs.Leaves.{Meaning, meaning_in}
 use Rattle.cam_objects.specs.Refusals.{Tells, rank}
-use Rattle.cam_objects.specs.Soundness.{HasRadius, HaveRadii, IsDrawable, IsFormed, IsKnown, IsRepeated, IsWithinLimits, KeepsLimits, MeetsItem, objects_of, segs_of}
+use Rattle.cam_objects.specs.Soundness.{
+  HasRadius,
+  HaveRadii,
+  IsDrawable,
+  IsFormed,
+  IsKnown,
+  IsRepeated,
+  IsWithinLimits,
+  KeepsLimits,
+  MeetsItem,
+  objects_of,
+  segs_of,
+}
 use Rattle.cam_objects.specs.Weights.{item_count, weight_in}
 use Rattle.cam_objects.proofs.TestLaws.{all, both, drill_inside_law, inside_law, like}
 

@@ -1,5 +1,37 @@
 -- what a number stands for, step by step
-use Rattle.std.proofs.Common.{◌≡◌, ℕ, zero, suc, ◌+◌, ◌<◌, ◌≤◌, Bool, true, false, cond, List, [], ◌∷◌, ◌++◌, length, take, reverse, get_or, slice_get, Option, None, Some, refl, sym, ap, ◌∙◌, arith, nat_eq, inl, inr}
+use Rattle.std.proofs.Common.{
+  ◌≡◌,
+  ℕ,
+  zero,
+  suc,
+  ◌+◌,
+  ◌<◌,
+  ◌≤◌,
+  Bool,
+  true,
+  false,
+  cond,
+  List,
+  [],
+  ◌∷◌,
+  ◌++◌,
+  length,
+  take,
+  reverse,
+  get_or,
+  slice_get,
+  Option,
+  None,
+  Some,
+  refl,
+  sym,
+  ap,
+  ◌∙◌,
+  arith,
+  nat_eq,
+  inl,
+  inr,
+}
 use Rattle.std.specs.List.{IsDistinct}
 use Rattle.std.specs.Map.{keys_of, lookup}
 use Rattle.std.proofs.lemmas.List.{take_all, take_more, reverse-append, get_or-map, get_or-take, length-map, length-take}
@@ -25,7 +57,8 @@ flip a b h = ne_eqb b a (λ e. eqb-false a b h (sym e))
 key_at : (es : Pairs) (i : ℕ) (d : ℕ × Entry) → i < length es → get_or (keys_of es) i 0 ≡ (get_or es i d).0
 key_at es i d h = get_or-map (λ (e : ℕ × Entry). e.0) es i d 0 h
 
-pub keys_apart : (es : Pairs) (i j : ℕ) (d : ℕ × Entry) → IsDistinct nat_eq (keys_of es) → i < j → j < length es → nat_eq (get_or es i d).0 (get_or es j d).0 ≡ false
+pub keys_apart : (es : Pairs) (i j : ℕ) (d : ℕ × Entry) → IsDistinct nat_eq (keys_of es) → i < j → j < length es
+    → nat_eq (get_or es i d).0 (get_or es j d).0 ≡ false
 keys_apart es i j d distinct below h =
     let len : j < length (keys_of es) = simp length-map h in
     let apart = apart_from_distinct nat_eq (keys_of es) i j 0 distinct below len in
@@ -59,7 +92,8 @@ module _ {M : Type 0} (nothing : M) (means : (ℕ → M) → Entry → M) where
       ∙ ap (λ b. cond b (means (meant k es) e) (meant k es n)) (eq-eqb n n refl)
 
   -- no entry of the number among the first k
-  nowhere : (es : Pairs) (k n : ℕ) (d : ℕ × Entry) → k ≤ length es → ((j : ℕ) → j < k → nat_eq (get_or es j d).0 n ≡ false) → meant k es n ≡ nothing
+  nowhere : (es : Pairs) (k n : ℕ) (d : ℕ × Entry) → k ≤ length es → ((j : ℕ) → j < k → nat_eq (get_or es j d).0 n ≡ false)
+      → meant k es n ≡ nothing
   nowhere es zero n d h others = refl
   nowhere es (suc k) n d h others =
       let e : k + 1 ≡ suc k = omega arith in
@@ -68,7 +102,8 @@ module _ {M : Type 0} (nothing : M) (means : (ℕ → M) → Entry → M) where
       ∙ nowhere es k n d (omega arith) (λ j b. others j (omega arith))
 
   -- the entry of the number means what it does among the older ones
-  pub meant-at : (es : Pairs) (i k n : ℕ) (e : Entry) → IsDistinct nat_eq (keys_of es) → slice_get es i ≡ Some (n, e) → i < k → k ≤ length es
+  pub meant-at : (es : Pairs) (i k n : ℕ) (e : Entry) → IsDistinct nat_eq (keys_of es) → slice_get es i ≡ Some (n, e) → i < k
+      → k ≤ length es
       → meant k es n ≡ means (meant i es) e
   meant-at es i zero n e distinct at below within = absurd (omega arith)
   meant-at es i (suc k) n e distinct at below within =
@@ -90,7 +125,8 @@ module _ {M : Type 0} (nothing : M) (means : (ℕ → M) → Entry → M) where
       ]
 
   -- the number stands later
-  pub meant-later : (es : Pairs) (i k n : ℕ) (e : Entry) → IsDistinct nat_eq (keys_of es) → slice_get es i ≡ Some (n, e) → k ≤ i → meant k es n ≡ nothing
+  pub meant-later : (es : Pairs) (i k n : ℕ) (e : Entry) → IsDistinct nat_eq (keys_of es) → slice_get es i ≡ Some (n, e) → k ≤ i
+      → meant k es n ≡ nothing
   meant-later es i k n e distinct at later =
       let within = slice_get_within es i (n, e) at in
       let found = get_or_from_slice_get es i (n, e) (n, e) at in
@@ -102,13 +138,15 @@ module _ {M : Type 0} (nothing : M) (means : (ℕ → M) → Entry → M) where
   meant-absent es k n h within = nowhere es k n (n, Block []) within (λ j b. absent_at es n j (n, Block []) h (omega arith))
 
 -- the number of an entry stands nowhere before it
-lookup_none : (es : Pairs) (n : ℕ) (d : ℕ × Entry) → ((j : ℕ) → j < length es → nat_eq (get_or es j d).0 n ≡ false) → lookup (nat_eq n) es ≡ None
+lookup_none : (es : Pairs) (n : ℕ) (d : ℕ × Entry) → ((j : ℕ) → j < length es → nat_eq (get_or es j d).0 n ≡ false)
+    → lookup (nat_eq n) es ≡ None
 lookup_none [] n d others = refl
 lookup_none (e ∷ es) n d others =
     ap (λ b. cond b (Some e.1) (lookup (nat_eq n) es)) (flip e.0 n (others zero (omega arith)))
     ∙ lookup_none es n d (λ j b. others (suc j) (omega arith))
 
-pub absent_before : (es : Pairs) (k n : ℕ) (e : Entry) → IsDistinct nat_eq (keys_of es) → slice_get es k ≡ Some (n, e) → lookup (nat_eq n) (take k es) ≡ None
+pub absent_before : (es : Pairs) (k n : ℕ) (e : Entry) → IsDistinct nat_eq (keys_of es) → slice_get es k ≡ Some (n, e)
+    → lookup (nat_eq n) (take k es) ≡ None
 absent_before es k n e distinct at =
     let within = slice_get_within es k (n, e) at in
     let found = get_or_from_slice_get es k (n, e) (n, e) at in

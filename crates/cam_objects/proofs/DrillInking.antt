@@ -1,5 +1,34 @@
 -- dark leaves, and the slots of a rout from the last
-use Rattle.std.proofs.Common.{◌≡◌, ℕ, zero, suc, ◌+◌, ◌<◌, ◌≤◌, Bool, true, false, List, [], ◌∷◌, length, drop, get_or, refl, sym, ap, subst, ◌∙◌, arith, IsTrue, ◌↔◌, Some, drop-cons, add-one, ◌≢◌}
+use Rattle.std.proofs.Common.{
+  ◌≡◌,
+  ℕ,
+  zero,
+  suc,
+  ◌+◌,
+  ◌<◌,
+  ◌≤◌,
+  Bool,
+  true,
+  false,
+  List,
+  [],
+  ◌∷◌,
+  length,
+  drop,
+  get_or,
+  refl,
+  sym,
+  ap,
+  subst,
+  ◌∙◌,
+  arith,
+  IsTrue,
+  ◌↔◌,
+  Some,
+  drop-cons,
+  add-one,
+  ◌≢◌,
+}
 use Rattle.std.proofs.lemmas.Bool.{false≢true}
 use Rattle.cam_units.specs.declared.length.Nm.{Nm}
 use Rattle.cam_units.specs.declared.point.Point.{Point}
@@ -8,7 +37,16 @@ use Rattle.cam_objects.specs.Leaves.{Leaf, leaf, Stroke}
 use Rattle.cam_objects.specs.Image.{Covers, Inks, IsBlack, IsPainted, IsUncovered}
 use Rattle.cam_objects.specs.Drilling.{rout_leaves, slots_from}
 use Rattle.cam_objects.specs.Machinery.Inking.{dark_where, slots_of}
-use Rattle.cam_objects.proofs.Inking.{black_from_ink, inks_none, inks_one, painted_after, painted_before, painted_covered, uncovered_append, uncovered_nil}
+use Rattle.cam_objects.proofs.Inking.{
+  black_from_ink,
+  inks_none,
+  inks_one,
+  painted_after,
+  painted_before,
+  painted_covered,
+  uncovered_append,
+  uncovered_nil,
+}
 
 -- one dark leaf, by its test
 pub inks_test : (s : Spot) (l : Leaf) (b : Bool) → l.dark ≡ true → IsTrue b ↔ Covers l.shape s → Inks (l ∷ []) s (dark_where b)
@@ -37,7 +75,8 @@ uncovered_slots_last s d (p ∷ []) zero h = uncovered_nil s
 uncovered_slots_last s d (p ∷ q ∷ ps) zero h = absurd (omega arith)
 uncovered_slots_last s d (p ∷ ps) (suc i) h = uncovered_slots_last s d ps i (omega arith)
 
-painted_slots_later : (s : Spot) (d : Nm) (ps : List Point) (i : ℕ) → IsPainted (slots_of d (drop i ps)) s true → IsPainted (slots_of d ps) s true
+painted_slots_later : (s : Spot) (d : Nm) (ps : List Point) (i : ℕ) → IsPainted (slots_of d (drop i ps)) s true
+    → IsPainted (slots_of d ps) s true
 painted_slots_later s d ps zero h = h
 painted_slots_later s d [] (suc i) h = h
 painted_slots_later s d (p ∷ ps) (suc i) h = by ps (painted_slots_later s d ps i h)

@@ -1,5 +1,31 @@
 -- layers stay sound as they are edited
-use Rattle.std.proofs.Common.{◌≡◌, ℕ, suc, ◌+◌, ◌≤◌, nat_eq, Bool, true, false, cond, List, [], ◌∷◌, ◌++◌, length, map, sum_by, Some, IsSome, refl, sym, ap, subst, ◌∙◌, arith}
+use Rattle.std.proofs.Common.{
+  ◌≡◌,
+  ℕ,
+  suc,
+  ◌+◌,
+  ◌≤◌,
+  nat_eq,
+  Bool,
+  true,
+  false,
+  cond,
+  List,
+  [],
+  ◌∷◌,
+  ◌++◌,
+  length,
+  map,
+  sum_by,
+  Some,
+  IsSome,
+  refl,
+  sym,
+  ap,
+  subst,
+  ◌∙◌,
+  arith,
+}
 use Rattle.std.specs.Cmp.{nat_eq_equiv}
 use Rattle.std.specs.List.{All, IsDistinct}
 use Rattle.std.specs.Map.{set_value}
@@ -13,7 +39,15 @@ use Rattle.cam_units.specs.declared.point.Point.{Point}
 use Rattle.cam_shapes.specs.Shifting.{shifted_point}
 use Rattle.cam_objects.specs.declared.drill_item.DrillItem.{DrillItem}
 use Rattle.cam_objects.specs.declared.drill_item.DrillItem.TheVariants.{Hit, Rout}
-use Rattle.cam_objects.specs.declared.item_fault.ItemFault.TheVariants.{Malformed, UnknownAperture, UnknownTool, WrongAperture, ZeroRadius, OutOfBoard, TooMuch}
+use Rattle.cam_objects.specs.declared.item_fault.ItemFault.TheVariants.{
+  Malformed,
+  UnknownAperture,
+  UnknownTool,
+  WrongAperture,
+  ZeroRadius,
+  OutOfBoard,
+  TooMuch,
+}
 use Rattle.cam_objects.specs.Drilling.{diameter_of}
 use Rattle.cam_objects.specs.DrillSoundness.{IsSoundDrillItem, IsSoundTool, MeetsDrillItem, drill_count_from, drill_count_of, tool_of}
 use Rattle.cam_objects.specs.LayerLaws.{DrillEditLaw, LayerEditLaw}
@@ -31,7 +65,8 @@ module _ {X : Type 0} (P : X → Type 0) (before after : List X) where
   all_with x h all = All-append P before (x ∷ after) (All_left P before after all) (All-cons P x after h (All_right P before after all))
 
   all_without : (x : X) → All P (before ++ x ∷ after) → All P (before ++ after)
-  all_without x all = All-append P before after (All_left P before (x ∷ after) all) (All-tail P x after (All_right P before (x ∷ after) all))
+  all_without x all =
+      All-append P before after (All_left P before (x ∷ after) all) (All-tail P x after (All_right P before (x ∷ after) all))
 
   all_other : (x y : X) → P y → All P (before ++ x ∷ after) → All P (before ++ y ∷ after)
   all_other x y here all = all_with y here (all_without x all)
@@ -81,13 +116,18 @@ pub layer_edits : LayerEditLaw
 layer_edits = record {
   add_entry = λ es items n entry h may. grow es n entry may.absent items h may;
   keep_leaves = λ es items n entry h may. keep_leaves es n entry may.absent items h;
-  push = λ es items item h good room. record { entries = h.entries; items = one_more (IsSoundItem es) items item h.items good; limits = room };
+  push =
+      λ es items item h good room. record { entries = h.entries; items = one_more (IsSoundItem es) items item h.items good; limits = room };
   insert = λ es before after item h good room. record {
     entries = h.entries;
     items = all_with (IsSoundItem es) before after item good h.items;
     limits = record {
-      few = subst (λ k. k ≤ 1000000) (length_behind (item_count (weight_in es)) before after item ∙ sym (length_at (item_count (weight_in es)) before after item)) room.few;
-      leaves = subst (λ k. k ≤ 4000000) (sum_behind (item_count (weight_in es)) before after item ∙ sym (sum_at (item_count (weight_in es)) before after item)) room.leaves;
+      few =
+          subst (λ k. k ≤ 1000000) (length_behind (item_count (weight_in es)) before after item
+          ∙ sym (length_at (item_count (weight_in es)) before after item)) room.few;
+      leaves =
+          subst (λ k. k ≤ 4000000) (sum_behind (item_count (weight_in es)) before after item
+          ∙ sym (sum_at (item_count (weight_in es)) before after item)) room.leaves;
     };
   };
   remove = λ es before after item h. record {
@@ -102,12 +142,14 @@ layer_edits = record {
       let w = item_count (weight_in es) in
       let there = shifted_item by item in record {
         entries = h.entries;
-        items = all_with (IsSoundItem es) before after there (sound_kept by es item (all_at (IsSoundItem es) before after item h.items) inside)
+        items =
+            all_with (IsSoundItem es) before after there (sound_kept by es item (all_at (IsSoundItem es) before after item h.items) inside)
             (all_without (IsSoundItem es) before after item h.items);
         limits = record {
           few = subst (λ k. k ≤ 1000000) (length_at w before after item ∙ sym (length_at w before after there)) h.limits.few;
           leaves = subst (λ k. k ≤ 4000000)
-              (sum_at w before after item ∙ ap (λ k. k + sum_by w (before ++ after)) (sym (item_count_kept by (weight_in es) item)) ∙ sym (sum_at w before after there)) h.limits.leaves;
+              (sum_at w before after item ∙ ap (λ k. k + sum_by w (before ++ after)) (sym (item_count_kept by (weight_in es) item))
+              ∙ sym (sum_at w before after there)) h.limits.leaves;
         };
       };
   replace = λ es before after item new h good room. record {
@@ -137,7 +179,8 @@ drill_count_kept : (by : Point) (item : DrillItem) → drill_count_of (shifted_d
 drill_count_kept by (Hit tool at) = refl
 drill_count_kept by (Rout tool points) = segments_kept by points
 
-drill_kept : (ts : List (ℕ × Nm)) (by : Point) (item : DrillItem) → IsSoundDrillItem ts item → MeetsDrillItem ts (shifted_drill_item by item) OutOfBoard
+drill_kept : (ts : List (ℕ × Nm)) (by : Point) (item : DrillItem) → IsSoundDrillItem ts item
+    → MeetsDrillItem ts (shifted_drill_item by item) OutOfBoard
     → IsSoundDrillItem ts (shifted_drill_item by item)
 drill_kept ts by (Hit tool at) h inside Malformed = h Malformed
 drill_kept ts by (Hit tool at) h inside UnknownAperture = tt
@@ -197,8 +240,12 @@ drill_edits = record {
     distinct = h.distinct;
     items = all_with (IsSoundDrillItem ts) before after item good h.items;
     limits = record {
-      few = subst (λ k. k ≤ 1000000) (length_behind drill_count_of before after item ∙ sym (length_at drill_count_of before after item)) room.few;
-      leaves = subst (λ k. k ≤ 4000000) (sum_behind drill_count_of before after item ∙ sym (sum_at drill_count_of before after item)) room.leaves;
+      few =
+          subst (λ k. k ≤ 1000000) (length_behind drill_count_of before after item ∙ sym (length_at drill_count_of before after item))
+          room.few;
+      leaves =
+          subst (λ k. k ≤ 4000000) (sum_behind drill_count_of before after item ∙ sym (sum_at drill_count_of before after item))
+          room.leaves;
     };
   };
   remove = λ ts before after item h. record {
@@ -214,12 +261,18 @@ drill_edits = record {
       let there = shifted_drill_item by item in record {
         tools = h.tools;
         distinct = h.distinct;
-        items = all_with (IsSoundDrillItem ts) before after there (drill_kept ts by item (all_at (IsSoundDrillItem ts) before after item h.items) inside)
+        items =
+            all_with (IsSoundDrillItem ts) before after there
+            (drill_kept ts by item (all_at (IsSoundDrillItem ts) before after item h.items) inside)
             (all_without (IsSoundDrillItem ts) before after item h.items);
         limits = record {
-          few = subst (λ k. k ≤ 1000000) (length_at drill_count_of before after item ∙ sym (length_at drill_count_of before after there)) h.limits.few;
+          few =
+              subst (λ k. k ≤ 1000000) (length_at drill_count_of before after item ∙ sym (length_at drill_count_of before after there))
+              h.limits.few;
           leaves = subst (λ k. k ≤ 4000000)
-              (sum_at drill_count_of before after item ∙ ap (λ k. k + sum_by drill_count_of (before ++ after)) (sym (drill_count_kept by item)) ∙ sym (sum_at drill_count_of before after there)) h.limits.leaves;
+              (sum_at drill_count_of before after item
+              ∙ ap (λ k. k + sum_by drill_count_of (before ++ after)) (sym (drill_count_kept by item))
+              ∙ sym (sum_at drill_count_of before after there)) h.limits.leaves;
         };
       };
   replace = λ ts before after item new h good room. record {

@@ -1,5 +1,32 @@
 -- how far the numbers of a sound dictionary reach, and the boxes of objects
-use Rattle.std.proofs.Common.{◌≡◌, ℕ, suc, ◌<◌, ◌≤◌, Bool, true, cond, List, [], ◌∷◌, length, take, reverse, get_or, slice_get, nat_eq, Option, None, Some, refl, sym, ap, subst, ◌∙◌, arith}
+use Rattle.std.proofs.Common.{
+  ◌≡◌,
+  ℕ,
+  suc,
+  ◌<◌,
+  ◌≤◌,
+  Bool,
+  true,
+  cond,
+  List,
+  [],
+  ◌∷◌,
+  length,
+  take,
+  reverse,
+  get_or,
+  slice_get,
+  nat_eq,
+  Option,
+  None,
+  Some,
+  refl,
+  sym,
+  ap,
+  subst,
+  ◌∙◌,
+  arith,
+}
 use Rattle.std.specs.List.{IsDistinct}
 use Rattle.std.specs.Map.{keys_of, lookup}
 use Rattle.std.specs.Option.{IfSome}
@@ -19,7 +46,19 @@ use Rattle.cam_objects.specs.declared.checks.facts.Facts.{Facts}
 use Rattle.cam_objects.specs.declared.object.Object.TheVariants.{Flash, Draw, Arc, Region}
 use Rattle.cam_objects.specs.Bounds.{bounds_of, box_of_contour, box_of_shape, moved}
 use Rattle.cam_apertures.specs.Turned.{turned_box}
-use Rattle.cam_objects.specs.Leaves.{Meaning, arc_leaves, draw_leaves, entry_meaning, flashed, meaning, meaning_in, object_leaves, origin, placed, polarity_in}
+use Rattle.cam_objects.specs.Leaves.{
+  Meaning,
+  arc_leaves,
+  draw_leaves,
+  entry_meaning,
+  flashed,
+  meaning,
+  meaning_in,
+  object_leaves,
+  origin,
+  placed,
+  polarity_in,
+}
 use Rattle.cam_objects.specs.Machinery.Boxes.{IsNearBox, placed_bounds}
 use Rattle.cam_objects.specs.Machinery.Extents.{IsExtentIn}
 use Rattle.cam_objects.specs.Machinery.Facts.{facts_at}

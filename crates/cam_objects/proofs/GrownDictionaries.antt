@@ -1,5 +1,32 @@
 -- an entry more changes the meaning of no number that is there
-use Rattle.std.proofs.Common.{◌≡◌, ℕ, ◌+◌, ◌*◌, ◌≤◌, Bool, true, false, cond, pos, ◌*ℤ◌, List, [], ◌∷◌, ◌++◌, reverse, None, Some, nat_eq, slice_index_or, sum_by, refl, sym, ap, subst, ◌∙◌}
+use Rattle.std.proofs.Common.{
+  ◌≡◌,
+  ℕ,
+  ◌+◌,
+  ◌*◌,
+  ◌≤◌,
+  Bool,
+  true,
+  false,
+  cond,
+  pos,
+  ◌*ℤ◌,
+  List,
+  [],
+  ◌∷◌,
+  ◌++◌,
+  reverse,
+  None,
+  Some,
+  nat_eq,
+  slice_index_or,
+  sum_by,
+  refl,
+  sym,
+  ap,
+  subst,
+  ◌∙◌,
+}
 use Rattle.std.specs.List.{All, flat_map, range_with_len}
 use Rattle.std.specs.Map.{lookup}
 use Rattle.std.specs.Option.{IsSome}
@@ -11,12 +38,48 @@ use Rattle.cam_shapes.specs.Placing.{placed_direction}
 use Rattle.cam_objects.specs.declared.entry.Entry.{Entry}
 use Rattle.cam_objects.specs.declared.item.Item.{Item}
 use Rattle.cam_objects.specs.declared.item.Item.TheVariants.{One, Repeat}
-use Rattle.cam_objects.specs.declared.item_fault.ItemFault.TheVariants.{Malformed, UnknownAperture, UnknownTool, WrongAperture, ZeroRadius, OutOfBoard, TooMuch}
+use Rattle.cam_objects.specs.declared.item_fault.ItemFault.TheVariants.{
+  Malformed,
+  UnknownAperture,
+  UnknownTool,
+  WrongAperture,
+  ZeroRadius,
+  OutOfBoard,
+  TooMuch,
+}
 use Rattle.cam_objects.specs.declared.object.Object.{Object}
 use Rattle.cam_objects.specs.declared.object.Object.TheVariants.{Flash, Draw, Arc, Region}
 use Rattle.cam_objects.specs.declared.placing.place.Place.{Place}
-use Rattle.cam_objects.specs.Leaves.{Meaning, arc_leaves, block_leaves, draw_leaves, entry_meaning, flashed, item_leaves, leaves_of, meaning_in, no_meaning, object_leaves, origin, placed, polarity_in, shifted, stands_for}
-use Rattle.cam_objects.specs.Soundness.{AreOnBoard, HasNumber, IsDrawable, IsInside, IsKnown, IsSoundContent, IsSoundItem, IsWithinLimits, MayAddEntry, objects_of}
+use Rattle.cam_objects.specs.Leaves.{
+  Meaning,
+  arc_leaves,
+  block_leaves,
+  draw_leaves,
+  entry_meaning,
+  flashed,
+  item_leaves,
+  leaves_of,
+  meaning_in,
+  no_meaning,
+  object_leaves,
+  origin,
+  placed,
+  polarity_in,
+  shifted,
+  stands_for,
+}
+use Rattle.cam_objects.specs.Soundness.{
+  AreOnBoard,
+  HasNumber,
+  IsDrawable,
+  IsInside,
+  IsKnown,
+  IsSoundContent,
+  IsSoundItem,
+  IsWithinLimits,
+  MayAddEntry,
+  objects_of,
+}
 use Rattle.cam_objects.specs.Weights.{Weight, block_count, entry_weight, item_count, no_weight, object_count, weight_in}
 use Rattle.cam_objects.proofs.KeptFacts.{sound_grows}
 
@@ -49,7 +112,8 @@ module _ (es : Pairs) (n : ℕ) (e : Entry) (absent : lookup (nat_eq n) es ≡ N
       → stands_for nothing means (reverse grown) m ≡ stands_for nothing means (reverse es) m
   stands_same nothing means m known =
       ap (λ ds. stands_for nothing means ds m) (reverse-append es ((n, e) ∷ []))
-      ∙ ap (λ b. cond b (means (stands_for nothing means (reverse es)) e) (stands_for nothing means (reverse es) m)) (apart es n m absent known)
+      ∙ ap (λ b. cond b (means (stands_for nothing means (reverse es)) e) (stands_for nothing means (reverse es) m))
+      (apart es n m absent known)
 
   means_same : (m : ℕ) → HasNumber es m → meaning_in grown m ≡ meaning_in es m
   means_same = stands_same no_meaning entry_meaning
@@ -64,7 +128,8 @@ module _ (es : Pairs) (n : ℕ) (e : Entry) (absent : lookup (nat_eq n) es ≡ N
   object_same p (Draw m from to t dark) h =
       ap (λ (x : Meaning). draw_leaves x.width (placed p from) (placed p to) (polarity_in p.dark dark)) (means_same m h)
   object_same p (Arc m from to centre ccw dark) h =
-      ap (λ (x : Meaning). arc_leaves x.width (placed p from) (placed p to) (placed p centre) (placed_direction p.turn ccw) (polarity_in p.dark dark)) (means_same m h)
+      ap (λ (x : Meaning). arc_leaves x.width (placed p from) (placed p to) (placed p centre) (placed_direction p.turn ccw)
+      (polarity_in p.dark dark)) (means_same m h)
   object_same p (Region c dark) h = refl
 
   count_same : (o : Object) → IsKnown es o → object_count (weight_in grown) o ≡ object_count (weight_in es) o
@@ -93,23 +158,27 @@ module _ (es : Pairs) (n : ℕ) (e : Entry) (absent : lookup (nat_eq n) es ≡ N
   block_same (o ∷ objects) h p =
       λ i. object_same p o (All-head (IsKnown es) o objects h) i ++ block_same objects (All-tail (IsKnown es) o objects h) p i
 
-  block_count_same : (objects : List Object) → All (IsKnown es) objects → block_count (weight_in grown) objects ≡ block_count (weight_in es) objects
+  block_count_same : (objects : List Object) → All (IsKnown es) objects
+      → block_count (weight_in grown) objects ≡ block_count (weight_in es) objects
   block_count_same [] h = refl
   block_count_same (o ∷ objects) h =
       sum_by-cons (object_count (weight_in grown)) o objects
       ∙ (λ i. count_same o (All-head (IsKnown es) o objects h) i + block_count_same objects (All-tail (IsKnown es) o objects h) i)
       ∙ sym (sum_by-cons (object_count (weight_in es)) o objects)
 
-  drawable_all : (objects : List Object) → All (IsKnown es) objects → All (IsDrawable (meaning_in es)) objects → All (IsDrawable (meaning_in grown)) objects
+  drawable_all : (objects : List Object) → All (IsKnown es) objects → All (IsDrawable (meaning_in es)) objects
+      → All (IsDrawable (meaning_in grown)) objects
   drawable_all objects h k i d low = drawable_same (slice_index_or objects i d) (h i d low) (k i d low)
 
   abbrev IsKnownItem : Item → Type 0
   IsKnownItem item = All (IsKnown es) (objects_of item)
 
-  pub item_same : (item : Item) → All (IsKnown es) (objects_of item) → item_leaves (meaning_in grown) item ≡ item_leaves (meaning_in es) item
+  pub item_same : (item : Item) → All (IsKnown es) (objects_of item)
+      → item_leaves (meaning_in grown) item ≡ item_leaves (meaning_in es) item
   item_same (One o) h = object_same origin o (All-head (IsKnown es) o [] h)
   item_same (Repeat columns rows x y objects) h =
-      λ i. flat_map (λ c. flat_map (λ r. block_same objects h (shifted (pos c *ℤ x) (pos r *ℤ y)) i) (range_with_len 0 rows)) (range_with_len 0 columns)
+      λ i. flat_map (λ c. flat_map (λ r. block_same objects h (shifted (pos c *ℤ x) (pos r *ℤ y)) i) (range_with_len 0 rows))
+      (range_with_len 0 columns)
 
   item_count_same : (item : Item) → IsKnownItem item → item_count (weight_in grown) item ≡ item_count (weight_in es) item
   item_count_same (One o) h = count_same o (All-head (IsKnown es) o [] h)
@@ -123,10 +192,20 @@ module _ (es : Pairs) (n : ℕ) (e : Entry) (absent : lookup (nat_eq n) es ≡ N
   sound_same item h ZeroRadius = h ZeroRadius
   sound_same item h OutOfBoard =
       let inside : IsInside es item = h OutOfBoard in
-      record { points = inside.points; steps = inside.steps; leaves = subst AreOnBoard (sym (item_same item (h UnknownAperture))) inside.leaves }
+      record {
+        points = inside.points;
+        steps = inside.steps;
+        leaves =
+            subst AreOnBoard (sym (item_same item (h UnknownAperture))) inside.leaves;
+      }
   sound_same item h TooMuch =
       let limits : IsWithinLimits es item = h TooMuch in
-      record { segs = limits.segs; objects = limits.objects; leaves = subst (λ k. k ≤ 4000000) (sym (item_count_same item (h UnknownAperture))) limits.leaves }
+      record {
+        segs = limits.segs;
+        objects = limits.objects;
+        leaves =
+            subst (λ k. k ≤ 4000000) (sym (item_count_same item (h UnknownAperture))) limits.leaves;
+      }
 
   sum_same : (items : List Item) → All IsKnownItem items
       → sum_by (item_count (weight_in grown)) items ≡ sum_by (item_count (weight_in es)) items
@@ -150,5 +229,6 @@ module _ (es : Pairs) (n : ℕ) (e : Entry) (absent : lookup (nat_eq n) es ≡ N
   grow items h may = record {
     entries = sound_grows es n e h.entries may;
     items = All-weaker (IsSoundItem es) (IsSoundItem grown) sound_same items h.items;
-    limits = record { few = h.limits.few; leaves = subst (λ k. k ≤ 4000000) (sym (sum_same items (known_items items h.items))) h.limits.leaves };
+    limits =
+        record { few = h.limits.few; leaves = subst (λ k. k ≤ 4000000) (sym (sum_same items (known_items items h.items))) h.limits.leaves };
   }

@@ -1,5 +1,31 @@
 -- the last leaf that covers a place, in lists that are joined
-use Rattle.std.proofs.Common.{◌≡◌, ℕ, ◌+◌, ◌<◌, Bool, true, false, cond, List, [], ◌∷◌, ◌++◌, length, take, get_or, Option, None, Some, refl, sym, ap, subst, ◌∙◌, IsTrue, ◌↔◌}
+use Rattle.std.proofs.Common.{
+  ◌≡◌,
+  ℕ,
+  ◌+◌,
+  ◌<◌,
+  Bool,
+  true,
+  false,
+  cond,
+  List,
+  [],
+  ◌∷◌,
+  ◌++◌,
+  length,
+  take,
+  get_or,
+  Option,
+  None,
+  Some,
+  refl,
+  sym,
+  ap,
+  subst,
+  ◌∙◌,
+  IsTrue,
+  ◌↔◌,
+}
 use Rattle.std.specs.List.{flat_map}
 use Rattle.std.specs.Option.{is_some, unwrap_or}
 use Rattle.std.proofs.lemmas.Bool.{false≢true}
@@ -106,7 +132,8 @@ same_last s (x ∷ b) (y ∷ b') l l' a a' e on on' off off' =
 pub painted_once : (s : Spot) (ls : List Leaf) (d e : Bool) → IsPainted ls s d → IsPainted ls s e → d ≡ e
 painted_once s ls d e h k =
     sym h.polarity
-    ∙ ap (λ (l : Leaf). l.dark) (same_last s h.before k.before h.last k.last h.after k.after (sym h.split ∙ k.split) h.covered k.covered h.uncovered k.uncovered)
+    ∙ ap (λ (l : Leaf). l.dark) (same_last s h.before k.before h.last k.last h.after k.after
+    (sym h.split ∙ k.split) h.covered k.covered h.uncovered k.uncovered)
     ∙ k.polarity
 
 pub painted_covered : (s : Spot) (ls : List Leaf) (d : Bool) → IsPainted ls s d → IsUncovered ls s → ⊥
@@ -119,7 +146,8 @@ black_from_ink s ls (Some dark) h =
     ((λ e. subst (IsPainted ls s) e h), λ black. painted_once s ls dark true h black)
 
 -- one leaf, by its test
-pub inks_where : (s : Spot) (l : Leaf) (b : Bool) (ink : Option Bool) → IsTrue b ↔ Covers l.shape s → ink ≡ cond b (Some l.dark) None → Inks (l ∷ []) s ink
+pub inks_where : (s : Spot) (l : Leaf) (b : Bool) (ink : Option Bool) → IsTrue b ↔ Covers l.shape s → ink ≡ cond b (Some l.dark) None
+    → Inks (l ∷ []) s ink
 inks_where s l true ink told e = subst (Inks (l ∷ []) s) (sym e) (inks_one s l (told.0 refl))
 inks_where s l false ink told e = subst (Inks (l ∷ []) s) (sym e) (inks_none s l (λ on. false≢true (told.1 on)))
 

@@ -1,5 +1,33 @@
 -- the boxes of what objects, blocks and repeats paint
-use Rattle.std.proofs.Common.{◌≡◌, ℕ, zero, suc, ◌+◌, ◌-◌, ◌*◌, ◌<◌, ◌≤◌, Bool, true, false, IsTrue, ℤ, pos, ◌*ℤ◌, List, length, reverse, slice_get, nat_eq, Some, sym, ap, subst, ◌∙◌, arith}
+use Rattle.std.proofs.Common.{
+  ◌≡◌,
+  ℕ,
+  zero,
+  suc,
+  ◌+◌,
+  ◌-◌,
+  ◌*◌,
+  ◌<◌,
+  ◌≤◌,
+  Bool,
+  true,
+  false,
+  IsTrue,
+  ℤ,
+  pos,
+  ◌*ℤ◌,
+  List,
+  length,
+  reverse,
+  slice_get,
+  nat_eq,
+  Some,
+  sym,
+  ap,
+  subst,
+  ◌∙◌,
+  arith,
+}
 use Rattle.std.specs.List.{All, IsDistinct, flat_map, range_with_len}
 use Rattle.std.proofs.lemmas.Int.{ints}
 use Rattle.std.proofs.lemmas.List.Elements.{All-weaker}
@@ -16,7 +44,18 @@ use Rattle.cam_objects.specs.declared.entry.Entry.{Entry}
 use Rattle.cam_objects.specs.declared.checks.facts.Facts.{Facts}
 use Rattle.cam_objects.specs.declared.placing.place.Place.{Place}
 use Rattle.cam_objects.specs.Bounds.{bounds_of, box_of_all, box_of_shape, moved}
-use Rattle.cam_objects.specs.Leaves.{Leaf, Meaning, block_leaves, column_leaves, meaning, meaning_in, object_leaves, origin, repeat_leaves, shifted}
+use Rattle.cam_objects.specs.Leaves.{
+  Leaf,
+  Meaning,
+  block_leaves,
+  column_leaves,
+  meaning,
+  meaning_in,
+  object_leaves,
+  origin,
+  repeat_leaves,
+  shifted,
+}
 use Rattle.cam_objects.specs.Machinery.Boxes.{AreSized, IsNearBox, IsUncrossed, placed_bounds}
 use Rattle.cam_objects.specs.Machinery.Facts.{facts_at}
 use Rattle.cam_objects.specs.Machinery.Inside.{last_copy}
@@ -42,7 +81,8 @@ clear_leaves ls h k =
     All-weaker (λ l. IsBoxWithin reach (box_of_shape l.shape)) (λ l. IsUncrossed (box_of_shape l.shape))
     (λ l. within_uncrossed reach (box_of_shape l.shape)) ls (leaves_within ls h k)
 
-module _ (es : List (ℕ × Entry)) (sound : IsSoundDictionary es) (objects : List Object) (board : AreOnBoard (block_leaves (meaning_in es) origin objects)) where
+module _ (es : List (ℕ × Entry)) (sound : IsSoundDictionary es) (objects : List Object)
+    (board : AreOnBoard (block_leaves (meaning_in es) origin objects)) where
   abbrev leaves : List Leaf
   leaves = block_leaves (meaning_in es) origin objects
 
@@ -59,12 +99,14 @@ module _ (es : List (ℕ × Entry)) (sound : IsSoundDictionary es) (objects : Li
   one_less n = omega arith
 
   repeat_bounds : (columns rows : ℕ) (i j : ℤ) → 0 < columns * rows
-      → bounds_of (repeat_leaves (meaning_in es) columns rows i j objects) ≡ join_of (bounds_of leaves) (moved (last_copy columns rows i j) (bounds_of leaves))
+      → bounds_of (repeat_leaves (meaning_in es) columns rows i j objects) ≡ join_of (bounds_of leaves)
+      (moved (last_copy columns rows i j) (bounds_of leaves))
   repeat_bounds zero rows i j h = absurd (omega arith)
   repeat_bounds (suc columns) zero i j h = absurd (omega arith)
   repeat_bounds (suc columns) (suc rows) i j h =
       repeat_box box_of_shape shapes_so (reverse es) objects (clear_leaves leaves sized board) columns rows i j
-      ∙ (λ k. join_of (bounds_of leaves) (moved (record { x = pos (one_less columns k) *ℤ i; y = pos (one_less rows k) *ℤ j }) (bounds_of leaves)))
+      ∙ (λ k. join_of (bounds_of leaves) (moved (record { x = pos (one_less columns k) *ℤ i; y = pos (one_less rows k) *ℤ j })
+      (bounds_of leaves)))
 
   pub bounded_repeat : (columns rows : ℕ) (i j : ℤ) (first b : Bounds) → 0 < columns * rows → first ≡ bounds_of leaves
       → b ≡ join_of first (moved (last_copy columns rows i j) first)
@@ -100,13 +142,15 @@ flash_box es n p f b facts box =
     box ∙ ap (λ (x : Facts). placed_bounds p x.bounds) facts ∙ sym (flash_placed box_of_shape shapes_so (reverse es) n p)
 
 -- a place outside it is covered by none of them
-pub missed : (es : List (ℕ × Entry)) (n : ℕ) (p : Place) (f : Facts) (b : Bounds) (s : Spot) → f ≡ facts_at es n → b ≡ placed_bounds p f.bounds
+pub missed : (es : List (ℕ × Entry)) (n : ℕ) (p : Place) (f : Facts) (b : Bounds) (s : Spot) → f ≡ facts_at es n
+    → b ≡ placed_bounds p f.bounds
     → (Holds b s → ⊥) → IsUncovered ((meaning_in es n).flash p) s
 missed es n p f b s facts box out =
     outside_box ((meaning_in es n).flash p) s (subst (λ (x : Bounds). Holds x s → ⊥) (flash_box es n p f b facts box) out)
 
 -- an entry among the first ones means what it does among all
-pub meaning_among : (es : List (ℕ × Entry)) (i upto n : ℕ) (e : Entry) → IsDistinct nat_eq (keys_of es) → slice_get es i ≡ Some (n, e) → i < upto → upto ≤ length es
+pub meaning_among : (es : List (ℕ × Entry)) (i upto n : ℕ) (e : Entry) → IsDistinct nat_eq (keys_of es) → slice_get es i ≡ Some (n, e)
+    → i < upto → upto ≤ length es
     → meaning_before upto es n ≡ meaning_in es n
 meaning_among es i upto n e distinct at below within =
     meaning-at es i upto n e distinct at below within

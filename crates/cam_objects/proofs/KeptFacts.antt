@@ -1,5 +1,29 @@
 -- what is kept beside the entries of a dictionary is what their numbers paint and weigh
-use Rattle.std.proofs.Common.{◌≡◌, ℕ, ◌+◌, ◌<◌, ◌≤◌, List, [], ◌∷◌, ◌++◌, length, take, get_or, slice_get, None, Some, nat_eq, sym, ap, subst, ◌∙◌, arith, inl, inr}
+use Rattle.std.proofs.Common.{
+  ◌≡◌,
+  ℕ,
+  ◌+◌,
+  ◌<◌,
+  ◌≤◌,
+  List,
+  [],
+  ◌∷◌,
+  ◌++◌,
+  length,
+  take,
+  get_or,
+  slice_get,
+  None,
+  Some,
+  nat_eq,
+  sym,
+  ap,
+  subst,
+  ◌∙◌,
+  arith,
+  inl,
+  inr,
+}
 use Rattle.std.specs.Map.{lookup}
 use Rattle.std.proofs.lemmas.Option.{get_or_from_slice_get, slice_get-get_or, slice_get_within}
 use Rattle.std.proofs.lemmas.Bool.{cases_lt}
@@ -71,25 +95,29 @@ facts_absent es n absent =
 pub board_block : (es : Pairs) (objects : List Object) → IsSoundBlock es objects → AreOnBoard (block_leaves (meaning_in es) origin objects)
 board_block es objects block =
     board_all (object_leaves (meaning_in es) origin) objects
-    (All-weaker (λ o. IsSoundItem es (One o)) (λ o. AreOnBoard (object_leaves (meaning_in es) origin o)) (λ o k. inside_leaves es (One o) (k OutOfBoard)) objects block.each)
+    (All-weaker (λ o. IsSoundItem es (One o)) (λ o. AreOnBoard (object_leaves (meaning_in es) origin o))
+    (λ o k. inside_leaves es (One o) (k OutOfBoard)) objects block.each)
 
 abbrev IsLight : Facts → Type 0
 IsLight f = (f.leaves ≤ 4000000) × (f.depth ≤ 8) × IsBoxOnBoard f.points
 
 light : (es : Pairs) (e : Entry) → IsSoundEntry es e → IsLight (facts_of es e)
-light es (Aperture a) h = (omega arith, omega arith, (record { x = omega arith; y = omega arith }, record { x = omega arith; y = omega arith }))
+light es (Aperture a) h =
+    (omega arith, omega arith, (record { x = omega arith; y = omega arith }, record { x = omega arith; y = omega arith }))
 light es (Block objects) h =
     let b : IsSoundBlock es objects = h in
     let means = meaning_in es in
     let leaves = board_all (object_leaves means origin) objects
-    (All-weaker (λ o. IsSoundItem es (One o)) (λ o. AreOnBoard (object_leaves means origin o)) (λ o k. inside_leaves es (One o) (k OutOfBoard)) objects b.each) in
+    (All-weaker (λ o. IsSoundItem es (One o)) (λ o. AreOnBoard (object_leaves means origin o))
+    (λ o k. inside_leaves es (One o) (k OutOfBoard)) objects b.each) in
     (b.leaves, b.depth, (board_leaves (block_leaves means origin objects)).1 leaves)
 
 pub light_found : (es : Pairs) (fs : List Facts) (i n : ℕ) (e : Entry) (f : Facts) → IsKept es fs → slice_get es i ≡ Some (n, e)
     → f ≡ facts_at es n → (f.leaves ≤ 4000000) × (f.depth ≤ 8) × IsBoxOnBoard f.points
 light_found es fs i n e f kept found is =
     subst IsLight
-    (sym (is ∙ facts_same (weight_in es n) (entry_weight (weight_in (take i es)) e) (meaning_in es n) (entry_meaning (meaning_in (take i es)) e)
+    (sym (is ∙ facts_same (weight_in es n) (entry_weight (weight_in (take i es)) e) (meaning_in es n)
+    (entry_meaning (meaning_in (take i es)) e)
     (weight_found es i n e fs kept found) (meaning_found es i n e fs kept found)))
     (light (take i es) e (entry_may es i n e found kept.sound).sound)
 
@@ -113,15 +141,18 @@ sound_grows es n e sound may k d within =
       | inl low ↦
           let front : take k es' ≡ take k es = take-append-le k es ((n, e) ∷ []) (omega arith) in
           let item : get_or es' k d ≡ get_or es k d = get_or_append_left es ((n, e) ∷ []) d k low in
-          subst (λ (p : Pairs × (ℕ × Entry)). MayAddEntry p.0 p.1.0 p.1.1) (sym (ap (λ xs. (xs, get_or es' k d)) front ∙ ap (λ x. (take k es, x)) item)) (sound k d low)
+          subst (λ (p : Pairs × (ℕ × Entry)). MayAddEntry p.0 p.1.0 p.1.1)
+          (sym (ap (λ xs. (xs, get_or es' k d)) front ∙ ap (λ x. (take k es, x)) item)) (sound k d low)
       | inr past ↦
           let last = end_at es k n e within past in
           let front : take k es' ≡ es = ap (λ j. take j es') last ∙ take-append-le (length es) es ((n, e) ∷ []) (omega arith) ∙ whole es in
           let item : get_or es' k d ≡ (n, e) = ap (λ j. get_or es' j d) last ∙ get_or-append_seam es (n, e) [] d in
-          subst (λ (p : Pairs × (ℕ × Entry)). MayAddEntry p.0 p.1.0 p.1.1) (sym (ap (λ xs. (xs, get_or es' k d)) front ∙ ap (λ x. (es, x)) item)) may
+          subst (λ (p : Pairs × (ℕ × Entry)). MayAddEntry p.0 p.1.0 p.1.1)
+          (sym (ap (λ xs. (xs, get_or es' k d)) front ∙ ap (λ x. (es, x)) item)) may
     ]
 
-pub facts_grow : (es : Pairs) (fs : List Facts) (n : ℕ) (e : Entry) (f : Facts) → AreFactsOf es fs → f ≡ facts_of es e → AreFactsOf (es ++ (n, e) ∷ []) (fs ++ f ∷ [])
+pub facts_grow : (es : Pairs) (fs : List Facts) (n : ℕ) (e : Entry) (f : Facts) → AreFactsOf es fs → f ≡ facts_of es e
+    → AreFactsOf (es ++ (n, e) ∷ []) (fs ++ f ∷ [])
 facts_grow es fs n e f are is = record {
   many = length-append fs (f ∷ []) ∙ ap (λ k. k + 1) are.many ∙ sym (length-append es ((n, e) ∷ []));
   each = λ k d within.
@@ -133,15 +164,18 @@ facts_grow es fs n e f are is = record {
             let kept : k < length fs = omega (arith, are.many) in
             slice_get-get_or (fs ++ f ∷ []) k f (omega (arith, length-append fs (f ∷ [])))
             ∙ ap Some (get_or_append_left fs (f ∷ []) f k kept) ∙ sym (slice_get-get_or fs k f kept) ∙ are.each k d low
-            ∙ ap (λ (p : Pairs × (ℕ × Entry)). Some (facts_of p.0 p.1.1)) (sym (ap (λ xs. (xs, get_or es' k d)) front ∙ ap (λ x. (take k es, x)) item))
+            ∙ ap (λ (p : Pairs × (ℕ × Entry)). Some (facts_of p.0 p.1.1))
+            (sym (ap (λ xs. (xs, get_or es' k d)) front ∙ ap (λ x. (take k es, x)) item))
         | inr past ↦
             let last = end_at es k n e within past in
-            let front : take k es' ≡ es = ap (λ j. take j es') last ∙ take-append-le (length es) es ((n, e) ∷ []) (omega arith) ∙ whole es in
+            let front : take k es' ≡ es = ap (λ j. take j es') last ∙ take-append-le (length es) es ((n, e) ∷ []) (omega arith)
+            ∙ whole es in
             let item : get_or es' k d ≡ (n, e) = ap (λ j. get_or es' j d) last ∙ get_or-append_seam es (n, e) [] d in
             let at : k ≡ length fs = last ∙ sym are.many in
             slice_get-get_or (fs ++ f ∷ []) k f (omega (arith, length-append fs (f ∷ [])))
             ∙ ap (λ j. Some (get_or (fs ++ f ∷ []) j f)) at ∙ ap Some (get_or-append_seam fs f [] f) ∙ ap Some is
-            ∙ ap (λ (p : Pairs × (ℕ × Entry)). Some (facts_of p.0 p.1.1)) (sym (ap (λ xs. (xs, get_or es' k d)) front ∙ ap (λ x. (es, x)) item))
+            ∙ ap (λ (p : Pairs × (ℕ × Entry)). Some (facts_of p.0 p.1.1))
+            (sym (ap (λ xs. (xs, get_or es' k d)) front ∙ ap (λ x. (es, x)) item))
       ];
 }
 

@@ -1,5 +1,31 @@
 -- the boxes of the control points move with their objects
-use Rattle.std.proofs.Common.{◌≡◌, ℕ, ◌*◌, ◌<◌, Bool, true, false, ℤ, pos, ◌+ℤ◌, ◌*ℤ◌, List, [], ◌∷◌, ◌++◌, map, reverse, IsTrue, ◌↔◌, refl, sym, ap, subst, ◌∙◌, arith}
+use Rattle.std.proofs.Common.{
+  ◌≡◌,
+  ℕ,
+  ◌*◌,
+  ◌<◌,
+  Bool,
+  true,
+  false,
+  ℤ,
+  pos,
+  ◌+ℤ◌,
+  ◌*ℤ◌,
+  List,
+  [],
+  ◌∷◌,
+  ◌++◌,
+  map,
+  reverse,
+  IsTrue,
+  ◌↔◌,
+  refl,
+  sym,
+  ap,
+  subst,
+  ◌∙◌,
+  arith,
+}
 use Rattle.std.specs.Prelude.{fold}
 use Rattle.std.specs.List.{All, flat_map}
 use Rattle.std.proofs.lemmas.Bool.{false≢true}
@@ -22,14 +48,39 @@ use Rattle.cam_objects.specs.declared.item.Item.TheVariants.{One, Repeat}
 use Rattle.cam_objects.specs.declared.object.Object.{Object}
 use Rattle.cam_objects.specs.declared.object.Object.TheVariants.{Flash, Draw, Arc, Region}
 use Rattle.cam_objects.specs.Bounds.{box_of_all, moved}
-use Rattle.cam_objects.specs.Leaves.{Filled, Leaf, Meaning, arc_leaves, block_leaves, draw_leaves, flashed, leaf, meaning_in, object_leaves, origin, placed, polarity_in, shifted}
+use Rattle.cam_objects.specs.Leaves.{
+  Filled,
+  Leaf,
+  Meaning,
+  arc_leaves,
+  block_leaves,
+  draw_leaves,
+  flashed,
+  leaf,
+  meaning_in,
+  object_leaves,
+  origin,
+  placed,
+  polarity_in,
+  shifted,
+}
 use Rattle.cam_objects.specs.Machinery.Boxes.{IsNearBox}
 use Rattle.cam_objects.specs.Machinery.Facts.{points_bounds_of}
 use Rattle.cam_objects.specs.Machinery.Inside.{IsBoxOnBoard}
 use Rattle.cam_objects.specs.Machinery.Painting.{StandsOnBoard}
 use Rattle.cam_objects.specs.Shifting.{shifted_object}
 use Rattle.cam_objects.specs.Soundness.{AreOnBoard, IsInside, points_of, points_of_seg}
-use Rattle.cam_objects.proofs.BoardBoxes.{All_same, IsOrdered, board_leaves, board_of_all, board_points, near_from_board, ordered_from, ordered_point, through}
+use Rattle.cam_objects.proofs.BoardBoxes.{
+  All_same,
+  IsOrdered,
+  board_leaves,
+  board_of_all,
+  board_points,
+  near_from_board,
+  ordered_from,
+  ordered_point,
+  through,
+}
 use Rattle.cam_objects.proofs.PaintedBoxes.{board_repeat, ordered_moved}
 use Rattle.cam_objects.proofs.PlacedBoxes.{block_box_placed, object_box_placed}
 use Rattle.cam_objects.proofs.PlacedJoins.{join_moved}
@@ -43,7 +94,8 @@ pub joins_moved : {X : Type 0} (by : Point) (f : X → Bounds) (z : Bounds) (xs 
     → fold (λ all x. join_of all (moved by (f x))) (moved by z) xs ≡ moved by (fold (λ all x. join_of all (f x)) z xs)
 joins_moved by f z [] = refl
 joins_moved by f z (x ∷ xs) =
-    ap (λ first. fold (λ all x. join_of all (moved by (f x))) first xs) (sym (join_moved by z (f x))) ∙ joins_moved by f (join_of z (f x)) xs
+    ap (λ first. fold (λ all x. join_of all (moved by (f x))) first xs) (sym (join_moved by z (f x)))
+    ∙ joins_moved by f (join_of z (f x)) xs
 
 pub fold_over_map : {X Y : Type 0} (g : Bounds → Y → Bounds) (h : X → Y) (z : Bounds) (xs : List X)
     → fold g z (map h xs) ≡ fold (λ all x. g all (h x)) z xs
@@ -122,7 +174,8 @@ module _ (by : Point) where
   segs_there : (segs : List Seg) → map (placed_seg R0 origin.offset) (map (shifted_seg by) segs) ≡ map (placed_seg R0 by) segs
   segs_there [] = refl
   segs_there (Line to ∷ segs) = λ i. Line (point_there to i) ∷ segs_there segs i
-  segs_there (Curve to centre ccw ∷ segs) = λ i. Curve (point_there to i) (point_there centre i) (placed_direction R0 ccw) ∷ segs_there segs i
+  segs_there (Curve to centre ccw ∷ segs) =
+      λ i. Curve (point_there to i) (point_there centre i) (placed_direction R0 ccw) ∷ segs_there segs i
 
   module _ (means : ℕ → Meaning) where
     pub object_there : (o : Object) → object_leaves means origin (shifted_object by o) ≡ object_leaves means (shifted by.x by.y) o
@@ -130,16 +183,19 @@ module _ (by : Point) where
         λ i. (means n).flash (record { turn = (flashed origin at t dark).turn; offset = point_there at i; dark = polarity_in true dark })
     object_there (Draw n from to t dark) = λ i. draw_leaves (means n).width (point_there from i) (point_there to i) (polarity_in true dark)
     object_there (Arc n from to centre ccw dark) =
-        λ i. arc_leaves (means n).width (point_there from i) (point_there to i) (point_there centre i) (placed_direction R0 ccw) (polarity_in true dark)
+        λ i. arc_leaves (means n).width (point_there from i) (point_there to i) (point_there centre i) (placed_direction R0 ccw)
+        (polarity_in true dark)
     object_there (Region c dark) =
         λ i. leaf (Filled (record { start = point_there c.start i; segs = segs_there c.segs i })) (polarity_in true dark) ∷ []
 
-    pub block_there : (objects : List Object) → block_leaves means origin (map (shifted_object by) objects) ≡ block_leaves means (shifted by.x by.y) objects
+    pub block_there : (objects : List Object) → block_leaves means origin (map (shifted_object by) objects)
+        ≡ block_leaves means (shifted by.x by.y) objects
     block_there [] = refl
     block_there (o ∷ objects) = λ i. object_there o i ++ block_there objects i
 
   object_box : (es : List (ℕ × Entry)) (o : Object)
-      → points_bounds_of (object_leaves (meaning_in es) origin (shifted_object by o)) ≡ moved by (points_bounds_of (object_leaves (meaning_in es) origin o))
+      → points_bounds_of (object_leaves (meaning_in es) origin (shifted_object by o))
+      ≡ moved by (points_bounds_of (object_leaves (meaning_in es) origin o))
   object_box es o =
       let box = points_bounds_of (object_leaves (meaning_in es) origin o) in
       ap points_bounds_of (object_there (meaning_in es) o)
@@ -147,7 +203,8 @@ module _ (by : Point) where
       ∙ ap (moved by) (unturned box)
 
   block_box : (es : List (ℕ × Entry)) (objects : List Object)
-      → points_bounds_of (block_leaves (meaning_in es) origin (map (shifted_object by) objects)) ≡ moved by (points_bounds_of (block_leaves (meaning_in es) origin objects))
+      → points_bounds_of (block_leaves (meaning_in es) origin (map (shifted_object by) objects))
+      ≡ moved by (points_bounds_of (block_leaves (meaning_in es) origin objects))
   block_box es objects =
       let box = points_bounds_of (block_leaves (meaning_in es) origin objects) in
       ap points_bounds_of (block_there (meaning_in es) objects)

@@ -12,12 +12,32 @@ use Rattle.cam_shapes.specs.declared.segments.Seg.TheVariants.{Line, Curve}
 use Rattle.cam_objects.specs.declared.entry.Entry.{Entry}
 use Rattle.cam_objects.specs.declared.item.Item.{Item}
 use Rattle.cam_objects.specs.declared.item.Item.TheVariants.{One, Repeat}
-use Rattle.cam_objects.specs.declared.item_fault.ItemFault.TheVariants.{Malformed, UnknownAperture, UnknownTool, WrongAperture, ZeroRadius, OutOfBoard, TooMuch}
+use Rattle.cam_objects.specs.declared.item_fault.ItemFault.TheVariants.{
+  Malformed,
+  UnknownAperture,
+  UnknownTool,
+  WrongAperture,
+  ZeroRadius,
+  OutOfBoard,
+  TooMuch,
+}
 use Rattle.cam_objects.specs.declared.object.Object.{Object}
 use Rattle.cam_objects.specs.declared.object.Object.TheVariants.{Flash, Draw, Arc, Region}
 use Rattle.cam_objects.specs.Leaves.{Meaning, meaning_in}
 use Rattle.cam_objects.specs.Shifting.{shifted_item, shifted_object}
-use Rattle.cam_objects.specs.Soundness.{HasRadius, HaveRadii, IsDrawable, IsFormed, IsKnown, IsRepeated, IsSoundItem, IsWithinLimits, MeetsItem, objects_of, segs_of}
+use Rattle.cam_objects.specs.Soundness.{
+  HasRadius,
+  HaveRadii,
+  IsDrawable,
+  IsFormed,
+  IsKnown,
+  IsRepeated,
+  IsSoundItem,
+  IsWithinLimits,
+  MeetsItem,
+  objects_of,
+  segs_of,
+}
 use Rattle.cam_objects.specs.Weights.{Weight, block_count, item_count, object_count, weight_in}
 
 module _ (by : Point) where
@@ -87,7 +107,8 @@ module _ (by : Point) where
   item_count_kept w (Repeat columns rows i j objects) = ap (λ k. columns * rows * k) (block_kept w objects)
 
   -- what holds of each object moved
-  each_kept : (P : Object → Type 0) → ((o : Object) → P o → P (moves o)) → (item : Item) → All P (objects_of item) → All P (objects_of (shifted_item by item))
+  each_kept : (P : Object → Type 0) → ((o : Object) → P o → P (moves o)) → (item : Item) → All P (objects_of item)
+      → All P (objects_of (shifted_item by item))
   each_kept P kept (One o) h = All-cons P (moves o) [] (kept o (All-head P o [] h)) (All-nil P)
   each_kept P kept (Repeat columns rows i j objects) h = All-map P moves objects (All-weaker P (λ o. P (moves o)) kept objects h)
 
@@ -100,8 +121,10 @@ module _ (by : Point) where
   few_kept (Repeat columns rows i j objects) h = subst (λ k. k ≤ 1000000) (sym (length-map objects moves)) h
 
   -- an item that stays on the board stays sound
-  pub sound_kept : (es : List (ℕ × Entry)) (item : Item) → IsSoundItem es item → MeetsItem es (shifted_item by item) OutOfBoard → IsSoundItem es (shifted_item by item)
-  sound_kept es item h inside Malformed = let formed = h Malformed in (repeated_kept item formed.0, each_kept IsFormed formed_kept item formed.1)
+  pub sound_kept : (es : List (ℕ × Entry)) (item : Item) → IsSoundItem es item → MeetsItem es (shifted_item by item) OutOfBoard
+      → IsSoundItem es (shifted_item by item)
+  sound_kept es item h inside Malformed =
+      let formed = h Malformed in (repeated_kept item formed.0, each_kept IsFormed formed_kept item formed.1)
   sound_kept es item h inside UnknownAperture = each_kept (IsKnown es) (known_kept es) item (h UnknownAperture)
   sound_kept es item h inside UnknownTool = tt
   sound_kept es item h inside WrongAperture = each_kept (IsDrawable (meaning_in es)) (drawable_kept (meaning_in es)) item (h WrongAperture)

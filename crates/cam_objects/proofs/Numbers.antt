@@ -1,5 +1,32 @@
 -- what the place of a number in the dictionary says of it
-use Rattle.std.proofs.Common.{◌≡◌, ℕ, zero, suc, Bool, true, false, cond, List, [], ◌∷◌, length, take, slice_get, None, Some, IsTrue, ◌↔◌, refl, sym, ap, subst, ◌∙◌, arith, nat_eq, pos}
+use Rattle.std.proofs.Common.{
+  ◌≡◌,
+  ℕ,
+  zero,
+  suc,
+  Bool,
+  true,
+  false,
+  cond,
+  List,
+  [],
+  ◌∷◌,
+  length,
+  take,
+  slice_get,
+  None,
+  Some,
+  IsTrue,
+  ◌↔◌,
+  refl,
+  sym,
+  ap,
+  subst,
+  ◌∙◌,
+  arith,
+  nat_eq,
+  pos,
+}
 use Rattle.std.specs.List.{IsDistinct}
 use Rattle.std.specs.Map.{keys_of, lookup}
 use Rattle.std.specs.Option.{IsSome}

@@ -1,5 +1,36 @@
 -- the box of the control points of what an object or a repeat paints, and whether it lies on the board
-use Rattle.std.proofs.Common.{◌≡◌, ℕ, zero, suc, ◌-◌, ◌*◌, ◌<◌, Bool, true, false, ℤ, pos, ◌+ℤ◌, ◌*ℤ◌, ◌≤ℤ◌, List, [], ◌∷◌, reverse, Option, None, Some, IsTrue, ◌↔◌, refl, sym, ap, subst, ◌∙◌, arith}
+use Rattle.std.proofs.Common.{
+  ◌≡◌,
+  ℕ,
+  zero,
+  suc,
+  ◌-◌,
+  ◌*◌,
+  ◌<◌,
+  Bool,
+  true,
+  false,
+  ℤ,
+  pos,
+  ◌+ℤ◌,
+  ◌*ℤ◌,
+  ◌≤ℤ◌,
+  List,
+  [],
+  ◌∷◌,
+  reverse,
+  Option,
+  None,
+  Some,
+  IsTrue,
+  ◌↔◌,
+  refl,
+  sym,
+  ap,
+  subst,
+  ◌∙◌,
+  arith,
+}
 use Rattle.std.specs.List.{All}
 use Rattle.std.specs.Option.{IsSome}
 use Rattle.std.specs.Int.RustNames.{unsigned_abs}
@@ -21,7 +52,21 @@ use Rattle.cam_objects.specs.declared.object.Object.{Object}
 use Rattle.cam_objects.specs.declared.object.Object.TheVariants.{Flash, Draw, Arc, Region}
 use Rattle.cam_objects.specs.declared.placing.place.Place.{Place}
 use Rattle.cam_objects.specs.Bounds.{box_of_all, moved}
-use Rattle.cam_objects.specs.Leaves.{Filled, Leaf, Meaning, arc_leaves, block_leaves, draw_leaves, flashed, meaning_in, object_leaves, origin, placed, polarity_in, repeat_leaves}
+use Rattle.cam_objects.specs.Leaves.{
+  Filled,
+  Leaf,
+  Meaning,
+  arc_leaves,
+  block_leaves,
+  draw_leaves,
+  flashed,
+  meaning_in,
+  object_leaves,
+  origin,
+  placed,
+  polarity_in,
+  repeat_leaves,
+}
 use Rattle.cam_objects.specs.Machinery.Boxes.{IsUncrossed, placed_bounds}
 use Rattle.cam_objects.specs.Machinery.Facts.{facts_at, points_bounds_of, points_box}
 use Rattle.cam_objects.specs.Machinery.Inside.{IsBoxOnBoard, last_copy}
@@ -57,7 +102,8 @@ swept (Some w) from to centre ccw dark h =
     points_so.sweep origin from to centre ccw w ∙ placed_nowhere (box_of_points (sweep from to centre ccw w))
 
 -- what is no flash paints its own points
-pub painted_standing : (means : ℕ → Meaning) (o : Object) → ((n : ℕ) (at : Point) (t : Turn) (dark : Bool) → o ≡ Flash n at t dark → ⊥) → IsDrawable means o
+pub painted_standing : (means : ℕ → Meaning) (o : Object) → ((n : ℕ) (at : Point) (t : Turn) (dark : Bool) → o ≡ Flash n at t dark → ⊥)
+    → IsDrawable means o
     → points_bounds_of (object_leaves means origin o) ≡ box_of_all box_of_point (points_of o)
 painted_standing means (Flash n at t dark) other h = absurd (other n at t dark refl)
 painted_standing means (Draw n from to t dark) other h = drawn (means n).width from to (polarity_in true dark) h
@@ -68,7 +114,12 @@ pub inside_one : (es : List (ℕ × Entry)) (o : Object) (box : Bounds) (b : Boo
     → box ≡ points_bounds_of (object_leaves (meaning_in es) origin o) → IsTrue b ↔ IsBoxOnBoard box → IsTrue b ↔ IsInside es (One o)
 inside_one es o box b stands is told =
     let leaves = board_leaves (object_leaves (meaning_in es) origin o) in (
-      (λ h. record { points = All-cons StandsOnBoard o [] stands (All-nil StandsOnBoard); steps = tt; leaves = leaves.0 (subst IsBoxOnBoard is (told.0 h)) }),
+      (λ h. record {
+        points = All-cons StandsOnBoard o [] stands (All-nil StandsOnBoard);
+        steps = tt;
+        leaves =
+            leaves.0 (subst IsBoxOnBoard is (told.0 h));
+      }),
       (λ h. told.1 (subst IsBoxOnBoard (sym is) (leaves.1 h.leaves))),
     )
 
@@ -99,7 +150,8 @@ one_less n = omega arith
 -- a repeat lies on the board where its first copy does and its last
 pub board_repeat : (es : List (ℕ × Entry)) (columns rows : ℕ) (i j : ℤ) (objects : List Object) → 1 < columns * rows
     → let one = points_bounds_of (block_leaves (meaning_in es) origin objects) in
-    AreOnBoard (repeat_leaves (meaning_in es) columns rows i j objects) ↔ (IsBoxOnBoard one × IsBoxOnBoard (moved (last_copy columns rows i j) one))
+    AreOnBoard (repeat_leaves (meaning_in es) columns rows i j objects) ↔
+    (IsBoxOnBoard one × IsBoxOnBoard (moved (last_copy columns rows i j) one))
 board_repeat es zero rows i j objects h = absurd (omega arith)
 board_repeat es (suc columns) zero i j objects h = absurd (omega arith)
 board_repeat es (suc columns) (suc rows) i j objects h =
@@ -116,7 +168,8 @@ board_repeat es (suc columns) (suc rows) i j objects h =
       (λ k. all.0 (subst IsBoxOnBoard (sym box) (joined.1 k))),
     )
 
-pub inside_repeat : (es : List (ℕ × Entry)) (columns rows : ℕ) (i j : ℤ) (objects : List Object) (one last : Bounds) (b : Bool) → 1 < columns * rows
+pub inside_repeat : (es : List (ℕ × Entry)) (columns rows : ℕ) (i j : ℤ) (objects : List Object) (one last : Bounds) (b : Bool)
+    → 1 < columns * rows
     → All StandsOnBoard objects → (unsigned_abs i < 1000000000) × (unsigned_abs j < 1000000000)
     → one ≡ points_bounds_of (block_leaves (meaning_in es) origin objects) → IsBoxOnBoard one
     → last ≡ moved (last_copy columns rows i j) one → IsTrue b ↔ IsBoxOnBoard last
@@ -124,7 +177,12 @@ pub inside_repeat : (es : List (ℕ × Entry)) (columns rows : ℕ) (i j : ℤ) 
 inside_repeat es columns rows i j objects one last b many stands short is first far told =
     let leaves = board_repeat es columns rows i j objects many in
     let there = far ∙ ap (moved (last_copy columns rows i j)) is in (
-      (λ h. record { points = stands; steps = short; leaves = leaves.1 (subst IsBoxOnBoard is first, subst IsBoxOnBoard there (told.0 h)) }),
+      (λ h. record {
+        points = stands;
+        steps = short;
+        leaves =
+            leaves.1 (subst IsBoxOnBoard is first, subst IsBoxOnBoard there (told.0 h));
+      }),
       (λ h. told.1 (subst IsBoxOnBoard (sym there) (leaves.0 h.leaves).1)),
     )
 

@@ -1,5 +1,39 @@
 -- what is asked of a place, and of the leaves that are painted there
-use Rattle.std.proofs.Common.{◌≡◌, ℕ, zero, suc, ◌+◌, ◌^◌, ◌<◌, ◌≤◌, Bool, List, [], ◌∷◌, ◌++◌, length, take, get_or, slice_get, Option, None, Some, refl, sym, ap, subst, ◌∙◌, arith, nat_eq, zero-add, pos, cond, true, false, ℤ}
+use Rattle.std.proofs.Common.{
+  ◌≡◌,
+  ℕ,
+  zero,
+  suc,
+  ◌+◌,
+  ◌^◌,
+  ◌<◌,
+  ◌≤◌,
+  Bool,
+  List,
+  [],
+  ◌∷◌,
+  ◌++◌,
+  length,
+  take,
+  get_or,
+  slice_get,
+  Option,
+  None,
+  Some,
+  refl,
+  sym,
+  ap,
+  subst,
+  ◌∙◌,
+  arith,
+  nat_eq,
+  zero-add,
+  pos,
+  cond,
+  true,
+  false,
+  ℤ,
+}
 use Rattle.std.specs.List.{All, IsDistinct, flat_map, range_with_len}
 use Rattle.std.specs.Map.{keys_of, lookup}
 use Rattle.std.specs.Option.{IfSome, is_some}
@@ -26,7 +60,26 @@ use Rattle.cam_objects.specs.declared.entry.Entry.TheVariants.{Aperture, Block}
 use Rattle.cam_objects.specs.declared.item.Item.TheVariants.{One}
 use Rattle.cam_objects.specs.declared.item_fault.ItemFault.TheVariants.{OutOfBoard}
 use Rattle.cam_objects.specs.declared.placing.place.Place.{Place}
-use Rattle.cam_objects.specs.Leaves.{Filled, Leaf, Meaning, Stamp, Stroke, Sweep, arc_leaves, block_leaves, draw_leaves, entry_meaning, leaf, meaning_in, no_meaning, object_leaves, placed, polarity_in, shifted, solid_diameter}
+use Rattle.cam_objects.specs.Leaves.{
+  Filled,
+  Leaf,
+  Meaning,
+  Stamp,
+  Stroke,
+  Sweep,
+  arc_leaves,
+  block_leaves,
+  draw_leaves,
+  entry_meaning,
+  leaf,
+  meaning_in,
+  no_meaning,
+  object_leaves,
+  placed,
+  polarity_in,
+  shifted,
+  solid_diameter,
+}
 use Rattle.cam_objects.specs.Machinery.Painting.{IsPaintable, IsReady, StandsOnBoard, flash_leaves, meaning_before}
 use Rattle.cam_objects.specs.Soundness.{AreOnBoard, IsInside, IsSoundBlock, IsSoundDictionary, IsSoundItem, MayAddEntry, points_of_shape}
 use Rattle.cam_objects.specs.Image.{Inks, IsPainted, IsUncovered}
@@ -39,11 +92,13 @@ IsLeafOnBoard l = All IsOnBoard (points_of_shape l.shape)
 
 -- ---- what a number means
 
-pub meaning-at : (es : List (ℕ × Entry)) (i k n : ℕ) (e : Entry) → IsDistinct nat_eq (keys_of es) → slice_get es i ≡ Some (n, e) → i < k → k ≤ length es
+pub meaning-at : (es : List (ℕ × Entry)) (i k n : ℕ) (e : Entry) → IsDistinct nat_eq (keys_of es) → slice_get es i ≡ Some (n, e) → i < k
+    → k ≤ length es
     → meaning_before k es n ≡ entry_meaning (meaning_before i es) e
 meaning-at es i k n e distinct at below within = meant-at no_meaning entry_meaning es i k n e distinct at below within
 
-pub meaning-later : (es : List (ℕ × Entry)) (i k n : ℕ) (e : Entry) → IsDistinct nat_eq (keys_of es) → slice_get es i ≡ Some (n, e) → k ≤ i → meaning_before k es n ≡ no_meaning
+pub meaning-later : (es : List (ℕ × Entry)) (i k n : ℕ) (e : Entry) → IsDistinct nat_eq (keys_of es) → slice_get es i ≡ Some (n, e) → k ≤ i
+    → meaning_before k es n ≡ no_meaning
 meaning-later es i k n e distinct at later = meant-later no_meaning entry_meaning es i k n e distinct at later
 
 pub meaning-absent : (es : List (ℕ × Entry)) (k n : ℕ) → lookup (nat_eq n) es ≡ None → k ≤ length es → meaning_before k es n ≡ no_meaning
@@ -51,18 +106,21 @@ meaning-absent es k n absent within = meant-absent no_meaning entry_meaning es k
 
 -- ---- what a sound dictionary says of an entry
 
-pub entry_may : (es : List (ℕ × Entry)) (i n : ℕ) (e : Entry) → slice_get es i ≡ Some (n, e) → IsSoundDictionary es → MayAddEntry (take i es) n e
+pub entry_may : (es : List (ℕ × Entry)) (i n : ℕ) (e : Entry) → slice_get es i ≡ Some (n, e) → IsSoundDictionary es
+    → MayAddEntry (take i es) n e
 entry_may es i n e at sound =
     subst (λ (x : ℕ × Entry). MayAddEntry (take i es) x.0 x.1) (get_or_from_slice_get es i (n, e) (n, e) at)
     (sound i (n, e) (slice_get_within es i (n, e) at))
 
-pub aperture_sound : (es : List (ℕ × Entry)) (i n : ℕ) (a : Template) → slice_get es i ≡ Some (n, Aperture a) → IsSoundDictionary es → IsSoundAperture a
+pub aperture_sound : (es : List (ℕ × Entry)) (i n : ℕ) (a : Template) → slice_get es i ≡ Some (n, Aperture a) → IsSoundDictionary es
+    → IsSoundAperture a
 aperture_sound es i n a at sound = (entry_may es i n (Aperture a) at sound).sound
 
 item_stands : (es : List (ℕ × Entry)) (o : Object) → IsInside es (One o) → StandsOnBoard o
 item_stands es o h = h.points 0 o (omega arith)
 
-pub block_stands : (es : List (ℕ × Entry)) (i n : ℕ) (objects : List Object) → slice_get es i ≡ Some (n, Block objects) → IsSoundDictionary es → All StandsOnBoard objects
+pub block_stands : (es : List (ℕ × Entry)) (i n : ℕ) (objects : List Object) → slice_get es i ≡ Some (n, Block objects)
+    → IsSoundDictionary es → All StandsOnBoard objects
 block_stands es i n objects at sound =
     let block : IsSoundBlock (take i es) objects = (entry_may es i n (Block objects) at sound).sound in
     All-weaker (λ o. IsSoundItem (take i es) (One o)) StandsOnBoard (λ o h. item_stands (take i es) o (h OutOfBoard)) objects block.each
@@ -79,7 +137,8 @@ solid_size (Prims prims) h = tt
 
 -- ---- what is asked of a place
 
-pub paintable_block : (es : List (ℕ × Entry)) (upto i n : ℕ) (objects : List Object) (p : Place) (s : Spot) → IsDistinct nat_eq (keys_of es) → slice_get es i ≡ Some (n, Block objects) → i < upto
+pub paintable_block : (es : List (ℕ × Entry)) (upto i n : ℕ) (objects : List Object) (p : Place) (s : Spot) → IsDistinct nat_eq (keys_of es)
+    → slice_get es i ≡ Some (n, Block objects) → i < upto
     → IsPaintable es upto upto p s (flash_leaves upto es n p) → IsPaintable es i (i + 1) p s (block_leaves (meaning_before i es) p objects)
 paintable_block es upto i n objects p s distinct at below h = record {
   within = omega (arith, h.within);
@@ -89,11 +148,13 @@ paintable_block es upto i n objects p s distinct at below h = record {
   spot = h.spot;
 }
 
-pub paintable_stamp : (es : List (ℕ × Entry)) (upto i n : ℕ) (a : Template) (p : Place) (s : Spot) → IsDistinct nat_eq (keys_of es) → slice_get es i ≡ Some (n, Aperture a) → i < upto
+pub paintable_stamp : (es : List (ℕ × Entry)) (upto i n : ℕ) (a : Template) (p : Place) (s : Spot) → IsDistinct nat_eq (keys_of es)
+    → slice_get es i ≡ Some (n, Aperture a) → i < upto
     → IsPaintable es upto upto p s (flash_leaves upto es n p) → IsOnBoard p.offset
 paintable_stamp es upto i n a p s distinct at below h =
     let l = leaf (Stamp a p.turn p.offset) p.dark in
-    let all : AreOnBoard (l ∷ []) = subst AreOnBoard (ap (λ (m : Meaning). m.flash p) (meaning-at es i upto n (Aperture a) distinct at below h.within)) h.board in
+    let all : AreOnBoard (l ∷ []) = subst AreOnBoard
+    (ap (λ (m : Meaning). m.flash p) (meaning-at es i upto n (Aperture a) distinct at below h.within)) h.board in
     all 0 l (omega arith) 0 p.offset (omega arith)
 
 -- what holds of all pieces holds of each
@@ -105,16 +166,20 @@ pub All_right : {X : Type 0} (P : X → Type 0) (xs ys : List X) → All P (xs +
 All_right P [] ys h = h
 All_right P (x ∷ xs) ys h = All_right P xs ys (All-tail P x (xs ++ ys) h)
 
-All_piece : {X Y : Type 0} (P : Y → Type 0) (f : X → List Y) (xs : List X) (i : ℕ) (d : X) → i < length xs → All P (flat_map f xs) → All P (f (get_or xs i d))
+All_piece : {X Y : Type 0} (P : Y → Type 0) (f : X → List Y) (xs : List X) (i : ℕ) (d : X) → i < length xs → All P (flat_map f xs)
+    → All P (f (get_or xs i d))
 All_piece P f [] i d h all = absurd (omega arith)
 All_piece P f (x ∷ xs) zero d h all = All_left P (f x) (flat_map f xs) all
 All_piece P f (x ∷ xs) (suc i) d h all = All_piece P f xs i d (omega arith) (All_right P (f x) (flat_map f xs) all)
 
-pub board_piece : {X : Type 0} (f : X → List Leaf) (xs : List X) (i : ℕ) (x : X) → i < length xs → x ≡ get_or xs i x → AreOnBoard (flat_map f xs) → AreOnBoard (f x)
+pub board_piece : {X : Type 0} (f : X → List Leaf) (xs : List X) (i : ℕ) (x : X) → i < length xs → x ≡ get_or xs i x
+    → AreOnBoard (flat_map f xs) → AreOnBoard (f x)
 board_piece f xs i x h e all = subst (λ y. AreOnBoard (f y)) (sym e) (All_piece IsLeafOnBoard f xs i x h all)
 
-pub paintable_object : (es : List (ℕ × Entry)) (upto m i : ℕ) (objects : List Object) (x : Object) (p : Place) (s : Spot) → i < length objects → x ≡ get_or objects i x
-    → IsPaintable es upto m p s (block_leaves (meaning_before upto es) p objects) → IsPaintable es upto m p s (object_leaves (meaning_before upto es) p x)
+pub paintable_object : (es : List (ℕ × Entry)) (upto m i : ℕ) (objects : List Object) (x : Object) (p : Place) (s : Spot)
+    → i < length objects → x ≡ get_or objects i x
+    → IsPaintable es upto m p s (block_leaves (meaning_before upto es) p objects)
+    → IsPaintable es upto m p s (object_leaves (meaning_before upto es) p x)
 paintable_object es upto m i objects x p s h e ready = record {
   within = ready.within;
   sound = ready.sound;
@@ -123,7 +188,8 @@ paintable_object es upto m i objects x p s h e ready = record {
   spot = ready.spot;
 }
 
-pub stands_at : (objects : List Object) (i : ℕ) (x : Object) → i < length objects → x ≡ get_or objects i x → All StandsOnBoard objects → StandsOnBoard x
+pub stands_at : (objects : List Object) (i : ℕ) (x : Object) → i < length objects → x ≡ get_or objects i x → All StandsOnBoard objects
+    → StandsOnBoard x
 stands_at objects i x h e all = subst StandsOnBoard (sym e) (all i x h)
 
 -- ---- what comes to lie on the board
@@ -133,7 +199,8 @@ pub drawn_points : (means : ℕ → Meaning) (p : Place) (n : ℕ) (from to : Po
     → IsPlaceablePoint p.turn p.offset from × IsPlaceablePoint p.turn p.offset to
 drawn_points means p n from to t dark w e stands board =
     let l = leaf (Stroke (record { from = placed p from; to = placed p to; width = w })) (polarity_in p.dark dark) in
-    let all : AreOnBoard (l ∷ []) = subst (λ (o : Option Nm). AreOnBoard (draw_leaves o (placed p from) (placed p to) (polarity_in p.dark dark))) (sym e) board in (
+    let all : AreOnBoard (l ∷ []) = subst (λ (o : Option Nm). AreOnBoard
+    (draw_leaves o (placed p from) (placed p to) (polarity_in p.dark dark))) (sym e) board in (
       record { here = stands 0 from (omega arith); there = all 0 l (omega arith) 0 from (omega arith) },
       record { here = stands 1 from (omega arith); there = all 0 l (omega arith) 1 from (omega arith) },
     )
@@ -142,8 +209,17 @@ pub swept_points : (means : ℕ → Meaning) (p : Place) (n : ℕ) (from to cent
     → StandsOnBoard (Arc n from to centre ccw dark) → AreOnBoard (object_leaves means p (Arc n from to centre ccw dark))
     → IsPlaceablePoint p.turn p.offset from × IsPlaceablePoint p.turn p.offset to × IsPlaceablePoint p.turn p.offset centre
 swept_points means p n from to centre ccw dark w e stands board =
-    let l = leaf (Sweep (record { from = placed p from; to = placed p to; centre = placed p centre; ccw = placed_direction p.turn ccw; width = w })) (polarity_in p.dark dark) in
-    let all : AreOnBoard (l ∷ []) = subst (λ (o : Option Nm). AreOnBoard (arc_leaves o (placed p from) (placed p to) (placed p centre) (placed_direction p.turn ccw) (polarity_in p.dark dark))) (sym e) board in (
+    let l = leaf (Sweep (record {
+      from = placed p from;
+      to = placed p to;
+      centre = placed p centre;
+      ccw = placed_direction p.turn ccw;
+      width
+          = w;
+    })) (polarity_in p.dark dark) in
+    let all : AreOnBoard (l ∷ []) = subst (λ (o : Option Nm). AreOnBoard
+    (arc_leaves o (placed p from) (placed p to) (placed p centre) (placed_direction p.turn ccw) (polarity_in p.dark dark)))
+    (sym e) board in (
       record { here = stands 0 from (omega arith); there = all 0 l (omega arith) 0 from (omega arith) },
       record { here = stands 1 from (omega arith); there = all 0 l (omega arith) 1 from (omega arith) },
       record { here = stands 2 from (omega arith); there = all 0 l (omega arith) 2 from (omega arith) },
@@ -166,21 +242,24 @@ pub at_range : (i n : ℕ) → i < n → i ≡ get_or (range_with_len 0 n) i i
 at_range i n h = sym (get_or-range_with_len 0 n i i h ∙ zero-add i)
 
 -- the copy at i paints the place
-pub copy_decided : (s : Spot) (f : ℕ → List Leaf) (i j : ℕ) (dark : Bool) → i + 1 ≡ j → IsPainted (f i) s dark → IsPainted (flat_map f (range_with_len 0 j)) s dark
+pub copy_decided : (s : Spot) (f : ℕ → List Leaf) (i j : ℕ) (dark : Bool) → i + 1 ≡ j → IsPainted (f i) s dark
+    → IsPainted (flat_map f (range_with_len 0 j)) s dark
 copy_decided s f i j dark one on =
     let len = length-range_with_len 0 j in
     subst (λ xs. IsPainted (flat_map f xs) s dark) (take-range j j 0 (omega arith))
     (decided s f (range_with_len 0 j) i j i dark (omega arith) one (at_range i j (omega arith)) on)
 
 -- it does not cover the place, and those before it decide
-pub copy_undecided : (s : Spot) (f : ℕ → List Leaf) (i j : ℕ) (ink : Option Bool) → i + 1 ≡ j → IsUncovered (f i) s → Inks (flat_map f (range_with_len 0 i)) s ink → Inks (flat_map f (range_with_len 0 j)) s ink
+pub copy_undecided : (s : Spot) (f : ℕ → List Leaf) (i j : ℕ) (ink : Option Bool) → i + 1 ≡ j → IsUncovered (f i) s
+    → Inks (flat_map f (range_with_len 0 i)) s ink → Inks (flat_map f (range_with_len 0 j)) s ink
 copy_undecided s f i j ink one off front =
     let len = length-range_with_len 0 j in
     subst (λ xs. Inks (flat_map f xs) s ink) (take-range j j 0 (omega arith))
     (undecided s f (range_with_len 0 j) i j i ink (omega arith) one (at_range i j (omega arith)) off
     (subst (λ xs. Inks (flat_map f xs) s ink) (sym (take-range i j 0 (omega arith))) front))
 
-pub ready_piece : {X : Type 0} (es : List (ℕ × Entry)) (s : Spot) (f : X → List Leaf) (xs : List X) (i : ℕ) (x : X) → i < length xs → x ≡ get_or xs i x → IsReady es s (flat_map f xs) → IsReady es s (f x)
+pub ready_piece : {X : Type 0} (es : List (ℕ × Entry)) (s : Spot) (f : X → List Leaf) (xs : List X) (i : ℕ) (x : X) → i < length xs
+    → x ≡ get_or xs i x → IsReady es s (flat_map f xs) → IsReady es s (f x)
 ready_piece es s f xs i x h e ready = record {
   few = ready.few;
   sound = ready.sound;
@@ -188,12 +267,14 @@ ready_piece es s f xs i x h e ready = record {
   spot = ready.spot;
 }
 
-pub ready_copy : (es : List (ℕ × Entry)) (s : Spot) (f : ℕ → List Leaf) (n i : ℕ) → i < n → IsReady es s (flat_map f (range_with_len 0 n)) → IsReady es s (f i)
+pub ready_copy : (es : List (ℕ × Entry)) (s : Spot) (f : ℕ → List Leaf) (n i : ℕ) → i < n → IsReady es s (flat_map f (range_with_len 0 n))
+    → IsReady es s (f i)
 ready_copy es s f n i h ready =
     let len = length-range_with_len 0 n in
     ready_piece es s f (range_with_len 0 n) i i (omega arith) (at_range i n h) ready
 
-paintable_copy : (es : List (ℕ × Entry)) (k : ℕ) (s : Spot) (dx dy : ℤ) (leaves : List Leaf) → k ≡ length es → unsigned_abs dx < 2 ^ 53 → unsigned_abs dy < 2 ^ 53 → IsReady es s leaves → IsPaintable es k (k + 1) (shifted dx dy) s leaves
+paintable_copy : (es : List (ℕ × Entry)) (k : ℕ) (s : Spot) (dx dy : ℤ) (leaves : List Leaf) → k ≡ length es → unsigned_abs dx < 2 ^ 53
+    → unsigned_abs dy < 2 ^ 53 → IsReady es s leaves → IsPaintable es k (k + 1) (shifted dx dy) s leaves
 paintable_copy es k s dx dy leaves e x y ready = record {
   within = omega arith;
   sound = ready.sound;
@@ -215,6 +296,7 @@ paintable_whole es k s dx dy p leaves all place x y ready =
     (subst (λ means. IsPaintable es k (k + 1) (shifted dx dy) s (leaves means (shifted dx dy))) (sym (meaning_whole es k all))
     (paintable_copy es k s dx dy (leaves (meaning_in es) (shifted dx dy)) all x y ready))
 
-pub copy_inked : (s : Spot) (f : ℕ → List Leaf) (i j : ℕ) (ink : Option Bool) → i + 1 ≡ j → is_some ink ≡ true → Inks (f i) s ink → Inks (flat_map f (range_with_len 0 j)) s ink
+pub copy_inked : (s : Spot) (f : ℕ → List Leaf) (i j : ℕ) (ink : Option Bool) → i + 1 ≡ j → is_some ink ≡ true → Inks (f i) s ink
+    → Inks (flat_map f (range_with_len 0 j)) s ink
 copy_inked s f i j None one some inks = cc
 copy_inked s f i j (Some dark) one some inks = copy_decided s f i j dark one inks

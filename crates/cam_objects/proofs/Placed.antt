@@ -37,15 +37,19 @@ turned_on_board M270 p h = record { x = omega (arith, ints); y = omega (arith, i
 
 -- ---- the reach of a place
 
-reach_sum : (n : ℕ) (a b : ℤ) → unsigned_abs a < 1000000000 → unsigned_abs b + (n + 1) * 1000000000 < 4400000000000000000 → unsigned_abs (a +ℤ b) + n * 1000000000 < 4400000000000000000
+reach_sum : (n : ℕ) (a b : ℤ) → unsigned_abs a < 1000000000 → unsigned_abs b + (n + 1) * 1000000000 < 4400000000000000000
+    → unsigned_abs (a +ℤ b) + n * 1000000000 < 4400000000000000000
 reach_sum n a b h r = omega (arith, ints)
 
 -- a flash takes one placement of the reach
-pub reach_flashed : (n : ℕ) (p : Place) (at : Point) (t : Turn) (dark : Bool) → IsOnBoard at → HasReach (n + 1) p → HasReach n (flashed p at t dark)
+pub reach_flashed : (n : ℕ) (p : Place) (at : Point) (t : Turn) (dark : Bool) → IsOnBoard at → HasReach (n + 1) p
+    → HasReach n (flashed p at t dark)
 unfolding HasReach
 reach_flashed n p at t dark h reach =
-    let q = turned_on_board p.turn at h in
-    (reach_sum n (applied (matrix_of p.turn) at).x p.offset.x q.x reach.0, reach_sum n (applied (matrix_of p.turn) at).y p.offset.y q.y reach.1)
+    let q = turned_on_board p.turn at h in (
+      reach_sum n (applied (matrix_of p.turn) at).x p.offset.x q.x reach.0,
+      reach_sum n (applied (matrix_of p.turn) at).y p.offset.y q.y reach.1,
+    )
 
 pub reach_less : (m n : ℕ) (p : Place) → m ≤ n → HasReach n p → HasReach m p
 unfolding HasReach
@@ -59,7 +63,8 @@ pub reach_box : (n : ℕ) (p : Place) → HasReach n p → IsBoxOffset p.offset
 unfolding HasReach
 reach_box n p reach = record { x = omega arith; y = omega arith }
 
-pub reach_shifted : (n : ℕ) (dx dy : ℤ) → n ≤ 2 ^ 31 → unsigned_abs dx < 2 ^ 53 → unsigned_abs dy < 2 ^ 53 → HasReach (n + 1) (shifted dx dy)
+pub reach_shifted : (n : ℕ) (dx dy : ℤ) → n ≤ 2 ^ 31 → unsigned_abs dx < 2 ^ 53 → unsigned_abs dy < 2 ^ 53
+    → HasReach (n + 1) (shifted dx dy)
 unfolding HasReach
 reach_shifted n dx dy h x y = (omega arith, omega arith)
 
@@ -71,25 +76,33 @@ flashed_box at t dark h =
 
 -- ---- contours that stand on the board, and are placed on it
 
-placeable_segs : (t : Turn) (o : Point) (segs : List Seg) → All IsOnBoard (flat_map points_of_seg segs) → All IsOnBoard (flat_map points_of_seg (map (placed_seg t o) segs)) → All (IsPlaceableSeg t o) segs
+placeable_segs : (t : Turn) (o : Point) (segs : List Seg) → All IsOnBoard (flat_map points_of_seg segs)
+    → All IsOnBoard (flat_map points_of_seg (map (placed_seg t o) segs)) → All (IsPlaceableSeg t o) segs
 placeable_segs t o [] h k = All-nil (IsPlaceableSeg t o)
 placeable_segs t o (Line to ∷ segs) h k =
     let here : IsOnBoard to = All-head IsOnBoard to (flat_map points_of_seg segs) h in
-    let there : IsOnBoard (placed_point t o to) = All-head IsOnBoard (placed_point t o to) (flat_map points_of_seg (map (placed_seg t o) segs)) k in
+    let there : IsOnBoard (placed_point t o to) = All-head IsOnBoard (placed_point t o to)
+    (flat_map points_of_seg (map (placed_seg t o) segs)) k in
     All-cons (IsPlaceableSeg t o) (Line to) segs (record { here = here; there = there })
-    (placeable_segs t o segs (All-tail IsOnBoard to (flat_map points_of_seg segs) h) (All-tail IsOnBoard (placed_point t o to) (flat_map points_of_seg (map (placed_seg t o) segs)) k))
+    (placeable_segs t o segs (All-tail IsOnBoard to (flat_map points_of_seg segs) h)
+    (All-tail IsOnBoard (placed_point t o to) (flat_map points_of_seg (map (placed_seg t o) segs)) k))
 placeable_segs t o (Curve to centre ccw ∷ segs) h k =
     let rest = flat_map points_of_seg segs in
     let rest' = flat_map points_of_seg (map (placed_seg t o) segs) in
     let h' = All-tail IsOnBoard to (centre ∷ rest) h in
     let k' = All-tail IsOnBoard (placed_point t o to) (placed_point t o centre ∷ rest') k in
     All-cons (IsPlaceableSeg t o) (Curve to centre ccw) segs (
-      record { here = All-head IsOnBoard to (centre ∷ rest) h; there = All-head IsOnBoard (placed_point t o to) (placed_point t o centre ∷ rest') k },
+      record {
+        here = All-head IsOnBoard to (centre ∷ rest) h;
+        there =
+            All-head IsOnBoard (placed_point t o to) (placed_point t o centre ∷ rest') k;
+      },
       record { here = All-head IsOnBoard centre rest h'; there = All-head IsOnBoard (placed_point t o centre) rest' k' },
     )
     (placeable_segs t o segs (All-tail IsOnBoard centre rest h') (All-tail IsOnBoard (placed_point t o centre) rest' k'))
 
-pub placeable : (t : Turn) (o : Point) (c : Contour) → IsShiftable o → All IsOnBoard (points_of_contour c) → All IsOnBoard (points_of_contour (placed_contour t o c)) → IsPlaceable t o c
+pub placeable : (t : Turn) (o : Point) (c : Contour) → IsShiftable o → All IsOnBoard (points_of_contour c)
+    → All IsOnBoard (points_of_contour (placed_contour t o c)) → IsPlaceable t o c
 placeable t o c offset h k = record {
   start = record {
     here = All-head IsOnBoard c.start (flat_map points_of_seg c.segs) h;

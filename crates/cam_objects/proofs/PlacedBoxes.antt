@@ -17,7 +17,21 @@ use Rattle.cam_objects.specs.declared.entry.Entry.{Entry}
 use Rattle.cam_objects.specs.declared.entry.Entry.TheVariants.{Aperture, Block}
 use Rattle.cam_objects.specs.declared.placing.place.Place.{Place}
 use Rattle.cam_objects.specs.Bounds.{box_of_all}
-use Rattle.cam_objects.specs.Leaves.{Leaf, Meaning, Shape, arc_leaves, block_leaves, draw_leaves, entry_meaning, flashed, meaning, object_leaves, origin, placed, polarity_in}
+use Rattle.cam_objects.specs.Leaves.{
+  Leaf,
+  Meaning,
+  Shape,
+  arc_leaves,
+  block_leaves,
+  draw_leaves,
+  entry_meaning,
+  flashed,
+  meaning,
+  object_leaves,
+  origin,
+  placed,
+  polarity_in,
+}
 use Rattle.cam_objects.specs.Machinery.Boxes.{placed_bounds}
 use Rattle.cam_objects.proofs.PlacedJoins.{joins_placed, placed_flashed, placed_nowhere}
 use Rattle.cam_objects.proofs.PlacedShapes.{IsPlacedSo, stroke, sweep}
@@ -54,18 +68,22 @@ module _ (m : Shape → Bounds) where
         → IsPlacedWith (λ p. draw_leaves w (placed p from) (placed p to) (polarity_in p.dark dark))
     draws_placed None from to dark p = refl
     draws_placed (Some w) from to dark p =
-        from_origin p (m (stroke (placed p from) (placed p to) w)) (m (stroke (placed origin from) (placed origin to) w)) (m (stroke from to w))
+        from_origin p (m (stroke (placed p from) (placed p to) w)) (m (stroke (placed origin from) (placed origin to) w))
+        (m (stroke from to w))
         (law.stroke p from to w) (law.stroke origin from to w)
 
     arcs_placed : (w : Option Nm) (from to centre : Point) (ccw dark : Bool)
-        → IsPlacedWith (λ p. arc_leaves w (placed p from) (placed p to) (placed p centre) (placed_direction p.turn ccw) (polarity_in p.dark dark))
+        → IsPlacedWith (λ p. arc_leaves w (placed p from) (placed p to) (placed p centre) (placed_direction p.turn ccw)
+        (polarity_in p.dark dark))
     arcs_placed None from to centre ccw dark p = refl
     arcs_placed (Some w) from to centre ccw dark p =
         from_origin p (m (sweep (placed p from) (placed p to) (placed p centre) (placed_direction p.turn ccw) w))
-        (m (sweep (placed origin from) (placed origin to) (placed origin centre) (placed_direction origin.turn ccw) w)) (m (sweep from to centre ccw w))
+        (m (sweep (placed origin from) (placed origin to) (placed origin centre) (placed_direction origin.turn ccw) w))
+        (m (sweep from to centre ccw w))
         (law.sweep p from to centre ccw w) (law.sweep origin from to centre ccw w)
 
-    flash_of_placed : (flash : Place → List Leaf) (at : Point) (t : Turn) (dark : Bool) → IsPlacedWith flash → IsPlacedWith (λ p. flash (flashed p at t dark))
+    flash_of_placed : (flash : Place → List Leaf) (at : Point) (t : Turn) (dark : Bool) → IsPlacedWith flash
+        → IsPlacedWith (λ p. flash (flashed p at t dark))
     flash_of_placed flash at t dark so p =
         let bs = boxes_of (flash origin) in
         so (flashed p at t dark)
@@ -115,4 +133,5 @@ module _ (m : Shape → Bounds) where
 
     pub block_box_placed : (es : List (ℕ × Entry)) (objects : List Object) (p : Place)
         → box_of_leaves (block_leaves (meaning es) p objects) ≡ placed_bounds p (box_of_leaves (block_leaves (meaning es) origin objects))
-    block_box_placed es objects = all_placed (λ p. block_leaves (meaning es) p objects) (block_placed (meaning es) (meaning_placed es) objects)
+    block_box_placed es objects =
+        all_placed (λ p. block_leaves (meaning es) p objects) (block_placed (meaning es) (meaning_placed es) objects)

@@ -1,5 +1,28 @@
 -- boxes that are turned and moved, one after the other
-use Rattle.std.proofs.Common.{◌≡◌, ◌^◌, ◌<◌, Bool, true, false, cond, ◌||◌, ℤ, pos, neg_ℤ, ◌+ℤ◌, ◌*ℤ◌, List, [], ◌∷◌, map, refl, ap, sym, ◌∙◌, arith}
+use Rattle.std.proofs.Common.{
+  ◌≡◌,
+  ◌^◌,
+  ◌<◌,
+  Bool,
+  true,
+  false,
+  cond,
+  ◌||◌,
+  ℤ,
+  pos,
+  neg_ℤ,
+  ◌+ℤ◌,
+  ◌*ℤ◌,
+  List,
+  [],
+  ◌∷◌,
+  map,
+  refl,
+  ap,
+  sym,
+  ◌∙◌,
+  arith,
+}
 use Rattle.std.specs.Prelude.{fold}
 use Rattle.std.specs.Int.{int_min, int_max}
 use Rattle.std.specs.Int.RustNames.{int_lt, unsigned_abs}
@@ -131,10 +154,12 @@ turned_twice R90 M180 (Closed low high) = refl
 turned_twice R90 M270 (Closed low high) = refl
 turned_twice R180 R0 (Closed low high) = refl
 turned_twice R180 R90 (Closed low high) = same_box _ _ _ _ _ _ _ _ (minus_twice low.y) refl (minus_twice high.y) refl
-turned_twice R180 R180 (Closed low high) = same_box _ _ _ _ _ _ _ _ (minus_twice low.x) (minus_twice low.y) (minus_twice high.x) (minus_twice high.y)
+turned_twice R180 R180 (Closed low high) =
+    same_box _ _ _ _ _ _ _ _ (minus_twice low.x) (minus_twice low.y) (minus_twice high.x) (minus_twice high.y)
 turned_twice R180 R270 (Closed low high) = same_box _ _ _ _ _ _ _ _ refl (minus_twice low.x) refl (minus_twice high.x)
 turned_twice R180 M0 (Closed low high) = same_box _ _ _ _ _ _ _ _ (minus_twice low.x) refl (minus_twice high.x) refl
-turned_twice R180 M90 (Closed low high) = same_box _ _ _ _ _ _ _ _ (minus_twice low.y) (minus_twice low.x) (minus_twice high.y) (minus_twice high.x)
+turned_twice R180 M90 (Closed low high) =
+    same_box _ _ _ _ _ _ _ _ (minus_twice low.y) (minus_twice low.x) (minus_twice high.y) (minus_twice high.x)
 turned_twice R180 M180 (Closed low high) = same_box _ _ _ _ _ _ _ _ refl (minus_twice low.y) refl (minus_twice high.y)
 turned_twice R180 M270 (Closed low high) = refl
 turned_twice R270 R0 (Closed low high) = refl
@@ -155,10 +180,12 @@ turned_twice M0 M180 (Closed low high) = refl
 turned_twice M0 M270 (Closed low high) = refl
 turned_twice M90 R0 (Closed low high) = refl
 turned_twice M90 R90 (Closed low high) = same_box _ _ _ _ _ _ _ _ (minus_twice low.x) refl (minus_twice high.x) refl
-turned_twice M90 R180 (Closed low high) = same_box _ _ _ _ _ _ _ _ (minus_twice low.y) (minus_twice low.x) (minus_twice high.y) (minus_twice high.x)
+turned_twice M90 R180 (Closed low high) =
+    same_box _ _ _ _ _ _ _ _ (minus_twice low.y) (minus_twice low.x) (minus_twice high.y) (minus_twice high.x)
 turned_twice M90 R270 (Closed low high) = same_box _ _ _ _ _ _ _ _ refl (minus_twice low.y) refl (minus_twice high.y)
 turned_twice M90 M0 (Closed low high) = same_box _ _ _ _ _ _ _ _ (minus_twice low.y) refl (minus_twice high.y) refl
-turned_twice M90 M90 (Closed low high) = same_box _ _ _ _ _ _ _ _ (minus_twice low.x) (minus_twice low.y) (minus_twice high.x) (minus_twice high.y)
+turned_twice M90 M90 (Closed low high) =
+    same_box _ _ _ _ _ _ _ _ (minus_twice low.x) (minus_twice low.y) (minus_twice high.x) (minus_twice high.y)
 turned_twice M90 M180 (Closed low high) = same_box _ _ _ _ _ _ _ _ refl (minus_twice low.x) refl (minus_twice high.x)
 turned_twice M90 M270 (Closed low high) = refl
 turned_twice M180 R0 (Closed low high) = refl
@@ -226,10 +253,12 @@ pub near_turned : (t : Turn) (b : Bounds) → IsNearBox b → IsNearBox (turned_
 near_turned t Empty h = tt
 near_turned R0 (Closed low high) h = h
 near_turned R90 (Closed low high) h = (record { x = minus_near high.y h.1.y; y = h.0.x }, record { x = minus_near low.y h.0.y; y = h.1.x })
-near_turned R180 (Closed low high) h = (record { x = minus_near high.x h.1.x; y = minus_near high.y h.1.y }, record { x = minus_near low.x h.0.x; y = minus_near low.y h.0.y })
+near_turned R180 (Closed low high) h =
+    (record { x = minus_near high.x h.1.x; y = minus_near high.y h.1.y }, record { x = minus_near low.x h.0.x; y = minus_near low.y h.0.y })
 near_turned R270 (Closed low high) h = (record { x = h.0.y; y = minus_near high.x h.1.x }, record { x = h.1.y; y = minus_near low.x h.0.x })
 near_turned M0 (Closed low high) h = (record { x = minus_near high.x h.1.x; y = h.0.y }, record { x = minus_near low.x h.0.x; y = h.1.y })
-near_turned M90 (Closed low high) h = (record { x = minus_near high.y h.1.y; y = minus_near high.x h.1.x }, record { x = minus_near low.y h.0.y; y = minus_near low.x h.0.x })
+near_turned M90 (Closed low high) h =
+    (record { x = minus_near high.y h.1.y; y = minus_near high.x h.1.x }, record { x = minus_near low.y h.0.y; y = minus_near low.x h.0.x })
 near_turned M180 (Closed low high) h = (record { x = h.0.x; y = minus_near high.y h.1.y }, record { x = h.1.x; y = minus_near low.y h.0.y })
 near_turned M270 (Closed low high) h = (record { x = h.0.y; y = h.0.x }, record { x = h.1.y; y = h.1.x })
 

@@ -47,7 +47,8 @@ pub record IsPlacedSo (m : Shape → Bounds) : Type 0 where
   pub stamp : (p : Place) (a : Template) → m (Stamp a p.turn p.offset) ≡ placed_bounds p (m (Stamp a R0 nowhere))
   pub stroke : (p : Place) (from to : Point) (w : Nm) → m (stroke (placed p from) (placed p to) w) ≡ placed_bounds p (m (stroke from to w))
   pub sweep : (p : Place) (from to centre : Point) (ccw : Bool) (w : Nm)
-      → m (sweep (placed p from) (placed p to) (placed p centre) (placed_direction p.turn ccw) w) ≡ placed_bounds p (m (sweep from to centre ccw w))
+      → m (sweep (placed p from) (placed p to) (placed p centre) (placed_direction p.turn ccw) w)
+      ≡ placed_bounds p (m (sweep from to centre ccw w))
   pub filled : (p : Place) (c : Contour) → m (Filled (placed_contour p.turn p.offset c)) ≡ placed_bounds p (m (Filled c))
 
 -- ---- points
@@ -64,7 +65,8 @@ point_placed p q = point_moved p.offset (applied (matrix_of p.turn) q) ∙ ap (m
 points_placed : (p : Place) (ps : List Point) → box_of_all box_of_point (map (placed p) ps) ≡ placed_bounds p (box_of_all box_of_point ps)
 points_placed p ps = joins_placed p box_of_point box_of_point (placed p) (point_placed p) Empty ps
 
-contour_points : (p : Place) (segs : List Seg) → flat_map points_of_seg (map (placed_seg p.turn p.offset) segs) ≡ map (placed p) (flat_map points_of_seg segs)
+contour_points : (p : Place) (segs : List Seg) → flat_map points_of_seg (map (placed_seg p.turn p.offset) segs)
+    ≡ map (placed p) (flat_map points_of_seg segs)
 contour_points p [] = refl
 contour_points p (Line to ∷ segs) = ap (λ ps. placed p to ∷ ps) (contour_points p segs)
 contour_points p (Curve to centre ccw ∷ segs) = ap (λ ps. placed p to ∷ placed p centre ∷ ps) (contour_points p segs)
@@ -106,7 +108,8 @@ less_moved a b h = omega (arith, ints)
 more_moved : (a b h : ℤ) → pos 2 *ℤ (a +ℤ b) +ℤ h ≡ pos 2 *ℤ a +ℤ h +ℤ pos 2 *ℤ b
 more_moved a b h = omega (arith, ints)
 
-pub about_moved : (o c : Point) (h : ℤ) → box_about (place_of (record { x = c.x +ℤ o.x; y = c.y +ℤ o.y })) h h ≡ moved o (box_about (place_of c) h h)
+pub about_moved : (o c : Point) (h : ℤ) → box_about (place_of (record { x = c.x +ℤ o.x; y = c.y +ℤ o.y })) h h
+    ≡ moved o (box_about (place_of c) h h)
 about_moved o c h = same_box _ _ _ _ _ _ _ _ (less_moved c.x o.x h) (less_moved c.y o.y h) (more_moved c.x o.x h) (more_moved c.y o.y h)
 
 about_placed : (p : Place) (c : Point) (h : ℤ) → box_about (place_of (placed p c)) h h ≡ placed_bounds p (box_about (place_of c) h h)
@@ -115,7 +118,8 @@ about_placed p c h =
 
 pub widened_moved : (w : ℤ) (o : Point) (b : Bounds) → widened w (moved o b) ≡ moved o (widened w b)
 widened_moved w o Empty = refl
-widened_moved w o (Closed low high) = same_box _ _ _ _ _ _ _ _ (omega (arith, ints)) (omega (arith, ints)) (omega (arith, ints)) (omega (arith, ints))
+widened_moved w o (Closed low high) =
+    same_box _ _ _ _ _ _ _ _ (omega (arith, ints)) (omega (arith, ints)) (omega (arith, ints)) (omega (arith, ints))
 
 -- an edge that is turned
 less_turned : (z w : ℤ) → neg_ℤ z -ℤ w ≡ neg_ℤ (z +ℤ w)
@@ -172,7 +176,8 @@ against_x o p q = omega (arith, ints)
 against_y : (o : ℤ) (p q : Point) → unsigned_abs (turned_way (pos 0) minus o p q) ≡ unsigned_abs (way p q).y
 against_y o p q = omega (arith, ints)
 
-same_way : (t : Turn) (o p q : Point) → dot (way (placed_point t o p) (placed_point t o q)) (way (placed_point t o p) (placed_point t o q)) ≡ dot (way p q) (way p q)
+same_way : (t : Turn) (o p q : Point) → dot (way (placed_point t o p) (placed_point t o q)) (way (placed_point t o p) (placed_point t o q))
+    ≡ dot (way p q) (way p q)
 same_way R0 o p q = straight (way p q).x (way p q).y _ _ (along_x o.x p q) (along_y o.y p q)
 same_way R90 o p q = crosswise (way p q).x (way p q).y _ _ (against_y o.x p q) (along_x o.y p q)
 same_way R180 o p q = straight (way p q).x (way p q).y _ _ (against_x o.x p q) (against_y o.y p q)
@@ -182,9 +187,11 @@ same_way M90 o p q = crosswise (way p q).x (way p q).y _ _ (against_y o.x p q) (
 same_way M180 o p q = straight (way p q).x (way p q).y _ _ (along_x o.x p q) (against_y o.y p q)
 same_way M270 o p q = crosswise (way p q).x (way p q).y _ _ (along_y o.x p q) (along_x o.y p q)
 
-pub circle_placed : (p : Place) (centre from : Point) → circle_square (placed p centre) (placed p from) ≡ placed_bounds p (circle_square centre from)
+pub circle_placed : (p : Place) (centre from : Point)
+    → circle_square (placed p centre) (placed p from) ≡ placed_bounds p (circle_square centre from)
 circle_placed p centre from =
-    ap (λ d. let half = pos (root (unsigned_abs d) + 1) in box_about (place_of (placed p centre)) half half) (same_way p.turn p.offset centre from)
+    ap (λ d. let half = pos (root (unsigned_abs d) + 1) in box_about (place_of (placed p centre)) half half)
+    (same_way p.turn p.offset centre from)
     ∙ about_placed p centre (pos (root (unsigned_abs (dot (way centre from) (way centre from))) + 1))
 
 ends_placed : (p : Place) (segs : List Seg) → map end_of (map (placed_seg p.turn p.offset) segs) ≡ map (placed p) (map end_of segs)
@@ -205,7 +212,8 @@ caps_placed p z here (Curve to centre ccw ∷ segs) =
 contour_placed : (p : Place) (c : Contour) → box_of_contour (placed_contour p.turn p.offset c) ≡ placed_bounds p (box_of_contour c)
 contour_placed p c =
     let caps = caps_placed p Empty c.start c.segs in
-    ap (λ ps. join_of (box_of_all box_of_point (placed p c.start ∷ ps)) (box_of_all box_of_cap (caps_of (placed_contour p.turn p.offset c)))) (ends_placed p c.segs)
+    ap (λ ps. join_of (box_of_all box_of_point (placed p c.start ∷ ps))
+    (box_of_all box_of_cap (caps_of (placed_contour p.turn p.offset c)))) (ends_placed p c.segs)
     ∙ (λ i. join_of (points_placed p (c.start ∷ map end_of c.segs) i) (caps i))
     ∙ sym (placed_join p (box_of_all box_of_point (c.start ∷ map end_of c.segs)) (box_of_all box_of_cap (caps_of c)))
 
@@ -240,7 +248,8 @@ template_turned t (Prims prims) = prims_turned t prims ∙ ap (turned_box t) (un
     unturned Empty = refl
     unturned (Closed low high) = refl
 
-stroke_points : (p : Place) (from to : Point) → join_of (box_of_point (placed p from)) (box_of_point (placed p to)) ≡ placed_bounds p (join_of (box_of_point from) (box_of_point to))
+stroke_points : (p : Place) (from to : Point) → join_of (box_of_point (placed p from)) (box_of_point (placed p to))
+    ≡ placed_bounds p (join_of (box_of_point from) (box_of_point to))
 stroke_points p from to =
     (λ i. join_of (point_placed p from i) (point_placed p to i)) ∙ sym (placed_join p (box_of_point from) (box_of_point to))
 

@@ -78,13 +78,16 @@ module _ {X : Type 0} (paints : X → List Leaf) where
   three a u b = flat_map-append paints (a ++ u) b ∙ ap (λ ls. ls ++ flat_map paints b) (flat_map-append paints a u)
 
   -- items of which none covers the place
-  without : (a u b : List X) (s : Spot) → IsOutside paints u s → IsBlack (flat_map paints (a ++ u ++ b)) s ↔ IsBlack (flat_map paints (a ++ b)) s
+  without : (a u b : List X) (s : Spot) → IsOutside paints u s
+      → IsBlack (flat_map paints (a ++ u ++ b)) s ↔ IsBlack (flat_map paints (a ++ b)) s
   without a u b s h =
       let off = uncovered_items u s h in (
         (λ black. subst (λ ls. IsBlack ls s) (sym (flat_map-append paints a b))
-            (taken_out s (flat_map paints a) (flat_map paints u) (flat_map paints b) true off (subst (λ ls. IsBlack ls s) (three a u b) black))),
+            (taken_out s (flat_map paints a) (flat_map paints u) (flat_map paints b) true off
+            (subst (λ ls. IsBlack ls s) (three a u b) black))),
         (λ black. subst (λ ls. IsBlack ls s) (sym (three a u b))
-            (put_in s (flat_map paints a) (flat_map paints u) (flat_map paints b) true off (subst (λ ls. IsBlack ls s) (flat_map-append paints a b) black))),
+            (put_in s (flat_map paints a) (flat_map paints u) (flat_map paints b) true off
+            (subst (λ ls. IsBlack ls s) (flat_map-append paints a b) black))),
       )
 
   pub keeps_outside : KeepsOutside paints
@@ -96,7 +99,8 @@ module _ {X : Type 0} (paints : X → List Leaf) where
     reordered = λ before going between after s h.
         let first = without before going (between ++ after) s h in
         let next = without (before ++ between) going after s h in
-        let here : before ++ going ++ between ++ after ≡ before ++ going ++ (between ++ after) = append_assoc (before ++ going) between after in
+        let here : before ++ going ++ between ++ after ≡ before ++ going ++ (between ++ after) =
+        append_assoc (before ++ going) between after in
         let there : before ++ between ++ after ≡ before ++ (between ++ after) = append_assoc before between after in (
           (λ black. next.1 (subst (λ xs. IsBlack (flat_map paints xs) s) (sym there)
               (first.0 (subst (λ xs. IsBlack (flat_map paints xs) s) here black)))),

@@ -1,5 +1,42 @@
 -- what the entries of a sound dictionary paint has sizes, so that its boxes stand in order
-use Rattle.std.proofs.Common.{◌≡◌, ℕ, zero, suc, ◌+◌, ◌*◌, ◌<◌, ◌≤◌, Bool, true, false, cond, ℤ, pos, ◌+ℤ◌, ◌-ℤ◌, ◌*ℤ◌, List, [], ◌∷◌, length, take, reverse, get_or, map, Option, None, Some, nat_eq, sym, ap, subst, ◌∙◌, inl, inr, arith}
+use Rattle.std.proofs.Common.{
+  ◌≡◌,
+  ℕ,
+  zero,
+  suc,
+  ◌+◌,
+  ◌*◌,
+  ◌<◌,
+  ◌≤◌,
+  Bool,
+  true,
+  false,
+  cond,
+  ℤ,
+  pos,
+  ◌+ℤ◌,
+  ◌-ℤ◌,
+  ◌*ℤ◌,
+  List,
+  [],
+  ◌∷◌,
+  length,
+  take,
+  reverse,
+  get_or,
+  map,
+  Option,
+  None,
+  Some,
+  nat_eq,
+  sym,
+  ap,
+  subst,
+  ◌∙◌,
+  inl,
+  inr,
+  arith,
+}
 use Rattle.std.specs.List.{All, flat_map}
 use Rattle.std.specs.Option.{IfSome}
 use Rattle.std.specs.Int.RustNames.{unsigned_abs}
@@ -26,7 +63,15 @@ use Rattle.cam_apertures.specs.declared.aperture.Aperture.{Aperture as Template}
 use Rattle.cam_apertures.specs.declared.aperture.Aperture.TheVariants.{Circle, Rect, Obround, Prims}
 use Rattle.cam_apertures.specs.Bounds.{bounds_of as template_bounds}
 use Rattle.cam_apertures.specs.Cover.{origin as flash_point}
-use Rattle.cam_apertures.specs.Primitives.{IsMacroPoint, IsSoundPrim, IsSoundShape, box_about, box_of_point, box_of_prims, box_of_shape as box_of_prim}
+use Rattle.cam_apertures.specs.Primitives.{
+  IsMacroPoint,
+  IsSoundPrim,
+  IsSoundShape,
+  box_about,
+  box_of_point,
+  box_of_prims,
+  box_of_shape as box_of_prim,
+}
 use Rattle.cam_apertures.specs.Soundness.{IsSide, IsSoundAperture}
 use Rattle.cam_apertures.proofs.TurnedBoxes.{prims_turned}
 use Rattle.cam_objects.specs.declared.object.Object.{Object}
@@ -35,12 +80,53 @@ use Rattle.cam_objects.specs.declared.entry.Entry.{Entry}
 use Rattle.cam_objects.specs.declared.entry.Entry.TheVariants.{Aperture, Block}
 use Rattle.cam_objects.specs.declared.placing.place.Place.{Place}
 use Rattle.cam_objects.specs.Bounds.{bounds_of, box_of_all, box_of_cap, box_of_contour, box_of_shape, circle_square, root}
-use Rattle.cam_objects.specs.Leaves.{Filled, Leaf, Meaning, Shape, Stamp, Stroke, Sweep, Drilled, arc_leaves, block_leaves, draw_leaves, entry_meaning, flashed, leaf, meaning, meaning_in, no_meaning, object_leaves, placed, polarity_in}
+use Rattle.cam_objects.specs.Leaves.{
+  Filled,
+  Leaf,
+  Meaning,
+  Shape,
+  Stamp,
+  Stroke,
+  Sweep,
+  Drilled,
+  arc_leaves,
+  block_leaves,
+  draw_leaves,
+  entry_meaning,
+  flashed,
+  leaf,
+  meaning,
+  meaning_in,
+  no_meaning,
+  object_leaves,
+  placed,
+  polarity_in,
+}
 use Rattle.cam_objects.specs.Machinery.Boxes.{AreSized, IsNearBox, IsSizedShape}
 use Rattle.cam_objects.specs.Machinery.Painting.{meaning_before}
-use Rattle.cam_objects.specs.Soundness.{AreOnBoard, IsSoundDictionary, IsSoundEntry, MayAddEntry, points_of_contour, points_of_seg, points_of_shape}
+use Rattle.cam_objects.specs.Soundness.{
+  AreOnBoard,
+  IsSoundDictionary,
+  IsSoundEntry,
+  MayAddEntry,
+  points_of_contour,
+  points_of_seg,
+  points_of_shape,
+}
 use Rattle.cam_objects.proofs.BoxJoins.{joined}
-use Rattle.cam_objects.proofs.BoxLimits.{IsBoxWithin, has_place, within_about, within_all, within_join, within_less, within_moved, within_near, within_point, within_turned, within_widened}
+use Rattle.cam_objects.proofs.BoxLimits.{
+  IsBoxWithin,
+  has_place,
+  within_about,
+  within_all,
+  within_join,
+  within_less,
+  within_moved,
+  within_near,
+  within_point,
+  within_turned,
+  within_widened,
+}
 use Rattle.cam_objects.proofs.CopyBoxes.{all_flat_map}
 use Rattle.cam_objects.proofs.Dictionaries.{front_more, whole}
 use Rattle.cam_objects.proofs.Painting.{solid_size}
@@ -61,7 +147,8 @@ draw_sized : (w : Option Nm) (from to : Point) (dark : Bool) → IfSome w (λ w.
 draw_sized None from to dark h = All-nil (λ l. IsSizedShape l.shape)
 draw_sized (Some w) from to dark h = one_sized (leaf (Stroke (record { from = from; to = to; width = w })) dark) h
 
-arc_sized : (w : Option Nm) (from to centre : Point) (ccw dark : Bool) → IfSome w (λ w. IsSize w.0) → AreSized (arc_leaves w from to centre ccw dark)
+arc_sized : (w : Option Nm) (from to centre : Point) (ccw dark : Bool) → IfSome w (λ w. IsSize w.0)
+    → AreSized (arc_leaves w from to centre ccw dark)
 arc_sized None from to centre ccw dark h = All-nil (λ l. IsSizedShape l.shape)
 arc_sized (Some w) from to centre ccw dark h =
     one_sized (leaf (Sweep (record { from = from; to = to; centre = centre; ccw = ccw; width = w })) dark) h
@@ -71,7 +158,8 @@ module _ (means : ℕ → Meaning) (so : (n : ℕ) → IsSizedMeaning (means n))
   object_sized p (Flash n at t dark) = (so n).flash (flashed p at t dark)
   object_sized p (Draw n from to t dark) = draw_sized (means n).width (placed p from) (placed p to) (polarity_in p.dark dark) (so n).width
   object_sized p (Arc n from to centre ccw dark) =
-      arc_sized (means n).width (placed p from) (placed p to) (placed p centre) (placed_direction p.turn ccw) (polarity_in p.dark dark) (so n).width
+      arc_sized (means n).width (placed p from) (placed p to) (placed p centre) (placed_direction p.turn ccw) (polarity_in p.dark dark)
+      (so n).width
   object_sized p (Region c dark) = one_sized _ tt
 
   pub block_sized : (p : Place) (objects : List Object) → AreSized (block_leaves means p objects)
@@ -144,7 +232,8 @@ unturned_within (Prims prims) h =
     subst (IsBoxWithin small) (sym (prims_turned R0 prims)) (within_turned small R0 (box_of_prims prims) (prims_within prims h))
 
 template_within : (t : Turn) (a : Template) → IsSoundAperture a → IsBoxWithin small (template_bounds t a)
-template_within t a h = subst (IsBoxWithin small) (sym (template_turned t a)) (within_turned small t (template_bounds R0 a) (unturned_within a h))
+template_within t a h =
+    subst (IsBoxWithin small) (sym (template_turned t a)) (within_turned small t (template_bounds R0 a) (unturned_within a h))
 
 -- ---- boxes of leaves on the board
 
@@ -155,7 +244,8 @@ abbrev pub inner : ℕ
 inner = 7800000000
 
 pub board_point : (p : Point) → IsOnBoard p → IsBoxWithin inner (box_of_point p)
-board_point p h = within_less (2 * 1000000000) inner (box_of_point p) (omega arith) (within_point 1000000000 p (omega (arith, h.x)) (omega (arith, h.y)))
+board_point p h =
+    within_less (2 * 1000000000) inner (box_of_point p) (omega arith) (within_point 1000000000 p (omega (arith, h.x)) (omega (arith, h.y)))
 
 pub near_point : (p : Point) → IsOnBoard p → IsNearBox (box_of_point p)
 near_point p h = within_near inner (box_of_point p) (omega arith) (board_point p h)
@@ -195,12 +285,17 @@ root_few n h = root_below n (root n) (root_square n).0 h
 pub circle_within : (centre from : Point) → IsOnBoard centre → IsOnBoard from → IsBoxWithin inner (circle_square centre from)
 circle_within centre from h k =
     let half = root (unsigned_abs (dot (way centre from) (way centre from))) + 1 in
-    let few : half ≤ 5700000000 = omega (arith, root_few (unsigned_abs (dot (way centre from) (way centre from))) (squared_length centre from h k)) in
+    let few : half ≤ 5700000000 = omega (
+      arith,
+      root_few (unsigned_abs (dot (way centre from) (way centre from)))
+          (squared_length centre from h k),
+    ) in
     within_less (2 * 1000000000 + 5700000000) inner (circle_square centre from) (omega arith)
     (within_about 1000000000 5700000000 centre (pos half) (pos half) (omega (arith, h.x)) (omega (arith, h.y))
     (omega (arith, ints)) (omega (arith, ints, few)) (omega (arith, ints)) (omega (arith, ints, few)))
 
-ends_within : (segs : List Seg) → All IsOnBoard (flat_map points_of_seg segs) → All (λ p. IsBoxWithin inner (box_of_point p)) (map end_of segs)
+ends_within : (segs : List Seg) → All IsOnBoard (flat_map points_of_seg segs)
+    → All (λ p. IsBoxWithin inner (box_of_point p)) (map end_of segs)
 ends_within [] h = All-nil (λ p. IsBoxWithin inner (box_of_point p))
 ends_within (Line to ∷ segs) h =
     let rest = flat_map points_of_seg segs in
@@ -231,7 +326,8 @@ contour_within c h =
     let behind = All-tail IsOnBoard c.start rest h in
     within_join inner (box_of_all box_of_point (c.start ∷ map end_of c.segs)) (box_of_all box_of_cap (caps_of c))
     (within_all inner box_of_point (c.start ∷ map end_of c.segs)
-    (All-cons (λ p. IsBoxWithin inner (box_of_point p)) c.start (map end_of c.segs) (board_point c.start start) (ends_within c.segs behind)))
+    (All-cons (λ p. IsBoxWithin inner (box_of_point p)) c.start (map end_of c.segs) (board_point c.start start)
+    (ends_within c.segs behind)))
     (within_all inner box_of_cap (caps_of c) (caps_within c.start c.segs start behind))
 
 at_first : (p : Point) (ps : List Point) → All IsOnBoard (p ∷ ps) → IsOnBoard p
@@ -269,14 +365,16 @@ shape_within (Sweep a) h k =
     let to = at_second a.from a.to (a.centre ∷ []) k in
     let centre = at_third a.from a.to a.centre [] k in
     within_less (inner + 200000000) reach (box_of_shape (Sweep a)) (omega arith)
-    (within_widened 200000000 inner a.width.0 (join_of (circle_square a.centre a.from) (join_of (box_of_point a.from) (box_of_point a.to))) h.0 h.1
+    (within_widened 200000000 inner a.width.0 (join_of (circle_square a.centre a.from) (join_of (box_of_point a.from) (box_of_point a.to)))
+    h.0 h.1
     (within_join inner (circle_square a.centre a.from) (join_of (box_of_point a.from) (box_of_point a.to))
     (circle_within a.centre a.from centre from) (ends_of_stroke a.from a.to from to)))
 shape_within (Filled c) h k = within_less inner reach (box_of_contour c) (omega arith) (contour_within c k)
 shape_within (Drilled d) h k =
     let centre = at_first d.centre [] k in
     within_less (2 * 1000000000 + 200000000) reach (box_about (place_of d.centre) d.diameter.0 d.diameter.0) (omega arith)
-    (within_about 1000000000 200000000 d.centre d.diameter.0 d.diameter.0 (omega (arith, centre.x)) (omega (arith, centre.y)) h.0 h.1 h.0 h.1)
+    (within_about 1000000000 200000000 d.centre d.diameter.0 d.diameter.0 (omega (arith, centre.x))
+    (omega (arith, centre.y)) h.0 h.1 h.0 h.1)
 
 pub leaves_within : (ls : List Leaf) → AreSized ls → AreOnBoard ls → All (λ l. IsBoxWithin reach (box_of_shape l.shape)) ls
 leaves_within [] h k = All-nil (λ l. IsBoxWithin reach (box_of_shape l.shape))

@@ -9,7 +9,15 @@ use Rattle.std.proofs.lemmas.Map.Keys.{IsDistinct-push}
 use Rattle.std.proofs.lemmas.List.Elements.{All-append, All-cons, All-nil, All-weaker}
 use Rattle.cam_units.specs.declared.length.Nm.{Nm}
 use Rattle.cam_objects.specs.declared.drill_item.DrillItem.{DrillItem}
-use Rattle.cam_objects.specs.declared.item_fault.ItemFault.TheVariants.{Malformed, UnknownAperture, UnknownTool, WrongAperture, ZeroRadius, OutOfBoard, TooMuch}
+use Rattle.cam_objects.specs.declared.item_fault.ItemFault.TheVariants.{
+  Malformed,
+  UnknownAperture,
+  UnknownTool,
+  WrongAperture,
+  ZeroRadius,
+  OutOfBoard,
+  TooMuch,
+}
 use Rattle.cam_objects.specs.Drilling.{diameter_of}
 use Rattle.cam_objects.specs.DrillSoundness.{DrillGrowthLaw, IsSoundDrillItem, IsSoundTool, KeepsDrillLimits, tool_of}
 
@@ -45,7 +53,8 @@ distinct_more tools tool diameter apart absent =
     not_among [] tool h = refl
     not_among (t ∷ ts) tool h = by (nat_eq tool t.0) (not_among ts tool) h
       where
-        by : (b : Bool) → (lookup (nat_eq tool) ts ≡ None → list_any (nat_eq tool) (keys_of ts) ≡ false) → cond b (Some t.1) (lookup (nat_eq tool) ts) ≡ None
+        by : (b : Bool) → (lookup (nat_eq tool) ts ≡ None → list_any (nat_eq tool) (keys_of ts) ≡ false)
+            → cond b (Some t.1) (lookup (nat_eq tool) ts) ≡ None
             → (b || list_any (nat_eq tool) (keys_of ts)) ≡ false
         by true rest e = absurd cc
         by false rest e = rest e
@@ -65,7 +74,8 @@ drill_growth = record {
     tools = subst AreTools (sym tools) sound.tools;
     distinct = subst AreDistinct (sym tools) sound.distinct;
     items = subst (λ (ts : List (ℕ × Nm)). AreSound ts m.items.items) (sym tools)
-        (subst (λ (is : List DrillItem). AreSound l.tools is) (sym items) (one_more (IsSoundDrillItem l.tools) l.items.items item sound.items good));
+        (subst (λ (is : List DrillItem). AreSound l.tools is) (sym items)
+        (one_more (IsSoundDrillItem l.tools) l.items.items item sound.items good));
     limits = subst KeepsDrillLimits (sym items) room;
   };
   add_tool = λ l m tool diameter sound may tools items. record {
@@ -73,7 +83,8 @@ drill_growth = record {
     distinct = subst AreDistinct (sym tools) (distinct_more l.tools tool diameter sound.distinct may.absent);
     items = subst (λ (ts : List (ℕ × Nm)). AreSound ts m.items.items) (sym tools)
         (subst (λ (is : List DrillItem). AreSound (l.tools ++ (tool, diameter) ∷ []) is) (sym items)
-        (All-weaker (IsSoundDrillItem l.tools) (IsSoundDrillItem (l.tools ++ (tool, diameter) ∷ [])) (sound_more l.tools ((tool, diameter) ∷ [])) l.items.items sound.items));
+        (All-weaker (IsSoundDrillItem l.tools) (IsSoundDrillItem (l.tools ++ (tool, diameter) ∷ []))
+        (sound_more l.tools ((tool, diameter) ∷ [])) l.items.items sound.items));
     limits = subst KeepsDrillLimits (sym items) sound.limits;
   };
 }

@@ -1,5 +1,28 @@
 -- what a sound layer says of its entries and its items
-use Rattle.std.proofs.Common.{◌≡◌, ℕ, zero, suc, ◌*◌, ◌^◌, ◌<◌, ◌≤◌, Bool, true, false, ◌||◌, eqb, List, [], ◌∷◌, length, take, get_or, nat_eq, refl, arith}
+use Rattle.std.proofs.Common.{
+  ◌≡◌,
+  ℕ,
+  zero,
+  suc,
+  ◌*◌,
+  ◌^◌,
+  ◌<◌,
+  ◌≤◌,
+  Bool,
+  true,
+  false,
+  ◌||◌,
+  eqb,
+  List,
+  [],
+  ◌∷◌,
+  length,
+  take,
+  get_or,
+  nat_eq,
+  refl,
+  arith,
+}
 use Rattle.std.specs.List.{All, IsDistinct, flat_map, list_any}
 use Rattle.std.specs.Map.{keys_of}
 use Rattle.std.proofs.Math.Nat.{mul-le-mul_left, mul_comm}
@@ -21,7 +44,17 @@ use Rattle.cam_objects.specs.declared.layer.Layer.{Layer}
 use Rattle.cam_objects.specs.Leaves.{Leaf, item_leaves, leaves_of, meaning_in}
 use Rattle.cam_objects.specs.Machinery.Painting.{IsPaintableItem, IsReady, StandsOnBoard}
 use Rattle.cam_objects.specs.Machinery.Inside.{ArePainted}
-use Rattle.cam_objects.specs.Soundness.{AreOnBoard, IsDrawable, IsInside, IsSound, IsSoundBlock, IsSoundDictionary, IsSoundItem, IsWithinLimits, points_of_shape}
+use Rattle.cam_objects.specs.Soundness.{
+  AreOnBoard,
+  IsDrawable,
+  IsInside,
+  IsSound,
+  IsSoundBlock,
+  IsSoundDictionary,
+  IsSoundItem,
+  IsWithinLimits,
+  points_of_shape,
+}
 use Rattle.cam_objects.specs.Weights.{Weight, block_count, object_count, weight_in}
 use Rattle.cam_objects.proofs.Dictionaries.{absent_at}
 
@@ -66,7 +99,8 @@ keys_distinct (e ∷ es) sound =
 
 pub few_entries : (es : Pairs) → IsSoundDictionary es → length es ≤ 2 ^ 31
 few_entries es sound =
-    let low = length-le_from_distinct_below (keys_of es) (2 ^ 31) (keys_distinct es sound) (λ q some. below_any (keys_of es) (2 ^ 31) q (keys_low es sound) some) in
+    let low = length-le_from_distinct_below (keys_of es) (2 ^ 31) (keys_distinct es sound)
+    (λ q some. below_any (keys_of es) (2 ^ 31) q (keys_low es sound) some) in
     simp length-map at low
 
 -- ---- the copies of a sound repeat
@@ -97,8 +131,11 @@ paintable_item es (Repeat columns rows i j objects) h =
     let inside : IsInside es (Repeat columns rows i j objects) = h OutOfBoard in
     let limits : IsWithinLimits es (Repeat columns rows i j objects) = h TooMuch in
     let formed = h Malformed in
-    let few = copies_few columns rows (block_count (weight_in es) objects) formed.0.0 (block_some (weight_in es) objects formed.0.1) limits.leaves in
-    (record { copies = few.0; short = inside.steps.0; points = inside.points }, record { copies = few.1; short = inside.steps.1; points = inside.points })
+    let few = copies_few columns rows (block_count (weight_in es) objects) formed.0.0
+    (block_some (weight_in es) objects formed.0.1) limits.leaves in (
+      record { copies = few.0; short = inside.steps.0; points = inside.points },
+      record { copies = few.1; short = inside.steps.1; points = inside.points },
+    )
 
 -- ---- a sound layer may be painted
 
@@ -116,7 +153,8 @@ ready_layer l s sound place = record {
   few = few_entries l.apertures sound.entries;
   sound = sound.entries;
   board = board_all (item_leaves (meaning_in l.apertures)) l.items.items
-      (All-weaker (IsSoundItem l.apertures) (λ x. AreOnBoard (item_leaves (meaning_in l.apertures) x)) (λ x h. inside_leaves l.apertures x (h OutOfBoard)) l.items.items sound.items);
+      (All-weaker (IsSoundItem l.apertures) (λ x. AreOnBoard (item_leaves (meaning_in l.apertures) x))
+      (λ x h. inside_leaves l.apertures x (h OutOfBoard)) l.items.items sound.items);
   spot = place;
 }
 
@@ -127,5 +165,6 @@ paintable_items l sound = All-weaker (IsSoundItem l.apertures) IsPaintableItem (
 pub painted_block : (es : Pairs) (objects : List Object) → IsSoundBlock es objects → ArePainted es objects
 painted_block es objects block = record {
   stands = All-weaker (λ o. IsSoundItem es (One o)) StandsOnBoard (λ o h. paintable_item es (One o) h) objects block.each;
-  drawable = All-weaker (λ o. IsSoundItem es (One o)) (IsDrawable (meaning_in es)) (λ o h. h WrongAperture 0 o (omega arith)) objects block.each;
+  drawable =
+      All-weaker (λ o. IsSoundItem es (One o)) (IsDrawable (meaning_in es)) (λ o h. h WrongAperture 0 o (omega arith)) objects block.each;
 }

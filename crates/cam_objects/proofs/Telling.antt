@@ -3,7 +3,15 @@ use Rattle.std.proofs.Common.{ℕ, ◌<◌, List, arith}
 use Rattle.cam_objects.specs.declared.entry.Entry.{Entry}
 use Rattle.cam_objects.specs.declared.item.Item.{Item}
 use Rattle.cam_objects.specs.declared.item_fault.ItemFault.{ItemFault}
-use Rattle.cam_objects.specs.declared.item_fault.ItemFault.TheVariants.{Malformed, UnknownAperture, UnknownTool, WrongAperture, ZeroRadius, OutOfBoard, TooMuch}
+use Rattle.cam_objects.specs.declared.item_fault.ItemFault.TheVariants.{
+  Malformed,
+  UnknownAperture,
+  UnknownTool,
+  WrongAperture,
+  ZeroRadius,
+  OutOfBoard,
+  TooMuch,
+}
 use Rattle.cam_objects.specs.Refusals.{IsFirstUnmet, rank}
 use Rattle.cam_objects.specs.Soundness.{MeetsItem}
 

@@ -17,7 +17,20 @@ use Rattle.cam_objects.specs.DrillSoundness.{drill_points_of}
 use Rattle.cam_objects.specs.Image.{Covers, IsBlack, IsUncovered, relative}
 use Rattle.cam_objects.specs.Leaves.{Leaf, Stamp, Stroke, Sweep, Filled, Drilled, item_leaves, meaning_in}
 use Rattle.cam_objects.specs.Soundness.{HasShortSteps, objects_of, points_of, points_of_shape}
-use Rattle.cam_objects.specs.Tests.{CoverTestLaw, DrillInsideTestLaw, InsideTestLaw, TestLaw, are_on_board, covers, has_short_steps, is_black, is_drill_inside, is_inside, is_on_board, painted}
+use Rattle.cam_objects.specs.Tests.{
+  CoverTestLaw,
+  DrillInsideTestLaw,
+  InsideTestLaw,
+  TestLaw,
+  are_on_board,
+  covers,
+  has_short_steps,
+  is_black,
+  is_drill_inside,
+  is_inside,
+  is_on_board,
+  painted,
+}
 
 -- ---- places
 
@@ -112,7 +125,8 @@ both {P} {Q} {x} {y} d k = Decides-and x y d k
 pub like : {P Q : Type 0} {x : Bool} → (P → Q) → (Q → P) → Decides x P → Decides x Q
 like {P} {Q} {x} f g d = Decides-like x f g d
 
-pub all : {X : Type 0} (p : X → Bool) (P : X → Type 0) → ((x : X) → Decides (p x) (P x)) → (xs : List X) → Decides (list_all p xs) (All P xs)
+pub all : {X : Type 0} (p : X → Bool) (P : X → Type 0) → ((x : X) → Decides (p x) (P x)) → (xs : List X)
+    → Decides (list_all p xs) (All P xs)
 all p P each xs = Decides-by_and p P (list_all p) each refl (λ _ _. refl) xs
 
 pub on_board : (p : Point) → Decides (is_on_board p) (IsOnBoard p)

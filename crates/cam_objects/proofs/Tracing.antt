@@ -15,12 +15,14 @@ use Rattle.cam_objects.specs.Bounds.{box_of_cap, box_of_contour}
 use Rattle.cam_objects.specs.Machinery.Tracing.{followed, started}
 use Rattle.cam_objects.specs.Soundness.{points_of_seg}
 
-traced_points : (t : Trace) (segs : List Seg) → (fold followed t segs).points ≡ fold (λ all p. join_of all (box_of_point p)) t.points (map end_of segs)
+traced_points : (t : Trace) (segs : List Seg) → (fold followed t segs).points ≡ fold (λ all p. join_of all (box_of_point p)) t.points
+    (map end_of segs)
 traced_points t [] = refl
 traced_points t (Line to ∷ segs) = traced_points (followed t (Line to)) segs
 traced_points t (Curve to centre ccw ∷ segs) = traced_points (followed t (Curve to centre ccw)) segs
 
-traced_arcs : (t : Trace) (segs : List Seg) → (fold followed t segs).arcs ≡ fold (λ all c. join_of all (box_of_cap c)) t.arcs (caps_from t.here segs)
+traced_arcs : (t : Trace) (segs : List Seg) → (fold followed t segs).arcs ≡ fold (λ all c. join_of all (box_of_cap c)) t.arcs
+    (caps_from t.here segs)
 traced_arcs t [] = refl
 traced_arcs t (Line to ∷ segs) = traced_arcs (followed t (Line to)) segs
 traced_arcs t (Curve to centre ccw ∷ segs) = traced_arcs (followed t (Curve to centre ccw)) segs
@@ -37,7 +39,8 @@ pub segs_on_board : (segs : List Seg) → All IsOnBoard (flat_map points_of_seg 
 segs_on_board [] h = All-nil (λ s. All IsOnBoard (points_of_seg s))
 segs_on_board (Line to ∷ segs) h =
     let rest = flat_map points_of_seg segs in
-    All-cons (λ s. All IsOnBoard (points_of_seg s)) (Line to) segs (All-cons IsOnBoard to [] (All-head IsOnBoard to rest h) (All-nil IsOnBoard))
+    All-cons (λ s. All IsOnBoard (points_of_seg s)) (Line to) segs
+    (All-cons IsOnBoard to [] (All-head IsOnBoard to rest h) (All-nil IsOnBoard))
     (segs_on_board segs (All-tail IsOnBoard to rest h))
 segs_on_board (Curve to centre ccw ∷ segs) h =
     let rest = flat_map points_of_seg segs in

@@ -10,7 +10,13 @@ use Rattle.cam_shapes.specs.Disc.{IsSoundDisc}
 use Rattle.cam_shapes.specs.Placing.{IsPlaceable, placed_contour}
 use Rattle.cam_apertures.specs.Soundness.{IsSoundAperture}
 use Rattle.cam_objects.specs.declared.canvas.Figure.{Figure}
-use Rattle.cam_objects.specs.declared.canvas.Figure.TheVariants.{Stamp as AStamp, Stroke as AStroke, Sweep as ASweep, Filled as AFilled, Drilled as ADrilled}
+use Rattle.cam_objects.specs.declared.canvas.Figure.TheVariants.{
+  Stamp as AStamp,
+  Stroke as AStroke,
+  Sweep as ASweep,
+  Filled as AFilled,
+  Drilled as ADrilled,
+}
 use Rattle.cam_objects.specs.declared.canvas.Print.{Print}
 use Rattle.cam_objects.specs.Image.{Covers}
 use Rattle.cam_objects.specs.Leaves.{Leaf, Shape, Stamp, Stroke, Sweep, Filled, Drilled, leaf}

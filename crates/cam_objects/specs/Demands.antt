@@ -1,6 +1,33 @@
 -- What an item has to meet beside a dictionary or beside tools, as tests that compute, for those who define edits by them.
 -- Each says what a relation says (`DemandLaw`), and the first that is not met is what a check answers (`FirstLaw`).
-use Rattle.std.specs.Prelude.{◌≡◌, ◌↔◌, ℕ, ◌*◌, nat_eq, nat_le, nat_lt, int_lt, Bool, true, ◌&&◌, ◌||◌, IsTrue, List, [], ◌∷◌, length, Option, None, Some, Result, Ok, Err, is_some, sum_by, if◌then◌else◌}
+use Rattle.std.specs.Prelude.{
+  ◌≡◌,
+  ◌↔◌,
+  ℕ,
+  ◌*◌,
+  nat_eq,
+  nat_le,
+  nat_lt,
+  int_lt,
+  Bool,
+  true,
+  ◌&&◌,
+  ◌||◌,
+  IsTrue,
+  List,
+  [],
+  ◌∷◌,
+  length,
+  Option,
+  None,
+  Some,
+  Result,
+  Ok,
+  Err,
+  is_some,
+  sum_by,
+  if◌then◌else◌,
+}
 use Rattle.std.specs.List.{list_all}
 use Rattle.std.specs.Map.{lookup}
 use Rattle.cam_units.specs.declared.length.Nm.{Nm}
@@ -12,7 +39,15 @@ use Rattle.cam_objects.specs.declared.entry.Entry.{Entry}
 use Rattle.cam_objects.specs.declared.item.Item.{Item}
 use Rattle.cam_objects.specs.declared.item.Item.TheVariants.{One, Repeat}
 use Rattle.cam_objects.specs.declared.item_fault.ItemFault.{ItemFault}
-use Rattle.cam_objects.specs.declared.item_fault.ItemFault.TheVariants.{Malformed, UnknownAperture, UnknownTool, WrongAperture, ZeroRadius, OutOfBoard, TooMuch}
+use Rattle.cam_objects.specs.declared.item_fault.ItemFault.TheVariants.{
+  Malformed,
+  UnknownAperture,
+  UnknownTool,
+  WrongAperture,
+  ZeroRadius,
+  OutOfBoard,
+  TooMuch,
+}
 use Rattle.cam_objects.specs.declared.object.Object.{Object}
 use Rattle.cam_objects.specs.declared.object.Object.TheVariants.{Flash, Draw, Arc, Region}
 use Rattle.cam_objects.specs.Drilling.{diameter_of}

@@ -1,7 +1,15 @@
 -- Refusals of items, in the order in which they are told.
 use Rattle.std.specs.Prelude.{ℕ, ◌<◌, Result, Ok, Err}
 use Rattle.cam_objects.specs.declared.item_fault.ItemFault.{ItemFault}
-use Rattle.cam_objects.specs.declared.item_fault.ItemFault.TheVariants.{Malformed, UnknownAperture, UnknownTool, WrongAperture, ZeroRadius, OutOfBoard, TooMuch}
+use Rattle.cam_objects.specs.declared.item_fault.ItemFault.TheVariants.{
+  Malformed,
+  UnknownAperture,
+  UnknownTool,
+  WrongAperture,
+  ZeroRadius,
+  OutOfBoard,
+  TooMuch,
+}
 
 -- where a refusal stands in that order
 abbrev pub rank : ItemFault → ℕ

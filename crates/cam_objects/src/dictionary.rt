@@ -1,6 +1,24 @@
 //! The dictionary of a layer.
 
-ghost use Rattle.std.specs.Prelude.{◌≡◌, ◌+◌, ◌==◌, ◌++◌, ◌∷◌, ◌≤◌, [], None, Some, IfNone, IfOk, IfSome, OnErr, OnOk, length, nat_eq, slice_get};
+ghost use Rattle.std.specs.Prelude.{
+  ◌≡◌,
+  ◌+◌,
+  ◌==◌,
+  ◌++◌,
+  ◌∷◌,
+  ◌≤◌,
+  [],
+  None,
+  Some,
+  IfNone,
+  IfOk,
+  IfSome,
+  OnErr,
+  OnOk,
+  length,
+  nat_eq,
+  slice_get,
+};
 ghost use Rattle.std.specs.List.{IsDistinct};
 ghost use Rattle.std.specs.Map.{keys_of, lookup};
 ghost use Rattle.cam_objects.specs.Limits.{depth_limit, leaf_limit};

@@ -3,7 +3,13 @@
 ghost use Rattle.std.specs.Prelude.{◌≡◌, ◌++◌, ◌∷◌, ◌↔◌, [], IfOk, IsTrue, OnErr, OnOk};
 ghost use Rattle.cam_units.specs.Board.{IsPlace};
 ghost use Rattle.cam_objects.specs.Drilling.{drill_leaves};
-ghost use Rattle.cam_objects.specs.DrillSoundness.{IsSoundDrillItem, IsSoundDrillLayer, KeepsDrillLimits, MayAddTool, MeetsDrillItem};
+ghost use Rattle.cam_objects.specs.DrillSoundness.{
+  IsSoundDrillItem,
+  IsSoundDrillLayer,
+  KeepsDrillLimits,
+  MayAddTool,
+  MeetsDrillItem,
+};
 ghost use Rattle.cam_objects.specs.Image.{IsBlack};
 ghost use Rattle.cam_objects.specs.Refusals.{Tells};
 ghost use Rattle.cam_objects.specs.Tests.{is_black};

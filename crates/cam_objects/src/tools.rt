@@ -1,6 +1,21 @@
 //! The tools of a drill layer.
 
-ghost use Rattle.std.specs.Prelude.{◌≡◌, ◌==◌, ◌++◌, ◌∷◌, [], None, Some, IfOk, IsSome, OnErr, OnOk, length, nat_eq, slice_get};
+ghost use Rattle.std.specs.Prelude.{
+  ◌≡◌,
+  ◌==◌,
+  ◌++◌,
+  ◌∷◌,
+  [],
+  None,
+  Some,
+  IfOk,
+  IsSome,
+  OnErr,
+  OnOk,
+  length,
+  nat_eq,
+  slice_get,
+};
 ghost use Rattle.std.specs.List.{IsDistinct};
 ghost use Rattle.std.specs.Map.{keys_of, set_value};
 ghost use Rattle.cam_objects.specs.Drilling.{diameter_of};

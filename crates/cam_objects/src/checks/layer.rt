@@ -40,8 +40,8 @@ impl Layer {
         has_room(&self.apertures, &self.items, item)
     }
 
-    /// Whether the layer keeps its limits with the item in place of the one that stands at a place, counted from 0. Goes
-    /// through all items only where the item has more leaves than that one.
+    /// Whether the layer keeps its limits with the item in place of the one that stands at a place, counted from 0.
+    /// Goes through all items only where the item has more leaves than that one.
     pub fn has_room_at(&self, place: usize, item: &Item) -> bool
         requires sound { IsSound self.now }
         requires within { place < length self.now.items.items }

@@ -1,6 +1,23 @@
 //! How many leaves there are, and whether there is room for more.
 
-ghost use Rattle.std.specs.Prelude.{◌≡◌, ◌+◌, ◌*◌, ◌<◌, ◌≤◌, ◌++◌, ◌∷◌, ◌↔◌, [], All, IfNone, IfSome, IsTrue, length, slice_set, sum_by};
+ghost use Rattle.std.specs.Prelude.{
+  ◌≡◌,
+  ◌+◌,
+  ◌*◌,
+  ◌<◌,
+  ◌≤◌,
+  ◌++◌,
+  ◌∷◌,
+  ◌↔◌,
+  [],
+  All,
+  IfNone,
+  IfSome,
+  IsTrue,
+  length,
+  slice_set,
+  sum_by,
+};
 ghost use Rattle.cam_objects.specs.Limits.{leaf_limit, object_limit, segment_limit};
 ghost use Rattle.cam_objects.specs.Soundness.{IsWithinLimits, KeepsLimits, segs_of};
 ghost use Rattle.cam_objects.specs.Weights.{block_count, item_count, weight_in};
@@ -22,7 +39,8 @@ pub(crate) fn fits_object(entries: &Dictionary, object: &Object) -> bool
 /// Whether a repeat of so many copies is within the limits.
 pub(crate) fn fits_repeat(entries: &Dictionary, copies: u64, objects: &[Object]) -> bool
     ensures { IsTrue result ↔ (All (λ o. length (segs_of o) ≤ segment_limit) objects.now
-        × ((length objects.now ≤ object_limit) × (copies * block_count (weight_in entries.now) objects.now ≤ leaf_limit))) }
+        × ((length objects.now ≤ object_limit)
+        × (copies * block_count (weight_in entries.now) objects.now ≤ leaf_limit))) }
 {
     if objects.len() > OBJECT_LIMIT {
         return false;

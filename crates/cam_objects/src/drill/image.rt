@@ -70,7 +70,8 @@ fn is_slot_at(from: Point, to: Point, diameter: Nm, spot: Spot) -> bool
     requires to { IsOnBoard to }
     requires diameter { IsSize diameter.0 }
     requires spot { IsInReach spot }
-    ensures { Inks (leaf (Stroke (record { from = from; to = to; width = diameter })) true ∷ []) spot (dark_where result) }
+    ensures { Inks (leaf (Stroke (record { from = from; to = to; width = diameter })) true ∷ []) spot
+        (dark_where result) }
 {
     in_capsule(
         spot,

@@ -6,7 +6,16 @@ ghost use Rattle.cam_shapes.specs.Placing.{IsPlaceable, IsPlaceablePoint, placed
 ghost use Rattle.cam_shapes.specs.Shifting.{IsShiftable};
 ghost use Rattle.cam_apertures.specs.Soundness.{IsSoundAperture};
 ghost use Rattle.cam_objects.specs.Image.{Inks, relative as relative_to};
-ghost use Rattle.cam_objects.specs.Leaves.{Filled, Stamp, arc_leaves, draw_leaves, leaf, placed, polarity_in, solid_diameter as solid_diameter_of};
+ghost use Rattle.cam_objects.specs.Leaves.{
+  Filled,
+  Stamp,
+  arc_leaves,
+  draw_leaves,
+  leaf,
+  placed,
+  polarity_in,
+  solid_diameter as solid_diameter_of,
+};
 
 use crate::placing::place::Place;
 use cam_apertures::Aperture;
@@ -68,8 +77,8 @@ pub(crate) fn stroke_ink(
     requires to { IsPlaceablePoint place.now.turn place.now.offset to }
     requires width { IsSize width.0 }
     requires spot { IsPlace spot }
-    ensures { Inks (draw_leaves (Some width) (placed place.now from) (placed place.now to) (polarity_in place.now.dark dark))
-        spot result }
+    ensures { Inks (draw_leaves (Some width) (placed place.now from) (placed place.now to)
+        (polarity_in place.now.dark dark)) spot result }
 {
     let capsule = Capsule {
         from: place.point(from),

@@ -5,9 +5,26 @@ ghost use Rattle.std.specs.Prelude.{◌≡◌, ◌+◌, ◌*ℤ◌, ◌^◌, ◌
 ghost use Rattle.std.specs.Int.RustNames.{unsigned_abs};
 ghost use Rattle.cam_units.specs.Board.{IsSize};
 ghost use Rattle.cam_objects.specs.Image.{Inks};
-ghost use Rattle.cam_objects.specs.Leaves.{block_leaves, column_leaves, item_leaves, leaves_of, meaning_in, object_leaves, repeat_leaves, shifted};
+ghost use Rattle.cam_objects.specs.Leaves.{
+  block_leaves,
+  column_leaves,
+  item_leaves,
+  leaves_of,
+  meaning_in,
+  object_leaves,
+  repeat_leaves,
+  shifted,
+};
 ghost use Rattle.cam_objects.specs.Soundness.{IsSoundDictionary};
-ghost use Rattle.cam_objects.specs.Machinery.Painting.{IsCopied, IsPaintable, IsPaintableItem, IsReady, StandsOnBoard, flash_leaves, meaning_before};
+ghost use Rattle.cam_objects.specs.Machinery.Painting.{
+  IsCopied,
+  IsPaintable,
+  IsPaintableItem,
+  IsReady,
+  StandsOnBoard,
+  flash_leaves,
+  meaning_before,
+};
 
 use crate::boxes::items::is_repeat_missed;
 use crate::dictionary::Dictionary;

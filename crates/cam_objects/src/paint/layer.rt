@@ -4,8 +4,22 @@ ghost use Rattle.std.specs.Prelude.{ℕ, ◌<◌, ◌^◌, ◌≡◌, ◌*ℤ◌
 ghost use Rattle.std.specs.Int.RustNames.{unsigned_abs};
 ghost use Rattle.cam_objects.specs.Canvases.{Paints};
 ghost use Rattle.cam_objects.specs.Contents.{content_leaves, content_of};
-ghost use Rattle.cam_objects.specs.Leaves.{block_leaves, column_leaves, item_leaves, leaves_of, meaning_in, repeat_leaves, shifted};
-ghost use Rattle.cam_objects.specs.Machinery.Painting.{IsCopied, IsPaintableItem, IsReadyToPrint, IsUnseen, StandsOnBoard};
+ghost use Rattle.cam_objects.specs.Leaves.{
+  block_leaves,
+  column_leaves,
+  item_leaves,
+  leaves_of,
+  meaning_in,
+  repeat_leaves,
+  shifted,
+};
+ghost use Rattle.cam_objects.specs.Machinery.Painting.{
+  IsCopied,
+  IsPaintableItem,
+  IsReadyToPrint,
+  IsUnseen,
+  StandsOnBoard,
+};
 ghost use Rattle.cam_objects.specs.Machinery.Runs.{IsInRun, IsWithinCount};
 ghost use Rattle.cam_objects.specs.Soundness.{IsSound};
 ghost use Rattle.cam_objects.specs.declared.item.Item.{Item};

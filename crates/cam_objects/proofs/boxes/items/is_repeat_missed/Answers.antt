@@ -14,4 +14,5 @@ pub returns : goal.returns
 returns c = λ other.
     let p = c.args.copies.now in
     outside_box (repeat_leaves (meaning_in c.args.entries.now) p.columns p.rows p.i p.j c.args.objects.now) c.args.spot
-    (subst (λ (b : Bounds). Holds b c.args.spot → ⊥) c.repeat_bounds.ensures (λ held. refuted c.has_place.result other (c.has_place.ensures.1 held)))
+    (subst (λ (b : Bounds). Holds b c.args.spot → ⊥) c.repeat_bounds.ensures
+    (λ held. refuted c.has_place.result other (c.has_place.ensures.1 held)))

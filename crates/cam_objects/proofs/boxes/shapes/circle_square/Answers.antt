@@ -16,8 +16,11 @@ widened-requires-clause-by c =
 pub returns : goal.returns
 returns c =
     let few = root_below c.squared_length.result c.isqrt-radius.result c.isqrt-radius.ensures.square c.squared_length.ensures.short in
-    let r : root (unsigned_abs (dot (way c.args.centre.now c.args.from.now) (way c.args.centre.now c.args.from.now))) ≡ c.isqrt-radius.result
-    = ap root (sym c.squared_length.ensures.value) ∙ is_root c.squared_length.result c.isqrt-radius.result c.isqrt-radius.ensures.square c.isqrt-radius.ensures.greatest in
+    let r : root (unsigned_abs (dot (way c.args.centre.now c.args.from.now) (way c.args.centre.now c.args.from.now)))
+    ≡ c.isqrt-radius.result
+    =
+    ap root (sym c.squared_length.ensures.value)
+    ∙ is_root c.squared_length.result c.isqrt-radius.result c.isqrt-radius.ensures.square c.isqrt-radius.ensures.greatest in
     let half : to_z w64 (of_z w64 (to_z w64 c.isqrt-radius.result +ℤ pos 1)) ≡ pos (c.isqrt-radius.result + 1) = omega (arith, ints, few) in
     c.widened.ensures
     ∙ (λ i. widened ((half ∙ ap (λ n. pos (n + 1)) (sym r)) i) (c.point_bounds.ensures i))

@@ -31,7 +31,8 @@ pub followed-trace-requires-clause-seg : goal.followed-trace-requires-clause-seg
 followed-trace-requires-clause-seg c =
     let k = c.args.contour.now in
     let all = segs_on_board k.segs (All-tail IsOnBoard k.start (flat_map points_of_seg k.segs) c.requires) in
-    subst (λ (ss : List Seg). All (λ s. All IsOnBoard (points_of_seg s)) ss) (sym c.as_slice-seg-items.ensures) all c.loop-seg.seg-index _ (omega arith)
+    subst (λ (ss : List Seg). All (λ s. All IsOnBoard (points_of_seg s)) ss) (sym c.as_slice-seg-items.ensures) all c.loop-seg.seg-index _
+    (omega arith)
 
 pub loop-seg-preserved : goal.loop-seg-preserved
 loop-seg-preserved c =
@@ -40,7 +41,8 @@ loop-seg-preserved c =
     record {
       here = subst (λ (t : Trace). IsOnBoard t.here) (sym c.followed-trace.ensures)
           (stands_behind c.loop-seg.trace _
-          (subst (λ (ss : List Seg). All (λ s. All IsOnBoard (points_of_seg s)) ss) (sym c.as_slice-seg-items.ensures) all c.loop-seg.seg-index _ (omega arith)));
+          (subst (λ (ss : List Seg). All (λ s. All IsOnBoard (points_of_seg s)) ss)
+          (sym c.as_slice-seg-items.ensures) all c.loop-seg.seg-index _ (omega arith)));
       trace = one_more (started k) c.as_slice-seg-items.result.now c.loop-seg.seg-index (Line (record { x = pos 0; y = pos 0 }))
           c.loop-seg.trace c.followed-trace.result (omega arith) c.followed-trace.ensures c.loop-seg.invariant.trace;
     }
@@ -52,5 +54,6 @@ returns c =
     c.joined.ensures.value
     ∙ ap (λ (t : Trace). join_of t.points t.arcs)
     (c.loop-seg.invariant.trace
-    ∙ ap (λ (ss : List Seg). fold followed (started k) ss) (take_all c.loop-seg.seg-index segs (omega arith) ∙ c.as_slice-seg-items.ensures))
+    ∙ ap (λ (ss : List Seg). fold followed (started k) ss)
+    (take_all c.loop-seg.seg-index segs (omega arith) ∙ c.as_slice-seg-items.ensures))
     ∙ traced_contour k

@@ -10,4 +10,5 @@ pub widened-requires-clause-bounds : goal.widened-requires-clause-bounds
 widened-requires-clause-bounds c =
     let s = c.args.stroke.now in
     subst IsNearBox (sym c.ends.ensures)
-    (within_near inner (join_of (box_of_point s.from) (box_of_point s.to)) (omega arith) (ends_of_stroke s.from s.to c.requires.from c.requires.to))
+    (within_near inner (join_of (box_of_point s.from) (box_of_point s.to)) (omega arith)
+    (ends_of_stroke s.from s.to c.requires.from c.requires.to))

@@ -13,5 +13,7 @@ point_box-all-requires c = All-head IsOnBoard c.args.contour.now.start (flat_map
 pub joined_seg-all-requires : goal.joined_seg-all-requires
 joined_seg-all-requires c =
     let segs = c.args.contour.now.segs in
-    let all = (all_flat_map IsOnBoard points_of_seg segs).1 (All-tail IsOnBoard c.args.contour.now.start (flat_map points_of_seg segs) c.requires) in
-    subst (λ (ss : List Seg). All (λ s. All IsOnBoard (points_of_seg s)) ss) (sym c.as_slice-seg-items.ensures) all c.loop-seg.seg-index _ (omega arith)
+    let all = (all_flat_map IsOnBoard points_of_seg segs).1
+    (All-tail IsOnBoard c.args.contour.now.start (flat_map points_of_seg segs) c.requires) in
+    subst (λ (ss : List Seg). All (λ s. All IsOnBoard (points_of_seg s)) ss) (sym c.as_slice-seg-items.ensures) all c.loop-seg.seg-index _
+    (omega arith)

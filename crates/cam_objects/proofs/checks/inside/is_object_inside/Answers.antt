@@ -11,5 +11,6 @@ returns-then-not-stands_on_board c = (
 
 pub returns : goal.returns
 returns c =
-    inside_one c.args.entries.now c.args.object.now c.painted_box.result c.fits_box.result (c.stands_on_board.ensures.0 c.if-not-stands_on_board.false)
+    inside_one c.args.entries.now c.args.object.now c.painted_box.result c.fits_box.result
+    (c.stands_on_board.ensures.0 c.if-not-stands_on_board.false)
     c.painted_box.ensures c.fits_box.ensures

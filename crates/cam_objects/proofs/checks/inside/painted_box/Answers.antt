@@ -20,10 +20,12 @@ bounds-requires-clause-offset c =
 pub returns-in-Flash : goal.returns-in-Flash
 returns-in-Flash c =
     let place = c.flashed-place.ensures ∙ ap (λ (p : Place). flashed p c.in-Flash.at c.in-Flash.turn c.in-Flash.dark) c.origin.ensures in
-    painted_flash c.args.entries.now c.in-Flash.aperture c.in-Flash.at c.in-Flash.turn c.in-Flash.dark c.flashed-place.result c.facts.result.now c.bounds.result
+    painted_flash c.args.entries.now c.in-Flash.aperture c.in-Flash.at c.in-Flash.turn c.in-Flash.dark c.flashed-place.result
+    c.facts.result.now c.bounds.result
     place c.facts.ensures.value c.bounds.ensures
     ∙ ap (λ (o : Object). points_bounds_of (object_leaves (meaning_in c.args.entries.now) origin o)) (sym c.in-Flash.is)
 
 pub returns-in_default : goal.returns-in_default
 returns-in_default c =
-    c.standing_box.ensures ∙ sym (painted_standing (meaning_in c.args.entries.now) c.args.object.now c.in_default.not-Flash c.requires.drawable)
+    c.standing_box.ensures ∙ sym (painted_standing
+    (meaning_in c.args.entries.now) c.args.object.now c.in_default.not-Flash c.requires.drawable)

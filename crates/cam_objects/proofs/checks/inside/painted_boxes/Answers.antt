@@ -11,5 +11,6 @@ pub returns : goal.returns
 returns c =
     let means = meaning_in c.args.entries.now in
     c.loop-object.invariant
-    ∙ ap (λ (os : List Object). box_of_all (λ o. points_bounds_of (object_leaves means origin o)) os) (take_all c.loop-object.object-index c.args.objects.now (omega arith))
+    ∙ ap (λ (os : List Object). box_of_all (λ o. points_bounds_of (object_leaves means origin o)) os)
+    (take_all c.loop-object.object-index c.args.objects.now (omega arith))
     ∙ sym (painted_all means c.args.objects.now)

@@ -9,4 +9,5 @@ use Rattle.cam_objects.proofs.checks.inside.stands_contour.Goals as goal
 pub returns : goal.returns
 returns c =
     contour_stands c.args.contour.now c.fit_segs.result (c.fits_board.ensures.0 c.if-not-fits_board.false)
-    (subst (λ (segs : List Seg). IsTrue c.fit_segs.result ↔ All (λ s. All IsOnBoard (points_of_seg s)) segs) c.as_slice.ensures c.fit_segs.ensures)
+    (subst (λ (segs : List Seg). IsTrue c.fit_segs.result ↔ All (λ s. All IsOnBoard (points_of_seg s)) segs) c.as_slice.ensures
+    c.fit_segs.ensures)

@@ -10,11 +10,13 @@ use Rattle.cam_objects.proofs.Telling.{meets_all, tells_much, tells_outside, tel
 use Rattle.cam_objects.proofs.checks.layer.check_repeat.Goals as goal
 
 abbrev Fits : List (ℕ × Entry) → ℕ → List Object → Type 0
-Fits es copies os = All (λ o. length (segs_of o) ≤ 1000000) os × ((length os ≤ 1000000) × (copies * block_count (weight_in es) os ≤ 4000000))
+Fits es copies os =
+    All (λ o. length (segs_of o) ≤ 1000000) os × ((length os ≤ 1000000) × (copies * block_count (weight_in es) os ≤ 4000000))
 
 limits_to : (es : List (ℕ × Entry)) (columns rows copies : ℕ) (i j : ℤ) (os : List Object) → copies ≡ columns * rows
     → IsWithinLimits es (Repeat columns rows i j os) → Fits es copies os
-limits_to es columns rows copies i j os e h = (h.segs, (h.objects, subst (λ k. k * block_count (weight_in es) os ≤ 4000000) (sym e) h.leaves))
+limits_to es columns rows copies i j os e h =
+    (h.segs, (h.objects, subst (λ k. k * block_count (weight_in es) os ≤ 4000000) (sym e) h.leaves))
 
 limits_from : (es : List (ℕ × Entry)) (columns rows copies : ℕ) (i j : ℤ) (os : List Object) → copies ≡ columns * rows
     → Fits es copies os → IsWithinLimits es (Repeat columns rows i j os)
@@ -60,7 +62,9 @@ returns-then-not-fits_repeat c =
     (c.are_drawable.ensures.0 c.if-not-are_drawable.false)
     (c.have_radii.ensures.0 c.if-not-have_radii.false)
     (c.is_repeat_inside.ensures.0 c.if-not-is_repeat_inside.false)
-    (λ h. false≢true (sym c.if-not-fits_repeat.true ∙ c.fits_repeat.ensures.1 (limits_to es c.args.copies.now.columns c.args.copies.now.rows c.count-2.result c.args.copies.now.i c.args.copies.now.j c.args.objects.now c.count-2.ensures h)))
+    (λ h. false≢true (sym c.if-not-fits_repeat.true
+    ∙ c.fits_repeat.ensures.1 (limits_to es c.args.copies.now.columns c.args.copies.now.rows c.count-2.result c.args.copies.now.i
+    c.args.copies.now.j c.args.objects.now c.count-2.ensures h)))
 
 pub returns : goal.returns
 returns c =
@@ -71,4 +75,5 @@ returns c =
     (c.are_drawable.ensures.0 c.if-not-are_drawable.false)
     (c.have_radii.ensures.0 c.if-not-have_radii.false)
     (c.is_repeat_inside.ensures.0 c.if-not-is_repeat_inside.false)
-    (limits_from es c.args.copies.now.columns c.args.copies.now.rows c.count-2.result c.args.copies.now.i c.args.copies.now.j c.args.objects.now c.count-2.ensures (c.fits_repeat.ensures.0 c.if-not-fits_repeat.false))
+    (limits_from es c.args.copies.now.columns c.args.copies.now.rows c.count-2.result c.args.copies.now.i c.args.copies.now.j
+    c.args.objects.now c.count-2.ensures (c.fits_repeat.ensures.0 c.if-not-fits_repeat.false))

@@ -9,4 +9,5 @@ returns-in-Some-clause-found c =
     let passes = lookup_key_passes (nat_eq c.args.number) _ c.in-Some.field-0-1.now (sym c.in-Some.ensures.key) in
     let same : c.args.number ≡ c.in-Some.field-0-1.now = eqb-true _ _ passes in
     let at = c.in-Some.ensures.entry in
-    ap (λ (es : List (ℕ × Entry)). slice_get es c.in-Some.place) (sym c.self.view_is) ∙ at ∙ ap (λ (k : ℕ). Some (k, c.in-Some.entry.now)) (sym same)
+    ap (λ (es : List (ℕ × Entry)). slice_get es c.in-Some.place) (sym c.self.view_is) ∙ at
+    ∙ ap (λ (k : ℕ). Some (k, c.in-Some.entry.now)) (sym same)

@@ -14,7 +14,8 @@ invariant_of-self-in-Ok c =
     let may = subst (λ (ds : List (ℕ × Entry)). MayAddEntry ds c.args.number c.args.entry) (sym c.self.view_is) c.requires in
     let entries = c.in-Ok.ensures.entries ∙ insert_entry-new nat_eq c.self.inside.map c.args.number c.args.entry may.absent in
     let facts : c.push.new.self.items ≡ c.self.inside.facts.items ++ c.of-facts.result ∷ [] = c.in_ok-push.ensures.items in
-    subst (λ (p : List (ℕ × Entry) × List Facts). IsKept p.0 p.1) (sym (ap (λ ds. (ds, c.push.new.self.items)) entries ∙ ap (λ fs. (es ++ (c.args.number, c.args.entry) ∷ [], fs)) facts))
+    subst (λ (p : List (ℕ × Entry) × List Facts). IsKept p.0 p.1)
+    (sym (ap (λ ds. (ds, c.push.new.self.items)) entries ∙ ap (λ fs. (es ++ (c.args.number, c.args.entry) ∷ [], fs)) facts))
     (kept_grows es c.self.inside.facts.items c.args.number c.args.entry c.of-facts.result c.self.invariant may
     (c.of-facts.ensures ∙ ap (λ (ds : List (ℕ × Entry)). facts_of ds c.args.entry) (sym c.self.view_is)))
 

@@ -21,4 +21,5 @@ loop-place-preserved c =
     (c.in-Some.ensures.found ∙ ap (λ (e : Entry). Some (c.in-Some.number, e)) (sym same)))
 
 pub returns-in-None : goal.returns-in-None
-returns-in-None c = absurd (not_past c.args.self.now c.loop-place.place (omega (arith, c.len-place-end.ensures.value)) c.in-None.ensures.past)
+returns-in-None c =
+    absurd (not_past c.args.self.now c.loop-place.place (omega (arith, c.len-place-end.ensures.value)) c.in-None.ensures.past)

@@ -22,4 +22,5 @@ pub returns : goal.returns
 returns c =
     let none : c.loop-k.k ≡ 0 = omega arith in
     c.loop-k.invariant.rest None
-    (subst (λ (k : ℕ). IsUncovered (drill_leaves c.args.tools.now (take k c.args.items.now)) c.args.spot) (sym none) (uncovered_nil c.args.spot))
+    (subst (λ (k : ℕ). IsUncovered (drill_leaves c.args.tools.now (take k c.args.items.now)) c.args.spot) (sym none)
+    (uncovered_nil c.args.spot))

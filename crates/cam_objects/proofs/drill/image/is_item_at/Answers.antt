@@ -21,4 +21,5 @@ is_rout_at-requires-clause-points c =
     (subst (λ (item : DrillItem). All IsOnBoard (drill_points_of item)) c.in-Rout.is (c.requires.item OutOfBoard))
 
 pub is_rout_at-requires-clause-diameter : goal.is_rout_at-requires-clause-diameter
-is_rout_at-requires-clause-diameter c = tool_size c.args.tools.now c.in-Rout.tool c.in-Some-get.diameter c.requires.tools (sym c.in-Some-get.ensures)
+is_rout_at-requires-clause-diameter c =
+    tool_size c.args.tools.now c.in-Rout.tool c.in-Some-get.diameter c.requires.tools (sym c.in-Some-get.ensures)

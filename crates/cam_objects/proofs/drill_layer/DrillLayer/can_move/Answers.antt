@@ -18,5 +18,7 @@ can_move_points-requires-in-Rout-clause-points c =
 
 pub returns-in-Rout : goal.returns-in-Rout
 returns-in-Rout c =
-    subst (λ (item : DrillItem). IsTrue c.can_move_points-in-Rout.result ↔ MeetsDrillItem c.args.self.now.tools (shifted_drill_item c.args.by item) OutOfBoard) (sym c.in-Rout.is)
-    (subst (λ (points : List Point). IsTrue c.can_move_points-in-Rout.result ↔ All IsOnBoard (map (shifted_point c.args.by) points)) c.as_slice.ensures c.can_move_points-in-Rout.ensures)
+    subst (λ (item : DrillItem). IsTrue c.can_move_points-in-Rout.result ↔ MeetsDrillItem c.args.self.now.tools
+    (shifted_drill_item c.args.by item) OutOfBoard) (sym c.in-Rout.is)
+    (subst (λ (points : List Point). IsTrue c.can_move_points-in-Rout.result ↔ All IsOnBoard (map (shifted_point c.args.by) points))
+    c.as_slice.ensures c.can_move_points-in-Rout.ensures)

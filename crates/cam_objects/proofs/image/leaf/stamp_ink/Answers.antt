@@ -9,5 +9,6 @@ pub returns : goal.returns
 returns c =
     inks_where c.args.spot (leaf (Stamp c.args.aperture.now c.args.place.now.turn c.args.place.now.offset) c.args.place.now.dark)
     c.covers-covered.result c.ink_where.result
-    (subst (λ (s : Spot). IsTrue c.covers-covered.result ↔ IsCovered c.args.aperture.now c.args.place.now.turn s) c.relative.ensures.value c.covers-covered.ensures)
+    (subst (λ (s : Spot). IsTrue c.covers-covered.result ↔ IsCovered c.args.aperture.now c.args.place.now.turn s) c.relative.ensures.value
+    c.covers-covered.ensures)
     c.ink_where.ensures

@@ -17,5 +17,6 @@ decreases-block_ink l = 3 * l.upto + 2
 abbrev pub invariant-block_ink-loop-k : goal.invariant-block_ink-loop-k
 invariant-block_ink-loop-k l = record {
   here : l.k ≤ length l.objects;
-  rest : (ink : Option Bool) → Inks (block_leaves (meaning_before l.upto l.entries) l.place (take l.k l.objects)) l.spot ink → Inks (block_leaves (meaning_before l.upto l.entries) l.place l.objects) l.spot ink;
+  rest : (ink : Option Bool) → Inks (block_leaves (meaning_before l.upto l.entries) l.place (take l.k l.objects)) l.spot ink
+      → Inks (block_leaves (meaning_before l.upto l.entries) l.place l.objects) l.spot ink;
 }

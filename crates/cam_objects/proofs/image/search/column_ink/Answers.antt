@@ -35,7 +35,8 @@ loop-r-preserved c =
     let off = no_ink c.args.spot (f (c.loop-r.r - 1)) ink (sym c.is_some.ensures ∙ c.if-is_some.false) made in
     record {
       here = omega arith;
-      rest = λ ink front. c.loop-r.invariant.rest ink (copy_undecided c.args.spot f (c.loop-r.r - 1) c.loop-r.r ink (omega arith) off front);
+      rest =
+          λ ink front. c.loop-r.invariant.rest ink (copy_undecided c.args.spot f (c.loop-r.r - 1) c.loop-r.r ink (omega arith) off front);
     }
 
 pub returns : goal.returns
@@ -43,5 +44,6 @@ returns c =
     let p = c.args.copies.now in
     let none : c.loop-r.r ≡ 0 = omega arith in
     c.loop-r.invariant.rest None
-    (subst (λ (r : ℕ). IsUncovered (column_leaves (meaning_in c.args.entries.now) (pos c.args.column *ℤ p.i) r p.j c.args.objects.now) c.args.spot)
+    (subst (λ (r : ℕ). IsUncovered (column_leaves (meaning_in c.args.entries.now) (pos c.args.column *ℤ p.i) r p.j c.args.objects.now)
+    c.args.spot)
     (sym none) (uncovered_nil c.args.spot))

@@ -15,7 +15,8 @@ block_ink-requires-clause-ready c =
 pub returns : goal.returns
 returns c =
     let ink = c.block_ink.result in
-    let placed = subst (λ (p : Place). Inks (block_leaves (meaning_before c.len.result c.args.entries.now) p c.args.objects.now) c.args.spot ink)
+    let placed = subst (λ (p : Place). Inks (block_leaves (meaning_before c.len.result c.args.entries.now) p c.args.objects.now) c.args.spot
+    ink)
     c.shifted-place.ensures c.block_ink.ensures in
     subst (λ (m : ℕ → Meaning). Inks (block_leaves m (shifted c.args.by.x c.args.by.y) c.args.objects.now) c.args.spot ink)
     (meaning_whole c.args.entries.now c.len.result c.len.ensures.value) placed

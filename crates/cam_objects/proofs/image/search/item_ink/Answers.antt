@@ -22,8 +22,10 @@ returns-in-One c =
     let n = c.len.result in
     let o = c.in-One.object in
     let ink = c.object_ink.result in
-    let placed = subst (λ (q : Place). Inks (object_leaves (meaning_before n c.args.entries.now) q o) c.args.spot ink) c.origin.ensures c.object_ink.ensures in
-    let whole = subst (λ (m : ℕ → Meaning). Inks (object_leaves m origin o) c.args.spot ink) (meaning_whole c.args.entries.now n c.len.ensures.value) placed in
+    let placed = subst (λ (q : Place). Inks (object_leaves (meaning_before n c.args.entries.now) q o) c.args.spot ink) c.origin.ensures
+    c.object_ink.ensures in
+    let whole = subst (λ (m : ℕ → Meaning). Inks (object_leaves m origin o) c.args.spot ink)
+    (meaning_whole c.args.entries.now n c.len.ensures.value) placed in
     subst (λ (item : Item). Inks (item_leaves (meaning_in c.args.entries.now) item) c.args.spot ink) (sym c.in-One.is) whole
 
 pub is_repeat_missed-requires-clause-repeat : goal.is_repeat_missed-requires-clause-repeat
@@ -54,4 +56,5 @@ repeat_ink-requires c =
 pub returns-else-is_repeat_missed : goal.returns-else-is_repeat_missed
 returns-else-is_repeat_missed c =
     let made = repeat_again _ _ _ _ _ _ _ _ c.in-Repeat.is c.copies-copies.ensures c.as_slice-objects.ensures in
-    subst (λ (x : Item). Inks (item_leaves (meaning_in c.args.entries.now) x) c.args.spot c.repeat_ink.result) (sym made) c.repeat_ink.ensures
+    subst (λ (x : Item). Inks (item_leaves (meaning_in c.args.entries.now) x) c.args.spot c.repeat_ink.result)
+    (sym made) c.repeat_ink.ensures

@@ -8,7 +8,8 @@ use Rattle.cam_objects.proofs.image.search.repeat_ink.Goals as goal
 pub column_ink-ink-requires-clause-ready : goal.column_ink-ink-requires-clause-ready
 column_ink-ink-requires-clause-ready c =
     let p = c.args.copies.now in
-    ready_copy c.args.entries.now c.args.spot (λ k. column_leaves (meaning_in c.args.entries.now) (pos k *ℤ p.i) p.rows p.j c.args.objects.now)
+    ready_copy c.args.entries.now c.args.spot (λ k. column_leaves (meaning_in c.args.entries.now)
+    (pos k *ℤ p.i) p.rows p.j c.args.objects.now)
     p.columns (c.loop-c.c - 1) (omega arith) c.requires.ready
 
 pub returns-then-is_some : goal.returns-then-is_some
@@ -27,7 +28,8 @@ loop-c-preserved c =
     let off = no_ink c.args.spot (f (c.loop-c.c - 1)) ink (sym c.is_some.ensures ∙ c.if-is_some.false) c.column_ink-ink.ensures in
     record {
       here = omega arith;
-      rest = λ ink front. c.loop-c.invariant.rest ink (copy_undecided c.args.spot f (c.loop-c.c - 1) c.loop-c.c ink (omega arith) off front);
+      rest =
+          λ ink front. c.loop-c.invariant.rest ink (copy_undecided c.args.spot f (c.loop-c.c - 1) c.loop-c.c ink (omega arith) off front);
     }
 
 pub returns : goal.returns

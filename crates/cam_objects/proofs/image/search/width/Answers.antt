@@ -10,11 +10,13 @@ use Rattle.cam_objects.proofs.image.search.width.Goals as goal
 
 pub returns-in-None-clause-value : goal.returns-in-None-clause-value
 returns-in-None-clause-value c =
-    ap (λ (m : Meaning). m.width) (sym (meaning-absent c.args.entries.now c.args.upto c.args.number c.in-None.ensures.absent c.requires.within))
+    ap (λ (m : Meaning). m.width) (sym (meaning-absent c.args.entries.now c.args.upto c.args.number c.in-None.ensures.absent
+    c.requires.within))
 
 pub returns-then-upto-at-clause-value : goal.returns-then-upto-at-clause-value
 returns-then-upto-at-clause-value c =
-    ap (λ (m : Meaning). m.width) (sym (meaning-later c.args.entries.now c.in-Some.found.0 c.args.upto c.args.number c.in-Some.found.1.now c.find.ensures.distinct c.in-Some.ensures.found c.if-upto-at.true))
+    ap (λ (m : Meaning). m.width) (sym (meaning-later c.args.entries.now c.in-Some.found.0 c.args.upto c.args.number c.in-Some.found.1.now
+    c.find.ensures.distinct c.in-Some.ensures.found c.if-upto-at.true))
 
 pub returns-clause-value : goal.returns-clause-value
 returns-clause-value c =

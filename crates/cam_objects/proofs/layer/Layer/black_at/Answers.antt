@@ -15,13 +15,15 @@ ink-requires-clause-items c =
 
 pub ink-requires-clause-ready : goal.ink-requires-clause-ready
 ink-requires-clause-ready c =
-    subst (λ (items : List Item). IsReady c.args.self.now.apertures c.args.spot (leaves_of c.args.self.now.apertures items)) (sym c.deref.ensures.value)
+    subst (λ (items : List Item). IsReady c.args.self.now.apertures c.args.spot (leaves_of c.args.self.now.apertures items))
+    (sym c.deref.ensures.value)
     (ready_layer c.args.self.now c.args.spot c.requires.sound c.requires.spot)
 
 pub returns-clause-image : goal.returns-clause-image
 returns-clause-image c =
     let l = c.args.self.now in
-    let inks = subst (λ (items : List Item). Inks (leaves_of l.apertures items) c.args.spot c.ink.result) c.deref.ensures.value c.ink.ensures in
+    let inks = subst (λ (items : List Item). Inks (leaves_of l.apertures items) c.args.spot c.ink.result) c.deref.ensures.value
+    c.ink.ensures in
     subst (λ (b : Bool). IsTrue b ↔ IsBlack (leaves_of l.apertures l.items.items) c.args.spot) (sym c.unwrap_or.ensures)
     (black_from_ink c.args.spot (leaves_of l.apertures l.items.items) c.ink.result inks)
 

@@ -10,7 +10,8 @@ use Rattle.cam_objects.proofs.layer.Layer.bounds_of.Goals as goal
 
 pub object_bounds-requires-clause-stands : goal.object_bounds-requires-clause-stands
 object_bounds-requires-clause-stands c =
-    let sound : IsSoundItem c.args.self.now.apertures (One c.in-One.object) = subst (IsSoundItem c.args.self.now.apertures) c.in-One.is c.requires in
+    let sound : IsSoundItem c.args.self.now.apertures (One c.in-One.object) =
+    subst (IsSoundItem c.args.self.now.apertures) c.in-One.is c.requires in
     let inside : IsInside c.args.self.now.apertures (One c.in-One.object) = sound OutOfBoard in
     inside.points 0 c.in-One.object (omega arith)
 

@@ -13,7 +13,8 @@ can_move_object-requires-clause-object c = subst (IsSoundItem c.args.self.now.ap
 
 pub can_move_object-requires-clause-drawable : goal.can_move_object-requires-clause-drawable
 can_move_object-requires-clause-drawable c =
-    All-head (IsDrawable (meaning_in c.args.self.now.apertures)) c.in-One.object [] (subst (IsSoundItem c.args.self.now.apertures) c.in-One.is c.requires.item WrongAperture)
+    All-head (IsDrawable (meaning_in c.args.self.now.apertures)) c.in-One.object []
+    (subst (IsSoundItem c.args.self.now.apertures) c.in-One.is c.requires.item WrongAperture)
 
 pub can_move_repeat-requires : goal.can_move_repeat-requires
 can_move_repeat-requires c =

@@ -30,5 +30,6 @@ pub returns-in-Repeat : goal.returns-in-Repeat
 returns-in-Repeat g c =
     let canvas = g.C.Canvas in
     let made = repeat_again _ _ _ _ _ _ _ _ c.in-Repeat.is c.copies-copies.ensures c.as_slice.ensures in
-    subst (λ (item : Item). Paints canvas.has canvas.place canvas.ink c.args.canvas.now (item_leaves (meaning_in c.args.entries.now) item) c.paint_repeat.new.canvas)
+    subst (λ (item : Item). Paints canvas.has canvas.place canvas.ink c.args.canvas.now
+    (item_leaves (meaning_in c.args.entries.now) item) c.paint_repeat.new.canvas)
     (sym made) c.paint_repeat.ensures

@@ -65,7 +65,8 @@ paint_column-requires-clause-ready g c =
     let p = c.args.copies.now in
     let es = c.args.entries.now in
     let below : c.loop-c.c < p.columns = omega (arith, c.columns_over-columns.ensures.within.end) in
-    ready_copy es middle (λ k. column_leaves (meaning_in es) (pos k *ℤ p.i) p.rows p.j c.args.objects.now) p.columns c.loop-c.c below c.requires.ready
+    ready_copy es middle (λ k. column_leaves (meaning_in es) (pos k *ℤ p.i) p.rows p.j c.args.objects.now) p.columns c.loop-c.c below
+    c.requires.ready
 
 pub paint_column-requires-clause-unseen : goal.paint_column-requires-clause-unseen
 paint_column-requires-clause-unseen g c = λ r below off.

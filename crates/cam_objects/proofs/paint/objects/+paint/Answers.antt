@@ -11,7 +11,20 @@ use Rattle.cam_objects.specs.Machinery.Painting.{HasReach, IsPrintable, StandsOn
 use Rattle.cam_objects.specs.Soundness.{AreOnBoard}
 use Rattle.cam_objects.proofs.Canvases.{paints_missed, paints_next, paints_nothing, sound_print}
 use Rattle.cam_objects.proofs.ItemBounds.{flash_box, meaning_among}
-use Rattle.cam_objects.proofs.Painting.{aperture_sound, block_stands, drawn_points, filled_placeable, meaning-absent, meaning-at, meaning-later, paintable_block, paintable_object, paintable_stamp, stands_at, swept_points}
+use Rattle.cam_objects.proofs.Painting.{
+  aperture_sound,
+  block_stands,
+  drawn_points,
+  filled_placeable,
+  meaning-absent,
+  meaning-at,
+  meaning-later,
+  paintable_block,
+  paintable_object,
+  paintable_stamp,
+  stands_at,
+  swept_points,
+}
 use Rattle.cam_objects.proofs.Placed.{reach_box, reach_flashed, reach_offset}
 use Rattle.cam_objects.proofs.paint.objects.+paint.Goals as goal
 
@@ -32,7 +45,8 @@ paint_block-paint_object-requires g t c κs within =
         within,
         (
           stands_at objects i x below c.object-item.is c.requires.objects,
-          paintable_object c.args.entries.now c.args.upto (c.args.upto + 1) i objects x c.args.place.now middle below c.object-item.is c.requires.ready,
+          paintable_object c.args.entries.now c.args.upto
+              (c.args.upto + 1) i objects x c.args.place.now middle below c.object-item.is c.requires.ready,
         ),
       ),
     )
@@ -50,7 +64,8 @@ paint_block-returns g t c =
     let canvas = g.C.Canvas in
     let means = meaning_before c.args.upto c.args.entries.now in
     let all = take_all c.loop-object.object-index c.args.objects.now (omega (arith, c.loop-object-test.false)) in
-    subst (λ (os : List Object). Paints canvas.has canvas.place canvas.ink c.args.canvas.now (block_leaves means c.args.place.now os) c.loop-object.canvas)
+    subst (λ (os : List Object). Paints canvas.has canvas.place canvas.ink c.args.canvas.now
+    (block_leaves means c.args.place.now os) c.loop-object.canvas)
     all c.loop-object.invariant
 
 -- ---- a flash
@@ -68,7 +83,8 @@ paint_flash-returns-then-upto-at g t c =
     let canvas = g.C.Canvas in
     let v = c.args.canvas.now in
     subst (λ (m : Meaning). Paints canvas.has canvas.place canvas.ink v (m.flash c.args.place.now) v)
-    (sym (meaning-later c.args.entries.now c.in-Some.found.0 c.args.upto c.args.number c.in-Some.found.1.now c.find_with_facts.ensures.distinct c.in-Some.ensures.found c.if-upto-at.true))
+    (sym (meaning-later c.args.entries.now c.in-Some.found.0 c.args.upto c.args.number c.in-Some.found.1.now
+    c.find_with_facts.ensures.distinct c.in-Some.ensures.found c.if-upto-at.true))
     (paints_nothing canvas.has canvas.place canvas.ink v)
 
 pub paint_flash-bounds-bounds-requires-clause-offset : goal.paint_flash-bounds-bounds-requires-clause-offset
@@ -80,7 +96,8 @@ paint_flash-returns-then-misses g t c =
     let v = c.args.canvas.now in
     let es = c.args.entries.now in
     let p = c.args.place.now in
-    let among = meaning_among es c.in-Some.found.0 c.args.upto c.args.number c.in-Some.found.1.now c.find_with_facts.ensures.distinct c.in-Some.ensures.found (omega (arith, c.if-upto-at.false)) c.requires.within in
+    let among = meaning_among es c.in-Some.found.0 c.args.upto c.args.number c.in-Some.found.1.now c.find_with_facts.ensures.distinct
+    c.in-Some.ensures.found (omega (arith, c.if-upto-at.false)) c.requires.within in
     let box = flash_box es c.args.number p c.in-Some.found.2.now c.bounds-bounds.result c.in-Some.ensures.value c.bounds-bounds.ensures in
     paints_missed canvas.has canvas.place canvas.ink v (flash_leaves c.args.upto es c.args.number p) c.bounds-bounds.result
     (box ∙ ap (λ (m : Meaning). bounds_of (m.flash p)) (sym among)) (c.misses.ensures c.if-misses.true)
@@ -91,7 +108,8 @@ paint_flash-paint-requires g t c =
     let p = c.args.place.now in
     let i = c.in-Some.found.0 in
     let below : i < c.args.upto = omega (arith, c.if-upto-at.false) in
-    let at : slice_get es i ≡ Some (c.args.number, Aperture c.in-Aperture.aperture) = c.in-Some.ensures.found ∙ ap (λ (e : Entry). Some (c.args.number, e)) c.in-Aperture.is in
+    let at : slice_get es i ≡ Some (c.args.number, Aperture c.in-Aperture.aperture) =
+    c.in-Some.ensures.found ∙ ap (λ (e : Entry). Some (c.args.number, e)) c.in-Aperture.is in
     let entry = Aperture c.in-Aperture.aperture in
     let among = meaning_among es i c.args.upto c.args.number entry c.find_with_facts.ensures.distinct at below c.requires.within in
     let means = meaning-at es i c.args.upto c.args.number entry c.find_with_facts.ensures.distinct at below c.requires.within in
@@ -107,15 +125,19 @@ paint_flash-paint_block-requires g t c κs within =
     let es = c.args.entries.now in
     let i = c.in-Some.found.0 in
     let below : i < c.args.upto = omega (arith, c.if-upto-at.false) in
-    let at : slice_get es i ≡ Some (c.args.number, Block c.in-Block.objects) = c.in-Some.ensures.found ∙ ap (λ (e : Entry). Some (c.args.number, e)) c.in-Block.is in
+    let at : slice_get es i ≡ Some (c.args.number, Block c.in-Block.objects) =
+    c.in-Some.ensures.found ∙ ap (λ (e : Entry). Some (c.args.number, e)) c.in-Block.is in
     let same : c.in-Block.objects ≡ c.as_slice.result.now = sym c.as_slice.ensures in (
       omega (arith, c.decreases, below),
       (
         within,
         (
-          subst (λ (os : List Object). (k : ℕ) (d : Object) → k < length os → StandsOnBoard (get_or os k d)) same (block_stands es i c.args.number c.in-Block.objects at c.requires.sound),
-          subst (λ (os : List Object). IsPrintable es i (i + 1) c.args.place.now (block_leaves (meaning_before i es) c.args.place.now os)) same
-              (paintable_block es c.args.upto i c.args.number c.in-Block.objects c.args.place.now middle c.find_with_facts.ensures.distinct at below c.requires),
+          subst (λ (os : List Object). (k : ℕ) (d : Object) → k < length os → StandsOnBoard (get_or os k d)) same
+              (block_stands es i c.args.number c.in-Block.objects at c.requires.sound),
+          subst (λ (os : List Object). IsPrintable es i (i + 1) c.args.place.now (block_leaves (meaning_before i es) c.args.place.now os))
+              same
+              (paintable_block es c.args.upto i c.args.number c.in-Block.objects c.args.place.now middle c.find_with_facts.ensures.distinct
+              at below c.requires),
         ),
       ),
     )
@@ -125,9 +147,11 @@ paint_flash-returns-in-Aperture g t c =
     let canvas = g.C.Canvas in
     let es = c.args.entries.now in
     let i = c.in-Some.found.0 in
-    let at : slice_get es i ≡ Some (c.args.number, Aperture c.in-Aperture.aperture) = c.in-Some.ensures.found ∙ ap (λ (e : Entry). Some (c.args.number, e)) c.in-Aperture.is in
+    let at : slice_get es i ≡ Some (c.args.number, Aperture c.in-Aperture.aperture) =
+    c.in-Some.ensures.found ∙ ap (λ (e : Entry). Some (c.args.number, e)) c.in-Aperture.is in
     subst (λ (m : Meaning). Paints canvas.has canvas.place canvas.ink c.args.canvas.now (m.flash c.args.place.now) c.paint.new.self)
-    (sym (meaning-at es i c.args.upto c.args.number (Aperture c.in-Aperture.aperture) c.find_with_facts.ensures.distinct at (omega (arith, c.if-upto-at.false)) c.requires.within))
+    (sym (meaning-at es i c.args.upto c.args.number (Aperture c.in-Aperture.aperture) c.find_with_facts.ensures.distinct at
+    (omega (arith, c.if-upto-at.false)) c.requires.within))
     c.paint.ensures
 
 pub paint_flash-returns-in-Block : goal.paint_flash-returns-in-Block
@@ -135,10 +159,13 @@ paint_flash-returns-in-Block g t c =
     let canvas = g.C.Canvas in
     let es = c.args.entries.now in
     let i = c.in-Some.found.0 in
-    let at : slice_get es i ≡ Some (c.args.number, Block c.in-Block.objects) = c.in-Some.ensures.found ∙ ap (λ (e : Entry). Some (c.args.number, e)) c.in-Block.is in
+    let at : slice_get es i ≡ Some (c.args.number, Block c.in-Block.objects) =
+    c.in-Some.ensures.found ∙ ap (λ (e : Entry). Some (c.args.number, e)) c.in-Block.is in
     subst (λ (m : Meaning). Paints canvas.has canvas.place canvas.ink c.args.canvas.now (m.flash c.args.place.now) c.paint_block.new.canvas)
-    (sym (meaning-at es i c.args.upto c.args.number (Block c.in-Block.objects) c.find_with_facts.ensures.distinct at (omega (arith, c.if-upto-at.false)) c.requires.within))
-    (subst (λ (os : List Object). Paints canvas.has canvas.place canvas.ink c.args.canvas.now (block_leaves (meaning_before i es) c.args.place.now os) c.paint_block.new.canvas)
+    (sym (meaning-at es i c.args.upto c.args.number (Block c.in-Block.objects) c.find_with_facts.ensures.distinct at
+    (omega (arith, c.if-upto-at.false)) c.requires.within))
+    (subst (λ (os : List Object). Paints canvas.has canvas.place canvas.ink c.args.canvas.now
+    (block_leaves (meaning_before i es) c.args.place.now os) c.paint_block.new.canvas)
     c.as_slice.ensures c.paint_block.ensures)
 
 -- ---- an object
@@ -154,8 +181,11 @@ paint_object-paint_flash-requires g t c κs within = (
     record {
       within = c.requires.ready.within;
       sound = c.requires.ready.sound;
-      board = subst (λ (q : Place). AreOnBoard (flash_leaves c.args.upto c.args.entries.now c.in-Flash.aperture q)) (sym c.flashed-inner.ensures)
-          (subst (λ (o : Object). AreOnBoard (object_leaves (meaning_before c.args.upto c.args.entries.now) c.args.place.now o)) c.in-Flash.is c.requires.ready.board);
+      board =
+          subst (λ (q : Place). AreOnBoard (flash_leaves c.args.upto c.args.entries.now c.in-Flash.aperture q))
+          (sym c.flashed-inner.ensures)
+          (subst (λ (o : Object). AreOnBoard (object_leaves (meaning_before c.args.upto c.args.entries.now) c.args.place.now o))
+          c.in-Flash.is c.requires.ready.board);
       reach = subst (HasReach c.args.upto) (sym c.flashed-inner.ensures)
           (reach_flashed c.args.upto c.args.place.now c.in-Flash.at c.in-Flash.turn c.in-Flash.dark
           (subst StandsOnBoard c.in-Flash.is c.requires.object 0 c.in-Flash.at (omega arith)) c.requires.ready.reach);
@@ -170,14 +200,16 @@ paint_object-paint_stroke-requires-clause-offset g t c = reach_offset (c.args.up
 pub paint_object-paint_stroke-requires-clause-from : goal.paint_object-paint_stroke-requires-clause-from
 paint_object-paint_stroke-requires-clause-from g t c =
     let means = meaning_before c.args.upto c.args.entries.now in
-    (drawn_points means c.args.place.now c.in-Draw.aperture c.in-Draw.from c.in-Draw.to c.in-Draw.turn c.in-Draw.dark c.in-Some.width c.in-Some.ensures.value
+    (drawn_points means c.args.place.now c.in-Draw.aperture c.in-Draw.from c.in-Draw.to c.in-Draw.turn c.in-Draw.dark c.in-Some.width
+    c.in-Some.ensures.value
     (subst StandsOnBoard c.in-Draw.is c.requires.object)
     (subst (λ (o : Object). AreOnBoard (object_leaves means c.args.place.now o)) c.in-Draw.is c.requires.ready.board)).0
 
 pub paint_object-paint_stroke-requires-clause-to : goal.paint_object-paint_stroke-requires-clause-to
 paint_object-paint_stroke-requires-clause-to g t c =
     let means = meaning_before c.args.upto c.args.entries.now in
-    (drawn_points means c.args.place.now c.in-Draw.aperture c.in-Draw.from c.in-Draw.to c.in-Draw.turn c.in-Draw.dark c.in-Some.width c.in-Some.ensures.value
+    (drawn_points means c.args.place.now c.in-Draw.aperture c.in-Draw.from c.in-Draw.to c.in-Draw.turn c.in-Draw.dark c.in-Some.width
+    c.in-Some.ensures.value
     (subst StandsOnBoard c.in-Draw.is c.requires.object)
     (subst (λ (o : Object). AreOnBoard (object_leaves means c.args.place.now o)) c.in-Draw.is c.requires.ready.board)).1
 
@@ -187,21 +219,24 @@ paint_object-paint_sweep-requires-clause-offset g t c = reach_offset (c.args.upt
 pub paint_object-paint_sweep-requires-clause-from : goal.paint_object-paint_sweep-requires-clause-from
 paint_object-paint_sweep-requires-clause-from g t c =
     let means = meaning_before c.args.upto c.args.entries.now in
-    (swept_points means c.args.place.now c.in-Arc.aperture c.in-Arc.from c.in-Arc.to c.in-Arc.centre c.in-Arc.ccw c.in-Arc.dark c.in-Some-width.width c.in-Some-width.ensures.value
+    (swept_points means c.args.place.now c.in-Arc.aperture c.in-Arc.from c.in-Arc.to c.in-Arc.centre c.in-Arc.ccw c.in-Arc.dark
+    c.in-Some-width.width c.in-Some-width.ensures.value
     (subst StandsOnBoard c.in-Arc.is c.requires.object)
     (subst (λ (o : Object). AreOnBoard (object_leaves means c.args.place.now o)) c.in-Arc.is c.requires.ready.board)).0
 
 pub paint_object-paint_sweep-requires-clause-to : goal.paint_object-paint_sweep-requires-clause-to
 paint_object-paint_sweep-requires-clause-to g t c =
     let means = meaning_before c.args.upto c.args.entries.now in
-    (swept_points means c.args.place.now c.in-Arc.aperture c.in-Arc.from c.in-Arc.to c.in-Arc.centre c.in-Arc.ccw c.in-Arc.dark c.in-Some-width.width c.in-Some-width.ensures.value
+    (swept_points means c.args.place.now c.in-Arc.aperture c.in-Arc.from c.in-Arc.to c.in-Arc.centre c.in-Arc.ccw c.in-Arc.dark
+    c.in-Some-width.width c.in-Some-width.ensures.value
     (subst StandsOnBoard c.in-Arc.is c.requires.object)
     (subst (λ (o : Object). AreOnBoard (object_leaves means c.args.place.now o)) c.in-Arc.is c.requires.ready.board)).1
 
 pub paint_object-paint_sweep-requires-clause-centre : goal.paint_object-paint_sweep-requires-clause-centre
 paint_object-paint_sweep-requires-clause-centre g t c =
     let means = meaning_before c.args.upto c.args.entries.now in
-    (swept_points means c.args.place.now c.in-Arc.aperture c.in-Arc.from c.in-Arc.to c.in-Arc.centre c.in-Arc.ccw c.in-Arc.dark c.in-Some-width.width c.in-Some-width.ensures.value
+    (swept_points means c.args.place.now c.in-Arc.aperture c.in-Arc.from c.in-Arc.to c.in-Arc.centre c.in-Arc.ccw c.in-Arc.dark
+    c.in-Some-width.width c.in-Some-width.ensures.value
     (subst StandsOnBoard c.in-Arc.is c.requires.object)
     (subst (λ (o : Object). AreOnBoard (object_leaves means c.args.place.now o)) c.in-Arc.is c.requires.ready.board)).2
 
@@ -211,6 +246,7 @@ paint_object-paint_region-requires-clause-offset g t c = reach_offset (c.args.up
 pub paint_object-paint_region-requires-clause-contour : goal.paint_object-paint_region-requires-clause-contour
 paint_object-paint_region-requires-clause-contour g t c =
     let means = meaning_before c.args.upto c.args.entries.now in
-    filled_placeable means c.args.place.now c.in-Region.contour c.in-Region.dark (reach_offset (c.args.upto + 1) c.args.place.now c.requires.ready.reach)
+    filled_placeable means c.args.place.now c.in-Region.contour c.in-Region.dark
+    (reach_offset (c.args.upto + 1) c.args.place.now c.requires.ready.reach)
     (subst StandsOnBoard c.in-Region.is c.requires.object)
     (subst (λ (o : Object). AreOnBoard (object_leaves means c.args.place.now o)) c.in-Region.is c.requires.ready.board)

@@ -21,10 +21,14 @@ block_bounds-requires c =
     let painted = painted_block es c.in-Block.objects block in
     record {
       stands = subst (λ (os : List Object). All StandsOnBoard os) (sym c.as_slice-objects.ensures) painted.stands;
-      board = subst (λ (os : List Object). AreOnBoard (block_leaves (meaning_in es) origin os)) (sym c.as_slice-objects.ensures) (board_block es c.in-Block.objects block);
+      board =
+          subst (λ (os : List Object). AreOnBoard (block_leaves (meaning_in es) origin os)) (sym c.as_slice-objects.ensures)
+          (board_block es c.in-Block.objects block);
     }
 
 pub returns-in-Block : goal.returns-in-Block
 returns-in-Block c =
-    block_facts c.args.entries.now c.args.entry.now c.in-Block.objects c.as_slice-objects.result.now c.leaf_count.result c.depth.result c.painted_boxes.result c.block_bounds.result
-    c.in-Block.is c.as_slice-objects.ensures c.leaf_count.ensures.value c.depth.ensures.value c.painted_boxes.ensures c.block_bounds.ensures.value
+    block_facts c.args.entries.now c.args.entry.now c.in-Block.objects c.as_slice-objects.result.now c.leaf_count.result c.depth.result
+    c.painted_boxes.result c.block_bounds.result
+    c.in-Block.is c.as_slice-objects.ensures c.leaf_count.ensures.value c.depth.ensures.value c.painted_boxes.ensures
+    c.block_bounds.ensures.value
