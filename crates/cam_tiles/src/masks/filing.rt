@@ -23,7 +23,7 @@ use cam_shapes::{Cap, Contour, Seg};
 use cam_units::{Nm, Point};
 
 /// A segment that may change sides in some rows; places are in half nm.
-#[derive(Clone, Copy, Debug, PartialEq, Eq)]
+#[derive(Clone, Copy)]
 pub(crate) struct FiledSegment {
     /// Its number in the contour; the line that closes the contour has the number behind the last one.
     pub(crate) place: u32,

@@ -5,7 +5,7 @@ ghost use Rattle.cam_units.specs.declared.point.Spot.{Spot};
 ghost use Rattle.cam_tiles.specs.Machinery.Masks.{IsWithin};
 
 /// The heights from a low to a high one, both included, in half nm; none where `high` is less than `low`.
-#[derive(Clone, Copy, Debug, PartialEq, Eq)]
+#[derive(Clone, Copy)]
 pub(crate) struct Heights {
     pub(crate) low: i64,
     pub(crate) high: i64,

@@ -7,7 +7,7 @@ ghost use Rattle.cam_tiles.specs.Machinery.Masks.{inked, joined};
 use cam_rows::{clear_rows, or_rows, xor_rows};
 
 /// What becomes of the marks of a mask where others are joined with them.
-#[derive(Clone, Copy, Debug)]
+#[derive(Clone, Copy)]
 pub(crate) enum Join {
     /// The others are added.
     Add,

@@ -21,7 +21,7 @@ use cam_shapes::{Arc, Bar, Cap, Capsule, Disc, Obround, Rectangle};
 use cam_units::{Nm, Point, isqrt};
 
 /// The open disc of a hole.
-#[derive(Clone, Copy, Debug)]
+#[derive(Clone, Copy)]
 pub(crate) struct Hole(pub(crate) Disc);
 
 impl RowShape for Disc {
