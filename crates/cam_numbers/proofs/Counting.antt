@@ -100,7 +100,7 @@ unfolding decimals_after
 decimals_after-digit counted sum worth byte run e =
     let more : counted + 1 + length run ≡ counted + length (byte ∷ run) = omega arith in
     let step : decimals_after counted sum worth (byte ∷ run) ≡ decimals_after (counted + 1) (sum + digit_value byte * worth)
-        (worth / 10) run =
+    (worth / 10) run =
     rw (e, more, add_assoc sum (digit_value byte * worth) (worth_of (worth / 10) run)) refl in
     step ∙ ap (λ d. decimals_after (counted + 1) (sum + d * worth) (worth / 10) run) (digit_is byte e)
 
@@ -172,8 +172,12 @@ told run d e =
       | true ↦ λ t.
           let same : Some d ≡ Some (record { count = 0 + length run; value = 0 + worth_of 100000000 run }) = rw t at e in
           let is : d ≡ record { count = 0 + length run; value = 0 + worth_of 100000000 run } = cc in
-          record { digits = t; counts = ap (λ r. r.count) is ∙ (omega arith); values = ap (λ r. r.value) is ∙ omega arith
-              ∙ billionths_are run }
+          record {
+            digits = t;
+            counts = ap (λ r. r.count) is ∙ (omega arith);
+            values = ap (λ r. r.value) is ∙ omega arith
+                ∙ billionths_are run;
+          }
       | false ↦ λ t. let none : Some d ≡ None = rw t at e in absurd cc
     ]) refl
 

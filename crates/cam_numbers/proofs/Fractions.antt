@@ -31,11 +31,11 @@ skipped_before : (run : List ℕ) → kept Skipped (take (position_or_len is_poi
 skipped_before [] = refl
 skipped_before (byte ∷ run) =
     (elim (is_blank byte) as (λ s. is_blank byte ≡ s → kept Skipped (take (position_or_len is_point (byte ∷ run)) (byte ∷ run))
-        ≡ before_first is_point (kept Skipped (byte ∷ run))) [
+    ≡ before_first is_point (kept Skipped (byte ∷ run))) [
       | true ↦ λ e. rw (unpointed byte e, one_more (position_or_len is_point run), e) (skipped_before run)
       | false ↦ λ e.
           (elim (is_point byte) as (λ p. is_point byte ≡ p → kept Skipped (take (position_or_len is_point (byte ∷ run)) (byte ∷ run))
-              ≡ before_first is_point (kept Skipped (byte ∷ run))) [
+          ≡ before_first is_point (kept Skipped (byte ∷ run))) [
             | true ↦ λ p. rw (p, e, p) refl
             | false ↦ λ p. rw (p, one_more (position_or_len is_point run), e, p, one_more (position_or_len is_point (kept Skipped run)))
                 (ap (λ rest. byte ∷ rest) (skipped_before run))
@@ -46,17 +46,24 @@ skipped_after : (run : List ℕ) → kept Skipped (drop (position_or_len is_poin
 skipped_after [] = refl
 skipped_after (byte ∷ run) =
     (elim (is_blank byte) as (λ s. is_blank byte ≡ s → kept Skipped (drop (position_or_len is_point (byte ∷ run) + 1) (byte ∷ run))
-        ≡ after_first is_point (kept Skipped (byte ∷ run))) [
+    ≡ after_first is_point (kept Skipped (byte ∷ run))) [
       | true ↦ λ e. rw (unpointed byte e, one_more (position_or_len is_point run), more_one (position_or_len is_point run), e)
           (skipped_after run)
       | false ↦ λ e.
           (elim (is_point byte) as (λ p. is_point byte ≡ p → kept Skipped (drop (position_or_len is_point (byte ∷ run) + 1) (byte ∷ run))
-              ≡ after_first is_point (kept Skipped (byte ∷ run))) [
+          ≡ after_first is_point (kept Skipped (byte ∷ run))) [
             | true ↦ λ p. rw (p, e, p) refl
             | false ↦ λ p.
-                rw (p, one_more (position_or_len is_point run), more_one (position_or_len is_point run), e, p,
-                    one_more (position_or_len is_point (kept Skipped run)), more_one (position_or_len is_point (kept Skipped run)))
-                    (skipped_after run)
+                rw (
+                  p,
+                  one_more (position_or_len is_point run),
+                  more_one (position_or_len is_point run),
+                  e,
+                  p,
+                  one_more (position_or_len is_point (kept Skipped run)),
+                  more_one (position_or_len is_point (kept Skipped run)),
+                )
+                (skipped_after run)
           ]) refl
     ]) refl
 
@@ -92,7 +99,7 @@ module _ (blanks : Blanks) (run : List ℕ) (n : ℕ) (is : n ≡ position_or_le
 abbrev pub made_of : List ℕ → List ℕ → Option ℕ
 made_of whole decimals =
     cond (not (are_digits whole && are_digits decimals) || (length whole + length decimals == 0) || nat_le 1000000 (value_of whole)) None
-        (Some (value_of whole * 1000000000 + billionths decimals))
+    (Some (value_of whole * 1000000000 + billionths decimals))
 
 pub is_made : (run : List ℕ) → unsigned_decimal run ≡ made_of (before_first is_point run) (after_first is_point run)
 unfolding unsigned_decimal
@@ -111,7 +118,7 @@ too_much : (w d : List ℕ) → are_digits w ≡ true → are_digits d ≡ true 
 too_much w d e f much =
     rw (e, f, le-leb 1000000 (value_of w) much)
     (elim (length w + length d == 0) as (λ b. None ≡ cond (b || true) None (Some (value_of w * 1000000000 + billionths d)))
-        [ true ↦ refl | false ↦ refl ])
+    [ true ↦ refl | false ↦ refl ])
 
 pub just_right : (w d : List ℕ) → are_digits w ≡ true → are_digits d ≡ true → (length w + length d ≡ 0 → ⊥) → value_of w < 1000000
     → Some (value_of w * 1000000000 + billionths d) ≡ made_of w d

@@ -80,7 +80,7 @@ split : (run : List ℕ) → IsWritten run (before_first is_point run) (after_fi
 split [] = record { parts = inl (refl, refl) }
 split (byte ∷ run) =
     (elim (is_point byte) as (λ p. is_point byte ≡ p → IsWritten (byte ∷ run) (before_first is_point (byte ∷ run))
-        (after_first is_point (byte ∷ run))) [
+    (after_first is_point (byte ∷ run))) [
       | true ↦ λ p. rw p (record { parts = inr (ap (λ b. b ∷ run) (eqb-true byte 46 p)) })
       | false ↦ λ p.
           rw (p, one_more (position_or_len is_point run), more_one (position_or_len is_point run))
@@ -116,7 +116,7 @@ was_written run n e =
     let w = before_first is_point run in
     let d = after_first is_point run in
     let h = chosen (are_digits w) (are_digits d) (length w + length d == 0) (nat_le 1000000 (value_of w)) (number_of w d) n
-        (sym (is_made run) ∙ e) in
+    (sym (is_made run) ∙ e) in
     let some = eqb-false (length w + length d) 0 h.third in
     record {
       whole = w;

@@ -14,7 +14,7 @@ returns-then-not-is_ascii_digit-clause-value c =
     let counts : passes c.args.blanks (get_or run i 0) ≡ false = cc in
     let other : is_ascii_digit (get_or run i 0) ≡ false = cc in
     sym (decimals_after-other c.loop-byte.count c.loop-byte.value c.loop-byte.worth (get_or run i 0)
-        (kept c.args.blanks (drop (i + 1) run)) other)
+    (kept c.args.blanks (drop (i + 1) run)) other)
     ∙ ap after (sym (kept_at c.args.blanks run i c.loop-byte-test.true counts))
     ∙ c.loop-byte.invariant.same
 

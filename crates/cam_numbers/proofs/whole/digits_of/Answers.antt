@@ -40,5 +40,5 @@ pub returns : goal.returns
 returns c =
     sym (digits_after-end c.loop-byte.count c.loop-byte.value c.loop-byte.invariant.bound)
     ∙ sym (ap (digits_after c.loop-byte.count c.loop-byte.value)
-        (kept_at_end c.args.blanks c.args.run.now c.loop-byte.byte-index c.loop-byte-test.false))
+    (kept_at_end c.args.blanks c.args.run.now c.loop-byte.byte-index c.loop-byte-test.false))
     ∙ c.loop-byte.invariant.same

@@ -17,7 +17,7 @@ returns-then-digits-most-clause-value c = within_of_long c.args.most
 pub returns-clause-value : goal.returns-clause-value
 returns-clause-value c =
     within_of_digits c.args.most (kept c.args.blanks c.args.run.now) c.in_ok-digits.digits c.in_ok-digits.ensures c.if-digits-eq0.false
-        c.if-digits-most.false c.requires
+    c.if-digits-most.false c.requires
 
 pub returns-clause-bound : goal.returns-clause-bound
 returns-clause-bound c = within_is_below c.args.most (kept c.args.blanks c.args.run.now) c.in_ok-digits.digits c.in_ok-digits.ensures

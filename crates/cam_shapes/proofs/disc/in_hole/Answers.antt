@@ -7,8 +7,8 @@ pub returns-then-is_positive : goal.returns-then-is_positive
 returns-then-is_positive c =
     let seen = seen_from c.args.disc.centre c.args.spot in
     let less = passed_less c.dot.result c.squared.result (dot seen seen) (square c.args.disc.diameter.0) c.dot.ensures.bound
-        (short_square c.squared.result c.squared.ensures.bound)
-        (c.dot.ensures.value ∙ ap (λ v. dot v v) c.seen_from-seen.ensures.value) c.squared.ensures.value in (
+    (short_square c.squared.result c.squared.ensures.bound)
+    (c.dot.ensures.value ∙ ap (λ v. dot v v) c.seen_from-seen.ensures.value) c.squared.ensures.value in (
       (λ told. record { some = c.is_positive.ensures.0 c.if-is_positive.true; near = less.0 told }),
       (λ inside. less.1 inside.near),
     )
