@@ -7,7 +7,8 @@ ghost use Rattle.cam_shapes.specs.Edge.{crosses_ray, edge, is_above};
 ghost use Rattle.cam_objects.specs.Image.{relative};
 ghost use Rattle.cam_rows.specs.Rows.{IsRow, centre_at};
 ghost use Rattle.cam_tiles.specs.declared.masks.join.Join.TheVariants.{Turn as Turned};
-ghost use Rattle.cam_tiles.specs.Machinery.Masks.{HoldsCentres, IsBlank, IsIn, IsMarked, IsMask, IsWithin, Joins, Merges, joined};
+ghost use Rattle.cam_tiles.specs.Machinery.Masks.{HoldsCentres, IsBlank, IsIn, IsMarked, IsMask, IsWithin, Joins};
+ghost use Rattle.cam_tiles.specs.Machinery.Masks.{Merges, joined};
 ghost use Rattle.cam_tiles.specs.Tiles.{IsGrid, centre_in};
 
 use crate::grid::Grid;
