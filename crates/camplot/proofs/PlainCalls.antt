@@ -40,7 +40,8 @@ record IsDepthWord (text : Text) (depth : ℕ) : Type 0 where
   taken : is_signed_in (pos 1) (pos 1000) text ≡ true
   value : number_written text ≡ depth
 
-depth_word : (text : Text) (depth : ℕ) → IsNumeral 10 text → digits_value 10 text ≡ depth → (1 ≤ depth) × (depth ≤ 1000) → IsDepthWord text depth
+depth_word : (text : Text) (depth : ℕ) → IsNumeral 10 text → digits_value 10 text ≡ depth → (1 ≤ depth) × (depth ≤ 1000)
+    → IsDepthWord text depth
 depth_word [] depth numeral value range = absurd (omega (arith, numeral.0))
 depth_word (d ∷ ds) depth numeral value range =
     let digit = digit_from_value d numeral.1.0 in
@@ -73,8 +74,10 @@ module _ (name : Text) (x : ℕ) (rest : Text) (path : (x == 45) ≡ false) wher
     in_range = (omega arith, omega arith);
   }
 
-  module _ (text : Text) (no_option : strip_byte 45 text ≡ None) (no_escape : bytes_eq text (45 ∷ 45 ∷ []) ≡ false) (taken : is_signed_in (pos 1) (pos 1000) text ≡ true) where
-    script_and_depth : (depth : ℕ) → number_written text ≡ depth → (1 ≤ depth) × (depth ≤ 1000) → IsCallFor (name ∷ (x ∷ rest) ∷ codes "--depth" ∷ text ∷ []) (x ∷ rest) depth
+  module _ (text : Text) (no_option : strip_byte 45 text ≡ None) (no_escape : bytes_eq text (45 ∷ 45 ∷ []) ≡ false)
+      (taken : is_signed_in (pos 1) (pos 1000) text ≡ true) where
+    script_and_depth : (depth : ℕ) → number_written text ≡ depth → (1 ≤ depth) × (depth ≤ 1000)
+        → IsCallFor (name ∷ (x ∷ rest) ∷ codes "--depth" ∷ text ∷ []) (x ∷ rest) depth
     unfolding clap_on_literals
     script_and_depth depth value range = record {
       accepted = simp (path, no_option, no_escape, taken) refl;

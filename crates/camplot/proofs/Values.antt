@@ -1,5 +1,6 @@
 -- The values that a parse of the program's command leaves, where it succeeds.
-use Rattle.std.proofs.Common.{◌≡◌, ◌∙◌, ◌<◌, ◌≤◌, ap, ap₂, ℕ, Bool, zero, suc, true, false, List, [], ◌∷◌, length, map, is_some, Option, Some, None, Result, Ok, refl, sym, subst, inl, inr, arith, codes}
+use Rattle.std.proofs.Common.{◌≡◌, ◌∙◌, ◌<◌, ◌≤◌, ap, ap₂, ℕ, Bool, zero, suc, true, false, List, [], ◌∷◌, length, map}
+use Rattle.std.proofs.Common.{is_some, Option, Some, None, Result, Ok, refl, sym, subst, inl, inr, arith, codes}
 use Rattle.std.specs.Prelude.{find, option_map, pos, slice_get}
 use Rattle.std.specs.Borrow.{Bor}
 use Rattle.std.specs.List.{All, list_all, slice_index_or}
@@ -116,20 +117,27 @@ module _ (cmd : Command) (m : ArgMatches) (app : app_of cmd ≡ camplot) (parse 
   count = sym (length-map (args_of cmd) rule_of) ∙ ap length rules
 
   rule_at : (k : ℕ) (d : Arg) → k < 2 → rule_of (slice_index_or (args_of cmd) k d) ≡ slice_index_or the_rules k script_argument
-  rule_at k d lt = sym (get_or-map rule_of (args_of cmd) k d script_argument (omega (arith, count))) ∙ ap (λ rs. slice_index_or rs k script_argument) rules
+  rule_at k d lt = sym (get_or-map rule_of (args_of cmd) k d script_argument (omega (arith, count)))
+      ∙ ap (λ rs. slice_index_or rs k script_argument) rules
 
   -- no argument has a say over the other
   plain : IsPlain cmd
   plain = (
     λ k d lt.
-        let free : is_free_arg (slice_index_or (args_of cmd) k d) ≡ true = ap (λ r. r.is_free) (rule_at k d (omega (arith, count))) ∙ free_rules k in
-        let exclusive = both _ _ free in
-        (is_false _ exclusive.0, is_nil _ (both _ _ exclusive.1).0, (simple.args k d lt).overrides, simple_groups cmd (ap (λ rs. list_all (λ r. r.is_simple) rs) rules) k d lt),
+        let free : is_free_arg (slice_index_or (args_of cmd) k d) ≡ true =
+        ap (λ r. r.is_free) (rule_at k d (omega (arith, count))) ∙ free_rules k in
+        let exclusive = both _ _ free in (
+          is_false _ exclusive.0,
+          is_nil _ (both _ _ exclusive.1).0,
+          (simple.args k d lt).overrides,
+          simple_groups cmd (ap (λ rs. list_all (λ r. r.is_simple) rs) rules) k d lt,
+        ),
     simple.groups,
   )
 
   -- an argument with the id of the kth is the kth
-  alone : (k : ℕ) (d : Arg) → k < 2 → ((j : ℕ) → j < 2 → bytes_eq (id_at j) (id_at k) ≡ true → j ≡ k) → (j : ℕ) (e : Arg) → j < length (args_of cmd)
+  alone : (k : ℕ) (d : Arg) → k < 2 → ((j : ℕ) → j < 2 → bytes_eq (id_at j) (id_at k) ≡ true → j ≡ k)
+      → (j : ℕ) (e : Arg) → j < length (args_of cmd)
       → bytes_eq (slice_index_or (args_of cmd) j e).id.now (slice_index_or (args_of cmd) k d).id.now ≡ true → j ≡ k
   alone k d lt only j e low same =
       let under : j < 2 = omega (arith, count) in
@@ -150,7 +158,8 @@ module _ (cmd : Command) (m : ArgMatches) (app : app_of cmd ≡ camplot) (parse 
       subst (λ (t : Text). is_some (first_value (found_of m) t) ≡ true) id
       (required_has_value cmd m parse plain simple.globals (ap (λ x. x.top.subcommand_negates_reqs) app) 0 d inside
       (ap (λ r. r.required) is) (ap (λ r. r.action) is) (simple.args 0 d inside).delimiter (one_value a (ap (λ r. r.range) is))
-      (alone 0 d (omega (arith, count)) only_script) (λ empty. other_text (codes "script") [] refl (sym id ∙ empty)) (not_auto a (codes "script") id refl refl))
+      (alone 0 d (omega (arith, count)) only_script) (λ empty. other_text (codes "script") [] refl (sym id ∙ empty))
+      (not_auto a (codes "script") id refl refl))
 
   -- the argument of `--depth`
   abbrev depth : Arg
@@ -163,10 +172,12 @@ module _ (cmd : Command) (m : ArgMatches) (app : app_of cmd ≡ camplot) (parse 
   depth_id = ap (λ r. r.id) depth_is
 
   -- the built command has no other argument with that id
-  kept : (id : Text) → id ≡ depth.id.now → (j : ℕ) (x : Arg) → j < length (args_of parse.built) → slice_index_or (args_of parse.built) j x ≡ x
+  kept : (id : Text) → id ≡ depth.id.now → (j : ℕ) (x : Arg) → j < length (args_of parse.built)
+      → slice_index_or (args_of parse.built) j x ≡ x
       → bytes_eq x.id.now id ≡ true → SameRules depth x
   kept id is j x lt at same =
-      same_rules_by_id cmd m parse 1 _ (omega (arith, count)) (alone 1 _ (omega arith) only_depth) (not_auto depth (codes "depth") depth_id refl refl)
+      same_rules_by_id cmd m parse 1 _ (omega (arith, count)) (alone 1 _ (omega arith) only_depth)
+      (not_auto depth (codes "depth") depth_id refl refl)
       j x lt at (subst (λ (t : Text). bytes_eq x.id.now t ≡ true) is same)
 
   parser_is : (x : Arg) → SameRules depth x → parser_of x ≡ Signed (pos 1) (pos 1000)
@@ -190,7 +201,8 @@ module _ (cmd : Command) (m : ArgMatches) (app : app_of cmd ≡ camplot) (parse 
         | inl group ↦ absurd (no_group group)
         | inr all ↦ λ k d lt.
             let h = all k d lt in
-            subst (λ (p : ValueParser). Accepts h.1.ignore_case p (slice_index_or e.1.vals.items k d).now) (parser_is h.1 (kept _ key h.0 h.1 h.2 h.3 h.4.0)) h.4.1
+            subst (λ (p : ValueParser). Accepts h.1.ignore_case p (slice_index_or e.1.vals.items k d).now)
+            (parser_is h.1 (kept _ key h.0 h.1 h.2 h.3 h.4.0)) h.4.1
       ] in
       let filled : 0 < length e.1.vals.items = elim pass.1 [
         | inl group ↦ absurd (no_group group.0)
@@ -216,14 +228,19 @@ module _ (cmd : Command) (m : ArgMatches) (app : app_of cmd ≡ camplot) (parse 
 
   pub depth_has_value : HasDepth (found_of m)
   depth_has_value =
-      let wants : WantsDefault depth = ((simple.args 1 _ (omega (arith, count))).default_ifs, some_texts _ (ap (λ r. r.defaults) depth_is)) in
+      let wants : WantsDefault depth = (
+        (simple.args 1 _ (omega (arith, count))).default_ifs,
+        some_texts _ (ap (λ r. r.defaults) depth_is),
+      ) in
       let has = default_present cmd m parse simple.globals 1 _ (omega (arith, count)) wants in
       let parsed = parse.parsed (parse.from.globals ∙ simple.globals) in
-      let found = first_of_all (λ (e : Entry). bytes_eq e.0.now depth.id.now) (EntryPasses parse.built) (found_of m).entries.items has.0 parsed.values has.1 has.2 in
+      let found = first_of_all (λ (e : Entry). bytes_eq e.0.now depth.id.now) (EntryPasses parse.built)
+      (found_of m).entries.items has.0 parsed.values has.1 has.2 in
       let value = entry_value found.0 ((bytes_eq-Decides _ _).0 found.2) found.3 in
       record {
         value = value.0.now;
-        is = subst (λ (t : Text). one_text (found_of m) t ≡ Some (without_minus value.0.now)) depth_id (text_of_entry (found_of m) _ found.0 value.0 found.1 value.3 value.1);
+        is = subst (λ (t : Text). one_text (found_of m) t ≡ Some (without_minus value.0.now)) depth_id
+            (text_of_entry (found_of m) _ found.0 value.0 found.1 value.3 value.1);
         passes = value.2;
       }
 
@@ -239,7 +256,8 @@ pub depth_number : {E : Type 0} (gives : Text → Result ℕ E → Type 0) (f : 
 depth_number {E} gives f o has only reads =
     let read = reads (without_minus has.value) has.is in
     let n = signed_reads E gives 32 1 1000 has.value o read only (omega arith) has.passes in
-    let given : gives (without_minus has.value) (Ok n.0) = subst (λ (x : Option ℕ). ReadsOne gives (without_minus has.value) x) n.1 read in (
+    let given : gives (without_minus has.value) (Ok n.0) =
+    subst (λ (x : Option ℕ). ReadsOne gives (without_minus has.value) x) n.1 read in (
       n.0,
       n.1,
       record {

@@ -1,26 +1,23 @@
 //! The words that the program is called with, `camplot SCRIPT [--depth N]`.
 
-ghost use Rattle.std.specs.Prelude.{◌≡◌, ◌≤◌, ℕ, [], Option, map, unwrap_or, string_bytes};
+ghost use Rattle.std.specs.Prelude.{◌≡◌, ◌≤◌, ℕ, [], false, Option, map, unwrap_or, string_bytes};
 ghost use Rattle.std.specs.Prelude.{IfOk, IfErr, IfSome, MatchResult};
-ghost use Rattle.clap.specs.Words.{Text, app_of};
+ghost use Rattle.clap.specs.Words.{Text, app_of, rule_of};
 ghost use Rattle.clap.specs.Faults.{fault_of};
 ghost use Rattle.camplot.specs.Synopsis.{IsCallFor, IsFaultIn, IsOfMemory, IsPlainPath};
-ghost use Rattle.camplot.specs.Synopsis.{camplot, plain_call};
+ghost use Rattle.camplot.specs.Synopsis.{camplot, depth_option, plain_call, script_argument};
 ghost use Rattle.camplot.specs.declared.options.OptionsFault.TheVariants.{Refused, Memory};
 
 use clap::{Arg, ArgAction, Command, value_parser};
 use std::alloc::{AllocError, Global};
-use thiserror::Error;
 
 /// Why a call of the program gives no options.
-#[derive(Debug, Drop, Error)]
+#[derive(Drop)]
 pub enum OptionsFault {
     /// Clap's answer: what is wrong with the words, the help that they ask for, or that clap has no
     /// memory.
-    #[error(transparent)]
     Refused(clap::Error),
     /// There is no memory for the command or for a copy of the path.
-    #[error("no memory")]
     Memory,
 }
 
@@ -40,26 +37,40 @@ impl From<AllocError> for OptionsFault {
     }
 }
 
-/// The program's command line; an `Err` is for memory.
-fn command<'a>(alloc: Global) -> Result<Command<'a>, AllocError>
-    ensures { IfOk result (λ made. app_of made ≡ camplot) }
+/// SCRIPT, the path of the script.
+fn script_argument<'a>(alloc: Global) -> Arg<'a>
+    ensures rule { rule_of result ≡ script_argument }
+    ensures local { result.global ≡ false }
 {
-    let script = Arg::new(alloc, "script")
+    Arg::new(alloc, "script")
         .value_name("SCRIPT")
         .help("The script of commands to run")
         .required(true)
-        .action(ArgAction::Set);
-    let depth = Arg::new(alloc, "depth")
+        .action(ArgAction::Set)
+}
+
+/// `--depth N`, the undo depth.
+fn depth_option<'a>(alloc: Global) -> Arg<'a>
+    ensures rule { rule_of result ≡ depth_option }
+    ensures local { result.global ≡ false }
+{
+    Arg::new(alloc, "depth")
         .long("depth")
         .value_name("N")
         .help("How many edits can be taken back, from 1 to 1000")
         .action(ArgAction::Set)
         .value_parser(value_parser!(u32).range(1..=1000))
-        .default_value("100");
+        .default_value("100")
+}
+
+/// The program's command line; an `Err` is for memory.
+fn command<'a>(alloc: Global) -> Result<Command<'a>, AllocError>
+    ensures { IfOk result (λ made. app_of made ≡ camplot) }
+{
     Command::new(alloc, "camplot")
         .about("Edits and plots the layers of a printed circuit board")
-        .arg(script)?
-        .arg(depth)
+        .arg(script_argument(alloc))?
+        .arg(depth_option(alloc))
 }
 
 /// The path of the script and the undo depth, from 1 to 1,000, that the words ask for. The first

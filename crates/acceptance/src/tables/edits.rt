@@ -18,7 +18,7 @@ const EDITED_TEXT: &[u8] = b"%FSLAX46Y46*%\n%MOMM*%\nG01*\nG75*\n%ADD10C,1.00000
 /// Edits of Gerber layers, and their texts.
 pub const EDITS: &[Row] = &[
     Row {
-        name: "an arc with a rectangle, one of radius 0 and a region's aperture are refused, an arc and a region inserted",
+        name: "arcs with a rectangle or of radius 0 and a region's aperture are refused, an arc and a region inserted",
         depth: 100,
         files: &[("c.gbr", FLASHES)],
         script: b"load top gerber c.gbr\ninsert top 3 arc 11 1000000 0 0 1000000 0 0 ccw dark\n\

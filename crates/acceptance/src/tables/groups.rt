@@ -12,7 +12,7 @@ X1000000Y1000000D03*\nM02*\n";
 /// Groups that are aborted, taken back and made again.
 pub const GROUPS: &[Row] = &[
     Row {
-        name: "a group that is aborted leaves the layer as it was, one that is ended is taken back and made again as one",
+        name: "an aborted group leaves the layer as it was, one that is ended is taken back and made again as one",
         depth: 100,
         files: &[("c.gbr", FLASHES)],
         script: b"load top gerber c.gbr\nwrite top loaded\n\

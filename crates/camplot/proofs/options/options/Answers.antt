@@ -1,4 +1,5 @@
-use Rattle.std.proofs.Common.{◌≡◌, ◌∙◌, ap, codes, refl, ℕ, List, [], map, string_bytes, sym, subst, rules, Result, Ok, Err, IfErr, MatchResult}
+use Rattle.std.proofs.Common.{◌≡◌, ◌∙◌, ap, codes, refl, ℕ, List, [], map, string_bytes}
+use Rattle.std.proofs.Common.{sym, subst, rules, Result, Ok, Err, IfErr, MatchResult}
 use Rattle.std.specs.Prelude.{Some, option_map, unwrap_or}
 use Rattle.std.specs.Result.{IsErr}
 use Rattle.std.specs.Str.Parse.{ExplainsUnsignedError, HasUnsignedDigitsIfOk, ParsesUnsigned}
@@ -18,7 +19,8 @@ of_err (Err e) P Q is h = h
 
 pub returns-in_err-matches-clause-plain : goal.returns-in_err-matches-clause-plain
 returns-in_err-matches-clause-plain c name script depth path range is =
-    let none : fault_of camplot (map string_bytes c.args.words.now) ≡ [] = ap (fault_of camplot) is ∙ (plain_is_call name script depth path range).accepted in
+    let none : fault_of camplot (map string_bytes c.args.words.now) ≡ [] =
+    ap (fault_of camplot) is ∙ (plain_is_call name script depth path range).accepted in
     let memory : IfErr c.from_residual-in_err-matches.result IsOfMemory = search rules in
     of_err c.from_residual-in_err-matches.result _ _ c.from_residual-in_err-matches.ensures.0 memory
 
@@ -58,5 +60,6 @@ returns-clause-given c =
 pub returns-clause-plain : goal.returns-clause-plain
 returns-clause-plain c name script depth path range is =
     let words : List Text = map string_bytes c.args.words.now in
-    let call = subst (λ (ws : List Text). IsCallFor ws script (unwrap_or depth 100)) (sym is) (plain_is_call name script depth path range) in
+    let call = subst (λ (ws : List Text). IsCallFor ws script (unwrap_or depth 100)) (sym is)
+    (plain_is_call name script depth path range) in
     same_call words _ _ _ _ (returns-clause-given c) call
