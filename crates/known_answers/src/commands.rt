@@ -28,46 +28,61 @@ fn is_same(alloc: Global, one: &Command<'_>, other: &Command<'_>) -> Result<bool
     Ok(format!(in alloc; "{one:?}")? == format!(in alloc; "{other:?}")?)
 }
 
-/// Whether the first word of the text says the command, and is so or not so an extended command.
-fn says(
+/// The place of the first word of the text that says another command, or is not so or is so an extended command.
+fn wrong_word(
     alloc: Global,
     text: &[u8],
     wanted: &Command<'_>,
     is_extended: bool,
-) -> Result<bool, AllocError> {
-    match Words::new(text).next() {
-        Some(Ok(word)) => {
-            let command = command_of(word);
-            Ok(command.is_extended() == is_extended && is_same(alloc, &command, wanted)?)
+) -> Result<Option<usize>, AllocError> {
+    let mut words = Words::new(text);
+    // a word has a byte at least
+    for _ in text {
+        let word = match words.next() {
+            None => break,
+            Some(Err(fault)) => return Ok(Some(fault.at)),
+            Some(Ok(word)) => word,
+        };
+        let command = command_of(word);
+        if command.is_extended() != is_extended || !is_same(alloc, &command, wanted)? {
+            return Ok(Some(place_of(word)));
         }
-        _ => Ok(false),
     }
+    Ok(None)
 }
 
-/// The first text of the rows that does not say the row's command.
+/// The first text of the rows with such a word, and the place of the word.
 fn first_wrong(
     alloc: Global,
     rows: &[Said],
     is_extended: bool,
-) -> Result<Option<&'static [u8]>, AllocError> {
-    for &(command, texts) in rows {
-        for text in texts {
-            if !says(alloc, text, &command, is_extended)? {
-                return Ok(Some(text));
-            }
+) -> Result<Option<(&'static [u8], usize)>, AllocError> {
+    for &(command, text) in rows {
+        if let Some(at) = wrong_word(alloc, text, &command, is_extended)? {
+            return Ok(Some((text, at)));
         }
     }
     Ok(None)
 }
 
 #[test]
-fn sayings(rt: HostRuntime) -> Result<(), Fail> {
-    let words = first_wrong(rt.alloc(), WORDS, false)?;
-    assert!(rt; words.is_none(), "{words:?}");
-    let extended = first_wrong(rt.alloc(), EXTENDED, true)?;
-    assert!(rt; extended.is_none(), "{extended:?}");
-    let free = first_wrong(rt.alloc(), FREE, false)?;
-    assert!(rt; free.is_none(), "{free:?}");
+fn words_say_commands(rt: HostRuntime) -> Result<(), Fail> {
+    let wrong = first_wrong(rt.alloc(), WORDS, false)?;
+    assert!(rt; wrong.is_none(), "{wrong:?}");
+    Ok(())
+}
+
+#[test]
+fn extended_commands(rt: HostRuntime) -> Result<(), Fail> {
+    let wrong = first_wrong(rt.alloc(), EXTENDED, true)?;
+    assert!(rt; wrong.is_none(), "{wrong:?}");
+    Ok(())
+}
+
+#[test]
+fn free_texts(rt: HostRuntime) -> Result<(), Fail> {
+    let wrong = first_wrong(rt.alloc(), FREE, false)?;
+    assert!(rt; wrong.is_none(), "{wrong:?}");
     Ok(())
 }
 
@@ -82,7 +97,8 @@ fn operations(rt: HostRuntime) -> Result<(), Fail> {
             j,
             code,
         });
-        assert!(rt; says(rt.alloc(), text, &wanted, false)?, "{text:?}");
+        let wrong = wrong_word(rt.alloc(), text, &wanted, false)?;
+        assert!(rt; wrong.is_none(), "{text:?}");
     }
     Ok(())
 }
@@ -96,7 +112,8 @@ fn repeats(rt: HostRuntime) -> Result<(), Fail> {
             i,
             j,
         });
-        assert!(rt; says(rt.alloc(), text, &wanted, true)?, "{text:?}");
+        let wrong = wrong_word(rt.alloc(), text, &wanted, true)?;
+        assert!(rt; wrong.is_none(), "{text:?}");
     }
     Ok(())
 }
