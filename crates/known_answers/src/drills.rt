@@ -8,7 +8,7 @@ mod rows;
 use crate::places::{At, box_of, place};
 use crate::xnc::files::Drilled;
 use cam_objects::{DrillItem, DrillLayer, ItemFault, Points, drill_layers_stay_sound};
-use cam_units::{Nm, Point};
+use cam_units::{Bounds, Nm, Point};
 use rows::{Boxed, DRILL_BOXES, DRILL_ITEMS, DRILLINGS, Drilling, KITS, Kit, LONG_ROUTS};
 use std::alloc::{AllocError, Global};
 use std::slice;
@@ -146,17 +146,22 @@ fn shows(alloc: Global, row: &Drilling) -> Result<bool, AllocError> {
     )
 }
 
+/// Whether the item has the wanted box, as it stands and as the first one of the layer.
+fn has_box(layer: &DrillLayer, item: &DrillItem, wanted: Bounds) -> bool
+    requires { IsSoundDrillLayer layer.now }
+{
+    if layer.check_item(item).is_err() || layer.items.is_empty() {
+        return false;
+    }
+    layer.bounds_of(item) == wanted && layer.item_bounds(0) == wanted
+}
+
 /// Whether the item has the wanted box, as it stands and as the only one of a layer.
 fn is_bounded(alloc: Global, row: &Boxed) -> Result<bool, AllocError> {
     let Some(layer) = layer_of(alloc, row.0, slice::from_ref(&row.1))? else {
         return Ok(false);
     };
-    let item = item_of(alloc, &row.1)?;
-    if layer.check_item(&item).is_err() || layer.items.is_empty() {
-        return Ok(false);
-    }
-    let wanted = box_of(row.2);
-    Ok(layer.bounds_of(&item) == wanted && layer.item_bounds(0) == wanted)
+    Ok(has_box(&layer, &item_of(alloc, &row.1)?, box_of(row.2)))
 }
 
 #[test]
@@ -175,20 +180,28 @@ fn drillings(rt: HostRuntime) -> Result<(), Fail> {
     Ok(())
 }
 
+/// What the check of an item says beside the tools 1 and 2; `None` where they are refused.
+fn verdict(alloc: Global, item: &DrillItem) -> Result<Option<Result<(), ItemFault>>, AllocError> {
+    match kit_of(alloc, &[(1, 5), (2, 5)])? {
+        Some(layer) => Ok(Some(layer.check_item(item))),
+        None => Ok(None),
+    }
+}
+
 #[test]
 fn drill_checks(rt: HostRuntime) -> Result<(), Fail> {
-    let mut layer = DrillLayer::new(rt.alloc());
-    for tool in [1, 2] {
-        assert!(rt; layer.check_tool(tool, Nm(5)));
-        layer.add_tool(tool, Nm(5))?;
+    for (place, (drilled, wanted)) in DRILL_ITEMS.iter().enumerate() {
+        let found = verdict(rt.alloc(), &item_of(rt.alloc(), drilled)?)?;
+        assert!(rt; found == Some(*wanted), "{place}");
     }
-    for (drilled, wanted) in DRILL_ITEMS {
-        let item = item_of(rt.alloc(), drilled)?;
-        assert!(rt; layer.check_item(&item) == *wanted, "{item:?}");
-    }
-    for (times, wanted) in LONG_ROUTS {
-        let item = long_rout(rt.alloc(), *times)?;
-        assert!(rt; layer.check_item(&item) == *wanted, "{times}");
+    Ok(())
+}
+
+#[test]
+fn checks_of_long_routs(rt: HostRuntime) -> Result<(), Fail> {
+    for &(times, wanted) in LONG_ROUTS {
+        let found = verdict(rt.alloc(), &long_rout(rt.alloc(), times)?)?;
+        assert!(rt; found == Some(wanted), "{times}");
     }
     Ok(())
 }

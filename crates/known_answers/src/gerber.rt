@@ -23,7 +23,7 @@ use faults::FAULTS;
 use layers::LAYERS;
 use limits::LIMITS;
 use long::LONG_FILES;
-use refusals::REFUSALS;
+use refusals::{DEFINITIONS, FORMS, STATES};
 use several::SEVERAL;
 use sizes::SIZES;
 use std::alloc::Global;
@@ -86,12 +86,45 @@ fn layers_that_are_read(rt: HostRuntime) {
     }
 }
 
+/// The first file of the rows that is not refused so, and what is told of it.
+fn first_wrong(alloc: Global, rows: &[Refused]) -> Option<(&'static [u8], Option<ReadFault>)> {
+    for &(text, code, at) in rows {
+        let fault = read_gerber(alloc, text).err();
+        if fault != Some(ReadFault { code, at }) {
+            return Some((text, fault));
+        }
+    }
+    None
+}
+
 #[test]
 fn faults_that_are_told(rt: HostRuntime) {
-    for &(text, code, at) in FAULTS {
-        let fault = read_gerber(rt.alloc(), text).err();
-        assert!(rt; fault == Some(ReadFault { code, at }), "{text:?}");
-    }
+    let wrong = first_wrong(rt.alloc(), FAULTS);
+    assert!(rt; wrong.is_none(), "{wrong:?}");
+}
+
+#[test]
+fn refused_forms(rt: HostRuntime) {
+    let wrong = first_wrong(rt.alloc(), FORMS);
+    assert!(rt; wrong.is_none(), "{wrong:?}");
+}
+
+#[test]
+fn refused_definitions(rt: HostRuntime) {
+    let wrong = first_wrong(rt.alloc(), DEFINITIONS);
+    assert!(rt; wrong.is_none(), "{wrong:?}");
+}
+
+#[test]
+fn refused_states(rt: HostRuntime) {
+    let wrong = first_wrong(rt.alloc(), STATES);
+    assert!(rt; wrong.is_none(), "{wrong:?}");
+}
+
+#[test]
+fn several_faults(rt: HostRuntime) {
+    let wrong = first_wrong(rt.alloc(), SEVERAL);
+    assert!(rt; wrong.is_none(), "{wrong:?}");
 }
 
 /// A million flashes are read, and the next one is refused at its place.
@@ -105,16 +138,6 @@ fn a_flash_too_many(rt: HostRuntime) -> Result<(), Fail> {
     };
     assert!(rt; fault == Some(wanted), "{fault:?}");
     Ok(())
-}
-
-#[test]
-fn refusals_of_files(rt: HostRuntime) {
-    for table in [REFUSALS, SEVERAL] {
-        for &(text, code, at) in table {
-            let fault = read_gerber(rt.alloc(), text).err();
-            assert!(rt; fault == Some(ReadFault { code, at }), "{text:?} {fault:?}");
-        }
-    }
 }
 
 /// Whether the first file of a row is read and the second refused.

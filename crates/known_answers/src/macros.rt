@@ -5,7 +5,7 @@ mod rows;
 use crate::text::text_of;
 use cam_macros::{Macro, MacroFault, PrimShape, Prims};
 use cam_units::Unit;
-use rows::{EXPANSIONS, LONG_OUTLINES, LONG_TEXTS, PRIMITIVES, Row, Shape, TEXTS};
+use rows::{EXPANSIONS, LONG_OUTLINES, LONG_TEXTS, PRIMITIVES, Row, Shape, TEXTS, WITH_PARAMETERS};
 use std::alloc::Global;
 use std::test::Fail;
 
@@ -80,7 +80,10 @@ fn readings(rt: HostRuntime) -> Result<(), Fail> {
 #[test]
 fn expansions(rt: HostRuntime) -> Result<(), Fail> {
     let alloc = rt.alloc();
-    for &(text, params, wanted) in EXPANSIONS {
+    for &(text, wanted) in EXPANSIONS {
+        assert!(rt; expanded(alloc, text, &[])? == wanted, "{text:?}");
+    }
+    for &(text, params, wanted) in WITH_PARAMETERS {
         assert!(rt; expanded(alloc, text, params)? == wanted, "{text:?}");
     }
     for (pieces, wanted) in LONG_OUTLINES {

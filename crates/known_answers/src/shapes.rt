@@ -310,8 +310,9 @@ pub(crate) fn reach(x: i64, y: i64) -> Option<Spot>
 }
 
 /// Whether the shape holds the place; `None` past the limits of the board.
-pub(crate) fn holds(shape: &Shape, x: i64, y: i64) -> Option<bool> {
-    let spot = reach(x, y)?;
+fn holds_spot(shape: &Shape, spot: Spot) -> Option<bool>
+    requires { IsInReach spot }
+{
     match *shape {
         Shape::Arc(arc) => within!(in_arc(spot, arc), arc.from, arc.to, arc.centre; arc.width),
         Shape::Disc(disc) => within!(in_disc(spot, disc), disc.centre; disc.diameter),
@@ -323,6 +324,11 @@ pub(crate) fn holds(shape: &Shape, x: i64, y: i64) -> Option<bool> {
         Shape::Cap(cap) => within!(in_cap(spot, cap), cap.from, cap.to, cap.centre;),
         Shape::Edge(from, to) => within!(in_edge(spot, from, to), from, to;),
     }
+}
+
+/// The same of a place that may be out of reach.
+pub(crate) fn holds(shape: &Shape, x: i64, y: i64) -> Option<bool> {
+    holds_spot(shape, reach(x, y)?)
 }
 
 /// Whether the contour holds the place as it is placed; `None` past the limits of the board.

@@ -108,8 +108,8 @@ fn file_with(alloc: Global, before: &[u8], line: &[u8]) -> Result<Vec<u8>, Alloc
 
 /// The first line of the rows that is not refused so.
 fn first_wrong_line(alloc: Global, rows: &[Lines]) -> Result<Option<&'static [u8]>, AllocError> {
-    for &(before, lines) in rows {
-        for &(line, code) in lines {
+    for &(before, code, lines) in rows {
+        for line in lines.split(|byte| *byte == b'\n') {
             let text = file_with(alloc, before, line)?;
             if outcome(alloc, &text) != Err((code, before.len())) {
                 return Ok(Some(line));

@@ -1,9 +1,9 @@
-//! Files with one fault: worked out by hand.
+//! Files with one fault, each with the number and the place of it: worked out by hand.
 
 use crate::gerber::Refused;
 
-/// A file, and the number and the place of its fault.
-pub const REFUSALS: &[Refused] = &[
+/// Forms and numbers.
+pub const FORMS: &[Refused] = &[
     // coordinates without a code where the last operation did not draw
     (b"%FSLAX36Y36*%%MOMM*%X0*M02*", 3, 20),
     (b"%FSLAX36Y36*%%MOMM*%%ADD10C,0.2*%D10*X0D02*X5*M02*", 3, 43),
@@ -56,6 +56,26 @@ pub const REFUSALS: &[Refused] = &[
     (b"%FSLAX36Y36*%%MOMM*%%ABD*%%AB*%M02*", 4, 20),
     (b"%FSLAX36Y36*%%MOMM*%%ADD10O,1X*%M02*", 4, 20),
     (b"%FSLAX36Y36*%%MOMM*%G54D2147483648*M02*", 4, 20),
+    // old forms that are not neutral, and old codes
+    (b"%FSLAX36Y36*%%MOMM*%G55*M02*", 28, 20),
+    (b"%FSLAX36Y36*%%MOMM*%M00*M02*", 28, 20),
+    (b"%FSLAX36Y36*%%MOMM*%M01*M02*", 28, 20),
+    (b"%FSLAX36Y36*%%MOMM*%%IPNEG*%M02*", 28, 20),
+    (b"%FSLAX36Y36*%%MOMM*%%IR90*%M02*", 28, 20),
+    (b"%FSLAX36Y36*%%MOMM*%%IR+0*%M02*", 28, 20),
+    (b"%FSLAX36Y36*%%MOMM*%%ASAYBX*%M02*", 28, 20),
+    (b"%FSLAX36Y36*%%MOMM*%%MIA1B0*%M02*", 28, 20),
+    (b"%FSLAX36Y36*%%MOMM*%%MIB1*%M02*", 28, 20),
+    (b"%FSLAX36Y36*%%MOMM*%%MI*%M02*", 28, 20),
+    (b"%FSLAX36Y36*%%MOMM*%%OFA0B0.1*%M02*", 28, 20),
+    (b"%FSLAX36Y36*%%MOMM*%%OFA-0*%M02*", 28, 20),
+    (b"%FSLAX36Y36*%%MOMM*%%SFA2B1*%M02*", 28, 20),
+    (b"%FSLAX36Y36*%%MOMM*%%SFA0B1*%M02*", 28, 20),
+    (b"%FSLAX36Y36*%%MOMM*%G36*G91*M02*", 28, 24),
+];
+
+/// What is set and defined.
+pub const DEFINITIONS: &[Refused] = &[
     // coordinates before the format, I and J among them, and before the unit
     (b"%MOMM*%X0D02*M02*", 5, 7),
     (b"%MOMM*%J0D02*M02*", 5, 7),
@@ -160,6 +180,10 @@ pub const REFUSALS: &[Refused] = &[
     (b"%FSLAX36Y36*%%MOMM*%%AMA*hello*%M02*", 29, 20),
     (b"%FSLAX36Y36*%%MOMM*%%AMA*$0=1*%M02*", 29, 20),
     (b"%FSLAX36Y36*%%MOMM*%%AMA*1,1,1000000,0,0*%M02*", 29, 20),
+];
+
+/// What does not go with what stands before it.
+pub const STATES: &[Refused] = &[
     // no aperture, in a block too
     (b"%FSLAX36Y36*%%MOMM*%D03*M02*", 15, 20),
     (b"%FSLAX36Y36*%%MOMM*%D01*M02*", 15, 20),
@@ -248,20 +272,4 @@ pub const REFUSALS: &[Refused] = &[
     (b"%FSLAX36Y36*%%MOMM*%G36*%AB*%G37*M02*", 22, 24),
     (b"%FSLAX36Y36*%%MOMM*%G36*%ADD11C,1*%G37*M02*", 22, 24),
     (b"%FSLAX36Y36*%%MOMM*%G36*%AMA*1,1,1,0,0*%G37*M02*", 22, 24),
-    // old forms that are not neutral, and old codes
-    (b"%FSLAX36Y36*%%MOMM*%G55*M02*", 28, 20),
-    (b"%FSLAX36Y36*%%MOMM*%M00*M02*", 28, 20),
-    (b"%FSLAX36Y36*%%MOMM*%M01*M02*", 28, 20),
-    (b"%FSLAX36Y36*%%MOMM*%%IPNEG*%M02*", 28, 20),
-    (b"%FSLAX36Y36*%%MOMM*%%IR90*%M02*", 28, 20),
-    (b"%FSLAX36Y36*%%MOMM*%%IR+0*%M02*", 28, 20),
-    (b"%FSLAX36Y36*%%MOMM*%%ASAYBX*%M02*", 28, 20),
-    (b"%FSLAX36Y36*%%MOMM*%%MIA1B0*%M02*", 28, 20),
-    (b"%FSLAX36Y36*%%MOMM*%%MIB1*%M02*", 28, 20),
-    (b"%FSLAX36Y36*%%MOMM*%%MI*%M02*", 28, 20),
-    (b"%FSLAX36Y36*%%MOMM*%%OFA0B0.1*%M02*", 28, 20),
-    (b"%FSLAX36Y36*%%MOMM*%%OFA-0*%M02*", 28, 20),
-    (b"%FSLAX36Y36*%%MOMM*%%SFA2B1*%M02*", 28, 20),
-    (b"%FSLAX36Y36*%%MOMM*%%SFA0B1*%M02*", 28, 20),
-    (b"%FSLAX36Y36*%%MOMM*%G36*G91*M02*", 28, 24),
 ];

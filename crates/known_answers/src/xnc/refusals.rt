@@ -1,7 +1,7 @@
 //! Lines of drill files that are refused: worked out by hand.
 
-/// What stands before a line, and such lines, each with the number of its fault; the place is that of the line.
-pub type Lines = (&'static [u8], &'static [(&'static [u8], u8)]);
+/// What stands before a line, the number of its fault, and such lines, each by itself; the place is that of the line.
+pub type Lines = (&'static [u8], u8, &'static [u8]);
 
 /// A header in millimetres.
 const HEADER: &[u8] = b"M48\nMETRIC\n";
@@ -24,69 +24,36 @@ const AGAIN: &[u8] = b"M48\nMETRIC\nT1C0.8\n%\nT1\nG00X0.0\nM15\nM16\n";
 /// Bytes and numbers.
 pub const NUMBERS: &[Lines] = &[
     // bytes
-    (HEADER, &[(b"T1C0.8\0", 1)]),
-    (b"M48\nMETRIC\nT1C0.8\n%\nT1\n \t", &[(b"X1.0\x7f;", 1)]),
-    (BODY, &[(b"T1\x80", 1), (b"\xff", 1), (b"T1\x0c", 1)]),
+    (HEADER, 1, b"T1C0.8\0"),
+    (b"M48\nMETRIC\nT1C0.8\n%\nT1\n \t", 1, b"X1.0\x7f;"),
+    (BODY, 1, b"T1\x80\n\xff\nT1\x0c"),
     // before any other fault of the line
-    (b"", &[(b"M49\x01", 1)]),
-    (b"M48\n", &[(b"T1C\x01", 1)]),
-    (LOWERED, &[(b"G01X\x80", 1)]),
+    (b"", 1, b"M49\x01"),
+    (b"M48\n", 1, b"T1C\x01"),
+    (LOWERED, 1, b"G01X\x80"),
     // numbers of tools and diameters
     (
         HEADER,
-        &[
-            (b"TC0.8", 4),
-            (b"T0C0.8", 4),
-            (b"T10000C0.8", 4),
-            (b"T+1C0.8", 4),
-            (b"T1.C0.8", 4),
-            (b"T99999999999999999999C0.8", 4),
-            (b"T1C", 4),
-            (b"T1C.", 4),
-            (b"T1C-", 4),
-            (b"T1C1.2.3", 4),
-            (b"T1C1-", 4),
-            (b"T1C1000000", 4),
-            (b"T1C-1000000.", 4),
-        ],
+        4,
+        b"TC0.8\nT0C0.8\nT10000C0.8\nT+1C0.8\nT1.C0.8\nT99999999999999999999C0.8\nT1C\nT1C.\nT1C-\n\
+          T1C1.2.3\nT1C1-\nT1C1000000\nT1C-1000000.",
     ),
-    (b"M48\n", &[(b"T1C", 4)]),
-    (
-        BODY,
-        &[
-            (b"T", 4),
-            (b"T10000", 4),
-            (b"T-1", 4),
-            (b"T1.0", 4),
-            (b"T18446744073709551617", 4),
-        ],
-    ),
-    (LOWERED, &[(b"T10000", 4)]),
+    (b"M48\n", 4, b"T1C"),
+    (BODY, 4, b"T\nT10000\nT-1\nT1.0\nT18446744073709551617"),
+    (LOWERED, 4, b"T10000"),
     // coordinates
     (
         SELECTED,
-        &[
-            (b"X", 4),
-            (b"X.", 4),
-            (b"X+", 4),
-            (b"X1.0.0", 4),
-            (b"X--1.0", 4),
-            (b"X1-2", 4),
-            (b"X1.0-", 4),
-            (b"X1000000.0", 4),
-            (b"X-1000000.", 4),
-            (b"X0.0Y", 4),
-            (b"X1Y+", 4),
-            (b"Y.", 4),
-        ],
+        4,
+        b"X\nX.\nX+\nX1.0.0\nX--1.0\nX1-2\nX1.0-\nX1000000.0\nX-1000000.\nX0.0Y\nX1Y+\nY.",
     ),
-    (RAISED, &[(b"G00XY1.0", 4)]),
-    (LOWERED, &[(b"G01Y1..", 4)]),
-    (SELECTED, &[(b"X1000.0Y.", 4)]),
-    (BODY, &[(b"X.Y1", 4), (b"G01X.", 4)]),
+    (RAISED, 4, b"G00XY1.0"),
+    (LOWERED, 4, b"G01Y1.."),
+    (SELECTED, 4, b"X1000.0Y."),
+    (BODY, 4, b"X.Y1\nG01X."),
     // the unit
-    (b"M48\n", &[(b"T1C0.8", 6), (b"%", 6), (b"T1C0", 6)]),
-    (b"M48\nFMAT,2\nG90\n", &[(b"%", 6)]),
+    (b"M48\n", 6, b"T1C0.8\n%\nT1C0"),
+    (b"M48\nFMAT,2\nG90\n", 6, b"%"),
 ];
 
 /// Lines that their part of the file has not.
@@ -94,198 +61,78 @@ pub const FORMS: &[Lines] = &[
     // lines that the header has not
     (
         b"M48\nMETRIC,TZ\n",
-        &[
-            (b"M48", 41),
-            (b"G05", 41),
-            (b"M30", 41),
-            (b"T1", 41),
-            (b"X1.0", 41),
-            (b"M15", 41),
-            (b"METRIC,TX", 41),
-            (b"METRIC,", 41),
-            (b"METRIC,LZ,TZ", 41),
-            (b"FMAT,1", 41),
-            (b"FMAT", 41),
-            (b"FMAT,02", 41),
-            (b"INCH", 41),
-            (b"INCH,LZ", 41),
-            (b"INCH,TZ", 41),
-            (b"metric", 41),
-            (b"%%", 41),
-            (b"G91", 41),
-            (b"T1C1F2", 41),
-            (b"T1F2", 41),
-            (b"t1C1", 41),
-            (b"ICI,OFF", 41),
-            (b"M95", 41),
-        ],
+        41,
+        b"M48\nG05\nM30\nT1\nX1.0\nM15\nMETRIC,TX\nMETRIC,\nMETRIC,LZ,TZ\nFMAT,1\nFMAT\nFMAT,02\nINCH\n\
+          INCH,LZ\nINCH,TZ\nmetric\n%%\nG91\nT1C1F2\nT1F2\nt1C1\nICI,OFF\nM95",
     ),
-    (b"M48\nINCH\n", &[(b"METRIC", 41)]),
+    (b"M48\nINCH\n", 41, b"METRIC"),
     // lines that the body has not
     (
         SELECTED,
-        &[
-            (b"%", 41),
-            (b"METRIC", 41),
-            (b"INCH", 41),
-            (b"M48", 41),
-            (b"T1C0.8", 41),
-            (b"T1F2", 41),
-            (b"T1X1.0", 41),
-            (b"G5", 41),
-            (b"G90.", 41),
-            (b"G090", 41),
-            (b"G005", 41),
-            (b"M2", 41),
-            (b"M030", 41),
-            (b"M17", 41),
-            (b"M00", 41),
-            (b"M15X1.0", 41),
-            (b"M30X", 41),
-            (b"G00", 41),
-            (b"G01", 41),
-            (b"G0X1.0", 41),
-            (b"G1X1.0", 41),
-            (b"G2X1.0", 41),
-            (b"G05X1.0", 41),
-            (b"Y1.0X1.0", 41),
-            (b"X1.0X2.0", 41),
-            (b"X1.0Y2.0Z3.0", 41),
-            (b"X1.0,Y2.0", 41),
-            (b"x1.0", 41),
-            (b"G00Y1.0X1.0", 41),
-            (b"G01A1.0", 41),
-            (b"G85X1.0", 41),
-            (b"X1.0Y1.0G85X2.0Y1.0", 41),
-            (b"R2X1.0", 41),
-            (b"G93X0.0Y0.0", 41),
-            (b"F100", 41),
-            (b"S1", 41),
-            (b"M47,text", 41),
-            (b"FMAT,1", 41),
-        ],
+        41,
+        b"%\nMETRIC\nINCH\nM48\nT1C0.8\nT1F2\nT1X1.0\nG5\nG90.\nG090\nG005\nM2\nM030\nM17\nM00\nM15X1.0\n\
+          M30X\nG00\nG01\nG0X1.0\nG1X1.0\nG2X1.0\nG05X1.0\nY1.0X1.0\nX1.0X2.0\nX1.0Y2.0Z3.0\nX1.0,Y2.0\n\
+          x1.0\nG00Y1.0X1.0\nG01A1.0\nG85X1.0\nX1.0Y1.0G85X2.0Y1.0\nR2X1.0\nG93X0.0Y0.0\nF100\nS1\n\
+          M47,text\nFMAT,1",
     ),
-    (LOWERED, &[(b"G00", 41), (b"F100", 41)]),
+    (LOWERED, 41, b"G00\nF100"),
 ];
 
 /// Lines that do not go with what stands before them.
 pub const STATES: &[Lines] = &[
-    // the board
+    // the board, also where a tool is missing or the mode is wrong
     (
         SELECTED,
-        &[
-            (b"X1000.0", 23),
-            (b"X-1000.", 23),
-            (b"Y999.9999995", 23),
-            (b"Y-999.9999995", 23),
-            (b"X0.0Y999999.9", 23),
-            (b"X1000.0Y1", 23),
-        ],
+        23,
+        b"X1000.0\nX-1000.\nY999.9999995\nY-999.9999995\nX0.0Y999999.9\nX1000.0Y1\nG01X1000.0",
     ),
-    (b"M48\nINCH\nT1C0.1\n%\nT1\n", &[(b"X39.37007874", 23)]),
-    (BODY, &[(b"G00X1000.0", 23)]),
-    (LOWERED, &[(b"G01Y-1000.0", 23), (b"G01X1000.0Y1", 23)]),
-    // before a missing tool, and before a wrong mode
-    (BODY, &[(b"X1000.0", 23)]),
-    (SELECTED, &[(b"G01X1000.0", 23)]),
-    (RAISED, &[(b"G01X-1000.0", 23)]),
-    (LOWERED, &[(b"G00X1000.0", 23)]),
+    (b"M48\nINCH\nT1C0.1\n%\nT1\n", 23, b"X39.37007874"),
+    (BODY, 23, b"G00X1000.0\nX1000.0"),
+    (RAISED, 23, b"G01X-1000.0"),
+    (LOWERED, 23, b"G01Y-1000.0\nG01X1000.0Y1\nG00X1000.0"),
     // diameters
     (
         HEADER,
-        &[
-            (b"T1C0", 24),
-            (b"T1C-1", 24),
-            (b"T1C0.0000004", 24),
-            (b"T1C200.0000005", 24),
-            (b"T1C200.000001", 24),
-            (b"T1C999999.999999999", 24),
-            (b"T1C-999999.999999999", 24),
-        ],
+        24,
+        b"T1C0\nT1C-1\nT1C0.0000004\nT1C200.0000005\nT1C200.000001\nT1C999999.999999999\n\
+          T1C-999999.999999999",
     ),
-    (b"M48\nINCH\n", &[(b"T1C7.87401577", 24)]),
-    (b"M48\nMETRIC\nT1C1\n", &[(b"T1C0", 24)]),
+    (b"M48\nINCH\n", 24, b"T1C7.87401577"),
+    (b"M48\nMETRIC\nT1C1\n", 24, b"T1C0"),
     // no header
-    (
-        b"\n; first\n \t",
-        &[
-            (b"METRIC", 40),
-            (b"M30", 40),
-            (b"%", 40),
-            (b"m48", 40),
-            (b"M4", 40),
-            (b"M480", 40),
-        ],
-    ),
+    (b"\n; first\n \t", 40, b"METRIC\nM30\n%\nm48\nM4\nM480"),
     // tools
-    (BODY, &[(b"T2", 42), (b"T9999", 42)]),
-    (SELECTED, &[(b"T10", 42)]),
-    (LOWERED, &[(b"T2", 42)]),
-    (b"M48\nMETRIC\nT1C0.8\n", &[(b"T1C0.8", 43)]),
-    (b"M48\nMETRIC\nT1C0.8\nT2C1\n", &[(b"T0001C0.9", 43)]),
-    (BODY, &[(b"X1.0", 44)]),
-    (b"M48\nMETRIC\nT1C0.8\n%\nT1\nX1.0\nT0\n", &[(b"X1.0", 44)]),
-    (b"M48\nMETRIC\nT1C0.8\n%\nT1\nT000\n", &[(b"Y1.0", 44)]),
-    (BODY, &[(b"X1", 44)]),
-    (b"M48\nMETRIC\nT1C0.8\n%\nG00X1.0\n", &[(b"M15", 44)]),
-    (BODY, &[(b"M15", 44)]),
+    (BODY, 42, b"T2\nT9999"),
+    (SELECTED, 42, b"T10"),
+    (LOWERED, 42, b"T2"),
+    (b"M48\nMETRIC\nT1C0.8\n", 43, b"T1C0.8"),
+    (b"M48\nMETRIC\nT1C0.8\nT2C1\n", 43, b"T0001C0.9"),
+    (BODY, 44, b"X1.0\nX1\nM15"),
+    (b"M48\nMETRIC\nT1C0.8\n%\nT1\nX1.0\nT0\n", 44, b"X1.0"),
+    (b"M48\nMETRIC\nT1C0.8\n%\nT1\nT000\n", 44, b"Y1.0"),
+    (b"M48\nMETRIC\nT1C0.8\n%\nG00X1.0\n", 44, b"M15"),
     // coordinates without a point
     (
         SELECTED,
-        &[
-            (b"X10Y10", 45),
-            (b"X1.0Y10", 45),
-            (b"X10Y1.0", 45),
-            (b"Y-5", 45),
-            (b"X+5", 45),
-            (b"X0", 45),
-            (b"X123456789012345678901234567890", 45),
-            (b"X1000", 45),
-        ],
+        45,
+        b"X10Y10\nX1.0Y10\nX10Y1.0\nY-5\nX+5\nX0\nX123456789012345678901234567890\nX1000\nG01X1",
     ),
-    (BODY, &[(b"G00X1", 45)]),
-    (LOWERED, &[(b"G01X1", 45), (b"G00Y1", 45)]),
-    (SELECTED, &[(b"G01X1", 45)]),
+    (BODY, 45, b"G00X1"),
+    (LOWERED, 45, b"G01X1\nG00Y1"),
     // arcs
-    (
-        LOWERED,
-        &[
-            (b"G02X1.0Y1.0I0.5", 46),
-            (b"G03", 46),
-            (b"G03X1.0A1.0", 46),
-            (b"G02X1", 46),
-        ],
-    ),
-    (BODY, &[(b"G02X1.0", 46)]),
+    (LOWERED, 46, b"G02X1.0Y1.0I0.5\nG03\nG03X1.0A1.0\nG02X1"),
+    (BODY, 46, b"G02X1.0"),
     // modes
-    (RAISED, &[(b"X1.0", 47)]),
-    (LOWERED, &[(b"X1.0", 47)]),
-    (AGAIN, &[(b"X1.0", 47)]),
-    (SELECTED, &[(b"M15", 47)]),
-    (
-        b"M48\nMETRIC\nT1C0.8\n%\nT1\nG00X0.0\nG05\n",
-        &[(b"M15", 47)],
-    ),
-    (LOWERED, &[(b"M15", 47)]),
+    (SELECTED, 47, b"M15\nG01X1.0"),
+    (RAISED, 47, b"X1.0\nG01X1.0\nM16"),
+    (LOWERED, 47, b"X1.0\nM15\nG00X1.0\nT1\nT0\nG05\nM30"),
+    (AGAIN, 47, b"X1.0\nG01X1.0\nM16"),
+    (BODY, 47, b"M16"),
+    (b"M48\nMETRIC\nT1C0.8\n%\nT1\nG00X0.0\nG05\n", 47, b"M15"),
     (
         b"M48\nMETRIC\nT1C0.8\n%\nT1\nG00X0.0\nM15\nM16\nG05\n",
-        &[(b"M15", 47)],
-    ),
-    (SELECTED, &[(b"G01X1.0", 47)]),
-    (RAISED, &[(b"G01X1.0", 47)]),
-    (AGAIN, &[(b"G01X1.0", 47)]),
-    (BODY, &[(b"M16", 47)]),
-    (RAISED, &[(b"M16", 47)]),
-    (AGAIN, &[(b"M16", 47)]),
-    (
-        LOWERED,
-        &[
-            (b"G00X1.0", 47),
-            (b"T1", 47),
-            (b"T0", 47),
-            (b"G05", 47),
-            (b"M30", 47),
-        ],
+        47,
+        b"M15",
     ),
 ];
 
