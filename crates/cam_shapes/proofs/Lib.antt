@@ -8,6 +8,9 @@ pub mod Parity
 pub mod Places
 pub mod Reaches
 pub mod Strokes
+pub mod Sweeps
+pub mod SweptLaws
+pub mod SweptWays
 pub mod TestLaws
 pub mod Vectors
 pub mod Widths

@@ -56,7 +56,7 @@ too_far : (xl ml wl ad e : ℤ) → xl ≡ ad +ℤ e → ad ≤ℤ ml → e ≤�
 too_far xl ml wl ad e f g h k = omega (arith, ints)
 
 -- x * l is a * d and at most w * l more, where d is from 0 to l: x is at most w past the greater of a and 0
-reach : (x a d l e w m : ℤ) → pos 0 <ℤ l → pos 0 ≤ℤ d → d ≤ℤ l → a ≤ℤ m → pos 0 ≤ℤ m → x *ℤ l ≡ a *ℤ d +ℤ e
+pub reach : (x a d l e w m : ℤ) → pos 0 <ℤ l → pos 0 ≤ℤ d → d ≤ℤ l → a ≤ℤ m → pos 0 ≤ℤ m → x *ℤ l ≡ a *ℤ d +ℤ e
     → e ≤ℤ (w *ℤ l) → x ≤ℤ (m +ℤ w)
 reach x a d l e w m long from to over some is small =
     by_lt_z (m +ℤ w) x

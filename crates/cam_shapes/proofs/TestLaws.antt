@@ -6,6 +6,7 @@ use Rattle.std.specs.Ordering.{int_eq}
 use Rattle.std.specs.Bool.{Decides}
 use Rattle.std.proofs.lemmas.Bool.Decides.{Decides-and, Decides-eqb, Decides-int_eq, Decides-like, Decides-or}
 use Rattle.cam_units.specs.declared.point.Spot.{Spot}
+use Rattle.cam_units.specs.Boxes.{IsBetween as IsInBox}
 use Rattle.cam_shapes.specs.declared.vector.Vector.{Vector}
 use Rattle.cam_shapes.specs.declared.disc.Disc.{Disc}
 use Rattle.cam_shapes.specs.declared.rectangle.Rectangle.{Rectangle}
@@ -13,6 +14,7 @@ use Rattle.cam_shapes.specs.declared.obround.Obround.{Obround}
 use Rattle.cam_shapes.specs.declared.bar.Bar.{Bar}
 use Rattle.cam_shapes.specs.declared.capsule.Capsule.{Capsule}
 use Rattle.cam_shapes.specs.declared.arc.Arc.{Arc}
+use Rattle.cam_shapes.specs.declared.swept.Swept.{Swept}
 use Rattle.cam_shapes.specs.declared.contour.Contour.{Contour}
 use Rattle.cam_shapes.specs.Plane.{cross, dot, seen_from, square, way, IsBetween, IsWithin}
 use Rattle.cam_shapes.specs.Disc.{IsInDisc, IsInHole}
@@ -22,10 +24,11 @@ use Rattle.cam_shapes.specs.Arc.{IsInArc, IsInSweep, IsNarrow, IsNearArc, IsNear
 use Rattle.cam_shapes.specs.Edge.{crosses_ray}
 use Rattle.cam_shapes.specs.Cap.{is_in_cap}
 use Rattle.cam_shapes.specs.Contour.{caps_of, edges_of, IsInContour}
+use Rattle.cam_shapes.specs.Swept.{corner_reach, high_corner, low_corner, IsInSwept, IsNearWay}
 use Rattle.cam_shapes.specs.Tests.{is_in_arc, is_in_bar, is_in_capsule, is_in_contour, is_in_disc, is_in_hole}
 use Rattle.cam_shapes.specs.Tests.{is_in_obround, is_in_rectangle}
 use Rattle.cam_shapes.specs.Tests.{is_along, is_beside, is_between, is_between_ends, is_in_sweep, is_narrow}
-use Rattle.cam_shapes.specs.Tests.{is_near_arc}
+use Rattle.cam_shapes.specs.Tests.{is_boxed, is_in_swept, is_near_arc, is_near_way}
 use Rattle.cam_shapes.specs.Tests.{is_near_circle, is_near_segment, is_on_arc, is_rounded, is_swept, is_within}
 use Rattle.cam_shapes.proofs.Crossings.{less_is}
 use Rattle.cam_shapes.proofs.Vectors.{same_vector}
@@ -121,6 +124,28 @@ unfolding is_in_capsule
 is_in_capsule-meaning s c =
     like (λ p. record { wide = p.0; near = p.1 }) (λ p. (p.wide, p.near))
     (both (less_is (pos 0) c.width.0) (near_segment s c))
+
+boxed : (low high s : Spot) → Decides (is_boxed low high s) (IsInBox low high s)
+unfolding is_boxed
+boxed low high s =
+    like
+    (λ p. record { left = p.0.0; right = p.0.1; below = p.1.0; above = p.1.1 })
+    (λ p. ((p.left, p.right), (p.below, p.above)))
+    (both (both (at_most_is low.x s.x) (at_most_is s.x high.x)) (both (at_most_is low.y s.y) (at_most_is s.y high.y)))
+
+near_way : (a v : Vector) (w h : ℤ) → Decides (is_near_way a v w h) (IsNearWay a v w h)
+unfolding is_near_way
+near_way a v w h = at_most_is (pos (unsigned_abs (cross a v))) (corner_reach a w h)
+
+pub is_in_swept-meaning : (s : Spot) (r : Swept) → IsTrue (is_in_swept s r) ↔ IsInSwept s r
+unfolding is_in_swept
+is_in_swept-meaning s r =
+    like
+    (λ p. record { wide = p.0.0; high = p.0.1; boxed = p.1.0; near = p.1.1 })
+    (λ p. ((p.wide, p.high), (p.boxed, p.near)))
+    (both (both (less_is (pos 0) r.width.0) (less_is (pos 0) r.height.0))
+    (both (boxed (low_corner r) (high_corner r) s)
+    (near_way (way r.from r.to) (seen_from r.from s) r.width.0 r.height.0)))
 
 narrow : (s e : Vector) → Decides (is_narrow s e) (IsNarrow s e)
 unfolding is_narrow

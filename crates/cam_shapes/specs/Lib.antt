@@ -10,4 +10,5 @@ pub mod Outline
 pub mod Placing
 pub mod Plane
 pub mod Shifting
+pub mod Swept
 pub mod Tests

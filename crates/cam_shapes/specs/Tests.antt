@@ -11,6 +11,7 @@ use Rattle.cam_shapes.specs.declared.obround.Obround.{Obround}
 use Rattle.cam_shapes.specs.declared.bar.Bar.{Bar}
 use Rattle.cam_shapes.specs.declared.capsule.Capsule.{Capsule}
 use Rattle.cam_shapes.specs.declared.arc.Arc.{Arc}
+use Rattle.cam_shapes.specs.declared.swept.Swept.{Swept}
 use Rattle.cam_shapes.specs.declared.contour.Contour.{Contour}
 use Rattle.cam_shapes.specs.Plane.{cross, dot, seen_from, square, way}
 use Rattle.cam_shapes.specs.Disc.{IsInDisc, IsInHole}
@@ -21,6 +22,7 @@ use Rattle.cam_shapes.specs.Edge.{crosses_ray}
 use Rattle.cam_shapes.specs.Cap.{is_in_cap}
 use Rattle.cam_shapes.specs.Contour.{caps_of, edges_of, IsInContour}
 use Rattle.cam_shapes.specs.Sides.{change_side}
+use Rattle.cam_shapes.specs.Swept.{corner_reach, high_corner, low_corner, IsInSwept}
 
 -- a way that is at most r long
 unfoldable pub is_within : Vector → ℤ → Bool
@@ -80,6 +82,21 @@ is_near_segment s c =
 unfoldable pub is_in_capsule : Spot → Capsule → Bool
 is_in_capsule s c = int_lt (pos 0) c.width.0 && is_near_segment s c
 
+-- the place lies in the box between two corners
+unfoldable pub is_boxed : Spot → Spot → Spot → Bool
+is_boxed low high s = (int_le low.x s.x && int_le s.x high.x) && (int_le low.y s.y && int_le s.y high.y)
+
+-- v is no farther from the line of a way a than the corners of a rectangle about the way's start
+unfoldable pub is_near_way : Vector → Vector → ℤ → ℤ → Bool
+is_near_way a v w h = int_le (pos (unsigned_abs (cross a v))) (corner_reach a w h)
+
+-- the stroke of a rectangle along a straight line
+unfoldable pub is_in_swept : Spot → Swept → Bool
+is_in_swept s r =
+    (int_lt (pos 0) r.width.0 && int_lt (pos 0) r.height.0)
+    && (is_boxed (low_corner r) (high_corner r) s
+    && is_near_way (way r.from r.to) (seen_from r.from s) r.width.0 r.height.0)
+
 -- the sweep counterclockwise from s to e is at most a half turn
 unfoldable pub is_narrow : Vector → Vector → Bool
 is_narrow s e = int_lt (pos 0) (cross s e) || (int_eq (cross s e) (pos 0) && int_lt (dot s e) (pos 0))
@@ -130,6 +147,7 @@ pub record TestsLaw : Type 0 where
   pub obround : (s : Spot) (o : Obround) → IsTrue (is_in_obround s o) ↔ IsInObround s o
   pub bar : (s : Spot) (b : Bar) → IsTrue (is_in_bar s b) ↔ IsInBar s b
   pub capsule : (s : Spot) (c : Capsule) → IsTrue (is_in_capsule s c) ↔ IsInCapsule s c
+  pub swept : (s : Spot) (r : Swept) → IsTrue (is_in_swept s r) ↔ IsInSwept s r
   pub arc : (s : Spot) (a : Arc) → IsTrue (is_in_arc s a) ↔ IsInArc s a
   pub contour : (s : Spot) (c : Contour) → IsTrue (is_in_contour s c) ↔ IsInContour s c
   pub sides : (s : Spot) (c : Contour) → IsTrue (change_side s c.start c.start c.segs) ↔ IsInContour s c

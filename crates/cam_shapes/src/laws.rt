@@ -4,6 +4,7 @@ ghost use Rattle.cam_shapes.specs.Arc.{ArcSquareLaw, CircleDistanceLaw, CircleFo
 ghost use Rattle.cam_shapes.specs.Cap.{CapSquareLaw};
 ghost use Rattle.cam_shapes.specs.Contour.{ContourBoxLaw};
 ghost use Rattle.cam_shapes.specs.Edge.{CrossingLaw};
+ghost use Rattle.cam_shapes.specs.Swept.{SweptAxisLaw, SweptBoxLaw, SweptEndsLaw, SweptTurnLaw, SweptWayLaw};
 ghost use Rattle.cam_shapes.specs.Tests.{TestsLaw};
 
 /// A place near a circle is so by its distance from the centre.
@@ -35,6 +36,32 @@ pub fn contour_is_in_its_box()
 /// A place in a cap lies in a square about the centre.
 pub fn cap_is_in_its_square()
     ensures { CapSquareLaw }
+{}
+
+/// The rectangle at either end of a line lies in its stroke along the line; of a line of length 0
+/// the stroke is the rectangle.
+pub fn swept_holds_its_ends()
+    ensures { SweptEndsLaw }
+{}
+
+/// The stroke of a rectangle along an axis is the box of both ends, widened by the sides.
+pub fn swept_along_an_axis_is_its_box()
+    ensures { SweptAxisLaw }
+{}
+
+/// The stroke of a rectangle lies in each box that holds the rectangles at its ends.
+pub fn swept_is_in_its_box()
+    ensures { SweptBoxLaw }
+{}
+
+/// The stroke of a rectangle along a line is all that the rectangle passes on its way.
+pub fn swept_is_all_that_is_passed()
+    ensures { SweptWayLaw }
+{}
+
+/// Each of the eight turns of a rectangle's stroke turns what it covers.
+pub fn swept_turns()
+    ensures { SweptTurnLaw }
 {}
 
 /// The tests of shapes that compute tell exactly the places of the shapes.

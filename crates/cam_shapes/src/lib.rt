@@ -8,7 +8,8 @@
 //!
 //! - [`in_disc`], [`in_rect`], [`in_obround`]: the standard apertures, closed, and [`in_hole`]:
 //!   the open hole.
-//! - [`in_bar`]: a line of a macro; [`in_capsule`], [`in_arc`]: the strokes of a round tool.
+//! - [`in_bar`]: a line of a macro; [`in_capsule`], [`in_arc`]: the strokes of a round tool;
+//!   [`in_swept`]: the stroke of a rectangle along a line.
 //! - [`in_contour`]: a region, by an odd number of [`in_edge`] and [`in_cap`]; [`in_outline`]: an
 //!   outline of a macro, by its points.
 //! - [`Placing`]: where the points and segments of a contour come to lie, once it is turned and moved.
@@ -32,6 +33,7 @@ mod rectangle;
 mod segments;
 mod shifting;
 mod size;
+mod swept;
 mod vector;
 
 pub use arc::{Arc, in_arc};
@@ -43,7 +45,8 @@ pub use disc::{Disc, in_disc, in_hole};
 pub use edge::in_edge;
 pub use laws::{
     arc_is_in_its_square, cap_is_in_its_square, circle_forms_agree, circle_is_near_by_distance,
-    contour_is_in_its_box, edge_lies_right, tests_tell_shapes,
+    contour_is_in_its_box, edge_lies_right, swept_along_an_axis_is_its_box, swept_holds_its_ends,
+    swept_is_all_that_is_passed, swept_is_in_its_box, swept_turns, tests_tell_shapes,
 };
 pub use obround::{Obround, in_obround};
 pub use outline::in_outline;
@@ -51,3 +54,4 @@ pub use placing::Placing;
 pub use rectangle::{Rectangle, in_rect};
 pub use segments::{Seg, Segments};
 pub use shifting::shifted;
+pub use swept::{Swept, in_swept};

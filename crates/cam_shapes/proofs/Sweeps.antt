@@ -1,0 +1,76 @@
+-- Strokes of rectangles: what the test computes.
+use Rattle.std.proofs.Common.{◌≡◌, ℕ, ◌+◌, ◌*◌, ◌<◌, ◌^◌, ℤ, pos, ◌+ℤ◌, ◌-ℤ◌, ◌*ℤ◌, Fits, FitsSigned, w64, subst, sym, ◌∙◌, arith}
+use Rattle.std.specs.Int.{int_max, int_min}
+use Rattle.std.specs.Int.RustNames.{unsigned_abs}
+use Rattle.std.proofs.lemmas.Int.{clamps, ints}
+use Rattle.std.proofs.lemmas.Nat.{mul-lt}
+use Rattle.cam_units.specs.declared.point.Spot.{Spot}
+use Rattle.cam_units.specs.Board.{IsSize}
+use Rattle.cam_shapes.proofs.Widths.{narrow}
+
+pub same_spot : (p q : Spot) → p.x ≡ q.x → p.y ≡ q.y → p ≡ q
+same_spot p q e f = λ i. record { x = e i; y = f i }
+
+-- twice a coordinate
+abbrev twice : ℤ → ℤ
+twice z = pos 2 *ℤ z
+
+kept_twice : (a : ℤ) → unsigned_abs a < 1000000000 → narrow (twice (narrow a)) ≡ twice a
+kept_twice a h = omega (arith, ints)
+
+least_near : (a b : ℤ) → unsigned_abs a < 1000000000 → unsigned_abs b < 1000000000
+    → unsigned_abs (int_min (twice a) (twice b)) < 2000000000
+least_near a b h k = omega (arith, ints, clamps)
+
+greatest_near : (a b : ℤ) → unsigned_abs a < 1000000000 → unsigned_abs b < 1000000000
+    → unsigned_abs (int_max (twice a) (twice b)) < 2000000000
+greatest_near a b h k = omega (arith, ints, clamps)
+
+sum_fits : (m w : ℤ) → unsigned_abs m < 2000000000 → IsSize w → FitsSigned w64 (narrow m +ℤ narrow w)
+sum_fits m w h size = omega (arith, ints, size.0, size.1)
+
+kept_sum : (m w : ℤ) → unsigned_abs m < 2000000000 → IsSize w → narrow (narrow m +ℤ narrow w) ≡ m +ℤ w
+kept_sum m w h size = omega (arith, ints, size.0, size.1)
+
+difference_fits : (m w : ℤ) → unsigned_abs m < 2000000000 → IsSize w → FitsSigned w64 (narrow m -ℤ narrow w)
+difference_fits m w h size = omega (arith, ints, size.0, size.1)
+
+kept_difference : (m w : ℤ) → unsigned_abs m < 2000000000 → IsSize w → narrow (narrow m -ℤ narrow w) ≡ m -ℤ w
+kept_difference m w h size = omega (arith, ints, size.0, size.1)
+
+-- of the lesser and of the greater coordinate of the ends a and b, and a side w
+module _ (a b m w : ℤ) (h : unsigned_abs a < 1000000000) (k : unsigned_abs b < 1000000000) (size : IsSize w) where
+  module _ (e : m ≡ int_min (narrow (twice (narrow a))) (narrow (twice (narrow b)))) where
+    least : m ≡ int_min (twice a) (twice b)
+    least = e ∙ (λ i. int_min (kept_twice a h i) (kept_twice b k i))
+
+    pub low_fits : FitsSigned w64 (narrow m -ℤ narrow w)
+    low_fits = difference_fits m w (subst (λ (z : ℤ). unsigned_abs z < 2000000000) (sym least) (least_near a b h k)) size
+
+    pub kept_low : narrow (narrow m -ℤ narrow w) ≡ int_min (twice a) (twice b) -ℤ w
+    kept_low =
+        subst (λ (z : ℤ). narrow (narrow z -ℤ narrow w) ≡ int_min (twice a) (twice b) -ℤ w) (sym least)
+        (kept_difference (int_min (twice a) (twice b)) w (least_near a b h k) size)
+
+  module _ (e : m ≡ int_max (narrow (twice (narrow a))) (narrow (twice (narrow b)))) where
+    greatest : m ≡ int_max (twice a) (twice b)
+    greatest = e ∙ (λ i. int_max (kept_twice a h i) (kept_twice b k i))
+
+    pub high_fits : FitsSigned w64 (narrow m +ℤ narrow w)
+    high_fits = sum_fits m w (subst (λ (z : ℤ). unsigned_abs z < 2000000000) (sym greatest) (greatest_near a b h k)) size
+
+    pub kept_high : narrow (narrow m +ℤ narrow w) ≡ int_max (twice a) (twice b) +ℤ w
+    kept_high =
+        subst (λ (z : ℤ). narrow (narrow z +ℤ narrow w) ≡ int_max (twice a) (twice b) +ℤ w) (sym greatest)
+        (kept_sum (int_max (twice a) (twice b)) w (greatest_near a b h k) size)
+
+-- the products of sides and legs of a way
+pub short_side : (m : ℕ) (w : ℤ) → m ≡ unsigned_abs (narrow w) → IsSize w → m < 2 ^ 28
+short_side m w e size = omega (arith, ints, size.0, size.1)
+
+pub short_leg : (m : ℕ) (z : ℤ) → m ≡ unsigned_abs (narrow z) → unsigned_abs z < 2 ^ 33 → m < 2 ^ 33
+short_leg m z e h = omega (arith, ints)
+
+pub reach_fits : (m n p q : ℕ) → m < 2 ^ 28 → n < 2 ^ 33 → p < 2 ^ 28 → q < 2 ^ 33 → Fits w64 (m * n + p * q)
+reach_fits m n p q a b c d =
+    omega (arith, mul-lt m n (2 ^ 28) (2 ^ 33) a b, mul-lt p q (2 ^ 28) (2 ^ 33) c d)
