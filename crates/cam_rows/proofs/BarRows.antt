@@ -10,19 +10,16 @@ use Rattle.cam_rows.specs.Machinery.Beside.{IsInside, IsWithinReach}
 use Rattle.cam_rows.specs.Machinery.HalfPlanes.{HasCentre, IsHalfPlaneOf}
 use Rattle.cam_rows.specs.Machinery.Kept.{AreKept, Has}
 use Rattle.cam_rows.specs.Rows.{centre_at, row_below}
-use Rattle.cam_rows.proofs.BesideWays.{IsAhead, IsLeft, between_ends, in_bar}
+use Rattle.cam_rows.proofs.BesideWays.{IsAhead, IsNear, between_ends, in_bar}
 use Rattle.cam_rows.proofs.KeptRows.{kept_both, kept_same}
 
 -- what is ahead of both ends
 abbrev pub IsBetween : Centres → Bar → ℕ → ℕ → Type 0
 IsBetween top bar k i = Has top (IsAhead bar.from bar.to) k i × Has top (IsAhead bar.to bar.from) k i
 
--- and on one side of the edge
-abbrev pub IsAtEdge : Centres → Bar → ℤ → ℕ → ℕ → Type 0
-IsAtEdge top bar reach k i = IsBetween top bar k i × Has top (IsLeft bar.from bar.to reach) k i
-
-abbrev pub IsAtBoth : Centres → Bar → ℤ → ℕ → ℕ → Type 0
-IsAtBoth top bar reach k i = IsAtEdge top bar reach k i × Has top (IsLeft bar.to bar.from reach) k i
+-- and near the line through both
+abbrev pub IsBesideWay : Centres → Bar → ℤ → ℕ → ℕ → Type 0
+IsBesideWay top bar reach k i = IsBetween top bar k i × Has top (IsNear bar.from bar.to reach) k i
 
 -- what a half plane keeps
 pub kept_first : (old new : List ℕ) (top : Centres) (h : HalfPlane) (IsIn : Spot → Type 0) → IsHalfPlaneOf top IsIn h
@@ -45,9 +42,9 @@ has_between top bar k i p =
 pub has_in_bar : (top : Centres) (bar : Bar) (reach : ℤ)
     → ((z : ℤ) → IsWithinReach z reach
     ↔ IsInside z bar.width.0 (dot (way bar.from bar.to) (way bar.from bar.to)))
-    → (k i : ℕ) → Has top (λ s. IsInBar s bar) k i ↔ IsAtBoth top bar reach k i
+    → (k i : ℕ) → Has top (λ s. IsInBar s bar) k i ↔ IsBesideWay top bar reach k i
 has_in_bar top bar reach each k i =
     let told = in_bar (centre_at (row_below top k) i) bar reach each in (
-      (λ p. let q = told.0 p.1 in ((((p.0, q.0), (p.0, q.1)), (p.0, q.2)), (p.0, q.3))),
-      (λ p. (p.1.0, told.1 (p.0.0.0.1, p.0.0.1.1, p.0.1.1, p.1.1))),
+      (λ p. let q = told.0 p.1 in (((p.0, q.0), (p.0, q.1)), (p.0, q.2))),
+      (λ p. (p.1.0, told.1 (p.0.0.1, p.0.1.1, p.1.1))),
     )

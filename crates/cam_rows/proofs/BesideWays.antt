@@ -71,23 +71,32 @@ between_ends s bar inside =
     let between = inside.beside.between in
     (between.after_start, (before_end bar.from bar.to s).1 between.before_end)
 
--- a bar is where four half planes meet
+-- near the line through both
+abbrev pub IsNear : Point → Point → ℤ → Spot → Type 0
+IsNear p q reach s = IsWithinReach (cross (way p q) (seen_from p s)) reach
+
+-- what is near a line lies in the half planes of both edges
+pub near_line : (p q : Point) (reach : ℤ) (s : Spot) → IsNear p q reach s ↔ (IsLeft p q reach s × IsLeft q p reach s)
+near_line p q reach s =
+    let right =
+    below_reach (cross (way q p) (seen_from q s)) (cross (way p q) (seen_from p s)) reach (from_the_right p q s) in (
+      (λ near. (near.left, right.1 near.right)),
+      (λ held. record { left = held.0; right = right.0 held.1 }),
+    )
+
+-- a bar is near its line, between its ends
 pub in_bar : (s : Spot) (bar : Bar) (reach : ℤ)
     → ((z : ℤ) → IsWithinReach z reach
     ↔ IsInside z bar.width.0 (dot (way bar.from bar.to) (way bar.from bar.to)))
-    → IsInBar s bar ↔ (IsAhead bar.from bar.to s × IsAhead bar.to bar.from s
-    × IsLeft bar.from bar.to reach s × IsLeft bar.to bar.from reach s)
+    → IsInBar s bar ↔ (IsAhead bar.from bar.to s × IsAhead bar.to bar.from s × IsNear bar.from bar.to reach s)
 in_bar s bar reach each =
-    let z = cross (way bar.from bar.to) (seen_from bar.from s) in
-    let right =
-    below_reach (cross (way bar.to bar.from) (seen_from bar.to s)) z reach (from_the_right bar.from bar.to s) in (
+    let z = cross (way bar.from bar.to) (seen_from bar.from s) in (
       (λ p.
           let ends = between_ends s bar p in
-          let inside =
-          (each z).1 (record { wide = p.wide; long = p.beside.between.long; near = p.beside.near }) in
-          (ends.0, ends.1, inside.left, right.1 inside.right)),
+          let near = (each z).1 (record { wide = p.wide; long = p.beside.between.long; near = p.beside.near }) in
+          (ends.0, ends.1, near)),
       (λ held.
-          let inside = (each z).0 (record { left = held.2; right = right.0 held.3 }) in
+          let inside = (each z).0 held.2 in
           record {
             wide = inside.wide;
             beside = record {

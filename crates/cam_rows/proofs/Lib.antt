@@ -38,5 +38,6 @@ pub mod Slopes
 pub mod Steps
 pub mod SweepRows
 pub mod Sweeps
+pub mod SweptRows
 pub mod TurnedRows
 pub mod WayProducts

@@ -8,14 +8,16 @@
 //! Each shape has a second call, such as [`disc_rows`], for rows one below another, which finds once what they share.
 //! A bar is what four half planes keep of full rows, one after another: those across its ends, and those of its long
 //! edges, whose distance is one root. A capsule is a bar to which the discs about its ends are added, an arc what its
-//! sweep and its ring keep, with such discs, and a cap what its side and its circle keep.
+//! sweep and its ring keep, with such discs, and a cap what its side and its circle keep. The stroke of a rectangle is
+//! what two half planes keep of the box of its ends, with no root; along an axis it is the box.
 //!
 //! Where the line of a half plane crosses the rows moves by a quotient and a remainder from each to the next, and the
 //! ends of a chord are found by a walk from those of the row above: with no root and no division for a row. Where the
 //! line crosses none of them, all are changed alike.
 //!
 //! - [`disc_row`], [`rect_row`], [`obround_row`], [`hole_row`]: the standard apertures and their holes, one run each.
-//! - [`bar_row`]: a line of a macro; [`capsule_row`], [`arc_row`]: the strokes of a round tool.
+//! - [`bar_row`]: a line of a macro; [`capsule_row`], [`arc_row`]: the strokes of a round tool; [`swept_row`]: that of
+//!   a rectangle.
 //! - [`edge_row`], [`cap_row`]: parts of a region; [`turn_edge`] turns over what an edge of it changes, [`edge_end`]
 //!   tells where that ends at one height.
 //! - [`or_rows`], [`clear_rows`], [`xor_rows`]: the 64 rows of a tile; [`pbm_bytes`]: a row in a file.
@@ -45,6 +47,7 @@ mod rect;
 mod runs;
 mod slope;
 mod sweep;
+mod swept;
 mod turns;
 mod way;
 
@@ -60,3 +63,4 @@ pub use hole::{hole_row, hole_rows};
 pub use lanes::{clear_rows, or_rows, pbm_bytes, xor_rows};
 pub use obround::{obround_row, obround_rows};
 pub use rect::{rect_row, rect_rows};
+pub use swept::{swept_row, swept_rows};
