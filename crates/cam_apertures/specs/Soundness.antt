@@ -22,3 +22,11 @@ IsSolidCircle (Circle diameter hole) = hole.0 ≡ pos 0
 IsSolidCircle (Rect width height hole) = ⊥
 IsSolidCircle (Obround width height hole) = ⊥
 IsSolidCircle (Prims prims) = ⊥
+
+-- a rectangle without a hole, with which straight lines may be drawn (Gerber Layer Format Specification, "Deprecated
+-- usage": draws with rectangular apertures)
+abbrev pub IsSolidRect : Aperture → Type 0
+IsSolidRect (Circle diameter hole) = ⊥
+IsSolidRect (Rect width height hole) = hole.0 ≡ pos 0
+IsSolidRect (Obround width height hole) = ⊥
+IsSolidRect (Prims prims) = ⊥

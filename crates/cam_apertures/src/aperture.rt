@@ -4,7 +4,7 @@ ghost use Rattle.std.specs.Prelude.{◌≡◌, ◌↔◌, IsTrue};
 ghost use Rattle.cam_units.specs.Board.{IsInReach};
 ghost use Rattle.cam_apertures.specs.Bounds.{bounds_of};
 ghost use Rattle.cam_apertures.specs.Cover.{IsCovered, disc};
-ghost use Rattle.cam_apertures.specs.Soundness.{IsSide, IsSolidCircle, IsSoundAperture};
+ghost use Rattle.cam_apertures.specs.Soundness.{IsSide, IsSolidCircle, IsSolidRect, IsSoundAperture};
 
 use crate::boxes::box_about;
 use crate::primitives::Primitives;
@@ -29,12 +29,22 @@ pub enum Aperture {
 }
 
 impl Aperture {
-    /// Whether the aperture is a circle without a hole, with which lines may be drawn.
+    /// Whether the aperture is a circle without a hole, with which lines and arcs may be drawn.
     pub fn is_solid_circle(&self) -> bool
         ensures { IsTrue result ↔ IsSolidCircle self.now }
     {
         match self {
             Aperture::Circle { hole, .. } => hole.0 == 0,
+            _ => false,
+        }
+    }
+
+    /// Whether the aperture is a rectangle without a hole, with which straight lines may be drawn.
+    pub fn is_solid_rect(&self) -> bool
+        ensures { IsTrue result ↔ IsSolidRect self.now }
+    {
+        match self {
+            Aperture::Rect { hole, .. } => hole.0 == 0,
             _ => false,
         }
     }

@@ -6,7 +6,8 @@
 //! the flash point when it is flashed.
 //!
 //! - [`Aperture::covers`]: whether an aperture covers a place; [`Aperture::bounds`]: its box. Neither
-//!   takes memory. [`Aperture::is_solid_circle`]: whether lines may be drawn with it.
+//!   takes memory. [`Aperture::is_solid_circle`]: whether lines and arcs may be drawn with it;
+//!   [`Aperture::is_solid_rect`]: whether straight lines may.
 //! - [`turned`]: a box, mirrored and turned; [`has_place`]: whether a place lies in a box.
 //! - [`turned_width`], [`turned_height`]: the sides of a shape, once it is turned.
 //! - [`Primitives`]: the primitives of a macro, with the box of all of them kept beside them.
