@@ -39,6 +39,7 @@ use Rattle.cam_shapes.specs.declared.arc.Arc.{Arc}
 use Rattle.cam_shapes.specs.declared.cap.Cap.{Cap}
 use Rattle.cam_shapes.specs.declared.capsule.Capsule.{Capsule}
 use Rattle.cam_shapes.specs.declared.contour.Contour.{Contour}
+use Rattle.cam_shapes.specs.declared.swept.Swept.{Swept}
 use Rattle.cam_shapes.specs.Arc.{IsInArc}
 use Rattle.cam_shapes.specs.Bar.{IsInCapsule, IsNearSegment}
 use Rattle.cam_shapes.specs.Cap.{is_in_cap}
@@ -46,13 +47,15 @@ use Rattle.cam_shapes.specs.Contour.{IsInContour, caps_of, end_of}
 use Rattle.cam_shapes.specs.Plane.{dot, place_of, way}
 use Rattle.cam_shapes.proofs.Boxes.{contour_box}
 use Rattle.cam_shapes.proofs.Caps.{cap_square}
+use Rattle.cam_shapes.specs.Swept.{IsInSwept}
 use Rattle.cam_shapes.proofs.Strokes.{arc_square}
+use Rattle.cam_shapes.proofs.SweptLaws.{box as swept_box}
 use Rattle.cam_apertures.specs.Primitives.{box_about, box_of_point}
 use Rattle.cam_apertures.proofs.CoverLaws.{box_law}
-use Rattle.cam_apertures.proofs.ShapeBoxes.{bar_box, disc_box, join_found, within_box}
+use Rattle.cam_apertures.proofs.ShapeBoxes.{bar_box, disc_box, join_found, rectangle_box, within_box}
 use Rattle.cam_objects.specs.Bounds.{bounds_of, box_of_all, box_of_cap, box_of_contour, box_of_shape, circle_square, moved, root, widened}
 use Rattle.cam_objects.specs.Image.{Covers, IsUncovered, relative}
-use Rattle.cam_objects.specs.Leaves.{Leaf, Shape, Stamp, Stroke, Sweep, Filled, Drilled}
+use Rattle.cam_objects.specs.Leaves.{Leaf, Shape, Stamp, Stroke, Swept as SweptLeaf, Sweep, Filled, Drilled}
 use Rattle.cam_objects.proofs.BoxLimits.{IsBoxWithin, within_about, within_join, within_less, within_point}
 use Rattle.cam_objects.proofs.CopyBoxes.{unmapped}
 use Rattle.cam_objects.proofs.DrillBoxes.{widened_join}
@@ -80,6 +83,15 @@ at_least w h = omega (arith, ints)
 at_most : (w : ℤ) → pos 0 <ℤ w → w ≤ℤ pos (unsigned_abs w)
 at_most w h = omega (arith, ints)
 
+-- the middle of a box lies in it
+about_itself : (p : Point) (w h : ℤ) → pos 0 <ℤ w → pos 0 <ℤ h → Holds (box_about (place_of p) w h) (place_of p)
+about_itself p w h wide high = record {
+  left = omega (arith, ints);
+  right = omega (arith, ints);
+  below = omega (arith, ints);
+  above = omega (arith, ints);
+}
+
 -- the box of both ends, widened, holds the boxes about them
 ends_widened : (from to : Point) (w : ℤ) → pos 0 <ℤ w
     → widened w (join_of (box_of_point from) (box_of_point to)) ≡ join_of (box_about (place_of from) w w) (box_about (place_of to) w w)
@@ -106,6 +118,25 @@ in_stroke c s h =
     by first second (inl near) = first s (disc_box c.from s c.width (record { some = h.wide; near = near }))
     by first second (inr (inl near)) = second s (disc_box c.to s c.width (record { some = h.wide; near = near }))
     by first second (inr (inr beside)) = bar_box c.from c.to c.width s (record { wide = h.wide; beside = beside })
+
+-- ---- rectangles
+
+in_swept : (r : Swept) (s : Spot) → IsInSwept s r → Holds (box_of_shape (SweptLeaf r)) s
+in_swept r s h =
+    let from = box_about (place_of r.from) r.width.0 r.height.0 in
+    let to = box_about (place_of r.to) r.width.0 r.height.0 in
+    let around = join_least from to in
+    by (join_of from to) around.first around.second
+  where
+    by : (b : Bounds)
+        → ((q : Spot) → Holds (box_about (place_of r.from) r.width.0 r.height.0) q → Holds b q)
+        → ((q : Spot) → Holds (box_about (place_of r.to) r.width.0 r.height.0) q → Holds b q)
+        → Holds b s
+    by Empty first second = first (place_of r.from) (about_itself r.from r.width.0 r.height.0 h.wide h.high)
+    by (Closed low high) first second =
+        swept_box low high r
+        (λ q on. first q (rectangle_box r.from q r.width r.height on))
+        (λ q on. second q (rectangle_box r.to q r.width r.height on)) s h
 
 -- ---- arcs
 
@@ -202,6 +233,7 @@ in_contour c s h =
 pub covered_box : (shape : Shape) (s : Spot) → Covers shape s → Holds (box_of_shape shape) s
 covered_box (Stamp a t at) s h = holds_moved at _ s (box_law a t (relative at s) h)
 covered_box (Stroke c) s h = in_stroke c s h
+covered_box (SweptLeaf r) s h = in_swept r s h
 covered_box (Sweep a) s h = in_sweep a s h
 covered_box (Filled c) s h = in_contour c s h
 covered_box (Drilled d) s h = disc_box d.centre s d.diameter h

@@ -61,17 +61,17 @@ use Rattle.cam_objects.proofs.Painting.{All_left, All_right}
 -- ---- lists with an element more, less or other
 
 module _ {X : Type 0} (P : X → Type 0) (before after : List X) where
-  all_with : (x : X) → P x → All P (before ++ after) → All P (before ++ x ∷ after)
+  pub all_with : (x : X) → P x → All P (before ++ after) → All P (before ++ x ∷ after)
   all_with x h all = All-append P before (x ∷ after) (All_left P before after all) (All-cons P x after h (All_right P before after all))
 
-  all_without : (x : X) → All P (before ++ x ∷ after) → All P (before ++ after)
+  pub all_without : (x : X) → All P (before ++ x ∷ after) → All P (before ++ after)
   all_without x all =
       All-append P before after (All_left P before (x ∷ after) all) (All-tail P x after (All_right P before (x ∷ after) all))
 
   all_other : (x y : X) → P y → All P (before ++ x ∷ after) → All P (before ++ y ∷ after)
   all_other x y here all = all_with y here (all_without x all)
 
-  all_at : (x : X) → All P (before ++ x ∷ after) → P x
+  pub all_at : (x : X) → All P (before ++ x ∷ after) → P x
   all_at x all = All-head P x after (All_right P before (x ∷ after) all)
 
 module _ {X : Type 0} (f : X → ℕ) (before after : List X) (x : X) where

@@ -67,6 +67,7 @@ use Rattle.cam_objects.specs.Leaves.{
   polarity_in,
   shifted,
   stands_for,
+  round_width,
 }
 use Rattle.cam_objects.specs.Soundness.{
   AreOnBoard,
@@ -82,6 +83,7 @@ use Rattle.cam_objects.specs.Soundness.{
 }
 use Rattle.cam_objects.specs.Weights.{Weight, block_count, entry_weight, item_count, no_weight, object_count, weight_in}
 use Rattle.cam_objects.proofs.KeptFacts.{sound_grows}
+use Rattle.cam_objects.specs.Turning.{after}
 
 abbrev Pairs : Type 0
 Pairs = List (ℕ × Entry)
@@ -126,9 +128,9 @@ module _ (es : Pairs) (n : ℕ) (e : Entry) (absent : lookup (nat_eq n) es ≡ N
   object_same : (p : Place) (o : Object) → IsKnown es o → object_leaves (meaning_in grown) p o ≡ object_leaves (meaning_in es) p o
   object_same p (Flash m at t dark) h = ap (λ (x : Meaning). x.flash (flashed p at t dark)) (means_same m h)
   object_same p (Draw m from to t dark) h =
-      ap (λ (x : Meaning). draw_leaves x.width (placed p from) (placed p to) (polarity_in p.dark dark)) (means_same m h)
+      ap (λ (x : Meaning). draw_leaves x.tip (after t p.turn) (placed p from) (placed p to) (polarity_in p.dark dark)) (means_same m h)
   object_same p (Arc m from to centre ccw dark) h =
-      ap (λ (x : Meaning). arc_leaves x.width (placed p from) (placed p to) (placed p centre) (placed_direction p.turn ccw)
+      ap (λ (x : Meaning). arc_leaves (round_width x.tip) (placed p from) (placed p to) (placed p centre) (placed_direction p.turn ccw)
       (polarity_in p.dark dark)) (means_same m h)
   object_same p (Region c dark) h = refl
 
@@ -140,8 +142,8 @@ module _ (es : Pairs) (n : ℕ) (e : Entry) (absent : lookup (nat_eq n) es ≡ N
 
   drawable_same : (o : Object) → IsKnown es o → IsDrawable (meaning_in es) o → IsDrawable (meaning_in grown) o
   drawable_same (Flash m at t dark) h k = tt
-  drawable_same (Draw m from to t dark) h k = subst (λ (x : Meaning). IsSome x.width) (sym (means_same m h)) k
-  drawable_same (Arc m from to centre ccw dark) h k = subst (λ (x : Meaning). IsSome x.width) (sym (means_same m h)) k
+  drawable_same (Draw m from to t dark) h k = subst (λ (x : Meaning). IsSome x.tip) (sym (means_same m h)) k
+  drawable_same (Arc m from to centre ccw dark) h k = subst (λ (x : Meaning). IsSome (round_width x.tip)) (sym (means_same m h)) k
   drawable_same (Region c dark) h k = tt
 
   known_same : (o : Object) → IsKnown es o → IsKnown grown o

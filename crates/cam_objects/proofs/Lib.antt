@@ -11,6 +11,7 @@ pub mod DemandLaws
 pub mod Dictionaries
 pub mod DrillBoxes
 pub mod DrillInking
+pub mod EditedAttributes
 pub mod EditedLayers
 pub mod Extents
 pub mod GrownDictionaries
@@ -41,4 +42,5 @@ pub mod StandingPoints
 pub mod Telling
 pub mod TestLaws
 pub mod Tracing
+pub mod TurnedTips
 pub mod TurningLemmas

@@ -193,7 +193,7 @@ module _ (by : Point) where
   rout_moved : (d : Nm) (ps : List Point)
       → HaveMovedBoxes by (rout_leaves d (map (shifted_point by) ps)) (rout_leaves d ps)
   rout_moved d [] = refl
-  rout_moved d (p ∷ []) = λ i. about_moved by p d.0 i ∷ []
+  rout_moved d (p ∷ []) = λ i. about_moved by p d.0 d.0 i ∷ []
   rout_moved d (p ∷ q ∷ ps) = slots_moved d p (q ∷ ps)
 
   drill_moved : (d : Option Nm) (item : DrillItem)

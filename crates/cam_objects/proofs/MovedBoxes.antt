@@ -63,6 +63,7 @@ use Rattle.cam_objects.specs.Leaves.{
   placed,
   polarity_in,
   shifted,
+  round_width,
 }
 use Rattle.cam_objects.specs.Machinery.Boxes.{IsNearBox}
 use Rattle.cam_objects.specs.Machinery.Facts.{points_bounds_of}
@@ -85,6 +86,7 @@ use Rattle.cam_objects.proofs.PaintedBoxes.{board_repeat, ordered_moved}
 use Rattle.cam_objects.proofs.PlacedBoxes.{block_box_placed, object_box_placed}
 use Rattle.cam_objects.proofs.PlacedJoins.{join_moved}
 use Rattle.cam_objects.proofs.PlacedShapes.{point_moved, points_so}
+use Rattle.cam_objects.specs.Turning.{after}
 
 abbrev standing : Object → Bounds
 standing o = box_of_all box_of_point (points_of o)
@@ -181,9 +183,10 @@ module _ (by : Point) where
     pub object_there : (o : Object) → object_leaves means origin (shifted_object by o) ≡ object_leaves means (shifted by.x by.y) o
     object_there (Flash n at t dark) =
         λ i. (means n).flash (record { turn = (flashed origin at t dark).turn; offset = point_there at i; dark = polarity_in true dark })
-    object_there (Draw n from to t dark) = λ i. draw_leaves (means n).width (point_there from i) (point_there to i) (polarity_in true dark)
+    object_there (Draw n from to t dark) =
+        λ i. draw_leaves (means n).tip (after t R0) (point_there from i) (point_there to i) (polarity_in true dark)
     object_there (Arc n from to centre ccw dark) =
-        λ i. arc_leaves (means n).width (point_there from i) (point_there to i) (point_there centre i) (placed_direction R0 ccw)
+        λ i. arc_leaves (round_width (means n).tip) (point_there from i) (point_there to i) (point_there centre i) (placed_direction R0 ccw)
         (polarity_in true dark)
     object_there (Region c dark) =
         λ i. leaf (Filled (record { start = point_there c.start i; segs = segs_there c.segs i })) (polarity_in true dark) ∷ []

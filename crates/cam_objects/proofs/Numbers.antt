@@ -1,48 +1,15 @@
 -- what the place of a number in the dictionary says of it
-use Rattle.std.proofs.Common.{
-  ◌≡◌,
-  ℕ,
-  zero,
-  suc,
-  Bool,
-  true,
-  false,
-  cond,
-  List,
-  [],
-  ◌∷◌,
-  length,
-  take,
-  slice_get,
-  None,
-  Some,
-  IsTrue,
-  ◌↔◌,
-  refl,
-  sym,
-  ap,
-  subst,
-  ◌∙◌,
-  arith,
-  nat_eq,
-  pos,
-}
+use Rattle.std.proofs.Common.{◌≡◌, ℕ, zero, suc, Bool, true, false, cond, List, [], ◌∷◌, length, take, slice_get, None, Some, refl, sym, ap, subst, ◌∙◌, arith, nat_eq, Option, IsSome}
 use Rattle.std.specs.List.{IsDistinct}
 use Rattle.std.specs.Map.{keys_of, lookup}
-use Rattle.std.specs.Option.{IsSome}
-use Rattle.std.specs.Ordering.{int_eq}
-use Rattle.std.proofs.lemmas.Bool.{eq-eqb, false≢true}
+use Rattle.std.proofs.lemmas.Bool.{eq-eqb}
 use Rattle.std.proofs.lemmas.Option.{slice_get_within}
-use Rattle.cam_apertures.specs.declared.aperture.Aperture.{Aperture as Template}
-use Rattle.cam_apertures.specs.declared.aperture.Aperture.TheVariants.{Circle, Rect, Obround, Prims}
-use Rattle.cam_apertures.specs.Soundness.{IsSolidCircle}
 use Rattle.cam_objects.specs.declared.entry.Entry.{Entry}
-use Rattle.cam_objects.specs.declared.entry.Entry.TheVariants.{Aperture, Block}
-use Rattle.cam_objects.specs.Leaves.{Meaning, entry_meaning, meaning_in, no_meaning, solid_diameter}
-use Rattle.cam_objects.specs.Machinery.Facts.{IsSolid}
+use Rattle.cam_objects.specs.Leaves.{Meaning, entry_meaning, meaning_in, no_meaning}
 use Rattle.cam_objects.specs.Soundness.{HasNumber}
 use Rattle.cam_objects.proofs.Dictionaries.{whole}
 use Rattle.cam_objects.proofs.Painting.{meaning-absent, meaning-at}
+use Rattle.cam_objects.specs.declared.tip.Tip.{Tip}
 
 abbrev Pairs : Type 0
 Pairs = List (ℕ × Entry)
@@ -68,31 +35,11 @@ meaning_here es i n e distinct found =
 pub meaning_nowhere : (es : Pairs) (n : ℕ) → lookup (nat_eq n) es ≡ None → meaning_in es n ≡ no_meaning
 meaning_nowhere es n absent = ap (λ (xs : Pairs). meaning_in xs n) (sym (whole es)) ∙ meaning-absent es (length es) n absent (omega arith)
 
--- a solid circle has a width
-solid_width : (a : Template) → IsSolidCircle a ↔ IsSome (solid_diameter a)
-solid_width (Circle d h) = by (int_eq h.0 (pos 0)) refl
-  where
-    by : (b : Bool) → int_eq h.0 (pos 0) ≡ b → (h.0 ≡ pos 0) ↔ IsSome (cond b (Some d) None)
-    by true e = ((λ _. refl), (λ _. search (arith, e)))
-    by false e = ((λ k. absurd (search (arith, e, k))), (λ k. absurd (false≢true k)))
-solid_width (Rect w h hole) = ((λ k. absurd k), (λ k. absurd (false≢true k)))
-solid_width (Obround w h hole) = ((λ k. absurd k), (λ k. absurd (false≢true k)))
-solid_width (Prims prims) = ((λ k. absurd k), (λ k. absurd (false≢true k)))
+-- what the strokes of a number are drawn with
+pub tip_told : (es : Pairs) (i n : ℕ) (e : Entry) (tip : Option Tip) → IsDistinct nat_eq (keys_of es) → slice_get es i ≡ Some (n, e)
+    → ((means : ℕ → Meaning) → tip ≡ (entry_meaning means e).tip) → tip ≡ (meaning_in es n).tip
+tip_told es i n e tip distinct found told =
+    told (meaning_in (take i es)) ∙ ap (λ (m : Meaning). m.tip) (sym (meaning_here es i n e distinct found))
 
-entry_width : (means : ℕ → Meaning) (e : Entry) → IsSolid e ↔ IsSome (entry_meaning means e).width
-entry_width means (Aperture a) = solid_width a
-entry_width means (Block objects) = ((λ k. absurd k), (λ k. absurd (false≢true k)))
-
-pub width_told : (es : Pairs) (i n : ℕ) (e : Entry) (b : Bool) → IsDistinct nat_eq (keys_of es) → slice_get es i ≡ Some (n, e)
-    → IsTrue b ↔ IsSolid e → IsTrue b ↔ IsSome (meaning_in es n).width
-width_told es i n e b distinct found told =
-    let same = ap (λ (m : Meaning). m.width) (meaning_here es i n e distinct found) in
-    let told' = entry_width (meaning_in (take i es)) e in (
-      (λ k. subst IsSome (sym same) (told'.0 (told.0 k))),
-      (λ k. told.1 (told'.1 (subst IsSome same k))),
-    )
-
-pub width_none : (es : Pairs) (n : ℕ) → lookup (nat_eq n) es ≡ None → IsTrue false ↔ IsSome (meaning_in es n).width
-width_none es n absent =
-    let same = ap (λ (m : Meaning). m.width) (meaning_nowhere es n absent) in
-    ((λ k. absurd (false≢true k)), (λ k. absurd (false≢true (subst IsSome same k))))
+pub tip_none : (es : Pairs) (n : ℕ) → lookup (nat_eq n) es ≡ None → None ≡ (meaning_in es n).tip
+tip_none es n absent = ap (λ (m : Meaning). m.tip) (sym (meaning_nowhere es n absent))

@@ -43,6 +43,7 @@ use Rattle.cam_units.specs.declared.bounds.Bounds.TheVariants.{Empty, Closed}
 use Rattle.cam_units.specs.declared.length.Nm.{Nm}
 use Rattle.cam_units.specs.declared.point.Point.{Point}
 use Rattle.cam_units.specs.declared.turn.Turn.{Turn}
+use Rattle.cam_units.specs.declared.turn.Turn.TheVariants.{R0}
 use Rattle.cam_shapes.specs.Placing.{placed_direction}
 use Rattle.cam_apertures.specs.Primitives.{box_of_point}
 use Rattle.cam_objects.specs.declared.entry.Entry.{Entry}
@@ -51,6 +52,8 @@ use Rattle.cam_objects.specs.declared.item.Item.TheVariants.{One, Repeat}
 use Rattle.cam_objects.specs.declared.object.Object.{Object}
 use Rattle.cam_objects.specs.declared.object.Object.TheVariants.{Flash, Draw, Arc, Region}
 use Rattle.cam_objects.specs.declared.placing.place.Place.{Place}
+use Rattle.cam_objects.specs.declared.tip.Tip.{Tip}
+use Rattle.cam_objects.specs.declared.tip.Tip.TheVariants.{Round, Rectangular}
 use Rattle.cam_objects.specs.Bounds.{box_of_all, moved}
 use Rattle.cam_objects.specs.Leaves.{
   Filled,
@@ -59,6 +62,7 @@ use Rattle.cam_objects.specs.Leaves.{
   arc_leaves,
   block_leaves,
   draw_leaves,
+  drawn,
   flashed,
   meaning_in,
   object_leaves,
@@ -66,17 +70,20 @@ use Rattle.cam_objects.specs.Leaves.{
   placed,
   polarity_in,
   repeat_leaves,
+  round_width,
+  turned_tip,
 }
 use Rattle.cam_objects.specs.Machinery.Boxes.{IsUncrossed, placed_bounds}
 use Rattle.cam_objects.specs.Machinery.Facts.{facts_at, points_bounds_of, points_box}
 use Rattle.cam_objects.specs.Machinery.Inside.{IsBoxOnBoard, last_copy}
 use Rattle.cam_objects.specs.Machinery.Painting.{StandsOnBoard}
 use Rattle.cam_objects.specs.Soundness.{AreOnBoard, IsDrawable, IsInside, points_of}
+use Rattle.cam_objects.specs.Turning.{after}
 use Rattle.cam_objects.proofs.BoardBoxes.{IsOrdered, board_join, board_leaves, ordered_leaf, ordered_leaves, ordered_some}
 use Rattle.cam_objects.proofs.CopyBoxes.{all_flat, repeat_box}
-use Rattle.cam_objects.proofs.PlacedBoxes.{flash_placed}
+use Rattle.cam_objects.proofs.PlacedBoxes.{drawn_placed, flash_placed}
 use Rattle.cam_objects.proofs.PlacedJoins.{placed_nowhere}
-use Rattle.cam_objects.proofs.PlacedShapes.{box_of_points, points_so, stroke, sweep}
+use Rattle.cam_objects.proofs.PlacedShapes.{box_of_points, points_so, sweep}
 
 -- ---- one object
 
@@ -89,10 +96,18 @@ painted_flash es n at t dark p f b place facts box =
     ∙ ap (λ q. placed_bounds q (points_bounds_of ((meaning_in es n).flash origin))) place
     ∙ sym (flash_placed box_of_points points_so (reverse es) n (flashed origin at t dark))
 
-drawn : (w : Option Nm) (from to : Point) (dark : Bool) → IsSome w
-    → points_bounds_of (draw_leaves w (placed origin from) (placed origin to) dark) ≡ box_of_all box_of_point (from ∷ to ∷ [])
-drawn None from to dark h = absurd (false≢true h)
-drawn (Some w) from to dark h = points_so.stroke origin from to w ∙ placed_nowhere (box_of_points (stroke from to w))
+drawn_points : (tip : Tip) (from to : Point) → box_of_points (drawn tip from to) ≡ box_of_all box_of_point (from ∷ to ∷ [])
+drawn_points (Round w) from to = refl
+drawn_points (Rectangular w h) from to = refl
+
+standing : (tip : Option Tip) (t : Turn) (from to : Point) (dark : Bool) → IsSome tip
+    → points_bounds_of (draw_leaves tip (after t R0) (placed origin from) (placed origin to) dark)
+    ≡ box_of_all box_of_point (from ∷ to ∷ [])
+standing None t from to dark h = absurd (false≢true h)
+standing (Some tip) t from to dark h =
+    drawn_placed box_of_points points_so origin tip t from to
+    ∙ placed_nowhere (box_of_points (drawn (turned_tip t tip) from to))
+    ∙ drawn_points (turned_tip t tip) from to
 
 swept : (w : Option Nm) (from to centre : Point) (ccw dark : Bool) → IsSome w
     → points_bounds_of (arc_leaves w (placed origin from) (placed origin to) (placed origin centre) (placed_direction origin.turn ccw) dark)
@@ -106,8 +121,8 @@ pub painted_standing : (means : ℕ → Meaning) (o : Object) → ((n : ℕ) (at
     → IsDrawable means o
     → points_bounds_of (object_leaves means origin o) ≡ box_of_all box_of_point (points_of o)
 painted_standing means (Flash n at t dark) other h = absurd (other n at t dark refl)
-painted_standing means (Draw n from to t dark) other h = drawn (means n).width from to (polarity_in true dark) h
-painted_standing means (Arc n from to centre ccw dark) other h = swept (means n).width from to centre ccw (polarity_in true dark) h
+painted_standing means (Draw n from to t dark) other h = standing (means n).tip t from to (polarity_in true dark) h
+painted_standing means (Arc n from to centre ccw dark) other h = swept (round_width (means n).tip) from to centre ccw (polarity_in true dark) h
 painted_standing means (Region contour dark) other h = points_so.filled origin contour ∙ placed_nowhere (box_of_points (Filled contour))
 
 pub inside_one : (es : List (ℕ × Entry)) (o : Object) (box : Bounds) (b : Bool) → StandsOnBoard o

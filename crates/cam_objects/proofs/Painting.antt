@@ -50,7 +50,7 @@ use Rattle.cam_units.specs.declared.turn.Turn.{Turn}
 use Rattle.cam_shapes.specs.Placing.{IsPlaceable, IsPlaceablePoint, placed_contour, placed_direction}
 use Rattle.cam_shapes.specs.Shifting.{IsShiftable}
 use Rattle.cam_shapes.specs.declared.contour.Contour.{Contour}
-use Rattle.cam_apertures.specs.Soundness.{IsSoundAperture}
+use Rattle.cam_apertures.specs.Soundness.{IsSoundAperture, IsSide}
 use Rattle.cam_apertures.specs.declared.aperture.Aperture.{Aperture as Template}
 use Rattle.cam_apertures.specs.declared.aperture.Aperture.TheVariants.{Circle, Rect, Obround, Prims}
 use Rattle.cam_objects.specs.declared.object.Object.{Object}
@@ -65,7 +65,6 @@ use Rattle.cam_objects.specs.Leaves.{
   Leaf,
   Meaning,
   Stamp,
-  Stroke,
   Sweep,
   arc_leaves,
   block_leaves,
@@ -78,7 +77,10 @@ use Rattle.cam_objects.specs.Leaves.{
   placed,
   polarity_in,
   shifted,
-  solid_diameter,
+  drawn,
+  round_width,
+  solid_tip,
+  turned_tip,
 }
 use Rattle.cam_objects.specs.Machinery.Painting.{IsPaintable, IsReady, StandsOnBoard, flash_leaves, meaning_before}
 use Rattle.cam_objects.specs.Soundness.{AreOnBoard, IsInside, IsSoundBlock, IsSoundDictionary, IsSoundItem, MayAddEntry, points_of_shape}
@@ -86,6 +88,11 @@ use Rattle.cam_objects.specs.Image.{Inks, IsPainted, IsUncovered}
 use Rattle.cam_objects.proofs.Dictionaries.{meant-at, meant-later, meant-absent, whole}
 use Rattle.cam_objects.proofs.Inking.{decided, undecided}
 use Rattle.cam_objects.proofs.Placed.{placeable, reach_less, reach_shifted}
+use Rattle.cam_objects.specs.declared.tip.Tip.{Tip}
+use Rattle.cam_objects.specs.declared.tip.Tip.TheVariants.{Round, Rectangular}
+use Rattle.cam_objects.specs.Machinery.Boxes.{IsSizedTip}
+use Rattle.cam_objects.specs.Turning.{after}
+use Rattle.std.proofs.lemmas.Int.{ints}
 
 abbrev IsLeafOnBoard : Leaf → Type 0
 IsLeafOnBoard l = All IsOnBoard (points_of_shape l.shape)
@@ -125,13 +132,21 @@ block_stands es i n objects at sound =
     let block : IsSoundBlock (take i es) objects = (entry_may es i n (Block objects) at sound).sound in
     All-weaker (λ o. IsSoundItem (take i es) (One o)) StandsOnBoard (λ o h. item_stands (take i es) o (h OutOfBoard)) objects block.each
 
-pub solid_size : (a : Template) → IsSoundAperture a → IfSome (solid_diameter a) (λ w. IsSize w.0)
+-- a side is a size
+pub side_size : (n : ℤ) → IsSide n → IsSize n
+side_size n h = (omega (arith, ints, h.0), h.1)
+
+pub solid_size : (a : Template) → IsSoundAperture a → IfSome (solid_tip a) IsSizedTip
 solid_size (Circle diameter hole) h = by (int_eq hole.0 (pos 0))
   where
-    by : (b : Bool) → IfSome (cond b (Some diameter) None) (λ (w : Nm). IsSize w.0)
+    by : (b : Bool) → IfSome (cond b (Some (Round diameter)) None) IsSizedTip
     by true = h.0
     by false = tt
-solid_size (Rect width height hole) h = tt
+solid_size (Rect width height hole) h = by (int_eq hole.0 (pos 0))
+  where
+    by : (b : Bool) → IfSome (cond b (Some (Rectangular width height)) None) IsSizedTip
+    by true = (side_size width.0 h.0, side_size height.0 h.1)
+    by false = tt
 solid_size (Obround width height hole) h = tt
 solid_size (Prims prims) h = tt
 
@@ -194,18 +209,23 @@ stands_at objects i x h e all = subst StandsOnBoard (sym e) (all i x h)
 
 -- ---- what comes to lie on the board
 
-pub drawn_points : (means : ℕ → Meaning) (p : Place) (n : ℕ) (from to : Point) (t : Turn) (dark : Bool) (w : Nm) → Some w ≡ (means n).width
+drawn_ends : (tip : Tip) (from to : Point) → All IsOnBoard (points_of_shape (drawn tip from to)) → IsOnBoard from × IsOnBoard to
+drawn_ends (Round w) from to h = (h 0 from (omega arith), h 1 from (omega arith))
+drawn_ends (Rectangular w h) from to k = (k 0 from (omega arith), k 1 from (omega arith))
+
+pub drawn_points : (means : ℕ → Meaning) (p : Place) (n : ℕ) (from to : Point) (t : Turn) (dark : Bool) (tip : Tip) → Some tip ≡ (means n).tip
     → StandsOnBoard (Draw n from to t dark) → AreOnBoard (object_leaves means p (Draw n from to t dark))
     → IsPlaceablePoint p.turn p.offset from × IsPlaceablePoint p.turn p.offset to
-drawn_points means p n from to t dark w e stands board =
-    let l = leaf (Stroke (record { from = placed p from; to = placed p to; width = w })) (polarity_in p.dark dark) in
-    let all : AreOnBoard (l ∷ []) = subst (λ (o : Option Nm). AreOnBoard
-    (draw_leaves o (placed p from) (placed p to) (polarity_in p.dark dark))) (sym e) board in (
-      record { here = stands 0 from (omega arith); there = all 0 l (omega arith) 0 from (omega arith) },
-      record { here = stands 1 from (omega arith); there = all 0 l (omega arith) 1 from (omega arith) },
+drawn_points means p n from to t dark tip e stands board =
+    let l = leaf (drawn (turned_tip (after t p.turn) tip) (placed p from) (placed p to)) (polarity_in p.dark dark) in
+    let all : AreOnBoard (l ∷ []) = subst (λ (o : Option Tip). AreOnBoard
+    (draw_leaves o (after t p.turn) (placed p from) (placed p to) (polarity_in p.dark dark))) (sym e) board in
+    let ends = drawn_ends (turned_tip (after t p.turn) tip) (placed p from) (placed p to) (all 0 l (omega arith)) in (
+      record { here = stands 0 from (omega arith); there = ends.0 },
+      record { here = stands 1 from (omega arith); there = ends.1 },
     )
 
-pub swept_points : (means : ℕ → Meaning) (p : Place) (n : ℕ) (from to centre : Point) (ccw dark : Bool) (w : Nm) → Some w ≡ (means n).width
+pub swept_points : (means : ℕ → Meaning) (p : Place) (n : ℕ) (from to centre : Point) (ccw dark : Bool) (w : Nm) → Some w ≡ round_width (means n).tip
     → StandsOnBoard (Arc n from to centre ccw dark) → AreOnBoard (object_leaves means p (Arc n from to centre ccw dark))
     → IsPlaceablePoint p.turn p.offset from × IsPlaceablePoint p.turn p.offset to × IsPlaceablePoint p.turn p.offset centre
 swept_points means p n from to centre ccw dark w e stands board =

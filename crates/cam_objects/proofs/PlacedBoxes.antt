@@ -16,6 +16,7 @@ use Rattle.cam_objects.specs.declared.object.Object.TheVariants.{Flash, Draw, Ar
 use Rattle.cam_objects.specs.declared.entry.Entry.{Entry}
 use Rattle.cam_objects.specs.declared.entry.Entry.TheVariants.{Aperture, Block}
 use Rattle.cam_objects.specs.declared.placing.place.Place.{Place}
+use Rattle.cam_objects.specs.declared.tip.Tip.{Tip}
 use Rattle.cam_objects.specs.Bounds.{box_of_all}
 use Rattle.cam_objects.specs.Leaves.{
   Leaf,
@@ -24,6 +25,7 @@ use Rattle.cam_objects.specs.Leaves.{
   arc_leaves,
   block_leaves,
   draw_leaves,
+  drawn,
   entry_meaning,
   flashed,
   meaning,
@@ -31,10 +33,14 @@ use Rattle.cam_objects.specs.Leaves.{
   origin,
   placed,
   polarity_in,
+  round_width,
+  turned_tip,
 }
 use Rattle.cam_objects.specs.Machinery.Boxes.{placed_bounds}
+use Rattle.cam_objects.specs.Turning.{after}
 use Rattle.cam_objects.proofs.PlacedJoins.{joins_placed, placed_flashed, placed_nowhere}
-use Rattle.cam_objects.proofs.PlacedShapes.{IsPlacedSo, stroke, sweep}
+use Rattle.cam_objects.proofs.PlacedShapes.{IsPlacedSo, sweep}
+use Rattle.cam_objects.proofs.TurnedTips.{turned_after}
 
 module _ (m : Shape → Bounds) where
   -- the boxes of leaves, one for each
@@ -64,13 +70,21 @@ module _ (m : Shape → Bounds) where
         → at_place ∷ [] ≡ placed_bounds p at_origin ∷ []
     from_origin p at_place at_origin b e f = ap (λ x. x ∷ []) (e ∙ ap (placed_bounds p) (sym (f ∙ placed_nowhere b)))
 
-    draws_placed : (w : Option Nm) (from to : Point) (dark : Bool)
-        → IsPlacedWith (λ p. draw_leaves w (placed p from) (placed p to) (polarity_in p.dark dark))
-    draws_placed None from to dark p = refl
-    draws_placed (Some w) from to dark p =
-        from_origin p (m (stroke (placed p from) (placed p to) w)) (m (stroke (placed origin from) (placed origin to) w))
-        (m (stroke from to w))
-        (law.stroke p from to w) (law.stroke origin from to w)
+    -- a draw's tip is turned with the draw, and then with its place
+    pub drawn_placed : (p : Place) (tip : Tip) (t : Turn) (from to : Point)
+        → m (drawn (turned_tip (after t p.turn) tip) (placed p from) (placed p to))
+        ≡ placed_bounds p (m (drawn (turned_tip t tip) from to))
+    drawn_placed p tip t from to =
+        ap (λ x. m (drawn x (placed p from) (placed p to))) (turned_after t p.turn tip) ∙ law.drawn p (turned_tip t tip) from to
+
+    draws_placed : (tip : Option Tip) (t : Turn) (from to : Point) (dark : Bool)
+        → IsPlacedWith (λ p. draw_leaves tip (after t p.turn) (placed p from) (placed p to) (polarity_in p.dark dark))
+    draws_placed None t from to dark p = refl
+    draws_placed (Some tip) t from to dark p =
+        from_origin p (m (drawn (turned_tip (after t p.turn) tip) (placed p from) (placed p to)))
+        (m (drawn (turned_tip (after t origin.turn) tip) (placed origin from) (placed origin to)))
+        (m (drawn (turned_tip t tip) from to))
+        (drawn_placed p tip t from to) (drawn_placed origin tip t from to)
 
     arcs_placed : (w : Option Nm) (from to centre : Point) (ccw dark : Bool)
         → IsPlacedWith (λ p. arc_leaves w (placed p from) (placed p to) (placed p centre) (placed_direction p.turn ccw)
@@ -94,8 +108,8 @@ module _ (m : Shape → Bounds) where
     module _ (means : ℕ → Meaning) (so : (n : ℕ) → IsPlacedWith (means n).flash) where
       pub object_placed : (o : Object) → IsPlacedWith (λ p. object_leaves means p o)
       object_placed (Flash n at t dark) = flash_of_placed (means n).flash at t dark (so n)
-      object_placed (Draw n from to t dark) = draws_placed (means n).width from to dark
-      object_placed (Arc n from to centre ccw dark) = arcs_placed (means n).width from to centre ccw dark
+      object_placed (Draw n from to t dark) = draws_placed (means n).tip t from to dark
+      object_placed (Arc n from to centre ccw dark) = arcs_placed (round_width (means n).tip) from to centre ccw dark
       object_placed (Region c dark) = λ p. from_origin p _ _ _ (law.filled p c) (law.filled origin c)
 
       pub block_placed : (objects : List Object) → IsPlacedWith (λ p. block_leaves means p objects)

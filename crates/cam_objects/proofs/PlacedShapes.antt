@@ -23,12 +23,14 @@ use Rattle.cam_apertures.specs.declared.aperture.Aperture.TheVariants.{Circle, R
 use Rattle.cam_apertures.specs.Bounds.{bounds_of as template_bounds}
 use Rattle.cam_apertures.specs.Cover.{origin as flash_point}
 use Rattle.cam_apertures.specs.Primitives.{box_about, box_of_point, box_of_prims}
-use Rattle.cam_apertures.specs.Turned.{turned_box}
+use Rattle.cam_apertures.specs.Turned.{turned_box, turned_height, turned_width}
 use Rattle.cam_apertures.proofs.Corners.{same_box}
 use Rattle.cam_apertures.proofs.TurnedBoxes.{about_turned, point_turned, prims_turned, square_turned}
 use Rattle.cam_objects.specs.declared.placing.place.Place.{Place}
+use Rattle.cam_objects.specs.declared.tip.Tip.{Tip}
+use Rattle.cam_objects.specs.declared.tip.Tip.TheVariants.{Round, Rectangular}
 use Rattle.cam_objects.specs.Bounds.{box_of_all, box_of_cap, box_of_contour, box_of_shape, circle_square, moved, root, widened}
-use Rattle.cam_objects.specs.Leaves.{Shape, Stamp, Stroke, Sweep, Filled, placed}
+use Rattle.cam_objects.specs.Leaves.{Shape, Stamp, Stroke, Sweep, Filled, drawn as drawn_shape, placed, turned_tip}
 use Rattle.cam_objects.specs.Machinery.Boxes.{placed_bounds}
 use Rattle.cam_objects.specs.Soundness.{points_of_contour, points_of_seg, points_of_shape}
 use Rattle.cam_objects.proofs.PlacedJoins.{joins_placed, moved_nowhere, placed_join}
@@ -45,7 +47,8 @@ sweep from to centre ccw w = Sweep (record { from = from; to = to; centre = cent
 -- a measure of shapes that is placed with them
 pub record IsPlacedSo (m : Shape → Bounds) : Type 0 where
   pub stamp : (p : Place) (a : Template) → m (Stamp a p.turn p.offset) ≡ placed_bounds p (m (Stamp a R0 nowhere))
-  pub stroke : (p : Place) (from to : Point) (w : Nm) → m (stroke (placed p from) (placed p to) w) ≡ placed_bounds p (m (stroke from to w))
+  pub drawn : (p : Place) (tip : Tip) (from to : Point)
+      → m (drawn_shape (turned_tip p.turn tip) (placed p from) (placed p to)) ≡ placed_bounds p (m (drawn_shape tip from to))
   pub sweep : (p : Place) (from to centre : Point) (ccw : Bool) (w : Nm)
       → m (sweep (placed p from) (placed p to) (placed p centre) (placed_direction p.turn ccw) w)
       ≡ placed_bounds p (m (sweep from to centre ccw w))
@@ -77,7 +80,7 @@ box_of_points s = box_of_all box_of_point (points_of_shape s)
 pub points_so : IsPlacedSo box_of_points
 points_so = record {
   stamp = λ p a. by p;
-  stroke = λ p from to w. points_placed p (from ∷ to ∷ []);
+  drawn = drawn_by;
   sweep = λ p from to centre ccw w. points_placed p (from ∷ to ∷ centre ∷ []);
   filled = λ p c.
       ap (λ ps. box_of_all box_of_point (placed p c.start ∷ ps)) (contour_points p c.segs)
@@ -97,6 +100,12 @@ points_so = record {
     at_offset M180 o = λ i. record { x = sum_none o.x i; y = sum_none o.y i }
     at_offset M270 o = λ i. record { x = sum_none o.x i; y = sum_none o.y i }
 
+    drawn_by : (p : Place) (tip : Tip) (from to : Point)
+        → box_of_points (drawn_shape (turned_tip p.turn tip) (placed p from) (placed p to))
+        ≡ placed_bounds p (box_of_points (drawn_shape tip from to))
+    drawn_by p (Round w) from to = points_placed p (from ∷ to ∷ [])
+    drawn_by p (Rectangular w h) from to = points_placed p (from ∷ to ∷ [])
+
     by : (p : Place) → box_of_all box_of_point (p.offset ∷ []) ≡ placed_bounds p (box_of_all box_of_point (nowhere ∷ []))
     by p = ap (λ q. box_of_all box_of_point (q ∷ [])) (at_offset p.turn p.offset) ∙ points_placed p (nowhere ∷ [])
 
@@ -108,13 +117,21 @@ less_moved a b h = omega (arith, ints)
 more_moved : (a b h : ℤ) → pos 2 *ℤ (a +ℤ b) +ℤ h ≡ pos 2 *ℤ a +ℤ h +ℤ pos 2 *ℤ b
 more_moved a b h = omega (arith, ints)
 
-pub about_moved : (o c : Point) (h : ℤ) → box_about (place_of (record { x = c.x +ℤ o.x; y = c.y +ℤ o.y })) h h
-    ≡ moved o (box_about (place_of c) h h)
-about_moved o c h = same_box _ _ _ _ _ _ _ _ (less_moved c.x o.x h) (less_moved c.y o.y h) (more_moved c.x o.x h) (more_moved c.y o.y h)
+pub about_moved : (o c : Point) (w h : ℤ) → box_about (place_of (record { x = c.x +ℤ o.x; y = c.y +ℤ o.y })) w h
+    ≡ moved o (box_about (place_of c) w h)
+about_moved o c w h = same_box _ _ _ _ _ _ _ _ (less_moved c.x o.x w) (less_moved c.y o.y h) (more_moved c.x o.x w) (more_moved c.y o.y h)
 
 about_placed : (p : Place) (c : Point) (h : ℤ) → box_about (place_of (placed p c)) h h ≡ placed_bounds p (box_about (place_of c) h h)
 about_placed p c h =
-    about_moved p.offset (applied (matrix_of p.turn) c) h ∙ ap (moved p.offset) (square_turned p.turn c (record { 0 = h }))
+    about_moved p.offset (applied (matrix_of p.turn) c) h h ∙ ap (moved p.offset) (square_turned p.turn c (record { 0 = h }))
+
+-- of a rectangle, whose sides are turned
+rectangle_placed : (p : Place) (c : Point) (w h : Nm)
+    → box_about (place_of (placed p c)) (turned_width p.turn w h).0 (turned_height p.turn w h).0
+    ≡ placed_bounds p (box_about (place_of c) w.0 h.0)
+rectangle_placed p c w h =
+    about_moved p.offset (applied (matrix_of p.turn) c) (turned_width p.turn w h).0 (turned_height p.turn w h).0
+    ∙ ap (moved p.offset) (about_turned p.turn c w h)
 
 pub widened_moved : (w : ℤ) (o : Point) (b : Bounds) → widened w (moved o b) ≡ moved o (widened w b)
 widened_moved w o Empty = refl
@@ -253,11 +270,20 @@ stroke_points : (p : Place) (from to : Point) → join_of (box_of_point (placed 
 stroke_points p from to =
     (λ i. join_of (point_placed p from i) (point_placed p to i)) ∙ sym (placed_join p (box_of_point from) (box_of_point to))
 
+drawn_so : (p : Place) (tip : Tip) (from to : Point)
+    → box_of_shape (drawn_shape (turned_tip p.turn tip) (placed p from) (placed p to))
+    ≡ placed_bounds p (box_of_shape (drawn_shape tip from to))
+drawn_so p (Round w) from to =
+    ap (widened w.0) (stroke_points p from to) ∙ widened_placed w.0 p (join_of (box_of_point from) (box_of_point to))
+drawn_so p (Rectangular w h) from to =
+    (λ i. join_of (rectangle_placed p from w h i) (rectangle_placed p to w h i))
+    ∙ sym (placed_join p (box_about (place_of from) w.0 h.0) (box_about (place_of to) w.0 h.0))
+
 pub shapes_so : IsPlacedSo box_of_shape
 shapes_so = record {
   stamp = λ p a.
       ap (moved p.offset) (template_turned p.turn a ∙ ap (turned_box p.turn) (sym (moved_nowhere (template_bounds R0 a))));
-  stroke = λ p from to w. ap (widened w.0) (stroke_points p from to) ∙ widened_placed w.0 p (join_of (box_of_point from) (box_of_point to));
+  drawn = drawn_so;
   sweep = λ p from to centre ccw w.
       ap (widened w.0)
       ((λ i. join_of (circle_placed p centre from i) (stroke_points p from to i))

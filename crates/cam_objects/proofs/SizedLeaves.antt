@@ -72,7 +72,7 @@ use Rattle.cam_apertures.specs.Primitives.{
   box_of_prims,
   box_of_shape as box_of_prim,
 }
-use Rattle.cam_apertures.specs.Soundness.{IsSide, IsSoundAperture}
+use Rattle.cam_apertures.specs.Soundness.{IsSoundAperture}
 use Rattle.cam_apertures.proofs.TurnedBoxes.{prims_turned}
 use Rattle.cam_objects.specs.declared.object.Object.{Object}
 use Rattle.cam_objects.specs.declared.object.Object.TheVariants.{Flash, Draw, Arc, Region}
@@ -101,8 +101,12 @@ use Rattle.cam_objects.specs.Leaves.{
   object_leaves,
   placed,
   polarity_in,
+  Swept,
+  drawn,
+  round_width,
+  turned_tip,
 }
-use Rattle.cam_objects.specs.Machinery.Boxes.{AreSized, IsNearBox, IsSizedShape}
+use Rattle.cam_objects.specs.Machinery.Boxes.{AreSized, IsNearBox, IsSizedShape, IsBoxReach, IsNearSpot, IsSizedTip}
 use Rattle.cam_objects.specs.Machinery.Painting.{meaning_before}
 use Rattle.cam_objects.specs.Soundness.{
   AreOnBoard,
@@ -129,9 +133,13 @@ use Rattle.cam_objects.proofs.BoxLimits.{
 }
 use Rattle.cam_objects.proofs.CopyBoxes.{all_flat_map}
 use Rattle.cam_objects.proofs.Dictionaries.{front_more, whole}
-use Rattle.cam_objects.proofs.Painting.{solid_size}
+use Rattle.cam_objects.proofs.Painting.{side_size, solid_size}
 use Rattle.cam_objects.proofs.PlacedShapes.{template_turned}
 use Rattle.cam_objects.proofs.Roots.{root_square}
+use Rattle.cam_objects.specs.declared.tip.Tip.{Tip}
+use Rattle.cam_objects.specs.declared.tip.Tip.TheVariants.{Round, Rectangular as RectangularTip}
+use Rattle.cam_objects.specs.Turning.{after}
+use Rattle.cam_apertures.specs.Turned.{exchanges_axes}
 
 -- ---- sizes
 
@@ -141,36 +149,58 @@ one_sized l h = All-cons (λ l. IsSizedShape l.shape) l [] h (All-nil (λ l. IsS
 -- a number paints leaves with sizes, and its strokes have one
 pub record IsSizedMeaning (m : Meaning) : Type 0 where
   pub flash : (p : Place) → AreSized (m.flash p)
-  pub width : IfSome m.width (λ w. IsSize w.0)
+  pub tip : IfSome m.tip IsSizedTip
 
-draw_sized : (w : Option Nm) (from to : Point) (dark : Bool) → IfSome w (λ w. IsSize w.0) → AreSized (draw_leaves w from to dark)
-draw_sized None from to dark h = All-nil (λ l. IsSizedShape l.shape)
-draw_sized (Some w) from to dark h = one_sized (leaf (Stroke (record { from = from; to = to; width = w })) dark) h
+-- a tip that is turned is as large
+pub turned_sized : (t : Turn) (tip : Tip) → IsSizedTip tip → IsSizedTip (turned_tip t tip)
+turned_sized t (Round w) h = h
+turned_sized t (RectangularTip w h) k = by (exchanges_axes t)
+  where
+    by : (b : Bool) → IsSize (cond b h w).0 × IsSize (cond b w h).0
+    by true = (k.1, k.0)
+    by false = (k.0, k.1)
 
-arc_sized : (w : Option Nm) (from to centre : Point) (ccw dark : Bool) → IfSome w (λ w. IsSize w.0)
-    → AreSized (arc_leaves w from to centre ccw dark)
+pub round_sized : (tip : Option Tip) → IfSome tip IsSizedTip → IfSome (round_width tip) (λ w. IsSize w.0)
+round_sized None h = tt
+round_sized (Some (Round w)) h = h
+round_sized (Some (RectangularTip w h)) k = tt
+
+drawn_sized : (tip : Tip) (from to : Point) → IsSizedTip tip → IsSizedShape (drawn tip from to)
+drawn_sized (Round w) from to h = h
+drawn_sized (RectangularTip w h) from to k = k
+
+draw_sized : (tip : Option Tip) (t : Turn) (from to : Point) (dark : Bool) → IfSome tip IsSizedTip
+    → AreSized (draw_leaves tip t from to dark)
+draw_sized None t from to dark h = All-nil (λ l. IsSizedShape l.shape)
+draw_sized (Some tip) t from to dark h =
+    one_sized (leaf (drawn (turned_tip t tip) from to) dark) (drawn_sized (turned_tip t tip) from to (turned_sized t tip h))
+
+arc_sized : (tip : Option Tip) (from to centre : Point) (ccw dark : Bool) → IfSome tip IsSizedTip
+    → AreSized (arc_leaves (round_width tip) from to centre ccw dark)
 arc_sized None from to centre ccw dark h = All-nil (λ l. IsSizedShape l.shape)
-arc_sized (Some w) from to centre ccw dark h =
+arc_sized (Some (Round w)) from to centre ccw dark h =
     one_sized (leaf (Sweep (record { from = from; to = to; centre = centre; ccw = ccw; width = w })) dark) h
+arc_sized (Some (RectangularTip w h)) from to centre ccw dark k = All-nil (λ l. IsSizedShape l.shape)
 
 module _ (means : ℕ → Meaning) (so : (n : ℕ) → IsSizedMeaning (means n)) where
   pub object_sized : (p : Place) (o : Object) → AreSized (object_leaves means p o)
   object_sized p (Flash n at t dark) = (so n).flash (flashed p at t dark)
-  object_sized p (Draw n from to t dark) = draw_sized (means n).width (placed p from) (placed p to) (polarity_in p.dark dark) (so n).width
+  object_sized p (Draw n from to t dark) =
+      draw_sized (means n).tip (after t p.turn) (placed p from) (placed p to) (polarity_in p.dark dark) (so n).tip
   object_sized p (Arc n from to centre ccw dark) =
-      arc_sized (means n).width (placed p from) (placed p to) (placed p centre) (placed_direction p.turn ccw) (polarity_in p.dark dark)
-      (so n).width
+      arc_sized (means n).tip (placed p from) (placed p to) (placed p centre) (placed_direction p.turn ccw) (polarity_in p.dark dark)
+      (so n).tip
   object_sized p (Region c dark) = one_sized _ tt
 
   pub block_sized : (p : Place) (objects : List Object) → AreSized (block_leaves means p objects)
   block_sized p = all_flat_map (λ l. IsSizedShape l.shape) (object_leaves means p) (object_sized p)
 
   entry_sized : (older : List (ℕ × Entry)) (e : Entry) → IsSoundEntry older e → IsSizedMeaning (entry_meaning means e)
-  entry_sized older (Aperture a) h = record { flash = λ p. one_sized (leaf (Stamp a p.turn p.offset) p.dark) h; width = solid_size a h }
-  entry_sized older (Block objects) h = record { flash = λ p. block_sized p objects; width = tt }
+  entry_sized older (Aperture a) h = record { flash = λ p. one_sized (leaf (Stamp a p.turn p.offset) p.dark) h; tip = solid_size a h }
+  entry_sized older (Block objects) h = record { flash = λ p. block_sized p objects; tip = tt }
 
 nothing_sized : IsSizedMeaning no_meaning
-nothing_sized = record { flash = λ p. All-nil (λ l. IsSizedShape l.shape); width = tt }
+nothing_sized = record { flash = λ p. All-nil (λ l. IsSizedShape l.shape); tip = tt }
 
 pub before_sized : (es : List (ℕ × Entry)) (k n : ℕ) → IsSoundDictionary es → k ≤ length es → IsSizedMeaning (meaning_before k es n)
 before_sized es zero n sound within = nothing_sized
@@ -221,9 +251,6 @@ prims_within prims h =
     within_all small (λ p. box_of_prim p.shape) prims
     (All-weaker IsSoundPrim (λ p. IsBoxWithin small (box_of_prim p.shape)) (λ p h. prim_within p.shape h) prims h)
 
-side_size : (n : ℤ) → IsSide n → IsSize n
-side_size n h = (omega (arith, ints, h.0), h.1)
-
 unturned_within : (a : Template) → IsSoundAperture a → IsBoxWithin small (template_bounds R0 a)
 unturned_within (Circle diameter hole) h = origin_about diameter.0 diameter.0 h.0 h.0
 unturned_within (Rect width height hole) h = origin_about width.0 height.0 (side_size width.0 h.0) (side_size height.0 h.1)
@@ -249,6 +276,12 @@ board_point p h =
 
 pub near_point : (p : Point) → IsOnBoard p → IsNearBox (box_of_point p)
 near_point p h = within_near inner (box_of_point p) (omega arith) (board_point p h)
+
+pub near_place : (p : Point) → IsOnBoard p → IsNearSpot (place_of p)
+near_place p h = (near_point p h).0
+
+pub size_reach : (n : Nm) → IsSize n.0 → IsBoxReach n
+size_reach n h = record { some = h.0; few = omega (arith, ints, h.1) }
 
 square_is : (z : ℤ) → unsigned_abs (z *ℤ z) ≡ unsigned_abs z * unsigned_abs z
 square_is z = unsigned_abs-mul z z
@@ -350,6 +383,12 @@ ends_spanned from to h k =
     let there = has_place inner (place_of to) (place_of to) (board_point to k) in
     λ i. joined (here i) (there i) (box_of_point from) (box_of_point to)
 
+-- a rectangle about a point of the board
+board_rectangle : (p : Point) (w h : ℤ) → IsOnBoard p → IsSize w → IsSize h → IsBoxWithin inner (box_about (place_of p) w h)
+board_rectangle p w h on a b =
+    within_less (2 * 1000000000 + 200000000) inner (box_about (place_of p) w h) (omega arith)
+    (within_about 1000000000 200000000 p w h (omega (arith, on.x)) (omega (arith, on.y)) a.0 a.1 b.0 b.1)
+
 -- the box of a leaf of the board reaches less than 2^33 half nm
 pub shape_within : (s : Shape) → IsSizedShape s → All IsOnBoard (points_of_shape s) → IsBoxWithin reach (box_of_shape s)
 shape_within (Stamp a t at) h k =
@@ -360,6 +399,12 @@ shape_within (Stroke c) h k =
     within_less (inner + 200000000) reach (box_of_shape (Stroke c)) (omega arith)
     (within_widened 200000000 inner c.width.0 (join_of (box_of_point c.from) (box_of_point c.to)) h.0 h.1
     (ends_of_stroke c.from c.to (at_first c.from (c.to ∷ []) k) (at_second c.from c.to [] k)))
+shape_within (Swept r) h k =
+    let from = at_first r.from (r.to ∷ []) k in
+    let to = at_second r.from r.to [] k in
+    within_less inner reach (box_of_shape (Swept r)) (omega arith)
+    (within_join inner (box_about (place_of r.from) r.width.0 r.height.0) (box_about (place_of r.to) r.width.0 r.height.0)
+    (board_rectangle r.from r.width.0 r.height.0 from h.0 h.1) (board_rectangle r.to r.width.0 r.height.0 to h.0 h.1))
 shape_within (Sweep a) h k =
     let from = at_first a.from (a.to ∷ a.centre ∷ []) k in
     let to = at_second a.from a.to (a.centre ∷ []) k in

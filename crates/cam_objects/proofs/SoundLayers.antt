@@ -48,7 +48,7 @@ use Rattle.cam_objects.specs.Soundness.{
   AreOnBoard,
   IsDrawable,
   IsInside,
-  IsSound,
+  HasSoundItems,
   IsSoundBlock,
   IsSoundDictionary,
   IsSoundItem,
@@ -148,7 +148,7 @@ board_all f (x ∷ xs) h =
 pub inside_leaves : (es : Pairs) (item : Item) → IsInside es item → AreOnBoard (item_leaves (meaning_in es) item)
 inside_leaves es item h = h.leaves
 
-pub ready_layer : (l : Layer) (s : Spot) → IsSound l → IsPlace s → IsReady l.apertures s (leaves_of l.apertures l.items.items)
+pub ready_layer : (l : Layer) (s : Spot) → HasSoundItems l → IsPlace s → IsReady l.apertures s (leaves_of l.apertures l.items.items)
 ready_layer l s sound place = record {
   few = few_entries l.apertures sound.entries;
   sound = sound.entries;
@@ -158,7 +158,7 @@ ready_layer l s sound place = record {
   spot = place;
 }
 
-pub paintable_items : (l : Layer) → IsSound l → All IsPaintableItem l.items.items
+pub paintable_items : (l : Layer) → HasSoundItems l → All IsPaintableItem l.items.items
 paintable_items l sound = All-weaker (IsSoundItem l.apertures) IsPaintableItem (paintable_item l.apertures) l.items.items sound.items
 
 -- the objects of a sound block stand on the board, and each paints

@@ -9,13 +9,13 @@ use Rattle.std.proofs.lemmas.List.Elements.{All-cons, All-head, All-nil, All-tai
 use Rattle.cam_units.specs.Board.{IsOnBoard}
 use Rattle.cam_units.specs.declared.point.Point.{Point}
 use Rattle.cam_units.specs.declared.point.Spot.{Spot}
-use Rattle.cam_shapes.proofs.TestLaws.{is_in_arc-meaning, is_in_capsule-meaning, is_in_contour-meaning, is_in_disc-meaning}
+use Rattle.cam_shapes.proofs.TestLaws.{is_in_arc-meaning, is_in_capsule-meaning, is_in_contour-meaning, is_in_disc-meaning, is_in_swept-meaning}
 use Rattle.cam_apertures.proofs.CoverLaws.{test_law}
 use Rattle.cam_objects.specs.declared.item.Item.{Item}
 use Rattle.cam_objects.specs.declared.item.Item.TheVariants.{One, Repeat}
 use Rattle.cam_objects.specs.DrillSoundness.{drill_points_of}
 use Rattle.cam_objects.specs.Image.{Covers, IsBlack, IsUncovered, relative}
-use Rattle.cam_objects.specs.Leaves.{Leaf, Stamp, Stroke, Sweep, Filled, Drilled, item_leaves, meaning_in}
+use Rattle.cam_objects.specs.Leaves.{Leaf, Stamp, Stroke, Swept, Sweep, Filled, Drilled, item_leaves, meaning_in}
 use Rattle.cam_objects.specs.Soundness.{HasShortSteps, objects_of, points_of, points_of_shape}
 use Rattle.cam_objects.specs.Tests.{
   CoverTestLaw,
@@ -38,6 +38,7 @@ pub cover_law : CoverTestLaw
 unfolding covers
 cover_law (Stamp aperture turn at) s = test_law aperture turn (relative at s)
 cover_law (Stroke capsule) s = is_in_capsule-meaning s capsule
+cover_law (Swept swept) s = is_in_swept-meaning s swept
 cover_law (Sweep arc) s = is_in_arc-meaning s arc
 cover_law (Filled contour) s = is_in_contour-meaning s contour
 cover_law (Drilled disc) s = is_in_disc-meaning s disc

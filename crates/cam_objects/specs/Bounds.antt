@@ -12,7 +12,7 @@ use Rattle.cam_shapes.specs.declared.contour.Contour.{Contour}
 use Rattle.cam_shapes.specs.Plane.{dot, place_of, way}
 use Rattle.cam_apertures.specs.Bounds.{bounds_of as template_bounds}
 use Rattle.cam_apertures.specs.Primitives.{box_about, box_of_point}
-use Rattle.cam_objects.specs.Leaves.{Leaf, Shape, Stamp, Stroke, Sweep, Filled, Drilled}
+use Rattle.cam_objects.specs.Leaves.{Leaf, Shape, Stamp, Stroke, Swept, Sweep, Filled, Drilled}
 
 -- the greatest number whose square is at most n: as many as there are numbers from 1 to n of no greater square
 unfoldable pub root : ℕ → ℕ
@@ -49,11 +49,15 @@ abbrev pub box_of_contour : Contour → Bounds
 box_of_contour c =
     join_of (box_of_all box_of_point (c.start ∷ map end_of c.segs)) (box_of_all box_of_cap (caps_of c))
 
--- of a stroke both ends, and of an arc its square besides, widened by the radius of the tool
+-- of a stroke both ends, and of an arc its square besides, widened by the radius of the tool; of a rectangle's stroke
+-- the rectangles at both ends
 abbrev pub box_of_shape : Shape → Bounds
 box_of_shape (Stamp aperture turn at) = moved at (template_bounds turn aperture)
 box_of_shape (Stroke capsule) =
     widened capsule.width.0 (join_of (box_of_point capsule.from) (box_of_point capsule.to))
+box_of_shape (Swept swept) =
+    join_of (box_about (place_of swept.from) swept.width.0 swept.height.0)
+    (box_about (place_of swept.to) swept.width.0 swept.height.0)
 box_of_shape (Sweep arc) =
     widened arc.width.0
     (join_of (circle_square arc.centre arc.from) (join_of (box_of_point arc.from) (box_of_point arc.to)))

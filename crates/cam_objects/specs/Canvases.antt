@@ -8,24 +8,27 @@ use Rattle.cam_shapes.specs.Arc.{IsSoundArc}
 use Rattle.cam_shapes.specs.Bar.{IsSoundCapsule}
 use Rattle.cam_shapes.specs.Disc.{IsSoundDisc}
 use Rattle.cam_shapes.specs.Placing.{IsPlaceable, placed_contour}
+use Rattle.cam_shapes.specs.Swept.{IsSoundSwept}
 use Rattle.cam_apertures.specs.Soundness.{IsSoundAperture}
 use Rattle.cam_objects.specs.declared.canvas.Figure.{Figure}
 use Rattle.cam_objects.specs.declared.canvas.Figure.TheVariants.{
   Stamp as AStamp,
   Stroke as AStroke,
+  Swept as ASwept,
   Sweep as ASweep,
   Filled as AFilled,
   Drilled as ADrilled,
 }
 use Rattle.cam_objects.specs.declared.canvas.Print.{Print}
 use Rattle.cam_objects.specs.Image.{Covers}
-use Rattle.cam_objects.specs.Leaves.{Leaf, Shape, Stamp, Stroke, Sweep, Filled, Drilled, leaf}
+use Rattle.cam_objects.specs.Leaves.{Leaf, Shape, Stamp, Stroke, Swept, Sweep, Filled, Drilled, leaf}
 use Rattle.cam_objects.specs.Tests.{painted}
 
 -- the shape of a figure
 abbrev pub shape_of : Figure → Shape
 shape_of (AStamp aperture turn at) = Stamp aperture.now turn at
 shape_of (AStroke capsule) = Stroke capsule
+shape_of (ASwept swept) = Swept swept
 shape_of (ASweep arc) = Sweep arc
 shape_of (AFilled contour turn offset) = Filled (placed_contour turn offset contour.now)
 shape_of (ADrilled disc) = Drilled disc
@@ -38,6 +41,7 @@ leaf_of p = leaf (shape_of p.figure) p.dark
 abbrev pub IsSoundFigure : Figure → Type 0
 IsSoundFigure (AStamp aperture turn at) = IsSoundAperture aperture.now × IsOnBoard at
 IsSoundFigure (AStroke capsule) = IsSoundCapsule capsule
+IsSoundFigure (ASwept swept) = IsSoundSwept swept
 IsSoundFigure (ASweep arc) = IsSoundArc arc
 IsSoundFigure (AFilled contour turn offset) = IsPlaceable turn offset contour.now
 IsSoundFigure (ADrilled disc) = IsSoundDisc disc

@@ -52,7 +52,7 @@ use Rattle.cam_objects.specs.declared.object.Object.{Object}
 use Rattle.cam_objects.specs.declared.object.Object.TheVariants.{Flash, Draw, Arc, Region}
 use Rattle.cam_objects.specs.Drilling.{diameter_of}
 use Rattle.cam_objects.specs.DrillSoundness.{KeepsDrillLimits, MeetsDrillItem, drill_count_of, drill_points_of, tool_of}
-use Rattle.cam_objects.specs.Leaves.{Meaning, meaning_in}
+use Rattle.cam_objects.specs.Leaves.{Meaning, meaning_in, round_width}
 use Rattle.cam_objects.specs.Limits.{item_limit, leaf_limit, object_limit, point_limit, segment_limit}
 use Rattle.cam_objects.specs.Refusals.{Tells}
 use Rattle.cam_objects.specs.Soundness.{KeepsLimits, MeetsItem, objects_of, segs_of}
@@ -78,11 +78,11 @@ is_known entries (Draw n from to t dark) = has_number entries n
 is_known entries (Arc n from to centre ccw dark) = has_number entries n
 is_known entries (Region contour dark) = true
 
--- draws and arcs are strokes of solid circles
+-- draws are strokes of solid circles and of solid rectangles, and arcs of solid circles alone
 abbrev pub is_drawable : (ℕ → Meaning) → Object → Bool
 is_drawable means (Flash n at t dark) = true
-is_drawable means (Draw n from to t dark) = is_some (means n).width
-is_drawable means (Arc n from to centre ccw dark) = is_some (means n).width
+is_drawable means (Draw n from to t dark) = is_some (means n).tip
+is_drawable means (Arc n from to centre ccw dark) = is_some (round_width (means n).tip)
 is_drawable means (Region contour dark) = true
 
 abbrev pub is_apart : Point → Point → Bool

@@ -7,8 +7,9 @@ use Rattle.cam_shapes.specs.Arc.{IsInArc}
 use Rattle.cam_shapes.specs.Bar.{IsInCapsule}
 use Rattle.cam_shapes.specs.Contour.{IsInContour}
 use Rattle.cam_shapes.specs.Disc.{IsInDisc}
+use Rattle.cam_shapes.specs.Swept.{IsInSwept}
 use Rattle.cam_apertures.specs.Cover.{IsCovered}
-use Rattle.cam_objects.specs.Leaves.{Leaf, Shape, Stamp, Stroke, Sweep, Filled, Drilled}
+use Rattle.cam_objects.specs.Leaves.{Leaf, Shape, Stamp, Stroke, Swept, Sweep, Filled, Drilled}
 
 -- a place as it is seen from a point, in half nm
 abbrev pub relative : Point → Spot → Spot
@@ -17,6 +18,7 @@ relative p s = record { x = s.x -ℤ pos 2 *ℤ p.x; y = s.y -ℤ pos 2 *ℤ p.y
 abbrev pub Covers : Shape → Spot → Type 0
 Covers (Stamp aperture turn at) s = IsCovered aperture turn (relative at s)
 Covers (Stroke capsule) s = IsInCapsule s capsule
+Covers (Swept swept) s = IsInSwept s swept
 Covers (Sweep arc) s = IsInArc s arc
 Covers (Filled contour) s = IsInContour s contour
 Covers (Drilled disc) s = IsInDisc s disc

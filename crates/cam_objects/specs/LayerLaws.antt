@@ -1,15 +1,18 @@
 -- Layers stay sound as they are edited.
-use Rattle.std.specs.Prelude.{◌≡◌, ℕ, nat_eq, List, [], ◌∷◌, ◌++◌, IsSome}
+use Rattle.std.specs.Prelude.{◌≡◌, ℕ, ◌<◌, nat_eq, List, [], ◌∷◌, ◌++◌, length, slice_set, None, Some, IsSome}
 use Rattle.std.specs.Map.{set_value}
 use Rattle.cam_units.specs.declared.length.Nm.{Nm}
 use Rattle.cam_units.specs.declared.point.Point.{Point}
+use Rattle.cam_objects.specs.declared.attribute.Attribute.{Attribute}
 use Rattle.cam_objects.specs.declared.drill_item.DrillItem.{DrillItem}
 use Rattle.cam_objects.specs.declared.entry.Entry.{Entry}
 use Rattle.cam_objects.specs.declared.item.Item.{Item}
 use Rattle.cam_objects.specs.declared.item_fault.ItemFault.TheVariants.{OutOfBoard}
+use Rattle.cam_objects.specs.Attributes.{AreAttributes, IsAttribute, MaySet, place_of, with_attribute}
 use Rattle.cam_objects.specs.Drilling.{diameter_of}
 use Rattle.cam_objects.specs.DrillSoundness.{IsSoundDrillContent, IsSoundDrillItem, IsSoundTool, KeepsDrillLimits, MeetsDrillItem}
 use Rattle.cam_objects.specs.Leaves.{leaves_of}
+use Rattle.cam_objects.specs.Limits.{attribute_limit}
 use Rattle.cam_objects.specs.Shifting.{shifted_drill_item, shifted_item}
 use Rattle.cam_objects.specs.Soundness.{IsSoundContent, IsSoundItem, KeepsLimits, MayAddEntry, MeetsItem}
 
@@ -37,6 +40,25 @@ pub record LayerEditLaw : Type 0 where
   pub reorder : (es : List (ℕ × Entry)) (before after before' after' : List Item) (item : Item)
       → IsSoundContent es (before ++ item ∷ after) → before' ++ after' ≡ before ++ after
       → IsSoundContent es (before' ++ item ∷ after')
+
+-- no attributes are sound, and attributes stay so with one that may be set, with one of a new name put at any place where
+-- there are fewer than the limit, without one, and with other fields of one
+pub record AttributeEditLaw : Type 0 where
+  pub none : AreAttributes []
+  pub set : (xs : List Attribute) (a : Attribute) → AreAttributes xs → MaySet xs a → AreAttributes (with_attribute a xs)
+  pub insert : (before after : List Attribute) (a : Attribute) → AreAttributes (before ++ after) → IsAttribute a
+      → place_of a.name (before ++ after) ≡ None → length (before ++ after) < attribute_limit
+      → AreAttributes (before ++ a ∷ after)
+  pub remove : (before after : List Attribute) (a : Attribute)
+      → AreAttributes (before ++ a ∷ after) → AreAttributes (before ++ after)
+  pub refill : (before after : List Attribute) (a new : Attribute) → AreAttributes (before ++ a ∷ after)
+      → IsAttribute new → new.name ≡ a.name → AreAttributes (before ++ new ∷ after)
+
+-- a name that is there keeps its place, and another goes last
+pub record SettingLaw : Type 0 where
+  pub keep : (xs : List Attribute) (a : Attribute) (k : ℕ) → place_of a.name xs ≡ Some k
+      → with_attribute a xs ≡ slice_set xs k a
+  pub add : (xs : List Attribute) (a : Attribute) → place_of a.name xs ≡ None → with_attribute a xs ≡ xs ++ a ∷ []
 
 -- the same of the items of a drill layer, and it stays sound with another diameter of a tool
 pub record DrillEditLaw : Type 0 where

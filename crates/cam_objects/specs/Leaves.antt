@@ -11,9 +11,11 @@ use Rattle.cam_shapes.specs.declared.arc.Arc.{Arc as ArcStroke}
 use Rattle.cam_shapes.specs.declared.capsule.Capsule.{Capsule}
 use Rattle.cam_shapes.specs.declared.contour.Contour.{Contour}
 use Rattle.cam_shapes.specs.declared.disc.Disc.{Disc}
+use Rattle.cam_shapes.specs.declared.swept.Swept.{Swept as SweptRectangle}
 use Rattle.cam_shapes.specs.Placing.{placed_contour, placed_direction, placed_point}
 use Rattle.cam_apertures.specs.declared.aperture.Aperture.{Aperture as Template}
 use Rattle.cam_apertures.specs.declared.aperture.Aperture.TheVariants.{Circle, Rect, Obround, Prims}
+use Rattle.cam_apertures.specs.Turned.{turned_height, turned_width}
 use Rattle.cam_objects.specs.declared.object.Object.{Object}
 use Rattle.cam_objects.specs.declared.object.Object.TheVariants.{Flash, Draw, Arc, Region}
 use Rattle.cam_objects.specs.declared.entry.Entry.{Entry}
@@ -21,13 +23,16 @@ use Rattle.cam_objects.specs.declared.entry.Entry.TheVariants.{Aperture, Block}
 use Rattle.cam_objects.specs.declared.item.Item.{Item}
 use Rattle.cam_objects.specs.declared.item.Item.TheVariants.{One, Repeat}
 use Rattle.cam_objects.specs.declared.placing.place.Place.{Place}
+use Rattle.cam_objects.specs.declared.tip.Tip.{Tip}
+use Rattle.cam_objects.specs.declared.tip.Tip.TheVariants.{Round, Rectangular}
 use Rattle.cam_objects.specs.Turning.{after}
 
 -- what one leaf covers, where it is painted: an aperture, turned, at a point; the stroke of a round tool along a
--- line or an arc; the inside of a contour; a drilled disc
+-- line or an arc, or of a rectangle along a line; the inside of a contour; a drilled disc
 pub data Shape : Type 0 where
   Stamp : Template → Turn → Point → Shape
   Stroke : Capsule → Shape
+  Swept : SweptRectangle → Shape
   Sweep : ArcStroke → Shape
   Filled : Contour → Shape
   Drilled : Disc → Shape
@@ -72,27 +77,45 @@ module _ {M : Type 0} (nothing : M) (means : (ℕ → M) → Entry → M) where
   stands_for [] n = nothing
   stands_for (e ∷ older) n = if nat_eq e.0 n then means (stands_for older) e.1 else stands_for older n
 
--- what a flash of a number paints at a place, and how wide its strokes are: a block and an aperture that is no
--- solid circle have none
+-- what a flash of a number paints at a place, and what its strokes are drawn with: a block has no tip, and no
+-- aperture that is neither a solid circle nor a solid rectangle
 pub record Meaning : Type 0 where
   pub flash : Place → List Leaf
-  pub width : Option Nm
+  pub tip : Option Tip
 
 abbrev pub no_meaning : Meaning
-no_meaning = record { flash = λ p. []; width = None }
+no_meaning = record { flash = λ p. []; tip = None }
 
--- the diameter of a solid circle
-abbrev pub solid_diameter : Template → Option Nm
-solid_diameter (Circle diameter hole) = if int_eq hole.0 (pos 0) then Some diameter else None
-solid_diameter (Rect width height hole) = None
-solid_diameter (Obround width height hole) = None
-solid_diameter (Prims prims) = None
+-- a solid circle, or a solid rectangle (Gerber Layer Format Specification, "Deprecated usage": draws with rectangular
+-- apertures), as a tip
+abbrev pub solid_tip : Template → Option Tip
+solid_tip (Circle diameter hole) = if int_eq hole.0 (pos 0) then Some (Round diameter) else None
+solid_tip (Rect width height hole) = if int_eq hole.0 (pos 0) then Some (Rectangular width height) else None
+solid_tip (Obround width height hole) = None
+solid_tip (Prims prims) = None
 
--- a stroke of a width, or none
-abbrev pub draw_leaves : Option Nm → Point → Point → Bool → List Leaf
-draw_leaves None from to dark = []
-draw_leaves (Some width) from to dark = leaf (Stroke (record { from = from; to = to; width = width })) dark ∷ []
+-- how wide a round tip is: arcs are drawn with no other
+abbrev pub round_width : Option Tip → Option Nm
+round_width None = None
+round_width (Some (Round width)) = Some width
+round_width (Some (Rectangular width height)) = None
 
+-- a tip, mirrored and turned: a quarter turn exchanges the sides of a rectangle
+abbrev pub turned_tip : Turn → Tip → Tip
+turned_tip t (Round width) = Round width
+turned_tip t (Rectangular width height) = Rectangular (turned_width t width height) (turned_height t width height)
+
+-- what a straight stroke of a tip covers, as the tip stands
+abbrev pub drawn : Tip → Point → Point → Shape
+drawn (Round width) from to = Stroke (record { from = from; to = to; width = width })
+drawn (Rectangular width height) from to = Swept (record { from = from; to = to; width = width; height = height })
+
+-- a straight stroke of a tip that is turned so, or none
+abbrev pub draw_leaves : Option Tip → Turn → Point → Point → Bool → List Leaf
+draw_leaves None t from to dark = []
+draw_leaves (Some tip) t from to dark = leaf (drawn (turned_tip t tip) from to) dark ∷ []
+
+-- an arc of a width, or none
 abbrev pub arc_leaves : Option Nm → Point → Point → Point → Bool → Bool → List Leaf
 arc_leaves None from to centre ccw dark = []
 arc_leaves (Some width) from to centre ccw dark =
@@ -101,13 +124,14 @@ arc_leaves (Some width) from to centre ccw dark =
 -- ---- objects and items, where each number means what it does
 
 module _ (means : ℕ → Meaning) where
-  -- what an object paints at a place: a mirror reverses arcs
+  -- what an object paints at a place: the tip of a draw is turned with the draw and then with the place, and a mirror
+  -- reverses arcs
   abbrev pub object_leaves : Place → Object → List Leaf
   object_leaves p (Flash n at t dark) = (means n).flash (flashed p at t dark)
   object_leaves p (Draw n from to t dark) =
-      draw_leaves (means n).width (placed p from) (placed p to) (polarity_in p.dark dark)
+      draw_leaves (means n).tip (after t p.turn) (placed p from) (placed p to) (polarity_in p.dark dark)
   object_leaves p (Arc n from to centre ccw dark) =
-      arc_leaves (means n).width (placed p from) (placed p to) (placed p centre) (placed_direction p.turn ccw)
+      arc_leaves (round_width (means n).tip) (placed p from) (placed p to) (placed p centre) (placed_direction p.turn ccw)
       (polarity_in p.dark dark)
   object_leaves p (Region contour dark) =
       leaf (Filled (placed_contour p.turn p.offset contour)) (polarity_in p.dark dark) ∷ []
@@ -119,9 +143,9 @@ module _ (means : ℕ → Meaning) where
   abbrev pub entry_meaning : Entry → Meaning
   entry_meaning (Aperture a) = record {
     flash = λ p. leaf (Stamp a p.turn p.offset) p.dark ∷ [];
-    width = solid_diameter a;
+    tip = solid_tip a;
   }
-  entry_meaning (Block objects) = record { flash = λ p. block_leaves p objects; width = None }
+  entry_meaning (Block objects) = record { flash = λ p. block_leaves p objects; tip = None }
 
   -- the copies of one column, row by row
   abbrev pub column_leaves : ℤ → ℕ → ℤ → List Object → List Leaf

@@ -1,3 +1,4 @@
+pub mod Attributes
 pub mod Bounds
 pub mod BoxLaws
 pub mod Canvases

@@ -1,6 +1,10 @@
 -- The limits of layers and drill layers. Those of lengths are `board_limit` and `size_limit` of cam_units.
 use Rattle.std.specs.Prelude.{ℕ}
 
+-- file attributes of a layer
+abbrev pub attribute_limit : ℕ
+attribute_limit = 1000
+
 -- items of a layer, and of a drill layer
 abbrev pub item_limit : ℕ
 item_limit = 1000000

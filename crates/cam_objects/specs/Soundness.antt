@@ -27,7 +27,21 @@ use Rattle.cam_objects.specs.declared.item_fault.ItemFault.TheVariants.{
   TooMuch,
 }
 use Rattle.cam_objects.specs.declared.layer.Layer.{Layer}
-use Rattle.cam_objects.specs.Leaves.{Leaf, Shape, Stamp, Stroke, Sweep, Filled, Drilled, Meaning, item_leaves, meaning_in}
+use Rattle.cam_objects.specs.Attributes.{AreAttributes}
+use Rattle.cam_objects.specs.Leaves.{
+  Leaf,
+  Shape,
+  Stamp,
+  Stroke,
+  Swept,
+  Sweep,
+  Filled,
+  Drilled,
+  Meaning,
+  item_leaves,
+  meaning_in,
+  round_width,
+}
 use Rattle.cam_objects.specs.Limits.{depth_limit, first_number, item_limit, last_number, leaf_limit, object_limit, segment_limit}
 use Rattle.cam_objects.specs.Refusals.{MeetsAll}
 use Rattle.cam_objects.specs.Weights.{block_count, block_depth, item_count, weight_in}
@@ -52,6 +66,7 @@ points_of (Region contour dark) = points_of_contour contour
 abbrev pub points_of_shape : Shape → List Point
 points_of_shape (Stamp aperture turn at) = at ∷ []
 points_of_shape (Stroke capsule) = capsule.from ∷ capsule.to ∷ []
+points_of_shape (Swept swept) = swept.from ∷ swept.to ∷ []
 points_of_shape (Sweep arc) = arc.from ∷ arc.to ∷ arc.centre ∷ []
 points_of_shape (Filled contour) = points_of_contour contour
 points_of_shape (Drilled disc) = disc.centre ∷ []
@@ -84,11 +99,11 @@ IsKnown entries (Draw n from to t dark) = HasNumber entries n
 IsKnown entries (Arc n from to centre ccw dark) = HasNumber entries n
 IsKnown entries (Region contour dark) = Unit {0}
 
--- draws and arcs are strokes of solid circles
+-- draws are strokes of solid circles and of solid rectangles, and arcs of solid circles alone
 abbrev pub IsDrawable : (ℕ → Meaning) → Object → Type 0
 IsDrawable means (Flash n at t dark) = Unit {0}
-IsDrawable means (Draw n from to t dark) = IsSome (means n).width
-IsDrawable means (Arc n from to centre ccw dark) = IsSome (means n).width
+IsDrawable means (Draw n from to t dark) = IsSome (means n).tip
+IsDrawable means (Arc n from to centre ccw dark) = IsSome (round_width (means n).tip)
 IsDrawable means (Region contour dark) = Unit {0}
 
 -- no arc starts at its centre
@@ -181,5 +196,10 @@ pub record IsSoundContent (es : List (ℕ × Entry)) (is : List Item) : Type 0 w
   pub items : All (IsSoundItem es) is
   pub limits : KeepsLimits es is
 
-abbrev pub IsSound : Layer → Type 0
-IsSound l = IsSoundContent l.apertures l.items.items
+-- what painting, boxes and checks of items ask for
+abbrev pub HasSoundItems : Layer → Type 0
+HasSoundItems l = IsSoundContent l.apertures l.items.items
+
+pub record IsSound (l : Layer) : Type 0 where
+  pub attributes : AreAttributes l.attributes.items
+  pub content : HasSoundItems l

@@ -6,7 +6,7 @@ use Rattle.cam_units.specs.Board.{board_limit}
 use Rattle.cam_units.specs.declared.length.Nm.{Nm}
 use Rattle.cam_units.specs.declared.point.Point.{Point}
 use Rattle.cam_units.specs.declared.point.Spot.{Spot}
-use Rattle.cam_shapes.specs.Tests.{is_in_arc, is_in_capsule, is_in_contour, is_in_disc}
+use Rattle.cam_shapes.specs.Tests.{is_in_arc, is_in_capsule, is_in_contour, is_in_disc, is_in_swept}
 use Rattle.cam_apertures.specs.Tests.{is_covered}
 use Rattle.cam_objects.specs.declared.drill_item.DrillItem.{DrillItem}
 use Rattle.cam_objects.specs.declared.entry.Entry.{Entry}
@@ -15,7 +15,7 @@ use Rattle.cam_objects.specs.declared.item.Item.TheVariants.{One, Repeat}
 use Rattle.cam_objects.specs.declared.item_fault.ItemFault.TheVariants.{OutOfBoard}
 use Rattle.cam_objects.specs.DrillSoundness.{MeetsDrillItem, drill_points_of}
 use Rattle.cam_objects.specs.Image.{Covers, IsBlack, relative}
-use Rattle.cam_objects.specs.Leaves.{Leaf, Shape, Stamp, Stroke, Sweep, Filled, Drilled, item_leaves, meaning_in}
+use Rattle.cam_objects.specs.Leaves.{Leaf, Shape, Stamp, Stroke, Swept, Sweep, Filled, Drilled, item_leaves, meaning_in}
 use Rattle.cam_objects.specs.Soundness.{IsInside, objects_of, points_of, points_of_shape}
 
 -- ---- places
@@ -23,6 +23,7 @@ use Rattle.cam_objects.specs.Soundness.{IsInside, objects_of, points_of, points_
 unfoldable pub covers : Shape → Spot → Bool
 covers (Stamp aperture turn at) s = is_covered aperture turn (relative at s)
 covers (Stroke capsule) s = is_in_capsule s capsule
+covers (Swept swept) s = is_in_swept s swept
 covers (Sweep arc) s = is_in_arc s arc
 covers (Filled contour) s = is_in_contour s contour
 covers (Drilled disc) s = is_in_disc s disc

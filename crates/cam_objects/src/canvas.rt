@@ -6,7 +6,7 @@ ghost use Rattle.cam_units.specs.declared.point.Spot.{Spot};
 ghost use Rattle.cam_objects.specs.Canvases.{IsSoundPrint, Paints, leaf_of};
 
 use cam_apertures::Aperture;
-use cam_shapes::{Arc, Capsule, Contour, Disc};
+use cam_shapes::{Arc, Capsule, Contour, Disc, Swept};
 use cam_units::{Bounds, Point, Turn};
 
 /// What a leaf covers, where it is painted; points and sizes are in nm.
@@ -18,8 +18,10 @@ pub enum Figure<'a> {
         turn: Turn,
         at: Point,
     },
-    /// A stroke along a line.
+    /// A stroke of a round tool along a line.
     Stroke(Capsule),
+    /// A stroke of a rectangle along a line.
+    Swept(Swept),
     /// A stroke along an arc.
     Sweep(Arc),
     /// The inside of a contour that is turned about (0, 0) and then moved.

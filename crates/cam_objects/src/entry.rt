@@ -3,10 +3,9 @@
 ghost use Rattle.std.specs.Prelude.{◌≡◌, ℕ, IfOk};
 ghost use Rattle.cam_objects.specs.Leaves.{Meaning, entry_meaning};
 
-use crate::image::leaf::solid_diameter;
 use crate::object::Objects;
+use crate::tip::{Tip, solid_tip};
 use cam_apertures::Aperture;
-use cam_units::Nm;
 use std::alloc::{AllocError, Global};
 
 /// What a number of the dictionary stands for: an aperture, or a block (Gerber Layer Format
@@ -18,12 +17,12 @@ pub enum Entry {
 }
 
 impl Entry {
-    /// How wide its strokes are, in nm: a block and an aperture that is no solid circle have none.
-    pub(crate) fn width(&self) -> Option<Nm>
-        ensures { (means : ℕ → Meaning) → result ≡ (entry_meaning means self.now).width }
+    /// What its strokes are drawn with: a block has no tip.
+    pub(crate) fn tip(&self) -> Option<Tip>
+        ensures { (means : ℕ → Meaning) → result ≡ (entry_meaning means self.now).tip }
     {
         match self {
-            Entry::Aperture(aperture) => solid_diameter(aperture),
+            Entry::Aperture(aperture) => solid_tip(aperture),
             Entry::Block(_) => None,
         }
     }

@@ -10,7 +10,8 @@ pub enum ItemFault {
     UnknownAperture,
     /// A tool that the drill layer does not have.
     UnknownTool,
-    /// A draw or an arc with anything but a solid circle.
+    /// A draw with anything but a solid circle or a solid rectangle, or an arc with anything but a
+    /// solid circle.
     WrongAperture,
     /// An arc that starts at its centre.
     ZeroRadius,

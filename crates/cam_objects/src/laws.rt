@@ -3,7 +3,7 @@
 ghost use Rattle.cam_objects.specs.BoxLaws.{CoverBoxLaw, RedrawLaw};
 ghost use Rattle.cam_objects.specs.Demands.{DemandLaw, FirstLaw};
 ghost use Rattle.cam_objects.specs.DrillSoundness.{DrillGrowthLaw};
-ghost use Rattle.cam_objects.specs.LayerLaws.{DrillEditLaw, LayerEditLaw};
+ghost use Rattle.cam_objects.specs.LayerLaws.{AttributeEditLaw, DrillEditLaw, LayerEditLaw, SettingLaw};
 ghost use Rattle.cam_objects.specs.Tests.{CoverTestLaw, DrillInsideTestLaw, InsideTestLaw, TestLaw};
 ghost use Rattle.cam_objects.specs.Turning.{AfterLaw};
 
@@ -60,4 +60,12 @@ pub fn tests_tell_demands()
 /// another sound item in the place of one, where the limits are kept; and with an item taken to another place.
 pub fn layers_stay_sound()
     ensures { LayerEditLaw }
+{}
+
+/// No attributes are sound, and the attributes of a layer stay sound with one that may be set, with one of a new name
+/// put at any place, without one, and with other fields of one. One that is set keeps the place that its name has; a
+/// new name goes last.
+pub fn attributes_stay_sound()
+    ensures edits { AttributeEditLaw }
+    ensures setting { SettingLaw }
 {}

@@ -1,9 +1,9 @@
 //! Gerber layers and drill layers: what they list, what they paint, their limits and boxes.
 //!
-//! A [`Layer`] is a [`Dictionary`] of apertures and blocks, and a list of [`Item`]s: an [`Object`], or a repeat of
-//! objects. A [`DrillLayer`] is [`Tools`] and a list of [`DrillItem`]s. What a layer paints are its *leaves*, one shape
-//! after another, blocks and repeats unfolded: each makes dark or clear what it covers, so that the last leaf that
-//! covers a place decides. Nothing is unfolded in memory.
+//! A [`Layer`] is a list of file [`Attribute`]s, a [`Dictionary`] of apertures and blocks, and a list of [`Item`]s: an
+//! [`Object`], or a repeat of objects. A [`DrillLayer`] is [`Tools`] and a list of [`DrillItem`]s. What a layer paints
+//! are its *leaves*, one shape after another, blocks and repeats unfolded: each makes dark or clear what it covers, so
+//! that the last leaf that covers a place decides. Nothing is unfolded in memory.
 //!
 //! ```text
 //! if layer.check_entry(10, &circle) {
@@ -12,6 +12,9 @@
 //! let pad = Item::One(Object::Flash { aperture: 10, at, turn: Turn::R0, dark: true });
 //! if layer.check_item(&pad).is_ok() && layer.has_room(&pad) {
 //!     layer.push(pad)?;                                a flash of it at a point
+//! }
+//! if layer.check_attribute(b".Part", b",Single") {
+//!     layer.set_attribute(name, fields)?;              `%TF.Part,Single*%`
 //! }
 //! layer.black_at(spot)                                 whether a place is black
 //! layer.item_bounds(0)                                 the box of what the first item paints
@@ -23,12 +26,13 @@
 //! `drill` all of that for drill layers.
 //!
 //! What a layer means stands in `specs/`: `Leaves` and `Drilling` unfold it, `Image` says which places are black and
-//! `Canvases` how pixels are painted, `Bounds` the boxes, `Soundness` and `DrillSoundness` which layers are sound,
-//! `Limits` the limits and `Weights` what counts towards them, `Refusals` the order in which faults are told,
-//! `Shifting` what a move makes of items. `Tests` and `Demands` have the same as tests that compute; `LayerLaws` and
-//! `BoxLaws` say what holds of edits. `specs/Machinery/` mirrors code.
+//! `Canvases` how pixels are painted, `Bounds` the boxes, `Attributes` what file attributes are, `Soundness` and
+//! `DrillSoundness` which layers are sound, `Limits` the limits and `Weights` what counts towards them, `Refusals` the
+//! order in which faults are told, `Shifting` what a move makes of items. `Tests` and `Demands` have the same as tests
+//! that compute; `LayerLaws` and `BoxLaws` say what holds of edits. `specs/Machinery/` mirrors code.
 #![tactic(auto)]
 
+mod attribute;
 mod boxes;
 mod canvas;
 mod checks;
@@ -47,11 +51,14 @@ mod object;
 mod paint;
 mod placing;
 mod points;
+mod tip;
 mod tools;
 
+pub use attribute::Attribute;
 pub use boxes::item_boxes::ItemBoxes;
 pub use cam_shapes::{Contour, Seg, Segments};
 pub use canvas::{Canvas, Figure, Print};
+pub use checks::attributes::is_attribute;
 pub use dictionary::Dictionary;
 pub use drill::item_boxes::DrillItemBoxes;
 pub use drill_item::DrillItem;
@@ -60,9 +67,9 @@ pub use entry::Entry;
 pub use item::Item;
 pub use item_fault::ItemFault;
 pub use laws::{
-    covers_lie_in_their_bounds, drill_layers_stay_sound, edits_stay_in_their_bounds,
-    layers_stay_sound, painting_in_order_makes_the_image, tests_tell_covers, tests_tell_demands,
-    tests_tell_what_is_inside, turns_follow_their_matrices,
+    attributes_stay_sound, covers_lie_in_their_bounds, drill_layers_stay_sound,
+    edits_stay_in_their_bounds, layers_stay_sound, painting_in_order_makes_the_image,
+    tests_tell_covers, tests_tell_demands, tests_tell_what_is_inside, turns_follow_their_matrices,
 };
 pub use layer::Layer;
 pub use object::{Object, Objects};

@@ -1,5 +1,8 @@
 //! The limits, by the names that they have in `specs/Limits` and in those of `cam_units`.
 
+/// The greatest number of file attributes of a layer.
+pub(crate) const ATTRIBUTE_LIMIT: usize = 1_000;
+
 /// The greatest number of items of a layer, and of a drill layer.
 pub(crate) const ITEM_LIMIT: usize = 1_000_000;
 

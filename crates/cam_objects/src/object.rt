@@ -20,8 +20,9 @@ pub enum Object {
         turn: Turn,
         dark: bool,
     },
-    /// The stroke of a solid circle along a straight line. The turn changes no place of it; it is
-    /// kept as the file has it.
+    /// The stroke of a solid circle or of a solid rectangle along a straight line. The rectangle is
+    /// mirrored and turned as a flash of it is, and keeps its sides along the axes; of a circle's
+    /// stroke the turn changes no place, and is kept as the file has it.
     Draw {
         aperture: u32,
         from: Point,

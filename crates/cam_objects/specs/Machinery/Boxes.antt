@@ -16,8 +16,10 @@ use Rattle.cam_objects.specs.declared.item.Item.{Item}
 use Rattle.cam_objects.specs.declared.item.Item.TheVariants.{One, Repeat}
 use Rattle.cam_objects.specs.declared.object.Object.{Object}
 use Rattle.cam_objects.specs.declared.placing.place.Place.{Place}
+use Rattle.cam_objects.specs.declared.tip.Tip.{Tip}
+use Rattle.cam_objects.specs.declared.tip.Tip.TheVariants.{Round, Rectangular}
 use Rattle.cam_objects.specs.Bounds.{moved}
-use Rattle.cam_objects.specs.Leaves.{Leaf, Shape, Stamp, Stroke, Sweep, Filled, Drilled, meaning_in, repeat_leaves}
+use Rattle.cam_objects.specs.Leaves.{Leaf, Shape, Stamp, Stroke, Swept, Sweep, Filled, Drilled, meaning_in, repeat_leaves}
 use Rattle.cam_objects.specs.Machinery.Painting.{StandsOnBoard}
 use Rattle.cam_objects.specs.Soundness.{AreOnBoard}
 
@@ -46,13 +48,18 @@ moved_spot by s = record { x = s.x +ℤ pos 2 *ℤ by.x; y = s.y +ℤ pos 2 *ℤ
 abbrev pub IsUncrossed : Bounds → Type 0
 IsUncrossed b = IsTrue (has_no_place b) → b ≡ Empty
 
--- a leaf's aperture is sound, or its width or its diameter a size
+-- a leaf's aperture is sound, or its width and its height or its diameter are sizes
 abbrev pub IsSizedShape : Shape → Type 0
 IsSizedShape (Stamp aperture turn at) = IsSoundAperture aperture
 IsSizedShape (Stroke capsule) = IsSize capsule.width.0
+IsSizedShape (Swept swept) = IsSize swept.width.0 × IsSize swept.height.0
 IsSizedShape (Sweep arc) = IsSize arc.width.0
 IsSizedShape (Filled contour) = ⊤
 IsSizedShape (Drilled disc) = IsSize disc.diameter.0
+
+abbrev pub IsSizedTip : Tip → Type 0
+IsSizedTip (Round width) = IsSize width.0
+IsSizedTip (Rectangular width height) = IsSize width.0 × IsSize height.0
 
 abbrev pub AreSized : List Leaf → Type 0
 AreSized leaves = All (λ l. IsSizedShape l.shape) leaves
@@ -62,11 +69,11 @@ pub record IsBoxReach (reach : Nm) : Type 0 where
   pub some : pos 0 ≤ℤ reach.0
   pub few : reach.0 ≤ℤ pos 5700000000
 
-abbrev pub below : Spot → ℤ → Spot
-below s by = record { x = s.x -ℤ by; y = s.y -ℤ by }
+abbrev pub below : Spot → ℤ → ℤ → Spot
+below s across up = record { x = s.x -ℤ across; y = s.y -ℤ up }
 
-abbrev pub above : Spot → ℤ → Spot
-above s by = record { x = s.x +ℤ by; y = s.y +ℤ by }
+abbrev pub above : Spot → ℤ → ℤ → Spot
+above s across up = record { x = s.x +ℤ across; y = s.y +ℤ up }
 
 -- the copies of an item, of an object the one that it is
 abbrev pub copies_of : Item → Copies

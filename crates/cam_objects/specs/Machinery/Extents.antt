@@ -12,7 +12,7 @@ use Rattle.cam_objects.specs.Machinery.Boxes.{IsNearBox}
 -- how far flashes and strokes of a number reach, among these entries
 pub record IsExtentIn (entries : List (ℕ × Entry)) (e : Extent) : Type 0 where
   pub bounds : e.bounds ≡ bounds_of ((meaning_in entries e.number).flash origin)
-  pub width : e.width ≡ (meaning_in entries e.number).width
+  pub tip : e.tip ≡ (meaning_in entries e.number).tip
   pub near : IsNearBox e.bounds
 
 -- a tool with its diameter among these

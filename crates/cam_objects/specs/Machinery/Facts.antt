@@ -5,9 +5,7 @@ use Rattle.std.specs.Map.{keys_of}
 use Rattle.cam_units.specs.declared.bounds.Bounds.{Bounds}
 use Rattle.cam_units.specs.declared.bounds.Bounds.TheVariants.{Empty}
 use Rattle.cam_apertures.specs.Primitives.{box_of_point}
-use Rattle.cam_apertures.specs.Soundness.{IsSolidCircle}
 use Rattle.cam_objects.specs.declared.entry.Entry.{Entry}
-use Rattle.cam_objects.specs.declared.entry.Entry.TheVariants.{Aperture, Block}
 use Rattle.cam_objects.specs.declared.checks.facts.Facts.{Facts}
 use Rattle.cam_objects.specs.Bounds.{bounds_of, box_of_all}
 use Rattle.cam_objects.specs.Leaves.{Leaf, entry_meaning, meaning_in, origin}
@@ -35,11 +33,6 @@ facts_of older entry =
       points = points_bounds_of leaves;
       bounds = bounds_of leaves;
     }
-
--- draws with the entry have a width
-abbrev pub IsSolid : Entry → Type 0
-IsSolid (Aperture a) = IsSolidCircle a
-IsSolid (Block objects) = ⊥
 
 -- beside each entry its facts
 pub record AreFactsOf (entries : List (ℕ × Entry)) (kept : List Facts) : Type 0 where

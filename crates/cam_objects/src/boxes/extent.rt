@@ -8,20 +8,21 @@ ghost use Rattle.cam_objects.specs.Machinery.Extents.{IsExtentIn};
 ghost use Rattle.cam_objects.specs.Machinery.Painting.{StandsOnBoard};
 ghost use Rattle.cam_objects.specs.Soundness.{IsSoundDictionary};
 
-use crate::boxes::shapes::{contour_bounds, stroke_bounds, sweep_bounds};
+use crate::boxes::shapes::{contour_bounds, drawn_bounds, sweep_bounds};
 use crate::dictionary::Dictionary;
 use crate::object::Object;
 use crate::placing::place::Place;
-use cam_shapes::{Arc, Capsule};
-use cam_units::{Bounds, Nm, Point};
+use crate::tip::{Tip, round_width};
+use cam_shapes::Arc;
+use cam_units::{Bounds, Point};
 
 /// What the boxes of objects need of a number: the box of what one flash of it paints at (0, 0), neither mirrored nor
-/// turned, in half nm, and how wide its strokes are, in nm.
+/// turned, in half nm, and what its strokes are drawn with.
 #[derive(Clone, Copy)]
 pub(crate) struct Extent {
     pub number: u32,
     pub bounds: Bounds,
-    pub width: Option<Nm>,
+    pub tip: Option<Tip>,
 }
 
 impl Extent {
@@ -33,7 +34,7 @@ impl Extent {
         Extent {
             number: 0,
             bounds: Bounds::Empty,
-            width: None,
+            tip: None,
         }
     }
 
@@ -46,12 +47,12 @@ impl Extent {
             Some((_, entry, facts)) => Extent {
                 number,
                 bounds: facts.bounds,
-                width: entry.width(),
+                tip: entry.tip(),
             },
             None => Extent {
                 number,
                 bounds: Bounds::Empty,
-                width: None,
+                tip: None,
             },
         }
     }
@@ -94,15 +95,12 @@ impl Extent {
                 aperture,
                 from,
                 to,
+                turn,
                 ..
             } => {
                 self.go_to(entries, *aperture);
-                match self.width {
-                    Some(width) => stroke_bounds(&Capsule {
-                        from: *from,
-                        to: *to,
-                        width,
-                    }),
+                match self.tip {
+                    Some(tip) => drawn_bounds(from, to, &tip.turned(*turn)),
                     None => Bounds::Empty,
                 }
             }
@@ -115,7 +113,7 @@ impl Extent {
                 ..
             } => {
                 self.go_to(entries, *aperture);
-                match self.width {
+                match round_width(self.tip) {
                     Some(width) => sweep_bounds(&Arc {
                         from: *from,
                         to: *to,

@@ -3,7 +3,7 @@
 ghost use Rattle.std.specs.Prelude.{◌≡◌, ◌<◌, Some, length, slice_get};
 ghost use Rattle.cam_objects.specs.Bounds.{bounds_of};
 ghost use Rattle.cam_objects.specs.Leaves.{item_leaves, meaning_in};
-ghost use Rattle.cam_objects.specs.Soundness.{IsSound};
+ghost use Rattle.cam_objects.specs.Soundness.{HasSoundItems};
 ghost use Rattle.cam_objects.specs.declared.item.Item.{Item};
 
 use crate::boxes::extent::Extent;
@@ -25,17 +25,17 @@ impl<'a> Model for ItemBoxes<'a> {
     ghost Value = { Layer };
 
     ghost use Rattle.cam_objects.specs.Machinery.Extents.{IsExtentIn};
-    ghost use Rattle.cam_objects.specs.Soundness.{IsSound};
+    ghost use Rattle.cam_objects.specs.Soundness.{HasSoundItems};
 
     ghost view = { λ r. r.layer.now };
 
-    ghost invariant = { λ r. IsSound r.layer.now × IsExtentIn r.layer.now.apertures r.last };
+    ghost invariant = { λ r. HasSoundItems r.layer.now × IsExtentIn r.layer.now.apertures r.last };
 }
 
 impl Layer {
     /// Reads the boxes of the items of a sound layer.
     pub fn boxes(&self) -> ItemBoxes<'_>
-        requires { IsSound self.now }
+        requires { HasSoundItems self.now }
         ensures { result ≡ self.now }
     {
         ItemBoxes {

@@ -7,7 +7,7 @@ ghost use Rattle.cam_objects.specs.Leaves.{block_leaves, item_leaves, meaning_in
 ghost use Rattle.cam_objects.specs.Machinery.Boxes.{IsBoxedRepeat, IsNearBox};
 ghost use Rattle.cam_objects.specs.Machinery.Painting.{StandsOnBoard};
 ghost use Rattle.cam_objects.specs.Shifting.{IsMove, shifted_item};
-ghost use Rattle.cam_objects.specs.Soundness.{AreOnBoard, IsSound, IsSoundDictionary, IsSoundItem, MeetsItem};
+ghost use Rattle.cam_objects.specs.Soundness.{AreOnBoard, HasSoundItems, IsSoundDictionary, IsSoundItem, MeetsItem};
 ghost use Rattle.cam_objects.specs.declared.item.Item.{Item};
 ghost use Rattle.cam_objects.specs.declared.item_fault.ItemFault.TheVariants.{OutOfBoard};
 
@@ -67,8 +67,9 @@ pub(crate) fn is_repeat_missed(
 
 impl Layer {
     /// The least box that holds the boxes of all that a sound item paints: of a flash its aperture's, of a stroke its
-    /// ends' and, where it is an arc, the whole circle's, widened by half the width, of a region its points' and its
-    /// arcs' circles'. Takes no memory, and goes through no block.
+    /// ends' and, where it is an arc, the whole circle's, widened by half the width, of a rectangle's stroke the
+    /// rectangles' at both ends, of a region its points' and its arcs' circles'. Takes no memory, and goes through no
+    /// block.
     pub fn bounds_of(&self, item: &Item) -> Bounds
         requires { IsSoundItem self.now.apertures item.now }
         ensures { result ≡ bounds_of (item_leaves (meaning_in self.now.apertures) item.now) }
@@ -97,7 +98,7 @@ impl Layer {
 
     /// The box of the item at a place of the list, counted from 0.
     pub fn item_bounds(&self, place: usize) -> Bounds
-        requires sound { IsSound self.now }
+        requires sound { HasSoundItems self.now }
         requires within { place < length self.now.items.items }
         ensures { (item : Item) → slice_get self.now.items.items place ≡ Some item
             → result ≡ bounds_of (item_leaves (meaning_in self.now.apertures) item) }

@@ -2,20 +2,22 @@
 
 ghost use Rattle.std.specs.Prelude.{◌≡◌, ◌≤◌, ◌<◌, ◌-ℤ◌, ◌*ℤ◌, All, pos};
 ghost use Rattle.std.specs.Int.RustNames.{unsigned_abs};
-ghost use Rattle.cam_units.specs.Board.{IsOnBoard, board_limit};
+ghost use Rattle.cam_units.specs.Board.{IsOnBoard, IsSize, board_limit};
 ghost use Rattle.cam_units.specs.Boxes.{join_of};
 ghost use Rattle.cam_shapes.specs.Arc.{IsSoundArc};
 ghost use Rattle.cam_shapes.specs.Bar.{IsSoundCapsule};
 ghost use Rattle.cam_shapes.specs.Disc.{IsSoundDisc};
 ghost use Rattle.cam_shapes.specs.Plane.{dot, place_of, way};
-ghost use Rattle.cam_apertures.specs.Primitives.{box_of_point};
+ghost use Rattle.cam_shapes.specs.Swept.{IsSoundSwept};
+ghost use Rattle.cam_apertures.specs.Primitives.{box_about, box_of_point};
 ghost use Rattle.cam_objects.specs.Bounds.{box_of_contour, box_of_shape, circle_square, widened};
-ghost use Rattle.cam_objects.specs.Leaves.{Drilled, Stroke, Sweep};
-ghost use Rattle.cam_objects.specs.Machinery.Boxes.{IsBoxReach, IsNearBox, IsNearSpot, above, below};
+ghost use Rattle.cam_objects.specs.Leaves.{Drilled, Stroke, Sweep, Swept as SweptLeaf, drawn};
+ghost use Rattle.cam_objects.specs.Machinery.Boxes.{IsBoxReach, IsNearBox, IsNearSpot, IsSizedTip, above, below};
 ghost use Rattle.cam_objects.specs.Machinery.Tracing.{followed};
 ghost use Rattle.cam_objects.specs.Soundness.{points_of_contour, points_of_seg};
 
-use cam_shapes::{Arc, Capsule, Contour, Disc, Seg};
+use crate::tip::Tip;
+use cam_shapes::{Arc, Capsule, Contour, Disc, Seg, Swept};
 use cam_units::{Bounds, Nm, Point, Spot, isqrt};
 
 /// The place of a point.
@@ -41,27 +43,43 @@ pub(crate) fn point_bounds(point: &Point) -> Bounds
     }
 }
 
-/// A place, moved so far to the left and down.
-fn below(spot: &Spot, by: &Nm) -> Spot
+/// A place, moved so far to the left and so far down.
+fn below(spot: &Spot, across: &Nm, up: &Nm) -> Spot
     requires spot { IsNearSpot spot.now }
-    requires by { IsBoxReach by.now }
-    ensures { result ≡ below spot.now by.now.0 }
+    requires across { IsBoxReach across.now }
+    requires up { IsBoxReach up.now }
+    ensures { result ≡ below spot.now across.now.0 up.now.0 }
 {
     Spot {
-        x: spot.x - by.0,
-        y: spot.y - by.0,
+        x: spot.x - across.0,
+        y: spot.y - up.0,
     }
 }
 
-/// A place, moved so far to the right and up.
-fn above(spot: &Spot, by: &Nm) -> Spot
+/// A place, moved so far to the right and so far up.
+fn above(spot: &Spot, across: &Nm, up: &Nm) -> Spot
     requires spot { IsNearSpot spot.now }
-    requires by { IsBoxReach by.now }
-    ensures { result ≡ above spot.now by.now.0 }
+    requires across { IsBoxReach across.now }
+    requires up { IsBoxReach up.now }
+    ensures { result ≡ above spot.now across.now.0 up.now.0 }
 {
     Spot {
-        x: spot.x + by.0,
-        y: spot.y + by.0,
+        x: spot.x + across.0,
+        y: spot.y + up.0,
+    }
+}
+
+/// The box of a rectangle about a point.
+fn rectangle_bounds(centre: &Point, width: &Nm, height: &Nm) -> Bounds
+    requires centre { IsOnBoard centre.now }
+    requires width { IsSize width.now.0 }
+    requires height { IsSize height.now.0 }
+    ensures { result ≡ box_about (place_of centre.now) width.now.0 height.now.0 }
+{
+    let place = place(centre);
+    Bounds::Closed {
+        low: below(&place, width, height),
+        high: above(&place, width, height),
     }
 }
 
@@ -74,8 +92,8 @@ pub(crate) fn widened(bounds: &Bounds, by: &Nm) -> Bounds
     match bounds {
         Bounds::Empty => Bounds::Empty,
         Bounds::Closed { low, high } => Bounds::Closed {
-            low: below(low, by),
-            high: above(high, by),
+            low: below(low, by, by),
+            high: above(high, by, by),
         },
     }
 }
@@ -130,12 +148,43 @@ fn ends(from: &Point, to: &Point) -> Bounds
     }
 }
 
-/// The box of a stroke along a line.
+/// The box of a stroke of a round tool along a line.
 pub(crate) fn stroke_bounds(stroke: &Capsule) -> Bounds
     requires { IsSoundCapsule stroke.now }
     ensures { result ≡ box_of_shape (Stroke stroke.now) }
 {
     widened(&ends(&stroke.from, &stroke.to), &stroke.width)
+}
+
+/// The box of a stroke of a rectangle along a line: the rectangles at both ends.
+pub(crate) fn swept_bounds(swept: &Swept) -> Bounds
+    requires { IsSoundSwept swept.now }
+    ensures { result ≡ box_of_shape (SweptLeaf swept.now) }
+{
+    rectangle_bounds(&swept.from, &swept.width, &swept.height).joined(rectangle_bounds(
+        &swept.to,
+        &swept.width,
+        &swept.height,
+    ))
+}
+
+/// The box of a straight stroke of a tip.
+pub(crate) fn drawn_bounds(from: &Point, to: &Point, tip: &Tip) -> Bounds
+    requires from { IsOnBoard from.now }
+    requires to { IsOnBoard to.now }
+    requires tip { IsSizedTip tip.now }
+    ensures { result ≡ box_of_shape (drawn tip.now from.now to.now) }
+{
+    let (from, to) = (*from, *to);
+    match *tip {
+        Tip::Round(width) => stroke_bounds(&Capsule { from, to, width }),
+        Tip::Rectangular { width, height } => swept_bounds(&Swept {
+            from,
+            to,
+            width,
+            height,
+        }),
+    }
 }
 
 /// The box of a stroke along an arc: both its ends, and the circle that it is a part of.

@@ -1,13 +1,12 @@
 //! What objects have to be, for a layer to take them.
 
-ghost use Rattle.std.specs.Prelude.{◌≡◌, ◌↔◌, All, IsSome, IsTrue};
+ghost use Rattle.std.specs.Prelude.{◌≡◌, ◌↔◌, All, IsTrue};
 ghost use Rattle.cam_objects.specs.Leaves.{meaning_in};
-ghost use Rattle.cam_objects.specs.Machinery.Facts.{IsSolid};
 ghost use Rattle.cam_objects.specs.Soundness.{HasNumber, HasRadius, HaveRadii, IsDrawable, IsFormed, IsKnown};
 
 use crate::dictionary::Dictionary;
-use crate::entry::Entry;
 use crate::object::Object;
+use crate::tip::{Tip, round_width};
 use cam_shapes::Seg;
 use cam_units::Point;
 
@@ -55,7 +54,7 @@ pub(crate) fn has_number(entries: &Dictionary, number: u32) -> bool
     }
 }
 
-/// Whether each draw and each arc is a stroke of a solid circle.
+/// Whether each draw is a stroke of a solid circle or of a solid rectangle, and each arc one of a solid circle.
 pub(crate) fn are_drawable(entries: &Dictionary, objects: &[Object]) -> bool
     ensures { IsTrue result ↔ All (IsDrawable (meaning_in entries.now)) objects.now }
 {
@@ -66,28 +65,19 @@ fn is_drawable(entries: &Dictionary, object: &Object) -> bool
     ensures { IsTrue result ↔ IsDrawable (meaning_in entries.now) object.now }
 {
     match object {
-        Object::Draw { aperture, .. } | Object::Arc { aperture, .. } => {
-            is_solid_circle(entries, *aperture)
-        }
+        Object::Draw { aperture, .. } => tip(entries, *aperture).is_some(),
+        Object::Arc { aperture, .. } => round_width(tip(entries, *aperture)).is_some(),
         _ => true,
     }
 }
 
-fn is_solid_circle(entries: &Dictionary, number: u32) -> bool
-    ensures { IsTrue result ↔ IsSome (meaning_in entries.now number).width }
+/// What the strokes of a number are drawn with.
+fn tip(entries: &Dictionary, number: u32) -> Option<Tip>
+    ensures { result ≡ (meaning_in entries.now number).tip }
 {
     match entries.find(number) {
-        Some((_, entry)) => is_solid(entry),
-        None => false,
-    }
-}
-
-fn is_solid(entry: &Entry) -> bool
-    ensures { IsTrue result ↔ IsSolid entry.now }
-{
-    match entry {
-        Entry::Aperture(aperture) => aperture.is_solid_circle(),
-        Entry::Block(_) => false,
+        Some((_, entry)) => entry.tip(),
+        None => None,
     }
 }
 

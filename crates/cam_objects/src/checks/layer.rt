@@ -2,7 +2,7 @@
 
 ghost use Rattle.std.specs.Prelude.{◌++◌, ◌∷◌, ◌<◌, ◌↔◌, [], IsTrue, length, slice_set};
 ghost use Rattle.cam_objects.specs.Refusals.{Tells};
-ghost use Rattle.cam_objects.specs.Soundness.{IsSound, IsSoundBlock, IsSoundEntry, KeepsLimits, MayAddEntry, MeetsItem};
+ghost use Rattle.cam_objects.specs.Soundness.{HasSoundItems, IsSoundBlock, IsSoundEntry, KeepsLimits, MayAddEntry, MeetsItem};
 ghost use Rattle.cam_objects.specs.declared.item.Item.TheVariants.{One, Repeat};
 
 use crate::checks::demands::{are_drawable, are_formed, are_known, has_number, have_radii};
@@ -43,7 +43,7 @@ impl Layer {
     /// Whether the layer keeps its limits with the item in place of the one that stands at a place, counted from 0.
     /// Goes through all items only where the item has more leaves than that one.
     pub fn has_room_at(&self, place: usize, item: &Item) -> bool
-        requires sound { IsSound self.now }
+        requires sound { HasSoundItems self.now }
         requires within { place < length self.now.items.items }
         ensures { IsTrue result ↔ KeepsLimits self.now.apertures (slice_set self.now.items.items place item.now) }
     {

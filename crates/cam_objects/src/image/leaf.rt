@@ -1,36 +1,29 @@
 //! The ink of one leaf.
 
-ghost use Rattle.std.specs.Prelude.{◌≡◌, ◌∷◌, [], None, Some, if◌then◌else◌};
+ghost use Rattle.std.specs.Prelude.{◌≡◌, ◌↔◌, ◌∷◌, [], IsTrue, None, Some, if◌then◌else◌};
 ghost use Rattle.cam_units.specs.Board.{IsInReach, IsOnBoard, IsPlace, IsSize};
 ghost use Rattle.cam_shapes.specs.Placing.{IsPlaceable, IsPlaceablePoint, placed_contour, placed_direction};
 ghost use Rattle.cam_shapes.specs.Shifting.{IsShiftable};
 ghost use Rattle.cam_apertures.specs.Soundness.{IsSoundAperture};
-ghost use Rattle.cam_objects.specs.Image.{Inks, relative as relative_to};
+ghost use Rattle.cam_objects.specs.Image.{Covers, Inks, relative as relative_to};
 ghost use Rattle.cam_objects.specs.Leaves.{
   Filled,
   Stamp,
   arc_leaves,
   draw_leaves,
+  drawn,
   leaf,
   placed,
   polarity_in,
-  solid_diameter as solid_diameter_of,
 };
+ghost use Rattle.cam_objects.specs.Machinery.Boxes.{IsSizedTip};
+ghost use Rattle.cam_objects.specs.Turning.{after};
 
 use crate::placing::place::Place;
+use crate::tip::Tip;
 use cam_apertures::Aperture;
-use cam_shapes::{Arc, Capsule, Contour, in_arc, in_capsule, in_contour};
-use cam_units::{Nm, Point, Spot};
-
-/// The diameter of a solid circle, in nm.
-pub(crate) fn solid_diameter(aperture: &Aperture) -> Option<Nm>
-    ensures { result ≡ solid_diameter_of aperture.now }
-{
-    match aperture {
-        Aperture::Circle { diameter, hole } if hole.0 == 0 => Some(*diameter),
-        _ => None,
-    }
-}
+use cam_shapes::{Arc, Capsule, Contour, Swept, in_arc, in_capsule, in_contour, in_swept};
+use cam_units::{Point, Spot, Turn};
 
 /// A place as it is seen from a point, in half nm.
 fn relative(point: Point, spot: Spot) -> Spot
@@ -63,29 +56,48 @@ pub(crate) fn stamp_ink(aperture: &Aperture, place: &Place, spot: Spot) -> Optio
     ink_where(covered, place.dark)
 }
 
-/// The polarity of a stroke along a line, where it covers the place.
+/// Whether the straight stroke of a tip covers the place.
+fn is_drawn(from: Point, to: Point, tip: Tip, spot: Spot) -> bool
+    requires from { IsOnBoard from }
+    requires to { IsOnBoard to }
+    requires tip { IsSizedTip tip }
+    requires spot { IsPlace spot }
+    ensures { IsTrue result ↔ Covers (drawn tip from to) spot }
+{
+    match tip {
+        Tip::Round(width) => in_capsule(spot, Capsule { from, to, width }),
+        Tip::Rectangular { width, height } => in_swept(
+            spot,
+            Swept {
+                from,
+                to,
+                width,
+                height,
+            },
+        ),
+    }
+}
+
+/// The polarity of a straight stroke of a tip that is turned with its draw, where it covers the place.
 pub(crate) fn stroke_ink(
     place: &Place,
     from: Point,
     to: Point,
-    width: Nm,
+    turn: Turn,
+    tip: Tip,
     dark: bool,
     spot: Spot,
 ) -> Option<bool>
     requires offset { IsShiftable place.now.offset }
     requires from { IsPlaceablePoint place.now.turn place.now.offset from }
     requires to { IsPlaceablePoint place.now.turn place.now.offset to }
-    requires width { IsSize width.0 }
+    requires tip { IsSizedTip tip }
     requires spot { IsPlace spot }
-    ensures { Inks (draw_leaves (Some width) (placed place.now from) (placed place.now to)
+    ensures { Inks (draw_leaves (Some tip) (after turn place.now.turn) (placed place.now from) (placed place.now to)
         (polarity_in place.now.dark dark)) spot result }
 {
-    let capsule = Capsule {
-        from: place.point(from),
-        to: place.point(to),
-        width,
-    };
-    let covered = in_capsule(spot, capsule);
+    let tip = tip.turned(place.turned(turn));
+    let covered = is_drawn(place.point(from), place.point(to), tip, spot);
     ink_where(covered, place.polarity(dark))
 }
 

@@ -3,7 +3,6 @@
 
 ghost use Rattle.std.specs.Prelude.{◌≡◌, ◌+◌, ◌*ℤ◌, ◌^◌, ◌<◌, ◌≤◌, ◌∷◌, [], pos, All, IfSome, length};
 ghost use Rattle.std.specs.Int.RustNames.{unsigned_abs};
-ghost use Rattle.cam_units.specs.Board.{IsSize};
 ghost use Rattle.cam_objects.specs.Image.{Inks};
 ghost use Rattle.cam_objects.specs.Leaves.{
   block_leaves,
@@ -16,6 +15,7 @@ ghost use Rattle.cam_objects.specs.Leaves.{
   shifted,
 };
 ghost use Rattle.cam_objects.specs.Soundness.{IsSoundDictionary};
+ghost use Rattle.cam_objects.specs.Machinery.Boxes.{IsSizedTip};
 ghost use Rattle.cam_objects.specs.Machinery.Painting.{
   IsCopied,
   IsPaintable,
@@ -34,9 +34,10 @@ use crate::item::Item;
 use crate::object::Object;
 use crate::placing::copies::Copies;
 use crate::placing::place::Place;
+use crate::tip::{Tip, round_width};
 use cam_apertures::has_place;
 use cam_shapes::Arc;
-use cam_units::{Nm, Point, Spot};
+use cam_units::{Point, Spot};
 
 /// The polarity of the last leaf of a flash that covers the place.
 #[cycle(ink)]
@@ -120,10 +121,10 @@ fn object_ink(
             aperture,
             from,
             to,
+            turn,
             dark,
-            ..
-        } => match width(entries, upto, *aperture) {
-            Some(width) => stroke_ink(place, *from, *to, width, *dark, spot),
+        } => match tip(entries, upto, *aperture) {
+            Some(tip) => stroke_ink(place, *from, *to, *turn, tip, *dark, spot),
             None => None,
         },
         Object::Arc {
@@ -133,7 +134,7 @@ fn object_ink(
             centre,
             ccw,
             dark,
-        } => match width(entries, upto, *aperture) {
+        } => match round_width(tip(entries, upto, *aperture)) {
             Some(width) => {
                 let stroke = Arc {
                     from: *from,
@@ -150,12 +151,12 @@ fn object_ink(
     }
 }
 
-/// How wide the strokes of a number are, in nm.
-pub(crate) fn width(entries: &Dictionary, upto: usize, number: u32) -> Option<Nm>
+/// What the strokes of a number are drawn with.
+pub(crate) fn tip(entries: &Dictionary, upto: usize, number: u32) -> Option<Tip>
     requires within { upto ≤ length entries.now }
     requires sound { IsSoundDictionary entries.now }
-    ensures value { result ≡ (meaning_before upto entries.now number).width }
-    ensures size { IfSome result (λ w. IsSize w.0) }
+    ensures value { result ≡ (meaning_before upto entries.now number).tip }
+    ensures size { IfSome result IsSizedTip }
 {
     let (at, entry) = match entries.find(number) {
         Some(found) => found,
@@ -164,7 +165,7 @@ pub(crate) fn width(entries: &Dictionary, upto: usize, number: u32) -> Option<Nm
     if upto <= at {
         return None;
     }
-    entry.width()
+    entry.tip()
 }
 
 /// The polarity of the last leaf of a copy of objects, moved by so many nm, that covers the place.

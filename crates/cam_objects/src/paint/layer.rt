@@ -21,7 +21,7 @@ ghost use Rattle.cam_objects.specs.Machinery.Painting.{
   StandsOnBoard,
 };
 ghost use Rattle.cam_objects.specs.Machinery.Runs.{IsInRun, IsWithinCount};
-ghost use Rattle.cam_objects.specs.Soundness.{IsSound};
+ghost use Rattle.cam_objects.specs.Soundness.{HasSoundItems};
 ghost use Rattle.cam_objects.specs.declared.item.Item.{Item};
 
 use crate::boxes::items::block_bounds;
@@ -137,7 +137,7 @@ fn paint_items<C: Canvas>(entries: &Dictionary, items: &[Item], canvas: &mut C)
 impl Layer {
     /// Paints a sound layer on a canvas: its leaves in order. What has its box outside of the canvas is passed over.
     pub fn paint<C: Canvas>(&self, canvas: &mut C)
-        requires { IsSound self.now }
+        requires { HasSoundItems self.now }
         ensures { Paints C.has C.place C.ink canvas.old (content_leaves (content_of self.now)) canvas.new }
     {
         paint_items(&self.apertures, &self.items, canvas);
@@ -145,7 +145,7 @@ impl Layer {
 
     /// Paints the item at a place of the list, counted from 0.
     pub fn paint_item<C: Canvas>(&self, place: usize, canvas: &mut C)
-        requires sound { IsSound self.now }
+        requires sound { HasSoundItems self.now }
         requires within { place < length self.now.items.items }
         ensures { (item : Item) → slice_get self.now.items.items place ≡ Some item
             → Paints C.has C.place C.ink canvas.old (item_leaves (meaning_in self.now.apertures) item) canvas.new }

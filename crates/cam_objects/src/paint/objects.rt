@@ -8,10 +8,11 @@ ghost use Rattle.cam_objects.specs.Machinery.Painting.{IsPrintable, StandsOnBoar
 use crate::canvas::{Canvas, Figure, Print, misses};
 use crate::dictionary::Dictionary;
 use crate::entry::Entry;
-use crate::image::search::width;
+use crate::image::search::tip;
 use crate::object::Object;
 use crate::paint::prints::{paint_region, paint_stroke, paint_sweep};
 use crate::placing::place::Place;
+use crate::tip::round_width;
 use cam_shapes::Arc;
 
 /// Paints what a flash of the number paints at a place, if its box meets the canvas.
@@ -100,11 +101,11 @@ pub(crate) fn paint_object<C: Canvas>(
             aperture,
             from,
             to,
+            turn,
             dark,
-            ..
         } => {
-            if let Some(width) = width(entries, upto, *aperture) {
-                paint_stroke(place, *from, *to, width, *dark, canvas);
+            if let Some(tip) = tip(entries, upto, *aperture) {
+                paint_stroke(place, *from, *to, *turn, tip, *dark, canvas);
             }
         }
         Object::Arc {
@@ -115,7 +116,7 @@ pub(crate) fn paint_object<C: Canvas>(
             ccw,
             dark,
         } => {
-            if let Some(width) = width(entries, upto, *aperture) {
+            if let Some(width) = round_width(tip(entries, upto, *aperture)) {
                 let stroke = Arc {
                     from: *from,
                     to: *to,

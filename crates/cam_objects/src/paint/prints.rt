@@ -1,18 +1,21 @@
 //! Single leaves, painted on a canvas where their boxes meet it.
 
-ghost use Rattle.std.specs.Prelude.{◌∷◌, [], Some, true};
-ghost use Rattle.cam_units.specs.Board.{IsSize};
+ghost use Rattle.std.specs.Prelude.{◌≡◌, ◌∷◌, [], Some, true};
+ghost use Rattle.cam_units.specs.Board.{IsOnBoard, IsSize};
 ghost use Rattle.cam_shapes.specs.Disc.{IsSoundDisc};
 ghost use Rattle.cam_shapes.specs.Placing.{IsPlaceable, IsPlaceablePoint, placed_contour, placed_direction};
 ghost use Rattle.cam_shapes.specs.Shifting.{IsShiftable};
-ghost use Rattle.cam_objects.specs.Canvases.{IsSoundPrint, Paints, leaf_of};
-ghost use Rattle.cam_objects.specs.Leaves.{Drilled, Filled, arc_leaves, draw_leaves, leaf, placed, polarity_in};
+ghost use Rattle.cam_objects.specs.Canvases.{IsSoundFigure, IsSoundPrint, Paints, leaf_of, shape_of};
+ghost use Rattle.cam_objects.specs.Leaves.{Drilled, Filled, arc_leaves, draw_leaves, drawn, leaf, placed, polarity_in};
+ghost use Rattle.cam_objects.specs.Machinery.Boxes.{IsSizedTip};
+ghost use Rattle.cam_objects.specs.Turning.{after};
 
-use crate::boxes::shapes::{contour_bounds, hole_bounds, stroke_bounds, sweep_bounds};
+use crate::boxes::shapes::{contour_bounds, drawn_bounds, hole_bounds, sweep_bounds};
 use crate::canvas::{Canvas, Figure, Print, misses};
 use crate::placing::place::Place;
-use cam_shapes::{Arc, Capsule, Contour, Disc};
-use cam_units::{Nm, Point};
+use crate::tip::Tip;
+use cam_shapes::{Arc, Capsule, Contour, Disc, Swept};
+use cam_units::{Point, Turn};
 
 /// Paints a leaf, if its box meets the canvas.
 pub(crate) fn paint_leaf<C: Canvas>(print: Print<'_>, canvas: &mut C)
@@ -25,32 +28,50 @@ pub(crate) fn paint_leaf<C: Canvas>(print: Print<'_>, canvas: &mut C)
     canvas.paint(print);
 }
 
-/// Paints a stroke along a line.
+/// The straight stroke of a tip.
+fn drawn<'a>(from: Point, to: Point, tip: Tip) -> Figure<'a>
+    requires from { IsOnBoard from }
+    requires to { IsOnBoard to }
+    requires tip { IsSizedTip tip }
+    ensures shape { shape_of result ≡ drawn tip from to }
+    ensures sound { IsSoundFigure result }
+{
+    match tip {
+        Tip::Round(width) => Figure::Stroke(Capsule { from, to, width }),
+        Tip::Rectangular { width, height } => Figure::Swept(Swept {
+            from,
+            to,
+            width,
+            height,
+        }),
+    }
+}
+
+/// Paints a straight stroke of a tip that is turned with its draw.
 pub(crate) fn paint_stroke<C: Canvas>(
     place: &Place,
     from: Point,
     to: Point,
-    width: Nm,
+    turn: Turn,
+    tip: Tip,
     dark: bool,
     canvas: &mut C,
 )
     requires offset { IsShiftable place.now.offset }
     requires from { IsPlaceablePoint place.now.turn place.now.offset from }
     requires to { IsPlaceablePoint place.now.turn place.now.offset to }
-    requires width { IsSize width.0 }
+    requires tip { IsSizedTip tip }
     ensures { Paints C.has C.place C.ink canvas.old
-        (draw_leaves (Some width) (placed place.now from) (placed place.now to) (polarity_in place.now.dark dark))
-        canvas.new }
+        (draw_leaves (Some tip) (after turn place.now.turn) (placed place.now from) (placed place.now to)
+        (polarity_in place.now.dark dark)) canvas.new }
 {
-    let capsule = Capsule {
-        from: place.point(from),
-        to: place.point(to),
-        width,
-    };
+    let from = place.point(from);
+    let to = place.point(to);
+    let tip = tip.turned(place.turned(turn));
     let print = Print {
-        figure: Figure::Stroke(capsule),
+        figure: drawn(from, to, tip),
         dark: place.polarity(dark),
-        bounds: stroke_bounds(&capsule),
+        bounds: drawn_bounds(&from, &to, &tip),
     };
     paint_leaf(print, canvas);
 }

@@ -69,7 +69,7 @@ impl Place {
     }
 
     /// One turn after another.
-    fn turned(self, turn: Turn) -> Turn
+    pub(crate) fn turned(self, turn: Turn) -> Turn
         ensures { result ≡ after turn self.turn }
     {
         turn.then(self.turn)

@@ -5,7 +5,7 @@ use Rattle.cam_objects.specs.declared.entry.Entry.{Entry}
 use Rattle.cam_objects.specs.declared.entry.Entry.TheVariants.{Aperture, Block}
 use Rattle.cam_objects.specs.declared.placing.place.Place.{Place}
 use Rattle.cam_objects.specs.Image.{Inks, IsUncovered}
-use Rattle.cam_objects.specs.Leaves.{Leaf, Meaning, block_leaves, object_leaves}
+use Rattle.cam_objects.specs.Leaves.{Leaf, Meaning, block_leaves, object_leaves, round_width}
 use Rattle.cam_objects.specs.Machinery.Painting.{HasReach, IsPaintable, StandsOnBoard, flash_leaves, meaning_before}
 use Rattle.cam_objects.specs.Soundness.{AreOnBoard}
 use Rattle.cam_objects.proofs.Inking.{decided_ink, no_ink, uncovered_nil, undecided}
@@ -152,7 +152,7 @@ object_ink-stroke_ink-requires-clause-offset t c = reach_offset (c.args.upto + 1
 pub object_ink-stroke_ink-requires-clause-from : goal.object_ink-stroke_ink-requires-clause-from
 object_ink-stroke_ink-requires-clause-from t c =
     let means = meaning_before c.args.upto c.args.entries.now in
-    (drawn_points means c.args.place.now c.in-Draw.aperture c.in-Draw.from c.in-Draw.to c.in-Draw.turn c.in-Draw.dark c.in-Some.width
+    (drawn_points means c.args.place.now c.in-Draw.aperture c.in-Draw.from c.in-Draw.to c.in-Draw.turn c.in-Draw.dark c.in-Some.tip
     c.in-Some.ensures.value
     (subst StandsOnBoard c.in-Draw.is c.requires.object)
     (subst (λ (o : Object). AreOnBoard (object_leaves means c.args.place.now o)) c.in-Draw.is c.requires.ready.board)).0
@@ -160,7 +160,7 @@ object_ink-stroke_ink-requires-clause-from t c =
 pub object_ink-stroke_ink-requires-clause-to : goal.object_ink-stroke_ink-requires-clause-to
 object_ink-stroke_ink-requires-clause-to t c =
     let means = meaning_before c.args.upto c.args.entries.now in
-    (drawn_points means c.args.place.now c.in-Draw.aperture c.in-Draw.from c.in-Draw.to c.in-Draw.turn c.in-Draw.dark c.in-Some.width
+    (drawn_points means c.args.place.now c.in-Draw.aperture c.in-Draw.from c.in-Draw.to c.in-Draw.turn c.in-Draw.dark c.in-Some.tip
     c.in-Some.ensures.value
     (subst StandsOnBoard c.in-Draw.is c.requires.object)
     (subst (λ (o : Object). AreOnBoard (object_leaves means c.args.place.now o)) c.in-Draw.is c.requires.ready.board)).1
@@ -172,7 +172,8 @@ pub object_ink-sweep_ink-requires-clause-from : goal.object_ink-sweep_ink-requir
 object_ink-sweep_ink-requires-clause-from t c =
     let means = meaning_before c.args.upto c.args.entries.now in
     (swept_points means c.args.place.now c.in-Arc.aperture c.in-Arc.from c.in-Arc.to c.in-Arc.centre c.in-Arc.ccw c.in-Arc.dark
-    c.in-Some-width.width c.in-Some-width.ensures.value
+    c.in-Some-round_width.width
+    (c.in-Some-round_width.ensures ∙ ap (λ o. round_width o) c.tip-in-Arc.ensures.value)
     (subst StandsOnBoard c.in-Arc.is c.requires.object)
     (subst (λ (o : Object). AreOnBoard (object_leaves means c.args.place.now o)) c.in-Arc.is c.requires.ready.board)).0
 
@@ -180,7 +181,8 @@ pub object_ink-sweep_ink-requires-clause-to : goal.object_ink-sweep_ink-requires
 object_ink-sweep_ink-requires-clause-to t c =
     let means = meaning_before c.args.upto c.args.entries.now in
     (swept_points means c.args.place.now c.in-Arc.aperture c.in-Arc.from c.in-Arc.to c.in-Arc.centre c.in-Arc.ccw c.in-Arc.dark
-    c.in-Some-width.width c.in-Some-width.ensures.value
+    c.in-Some-round_width.width
+    (c.in-Some-round_width.ensures ∙ ap (λ o. round_width o) c.tip-in-Arc.ensures.value)
     (subst StandsOnBoard c.in-Arc.is c.requires.object)
     (subst (λ (o : Object). AreOnBoard (object_leaves means c.args.place.now o)) c.in-Arc.is c.requires.ready.board)).1
 
@@ -188,7 +190,8 @@ pub object_ink-sweep_ink-requires-clause-centre : goal.object_ink-sweep_ink-requ
 object_ink-sweep_ink-requires-clause-centre t c =
     let means = meaning_before c.args.upto c.args.entries.now in
     (swept_points means c.args.place.now c.in-Arc.aperture c.in-Arc.from c.in-Arc.to c.in-Arc.centre c.in-Arc.ccw c.in-Arc.dark
-    c.in-Some-width.width c.in-Some-width.ensures.value
+    c.in-Some-round_width.width
+    (c.in-Some-round_width.ensures ∙ ap (λ o. round_width o) c.tip-in-Arc.ensures.value)
     (subst StandsOnBoard c.in-Arc.is c.requires.object)
     (subst (λ (o : Object). AreOnBoard (object_leaves means c.args.place.now o)) c.in-Arc.is c.requires.ready.board)).2
 

@@ -6,7 +6,7 @@ use Rattle.cam_objects.specs.declared.entry.Entry.TheVariants.{Aperture, Block}
 use Rattle.cam_objects.specs.declared.placing.place.Place.{Place}
 use Rattle.cam_objects.specs.Bounds.{bounds_of}
 use Rattle.cam_objects.specs.Canvases.{Paints}
-use Rattle.cam_objects.specs.Leaves.{Leaf, Meaning, block_leaves, object_leaves}
+use Rattle.cam_objects.specs.Leaves.{Leaf, Meaning, block_leaves, object_leaves, round_width}
 use Rattle.cam_objects.specs.Machinery.Painting.{HasReach, IsPrintable, StandsOnBoard, flash_leaves, meaning_before, middle}
 use Rattle.cam_objects.specs.Soundness.{AreOnBoard}
 use Rattle.cam_objects.proofs.Canvases.{paints_missed, paints_next, paints_nothing, sound_print}
@@ -200,7 +200,7 @@ paint_object-paint_stroke-requires-clause-offset g t c = reach_offset (c.args.up
 pub paint_object-paint_stroke-requires-clause-from : goal.paint_object-paint_stroke-requires-clause-from
 paint_object-paint_stroke-requires-clause-from g t c =
     let means = meaning_before c.args.upto c.args.entries.now in
-    (drawn_points means c.args.place.now c.in-Draw.aperture c.in-Draw.from c.in-Draw.to c.in-Draw.turn c.in-Draw.dark c.in-Some.width
+    (drawn_points means c.args.place.now c.in-Draw.aperture c.in-Draw.from c.in-Draw.to c.in-Draw.turn c.in-Draw.dark c.in-Some.tip
     c.in-Some.ensures.value
     (subst StandsOnBoard c.in-Draw.is c.requires.object)
     (subst (λ (o : Object). AreOnBoard (object_leaves means c.args.place.now o)) c.in-Draw.is c.requires.ready.board)).0
@@ -208,7 +208,7 @@ paint_object-paint_stroke-requires-clause-from g t c =
 pub paint_object-paint_stroke-requires-clause-to : goal.paint_object-paint_stroke-requires-clause-to
 paint_object-paint_stroke-requires-clause-to g t c =
     let means = meaning_before c.args.upto c.args.entries.now in
-    (drawn_points means c.args.place.now c.in-Draw.aperture c.in-Draw.from c.in-Draw.to c.in-Draw.turn c.in-Draw.dark c.in-Some.width
+    (drawn_points means c.args.place.now c.in-Draw.aperture c.in-Draw.from c.in-Draw.to c.in-Draw.turn c.in-Draw.dark c.in-Some.tip
     c.in-Some.ensures.value
     (subst StandsOnBoard c.in-Draw.is c.requires.object)
     (subst (λ (o : Object). AreOnBoard (object_leaves means c.args.place.now o)) c.in-Draw.is c.requires.ready.board)).1
@@ -220,7 +220,8 @@ pub paint_object-paint_sweep-requires-clause-from : goal.paint_object-paint_swee
 paint_object-paint_sweep-requires-clause-from g t c =
     let means = meaning_before c.args.upto c.args.entries.now in
     (swept_points means c.args.place.now c.in-Arc.aperture c.in-Arc.from c.in-Arc.to c.in-Arc.centre c.in-Arc.ccw c.in-Arc.dark
-    c.in-Some-width.width c.in-Some-width.ensures.value
+    c.in-Some-round_width.width
+    (c.in-Some-round_width.ensures ∙ ap (λ o. round_width o) c.tip-in-Arc.ensures.value)
     (subst StandsOnBoard c.in-Arc.is c.requires.object)
     (subst (λ (o : Object). AreOnBoard (object_leaves means c.args.place.now o)) c.in-Arc.is c.requires.ready.board)).0
 
@@ -228,7 +229,8 @@ pub paint_object-paint_sweep-requires-clause-to : goal.paint_object-paint_sweep-
 paint_object-paint_sweep-requires-clause-to g t c =
     let means = meaning_before c.args.upto c.args.entries.now in
     (swept_points means c.args.place.now c.in-Arc.aperture c.in-Arc.from c.in-Arc.to c.in-Arc.centre c.in-Arc.ccw c.in-Arc.dark
-    c.in-Some-width.width c.in-Some-width.ensures.value
+    c.in-Some-round_width.width
+    (c.in-Some-round_width.ensures ∙ ap (λ o. round_width o) c.tip-in-Arc.ensures.value)
     (subst StandsOnBoard c.in-Arc.is c.requires.object)
     (subst (λ (o : Object). AreOnBoard (object_leaves means c.args.place.now o)) c.in-Arc.is c.requires.ready.board)).1
 
@@ -236,7 +238,8 @@ pub paint_object-paint_sweep-requires-clause-centre : goal.paint_object-paint_sw
 paint_object-paint_sweep-requires-clause-centre g t c =
     let means = meaning_before c.args.upto c.args.entries.now in
     (swept_points means c.args.place.now c.in-Arc.aperture c.in-Arc.from c.in-Arc.to c.in-Arc.centre c.in-Arc.ccw c.in-Arc.dark
-    c.in-Some-width.width c.in-Some-width.ensures.value
+    c.in-Some-round_width.width
+    (c.in-Some-round_width.ensures ∙ ap (λ o. round_width o) c.tip-in-Arc.ensures.value)
     (subst StandsOnBoard c.in-Arc.is c.requires.object)
     (subst (λ (o : Object). AreOnBoard (object_leaves means c.args.place.now o)) c.in-Arc.is c.requires.ready.board)).2
 
