@@ -6,8 +6,8 @@ use Rattle.cam_xnc.specs.declared.modes.Part.{Part}
 use Rattle.cam_xnc.specs.declared.modes.Part.TheVariants.{Start, Header, Body}
 use Rattle.cam_xnc.specs.declared.statement.Statement.{Statement}
 use Rattle.cam_xnc.specs.declared.statement.Statement.TheVariants.{BeginHeader, SetUnit, Declare, Neutral, EndHeader}
-use Rattle.cam_xnc.specs.declared.statement.Statement.TheVariants.{Select, DrillMode, HitAt, RoutTo, Lower, CutTo}
-use Rattle.cam_xnc.specs.declared.statement.Statement.TheVariants.{Raise, CutArc, End, Unknown}
+use Rattle.cam_xnc.specs.declared.statement.Statement.TheVariants.{Select, DrillMode, HitAt, Slot, RoutTo, Lower}
+use Rattle.cam_xnc.specs.declared.statement.Statement.TheVariants.{CutTo, Raise, CutArc, End, Unknown}
 use Rattle.cam_xnc.specs.DrillState.{Past, part_in}
 use Rattle.cam_xnc.specs.Faults.{Table, lower_of, least, faults_by, start_of_file_faults, header_faults, body_faults, end_faults}
 use Rattle.cam_xnc.specs.Lines.{FoundLine}
@@ -55,6 +55,7 @@ starts_ascend EndHeader = (lit≤ tt, refl, tt)
 starts_ascend (Select number) = (lit≤ tt, refl, tt)
 starts_ascend DrillMode = (lit≤ tt, refl, tt)
 starts_ascend (HitAt x y) = (lit≤ tt, refl, tt)
+starts_ascend (Slot start_x start_y end_x end_y) = (lit≤ tt, refl, tt)
 starts_ascend (RoutTo x y) = (lit≤ tt, refl, tt)
 starts_ascend Lower = (lit≤ tt, refl, tt)
 starts_ascend (CutTo x y) = (lit≤ tt, refl, tt)
@@ -72,6 +73,7 @@ headers_ascend past EndHeader = (lit≤ tt, refl, tt)
 headers_ascend past (Select number) = (lit≤ tt, refl, tt)
 headers_ascend past DrillMode = (lit≤ tt, refl, tt)
 headers_ascend past (HitAt x y) = (lit≤ tt, refl, tt)
+headers_ascend past (Slot start_x start_y end_x end_y) = (lit≤ tt, refl, tt)
 headers_ascend past (RoutTo x y) = (lit≤ tt, refl, tt)
 headers_ascend past Lower = (lit≤ tt, refl, tt)
 headers_ascend past (CutTo x y) = (lit≤ tt, refl, tt)
@@ -89,6 +91,8 @@ bodies_ascend past EndHeader = (lit≤ tt, refl, tt)
 bodies_ascend past (Select number) = (lit≤ tt, refl, (lit≤ tt, refl, (lit≤ tt, refl, tt)))
 bodies_ascend past DrillMode = (lit≤ tt, refl, tt)
 bodies_ascend past (HitAt x y) = (lit≤ tt, refl, (lit≤ tt, refl, (lit≤ tt, refl, (lit≤ tt, refl, (lit≤ tt, refl, (lit≤ tt, refl, tt))))))
+bodies_ascend past (Slot start_x start_y end_x end_y) =
+    (lit≤ tt, refl, (lit≤ tt, refl, (lit≤ tt, refl, (lit≤ tt, refl, (lit≤ tt, refl, (lit≤ tt, refl, tt))))))
 bodies_ascend past (RoutTo x y) = (lit≤ tt, refl, (lit≤ tt, refl, (lit≤ tt, refl, (lit≤ tt, refl, tt))))
 bodies_ascend past Lower = (lit≤ tt, refl, (lit≤ tt, refl, tt))
 bodies_ascend past (CutTo x y) = (lit≤ tt, refl, (lit≤ tt, refl, (lit≤ tt, refl, (lit≤ tt, refl, (lit≤ tt, refl, tt)))))

@@ -8,3 +8,4 @@ pub mod LeastFaults
 pub mod ToolNumbers
 pub mod SoundLayers
 pub mod SoundReadings
+pub mod Slots

@@ -20,9 +20,10 @@ use Rattle.cam_objects.specs.Drilling.{diameter_of}
 use Rattle.cam_objects.specs.DrillSoundness.{IsSoundTool, IsSoundDrillItem, drill_count_of, tool_of}
 use Rattle.cam_objects.proofs.SoundDrilling.{distinct_more}
 use Rattle.cam_xnc.specs.declared.statement.Coordinate.{Coordinate}
-use Rattle.cam_xnc.specs.declared.statement.Statement.TheVariants.{Declare, Select, DrillMode, HitAt, RoutTo, Lower, CutTo, Raise}
+use Rattle.cam_xnc.specs.declared.statement.Statement.TheVariants.{Declare, Select, DrillMode, HitAt, Slot, RoutTo}
+use Rattle.cam_xnc.specs.declared.statement.Statement.TheVariants.{Lower, CutTo, Raise}
 use Rattle.cam_xnc.specs.DrillState.{Past, unit_in, mode_in, tool_in, point_in, length_nm, tools_in, points_in, hit_of}
-use Rattle.cam_xnc.specs.DrillState.{rout_of, items_in, leaves_in}
+use Rattle.cam_xnc.specs.DrillState.{slot_start, slot_of, rout_of, items_in, leaves_in}
 use Rattle.cam_xnc.specs.Faults.{Table, header_faults, body_faults, is_diameter, is_on_board, is_drilling, is_lowered, is_too_much}
 use Rattle.cam_xnc.specs.Machinery.Tracking.{first_of}
 use Rattle.cam_xnc.proofs.ToolNumbers.{IsToolNumber}
@@ -244,6 +245,46 @@ hit_step past x y s h =
     sound_hit tools n p known on OutOfBoard = All-cons IsOnBoard p [] on (All-nil IsOnBoard)
     sound_hit tools n p known on TooMuch = lit≤ tt
 
+sound_rout : (tools : List (ℕ × Nm)) (n : ℕ) (ps : List Point) → is_some (diameter_of tools n) ≡ true → 0 < length ps
+    → All IsOnBoard ps → length ps ≤ 1000000 → IsSoundDrillItem tools (Rout n ps)
+sound_rout tools n ps known some on few NoPoints = some
+sound_rout tools n ps known some on few UnknownAperture = tt
+sound_rout tools n ps known some on few UnknownTool = known
+sound_rout tools n ps known some on few WrongAperture = tt
+sound_rout tools n ps known some on few ZeroRadius = tt
+sound_rout tools n ps known some on few OutOfBoard = on
+sound_rout tools n ps known some on few TooMuch = few
+
+both_on_board : (p q : Point) → not (is_on_board p && is_on_board q) ≡ false → IsOnBoard p × IsOnBoard q
+both_on_board p q h =
+    let on = both (is_on_board p) (is_on_board q) (told (is_on_board p && is_on_board q) h) in
+    (on_board p (rw on.0 refl), on_board q (rw on.1 refl))
+
+pub slot_step : (past : Past) (start_x start_y end_x end_y : Coordinate) → IsSoundPast past
+    → first_of (body_faults past (Slot start_x start_y end_x end_y)) ≡ None → IsSoundPast (Slot start_x start_y end_x end_y ∷ past)
+slot_step past start_x start_y end_x end_y s h =
+    let pass = passes (body_faults past (Slot start_x start_y end_x end_y)) h in
+    let drilling = told (is_drilling (mode_in past)) pass.1.1.1.1.1.0 in
+    let start = slot_start past start_x start_y in
+    let end = point_in (Slot start_x start_y end_x end_y ∷ past) in
+    let on = both_on_board start end pass.1.0 in
+    let room = has_room past 1 (under (is_drilling (mode_in past)) (is_too_much past 1) pass.1.1.0 drilling) in
+    let known = known_number (tools_in past) (tool_in past) s.tool pass.1.1.1.0 in
+    record {
+      tools = s.tools;
+      distinct = s.distinct;
+      items = one_more (IsSoundDrillItem (tools_in past)) (items_in past) (slot_of past start end) s.items
+          (sound_rout (tools_in past) (unwrap_or (tool_in past) 0) (start ∷ end ∷ []) known (omega arith)
+          (All-cons IsOnBoard start (end ∷ []) on.0 (All-cons IsOnBoard end [] on.1 (All-nil IsOnBoard))) (lit≤ tt));
+      few = few_more past (slot_of past start end) room;
+      leaves = leaves_more past (slot_of past start end) room;
+      at = on.1;
+      points = s.points;
+      room = s.room;
+      lowered = s.lowered;
+      tool = s.tool;
+    }
+
 pub rout_step : (past : Past) (x y : Coordinate) → IsSoundPast past → first_of (body_faults past (RoutTo x y)) ≡ None
     → IsSoundPast (RoutTo x y ∷ past)
 rout_step past x y s h =
@@ -323,13 +364,3 @@ raise_step past s h =
       lowered = λ low. absurd (let wrong : false ≡ true = low in cc);
       tool = s.tool;
     }
-  where
-    sound_rout : (tools : List (ℕ × Nm)) (n : ℕ) (ps : List Point) → is_some (diameter_of tools n) ≡ true → 0 < length ps
-        → All IsOnBoard ps → length ps ≤ 1000000 → IsSoundDrillItem tools (Rout n ps)
-    sound_rout tools n ps known some on few NoPoints = some
-    sound_rout tools n ps known some on few UnknownAperture = tt
-    sound_rout tools n ps known some on few UnknownTool = known
-    sound_rout tools n ps known some on few WrongAperture = tt
-    sound_rout tools n ps known some on few ZeroRadius = tt
-    sound_rout tools n ps known some on few OutOfBoard = on
-    sound_rout tools n ps known some on few TooMuch = few

@@ -11,8 +11,8 @@ use Rattle.cam_xnc.specs.declared.modes.Part.TheVariants.{Start, Header, Body}
 use Rattle.cam_xnc.specs.declared.read_fault.ReadFault.{ReadFault}
 use Rattle.cam_xnc.specs.declared.statement.Statement.{Statement}
 use Rattle.cam_xnc.specs.declared.statement.Statement.TheVariants.{BeginHeader, SetUnit, Declare, Neutral, EndHeader}
-use Rattle.cam_xnc.specs.declared.statement.Statement.TheVariants.{Select, DrillMode, HitAt, RoutTo, Lower, CutTo}
-use Rattle.cam_xnc.specs.declared.statement.Statement.TheVariants.{Raise, CutArc, End, Unknown}
+use Rattle.cam_xnc.specs.declared.statement.Statement.TheVariants.{Select, DrillMode, HitAt, Slot, RoutTo, Lower}
+use Rattle.cam_xnc.specs.declared.statement.Statement.TheVariants.{CutTo, Raise, CutArc, End, Unknown}
 use Rattle.cam_xnc.specs.Bytes.{is_bad, code_of, packed}
 use Rattle.cam_xnc.specs.Lines.{FoundLine, lines_of}
 use Rattle.cam_xnc.specs.DrillState.{Past, part_in, layer_in}
@@ -23,8 +23,8 @@ use Rattle.cam_xnc.specs.Machinery.Tracking.{first_of}
 use Rattle.cam_xnc.proofs.FaultTables.{least_is_first, line_faults_ascend}
 use Rattle.cam_xnc.proofs.Readings.{goes_on, unless_fault, reading_goes_on}
 use Rattle.cam_xnc.proofs.ToolNumbers.{HasToolNumber, has_tool_number}
-use Rattle.cam_xnc.proofs.SoundLayers.{IsSoundPast, declare_step, select_step, drill_mode_step, hit_step, rout_step}
-use Rattle.cam_xnc.proofs.SoundLayers.{lower_step, cut_step, raise_step}
+use Rattle.cam_xnc.proofs.SoundLayers.{IsSoundPast, declare_step, select_step, drill_mode_step, hit_step, slot_step}
+use Rattle.cam_xnc.proofs.SoundLayers.{rout_step, lower_step, cut_step, raise_step}
 use Rattle.cam_objects.specs.Contents.{DrillContent}
 
 -- a table of one test that holds
@@ -53,6 +53,7 @@ step Start past EndHeader s n h = absurd (told_one h)
 step Start past (Select number) s n h = absurd (told_one h)
 step Start past DrillMode s n h = absurd (told_one h)
 step Start past (HitAt x y) s n h = absurd (told_one h)
+step Start past (Slot start_x start_y end_x end_y) s n h = absurd (told_one h)
 step Start past (RoutTo x y) s n h = absurd (told_one h)
 step Start past Lower s n h = absurd (told_one h)
 step Start past (CutTo x y) s n h = absurd (told_one h)
@@ -104,6 +105,7 @@ step Header past EndHeader s n h =
 step Header past (Select number) s n h = absurd (told_one h)
 step Header past DrillMode s n h = absurd (told_one h)
 step Header past (HitAt x y) s n h = absurd (told_one h)
+step Header past (Slot start_x start_y end_x end_y) s n h = absurd (told_one h)
 step Header past (RoutTo x y) s n h = absurd (told_one h)
 step Header past Lower s n h = absurd (told_one h)
 step Header past (CutTo x y) s n h = absurd (told_one h)
@@ -131,6 +133,7 @@ step Body past EndHeader s n h = absurd (told_one h)
 step Body past (Select number) s n h = select_step past number s h
 step Body past DrillMode s n h = drill_mode_step past s
 step Body past (HitAt x y) s n h = hit_step past x y s h
+step Body past (Slot start_x start_y end_x end_y) s n h = slot_step past start_x start_y end_x end_y s h
 step Body past (RoutTo x y) s n h = rout_step past x y s h
 step Body past Lower s n h = lower_step past s h
 step Body past (CutTo x y) s n h = cut_step past x y s h

@@ -7,12 +7,12 @@ use Rattle.std.proofs.lemmas.Bool.{ltb-false}
 use Rattle.std.proofs.lemmas.Bool.Decides.{eqb_tells}
 use Rattle.cam_xnc.specs.declared.statement.Coordinate.{Coordinate}
 use Rattle.cam_xnc.specs.declared.statement.Statement.{Statement}
-use Rattle.cam_xnc.specs.declared.statement.Statement.TheVariants.{Declare, Neutral, DrillMode, HitAt, RoutTo, Lower}
+use Rattle.cam_xnc.specs.declared.statement.Statement.TheVariants.{Declare, Neutral, DrillMode, RoutTo, Lower}
 use Rattle.cam_xnc.specs.declared.statement.Statement.TheVariants.{CutTo, Raise, CutArc, End, Unknown}
 use Rattle.cam_numbers.specs.Numbers.{run_of, behind_run, natural, decimal}
 use Rattle.cam_xnc.specs.Numbers.{declared_tool}
-use Rattle.cam_xnc.specs.Syntax.{with_coordinates, coordinates_of, tool_by, tool_statement, header_words, body_words}
-use Rattle.cam_xnc.specs.Syntax.{word_in, word_or, rout_statement, other_statement, statement_of}
+use Rattle.cam_xnc.specs.Syntax.{with_coordinates, coordinates_of, slot_between, slot_statement, hit_or, tool_by}
+use Rattle.cam_xnc.specs.Syntax.{tool_statement, header_words, body_words, word_in, word_or, rout_statement, other_statement, statement_of}
 
 abbrev pub IsToolNumber : ℕ → Type 0
 IsToolNumber n = (1 ≤ n) × (n ≤ 9999)
@@ -39,8 +39,18 @@ placed : (says : Coordinate → Coordinate → Statement) (o : Option (Coordinat
 placed says None h = unknown
 placed says (Some c) h = h c.0 c.1
 
-hits : (x y : Coordinate) → IsNumbered (HitAt x y)
-hits x y = record { number = tt }
+hit_or_other : (o : Option (Coordinate × Coordinate)) (other : Statement) → IsNumbered other → IsNumbered (hit_or o other)
+hit_or_other None other h = h
+hit_or_other (Some c) other h = record { number = tt }
+
+between : (start end : Option (Coordinate × Coordinate)) → IsNumbered (slot_between start end)
+between None end = unknown
+between (Some start) None = unknown
+between (Some start) (Some end) = record { number = tt }
+
+slots : (text : List ℕ) → IsNumbered (slot_statement text)
+unfolding slot_statement
+slots text = either _ _ Unknown (between _ _) unknown
 
 starts : (x y : Coordinate) → IsNumbered (RoutTo x y)
 starts x y = record { number = tt }
@@ -106,7 +116,7 @@ says_numbered : (text : List ℕ) → IsNumbered (statement_of text)
 unfolding statement_of
 says_numbered [] = unknown
 says_numbered (first ∷ text) =
-    either (eqb first 88 || eqb first 89) _ _ (placed HitAt (coordinates_of (first ∷ text)) hits)
+    either (eqb first 88 || eqb first 89) _ _ (hit_or_other (coordinates_of (first ∷ text)) _ (slots (first ∷ text)))
     (either (eqb first 84) _ _ (tool_lines text) (others (first ∷ text)))
 
 pub has_tool_number : (text : List ℕ) → HasToolNumber (statement_of text)

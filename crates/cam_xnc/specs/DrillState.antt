@@ -15,7 +15,7 @@ use Rattle.cam_xnc.specs.declared.statement.Coordinate.{Coordinate}
 use Rattle.cam_xnc.specs.declared.statement.Coordinate.TheVariants.{Omitted, Malformed, Pointless, Written}
 use Rattle.cam_xnc.specs.declared.statement.Statement.{Statement}
 use Rattle.cam_xnc.specs.declared.statement.Statement.TheVariants.{BeginHeader, SetUnit, Declare, EndHeader, Select}
-use Rattle.cam_xnc.specs.declared.statement.Statement.TheVariants.{DrillMode, HitAt, RoutTo, Lower, CutTo, Raise}
+use Rattle.cam_xnc.specs.declared.statement.Statement.TheVariants.{DrillMode, HitAt, Slot, RoutTo, Lower, CutTo, Raise}
 use Rattle.cam_xnc.specs.declared.modes.Part.{Part}
 use Rattle.cam_xnc.specs.declared.modes.Part.TheVariants.{Start, Header, Body}
 use Rattle.cam_xnc.specs.declared.modes.Mode.{Mode}
@@ -76,12 +76,14 @@ value_told (Written n) = Some n
 
 abbrev pub x_told : Statement → Option ℤ
 x_told (HitAt x y) = value_told x
+x_told (Slot start_x start_y end_x end_y) = option_or (value_told end_x) (value_told start_x)
 x_told (RoutTo x y) = value_told x
 x_told (CutTo x y) = value_told x
 x_told _ = None
 
 abbrev pub y_told : Statement → Option ℤ
 y_told (HitAt x y) = value_told y
+y_told (Slot start_x start_y end_x end_y) = option_or (value_told end_y) (value_told start_y)
 y_told (RoutTo x y) = value_told y
 y_told (CutTo x y) = value_told y
 y_told _ = None
@@ -99,7 +101,7 @@ abbrev pub newest_nm : (Statement → Option ℤ) → Past → ℤ
 newest_nm tells [] = pos 0
 newest_nm tells (says ∷ older) = unwrap_or (option_map (length_nm (unit_in older)) (tells says)) (newest_nm tells older)
 
--- the last point
+-- the last point; of a slot its end, which keeps from its start what it leaves out
 abbrev pub point_in : Past → Point
 point_in past = record { x = newest_nm x_told past; y = newest_nm y_told past }
 
@@ -124,6 +126,14 @@ points_in (_ ∷ older) = points_in older
 abbrev pub hit_of : Past → Point → DrillItem
 hit_of past at = Hit (unwrap_or (tool_in past) 0) at
 
+-- the start of a slot, where its first half alone would be a hit
+abbrev pub slot_start : Past → Coordinate → Coordinate → Point
+slot_start past x y = point_in (HitAt x y ∷ past)
+
+-- a slot, which is a rout of two points
+abbrev pub slot_of : Past → Point → Point → DrillItem
+slot_of past start end = Rout (unwrap_or (tool_in past) 0) (start ∷ end ∷ [])
+
 -- the open rout, whose tool stays the same while it is lowered
 abbrev pub rout_of : Past → DrillItem
 rout_of past = Rout (unwrap_or (tool_in past) 0) (points_in past)
@@ -132,6 +142,8 @@ rout_of past = Rout (unwrap_or (tool_in past) 0) (points_in past)
 abbrev pub items_in : Past → List DrillItem
 items_in [] = []
 items_in (HitAt x y ∷ older) = items_in older ++ hit_of older (point_in (HitAt x y ∷ older)) ∷ []
+items_in (Slot start_x start_y end_x end_y ∷ older) = items_in older
+    ++ slot_of older (slot_start older start_x start_y) (point_in (Slot start_x start_y end_x end_y ∷ older)) ∷ []
 items_in (Raise ∷ older) = items_in older ++ rout_of older ∷ []
 items_in (_ ∷ older) = items_in older
 

@@ -14,10 +14,10 @@ use Rattle.cam_xnc.specs.declared.statement.Coordinate.{Coordinate}
 use Rattle.cam_xnc.specs.declared.statement.Coordinate.TheVariants.{Omitted, Malformed, Pointless, Written}
 use Rattle.cam_xnc.specs.declared.statement.Statement.{Statement}
 use Rattle.cam_xnc.specs.declared.statement.Statement.TheVariants.{BeginHeader, SetUnit, Declare, Neutral, EndHeader}
-use Rattle.cam_xnc.specs.declared.statement.Statement.TheVariants.{Select, DrillMode, HitAt, RoutTo, Lower, CutTo}
-use Rattle.cam_xnc.specs.declared.statement.Statement.TheVariants.{Raise, CutArc, End}
+use Rattle.cam_xnc.specs.declared.statement.Statement.TheVariants.{Select, DrillMode, HitAt, Slot, RoutTo, Lower}
+use Rattle.cam_xnc.specs.declared.statement.Statement.TheVariants.{CutTo, Raise, CutArc, End}
 use Rattle.cam_xnc.specs.DrillState.{Past, part_in, unit_in, mode_in, tool_in, point_in, tool_of, tools_in, points_in}
-use Rattle.cam_xnc.specs.DrillState.{hit_of, rout_of, items_in, leaves_in}
+use Rattle.cam_xnc.specs.DrillState.{hit_of, slot_start, slot_of, rout_of, items_in, leaves_in}
 
 -- the numbers that faults are told by
 
@@ -61,7 +61,7 @@ unknown_tool = 42
 abbrev pub tool_again : ℕ
 tool_again = 43
 
--- a hit or a lowering without a tool
+-- a hit, a slot or a lowering without a tool
 abbrev pub no_tool_selected : ℕ
 no_tool_selected = 44
 
@@ -177,12 +177,22 @@ header_faults past Neutral = []
 header_faults past EndHeader = (no_unit, is_none (unit_in past)) ∷ []
 header_faults past _ = (unknown_line, true) ∷ []
 
--- a hit, or a coordinate in a rout mode, which is none
+-- a hit or a slot, which adds so many holes and slots; in a rout mode it is neither
+abbrev pub drilled_faults : (past : Past) (malformed pointless off : Bool) (more : ℕ) (mode : Mode) → Table
+drilled_faults past malformed pointless off more mode =
+    (bad_number, malformed) ∷ (out_of_board, off) ∷ (too_much, is_drilling mode && is_too_much past more)
+    ∷ (no_tool_selected, is_none (tool_in past)) ∷ (no_point, pointless) ∷ (rout_state, not (is_drilling mode)) ∷ []
+
 abbrev pub hit_faults : Past → Coordinate → Coordinate → Point → Mode → Table
 hit_faults past x y to mode =
-    (bad_number, is_malformed x || is_malformed y) ∷ (out_of_board, not (is_on_board to))
-    ∷ (too_much, is_drilling mode && is_too_much past (drill_count_of (hit_of past to)))
-    ∷ (no_tool_selected, is_none (tool_in past)) ∷ (no_point, is_pointless x || is_pointless y) ∷ (rout_state, not (is_drilling mode)) ∷ []
+    drilled_faults past (is_malformed x || is_malformed y) (is_pointless x || is_pointless y) (not (is_on_board to))
+    (drill_count_of (hit_of past to)) mode
+
+abbrev pub slot_faults : (past : Past) (start_x start_y end_x end_y : Coordinate) (start end : Point) (mode : Mode) → Table
+slot_faults past start_x start_y end_x end_y start end mode =
+    drilled_faults past ((is_malformed start_x || is_malformed start_y) || (is_malformed end_x || is_malformed end_y))
+    ((is_pointless start_x || is_pointless start_y) || (is_pointless end_x || is_pointless end_y))
+    (not (is_on_board start && is_on_board end)) (drill_count_of (slot_of past start end)) mode
 
 -- the way to a rout's start
 abbrev pub start_faults : Coordinate → Coordinate → Point → Mode → Table
@@ -203,6 +213,9 @@ body_faults past (Select number) = (bad_number, is_none number) ∷ (unknown_too
     ∷ (rout_state, is_lowered (mode_in past)) ∷ []
 body_faults past DrillMode = (rout_state, is_lowered (mode_in past)) ∷ []
 body_faults past (HitAt x y) = hit_faults past x y (point_in (HitAt x y ∷ past)) (mode_in past)
+body_faults past (Slot start_x start_y end_x end_y) =
+    slot_faults past start_x start_y end_x end_y (slot_start past start_x start_y) (point_in (Slot start_x start_y end_x end_y ∷ past))
+    (mode_in past)
 body_faults past (RoutTo x y) = start_faults x y (point_in (RoutTo x y ∷ past)) (mode_in past)
 body_faults past Lower = (no_tool_selected, is_none (tool_in past)) ∷ (rout_state, not (is_raised (mode_in past))) ∷ []
 body_faults past (CutTo x y) = cut_faults past x y (point_in (CutTo x y ∷ past)) (mode_in past)

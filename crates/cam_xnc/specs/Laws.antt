@@ -4,6 +4,10 @@ use Rattle.std.specs.List.{list_any}
 use Rattle.cam_objects.specs.declared.drill_layer.DrillLayer.{DrillLayer}
 use Rattle.cam_objects.specs.DrillSoundness.{IsSoundDrillContent}
 use Rattle.cam_xnc.specs.declared.read_fault.ReadFault.{ReadFault}
+use Rattle.cam_xnc.specs.declared.statement.Coordinate.{Coordinate}
+use Rattle.cam_xnc.specs.declared.statement.Statement.TheVariants.{DrillMode, Slot, RoutTo, Lower, CutTo, Raise}
+use Rattle.cam_xnc.specs.declared.modes.Mode.TheVariants.{Drilling}
+use Rattle.cam_xnc.specs.DrillState.{Past, part_in, unit_in, mode_in, tool_in, point_in, layer_in}
 use Rattle.cam_xnc.specs.Lines.{FoundLine}
 use Rattle.cam_xnc.specs.Faults.{Table, end_faults}
 use Rattle.cam_xnc.specs.Reading.{said, place_of, is_end, told_lines, line_faults, reading_of}
@@ -54,3 +58,21 @@ IsNoMemoryFault = (bytes : List ℕ) (f : ReadFault) → reading_of bytes ≡ Er
 abbrev pub GivesSoundLayers : Type 0
 GivesSoundLayers =
     (bytes : List ℕ) (layer : DrillContent) → reading_of bytes ≡ Ok layer → IsSoundDrillContent layer.tools layer.items
+
+-- the past behind a rout that goes to a start, cuts to an end and goes back to drilling
+abbrev pub routed : (past : Past) (start_x start_y end_x end_y : Coordinate) → Past
+routed past start_x start_y end_x end_y = DrillMode ∷ Raise ∷ CutTo end_x end_y ∷ Lower ∷ RoutTo start_x start_y ∷ past
+
+-- two pasts with the same layer and the same values in force, but for an open rout
+pub record AreAlike (one other : Past) : Type 0 where
+  pub part : part_in one ≡ part_in other
+  pub unit : unit_in one ≡ unit_in other
+  pub layer : layer_in one ≡ layer_in other
+  pub point : point_in one ≡ point_in other
+  pub mode : mode_in one ≡ mode_in other
+  pub tool : tool_in one ≡ tool_in other
+
+-- a slot in drill mode leaves what its rout leaves
+abbrev pub SlotsAreRouts : Type 0
+SlotsAreRouts = (past : Past) (start_x start_y end_x end_y : Coordinate) → mode_in past ≡ Drilling
+    → AreAlike (Slot start_x start_y end_x end_y ∷ past) (routed past start_x start_y end_x end_y)

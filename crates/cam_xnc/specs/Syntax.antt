@@ -1,14 +1,15 @@
--- What the lines of an XNC file say. XNC Format Specification, "Header", "Drilling" and "Routing".
+-- What the lines of an XNC file say. XNC Format Specification, "Header", "Drilling" and "Routing". The slot is none of its
+-- lines: programs write it as the Excellon format has it.
 use Rattle.std.specs.Prelude.{ℕ, ℤ, List, [], ◌∷◌, length, take, drop, nat_eq, codes, Option, Some, None, Bool, ◌==◌}
 use Rattle.std.specs.Prelude.{◌||◌, ◌&&◌, not, is_none, if◌then◌else◌}
-use Rattle.std.specs.List.{starts_with, list_any}
+use Rattle.std.specs.List.{starts_with, list_any, position_or_len}
 use Rattle.std.specs.Str.{bytes_eq}
 use Rattle.std.specs.Char.{is_ascii_digit}
 use Rattle.cam_units.specs.declared.length.Unit.TheVariants.{Mm, Inch}
 use Rattle.cam_xnc.specs.declared.statement.Statement.{Statement}
 use Rattle.cam_xnc.specs.declared.statement.Statement.TheVariants.{BeginHeader, SetUnit, Declare, Neutral, EndHeader}
-use Rattle.cam_xnc.specs.declared.statement.Statement.TheVariants.{Select, DrillMode, HitAt, RoutTo, Lower, CutTo}
-use Rattle.cam_xnc.specs.declared.statement.Statement.TheVariants.{Raise, CutArc, End, Unknown}
+use Rattle.cam_xnc.specs.declared.statement.Statement.TheVariants.{Select, DrillMode, HitAt, Slot, RoutTo, Lower}
+use Rattle.cam_xnc.specs.declared.statement.Statement.TheVariants.{CutTo, Raise, CutArc, End, Unknown}
 use Rattle.cam_xnc.specs.declared.statement.Coordinate.{Coordinate}
 use Rattle.cam_xnc.specs.declared.statement.Coordinate.TheVariants.{Omitted, Malformed, Pointless, Written}
 use Rattle.cam_numbers.specs.Numbers.{run_of, behind_run, decimal}
@@ -39,6 +40,28 @@ coordinates_of text =
 abbrev pub with_coordinates : (Coordinate → Coordinate → Statement) → Option (Coordinate × Coordinate) → Statement
 with_coordinates says None = Unknown
 with_coordinates says (Some coordinates) = says coordinates.0 coordinates.1
+
+-- a slot by what stands before `G85` and what behind it
+abbrev pub slot_between : Option (Coordinate × Coordinate) → Option (Coordinate × Coordinate) → Statement
+slot_between None end = Unknown
+slot_between (Some start) None = Unknown
+slot_between (Some start) (Some end) = Slot start.0 start.1 end.0 end.1
+
+abbrev pub is_code_letter : ℕ → Bool
+is_code_letter byte = byte == 71
+
+-- coordinates, `G85` and coordinates again; the code begins at the first letter G (71)
+unfoldable pub slot_statement : List ℕ → Statement
+slot_statement text =
+    let place = position_or_len is_code_letter text in
+    let behind = drop place text in
+    if starts_with nat_eq behind (codes "G85") then slot_between (coordinates_of (take place text)) (coordinates_of (drop 3 behind))
+    else Unknown
+
+-- a line that begins with a coordinate: a hit where nothing follows its coordinates, or else a slot
+abbrev pub hit_or : Option (Coordinate × Coordinate) → Statement → Statement
+hit_or None otherwise = otherwise
+hit_or (Some coordinates) otherwise = HitAt coordinates.0 coordinates.1
 
 -- what stands behind the number of a tool: nothing, or C (67) and the run of its diameter
 unfoldable pub tool_by : List ℕ → List ℕ → Statement
@@ -88,5 +111,5 @@ other_statement text = word_or (word_in body_words text) (word_or (word_in heade
 unfoldable pub statement_of : List ℕ → Statement
 statement_of [] = Unknown
 statement_of (first ∷ text) =
-    if (first == 88) || (first == 89) then with_coordinates HitAt
-    (coordinates_of (first ∷ text)) else if first == 84 then tool_statement text else other_statement (first ∷ text)
+    if (first == 88) || (first == 89) then hit_or (coordinates_of (first ∷ text)) (slot_statement (first ∷ text))
+    else if first == 84 then tool_statement text else other_statement (first ∷ text)

@@ -4,8 +4,8 @@ ghost use Rattle.std.specs.Prelude.{◌≡◌, ◌+◌, ◌≤◌, ◌∷◌, �
 ghost use Rattle.cam_xnc.specs.declared.statement.Statement.TheVariants as statement;
 ghost use Rattle.cam_objects.specs.DrillSoundness.{drill_count_from};
 ghost use Rattle.cam_xnc.specs.DrillState.{Past, mode_in};
-ghost use Rattle.cam_xnc.specs.Faults.{body_faults, cut_faults, hit_faults, is_drilling, is_lowered, is_malformed};
-ghost use Rattle.cam_xnc.specs.Faults.{is_on_board, is_pointless, is_raised, is_too_much};
+ghost use Rattle.cam_xnc.specs.Faults.{body_faults, cut_faults, drilled_faults, is_drilling, is_lowered};
+ghost use Rattle.cam_xnc.specs.Faults.{is_malformed, is_on_board, is_pointless, is_raised, is_too_much, slot_faults};
 ghost use Rattle.cam_xnc.specs.Machinery.Tracking.{Obeys, Tracks, first_of, moved, moved_point};
 
 use crate::faults;
@@ -137,23 +137,23 @@ impl DrillState {
         Ok(())
     }
 
-    /// The fault of a hit.
-    fn hit_fault(&self, x: Coordinate, y: Coordinate, to: Point) -> Option<u8>
+    /// The fault of a hit or a slot, by what is wrong with its coordinates and its points.
+    fn drilled_fault(&self, malformed: bool, pointless: bool, off: bool) -> Option<u8>
         ensures first { (past : Past) → Tracks past self.now
-            → result ≡ first_of (hit_faults past x y to (mode_in past)) }
+            → result ≡ first_of (drilled_faults past malformed pointless off 1 (mode_in past)) }
         ensures room { IfNone result (self.now.leaves.count + 1 ≤ 4000000) }
     {
-        if are_malformed(x, y) {
+        if malformed {
             return Some(faults::BAD_NUMBER);
         }
-        if !is_on_board(to) {
+        if off {
             return Some(faults::OUT_OF_BOARD);
         }
         if !is_drilling(self.mode) {
             if self.tool.is_none() {
                 return Some(faults::NO_TOOL_SELECTED);
             }
-            if are_pointless(x, y) {
+            if pointless {
                 return Some(faults::NO_POINT);
             }
             return Some(faults::ROUT_STATE);
@@ -164,7 +164,7 @@ impl DrillState {
         if self.tool.is_none() {
             return Some(faults::NO_TOOL_SELECTED);
         }
-        if are_pointless(x, y) {
+        if pointless {
             return Some(faults::NO_POINT);
         }
         None
@@ -174,13 +174,62 @@ impl DrillState {
         ensures { Obeys body_faults (statement.HitAt x y) self.old result self.new }
     {
         let at = moved_point(self.unit, x, y, self.at);
-        if let Some(code) = self.hit_fault(x, y, at) {
+        let malformed = are_malformed(x, y);
+        let pointless = are_pointless(x, y);
+        if let Some(code) = self.drilled_fault(malformed, pointless, !is_on_board(at)) {
             return Err(Stop::Fault(code));
         }
         let tool = self.tool.unwrap_or(0);
         self.layer.items.push(DrillItem::Hit { tool, at })?;
         self.leaves.add(1);
         self.at = at;
+        Ok(())
+    }
+
+    /// The fault of a slot.
+    fn slot_fault(
+        &self,
+        start_x: Coordinate,
+        start_y: Coordinate,
+        end_x: Coordinate,
+        end_y: Coordinate,
+        start: Point,
+        end: Point,
+    ) -> Option<u8>
+        ensures first { (past : Past) → Tracks past self.now
+            → result ≡ first_of (slot_faults past start_x start_y end_x end_y start end (mode_in past)) }
+        ensures room { IfNone result (self.now.leaves.count + 1 ≤ 4000000) }
+    {
+        let malformed = are_malformed(start_x, start_y) || are_malformed(end_x, end_y);
+        let pointless = are_pointless(start_x, start_y) || are_pointless(end_x, end_y);
+        let off = !(is_on_board(start) && is_on_board(end));
+        self.drilled_fault(malformed, pointless, off)
+    }
+
+    /// A slot. Its end keeps from its start what it leaves out.
+    #[tactic(auto, using(crate::proofs::Slots::moved_twice))]
+    fn slot(
+        &mut self,
+        start_x: Coordinate,
+        start_y: Coordinate,
+        end_x: Coordinate,
+        end_y: Coordinate,
+    ) -> Result<(), Stop>
+        ensures { Obeys body_faults (statement.Slot start_x start_y end_x end_y) self.old result self.new }
+    {
+        let start = moved_point(self.unit, start_x, start_y, self.at);
+        let end = moved_point(self.unit, end_x, end_y, start);
+        if let Some(code) = self.slot_fault(start_x, start_y, end_x, end_y, start, end) {
+            return Err(Stop::Fault(code));
+        }
+        let tool = self.tool.unwrap_or(0);
+        let mut points = Vec::new(self.alloc);
+        points.push(start)?;
+        points.push(end)?;
+        let points = Points::from_vec(points);
+        self.layer.items.push(DrillItem::Rout { tool, points })?;
+        self.leaves.add(1);
+        self.at = end;
         Ok(())
     }
 
@@ -295,6 +344,12 @@ impl DrillState {
             Statement::Select(number) => self.select(number),
             Statement::DrillMode => self.drill_mode(),
             Statement::HitAt { x, y } => self.hit_at(x, y),
+            Statement::Slot {
+                start_x,
+                start_y,
+                end_x,
+                end_y,
+            } => self.slot(start_x, start_y, end_x, end_y),
             Statement::RoutTo { x, y } => self.rout_to(x, y),
             Statement::Lower => self.lower(),
             Statement::CutTo { x, y } => self.cut_to(x, y),

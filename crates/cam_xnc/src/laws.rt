@@ -1,6 +1,7 @@
 //! Laws of reading. Each function does nothing: its contract is a law of what files mean.
 
-ghost use Rattle.cam_xnc.specs.Laws.{GivesFaultlessFiles, GivesSoundLayers, IsNoMemoryFault, TellsLeastFault};
+ghost use Rattle.cam_xnc.specs.Laws.{GivesFaultlessFiles, GivesSoundLayers, IsNoMemoryFault, SlotsAreRouts};
+ghost use Rattle.cam_xnc.specs.Laws.{TellsLeastFault};
 ghost use Rattle.cam_xnc.specs.Lines.{OneCutting};
 
 /// A text has exactly one cutting into lines, and it is the one that is read.
@@ -27,4 +28,10 @@ pub fn no_fault_of_memory()
 /// Every layer that a file gives is sound.
 pub fn layers_are_sound()
     ensures { GivesSoundLayers }
+{}
+
+/// A slot leaves what the rout leaves that goes to its start, cuts to its end and goes back to
+/// drilling.
+pub fn slots_are_routs()
+    ensures { SlotsAreRouts }
 {}

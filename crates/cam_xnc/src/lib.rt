@@ -12,7 +12,9 @@
 //! G00X3.0        to (3 mm, 2.5 mm), the start of a rout
 //! M15            lowers the tool
 //! G01Y4.0        cuts to (3 mm, 4 mm)
-//! M16            raises it: a slot
+//! M16            raises it
+//! G05            coordinates are hits again
+//! X5.0G85X8.0    a slot, which is a rout of two points: from (5 mm, 4 mm) to (8 mm, 4 mm)
 //! M30            the end
 //! ```
 //!
@@ -40,7 +42,7 @@ mod syntax;
 
 pub use laws::{
     layers_are_sound, layers_come_from_faultless_files, no_fault_of_memory, one_cutting_into_lines,
-    the_least_fault_is_told,
+    slots_are_routs, the_least_fault_is_told,
 };
 pub use read_fault::ReadFault;
 pub use reader::read_xnc;

@@ -41,6 +41,13 @@ pub enum Statement {
         x: Coordinate,
         y: Coordinate,
     },
+    /// `X..Y..G85X..Y..`, as Excellon has it: a slot, straight from its start to its end.
+    Slot {
+        start_x: Coordinate,
+        start_y: Coordinate,
+        end_x: Coordinate,
+        end_y: Coordinate,
+    },
     /// `G00X..Y..`: to the start of a rout.
     RoutTo {
         x: Coordinate,

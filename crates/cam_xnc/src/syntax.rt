@@ -1,11 +1,12 @@
 //! What the lines of a file say.
 
-ghost use Rattle.std.specs.Prelude.{◌≡◌, length, IfOk};
+ghost use Rattle.std.specs.Prelude.{◌≡◌, ◌≤◌, length, IfOk};
+ghost use Rattle.std.specs.List.{position_or_len};
 ghost use Rattle.std.specs.Option.{option_copied};
 ghost use Rattle.cam_xnc.specs.Bytes.{packed};
 ghost use Rattle.cam_xnc.specs.Syntax.{field, coordinate, coordinates_of, tool_by, tool_statement, header_words};
 ghost use Rattle.cam_xnc.specs.Syntax.{body_words, word_in, begins_with_code, rout_statement, other_statement};
-ghost use Rattle.cam_xnc.specs.Syntax.{statement_of};
+ghost use Rattle.cam_xnc.specs.Syntax.{is_code_letter, slot_statement, statement_of};
 
 use crate::bytes::{holds_skipped, pack};
 use crate::numbers::{declared_tool, is_pointed, is_whole, selected_tool};
@@ -77,6 +78,37 @@ fn coordinates(text: &[u8]) -> Option<(Coordinate, Coordinate)>
         return None;
     }
     Some((coordinate(x.run), coordinate(y.run)))
+}
+
+/// How many bytes stand before the first letter G, or the text's length where there is none.
+fn code_place(text: &[u8]) -> usize
+    ensures value { result ≡ position_or_len is_code_letter text.now }
+    ensures within { result ≤ length text.now }
+{
+    text.iter().take_while(|byte| **byte != b'G').count()
+}
+
+/// `X..Y..G85X..Y..`, of each half X or Y perhaps missing.
+#[tactic(auto, unfolding(crate::specs::Syntax::slot_statement))]
+fn slot_statement(text: &[u8]) -> Statement
+    ensures { result ≡ slot_statement text.now }
+{
+    let (start, behind) = text.split_at(code_place(text));
+    if !behind.starts_with(b"G85") {
+        return Statement::Unknown;
+    }
+    let Some((start_x, start_y)) = coordinates(start) else {
+        return Statement::Unknown;
+    };
+    let Some((end_x, end_y)) = coordinates(&behind[3..]) else {
+        return Statement::Unknown;
+    };
+    Statement::Slot {
+        start_x,
+        start_y,
+        end_x,
+        end_y,
+    }
 }
 
 /// What stands behind T: the number of a tool, and in its declaration C and its diameter.
@@ -205,7 +237,7 @@ fn packed_statement(text: &[u8]) -> Statement
         [] => Statement::Unknown,
         [b'X' | b'Y', ..] => match coordinates(text) {
             Some((x, y)) => Statement::HitAt { x, y },
-            None => Statement::Unknown,
+            None => slot_statement(text),
         },
         [b'T', rest @ ..] => tool_statement(rest),
         _ => other_statement(text),
