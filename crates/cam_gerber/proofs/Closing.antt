@@ -149,6 +149,7 @@ settles_none past old after t e closed = go (open_repeat past) refl
       record {
         modal = refl;
         region = refl;
+        attributes = refl;
         alloc = refl;
         blocks = refl;
         repeat = closed;
@@ -180,6 +181,7 @@ settles_empty past old r after t e empty closed =
       record {
         modal = refl;
         region = refl;
+        attributes = refl;
         alloc = refl;
         blocks = refl;
         repeat = closed;
@@ -269,6 +271,7 @@ settles_some past old r after result built t e some closed adds =
     record {
       modal = refl;
       region = refl;
+      attributes = refl;
       alloc = refl;
       blocks = refl;
       repeat = closed;

@@ -10,6 +10,7 @@ use Rattle.cam_macros.specs.Parsing.{parts_of}
 use Rattle.cam_macros.specs.Parsing as parsing
 use Rattle.cam_macros.proofs.Parsed.{parsed_by_the_grammar}
 use Rattle.cam_objects.specs.declared.layer.Layer.{Layer}
+use Rattle.cam_objects.specs.Attributes.{AreAttributes}
 use Rattle.cam_objects.specs.Contents.{Content}
 use Rattle.cam_objects.specs.Soundness.{IsSoundContent}
 use Rattle.cam_commands.specs.Commands.{Command, DefineMacro}
@@ -24,6 +25,7 @@ use Rattle.cam_gerber.proofs.Reading.{means_one_thing}
 use Rattle.cam_gerber.proofs.LeastFaults.{faults_are_numbered}
 use Rattle.cam_gerber.proofs.LeastFaults as least
 use Rattle.cam_gerber.proofs.SoundReadings.{content_is_sound}
+use Rattle.cam_gerber.proofs.SoundReadings as sound
 
 -- ---- the function is the meaning
 
@@ -81,6 +83,9 @@ means bytes result e = subst (Means bytes) e (means_its_reading bytes)
 pub reading_is_sound : (bytes : List ℕ) (layer : Content) → reading_of bytes ≡ Ok layer
     → IsSoundContent layer.entries layer.items
 reading_is_sound bytes layer e = content_is_sound bytes layer (means bytes (Ok layer) e)
+
+pub attributes_are_sound : (bytes : List ℕ) (layer : Content) → reading_of bytes ≡ Ok layer → AreAttributes layer.attributes
+attributes_are_sound bytes layer e = sound.attributes_are_sound bytes layer (means bytes (Ok layer) e)
 
 pub no_fault_is_memory : (bytes : List ℕ) (f : ReadFault) → reading_of bytes ≡ Err f → f.code ≢ 30
 no_fault_is_memory bytes f e = least.no_fault_is_memory bytes f (means bytes (Err f) e)

@@ -116,6 +116,7 @@ segment_tracks past operation old region m seg t inside plots path few seg_is in
         };
         frames = places.frames;
         built = places.built;
+        attributes = t.attributes;
       },
     )
 
@@ -169,6 +170,7 @@ next_tracks past operation old kept to m t inside moves ended e done = record {
   };
   frames = ended.places.frames;
   built = ended.places.built;
+  attributes = ended.attributes ∙ t.attributes;
 }
 
 pub closed_tracks : (past : Past) (old kept : Running) → Tracks past old → Ended (Says EndRegion ∷ past) old kept
@@ -189,6 +191,7 @@ closed_tracks past old kept t ended = record {
   region = record { inside = refl; start = ended.start ∙ t.region.start; segs = ended.segs };
   frames = ended.places.frames;
   built = ended.places.built;
+  attributes = ended.attributes ∙ t.attributes;
 }
 
 pub closed_table : (past : Past) (old : Running) → Tracks past old → old.region.inside ≡ true

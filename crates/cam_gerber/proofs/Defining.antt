@@ -127,6 +127,7 @@ defined_tracks past text old unit n a layer t u d entries items = record {
     macros = t.built.macros;
     leaves = t.built.leaves;
   };
+  attributes = t.attributes;
 }
   where
     made : defined past (packed text) ≡ (n, entry.Aperture a) ∷ []
@@ -254,6 +255,7 @@ macro_tracks past old made macros t e = record {
     macros = e ∙ ap (λ ms. ms ++ made ∷ []) t.built.macros;
     leaves = t.built.leaves;
   };
+  attributes = t.attributes;
 }
 
 pub bad_parts : (text : List ℕ) (fault : MacroFault) → fault ≡ macro.Malformed → IsRefused text fault

@@ -12,6 +12,8 @@ use Rattle.cam_macros.specs.declared.primitive.MacroPrimitive.{MacroPrimitive}
 use Rattle.cam_macros.specs.Expansion.{expansion_of}
 use Rattle.cam_apertures.specs.Definition.{Table, Tells, Definition, definition_of, named, by_macro, macro_faults}
 use Rattle.cam_apertures.specs.Definition.{template_faults, faults_of, values_of}
+use Rattle.cam_commands.specs.declared.names.FreeText.TheVariants.{FileAttribute, ApertureAttribute, ObjectAttribute}
+use Rattle.cam_commands.specs.declared.names.FreeText.TheVariants.{DeleteAttribute, ImageName, LoadName}
 use Rattle.cam_commands.specs.declared.parts.Operation.{Operation}
 use Rattle.cam_commands.specs.declared.parts.OperationCode.{OperationCode}
 use Rattle.cam_commands.specs.declared.parts.OperationCode.TheVariants.{Plot, Move, Flash}
@@ -137,7 +139,12 @@ of_command past (OpenBlock number) = (refl, (refl, (refl, (refl, tt))))
 of_command past CloseBlock = (refl, tt)
 of_command past (SetRepeat repeat) = (refl, (refl, (refl, (refl, (refl, (refl, tt))))))
 of_command past CloseRepeat = (refl, (refl, (refl, tt)))
-of_command past (KeepText name text) = tt
+of_command past (KeepText FileAttribute text) = (refl, tt)
+of_command past (KeepText ApertureAttribute text) = tt
+of_command past (KeepText ObjectAttribute text) = tt
+of_command past (KeepText DeleteAttribute text) = tt
+of_command past (KeepText ImageName text) = tt
+of_command past (KeepText LoadName text) = tt
 of_command past NeutralOld = (refl, tt)
 of_command past (RefusedOld style) = (refl, (refl, tt))
 of_command past (SetMode mode) = tt

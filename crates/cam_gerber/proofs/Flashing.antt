@@ -57,5 +57,6 @@ flash_tracks past operation old kept m n leaves at made_is none t out flashes a 
         region = contour_stays past kept.region operation (subst (TracksRegion past) (sym keeps.region) t.region) out;
         frames = places.frames;
         built = places.built;
+        attributes = keeps.attributes ∙ t.attributes;
       },
     )

@@ -20,7 +20,7 @@ use Rattle.cam_objects.specs.declared.object.Object.{Object}
 use Rattle.cam_objects.specs.declared.object.Object.TheVariants.{Flash, Draw, Arc, Region}
 use Rattle.cam_objects.specs.Leaves.{Meaning, arc_leaves, block_leaves, draw_leaves, entry_meaning, flashed}
 use Rattle.cam_objects.specs.Leaves.{item_leaves, meaning_in, no_meaning, object_leaves, placed, polarity_in, shifted}
-use Rattle.cam_objects.specs.Leaves.{stands_for}
+use Rattle.cam_objects.specs.Leaves.{round_width, stands_for}
 use Rattle.cam_objects.specs.Soundness.{IsSoundDictionary, AreOnBoard, HasNumber, IsDrawable, IsInside, IsKnown}
 use Rattle.cam_objects.specs.Soundness.{IsSoundItem, IsWithinLimits, MayAddEntry, objects_of}
 use Rattle.cam_objects.specs.Weights.{Weight, block_count, entry_weight, item_count, no_weight, object_count, weight_in}
@@ -28,6 +28,7 @@ use Rattle.std.proofs.lemmas.Bool.{cases_lt}
 use Rattle.std.proofs.lemmas.List.{get_or_append_left, length-append, take-append-le}
 use Rattle.std.proofs.Math.Seq.{get_or-append_seam}
 use Rattle.cam_objects.proofs.Dictionaries.{whole}
+use Rattle.cam_objects.specs.Turning.{after}
 
 abbrev Pairs : Type 0
 Pairs = List (ℕ × Entry)
@@ -73,11 +74,11 @@ module _ (es : Pairs) (n : ℕ) (e : Entry) (absent : lookup (nat_eq n) es ≡ N
       → object_leaves (meaning_in grown) (shifted x y) o ≡ object_leaves (meaning_in es) (shifted x y) o
   object_same x y (Flash m at t dark) h = ap (λ (d : Meaning). d.flash (flashed (shifted x y) at t dark)) (means_same m h)
   object_same x y (Draw m from to t dark) h =
-      ap (λ (d : Meaning). draw_leaves d.width (placed (shifted x y) from) (placed (shifted x y) to) (polarity_in true dark))
+      ap (λ (d : Meaning). draw_leaves d.tip (after t R0) (placed (shifted x y) from) (placed (shifted x y) to) (polarity_in true dark))
       (means_same m h)
   object_same x y (Arc m from to centre ccw dark) h =
-      ap (λ (d : Meaning). arc_leaves d.width (placed (shifted x y) from) (placed (shifted x y) to) (placed (shifted x y) centre)
-      (placed_direction R0 ccw) (polarity_in true dark)) (means_same m h)
+      ap (λ (d : Meaning). arc_leaves (round_width d.tip) (placed (shifted x y) from) (placed (shifted x y) to)
+      (placed (shifted x y) centre) (placed_direction R0 ccw) (polarity_in true dark)) (means_same m h)
   object_same x y (Region c dark) h = refl
 
   pub count_same : (o : Object) → IsKnown es o → object_count (weight_in grown) o ≡ object_count (weight_in es) o
@@ -88,8 +89,8 @@ module _ (es : Pairs) (n : ℕ) (e : Entry) (absent : lookup (nat_eq n) es ≡ N
 
   pub drawable_same : (o : Object) → IsKnown es o → IsDrawable (meaning_in es) o → IsDrawable (meaning_in grown) o
   drawable_same (Flash m at t dark) h k = tt
-  drawable_same (Draw m from to t dark) h k = subst (λ (x : Meaning). IsSome x.width) (sym (means_same m h)) k
-  drawable_same (Arc m from to centre ccw dark) h k = subst (λ (x : Meaning). IsSome x.width) (sym (means_same m h)) k
+  drawable_same (Draw m from to t dark) h k = subst (λ (x : Meaning). IsSome x.tip) (sym (means_same m h)) k
+  drawable_same (Arc m from to centre ccw dark) h k = subst (λ (x : Meaning). IsSome (round_width x.tip)) (sym (means_same m h)) k
   drawable_same (Region c dark) h k = tt
 
   pub known_same : (o : Object) → IsKnown es o → IsKnown grown o

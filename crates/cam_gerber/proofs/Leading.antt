@@ -4,6 +4,8 @@ use Rattle.std.specs.Option.{option_map}
 use Rattle.cam_words.specs.Cutting.{FoundWord}
 use Rattle.cam_words.specs.Reading.{Answer, reading}
 use Rattle.cam_words.specs.declared.word.TextFault.{TextFault}
+use Rattle.cam_objects.specs.declared.entry.Entry.{Entry}
+use Rattle.cam_objects.specs.declared.item.Item.{Item}
 use Rattle.cam_objects.specs.declared.layer.Layer.{Layer}
 use Rattle.cam_commands.specs.Commands.{Command, DefineMacro}
 use Rattle.cam_commands.specs.Syntax.{command_of, place_of}
@@ -18,7 +20,7 @@ use Rattle.cam_gerber.specs.Faults.{faults, least}
 use Rattle.cam_gerber.specs.Reading.{Gives, IsReading, Leads, Means, fault_of, is_end, is_end_command}
 use Rattle.cam_gerber.specs.Laws.{IsFaultless}
 use Rattle.cam_gerber.specs.Machinery.OpenNumbers.{AreWithin}
-use Rattle.cam_gerber.specs.Machinery.Tracking.{Obeys, Tracks}
+use Rattle.cam_gerber.specs.Machinery.Tracking.{Obeys, Tracks, content_in}
 use Rattle.cam_gerber.proofs.OpenNumbers.{opens_within}
 use Rattle.cam_gerber.proofs.SoundReadings.{said_within}
 
@@ -91,18 +93,20 @@ end_same command says h = ap is_end h
 none_is : (past : Past) (told : Told) → least (faults past told.says) ≡ None → fault_of past told ≡ None
 none_is past told e = ap (option_map (λ (code : ℕ). record { code = code; at = told.at })) e
 
-content_is : (past : Past) (running : Running) → Tracks past running → content_of running.built.layer ≡ layer_in past
-content_is past running t = ap₂ (λ entries items. record { entries = entries; items = items }) t.built.entries t.built.items
+content_is : (past : Past) (running : Running) → Tracks past running → content_in running ≡ layer_in past
+content_is past running t =
+    ap₂ (λ attributes (lists : List (ℕ × Entry) × List Item). record { attributes = attributes; entries = lists.0; items = lists.1 })
+    t.attributes (ap₂ (λ entries items. (entries, items)) t.built.entries t.built.items)
 
 pub ended : (bytes : List ℕ) (running new : Running) (rest after : List Answer) (word : FoundWord) (layer : Layer)
     → LeadsOn bytes running rest → rest ≡ Ok word ∷ after
-    → Obeys (command_of word) running (Ok tt) new → is_end_command (command_of word) ≡ true → layer ≡ new.built.layer
+    → Obeys (command_of word) running (Ok tt) new → is_end_command (command_of word) ≡ true → content_of layer ≡ content_in new
     → Means bytes (Ok (content_of layer))
 ended bytes running new rest after word layer l e obeys ends is =
     let said = obeys l.past l.none l.tracks in
     let told : Told = record { says = said.0; at = place_of word } in
     let result : Result Content ReadFault = Ok (content_of layer) in
-    let same : content_of layer ≡ layer_in (told.says ∷ l.past) = ap content_of is ∙ content_is (told.says ∷ l.past) new said.3 in
+    let same : content_of layer ≡ layer_in (told.says ∷ l.past) = is ∙ content_is (told.says ∷ l.past) new said.3 in
     means bytes result (l.leads result (subst (λ all. Leads (length bytes) l.past all result) (sym e) (
       told,
       (said.1, refl),

@@ -32,6 +32,9 @@ pub mod Computed
 pub mod SoundJoining
 pub mod Tables
 pub mod Obedience
+pub mod FileAttributes
 pub mod Flashing
 pub mod FlashesInside
 pub mod Leading
+pub mod KeptAttributes
+pub mod AttributeTexts

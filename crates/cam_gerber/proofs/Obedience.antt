@@ -1,14 +1,13 @@
 -- One more command: the first fault that holds is the least, and the record follows.
-use Rattle.std.proofs.Common.{◌≡◌, ℕ, List, Bool, None, Some, refl, sym, subst, ◌∙◌, ◌∷◌, ◌++◌}
+use Rattle.std.proofs.Common.{◌≡◌, ℕ, Bool, None, Some, refl, sym, subst, ◌∙◌, ◌∷◌, ◌++◌}
 use Rattle.cam_apertures.specs.Definition.{Table}
-use Rattle.cam_commands.specs.declared.names.FreeText.{FreeText}
 use Rattle.cam_commands.specs.declared.parts.Operation.{Operation}
 use Rattle.cam_commands.specs.declared.parts.OperationCode.{OperationCode}
 use Rattle.cam_gerber.specs.State.{Past, code_of, in_region}
 use Rattle.cam_gerber.specs.Faults.{command_faults, leading_faults, operated_faults}
 use Rattle.cam_gerber.proofs.Operated.{passed, told_before}
 use Rattle.std.specs.Prelude.{Result, Ok, Err}
-use Rattle.cam_commands.specs.Commands.{Command, DefineAperture, DefineMacro, KeepText, Nothing, Operate}
+use Rattle.cam_commands.specs.Commands.{Command, DefineAperture, DefineMacro, Nothing, Operate}
 use Rattle.cam_gerber.specs.declared.running.Running.{Running}
 use Rattle.cam_gerber.specs.declared.stop.Stop.{Stop}
 use Rattle.cam_gerber.specs.declared.stop.Stop.TheVariants.{Memory, Fault}
@@ -70,23 +69,5 @@ idle past r t = record {
   region = record { inside = t.region.inside; start = t.region.start; segs = t.region.segs };
   frames = record { blocks = t.frames.blocks; repeat = t.frames.repeat };
   built = record { entries = t.built.entries; items = t.built.items; macros = t.built.macros; leaves = t.built.leaves };
-}
-
-pub idle_text : (past : Past) (r : Running) (name : FreeText) (text : List ℕ) → Tracks past r → Tracks (Says (KeepText name text) ∷ past) r
-idle_text past r name text t = record {
-  modal = record {
-    format = t.modal.format;
-    unit = t.modal.unit;
-    dark = t.modal.dark;
-    mirror = t.modal.mirror;
-    rotation = t.modal.rotation;
-    aperture = t.modal.aperture;
-    mode = t.modal.mode;
-    arcs = t.modal.arcs;
-    code = t.modal.code;
-    point = t.modal.point;
-  };
-  region = record { inside = t.region.inside; start = t.region.start; segs = t.region.segs };
-  frames = record { blocks = t.frames.blocks; repeat = t.frames.repeat };
-  built = record { entries = t.built.entries; items = t.built.items; macros = t.built.macros; leaves = t.built.leaves };
+  attributes = t.attributes;
 }

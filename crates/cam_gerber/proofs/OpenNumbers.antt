@@ -1,9 +1,13 @@
--- The number that an opening of a block names is one of an entry's.
-use Rattle.std.proofs.Common.{◌≡◌, ℕ, ◌-◌, ◌≤◌, List, [], ◌∷◌, length, take, Bool, true, false, cond, Option, Some, None, refl, arith}
+-- What every command keeps to: the number that an opening of a block names is one of an entry's, a format has few decimals,
+-- and a text that is kept is that of one extended command.
+use Rattle.std.proofs.Common.{◌≡◌, ℕ, ◌-◌, ◌≤◌, List, [], ◌∷◌, length, take, Bool, true, false, cond, Option, Some, None, refl, sym}
+use Rattle.std.proofs.Common.{ap, ◌∙◌, arith}
 use Rattle.std.proofs.lemmas.Bool.Decides.{nat_tests}
-use Rattle.std.specs.Prelude.{◌&&◌, IfSome, nat_lt, ◌==◌}
+use Rattle.std.specs.Prelude.{◌&&◌, not, IfSome, nat_lt, ◌==◌}
+use Rattle.std.specs.List.{list_any}
 use Rattle.std.specs.Option.{option_and_then}
 use Rattle.cam_words.specs.Cutting.{FoundWord}
+use Rattle.cam_words.specs.Bytes.{is_star}
 use Rattle.cam_words.specs.Heads.{packed, behind_kept}
 use Rattle.cam_words.specs.declared.word.Kind.{Kind}
 use Rattle.cam_words.specs.declared.word.Kind.TheVariants.{Plain, Comment, Extended}
@@ -14,13 +18,14 @@ use Rattle.cam_commands.specs.declared.parts.Mode.{Mode}
 use Rattle.cam_commands.specs.declared.parts.Mirror.{Mirror}
 use Rattle.cam_commands.specs.declared.parts.Polarity.{Polarity}
 use Rattle.cam_commands.specs.declared.parts.OperationCode.{OperationCode}
+use Rattle.cam_commands.specs.declared.names.FreeText.{FreeText}
 use Rattle.cam_commands.specs.declared.names.Name.{Name}
 use Rattle.cam_commands.specs.declared.names.Name.TheVariants.{FormatSpecification, UnitMode, ApertureDefinition}
 use Rattle.cam_commands.specs.declared.names.Name.TheVariants.{ApertureMacro, ApertureBlock, StepAndRepeat}
 use Rattle.cam_commands.specs.declared.names.Name.TheVariants.{LoadPolarity, LoadMirroring, LoadRotation, LoadScaling}
 use Rattle.cam_commands.specs.declared.names.Name.TheVariants.{Free, Old}
 use Rattle.cam_commands.specs.Commands.{Command, SetFormat, RefusedFormat, SetUnit, SetPolarity, SetMirror, SetRotation}
-use Rattle.cam_commands.specs.Commands.{SetScale, CloseBlock, SetRepeat, CloseRepeat, NeutralOld, RefusedOld, SetMode}
+use Rattle.cam_commands.specs.Commands.{KeepText, SetScale, CloseBlock, SetRepeat, CloseRepeat, NeutralOld, RefusedOld, SetMode}
 use Rattle.cam_commands.specs.Commands.{SingleQuadrant, MultiQuadrant, BeginRegion, EndRegion, Nothing, End, Unknown}
 use Rattle.cam_numbers.specs.Numbers.{natural}
 use Rattle.cam_commands.specs.Fields.{field}
@@ -30,238 +35,268 @@ use Rattle.cam_commands.specs.WordCommands.{function, program_code, by_function,
 use Rattle.cam_commands.specs.ExtendedCommands.{name_of, format_by, format_of, format_by_head, format_of_axes}
 use Rattle.cam_commands.specs.ExtendedCommands.{is_format_digit, is_same_format, format_command, unit_command}
 use Rattle.cam_commands.specs.ExtendedCommands.{polarity_command, mirror_command, rotation_command, scale_command}
-use Rattle.cam_commands.specs.ExtendedCommands.{open_block, block_command, repeat_command, named_command, by_name}
+use Rattle.cam_commands.specs.ExtendedCommands.{open_block, block_command, repeat_command, named_command, by_name, may_hold_star}
 use Rattle.cam_commands.specs.ExtendedCommands.{extended_command}
 use Rattle.cam_commands.specs.Syntax.{command_by, command_of}
 use Rattle.cam_gerber.specs.Machinery.OpenNumbers.{OpensWithin}
 use Rattle.cam_gerber.specs.Machinery.Tracking.{HasFewDecimals}
 use Rattle.cam_gerber.proofs.SoundDefinitions.{numbers_within}
 
--- no block is opened, or one of such a number; no format is set, or one of few decimals
-record IsWithin (command : Command) : Type 0 where
-  opens : OpensWithin command
-  short : HasFewDecimals command
+-- of a text that is kept this holds
+abbrev pub Keeps : (FreeText → List ℕ → Type 0) → Command → Type 0
+Keeps Q (KeepText name text) = Q name text
+Keeps Q _ = Unit {0}
 
-either : (b : Bool) (x y : Command) → IsWithin x → IsWithin y → IsWithin (cond b x y)
-either true x y h k = h
-either false x y h k = k
+-- an attribute or a name, of one command alone
+pub record IsNamed (free : FreeText) (text : List ℕ) : Type 0 where
+  pub named : name_of (take 2 (packed text)) ≡ Some (Free free)
+  pub starless : list_any is_star (behind_kept 2 text) ≡ false
 
-coded : (o : Option ℕ) (meaning : ℕ → Command) → ((n : ℕ) → IsWithin (meaning n)) → IsWithin (by_code o meaning)
-coded None meaning h = record { opens = tt; short = tt }
-coded (Some n) meaning h = h n
+module _ (Q : FreeText → List ℕ → Type 0) where
+  -- no block is opened, or one of such a number; no format is set, or one of few decimals; no text is kept, or one of which
+  -- this holds
+  record IsWithin (command : Command) : Type 0 where
+    opens : OpensWithin command
+    short : HasFewDecimals command
+    keeps : Keeps Q command
 
-running : (o : Option (List ℕ)) (meaning : List ℕ → Command) (otherwise : Command) → ((run : List ℕ) → IsWithin (meaning run))
-    → IsWithin otherwise → IsWithin (by_run o meaning otherwise)
-running None meaning otherwise h k = k
-running (Some run) meaning otherwise h k = h run
+  either : (b : Bool) (x y : Command) → IsWithin x → IsWithin y → IsWithin (cond b x y)
+  either true x y h k = h
+  either false x y h k = k
 
-unknown : IsWithin Unknown
-unknown = record { opens = tt; short = tt }
+  coded : (o : Option ℕ) (meaning : ℕ → Command) → ((n : ℕ) → IsWithin (meaning n)) → IsWithin (by_code o meaning)
+  coded None meaning h = record { opens = tt; short = tt; keeps = tt }
+  coded (Some n) meaning h = h n
 
-selects : (code : ℕ) → IsWithin (selection code)
-unfolding selection
-selects code = either (nat_lt code 10) Unknown _ unknown (record { opens = tt; short = tt })
+  running : (o : Option (List ℕ)) (meaning : List ℕ → Command) (otherwise : Command) → ((run : List ℕ) → IsWithin (meaning run))
+      → IsWithin otherwise → IsWithin (by_run o meaning otherwise)
+  running None meaning otherwise h k = k
+  running (Some run) meaning otherwise h k = h run
 
-by_operation : (p : Parts) (code : ℕ) (named : Option OperationCode) → IsWithin (by_operation_code p code named)
-by_operation p code (Some named) = record { opens = tt; short = tt }
-by_operation p code None = either _ Unknown (selection code) unknown (selects code)
+  unknown : IsWithin Unknown
+  unknown = record { opens = tt; short = tt; keeps = tt }
 
-said : (p : Parts) (d : Option (List ℕ)) → IsWithin (said_by p d)
-said p None = either _ (operate p None) Unknown (record { opens = tt; short = tt }) unknown
-said p (Some run) = coded (natural run) _ (λ code. by_operation p code _)
+  selects : (code : ℕ) → IsWithin (selection code)
+  unfolding selection
+  selects code = either (nat_lt code 10) Unknown _ unknown (record { opens = tt; short = tt; keeps = tt })
 
-operates : (p : Parts) → IsWithin (operation_of p)
-unfolding operation_of
-operates p = said p p.d
+  by_operation : (p : Parts) (code : ℕ) (named : Option OperationCode) → IsWithin (by_operation_code p code named)
+  by_operation p code (Some named) = record { opens = tt; short = tt; keeps = tt }
+  by_operation p code None = either _ Unknown (selection code) unknown (selects code)
 
-operation_within : (mode : Option Mode) (text : List ℕ) → IsWithin (operation mode text)
-unfolding operation
-operation_within mode text = either _ (operation_of _) Unknown (operates _) unknown
+  said : (p : Parts) (d : Option (List ℕ)) → IsWithin (said_by p d)
+  said p None = either _ (operate p None) Unknown (record { opens = tt; short = tt; keeps = tt }) unknown
+  said p (Some run) = coded (natural run) _ (λ code. by_operation p code _)
 
-prefixed : (text : List ℕ) → IsWithin (prefixed_selection text)
-unfolding prefixed_selection
-prefixed text = either _ (by_code _ selection) Unknown (coded _ selection selects) unknown
+  operates : (p : Parts) → IsWithin (operation_of p)
+  unfolding operation_of
+  operates p = said p p.d
 
-begins : IsWithin BeginRegion
-begins = record { opens = tt; short = tt }
+  operation_within : (mode : Option Mode) (text : List ℕ) → IsWithin (operation mode text)
+  unfolding operation
+  operation_within mode text = either _ (operation_of _) Unknown (operates _) unknown
 
-ends : IsWithin EndRegion
-ends = record { opens = tt; short = tt }
+  prefixed : (text : List ℕ) → IsWithin (prefixed_selection text)
+  unfolding prefixed_selection
+  prefixed text = either _ (by_code _ selection) Unknown (coded _ selection selects) unknown
 
-sets_unit : (unit : FileUnit) (style : Style) → IsWithin (SetUnit unit style)
-sets_unit unit style = record { opens = tt; short = tt }
+  begins : IsWithin BeginRegion
+  begins = record { opens = tt; short = tt; keeps = tt }
 
-single : IsWithin SingleQuadrant
-single = record { opens = tt; short = tt }
+  ends : IsWithin EndRegion
+  ends = record { opens = tt; short = tt; keeps = tt }
 
-multi : IsWithin MultiQuadrant
-multi = record { opens = tt; short = tt }
+  sets_unit : (unit : FileUnit) (style : Style) → IsWithin (SetUnit unit style)
+  sets_unit unit style = record { opens = tt; short = tt; keeps = tt }
 
-nothing : IsWithin Nothing
-nothing = record { opens = tt; short = tt }
+  single : IsWithin SingleQuadrant
+  single = record { opens = tt; short = tt; keeps = tt }
 
-refused_old : (style : Style) → IsWithin (RefusedOld style)
-refused_old style = record { opens = tt; short = tt }
+  multi : IsWithin MultiQuadrant
+  multi = record { opens = tt; short = tt; keeps = tt }
 
-at_end : IsWithin End
-at_end = record { opens = tt; short = tt }
+  nothing : IsWithin Nothing
+  nothing = record { opens = tt; short = tt; keeps = tt }
 
-lone : (code : ℕ) → IsWithin (lone_function code)
-unfolding lone_function
-lone code = search (either, begins, ends, sets_unit, single, multi, nothing, refused_old, unknown) depth 12
+  refused_old : (style : Style) → IsWithin (RefusedOld style)
+  refused_old style = record { opens = tt; short = tt; keeps = tt }
 
-moded : (mode : Option Mode) (rest : List ℕ) (otherwise : Command) → IsWithin otherwise → IsWithin (by_mode mode rest otherwise)
-moded None rest otherwise h = h
-moded (Some mode) rest otherwise h =
-    either _ (SetMode mode) (operation (Some mode) rest) (record { opens = tt; short = tt }) (operation_within (Some mode) rest)
+  at_end : IsWithin End
+  at_end = record { opens = tt; short = tt; keeps = tt }
 
-functions : (rest : List ℕ) (code : ℕ) → IsWithin (function rest code)
-unfolding function
-functions rest code =
-    moded _ rest _ (either _ (prefixed_selection rest) _ (prefixed rest) (either _ (lone_function code) Unknown (lone code) unknown))
+  lone : (code : ℕ) → IsWithin (lone_function code)
+  unfolding lone_function
+  lone code = search (either, begins, ends, sets_unit, single, multi, nothing, refused_old, unknown) depth 12
 
-programs : (code : ℕ) → IsWithin (program_code code)
-unfolding program_code
-programs code = search (either, at_end, refused_old, unknown)
+  moded : (mode : Option Mode) (rest : List ℕ) (otherwise : Command) → IsWithin otherwise → IsWithin (by_mode mode rest otherwise)
+  moded None rest otherwise h = h
+  moded (Some mode) rest otherwise h =
+      either _ (SetMode mode) (operation (Some mode) rest) (record { opens = tt; short = tt; keeps = tt })
+      (operation_within (Some mode) rest)
 
-by_g : (g : Option (List ℕ) × List ℕ) (text : List ℕ) → IsWithin (by_function g text)
-unfolding by_function
-by_g g text = running g.0 _ (operation None text) (λ run. coded (natural run) (function g.1) (functions g.1)) (operation_within None text)
+  functions : (rest : List ℕ) (code : ℕ) → IsWithin (function rest code)
+  unfolding function
+  functions rest code =
+      moded _ rest _ (either _ (prefixed_selection rest) _ (prefixed rest) (either _ (lone_function code) Unknown (lone code) unknown))
 
-words : (text : List ℕ) → IsWithin (word_command text)
-unfolding word_command
-words text =
-    let m = field 77 text in
-    either (length text == 0) Nothing
-    (by_run m.0 (λ run. cond (length m.1 == 0) (by_code (natural run) program_code) Unknown) (by_function (field 71 text) text)) nothing
-    (running m.0 (λ run. cond (length m.1 == 0) (by_code (natural run) program_code) Unknown) (by_function (field 71 text) text)
-    (λ run. either (length m.1 == 0) (by_code (natural run) program_code) Unknown
-    (coded (natural run) program_code programs) unknown) (by_g (field 71 text) text))
+  programs : (code : ℕ) → IsWithin (program_code code)
+  unfolding program_code
+  programs code = search (either, at_end, refused_old, unknown)
 
--- ---- extended commands
+  by_g : (g : Option (List ℕ) × List ℕ) (text : List ℕ) → IsWithin (by_function g text)
+  unfolding by_function
+  by_g g text = running g.0 _ (operation None text) (λ run. coded (natural run) (function g.1) (functions g.1)) (operation_within None text)
 
-opened : (o : Option (List ℕ)) → IsWithin (open_block o)
-opened None = unknown
-opened (Some run) = record { opens = numbers_within (natural run); short = tt }
+  words : (text : List ℕ) → IsWithin (word_command text)
+  unfolding word_command
+  words text =
+      let m = field 77 text in
+      either (length text == 0) Nothing
+      (by_run m.0 (λ run. cond (length m.1 == 0) (by_code (natural run) program_code) Unknown) (by_function (field 71 text) text)) nothing
+      (running m.0 (λ run. cond (length m.1 == 0) (by_code (natural run) program_code) Unknown) (by_function (field 71 text) text)
+      (λ run. either (length m.1 == 0) (by_code (natural run) program_code) Unknown
+      (coded (natural run) program_code programs) unknown) (by_g (field 71 text) text))
 
-blocks : (text : List ℕ) → IsWithin (block_command text)
-unfolding block_command
-blocks text =
-    let d = field 68 text in
-    either (length text == 0) CloseBlock (cond (length d.1 == 0) (open_block d.0) Unknown) (record { opens = tt; short = tt })
-    (either (length d.1 == 0) (open_block d.0) Unknown (opened d.0) unknown)
+  -- ---- extended commands
 
-sets_format : (format : Format) → format.decimals ≤ 6 → IsWithin (SetFormat format)
-sets_format format few = record { opens = tt; short = few }
+  opened : (o : Option (List ℕ)) → IsWithin (open_block o)
+  opened None = unknown
+  opened (Some run) = record { opens = numbers_within (natural run); short = tt; keeps = tt }
 
-refused_format : IsWithin RefusedFormat
-refused_format = record { opens = tt; short = tt }
+  blocks : (text : List ℕ) → IsWithin (block_command text)
+  unfolding block_command
+  blocks text =
+      let d = field 68 text in
+      either (length text == 0) CloseBlock (cond (length d.1 == 0) (open_block d.0) Unknown) (record { opens = tt; short = tt; keeps = tt })
+      (either (length d.1 == 0) (open_block d.0) Unknown (opened d.0) unknown)
 
-units : (text : List ℕ) → IsWithin (unit_command text)
-unfolding unit_command
-units text = search (either, sets_unit, refused_format)
+  sets_format : (format : Format) → format.decimals ≤ 6 → IsWithin (SetFormat format)
+  sets_format format few = record { opens = tt; short = few; keeps = tt }
 
-sets_polarity : (p : Polarity) → IsWithin (SetPolarity p)
-sets_polarity p = record { opens = tt; short = tt }
+  refused_format : IsWithin RefusedFormat
+  refused_format = record { opens = tt; short = tt; keeps = tt }
 
-polarities : (text : List ℕ) → IsWithin (polarity_command text)
-unfolding polarity_command
-polarities text = search (either, sets_polarity, unknown)
+  units : (text : List ℕ) → IsWithin (unit_command text)
+  unfolding unit_command
+  units text = search (either, sets_unit, refused_format)
 
-sets_mirror : (m : Mirror) → IsWithin (SetMirror m)
-sets_mirror m = record { opens = tt; short = tt }
+  sets_polarity : (p : Polarity) → IsWithin (SetPolarity p)
+  sets_polarity p = record { opens = tt; short = tt; keeps = tt }
 
-mirrors : (text : List ℕ) → IsWithin (mirror_command text)
-unfolding mirror_command
-mirrors text = search (either, sets_mirror, unknown) depth 7
+  polarities : (text : List ℕ) → IsWithin (polarity_command text)
+  unfolding polarity_command
+  polarities text = search (either, sets_polarity, unknown)
 
-rotations : (text : List ℕ) → IsWithin (rotation_command text)
-unfolding rotation_command
-rotations text = either _ (SetRotation _) Unknown (record { opens = tt; short = tt }) unknown
+  sets_mirror : (m : Mirror) → IsWithin (SetMirror m)
+  sets_mirror m = record { opens = tt; short = tt; keeps = tt }
 
-scales : (text : List ℕ) → IsWithin (scale_command text)
-unfolding scale_command
-scales text = either _ (SetScale _) Unknown (record { opens = tt; short = tt }) unknown
+  mirrors : (text : List ℕ) → IsWithin (mirror_command text)
+  unfolding mirror_command
+  mirrors text = search (either, sets_mirror, unknown) depth 7
 
-repeats : (text : List ℕ) → IsWithin (repeat_command text)
-unfolding repeat_command
-repeats text =
-    either _ CloseRepeat _ (record { opens = tt; short = tt }) (either _ (SetRepeat _) Unknown (record { opens = tt; short = tt }) unknown)
+  rotations : (text : List ℕ) → IsWithin (rotation_command text)
+  unfolding rotation_command
+  rotations text = either _ (SetRotation _) Unknown (record { opens = tt; short = tt; keeps = tt }) unknown
 
-digit_small : (d : ℕ) → is_format_digit d ≡ true → d - 48 ≤ 6
-digit_small d h = grind (arith, nat_tests)
+  scales : (text : List ℕ) → IsWithin (scale_command text)
+  unfolding scale_command
+  scales text = either _ (SetScale _) Unknown (record { opens = tt; short = tt; keeps = tt }) unknown
 
-few_decimals : (axes : List ℕ) → IfSome {T = Format} (format_of axes) (λ (f : Format). f.decimals ≤ 6)
-unfolding format_of
-few_decimals [] = tt
-few_decimals (i ∷ []) = tt
-few_decimals (i ∷ d ∷ []) = go (is_format_digit i) (is_format_digit d) refl
-  where
-    go : (a b : Bool) → is_format_digit d ≡ b
-        → IfSome {T = Format} (cond (a && b) (Some (record { integers = i - 48; decimals = d - 48 })) None) (λ (f : Format). f.decimals ≤ 6)
-    go true true e = digit_small d e
-    go true false e = tt
-    go false b e = tt
-few_decimals (i ∷ d ∷ x ∷ axes) = tt
+  repeats : (text : List ℕ) → IsWithin (repeat_command text)
+  unfolding repeat_command
+  repeats text =
+      either _ CloseRepeat _ (record { opens = tt; short = tt; keeps = tt })
+      (either _ (SetRepeat _) Unknown (record { opens = tt; short = tt; keeps = tt }) unknown)
 
-few_of : (o : Option (List ℕ)) → IfSome (option_and_then format_of o) (λ (f : Format). f.decimals ≤ 6)
-few_of None = tt
-few_of (Some axes) = few_decimals axes
+  digit_small : (d : ℕ) → is_format_digit d ≡ true → d - 48 ≤ 6
+  digit_small d h = grind (arith, nat_tests)
 
-formats_by : (x y : Option Format) → IfSome x (λ (f : Format). f.decimals ≤ 6) → IsWithin (format_by x y)
-formats_by None y few = refused_format
-formats_by (Some f) None few = refused_format
-formats_by (Some f) (Some g) few = either (is_same_format f g) (SetFormat f) RefusedFormat (sets_format f few) refused_format
+  few_decimals : (axes : List ℕ) → IfSome {T = Format} (format_of axes) (λ (f : Format). f.decimals ≤ 6)
+  unfolding format_of
+  few_decimals [] = tt
+  few_decimals (i ∷ []) = tt
+  few_decimals (i ∷ d ∷ []) = go (is_format_digit i) (is_format_digit d) refl
+    where
+      go : (a b : Bool) → is_format_digit d ≡ b
+          → IfSome {T = Format} (cond (a && b) (Some (record { integers = i - 48; decimals = d - 48 })) None)
+          (λ (f : Format). f.decimals ≤ 6)
+      go true true e = digit_small d e
+      go true false e = tt
+      go false b e = tt
+  few_decimals (i ∷ d ∷ x ∷ axes) = tt
 
-formats_of : (axes : List ℕ) → IsWithin (format_of_axes axes)
-unfolding format_of_axes
-formats_of axes =
-    let x = field 88 axes in
-    let y = field 89 x.1 in
-    let f = option_and_then format_of x.0 in
-    let g = option_and_then format_of y.0 in
-    either (length y.1 == 0) (format_by f g) RefusedFormat (formats_by f g (few_of x.0)) refused_format
+  few_of : (o : Option (List ℕ)) → IfSome (option_and_then format_of o) (λ (f : Format). f.decimals ≤ 6)
+  few_of None = tt
+  few_of (Some axes) = few_decimals axes
 
-formats_head : (o : Option (List ℕ)) → IsWithin (format_by_head o)
-formats_head None = refused_format
-formats_head (Some axes) = formats_of axes
+  formats_by : (x y : Option Format) → IfSome x (λ (f : Format). f.decimals ≤ 6) → IsWithin (format_by x y)
+  formats_by None y few = refused_format
+  formats_by (Some f) None few = refused_format
+  formats_by (Some f) (Some g) few = either (is_same_format f g) (SetFormat f) RefusedFormat (sets_format f few) refused_format
 
-formats : (text : List ℕ) → IsWithin (format_command text)
-unfolding format_command
-formats text = formats_head _
+  formats_of : (axes : List ℕ) → IsWithin (format_of_axes axes)
+  unfolding format_of_axes
+  formats_of axes =
+      let x = field 88 axes in
+      let y = field 89 x.1 in
+      let f = option_and_then format_of x.0 in
+      let g = option_and_then format_of y.0 in
+      either (length y.1 == 0) (format_by f g) RefusedFormat (formats_by f g (few_of x.0)) refused_format
 
-named : (name : Name) (text : List ℕ) → IsWithin (named_command name text)
-unfolding named_command
-named FormatSpecification text = formats (packed text)
-named UnitMode text = units (packed text)
-named ApertureDefinition text = record { opens = tt; short = tt }
-named ApertureMacro text = record { opens = tt; short = tt }
-named ApertureBlock text = blocks (packed text)
-named StepAndRepeat text = repeats (packed text)
-named LoadPolarity text = polarities (packed text)
-named LoadMirroring text = mirrors (packed text)
-named LoadRotation text = rotations (packed text)
-named LoadScaling text = scales (packed text)
-named (Free name) text = record { opens = tt; short = tt }
-named (Old form) text = either _ NeutralOld (RefusedOld _) (record { opens = tt; short = tt }) (record { opens = tt; short = tt })
+  formats_head : (o : Option (List ℕ)) → IsWithin (format_by_head o)
+  formats_head None = refused_format
+  formats_head (Some axes) = formats_of axes
 
-by_names : (o : Option Name) (text : List ℕ) → IsWithin (by_name o text)
-by_names None text = unknown
-by_names (Some name) text = either _ Unknown (named_command name text) unknown (named name text)
+  formats : (text : List ℕ) → IsWithin (format_command text)
+  unfolding format_command
+  formats text = formats_head _
 
-extends : (text : List ℕ) → IsWithin (extended_command text)
-unfolding extended_command
-extends text = by_names (name_of (take 2 (packed text))) (behind_kept 2 text)
+  named : (name : Name) (text : List ℕ) → ((free : FreeText) → name ≡ Free free → Q free text) → IsWithin (named_command name text)
+  unfolding named_command
+  named FormatSpecification text h = formats (packed text)
+  named UnitMode text h = units (packed text)
+  named ApertureDefinition text h = record { opens = tt; short = tt; keeps = tt }
+  named ApertureMacro text h = record { opens = tt; short = tt; keeps = tt }
+  named ApertureBlock text h = blocks (packed text)
+  named StepAndRepeat text h = repeats (packed text)
+  named LoadPolarity text h = polarities (packed text)
+  named LoadMirroring text h = mirrors (packed text)
+  named LoadRotation text h = rotations (packed text)
+  named LoadScaling text h = scales (packed text)
+  named (Free name) text h = record { opens = tt; short = tt; keeps = h name refl }
+  named (Old form) text h =
+      either _ NeutralOld (RefusedOld _) (record { opens = tt; short = tt; keeps = tt }) (record { opens = tt; short = tt; keeps = tt })
 
-by_kind : (kind : Kind) (text : List ℕ) → IsWithin (command_by kind text)
-by_kind Plain text = words (packed text)
-by_kind Comment text = nothing
-by_kind Extended text = extends text
+  by_names : (o : Option Name) (text : List ℕ)
+      → ((free : FreeText) → o ≡ Some (Free free) → list_any is_star text ≡ false → Q free text) → IsWithin (by_name o text)
+  by_names None text h = unknown
+  by_names (Some name) text h = by (list_any is_star text) refl (may_hold_star name) refl where
+    by : (b : Bool) → list_any is_star text ≡ b → (c : Bool) → may_hold_star name ≡ c
+        → IsWithin (cond (b && not c) Unknown (named_command name text))
+    by false none c may = named name text (λ free e. h free (ap Some e) none)
+    by true some false may = unknown
+    by true some true may = named name text (λ free e. absurd (let wrong : false ≡ true = ap may_hold_star (sym e) ∙ may in cc))
+
+  extends : (text : List ℕ) → ((free : FreeText) → IsNamed free text → Q free (behind_kept 2 text)) → IsWithin (extended_command text)
+  unfolding extended_command
+  extends text h =
+      by_names (name_of (take 2 (packed text))) (behind_kept 2 text) (λ free e none. h free (record { named = e; starless = none }))
+
+  by_kind : (kind : Kind) (text : List ℕ) → (kind ≡ Extended → (free : FreeText) → IsNamed free text → Q free (behind_kept 2 text))
+      → IsWithin (command_by kind text)
+  by_kind Plain text h = words (packed text)
+  by_kind Comment text h = nothing
+  by_kind Extended text h = extends text (h refl)
 
 pub opens_within : (word : FoundWord) → OpensWithin (command_of word)
 unfolding command_of
-opens_within word = (by_kind word.kind word.text).opens
+opens_within word = (by_kind (λ free text. Unit {0}) word.kind word.text (λ is free named. tt)).opens
 
 pub short_format : (word : FoundWord) → HasFewDecimals (command_of word)
 unfolding command_of
-short_format word = (by_kind word.kind word.text).short
+short_format word = (by_kind (λ free text. Unit {0}) word.kind word.text (λ is free named. tt)).short
+
+pub kept_text : (Q : FreeText → List ℕ → Type 0) (word : FoundWord)
+    → (word.kind ≡ Extended → (free : FreeText) → IsNamed free word.text → Q free (behind_kept 2 word.text)) → Keeps Q (command_of word)
+unfolding command_of
+kept_text Q word h = (by_kind Q word.kind word.text h).keeps

@@ -62,6 +62,7 @@ opened_tracks past old n blocks t free outside closed few written =
           repeat = t.frames.repeat;
         };
         built = record { entries = t.built.entries; items = t.built.items; macros = t.built.macros; leaves = t.built.leaves };
+        attributes = t.attributes;
       },
     )
 

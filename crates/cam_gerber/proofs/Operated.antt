@@ -1,6 +1,6 @@
 -- One more operation: what the values in force and the contour become.
 use Rattle.std.proofs.Common.{◌≡◌, ℕ, List, [], ◌∷◌, ◌++◌, Bool, true, false, cond, Option, Some, None, refl, sym, ap, ◌∙◌, subst}
-use Rattle.std.specs.Prelude.{unwrap_or, is_none, is_some}
+use Rattle.std.specs.Prelude.{unwrap_or, is_none, not}
 use Rattle.std.specs.Option.{option_or}
 use Rattle.cam_units.specs.declared.point.Point.{Point}
 use Rattle.cam_units.specs.declared.turn.Turn.{Turn}
@@ -21,16 +21,16 @@ use Rattle.cam_gerber.specs.declared.region.Region.{Region}
 use Rattle.cam_gerber.specs.declared.running.Running.{Running}
 use Rattle.cam_gerber.specs.Laws.{IsFaultless}
 use Rattle.cam_shapes.specs.Contour.{end_of}
-use Rattle.cam_units.specs.declared.length.Nm.{Nm}
 use Rattle.cam_gerber.specs.Statements.{Says}
 use Rattle.cam_gerber.specs.State.{Past, mode_in, mode_told, newest, point_in, centre_of, code_of, has_arcs, in_region}
 use Rattle.cam_gerber.specs.State.{aperture_in, turn_in, dark_in}
 use Rattle.cam_gerber.specs.Homes.{home}
 use Rattle.cam_gerber.specs.Making.{segment, stroke, stroke_of, number_in, made}
 use Rattle.cam_gerber.specs.Layers.{entries_in}
-use Rattle.cam_gerber.specs.Faults.{operated_faults, plot_faults, path_faults, is_full, is_unfit, is_arc}
+use Rattle.cam_gerber.specs.Faults.{can_draw, operated_faults, plot_faults, path_faults, is_full, is_unfit, is_arc}
 use Rattle.cam_gerber.specs.Machinery.Tracking.{Tracks, TracksModal, TracksRegion, Keeps, IsOperated, mode_by}
 use Rattle.cam_gerber.specs.Machinery.Tracking.{moved_point, centre_by, path_table, stroke_along, first_of}
+use Rattle.cam_objects.specs.declared.tip.Tip.{Tip}
 
 -- ---- tables
 
@@ -134,23 +134,26 @@ stroke_count weigh Linear n from to centre turn dark = (refl, refl)
 stroke_count weigh Clockwise n from to centre turn dark = (refl, refl)
 stroke_count weigh Counterclockwise n from to centre turn dark = (refl, refl)
 
-none_by : (o : Option Nm) → true ≡ is_some o → is_none o ≡ false
-none_by None k = absurd cc
-none_by (Some w) k = refl
+-- what the test of an aperture tells
+pub draws_along : (arc : Bool) (mode : Mode) (tip : Option Tip) (result : Bool) → result ≡ true → result ≡ can_draw arc tip
+    → arc ≡ is_arc mode → true ≡ can_draw (is_arc mode) tip
+draws_along arc mode tip result is told same = sym is ∙ told ∙ ap (λ b. can_draw b tip) same
 
--- a stroke with a solid circle is refused for its path or its home alone
+-- a stroke that may be drawn is refused for its path or its home alone
 pub stroke_table : (past : Past) (m : Modal) (entries : List (ℕ × Entry)) (n : ℕ) (operation : Operation) → TracksModal past m
     → entries ≡ entries_in past → m.aperture ≡ Some n
-    → true ≡ is_some (meaning_in entries n).width
+    → true ≡ can_draw (is_arc (mode_by m operation)) (meaning_in entries n).tip
     → first_of (operated_faults Plot false past operation)
     ≡ first_of (path_table m operation ++ (25, is_full (home past) past (stroke_of past operation)) ∷ [])
 stroke_table past m entries n operation t e a solid =
     let some : aperture_in past ≡ Some n = sym t.aperture ∙ a in
-    let fit : is_unfit past (Some n) ≡ false =
-    none_by (meaning_in (entries_in past) n).width (solid ∙ ap (λ es. is_some (meaning_in es n).width) e) in
+    let arc = is_arc (mode_in (Says (Operate operation) ∷ past)) in
+    let fit : is_unfit past arc (Some n) ≡ false =
+    ap not (sym (solid ∙ ap (λ mode. can_draw (is_arc mode) (meaning_in entries n).tip) (mode_same past m operation t)
+    ∙ ap (λ es. can_draw arc (meaning_in es n).tip) e)) in
     let rest : Table = (25, is_full (home past) past (stroke_of past operation)) ∷ [] in
     ap (λ o. cond {A = Option ℕ} (is_none o) (Some 15)
-    (cond (is_unfit past o) (Some 16) (first_of (plot_faults past operation ++ rest)))) some
+    (cond (is_unfit past arc o) (Some 16) (first_of (plot_faults past operation ++ rest)))) some
     ∙ ap (λ b. cond {A = Option ℕ} b (Some 16) (first_of (plot_faults past operation ++ rest))) fit
     ∙ ap (λ table. first_of (table ++ rest)) (sym (table_same past m operation t))
 
@@ -166,7 +169,8 @@ end_same Counterclockwise to centre = refl
 -- a stroke joins its home
 pub stroke_tracks : (past : Past) (operation : Operation) (old kept : Running) (m : Modal) (n : ℕ) (seg : Seg) → IsFaultless past
     → Tracks past old → in_region past ≡ false → code_of operation ≡ Plot
-    → old.modal.aperture ≡ Some n → true ≡ is_some (meaning_in old.built.layer.apertures n).width
+    → old.modal.aperture ≡ Some n
+    → true ≡ can_draw (is_arc (mode_by old.modal operation)) (meaning_in old.built.layer.apertures n).tip
     → first_of (path_table old.modal operation) ≡ None
     → seg ≡ segment (mode_by old.modal operation) (moved_point old.modal operation) (centre_by old.modal operation)
     → ((object : Object) → 1 ≡ object_count (weight_in old.built.layer.apertures) object
@@ -196,12 +200,13 @@ stroke_tracks past operation old kept m n seg none t out plots a solid path seg_
         region = contour_stays past kept.region operation (subst (TracksRegion past) (sym keeps.region) t.region) out;
         frames = places.frames;
         built = places.built;
+        attributes = keeps.attributes ∙ t.attributes;
       },
     )
 
 -- its home is full
 pub stroke_full : (past : Past) (operation : Operation) (old : Running) (n : ℕ) → Tracks past old → old.modal.aperture ≡ Some n
-    → true ≡ is_some (meaning_in old.built.layer.apertures n).width
+    → true ≡ can_draw (is_arc (mode_by old.modal operation)) (meaning_in old.built.layer.apertures n).tip
     → first_of (path_table old.modal operation) ≡ None
     → ((object : Object) → 1 ≡ object_count (weight_in old.built.layer.apertures) object
     → 0 ≡ object_depth (weight_in old.built.layer.apertures) object → true ≡ is_full (home past) past object)

@@ -119,5 +119,6 @@ set_many past old new unit repeat opens t s short many made (none, settled) =
           macros = settled.macros ∙ t.built.macros;
           leaves = settled.leaves;
         };
+        attributes = settled.attributes ∙ t.attributes;
       },
     )

@@ -1,7 +1,6 @@
 -- Operations without a fault make sound objects that fit their home.
 use Rattle.std.proofs.Common.{◌≡◌, ℕ, List, [], ◌∷◌, length, Bool, true, false, Option, Some, None, refl, arith, lit≤}
 use Rattle.std.specs.Prelude.{not, is_none, unwrap_or}
-use Rattle.std.specs.Option.{IsSome}
 use Rattle.std.specs.List.{flat_map}
 use Rattle.std.proofs.lemmas.Bool.{leb-false, or_parts}
 use Rattle.std.proofs.lemmas.List.Elements.{All-cons, All-nil}
@@ -25,7 +24,7 @@ use Rattle.cam_gerber.specs.State.{Past, aperture_in, centre_of, dark_in, has_ar
 use Rattle.cam_gerber.specs.Homes.{Home, InBlock, InRepeat, InLayer, home}
 use Rattle.cam_gerber.specs.Making.{number_in, operated, region_by, region_in, segments_in, start_in, stroke, stroke_of}
 use Rattle.cam_gerber.specs.Layers.{entries_in}
-use Rattle.cam_gerber.specs.Faults.{holds_of_one, is_full, is_on_board, is_outside_at, is_unfit, operated_faults}
+use Rattle.cam_gerber.specs.Faults.{can_draw, holds_of_one, is_arc, is_full, is_on_board, is_outside_at, is_unfit, operated_faults}
 use Rattle.cam_gerber.proofs.Pasts.{NoneHolds}
 use Rattle.cam_gerber.proofs.StandingLeaves.{IsNoFlash, leaves_stand}
 use Rattle.cam_gerber.proofs.SoundParts.{Pairs, IsMade}
@@ -53,7 +52,7 @@ record IsMark (es : Pairs) (o : Object) : Type 0 where
   none : IsNoFlash o
 
 stroked : (es : Pairs) (mode : Mode) (n : ℕ) (from to centre : Point) (turn : Turn) (dark : Bool) → HasNumber es n
-    → IsSome (meaning_in es n).width → IsOnBoard from → IsPath mode from to centre
+    → can_draw (is_arc mode) (meaning_in es n).tip ≡ true → IsOnBoard from → IsPath mode from to centre
     → IsMark es (stroke mode n from to centre turn dark)
 stroked es Linear n from to centre turn dark known wide on path = record {
   made = record {
@@ -107,14 +106,10 @@ known_number : (es : Pairs) (a : Option ℕ) → is_none a ≡ false → IsKnown
 known_number es None some h = absurd cc
 known_number es (Some n) some h = h
 
-some_of : {A : Type 0} (o : Option A) → is_none o ≡ false → IsSome o
-some_of None h = absurd cc
-some_of (Some a) h = refl
-
-wide_number : (past : Past) (a : Option ℕ) → is_none a ≡ false → is_unfit past a ≡ false
-    → IsSome (meaning_in (entries_in past) (unwrap_or a 0)).width
-wide_number past None some h = absurd cc
-wide_number past (Some n) some h = some_of (meaning_in (entries_in past) n).width h
+fit_number : (past : Past) (arc : Bool) (a : Option ℕ) → is_none a ≡ false → is_unfit past arc a ≡ false
+    → can_draw arc (meaning_in (entries_in past) (unwrap_or a 0)).tip ≡ true
+fit_number past arc None some h = absurd cc
+fit_number past arc (Some n) some h = told (can_draw arc (meaning_in (entries_in past) n).tip) h
 
 -- ---- regions
 
@@ -165,7 +160,7 @@ done Plot false past operation s pass =
           (stroked (entries_in past) (mode_in now) (number_in past) (point_in past) (point_in now) (centre_of past operation)
           (turn_in past) (dark_in past)
           (known_number (entries_in past) (aperture_in past) pass.0 s.aperture)
-          (wide_number past (aperture_in past) pass.0 pass.1.0) s.point path)
+          (fit_number past (is_arc (mode_in now)) (aperture_in past) pass.0 pass.1.0) s.point path)
           paths.1.1.1.0;
       to_on = path.to_on;
       turn = λ e. never e;

@@ -16,6 +16,8 @@ use Rattle.cam_apertures.specs.Definition.{Definition, aperture_of, definition_o
 use Rattle.cam_objects.specs.declared.entry.Entry.TheVariants.{Block}
 use Rattle.cam_objects.specs.declared.object.Object.{Object}
 use Rattle.cam_objects.specs.Weights.{object_depth, weight_in}
+use Rattle.cam_commands.specs.declared.names.FreeText.TheVariants.{FileAttribute, ApertureAttribute, ObjectAttribute}
+use Rattle.cam_commands.specs.declared.names.FreeText.TheVariants.{DeleteAttribute, ImageName, LoadName}
 use Rattle.cam_commands.specs.declared.parts.Operation.{Operation}
 use Rattle.cam_commands.specs.declared.parts.Repeat.{Repeat}
 use Rattle.cam_commands.specs.Commands.{SetFormat, RefusedFormat, SetUnit, DefineAperture, DefineMacro, SetPolarity}
@@ -292,7 +294,12 @@ sound_step past (Says (SetPolarity polarity)) within a s h = s
 sound_step past (Says (SetMirror mirroring)) within a s h = s
 sound_step past (Says (SetRotation angle)) within a s h = s
 sound_step past (Says (SetScale scale)) within a s h = s
-sound_step past (Says (KeepText name text)) within a s h = s
+sound_step past (Says (KeepText FileAttribute text)) within a s h = s
+sound_step past (Says (KeepText ApertureAttribute text)) within a s h = s
+sound_step past (Says (KeepText ObjectAttribute text)) within a s h = s
+sound_step past (Says (KeepText DeleteAttribute text)) within a s h = s
+sound_step past (Says (KeepText ImageName text)) within a s h = s
+sound_step past (Says (KeepText LoadName text)) within a s h = s
 sound_step past (Says NeutralOld) within a s h = s
 sound_step past (Says (RefusedOld style)) within a s h = s
 sound_step past (Says (SetMode mode)) within a s h = s

@@ -12,9 +12,25 @@ use Rattle.cam_shapes.specs.declared.segments.Seg.TheVariants.{Line, Curve}
 use Rattle.cam_shapes.specs.Placing.{placed_direction, placed_seg}
 use Rattle.cam_objects.specs.declared.object.Object.{Object}
 use Rattle.cam_objects.specs.declared.object.Object.TheVariants.{Flash, Draw, Arc, Region}
-use Rattle.cam_objects.specs.Leaves.{Leaf, Meaning, arc_leaves, draw_leaves, object_leaves, origin, placed, polarity_in}
+use Rattle.cam_objects.specs.Leaves.{
+  Leaf,
+  Meaning,
+  arc_leaves,
+  draw_leaves,
+  object_leaves,
+  origin,
+  placed,
+  polarity_in,
+  drawn,
+  round_width,
+  turned_tip,
+}
 use Rattle.cam_objects.specs.Soundness.{AreOnBoard, points_of, points_of_seg, points_of_shape}
 use Rattle.cam_objects.proofs.Placed.{turned_on_board}
+use Rattle.cam_objects.specs.declared.tip.Tip.{Tip}
+use Rattle.cam_objects.specs.declared.tip.Tip.TheVariants.{Round, Rectangular}
+use Rattle.cam_units.specs.declared.turn.Turn.{Turn}
+use Rattle.cam_objects.specs.Turning.{after}
 
 pub stands : (p : Point) → IsOnBoard p → IsOnBoard (placed origin p)
 stands p h = let q = turned_on_board R0 p h in record { x = omega (arith, ints, q.x); y = omega (arith, ints, q.y) }
@@ -25,9 +41,15 @@ IsLeafOnBoard l = All IsOnBoard (points_of_shape l.shape)
 one : (l : Leaf) → IsLeafOnBoard l → AreOnBoard (l ∷ [])
 one l h = All-cons IsLeafOnBoard l [] h (All-nil IsLeafOnBoard)
 
-drawn : (width : Option Nm) (from to : Point) (dark : Bool) → IsOnBoard from → IsOnBoard to → AreOnBoard (draw_leaves width from to dark)
-drawn None from to dark h k = All-nil IsLeafOnBoard
-drawn (Some width) from to dark h k = one _ (All-cons IsOnBoard from (to ∷ []) h (All-cons IsOnBoard to [] k (All-nil IsOnBoard)))
+ends : (tip : Tip) (from to : Point) → IsOnBoard from → IsOnBoard to → All IsOnBoard (points_of_shape (drawn tip from to))
+ends (Round width) from to h k = All-cons IsOnBoard from (to ∷ []) h (All-cons IsOnBoard to [] k (All-nil IsOnBoard))
+ends (Rectangular width height) from to h k =
+    All-cons IsOnBoard from (to ∷ []) h (All-cons IsOnBoard to [] k (All-nil IsOnBoard))
+
+straight : (tip : Option Tip) (t : Turn) (from to : Point) (dark : Bool) → IsOnBoard from → IsOnBoard to
+    → AreOnBoard (draw_leaves tip t from to dark)
+straight None t from to dark h k = All-nil IsLeafOnBoard
+straight (Some tip) t from to dark h k = one _ (ends (turned_tip t tip) from to h k)
 
 arced : (width : Option Nm) (from to centre : Point) (ccw dark : Bool) → IsOnBoard from → IsOnBoard to → IsOnBoard centre
     → AreOnBoard (arc_leaves width from to centre ccw dark)
@@ -45,11 +67,11 @@ segments (Line to ∷ segs) h =
     (stands to (All-head IsOnBoard to rest h)) (segments segs (All-tail IsOnBoard to rest h))
 segments (Curve to centre ccw ∷ segs) h =
     let rest = flat_map points_of_seg segs in
-    let after = All-tail IsOnBoard to (centre ∷ rest) h in
+    let behind = All-tail IsOnBoard to (centre ∷ rest) h in
     let placed_rest = flat_map points_of_seg (map (placed_seg origin.turn origin.offset) segs) in
     All-cons IsOnBoard (placed origin to) (placed origin centre ∷ placed_rest) (stands to (All-head IsOnBoard to (centre ∷ rest) h))
-    (All-cons IsOnBoard (placed origin centre) placed_rest (stands centre (All-head IsOnBoard centre rest after))
-    (segments segs (All-tail IsOnBoard centre rest after)))
+    (All-cons IsOnBoard (placed origin centre) placed_rest (stands centre (All-head IsOnBoard centre rest behind))
+    (segments segs (All-tail IsOnBoard centre rest behind)))
 
 -- it is no flash
 abbrev pub IsNoFlash : Object → Type 0
@@ -62,15 +84,15 @@ pub leaves_stand : (means : ℕ → Meaning) (o : Object) → IsNoFlash o → Al
     → AreOnBoard (object_leaves means origin o)
 leaves_stand means (Flash n at t dark) none h = absurd none
 leaves_stand means (Draw n from to t dark) none h =
-    drawn (means n).width (placed origin from) (placed origin to) (polarity_in origin.dark dark)
+    straight (means n).tip (after t origin.turn) (placed origin from) (placed origin to) (polarity_in origin.dark dark)
     (stands from (All-head IsOnBoard from (to ∷ []) h))
     (stands to (All-head IsOnBoard to [] (All-tail IsOnBoard from (to ∷ []) h)))
 leaves_stand means (Arc n from to centre ccw dark) none h =
-    let after = All-tail IsOnBoard from (to ∷ centre ∷ []) h in
-    arced (means n).width (placed origin from) (placed origin to) (placed origin centre) (placed_direction origin.turn ccw)
+    let behind = All-tail IsOnBoard from (to ∷ centre ∷ []) h in
+    arced (round_width (means n).tip) (placed origin from) (placed origin to) (placed origin centre) (placed_direction origin.turn ccw)
     (polarity_in origin.dark dark)
-    (stands from (All-head IsOnBoard from (to ∷ centre ∷ []) h)) (stands to (All-head IsOnBoard to (centre ∷ []) after))
-    (stands centre (All-head IsOnBoard centre [] (All-tail IsOnBoard to (centre ∷ []) after)))
+    (stands from (All-head IsOnBoard from (to ∷ centre ∷ []) h)) (stands to (All-head IsOnBoard to (centre ∷ []) behind))
+    (stands centre (All-head IsOnBoard centre [] (All-tail IsOnBoard to (centre ∷ []) behind)))
 leaves_stand means (Region c dark) none h =
     one _ (All-cons IsOnBoard (placed origin c.start) (flat_map points_of_seg (map (placed_seg origin.turn origin.offset) c.segs))
     (stands c.start (All-head IsOnBoard c.start (flat_map points_of_seg c.segs) h))

@@ -2,6 +2,8 @@
 use Rattle.std.proofs.Common.{◌≡◌, ℕ, ◌≤◌, [], ◌∷◌, Bool, true, false, cond, Option, Some, None, refl, sym, ap, subst, arith, lit≤}
 use Rattle.std.specs.Prelude.{IfSome}
 use Rattle.cam_apertures.specs.Definition.{Table}
+use Rattle.cam_commands.specs.declared.names.FreeText.TheVariants.{FileAttribute, ApertureAttribute, ObjectAttribute}
+use Rattle.cam_commands.specs.declared.names.FreeText.TheVariants.{DeleteAttribute, ImageName, LoadName}
 use Rattle.cam_commands.specs.declared.parts.Operation.{Operation}
 use Rattle.cam_commands.specs.declared.parts.OperationCode.{OperationCode}
 use Rattle.cam_commands.specs.declared.parts.OperationCode.TheVariants.{Plot, Move, Flash}
@@ -72,7 +74,12 @@ ascend past (OpenBlock number) h = (lit≤ tt, (lit≤ tt, (lit≤ tt, (lit≤ t
 ascend past CloseBlock h = (lit≤ tt, tt)
 ascend past (SetRepeat repeat) h = (lit≤ tt, (lit≤ tt, (lit≤ tt, (lit≤ tt, (lit≤ tt, (lit≤ tt, tt))))))
 ascend past CloseRepeat h = (lit≤ tt, (lit≤ tt, (lit≤ tt, tt)))
-ascend past (KeepText name text) h = tt
+ascend past (KeepText FileAttribute text) h = (lit≤ tt, tt)
+ascend past (KeepText ApertureAttribute text) h = tt
+ascend past (KeepText ObjectAttribute text) h = tt
+ascend past (KeepText DeleteAttribute text) h = tt
+ascend past (KeepText ImageName text) h = tt
+ascend past (KeepText LoadName text) h = tt
 ascend past NeutralOld h = (lit≤ tt, tt)
 ascend past (RefusedOld style) h = (lit≤ tt, (lit≤ tt, tt))
 ascend past (SetMode mode) h = tt

@@ -45,7 +45,7 @@ scale_refused = 14
 abbrev pub none_selected : ℕ
 none_selected = 15
 
--- a plot with anything but a solid circle
+-- a plot with anything but a solid circle or, for a straight draw, a solid rectangle
 abbrev pub wrong_aperture : ℕ
 wrong_aperture = 16
 

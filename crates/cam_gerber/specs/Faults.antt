@@ -15,9 +15,11 @@ use Rattle.cam_apertures.specs.Definition.{Table, definition_of, numbered, named
 use Rattle.cam_objects.specs.declared.object.Object.{Object}
 use Rattle.cam_objects.specs.declared.item.Item.{Item}
 use Rattle.cam_objects.specs.declared.item.Item.TheVariants as item
-use Rattle.cam_objects.specs.Leaves.{Leaf, item_leaves, meaning_in}
+use Rattle.cam_objects.specs.Leaves.{Leaf, item_leaves, meaning_in, round_width}
+use Rattle.cam_objects.specs.Limits.{attribute_limit}
 use Rattle.cam_objects.specs.Soundness.{points_of_shape}
 use Rattle.cam_objects.specs.Weights.{object_count, object_depth, weight_in}
+use Rattle.cam_commands.specs.declared.names.FreeText.TheVariants.{FileAttribute}
 use Rattle.cam_commands.specs.declared.parts.Format.{Format}
 use Rattle.cam_commands.specs.declared.parts.Slot.{Slot}
 use Rattle.cam_commands.specs.declared.parts.Slot.TheVariants.{Omitted, Malformed, Written}
@@ -29,7 +31,7 @@ use Rattle.cam_commands.specs.declared.parts.OperationCode.TheVariants.{Plot, Mo
 use Rattle.cam_commands.specs.declared.parts.Repeat.{Repeat}
 use Rattle.cam_commands.specs.Commands.{Command, SetFormat, RefusedFormat, SetUnit, DefineAperture, SetPolarity}
 use Rattle.cam_commands.specs.Commands.{SetMirror, SetRotation, SetScale, OpenBlock, CloseBlock, SetRepeat, CloseRepeat}
-use Rattle.cam_commands.specs.Commands.{NeutralOld, RefusedOld, BeginRegion, EndRegion, Select, Operate, End, Unknown}
+use Rattle.cam_commands.specs.Commands.{KeepText, NeutralOld, RefusedOld, BeginRegion, EndRegion, Select, Operate, End, Unknown}
 use Rattle.cam_commands.specs.Commands.{is_style_extended}
 use Rattle.cam_commands.specs.ExtendedCommands.{is_same_format}
 use Rattle.cam_gerber.specs.FaultNumbers.{
@@ -59,9 +61,11 @@ use Rattle.cam_gerber.specs.FaultNumbers.{
 use Rattle.cam_gerber.specs.Statements.{Statement, Says, NamesMacro, Uncut}
 use Rattle.cam_gerber.specs.State.{Past, format_in, unit_in, aperture_in, mode_in, has_arcs, in_region, code_of}
 use Rattle.cam_gerber.specs.State.{code_in, point_in, centre_of, unit_or_mm}
+use Rattle.cam_gerber.specs.Attributes.{names_in}
 use Rattle.cam_gerber.specs.Homes.{Home, InBlock, InRepeat, InLayer, open_blocks, open_repeat, home, is_repeated, step_of}
 use Rattle.cam_gerber.specs.Making.{segments_in, region_in, stroke_of, flash_of, objects_of}
 use Rattle.cam_gerber.specs.Layers.{macros_in, entries_in, items_in, closed_repeat, closed_leaves, leaves_of, leaves_in}
+use Rattle.cam_objects.specs.declared.tip.Tip.{Tip}
 
 -- ---- limits
 
@@ -129,10 +133,14 @@ unfoldable pub is_reserved : List ℕ → Bool
 is_reserved name =
     bytes_eq name (codes "C") || bytes_eq name (codes "R") || bytes_eq name (codes "O") || bytes_eq name (codes "P")
 
--- the current aperture is no solid circle, where there is one
-abbrev pub is_unfit : Past → Option ℕ → Bool
-is_unfit past None = false
-is_unfit past (Some n) = is_none (meaning_in (entries_in past) n).width
+-- a stroke may be drawn with a tip: an arc with a round one alone
+abbrev pub can_draw : Bool → Option Tip → Bool
+can_draw arc tip = if arc then is_some (round_width tip) else is_some tip
+
+-- the current aperture is no solid circle, and for a straight draw no solid rectangle, where there is one
+abbrev pub is_unfit : Past → Bool → Option ℕ → Bool
+is_unfit past arc None = false
+is_unfit past arc (Some n) = not (can_draw arc (meaning_in (entries_in past) n).tip)
 
 abbrev pub is_err : {A B : Type 0} → Result A B → Bool
 is_err (Ok a) = false
@@ -257,7 +265,8 @@ is_outside_at InLayer past object = is_outside past (item.One object)
 -- an operation by what it does, in a region or not
 abbrev pub operated_faults : OperationCode → Bool → Past → Operation → Table
 operated_faults Plot false past operation =
-    (none_selected, is_none (aperture_in past)) ∷ (wrong_aperture, is_unfit past (aperture_in past))
+    (none_selected, is_none (aperture_in past))
+    ∷ (wrong_aperture, is_unfit past (is_arc (mode_in (Says (Operate operation) ∷ past))) (aperture_in past))
     ∷ (plot_faults past operation ++ (too_much, is_full (home past) past (stroke_of past operation)) ∷ [])
 operated_faults Plot true past operation =
     plot_faults past operation ++ (too_much, nat_le count_limit (length (segments_in past))) ∷ []
@@ -313,6 +322,8 @@ command_faults past (OpenBlock number) =
 command_faults past CloseBlock = (stray_block, in_region past || is_empty (open_blocks past)) ∷ []
 command_faults past (SetRepeat repeat) = repeat_faults past repeat
 command_faults past CloseRepeat = (stray_block, in_region past) ∷ closing_faults past true
+command_faults past (KeepText FileAttribute text) =
+    (too_much, nat_lt attribute_limit (length (names_in (Says (KeepText FileAttribute text) ∷ past)))) ∷ []
 command_faults past NeutralOld = in_region_fault past
 command_faults past (RefusedOld style) =
     (stray_block, is_style_extended style && in_region past) ∷ (old_refused, true) ∷ []

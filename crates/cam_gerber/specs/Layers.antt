@@ -16,6 +16,7 @@ use Rattle.cam_objects.specs.Weights.{block_count, weight_in}
 use Rattle.cam_commands.specs.Commands.{DefineAperture, CloseBlock, SetRepeat, CloseRepeat, End, EndRegion, Operate}
 use Rattle.cam_gerber.specs.Statements.{Statement, Says, NamesMacro}
 use Rattle.cam_gerber.specs.State.{Past, unit_in, unit_or_mm}
+use Rattle.cam_gerber.specs.Attributes.{attributes_in}
 use Rattle.cam_gerber.specs.Homes.{Home, InBlock, InRepeat, InLayer, Opened, open_blocks, open_repeat}
 use Rattle.cam_gerber.specs.Making.{made_at, objects_of}
 
@@ -82,7 +83,7 @@ items_in (Says End ∷ older) = items_in older ++ closed_repeat older
 items_in (_ ∷ older) = items_in older
 
 abbrev pub layer_in : Past → Content
-layer_in past = record { entries = entries_in past; items = items_in past }
+layer_in past = record { attributes = attributes_in past; entries = entries_in past; items = items_in past }
 
 -- ---- leaves, each object and item counted by the dictionary where it is made
 

@@ -2,6 +2,7 @@ pub mod Statements
 pub mod State
 pub mod Homes
 pub mod Making
+pub mod Attributes
 pub mod Layers
 pub mod FaultNumbers
 pub mod Faults

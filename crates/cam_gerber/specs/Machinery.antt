@@ -4,3 +4,4 @@ pub mod OpenNumbers
 pub mod Tracking
 pub mod WellMade
 pub mod Closing
+pub mod Names

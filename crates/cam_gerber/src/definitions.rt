@@ -55,7 +55,7 @@ fn pack(alloc: Global, text: &[u8]) -> Result<Vec<u8>, AllocError>
 }
 
 /// Where the byte first stands, or the text's length.
-fn place_of(byte: u8, text: &[u8]) -> usize
+pub fn place_of(byte: u8, text: &[u8]) -> usize
     ensures value { result ≡ position_or_len (λ b. b == byte) text.now }
     ensures within { result ≤ length text.now }
 {

@@ -33,7 +33,7 @@ pub const SCALE_REFUSED: u8 = 14;
 /// A plot or a flash without an aperture.
 pub const NONE_SELECTED: u8 = 15;
 
-/// A plot with anything but a solid circle.
+/// A plot with anything but a solid circle or, for a straight draw, a solid rectangle.
 pub const WRONG_APERTURE: u8 = 16;
 
 /// An arc not under G75.

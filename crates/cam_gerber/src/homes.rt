@@ -3,9 +3,9 @@
 ghost use Rattle.std.specs.Prelude.{◌≡◌, ◌++◌, ◌∷◌, ◌≤◌, ◌<◌, [], false, true, Some, None, length, nat_eq, nat_le};
 ghost use Rattle.std.specs.Prelude.{◌+◌, is_some, is_none, OnOk};
 ghost use Rattle.std.specs.Map.{lookup};
-ghost use Rattle.cam_objects.specs.Leaves.{meaning_in};
+ghost use Rattle.cam_objects.specs.Leaves.{meaning_in, solid_tip};
 ghost use Rattle.cam_objects.specs.declared.object.Object.{Object};
-ghost use Rattle.cam_gerber.specs.Faults.{is_full};
+ghost use Rattle.cam_gerber.specs.Faults.{can_draw, is_full};
 ghost use Rattle.cam_gerber.specs.Homes.{home};
 ghost use Rattle.cam_gerber.specs.Laws.{IsFaultless};
 ghost use Rattle.cam_gerber.specs.State.{Past};
@@ -13,6 +13,7 @@ ghost use Rattle.cam_gerber.specs.Machinery.Tracking.{Keeps, Tracks, TracksPlace
 
 use crate::built::Built;
 use crate::running::Running;
+use cam_apertures::Aperture;
 use cam_objects::{Entry, Item, Object};
 use std::alloc::AllocError;
 
@@ -38,6 +39,19 @@ pub fn has_room(leaves: u64, more: u64) -> bool
     more <= LEAF_LIMIT - leaves
 }
 
+/// Whether an arc or a straight line may be drawn with an aperture.
+fn draws(aperture: &Aperture, arc: bool) -> bool
+    ensures { result ≡ can_draw arc (solid_tip aperture.now) }
+{
+    if aperture.is_solid_circle() {
+        return true;
+    }
+    if arc {
+        return false;
+    }
+    aperture.is_solid_rect()
+}
+
 impl Built {
     /// Whether the dictionary has the number.
     pub fn is_defined(&self, number: u32) -> bool
@@ -49,15 +63,16 @@ impl Built {
         }
     }
 
-    /// Whether the number is that of a solid circle.
-    pub fn is_solid(&self, number: u32) -> bool
-        ensures { result ≡ is_some (meaning_in self.now.layer.apertures number).width }
+    /// Whether an arc or a straight line may be drawn with the number: an arc with a solid circle alone, a line also
+    /// with a solid rectangle.
+    pub fn can_draw(&self, number: u32, arc: bool) -> bool
+        ensures { result ≡ can_draw arc (meaning_in self.now.layer.apertures number).tip }
     {
         let Some((_, entry)) = self.layer.apertures.find(number) else {
             return false;
         };
         match entry {
-            Entry::Aperture(aperture) => aperture.is_solid_circle(),
+            Entry::Aperture(aperture) => draws(aperture, arc),
             Entry::Block(_) => false,
         }
     }

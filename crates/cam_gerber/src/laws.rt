@@ -1,6 +1,7 @@
 //! Laws of reading. Each function does nothing: its contract is a law of what files mean.
 
 ghost use Rattle.cam_gerber.specs.State.{Past};
+ghost use Rattle.cam_gerber.specs.Attributes.{SetsItsAttribute};
 ghost use Rattle.cam_gerber.specs.Computing.{MeansItsReading};
 ghost use Rattle.cam_gerber.specs.Laws.{
   GivesFaultlessFiles,
@@ -51,6 +52,12 @@ pub fn layers_come_from_faultless_files()
 /// Every layer that a file gives is sound.
 pub fn layers_are_sound()
     ensures { GivesSoundLayers }
+{}
+
+/// A file attribute is set among those of the commands before it: a name that is there keeps its place and takes the
+/// fields, another goes last.
+pub fn attributes_follow_the_rule()
+    ensures { SetsItsAttribute }
 {}
 
 /// A setting of the value that is in force changes nothing.

@@ -2,11 +2,12 @@
 //! repeats among all commands of the profile.
 //!
 //! What a file means stands in `specs/`: `Statements` says what its words say, `State` what is in force behind
-//! the commands so far, `Homes` where an object belongs, `Making` what commands make, `Layers` the layer that it
-//! joins, `Faults` what a command may be refused for, `Reading` what the whole file gives, and `Laws` what holds
-//! of that. `specs/Machinery/` ties the running record of the code to them.
+//! the commands so far, `Homes` where an object belongs, `Making` what commands make, `Attributes` the attributes of
+//! the file, `Layers` the layer that an object joins, `Faults` what a command may be refused for, `Reading` what the
+//! whole file gives, and `Laws` what holds of that. `specs/Machinery/` ties the running record of the code to them.
 #![tactic(auto)]
 
+mod attributes;
 mod blocks;
 mod built;
 mod checks;
@@ -30,9 +31,10 @@ mod state;
 mod stop;
 
 pub use laws::{
-    files_go_on_behind_their_front, files_mean_one_thing, files_mean_what_is_computed,
-    homes_stay_apart, layers_are_sound, layers_come_from_faultless_files, no_fault_of_memory,
-    same_settings_change_nothing, the_least_fault_is_told,
+    attributes_follow_the_rule, files_go_on_behind_their_front, files_mean_one_thing,
+    files_mean_what_is_computed, homes_stay_apart, layers_are_sound,
+    layers_come_from_faultless_files, no_fault_of_memory, same_settings_change_nothing,
+    the_least_fault_is_told,
 };
 pub use read_fault::ReadFault;
 pub use reader::read_gerber;

@@ -30,7 +30,7 @@ impl Running {
             Command::CloseBlock => self.close_block(),
             Command::SetRepeat(repeat) => self.set_repeat(&repeat),
             Command::CloseRepeat => self.close_repeat(),
-            Command::KeepText { .. } => Ok(()),
+            Command::KeepText { name, text } => self.keep_text(name, text),
             Command::Nothing => Ok(()),
             Command::NeutralOld => self.neutral_old(),
             Command::RefusedOld(style) => self.refused_old(style),

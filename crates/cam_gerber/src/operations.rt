@@ -34,7 +34,7 @@ impl Running {
         let Some(aperture) = self.modal.aperture else {
             return Err(Stop::Fault(faults::NONE_SELECTED));
         };
-        if !self.built.is_solid(aperture) {
+        if !self.built.can_draw(aperture, self.modal.is_arc(operation)) {
             return Err(Stop::Fault(faults::WRONG_APERTURE));
         }
         let seg = match self.modal.path(operation) {

@@ -1,8 +1,10 @@
 //! The running record of one pass over the commands.
 
 ghost use Rattle.std.specs.Prelude.{◌≡◌, [], false, MatchOption, Some};
-ghost use Rattle.cam_gerber.specs.Machinery.Tracking.{Takes, Tracks};
+ghost use Rattle.cam_objects.specs.Contents.{content_of};
+ghost use Rattle.cam_gerber.specs.Machinery.Tracking.{Takes, Tracks, content_in};
 
+use crate::attributes::Attributes;
 use crate::built::Built;
 use crate::frames::Frames;
 use crate::modal::Modal;
@@ -18,6 +20,7 @@ pub struct Running {
     pub region: Region,
     pub frames: Frames,
     pub built: Built,
+    pub attributes: Attributes,
 }
 
 impl Running {
@@ -31,14 +34,21 @@ impl Running {
             region: Region::new(alloc),
             frames: Frames::new(alloc),
             built: Built::new(alloc),
+            attributes: Attributes::new(alloc),
         }
     }
 
     /// The layer so far.
     pub fn into_layer(self) -> Layer
-        ensures { result ≡ self.built.layer }
+        ensures { content_of result ≡ content_in self }
     {
-        let Running { built, .. } = self;
-        built.into_layer()
+        let Running {
+            built,
+            attributes,
+            ..
+        } = self;
+        let mut layer = built.into_layer();
+        layer.attributes = attributes.into_vec();
+        layer
     }
 }

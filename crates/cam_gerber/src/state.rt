@@ -4,8 +4,8 @@ ghost use Rattle.std.specs.Prelude.{◌≡◌, ◌++◌, ◌≤◌, ◌<◌, ◌
 ghost use Rattle.std.specs.Prelude.{MatchOption, IfOk};
 ghost use Rattle.cam_objects.specs.Turning.{after};
 ghost use Rattle.cam_units.specs.Board.{IsOnBoard};
-ghost use Rattle.cam_gerber.specs.Faults.{has_coordinate, has_malformed, is_malformed, is_on_board, is_same_point};
-ghost use Rattle.cam_gerber.specs.Faults.{is_written, lacks_code, leading_faults, path_faults};
+ghost use Rattle.cam_gerber.specs.Faults.{has_coordinate, has_malformed, is_arc, is_malformed, is_on_board};
+ghost use Rattle.cam_gerber.specs.Faults.{is_same_point, is_written, lacks_code, leading_faults, path_faults};
 ghost use Rattle.cam_shapes.specs.declared.segments.Seg.TheVariants.{Line, Curve};
 ghost use Rattle.cam_gerber.specs.Making.{segment};
 ghost use Rattle.cam_gerber.specs.State.{Past, code_of, decimals_of, unit_or_mm};
@@ -187,6 +187,16 @@ impl Modal {
         ensures { result ≡ mode_by self.now operation.now }
     {
         operation.mode.unwrap_or(self.mode)
+    }
+
+    /// Whether the operation goes along an arc.
+    pub fn is_arc(&self, operation: &Operation) -> bool
+        ensures { result ≡ is_arc (mode_by self.now operation.now) }
+    {
+        match self.mode_of(operation) {
+            Mode::Linear => false,
+            Mode::Clockwise | Mode::Counterclockwise => true,
+        }
     }
 
     /// The line to the point of the operation.

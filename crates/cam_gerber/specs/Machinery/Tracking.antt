@@ -15,6 +15,7 @@ use Rattle.cam_shapes.specs.declared.segments.Seg.TheVariants.{Line, Curve}
 use Rattle.cam_objects.specs.Turning.{after}
 use Rattle.cam_objects.specs.declared.object.Object.{Object}
 use Rattle.cam_objects.specs.declared.entry.Entry.{Entry}
+use Rattle.cam_objects.specs.Contents.{Content}
 use Rattle.cam_objects.specs.Weights.{object_count, object_depth, weight_in}
 use Rattle.cam_gerber.specs.declared.homes.Weight.{Weight}
 use Rattle.cam_objects.specs.declared.object.Object.TheVariants.{Draw, Arc}
@@ -31,6 +32,7 @@ use Rattle.cam_gerber.specs.declared.stop.Stop.TheVariants.{Memory, Fault}
 use Rattle.cam_gerber.specs.Statements.{Statement, Says, IsSaidBy}
 use Rattle.cam_gerber.specs.State.{Past, format_in, unit_in, dark_in, mirror_in, rotation_in, aperture_in, mode_in}
 use Rattle.cam_gerber.specs.State.{has_arcs, in_region, code_in, point_in, value_of, coordinate_nm, code_of}
+use Rattle.cam_gerber.specs.Attributes.{attributes_in}
 use Rattle.cam_gerber.specs.Homes.{home, InBlock, InRepeat, Opened, open_blocks, open_repeat}
 use Rattle.cam_gerber.specs.Making.{start_in, segments_in, region_in, made, objects_of}
 use Rattle.cam_gerber.specs.Layers.{macros_in, entries_in, items_in, closed_repeat, closed_leaves, leaves_of, leaves_in}
@@ -95,6 +97,12 @@ pub record Tracks (past : Past) (r : Running) : Type 0 where
   pub region : TracksRegion past r.region
   pub frames : TracksFrames past r.frames
   pub built : TracksBuilt past r.built
+  pub attributes : r.attributes ≡ attributes_in past
+
+-- the layer that is handed out
+abbrev pub content_in : Running → Content
+content_in r =
+    record { attributes = r.attributes; entries = r.built.layer.apertures; items = r.built.layer.items.items }
 
 -- the coordinate that an operation leaves
 abbrev pub moved : Option Format → Option FileUnit → Slot ℤ → ℤ → ℤ
@@ -198,6 +206,7 @@ HasPast r = (past : Past) × IsFaultless past × Tracks past r × AreWithin past
 pub record Keeps (object : Object) (leaves : ℕ) (old new : Running) : Type 0 where
   pub modal : new.modal ≡ old.modal
   pub region : new.region ≡ old.region
+  pub attributes : new.attributes ≡ old.attributes
   pub alloc : new.alloc ≡ old.alloc
   pub places : (past : Past) (says : Statement) → IsFaultless past → TracksPlaces past old → IsMaker says
       → made past says ≡ object ∷ [] → leaves ≡ object_count (weight_in (entries_in past)) object
@@ -209,6 +218,7 @@ pub record Ended (past : Past) (old new : Running) : Type 0 where
   pub inside : new.region.inside ≡ old.region.inside
   pub start : new.region.start ≡ old.region.start
   pub segs : new.region.segs.items ≡ []
+  pub attributes : new.attributes ≡ old.attributes
   pub alloc : new.alloc ≡ old.alloc
   pub places : TracksPlaces past new
 
@@ -234,6 +244,7 @@ Obeys command old (Err (Fault code)) new =
 pub record IsSettled (past : Past) (old new : Running) : Type 0 where
   pub modal : new.modal ≡ old.modal
   pub region : new.region ≡ old.region
+  pub attributes : new.attributes ≡ old.attributes
   pub alloc : new.alloc ≡ old.alloc
   pub blocks : new.frames.blocks ≡ old.frames.blocks
   pub repeat : new.frames.repeat ≡ None

@@ -6,6 +6,7 @@ pub returns-in-Some : goal.returns-in-Some
 returns-in-Some c = record {
   modal = refl;
   region = refl;
+  attributes = refl;
   alloc = refl;
   places = λ past says none t maker is count room.
       let some : 0 < length c.args.self.now.frames.blocks.items = search rules in

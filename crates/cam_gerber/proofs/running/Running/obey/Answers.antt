@@ -4,7 +4,7 @@ use Rattle.cam_commands.specs.Commands as command
 use Rattle.cam_gerber.specs.declared.stop.Stop.TheVariants.{Fault}
 use Rattle.cam_commands.specs.Borrowed.{shown}
 use Rattle.cam_gerber.specs.Machinery.Tracking.{Obeys}
-use Rattle.cam_gerber.proofs.Obedience.{idle, idle_text, obeys}
+use Rattle.cam_gerber.proofs.Obedience.{idle, obeys}
 use Rattle.cam_gerber.proofs.running.Running.obey.Goals as goal
 
 pub returns-in-SetFormat : goal.returns-in-SetFormat
@@ -108,9 +108,9 @@ returns-in-Unknown c =
 
 pub returns-in-KeepText : goal.returns-in-KeepText
 returns-in-KeepText c =
-    subst (λ k. Obeys (shown k) c.args.self.now (Ok tt) c.args.self.now) (sym c.in-KeepText.is)
-    (obeys (command.KeepText c.in-KeepText.name c.in-KeepText.text.now) c.args.self.now c.args.self.now (Ok tt) tt
-    (λ past none t. (refl, idle_text past c.args.self.now c.in-KeepText.name c.in-KeepText.text.now t)))
+    subst (λ k. Obeys (shown k) c.args.self.now c.keep_text.result c.keep_text.new.self) (sym c.in-KeepText.is)
+    (obeys (command.KeepText c.in-KeepText.name c.in-KeepText.text.now) c.args.self.now c.keep_text.new.self c.keep_text.result tt
+    c.keep_text.ensures)
 
 pub returns-in-Nothing : goal.returns-in-Nothing
 returns-in-Nothing c =

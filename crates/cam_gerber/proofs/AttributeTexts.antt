@@ -1,0 +1,218 @@
+-- The text of a file attribute holds only such bytes as may stand in one: the cutting allows no others, and a command with a
+-- star in it is none.
+use Rattle.std.proofs.Common.{◌≡◌, ◌≢◌, ℕ, zero, suc, ◌+◌, ◌≤◌, [], ◌∷◌, ◌++◌, ◌||◌, Bool, true, false, cond, not, List, length, take, drop}
+use Rattle.std.proofs.Common.{Some, None, Ok, Err, IsTrue, refl, sym, ap, subst, ◌∙◌, ◌⊎◌, inl, inr, arith, lit≤}
+use Rattle.std.specs.Prelude.{codes, find, nat_eq, nat_lt}
+use Rattle.std.specs.List.{AllByRecursion, list_any, position_or_len, starts_with}
+use Rattle.std.specs.Str.{bytes_eq}
+use Rattle.std.proofs.lemmas.Bool.{eqb-false, eqb-true, ltb-false, or_parts}
+use Rattle.std.proofs.lemmas.Bool.Decides.{nat_tests}
+use Rattle.std.proofs.lemmas.List.Elements.{All-drop, All-from_recursion, All-nil, All-take}
+use Rattle.std.proofs.lemmas.Map.Keys.{IsDistinct-from_apart}
+use Rattle.std.proofs.lemmas.Slice.Eq.{bytes_eq-Decides}
+use Rattle.cam_words.specs.declared.word.Kind.TheVariants.{Plain, Comment, Extended}
+use Rattle.cam_words.specs.declared.word.TextFault.{TextFault}
+use Rattle.cam_words.specs.Bytes.{is_control, is_forbidden_in_code, is_skipped, is_star, percent}
+use Rattle.cam_words.specs.Cutting.{Command, WordCommand, ExtendedCommand, FoundWord, IsCommand, IsPiece, Piece, Blank, Whole}
+use Rattle.cam_words.specs.Cutting.{bytes_of_command, word_of, words_of}
+use Rattle.cam_words.specs.Heads.{behind_kept, is_comment, is_forbidden_in_extended, is_free_text, packed}
+use Rattle.cam_words.specs.Laws.{HasCutFront, HasCutting}
+use Rattle.cam_words.specs.Reading.{Answer, reading, told}
+use Rattle.cam_words.proofs.Cuttings.{reads_its_words}
+use Rattle.cam_words.proofs.Longest.{stops_at_the_longest_front}
+use Rattle.cam_objects.specs.Attributes.{AreAttributes, AreFields, IsAttribute, attribute_of, is_attribute_byte, with_attribute}
+use Rattle.cam_objects.proofs.EditedAttributes.{attribute_edits}
+use Rattle.cam_commands.specs.declared.names.FreeText.{FreeText}
+use Rattle.cam_commands.specs.declared.names.FreeText.TheVariants.{FileAttribute}
+use Rattle.cam_commands.specs.declared.names.Name.{Name}
+use Rattle.cam_commands.specs.declared.names.Name.TheVariants.{Free}
+use Rattle.cam_commands.specs.Commands.{Command as Said, DefineMacro, KeepText}
+use Rattle.cam_commands.specs.ExtendedCommands.{letters_of, name_of as named_by, names}
+use Rattle.cam_commands.specs.Syntax.{command_of}
+use Rattle.cam_gerber.specs.Statements.{Statement, Says, NamesMacro, Uncut, IsSaidBy, IsMacroOf, Told, IsTold}
+use Rattle.cam_gerber.specs.State.{Past}
+use Rattle.cam_gerber.specs.Attributes.{attributes_in, fields_of, is_comma, name_of, names_in}
+use Rattle.cam_gerber.specs.Faults.{faults, least}
+use Rattle.cam_gerber.proofs.FileAttributes.{names_counted, sets_its_attribute}
+use Rattle.cam_gerber.proofs.OpenNumbers.{IsNamed, Keeps, kept_text}
+use Rattle.cam_gerber.proofs.Pasts.{none_holds}
+
+-- ---- what the cutting allows
+
+-- the text of an extended command holds only bytes that it may hold
+abbrev pub IsClean : Answer → Type 0
+IsClean (Ok word) = word.kind ≡ Extended
+    → AllByRecursion (λ byte. (byte ≢ percent) × (is_forbidden_in_extended word.text byte ≡ false)) word.text
+IsClean (Err fault) = Unit {0}
+
+no_extended : (b : Bool) → cond b Comment Plain ≡ Extended → ⊥
+no_extended true e = cc
+no_extended false e = cc
+
+clean_word : (at : ℕ) (command : Command) → IsCommand command → IsClean (Ok (word_of at command))
+clean_word at (WordCommand text) h = λ is. absurd (no_extended (is_comment text) is)
+clean_word at (ExtendedCommand text tail) h = λ is. h.0
+
+clean_words : (at : ℕ) (pieces : List Piece) → AllByRecursion IsPiece pieces → AllByRecursion IsClean (told (words_of at pieces))
+clean_words at [] h = tt
+clean_words at (Blank run ∷ pieces) h = clean_words (at + length run) pieces h.1
+clean_words at (Whole command ∷ pieces) h =
+    (clean_word at command h.0, clean_words (at + length (bytes_of_command command)) pieces h.1)
+
+with_fault : (answers : List Answer) (fault : TextFault) → AllByRecursion IsClean answers
+    → AllByRecursion IsClean (answers ++ Err fault ∷ [])
+with_fault [] fault h = (tt, tt)
+with_fault (answer ∷ answers) fault h = (h.0, with_fault answers fault h.1)
+
+pub clean_answers : (text : List ℕ) → AllByRecursion IsClean (reading 0 text)
+clean_answers text = by (stops_at_the_longest_front text) where
+  by : HasCutting text ⊎ HasCutFront text → AllByRecursion IsClean (reading 0 text)
+  by (inl cut) =
+      subst (AllByRecursion IsClean) (sym (reads_its_words text cut.0 cut.1)) (clean_words 0 cut.0 cut.1.each)
+  by (inr cut) =
+      subst (AllByRecursion IsClean) (sym cut.3.read)
+      (with_fault (told (words_of 0 cut.0)) cut.2 (clean_words 0 cut.0 cut.3.cutting.each))
+
+-- ---- an attribute is free text
+
+found_passes : {X : Type 0} (p : X → Bool) (xs : List X) (x : X) → find p xs ≡ Some x → p x ≡ true
+found_passes p [] x e = absurd (cc)
+found_passes {X} p (y ∷ ys) x e = by (p y) refl e (found_passes p ys x) where
+  by : (b : Bool) → p y ≡ b → cond b (Some y) (find p ys) ≡ Some x → (find p ys ≡ Some x → p x ≡ true) → p x ≡ true
+  by true is same rest = let at : y ≡ x = cc in ap p (sym at) ∙ is
+  by false is same rest = rest same
+
+letters_are : (letters : List ℕ) (name : Name) → named_by letters ≡ Some name → letters ≡ letters_of name
+unfolding named_by
+letters_are letters name e =
+    sym ((bytes_eq-Decides (letters_of name) letters).0 (found_passes (λ (n : Name). bytes_eq (letters_of n) letters) names name e))
+
+begins_with_t : (text : List ℕ) → take 2 text ≡ codes "TF" → starts_with nat_eq text (codes "T") ≡ true
+begins_with_t [] e = absurd (cc)
+begins_with_t (first ∷ rest) e =
+    let is : first ≡ 84 = cc in subst (λ byte. starts_with nat_eq (byte ∷ rest) (codes "T") ≡ true) (sym is) refl
+
+is_free : (text : List ℕ) → named_by (take 2 (packed text)) ≡ Some (Free FileAttribute) → is_free_text text ≡ true
+unfolding is_free_text
+is_free text e =
+    ap (λ b. b || starts_with nat_eq (packed text) (codes "IN") || starts_with nat_eq (packed text) (codes "LN"))
+    (begins_with_t (packed text) (letters_are (take 2 (packed text)) (Free FileAttribute) e))
+
+-- ---- the bytes of its text
+
+allowed : (byte : ℕ) → byte ≢ percent → is_control byte ≡ false → is_star byte ≡ false → IsTrue (is_attribute_byte byte)
+allowed byte a b c = grind (arith, nat_tests)
+
+kept_suffix : (n : ℕ) (P : ℕ → Type 0) (text : List ℕ) → AllByRecursion P text → AllByRecursion P (behind_kept n text)
+kept_suffix zero P text h = h
+kept_suffix (suc n) P [] h = tt
+kept_suffix (suc n) P (byte ∷ text) h =
+    by (kept_suffix (suc n) P text h.1) (kept_suffix n P text h.1) (is_skipped byte)
+  where
+    by : AllByRecursion P (behind_kept (suc n) text) → AllByRecursion P (behind_kept n text)
+        → (b : Bool) → AllByRecursion P (cond b (behind_kept (suc n) text) (behind_kept n text))
+    by skipped counted true = skipped
+    by skipped counted false = counted
+
+all_allowed : (free : Bool) (text : List ℕ) → free ≡ true
+    → AllByRecursion (λ byte. (byte ≢ percent) × (cond free is_control is_forbidden_in_code byte ≡ false)) text
+    → list_any is_star text ≡ false → AllByRecursion (λ byte. IsTrue (is_attribute_byte byte)) text
+all_allowed free [] is h none = tt
+all_allowed free (byte ∷ text) is h none =
+    let parts = or_parts (is_star byte) (list_any is_star text) none in (
+      allowed byte h.0.0 (subst (λ b. cond b is_control is_forbidden_in_code byte ≡ false) is h.0.1) parts.0,
+      all_allowed free text is h.1 parts.1,
+    )
+
+abbrev pub IsAttributeText : FreeText → List ℕ → Type 0
+IsAttributeText FileAttribute text = AllByRecursion (λ byte. IsTrue (is_attribute_byte byte)) text
+IsAttributeText _ text = Unit {0}
+
+text_allowed : (word : FoundWord) → IsClean (Ok word) → word.kind ≡ Extended → (free : FreeText) → IsNamed free word.text
+    → IsAttributeText free (behind_kept 2 word.text)
+text_allowed word clean is FileAttribute named =
+    let free = is_free word.text named.named in
+    let bytes = kept_suffix 2 (λ byte. (byte ≢ percent) × (is_forbidden_in_extended word.text byte ≡ false)) word.text (clean is) in
+    all_allowed (is_free_text word.text) (behind_kept 2 word.text) free bytes named.starless
+text_allowed word clean is _ named = tt
+
+-- ---- what is told
+
+abbrev pub StatesText : Statement → Type 0
+StatesText (Says command) = Keeps IsAttributeText command
+StatesText (NamesMacro name parts) = Unit {0}
+StatesText (Uncut code) = Unit {0}
+
+macro_text : (text : List ℕ) (says : Statement) → IsMacroOf text says → StatesText says
+macro_text text (Says command) h = absurd h
+macro_text text (NamesMacro name parts) h = tt
+macro_text text (Uncut code) h = tt
+
+said_text : (command : Said) (says : Statement) → Keeps IsAttributeText command → IsSaidBy command says → StatesText says
+said_text (DefineMacro text) says keeps h = macro_text text says h
+said_text command says keeps h = subst StatesText (sym h) keeps
+
+pub told_text : (answer : Answer) (told : Told) → IsClean answer → IsTold answer told → StatesText told.says
+told_text (Ok word) told clean h =
+    said_text (command_of word) told.says (kept_text IsAttributeText word (λ is free named. text_allowed word clean is free named)) h.0
+told_text (Err fault) told clean h = subst StatesText (sym h.0) tt
+
+-- ---- the attribute that is set
+
+name_plain : (text : List ℕ) → AllByRecursion (λ byte. byte ≢ 44) (take (position_or_len is_comma text) text)
+name_plain [] = tt
+name_plain (byte ∷ text) = by (is_comma byte) refl (name_plain text) where
+  by : (b : Bool) → is_comma byte ≡ b → AllByRecursion (λ byte. byte ≢ 44) (take (position_or_len is_comma text) text)
+      → AllByRecursion (λ byte. byte ≢ 44) (take (cond (not b) (1 + position_or_len is_comma text) 0) (byte ∷ text))
+  by true is rest = tt
+  by false is rest =
+      let next : suc (position_or_len is_comma text) ≡ 1 + position_or_len is_comma text = omega arith in
+      subst (λ n. AllByRecursion (λ byte. byte ≢ 44) (take n (byte ∷ text))) next (
+        (λ same. eqb-false byte 44 is same),
+        rest,
+      )
+
+fields_apart : (text : List ℕ) → AreFields (drop (position_or_len is_comma text) text)
+fields_apart [] = tt
+fields_apart (byte ∷ text) = by (is_comma byte) refl (fields_apart text) where
+  by : (b : Bool) → is_comma byte ≡ b → AreFields (drop (position_or_len is_comma text) text)
+      → AreFields (drop (cond (not b) (1 + position_or_len is_comma text) 0) (byte ∷ text))
+  by true is rest = eqb-true byte 44 is
+  by false is rest =
+      let next : suc (position_or_len is_comma text) ≡ 1 + position_or_len is_comma text = omega arith in
+      subst (λ n. AreFields (drop n (byte ∷ text))) next rest
+
+is_attribute : (text : List ℕ) → AllByRecursion (λ byte. IsTrue (is_attribute_byte byte)) text
+    → IsAttribute (attribute_of (name_of text) (fields_of text))
+is_attribute text h =
+    let Allowed : ℕ → Type 0 = λ byte. IsTrue (is_attribute_byte byte) in
+    let all = All-from_recursion Allowed text h in
+    record {
+      name = All-take Allowed (position_or_len is_comma text) text all;
+      whole = All-from_recursion (λ byte. byte ≢ 44) (take (position_or_len is_comma text) text) (name_plain text);
+      fields = All-drop Allowed (position_or_len is_comma text) text all;
+      apart = fields_apart text;
+    }
+
+sets : (past : Past) (text : List ℕ) → AllByRecursion (λ byte. IsTrue (is_attribute_byte byte)) text
+    → nat_lt 1000 (length (names_in (Says (KeepText FileAttribute text) ∷ past))) ≡ false
+    → AreAttributes (attributes_in past) → AreAttributes (attributes_in (Says (KeepText FileAttribute text) ∷ past))
+sets past text allowed few h =
+    let a = attribute_of (name_of text) (fields_of text) in
+    let room : length (with_attribute a (attributes_in past)) ≤ 1000 =
+    ltb-false 1000 _ (names_counted past text (attributes_in past) refl ∙ few) in
+    subst AreAttributes (sym (sets_its_attribute past text))
+    (attribute_edits.set (attributes_in past) a h (record { sound = is_attribute text allowed; room = room }))
+
+pub attributes_step : (past : Past) (says : Statement) → StatesText says → least (faults past says) ≡ None
+    → AreAttributes (attributes_in past) → AreAttributes (attributes_in (says ∷ past))
+attributes_step past (Says (KeepText FileAttribute text)) allowed none h =
+    sets past text allowed (none_holds (faults past (Says (KeepText FileAttribute text))) none).0 h
+attributes_step past _ allowed none h = h
+
+pub no_attributes : AreAttributes []
+no_attributes = record {
+  each = All-nil IsAttribute;
+  few = lit≤ tt;
+  distinct = IsDistinct-from_apart bytes_eq [] (λ i j d low high. absurd (omega arith));
+}
