@@ -1,17 +1,19 @@
 -- The entries of a canonical text, one after another: each joins those before it.
-use Rattle.std.proofs.Common.{◌≡◌, ℕ, ◌<◌, ◌≤◌, [], ◌∷◌, ◌++◌, length, take, get_or, refl, sym, ◌∙◌, subst, arith}
+use Rattle.std.proofs.Common.{◌≡◌, ℕ, ◌<◌, ◌≤◌, List, [], ◌∷◌, ◌++◌, length, take, get_or, refl, sym, ◌∙◌, subst, arith}
 use Rattle.std.proofs.Common.{append-nil, append_assoc, length-append}
 use Rattle.std.specs.Prelude.{fold}
 use Rattle.std.proofs.lemmas.List.{take-append-le}
 use Rattle.std.proofs.Math.Seq.{get_or-append_seam}
+use Rattle.cam_objects.specs.declared.attribute.Attribute.{Attribute}
 use Rattle.cam_objects.specs.declared.entry.Entry.{Entry}
 use Rattle.cam_objects.specs.declared.entry.Entry.TheVariants.{Aperture, Block}
+use Rattle.cam_objects.specs.Attributes.{AreAttributes}
 use Rattle.cam_objects.specs.Soundness.{IsSoundDictionary, MayAddEntry}
 use Rattle.cam_objects.proofs.Dictionaries.{whole}
 use Rattle.cam_gerber.specs.State.{Past}
-use Rattle.cam_gerber.specs.Laws.{IsFaultless}
 use Rattle.cam_gerber.proofs.SoundParts.{Pairs}
 use Rattle.cam_writers.proofs.GerberPasts.{past_entries, past_entry, past_opening}
+use Rattle.cam_writers.proofs.GerberAttributes.{opens}
 use Rattle.cam_writers.proofs.GerberEntriesBetween.{Between}
 use Rattle.cam_writers.proofs.GerberEntriesBlocks.{block_added}
 use Rattle.cam_writers.proofs.GerberEntriesApertures.{AreLow, aperture_added}
@@ -57,21 +59,21 @@ behind past es (e ∷ more) between low may =
     (behind (past_entry past e) (es ++ e ∷ []) more (entry_added past es e between low may.0)
     (low_more es e low may.0.greatest) may.1)
 
--- behind the format and the unit
-faultless : IsFaultless past_opening
-faultless = (refl, (refl, (refl, (refl, tt))))
-
-begun : Between past_opening [] []
-begun = record {
-  stands = record { format = refl; unit = refl; arcs = refl; region = refl; none = faultless };
-  blocks = refl;
-  repeat = refl;
-  entries = refl;
-  listed = refl;
-  leaves = refl;
-  macros = refl;
-}
+-- behind the format, the unit and the file attributes
+begun : (attributes : List Attribute) → AreAttributes attributes → Between (past_opening attributes) [] []
+begun attributes set =
+    let o = opens attributes set in
+    record {
+      stands = record { format = o.format; unit = o.unit; arcs = refl; region = o.region; none = (refl, (refl, o.none)) };
+      blocks = o.blocks;
+      repeat = o.repeat;
+      entries = o.entries;
+      listed = o.listed;
+      leaves = o.leaves;
+      macros = o.macros;
+    }
 
 -- behind all entries
-pub entries_added : (es : Pairs) → IsSoundDictionary es → Between (past_entries es) es []
-entries_added es sound = behind past_opening [] es begun tt (may_join [] es sound)
+pub entries_added : (attributes : List Attribute) (es : Pairs) → AreAttributes attributes → IsSoundDictionary es
+    → Between (past_entries attributes es) es []
+entries_added attributes es set sound = behind (past_opening attributes) [] es (begun attributes set) tt (may_join [] es sound)

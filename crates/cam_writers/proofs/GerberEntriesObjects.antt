@@ -1,7 +1,7 @@
 -- Objects of a canonical text, one after another at one home.
-use Rattle.std.proofs.Common.{◌≡◌, ℕ, List, [], ◌∷◌, ◌++◌, true, false, Option, Some, None, nat_eq, refl, sym, ap, ◌∙◌}
+use Rattle.std.proofs.Common.{◌≡◌, ℕ, List, [], ◌∷◌, ◌++◌, true, false, Some, nat_eq, refl, sym, ap, ◌∙◌}
 use Rattle.std.proofs.Common.{subst, append-nil, append_assoc}
-use Rattle.std.specs.Prelude.{not, is_some, is_none}
+use Rattle.std.specs.Prelude.{not, is_some}
 use Rattle.std.specs.List.{All}
 use Rattle.std.specs.Map.{lookup}
 use Rattle.std.specs.Option.{IsSome}
@@ -10,7 +10,7 @@ use Rattle.cam_objects.specs.declared.object.Object.{Object}
 use Rattle.cam_objects.specs.declared.object.Object.TheVariants.{Flash, Draw, Arc, Region}
 use Rattle.cam_objects.specs.declared.item.Item.{Item}
 use Rattle.cam_objects.specs.declared.item.Item.TheVariants.{One}
-use Rattle.cam_objects.specs.Leaves.{item_leaves, meaning_in, object_leaves, origin}
+use Rattle.cam_objects.specs.Leaves.{item_leaves, meaning_in, object_leaves, origin, round_width}
 use Rattle.cam_objects.specs.Soundness.{AreOnBoard, HasNumber, IsDrawable, IsKnown}
 use Rattle.cam_gerber.specs.State.{Past}
 use Rattle.cam_gerber.specs.Homes.{Home, InBlock, InRepeat, InLayer, home}
@@ -49,10 +49,6 @@ inside_at (InBlock n) past es o e on = not_outside past es (One o) e on
 inside_at (InRepeat before) past es o e on = refl
 inside_at InLayer past es o e on = not_outside past es (One o) e on
 
-some_none : {A : Type 0} (o : Option A) → IsSome o → is_none o ≡ false
-some_none None h = absurd cc
-some_none (Some a) h = refl
-
 module _ (past : Past) (es : Pairs) (entries : entries_in past ≡ es) where
   has_number : (n : ℕ) → HasNumber es n → is_defined past n ≡ true
   has_number n known = ap (λ (all : Pairs). is_some (lookup (nat_eq n) all)) entries ∙ known
@@ -63,14 +59,16 @@ module _ (past : Past) (es : Pairs) (entries : entries_in past ≡ es) where
   defined_in (Arc n from to centre ccw dark) known = has_number n known
   defined_in (Region contour dark) known = tt
 
-  has_width : (n : ℕ) → IsSome (meaning_in es n).width → is_unfit past (Some n) ≡ false
-  has_width n wide =
-      ap (λ (all : Pairs). is_none (meaning_in all n).width) entries ∙ some_none (meaning_in es n).width wide
+  fit_line : (n : ℕ) → IsSome (meaning_in es n).tip → is_unfit past false (Some n) ≡ false
+  fit_line n some = ap (λ (all : Pairs). not (is_some (meaning_in all n).tip)) entries ∙ ap not some
+
+  fit_arc : (n : ℕ) → IsSome (round_width (meaning_in es n).tip) → is_unfit past true (Some n) ≡ false
+  fit_arc n some = ap (λ (all : Pairs). not (is_some (round_width (meaning_in all n).tip))) entries ∙ ap not some
 
   fit_in : (o : Object) → IsDrawable (meaning_in es) o → IsFitIn past o
   fit_in (Flash n at turn dark) wide = tt
-  fit_in (Draw n from to turn dark) wide = has_width n wide
-  fit_in (Arc n from to centre ccw dark) wide = has_width n wide
+  fit_in (Draw n from to turn dark) some = fit_line n some
+  fit_in (Arc n from to centre ccw dark) some = fit_arc n some
   fit_in (Region contour dark) wide = tt
 
   inside_in : (h : Home) → home past ≡ h → (o : Object) → IsPlacedAt h es o → IsInsideIn past o

@@ -22,12 +22,9 @@ use Rattle.cam_objects.specs.declared.entry.Entry.TheVariants.{Aperture, Block}
 use Rattle.cam_objects.specs.declared.item.Item.{Item}
 use Rattle.cam_objects.specs.declared.item.Item.TheVariants.{One, Repeat}
 use Rattle.cam_objects.specs.declared.item_fault.ItemFault.TheVariants.{Malformed, UnknownAperture, OutOfBoard}
-use Rattle.cam_objects.specs.declared.layer.Layer.{Layer}
-use Rattle.cam_objects.specs.Soundness.{points_of, points_of_seg, HasNumber, IsKnown, IsSoundItem, IsSoundDictionary, MayAddEntry, IsSound}
+use Rattle.cam_objects.specs.Soundness.{points_of, points_of_seg, HasNumber, IsKnown, IsSoundItem, IsSoundDictionary, MayAddEntry}
 use Rattle.cam_objects.proofs.SoundLayers.{paintable_item}
-use Rattle.cam_writers.specs.GerberTexts.{said_by, commands_before_end}
-use Rattle.cam_writers.proofs.GerberPasts.{past_before_end}
-use Rattle.cam_writers.proofs.GerberSaid.{AreCommands, all_said, all_found, IsFitSegment, IsFit, IsSaidMacro, IsFitEntry, IsFitItem}
+use Rattle.cam_writers.proofs.GerberSaid.{IsFitSegment, IsFit, IsSaidMacro, IsFitEntry, IsFitItem}
 
 by_recursion : {X : Type 0} (P : X → Type 0) (xs : List X) → All P xs → AllByRecursion P xs
 by_recursion P [] all = tt
@@ -198,18 +195,3 @@ items_fit entries (item ∷ items) sound each few = (
   items_fit entries items sound (All-tail (IsSoundItem entries) item items each)
       (All-tail HasFewCopies item items few),
 )
-
--- ---- layers
-
-pub layer_said : (layer : Layer) → AreSaidMacros → IsSound layer → All HasFewCopies layer.items.items
-    → said_by (commands_before_end layer.apertures layer.items.items)
-    ≡ past_before_end layer.apertures layer.items.items
-layer_said layer macros sound few =
-    all_said layer.apertures layer.items.items (entries_fit layer.apertures macros sound.entries)
-    (items_fit layer.apertures layer.items.items sound.entries sound.items few)
-
-pub layer_found : (layer : Layer) → AreSaidMacros → IsSound layer → All HasFewCopies layer.items.items
-    → AreCommands (commands_before_end layer.apertures layer.items.items)
-layer_found layer macros sound few =
-    all_found layer.apertures layer.items.items (entries_fit layer.apertures macros sound.entries)
-    (items_fit layer.apertures layer.items.items sound.entries sound.items few)

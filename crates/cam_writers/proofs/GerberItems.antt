@@ -5,9 +5,11 @@ use Rattle.std.specs.Prelude.{fold}
 use Rattle.std.specs.List.{All}
 use Rattle.std.proofs.lemmas.List.Elements.{All-head, All-tail}
 use Rattle.std.proofs.lemmas.List.Sums.{sum_by_push}
+use Rattle.cam_objects.specs.declared.attribute.Attribute.{Attribute}
 use Rattle.cam_objects.specs.declared.object.Object.{Object}
 use Rattle.cam_objects.specs.declared.item.Item.{Item}
 use Rattle.cam_objects.specs.declared.item.Item.TheVariants.{One, Repeat}
+use Rattle.cam_objects.specs.Attributes.{AreAttributes}
 use Rattle.cam_objects.specs.Soundness.{IsSoundContent, IsSoundItem}
 use Rattle.cam_objects.specs.Weights.{block_count, item_count, object_count, weight_in}
 use Rattle.cam_commands.specs.Commands.{End}
@@ -24,6 +26,7 @@ use Rattle.cam_writers.proofs.GerberObjects.{object_joins}
 use Rattle.cam_writers.proofs.GerberEntriesObjects.{may_stand}
 use Rattle.cam_writers.proofs.GerberEntriesBetween.{Between, fewer, lighter, sound_one}
 use Rattle.cam_writers.proofs.GerberEntries.{entries_added}
+use Rattle.cam_writers.proofs.GerberItemsEndless.{past_is_plain}
 use Rattle.cam_writers.proofs.GerberItemsRepeats.{layer_room, repeat_added}
 
 -- ---- an object that is an item
@@ -95,22 +98,26 @@ module _ (es : Pairs) (items : List Item) (few : length items ≤ 1000000)
 
 -- ---- the whole layer
 
-module _ (es : Pairs) (items : List Item) (sound : IsSoundContent es items) where
+module _ (attributes : List Attribute) (es : Pairs) (items : List Item) (set : AreAttributes attributes)
+    (sound : IsSoundContent es items) where
   -- everything stands before the end
-  pub all_added : Between (past_before_end es items) es items
+  pub all_added : Between (past_before_end attributes es items) es items
   all_added =
-      behind es items sound.limits.few sound.limits.leaves (past_entries es) [] items
-      (entries_added es sound.entries) refl sound.items
+      behind es items sound.limits.few sound.limits.leaves (past_entries attributes es) [] items
+      (entries_added attributes es set sound.entries) refl sound.items
 
-  pub past_is_faultless : IsFaultless (past_before_end es items)
+  pub past_is_faultless : IsFaultless (past_before_end attributes es items)
   past_is_faultless = all_added.stands.none
 
-  pub end_is_faultless : least (faults (past_before_end es items) (Says End)) ≡ None
+  pub end_is_faultless : least (faults (past_before_end attributes es items) (Says End)) ≡ None
   end_is_faultless = rw (all_added.stands.region, all_added.blocks, all_added.repeat) refl
 
-  pub past_is_layer : layer_in (Says End ∷ past_before_end es items) ≡ record { entries = es; items = items }
+  pub past_is_layer : layer_in (Says End ∷ past_before_end attributes es items)
+      ≡ record { attributes = attributes; entries = es; items = items }
   past_is_layer =
-      let past = past_before_end es items in
-      ap₂ (λ all listed. record { entries = all; items = listed }) all_added.entries
+      let past = past_before_end attributes es items in
+      ap₂ (λ (names : List Attribute) (lists : Pairs × List Item). record { attributes = names; entries = lists.0; items = lists.1 })
+      (past_is_plain attributes es items set).attributes
+      (ap₂ (λ (all : Pairs) (listed : List Item). (all, listed)) all_added.entries
       (ap (λ repeat. items_in past ++ closed_by past repeat) all_added.repeat
-      ∙ append-nil (items_in past) ∙ all_added.listed)
+      ∙ append-nil (items_in past) ∙ all_added.listed))

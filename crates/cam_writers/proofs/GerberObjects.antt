@@ -32,11 +32,11 @@ IsDefinedIn past (Draw n from to turn dark) = is_defined past n ≡ true
 IsDefinedIn past (Arc n from to centre ccw dark) = is_defined past n ≡ true
 IsDefinedIn past (Region contour dark) = Unit {0}
 
--- draws and arcs are strokes of solid circles
+-- draws are strokes of solid circles and of solid rectangles, and arcs of solid circles alone
 abbrev pub IsFitIn : Past → Object → Type 0
 IsFitIn past (Flash n at turn dark) = Unit {0}
-IsFitIn past (Draw n from to turn dark) = is_unfit past (Some n) ≡ false
-IsFitIn past (Arc n from to centre ccw dark) = is_unfit past (Some n) ≡ false
+IsFitIn past (Draw n from to turn dark) = is_unfit past false (Some n) ≡ false
+IsFitIn past (Arc n from to centre ccw dark) = is_unfit past true (Some n) ≡ false
 IsFitIn past (Region contour dark) = Unit {0}
 
 -- the leaves of a flash lie on the board, where they are judged at once

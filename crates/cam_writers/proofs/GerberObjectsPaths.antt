@@ -74,6 +74,15 @@ both_arcs : (ccw : Bool) → is_arc (arc_mode ccw) ≡ true
 both_arcs true = refl
 both_arcs false = refl
 
+-- the segment is an arc
+abbrev pub curves : Seg → Bool
+curves (Line to) = false
+curves (Curve to centre ccw) = true
+
+pub curved : (seg : Seg) → is_arc (mode_of seg) ≡ curves seg
+curved (Line to) = refl
+curved (Curve to centre ccw) = both_arcs ccw
+
 module _ (past : Past) (here : Point) where
   pub end_is : (seg : Seg) → MayPlot past here seg → point_in (plot_to here seg ∷ past) ≡ end_of seg
   end_is seg m = point_after past (end_of seg) (across_of here seg) (up_of here seg) Plot m.scaled

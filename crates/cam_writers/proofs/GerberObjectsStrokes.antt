@@ -17,11 +17,11 @@ use Rattle.cam_commands.specs.declared.parts.OperationCode.TheVariants.{Flash as
 use Rattle.cam_gerber.specs.State.{Past, aperture_in, dark_in, mode_in, point_in, turn_in, centre_of}
 use Rattle.cam_gerber.specs.Homes.{Home, InBlock, InRepeat, InLayer, home}
 use Rattle.cam_gerber.specs.Making.{flash_of, made, segment, stroke, stroke_of, number_in}
-use Rattle.cam_gerber.specs.Faults.{faults, is_full, is_on_board, is_outside, is_outside_at, is_unfit, least, plot_faults}
+use Rattle.cam_gerber.specs.Faults.{can_draw, faults, is_arc, is_full, is_on_board, is_outside, is_outside_at, is_unfit, least, plot_faults}
 use Rattle.cam_writers.proofs.GerberPasts.{Stands, Joined, flash_at}
 use Rattle.cam_writers.proofs.GerberObjectsPlaces.{Kept, home_kept, objects_made}
 use Rattle.cam_writers.proofs.GerberObjectsOperations.{scales, operation, on_board_after, point_after, unrefused}
-use Rattle.cam_writers.proofs.GerberObjectsPaths.{MayPlot, path_none, plot_along, plot_to, plot_unrefused, segment_again}
+use Rattle.cam_writers.proofs.GerberObjectsPaths.{MayPlot, curved, curves, path_none, plot_along, plot_to, plot_unrefused, segment_again}
 
 -- ---- what a home says of an object, where all is kept
 
@@ -94,7 +94,7 @@ stroke_none aperture unfit path full n a b c d = rw (a, b, c, d) refl
 
 pub stroke_made : (older past : Past) (n : ℕ) (from : Point) (seg : Seg) (turn : Turn) (dark : Bool) → Stands past
     → Kept older past → aperture_in past ≡ Some n → turn_in past ≡ turn → dark_in past ≡ dark → MayPlot past from seg
-    → is_unfit older (Some n) ≡ false → is_full (home older) older (stroke_along n from seg turn dark) ≡ false
+    → is_unfit older (curves seg) (Some n) ≡ false → is_full (home older) older (stroke_along n from seg turn dark) ≡ false
     → Joined older (plot_to from seg ∷ past) (stroke_along n from seg turn dark ∷ [])
 stroke_made older past n from seg turn dark s k aperture turned darkened may fit room =
     let object = stroke_along n from seg turn dark in
@@ -106,13 +106,15 @@ stroke_made older past n from seg turn dark s k aperture turned darkened may fit
     (dark_in past)
     ∙ (λ i. stroke_along (number i) (may.point i) (segment_again past from seg may i) (turned i) (darkened i)) in
     let made_is : made past (plot_to from seg) ≡ object ∷ [] = rw s.region (ap (λ o. o ∷ []) same) in
-    let still : is_unfit past (Some n) ≡ false =
-    ap (λ entries. is_none (meaning_in entries n).width) k.entries ∙ fit in
+    let arc = is_arc (mode_in now) in
+    let still : is_unfit past arc (Some n) ≡ false =
+    ap (λ b. is_unfit past b (Some n)) (ap is_arc may.mode ∙ curved seg)
+    ∙ ap (λ entries. not (can_draw (curves seg) (meaning_in entries n).tip)) k.entries ∙ fit in
     let crowded = is_full (home past) past (stroke_of past plot) in
     let full : crowded ≡ false = ap (is_full (home past) past) same ∙ full_kept older past k object ∙ room in
     let none : least (faults past (plot_to from seg)) ≡ None =
     plot_unrefused past from seg false may s.region
-    (stroke_none (aperture_in past) (is_unfit past) (plot_faults past plot) crowded n aperture still
+    (stroke_none (aperture_in past) (is_unfit past arc) (plot_faults past plot) crowded n aperture still
     (path_none past from seg ((25, crowded) ∷ []) may) full) in
     let stands : Stands now = search (none, s) in
     objects_made older past (plot_to from seg) (object ∷ []) k tt made_is stands

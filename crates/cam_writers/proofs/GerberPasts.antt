@@ -17,6 +17,7 @@ use Rattle.cam_macros.specs.declared.primitive.PrimShape.TheVariants.{Disc, Bar,
 use Rattle.cam_macros.specs.Tree.{Tree, Number, Negative}
 use Rattle.cam_apertures.specs.declared.aperture.Aperture.{Aperture as Shape}
 use Rattle.cam_apertures.specs.declared.aperture.Aperture.TheVariants.{Prims}
+use Rattle.cam_objects.specs.declared.attribute.Attribute.{Attribute}
 use Rattle.cam_objects.specs.declared.object.Object.{Object}
 use Rattle.cam_objects.specs.declared.object.Object.TheVariants.{Flash, Draw, Arc, Region}
 use Rattle.cam_objects.specs.declared.entry.Entry.{Entry}
@@ -24,6 +25,7 @@ use Rattle.cam_objects.specs.declared.entry.Entry.TheVariants.{Aperture, Block}
 use Rattle.cam_objects.specs.declared.item.Item.{Item}
 use Rattle.cam_objects.specs.declared.item.Item.TheVariants.{One, Repeat}
 use Rattle.cam_objects.specs.Weights.{block_count, weight_in}
+use Rattle.cam_commands.specs.declared.names.FreeText.TheVariants.{FileAttribute}
 use Rattle.cam_commands.specs.declared.parts.Style.TheVariants.{Extended}
 use Rattle.cam_commands.specs.declared.parts.Slot.{Slot}
 use Rattle.cam_commands.specs.declared.parts.Slot.TheVariants.{Omitted, Written}
@@ -37,7 +39,7 @@ use Rattle.cam_commands.specs.declared.parts.OperationCode.{OperationCode}
 use Rattle.cam_commands.specs.declared.parts.OperationCode.TheVariants.{Plot, Move, Flash as FlashCode}
 use Rattle.cam_commands.specs.Commands.{SetFormat, SetUnit, DefineAperture, SetPolarity, SetMirror, SetRotation}
 use Rattle.cam_commands.specs.Commands.{OpenBlock, CloseBlock, SetRepeat, CloseRepeat, SetMode, MultiQuadrant}
-use Rattle.cam_commands.specs.Commands.{BeginRegion, EndRegion, Select, Operate}
+use Rattle.cam_commands.specs.Commands.{BeginRegion, EndRegion, KeepText, Select, Operate}
 use Rattle.cam_gerber.specs.Statements.{Statement, Says, NamesMacro}
 use Rattle.cam_gerber.specs.State.{Past, format_in, unit_in, dark_in, mirror_in, rotation_in, aperture_in, mode_in}
 use Rattle.cam_gerber.specs.State.{has_arcs, in_region, point_in}
@@ -197,16 +199,20 @@ abbrev pub past_item : Past → Item → Past
 past_item past (One object) = past_object past object
 past_item past (Repeat columns rows i j objects) = Says CloseRepeat ∷ past_objects (opening_of columns rows i j ∷ past) objects
 
-abbrev pub past_opening : Past
-past_opening =
-    Says MultiQuadrant ∷ Says (SetMode Linear) ∷ Says (SetUnit Mm Extended)
-    ∷ Says (SetFormat (record { integers = 4; decimals = 6 })) ∷ []
+abbrev pub past_units : Past
+past_units = Says (SetUnit Mm Extended) ∷ Says (SetFormat (record { integers = 4; decimals = 6 })) ∷ []
 
-abbrev pub past_entries : List (ℕ × Entry) → Past
-past_entries entries = fold past_entry past_opening entries
+abbrev pub past_attribute : Past → Attribute → Past
+past_attribute past a = Says (KeepText FileAttribute (a.name ++ a.fields)) ∷ past
 
-abbrev pub past_before_end : List (ℕ × Entry) → List Item → Past
-past_before_end entries items = fold past_item (past_entries entries) items
+abbrev pub past_opening : List Attribute → Past
+past_opening attributes = Says MultiQuadrant ∷ Says (SetMode Linear) ∷ fold past_attribute past_units attributes
+
+abbrev pub past_entries : List Attribute → List (ℕ × Entry) → Past
+past_entries attributes entries = fold past_entry (past_opening attributes) entries
+
+abbrev pub past_before_end : List Attribute → List (ℕ × Entry) → List Item → Past
+past_before_end attributes entries items = fold past_item (past_entries attributes entries) items
 
 -- ---- what holds between objects
 

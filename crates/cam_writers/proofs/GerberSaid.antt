@@ -1,7 +1,7 @@
 -- The commands of canonical texts say what their pasts hold, and the cutter finds each of them.
 use Rattle.std.proofs.Common.{◌≡◌, ℕ, List, [], ◌∷◌, Bool, true, false, Some, refl, sym, subst, codes}
 use Rattle.std.specs.Prelude.{if◌then◌else◌}
-use Rattle.std.specs.List.{fold, AllByRecursion}
+use Rattle.std.specs.List.{fold, All, AllByRecursion}
 use Rattle.cam_units.specs.declared.point.Point.{Point}
 use Rattle.cam_units.specs.declared.turn.Turn.{Turn}
 use Rattle.cam_units.specs.Board.{IsOnBoard}
@@ -13,12 +13,14 @@ use Rattle.cam_numbers.specs.Numbers.{IsApertureNumber}
 use Rattle.cam_apertures.specs.declared.aperture.Aperture.{Aperture as Shape}
 use Rattle.cam_apertures.specs.declared.aperture.Aperture.TheVariants.{Circle, Rect, Obround, Prims}
 use Rattle.cam_apertures.specs.Soundness.{IsSoundAperture}
+use Rattle.cam_objects.specs.declared.attribute.Attribute.{Attribute}
 use Rattle.cam_objects.specs.declared.object.Object.{Object}
 use Rattle.cam_objects.specs.declared.object.Object.TheVariants.{Flash, Draw, Arc, Region}
 use Rattle.cam_objects.specs.declared.entry.Entry.{Entry}
 use Rattle.cam_objects.specs.declared.entry.Entry.TheVariants.{Aperture, Block}
 use Rattle.cam_objects.specs.declared.item.Item.{Item}
 use Rattle.cam_objects.specs.declared.item.Item.TheVariants.{One, Repeat}
+use Rattle.cam_objects.specs.Attributes.{IsAttribute}
 use Rattle.cam_commands.specs.declared.parts.Mode.{Mode}
 use Rattle.cam_commands.specs.declared.parts.Mode.TheVariants.{Linear}
 use Rattle.cam_commands.specs.Commands.{DefineAperture, OpenBlock, CloseBlock, CloseRepeat, BeginRegion, EndRegion}
@@ -41,7 +43,7 @@ use Rattle.cam_writers.proofs.GerberPasts.{parts_for}
 use Rattle.cam_writers.proofs.GerberSettings.{polarity_says, polarity_found, mirror_says, mirror_found, rotation_says}
 use Rattle.cam_writers.proofs.GerberSettings.{rotation_found, selection_says, selection_found, mode_says, mode_found}
 use Rattle.cam_writers.proofs.GerberSettings.{region_begun, region_begun_found, region_ended, region_ended_found}
-use Rattle.cam_writers.proofs.GerberSettings.{opening_says, opening_found}
+use Rattle.cam_writers.proofs.GerberAttributes.{opening_says, opening_found}
 use Rattle.cam_writers.proofs.GerberOperations.{move_says, move_found, flash_says, flash_found, line_says, line_found, arc_says, arc_found}
 use Rattle.cam_writers.proofs.GerberRepeats.{IsWritableRepeat, open_block_says, open_block_found, close_block_says}
 use Rattle.cam_writers.proofs.GerberRepeats.{close_block_found, open_repeat_says, open_repeat_found, close_repeat_says}
@@ -250,14 +252,15 @@ module _ (older : Commands) where
 
 -- ---- the text before its end
 
-opening_told : Tells [] opening past_opening
-opening_told = record { said = opening_says; found = λ h. opening_found }
+opening_told : (attributes : List Attribute) → All IsAttribute attributes → Tells [] (opening attributes) (past_opening attributes)
+opening_told attributes fit = record { said = opening_says attributes fit; found = λ h. opening_found attributes fit }
 
-pub all_told : (entries : List (ℕ × Entry)) (items : List Item) → AllByRecursion IsFitEntry entries
-    → AllByRecursion IsFitItem items → Tells [] (commands_before_end entries items) (past_before_end entries items)
-all_told entries items fit each =
-    items_told [] items (with_entries entries) (past_entries entries) each
-    (entries_told [] entries opening past_opening fit opening_told)
+pub all_told : (attributes : List Attribute) (entries : List (ℕ × Entry)) (items : List Item) → All IsAttribute attributes
+    → AllByRecursion IsFitEntry entries → AllByRecursion IsFitItem items
+    → Tells [] (commands_before_end attributes entries items) (past_before_end attributes entries items)
+all_told attributes entries items set fit each =
+    items_told [] items (with_entries attributes entries) (past_entries attributes entries) each
+    (entries_told [] entries (opening attributes) (past_opening attributes) fit (opening_told attributes set))
 
 -- ---- said and found apart
 
@@ -295,18 +298,12 @@ pub item_found : (commands : Commands) (item : Item) → IsFitItem item → AreC
     → AreCommands (with_item commands item)
 item_found commands item fit = (item_told commands commands (said_by commands) item fit (itself commands)).found
 
-pub entries_said : (entries : List (ℕ × Entry)) → AllByRecursion IsFitEntry entries
-    → said_by (with_entries entries) ≡ past_entries entries
-entries_said entries fit = (entries_told [] entries opening past_opening fit opening_told).said
+pub all_said : (attributes : List Attribute) (entries : List (ℕ × Entry)) (items : List Item) → All IsAttribute attributes
+    → AllByRecursion IsFitEntry entries → AllByRecursion IsFitItem items
+    → said_by (commands_before_end attributes entries items) ≡ past_before_end attributes entries items
+all_said attributes entries items set fit each = (all_told attributes entries items set fit each).said
 
-pub entries_found : (entries : List (ℕ × Entry)) → AllByRecursion IsFitEntry entries
-    → AreCommands (with_entries entries)
-entries_found entries fit = (entries_told [] entries opening past_opening fit opening_told).found tt
-
-pub all_said : (entries : List (ℕ × Entry)) (items : List Item) → AllByRecursion IsFitEntry entries
-    → AllByRecursion IsFitItem items → said_by (commands_before_end entries items) ≡ past_before_end entries items
-all_said entries items fit each = (all_told entries items fit each).said
-
-pub all_found : (entries : List (ℕ × Entry)) (items : List Item) → AllByRecursion IsFitEntry entries
-    → AllByRecursion IsFitItem items → AreCommands (commands_before_end entries items)
-all_found entries items fit each = (all_told entries items fit each).found tt
+pub all_found : (attributes : List Attribute) (entries : List (ℕ × Entry)) (items : List Item) → All IsAttribute attributes
+    → AllByRecursion IsFitEntry entries → AllByRecursion IsFitItem items
+    → AreCommands (commands_before_end attributes entries items)
+all_found attributes entries items set fit each = (all_told attributes entries items set fit each).found tt

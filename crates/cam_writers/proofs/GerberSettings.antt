@@ -25,9 +25,9 @@ use Rattle.cam_words.specs.Heads.{behind_head}
 use Rattle.cam_gerber.specs.Statements.{Says}
 use Rattle.cam_gerber.specs.Computing.{statement_of}
 use Rattle.cam_writers.specs.Commands.{word, extended, polarity_command, mirror_command, rotation_command, mode_command, selection_command}
-use Rattle.cam_writers.specs.GerberTexts.{says, opening, said_by}
+use Rattle.cam_writers.specs.GerberTexts.{says, said_by, units}
 use Rattle.cam_writers.proofs.Decimals.{natural_again}
-use Rattle.cam_writers.proofs.GerberPasts.{polarity_of, mirroring_of, angle_of, past_opening}
+use Rattle.cam_writers.proofs.GerberPasts.{polarity_of, mirroring_of, angle_of, past_units}
 use Rattle.cam_writers.proofs.GerberSayings.{word_found, extended_found, word_says, extended_says, decimal_run, decimal_code}
 
 -- ---- polarity and turns
@@ -145,11 +145,11 @@ end_found = word_found (codes "M02") refl
 
 -- ---- the opening
 
-arcs_say : says (word (codes "G75")) ≡ Says MultiQuadrant
+pub arcs_say : says (word (codes "G75")) ≡ Says MultiQuadrant
 unfolding word_command by_function function mode_of lone_function field natural value_of is_numeric
 arcs_say = word_says (codes "G75") refl refl
 
-lines_say : says (word (codes "G01")) ≡ Says (SetMode Linear)
+pub lines_say : says (word (codes "G01")) ≡ Says (SetMode Linear)
 unfolding mode_command
 lines_say = mode_says Linear
 
@@ -161,13 +161,14 @@ format_says : says (extended (codes "FSLAX46Y46")) ≡ Says (SetFormat (record {
 unfolding named_command format_command behind_head format_of_axes format_of field is_numeric
 format_says = extended_says FormatSpecification (codes "LAX46Y46") refl
 
-pub opening_says : said_by opening ≡ past_opening
-unfolding opening
-opening_says = rw (arcs_say, lines_say, unit_says, format_says) refl
+pub units_say : said_by units ≡ past_units
+units_say = rw (unit_says, format_says) refl
 
-pub opening_found : AllByRecursion IsCommand opening
-unfolding opening
-opening_found = (
-  word_found (codes "G75") refl,
-  (word_found (codes "G01") refl, (extended_found (codes "MOMM") refl, (extended_found (codes "FSLAX46Y46") refl, tt))),
-)
+pub units_found : AllByRecursion IsCommand units
+units_found = (extended_found (codes "MOMM") refl, (extended_found (codes "FSLAX46Y46") refl, tt))
+
+pub arcs_found : IsCommand (word (codes "G75"))
+arcs_found = word_found (codes "G75") refl
+
+pub lines_found : IsCommand (word (codes "G01"))
+lines_found = word_found (codes "G01") refl

@@ -11,6 +11,8 @@ use Rattle.cam_units.specs.declared.turn.Turn.TheVariants.{R0}
 use Rattle.cam_units.specs.Board.{IsOnBoard}
 use Rattle.cam_words.specs.Cutting.{Command}
 use Rattle.cam_numbers.specs.Numbers.{IsApertureNumber}
+use Rattle.cam_objects.specs.declared.attribute.Attribute.{Attribute}
+use Rattle.cam_objects.specs.Attributes.{AreAttributes}
 use Rattle.cam_apertures.specs.declared.aperture.Aperture.{Aperture as Shape}
 use Rattle.cam_apertures.specs.declared.aperture.Aperture.TheVariants.{Prims}
 use Rattle.cam_apertures.specs.Soundness.{IsSoundAperture}
@@ -37,7 +39,8 @@ use Rattle.cam_writers.specs.Machinery.Writing.{line_of}
 use Rattle.cam_writers.specs.Machinery.GerberTracking.{TracksPast, TracksCommands, IsWritableGrid}
 use Rattle.cam_writers.proofs.GerberPasts.{definition_text}
 use Rattle.cam_writers.proofs.GerberSettings.{polarity_says, mirror_says, rotation_says, selection_says, mode_says}
-use Rattle.cam_writers.proofs.GerberSettings.{region_begun, region_ended, opening_says}
+use Rattle.cam_writers.proofs.GerberSettings.{region_begun, region_ended}
+use Rattle.cam_writers.proofs.GerberAttributes.{opening_says, opens}
 use Rattle.cam_writers.proofs.GerberOperations.{move_says, flash_says, line_says, arc_says}
 use Rattle.cam_writers.proofs.GerberRepeats.{open_block_says, close_block_says, open_repeat_says, close_repeat_says}
 use Rattle.cam_writers.proofs.GerberDefinitions.{definition_says}
@@ -255,25 +258,28 @@ begun text = record {
   point = record { x = pos 0; y = pos 0 };
 }
 
-pub opened : (text : Vec ℕ) → text.items ≡ text_of opening
-    → TracksCommands opening (begun text)
-opened text is =
-    let w : GerberText = begun text in record {
+pub opened : (attributes : List Attribute) (text : Vec ℕ) → AreAttributes attributes → text.items ≡ text_of (opening attributes)
+    → TracksCommands (opening attributes) (begun text)
+opened attributes text set is =
+    let w : GerberText = begun text in
+    let o = opens attributes set in
+    record {
       text = is;
-      values = subst (λ (past : Past). TracksPast past w) (sym opening_says) (record {
-        format = refl;
-        unit = refl;
-        dark = refl;
-        mirror = refl;
-        rotation = refl;
-        aperture = refl;
+      values = subst (λ (past : Past). TracksPast past w) (sym (opening_says attributes set.each)) (record {
+        format = o.format;
+        unit = o.unit;
+        dark = sym o.dark;
+        mirror = sym o.mirror;
+        rotation = sym o.rotation;
+        aperture = sym o.aperture;
         mode = refl;
-        point = refl;
+        point = sym o.point;
       });
     }
 
--- four commands, one behind the other
-pub four_lines : (a b c d : Command) (first second third fourth : Vec ℕ) → first.items ≡ line_of a
-    → second.items ≡ first.items ++ line_of b → third.items ≡ second.items ++ line_of c
-    → fourth.items ≡ third.items ++ line_of d → fourth.items ≡ text_of (d ∷ c ∷ b ∷ a ∷ [])
-four_lines a b c d first second third fourth e1 e2 e3 e4 = cc
+-- two commands, lines, and two commands more, one behind the other
+pub five_parts : (a b c d : Command) (lines : List ℕ) (first second third fourth fifth : Vec ℕ) → first.items ≡ line_of a
+    → second.items ≡ first.items ++ line_of b → third.items ≡ second.items ++ lines
+    → fourth.items ≡ third.items ++ line_of c → fifth.items ≡ fourth.items ++ line_of d
+    → fifth.items ≡ ((text_of (b ∷ a ∷ []) ++ lines) ++ line_of c) ++ line_of d
+five_parts a b c d lines first second third fourth fifth e1 e2 e3 e4 e5 = cc

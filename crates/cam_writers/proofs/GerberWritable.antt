@@ -1,7 +1,7 @@
 -- What stands in sound layers can be written.
 use Rattle.std.proofs.Common.{◌≡◌, ℕ, ◌+◌, ◌<◌, ◌≤◌, List, [], ◌∷◌, ◌++◌, length, take, codes, get_or, slice_get, Some}
 use Rattle.std.proofs.Common.{None, sym, ap, subst, ◌∙◌, slice_index_or}
-use Rattle.std.specs.List.{All, AllByRecursion}
+use Rattle.std.specs.List.{All, AllByRecursion, fold}
 use Rattle.std.proofs.lemmas.List.Elements.{All-from_recursion}
 use Rattle.std.proofs.lemmas.List.Sums.{fold_more}
 use Rattle.std.proofs.lemmas.List.{take_all}
@@ -9,6 +9,7 @@ use Rattle.std.specs.Global.{Vec}
 use Rattle.std.proofs.lemmas.Option.{same_Some, slice_get-get_or}
 use Rattle.cam_shapes.specs.declared.segments.Seg.{Seg}
 use Rattle.cam_shapes.specs.declared.segments.Seg.TheVariants.{Line, Curve}
+use Rattle.cam_objects.specs.declared.attribute.Attribute.{Attribute}
 use Rattle.cam_objects.specs.declared.object.Object.{Object}
 use Rattle.cam_objects.specs.declared.object.Object.TheVariants.{Flash, Draw, Arc, Region}
 use Rattle.cam_objects.specs.declared.entry.Entry.{Entry}
@@ -17,7 +18,7 @@ use Rattle.cam_objects.specs.declared.item.Item.{Item}
 use Rattle.cam_objects.specs.declared.item.Item.TheVariants.{One, Repeat}
 use Rattle.cam_objects.specs.Soundness.{IsSoundItem, IsSoundDictionary, IsSoundContent, MayAddEntry}
 use Rattle.cam_writers.specs.declared.gerber_state.GerberText.{GerberText}
-use Rattle.cam_writers.specs.GerberTexts.{Commands, text_of, with_entry, with_entries, opening, commands_before_end, gerber_text}
+use Rattle.cam_writers.specs.GerberTexts.{Commands, text_of, with_entry, commands_before_end, gerber_text}
 use Rattle.cam_writers.specs.Commands.{word}
 use Rattle.cam_writers.specs.Machinery.Writing.{line_of}
 use Rattle.cam_writers.specs.Machinery.GerberTracking.{TracksCommands, IsWritableSegment, IsWritableObject, IsWritableEntry, IsWritableItem}
@@ -87,14 +88,15 @@ entry_writable entries place e sound below is =
     (may_be_written (take place entries) (slice_index_or entries place e).0 (slice_index_or entries place e).1
     (numbered_before entries place sound) (sound place e below))
 
-pub entry_tracked : (entries : List (ℕ × Entry)) (place : ℕ) (e : ℕ × Entry) (w : GerberText) → place < length entries
-    → slice_get entries place ≡ Some e → TracksCommands (with_entry (with_entries (take place entries)) e) w
-    → TracksCommands (with_entries (take (place + 1) entries)) w
-entry_tracked entries place e w below is h =
+pub entry_tracked : (commands : Commands) (entries : List (ℕ × Entry)) (place : ℕ) (e : ℕ × Entry) (w : GerberText)
+    → place < length entries
+    → slice_get entries place ≡ Some e → TracksCommands (with_entry (fold with_entry commands (take place entries)) e) w
+    → TracksCommands (fold with_entry commands (take (place + 1) entries)) w
+entry_tracked commands entries place e w below is h =
     let same : get_or entries place e ≡ e =
     same_Some (get_or entries place e) e (sym (slice_get-get_or entries place e below) ∙ is) in
-    let step : with_entries (take (place + 1) entries) ≡ with_entry (with_entries (take place entries)) e =
-    fold_more with_entry opening entries place e below ∙ ap (with_entry (with_entries (take place entries))) same in
+    let step : fold with_entry commands (take (place + 1) entries) ≡ with_entry (fold with_entry commands (take place entries)) e =
+    fold_more with_entry commands entries place e below ∙ ap (with_entry (fold with_entry commands (take place entries))) same in
     subst (λ (cs : Commands). TracksCommands cs w) (sym step) h
 
 pub never_past : (entries : List (ℕ × Entry)) (place : ℕ) → place < length entries → slice_get entries place ≡ None → ⊥
@@ -110,11 +112,12 @@ item_at_writable entries items listed place item sound same below is =
     subst (λ (is : List Item). All (IsSoundItem entries) is) (sym same) sound.items in
     item_writable entries item sound.entries (subst (IsSoundItem entries) (sym is) (all place item below))
 
-pub ended : (entries : List (ℕ × Entry)) (items listed : List Item) (n : ℕ) (w : GerberText) (text : Vec ℕ)
-    → TracksCommands (commands_before_end entries (take n items)) w → length items ≤ n → items ≡ listed
-    → text.items ≡ w.text.items ++ line_of (word (codes "M02")) → text.items ≡ gerber_text entries listed
+pub ended : (attributes : List Attribute) (entries : List (ℕ × Entry)) (items listed : List Item) (n : ℕ) (w : GerberText)
+    (text : Vec ℕ) → TracksCommands (commands_before_end attributes entries (take n items)) w → length items ≤ n
+    → items ≡ listed → text.items ≡ w.text.items ++ line_of (word (codes "M02"))
+    → text.items ≡ gerber_text attributes entries listed
 unfolding gerber_text
-ended entries items listed n w text h all same longer =
+ended attributes entries items listed n w text h all same longer =
     longer
     ∙ ap (λ (front : List ℕ). front ++ line_of (word (codes "M02")))
-    (h.text ∙ ap (λ (is : List Item). text_of (commands_before_end entries is)) (take_all n items all ∙ same))
+    (h.text ∙ ap (λ (is : List Item). text_of (commands_before_end attributes entries is)) (take_all n items all ∙ same))

@@ -27,6 +27,7 @@ pub mod GerberMacroTexts
 pub mod GerberMacros
 pub mod GerberMacroExpansions
 pub mod GerberApertures
+pub mod GerberAttributes
 pub mod GerberSaid
 pub mod GerberFits
 pub mod GerberStates

@@ -15,8 +15,8 @@ use Rattle.cam_xnc.specs.declared.statement.Statement.TheVariants.{DrillMode, Hi
 use Rattle.cam_xnc.specs.declared.statement.Coordinate.TheVariants.{Written}
 use Rattle.cam_xnc.specs.Bytes.{is_line_end, is_skipped, is_semicolon, is_bad, code_of, packed, is_blank}
 use Rattle.cam_numbers.specs.Numbers.{is_numeric, run_of, behind_run}
-use Rattle.cam_xnc.specs.Syntax.{field, coordinate, coordinates_of, with_coordinates, tool_by, tool_statement}
-use Rattle.cam_xnc.specs.Syntax.{rout_statement, other_statement, statement_of}
+use Rattle.cam_xnc.specs.Syntax.{field, coordinate, coordinates_of, with_coordinates, slot_statement, hit_or, tool_by}
+use Rattle.cam_xnc.specs.Syntax.{tool_statement, rout_statement, other_statement, statement_of}
 use Rattle.cam_writers.specs.Lengths.{mm}
 use Rattle.cam_writers.specs.DrillTexts.{tool_line, declaration, point_line}
 use Rattle.cam_writers.proofs.Decimals.{scaled, digits_of_decimal, digits_numeric, mm_again, mm_pointed, mm_numeric}
@@ -92,7 +92,9 @@ coordinates_again x y hx hy =
 
 pub hit_says : (p : Point) → IsOnBoard p → statement_of (point_line [] p) ≡ HitAt (Written (scaled p.x)) (Written (scaled p.y))
 unfolding point_line statement_of
-hit_says p on = ap (with_coordinates HitAt) (coordinates_again p.x p.y (omega (arith, on.x)) (omega (arith, on.y)))
+hit_says p on =
+    ap (λ coordinates. hit_or coordinates (slot_statement (point_line [] p)))
+    (coordinates_again p.x p.y (omega (arith, on.x)) (omega (arith, on.y)))
 
 pub start_says : (p : Point) → IsOnBoard p → statement_of (point_line (codes "G00") p)
     ≡ RoutTo (Written (scaled p.x)) (Written (scaled p.y))

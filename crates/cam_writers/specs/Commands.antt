@@ -1,5 +1,5 @@
--- The commands of canonical Gerber texts, as they are written. Gerber Layer Format Specification, "Graphics state",
--- "Operations (D01/D02/D03)", "Aperture definition (AD)", "Aperture macro (AM)", "Block aperture (AB)" and "Step and
+-- The commands of canonical Gerber texts, as they are written. Gerber Layer Format Specification, "File attributes (TF)",
+-- "Graphics state", "Operations (D01/D02/D03)", "Aperture definition (AD)", "Aperture macro (AM)", "Block aperture (AB)" and "Step and
 -- repeat (SR)".
 use Rattle.std.specs.Prelude.{ℕ, ℤ, pos, ◌-ℤ◌, List, [], ◌∷◌, ◌++◌, length, take, codes, decimal, Bool, true, false}
 use Rattle.std.specs.Prelude.{if◌then◌else◌}
@@ -15,6 +15,7 @@ use Rattle.cam_macros.specs.declared.primitive.PrimShape.{PrimShape}
 use Rattle.cam_macros.specs.declared.primitive.PrimShape.TheVariants.{Disc, Bar, Rect as Rectangle, Outline}
 use Rattle.cam_apertures.specs.declared.aperture.Aperture.{Aperture}
 use Rattle.cam_apertures.specs.declared.aperture.Aperture.TheVariants.{Circle, Rect, Obround, Prims}
+use Rattle.cam_objects.specs.declared.attribute.Attribute.{Attribute}
 use Rattle.cam_commands.specs.declared.parts.Mode.{Mode}
 use Rattle.cam_commands.specs.declared.parts.Mode.TheVariants.{Linear, Clockwise, Counterclockwise}
 use Rattle.cam_writers.specs.Lengths.{mm, whole}
@@ -24,6 +25,11 @@ word text = WordCommand text
 
 abbrev pub extended : List ℕ → Command
 extended text = ExtendedCommand text []
+
+-- ---- attributes
+
+unfoldable pub attribute_command : Attribute → Command
+attribute_command a = extended (codes "TF" ++ (a.name ++ a.fields))
 
 -- ---- settings
 

@@ -1,6 +1,7 @@
--- The canonical text of a Gerber layer: it grows by the settings in which the next object differs from the state in
--- force after the text so far, and by the object. Gerber Layer Format Specification, "Graphics state", "Aperture
--- dictionary", "Block aperture (AB)", "Step and repeat (SR)" and "Region statement (G36/G37)".
+-- The canonical text of a Gerber layer: behind the unit stand its file attributes, and then it grows by the settings in
+-- which the next object differs from the state in force after the text so far, and by the object. Gerber Layer Format
+-- Specification, "File attributes (TF)", "Graphics state", "Aperture dictionary", "Block aperture (AB)", "Step and repeat
+-- (SR)" and "Region statement (G36/G37)".
 use Rattle.std.specs.Prelude.{ℕ, ◌==◌, List, [], ◌∷◌, ◌++◌, map, codes, Option, Some, None, Bool, true, false}
 use Rattle.std.specs.Prelude.{not, if◌then◌else◌}
 use Rattle.std.specs.List.{fold}
@@ -13,6 +14,7 @@ use Rattle.cam_shapes.specs.declared.segments.Seg.TheVariants.{Line, Curve}
 use Rattle.cam_words.specs.Cutting.{Command, bytes_of_command, word_of}
 use Rattle.cam_apertures.specs.declared.aperture.Aperture.TheVariants.{Prims}
 use Rattle.cam_apertures.specs.declared.aperture.Aperture.{Aperture as Shape}
+use Rattle.cam_objects.specs.declared.attribute.Attribute.{Attribute}
 use Rattle.cam_objects.specs.declared.object.Object.{Object}
 use Rattle.cam_objects.specs.declared.object.Object.TheVariants.{Flash, Draw, Arc, Region}
 use Rattle.cam_objects.specs.declared.entry.Entry.{Entry}
@@ -27,7 +29,7 @@ use Rattle.cam_gerber.specs.Statements.{Statement}
 use Rattle.cam_gerber.specs.State.{Past, dark_in, mirror_in, rotation_in, aperture_in, mode_in, point_in}
 use Rattle.cam_gerber.specs.Faults.{is_same_point}
 use Rattle.cam_gerber.specs.Computing.{statement_of}
-use Rattle.cam_writers.specs.Commands.{word, extended, polarity_command, mirror_of, mirror_command, rotation_of}
+use Rattle.cam_writers.specs.Commands.{word, extended, attribute_command, polarity_command, mirror_of, mirror_command, rotation_of}
 use Rattle.cam_writers.specs.Commands.{rotation_command, selection_command, mode_command, move_command, flash_command}
 use Rattle.cam_writers.specs.Commands.{line_command, arc_command, definition_command, macro_command, open_block}
 use Rattle.cam_writers.specs.Commands.{close_block, open_repeat, close_repeat}
@@ -153,16 +155,23 @@ with_item commands (Repeat columns rows i j objects) =
 
 -- ---- the text
 
--- four integer digits and six decimals, in mm; lines, and arcs of any length
-unfoldable pub opening : Commands
-opening = word (codes "G75") ∷ word (codes "G01") ∷ extended (codes "MOMM") ∷ extended (codes "FSLAX46Y46") ∷ []
+-- four integer digits and six decimals, in mm
+abbrev pub units : Commands
+units = extended (codes "MOMM") ∷ extended (codes "FSLAX46Y46") ∷ []
 
-abbrev pub with_entries : List (ℕ × Entry) → Commands
-with_entries entries = fold with_entry opening entries
+abbrev pub with_attribute_of : Commands → Attribute → Commands
+with_attribute_of commands a = attribute_command a ∷ commands
 
-abbrev pub commands_before_end : List (ℕ × Entry) → List Item → Commands
-commands_before_end entries items = fold with_item (with_entries entries) items
+-- behind the file attributes lines, and arcs of any length
+unfoldable pub opening : List Attribute → Commands
+opening attributes = word (codes "G75") ∷ word (codes "G01") ∷ fold with_attribute_of units attributes
 
--- the canonical text of a dictionary and items
-unfoldable pub gerber_text : List (ℕ × Entry) → List Item → List ℕ
-gerber_text entries items = text_of (word (codes "M02") ∷ commands_before_end entries items)
+abbrev pub with_entries : List Attribute → List (ℕ × Entry) → Commands
+with_entries attributes entries = fold with_entry (opening attributes) entries
+
+abbrev pub commands_before_end : List Attribute → List (ℕ × Entry) → List Item → Commands
+commands_before_end attributes entries items = fold with_item (with_entries attributes entries) items
+
+-- the canonical text of file attributes, a dictionary and items
+unfoldable pub gerber_text : List Attribute → List (ℕ × Entry) → List Item → List ℕ
+gerber_text attributes entries items = text_of (word (codes "M02") ∷ commands_before_end attributes entries items)

@@ -1,5 +1,6 @@
 -- Laws of canonical texts.
 use Rattle.std.specs.Prelude.{◌≡◌, ℕ, drop, map, reverse, Ok}
+use Rattle.cam_objects.specs.Attributes.{AreAttributes}
 use Rattle.cam_objects.specs.DrillSoundness.{IsSoundDrillContent}
 use Rattle.cam_objects.specs.Contents.{Content, DrillContent}
 use Rattle.cam_objects.specs.Soundness.{IsSoundContent}
@@ -43,18 +44,18 @@ IsToldByCommands commands =
 -- wherever a canonical text is cut behind a command: so the state that settings are read off is the reader's
 abbrev pub TellsItsCommands : Type 0
 TellsItsCommands =
-    (layer : Content) (left : ℕ) → IsSoundContent layer.entries layer.items
-    → IsToldByCommands (drop left (commands_before_end layer.entries layer.items))
+    (layer : Content) (left : ℕ) → AreAttributes layer.attributes → IsSoundContent layer.entries layer.items
+    → IsToldByCommands (drop left (commands_before_end layer.attributes layer.entries layer.items))
 
--- the canonical text of a layer is read as its dictionary and its items
+-- the canonical text of a layer is read as its file attributes in order, its dictionary and its items
 abbrev pub GerberReadsBack : Type 0
 GerberReadsBack =
-    (layer : Content) → IsSoundContent layer.entries layer.items
-    → gerber_reading (gerber_text layer.entries layer.items) ≡ Ok layer
+    (layer : Content) → AreAttributes layer.attributes → IsSoundContent layer.entries layer.items
+    → gerber_reading (gerber_text layer.attributes layer.entries layer.items) ≡ Ok layer
 
 -- what was read from a canonical text is written as the same text
 abbrev pub GerberWritesAgain : Type 0
 GerberWritesAgain =
-    (layer again : Content) → IsSoundContent layer.entries layer.items
-    → gerber_reading (gerber_text layer.entries layer.items) ≡ Ok again
-    → gerber_text again.entries again.items ≡ gerber_text layer.entries layer.items
+    (layer again : Content) → AreAttributes layer.attributes → IsSoundContent layer.entries layer.items
+    → gerber_reading (gerber_text layer.attributes layer.entries layer.items) ≡ Ok again
+    → gerber_text again.attributes again.entries again.items ≡ gerber_text layer.attributes layer.entries layer.items

@@ -6,10 +6,11 @@ ghost use Rattle.cam_writers.specs.Commands.{arc_command, coordinates, extended,
 ghost use Rattle.cam_writers.specs.Commands.{mirror_command, mode_command, move_command, offsets, open_block};
 ghost use Rattle.cam_writers.specs.Commands.{open_repeat, polarity_command, rotation_command, selection_command};
 ghost use Rattle.cam_writers.specs.Commands.{word};
-ghost use Rattle.cam_writers.specs.Machinery.Writing.{line_of, steps_text};
+ghost use Rattle.cam_writers.specs.Machinery.Writing.{attribute_line, attribute_lines, line_of, steps_text};
 
 use crate::lengths::{push_mm, push_number, push_whole};
 use cam_commands::Mode;
+use cam_objects::Attribute;
 use cam_units::{Nm, Point, Turn};
 use std::alloc::AllocError;
 
@@ -39,6 +40,27 @@ pub fn push_extended(text: &mut Vec<u8>, command: &[u8]) -> Result<(), AllocErro
     text.extend_from_slice(b"%")?;
     text.extend_from_slice(command)?;
     text.extend_from_slice(b"*%\n")
+}
+
+/// Writes the command that sets a file attribute.
+#[tactic(auto, unfolding(crate::specs::Commands::attribute_command))]
+fn push_attribute(text: &mut Vec<u8>, attribute: &Attribute) -> Result<(), AllocError>
+    ensures { OnOk result (text.new.items ≡ text.old.items ++ attribute_line attribute.now) }
+{
+    text.extend_from_slice(b"%TF")?;
+    text.extend_from_slice(attribute.name.as_slice())?;
+    text.extend_from_slice(attribute.fields.as_slice())?;
+    text.extend_from_slice(b"*%\n")
+}
+
+/// Writes the commands that set file attributes, in order.
+pub fn push_attributes(text: &mut Vec<u8>, attributes: &[Attribute]) -> Result<(), AllocError>
+    ensures { OnOk result (text.new.items ≡ text.old.items ++ attribute_lines attributes.now) }
+{
+    for attribute in attributes {
+        push_attribute(text, attribute)?;
+    }
+    Ok(())
 }
 
 /// Writes the command that sets the polarity.

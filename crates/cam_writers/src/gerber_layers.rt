@@ -1,12 +1,12 @@
 //! The text of a Gerber layer.
 
-ghost use Rattle.std.specs.Prelude.{◌≡◌, All, IfOk, OnOk};
+ghost use Rattle.std.specs.Prelude.{◌≡◌, All, IfOk, OnOk, fold};
 ghost use Rattle.cam_numbers.specs.Numbers.{IsApertureNumber};
 ghost use Rattle.cam_apertures.specs.Soundness.{IsSoundAperture};
 ghost use Rattle.cam_objects.specs.Soundness.{IsSound, IsSoundDictionary};
 ghost use Rattle.cam_objects.specs.Contents.{content_of};
 ghost use Rattle.cam_gerber.specs.Computing.{reading_of};
-ghost use Rattle.cam_writers.specs.GerberTexts.{Commands, gerber_text, opening, with_entries, with_entry, with_item};
+ghost use Rattle.cam_writers.specs.GerberTexts.{Commands, gerber_text, with_entry, with_item};
 ghost use Rattle.cam_writers.specs.GerberTexts.{with_macro};
 ghost use Rattle.cam_writers.specs.Machinery.GerberTracking.{IsWritableEntry, IsWritableGrid, IsWritableItem};
 ghost use Rattle.cam_writers.specs.Machinery.GerberTracking.{IsWritableObject, TracksCommands};
@@ -71,9 +71,9 @@ impl GerberText {
 
     /// Writes the entries of a dictionary in order.
     fn write_entries(&mut self, entries: &Dictionary) -> Result<(), AllocError>
-        requires sound { IsSoundDictionary entries.now }
-        requires begun { TracksCommands opening self.old }
-        ensures { OnOk result (TracksCommands (with_entries entries.now) self.new) }
+        requires { IsSoundDictionary entries.now }
+        ensures { (commands : Commands) → TracksCommands commands self.old
+            → OnOk result (TracksCommands (fold with_entry commands entries.now) self.new) }
     {
         for place in 0..entries.len() {
             if let Some((number, entry)) = entries.at(place) {
@@ -123,17 +123,17 @@ impl GerberText {
 }
 
 /// The canonical text of a sound layer, a Gerber file; an error where no memory is left for it. It
-/// is read as the same dictionary and items.
+/// is read as the same file attributes, dictionary and items.
 ///
-/// (Gerber Layer Format Specification, "Graphics state", "Aperture dictionary", "Block aperture (AB)",
-/// "Step and repeat (SR)" and "Region statement (G36/G37)".)
+/// (Gerber Layer Format Specification, "File attributes (TF)", "Graphics state", "Aperture dictionary", "Block
+/// aperture (AB)", "Step and repeat (SR)" and "Region statement (G36/G37)".)
 pub fn gerber_text(alloc: Global, layer: &Layer) -> Result<Vec<u8>, AllocError>
     requires { IsSound layer.now }
     ensures text { IfOk result (λ text.
-        text.items ≡ gerber_text layer.now.apertures layer.now.items.items) }
+        text.items ≡ gerber_text layer.now.attributes.items layer.now.apertures layer.now.items.items) }
     ensures reads_back { IfOk result (λ text. reading_of text.items ≡ Ok (content_of layer.now)) }
 {
-    let mut written = GerberText::new(alloc)?;
+    let mut written = GerberText::new(alloc, layer.attributes())?;
     written.write_entries(layer.entries())?;
     for item in layer.items() {
         written.write_item(item)?;

@@ -3,6 +3,7 @@
 ghost use Rattle.std.specs.Prelude.{◌≡◌, ◌∷◌, IfOk, OnOk};
 ghost use Rattle.cam_units.specs.Board.{IsOnBoard};
 ghost use Rattle.cam_numbers.specs.Numbers.{IsApertureNumber};
+ghost use Rattle.cam_objects.specs.Attributes.{AreAttributes};
 ghost use Rattle.cam_gerber.specs.Faults.{is_same_point};
 ghost use Rattle.cam_writers.specs.Commands.{arc_command, flash_command, line_command, mirror_of, move_command};
 ghost use Rattle.cam_writers.specs.Commands.{rotation_of};
@@ -12,10 +13,11 @@ ghost use Rattle.cam_writers.specs.GerberTexts.{with_turn};
 ghost use Rattle.cam_writers.specs.Machinery.GerberTracking.{TracksCommands};
 
 use crate::gerber_commands::{
-    push_arc, push_extended, push_flash, push_line, push_mirror, push_mode, push_move,
-    push_polarity, push_rotation, push_selection, push_word,
+    push_arc, push_attributes, push_extended, push_flash, push_line, push_mirror, push_mode,
+    push_move, push_polarity, push_rotation, push_selection, push_word,
 };
 use cam_commands::Mode;
+use cam_objects::Attribute;
 use cam_units::{Point, Turn};
 use std::alloc::{AllocError, Global};
 
@@ -77,13 +79,15 @@ fn is_same_point(point: Point, other: Point) -> bool
 }
 
 impl GerberText {
-    /// The commands before the dictionary.
-    pub fn new(alloc: Global) -> Result<GerberText, AllocError>
-        ensures { IfOk result (TracksCommands opening) }
+    /// The commands before the dictionary, file attributes among them.
+    pub fn new(alloc: Global, attributes: &[Attribute]) -> Result<GerberText, AllocError>
+        requires { AreAttributes attributes.now }
+        ensures { IfOk result (TracksCommands (opening attributes.now)) }
     {
         let mut text = Vec::new(alloc);
         push_extended(&mut text, b"FSLAX46Y46")?;
         push_extended(&mut text, b"MOMM")?;
+        push_attributes(&mut text, attributes)?;
         push_word(&mut text, b"G01")?;
         push_word(&mut text, b"G75")?;
         Ok(GerberText {

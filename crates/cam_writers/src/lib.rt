@@ -22,6 +22,7 @@
 //! ```text
 //! %FSLAX46Y46*%
 //! %MOMM*%
+//! %TF.Part,Single*%                a file attribute
 //! G01*
 //! G75*
 //! %ADD10C,0.500000*%                aperture 10 is a disc 0.5 mm wide

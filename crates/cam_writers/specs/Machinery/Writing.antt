@@ -5,12 +5,19 @@ use Rattle.cam_units.specs.declared.length.Nm.{Nm}
 use Rattle.cam_units.specs.declared.point.Point.{Point}
 use Rattle.cam_macros.specs.declared.primitive.MacroPrimitive.{MacroPrimitive}
 use Rattle.cam_words.specs.Cutting.{Command, bytes_of_command}
+use Rattle.cam_objects.specs.declared.attribute.Attribute.{Attribute}
 use Rattle.cam_writers.specs.Lengths.{mm}
-use Rattle.cam_writers.specs.Commands.{point_fields, primitive_text}
+use Rattle.cam_writers.specs.Commands.{attribute_command, point_fields, primitive_text}
 
 -- a command, and the end of its line
 abbrev pub line_of : Command → List ℕ
 line_of command = bytes_of_command command ++ codes "\n"
+
+abbrev pub attribute_line : Attribute → List ℕ
+attribute_line a = line_of (attribute_command a)
+
+abbrev pub attribute_lines : List Attribute → List ℕ
+attribute_lines attributes = flat_map attribute_line attributes
 
 abbrev pub sides_text : Nm → Nm → List ℕ
 sides_text width height = mm width.0 ++ (codes "X" ++ mm height.0)

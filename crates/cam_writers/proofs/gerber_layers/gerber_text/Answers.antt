@@ -8,14 +8,16 @@ use Rattle.cam_writers.proofs.gerber_layers.gerber_text.Goals as goal
 pub write_item-requires : goal.write_item-requires
 write_item-requires c =
     item_at_writable c.args.layer.now.apertures c.items-item-items.result.now c.args.layer.now.items.items
-    c.loop-item.item-index c.item-item.result c.requires c.items-item-items.ensures c.loop-item-test.true
+    c.loop-item.item-index c.item-item.result c.requires.content c.items-item-items.ensures c.loop-item-test.true
     c.item-item.is
 
 pub returns-clause-text : goal.returns-clause-text
 returns-clause-text c =
-    ended c.args.layer.now.apertures c.items-item-items.result.now c.args.layer.now.items.items
+    ended c.args.layer.now.attributes.items c.args.layer.now.apertures c.items-item-items.result.now c.args.layer.now.items.items
     c.loop-item.item-index c.loop-item.written c.push_word.new.text c.loop-item.invariant c.loop-item-test.false
     c.items-item-items.ensures c.in_ok-push_word.ensures
 
 pub returns-clause-reads_back : goal.returns-clause-reads_back
-returns-clause-reads_back c = ap reading_of (returns-clause-text c) ∙ gerber_reads_back (content_of c.args.layer.now) c.requires
+returns-clause-reads_back c =
+    ap reading_of (returns-clause-text c)
+    ∙ gerber_reads_back (content_of c.args.layer.now) c.requires.attributes c.requires.content

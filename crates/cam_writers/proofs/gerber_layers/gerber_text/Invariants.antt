@@ -5,4 +5,4 @@ use Rattle.cam_writers.proofs.gerber_layers.gerber_text.Given as goal
 
 abbrev pub invariant-loop-item : goal.invariant-loop-item
 invariant-loop-item l =
-    TracksCommands (commands_before_end l.layer.apertures (take l.item-index l.item-items)) l.written
+    TracksCommands (commands_before_end l.layer.attributes.items l.layer.apertures (take l.item-index l.item-items)) l.written
