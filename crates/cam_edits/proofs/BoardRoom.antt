@@ -16,11 +16,11 @@ use Rattle.cam_edits.specs.declared.board_step.BoardStep.TheVariants as steps
 use Rattle.cam_edits.specs.declared.drill_step.DrillStep.{DrillStep}
 use Rattle.cam_edits.specs.declared.step.Step.{Step}
 use Rattle.cam_edits.specs.BoardSteps.{HasRoomOn, IsDrillFitOn, IsFitOn, after_drill_on, after_on, drill_steps_on, joined_if, steps_on}
-use Rattle.cam_edits.specs.Machinery.Room.{HasPlaces, inserts_at}
+use Rattle.cam_edits.specs.Machinery.Room.{HasPlaces, inserts_at, puts_at}
 use Rattle.cam_edits.specs.DrillSteps.{is_drill_insertion}
 use Rattle.cam_edits.specs.Machinery.BoardStepLaws.{HasDrillPlacesFor, HasPlacesFor, drill_steps_joined, rest_has_room_on, steps_joined}
 use Rattle.cam_edits.specs.Sheets.{content_of}
-use Rattle.cam_edits.specs.Steps.{is_insertion}
+use Rattle.cam_edits.specs.Steps.{is_insertion, puts_attribute}
 use Rattle.cam_units.specs.declared.bounds.Bounds.{Bounds}
 
 -- ---- room for what is counted is room for the steps
@@ -28,6 +28,10 @@ joined_count : {X : Type 0} (p : X → Bool) (b : Bool) (x : X) (xs : List X)
     → count_by p (joined_if b x xs) ≡ cond (b && p x) 1 0 + count_by p xs
 joined_count p true x xs = sum_by-cons (λ y. cond (p y) 1 0) x xs
 joined_count p false x xs = omega arith
+
+-- there are places for what the group inserts and puts on the sheet at a place
+abbrev HasCountedPlaces : ℕ → List BoardStep → SheetContent → Type 0
+HasCountedPlaces place group c = HasPlaces (count_by (inserts_at place) group) (count_by (puts_at place) group) c
 
 module _ (place : ℕ) where
   abbrev total : List BoardStep → ℕ
@@ -52,30 +56,45 @@ module _ (place : ℕ) where
       let here = joined_count is_drill_insertion (eqb at place) step (drill_steps_on place group) in
       omega (arith, here, total_is (steps.Drill at step boxes) group, drill_counted group)
 
-  room_counted : (group : List BoardStep) (c : SheetContent) → HasPlaces (count_by (inserts_at place) group) c
-      → HasRoomOn place group c
-  room_counted group (kept.Gerber layer) h = let few = counted group in omega arith
+  abbrev put_total : List BoardStep → ℕ
+  put_total group = count_by (puts_at place) group
+
+  put_total_is : (step : BoardStep) (group : List BoardStep)
+      → put_total (step ∷ group) ≡ cond (puts_at place step) 1 0 + put_total group
+  put_total_is step group = sum_by-cons (λ (s : BoardStep). cond (puts_at place s) 1 0) step group
+
+  puts_counted : (group : List BoardStep) → count_by puts_attribute (steps_on place group) ≤ put_total group
+  puts_counted [] = omega arith
+  puts_counted (steps.Gerber at step boxes ∷ group) =
+      let here = joined_count puts_attribute (eqb at place) step (steps_on place group) in
+      omega (arith, here, put_total_is (steps.Gerber at step boxes) group, puts_counted group)
+  puts_counted (steps.Drill at step boxes ∷ group) =
+      omega (arith, put_total_is (steps.Drill at step boxes) group, puts_counted group)
+
+  room_counted : (group : List BoardStep) (c : SheetContent) → HasCountedPlaces place group c → HasRoomOn place group c
+  room_counted group (kept.Gerber layer) h =
+      (omega (arith, counted group, h.0), omega (arith, puts_counted group, h.1))
   room_counted group (kept.Drill layer) h = let few = drill_counted group in omega arith
 
 -- the sheets before a place have room for what a group inserts on each
 abbrev pub HasPlacesBefore : ℕ → List BoardStep → List KeptSheet → Type 0
 HasPlacesBefore n group xs =
     (at : ℕ) → MatchOption (slice_get xs at) (Unit {0})
-    (λ s. at < n → HasPlaces (count_by (inserts_at at) group) s.content)
+    (λ s. at < n → HasCountedPlaces at group s.content)
 
 pub one_more : (n : ℕ) (group : List BoardStep) (xs : List KeptSheet) (s : KeptSheet) (new : SheetContent)
-    → slice_get xs n ≡ Some s → HasPlaces (count_by (inserts_at n) group) new → HasPlacesBefore n group xs
+    → slice_get xs n ≡ Some s → HasCountedPlaces n group new → HasPlacesBefore n group xs
     → HasPlacesBefore (n + 1) group (slice_set xs n (holding s new))
 one_more n group xs s new e room h =
-    each_changed (λ at (t : KeptSheet). at < n → HasPlaces (count_by (inserts_at at) group) t.content)
-    (λ at (t : KeptSheet). at < n + 1 → HasPlaces (count_by (inserts_at at) group) t.content) xs n s (holding s new) e
+    each_changed (λ at (t : KeptSheet). at < n → HasCountedPlaces at group t.content)
+    (λ at (t : KeptSheet). at < n + 1 → HasCountedPlaces at group t.content) xs n s (holding s new) e
     (λ _ _. room) (λ at t ne places lt. places (omega arith)) h
 
 pub room_on_each : (n : ℕ) (group : List BoardStep) (xs : List KeptSheet) → length xs ≤ n → HasPlacesBefore n group xs
     → (place : ℕ) → MatchOption (slice_get xs place) (Unit {0}) (λ s. HasRoomOn place group s.content)
 room_on_each n group xs all h place = go (slice_get xs place) refl (h place) where
   go : (o : Option KeptSheet) → slice_get xs place ≡ o
-      → MatchOption o (Unit {0}) (λ s. place < n → HasPlaces (count_by (inserts_at place) group) s.content)
+      → MatchOption o (Unit {0}) (λ s. place < n → HasCountedPlaces place group s.content)
       → MatchOption o (Unit {0}) (λ s. HasRoomOn place group s.content)
   go None e places = tt
   go (Some s) e places =

@@ -18,7 +18,18 @@ use Rattle.cam_objects.specs.declared.object.Object.TheVariants.{Flash, Draw, Ar
 use Rattle.cam_objects.specs.Bounds.{bounds_of, box_of_shape}
 use Rattle.cam_objects.specs.Drilling.{diameter_of}
 use Rattle.cam_objects.specs.DrillSoundness.{IsSoundDrillItem, drill_count_of}
-use Rattle.cam_objects.specs.Leaves.{Meaning, Shape, arc_leaves, draw_leaves, flashed, item_leaves, meaning_in, object_leaves, origin}
+use Rattle.cam_objects.specs.Leaves.{
+  Meaning,
+  Shape,
+  arc_leaves,
+  draw_leaves,
+  flashed,
+  item_leaves,
+  meaning_in,
+  object_leaves,
+  origin,
+  round_width,
+}
 use Rattle.cam_objects.specs.Machinery.Inside.{IsBoxOnBoard}
 use Rattle.cam_objects.specs.Machinery.Painting.{StandsOnBoard}
 use Rattle.cam_objects.specs.Soundness.{HasRadius, IsDrawable, IsFormed, IsInside, IsKnown, IsSoundItem}
@@ -29,6 +40,8 @@ use Rattle.cam_objects.proofs.PlacedBoxes.{box_of_leaves, flash_placed}
 use Rattle.cam_objects.proofs.PlacedShapes.{IsPlacedSo, box_of_points, points_so, shapes_so}
 use Rattle.cam_edits.specs.DrillSteps.{with_tool}
 use Rattle.cam_edits.specs.Steps.{with_aperture, with_object, with_polarity}
+use Rattle.cam_objects.specs.declared.tip.Tip.{Tip}
+use Rattle.cam_units.specs.declared.turn.Turn.{Turn}
 
 -- what holds of each object, changed
 each_kept : (f : Object → Object) (P : Object → Type 0) → ((o : Object) → P o → P (f o)) → (item : Item)
@@ -56,10 +69,10 @@ module _ (dark : Bool) where
   inked o = with_polarity dark o
 
   module _ (m : Shape → Bounds) (so : IsPlacedSo m) (es : List (ℕ × Entry)) where
-    drawn_box : (w : Option Nm) (from to : Point) (before : Bool)
-        → box_of_leaves m (draw_leaves w from to dark) ≡ box_of_leaves m (draw_leaves w from to before)
-    drawn_box None from to before = refl
-    drawn_box (Some w) from to before = refl
+    drawn_box : (tip : Option Tip) (t : Turn) (from to : Point) (before : Bool)
+        → box_of_leaves m (draw_leaves tip t from to dark) ≡ box_of_leaves m (draw_leaves tip t from to before)
+    drawn_box None t from to before = refl
+    drawn_box (Some tip) t from to before = refl
 
     swept_box : (w : Option Nm) (from to centre : Point) (ccw before : Bool)
         → box_of_leaves m (arc_leaves w from to centre ccw dark)
@@ -74,8 +87,8 @@ module _ (dark : Bool) where
     inked_box (Flash n at t before) =
         flash_placed m so (reverse es) n (flashed origin at t dark)
         ∙ sym (flash_placed m so (reverse es) n (flashed origin at t before))
-    inked_box (Draw n from to t before) = drawn_box (meaning_in es n).width _ _ before
-    inked_box (Arc n from to centre ccw before) = swept_box (meaning_in es n).width _ _ _ _ before
+    inked_box (Draw n from to t before) = drawn_box (meaning_in es n).tip _ _ _ before
+    inked_box (Arc n from to centre ccw before) = swept_box (round_width (meaning_in es n).tip) _ _ _ _ before
     inked_box (Region contour before) = refl
 
   pub box_with_polarity : (es : List (ℕ × Entry)) (item : Item)

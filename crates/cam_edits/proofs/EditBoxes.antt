@@ -12,8 +12,8 @@ use Rattle.cam_edits.specs.declared.step.Step.{Step}
 use Rattle.cam_edits.specs.BoxLaws.{ChangesInside, EditBoxLaw}
 use Rattle.cam_edits.specs.Boards.{changed_at, content_at, held, place_named, with_content}
 use Rattle.cam_edits.specs.DrillSteps.{after_drill_step}
-use Rattle.cam_edits.specs.Editing.{drill_step_of, edited, edited_at, edited_sheet, judged, judged_drill}
-use Rattle.cam_edits.specs.Editing.{meets_drill_step, meets_step, step_of, with_drill_step, with_step}
+use Rattle.cam_edits.specs.Editing.{drill_step_of, edited, edited_at, edited_sheet, judged_change, judged_drill}
+use Rattle.cam_edits.specs.Editing.{meets_drill_step, meets_step, with_drill_step, with_step}
 use Rattle.cam_edits.specs.Images.{image_of}
 use Rattle.cam_edits.specs.Machinery.PlaceLaws.{get_set}
 use Rattle.cam_edits.specs.Places.{changed_to}
@@ -62,10 +62,10 @@ module _ (sheets : List Sheet) (place : ℕ) (boxes : List Bounds) (new : Conten
 
 -- ---- steps
 
-gerber_kept : (c : GerberContent) (o : Option Step) (step : Step) → judged c o ≡ Ok step
-    → KeepsOutside (boxes_of_step o c) (Gerber c) (Gerber (after_step step c))
-gerber_kept c o step e s off =
-    let told = gerber_edits.accepted c o step e in
+gerber_kept : (c : GerberContent) (change : Change) (step : Step) → judged_change c change ≡ Ok step
+    → KeepsOutside (boxes_in change (Gerber c)) (Gerber c) (Gerber (after_step step c))
+gerber_kept c change step e s off =
+    let told = gerber_edits.change_accepted c change step e in
     step_keeps_outside c step (each_met (meets_step c step) told.1) s
     (subst (λ (o : Option Step). AreOff s (boxes_of_step o c)) told.0 off)
 
@@ -81,12 +81,12 @@ module _ (change : Change) (sheets after : List Sheet) (place : ℕ) where
   IsInside c = ChangesInside (touch place (boxes_in change c)) sheets after
 
   stepped : (c : GerberContent) → content_at sheets place ≡ Gerber c → (r : Result Step EditFault)
-      → judged c (step_of change) ≡ r
+      → judged_change c change ≡ r
       → with_step sheets place c r ≡ Ok after → IsInside (Gerber c)
   stepped c holds (Ok step) judgement e =
       let boxes = boxes_in change (Gerber c) in
       let new = Gerber (after_step step c) in
-      let keeps = gerber_kept c (step_of change) step judgement in
+      let keeps = gerber_kept c change step judgement in
       put_at sheets place boxes new after (subst (λ old. KeepsOutside boxes old new) (sym holds) keeps) e
   stepped c holds (Err fault) judgement e = absurd cc
 
@@ -102,7 +102,7 @@ module _ (change : Change) (sheets after : List Sheet) (place : ℕ) where
 
   sheet_edited : (c : Content) → content_at sheets place ≡ c → edited_sheet change sheets place c ≡ Ok after
       → IsInside c
-  sheet_edited (Gerber c) holds e = stepped c holds (judged c (step_of change)) refl e
+  sheet_edited (Gerber c) holds e = stepped c holds (judged_change c change) refl e
   sheet_edited (Drill c) holds e = drill_stepped c holds (judged_drill c (drill_step_of change)) refl e
 
 board_edited : (change : Change) (sheets after : List Sheet) (o : Option ℕ) → edited_at change sheets o ≡ Ok after

@@ -9,6 +9,7 @@ use Rattle.cam_objects.specs.Tests.{is_black}
 use Rattle.cam_objects.proofs.Painting.{All_left}
 use Rattle.cam_edits.specs.declared.step.Step.{Step}
 use Rattle.cam_edits.specs.declared.step.Step.TheVariants.{Insert, Delete, Move, Reorder, Aperture, Polarity}
+use Rattle.cam_edits.specs.declared.step.Step.TheVariants.{PutAttribute, TakeAttribute, SetFields}
 use Rattle.cam_edits.specs.Editing.{meets_step}
 use Rattle.cam_edits.specs.Steps.{after_step, with_aperture, with_object, with_polarity}
 use Rattle.cam_edits.specs.Touched.{box_if_there, item_box, touched}
@@ -44,3 +45,6 @@ step_keeps_outside c (Aperture k n) met s off =
 step_keeps_outside c (Polarity k dark) met s off =
     let there = item_there c.items k met.place in
     changed_off (item_leaves (meaning_in c.entries)) s c.items k there.0 there.1 (with_object (with_polarity dark)) off
+step_keeps_outside c (PutAttribute k a) met s off = refl
+step_keeps_outside c (TakeAttribute k) met s off = refl
+step_keeps_outside c (SetFields k fields) met s off = refl

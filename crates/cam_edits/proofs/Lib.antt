@@ -4,6 +4,9 @@ pub mod Names
 pub mod Refusals
 pub mod ItemMoves
 pub mod GerberEdits
+pub mod AttributeSteps
+pub mod SoundAttributes
+pub mod AttributeChanges
 pub mod DrillEdits
 pub mod Plans
 pub mod ChangedItems

@@ -15,7 +15,7 @@ front_map : {X Y : Type 0} (f : X → Y) (test : Y → Bool) (xs : List X)
 front_map f test [] = refl
 front_map f test (x ∷ xs) = ap (λ k. cond (not (test (f x))) (1 + k) 0) (front_map f test xs)
 
-position_map : {X Y : Type 0} (f : X → Y) (test : Y → Bool) (xs : List X)
+pub position_map : {X Y : Type 0} (f : X → Y) (test : Y → Bool) (xs : List X)
     → position test (map f xs) ≡ position (λ x. test (f x)) xs
 position_map f test xs =
     ap (λ k. cond (nat_lt k (length (map f xs))) (Some k) None) (front_map f test xs)

@@ -13,8 +13,8 @@ use Rattle.cam_edits.specs.declared.step.Step.{Step}
 use Rattle.cam_edits.specs.BoardSteps.{IsDrillFitOn, IsFitOn, after_drill_on, after_on}
 use Rattle.cam_edits.specs.Boards.{changed_at, content_at, held, place_named, with_content}
 use Rattle.cam_edits.specs.DrillSteps.{IsDrillFit, after_drill_step}
-use Rattle.cam_edits.specs.Editing.{drill_step_of, edited, edited_at, edited_sheet, judged}
-use Rattle.cam_edits.specs.Editing.{judged_drill, step_of, with_drill_step, with_step}
+use Rattle.cam_edits.specs.Editing.{drill_step_of, edited, edited_at, edited_sheet, judged_change}
+use Rattle.cam_edits.specs.Editing.{judged_drill, with_drill_step, with_step}
 use Rattle.cam_edits.specs.Machinery.PlaceLaws.{element_at}
 use Rattle.cam_edits.specs.Places.{changed_to}
 use Rattle.cam_edits.specs.Planning.{IsPlan, IsRefused, IsStepOf}
@@ -58,11 +58,11 @@ module _ (edit : Edit) (sheets : List Sheet) where
     -- ---- a Gerber layer
 
     module _ (c : GerberContent) (holds : content_at sheets place ≡ Gerber c) where
-      pub told : (fault : EditFault) → judged c (step_of edit.change) ≡ Err fault → IsRefused (edited edit sheets) fault
+      pub told : (fault : EditFault) → judged_change c edit.change ≡ Err fault → IsRefused (edited edit sheets) fault
       told fault e =
           subst (λ r. IsRefused r fault) (sym (edited_there (Gerber c) holds ∙ ap (with_step sheets place c) e)) refl
 
-      module _ (step : Step) (e : judged c (step_of edit.change) ≡ Ok step) where
+      module _ (step : Step) (e : judged_change c edit.change ≡ Ok step) where
         edited_by : edited edit sheets ≡ Ok (changed_at (λ _. Gerber (after_step step c)) place sheets)
         edited_by = edited_there (Gerber c) holds ∙ ap (with_step sheets place c) e
 
@@ -80,7 +80,7 @@ module _ (edit : Edit) (sheets : List Sheet) where
               named = named;
               step_is =
                   subst (λ content. IsStepOf edit.change content (plans.Gerber place step boxes)) (sym holds)
-                  ((gerber_edits.accepted c (step_of edit.change) step e).0, are);
+                  ((gerber_edits.change_accepted c edit.change step e).0, are);
             }
 
     -- ---- a drill layer

@@ -1,6 +1,6 @@
 -- What an edit makes of sound layers is sound.
 use Rattle.std.proofs.Common.{◌≡◌, ℕ, suc, ◌≤◌, Bool, ◌&&◌, List, [], ◌∷◌, ◌++◌, take, drop}
-use Rattle.std.proofs.Common.{Option, None, Some, Result, Ok, refl, sym, subst, ◌∙◌, arith}
+use Rattle.std.proofs.Common.{Option, None, Some, Result, Ok, Err, refl, sym, subst, ◌∙◌, arith}
 use Rattle.std.specs.Prelude.{IsTrue, insert, remove, slice_get}
 use Rattle.std.proofs.lemmas.List.{take-append-drop}
 use Rattle.std.proofs.lemmas.List.Elements.{All-nil, All-set}
@@ -17,6 +17,7 @@ use Rattle.cam_objects.specs.Shifting.{shifted_item}
 use Rattle.cam_objects.specs.Soundness.{IsInside, IsSoundContent, IsSoundItem, KeepsLimits, MeetsItem}
 use Rattle.cam_objects.specs.Weights.{item_count, weight_in}
 use Rattle.cam_objects.proofs.DemandLaws.{demand_law}
+use Rattle.cam_objects.proofs.EditedAttributes.{none_set}
 use Rattle.cam_objects.proofs.EditedLayers.{layer_edits}
 use Rattle.cam_edits.specs.declared.drill_step.DrillStep.{DrillStep}
 use Rattle.cam_edits.specs.declared.edit.Change.{Change}
@@ -26,16 +27,18 @@ use Rattle.cam_edits.specs.declared.step.Step.TheVariants as steps
 use Rattle.cam_edits.specs.Boards.{changed_at, content_at, empty_content, held as held_content, place_named, with_content}
 use Rattle.cam_edits.specs.DrillSteps.{after_drill_step}
 use Rattle.cam_edits.specs.Editing.{drill_step_of, edited, edited_at, edited_sheet, first_refusal, drill_step_unless, holds_at, holds_of}
-use Rattle.cam_edits.specs.Editing.{judged, judged_drill, meets_drill_step, meets_step, step_of, step_unless, with_drill_step, with_step}
+use Rattle.cam_edits.specs.Editing.{judged_change, judged_drill, meets_drill_step, meets_step, with_drill_step, with_step}
 use Rattle.cam_edits.specs.Machinery.PlaceLaws.{changed_is, reordered_is, within}
 use Rattle.cam_edits.specs.Places.{changed, changed_to, reordered}
 use Rattle.cam_edits.specs.Planning.{EditsStaySound}
-use Rattle.cam_edits.specs.Sheets.{AreSound, Content, Gerber, Drill, IsSound, Sheet, sheet}
+use Rattle.cam_edits.specs.Sheets.{AreSound, Content, Gerber, Drill, IsSound, IsSoundGerber, Sheet, sheet}
 use Rattle.cam_edits.specs.Steps.{after_step, items_after, with_aperture, with_object, with_polarity}
 use Rattle.cam_edits.proofs.ChangedItems.{count_with_polarity, formed_with_aperture, sound_with_polarity}
 use Rattle.cam_edits.proofs.EditedLists.{all_here, length_behind, length_of_other, set_here, split_here, sum_behind, sum_of_other}
 use Rattle.cam_edits.proofs.MetDemands.{both, item_there}
+use Rattle.cam_edits.proofs.GerberEdits.{change_accepted, not_refused}
 use Rattle.cam_edits.proofs.Refusals.{MeetsEach, each_met}
+use Rattle.cam_edits.proofs.SoundAttributes.{attributes_stay_sound}
 use Rattle.cam_edits.proofs.SoundDrillEdits.{drill_step_stays_sound}
 
 -- ---- Gerber layers
@@ -190,6 +193,9 @@ met_step_sound c (steps.Aperture k n) h told =
     (limits_with_aperture c k there.0 there.1 n told)
 met_step_sound c (steps.Polarity k dark) h told =
     let there = item_there c.items k told.place in inked c.entries c.items h k there.0 there.1 dark
+met_step_sound c (steps.PutAttribute k a) h told = h
+met_step_sound c (steps.TakeAttribute k) h told = h
+met_step_sound c (steps.SetFields k fields) h told = h
 
 pub step_stays_sound : (c : GerberContent) (step : Step) → IsSoundContent c.entries c.items
     → first_refusal (meets_step c step) ≡ None
@@ -200,9 +206,12 @@ step_stays_sound c step h none = met_step_sound c step h (each_met (meets_step c
 
 empty_sound : IsSound empty_content
 empty_sound = record {
-  entries = λ k d lt. absurd (omega (arith, lt));
-  items = All-nil (IsSoundItem []);
-  limits = record { few = omega arith; leaves = omega arith };
+  attributes = none_set;
+  content = record {
+    entries = λ k d lt. absurd (omega (arith, lt));
+    items = All-nil (IsSoundItem []);
+    limits = record { few = omega arith; leaves = omega arith };
+  };
 }
 
 held_sound : (sheets : List Sheet) (place : ℕ) (o : Option Sheet) → AreSound sheets → slice_get sheets place ≡ o
@@ -227,12 +236,18 @@ module _ (sheets after : List Sheet) (h : AreSound sheets) where
       let is : changed_at (λ _. new) place sheets ≡ after = cc in
       subst AreSound is (changed_sound sheets place new (slice_get sheets place) h sound)
 
-  stepped : (place : ℕ) (c : GerberContent) (step : Step) (o : Option EditFault) → IsSoundContent c.entries c.items
-      → first_refusal (meets_step c step) ≡ o → with_step sheets place c (step_unless c step o) ≡ Ok after
-      → AreSound after
-  stepped place c step None sound none e =
-      put_sound place (Gerber (after_step step c)) (step_stays_sound c step sound none) e
-  stepped place c step (Some fault) sound refused e = absurd cc
+  stepped : (change : Change) (place : ℕ) (c : GerberContent) (r : Result Step EditFault) → IsSoundGerber c
+      → judged_change c change ≡ r → with_step sheets place c r ≡ Ok after → AreSound after
+  stepped change place c (Ok step) sound judgement e =
+      let told = change_accepted c change step judgement in
+      let new : IsSoundGerber (after_step step c) =
+      record {
+        attributes =
+            attributes_stay_sound c.attributes sound.attributes change (not_refused c change step judgement) step told.0;
+        content = step_stays_sound c step sound.content told.1;
+      } in
+      put_sound place (Gerber (after_step step c)) new e
+  stepped change place c (Err fault) sound judgement e = absurd cc
 
   drill_stepped : (place : ℕ) (c : DrillContent) (step : DrillStep) (o : Option EditFault)
       → IsSoundDrillContent c.tools c.items
@@ -242,11 +257,6 @@ module _ (sheets after : List Sheet) (h : AreSound sheets) where
       put_sound place (Drill (after_drill_step step c)) (drill_step_stays_sound c step sound none) e
   drill_stepped place c step (Some fault) sound refused e = absurd cc
 
-  judged_sound : (place : ℕ) (c : GerberContent) (o : Option Step) → IsSoundContent c.entries c.items
-      → with_step sheets place c (judged c o) ≡ Ok after → AreSound after
-  judged_sound place c None sound e = absurd cc
-  judged_sound place c (Some step) sound e = stepped place c step (first_refusal (meets_step c step)) sound refl e
-
   drill_judged_sound : (place : ℕ) (c : DrillContent) (o : Option DrillStep) → IsSoundDrillContent c.tools c.items
       → with_drill_step sheets place c (judged_drill c o) ≡ Ok after → AreSound after
   drill_judged_sound place c None sound e = absurd cc
@@ -255,7 +265,7 @@ module _ (sheets after : List Sheet) (h : AreSound sheets) where
 
   sheet_sound : (change : Change) (place : ℕ) (c : Content) → IsSound c → edited_sheet change sheets place c ≡ Ok after
       → AreSound after
-  sheet_sound change place (Gerber c) sound e = judged_sound place c (step_of change) sound e
+  sheet_sound change place (Gerber c) sound e = stepped change place c (judged_change c change) sound refl e
   sheet_sound change place (Drill c) sound e = drill_judged_sound place c (drill_step_of change) sound e
 
   edited_at_sound : (change : Change) (o : Option ℕ) → edited_at change sheets o ≡ Ok after → AreSound after

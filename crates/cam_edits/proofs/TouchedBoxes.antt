@@ -5,6 +5,7 @@ use Rattle.std.specs.Option.{option_map}
 use Rattle.std.proofs.lemmas.Option.{slice_get_read}
 use Rattle.cam_units.specs.declared.bounds.Bounds.{Bounds}
 use Rattle.cam_units.specs.declared.point.Point.{Point}
+use Rattle.cam_objects.specs.declared.attribute.Attribute.{Attribute}
 use Rattle.cam_objects.specs.declared.item.Item.{Item}
 use Rattle.cam_objects.specs.Contents.{Content as GerberContent}
 use Rattle.cam_objects.specs.Shifting.{IsMove, shifted_item}
@@ -115,6 +116,18 @@ module _ (c : GerberContent) (step : Step) (none : first_refusal (meets_step c s
 
   boxes_are : (other : Step) → step ≡ other → (boxes : List Bounds) → boxes ≡ touched other c → boxes ≡ touched step c
   boxes_are other is boxes e = e ∙ ap (λ (s : Step). touched s c) (sym is)
+
+  pub put_boxes : (k : ℕ) (a : Attribute) → step ≡ steps.PutAttribute k a → [] ≡ touched step c
+  unfolding touched
+  put_boxes k a is = boxes_are (steps.PutAttribute k a) is [] refl
+
+  pub take_boxes : (k : ℕ) → step ≡ steps.TakeAttribute k → [] ≡ touched step c
+  unfolding touched
+  take_boxes k is = boxes_are (steps.TakeAttribute k) is [] refl
+
+  pub fields_boxes : (k : ℕ) (fields : List ℕ) → step ≡ steps.SetFields k fields → [] ≡ touched step c
+  unfolding touched
+  fields_boxes k fields is = boxes_are (steps.SetFields k fields) is [] refl
 
   pub insert_box : (k : ℕ) (item : Item) → step ≡ steps.Insert k item → (b : Bounds) → b ≡ box item
       → b ∷ [] ≡ touched step c

@@ -8,9 +8,9 @@ use Rattle.cam_edits.specs.Sheets.{Content, Gerber, Sheet, sheet}
 unfoldable pub place_named : List ℕ → List Sheet → Option ℕ
 place_named name sheets = position (λ s. bytes_eq s.name name) sheets
 
--- a layer without entries and items
+-- a layer without attributes, entries and items
 abbrev pub empty_content : Content
-empty_content = Gerber (record { entries = []; items = [] })
+empty_content = Gerber (record { attributes = []; entries = []; items = [] })
 
 abbrev pub held : Option Sheet → Content
 held None = empty_content

@@ -1,11 +1,14 @@
 -- What an edit makes of the sheets, by lists alone, or its first refusal.
 use Rattle.std.specs.Prelude.{ℕ, nat_le, nat_lt, int_le, Bool, true, false, ◌&&◌, if◌then◌else◌, pos, List}
 use Rattle.std.specs.Prelude.{[], ◌∷◌, length, Option, None, Some, Result, Ok, Err, is_some, slice_get}
+use Rattle.std.specs.Option.{option_map}
 use Rattle.cam_units.specs.declared.length.Nm.{Nm}
+use Rattle.cam_objects.specs.Attributes.{place_of}
 use Rattle.cam_objects.specs.Contents.{Content as GerberContent, DrillContent}
 use Rattle.cam_objects.specs.Demands.{keeps_drill_limits, keeps_limits, meets_drill_item, meets_item}
 use Rattle.cam_objects.specs.Drilling.{diameter_of}
 use Rattle.cam_objects.specs.Shifting.{shifted_drill_item, shifted_item}
+use Rattle.cam_objects.specs.declared.attribute.Attribute.{Attribute}
 use Rattle.cam_objects.specs.declared.item.Item.{Item}
 use Rattle.cam_objects.specs.declared.item.Item.TheVariants.{One, Repeat}
 use Rattle.cam_objects.specs.declared.item_fault.ItemFault.TheVariants.{Malformed, UnknownAperture, UnknownTool, ZeroRadius}
@@ -18,10 +21,11 @@ use Rattle.cam_edits.specs.declared.edit.Change.TheVariants as changes
 use Rattle.cam_edits.specs.declared.edit.Edit.{Edit}
 use Rattle.cam_edits.specs.declared.edit.NewItem.TheVariants as new_items
 use Rattle.cam_edits.specs.declared.fault.EditFault.{EditFault}
-use Rattle.cam_edits.specs.declared.fault.EditFault.TheVariants.{NoLayer, WrongKind, NoItem, HasNone, NoAperture, NoTool}
-use Rattle.cam_edits.specs.declared.fault.EditFault.TheVariants.{WrongAperture, SizeRefused, OutOfBoard, TooMuch, Memory}
+use Rattle.cam_edits.specs.declared.fault.EditFault.TheVariants.{NoLayer, WrongKind, AttributeRefused, NoAttribute, NoItem, HasNone}
+use Rattle.cam_edits.specs.declared.fault.EditFault.TheVariants.{NoAperture, NoTool, WrongAperture, SizeRefused, OutOfBoard, TooMuch, Memory}
 use Rattle.cam_edits.specs.declared.step.Step.{Step}
 use Rattle.cam_edits.specs.declared.step.Step.TheVariants as steps
+use Rattle.cam_edits.specs.AttributeEdits.{attribute_refusal, setting_step}
 use Rattle.cam_edits.specs.Boards.{changed_at, content_at, place_named}
 use Rattle.cam_edits.specs.DrillSteps.{after_drill_step, drill_items_after}
 use Rattle.cam_edits.specs.Sheets.{Content, Gerber, Drill, Sheet}
@@ -29,17 +33,20 @@ use Rattle.cam_edits.specs.Steps.{after_step, items_after, with_aperture, with_o
 
 -- ---- the steps of edits
 
--- the step of an edit of a Gerber layer, where the edit goes with one
-abbrev pub step_of : Change → Option Step
-step_of (changes.Insert k (new_items.Gerber item)) = Some (steps.Insert k item)
-step_of (changes.Insert k (new_items.Drill item)) = None
-step_of (changes.Delete k) = Some (steps.Delete k)
-step_of (changes.Move k by) = Some (steps.Move k by)
-step_of (changes.Reorder k m) = Some (steps.Reorder k m)
-step_of (changes.Aperture k n) = Some (steps.Aperture k n)
-step_of (changes.Polarity k dark) = Some (steps.Polarity k dark)
-step_of (changes.Tool k t) = None
-step_of (changes.Diameter t d) = None
+-- the step of an edit of a Gerber layer with these attributes, where the edit goes with one
+abbrev pub step_of : List Attribute → Change → Option Step
+step_of attributes (changes.Insert k (new_items.Gerber item)) = Some (steps.Insert k item)
+step_of attributes (changes.Insert k (new_items.Drill item)) = None
+step_of attributes (changes.Delete k) = Some (steps.Delete k)
+step_of attributes (changes.Move k by) = Some (steps.Move k by)
+step_of attributes (changes.Reorder k m) = Some (steps.Reorder k m)
+step_of attributes (changes.Aperture k n) = Some (steps.Aperture k n)
+step_of attributes (changes.Polarity k dark) = Some (steps.Polarity k dark)
+step_of attributes (changes.Tool k t) = None
+step_of attributes (changes.Diameter t d) = None
+step_of attributes (changes.SetAttribute key fields) =
+    Some (setting_step key fields (length attributes) (place_of key attributes))
+step_of attributes (changes.DropAttribute key) = option_map steps.TakeAttribute (place_of key attributes)
 
 -- and of a drill layer
 abbrev pub drill_step_of : Change → Option DrillStep
@@ -52,6 +59,8 @@ drill_step_of (changes.Aperture k n) = None
 drill_step_of (changes.Polarity k dark) = None
 drill_step_of (changes.Tool k t) = Some (drill_steps.Tool k t)
 drill_step_of (changes.Diameter t d) = Some (drill_steps.Diameter t d)
+drill_step_of (changes.SetAttribute key fields) = None
+drill_step_of (changes.DropAttribute key) = None
 
 -- ---- refusals
 
@@ -95,6 +104,9 @@ module _ (c : GerberContent) where
   is_formed (steps.Reorder k m) = true
   is_formed (steps.Aperture k n) = true
   is_formed (steps.Polarity k dark) = true
+  is_formed (steps.PutAttribute k a) = true
+  is_formed (steps.TakeAttribute k) = true
+  is_formed (steps.SetFields k fields) = true
 
   -- the places that it names are there
   abbrev pub has_places : Step → Bool
@@ -104,6 +116,9 @@ module _ (c : GerberContent) where
   has_places (steps.Reorder k m) = nat_lt k (length c.items) && nat_lt m (length c.items)
   has_places (steps.Aperture k n) = nat_lt k (length c.items)
   has_places (steps.Polarity k dark) = nat_lt k (length c.items)
+  has_places (steps.PutAttribute k a) = true
+  has_places (steps.TakeAttribute k) = true
+  has_places (steps.SetFields k fields) = true
 
   -- the item has what is to change
   abbrev pub has_it : Step → Bool
@@ -113,6 +128,9 @@ module _ (c : GerberContent) where
   has_it (steps.Reorder k m) = true
   has_it (steps.Aperture k n) = holds_at has_aperture c.items k
   has_it (steps.Polarity k dark) = holds_at has_polarity c.items k
+  has_it (steps.PutAttribute k a) = true
+  has_it (steps.TakeAttribute k) = true
+  has_it (steps.SetFields k fields) = true
 
   -- the test holds of the item that is inserted, or that has another aperture
   abbrev pub holds_of_set : (Item → Bool) → Step → Bool
@@ -122,6 +140,9 @@ module _ (c : GerberContent) where
   holds_of_set test (steps.Reorder k m) = true
   holds_of_set test (steps.Aperture k n) = holds_at (λ item. test (with_object (with_aperture n) item)) c.items k
   holds_of_set test (steps.Polarity k dark) = true
+  holds_of_set test (steps.PutAttribute k a) = true
+  holds_of_set test (steps.TakeAttribute k) = true
+  holds_of_set test (steps.SetFields k fields) = true
 
   -- and of one that is moved
   abbrev pub holds_of_placed : (Item → Bool) → Step → Bool
@@ -131,6 +152,9 @@ module _ (c : GerberContent) where
   holds_of_placed test (steps.Reorder k m) = true
   holds_of_placed test (steps.Aperture k n) = holds_at (λ item. test (with_object (with_aperture n) item)) c.items k
   holds_of_placed test (steps.Polarity k dark) = true
+  holds_of_placed test (steps.PutAttribute k a) = true
+  holds_of_placed test (steps.TakeAttribute k) = true
+  holds_of_placed test (steps.SetFields k fields) = true
 
   -- the layer keeps its limits
   abbrev pub leaves_room : Step → Bool
@@ -142,6 +166,8 @@ module _ (c : GerberContent) where
   unfoldable pub meets_step : Step → EditFault → Bool
   meets_step step NoLayer = true
   meets_step step WrongKind = is_formed step
+  meets_step step AttributeRefused = true
+  meets_step step NoAttribute = true
   meets_step step NoItem = has_places step
   meets_step step HasNone = has_it step
   meets_step step NoAperture = holds_of_set (λ item. meets_item c.entries item UnknownAperture) step
@@ -160,6 +186,14 @@ module _ (c : GerberContent) where
   abbrev pub judged : Option Step → Result Step EditFault
   judged None = Err WrongKind
   judged (Some step) = step_unless step (first_refusal (meets_step step))
+
+  abbrev pub judged_unless : Option EditFault → Option Step → Result Step EditFault
+  judged_unless None step = judged step
+  judged_unless (Some fault) step = Err fault
+
+  -- what is to change in a layer of its kind; an edit of attributes has refusals of its own
+  abbrev pub judged_change : Change → Result Step EditFault
+  judged_change change = judged_unless (attribute_refusal c.attributes change) (step_of c.attributes change)
 
 -- ---- a drill layer
 
@@ -223,6 +257,8 @@ module _ (c : DrillContent) where
   unfoldable pub meets_drill_step : DrillStep → EditFault → Bool
   meets_drill_step step NoLayer = true
   meets_drill_step step WrongKind = is_formed_drill step
+  meets_drill_step step AttributeRefused = true
+  meets_drill_step step NoAttribute = true
   meets_drill_step step NoItem = has_drill_places step
   meets_drill_step step HasNone = true
   meets_drill_step step NoAperture = true
@@ -253,7 +289,7 @@ with_drill_step sheets place c (Ok step) = Ok (changed_at (λ _. Drill (after_dr
 with_drill_step sheets place c (Err fault) = Err fault
 
 abbrev pub edited_sheet : Change → List Sheet → ℕ → Content → Result (List Sheet) EditFault
-edited_sheet change sheets place (Gerber c) = with_step sheets place c (judged c (step_of change))
+edited_sheet change sheets place (Gerber c) = with_step sheets place c (judged_change c change)
 edited_sheet change sheets place (Drill c) = with_drill_step sheets place c (judged_drill c (drill_step_of change))
 
 abbrev pub edited_at : Change → List Sheet → Option ℕ → Result (List Sheet) EditFault

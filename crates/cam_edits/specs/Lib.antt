@@ -5,10 +5,12 @@ pub mod DrillSteps
 pub mod Sheets
 pub mod Boards
 pub mod BoardSteps
+pub mod AttributeEdits
 pub mod Editing
 pub mod Touched
 pub mod Touches
 pub mod Images
 pub mod BoxLaws
+pub mod AttributeLaws
 pub mod Planning
 pub mod Machinery

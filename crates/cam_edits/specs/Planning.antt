@@ -16,7 +16,7 @@ use Rattle.cam_edits.specs.Touched.{drill_touched, touched}
 -- it is the step of the change in what its sheet holds, with the boxes of what that touches
 abbrev pub IsStepOf : Change → Content → BoardStep → Type 0
 IsStepOf change (Gerber c) (steps.Gerber place step boxes) =
-    (step_of change ≡ Some step) × (boxes.items ≡ touched step c)
+    (step_of c.attributes change ≡ Some step) × (boxes.items ≡ touched step c)
 IsStepOf change (Gerber c) (steps.Drill place step boxes) = ⊥
 IsStepOf change (Drill c) (steps.Gerber place step boxes) = ⊥
 IsStepOf change (Drill c) (steps.Drill place step boxes) =

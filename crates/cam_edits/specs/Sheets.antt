@@ -1,5 +1,6 @@
 -- Sheets: what a layer of one of two kinds lists, under the layer's name.
 use Rattle.std.specs.Prelude.{ℕ, List, length, map, All}
+use Rattle.cam_objects.specs.Attributes.{AreAttributes}
 use Rattle.cam_objects.specs.Contents.{Content as GerberContent, DrillContent, content_of as gerber_content_of, drill_content_of}
 use Rattle.cam_objects.specs.DrillSoundness.{IsSoundDrillContent}
 use Rattle.cam_objects.specs.Soundness.{IsSoundContent}
@@ -8,7 +9,7 @@ use Rattle.cam_edits.specs.declared.board.Sheet.{Sheet as KeptSheet}
 use Rattle.cam_edits.specs.declared.board.SheetContent.{SheetContent}
 use Rattle.cam_edits.specs.declared.board.SheetContent.TheVariants as kept
 
--- the dictionary and the items of a layer, or the tools and the items of a drill layer
+-- the attributes, the dictionary and the items of a layer, or the tools and the items of a drill layer
 pub data Content : Type 0 where
   Gerber : GerberContent → Content
   Drill : DrillContent → Content
@@ -20,8 +21,12 @@ pub record Sheet : Type 0 where
 abbrev pub sheet : List ℕ → Content → Sheet
 sheet name content = record { name = name; content = content }
 
+pub record IsSoundGerber (c : GerberContent) : Type 0 where
+  pub attributes : AreAttributes c.attributes
+  pub content : IsSoundContent c.entries c.items
+
 abbrev pub IsSound : Content → Type 0
-IsSound (Gerber c) = IsSoundContent c.entries c.items
+IsSound (Gerber c) = IsSoundGerber c
 IsSound (Drill c) = IsSoundDrillContent c.tools c.items
 
 -- each sheet holds a sound layer

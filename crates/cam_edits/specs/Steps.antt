@@ -2,8 +2,10 @@
 use Rattle.std.specs.Prelude.{ℕ, ◌+◌, ◌<◌, ◌≤◌, Bool, true, false, List, length, Option, None}
 use Rattle.std.specs.Prelude.{Some, count_by, insert, remove, slice_get, vec_capacity}
 use Rattle.cam_shapes.specs.Shifting.{IsShiftable}
+use Rattle.cam_objects.specs.Attributes.{attribute_of}
 use Rattle.cam_objects.specs.Contents.{Content}
 use Rattle.cam_objects.specs.Shifting.{shifted_item}
+use Rattle.cam_objects.specs.declared.attribute.Attribute.{Attribute}
 use Rattle.cam_objects.specs.declared.object.Object.{Object}
 use Rattle.cam_objects.specs.declared.object.Object.TheVariants.{Flash, Draw, Arc, Region}
 use Rattle.cam_objects.specs.declared.item.Item.{Item}
@@ -11,6 +13,7 @@ use Rattle.cam_objects.specs.declared.item.Item.TheVariants.{One, Repeat}
 use Rattle.cam_objects.specs.declared.layer.Layer.{Layer}
 use Rattle.cam_edits.specs.declared.step.Step.{Step}
 use Rattle.cam_edits.specs.declared.step.Step.TheVariants.{Insert, Delete, Move, Reorder, Aperture, Polarity}
+use Rattle.cam_edits.specs.declared.step.Step.TheVariants.{PutAttribute, TakeAttribute, SetFields}
 use Rattle.cam_edits.specs.Moving.{IsMovableItem, negated}
 use Rattle.cam_edits.specs.Places.{HasAt, changed, reordered}
 
@@ -62,22 +65,46 @@ items_after (Move k by) items = changed (shifted_item by) items k
 items_after (Reorder k m) items = reordered items k m
 items_after (Aperture k n) items = changed (with_object (with_aperture n)) items k
 items_after (Polarity k dark) items = changed (with_object (with_polarity dark)) items k
+items_after (PutAttribute k a) items = items
+items_after (TakeAttribute k) items = items
+items_after (SetFields k fields) items = items
+
+-- a file attribute with other fields
+abbrev pub with_fields : List ℕ → Attribute → Attribute
+with_fields fields a = attribute_of a.name fields
+
+abbrev pub attributes_after : Step → List Attribute → List Attribute
+attributes_after (Insert k item) attributes = attributes
+attributes_after (Delete k) attributes = attributes
+attributes_after (Move k by) attributes = attributes
+attributes_after (Reorder k m) attributes = attributes
+attributes_after (Aperture k n) attributes = attributes
+attributes_after (Polarity k dark) attributes = attributes
+attributes_after (PutAttribute k a) attributes = insert attributes k a
+attributes_after (TakeAttribute k) attributes = remove attributes k
+attributes_after (SetFields k fields) attributes = changed (with_fields fields) attributes k
 
 -- the dictionary stays
 abbrev pub after_step : Step → Content → Content
-after_step step c = record { entries = c.entries; items = items_after step c.items }
+after_step step c =
+    record { attributes = attributes_after step c.attributes; entries = c.entries; items = items_after step c.items }
 
--- the step that leads back, by the item that stands at the step's place before it
-abbrev pub inverse_at : Step → Option Item → Step
-inverse_at (Insert k item) before = Delete k
-inverse_at (Delete k) None = Delete k
-inverse_at (Delete k) (Some item) = Insert k item
-inverse_at (Move k by) before = Move k (negated by)
-inverse_at (Reorder k m) before = Reorder m k
-inverse_at (Aperture k n) (Some (One object)) = Aperture k (aperture_of object)
-inverse_at (Aperture k n) before = Aperture k n
-inverse_at (Polarity k dark) (Some (One object)) = Polarity k (polarity_of object)
-inverse_at (Polarity k dark) before = Polarity k dark
+-- the step that leads back, by the item and by the attribute that stand at the step's place before it
+abbrev pub inverse_at : Step → Option Item → Option Attribute → Step
+inverse_at (Insert k item) before held = Delete k
+inverse_at (Delete k) None held = Delete k
+inverse_at (Delete k) (Some item) held = Insert k item
+inverse_at (Move k by) before held = Move k (negated by)
+inverse_at (Reorder k m) before held = Reorder m k
+inverse_at (Aperture k n) (Some (One object)) held = Aperture k (aperture_of object)
+inverse_at (Aperture k n) before held = Aperture k n
+inverse_at (Polarity k dark) (Some (One object)) held = Polarity k (polarity_of object)
+inverse_at (Polarity k dark) before held = Polarity k dark
+inverse_at (PutAttribute k a) before held = TakeAttribute k
+inverse_at (TakeAttribute k) before None = TakeAttribute k
+inverse_at (TakeAttribute k) before (Some a) = PutAttribute k a
+inverse_at (SetFields k fields) before None = SetFields k fields
+inverse_at (SetFields k fields) before (Some a) = SetFields k a.fields
 
 abbrev pub step_place : Step → ℕ
 step_place (Insert k item) = k
@@ -86,20 +113,23 @@ step_place (Move k by) = k
 step_place (Reorder k m) = k
 step_place (Aperture k n) = k
 step_place (Polarity k dark) = k
+step_place (PutAttribute k a) = k
+step_place (TakeAttribute k) = k
+step_place (SetFields k fields) = k
 
 abbrev pub inverse_step : Step → Content → Step
-inverse_step step c = inverse_at step (slice_get c.items (step_place step))
-
-abbrev pub Fits : Step → List Item → Type 0
-Fits (Insert k item) items = k ≤ length items
-Fits (Delete k) items = k < length items
-Fits (Move k by) items = IsShiftable by × HasAt (IsMovableItem by) items k
-Fits (Reorder k m) items = (k < length items) × (m < length items)
-Fits (Aperture k n) items = HasAt (IsOne HasAperture) items k
-Fits (Polarity k dark) items = HasAt (IsOne (λ _. Unit {0})) items k
+inverse_step step c = inverse_at step (slice_get c.items (step_place step)) (slice_get c.attributes (step_place step))
 
 abbrev pub IsFit : Step → Content → Type 0
-IsFit step c = Fits step c.items
+IsFit (Insert k item) c = k ≤ length c.items
+IsFit (Delete k) c = k < length c.items
+IsFit (Move k by) c = IsShiftable by × HasAt (IsMovableItem by) c.items k
+IsFit (Reorder k m) c = (k < length c.items) × (m < length c.items)
+IsFit (Aperture k n) c = HasAt (IsOne HasAperture) c.items k
+IsFit (Polarity k dark) c = HasAt (IsOne (λ _. Unit {0})) c.items k
+IsFit (PutAttribute k a) c = k ≤ length c.attributes
+IsFit (TakeAttribute k) c = k < length c.attributes
+IsFit (SetFields k fields) c = k < length c.attributes
 
 abbrev pub is_insertion : Step → Bool
 is_insertion (Insert k item) = true
@@ -108,7 +138,23 @@ is_insertion (Move k by) = false
 is_insertion (Reorder k m) = false
 is_insertion (Aperture k n) = false
 is_insertion (Polarity k dark) = false
+is_insertion (PutAttribute k a) = false
+is_insertion (TakeAttribute k) = false
+is_insertion (SetFields k fields) = false
 
--- there is a place for each item that the steps of the group insert
+abbrev pub puts_attribute : Step → Bool
+puts_attribute (Insert k item) = false
+puts_attribute (Delete k) = false
+puts_attribute (Move k by) = false
+puts_attribute (Reorder k m) = false
+puts_attribute (Aperture k n) = false
+puts_attribute (Polarity k dark) = false
+puts_attribute (PutAttribute k a) = true
+puts_attribute (TakeAttribute k) = false
+puts_attribute (SetFields k fields) = false
+
+-- there is a place for each item that the steps of the group insert, and for each attribute that they put
 abbrev pub HasRoom : List Step → Layer → Type 0
-HasRoom group layer = length layer.items.items + count_by is_insertion group ≤ vec_capacity layer.items
+HasRoom group layer =
+    (length layer.items.items + count_by is_insertion group ≤ vec_capacity layer.items)
+    × (length layer.attributes.items + count_by puts_attribute group ≤ vec_capacity layer.attributes)

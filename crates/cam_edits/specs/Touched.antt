@@ -1,4 +1,5 @@
--- The boxes of what an edit touches: of its item before and after it, of a diameter those of every item of the tool.
+-- The boxes of what an edit touches: of its item before and after it, of a diameter those of every item of the tool. An
+-- edit of attributes has no item, and so no box.
 use Rattle.std.specs.Prelude.{ℕ, ◌==◌, List, [], ◌∷◌, ◌++◌, Option, None, Some, filter, slice_get}
 use Rattle.std.specs.List.{flat_map}
 use Rattle.std.specs.Option.{option_map}
@@ -38,6 +39,9 @@ item_before (steps.Move k by) items = slice_get items k
 item_before (steps.Reorder k m) items = slice_get items k
 item_before (steps.Aperture k n) items = slice_get items k
 item_before (steps.Polarity k dark) items = slice_get items k
+item_before (steps.PutAttribute k a) items = None
+item_before (steps.TakeAttribute k) items = None
+item_before (steps.SetFields k fields) items = None
 
 -- and after it
 abbrev pub item_after : Step → List Item → Option Item
@@ -47,6 +51,9 @@ item_after (steps.Move k by) items = option_map (shifted_item by) (slice_get ite
 item_after (steps.Reorder k m) items = slice_get items k
 item_after (steps.Aperture k n) items = option_map (with_object (with_aperture n)) (slice_get items k)
 item_after (steps.Polarity k dark) items = option_map (with_object (with_polarity dark)) (slice_get items k)
+item_after (steps.PutAttribute k a) items = None
+item_after (steps.TakeAttribute k) items = None
+item_after (steps.SetFields k fields) items = None
 
 unfoldable pub touched : Step → GerberContent → List Bounds
 touched step c =

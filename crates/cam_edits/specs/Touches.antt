@@ -28,7 +28,7 @@ boxes_of_drill_step (Some step) c = drill_touched step c
 
 -- the boxes of a change of what a sheet holds
 abbrev pub boxes_in : Change → Content → List Bounds
-boxes_in change (Gerber c) = boxes_of_step (step_of change) c
+boxes_in change (Gerber c) = boxes_of_step (step_of c.attributes change) c
 boxes_in change (Drill c) = boxes_of_drill_step (drill_step_of change) c
 
 abbrev pub touch_at : Change → List Sheet → Option ℕ → Touch

@@ -38,14 +38,18 @@ impl SheetContent {
         }
     }
 
-    /// Makes room for so many items more; refused for want of memory alone. The content stays.
-    pub(crate) fn reserve(&mut self, more: usize) -> Result<(), AllocError>
+    /// Makes room for so many items more, and for so many attributes; refused for want of memory alone. The content
+    /// stays.
+    pub(crate) fn reserve(&mut self, items: usize, attributes: usize) -> Result<(), AllocError>
         ensures content { content_of self.new ≡ content_of self.old }
-        ensures room { OnOk result (HasPlaces more self.new) }
+        ensures room { OnOk result (HasPlaces items attributes self.new) }
     {
         match self {
-            SheetContent::Gerber(layer) => layer.items.reserve(more),
-            SheetContent::Drill(layer) => layer.items.reserve(more),
+            SheetContent::Gerber(layer) => {
+                layer.items.reserve(items)?;
+                layer.attributes.reserve(attributes)
+            }
+            SheetContent::Drill(layer) => layer.items.reserve(items),
         }
     }
 }

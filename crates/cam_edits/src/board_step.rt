@@ -15,7 +15,7 @@ ghost use Rattle.cam_edits.specs.BoardSteps.{
   inverse_on,
   sheet_place,
 };
-ghost use Rattle.cam_edits.specs.Machinery.Room.{inserts_at};
+ghost use Rattle.cam_edits.specs.Machinery.Room.{inserts_at, puts_at};
 ghost use Rattle.cam_edits.specs.Machinery.BoardStepLaws.{HasDrillPlacesFor, HasPlacesFor};
 ghost use Rattle.cam_edits.specs.Sheets.{Sheet, content_of, sheets_of};
 
@@ -109,8 +109,9 @@ impl Reversible for BoardStep {
 
     fn room(group: &[BoardStep], board: &mut Board) -> Result<(), AllocError> {
         for place in 0..board.sheets.len() {
-            let more = insertion_count(group, place);
-            board.sheets[place].content.reserve(more)?;
+            let items = insertion_count(group, place);
+            let attributes = attribute_count(group, place);
+            board.sheets[place].content.reserve(items, attributes)?;
         }
         Ok(())
     }
@@ -149,6 +150,25 @@ fn inserts_at(step: &BoardStep, place: usize) -> bool
         BoardStep::Drill { sheet, step, .. } => {
             *sheet == place && matches!(step, DrillStep::Insert { .. })
         }
+    }
+}
+
+/// How many of the steps put an attribute on the sheet at a place.
+fn attribute_count(group: &[BoardStep], place: usize) -> usize
+    ensures { result ≡ count_by (puts_at place) group.now }
+{
+    group.iter().filter(|step| puts_at(step, place)).count()
+}
+
+/// Whether the step puts an attribute on the sheet at a place.
+fn puts_at(step: &BoardStep, place: usize) -> bool
+    ensures { result ≡ puts_at place step.now }
+{
+    match step {
+        BoardStep::Gerber { sheet, step, .. } => {
+            *sheet == place && matches!(step, Step::PutAttribute { .. })
+        }
+        BoardStep::Drill { .. } => false,
     }
 }
 

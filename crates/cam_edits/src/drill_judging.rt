@@ -41,6 +41,8 @@ pub(crate) fn judged_drill(layer: &DrillLayer, change: Change) -> Result<DrillSt
         Change::Polarity { .. } => Err(EditFault::WrongKind),
         Change::Tool { k, t } => tool_change(layer, k, t),
         Change::Diameter { t, d } => diameter_change(layer, t, d),
+        Change::SetAttribute { .. } => Err(EditFault::WrongKind),
+        Change::DropAttribute { .. } => Err(EditFault::WrongKind),
     }
 }
 

@@ -2,7 +2,7 @@
 
 use crate::name::Name;
 use cam_objects::{DrillItem, Item};
-use cam_units::{Nm, Point};
+use cam_units::{Items, Nm, Point};
 
 /// An item of a layer of one of two kinds.
 #[derive(Drop)]
@@ -30,6 +30,12 @@ pub enum Change {
     Tool { k: usize, t: u16 },
     /// The diameter of the tool of that number changes. Of a drill layer alone.
     Diameter { t: u16, d: Nm },
+    /// The file attribute of the name `key` takes the fields; a new name goes last. A key has 1 to 255 bytes from `!`
+    /// to `~` but for the comma, `%` and `*`; fields are empty, or a comma and 1 to 4,096 bytes from `!` to `~` but for
+    /// `%` and `*`. Of a Gerber layer alone.
+    SetAttribute { key: Items<u8>, fields: Items<u8> },
+    /// The file attributes without that of the name `key`. Of a Gerber layer alone.
+    DropAttribute { key: Items<u8> },
 }
 
 /// A change of the layer of a name.

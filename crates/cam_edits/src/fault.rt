@@ -16,6 +16,12 @@ pub enum EditFault {
     /// none or without an object, a contour without a segment, a rout without a point (68).
     #[error("the edit does not go with the layer")]
     WrongKind,
+    /// The key or the fields of an attribute are not written as they may be (75).
+    #[error("the key or the fields of the attribute are outside their grammar")]
+    AttributeRefused,
+    /// The layer has no attribute of the name that is to be dropped (74).
+    #[error("the layer has no attribute of this name")]
+    NoAttribute,
     /// The layer has no item at the place, or an insertion is to stand past its end (61).
     #[error("the layer has no item at this place")]
     NoItem,
@@ -28,8 +34,9 @@ pub enum EditFault {
     /// The drill layer has no tool of the number (66).
     #[error("the layer has no tool of this number")]
     NoTool,
-    /// A draw or an arc with anything but a solid circle (63).
-    #[error("draws and arcs need a solid circle")]
+    /// A draw with anything but a solid circle or a solid rectangle, or an arc with anything but a
+    /// solid circle (63).
+    #[error("a draw needs a solid circle or a solid rectangle, an arc a solid circle")]
     WrongAperture,
     /// An arc of radius 0, or a tool's diameter outside 1 to 200,000,000 nm (67).
     #[error("the size is outside its limits")]
@@ -37,7 +44,7 @@ pub enum EditFault {
     /// A control point would leave the board, as it stands or in a leaf (65).
     #[error("a control point would leave the board")]
     OutOfBoard,
-    /// The item or the layer would have more than the limits allow (69).
+    /// The item or the layer would have more than the limits allow, or a layer a 1,001st attribute (69).
     #[error("the layer would pass its limits")]
     TooMuch,
     /// Memory was refused (30).

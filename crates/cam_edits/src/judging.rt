@@ -2,13 +2,15 @@
 
 ghost use Rattle.std.specs.Prelude.{◌≡◌, IfOk, Some};
 ghost use Rattle.cam_objects.specs.Contents.{content_of};
-ghost use Rattle.cam_objects.specs.Soundness.{IsSound};
-ghost use Rattle.cam_edits.specs.Editing.{judged, step_of};
+ghost use Rattle.cam_objects.specs.Soundness.{HasSoundItems};
+ghost use Rattle.cam_edits.specs.Editing.{judged, judged_change};
 ghost use Rattle.cam_edits.specs.Machinery.Judging.{other_aperture};
+ghost use Rattle.cam_edits.specs.Sheets.{IsSoundGerber};
 ghost use Rattle.cam_edits.specs.Steps.{IsFit};
 ghost use Rattle.cam_edits.specs.declared.step.Step.TheVariants.{Aperture, Delete, Insert, Move, Polarity, Reorder};
 
 use crate::apertures::other_aperture;
+use crate::attribute_judging::{dropping, setting};
 use crate::edit::{Change, NewItem};
 use crate::fault::EditFault;
 use crate::item_refusal::{check_insertion, refusal_of};
@@ -19,8 +21,8 @@ use cam_units::Point;
 
 /// The step of an edit of the layer, which fits it, or the edit's first refusal.
 pub(crate) fn judged(layer: &Layer, change: Change) -> Result<Step, EditFault>
-    requires { IsSound layer.now }
-    ensures value { result ≡ judged (content_of layer.now) (step_of change) }
+    requires { IsSoundGerber (content_of layer.now) }
+    ensures value { result ≡ judged_change (content_of layer.now) change }
     ensures fits { IfOk result (λ step. IsFit step (content_of layer.now)) }
 {
     match change {
@@ -35,6 +37,8 @@ pub(crate) fn judged(layer: &Layer, change: Change) -> Result<Step, EditFault>
         Change::Polarity { k, dark } => polarity_change(layer, k, dark),
         Change::Tool { .. } => Err(EditFault::WrongKind),
         Change::Diameter { .. } => Err(EditFault::WrongKind),
+        Change::SetAttribute { key, fields } => setting(layer, key, fields),
+        Change::DropAttribute { key } => dropping(layer, key.as_slice()),
     }
 }
 
@@ -58,7 +62,7 @@ fn deletion(layer: &Layer, k: usize) -> Result<Step, EditFault>
 }
 
 fn shift(layer: &Layer, k: usize, by: Point) -> Result<Step, EditFault>
-    requires { IsSound layer.now }
+    requires { HasSoundItems layer.now }
     ensures { result ≡ judged (content_of layer.now) (Some (Move k by)) }
 {
     let Some(item) = layer.items.get(k) else {
@@ -86,7 +90,7 @@ fn reordering(layer: &Layer, k: usize, m: usize) -> Result<Step, EditFault>
 }
 
 fn aperture_change(layer: &Layer, k: usize, n: u32) -> Result<Step, EditFault>
-    requires { IsSound layer.now }
+    requires { HasSoundItems layer.now }
     ensures { result ≡ judged (content_of layer.now) (Some (Aperture k n)) }
 {
     let Some(item) = layer.items.get(k) else {

@@ -1,5 +1,6 @@
 //! Laws of edits. Each function does nothing: its contract is a law of what edits mean.
 
+ghost use Rattle.cam_edits.specs.AttributeLaws.{AttributeLaw};
 ghost use Rattle.cam_edits.specs.BoxLaws.{EditBoxLaw};
 ghost use Rattle.cam_edits.specs.Planning.{EditsStaySound};
 
@@ -12,4 +13,10 @@ pub fn edits_stay_sound()
 /// than the edited one stay as they are.
 pub fn edits_stay_in_their_boxes()
     ensures { EditBoxLaw }
+{}
+
+/// An accepted edit of file attributes changes no picture and touches no box. A name that is set keeps its place or goes
+/// last, and those behind one that is dropped close up.
+pub fn attributes_change_no_picture()
+    ensures { AttributeLaw }
 {}

@@ -18,10 +18,11 @@ use std::alloc::Global;
 /// to be sound.
 ///
 /// The refusals, in the order in which they are told: no layer of the name (60); an edit or an item that does not go
-/// with the layer's kind, or a malformed item (68); no item at the place (61); an item without what is to change (64);
-/// an aperture (62) or a tool (66) that the layer does not have; a draw or an arc without a solid circle (63); an arc
-/// of radius 0, or a tool's diameter outside its limits (67); a control point off the board (65); more than the limits
-/// allow (69). Last comes want of memory (30).
+/// with the layer's kind, or a malformed item (68); a key or fields of an attribute outside their grammar (75), or no
+/// attribute of the name that is to be dropped (74); no item at the place (61); an item without what is to change (64);
+/// an aperture (62) or a tool (66) that the layer does not have; a draw without a solid circle or rectangle, or an arc
+/// without a solid circle (63); an arc of radius 0, or a tool's diameter outside its limits (67); a control point off
+/// the board (65); more than the limits allow (69). Last comes want of memory (30).
 pub fn plan(alloc: Global, board: &Board, edit: Edit) -> Result<BoardStep, EditFault>
     requires { AreSound (sheets_of board.now) }
     ensures planned { IfOk result (λ step. IsPlan (sheets_of board.now) edit step) }

@@ -12,6 +12,7 @@ ghost use Rattle.cam_edits.specs.Steps.{
   inverse_step,
   is_insertion,
   polarity_of,
+  puts_attribute,
   with_aperture,
   with_object,
   with_polarity,
@@ -19,12 +20,13 @@ ghost use Rattle.cam_edits.specs.Steps.{
 
 use crate::moving::{back, can_move_item};
 use crate::reversible::Reversible;
-use cam_objects::{Item, Layer, Object};
-use cam_units::Point;
+use cam_objects::{Attribute, Item, Layer, Object};
+use cam_units::{Items, Point};
 use std::alloc::AllocError;
 use std::mem;
 
-/// A change of a layer's items, which turns into its inverse when it is played. Places are counted from 0.
+/// A change of a layer's items or of its file attributes, which turns into its inverse when it is played. Places are
+/// counted from 0.
 #[derive(Drop)]
 pub enum Step {
     /// The item stands at place `k`, those behind it one place further.
@@ -39,6 +41,12 @@ pub enum Step {
     Aperture { k: usize, n: u32 },
     /// The object at place `k` becomes dark or clear.
     Polarity { k: usize, dark: bool },
+    /// The attribute stands at place `k`, those behind it one place further.
+    PutAttribute { k: usize, attribute: Attribute },
+    /// The attributes without place `k`.
+    TakeAttribute { k: usize },
+    /// The attribute at place `k` takes the fields, empty or with a comma before them.
+    SetFields { k: usize, fields: Items<u8> },
 }
 
 impl Reversible for Step {
@@ -88,11 +96,15 @@ impl Reversible for Step {
                 Some(item) => matches!(item, Item::One(_)),
                 None => false,
             },
+            Step::PutAttribute { k, .. } => *k <= layer.attributes.len(),
+            Step::TakeAttribute { k } => *k < layer.attributes.len(),
+            Step::SetFields { k, .. } => *k < layer.attributes.len(),
         }
     }
 
     fn room(group: &[Step], layer: &mut Layer) -> Result<(), AllocError> {
-        layer.items.reserve(insertion_count(group))
+        layer.items.reserve(insertion_count(group))?;
+        layer.attributes.reserve(attribute_count(group))
     }
 
     fn play(self, layer: &mut Layer) -> Step {
@@ -122,6 +134,18 @@ impl Reversible for Step {
                 let dark = set_polarity(&mut layer.items[k], dark);
                 Step::Polarity { k, dark }
             }
+            Step::PutAttribute { k, attribute } => {
+                layer.attributes.insert(k, attribute).unwrap();
+                Step::TakeAttribute { k }
+            }
+            Step::TakeAttribute { k } => Step::PutAttribute {
+                k,
+                attribute: layer.attributes.remove(k),
+            },
+            Step::SetFields { k, fields } => {
+                let fields = mem::replace(&mut layer.attributes[k].fields, fields);
+                Step::SetFields { k, fields }
+            }
         }
     }
 }
@@ -133,6 +157,16 @@ fn insertion_count(group: &[Step]) -> usize
     group
         .iter()
         .filter(|step| matches!(step, Step::Insert { .. }))
+        .count()
+}
+
+/// How many of the steps put an attribute.
+fn attribute_count(group: &[Step]) -> usize
+    ensures { result ≡ count_by puts_attribute group.now }
+{
+    group
+        .iter()
+        .filter(|step| matches!(step, Step::PutAttribute { .. }))
         .count()
 }
 

@@ -6,7 +6,7 @@ ghost use Rattle.cam_objects.specs.Contents.{content_of, drill_content_of};
 ghost use Rattle.cam_objects.specs.Drilling.{drill_item_leaves};
 ghost use Rattle.cam_objects.specs.DrillSoundness.{IsSoundDrillItem, IsSoundDrillLayer, tool_of};
 ghost use Rattle.cam_objects.specs.Leaves.{item_leaves, meaning_in};
-ghost use Rattle.cam_objects.specs.Soundness.{IsSound, IsSoundItem};
+ghost use Rattle.cam_objects.specs.Soundness.{HasSoundItems, IsSoundItem};
 ghost use Rattle.cam_edits.specs.DrillSteps.{with_tool};
 ghost use Rattle.cam_edits.specs.Editing.{first_refusal, meets_drill_step, meets_step};
 ghost use Rattle.cam_edits.specs.Steps.{with_aperture, with_object};
@@ -22,7 +22,7 @@ use std::alloc::{AllocError, Global};
 
 /// The boxes of what an accepted step of the layer touches.
 pub(crate) fn touched(alloc: Global, layer: &Layer, step: &Step) -> Result<Vec<Bounds>, AllocError>
-    requires sound { IsSound layer.now }
+    requires sound { HasSoundItems layer.now }
     requires accepted { first_refusal (meets_step (content_of layer.now) step.now) ≡ None }
     ensures { IfOk result (λ boxes. boxes.items ≡ touched step.now (content_of layer.now)) }
 {
@@ -39,6 +39,9 @@ pub(crate) fn touched(alloc: Global, layer: &Layer, step: &Step) -> Result<Vec<B
             two_boxes(alloc, layer.item_bounds(*k), after)
         }
         Step::Polarity { k, .. } => kept_box(alloc, layer.item_bounds(*k)),
+        Step::PutAttribute { .. } => no_box(alloc),
+        Step::TakeAttribute { .. } => no_box(alloc),
+        Step::SetFields { .. } => no_box(alloc),
     }
 }
 
@@ -66,6 +69,13 @@ pub(crate) fn drill_touched(
         }
         DrillStep::Diameter { t, d } => boxes_of_tool(alloc, layer, *t, *d),
     }
+}
+
+/// No box: an edit of attributes touches none.
+fn no_box(alloc: Global) -> Result<Vec<Bounds>, AllocError>
+    ensures { IfOk result (λ boxes. boxes.items ≡ []) }
+{
+    Ok(Vec::new(alloc))
 }
 
 /// A box alone.

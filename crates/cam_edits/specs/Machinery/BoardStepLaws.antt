@@ -20,7 +20,7 @@ use Rattle.cam_edits.specs.Machinery.PlaceLaws.{changed_back, found, get_changed
 use Rattle.cam_edits.specs.Machinery.StepLaws.{answer_fits, gives_back_content, gives_back_step}
 use Rattle.cam_edits.specs.Places.{HasAt}
 use Rattle.cam_edits.specs.Sheets.{Content, Drill, Gerber, Sheet, sheet}
-use Rattle.cam_edits.specs.Steps.{is_insertion}
+use Rattle.cam_edits.specs.Steps.{is_insertion, puts_attribute}
 
 -- ---- one sheet
 fits_back_on : (step : Step) (c : Content) → IsFitOn step c → IsFitOn (inverse_on step c) (after_on step c)
@@ -118,12 +118,12 @@ board_gives_back_step (steps.Drill place step boxes) sheets h =
 
 -- ---- room
 
--- a sheet has a place for each item that steps insert, whatever its kind
+-- a sheet has a place for each item that steps insert and for each attribute that they put, whatever its kind
 abbrev pub HasPlacesFor : List Step → SheetContent → Type 0
-HasPlacesFor group c = HasPlaces (count_by is_insertion group) c
+HasPlacesFor group c = HasPlaces (count_by is_insertion group) (count_by puts_attribute group) c
 
 abbrev pub HasDrillPlacesFor : List DrillStep → SheetContent → Type 0
-HasDrillPlacesFor group c = HasPlaces (count_by is_drill_insertion group) c
+HasDrillPlacesFor group c = HasPlaces (count_by is_drill_insertion group) 0 c
 
 join_if : {X : Type 0} (b : Bool) (x : X) (xs ys : List X) → joined_if b x (xs ++ ys) ≡ joined_if b x xs ++ ys
 join_if true x xs ys = refl
@@ -152,6 +152,13 @@ module _ (place : ℕ) where
       ap (count_by is_insertion) (steps_joined a b)
       ∙ sum_by-append (λ (s : Step). cond (is_insertion s) 1 0) (steps_on place a) (steps_on place b)
 
+  puts : (a b : List BoardStep)
+      → count_by puts_attribute (steps_on place (a ++ b))
+      ≡ count_by puts_attribute (steps_on place a) + count_by puts_attribute (steps_on place b)
+  puts a b =
+      ap (count_by puts_attribute) (steps_joined a b)
+      ∙ sum_by-append (λ (s : Step). cond (puts_attribute s) 1 0) (steps_on place a) (steps_on place b)
+
   drill_insertions : (a b : List BoardStep)
       → count_by is_drill_insertion (drill_steps_on place (a ++ b))
       ≡ count_by is_drill_insertion (drill_steps_on place a) + count_by is_drill_insertion (drill_steps_on place b)
@@ -161,11 +168,13 @@ module _ (place : ℕ) where
       (drill_steps_on place b)
 
   last_has_room_on : (a b : List BoardStep) (c : SheetContent) → HasRoomOn place (a ++ b) c → HasRoomOn place b c
-  last_has_room_on a b (kept.Gerber layer) h = let all = insertions a b in omega arith
+  last_has_room_on a b (kept.Gerber layer) h =
+      (omega (arith, insertions a b, h.0), omega (arith, puts a b, h.1))
   last_has_room_on a b (kept.Drill layer) h = let all = drill_insertions a b in omega arith
 
   pub rest_has_room_on : (a b : List BoardStep) (c : SheetContent) → HasRoomOn place (a ++ b) c → HasRoomOn place a c
-  rest_has_room_on a b (kept.Gerber layer) h = let all = insertions a b in omega arith
+  rest_has_room_on a b (kept.Gerber layer) h =
+      (omega (arith, insertions a b, h.0), omega (arith, puts a b, h.1))
   rest_has_room_on a b (kept.Drill layer) h = let all = drill_insertions a b in omega arith
 
 pub of_each : {X : Type 0} (P Q : X → Type 0) → ((x : X) → P x → Q x) → (o : Option X)

@@ -1,6 +1,7 @@
 use Rattle.std.specs.Prelude.{◌≡◌, ℕ, zero, suc, ◌<◌, ◌≤◌, List, [], ◌∷◌, length, Option, None}
 use Rattle.std.specs.Prelude.{Some, MatchOption, insert, remove, slice_get, slice_set}
 use Rattle.std.proofs.Common.{refl, ap, ◌∙◌, arith}
+use Rattle.std.proofs.lemmas.List.{length-set}
 use Rattle.std.proofs.lemmas.List.Edits.{length-insert, length-remove}
 use Rattle.cam_edits.specs.Places.{HasAt, changed, changed_to, carried, reordered}
 
@@ -50,6 +51,9 @@ module _ {X : Type 0} where
   module _ (xs : List X) (k : ℕ) (x : X) (e : slice_get xs k ≡ Some x) where
     pub changed_is : (f : X → X) → changed f xs k ≡ slice_set xs k (f x)
     changed_is f = ap (changed_to f xs k) e
+
+    pub length_changed : (f : X → X) → length (changed f xs k) ≡ length xs
+    length_changed f = ap length (changed_is f) ∙ length-set xs k (f x)
 
     pub get_changed : (f : X → X) → slice_get (changed f xs k) k ≡ Some (f x)
     get_changed f = ap (λ l. slice_get l k) (changed_is f) ∙ get_set xs k x (f x) e

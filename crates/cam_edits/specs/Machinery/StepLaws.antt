@@ -1,9 +1,10 @@
-use Rattle.std.specs.Prelude.{◌≡◌, ℕ, ◌≤◌, Bool, cond, List, [], ◌∷◌, ◌++◌, length, Some, remove, slice_get}
+use Rattle.std.specs.Prelude.{◌≡◌, ℕ, ◌<◌, ◌≤◌, Option, Bool, cond, List, [], ◌∷◌, ◌++◌, length, Some, remove, slice_get}
 use Rattle.std.proofs.Common.{refl, ap, sym, subst, ◌∙◌, arith}
 use Rattle.std.proofs.lemmas.List.Edits.{length-insert, length-remove}
 use Rattle.std.proofs.lemmas.List.Sums.{sum_by-append}
 use Rattle.cam_objects.specs.Contents.{Content}
 use Rattle.cam_objects.specs.Shifting.{shifted_item}
+use Rattle.cam_objects.specs.declared.attribute.Attribute.{Attribute}
 use Rattle.cam_objects.specs.declared.object.Object.{Object}
 use Rattle.cam_objects.specs.declared.object.Object.TheVariants.{Flash, Draw, Arc, Region}
 use Rattle.cam_objects.specs.declared.item.Item.{Item}
@@ -11,13 +12,14 @@ use Rattle.cam_objects.specs.declared.item.Item.TheVariants.{One, Repeat}
 use Rattle.cam_objects.specs.declared.layer.Layer.{Layer}
 use Rattle.cam_edits.specs.declared.step.Step.{Step}
 use Rattle.cam_edits.specs.declared.step.Step.TheVariants.{Insert, Delete, Move, Reorder, Aperture, Polarity}
+use Rattle.cam_edits.specs.declared.step.Step.TheVariants.{PutAttribute, TakeAttribute, SetFields}
 use Rattle.cam_edits.specs.Moving.{IsMovableItem, negated}
 use Rattle.cam_edits.specs.Machinery.MovingLaws.{item_back, movable_item, negated_twice, shiftable_negated}
 use Rattle.cam_edits.specs.Machinery.PlaceLaws.{changed_back, element_at, found, get_changed, get_inserted, has_changed}
-use Rattle.cam_edits.specs.Machinery.PlaceLaws.{insert_removed, length_reordered, remove_inserted, reordered_back}
+use Rattle.cam_edits.specs.Machinery.PlaceLaws.{insert_removed, length_changed, length_reordered, remove_inserted, reordered_back}
 use Rattle.cam_edits.specs.Places.{HasAt, changed}
-use Rattle.cam_edits.specs.Steps.{Fits, HasAperture, HasRoom, IsFit, IsOne, after_step, aperture_of, inverse_at, inverse_step}
-use Rattle.cam_edits.specs.Steps.{items_after, is_insertion, step_place, polarity_of, with_aperture, with_object, with_polarity}
+use Rattle.cam_edits.specs.Steps.{HasAperture, HasRoom, IsFit, IsOne, after_step, aperture_of, inverse_at, inverse_step}
+use Rattle.cam_edits.specs.Steps.{is_insertion, polarity_of, puts_attribute, step_place, with_aperture, with_fields, with_object, with_polarity}
 
 -- ---- apertures and polarities that are set and set back
 has_aperture : (n : ℕ) (object : Object) → HasAperture object → HasAperture (with_aperture n object)
@@ -61,98 +63,145 @@ one_at : (P : Object → Type 0) (items : List Item) (k : ℕ) → HasAt (IsOne 
 one_at P items k h =
     let f = found (IsOne P) items k h in let o = object_of P f.0 f.2 in (o.0, f.1 ∙ ap Some o.1, o.2)
 
-module _ (items : List Item) where
+module _ (c : Content) where
+  -- the step that leads back, where that is told by the item, or by the attribute
+  abbrev by_item : Step → Option Item → Step
+  by_item step before = inverse_at step before (slice_get c.attributes (step_place step))
+
+  abbrev by_attribute : Step → Option Attribute → Step
+  by_attribute step held = inverse_at step (slice_get c.items (step_place step)) held
+
   -- ---- the answer fits
-  fits_back : (step : Step) → Fits step items
-      → Fits (inverse_at step (slice_get items (step_place step))) (items_after step items)
-  fits_back (Insert k item) h = let n = length-insert items k item h in omega arith
+  fits_back : (step : Step) → IsFit step c → IsFit (inverse_step step c) (after_step step c)
+  fits_back (Insert k item) h = let n = length-insert c.items k item h in omega arith
   fits_back (Delete k) h =
-      let e = (element_at items k h).1 in
-      let n = length-remove items k h in
-      let le : k ≤ length (remove items k) = omega arith in
+      let e = (element_at c.items k h).1 in
+      let n = length-remove c.items k h in
+      let le : k ≤ length (remove c.items k) = omega arith in
       rw e le
   fits_back (Move k by) h =
-      let f = found (IsMovableItem by) items k h.1 in (
+      let f = found (IsMovableItem by) c.items k h.1 in (
         shiftable_negated by h.0,
-        has_changed items k f.0 f.1 (IsMovableItem (negated by)) (shifted_item by) (movable_item by f.0 f.2),
+        has_changed c.items k f.0 f.1 (IsMovableItem (negated by)) (shifted_item by) (movable_item by f.0 f.2),
       )
   fits_back (Reorder k m) h =
-      let e = element_at items k h.0 in
-      let n = length_reordered items k e.0 e.1 m h.1 in
+      let e = element_at c.items k h.0 in
+      let n = length_reordered c.items k e.0 e.1 m h.1 in
       (omega (arith, h.1), omega (arith, h.0))
   fits_back (Aperture k n) h =
-      let o = one_at HasAperture items k h in
+      let o = one_at HasAperture c.items k h in
       let f = with_object (with_aperture n) in
-      subst (λ (s : Step). Fits s (changed f items k)) (sym (ap (inverse_at (Aperture k n)) o.1))
-      (has_changed items k (One o.0) o.1 (IsOne HasAperture) f (has_aperture n o.0 o.2))
+      subst (λ (s : Step). IsFit s (after_step (Aperture k n) c)) (sym (ap (by_item (Aperture k n)) o.1))
+      (has_changed c.items k (One o.0) o.1 (IsOne HasAperture) f (has_aperture n o.0 o.2))
   fits_back (Polarity k dark) h =
-      let o = one_at (λ _. Unit {0}) items k h in
+      let o = one_at (λ _. Unit {0}) c.items k h in
       let f = with_object (with_polarity dark) in
-      subst (λ (s : Step). Fits s (changed f items k)) (sym (ap (inverse_at (Polarity k dark)) o.1))
-      (has_changed items k (One o.0) o.1 (IsOne (λ _. Unit {0})) f tt)
+      subst (λ (s : Step). IsFit s (after_step (Polarity k dark) c)) (sym (ap (by_item (Polarity k dark)) o.1))
+      (has_changed c.items k (One o.0) o.1 (IsOne (λ _. Unit {0})) f tt)
+  fits_back (PutAttribute k a) h = let n = length-insert c.attributes k a h in omega arith
+  fits_back (TakeAttribute k) h =
+      let e = (element_at c.attributes k h).1 in
+      let n = length-remove c.attributes k h in
+      let le : k ≤ length (remove c.attributes k) = omega arith in
+      rw e le
+  fits_back (SetFields k fields) h =
+      let e = element_at c.attributes k h in
+      let n = length_changed c.attributes k e.0 e.1 (with_fields fields) in
+      let lt : k < length (changed (with_fields fields) c.attributes k) = omega (arith, n, h) in
+      subst (λ (s : Step). IsFit s (after_step (SetFields k fields) c)) (sym (ap (by_attribute (SetFields k fields)) e.1))
+      lt
 
-  -- ---- it gives back the items
-  items_back : (step : Step) → Fits step items
-      → items_after (inverse_at step (slice_get items (step_place step))) (items_after step items) ≡ items
-  items_back (Insert k item) h = remove_inserted items k item h
-  items_back (Delete k) h =
-      let e = element_at items k h in
-      ap (λ (s : Step). items_after s (remove items k)) (ap (inverse_at (Delete k)) e.1)
-      ∙ insert_removed items k e.0 e.1
-  items_back (Move k by) h =
-      let f = found (IsMovableItem by) items k h.1 in
-      changed_back items k f.0 f.1 (shifted_item by) (shifted_item (negated by)) (item_back by f.0)
-  items_back (Reorder k m) h = let e = element_at items k h.0 in reordered_back items k e.0 e.1 m h.1
-  items_back (Aperture k n) h =
-      let o = one_at HasAperture items k h in
+  -- ---- it gives back the content
+  abbrev with_items : List Item → Content
+  with_items items = record { attributes = c.attributes; entries = c.entries; items = items }
+
+  abbrev with_attributes : List Attribute → Content
+  with_attributes attributes = record { attributes = attributes; entries = c.entries; items = c.items }
+
+  abbrev then_step : Step → Step → Content
+  then_step step next = after_step next (after_step step c)
+
+  content_back : (step : Step) → IsFit step c → then_step step (inverse_step step c) ≡ c
+  content_back (Insert k item) h = ap with_items (remove_inserted c.items k item h)
+  content_back (Delete k) h =
+      let e = element_at c.items k h in
+      ap (then_step (Delete k)) (ap (by_item (Delete k)) e.1) ∙ ap with_items (insert_removed c.items k e.0 e.1)
+  content_back (Move k by) h =
+      let f = found (IsMovableItem by) c.items k h.1 in
+      ap with_items
+      (changed_back c.items k f.0 f.1 (shifted_item by) (shifted_item (negated by)) (item_back by f.0))
+  content_back (Reorder k m) h =
+      let e = element_at c.items k h.0 in ap with_items (reordered_back c.items k e.0 e.1 m h.1)
+  content_back (Aperture k n) h =
+      let o = one_at HasAperture c.items k h in
       let f = with_object (with_aperture n) in
-      ap (λ (s : Step). items_after s (changed f items k)) (ap (inverse_at (Aperture k n)) o.1)
-      ∙ changed_back items k (One o.0) o.1 f (with_object (with_aperture (aperture_of o.0)))
-      (ap One (aperture_back n o.0))
-  items_back (Polarity k dark) h =
-      let o = one_at (λ _. Unit {0}) items k h in
+      ap (then_step (Aperture k n)) (ap (by_item (Aperture k n)) o.1)
+      ∙ ap with_items
+      (changed_back c.items k (One o.0) o.1 f (with_object (with_aperture (aperture_of o.0)))
+      (ap One (aperture_back n o.0)))
+  content_back (Polarity k dark) h =
+      let o = one_at (λ _. Unit {0}) c.items k h in
       let f = with_object (with_polarity dark) in
-      ap (λ (s : Step). items_after s (changed f items k)) (ap (inverse_at (Polarity k dark)) o.1)
-      ∙ changed_back items k (One o.0) o.1 f (with_object (with_polarity (polarity_of o.0)))
-      (ap One (polarity_back dark o.0))
+      ap (then_step (Polarity k dark)) (ap (by_item (Polarity k dark)) o.1)
+      ∙ ap with_items
+      (changed_back c.items k (One o.0) o.1 f (with_object (with_polarity (polarity_of o.0)))
+      (ap One (polarity_back dark o.0)))
+  content_back (PutAttribute k a) h = ap with_attributes (remove_inserted c.attributes k a h)
+  content_back (TakeAttribute k) h =
+      let e = element_at c.attributes k h in
+      ap (then_step (TakeAttribute k)) (ap (by_attribute (TakeAttribute k)) e.1)
+      ∙ ap with_attributes (insert_removed c.attributes k e.0 e.1)
+  content_back (SetFields k fields) h =
+      let e = element_at c.attributes k h in
+      ap (then_step (SetFields k fields)) (ap (by_attribute (SetFields k fields)) e.1)
+      ∙ ap with_attributes
+      (changed_back c.attributes k e.0 e.1 (with_fields fields) (with_fields e.0.fields) refl)
 
   -- ---- and its own answer is the step
-  abbrev again : List Item → Step → Step
-  again after step = inverse_at step (slice_get after (step_place step))
+  abbrev again : Step → Step → Step
+  again step answer = inverse_step answer (after_step step c)
 
-  step_back : (step : Step) → Fits step items → again (items_after step items) (again items step) ≡ step
-  step_back (Insert k item) h = ap (inverse_at (Delete k)) (get_inserted items k item h)
+  step_back : (step : Step) → IsFit step c → again step (inverse_step step c) ≡ step
+  step_back (Insert k item) h = ap (by_item (Delete k)) (get_inserted c.items k item h)
   step_back (Delete k) h =
-      let e = element_at items k h in ap (again (remove items k)) (ap (inverse_at (Delete k)) e.1)
+      let e = element_at c.items k h in ap (again (Delete k)) (ap (by_item (Delete k)) e.1)
   step_back (Move k by) h = ap (Move k) (negated_twice by)
   step_back (Reorder k m) h = refl
   step_back (Aperture k n) h =
-      let o = one_at HasAperture items k h in
+      let o = one_at HasAperture c.items k h in
       let f = with_object (with_aperture n) in
-      ap (again (changed f items k)) (ap (inverse_at (Aperture k n)) o.1)
-      ∙ (ap (inverse_at (Aperture k (aperture_of o.0))) (get_changed items k (One o.0) o.1 f)
+      ap (again (Aperture k n)) (ap (by_item (Aperture k n)) o.1)
+      ∙ (ap (by_item (Aperture k (aperture_of o.0))) (get_changed c.items k (One o.0) o.1 f)
       ∙ ap (Aperture k) (aperture_set n o.0 o.2))
   step_back (Polarity k dark) h =
-      let o = one_at (λ _. Unit {0}) items k h in
+      let o = one_at (λ _. Unit {0}) c.items k h in
       let f = with_object (with_polarity dark) in
-      ap (again (changed f items k)) (ap (inverse_at (Polarity k dark)) o.1)
-      ∙ (ap (inverse_at (Polarity k (polarity_of o.0))) (get_changed items k (One o.0) o.1 f)
+      ap (again (Polarity k dark)) (ap (by_item (Polarity k dark)) o.1)
+      ∙ (ap (by_item (Polarity k (polarity_of o.0))) (get_changed c.items k (One o.0) o.1 f)
       ∙ ap (Polarity k) (polarity_set dark o.0))
+  step_back (PutAttribute k a) h = ap (by_attribute (TakeAttribute k)) (get_inserted c.attributes k a h)
+  step_back (TakeAttribute k) h =
+      let e = element_at c.attributes k h in ap (again (TakeAttribute k)) (ap (by_attribute (TakeAttribute k)) e.1)
+  step_back (SetFields k fields) h =
+      let e = element_at c.attributes k h in
+      ap (again (SetFields k fields)) (ap (by_attribute (SetFields k fields)) e.1)
+      ∙ ap (by_attribute (SetFields k e.0.fields)) (get_changed c.attributes k e.0 e.1 (with_fields fields))
 
 pub answer_fits : (step : Step) (c : Content) → IsFit step c → IsFit (inverse_step step c) (after_step step c)
-answer_fits step c h = fits_back c.items step h
+answer_fits step c h = fits_back c step h
 
 pub gives_back_content : (step : Step) (c : Content) → IsFit step c
     → after_step (inverse_step step c) (after_step step c) ≡ c
-gives_back_content step c h =
-    ap (λ (l : List Item). record { entries = c.entries; items = l }) (items_back c.items step h)
+gives_back_content step c h = content_back c step h
 
 pub gives_back_step : (step : Step) (c : Content) → IsFit step c
     → inverse_step (inverse_step step c) (after_step step c) ≡ step
-gives_back_step step c h = step_back c.items step h
+gives_back_step step c h = step_back c step h
 
 -- ---- room
 pub last_has_room : (rest : List Step) (step : Step) (layer : Layer)
     → HasRoom (rest ++ step ∷ []) layer → HasRoom (step ∷ []) layer
 last_has_room rest step layer h =
-    let all = sum_by-append (λ (s : Step). cond (is_insertion s) 1 0) rest (step ∷ []) in omega arith
+    let items = sum_by-append (λ (s : Step). cond (is_insertion s) 1 0) rest (step ∷ []) in
+    let names = sum_by-append (λ (s : Step). cond (puts_attribute s) 1 0) rest (step ∷ []) in
+    (omega (arith, items, h.0), omega (arith, names, h.1))

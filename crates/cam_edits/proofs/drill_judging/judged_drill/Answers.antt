@@ -32,8 +32,8 @@ returns-in-Tool-clause-fits c =
     c.requires
     c.tool_change.ensures
 
-pub returns-clause-fits : goal.returns-clause-fits
-returns-clause-fits c =
+pub returns-in-Diameter-clause-fits : goal.returns-in-Diameter-clause-fits
+returns-in-Diameter-clause-fits c =
     judged_fits (drill_content_of c.args.layer.now) (Some (Diameter c.in-Diameter.t c.in-Diameter.d))
     c.diameter_change.result
     c.requires c.diameter_change.ensures

@@ -6,7 +6,7 @@ use Rattle.cam_edits.proofs.GerberEdits as gerber_edits
 use Rattle.cam_edits.proofs.Plans.{drill_no_memory, drill_planned, drill_told, no_layer, no_memory, planned, sound_there, told}
 use Rattle.cam_edits.proofs.planning.plan.Goals as goal
 use Rattle.cam_edits.specs.Boards.{content_at}
-use Rattle.cam_edits.specs.Editing.{drill_step_of, step_of}
+use Rattle.cam_edits.specs.Editing.{drill_step_of}
 use Rattle.cam_edits.specs.Sheets.{Gerber, Drill, content_of, sheets_of}
 
 pub returns-in_default-clause-refused : goal.returns-in_default-clause-refused
@@ -37,12 +37,12 @@ touched-requires-clause-sound c =
     let sheets = sheets_of c.args.board.now in
     let holds : content_at sheets c.in-Some.sheet ≡ Gerber (gerber_content c.in-Gerber.layer) =
     sym c.content.ensures ∙ ap content_of c.in-Gerber.is in
-    sound_there c.args.edit sheets c.in-Some.sheet (sym c.in-Some.ensures.value) c.in-Some.ensures.within c.requires
-    (Gerber (gerber_content c.in-Gerber.layer)) holds
+    (sound_there c.args.edit sheets c.in-Some.sheet (sym c.in-Some.ensures.value) c.in-Some.ensures.within c.requires
+    (Gerber (gerber_content c.in-Gerber.layer)) holds).content
 
 pub touched-requires-clause-accepted : goal.touched-requires-clause-accepted
 touched-requires-clause-accepted c =
-    (gerber_edits.accepted (gerber_content c.in-Gerber.layer) (step_of c.args.edit.change) c.in_ok-step-in-Gerber.step
+    (gerber_edits.change_accepted (gerber_content c.in-Gerber.layer) c.args.edit.change c.in_ok-step-in-Gerber.step
     (sym c.in_ok-step-in-Gerber.ensures.value)).1
 
 pub returns-in_err-boxes-in-Gerber-clause-refused : goal.returns-in_err-boxes-in-Gerber-clause-refused

@@ -3,7 +3,7 @@ use Rattle.cam_units.specs.declared.bounds.Bounds.{Bounds}
 use Rattle.cam_objects.specs.Contents.{content_of}
 use Rattle.cam_edits.proofs.TouchedBoxes.{aperture_boxes, aperture_within, delete_box, delete_within, insert_box, move_boxes, move_within}
 use Rattle.cam_edits.proofs.TouchedBoxes.{polarity_boxes, polarity_within, reorder_boxes, reorder_within, short_move, sound_aperture}
-use Rattle.cam_edits.proofs.TouchedBoxes.{sound_before, sound_insertion}
+use Rattle.cam_edits.proofs.TouchedBoxes.{fields_boxes, put_boxes, sound_before, sound_insertion, take_boxes}
 use Rattle.cam_edits.proofs.touched.touched.Goals as goal
 
 pub bounds_of-requires : goal.bounds_of-requires
@@ -112,3 +112,24 @@ returns-in-Polarity c =
     c.in-Polarity.dark c.in-Polarity.is
     c.item_bounds-in-Polarity.result c.item_bounds-in-Polarity.ensures)
     c.kept_box-in-Polarity.ensures
+
+pub returns-in-PutAttribute : goal.returns-in-PutAttribute
+returns-in-PutAttribute c =
+    subst (λ (bs : List Bounds). IfOk c.no_box.result (λ boxes. boxes.items ≡ bs))
+    (put_boxes (content_of c.args.layer.now) c.args.step.now c.requires.accepted c.in-PutAttribute.k
+    c.in-PutAttribute.attribute c.in-PutAttribute.is)
+    c.no_box.ensures
+
+pub returns-in-TakeAttribute : goal.returns-in-TakeAttribute
+returns-in-TakeAttribute c =
+    subst (λ (bs : List Bounds). IfOk c.no_box-in-TakeAttribute.result (λ boxes. boxes.items ≡ bs))
+    (take_boxes (content_of c.args.layer.now) c.args.step.now c.requires.accepted c.in-TakeAttribute.k
+    c.in-TakeAttribute.is)
+    c.no_box-in-TakeAttribute.ensures
+
+pub returns-in-SetFields : goal.returns-in-SetFields
+returns-in-SetFields c =
+    subst (λ (bs : List Bounds). IfOk c.no_box-in-SetFields.result (λ boxes. boxes.items ≡ bs))
+    (fields_boxes (content_of c.args.layer.now) c.args.step.now c.requires.accepted c.in-SetFields.k
+    c.in-SetFields.fields c.in-SetFields.is)
+    c.no_box-in-SetFields.ensures

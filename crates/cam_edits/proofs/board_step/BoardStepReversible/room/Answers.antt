@@ -1,9 +1,9 @@
-use Rattle.std.proofs.Common.{◌≡◌, ℕ, length, Some, refl, subst, ◌∙◌, arith}
+use Rattle.std.proofs.Common.{◌≡◌, ℕ, count_by, length, Some, refl, subst, ◌∙◌, arith}
 use Rattle.std.proofs.lemmas.Option.{slice_get_read}
 use Rattle.std.specs.List.{slice_get}
 use Rattle.cam_edits.proofs.BoardRoom.{one_more, room_on_each}
 use Rattle.cam_edits.proofs.BoardSheets.{same_length, sheets_kept}
-use Rattle.cam_edits.specs.Machinery.Room.{HasPlaces}
+use Rattle.cam_edits.specs.Machinery.Room.{HasPlaces, inserts_at}
 use Rattle.cam_edits.proofs.board_step.BoardStepReversible.room.Goals as goal
 
 pub returns-in_err-reserve-clause-content : goal.returns-in_err-reserve-clause-content
@@ -20,8 +20,12 @@ loop-place-preserved c =
     let same = same_length xs c.args.board.now.sheets.items c.loop-place.invariant.content in
     let new = c.reserve.new.self in
     let e : slice_get xs n ≡ Some s = slice_get_read xs (length xs) n s refl (omega arith) c.index_mut.ensures.value in
+    let items =
+    subst (λ (more : ℕ). HasPlaces more c.attribute_count-attributes.result new) c.insertion_count-items.ensures
+    c.in_ok-reserve.ensures.room in
     let room =
-    subst (λ (more : ℕ). HasPlaces more new) c.insertion_count-more.ensures c.in_ok-reserve.ensures.room in
+    subst (λ (more : ℕ). HasPlaces (count_by (inserts_at n) c.args.group.now) more new)
+    c.attribute_count-attributes.ensures items in
     record {
       content = sheets_kept xs n s new c.index_mut.ensures.value c.in_ok-reserve.ensures.content
           ∙ c.loop-place.invariant.content;

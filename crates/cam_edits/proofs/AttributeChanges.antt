@@ -1,0 +1,186 @@
+-- An edit of file attributes changes no picture and touches no box.
+use Rattle.std.proofs.Common.{◌≡◌, ℕ, zero, suc, ◌+◌, Bool, true, false, cond, not, nat_lt, List, [], ◌∷◌, length, map}
+use Rattle.std.proofs.Common.{Option, None, Some, Result, Ok, Err, refl, ap, sym, subst, ◌∙◌, arith}
+use Rattle.std.specs.Prelude.{position, remove, slice_get, slice_set}
+use Rattle.std.specs.List.{position_or_len}
+use Rattle.std.specs.Option.{option_map}
+use Rattle.std.specs.Str.{bytes_eq}
+use Rattle.std.proofs.lemmas.List.Quantifiers.{position-Some}
+use Rattle.cam_objects.specs.Attributes.{has_name, place_of}
+use Rattle.cam_objects.specs.Contents.{Content as GerberContent}
+use Rattle.cam_objects.specs.declared.attribute.Attribute.{Attribute}
+use Rattle.cam_edits.specs.declared.edit.Change.{Change}
+use Rattle.cam_edits.specs.declared.edit.Change.TheVariants.{Insert, Delete, Move, Reorder, Aperture, Polarity, Tool, Diameter}
+use Rattle.cam_edits.specs.declared.edit.Change.TheVariants.{SetAttribute, DropAttribute}
+use Rattle.cam_edits.specs.declared.fault.EditFault.{EditFault}
+use Rattle.cam_edits.specs.declared.step.Step.{Step}
+use Rattle.cam_edits.specs.declared.step.Step.TheVariants.{TakeAttribute}
+use Rattle.cam_edits.specs.AttributeEdits.{setting_step}
+use Rattle.cam_edits.specs.AttributeLaws.{AttributeLaw, ChangesAttributes, IsOfAttributes, attributes_of, with_attributes_of, without_attribute}
+use Rattle.cam_edits.specs.Boards.{changed_at, content_at, held, place_named, with_content}
+use Rattle.cam_edits.specs.Editing.{edited, edited_at, edited_sheet, judged_change, judged_drill, drill_step_of, step_of}
+use Rattle.cam_edits.specs.Editing.{with_drill_step, with_step}
+use Rattle.cam_edits.specs.Images.{sheet_leaves}
+use Rattle.cam_edits.specs.Machinery.PlaceLaws.{changed_is, element_at, get_changed}
+use Rattle.cam_edits.specs.Sheets.{Content, Gerber, Drill, Sheet, sheet}
+use Rattle.cam_edits.specs.Steps.{after_step}
+use Rattle.cam_edits.specs.Touched.{touched}
+use Rattle.cam_edits.specs.Touches.{boxes_in, boxes_of_step, touch_at, touch_of_edit}
+use Rattle.cam_edits.proofs.AttributeSteps.{after_setting_at}
+use Rattle.cam_edits.proofs.GerberEdits.{change_accepted}
+
+-- ---- what the step makes of a layer
+
+module _ (name : List ℕ) where
+  taken : (xs : List Attribute) → remove xs (position_or_len (has_name name) xs) ≡ without_attribute name xs
+  taken [] = refl
+  taken (a ∷ xs) = go (has_name name a) (position_or_len (has_name name) xs) (taken xs) where
+    go : (b : Bool) (n : ℕ) → remove xs n ≡ without_attribute name xs
+        → remove (a ∷ xs) (cond (not b) (1 + n) 0) ≡ cond b xs (a ∷ without_attribute name xs)
+    go true n rest = refl
+    go false n rest =
+        let next : 1 + n ≡ suc n = omega arith in
+        ap (remove (a ∷ xs)) next ∙ ap (λ (rest : List Attribute). a ∷ rest) rest
+
+  place_is : (t : Bool) (n k : ℕ) → cond t (Some n) None ≡ Some k → n ≡ k
+  place_is true n k e = cc
+  place_is false n k e = absurd cc
+
+  taken_at : (xs : List Attribute) (k : ℕ) → place_of name xs ≡ Some k → remove xs k ≡ without_attribute name xs
+  taken_at xs k e =
+      let n = position_or_len (has_name name) xs in
+      ap (remove xs) (sym (place_is (nat_lt n (length xs)) n k e)) ∙ taken xs
+
+module _ (c : GerberContent) where
+  abbrev with_attributes : List Attribute → GerberContent
+  with_attributes attributes = record { attributes = attributes; entries = c.entries; items = c.items }
+
+  abbrev Gives : Change → Step → Type 0
+  Gives change step = (after_step step c ≡ with_attributes (attributes_of change c.attributes)) × (touched step c ≡ [])
+
+  set_gives : (key fields : List ℕ) (place : Option ℕ) → place_of key c.attributes ≡ place
+      → Gives (SetAttribute key fields) (setting_step key fields (length c.attributes) place)
+  unfolding touched
+  set_gives key fields None e = (ap with_attributes (after_setting_at c.attributes key fields None e), refl)
+  set_gives key fields (Some k) e = (ap with_attributes (after_setting_at c.attributes key fields (Some k) e), refl)
+
+  drop_gives : (key : List ℕ) (place : Option ℕ) → place_of key c.attributes ≡ place → (step : Step)
+      → option_map TakeAttribute place ≡ Some step → Gives (DropAttribute key) step
+  unfolding touched
+  drop_gives key None at step e = absurd cc
+  drop_gives key (Some k) at step e =
+      let same : TakeAttribute k ≡ step = cc in
+      subst (Gives (DropAttribute key)) same (ap with_attributes (taken_at key c.attributes k at), refl)
+
+  gives : (change : Change) → IsOfAttributes change → (step : Step) → step_of c.attributes change ≡ Some step
+      → Gives change step
+  gives (Insert k item) is step e = absurd is
+  gives (Delete k) is step e = absurd is
+  gives (Move k by) is step e = absurd is
+  gives (Reorder k m) is step e = absurd is
+  gives (Aperture k n) is step e = absurd is
+  gives (Polarity k dark) is step e = absurd is
+  gives (Tool k t) is step e = absurd is
+  gives (Diameter t d) is step e = absurd is
+  gives (SetAttribute key fields) is step e =
+      let place = place_of key c.attributes in
+      let same : setting_step key fields (length c.attributes) place ≡ step = cc in
+      subst (Gives (SetAttribute key fields)) same (set_gives key fields place refl)
+  gives (DropAttribute key) is step e = drop_gives key (place_of key c.attributes) refl step e
+
+-- a drill layer has none
+no_drill : (change : Change) → IsOfAttributes change → drill_step_of change ≡ None
+no_drill (Insert k item) is = absurd is
+no_drill (Delete k) is = absurd is
+no_drill (Move k by) is = absurd is
+no_drill (Reorder k m) is = absurd is
+no_drill (Aperture k n) is = absurd is
+no_drill (Polarity k dark) is = absurd is
+no_drill (Tool k t) is = absurd is
+no_drill (Diameter t d) is = absurd is
+no_drill (SetAttribute key fields) is = refl
+no_drill (DropAttribute key) is = refl
+
+-- ---- the sheets
+
+-- a sheet in place of one that paints the same
+same_leaves : (xs : List Sheet) (k other : ℕ) (s t : Sheet) → slice_get xs k ≡ Some s
+    → sheet_leaves t.content ≡ sheet_leaves s.content
+    → sheet_leaves (content_at (slice_set xs k t) other) ≡ sheet_leaves (content_at xs other)
+same_leaves [] k other s t here same = absurd cc
+same_leaves (x ∷ xs) zero zero s t here same =
+    let is : s ≡ x = cc in same ∙ ap (λ (s : Sheet). sheet_leaves s.content) is
+same_leaves (x ∷ xs) zero (suc other) s t here same = refl
+same_leaves (x ∷ xs) (suc k) zero s t here same = refl
+same_leaves (x ∷ xs) (suc k) (suc other) s t here same = same_leaves xs k other s t here same
+
+abbrev name_of : Sheet → List ℕ
+name_of s = s.name
+
+same_names : (xs : List Sheet) (k : ℕ) (s t : Sheet) → slice_get xs k ≡ Some s → t.name ≡ s.name
+    → map name_of (slice_set xs k t) ≡ map name_of xs
+same_names [] k s t here same = absurd cc
+same_names (x ∷ xs) zero s t here same =
+    let is : s ≡ x = cc in ap (λ (n : List ℕ). n ∷ map name_of xs) (same ∙ ap name_of is)
+same_names (x ∷ xs) (suc k) s t here same = ap (λ (ns : List (List ℕ)). x.name ∷ ns) (same_names xs k s t here same)
+
+abbrev accepted : List Sheet → Result (List Sheet) EditFault
+accepted sheets = Ok sheets
+
+module _ (change : Change) (is : IsOfAttributes change) (sheets after : List Sheet) (place : ℕ) (s : Sheet)
+    (here : slice_get sheets place ≡ Some s) where
+  abbrev HasChanged : Content → Type 0
+  HasChanged c = ChangesAttributes change (record { sheet = place; boxes = boxes_in change c }) sheets after
+
+  held_there : content_at sheets place ≡ s.content
+  held_there = ap held here
+
+  put : (c : GerberContent) → s.content ≡ Gerber c → (new : GerberContent)
+      → new ≡ with_attributes c (attributes_of change c.attributes) → boxes_in change (Gerber c) ≡ []
+      → changed_at (λ _. Gerber new) place sheets ≡ after → HasChanged (Gerber c)
+  put c holds new gives no_box is =
+      let next = with_content (λ _. Gerber new) in
+      let set = sym is ∙ changed_is sheets place s here next in
+      let same : sheet_leaves (Gerber new) ≡ sheet_leaves s.content =
+      ap (λ c. sheet_leaves (Gerber c)) gives ∙ sym (ap sheet_leaves holds) in
+      record {
+        names = ap (map name_of) set ∙ same_names sheets place s (sheet s.name (Gerber new)) here refl;
+        listed =
+            ap (λ sheets. content_at sheets place) (sym is)
+            ∙ ap held (get_changed sheets place s here next)
+            ∙ ap Gerber gives
+            ∙ sym (ap (with_attributes_of change) (held_there ∙ holds));
+        pictures = λ other.
+            ap (λ sheets. sheet_leaves (content_at sheets other)) set
+            ∙ same_leaves sheets place other s (sheet s.name (Gerber new)) here same;
+        boxes = no_box;
+      }
+
+  stepped : (c : GerberContent) → s.content ≡ Gerber c → (r : Result Step EditFault) → judged_change c change ≡ r
+      → with_step sheets place c r ≡ Ok after → HasChanged (Gerber c)
+  stepped c holds (Ok step) judgement e =
+      let told = change_accepted c change step judgement in
+      let made = gives c change is step told.0 in
+      let set : changed_at (λ _. Gerber (after_step step c)) place sheets ≡ after = cc in
+      put c holds (after_step step c) made.0 (ap (λ (o : Option Step). boxes_of_step o c) told.0 ∙ made.1) set
+  stepped c holds (Err fault) judgement e = absurd cc
+
+  sheet_edited : (c : Content) → s.content ≡ c → edited_sheet change sheets place c ≡ Ok after → HasChanged c
+  sheet_edited (Gerber c) holds e = stepped c holds (judged_change c change) refl e
+  sheet_edited (Drill c) holds e =
+      let never = sym (ap (λ o. with_drill_step sheets place c (judged_drill c o)) (no_drill change is)) ∙ e in absurd cc
+
+module _ (change : Change) (is : IsOfAttributes change) (name : List ℕ) (sheets after : List Sheet) where
+  edited_there : (o : Option ℕ) → position (λ (s : Sheet). bytes_eq s.name name) sheets ≡ o
+      → edited_at change sheets o ≡ Ok after → ChangesAttributes change (touch_at change sheets o) sheets after
+  edited_there None at e = absurd cc
+  edited_there (Some place) at e =
+      let within = (position-Some (λ (s : Sheet). bytes_eq s.name name) sheets place (sheet [] (content_at [] 0)) at).0 in
+      let there = element_at sheets place within in
+      let content = content_at sheets place in
+      sheet_edited change is sheets after place there.0 there.1 content (sym (ap held there.1)) e
+
+pub attributes_change_no_picture : AttributeLaw
+unfolding edited touch_of_edit place_named
+attributes_change_no_picture edit sheets after is e =
+    edited_there edit.change is edit.name sheets after (place_named edit.name sheets) refl e

@@ -1,0 +1,153 @@
+-- The steps of edits of attributes: they fit, and make of the attributes what the edits say.
+use Rattle.std.proofs.Common.{◌≡◌, ℕ, ◌<◌, ◌≤◌, Bool, true, false, ◌&&◌, nat_le, ◌+◌, List, [], length, get_or}
+use Rattle.std.proofs.Common.{Option, None, Some, Result, Ok, Err, refl, ap, sym, subst, ◌∙◌, arith}
+use Rattle.std.specs.Prelude.{is_some, slice_get, slice_set}
+use Rattle.std.specs.Option.{option_map}
+use Rattle.std.proofs.lemmas.Bool.{le-leb, leb-true}
+use Rattle.std.proofs.lemmas.List.Edits.{insert_end}
+use Rattle.std.proofs.lemmas.List.Quantifiers.{position-Some}
+use Rattle.std.proofs.lemmas.Option.{get_or_from_slice_get}
+use Rattle.std.proofs.lemmas.Slice.Eq.{bytes_eq-Decides}
+use Rattle.cam_objects.specs.Attributes.{AreAttributes, attribute_of, has_name, place_of, with_attribute}
+use Rattle.cam_objects.specs.Contents.{Content}
+use Rattle.cam_objects.specs.Limits.{attribute_limit}
+use Rattle.cam_objects.specs.declared.attribute.Attribute.{Attribute}
+use Rattle.cam_objects.proofs.EditedAttributes.{added_last, kept_place, room_added, room_kept}
+use Rattle.cam_edits.specs.declared.edit.Change.TheVariants.{SetAttribute, DropAttribute}
+use Rattle.cam_edits.specs.declared.fault.EditFault.{EditFault}
+use Rattle.cam_edits.specs.declared.fault.EditFault.TheVariants.{AttributeRefused, NoAttribute, TooMuch}
+use Rattle.cam_edits.specs.declared.step.Step.{Step}
+use Rattle.cam_edits.specs.declared.step.Step.TheVariants.{PutAttribute, TakeAttribute, SetFields}
+use Rattle.cam_edits.specs.AttributeEdits.{are_fields, is_key, refused_unless, setting_step}
+use Rattle.cam_edits.specs.Editing.{judged, judged_change, judged_unless, meets_step}
+use Rattle.cam_edits.specs.Machinery.PlaceLaws.{changed_is, element_at}
+use Rattle.cam_edits.specs.Steps.{attributes_after, with_fields}
+use Rattle.cam_edits.proofs.Refusals.{never}
+
+-- ---- where a name stands
+
+module _ (name : List ℕ) (xs : List Attribute) (k : ℕ) (here : place_of name xs ≡ Some k) where
+  pub within : k < length xs
+  within = (position-Some (has_name name) xs k (attribute_of [] []) here).0
+
+  pub named : (a : Attribute) × (slice_get xs k ≡ Some a) × (a.name ≡ name)
+  named =
+      let at = element_at xs k within in
+      let told = (position-Some (has_name name) xs k at.0 here).1 in
+      let is : get_or xs k at.0 ≡ at.0 = get_or_from_slice_get xs k at.0 at.0 at.1 in
+      (at.0, at.1, (bytes_eq-Decides at.0.name name).0 (subst (λ (a : Attribute). has_name name a ≡ true) is told))
+
+-- ---- one that is set
+
+module _ (xs : List Attribute) (key fields : List ℕ) where
+  abbrev new : Attribute
+  new = attribute_of key fields
+
+  abbrev step_at : Option ℕ → Step
+  step_at place = setting_step key fields (length xs) place
+
+  pub after_setting_at : (place : Option ℕ) → place_of key xs ≡ place → attributes_after (step_at place) xs ≡ with_attribute new xs
+  after_setting_at None e = insert_end xs new ∙ sym (added_last new xs e)
+  after_setting_at (Some k) e =
+      let at = named key xs k e in
+      changed_is xs k at.0 at.1 (with_fields fields)
+      ∙ ap (λ name. slice_set xs k (attribute_of name fields)) at.2
+      ∙ sym (kept_place new xs k e)
+
+  pub after_setting : attributes_after (step_at (place_of key xs)) xs ≡ with_attribute new xs
+  after_setting = after_setting_at (place_of key xs) refl
+
+  pub one_more : place_of key xs ≡ None → length (with_attribute new xs) ≡ length xs + 1
+  one_more e = room_added new xs e
+
+  pub as_many : (k : ℕ) → place_of key xs ≡ Some k → length (with_attribute new xs) ≡ length xs
+  as_many k e = room_kept new xs k e
+
+-- ---- judgements
+
+module _ (c : Content) (key fields : List ℕ) where
+  abbrev set_step : Option ℕ → Step
+  set_step place = setting_step key fields (length c.attributes) place
+
+  abbrev has_room : Bool
+  has_room = nat_le (length (with_attribute (attribute_of key fields) c.attributes)) attribute_limit
+
+  abbrev told : Bool → Bool → Bool → Result Step EditFault
+  told named written room =
+      judged_unless c (refused_unless (named && written) AttributeRefused (refused_unless room TooMuch None))
+      (Some (set_step (place_of key c.attributes)))
+
+  pub bad_key : is_key key ≡ false → Err AttributeRefused ≡ judged_change c (SetAttribute key fields)
+  bad_key e = sym (ap (λ named. told named (are_fields fields) has_room) e)
+
+  module _ (good : is_key key ≡ true) where
+    pub bad_fields : are_fields fields ≡ false → Err AttributeRefused ≡ judged_change c (SetAttribute key fields)
+    bad_fields e =
+        sym (ap (λ named. told named (are_fields fields) has_room) good ∙ ap (λ written. told true written has_room) e)
+
+    module _ (written : are_fields fields ≡ true) where
+      by_room : (room : Bool) → has_room ≡ room → judged_change c (SetAttribute key fields) ≡ told true true room
+      by_room room e =
+          ap (λ named. told named (are_fields fields) has_room) good
+          ∙ (ap (λ written. told true written has_room) written ∙ ap (told true true) e)
+
+      made : (place : Option ℕ) → judged c (Some (set_step place)) ≡ Ok (set_step place)
+      unfolding meets_step
+      made None = refl
+      made (Some k) = refl
+
+      judged_with : has_room ≡ true → (place : Option ℕ) → place ≡ place_of key c.attributes
+          → Ok (set_step place) ≡ judged_change c (SetAttribute key fields)
+      judged_with room place at =
+          sym (by_room true room ∙ (ap (λ place. judged c (Some (set_step place))) (sym at) ∙ made place))
+
+      pub filled : (k : ℕ) → Some k ≡ place_of key c.attributes → AreAttributes c.attributes
+          → Ok (SetFields k fields) ≡ judged_change c (SetAttribute key fields)
+      filled k at h =
+          let n = as_many c.attributes key fields k (sym at) in
+          let few = h.few in
+          judged_with (le-leb (length (with_attribute (attribute_of key fields) c.attributes)) attribute_limit (omega arith))
+          (Some k) at
+
+      module _ (at : None ≡ place_of key c.attributes) where
+        more : length (with_attribute (attribute_of key fields) c.attributes) ≡ length c.attributes + 1
+        more = one_more c.attributes key fields (sym at)
+
+        pub put : length c.attributes < attribute_limit
+            → Ok (PutAttribute (length c.attributes) (attribute_of key fields)) ≡ judged_change c (SetAttribute key fields)
+        put few =
+            let n = more in
+            judged_with
+            (le-leb (length (with_attribute (attribute_of key fields) c.attributes)) attribute_limit (omega arith)) None at
+
+        pub too_many : attribute_limit ≤ length c.attributes → Err TooMuch ≡ judged_change c (SetAttribute key fields)
+        too_many many =
+            let n = more in
+            sym (by_room false (never has_room (λ e.
+            let few = leb-true (length (with_attribute (attribute_of key fields) c.attributes)) attribute_limit e in
+            omega arith)))
+
+module _ (c : Content) (key : List ℕ) where
+  abbrev drop_told : Bool → Option ℕ → Result Step EditFault
+  drop_told named place =
+      judged_unless c (refused_unless named AttributeRefused (refused_unless (is_some place) NoAttribute None))
+      (option_map TakeAttribute place)
+
+  pub bad_drop : is_key key ≡ false → Err AttributeRefused ≡ judged_change c (DropAttribute key)
+  bad_drop e = sym (ap (λ named. drop_told named (place_of key c.attributes)) e)
+
+  module _ (good : is_key key ≡ true) where
+    by_place : (place : Option ℕ) → place ≡ place_of key c.attributes
+        → judged_change c (DropAttribute key) ≡ drop_told true place
+    by_place place at =
+        ap (λ named. drop_told named (place_of key c.attributes)) good ∙ ap (drop_told true) (sym at)
+
+    pub nothing_dropped : None ≡ place_of key c.attributes → Err NoAttribute ≡ judged_change c (DropAttribute key)
+    nothing_dropped at = sym (by_place None at)
+
+    pub dropped : (k : ℕ) → Some k ≡ place_of key c.attributes → Ok (TakeAttribute k) ≡ judged_change c (DropAttribute key)
+    unfolding meets_step
+    dropped k at = sym (by_place (Some k) at)
+
+pub fits_there : (c : Content) (key : List ℕ) (k : ℕ) → Some k ≡ place_of key c.attributes → k < length c.attributes
+fits_there c key k at = within key c.attributes k (sym at)
