@@ -11,6 +11,7 @@ use Rattle.cam_shapes.specs.declared.rectangle.Rectangle.{Rectangle}
 use Rattle.cam_shapes.specs.declared.obround.Obround.{Obround}
 use Rattle.cam_shapes.specs.declared.bar.Bar.{Bar}
 use Rattle.cam_shapes.specs.declared.capsule.Capsule.{Capsule}
+use Rattle.cam_shapes.specs.declared.swept.Swept.{Swept}
 use Rattle.cam_shapes.specs.declared.arc.Arc.{Arc}
 use Rattle.cam_shapes.specs.declared.cap.Cap.{Cap}
 use Rattle.cam_shapes.specs.Arc.{IsInArc}
@@ -19,6 +20,7 @@ use Rattle.cam_shapes.specs.Box.{IsInObround, IsInRectangle}
 use Rattle.cam_shapes.specs.Cap.{is_in_cap}
 use Rattle.cam_shapes.specs.Disc.{IsInDisc, IsInHole}
 use Rattle.cam_shapes.specs.Plane.{dot, place_of, square, way}
+use Rattle.cam_shapes.specs.Swept.{IsInSwept}
 use Rattle.cam_shapes.proofs.Caps.{cap_square}
 use Rattle.cam_shapes.proofs.Strokes.{arc_square, natural_or_not}
 use Rattle.cam_apertures.specs.Primitives.{box_about}
@@ -84,6 +86,11 @@ in_capsule c h a s on = elim on.near [
   | inr (inl near) ↦ at_end c.from c.to c.width h a s (record { some = on.wide; near = near })
   | inr (inr near) ↦ beside c.from c.to c.width h a s (record { wide = on.wide; beside = near })
 ]
+
+pub in_swept : (r : Swept) (h : Heights) → AreAlong r.from r.to r.height.0 h
+    → (s : Spot) → IsInSwept s r → IsWithin h s
+in_swept r h a s on =
+    (omega (arith, ints, clamps, a.low, on.boxed.below), omega (arith, ints, clamps, a.high, on.boxed.above))
 
 -- ---- circles
 

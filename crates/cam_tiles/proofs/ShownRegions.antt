@@ -18,7 +18,7 @@ use Rattle.cam_objects.specs.declared.item_fault.ItemFault.TheVariants.{OutOfBoa
 use Rattle.cam_objects.specs.declared.layer.Layer.{Layer}
 use Rattle.cam_objects.specs.declared.object.Object.TheVariants.{Region}
 use Rattle.cam_objects.specs.Leaves.{Filled, item_leaves, leaf, meaning_in, origin}
-use Rattle.cam_objects.specs.Soundness.{IsSound, IsSoundItem, points_of, points_of_contour, points_of_seg, segs_of}
+use Rattle.cam_objects.specs.Soundness.{HasSoundItems, IsSoundItem, points_of, points_of_contour, points_of_seg, segs_of}
 use Rattle.cam_tiles.specs.Machinery.Filing.{IsOnBoardWhole}
 
 -- ---- what is not turned and not moved stays where it is
@@ -82,7 +82,7 @@ module _ (layer : Layer) (item : Item) (c : Contour) (dark : Bool) (is : item �
         get_or-map (item_leaves (meaning_in layer.apertures)) layer.items.items k item [] inside
         ∙ ap (item_leaves (meaning_in layer.apertures)) (sym here) ∙ region_leaves
 
-    pub region_whole : IsSound layer → IsOnBoardWhole c
+    pub region_whole : HasSoundItems layer → IsOnBoardWhole c
     region_whole sound =
         region_sound (subst (IsSoundItem layer.apertures) (sym here)
         (All-get_or (IsSoundItem layer.apertures) layer.items.items k item inside sound.items))

@@ -3,7 +3,7 @@
 ghost use Rattle.std.specs.Prelude.{◌≡◌};
 ghost use Rattle.cam_objects.specs.Contents.{content_leaves, content_of, drill_content_leaves, drill_content_of};
 ghost use Rattle.cam_objects.specs.DrillSoundness.{IsSoundDrillLayer};
-ghost use Rattle.cam_objects.specs.Soundness.{IsSound};
+ghost use Rattle.cam_objects.specs.Soundness.{HasSoundItems};
 ghost use Rattle.cam_tiles.specs.Sources.{picture_of, unasked};
 
 use crate::grid::Grid;
@@ -40,7 +40,7 @@ impl<'a> Model for Source<'a> {
 impl<'a> Source<'a> {
     /// Paints a sound layer. No tile was asked for.
     pub fn gerber(layer: &'a Layer) -> Source<'a>
-        requires { IsSound layer.now }
+        requires { HasSoundItems layer.now }
         ensures { result ≡ unasked (content_leaves (content_of layer.now)) }
     {
         Source {

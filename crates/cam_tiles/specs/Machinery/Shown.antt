@@ -4,7 +4,7 @@ use Rattle.cam_objects.specs.Contents.{content_leaves, content_of, drill_content
 use Rattle.cam_objects.specs.DrillSoundness.{IsSoundDrillLayer}
 use Rattle.cam_objects.specs.Drilling.{drill_item_leaves}
 use Rattle.cam_objects.specs.Leaves.{Leaf, item_leaves, meaning_in}
-use Rattle.cam_objects.specs.Soundness.{IsSound}
+use Rattle.cam_objects.specs.Soundness.{HasSoundItems}
 use Rattle.cam_tiles.specs.declared.shown.Boxes.{Boxes}
 use Rattle.cam_tiles.specs.declared.shown.Boxes.TheVariants.{Gerber as OfGerber, Drill as OfDrill}
 use Rattle.cam_tiles.specs.declared.shown.Shown.{Shown}
@@ -16,7 +16,7 @@ leaves_of (Drill layer) = drill_content_leaves (drill_content_of layer.now)
 
 -- a sound layer
 abbrev pub IsReady : Shown → Type 0
-IsReady (Gerber layer) = IsSound layer.now
+IsReady (Gerber layer) = HasSoundItems layer.now
 IsReady (Drill layer) = IsSoundDrillLayer layer.now
 
 -- the leaves of each item

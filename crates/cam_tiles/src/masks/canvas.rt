@@ -26,6 +26,7 @@ impl Canvas for Mask {
         match print.figure {
             Figure::Stamp { aperture, turn, at } => self.stamp(aperture, turn, at, how),
             Figure::Stroke(capsule) => self.join(&capsule, ORIGIN, how),
+            Figure::Swept(swept) => self.join(&swept, ORIGIN, how),
             Figure::Sweep(arc) => self.join(&arc, ORIGIN, how),
             Figure::Filled {
                 contour,

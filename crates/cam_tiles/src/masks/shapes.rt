@@ -10,14 +10,15 @@ ghost use Rattle.cam_shapes.specs.Box.{IsInObround, IsInRectangle, IsSoundObroun
 ghost use Rattle.cam_shapes.specs.Cap.{IsSoundCap, is_in_cap};
 ghost use Rattle.cam_shapes.specs.Disc.{IsInDisc, IsInHole, IsSoundDisc};
 ghost use Rattle.cam_shapes.specs.Plane.{dot, square, way};
+ghost use Rattle.cam_shapes.specs.Swept.{IsInSwept, IsSoundSwept};
 
 use crate::masks::heights::Heights;
 use crate::masks::row_shape::RowShape;
 use cam_rows::{
     Centres, arc_rows, bar_rows, cap_rows, capsule_rows, disc_rows, hole_rows, obround_rows,
-    rect_rows, squared_distance,
+    rect_rows, squared_distance, swept_rows,
 };
-use cam_shapes::{Arc, Bar, Cap, Capsule, Disc, Obround, Rectangle};
+use cam_shapes::{Arc, Bar, Cap, Capsule, Disc, Obround, Rectangle, Swept};
 use cam_units::{Nm, Point, isqrt};
 
 /// The open disc of a hole.
@@ -106,6 +107,20 @@ impl RowShape for Capsule {
 
     fn rows(&self, top: Centres, rows: &mut [u64]) {
         capsule_rows(*self, top, rows);
+    }
+}
+
+impl RowShape for Swept {
+    ghost is_sound = { IsSoundSwept };
+
+    ghost holds = { λ r s. IsInSwept s r };
+
+    fn heights(&self) -> Heights {
+        along(self.from, self.to, self.height)
+    }
+
+    fn rows(&self, top: Centres, rows: &mut [u64]) {
+        swept_rows(*self, top, rows);
     }
 }
 

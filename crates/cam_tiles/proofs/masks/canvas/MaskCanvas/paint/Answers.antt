@@ -1,7 +1,7 @@
 use Rattle.std.proofs.Common.{ap}
 use Rattle.cam_objects.specs.Canvases.{shape_of}
 use Rattle.cam_objects.specs.Image.{Covers}
-use Rattle.cam_objects.specs.Leaves.{Stroke, Sweep, Drilled}
+use Rattle.cam_objects.specs.Leaves.{Stroke, Swept, Sweep, Drilled}
 use Rattle.cam_tiles.proofs.Joined.{joins_from_origin}
 use Rattle.cam_tiles.proofs.PaintedMasks.{figure_is_painted}
 use Rattle.cam_tiles.proofs.masks.canvas.MaskCanvas.paint.Goals as goal
@@ -17,6 +17,13 @@ returns-in-Stroke c =
     (ap shape_of c.in-Stroke.is) c.inked-how.ensures
     (joins_from_origin c.inked-how.result (Covers (Stroke c.in-Stroke.capsule)) c.args.self.now c.join.new.self
     c.join.ensures)
+
+pub returns-in-Swept : goal.returns-in-Swept
+returns-in-Swept c =
+    figure_is_painted c.args.print.figure _ c.args.print.dark c.inked-how.result c.args.self.now
+    c.join-in-Swept.new.self (ap shape_of c.in-Swept.is) c.inked-how.ensures
+    (joins_from_origin c.inked-how.result (Covers (Swept c.in-Swept.swept)) c.args.self.now c.join-in-Swept.new.self
+    c.join-in-Swept.ensures)
 
 pub returns-in-Sweep : goal.returns-in-Sweep
 returns-in-Sweep c =
