@@ -8,7 +8,7 @@ use Rattle.cam_script.specs.Words.{words}
 use Rattle.cam_script.specs.Parsing.{parsed, some_line, kept, line_in, is_no_memory, line_limit}
 use Rattle.cam_script.specs.Parsing.{load_line, window_line, redraw_line, plot_line, write_line}
 use Rattle.cam_script.specs.Parsing.{delete_change, move_change, reorder_change, aperture_change, polarity_change}
-use Rattle.cam_script.specs.Parsing.{tool_change, diameter_change}
+use Rattle.cam_script.specs.Parsing.{tool_change, diameter_change, drop_change}
 use Rattle.cam_script.specs.Items.{flash_in, draw_in, arc_in, hit_in}
 
 pub no_load : (ws : List (List ℕ)) → length ws ≢ 3 → load_line ws ≡ None
@@ -85,6 +85,11 @@ no_diameter [] h = refl
 no_diameter (a ∷ []) h = refl
 no_diameter (a ∷ b ∷ []) h = absurd (h (omega arith))
 no_diameter (a ∷ b ∷ c ∷ more) h = refl
+
+pub no_drop : (ws : List (List ℕ)) → length ws ≢ 1 → drop_change ws ≡ None
+no_drop [] h = refl
+no_drop (a ∷ []) h = absurd (h (omega arith))
+no_drop (a ∷ b ∷ more) h = refl
 
 pub no_flash : (ws : List (List ℕ)) → length ws ≢ 5 → flash_in ws ≡ None
 no_flash [] h = refl

@@ -3,6 +3,8 @@ use Rattle.std.specs.Prelude.{ℕ, ◌==◌, ◌&&◌, nat_lt, slice_index, Bool
 use Rattle.std.specs.Prelude.{List, [], ◌∷◌, length, codes, Option, None, Some, Result, Ok, Err}
 use Rattle.std.specs.Option.{option_map}
 use Rattle.std.specs.Str.{bytes_eq}
+use Rattle.cam_objects.specs.Attributes.{comma}
+use Rattle.cam_edits.specs.AttributeEdits.{is_field_text, is_key}
 use Rattle.cam_edits.specs.declared.edit.Change.{Change}
 use Rattle.cam_edits.specs.declared.edit.Change.TheVariants as changes
 use Rattle.cam_script.specs.declared.command.FileKind.{FileKind}
@@ -103,6 +105,18 @@ diameter_change (tool ∷ diameter ∷ []) =
     reads tool_in tool (λ t. reads length_in diameter (λ d. Some (changes.Diameter t (record { 0 = d }))))
 diameter_change _ = None
 
+-- setattr .. KEY, or setattr .. KEY FIELDS: fields are kept with a comma before them
+abbrev pub set_change : List (List ℕ) → Option Change
+set_change (key ∷ []) = if is_key key then Some (changes.SetAttribute key []) else None
+set_change (key ∷ fields ∷ []) =
+    if is_key key && is_field_text fields then Some (changes.SetAttribute key (comma ∷ fields)) else None
+set_change _ = None
+
+-- dropattr .. KEY
+abbrev pub drop_change : List (List ℕ) → Option Change
+drop_change (key ∷ []) = if is_key key then Some (changes.DropAttribute key) else None
+drop_change _ = None
+
 -- the change that the first word names, where it names one
 abbrev pub change_in : List ℕ → Option (List (List ℕ) → Option Change)
 change_in verb =
@@ -114,6 +128,8 @@ change_in verb =
     else if bytes_eq verb (codes "polarity") then Some polarity_change
     else if bytes_eq verb (codes "tool") then Some tool_change
     else if bytes_eq verb (codes "diameter") then Some diameter_change
+    else if bytes_eq verb (codes "setattr") then Some set_change
+    else if bytes_eq verb (codes "dropattr") then Some drop_change
     else None
 
 -- the name of the layer stands before the change

@@ -19,6 +19,7 @@ ghost use Rattle.cam_script.specs.Parsing.{
 ghost use Rattle.cam_script.specs.Machinery.Reading.{change_by, held};
 ghost use Rattle.cam_script.specs.Words.{count_in};
 
+use crate::attributes::{drop_change, set_change};
 use crate::command::Command;
 use crate::items::item;
 use crate::line::{Line, LineFault};
@@ -42,6 +43,8 @@ pub enum ChangeForm {
     Polarity,
     Tool,
     Diameter,
+    SetAttribute,
+    DropAttribute,
 }
 
 /// The change that the first word of a line names, if it names one.
@@ -71,6 +74,12 @@ pub fn change_form(verb: &[u8]) -> Option<ChangeForm>
     }
     if is(verb, b"diameter") {
         return Some(ChangeForm::Diameter);
+    }
+    if is(verb, b"setattr") {
+        return Some(ChangeForm::SetAttribute);
+    }
+    if is(verb, b"dropattr") {
+        return Some(ChangeForm::DropAttribute);
     }
     None
 }
@@ -185,6 +194,8 @@ fn change(alloc: Global, form: ChangeForm, words: &mut Words<'_>) -> Result<Chan
         ChangeForm::Polarity => polarity_change(words),
         ChangeForm::Tool => tool_change(words),
         ChangeForm::Diameter => diameter_change(words),
+        ChangeForm::SetAttribute => return set_change(alloc, words),
+        ChangeForm::DropAttribute => return drop_change(alloc, words),
     };
     change.ok_or(LineFault::BadLine)
 }

@@ -3,6 +3,7 @@
 //! [`Lines`] cuts a script into its lines, and [`parse_line`] reads what a line says, as `specs/Parsing.antt` has it.
 #![tactic(auto)]
 
+mod attributes;
 mod bytes;
 mod command;
 mod edits;

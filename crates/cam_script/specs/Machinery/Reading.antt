@@ -6,7 +6,7 @@ use Rattle.cam_script.specs.declared.edits.ChangeForm.TheVariants as forms
 use Rattle.cam_script.specs.declared.line.LineFault.{LineFault}
 use Rattle.cam_script.specs.declared.line.LineFault.TheVariants.{BadLine, Memory}
 use Rattle.cam_script.specs.Parsing.{insert_change, delete_change, move_change, reorder_change, aperture_change}
-use Rattle.cam_script.specs.Parsing.{polarity_change, tool_change, diameter_change}
+use Rattle.cam_script.specs.Parsing.{polarity_change, tool_change, diameter_change, set_change, drop_change}
 
 -- what was read; where it is something, its memory may be refused
 abbrev pub held : {T : Type 0} → Option T → Bool → Result T LineFault
@@ -23,3 +23,5 @@ change_by forms.Aperture = aperture_change
 change_by forms.Polarity = polarity_change
 change_by forms.Tool = tool_change
 change_by forms.Diameter = diameter_change
+change_by forms.SetAttribute = set_change
+change_by forms.DropAttribute = drop_change

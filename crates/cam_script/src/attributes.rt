@@ -1,0 +1,87 @@
+//! The edits of file attributes that a line asks for.
+
+ghost use Rattle.std.specs.Prelude.{◌≡◌, ◌∷◌, IfErr, IfOk};
+ghost use Rattle.cam_objects.specs.Attributes.{comma};
+ghost use Rattle.cam_script.specs.Parsing.{drop_change, is_no_memory, set_change};
+ghost use Rattle.cam_script.specs.Machinery.Reading.{held};
+
+use crate::line::LineFault;
+use crate::words::Words;
+use cam_edits::{Change, is_field_text, is_key};
+use cam_units::Items;
+use std::alloc::{AllocError, Global};
+
+/// The bytes of a word.
+fn copied(alloc: Global, word: &[u8]) -> Result<Items<u8>, AllocError>
+    ensures { IfOk result (λ bytes. bytes ≡ word.now) }
+{
+    let bytes = Vec::from_slice(alloc, word)?;
+    Ok(Items::from_vec(bytes))
+}
+
+/// The bytes of a word, with a comma before them.
+fn behind_comma(alloc: Global, word: &[u8]) -> Result<Items<u8>, AllocError>
+    ensures { IfOk result (λ bytes. bytes ≡ comma ∷ word.now) }
+{
+    let mut bytes = Vec::with_capacity(alloc, word.len() + 1)?;
+    bytes.push(b',')?;
+    bytes.extend_from_slice(word)?;
+    Ok(Items::from_vec(bytes))
+}
+
+/// The name that a key is.
+fn key_of(alloc: Global, word: &[u8]) -> Result<Items<u8>, LineFault>
+    ensures ok { IfOk result (λ bytes. bytes ≡ word.now) }
+    ensures err { IfErr result (λ fault. fault ≡ LineFault.Memory) }
+{
+    copied(alloc, word).map_err(|_| LineFault::Memory)
+}
+
+/// The fields that a word writes, as they are kept.
+fn fields_of(alloc: Global, word: &[u8]) -> Result<Items<u8>, LineFault>
+    ensures ok { IfOk result (λ bytes. bytes ≡ comma ∷ word.now) }
+    ensures err { IfErr result (λ fault. fault ≡ LineFault.Memory) }
+{
+    behind_comma(alloc, word).map_err(|_| LineFault::Memory)
+}
+
+/// The words behind the name of a setting.
+pub fn set_change(alloc: Global, words: &mut Words<'_>) -> Result<Change, LineFault>
+    ensures { held (set_change words.old) (is_no_memory result) ≡ result }
+{
+    let Some(key) = words.next() else {
+        return Err(LineFault::BadLine);
+    };
+    if !is_key(key) {
+        return Err(LineFault::BadLine);
+    }
+    let Some(text) = words.next() else {
+        let key = key_of(alloc, key)?;
+        let fields = Items::from_vec(Vec::new(alloc));
+        return Ok(Change::SetAttribute { key, fields });
+    };
+    if words.next().is_some() {
+        return Err(LineFault::BadLine);
+    }
+    if !is_field_text(text) {
+        return Err(LineFault::BadLine);
+    }
+    let key = key_of(alloc, key)?;
+    let fields = fields_of(alloc, text)?;
+    Ok(Change::SetAttribute { key, fields })
+}
+
+/// The words behind the name of a drop.
+#[tactic(auto, using(crate::proofs::Forms::no_drop))]
+pub fn drop_change(alloc: Global, words: &mut Words<'_>) -> Result<Change, LineFault>
+    ensures { held (drop_change words.old) (is_no_memory result) ≡ result }
+{
+    let Some(key) = words.one() else {
+        return Err(LineFault::BadLine);
+    };
+    if !is_key(key) {
+        return Err(LineFault::BadLine);
+    }
+    let key = key_of(alloc, key)?;
+    Ok(Change::DropAttribute { key })
+}
