@@ -13,7 +13,7 @@ use Rattle.cam_edits.specs.Sheets.{Content}
 use Rattle.cam_station.specs.Layers.{AreTables}
 use Rattle.cam_station.specs.Locality.{CleanTiles, IsClean}
 use Rattle.cam_station.specs.Machine.{State, fresh}
-use Rattle.cam_station.specs.Undoing.{states_after}
+use Rattle.cam_station.specs.Calls.{states_after}
 use Rattle.cam_tiles.proofs.Pictures.{picture_law}
 use Rattle.cam_station.proofs.KeptTables.{IsTableOf}
 use Rattle.cam_station.proofs.ShownTables.{IsShown, shown}

@@ -16,7 +16,7 @@ use Rattle.cam_undo.specs.Machine.{
   undone_to,
 }
 use Rattle.cam_station.specs.Machine.{State, Outcome, fresh}
-use Rattle.cam_station.specs.Undoing.{Call, DepthLaw, state_after, states_after}
+use Rattle.cam_station.specs.Calls.{Call, DepthLaw, state_after, states_after}
 use Rattle.cam_station.proofs.Refusing.{AfterEach, AfterOthers, after_each}
 
 module _ {D : Type 0} where

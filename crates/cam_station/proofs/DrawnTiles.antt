@@ -25,7 +25,7 @@ use Rattle.cam_station.specs.Machine.{
   redraw_in,
   with_drawn,
 }
-use Rattle.cam_station.specs.Undoing.{drawn_where, states_after}
+use Rattle.cam_station.specs.Calls.{drawn_where, states_after}
 use Rattle.cam_tiles.proofs.DrawnTiles.{redraw_law}
 use Rattle.cam_station.proofs.ShownTables.{IsShown, as_many_as_layers, named_within, shown, table_there}
 use Rattle.cam_station.proofs.TablesAt.{changed-suc}

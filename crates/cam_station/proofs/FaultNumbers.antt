@@ -12,8 +12,8 @@ use Rattle.cam_xnc.specs.declared.modes.Part.{Part}
 use Rattle.cam_xnc.specs.declared.modes.Part.TheVariants.{Start, Header, Body}
 use Rattle.cam_xnc.specs.declared.statement.Statement.{Statement}
 use Rattle.cam_xnc.specs.declared.statement.Statement.TheVariants.{BeginHeader, SetUnit, Declare, Neutral, EndHeader}
-use Rattle.cam_xnc.specs.declared.statement.Statement.TheVariants.{Select, DrillMode, HitAt, RoutTo, Lower, CutTo}
-use Rattle.cam_xnc.specs.declared.statement.Statement.TheVariants.{Raise, CutArc, End, Unknown}
+use Rattle.cam_xnc.specs.declared.statement.Statement.TheVariants.{Select, DrillMode, HitAt, Slot, RoutTo, Lower}
+use Rattle.cam_xnc.specs.declared.statement.Statement.TheVariants.{CutTo, Raise, CutArc, End, Unknown}
 use Rattle.cam_xnc.specs.declared.read_fault.ReadFault.{ReadFault as DrillFault}
 use Rattle.cam_xnc.specs.DrillState.{Past, part_in}
 use Rattle.cam_xnc.specs.Faults.{Table, body_faults, end_faults, faults_by, header_faults, start_of_file_faults}
@@ -53,6 +53,7 @@ few_at_start EndHeader = refl
 few_at_start (Select number) = refl
 few_at_start DrillMode = refl
 few_at_start (HitAt x y) = refl
+few_at_start (Slot start_x start_y end_x end_y) = refl
 few_at_start (RoutTo x y) = refl
 few_at_start Lower = refl
 few_at_start (CutTo x y) = refl
@@ -70,6 +71,7 @@ few_in_header past EndHeader = refl
 few_in_header past (Select number) = refl
 few_in_header past DrillMode = refl
 few_in_header past (HitAt x y) = refl
+few_in_header past (Slot start_x start_y end_x end_y) = refl
 few_in_header past (RoutTo x y) = refl
 few_in_header past Lower = refl
 few_in_header past (CutTo x y) = refl
@@ -87,6 +89,7 @@ few_in_body past EndHeader = refl
 few_in_body past (Select number) = refl
 few_in_body past DrillMode = refl
 few_in_body past (HitAt x y) = refl
+few_in_body past (Slot start_x start_y end_x end_y) = refl
 few_in_body past (RoutTo x y) = refl
 few_in_body past Lower = refl
 few_in_body past (CutTo x y) = refl

@@ -20,18 +20,8 @@ use Rattle.cam_station.specs.Machine.{
   edit_to,
   step,
 }
-use Rattle.cam_station.specs.Undoing.{
-  Call,
-  IsAccepted,
-  IsEdit,
-  AreEdits,
-  IsGroup,
-  begin,
-  end,
-  group_of,
-  state_after,
-  states_after,
-}
+use Rattle.cam_station.specs.Calls.{Call, state_after, states_after}
+use Rattle.cam_station.specs.Undoing.{IsAccepted, IsEdit, AreEdits, IsGroup, begin, end, group_of}
 use Rattle.cam_station.proofs.Quiet.{Documents, all_quiet_keep, documents_of, quiet_keeps}
 
 -- the documents once some sheets are accepted

@@ -33,44 +33,8 @@ use Rattle.cam_station.specs.Touches.{
   redone_touches_by,
   undone_touches_by,
 }
-use Rattle.cam_station.proofs.Ways.{
-  IsPath,
-  Way,
-  back,
-  edited_way,
-  further,
-  path_alone,
-  path_back,
-  path_kept,
-  path_on,
-  path_to,
-  stay,
-}
-
--- the ways from the past and from the future to this document
-pub record AreWaysHere (t : Timeline (List Sheet)) (m : Touches) : Type 0 where
-  pub past : IsPath m.past t.past t.document
-  pub future : IsPath m.future t.future t.document
-
--- With a group open they lead to the document at its beginning, and its edits from there to this one. Where it has
--- edits, nothing is left that was taken back.
-pub record AreWaysToGroup (t : Timeline (List Sheet)) (m : Touches) (start : List Sheet) (count : ℕ)
-    (group : List Touch) : Type 0 where
-  pub past : IsPath m.past t.past start
-  pub future : IsPath m.future t.future start
-  pub way : Way group start t.document
-  pub counted : length group ≡ count
-  pub edited : 0 < count → t.future ≡ []
-
--- a group is open in both or in none
-abbrev pub AreWaysBy : Timeline (List Sheet) → Touches → Option (List Sheet × ℕ) → Option (List Touch) → Type 0
-AreWaysBy t m None None = AreWaysHere t m
-AreWaysBy t m None (Some group) = ⊥
-AreWaysBy t m (Some g) None = ⊥
-AreWaysBy t m (Some g) (Some group) = AreWaysToGroup t m g.0 g.1 group
-
-abbrev pub AreWays : Timeline (List Sheet) → Touches → Type 0
-AreWays t m = AreWaysBy t m t.group m.group
+use Rattle.cam_station.specs.Ways.{AreWays, AreWaysBy, AreWaysHere, AreWaysToGroup, IsPath, Way}
+use Rattle.cam_station.proofs.Ways.{back, edited_way, further, path_alone, path_back, path_kept, path_on, path_to, stay}
 
 -- ---- edits and groups
 

@@ -3,7 +3,10 @@ pub mod Depths
 pub mod DirtyTiles
 pub mod DrawnTiles
 pub mod FaultNumbers
+pub mod FilesPut
 pub mod Groups
+pub mod HiddenAttributes
+pub mod Joining
 pub mod KeptTables
 pub mod KeptTouches
 pub mod KeptWays

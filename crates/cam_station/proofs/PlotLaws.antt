@@ -26,7 +26,7 @@ use Rattle.cam_tiles.proofs.PictureLemmas.{plot_law}
 use Rattle.cam_tiles.specs.Picture.{Shows, centre_of, plot_of}
 use Rattle.cam_tiles.specs.Tables.{Table, blank, dirty_count, pbm_of}
 use Rattle.cam_station.specs.Plots.{ExactPlot, IsPlotOf}
-use Rattle.cam_station.specs.Undoing.{states_after}
+use Rattle.cam_station.specs.Calls.{states_after}
 use Rattle.cam_tiles.proofs.DrawnTiles.{redraw_law}
 use Rattle.cam_tiles.proofs.Pictures.{picture_law}
 use Rattle.cam_station.proofs.CleanTiles.{IsInForce, in_force}

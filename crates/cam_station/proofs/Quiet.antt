@@ -1,6 +1,7 @@
 -- Quiet commands keep the documents.
-use Rattle.std.proofs.Common.{◌≡◌, ℕ, List, [], ◌∷◌, Option, None, Some, inl, inr, refl, ap, ◌∙◌}
+use Rattle.std.proofs.Common.{◌≡◌, ℕ, Bool, true, false, if◌then◌else◌, List, [], ◌∷◌, Option, None, Some, Ok, inl, inr, refl, ap, ◌∙◌}
 use Rattle.cam_tiles.specs.declared.window.Window.{Window}
+use Rattle.cam_tiles.specs.Picture.{accepts}
 use Rattle.cam_edits.specs.Boards.{place_named}
 use Rattle.cam_edits.specs.Sheets.{Sheet}
 use Rattle.cam_undo.specs.Machine.{State as Timeline}
@@ -15,19 +16,15 @@ use Rattle.cam_station.specs.Machine.{
   step,
   list_layer_at,
   redraw_in,
+  refused,
+  with_room,
+  with_window,
   write_at,
 }
-use Rattle.cam_station.specs.Undoing.{
-  Call,
-  IsLook,
-  IsQuiet,
-  AreQuiet,
-  after_refusal,
-  drawn_named,
-  drawn_where,
-  state_after,
-  states_after,
-}
+use Rattle.cam_station.specs.Refusals.{out_of_limits}
+use Rattle.cam_station.specs.declared.reply.Reply.TheVariants.{Done}
+use Rattle.cam_station.specs.Calls.{Call, after_refusal, drawn_named, drawn_where, state_after, states_after}
+use Rattle.cam_station.specs.Undoing.{IsLook, IsQuiet, AreQuiet}
 use Rattle.cam_station.proofs.Refusing.{plot_draws, refusal_stays}
 
 -- the documents, and how many of them may be kept
@@ -66,7 +63,15 @@ list_layer_keeps : (s : State) (place : Option ℕ) → Keeps s (list_layer_at s
 list_layer_keeps s None = refl
 list_layer_keeps s (Some place) = refl
 
+window_keeps : (s : State) (w : Window) (m : Memory) (b : Bool)
+    → Keeps s (if b then with_room m s (with_window s w, Ok Done) else (s, refused out_of_limits)).0
+window_keeps s w m false = refl
+window_keeps s w Granted true = refl
+window_keeps s w RefusedToReader true = refl
+window_keeps s w RefusedToStation true = refl
+
 look_keeps : (s : State) (c : Command) (m : Memory) → IsLook c → Keeps s (step s c m).0
+look_keeps s (commands.SetWindow w) m h = window_keeps s w m (accepts w)
 look_keeps s (commands.Redraw n) m h = redraw_keeps s n s.window
 look_keeps s (commands.Plot name) m h = ap documents_of (plot_draws s name m) ∙ named_keeps s name
 look_keeps s (commands.Write name) m h = write_keeps s m (place_named name s.timeline.document)

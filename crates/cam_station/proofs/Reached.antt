@@ -4,7 +4,7 @@ use Rattle.cam_tiles.specs.declared.window.Window.{Window}
 use Rattle.cam_tiles.specs.Picture.{accepts}
 use Rattle.cam_station.specs.Machine.{State, fresh}
 use Rattle.cam_station.specs.Sound.{IsSoundTimeline, SoundLaw}
-use Rattle.cam_station.specs.Undoing.{Call, state_after, states_after}
+use Rattle.cam_station.specs.Calls.{Call, state_after, states_after}
 use Rattle.cam_station.proofs.SoundSteps.{AfterEach, after_each, sound_start}
 
 -- the window in force was accepted, and all layers are sound

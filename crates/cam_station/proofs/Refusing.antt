@@ -85,12 +85,14 @@ use Rattle.cam_station.specs.Touches.{
   touched_by_undo,
   undone_touches,
 }
-use Rattle.cam_station.specs.Undoing.{RefusalLaw, after_refusal, drawn_named, drawn_where}
+use Rattle.cam_station.specs.Calls.{RefusalLaw, after_refusal, drawn_named, drawn_where}
 
 -- no refusal of the station itself has the number of a file that failed
 edit_own : (f : EditFault) → (edit_code f == file_fault) ≡ false
 edit_own edits.NoLayer = refl
 edit_own edits.WrongKind = refl
+edit_own edits.AttributeRefused = refl
+edit_own edits.NoAttribute = refl
 edit_own edits.NoItem = refl
 edit_own edits.HasNone = refl
 edit_own edits.NoAperture = refl

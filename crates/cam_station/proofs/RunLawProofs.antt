@@ -11,7 +11,7 @@ use Rattle.cam_station.specs.declared.reply.Reply.TheVariants.{Done, Numbers, By
 use Rattle.cam_script.specs.declared.line.Line.TheVariants.{Command, Load, Plot, Write}
 use Rattle.cam_script.specs.declared.line.LineFault.TheVariants.{LineTooLong, BadLine, Memory as LineMemory}
 use Rattle.cam_station.specs.Machine.{State, Outcome, Memory, step}
-use Rattle.cam_station.specs.Undoing.{Call, answers_to, states_after}
+use Rattle.cam_station.specs.Calls.{Call, answers_to, states_after}
 use Rattle.cam_station.specs.Contents.{HasRisenBy}
 use Rattle.cam_script.specs.Parsing.{Parsed, parsed}
 use Rattle.cam_station.specs.Run.{World, Tells, Turn, turn, turns, parsed_turn, load_turn, put_turn, byte_count}
@@ -79,7 +79,7 @@ few_refusals s (line ∷ lines) (w ∷ ws) old new h =
     (sum_by-cons (λ t. cond (is_file_refusal t.reply) 1 0) t rest) h.1.failures
     (few_refusals t.state lines ws h.0 new h.2)
 
-after_both : (s : State) (cs ds : List Call) → states_after s (cs ++ ds) ≡ states_after (states_after s cs) ds
+pub after_both : (s : State) (cs ds : List Call) → states_after s (cs ++ ds) ≡ states_after (states_after s cs) ds
 after_both s [] ds = refl
 after_both s (c ∷ cs) ds = after_both (step s c.0 c.1).0 cs ds
 
@@ -96,7 +96,7 @@ put_leads tells path put state (Ok Done) = refl
 put_leads tells path put state (Ok (Numbers n)) = refl
 put_leads tells path put state (Err f) = refl
 
-line_leads : (s : State) (w : World) (p : Parsed) → (parsed_turn s w p).state ≡ states_after s (line_calls w p)
+pub line_leads : (s : State) (w : World) (p : Parsed) → (parsed_turn s w p).state ≡ states_after s (line_calls w p)
 line_leads s w (Err f) = refl
 line_leads s w (Ok None) = refl
 line_leads s w (Ok (Some (Command command))) = refl

@@ -2,7 +2,7 @@
 use Rattle.std.proofs.Common.{◌≡◌, suc, List, [], ◌∷◌, ◌++◌, refl, ap, ap₂, arith, ◌∙◌}
 use Rattle.cam_script.specs.declared.command.Command.{Command}
 use Rattle.cam_station.specs.Machine.{State, Outcome, memory_of, step}
-use Rattle.cam_station.specs.Undoing.{IsRun, answer_to, answers_to, calls_of, state_after, states_after}
+use Rattle.cam_station.specs.Calls.{IsRun, answer_to, answers_to, calls_of, state_after, states_after}
 
 pub no_run : (s : State) → IsRun s [] [] s
 no_run s = record { each = refl; answers_are = refl; last_is = refl }

@@ -33,12 +33,11 @@ use Rattle.cam_station.specs.Touches.{
   touched_by_undo,
   undone_touches,
 }
-use Rattle.cam_station.specs.Undoing.{Call, state_after, states_after}
+use Rattle.cam_station.specs.Calls.{Call, state_after, states_after}
 use Rattle.cam_edits.proofs.EditBoxes.{edits_stay_in_their_boxes}
 use Rattle.cam_tiles.proofs.Pictures.{picture_law}
 use Rattle.cam_station.proofs.KeptTables.{blank_joins, blanks_are_tables, drawn_stays, redraw_stays, touches_stay}
 use Rattle.cam_station.proofs.KeptWays.{
-  AreWays,
   aborted_ways,
   accepted_ways,
   begun_ways,
@@ -49,7 +48,8 @@ use Rattle.cam_station.proofs.KeptWays.{
 }
 use Rattle.cam_station.proofs.Refusing.{AfterEach, after_each}
 use Rattle.cam_station.proofs.TablesAt.{IsRedrawn, blank_at, changed_elsewhere, changed_here, redrawn_at, touched_at}
-use Rattle.cam_station.proofs.Ways.{Way, stay}
+use Rattle.cam_station.specs.Ways.{AreWays, KeptWays, Way}
+use Rattle.cam_station.proofs.Ways.{stay}
 
 -- each table shows its layer
 abbrev pub ArePictured : List Sheet → List Table → Type 0
@@ -279,3 +279,7 @@ pub table_there : (s : State) → IsShown s → (w : Window) → s.window ≡ So
     → place < length s.timeline.document → (t : Table) × (slice_get s.tables place ≡ Some t)
 table_there s h w is place within =
     element_at s.tables place (omega (arith, within, as_many_as_layers s h w is))
+
+-- the ways between the documents that are kept
+pub kept_ways : KeptWays
+kept_ways depth before = (shown depth before).ways

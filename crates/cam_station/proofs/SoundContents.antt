@@ -5,9 +5,10 @@ use Rattle.std.proofs.lemmas.List.Elements.{All-get_or, All-nil}
 use Rattle.std.proofs.lemmas.Option.{get_or_from_slice_get, slice_get_within}
 use Rattle.cam_objects.specs.Contents.{Content as GerberContent, DrillContent}
 use Rattle.cam_objects.specs.Soundness.{IsSoundItem}
+use Rattle.cam_objects.proofs.EditedAttributes.{none_set}
 use Rattle.cam_gerber.specs.declared.read_fault.ReadFault.{ReadFault as GerberFault}
 use Rattle.cam_gerber.specs.Computing.{reading_of as gerber_reading}
-use Rattle.cam_gerber.proofs.Computed.{reading_is_sound as gerber_is_sound}
+use Rattle.cam_gerber.proofs.Computed.{attributes_are_sound, reading_is_sound as gerber_is_sound}
 use Rattle.cam_xnc.specs.declared.read_fault.ReadFault.{ReadFault as DrillFault}
 use Rattle.cam_xnc.specs.Reading.{reading_of as drill_reading}
 use Rattle.cam_xnc.proofs.SoundReadings.{reading_is_sound as drill_is_sound}
@@ -36,7 +37,9 @@ drill_sound (Ok c) sound = sound c refl
 drill_sound (Err f) sound = tt
 
 meaning_sound : (kind : FileKind) (bytes : List ℕ) → IsSoundAnswer (meaning_of kind bytes)
-meaning_sound kinds.Gerber bytes = gerber_sound (gerber_reading bytes) (gerber_is_sound bytes)
+meaning_sound kinds.Gerber bytes =
+    gerber_sound (gerber_reading bytes)
+    (λ c e. record { attributes = attributes_are_sound bytes c e; content = gerber_is_sound bytes c e })
 meaning_sound kinds.Drill bytes = drill_sound (drill_reading bytes) (drill_is_sound bytes)
 
 answer_sound : (r : Result Content Fault) (c : Content) → IsSoundAnswer r → r ≡ Ok c → IsSound c
@@ -56,9 +59,12 @@ all_here P xs k x h here =
 empty_sound : IsSound empty_content
 empty_sound =
     record {
-      entries = λ k d lt. absurd (omega (arith, lt));
-      items = All-nil (IsSoundItem []);
-      limits = record { few = omega arith; leaves = omega arith };
+      attributes = none_set;
+      content = record {
+        entries = λ k d lt. absurd (omega (arith, lt));
+        items = All-nil (IsSoundItem []);
+        limits = record { few = omega arith; leaves = omega arith };
+      };
     }
 
 held_sound : (sheets : List Sheet) (place : ℕ) (o : Option Sheet) → AreSound sheets → slice_get sheets place ≡ o

@@ -12,7 +12,7 @@ use Rattle.cam_script.specs.declared.command.Command.{Command}
 use Rattle.cam_station.specs.Machine.{State, Memory, alone, fresh, step, with_tables, with_window}
 use Rattle.cam_station.specs.Sound.{IsSoundGroup, IsSoundTimeline}
 use Rattle.cam_station.specs.Touches.{Touches}
-use Rattle.cam_station.specs.Undoing.{Call, state_after}
+use Rattle.cam_station.specs.Calls.{Call, state_after}
 use Rattle.cam_edits.proofs.SoundEdits.{edits_stay_sound}
 use Rattle.cam_station.proofs.Refusing.{AfterEach as EachWay, AfterOthers, after_each as each_command}
 use Rattle.cam_station.proofs.SoundContents.{all_here, content_read}

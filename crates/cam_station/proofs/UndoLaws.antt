@@ -20,24 +20,11 @@ use Rattle.cam_undo.specs.Laws.{all_accepted, group_accepted}
 use Rattle.cam_undo.proofs.Documents.{exact_edits, exact_groups}
 use Rattle.cam_script.specs.declared.command.Command.TheVariants.{Redo, Undo}
 use Rattle.cam_station.specs.declared.reply.Reply.TheVariants.{Done}
-use Rattle.cam_station.specs.Documents.{picture_named, text_named}
+use Rattle.cam_station.specs.Documents.{SamePixels, picture_named, text_named}
 use Rattle.cam_station.specs.Machine.{State, Granted, fresh, moved_to, step}
 use Rattle.cam_station.specs.Touches.{redone_touches, touched_by_redo, touched_by_undo, undone_touches}
-use Rattle.cam_station.specs.Undoing.{
-  Call,
-  ExactUndo,
-  ExactUndoEverywhere,
-  GivesBack,
-  IsAccepted,
-  IsGroup,
-  IsTakenBack,
-  answer_to,
-  group_of,
-  redo,
-  state_after,
-  states_after,
-  undo,
-}
+use Rattle.cam_station.specs.Calls.{Call, answer_to, state_after, states_after}
+use Rattle.cam_station.specs.Undoing.{AreQuiet, ExactUndo, ExactUndoEverywhere, GivesBack, IsAccepted, IsGroup, IsTakenBack, group_of, redo, undo, undone_after}
 use Rattle.cam_station.proofs.Depths.{IsWithinDepth, within_depth}
 use Rattle.cam_station.proofs.Groups.{After, Ends, IsMade, edit_made, ends, group_made, grown}
 use Rattle.cam_station.proofs.Quiet.{all_quiet_keep}
@@ -89,6 +76,7 @@ gives_back s c document accepted same =
       accepted = accepted;
       layers = same;
       texts = λ name. ap (text_named name) same;
+      pixels = subst (λ d. SamePixels d document) (sym same) (λ name s. (λ black. black, λ black. black));
       pictures = λ w name. ap (picture_named w name) same;
     }
 
@@ -117,18 +105,32 @@ module _ (s : State) (before : List Sheet) (r : Reverts s.timeline before) where
       (ap (λ p. p.0.timeline.document) redo_is
       ∙ (ap (λ t. (redone t).document) left_is ∙ ap (λ t. t.document) r.forth))
 
+module _ (edited : State) (before : List Sheet) (r : Reverts edited.timeline before) (quiet : List Call)
+    (are : AreQuiet edited quiet) where
+  abbrev left : State
+  left = states_after edited quiet
+
+  left_is : left.timeline ≡ edited.timeline
+  left_is = ap (λ d. d.1) (all_quiet_keep edited quiet are)
+
+  reverts : Reverts left.timeline before
+  reverts = subst (λ t. Reverts t before) (sym left_is) r
+
+  made_again : (more : List Call) → AreQuiet (undone_after edited quiet) more
+      → GivesBack (states_after (undone_after edited quiet) more) redo edited.timeline.document
+  made_again more are_more =
+      let undo_is = undo_made left (may_undo left.timeline reverts.closed reverts.stands) in
+      let last : State = states_after (undone_after edited quiet) more in
+      let last_is : last.timeline ≡ undone left.timeline =
+      ap (λ d. d.1) (all_quiet_keep (undone_after edited quiet) more are_more) ∙ ap (λ p. p.0.timeline) undo_is in
+      subst (λ d. GivesBack last redo d) (ap (λ t. t.document) left_is) (forth left before reverts last last_is)
+
 taken_back : (edited : State) (before : List Sheet) → Reverts edited.timeline before → IsTakenBack edited before
-taken_back edited before r between rest quiet quiet_rest =
-    let left : State = states_after edited between in
-    let left_is : left.timeline ≡ edited.timeline = ap (λ d. d.1) (all_quiet_keep edited between quiet) in
-    let reverts : Reverts left.timeline before = subst (λ t. Reverts t before) (sym left_is) r in
-    let undo_is = undo_made left (may_undo left.timeline reverts.closed reverts.stands) in
-    let last : State = states_after (state_after left undo) rest in
-    let last_is : last.timeline ≡ undone left.timeline =
-    ap (λ d. d.1) (all_quiet_keep (state_after left undo) rest quiet_rest) ∙ ap (λ p. p.0.timeline) undo_is in (
-      back left before reverts,
-      subst (λ d. GivesBack last redo d) (ap (λ t. t.document) left_is) (forth left before reverts last last_is),
-    )
+taken_back edited before r =
+    record {
+      undone = λ quiet are. back (states_after edited quiet) before (reverts edited before r quiet are);
+      redone = λ quiet more are are_more. made_again edited before r quiet are more are_more;
+    }
 
 edit_taken_back : (s : State) (edit : Call) → 0 < s.depth → s.timeline.group ≡ None → IsAccepted s edit
     → IsTakenBack (state_after s edit) s.timeline.document

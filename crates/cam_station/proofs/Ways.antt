@@ -14,13 +14,8 @@ use Rattle.cam_edits.specs.Images.{image_of}
 use Rattle.cam_edits.specs.Sheets.{Sheet}
 use Rattle.cam_edits.specs.Touches.{Touch}
 use Rattle.cam_station.specs.Locality.{boxes_on}
+use Rattle.cam_station.specs.Ways.{IsPath, Way, first_of}
 use Rattle.cam_station.proofs.TablesAt.{equal_places, other_places}
-
--- Each sheet paints the same in both documents outside the boxes on it.
-pub record Way (touches : List Touch) (from to : List Sheet) : Type 0 where
-  pub count : length to ≡ length from
-  pub outside : (place : ℕ)
-      → AgreeOutside (boxes_on place touches) (image_of (content_at from place)) (image_of (content_at to place))
 
 -- ---- boxes
 
@@ -104,19 +99,6 @@ edited_way touch from to h =
     }
 
 -- ---- a way over several documents
-
--- the first document, or the last one where there is no other
-abbrev pub first_of : List (List Sheet) → List Sheet → List Sheet
-first_of [] last = last
-first_of (document ∷ documents) last = document
-
--- from each document there is a way to the next one, and from the last of them to `last`
-abbrev pub IsPath : List (List Touch) → List (List Sheet) → List Sheet → Type 0
-IsPath [] [] last = Unit {0}
-IsPath [] (document ∷ documents) last = ⊥
-IsPath (touches ∷ ways) [] last = ⊥
-IsPath (touches ∷ ways) (document ∷ documents) last =
-    Way touches document (first_of documents last) × IsPath ways documents last
 
 pub length-path : (ways : List (List Touch)) (documents : List (List Sheet)) (last : List Sheet)
     → IsPath ways documents last → length ways ≡ length documents

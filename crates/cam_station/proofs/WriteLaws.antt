@@ -25,7 +25,7 @@ use Rattle.cam_station.specs.Machine.{State, Outcome, Memory, Granted, RefusedTo
 use Rattle.cam_station.specs.Machine.{load_read, reader_answer, refused, step, with_sheet, write_at}
 use Rattle.cam_station.specs.Meanings.{drill_meaning, gerber_meaning, meaning_of}
 use Rattle.cam_station.specs.Refusals.{group_open, layer_limit, name_taken, too_many_layers}
-use Rattle.cam_station.specs.Undoing.{Call, state_after, states_after}
+use Rattle.cam_station.specs.Calls.{Call, state_after, states_after}
 use Rattle.cam_station.specs.Writes.{ExactWrite, IsWriteOf, IsWritten, WrittenIsAccepted, WrittenLoadsAgain, load_of}
 use Rattle.cam_station.specs.Writing.{kind_of, text_of}
 use Rattle.cam_station.proofs.Reached.{IsReached, reached}
@@ -130,7 +130,7 @@ module _ (s : State) (name : List ℕ) (kind : FileKind) (file : List ℕ) (c : 
 -- ---- what is written
 
 read_back : (c : Content) → IsSound c → meaning_of (kind_of c) (text_of c) ≡ Ok c
-read_back (Gerber c) sound = ap gerber_meaning (gerber_reads_back c sound)
+read_back (Gerber c) sound = ap gerber_meaning (gerber_reads_back c sound.attributes sound.content)
 read_back (Drill c) sound = ap drill_meaning (reads_back c sound)
 
 written_here : (s : State) (m : Memory) (place : ℕ) (reply : Reply) → (write_at s m (Some place)).1 ≡ Ok reply

@@ -1,3 +1,4 @@
+pub mod Calls
 pub mod Documents
 pub mod Refusals
 pub mod Meanings
@@ -8,10 +9,13 @@ pub mod Machine
 pub mod Undoing
 pub mod Plots
 pub mod Locality
+pub mod Attributes
+pub mod Ways
 pub mod Writes
 pub mod Sound
 pub mod Contents
 pub mod Replies
 pub mod Run
 pub mod RunLaws
+pub mod FilesPut
 pub mod Machinery

@@ -19,7 +19,7 @@ use Rattle.cam_station.specs.declared.reply.Reply.TheVariants.{Bytes, Numbers}
 use Rattle.cam_station.specs.Layers.{AreTables, dirty_in}
 use Rattle.cam_station.specs.Machine.{State, Memory, fresh}
 use Rattle.cam_station.specs.Touches.{touched_by_abort, touched_by_redo, touched_by_undo}
-use Rattle.cam_station.specs.Undoing.{Call, answer_to, drawn_named, state_after, states_after}
+use Rattle.cam_station.specs.Calls.{Call, answer_to, drawn_named, state_after, states_after}
 
 -- ---- what is clean is right
 

@@ -10,7 +10,7 @@ use Rattle.cam_edits.specs.Sheets.{Content}
 use Rattle.cam_edits.specs.Images.{image_of, sheet_leaves}
 use Rattle.cam_station.specs.Machine.{State, Memory, fresh}
 use Rattle.cam_tiles.specs.Picture.{IsPixelBlack, Shows, centre_of, plot_of}
-use Rattle.cam_station.specs.Undoing.{Call, answer_to, states_after}
+use Rattle.cam_station.specs.Calls.{Call, answer_to, states_after}
 
 -- The reply is the picture, in the window in force, of the layer of this name in the document: painting its leaves in
 -- order makes black the centres of exactly those pixels whose bit is set. It tells how many tiles were drawn for it.

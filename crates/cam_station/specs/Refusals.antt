@@ -51,6 +51,8 @@ greatest_depth = 1000
 abbrev pub edit_code : EditFault → ℕ
 edit_code edits.NoLayer = no_layer
 edit_code edits.WrongKind = 68
+edit_code edits.AttributeRefused = 75
+edit_code edits.NoAttribute = 74
 edit_code edits.NoItem = 61
 edit_code edits.HasNone = 64
 edit_code edits.NoAperture = 62

@@ -8,7 +8,7 @@ use Rattle.cam_script.specs.declared.line.Line.TheVariants.{Command, Load, Plot,
 use Rattle.cam_station.specs.declared.reply.Reply.TheVariants.{Bytes}
 use Rattle.cam_station.specs.Refusals.{file_fault, line_code}
 use Rattle.cam_station.specs.Machine.{State, Outcome, Memory, refused}
-use Rattle.cam_station.specs.Undoing.{Call, answers_to, states_after}
+use Rattle.cam_station.specs.Calls.{Call, answers_to, states_after}
 use Rattle.cam_station.specs.Contents.{HasRisenBy}
 use Rattle.cam_script.specs.Parsing.{Parsed, parsed}
 use Rattle.cam_station.specs.Run.{

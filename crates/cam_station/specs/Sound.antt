@@ -3,7 +3,7 @@ use Rattle.std.specs.Prelude.{ℕ, List, Option, None, Some, All}
 use Rattle.cam_edits.specs.Sheets.{AreSound, Sheet}
 use Rattle.cam_undo.specs.Machine.{State as Timeline}
 use Rattle.cam_station.specs.Machine.{fresh}
-use Rattle.cam_station.specs.Undoing.{Call, states_after}
+use Rattle.cam_station.specs.Calls.{Call, states_after}
 
 abbrev pub IsSoundGroup : Option (List Sheet × ℕ) → Type 0
 IsSoundGroup None = Unit {0}

@@ -1,75 +1,22 @@
--- Lists of commands, and exact undo over them.
-use Rattle.std.specs.Prelude.{◌≡◌, ℕ, ◌+◌, ◌≤◌, List, [], ◌∷◌, ◌++◌, length, Option, None, Some, ◌⊎◌, IsOk, IsErr, Ok}
-use Rattle.cam_edits.specs.Boards.{place_named}
+-- Exact undo: an accepted edit, or a group of them, that is taken back and made again.
+use Rattle.std.specs.Prelude.{◌≡◌, ℕ, ◌≤◌, List, [], ◌∷◌, ◌++◌, None, ◌⊎◌, IsOk, IsErr, Ok}
 use Rattle.cam_edits.specs.Sheets.{Sheet}
-use Rattle.cam_tiles.specs.declared.window.Window.{Window}
 use Rattle.cam_script.specs.declared.command.Command.{Command}
 use Rattle.cam_script.specs.declared.command.Command.TheVariants as commands
 use Rattle.cam_station.specs.declared.reply.Reply.TheVariants.{Done}
-use Rattle.cam_station.specs.Documents.{SamePictures, SameTexts}
+use Rattle.cam_station.specs.Calls.{Call, answer_to, state_after, states_after}
+use Rattle.cam_station.specs.Documents.{SamePictures, SamePixels, SameTexts}
+use Rattle.cam_station.specs.Machine.{State, Granted, fresh}
 use Rattle.cam_station.specs.Refusals.{greatest_depth}
-use Rattle.cam_station.specs.Machine.{State, Outcome, Memory, Granted, fresh, memory_of, step, with_drawn}
-
--- a command, and whether it is refused memory
-abbrev pub Call : Type 0
-Call = Command × Memory
-
-abbrev pub state_after : State → Call → State
-state_after s c = (step s c.0 c.1).0
-
-abbrev pub answer_to : State → Call → Outcome
-answer_to s c = (step s c.0 c.1).1
-
--- the state after the calls, the first one first
-abbrev pub states_after : State → List Call → State
-states_after s [] = s
-states_after s (c ∷ calls) = states_after (state_after s c) calls
-
-abbrev pub answers_to : State → List Call → List Outcome
-answers_to s [] = []
-answers_to s (c ∷ calls) = answer_to s c ∷ answers_to (state_after s c) calls
-
--- the commands, each with what its answer tells of memory
-abbrev pub calls_of : List Command → List Outcome → List Call
-calls_of [] answers = []
-calls_of (c ∷ commands) [] = []
-calls_of (c ∷ commands) (answer ∷ answers) = (c, memory_of answer) ∷ calls_of commands answers
-
--- these are the answers to these commands, one after another, and the state that they lead to
-pub record IsRun (s : State) (commands : List Command) (answers : List Outcome) (last : State) : Type 0 where
-  pub each : length answers ≡ length commands
-  pub answers_are : answers_to s (calls_of commands answers) ≡ answers
-  pub last_is : states_after s (calls_of commands answers) ≡ last
-
--- the tiles of the layer of this name are drawn, where a window is in force and there is such a layer
-abbrev pub drawn_where : State → Option Window → Option ℕ → State
-drawn_where s None place = s
-drawn_where s (Some w) None = s
-drawn_where s (Some w) (Some place) = with_drawn s place
-
-abbrev pub drawn_named : List ℕ → State → State
-drawn_named name s = drawn_where s s.window (place_named name s.timeline.document)
-
--- a refused command changes nothing, but that a plot keeps the tiles that it drew
-abbrev pub after_refusal : State → Command → State
-after_refusal s (commands.Plot name) = drawn_named name s
-after_refusal s _ = s
-
-abbrev pub RefusalLaw : Type 0
-RefusalLaw = (s : State) (c : Call) → IsErr (answer_to s c) → state_after s c ≡ after_refusal s c.0
-
--- no more documents are kept than the depth, earlier ones and those that were taken back together
-abbrev pub DepthLaw : Type 0
-DepthLaw = (depth : ℕ) (before : List Call) →
-    let s = states_after (fresh depth) before in length s.timeline.past + length s.timeline.future ≤ depth
 
 -- the command changes a layer
 abbrev pub IsEdit : Command → Type 0
 IsEdit (commands.Edit edit) = Unit {0}
 IsEdit _ = ⊥
 
--- the command only looks, or draws tiles
+-- the command only looks: it draws tiles, sets the window that they are seen in, writes or counts
 abbrev pub IsLook : Command → Type 0
+IsLook (commands.SetWindow w) = Unit {0}
 IsLook (commands.Redraw n) = Unit {0}
 IsLook (commands.Plot name) = Unit {0}
 IsLook (commands.Write name) = Unit {0}
@@ -77,7 +24,7 @@ IsLook commands.ListAll = Unit {0}
 IsLook (commands.ListLayer name) = Unit {0}
 IsLook _ = ⊥
 
--- it only looks or draws, or is refused
+-- it only looks, or is refused
 abbrev pub IsQuiet : State → Call → Type 0
 IsQuiet s c = IsLook c.0 ⊎ IsErr (answer_to s c)
 
@@ -119,20 +66,25 @@ pub record IsGroup (s : State) (quiet : List Call) (edit : Call) (more : List Ca
 abbrev pub group_of : List Call → Call → List Call → List Call
 group_of quiet edit more = begin ∷ (quiet ++ edit ∷ (more ++ end ∷ []))
 
--- the call is accepted, and gives back this document: the same layers and drill tools, the same texts and, in every
--- window, the same pictures
+-- the state after quiet calls and an undo
+abbrev pub undone_after : State → List Call → State
+undone_after s quiet = state_after (states_after s quiet) undo
+
+-- the call is accepted, and gives back this document: the same layers and drill tools, the same texts, every pixel and,
+-- in every window, the same pictures
 pub record GivesBack (s : State) (c : Call) (document : List Sheet) : Type 0 where
   pub accepted : answer_to s c ≡ Ok Done
   pub layers : (state_after s c).timeline.document ≡ document
   pub texts : SameTexts (state_after s c).timeline.document document
+  pub pixels : SamePixels (state_after s c).timeline.document document
   pub pictures : SamePictures (state_after s c).timeline.document document
 
 -- After quiet commands an undo gives back the document `before`, and after quiet commands again a redo gives back the
 -- edited one.
-abbrev pub IsTakenBack : State → List Sheet → Type 0
-IsTakenBack edited before = (between rest : List Call) → AreQuiet edited between
-    → let left = states_after edited between in let undone = state_after left undo in AreQuiet undone rest
-    → GivesBack left undo before × GivesBack (states_after undone rest) redo edited.timeline.document
+pub record IsTakenBack (edited : State) (before : List Sheet) : Type 0 where
+  pub undone : (quiet : List Call) → AreQuiet edited quiet → GivesBack (states_after edited quiet) undo before
+  pub redone : (quiet more : List Call) → AreQuiet edited quiet → AreQuiet (undone_after edited quiet) more
+      → GivesBack (states_after (undone_after edited quiet) more) redo edited.timeline.document
 
 -- An accepted edit outside a group can be taken back so, and so can a group with an accepted edit.
 pub record IsUndoExact (s : State) : Type 0 where

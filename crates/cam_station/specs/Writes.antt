@@ -11,7 +11,7 @@ use Rattle.cam_station.specs.Documents.{content_named, picture_named}
 use Rattle.cam_station.specs.Refusals.{layer_limit}
 use Rattle.cam_station.specs.Machine.{State, Memory, Granted, fresh}
 use Rattle.cam_station.specs.Meanings.{meaning_of}
-use Rattle.cam_station.specs.Undoing.{Call, answer_to, state_after, states_after}
+use Rattle.cam_station.specs.Calls.{Call, answer_to, state_after, states_after}
 use Rattle.cam_station.specs.Writing.{kind_of, text_of}
 
 -- The reply is the canonical text of the layer of this name in the document, and as a file of the layer's kind that

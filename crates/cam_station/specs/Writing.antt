@@ -7,7 +7,7 @@ use Rattle.cam_script.specs.declared.command.FileKind.TheVariants as kinds
 use Rattle.cam_edits.specs.Sheets.{Content, Gerber, Drill}
 
 abbrev pub text_of : Content → List ℕ
-text_of (Gerber c) = gerber_text c.entries c.items
+text_of (Gerber c) = gerber_text c.attributes c.entries c.items
 text_of (Drill c) = drill_text c.tools c.items
 
 abbrev pub kind_of : Content → FileKind

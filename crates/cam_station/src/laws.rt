@@ -1,9 +1,12 @@
 //! Laws of lists of commands.
 
+ghost use Rattle.cam_station.specs.Attributes.{AttributesShowNowhere};
 ghost use Rattle.cam_station.specs.Locality.{CleanTiles, DirtyTiles, DrawnTiles, KeptTiles};
 ghost use Rattle.cam_station.specs.Plots.{ExactPlot};
 ghost use Rattle.cam_station.specs.Sound.{SoundLaw};
-ghost use Rattle.cam_station.specs.Undoing.{DepthLaw, ExactUndo, ExactUndoEverywhere, RefusalLaw};
+ghost use Rattle.cam_station.specs.Calls.{DepthLaw, RefusalLaw};
+ghost use Rattle.cam_station.specs.Undoing.{ExactUndo, ExactUndoEverywhere};
+ghost use Rattle.cam_station.specs.Ways.{KeptWays};
 ghost use Rattle.cam_station.specs.Writes.{ExactWrite, WrittenIsAccepted, WrittenLoadsAgain};
 
 /// A refused command changes nothing, but that a plot keeps the tiles that it drew.
@@ -50,6 +53,12 @@ pub fn written_texts_load_again()
     ensures accepted { WrittenIsAccepted }
 {}
 
+/// After any list of commands the documents that are kept and the boxes of the ways between them keep step: each way
+/// leads from its document to the next one, and touches all that these two paint otherwise.
+pub fn ways_lead_between_documents()
+    ensures { KeptWays }
+{}
+
 /// In any order of edits, groups, aborts, undos, redos and partial redraws each clean tile shows its layer as it is
 /// now; an accepted edit, abort, undo or redo makes exactly those tiles dirty that the boxes touch of the steps that it
 /// plays; and a redraw and a plot tell how many they drew.
@@ -58,4 +67,9 @@ pub fn tiles_are_local()
     ensures clean { CleanTiles }
     ensures dirty { DirtyTiles }
     ensures drawn { DrawnTiles }
+{}
+
+/// An edit of file attributes dirties no tile, and leaves every layer's picture in every window as it was.
+pub fn attributes_show_nowhere()
+    ensures { AttributesShowNowhere }
 {}

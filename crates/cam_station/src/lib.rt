@@ -26,11 +26,12 @@ pub use cam_script::{Bytes, Command, FileKind, FilePath, Line, LineFault, parse_
 pub use fault::Fault;
 pub use files::{FileFault, Files};
 pub use laws::{
-    depth_is_kept, documents_stay_sound, plot_is_exact, refusals_change_nothing, tiles_are_local,
-    undo_is_exact, write_is_exact, written_texts_load_again,
+    attributes_show_nowhere, depth_is_kept, documents_stay_sound, plot_is_exact,
+    refusals_change_nothing, tiles_are_local, undo_is_exact, ways_lead_between_documents,
+    write_is_exact, written_texts_load_again,
 };
 pub use out::Out;
 pub use reply::{Numbers, Reply};
-pub use run_laws::{few_file_refusals, run_is_commands};
+pub use run_laws::{few_file_refusals, files_are_exact, run_is_commands};
 pub use running::{RunFault, run};
 pub use station::Station;

@@ -38,6 +38,8 @@ pub fn of_edit(fault: EditFault) -> u8
     match fault {
         EditFault::NoLayer => NO_LAYER,
         EditFault::WrongKind => 68,
+        EditFault::AttributeRefused => 75,
+        EditFault::NoAttribute => 74,
         EditFault::NoItem => 61,
         EditFault::HasNone => 64,
         EditFault::NoAperture => 62,

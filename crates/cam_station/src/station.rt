@@ -23,7 +23,7 @@ ghost use Rattle.cam_station.specs.Machine.{
   write_step,
 };
 ghost use Rattle.cam_station.specs.Refusals.{memory_refused};
-ghost use Rattle.cam_station.specs.Undoing.{IsRun, after_refusal};
+ghost use Rattle.cam_station.specs.Calls.{IsRun, after_refusal};
 
 use crate::fault::{Fault, refusal};
 use crate::reading::read;

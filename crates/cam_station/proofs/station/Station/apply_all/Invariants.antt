@@ -2,7 +2,7 @@ use Rattle.std.proofs.Common.{◌≡◌, ◌≤◌, ◌+◌, List, ◌++◌, vec
 use Rattle.std.specs.Prelude.{vec_capacity}
 use Rattle.std.specs.VecDeque.{deque_len}
 use Rattle.cam_script.specs.declared.command.Command.{Command}
-use Rattle.cam_station.specs.Undoing.{IsRun}
+use Rattle.cam_station.specs.Calls.{IsRun}
 use Rattle.cam_station.proofs.station.Station.apply_all.Given as goal
 
 -- the commands so far, with their answers, are a run; there is room for the answers to the others
