@@ -5,21 +5,19 @@
 //! refused, the script cannot be read, memory or the output failed.
 #![tactic(auto)]
 
+mod ending;
 mod options;
+mod reading;
+mod script;
 mod system;
 
-use cam_station::{FileFault, RunFault, run};
-use options::OptionsFault;
-use std::alloc::Global;
+use options::{OptionsFault, options};
+use script::run_script;
 use std::process::ExitCode;
-use std::rt::Files as SystemFiles;
 use std::{env, io};
-use system::{Disk, Screen, read_file};
+use system::{Disk, Screen};
 
-/// The exit status where some line of the script was refused.
-const REFUSED: u8 = 1;
-
-/// The exit status of a call that runs no script, or not to its end.
+/// The exit status of a call that runs no script.
 const NOT_RUN: u8 = 2;
 
 /// The words of the call, the program's name first. The error is of memory, or a word that is not
@@ -28,39 +26,8 @@ fn words(rt: &HostRuntime) -> io::Result<Vec<String>> {
     Ok(env::args(rt)?.collect(rt.alloc())?)
 }
 
-/// Runs the script at the path, with the undo depth, and gives the exit status.
-fn run_script<R: SystemFiles + Print + Eprint>(
-    rt: &R,
-    alloc: Global,
-    path: &str,
-    depth: u32,
-) -> ExitCode {
-    let script = match read_file(rt, alloc, path) {
-        Ok(script) => script,
-        Err(FileFault::Failed) => return not_run(rt, "script cannot be read"),
-        Err(FileFault::Memory) => return not_run(rt, "no memory"),
-    };
-    let mut files = Disk::new(rt);
-    let mut out = Screen::new(rt);
-    match run(alloc, depth, script.as_slice(), &mut files, &mut out) {
-        Ok(0) => ExitCode::SUCCESS,
-        Ok(_) => ExitCode::from(REFUSED),
-        Err(RunFault::Memory) => not_run(rt, "no memory"),
-        Err(RunFault::Output) => not_run(rt, "output failed"),
-        // Not reached, since the options give no other depth.
-        Err(RunFault::Depth) => not_run(rt, "the depth is not from 1 to 1000"),
-    }
-}
-
-/// Says why on standard error.
-fn not_run<R: Eprint>(rt: &R, why: &str) -> ExitCode {
-    let _ = eprintln!(rt; "camplot: {why}");
-    ExitCode::from(NOT_RUN)
-}
-
 // A text that cannot be printed changes no exit status.
 fn main(rt: HostRuntime) -> ExitCode {
-    let alloc = rt.alloc();
     let words = match words(&rt) {
         Ok(words) => words,
         Err(error) => {
@@ -68,15 +35,22 @@ fn main(rt: HostRuntime) -> ExitCode {
             return ExitCode::from(NOT_RUN);
         }
     };
-    match options::options(alloc, words.as_slice()) {
-        Ok((path, depth)) => run_script(&rt, alloc, path.as_str(), depth),
+    let options = match options(rt.alloc(), words.as_slice()) {
+        Ok(options) => options,
         Err(OptionsFault::Refused(error)) => {
             let _ = error.print(&rt);
-            ExitCode::from(error.exit_code() as u8)
+            return ExitCode::from(error.exit_code() as u8);
         }
         Err(OptionsFault::Memory) => {
             let _ = eprintln!(rt; "camplot: no memory");
-            ExitCode::from(NOT_RUN)
+            return ExitCode::from(NOT_RUN);
         }
+    };
+    let mut files = Disk::new(&rt);
+    let mut out = Screen::new(io::writer(&rt));
+    let ending = run_script(rt.alloc(), &options, &mut files, &mut out);
+    if let Some(complaint) = ending.complaint() {
+        let _ = eprintln!(rt; "camplot: {complaint}");
     }
+    ExitCode::from(ending.status())
 }

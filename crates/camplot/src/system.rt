@@ -1,84 +1,35 @@
-//! The files and the standard output of the system.
+//! The files of the system, and an output that is a writer.
 //!
-//! No clause can say what the system's files and output hold, so these tell nothing of it.
+//! No clause can say what the system's files hold, so its files tell nothing of it; what is read from a reader and said
+//! to a writer is told as far as these tell it.
 
-ghost use Rattle.std.specs.Prelude.{◌≡◌, ◌+◌, ◌^◌, ◌<◌, ◌≤◌, length, IfNone, IfOk, IfSome};
-ghost use Rattle.camplot.specs.Disk.{IsFaultOf, file_limit};
+ghost use Rattle.std.specs.Prelude.{◌≡◌, ◌≤◌, length, IfOk};
+ghost use Rattle.camplot.specs.Disk.{file_limit};
 
+use crate::reading::{fault_of, read_all, write_whole};
 use cam_station::{FileFault, Files, Out};
-use std::alloc::{AllocError, Global};
+use std::alloc::Global;
 use std::fs;
-use std::io::{self, ErrorKind, Read, Write};
+use std::io::Write;
 use std::rt::Files as SystemFiles;
 
 /// The longest file that is read, in bytes.
 const FILE_LIMIT: usize = 268_435_456;
 
-/// How many bytes one read may give.
-const CHUNK: usize = 65_536;
-
-/// So many zeros, for a reader to write over.
-fn zeros(alloc: Global, len: usize) -> Result<Vec<u8>, AllocError>
-    ensures { IfOk result (λ chunk. length chunk.items ≡ len) }
-{
-    vec![in alloc; 0u8; len]
-}
-
-/// All bytes of a reader, read piece by piece into `chunk`, or `None` where they are more than `limit`.
-///
-/// Each read gives at least one byte, the end or a fault, so the reading ends.
-fn read_within<R: Read>(
-    alloc: Global,
-    reader: &mut R,
-    chunk: &mut [u8],
-    limit: usize,
-) -> io::Result<Option<Vec<u8>>>
-    requires some { 0 < length chunk.old }
-    requires room { limit + 1 < 2 ^ 64 }
-    ensures bound { IfOk result (λ read. IfSome read (λ bytes. length bytes.items ≤ limit)) }
-    ensures whole { IfOk result (λ read. IfSome read (λ bytes. IfSome (R.remaining reader.old)
-        (λ all. bytes.items ≡ all))) }
-    ensures past { IfOk result (λ read. IfNone read (IfSome (R.remaining reader.old)
-        (λ all. limit < length all))) }
-{
-    let mut bytes = Vec::new(alloc);
-    for _ in 0..limit + 1 {
-        let count = reader.read(chunk)?;
-        if count == 0 {
-            return Ok(Some(bytes));
-        }
-        if count > limit - bytes.len() {
-            return Ok(None);
-        }
-        bytes.extend_from_slice(&chunk[..count])?;
-    }
-    Ok(None)
-}
-
-/// Whether memory was refused, or the file failed.
-fn fault_of(error: &io::Error) -> FileFault
-    ensures { IsFaultOf error.now result }
-{
-    match error.kind() {
-        ErrorKind::OutOfMemory => FileFault::Memory,
-        _ => FileFault::Failed,
-    }
-}
-
 /// The bytes of the file at this path; a file of more than 268,435,456 bytes has failed.
-pub fn read_file<R: SystemFiles>(rt: &R, alloc: Global, path: &str) -> Result<Vec<u8>, FileFault>
+fn read_file<R: SystemFiles>(rt: &R, alloc: Global, path: &str) -> Result<Vec<u8>, FileFault>
     ensures { IfOk result (λ bytes. length bytes.items ≤ file_limit) }
 {
-    let mut file = match fs::open(rt, path) {
-        Ok(file) => file,
-        Err(error) => return Err(fault_of(&error)),
-    };
-    let Ok(mut chunk) = zeros(alloc, CHUNK) else {
-        return Err(FileFault::Memory);
-    };
-    match read_within(alloc, &mut file, chunk.as_mut_slice(), FILE_LIMIT) {
-        Ok(Some(bytes)) => Ok(bytes),
-        Ok(None) => Err(FileFault::Failed),
+    match fs::open(rt, path) {
+        Ok(mut file) => read_all(alloc, &mut file, FILE_LIMIT),
+        Err(error) => Err(fault_of(&error)),
+    }
+}
+
+/// Writes the file at this path anew.
+fn write_file<R: SystemFiles>(rt: &R, path: &str, bytes: &[u8]) -> Result<(), FileFault> {
+    match fs::create(rt, path) {
+        Ok(mut file) => write_whole(&mut file, bytes),
         Err(error) => Err(fault_of(&error)),
     }
 }
@@ -93,6 +44,21 @@ pub struct Disk<'a, R> {
 impl<'a, R: SystemFiles> Disk<'a, R> {
     pub fn new(rt: &'a R) -> Disk<'a, R> {
         Disk { rt, failures: 0 }
+    }
+}
+
+impl<R> Disk<'_, R> {
+    ghost use Rattle.cam_station.specs.Contents.{HasRisenBy, fault_failures};
+
+    /// Counts a failure of a file; want of memory is none.
+    fn counted(&mut self, fault: FileFault) -> FileFault
+        ensures fault { result ≡ fault }
+        ensures counted { HasRisenBy (fault_failures fault) self.old.failures self.new.failures }
+    {
+        if fault == FileFault::Failed {
+            self.failures = self.failures.saturating_add(1);
+        }
+        fault
     }
 }
 
@@ -114,24 +80,14 @@ impl<'a, R: SystemFiles> Files for Disk<'a, R> {
     {
         match read_file(self.rt, alloc, path) {
             Ok(bytes) => Ok(bytes),
-            Err(FileFault::Memory) => Err(FileFault::Memory),
-            Err(FileFault::Failed) => {
-                self.failures = self.failures.saturating_add(1);
-                Err(FileFault::Failed)
-            }
+            Err(fault) => Err(self.counted(fault)),
         }
     }
 
     fn put(&mut self, path: &str, bytes: &[u8]) -> Result<(), FileFault> {
-        let Err(error) = fs::write(self.rt, path, bytes) else {
-            return Ok(());
-        };
-        match fault_of(&error) {
-            FileFault::Memory => Err(FileFault::Memory),
-            FileFault::Failed => {
-                self.failures = self.failures.saturating_add(1);
-                Err(FileFault::Failed)
-            }
+        match write_file(self.rt, path, bytes) {
+            Ok(()) => Ok(()),
+            Err(fault) => Err(self.counted(fault)),
         }
     }
 
@@ -140,28 +96,29 @@ impl<'a, R: SystemFiles> Files for Disk<'a, R> {
     }
 }
 
-/// The standard output.
+/// A writer as the output: what it holds is what was said.
 #[derive(Drop)]
-pub struct Screen<'a, R> {
-    rt: &'a R,
+pub struct Screen<W> {
+    writer: W,
     failures: u64,
 }
 
-impl<'a, R: Print> Screen<'a, R> {
-    pub fn new(rt: &'a R) -> Screen<'a, R> {
-        Screen { rt, failures: 0 }
+impl<W: Write> Screen<W> {
+    pub fn new(writer: W) -> Screen<W> {
+        Screen {
+            writer,
+            failures: 0,
+        }
     }
 }
 
-impl<'a, R: Print> Out for Screen<'a, R> {
-    ghost use Rattle.std.specs.Prelude.{None};
-
-    ghost said = { λ _. None };
+impl<W: Write> Out for Screen<W> {
+    ghost said = { λ screen. W.contents screen.writer };
 
     ghost failed = { λ screen. screen.failures };
 
     fn say(&mut self, bytes: &[u8]) -> bool {
-        if io::writer(self.rt).write_all(bytes).is_err() {
+        if write_whole(&mut self.writer, bytes).is_err() {
             self.failures = self.failures.saturating_add(1);
             return false;
         }

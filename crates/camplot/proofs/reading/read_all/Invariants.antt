@@ -1,6 +1,6 @@
 use Rattle.std.proofs.Common.{◌≤◌, length}
 use Rattle.std.specs.Io.KnownBytes.{Consumes}
-use Rattle.camplot.proofs.system.read_within.Given as goal
+use Rattle.camplot.proofs.reading.read_all.Given as goal
 
 -- the bytes so far are those that the reader has given
 abbrev pub invariant-loop : goal.invariant-loop
