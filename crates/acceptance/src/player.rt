@@ -2,6 +2,7 @@
 
 use crate::files::MemoryFiles;
 use crate::out::MemoryOut;
+use crate::tables::attributes::ATTRIBUTES;
 use crate::tables::blocks::BLOCKS;
 use crate::tables::drills::DRILLS;
 use crate::tables::edits::EDITS;
@@ -72,7 +73,7 @@ fn files(rt: HostRuntime) -> Result<(), Fail> {
 #[test]
 fn tables(rt: HostRuntime) -> Result<(), Fail> {
     for table in [
-        DRILLS, EDITS, GROUPS, HISTORIES, LIMITS, PLOTS, REFUSALS, TEXTS, TILES,
+        ATTRIBUTES, DRILLS, EDITS, GROUPS, HISTORIES, LIMITS, PLOTS, REFUSALS, TEXTS, TILES,
     ] {
         for row in table {
             play(&rt, rt.alloc(), row)?;

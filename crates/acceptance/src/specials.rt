@@ -19,7 +19,7 @@ fn append(text: &mut Vec<u8>, line: &[u8], times: u32) -> Result<(), AllocError>
 }
 
 /// Runs a script over files that hold a layer of one disc, and compares what it says.
-fn says(
+pub fn says(
     rt: &impl Abort,
     alloc: Global,
     depth: u32,

@@ -1,5 +1,6 @@
 //! Tables of whole scripts.
 
+pub mod attributes;
 pub mod blocks;
 pub mod boards;
 pub mod drills;

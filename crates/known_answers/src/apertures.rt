@@ -122,10 +122,11 @@ fn boxes(rt: HostRuntime) -> Result<(), Fail> {
 }
 
 #[test]
-fn solid_circles(rt: HostRuntime) -> Result<(), Fail> {
-    for &(text, wanted) in SOLID {
+fn solid_apertures(rt: HostRuntime) -> Result<(), Fail> {
+    for &(text, circle, rectangle) in SOLID {
         let aperture = aperture_of(rt.alloc(), text)?;
-        assert!(rt; aperture.is_solid_circle() == wanted, "{text:?}");
+        assert!(rt; aperture.is_solid_circle() == circle, "{text:?}");
+        assert!(rt; aperture.is_solid_rect() == rectangle, "{text:?}");
     }
     Ok(())
 }

@@ -26,7 +26,7 @@ use long::LONG_FILES;
 use refusals::{DEFINITIONS, FORMS, STATES};
 use several::SEVERAL;
 use sizes::SIZES;
-use std::alloc::Global;
+use std::alloc::{AllocError, Global};
 use std::test::Fail;
 
 /// A file that is a layer: its text, how many entries and items it has, and places in half nm that are black and white.
@@ -135,6 +135,32 @@ fn a_flash_too_many(rt: HostRuntime) -> Result<(), Fail> {
     let wanted = ReadFault {
         code: 25,
         at: 6_000_035,
+    };
+    assert!(rt; fault == Some(wanted), "{fault:?}");
+    Ok(())
+}
+
+/// The text of so many file attributes, each of another name.
+fn attributes(alloc: Global, count: u32) -> Result<Vec<u8>, AllocError> {
+    let mut text = Vec::new(alloc);
+    for name in 0..count {
+        text.extend_from_slice(format!(in alloc; "%TF{name}*%")?.as_bytes())?;
+    }
+    Ok(text)
+}
+
+/// A thousand names are kept, of which one may be set again, and the next one is refused at its place.
+#[test]
+fn an_attribute_too_many(rt: HostRuntime) -> Result<(), Fail> {
+    let mut kept = attributes(rt.alloc(), 1_000)?;
+    kept.extend_from_slice(b"%TF999,1*%M02*")?;
+    let fault = read_gerber(rt.alloc(), &kept).err();
+    assert!(rt; fault.is_none(), "{fault:?}");
+    let refused = attributes(rt.alloc(), 1_001)?;
+    let fault = read_gerber(rt.alloc(), &refused).err();
+    let wanted = ReadFault {
+        code: 25,
+        at: 7_890,
     };
     assert!(rt; fault == Some(wanted), "{fault:?}");
     Ok(())

@@ -10,6 +10,7 @@ mod dictionaries;
 mod forms;
 mod limits;
 mod reaches;
+mod rectangles;
 mod regions;
 mod repeats;
 pub(crate) mod rows;
@@ -25,6 +26,7 @@ use dictionaries::BASE;
 use forms::FORMS;
 use limits::{ENTRIES, ROOMS};
 use reaches::REACHES;
+use rectangles::RECTANGLES;
 use regions::REGIONS;
 use repeats::REPEATS;
 use rows::{Added, Boxed, Checked, Drawn, Filled, Listed, Picture};
@@ -146,6 +148,13 @@ fn first_misjudged(alloc: Global, rows: &[Checked]) -> Result<Option<usize>, All
 #[test]
 fn stroke_pictures(rt: HostRuntime) -> Result<(), Fail> {
     let wrong = first_wrong(rt.alloc(), STROKES)?;
+    assert!(rt; wrong.is_none(), "{wrong:?}");
+    Ok(())
+}
+
+#[test]
+fn rectangle_pictures(rt: HostRuntime) -> Result<(), Fail> {
+    let wrong = first_wrong(rt.alloc(), RECTANGLES)?;
     assert!(rt; wrong.is_none(), "{wrong:?}");
     Ok(())
 }

@@ -15,9 +15,9 @@ use crate::shapes::{FAR, Shape, holds, reach, within};
 use across::{ACROSS, EDGES};
 use cam_rows::{
     Centres, arc_row, bar_row, cap_row, capsule_row, disc_row, edge_row, hole_row, obround_row,
-    rect_row,
+    rect_row, swept_row,
 };
-use cam_shapes::{Arc, Bar, Cap, Capsule, Disc, Obround, Rectangle};
+use cam_shapes::{Arc, Bar, Cap, Capsule, Disc, Obround, Rectangle, Swept};
 use cam_units::{Nm, Point, Spot, fits_board, fits_size};
 use flashes::{FLASH_EDGES, FLASHES};
 use small::{CORNERS, MIDDLE};
@@ -28,6 +28,8 @@ pub enum Figure {
     Flash(i64, i64),
     /// The ends of a bar and of a capsule, and their width; an edge leads from one end to the other, and one back.
     Draw(At, At, i64),
+    /// The ends of the stroke of a rectangle, both ways, and its sides, both ways.
+    Stroke(At, At, i64, i64),
     /// The start, the end and the centre of an arc and of a cap, each both ways round; and the arcs' width.
     Turn(At, At, At, i64),
 }
@@ -94,6 +96,24 @@ fn drawn(from: Point, to: Point, width: Nm) -> [Shape; 4] {
     ]
 }
 
+/// The strokes of a rectangle.
+fn swept(from: Point, to: Point, width: Nm, height: Nm) -> [Shape; 4] {
+    let stroke = |from, to, width, height| {
+        Shape::Swept(Swept {
+            from,
+            to,
+            width,
+            height,
+        })
+    };
+    [
+        stroke(from, to, width, height),
+        stroke(to, from, width, height),
+        stroke(from, to, height, width),
+        stroke(to, from, height, width),
+    ]
+}
+
 /// An arc.
 fn arc(from: Point, to: Point, centre: Point, ccw: bool, width: i64) -> Shape {
     Shape::Arc(Arc {
@@ -120,6 +140,9 @@ fn shapes_of(figure: &Figure, at: At) -> [Shape; 4] {
     match *figure {
         Figure::Flash(width, height) => flashed(width, height, at),
         Figure::Draw(from, to, width) => drawn(moved(from, at), moved(to, at), Nm(width)),
+        Figure::Stroke(from, to, width, height) => {
+            swept(moved(from, at), moved(to, at), Nm(width), Nm(height))
+        }
         Figure::Turn(from, to, centre, width) => {
             let (from, to, centre) = (moved(from, at), moved(to, at), moved(centre, at));
             [
@@ -170,6 +193,7 @@ fn marked(shape: &Shape, centres: Centres) -> Option<u64>
         Shape::Obround(it) => within!(obround_row(it, centres), it.centre; it.width, it.height),
         Shape::Bar(bar) => within!(bar_row(bar, centres), bar.from, bar.to; bar.width),
         Shape::Capsule(it) => within!(capsule_row(it, centres), it.from, it.to; it.width),
+        Shape::Swept(it) => { within!(swept_row(it, centres), it.from, it.to; it.width, it.height) }
         Shape::Cap(cap) => within!(cap_row(cap, centres), cap.from, cap.to, cap.centre;),
         Shape::Edge(from, to) => within!(edge_row(from, to, centres), from, to;),
     }

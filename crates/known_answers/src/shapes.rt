@@ -3,13 +3,17 @@
 ghost use Rattle.std.specs.Prelude.{◌≡◌, IfSome};
 ghost use Rattle.cam_units.specs.Board.{IsInReach};
 
+mod strokes;
+
 use cam_shapes::{
-    Arc, Bar, Cap, Capsule, Contour, Disc, Obround, Rectangle, Seg, Segments, fits_contour, in_arc,
-    in_bar, in_cap, in_capsule, in_contour, in_disc, in_edge, in_hole, in_obround, in_rect,
+    Arc, Bar, Cap, Capsule, Contour, Disc, Obround, Rectangle, Seg, Segments, Swept, fits_contour,
+    in_arc, in_bar, in_cap, in_capsule, in_contour, in_disc, in_edge, in_hole, in_obround, in_rect,
+    in_swept,
 };
 use cam_units::{Nm, Point, Spot, Turn, fits_board, fits_size};
 use std::alloc::{AllocError, Global};
 use std::test::Fail;
+use strokes::STROKES;
 
 /// The greatest coordinate of a point of the board, and the greatest size.
 pub(crate) const FAR: i64 = 999_999_999;
@@ -118,6 +122,7 @@ pub(crate) enum Shape {
     Obround(Obround),
     Bar(Bar),
     Capsule(Capsule),
+    Swept(Swept),
     Cap(Cap),
     /// An edge between two points, which counts where it crosses strictly right of the place.
     Edge(Point, Point),
@@ -321,6 +326,7 @@ fn holds_spot(shape: &Shape, spot: Spot) -> Option<bool>
         Shape::Obround(it) => within!(in_obround(spot, it), it.centre; it.width, it.height),
         Shape::Bar(bar) => within!(in_bar(spot, bar), bar.from, bar.to; bar.width),
         Shape::Capsule(it) => within!(in_capsule(spot, it), it.from, it.to; it.width),
+        Shape::Swept(it) => within!(in_swept(spot, it), it.from, it.to; it.width, it.height),
         Shape::Cap(cap) => within!(in_cap(spot, cap), cap.from, cap.to, cap.centre;),
         Shape::Edge(from, to) => within!(in_edge(spot, from, to), from, to;),
     }
@@ -355,6 +361,19 @@ fn shapes(rt: HostRuntime) {
     for (shape, places) in SHAPES {
         for &(x, y, wanted) in *places {
             assert!(rt; holds(shape, x, y) == Some(wanted), "({x}, {y})");
+        }
+    }
+}
+
+#[test]
+fn strokes_of_rectangles(rt: HostRuntime) {
+    for (stroke, places) in STROKES {
+        let shape = Shape::Swept(*stroke);
+        for &(x, y, wanted) in *places {
+            assert!(rt;
+                holds(&shape, x, y) == Some(wanted),
+                "{stroke:?} at ({x}, {y})"
+            );
         }
     }
 }

@@ -16,8 +16,8 @@ const ROWS: &[(u32, u32, Result<(u32, &[u8]), RasterFault>)] = &[
     (1, 32_769, Err(RasterFault::WindowRefused)),
 ];
 
-/// The low and the high corner of a box in half nm, and the tiles that it touches in a window of 130 by 70 pixels of 5 nm
-/// from the origin.
+/// The low and the high corner of a box in half nm, and the tiles that it touches in a window of 130 by 70 pixels of
+/// 5 nm from the origin.
 const BOXES: &[((i64, i64), (i64, i64), &[u32])] = &[
     ((0, 0), (4, 4), &[]),
     ((0, 0), (5, 5), &[3]),
@@ -57,8 +57,8 @@ fn raster(alloc: Global, pitch: i64, width: u32, height: u32) -> Result<Raster, 
     Raster::new(alloc, window)
 }
 
-/// The tiles and the picture of the discs in a window of these sides; all but one tile are drawn first, and no file comes
-/// of them.
+/// The tiles and the picture of the discs in a window of these sides; all but one tile are drawn first, and no file
+/// comes of them.
 fn picture(alloc: Global, width: u32, height: u32) -> Result<(u32, Vec<u8>), RasterFault> {
     let mut raster = raster(alloc, 2, width, height)?;
     let Ok(layer) = read_gerber(alloc, DISCS) else {

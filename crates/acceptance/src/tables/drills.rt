@@ -10,6 +10,15 @@ const EDITED_TEXT: &[u8] =
 T2\nG05\nX1.000000Y1.000000\nG00X3.000000Y1.000000\nM15\nG01X5.000000Y1.000000\nG01X5.000000Y3.000000\nM16\n\
 T1\nG05\nX0.000000Y0.000000\nM30\n";
 
+/// A slot of 1 mm from (1 mm, 1 mm) to (3 mm, 1 mm) in one line, and a hole at (5 mm, 1 mm).
+const SLOT_AND_HOLE: &[u8] =
+    b"M48\nMETRIC\nT1C1.0\n%\nG05\nT1\nX1.0Y1.0G85X3.0Y1.0\nX5.0Y1.0\nM30\n";
+
+/// The same in its canonical form.
+const SLOT_AND_HOLE_TEXT: &[u8] =
+    b"M48\nMETRIC\nT1C1.000000\n%\nG05\nT1\nG00X1.000000Y1.000000\nM15\n\
+G01X3.000000Y1.000000\nM16\nG05\nX5.000000Y1.000000\nM30\n";
+
 /// Drill layers that are plotted and edited.
 pub const DRILLS: &[Row] = &[
     Row {
@@ -21,6 +30,26 @@ window 1440000 990000 20000 1 1\nplot top outside\n",
         replies: b"ok 2\nok 2 2\nok 1 0 0\nok\nok 1\nok\nok 1\n",
         refused: 0,
         written: &[("edge", BLACK), ("outside", WHITE)],
+    },
+    Row {
+        name: "a slot of one line, its edge, and its text, which is that of a rout; one with no tool is refused",
+        depth: 100,
+        files: &[
+            ("s.drl", SLOT_AND_HOLE),
+            (
+                "none.drl",
+                b"M48\nMETRIC\nT1C1.0\n%\nX1.0Y1.0G85X3.0Y1.0\nM30\n",
+            ),
+        ],
+        script: b"load top drill s.drl\nlist top\nwindow 1990000 1490000 20000 1 1\nplot top edge\n\
+window 1990000 1490001 20000 1 1\nplot top outside\nwrite top text\nload none drill none.drl\n",
+        replies: b"ok 2\nok 2 1\nok\nok 1\nok\nok 1\nok 111\nrefused 44 20\n",
+        refused: 1,
+        written: &[
+            ("edge", BLACK),
+            ("outside", WHITE),
+            ("text", SLOT_AND_HOLE_TEXT),
+        ],
     },
     Row {
         name: "a hole that is moved, taken back and moved again",

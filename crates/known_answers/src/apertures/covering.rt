@@ -11,6 +11,8 @@ const CIRCLE: Text = (b"", b"D10C,1");
 
 const CIRCLE_OF_NO_SIZE: Text = (b"", b"D10C,0");
 
+const RECTANGLE: Text = (b"", b"D10R,2X1");
+
 const RECTANGLE_WITH_HOLE: Text = (b"", b"D10R,2X1X0.5");
 
 const LYING_OBROUND: Text = (b"", b"D10O,2X1");
@@ -22,7 +24,10 @@ const ROUND_OBROUND: Text = (b"", b"D10O,1X1");
 const DARK_AGAIN: Text = (b"M*1,1,2,0,0*1,0,1,0,0*1,1,0.2,0,0", b"D10M");
 /// 1.5 by 1 mm, its corners of a radius of 0.25 mm, as KiCad writes it.
 const ROUNDED_RECTANGLE: Text = (
-    b"M*4,1,4,-0.5,-0.25,0.5,-0.25,0.5,0.25,-0.5,0.25,-0.5,-0.25,0*1,1,0.5,-0.5,-0.25*1,1,0.5,0.5,-0.25*1,1,0.5,0.5,0.25*1,1,0.5,-0.5,0.25*20,1,0.5,-0.5,-0.25,0.5,-0.25,0*20,1,0.5,0.5,-0.25,0.5,0.25,0*20,1,0.5,0.5,0.25,-0.5,0.25,0*20,1,0.5,-0.5,0.25,-0.5,-0.25,0",
+    b"M*4,1,4,-0.5,-0.25,0.5,-0.25,0.5,0.25,-0.5,0.25,-0.5,-0.25,0*\
+        1,1,0.5,-0.5,-0.25*1,1,0.5,0.5,-0.25*1,1,0.5,0.5,0.25*1,1,0.5,-0.5,0.25*\
+        20,1,0.5,-0.5,-0.25,0.5,-0.25,0*20,1,0.5,0.5,-0.25,0.5,0.25,0*\
+        20,1,0.5,0.5,0.25,-0.5,0.25,0*20,1,0.5,-0.5,0.25,-0.5,-0.25,0",
     b"D10M",
 );
 /// A rectangle and a disc above its left end.
@@ -316,13 +321,14 @@ pub const BOXES: &[(Text, Turn, [i64; 4])] = &[
     ),
 ];
 
-/// An aperture, and whether lines may be drawn with it.
-pub const SOLID: &[(Text, bool)] = &[
-    (CIRCLE, true),
-    (CIRCLE_OF_NO_SIZE, true),
-    (CIRCLE_WITH_HOLE, false),
-    (RECTANGLE_WITH_HOLE, false),
-    (LYING_OBROUND, false),
-    (DARK_AGAIN, false),
-    (NOTHING, false),
+/// An aperture, whether it is a circle without a hole, and whether a rectangle without one.
+pub const SOLID: &[(Text, bool, bool)] = &[
+    (CIRCLE, true, false),
+    (CIRCLE_OF_NO_SIZE, true, false),
+    (CIRCLE_WITH_HOLE, false, false),
+    (RECTANGLE, false, true),
+    (RECTANGLE_WITH_HOLE, false, false),
+    (LYING_OBROUND, false, false),
+    (DARK_AGAIN, false, false),
+    (NOTHING, false, false),
 ];

@@ -58,9 +58,9 @@ pub const FAULTS: &[Refused] = &[
     // an aperture is defined, and not selected
     (b"%FSLAX36Y36*%%MOMM*%%ADD10C,1*%X0Y0D03*M02*", 15, 31),
     (
-        b"%FSLAX36Y36*%\n%MOMM*%\n%ADD11R,1X1*%\nD11*\nX0Y0D01*\nM02*\n",
+        b"%FSLAX36Y36*%\n%MOMM*%\n%ADD11R,1X1X0.5*%\nD11*\nX0Y0D01*\nM02*\n",
         16,
-        41,
+        45,
     ),
     (
         b"%FSLAX36Y36*%\n%MOMM*%\n%ADD10C,0.2*%\nD10*\nX1000000Y0D02*\nG03*\nX0Y1000000I-1000000J0D01*\nM02*\n",

@@ -33,6 +33,16 @@ pub const OPERATIONS: &[Given] = &[
             One(Draw(10, (5, 7), (0, 7), R0, false)),
         ],
     ),
+    // a rectangle draws straight lines, and is turned as they are
+    (
+        b"%FSLAX36Y36*%%MOMM*%%ADD10R,2X1*%D10*X5Y7D01*%LR90*%X0D01*%LMX*%Y0D01*M02*",
+        &[(10, Rect(2_000_000, 1_000_000, 0))],
+        &[
+            One(Draw(10, (0, 0), (5, 7), R0, true)),
+            One(Draw(10, (5, 7), (0, 7), R90, true)),
+            One(Draw(10, (0, 7), (0, 0), M90, true)),
+        ],
+    ),
     // an omitted X or Y keeps the current point, which begins at (0, 0)
     (
         b"%FSLAX36Y36*%%MOMM*%%ADD10C,0.2*%D10*X5D03*Y-7D03*D03*M02*",

@@ -190,8 +190,13 @@ pub const STATES: &[Refused] = &[
     (b"%FSLAX36Y36*%%MOMM*%%ADD10C,1*%X5D01*M02*", 15, 31),
     (b"%FSLAX36Y36*%%MOMM*%%ABD10*%D03*%AB*%M02*", 15, 28),
     (b"%FSLAX36Y36*%%MOMM*%%SRX2*%D01*M02*", 15, 27),
-    // draws and arcs with anything but a solid circle
+    // draws and arcs with anything but a solid circle and, for a draw, a solid rectangle
     (b"%FSLAX36Y36*%%MOMM*%%ADD10C,1X0.5*%D10*X5D01*M02*", 16, 39),
+    (
+        b"%FSLAX36Y36*%%MOMM*%%ADD10R,2X1X0.5*%D10*X5D01*M02*",
+        16,
+        41,
+    ),
     (b"%FSLAX36Y36*%%MOMM*%%ADD10O,2X1*%D10*X5D01*M02*", 16, 37),
     (
         b"%FSLAX36Y36*%%MOMM*%%AMA*1,1,1,0,0*%%ADD10A*%D10*X5D01*M02*",

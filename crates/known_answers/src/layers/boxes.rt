@@ -1,7 +1,7 @@
 //! Items and their boxes: worked out by an independent program.
 
 use crate::layers::rows::{Boxed, Drawn, Entered, Listed, Side};
-use Drawn::{Arc, Draw, Flash, Region};
+use Drawn::{Arc, Draw, Flash, Region, TurnedDraw};
 use Entered::{Block, Circle, Obround, Rect};
 use Listed::{One, Repeat};
 use Side::{Curve, Line};
@@ -30,6 +30,17 @@ pub const BOXES: &[Boxed] = &[
         &[(10, Circle(0, 0))],
         One(Draw(10, (1, 2), (1, 2), true)),
         Some([2, 4, 2, 4]),
+    ),
+    // draws with a rectangle, which is turned with them
+    (
+        &[(10, Rect(8, 6, 0))],
+        One(TurnedDraw(10, (15, 20), (-3, 2), R180, false)),
+        Some([-14, -2, 38, 46]),
+    ),
+    (
+        &[(10, Rect(8, 6, 0))],
+        One(TurnedDraw(10, (15, 20), (-3, 2), R90, true)),
+        Some([-12, -4, 36, 48]),
     ),
     // arcs: the square about the centre, also of a short arc
     (

@@ -70,7 +70,7 @@ fn object(alloc: Global, drawn: &Drawn) -> Result<Object, AllocError> {
             turn,
             dark,
         }),
-        // a turn that changes no place of it
+        // a turn that changes no place of a round stroke
         Drawn::Draw(aperture, from, to, dark) => Ok(draw(aperture, from, to, Turn::M90, dark)),
         Drawn::TurnedDraw(aperture, from, to, turn, dark) => {
             Ok(draw(aperture, from, to, turn, dark))

@@ -1,8 +1,9 @@
 //! Items that are sound or refused for what they are: worked out by hand.
 
 use crate::layers::dictionaries::BASE;
-use crate::layers::rows::{Checked, Drawn, Listed, Side};
+use crate::layers::rows::{Checked, Drawn, Entered, Listed, Side};
 use Drawn::{Arc, Draw, Flash, Region};
+use Entered::Rect;
 use ItemFault::{Malformed, UnknownAperture, WrongAperture, ZeroRadius};
 use Listed::{One, Repeat};
 use Side::{Curve, Line};
@@ -184,15 +185,16 @@ pub const FORMS: &[Checked] = &[
         One(Flash(4294967295, (0, 0), R0, true)),
         Err(UnknownAperture),
     ),
-    // strokes of anything but a solid circle
+    // strokes of anything but a solid circle and, along a line, a solid rectangle
     (
         BASE,
         One(Draw(11, (0, 0), (0, 0), true)),
         Err(WrongAperture),
     ),
+    (BASE, One(Draw(12, (0, 0), (0, 0), true)), Ok(())),
     (
-        BASE,
-        One(Draw(12, (0, 0), (0, 0), true)),
+        &[(10, Rect(8, 4, 2))],
+        One(Draw(10, (0, 0), (0, 0), true)),
         Err(WrongAperture),
     ),
     (
@@ -222,6 +224,16 @@ pub const FORMS: &[Checked] = &[
             2,
             (0, 0),
             &[Flash(12, (0, 0), R0, true), Draw(12, (0, 0), (0, 0), true)],
+        ),
+        Ok(()),
+    ),
+    (
+        BASE,
+        Repeat(
+            2,
+            2,
+            (0, 0),
+            &[Flash(16, (0, 0), R0, true), Draw(16, (0, 0), (0, 0), true)],
         ),
         Err(WrongAperture),
     ),

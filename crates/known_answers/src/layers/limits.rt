@@ -67,6 +67,12 @@ pub const ENTRIES: &[Added] = &[
         BASE,
         17,
         Block(&[Flash(10, (0, 0), R0, true), Draw(12, (0, 0), (0, 0), true)]),
+        true,
+    ),
+    (
+        BASE,
+        17,
+        Block(&[Flash(10, (0, 0), R0, true), Draw(16, (0, 0), (0, 0), true)]),
         false,
     ),
     (

@@ -247,7 +247,7 @@ pub const REACHES: &[Checked] = &[
             4_294_967_295,
             (0, 0),
             &[
-                Draw(12, (0, 0), (0, 0), true),
+                Draw(16, (0, 0), (0, 0), true),
                 Region((1_000_000_000, 0), &[], true),
             ],
         ),
@@ -265,7 +265,7 @@ pub const REACHES: &[Checked] = &[
             2,
             (1_000_000_000, 0),
             &[
-                Draw(12, (0, 0), (0, 0), true),
+                Draw(16, (0, 0), (0, 0), true),
                 Arc(17, (0, 0), (0, 0), (0, 0), true, true),
             ],
         ),
@@ -288,7 +288,7 @@ pub const REACHES: &[Checked] = &[
     ),
     (
         BASE,
-        One(Draw(12, (1_000_000_000, 0), (0, 0), true)),
+        One(Draw(16, (1_000_000_000, 0), (0, 0), true)),
         Err(WrongAperture),
     ),
     (

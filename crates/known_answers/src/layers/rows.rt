@@ -14,9 +14,9 @@ pub enum Side {
 pub enum Drawn {
     /// Number, point and turn.
     Flash(u32, At, Turn, bool),
-    /// Number and ends.
+    /// Number and ends; it is turned by `M90`, which changes no place of a round stroke.
     Draw(u32, At, At, bool),
-    /// Number, ends and turn, which changes no place of a draw.
+    /// Number, ends and turn, with which a rectangle is turned that draws.
     TurnedDraw(u32, At, At, Turn, bool),
     /// Number, ends, centre, and whether it goes counterclockwise.
     Arc(u32, At, At, At, bool, bool),

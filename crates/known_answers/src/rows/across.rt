@@ -18,6 +18,16 @@ const FIGURES: &[Figure] = &[
     Figure::Draw((-600 * MM, 800 * MM), (600 * MM, -800 * MM), 100 * MM),
     Figure::Draw((-FAR, -1), (FAR, 0), 1),
     Figure::Draw((FAR, FAR), (FAR, FAR), 200 * MM),
+    Figure::Stroke((-FAR, -FAR), (FAR, FAR), 1, 200 * MM),
+    Figure::Stroke((-FAR, FAR), (FAR, -FAR), 200 * MM, 200 * MM),
+    Figure::Stroke((-FAR, FAR), (FAR, FAR), 200 * MM, 1),
+    Figure::Stroke(
+        (-800 * MM, -600 * MM),
+        (800 * MM, 600 * MM),
+        200 * MM,
+        100 * MM,
+    ),
+    Figure::Stroke((-FAR, -1), (FAR, 0), 1, 1),
     Figure::Turn((FAR, -FAR), (-FAR, FAR), (-FAR, -FAR), 200 * MM),
     Figure::Turn((-FAR, FAR), (FAR, FAR), (0, 0), 1),
     Figure::Turn((FAR, FAR), (FAR, FAR), (-FAR, -FAR), 200 * MM),
@@ -73,6 +83,10 @@ pub const EDGES: Sheet = Sheet {
         ((0, 0), (2 * FAR + 120 * MM, 2 * FAR + 160 * MM)),
         ((0, 0), (-200 * MM, 100 * MM)),
         ((0, 0), (1_480 * MM, 1_360 * MM)),
+        // on the edges of strokes of rectangles, and at a corner of one
+        ((0, 0), (200 * MM, 200 * MM)),
+        ((0, 0), (0, 250 * MM)),
+        ((0, 0), (1_800 * MM, 1_300 * MM)),
         // on a circle of 2 m: where its chord ends, at triangles of 7, 24, 25, and at its right end
         ((0, 0), (2_400 * MM - 2 * FAR, 3_200 * MM - 2 * FAR)),
         ((0, 0), (3_200 * MM - 2 * FAR, 2_400 * MM - 2 * FAR)),

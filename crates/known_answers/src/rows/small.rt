@@ -42,6 +42,22 @@ const FIGURES: &[Figure] = &[
     Figure::Draw((0, 0), (0, 1), 1),
     Figure::Draw((5, 5), (5, 5), 12),
     Figure::Draw((-10, 3), (12, 7), 0),
+    // strokes of rectangles: level, upright, along a diagonal, and along triangles of 3, 4, 5
+    Figure::Stroke((-20, 0), (20, 0), 10, 4),
+    Figure::Stroke((0, -15), (0, 20), 7, 3),
+    Figure::Stroke((-10, -10), (10, 10), 9, 4),
+    Figure::Stroke((-16, -12), (16, 12), 10, 5),
+    Figure::Stroke((-9, 12), (9, -12), 5, 8),
+    // nearly level, nearly upright, and wherever
+    Figure::Stroke((-31, 0), (31, 1), 2, 2),
+    Figure::Stroke((1, -31), (0, 31), 2, 6),
+    Figure::Stroke((-31, -7), (30, 12), 4, 1),
+    Figure::Stroke((-5, 31), (8, -31), 20, 1),
+    // short ones, wider than long, and one without a side
+    Figure::Stroke((0, 0), (1, 1), 1, 1),
+    Figure::Stroke((5, 5), (5, 5), 12, 6),
+    Figure::Stroke((3, 4), (-3, -4), 60, 50),
+    Figure::Stroke((-10, 3), (12, 7), 0, 5),
     // quarters
     Figure::Turn((10, 0), (0, 10), (0, 0), 5),
     Figure::Turn((0, 10), (-10, 0), (0, 0), 5),

@@ -9,6 +9,11 @@ pub const LAYERS: &[Written] = &[
         b"%FSLAX36Y36*%\n%MOMM*%\nM02*\n",
         b"%FSLAX46Y46*%\n%MOMM*%\nG01*\nG75*\nM02*\n",
     ),
+    // file attributes alone are kept, each where its name first stands with the fields written last, as their bytes
+    (
+        b"%TF.A,1*%%FSLAX36Y36*%%MOMM*%G36*%TF.B*%G37*%TF.A,2,3*%%TA.C,1*%%T F d\t,\xc3\xa9 \n*\n%%TF*%G04 c*M02*%TF.E*%",
+        b"%FSLAX46Y46*%\n%MOMM*%\n%TF.A,2,3*%\n%TF.B*%\n%TF d\t,\xc3\xa9 \n*%\n%TF*%\nG01*\nG75*\nM02*\n",
+    ),
     // the point behind an arc, the polarity before a region, the aperture and the mode over one, mirror and turn for
     // flashes and draws alone
     (

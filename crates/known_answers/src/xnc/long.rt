@@ -21,6 +21,15 @@ pub const LONG_FILES: &[(Pieces, Result<usize, (u8, usize)>)] = &[
         ],
         Err((25, 4_000_021)),
     ),
+    // slots
+    (
+        &[
+            (b"M48\nMETRIC\nT1C1\n%\nT1\n", 1),
+            (b"X.0G85Y1.0\n", 1_000_000),
+            (b"X.0G85Y1.0\nM30", 1),
+        ],
+        Err((25, 11_000_021)),
+    ),
     // points of a rout
     (
         &[

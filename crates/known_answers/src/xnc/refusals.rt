@@ -30,7 +30,7 @@ pub const NUMBERS: &[Lines] = &[
     // before any other fault of the line
     (b"", 1, b"M49\x01"),
     (b"M48\n", 1, b"T1C\x01"),
-    (LOWERED, 1, b"G01X\x80"),
+    (LOWERED, 1, b"G01X\x80\nX1.0G85X\x80"),
     // numbers of tools and diameters
     (
         HEADER,
@@ -51,6 +51,13 @@ pub const NUMBERS: &[Lines] = &[
     (LOWERED, 4, b"G01Y1.."),
     (SELECTED, 4, b"X1000.0Y."),
     (BODY, 4, b"X.Y1\nG01X."),
+    (
+        SELECTED,
+        4,
+        b"XG85X1.0\nX1.0YG85X1.0\nX1.0G85X\nX1.0G85X1.0Y1..0\nX1G85Y.\nX1000.0G85Y-",
+    ),
+    (BODY, 4, b"X1G85Y"),
+    (LOWERED, 4, b"X.G85Y1.0"),
     // the unit
     (b"M48\n", 6, b"T1C0.8\n%\nT1C0"),
     (b"M48\nFMAT,2\nG90\n", 6, b"%"),
@@ -63,7 +70,7 @@ pub const FORMS: &[Lines] = &[
         b"M48\nMETRIC,TZ\n",
         41,
         b"M48\nG05\nM30\nT1\nX1.0\nM15\nMETRIC,TX\nMETRIC,\nMETRIC,LZ,TZ\nFMAT,1\nFMAT\nFMAT,02\nINCH\n\
-          INCH,LZ\nINCH,TZ\nmetric\n%%\nG91\nT1C1F2\nT1F2\nt1C1\nICI,OFF\nM95",
+          INCH,LZ\nINCH,TZ\nmetric\n%%\nG91\nT1C1F2\nT1F2\nt1C1\nICI,OFF\nM95\nX1.0G85X2.0",
     ),
     (b"M48\nINCH\n", 41, b"METRIC"),
     // lines that the body has not
@@ -72,10 +79,18 @@ pub const FORMS: &[Lines] = &[
         41,
         b"%\nMETRIC\nINCH\nM48\nT1C0.8\nT1F2\nT1X1.0\nG5\nG90.\nG090\nG005\nM2\nM030\nM17\nM00\nM15X1.0\n\
           M30X\nG00\nG01\nG0X1.0\nG1X1.0\nG2X1.0\nG05X1.0\nY1.0X1.0\nX1.0X2.0\nX1.0Y2.0Z3.0\nX1.0,Y2.0\n\
-          x1.0\nG00Y1.0X1.0\nG01A1.0\nG85X1.0\nX1.0Y1.0G85X2.0Y1.0\nR2X1.0\nG93X0.0Y0.0\nF100\nS1\n\
+          x1.0\nG00Y1.0X1.0\nG01A1.0\nR2X1.0\nG93X0.0Y0.0\nF100\nS1\n\
           M47,text\nFMAT,1",
     ),
-    (LOWERED, 41, b"G00\nF100"),
+    (LOWERED, 41, b"G00\nF100\nX1.0G85"),
+    // what is no slot
+    (
+        SELECTED,
+        41,
+        b"G85\nG85X1.0\nX1.0G85\nX1.0Y1.0G\nX1.0G8\nX1.0G8X5.0\nX1.0G085X2.0\nX1.0G850X2.0\nX1.0G86X2.0\n\
+          Y1.0X1.0G85X2.0\nX1.0G85Y1.0X2.0\nX1.0G85X2.0G85X3.0\nX1.0G85X2.0Z1.0\nX1.0,G85X2.0\nX1.0G85,X2.0\n\
+          X1.0G85M15\nG05X1.0G85X2.0\nG00X1.0G85X2.0\nT1X1.0G85X2.0\nX1.0g85X2.0",
+    ),
 ];
 
 /// Lines that do not go with what stands before them.
@@ -87,9 +102,18 @@ pub const STATES: &[Lines] = &[
         b"X1000.0\nX-1000.\nY999.9999995\nY-999.9999995\nX0.0Y999999.9\nX1000.0Y1\nG01X1000.0",
     ),
     (b"M48\nINCH\nT1C0.1\n%\nT1\n", 23, b"X39.37007874"),
-    (BODY, 23, b"G00X1000.0\nX1000.0"),
+    (BODY, 23, b"G00X1000.0\nX1000.0\nX1.0G85X1000.0"),
+    (
+        SELECTED,
+        23,
+        b"X1000.0G85X1.0\nX1.0G85X1000.0\nX1.0Y1.0G85Y-1000.0\nY1000.0G85X1\nX1G85X1000.0",
+    ),
     (RAISED, 23, b"G01X-1000.0"),
-    (LOWERED, 23, b"G01Y-1000.0\nG01X1000.0Y1\nG00X1000.0"),
+    (
+        LOWERED,
+        23,
+        b"G01Y-1000.0\nG01X1000.0Y1\nG00X1000.0\nX1.0G85Y1000.0",
+    ),
     // diameters
     (
         HEADER,
@@ -107,26 +131,40 @@ pub const STATES: &[Lines] = &[
     (LOWERED, 42, b"T2"),
     (b"M48\nMETRIC\nT1C0.8\n", 43, b"T1C0.8"),
     (b"M48\nMETRIC\nT1C0.8\nT2C1\n", 43, b"T0001C0.9"),
-    (BODY, 44, b"X1.0\nX1\nM15"),
+    (BODY, 44, b"X1.0\nX1\nM15\nX1.0Y1.0G85X3.0Y1.0\nX1G85X2.0"),
     (b"M48\nMETRIC\nT1C0.8\n%\nT1\nX1.0\nT0\n", 44, b"X1.0"),
     (b"M48\nMETRIC\nT1C0.8\n%\nT1\nT000\n", 44, b"Y1.0"),
-    (b"M48\nMETRIC\nT1C0.8\n%\nG00X1.0\n", 44, b"M15"),
+    (
+        b"M48\nMETRIC\nT1C0.8\n%\nG00X1.0\n",
+        44,
+        b"M15\nX1.0G85X2.0",
+    ),
     // coordinates without a point
     (
         SELECTED,
         45,
         b"X10Y10\nX1.0Y10\nX10Y1.0\nY-5\nX+5\nX0\nX123456789012345678901234567890\nX1000\nG01X1",
     ),
+    (
+        SELECTED,
+        45,
+        b"X1G85X2.0\nX1.0G85X2\nX1.0Y1G85X2.0\nX1.0G85X2.0Y2",
+    ),
     (BODY, 45, b"G00X1"),
-    (LOWERED, 45, b"G01X1\nG00Y1"),
+    (RAISED, 45, b"X1.0G85Y2"),
+    (LOWERED, 45, b"G01X1\nG00Y1\nX1G85Y2.0"),
     // arcs
     (LOWERED, 46, b"G02X1.0Y1.0I0.5\nG03\nG03X1.0A1.0\nG02X1"),
     (BODY, 46, b"G02X1.0"),
     // modes
     (SELECTED, 47, b"M15\nG01X1.0"),
-    (RAISED, 47, b"X1.0\nG01X1.0\nM16"),
-    (LOWERED, 47, b"X1.0\nM15\nG00X1.0\nT1\nT0\nG05\nM30"),
-    (AGAIN, 47, b"X1.0\nG01X1.0\nM16"),
+    (RAISED, 47, b"X1.0\nG01X1.0\nM16\nX1.0G85X2.0"),
+    (
+        LOWERED,
+        47,
+        b"X1.0\nM15\nG00X1.0\nT1\nT0\nG05\nM30\nX1.0G85X2.0",
+    ),
+    (AGAIN, 47, b"X1.0\nG01X1.0\nM16\nX1.0Y1.0G85X3.0Y1.0"),
     (BODY, 47, b"M16"),
     (b"M48\nMETRIC\nT1C0.8\n%\nT1\nG00X0.0\nG05\n", 47, b"M15"),
     (

@@ -8,7 +8,8 @@ returns c =
     let m = c.push.new.self in
     let sound : IsSoundItem l.apertures c.args.item = search rules in
     let room : KeepsLimits l.apertures (l.items.items ++ c.args.item ∷ []) = search rules in
-    let grown = c.layers_stay_sound.ensures.push l.apertures l.items.items c.args.item c.requires sound room in
+    let grown = c.layers_stay_sound.ensures.push l.apertures l.items.items c.args.item c.requires.content sound room in
     let items : m.items.items ≡ l.items.items ++ c.args.item ∷ [] = search rules in
     let entries : m.apertures ≡ l.apertures = search rules in
-    rw (entries, items) grown
+    let kept : m.attributes ≡ l.attributes = search rules in
+    record { attributes = rw kept c.requires.attributes; content = rw (entries, items) grown }
