@@ -34,6 +34,22 @@ const PAST_THE_BOARD: &[u8] =
 const MODAL: &[u8] =
     b"%FSLAX36Y36*%\n%MOMM*%\n%ADD10C,1*%\nD10*\nX0Y0D02*\nX2000000D01*\nY2000000*\nX0*\nY0*\nM02*\n";
 
+/// A slanting draw with a rectangle.
+const RECTANGLE: &[u8] =
+    b"%FSLAX36Y36*%\n%MOMM*%\n%ADD10R,0.4X0.2*%\nD10*\nX0Y0D02*\nX1000000Y1000000D01*\nM02*\n";
+
+/// The same with the rectangle turned.
+const UPRIGHT: &[u8] =
+    b"%FSLAX36Y36*%\n%MOMM*%\n%ADD10R,0.4X0.2*%\n%LR90*%\nD10*\nX0Y0D02*\nX1000000Y1000000D01*\nM02*\n";
+
+/// An arc with a rectangle, which no standard draws.
+const RECTANGLE_ARC: &[u8] =
+    b"%FSLAX36Y36*%\n%MOMM*%\n%ADD10R,0.4X0.2*%\nD10*\nG75*\nG03X0Y1000000I0J500000D01*\nM02*\n";
+
+/// What is written of the slanting draw.
+const RECTANGLE_TEXT: &[u8] =
+    b"%FSLAX46Y46*%\n%MOMM*%\nG01*\nG75*\n%ADD10R,0.400000X0.200000*%\nD10*\nX1000000Y1000000D01*\nM02*\n";
+
 /// Files of draws and arcs.
 pub const STROKES: &[Row] = &[
     Row {
@@ -125,5 +141,43 @@ move top 0 1 0\nlist\n",
         replies: b"ok 1\nok\nok 1\nok\nok 1\nrefused 50\nrefused 23 66\nrefused 65\nok 1 0 0\n",
         refused: 3,
         written: &[("corner", BLACK), ("beside", WHITE)],
+    },
+    Row {
+        name: "a draw with a rectangle covers what its edges pass over, to the nanometre, and not the box of its ends",
+        depth: 100,
+        files: &[("r.gbr", RECTANGLE)],
+        script: b"load top gerber r.gbr\nwrite top text\n\
+window 790000 490000 20000 1 1\nplot top edge\nwindow 790001 490000 20000 1 1\nplot top off\n\
+window -210000 -110000 20000 1 1\nplot top low\nwindow -110000 -210000 20000 1 1\nplot top below\n\
+window -210000 90000 20000 1 1\nplot top high\nwindow -210000 90001 20000 1 1\nplot top above\n\
+window 1190001 1090000 20000 1 1\nplot top beyond\n",
+        replies: b"ok 1\nok 91\nok\nok 1\nok\nok 1\nok\nok 1\nok\nok 1\nok\nok 1\nok\nok 1\nok\nok 1\n",
+        refused: 0,
+        written: &[
+            ("text", RECTANGLE_TEXT),
+            ("edge", BLACK),
+            ("off", WHITE),
+            ("low", BLACK),
+            ("below", WHITE),
+            ("high", BLACK),
+            ("above", WHITE),
+            ("beyond", WHITE),
+        ],
+    },
+    Row {
+        name: "a turned rectangle draws with its sides exchanged, is taken back, and draws no arc",
+        depth: 100,
+        files: &[("u.gbr", UPRIGHT), ("a.gbr", RECTANGLE_ARC)],
+        script: b"load top gerber u.gbr\nwindow -210000 -110000 20000 1 1\nplot top lying\n\
+window -110000 -210000 20000 1 1\nplot top upright\nmove top 0 1000000 0\nplot top moved\nundo\nplot top back\n\
+load arc gerber a.gbr\ninsert top 0 arc 10 1000000 0 0 1000000 0 0 ccw dark\nlist\n",
+        replies: b"ok 1\nok\nok 1\nok\nok 1\nok\nok 1\nok\nok 1\nrefused 16 50\nrefused 63\nok 1 0 1\n",
+        refused: 2,
+        written: &[
+            ("lying", WHITE),
+            ("upright", BLACK),
+            ("moved", WHITE),
+            ("back", BLACK),
+        ],
     },
 ];
