@@ -10,6 +10,8 @@ pub mod countdown;
 pub mod files;
 pub mod out;
 #[cfg(test)]
+mod page;
+#[cfg(test)]
 mod player;
 #[cfg(test)]
 mod specials;

@@ -5,6 +5,21 @@
 //! the commands so far, `Homes` where an object belongs, `Making` what commands make, `Attributes` the attributes of
 //! the file, `Layers` the layer that an object joins, `Faults` what a command may be refused for, `Reading` what the
 //! whole file gives, and `Laws` what holds of that. `specs/Machinery/` ties the running record of the code to them.
+//!
+//! ```rust
+//! use cam_gerber::{ReadFault, read_gerber};
+//! use cam_units::Spot;
+//!
+//! let layer = read_gerber(alloc, b"%FSLAX46Y46*%%MOMM*%%ADD10C,1*%D10*X0Y0D03*M02*")?;
+//! assert!(rt; layer.items().len() == 1);
+//! // places are in half nm: the edge of the disc of 1 mm is black
+//! assert!(rt; layer.black_at(Spot { x: 1_000_000, y: 0 }));
+//! assert!(rt; !layer.black_at(Spot { x: 1_000_001, y: 0 }));
+//!
+//! // the command at fault is told by the number of the fault, and by its place in bytes
+//! let fault = read_gerber(alloc, b"%FSLAX46Y46*%%MOMM*%%XY1*%M02*").err();
+//! assert!(rt; fault == Some(ReadFault { code: 3, at: 22 }));
+//! ```
 #![tactic(auto)]
 
 mod attributes;

@@ -9,6 +9,27 @@
 //! What a picture is stands in `specs/Picture.antt`, its file in `specs/Pbm.antt`, tiles in `specs/Tiles.antt`, what is
 //! kept of them in `specs/Tables.antt`, and what boxes touch in `specs/Touched.antt`. The laws in `specs/TileLaws.antt`
 //! say that clean tiles show the image, whatever is touched and drawn in between.
+//!
+//! ```rust
+//! use cam_gerber::read_gerber;
+//! use cam_tiles::{Raster, Source, Window};
+//!
+//! let layer = read_gerber(alloc, b"%FSLAX46Y46*%%MOMM*%%ADD10C,1*%D10*X0Y0D03*M02*")?;
+//! // three by three pixels of half a millimetre about the disc
+//! let window = Window {
+//!     x: -750_000,
+//!     y: -750_000,
+//!     pitch: 500_000,
+//!     width: 3,
+//!     height: 3,
+//! };
+//! let mut raster = Raster::new(alloc, window)?;
+//! let mut source = Source::gerber(&layer);
+//! assert!(rt; raster.redraw(&mut source, u32::MAX) == 1);
+//! assert!(rt; raster.pixel(0, 1) == Some(true));
+//! let file = raster.to_pbm(alloc)?;
+//! assert!(rt; file.as_slice() == b"P4\n3 3\n\x40\xe0\x40".as_slice());
+//! ```
 #![tactic(auto)]
 
 mod fault;
