@@ -18,7 +18,7 @@
 //!
 //! // the command at fault is told by the number of the fault, and by its place in bytes
 //! let fault = read_gerber(alloc, b"%FSLAX46Y46*%%MOMM*%%XY1*%M02*").err();
-//! assert!(rt; fault == Some(ReadFault { code: 3, at: 22 }));
+//! assert!(rt; fault == Some(ReadFault { code: 3, at: 20 }));
 //! ```
 #![tactic(auto)]
 

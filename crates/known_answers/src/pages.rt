@@ -16,7 +16,7 @@ fn cam_gerber(rt: HostRuntime) -> Result<(), Fail> {
 
     // the command at fault is told by the number of the fault, and by its place in bytes
     let fault = read_gerber(alloc, b"%FSLAX46Y46*%%MOMM*%%XY1*%M02*").err();
-    assert!(rt; fault == Some(ReadFault { code: 3, at: 22 }));
+    assert!(rt; fault == Some(ReadFault { code: 3, at: 20 }));
     Ok(())
 }
 
