@@ -1,0 +1,248 @@
+//! One call fails: the first get, put or say of a script, then the second, until a run meets no failure. It is told at
+//! its line, nothing is lost by it, and the same line is accepted where the script has it again.
+
+use crate::files::MemoryFiles;
+use crate::out::MemoryOut;
+use crate::tables::boards::{CUT_SHORT, DISC, HOLE_AND_SLOT};
+use crate::tables::{BLACK, File, WHITE};
+use cam_station::{Files, Out, RunFault, run};
+use std::alloc::{AllocError, Global};
+use std::process::Abort;
+use std::test::Fail;
+
+/// A line that gets or puts a file, counted from 0, and the line behind it that has it again, if one does: where the
+/// first fails, this one says what the first says otherwise.
+type Call = (usize, Option<usize>);
+
+/// A script, what each of its lines says, which of them get and put files, how many lines are refused, how many gets
+/// find no file, and what the last puts of some paths leave.
+struct Script {
+    text: &'static [u8],
+    replies: &'static [&'static [u8]],
+    gets: &'static [Call],
+    puts: &'static [Call],
+    refused: u64,
+    absent: u64,
+    written: &'static [File],
+}
+
+/// The files that the scripts find.
+const FILES: &[File] = &[
+    ("a.gbr", DISC),
+    ("cut.gbr", CUT_SHORT),
+    ("e.drl", HOLE_AND_SLOT),
+];
+
+/// Lines that are refused beside such as are not.
+const REFUSALS: &Script = &Script {
+    text: b"plot top p\nload top gerber none.gbr\nload top gerber cut.gbr\nload top gerber a.gbr\nload top gerber a.gbr\n\
+plot top p\nwindow 0 0 1 1 1\nplot none p\nplot top p\nplot top p\ndelete top 7\nwrite none t\nwrite top t\nwrite top t\n\
+load top drill e.drl\nundo\nwindow 0 0 1 40000 1\nbegin\nload more drill e.drl\nabort\nlist\n",
+    replies: &[
+        b"refused 60\n",
+        b"refused 82\n",
+        b"refused 26 48\n",
+        b"ok 1\n",
+        b"refused 83\n",
+        b"refused 84\n",
+        b"ok\n",
+        b"refused 60\n",
+        b"ok 1\n",
+        b"ok 0\n",
+        b"refused 61\n",
+        b"refused 60\n",
+        b"ok 70\n",
+        b"ok 70\n",
+        b"refused 83\n",
+        b"refused 70\n",
+        b"refused 50\n",
+        b"ok\n",
+        b"refused 72\n",
+        b"ok\n",
+        b"ok 1 0 0\n",
+    ],
+    gets: &[
+        (1, None),
+        (2, None),
+        (3, Some(4)),
+        (4, None),
+        (14, None),
+        (18, None),
+    ],
+    puts: &[(8, None), (9, None), (12, None), (13, None)],
+    refused: 12,
+    absent: 1,
+    written: &[("p", BLACK)],
+};
+
+/// Edits, and a group of them, that are taken back and made again.
+const HISTORY: &Script = &Script {
+    text: b"load top gerber a.gbr\nload top gerber a.gbr\nload holes drill e.drl\nload holes drill e.drl\n\
+window 990000 990000 20000 1 1\nplot holes h\nplot top p\nmove top 0 1000000 1000000\nplot top p\nplot top q\nbegin\n\
+delete top 0\ndiameter holes 1 500000\nplot holes h\nend\nplot top q\nwrite holes t\nundo\nplot top p\nundo\nplot top q\n\
+write top t\nwrite top t\nredo\nredo\nplot top q\nlist\n",
+    replies: &[
+        b"ok 1\n",
+        b"refused 83\n",
+        b"ok 2\n",
+        b"refused 83\n",
+        b"ok\n",
+        b"ok 1\n",
+        b"ok 1\n",
+        b"ok\n",
+        b"ok 1\n",
+        b"ok 0\n",
+        b"ok\n",
+        b"ok\n",
+        b"ok\n",
+        b"ok 1\n",
+        b"ok\n",
+        b"ok 1\n",
+        b"ok 144\n",
+        b"ok\n",
+        b"ok 1\n",
+        b"ok\n",
+        b"ok 1\n",
+        b"ok 70\n",
+        b"ok 70\n",
+        b"ok\n",
+        b"ok\n",
+        b"ok 1\n",
+        b"ok 2 2 0\n",
+    ],
+    gets: &[(0, Some(1)), (1, None), (2, Some(3)), (3, None)],
+    puts: &[
+        (5, None),
+        (6, None),
+        (8, None),
+        (9, None),
+        (13, None),
+        (15, None),
+        (16, None),
+        (18, None),
+        (20, None),
+        (21, None),
+        (22, None),
+        (25, None),
+    ],
+    refused: 2,
+    absent: 0,
+    written: &[("p", BLACK), ("q", WHITE)],
+};
+
+/// The files, of which the get and the put of these numbers fail, counted from 1 once the files are there.
+fn files(alloc: Global, get: usize, put: usize) -> Result<MemoryFiles, Fail> {
+    let put = if put == 0 { 0 } else { put as u64 + FILES.len() as u64 };
+    let mut files = MemoryFiles::failing(alloc, get as u64, put);
+    for &(path, bytes) in FILES {
+        files.put(path, bytes)?;
+    }
+    Ok(files)
+}
+
+/// All that a script says where a line fails, if one does.
+fn told(alloc: Global, script: &Script, failed: Option<Call>) -> Result<Vec<u8>, AllocError> {
+    let mut told = Vec::new(alloc);
+    for (line, reply) in script.replies.iter().enumerate() {
+        let said = match failed {
+            Some((at, _)) if at == line => b"refused 82\n".as_slice(),
+            Some((at, Some(again))) if again == line => script.replies[at],
+            _ => *reply,
+        };
+        told.extend_from_slice(said)?;
+    }
+    Ok(told)
+}
+
+/// Runs a script over files of which a get or a put fails, and compares what it says, and what it leaves where none of
+/// its last puts failed.
+fn runs(
+    rt: &impl Abort,
+    alloc: Global,
+    script: &Script,
+    mut files: MemoryFiles,
+    failed: Option<Call>,
+) -> Result<(), Fail> {
+    let mut out = MemoryOut::new(alloc);
+    let refused = run(alloc, 100, script.text, &mut files, &mut out)?;
+    let told = told(alloc, script, failed)?;
+    assert_eq!(rt; out.said.as_slice(), told.as_slice(), "{failed:?}");
+    let failures = files.failures();
+    assert!(rt; failures == script.absent + u64::from(failed.is_some()), "{failed:?}");
+    if failed.is_none() {
+        assert!(rt; refused == script.refused, "{refused}");
+        for &(path, bytes) in script.written {
+            let held = files.held.get(path).map(|it| it.as_slice() == bytes);
+            assert!(rt; held == Some(true), "{path}");
+        }
+    }
+    Ok(())
+}
+
+/// Each get fails in turn, then none.
+#[test]
+fn each_get(rt: HostRuntime) -> Result<(), Fail> {
+    let alloc = rt.alloc();
+    for script in [REFUSALS, HISTORY] {
+        for (k, call) in script.gets.iter().enumerate() {
+            // Where there is no file, the failure is counted all the same.
+            if script.replies[call.0] != b"refused 82\n".as_slice() {
+                runs(&rt, alloc, script, files(alloc, k + 1, 0)?, Some(*call))?;
+            }
+        }
+        let none = files(alloc, script.gets.len() + 1, 0)?;
+        runs(&rt, alloc, script, none, None)?;
+    }
+    Ok(())
+}
+
+/// Each put fails in turn, then none.
+#[test]
+fn each_put(rt: HostRuntime) -> Result<(), Fail> {
+    let alloc = rt.alloc();
+    for script in [REFUSALS, HISTORY] {
+        for (k, call) in script.puts.iter().enumerate() {
+            runs(&rt, alloc, script, files(alloc, 0, k + 1)?, Some(*call))?;
+        }
+        let none = files(alloc, 0, script.puts.len() + 1)?;
+        runs(&rt, alloc, script, none, None)?;
+    }
+    Ok(())
+}
+
+/// How a run ends of which the say of this number fails, and what was said before it.
+fn says(alloc: Global, script: &Script, say: usize) -> Result<(Option<u64>, MemoryOut), Fail> {
+    let mut files = files(alloc, 0, 0)?;
+    let mut out = MemoryOut::failing(alloc, say as u64);
+    match run(alloc, 100, script.text, &mut files, &mut out) {
+        Ok(refused) => Ok((Some(refused), out)),
+        Err(RunFault::Output) => Ok((None, out)),
+        Err(fault) => Err(Fail::new(fault)),
+    }
+}
+
+/// Each say fails in turn, and ends the run: what was said before it is said, and nothing more. Then none fails.
+#[test]
+fn each_say(rt: HostRuntime) -> Result<(), Fail> {
+    let alloc = rt.alloc();
+    for script in [REFUSALS, HISTORY] {
+        let told = told(alloc, script, None)?;
+        let mut before = 0;
+        let mut ended = None;
+        // A say has at least one byte.
+        for say in 1..=told.len() + 1 {
+            let (refused, out) = says(alloc, script, say)?;
+            assert!(rt; told.as_slice().starts_with(out.said.as_slice()), "say {say}");
+            if refused.is_some() {
+                assert!(rt; out.failures() == 0 && out.said.len() == told.len(), "say {say}");
+                ended = refused;
+                break;
+            }
+            assert!(rt; out.failures() == 1, "say {say}");
+            assert!(rt; say == 1 || before < out.said.len(), "say {say}");
+            before = out.said.len();
+        }
+        assert!(rt; ended == Some(script.refused), "{ended:?}");
+    }
+    Ok(())
+}
