@@ -6,7 +6,7 @@ mod defining;
 
 use cam_apertures::{AdFault, Aperture, Macros, ad_number, parse_ad};
 use cam_macros::{Macro, PrimShape};
-use cam_units::{Bounds, Point, Spot, Unit};
+use cam_units::{Bounds, Point, Spot, Turn, Unit};
 use covering::{BOXES, NOTHING, PLACES, SOLID, Text};
 use defining::{DEFINITIONS, NUMBERS, Wanted};
 use std::alloc::Global;
@@ -101,22 +101,38 @@ fn covers(rt: HostRuntime) -> Result<(), Fail> {
     Ok(())
 }
 
+/// The box of the aperture that a text defines, once it is turned, if the aperture is sound.
+fn box_of(alloc: Global, text: Text, turn: Turn) -> Result<Option<Bounds>, Fail> {
+    let aperture = aperture_of(alloc, text)?;
+    if !aperture.is_sound() {
+        return Ok(None);
+    }
+    Ok(Some(aperture.bounds(turn)))
+}
+
+/// The box of its copy.
+fn box_of_copy(alloc: Global, text: Text, turn: Turn) -> Result<Option<Bounds>, Fail> {
+    let aperture = aperture_of(alloc, text)?;
+    let copy = aperture.clone()?;
+    if !copy.is_sound() {
+        return Ok(None);
+    }
+    Ok(Some(copy.bounds(turn)))
+}
+
 #[test]
 fn boxes(rt: HostRuntime) -> Result<(), Fail> {
     for &(text, turn, [left, below, right, above]) in BOXES {
-        let aperture = aperture_of(rt.alloc(), text)?;
-        assert!(rt; aperture.is_sound());
-        let wanted = Bounds::Closed {
+        let wanted = Some(Bounds::Closed {
             low: Spot { x: left, y: below },
             high: Spot { x: right, y: above },
-        };
-        assert!(rt; aperture.bounds(turn) == wanted, "{text:?} {turn:?}");
-        let copy = aperture.clone()?;
-        assert!(rt; copy.is_sound());
-        assert!(rt; copy.bounds(turn) == wanted, "a copy of {text:?} {turn:?}");
-        let nothing = aperture_of(rt.alloc(), NOTHING)?;
-        assert!(rt; nothing.is_sound());
-        assert!(rt; nothing.bounds(turn) == Bounds::Empty, "{turn:?}");
+        });
+        let found = box_of(rt.alloc(), text, turn)?;
+        assert!(rt; found == wanted, "{text:?} {turn:?}");
+        let copied = box_of_copy(rt.alloc(), text, turn)?;
+        assert!(rt; copied == wanted, "a copy of {text:?} {turn:?}");
+        let nothing = box_of(rt.alloc(), NOTHING, turn)?;
+        assert!(rt; nothing == Some(Bounds::Empty), "{turn:?}");
     }
     Ok(())
 }

@@ -7,15 +7,19 @@ use crate::gerber::repeats::REPEATS;
 use crate::layers::building::{entry, item};
 use crate::layers::rows::{Entered, Entries, Listed};
 use cam_gerber::read_gerber;
-use cam_objects::{Dictionary, Item, Layer};
+use cam_objects::{Dictionary, Entry, Item, Layer};
 use std::alloc::{AllocError, Global};
 use std::test::Fail;
 
 /// A file, and the layer that it gives: its entries and its items, each in order.
 pub type Given = (&'static [u8], Entries, &'static [Listed]);
 
-/// Whether the place of the dictionary has this entry under this number. Entries have no equality, so their texts are
-/// compared.
+/// Whether two entries are the same. They have no equality, so their texts are compared.
+fn is_same(alloc: Global, found: &Entry, wanted: &Entry) -> Result<bool, AllocError> {
+    Ok(format!(in alloc; "{found:?}")? == format!(in alloc; "{wanted:?}")?)
+}
+
+/// Whether the place of the dictionary has this entry under this number.
 fn is_entry(
     alloc: Global,
     entries: &Dictionary,
@@ -25,9 +29,7 @@ fn is_entry(
 ) -> Result<bool, AllocError> {
     let wanted = entry(alloc, entered)?;
     match entries.at(place) {
-        Some((found, entry)) => Ok(
-            found == number && format!(in alloc; "{entry:?}")? == format!(in alloc; "{wanted:?}")?,
-        ),
+        Some((found, held)) => Ok(found == number && is_same(alloc, held, &wanted)?),
         None => Ok(false),
     }
 }

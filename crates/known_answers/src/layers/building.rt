@@ -105,24 +105,40 @@ fn copies(alloc: Global, times: u32, drawn: &Drawn) -> Result<Objects, AllocErro
     Ok(Objects::from_vec(objects))
 }
 
-pub(crate) fn entry(alloc: Global, entered: &Entered) -> Result<Entry, AllocError> {
+/// The aperture that an entry is, if it is no block.
+fn aperture(entered: &Entered) -> Option<Aperture> {
     match entered {
-        Entered::Circle(diameter, hole) => Ok(Entry::Aperture(Aperture::Circle {
+        Entered::Circle(diameter, hole) => Some(Aperture::Circle {
             diameter: Nm(*diameter),
             hole: Nm(*hole),
-        })),
-        Entered::Rect(width, height, hole) => Ok(Entry::Aperture(Aperture::Rect {
+        }),
+        Entered::Rect(width, height, hole) => Some(Aperture::Rect {
             width: Nm(*width),
             height: Nm(*height),
             hole: Nm(*hole),
-        })),
-        Entered::Obround(width, height, hole) => Ok(Entry::Aperture(Aperture::Obround {
+        }),
+        Entered::Obround(width, height, hole) => Some(Aperture::Obround {
             width: Nm(*width),
             height: Nm(*height),
             hole: Nm(*hole),
-        })),
-        Entered::Block(drawn) => Ok(Entry::Block(objects(alloc, drawn)?)),
-        Entered::Many(times, drawn) => Ok(Entry::Block(copies(alloc, *times, drawn)?)),
+        }),
+        Entered::Block(_) | Entered::Many(..) => None,
+    }
+}
+
+/// The objects of a block.
+fn block(alloc: Global, entered: &Entered) -> Result<Objects, AllocError> {
+    match entered {
+        Entered::Block(drawn) => objects(alloc, drawn),
+        Entered::Many(times, drawn) => copies(alloc, *times, drawn),
+        _ => Ok(Objects::from_vec(Vec::new(alloc))),
+    }
+}
+
+pub(crate) fn entry(alloc: Global, entered: &Entered) -> Result<Entry, AllocError> {
+    match aperture(entered) {
+        Some(aperture) => Ok(Entry::Aperture(aperture)),
+        None => Ok(Entry::Block(block(alloc, entered)?)),
     }
 }
 
