@@ -1,2 +1,3 @@
 pub mod PlainCalls
+pub mod Silence
 pub mod Values

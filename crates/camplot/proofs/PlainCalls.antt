@@ -15,7 +15,7 @@ use Rattle.clap.specs.Words.{Text, is_simple}
 use Rattle.clap.specs.declared.builder.value_parser.ValueParser.TheVariants.{Signed}
 use Rattle.clap.proofs.OnLiterals.{clap_on_literals}
 use Rattle.clap.proofs.ValueTestLemmas.{Accepts-accepts}
-use Rattle.camplot.specs.Synopsis.{IsCallFor, IsPlainPath, camplot, number_written, plain_call}
+use Rattle.camplot.specs.Synopsis.{IsCallFor, IsPlainPath, camplot, explain_text, explained_call, number_written, plain_call}
 
 -- the command line is of the kind for which clap gives the matches and the faults exactly
 pub camplot_simple : is_simple camplot ≡ true
@@ -74,17 +74,33 @@ module _ (name : Text) (x : ℕ) (rest : Text) (path : (x == 45) ≡ false) wher
     in_range = (omega arith, omega arith);
   }
 
+  alone_unasked : explain_text (name ∷ (x ∷ rest) ∷ []) ≡ Some (codes "false")
+  unfolding clap_on_literals
+  alone_unasked = simp path refl
+
+  alone_asked : explain_text (name ∷ (x ∷ rest) ∷ codes "--explain" ∷ []) ≡ Some (codes "true")
+  unfolding clap_on_literals
+  alone_asked = simp path refl
+
   module _ (text : Text) (no_option : strip_byte 45 text ≡ None) (no_escape : bytes_eq text (45 ∷ 45 ∷ []) ≡ false)
       (taken : is_signed_in (pos 1) (pos 1000) text ≡ true) where
     script_and_depth : (depth : ℕ) → number_written text ≡ depth → (1 ≤ depth) × (depth ≤ 1000)
         → IsCallFor (name ∷ (x ∷ rest) ∷ codes "--depth" ∷ text ∷ []) (x ∷ rest) depth
     unfolding clap_on_literals
     script_and_depth depth value range = record {
-      accepted = simp (path, no_option, no_escape, taken) refl;
+      accepted = simp path (simp no_option (simp no_escape (rw taken refl)));
       script = simp (path, no_option, no_escape) refl;
       number = simp (path, no_option, no_escape) (ap (λ n. Some n) value);
       in_range = range;
     }
+
+    depth_unasked : explain_text (name ∷ (x ∷ rest) ∷ codes "--depth" ∷ text ∷ []) ≡ Some (codes "false")
+    unfolding clap_on_literals
+    depth_unasked = simp (path, no_option, no_escape) refl
+
+    depth_asked : explain_text (name ∷ (x ∷ rest) ∷ codes "--depth" ∷ text ∷ codes "--explain" ∷ []) ≡ Some (codes "true")
+    unfolding clap_on_literals
+    depth_asked = simp (path, no_option, no_escape) refl
 
 -- a plain call is a call for the script and the depth that stand in it
 pub plain_is_call : (name script : Text) (depth : Option ℕ) → IsPlainPath script → IfSome depth (λ n. (1 ≤ n) × (n ≤ 1000))
@@ -95,3 +111,23 @@ plain_is_call name (x ∷ rest) (Some n) path range =
     let digits = decimal_is_IsNumeral n (omega (arith, range)) in
     let word = depth_word (decimal n) n digits.0 digits.1 range in
     script_and_depth name x rest (ne_eqb _ _ path) (decimal n) word.no_option word.no_escape word.taken n word.value range
+
+-- such a call asks for no explanations
+pub plain_is_unasked : (name script : Text) (depth : Option ℕ) → IsPlainPath script → IfSome depth (λ n. (1 ≤ n) × (n ≤ 1000))
+    → explain_text (plain_call name script depth) ≡ Some (codes "false")
+plain_is_unasked name [] depth path range = absurd path
+plain_is_unasked name (x ∷ rest) None path range = alone_unasked name x rest (ne_eqb _ _ path)
+plain_is_unasked name (x ∷ rest) (Some n) path range =
+    let digits = decimal_is_IsNumeral n (omega (arith, range)) in
+    let word = depth_word (decimal n) n digits.0 digits.1 range in
+    depth_unasked name x rest (ne_eqb _ _ path) (decimal n) word.no_option word.no_escape word.taken
+
+-- and with `--explain` behind it, it does
+pub explained_is_asked : (name script : Text) (depth : Option ℕ) → IsPlainPath script → IfSome depth (λ n. (1 ≤ n) × (n ≤ 1000))
+    → explain_text (explained_call name script depth) ≡ Some (codes "true")
+explained_is_asked name [] depth path range = absurd path
+explained_is_asked name (x ∷ rest) None path range = alone_asked name x rest (ne_eqb _ _ path)
+explained_is_asked name (x ∷ rest) (Some n) path range =
+    let digits = decimal_is_IsNumeral n (omega (arith, range)) in
+    let word = depth_word (decimal n) n digits.0 digits.1 range in
+    depth_asked name x rest (ne_eqb _ _ path) (decimal n) word.no_option word.no_escape word.taken

@@ -1,3 +1,4 @@
 pub mod Disk
 pub mod Endings
+pub mod Explanations
 pub mod Synopsis

@@ -1,11 +1,12 @@
--- The synopsis of the program, `camplot SCRIPT [--depth N]`, and what a call by it means.
-use Rattle.std.specs.Prelude.{◌≡◌, ◌≢◌, ◌≤◌, ℕ, List, [], ◌∷◌, Option, Some, None, true, pos}
+-- The synopsis of the program, `camplot SCRIPT [--depth N] [--explain]`, and what a call by it means.
+use Rattle.std.specs.Prelude.{◌≡◌, ◌≢◌, ◌≤◌, ℕ, Bool, List, [], ◌∷◌, ◌++◌, Option, Some, None, true, false, pos}
 use Rattle.std.specs.Prelude.{codes, decimal, option_map}
 use Rattle.std.specs.Str.Parse.{digits_value, without_leading_plus}
 use Rattle.clap.specs.Words.{App, HasKind, Rule, Text, first_of, kind_of, matches_of, new_app}
 use Rattle.clap.specs.Words.{new_rule, one_of, with_rule}
+use Rattle.clap.specs.Simple.{on_top}
 use Rattle.clap.specs.Faults.{fault_of}
-use Rattle.clap.specs.declared.builder.action.ArgAction.TheVariants.{Set}
+use Rattle.clap.specs.declared.builder.action.ArgAction.TheVariants.{Set, SetTrue}
 use Rattle.clap.specs.declared.builder.value_parser.ValueParser.TheVariants.{Signed}
 use Rattle.clap.specs.declared.error.kind.ErrorKind.TheVariants.{OutOfMemory}
 use Rattle.camplot.specs.declared.options.OptionsFault.{OptionsFault}
@@ -29,9 +30,21 @@ depth_option = record (new_rule (codes "depth")) {
   parser = Some (Signed (pos 1) (pos 1000));
 }
 
+-- --explain: a flag
+abbrev pub explain_option : Rule
+explain_option = record (new_rule (codes "explain")) {
+  long = Some (codes "explain");
+  action = Some SetTrue;
+}
+
+-- the command that has a version to tell, by --version
+abbrev pub with_version : App → App
+with_version a = on_top (λ s. record s { has_version = true }) a
+
 -- the program's command line, as clap reads it
 abbrev pub camplot : App
-camplot = with_rule (with_rule (new_app (codes "camplot")) script_argument) depth_option
+camplot =
+    with_rule (with_rule (with_rule (with_version (new_app (codes "camplot"))) script_argument) depth_option) explain_option
 
 -- the number that decimal digits write; a `+` may stand before them
 abbrev pub number_written : Text → ℕ
@@ -45,6 +58,15 @@ pub record IsCallFor (words : List Text) (path : Text) (depth : ℕ) : Type 0 wh
       ≡ Some depth
   pub in_range : (1 ≤ depth) × (depth ≤ 1000)
 
+-- the value of `--explain`, `true` or `false`, as clap writes it
+abbrev pub explain_text : List Text → Option Text
+explain_text words = one_of (codes "explain") (matches_of camplot words)
+
+-- the words ask for explanations, or they do not
+pub record Asks (words : List Text) (explain : Bool) : Type 0 where
+  pub asked : explain_text words ≡ Some (codes "true") → explain ≡ true
+  pub unasked : explain_text words ≡ Some (codes "false") → explain ≡ false
+
 -- a path that can stand for itself: it is not empty, and does not begin with `-` (45)
 abbrev pub IsPlainPath : Text → Type 0
 IsPlainPath [] = ⊥
@@ -54,6 +76,10 @@ IsPlainPath (first ∷ rest) = first ≢ 45
 abbrev pub plain_call : Text → Text → Option ℕ → List Text
 plain_call name script None = name ∷ script ∷ []
 plain_call name script (Some depth) = name ∷ script ∷ codes "--depth" ∷ decimal depth ∷ []
+
+-- the same with `--explain` behind it
+abbrev pub explained_call : Text → Text → Option ℕ → List Text
+explained_call name script depth = plain_call name script depth ++ codes "--explain" ∷ []
 
 -- memory ran out
 abbrev pub IsOfMemory : OptionsFault → Type 0

@@ -1,18 +1,24 @@
-//! `camplot SCRIPT [--depth N]` runs a script of edits and plots over the layers of a printed circuit
-//! board, and says one reply line for each line that is neither empty nor a comment.
+//! `camplot SCRIPT [--depth N] [--explain]` runs a script of edits and plots over the layers of a printed circuit
+//! board, and says one reply line for each line that is neither empty nor a comment. With `--explain` it says on
+//! standard error why each refused line was refused.
 //!
 //! Its exit status is 0 where no line was refused, 1 where some line was, and 2 where the call is
 //! refused, the script cannot be read, memory or the output failed.
 #![tactic(auto)]
 
 mod ending;
+mod explain;
+mod help;
 mod options;
 mod reading;
 mod script;
 mod system;
 
-use options::{OptionsFault, options};
-use script::run_script;
+use cam_station::FileFault;
+use ending::Ending;
+use explain::{Margin, why_no_script};
+use options::{Call, OptionsFault, options};
+use script::{run_explained, run_script};
 use std::process::ExitCode;
 use std::{env, io};
 use system::{Disk, Screen};
@@ -26,6 +32,22 @@ fn words(rt: &HostRuntime) -> io::Result<Vec<String>> {
     Ok(env::args(rt)?.collect(rt.alloc())?)
 }
 
+/// Runs the script as the call says, over the system's files and streams.
+fn run(rt: &HostRuntime, call: &Call) -> Ending {
+    let alloc = rt.alloc();
+    let mut input = rt.stdin();
+    let mut out = Screen::new(io::writer(rt));
+    if call.explain {
+        // Files of a type of their own: so the code of a plain run has one caller, where it is inlined.
+        let mut files = Disk::new(&rt);
+        let margin = Margin::new(rt, rt.stderr());
+        let (ending, _) = run_explained(alloc, call, &mut files, &mut input, out, margin);
+        return ending;
+    }
+    let mut files = Disk::new(rt);
+    run_script(alloc, call, &mut files, &mut input, &mut out)
+}
+
 // A text that cannot be printed changes no exit status.
 fn main(rt: HostRuntime) -> ExitCode {
     let words = match words(&rt) {
@@ -35,8 +57,8 @@ fn main(rt: HostRuntime) -> ExitCode {
             return ExitCode::from(NOT_RUN);
         }
     };
-    let options = match options(rt.alloc(), words.as_slice()) {
-        Ok(options) => options,
+    let call = match options(rt.alloc(), words.as_slice()) {
+        Ok(call) => call,
         Err(OptionsFault::Refused(error)) => {
             let _ = error.print(&rt);
             return ExitCode::from(error.exit_code() as u8);
@@ -46,11 +68,14 @@ fn main(rt: HostRuntime) -> ExitCode {
             return ExitCode::from(NOT_RUN);
         }
     };
-    let mut files = Disk::new(&rt);
-    let mut out = Screen::new(io::writer(&rt));
-    let ending = run_script(rt.alloc(), &options, &mut files, &mut out);
+    let ending = run(&rt, &call);
     if let Some(complaint) = ending.complaint() {
         let _ = eprintln!(rt; "camplot: {complaint}");
+    }
+    if call.explain && ending == Ending::Unread(FileFault::Failed) {
+        let path = call.script.as_str();
+        let why = why_no_script(&rt, path);
+        let _ = eprintln!(rt; "camplot: {path}: {why}");
     }
     ExitCode::from(ending.status())
 }

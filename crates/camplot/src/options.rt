@@ -1,15 +1,28 @@
-//! The words that the program is called with, `camplot SCRIPT [--depth N]`.
+//! The words that the program is called with, `camplot SCRIPT [--depth N] [--explain]`.
 
-ghost use Rattle.std.specs.Prelude.{◌≡◌, ◌≤◌, ℕ, [], false, Option, map, unwrap_or, string_bytes};
+ghost use Rattle.std.specs.Prelude.{◌≡◌, ◌≤◌, ℕ, [], true, false, Option, map, unwrap_or, string_bytes};
 ghost use Rattle.std.specs.Prelude.{IfOk, IfErr, IfSome, MatchResult};
 ghost use Rattle.clap.specs.Words.{Text, app_of, rule_of};
 ghost use Rattle.clap.specs.Faults.{fault_of};
-ghost use Rattle.camplot.specs.Synopsis.{IsCallFor, IsFaultIn, IsOfMemory, IsPlainPath};
-ghost use Rattle.camplot.specs.Synopsis.{camplot, depth_option, plain_call, script_argument};
+ghost use Rattle.camplot.specs.Synopsis.{Asks, IsCallFor, IsFaultIn, IsOfMemory, IsPlainPath};
+ghost use Rattle.camplot.specs.Synopsis.{camplot, depth_option, explain_option, explained_call, plain_call};
+ghost use Rattle.camplot.specs.Synopsis.{script_argument};
 ghost use Rattle.camplot.specs.declared.options.OptionsFault.TheVariants.{Refused, Memory};
 
+use crate::help::{AFTER_HELP, VERSION};
 use clap::{Arg, ArgAction, Command, value_parser};
 use std::alloc::{AllocError, Global};
+
+/// What a call of the program asks for.
+#[derive(Drop)]
+pub struct Call {
+    /// The path of the script; `-` is the standard input.
+    pub script: String,
+    /// How many edits and groups can be taken back.
+    pub depth: u32,
+    /// Whether refused lines are explained on standard error.
+    pub explain: bool,
+}
 
 /// Why a call of the program gives no options.
 #[derive(Drop)]
@@ -44,7 +57,7 @@ fn script_argument<'a>(alloc: Global) -> Arg<'a>
 {
     Arg::new(alloc, "script")
         .value_name("SCRIPT")
-        .help("The script of commands to run")
+        .help("The script of commands to run; - is standard input")
         .required(true)
         .action(ArgAction::Set)
 }
@@ -63,32 +76,61 @@ fn depth_option<'a>(alloc: Global) -> Arg<'a>
         .default_value("100")
 }
 
+/// `--explain`, a flag.
+fn explain_option<'a>(alloc: Global) -> Arg<'a>
+    ensures rule { rule_of result ≡ explain_option }
+    ensures local { result.global ≡ false }
+{
+    Arg::new(alloc, "explain")
+        .long("explain")
+        .help("Say on standard error why each refused line was refused, and what to do")
+        .action(ArgAction::SetTrue)
+}
+
 /// The program's command line; an `Err` is for memory.
 fn command<'a>(alloc: Global) -> Result<Command<'a>, AllocError>
     ensures { IfOk result (λ made. app_of made ≡ camplot) }
 {
     Command::new(alloc, "camplot")
         .about("Edits and plots the layers of a printed circuit board")
+        .version(VERSION)
+        .after_help(AFTER_HELP)
         .arg(script_argument(alloc))?
-        .arg(depth_option(alloc))
+        .arg(depth_option(alloc))?
+        .arg(explain_option(alloc))
 }
 
-/// The path of the script and the undo depth, from 1 to 1,000, that the words ask for. The first
-/// word is the program's name. The error is `Refused` where clap takes no such words or has no memory
+/// The path of the script, the undo depth, from 1 to 1,000, and whether refused lines are explained, as the words ask
+/// for. The first word is the program's name. The error is `Refused` where clap takes no such words or has no memory
 /// to read them, and `Memory` where there is none for the command or the path.
-pub fn options(alloc: Global, words: &[String]) -> Result<(String, u32), OptionsFault>
-    ensures given { IfOk result (λ r. IsCallFor (map string_bytes words.now) (string_bytes r.0) r.1) }
+pub fn options(alloc: Global, words: &[String]) -> Result<Call, OptionsFault>
+    ensures given { IfOk result
+        (λ r. IsCallFor (map string_bytes words.now) (string_bytes r.script) r.depth) }
+    ensures explain { IfOk result (λ r. Asks (map string_bytes words.now) r.explain) }
     ensures accepted { fault_of camplot (map string_bytes words.now) ≡ []
         → IfErr result IsOfMemory }
     ensures refused { IfErr result (IsFaultIn (map string_bytes words.now)) }
     ensures plain { (name script : Text) (depth : Option ℕ) → IsPlainPath script
         → IfSome depth (λ n. (1 ≤ n) × (n ≤ 1000))
         → map string_bytes words.now ≡ plain_call name script depth
-        → MatchResult result (λ r. (string_bytes r.0 ≡ script) × (r.1 ≡ unwrap_or depth 100))
+        → MatchResult result (λ r. (string_bytes r.script ≡ script) × (r.depth ≡ unwrap_or depth 100))
         IsOfMemory }
+    ensures unasked { (name script : Text) (depth : Option ℕ) → IsPlainPath script
+        → IfSome depth (λ n. (1 ≤ n) × (n ≤ 1000))
+        → map string_bytes words.now ≡ plain_call name script depth
+        → IfOk result (λ r. r.explain ≡ false) }
+    ensures asked { (name script : Text) (depth : Option ℕ) → IsPlainPath script
+        → IfSome depth (λ n. (1 ≤ n) × (n ≤ 1000))
+        → map string_bytes words.now ≡ explained_call name script depth
+        → IfOk result (λ r. r.explain ≡ true) }
 {
     let matches = command(alloc)?.try_get_matches_from(words)?;
     let script = matches.get_str("script").unwrap();
     let depth = matches.get_one::<u32>("depth").unwrap();
-    Ok((script.to_string(alloc)?, depth))
+    let explain = matches.get_flag("explain");
+    Ok(Call {
+        script: script.to_string(alloc)?,
+        depth,
+        explain,
+    })
 }

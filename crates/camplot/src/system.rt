@@ -3,7 +3,7 @@
 //! No clause can say what the system's files hold, so its files tell nothing of it; what is read from a reader and said
 //! to a writer is told as far as these tell it.
 
-ghost use Rattle.std.specs.Prelude.{◌≡◌, ◌≤◌, length, IfOk};
+ghost use Rattle.std.specs.Prelude.{◌≡◌, ◌≤◌, length, IfOk, IfSome};
 ghost use Rattle.camplot.specs.Disk.{file_limit};
 
 use crate::reading::{fault_of, read_all, write_whole};
@@ -14,7 +14,7 @@ use std::io::Write;
 use std::rt::Files as SystemFiles;
 
 /// The longest file that is read, in bytes.
-const FILE_LIMIT: usize = 268_435_456;
+pub const FILE_LIMIT: usize = 268_435_456;
 
 /// The bytes of the file at this path; a file of more than 268,435,456 bytes has failed.
 fn read_file<R: SystemFiles>(rt: &R, alloc: Global, path: &str) -> Result<Vec<u8>, FileFault>
@@ -24,6 +24,17 @@ fn read_file<R: SystemFiles>(rt: &R, alloc: Global, path: &str) -> Result<Vec<u8
         Ok(mut file) => read_all(alloc, &mut file, FILE_LIMIT),
         Err(error) => Err(fault_of(&error)),
     }
+}
+
+/// The bytes of the file at this path, where it is one that can be read again: a pipe would wait for more, or be empty.
+pub fn read_again<R: SystemFiles>(rt: &R, alloc: Global, path: &str) -> Option<Vec<u8>>
+    ensures { IfSome result (λ bytes. length bytes.items ≤ file_limit) }
+{
+    let about = fs::metadata(rt, path).ok()?;
+    if !about.is_file() {
+        return None;
+    }
+    read_file(rt, alloc, path).ok()
 }
 
 /// Writes the file at this path anew.

@@ -4,12 +4,12 @@ use Rattle.std.specs.Prelude.{Some, option_map, unwrap_or}
 use Rattle.std.specs.Result.{IsErr}
 use Rattle.std.specs.Str.Parse.{ExplainsUnsignedError, HasUnsignedDigitsIfOk, ParsesUnsigned}
 use Rattle.std.specs.declared.num.ParseIntError.{ParseIntError}
-use Rattle.clap.specs.Words.{App, Text, app_of, first_of, found_of, is_simple, matches_of, one_of, rows_of}
+use Rattle.clap.specs.Words.{App, Text, app_of, first_of, found_of, is_simple, matches_of, one_of, one_text, rows_of}
 use Rattle.clap.specs.Faults.{fault_of, is_simple_and_free}
 use Rattle.clap.proofs.CallerLemmas.{some_of_text}
 use Rattle.clap.proofs.WalkLemmas.{first_value-rows, one_text-rows}
-use Rattle.camplot.specs.Synopsis.{IsCallFor, IsOfMemory, camplot, number_written}
-use Rattle.camplot.proofs.PlainCalls.{camplot_free, camplot_simple, plain_is_call, same_call}
+use Rattle.camplot.specs.Synopsis.{IsCallFor, IsOfMemory, camplot, explain_text, number_written}
+use Rattle.camplot.proofs.PlainCalls.{camplot_free, camplot_simple, explained_is_asked, plain_is_call, plain_is_unasked, same_call}
 use Rattle.camplot.proofs.Values.{IsNumberOf, depth_has_value, depth_number, script_has_value}
 use Rattle.camplot.proofs.options.options.Goals as goal
 
@@ -63,3 +63,25 @@ returns-clause-plain c name script depth path range is =
     let call = subst (λ (ws : List Text). IsCallFor ws script (unwrap_or depth 100)) (sym is)
     (plain_is_call name script depth path range) in
     same_call words _ _ _ _ (returns-clause-given c) call
+
+pub returns-clause-explain : goal.returns-clause-explain
+returns-clause-explain c =
+    let words : List Text = map string_bytes c.args.words.now in
+    let app : app_of c.in_ok-command.field-0 ≡ camplot = c.in_ok-command.ensures in
+    let f = found_of c.in_ok-matches.matches in
+    let rows : rows_of f ≡ matches_of camplot words =
+    (c.in_ok-matches.ensures.matches (ap is_simple app ∙ camplot_simple)).0 ∙ ap (λ (a : App). matches_of a words) app in
+    let is : one_text f (codes "explain") ≡ explain_text words =
+    one_text-rows f (codes "explain") ∙ ap (one_of (codes "explain")) rows in
+    record {
+      asked = λ text. c.get_flag-explain.ensures.value (is ∙ text);
+      unasked = λ text. c.get_flag-explain.ensures.other (is ∙ text);
+    }
+
+pub returns-clause-unasked : goal.returns-clause-unasked
+returns-clause-unasked c name script depth path range is =
+    (returns-clause-explain c).unasked (ap explain_text is ∙ plain_is_unasked name script depth path range)
+
+pub returns-clause-asked : goal.returns-clause-asked
+returns-clause-asked c name script depth path range is =
+    (returns-clause-explain c).asked (ap explain_text is ∙ explained_is_asked name script depth path range)
