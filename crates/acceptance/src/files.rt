@@ -1,7 +1,7 @@
 //! Files in memory.
 
 ghost use Rattle.std.specs.Prelude.{◌≡◌, IfOk};
-ghost use Rattle.acceptance.specs.Memory.{IsEmpty};
+ghost use Rattle.acceptance.specs.InMemory.{IsEmpty};
 
 use crate::countdown::Countdown;
 use cam_station::{Bytes, FileFault, Files};
@@ -50,7 +50,7 @@ fn copy_of(alloc: Global, bytes: &[u8]) -> Result<Bytes, AllocError>
 
 impl Files for MemoryFiles {
     ghost use Rattle.std.specs.Prelude.{◌≡◌, IfErr, IfOk, MatchResult, OnErr, OnOk};
-    ghost use Rattle.cam_station.specs.Contents.{
+    ghost use Rattle.cam_station.specs.Files.{
       FailsIfAbsent,
       HasRisenBy,
       Holds,
@@ -58,25 +58,25 @@ impl Files for MemoryFiles {
       Stored,
       failures_of,
     };
-    ghost use Rattle.acceptance.specs.Memory.{
+    ghost use Rattle.acceptance.specs.InMemory.{
       FailsBy,
       IsAfterGet,
       IsAfterPut,
       KeepsFiles,
-      contents_of,
       failed_calls,
       get_of,
       put_of,
+      told_files,
     };
 
-    ghost contents = { contents_of };
+    ghost contents = { told_files };
 
     ghost failed = { failed_calls };
 
     fn get(&mut self, alloc: Global, path: &str) -> Result<Vec<u8>, FileFault>
-        ensures kept { contents_of self.new ≡ contents_of self.old }
-        ensures held { IfOk result (λ bytes. Holds (contents_of self.old) path.now bytes.items) }
-        ensures absent { IfErr result (λ fault. FailsIfAbsent (contents_of self.old) path.now fault) }
+        ensures kept { told_files self.new ≡ told_files self.old }
+        ensures held { IfOk result (λ bytes. Holds (told_files self.old) path.now bytes.items) }
+        ensures absent { IfErr result (λ fault. FailsIfAbsent (told_files self.old) path.now fault) }
         ensures counted { HasRisenBy (failures_of result) (failed_calls self.old) (failed_calls self.new) }
         // Memory alone can be wanting where the file is there.
         ensures exact { MatchResult result
@@ -102,9 +102,9 @@ impl Files for MemoryFiles {
 
     fn put(&mut self, path: &str, bytes: &[u8]) -> Result<(), FileFault>
         ensures stored { OnOk result
-            (Stored (contents_of self.old) (contents_of self.new) path.now bytes.now) }
+            (Stored (told_files self.old) (told_files self.new) path.now bytes.now) }
         ensures lost { OnErr result
-            (MayHaveStored (contents_of self.old) (contents_of self.new) path.now) }
+            (MayHaveStored (told_files self.old) (told_files self.new) path.now) }
         ensures counted { HasRisenBy (failures_of result) (failed_calls self.old) (failed_calls self.new) }
         ensures exact { MatchResult result
             (λ done. put_of self.old ≡ Ok done)

@@ -1,6 +1,6 @@
 //! An output in memory.
 
-ghost use Rattle.acceptance.specs.Memory.{IsSilent};
+ghost use Rattle.acceptance.specs.InMemory.{IsSilent};
 
 use crate::countdown::Countdown;
 use cam_station::Out;
@@ -39,8 +39,8 @@ impl Out for MemoryOut {
     ghost use Rattle.std.specs.Prelude.{◌≡◌};
     ghost use Rattle.std.specs.Bool.{OnFalse, OnTrue};
     ghost use Rattle.std.specs.Io.KnownBytes.{Appends};
-    ghost use Rattle.cam_station.specs.Contents.{HasRisenBy, unsaid};
-    ghost use Rattle.acceptance.specs.Memory.{IsAfterSay, IsToFail, said_by, unsaid_calls};
+    ghost use Rattle.cam_station.specs.Files.{HasRisenBy, unsaid};
+    ghost use Rattle.acceptance.specs.InMemory.{IsAfterSay, IsToFail, said_by, unsaid_calls};
 
     ghost said = { said_by };
 

@@ -6,7 +6,7 @@ use Rattle.std.specs.List.{position_or_len}
 use Rattle.std.specs.Option.{option_map}
 use Rattle.std.specs.Str.{bytes_eq}
 use Rattle.std.proofs.lemmas.List.Quantifiers.{position-Some}
-use Rattle.cam_objects.specs.Attributes.{has_name, place_of}
+use Rattle.cam_objects.specs.Attributes.{has_name, place_of as attribute_place}
 use Rattle.cam_objects.specs.Contents.{Content as GerberContent}
 use Rattle.cam_objects.specs.declared.attribute.Attribute.{Attribute}
 use Rattle.cam_edits.specs.declared.edit.Change.{Change}
@@ -16,8 +16,9 @@ use Rattle.cam_edits.specs.declared.fault.EditFault.{EditFault}
 use Rattle.cam_edits.specs.declared.step.Step.{Step}
 use Rattle.cam_edits.specs.declared.step.Step.TheVariants.{TakeAttribute}
 use Rattle.cam_edits.specs.AttributeEdits.{setting_step}
-use Rattle.cam_edits.specs.AttributeLaws.{AttributeLaw, ChangesAttributes, IsOfAttributes, attributes_of, with_attributes_of, without_attribute}
-use Rattle.cam_edits.specs.Boards.{changed_at, content_at, held, place_named, with_content}
+use Rattle.cam_edits.specs.AttributeLaws.{AttributeLaw, ChangesAttributes, IsOfAttributes, attributes_of, with_attributes_of}
+use Rattle.cam_edits.specs.AttributeLaws.{without_attribute}
+use Rattle.cam_edits.specs.Boards.{changed_at, content_at, content_or_empty, place_named, with_content}
 use Rattle.cam_edits.specs.Editing.{edited, edited_at, edited_sheet, judged_change, judged_drill, drill_step_of, step_of}
 use Rattle.cam_edits.specs.Editing.{with_drill_step, with_step}
 use Rattle.cam_edits.specs.Images.{sheet_leaves}
@@ -27,7 +28,7 @@ use Rattle.cam_edits.specs.Steps.{after_step}
 use Rattle.cam_edits.specs.Touched.{touched}
 use Rattle.cam_edits.specs.Touches.{boxes_in, boxes_of_step, touch_at, touch_of_edit}
 use Rattle.cam_edits.proofs.AttributeSteps.{after_setting_at}
-use Rattle.cam_edits.proofs.GerberEdits.{change_accepted}
+use Rattle.cam_edits.proofs.FittingEdits.{change_accepted}
 
 -- ---- what the step makes of a layer
 
@@ -46,7 +47,7 @@ module _ (name : List ℕ) where
   place_is true n k e = cc
   place_is false n k e = absurd cc
 
-  taken_at : (xs : List Attribute) (k : ℕ) → place_of name xs ≡ Some k → remove xs k ≡ without_attribute name xs
+  taken_at : (xs : List Attribute) (k : ℕ) → attribute_place name xs ≡ Some k → remove xs k ≡ without_attribute name xs
   taken_at xs k e =
       let n = position_or_len (has_name name) xs in
       ap (remove xs) (sym (place_is (nat_lt n (length xs)) n k e)) ∙ taken xs
@@ -58,13 +59,13 @@ module _ (c : GerberContent) where
   abbrev Gives : Change → Step → Type 0
   Gives change step = (after_step step c ≡ with_attributes (attributes_of change c.attributes)) × (touched step c ≡ [])
 
-  set_gives : (key fields : List ℕ) (place : Option ℕ) → place_of key c.attributes ≡ place
+  set_gives : (key fields : List ℕ) (place : Option ℕ) → attribute_place key c.attributes ≡ place
       → Gives (SetAttribute key fields) (setting_step key fields (length c.attributes) place)
   unfolding touched
   set_gives key fields None e = (ap with_attributes (after_setting_at c.attributes key fields None e), refl)
   set_gives key fields (Some k) e = (ap with_attributes (after_setting_at c.attributes key fields (Some k) e), refl)
 
-  drop_gives : (key : List ℕ) (place : Option ℕ) → place_of key c.attributes ≡ place → (step : Step)
+  drop_gives : (key : List ℕ) (place : Option ℕ) → attribute_place key c.attributes ≡ place → (step : Step)
       → option_map TakeAttribute place ≡ Some step → Gives (DropAttribute key) step
   unfolding touched
   drop_gives key None at step e = absurd cc
@@ -83,10 +84,10 @@ module _ (c : GerberContent) where
   gives (Tool k t) is step e = absurd is
   gives (Diameter t d) is step e = absurd is
   gives (SetAttribute key fields) is step e =
-      let place = place_of key c.attributes in
+      let place = attribute_place key c.attributes in
       let same : setting_step key fields (length c.attributes) place ≡ step = cc in
       subst (Gives (SetAttribute key fields)) same (set_gives key fields place refl)
-  gives (DropAttribute key) is step e = drop_gives key (place_of key c.attributes) refl step e
+  gives (DropAttribute key) is step e = drop_gives key (attribute_place key c.attributes) refl step e
 
 -- a drill layer has none
 no_drill : (change : Change) → IsOfAttributes change → drill_step_of change ≡ None
@@ -133,7 +134,7 @@ module _ (change : Change) (is : IsOfAttributes change) (sheets after : List She
   HasChanged c = ChangesAttributes change (record { sheet = place; boxes = boxes_in change c }) sheets after
 
   held_there : content_at sheets place ≡ s.content
-  held_there = ap held here
+  held_there = ap content_or_empty here
 
   put : (c : GerberContent) → s.content ≡ Gerber c → (new : GerberContent)
       → new ≡ with_attributes c (attributes_of change c.attributes) → boxes_in change (Gerber c) ≡ []
@@ -147,7 +148,7 @@ module _ (change : Change) (is : IsOfAttributes change) (sheets after : List She
         names = ap (map name_of) set ∙ same_names sheets place s (sheet s.name (Gerber new)) here refl;
         listed =
             ap (λ sheets. content_at sheets place) (sym is)
-            ∙ ap held (get_changed sheets place s here next)
+            ∙ ap content_or_empty (get_changed sheets place s here next)
             ∙ ap Gerber gives
             ∙ sym (ap (with_attributes_of change) (held_there ∙ holds));
         pictures = λ other.
@@ -178,7 +179,7 @@ module _ (change : Change) (is : IsOfAttributes change) (name : List ℕ) (sheet
       let within = (position-Some (λ (s : Sheet). bytes_eq s.name name) sheets place (sheet [] (content_at [] 0)) at).0 in
       let there = element_at sheets place within in
       let content = content_at sheets place in
-      sheet_edited change is sheets after place there.0 there.1 content (sym (ap held there.1)) e
+      sheet_edited change is sheets after place there.0 there.1 content (sym (ap content_or_empty there.1)) e
 
 pub attributes_change_no_picture : AttributeLaw
 unfolding edited touch_of_edit place_named

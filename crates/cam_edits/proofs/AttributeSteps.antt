@@ -8,7 +8,7 @@ use Rattle.std.proofs.lemmas.List.Edits.{insert_end}
 use Rattle.std.proofs.lemmas.List.Quantifiers.{position-Some}
 use Rattle.std.proofs.lemmas.Option.{get_or_from_slice_get}
 use Rattle.std.proofs.lemmas.Slice.Eq.{bytes_eq-Decides}
-use Rattle.cam_objects.specs.Attributes.{AreAttributes, attribute_of, has_name, place_of, with_attribute}
+use Rattle.cam_objects.specs.Attributes.{AreAttributes, attribute_of, has_name, place_of as attribute_place, with_attribute}
 use Rattle.cam_objects.specs.Contents.{Content}
 use Rattle.cam_objects.specs.Limits.{attribute_limit}
 use Rattle.cam_objects.specs.declared.attribute.Attribute.{Attribute}
@@ -26,7 +26,7 @@ use Rattle.cam_edits.proofs.Refusals.{never}
 
 -- ---- where a name stands
 
-module _ (name : List ℕ) (xs : List Attribute) (k : ℕ) (here : place_of name xs ≡ Some k) where
+module _ (name : List ℕ) (xs : List Attribute) (k : ℕ) (here : attribute_place name xs ≡ Some k) where
   pub within : k < length xs
   within = (position-Some (has_name name) xs k (attribute_of [] []) here).0
 
@@ -46,7 +46,7 @@ module _ (xs : List Attribute) (key fields : List ℕ) where
   abbrev step_at : Option ℕ → Step
   step_at place = setting_step key fields (length xs) place
 
-  pub after_setting_at : (place : Option ℕ) → place_of key xs ≡ place → attributes_after (step_at place) xs ≡ with_attribute new xs
+  pub after_setting_at : (place : Option ℕ) → attribute_place key xs ≡ place → attributes_after (step_at place) xs ≡ with_attribute new xs
   after_setting_at None e = insert_end xs new ∙ sym (added_last new xs e)
   after_setting_at (Some k) e =
       let at = named key xs k e in
@@ -54,13 +54,13 @@ module _ (xs : List Attribute) (key fields : List ℕ) where
       ∙ ap (λ name. slice_set xs k (attribute_of name fields)) at.2
       ∙ sym (kept_place new xs k e)
 
-  pub after_setting : attributes_after (step_at (place_of key xs)) xs ≡ with_attribute new xs
-  after_setting = after_setting_at (place_of key xs) refl
+  pub after_setting : attributes_after (step_at (attribute_place key xs)) xs ≡ with_attribute new xs
+  after_setting = after_setting_at (attribute_place key xs) refl
 
-  pub one_more : place_of key xs ≡ None → length (with_attribute new xs) ≡ length xs + 1
+  pub one_more : attribute_place key xs ≡ None → length (with_attribute new xs) ≡ length xs + 1
   one_more e = room_added new xs e
 
-  pub as_many : (k : ℕ) → place_of key xs ≡ Some k → length (with_attribute new xs) ≡ length xs
+  pub as_many : (k : ℕ) → attribute_place key xs ≡ Some k → length (with_attribute new xs) ≡ length xs
   as_many k e = room_kept new xs k e
 
 -- ---- judgements
@@ -75,7 +75,7 @@ module _ (c : Content) (key fields : List ℕ) where
   abbrev told : Bool → Bool → Bool → Result Step EditFault
   told named written room =
       judged_unless c (refused_unless (named && written) AttributeRefused (refused_unless room TooMuch None))
-      (Some (set_step (place_of key c.attributes)))
+      (Some (set_step (attribute_place key c.attributes)))
 
   pub bad_key : is_key key ≡ false → Err AttributeRefused ≡ judged_change c (SetAttribute key fields)
   bad_key e = sym (ap (λ named. told named (are_fields fields) has_room) e)
@@ -96,12 +96,12 @@ module _ (c : Content) (key fields : List ℕ) where
       made None = refl
       made (Some k) = refl
 
-      judged_with : has_room ≡ true → (place : Option ℕ) → place ≡ place_of key c.attributes
+      judged_with : has_room ≡ true → (place : Option ℕ) → place ≡ attribute_place key c.attributes
           → Ok (set_step place) ≡ judged_change c (SetAttribute key fields)
       judged_with room place at =
           sym (by_room true room ∙ (ap (λ place. judged c (Some (set_step place))) (sym at) ∙ made place))
 
-      pub filled : (k : ℕ) → Some k ≡ place_of key c.attributes → AreAttributes c.attributes
+      pub filled : (k : ℕ) → Some k ≡ attribute_place key c.attributes → AreAttributes c.attributes
           → Ok (SetFields k fields) ≡ judged_change c (SetAttribute key fields)
       filled k at h =
           let n = as_many c.attributes key fields k (sym at) in
@@ -109,7 +109,7 @@ module _ (c : Content) (key fields : List ℕ) where
           judged_with (le-leb (length (with_attribute (attribute_of key fields) c.attributes)) attribute_limit (omega arith))
           (Some k) at
 
-      module _ (at : None ≡ place_of key c.attributes) where
+      module _ (at : None ≡ attribute_place key c.attributes) where
         more : length (with_attribute (attribute_of key fields) c.attributes) ≡ length c.attributes + 1
         more = one_more c.attributes key fields (sym at)
 
@@ -134,20 +134,20 @@ module _ (c : Content) (key : List ℕ) where
       (option_map TakeAttribute place)
 
   pub bad_drop : is_key key ≡ false → Err AttributeRefused ≡ judged_change c (DropAttribute key)
-  bad_drop e = sym (ap (λ named. drop_told named (place_of key c.attributes)) e)
+  bad_drop e = sym (ap (λ named. drop_told named (attribute_place key c.attributes)) e)
 
   module _ (good : is_key key ≡ true) where
-    by_place : (place : Option ℕ) → place ≡ place_of key c.attributes
+    by_place : (place : Option ℕ) → place ≡ attribute_place key c.attributes
         → judged_change c (DropAttribute key) ≡ drop_told true place
     by_place place at =
-        ap (λ named. drop_told named (place_of key c.attributes)) good ∙ ap (drop_told true) (sym at)
+        ap (λ named. drop_told named (attribute_place key c.attributes)) good ∙ ap (drop_told true) (sym at)
 
-    pub nothing_dropped : None ≡ place_of key c.attributes → Err NoAttribute ≡ judged_change c (DropAttribute key)
+    pub nothing_dropped : None ≡ attribute_place key c.attributes → Err NoAttribute ≡ judged_change c (DropAttribute key)
     nothing_dropped at = sym (by_place None at)
 
-    pub dropped : (k : ℕ) → Some k ≡ place_of key c.attributes → Ok (TakeAttribute k) ≡ judged_change c (DropAttribute key)
+    pub dropped : (k : ℕ) → Some k ≡ attribute_place key c.attributes → Ok (TakeAttribute k) ≡ judged_change c (DropAttribute key)
     unfolding meets_step
     dropped k at = sym (by_place (Some k) at)
 
-pub fits_there : (c : Content) (key : List ℕ) (k : ℕ) → Some k ≡ place_of key c.attributes → k < length c.attributes
+pub fits_there : (c : Content) (key : List ℕ) (k : ℕ) → Some k ≡ attribute_place key c.attributes → k < length c.attributes
 fits_there c key k at = within key c.attributes k (sym at)

@@ -7,7 +7,7 @@ use Rattle.std.specs.List.{slice_get, slice_set}
 use Rattle.std.specs.Option.{MatchOption, option_map}
 use Rattle.cam_edits.specs.declared.board.Sheet.{Sheet as KeptSheet}
 use Rattle.cam_edits.specs.declared.board.SheetContent.{SheetContent}
-use Rattle.cam_edits.specs.Boards.{changed_at, content_at, held, with_content}
+use Rattle.cam_edits.specs.Boards.{changed_at, content_at, content_or_empty, with_content}
 use Rattle.cam_edits.specs.Machinery.BoardStepLaws.{of_each}
 use Rattle.cam_edits.specs.Machinery.PlaceLaws.{changed_is, found, within}
 use Rattle.cam_edits.specs.Places.{HasAt}
@@ -43,7 +43,7 @@ module _ (xs : List KeptSheet) (k : ℕ) (s : KeptSheet) where
     told_there P h = subst (λ (o : Option Sheet). MatchOption o ⊥ P) seen h
 
     pub content_is : content_at (map sheet_of xs) k ≡ content_of s.content
-    content_is = ap held seen
+    content_is = ap content_or_empty seen
 
     pub sheets_changed : (change : Content → Content) (new : SheetContent)
         → content_of new ≡ change (content_of s.content)

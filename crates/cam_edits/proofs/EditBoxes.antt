@@ -10,7 +10,7 @@ use Rattle.cam_edits.specs.declared.edit.Change.{Change}
 use Rattle.cam_edits.specs.declared.fault.EditFault.{EditFault}
 use Rattle.cam_edits.specs.declared.step.Step.{Step}
 use Rattle.cam_edits.specs.BoxLaws.{ChangesInside, EditBoxLaw}
-use Rattle.cam_edits.specs.Boards.{changed_at, content_at, held, place_named, with_content}
+use Rattle.cam_edits.specs.Boards.{changed_at, content_at, content_or_empty, place_named, with_content}
 use Rattle.cam_edits.specs.DrillSteps.{after_drill_step}
 use Rattle.cam_edits.specs.Editing.{drill_step_of, edited, edited_at, edited_sheet, judged_change, judged_drill}
 use Rattle.cam_edits.specs.Editing.{meets_drill_step, meets_step, with_drill_step, with_step}
@@ -23,7 +23,7 @@ use Rattle.cam_edits.specs.Touches.{Touch, boxes_in, boxes_of_drill_step, boxes_
 use Rattle.cam_edits.proofs.DrillEdits as drill_edits
 use Rattle.cam_edits.proofs.DrillStepBoxes.{drill_step_keeps_outside}
 use Rattle.cam_edits.proofs.EditedLists.{get_other}
-use Rattle.cam_edits.proofs.GerberEdits as gerber_edits
+use Rattle.cam_edits.proofs.FittingEdits as fitting_edits
 use Rattle.cam_edits.proofs.GerberStepBoxes.{step_keeps_outside}
 use Rattle.cam_edits.proofs.RedrawnItems.{AreOff}
 use Rattle.cam_edits.proofs.Refusals.{each_met}
@@ -41,17 +41,17 @@ accepted sheets = Ok sheets
 -- ---- one sheet with other content
 
 module _ (sheets : List Sheet) (place : ℕ) (boxes : List Bounds) (new : Content) where
-  put : (o : Option Sheet) → slice_get sheets place ≡ o → KeepsOutside boxes (held o) new
+  put : (o : Option Sheet) → slice_get sheets place ≡ o → KeepsOutside boxes (content_or_empty o) new
       → ChangesInside (touch place boxes) sheets (changed_to (with_content (λ _. new)) sheets place o)
   put None here keeps = record { count = refl; outside = λ s off. refl; others = λ other differs. refl }
   put (Some s) here keeps =
       let after = sheet s.name new in record {
         count = length-set sheets place after;
         outside = λ spot off.
-            ap (λ (o : Option Sheet). image_of (held o) spot) here
+            ap (λ (o : Option Sheet). image_of (content_or_empty o) spot) here
             ∙ keeps spot off
-            ∙ sym (ap (λ (o : Option Sheet). image_of (held o) spot) (get_set sheets place s after here));
-        others = λ other differs. ap held (get_other sheets place other after differs);
+            ∙ sym (ap (λ (o : Option Sheet). image_of (content_or_empty o) spot) (get_set sheets place s after here));
+        others = λ other differs. ap content_or_empty (get_other sheets place other after differs);
       }
 
   put_at : (after : List Sheet) → KeepsOutside boxes (content_at sheets place) new
@@ -65,7 +65,7 @@ module _ (sheets : List Sheet) (place : ℕ) (boxes : List Bounds) (new : Conten
 gerber_kept : (c : GerberContent) (change : Change) (step : Step) → judged_change c change ≡ Ok step
     → KeepsOutside (boxes_in change (Gerber c)) (Gerber c) (Gerber (after_step step c))
 gerber_kept c change step e s off =
-    let told = gerber_edits.change_accepted c change step e in
+    let told = fitting_edits.change_accepted c change step e in
     step_keeps_outside c step (each_met (meets_step c step) told.1) s
     (subst (λ (o : Option Step). AreOff s (boxes_of_step o c)) told.0 off)
 

@@ -4,6 +4,7 @@ pub mod Names
 pub mod Refusals
 pub mod ItemMoves
 pub mod GerberEdits
+pub mod FittingEdits
 pub mod AttributeSteps
 pub mod SoundAttributes
 pub mod AttributeChanges

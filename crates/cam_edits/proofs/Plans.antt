@@ -11,7 +11,7 @@ use Rattle.cam_edits.specs.declared.fault.EditFault.{EditFault}
 use Rattle.cam_edits.specs.declared.fault.EditFault.TheVariants.{NoLayer, Memory}
 use Rattle.cam_edits.specs.declared.step.Step.{Step}
 use Rattle.cam_edits.specs.BoardSteps.{IsDrillFitOn, IsFitOn, after_drill_on, after_on}
-use Rattle.cam_edits.specs.Boards.{changed_at, content_at, held, place_named, with_content}
+use Rattle.cam_edits.specs.Boards.{changed_at, content_at, content_or_empty, place_named, with_content}
 use Rattle.cam_edits.specs.DrillSteps.{IsDrillFit, after_drill_step}
 use Rattle.cam_edits.specs.Editing.{drill_step_of, edited, edited_at, edited_sheet, judged_change}
 use Rattle.cam_edits.specs.Editing.{judged_drill, with_drill_step, with_step}
@@ -22,7 +22,7 @@ use Rattle.cam_edits.specs.Sheets.{AreSound, Content, Gerber, Drill, IsSound, Sh
 use Rattle.cam_edits.specs.Steps.{IsFit, after_step}
 use Rattle.cam_edits.specs.Touched.{drill_touched, touched}
 use Rattle.cam_edits.proofs.DrillEdits as drill_edits
-use Rattle.cam_edits.proofs.GerberEdits as gerber_edits
+use Rattle.cam_edits.proofs.FittingEdits as fitting_edits
 use Rattle.cam_edits.proofs.Refusals.{has_at, item_at}
 
 module _ (edit : Edit) (sheets : List Sheet) where
@@ -36,7 +36,7 @@ module _ (edit : Edit) (sheets : List Sheet) where
     there = element_at sheets place within
 
     holds_there : (content : Content) → content_at sheets place ≡ content → there.0.content ≡ content
-    holds_there content e = sym (ap held there.1) ∙ e
+    holds_there content e = sym (ap content_or_empty there.1) ∙ e
 
     pub sound_there : AreSound sheets → (content : Content) → content_at sheets place ≡ content → IsSound content
     sound_there h content e =
@@ -80,7 +80,7 @@ module _ (edit : Edit) (sheets : List Sheet) where
               named = named;
               step_is =
                   subst (λ content. IsStepOf edit.change content (plans.Gerber place step boxes)) (sym holds)
-                  ((gerber_edits.change_accepted c edit.change step e).0, are);
+                  ((fitting_edits.change_accepted c edit.change step e).0, are);
             }
 
     -- ---- a drill layer

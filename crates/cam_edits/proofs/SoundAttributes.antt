@@ -7,7 +7,8 @@ use Rattle.std.specs.Option.{option_map}
 use Rattle.std.proofs.lemmas.Bool.{leb-true}
 use Rattle.std.proofs.lemmas.Bool.Decides.{nat_tests}
 use Rattle.std.proofs.lemmas.List.Elements.{All-cons, All-nil}
-use Rattle.cam_objects.specs.Attributes.{AreAttributes, AreFields, IsAttribute, attribute_of, comma, is_attribute_byte, place_of, with_attribute}
+use Rattle.cam_objects.specs.Attributes.{AreAttributes, AreFields, IsAttribute, attribute_of, comma, is_attribute_byte}
+use Rattle.cam_objects.specs.Attributes.{place_of as attribute_place, with_attribute}
 use Rattle.cam_objects.specs.Limits.{attribute_limit}
 use Rattle.cam_objects.specs.declared.attribute.Attribute.{Attribute}
 use Rattle.cam_objects.proofs.EditedAttributes.{attribute_edits}
@@ -89,7 +90,7 @@ module _ (xs : List Attribute) (h : AreAttributes xs) where
   AreSoundAfter step = AreAttributes (attributes_after step xs)
 
   set_sound : (key fields : List ℕ) → attribute_refusal xs (changes.SetAttribute key fields) ≡ None
-      → AreSoundAfter (setting_step key fields (length xs) (place_of key xs))
+      → AreSoundAfter (setting_step key fields (length xs) (attribute_place key xs))
   set_sound key fields e =
       let new = attribute_of key fields in
       let room = nat_le (length (with_attribute new xs)) attribute_limit in
@@ -103,7 +104,7 @@ module _ (xs : List Attribute) (h : AreAttributes xs) where
   taken_sound k a here =
       attribute_edits.remove (take k xs) (drop (suc k) xs) a (subst AreAttributes (split_here xs k a here) h)
 
-  drop_sound : (key : List ℕ) (place : Option ℕ) → place_of key xs ≡ place → (step : Step)
+  drop_sound : (key : List ℕ) (place : Option ℕ) → attribute_place key xs ≡ place → (step : Step)
       → option_map steps.TakeAttribute place ≡ Some step → AreSoundAfter step
   drop_sound key None at step e = absurd cc
   drop_sound key (Some k) at step e =
@@ -126,5 +127,5 @@ module _ (xs : List Attribute) (h : AreAttributes xs) where
   attributes_stay_sound (changes.Tool k t) ok step e = absurd cc
   attributes_stay_sound (changes.Diameter t d) ok step e = absurd cc
   attributes_stay_sound (changes.SetAttribute key fields) ok step e =
-      kept_by (setting_step key fields (length xs) (place_of key xs)) step e (set_sound key fields ok)
-  attributes_stay_sound (changes.DropAttribute key) ok step e = drop_sound key (place_of key xs) refl step e
+      kept_by (setting_step key fields (length xs) (attribute_place key xs)) step e (set_sound key fields ok)
+  attributes_stay_sound (changes.DropAttribute key) ok step e = drop_sound key (attribute_place key xs) refl step e

@@ -24,7 +24,7 @@ use Rattle.cam_edits.specs.declared.edit.Change.{Change}
 use Rattle.cam_edits.specs.declared.fault.EditFault.{EditFault}
 use Rattle.cam_edits.specs.declared.step.Step.{Step}
 use Rattle.cam_edits.specs.declared.step.Step.TheVariants as steps
-use Rattle.cam_edits.specs.Boards.{changed_at, content_at, empty_content, held as held_content, place_named, with_content}
+use Rattle.cam_edits.specs.Boards.{changed_at, content_at, content_or_empty, empty_content, place_named, with_content}
 use Rattle.cam_edits.specs.DrillSteps.{after_drill_step}
 use Rattle.cam_edits.specs.Editing.{drill_step_of, edited, edited_at, edited_sheet, first_refusal, drill_step_unless, holds_at, holds_of}
 use Rattle.cam_edits.specs.Editing.{judged_change, judged_drill, meets_drill_step, meets_step, with_drill_step, with_step}
@@ -36,7 +36,7 @@ use Rattle.cam_edits.specs.Steps.{after_step, items_after, with_aperture, with_o
 use Rattle.cam_edits.proofs.ChangedItems.{count_with_polarity, formed_with_aperture, sound_with_polarity}
 use Rattle.cam_edits.proofs.EditedLists.{all_here, length_behind, length_of_other, set_here, split_here, sum_behind, sum_of_other}
 use Rattle.cam_edits.proofs.MetDemands.{both, item_there}
-use Rattle.cam_edits.proofs.GerberEdits.{change_accepted, not_refused}
+use Rattle.cam_edits.proofs.FittingEdits.{change_accepted, not_refused}
 use Rattle.cam_edits.proofs.Refusals.{MeetsEach, each_met}
 use Rattle.cam_edits.proofs.SoundAttributes.{attributes_stay_sound}
 use Rattle.cam_edits.proofs.SoundDrillEdits.{drill_step_stays_sound}
@@ -215,7 +215,7 @@ empty_sound = record {
 }
 
 held_sound : (sheets : List Sheet) (place : ℕ) (o : Option Sheet) → AreSound sheets → slice_get sheets place ≡ o
-    → IsSound (held_content o)
+    → IsSound (content_or_empty o)
 held_sound sheets place None h e = empty_sound
 held_sound sheets place (Some s) h e = all_here (λ s. IsSound s.content) sheets place s h e
 

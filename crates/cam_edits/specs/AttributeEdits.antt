@@ -1,10 +1,10 @@
--- Edits of file attributes: how a key and fields are written, which step sets an attribute, and what such an edit may be
--- refused for (Gerber Layer Format Specification, "File attributes (TF)").
+-- Edits of file attributes: how a key and fields are written, which step sets an attribute, and what such an edit may
+-- be refused for (Gerber Layer Format Specification, "File attributes (TF)").
 use Rattle.std.specs.Prelude.{ℕ, ◌==◌, ◌&&◌, not, nat_le, Bool, true, if◌then◌else◌, List, [], ◌∷◌, length}
 use Rattle.std.specs.Prelude.{Option, None, Some, is_some}
 use Rattle.std.specs.Char.{is_ascii_graphic}
 use Rattle.std.specs.List.{list_all}
-use Rattle.cam_objects.specs.Attributes.{attribute_of, comma, place_of, with_attribute}
+use Rattle.cam_objects.specs.Attributes.{attribute_of, comma, place_of as attribute_place, with_attribute}
 use Rattle.cam_objects.specs.Limits.{attribute_limit}
 use Rattle.cam_objects.specs.declared.attribute.Attribute.{Attribute}
 use Rattle.cam_edits.specs.declared.edit.Change.{Change}
@@ -49,16 +49,10 @@ refused_unless met fault later = if met then later else Some fault
 
 -- other edits are not refused for attributes
 abbrev pub attribute_refusal : List Attribute → Change → Option EditFault
-attribute_refusal attributes (changes.Insert k item) = None
-attribute_refusal attributes (changes.Delete k) = None
-attribute_refusal attributes (changes.Move k by) = None
-attribute_refusal attributes (changes.Reorder k m) = None
-attribute_refusal attributes (changes.Aperture k n) = None
-attribute_refusal attributes (changes.Polarity k dark) = None
-attribute_refusal attributes (changes.Tool k t) = None
-attribute_refusal attributes (changes.Diameter t d) = None
 attribute_refusal attributes (changes.SetAttribute key fields) =
-    refused_unless (is_key key && are_fields fields) AttributeRefused
-    (refused_unless (nat_le (length (with_attribute (attribute_of key fields) attributes)) attribute_limit) TooMuch None)
+    refused_unless (is_key key && are_fields fields) AttributeRefused (refused_unless
+    (nat_le (length (with_attribute (attribute_of key fields) attributes)) attribute_limit) TooMuch None)
 attribute_refusal attributes (changes.DropAttribute key) =
-    refused_unless (is_key key) AttributeRefused (refused_unless (is_some (place_of key attributes)) NoAttribute None)
+    refused_unless (is_key key) AttributeRefused
+    (refused_unless (is_some (attribute_place key attributes)) NoAttribute None)
+attribute_refusal attributes _ = None

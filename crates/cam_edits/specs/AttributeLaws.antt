@@ -3,7 +3,6 @@ use Rattle.std.specs.Prelude.{◌≡◌, ℕ, cond, List, [], ◌∷◌, map, Ok
 use Rattle.cam_objects.specs.Attributes.{attribute_of, has_name, with_attribute}
 use Rattle.cam_objects.specs.declared.attribute.Attribute.{Attribute}
 use Rattle.cam_edits.specs.declared.edit.Change.{Change}
-use Rattle.cam_edits.specs.declared.edit.Change.TheVariants.{Insert, Delete, Move, Reorder, Aperture, Polarity, Tool, Diameter}
 use Rattle.cam_edits.specs.declared.edit.Change.TheVariants.{SetAttribute, DropAttribute}
 use Rattle.cam_edits.specs.declared.edit.Edit.{Edit}
 use Rattle.cam_edits.specs.Boards.{content_at}
@@ -13,16 +12,9 @@ use Rattle.cam_edits.specs.Sheets.{Content, Gerber, Drill, Sheet}
 use Rattle.cam_edits.specs.Touches.{Touch, touch_of_edit}
 
 abbrev pub IsOfAttributes : Change → Type 0
-IsOfAttributes (Insert k item) = ⊥
-IsOfAttributes (Delete k) = ⊥
-IsOfAttributes (Move k by) = ⊥
-IsOfAttributes (Reorder k m) = ⊥
-IsOfAttributes (Aperture k n) = ⊥
-IsOfAttributes (Polarity k dark) = ⊥
-IsOfAttributes (Tool k t) = ⊥
-IsOfAttributes (Diameter t d) = ⊥
 IsOfAttributes (SetAttribute key fields) = Unit {0}
 IsOfAttributes (DropAttribute key) = Unit {0}
+IsOfAttributes _ = ⊥
 
 -- those behind the one that has the name close up
 abbrev pub without_attribute : List ℕ → List Attribute → List Attribute
@@ -31,16 +23,9 @@ without_attribute name (a ∷ xs) = cond (has_name name a) xs (a ∷ without_att
 
 -- the attributes after an edit
 abbrev pub attributes_of : Change → List Attribute → List Attribute
-attributes_of (Insert k item) xs = xs
-attributes_of (Delete k) xs = xs
-attributes_of (Move k by) xs = xs
-attributes_of (Reorder k m) xs = xs
-attributes_of (Aperture k n) xs = xs
-attributes_of (Polarity k dark) xs = xs
-attributes_of (Tool k t) xs = xs
-attributes_of (Diameter t d) xs = xs
 attributes_of (SetAttribute key fields) xs = with_attribute (attribute_of key fields) xs
 attributes_of (DropAttribute key) xs = without_attribute key xs
+attributes_of _ xs = xs
 
 -- the dictionary and the items stay
 abbrev pub with_attributes_of : Change → Content → Content

@@ -12,13 +12,13 @@ place_named name sheets = position (λ s. bytes_eq s.name name) sheets
 abbrev pub empty_content : Content
 empty_content = Gerber (record { attributes = []; entries = []; items = [] })
 
-abbrev pub held : Option Sheet → Content
-held None = empty_content
-held (Some s) = s.content
+abbrev pub content_or_empty : Option Sheet → Content
+content_or_empty None = empty_content
+content_or_empty (Some s) = s.content
 
 -- what the sheet at a place holds
 abbrev pub content_at : List Sheet → ℕ → Content
-content_at sheets place = held (slice_get sheets place)
+content_at sheets place = content_or_empty (slice_get sheets place)
 
 -- a sheet with what comes of its content
 abbrev pub with_content : (Content → Content) → Sheet → Sheet

@@ -9,7 +9,8 @@ use Rattle.cam_edits.specs.Images.{image_of}
 use Rattle.cam_edits.specs.Sheets.{Sheet}
 use Rattle.cam_edits.specs.Touches.{Touch, touch_of_edit}
 
--- The sheets are as many as before; one of them paints what it did outside the boxes, and the others hold what they held.
+-- The sheets are as many as before; one of them paints what it did outside the boxes, and the others hold what they
+-- held.
 pub record ChangesInside (touch : Touch) (sheets after : List Sheet) : Type 0 where
   pub count : length after ≡ length sheets
   pub outside : (s : Spot) → All (λ box. ¬ Holds box s) touch.boxes

@@ -30,12 +30,8 @@ drill_items_after (Diameter t d) items = items
 
 -- a diameter changes in the tool's place in the list
 abbrev pub tools_after : DrillStep → List (ℕ × Nm) → List (ℕ × Nm)
-tools_after (Insert k item) tools = tools
-tools_after (Delete k) tools = tools
-tools_after (Move k by) tools = tools
-tools_after (Reorder k m) tools = tools
-tools_after (Tool k t) tools = tools
 tools_after (Diameter t d) tools = set_value (nat_eq t) tools d
+tools_after _ tools = tools
 
 abbrev pub after_drill_step : DrillStep → DrillContent → DrillContent
 after_drill_step step c = record { tools = tools_after step c.tools; items = drill_items_after step c.items }
@@ -71,11 +67,7 @@ IsDrillFit (Diameter t d) c = IsSome (diameter_of c.tools t)
 
 abbrev pub is_drill_insertion : DrillStep → Bool
 is_drill_insertion (Insert k item) = true
-is_drill_insertion (Delete k) = false
-is_drill_insertion (Move k by) = false
-is_drill_insertion (Reorder k m) = false
-is_drill_insertion (Tool k t) = false
-is_drill_insertion (Diameter t d) = false
+is_drill_insertion _ = false
 
 -- there is a place for each item that the steps of the group insert
 abbrev pub HasDrillRoom : List DrillStep → DrillLayer → Type 0

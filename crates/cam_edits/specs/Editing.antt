@@ -3,17 +3,18 @@ use Rattle.std.specs.Prelude.{ℕ, nat_le, nat_lt, int_le, Bool, true, false, �
 use Rattle.std.specs.Prelude.{[], ◌∷◌, length, Option, None, Some, Result, Ok, Err, is_some, slice_get}
 use Rattle.std.specs.Option.{option_map}
 use Rattle.cam_units.specs.declared.length.Nm.{Nm}
-use Rattle.cam_objects.specs.Attributes.{place_of}
+use Rattle.cam_objects.specs.Attributes.{place_of as attribute_place}
 use Rattle.cam_objects.specs.Contents.{Content as GerberContent, DrillContent}
 use Rattle.cam_objects.specs.Demands.{keeps_drill_limits, keeps_limits, meets_drill_item, meets_item}
 use Rattle.cam_objects.specs.Drilling.{diameter_of}
 use Rattle.cam_objects.specs.Shifting.{shifted_drill_item, shifted_item}
 use Rattle.cam_objects.specs.declared.attribute.Attribute.{Attribute}
 use Rattle.cam_objects.specs.declared.item.Item.{Item}
-use Rattle.cam_objects.specs.declared.item.Item.TheVariants.{One, Repeat}
-use Rattle.cam_objects.specs.declared.item_fault.ItemFault.TheVariants.{Malformed, UnknownAperture, UnknownTool, ZeroRadius}
+use Rattle.cam_objects.specs.declared.item.Item.TheVariants.{One}
+use Rattle.cam_objects.specs.declared.item_fault.ItemFault.TheVariants.{Malformed, UnknownAperture, UnknownTool}
+use Rattle.cam_objects.specs.declared.item_fault.ItemFault.TheVariants.{ZeroRadius}
 use Rattle.cam_objects.specs.declared.item_fault.ItemFault.TheVariants as items
-use Rattle.cam_objects.specs.declared.object.Object.TheVariants.{Flash, Draw, Arc, Region}
+use Rattle.cam_objects.specs.declared.object.Object.TheVariants.{Flash, Draw, Arc}
 use Rattle.cam_edits.specs.declared.drill_step.DrillStep.{DrillStep}
 use Rattle.cam_edits.specs.declared.drill_step.DrillStep.TheVariants as drill_steps
 use Rattle.cam_edits.specs.declared.edit.Change.{Change}
@@ -21,8 +22,9 @@ use Rattle.cam_edits.specs.declared.edit.Change.TheVariants as changes
 use Rattle.cam_edits.specs.declared.edit.Edit.{Edit}
 use Rattle.cam_edits.specs.declared.edit.NewItem.TheVariants as new_items
 use Rattle.cam_edits.specs.declared.fault.EditFault.{EditFault}
-use Rattle.cam_edits.specs.declared.fault.EditFault.TheVariants.{NoLayer, WrongKind, AttributeRefused, NoAttribute, NoItem, HasNone}
-use Rattle.cam_edits.specs.declared.fault.EditFault.TheVariants.{NoAperture, NoTool, WrongAperture, SizeRefused, OutOfBoard, TooMuch, Memory}
+use Rattle.cam_edits.specs.declared.fault.EditFault.TheVariants.{NoLayer, WrongKind, NoItem, HasNone}
+use Rattle.cam_edits.specs.declared.fault.EditFault.TheVariants.{NoAperture, NoTool, WrongAperture, SizeRefused}
+use Rattle.cam_edits.specs.declared.fault.EditFault.TheVariants.{OutOfBoard, TooMuch}
 use Rattle.cam_edits.specs.declared.step.Step.{Step}
 use Rattle.cam_edits.specs.declared.step.Step.TheVariants as steps
 use Rattle.cam_edits.specs.AttributeEdits.{attribute_refusal, setting_step}
@@ -36,31 +38,25 @@ use Rattle.cam_edits.specs.Steps.{after_step, items_after, with_aperture, with_o
 -- the step of an edit of a Gerber layer with these attributes, where the edit goes with one
 abbrev pub step_of : List Attribute → Change → Option Step
 step_of attributes (changes.Insert k (new_items.Gerber item)) = Some (steps.Insert k item)
-step_of attributes (changes.Insert k (new_items.Drill item)) = None
 step_of attributes (changes.Delete k) = Some (steps.Delete k)
 step_of attributes (changes.Move k by) = Some (steps.Move k by)
 step_of attributes (changes.Reorder k m) = Some (steps.Reorder k m)
 step_of attributes (changes.Aperture k n) = Some (steps.Aperture k n)
 step_of attributes (changes.Polarity k dark) = Some (steps.Polarity k dark)
-step_of attributes (changes.Tool k t) = None
-step_of attributes (changes.Diameter t d) = None
 step_of attributes (changes.SetAttribute key fields) =
-    Some (setting_step key fields (length attributes) (place_of key attributes))
-step_of attributes (changes.DropAttribute key) = option_map steps.TakeAttribute (place_of key attributes)
+    Some (setting_step key fields (length attributes) (attribute_place key attributes))
+step_of attributes (changes.DropAttribute key) = option_map steps.TakeAttribute (attribute_place key attributes)
+step_of attributes _ = None
 
 -- and of a drill layer
 abbrev pub drill_step_of : Change → Option DrillStep
-drill_step_of (changes.Insert k (new_items.Gerber item)) = None
 drill_step_of (changes.Insert k (new_items.Drill item)) = Some (drill_steps.Insert k item)
 drill_step_of (changes.Delete k) = Some (drill_steps.Delete k)
 drill_step_of (changes.Move k by) = Some (drill_steps.Move k by)
 drill_step_of (changes.Reorder k m) = Some (drill_steps.Reorder k m)
-drill_step_of (changes.Aperture k n) = None
-drill_step_of (changes.Polarity k dark) = None
 drill_step_of (changes.Tool k t) = Some (drill_steps.Tool k t)
 drill_step_of (changes.Diameter t d) = Some (drill_steps.Diameter t d)
-drill_step_of (changes.SetAttribute key fields) = None
-drill_step_of (changes.DropAttribute key) = None
+drill_step_of _ = None
 
 -- ---- refusals
 
@@ -88,25 +84,17 @@ abbrev pub has_aperture : Item → Bool
 has_aperture (One (Flash n at t dark)) = true
 has_aperture (One (Draw n from to t dark)) = true
 has_aperture (One (Arc n from to centre ccw dark)) = true
-has_aperture (One (Region contour dark)) = false
-has_aperture (Repeat columns rows i j objects) = false
+has_aperture _ = false
 
 abbrev pub has_polarity : Item → Bool
 has_polarity (One object) = true
-has_polarity (Repeat columns rows i j objects) = false
+has_polarity _ = false
 
 module _ (c : GerberContent) where
   -- an inserted item is not malformed
   abbrev pub is_formed : Step → Bool
   is_formed (steps.Insert k item) = meets_item c.entries item Malformed
-  is_formed (steps.Delete k) = true
-  is_formed (steps.Move k by) = true
-  is_formed (steps.Reorder k m) = true
-  is_formed (steps.Aperture k n) = true
-  is_formed (steps.Polarity k dark) = true
-  is_formed (steps.PutAttribute k a) = true
-  is_formed (steps.TakeAttribute k) = true
-  is_formed (steps.SetFields k fields) = true
+  is_formed _ = true
 
   -- the places that it names are there
   abbrev pub has_places : Step → Bool
@@ -116,67 +104,44 @@ module _ (c : GerberContent) where
   has_places (steps.Reorder k m) = nat_lt k (length c.items) && nat_lt m (length c.items)
   has_places (steps.Aperture k n) = nat_lt k (length c.items)
   has_places (steps.Polarity k dark) = nat_lt k (length c.items)
-  has_places (steps.PutAttribute k a) = true
-  has_places (steps.TakeAttribute k) = true
-  has_places (steps.SetFields k fields) = true
+  has_places _ = true
 
   -- the item has what is to change
   abbrev pub has_it : Step → Bool
-  has_it (steps.Insert k item) = true
-  has_it (steps.Delete k) = true
-  has_it (steps.Move k by) = true
-  has_it (steps.Reorder k m) = true
   has_it (steps.Aperture k n) = holds_at has_aperture c.items k
   has_it (steps.Polarity k dark) = holds_at has_polarity c.items k
-  has_it (steps.PutAttribute k a) = true
-  has_it (steps.TakeAttribute k) = true
-  has_it (steps.SetFields k fields) = true
+  has_it _ = true
 
   -- the test holds of the item that is inserted, or that has another aperture
   abbrev pub holds_of_set : (Item → Bool) → Step → Bool
   holds_of_set test (steps.Insert k item) = test item
-  holds_of_set test (steps.Delete k) = true
-  holds_of_set test (steps.Move k by) = true
-  holds_of_set test (steps.Reorder k m) = true
   holds_of_set test (steps.Aperture k n) = holds_at (λ item. test (with_object (with_aperture n) item)) c.items k
-  holds_of_set test (steps.Polarity k dark) = true
-  holds_of_set test (steps.PutAttribute k a) = true
-  holds_of_set test (steps.TakeAttribute k) = true
-  holds_of_set test (steps.SetFields k fields) = true
+  holds_of_set test _ = true
 
   -- and of one that is moved
   abbrev pub holds_of_placed : (Item → Bool) → Step → Bool
   holds_of_placed test (steps.Insert k item) = test item
-  holds_of_placed test (steps.Delete k) = true
   holds_of_placed test (steps.Move k by) = holds_at (λ item. test (shifted_item by item)) c.items k
-  holds_of_placed test (steps.Reorder k m) = true
   holds_of_placed test (steps.Aperture k n) = holds_at (λ item. test (with_object (with_aperture n) item)) c.items k
-  holds_of_placed test (steps.Polarity k dark) = true
-  holds_of_placed test (steps.PutAttribute k a) = true
-  holds_of_placed test (steps.TakeAttribute k) = true
-  holds_of_placed test (steps.SetFields k fields) = true
+  holds_of_placed test _ = true
 
   -- the layer keeps its limits
   abbrev pub leaves_room : Step → Bool
   leaves_room step =
-      holds_of_set (λ item. meets_item c.entries item items.TooMuch && keeps_limits c.entries (items_after step c.items))
-      step
+      holds_of_set
+      (λ item. meets_item c.entries item items.TooMuch && keeps_limits c.entries (items_after step c.items)) step
 
-  -- what a step has to meet, not to be refused so
+  -- what a step has to meet, not to be refused so; the other faults are told of no step
   unfoldable pub meets_step : Step → EditFault → Bool
-  meets_step step NoLayer = true
   meets_step step WrongKind = is_formed step
-  meets_step step AttributeRefused = true
-  meets_step step NoAttribute = true
   meets_step step NoItem = has_places step
   meets_step step HasNone = has_it step
   meets_step step NoAperture = holds_of_set (λ item. meets_item c.entries item UnknownAperture) step
-  meets_step step NoTool = true
   meets_step step WrongAperture = holds_of_set (λ item. meets_item c.entries item items.WrongAperture) step
   meets_step step SizeRefused = holds_of_set (λ item. meets_item c.entries item ZeroRadius) step
   meets_step step OutOfBoard = holds_of_placed (λ item. meets_item c.entries item items.OutOfBoard) step
   meets_step step TooMuch = leaves_room step
-  meets_step step Memory = true
+  meets_step step _ = true
 
   -- the step of an edit, or the edit's first refusal
   abbrev pub step_unless : Step → Option EditFault → Result Step EditFault
@@ -204,11 +169,7 @@ is_tool_size d = int_le (pos 1) d.0 && int_le d.0 (pos 200000000)
 module _ (c : DrillContent) where
   abbrev pub is_formed_drill : DrillStep → Bool
   is_formed_drill (drill_steps.Insert k item) = meets_drill_item c.tools item Malformed
-  is_formed_drill (drill_steps.Delete k) = true
-  is_formed_drill (drill_steps.Move k by) = true
-  is_formed_drill (drill_steps.Reorder k m) = true
-  is_formed_drill (drill_steps.Tool k t) = true
-  is_formed_drill (drill_steps.Diameter t d) = true
+  is_formed_drill _ = true
 
   abbrev pub has_drill_places : DrillStep → Bool
   has_drill_places (drill_steps.Insert k item) = nat_le k (length c.items)
@@ -216,58 +177,40 @@ module _ (c : DrillContent) where
   has_drill_places (drill_steps.Move k by) = nat_lt k (length c.items)
   has_drill_places (drill_steps.Reorder k m) = nat_lt k (length c.items) && nat_lt m (length c.items)
   has_drill_places (drill_steps.Tool k t) = nat_lt k (length c.items)
-  has_drill_places (drill_steps.Diameter t d) = true
+  has_drill_places _ = true
 
   -- the tool is one of the layer's
   abbrev pub knows_tool : DrillStep → Bool
   knows_tool (drill_steps.Insert k item) = meets_drill_item c.tools item UnknownTool
-  knows_tool (drill_steps.Delete k) = true
-  knows_tool (drill_steps.Move k by) = true
-  knows_tool (drill_steps.Reorder k m) = true
   knows_tool (drill_steps.Tool k t) = is_some (diameter_of c.tools t)
   knows_tool (drill_steps.Diameter t d) = is_some (diameter_of c.tools t)
+  knows_tool _ = true
 
   abbrev pub has_tool_size : DrillStep → Bool
-  has_tool_size (drill_steps.Insert k item) = true
-  has_tool_size (drill_steps.Delete k) = true
-  has_tool_size (drill_steps.Move k by) = true
-  has_tool_size (drill_steps.Reorder k m) = true
-  has_tool_size (drill_steps.Tool k t) = true
   has_tool_size (drill_steps.Diameter t d) = is_tool_size d
+  has_tool_size _ = true
 
   -- an item that is inserted or moved lies on the board
   abbrev pub lies_on_board : DrillStep → Bool
   lies_on_board (drill_steps.Insert k item) = meets_drill_item c.tools item items.OutOfBoard
-  lies_on_board (drill_steps.Delete k) = true
   lies_on_board (drill_steps.Move k by) =
       holds_at (λ item. meets_drill_item c.tools (shifted_drill_item by item) items.OutOfBoard) c.items k
-  lies_on_board (drill_steps.Reorder k m) = true
-  lies_on_board (drill_steps.Tool k t) = true
-  lies_on_board (drill_steps.Diameter t d) = true
+  lies_on_board _ = true
 
   abbrev pub leaves_drill_room : DrillStep → Bool
   leaves_drill_room (drill_steps.Insert k item) =
-      meets_drill_item c.tools item items.TooMuch && keeps_drill_limits (drill_items_after (drill_steps.Insert k item) c.items)
-  leaves_drill_room (drill_steps.Delete k) = true
-  leaves_drill_room (drill_steps.Move k by) = true
-  leaves_drill_room (drill_steps.Reorder k m) = true
-  leaves_drill_room (drill_steps.Tool k t) = true
-  leaves_drill_room (drill_steps.Diameter t d) = true
+      meets_drill_item c.tools item items.TooMuch
+      && keeps_drill_limits (drill_items_after (drill_steps.Insert k item) c.items)
+  leaves_drill_room _ = true
 
   unfoldable pub meets_drill_step : DrillStep → EditFault → Bool
-  meets_drill_step step NoLayer = true
   meets_drill_step step WrongKind = is_formed_drill step
-  meets_drill_step step AttributeRefused = true
-  meets_drill_step step NoAttribute = true
   meets_drill_step step NoItem = has_drill_places step
-  meets_drill_step step HasNone = true
-  meets_drill_step step NoAperture = true
   meets_drill_step step NoTool = knows_tool step
-  meets_drill_step step WrongAperture = true
   meets_drill_step step SizeRefused = has_tool_size step
   meets_drill_step step OutOfBoard = lies_on_board step
   meets_drill_step step TooMuch = leaves_drill_room step
-  meets_drill_step step Memory = true
+  meets_drill_step step _ = true
 
   abbrev pub drill_step_unless : DrillStep → Option EditFault → Result DrillStep EditFault
   drill_step_unless step None = Ok step

@@ -1,5 +1,5 @@
--- What a plan of an edit is: the step of the edit, which fits the board, plays to the edited sheets, and carries the boxes
--- of what it touches.
+-- What a plan of an edit is: the step of the edit, which fits the board, plays to the edited sheets, and carries the
+-- boxes of what it touches.
 use Rattle.std.specs.Prelude.{◌≡◌, List, Some, Result, Ok, Err}
 use Rattle.cam_edits.specs.declared.board_step.BoardStep.{BoardStep}
 use Rattle.cam_edits.specs.declared.board_step.BoardStep.TheVariants as steps
@@ -17,10 +17,9 @@ use Rattle.cam_edits.specs.Touched.{drill_touched, touched}
 abbrev pub IsStepOf : Change → Content → BoardStep → Type 0
 IsStepOf change (Gerber c) (steps.Gerber place step boxes) =
     (step_of c.attributes change ≡ Some step) × (boxes.items ≡ touched step c)
-IsStepOf change (Gerber c) (steps.Drill place step boxes) = ⊥
-IsStepOf change (Drill c) (steps.Gerber place step boxes) = ⊥
 IsStepOf change (Drill c) (steps.Drill place step boxes) =
     (drill_step_of change ≡ Some step) × (boxes.items ≡ drill_touched step c)
+IsStepOf change _ _ = ⊥
 
 pub record IsPlan (sheets : List Sheet) (edit : Edit) (step : BoardStep) : Type 0 where
   pub edited_is : edited edit sheets ≡ Ok (after_board_step step sheets)
@@ -35,4 +34,5 @@ IsRefused (Err told) fault = fault ≡ told
 
 -- an edit leaves each sheet sound
 abbrev pub EditsStaySound : Type 0
-EditsStaySound = (edit : Edit) (sheets after : List Sheet) → AreSound sheets → edited edit sheets ≡ Ok after → AreSound after
+EditsStaySound =
+    (edit : Edit) (sheets after : List Sheet) → AreSound sheets → edited edit sheets ≡ Ok after → AreSound after

@@ -1,7 +1,8 @@
 -- Sheets: what a layer of one of two kinds lists, under the layer's name.
 use Rattle.std.specs.Prelude.{ℕ, List, length, map, All}
 use Rattle.cam_objects.specs.Attributes.{AreAttributes}
-use Rattle.cam_objects.specs.Contents.{Content as GerberContent, DrillContent, content_of as gerber_content_of, drill_content_of}
+use Rattle.cam_objects.specs.Contents.{Content as GerberContent, DrillContent, content_of as gerber_content_of}
+use Rattle.cam_objects.specs.Contents.{drill_content_of}
 use Rattle.cam_objects.specs.DrillSoundness.{IsSoundDrillContent}
 use Rattle.cam_objects.specs.Soundness.{IsSoundContent}
 use Rattle.cam_edits.specs.declared.board.Board.{Board}

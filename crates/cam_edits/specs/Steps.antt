@@ -1,5 +1,5 @@
 -- What the steps of a layer do to what it lists, and which steps lead back.
-use Rattle.std.specs.Prelude.{ℕ, ◌+◌, ◌<◌, ◌≤◌, Bool, true, false, List, length, Option, None}
+use Rattle.std.specs.Prelude.{ℕ, ◌+◌, ◌<◌, ◌≤◌, Bool, true, false, List, length, Option}
 use Rattle.std.specs.Prelude.{Some, count_by, insert, remove, slice_get, vec_capacity}
 use Rattle.cam_shapes.specs.Shifting.{IsShiftable}
 use Rattle.cam_objects.specs.Attributes.{attribute_of}
@@ -25,17 +25,15 @@ with_aperture n (Arc m from to centre ccw dark) = Arc n from to centre ccw dark
 with_aperture n (Region contour dark) = Region contour dark
 
 abbrev pub HasAperture : Object → Type 0
-HasAperture (Flash m at t dark) = Unit {0}
-HasAperture (Draw m from to t dark) = Unit {0}
-HasAperture (Arc m from to centre ccw dark) = Unit {0}
 HasAperture (Region contour dark) = ⊥
+HasAperture _ = Unit {0}
 
 -- the number of its aperture, or 0 where it has none
 abbrev pub aperture_of : Object → ℕ
 aperture_of (Flash m at t dark) = m
 aperture_of (Draw m from to t dark) = m
 aperture_of (Arc m from to centre ccw dark) = m
-aperture_of (Region contour dark) = 0
+aperture_of _ = 0
 
 abbrev pub with_polarity : Bool → Object → Object
 with_polarity dark (Flash m at t _) = Flash m at t dark
@@ -65,46 +63,36 @@ items_after (Move k by) items = changed (shifted_item by) items k
 items_after (Reorder k m) items = reordered items k m
 items_after (Aperture k n) items = changed (with_object (with_aperture n)) items k
 items_after (Polarity k dark) items = changed (with_object (with_polarity dark)) items k
-items_after (PutAttribute k a) items = items
-items_after (TakeAttribute k) items = items
-items_after (SetFields k fields) items = items
+items_after _ items = items
 
 -- a file attribute with other fields
 abbrev pub with_fields : List ℕ → Attribute → Attribute
 with_fields fields a = attribute_of a.name fields
 
 abbrev pub attributes_after : Step → List Attribute → List Attribute
-attributes_after (Insert k item) attributes = attributes
-attributes_after (Delete k) attributes = attributes
-attributes_after (Move k by) attributes = attributes
-attributes_after (Reorder k m) attributes = attributes
-attributes_after (Aperture k n) attributes = attributes
-attributes_after (Polarity k dark) attributes = attributes
 attributes_after (PutAttribute k a) attributes = insert attributes k a
 attributes_after (TakeAttribute k) attributes = remove attributes k
 attributes_after (SetFields k fields) attributes = changed (with_fields fields) attributes k
+attributes_after _ attributes = attributes
 
 -- the dictionary stays
 abbrev pub after_step : Step → Content → Content
 after_step step c =
     record { attributes = attributes_after step c.attributes; entries = c.entries; items = items_after step c.items }
 
--- the step that leads back, by the item and by the attribute that stand at the step's place before it
+-- the step that leads back, by the item and by the attribute that stand at the step's place before it; the step itself
+-- where there is none that could
 abbrev pub inverse_at : Step → Option Item → Option Attribute → Step
-inverse_at (Insert k item) before held = Delete k
-inverse_at (Delete k) None held = Delete k
-inverse_at (Delete k) (Some item) held = Insert k item
-inverse_at (Move k by) before held = Move k (negated by)
-inverse_at (Reorder k m) before held = Reorder m k
-inverse_at (Aperture k n) (Some (One object)) held = Aperture k (aperture_of object)
-inverse_at (Aperture k n) before held = Aperture k n
-inverse_at (Polarity k dark) (Some (One object)) held = Polarity k (polarity_of object)
-inverse_at (Polarity k dark) before held = Polarity k dark
-inverse_at (PutAttribute k a) before held = TakeAttribute k
-inverse_at (TakeAttribute k) before None = TakeAttribute k
-inverse_at (TakeAttribute k) before (Some a) = PutAttribute k a
-inverse_at (SetFields k fields) before None = SetFields k fields
-inverse_at (SetFields k fields) before (Some a) = SetFields k a.fields
+inverse_at (Insert k item) before attribute = Delete k
+inverse_at (Delete k) (Some item) attribute = Insert k item
+inverse_at (Move k by) before attribute = Move k (negated by)
+inverse_at (Reorder k m) before attribute = Reorder m k
+inverse_at (Aperture k n) (Some (One object)) attribute = Aperture k (aperture_of object)
+inverse_at (Polarity k dark) (Some (One object)) attribute = Polarity k (polarity_of object)
+inverse_at (PutAttribute k a) before attribute = TakeAttribute k
+inverse_at (TakeAttribute k) before (Some attribute) = PutAttribute k attribute
+inverse_at (SetFields k fields) before (Some attribute) = SetFields k attribute.fields
+inverse_at step before attribute = step
 
 abbrev pub step_place : Step → ℕ
 step_place (Insert k item) = k
@@ -133,25 +121,11 @@ IsFit (SetFields k fields) c = k < length c.attributes
 
 abbrev pub is_insertion : Step → Bool
 is_insertion (Insert k item) = true
-is_insertion (Delete k) = false
-is_insertion (Move k by) = false
-is_insertion (Reorder k m) = false
-is_insertion (Aperture k n) = false
-is_insertion (Polarity k dark) = false
-is_insertion (PutAttribute k a) = false
-is_insertion (TakeAttribute k) = false
-is_insertion (SetFields k fields) = false
+is_insertion _ = false
 
 abbrev pub puts_attribute : Step → Bool
-puts_attribute (Insert k item) = false
-puts_attribute (Delete k) = false
-puts_attribute (Move k by) = false
-puts_attribute (Reorder k m) = false
-puts_attribute (Aperture k n) = false
-puts_attribute (Polarity k dark) = false
 puts_attribute (PutAttribute k a) = true
-puts_attribute (TakeAttribute k) = false
-puts_attribute (SetFields k fields) = false
+puts_attribute _ = false
 
 -- there is a place for each item that the steps of the group insert, and for each attribute that they put
 abbrev pub HasRoom : List Step → Layer → Type 0

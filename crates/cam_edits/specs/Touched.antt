@@ -33,31 +33,26 @@ item_box entries item = bounds_of (item_leaves (meaning_in entries) item)
 
 -- the item before the step
 abbrev pub item_before : Step → List Item → Option Item
-item_before (steps.Insert k item) items = None
 item_before (steps.Delete k) items = slice_get items k
 item_before (steps.Move k by) items = slice_get items k
 item_before (steps.Reorder k m) items = slice_get items k
 item_before (steps.Aperture k n) items = slice_get items k
 item_before (steps.Polarity k dark) items = slice_get items k
-item_before (steps.PutAttribute k a) items = None
-item_before (steps.TakeAttribute k) items = None
-item_before (steps.SetFields k fields) items = None
+item_before _ items = None
 
 -- and after it
 abbrev pub item_after : Step → List Item → Option Item
 item_after (steps.Insert k item) items = Some item
-item_after (steps.Delete k) items = None
 item_after (steps.Move k by) items = option_map (shifted_item by) (slice_get items k)
 item_after (steps.Reorder k m) items = slice_get items k
 item_after (steps.Aperture k n) items = option_map (with_object (with_aperture n)) (slice_get items k)
 item_after (steps.Polarity k dark) items = option_map (with_object (with_polarity dark)) (slice_get items k)
-item_after (steps.PutAttribute k a) items = None
-item_after (steps.TakeAttribute k) items = None
-item_after (steps.SetFields k fields) items = None
+item_after _ items = None
 
 unfoldable pub touched : Step → GerberContent → List Bounds
 touched step c =
-    box_if_there (item_box c.entries) (item_before step c.items) ++ box_if_there (item_box c.entries) (item_after step c.items)
+    box_if_there (item_box c.entries) (item_before step c.items)
+    ++ box_if_there (item_box c.entries) (item_after step c.items)
 
 -- ---- a drill layer
 
@@ -66,29 +61,23 @@ drill_box tools item = bounds_of (drill_item_leaves tools item)
 
 -- the item that a step changes, before it
 abbrev pub drill_item_before : DrillStep → List DrillItem → Option DrillItem
-drill_item_before (drill_steps.Insert k item) items = None
 drill_item_before (drill_steps.Delete k) items = slice_get items k
 drill_item_before (drill_steps.Move k by) items = slice_get items k
 drill_item_before (drill_steps.Reorder k m) items = slice_get items k
 drill_item_before (drill_steps.Tool k t) items = slice_get items k
-drill_item_before (drill_steps.Diameter t d) items = None
+drill_item_before _ items = None
 
 abbrev pub drill_item_after : DrillStep → List DrillItem → Option DrillItem
 drill_item_after (drill_steps.Insert k item) items = Some item
-drill_item_after (drill_steps.Delete k) items = None
 drill_item_after (drill_steps.Move k by) items = option_map (shifted_drill_item by) (slice_get items k)
 drill_item_after (drill_steps.Reorder k m) items = slice_get items k
 drill_item_after (drill_steps.Tool k t) items = option_map (with_tool t) (slice_get items k)
-drill_item_after (drill_steps.Diameter t d) items = None
+drill_item_after _ items = None
 
 -- the items of the tool whose diameter a step changes
 abbrev pub items_of_tool : DrillStep → List DrillItem → List DrillItem
-items_of_tool (drill_steps.Insert k item) items = []
-items_of_tool (drill_steps.Delete k) items = []
-items_of_tool (drill_steps.Move k by) items = []
-items_of_tool (drill_steps.Reorder k m) items = []
-items_of_tool (drill_steps.Tool k t) items = []
 items_of_tool (drill_steps.Diameter t d) items = filter (λ item. tool_of item == t) items
+items_of_tool _ items = []
 
 unfoldable pub drill_touched : DrillStep → DrillContent → List Bounds
 drill_touched step c =

@@ -15,8 +15,8 @@ pub fn edits_stay_in_their_boxes()
     ensures { EditBoxLaw }
 {}
 
-/// An accepted edit of file attributes changes no picture and touches no box. A name that is set keeps its place or goes
-/// last, and those behind one that is dropped close up.
+/// An accepted edit of file attributes changes no picture and touches no box. A name that is set keeps its place or
+/// goes last, and those behind one that is dropped close up.
 pub fn attributes_change_no_picture()
     ensures { AttributeLaw }
 {}

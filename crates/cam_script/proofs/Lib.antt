@@ -3,4 +3,4 @@ pub mod Tests
 pub mod Forms
 pub mod Parts
 pub mod FirstSegments
-pub mod Held
+pub mod RefusedMemory

@@ -85,7 +85,8 @@ line_seg x y = reads_point x y (λ to. Some (Line to))
 -- cw X Y CX CY, or ccw X Y CX CY
 abbrev pub curve_seg : List ℕ → List ℕ → List ℕ → List ℕ → List ℕ → Option Seg
 curve_seg direction x y cx cy =
-    reads direction_in direction (λ ccw. reads_point x y (λ to. reads_point cx cy (λ centre. Some (Curve to centre ccw))))
+    reads direction_in direction (λ ccw. reads_point x y (λ to. reads_point cx cy (λ centre.
+    Some (Curve to centre ccw))))
 
 abbrev pub is_line : List ℕ → Bool
 is_line word = bytes_eq word (codes "l")

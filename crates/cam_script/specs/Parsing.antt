@@ -42,7 +42,8 @@ abbrev pub window_line : List (List ℕ) → Option Line
 window_line (x ∷ y ∷ pitch ∷ width ∷ height ∷ []) =
     reads length_in x (λ x. reads length_in y (λ y. reads length_in pitch (λ pitch.
     reads count_in width (λ width. reads count_in height (λ height.
-    Some (lines.Command (commands.SetWindow (record { x = x; y = y; pitch = pitch; width = width; height = height }))))))))
+    Some (lines.Command (commands.SetWindow
+    (record { x = x; y = y; pitch = pitch; width = width; height = height }))))))))
 window_line _ = None
 
 -- redraw N
@@ -143,9 +144,9 @@ edit_line change (name ∷ words) =
 -- ---- lines
 
 -- a command that is its word alone
-abbrev pub alone : Command → List (List ℕ) → Option Line
-alone command [] = Some (lines.Command command)
-alone command (word ∷ more) = None
+abbrev pub bare_line : Command → List (List ℕ) → Option Line
+bare_line command [] = Some (lines.Command command)
+bare_line command (word ∷ more) = None
 
 -- list, or list NAME
 abbrev pub list_line : List (List ℕ) → Option Line
@@ -161,11 +162,11 @@ other_line verb rest =
     else if bytes_eq verb (codes "redraw") then redraw_line rest
     else if bytes_eq verb (codes "plot") then plot_line rest
     else if bytes_eq verb (codes "write") then write_line rest
-    else if bytes_eq verb (codes "begin") then alone commands.Begin rest
-    else if bytes_eq verb (codes "end") then alone commands.End rest
-    else if bytes_eq verb (codes "abort") then alone commands.Abort rest
-    else if bytes_eq verb (codes "undo") then alone commands.Undo rest
-    else if bytes_eq verb (codes "redo") then alone commands.Redo rest
+    else if bytes_eq verb (codes "begin") then bare_line commands.Begin rest
+    else if bytes_eq verb (codes "end") then bare_line commands.End rest
+    else if bytes_eq verb (codes "abort") then bare_line commands.Abort rest
+    else if bytes_eq verb (codes "undo") then bare_line commands.Undo rest
+    else if bytes_eq verb (codes "redo") then bare_line commands.Redo rest
     else if bytes_eq verb (codes "list") then list_line rest
     else None
 

@@ -43,7 +43,8 @@ count_in word = numeral_to (2 ^ 32 - 1) word
 -- a length: an optional sign and digits, of at most 4,000,000,000 nm in absolute value
 abbrev pub length_in : List ℕ → Option ℤ
 length_in word =
-    option_map (λ n. if starts_with_minus word then neg_ℤ (pos n) else pos n) (numeral_to 4000000000 (without_leading_sign word))
+    option_map (λ n. if starts_with_minus word then neg_ℤ (pos n) else pos n)
+    (numeral_to 4000000000 (without_leading_sign word))
 
 -- the number of a tool: one past 65,535 is read as 65,535, which no layer has
 abbrev pub tool_in : List ℕ → Option ℕ

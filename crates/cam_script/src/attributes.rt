@@ -3,7 +3,7 @@
 ghost use Rattle.std.specs.Prelude.{◌≡◌, ◌∷◌, IfErr, IfOk};
 ghost use Rattle.cam_objects.specs.Attributes.{comma};
 ghost use Rattle.cam_script.specs.Parsing.{drop_change, is_no_memory, set_change};
-ghost use Rattle.cam_script.specs.Machinery.Reading.{held};
+ghost use Rattle.cam_script.specs.Machinery.Reading.{unless_refused};
 
 use crate::line::LineFault;
 use crate::words::Words;
@@ -47,7 +47,7 @@ fn fields_of(alloc: Global, word: &[u8]) -> Result<Items<u8>, LineFault>
 
 /// The words behind the name of a setting.
 pub fn set_change(alloc: Global, words: &mut Words<'_>) -> Result<Change, LineFault>
-    ensures { held (set_change words.old) (is_no_memory result) ≡ result }
+    ensures { unless_refused (set_change words.old) (is_no_memory result) ≡ result }
 {
     let Some(key) = words.next() else {
         return Err(LineFault::BadLine);
@@ -74,7 +74,7 @@ pub fn set_change(alloc: Global, words: &mut Words<'_>) -> Result<Change, LineFa
 /// The words behind the name of a drop.
 #[tactic(auto, using(crate::proofs::Forms::no_drop))]
 pub fn drop_change(alloc: Global, words: &mut Words<'_>) -> Result<Change, LineFault>
-    ensures { held (drop_change words.old) (is_no_memory result) ≡ result }
+    ensures { unless_refused (drop_change words.old) (is_no_memory result) ≡ result }
 {
     let Some(key) = words.one() else {
         return Err(LineFault::BadLine);

@@ -16,7 +16,7 @@ ghost use Rattle.cam_script.specs.Parsing.{
   reorder_change,
   tool_change,
 };
-ghost use Rattle.cam_script.specs.Machinery.Reading.{change_by, held};
+ghost use Rattle.cam_script.specs.Machinery.Reading.{change_by, unless_refused};
 ghost use Rattle.cam_script.specs.Words.{count_in};
 
 use crate::attributes::{drop_change, set_change};
@@ -93,7 +93,7 @@ fn place(word: &[u8]) -> Option<usize>
 
 /// The words behind the name of an insertion.
 fn insert_change(alloc: Global, words: &mut Words<'_>) -> Result<Change, LineFault>
-    ensures { held (insert_change words.old) (is_no_memory result) ≡ result }
+    ensures { unless_refused (insert_change words.old) (is_no_memory result) ≡ result }
 {
     let Some((k, form)) = words.next_two() else {
         return Err(LineFault::BadLine);
@@ -183,7 +183,7 @@ fn diameter_change(words: &mut Words<'_>) -> Option<Change>
 
 /// The change of a form and of the words behind the name.
 fn change(alloc: Global, form: ChangeForm, words: &mut Words<'_>) -> Result<Change, LineFault>
-    ensures { held (change_by form words.old) (is_no_memory result) ≡ result }
+    ensures { unless_refused (change_by form words.old) (is_no_memory result) ≡ result }
 {
     let change = match form {
         ChangeForm::Insert => return insert_change(alloc, words),

@@ -12,7 +12,7 @@ ghost use Rattle.cam_script.specs.Items.{
   rout_in,
 };
 ghost use Rattle.cam_script.specs.Parsing.{is_no_memory};
-ghost use Rattle.cam_script.specs.Machinery.Reading.{held};
+ghost use Rattle.cam_script.specs.Machinery.Reading.{unless_refused};
 
 use crate::line::LineFault;
 use crate::marks::{direction, polarity, turn};
@@ -94,7 +94,7 @@ fn arc(words: &mut Words<'_>) -> Option<Object>
 
 /// The words behind `region`. Its segments are counted, and so judged, before memory is asked for.
 fn region(alloc: Global, words: &mut Words<'_>) -> Result<Object, LineFault>
-    ensures { held (region_in words.old) (is_no_memory result) ≡ result }
+    ensures { unless_refused (region_in words.old) (is_no_memory result) ≡ result }
 {
     let Some(tone) = words.next() else {
         return Err(LineFault::BadLine);
@@ -134,7 +134,7 @@ fn hit(words: &mut Words<'_>) -> Option<NewItem>
 
 /// The words behind `rout`. Its points are counted, and so judged, before memory is asked for.
 fn rout(alloc: Global, words: &mut Words<'_>) -> Result<NewItem, LineFault>
-    ensures { held (rout_in words.old) (is_no_memory result) ≡ result }
+    ensures { unless_refused (rout_in words.old) (is_no_memory result) ≡ result }
 {
     let Some(number) = words.next() else {
         return Err(LineFault::BadLine);
@@ -154,7 +154,7 @@ fn rout(alloc: Global, words: &mut Words<'_>) -> Result<NewItem, LineFault>
 
 /// The item of an object that takes no memory.
 fn object_item(object: Option<Object>) -> Result<NewItem, LineFault>
-    ensures { result ≡ held (as_item object) false }
+    ensures { result ≡ unless_refused (as_item object) false }
 {
     let object = object.ok_or(LineFault::BadLine)?;
     Ok(NewItem::Gerber(Item::One(object)))
@@ -162,7 +162,7 @@ fn object_item(object: Option<Object>) -> Result<NewItem, LineFault>
 
 /// The item of a region.
 fn region_item(alloc: Global, words: &mut Words<'_>) -> Result<NewItem, LineFault>
-    ensures { held (as_item (region_in words.old)) (is_no_memory result) ≡ result }
+    ensures { unless_refused (as_item (region_in words.old)) (is_no_memory result) ≡ result }
 {
     let object = region(alloc, words)?;
     Ok(NewItem::Gerber(Item::One(object)))
@@ -170,7 +170,7 @@ fn region_item(alloc: Global, words: &mut Words<'_>) -> Result<NewItem, LineFaul
 
 /// The item of a form and of the words behind it.
 pub fn item(alloc: Global, form: &[u8], words: &mut Words<'_>) -> Result<NewItem, LineFault>
-    ensures { held (item_in form.now words.old) (is_no_memory result) ≡ result }
+    ensures { unless_refused (item_in form.now words.old) (is_no_memory result) ≡ result }
 {
     if is(form, b"flash") {
         return object_item(flash(words));

@@ -2,7 +2,7 @@
 
 ghost use Rattle.std.specs.Prelude.{◌≡◌, false};
 ghost use Rattle.cam_script.specs.Parsing.{
-  alone,
+  bare_line,
   is_no_memory,
   kept,
   line_in,
@@ -138,8 +138,8 @@ fn list(alloc: Global, words: &mut Words<'_>) -> Result<Line, LineFault>
 }
 
 /// The line of a command that is its word alone.
-fn alone(command: Command, words: &mut Words<'_>) -> Option<Line>
-    ensures { result ≡ alone command words.old }
+fn bare(command: Command, words: &mut Words<'_>) -> Option<Line>
+    ensures { result ≡ bare_line command words.old }
 {
     if words.next().is_some() {
         return None;
@@ -174,19 +174,19 @@ fn other(alloc: Global, verb: &[u8], words: &mut Words<'_>) -> Result<Line, Line
         return write(alloc, words);
     }
     if is(verb, b"begin") {
-        return plain(alone(Command::Begin, words));
+        return plain(bare(Command::Begin, words));
     }
     if is(verb, b"end") {
-        return plain(alone(Command::End, words));
+        return plain(bare(Command::End, words));
     }
     if is(verb, b"abort") {
-        return plain(alone(Command::Abort, words));
+        return plain(bare(Command::Abort, words));
     }
     if is(verb, b"undo") {
-        return plain(alone(Command::Undo, words));
+        return plain(bare(Command::Undo, words));
     }
     if is(verb, b"redo") {
-        return plain(alone(Command::Redo, words));
+        return plain(bare(Command::Redo, words));
     }
     if is(verb, b"list") {
         return list(alloc, words);

@@ -10,7 +10,7 @@ use Rattle.cam_edits.proofs.EditedLists.{all_here}
 use Rattle.cam_edits.specs.Boards.{content_at}
 use Rattle.cam_edits.specs.Images.{image_of, sheet_leaves}
 use Rattle.cam_edits.specs.Sheets.{Content}
-use Rattle.cam_station.specs.Layers.{AreTables}
+use Rattle.cam_station.specs.TileTables.{AreTables}
 use Rattle.cam_station.specs.Locality.{CleanTiles, IsClean}
 use Rattle.cam_station.specs.Machine.{State, fresh}
 use Rattle.cam_station.specs.Calls.{states_after}

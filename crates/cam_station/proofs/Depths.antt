@@ -6,7 +6,7 @@ use Rattle.std.specs.Prelude.{drop, slice_get}
 use Rattle.cam_edits.specs.Sheets.{Sheet}
 use Rattle.cam_undo.specs.declared.fault.HistoryFault.{HistoryFault}
 use Rattle.cam_undo.specs.Machine.{
-  State as Timeline,
+  Timeline,
   aborted_in,
   accepted_in,
   begun,

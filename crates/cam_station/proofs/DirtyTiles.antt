@@ -9,12 +9,12 @@ use Rattle.cam_edits.specs.Editing.{edited}
 use Rattle.cam_edits.specs.Sheets.{Sheet}
 use Rattle.cam_edits.specs.Touches.{Touch, touch_of_edit}
 use Rattle.cam_undo.specs.declared.fault.HistoryFault.{HistoryFault}
-use Rattle.cam_undo.specs.Machine.{State as Timeline, abort_fault, redo_fault, undo_fault}
+use Rattle.cam_undo.specs.Machine.{Timeline, abort_fault, redo_fault, undo_fault}
 use Rattle.cam_station.specs.Locality.{DirtyTiles, TouchesAlone, boxes_on}
 use Rattle.cam_station.specs.Machine.{
   State,
   Outcome,
-  Memory,
+  MemoryGrant,
   Granted,
   RefusedToReader,
   RefusedToStation,
@@ -49,7 +49,7 @@ module _ (s : State) (place : ℕ) (t : Table) (here : slice_get s.tables place 
         tiles = touch_law.tiles t (boxes_on place touches);
       }
 
-  room : (touches : List Touch) (memory : Memory) (change : State × Outcome)
+  room : (touches : List Touch) (memory : MemoryGrant) (change : State × Outcome)
       → TouchesAlone touches s change.0 place t → Dirties touches (with_room memory s change)
   room touches Granted change h accepted = h
   room touches RefusedToReader change h accepted = h
@@ -60,21 +60,21 @@ module _ (s : State) (place : ℕ) (t : Table) (here : slice_get s.tables place 
   history touches None change h = h
   history touches (Some f) change h = λ accepted. absurd cc
 
-  edit : (touch : Touch) (memory : Memory) (made : Result (List Sheet) EditFault)
+  edit : (touch : Touch) (memory : MemoryGrant) (made : Result (List Sheet) EditFault)
       → Dirties (touch ∷ []) (edit_to s memory touch made)
   edit touch memory (Err f) accepted = absurd cc
   edit touch memory (Ok sheets) accepted =
       room (touch ∷ []) memory _ (touches_alone (touch ∷ []) _ _) accepted
 
-  abort : (memory : Memory) → Dirties (touched_by_abort s.touches) (abort_step s memory)
+  abort : (memory : MemoryGrant) → Dirties (touched_by_abort s.touches) (abort_step s memory)
   abort memory =
       history _ (abort_fault s.timeline) _ (room _ memory _ (touches_alone (touched_by_abort s.touches) _ _))
 
-  undo : (memory : Memory) → Dirties (touched_by_undo s.touches) (undo_step s memory)
+  undo : (memory : MemoryGrant) → Dirties (touched_by_undo s.touches) (undo_step s memory)
   undo memory =
       history _ (undo_fault s.timeline) _ (room _ memory _ (touches_alone (touched_by_undo s.touches) _ _))
 
-  redo : (memory : Memory) → Dirties (touched_by_redo s.touches) (redo_step s memory)
+  redo : (memory : MemoryGrant) → Dirties (touched_by_redo s.touches) (redo_step s memory)
   redo memory =
       history _ (redo_fault s.timeline) _ (room _ memory _ (touches_alone (touched_by_redo s.touches) _ _))
 

@@ -9,13 +9,13 @@ use Rattle.cam_edits.specs.Boards.{content_at, place_named}
 use Rattle.cam_edits.specs.Images.{image_of}
 use Rattle.cam_edits.specs.Places.{changed}
 use Rattle.cam_edits.specs.Sheets.{Content, Sheet}
-use Rattle.cam_station.specs.Layers.{dirty_in, drawn, redrawn_in, table_at}
+use Rattle.cam_station.specs.TileTables.{dirty_in, drawn, redrawn_in, table_at}
 use Rattle.cam_station.specs.declared.reply.Numbers.TheVariants.{One}
 use Rattle.cam_station.specs.declared.reply.Reply.TheVariants.{Bytes, Numbers}
 use Rattle.cam_station.specs.Locality.{CountsRedraw, DrawnTiles}
 use Rattle.cam_station.specs.Machine.{
   State,
-  Memory,
+  MemoryGrant,
   Granted,
   RefusedToReader,
   RefusedToStation,
@@ -74,7 +74,7 @@ dirty_drawn c (u ∷ tables) (suc place) t here =
 -- ---- what is told
 
 module _ (s : State) (h : IsShown s) where
-  redraw_counts : (o : Option Window) (n : ℕ) (memory : Memory) (count : ℕ) → s.window ≡ o
+  redraw_counts : (o : Option Window) (n : ℕ) (memory : MemoryGrant) (count : ℕ) → s.window ≡ o
       → (redraw_in s n o).1 ≡ Ok (Numbers (One count))
       → (count ≡ min n (dirty_in s.tables)) × (dirty_in (redraw_in s n o).0.tables + count ≡ dirty_in s.tables)
   redraw_counts None n memory count is answered = absurd cc
@@ -84,7 +84,7 @@ module _ (s : State) (h : IsShown s) where
         omega (arith, told, dirty_redrawn n s.timeline.document s.tables (as_many_as_layers s h w is)),
       )
 
-  redrawn_counts : (n : ℕ) (memory : Memory) (count : ℕ) → (redraw_in s n s.window).1 ≡ Ok (Numbers (One count))
+  redrawn_counts : (n : ℕ) (memory : MemoryGrant) (count : ℕ) → (redraw_in s n s.window).1 ≡ Ok (Numbers (One count))
       → CountsRedraw s n memory count
   redrawn_counts n memory count answered =
       let both = redraw_counts s.window n memory count refl answered in
@@ -108,7 +108,7 @@ module _ (s : State) (h : IsShown s) where
         dirty_drawn (content_at s.timeline.document place) s.tables place found.0 found.1,
       )
 
-  plot_counts : (memory : Memory) (o : Option Window) (place : ℕ) (bytes : List ℕ) (count : ℕ) → s.window ≡ o
+  plot_counts : (memory : MemoryGrant) (o : Option Window) (place : ℕ) (bytes : List ℕ) (count : ℕ) → s.window ≡ o
       → place < length s.timeline.document → (plot_in s memory place o).1 ≡ Ok (Bytes bytes count)
       → IsDrawnAt (plot_in s memory place o).0 o place count
   plot_counts memory None place bytes count is within answered = absurd cc
@@ -120,7 +120,7 @@ module _ (s : State) (h : IsShown s) where
       record { is = refl; left = granted w place count is within told }
   plot_counts RefusedToStation (Some w) place bytes count is within answered = absurd cc
 
-  plotted_counts : (name : List ℕ) (memory : Memory) (place : Option ℕ) (bytes : List ℕ) (count : ℕ)
+  plotted_counts : (name : List ℕ) (memory : MemoryGrant) (place : Option ℕ) (bytes : List ℕ) (count : ℕ)
       → place_named name s.timeline.document ≡ place → (plot_at s memory place).1 ≡ Ok (Bytes bytes count)
       → ((plot_at s memory place).0 ≡ drawn_where s s.window place)
       × (dirty_in (drawn_where s s.window place).tables + count ≡ dirty_in s.tables)

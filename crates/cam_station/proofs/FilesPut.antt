@@ -9,7 +9,7 @@ use Rattle.cam_station.specs.declared.reply.Reply.{Reply}
 use Rattle.cam_station.specs.declared.reply.Reply.TheVariants.{Done, Numbers, Bytes}
 use Rattle.cam_station.specs.Calls.{Call, answer_to, states_after}
 use Rattle.cam_station.specs.FilesPut.{ExactFiles, IsExactPut, PutsExactly}
-use Rattle.cam_station.specs.Machine.{State, Outcome, Memory, fresh, step}
+use Rattle.cam_station.specs.Machine.{State, Outcome, MemoryGrant, fresh, step}
 use Rattle.cam_station.specs.Plots.{IsPlotOf}
 use Rattle.cam_station.specs.Run.{World, byte_count, load_turn, parsed_turn, put_turn, turn}
 use Rattle.cam_station.specs.RunLaws.{line_calls}

@@ -7,13 +7,13 @@ use Rattle.cam_edits.specs.Editing.{edited}
 use Rattle.cam_edits.specs.Sheets.{Sheet}
 use Rattle.cam_edits.specs.Touches.{Touch, touch_of_edit}
 use Rattle.cam_undo.specs.Laws.{all_accepted, group_accepted}
-use Rattle.cam_undo.specs.Machine.{State as Timeline, accepted, begun, end_fault, ended}
+use Rattle.cam_undo.specs.Machine.{Timeline, accepted, begun, end_fault, ended}
 use Rattle.cam_script.specs.declared.command.Command.{Command}
 use Rattle.cam_script.specs.declared.command.Command.TheVariants as commands
 use Rattle.cam_station.specs.Machine.{
   State,
   Outcome,
-  Memory,
+  MemoryGrant,
   Granted,
   RefusedToReader,
   RefusedToStation,
@@ -21,7 +21,7 @@ use Rattle.cam_station.specs.Machine.{
   step,
 }
 use Rattle.cam_station.specs.Calls.{Call, state_after, states_after}
-use Rattle.cam_station.specs.Undoing.{IsAccepted, IsEdit, AreEdits, IsGroup, begin, end, group_of}
+use Rattle.cam_station.specs.Undoing.{IsAccepted, IsEdit, AreEdits, IsGroup, begin, end, group_calls}
 use Rattle.cam_station.proofs.Quiet.{Documents, all_quiet_keep, documents_of, quiet_keeps}
 
 -- the documents once some sheets are accepted
@@ -31,14 +31,14 @@ After s after = (sheets : List Sheet) × (documents_of after ≡ (s.depth, accep
 abbrev Edits : State → State × Outcome → Type 0
 Edits s p = IsOk p.1 → After s p.0
 
-edits_to : (s : State) (m : Memory) (touch : Touch) (made : Result (List Sheet) EditFault)
+edits_to : (s : State) (m : MemoryGrant) (touch : Touch) (made : Result (List Sheet) EditFault)
     → Edits s (edit_to s m touch made)
 edits_to s m touch (Err fault) = λ ok. cc
 edits_to s Granted touch (Ok sheets) = λ ok. (sheets, refl)
 edits_to s RefusedToReader touch (Ok sheets) = λ ok. (sheets, refl)
 edits_to s RefusedToStation touch (Ok sheets) = λ ok. cc
 
-edits : (s : State) (c : Command) (m : Memory) → IsEdit c → Edits s (step s c m)
+edits : (s : State) (c : Command) (m : MemoryGrant) → IsEdit c → Edits s (step s c m)
 edits s (commands.Edit edit) m is =
     edits_to s m (touch_of_edit edit s.timeline.document) (edited edit s.timeline.document)
 edits s _ m is = absurd is
@@ -114,7 +114,7 @@ pub record IsMade (s after : State) : Type 0 where
   pub is : after.timeline ≡ group_accepted (List Sheet) s.depth (edited ∷ later) s.timeline
 
 pub group_made : (s : State) (quiet : List Call) (edit : Call) (more : List Call) → 0 < s.depth
-    → s.timeline.group ≡ None → IsGroup s quiet edit more → IsMade s (states_after s (group_of quiet edit more))
+    → s.timeline.group ≡ None → IsGroup s quiet edit more → IsMade s (states_after s (group_calls quiet edit more))
 group_made s quiet edit more some none h =
     let opened : Documents = (s.depth, begun s.timeline) in
     let first : State = states_after (state_after s begin) quiet in
@@ -128,7 +128,7 @@ group_made s quiet edit more some none h =
     rest.1 ∙ (ap (all_made rest.0) made.1 ∙ ap (all_made all) first_is) in
     let may : end_fault last.timeline ≡ None =
     ap (λ d. end_fault d.1) last_is ∙ (ends s.depth made.0 rest.0 s.timeline some).may in
-    let calls_are : states_after s (group_of quiet edit more) ≡ state_after last end =
+    let calls_are : states_after s (group_calls quiet edit more) ≡ state_after last end =
     states_after-append (state_after s begin) quiet (edit ∷ (more ++ end ∷ []))
     ∙ states_after-append (state_after first edit) more (end ∷ []) in
     record {

@@ -1,5 +1,6 @@
 -- Edits of file attributes show in no tile and in no picture.
-use Rattle.std.proofs.Common.{◌≡◌, ℕ, zero, suc, Bool, List, [], ◌∷◌, map, Option, None, Some, Result, Ok, Err, refl, ap, sym, ◌∙◌, option_map}
+use Rattle.std.proofs.Common.{◌≡◌, ℕ, zero, suc, Bool, List, [], ◌∷◌, map, Option, None, Some, Result, Ok, Err, refl, ap, sym, ◌∙◌}
+use Rattle.std.proofs.Common.{option_map}
 use Rattle.std.specs.Prelude.{position}
 use Rattle.std.specs.Str.{bytes_eq}
 use Rattle.cam_tiles.specs.declared.window.Window.{Window}
@@ -18,10 +19,10 @@ use Rattle.cam_edits.specs.Sheets.{Sheet}
 use Rattle.cam_edits.specs.Touches.{Touch, touch_of_edit}
 use Rattle.cam_edits.proofs.AttributeChanges.{attributes_change_no_picture}
 use Rattle.cam_edits.proofs.Names.{position_map}
-use Rattle.cam_undo.specs.Machine.{State as Timeline, accepted_in}
+use Rattle.cam_undo.specs.Machine.{Timeline, accepted_in}
 use Rattle.cam_station.specs.Attributes.{AttributesShowNowhere, ShowsNowhere}
 use Rattle.cam_station.specs.Documents.{SamePictures, picture_named}
-use Rattle.cam_station.specs.Machine.{State, Memory, Granted, RefusedToReader, RefusedToStation, edit_to, with_edit}
+use Rattle.cam_station.specs.Machine.{State, MemoryGrant, Granted, RefusedToReader, RefusedToStation, edit_to, with_edit}
 use Rattle.cam_station.proofs.TablesAt.{changed-suc}
 
 -- no box touches no tile
@@ -85,7 +86,7 @@ module _ (s : State) (edit : Edit) (is : IsOfAttributes edit.change) where
   stays : ShowsNowhere s s
   stays = record { tiles = refl; pictures = λ w name. refl }
 
-  by_answer : (memory : Memory) (made : Result (List Sheet) EditFault) → edited edit s.timeline.document ≡ made
+  by_answer : (memory : MemoryGrant) (made : Result (List Sheet) EditFault) → edited edit s.timeline.document ≡ made
       → ShowsNowhere s (edit_to s memory touch made).0
   by_answer memory (Err fault) e = stays
   by_answer Granted (Ok sheets) e = changes sheets e

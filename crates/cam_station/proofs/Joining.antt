@@ -3,8 +3,8 @@ use Rattle.std.proofs.Common.{◌≡◌, ℕ, List, [], ◌∷◌, ◌++◌, len
 use Rattle.cam_tiles.specs.declared.window.Window.{Window}
 use Rattle.cam_tiles.specs.Tables.{Table, blank}
 use Rattle.cam_edits.specs.Sheets.{Sheet}
-use Rattle.cam_station.specs.Layers.{AreTables, with_blank}
-use Rattle.cam_station.specs.Machine.{IsStation}
+use Rattle.cam_station.specs.TileTables.{AreTables, with_blank}
+use Rattle.cam_station.specs.Machinery.Stations.{IsStation}
 use Rattle.cam_station.proofs.KeptTables.{blank_joins}
 
 -- a table of the window in force comes last, where one is

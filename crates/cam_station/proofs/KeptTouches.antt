@@ -22,7 +22,7 @@ use Rattle.cam_undo.specs.Timelines.{
   open_answers,
   redone_by,
   start_of,
-  state_at,
+  timeline_at,
   undone_by,
   with_answer,
   with_group_ended,
@@ -32,9 +32,9 @@ use Rattle.cam_undo.specs.Timelines.{
 }
 use Rattle.cam_undo.proofs.Lasts.{ending, last_item-snoc}
 use Rattle.cam_station.specs.Touches.{Touches, accepted_touches, accepted_touches_in, ended_touches, ended_touches_in, played}
-use Rattle.cam_station.specs.Touches.{redone_touches, redone_touches_by, touched_by_redo, touched_by_undo, touches_of, undone_touches}
+use Rattle.cam_station.specs.Touches.{redone_touches, redone_touches_by, touched_by_redo, touched_by_undo, undone_touches}
 use Rattle.cam_station.specs.Touches.{undone_touches_by}
-use Rattle.cam_station.specs.Machinery.Touching.{group_touches, last_accepted, last_accepted_in}
+use Rattle.cam_station.specs.Machinery.Touching.{group_touches, last_accepted, last_accepted_in, touches_of}
 
 -- ---- the ends of lists
 
@@ -201,19 +201,19 @@ module _ {D : Type 0} (r : Ghosts BoardStep D)
       ∙ (touches_turn group c
       ∙ ap played (sym (map-last_item (map touch_of) kept.future ∙ ap (option_map (map touch_of)) e))))
 
-  some_past : (kept : Kept BoardStep) (c : r.Content) → undo_fault (state_at r kept c) ≡ None → kept.past ≡ [] → ⊥
+  some_past : (kept : Kept BoardStep) (c : r.Content) → undo_fault (timeline_at r kept c) ≡ None → kept.past ≡ [] → ⊥
   some_past kept c allowed none =
       let start : r.Content = start_of r kept.open_group c in
       nothing_played (group_of r kept.open_group c) (contents r kept.past start) NothingToUndo
       (ap (λ past. contents r past start) none) allowed
 
   -- the steps that a redo would play now are those that the undo played
-  pub played_by_undo : (c : r.Content) (kept : Kept BoardStep) → undo_fault (state_at r kept c) ≡ None
+  pub played_by_undo : (c : r.Content) (kept : Kept BoardStep) → undo_fault (timeline_at r kept c) ≡ None
       → group_touches (last_item (with_last_undone r c kept).future) ≡ touched_by_undo (touches_of kept)
   played_by_undo c kept allowed =
       let last = last_there kept.past (some_past kept c allowed) in played_back c kept last.0 last.1
 
-  some_future : (kept : Kept BoardStep) (c : r.Content) → redo_fault (state_at r kept c) ≡ None
+  some_future : (kept : Kept BoardStep) (c : r.Content) → redo_fault (timeline_at r kept c) ≡ None
       → kept.future ≡ [] → ⊥
   some_future kept c allowed none =
       let start : r.Content = start_of r kept.open_group c in
@@ -221,7 +221,7 @@ module _ {D : Type 0} (r : Ghosts BoardStep D)
       (ap (λ future. contents r future start) none) allowed
 
   -- and the other way round
-  pub played_by_redo : (c : r.Content) (kept : Kept BoardStep) → redo_fault (state_at r kept c) ≡ None
+  pub played_by_redo : (c : r.Content) (kept : Kept BoardStep) → redo_fault (timeline_at r kept c) ≡ None
       → group_touches (last_item (with_last_redone r c kept).past) ≡ touched_by_redo (touches_of kept)
   played_by_redo c kept allowed =
       let last = last_there kept.future (some_future kept c allowed) in played_on c kept last.0 last.1

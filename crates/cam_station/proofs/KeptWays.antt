@@ -6,7 +6,7 @@ use Rattle.cam_edits.specs.BoxLaws.{ChangesInside}
 use Rattle.cam_edits.specs.Sheets.{Sheet}
 use Rattle.cam_edits.specs.Touches.{Touch}
 use Rattle.cam_undo.specs.Machine.{
-  State as Timeline,
+  Timeline,
   aborted_in,
   accepted_in,
   all_but_last,

@@ -10,8 +10,8 @@ use Rattle.cam_edits.specs.Boards.{with_content}
 use Rattle.cam_edits.specs.Sheets.{Sheet}
 use Rattle.cam_undo.specs.Kept.{Kept}
 use Rattle.circular_buffer.specs.Buffer.{last_item}
-use Rattle.cam_undo.specs.Machine.{State as Timeline, aborted, aborted_in, accepted, accepted_in, redone, redone_to, undone, undone_to}
-use Rattle.cam_undo.specs.Timelines.{after_group, after_groups, contents, group_of, start_of, state_at}
+use Rattle.cam_undo.specs.Machine.{Timeline, aborted, aborted_in, accepted, accepted_in, redone, redone_to, undone, undone_to}
+use Rattle.cam_undo.specs.Timelines.{after_group, after_groups, contents, group_of, start_of, timeline_at}
 use Rattle.cam_station.proofs.KeptTables.{length-changed}
 use Rattle.cam_station.proofs.SoundContents.{all_here}
 
@@ -58,8 +58,8 @@ abort_count None t sheets e = ap length e
 abort_count (Some group) t sheets e = group_count group sheets
 
 pub aborted_count : (kept : Kept BoardStep) (sheets : List Sheet)
-    → length (aborted (state_at ghosts kept sheets)).document ≡ length sheets
-aborted_count kept sheets = abort_count kept.open_group (state_at ghosts kept sheets) sheets refl
+    → length (aborted (timeline_at ghosts kept sheets)).document ≡ length sheets
+aborted_count kept sheets = abort_count kept.open_group (timeline_at ghosts kept sheets) sheets refl
 
 undo_count : (t : Timeline (List Sheet)) (earlier : Option (List Sheet)) (n : ℕ) → length t.document ≡ n
     → ((document : List Sheet) → earlier ≡ Some document → length document ≡ n)
@@ -68,10 +68,10 @@ undo_count t None n e last = e
 undo_count t (Some document) n e last = last document refl
 
 pub undone_count : (kept : Kept BoardStep) (sheets : List Sheet)
-    → length (undone (state_at ghosts kept sheets)).document ≡ length sheets
+    → length (undone (timeline_at ghosts kept sheets)).document ≡ length sheets
 undone_count kept sheets =
     let start : List Sheet = start_of ghosts kept.open_group sheets in
-    undo_count (state_at ghosts kept sheets) (last_item (contents ghosts kept.past start)) (length sheets) refl
+    undo_count (timeline_at ghosts kept sheets) (last_item (contents ghosts kept.past start)) (length sheets) refl
     (λ document e. last_count kept.past start document e ∙ start_count kept.open_group sheets)
 
 redo_count : (t : Timeline (List Sheet)) (later : Option (List Sheet)) (n : ℕ) → length t.document ≡ n
@@ -81,10 +81,10 @@ redo_count t None n e last = e
 redo_count t (Some document) n e last = last document refl
 
 pub redone_count : (kept : Kept BoardStep) (sheets : List Sheet)
-    → length (redone (state_at ghosts kept sheets)).document ≡ length sheets
+    → length (redone (timeline_at ghosts kept sheets)).document ≡ length sheets
 redone_count kept sheets =
     let start : List Sheet = start_of ghosts kept.open_group sheets in
-    redo_count (state_at ghosts kept sheets) (last_item (contents ghosts kept.future start)) (length sheets) refl
+    redo_count (timeline_at ghosts kept sheets) (last_item (contents ghosts kept.future start)) (length sheets) refl
     (λ document e. last_count kept.future start document e ∙ start_count kept.open_group sheets)
 
 accepted_here : {X : Type 0} (depth : ℕ) (edited : X) (t : Timeline X) (group : Option (X × ℕ))

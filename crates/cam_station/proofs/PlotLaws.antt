@@ -10,10 +10,10 @@ use Rattle.cam_objects.proofs.TestLaws.{black_law}
 use Rattle.cam_edits.specs.Boards.{content_at, place_named}
 use Rattle.cam_edits.specs.Images.{image_of, sheet_leaves}
 use Rattle.cam_edits.specs.Sheets.{Content}
-use Rattle.cam_station.specs.Layers.{drawn, table_at}
+use Rattle.cam_station.specs.TileTables.{drawn, table_at}
 use Rattle.cam_station.specs.Machine.{
   State,
-  Memory,
+  MemoryGrant,
   Granted,
   RefusedToReader,
   RefusedToStation,
@@ -44,7 +44,7 @@ record IsFile (s : State) (place : ℕ) (reply : Reply) : Type 0 where
   count : ℕ
   answered : reply ≡ Bytes (drawn_file s window place) count
 
-plotted_in : (s : State) (m : Memory) (place : ℕ) (w : Option Window) (reply : Reply) → s.window ≡ w
+plotted_in : (s : State) (m : MemoryGrant) (place : ℕ) (w : Option Window) (reply : Reply) → s.window ≡ w
     → (plot_in s m place w).1 ≡ Ok reply → IsFile s place reply
 plotted_in s m place None reply e h = absurd cc
 plotted_in s Granted place (Some w) reply e h =
@@ -103,7 +103,7 @@ pictured s h name place reply named file =
           both (shows.pixels column row across up) (black_law (sheet_leaves c) (centre_of file.window column row));
     }
 
-plotted : (s : State) (h : IsShown s) (m : Memory) (name : List ℕ) (place : Option ℕ) (reply : Reply)
+plotted : (s : State) (h : IsShown s) (m : MemoryGrant) (name : List ℕ) (place : Option ℕ) (reply : Reply)
     → place_named name s.timeline.document ≡ place → (plot_at s m place).1 ≡ Ok reply → IsPlotOf s name reply
 plotted s h m name None reply e answered = absurd cc
 plotted s h m name (Some place) reply e answered =

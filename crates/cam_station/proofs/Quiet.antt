@@ -4,12 +4,12 @@ use Rattle.cam_tiles.specs.declared.window.Window.{Window}
 use Rattle.cam_tiles.specs.Picture.{accepts}
 use Rattle.cam_edits.specs.Boards.{place_named}
 use Rattle.cam_edits.specs.Sheets.{Sheet}
-use Rattle.cam_undo.specs.Machine.{State as Timeline}
+use Rattle.cam_undo.specs.Machine.{Timeline}
 use Rattle.cam_script.specs.declared.command.Command.{Command}
 use Rattle.cam_script.specs.declared.command.Command.TheVariants as commands
 use Rattle.cam_station.specs.Machine.{
   State,
-  Memory,
+  MemoryGrant,
   Granted,
   RefusedToReader,
   RefusedToStation,
@@ -53,7 +53,7 @@ redraw_keeps : (s : State) (n : ℕ) (w : Option Window) → Keeps s (redraw_in 
 redraw_keeps s n None = refl
 redraw_keeps s n (Some w) = refl
 
-write_keeps : (s : State) (m : Memory) (place : Option ℕ) → Keeps s (write_at s m place).0
+write_keeps : (s : State) (m : MemoryGrant) (place : Option ℕ) → Keeps s (write_at s m place).0
 write_keeps s m None = refl
 write_keeps s Granted (Some place) = refl
 write_keeps s RefusedToReader (Some place) = refl
@@ -63,14 +63,14 @@ list_layer_keeps : (s : State) (place : Option ℕ) → Keeps s (list_layer_at s
 list_layer_keeps s None = refl
 list_layer_keeps s (Some place) = refl
 
-window_keeps : (s : State) (w : Window) (m : Memory) (b : Bool)
+window_keeps : (s : State) (w : Window) (m : MemoryGrant) (b : Bool)
     → Keeps s (if b then with_room m s (with_window s w, Ok Done) else (s, refused out_of_limits)).0
 window_keeps s w m false = refl
 window_keeps s w Granted true = refl
 window_keeps s w RefusedToReader true = refl
 window_keeps s w RefusedToStation true = refl
 
-look_keeps : (s : State) (c : Command) (m : Memory) → IsLook c → Keeps s (step s c m).0
+look_keeps : (s : State) (c : Command) (m : MemoryGrant) → IsLook c → Keeps s (step s c m).0
 look_keeps s (commands.SetWindow w) m h = window_keeps s w m (accepts w)
 look_keeps s (commands.Redraw n) m h = redraw_keeps s n s.window
 look_keeps s (commands.Plot name) m h = ap documents_of (plot_draws s name m) ∙ named_keeps s name

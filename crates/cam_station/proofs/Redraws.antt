@@ -7,7 +7,7 @@ use Rattle.cam_tiles.specs.Tables.{Table, dirty_count, redrawn}
 use Rattle.cam_edits.specs.Boards.{content_at}
 use Rattle.cam_edits.specs.Images.{image_of}
 use Rattle.cam_edits.specs.Sheets.{Sheet}
-use Rattle.cam_station.specs.Layers.{dirty_in, redrawn_in}
+use Rattle.cam_station.specs.TileTables.{dirty_in, redrawn_in}
 use Rattle.cam_station.proofs.KeptTables.{none_redrawn}
 
 -- the tables from a place on: the first one is drawn, and then the others

@@ -46,11 +46,11 @@ use Rattle.cam_station.specs.Refusals.{
   out_of_limits,
   too_many_layers,
 }
-use Rattle.cam_station.specs.Layers.{redrawn_in}
+use Rattle.cam_station.specs.TileTables.{redrawn_in}
 use Rattle.cam_station.specs.Machine.{
   State,
   Outcome,
-  Memory,
+  MemoryGrant,
   Granted,
   RefusedToReader,
   RefusedToStation,
@@ -156,7 +156,7 @@ module _ (s : State) (P : State × Outcome → Type 0) (h : AfterOthers s P) whe
   either false p q hp hq = hq
 
   -- whether memory is refused or not
-  room : (m : Memory) (change : State × Outcome) → P change → P (with_room m s change)
+  room : (m : MemoryGrant) (change : State × Outcome) → P change → P (with_room m s change)
   room Granted change holds = holds
   room RefusedToReader change holds = holds
   room RefusedToStation change holds = without memory_refused refl
@@ -166,12 +166,12 @@ module _ (s : State) (P : State × Outcome → Type 0) (h : AfterOthers s P) whe
   history None change holds = holds refl
   history (Some f) change holds = without (history_code f) (history_own f)
 
-  read : (name : List ℕ) (kind : FileKind) (file : List ℕ) (m : Memory) (meaning : Result Content Fault)
+  read : (name : List ℕ) (kind : FileKind) (file : List ℕ) (m : MemoryGrant) (meaning : Result Content Fault)
       → meaning_of kind file ≡ meaning → P (load_read s name m meaning)
   read name kind file m (Err f) is = h.unread kind file f is
   read name kind file m (Ok c) is = room m _ (h.loaded name kind file c (Numbers (One (item_count c))) is)
 
-  load : (name : List ℕ) (kind : FileKind) (file : List ℕ) (m : Memory)
+  load : (name : List ℕ) (kind : FileKind) (file : List ℕ) (m : MemoryGrant)
       → P (load_read s name m (reader_answer m (meaning_of kind file)))
   load name kind file Granted = read name kind file Granted (meaning_of kind file) refl
   load name kind file RefusedToReader = h.refused (fault_at memory_refused 0) refl
@@ -181,11 +181,11 @@ module _ (s : State) (P : State × Outcome → Type 0) (h : AfterOthers s P) whe
   redraw n None is = without no_window refl
   redraw n (Some w) is = h.drawn w n _ is
 
-  write_named : (m : Memory) (place : Option ℕ) → P (write_at s m place)
+  write_named : (m : MemoryGrant) (place : Option ℕ) → P (write_at s m place)
   write_named m None = without no_layer refl
   write_named m (Some place) = room m _ (h.looked _)
 
-  change : (edit : Edit) (m : Memory) (made : Result (List Sheet) EditFault)
+  change : (edit : Edit) (m : MemoryGrant) (made : Result (List Sheet) EditFault)
       → edited edit s.timeline.document ≡ made → P (edit_to s m (touch_of_edit edit s.timeline.document) made)
   change edit m (Err f) is = without (edit_code f) (edit_own f)
   change edit m (Ok sheets) is = room m _ (h.changed edit sheets is)
@@ -194,7 +194,7 @@ module _ (s : State) (P : State × Outcome → Type 0) (h : AfterOthers s P) whe
   list_named None = without no_layer refl
   list_named (Some place) = h.looked _
 
-  after_others : (c : Command) (m : Memory) → IsOther c → P (step s c m)
+  after_others : (c : Command) (m : MemoryGrant) → IsOther c → P (step s c m)
   after_others (commands.Load name kind file) m other =
       either (is_some s.timeline.group) _ _ (λ _. without group_open refl)
       (either (is_some (place_named name s.timeline.document)) _ _ (λ _. without name_taken refl)
@@ -215,23 +215,23 @@ module _ (s : State) (P : State × Outcome → Type 0) (h : AfterOthers s P) whe
   after_others (commands.ListLayer name) m other = list_named (place_named name s.timeline.document)
 
 module _ (s : State) (P : State × Outcome → Type 0) (h : AfterEach s P) where
-  plot : (m : Memory) (place : ℕ) (w : Option Window) → s.window ≡ w → P (plot_in s m place w)
+  plot : (m : MemoryGrant) (place : ℕ) (w : Option Window) → s.window ≡ w → P (plot_in s m place w)
   plot m place None is = without s P h.others no_window refl
   plot Granted place (Some w) is = h.plotted w place _ is
   plot RefusedToReader place (Some w) is = h.plotted w place _ is
   plot RefusedToStation place (Some w) is = h.plot_refused w place is
 
-  plot_named : (m : Memory) (place : Option ℕ) → P (plot_at s m place)
+  plot_named : (m : MemoryGrant) (place : Option ℕ) → P (plot_at s m place)
   plot_named m None = without s P h.others no_layer refl
   plot_named m (Some place) = plot m place s.window refl
 
-  pub after_each : (c : Command) (m : Memory) → P (step s c m)
+  pub after_each : (c : Command) (m : MemoryGrant) → P (step s c m)
   after_each (commands.Plot name) m = plot_named m (place_named name s.timeline.document)
   after_each c m = after_others s P h.others c m tt
 
 -- ---- refusals
 
-draws_in : (s : State) (m : Memory) (place : ℕ) (w : Option Window)
+draws_in : (s : State) (m : MemoryGrant) (place : ℕ) (w : Option Window)
     → (plot_in s m place w).0 ≡ drawn_where s w (Some place)
 draws_in s m place None = refl
 draws_in s Granted place (Some w) = refl
@@ -242,12 +242,12 @@ draws_none : (s : State) (w : Option Window) → s ≡ drawn_where s w None
 draws_none s None = refl
 draws_none s (Some w) = refl
 
-draws_at : (s : State) (m : Memory) (place : Option ℕ) → (plot_at s m place).0 ≡ drawn_where s s.window place
+draws_at : (s : State) (m : MemoryGrant) (place : Option ℕ) → (plot_at s m place).0 ≡ drawn_where s s.window place
 draws_at s m None = draws_none s s.window
 draws_at s m (Some place) = draws_in s m place s.window
 
 -- a plot draws its layer, whether it is refused or not
-pub plot_draws : (s : State) (name : List ℕ) (m : Memory) → (plot_step s name m).0 ≡ drawn_named name s
+pub plot_draws : (s : State) (name : List ℕ) (m : MemoryGrant) → (plot_step s name m).0 ≡ drawn_named name s
 plot_draws s name m = draws_at s m (place_named name s.timeline.document)
 
 abbrev Stays : State → State × Outcome → Type 0
@@ -270,7 +270,7 @@ stays_each s =
       made_again = λ may e. cc;
     }
 
-stays : (s : State) (c : Command) (m : Memory) → IsErr (step s c m).1 → (step s c m).0 ≡ after_refusal s c
+stays : (s : State) (c : Command) (m : MemoryGrant) → IsErr (step s c m).1 → (step s c m).0 ≡ after_refusal s c
 stays s (commands.Plot name) m e = plot_draws s name m
 stays s c m e = after_others s (Stays s) (stays_each s) c m tt e
 

@@ -10,9 +10,9 @@ use Rattle.cam_station.specs.declared.files.FileFault.TheVariants.{Failed, Memor
 use Rattle.cam_station.specs.declared.reply.Reply.TheVariants.{Done, Numbers, Bytes}
 use Rattle.cam_script.specs.declared.line.Line.TheVariants.{Command, Load, Plot, Write}
 use Rattle.cam_script.specs.declared.line.LineFault.TheVariants.{LineTooLong, BadLine, Memory as LineMemory}
-use Rattle.cam_station.specs.Machine.{State, Outcome, Memory, step}
+use Rattle.cam_station.specs.Machine.{State, Outcome, MemoryGrant, step}
 use Rattle.cam_station.specs.Calls.{Call, answers_to, states_after}
-use Rattle.cam_station.specs.Contents.{HasRisenBy}
+use Rattle.cam_station.specs.Files.{HasRisenBy}
 use Rattle.cam_script.specs.Parsing.{Parsed, parsed}
 use Rattle.cam_station.specs.Run.{World, Tells, Turn, turn, turns, parsed_turn, load_turn, put_turn, byte_count}
 use Rattle.cam_station.specs.Run.{ask_failures, is_refusal, refused_lines, FilesSeen}
@@ -29,7 +29,7 @@ none_counted : (b : Bool) (n : ℕ) → b ≡ false → cond b 1 0 ≤ n
 none_counted true n e = absurd cc
 none_counted false n e = omega arith
 
-load_counted : (s : State) (name : List ℕ) (kind : FileKind) (path : List ℕ) (memory : Memory)
+load_counted : (s : State) (name : List ℕ) (kind : FileKind) (path : List ℕ) (memory : MemoryGrant)
     (got : Result (List ℕ) FileFault)
     → IsCounted (load_turn s name kind path memory got)
 load_counted s name kind path memory (Ok bytes) =
@@ -83,7 +83,7 @@ pub after_both : (s : State) (cs ds : List Call) → states_after s (cs ++ ds) �
 after_both s [] ds = refl
 after_both s (c ∷ cs) ds = after_both (step s c.0 c.1).0 cs ds
 
-load_leads : (s : State) (name : List ℕ) (kind : FileKind) (path : List ℕ) (memory : Memory)
+load_leads : (s : State) (name : List ℕ) (kind : FileKind) (path : List ℕ) (memory : MemoryGrant)
     (got : Result (List ℕ) FileFault)
     → (load_turn s name kind path memory got).state ≡ states_after s (load_calls name kind memory got)
 load_leads s name kind path memory (Ok bytes) = refl

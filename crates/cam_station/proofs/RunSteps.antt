@@ -6,11 +6,11 @@ use Rattle.std.specs.Prelude.{cond}
 use Rattle.std.proofs.lemmas.List.Sums.{sum_by-cons}
 use Rattle.cam_station.specs.Machine.{State}
 use Rattle.cam_station.specs.Run.{World, Turn, turn, turns, spoken, output, is_refusal, refused_lines}
-use Rattle.cam_station.specs.Run.{FilesSeen, AllAnswer, Moment, Lead, Finishes, Stops}
-use Rattle.cam_station.specs.Machinery.Lines.{Passes, IsUnsaid}
+use Rattle.cam_station.specs.Run.{FilesSeen, AllAnswer, Moment, TurnsLead, RunsAllLines, StopsAtUnsaidReply}
+use Rattle.cam_station.specs.Machinery.Lines.{TurnLeadsTo, ReplyIsUnsaid}
 use Rattle.cam_station.proofs.Saying.{risen_twice}
 
-pub lead_none : (m : Moment) → Lead [] m m
+pub lead_none : (m : Moment) → TurnsLead [] m m
 lead_none m = record { files = refl; said = Appends-nil m.said; out_failures = omega arith; refused = omega arith }
 
 answer_more : (t : Turn) (ts : List Turn) (old between new : FilesSeen) → AllAnswer (t ∷ []) old between
@@ -33,8 +33,8 @@ count_more t ts a b c h k =
     sum_by-cons (λ t. cond (is_refusal t.reply) 1 0) t ts in
     omega (arith, h, k, one, all)
 
-pub lead_more : (t : Turn) (ts : List Turn) (before between after : Moment) → Lead (t ∷ []) before between
-    → Lead ts between after → Lead (t ∷ ts) before after
+pub lead_more : (t : Turn) (ts : List Turn) (before between after : Moment) → TurnsLead (t ∷ []) before between
+    → TurnsLead ts between after → TurnsLead (t ∷ ts) before after
 lead_more t ts before between after h k =
     record {
       files = answer_more t ts before.files between.files after.files h.files k.files;
@@ -43,7 +43,7 @@ lead_more t ts before between after h k =
       refused = count_more t ts before.refused between.refused after.refused h.refused k.refused;
     }
 
-pub finishes_none : (s : State) (m : Moment) → Finishes s [] [] m m
+pub finishes_none : (s : State) (m : Moment) → RunsAllLines s [] [] m m
 finishes_none s m = record { each = refl; lead = lead_none m }
 
 module _ (s : State) (line : List ℕ) (lines : List (List ℕ)) (w : World) where
@@ -53,10 +53,10 @@ module _ (s : State) (line : List ℕ) (lines : List (List ℕ)) (w : World) whe
   turns_from state ws e = ap (λ (q : State). turn s line w ∷ turns q lines ws) e
 
   pub finishes_more : (state : State) (ws : List World) (before between after : Moment)
-      → Passes (turn s line w) state before between → Finishes state lines ws between after
-      → Finishes s (line ∷ lines) (w ∷ ws) before after
+      → TurnLeadsTo (turn s line w) state before between → RunsAllLines state lines ws between after
+      → RunsAllLines s (line ∷ lines) (w ∷ ws) before after
   finishes_more state ws before between after passes rest =
-      let P : List Turn → Type 0 = λ ts. Lead ts before after in
+      let P : List Turn → Type 0 = λ ts. TurnsLead ts before after in
       record {
         each = omega (arith, rest.each);
         lead = subst P (sym (turns_from state ws passes.state_is))
@@ -67,7 +67,8 @@ module _ (s : State) (line : List ℕ) (lines : List (List ℕ)) (w : World) whe
   no_turns state [] = refl
   no_turns state (l ∷ ls) = refl
 
-  pub stops_here : (before after : Moment) → IsUnsaid (turn s line w) before after → Stops s (line ∷ lines) (w ∷ []) before after
+  pub stops_here : (before after : Moment) → ReplyIsUnsaid (turn s line w) before after
+      → StopsAtUnsaidReply s (line ∷ lines) (w ∷ []) before after
   stops_here before after unsaid =
       record {
         earlier = [];
@@ -81,7 +82,8 @@ module _ (s : State) (line : List ℕ) (lines : List (List ℕ)) (w : World) whe
       }
 
   pub stops_more : (state : State) (ws : List World) (before between after : Moment)
-      → Passes (turn s line w) state before between → Stops state lines ws between after → Stops s (line ∷ lines) (w ∷ ws) before after
+      → TurnLeadsTo (turn s line w) state before between → StopsAtUnsaidReply state lines ws between after
+      → StopsAtUnsaidReply s (line ∷ lines) (w ∷ ws) before after
   stops_more state ws before between after passes rest =
       record {
         earlier = turn s line w ∷ rest.earlier;

@@ -7,7 +7,7 @@ use Rattle.std.specs.Io.KnownBytes.{Appends}
 use Rattle.std.proofs.KnownBytes.{Appends-trans}
 use Rattle.std.proofs.lemmas.Grind.{flat_map-append}
 use Rattle.std.proofs.lemmas.List.{take_more}
-use Rattle.cam_station.specs.Contents.{HasRisenBy}
+use Rattle.cam_station.specs.Files.{HasRisenBy}
 
 abbrev spaced : ℕ → List ℕ
 spaced n = codes " " ++ decimal n

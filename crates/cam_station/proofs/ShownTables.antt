@@ -17,8 +17,8 @@ use Rattle.cam_edits.specs.Places.{changed}
 use Rattle.cam_edits.specs.Sheets.{Content, Sheet, sheet}
 use Rattle.cam_edits.specs.Touches.{Touch, touch_of_edit}
 use Rattle.cam_undo.specs.declared.fault.HistoryFault.{HistoryFault}
-use Rattle.cam_undo.specs.Machine.{State as Timeline, aborted, accepted, begun, ended, fault_by_group, redone, undone}
-use Rattle.cam_station.specs.Layers.{AreTables, drawn, redrawn_in, touched_in, with_blank}
+use Rattle.cam_undo.specs.Machine.{Timeline, aborted, accepted, begun, ended, fault_by_group, redone, undone}
+use Rattle.cam_station.specs.TileTables.{AreTables, drawn, redrawn_in, touched_in, with_blank}
 use Rattle.cam_station.specs.Locality.{boxes_on}
 use Rattle.cam_station.specs.Machine.{State, Outcome, fresh, moved_to, with_drawn, with_sheet, with_tables, with_window}
 use Rattle.cam_station.specs.Touches.{

@@ -14,7 +14,7 @@ use Rattle.cam_xnc.specs.Reading.{reading_of as drill_reading}
 use Rattle.cam_xnc.proofs.SoundReadings.{reading_is_sound as drill_is_sound}
 use Rattle.cam_script.specs.declared.command.FileKind.{FileKind}
 use Rattle.cam_script.specs.declared.command.FileKind.TheVariants as kinds
-use Rattle.cam_edits.specs.Boards.{content_at, empty_content, held}
+use Rattle.cam_edits.specs.Boards.{content_at, content_or_empty, empty_content}
 use Rattle.cam_edits.specs.Sheets.{AreSound, Content, Gerber, Drill, IsSound, Sheet}
 use Rattle.cam_station.specs.declared.fault.Fault.{Fault}
 use Rattle.cam_station.specs.Meanings.{drill_meaning, gerber_meaning, meaning_of}
@@ -68,7 +68,7 @@ empty_sound =
     }
 
 held_sound : (sheets : List Sheet) (place : ℕ) (o : Option Sheet) → AreSound sheets → slice_get sheets place ≡ o
-    → IsSound (held o)
+    → IsSound (content_or_empty o)
 held_sound sheets place None h e = empty_sound
 held_sound sheets place (Some s) h e = all_here (λ s. IsSound s.content) sheets place s h e
 

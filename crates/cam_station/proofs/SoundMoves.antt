@@ -3,7 +3,7 @@ use Rattle.std.proofs.Common.{◌≡◌, List, [], Option, None, subst}
 use Rattle.cam_edits.specs.Sheets.{Sheet}
 use Rattle.cam_script.specs.declared.command.Command.TheVariants as commands
 use Rattle.cam_undo.specs.declared.fault.HistoryFault.{HistoryFault}
-use Rattle.cam_undo.specs.Machine.{State as Timeline, abort_fault, aborted, redo_fault, redone, undo_fault, undone}
+use Rattle.cam_undo.specs.Machine.{Timeline, abort_fault, aborted, redo_fault, redone, undo_fault, undone}
 use Rattle.cam_station.specs.declared.reply.Reply.TheVariants.{Done}
 use Rattle.cam_station.specs.Machine.{Granted, State, unless}
 use Rattle.std.specs.Prelude.{Ok}

@@ -6,10 +6,10 @@ use Rattle.cam_tiles.specs.declared.window.Window.{Window}
 use Rattle.cam_tiles.specs.Picture.{accepts}
 use Rattle.cam_tiles.specs.Tables.{Table}
 use Rattle.cam_edits.specs.Sheets.{AreSound, IsSound, Sheet, sheet}
-use Rattle.cam_undo.specs.Machine.{State as Timeline, aborted, aborted_in, accepted, accepted_in, begun, ended}
+use Rattle.cam_undo.specs.Machine.{Timeline, aborted, aborted_in, accepted, accepted_in, begun, ended}
 use Rattle.cam_undo.specs.Machine.{ended_after, ended_in, redone, redone_to, undone, undone_to}
 use Rattle.cam_script.specs.declared.command.Command.{Command}
-use Rattle.cam_station.specs.Machine.{State, Memory, alone, fresh, step, with_tables, with_window}
+use Rattle.cam_station.specs.Machine.{State, MemoryGrant, unedited, fresh, step, with_tables, with_window}
 use Rattle.cam_station.specs.Sound.{IsSoundGroup, IsSoundTimeline}
 use Rattle.cam_station.specs.Touches.{Touches}
 use Rattle.cam_station.specs.Calls.{Call, state_after}
@@ -29,7 +29,7 @@ kept_sound depth past document h sound =
 abbrev last_of : List (List Sheet) → Option (List Sheet)
 last_of documents = slice_get documents (length documents - 1)
 
-alone_sound : (document : List Sheet) → AreSound document → IsSoundTimeline (alone document)
+alone_sound : (document : List Sheet) → AreSound document → IsSoundTimeline (unedited document)
 alone_sound document sound =
     record { document = sound; past = All-nil AreSound; future = All-nil AreSound; group = tt }
 
@@ -120,7 +120,7 @@ module _ (s : State) (P : State → Type 0) (h : AfterEach s P) where
         unread = λ kind file f e. h.stays;
         loaded = λ name kind file c reply e.
             let all : List Sheet = s.timeline.document ++ sheet name c ∷ [] in
-            h.moved (alone all) _ _ (λ before.
+            h.moved (unedited all) _ _ (λ before.
             alone_sound all
             (All-push (λ x. IsSound x.content) s.timeline.document (sheet name c) before.document
             (content_read kind file c e)));
@@ -151,7 +151,7 @@ module _ (s : State) (P : State → Type 0) (h : AfterEach s P) where
         plot_refused = λ w place e. h.drawn _;
       }
 
-  pub after_each : (c : Command) (m : Memory) → P (step s c m).0
+  pub after_each : (c : Command) (m : MemoryGrant) → P (step s c m).0
   after_each c m = each_command s (λ after. P after.0) each_way c m
 
 -- ---- the timeline stays sound

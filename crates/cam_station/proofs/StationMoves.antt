@@ -12,17 +12,18 @@ use Rattle.cam_edits.specs.Sheets.{Sheet}
 use Rattle.cam_edits.specs.Touches.{Touch, touch_of, touch_of_edit}
 use Rattle.circular_buffer.specs.Buffer.{last_item}
 use Rattle.cam_undo.specs.Kept.{Kept}
-use Rattle.cam_undo.specs.Machine.{State as Timeline, abort_fault, aborted, accepted, end_fault}
+use Rattle.cam_undo.specs.Machine.{Timeline, abort_fault, aborted, accepted, end_fault}
 use Rattle.cam_undo.specs.Machine.{ended, redo_fault, redone, undo_fault, undone}
-use Rattle.cam_undo.specs.Timelines.{ended_by, open_answers, redone_by, state_at, undone_by, with_group_closed}
+use Rattle.cam_undo.specs.Timelines.{ended_by, open_answers, redone_by, timeline_at, undone_by, with_group_closed}
 use Rattle.cam_undo.specs.Timelines.{with_group_ended, with_last_redone, with_last_undone, with_step}
 use Rattle.cam_station.specs.declared.reply.Reply.TheVariants.{Done}
-use Rattle.cam_station.specs.Layers.{touched_in}
-use Rattle.cam_station.specs.Machine.{Granted, IsStation, State, abort_step, edit_step, edit_to}
+use Rattle.cam_station.specs.TileTables.{touched_in}
+use Rattle.cam_station.specs.Machine.{Granted, State, abort_step, edit_step, edit_to}
 use Rattle.cam_station.specs.Machine.{end_step, moved_to, redo_step, undo_step, unless}
 use Rattle.cam_station.specs.Touches.{Touches, aborted_touches, accepted_touches, ended_touches, redone_touches, touched_by_abort}
-use Rattle.cam_station.specs.Touches.{touched_by_redo, touched_by_undo, touches_of, undone_touches}
-use Rattle.cam_station.specs.Machinery.Touching.{group_touches, last_accepted}
+use Rattle.cam_station.specs.Touches.{touched_by_redo, touched_by_undo, undone_touches}
+use Rattle.cam_station.specs.Machinery.Stations.{IsStation}
+use Rattle.cam_station.specs.Machinery.Touching.{group_touches, last_accepted, touches_of}
 use Rattle.cam_edits.proofs.PlannedTouch.{planned_touch, touch_kept}
 use Rattle.cam_station.proofs.KeptTables.{length-touched_in, touches_stay, written_over}
 use Rattle.cam_station.proofs.KeptTouches.{accepted_last, played_by_abort, played_by_redo, played_by_undo, touches_accepted}
@@ -33,7 +34,7 @@ abbrev pub seen : Option Window → Kept BoardStep → List Sheet → List Table
 seen window kept sheets tables = record {
   depth = kept.depth;
   window = window;
-  timeline = state_at ghosts kept sheets;
+  timeline = timeline_at ghosts kept sheets;
   touches = touches_of kept;
   tables = tables;
 }
@@ -87,7 +88,7 @@ end_depth kept (Some (step ∷ later)) = refl
 
 module _ (window : Option Window) (kept new : Kept BoardStep) (sheets after : List Sheet) (old tables : List Table) where
   moved_seen : (t : Timeline (List Sheet)) (m : Touches) (way : List Touch) → new.depth ≡ kept.depth
-      → state_at ghosts new after ≡ t → touches_of new ≡ m → tables ≡ touched_in way old
+      → timeline_at ghosts new after ≡ t → touches_of new ≡ m → tables ≡ touched_in way old
       → moved_to (seen window kept sheets old) t m way ≡ seen window new after tables
   moved_seen t m way same to touches over =
       ap (λ depth. record { depth = depth; window = window; timeline = t; touches = m; tables = touched_in way old })
@@ -102,15 +103,15 @@ module _ (window : Option Window) (kept new : Kept BoardStep) (sheets after : Li
       ∙ (ap (λ touches. record {
         depth = new.depth;
         window = window;
-        timeline = state_at ghosts new after;
+        timeline = timeline_at ghosts new after;
         touches = touches;
         tables = touched_in way old;
       }) (sym touches)
       ∙ ap (seen window new after) (sym over)))
 
   -- an abort, whose answers touch their tiles
-  pub abort_made : (steps : List BoardStep) → abort_fault (state_at ghosts kept sheets) ≡ None
-      → new ≡ with_group_closed ghosts kept → state_at ghosts new after ≡ aborted (state_at ghosts kept sheets)
+  pub abort_made : (steps : List BoardStep) → abort_fault (timeline_at ghosts kept sheets) ≡ None
+      → new ≡ with_group_closed ghosts kept → timeline_at ghosts new after ≡ aborted (timeline_at ghosts kept sheets)
       → steps ≡ open_answers ghosts kept.open_group sheets → tables ≡ touched_in (map touch_of steps) old
       → abort_step (seen window kept sheets old) Granted ≡ (seen window new after tables, Ok Done)
   abort_made steps allowed is to handed over =
@@ -124,8 +125,8 @@ module _ (window : Option Window) (kept new : Kept BoardStep) (sheets after : Li
       (ap touches_of is) (over ∙ ap (λ way. touched_in way old) way))
 
   -- an undo, whose steps touch their tiles
-  pub undo_made : (steps : Option (List BoardStep)) → undo_fault (state_at ghosts kept sheets) ≡ None
-      → new ≡ with_last_undone ghosts sheets kept → state_at ghosts new after ≡ undone (state_at ghosts kept sheets)
+  pub undo_made : (steps : Option (List BoardStep)) → undo_fault (timeline_at ghosts kept sheets) ≡ None
+      → new ≡ with_last_undone ghosts sheets kept → timeline_at ghosts new after ≡ undone (timeline_at ghosts kept sheets)
       → steps ≡ last_item new.future → tables ≡ touched_in (group_touches steps) old
       → undo_step (seen window kept sheets old) Granted ≡ (seen window new after tables, Ok Done)
   undo_made steps allowed is to last over =
@@ -140,8 +141,8 @@ module _ (window : Option Window) (kept new : Kept BoardStep) (sheets after : Li
       (ap touches_of is ∙ touches_undone ghosts touch_kept sheets kept) (over ∙ ap (λ way. touched_in way old) way))
 
   -- a redo, whose steps touch their tiles
-  pub redo_made : (steps : Option (List BoardStep)) → redo_fault (state_at ghosts kept sheets) ≡ None
-      → new ≡ with_last_redone ghosts sheets kept → state_at ghosts new after ≡ redone (state_at ghosts kept sheets)
+  pub redo_made : (steps : Option (List BoardStep)) → redo_fault (timeline_at ghosts kept sheets) ≡ None
+      → new ≡ with_last_redone ghosts sheets kept → timeline_at ghosts new after ≡ redone (timeline_at ghosts kept sheets)
       → steps ≡ last_item new.past → tables ≡ touched_in (group_touches steps) old
       → redo_step (seen window kept sheets old) Granted ≡ (seen window new after tables, Ok Done)
   redo_made steps allowed is to last over =
@@ -158,7 +159,7 @@ module _ (window : Option Window) (kept new : Kept BoardStep) (sheets after : Li
   -- an accepted edit, whose step touches its tiles
   pub edit_made : (edit : Edit) (step : BoardStep) → 1 ≤ kept.depth → IsPlan sheets edit step
       → new ≡ with_step ghosts step sheets kept → new.depth ≡ kept.depth
-      → state_at ghosts new after ≡ accepted kept.depth (after_board_step step sheets) (state_at ghosts kept sheets)
+      → timeline_at ghosts new after ≡ accepted kept.depth (after_board_step step sheets) (timeline_at ghosts kept sheets)
       → tables ≡ touched_in (last_accepted (touches_of new)) old
       → edit_step (seen window kept sheets old) edit Granted ≡ (seen window new after tables, Ok Done)
   edit_made edit step some plan is same to over =
@@ -177,8 +178,8 @@ module _ (window : Option Window) (kept new : Kept BoardStep) (sheets after : Li
 
 -- the end of a group
 pub end_made : (window : Option Window) (kept new : Kept BoardStep) (sheets : List Sheet) (tables : List Table)
-    → end_fault (state_at ghosts kept sheets) ≡ None → new ≡ with_group_ended ghosts kept
-    → state_at ghosts new sheets ≡ ended kept.depth (state_at ghosts kept sheets)
+    → end_fault (timeline_at ghosts kept sheets) ≡ None → new ≡ with_group_ended ghosts kept
+    → timeline_at ghosts new sheets ≡ ended kept.depth (timeline_at ghosts kept sheets)
     → end_step (seen window kept sheets tables) ≡ (seen window new sheets tables, Ok Done)
 end_made window kept new sheets tables allowed is to =
     let s : State = seen window kept sheets tables in

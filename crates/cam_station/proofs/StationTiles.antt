@@ -10,8 +10,9 @@ use Rattle.cam_edits.specs.Machinery.PlaceLaws.{changed_is, get_changed}
 use Rattle.cam_edits.specs.Places.{changed}
 use Rattle.cam_edits.specs.Sheets.{Content, Sheet}
 use Rattle.cam_station.specs.declared.reply.Reply.TheVariants.{Bytes}
-use Rattle.cam_station.specs.Layers.{AreTables, drawn, redrawn_in, table_at}
-use Rattle.cam_station.specs.Machine.{Granted, IsStation, RefusedToStation, State, Outcome}
+use Rattle.cam_station.specs.TileTables.{AreTables, drawn, redrawn_in, table_at}
+use Rattle.cam_station.specs.Machine.{Granted, RefusedToStation, State, Outcome}
+use Rattle.cam_station.specs.Machinery.Stations.{IsStation}
 use Rattle.cam_station.specs.Machine.{plot_at, plot_in, plot_step, refused, with_drawn}
 use Rattle.cam_station.specs.Refusals.{memory_refused}
 use Rattle.cam_station.proofs.KeptTables.{drawn_stays, length-redrawn_in, redraw_stays, written_over}

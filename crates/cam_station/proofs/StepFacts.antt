@@ -1,7 +1,7 @@
 -- The station itself refuses nothing for a file that failed.
 use Rattle.std.proofs.Common.{◌≡◌, Some, false, refl, subst}
 use Rattle.cam_script.specs.declared.command.Command.{Command}
-use Rattle.cam_station.specs.Machine.{State, Outcome, Memory, step}
+use Rattle.cam_station.specs.Machine.{State, Outcome, MemoryGrant, step}
 use Rattle.cam_station.specs.RunLaws.{is_file_refusal}
 use Rattle.cam_station.proofs.FaultNumbers.{IsOwnMeaning, meaning_own}
 use Rattle.cam_station.proofs.Refusing.{AfterEach, AfterOthers, after_each}
@@ -31,6 +31,6 @@ own_each : (s : State) → AfterEach s IsOwn
 own_each s =
     record { others = own_others s; plotted = λ w place reply is. refl; plot_refused = λ w place is. refl }
 
-pub step_gets_no_file : (s : State) (command : Command) (memory : Memory)
+pub step_gets_no_file : (s : State) (command : Command) (memory : MemoryGrant)
     → is_file_refusal (Some (step s command memory).1) ≡ false
 step_gets_no_file s = after_each s IsOwn (own_each s)

@@ -14,7 +14,7 @@ use Rattle.cam_edits.specs.Images.{image_of}
 use Rattle.cam_edits.specs.Places.{changed, changed_to}
 use Rattle.cam_edits.specs.Sheets.{Sheet}
 use Rattle.cam_edits.specs.Touches.{Touch}
-use Rattle.cam_station.specs.Layers.{redrawn_in, touched_in}
+use Rattle.cam_station.specs.TileTables.{redrawn_in, touched_in}
 use Rattle.cam_station.specs.Locality.{boxes_on}
 
 module _ {X : Type 0} (f : X → X) where

@@ -7,8 +7,8 @@ use Rattle.cam_edits.specs.Editing.{edited}
 use Rattle.cam_edits.specs.Sheets.{AreSound, Content, IsSound, Sheet, sheet}
 use Rattle.cam_edits.specs.Touches.{Touch, touch_of_edit}
 use Rattle.cam_script.specs.declared.command.Command.TheVariants as commands
-use Rattle.cam_undo.specs.Machine.{State as Timeline, accepted}
-use Rattle.cam_station.specs.Machine.{Granted, State, alone, edit_to}
+use Rattle.cam_undo.specs.Machine.{Timeline, accepted}
+use Rattle.cam_station.specs.Machine.{Granted, State, edit_to, unedited}
 use Rattle.cam_station.specs.Sound.{IsSoundTimeline}
 use Rattle.cam_station.specs.Touches.{no_touches}
 use Rattle.cam_station.proofs.SoundSteps.{sound_step}
@@ -22,7 +22,7 @@ sound_edit depth t edit after e sound =
     subst P e (sound_step s (commands.Edit edit, Granted) sound)
 
 pub sound_load : (sheets : List Sheet) (name : List ℕ) (c : Content) → AreSound sheets → IsSound c
-    → IsSoundTimeline (alone (sheets ++ sheet name c ∷ []))
+    → IsSoundTimeline (unedited (sheets ++ sheet name c ∷ []))
 sound_load sheets name c sound here = record {
   document = All-push (λ s. IsSound s.content) sheets (sheet name c) sound here;
   past = All-nil AreSound;

@@ -7,7 +7,7 @@ use Rattle.cam_edits.specs.Sheets.{Sheet}
 use Rattle.cam_undo.specs.declared.fault.HistoryFault.{HistoryFault}
 use Rattle.cam_undo.specs.declared.fault.HistoryFault.TheVariants.{NothingToRedo, NothingToUndo}
 use Rattle.cam_undo.specs.Machine.{
-  State as Timeline,
+  Timeline,
   accepted,
   begun,
   fault_by_list,
@@ -24,7 +24,9 @@ use Rattle.cam_station.specs.Documents.{SamePixels, picture_named, text_named}
 use Rattle.cam_station.specs.Machine.{State, Granted, fresh, moved_to, step}
 use Rattle.cam_station.specs.Touches.{redone_touches, touched_by_redo, touched_by_undo, undone_touches}
 use Rattle.cam_station.specs.Calls.{Call, answer_to, state_after, states_after}
-use Rattle.cam_station.specs.Undoing.{AreQuiet, ExactUndo, ExactUndoEverywhere, GivesBack, IsAccepted, IsGroup, IsTakenBack, group_of, redo, undo, undone_after}
+use Rattle.cam_station.specs.Undoing.{AreQuiet, ExactUndo, ExactUndoEverywhere, GivesBack, IsAccepted, IsGroup, IsTakenBack, group_calls}
+use Rattle.cam_station.specs.Undoing.{redo}
+use Rattle.cam_station.specs.Undoing.{undo, undone_after}
 use Rattle.cam_station.proofs.Depths.{IsWithinDepth, within_depth}
 use Rattle.cam_station.proofs.Groups.{After, Ends, IsMade, edit_made, ends, group_made, grown}
 use Rattle.cam_station.proofs.Quiet.{all_quiet_keep}
@@ -142,10 +144,10 @@ edit_taken_back s edit some none is =
 
 group_taken_back : (s : State) (quiet : List Call) (edit : Call) (more : List Call) → 0 < s.depth
     → s.timeline.group ≡ None → IsGroup s quiet edit more
-    → IsTakenBack (states_after s (group_of quiet edit more)) s.timeline.document
+    → IsTakenBack (states_after s (group_calls quiet edit more)) s.timeline.document
 group_taken_back s quiet edit more some none is =
-    let made : IsMade s (states_after s (group_of quiet edit more)) = group_made s quiet edit more some none is in
-    taken_back (states_after s (group_of quiet edit more)) s.timeline.document
+    let made : IsMade s (states_after s (group_calls quiet edit more)) = group_made s quiet edit more some none is in
+    taken_back (states_after s (group_calls quiet edit more)) s.timeline.document
     (subst (λ t. Reverts t s.timeline.document) (sym made.is)
     (group_reverts s.depth made.edited made.later s.timeline some))
 

@@ -17,11 +17,11 @@ use Rattle.cam_script.specs.declared.command.FileKind.{FileKind}
 use Rattle.cam_station.specs.declared.reply.Numbers.TheVariants.{One}
 use Rattle.cam_station.specs.declared.reply.Reply.{Reply}
 use Rattle.cam_station.specs.declared.reply.Reply.TheVariants.{Bytes, Numbers}
-use Rattle.cam_edits.specs.Boards.{content_at, held, place_named}
+use Rattle.cam_edits.specs.Boards.{content_at, content_or_empty, place_named}
 use Rattle.cam_edits.specs.Sheets.{AreSound, Content, Gerber, Drill, IsSound, Sheet, item_count, sheet}
 use Rattle.cam_station.specs.Documents.{content_named}
 use Rattle.cam_edits.specs.Images.{image_of}
-use Rattle.cam_station.specs.Machine.{State, Outcome, Memory, Granted, RefusedToReader, RefusedToStation, fresh}
+use Rattle.cam_station.specs.Machine.{State, Outcome, MemoryGrant, Granted, RefusedToReader, RefusedToStation, fresh}
 use Rattle.cam_station.specs.Machine.{load_read, reader_answer, refused, step, with_sheet, write_at}
 use Rattle.cam_station.specs.Meanings.{drill_meaning, gerber_meaning, meaning_of}
 use Rattle.cam_station.specs.Refusals.{group_open, layer_limit, name_taken, too_many_layers}
@@ -71,7 +71,7 @@ last_named : (name : List ℕ) (sheets : List Sheet) (c : Content) → place_nam
 last_named name sheets c free =
     let all : List Sheet = sheets ++ sheet name c ∷ [] in
     ap (option_map (content_at all)) (last_place name sheets c free)
-    ∙ ap (λ o. Some (held o)) (last_there sheets (sheet name c))
+    ∙ ap (λ o. Some (content_or_empty o)) (last_there sheets (sheet name c))
 
 -- ---- loads
 
@@ -83,10 +83,10 @@ module _ (s : State) (name : List ℕ) (kind : FileKind) (file : List ℕ) (c : 
   passed true code after reply h = absurd cc
   passed false code after reply h = refl
 
-  read_in : Memory → State × Outcome
+  read_in : MemoryGrant → State × Outcome
   read_in m = load_read s name m (reader_answer m (Ok c))
 
-  read_adds : (m : Memory) (reply : Reply) → (read_in m).1 ≡ Ok reply → (read_in m).0 ≡ with_sheet s name c
+  read_adds : (m : MemoryGrant) (reply : Reply) → (read_in m).1 ≡ Ok reply → (read_in m).0 ≡ with_sheet s name c
   unfolding read_in
   read_adds Granted reply h = refl
   read_adds RefusedToReader reply h = absurd cc
@@ -97,11 +97,11 @@ module _ (s : State) (name : List ℕ) (kind : FileKind) (file : List ℕ) (c : 
   untaken (Some n) e = absurd cc
 
   -- the name was free, and the layer stands last
-  record Adds (m : Memory) : Type 0 where
+  record Adds (m : MemoryGrant) : Type 0 where
     free : place_named name s.timeline.document ≡ None
     after : (step s (Load name kind file) m).0 ≡ with_sheet s name c
 
-  load_adds : (m : Memory) (reply : Reply) → (step s (Load name kind file) m).1 ≡ Ok reply → Adds m
+  load_adds : (m : MemoryGrant) (reply : Reply) → (step s (Load name kind file) m).1 ≡ Ok reply → Adds m
   unfolding read_in
   load_adds m reply h =
       let open_group : Bool = is_some s.timeline.group in
@@ -133,13 +133,13 @@ read_back : (c : Content) → IsSound c → meaning_of (kind_of c) (text_of c) �
 read_back (Gerber c) sound = ap gerber_meaning (gerber_reads_back c sound.attributes sound.content)
 read_back (Drill c) sound = ap drill_meaning (reads_back c sound)
 
-written_here : (s : State) (m : Memory) (place : ℕ) (reply : Reply) → (write_at s m (Some place)).1 ≡ Ok reply
+written_here : (s : State) (m : MemoryGrant) (place : ℕ) (reply : Reply) → (write_at s m (Some place)).1 ≡ Ok reply
     → reply ≡ Bytes (text_of (content_at s.timeline.document place)) 0
 written_here s Granted place reply h = cc
 written_here s RefusedToReader place reply h = cc
 written_here s RefusedToStation place reply h = absurd cc
 
-written : (s : State) (m : Memory) (name : List ℕ) (place : Option ℕ) (reply : Reply) → AreSound s.timeline.document
+written : (s : State) (m : MemoryGrant) (name : List ℕ) (place : Option ℕ) (reply : Reply) → AreSound s.timeline.document
     → place_named name s.timeline.document ≡ place → (write_at s m place).1 ≡ Ok reply → IsWriteOf s name reply
 written s m name None reply sound e h = absurd cc
 written s m name (Some place) reply sound e h = record {

@@ -4,11 +4,11 @@ use Rattle.cam_edits.specs.Boards.{place_named}
 use Rattle.cam_tiles.specs.declared.window.Window.{Window}
 use Rattle.cam_script.specs.declared.command.Command.{Command}
 use Rattle.cam_script.specs.declared.command.Command.TheVariants as commands
-use Rattle.cam_station.specs.Machine.{State, Outcome, Memory, fresh, memory_of, step, with_drawn}
+use Rattle.cam_station.specs.Machine.{State, Outcome, MemoryGrant, fresh, memory_of, step, with_drawn}
 
 -- a command, and whether it is refused memory
 abbrev pub Call : Type 0
-Call = Command × Memory
+Call = Command × MemoryGrant
 
 abbrev pub state_after : State → Call → State
 state_after s c = (step s c.0 c.1).0

@@ -4,7 +4,7 @@ pub mod Refusals
 pub mod Meanings
 pub mod Writing
 pub mod Touches
-pub mod Layers
+pub mod TileTables
 pub mod Machine
 pub mod Undoing
 pub mod Plots
@@ -13,7 +13,7 @@ pub mod Attributes
 pub mod Ways
 pub mod Writes
 pub mod Sound
-pub mod Contents
+pub mod Files
 pub mod Replies
 pub mod Run
 pub mod RunLaws

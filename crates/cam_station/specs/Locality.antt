@@ -16,15 +16,15 @@ use Rattle.cam_edits.specs.Touches.{Touch, touch_of_edit}
 use Rattle.cam_script.specs.declared.command.Command.TheVariants as commands
 use Rattle.cam_station.specs.declared.reply.Numbers.TheVariants.{One}
 use Rattle.cam_station.specs.declared.reply.Reply.TheVariants.{Bytes, Numbers}
-use Rattle.cam_station.specs.Layers.{AreTables, dirty_in}
-use Rattle.cam_station.specs.Machine.{State, Memory, fresh}
+use Rattle.cam_station.specs.TileTables.{AreTables, dirty_in}
+use Rattle.cam_station.specs.Machine.{State, MemoryGrant, fresh}
 use Rattle.cam_station.specs.Touches.{touched_by_abort, touched_by_redo, touched_by_undo}
 use Rattle.cam_station.specs.Calls.{Call, answer_to, drawn_named, state_after, states_after}
 
 -- ---- what is clean is right
 
--- The clean tiles of a table show a layer: each has the rows of the layer's image, and each pixel that is known is black
--- exactly where its centre is made black by painting all objects in order.
+-- The clean tiles of a table show a layer: each has the rows of the layer's image, and each pixel that is known is
+-- black exactly where its centre is made black by painting all objects in order.
 pub record ShowsLayer (t : Table) (content : Content) : Type 0 where
   pub tiles : IsPictured (image_of content) t
   pub pixels : (column row : ℕ) (black : Bool) → pixel_of t column row ≡ Some black
@@ -66,29 +66,29 @@ DirtiesAlone s c touches =
 -- in every state: an edit dirties what its own boxes touch, and an abort, an undo and a redo what those of the edits do
 -- that they take back or make again
 pub record DirtyTiles : Type 0 where
-  pub edit : (s : State) (edit : Edit) (memory : Memory)
+  pub edit : (s : State) (edit : Edit) (memory : MemoryGrant)
       → DirtiesAlone s (commands.Edit edit, memory) (touch_of_edit edit s.timeline.document ∷ [])
-  pub abort : (s : State) (memory : Memory) → DirtiesAlone s (commands.Abort, memory) (touched_by_abort s.touches)
-  pub undo : (s : State) (memory : Memory) → DirtiesAlone s (commands.Undo, memory) (touched_by_undo s.touches)
-  pub redo : (s : State) (memory : Memory) → DirtiesAlone s (commands.Redo, memory) (touched_by_redo s.touches)
+  pub abort : (s : State) (memory : MemoryGrant) → DirtiesAlone s (commands.Abort, memory) (touched_by_abort s.touches)
+  pub undo : (s : State) (memory : MemoryGrant) → DirtiesAlone s (commands.Undo, memory) (touched_by_undo s.touches)
+  pub redo : (s : State) (memory : MemoryGrant) → DirtiesAlone s (commands.Redo, memory) (touched_by_redo s.touches)
 
 -- ---- how many are drawn
 
 -- a redraw tells the lesser of its bound and of the dirty tiles, and so many are dirty no more
-pub record CountsRedraw (s : State) (n : ℕ) (memory : Memory) (count : ℕ) : Type 0 where
+pub record CountsRedraw (s : State) (n : ℕ) (memory : MemoryGrant) (count : ℕ) : Type 0 where
   pub told : count ≡ min n (dirty_in s.tables)
   pub left : dirty_in (state_after s (commands.Redraw n, memory)).tables + count ≡ dirty_in s.tables
 
 -- a plot tells how many tiles of its layer were dirty; they are clean thereafter, also where there was no memory for
 -- the file, and no other tile is drawn
-pub record CountsPlot (s : State) (name : List ℕ) (memory : Memory) (bytes : List ℕ) (count : ℕ) : Type 0 where
+pub record CountsPlot (s : State) (name : List ℕ) (memory : MemoryGrant) (bytes : List ℕ) (count : ℕ) : Type 0 where
   pub after : state_after s (commands.Plot name, memory) ≡ drawn_named name s
   pub left : dirty_in (drawn_named name s).tables + count ≡ dirty_in s.tables
 
 pub record DrawnTiles : Type 0 where
-  pub redraw : (depth : ℕ) (before : List Call) (n : ℕ) (memory : Memory) (count : ℕ) →
+  pub redraw : (depth : ℕ) (before : List Call) (n : ℕ) (memory : MemoryGrant) (count : ℕ) →
       let s = states_after (fresh depth) before in
       answer_to s (commands.Redraw n, memory) ≡ Ok (Numbers (One count)) → CountsRedraw s n memory count
-  pub plot : (depth : ℕ) (before : List Call) (name : List ℕ) (memory : Memory) (bytes : List ℕ) (count : ℕ) →
+  pub plot : (depth : ℕ) (before : List Call) (name : List ℕ) (memory : MemoryGrant) (bytes : List ℕ) (count : ℕ) →
       let s = states_after (fresh depth) before in
       answer_to s (commands.Plot name, memory) ≡ Ok (Bytes bytes count) → CountsPlot s name memory bytes count

@@ -1,6 +1,6 @@
 -- The machine that a station is: a document with its earlier and later documents, a window, and the tiles of each layer
 -- in it; one command is one step.
-use Rattle.std.specs.Prelude.{◌≡◌, ℕ, ◌≤◌, min, nat_le, Bool, true, ◌==◌, ◌&&◌, if◌then◌else◌, List}
+use Rattle.std.specs.Prelude.{ℕ, min, nat_le, Bool, ◌==◌, ◌&&◌, if◌then◌else◌, List}
 use Rattle.std.specs.Prelude.{[], ◌∷◌, ◌++◌, length, Option, None, Some, Result, Ok, Err, is_some}
 use Rattle.cam_tiles.specs.declared.window.Window.{Window}
 use Rattle.cam_tiles.specs.Picture.{accepts}
@@ -13,8 +13,8 @@ use Rattle.cam_edits.specs.Places.{changed}
 use Rattle.cam_edits.specs.Sheets.{Content, Sheet, entry_count, item_count, sheet}
 use Rattle.cam_edits.specs.Touches.{Touch, touch_of_edit}
 use Rattle.cam_undo.specs.declared.fault.HistoryFault.{HistoryFault}
-use Rattle.cam_undo.specs.Machine.{State as Timeline, abort_fault, aborted, accepted, begin_fault, begun}
-use Rattle.cam_undo.specs.Machine.{end_fault, ended, redo_fault, redone, undo_fault, undone}
+use Rattle.cam_undo.specs.Machine.{Timeline, abort_fault, aborted, accepted, begin_fault, begun}
+use Rattle.cam_undo.specs.Machine.{end_fault, ended, greatest_depth, redo_fault, redone, undo_fault, undone}
 use Rattle.cam_script.specs.declared.command.Command.{Command}
 use Rattle.cam_script.specs.declared.command.Command.TheVariants as commands
 use Rattle.cam_script.specs.declared.command.FileKind.{FileKind}
@@ -22,11 +22,10 @@ use Rattle.cam_station.specs.declared.fault.Fault.{Fault}
 use Rattle.cam_station.specs.declared.reply.Reply.{Reply}
 use Rattle.cam_station.specs.declared.reply.Reply.TheVariants.{Done, Numbers, Bytes}
 use Rattle.cam_station.specs.declared.reply.Numbers.TheVariants.{One, Two, Three}
-use Rattle.cam_station.specs.Layers.{AreTables, blanks, dirty_in, drawn, redrawn_in, table_at, touched_in, with_blank}
+use Rattle.cam_station.specs.TileTables.{blanks, dirty_in, drawn, redrawn_in, table_at, touched_in, with_blank}
 use Rattle.cam_station.specs.Meanings.{fault_at, meaning_of}
 use Rattle.cam_station.specs.Refusals.{
   edit_code,
-  greatest_depth,
   group_open,
   history_code,
   layer_limit,
@@ -52,8 +51,8 @@ use Rattle.cam_station.specs.Touches.{
 }
 use Rattle.cam_station.specs.Writing.{text_of}
 
--- the sheets as they are, with the earlier ones and those that were taken back; what the ways there touch; the window in
--- force, and in it the tiles of each sheet
+-- the sheets as they are, with the earlier ones and those that were taken back; what the ways there touch; the window
+-- in force, and in it the tiles of each sheet
 pub record State : Type 0 where
   pub depth : ℕ
   pub window : Option Window
@@ -61,13 +60,13 @@ pub record State : Type 0 where
   pub touches : Touches
   pub tables : List Table
 
--- the sheets without any before or after them
-abbrev pub alone : List Sheet → Timeline (List Sheet)
-alone sheets = record { document = sheets; past = []; future = []; group = None }
+-- the sheets with no edit of them that could be taken back or made again
+abbrev pub unedited : List Sheet → Timeline (List Sheet)
+unedited sheets = record { document = sheets; past = []; future = []; group = None }
 
 -- a station as it is made
 abbrev pub fresh : ℕ → State
-fresh depth = record { depth = depth; window = None; timeline = alone []; touches = no_touches; tables = [] }
+fresh depth = record { depth = depth; window = None; timeline = unedited []; touches = no_touches; tables = [] }
 
 -- other tiles are clean
 abbrev pub with_tables : State → List Table → State
@@ -99,19 +98,19 @@ abbrev pub refused : ℕ → Outcome
 refused code = Err (fault code)
 
 -- whether a growth was refused, and to whom
-pub data Memory : Type 0 where
-  Granted : Memory
-  RefusedToReader : Memory
-  RefusedToStation : Memory
+pub data MemoryGrant : Type 0 where
+  Granted : MemoryGrant
+  RefusedToReader : MemoryGrant
+  RefusedToStation : MemoryGrant
 
 -- what the answer tells of it
-abbrev pub memory_of : {T : Type 0} → Result T Fault → Memory
+abbrev pub memory_of : {T : Type 0} → Result T Fault → MemoryGrant
 memory_of (Ok given) = Granted
 memory_of (Err f) =
     if f.code == memory_refused then (if is_some f.at then RefusedToReader else RefusedToStation) else Granted
 
 -- a change that needs room in the station: without it the command is refused, and nothing changes
-abbrev pub with_room : Memory → State → State × Outcome → State × Outcome
+abbrev pub with_room : MemoryGrant → State → State × Outcome → State × Outcome
 with_room Granted s change = change
 with_room RefusedToReader s change = change
 with_room RefusedToStation s change = (s, refused memory_refused)
@@ -120,19 +119,19 @@ with_room RefusedToStation s change = (s, refused memory_refused)
 abbrev pub is_depth : ℕ → Bool
 is_depth depth = nat_le 1 depth && nat_le depth greatest_depth
 
-abbrev pub made : ℕ → Memory → Result State Fault
+abbrev pub made : ℕ → MemoryGrant → Result State Fault
 made depth Granted = Ok (fresh depth)
 made depth RefusedToReader = Ok (fresh depth)
 made depth RefusedToStation = Err (fault memory_refused)
 
 -- a station of this depth, or the refusal of another depth
-abbrev pub station_of : ℕ → Memory → Result State Fault
+abbrev pub station_of : ℕ → MemoryGrant → Result State Fault
 station_of depth memory = if is_depth depth then made depth memory else Err (fault out_of_limits)
 
 -- load ----------------------------------------------------------------------------------------
 
 -- what the reader answers to a file of this meaning
-abbrev pub reader_answer : Memory → Result Content Fault → Result Content Fault
+abbrev pub reader_answer : MemoryGrant → Result Content Fault → Result Content Fault
 reader_answer Granted meaning = meaning
 reader_answer RefusedToReader meaning = Err (fault_at memory_refused 0)
 reader_answer RefusedToStation meaning = meaning
@@ -142,17 +141,17 @@ abbrev pub with_sheet : State → List ℕ → Content → State
 with_sheet s name content = record {
   depth = s.depth;
   window = s.window;
-  timeline = alone (s.timeline.document ++ sheet name content ∷ []);
+  timeline = unedited (s.timeline.document ++ sheet name content ∷ []);
   touches = no_touches;
   tables = with_blank s.window s.tables;
 }
 
-abbrev pub load_read : State → List ℕ → Memory → Result Content Fault → State × Outcome
+abbrev pub load_read : State → List ℕ → MemoryGrant → Result Content Fault → State × Outcome
 load_read s name memory (Err fault) = (s, Err fault)
 load_read s name memory (Ok content) =
     with_room memory s (with_sheet s name content, Ok (Numbers (One (item_count content))))
 
-abbrev pub load_step : State → List ℕ → FileKind → List ℕ → Memory → State × Outcome
+abbrev pub load_step : State → List ℕ → FileKind → List ℕ → MemoryGrant → State × Outcome
 load_step s name kind file memory =
     if is_some s.timeline.group then (s, refused group_open)
     else (if is_some (place_named name s.timeline.document) then (s, refused name_taken)
@@ -171,7 +170,7 @@ with_window s w = record {
   tables = blanks w s.timeline.document;
 }
 
-abbrev pub window_step : State → Window → Memory → State × Outcome
+abbrev pub window_step : State → Window → MemoryGrant → State × Outcome
 window_step s w memory =
     if accepts w then with_room memory s (with_window s w, Ok Done) else (s, refused out_of_limits)
 
@@ -189,7 +188,7 @@ abbrev pub with_drawn : State → ℕ → State
 with_drawn s place = with_tables s (changed (drawn (content_at s.timeline.document place)) s.tables place)
 
 -- the dirty tiles of the layer are drawn, also where there is no memory for the file
-abbrev pub plot_in : State → Memory → ℕ → Option Window → State × Outcome
+abbrev pub plot_in : State → MemoryGrant → ℕ → Option Window → State × Outcome
 plot_in s memory place None = (s, refused no_window)
 plot_in s memory place (Some w) =
     with_room memory (with_drawn s place) (
@@ -197,22 +196,22 @@ plot_in s memory place (Some w) =
       Ok (Bytes (pbm_of (table_at w (with_drawn s place).tables place)) (dirty_count (table_at w s.tables place))),
     )
 
-abbrev pub plot_at : State → Memory → Option ℕ → State × Outcome
+abbrev pub plot_at : State → MemoryGrant → Option ℕ → State × Outcome
 plot_at s memory None = (s, refused no_layer)
 plot_at s memory (Some place) = plot_in s memory place s.window
 
-abbrev pub plot_step : State → List ℕ → Memory → State × Outcome
+abbrev pub plot_step : State → List ℕ → MemoryGrant → State × Outcome
 plot_step s name memory = plot_at s memory (place_named name s.timeline.document)
 
 -- write ---------------------------------------------------------------------------------------
 
-abbrev pub write_at : State → Memory → Option ℕ → State × Outcome
+abbrev pub write_at : State → MemoryGrant → Option ℕ → State × Outcome
 write_at s memory None = (s, refused no_layer)
 write_at s memory (Some place) =
     with_room memory s (s, Ok (Bytes (text_of (content_at s.timeline.document place)) 0))
 
 -- the canonical text of the layer of this name
-abbrev pub write_step : State → List ℕ → Memory → State × Outcome
+abbrev pub write_step : State → List ℕ → MemoryGrant → State × Outcome
 write_step s name memory = write_at s memory (place_named name s.timeline.document)
 
 -- edits ---------------------------------------------------------------------------------------
@@ -222,11 +221,11 @@ abbrev pub with_edit : State → List Sheet → Touch → State
 with_edit s sheets touch =
     moved_to s (accepted s.depth sheets s.timeline) (accepted_touches s.depth touch s.touches) (touch ∷ [])
 
-abbrev pub edit_to : State → Memory → Touch → Result (List Sheet) EditFault → State × Outcome
+abbrev pub edit_to : State → MemoryGrant → Touch → Result (List Sheet) EditFault → State × Outcome
 edit_to s memory touch (Err fault) = (s, refused (edit_code fault))
 edit_to s memory touch (Ok sheets) = with_room memory s (with_edit s sheets touch, Ok Done)
 
-abbrev pub edit_step : State → Edit → Memory → State × Outcome
+abbrev pub edit_step : State → Edit → MemoryGrant → State × Outcome
 edit_step s edit memory =
     edit_to s memory (touch_of_edit edit s.timeline.document) (edited edit s.timeline.document)
 
@@ -246,17 +245,17 @@ end_step s =
     unless (end_fault s.timeline) s
     (moved_to s (ended s.depth s.timeline) (ended_touches s.depth s.touches) [], Ok Done)
 
-abbrev pub abort_step : State → Memory → State × Outcome
+abbrev pub abort_step : State → MemoryGrant → State × Outcome
 abort_step s memory =
     unless (abort_fault s.timeline) s (with_room memory s
     (moved_to s (aborted s.timeline) (aborted_touches s.touches) (touched_by_abort s.touches), Ok Done))
 
-abbrev pub undo_step : State → Memory → State × Outcome
+abbrev pub undo_step : State → MemoryGrant → State × Outcome
 undo_step s memory =
     unless (undo_fault s.timeline) s (with_room memory s
     (moved_to s (undone s.timeline) (undone_touches s.touches) (touched_by_undo s.touches), Ok Done))
 
-abbrev pub redo_step : State → Memory → State × Outcome
+abbrev pub redo_step : State → MemoryGrant → State × Outcome
 redo_step s memory =
     unless (redo_fault s.timeline) s (with_room memory s
     (moved_to s (redone s.timeline) (redone_touches s.touches) (touched_by_redo s.touches), Ok Done))
@@ -278,7 +277,7 @@ abbrev pub list_layer_step : State → List ℕ → State × Outcome
 list_layer_step s name = list_layer_at s (place_named name s.timeline.document)
 
 -- one command: the state after it, and its answer
-abbrev pub step : State → Command → Memory → State × Outcome
+abbrev pub step : State → Command → MemoryGrant → State × Outcome
 step s (commands.Load name kind file) memory = load_step s name kind file memory
 step s (commands.SetWindow w) memory = window_step s w memory
 step s (commands.Redraw n) memory = redraw_step s n
@@ -292,10 +291,3 @@ step s commands.Undo memory = undo_step s memory
 step s commands.Redo memory = redo_step s memory
 step s commands.ListAll memory = list_step s
 step s (commands.ListLayer name) memory = list_layer_step s name
-
--- what every station keeps: its depth is from 1 to 1,000, the window in force was accepted, and each layer has its table
-pub record IsStation (depth : ℕ) (window : Option Window) (sheets : List Sheet) (kept : List Table) : Type 0 where
-  pub least : 1 ≤ depth
-  pub greatest : depth ≤ greatest_depth
-  pub in_force : (w : Window) → window ≡ Some w → accepts w ≡ true
-  pub tables : AreTables window (length sheets) kept

@@ -2,4 +2,5 @@
 -- the theorems mean.
 pub mod Answers
 pub mod Lines
+pub mod Stations
 pub mod Touching

@@ -8,7 +8,7 @@ use Rattle.cam_tiles.specs.declared.window.Window.{Window}
 use Rattle.cam_station.specs.Documents.{content_named}
 use Rattle.cam_edits.specs.Sheets.{Content}
 use Rattle.cam_edits.specs.Images.{image_of, sheet_leaves}
-use Rattle.cam_station.specs.Machine.{State, Memory, fresh}
+use Rattle.cam_station.specs.Machine.{State, MemoryGrant, fresh}
 use Rattle.cam_tiles.specs.Picture.{IsPixelBlack, Shows, centre_of, plot_of}
 use Rattle.cam_station.specs.Calls.{Call, answer_to, states_after}
 
@@ -29,5 +29,5 @@ pub record IsPlotOf (s : State) (name : List ℕ) (reply : Reply) : Type 0 where
 
 -- exact plot: after any list of commands, each accepted plot answers the picture as it then is
 abbrev pub ExactPlot : Type 0
-ExactPlot = (depth : ℕ) (before : List Call) (name : List ℕ) (memory : Memory) (reply : Reply) →
+ExactPlot = (depth : ℕ) (before : List Call) (name : List ℕ) (memory : MemoryGrant) (reply : Reply) →
     let s = states_after (fresh depth) before in answer_to s (Plot name, memory) ≡ Ok reply → IsPlotOf s name reply

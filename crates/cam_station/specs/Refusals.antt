@@ -43,10 +43,6 @@ too_many_layers = 85
 abbrev pub layer_limit : ℕ
 layer_limit = 32
 
--- how many edits and groups a station may keep
-abbrev pub greatest_depth : ℕ
-greatest_depth = 1000
-
 -- why an edit is refused
 abbrev pub edit_code : EditFault → ℕ
 edit_code edits.NoLayer = no_layer

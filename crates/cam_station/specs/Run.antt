@@ -14,8 +14,8 @@ use Rattle.cam_station.specs.declared.running.RunFault.{RunFault}
 use Rattle.cam_station.specs.declared.running.RunFault.TheVariants.{Depth, Output, Memory as RunMemory}
 use Rattle.cam_script.specs.declared.line.Line.TheVariants.{Command, Load, Plot, Write}
 use Rattle.cam_station.specs.Refusals.{file_fault, line_code, memory_refused}
-use Rattle.cam_station.specs.Machine.{State, Outcome, Memory, fresh, is_depth, refused, step}
-use Rattle.cam_station.specs.Contents.{Contents, FailsIfAbsent, Holds, Stored, MayHaveStored, HasRisenBy, failures_of}
+use Rattle.cam_station.specs.Machine.{State, Outcome, MemoryGrant, fresh, is_depth, refused, step}
+use Rattle.cam_station.specs.Files.{ToldFiles, FailsIfAbsent, Holds, Stored, MayHaveStored, HasRisenBy, failures_of}
 use Rattle.cam_script.specs.Parsing.{Parsed, parsed}
 use Rattle.cam_station.specs.Replies.{reply_line}
 
@@ -24,7 +24,7 @@ use Rattle.cam_station.specs.Replies.{reply_line}
 pub record World : Type 0 where
   pub line_refused : Bool
   pub got : Result (List ℕ) FileFault
-  pub memory : Memory
+  pub memory : MemoryGrant
   pub put : Result (Unit {0}) FileFault
 
 -- one line -------------------------------------------------------------------------------------
@@ -44,13 +44,17 @@ pub record Turn : Type 0 where
 abbrev pub answered : State × Outcome → Ask → Turn
 answered after ask = record { state = after.0; ask = ask; reply = Some after.1 }
 
+-- an empty line or a comment does nothing
+abbrev pub passed_over : State → Turn
+passed_over s = record { state = s; ask = Nothing; reply = None }
+
 -- the number that tells of a file
 abbrev pub file_code : FileFault → ℕ
 file_code Failed = file_fault
 file_code NoMemory = memory_refused
 
 -- a load gets its file first
-abbrev pub load_turn : State → List ℕ → FileKind → List ℕ → Memory → Result (List ℕ) FileFault → Turn
+abbrev pub load_turn : State → List ℕ → FileKind → List ℕ → MemoryGrant → Result (List ℕ) FileFault → Turn
 load_turn s name kind path memory (Ok bytes) =
     answered (step s (commands.Load name kind bytes) memory) (Get path (Ok bytes))
 load_turn s name kind path memory (Err fault) = answered (s, refused (file_code fault)) (Get path (Err fault))
@@ -82,7 +86,7 @@ write_turn path put after = put_turn byte_count path put after
 
 abbrev pub parsed_turn : State → World → Parsed → Turn
 parsed_turn s w (Err fault) = answered (s, refused (line_code fault)) Nothing
-parsed_turn s w (Ok None) = record { state = s; ask = Nothing; reply = None }
+parsed_turn s w (Ok None) = passed_over s
 parsed_turn s w (Ok (Some (Command command))) = answered (step s command w.memory) Nothing
 parsed_turn s w (Ok (Some (Load name kind path))) = load_turn s name kind path w.memory w.got
 parsed_turn s w (Ok (Some (Plot name path))) = plot_turn path w.put (step s (commands.Plot name) w.memory)
@@ -119,18 +123,18 @@ refused_lines ts = count_by (λ t. is_refusal t.reply) ts
 
 -- what the files tell: of their contents, and how often they failed
 pub record FilesSeen : Type 0 where
-  pub contents : Contents
+  pub contents : ToldFiles
   pub failures : ℕ
 
-abbrev pub files_seen : Contents → ℕ → FilesSeen
+abbrev pub files_seen : ToldFiles → ℕ → FilesSeen
 files_seen contents failures = record { contents = contents; failures = failures }
 
-abbrev pub ContentsAfter : Ask → Contents → Contents → Type 0
-ContentsAfter Nothing old new = new ≡ old
-ContentsAfter (Get path got) old new =
+abbrev pub FilesAfter : Ask → ToldFiles → ToldFiles → Type 0
+FilesAfter Nothing old new = new ≡ old
+FilesAfter (Get path got) old new =
     (new ≡ old) × MatchResult got (λ bytes. Holds old path bytes) (λ fault. FailsIfAbsent old path fault)
-ContentsAfter (Put path bytes (Ok done)) old new = Stored old new path bytes
-ContentsAfter (Put path bytes (Err fault)) old new = MayHaveStored old new path
+FilesAfter (Put path bytes (Ok done)) old new = Stored old new path bytes
+FilesAfter (Put path bytes (Err fault)) old new = MayHaveStored old new path
 
 abbrev pub ask_failures : Ask → ℕ
 ask_failures Nothing = 0
@@ -139,7 +143,7 @@ ask_failures (Put path bytes put) = failures_of put
 
 -- the files answered so, and counted it where they failed
 pub record Answers (ask : Ask) (old new : FilesSeen) : Type 0 where
-  pub contents : ContentsAfter ask old.contents new.contents
+  pub contents : FilesAfter ask old.contents new.contents
   pub failures : HasRisenBy (ask_failures ask) old.failures new.failures
 
 -- the files answered each turn so, one after another
@@ -154,12 +158,12 @@ pub record Moment : Type 0 where
   pub out_failures : ℕ
   pub refused : ℕ
 
-abbrev pub moment : Contents → ℕ → Option (List ℕ) → ℕ → ℕ → Moment
+abbrev pub moment : ToldFiles → ℕ → Option (List ℕ) → ℕ → ℕ → Moment
 moment contents failures said out_failures refused =
     record { files = files_seen contents failures; said = said; out_failures = out_failures; refused = refused }
 
 -- These turns lead from one moment to the other.
-pub record Lead (ts : List Turn) (before after : Moment) : Type 0 where
+pub record TurnsLead (ts : List Turn) (before after : Moment) : Type 0 where
   pub files : AllAnswer ts before.files after.files
   pub said : Appends before.said after.said (output ts)
   pub out_failures : HasRisenBy 0 before.out_failures after.out_failures
@@ -168,17 +172,18 @@ pub record Lead (ts : List Turn) (before after : Moment) : Type 0 where
 -- a whole run ------------------------------------------------------------------------------------
 
 -- All lines were run, where the world answered so.
-pub record Finishes (s : State) (lines : List (List ℕ)) (ws : List World) (before after : Moment) : Type 0 where
+pub record RunsAllLines (s : State) (lines : List (List ℕ)) (ws : List World) (before after : Moment) : Type 0 where
   pub each : length ws ≡ length lines
-  pub lead : Lead (turns s lines ws) before after
+  pub lead : TurnsLead (turns s lines ws) before after
 
 -- The run stopped at a line whose reply could not be said; the files had answered that line.
-pub record Stops (s : State) (lines : List (List ℕ)) (ws : List World) (before after : Moment) : Type 0 where
+pub record StopsAtUnsaidReply (s : State) (lines : List (List ℕ)) (ws : List World) (before after : Moment)
+    : Type 0 where
   pub earlier : List Turn
   pub last : Turn
   pub between : Moment
   pub turns_are : turns s lines ws ≡ earlier ++ last ∷ []
-  pub lead : Lead earlier before between
+  pub lead : TurnsLead earlier before between
   pub replied : IsSome last.reply
   pub files : Answers last.ask between.files after.files
   pub out_failures : HasRisenBy 1 before.out_failures after.out_failures
@@ -188,4 +193,4 @@ abbrev pub EndsBy : RunFault → ℕ → List (List ℕ) → Moment → Moment �
 EndsBy Depth depth lines before after = (is_depth depth ≡ false) × (after ≡ before)
 EndsBy RunMemory depth lines before after = (is_depth depth ≡ true) × (after ≡ before)
 EndsBy Output depth lines before after =
-    (is_depth depth ≡ true) × (ws : List World) × Stops (fresh depth) lines ws before after
+    (is_depth depth ≡ true) × (ws : List World) × StopsAtUnsaidReply (fresh depth) lines ws before after

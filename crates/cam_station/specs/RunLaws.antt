@@ -7,9 +7,9 @@ use Rattle.cam_station.specs.declared.files.FileFault.{FileFault}
 use Rattle.cam_script.specs.declared.line.Line.TheVariants.{Command, Load, Plot, Write}
 use Rattle.cam_station.specs.declared.reply.Reply.TheVariants.{Bytes}
 use Rattle.cam_station.specs.Refusals.{file_fault, line_code}
-use Rattle.cam_station.specs.Machine.{State, Outcome, Memory, refused}
+use Rattle.cam_station.specs.Machine.{State, Outcome, MemoryGrant, refused}
 use Rattle.cam_station.specs.Calls.{Call, answers_to, states_after}
-use Rattle.cam_station.specs.Contents.{HasRisenBy}
+use Rattle.cam_station.specs.Files.{HasRisenBy}
 use Rattle.cam_script.specs.Parsing.{Parsed, parsed}
 use Rattle.cam_station.specs.Run.{
   AllAnswer,
@@ -46,7 +46,7 @@ FewFileRefusals = (s : State) (lines : List (List ℕ)) (ws : List World) (old n
     → AllAnswer (turns s lines ws) old new → HasRisenBy (file_refusals (turns s lines ws)) old.failures new.failures
 
 -- a load calls the station where its file was got
-abbrev pub load_calls : List ℕ → FileKind → Memory → Result (List ℕ) FileFault → List Call
+abbrev pub load_calls : List ℕ → FileKind → MemoryGrant → Result (List ℕ) FileFault → List Call
 load_calls name kind memory (Ok bytes) = (commands.Load name kind bytes, memory) ∷ []
 load_calls name kind memory (Err fault) = []
 

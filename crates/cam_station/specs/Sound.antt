@@ -1,7 +1,7 @@
 -- Every layer of a station is sound.
 use Rattle.std.specs.Prelude.{ℕ, List, Option, None, Some, All}
 use Rattle.cam_edits.specs.Sheets.{AreSound, Sheet}
-use Rattle.cam_undo.specs.Machine.{State as Timeline}
+use Rattle.cam_undo.specs.Machine.{Timeline}
 use Rattle.cam_station.specs.Machine.{fresh}
 use Rattle.cam_station.specs.Calls.{Call, states_after}
 

@@ -1,10 +1,7 @@
 -- What the ways back and on touch: the boxes of each edit, in the groups in which the edits are taken back.
-use Rattle.std.specs.Prelude.{ℕ, List, [], ◌∷◌, ◌++◌, map, reverse, Option, None, Some, unwrap_or}
-use Rattle.std.specs.Option.{option_map}
+use Rattle.std.specs.Prelude.{ℕ, List, [], ◌∷◌, ◌++◌, reverse, Option, None, Some, unwrap_or}
 use Rattle.circular_buffer.specs.Buffer.{keep_last, last_item}
-use Rattle.cam_edits.specs.declared.board_step.BoardStep.{BoardStep}
-use Rattle.cam_edits.specs.Touches.{Touch, touch_of}
-use Rattle.cam_undo.specs.Kept.{Kept}
+use Rattle.cam_edits.specs.Touches.{Touch}
 use Rattle.cam_undo.specs.Machine.{all_but_last}
 
 -- of each step of the past, the latest last; of those that were taken back, the next one last; and of an open group. A
@@ -73,12 +70,3 @@ touched_by_undo m = played (last_item m.past)
 
 abbrev pub touched_by_redo : Touches → List Touch
 touched_by_redo m = played (last_item m.future)
-
--- ---- what is seen of the steps that a history keeps
-
-abbrev pub touches_of : Kept BoardStep → Touches
-touches_of kept = record {
-  past = map (map touch_of) kept.past;
-  future = map (map touch_of) kept.future;
-  group = option_map (map touch_of) kept.open_group;
-}

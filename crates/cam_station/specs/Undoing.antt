@@ -7,7 +7,7 @@ use Rattle.cam_station.specs.declared.reply.Reply.TheVariants.{Done}
 use Rattle.cam_station.specs.Calls.{Call, answer_to, state_after, states_after}
 use Rattle.cam_station.specs.Documents.{SamePictures, SamePixels, SameTexts}
 use Rattle.cam_station.specs.Machine.{State, Granted, fresh}
-use Rattle.cam_station.specs.Refusals.{greatest_depth}
+use Rattle.cam_undo.specs.Machine.{greatest_depth}
 
 -- the command changes a layer
 abbrev pub IsEdit : Command → Type 0
@@ -63,8 +63,8 @@ pub record IsGroup (s : State) (quiet : List Call) (edit : Call) (more : List Ca
   pub edits : AreEdits (state_after (states_after (state_after s begin) quiet) edit) more
 
 -- the calls of the group
-abbrev pub group_of : List Call → Call → List Call → List Call
-group_of quiet edit more = begin ∷ (quiet ++ edit ∷ (more ++ end ∷ []))
+abbrev pub group_calls : List Call → Call → List Call → List Call
+group_calls quiet edit more = begin ∷ (quiet ++ edit ∷ (more ++ end ∷ []))
 
 -- the state after quiet calls and an undo
 abbrev pub undone_after : State → List Call → State
@@ -90,8 +90,8 @@ pub record IsTakenBack (edited : State) (before : List Sheet) : Type 0 where
 pub record IsUndoExact (s : State) : Type 0 where
   pub edits : (edit : Call) → s.timeline.group ≡ None → IsAccepted s edit
       → IsTakenBack (state_after s edit) s.timeline.document
-  pub groups : (quiet : List Call) (edit : Call) (more : List Call) → s.timeline.group ≡ None → IsGroup s quiet edit more
-      → IsTakenBack (states_after s (group_of quiet edit more)) s.timeline.document
+  pub groups : (quiet : List Call) (edit : Call) (more : List Call) → s.timeline.group ≡ None
+      → IsGroup s quiet edit more → IsTakenBack (states_after s (group_calls quiet edit more)) s.timeline.document
 
 -- exact undo, in each state that a station can come to
 abbrev pub ExactUndo : Type 0

@@ -1,12 +1,12 @@
--- The documents and the boxes of the ways between them keep step: the way from each document that is kept to the next one
--- touches all that they paint otherwise, whichever way it is gone.
+-- The documents and the boxes of the ways between them keep step: the way from each document that is kept to the next
+-- one touches all that they paint otherwise, whichever way it is gone.
 use Rattle.std.specs.Prelude.{◌≡◌, ℕ, ◌<◌, List, [], ◌∷◌, length, Option, None, Some}
 use Rattle.cam_tiles.specs.TileLaws.{AgreeOutside}
 use Rattle.cam_edits.specs.Boards.{content_at}
 use Rattle.cam_edits.specs.Images.{image_of}
 use Rattle.cam_edits.specs.Sheets.{Sheet}
 use Rattle.cam_edits.specs.Touches.{Touch}
-use Rattle.cam_undo.specs.Machine.{State as Timeline}
+use Rattle.cam_undo.specs.Machine.{Timeline}
 use Rattle.cam_station.specs.Calls.{Call, states_after}
 use Rattle.cam_station.specs.Locality.{boxes_on}
 use Rattle.cam_station.specs.Machine.{fresh}

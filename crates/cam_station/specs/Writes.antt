@@ -9,7 +9,7 @@ use Rattle.cam_edits.specs.Boards.{place_named}
 use Rattle.cam_edits.specs.Sheets.{Content, item_count, sheet}
 use Rattle.cam_station.specs.Documents.{content_named, picture_named}
 use Rattle.cam_station.specs.Refusals.{layer_limit}
-use Rattle.cam_station.specs.Machine.{State, Memory, Granted, fresh}
+use Rattle.cam_station.specs.Machine.{State, MemoryGrant, Granted, fresh}
 use Rattle.cam_station.specs.Meanings.{meaning_of}
 use Rattle.cam_station.specs.Calls.{Call, answer_to, state_after, states_after}
 use Rattle.cam_station.specs.Writing.{kind_of, text_of}
@@ -24,23 +24,24 @@ pub record IsWriteOf (s : State) (name : List ℕ) (reply : Reply) : Type 0 wher
 
 -- exact write: after any list of commands, each accepted write answers the text of the layer as it then is
 abbrev pub ExactWrite : Type 0
-ExactWrite = (depth : ℕ) (before : List Call) (name : List ℕ) (memory : Memory) (reply : Reply) →
+ExactWrite = (depth : ℕ) (before : List Call) (name : List ℕ) (memory : MemoryGrant) (reply : Reply) →
     let s = states_after (fresh depth) before in answer_to s (Write name, memory) ≡ Ok reply → IsWriteOf s name reply
 
 -- a write of the layer of this name, which holds this content, answers these bytes
 pub record IsWritten (s : State) (name : List ℕ) (content : Content) (bytes : List ℕ) : Type 0 where
   pub named : content_named name s.timeline.document ≡ Some content
-  pub memory : Memory
+  pub memory : MemoryGrant
   pub drawn : ℕ
   pub answered : answer_to s (Write name, memory) ≡ Ok (Bytes bytes drawn)
 
 -- a load of these bytes under this name, as a file of the content's kind
-abbrev pub load_of : List ℕ → Content → List ℕ → Memory → Call
+abbrev pub load_of : List ℕ → Content → List ℕ → MemoryGrant → Call
 load_of name content bytes memory = (Load name (kind_of content) bytes, memory)
 
 -- A layer of this name and of this content was added, which has the same picture in every window as the layer that was
 -- written.
-pub record AddsAgain (s : State) (name : List ℕ) (content : Content) (there after : State) (other : List ℕ) : Type 0 where
+pub record AddsAgain (s : State) (name : List ℕ) (content : Content) (there after : State) (other : List ℕ)
+    : Type 0 where
   pub added : after.timeline.document ≡ there.timeline.document ++ sheet other content ∷ []
   pub named : content_named other after.timeline.document ≡ Some content
   pub pictures : (w : Window) → picture_named w other after.timeline.document ≡ picture_named w name s.timeline.document
@@ -49,7 +50,7 @@ pub record AddsAgain (s : State) (name : List ℕ) (content : Content) (there af
 abbrev pub WrittenLoadsAgain : Type 0
 WrittenLoadsAgain = (depth : ℕ) (before : List Call) (name : List ℕ) (content : Content) (bytes : List ℕ) →
     let s = states_after (fresh depth) before in IsWritten s name content bytes
-    → (there : State) (other : List ℕ) (memory : Memory) (reply : Reply)
+    → (there : State) (other : List ℕ) (memory : MemoryGrant) (reply : Reply)
     → answer_to there (load_of other content bytes memory) ≡ Ok reply
     → AddsAgain s name content there (state_after there (load_of other content bytes memory)) other
 

@@ -1,13 +1,13 @@
 //! The files that a script reads and writes.
 
 ghost use Rattle.std.specs.Prelude.{◌≡◌, ℕ, IfErr, IfOk, OnOk, OnErr};
-ghost use Rattle.cam_station.specs.Contents.{
-  Contents,
+ghost use Rattle.cam_station.specs.Files.{
   FailsIfAbsent,
   HasRisenBy,
   Holds,
   MayHaveStored,
   Stored,
+  ToldFiles,
   failures_of,
 };
 
@@ -28,7 +28,7 @@ pub enum FileFault {
 /// Files by their paths.
 pub trait Files {
     // What each path holds, as far as the type can tell; nothing where it can tell of none.
-    ghost contents: { Self → Contents };
+    ghost contents: { Self → ToldFiles };
 
     // How many calls failed; the count stays at `u64::MAX`.
     ghost failed: { Self → ℕ };

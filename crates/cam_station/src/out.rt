@@ -3,7 +3,7 @@
 ghost use Rattle.std.specs.Prelude.{◌≡◌, ℕ, List, Option};
 ghost use Rattle.std.specs.Bool.{OnTrue};
 ghost use Rattle.std.specs.Io.KnownBytes.{Appends};
-ghost use Rattle.cam_station.specs.Contents.{HasRisenBy, unsaid};
+ghost use Rattle.cam_station.specs.Files.{HasRisenBy, unsaid};
 
 /// An output.
 pub trait Out {

@@ -3,7 +3,7 @@
 ghost use Rattle.std.specs.Prelude.{◌++◌, codes, decimal};
 ghost use Rattle.std.specs.Bool.{OnTrue};
 ghost use Rattle.std.specs.Io.KnownBytes.{Appends};
-ghost use Rattle.cam_station.specs.Contents.{HasRisenBy, unsaid};
+ghost use Rattle.cam_station.specs.Files.{HasRisenBy, unsaid};
 ghost use Rattle.cam_station.specs.Replies.{line_with, reply_line};
 
 use crate::fault::Fault;

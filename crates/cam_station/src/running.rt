@@ -4,10 +4,10 @@ ghost use Rattle.std.specs.Prelude.{◌≡◌, ◌+◌, ◌<◌, ◌≤◌, ◌^
 ghost use Rattle.std.specs.Prelude.{IfErr, IfNone, IfOk, IfSome, OnErr};
 ghost use Rattle.std.specs.Str.Lines.{lines};
 ghost use Rattle.cam_station.specs.declared.files.FileFault.{FileFault};
-ghost use Rattle.cam_station.specs.Machine.{Memory, fault, fresh, is_depth, step};
+ghost use Rattle.cam_station.specs.Machine.{MemoryGrant, fault, fresh, is_depth, step};
 ghost use Rattle.cam_station.specs.Run.{
   EndsBy,
-  Finishes,
+  RunsAllLines,
   World,
   file_code,
   files_seen,
@@ -17,7 +17,7 @@ ghost use Rattle.cam_station.specs.Run.{
   turn,
   write_turn,
 };
-ghost use Rattle.cam_station.specs.Machinery.Lines.{Comes, HasNoBytes, IsBegun, IsUnsaid, Passes};
+ghost use Rattle.cam_station.specs.Machinery.Lines.{HasNoBytes, IsBegun, ReplyIsUnsaid, TurnGives, TurnLeadsTo};
 
 use crate::fault::{Fault, refusal};
 use crate::files::{FileFault, Files};
@@ -64,8 +64,8 @@ fn load<F: Files>(
     path: &FilePath,
     files: &mut F,
 ) -> Result<Reply, Fault>
-    ensures { (memory : Memory) × (got : Result (List ℕ) FileFault)
-        × Comes (load_turn station.old name kind path.now memory got)
+    ensures { (memory : MemoryGrant) × (got : Result (List ℕ) FileFault)
+        × TurnGives (load_turn station.old name kind path.now memory got)
         station.new (Some result)
         (files_seen (F.contents files.old) (F.failed files.old))
         (files_seen (F.contents files.new) (F.failed files.new)) }
@@ -99,8 +99,8 @@ fn plot<F: Files>(
     path: &FilePath,
     files: &mut F,
 ) -> Result<Reply, Fault>
-    ensures { (memory : Memory) × (put : Result (Unit {0}) FileFault)
-        × Comes (plot_turn path.now put (step station.old (Command.Plot name) memory))
+    ensures { (memory : MemoryGrant) × (put : Result (Unit {0}) FileFault)
+        × TurnGives (plot_turn path.now put (step station.old (Command.Plot name) memory))
         station.new (Some result)
         (files_seen (F.contents files.old) (F.failed files.old))
         (files_seen (F.contents files.new) (F.failed files.new)) }
@@ -122,8 +122,8 @@ fn write<F: Files>(
     path: &FilePath,
     files: &mut F,
 ) -> Result<Reply, Fault>
-    ensures { (memory : Memory) × (put : Result (Unit {0}) FileFault)
-        × Comes (write_turn path.now put (step station.old (Command.Write name) memory))
+    ensures { (memory : MemoryGrant) × (put : Result (Unit {0}) FileFault)
+        × TurnGives (write_turn path.now put (step station.old (Command.Write name) memory))
         station.new (Some result)
         (files_seen (F.contents files.old) (F.failed files.old))
         (files_seen (F.contents files.new) (F.failed files.new)) }
@@ -146,7 +146,7 @@ fn run_line<F: Files>(
     line: &[u8],
     files: &mut F,
 ) -> Option<Result<Reply, Fault>>
-    ensures { (w : World) × Comes (turn station.old line.now w) station.new result
+    ensures { (w : World) × TurnGives (turn station.old line.now w) station.new result
         (files_seen (F.contents files.old) (F.failed files.old))
         (files_seen (F.contents files.new) (F.failed files.new)) }
 {
@@ -173,14 +173,14 @@ fn serve_line<F: Files, O: Out>(
 ) -> Result<u64, RunFault>
     requires { refused + 1 < 2 ^ 64 }
     ensures ok { IfOk result (λ count. (w : World)
-        × Passes (turn station.old line.now w) station.new
+        × TurnLeadsTo (turn station.old line.now w) station.new
         (moment (F.contents files.old) (F.failed files.old) (O.said out.old) (O.failed out.old)
         refused)
         (moment (F.contents files.new) (F.failed files.new) (O.said out.new) (O.failed out.new)
         count)) }
     ensures bound { IfOk result (λ count. count ≤ refused + 1) }
     ensures output { IfErr result (λ fault. fault ≡ RunFault.Output) }
-    ensures stops { OnErr result ((w : World) × IsUnsaid (turn station.old line.now w)
+    ensures stops { OnErr result ((w : World) × ReplyIsUnsaid (turn station.old line.now w)
         (moment (F.contents files.old) (F.failed files.old) (O.said out.old) (O.failed out.old)
         refused)
         (moment (F.contents files.new) (F.failed files.new) (O.said out.new) (O.failed out.new) 0)) }
@@ -229,7 +229,7 @@ pub fn run<F: Files, O: Out>(
 ) -> Result<u64, RunFault>
     // The lines' replies were said, and their files got and put, as the machine answers them.
     ensures ok { IfOk result (λ refused. (is_depth depth ≡ true) × (ws : List World)
-        × Finishes (fresh depth) (lines script.now) ws
+        × RunsAllLines (fresh depth) (lines script.now) ws
         (moment (F.contents files.old) (F.failed files.old) (O.said out.old) (O.failed out.old) 0)
         (moment (F.contents files.new) (F.failed files.new) (O.said out.new) (O.failed out.new)
         refused)) }

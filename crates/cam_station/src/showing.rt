@@ -3,7 +3,7 @@
 ghost use Rattle.std.specs.Prelude.{◌≡◌, ◌≤◌, length, min, option_map, replicate, true, IfErr, IfOk, Some};
 ghost use Rattle.cam_edits.specs.Images.{image_of};
 ghost use Rattle.cam_edits.specs.Sheets.{AreSound, IsSound, content_of, sheets_of};
-ghost use Rattle.cam_station.specs.Layers.{dirty_in, redrawn_in};
+ghost use Rattle.cam_station.specs.TileTables.{dirty_in, redrawn_in};
 ghost use Rattle.cam_station.specs.Machine.{fault};
 ghost use Rattle.cam_station.specs.Refusals.{memory_refused};
 ghost use Rattle.cam_station.specs.Writing.{text_of};

@@ -57,24 +57,25 @@ pub struct Station {
 
 impl Model for Station {
     ghost use Rattle.cam_edits.specs.Sheets.{sheets_of};
-    ghost use Rattle.cam_undo.specs.Timelines.{IsTied, state_of};
-    ghost use Rattle.cam_station.specs.Machine.{State, IsStation};
+    ghost use Rattle.cam_undo.specs.Timelines.{IsTied, timeline_of};
+    ghost use Rattle.cam_station.specs.Machine.{State};
+    ghost use Rattle.cam_station.specs.Machinery.Stations.{IsStation};
+    ghost use Rattle.cam_station.specs.Machinery.Touching.{touches_of};
     ghost use Rattle.cam_station.specs.Sound.{IsSoundTimeline};
-    ghost use Rattle.cam_station.specs.Touches.{touches_of};
 
     ghost Value = { State };
 
     ghost view = { λ s. record {
       depth = s.history.depth;
       window = s.window;
-      timeline = state_of ⟦<BoardStep as Reversible>⟧ s.history s.board;
+      timeline = timeline_of ⟦<BoardStep as Reversible>⟧ s.history s.board;
       touches = touches_of s.history;
       tables = s.rasters.items;
     } };
 
     ghost invariant = { λ s. IsStation s.history.depth s.window (sheets_of s.board) s.rasters.items
         × IsTied ⟦<BoardStep as Reversible>⟧ s.history s.board
-        × IsSoundTimeline (state_of ⟦<BoardStep as Reversible>⟧ s.history s.board) };
+        × IsSoundTimeline (timeline_of ⟦<BoardStep as Reversible>⟧ s.history s.board) };
 }
 
 impl Station {

@@ -3,9 +3,8 @@
 ghost use Rattle.std.specs.Prelude.{◌≡◌, ◌∷◌, [], map};
 ghost use Rattle.std.specs.Option.{option_copied};
 ghost use Rattle.cam_edits.specs.Touches.{touch_of};
-ghost use Rattle.cam_station.specs.Layers.{touched_in};
-ghost use Rattle.cam_station.specs.Touches.{touches_of};
-ghost use Rattle.cam_station.specs.Machinery.Touching.{group_touches, last_accepted};
+ghost use Rattle.cam_station.specs.TileTables.{touched_in};
+ghost use Rattle.cam_station.specs.Machinery.Touching.{group_touches, last_accepted, touches_of};
 ghost use Rattle.cam_tiles.specs.Touched.{touched_by};
 
 use cam_edits::BoardStep;

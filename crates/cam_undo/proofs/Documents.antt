@@ -2,7 +2,7 @@
 use Rattle.circular_buffer.specs.Buffer.{keep_last}
 use Rattle.cam_undo.proofs.Lasts.{all_but_last-snoc, last_item-snoc}
 use Rattle.cam_undo.specs.Laws.{ExactUndoOfEdits, ExactUndoOfGroups, all_accepted}
-use Rattle.cam_undo.specs.Machine.{State, accepted, ended, redone, undone}
+use Rattle.cam_undo.specs.Machine.{Timeline, accepted, ended, redone, undone}
 use Rattle.std.proofs.Common.{◌-◌, ◌+◌, ◌<◌, ◌≡◌, ℕ, List, None, Option, Some, [], arith, drop, length}
 use Rattle.std.proofs.Common.{length-append, refl, suc, zero, ◌++◌, ◌∷◌}
 
@@ -27,7 +27,7 @@ module _ {D : Type 0} where
       rw (is, last_item-snoc front x, all_but_last-snoc front x, last_item-snoc future document, all_but_last-snoc future document)
       (refl, refl)
 
-  edits : (depth : ℕ) (edited : D) (m : State D) (group : Option (D × ℕ)) → 0 < depth → group ≡ None → m.group ≡ group
+  edits : (depth : ℕ) (edited : D) (m : Timeline D) (group : Option (D × ℕ)) → 0 < depth → group ≡ None → m.group ≡ group
       → ((undone (accepted depth edited m)).document ≡ m.document)
       × (redone (undone (accepted depth edited m)) ≡ accepted depth edited m)
   edits depth edited m group some closed is =
@@ -38,7 +38,7 @@ module _ {D : Type 0} where
   exact_edits depth edited m some closed = edits depth edited m None some refl closed
 
   -- a group of which some edits were accepted
-  abbrev within : D → List D → D → ℕ → State D
+  abbrev within : D → List D → D → ℕ → Timeline D
   within document past start count =
       record { document = document; past = past; future = []; group = Some (start, count) }
 

@@ -11,7 +11,7 @@ use Rattle.cam_undo.specs.declared.history.Counts.{Counts}
 use Rattle.cam_undo.specs.Machine.{accepted, all_but_last, ended, redo_fault, redone, undo_fault, undone}
 use Rattle.cam_undo.specs.Timelines.{Fits, GroupFits, GroupsFit, after_group, contents, ended_by, group_of}
 use Rattle.cam_undo.specs.Machinery.Shifting.{Shifted}
-use Rattle.cam_undo.specs.Timelines.{start_of, state_at, with_last_redone, with_last_undone, with_step}
+use Rattle.cam_undo.specs.Timelines.{start_of, timeline_at, with_last_redone, with_last_undone, with_step}
 use Rattle.std.proofs.Common.{◌-◌, ◌∙◌, ◌<◌, ◌≡◌, ℕ, List, None, Option, Some, [], ap, arith, length, length-append}
 use Rattle.std.proofs.Common.{refl, subst, sym, ◌++◌, ◌∷◌}
 
@@ -31,7 +31,7 @@ module _ {S D : Type 0} (r : Ghosts S D) where
   counted_group None c = refl
   counted_group (Some group) c = refl
 
-  pub counted : (kept : Kept S) (c : r.Content) → counts_of kept ≡ counts_at (state_at r kept c)
+  pub counted : (kept : Kept S) (c : r.Content) → counts_of kept ≡ counts_at (timeline_at r kept c)
   counted kept c =
       rw (
         length-contents r kept.past (start_of r kept.open_group c),
@@ -40,34 +40,34 @@ module _ {S D : Type 0} (r : Ghosts S D) where
       ) refl
 
   pub counted_as : (kept : Kept S) (counts : Counts) (c : r.Content) → counts ≡ counts_of kept
-      → counts ≡ counts_at (state_at r kept c)
+      → counts ≡ counts_at (timeline_at r kept c)
   counted_as kept counts c is = is ∙ counted kept c
 
   -- without a group, undo and redo are refused for an empty list alone
   may_undo : (depth : ℕ) (past future : List (List S)) (c : r.Content) → 0 < length past
-      → undo_fault (state_at r (keeps depth past future None) c) ≡ None
+      → undo_fault (timeline_at r (keeps depth past future None) c) ≡ None
   may_undo depth [] future c some = absurd (omega arith)
   may_undo depth (group ∷ later) future c some = refl
 
   may_redo : (depth : ℕ) (past future : List (List S)) (c : r.Content) → 0 < length future
-      → redo_fault (state_at r (keeps depth past future None) c) ≡ None
+      → redo_fault (timeline_at r (keeps depth past future None) c) ≡ None
   may_redo depth past [] c some = absurd (omega arith)
   may_redo depth past (group ∷ later) c some = refl
 
   pub may_undo_as : (kept : Kept S) (depth : ℕ) (past future : List (List S)) (c : r.Content)
-      → keeps depth past future None ≡ kept → 0 < length past → undo_fault (state_at r kept c) ≡ None
+      → keeps depth past future None ≡ kept → 0 < length past → undo_fault (timeline_at r kept c) ≡ None
   may_undo_as kept depth past future c same some =
-      subst (λ k. undo_fault (state_at r k c) ≡ None) same (may_undo depth past future c some)
+      subst (λ k. undo_fault (timeline_at r k c) ≡ None) same (may_undo depth past future c some)
 
   pub may_redo_as : (kept : Kept S) (depth : ℕ) (past future : List (List S)) (c : r.Content)
-      → keeps depth past future None ≡ kept → 0 < length future → redo_fault (state_at r kept c) ≡ None
+      → keeps depth past future None ≡ kept → 0 < length future → redo_fault (timeline_at r kept c) ≡ None
   may_redo_as kept depth past future c same some =
-      subst (λ k. redo_fault (state_at r k c) ≡ None) same (may_redo depth past future c some)
+      subst (λ k. redo_fault (timeline_at r k c) ≡ None) same (may_redo depth past future c some)
 
   -- the steps that lead back, or on
   pub undo_leads : (kept : Kept S) (group : List S) (c : r.Content) → last_item kept.past ≡ Some group
       → Fits r kept c → kept.open_group ≡ None
-      → GroupFits r group c × (after_group r group c ≡ (undone (state_at r kept c)).document)
+      → GroupFits r group c × (after_group r group c ≡ (undone (timeline_at r kept c)).document)
   undo_leads kept group c last tied none =
       let split : kept.past ≡ all_but_last kept.past ++ group ∷ [] = with_last kept.past group last in
       let fits : GroupsFit r kept.past c = (rw none at tied.past) in
@@ -81,7 +81,7 @@ module _ {S D : Type 0} (r : Ghosts S D) where
 
   pub redo_leads : (kept : Kept S) (group : List S) (c : r.Content) → last_item kept.future ≡ Some group
       → Fits r kept c → kept.open_group ≡ None
-      → GroupFits r group c × (after_group r group c ≡ (redone (state_at r kept c)).document)
+      → GroupFits r group c × (after_group r group c ≡ (redone (timeline_at r kept c)).document)
   redo_leads kept group c last tied none =
       let split : kept.future ≡ all_but_last kept.future ++ group ∷ [] = with_last kept.future group last in
       let fits : GroupsFit r kept.future c = (rw none at tied.future) in
@@ -111,8 +111,8 @@ module _ {S D : Type 0} (r : Ghosts S D) where
   }
 
   pub ended_state : (depth : ℕ) (past : List (List S)) (step : S) (later : List S) (c : r.Content)
-      → state_at r (keeps depth (keep_last depth (past ++ (step ∷ later) ∷ [])) [] None) c
-      ≡ ended depth (state_at r (keeps depth past [] (Some (step ∷ later))) c)
+      → timeline_at r (keeps depth (keep_last depth (past ++ (step ∷ later) ∷ [])) [] None) c
+      ≡ ended depth (timeline_at r (keeps depth past [] (Some (step ∷ later))) c)
   ended_state depth past step later c =
       rw (contents-kept depth (past ++ (step ∷ later) ∷ []) c, contents-snoc r past (step ∷ later) c) refl
 
@@ -123,8 +123,8 @@ module _ {S D : Type 0} (r : Ghosts S D) where
 
   pub ended_state_as : (depth : ℕ) (past future : List (List S)) (group : List S) (c : r.Content) → future ≡ []
       → 0 < length group
-      → state_at r (keeps depth (keep_last depth (past ++ group ∷ [])) future None) c
-      ≡ ended depth (state_at r (keeps depth past future (Some group)) c)
+      → timeline_at r (keeps depth (keep_last depth (past ++ group ∷ [])) future None) c
+      ≡ ended depth (timeline_at r (keeps depth past future (Some group)) c)
   ended_state_as depth past future [] c none edited = absurd (omega arith)
   ended_state_as depth past future (step ∷ later) c none edited = rw none (ended_state depth past step later c)
 
@@ -145,8 +145,8 @@ module _ {S D : Type 0} (r : Ghosts S D) where
         }
 
     alone_state : (depth : ℕ) (past future : List (List S)) (step : S) (c : r.Content) → r.is_fit step c
-        → state_at r (with_step r step c (keeps depth past future None)) (r.after step c)
-        ≡ accepted depth (r.after step c) (state_at r (keeps depth past future None) c)
+        → timeline_at r (with_step r step c (keeps depth past future None)) (r.after step c)
+        ≡ accepted depth (r.after step c) (timeline_at r (keeps depth past future None) c)
     alone_state depth past future step c fits =
         let grown = past ++ (r.inverse step c ∷ []) ∷ [] in
         let same : contents r grown (r.after step c) ≡ contents r past c ++ c ∷ [] =
@@ -172,8 +172,8 @@ module _ {S D : Type 0} (r : Ghosts S D) where
 
     inside_state : (depth : ℕ) (past future : List (List S)) (group : List S) (step : S) (c : r.Content)
         → r.is_fit step c
-        → state_at r (with_step r step c (keeps depth past future (Some group))) (r.after step c)
-        ≡ accepted depth (r.after step c) (state_at r (keeps depth past future (Some group)) c)
+        → timeline_at r (with_step r step c (keeps depth past future (Some group))) (r.after step c)
+        ≡ accepted depth (r.after step c) (timeline_at r (keeps depth past future (Some group)) c)
     inside_state depth past future group step c fits =
         rw (inside_start group step c fits, length-append group (r.inverse step c ∷ [])) refl
 
@@ -185,9 +185,9 @@ module _ {S D : Type 0} (r : Ghosts S D) where
         inside_tied kept.depth kept.past kept.future group step c fits tied
 
     state_by : (kept : Kept S) (open_group : Option (List S)) (step : S) (c : r.Content) → r.is_fit step c
-        → state_at r (with_step r step c (keeps kept.depth kept.past kept.future open_group)) (r.after step c)
+        → timeline_at r (with_step r step c (keeps kept.depth kept.past kept.future open_group)) (r.after step c)
         ≡ accepted kept.depth (r.after step c)
-        (state_at r (keeps kept.depth kept.past kept.future open_group) c)
+        (timeline_at r (keeps kept.depth kept.past kept.future open_group) c)
     state_by kept None step c fits = alone_state kept.depth kept.past kept.future step c fits
     state_by kept (Some group) step c fits = inside_state kept.depth kept.past kept.future group step c fits
 
@@ -199,7 +199,7 @@ module _ {S D : Type 0} (r : Ghosts S D) where
 
     pub accepted_state : (kept new : Kept S) (step : S) (c reached : r.Content)
         → new ≡ with_step r step c kept → reached ≡ r.after step c → r.is_fit step c
-        → state_at r new reached ≡ accepted kept.depth (r.after step c) (state_at r kept c)
+        → timeline_at r new reached ≡ accepted kept.depth (r.after step c) (timeline_at r kept c)
     accepted_state kept new step c reached is played fits =
         rw (is, played) (state_by kept kept.open_group step c fits)
 
@@ -219,7 +219,7 @@ module _ {S D : Type 0} (r : Ghosts S D) where
 
       pub undone_state : Shifted r past future c left grown reached
           → Fits r (keeps depth past future None) c
-          → state_at r (keeps depth left grown None) reached ≡ undone (state_at r (keeps depth past future None) c)
+          → timeline_at r (keeps depth left grown None) reached ≡ undone (timeline_at r (keeps depth past future None) c)
       undone_state s tied =
           rw (
             left_contents r answer_fits gives_back past future left grown c reached s,
@@ -242,7 +242,7 @@ module _ {S D : Type 0} (r : Ghosts S D) where
 
       pub redone_state : Shifted r future past c left grown reached
           → Fits r (keeps depth past future None) c
-          → state_at r (keeps depth grown left None) reached ≡ redone (state_at r (keeps depth past future None) c)
+          → timeline_at r (keeps depth grown left None) reached ≡ redone (timeline_at r (keeps depth past future None) c)
       redone_state s tied =
           rw (
             left_contents r answer_fits gives_back future past left grown c reached s,

@@ -1,6 +1,6 @@
 -- The lengths of what a history keeps.
 use Rattle.cam_undo.specs.Kept.{Kept}
-use Rattle.cam_undo.specs.Machine.{State}
+use Rattle.cam_undo.specs.Machine.{Timeline}
 use Rattle.cam_undo.specs.declared.history.Counts.{Counts}
 use Rattle.std.specs.Prelude.{ℕ, List, None, Option, Some, length}
 
@@ -19,5 +19,5 @@ abbrev pub edit_count : {D : Type 0} → Option (D × ℕ) → Option ℕ
 edit_count None = None
 edit_count (Some g) = Some g.1
 
-abbrev pub counts_at : {D : Type 0} → State D → Counts
+abbrev pub counts_at : {D : Type 0} → Timeline D → Counts
 counts_at m = record { past = length m.past; future = length m.future; group = edit_count m.group }

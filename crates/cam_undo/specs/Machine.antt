@@ -8,7 +8,7 @@ use Rattle.std.specs.Prelude.{take, zero, ◌++◌, ◌∷◌}
 
 -- The earlier documents, the latest last; those that were taken back, the next one last; and of an open group the
 -- document at its beginning with the count of its edits.
-pub record State (D : Type 0) : Type 0 where
+pub record Timeline (D : Type 0) : Type 0 where
   pub document : D
   pub past : List D
   pub future : List D
@@ -19,62 +19,62 @@ module _ {X : Type 0} where
   all_but_last xs = take (length xs - 1) xs
 
 module _ {D : Type 0} where
-  abbrev pub accepted_in : ℕ → D → State D → Option (D × ℕ) → State D
+  abbrev pub accepted_in : ℕ → D → Timeline D → Option (D × ℕ) → Timeline D
   accepted_in depth edited m None =
       record { document = edited; past = keep_last depth (m.past ++ m.document ∷ []); future = []; group = None }
   accepted_in depth edited m (Some g) =
       record { document = edited; past = m.past; future = []; group = Some (g.0, g.1 + 1) }
 
   -- An accepted edit: alone it is a step of the past, of which the last `depth` stay.
-  abbrev pub accepted : ℕ → D → State D → State D
+  abbrev pub accepted : ℕ → D → Timeline D → Timeline D
   accepted depth edited m = accepted_in depth edited m m.group
 
   -- The beginning of a group.
-  abbrev pub begun : State D → State D
+  abbrev pub begun : Timeline D → Timeline D
   begun m = record { document = m.document; past = m.past; future = m.future; group = Some (m.document, 0) }
 
-  abbrev pub ended_after : ℕ → State D → D → ℕ → State D
+  abbrev pub ended_after : ℕ → Timeline D → D → ℕ → Timeline D
   ended_after depth m start zero =
       record { document = m.document; past = m.past; future = m.future; group = None }
   ended_after depth m start (suc count) =
       record { document = m.document; past = keep_last depth (m.past ++ start ∷ []); future = m.future; group = None }
 
-  abbrev pub ended_in : ℕ → State D → Option (D × ℕ) → State D
+  abbrev pub ended_in : ℕ → Timeline D → Option (D × ℕ) → Timeline D
   ended_in depth m None = m
   ended_in depth m (Some g) = ended_after depth m g.0 g.1
 
   -- The end of a group: with edits it is one step of the past.
-  abbrev pub ended : ℕ → State D → State D
+  abbrev pub ended : ℕ → Timeline D → Timeline D
   ended depth m = ended_in depth m m.group
 
-  abbrev pub aborted_in : State D → Option (D × ℕ) → State D
+  abbrev pub aborted_in : Timeline D → Option (D × ℕ) → Timeline D
   aborted_in m None = m
   aborted_in m (Some g) = record { document = g.0; past = m.past; future = m.future; group = None }
 
   -- The document is again that at the beginning of the group.
-  abbrev pub aborted : State D → State D
+  abbrev pub aborted : Timeline D → Timeline D
   aborted m = aborted_in m m.group
 
-  abbrev pub undone_to : State D → Option D → State D
+  abbrev pub undone_to : Timeline D → Option D → Timeline D
   undone_to m None = m
   undone_to m (Some earlier) =
       record { document = earlier; past = all_but_last m.past; future = m.future ++ m.document ∷ []; group = m.group }
 
   -- The latest earlier document comes back.
-  abbrev pub undone : State D → State D
+  abbrev pub undone : Timeline D → Timeline D
   undone m = undone_to m (last_item m.past)
 
-  abbrev pub redone_to : State D → Option D → State D
+  abbrev pub redone_to : Timeline D → Option D → Timeline D
   redone_to m None = m
   redone_to m (Some later) =
       record { document = later; past = m.past ++ m.document ∷ []; future = all_but_last m.future; group = m.group }
 
   -- What was taken back last comes again.
-  abbrev pub redone : State D → State D
+  abbrev pub redone : Timeline D → Timeline D
   redone m = redone_to m (last_item m.future)
 
   -- Past and future are forgotten.
-  abbrev pub cleared : State D → State D
+  abbrev pub cleared : Timeline D → Timeline D
   cleared m = record { document = m.document; past = []; future = []; group = m.group }
 
   -- What a call refuses, want of memory apart.
@@ -90,24 +90,28 @@ module _ {D : Type 0} where
   fault_without_group None = Some NoGroup
   fault_without_group (Some g) = None
 
-  abbrev pub begin_fault : State D → Option HistoryFault
+  abbrev pub begin_fault : Timeline D → Option HistoryFault
   begin_fault m = fault_by_group m.group None
 
-  abbrev pub end_fault : State D → Option HistoryFault
+  abbrev pub end_fault : Timeline D → Option HistoryFault
   end_fault m = fault_without_group m.group
 
-  abbrev pub abort_fault : State D → Option HistoryFault
+  abbrev pub abort_fault : Timeline D → Option HistoryFault
   abort_fault m = fault_without_group m.group
 
-  abbrev pub undo_fault : State D → Option HistoryFault
+  abbrev pub undo_fault : Timeline D → Option HistoryFault
   undo_fault m = fault_by_group m.group (fault_by_list m.past NothingToUndo)
 
-  abbrev pub redo_fault : State D → Option HistoryFault
+  abbrev pub redo_fault : Timeline D → Option HistoryFault
   redo_fault m = fault_by_group m.group (fault_by_list m.future NothingToRedo)
 
--- A depth is from 1 to 1,000.
+-- how many edits and groups may be kept at most, the earlier ones and those that were taken back together
+abbrev pub greatest_depth : ℕ
+greatest_depth = 1000
+
+-- A depth is from 1 to the greatest one.
 abbrev pub depth_fault : ℕ → Option HistoryFault
-depth_fault depth = if nat_lt depth 1 then Some Depth else if nat_lt 1000 depth then Some Depth else None
+depth_fault depth = if nat_lt depth 1 then Some Depth else if nat_lt greatest_depth depth then Some Depth else None
 
 -- The fault of a refused call: memory is refused only where nothing else is.
 abbrev pub IsRefusal : Option HistoryFault → HistoryFault → Type 0

@@ -2,7 +2,7 @@
 use Rattle.cam_edits.specs.declared.reversible.Reversible.{Ghosts}
 use Rattle.circular_buffer.specs.Buffer.{keep_last, last_item}
 use Rattle.cam_undo.specs.Kept.{Kept}
-use Rattle.cam_undo.specs.Machine.{State, all_but_last}
+use Rattle.cam_undo.specs.Machine.{Timeline, all_but_last}
 use Rattle.std.specs.Prelude.{◌≡◌, ℕ, List, None, Option, Some, [], length, ◌++◌, ◌∷◌}
 
 module _ {S D : Type 0} (r : Ghosts S D) where
@@ -47,9 +47,9 @@ module _ {S D : Type 0} (r : Ghosts S D) where
   open_answers (Some group) c = answers group c
 
   -- a group, where there is one, fits and leads to a content
-  abbrev pub Leads : Option (List S) → r.Content → r.Content → Type 0
-  Leads None c reached = Unit {0}
-  Leads (Some group) c reached = GroupFits group c × (after_group group c ≡ reached)
+  abbrev pub GroupLeads : Option (List S) → r.Content → r.Content → Type 0
+  GroupLeads None c reached = Unit {0}
+  GroupLeads (Some group) c reached = GroupFits group c × (after_group group c ≡ reached)
 
   abbrev pub OpenFits : Option (List S) → r.Content → Type 0
   OpenFits None c = Unit {0}
@@ -69,17 +69,17 @@ module _ {S D : Type 0} (r : Ghosts S D) where
   abbrev pub IsTied : Kept S → D → Type 0
   IsTied kept doc = Fits kept (r.content doc)
 
-  -- the machine's state that the kept groups stand for
-  abbrev pub state_at : Kept S → r.Content → State r.Content
-  state_at kept c = record {
+  -- the machine's timeline that the kept groups stand for
+  abbrev pub timeline_at : Kept S → r.Content → Timeline r.Content
+  timeline_at kept c = record {
     document = c;
     past = contents kept.past (start_of kept.open_group c);
     future = contents kept.future (start_of kept.open_group c);
     group = group_of kept.open_group c;
   }
 
-  abbrev pub state_of : Kept S → D → State r.Content
-  state_of kept doc = state_at kept (r.content doc)
+  abbrev pub timeline_of : Kept S → D → Timeline r.Content
+  timeline_of kept doc = timeline_at kept (r.content doc)
 
   -- What each call makes of the groups.
 

@@ -7,7 +7,7 @@ ghost use Rattle.cam_undo.specs.Counted.{counts_at, counts_of};
 ghost use Rattle.cam_undo.specs.Machine.{IsRefusal, abort_fault, aborted, accepted, begin_fault, begun, cleared};
 ghost use Rattle.cam_undo.specs.Machine.{depth_fault};
 ghost use Rattle.cam_undo.specs.Machine.{end_fault, ended, redo_fault, redone, undo_fault, undone};
-ghost use Rattle.cam_undo.specs.Timelines.{IsTied, Leads, open_answers, state_of, with_group_closed};
+ghost use Rattle.cam_undo.specs.Timelines.{GroupLeads, IsTied, open_answers, timeline_of, with_group_closed};
 ghost use Rattle.cam_undo.specs.Timelines.{with_group_ended, with_group_open, with_last_redone, with_last_undone};
 ghost use Rattle.cam_undo.specs.Timelines.{with_step};
 
@@ -82,8 +82,8 @@ impl<S: Reversible> History<S> {
         requires fits { S.is_fit step (S.content doc.old) }
         ensures tied { IsTied S.Reversible self.new doc.new }
         ensures kept { OnOk result (self.new ≡ with_step S.Reversible step (S.content doc.old) self.old) }
-        ensures accepted { OnOk result (state_of S.Reversible self.new doc.new ≡ accepted self.old.depth
-            (S.after step (S.content doc.old)) (state_of S.Reversible self.old doc.old)) }
+        ensures accepted { OnOk result (timeline_of S.Reversible self.new doc.new ≡ accepted self.old.depth
+            (S.after step (S.content doc.old)) (timeline_of S.Reversible self.old doc.old)) }
         ensures refused { OnErr result ((self.new ≡ self.old) × (S.content doc.new ≡ S.content doc.old)) }
         ensures depth { self.new.depth ≡ self.old.depth }
     {
@@ -103,11 +103,11 @@ impl<S: Reversible> History<S> {
     pub fn begin(&mut self) -> Result<(), HistoryFault>
         ensures kept { OnOk result (self.new ≡ with_group_open S.Reversible self.old) }
         ensures tied { (doc : S.Doc) → IsTied S.Reversible self.old doc → IsTied S.Reversible self.new doc }
-        ensures begun { OnOk result ((doc : S.Doc) → state_of S.Reversible self.new doc
-            ≡ begun (state_of S.Reversible self.old doc)) }
-        ensures allowed { OnOk result ((doc : S.Doc) → begin_fault (state_of S.Reversible self.old doc) ≡ None) }
+        ensures begun { OnOk result ((doc : S.Doc) → timeline_of S.Reversible self.new doc
+            ≡ begun (timeline_of S.Reversible self.old doc)) }
+        ensures allowed { OnOk result ((doc : S.Doc) → begin_fault (timeline_of S.Reversible self.old doc) ≡ None) }
         ensures open { IfErr result (λ fault. (doc : S.Doc)
-            → begin_fault (state_of S.Reversible self.old doc) ≡ Some fault) }
+            → begin_fault (timeline_of S.Reversible self.old doc) ≡ Some fault) }
         ensures refused { OnErr result (self.new ≡ self.old) }
     {
         if self.group.is_some() {
@@ -121,11 +121,11 @@ impl<S: Reversible> History<S> {
     pub fn end(&mut self) -> Result<(), HistoryFault>
         ensures kept { OnOk result (self.new ≡ with_group_ended S.Reversible self.old) }
         ensures tied { (doc : S.Doc) → IsTied S.Reversible self.old doc → IsTied S.Reversible self.new doc }
-        ensures ended { OnOk result ((doc : S.Doc) → state_of S.Reversible self.new doc
-            ≡ ended self.old.depth (state_of S.Reversible self.old doc)) }
-        ensures allowed { OnOk result ((doc : S.Doc) → end_fault (state_of S.Reversible self.old doc) ≡ None) }
+        ensures ended { OnOk result ((doc : S.Doc) → timeline_of S.Reversible self.new doc
+            ≡ ended self.old.depth (timeline_of S.Reversible self.old doc)) }
+        ensures allowed { OnOk result ((doc : S.Doc) → end_fault (timeline_of S.Reversible self.old doc) ≡ None) }
         ensures fault { IfErr result (λ fault. (doc : S.Doc)
-            → end_fault (state_of S.Reversible self.old doc) ≡ Some fault) }
+            → end_fault (timeline_of S.Reversible self.old doc) ≡ Some fault) }
         ensures refused { OnErr result (self.new ≡ self.old) }
     {
         let Some(group) = self.group.take() else {
@@ -144,10 +144,11 @@ impl<S: Reversible> History<S> {
         ensures kept { OnOk result (self.new ≡ with_group_closed S.Reversible self.old) }
         ensures answers { IfOk result (λ handed. handed.items
             ≡ open_answers S.Reversible self.old.open_group (S.content doc.old)) }
-        ensures aborted { OnOk result (state_of S.Reversible self.new doc.new
-            ≡ aborted (state_of S.Reversible self.old doc.old)) }
-        ensures allowed { OnOk result (abort_fault (state_of S.Reversible self.old doc.old) ≡ None) }
-        ensures fault { IfErr result (λ fault. IsRefusal (abort_fault (state_of S.Reversible self.old doc.old)) fault) }
+        ensures aborted { OnOk result (timeline_of S.Reversible self.new doc.new
+            ≡ aborted (timeline_of S.Reversible self.old doc.old)) }
+        ensures allowed { OnOk result (abort_fault (timeline_of S.Reversible self.old doc.old) ≡ None) }
+        ensures fault { IfErr result (λ fault.
+            IsRefusal (abort_fault (timeline_of S.Reversible self.old doc.old)) fault) }
         ensures refused { OnErr result ((self.new ≡ self.old) × (S.content doc.new ≡ S.content doc.old)) }
     {
         let Some(group) = &self.group else {
@@ -166,10 +167,11 @@ impl<S: Reversible> History<S> {
         requires tied { IsTied S.Reversible self.old doc.old }
         ensures tied { IsTied S.Reversible self.new doc.new }
         ensures kept { OnOk result (self.new ≡ with_last_undone S.Reversible (S.content doc.old) self.old) }
-        ensures undone { OnOk result (state_of S.Reversible self.new doc.new
-            ≡ undone (state_of S.Reversible self.old doc.old)) }
-        ensures allowed { OnOk result (undo_fault (state_of S.Reversible self.old doc.old) ≡ None) }
-        ensures fault { IfErr result (λ fault. IsRefusal (undo_fault (state_of S.Reversible self.old doc.old)) fault) }
+        ensures undone { OnOk result (timeline_of S.Reversible self.new doc.new
+            ≡ undone (timeline_of S.Reversible self.old doc.old)) }
+        ensures allowed { OnOk result (undo_fault (timeline_of S.Reversible self.old doc.old) ≡ None) }
+        ensures fault { IfErr result (λ fault.
+            IsRefusal (undo_fault (timeline_of S.Reversible self.old doc.old)) fault) }
         ensures refused { OnErr result ((self.new ≡ self.old) × (S.content doc.new ≡ S.content doc.old)) }
     {
         if self.group.is_some() {
@@ -187,10 +189,11 @@ impl<S: Reversible> History<S> {
         requires tied { IsTied S.Reversible self.old doc.old }
         ensures tied { IsTied S.Reversible self.new doc.new }
         ensures kept { OnOk result (self.new ≡ with_last_redone S.Reversible (S.content doc.old) self.old) }
-        ensures redone { OnOk result (state_of S.Reversible self.new doc.new
-            ≡ redone (state_of S.Reversible self.old doc.old)) }
-        ensures allowed { OnOk result (redo_fault (state_of S.Reversible self.old doc.old) ≡ None) }
-        ensures fault { IfErr result (λ fault. IsRefusal (redo_fault (state_of S.Reversible self.old doc.old)) fault) }
+        ensures redone { OnOk result (timeline_of S.Reversible self.new doc.new
+            ≡ redone (timeline_of S.Reversible self.old doc.old)) }
+        ensures allowed { OnOk result (redo_fault (timeline_of S.Reversible self.old doc.old) ≡ None) }
+        ensures fault { IfErr result (λ fault.
+            IsRefusal (redo_fault (timeline_of S.Reversible self.old doc.old)) fault) }
         ensures refused { OnErr result ((self.new ≡ self.old) × (S.content doc.new ≡ S.content doc.old)) }
     {
         if self.group.is_some() {
@@ -206,7 +209,7 @@ impl<S: Reversible> History<S> {
     /// The lengths of the past and the future, and of the open group.
     pub fn counts(&self) -> Counts
         ensures kept { result ≡ counts_of self.now }
-        ensures counts { (doc : S.Doc) → result ≡ counts_at (state_of S.Reversible self.now doc) }
+        ensures counts { (doc : S.Doc) → result ≡ counts_at (timeline_of S.Reversible self.now doc) }
     {
         let past = self.past.len();
         let future = self.future.len();
@@ -229,8 +232,8 @@ impl<S: Reversible> History<S> {
         requires { self.old.open_group ≡ None }
         ensures kept { self.new ≡ record { depth = self.old.depth; past = []; future = []; open_group = None } }
         ensures tied { (doc : S.Doc) → IsTied S.Reversible self.new doc }
-        ensures cleared { (doc : S.Doc) → state_of S.Reversible self.new doc
-            ≡ cleared (state_of S.Reversible self.old doc) }
+        ensures cleared { (doc : S.Doc) → timeline_of S.Reversible self.new doc
+            ≡ cleared (timeline_of S.Reversible self.old doc) }
     {
         self.past.clear();
         self.future.clear();
@@ -239,8 +242,9 @@ impl<S: Reversible> History<S> {
     /// The steps of the open group, which the next abort plays from the last to the first.
     pub fn open_group(&self) -> Option<&[S]>
         ensures kept { option_copied result ≡ self.now.open_group }
-        ensures leads { (doc : S.Doc) → IsTied S.Reversible self.now doc → Leads S.Reversible (option_copied result)
-            (S.content doc) (aborted (state_of S.Reversible self.now doc)).document }
+        ensures leads { (doc : S.Doc) → IsTied S.Reversible self.now doc
+            → GroupLeads S.Reversible (option_copied result)
+            (S.content doc) (aborted (timeline_of S.Reversible self.now doc)).document }
     {
         match &self.group {
             Some(group) => Some(group),
@@ -252,8 +256,8 @@ impl<S: Reversible> History<S> {
     pub fn last_undo(&self) -> Option<&[S]>
         ensures kept { option_copied result ≡ last_item self.now.past }
         ensures leads { (doc : S.Doc) → IsTied S.Reversible self.now doc → self.now.open_group ≡ None
-            → Leads S.Reversible (option_copied result)
-            (S.content doc) (undone (state_of S.Reversible self.now doc)).document }
+            → GroupLeads S.Reversible (option_copied result)
+            (S.content doc) (undone (timeline_of S.Reversible self.now doc)).document }
     {
         match self.past.back() {
             Some(group) => Some(group),
@@ -265,8 +269,8 @@ impl<S: Reversible> History<S> {
     pub fn last_redo(&self) -> Option<&[S]>
         ensures kept { option_copied result ≡ last_item self.now.future }
         ensures leads { (doc : S.Doc) → IsTied S.Reversible self.now doc → self.now.open_group ≡ None
-            → Leads S.Reversible (option_copied result)
-            (S.content doc) (redone (state_of S.Reversible self.now doc)).document }
+            → GroupLeads S.Reversible (option_copied result)
+            (S.content doc) (redone (timeline_of S.Reversible self.now doc)).document }
     {
         match self.future.back() {
             Some(group) => Some(group),

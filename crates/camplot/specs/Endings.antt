@@ -4,7 +4,7 @@ use Rattle.std.specs.Str.{bytes_eq}
 use Rattle.std.specs.Str.Lines.{lines}
 use Rattle.cam_station.specs.Machine.{fresh, is_depth}
 use Rattle.cam_station.specs.declared.files.FileFault.{FileFault}
-use Rattle.cam_station.specs.Run.{Answers, EndsBy, FilesSeen, Finishes, Get, Moment, World}
+use Rattle.cam_station.specs.Run.{Answers, EndsBy, FilesSeen, Get, Moment, RunsAllLines, World}
 use Rattle.camplot.specs.Disk.{AreAllOf, file_limit}
 use Rattle.camplot.specs.declared.ending.Ending.{Ending}
 use Rattle.camplot.specs.declared.ending.Ending.TheVariants.{Ran, Unread, Stopped}
@@ -47,7 +47,7 @@ pub record IsUnread (path : List ℕ) (told : Option (List ℕ)) (fault : FileFa
 -- what was done before the run of these bytes, on a new station of this depth, ended so: all their lines, or fewer
 abbrev pub RunEnds : Ending → List ℕ → ℕ → Moment → Moment → Type 0
 RunEnds (Ran refused) script depth begun after =
-    (is_depth depth ≡ true) × (ws : List World) × Finishes (fresh depth) (lines script) ws begun after
+    (is_depth depth ≡ true) × (ws : List World) × RunsAllLines (fresh depth) (lines script) ws begun after
 RunEnds (Unread fault) script depth begun after = ⊥
 RunEnds (Stopped fault) script depth begun after = EndsBy fault depth (lines script) begun after
 

@@ -3,7 +3,7 @@ use Rattle.std.specs.Prelude.{ℕ, ◌+◌, ◌==◌, min, Bool, true, false, no
 use Rattle.std.specs.Prelude.{None, Some, Ok, Err}
 use Rattle.std.specs.List.{list_any, suffix_len}
 use Rattle.cam_script.specs.Parsing.{Parsed, parsed}
-use Rattle.cam_station.specs.Contents.{last_count}
+use Rattle.cam_station.specs.Files.{last_count}
 
 -- what an empty line and a comment say
 abbrev pub is_silent : Parsed → Bool

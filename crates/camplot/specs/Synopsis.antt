@@ -2,6 +2,7 @@
 use Rattle.std.specs.Prelude.{◌≡◌, ◌≢◌, ◌≤◌, ℕ, Bool, List, [], ◌∷◌, ◌++◌, Option, Some, None, true, false, pos}
 use Rattle.std.specs.Prelude.{codes, decimal, option_map}
 use Rattle.std.specs.Str.Parse.{digits_value, without_leading_plus}
+use Rattle.cam_undo.specs.Machine.{greatest_depth}
 use Rattle.clap.specs.Words.{App, HasKind, Rule, Text, first_of, kind_of, matches_of, new_app}
 use Rattle.clap.specs.Words.{new_rule, one_of, with_rule}
 use Rattle.clap.specs.Simple.{on_top}
@@ -20,14 +21,14 @@ script_argument = record (new_rule (codes "script")) {
   value_names = 1;
 }
 
--- --depth N: the undo depth, from 1 to 1,000; a call without it means 100
+-- --depth N: the undo depth, from 1 to the greatest one; a call without it means 100
 abbrev pub depth_option : Rule
 depth_option = record (new_rule (codes "depth")) {
   long = Some (codes "depth");
   action = Some Set;
   value_names = 1;
   defaults = codes "100" ∷ [];
-  parser = Some (Signed (pos 1) (pos 1000));
+  parser = Some (Signed (pos 1) (pos greatest_depth));
 }
 
 -- --explain: a flag
@@ -56,7 +57,7 @@ pub record IsCallFor (words : List Text) (path : Text) (depth : ℕ) : Type 0 wh
   pub script : first_of (codes "script") (matches_of camplot words) ≡ Some path
   pub number : option_map number_written (one_of (codes "depth") (matches_of camplot words))
       ≡ Some depth
-  pub in_range : (1 ≤ depth) × (depth ≤ 1000)
+  pub in_range : (1 ≤ depth) × (depth ≤ greatest_depth)
 
 -- the value of `--explain`, `true` or `false`, as clap writes it
 abbrev pub explain_text : List Text → Option Text

@@ -59,7 +59,7 @@ impl<'a, R: SystemFiles> Disk<'a, R> {
 }
 
 impl<R> Disk<'_, R> {
-    ghost use Rattle.cam_station.specs.Contents.{HasRisenBy, fault_failures};
+    ghost use Rattle.cam_station.specs.Files.{HasRisenBy, fault_failures};
 
     /// Counts a failure of a file; want of memory is none.
     fn counted(&mut self, fault: FileFault) -> FileFault
@@ -75,7 +75,7 @@ impl<R> Disk<'_, R> {
 
 impl<'a, R: SystemFiles> Files for Disk<'a, R> {
     ghost use Rattle.std.specs.Prelude.{◌≤◌, IfErr, IfOk, None, length};
-    ghost use Rattle.cam_station.specs.Contents.{FailsIfAbsent, HasRisenBy, Holds, failures_of};
+    ghost use Rattle.cam_station.specs.Files.{FailsIfAbsent, HasRisenBy, Holds, failures_of};
     ghost use Rattle.camplot.specs.Disk.{file_limit};
 
     ghost contents = { λ _. None };

@@ -10,9 +10,11 @@ use Rattle.cam_edits.specs.declared.board_step.BoardStep.{BoardStep}
 use Rattle.cam_edits.specs.declared.board_step.BoardStep.TheVariants as steps
 use Rattle.cam_edits.specs.declared.drill_step.DrillStep.{DrillStep}
 use Rattle.cam_edits.specs.declared.step.Step.{Step}
-use Rattle.cam_edits.specs.Boards.{changed_at, held, with_content}
-use Rattle.cam_edits.specs.BoardSteps.{HasBoardRoom, HasRoomOn, IsBoardFit, IsDrillFitOn, IsFitOn, after_board_step, after_drill_on}
-use Rattle.cam_edits.specs.BoardSteps.{after_on, drill_steps_on, inverse_board_step, inverse_drill_on, inverse_on, joined_if, steps_on}
+use Rattle.cam_edits.specs.Boards.{changed_at, content_or_empty, with_content}
+use Rattle.cam_edits.specs.BoardSteps.{HasBoardRoom, HasRoomOn, IsBoardFit, IsDrillFitOn, IsFitOn, after_board_step}
+use Rattle.cam_edits.specs.BoardSteps.{after_drill_on}
+use Rattle.cam_edits.specs.BoardSteps.{after_on, drill_steps_on, inverse_board_step, inverse_drill_on, inverse_on}
+use Rattle.cam_edits.specs.BoardSteps.{joined_if, steps_on}
 use Rattle.cam_edits.specs.Machinery.Room.{HasPlaces}
 use Rattle.cam_edits.specs.DrillSteps.{is_drill_insertion}
 use Rattle.cam_edits.specs.Machinery.DrillStepLaws.{drill_answer_fits, drill_gives_back_content, drill_gives_back_step}
@@ -62,7 +64,7 @@ module _ {X : Type 0} (after : X → Content → Content) (inverse : X → Conte
     sheet_is = found (λ s. Fit step s.content) sheets place h
 
     abbrev answer : X
-    answer = inverse step (held (slice_get sheets place))
+    answer = inverse step (content_or_empty (slice_get sheets place))
 
     abbrev edited : List Sheet
     edited = changed_at (after step) place sheets
@@ -70,7 +72,7 @@ module _ {X : Type 0} (after : X → Content → Content) (inverse : X → Conte
     fits_at : ((c : Content) → Fit step c → Fit (inverse step c) (after step c)) → FitsAt answer edited place
     fits_at back =
         let s = sheet_is in
-        subst (λ (o : Option Sheet). FitsAt (inverse step (held o)) edited place) (sym s.1)
+        subst (λ (o : Option Sheet). FitsAt (inverse step (content_or_empty o)) edited place) (sym s.1)
         (has_changed sheets place s.0 s.1 (λ t. Fit (inverse step s.0.content) t.content) (with_content (after step))
         (back s.0.content s.2))
 
@@ -78,17 +80,18 @@ module _ {X : Type 0} (after : X → Content → Content) (inverse : X → Conte
         → changed_at (after answer) place edited ≡ sheets
     content_at_back back =
         let s = sheet_is in
-        ap (λ (o : Option Sheet). changed_at (after (inverse step (held o))) place edited) s.1
+        ap (λ (o : Option Sheet). changed_at (after (inverse step (content_or_empty o))) place edited) s.1
         ∙ changed_back sheets place s.0 s.1 (with_content (after step))
         (with_content (after (inverse step s.0.content)))
         (ap (sheet s.0.name) (back s.0.content s.2))
 
     step_at_back : ((c : Content) → Fit step c → inverse (inverse step c) (after step c) ≡ step)
-        → inverse answer (held (slice_get edited place)) ≡ step
+        → inverse answer (content_or_empty (slice_get edited place)) ≡ step
     step_at_back back =
         let s = sheet_is in
-        ap (λ (o : Option Sheet). inverse (inverse step (held o)) (held (slice_get edited place))) s.1
-        ∙ ap (λ (o : Option Sheet). inverse (inverse step s.0.content) (held o))
+        let now = content_or_empty (slice_get edited place) in
+        ap (λ (o : Option Sheet). inverse (inverse step (content_or_empty o)) now) s.1
+        ∙ ap (λ (o : Option Sheet). inverse (inverse step s.0.content) (content_or_empty o))
         (get_changed sheets place s.0 s.1 (with_content (after step)))
         ∙ back s.0.content s.2
 

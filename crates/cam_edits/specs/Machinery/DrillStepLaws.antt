@@ -16,7 +16,8 @@ use Rattle.cam_edits.specs.declared.drill_step.DrillStep.TheVariants.{Insert, De
 use Rattle.cam_edits.specs.DrillSteps.{HasDrillRoom, IsDrillFit, after_drill_step, diameter_before, insertion_of}
 use Rattle.cam_edits.specs.DrillSteps.{inverse_drill_step, is_drill_insertion, tool_before, with_tool}
 use Rattle.cam_edits.specs.Machinery.MovingLaws.{drill_item_back, movable_drill_item, negated_twice, shiftable_negated}
-use Rattle.cam_edits.specs.Machinery.PlaceLaws.{changed_back, element_at, found, get_changed, get_inserted, has_changed, insert_removed}
+use Rattle.cam_edits.specs.Machinery.PlaceLaws.{changed_back, element_at, found, get_changed, get_inserted, has_changed}
+use Rattle.cam_edits.specs.Machinery.PlaceLaws.{insert_removed}
 use Rattle.cam_edits.specs.Machinery.PlaceLaws.{length_reordered, remove_inserted, reordered_back, within}
 use Rattle.cam_edits.specs.Moving.{IsMovableDrillItem, negated}
 use Rattle.cam_edits.specs.Places.{changed}
@@ -91,7 +92,8 @@ drill_answer_fits (Delete k) c h =
 drill_answer_fits (Move k by) c h =
     let f = found (IsMovableDrillItem by) c.items k h.1 in (
       shiftable_negated by h.0,
-      has_changed c.items k f.0 f.1 (IsMovableDrillItem (negated by)) (shifted_drill_item by) (movable_drill_item by f.0 f.2),
+      has_changed c.items k f.0 f.1 (IsMovableDrillItem (negated by)) (shifted_drill_item by)
+          (movable_drill_item by f.0 f.2),
     )
 drill_answer_fits (Reorder k m) c h =
     let e = element_at c.items k h.0 in

@@ -1,11 +1,12 @@
 -- How edits are judged by the checks of items.
 use Rattle.std.specs.Prelude.{ℕ, Bool, if◌then◌else◌, Option, None, Some, Result, Ok, Err}
 use Rattle.cam_objects.specs.declared.item.Item.{Item}
-use Rattle.cam_objects.specs.declared.item.Item.TheVariants.{One, Repeat}
+use Rattle.cam_objects.specs.declared.item.Item.TheVariants.{One}
 use Rattle.cam_objects.specs.declared.item_fault.ItemFault.{ItemFault}
-use Rattle.cam_objects.specs.declared.item_fault.ItemFault.TheVariants.{Malformed, UnknownAperture, UnknownTool, ZeroRadius}
+use Rattle.cam_objects.specs.declared.item_fault.ItemFault.TheVariants.{Malformed, UnknownAperture, UnknownTool}
+use Rattle.cam_objects.specs.declared.item_fault.ItemFault.TheVariants.{ZeroRadius}
 use Rattle.cam_objects.specs.declared.item_fault.ItemFault.TheVariants as items
-use Rattle.cam_objects.specs.declared.object.Object.TheVariants.{Flash, Draw, Arc, Region}
+use Rattle.cam_objects.specs.declared.object.Object.TheVariants.{Flash, Draw, Arc}
 use Rattle.cam_edits.specs.declared.fault.EditFault.{EditFault}
 use Rattle.cam_edits.specs.declared.fault.EditFault.TheVariants.{WrongKind, NoItem, NoAperture, NoTool, WrongAperture}
 use Rattle.cam_edits.specs.declared.fault.EditFault.TheVariants.{SizeRefused, OutOfBoard, TooMuch}
@@ -22,14 +23,8 @@ refusal_of items.TooMuch = TooMuch
 
 -- what an insertion is told where there is no such place
 abbrev pub unplaced : Result Unit ItemFault → EditFault
-unplaced (Ok done) = NoItem
 unplaced (Err Malformed) = WrongKind
-unplaced (Err UnknownAperture) = NoItem
-unplaced (Err UnknownTool) = NoItem
-unplaced (Err items.WrongAperture) = NoItem
-unplaced (Err ZeroRadius) = NoItem
-unplaced (Err items.OutOfBoard) = NoItem
-unplaced (Err items.TooMuch) = NoItem
+unplaced _ = NoItem
 
 abbrev pub placed : Result Unit ItemFault → Result Unit EditFault
 placed (Ok done) = Ok done
@@ -44,5 +39,4 @@ abbrev pub other_aperture : ℕ → Item → Option Item
 other_aperture n (One (Flash m at t dark)) = Some (One (Flash n at t dark))
 other_aperture n (One (Draw m from to t dark)) = Some (One (Draw n from to t dark))
 other_aperture n (One (Arc m from to centre ccw dark)) = Some (One (Arc n from to centre ccw dark))
-other_aperture n (One (Region contour dark)) = None
-other_aperture n (Repeat columns rows i j objects) = None
+other_aperture n _ = None

@@ -14,7 +14,8 @@ use Rattle.cam_objects.specs.declared.item.Item.{Item}
 use Rattle.cam_objects.specs.declared.item.Item.TheVariants.{One, Repeat}
 use Rattle.cam_objects.specs.declared.drill_item.DrillItem.{DrillItem}
 use Rattle.cam_objects.specs.declared.drill_item.DrillItem.TheVariants.{Hit, Rout}
-use Rattle.cam_edits.specs.Moving.{IsMovablePoint, IsMovableSeg, IsMovableObject, IsMovableItem, IsMovableDrillItem, negated}
+use Rattle.cam_edits.specs.Moving.{IsMovablePoint, IsMovableSeg, IsMovableObject, IsMovableItem, IsMovableDrillItem}
+use Rattle.cam_edits.specs.Moving.{negated}
 
 size_negated : (a : ℤ) → unsigned_abs (neg_ℤ a) ≡ unsigned_abs a
 size_negated (pos zero) = refl

@@ -1,4 +1,5 @@
-use Rattle.std.specs.Prelude.{◌≡◌, ℕ, ◌<◌, ◌≤◌, Option, Bool, cond, List, [], ◌∷◌, ◌++◌, length, Some, remove, slice_get}
+use Rattle.std.specs.Prelude.{◌≡◌, ℕ, ◌<◌, ◌≤◌, Option, Bool, cond, List, [], ◌∷◌, ◌++◌, length, Some, remove}
+use Rattle.std.specs.Prelude.{slice_get}
 use Rattle.std.proofs.Common.{refl, ap, sym, subst, ◌∙◌, arith}
 use Rattle.std.proofs.lemmas.List.Edits.{length-insert, length-remove}
 use Rattle.std.proofs.lemmas.List.Sums.{sum_by-append}
@@ -16,10 +17,12 @@ use Rattle.cam_edits.specs.declared.step.Step.TheVariants.{PutAttribute, TakeAtt
 use Rattle.cam_edits.specs.Moving.{IsMovableItem, negated}
 use Rattle.cam_edits.specs.Machinery.MovingLaws.{item_back, movable_item, negated_twice, shiftable_negated}
 use Rattle.cam_edits.specs.Machinery.PlaceLaws.{changed_back, element_at, found, get_changed, get_inserted, has_changed}
-use Rattle.cam_edits.specs.Machinery.PlaceLaws.{insert_removed, length_changed, length_reordered, remove_inserted, reordered_back}
+use Rattle.cam_edits.specs.Machinery.PlaceLaws.{insert_removed, length_changed, length_reordered, remove_inserted}
+use Rattle.cam_edits.specs.Machinery.PlaceLaws.{reordered_back}
 use Rattle.cam_edits.specs.Places.{HasAt, changed}
 use Rattle.cam_edits.specs.Steps.{HasAperture, HasRoom, IsFit, IsOne, after_step, aperture_of, inverse_at, inverse_step}
-use Rattle.cam_edits.specs.Steps.{is_insertion, polarity_of, puts_attribute, step_place, with_aperture, with_fields, with_object, with_polarity}
+use Rattle.cam_edits.specs.Steps.{is_insertion, polarity_of, puts_attribute, step_place, with_aperture, with_fields}
+use Rattle.cam_edits.specs.Steps.{with_object, with_polarity}
 
 -- ---- apertures and polarities that are set and set back
 has_aperture : (n : ℕ) (object : Object) → HasAperture object → HasAperture (with_aperture n object)
@@ -108,8 +111,8 @@ module _ (c : Content) where
       let e = element_at c.attributes k h in
       let n = length_changed c.attributes k e.0 e.1 (with_fields fields) in
       let lt : k < length (changed (with_fields fields) c.attributes k) = omega (arith, n, h) in
-      subst (λ (s : Step). IsFit s (after_step (SetFields k fields) c)) (sym (ap (by_attribute (SetFields k fields)) e.1))
-      lt
+      subst (λ (s : Step). IsFit s (after_step (SetFields k fields) c))
+      (sym (ap (by_attribute (SetFields k fields)) e.1)) lt
 
   -- ---- it gives back the content
   abbrev with_items : List Item → Content

@@ -9,9 +9,9 @@ use Rattle.cam_script.specs.Parsing.{insert_change, delete_change, move_change, 
 use Rattle.cam_script.specs.Parsing.{polarity_change, tool_change, diameter_change, set_change, drop_change}
 
 -- what was read; where it is something, its memory may be refused
-abbrev pub held : {T : Type 0} → Option T → Bool → Result T LineFault
-held None no_memory = Err BadLine
-held (Some x) no_memory = if no_memory then Err Memory else Ok x
+abbrev pub unless_refused : {T : Type 0} → Option T → Bool → Result T LineFault
+unless_refused None no_memory = Err BadLine
+unless_refused (Some x) no_memory = if no_memory then Err Memory else Ok x
 
 -- the change of a form
 abbrev pub change_by : ChangeForm → List (List ℕ) → Option Change

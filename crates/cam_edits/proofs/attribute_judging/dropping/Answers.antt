@@ -1,5 +1,5 @@
 use Rattle.std.proofs.Common.{◌≡◌, true, Some}
-use Rattle.cam_objects.specs.Attributes.{place_of}
+use Rattle.cam_objects.specs.Attributes.{place_of as attribute_place}
 use Rattle.cam_objects.specs.Contents.{content_of}
 use Rattle.cam_edits.specs.AttributeEdits.{is_key}
 use Rattle.cam_edits.proofs.AttributeSteps.{dropped}
@@ -8,5 +8,5 @@ use Rattle.cam_edits.proofs.attribute_judging.dropping.Goals as goal
 pub returns-in-Some-clause-value : goal.returns-in-Some-clause-value
 returns-in-Some-clause-value c =
     let good : is_key c.args.key.now ≡ true = cc in
-    let at : Some c.in-Some.k ≡ place_of c.args.key.now c.args.layer.now.attributes.items = cc in
+    let at : Some c.in-Some.k ≡ attribute_place c.args.key.now c.args.layer.now.attributes.items = cc in
     dropped (content_of c.args.layer.now) c.args.key.now good c.in-Some.k at

@@ -1,5 +1,5 @@
 use Rattle.cam_objects.specs.Contents.{content_of}
-use Rattle.cam_edits.proofs.GerberEdits.{judged_fits}
+use Rattle.cam_edits.proofs.FittingEdits.{judged_fits}
 use Rattle.cam_edits.proofs.judging.judged.Goals as goal
 use Rattle.cam_edits.specs.declared.step.Step.TheVariants.{Aperture, Delete, Insert, Move, Polarity, Reorder}
 

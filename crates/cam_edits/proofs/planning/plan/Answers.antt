@@ -2,7 +2,7 @@ use Rattle.std.proofs.Common.{◌≡◌, ap, sym, ◌∙◌}
 use Rattle.std.proofs.lemmas.Result.{err_from_is_err_and}
 use Rattle.cam_objects.specs.Contents.{content_of as gerber_content, drill_content_of as drill_content}
 use Rattle.cam_edits.proofs.DrillEdits as drill_edits
-use Rattle.cam_edits.proofs.GerberEdits as gerber_edits
+use Rattle.cam_edits.proofs.FittingEdits as fitting_edits
 use Rattle.cam_edits.proofs.Plans.{drill_no_memory, drill_planned, drill_told, no_layer, no_memory, planned, sound_there, told}
 use Rattle.cam_edits.proofs.planning.plan.Goals as goal
 use Rattle.cam_edits.specs.Boards.{content_at}
@@ -42,7 +42,7 @@ touched-requires-clause-sound c =
 
 pub touched-requires-clause-accepted : goal.touched-requires-clause-accepted
 touched-requires-clause-accepted c =
-    (gerber_edits.change_accepted (gerber_content c.in-Gerber.layer) c.args.edit.change c.in_ok-step-in-Gerber.step
+    (fitting_edits.change_accepted (gerber_content c.in-Gerber.layer) c.args.edit.change c.in_ok-step-in-Gerber.step
     (sym c.in_ok-step-in-Gerber.ensures.value)).1
 
 pub returns-in_err-boxes-in-Gerber-clause-refused : goal.returns-in_err-boxes-in-Gerber-clause-refused

@@ -2,7 +2,7 @@ use Rattle.std.proofs.Common.{◌≡◌, true}
 use Rattle.std.proofs.lemmas.Result.{err_from_is_err_and}
 use Rattle.cam_script.specs.Machinery.Reading.{change_by}
 use Rattle.cam_script.specs.Words.{is_name}
-use Rattle.cam_script.proofs.Held.{edit_refused, edit_starved}
+use Rattle.cam_script.proofs.RefusedMemory.{edit_refused, edit_starved}
 use Rattle.cam_script.proofs.edits.edit.Goals as goal
 
 pub returns-in_err-change : goal.returns-in_err-change

@@ -1,5 +1,5 @@
 use Rattle.std.proofs.lemmas.Result.{err_from_is_err_and}
-use Rattle.cam_script.proofs.Held.{insert_refused}
+use Rattle.cam_script.proofs.RefusedMemory.{insert_refused}
 use Rattle.cam_script.proofs.edits.insert_change.Goals as goal
 
 pub returns-in_err-item : goal.returns-in_err-item

@@ -1,7 +1,7 @@
 use Rattle.std.proofs.Common.{◌∷◌, [], length, arith, ap}
 use Rattle.std.proofs.lemmas.Result.{err_from_is_err_and}
 use Rattle.cam_station.specs.Run.{World, Moment, moment, turn}
-use Rattle.cam_station.specs.Machinery.Lines.{Passes, IsUnsaid}
+use Rattle.cam_station.specs.Machinery.Lines.{TurnLeadsTo, ReplyIsUnsaid}
 use Rattle.cam_script.proofs.Cutting.{few_lines}
 use Rattle.cam_station.proofs.RunSteps.{finishes_none, finishes_more, stops_here, stops_more}
 use Rattle.cam_station.proofs.running.run.Goals as goal
@@ -21,7 +21,7 @@ loop-line-preserved g c =
     (g.O.Out.said c.loop-line.out) (g.O.Out.failed c.loop-line.out) c.loop-line.refused in
     let between : Moment = moment (g.F.Files.contents c.serve_line.new.files) (g.F.Files.failed c.serve_line.new.files)
     (g.O.Out.said c.serve_line.new.out) (g.O.Out.failed c.serve_line.new.out) c.in_ok-refused.refused in
-    let line : (w : World) × Passes (turn c.loop-line.station c.in-Some.line.now w) c.serve_line.new.station before between =
+    let line : (w : World) × TurnLeadsTo (turn c.loop-line.station c.in-Some.line.now w) c.serve_line.new.station before between =
     c.in_ok-refused.ensures.ok in
     record {
       depth = c.loop-line.invariant.depth;
@@ -48,7 +48,8 @@ returns-in_err-refused-clause-err g c =
     (g.O.Out.said c.loop-line.out) (g.O.Out.failed c.loop-line.out) c.loop-line.refused in
     let after : Moment = moment (g.F.Files.contents c.serve_line.new.files) (g.F.Files.failed c.serve_line.new.files)
     (g.O.Out.said c.serve_line.new.out) (g.O.Out.failed c.serve_line.new.out) 0 in
-    let unsaid : (w : World) × IsUnsaid (turn c.loop-line.station c.in-Some.line.now w) before after = c.in_err-refused.ensures.stops in
+    let unsaid : (w : World) × ReplyIsUnsaid (turn c.loop-line.station c.in-Some.line.now w) before after =
+    c.in_err-refused.ensures.stops in
     let all = c.loop-line.invariant.stops (unsaid.0 ∷ []) after
     (rw c.in-Some.ensures.some (stops_here c.loop-line.station c.in-Some.line.now c.next.new.self unsaid.0 before after unsaid.1)) in
     let told = err_from_is_err_and c.from_residual-in_err-refused.result c.from_residual-in_err-refused.ensures.1 in

@@ -1,6 +1,6 @@
 use Rattle.std.proofs.Common.{◌≡◌, ◌+◌, ◌-◌, ◌≤◌, ◌++◌, drop, min, take}
 use Rattle.cam_edits.specs.Sheets.{sheets_of}
-use Rattle.cam_station.specs.Layers.{dirty_in, redrawn_in}
+use Rattle.cam_station.specs.TileTables.{dirty_in, redrawn_in}
 use Rattle.cam_station.proofs.showing.draw_all.Given as goal
 
 -- with what is left to draw of the others, all of it is drawn

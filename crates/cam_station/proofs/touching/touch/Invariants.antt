@@ -1,6 +1,6 @@
 use Rattle.std.proofs.Common.{◌≡◌, map, take}
 use Rattle.cam_edits.specs.Touches.{touch_of}
-use Rattle.cam_station.specs.Layers.{touched_in}
+use Rattle.cam_station.specs.TileTables.{touched_in}
 use Rattle.cam_station.proofs.touching.touch.Given as goal
 
 -- the steps so far have touched their tiles

@@ -1,5 +1,5 @@
 use Rattle.std.proofs.Common.{rules, ap, sym, ◌∙◌}
-use Rattle.cam_station.specs.Layers.{touched_in}
+use Rattle.cam_station.specs.TileTables.{touched_in}
 use Rattle.cam_station.proofs.KeptTouches.{last_in_group, last_in_past}
 use Rattle.cam_station.proofs.touching.touch_accepted.Goals as goal
 

@@ -2,8 +2,8 @@ use Rattle.std.proofs.Common.{◌≡◌, ◌++◌, ◌∷◌, [], List, ap, rule
 use Rattle.cam_edits.specs.Sheets.{Sheet, sheet_of, sheets_of}
 use Rattle.cam_edits.specs.declared.board_step.BoardStep.{BoardStep}
 use Rattle.cam_undo.specs.Kept.{Kept}
-use Rattle.cam_station.specs.Layers.{with_blank}
-use Rattle.cam_station.specs.Machine.{alone}
+use Rattle.cam_station.specs.TileTables.{with_blank}
+use Rattle.cam_station.specs.Machine.{unedited}
 use Rattle.cam_station.proofs.Joining.{blank_put, is_station, no_blank}
 use Rattle.cam_station.specs.Sound.{IsSoundTimeline}
 use Rattle.cam_station.proofs.Tied.{sound_load}
@@ -50,5 +50,5 @@ invariant_of-self-2 c =
     sound_load old s.name s.content c.self.invariant.2.document c.requires.sound in (
       rw (depth, window, added, tables) station,
       c.clear.ensures.tied i.board,
-      rw c.clear.ensures.kept (subst (λ (l : List Sheet). IsSoundTimeline (alone l)) (sym added) sound),
+      rw c.clear.ensures.kept (subst (λ (l : List Sheet). IsSoundTimeline (unedited l)) (sym added) sound),
     )

@@ -2,10 +2,9 @@ use Rattle.std.proofs.Common.{rules, ap, sym, ◌∙◌, length}
 use Rattle.cam_edits.specs.contracts.board_step.BoardStepReversible.TheImpl.{ghosts}
 use Rattle.cam_edits.specs.BoardSteps.{after_board_step}
 use Rattle.cam_edits.specs.Sheets.{sheets_of}
-use Rattle.cam_undo.specs.Timelines.{state_of}
+use Rattle.cam_undo.specs.Timelines.{timeline_of}
 use Rattle.cam_station.specs.Machine.{Granted, edit_step}
-use Rattle.cam_station.specs.Touches.{touches_of}
-use Rattle.cam_station.specs.Machinery.Touching.{last_accepted}
+use Rattle.cam_station.specs.Machinery.Touching.{last_accepted, touches_of}
 use Rattle.cam_station.proofs.LayerCounts.{accepted_count}
 use Rattle.cam_station.proofs.StationMoves.{edit_made, station_touched, touched_over}
 use Rattle.cam_station.proofs.Tied.{sound_edit}
@@ -16,7 +15,7 @@ invariant_of-self c =
     let i = c.self.inside in
     let depth = i.history.depth in
     let after = after_board_step c.in-Ok.step (sheets_of i.board) in
-    let timeline = state_of ghosts i.history i.board in
+    let timeline = timeline_of ghosts i.history i.board in
     let many = ap (λ t. length t.document) c.in-Ok-accept.ensures.accepted ∙ accepted_count depth c.in-Ok.step timeline in (
       station_touched depth c.accept.new.self.depth i.window (sheets_of i.board) (sheets_of c.accept.new.doc) i.rasters.len
           (last_accepted (touches_of c.accept.new.self)) i.rasters.items c.touch_accepted.new.rasters c.self.invariant.0

@@ -3,7 +3,7 @@ use Rattle.cam_edits.specs.Boards.{content_at}
 use Rattle.cam_edits.specs.Sheets.{sheets_of}
 use Rattle.cam_tiles.specs.Tables.{dirty_count, pbm_of}
 use Rattle.cam_station.specs.declared.reply.Reply.TheVariants.{Bytes}
-use Rattle.cam_station.specs.Layers.{drawn}
+use Rattle.cam_station.specs.TileTables.{drawn}
 use Rattle.cam_station.specs.Machine.{Granted, RefusedToStation, plot_step, refused}
 use Rattle.cam_station.specs.Refusals.{memory_refused}
 use Rattle.cam_station.proofs.StationMoves.{seen}

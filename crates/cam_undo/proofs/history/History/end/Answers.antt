@@ -5,7 +5,7 @@ use Rattle.cam_undo.proofs.history.History.end.Goals as goal
 use Rattle.cam_undo.proofs.history.History.end.Goals.{After-keep}
 use Rattle.cam_undo.specs.Kept.{steps_of}
 use Rattle.cam_undo.specs.Machine.{ended}
-use Rattle.cam_undo.specs.Timelines.{state_at, with_group_ended}
+use Rattle.cam_undo.specs.Timelines.{timeline_at, with_group_ended}
 use Rattle.std.proofs.Common.{◌∙◌, ◌<◌, ◌≡◌, Some, [], ap, arith, length, refl, sym}
 
 edited : (g : Over) (c : After-keep g) → 0 < length c.in-Some.group.items
@@ -54,4 +54,4 @@ returns-then-len-gt0-clause-ended g c doc =
     (ended_state_as g.S.Reversible c.self.inside.past.capacity (steps_of c.self.inside.past.items)
     (steps_of c.self.inside.future.items) c.in-Some.group.items (g.S.Reversible.content doc) (no_future g c)
     (edited g c)
-    ∙ ap (λ kept. ended kept.depth (state_at g.S.Reversible kept (g.S.Reversible.content doc))) (same g c))
+    ∙ ap (λ kept. ended kept.depth (timeline_at g.S.Reversible kept (g.S.Reversible.content doc))) (same g c))

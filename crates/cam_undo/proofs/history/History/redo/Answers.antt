@@ -5,7 +5,7 @@ use Rattle.cam_undo.proofs.history.History.redo.Goals as goal
 use Rattle.cam_undo.proofs.history.History.redo.Goals.{In_ok-shift}
 use Rattle.cam_undo.specs.Kept.{steps_of}
 use Rattle.cam_undo.specs.Machine.{redo_fault, redone}
-use Rattle.cam_undo.specs.Timelines.{Fits, state_at, with_last_redone}
+use Rattle.cam_undo.specs.Timelines.{Fits, timeline_at, with_last_redone}
 use Rattle.cam_undo.specs.declared.fault.HistoryFault.TheVariants.{Memory}
 use Rattle.std.proofs.Common.{◌∙◌, ◌<◌, ◌≡◌, IfErr, None, ap, length, refl, rules, subst, sym}
 
@@ -28,7 +28,7 @@ returns-in_err-shift-clause-fault g c =
     let none : c.self.inside.group ≡ None = closed c.self.inside.group (sym c.is_some.ensures ∙ c.if-is_some.false) in
     let some : 0 < length c.self.inside.future.items =
     filled (length c.self.inside.future.items) (sym c.is_empty.ensures ∙ c.if-is_empty.false) in
-    let allowed : redo_fault (state_at g.S.Reversible c.args.self.now (g.S.Reversible.content c.args.doc.now)) ≡ None =
+    let allowed : redo_fault (timeline_at g.S.Reversible c.args.self.now (g.S.Reversible.content c.args.doc.now)) ≡ None =
     may_redo_as g.S.Reversible c.args.self.now c.self.inside.past.capacity (steps_of c.self.inside.past.items)
     (steps_of c.self.inside.future.items) (g.S.Reversible.content c.args.doc.now)
     (rw (← c.self.view_is, none) refl) (rw (length-steps_of c.self.inside.future.items) some) in
@@ -69,4 +69,4 @@ returns-clause-redone g c =
     (steps_of c.shift.new.from.items) (steps_of c.shift.new.to.items)
     (g.S.Reversible.content c.args.doc.now) (g.S.Reversible.content c.shift.new.doc) c.in_ok-shift.ensures.shifted
     (tied g c)
-    ∙ ap (λ kept. redone (state_at g.S.Reversible kept (g.S.Reversible.content c.args.doc.now))) (same g c))
+    ∙ ap (λ kept. redone (timeline_at g.S.Reversible kept (g.S.Reversible.content c.args.doc.now))) (same g c))

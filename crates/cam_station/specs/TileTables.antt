@@ -1,5 +1,6 @@
 -- The tables of the layers: one for each layer, in their order, where a window is in force.
-use Rattle.std.specs.Prelude.{◌≡◌, ℕ, ◌-◌, List, [], ◌∷◌, ◌++◌, length, replicate, fold, slice_get, Option, None, Some, unwrap_or, All}
+use Rattle.std.specs.Prelude.{◌≡◌, ℕ, ◌-◌, List, [], ◌∷◌, ◌++◌, length, replicate, fold, slice_get, Option, None, Some}
+use Rattle.std.specs.Prelude.{unwrap_or, All}
 use Rattle.std.specs.List.{sum_by}
 use Rattle.cam_tiles.specs.declared.window.Window.{Window}
 use Rattle.cam_tiles.specs.Tables.{IsTable, Table, blank, dirty_count, redrawn}

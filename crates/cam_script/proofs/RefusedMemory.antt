@@ -12,12 +12,12 @@ use Rattle.cam_script.specs.declared.line.LineFault.TheVariants.{LineTooLong, Ba
 use Rattle.cam_script.specs.Words.{count_in, is_name}
 use Rattle.cam_script.specs.Items.{item_in}
 use Rattle.cam_script.specs.Parsing.{is_no_memory, insert_change, edit_line, kept}
-use Rattle.cam_script.specs.Machinery.Reading.{held}
+use Rattle.cam_script.specs.Machinery.Reading.{unless_refused}
 
 -- a part was refused, and so is the whole
 pub held_refused : {T U : Type 0} (part : Option T) (whole : T → U) (fault : LineFault)
-    → held part (is_no_memory {T = T} (Err fault)) ≡ Err fault
-    → held (option_map whole part) (is_no_memory {T = U} (Err fault)) ≡ Err fault
+    → unless_refused part (is_no_memory {T = T} (Err fault)) ≡ Err fault
+    → unless_refused (option_map whole part) (is_no_memory {T = U} (Err fault)) ≡ Err fault
 held_refused None whole LineTooLong e = cc
 held_refused None whole BadLine e = refl
 held_refused None whole Memory e = cc
@@ -27,8 +27,8 @@ held_refused (Some part) whole Memory e = refl
 
 pub insert_refused : (words : List (List ℕ)) (k form : List ℕ) (rest : List (List ℕ)) (place : ℕ)
     (fault : LineFault) → words ≡ k ∷ form ∷ rest → Some place ≡ count_in k
-    → held (item_in form rest) (is_no_memory {T = NewItem} (Err fault)) ≡ Err fault
-    → held (insert_change words) (is_no_memory {T = Change} (Err fault)) ≡ Err fault
+    → unless_refused (item_in form rest) (is_no_memory {T = NewItem} (Err fault)) ≡ Err fault
+    → unless_refused (insert_change words) (is_no_memory {T = Change} (Err fault)) ≡ Err fault
 insert_refused words k form rest place fault cut count e =
     rw (cut, ← count) (held_refused (item_in form rest) (λ item. changes.Insert place item) fault e)
 
@@ -42,13 +42,13 @@ module _ (change : List (List ℕ) → Option Change) (words : List (List ℕ)) 
   unfolding edit_of
   edit_read = rw (cut, named) refl
 
-  pub edit_refused : (fault : LineFault) → held (change rest) (is_no_memory {T = Change} (Err fault)) ≡ Err fault
+  pub edit_refused : (fault : LineFault) → unless_refused (change rest) (is_no_memory {T = Change} (Err fault)) ≡ Err fault
       → kept (edit_line change words) (is_no_memory {T = Line} (Err fault)) ≡ Err fault
   unfolding edit_of
   edit_refused fault e = rw edit_read (by_change (change rest) fault e)
     where
       by_change : (read : Option Change) (fault : LineFault)
-          → held read (is_no_memory {T = Change} (Err fault)) ≡ Err fault
+          → unless_refused read (is_no_memory {T = Change} (Err fault)) ≡ Err fault
           → kept (edit_of read) (is_no_memory {T = Line} (Err fault)) ≡ Err fault
       by_change None LineTooLong e = cc
       by_change None BadLine e = refl
@@ -57,11 +57,11 @@ module _ (change : List (List ℕ) → Option Change) (words : List (List ℕ)) 
       by_change (Some read) BadLine e = cc
       by_change (Some read) Memory e = refl
 
-  pub edit_starved : (made : Change) → held (change rest) false ≡ Ok made
+  pub edit_starved : (made : Change) → unless_refused (change rest) false ≡ Ok made
       → kept (edit_line change words) true ≡ Err Memory
   unfolding edit_of
   edit_starved made e = rw edit_read (by_change (change rest) e)
     where
-      by_change : (read : Option Change) → held read false ≡ Ok made → kept (edit_of read) true ≡ Err Memory
+      by_change : (read : Option Change) → unless_refused read false ≡ Ok made → kept (edit_of read) true ≡ Err Memory
       by_change None e = cc
       by_change (Some read) e = refl

@@ -1,23 +1,23 @@
 -- Files and an output in memory, of which the calls that a test asks for fail.
 use Rattle.std.specs.Prelude.{◌≡◌, ◌-◌, ◌==◌, ℕ, if◌then◌else◌, List, [], Option, None, Some, Result, Ok, Err, IsOk}
 use Rattle.std.specs.BTreeMap.{get_by_text}
-use Rattle.cam_station.specs.Contents.{Contents, Held, Absent, Holding}
+use Rattle.cam_station.specs.Files.{ToldFiles, AtPath, NoFile, FileOf}
 use Rattle.cam_station.specs.declared.files.FileFault.{FileFault}
 use Rattle.cam_station.specs.declared.files.FileFault.TheVariants.{Failed, Memory}
 use Rattle.acceptance.specs.declared.files.MemoryFiles.{MemoryFiles}
 use Rattle.acceptance.specs.declared.out.MemoryOut.{MemoryOut}
 
-abbrev pub held_by : Option (List ℕ) → Held
-held_by None = Absent
-held_by (Some bytes) = Holding bytes
+abbrev pub file_or_none : Option (List ℕ) → AtPath
+file_or_none None = NoFile
+file_or_none (Some bytes) = FileOf bytes
 
 -- what a path holds
-abbrev pub file_at : MemoryFiles → List ℕ → Held
-file_at f path = held_by (get_by_text f.held path)
+abbrev pub file_at : MemoryFiles → List ℕ → AtPath
+file_at f path = file_or_none (get_by_text f.held path)
 
 -- what is told of the files: what each path holds
-abbrev pub contents_of : MemoryFiles → Contents
-contents_of f = Some (λ path. Some (file_at f path))
+abbrev pub told_files : MemoryFiles → ToldFiles
+told_files f = Some (λ path. Some (file_at f path))
 
 -- how many calls failed
 abbrev pub failed_calls : MemoryFiles → ℕ
@@ -25,14 +25,14 @@ failed_calls f = f.failures
 
 -- no file; the get and the put of these numbers are to fail
 pub record IsEmpty (f : MemoryFiles) (get put : ℕ) : Type 0 where
-  pub files : (path : List ℕ) → file_at f path ≡ Absent
+  pub files : (path : List ℕ) → file_at f path ≡ NoFile
   pub gets : f.gets ≡ get
   pub puts : f.puts ≡ put
   pub failures : f.failures ≡ 0
 
-abbrev pub got_of : Held → Result (List ℕ) FileFault
-got_of Absent = Err Failed
-got_of (Holding bytes) = Ok bytes
+abbrev pub got_of : AtPath → Result (List ℕ) FileFault
+got_of NoFile = Err Failed
+got_of (FileOf bytes) = Ok bytes
 
 -- what a get gives where memory is ample: the file's bytes, unless it is the one that is to fail or there is no file
 abbrev pub get_of : MemoryFiles → List ℕ → Result (List ℕ) FileFault
