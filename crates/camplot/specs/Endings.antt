@@ -28,12 +28,14 @@ is_input path = bytes_eq path (codes "-")
 
 -- The file at the path, or for `-` the standard input, gave this, and no other file was asked; of the input it is told
 -- what it holds, as far as anything is.
-pub record Gives (path : List ℕ) (told : Option (List ℕ)) (given : Result (List ℕ) FileFault) (before begun : FilesSeen) : Type 0 where
+pub record Gives (path : List ℕ) (told : Option (List ℕ)) (given : Result (List ℕ) FileFault)
+    (before begun : FilesSeen) : Type 0 where
   pub file : is_input path ≡ false → Answers (Get path given) before begun
   pub input : is_input path ≡ true → IfOk given (λ script. AreAllOf told file_limit script) × (begun ≡ before)
 
 -- The path gave these bytes, and nothing else was done.
-pub record GaveScript (path : List ℕ) (told : Option (List ℕ)) (before : Moment) (script : List ℕ) (begun : Moment) : Type 0 where
+pub record GaveScript (path : List ℕ) (told : Option (List ℕ)) (before : Moment)
+    (script : List ℕ) (begun : Moment) : Type 0 where
   pub got : Gives path told (Ok script) before.files begun.files
   pub said : begun.said ≡ before.said
   pub out_failures : begun.out_failures ≡ before.out_failures
@@ -54,7 +56,8 @@ RunEnds (Stopped fault) script depth begun after = EndsBy fault depth (lines scr
 -- the path gave a script, and what was done before its run ended so
 abbrev pub RunsUntil : Ending → List ℕ → Option (List ℕ) → ℕ → Moment → Moment → Type 0
 RunsUntil ending path told depth before after =
-    (script : List ℕ) × (begun : Moment) × GaveScript path told before script begun × RunEnds ending script depth begun after
+    (script : List ℕ) × (begun : Moment) × GaveScript path told before script begun
+    × RunEnds ending script depth begun after
 
 -- what was done before the run of the script at the path ended so
 abbrev pub EndsAs : Ending → List ℕ → Option (List ℕ) → ℕ → Moment → Moment → Type 0

@@ -45,7 +45,8 @@ with_version a = on_top (λ s. record s { has_version = true }) a
 -- the program's command line, as clap reads it
 abbrev pub camplot : App
 camplot =
-    with_rule (with_rule (with_rule (with_version (new_app (codes "camplot"))) script_argument) depth_option) explain_option
+    with_rule (with_rule (with_rule (with_version (new_app (codes "camplot"))) script_argument)
+    depth_option) explain_option
 
 -- the number that decimal digits write; a `+` may stand before them
 abbrev pub number_written : Text → ℕ
