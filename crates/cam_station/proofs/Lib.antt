@@ -13,6 +13,7 @@ pub mod KeptWays
 pub mod LayerCounts
 pub mod Loading
 pub mod OneLine
+pub mod ServedLine
 pub mod PlotLaws
 pub mod Quiet
 pub mod Reached

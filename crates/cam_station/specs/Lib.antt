@@ -18,4 +18,5 @@ pub mod Replies
 pub mod Run
 pub mod RunLaws
 pub mod FilesPut
+pub mod Serving
 pub mod Machinery

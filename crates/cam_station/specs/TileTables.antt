@@ -1,9 +1,9 @@
 -- The tables of the layers: one for each layer, in their order, where a window is in force.
 use Rattle.std.specs.Prelude.{◌≡◌, ℕ, ◌-◌, List, [], ◌∷◌, ◌++◌, length, replicate, fold, slice_get, Option, None, Some}
-use Rattle.std.specs.Prelude.{unwrap_or, All}
+use Rattle.std.specs.Prelude.{option_and_then, unwrap_or, All}
 use Rattle.std.specs.List.{sum_by}
 use Rattle.cam_tiles.specs.declared.window.Window.{Window}
-use Rattle.cam_tiles.specs.Tables.{IsTable, Table, blank, dirty_count, redrawn}
+use Rattle.cam_tiles.specs.Tables.{IsTable, Table, Tile, blank, dirty_count, redrawn, tile_in}
 use Rattle.cam_tiles.specs.Touched.{touched_by}
 use Rattle.cam_edits.specs.Images.{image_of}
 use Rattle.cam_edits.specs.Places.{changed}
@@ -41,6 +41,10 @@ drawn content t = redrawn (image_of content) (dirty_count t) t
 -- the table of the layer at a place
 abbrev pub table_at : Window → List Table → ℕ → Table
 table_at w tables place = unwrap_or (slice_get tables place) (blank w)
+
+-- what is kept of a tile of the layer at a place; nothing of one that is dirty, or not there
+abbrev pub tile_at : List Table → ℕ → ℕ → Tile
+tile_at tables place k = option_and_then (λ t. tile_in t k) (slice_get tables place)
 
 -- a table of the window for each of so many layers, or none without a window
 abbrev pub AreTables : Option Window → ℕ → List Table → Type 0

@@ -4,7 +4,8 @@
 //! done to the board. [`Station::apply`] is one step of the machine in `specs/Machine.antt`; [`undo_is_exact`] and
 //! [`plot_is_exact`] are the two halves of the theorem, over all lists of commands, [`write_is_exact`] says of texts
 //! what the second says of pictures, and [`tiles_are_local`] which tiles are clean. [`run`] serves a script line by
-//! line, over [`Files`] and an [`Out`], as `specs/Run.antt` says.
+//! line, over [`Files`] and an [`Out`], as `specs/Run.antt` says; [`apply_line`] serves one line for a caller who hands the
+//! bytes of its file in.
 //!
 //! ```rust
 //! use cam_station::{Bytes, Command, FileKind, Line, Name, Reply, Station, parse_line};
@@ -48,6 +49,7 @@ mod reply;
 mod reply_line;
 mod run_laws;
 mod running;
+mod serving;
 mod showing;
 mod station;
 mod touching;
@@ -65,4 +67,5 @@ pub use out::Out;
 pub use reply::{Numbers, Reply};
 pub use run_laws::{few_file_refusals, files_are_exact, run_is_commands};
 pub use running::{RunFault, run};
+pub use serving::{Served, apply_line};
 pub use station::Station;

@@ -46,7 +46,7 @@ pub enum RunFault {
 }
 
 /// The refusal of a file.
-fn file_refusal(why: FileFault) -> Fault
+pub(crate) fn file_refusal(why: FileFault) -> Fault
     ensures { result ≡ fault (file_code why) }
 {
     match why {

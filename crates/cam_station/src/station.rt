@@ -1,6 +1,6 @@
 //! The station: a board, the tiles of its layers in a window, and the history of what was done to the board.
 
-ghost use Rattle.std.specs.Prelude.{◌≡◌, IfErr, IfOk, None, Ok, OnErr, OnOk};
+ghost use Rattle.std.specs.Prelude.{◌≡◌, IfErr, IfNone, IfOk, IfSome, None, Ok, OnErr, OnOk, Some};
 ghost use Rattle.cam_edits.specs.Sheets.{IsSound, sheet_of};
 ghost use Rattle.cam_station.specs.Machine.{
   abort_step,
@@ -22,6 +22,7 @@ ghost use Rattle.cam_station.specs.Machine.{
   with_sheet,
   write_step,
 };
+ghost use Rattle.cam_station.specs.TileTables.{tile_at};
 ghost use Rattle.cam_station.specs.Refusals.{memory_refused};
 ghost use Rattle.cam_station.specs.Calls.{IsRun, after_refusal};
 
@@ -145,6 +146,18 @@ impl Station {
             answers.push_reserved(answer);
         }
         Ok(answers)
+    }
+
+    /// The rows of a tile of the layer that was loaded as number `layer`, counted from 0: from the top, bit i for column i.
+    /// `None` where the tile is dirty, and where there is no such tile, layer or window.
+    pub fn tile(&self, layer: usize, tile: u32) -> Option<&[u64; 64]>
+        ensures some { IfSome result (λ rows. tile_at self.now.tables layer tile ≡ Some rows.now) }
+        ensures none { IfNone result (tile_at self.now.tables layer tile ≡ None) }
+    {
+        match self.rasters.get(layer) {
+            Some(raster) => raster.rows(tile),
+            None => None,
+        }
     }
 
     /// Reads a file as the last layer; what was done before it can't be taken back any more.

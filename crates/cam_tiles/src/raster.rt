@@ -1,6 +1,6 @@
 //! Rasters: the tiles of a window, each drawn or dirty.
 
-ghost use Rattle.std.specs.Prelude.{◌≡◌, ◌+◌, ◌<◌, ◌≤◌, ◌^◌, IfErr, IfOk, None, OnOk, true};
+ghost use Rattle.std.specs.Prelude.{◌≡◌, ◌+◌, ◌<◌, ◌≤◌, ◌^◌, IfErr, IfNone, IfOk, IfSome, None, OnOk, Some, true};
 ghost use Rattle.std.specs.Prelude.{count_by, is_none, is_some, length, min};
 ghost use Rattle.cam_tiles.specs.Picture.{accepts};
 ghost use Rattle.cam_tiles.specs.Tables.{
@@ -83,6 +83,17 @@ impl Raster {
         ensures { result ≡ is_some (tile_in self.now tile) }
     {
         matches!(self.tiles.get(tile as usize), Some(Some(_)))
+    }
+
+    /// The rows of the tile from the top, bit i for column i; `None` where it is dirty, or not there.
+    pub fn rows(&self, tile: u32) -> Option<&[u64; 64]>
+        ensures some { IfSome result (λ rows. tile_in self.now tile ≡ Some rows.now) }
+        ensures none { IfNone result (tile_in self.now tile ≡ None) }
+    {
+        match self.tiles.get(tile as usize) {
+            Some(Some(rows)) => Some(rows),
+            Some(None) | None => None,
+        }
     }
 
     /// Whether the pixel is black; `None` where its tile is dirty, or outside the window.

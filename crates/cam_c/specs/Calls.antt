@@ -1,0 +1,70 @@
+-- What the calls of a session come to: turns of a run, steps of the station's machine, and copies.
+use Rattle.std.specs.Prelude.{◌≡◌, ℕ, ◌++◌, Bool, true, nat_le, if◌then◌else◌, List, [], length, drop, unwrap_or}
+use Rattle.std.specs.Prelude.{Option, None, Some, Result, Ok, Err}
+use Rattle.cam_script.specs.declared.command.Command.TheVariants.{Redraw}
+use Rattle.cam_station.specs.declared.fault.Fault.{Fault}
+use Rattle.cam_station.specs.TileTables.{tile_at}
+use Rattle.cam_station.specs.Machine.{MemoryGrant, Outcome, fresh, is_depth, station_of, step}
+use Rattle.cam_station.specs.Run.{World, spoken, turn}
+use Rattle.cam_station.specs.Serving.{IsServed}
+use Rattle.cam_tiles.specs.Tables.{Tile}
+use Rattle.cam_c.specs.declared.session.Session.{Session}
+
+-- what a call answers for a reply: 0 where nothing is refused, else the number of the refusal
+abbrev pub code_of : Option Outcome → ℕ
+code_of None = 0
+code_of (Some (Ok reply)) = 0
+code_of (Some (Err fault)) = fault.code
+
+-- the line of the last reply
+abbrev pub reply_of : Session → List ℕ
+reply_of s = spoken s.reply
+
+-- the bytes that the last line had for a file
+abbrev pub file_of : Session → List ℕ
+file_of s = unwrap_or s.file []
+
+-- a new session
+pub record IsFresh (depth : ℕ) (s : Session) : Type 0 where
+  pub allowed : is_depth depth ≡ true
+  pub station : s.station ≡ fresh depth
+  pub reply : s.reply ≡ None
+  pub file : s.file ≡ None
+
+-- why there is none
+pub record IsUnopened (depth code : ℕ) : Type 0 where
+  pub memory : MemoryGrant
+  pub why : Fault
+  pub refused : station_of depth memory ≡ Err why
+  pub code_is : code ≡ why.code
+
+-- The line, with these bytes of a file handed in, is a turn of a run; the session after it has what it leaves.
+pub record IsApplied (s : Session) (line : List ℕ) (file : Option (List ℕ)) (after : Session) (code : ℕ) : Type 0 where
+  pub world : World
+  pub served : IsServed file (turn s.station line world) after.station after.reply after.file
+  pub code_is : code ≡ code_of after.reply
+
+-- a redraw is a step of the machine
+pub record IsRedrawn (s : Session) (at_most : ℕ) (after : Session) (code : ℕ) : Type 0 where
+  pub memory : MemoryGrant
+  pub answer : Outcome
+  pub steps : step s.station (Redraw at_most) memory ≡ (after.station, answer)
+  pub reply : after.reply ≡ Some answer
+  pub file : after.file ≡ None
+  pub code_is : code ≡ code_of after.reply
+
+-- a text goes in front of a room that holds it; a smaller room stays as it is
+abbrev pub copied : List ℕ → List ℕ → List ℕ
+copied text room = if nat_le (length text) (length room) then text ++ drop (length text) room else room
+
+-- the tile is dirty, or not there
+abbrev pub not_clean : ℕ
+not_clean = 91
+
+-- the rows of a clean tile go into the room; else it stays as it is
+abbrev pub IsCopyOf : Tile → List ℕ → List ℕ → ℕ → Type 0
+IsCopyOf (Some rows) old new code = (code ≡ 0) × (new ≡ rows)
+IsCopyOf None old new code = (code ≡ not_clean) × (new ≡ old)
+
+abbrev pub IsTileCopied : Session → ℕ → ℕ → List ℕ → List ℕ → ℕ → Type 0
+IsTileCopied s layer tile old new code = IsCopyOf (tile_at s.station.tables layer tile) old new code

@@ -1,0 +1,182 @@
+//! Sessions: a station, and what its last call leaves to be read.
+
+ghost use Rattle.std.specs.Prelude.{◌≡◌, IfErr, IfOk, None, Option, Some, length, ℕ};
+ghost use Rattle.std.specs.Option.{option_copied};
+ghost use Rattle.cam_c.specs.Calls.{
+  IsApplied,
+  IsFresh,
+  IsRedrawn,
+  IsTileCopied,
+  IsUnopened,
+  code_of,
+  copied,
+  file_of,
+  reply_of,
+};
+
+use crate::line::line_of;
+use crate::loose::Loose;
+use cam_station::{Bytes, Command, Fault, Reply, Station, apply_line};
+use std::alloc::Global;
+
+/// No memory.
+const NO_MEMORY: u32 = 30;
+
+/// The tile is dirty, or not there.
+const NOT_CLEAN: u32 = 91;
+
+/// A station, with the reply to its last line, and the bytes that this had for a file.
+#[derive(Drop)]
+pub struct Session {
+    pub(crate) alloc: Global,
+    pub(crate) station: Station,
+    pub(crate) reply: Option<Result<Reply, Fault>>,
+    pub(crate) file: Option<Bytes>,
+}
+
+/// 0 for a line that was accepted or has no reply, else the number of its refusal.
+fn code(reply: &Option<Result<Reply, Fault>>) -> u32
+    ensures { result ≡ code_of reply.now }
+{
+    match reply {
+        Some(Err(fault)) => u32::from(fault.code),
+        Some(Ok(_)) | None => 0,
+    }
+}
+
+/// Copies a text into a room that holds it, and tells its length; a smaller room stays as it is.
+fn copy(text: &[u8], room: &mut [u8]) -> usize
+    ensures length { result ≡ length text.now }
+    ensures room { room.new ≡ copied text.now room.old }
+{
+    let count = text.len();
+    if count <= room.len() {
+        room[..count].copy_from_slice(text);
+    }
+    count
+}
+
+/// An empty station that can take back `depth` edits and groups, from 1 to 1,000; 50 at any other depth, and 30 where
+/// memory was refused.
+pub(crate) fn begin(alloc: Global, depth: u32) -> Result<Loose<Session, Global>, u32>
+    ensures ok { IfOk result (λ session. IsFresh depth session.value) }
+    ensures err { IfErr result (λ code. IsUnopened depth code) }
+{
+    match Station::new(alloc, depth) {
+        Ok(station) => {
+            let session = Session {
+                alloc,
+                station,
+                reply: None,
+                file: None,
+            };
+            match Box::new(alloc, session) {
+                Ok(session) => Ok(Loose::of(session)),
+                Err(_) => Err(NO_MEMORY),
+            }
+        }
+        Err(fault) => Err(u32::from(fault.code)),
+    }
+}
+
+/// Gives the memory of a session back.
+pub(crate) fn end(session: Box<Session>) {
+    drop(session);
+}
+
+impl Session {
+    /// One line of a script with the bytes of its file, where some were handed in: a turn of a run. What it leaves is
+    /// kept until the next line; 0 where it was accepted, else the number of its refusal.
+    fn serve(&mut self, line: &[u8], file: Option<&[u8]>) -> u32
+        ensures { IsApplied self.old line.now (option_copied file.entry) self.new result }
+    {
+        let served = apply_line(self.alloc, &mut self.station, line, file);
+        let number = code(&served.reply);
+        self.reply = served.reply;
+        self.file = served.file;
+        number
+    }
+
+    /// One line, without a file.
+    pub(crate) fn apply(&mut self, line: &[u8]) -> u32
+        ensures { IsApplied self.old line.now None self.new result }
+    {
+        self.serve(line, None)
+    }
+
+    /// One line, with the bytes of the file that it loads.
+    pub(crate) fn load(&mut self, line: &[u8], file: &[u8]) -> u32
+        ensures { IsApplied self.old line.now (Some file.now) self.new result }
+    {
+        self.serve(line, Some(file))
+    }
+
+    /// Draws at most so many dirty tiles: one step of the station's machine.
+    pub(crate) fn redraw(&mut self, at_most: u32) -> u32
+        ensures { IsRedrawn self.old at_most self.new result }
+    {
+        let answer = self.station.apply(Command::Redraw { at_most });
+        self.reply = Some(answer);
+        self.file = None;
+        code(&self.reply)
+    }
+
+    /// How many bytes the reply's line has; none where the last line had no reply.
+    pub(crate) fn reply_length(&mut self) -> usize
+        ensures length { result ≡ length (reply_of self.old) }
+        ensures kept { self.new ≡ self.old }
+    {
+        self.copy_reply(&mut [])
+    }
+
+    /// Copies the reply's line into a room that holds it, and tells its length.
+    pub(crate) fn copy_reply(&mut self, room: &mut [u8]) -> usize
+        ensures length { result ≡ length (reply_of self.old) }
+        ensures room { room.new ≡ copied (reply_of self.old) room.old }
+        ensures kept { self.new ≡ self.old }
+    {
+        match &self.reply {
+            Some(reply) => copy(line_of(reply).as_slice(), room),
+            None => 0,
+        }
+    }
+
+    /// How many bytes the last line had for a file.
+    pub(crate) fn file_length(&mut self) -> usize
+        ensures length { result ≡ length (file_of self.old) }
+        ensures kept { self.new ≡ self.old }
+    {
+        match &self.file {
+            Some(file) => file.as_slice().len(),
+            None => 0,
+        }
+    }
+
+    /// Copies the bytes that the last line had for a file into a room that holds them, and tells how many they are.
+    pub(crate) fn copy_file(&mut self, room: &mut [u8]) -> usize
+        ensures length { result ≡ length (file_of self.old) }
+        ensures room { room.new ≡ copied (file_of self.old) room.old }
+        ensures kept { self.new ≡ self.old }
+    {
+        match &self.file {
+            Some(file) => copy(file.as_slice(), room),
+            None => 0,
+        }
+    }
+
+    /// Copies the rows of a clean tile of the layer that was loaded as number `layer`; 91 where the tile is dirty, or not
+    /// there.
+    pub(crate) fn copy_tile(&mut self, layer: u32, tile: u32, rows: &mut [u64]) -> u32
+        requires { length rows.old ≡ 64 }
+        ensures tile { IsTileCopied self.old layer tile rows.old rows.new result }
+        ensures kept { self.new ≡ self.old }
+    {
+        match self.station.tile(layer as usize, tile) {
+            Some(kept) => {
+                rows.copy_from_slice(kept);
+                0
+            }
+            None => NOT_CLEAN,
+        }
+    }
+}
