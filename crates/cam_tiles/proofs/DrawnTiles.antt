@@ -3,10 +3,9 @@ use Rattle.std.proofs.Common.{◌≡◌, ℕ, zero, suc, ◌+◌, ◌-◌, ◌<�
 use Rattle.std.proofs.Common.{List, [], ◌∷◌, ◌++◌, length, take, drop, count_by, cond, slice_get, Some, None}
 use Rattle.std.proofs.Common.{is_none, is_some, option_and_then, refl, sym, ap, ◌∙◌, inl, inr, arith}
 use Rattle.std.proofs.lemmas.Bool.{cases_lt, le-ltb, lt-ltb}
-use Rattle.std.proofs.lemmas.List.{take-append-drop}
 use Rattle.std.proofs.lemmas.List.Sums.{sum_by-cons}
 use Rattle.cam_units.specs.declared.point.Spot.{Spot}
-use Rattle.cam_tiles.specs.Tables.{Table, Tile, drawn_from}
+use Rattle.cam_tiles.specs.Tables.{Table, Tile, all_drawn_from, drawn_from}
 use Rattle.cam_tiles.specs.TileLaws.{RedrawLaw}
 use Rattle.cam_tiles.specs.Tiles.{grid_of, tile_rows}
 
@@ -60,14 +59,18 @@ module _ (draw : ℕ → List ℕ) where
   drawn_as_many k (suc n) (suc m) (None ∷ tiles) e =
       ap (λ rest. Some (draw k) ∷ rest) (drawn_as_many (k + 1) n m tiles (omega (arith, dirty_after_dirty tiles)))
 
-  -- the tiles after those from number k on are drawn
-  abbrev pub drawn_behind : ℕ → ℕ → List Tile → List Tile
-  drawn_behind k n tiles = take k tiles ++ drawn_from draw k n (drop k tiles)
-
-  pub all_drawn : (k n : ℕ) (tiles drawn : List Tile) → drawn ≡ drawn_behind k n tiles → n ≡ 0 → tiles ≡ drawn
-  all_drawn k n tiles drawn e none =
-      sym (e ∙ ap (λ m. drawn_behind k m tiles) none ∙ ap (λ rest. take k tiles ++ rest) (none_drawn k (drop k tiles))
-      ∙ take-append-drop k tiles)
+  -- up to behind the last of so many dirty tiles, all are drawn
+  pub drawn_to : (k n end : ℕ) (tiles : List Tile) → dirty (take end tiles) ≡ n
+      → drawn_from draw k n tiles ≡ all_drawn_from draw k (take end tiles) ++ drop end tiles
+  drawn_to k n zero tiles e = ap (λ m. drawn_from draw k m tiles) (sym e) ∙ none_drawn k tiles
+  drawn_to k n (suc end) [] e = refl
+  drawn_to k n (suc end) (Some rows ∷ tiles) e =
+      ap (λ rest. Some rows ∷ rest)
+      (drawn_to (k + 1) n end tiles (omega (arith, dirty_after_clean rows (take end tiles), e)))
+  drawn_to k zero (suc end) (None ∷ tiles) e = absurd (omega (arith, dirty_after_dirty (take end tiles), e))
+  drawn_to k (suc n) (suc end) (None ∷ tiles) e =
+      ap (λ rest. Some (draw k) ∷ rest)
+      (drawn_to (k + 1) n end tiles (omega (arith, dirty_after_dirty (take end tiles), e)))
 
 -- what is kept of a tile in a list
 abbrev at : List Tile → ℕ → Tile

@@ -16,7 +16,7 @@ use Rattle.cam_tiles.specs.Tiles.{IsGrid, across, centre_in, columns, down, grid
 use Rattle.cam_tiles.proofs.WindowLemmas.{accepted}
 
 -- middles that stand so many pitches further on, and so many back
-further : (edge pitch : ℤ) (n steps : ℕ)
+pub further : (edge pitch : ℤ) (n steps : ℕ)
     → middle edge pitch n +ℤ pos steps *ℤ (pos 2 *ℤ pitch) ≡ middle edge pitch (n + steps)
 further edge pitch n steps =
     equal

@@ -19,6 +19,7 @@ pub mod MarkedBands
 pub mod MaskWords
 pub mod PaintedBands
 pub mod PaintedMasks
+pub mod PaintedSwaths
 pub mod PaintedTiles
 pub mod PbmLemmas
 pub mod PictureLemmas
@@ -33,10 +34,12 @@ pub mod SpanLemmas
 pub mod Stamps
 pub mod StepLemmas
 pub mod Strips
+pub mod SwathLayouts
 pub mod TableFacts
 pub mod TablePixels
 pub mod TileCounts
 pub mod TileRowLemmas
+pub mod TilesInOrder
 pub mod TouchedTiles
 pub mod TurnedBands
 pub mod TurnedContours

@@ -8,6 +8,8 @@ use Rattle.cam_units.proofs.Ring.Polynomial.{Atom, Product}
 use Rattle.cam_objects.specs.Leaves.{Leaf}
 use Rattle.cam_objects.specs.Tests.{is_black, painted}
 use Rattle.cam_tiles.specs.declared.grid.Grid.{Grid}
+use Rattle.cam_tiles.specs.declared.levels.Levels.{Levels}
+use Rattle.cam_tiles.specs.Machinery.Levels.{levels_of}
 use Rattle.cam_tiles.specs.Machinery.Masks.{IsBlank, IsIn, IsMarked, IsMask, Marking, PaintsMask, ink_of}
 use Rattle.cam_tiles.specs.Tiles.{IsGrid, centre_in, tile_rows}
 use Rattle.cam_tiles.proofs.MaskWords.{rows_of_marks}
@@ -20,42 +22,39 @@ one_step s = equal (Product (Atom (pos 1)) (Atom s)) (Atom s) (omega arith)
 next_is : (x y s t : ℤ) → x ≡ y → x +ℤ pos 1 *ℤ s ≡ y +ℤ pos 1 *ℤ t → s ≡ t
 next_is x y s t first next = omega (arith, ints, one_step s, one_step t)
 
--- a grid is known by its centres
-module _ (g f : Grid) (grid : IsGrid g)
-    (pixels : (column row : ℕ) → IsIn f column row ↔ IsIn g column row) (places : centre_in f ≡ centre_in g) where
+-- a grid is known by its centres: of its first row and its first column which there are, and where two of them lie
+module _ (g f : Grid) (some : IsIn g 0 0) (down : (row : ℕ) → IsIn f 0 row ↔ IsIn g 0 row)
+    (here : centre_in f 0 0 ≡ centre_in g 0 0) (next : centre_in f 1 0 ≡ centre_in g 1 0) where
   first_pixel : IsIn f 0 0
-  first_pixel = (pixels 0 0).1 (grid.columns.0, grid.rows.0)
-
-  same_columns : f.columns ≡ g.columns
-  same_columns =
-      let some = first_pixel in
-      let more : f.columns - 1 < g.columns = ((pixels (f.columns - 1) 0).0 (omega (arith, some.0), some.1)).0 in
-      let less : g.columns - 1 < f.columns =
-      ((pixels (g.columns - 1) 0).1 (omega (arith, grid.columns), grid.rows.0)).0 in
-      omega (arith, some.0, grid.columns)
+  first_pixel = (down 0).1 some
 
   same_rows : f.rows ≡ g.rows
   same_rows =
-      let some = first_pixel in
-      let more : f.rows - 1 < g.rows = ((pixels 0 (f.rows - 1)).0 (some.0, omega (arith, some.1))).1 in
-      let less : g.rows - 1 < f.rows = ((pixels 0 (g.rows - 1)).1 (grid.columns.0, omega (arith, grid.rows))).1 in
-      omega (arith, some.1, grid.rows)
+      let more : f.rows - 1 < g.rows = ((down (f.rows - 1)).0 (first_pixel.0, omega (arith, first_pixel.1))).1 in
+      let less : g.rows - 1 < f.rows = ((down (g.rows - 1)).1 (some.0, omega (arith, some.1))).1 in
+      omega (arith, first_pixel.1, some.1)
 
   same_x : f.first.x ≡ g.first.x
-  same_x =
-      sym (no_step f.first.x f.step) ∙ ap (λ (place : ℕ → ℕ → Spot). (place 0 0).x) places ∙ no_step g.first.x g.step
+  same_x = sym (no_step f.first.x f.step) ∙ ap (λ (s : Spot). s.x) here ∙ no_step g.first.x g.step
 
   same_y : f.first.y ≡ g.first.y
-  same_y =
-      sym (no_step_down f.first.y f.step) ∙ ap (λ (place : ℕ → ℕ → Spot). (place 0 0).y) places
-      ∙ no_step_down g.first.y g.step
+  same_y = sym (no_step_down f.first.y f.step) ∙ ap (λ (s : Spot). s.y) here ∙ no_step_down g.first.y g.step
 
   same_step : f.step ≡ g.step
-  same_step =
-      next_is f.first.x g.first.x f.step g.step same_x (ap (λ (place : ℕ → ℕ → Spot). (place 1 0).x) places)
+  same_step = next_is f.first.x g.first.x f.step g.step same_x (ap (λ (s : Spot). s.x) next)
 
-  same_grid : f ≡ g
-  same_grid =
+  pub same_levels : levels_of f ≡ levels_of g
+  same_levels =
+      let of : ℤ → ℤ → ℕ → Levels = λ y s r. record { top = y; step = s; rows = r } in
+      ap (λ y. of y f.step f.rows) same_y ∙ ap (λ s. of g.first.y s f.rows) same_step
+      ∙ ap (λ r. of g.first.y g.step r) same_rows
+
+  pub same_grid : ((column : ℕ) → IsIn f column 0 ↔ IsIn g column 0) → f ≡ g
+  same_grid across =
+      let more : f.columns - 1 < g.columns =
+      ((across (f.columns - 1)).0 (omega (arith, first_pixel.0), first_pixel.1)).0 in
+      let less : g.columns - 1 < f.columns = ((across (g.columns - 1)).1 (omega (arith, some.0), some.1)).0 in
+      let same_columns : f.columns ≡ g.columns = omega (arith, first_pixel.0, some.0) in
       let of : ℤ → ℤ → ℤ → ℕ → ℕ → Grid =
       λ x y s c r. record { first = record { x = x; y = y }; step = s; columns = c; rows = r } in
       ap (λ x. of x f.first.y f.step f.columns f.rows) same_x
@@ -67,16 +66,19 @@ module _ (g f : Grid) (grid : IsGrid g)
 -- painting keeps the grid
 pub painted_grid : (leaves : List Leaf) (old new : Marking) → IsGrid old.grid → PaintsMask old leaves new
     → new.grid ≡ old.grid
-painted_grid leaves old new grid h = same_grid old.grid new.grid grid h.pixels h.places
+painted_grid leaves old new grid h =
+    same_grid old.grid new.grid (grid.columns.0, grid.rows.0) (λ row. h.pixels 0 row)
+    (ap (λ (place : ℕ → ℕ → Spot). place 0 0) h.places) (ap (λ (place : ℕ → ℕ → Spot). place 1 0) h.places)
+    (λ column. h.pixels column 0)
 
 -- a dark pixel is marked
-marks_of_ink : (m : Marking) (column row : ℕ) (black : Bool) → ink_of m column row ≡ black
+pub marks_of_ink : (m : Marking) (column row : ℕ) (black : Bool) → ink_of m column row ≡ black
     → IsMarked m column row ↔ IsTrue black
 marks_of_ink m column row black ink =
     ((λ h. sym ink ∙ dark_if_marked m column row h), (λ h. marked_if_dark m column row (ink ∙ h)))
 
 -- the ink on a blank mask is the image
-ink_of_image : (leaves : List Leaf) (ink : Bool) (s : Spot) → ink ≡ false → painted ink leaves s ≡ is_black leaves s
+pub ink_of_image : (leaves : List Leaf) (ink : Bool) (s : Spot) → ink ≡ false → painted ink leaves s ≡ is_black leaves s
 unfolding is_black
 ink_of_image leaves ink s clear = ap (λ b. painted b leaves s) clear
 

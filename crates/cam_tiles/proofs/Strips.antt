@@ -19,8 +19,7 @@ use Rattle.cam_tiles.specs.declared.index.Boxed.{Boxed}
 use Rattle.cam_tiles.specs.declared.index.Entry.{Entry}
 use Rattle.cam_tiles.specs.declared.levels.Levels.{Levels}
 use Rattle.cam_tiles.specs.declared.masks.heights.Heights.{Heights}
-use Rattle.cam_tiles.specs.declared.masks.filing.FiledSegment.{FiledSegment}
-use Rattle.cam_tiles.specs.Machinery.Indexes.{AreNear, Indexed, IsBand, IsBoxed, IsEntry, IsIndexOf, IsOnLevels, PaintAlike}
+use Rattle.cam_tiles.specs.Machinery.Indexes.{AreNear, Indexed, IsBoxed, IsIndexOf, IsOnLevels, PaintAlike, Suffices}
 use Rattle.cam_tiles.specs.Machinery.Indexes.{band_leaves, boxed_leaves}
 use Rattle.cam_tiles.specs.Machinery.Levels.{IsLevels, height}
 use Rattle.cam_tiles.specs.Machinery.Masks.{IsWithin}
@@ -131,7 +130,6 @@ strip_held lists i boxed strip near is each alike index = record {
             alike ink s seen.1 ∙ ap (λ those. painted ink (boxed_leaves lists those) s) is
             ∙ index.boxed.enough ink s seen.0;
       });
-  band = index.band;
 }
 
 -- ---- an index whose strip holds the rows of a tile
@@ -149,19 +147,9 @@ module _ (lists : List (List Leaf)) (i : Indexed) (l : Levels) (near : List Boxe
       subst (All (IsBoxed lists)) (sym is) (index.near strip.0 strip.1).each
 
   -- its boxes give all that a band of the rows needs
-  pub band_held : (segments : List FiledSegment) (band : List Entry) → All (IsEntry lists l segments) band
-      → PaintAlike (IsOnLevels l) (band_leaves lists band) (boxed_leaves lists near)
-      → IsIndexOf lists (record i { levels = Some l; band = band; segments = segments })
-  band_held segments band each alike = record {
-    boxed = index.boxed;
-    near = index.near;
-    band = λ turned same.
-        subst (λ found. IfSome found (λ (l : Levels). IsBand lists i.within l segments band)) same
-        (record {
-          each = each;
-          enough = λ ink s seen.
-              let strip = held_strip l i.strip rows in
-              alike ink s seen.1 ∙ ap (λ those. painted ink (boxed_leaves lists those) s) is
-              ∙ (index.near strip.0 strip.1).enough ink s (seen.0, strip.2 s seen.1);
-        });
-  }
+  pub band_enough : (band : List Entry) → PaintAlike (IsOnLevels l) (band_leaves lists band) (boxed_leaves lists near)
+      → Suffices lists (band_leaves lists band) (λ s. Holds i.within s × IsOnLevels l s)
+  band_enough band alike = λ ink s seen.
+      let strip = held_strip l i.strip rows in
+      alike ink s seen.1 ∙ ap (λ those. painted ink (boxed_leaves lists those) s) is
+      ∙ (index.near strip.0 strip.1).enough ink s (seen.0, strip.2 s seen.1)

@@ -8,3 +8,4 @@ pub mod Masks
 pub mod Parities
 pub mod Shown
 pub mod Spans
+pub mod Swaths

@@ -59,6 +59,12 @@ drawn_from draw k n (Some rows ∷ tiles) = Some rows ∷ drawn_from draw (k + 1
 drawn_from draw k zero (None ∷ tiles) = None ∷ tiles
 drawn_from draw k (suc n) (None ∷ tiles) = Some (draw k) ∷ drawn_from draw (k + 1) n tiles
 
+-- and all dirty ones of them
+abbrev pub all_drawn_from : (ℕ → List ℕ) → ℕ → List Tile → List Tile
+all_drawn_from draw k [] = []
+all_drawn_from draw k (Some rows ∷ tiles) = Some rows ∷ all_drawn_from draw (k + 1) tiles
+all_drawn_from draw k (None ∷ tiles) = Some (draw k) ∷ all_drawn_from draw (k + 1) tiles
+
 -- the n dirty tiles of least number, or all where there are fewer, show the image
 abbrev pub redrawn : (Spot → Bool) → ℕ → Table → Table
 redrawn image n t = record {

@@ -3,23 +3,22 @@
 ghost use Rattle.std.specs.Prelude.{◌≡◌, ◌↔◌, ◌<◌, ◌≤◌, ◌≤ℤ◌, ℕ, [], All, IfOk, IfSome, IsTrue, List, MatchOption};
 ghost use Rattle.std.specs.Prelude.{Some, length, take, vec_capacity};
 ghost use Rattle.std.specs.List.{slice_index_or};
-ghost use Rattle.cam_units.specs.Boxes.{Holds};
 ghost use Rattle.cam_units.specs.declared.point.Spot.{Spot};
 ghost use Rattle.cam_objects.specs.Leaves.{Leaf};
 ghost use Rattle.cam_tiles.specs.Machinery.Indexes.{IsBoxed, IsEntry, IsFiled, IsIndexOf, IsOnLevels, PaintAlike};
-ghost use Rattle.cam_tiles.specs.Machinery.Indexes.{band_leaves, boxed_leaves};
-ghost use Rattle.cam_tiles.specs.Machinery.Levels.{IsLevels, levels_of};
-ghost use Rattle.cam_tiles.specs.Machinery.Masks.{IsIn, IsWithin, PaintsMask};
+ghost use Rattle.cam_tiles.specs.Machinery.Indexes.{IsEntryFor, band_leaves, boxed_leaves};
+ghost use Rattle.cam_tiles.specs.Machinery.Levels.{IsLevels};
+ghost use Rattle.cam_tiles.specs.Machinery.Masks.{IsWithin};
+ghost use Rattle.cam_tiles.specs.Machinery.Swaths.{HasLevels, PaintsSwath};
 ghost use Rattle.cam_tiles.specs.Machinery.Shown.{IsReady, leaves_by_item, leaves_of};
-ghost use Rattle.cam_tiles.specs.Tiles.{centre_in};
 
 use crate::levels::Levels;
 use crate::masks::filing::{FiledSegment, file_contour};
 use crate::masks::heights::Heights;
-use crate::masks::join::Join;
-use crate::masks::mask::Mask;
+use crate::masks::swath::Swath;
 use crate::shown::Shown;
 use cam_apertures::has_place;
+use cam_objects::Canvas;
 use cam_units::{Bounds, Spot};
 use std::alloc::{AllocError, Global};
 use std::marker::Model;
@@ -54,15 +53,13 @@ pub(crate) struct Entry {
 }
 
 /// The boxes of the items that meet a box, in the order of the items, those of them that reach the heights of a strip,
-/// and of these the ones that reach the rows of a band. Tiles are drawn row by row, so that a band serves all tiles of
-/// a row, and a strip some rows of tiles.
+/// which is some rows of tiles, and of these the ones that reach the rows of a band, which are those of a row of tiles.
 #[derive(Drop)]
 pub(crate) struct Index {
     within: Bounds,
     boxed: Vec<Boxed>,
     strip: Option<Heights>,
     near: Vec<Boxed>,
-    levels: Option<Levels>,
     band: Vec<Entry>,
     segments: Vec<FiledSegment>,
 }
@@ -147,20 +144,9 @@ impl Index {
             boxed,
             strip: None,
             near,
-            levels: None,
             band,
             segments,
         })
-    }
-
-    /// Whether a box lies in that of the index.
-    pub(crate) fn holds(&self, bounds: Bounds) -> bool
-        ensures { IsTrue result → (s : Spot) → Holds bounds s → Holds self.now.within s }
-    {
-        let Bounds::Closed { low, high } = bounds else {
-            return false;
-        };
-        has_place(self.within, low) && has_place(self.within, high)
     }
 
     /// Turns to a strip that holds the rows of a tile: one look at each box, and none where the strip that was filed
@@ -188,21 +174,24 @@ impl Index {
         self.strip = Some(strip);
     }
 
-    /// Turns to the rows of a tile: one look at each box of the strip that holds them, and none where they are those of
-    /// the band already.
-    fn turn_to(&mut self, levels: Levels, shown: &Shown<'_>)
+    /// Paints all items, in order, on the masks of a row of tiles whose rows have some heights: where they lie in the
+    /// box of the index, those items alone that reach the rows, since the others leave the masks as they are.
+    pub(crate) fn paint(&mut self, shown: &Shown<'_>, levels: Levels, swath: &mut Swath)
         requires ready { IsReady shown.now }
-        requires levels { IsLevels levels }
         requires index { IsIndexOf (leaves_by_item shown.now) self.old }
+        requires levels { IsLevels levels }
+        requires rows { HasLevels levels swath.old }
         ensures index { IsIndexOf (leaves_by_item shown.now) self.new }
-        ensures within { self.new.within ≡ self.old.within }
-        ensures turned { self.new.levels ≡ Some levels }
+        ensures painted { PaintsSwath swath.old (leaves_of shown.now) swath.new }
     {
-        if self.levels == Some(levels) {
+        let Bounds::Closed { low, high } = swath.bounds() else {
+            return;
+        };
+        if !has_place(self.within, low) || !has_place(self.within, high) {
+            shown.paint(swath);
             return;
         }
         self.approach(levels);
-        self.levels = Some(levels);
         self.band.clear();
         self.segments.clear();
         file_band(
@@ -212,20 +201,7 @@ impl Index {
             &mut self.band,
             &mut self.segments,
         );
-    }
-
-    /// Paints all items, in order, on the mask of a tile in the box: by the band of its rows those alone that it may
-    /// show, since the others leave it as it is.
-    pub(crate) fn paint(&mut self, shown: &Shown<'_>, mask: &mut Mask)
-        requires ready { IsReady shown.now }
-        requires index { IsIndexOf (leaves_by_item shown.now) self.old }
-        requires within { (column row : ℕ) → IsIn mask.old.grid column row
-            → Holds self.old.within (centre_in mask.old.grid column row) }
-        ensures index { IsIndexOf (leaves_by_item shown.now) self.new }
-        ensures painted { PaintsMask mask.old (leaves_of shown.now) mask.new }
-    {
-        self.turn_to(mask.grid().levels(), shown);
-        paint_band(&self.band, &self.segments, shown, mask);
+        paint_band(&self.band, &self.segments, shown, swath);
     }
 }
 
@@ -303,35 +279,35 @@ fn file_item(
     })
 }
 
-/// Paints the items of a band, in order, on the mask of a tile in its rows.
-fn paint_band(band: &[Entry], segments: &[FiledSegment], shown: &Shown<'_>, mask: &mut Mask)
+/// Paints the items of a band, in order, on the masks of tiles in its rows.
+fn paint_band(band: &[Entry], segments: &[FiledSegment], shown: &Shown<'_>, swath: &mut Swath)
     requires ready { IsReady shown.now }
-    requires band { All (IsEntry (leaves_by_item shown.now) (levels_of mask.old.grid) segments.now) band.now }
-    ensures { PaintsMask mask.old (band_leaves (leaves_by_item shown.now) band.now) mask.new }
+    requires band { All (IsEntryFor (leaves_by_item shown.now) segments.now swath.old) band.now }
+    ensures { PaintsSwath swath.old (band_leaves (leaves_by_item shown.now) band.now) swath.new }
 {
-    let grid = mask.grid();
-    let first = grid.first.x;
-    let last = grid.centre(grid.columns - 1, 0).x;
+    let Bounds::Closed { low, high } = swath.bounds() else {
+        return;
+    };
     for entry in band {
-        if entry.reaches(first, last) {
-            paint_entry(entry, segments, shown, mask);
+        if entry.reaches(low.x, high.x) {
+            paint_entry(entry, segments, shown, swath);
         }
     }
 }
 
 /// Paints an item of a band.
-fn paint_entry(entry: &Entry, segments: &[FiledSegment], shown: &Shown<'_>, mask: &mut Mask)
+fn paint_entry(entry: &Entry, segments: &[FiledSegment], shown: &Shown<'_>, swath: &mut Swath)
     requires ready { IsReady shown.now }
-    requires entry { IsEntry (leaves_by_item shown.now) (levels_of mask.old.grid) segments.now entry.now }
-    ensures { PaintsMask mask.old (slice_index_or (leaves_by_item shown.now) entry.now.place []) mask.new }
+    requires entry { IsEntryFor (leaves_by_item shown.now) segments.now swath.old entry.now }
+    ensures { PaintsSwath swath.old (slice_index_or (leaves_by_item shown.now) entry.now.place []) swath.new }
 {
     let place = entry.place as usize;
     if let Some(span) = entry.filed
         && let Some(region) = shown.region(place)
     {
         let filed = &segments[span.first as usize..span.end as usize];
-        mask.fill_filed(region.contour, filed, Join::inked(region.dark));
+        swath.fill_filed(region, filed, entry.left, entry.right);
     } else {
-        shown.paint_item(place, mask);
+        shown.paint_item(place, swath);
     }
 }

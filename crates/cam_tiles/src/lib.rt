@@ -32,6 +32,7 @@
 //! ```
 #![tactic(auto)]
 
+mod drawing;
 mod fault;
 mod grid;
 mod index;
@@ -52,7 +53,7 @@ pub use laws::{
     acceptance_is_by_all_centres, boxes_touch_their_tiles, clean_tiles_show_the_image,
     dirty_tiles_are_drawn_in_order, one_file_shows_the_image, plots_show_the_image,
 };
-pub use painter::Painter;
+pub use painter::{Painter, Tile};
 pub use raster::Raster;
 pub use source::Source;
 pub use window::Window;

@@ -11,3 +11,4 @@ pub(crate) mod parity;
 pub(crate) mod row_shape;
 pub(crate) mod shapes;
 pub(crate) mod stamps;
+pub(crate) mod swath;

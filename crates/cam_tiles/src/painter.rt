@@ -1,11 +1,15 @@
 //! What draws tiles.
 
-ghost use Rattle.std.specs.Prelude.{◌≡◌, ℕ, ◌+◌, ◌<◌, ◌^◌, Bool};
+ghost use Rattle.std.specs.Prelude.{◌≡◌, ℕ, ◌+◌, ◌<◌, ◌≤◌, ◌^◌, Bool, count_by, is_none, length, true};
 ghost use Rattle.cam_units.specs.declared.point.Spot.{Spot};
-ghost use Rattle.cam_tiles.specs.Tiles.{IsGrid, tile_rows};
+ghost use Rattle.cam_tiles.specs.Picture.{accepts};
+ghost use Rattle.cam_tiles.specs.Tables.{all_drawn_from};
+ghost use Rattle.cam_tiles.specs.Tiles.{grid_of, tile_rows, tiles_of};
 
-use crate::grid::Grid;
-use cam_units::Bounds;
+use crate::window::Window;
+
+/// The 64 rows of a tile from the top, bit i for column i; or nothing, where it is dirty.
+pub type Tile = Option<[u64; 64]>;
 
 /// Draws the tiles of a picture, and counts them.
 ///
@@ -17,20 +21,16 @@ pub trait Painter {
     /// How many tiles it was asked for.
     ghost count: { Self → ℕ };
 
-    /// Is told, before it is asked for tiles, a box that holds their centres, in half nm. The picture and the count
-    /// stay.
-    fn prepare(&mut self, within: Bounds)
-        ensures picture { picture self.new ≡ picture self.old }
-        ensures count { count self.new ≡ count self.old };
-
-    /// The rows of a tile from the top: bit i of a row is set where the picture is black at the centre in column i.
-    /// Bits and rows past the grid are 0.
-    fn tile(&mut self, grid: Grid) -> [u64; 64]
-        requires grid { IsGrid grid }
-        requires room { count self.old + 1 < 2 ^ 64 }
-        ensures rows { result ≡ tile_rows (picture self.old) grid }
+    /// Draws the dirty ones of the first tiles of a window: a bit of a row is set where the picture is black at the
+    /// centre of its pixel, and bits and rows past the window are 0. The others stay.
+    fn draw(&mut self, window: &Window, tiles: &mut [Tile])
+        requires accepted { accepts window.now ≡ true }
+        requires within { length tiles.old ≤ tiles_of window.now }
+        requires room { count self.old + count_by is_none tiles.old < 2 ^ 64 }
+        ensures tiles { tiles.new
+            ≡ all_drawn_from (λ k. tile_rows (picture self.old) (grid_of window.now k)) 0 tiles.old }
         ensures kept { picture self.new ≡ picture self.old }
-        ensures asked { count self.new ≡ count self.old + 1 };
+        ensures asked { count self.new ≡ count self.old + count_by is_none tiles.old };
 
     /// How many tiles it was asked for.
     fn asked(&self) -> u64

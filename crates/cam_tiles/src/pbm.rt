@@ -6,7 +6,7 @@ ghost use Rattle.cam_tiles.specs.Pbm.{byte_of, header, padded, row_of};
 ghost use Rattle.cam_tiles.specs.Tables.{IsTable, is_pixel_black, pbm_of};
 ghost use Rattle.cam_tiles.specs.Tiles.{across};
 
-use crate::raster::Tile;
+use crate::painter::Tile;
 use crate::window::Window;
 use cam_rows::pbm_bytes;
 use std::alloc::{AllocError, Global};

@@ -1,7 +1,7 @@
 //! Rasters: the tiles of a window, each drawn or dirty.
 
 ghost use Rattle.std.specs.Prelude.{◌≡◌, ◌+◌, ◌<◌, ◌≤◌, ◌^◌, IfErr, IfNone, IfOk, IfSome, None, OnOk, Some, true};
-ghost use Rattle.std.specs.Prelude.{count_by, is_none, is_some, length, min};
+ghost use Rattle.std.specs.Prelude.{count_by, is_none, is_some, length, min, take};
 ghost use Rattle.cam_tiles.specs.Picture.{accepts};
 ghost use Rattle.cam_tiles.specs.Tables.{
   IsRefusal,
@@ -19,16 +19,13 @@ ghost use Rattle.cam_tiles.specs.Tiles.{grid_of, tile_rows, tiles_of};
 ghost use Rattle.cam_tiles.specs.Touched.{touched};
 
 use crate::fault::RasterFault;
-use crate::painter::Painter;
+use crate::painter::{Painter, Tile};
 use crate::pbm::bitmap;
 use crate::touch::wipe;
 use crate::window::Window;
 use cam_units::Bounds;
 use std::alloc::{AllocError, Global};
 use std::marker::Model;
-
-/// The rows of a tile from the top, bit i for column i; or nothing, where it is dirty.
-pub(crate) type Tile = Option<[u64; 64]>;
 
 /// The tiles of a window, 64 by 64 pixels each, in order from the top left, row by row; those at the right and at the
 /// lower edge may be smaller. Each is clean, and its pixels are known, or dirty.
@@ -131,8 +128,8 @@ impl Raster {
         ensures asked { P.count painter.new ≡ P.count painter.old + result }
     {
         let drawn = at_most.min(self.dirty);
-        prepare_first(&self.tiles, &self.window, painter, drawn);
-        draw_first(&mut self.tiles, &self.window, painter, drawn);
+        let end = end_of_first(&self.tiles, drawn);
+        painter.draw(&self.window, &mut self.tiles[..end]);
         self.dirty -= drawn;
         drawn
     }
@@ -151,56 +148,20 @@ impl Raster {
     }
 }
 
-/// The box of the centres of the first `count` dirty tiles, in half nm.
-fn box_of_first(tiles: &[Tile], window: &Window, count: u32) -> Bounds
-    requires accepted { accepts window.now ≡ true }
-    requires full { length tiles.now ≡ tiles_of window.now }
-{
-    let mut all = Bounds::Empty;
-    let mut left = count;
-    for (k, tile) in tiles.iter().enumerate() {
-        if left == 0 {
-            return all;
-        }
-        if tile.is_none() {
-            all = all.joined(window.grid(k as u32).bounds());
-            left -= 1;
-        }
-    }
-    all
-}
-
-/// Tells the painter where the first `count` dirty tiles are, if it is to draw any.
-fn prepare_first<P: Painter>(tiles: &[Tile], window: &Window, painter: &mut P, count: u32)
-    requires accepted { accepts window.now ≡ true }
-    requires full { length tiles.now ≡ tiles_of window.now }
-    ensures kept { P.picture painter.new ≡ P.picture painter.old }
-    ensures asked { P.count painter.new ≡ P.count painter.old }
-{
-    if count > 0 {
-        painter.prepare(box_of_first(tiles, window, count));
-    }
-}
-
-/// Draws the first `count` dirty tiles.
-fn draw_first<P: Painter>(tiles: &mut [Tile], window: &Window, painter: &mut P, count: u32)
-    requires accepted { accepts window.now ≡ true }
-    requires full { length tiles.old ≡ tiles_of window.now }
-    requires enough { count ≤ count_by is_none tiles.old }
-    requires room { P.count painter.old + count < 2 ^ 64 }
-    ensures tiles { tiles.new
-        ≡ drawn_from (λ k. tile_rows (P.picture painter.old) (grid_of window.now k)) 0 count tiles.old }
-    ensures kept { P.picture painter.new ≡ P.picture painter.old }
-    ensures asked { P.count painter.new ≡ P.count painter.old + count }
+/// The number behind the first `count` dirty tiles: no other is dirty before it.
+fn end_of_first(tiles: &[Tile], count: u32) -> usize
+    requires { count ≤ count_by is_none tiles.now }
+    ensures within { result ≤ length tiles.now }
+    ensures first { count_by is_none (take result tiles.now) ≡ count }
 {
     let mut left = count;
     for k in 0..tiles.len() {
         if left == 0 {
-            break;
+            return k;
         }
         if tiles[k].is_none() {
-            tiles[k] = Some(painter.tile(window.grid(k as u32)));
             left -= 1;
         }
     }
+    tiles.len()
 }

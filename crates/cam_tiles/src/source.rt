@@ -6,13 +6,11 @@ ghost use Rattle.cam_objects.specs.DrillSoundness.{IsSoundDrillLayer};
 ghost use Rattle.cam_objects.specs.Soundness.{HasSoundItems};
 ghost use Rattle.cam_tiles.specs.Sources.{picture_of, unasked};
 
-use crate::grid::Grid;
-use crate::index::Index;
-use crate::masks::mask::Mask;
-use crate::painter::Painter;
+use crate::drawing::draw;
+use crate::painter::{Painter, Tile};
 use crate::shown::Shown;
+use crate::window::Window;
 use cam_objects::{DrillLayer, Layer};
-use cam_units::Bounds;
 use std::alloc::Global;
 use std::marker::Model;
 
@@ -22,19 +20,18 @@ use std::marker::Model;
 pub struct Source<'a> {
     shown: Shown<'a>,
     alloc: Option<Global>,
-    index: Option<Index>,
     asked: u64,
 }
 
 impl<'a> Model for Source<'a> {
-    ghost use Rattle.cam_tiles.specs.Machinery.Kept.{IsIndexed, painted_by};
+    ghost use Rattle.cam_tiles.specs.Machinery.Kept.{IsSourceReady, painted_by};
     ghost use Rattle.cam_tiles.specs.Sources.{Painted};
 
     ghost Value = { Painted };
 
     ghost view = { painted_by };
 
-    ghost invariant = { IsIndexed };
+    ghost invariant = { IsSourceReady };
 }
 
 impl<'a> Source<'a> {
@@ -46,7 +43,6 @@ impl<'a> Source<'a> {
         Source {
             shown: Shown::Gerber(layer),
             alloc: None,
-            index: None,
             asked: 0,
         }
     }
@@ -59,13 +55,13 @@ impl<'a> Source<'a> {
         Source {
             shown: Shown::Drill(layer),
             alloc: None,
-            index: None,
             asked: 0,
         }
     }
 
-    /// Lets the boxes of items be kept at hand, so that a tile asks those alone that it may show; where memory for them
-    /// is refused, each tile asks every item. What is painted is the same.
+    /// Lets memory be taken for the boxes of items and for the tiles of a row of tiles, which are then drawn at once
+    /// from those items alone that they may show; where it is refused, each tile asks every item. What is painted is
+    /// the same.
     pub fn keep_boxes(&mut self, alloc: Global)
         ensures { self.new ≡ self.old }
     {
@@ -78,21 +74,12 @@ impl<'a> Painter for Source<'a> {
 
     ghost count = { λ s. s.asked };
 
-    fn prepare(&mut self, within: Bounds) {
-        self.index = match self.alloc {
-            Some(alloc) => Index::new(alloc, &self.shown, within).ok(),
-            None => None,
-        };
-    }
-
-    fn tile(&mut self, grid: Grid) -> [u64; 64] {
-        let mut mask = Mask::blank(grid);
-        match &mut self.index {
-            Some(index) if index.holds(grid.bounds()) => index.paint(&self.shown, &mut mask),
-            _ => self.shown.paint(&mut mask),
+    fn draw(&mut self, window: &Window, tiles: &mut [Tile]) {
+        let dirty = tiles.iter().filter(|tile| tile.is_none()).count();
+        if dirty > 0 {
+            draw(self.alloc, &self.shown, window, tiles);
         }
-        self.asked += 1;
-        mask.into_rows()
+        self.asked += dirty as u64;
     }
 
     fn asked(&self) -> u64 {

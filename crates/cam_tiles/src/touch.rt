@@ -7,7 +7,7 @@ ghost use Rattle.cam_tiles.specs.Picture.{accepts, middle};
 ghost use Rattle.cam_tiles.specs.Machinery.Spans.{has_pixel, is_between, is_in_span};
 ghost use Rattle.cam_tiles.specs.Tiles.{across, down};
 
-use crate::raster::Tile;
+use crate::painter::Tile;
 use crate::window::Window;
 use cam_units::Spot;
 

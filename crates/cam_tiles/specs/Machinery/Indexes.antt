@@ -18,7 +18,8 @@ use Rattle.cam_tiles.specs.declared.masks.filing.FiledSegment.{FiledSegment}
 use Rattle.cam_tiles.specs.declared.masks.heights.Heights.{Heights}
 use Rattle.cam_tiles.specs.Machinery.Filing.{AreFiled}
 use Rattle.cam_tiles.specs.Machinery.Levels.{IsOnRow}
-use Rattle.cam_tiles.specs.Machinery.Masks.{IsWithin}
+use Rattle.cam_tiles.specs.Machinery.Masks.{IsWithin, Marking}
+use Rattle.cam_tiles.specs.Machinery.Swaths.{HasLevels}
 
 -- the lists that were boxed, and those of a band, one after another
 abbrev pub boxed_leaves : List (List Leaf) → List Boxed → List Leaf
@@ -68,37 +69,23 @@ pub record IsEntry (lists : List (List Leaf)) (levels : Levels) (segments : List
       → (e.left ≤ℤ s.x) × (s.x ≤ℤ e.right)
   pub filed : (span : Span) → e.filed ≡ Some span → IsFiled (slice_index_or lists e.place []) levels segments span
 
--- entries of all lists that paint the places of a box in some rows
-pub record IsBand (lists : List (List Leaf)) (within : Bounds) (levels : Levels) (segments : List FiledSegment)
-    (band : List Entry) : Type 0 where
-  pub each : All (IsEntry lists levels segments) band
-  pub enough : Suffices lists (band_leaves lists band) (λ s. Holds within s × IsOnLevels levels s)
+-- an entry for the rows of a swath
+abbrev pub IsEntryFor : List (List Leaf) → List FiledSegment → List Marking → Entry → Type 0
+IsEntryFor lists segments swath e = (levels : Levels) × HasLevels levels swath × IsEntry lists levels segments e
 
--- a box, the boxes of what it shows, those of a strip and a band of some rows where they were filed
+-- a box, the boxes of what it shows, and those of a strip where they were filed
 pub record Indexed : Type 0 where
   pub within : Bounds
   pub boxed : List Boxed
   pub strip : Option Heights
   pub near : List Boxed
-  pub levels : Option Levels
-  pub band : List Entry
-  pub segments : List FiledSegment
 
 pub record IsIndexOf (lists : List (List Leaf)) (i : Indexed) : Type 0 where
   pub boxed : AreBoxed lists i.within i.boxed
   pub near : (strip : Heights) → i.strip ≡ Some strip → AreNear lists i.within strip i.near
-  pub band : (levels : Levels) → i.levels ≡ Some levels → IsBand lists i.within levels i.segments i.band
 
 abbrev pub indexed_in : Inside → Indexed
-indexed_in i = record {
-  within = i.within;
-  boxed = i.boxed.items;
-  strip = i.strip;
-  near = i.near.items;
-  levels = i.levels;
-  band = i.band.items;
-  segments = i.segments.items;
-}
+indexed_in i = record { within = i.within; boxed = i.boxed.items; strip = i.strip; near = i.near.items }
 
 -- there is room for a strip of all boxes, and for a band of those in it
 pub record IsRoomy (i : Inside) : Type 0 where

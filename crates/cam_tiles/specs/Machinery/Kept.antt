@@ -1,9 +1,8 @@
 -- What rasters and sources keep, and what is seen of them.
-use Rattle.std.specs.Prelude.{◌≡◌, Some}
+use Rattle.std.specs.Prelude.{◌≡◌}
 use Rattle.cam_tiles.specs.declared.raster.Raster.TheInside.{Inside}
 use Rattle.cam_tiles.specs.declared.source.Source.TheInside.{Inside as SourceInside}
-use Rattle.cam_tiles.specs.Machinery.Indexes.{Indexed, IsIndexOf}
-use Rattle.cam_tiles.specs.Machinery.Shown.{IsReady, leaves_by_item, leaves_of}
+use Rattle.cam_tiles.specs.Machinery.Shown.{IsReady, leaves_of}
 use Rattle.cam_tiles.specs.Sources.{Painted}
 use Rattle.cam_tiles.specs.Tables.{IsTable, Table, dirty_count}
 use Rattle.cam_tiles.specs.Tiles.{across}
@@ -20,7 +19,5 @@ pub record IsKept (r : Inside) : Type 0 where
 abbrev pub painted_by : SourceInside → Painted
 painted_by s = record { leaves = leaves_of s.shown; asked = s.asked }
 
--- a sound layer; what is indexed, if anything is, are the leaves of its items
-pub record IsIndexed (s : SourceInside) : Type 0 where
-  pub ready : IsReady s.shown
-  pub index : (index : Indexed) → s.index ≡ Some index → IsIndexOf (leaves_by_item s.shown) index
+abbrev pub IsSourceReady : SourceInside → Type 0
+IsSourceReady s = IsReady s.shown

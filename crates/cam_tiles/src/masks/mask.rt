@@ -130,12 +130,11 @@ impl Mask {
     }
 
     /// The rows, from the top.
-    pub(crate) fn into_rows(self) -> [u64; 64]
-        ensures rows { result ≡ self.rows }
-        ensures mask { IsMask self }
+    pub(crate) fn rows(&self) -> [u64; 64]
+        ensures rows { result ≡ self.now.rows }
+        ensures mask { IsMask self.now }
     {
-        let Mask { rows, .. } = self;
-        rows
+        self.rows
     }
 
     /// Joins the marks with the places of a shape, which stands at a point as it does about (0, 0): in the rows that it

@@ -93,5 +93,4 @@ returns c = record {
   boxed = all_boxed (leaves_by_item c.args.shown.now) c.args.within c.loop-place.place c.loop-place.boxed.items
       (omega arith) c.loop-place.invariant.boxed;
   near = λ strip none. absurd (is_none none);
-  band = λ levels none. absurd (is_none none);
 }

@@ -1,0 +1,257 @@
+-- Swaths: leaves that are painted on masks side by side, and what is kept of these.
+use Rattle.std.proofs.Common.{◌≡◌, ◌↔◌, ◌⊎◌, ℕ, ◌+◌, ◌*◌, ◌/◌, ◌%◌, ◌<◌, ◌≤◌, ℤ, ◌≤ℤ◌, ◌<ℤ◌, Bool, List, length, map, set, get_or}
+use Rattle.std.proofs.Common.{refl, sym, ap, subst, ◌∙◌, inl, inr, arith}
+use Rattle.std.specs.List.{All}
+use Rattle.std.proofs.lemmas.Bool.{cases_lt}
+use Rattle.std.proofs.lemmas.Int.{ints}
+use Rattle.std.proofs.lemmas.List.{get_or_default, get_or-map, get_or_past, get_or-set_other, get_or-set_same, length-map, length-set}
+use Rattle.std.proofs.lemmas.List.Elements.{All-get_or}
+use Rattle.cam_units.specs.declared.bounds.Bounds.{Bounds}
+use Rattle.cam_units.specs.declared.point.Spot.{Spot}
+use Rattle.cam_objects.specs.Leaves.{Leaf}
+use Rattle.cam_objects.specs.Tests.{is_black, painted}
+use Rattle.cam_tiles.specs.declared.grid.Grid.{Grid}
+use Rattle.cam_tiles.specs.declared.levels.Levels.{Levels}
+use Rattle.cam_tiles.specs.declared.masks.swath.Pitch.{Pitch}
+use Rattle.cam_tiles.specs.Machinery.Levels.{levels_of}
+use Rattle.cam_tiles.specs.Machinery.Masks.{IsBlank, IsIn, IsMask, Marking, PaintsMask, ink_of}
+use Rattle.cam_tiles.specs.Machinery.Swaths.{AreDrawn, ArePaintedIn, HasLevels, HasMask, IsDrawn, IsInSwath, IsLaidOut}
+use Rattle.cam_tiles.specs.Machinery.Swaths.{PaintsSwath, grid_at, ink_in, mask_at, no_grid, no_mask, place_in}
+use Rattle.cam_tiles.specs.Tiles.{IsGrid, centre_in, tile_rows}
+use Rattle.cam_tiles.proofs.MaskWords.{rows_of_marks}
+use Rattle.cam_tiles.proofs.PaintedMasks.{clear_if_unmarked}
+use Rattle.cam_tiles.proofs.PaintedTiles.{ink_of_image, marks_of_ink, painted_grid, same_grid, same_levels}
+use Rattle.cam_tiles.proofs.SwathLayouts.{mask_there}
+use Rattle.cam_tiles.proofs.TurnedBands.{by_band}
+
+-- ---- from masks to the swath
+
+-- where each mask is painted, the swath is
+pub swath_painted : (leaves : List Leaf) (old new : List Marking)
+    → ((k : ℕ) → PaintsMask (mask_at old k) leaves (mask_at new k)) → PaintsSwath old leaves new
+swath_painted leaves old new h = record {
+  pixels = λ column row. (h (column / 64)).pixels (column % 64) row;
+  places = λ i column row. (h (column / 64)).places i (column % 64) row;
+  inks = λ column row there. (h (column / 64)).inks (column % 64) row there;
+}
+
+module _ (first end : ℕ) (leaves : List Leaf) (old new : List Marking) (part : ArePaintedIn first end leaves old new)
+    where
+  -- the masks that are passed over have to stay as they are
+  pub part_painted : ((k : ℕ) → (k < first) ⊎ (end ≤ k) → PaintsMask (mask_at old k) leaves (mask_at old k))
+      → PaintsSwath old leaves new
+  part_painted missed =
+      let stays : (k : ℕ) → (k < first) ⊎ (end ≤ k) → PaintsMask (mask_at old k) leaves (mask_at new k) = λ k apart.
+      subst (PaintsMask (mask_at old k) leaves) (sym (part.others k apart)) (missed k apart) in
+      swath_painted leaves old new (λ k.
+      by_band first end k (λ early. stays k (inl early)) (part.each k) (λ late. stays k (inr late)))
+
+  -- no grid changes
+  part_grids : ((k : ℕ) → k < length old → IsGrid (grid_at old k)) → end ≤ length old
+      → (k : ℕ) → grid_at old k ≡ grid_at new k
+  part_grids grids within k =
+      let kept : (k < first) ⊎ (end ≤ k) → grid_at old k ≡ grid_at new k = λ apart.
+      ap (λ (m : Marking). m.grid) (sym (part.others k apart)) in
+      by_band first end k (λ early. kept (inl early))
+      (λ after until. sym (painted_grid leaves (mask_at old k) (mask_at new k) (grids k (omega arith)) (part.each k after until)))
+      (λ late. kept (inr late))
+
+  pub part_laid_out : (p : Pitch) (box : Bounds) (before : List ℕ) → end ≤ length old
+      → IsLaidOut p box before (length old) (grid_at old) → IsLaidOut p box before (length new) (grid_at new)
+  part_laid_out p box before within laid =
+      let same = part_grids (λ k inside. (laid.each k inside).0) within in
+      let of : (n : ℕ) → length new ≡ n → IsLaidOut p box before n (grid_at old) → IsLaidOut p box before (length new) (grid_at old) =
+      λ n e h. subst (λ m. IsLaidOut p box before m (grid_at old)) (sym e) h in
+      subst (IsLaidOut p box before (length new)) (λ i k. same k i) (of (length old) part.size laid)
+
+-- the masks that are passed over hold no place between two across
+pub passed_over : (first end : ℕ) (masks : List Marking) (left right : ℤ)
+    → ((k column row : ℕ) → k < first → IsIn (grid_at masks k) column row
+    → (centre_in (grid_at masks k) column row).x <ℤ left)
+    → ((k column row : ℕ) → end ≤ k → IsIn (grid_at masks k) column row
+    → right <ℤ (centre_in (grid_at masks k) column row).x)
+    → (IsHeld : Spot → Type 0) → ((s : Spot) → IsHeld s → (left ≤ℤ s.x) × (s.x ≤ℤ right))
+    → (k : ℕ) → (k < first) ⊎ (end ≤ k) → (column row : ℕ) → IsIn (grid_at masks k) column row
+    → IsHeld (centre_in (grid_at masks k) column row) → ⊥
+passed_over first end masks left right before behind IsHeld sides k apart column row there held =
+    let between = sides (centre_in (grid_at masks k) column row) held in
+    elim apart [
+      | inl early ↦ (let off = before k column row early there in omega (arith, ints, off, between.0))
+      | inr late ↦ (let off = behind k column row late there in omega (arith, ints, off, between.1))
+    ]
+
+-- ---- masks from a first one up to an end, painted one after another
+
+pub none_painted : (first : ℕ) (leaves : List Leaf) (old : List Marking) → ArePaintedIn first first leaves old old
+none_painted first leaves old = record {
+  size = refl;
+  each = λ k after until. absurd (omega arith);
+  others = λ k apart. refl;
+}
+
+pub one_more_painted : (first i : ℕ) (leaves : List Leaf) (old now new : List Marking) (d m : Marking)
+    → ArePaintedIn first i leaves old now → first ≤ i → i < length old → new ≡ set now i m
+    → PaintsMask (get_or now i d) leaves m → ArePaintedIn first (i + 1) leaves old new
+one_more_painted first i leaves old now new d m so_far begun within is painted =
+    let inside : i < length now = omega (arith, so_far.size) in
+    let here : get_or now i d ≡ mask_at now i = get_or_default now i d no_mask inside in
+    let h : PaintsMask (mask_at now i) leaves m = subst (λ (n : Marking). PaintsMask n leaves m) here painted in
+    let there : mask_at new i ≡ m =
+    ap (λ (those : List Marking). mask_at those i) is ∙ get_or-set_same now i m no_mask inside in
+    let elsewhere : (k : ℕ) → (k ≡ i → ⊥) → mask_at new k ≡ mask_at now k = λ k apart.
+    ap (λ (those : List Marking). mask_at those k) is ∙ get_or-set_other now i k m no_mask apart in
+    record {
+      size = ap length is ∙ length-set now i m ∙ so_far.size;
+      each = λ k after until. elim (cases_lt k i) [
+        | inl before ↦ subst (PaintsMask (mask_at old k) leaves) (sym (elsewhere k (λ same. omega arith)))
+            (so_far.each k after before)
+        | inr last ↦
+            (let same : k ≡ i = omega arith in
+            subst (λ n. PaintsMask (mask_at old n) leaves (mask_at new n)) (sym same)
+            (subst (PaintsMask (mask_at old i) leaves) (sym there)
+            (subst (λ (n : Marking). PaintsMask n leaves m) (so_far.others i (inr (omega arith))) h)))
+      ];
+      others = λ k apart. elim apart [
+        | inl early ↦ elsewhere k (λ same. omega arith) ∙ so_far.others k (inl early)
+        | inr late ↦ elsewhere k (λ same. omega arith) ∙ so_far.others k (inr (omega arith))
+      ];
+    }
+
+-- the next of them is as it was
+pub untouched : (first i : ℕ) (leaves : List Leaf) (old now : List Marking) (d : Marking)
+    → ArePaintedIn first i leaves old now → i < length old → mask_at old i ≡ get_or now i d
+untouched first i leaves old now d so_far within =
+    sym (get_or_default now i d no_mask (omega (arith, so_far.size)) ∙ so_far.others i (inr (omega arith)))
+
+pub all_painted : (first end i : ℕ) (leaves : List Leaf) (old now : List Marking) → ArePaintedIn first i leaves old now
+    → end ≤ i → (first ≤ end → i ≤ end) → (end ≤ first → i ≤ first) → ArePaintedIn first end leaves old now
+all_painted first end i leaves old now so_far done within none = record {
+  size = so_far.size;
+  each = λ k after until. so_far.each k after (omega arith);
+  others = λ k apart. elim (cases_lt k first) [
+    | inl early ↦ so_far.others k (inl early)
+    | inr over ↦ elim apart [
+      | inl early ↦ so_far.others k (inl early)
+      | inr late ↦ elim (cases_lt first end) [
+        | inl some ↦ so_far.others k (inr (omega (arith, within (omega arith))))
+        | inr empty ↦ so_far.others k (inr (omega (arith, none empty)))
+      ]
+    ]
+  ];
+}
+
+-- masks that were lent are back
+pub put_back : (first end : ℕ) (leaves : List Leaf) (masks lent new after : List Marking) → lent ≡ masks → after ≡ new
+    → ArePaintedIn first end leaves lent new → ArePaintedIn first end leaves masks after
+put_back first end leaves masks lent new after was is part =
+    subst (ArePaintedIn first end leaves masks) (sym is)
+    (subst (λ (old : List Marking). ArePaintedIn first end leaves old new) was part)
+
+-- ---- and back
+
+-- the column of a mask
+at_column : (P : ℕ → ℕ → Type 0) (k c : ℕ) → c < 64 → P ((64 * k + c) / 64) ((64 * k + c) % 64) → P k c
+at_column P k c few h =
+    let tile : (64 * k + c) / 64 ≡ k = omega arith in
+    let column : (64 * k + c) % 64 ≡ c = omega arith in
+    subst (λ t. P t c) tile (subst (P ((64 * k + c) / 64)) column h)
+
+module _ (leaves : List Leaf) (old new : List Marking) (h : PaintsSwath old leaves new) (k : ℕ) where
+  pixels_at : (c row : ℕ) → c < 64 → IsIn (grid_at new k) c row ↔ IsIn (grid_at old k) c row
+  pixels_at c row few =
+      at_column (λ t u. IsIn (grid_at new t) u row ↔ IsIn (grid_at old t) u row) k c few (h.pixels (64 * k + c) row)
+
+  places_at : (c row : ℕ) → c < 64 → centre_in (grid_at new k) c row ≡ centre_in (grid_at old k) c row
+  places_at c row few =
+      at_column (λ t u. centre_in (grid_at new t) u row ≡ centre_in (grid_at old t) u row) k c few
+      (ap (λ (place : ℕ → ℕ → Spot). place (64 * k + c) row) h.places)
+
+  inks_at : (c row : ℕ) → c < 64 → IsIn (grid_at old k) c row
+      → ink_of (mask_at new k) c row ≡ painted (ink_of (mask_at old k) c row) leaves (centre_in (grid_at old k) c row)
+  inks_at c row few =
+      at_column (λ t u. IsIn (grid_at old t) u row
+      → ink_of (mask_at new t) u row ≡ painted (ink_of (mask_at old t) u row) leaves (centre_in (grid_at old t) u row))
+      k c few (h.inks (64 * k + c) row)
+
+  has_still : HasMask new k → HasMask old k
+  has_still there = (pixels_at 0 0 (omega arith)).0 there
+
+  levels_at : (levels : Levels) → HasLevels levels old → HasMask new k → levels_of (grid_at new k) ≡ levels
+  levels_at levels has there =
+      same_levels (grid_at old k) (grid_at new k) (has_still there) (λ row. pixels_at 0 row (omega arith))
+      (places_at 0 0 (omega arith)) (places_at 1 0 (omega arith))
+      ∙ has k (has_still there)
+
+  -- a mask that was blank shows the image of the leaves
+  drawn_at : IsGrid (grid_at old k) → IsBlank (mask_at old k)
+      → IsDrawn (is_black leaves) (grid_at old k) (mask_at new k)
+  drawn_at grid blank = record {
+    grid = grid;
+    pixels = λ c row few. pixels_at c row few;
+    first = places_at 0 0 (omega arith);
+    next = places_at 1 0 (omega arith);
+    inks = λ c row there.
+        inks_at c row (omega (arith, there.0, grid.columns)) there
+        ∙ ink_of_image leaves (ink_of (mask_at old k) c row) (centre_in (grid_at old k) c row)
+        (clear_if_unmarked (mask_at old k) c row (blank c row there));
+  }
+
+pub levels_kept : (leaves : List Leaf) (old new : List Marking) (levels : Levels) → PaintsSwath old leaves new
+    → HasLevels levels old → HasLevels levels new
+levels_kept leaves old new levels h has = λ k there. levels_at leaves old new h k levels has there
+
+-- the grids of masks, in a list
+pub grid_in_list : (masks : List Marking) (grids : List Grid) (k : ℕ) → map (λ (m : Marking). m.grid) masks ≡ grids
+    → k < length grids → get_or grids k no_grid ≡ grid_at masks k
+grid_in_list masks grids k are within =
+    let size : length grids ≡ length masks = sym (ap length are) ∙ length-map masks (λ (m : Marking). m.grid) in
+    ap (λ (those : List Grid). get_or those k no_grid) (sym are)
+    ∙ get_or-map (λ (m : Marking). m.grid) masks k no_mask no_grid (omega arith)
+
+pub has_levels : (masks : List Marking) (grids : List Grid) (levels : Levels)
+    → map (λ (m : Marking). m.grid) masks ≡ grids → All (λ (g : Grid). levels_of g ≡ levels) grids
+    → HasLevels levels masks
+has_levels masks grids levels are all = λ k there.
+    let size : length grids ≡ length masks = sym (ap length are) ∙ length-map masks (λ (m : Marking). m.grid) in
+    let within : k < length grids = omega (arith, mask_there masks k 0 0 there) in
+    subst (λ (g : Grid). levels_of g ≡ levels) (grid_in_list masks grids k are within)
+    (All-get_or (λ (g : Grid). levels_of g ≡ levels) grids k no_grid within all)
+
+pub swath_drawn : (leaves : List Leaf) (old new : List Marking) (grids : List Grid) → PaintsSwath old leaves new
+    → map (λ (m : Marking). m.grid) old ≡ grids → All IsGrid grids → ((k : ℕ) → IsBlank (mask_at old k))
+    → AreDrawn (is_black leaves) grids new
+swath_drawn leaves old new grids h are sound blank = λ k within.
+    let same = grid_in_list old grids k are within in
+    let grid = subst IsGrid same (All-get_or IsGrid grids k no_grid within sound) in
+    subst (λ (g : Grid). IsDrawn (is_black leaves) g (mask_at new k)) (sym same)
+    (drawn_at leaves old new h k grid (blank k))
+
+-- there are as many masks as before, at least
+pub enough_masks : (leaves : List Leaf) (old new : List Marking) (grids : List Grid) → PaintsSwath old leaves new
+    → map (λ (m : Marking). m.grid) old ≡ grids → All IsGrid grids → length grids ≤ length new
+enough_masks leaves old new grids h are sound = elim (cases_lt (length new) (length grids)) [
+  | inl fewer ↦
+      (let same = grid_in_list old grids (length new) are fewer in
+      let grid = subst IsGrid same (All-get_or IsGrid grids (length new) no_grid fewer sound) in
+      let there = (pixels_at leaves old new h (length new) 0 0 (omega arith)).1 (grid.columns.0, grid.rows.0) in
+      let none : mask_at new (length new) ≡ no_mask = get_or_past new (length new) no_mask (omega arith) in
+      let found = subst (λ (m : Marking). IsIn m.grid 0 0) none there in
+      absurd (omega (arith, found.0)))
+  | inr enough ↦ enough
+]
+
+-- ---- rows of a drawn mask
+
+pub drawn_rows : (image : Spot → Bool) (g : Grid) (m : Marking) → IsMask m → IsDrawn image g m
+    → m.rows ≡ tile_rows image g
+drawn_rows image g m mask h =
+    let across : (column : ℕ) → IsIn m.grid column 0 ↔ IsIn g column 0 = λ column. elim (cases_lt column 64) [
+      | inl near ↦ h.pixels column 0 near
+      | inr far ↦ (
+        (λ there. absurd (omega (arith, there.0, mask.grid.columns))),
+        (λ there. absurd (omega (arith, there.0, h.grid.columns))),
+      )
+    ] in
+    let same = same_grid g m.grid (h.grid.columns.0, h.grid.rows.0) (λ row. h.pixels 0 row (omega arith)) h.first h.next across in
+    rows_of_marks image g m mask same
+    (λ column row there. marks_of_ink m column row (image (centre_in g column row)) (h.inks column row there))

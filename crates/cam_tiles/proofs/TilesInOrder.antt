@@ -1,0 +1,223 @@
+-- Dirty tiles that are drawn one after another.
+use Rattle.std.proofs.Common.{◌≡◌, ℕ, zero, suc, ◌+◌, ◌-◌, ◌<◌, ◌≤◌, List, [], ◌∷◌, ◌++◌, length, take, drop, set, get_or, length-drop}
+use Rattle.std.proofs.Common.{Some, None, Bool, true, false, not, is_some, refl, sym, ap, subst, ◌∙◌, append_assoc, arith}
+use Rattle.std.specs.List.{All}
+use Rattle.std.proofs.lemmas.Bool.{false≢true, true≢false}
+use Rattle.std.proofs.lemmas.List.{append-nil, drop_all, drop_more, drop-drop, drop-set-lt, get_or-drop, length-take-le, take-append-drop, take_all}
+use Rattle.std.proofs.lemmas.List.{take_more, take_more_set}
+use Rattle.std.proofs.lemmas.List.Elements.{All-cons, All-nil}
+use Rattle.std.proofs.lemmas.Slice.{drop-put_mid, take-put_mid}
+use borrow.Rule.Slice.PartMut.{mid_of, put_mid}
+use Rattle.cam_tiles.specs.declared.grid.Grid.{Grid}
+use Rattle.cam_tiles.specs.Machinery.Swaths.{dirty_grids}
+use Rattle.cam_tiles.specs.Tables.{Tile, all_drawn_from}
+use Rattle.cam_tiles.proofs.DrawnTiles.{dirty, dirty_after_clean, dirty_after_dirty}
+
+-- what a test tells of a tile
+pub read_dirty : (tile : Tile) (b : Bool) → is_some tile ≡ not b → b ≡ true → tile ≡ None
+read_dirty None b e f = refl
+read_dirty (Some rows) b e f = absurd (true≢false (e ∙ ap not f))
+
+pub read_clean : (tile : Tile) (b : Bool) → is_some tile ≡ not b → b ≡ false → (rows : List ℕ) × (tile ≡ Some rows)
+read_clean (Some rows) b e f = (rows, refl)
+read_clean None b e f = absurd (false≢true (e ∙ ap not f))
+
+module _ (draw : ℕ → List ℕ) where
+  -- the tiles from number k of a list on are drawn, whose first one has the number `first`
+  abbrev pub drawn_on : ℕ → ℕ → List Tile → List Tile
+  drawn_on first k tiles = take k tiles ++ all_drawn_from draw (first + k) (drop k tiles)
+
+  pub none_yet : (first : ℕ) (tiles : List Tile) → all_drawn_from draw first tiles ≡ drawn_on first 0 tiles
+  none_yet first tiles = let same : first ≡ first + 0 = omega arith in ap (λ n. all_drawn_from draw n tiles) same
+
+  pub all_done : (first k : ℕ) (tiles : List Tile) → length tiles ≤ k → drawn_on first k tiles ≡ tiles
+  all_done first k tiles end =
+      ap (λ rest. take k tiles ++ all_drawn_from draw (first + k) rest) (drop_all k tiles end)
+      ∙ append-nil (take k tiles) ∙ take_all k tiles end
+
+  step : (first k : ℕ) (tiles : List Tile) (tile drawn : Tile) → k < length tiles → get_or tiles k tile ≡ tile
+      → all_drawn_from draw (first + k) (tile ∷ drop (k + 1) tiles)
+      ≡ drawn ∷ all_drawn_from draw (first + (k + 1)) (drop (k + 1) tiles)
+      → drawn_on first k tiles ≡ (take k tiles ++ drawn ∷ []) ++ all_drawn_from draw (first + (k + 1)) (drop (k + 1) tiles)
+  step first k tiles tile drawn within read one =
+      ap (λ rest. take k tiles ++ all_drawn_from draw (first + k) rest)
+      (drop_more tiles k tile within ∙ ap (λ t. t ∷ drop (k + 1) tiles) read)
+      ∙ ap (λ rest. take k tiles ++ rest) one
+      ∙ sym (append_assoc (take k tiles) (drawn ∷ []) (all_drawn_from draw (first + (k + 1)) (drop (k + 1) tiles)))
+
+  -- a clean tile stays
+  pub next_clean : (first k : ℕ) (tiles : List Tile) (rows : List ℕ) → k < length tiles
+      → get_or tiles k (Some rows) ≡ Some rows → drawn_on first k tiles ≡ drawn_on first (k + 1) tiles
+  next_clean first k tiles rows within read =
+      let same : first + k + 1 ≡ first + (k + 1) = omega arith in
+      step first k tiles (Some rows) (Some rows) within read
+      (ap (λ n. Some rows ∷ all_drawn_from draw n (drop (k + 1) tiles)) same)
+      ∙ ap (λ front. front ++ all_drawn_from draw (first + (k + 1)) (drop (k + 1) tiles))
+      (ap (λ t. take k tiles ++ t ∷ []) (sym read) ∙ sym (take_more tiles k (Some rows) within))
+
+  -- a dirty one is drawn
+  pub next_dirty : (first k : ℕ) (tiles : List Tile) (rows : List ℕ) → k < length tiles
+      → get_or tiles k None ≡ None → rows ≡ draw (first + k)
+      → drawn_on first k tiles ≡ drawn_on first (k + 1) (set tiles k (Some rows))
+  next_dirty first k tiles rows within read is =
+      let same : first + k + 1 ≡ first + (k + 1) = omega arith in
+      step first k tiles None (Some rows) within read
+      (ap (λ r. Some r ∷ all_drawn_from draw (first + k + 1) (drop (k + 1) tiles)) (sym is)
+      ∙ ap (λ n. Some rows ∷ all_drawn_from draw n (drop (k + 1) tiles)) same)
+      ∙ ap (λ front. front ++ all_drawn_from draw (first + (k + 1)) (drop (k + 1) tiles))
+      (sym (take_more_set tiles k (Some rows) within))
+      ∙ ap (λ rest. take (k + 1) (set tiles k (Some rows)) ++ all_drawn_from draw (first + (k + 1)) rest)
+      (sym (drop-set-lt (k + 1) tiles k (Some rows) (omega arith)))
+
+  pub all_clean : (k : ℕ) (tiles : List Tile) → dirty tiles ≡ 0 → all_drawn_from draw k tiles ≡ tiles
+  all_clean k [] e = refl
+  all_clean k (Some rows ∷ tiles) e =
+      ap (λ rest. Some rows ∷ rest) (all_clean (k + 1) tiles (omega (arith, dirty_after_clean rows tiles)))
+  all_clean k (None ∷ tiles) e = absurd (omega (arith, dirty_after_dirty tiles))
+
+  -- lists one behind another
+  pub drawn_append : (k n : ℕ) (a b : List Tile) → n ≡ k + length a
+      → all_drawn_from draw k (a ++ b) ≡ all_drawn_from draw k a ++ all_drawn_from draw n b
+  drawn_append k n [] b e = let same : k ≡ n = omega arith in ap (λ m. all_drawn_from draw m b) same
+  drawn_append k n (Some rows ∷ a) b e =
+      ap (λ rest. Some rows ∷ rest) (drawn_append (k + 1) n a b (omega arith))
+  drawn_append k n (None ∷ a) b e = ap (λ rest. Some (draw k) ∷ rest) (drawn_append (k + 1) n a b (omega arith))
+
+  pub length-all_drawn_from : (k : ℕ) (tiles : List Tile) → length (all_drawn_from draw k tiles) ≡ length tiles
+  length-all_drawn_from k [] = refl
+  length-all_drawn_from k (Some rows ∷ tiles) = ap suc (length-all_drawn_from (k + 1) tiles)
+  length-all_drawn_from k (None ∷ tiles) = ap suc (length-all_drawn_from (k + 1) tiles)
+
+module _ (grid : ℕ → Grid) where
+  -- there are as many grids as dirty tiles
+  pub length-dirty_grids : (k : ℕ) (tiles : List Tile) → length (dirty_grids grid k tiles) ≡ dirty tiles
+  length-dirty_grids k [] = refl
+  length-dirty_grids k (Some rows ∷ tiles) =
+      length-dirty_grids (k + 1) tiles ∙ sym (dirty_after_clean rows tiles)
+  length-dirty_grids k (None ∷ tiles) = omega (arith, length-dirty_grids (k + 1) tiles, dirty_after_dirty tiles)
+
+  pub all_grids : (P : Grid → Type 0) (k : ℕ) (tiles : List Tile) → ((t : ℕ) → t < length tiles → P (grid (k + t)))
+      → All P (dirty_grids grid k tiles)
+  all_grids P k [] h = All-nil P
+  all_grids P k (Some rows ∷ tiles) h =
+      all_grids P (k + 1) tiles (λ t within.
+      let same : k + suc t ≡ k + 1 + t = omega arith in subst (λ n. P (grid n)) same (h (suc t) (omega arith)))
+  all_grids P k (None ∷ tiles) h =
+      let here : k + 0 ≡ k = omega arith in
+      All-cons P (grid k) (dirty_grids grid (k + 1) tiles) (subst (λ n. P (grid n)) here (h 0 (omega arith)))
+      (all_grids P (k + 1) tiles (λ t within.
+      let same : k + suc t ≡ k + 1 + t = omega arith in subst (λ n. P (grid n)) same (h (suc t) (omega arith))))
+
+-- the grids of tiles that are looked at one after another
+module _ (grid : ℕ → Grid) (first k : ℕ) (tiles : List Tile) (before all : List Grid) (within : k < length tiles)
+    (so_far : before ++ dirty_grids grid (first + k) (drop k tiles) ≡ all) where
+  pub grids_clean : (rows : List ℕ) → get_or tiles k (Some rows) ≡ Some rows
+      → before ++ dirty_grids grid (first + (k + 1)) (drop (k + 1) tiles) ≡ all
+  grids_clean rows read =
+      let same : first + (k + 1) ≡ first + k + 1 = omega arith in
+      ap (λ n. before ++ dirty_grids grid n (drop (k + 1) tiles)) same
+      ∙ ap (λ those. before ++ dirty_grids grid (first + k) those)
+      (sym (drop_more tiles k (Some rows) within ∙ ap (λ t. t ∷ drop (k + 1) tiles) read))
+      ∙ so_far
+
+  pub grids_dirty : (g : Grid) → get_or tiles k None ≡ None → g ≡ grid (first + k)
+      → (before ++ g ∷ []) ++ dirty_grids grid (first + (k + 1)) (drop (k + 1) tiles) ≡ all
+  grids_dirty g read is =
+      let same : first + (k + 1) ≡ first + k + 1 = omega arith in
+      append_assoc before (g ∷ []) (dirty_grids grid (first + (k + 1)) (drop (k + 1) tiles))
+      ∙ ap (λ n. before ++ g ∷ dirty_grids grid n (drop (k + 1) tiles)) same
+      ∙ ap (λ h. before ++ h ∷ dirty_grids grid (first + k + 1) (drop (k + 1) tiles)) is
+      ∙ ap (λ those. before ++ dirty_grids grid (first + k) those)
+      (sym (drop_more tiles k None within ∙ ap (λ t. t ∷ drop (k + 1) tiles) read))
+      ∙ so_far
+
+-- so many of the tiles are drawn, and so many of the grids of dirty tiles were taken for them
+pub record IsPutTo (draw : ℕ → List ℕ) (grid : ℕ → Grid) (first k next : ℕ) (old now : List Tile) : Type 0 where
+  pub drawn : all_drawn_from draw first old ≡ drawn_on draw first k now
+  pub rest : drop next (dirty_grids grid first old) ≡ dirty_grids grid (first + k) (drop k now)
+
+module _ (draw : ℕ → List ℕ) (grid : ℕ → Grid) (first : ℕ) (old : List Tile) where
+  pub none_put : IsPutTo draw grid first 0 0 old old
+  none_put = record {
+    drawn = none_yet draw first old;
+    rest = let same : first ≡ first + 0 = omega arith in ap (λ n. dirty_grids grid n old) same;
+  }
+
+  module _ (k next : ℕ) (now : List Tile) (so_far : IsPutTo draw grid first k next old now) (within : k < length now)
+      where
+    pub put_clean : (rows : List ℕ) → get_or now k (Some rows) ≡ Some rows
+        → IsPutTo draw grid first (k + 1) next old now
+    put_clean rows read = record {
+      drawn = so_far.drawn ∙ next_clean draw first k now rows within read;
+      rest =
+          let same : first + k + 1 ≡ first + (k + 1) = omega arith in
+          so_far.rest
+          ∙ ap (dirty_grids grid (first + k)) (drop_more now k (Some rows) within ∙ ap (λ t. t ∷ drop (k + 1) now) read)
+          ∙ ap (λ n. dirty_grids grid n (drop (k + 1) now)) same;
+    }
+
+    -- the grids that are left
+    grids_left : get_or now k None ≡ None → drop next (dirty_grids grid first old)
+        ≡ grid (first + k) ∷ dirty_grids grid (first + (k + 1)) (drop (k + 1) now)
+    grids_left read =
+        let same : first + k + 1 ≡ first + (k + 1) = omega arith in
+        so_far.rest
+        ∙ ap (dirty_grids grid (first + k)) (drop_more now k None within ∙ ap (λ t. t ∷ drop (k + 1) now) read)
+        ∙ ap (λ n. grid (first + k) ∷ dirty_grids grid n (drop (k + 1) now)) same
+
+    pub next_within : get_or now k None ≡ None → next < length (dirty_grids grid first old)
+    next_within read =
+        omega (arith, ap length (grids_left read), length-drop next (dirty_grids grid first old))
+
+    pub next_grid : get_or now k None ≡ None → (d : Grid) → get_or (dirty_grids grid first old) next d ≡ grid (first + k)
+    next_grid read d =
+        let there : next + 0 ≡ next = omega arith in
+        ap (λ n. get_or (dirty_grids grid first old) n d) (sym there)
+        ∙ sym (get_or-drop next (dirty_grids grid first old) 0 d) ∙ ap (λ gs. get_or gs 0 d) (grids_left read)
+
+    pub put_dirty : (rows : List ℕ) → get_or now k None ≡ None → rows ≡ draw (first + k)
+        → IsPutTo draw grid first (k + 1) (next + 1) old (set now k (Some rows))
+    put_dirty rows read is = record {
+      drawn = so_far.drawn ∙ next_dirty draw first k now rows within read is;
+      rest =
+          sym (drop-drop 1 next (dirty_grids grid first old)) ∙ ap (drop 1) (grids_left read)
+          ∙ ap (dirty_grids grid (first + (k + 1))) (sym (drop-set-lt (k + 1) now k (Some rows) (omega arith)));
+    }
+
+-- a row of tiles that is drawn in a list of them
+module _ (draw : ℕ → List ℕ) (first end : ℕ) (tiles part : List Tile) (order : first ≤ end)
+    (within : end ≤ length tiles) (is : part ≡ all_drawn_from draw first (mid_of first (end - first) tiles)) where
+  there : first + (end - first) ≡ end
+  there = omega arith
+
+  middle_length : length (mid_of first (end - first) tiles) ≡ end - first
+  middle_length =
+      length-take-le (end - first) (drop first tiles) (omega (arith, length-drop first tiles))
+
+  size : length part ≡ end - first
+  size =
+      ap length is ∙ length-all_drawn_from draw first (mid_of first (end - first) tiles) ∙ middle_length
+
+  split : drop first tiles ≡ mid_of first (end - first) tiles ++ drop end tiles
+  split =
+      sym (take-append-drop (end - first) (drop first tiles))
+      ∙ ap (λ rest. take (end - first) (drop first tiles) ++ rest)
+      (drop-drop (end - first) first tiles ∙ ap (λ n. drop n tiles) there)
+
+  pub row_drawn : drawn_on draw 0 first tiles ≡ drawn_on draw 0 end (put_mid first (end - first) tiles part)
+  row_drawn =
+      let begin : 0 + first ≡ first = omega arith in
+      let front = take first tiles in
+      let rest = all_drawn_from draw (0 + end) (drop end tiles) in
+      let now = put_mid first (end - first) tiles part in
+      let next : 0 + end ≡ 0 + first + length (mid_of first (end - first) tiles) = omega (arith, middle_length) in
+      ap (λ those. front ++ all_drawn_from draw (0 + first) those) split
+      ∙ ap (λ those. front ++ those)
+      (drawn_append draw (0 + first) (0 + end) (mid_of first (end - first) tiles) (drop end tiles) next)
+      ∙ ap (λ those. front ++ (those ++ rest))
+      (ap (λ n. all_drawn_from draw n (mid_of first (end - first) tiles)) begin ∙ sym is)
+      ∙ sym (append_assoc front part rest)
+      ∙ ap (λ those. those ++ rest)
+      (sym (take-put_mid first (end - first) tiles part end (omega (arith, size)) (omega arith)))
+      ∙ ap (λ those. take end now ++ all_drawn_from draw (0 + end) those)
+      (sym (drop-put_mid first (end - first) tiles part end (omega arith) (omega arith) size))

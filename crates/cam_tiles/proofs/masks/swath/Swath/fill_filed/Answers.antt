@@ -1,0 +1,59 @@
+use Rattle.std.proofs.Common.{List, [], ◌∷◌, ◌≤◌, length, ap, sym, subst, ◌∙◌, refl, arith}
+use Rattle.std.proofs.lemmas.List.{with_items_is}
+use Rattle.cam_units.specs.Boxes.{Holds}
+use Rattle.cam_units.specs.declared.point.Spot.{Spot}
+use Rattle.cam_objects.specs.Bounds.{bounds_of}
+use Rattle.cam_objects.specs.Leaves.{Filled, leaf}
+use Rattle.cam_objects.proofs.Canvases.{paints_missed}
+use Rattle.cam_tiles.specs.Machinery.Filing.{AreFiled}
+use Rattle.cam_tiles.specs.Machinery.Levels.{levels_of}
+use Rattle.cam_tiles.specs.Machinery.Masks.{IsIn, Marking, ink_of}
+use Rattle.cam_tiles.specs.Machinery.Swaths.{HasMask, grid_at, mask_at}
+use Rattle.cam_tiles.specs.Tiles.{centre_in}
+use Rattle.cam_tiles.proofs.PaintedSwaths.{part_laid_out, part_painted, passed_over, put_back}
+use Rattle.cam_tiles.proofs.masks.swath.Swath.fill_filed.Goals as goal
+
+pub fill_masks-requires-clause-filed : goal.fill_masks-requires-clause-filed
+fill_masks-requires-clause-filed c = λ k after until.
+    let s = c.self.inside in
+    let within : c.end_reached-end.result ≤ length s.masks.items =
+    subst (λ (ms : List Marking). c.end_reached-end.result ≤ length ms) (sym c.self.view_is)
+    c.end_reached-end.ensures.within in
+    let grid = (c.self.invariant.each k (omega arith)).0 in
+    let filed = c.requires.filed k
+    (subst (λ (ms : List Marking). HasMask ms k) c.self.view_is (grid.columns.0, grid.rows.0)) in
+    subst (λ (ms : List Marking). AreFiled c.args.region.contour.now (levels_of (grid_at ms k)) c.args.filed.now)
+    (sym (c.deref_mut.ensures.value ∙ c.self.view_is)) filed
+
+pub invariant_of-self : goal.invariant_of-self
+invariant_of-self c =
+    let s = c.self.inside in
+    let leaves = leaf (Filled c.args.region.contour.now) c.args.region.dark ∷ [] in
+    let new = c.fill_masks.new.masks in
+    let after = with_items_is s.masks new (c.fill_masks.ensures.size ∙ c.deref_mut.ensures.len) in
+    part_laid_out c.first_reached-first.result c.end_reached-end.result leaves s.masks.items _
+    (put_back c.first_reached-first.result c.end_reached-end.result leaves s.masks.items c.deref_mut.result.now new _
+    c.deref_mut.ensures.value after c.fill_masks.ensures)
+    s.pitch s.bounds s.before.items
+    (subst (λ (ms : List Marking). c.end_reached-end.result ≤ length ms) (sym c.self.view_is)
+    c.end_reached-end.ensures.within)
+    c.self.invariant
+
+pub returns : goal.returns
+returns c =
+    let s = c.self.inside in
+    let old = c.args.self.now in
+    let first = c.first_reached-first.result in
+    let end = c.end_reached-end.result in
+    let leaves = leaf (Filled c.args.region.contour.now) c.args.region.dark ∷ [] in
+    let new = c.fill_masks.new.masks in
+    let after = with_items_is s.masks new (c.fill_masks.ensures.size ∙ c.deref_mut.ensures.len) in
+    let part =
+    put_back first end leaves old c.deref_mut.result.now new _ (c.deref_mut.ensures.value ∙ c.self.view_is) after
+    c.fill_masks.ensures in
+    part_painted first end leaves old _ part
+    (λ k apart.
+    paints_missed (λ (m : Marking). IsIn m.grid) (λ (m : Marking). centre_in m.grid) ink_of (mask_at old k) leaves
+    (bounds_of leaves) refl
+    (passed_over first end old c.args.left c.args.right c.first_reached-first.ensures c.end_reached-end.ensures.apart
+    (λ (t : Spot). Holds (bounds_of leaves) t) c.requires.sides k apart))

@@ -1,0 +1,23 @@
+use Rattle.std.proofs.Common.{◌≡◌, ◌*ℤ◌, pos, rules, FitsSigned, w64, ap, subst, sym, ◌∙◌, arith}
+use Rattle.std.proofs.lemmas.Int.{ints, to_z-of_z}
+use Rattle.cam_tiles.specs.declared.grid.Grid.{Grid}
+use Rattle.cam_tiles.specs.Machinery.Swaths.{pitch_of}
+use Rattle.cam_tiles.proofs.GridLemmas.{twice_fits}
+use Rattle.cam_tiles.proofs.WindowLemmas.{accepted}
+use Rattle.cam_tiles.proofs.masks.swath.Swath.turn_to.Goals as goal
+
+pub overflow_mul-self : goal.overflow_mul-self
+overflow_mul-self c =
+    let limits = accepted c.args.window.now c.requires.accepted in
+    let step = ap (λ (g : Grid). g.step) c.grid-corner.ensures.value in
+    omega (arith, ints, step, limits.pitch)
+
+pub invariant_of-self-2 : goal.invariant_of-self-2
+invariant_of-self-2 c =
+    let limits = accepted c.args.window.now c.requires.accepted in
+    let step = ap (λ (g : Grid). g.step) c.grid-corner.ensures.value in
+    let short : FitsSigned w64 c.grid-corner.result.step = search rules in
+    let long : FitsSigned w64 (pos 64 *ℤ c.grid-corner.result.step) = omega (arith, ints, step, limits.pitch) in
+    let left : FitsSigned w64 c.grid-corner.result.first.x = search rules in
+    simp to_z-of_z (c.put_blanks-self-inside.ensures.laid (pitch_of c.grid-corner.result)
+    (ap pitch_of c.grid-corner.ensures.value))

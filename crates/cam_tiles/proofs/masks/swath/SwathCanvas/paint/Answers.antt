@@ -1,0 +1,53 @@
+use Rattle.std.proofs.Common.{List, [], ◌∷◌, ◌≤◌, ◌≤ℤ◌, length, ap, sym, subst, ◌∙◌}
+use Rattle.std.proofs.lemmas.List.{with_items_is}
+use Rattle.cam_units.specs.Boxes.{Holds}
+use Rattle.cam_units.specs.declared.bounds.Bounds.{Bounds}
+use Rattle.cam_units.specs.declared.point.Spot.{Spot}
+use Rattle.cam_objects.specs.Canvases.{leaf_of}
+use Rattle.cam_objects.proofs.Canvases.{paints_outside}
+use Rattle.cam_tiles.specs.Machinery.Masks.{IsIn, Marking, ink_of}
+use Rattle.cam_tiles.specs.Machinery.Swaths.{IsInSwath, PaintsSwath, ink_in, mask_at, place_in}
+use Rattle.cam_tiles.specs.Tiles.{centre_in}
+use Rattle.cam_tiles.proofs.PaintedSwaths.{part_laid_out, part_painted, passed_over, put_back}
+use Rattle.cam_tiles.proofs.masks.swath.SwathCanvas.paint.Goals as goal
+
+pub returns-in_default : goal.returns-in_default
+returns-in_default c =
+    paints_outside IsInSwath place_in ink_in c.args.self.now (leaf_of c.args.print) c.args.print.bounds c.requires.held
+    (λ column row there held.
+    subst (λ (b : Bounds). Holds b (place_in c.args.self.now column row)) c.in_default.is held)
+
+pub invariant_of-self : goal.invariant_of-self
+invariant_of-self c =
+    let s = c.self.inside in
+    let leaves = leaf_of c.args.print ∷ [] in
+    let new = c.paint_masks.new.masks in
+    let after = with_items_is s.masks new (c.paint_masks.ensures.size ∙ c.deref_mut.ensures.len) in
+    part_laid_out c.first_reached-first.result c.end_reached-end.result leaves s.masks.items _
+    (put_back c.first_reached-first.result c.end_reached-end.result leaves s.masks.items c.deref_mut.result.now new _
+    c.deref_mut.ensures.value after c.paint_masks.ensures)
+    s.pitch s.bounds s.before.items
+    (subst (λ (ms : List Marking). c.end_reached-end.result ≤ length ms) (sym c.self.view_is)
+    c.end_reached-end.ensures.within)
+    c.self.invariant
+
+pub returns : goal.returns
+returns c =
+    let s = c.self.inside in
+    let old = c.args.self.now in
+    let first = c.first_reached-first.result in
+    let end = c.end_reached-end.result in
+    let leaves = leaf_of c.args.print ∷ [] in
+    let new = c.paint_masks.new.masks in
+    let after = with_items_is s.masks new (c.paint_masks.ensures.size ∙ c.deref_mut.ensures.len) in
+    let part =
+    put_back first end leaves old c.deref_mut.result.now new _ (c.deref_mut.ensures.value ∙ c.self.view_is) after
+    c.paint_masks.ensures in
+    let sides : (t : Spot) → Holds c.args.print.bounds t → (c.in-Closed.low.x ≤ℤ t.x) × (t.x ≤ℤ c.in-Closed.high.x) =
+    λ t held. let between = subst (λ (b : Bounds). Holds b t) c.in-Closed.is held in (between.left, between.right) in
+    part_painted first end leaves old _ part
+    (λ k apart.
+    paints_outside (λ (m : Marking). IsIn m.grid) (λ (m : Marking). centre_in m.grid) ink_of (mask_at old k)
+    (leaf_of c.args.print) c.args.print.bounds c.requires.held
+    (passed_over first end old c.in-Closed.low.x c.in-Closed.high.x c.first_reached-first.ensures
+    c.end_reached-end.ensures.apart (λ (t : Spot). Holds c.args.print.bounds t) sides k apart))

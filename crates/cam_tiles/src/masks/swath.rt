@@ -1,0 +1,283 @@
+//! The tiles of a row of tiles that are drawn at once, as masks side by side.
+
+ghost use Rattle.std.specs.Prelude.{◌≡◌, ◌+◌, ◌<◌, ◌≤◌, ◌⊎◌, ℕ, ◌∷◌, [], OnOk, count_by, is_none, length, map, slice_index_or};
+ghost use Rattle.std.specs.Prelude.{pos, vec_capacity, ◌+ℤ◌, ◌*ℤ◌, ◌≤ℤ◌, ◌<ℤ◌, ℤ, Bool, true};
+ghost use Rattle.cam_units.specs.Boxes.{Holds};
+ghost use Rattle.cam_units.specs.declared.point.Spot.{Spot};
+ghost use Rattle.cam_objects.specs.Bounds.{bounds_of};
+ghost use Rattle.cam_objects.specs.Canvases.{IsSoundPrint, leaf_of};
+ghost use Rattle.cam_objects.specs.Leaves.{Filled, leaf};
+ghost use Rattle.cam_tiles.specs.declared.grid.Grid.{Grid};
+ghost use Rattle.cam_tiles.specs.Machinery.Filing.{AreFiled, IsOnBoardWhole};
+ghost use Rattle.cam_tiles.specs.Machinery.Levels.{levels_of};
+ghost use Rattle.cam_tiles.specs.Machinery.Masks.{IsBlank, IsIn};
+ghost use Rattle.cam_tiles.specs.declared.masks.swath.Pitch.{Pitch};
+ghost use Rattle.cam_tiles.specs.Machinery.Swaths.{
+  AreDrawn,
+  ArePaintedIn,
+  HasMask,
+  IsInSwath,
+  IsLaidOut,
+  IsRowOfTiles,
+  PaintsSwath,
+  dirty_grids,
+  grid_at,
+  ink_in,
+  mask_at,
+  pitch_of,
+  place_in,
+};
+ghost use Rattle.cam_tiles.specs.Picture.{accepts};
+ghost use Rattle.cam_tiles.specs.Tables.{all_drawn_from};
+ghost use Rattle.cam_tiles.specs.Tiles.{across, centre_in, grid_of, tile_rows};
+
+use crate::masks::filing::FiledSegment;
+use crate::masks::join::Join;
+use crate::masks::mask::Mask;
+use crate::painter::Tile;
+use crate::shown::Region;
+use crate::window::Window;
+use cam_objects::{Canvas, Print};
+use cam_units::Bounds;
+use std::alloc::{AllocError, Global};
+use std::marker::Model;
+
+/// The place of the first column of a row of tiles, and how far it is from one tile to the next, in half nm.
+#[derive(Clone, Copy)]
+pub(crate) struct Pitch {
+    left: i64,
+    stride: i64,
+}
+
+/// Masks of the dirty tiles of a row of tiles, from the left, which are painted at once: each leaf on those masks
+/// alone that its box may reach.
+#[derive(Drop)]
+pub(crate) struct Swath {
+    pitch: Pitch,
+    /// A box that holds the centres of all masks.
+    bounds: Bounds,
+    /// For each tile of the row, how many masks are of tiles before it.
+    before: Vec<u32>,
+    masks: Vec<Mask>,
+}
+
+impl Model for Swath {
+    ghost use Rattle.std.specs.Prelude.{List};
+    ghost use Rattle.cam_tiles.specs.Machinery.Masks.{Marking};
+    ghost use Rattle.cam_tiles.specs.Machinery.Swaths.{IsSwath};
+
+    ghost Value = { List Marking };
+
+    ghost view = { λ s. s.masks.items };
+
+    ghost invariant = { IsSwath };
+}
+
+impl Swath {
+    /// Without a mask.
+    pub(crate) fn new(alloc: Global) -> Swath {
+        Swath {
+            pitch: Pitch { left: 0, stride: 1 },
+            bounds: Bounds::Empty,
+            before: Vec::new(alloc),
+            masks: Vec::new(alloc),
+        }
+    }
+
+    /// Turns to the dirty ones of tiles that stand in a row of tiles from its left end on; the first of them has a
+    /// number. Their masks are blank. Memory is asked for where it has not been yet.
+    pub(crate) fn turn_to(
+        &mut self,
+        window: &Window,
+        first: u32,
+        tiles: &[Tile],
+    ) -> Result<(), AllocError>
+        requires accepted { accepts window.now ≡ true }
+        requires row { IsRowOfTiles window.now first tiles.now }
+        ensures grids { OnOk result
+            (map (λ m. m.grid) self.new ≡ dirty_grids (grid_of window.now) first tiles.now) }
+        ensures blank { OnOk result ((k : ℕ) → IsBlank (mask_at self.new k)) }
+    {
+        self.before.clear();
+        self.masks.clear();
+        self.before.reserve(tiles.len())?;
+        self.masks.reserve(tiles.len())?;
+        let corner = window.grid(first);
+        self.pitch = Pitch {
+            left: corner.first.x,
+            stride: 64 * corner.step,
+        };
+        self.bounds = put_blanks(window, first, tiles, &mut self.before, &mut self.masks);
+        Ok(())
+    }
+
+    /// Draws the dirty ones of tiles: each takes up the rows of the next mask.
+    pub(crate) fn put(&self, tiles: &mut [Tile])
+        requires { count_by is_none tiles.old ≤ length self.now }
+        ensures { (image : Spot → Bool) (grid : ℕ → Grid) (first : ℕ)
+            → AreDrawn image (dirty_grids grid first tiles.old) self.now
+            → tiles.new ≡ all_drawn_from (λ k. tile_rows image (grid k)) first tiles.old }
+    {
+        let mut next = 0;
+        for k in 0..tiles.len() {
+            if tiles[k].is_none() {
+                tiles[k] = Some(self.masks[next].rows());
+                next += 1;
+            }
+        }
+    }
+
+    /// Joins the masks with the inside of a region whose segments are filed for their rows; it lies between two places
+    /// across, in half nm.
+    pub(crate) fn fill_filed(
+        &mut self,
+        region: Region<'_>,
+        filed: &[FiledSegment],
+        left: i64,
+        right: i64,
+    )
+        requires contour { IsOnBoardWhole region.contour.now }
+        requires filed { (k : ℕ) → HasMask self.old k
+            → AreFiled region.contour.now (levels_of (grid_at self.old k)) filed.now }
+        requires sides { (s : Spot) → Holds (bounds_of (leaf (Filled region.contour.now) region.dark ∷ [])) s
+            → (left ≤ℤ s.x) × (s.x ≤ℤ right) }
+        ensures { PaintsSwath self.old (leaf (Filled region.entry.contour.now) region.entry.dark ∷ []) self.new }
+    {
+        let first = self.first_reached(left);
+        let end = self.end_reached(right);
+        fill_masks(&mut self.masks, first, end, region, filed);
+    }
+
+    /// The number of the first mask that may have a centre at a place across or right of it, in half nm.
+    fn first_reached(&self, x: i64) -> usize
+        ensures { (k column row : ℕ) → k < result → IsIn (grid_at self.now k) column row
+            → (centre_in (grid_at self.now k) column row).x <ℤ x }
+    {
+        if x < self.pitch.left {
+            return 0;
+        }
+        let tile = self.pitch.tile_at(x, self.before.len());
+        masks_before(&self.before, tile, &self.masks)
+    }
+
+    /// The number behind the last mask that may have a centre at a place across or left of it, in half nm.
+    fn end_reached(&self, x: i64) -> usize
+        ensures within { result ≤ length self.now }
+        ensures apart { (k column row : ℕ) → result ≤ k → IsIn (grid_at self.now k) column row
+            → x <ℤ (centre_in (grid_at self.now k) column row).x }
+    {
+        let tile = self.pitch.tile_at(x, self.before.len());
+        masks_before(&self.before, tile + 1, &self.masks)
+    }
+}
+
+impl Canvas for Swath {
+    ghost has = { IsInSwath };
+
+    ghost place = { place_in };
+
+    ghost ink = { ink_in };
+
+    fn bounds(&self) -> Bounds {
+        self.bounds
+    }
+
+    fn paint(&mut self, print: Print<'_>) {
+        let Bounds::Closed { low, high } = print.bounds else {
+            return;
+        };
+        let first = self.first_reached(low.x);
+        let end = self.end_reached(high.x);
+        paint_masks(&mut self.masks, first, end, print);
+    }
+}
+
+impl Pitch {
+    /// The tile of the row, of so many, that a place is in; left of them the first, and right of them their number.
+    fn tile_at(self, x: i64, tiles: usize) -> usize
+        requires { pos 1 ≤ℤ self.stride }
+        ensures within { result ≤ tiles }
+        ensures after { self.left ≤ℤ x → (self.left +ℤ pos result *ℤ self.stride) ≤ℤ x }
+        ensures before { result < tiles → x <ℤ (self.left +ℤ pos (result + 1) *ℤ self.stride) }
+    {
+        if x < self.left {
+            return 0;
+        }
+        let tile = x.abs_diff(self.left) / self.stride.unsigned_abs();
+        tile.min(tiles as u64) as usize
+    }
+}
+
+/// How many of some masks are of tiles before one, by what is kept of these; all of them behind the last one.
+fn masks_before(before: &[u32], tile: usize, masks: &[Mask]) -> usize
+    ensures { result ≡ slice_index_or before.now tile (length masks.now) }
+{
+    if tile < before.len() {
+        before[tile] as usize
+    } else {
+        masks.len()
+    }
+}
+
+/// Puts down a blank mask for each dirty one of tiles that stand in a row of tiles, and how many masks are of tiles
+/// before each of them. Answers a box that holds the centres of all masks, in half nm.
+fn put_blanks(
+    window: &Window,
+    first: u32,
+    tiles: &[Tile],
+    before: &mut Vec<u32>,
+    masks: &mut Vec<Mask>,
+) -> Bounds
+    requires accepted { accepts window.now ≡ true }
+    requires row { IsRowOfTiles window.now first tiles.now }
+    requires none_before { before.old.items ≡ [] }
+    requires no_masks { masks.old.items ≡ [] }
+    requires room_before { length tiles.now ≤ vec_capacity before.old }
+    requires room { length tiles.now ≤ vec_capacity masks.old }
+    ensures grids { map (λ m. m.grid) masks.new.items ≡ dirty_grids (grid_of window.now) first tiles.now }
+    ensures blank { (k : ℕ) → IsBlank (mask_at masks.new.items k) }
+    ensures laid { (pitch : Pitch) → pitch ≡ pitch_of (grid_of window.now first)
+        → IsLaidOut pitch result before.new.items (length masks.new.items) (grid_at masks.new.items) }
+{
+    let mut bounds = Bounds::Empty;
+    for (tile, drawn) in tiles.iter().enumerate() {
+        before.push_reserved(masks.len() as u32);
+        if drawn.is_none() {
+            let mask = Mask::blank(window.grid(first + tile as u32));
+            bounds = bounds.joined(mask.grid_bounds());
+            masks.push_reserved(mask);
+        }
+    }
+    bounds
+}
+
+/// Paints a leaf on the masks from one number to another.
+fn paint_masks(masks: &mut [Mask], first: usize, end: usize, print: Print<'_>)
+    requires end { end ≤ length masks.old }
+    requires print { IsSoundPrint print }
+    ensures { ArePaintedIn first end (leaf_of print.entry ∷ []) masks.old masks.new }
+{
+    for k in first..end {
+        masks[k].paint(print);
+    }
+}
+
+/// Joins the masks from one number to another with the inside of a region whose segments are filed for their rows.
+fn fill_masks(
+    masks: &mut [Mask],
+    first: usize,
+    end: usize,
+    region: Region<'_>,
+    filed: &[FiledSegment],
+)
+    requires end { end ≤ length masks.old }
+    requires contour { IsOnBoardWhole region.contour.now }
+    requires filed { (k : ℕ) → first ≤ k → k < end
+        → AreFiled region.contour.now (levels_of (grid_at masks.old k)) filed.now }
+    ensures { ArePaintedIn first end (leaf (Filled region.entry.contour.now) region.entry.dark ∷ [])
+        masks.old masks.new }
+{
+    for k in first..end {
+        masks[k].fill_filed(region.contour, filed, Join::inked(region.dark));
+    }
+}
