@@ -1,22 +1,25 @@
 /* camplot.h: a CAM station for printed circuit boards, as a library for C.
  *
- * A station has a board of named layers, a window with tiles of 64 by 64 pixels of each layer in it, and the history of
- * what was done to the board. It is driven by the lines that a script of the program `camplot` has, and answers each as
- * the program does; but the bytes of a file are handed in, and those of a plot or a text handed out, and no file is
- * touched. docs/library.md shows how to build against it, and docs/refusals.md explains the numbers of refusals.
+ * A station has a board of named layers, a window with tiles of 64 by 64 pixels of each layer in it, and the history
+ * of what was done to the board. It is driven by the lines that a script of the program `camplot` has, and answers
+ * each as the program does; but the bytes of a file are handed in, and those of a plot or a text handed out, and no
+ * file is touched. docs/library.md shows how to build against it, and docs/refusals.md explains the numbers of
+ * refusals.
  *
  * What each call does is proved, under what stands here as a promise of the caller's. Nothing can check these:
  *
- *  - A pointer is null, or points to as many bytes as this page says, which nobody else writes while the call runs. Rooms
- *    that are written overlap nothing else that is passed. A handle is one that camplot_open gave and camplot_close did not take.
- *  - Calls for one station come one after another: by one thread at a time, or in an order that a lock or a join makes. A
- *    station stays in the thread that opened it. Two stations are two: calls for them may run at once, each in its thread.
+ *  - A pointer is null, or points to as many bytes as this page says, which nobody else writes while the call runs.
+ *    Rooms that are written overlap nothing else that is passed. A handle is one that camplot_open gave and
+ *    camplot_close did not take.
+ *  - Calls for one station come one after another: by one thread at a time, or in an order that a lock or a join
+ *    makes. A station stays in the thread that opened it. Two stations are two: calls for them may run at once, each
+ *    in its thread.
  *  - No call is made from a signal handler, or in a child that a process with threads has forked.
  *  - `malloc`, `realloc` and `free` are of one allocator, which aligns a block as the C standard asks.
  *
- * The library keeps no pointer of the caller's after a call, and has no state but its stations. Each function looks for
- * null: where a pointer may not be null and is, or a length is past 2^63 - 1, nothing is done, and the answer is 90.
- */
+ * The library keeps no pointer of the caller's after a call, and has no state but its stations. Each function looks
+ * for null: where a pointer may not be null and is, or a length is past 2^63 - 1, nothing is done, and the answer is
+ * 90. */
 #ifndef CAMPLOT_H
 #define CAMPLOT_H
 
@@ -35,43 +38,46 @@ typedef struct camplot_station camplot_station;
 #define CAMPLOT_NO_POINTER 90 /* a pointer is null that may not be, or a length is past 2^63 - 1 */
 #define CAMPLOT_NOT_CLEAN 91  /* the tile is dirty, or there is no such tile, layer or window */
 
-/* Opens a station that can take back `depth` edits and groups, from 1 to 1,000, and puts its handle into *station. Where
- * there is none *station is null, and the answer is 50 for another depth, or 30 where memory was refused. The caller owns
- * the station until it gives it to camplot_close. `station` may not be null; what *station was does not matter. */
+/* Opens a station that can take back `depth` edits and groups, from 1 to 1,000, and puts its handle into *station.
+ * Where there is none *station is null, and the answer is 50 for another depth, or 30 where memory was refused. The
+ * caller owns the station until it gives it to camplot_close. `station` may not be null; what *station was does not
+ * matter. */
 uint32_t camplot_open(uint32_t depth, camplot_station **station);
 
 /* Closes a station and gives its memory back. Null is no station, and nothing is done. */
 void camplot_close(camplot_station *station);
 
-/* Applies one line of a script, of `line_length` bytes, without the line feed at its end. For a `load` the bytes of its file
- * are handed in: `file` points to `file_length` of them. For any other line `file` is not looked at, and may be null; a
- * `load` whose `file` is null, or longer than 268,435,456 bytes, is refused 82, as a file that cannot be read. The path in
- * a `load`, a `plot` or a `write` has to be a path by the grammar, but is not looked at.
+/* Applies one line of a script, of `line_length` bytes, without the line feed, or carriage return and line feed, at
+ * its end. For a `load` the bytes of its file are handed in: `file` points to `file_length` of them. For any other
+ * line `file` is not looked at, and may be null; a `load` whose `file` is null, or longer than 268,435,456 bytes, is
+ * refused 82, as a file that cannot be read. The path in a `load`, a `plot` or a `write` has to be a path by the
+ * grammar, but is not looked at.
  *
- * Answers 0 where the line was accepted, and also where it has no reply, as a comment, else the number of the refusal. The reply, and the
- * bytes of a plot or a text, can be read until the next line is applied or tiles are redrawn. A line that is refused
- * changes nothing, but that a plot keeps the tiles that it drew. `station` and `line` may not be null; neither is kept. */
+ * Answers 0 where the line was accepted, and also where it has no reply, as a comment, else the number of the
+ * refusal. The reply, and the bytes of a plot or a text, can be read until the next line is applied or tiles are
+ * redrawn. A line that is refused changes nothing, but that a plot keeps the tiles that it drew. `station` and `line`
+ * may not be null; neither is kept. */
 uint32_t camplot_apply(camplot_station *station, const uint8_t *line, size_t line_length, const uint8_t *file,
                        size_t file_length);
 
-/* Draws at most `at_most` dirty tiles, by layer and then by number, as the line `redraw` does, and leaves its reply, which
- * tells how many were drawn. Answers 0, or 84 where no window was set. `station` may not be null. */
+/* Draws at most `at_most` dirty tiles, by layer and then by number, as the line `redraw` does, and leaves its reply,
+ * which tells how many were drawn. Answers 0, or 84 where no window was set. `station` may not be null. */
 uint32_t camplot_redraw(camplot_station *station, uint32_t at_most);
 
-/* Tells how many bytes the line of the last reply has, as `ok 1` with a line feed, and copies it into `room`, which has
- * `capacity` bytes, where it fits; else `room` stays as it is, and may be null. 0 where the last line had no reply, and
- * where `station` is null. 160 bytes always suffice. */
+/* Tells how many bytes the line of the last reply has, as `ok 1` with a line feed, and copies it into `room`, which
+ * has `capacity` bytes, where it fits; else `room` stays as it is, and may be null. 0 where the last line had no
+ * reply, and where `station` is null. 160 bytes always suffice. */
 size_t camplot_reply(camplot_station *station, uint8_t *room, size_t capacity);
 
-/* The same for the bytes that the last line had for a file: a PBM image after a `plot` that was accepted, and the canonical
- * text after such a `write`. 0 after any other line. They are the caller's once they are copied. */
+/* The same for the bytes that the last line had for a file: a PBM image after a `plot` that was accepted, and the
+ * canonical text after such a `write`. 0 after any other line. They are the caller's once they are copied. */
 size_t camplot_file(camplot_station *station, uint8_t *room, size_t capacity);
 
-/* Copies the 512 bytes of a clean tile: `rows` has room for 64 rows from the top, and bit i of a row, counted from the
- * least, is the pixel in column i of the tile, 1 for black. Layers are counted from 0 in the order of their loads, tiles
- * from 0 at the top left of the window, row by row; a window of W by H pixels has (W + 63) / 64 of them side by side. Bits
- * past the window's edge are 0. Answers 0, or 91 where the tile is dirty, or there is no such tile, layer or window; then
- * `rows` stays as it is. Neither pointer may be null. */
+/* Copies the 512 bytes of a clean tile: `rows` has room for 64 rows from the top, and bit i of a row, counted from
+ * the least, is the pixel in column i of the tile, 1 for black. Layers are counted from 0 in the order of their
+ * loads, tiles from 0 at the top left of the window, row by row; a window of W by H pixels has (W + 63) / 64 of them
+ * side by side. Bits past the window's edge are 0. Answers 0, or 91 where the tile is dirty, or there is no such
+ * tile, layer or window; then `rows` stays as it is. Neither pointer may be null. */
 uint32_t camplot_tile(camplot_station *station, uint32_t layer, uint32_t tile, uint64_t *rows);
 
 #ifdef __cplusplus

@@ -1,7 +1,9 @@
 /* Loads a board from memory, plots a tile after a move, takes the move back, and compares. It says what it did, and ends
  * with 0 where the tile came back bit for bit.
  *
- *     gcc -std=c11 -I include -o page examples/c/page.c crates/camplot/out/libcamplot.a */
+ *     gcc -std=c11 -I include -o page examples/c/page.c crates/camplot/out/libcamplot.a
+ *
+ * The demo leaves the library there. */
 #include <camplot.h>
 #include <stdio.h>
 #include <stdlib.h>

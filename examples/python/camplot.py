@@ -63,7 +63,8 @@ class Station:
 
     def _copied(self, function):
         room = ctypes.create_string_buffer(max(function(self.handle, None, 0), 1))
-        return room.raw[: function(self.handle, room, len(room))]
+        length = function(self.handle, room, len(room))
+        return room.raw[:length]
 
     @property
     def reply(self):

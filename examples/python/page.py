@@ -32,11 +32,11 @@ def main():
         moved = tile()
         apply("undo")
         after = tile()
+        apply("write top board.gbr")
         counts = [sum(row.bit_count() for row in rows) for rows in (before, moved, after)]
         print("the tile has {}, then {}, then {} black pixels".format(*counts))
         print(f"after the move it is {'the same' if moved == before else 'another'}, and taken back", end=" ")
         print("the same" if after == before else "another")
-        apply("write top board.gbr")
         print(f"its text has {len(station.file)} bytes")
         return 0 if moved != before and after == before else 1
 

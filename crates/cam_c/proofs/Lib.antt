@@ -1,3 +1,4 @@
 pub mod Steps
 pub mod Values
 pub mod Results
+mod Unopened

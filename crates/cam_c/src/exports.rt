@@ -99,7 +99,10 @@ pub unsafe extern "C" fn camplot_apply(
     if file_length > LONGEST {
         return NO_POINTER;
     }
-    session.load(words, unsafe { std::slice::from_raw_parts(file, file_length) })
+    session.load(
+        words,
+        unsafe { std::slice::from_raw_parts(file, file_length) },
+    )
 }
 
 /// Draws dirty tiles.
@@ -184,5 +187,9 @@ pub unsafe extern "C" fn camplot_tile(
         return NO_POINTER;
     }
     let session = unsafe { &mut *(station as *mut Session) };
-    session.copy_tile(layer, tile, unsafe { std::slice::from_raw_parts_mut(rows, 64) })
+    session.copy_tile(
+        layer,
+        tile,
+        unsafe { std::slice::from_raw_parts_mut(rows, 64) },
+    )
 }

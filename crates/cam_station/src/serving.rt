@@ -143,12 +143,7 @@ fn write(station: &mut Station, name: Name, path: &FilePath) -> Served
 /// Runs one line of a script, as [`run`](crate::run) does, for a caller who hands in the bytes of the file that a `load`
 /// reads, and has those back that a `plot` or a `write` has for its file. No path is looked at. A `load` without bytes, or
 /// with more than 268,435,456, is refused 82.
-pub fn apply_line(
-    alloc: Global,
-    station: &mut Station,
-    line: &[u8],
-    file: Option<&[u8]>,
-) -> Served
+pub fn apply_line(alloc: Global, station: &mut Station, line: &[u8], file: Option<&[u8]>) -> Served
     ensures { (w : World) × IsServed (option_copied file.entry) (turn station.old line.now w)
         station.new result.reply result.file }
 {

@@ -222,8 +222,16 @@ module _ {M : Type 1} {𝓤 : Ura M} (𝓛 : Logic 𝓤) (𝓜 : Model 𝓤 𝓛
         (lends_shr_slice 𝓛 u8 (named 2) (δ ∷ []) q' ys d e (fm, room') (δ ∷ []) ((uint_Copied 𝓛 w8).shares q' (δ ∷ [])) ((δ ∷ [], full_share) ∷ []) (Incl-refl (δ ∷ [])) (Incl-refl (δ ∷ []))) $ await ! tt $ split ! $ split ! $
         -- [the file; its lender's part; the token of δ; the line; its lender's part; the token of β; the loan; its lender's part; the token of α; the right to free]
         let G = triple_of 𝓛 h.signature (h.spec 𝓛 𝓜.mem 𝓡.returns) in
-        let z : G.Ghost = (((α ∷ [], (β ∷ [], (δ ∷ [], tt))), (full_share, (full_share, (full_share, tt))), tt,
-        (record { ref_ptr = (b, o); ghost_name = γ; now = s }, (record { ref_ptr = (b', o'); now = xs }, (record { ref_ptr = (d, e); now = ys }, tt))), (vptr b o ∷ [], (slice_val (b', o') x ∷ [], (slice_val (d, e) y ∷ [], tt)))), tt) in
+        let z : G.Ghost = (
+          (
+            (α ∷ [], (β ∷ [], (δ ∷ [], tt))),
+            (full_share, (full_share, (full_share, tt))),
+            tt,
+            (record { ref_ptr = (b, o); ghost_name = γ; now = s }, (record { ref_ptr = (b', o'); now = xs }, (record { ref_ptr = (d, e); now = ys }, tt))),
+            (vptr b o ∷ [], (slice_val (b', o') x ∷ [], (slice_val (d, e) y ∷ [], tt))),
+          ),
+          tt,
+        ) in
         nothing ! $ move ! (1 ∷ 0 ∷ []) $ join ! $ move ! (3 ∷ 0 ∷ []) $ join ! $ move ! (5 ∷ 0 ∷ []) $ join ! $
         nothing ! $ move ! (3 ∷ 0 ∷ []) $ join ! $ move ! (4 ∷ 0 ∷ []) $ join ! $ move ! (5 ∷ 0 ∷ []) $ join ! $ join ! $
         nothing ! $ move ! (1 ∷ 0 ∷ []) $ use2 𝓛 (raw (G.pre z)) (id⊢ 𝓤 _) $
