@@ -1,6 +1,6 @@
 -- the entries of a band, painted one after another on a swath
 use Rattle.std.proofs.Common.{◌≡◌, ℕ, ◌+◌, ◌/◌, ◌%◌, ◌<◌, ◌≤ℤ◌, List, length, get_or, take}
-use Rattle.std.proofs.Common.{refl, sym, ap, subst, ◌∙◌, arith}
+use Rattle.std.proofs.Common.{refl, ap, subst, ◌∙◌, arith}
 use Rattle.std.proofs.lemmas.Int.{ints}
 use Rattle.cam_units.specs.Boxes.{Holds}
 use Rattle.cam_units.specs.declared.bounds.Bounds.{Bounds}
@@ -13,8 +13,7 @@ use Rattle.cam_tiles.specs.declared.grid.Grid.{Grid}
 use Rattle.cam_tiles.specs.declared.index.Entry.{Entry}
 use Rattle.cam_tiles.specs.declared.levels.Levels.{Levels}
 use Rattle.cam_tiles.specs.declared.masks.filing.FiledSegment.{FiledSegment}
-use Rattle.cam_tiles.specs.Machinery.Indexes.{IsEntry, IsEntryFor, IsOnLevels, PaintAlike, band_leaves}
-use Rattle.cam_tiles.specs.Machinery.Levels.{levels_of}
+use Rattle.cam_tiles.specs.Machinery.Indexes.{IsEntryFor, IsOnLevels, PaintAlike, band_leaves}
 use Rattle.cam_tiles.specs.Machinery.Masks.{Marking}
 use Rattle.cam_tiles.specs.Machinery.Swaths.{HasLevels, IsInSwath, PaintsSwath, grid_at, ink_in, place_in}
 use Rattle.cam_tiles.specs.Tiles.{centre_in}

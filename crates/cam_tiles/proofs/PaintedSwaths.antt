@@ -15,8 +15,8 @@ use Rattle.cam_tiles.specs.declared.levels.Levels.{Levels}
 use Rattle.cam_tiles.specs.declared.masks.swath.Pitch.{Pitch}
 use Rattle.cam_tiles.specs.Machinery.Levels.{levels_of}
 use Rattle.cam_tiles.specs.Machinery.Masks.{IsBlank, IsIn, IsMask, Marking, PaintsMask, ink_of}
-use Rattle.cam_tiles.specs.Machinery.Swaths.{AreDrawn, ArePaintedIn, HasLevels, HasMask, IsDrawn, IsInSwath, IsLaidOut}
-use Rattle.cam_tiles.specs.Machinery.Swaths.{PaintsSwath, grid_at, ink_in, mask_at, no_grid, no_mask, place_in}
+use Rattle.cam_tiles.specs.Machinery.Swaths.{AreDrawn, ArePaintedIn, HasLevels, HasMask, IsDrawn, IsLaidOut}
+use Rattle.cam_tiles.specs.Machinery.Swaths.{PaintsSwath, grid_at, mask_at, no_grid, no_mask}
 use Rattle.cam_tiles.specs.Tiles.{IsGrid, centre_in, tile_rows}
 use Rattle.cam_tiles.proofs.MaskWords.{rows_of_marks}
 use Rattle.cam_tiles.proofs.PaintedMasks.{clear_if_unmarked}
@@ -36,33 +36,33 @@ swath_painted leaves old new h = record {
 }
 
 module _ (first end : ℕ) (leaves : List Leaf) (old new : List Marking) (part : ArePaintedIn first end leaves old new)
-    where
-  -- the masks that are passed over have to stay as they are
-  pub part_painted : ((k : ℕ) → (k < first) ⊎ (end ≤ k) → PaintsMask (mask_at old k) leaves (mask_at old k))
-      → PaintsSwath old leaves new
-  part_painted missed =
-      let stays : (k : ℕ) → (k < first) ⊎ (end ≤ k) → PaintsMask (mask_at old k) leaves (mask_at new k) = λ k apart.
-      subst (PaintsMask (mask_at old k) leaves) (sym (part.others k apart)) (missed k apart) in
-      swath_painted leaves old new (λ k.
-      by_band first end k (λ early. stays k (inl early)) (part.each k) (λ late. stays k (inr late)))
+  where
+    -- the masks that are passed over have to stay as they are
+    pub part_painted : ((k : ℕ) → (k < first) ⊎ (end ≤ k) → PaintsMask (mask_at old k) leaves (mask_at old k))
+        → PaintsSwath old leaves new
+    part_painted missed =
+        let stays : (k : ℕ) → (k < first) ⊎ (end ≤ k) → PaintsMask (mask_at old k) leaves (mask_at new k) = λ k apart.
+        subst (PaintsMask (mask_at old k) leaves) (sym (part.others k apart)) (missed k apart) in
+        swath_painted leaves old new (λ k.
+        by_band first end k (λ early. stays k (inl early)) (part.each k) (λ late. stays k (inr late)))
 
-  -- no grid changes
-  part_grids : ((k : ℕ) → k < length old → IsGrid (grid_at old k)) → end ≤ length old
-      → (k : ℕ) → grid_at old k ≡ grid_at new k
-  part_grids grids within k =
-      let kept : (k < first) ⊎ (end ≤ k) → grid_at old k ≡ grid_at new k = λ apart.
-      ap (λ (m : Marking). m.grid) (sym (part.others k apart)) in
-      by_band first end k (λ early. kept (inl early))
-      (λ after until. sym (painted_grid leaves (mask_at old k) (mask_at new k) (grids k (omega arith)) (part.each k after until)))
-      (λ late. kept (inr late))
+    -- no grid changes
+    part_grids : ((k : ℕ) → k < length old → IsGrid (grid_at old k)) → end ≤ length old
+        → (k : ℕ) → grid_at old k ≡ grid_at new k
+    part_grids grids within k =
+        let kept : (k < first) ⊎ (end ≤ k) → grid_at old k ≡ grid_at new k = λ apart.
+        ap (λ (m : Marking). m.grid) (sym (part.others k apart)) in
+        by_band first end k (λ early. kept (inl early))
+        (λ after until. sym (painted_grid leaves (mask_at old k) (mask_at new k) (grids k (omega arith)) (part.each k after until)))
+        (λ late. kept (inr late))
 
-  pub part_laid_out : (p : Pitch) (box : Bounds) (before : List ℕ) → end ≤ length old
-      → IsLaidOut p box before (length old) (grid_at old) → IsLaidOut p box before (length new) (grid_at new)
-  part_laid_out p box before within laid =
-      let same = part_grids (λ k inside. (laid.each k inside).0) within in
-      let of : (n : ℕ) → length new ≡ n → IsLaidOut p box before n (grid_at old) → IsLaidOut p box before (length new) (grid_at old) =
-      λ n e h. subst (λ m. IsLaidOut p box before m (grid_at old)) (sym e) h in
-      subst (IsLaidOut p box before (length new)) (λ i k. same k i) (of (length old) part.size laid)
+    pub part_laid_out : (p : Pitch) (box : Bounds) (before : List ℕ) → end ≤ length old
+        → IsLaidOut p box before (length old) (grid_at old) → IsLaidOut p box before (length new) (grid_at new)
+    part_laid_out p box before within laid =
+        let same = part_grids (λ k inside. (laid.each k inside).0) within in
+        let of : (n : ℕ) → length new ≡ n → IsLaidOut p box before n (grid_at old) → IsLaidOut p box before (length new) (grid_at old) =
+        λ n e h. subst (λ m. IsLaidOut p box before m (grid_at old)) (sym e) h in
+        subst (IsLaidOut p box before (length new)) (λ i k. same k i) (of (length old) part.size laid)
 
 -- the masks that are passed over hold no place between two across
 pub passed_over : (first end : ℕ) (masks : List Marking) (left right : ℤ)

@@ -1,6 +1,6 @@
 -- Swaths: which masks are of tiles before each tile of a row of them.
-use Rattle.std.proofs.Common.{◌≡◌, ◌⊎◌, ℕ, zero, suc, ◌+◌, ◌*◌, ◌/◌, ◌%◌, ◌<◌, ◌≤◌, ℤ, pos, negsuc, ◌+ℤ◌, ◌-ℤ◌, ◌*ℤ◌, ◌≤ℤ◌, ◌<ℤ◌}
-use Rattle.std.proofs.Common.{List, [], ◌∷◌, ◌++◌, length, get_or, refl, sym, ap, subst, ◌∙◌, inl, inr, min, ◌-◌, arith}
+use Rattle.std.proofs.Common.{◌≡◌, ℕ, ◌+◌, ◌*◌, ◌/◌, ◌%◌, ◌<◌, ◌≤◌, ℤ, pos, negsuc, ◌+ℤ◌, ◌-ℤ◌, ◌*ℤ◌, ◌≤ℤ◌, ◌<ℤ◌}
+use Rattle.std.proofs.Common.{List, [], ◌∷◌, ◌++◌, length, get_or, sym, ap, subst, ◌∙◌, inl, inr, min, ◌-◌, arith}
 use Rattle.std.proofs.lemmas.Bool.{cases_lt}
 use Rattle.std.proofs.lemmas.Int.{ints}
 use Rattle.std.proofs.lemmas.List.{get_or_append_left, get_or_default, get_or_past, get_or_push, length_push}
@@ -19,7 +19,7 @@ use Rattle.cam_tiles.specs.Machinery.Levels.{levels_of}
 use Rattle.cam_tiles.specs.Machinery.Masks.{HoldsCentres, IsBlank, IsIn, Marking}
 use Rattle.cam_tiles.specs.Machinery.Swaths.{IsInSwath, IsLaidOut, grid_at, mask_at, no_mask, pitch_of, place_in}
 use Rattle.cam_tiles.specs.Picture.{middle}
-use Rattle.cam_tiles.specs.Tiles.{IsGrid, across, centre_in, grid_of, left, top}
+use Rattle.cam_tiles.specs.Tiles.{IsGrid, across, centre_in, grid_of, left}
 use Rattle.cam_tiles.proofs.GridBoxes.{steps_on, steps_up}
 use Rattle.cam_tiles.proofs.GridLemmas.{further}
 
@@ -167,13 +167,13 @@ module _ (p : Pitch) (box : Bounds) (before : List ℕ) (masks : List Marking)
       stride = laid.stride;
       each = λ k within. elim (cases_lt k (length masks)) [
         | inl under ↦ subst (λ (g : Grid). IsGrid g × HoldsCentres wider g) (sym (stays k under)) (
-            (laid.each k under).0,
-            (λ column row there. first _ ((laid.each k under).1 column row there)),
-          )
+          (laid.each k under).0,
+          (λ column row there. first _ ((laid.each k under).1 column row there)),
+        )
         | inr over ↦ subst (λ (g : Grid). IsGrid g × HoldsCentres wider g) (sym (is_last k over within)) (
-            grid,
-            (λ column row there. second _ (held column row there)),
-          )
+          grid,
+          (λ column row there. second _ (held column row there)),
+        )
       ];
       few = λ tile. elim (cases_lt tile (length before)) [
         | inl inside ↦ omega (arith, one_more, kept_before tile inside, laid.few tile)

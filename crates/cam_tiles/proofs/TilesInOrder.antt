@@ -1,5 +1,5 @@
 -- Dirty tiles that are drawn one after another.
-use Rattle.std.proofs.Common.{◌≡◌, ℕ, zero, suc, ◌+◌, ◌-◌, ◌<◌, ◌≤◌, List, [], ◌∷◌, ◌++◌, length, take, drop, set, get_or, length-drop}
+use Rattle.std.proofs.Common.{◌≡◌, ℕ, suc, ◌+◌, ◌-◌, ◌<◌, ◌≤◌, List, [], ◌∷◌, ◌++◌, length, take, drop, set, get_or, length-drop}
 use Rattle.std.proofs.Common.{Some, None, Bool, true, false, not, is_some, refl, sym, ap, subst, ◌∙◌, append_assoc, arith}
 use Rattle.std.specs.List.{All}
 use Rattle.std.proofs.lemmas.Bool.{false≢true, true≢false}
@@ -144,45 +144,50 @@ module _ (draw : ℕ → List ℕ) (grid : ℕ → Grid) (first : ℕ) (old : Li
   }
 
   module _ (k next : ℕ) (now : List Tile) (so_far : IsPutTo draw grid first k next old now) (within : k < length now)
-      where
-    pub put_clean : (rows : List ℕ) → get_or now k (Some rows) ≡ Some rows
-        → IsPutTo draw grid first (k + 1) next old now
-    put_clean rows read = record {
-      drawn = so_far.drawn ∙ next_clean draw first k now rows within read;
-      rest =
+    where
+      pub put_clean : (rows : List ℕ) → get_or now k (Some rows) ≡ Some rows
+          → IsPutTo draw grid first (k + 1) next old now
+      put_clean rows read = record {
+        drawn = so_far.drawn ∙ next_clean draw first k now rows within read;
+        rest =
+            let same : first + k + 1 ≡ first + (k + 1) = omega arith in
+            so_far.rest
+            ∙ ap (dirty_grids grid (first + k)) (drop_more now k (Some rows) within ∙ ap (λ t. t ∷ drop (k + 1) now) read)
+            ∙ ap (λ n. dirty_grids grid n (drop (k + 1) now)) same;
+      }
+
+      -- the grids that are left
+      grids_left : get_or now k None ≡ None → drop next (dirty_grids grid first old)
+          ≡ grid (first + k) ∷ dirty_grids grid (first + (k + 1)) (drop (k + 1) now)
+      grids_left read =
           let same : first + k + 1 ≡ first + (k + 1) = omega arith in
           so_far.rest
-          ∙ ap (dirty_grids grid (first + k)) (drop_more now k (Some rows) within ∙ ap (λ t. t ∷ drop (k + 1) now) read)
-          ∙ ap (λ n. dirty_grids grid n (drop (k + 1) now)) same;
-    }
+          ∙ ap (dirty_grids grid (first + k)) (drop_more now k None within ∙ ap (λ t. t ∷ drop (k + 1) now) read)
+          ∙ ap (λ n. grid (first + k) ∷ dirty_grids grid n (drop (k + 1) now)) same
 
-    -- the grids that are left
-    grids_left : get_or now k None ≡ None → drop next (dirty_grids grid first old)
-        ≡ grid (first + k) ∷ dirty_grids grid (first + (k + 1)) (drop (k + 1) now)
-    grids_left read =
-        let same : first + k + 1 ≡ first + (k + 1) = omega arith in
-        so_far.rest
-        ∙ ap (dirty_grids grid (first + k)) (drop_more now k None within ∙ ap (λ t. t ∷ drop (k + 1) now) read)
-        ∙ ap (λ n. grid (first + k) ∷ dirty_grids grid n (drop (k + 1) now)) same
+      pub next_within : get_or now k None ≡ None → next < length (dirty_grids grid first old)
+      next_within read =
+          omega (arith, ap length (grids_left read), length-drop next (dirty_grids grid first old))
 
-    pub next_within : get_or now k None ≡ None → next < length (dirty_grids grid first old)
-    next_within read =
-        omega (arith, ap length (grids_left read), length-drop next (dirty_grids grid first old))
+      pub next_grid : get_or now k None ≡ None → (d : Grid) → get_or (dirty_grids grid first old) next d ≡ grid (first + k)
+      next_grid read d =
+          let there : next + 0 ≡ next = omega arith in
+          ap (λ n. get_or (dirty_grids grid first old) n d) (sym there)
+          ∙ sym (get_or-drop next (dirty_grids grid first old) 0 d) ∙ ap (λ gs. get_or gs 0 d) (grids_left read)
 
-    pub next_grid : get_or now k None ≡ None → (d : Grid) → get_or (dirty_grids grid first old) next d ≡ grid (first + k)
-    next_grid read d =
-        let there : next + 0 ≡ next = omega arith in
-        ap (λ n. get_or (dirty_grids grid first old) n d) (sym there)
-        ∙ sym (get_or-drop next (dirty_grids grid first old) 0 d) ∙ ap (λ gs. get_or gs 0 d) (grids_left read)
+      pub put_dirty : (rows : List ℕ) → get_or now k None ≡ None → rows ≡ draw (first + k)
+          → IsPutTo draw grid first (k + 1) (next + 1) old (set now k (Some rows))
+      put_dirty rows read is = record {
+        drawn = so_far.drawn ∙ next_dirty draw first k now rows within read is;
+        rest =
+            sym (drop-drop 1 next (dirty_grids grid first old)) ∙ ap (drop 1) (grids_left read)
+            ∙ ap (dirty_grids grid (first + (k + 1))) (sym (drop-set-lt (k + 1) now k (Some rows) (omega arith)));
+      }
 
-    pub put_dirty : (rows : List ℕ) → get_or now k None ≡ None → rows ≡ draw (first + k)
-        → IsPutTo draw grid first (k + 1) (next + 1) old (set now k (Some rows))
-    put_dirty rows read is = record {
-      drawn = so_far.drawn ∙ next_dirty draw first k now rows within read is;
-      rest =
-          sym (drop-drop 1 next (dirty_grids grid first old)) ∙ ap (drop 1) (grids_left read)
-          ∙ ap (dirty_grids grid (first + (k + 1))) (sym (drop-set-lt (k + 1) now k (Some rows) (omega arith)));
-    }
+pub middle_length : (first end : ℕ) (tiles : List Tile) → first ≤ end → end ≤ length tiles
+    → length (mid_of first (end - first) tiles) ≡ end - first
+middle_length first end tiles order within =
+    length-take-le (end - first) (drop first tiles) (omega (arith, length-drop first tiles))
 
 -- a row of tiles that is drawn in a list of them
 module _ (draw : ℕ → List ℕ) (first end : ℕ) (tiles part : List Tile) (order : first ≤ end)
@@ -190,13 +195,10 @@ module _ (draw : ℕ → List ℕ) (first end : ℕ) (tiles part : List Tile) (o
   there : first + (end - first) ≡ end
   there = omega arith
 
-  middle_length : length (mid_of first (end - first) tiles) ≡ end - first
-  middle_length =
-      length-take-le (end - first) (drop first tiles) (omega (arith, length-drop first tiles))
-
-  size : length part ≡ end - first
-  size =
-      ap length is ∙ length-all_drawn_from draw first (mid_of first (end - first) tiles) ∙ middle_length
+  pub part_size : length part ≡ end - first
+  part_size =
+      ap length is ∙ length-all_drawn_from draw first (mid_of first (end - first) tiles)
+      ∙ middle_length first end tiles order within
 
   split : drop first tiles ≡ mid_of first (end - first) tiles ++ drop end tiles
   split =
@@ -210,7 +212,7 @@ module _ (draw : ℕ → List ℕ) (first end : ℕ) (tiles part : List Tile) (o
       let front = take first tiles in
       let rest = all_drawn_from draw (0 + end) (drop end tiles) in
       let now = put_mid first (end - first) tiles part in
-      let next : 0 + end ≡ 0 + first + length (mid_of first (end - first) tiles) = omega (arith, middle_length) in
+      let next : 0 + end ≡ 0 + first + length (mid_of first (end - first) tiles) = omega (arith, middle_length first end tiles order within) in
       ap (λ those. front ++ all_drawn_from draw (0 + first) those) split
       ∙ ap (λ those. front ++ those)
       (drawn_append draw (0 + first) (0 + end) (mid_of first (end - first) tiles) (drop end tiles) next)
@@ -218,6 +220,6 @@ module _ (draw : ℕ → List ℕ) (first end : ℕ) (tiles part : List Tile) (o
       (ap (λ n. all_drawn_from draw n (mid_of first (end - first) tiles)) begin ∙ sym is)
       ∙ sym (append_assoc front part rest)
       ∙ ap (λ those. those ++ rest)
-      (sym (take-put_mid first (end - first) tiles part end (omega (arith, size)) (omega arith)))
+      (sym (take-put_mid first (end - first) tiles part end (omega (arith, part_size)) (omega arith)))
       ∙ ap (λ those. take end now ++ all_drawn_from draw (0 + end) those)
-      (sym (drop-put_mid first (end - first) tiles part end (omega arith) (omega arith) size))
+      (sym (drop-put_mid first (end - first) tiles part end (omega arith) (omega arith) part_size))

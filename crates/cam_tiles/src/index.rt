@@ -43,7 +43,7 @@ const ROWS_BELOW: i64 = 7 * 64;
 
 /// An item that reaches the rows of a band: its place in the list, the sides of its box, in half nm, and its segments,
 /// where it is a region and they are filed.
-// In this order of the fields an entry has 32 bytes: a band of many is gone through for each tile.
+// In this order of the fields an entry has 32 bytes: a band of many is gone through for each row of tiles.
 #[derive(Clone, Copy)]
 pub(crate) struct Entry {
     place: u32,

@@ -12,7 +12,7 @@ use crate::masks::mask::{Band, NO_ROWS};
 
 /// Rows of centres, one below another: the height of the top one and how far they are apart, in half nm, and how many
 /// they are, from 1 to 64.
-#[derive(Clone, Copy, PartialEq, Eq)]
+#[derive(Clone, Copy)]
 pub(crate) struct Levels {
     pub(crate) top: i64,
     pub(crate) step: i64,

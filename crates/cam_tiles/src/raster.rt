@@ -129,7 +129,7 @@ impl Raster {
     {
         let drawn = at_most.min(self.dirty);
         let end = end_of_first(&self.tiles, drawn);
-        painter.draw(&self.window, &mut self.tiles[..end]);
+        draw_first(&mut self.tiles, end, &self.window, painter);
         self.dirty -= drawn;
         drawn
     }
@@ -164,4 +164,19 @@ fn end_of_first(tiles: &[Tile], count: u32) -> usize
         }
     }
     tiles.len()
+}
+
+/// Has the painter draw the dirty ones of the tiles before a number.
+fn draw_first<P: Painter>(tiles: &mut [Tile], end: usize, window: &Window, painter: &mut P)
+    requires accepted { accepts window.now ≡ true }
+    requires full { length tiles.old ≡ tiles_of window.now }
+    requires within { end ≤ length tiles.old }
+    requires room { P.count painter.old + count_by is_none (take end tiles.old) < 2 ^ 64 }
+    ensures tiles { tiles.new ≡ drawn_from (λ k. tile_rows (P.picture painter.old) (grid_of window.now k)) 0
+        (count_by is_none (take end tiles.old)) tiles.old }
+    ensures kept { P.picture painter.new ≡ P.picture painter.old }
+    ensures asked { P.count painter.new ≡ P.count painter.old + count_by is_none (take end tiles.old) }
+{
+    let first = &mut tiles[..end];
+    painter.draw(window, first);
 }

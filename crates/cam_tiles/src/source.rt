@@ -1,6 +1,6 @@
 //! Layers as painters.
 
-ghost use Rattle.std.specs.Prelude.{◌≡◌};
+ghost use Rattle.std.specs.Prelude.{◌≡◌, count_by, is_none};
 ghost use Rattle.cam_objects.specs.Contents.{content_leaves, content_of, drill_content_leaves, drill_content_of};
 ghost use Rattle.cam_objects.specs.DrillSoundness.{IsSoundDrillLayer};
 ghost use Rattle.cam_objects.specs.Soundness.{HasSoundItems};
@@ -75,7 +75,7 @@ impl<'a> Painter for Source<'a> {
     ghost count = { λ s. s.asked };
 
     fn draw(&mut self, window: &Window, tiles: &mut [Tile]) {
-        let dirty = tiles.iter().filter(|tile| tile.is_none()).count();
+        let dirty = dirty_in(tiles);
         if dirty > 0 {
             draw(self.alloc, &self.shown, window, tiles);
         }
@@ -85,4 +85,11 @@ impl<'a> Painter for Source<'a> {
     fn asked(&self) -> u64 {
         self.asked
     }
+}
+
+/// How many of the tiles are dirty.
+fn dirty_in(tiles: &[Tile]) -> usize
+    ensures { result ≡ count_by is_none tiles.now }
+{
+    tiles.iter().filter(|tile| tile.is_none()).count()
 }

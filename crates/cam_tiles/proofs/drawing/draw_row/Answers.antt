@@ -1,11 +1,10 @@
-use Rattle.std.proofs.Common.{◌≡◌, ℕ, ◌+◌, ◌<◌, List, length, ap, sym, subst, ◌∙◌, arith}
-use Rattle.std.specs.List.{All}
+use Rattle.std.proofs.Common.{◌≡◌, ℕ, ◌+◌, ap, sym, subst, ◌∙◌, arith}
 use Rattle.cam_objects.specs.Tests.{is_black}
 use Rattle.cam_tiles.specs.declared.grid.Grid.{Grid}
 use Rattle.cam_tiles.specs.Machinery.Levels.{levels_of}
 use Rattle.cam_tiles.specs.Machinery.Shown.{leaves_of}
 use Rattle.cam_tiles.specs.Machinery.Swaths.{HasLevels, dirty_grids}
-use Rattle.cam_tiles.specs.Tiles.{IsGrid, across, grid_of, tiles_of}
+use Rattle.cam_tiles.specs.Tiles.{IsGrid, grid_of}
 use Rattle.cam_tiles.proofs.GridLemmas.{on_board}
 use Rattle.cam_tiles.proofs.PaintedSwaths.{enough_masks, has_levels, swath_drawn}
 use Rattle.cam_tiles.proofs.SwathLayouts.{levels_are}
@@ -36,7 +35,7 @@ put-requires c =
       arith,
       length-dirty_grids grid c.args.first c.args.tiles.now,
       enough_masks (leaves_of c.args.shown.now) c.turn_to.new.self c.paint.new.swath grids c.paint.ensures.painted
-      c.in-Ok.ensures.grids sound,
+          c.in-Ok.ensures.grids sound,
     )
 
 pub returns-clause-tiles : goal.returns-clause-tiles

@@ -1,4 +1,5 @@
-use Rattle.std.proofs.Common.{◌+◌, List, take, get_or, sym, ap, subst, ◌∙◌, arith}
+use Rattle.std.proofs.Common.{◌+◌, List, take, get_or, sym, subst, ◌∙◌, rules, FitsSigned, w64}
+use Rattle.std.proofs.lemmas.Int.{to_z-of_z}
 use Rattle.std.proofs.lemmas.Bool.{false≢true}
 use Rattle.std.proofs.lemmas.List.{get_or_default, take_all}
 use Rattle.std.proofs.lemmas.List.Elements.{All-get_or}
@@ -43,7 +44,11 @@ loop-entry-preserved c =
       | else-reaches w ↦ subst IsNext (sym w.swath-is)
           (next_beside lists band i e old here.swath c.loop-entry-test.true read here.invariant segments
           c.bounds.result c.in-Closed.low c.in-Closed.high entry c.in-Closed.is c.bounds.ensures
-          (λ met. false≢true (sym w.if-reaches.false ∙ c.reaches.ensures.1 met)))
+          (λ met.
+          let least : FitsSigned w64 c.in-Closed.low.x = search rules in
+          let greatest : FitsSigned w64 c.in-Closed.high.x = search rules in
+          let reaches = simp to_z-of_z at c.reaches.ensures in
+          false≢true (sym w.if-reaches.false ∙ reaches.1 met)))
     ]
 
 pub returns-in_default : goal.returns-in_default

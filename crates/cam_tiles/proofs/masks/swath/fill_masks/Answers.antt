@@ -1,4 +1,4 @@
-use Rattle.std.proofs.Common.{List, [], ◌∷◌, get_or, refl, subst, arith}
+use Rattle.std.proofs.Common.{[], ◌∷◌, get_or, refl, subst, arith}
 use Rattle.cam_objects.specs.Image.{Covers}
 use Rattle.cam_objects.specs.Leaves.{Filled, leaf}
 use Rattle.cam_tiles.specs.declared.masks.join.Join.{Join}

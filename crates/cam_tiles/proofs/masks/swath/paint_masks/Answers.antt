@@ -1,6 +1,5 @@
-use Rattle.std.proofs.Common.{List, [], ◌∷◌, refl, arith}
+use Rattle.std.proofs.Common.{[], ◌∷◌, refl, arith}
 use Rattle.cam_objects.specs.Canvases.{leaf_of}
-use Rattle.cam_objects.specs.Leaves.{Leaf}
 use Rattle.cam_tiles.proofs.PaintedSwaths.{all_painted, none_painted, one_more_painted}
 use Rattle.cam_tiles.proofs.masks.swath.paint_masks.Goals as goal
 

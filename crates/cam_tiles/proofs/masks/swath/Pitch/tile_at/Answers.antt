@@ -1,6 +1,6 @@
-use Rattle.std.proofs.Common.{◌<◌, ◌+◌, ◌/◌, ◌+ℤ◌, ◌*ℤ◌, ◌<ℤ◌, ℕ, pos, rules, FitsSigned, w64, sym, subst, arith}
-use Rattle.std.proofs.lemmas.Int.{ints, to_z-of_z}
-use Rattle.cam_tiles.proofs.SwathLayouts.{before_next_tile, up_to_tile}
+use Rattle.std.proofs.Common.{rules, FitsSigned, w64, arith}
+use Rattle.std.proofs.lemmas.Int.{to_z-of_z}
+use Rattle.cam_tiles.proofs.SwathLayouts.{up_to_tile}
 use Rattle.cam_tiles.proofs.masks.swath.Pitch.tile_at.Goals as goal
 
 pub returns-clause-after : goal.returns-clause-after

@@ -1,4 +1,5 @@
-use Rattle.std.proofs.Common.{List, [], ◌∷◌, ◌≤◌, length, ap, sym, subst, ◌∙◌, refl, arith}
+use Rattle.std.proofs.Common.{List, [], ◌∷◌, ◌≤◌, length, sym, subst, ◌∙◌, refl, rules, FitsSigned, w64, arith}
+use Rattle.std.proofs.lemmas.Int.{to_z-of_z}
 use Rattle.std.proofs.lemmas.List.{with_items_is}
 use Rattle.cam_units.specs.Boxes.{Holds}
 use Rattle.cam_units.specs.declared.point.Spot.{Spot}
@@ -51,9 +52,13 @@ returns c =
     let part =
     put_back first end leaves old c.deref_mut.result.now new _ (c.deref_mut.ensures.value ∙ c.self.view_is) after
     c.fill_masks.ensures in
+    let least : FitsSigned w64 c.args.left = search rules in
+    let greatest : FitsSigned w64 c.args.right = search rules in
+    let before = simp to_z-of_z at c.first_reached-first.ensures in
+    let behind = simp to_z-of_z at c.end_reached-end.ensures.apart in
     part_painted first end leaves old _ part
     (λ k apart.
     paints_missed (λ (m : Marking). IsIn m.grid) (λ (m : Marking). centre_in m.grid) ink_of (mask_at old k) leaves
     (bounds_of leaves) refl
-    (passed_over first end old c.args.left c.args.right c.first_reached-first.ensures c.end_reached-end.ensures.apart
+    (passed_over first end old c.args.left c.args.right before behind
     (λ (t : Spot). Holds (bounds_of leaves) t) c.requires.sides k apart))

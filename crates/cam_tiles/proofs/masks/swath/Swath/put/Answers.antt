@@ -1,9 +1,8 @@
-use Rattle.std.proofs.Common.{◌≡◌, ◌+◌, ◌<◌, ℕ, Bool, List, ◌∷◌, Some, None, length, drop, get_or, set, refl, ap, sym, subst, ◌∙◌, arith}
+use Rattle.std.proofs.Common.{◌≡◌, ◌+◌, ◌<◌, ℕ, List, ◌∷◌, Some, None, length, drop, get_or, set, ap, sym, subst, ◌∙◌, arith}
 use Rattle.std.proofs.lemmas.List.{drop_more, drop-set-lt, get_or_default}
-use Rattle.cam_units.specs.declared.point.Spot.{Spot}
 use Rattle.cam_tiles.specs.declared.grid.Grid.{Grid}
-use Rattle.cam_tiles.specs.Machinery.Masks.{IsMask, Marking}
-use Rattle.cam_tiles.specs.Machinery.Swaths.{AreDrawn, IsDrawn, dirty_grids, mask_at, no_grid, no_mask}
+use Rattle.cam_tiles.specs.Machinery.Masks.{Marking}
+use Rattle.cam_tiles.specs.Machinery.Swaths.{IsDrawn, dirty_grids, mask_at, no_grid, no_mask}
 use Rattle.cam_tiles.specs.Tables.{Tile}
 use Rattle.cam_tiles.specs.Tiles.{tile_rows}
 use Rattle.cam_tiles.proofs.DrawnTiles.{dirty, dirty_after_clean, dirty_after_dirty}
@@ -35,7 +34,36 @@ loop-k-preserved c =
     let within : k < length now = omega arith in
     elim c.if-is_none.branch [
       | then-is_none w ↦
-          (let h = w.rows.ensures in let i = w.index in let t = w.tiles-is in ?)
+          (let read = read_dirty (get_or now k None) c.is_none.result c.is_none.ensures w.if-is_none.true in
+          record {
+            put = λ image grid first drawn.
+                let draw : ℕ → List ℕ = λ k. tile_rows image (grid k) in
+                let so = so_far.put image grid first drawn in
+                let there = next_within draw grid first old k next now so within read in
+                let which : get_or (dirty_grids grid first old) next no_grid ≡ grid (first + k) =
+                next_grid draw grid first old k next now so within read no_grid in
+                let m : Marking = w.index.result.now in
+                let inside : next < length c.self.inside.masks.items =
+                omega (arith, so_far.left, here_dirty now k within read, c.requires, ap length c.self.view_is) in
+                let mask : m ≡ mask_at c.args.self.now next =
+                w.index.ensures ∙ get_or_default c.self.inside.masks.items next m no_mask inside
+                ∙ ap (λ (ms : List Marking). mask_at ms next) c.self.view_is in
+                let shown : IsDrawn image (grid (first + k)) m =
+                subst (λ (n : Marking). IsDrawn image (grid (first + k)) n) (sym mask)
+                (subst (λ (g : Grid). IsDrawn image g (mask_at c.args.self.now next)) which (drawn next there)) in
+                let rows = w.rows.ensures.rows ∙ drawn_rows image (grid (first + k)) m w.rows.ensures.mask shown in
+                subst (λ (tiles : List Tile). IsPutTo draw grid first (k + 1) c.if-is_none.next old tiles) (sym w.tiles-is)
+                (subst (λ n. IsPutTo draw grid first (k + 1) n old (set now k (Some w.rows.result))) (sym w.next-is)
+                (put_dirty draw grid first old k next now so within w.rows.result read rows));
+            left = omega (
+              arith,
+              so_far.left,
+              w.next-is,
+              here_dirty now k within read,
+              ap (λ (tiles : List Tile). dirty (drop (k + 1) tiles)) w.tiles-is,
+              ap dirty (drop-set-lt (k + 1) now k (Some w.rows.result) (omega arith)),
+            );
+          })
       | else-is_none w ↦
           (let found = read_clean (get_or now k None) c.is_none.result c.is_none.ensures w.if-is_none.false in
           let read = get_or_default now k (Some found.0) None within ∙ found.1 in

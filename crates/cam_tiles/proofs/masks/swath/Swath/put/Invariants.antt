@@ -2,7 +2,6 @@ use Rattle.std.proofs.Common.{◌≡◌, ℕ, ◌+◌, Bool, drop}
 use Rattle.cam_units.specs.declared.point.Spot.{Spot}
 use Rattle.cam_tiles.specs.declared.grid.Grid.{Grid}
 use Rattle.cam_tiles.specs.Machinery.Swaths.{AreDrawn, dirty_grids}
-use Rattle.cam_tiles.specs.Tables.{all_drawn_from}
 use Rattle.cam_tiles.specs.Tiles.{tile_rows}
 use Rattle.cam_tiles.proofs.DrawnTiles.{dirty}
 use Rattle.cam_tiles.proofs.TilesInOrder.{IsPutTo}

@@ -1,8 +1,7 @@
-use Rattle.std.proofs.Common.{◌≡◌, ◌*ℤ◌, pos, rules, FitsSigned, w64, ap, subst, sym, ◌∙◌, arith}
+use Rattle.std.proofs.Common.{◌*ℤ◌, pos, rules, FitsSigned, w64, ap, arith}
 use Rattle.std.proofs.lemmas.Int.{ints, to_z-of_z}
 use Rattle.cam_tiles.specs.declared.grid.Grid.{Grid}
 use Rattle.cam_tiles.specs.Machinery.Swaths.{pitch_of}
-use Rattle.cam_tiles.proofs.GridLemmas.{twice_fits}
 use Rattle.cam_tiles.proofs.WindowLemmas.{accepted}
 use Rattle.cam_tiles.proofs.masks.swath.Swath.turn_to.Goals as goal
 

@@ -1,4 +1,5 @@
-use Rattle.std.proofs.Common.{List, [], ◌∷◌, ◌≤◌, ◌≤ℤ◌, length, ap, sym, subst, ◌∙◌}
+use Rattle.std.proofs.Common.{List, [], ◌∷◌, ◌≤◌, ◌≤ℤ◌, length, sym, subst, ◌∙◌, rules, FitsSigned, w64}
+use Rattle.std.proofs.lemmas.Int.{to_z-of_z}
 use Rattle.std.proofs.lemmas.List.{with_items_is}
 use Rattle.cam_units.specs.Boxes.{Holds}
 use Rattle.cam_units.specs.declared.bounds.Bounds.{Bounds}
@@ -6,7 +7,7 @@ use Rattle.cam_units.specs.declared.point.Spot.{Spot}
 use Rattle.cam_objects.specs.Canvases.{leaf_of}
 use Rattle.cam_objects.proofs.Canvases.{paints_outside}
 use Rattle.cam_tiles.specs.Machinery.Masks.{IsIn, Marking, ink_of}
-use Rattle.cam_tiles.specs.Machinery.Swaths.{IsInSwath, PaintsSwath, ink_in, mask_at, place_in}
+use Rattle.cam_tiles.specs.Machinery.Swaths.{IsInSwath, ink_in, mask_at, place_in}
 use Rattle.cam_tiles.specs.Tiles.{centre_in}
 use Rattle.cam_tiles.proofs.PaintedSwaths.{part_laid_out, part_painted, passed_over, put_back}
 use Rattle.cam_tiles.proofs.masks.swath.SwathCanvas.paint.Goals as goal
@@ -45,9 +46,13 @@ returns c =
     c.paint_masks.ensures in
     let sides : (t : Spot) → Holds c.args.print.bounds t → (c.in-Closed.low.x ≤ℤ t.x) × (t.x ≤ℤ c.in-Closed.high.x) =
     λ t held. let between = subst (λ (b : Bounds). Holds b t) c.in-Closed.is held in (between.left, between.right) in
+    let least : FitsSigned w64 c.in-Closed.low.x = search rules in
+    let greatest : FitsSigned w64 c.in-Closed.high.x = search rules in
+    let before = simp to_z-of_z at c.first_reached-first.ensures in
+    let behind = simp to_z-of_z at c.end_reached-end.ensures.apart in
     part_painted first end leaves old _ part
     (λ k apart.
     paints_outside (λ (m : Marking). IsIn m.grid) (λ (m : Marking). centre_in m.grid) ink_of (mask_at old k)
     (leaf_of c.args.print) c.args.print.bounds c.requires.held
-    (passed_over first end old c.in-Closed.low.x c.in-Closed.high.x c.first_reached-first.ensures
-    c.end_reached-end.ensures.apart (λ (t : Spot). Holds c.args.print.bounds t) sides k apart))
+    (passed_over first end old c.in-Closed.low.x c.in-Closed.high.x before
+    behind (λ (t : Spot). Holds c.args.print.bounds t) sides k apart))
