@@ -132,7 +132,11 @@ write top t\nwrite top t\nredo\nredo\nplot top q\nlist\n",
 
 /// The files, of which the get and the put of these numbers fail, counted from 1 once the files are there.
 fn files(alloc: Global, get: usize, put: usize) -> Result<MemoryFiles, Fail> {
-    let put = if put == 0 { 0 } else { put as u64 + FILES.len() as u64 };
+    let put = if put == 0 {
+        0
+    } else {
+        put as u64 + FILES.len() as u64
+    };
     let mut files = MemoryFiles::failing(alloc, get as u64, put);
     for &(path, bytes) in FILES {
         files.put(path, bytes)?;
@@ -168,7 +172,10 @@ fn runs(
     let told = told(alloc, script, failed)?;
     assert_eq!(rt; out.said.as_slice(), told.as_slice(), "{failed:?}");
     let failures = files.failures();
-    assert!(rt; failures == script.absent + u64::from(failed.is_some()), "{failed:?}");
+    assert!(rt;
+        failures == script.absent + u64::from(failed.is_some()),
+        "{failed:?}"
+    );
     if failed.is_none() {
         assert!(rt; refused == script.refused, "{refused}");
         for &(path, bytes) in script.written {
@@ -232,9 +239,15 @@ fn each_say(rt: HostRuntime) -> Result<(), Fail> {
         // A say has at least one byte.
         for say in 1..=told.len() + 1 {
             let (refused, out) = says(alloc, script, say)?;
-            assert!(rt; told.as_slice().starts_with(out.said.as_slice()), "say {say}");
+            assert!(rt;
+                told.as_slice().starts_with(out.said.as_slice()),
+                "say {say}"
+            );
             if refused.is_some() {
-                assert!(rt; out.failures() == 0 && out.said.len() == told.len(), "say {say}");
+                assert!(rt;
+                    out.failures() == 0 && out.said.len() == told.len(),
+                    "say {say}"
+                );
                 ended = refused;
                 break;
             }
