@@ -132,10 +132,9 @@ write top t\nwrite top t\nredo\nredo\nplot top q\nlist\n",
 
 /// The files, of which the get and the put of these numbers fail, counted from 1 once the files are there.
 fn files(alloc: Global, get: usize, put: usize) -> Result<MemoryFiles, Fail> {
-    let put = if put == 0 {
-        0
-    } else {
-        put as u64 + FILES.len() as u64
+    let put = match put {
+        0 => 0,
+        _ => (put as u64).saturating_add(FILES.len() as u64),
     };
     let mut files = MemoryFiles::failing(alloc, get as u64, put);
     for &(path, bytes) in FILES {
@@ -144,13 +143,21 @@ fn files(alloc: Global, get: usize, put: usize) -> Result<MemoryFiles, Fail> {
     Ok(files)
 }
 
+/// What a line says where no call fails.
+fn reply_at(script: &Script, line: usize) -> &'static [u8] {
+    match script.replies.get(line) {
+        Some(reply) => *reply,
+        None => b"",
+    }
+}
+
 /// All that a script says where a line fails, if one does.
 fn told(alloc: Global, script: &Script, failed: Option<Call>) -> Result<Vec<u8>, AllocError> {
     let mut told = Vec::new(alloc);
     for (line, reply) in script.replies.iter().enumerate() {
         let said = match failed {
             Some((at, _)) if at == line => b"refused 82\n".as_slice(),
-            Some((at, Some(again))) if again == line => script.replies[at],
+            Some((at, Some(again))) if again == line => reply_at(script, at),
             _ => *reply,
         };
         told.extend_from_slice(said)?;
@@ -173,7 +180,7 @@ fn runs(
     assert_eq!(rt; out.said.as_slice(), told.as_slice(), "{failed:?}");
     let failures = files.failures();
     assert!(rt;
-        failures == script.absent + u64::from(failed.is_some()),
+        failures == script.absent.saturating_add(u64::from(failed.is_some())),
         "{failed:?}"
     );
     if failed.is_none() {
@@ -193,11 +200,12 @@ fn each_get(rt: HostRuntime) -> Result<(), Fail> {
     for script in [REFUSALS, HISTORY] {
         for (k, call) in script.gets.iter().enumerate() {
             // Where there is no file, the failure is counted all the same.
-            if script.replies[call.0] != b"refused 82\n".as_slice() {
-                runs(&rt, alloc, script, files(alloc, k + 1, 0)?, Some(*call))?;
+            if reply_at(script, call.0) != b"refused 82\n".as_slice() {
+                let files = files(alloc, k.saturating_add(1), 0)?;
+                runs(&rt, alloc, script, files, Some(*call))?;
             }
         }
-        let none = files(alloc, script.gets.len() + 1, 0)?;
+        let none = files(alloc, script.gets.len().saturating_add(1), 0)?;
         runs(&rt, alloc, script, none, None)?;
     }
     Ok(())
@@ -209,9 +217,10 @@ fn each_put(rt: HostRuntime) -> Result<(), Fail> {
     let alloc = rt.alloc();
     for script in [REFUSALS, HISTORY] {
         for (k, call) in script.puts.iter().enumerate() {
-            runs(&rt, alloc, script, files(alloc, 0, k + 1)?, Some(*call))?;
+            let files = files(alloc, 0, k.saturating_add(1))?;
+            runs(&rt, alloc, script, files, Some(*call))?;
         }
-        let none = files(alloc, 0, script.puts.len() + 1)?;
+        let none = files(alloc, 0, script.puts.len().saturating_add(1))?;
         runs(&rt, alloc, script, none, None)?;
     }
     Ok(())
@@ -237,7 +246,8 @@ fn each_say(rt: HostRuntime) -> Result<(), Fail> {
         let mut before = 0;
         let mut ended = None;
         // A say has at least one byte.
-        for say in 1..=told.len() + 1 {
+        for number in 0..told.len().saturating_add(1) {
+            let say = number.saturating_add(1);
             let (refused, out) = says(alloc, script, say)?;
             assert!(rt;
                 told.as_slice().starts_with(out.said.as_slice()),
