@@ -58,6 +58,19 @@ pub no_comment : (text : List ℕ) → false ≡ starts_with nat_eq (packed text
 unfolding is_comment
 no_comment text long short = rw (← long, ← short) refl
 
+starts_without : (text head : List ℕ) → starts_with nat_eq text (codes "G") ≡ false
+    → starts_with nat_eq text (71 ∷ head) ≡ false
+starts_without [] head e = refl
+starts_without (byte ∷ text) head e =
+    (elim (nat_eq 71 byte) as (λ b. nat_eq 71 byte ≡ b → starts_with nat_eq (byte ∷ text) (71 ∷ head) ≡ false) [
+      | true ↦ λ t. let yes : true ≡ false = rw t at e in absurd cc
+      | false ↦ λ t. rw t refl
+    ]) refl
+
+pub no_comment_without_G : (text : List ℕ) → false ≡ starts_with nat_eq (packed text) (codes "G") → false ≡ is_comment text
+no_comment_without_G text e =
+    no_comment text (sym (starts_without (packed text) (codes "04") (sym e))) (sym (starts_without (packed text) (codes "4") (sym e)))
+
 -- free text, by its first letters
 pub free_at_T : (text : List ℕ) → true ≡ starts_with nat_eq (packed text) (codes "T") → true ≡ is_free_text text
 unfolding is_free_text

@@ -2,6 +2,7 @@ pub mod Fronts
 pub mod HeadBytes
 pub mod Steps
 pub mod Lists
+pub mod Ordinary
 pub mod Commands
 pub mod Cuttings
 pub mod Judged

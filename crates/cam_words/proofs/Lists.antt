@@ -76,7 +76,7 @@ before_first_fails test (x ∷ xs) =
     ((elim (test x) as (λ b. test x ≡ b → AllFail test (cond (not b) (x ∷ before_first test xs) []))
     [ true ↦ λ e. tt | false ↦ λ e. (e, before_first_fails test xs) ]) refl)
 
-length-before_first : (test : ℕ → Bool) (xs : List ℕ) → length (before_first test xs) ≡ position_or_len test xs
+pub length-before_first : (test : ℕ → Bool) (xs : List ℕ) → length (before_first test xs) ≡ position_or_len test xs
 length-before_first test xs =
     omega (arith, length-take (position_or_len test xs) xs, prefix_len-le-length (λ x. not (test x)) xs)
 

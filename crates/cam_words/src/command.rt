@@ -1,14 +1,16 @@
 //! The command at the front of a text.
 
-ghost use Rattle.std.specs.Prelude.{◌≡◌, ◌+◌, length, IfOk, IfSome};
+ghost use Rattle.std.specs.Prelude.{◌≡◌, ◌+◌, List, ℕ, length, IfOk, IfSome};
 ghost use Rattle.std.specs.Option.{option_map};
-ghost use Rattle.std.specs.List.{list_any};
-ghost use Rattle.cam_words.specs.Heads.{is_forbidden_in_word, is_forbidden_in_extended};
+ghost use Rattle.std.specs.List.{before_first, list_any};
+ghost use Rattle.cam_words.specs.Bytes.{is_star};
+ghost use Rattle.cam_words.specs.Heads.{is_comment as is_comment_text, is_forbidden_in_word, is_forbidden_in_extended};
 ghost use Rattle.cam_words.specs.Reading.{word_at, command_within, extended_at};
 ghost use Rattle.cam_words.specs.Machinery.Shown.{seen, shown, front_shown, IsInside};
 
 use crate::bytes::{
-    holds_control, holds_forbidden_in_code, holds_forbidden_in_plain, place_of, trailing_skipped,
+    holds_control, holds_forbidden_in_code, holds_forbidden_in_plain, ordinary_len, place_of,
+    trailing_skipped,
 };
 use crate::heads::{is_comment, is_free_text};
 use crate::word::{Kind, TextFault};
@@ -24,13 +26,15 @@ pub struct Command<'a> {
     pub len: usize,
 }
 
-fn holds_forbidden_in_word(text: &[u8]) -> bool
-    ensures { result ≡ list_any (is_forbidden_in_word text.now) text.now }
+/// Whether a part of a word, a comment or none, holds a byte that the word may not hold.
+fn holds_forbidden_in_word(part: &[u8], is_comment: bool) -> bool
+    ensures { (word : List ℕ) → is_comment ≡ is_comment_text word
+        → result ≡ list_any (is_forbidden_in_word word) part.now }
 {
-    if is_comment(text) {
-        return holds_control(text);
+    if is_comment {
+        return holds_control(part);
     }
-    holds_forbidden_in_plain(text)
+    holds_forbidden_in_plain(part)
 }
 
 fn holds_forbidden_in_extended(text: &[u8]) -> bool
@@ -42,27 +46,53 @@ fn holds_forbidden_in_extended(text: &[u8]) -> bool
     holds_forbidden_in_code(text)
 }
 
+/// What stands before the first `*` of a text.
+#[derive(Clone, Copy)]
+struct FrontWord<'a> {
+    text: &'a [u8],
+    is_comment: bool,
+    /// Whether it holds a byte that it may not hold.
+    is_bad: bool,
+}
+
+fn front_word(text: &[u8]) -> FrontWord<'_>
+    ensures text { result.text.now ≡ before_first is_star text.now }
+    ensures comment { result.is_comment ≡ is_comment_text result.text.now }
+    ensures bad { result.is_bad ≡ list_any (is_forbidden_in_word result.text.now) result.text.now }
+{
+    let ordinary = ordinary_len(text);
+    let rest = &text[ordinary..];
+    let others = &rest[..place_of(b'*', rest)];
+    let word = &text[..ordinary + others.len()];
+    let comment = is_comment(word);
+    FrontWord {
+        text: word,
+        is_comment: comment,
+        is_bad: holds_forbidden_in_word(others, comment),
+    }
+}
+
 /// The word that the text begins with, or its fault's number.
 fn word(text: &[u8]) -> Result<Command<'_>, u8>
     ensures value { seen result ≡ shown (word_at text.now) }
     ensures inside { IfOk result (IsInside (length text.now)) }
 {
-    let len = place_of(b'*', text);
-    let word = &text[..len];
-    if holds_forbidden_in_word(word) {
+    let front = front_word(text);
+    if front.is_bad {
         return Err(TextFault::BAD_BYTE);
     }
+    let len = front.text.len();
     if len == text.len() {
         return Err(TextFault::UNTERMINATED);
     }
-    let kind = if is_comment(word) {
+    let kind = if front.is_comment {
         Kind::Comment
     } else {
         Kind::Plain
     };
     Ok(Command {
         kind,
-        text: word,
+        text: front.text,
         before: 0,
         len: len + 1,
     })

@@ -57,6 +57,10 @@ fn begins_with_digit(text: &[u8]) -> bool
 pub fn is_comment(text: &[u8]) -> bool
     ensures { result ≡ is_comment text.now }
 {
+    // Nearly every word begins with another letter.
+    if !begins_with(text, b"G") {
+        return false;
+    }
     if begins_with(text, b"G04") {
         return true;
     }
