@@ -36,7 +36,7 @@ natural_of_digits run d e some =
     let s = said run d e in
     ap (λ (v : ℕ). Some v) s.values ∙ sym (ap (option_map (min value_limit)) (natural-digits run s.digits (λ n. some (s.counts ∙ n))))
 
-within : (most : ℕ) (run : List ℕ) → length run ≤ most → natural_within most run ≡ natural run
+pub within : (most : ℕ) (run : List ℕ) → length run ≤ most → natural_within most run ≡ natural run
 unfolding natural_within
 within most run le = rw (le-ltb most (length run) le) refl
 

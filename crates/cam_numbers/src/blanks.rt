@@ -19,7 +19,8 @@ impl Blanks {
     {
         match self {
             Blanks::Refused => false,
-            Blanks::Skipped => matches!(byte, b'\r' | b'\n' | b' ' | b'\t'),
+            // Nearly every byte is greater than a space, and a comparison tells.
+            Blanks::Skipped => byte <= b' ' && matches!(byte, b'\r' | b'\n' | b' ' | b'\t'),
         }
     }
 }

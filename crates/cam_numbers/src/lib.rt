@@ -4,6 +4,7 @@
 //!
 //! - [`natural`], [`natural_within`]: digits, at least one.
 //! - [`integer`]: an optional sign and 1 to 15 digits, as coordinates are written.
+//! - [`leading_integer`]: the same at the front of a text, and how long its run is.
 //! - [`decimal`]: an optional sign and digits with an optional point, in 10^-9 of a unit; [`unsigned_decimal`]: the
 //!   same without the sign.
 //! - [`defined_number`], [`within_numbers`]: the numbers of apertures.
@@ -16,11 +17,13 @@
 mod apertures;
 mod blanks;
 mod decimals;
+mod leading;
 mod runs;
 mod whole;
 
 pub use apertures::{defined_number, within_numbers};
 pub use blanks::Blanks;
 pub use decimals::{decimal, unsigned_decimal};
+pub use leading::{Leading, leading_integer};
 pub use runs::{is_numeric, run_len};
 pub use whole::{integer, natural, natural_within};

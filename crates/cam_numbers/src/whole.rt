@@ -12,7 +12,7 @@ use crate::blanks::{Blanks, first_kept};
 const VALUE_LIMIT: u64 = 1_000_000_000_000_000;
 
 /// How many digits a coordinate may have.
-const COORDINATE_DIGITS: usize = 15;
+pub(crate) const COORDINATE_DIGITS: usize = 15;
 
 /// How many digits a run has, and their value, at most `VALUE_LIMIT`.
 #[derive(Clone, Copy)]
