@@ -1,7 +1,8 @@
 //! Lengths to the nearest nanometre.
 
-ghost use Rattle.std.specs.Prelude.{◌≡◌, ◌^◌, ◌<◌, ◌≤◌, ◌*ℤ◌, pos, MatchOption};
+ghost use Rattle.std.specs.Prelude.{◌≡◌, ◌^◌, ◌<◌, ◌≤◌, ◌*ℤ◌, ℤ, pos, MatchOption};
 ghost use Rattle.std.specs.Int.RustNames.{unsigned_abs};
+ghost use Rattle.cam_units.specs.declared.length.Unit.TheVariants.{Mm};
 ghost use Rattle.cam_units.specs.Nearest.{coord_of, fix9_of, nearest_of, nm_per_unit};
 
 /// A length in nanometres.
@@ -63,6 +64,36 @@ fn nm_per_unit(unit: Unit) -> u64
     }
 }
 
+/// The nanometres of a step of the last decimal of a coordinate in millimetres.
+fn nm_per_step(decimals: u32) -> i64
+    requires { decimals ≤ 6 }
+    ensures { (n : ℤ) → coord_of n decimals Mm ≡ n *ℤ result }
+{
+    match decimals {
+        0 => 1_000_000,
+        1 => 100_000,
+        2 => 10_000,
+        3 => 1_000,
+        4 => 100,
+        5 => 10,
+        _ => 1,
+    }
+}
+
+/// The length of a coordinate in millimetres, which needs no rounding.
+fn millimetres(n: i64, decimals: u32) -> Option<Nm>
+    requires { decimals ≤ 6 }
+    ensures { MatchOption result
+        (10 ^ 18 ≤ unsigned_abs (coord_of n decimals Mm))
+        (λ length. (length.0 ≡ coord_of n decimals Mm) × (unsigned_abs length.0 < 10 ^ 18)) }
+{
+    let length = n.checked_mul(nm_per_step(decimals))?;
+    if length.unsigned_abs() >= 1_000_000_000_000_000_000 {
+        return None;
+    }
+    Some(Nm(length))
+}
+
 /// A coordinate in nanometres, not yet rounded.
 fn coordinate(n: i64, decimals: u32, unit: Unit) -> Quotient
     requires { decimals ≤ 6 }
@@ -87,6 +118,9 @@ pub fn coord_nm(n: i64, decimals: u32, unit: Unit) -> Option<Nm>
         (10 ^ 18 ≤ unsigned_abs (coord_of n decimals unit))
         (λ length. (length.0 ≡ coord_of n decimals unit) × (unsigned_abs length.0 < 10 ^ 18)) }
 {
+    if unit == Unit::Mm {
+        return millimetres(n, decimals);
+    }
     let length = coordinate(n, decimals, unit).nearest();
     if length.unsigned_abs() < 1_000_000_000_000_000_000 {
         Some(Nm(length as i64))
