@@ -1,20 +1,16 @@
--- Lists of values and of primitives, one at a time.
-use Rattle.std.proofs.Common.{◌≡◌, ℕ, suc, ◌+◌, ◌<◌, List, [], ◌∷◌, ◌++◌, length, drop, get_or, ℤ, Result, Ok, Err}
+-- Lists of primitives, one part at a time.
+use Rattle.std.proofs.Common.{◌≡◌, ℕ, suc, ◌+◌, ◌<◌, List, ◌∷◌, ◌++◌, length, drop, get_or, Result, Ok, Err}
 use Rattle.std.proofs.Common.{refl, ap, sym, ◌∙◌, append_assoc, add-one}
 use Rattle.std.proofs.Math.Seq.{drop-cons}
 use Rattle.cam_units.specs.declared.length.Unit.{Unit as FileUnit}
-use Rattle.cam_macros.specs.declared.expansion.arithmetic.Fixed.{Fixed}
 use Rattle.cam_macros.specs.declared.part.Part.{Part}
 use Rattle.cam_macros.specs.declared.primitive.MacroPrimitive.{MacroPrimitive}
 use Rattle.cam_macros.specs.declared.fault.MacroFault.{MacroFault}
 use Rattle.cam_macros.specs.declared.fault.MacroFault.TheVariants.{BadName, Malformed, PrimitiveRefused}
 use Rattle.cam_macros.specs.declared.fault.MacroFault.TheVariants.{RotationRefused, SizeRefused, OutOfMemory}
-use Rattle.cam_macros.specs.Tree.{Tree}
 use Rattle.cam_macros.specs.Arithmetic.{Values}
 use Rattle.cam_macros.specs.Answers.{IsUnlessMemory}
-use Rattle.cam_macros.specs.Machinery.Values.{numbers}
-use Rattle.cam_macros.specs.Expansion.{worth, all_worth, outcome, values_after, expansion, with_prims, ◌>>=◌}
-use Rattle.cam_macros.proofs.Evaluation.{numbers_push}
+use Rattle.cam_macros.specs.Expansion.{outcome, values_after, expansion, with_prims, ◌>>=◌}
 
 -- a fault of a part is one of the whole, where each fault that is meant is
 pub told : {A B : Type 0} (fault : MacroFault) (part : Result A MacroFault) (whole : Result B MacroFault)
@@ -25,42 +21,6 @@ told BadName part whole h f = h BadName f
 told PrimitiveRefused part whole h f = h PrimitiveRefused f
 told RotationRefused part whole h f = h RotationRefused f
 told SizeRefused part whole h f = h SizeRefused f
-
--- the values behind those so far
-abbrev pub with_more : List ℤ → Result (List ℤ) MacroFault → Result (List ℤ) MacroFault
-with_more made more = more >>= λ values. Ok (made ++ values)
-
-worth_joined : (made : List ℤ) (v : ℤ) (rest : Result (List ℤ) MacroFault)
-    → with_more made (rest >>= λ vs. Ok (v ∷ vs)) ≡ with_more (made ++ v ∷ []) rest
-worth_joined made v (Ok vs) = ap Ok (sym (append_assoc made (v ∷ []) vs))
-worth_joined made v (Err f) = refl
-
-pub worth_next : (values : Values) (trees : List Tree) (i : ℕ) (tree : Tree) (made : List Fixed) (v : Fixed)
-    → i < length trees
-    → tree ≡ get_or trees i tree → worth values tree ≡ Ok v.billionths
-    → with_more (numbers made) (all_worth values (drop i trees))
-    ≡ with_more (numbers (made ++ v ∷ [])) (all_worth values (drop (i + 1) trees))
-worth_next values trees i tree made v h is e =
-    rw (add-one, numbers_push)
-    (ap (λ l. with_more (numbers made) (all_worth values l))
-    (drop-cons trees i tree h ∙ ap (λ t. t ∷ drop (suc i) trees) (sym is))
-    ∙ ap (λ w. with_more (numbers made) (w >>= λ v. all_worth values (drop (suc i) trees) >>= λ vs. Ok (v ∷ vs))) e
-    ∙ worth_joined (numbers made) v.billionths (all_worth values (drop (suc i) trees)))
-
-pub worth_fault : (values : Values) (trees : List Tree) (i : ℕ) (tree : Tree) (made : List ℤ) (fault : MacroFault)
-    (all : Result (List ℤ) MacroFault) → i < length trees
-    → tree ≡ get_or trees i tree → with_more made (all_worth values (drop i trees)) ≡ all
-    → IsUnlessMemory fault (worth values tree) → IsUnlessMemory fault all
-worth_fault values trees i tree made fault all h is e f =
-    let found : (g : MacroFault) → worth values tree ≡ Err g → all ≡ Err g =
-    λ g w.
-    sym e
-    ∙ ap (λ l. with_more made (all_worth values l))
-    (drop-cons trees i tree h ∙ ap (λ t. t ∷ drop (suc i) trees) (sym is))
-    ∙ ap (λ x. with_more made (x >>= λ v. all_worth values (drop (suc i) trees) >>= λ vs. Ok (v ∷ vs))) w in
-    told fault (worth values tree) all found f
-
--- parts
 
 pub expansion_same : (unit : FileUnit) (v w : Values) (parts : List Part) → ((n : ℕ) → v n ≡ w n)
     → expansion unit v parts ≡ expansion unit w parts

@@ -4,6 +4,7 @@ pub mod CutLemmas
 pub mod QuotientLemmas
 pub mod FieldLemmas
 pub mod Evaluation
+pub mod FlatFields
 pub mod OutlineLemmas
 pub mod ExpansionLemmas
 pub mod Machine

@@ -1,5 +1,5 @@
 -- Expressions in postfix order, each operand before its operator.
-use Rattle.std.specs.Prelude.{◌≡◌, ℕ, zero, suc, List, [], ◌∷◌, ◌++◌, refl}
+use Rattle.std.specs.Prelude.{◌≡◌, ℕ, zero, suc, List, [], ◌∷◌, ◌++◌, reverse, refl}
 use Rattle.std.specs.Coded.{Coded, code_by, coded_list, coded×, coded_ℕ}
 use Rattle.std.proofs.Common.{append_assoc, append-nil, ap, ◌∙◌, sym}
 use Rattle.cam_macros.specs.declared.expression.Operator.{Operator}
@@ -47,6 +47,14 @@ built-postfix (Binary o a b) more stack =
 
 pub tree_of-postfix : (t : Tree) → tree_of (postfix t) ≡ t
 tree_of-postfix t = ap (λ s. tree_of s) (sym (append-nil (postfix t))) ∙ ap top (built-postfix t [] [])
+
+-- expressions one behind the other
+abbrev pub postfixes : List Tree → List Step
+postfixes [] = []
+postfixes (t ∷ trees) = postfix t ++ postfixes trees
+
+abbrev pub trees_of : List Step → List Tree
+trees_of steps = reverse (built steps [])
 
 -- a step as two numbers
 abbrev pub numbers_of : Step → ℕ × ℕ

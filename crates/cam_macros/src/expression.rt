@@ -2,6 +2,7 @@
 
 ghost use Rattle.std.specs.Prelude.{◌≡◌, IfOk, IfErr};
 ghost use Rattle.cam_macros.specs.Grammar.{IsExpression};
+ghost use Rattle.cam_macros.specs.Postfix.{postfix};
 ghost use Rattle.cam_macros.specs.Expansion.{worth};
 ghost use Rattle.cam_macros.specs.Answers.{IsUnlessMemory, Nothing, Tells};
 ghost use Rattle.cam_macros.specs.Machinery.Variables.{looked_up};
@@ -11,7 +12,7 @@ use crate::expansion::stack::evaluated;
 use crate::expansion::variables::Variables;
 use crate::fault::MacroFault;
 use crate::parsing::scanner::steps;
-use std::alloc::Global;
+use std::alloc::{AllocError, Global};
 use std::marker::Model;
 
 /// The operators of the arithmetic.
@@ -67,6 +68,22 @@ impl Expression {
         ensures fault { IfErr result (λ fault. Tells fault (Nothing (IsExpression text.now))) }
     {
         let steps = steps(alloc, text)?;
+        Ok(Expression { steps })
+    }
+
+    /// The steps, in postfix order.
+    pub(crate) fn into_steps(self) -> Vec<Step>
+        ensures { result.items ≡ postfix self }
+    {
+        let Expression { steps } = self;
+        steps
+    }
+
+    /// The same, in room for its steps and no more.
+    pub(crate) fn in_exact_room(&self, alloc: Global) -> Result<Expression, AllocError>
+        ensures { IfOk result (λ same. same ≡ self.now) }
+    {
+        let steps = self.steps.as_slice().to_vec(alloc)?;
         Ok(Expression { steps })
     }
 

@@ -1,8 +1,9 @@
 //! Aperture macros (Gerber Layer Format Specification, "Aperture macro (AM)"), read once and expanded for each
 //! aperture that names them, in whole numbers of 10^-9 units.
 //!
-//! [`Macro::parse`] reads the text of a macro, or tells the fault for which there is none; [`Macro::expand`] gives its
-//! primitives under the parameters of an aperture, or the fault of its first faulty part:
+//! [`Macro::parse`] reads the text of a macro, or tells the fault for which there is none; [`Macro::expand`], and
+//! [`expanded`] of its parts alone, give its primitives under the parameters of an aperture, or the fault of its first
+//! faulty part:
 //!
 //! ```text
 //! PAD*                      its name
@@ -33,14 +34,17 @@ mod aperture_macro;
 mod expansion;
 mod expression;
 mod fault;
+mod fields;
 mod laws;
 mod parsing;
 mod part;
 mod primitive;
 
 pub use aperture_macro::{Macro, Name};
+pub use expansion::parts::expanded;
 pub use expression::{Expression, Operator};
 pub use fault::MacroFault;
+pub use fields::Fields;
 pub use laws::{texts_are_parsed_by_the_grammar, texts_have_one_reading, texts_have_one_tree};
-pub use part::{Fields, Part, Parts};
+pub use part::{Part, Parts};
 pub use primitive::{MacroPrimitive, Points, PrimShape, Prims};

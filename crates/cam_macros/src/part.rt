@@ -1,10 +1,8 @@
 //! The parts of a macro.
 
 use crate::expression::Expression;
+use crate::fields::Fields;
 use cam_units::Items;
-
-/// The expressions of a primitive, in order.
-pub type Fields = Items<Expression>;
 
 /// A part of a macro that is no comment.
 #[derive(Debug, Drop)]

@@ -30,6 +30,11 @@ abbrev pub run : Values → List Step → List ℤ → Option (List ℤ)
 run values [] stack = Some stack
 run values (step ∷ steps) stack = option_and_then (run values steps) (stepped values step stack)
 
+-- all that is left, the top last
+abbrev pub answers : Option (List ℤ) → Result (List ℤ) MacroFault
+answers None = Err Malformed
+answers (Some stack) = Ok (reverse stack)
+
 -- what is on top
 abbrev pub answer : Option (List ℤ) → Result ℤ MacroFault
 answer None = Err Malformed

@@ -2,44 +2,24 @@
 
 ghost use Rattle.std.specs.Prelude.{◌≡◌, ℕ, Ok, OnOk, IfOk, IfErr};
 ghost use Rattle.cam_macros.specs.Answers.{IsUnlessMemory};
-ghost use Rattle.cam_macros.specs.Expansion.{all_worth, primitive_of, shape_of};
+ghost use Rattle.cam_macros.specs.Expansion.{primitive_of, shape_of};
 ghost use Rattle.cam_macros.specs.Expansion.{expansion_of, outcome, values_after, with_prims};
-ghost use Rattle.cam_macros.specs.Machinery.Values.{numbers};
 ghost use Rattle.cam_macros.specs.Machinery.Variables.{looked_up};
 
-use crate::expansion::arithmetic::Fixed;
 use crate::expansion::shapes::{bar, disc, outline, rect};
 use crate::expansion::variables::Variables;
-use crate::expression::Expression;
 use crate::fault::MacroFault;
+use crate::fields::Fields;
 use crate::part::Part;
 use crate::primitive::{MacroPrimitive, Prims};
 use cam_units::Unit;
 use std::alloc::Global;
 
-/// The values in order.
-fn values(
-    alloc: Global,
-    fields: &[Expression],
-    variables: &Variables<'_>,
-) -> Result<Vec<Fixed>, MacroFault>
-    ensures ok { IfOk result (λ values.
-        all_worth (looked_up variables.now) fields.now ≡ Ok (numbers values.items)) }
-    ensures fault { IfErr result (λ fault.
-        IsUnlessMemory fault (all_worth (looked_up variables.now) fields.now)) }
-{
-    let mut values = Vec::new(alloc);
-    for field in fields {
-        values.push(field.value(alloc, variables)?)?;
-    }
-    Ok(values)
-}
-
 /// The primitive of this code; `PrimitiveRefused` where there is none.
 fn primitive(
     alloc: Global,
     code: u32,
-    fields: &[Expression],
+    fields: &Fields,
     variables: &Variables<'_>,
     unit: Unit,
 ) -> Result<MacroPrimitive, MacroFault>
@@ -51,7 +31,7 @@ fn primitive(
     if !matches!(code, 1 | 2 | 4 | 20 | 21) {
         return Err(MacroFault::PrimitiveRefused);
     }
-    let values = values(alloc, fields, variables)?;
+    let values = fields.values(alloc, variables)?;
     match code {
         1 => disc(unit, values.as_slice()),
         4 => outline(alloc, unit, values.as_slice()),
@@ -82,15 +62,18 @@ impl Part {
                 variables.set(*variable, value)?;
             }
             Part::Primitive { code, fields } => {
-                prims.push(primitive(alloc, *code, fields.as_slice(), variables, unit)?)?;
+                prims.push(primitive(alloc, *code, fields, variables, unit)?)?;
             }
         }
         Ok(())
     }
 }
 
-/// The primitives of the parts in order, or the fault of the first faulty part.
-pub(crate) fn expanded(
+/// The primitives of the parts in order under the parameters of AD, in 10^-9 units.
+///
+/// Of the first faulty part the first of these: `PrimitiveRefused`, `Malformed`,
+/// `RotationRefused`, `SizeRefused`; `OutOfMemory` may come before.
+pub fn expanded(
     alloc: Global,
     parts: &[Part],
     params: &[i64],

@@ -4,7 +4,7 @@ ghost use Rattle.std.specs.Prelude.{◌≡◌, [], ◌∷◌, Ok, Some, OnOk, If
 ghost use Rattle.cam_macros.specs.Answers.{IsUnlessMemory};
 ghost use Rattle.cam_macros.specs.Arithmetic.{within};
 ghost use Rattle.cam_macros.specs.Machinery.Scanning.{IsFaultOf};
-ghost use Rattle.cam_macros.specs.Machinery.Stack.{put, stepped, run, answer};
+ghost use Rattle.cam_macros.specs.Machinery.Stack.{put, stack_of, stepped, run, answer};
 ghost use Rattle.cam_macros.specs.Machinery.Variables.{looked_up};
 
 use crate::expansion::arithmetic::{Fixed, Operands, Wide};
@@ -16,7 +16,7 @@ use std::marker::Model;
 
 /// Values, the top last.
 #[derive(Drop)]
-struct Stack {
+pub(crate) struct Stack {
     values: Vec<Fixed>,
 }
 
@@ -48,6 +48,14 @@ impl Stack {
         ensures { MatchOption result (self.old ≡ []) (λ value. self.old ≡ value.billionths ∷ self.new) }
     {
         self.values.pop()
+    }
+
+    /// The values, the top last.
+    pub(crate) fn into_values(self) -> Vec<Fixed>
+        ensures { stack_of result.items ≡ self }
+    {
+        let Stack { values } = self;
+        values
     }
 
     fn step(&mut self, step: Step, variables: &Variables<'_>) -> Result<(), MacroFault>
@@ -84,6 +92,24 @@ impl Stack {
     }
 }
 
+/// The values that steps leave.
+pub(crate) fn left_by(
+    alloc: Global,
+    steps: &[Step],
+    variables: &Variables<'_>,
+) -> Result<Stack, MacroFault>
+    ensures ok { IfOk result (λ stack. run (looked_up variables.now) steps.now [] ≡ Some stack) }
+    ensures fault { IfErr result (λ fault. IsFaultOf fault (run (looked_up variables.now) steps.now [])) }
+{
+    let mut stack = Stack {
+        values: Vec::new(alloc),
+    };
+    for step in steps {
+        stack.step(*step, variables)?;
+    }
+    Ok(stack)
+}
+
 /// The value that steps leave on top.
 pub(crate) fn evaluated(
     alloc: Global,
@@ -93,12 +119,7 @@ pub(crate) fn evaluated(
     ensures ok { IfOk result (λ value. answer (run (looked_up variables.now) steps.now []) ≡ Ok value.billionths) }
     ensures fault { IfErr result (λ fault. IsUnlessMemory fault (answer (run (looked_up variables.now) steps.now []))) }
 {
-    let mut stack = Stack {
-        values: Vec::new(alloc),
-    };
-    for step in steps {
-        stack.step(*step, variables)?;
-    }
+    let mut stack = left_by(alloc, steps, variables)?;
     match stack.pop() {
         Some(value) => Ok(value),
         None => Err(MacroFault::Malformed),

@@ -9,8 +9,9 @@ ghost use Rattle.cam_macros.specs.Reading.{is_silent, pieces_between, spoken};
 
 use crate::expression::Expression;
 use crate::fault::MacroFault;
+use crate::fields::Fields;
 use crate::parsing::pieces::{cut, variable};
-use crate::part::{Fields, Part, Parts};
+use crate::part::{Part, Parts};
 use cam_numbers::{Blanks, natural};
 use std::alloc::Global;
 
@@ -20,14 +21,15 @@ fn fields_of(alloc: Global, texts: Option<&[u8]>) -> Result<Fields, MacroFault>
     ensures fault { IfErr result (λ fault.
         Tells fault (Nothing (AreExpressions (pieces_between comma texts.entry)))) }
 {
-    let mut items = Vec::new(alloc);
+    let mut fields = Fields::new(alloc);
     let mut rest = texts;
     while let Some(texts) = rest {
         let (text, more) = cut(texts, b',');
-        items.push(Expression::parse(alloc, text)?)?;
+        fields.push(Expression::parse(alloc, text)?)?;
         rest = more;
     }
-    Ok(Fields::from_vec(items))
+    fields.shrink();
+    Ok(fields)
 }
 
 impl Part {
@@ -61,7 +63,9 @@ impl Part {
         let Some(variable) = variable(digits) else {
             return Err(MacroFault::Malformed);
         };
-        let value = Expression::parse(alloc, text)?;
+        let read = Expression::parse(alloc, text)?;
+        // Room that a list gives back lies between lists that stay, and serves no longer one.
+        let value = read.in_exact_room(alloc)?;
         Ok(Part::Assignment { variable, value })
     }
 

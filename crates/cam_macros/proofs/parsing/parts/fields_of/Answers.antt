@@ -11,15 +11,15 @@ returns-in_err-parse-clause-fault c =
     let all = pieces_between comma c.args.texts in
     rw (p.1, p.2)
     (fields_fault c.in_err-parse.field-0.0 c.cut.result.0.now (pieces_between comma c.cut.result.1) all
-    c.loop-rest.items.items
-    (subst (λ l. AreReadBefore l all c.loop-rest.items.items)
+    c.loop-rest.fields
+    (subst (λ l. AreReadBefore l all c.loop-rest.fields)
     (ap (pieces_between comma) c.in-Some.is ∙ c.cut.ensures.all) c.loop-rest.invariant)
     c.in_err-parse.ensures.fault)
 
 pub returns-clause-ok : goal.returns-clause-ok
 returns-clause-ok c =
     let all = pieces_between comma c.args.texts in
-    rw c.from_vec.ensures
-    (fields_end all c.loop-rest.items.items
-    (subst (λ l. AreReadBefore l all c.loop-rest.items.items) (ap (pieces_between comma) c.in_default.is)
+    rw c.shrink.ensures
+    (fields_end all c.loop-rest.fields
+    (subst (λ l. AreReadBefore l all c.loop-rest.fields) (ap (pieces_between comma) c.in_default.is)
     c.loop-rest.invariant))

@@ -7,4 +7,4 @@ abbrev pub decreases-loop-rest : goal.decreases-loop-rest
 decreases-loop-rest l = text_left l.rest
 
 abbrev pub invariant-loop-rest : goal.invariant-loop-rest
-invariant-loop-rest l = AreReadBefore (pieces_between comma l.rest) (pieces_between comma l.fn.texts) l.items.items
+invariant-loop-rest l = AreReadBefore (pieces_between comma l.rest) (pieces_between comma l.fn.texts) l.fields
