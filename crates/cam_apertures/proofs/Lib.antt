@@ -7,7 +7,7 @@ pub mod CoverLaws
 pub mod CutLemmas
 pub mod Values
 pub mod Expansions
+pub mod KeptExpansions
 pub mod Refusals
 pub mod ObroundTurns
 pub mod CoverTurns
-pub mod MacroNames

@@ -1,4 +1,4 @@
 -- Words of the contracts of inner functions: they mirror the code. A reader who trusts the definitions beside this folder has read all that the theorems mean.
 pub mod Boxes
-pub mod Names
+pub mod Macros
 pub mod Outcomes

@@ -8,16 +8,13 @@ ghost use Rattle.cam_words.specs.Heads.{packed};
 ghost use Rattle.cam_apertures.specs.Definition.{are_runs, behind_comma, circle, definition, definition_of, is_comma};
 ghost use Rattle.cam_apertures.specs.Definition.{is_of_runs, length_at, numbered, obround, parameters_of};
 ghost use Rattle.cam_apertures.specs.Definition.{pieces_of, rect, values_of, with_number, IsDefined, IsRefused};
-ghost use Rattle.cam_macros.specs.Expansion.{expansion_of};
 ghost use Rattle.cam_apertures.specs.declared.fault.AdFault.TheVariants.{BadNumber};
-ghost use Rattle.cam_apertures.specs.Machinery.Outcomes.{macro_outcome, outcome, standard_outcome, template_outcome};
+ghost use Rattle.cam_apertures.specs.Machinery.Outcomes.{outcome, standard_outcome, template_outcome};
 ghost use Rattle.cam_apertures.specs.Machinery.Outcomes.{IsErr};
 
 use crate::aperture::Aperture;
 use crate::fault::AdFault;
 use crate::macros::Macros;
-use crate::primitives::Primitives;
-use cam_macros::Macro;
 use cam_numbers::{Blanks, decimal, defined_number, is_numeric};
 use cam_units::{Nm, Unit, fix9_nm};
 use cam_words::is_skipped;
@@ -30,15 +27,16 @@ use std::alloc::{AllocError, Global};
 /// `R,xXy[Xhole]`, `O,xXy[Xhole]`, or the name of one of the macros and its parameters (Gerber
 /// Layer Format Specification, "Aperture definition (AD)"). The number is the digits behind `D`, and
 /// the name begins with the byte behind them, which may be a point or a sign. The fault is the one
-/// of least number; `OutOfMemory` may come before.
+/// of least number; `OutOfMemory` may come before. Equal expansions of a macro share their primitives.
 pub fn parse_ad(
     alloc: Global,
     text: &[u8],
-    macros: &Macros,
+    macros: &mut Macros,
     unit: Unit,
 ) -> Result<(u32, Aperture), AdFault>
-    ensures ok { IfOk result (λ made. IsDefined text.now macros.now unit made.0 made.1) }
-    ensures fault { IfErr result (IsRefused text.now macros.now unit) }
+    ensures ok { IfOk result (λ made. IsDefined text.now macros.old unit made.0 made.1) }
+    ensures fault { IfErr result (IsRefused text.now macros.old unit) }
+    ensures macros { macros.new ≡ macros.old }
 {
     let text = pack(alloc, text)?;
     defined(alloc, text.as_slice(), macros, unit)
@@ -267,43 +265,32 @@ fn standard(fewest: usize, count: usize, aperture: Aperture) -> Result<Aperture,
     Ok(aperture)
 }
 
-/// The primitives that the macro makes of the parameters.
-fn expanded(alloc: Global, found: &Macro, unit: Unit, values: &[i64]) -> Result<Aperture, AdFault>
-    ensures ok { IfOk result (λ a. macro_outcome (expansion_of unit values.now found.now.parts) ≡ Ok a) }
-    ensures fault { IfErr result (λ f. IsErr f (macro_outcome (expansion_of unit values.now found.now.parts))) }
-{
-    let prims = found.expand(alloc, values, unit)?;
-    Ok(Aperture::Prims(Primitives::from_prims(prims)))
-}
-
 /// The aperture that the template of this name makes of the parameters.
 #[tactic(auto, unfolding(crate::specs::Machinery::Outcomes::template_outcome))]
 fn template(
     alloc: Global,
     name: &[u8],
-    macros: &Macros,
+    macros: &mut Macros,
     unit: Unit,
-    values: &[i64],
+    values: Vec<i64>,
 ) -> Result<Aperture, AdFault>
-    ensures ok { IfOk result (λ a. template_outcome name.now macros.now unit values.now ≡ Ok a) }
-    ensures fault { IfErr result (λ f. IsErr f (template_outcome name.now macros.now unit values.now)) }
+    ensures ok { IfOk result (λ a. template_outcome name.now macros.old unit values.items ≡ Ok a) }
+    ensures fault { IfErr result (λ f. IsErr f (template_outcome name.now macros.old unit values.items)) }
+    ensures macros { macros.new ≡ macros.old }
 {
     if name == b"C".as_slice() {
-        return standard(1, values.len(), circle(unit, values));
+        return standard(1, values.len(), circle(unit, &values));
     }
     if name == b"R".as_slice() {
-        return standard(2, values.len(), rect(unit, values));
+        return standard(2, values.len(), rect(unit, &values));
     }
     if name == b"O".as_slice() {
-        return standard(2, values.len(), obround(unit, values));
+        return standard(2, values.len(), obround(unit, &values));
     }
     if name == b"P".as_slice() {
         return Err(AdFault::TemplateRefused);
     }
-    match macros.find(name) {
-        None => Err(AdFault::TemplateRefused),
-        Some(found) => expanded(alloc, found, unit, values),
-    }
+    macros.expand(alloc, name, unit, values)
 }
 
 /// The aperture that a text without the bytes that do not count defines, and its number.
@@ -311,11 +298,12 @@ fn template(
 fn defined(
     alloc: Global,
     text: &[u8],
-    macros: &Macros,
+    macros: &mut Macros,
     unit: Unit,
 ) -> Result<(u32, Aperture), AdFault>
-    ensures ok { IfOk result (λ made. outcome (definition text.now) macros.now unit ≡ Ok made) }
-    ensures fault { IfErr result (λ f. IsErr f (outcome (definition text.now) macros.now unit)) }
+    ensures ok { IfOk result (λ made. outcome (definition text.now) macros.old unit ≡ Ok made) }
+    ensures fault { IfErr result (λ f. IsErr f (outcome (definition text.now) macros.old unit)) }
+    ensures macros { macros.new ≡ macros.old }
 {
     let Some(definition) = Definition::read(text) else {
         return Err(AdFault::UnknownForm);
@@ -324,6 +312,6 @@ fn defined(
         return Err(AdFault::BadNumber);
     };
     let values = values(alloc, definition.parameters)?;
-    let aperture = template(alloc, definition.name, macros, unit, values.as_slice())?;
+    let aperture = template(alloc, definition.name, macros, unit, values)?;
     Ok((number, aperture))
 }

@@ -1,6 +1,6 @@
 //! The primitives of a macro aperture.
 
-ghost use Rattle.std.specs.Prelude.{◌≡◌, ◌↔◌, All, IsTrue, map};
+ghost use Rattle.std.specs.Prelude.{◌≡◌, ◌↔◌, All, IfOk, IsTrue, map};
 ghost use Rattle.cam_units.specs.Board.{IsInReach};
 ghost use Rattle.cam_apertures.specs.Cover.{IsPainted};
 ghost use Rattle.cam_apertures.specs.Primitives.{IsSoundPrim, box_of_prims};
@@ -10,12 +10,19 @@ use crate::boxes::{box_of_prims, has_place, turned};
 use crate::shape::holds;
 use cam_macros::{MacroPrimitive, Prims};
 use cam_units::{Bounds, Spot, Turn};
-use std::alloc::AllocError;
+use std::alloc::{AllocError, Global};
 use std::marker::Model;
+use std::rc::Rc;
 
-/// Primitives in their order, all within the limits, with the box of all of them beside them.
+/// Primitives in their order, all within the limits. Copies share them.
 #[derive(Debug, Drop)]
 pub struct Primitives {
+    shared: Rc<Boxed>,
+}
+
+/// Primitives, and the box of all of them beside them.
+#[derive(Debug, Drop)]
+struct Boxed {
     prims: Prims,
     bounds: Bounds,
 }
@@ -27,27 +34,30 @@ impl Model for Primitives {
 
     ghost Value = { List MacroPrimitive };
 
-    ghost view = { λ p. p.prims };
+    ghost view = { λ p. p.shared.value.prims };
 
-    ghost invariant = { λ p. IsBoxed p.prims p.bounds };
+    ghost invariant = { λ p. IsBoxed p.shared.value.prims p.shared.value.bounds };
 }
 
 impl Primitives {
     /// These primitives: sizes from 0 to 200 mm, coordinates of at most 200 mm in absolute value,
-    /// outlines of 1 to 5,000 points.
-    pub fn from_prims(prims: Prims) -> Primitives
+    /// outlines of 1 to 5,000 points. An error where no memory is left to share them.
+    pub fn from_prims(alloc: Global, prims: Prims) -> Result<Primitives, AllocError>
         requires { All IsSoundPrim prims }
-        ensures { result ≡ prims }
+        ensures { IfOk result (λ made. made ≡ prims) }
     {
         let bounds = box_of_prims(prims.as_slice());
-        Primitives { prims, bounds }
+        match Rc::new(alloc, Boxed { prims, bounds }) {
+            Ok(shared) => Ok(Primitives { shared }),
+            Err(_) => Err(AllocError),
+        }
     }
 
     /// The primitives in order.
     pub fn as_slice(&self) -> &[MacroPrimitive]
         ensures { result.now ≡ self.now }
     {
-        self.prims.as_slice()
+        self.shared.prims.as_slice()
     }
 
     /// Whether the last primitive that holds the place, once they are turned, paints; false where
@@ -59,14 +69,14 @@ impl Primitives {
         if !has_place(self.bounds(turn), spot) {
             return false;
         }
-        is_painted(self.prims.as_slice(), spot, turn)
+        is_painted(self.shared.prims.as_slice(), spot, turn)
     }
 
     /// Whether all are within the limits: always, since no others are made.
     pub(crate) fn are_sound(&self) -> bool
         ensures { IsTrue result ↔ All IsSoundPrim self.now }
     {
-        let _prims = &self.prims;
+        let _shared = &self.shared;
         true
     }
 
@@ -74,7 +84,7 @@ impl Primitives {
     pub fn bounds(&self, turn: Turn) -> Bounds
         ensures { result ≡ box_of_prims (map (turned_prim turn) self.now) }
     {
-        turned(self.bounds, turn)
+        turned(self.shared.bounds, turn)
     }
 }
 
@@ -97,10 +107,7 @@ impl Clone for Primitives {
     ghost is_clone = { λ x y. y ≡ x };
 
     fn clone(&self) -> Result<Primitives, AllocError> {
-        let prims = self.prims.clone()?;
-        Ok(Primitives {
-            prims,
-            bounds: self.bounds,
-        })
+        let shared = self.shared.clone()?;
+        Ok(Primitives { shared })
     }
 }

@@ -11,7 +11,8 @@ use Rattle.cam_apertures.specs.declared.aperture.Aperture.TheVariants.{Prims}
 use Rattle.cam_apertures.specs.declared.fault.AdFault.{AdFault}
 use Rattle.cam_apertures.specs.declared.fault.AdFault.TheVariants.{UnknownForm, BadNumber, TemplateRefused, SizeRefused}
 use Rattle.cam_apertures.specs.Faults.{of_macro}
-use Rattle.cam_apertures.specs.Definition.{by_name, circle, has_sizes, obround, rect, values_of, Definition, IsMeant}
+use Rattle.cam_apertures.specs.Definition.{by_macro, by_name, circle, has_sizes, named, obround, rect, values_of, Definition}
+use Rattle.cam_apertures.specs.Definition.{IsMeant}
 use Rattle.cam_numbers.specs.Numbers.{defined_number}
 
 unfoldable pub standard_outcome : ℕ → ℕ → Aperture → Result Aperture AdFault
@@ -23,6 +24,11 @@ standard_outcome fewest count aperture =
 abbrev pub macro_outcome : Result (List MacroPrimitive) MacroFault → Result Aperture AdFault
 macro_outcome (Ok prims) = Ok (Prims prims)
 macro_outcome (Err fault) = Err (of_macro fault)
+
+-- of the macro of this name
+abbrev pub named_outcome : List ℕ → List Macro → FileUnit → List ℤ → Result Aperture AdFault
+named_outcome name macros unit values =
+    by_macro (named macros name) (Err TemplateRefused) (λ m. macro_outcome (expansion_of unit values m.parts))
 
 unfoldable pub template_outcome : List ℕ → List Macro → FileUnit → List ℤ → Result Aperture AdFault
 template_outcome name macros unit values =

@@ -1,7 +1,8 @@
-use Rattle.std.proofs.Common.{map, List, ap, sym, ◌∙◌, arith}
+use Rattle.std.proofs.Common.{map, List, ap, subst, sym, ◌∙◌, arith}
 use Rattle.cam_units.specs.declared.bounds.Bounds.{Bounds}
 use Rattle.cam_units.specs.declared.bounds.Bounds.TheVariants.{Empty, Closed}
 use Rattle.cam_macros.specs.declared.primitive.MacroPrimitive.{MacroPrimitive}
+use Rattle.cam_apertures.specs.declared.primitives.Boxed.{Boxed}
 use Rattle.cam_apertures.specs.Machinery.Boxes.{IsSmallBox}
 use Rattle.cam_apertures.specs.Primitives.{box_of_prims}
 use Rattle.cam_apertures.specs.Turned.{IsTurnableBox, turned_box, turned_prim}
@@ -16,10 +17,13 @@ turnable (Closed low high) h = (
 )
 
 pub turned-requires : goal.turned-requires
-turned-requires c = turnable c.self.inside.bounds c.self.invariant.small
+turned-requires c =
+    subst (λ (boxed : Boxed). IsTurnableBox boxed.bounds) (sym c.deref.ensures)
+    (turnable c.self.inside.shared.value.bounds c.self.invariant.small)
 
 pub returns : goal.returns
 returns c =
     let t = c.args.turn in
-    c.turned.ensures ∙ ap (turned_box t) c.self.invariant.box ∙ sym (prims_turned t c.self.inside.prims)
+    c.turned.ensures ∙ ap (λ (boxed : Boxed). turned_box t boxed.bounds) c.deref.ensures
+    ∙ ap (turned_box t) c.self.invariant.box ∙ sym (prims_turned t c.self.inside.shared.value.prims)
     ∙ ap (λ (prims : List MacroPrimitive). box_of_prims (map (turned_prim t) prims)) c.self.view_is
