@@ -71,6 +71,10 @@ same_centres top P Q h same half = record {
     (λ held. let on = (half.has k i).0 held in (on.0, (same _).0 on.1)),
     (λ on. (half.has k i).1 (on.0, (same _).1 on.1)),
   );
+  tells = λ k i. (
+    (λ up. (same _).0 ((half.tells k i).0 up)),
+    (λ on. (half.tells k i).1 ((same _).1 on)),
+  );
   short = half.short;
 }
 

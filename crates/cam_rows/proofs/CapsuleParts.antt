@@ -24,7 +24,7 @@ bar_of c = record { from = c.from; to = c.to; width = c.width }
 abbrev IsBeforeEnd : Capsule → Spot → Type 0
 IsBeforeEnd c s = IsInBar s (bar_of c) ⊎ IsInDisc s (start_of c)
 
-in_capsule : (s : Spot) (c : Capsule) → IsInCapsule s c ↔ (IsBeforeEnd c s ⊎ IsInDisc s (end_of c))
+pub in_capsule : (s : Spot) (c : Capsule) → IsInCapsule s c ↔ (IsBeforeEnd c s ⊎ IsInDisc s (end_of c))
 in_capsule s c = (
   (λ inside. elim inside.near [
     | inl first ↦ inl (inr (record { some = inside.wide; near = first }))

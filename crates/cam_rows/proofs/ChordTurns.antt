@@ -57,7 +57,7 @@ chord_ordered first end count x room within before after =
     ]
 
 -- the centres of the run are those in the chord
-in_run : (i first end count : ℕ) (x : ℤ) (room : ℕ) → i < count
+pub in_run : (i first end count : ℕ) (x : ℤ) (room : ℕ) → i < count
     → (i < first → IsBeforeChord x room) → (first ≤ i → IsBeforeChord x room → ⊥)
     → (i < end → IsBeforeEnd x room) → (end ≤ i → IsBeforeEnd x room → ⊥)
     → ((first ≤ i) × (i < end)) ↔ (square x <ℤ pos room)
@@ -73,7 +73,7 @@ in_run i first end count x room within before not_before until not_until = (
 )
 
 -- x and y are the legs of the way from the circle's middle
-seen_in_chord : (v : Vector) (height bound : ℕ) → pos height ≡ square v.y
+pub seen_in_chord : (v : Vector) (height bound : ℕ) → pos height ≡ square v.y
     → (square v.x <ℤ pos (bound - height)) ↔ (dot v v <ℤ pos bound)
 seen_in_chord v height bound e =
     let wide = square_is v.x in

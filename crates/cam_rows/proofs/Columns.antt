@@ -12,11 +12,11 @@ use Rattle.cam_rows.specs.Machinery.Chords.{AreOffsets, AreShort, AreSteady, IsB
 use Rattle.cam_rows.specs.Rows.{IsRow}
 
 -- how far centres lie from a point
-offset_is : (x step middle first pitch : ℤ) (i : ℕ) → first ≡ x -ℤ middle → pitch ≡ step
+pub offset_is : (x step middle first pitch : ℤ) (i : ℕ) → first ≡ x -ℤ middle → pitch ≡ step
     → offset first pitch i ≡ (x +ℤ pos i *ℤ step) -ℤ middle
 offset_is x step middle first pitch i e f = rw (e, f) (omega (arith, ints))
 
-offset_short : (x step middle first pitch : ℤ) (i : ℕ) → first ≡ x -ℤ middle → pitch ≡ step
+pub offset_short : (x step middle first pitch : ℤ) (i : ℕ) → first ≡ x -ℤ middle → pitch ≡ step
     → unsigned_abs middle < place_limit → unsigned_abs x < 4000000000 → unsigned_abs (x +ℤ pos i *ℤ step) < 4000000000
     → AreShort first pitch i
 offset_short x step middle first pitch i e f h k l =

@@ -29,6 +29,7 @@ module _ (top : Centres) (number : Spot → ℤ) (h : HalfPlane)
       → IsHalfPlaneOf top (λ s. pos 0 ≤ℤ number s) h
   by_numbers row same short down fits = record {
     has = holds_natural same;
+    tells = λ k i. rw (value k i) ((λ held. held), (λ held. held));
     short = λ n rows. record {
       row = short;
       down = down;

@@ -22,6 +22,7 @@ pub mod JoinedLanes
 pub mod KeptRows
 pub mod Marked
 pub mod MissedDiscs
+pub mod NarrowedRuns
 pub mod OneRow
 pub mod Opposites
 pub mod Quarters
@@ -41,3 +42,4 @@ pub mod Sweeps
 pub mod SweptRows
 pub mod TurnedRows
 pub mod WayProducts
+pub mod WideRows

@@ -1,5 +1,5 @@
 -- On which side of the end of a run the numbers of a slope are not negative.
-use Rattle.std.proofs.Common.{◌≡◌, ℕ, ◌<◌, ◌↔◌, ℤ, pos, negsuc, ◌+ℤ◌, ◌-ℤ◌, ◌*ℤ◌, ◌≤ℤ◌, ◌<ℤ◌, subst, arith}
+use Rattle.std.proofs.Common.{◌≡◌, ℕ, ◌<◌, ◌≤◌, ◌↔◌, ℤ, pos, negsuc, ◌+ℤ◌, ◌-ℤ◌, ◌*ℤ◌, ◌≤ℤ◌, ◌<ℤ◌, subst, arith}
 use Rattle.std.proofs.lemmas.Int.{by_lt_z, ints}
 use Rattle.std.proofs.lemmas.Nat.{mul-le}
 use Rattle.cam_units.proofs.Ring.{Atom, Difference, Product, Sum, equal}
@@ -118,3 +118,25 @@ pub bit_by_near : (B : Type 0) (side : Side) (e f : ℤ) (i count : ℕ) → i <
     → B ↔ ((i < count) × IsBeside side f i)
 bit_by_near B side e f i count h same bit =
     told_by B (IsBeside side e i) (IsBeside side f i) i count bit (same_side side e f i h same)
+
+-- any centre, however far to the right
+side_of : (side : Side) (e d r m : ℤ) (i count : ℕ) → IsDivisor d → IsRest r d
+    → IsBeside side e i ↔ (pos 0 ≤ℤ number_on (numbers side (whole e d r) m d count) i)
+side_of Left e d r m i count h rest = left_of_end e d r i h rest
+side_of Right e d r m i count h rest = right_of_end e d r i h rest
+side_of Level e d r m i count h rest = level_of_end e d r i h rest
+
+pub beside_is : (s : Inside) (z : Sloped) (i : ℕ) → sloped s ≡ z → IsSlope s
+    → IsBeside s.side s.end i ↔ (pos 0 ≤ℤ number_on z i)
+beside_is s z i e slope =
+    subst (λ (z : Sloped). IsBeside s.side s.end i ↔ (pos 0 ≤ℤ number_on z i)) e
+    (side_of s.side s.end s.divisor s.rest (whole s.end_step s.divisor s.rest_step) i s.count slope.divisor slope.rest)
+
+pub beside_near : (side : Side) (e f : ℤ) (i : ℕ) → ((j : ℕ) → j ≤ i → (pos j ≤ℤ e) ↔ (pos j ≤ℤ f))
+    → IsBeside side e i ↔ IsBeside side f i
+beside_near Left e f i same = same i (omega arith)
+beside_near Right e f i same = (
+  (λ far near. far ((same i (omega arith)).1 near)),
+  (λ far near. far ((same i (omega arith)).0 near)),
+)
+beside_near Level e f i same = same 0 (omega arith)

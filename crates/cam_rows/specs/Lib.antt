@@ -1,3 +1,4 @@
 pub mod Lanes
 pub mod Machinery
 pub mod Rows
+pub mod Runs

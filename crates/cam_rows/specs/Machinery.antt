@@ -8,6 +8,7 @@ pub mod Forms
 pub mod HalfPlanes
 pub mod Kept
 pub mod Linear
+pub mod Narrowing
 pub mod Quarters
 pub mod Rings
 pub mod Slopes

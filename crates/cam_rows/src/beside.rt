@@ -54,7 +54,7 @@ pub(crate) fn keep_near_line(from: &Point, to: &Point, reach: i128, top: &Centre
 
 /// How far from 0 a cross product with a bar's way is at most, inside the bar: the whole root of the squares of the
 /// width and the length. It is -1, so that nothing is inside, where one of them is 0.
-fn reach_of(bar: &Bar) -> i128
+pub(crate) fn reach_of(bar: &Bar) -> i128
     requires { IsSoundBar bar.now }
     ensures each { (z : ℤ) → IsWithinReach z result
         ↔ IsInside z bar.now.width.0 (dot (way bar.now.from bar.now.to) (way bar.now.from bar.now.to)) }

@@ -1,5 +1,7 @@
 //! Chords of a circle, row after row.
 
+mod run;
+
 ghost use Rattle.std.specs.Prelude.{◌^◌, ◌<◌, ◌↔◌, ℕ, ℤ, IsTrue, pos, ◌≤ℤ◌, ◌<ℤ◌};
 ghost use Rattle.std.specs.Int.{IsBitSet};
 ghost use Rattle.cam_units.specs.Board.{IsOnBoard};

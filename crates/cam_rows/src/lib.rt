@@ -11,6 +11,8 @@
 //! sweep and its ring keep, with such discs, and a cap what its side and its circle keep. The stroke of a rectangle is
 //! what two half planes keep of the box of its ends, with no root; along an axis it is the box.
 //!
+//! In wide rows a bar's half planes narrow runs of columns in place of bits, with no work for a column.
+//!
 //! Where the line of a half plane crosses the rows moves by a quotient and a remainder from each to the next, and the
 //! ends of a chord are found by a walk from those of the row above: with no root and no division for a row. Where the
 //! line crosses none of them, all are changed alike.
@@ -20,9 +22,12 @@
 //!   a rectangle.
 //! - [`edge_row`], [`cap_row`]: parts of a region; [`turn_edge`] turns over what an edge of it changes, [`edge_end`]
 //!   tells where that ends at one height.
+//! - [`bar_runs`], [`disc_runs`]: the same in rows of up to 32,768 centres, a run of columns for each row;
+//!   [`run_row`]: the bits of a part of it.
 //! - [`or_rows`], [`clear_rows`], [`xor_rows`]: the 64 rows of a tile; [`pbm_bytes`]: a row in a file.
 //!
-//! What a row is stands in `specs/Rows.antt`, rows joined lane by lane in `specs/Lanes.antt`.
+//! What a row is stands in `specs/Rows.antt`, what a run is in `specs/Runs.antt`, rows joined lane by lane in
+//! `specs/Lanes.antt`.
 #![tactic(auto)]
 
 mod arc;
@@ -63,4 +68,7 @@ pub use hole::{hole_row, hole_rows};
 pub use lanes::{clear_rows, or_rows, pbm_bytes, xor_rows};
 pub use obround::{obround_row, obround_rows};
 pub use rect::{rect_row, rect_rows};
+pub use runs::bar::bar_runs;
+pub use runs::disc::disc_runs;
+pub use runs::run_row;
 pub use swept::{swept_row, swept_rows};

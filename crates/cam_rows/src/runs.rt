@@ -1,14 +1,28 @@
-//! Runs of centres, found by division.
+//! Runs of centres, found by division; those of wide rows are found row after row.
 
-ghost use Rattle.std.specs.Prelude.{◌^◌, ◌<◌, ◌≤◌, ◌↔◌, ℕ, ◌≤ℤ◌, ◌<ℤ◌};
+pub(crate) mod bar;
+pub(crate) mod disc;
+mod narrowing;
+mod wide;
+
+ghost use Rattle.std.specs.Prelude.{◌+◌, ◌^◌, ◌<◌, ◌≤◌, ◌↔◌, ℕ, ◌≤ℤ◌, ◌<ℤ◌};
+ghost use Rattle.std.specs.Int.{IsBitSet};
 ghost use Rattle.std.specs.Int.RustNames.{unsigned_abs};
 ghost use Rattle.cam_units.specs.Board.{IsOnBoard};
 ghost use Rattle.cam_shapes.specs.Plane.{seen_from};
 ghost use Rattle.cam_rows.specs.Rows.{IsRow, Marks, centre_at};
+ghost use Rattle.cam_rows.specs.Runs.{IsInRun};
 
 use crate::bits::bits_between;
 use crate::centres::Centres;
 use cam_units::Point;
+
+/// Columns of a row side by side: the first of them, and the one behind the last.
+#[derive(Clone, Copy)]
+pub(crate) struct Run {
+    pub(crate) first: u32,
+    pub(crate) end: u32,
+}
 
 /// The places from one vertical to another, both included; in half nanometres. There are none where `right` is less
 /// than `left`.
@@ -67,4 +81,18 @@ pub(crate) fn run_about(point: &Point, reach: u64, centres: &Centres) -> u64
         right: middle + reach as i64,
     };
     run_between(&strip, centres)
+}
+
+/// The bits of a run from a column of its row on: bit i for the column that stands so far to the right, of so many.
+#[inline]
+pub fn run_row(first: u32, end: u32, column: u32, count: u32) -> u64
+    requires few { count ≤ 64 }
+    ensures { (i : ℕ) → i < 64 → IsBitSet result i ↔ ((i < count) × IsInRun first end (column + i)) }
+{
+    let from = first.saturating_sub(column);
+    let to = end.saturating_sub(column).min(count);
+    if to <= from {
+        return 0;
+    }
+    bits_between(from, to)
 }

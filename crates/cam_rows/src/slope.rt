@@ -1,5 +1,7 @@
 //! Half planes, row after row: where a run ends moves by a quotient and a remainder from each row to the next.
 
+mod narrowing;
+
 ghost use Rattle.std.specs.Prelude.{◌≡◌, ◌-◌, ◌^◌, ◌/◌, ◌<◌, ◌≤◌, ◌↔◌, IsTrue, ℕ, length, pos, ◌+ℤ◌, ◌*ℤ◌, ◌≤ℤ◌, ◌<ℤ◌};
 ghost use Rattle.std.specs.Int.{IsBitSet};
 ghost use Rattle.std.specs.Int.RustNames.{unsigned_abs};
@@ -336,15 +338,15 @@ fn bits_up_to(end: i64) -> u64
     u64::MAX >> (63 - end as u32)
 }
 
-/// An end on the same side of each centre of a row.
+/// An end on the same side of each centre of a row, however wide.
 fn near_end(end: i128) -> i64
-    ensures { (i : ℕ) → i < 64 → (pos i ≤ℤ result) ↔ (pos i ≤ℤ end) }
+    ensures { (i : ℕ) → i < 2 ^ 32 → (pos i ≤ℤ result) ↔ (pos i ≤ℤ end) }
 {
     if end < 0 {
         return -1;
     }
-    if end >= 64 {
-        return 64;
+    if end >= 1 << 32 {
+        return 1 << 32;
     }
     end as i64
 }

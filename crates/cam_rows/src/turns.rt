@@ -21,7 +21,6 @@ pub(crate) trait RowTest {
 /// walking from a guess, so that a near guess takes a few tests. Any guess is right.
 #[inline]
 pub(crate) fn turn_near<T: RowTest>(test: &T, guess: u32, count: u32) -> u32
-    requires few { count ≤ 64 }
     requires ready { (i : ℕ) → i < count → T.is_ready test.now i }
     requires falls { Falls (T.holds test.now) count }
     ensures within { result ≤ count }

@@ -30,6 +30,15 @@ pub record AreSteady (o : Offsets) : Type 0 where
   pub step : pos 1 ≤ℤ o.step
   pub short : (i : ℕ) → i < o.count → AreShort o.first o.step i
 
+-- and so many as wide rows have
+pub record AreWideOffsets (o : Offsets) : Type 0 where
+  pub step : pos 1 ≤ℤ o.step
+  pub short : (i : ℕ) → i < o.count → AreShort o.first o.step i
+
+pub record AreOffsetsFrom (row : Centres) (p : Point) (o : Offsets) : Type 0 where
+  pub each : (i : ℕ) → offset o.first o.step i ≡ (seen_from p (centre_at row i)).x
+  pub count : o.count ≡ row.count
+
 -- how far the centres of a row lie to the right of a point
 pub record AreOffsets (row : Centres) (p : Point) (o : Offsets) : Type 0 where
   pub each : (i : ℕ) → offset o.first o.step i ≡ (seen_from p (centre_at row i)).x

@@ -7,7 +7,8 @@ use Rattle.cam_rows.specs.declared.half_plane.HalfPlane.{HalfPlane}
 use Rattle.cam_rows.specs.Machinery.Kept.{Has}
 use Rattle.cam_rows.specs.Machinery.Linear.{IsShortLinear}
 use Rattle.cam_rows.specs.Machinery.Slopes.{Sloped, lowered, number_on}
-use Rattle.cam_rows.specs.Rows.{AreRows}
+use Rattle.cam_rows.specs.Machinery.Narrowing.{IsUp}
+use Rattle.cam_rows.specs.Rows.{AreRows, centre_at, row_below}
 
 -- its numbers
 abbrev pub numbers_of : HalfPlane → Sloped
@@ -24,7 +25,8 @@ pub record IsShortIn (n : ℕ) (h : HalfPlane) : Type 0 where
   pub few : h.count ≤ 64
   pub rows : (k : ℕ) → k < n → unsigned_abs (lowered k (numbers_of h)).first < 2 ^ 100
 
--- in rows from the top one on, it holds the centres in a shape, and fits
+-- in rows from the top one on, it holds the centres in a shape, and those behind the last one by their numbers, and fits
 pub record IsHalfPlaneOf (top : Centres) (IsIn : Spot → Type 0) (h : HalfPlane) : Type 0 where
   pub has : (k i : ℕ) → HasCentre h k i ↔ Has top IsIn k i
+  pub tells : (k i : ℕ) → IsUp (numbers_of h) k i ↔ IsIn (centre_at (row_below top k) i)
   pub short : (n : ℕ) → AreRows top n → IsShortIn n h

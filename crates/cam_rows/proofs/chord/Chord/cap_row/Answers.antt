@@ -31,12 +31,6 @@ overflow_mul-cap c = twice_fits c.args.cap.now.centre.y c.requires.cap.centre.y
 pub from-offsets-requires : goal.from-offsets-requires
 from-offsets-requires c = record { point = c.requires.cap.centre; row = c.requires.row }
 
-pub turn_near-self-requires-clause-few : goal.turn_near-self-requires-clause-few
-turn_near-self-requires-clause-few c = c.requires.row.count.1
-
-pub turn_near-self-requires-2-clause-few : goal.turn_near-self-requires-2-clause-few
-turn_near-self-requires-2-clause-few c = c.requires.row.count.1
-
 pub bits_between-requires-clause-within : goal.bits_between-requires-clause-within
 bits_between-requires-clause-within c = omega (arith, c.requires.row.count.1, c.turn_near-self-2.ensures.within)
 

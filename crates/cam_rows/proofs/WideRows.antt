@@ -1,0 +1,162 @@
+-- Wide rows and their runs.
+use Rattle.std.proofs.Common.{◌≡◌, ℕ, ◌+◌, ◌-◌, ◌*◌, ◌<◌, ◌≤◌, ◌≢◌, ◌↔◌, List, length, slice_index, slice_set}
+use Rattle.std.proofs.Common.{ℤ, pos, ◌-ℤ◌, ◌*ℤ◌, ◌<ℤ◌}
+use Rattle.std.proofs.Common.{get_or-set_other, get_or-set_same, inl, inr, refl, subst, arith}
+use Rattle.std.specs.Int.RustNames.{unsigned_abs}
+use Rattle.std.proofs.lemmas.Bool.{cases_lt}
+use Rattle.std.proofs.lemmas.Int.{ints}
+use Rattle.cam_units.specs.Board.{IsOnBoard}
+use Rattle.cam_units.specs.declared.point.Point.{Point}
+use Rattle.cam_units.specs.declared.point.Spot.{Spot}
+use Rattle.cam_shapes.specs.declared.disc.Disc.{Disc}
+use Rattle.cam_shapes.specs.Disc.{IsInDisc}
+use Rattle.cam_shapes.specs.Plane.{seen_from, square}
+use Rattle.cam_rows.specs.declared.centres.Centres.{Centres}
+use Rattle.cam_rows.specs.declared.half_plane.HalfPlane.{HalfPlane}
+use Rattle.cam_rows.specs.Machinery.Chords.{AreOffsetsFrom, AreWideOffsets}
+use Rattle.cam_rows.specs.Machinery.HalfPlanes.{IsHalfPlaneOf, numbers_of}
+use Rattle.cam_rows.specs.Machinery.Narrowing.{AreNarrowed, IsInRow, IsUp, leftmost}
+use Rattle.cam_rows.specs.Rows.{AreRows, IsRow, centre_at, row_below}
+use Rattle.cam_rows.specs.Runs.{AreRuns, AreWideRows, IsInRun, IsWideRow}
+use Rattle.cam_rows.proofs.Chords.{in_disc_is}
+use Rattle.cam_rows.proofs.ChordTurns.{seen_in_chord}
+use Rattle.cam_rows.proofs.Circling.{square_of}
+use Rattle.cam_rows.proofs.Columns.{offset_is, offset_short}
+use Rattle.cam_rows.proofs.Slopes.{top_row}
+
+-- the top row is the first of them
+pub top_is_wide : (top : Centres) (n : ℕ) → 0 < n → AreWideRows top n → IsWideRow top
+top_is_wide top n some rows = subst IsWideRow (top_row top) (rows 0 some)
+
+-- the leftmost centre alone
+pub leftmost_row : (c : Centres) → IsWideRow c → IsRow (leftmost c)
+leftmost_row c row = record {
+  count = (omega arith, omega arith);
+  step = row.step;
+  centres = λ i few. row.centres i (omega (arith, few, row.count.0));
+}
+
+pub leftmost_rows : (top left : Centres) (n m : ℕ) → left ≡ leftmost top → m ≡ n → AreWideRows top n → AreRows left m
+leftmost_rows top left n m is size rows k within =
+    rw is (leftmost_row (row_below top k) (rows k (omega (arith, size, within))))
+
+-- how far the centres lie from a point
+module _ (row : Centres) (p : Point) (first step : ℤ) (wide : IsWideRow row) (e : first ≡ row.first.x -ℤ pos 2 *ℤ p.x)
+    (f : step ≡ row.step) where
+  pub offsets_from : AreOffsetsFrom row p (record { first = first; step = step; count = row.count })
+  offsets_from = record {
+    each = λ i. offset_is row.first.x row.step (pos 2 *ℤ p.x) first step i e f;
+    count = refl;
+  }
+
+  pub wide_offsets : IsOnBoard p → AreWideOffsets (record { first = first; step = step; count = row.count })
+  wide_offsets on =
+      let start = (wide.centres 0 (omega (arith, wide.count))).x in
+      record {
+        step = rw f wide.step;
+        short = λ i within.
+            offset_short row.first.x row.step (pos 2 *ℤ p.x) first step i e f (omega (arith, ints, on.x))
+            (omega (arith, ints, start)) (wide.centres i within).x;
+      }
+
+-- ---- runs that are narrowed
+
+-- every place
+abbrev pub IsAny : Spot → Type 0
+IsAny s = 0 ≤ 0
+
+pub whole_runs : (firsts ends : List ℕ) (top : Centres) → ((k : ℕ) → k < length firsts → slice_index firsts k ≡ 0)
+    → ((k : ℕ) → k < length firsts → slice_index ends k ≡ top.count) → AreRuns firsts ends top IsAny
+whole_runs firsts ends top begin end = record {
+  each = λ k i within small. (
+    (λ _. omega arith),
+    (λ _. (omega (arith, begin k within), omega (arith, end k within, small))),
+  );
+  within = λ k within. omega (arith, end k within);
+}
+
+pub runs_narrowed : (firsts ends new_firsts new_ends : List ℕ) (top left : Centres) (P Q : Spot → Type 0)
+    (h : HalfPlane) → left ≡ leftmost top → IsHalfPlaneOf left Q h → AreRuns firsts ends top P
+    → AreNarrowed top.count firsts ends (IsUp (numbers_of h)) (length firsts) new_firsts new_ends
+    → length new_firsts ≡ length firsts → AreRuns new_firsts new_ends top (λ s. P s × Q s)
+runs_narrowed firsts ends new_firsts new_ends top left P Q h is half runs narrowed size =
+    let told : (k i : ℕ) → IsUp (numbers_of h) k i ↔ Q (centre_at (row_below top k) i) = rw is at half.tells in
+    record {
+      each = λ k i within small.
+          let before : k < length firsts = omega (arith, within, size) in
+          let here = narrowed.each k i before small in
+          let was = runs.each k i before small in (
+            (λ on. let both = here.0 on in (was.0 both.0, (told k i).0 both.1)),
+            (λ both. here.1 (was.1 both.0, (told k i).1 both.1)),
+          );
+      within = λ k within.
+          let before : k < length firsts = omega (arith, within, size) in
+          omega (arith, narrowed.within k, runs.within k before);
+    }
+
+pub runs_like : (firsts ends : List ℕ) (top : Centres) (P Q : Spot → Type 0) → ((s : Spot) → P s ↔ Q s)
+    → AreRuns firsts ends top P → AreRuns firsts ends top Q
+runs_like firsts ends top P Q same runs = record {
+  each = λ k i within small.
+      let told = same (centre_at (row_below top k) i) in
+      let was = runs.each k i within small in
+      ((λ on. told.0 (was.0 on)), (λ held. was.1 (told.1 held)));
+  within = runs.within;
+}
+
+-- ---- runs that are found one after another
+
+pub record AreRunsAbove (firsts ends : List ℕ) (top : Centres) (IsIn : Spot → Type 0) (end : ℕ) : Type 0 where
+  pub each : (k i : ℕ) → k < end → i < top.count → IsInRow firsts ends k i ↔ IsIn (centre_at (row_below top k) i)
+  pub within : (k : ℕ) → k < end → slice_index ends k ≤ top.count
+
+pub no_run : (firsts ends : List ℕ) (top : Centres) (IsIn : Spot → Type 0) → AreRunsAbove firsts ends top IsIn 0
+no_run firsts ends top IsIn = record {
+  each = λ k i early _. absurd (omega arith);
+  within = λ k early. absurd (omega arith);
+}
+
+pub one_more_run : (firsts ends : List ℕ) (top : Centres) (IsIn : Spot → Type 0) (row first end : ℕ)
+    → row < length firsts → row < length ends → AreRunsAbove firsts ends top IsIn row
+    → ((i : ℕ) → i < top.count → IsInRun first end i ↔ IsIn (centre_at (row_below top row) i)) → end ≤ top.count
+    → AreRunsAbove (slice_set firsts row first) (slice_set ends row end) top IsIn (row + 1)
+one_more_run firsts ends top IsIn row first end in_firsts in_ends above here fits = record {
+  each = λ k i early small. elim (cases_lt k row) [
+    | inl before ↦
+        let apart : k ≢ row = omega arith in
+        rw (get_or-set_other, get_or-set_other) (above.each k i before small)
+    | inr after ↦
+        let is : k ≡ row = omega arith in
+        rw (is, get_or-set_same, get_or-set_same) (here i small)
+  ];
+  within = λ k early. elim (cases_lt k row) [
+    | inl before ↦ let apart : k ≢ row = omega arith in rw get_or-set_other (above.within k before)
+    | inr after ↦ let is : k ≡ row = omega arith in rw (is, get_or-set_same) fits
+  ];
+}
+
+pub all_found : (firsts ends : List ℕ) (top : Centres) (IsIn : Spot → Type 0) (end : ℕ) → length firsts ≤ end
+    → AreRunsAbove firsts ends top IsIn end → AreRuns firsts ends top IsIn
+all_found firsts ends top IsIn end all above = record {
+  each = λ k i within small. above.each k i (omega arith) small;
+  within = λ k within. above.within k (omega arith);
+}
+
+-- ---- discs
+
+pub in_no_run : (first end i : ℕ) (P : Type 0) → end ≡ 0 → (P → ⊥) → IsInRun first end i ↔ P
+in_no_run first end i P none off = ((λ on. absurd (omega (arith, on.1, none))), (λ held. absurd (off held)))
+
+-- a column by its distance to the side
+pub in_disc_run : (i first end room r high : ℕ) (x : ℤ) (s : Spot) (d : Disc) → pos 0 <ℤ d.diameter.0
+    → r ≡ unsigned_abs d.diameter.0 → high ≡ unsigned_abs (seen_from d.centre s).y
+    → room ≡ (r * r + 1) - high * high → x ≡ (seen_from d.centre s).x
+    → IsInRun first end i ↔ (square x <ℤ pos room) → IsInRun first end i ↔ IsInDisc s d
+in_disc_run i first end room r high x s d some e f g h told =
+    let v = seen_from d.centre s in
+    let seen = seen_in_chord v (high * high) (r * r + 1) (square_of high v.y f) in
+    let same = in_disc_is s d r (r * r + 1) some e refl in
+    let here = rw (h, g) at told in (
+      (λ on. same.1 (seen.0 (here.0 on))),
+      (λ held. here.1 (seen.1 (same.0 held))),
+    )

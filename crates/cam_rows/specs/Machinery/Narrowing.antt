@@ -1,0 +1,27 @@
+-- Runs of rows, narrowed to the columns that something holds.
+use Rattle.std.specs.Prelude.{◌≡◌, ◌↔◌, ℕ, ◌<◌, ◌≤◌, List, slice_index, pos, ◌≤ℤ◌}
+use Rattle.cam_rows.specs.declared.centres.Centres.{Centres}
+use Rattle.cam_rows.specs.Machinery.Slopes.{Sloped, lowered, number_on}
+use Rattle.cam_rows.specs.Runs.{IsInRun}
+
+-- the leftmost centre of a row alone
+abbrev pub leftmost : Centres → Centres
+leftmost c = record { first = c.first; step = c.step; count = 1 }
+
+-- the number at column i of the row that lies k steps below the top one is not negative
+abbrev pub IsUp : Sloped → ℕ → ℕ → Type 0
+IsUp s k i = pos 0 ≤ℤ number_on (lowered k s) i
+
+-- a column is in the run of a row
+abbrev pub IsInRow : List ℕ → List ℕ → ℕ → ℕ → Type 0
+IsInRow firsts ends k i = IsInRun (slice_index firsts k) (slice_index ends k) i
+
+-- of so many columns those stay in a row's run that are held there, in the rows from the top one up to an end, and the
+-- others are as they were
+pub record AreNarrowed (columns : ℕ) (firsts ends : List ℕ) (IsHeld : ℕ → ℕ → Type 0) (end : ℕ)
+    (new_firsts new_ends : List ℕ) : Type 0 where
+  pub each : (k i : ℕ) → k < end → i < columns
+      → IsInRow new_firsts new_ends k i ↔ (IsInRow firsts ends k i × IsHeld k i)
+  pub within : (k : ℕ) → slice_index new_ends k ≤ slice_index ends k
+  pub same_firsts : (k : ℕ) → end ≤ k → slice_index new_firsts k ≡ slice_index firsts k
+  pub same_ends : (k : ℕ) → end ≤ k → slice_index new_ends k ≡ slice_index ends k
