@@ -10,7 +10,6 @@ pub mod CoveredBoxes
 pub mod DemandLaws
 pub mod Dictionaries
 pub mod DrillBoxes
-pub mod DrillInking
 pub mod EditedAttributes
 pub mod EditedLayers
 pub mod Extents
@@ -18,6 +17,7 @@ pub mod GrownDictionaries
 pub mod Inking
 pub mod ItemBounds
 pub mod ItemCopies
+pub mod KeptBoxes
 pub mod KeptFacts
 pub mod MovedBounds
 pub mod MovedBoxes

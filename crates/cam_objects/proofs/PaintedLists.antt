@@ -8,6 +8,7 @@ use Rattle.std.proofs.Common.{
   ◌*◌,
   ◌<◌,
   Bool,
+  true,
   ℤ,
   List,
   [],
@@ -32,13 +33,15 @@ use Rattle.cam_units.specs.declared.point.Point.{Point}
 use Rattle.cam_units.specs.declared.point.Spot.{Spot}
 use Rattle.cam_objects.specs.Canvases.{Paints}
 use Rattle.cam_objects.specs.declared.object.Object.{Object}
-use Rattle.cam_objects.specs.Leaves.{Leaf, Meaning, repeat_leaves}
-use Rattle.cam_objects.specs.Machinery.Inking.{slots_of}
+use Rattle.cam_objects.specs.Leaves.{Leaf, Meaning, Stroke, leaf, repeat_leaves}
+use Rattle.cam_objects.specs.Machinery.Slots.{slots_of}
 use Rattle.cam_objects.proofs.Canvases.{paints_more, paints_next}
-use Rattle.cam_objects.proofs.DrillInking.{slot}
 use Rattle.cam_objects.proofs.Painting.{at_range, take-range}
 
 -- ---- the slots of a rout
+
+abbrev slot : Nm → Point → Point → Leaf
+slot d p q = leaf (Stroke (record { from = p; to = q; width = d })) true
 
 slots_more : (d : Nm) (ps : List Point) (i : ℕ) (x : Point) → suc i < length ps
     → slots_of d (take (suc (suc i)) ps)

@@ -36,7 +36,7 @@ use Rattle.std.proofs.Common.{
 }
 use Rattle.std.specs.List.{All, IsDistinct, flat_map, range_with_len}
 use Rattle.std.specs.Map.{keys_of, lookup}
-use Rattle.std.specs.Option.{IfSome, is_some}
+use Rattle.std.specs.Option.{IfSome}
 use Rattle.std.specs.Ordering.{int_eq}
 use Rattle.std.specs.Int.RustNames.{unsigned_abs}
 use Rattle.std.proofs.lemmas.Option.{get_or_from_slice_get, slice_get_within}
@@ -45,7 +45,6 @@ use Rattle.std.proofs.lemmas.List.FromFn.{get_or-range_with_len, length-range_wi
 use Rattle.cam_units.specs.Board.{IsOnBoard, IsSize}
 use Rattle.cam_units.specs.declared.length.Nm.{Nm}
 use Rattle.cam_units.specs.declared.point.Point.{Point}
-use Rattle.cam_units.specs.declared.point.Spot.{Spot}
 use Rattle.cam_units.specs.declared.turn.Turn.{Turn}
 use Rattle.cam_shapes.specs.Placing.{IsPlaceable, IsPlaceablePoint, placed_contour, placed_direction}
 use Rattle.cam_shapes.specs.Shifting.{IsShiftable}
@@ -82,11 +81,9 @@ use Rattle.cam_objects.specs.Leaves.{
   solid_tip,
   turned_tip,
 }
-use Rattle.cam_objects.specs.Machinery.Painting.{IsPaintable, IsReady, StandsOnBoard, flash_leaves, meaning_before}
+use Rattle.cam_objects.specs.Machinery.Painting.{IsPrintable, IsReadyToPrint, StandsOnBoard, flash_leaves, meaning_before}
 use Rattle.cam_objects.specs.Soundness.{AreOnBoard, IsInside, IsSoundBlock, IsSoundDictionary, IsSoundItem, MayAddEntry, points_of_shape}
-use Rattle.cam_objects.specs.Image.{Inks, IsPainted, IsUncovered}
 use Rattle.cam_objects.proofs.Dictionaries.{meant-at, meant-later, meant-absent, whole}
-use Rattle.cam_objects.proofs.Inking.{decided, undecided}
 use Rattle.cam_objects.proofs.Placed.{placeable, reach_less, reach_shifted}
 use Rattle.cam_objects.specs.declared.tip.Tip.{Tip}
 use Rattle.cam_objects.specs.declared.tip.Tip.TheVariants.{Round, Rectangular}
@@ -152,21 +149,20 @@ solid_size (Prims prims) h = tt
 
 -- ---- what is asked of a place
 
-pub paintable_block : (es : List (ℕ × Entry)) (upto i n : ℕ) (objects : List Object) (p : Place) (s : Spot) → IsDistinct nat_eq (keys_of es)
+pub paintable_block : (es : List (ℕ × Entry)) (upto i n : ℕ) (objects : List Object) (p : Place) → IsDistinct nat_eq (keys_of es)
     → slice_get es i ≡ Some (n, Block objects) → i < upto
-    → IsPaintable es upto upto p s (flash_leaves upto es n p) → IsPaintable es i (i + 1) p s (block_leaves (meaning_before i es) p objects)
-paintable_block es upto i n objects p s distinct at below h = record {
+    → IsPrintable es upto upto p (flash_leaves upto es n p) → IsPrintable es i (i + 1) p (block_leaves (meaning_before i es) p objects)
+paintable_block es upto i n objects p distinct at below h = record {
   within = omega (arith, h.within);
   sound = h.sound;
   board = subst AreOnBoard (ap (λ (m : Meaning). m.flash p) (meaning-at es i upto n (Block objects) distinct at below h.within)) h.board;
   reach = reach_less (i + 1) upto p (omega arith) h.reach;
-  spot = h.spot;
 }
 
-pub paintable_stamp : (es : List (ℕ × Entry)) (upto i n : ℕ) (a : Template) (p : Place) (s : Spot) → IsDistinct nat_eq (keys_of es)
+pub paintable_stamp : (es : List (ℕ × Entry)) (upto i n : ℕ) (a : Template) (p : Place) → IsDistinct nat_eq (keys_of es)
     → slice_get es i ≡ Some (n, Aperture a) → i < upto
-    → IsPaintable es upto upto p s (flash_leaves upto es n p) → IsOnBoard p.offset
-paintable_stamp es upto i n a p s distinct at below h =
+    → IsPrintable es upto upto p (flash_leaves upto es n p) → IsOnBoard p.offset
+paintable_stamp es upto i n a p distinct at below h =
     let l = leaf (Stamp a p.turn p.offset) p.dark in
     let all : AreOnBoard (l ∷ []) = subst AreOnBoard
     (ap (λ (m : Meaning). m.flash p) (meaning-at es i upto n (Aperture a) distinct at below h.within)) h.board in
@@ -191,16 +187,15 @@ pub board_piece : {X : Type 0} (f : X → List Leaf) (xs : List X) (i : ℕ) (x 
     → AreOnBoard (flat_map f xs) → AreOnBoard (f x)
 board_piece f xs i x h e all = subst (λ y. AreOnBoard (f y)) (sym e) (All_piece IsLeafOnBoard f xs i x h all)
 
-pub paintable_object : (es : List (ℕ × Entry)) (upto m i : ℕ) (objects : List Object) (x : Object) (p : Place) (s : Spot)
+pub paintable_object : (es : List (ℕ × Entry)) (upto m i : ℕ) (objects : List Object) (x : Object) (p : Place)
     → i < length objects → x ≡ get_or objects i x
-    → IsPaintable es upto m p s (block_leaves (meaning_before upto es) p objects)
-    → IsPaintable es upto m p s (object_leaves (meaning_before upto es) p x)
-paintable_object es upto m i objects x p s h e ready = record {
+    → IsPrintable es upto m p (block_leaves (meaning_before upto es) p objects)
+    → IsPrintable es upto m p (object_leaves (meaning_before upto es) p x)
+paintable_object es upto m i objects x p h e ready = record {
   within = ready.within;
   sound = ready.sound;
   board = board_piece (object_leaves (meaning_before upto es) p) objects i x h e ready.board;
   reach = ready.reach;
-  spot = ready.spot;
 }
 
 pub stands_at : (objects : List Object) (i : ℕ) (x : Object) → i < length objects → x ≡ get_or objects i x → All StandsOnBoard objects
@@ -261,46 +256,27 @@ take-range (suc k) (suc n) a h = ap (λ xs. a ∷ xs) (take-range k n (a + 1) (o
 pub at_range : (i n : ℕ) → i < n → i ≡ get_or (range_with_len 0 n) i i
 at_range i n h = sym (get_or-range_with_len 0 n i i h ∙ zero-add i)
 
--- the copy at i paints the place
-pub copy_decided : (s : Spot) (f : ℕ → List Leaf) (i j : ℕ) (dark : Bool) → i + 1 ≡ j → IsPainted (f i) s dark
-    → IsPainted (flat_map f (range_with_len 0 j)) s dark
-copy_decided s f i j dark one on =
-    let len = length-range_with_len 0 j in
-    subst (λ xs. IsPainted (flat_map f xs) s dark) (take-range j j 0 (omega arith))
-    (decided s f (range_with_len 0 j) i j i dark (omega arith) one (at_range i j (omega arith)) on)
-
--- it does not cover the place, and those before it decide
-pub copy_undecided : (s : Spot) (f : ℕ → List Leaf) (i j : ℕ) (ink : Option Bool) → i + 1 ≡ j → IsUncovered (f i) s
-    → Inks (flat_map f (range_with_len 0 i)) s ink → Inks (flat_map f (range_with_len 0 j)) s ink
-copy_undecided s f i j ink one off front =
-    let len = length-range_with_len 0 j in
-    subst (λ xs. Inks (flat_map f xs) s ink) (take-range j j 0 (omega arith))
-    (undecided s f (range_with_len 0 j) i j i ink (omega arith) one (at_range i j (omega arith)) off
-    (subst (λ xs. Inks (flat_map f xs) s ink) (sym (take-range i j 0 (omega arith))) front))
-
-pub ready_piece : {X : Type 0} (es : List (ℕ × Entry)) (s : Spot) (f : X → List Leaf) (xs : List X) (i : ℕ) (x : X) → i < length xs
-    → x ≡ get_or xs i x → IsReady es s (flat_map f xs) → IsReady es s (f x)
-ready_piece es s f xs i x h e ready = record {
+pub ready_piece : {X : Type 0} (es : List (ℕ × Entry)) (f : X → List Leaf) (xs : List X) (i : ℕ) (x : X) → i < length xs
+    → x ≡ get_or xs i x → IsReadyToPrint es (flat_map f xs) → IsReadyToPrint es (f x)
+ready_piece es f xs i x h e ready = record {
   few = ready.few;
   sound = ready.sound;
   board = board_piece f xs i x h e ready.board;
-  spot = ready.spot;
 }
 
-pub ready_copy : (es : List (ℕ × Entry)) (s : Spot) (f : ℕ → List Leaf) (n i : ℕ) → i < n → IsReady es s (flat_map f (range_with_len 0 n))
-    → IsReady es s (f i)
-ready_copy es s f n i h ready =
+pub ready_copy : (es : List (ℕ × Entry)) (f : ℕ → List Leaf) (n i : ℕ) → i < n → IsReadyToPrint es (flat_map f (range_with_len 0 n))
+    → IsReadyToPrint es (f i)
+ready_copy es f n i h ready =
     let len = length-range_with_len 0 n in
-    ready_piece es s f (range_with_len 0 n) i i (omega arith) (at_range i n h) ready
+    ready_piece es f (range_with_len 0 n) i i (omega arith) (at_range i n h) ready
 
-paintable_copy : (es : List (ℕ × Entry)) (k : ℕ) (s : Spot) (dx dy : ℤ) (leaves : List Leaf) → k ≡ length es → unsigned_abs dx < 2 ^ 53
-    → unsigned_abs dy < 2 ^ 53 → IsReady es s leaves → IsPaintable es k (k + 1) (shifted dx dy) s leaves
-paintable_copy es k s dx dy leaves e x y ready = record {
+paintable_copy : (es : List (ℕ × Entry)) (k : ℕ) (dx dy : ℤ) (leaves : List Leaf) → k ≡ length es → unsigned_abs dx < 2 ^ 53
+    → unsigned_abs dy < 2 ^ 53 → IsReadyToPrint es leaves → IsPrintable es k (k + 1) (shifted dx dy) leaves
+paintable_copy es k dx dy leaves e x y ready = record {
   within = omega arith;
   sound = ready.sound;
   board = ready.board;
   reach = reach_shifted k dx dy (omega (arith, ready.few)) x y;
-  spot = ready.spot;
 }
 
 -- at the layer's own level every entry counts
@@ -308,15 +284,10 @@ pub meaning_whole : (es : List (ℕ × Entry)) (k : ℕ) → k ≡ length es →
 meaning_whole es k e = ap (λ (xs : List (ℕ × Entry)). meaning_in xs) (ap (λ j. take j es) e ∙ whole es)
 
 -- where leaves are painted at that level, shifted, they may be painted with the entries so counted
-pub paintable_whole : (es : List (ℕ × Entry)) (k : ℕ) (s : Spot) (dx dy : ℤ) (p : Place) (leaves : (ℕ → Meaning) → Place → List Leaf)
+pub paintable_whole : (es : List (ℕ × Entry)) (k : ℕ) (dx dy : ℤ) (p : Place) (leaves : (ℕ → Meaning) → Place → List Leaf)
     → k ≡ length es → p ≡ shifted dx dy → unsigned_abs dx < 2 ^ 53 → unsigned_abs dy < 2 ^ 53
-    → IsReady es s (leaves (meaning_in es) (shifted dx dy)) → IsPaintable es k (k + 1) p s (leaves (meaning_before k es) p)
-paintable_whole es k s dx dy p leaves all place x y ready =
-    subst (λ q. IsPaintable es k (k + 1) q s (leaves (meaning_before k es) q)) (sym place)
-    (subst (λ means. IsPaintable es k (k + 1) (shifted dx dy) s (leaves means (shifted dx dy))) (sym (meaning_whole es k all))
-    (paintable_copy es k s dx dy (leaves (meaning_in es) (shifted dx dy)) all x y ready))
-
-pub copy_inked : (s : Spot) (f : ℕ → List Leaf) (i j : ℕ) (ink : Option Bool) → i + 1 ≡ j → is_some ink ≡ true → Inks (f i) s ink
-    → Inks (flat_map f (range_with_len 0 j)) s ink
-copy_inked s f i j None one some inks = cc
-copy_inked s f i j (Some dark) one some inks = copy_decided s f i j dark one inks
+    → IsReadyToPrint es (leaves (meaning_in es) (shifted dx dy)) → IsPrintable es k (k + 1) p (leaves (meaning_before k es) p)
+paintable_whole es k dx dy p leaves all place x y ready =
+    subst (λ q. IsPrintable es k (k + 1) q (leaves (meaning_before k es) q)) (sym place)
+    (subst (λ means. IsPrintable es k (k + 1) (shifted dx dy) (leaves means (shifted dx dy))) (sym (meaning_whole es k all))
+    (paintable_copy es k dx dy (leaves (meaning_in es) (shifted dx dy)) all x y ready))

@@ -32,8 +32,7 @@ use Rattle.std.proofs.lemmas.List.Sums.{sum_by-cons}
 use Rattle.std.proofs.lemmas.List.Elements.{All-append, All-from_get_or, All-head, All-nil, All-tail, All-weaker}
 use Rattle.std.proofs.lemmas.Map.Keys.{IsDistinct-from_apart}
 use Rattle.std.proofs.lemmas.Map.Steps.{length-le_from_distinct_below}
-use Rattle.cam_units.specs.Board.{IsOnBoard, IsPlace}
-use Rattle.cam_units.specs.declared.point.Spot.{Spot}
+use Rattle.cam_units.specs.Board.{IsOnBoard}
 use Rattle.cam_objects.specs.declared.object.Object.{Object}
 use Rattle.cam_objects.specs.declared.object.Object.TheVariants.{Flash, Draw, Arc, Region}
 use Rattle.cam_objects.specs.declared.entry.Entry.{Entry}
@@ -42,7 +41,7 @@ use Rattle.cam_objects.specs.declared.item.Item.TheVariants.{One, Repeat}
 use Rattle.cam_objects.specs.declared.item_fault.ItemFault.TheVariants.{Malformed, OutOfBoard, TooMuch, WrongAperture}
 use Rattle.cam_objects.specs.declared.layer.Layer.{Layer}
 use Rattle.cam_objects.specs.Leaves.{Leaf, item_leaves, leaves_of, meaning_in}
-use Rattle.cam_objects.specs.Machinery.Painting.{IsPaintableItem, IsReady, StandsOnBoard}
+use Rattle.cam_objects.specs.Machinery.Painting.{IsPaintableItem, IsReadyToPrint, StandsOnBoard}
 use Rattle.cam_objects.specs.Machinery.Inside.{ArePainted}
 use Rattle.cam_objects.specs.Soundness.{
   AreOnBoard,
@@ -148,14 +147,13 @@ board_all f (x ∷ xs) h =
 pub inside_leaves : (es : Pairs) (item : Item) → IsInside es item → AreOnBoard (item_leaves (meaning_in es) item)
 inside_leaves es item h = h.leaves
 
-pub ready_layer : (l : Layer) (s : Spot) → HasSoundItems l → IsPlace s → IsReady l.apertures s (leaves_of l.apertures l.items.items)
-ready_layer l s sound place = record {
+pub ready_layer : (l : Layer) → HasSoundItems l → IsReadyToPrint l.apertures (leaves_of l.apertures l.items.items)
+ready_layer l sound = record {
   few = few_entries l.apertures sound.entries;
   sound = sound.entries;
   board = board_all (item_leaves (meaning_in l.apertures)) l.items.items
       (All-weaker (IsSoundItem l.apertures) (λ x. AreOnBoard (item_leaves (meaning_in l.apertures) x))
       (λ x h. inside_leaves l.apertures x (h OutOfBoard)) l.items.items sound.items);
-  spot = place;
 }
 
 pub paintable_items : (l : Layer) → HasSoundItems l → All IsPaintableItem l.items.items

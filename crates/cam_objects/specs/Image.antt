@@ -1,6 +1,6 @@
 -- The image: painting in order, the last leaf that covers a place decides (Gerber Layer Format Specification,
 -- "Load Polarity (LP)" and "Graphics objects").
-use Rattle.std.specs.Prelude.{◌≡◌, pos, ◌-ℤ◌, ◌*ℤ◌, Bool, true, List, ◌∷◌, ◌++◌, All, Option, None, Some}
+use Rattle.std.specs.Prelude.{◌≡◌, pos, ◌-ℤ◌, ◌*ℤ◌, Bool, true, List, ◌∷◌, ◌++◌, All}
 use Rattle.cam_units.specs.declared.point.Point.{Point}
 use Rattle.cam_units.specs.declared.point.Spot.{Spot}
 use Rattle.cam_shapes.specs.Arc.{IsInArc}
@@ -41,8 +41,3 @@ pub record IsPainted (leaves : List Leaf) (s : Spot) (dark : Bool) : Type 0 wher
 -- and the last one that does is dark
 abbrev pub IsBlack : List Leaf → Spot → Type 0
 IsBlack leaves s = IsPainted leaves s true
-
--- the polarity of the last leaf that covers the place, or none where no leaf does
-abbrev pub Inks : List Leaf → Spot → Option Bool → Type 0
-Inks leaves s None = IsUncovered leaves s
-Inks leaves s (Some dark) = IsPainted leaves s dark

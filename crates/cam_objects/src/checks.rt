@@ -4,6 +4,7 @@ pub(crate) mod attributes;
 pub(crate) mod demands;
 pub(crate) mod facts;
 pub(crate) mod inside;
+pub(crate) mod last_leaves;
 pub(crate) mod layer;
 pub(crate) mod moving;
 pub(crate) mod room;

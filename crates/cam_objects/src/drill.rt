@@ -2,6 +2,5 @@
 
 pub(crate) mod bounds;
 pub(crate) mod checks;
-pub(crate) mod image;
 pub(crate) mod item_boxes;
 pub(crate) mod painting;

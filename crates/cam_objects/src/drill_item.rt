@@ -48,7 +48,7 @@ impl DrillItem {
     }
 
     /// How many holes and slots there are: one, or one for each segment of a rout.
-    pub(crate) fn leaf_count(&self) -> usize
+    pub fn leaf_count(&self) -> usize
         ensures { result ≡ drill_count_of self.now }
     {
         match self {

@@ -1,6 +1,6 @@
 //! Drill layers.
 
-ghost use Rattle.std.specs.Prelude.{◌≡◌, ◌++◌, ◌∷◌, ◌↔◌, [], IfOk, IsTrue, OnErr, OnOk};
+ghost use Rattle.std.specs.Prelude.{◌≡◌, ◌++◌, ◌∷◌, ◌↔◌, [], IfOk, IsTrue, OnErr, OnOk, sum_by};
 ghost use Rattle.cam_units.specs.Board.{IsPlace};
 ghost use Rattle.cam_objects.specs.Drilling.{drill_leaves};
 ghost use Rattle.cam_objects.specs.DrillSoundness.{
@@ -9,14 +9,17 @@ ghost use Rattle.cam_objects.specs.DrillSoundness.{
   KeepsDrillLimits,
   MayAddTool,
   MeetsDrillItem,
+  drill_count_of,
 };
 ghost use Rattle.cam_objects.specs.Image.{IsBlack};
 ghost use Rattle.cam_objects.specs.Refusals.{Tells};
 ghost use Rattle.cam_objects.specs.Tests.{is_black};
 
-use crate::drill::checks::{check_drilling, fits_limits, fits_tool};
-use crate::drill::image::is_drilled;
+use crate::drill::checks::{
+    check_drilling, fits_limits, fits_limits_beside, fits_tool, leaf_count,
+};
 use crate::drill_item::DrillItem;
+use crate::image::Pixel;
 use crate::item_fault::ItemFault;
 use crate::tools::Tools;
 use cam_units::{Nm, Spot};
@@ -101,12 +104,30 @@ impl DrillLayer {
         }
     }
 
-    /// Whether the layer with the item behind the others keeps its limits.
+    /// Whether the layer with the item behind the others keeps its limits. Goes through all items and counts their
+    /// holes and slots.
     pub fn has_room(&self, item: &DrillItem) -> bool
         requires { IsSoundDrillLayer self.now }
         ensures { IsTrue result ↔ KeepsDrillLimits (self.now.items.items ++ item.now ∷ []) }
     {
         fits_limits(&self.items, item)
+    }
+
+    /// How many holes and slots the layer has. Goes through all items.
+    pub fn leaf_count(&self) -> u64
+        requires { IsSoundDrillLayer self.now }
+        ensures { result ≡ sum_by drill_count_of self.now.items.items }
+    {
+        leaf_count(&self.items)
+    }
+
+    /// What `has_room` answers, where it is known how many holes and slots the layer has: goes through no other item.
+    pub fn has_room_beside(&self, leaves: u64, item: &DrillItem) -> bool
+        requires sound { IsSoundDrillLayer self.now }
+        requires leaves { leaves ≡ sum_by drill_count_of self.now.items.items }
+        ensures { IsTrue result ↔ KeepsDrillLimits (self.now.items.items ++ item.now ∷ []) }
+    {
+        fits_limits_beside(&self.items, leaves, item)
     }
 
     /// Whether a place, in half nm, is black: a hole or a slot covers it.
@@ -116,7 +137,9 @@ impl DrillLayer {
         ensures image { IsTrue result ↔ IsBlack (drill_leaves self.now.tools self.now.items.items) spot }
         ensures test { result ≡ is_black (drill_leaves self.now.tools self.now.items.items) spot }
     {
-        is_drilled(&self.tools, &self.items, spot)
+        let mut pixel = Pixel::clear_at(spot);
+        self.paint(&mut pixel);
+        pixel.is_dark()
     }
 
     /// The same layer in memory of its own.

@@ -11,7 +11,7 @@ ghost use Rattle.cam_objects.specs.Tests.{is_black};
 use crate::attribute::{Attribute, copies_of};
 use crate::dictionary::Dictionary;
 use crate::entry::Entry;
-use crate::image::search::ink;
+use crate::image::Pixel;
 use crate::item::Item;
 use cam_units::{Items, Spot};
 use std::alloc::{AllocError, Global};
@@ -144,6 +144,8 @@ impl Layer {
         ensures image { IsTrue result ↔ IsBlack (leaves_of self.now.apertures self.now.items.items) spot }
         ensures test { result ≡ is_black (leaves_of self.now.apertures self.now.items.items) spot }
     {
-        ink(&self.apertures, &self.items, spot).unwrap_or(false)
+        let mut pixel = Pixel::clear_at(spot);
+        self.paint(&mut pixel);
+        pixel.is_dark()
     }
 }

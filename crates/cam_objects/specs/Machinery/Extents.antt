@@ -1,13 +1,16 @@
--- What readers of boxes keep of the aperture or the tool that an item named last.
-use Rattle.std.specs.Prelude.{◌≡◌, ℕ, List}
+-- What is kept of the aperture or the tool that an item named last, by those who read boxes or count leaves.
+use Rattle.std.specs.Prelude.{◌≡◌, ℕ, ◌≤◌, List}
 use Rattle.cam_units.specs.declared.length.Nm.{Nm}
+use Rattle.cam_objects.specs.declared.checks.last_leaves.LastLeaves.{LastLeaves}
 use Rattle.cam_objects.specs.declared.drill.item_boxes.LastTool.{LastTool}
 use Rattle.cam_objects.specs.declared.entry.Entry.{Entry}
 use Rattle.cam_objects.specs.declared.boxes.extent.Extent.{Extent}
 use Rattle.cam_objects.specs.Bounds.{bounds_of}
 use Rattle.cam_objects.specs.Drilling.{diameter_of}
 use Rattle.cam_objects.specs.Leaves.{meaning_in, origin}
+use Rattle.cam_objects.specs.Limits.{leaf_limit}
 use Rattle.cam_objects.specs.Machinery.Boxes.{IsNearBox}
+use Rattle.cam_objects.specs.Weights.{weight_in}
 
 -- how far flashes and strokes of a number reach, among these entries
 pub record IsExtentIn (entries : List (ℕ × Entry)) (e : Extent) : Type 0 where
@@ -18,3 +21,8 @@ pub record IsExtentIn (entries : List (ℕ × Entry)) (e : Extent) : Type 0 wher
 -- a tool with its diameter among these
 abbrev pub IsLastToolIn : List (ℕ × Nm) → LastTool → Type 0
 IsLastToolIn tools last = last.diameter ≡ diameter_of tools last.tool
+
+-- a number with the leaves that it adds to its flash
+pub record IsLastLeavesIn (entries : List (ℕ × Entry)) (last : LastLeaves) : Type 0 where
+  pub leaves : last.leaves ≡ (weight_in entries last.number).leaves
+  pub few : last.leaves ≤ leaf_limit

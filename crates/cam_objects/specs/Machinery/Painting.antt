@@ -1,7 +1,7 @@
--- What the search for the last leaf asks of a place and of the leaves that are painted there.
-use Rattle.std.specs.Prelude.{ℕ, ◌+◌, ◌*◌, ◌^◌, ◌<◌, ◌≤◌, ℤ, pos, List, length, reverse, take, All}
+-- What painting asks of a place and of the leaves that are painted there.
+use Rattle.std.specs.Prelude.{ℕ, ◌+◌, ◌*◌, ◌^◌, ◌<◌, ◌≤◌, ℤ, List, length, reverse, take, All}
 use Rattle.std.specs.Int.RustNames.{unsigned_abs}
-use Rattle.cam_units.specs.Board.{IsOnBoard, IsPlace, board_limit}
+use Rattle.cam_units.specs.Board.{IsOnBoard, board_limit}
 use Rattle.cam_units.specs.declared.point.Spot.{Spot}
 use Rattle.cam_objects.specs.declared.object.Object.{Object}
 use Rattle.cam_objects.specs.declared.entry.Entry.{Entry}
@@ -31,19 +31,17 @@ HasReach n p =
     × (unsigned_abs p.offset.y + n * board_limit < 4400000000000000000)
 
 -- what is asked of a place at which leaves are painted, with n more placements to come
-pub record IsPaintable (entries : List (ℕ × Entry)) (upto n : ℕ) (p : Place) (s : Spot) (leaves : List Leaf) : Type 0 where
+pub record IsPrintable (entries : List (ℕ × Entry)) (upto n : ℕ) (p : Place) (leaves : List Leaf) : Type 0 where
   pub within : upto ≤ length entries
   pub sound : IsSoundDictionary entries
   pub board : AreOnBoard leaves
   pub reach : HasReach n p
-  pub spot : IsPlace s
 
--- what is asked of a dictionary, a place and the leaves that are painted as they stand
-pub record IsReady (entries : List (ℕ × Entry)) (s : Spot) (leaves : List Leaf) : Type 0 where
+-- what is asked of a dictionary and of the leaves that are painted as they stand
+pub record IsReadyToPrint (entries : List (ℕ × Entry)) (leaves : List Leaf) : Type 0 where
   pub few : length entries ≤ 2 ^ 31
   pub sound : IsSoundDictionary entries
   pub board : AreOnBoard leaves
-  pub spot : IsPlace s
 
 -- n copies of objects, each a step from the one before
 pub record IsCopied (n : ℕ) (step : ℤ) (objects : List Object) : Type 0 where
@@ -54,17 +52,6 @@ pub record IsCopied (n : ℕ) (step : ℤ) (objects : List Object) : Type 0 wher
 abbrev pub IsPaintableItem : Item → Type 0
 IsPaintableItem (One o) = StandsOnBoard o
 IsPaintableItem (Repeat columns rows i j objects) = IsCopied columns i objects × IsCopied rows j objects
-
--- ---- where no one place is asked for
-
-abbrev pub middle : Spot
-middle = record { x = pos 0; y = pos 0 }
-
-abbrev pub IsPrintable : List (ℕ × Entry) → ℕ → ℕ → Place → List Leaf → Type 0
-IsPrintable entries upto n p leaves = IsPaintable entries upto n p middle leaves
-
-abbrev pub IsReadyToPrint : List (ℕ × Entry) → List Leaf → Type 0
-IsReadyToPrint entries leaves = IsReady entries middle leaves
 
 -- leaves that cover no pixel of a canvas
 abbrev pub IsUnseen : {V : Type 0} → (V → ℕ → ℕ → Type 0) → (V → ℕ → ℕ → Spot) → V → List Leaf → Type 0

@@ -46,6 +46,13 @@ impl Layer {
 }
 
 impl<'a> ItemBoxes<'a> {
+    /// How many items there are.
+    pub(crate) fn len(&self) -> usize
+        ensures { result ≡ length self.now.items.items }
+    {
+        self.layer.items.len()
+    }
+
     /// The box of the item at a place of the list, counted from 0: that of `Layer::item_bounds`. Takes no memory.
     pub fn read(&mut self, place: usize) -> Bounds
         requires { place < length self.old.items.items }

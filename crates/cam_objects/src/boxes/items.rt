@@ -47,24 +47,6 @@ fn repeat_bounds(entries: &Dictionary, copies: &Copies, objects: &[Object]) -> B
     copies.bounds(block_bounds(entries, objects))
 }
 
-/// Whether the place lies outside the box of all copies of a repeat, so that none of them needs to be asked.
-pub(crate) fn is_repeat_missed(
-    entries: &Dictionary,
-    copies: &Copies,
-    objects: &[Object],
-    spot: Spot,
-) -> bool
-    requires entries { IsSoundDictionary entries.now }
-    requires repeat { 1 < copies.now.columns * copies.now.rows → IsBoxedRepeat entries.now copies.now objects.now }
-    ensures { IsTrue result → IsUncovered (repeat_leaves (meaning_in entries.now)
-        copies.now.columns copies.now.rows copies.now.i copies.now.j objects.now) spot }
-{
-    if copies.count() <= 1 {
-        return false;
-    }
-    !has_place(repeat_bounds(entries, copies, objects), spot)
-}
-
 impl Layer {
     /// The least box that holds the boxes of all that a sound item paints: of a flash its aperture's, of a stroke its
     /// ends' and, where it is an arc, the whole circle's, widened by half the width, of a rectangle's stroke the

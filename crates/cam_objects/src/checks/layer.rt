@@ -1,14 +1,18 @@
 //! The checks of a layer: whether an item or an entry may join it.
 
-ghost use Rattle.std.specs.Prelude.{◌++◌, ◌∷◌, ◌<◌, ◌↔◌, [], IsTrue, length, slice_set};
+ghost use Rattle.std.specs.Prelude.{◌≡◌, ◌++◌, ◌∷◌, ◌<◌, ◌↔◌, [], IsTrue, length, slice_set, sum_by};
 ghost use Rattle.cam_objects.specs.Refusals.{Tells};
-ghost use Rattle.cam_objects.specs.Soundness.{HasSoundItems, IsSoundBlock, IsSoundEntry, KeepsLimits, MayAddEntry, MeetsItem};
+ghost use Rattle.cam_objects.specs.Soundness.{HasSoundItems, IsSoundBlock, IsSoundEntry, IsSoundItem, KeepsLimits, MayAddEntry, MeetsItem};
+ghost use Rattle.cam_objects.specs.Weights.{item_count, weight_in};
 ghost use Rattle.cam_objects.specs.declared.item.Item.TheVariants.{One, Repeat};
 
 use crate::checks::demands::{are_drawable, are_formed, are_known, has_number, have_radii};
 use crate::checks::facts::{depth, leaf_count};
 use crate::checks::inside::{is_object_inside, is_repeat_inside};
-use crate::checks::room::{fits_object, fits_repeat, has_room, has_room_at};
+use crate::checks::room::{
+    fits_object, fits_repeat, has_room, has_room_at, has_room_at_beside, has_room_beside,
+    item_leaf_count, items_leaf_count,
+};
 use crate::dictionary::Dictionary;
 use crate::entry::Entry;
 use crate::item::Item;
@@ -48,6 +52,40 @@ impl Layer {
         ensures { IsTrue result ↔ KeepsLimits self.now.apertures (slice_set self.now.items.items place item.now) }
     {
         has_room_at(&self.apertures, &self.items, place, item)
+    }
+
+    /// How many leaves the layer has. Goes through all items.
+    pub fn leaf_count(&self) -> u64
+        requires { HasSoundItems self.now }
+        ensures { result ≡ sum_by (item_count (weight_in self.now.apertures)) self.now.items.items }
+    {
+        items_leaf_count(&self.apertures, &self.items)
+    }
+
+    /// How many leaves a sound item has. Goes through no block.
+    pub fn item_leaf_count(&self, item: &Item) -> u64
+        requires { IsSoundItem self.now.apertures item.now }
+        ensures { result ≡ item_count (weight_in self.now.apertures) item.now }
+    {
+        item_leaf_count(&self.apertures, item)
+    }
+
+    /// What `has_room` answers, where it is known how many leaves the layer has: goes through no other item.
+    pub fn has_room_beside(&self, leaves: u64, item: &Item) -> bool
+        requires { leaves ≡ sum_by (item_count (weight_in self.now.apertures)) self.now.items.items }
+        ensures { IsTrue result ↔ KeepsLimits self.now.apertures (self.now.items.items ++ item.now ∷ []) }
+    {
+        has_room_beside(&self.apertures, &self.items, leaves, item)
+    }
+
+    /// What `has_room_at` answers, where it is known how many leaves the layer has: goes through no other item.
+    pub fn has_room_at_beside(&self, leaves: u64, place: usize, item: &Item) -> bool
+        requires sound { HasSoundItems self.now }
+        requires within { place < length self.now.items.items }
+        requires leaves { leaves ≡ sum_by (item_count (weight_in self.now.apertures)) self.now.items.items }
+        ensures { IsTrue result ↔ KeepsLimits self.now.apertures (slice_set self.now.items.items place item.now) }
+    {
+        has_room_at_beside(&self.apertures, &self.items, leaves, place, item)
     }
 
     /// Whether the entry may be added under the number, from 10 to 2,147,483,647 and new: a sound aperture, or a

@@ -19,11 +19,13 @@ ghost use Rattle.std.specs.Prelude.{
   sum_by,
 };
 ghost use Rattle.cam_objects.specs.Limits.{leaf_limit, object_limit, segment_limit};
+ghost use Rattle.cam_objects.specs.Machinery.Extents.{IsLastLeavesIn};
 ghost use Rattle.cam_objects.specs.Soundness.{IsWithinLimits, KeepsLimits, segs_of};
 ghost use Rattle.cam_objects.specs.Weights.{block_count, item_count, weight_in};
 ghost use Rattle.cam_objects.specs.declared.item.Item.TheVariants.{One, Repeat};
 
 use crate::checks::facts::leaf_count;
+use crate::checks::last_leaves::LastLeaves;
 use crate::dictionary::Dictionary;
 use crate::item::Item;
 use crate::limits::{ITEM_LIMIT, LEAF_LIMIT, OBJECT_LIMIT, SEGMENT_LIMIT};
@@ -111,14 +113,35 @@ fn room_behind_item(entries: &Dictionary, item: &Item, room: u64) -> Option<u64>
     }
 }
 
+/// The same of the next of many items: a flash of the aperture that the one before named is counted without a look at
+/// the dictionary.
+fn room_behind_next(
+    entries: &Dictionary,
+    last: &mut LastLeaves,
+    item: &Item,
+    room: u64,
+) -> Option<u64>
+    requires last { IsLastLeavesIn entries.now last.old }
+    requires room { room ≤ leaf_limit }
+    ensures fits { IfSome result (λ left. left + item_count (weight_in entries.now) item.now ≡ room) }
+    ensures past { IfNone result (room < item_count (weight_in entries.now) item.now) }
+    ensures last { IsLastLeavesIn entries.now last.new }
+{
+    match item {
+        Item::One(object) => room.checked_sub(last.count(entries, object)),
+        Item::Repeat { .. } => room_behind_item(entries, item, room),
+    }
+}
+
 /// The room for leaves that is left behind the items of a layer, if there is room for them.
 fn room_behind_items(entries: &Dictionary, items: &[Item]) -> Option<u64>
     ensures fits { IfSome result (λ left. left + sum_by (item_count (weight_in entries.now)) items.now ≡ leaf_limit) }
     ensures past { IfNone result (leaf_limit < sum_by (item_count (weight_in entries.now)) items.now) }
 {
     let mut room = LEAF_LIMIT;
+    let mut last = LastLeaves::of(entries, 0);
     for item in items {
-        match room_behind_item(entries, item, room) {
+        match room_behind_next(entries, &mut last, item, room) {
             Some(left) => room = left,
             None => return None,
         }
@@ -139,8 +162,35 @@ pub(crate) fn has_room(entries: &Dictionary, items: &[Item], item: &Item) -> boo
     }
 }
 
+/// How many leaves the items of a layer within the limits have.
+pub(crate) fn items_leaf_count(entries: &Dictionary, items: &[Item]) -> u64
+    requires { sum_by (item_count (weight_in entries.now)) items.now ≤ leaf_limit }
+    ensures { result ≡ sum_by (item_count (weight_in entries.now)) items.now }
+{
+    LEAF_LIMIT - room_behind_items(entries, items).unwrap()
+}
+
+/// The same as `has_room`, of items that have so many leaves.
+pub(crate) fn has_room_beside(
+    entries: &Dictionary,
+    items: &[Item],
+    leaves: u64,
+    item: &Item,
+) -> bool
+    requires { leaves ≡ sum_by (item_count (weight_in entries.now)) items.now }
+    ensures { IsTrue result ↔ KeepsLimits entries.now (items.now ++ item.now ∷ []) }
+{
+    if ITEM_LIMIT <= items.len() {
+        return false;
+    }
+    if leaves > LEAF_LIMIT {
+        return false;
+    }
+    room_behind_item(entries, item, LEAF_LIMIT - leaves).is_some()
+}
+
 /// How many leaves an item within the limits has.
-fn item_leaf_count(entries: &Dictionary, item: &Item) -> u64
+pub(crate) fn item_leaf_count(entries: &Dictionary, item: &Item) -> u64
     requires { item_count (weight_in entries.now) item.now ≤ leaf_limit }
     ensures { result ≡ item_count (weight_in entries.now) item.now }
 {
@@ -162,4 +212,21 @@ pub(crate) fn has_room_at(entries: &Dictionary, items: &[Item], place: usize, it
         Some(room) => room_behind_item(entries, item, room + leaves).is_some(),
         None => false,
     }
+}
+
+/// The same as `has_room_at`, of items that have so many leaves.
+pub(crate) fn has_room_at_beside(
+    entries: &Dictionary,
+    items: &[Item],
+    leaves: u64,
+    place: usize,
+    item: &Item,
+) -> bool
+    requires limits { KeepsLimits entries.now items.now }
+    requires within { place < length items.now }
+    requires leaves { leaves ≡ sum_by (item_count (weight_in entries.now)) items.now }
+    ensures { IsTrue result ↔ KeepsLimits entries.now (slice_set items.now place item.now) }
+{
+    let before = item_leaf_count(entries, &items[place]);
+    room_behind_item(entries, item, LEAF_LIMIT - (leaves - before)).is_some()
 }

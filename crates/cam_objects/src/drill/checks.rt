@@ -49,25 +49,34 @@ pub(crate) fn fits_limits(items: &[DrillItem], item: &DrillItem) -> bool
     requires { KeepsDrillLimits items.now }
     ensures { IsTrue result ↔ KeepsDrillLimits (items.now ++ item.now ∷ []) }
 {
-    items.len() < ITEM_LIMIT && adds_up(leaf_count(items), item.leaf_count())
+    fits_limits_beside(items, leaf_count(items), item)
+}
+
+/// The same of items that have so many leaves.
+pub(crate) fn fits_limits_beside(items: &[DrillItem], leaves: u64, item: &DrillItem) -> bool
+    requires limits { KeepsDrillLimits items.now }
+    requires leaves { leaves ≡ sum_by drill_count_of items.now }
+    ensures { IsTrue result ↔ KeepsDrillLimits (items.now ++ item.now ∷ []) }
+{
+    items.len() < ITEM_LIMIT && adds_up(leaves, item.leaf_count())
 }
 
 /// Whether so many leaves and so many more are within the limit.
-fn adds_up(leaves: usize, more: usize) -> bool
+fn adds_up(leaves: u64, more: usize) -> bool
     requires { leaves ≤ leaf_limit }
     ensures { IsTrue result ↔ (leaves + more ≤ leaf_limit) }
 {
-    more as u64 <= LEAF_LIMIT - leaves as u64
+    more as u64 <= LEAF_LIMIT - leaves
 }
 
 /// How many leaves the items have.
-fn leaf_count(items: &[DrillItem]) -> usize
+pub(crate) fn leaf_count(items: &[DrillItem]) -> u64
     requires { sum_by drill_count_of items.now ≤ leaf_limit }
     ensures { result ≡ sum_by drill_count_of items.now }
 {
     let mut leaves = 0;
     for item in items {
-        leaves += item.leaf_count();
+        leaves += item.leaf_count() as u64;
     }
     leaves
 }

@@ -1,18 +1,19 @@
 //! Objects, painted on a canvas in order. Nothing is unfolded.
 
-ghost use Rattle.std.specs.Prelude.{◌+◌, All};
+ghost use Rattle.std.specs.Prelude.{◌≡◌, ◌+◌, ◌≤◌, All, IfSome, length};
 ghost use Rattle.cam_objects.specs.Canvases.{Paints};
 ghost use Rattle.cam_objects.specs.Leaves.{block_leaves, object_leaves};
+ghost use Rattle.cam_objects.specs.Machinery.Boxes.{IsSizedTip};
 ghost use Rattle.cam_objects.specs.Machinery.Painting.{IsPrintable, StandsOnBoard, flash_leaves, meaning_before};
+ghost use Rattle.cam_objects.specs.Soundness.{IsSoundDictionary};
 
 use crate::canvas::{Canvas, Figure, Print, misses};
 use crate::dictionary::Dictionary;
 use crate::entry::Entry;
-use crate::image::search::tip;
 use crate::object::Object;
 use crate::paint::prints::{paint_region, paint_stroke, paint_sweep};
 use crate::placing::place::Place;
-use crate::tip::round_width;
+use crate::tip::{Tip, round_width};
 use cam_shapes::Arc;
 
 /// Paints what a flash of the number paints at a place, if its box meets the canvas.
@@ -129,4 +130,21 @@ pub(crate) fn paint_object<C: Canvas>(
         }
         Object::Region { contour, dark } => paint_region(place, contour, *dark, canvas),
     }
+}
+
+/// What the strokes of a number are drawn with.
+fn tip(entries: &Dictionary, upto: usize, number: u32) -> Option<Tip>
+    requires within { upto ≤ length entries.now }
+    requires sound { IsSoundDictionary entries.now }
+    ensures value { result ≡ (meaning_before upto entries.now number).tip }
+    ensures size { IfSome result IsSizedTip }
+{
+    let (at, entry) = match entries.find(number) {
+        Some(found) => found,
+        None => return None,
+    };
+    if upto <= at {
+        return None;
+    }
+    entry.tip()
 }

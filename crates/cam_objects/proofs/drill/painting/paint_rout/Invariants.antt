@@ -1,6 +1,6 @@
 use Rattle.std.proofs.Common.{◌≤◌, take}
 use Rattle.cam_objects.specs.Canvases.{Paints}
-use Rattle.cam_objects.specs.Machinery.Inking.{slots_of}
+use Rattle.cam_objects.specs.Machinery.Slots.{slots_of}
 use Rattle.cam_objects.proofs.drill.painting.paint_rout.Given as goal
 
 -- the slots to the points so far are painted

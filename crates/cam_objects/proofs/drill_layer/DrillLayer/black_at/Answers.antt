@@ -1,19 +1,20 @@
-use Rattle.std.proofs.Common.{List, subst}
-use Rattle.cam_objects.specs.declared.drill_item.DrillItem.{DrillItem}
+use Rattle.std.proofs.Common.{◌↔◌, Bool, IsTrue, ap, sym, subst, ◌∙◌}
+use Rattle.cam_units.specs.declared.point.Spot.{Spot}
+use Rattle.cam_objects.specs.Image.{IsBlack}
 use Rattle.cam_objects.specs.Drilling.{drill_leaves}
-use Rattle.cam_objects.specs.Image.{Inks}
-use Rattle.cam_objects.specs.Machinery.Inking.{dark_where}
-use Rattle.cam_objects.proofs.DrillInking.{black_from_test}
-use Rattle.cam_objects.proofs.TestLaws.{test_of_image}
+use Rattle.cam_objects.specs.Tests.{is_black, painted}
+use Rattle.cam_objects.proofs.TestLaws.{black_law}
 use Rattle.cam_objects.proofs.drill_layer.DrillLayer.black_at.Goals as goal
+
+pub returns-clause-test : goal.returns-clause-test
+unfolding is_black
+returns-clause-test c =
+    c.is_dark.ensures
+    ∙ c.paint.ensures.inks 0 0 tt
+    ∙ ap (λ (p : Spot × Bool). painted p.1 (drill_leaves c.args.self.now.tools c.args.self.now.items.items) p.0)
+    c.clear_at-pixel.ensures
 
 pub returns-clause-image : goal.returns-clause-image
 returns-clause-image c =
-    black_from_test c.args.spot (drill_leaves c.args.self.now.tools c.args.self.now.items.items) c.is_drilled.result
-    (subst (λ (items : List DrillItem). Inks (drill_leaves c.args.self.now.tools items) c.args.spot (dark_where c.is_drilled.result))
-    c.deref.ensures.value c.is_drilled.ensures)
-
-pub returns-clause-test : goal.returns-clause-test
-returns-clause-test c =
-    test_of_image c.args.spot (drill_leaves c.args.self.now.tools c.args.self.now.items.items) c.is_drilled.result
-    (returns-clause-image c)
+    let leaves = drill_leaves c.args.self.now.tools c.args.self.now.items.items in
+    subst (λ b. IsTrue b ↔ IsBlack leaves c.args.spot) (sym (returns-clause-test c)) (black_law leaves c.args.spot)

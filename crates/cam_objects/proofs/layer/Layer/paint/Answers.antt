@@ -1,8 +1,8 @@
-use Rattle.std.proofs.Common.{List, sym, subst, lit<}
+use Rattle.std.proofs.Common.{List, sym, subst}
 use Rattle.std.specs.List.{All}
 use Rattle.cam_objects.specs.declared.item.Item.{Item}
 use Rattle.cam_objects.specs.Leaves.{leaves_of}
-use Rattle.cam_objects.specs.Machinery.Painting.{IsPaintableItem, IsReadyToPrint, middle}
+use Rattle.cam_objects.specs.Machinery.Painting.{IsPaintableItem, IsReadyToPrint}
 use Rattle.cam_objects.proofs.SoundLayers.{paintable_items, ready_layer}
 use Rattle.cam_objects.proofs.layer.Layer.paint.Goals as goal
 
@@ -15,4 +15,4 @@ pub paint_items-requires-clause-ready : goal.paint_items-requires-clause-ready
 paint_items-requires-clause-ready g c =
     let layer = c.args.self.now in
     subst (λ (items : List Item). IsReadyToPrint layer.apertures (leaves_of layer.apertures items))
-    (sym c.deref.ensures.value) (ready_layer layer middle c.requires (record { x = lit< tt; y = lit< tt }))
+    (sym c.deref.ensures.value) (ready_layer layer c.requires)

@@ -1,9 +1,9 @@
-use Rattle.std.proofs.Common.{lit<, sym, subst, ◌∙◌, arith}
+use Rattle.std.proofs.Common.{sym, subst, ◌∙◌, arith}
 use Rattle.std.proofs.lemmas.Option.{get_or_from_slice_get}
 use Rattle.cam_objects.specs.declared.item.Item.{Item}
 use Rattle.cam_objects.specs.Canvases.{Paints}
 use Rattle.cam_objects.specs.Leaves.{item_leaves, meaning_in}
-use Rattle.cam_objects.specs.Machinery.Painting.{IsPaintableItem, middle}
+use Rattle.cam_objects.specs.Machinery.Painting.{IsPaintableItem}
 use Rattle.cam_objects.proofs.Painting.{ready_piece}
 use Rattle.cam_objects.proofs.SoundLayers.{paintable_items, ready_layer}
 use Rattle.cam_objects.proofs.layer.Layer.paint_item.Goals as goal
@@ -17,9 +17,9 @@ paint_item-requires-clause-item g c =
 pub paint_item-requires-clause-ready : goal.paint_item-requires-clause-ready
 paint_item-requires-clause-ready g c =
     let layer = c.args.self.now in
-    ready_piece layer.apertures middle (item_leaves (meaning_in layer.apertures)) layer.items.items _ c.index.result.now
+    ready_piece layer.apertures (item_leaves (meaning_in layer.apertures)) layer.items.items _ c.index.result.now
     (omega arith) c.index.ensures
-    (ready_layer layer middle c.requires.sound (record { x = lit< tt; y = lit< tt }))
+    (ready_layer layer c.requires.sound)
 
 pub returns : goal.returns
 returns g c = λ item at.

@@ -2,7 +2,7 @@ use Rattle.std.proofs.Common.{◌<◌, ℕ, pos, ◌*ℤ◌, List, sym, subst, a
 use Rattle.cam_units.specs.declared.point.Point.{Point}
 use Rattle.cam_objects.specs.Canvases.{Paints}
 use Rattle.cam_objects.specs.Leaves.{Leaf, block_leaves, meaning_in, shifted}
-use Rattle.cam_objects.specs.Machinery.Painting.{IsReadyToPrint, middle}
+use Rattle.cam_objects.specs.Machinery.Painting.{IsReadyToPrint}
 use Rattle.cam_objects.proofs.PaintedLists.{paints_copy}
 use Rattle.cam_objects.proofs.PaintedRuns.{paints_none, paints_rest}
 use Rattle.cam_objects.proofs.Painting.{ready_copy}
@@ -28,7 +28,7 @@ paint_copy-requires-clause-ready g c =
     let copy : Point → List Leaf = λ by. block_leaves (meaning_in es) (shifted by.x by.y) c.args.objects.now in
     let below : c.loop-r.r < p.rows = omega (arith, c.requires.within.end) in
     subst (λ (by : Point). IsReadyToPrint es (copy by)) (sym c.offset-by.ensures.value)
-    (ready_copy es middle (λ r. copy (record { x = pos c.args.column *ℤ p.i; y = pos r *ℤ p.j })) p.rows c.loop-r.r below c.requires.ready)
+    (ready_copy es (λ r. copy (record { x = pos c.args.column *ℤ p.i; y = pos r *ℤ p.j })) p.rows c.loop-r.r below c.requires.ready)
 
 pub loop-r-preserved : goal.loop-r-preserved
 loop-r-preserved g c =

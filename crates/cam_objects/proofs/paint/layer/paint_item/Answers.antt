@@ -2,7 +2,7 @@ use Rattle.std.proofs.Common.{pos, lit<, sym, subst}
 use Rattle.cam_objects.specs.declared.item.Item.{Item}
 use Rattle.cam_objects.specs.Canvases.{Paints}
 use Rattle.cam_objects.specs.Leaves.{item_leaves, meaning_in, object_leaves}
-use Rattle.cam_objects.specs.Machinery.Painting.{IsPaintableItem, IsReadyToPrint, middle}
+use Rattle.cam_objects.specs.Machinery.Painting.{IsPaintableItem, IsReadyToPrint}
 use Rattle.cam_objects.proofs.ItemCopies.{repeat_again}
 use Rattle.cam_objects.proofs.Painting.{paintable_whole}
 use Rattle.cam_objects.proofs.paint.layer.paint_item.Goals as goal
@@ -10,7 +10,7 @@ use Rattle.cam_objects.proofs.paint.layer.paint_item.Goals as goal
 pub paint_object-requires-clause-ready : goal.paint_object-requires-clause-ready
 paint_object-requires-clause-ready g c =
     let es = c.args.entries.now in
-    paintable_whole es c.len.result middle (pos 0) (pos 0) c.origin.result
+    paintable_whole es c.len.result (pos 0) (pos 0) c.origin.result
     (λ means p. object_leaves means p c.in-One.object)
     c.len.ensures.value c.origin.ensures (lit< tt) (lit< tt)
     (subst (λ (item : Item). IsReadyToPrint es (item_leaves (meaning_in es) item)) c.in-One.is c.requires.ready)

@@ -1,7 +1,6 @@
 use Rattle.std.proofs.Common.{◌≡◌, ◌*◌, ◌<◌, ◌≤◌, pos, ◌*ℤ◌, List, refl, sym, subst, arith}
 use Rattle.cam_objects.specs.Canvases.{Paints}
 use Rattle.cam_objects.specs.Leaves.{Leaf, block_leaves, column_leaves, meaning_in, repeat_leaves, shifted}
-use Rattle.cam_objects.specs.Machinery.Painting.{middle}
 use Rattle.cam_objects.proofs.Canvases.{paints_nothing}
 use Rattle.cam_objects.proofs.ItemBounds.{first_on_board}
 use Rattle.cam_objects.proofs.PaintedLists.{no_copies, paints_copy}
@@ -65,7 +64,7 @@ paint_column-requires-clause-ready g c =
     let p = c.args.copies.now in
     let es = c.args.entries.now in
     let below : c.loop-c.c < p.columns = omega (arith, c.columns_over-columns.ensures.within.end) in
-    ready_copy es middle (λ k. column_leaves (meaning_in es) (pos k *ℤ p.i) p.rows p.j c.args.objects.now) p.columns c.loop-c.c below
+    ready_copy es (λ k. column_leaves (meaning_in es) (pos k *ℤ p.i) p.rows p.j c.args.objects.now) p.columns c.loop-c.c below
     c.requires.ready
 
 pub paint_column-requires-clause-unseen : goal.paint_column-requires-clause-unseen

@@ -7,7 +7,7 @@ use Rattle.cam_objects.specs.declared.placing.place.Place.{Place}
 use Rattle.cam_objects.specs.Bounds.{bounds_of}
 use Rattle.cam_objects.specs.Canvases.{Paints}
 use Rattle.cam_objects.specs.Leaves.{Leaf, Meaning, block_leaves, object_leaves, round_width}
-use Rattle.cam_objects.specs.Machinery.Painting.{HasReach, IsPrintable, StandsOnBoard, flash_leaves, meaning_before, middle}
+use Rattle.cam_objects.specs.Machinery.Painting.{HasReach, IsPrintable, StandsOnBoard, flash_leaves, meaning_before}
 use Rattle.cam_objects.specs.Soundness.{AreOnBoard}
 use Rattle.cam_objects.proofs.Canvases.{paints_missed, paints_next, paints_nothing, sound_print}
 use Rattle.cam_objects.proofs.ItemBounds.{flash_box, meaning_among}
@@ -46,7 +46,7 @@ paint_block-paint_object-requires g t c κs within =
         (
           stands_at objects i x below c.object-item.is c.requires.objects,
           paintable_object c.args.entries.now c.args.upto
-              (c.args.upto + 1) i objects x c.args.place.now middle below c.object-item.is c.requires.ready,
+              (c.args.upto + 1) i objects x c.args.place.now below c.object-item.is c.requires.ready,
         ),
       ),
     )
@@ -116,7 +116,7 @@ paint_flash-paint-requires g t c =
     let box = flash_box es c.args.number p c.in-Some.found.2.now c.bounds-bounds.result c.in-Some.ensures.value c.bounds-bounds.ensures in
     sound_print _ (
       aperture_sound es i c.args.number c.in-Aperture.aperture at c.requires.sound,
-      paintable_stamp es c.args.upto i c.args.number c.in-Aperture.aperture p middle c.find_with_facts.ensures.distinct at below c.requires,
+      paintable_stamp es c.args.upto i c.args.number c.in-Aperture.aperture p c.find_with_facts.ensures.distinct at below c.requires,
     )
     (box ∙ ap (λ (m : Meaning). bounds_of (m.flash p)) (sym among ∙ means))
 
@@ -136,7 +136,7 @@ paint_flash-paint_block-requires g t c κs within =
               (block_stands es i c.args.number c.in-Block.objects at c.requires.sound),
           subst (λ (os : List Object). IsPrintable es i (i + 1) c.args.place.now (block_leaves (meaning_before i es) c.args.place.now os))
               same
-              (paintable_block es c.args.upto i c.args.number c.in-Block.objects c.args.place.now middle c.find_with_facts.ensures.distinct
+              (paintable_block es c.args.upto i c.args.number c.in-Block.objects c.args.place.now c.find_with_facts.ensures.distinct
               at below c.requires),
         ),
       ),
@@ -189,7 +189,6 @@ paint_object-paint_flash-requires g t c κs within = (
       reach = subst (HasReach c.args.upto) (sym c.flashed-inner.ensures)
           (reach_flashed c.args.upto c.args.place.now c.in-Flash.at c.in-Flash.turn c.in-Flash.dark
           (subst StandsOnBoard c.in-Flash.is c.requires.object 0 c.in-Flash.at (omega arith)) c.requires.ready.reach);
-      spot = c.requires.ready.spot;
     },
   ),
 )
