@@ -7,3 +7,4 @@ pub mod NameLetters
 pub mod Written
 pub mod NameLaws
 pub mod OperationTexts
+pub mod PlainOperations

@@ -16,6 +16,7 @@
 #![tactic(auto)]
 
 mod command;
+mod coordinates;
 mod extended;
 mod field;
 mod laws;

@@ -1,37 +1,24 @@
 //! Words: function codes, operations, selections and the end.
 
-ghost use Rattle.std.specs.Prelude.{◌≡◌, option_map};
-ghost use Rattle.std.specs.Option.{option_copied};
+ghost use Rattle.std.specs.Prelude.{◌≡◌, IfSome, IsTrue, None};
 ghost use Rattle.cam_words.specs.Heads.{packed};
-ghost use Rattle.cam_numbers.specs.Numbers.{integer};
-ghost use Rattle.cam_commands.specs.WordCommands.{slot, mode_of, operation_code, selection, has_coordinate, operate};
+ghost use Rattle.cam_commands.specs.WordCommands.{mode_of, operation_code, selection, has_coordinate, operate};
 ghost use Rattle.cam_commands.specs.WordCommands.{by_operation_code, operation_of, operation, prefixed_selection};
 ghost use Rattle.cam_commands.specs.WordCommands.{lone_function, function, program_code, by_function, word_command};
 ghost use Rattle.cam_commands.specs.Commands.{SetUnit};
 ghost use Rattle.cam_commands.specs.declared.parts.Style.TheVariants.{Word};
 ghost use Rattle.cam_commands.specs.Fields.{field};
 ghost use Rattle.cam_commands.specs.Borrowed.{shown};
-ghost use Rattle.cam_commands.specs.Machinery.WordParts.{parts_of};
+ghost use Rattle.cam_commands.specs.Machinery.WordParts.{AreOf, plain_text};
+ghost use Rattle.cam_commands.specs.WordCommands.{Parts as WordParts};
 
 use crate::command::Command;
+use crate::coordinates::{is_there, read_coordinate};
 use crate::field::read_field;
 use crate::parts::{Mode, Operation, OperationCode, Slot, Style};
 use crate::text::is_empty;
-use cam_numbers::{Blanks, integer, natural, within_numbers};
+use cam_numbers::{Blanks, natural, within_numbers};
 use cam_units::Unit;
-
-/// X, Y, I or J of an operation.
-fn coordinate(run: Option<&[u8]>) -> Slot<i64>
-    ensures { result ≡ slot integer (option_map packed (option_copied run.entry)) }
-{
-    match run {
-        None => Slot::Omitted,
-        Some(run) => match integer(run, Blanks::Skipped) {
-            None => Slot::Malformed,
-            Some(n) => Slot::Written(n),
-        },
-    }
-}
 
 /// The mode that a G code sets.
 #[tactic(auto, unfolding(crate::specs::WordCommands::mode_of))]
@@ -71,39 +58,39 @@ fn selection(code: u64) -> Command<'static>
     }
 }
 
-/// The runs behind the letters of an operation, and its mode.
+/// What the letters of an operation say, and its mode.
 #[derive(Clone, Copy)]
 struct Parts<'a> {
     mode: Option<Mode>,
-    x: Option<&'a [u8]>,
-    y: Option<&'a [u8]>,
-    i: Option<&'a [u8]>,
-    j: Option<&'a [u8]>,
+    x: Slot<i64>,
+    y: Slot<i64>,
+    i: Slot<i64>,
+    j: Slot<i64>,
     d: Option<&'a [u8]>,
 }
 
 fn has_coordinate(parts: Parts<'_>) -> bool
-    ensures { result ≡ has_coordinate (parts_of parts.entry) }
+    ensures { (p : WordParts) → AreOf parts.entry p → result ≡ has_coordinate p }
 {
-    parts.x.is_some() || parts.y.is_some() || parts.i.is_some() || parts.j.is_some()
+    is_there(parts.x) || is_there(parts.y) || is_there(parts.i) || is_there(parts.j)
 }
 
 fn operate(parts: Parts<'_>, code: Option<OperationCode>) -> Command<'static>
-    ensures { shown result ≡ operate (parts_of parts.entry) code }
+    ensures { (p : WordParts) → AreOf parts.entry p → shown result ≡ operate p code }
 {
     Command::Operate(Operation {
         mode: parts.mode,
-        x: coordinate(parts.x),
-        y: coordinate(parts.y),
-        i: coordinate(parts.i),
-        j: coordinate(parts.j),
+        x: parts.x,
+        y: parts.y,
+        i: parts.i,
+        j: parts.j,
         code,
     })
 }
 
 /// An operation by its D code; another code selects, where it stands alone.
 fn by_operation_code(parts: Parts<'_>, code: u64) -> Command<'static>
-    ensures { shown result ≡ by_operation_code (parts_of parts.entry) code (operation_code code) }
+    ensures { (p : WordParts) → AreOf parts.entry p → shown result ≡ by_operation_code p code (operation_code code) }
 {
     if let Some(named) = operation_code(code) {
         return operate(parts, Some(named));
@@ -116,7 +103,7 @@ fn by_operation_code(parts: Parts<'_>, code: u64) -> Command<'static>
 
 #[tactic(auto, using(crate::proofs::CodeNumbers::capped), unfolding(crate::specs::WordCommands::operation_of))]
 fn operation_of(parts: Parts<'_>) -> Command<'static>
-    ensures { shown result ≡ operation_of (parts_of parts.entry) }
+    ensures { (p : WordParts) → AreOf parts.entry p → shown result ≡ operation_of p }
 {
     let Some(run) = parts.d else {
         if has_coordinate(parts) {
@@ -130,25 +117,51 @@ fn operation_of(parts: Parts<'_>) -> Command<'static>
     by_operation_code(parts, code)
 }
 
+/// The operation of `D01`, `D02` or `D03`, written so to the end of a word.
+fn plain_code(text: &[u8]) -> Option<OperationCode>
+    ensures { IfSome result (λ code. text.now ≡ plain_text code) }
+{
+    if text.len() != 3 || text[0] != b'D' || text[1] != b'0' {
+        return None;
+    }
+    match text[2] {
+        b'1' => Some(OperationCode::Plot),
+        b'2' => Some(OperationCode::Move),
+        b'3' => Some(OperationCode::Flash),
+        _ => None,
+    }
+}
+
 /// `[X..][Y..][I..][J..][D..]`, behind the G code of the mode or without one.
 #[tactic(auto, using(crate::proofs::CodeNumbers::capped), unfolding(crate::specs::WordCommands::operation))]
 fn operation(mode: Option<Mode>, text: &[u8]) -> Command<'static>
     ensures { shown result ≡ operation mode (packed text.now) }
 {
-    let x = read_field(b'X', text);
-    let y = read_field(b'Y', x.behind);
-    let i = read_field(b'I', y.behind);
-    let j = read_field(b'J', i.behind);
+    let x = read_coordinate(b'X', text);
+    let y = read_coordinate(b'Y', x.behind);
+    // Nearly all operations end here.
+    if let Some(code) = plain_code(y.behind) {
+        return Command::Operate(Operation {
+            mode,
+            x: x.slot,
+            y: y.slot,
+            i: Slot::Omitted,
+            j: Slot::Omitted,
+            code: Some(code),
+        });
+    }
+    let i = read_coordinate(b'I', y.behind);
+    let j = read_coordinate(b'J', i.behind);
     let d = read_field(b'D', j.behind);
     if !is_empty(d.behind) {
         return Command::Unknown;
     }
     operation_of(Parts {
         mode,
-        x: x.run,
-        y: y.run,
-        i: i.run,
-        j: j.run,
+        x: x.slot,
+        y: y.slot,
+        i: i.slot,
+        j: j.slot,
         d: d.run,
     })
 }
@@ -246,11 +259,24 @@ fn by_function(text: &[u8]) -> Command<'static>
     function(code, g.behind)
 }
 
+/// Whether the word is an operation that begins with X or Y, as nearly all words do.
+fn begins_with_axis(text: &[u8]) -> bool
+    ensures { IsTrue result → word_command (packed text.now) ≡ operation None (packed text.now) }
+{
+    if text.is_empty() {
+        return false;
+    }
+    text[0] == b'X' || text[0] == b'Y'
+}
+
 /// What a word says.
 #[tactic(auto, using(crate::proofs::CodeNumbers::capped), unfolding(crate::specs::WordCommands::word_command))]
 pub fn word_command(text: &[u8]) -> Command<'static>
     ensures { shown result ≡ word_command (packed text.now) }
 {
+    if begins_with_axis(text) {
+        return operation(None, text);
+    }
     if is_empty(text) {
         return Command::Nothing;
     }

@@ -1,9 +1,9 @@
-use Rattle.std.proofs.Common.{◌∙◌, refl}
+use Rattle.std.proofs.Common.{◌≡◌, ◌∙◌, sym, Some, refl}
 use Rattle.cam_words.specs.Heads.{packed}
-use Rattle.cam_commands.specs.Machinery.WordParts.{parts_of}
 use Rattle.cam_commands.proofs.CodeNumbers.{said_there}
 use Rattle.cam_commands.proofs.words.operation_of.Goals as goal
 
 pub returns : goal.returns
-returns c = c.by_operation_code.ensures
-    ∙ said_there (parts_of c.args.parts) (packed c.in-Some.run'.now) c.in-Some-natural.code (rw c.in-Some.is refl) c.in-Some-natural.ensures
+returns c p is =
+    let run : p.d ≡ Some (packed c.in-Some.run'.now) = sym is.d ∙ rw c.in-Some.is refl in
+    c.by_operation_code.ensures p is ∙ said_there p (packed c.in-Some.run'.now) c.in-Some-natural.code run c.in-Some-natural.ensures
