@@ -285,3 +285,19 @@ first_piece p (x ∷ xs) =
 
 pub name_before_star : (text : List ℕ) → before_first (λ b. b == 42) (packed text) ≡ first (pieces text)
 name_before_star text = sym (first_piece (λ b. b == 42) (packed text))
+
+-- macros that are the same are tracked
+pub same_macros : (past : Past) (r : Running) (macros : List Macro) → macros ≡ r.built.macros → Tracks past r
+    → Tracks past (record r { built = record r.built { macros = macros } })
+same_macros past r macros e t = record {
+  modal = t.modal;
+  region = t.region;
+  frames = t.frames;
+  built = record {
+    entries = t.built.entries;
+    items = t.built.items;
+    macros = e ∙ t.built.macros;
+    leaves = t.built.leaves;
+  };
+  attributes = t.attributes;
+}

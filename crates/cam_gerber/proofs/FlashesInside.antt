@@ -1,8 +1,14 @@
 -- A flash is well made, and a check tells whether a leaf of it lies outside the board.
-use Rattle.std.proofs.Common.{◌≡◌, ℕ, List, [], ◌∷◌, Bool, true, false, Option, Some, None, Result, refl, sym, ap, ap₂, subst, ◌∙◌}
+use Rattle.std.proofs.Common.{◌≡◌, ℕ, ◌+◌, List, [], ◌∷◌, length, arith, Bool, true, false, Option, Some, None, Result, refl, sym, ap, ap₂, subst, ◌∙◌}
 use Rattle.std.specs.Prelude.{map, ◌&&◌, not, is_some}
 use Rattle.std.specs.Option.{option_map}
-use Rattle.std.proofs.lemmas.List.Elements.{All-cons, All-nil}
+use Rattle.std.proofs.lemmas.List.Elements.{All-cons, All-head, All-nil}
+use Rattle.std.proofs.lemmas.Option.{slice_get_within}
+use Rattle.cam_objects.specs.declared.entry.Entry.{Entry}
+use Rattle.cam_objects.specs.declared.entry.Entry.TheVariants.{Aperture}
+use Rattle.cam_objects.specs.Weights.{Weight, entry_weight, no_weight, weight_in}
+use Rattle.cam_objects.proofs.Dictionaries.{meant-at, whole}
+use Rattle.cam_objects.proofs.Painting.{meaning-at, meaning_whole}
 use Rattle.cam_units.specs.Board.{IsOnBoard}
 use Rattle.cam_units.specs.declared.point.Point.{Point}
 use Rattle.cam_units.specs.declared.turn.Turn.{Turn}
@@ -10,7 +16,7 @@ use Rattle.cam_objects.specs.declared.item.Item.TheVariants.{One}
 use Rattle.cam_objects.specs.declared.item_fault.ItemFault.{ItemFault}
 use Rattle.cam_objects.specs.declared.object.Object.{Object}
 use Rattle.cam_objects.specs.declared.object.Object.TheVariants as object
-use Rattle.cam_objects.specs.Leaves.{item_leaves, meaning_in}
+use Rattle.cam_objects.specs.Leaves.{Meaning, Stamp, flashed, item_leaves, leaf, meaning_in, origin, placed}
 use Rattle.cam_objects.specs.Refusals.{Tells}
 use Rattle.cam_objects.specs.Soundness.{HasNumber, MeetsItem}
 use Rattle.cam_gerber.specs.declared.running.Running.{Running}
@@ -18,9 +24,10 @@ use Rattle.cam_gerber.specs.State.{Past}
 use Rattle.cam_gerber.specs.Homes.{Opened, home, home_by, open_blocks, open_repeat}
 use Rattle.cam_gerber.specs.Layers.{entries_in}
 use Rattle.cam_gerber.specs.Faults.{are_on_board, is_empty, is_on_board, is_outside, is_outside_at}
-use Rattle.cam_gerber.specs.Machinery.Tracking.{HasPast, TracksPlaces, block_of, repeat_of}
-use Rattle.cam_gerber.specs.Machinery.WellMade.{IsWellMade, is_of_board}
-use Rattle.cam_gerber.proofs.Outside.{on_board, outside_is, told_outside}
+use Rattle.cam_gerber.specs.Machinery.Tracking.{HasPast, TracksPlaces, Weighs, block_of, repeat_of}
+use Rattle.cam_gerber.specs.Machinery.WellMade.{IsOfAperture, IsWellMade, NamesAperture, is_of_board}
+use Rattle.cam_gerber.proofs.Outside.{on_board, outside_is, passes_board, told_outside}
+use Rattle.cam_gerber.proofs.StandingLeaves.{stands}
 use Rattle.cam_gerber.proofs.SoundViews.{IsKnownNumber}
 use Rattle.cam_gerber.proofs.SoundJoining.{sound_past}
 
@@ -65,6 +72,55 @@ judged_now past r o check t e well tells =
     }) tells
     ∙ ap (λ es. not (are_on_board (item_leaves (meaning_in es) (One o)))) t.built.entries ∙ sym (outside_is past (One o))
     ∙ sym (judged past (open_blocks past) (open_repeat past) o ∙ ap (λ b. not b && is_outside past (One o)) (sym (in_repeat past r t) ∙ e))
+
+pub judged_inside : (past : Past) (r : Running) (o : Object) → TracksPlaces past r
+    → are_on_board (item_leaves (meaning_in r.built.layer.apertures) (One o)) ≡ true → is_outside_at (home past) past o ≡ false
+judged_inside past r o t on =
+    let inside : is_outside past (One o) ≡ false = outside_is past (One o)
+    ∙ ap (λ es. not (are_on_board (item_leaves (meaning_in es) (One o)))) (sym t.built.entries) ∙ ap not on in
+    judged past (open_blocks past) (open_repeat past) o
+    ∙ ap (λ b. not (is_empty (open_blocks past) && is_some (open_repeat past)) && b) inside
+    ∙ none_holds (not (is_empty (open_blocks past) && is_some (open_repeat past)))
+  where
+    none_holds : (b : Bool) → (b && false) ≡ false
+    none_holds true = refl
+    none_holds false = refl
+
+-- ---- a flash of an aperture
+
+means_stamp : (es : List (ℕ × Entry)) (n : ℕ) (at : Point) (turn : Turn) (dark : Bool) (names : NamesAperture es n)
+    → (meaning_in es n).flash (flashed origin at turn dark)
+    ≡ leaf (Stamp names.aperture (flashed origin at turn dark).turn (placed origin at)) (flashed origin at turn dark).dark ∷ []
+means_stamp es n at turn dark names =
+    ap (λ (means : ℕ → Meaning). (means n).flash (flashed origin at turn dark)) (sym (meaning_whole es (length es) refl))
+    ∙ ap (λ (m : Meaning). m.flash (flashed origin at turn dark))
+    (meaning-at es names.place (length es) n (Aperture names.aperture) names.distinct names.found
+    (slice_get_within es names.place (n, Aperture names.aperture) names.found) (omega arith))
+
+weighs_nothing : (es : List (ℕ × Entry)) (n : ℕ) → NamesAperture es n → weight_in es n ≡ no_weight
+weighs_nothing es n names =
+    ap (λ (xs : List (ℕ × Entry)). weight_in xs n) (sym (whole es))
+    ∙ meant-at no_weight entry_weight es names.place (length es) n (Aperture names.aperture) names.distinct names.found
+    (slice_get_within es names.place (n, Aperture names.aperture) names.found) (omega arith)
+
+pub stamp_inside : (es : List (ℕ × Entry)) (o : Object) → IsOfAperture es o → IsWellMade es o
+    → are_on_board (item_leaves (meaning_in es) (One o)) ≡ true
+stamp_inside es (object.Flash n at turn dark) names well =
+    let there : is_on_board (placed origin at) ≡ true = passes_board (placed origin at) (stands at (All-head IsOnBoard at [] well.points)) in
+    ap are_on_board (means_stamp es n at turn dark names) ∙ rw there refl
+stamp_inside es (object.Draw n from to turn dark) names well = absurd names
+stamp_inside es (object.Arc n from to centre ccw dark) names well = absurd names
+stamp_inside es (object.Region contour dark) names well = absurd names
+
+pub stamp_weighs : (es : List (ℕ × Entry)) (o : Object) → IsOfAperture es o → Weighs (record { leaves = 1; depth = 0 }) es o
+stamp_weighs es (object.Flash n at turn dark) names =
+    let none = weighs_nothing es n names in record {
+      leaves = ap (λ (w : Weight). 1 + w.leaves) (sym none);
+      depth = ap (λ (w : Weight). w.depth) (sym none);
+    }
+stamp_weighs es (object.Draw n from to turn dark) names = absurd names
+stamp_weighs es (object.Arc n from to centre ccw dark) names = absurd names
+stamp_weighs es (object.Region contour dark) names = absurd names
 
 -- ---- a flash
 

@@ -105,7 +105,7 @@ impl Running {
         ensures { Obeys (command.DefineAperture (packed text.now)) self.old result self.new }
     {
         let unit = self.modal.unit.unwrap_or(Unit::Mm);
-        match parse_ad(self.alloc, text, &self.built.macros, unit) {
+        match parse_ad(self.alloc, text, &mut self.built.macros, unit) {
             Err(fault) => match fault {
                 AdFault::OutOfMemory => Err(Stop::Memory),
                 _ => {

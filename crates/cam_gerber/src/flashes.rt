@@ -1,6 +1,6 @@
 //! Flashes, and what an operation does.
 
-ghost use Rattle.std.specs.Prelude.{◌≡◌, ◌&&◌, false, is_some, true};
+ghost use Rattle.std.specs.Prelude.{◌≡◌, ◌&&◌, IfNone, IfSome, false, is_some, true};
 ghost use Rattle.cam_commands.specs.Commands as command;
 ghost use Rattle.cam_commands.specs.declared.parts.OperationCode.TheVariants as code;
 ghost use Rattle.cam_gerber.specs.Faults.{is_empty, is_outside_at};
@@ -50,6 +50,25 @@ impl Running {
         is_of_board(&self.built.layer.apertures.check_object(object))
     }
 
+    /// How much a flash weighs, if no leaf of it lies outside the board.
+    fn weight_inside(&self, object: &Object) -> Option<Weight>
+        requires { IsWellMade self.now.built.layer.apertures object.now }
+        ensures outside { IfNone result ((past : Past) → TracksPlaces past self.now
+            → is_outside_at (home past) past object.now ≡ true) }
+        ensures inside { IfSome result (λ _. (past : Past) → TracksPlaces past self.now
+            → is_outside_at (home past) past object.now ≡ false) }
+        ensures weight { IfSome result (λ weight. Weighs weight self.now.built.layer.apertures object.now) }
+    {
+        // Nearly all flashes are of apertures.
+        if self.built.is_of_aperture(object) {
+            return Some(Weight::ONE);
+        }
+        if self.is_outside_at(object) {
+            return None;
+        }
+        Some(self.weight_of(object))
+    }
+
     /// D03 outside a region.
     fn flash(&mut self, operation: &Operation) -> Result<(), Stop>
         requires { HasPast self.old }
@@ -67,10 +86,9 @@ impl Running {
             turn: self.modal.turn(),
             dark: self.modal.dark,
         };
-        if self.is_outside_at(&object) {
+        let Some(weight) = self.weight_inside(&object) else {
             return Err(Stop::Fault(faults::OUT_OF_BOARD));
-        }
-        let weight = self.weight_of(&object);
+        };
         if self.is_full(weight) {
             return Err(Stop::Fault(faults::TOO_MUCH));
         }

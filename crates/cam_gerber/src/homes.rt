@@ -1,7 +1,7 @@
 //! Objects join the innermost open block, else the open repeat, else the layer.
 
 ghost use Rattle.std.specs.Prelude.{◌≡◌, ◌++◌, ◌∷◌, ◌≤◌, ◌<◌, [], false, true, Some, None, length, nat_eq, nat_le};
-ghost use Rattle.std.specs.Prelude.{◌+◌, is_some, is_none, OnOk};
+ghost use Rattle.std.specs.Prelude.{◌+◌, is_some, is_none, IsTrue, OnOk};
 ghost use Rattle.std.specs.Map.{lookup};
 ghost use Rattle.cam_objects.specs.Leaves.{meaning_in, solid_tip};
 ghost use Rattle.cam_objects.specs.declared.object.Object.{Object};
@@ -9,6 +9,7 @@ ghost use Rattle.cam_gerber.specs.Faults.{can_draw, is_full};
 ghost use Rattle.cam_gerber.specs.Homes.{home};
 ghost use Rattle.cam_gerber.specs.Laws.{IsFaultless};
 ghost use Rattle.cam_gerber.specs.State.{Past};
+ghost use Rattle.cam_gerber.specs.Machinery.WellMade.{IsOfAperture, NamesAperture};
 ghost use Rattle.cam_gerber.specs.Machinery.Tracking.{Keeps, Tracks, TracksPlaces, Weighs};
 
 use crate::built::Built;
@@ -60,6 +61,26 @@ impl Built {
         match self.layer.apertures.find(number) {
             Some(_) => true,
             None => false,
+        }
+    }
+
+    /// Whether the number is that of an aperture, and not of a block.
+    fn is_aperture(&self, number: u32) -> bool
+        ensures { IsTrue result → NamesAperture self.now.layer.apertures number }
+    {
+        let Some((_, entry)) = self.layer.apertures.find(number) else {
+            return false;
+        };
+        matches!(entry, Entry::Aperture(_))
+    }
+
+    /// Whether the object is a flash of an aperture, which paints one leaf where it stands.
+    pub fn is_of_aperture(&self, object: &Object) -> bool
+        ensures { IsTrue result → IsOfAperture self.now.layer.apertures object.now }
+    {
+        match object {
+            Object::Flash { aperture, .. } => self.is_aperture(*aperture),
+            _ => false,
         }
     }
 
