@@ -12,7 +12,6 @@ use Rattle.cam_objects.specs.declared.item_fault.ItemFault.TheVariants as items
 use Rattle.cam_objects.specs.declared.object.Object.TheVariants.{Flash, Draw, Arc, Region}
 use Rattle.cam_edits.specs.declared.edit.Change.{Change}
 use Rattle.cam_edits.specs.declared.fault.EditFault.{EditFault}
-use Rattle.cam_edits.specs.declared.fault.EditFault.TheVariants.{OutOfBoard}
 use Rattle.cam_edits.specs.declared.step.Step.{Step}
 use Rattle.cam_edits.specs.declared.step.Step.TheVariants.{Insert, Delete, Move, Reorder, Aperture, Polarity}
 use Rattle.cam_edits.specs.declared.step.Step.TheVariants.{PutAttribute, TakeAttribute, SetFields}

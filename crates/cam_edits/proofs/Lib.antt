@@ -6,6 +6,8 @@ pub mod ItemMoves
 pub mod GerberEdits
 pub mod FittingEdits
 pub mod AttributeSteps
+pub mod ShiftedItems
+pub mod KeptDrilling
 pub mod SoundAttributes
 pub mod AttributeChanges
 pub mod DrillEdits

@@ -24,7 +24,7 @@ use Rattle.cam_objects.proofs.EditedLayers.{drill_edits}
 use Rattle.cam_edits.specs.declared.drill_step.DrillStep.{DrillStep}
 use Rattle.cam_edits.specs.declared.drill_step.DrillStep.TheVariants as steps
 use Rattle.cam_edits.specs.DrillSteps.{drill_items_after, tools_after, with_tool}
-use Rattle.cam_edits.specs.Editing.{first_refusal, holds_of, meets_drill_step}
+use Rattle.cam_edits.specs.Editing.{first_refusal, holds_of, is_tool_size, meets_drill_step}
 use Rattle.cam_edits.specs.Machinery.PlaceLaws.{changed_is, reordered_is, within}
 use Rattle.cam_edits.specs.Places.{changed, reordered}
 use Rattle.cam_edits.proofs.ChangedItems.{count_with_tool, sound_with_tool}
@@ -104,6 +104,18 @@ numbered (e ∷ ts) t sound there =
         (omega (arith, is, first.some), omega (arith, is, first.few))
     by false same rest there = rest there
 
+-- a tool that there is, with a diameter that it may have
+pub sized_tool : (ts : List (ℕ × Nm)) (t : ℕ) (d : Nm) → All (λ (e : ℕ × Nm). IsSoundTool e.0 e.1) ts
+    → IsSome (diameter_of ts t) → IsTrue (is_tool_size d) → IsSoundTool t d
+sized_tool ts t d sound there size =
+    let number = numbered ts t sound there in
+    let sizes = both _ _ size in record {
+      some = number.0;
+      few = number.1;
+      wide = at_most_signed (pos 1) d.0 sizes.0;
+      narrow = at_most_signed d.0 (pos 200000000) sizes.1;
+    }
+
 module _ (c : DrillContent) where
   met : (item : DrillItem) (fault : ItemFault) → IsTrue (meets_drill_item c.tools item fault)
       → MeetsDrillItem c.tools item fault
@@ -136,14 +148,7 @@ module _ (c : DrillContent) where
   pub sound_diameter : (t : ℕ) (d : Nm) → IsSoundDrillContent c.tools c.items → AreMet (steps.Diameter t d)
       → IsSoundTool t d
   unfolding meets_drill_step
-  sound_diameter t d h told =
-      let number = numbered c.tools t h.tools told.tool in
-      let sizes = both _ _ told.size in record {
-        some = number.0;
-        few = number.1;
-        wide = at_most_signed (pos 1) d.0 sizes.0;
-        narrow = at_most_signed d.0 (pos 200000000) sizes.1;
-      }
+  sound_diameter t d h told = sized_tool c.tools t d h.tools told.tool told.size
 
 met_step_sound : (c : DrillContent) (step : DrillStep) → IsSoundDrillContent c.tools c.items
     → MeetsEach (meets_drill_step c step)

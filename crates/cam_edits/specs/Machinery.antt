@@ -7,3 +7,4 @@ pub mod DrillStepLaws
 pub mod Room
 pub mod BoardStepLaws
 pub mod Judging
+pub mod Shifts

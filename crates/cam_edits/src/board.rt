@@ -6,15 +6,16 @@ ghost use Rattle.cam_edits.specs.Machinery.Room.{HasPlaces};
 ghost use Rattle.cam_edits.specs.Boards.{content_at, place_named};
 ghost use Rattle.cam_edits.specs.Sheets.{content_of, entry_count, item_count, sheet_of, sheets_of};
 
+use crate::chunked::ChunkedLayer;
+use crate::chunked_drill::ChunkedDrillLayer;
 use crate::name::Name;
-use cam_objects::{DrillLayer, Layer};
 use std::alloc::{AllocError, Global};
 
 /// A layer of one of two kinds.
 #[derive(Drop)]
 pub enum SheetContent {
-    Gerber(Layer),
-    Drill(DrillLayer),
+    Gerber(ChunkedLayer),
+    Drill(ChunkedDrillLayer),
 }
 
 impl SheetContent {
@@ -23,8 +24,8 @@ impl SheetContent {
         ensures { result ≡ item_count (content_of self.now) }
     {
         match self {
-            SheetContent::Gerber(layer) => layer.items().len(),
-            SheetContent::Drill(layer) => layer.items().len(),
+            SheetContent::Gerber(layer) => layer.layer().items().len(),
+            SheetContent::Drill(layer) => layer.layer().items().len(),
         }
     }
 
@@ -33,8 +34,8 @@ impl SheetContent {
         ensures { result ≡ entry_count (content_of self.now) }
     {
         match self {
-            SheetContent::Gerber(layer) => layer.entries().len(),
-            SheetContent::Drill(layer) => layer.tools().len(),
+            SheetContent::Gerber(layer) => layer.layer().entries().len(),
+            SheetContent::Drill(layer) => layer.layer().tools().len(),
         }
     }
 
@@ -45,11 +46,8 @@ impl SheetContent {
         ensures room { OnOk result (HasPlaces items attributes self.new) }
     {
         match self {
-            SheetContent::Gerber(layer) => {
-                layer.items.reserve(items)?;
-                layer.attributes.reserve(attributes)
-            }
-            SheetContent::Drill(layer) => layer.items.reserve(items),
+            SheetContent::Gerber(layer) => layer.reserve(items, attributes),
+            SheetContent::Drill(layer) => layer.reserve(items),
         }
     }
 }

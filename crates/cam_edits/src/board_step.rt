@@ -177,7 +177,7 @@ fn fits_sheet(step: &Step, content: &SheetContent) -> bool
     ensures { IsTrue result ↔ IsFitOn step.now (content_of content.now) }
 {
     match content {
-        SheetContent::Gerber(layer) => step.fits(layer),
+        SheetContent::Gerber(layer) => step.fits(layer.layer()),
         SheetContent::Drill(_) => false,
     }
 }
@@ -188,7 +188,7 @@ fn fits_drill_sheet(step: &DrillStep, content: &SheetContent) -> bool
 {
     match content {
         SheetContent::Gerber(_) => false,
-        SheetContent::Drill(layer) => step.fits(layer),
+        SheetContent::Drill(layer) => step.fits(layer.layer()),
     }
 }
 
@@ -202,7 +202,7 @@ fn play_on(step: Step, content: &mut SheetContent) -> Step
         → HasPlacesFor (rest ++ step ∷ []) content.old → HasPlacesFor rest content.new }
 {
     match content {
-        SheetContent::Gerber(layer) => step.play(layer),
+        SheetContent::Gerber(layer) => layer.play(step),
         SheetContent::Drill(_) => step,
     }
 }
@@ -218,6 +218,6 @@ fn play_drill_on(step: DrillStep, content: &mut SheetContent) -> DrillStep
 {
     match content {
         SheetContent::Gerber(_) => step,
-        SheetContent::Drill(layer) => step.play(layer),
+        SheetContent::Drill(layer) => layer.play(step),
     }
 }

@@ -6,6 +6,7 @@ ghost use Rattle.cam_objects.specs.Drilling.{diameter_of};
 ghost use Rattle.cam_objects.specs.DrillSoundness.{IsSoundDrillLayer};
 ghost use Rattle.cam_edits.specs.DrillSteps.{IsDrillFit};
 ghost use Rattle.cam_edits.specs.Editing.{drill_step_of, is_tool_size, judged_drill};
+ghost use Rattle.cam_edits.specs.Machinery.Shifts.{drill_leaves_in};
 ghost use Rattle.cam_edits.specs.declared.drill_step.DrillStep.TheVariants.{
   Delete,
   Diameter,
@@ -23,16 +24,22 @@ use crate::moving::is_move;
 use cam_objects::{DrillItem, DrillLayer};
 use cam_units::{Nm, Point};
 
-/// The step of an edit of the drill layer, which fits it, or the edit's first refusal.
-pub(crate) fn judged_drill(layer: &DrillLayer, change: Change) -> Result<DrillStep, EditFault>
-    requires { IsSoundDrillLayer layer.now }
+/// The step of an edit of the drill layer, which has so many holes and slots; it fits the layer. Or the edit's first
+/// refusal.
+pub(crate) fn judged_drill(
+    layer: &DrillLayer,
+    leaves: u64,
+    change: Change,
+) -> Result<DrillStep, EditFault>
+    requires sound { IsSoundDrillLayer layer.now }
+    requires leaves { leaves ≡ drill_leaves_in layer.now }
     ensures value { result ≡ judged_drill (drill_content_of layer.now) (drill_step_of change) }
     ensures fits { IfOk result (λ step. IsDrillFit step (drill_content_of layer.now)) }
 {
     match change {
         Change::Insert { k, item } => match item {
             NewItem::Gerber(_) => Err(EditFault::WrongKind),
-            NewItem::Drill(item) => insertion(layer, k, item),
+            NewItem::Drill(item) => insertion(layer, leaves, k, item),
         },
         Change::Delete { k } => deletion(layer, k),
         Change::Move { k, by } => shift(layer, k, by),
@@ -46,12 +53,18 @@ pub(crate) fn judged_drill(layer: &DrillLayer, change: Change) -> Result<DrillSt
     }
 }
 
-fn insertion(layer: &DrillLayer, k: usize, item: DrillItem) -> Result<DrillStep, EditFault>
-    requires { IsSoundDrillLayer layer.now }
+fn insertion(
+    layer: &DrillLayer,
+    leaves: u64,
+    k: usize,
+    item: DrillItem,
+) -> Result<DrillStep, EditFault>
+    requires sound { IsSoundDrillLayer layer.now }
+    requires leaves { leaves ≡ drill_leaves_in layer.now }
     ensures { result ≡ judged_drill (drill_content_of layer.now) (Some (Insert k item)) }
 {
     check_insertion(layer.check_item(&item), k <= layer.items.len())?;
-    if !layer.has_room(&item) {
+    if !layer.has_room_beside(leaves, &item) {
         return Err(EditFault::TooMuch);
     }
     Ok(DrillStep::Insert { k, item })
@@ -126,7 +139,7 @@ fn has_tool(layer: &DrillLayer, t: u16) -> bool
 }
 
 /// Whether a tool may have this diameter.
-fn is_tool_size(d: Nm) -> bool
+pub(crate) fn is_tool_size(d: Nm) -> bool
     ensures { result ≡ is_tool_size d }
 {
     1 <= d.0 && d.0 <= 200_000_000

@@ -1,6 +1,6 @@
 //! Steps that edit a drill layer.
 
-ghost use Rattle.std.specs.Prelude.{◌≡◌, count_by};
+ghost use Rattle.std.specs.Prelude.{◌≡◌, ℕ, IfNone, IfSome, List, count_by};
 ghost use Rattle.cam_objects.specs.DrillSoundness.{tool_of};
 ghost use Rattle.cam_edits.specs.DrillSteps.{
   HasDrillRoom,
@@ -8,8 +8,10 @@ ghost use Rattle.cam_edits.specs.DrillSteps.{
   after_drill_step,
   inverse_drill_step,
   is_drill_insertion,
+  tools_after,
   with_tool,
 };
+ghost use Rattle.cam_edits.specs.declared.drill_step.DrillStep.TheVariants.{Diameter};
 ghost use Rattle.cam_objects.specs.Contents.{DrillContent, drill_content_of};
 
 use crate::moving::{back, can_move_drill_item};
@@ -111,6 +113,23 @@ impl Reversible for DrillStep {
                 let d = layer.tools.replace(t, d);
                 DrillStep::Diameter { t, d }
             }
+        }
+    }
+}
+
+impl DrillStep {
+    /// The diameter that it gives to a tool, in nm, where it is such a step; the others keep the tools.
+    pub(crate) fn size(&self) -> Option<Nm>
+        ensures given { IfSome result (λ d. (t : ℕ) × (self.now ≡ Diameter t d)) }
+        ensures kept { IfNone result ((tools : List (ℕ × Nm)) → tools_after self.now tools ≡ tools) }
+    {
+        match self {
+            DrillStep::Insert { .. } => None,
+            DrillStep::Delete { .. } => None,
+            DrillStep::Move { .. } => None,
+            DrillStep::Reorder { .. } => None,
+            DrillStep::Tool { .. } => None,
+            DrillStep::Diameter { d, .. } => Some(*d),
         }
     }
 }

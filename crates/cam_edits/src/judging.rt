@@ -5,6 +5,7 @@ ghost use Rattle.cam_objects.specs.Contents.{content_of};
 ghost use Rattle.cam_objects.specs.Soundness.{HasSoundItems};
 ghost use Rattle.cam_edits.specs.Editing.{judged, judged_change};
 ghost use Rattle.cam_edits.specs.Machinery.Judging.{other_aperture};
+ghost use Rattle.cam_edits.specs.Machinery.Shifts.{leaves_in};
 ghost use Rattle.cam_edits.specs.Sheets.{IsSoundGerber};
 ghost use Rattle.cam_edits.specs.Steps.{IsFit};
 ghost use Rattle.cam_edits.specs.declared.step.Step.TheVariants.{Aperture, Delete, Insert, Move, Polarity, Reorder};
@@ -19,21 +20,22 @@ use crate::step::Step;
 use cam_objects::{Item, Layer, Object};
 use cam_units::Point;
 
-/// The step of an edit of the layer, which fits it, or the edit's first refusal.
-pub(crate) fn judged(layer: &Layer, change: Change) -> Result<Step, EditFault>
-    requires { IsSoundGerber (content_of layer.now) }
+/// The step of an edit of the layer, which has so many leaves; it fits the layer. Or the edit's first refusal.
+pub(crate) fn judged(layer: &Layer, leaves: u64, change: Change) -> Result<Step, EditFault>
+    requires sound { IsSoundGerber (content_of layer.now) }
+    requires leaves { leaves ≡ leaves_in layer.now }
     ensures value { result ≡ judged_change (content_of layer.now) change }
     ensures fits { IfOk result (λ step. IsFit step (content_of layer.now)) }
 {
     match change {
         Change::Insert { k, item } => match item {
-            NewItem::Gerber(item) => insertion(layer, k, item),
+            NewItem::Gerber(item) => insertion(layer, leaves, k, item),
             NewItem::Drill(_) => Err(EditFault::WrongKind),
         },
         Change::Delete { k } => deletion(layer, k),
         Change::Move { k, by } => shift(layer, k, by),
         Change::Reorder { k, m } => reordering(layer, k, m),
-        Change::Aperture { k, n } => aperture_change(layer, k, n),
+        Change::Aperture { k, n } => aperture_change(layer, leaves, k, n),
         Change::Polarity { k, dark } => polarity_change(layer, k, dark),
         Change::Tool { .. } => Err(EditFault::WrongKind),
         Change::Diameter { .. } => Err(EditFault::WrongKind),
@@ -42,11 +44,12 @@ pub(crate) fn judged(layer: &Layer, change: Change) -> Result<Step, EditFault>
     }
 }
 
-fn insertion(layer: &Layer, k: usize, item: Item) -> Result<Step, EditFault>
+fn insertion(layer: &Layer, leaves: u64, k: usize, item: Item) -> Result<Step, EditFault>
+    requires { leaves ≡ leaves_in layer.now }
     ensures { result ≡ judged (content_of layer.now) (Some (Insert k item)) }
 {
     check_insertion(layer.check_item(&item), k <= layer.items.len())?;
-    if !layer.has_room(&item) {
+    if !layer.has_room_beside(leaves, &item) {
         return Err(EditFault::TooMuch);
     }
     Ok(Step::Insert { k, item })
@@ -89,8 +92,9 @@ fn reordering(layer: &Layer, k: usize, m: usize) -> Result<Step, EditFault>
     Ok(Step::Reorder { k, m })
 }
 
-fn aperture_change(layer: &Layer, k: usize, n: u32) -> Result<Step, EditFault>
-    requires { HasSoundItems layer.now }
+fn aperture_change(layer: &Layer, leaves: u64, k: usize, n: u32) -> Result<Step, EditFault>
+    requires sound { HasSoundItems layer.now }
+    requires leaves { leaves ≡ leaves_in layer.now }
     ensures { result ≡ judged (content_of layer.now) (Some (Aperture k n)) }
 {
     let Some(item) = layer.items.get(k) else {
@@ -102,7 +106,7 @@ fn aperture_change(layer: &Layer, k: usize, n: u32) -> Result<Step, EditFault>
     if let Err(fault) = layer.check_item(&item) {
         return Err(refusal_of(fault));
     }
-    if !layer.has_room_at(k, &item) {
+    if !layer.has_room_at_beside(leaves, k, &item) {
         return Err(EditFault::TooMuch);
     }
     Ok(Step::Aperture { k, n })

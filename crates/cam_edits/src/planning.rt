@@ -1,18 +1,37 @@
 //! Plans of edits.
 
-ghost use Rattle.std.specs.Prelude.{IfErr, IfOk};
-ghost use Rattle.cam_edits.specs.Editing.{edited};
+ghost use Rattle.std.specs.Prelude.{◌≡◌, IfErr, IfOk, None};
+ghost use Rattle.cam_objects.specs.Contents.{content_of as gerber_content_of, drill_content_of};
+ghost use Rattle.cam_objects.specs.DrillSoundness.{IsSoundDrillLayer};
+ghost use Rattle.cam_objects.specs.Soundness.{HasSoundItems};
+ghost use Rattle.cam_edits.specs.DrillSteps.{IsDrillFit};
+ghost use Rattle.cam_edits.specs.Editing.{
+  drill_step_of,
+  edited,
+  first_refusal,
+  judged_change,
+  judged_drill,
+  meets_drill_step,
+  meets_step,
+};
 ghost use Rattle.cam_edits.specs.Planning.{IsPlan, IsRefused};
-ghost use Rattle.cam_edits.specs.Sheets.{AreSound, sheets_of};
+ghost use Rattle.cam_edits.specs.Sheets.{AreSound, IsSoundGerber, sheets_of};
+ghost use Rattle.cam_edits.specs.Steps.{IsFit};
+ghost use Rattle.cam_edits.specs.Touched.{drill_touched, touched};
 
 use crate::board::{Board, SheetContent};
 use crate::board_step::BoardStep;
+use crate::chunked::ChunkedLayer;
+use crate::chunked_drill::ChunkedDrillLayer;
 use crate::drill_judging::judged_drill;
-use crate::edit::Edit;
+use crate::drill_step::DrillStep;
+use crate::edit::{Change, Edit};
 use crate::fault::EditFault;
 use crate::judging::judged;
+use crate::step::Step;
 use crate::touched::{drill_touched, touched};
-use std::alloc::Global;
+use cam_units::Bounds;
+use std::alloc::{AllocError, Global};
 
 /// The step that makes an edit, which fits the board, with the boxes of what the edit touches. The board's layers have
 /// to be sound.
@@ -34,14 +53,54 @@ pub fn plan(alloc: Global, board: &Board, edit: Edit) -> Result<BoardStep, EditF
     };
     match board.content(sheet) {
         SheetContent::Gerber(layer) => {
-            let step = judged(layer, change)?;
-            let boxes = touched(alloc, layer, &step)?;
+            let step = layer.judged(change)?;
+            let boxes = layer.touched(alloc, &step)?;
             Ok(BoardStep::Gerber { sheet, step, boxes })
         }
         SheetContent::Drill(layer) => {
-            let step = judged_drill(layer, change)?;
-            let boxes = drill_touched(alloc, layer, &step)?;
+            let step = layer.judged_drill(change)?;
+            let boxes = layer.drill_touched(alloc, &step)?;
             Ok(BoardStep::Drill { sheet, step, boxes })
         }
+    }
+}
+
+impl ChunkedLayer {
+    /// The step of an edit of the layer, which fits it, or the edit's first refusal.
+    fn judged(&self, change: Change) -> Result<Step, EditFault>
+        requires { IsSoundGerber (gerber_content_of self.now) }
+        ensures value { result ≡ judged_change (gerber_content_of self.now) change }
+        ensures fits { IfOk result (λ step. IsFit step (gerber_content_of self.now)) }
+    {
+        judged(self.layer(), self.leaves(), change)
+    }
+
+    /// The boxes of what an accepted step of the layer touches.
+    fn touched(&self, alloc: Global, step: &Step) -> Result<Vec<Bounds>, AllocError>
+        requires sound { HasSoundItems self.now }
+        requires accepted { first_refusal (meets_step (gerber_content_of self.now) step.now) ≡ None }
+        ensures { IfOk result (λ boxes. boxes.items ≡ touched step.now (gerber_content_of self.now)) }
+    {
+        touched(alloc, self.layer(), step)
+    }
+}
+
+impl ChunkedDrillLayer {
+    /// The step of an edit of the layer, which fits it, or the edit's first refusal.
+    fn judged_drill(&self, change: Change) -> Result<DrillStep, EditFault>
+        requires { IsSoundDrillLayer self.now }
+        ensures value { result ≡ judged_drill (drill_content_of self.now) (drill_step_of change) }
+        ensures fits { IfOk result (λ step. IsDrillFit step (drill_content_of self.now)) }
+    {
+        judged_drill(self.layer(), self.leaves(), change)
+    }
+
+    /// The boxes of what an accepted step of the layer touches.
+    fn drill_touched(&self, alloc: Global, step: &DrillStep) -> Result<Vec<Bounds>, AllocError>
+        requires sound { IsSoundDrillLayer self.now }
+        requires accepted { first_refusal (meets_drill_step (drill_content_of self.now) step.now) ≡ None }
+        ensures { IfOk result (λ boxes. boxes.items ≡ drill_touched step.now (drill_content_of self.now)) }
+    {
+        drill_touched(alloc, self.layer(), step)
     }
 }

@@ -14,14 +14,14 @@ returns-in_err-check_insertion c =
     c.check_item.ensures (ap (nat_le c.args.k) n) c.in_err-check_insertion.field-0.0
     (sym c.in_err-check_insertion.ensures))
 
-pub returns-then-not-has_room : goal.returns-then-not-has_room
-returns-then-not-has_room c =
+pub returns-then-not-has_room_beside : goal.returns-then-not-has_room_beside
+returns-then-not-has_room_beside c =
     let layer = c.args.layer.now in
     let n : c.len.result ≡ length layer.items.items = omega (arith, layer.items.ok.0) in
     insertion_limited (drill_content_of layer) c.args.k c.args.item c.check_item.result (nat_le c.args.k c.len.result)
     c.check_item.ensures (ap (nat_le c.args.k) n) c.in_ok-check_insertion.field-0
     (sym c.in_ok-check_insertion.ensures)
-    c.has_room.result c.has_room.ensures c.if-not-has_room.true
+    c.has_room_beside.result c.has_room_beside.ensures c.if-not-has_room_beside.true
 
 pub returns : goal.returns
 returns c =
@@ -30,4 +30,4 @@ returns c =
     inserted (drill_content_of layer) c.args.k c.args.item c.check_item.result (nat_le c.args.k c.len.result)
     c.check_item.ensures (ap (nat_le c.args.k) n) c.in_ok-check_insertion.field-0
     (sym c.in_ok-check_insertion.ensures)
-    c.has_room.result c.has_room.ensures c.if-not-has_room.false
+    c.has_room_beside.result c.has_room_beside.ensures c.if-not-has_room_beside.false

@@ -7,33 +7,33 @@ use Rattle.cam_edits.specs.declared.drill_step.DrillStep.TheVariants.{Delete, Di
 pub returns-in-Insert-clause-fits : goal.returns-in-Insert-clause-fits
 returns-in-Insert-clause-fits c =
     judged_fits (drill_content_of c.args.layer.now) (Some (Insert c.in-Insert.k c.in-Drill.item)) c.insertion.result
-    c.requires
+    c.requires.sound
     c.insertion.ensures
 
 pub returns-in-Delete-clause-fits : goal.returns-in-Delete-clause-fits
 returns-in-Delete-clause-fits c =
-    judged_fits (drill_content_of c.args.layer.now) (Some (Delete c.in-Delete.k)) c.deletion.result c.requires
+    judged_fits (drill_content_of c.args.layer.now) (Some (Delete c.in-Delete.k)) c.deletion.result c.requires.sound
     c.deletion.ensures
 
 pub returns-in-Move-clause-fits : goal.returns-in-Move-clause-fits
 returns-in-Move-clause-fits c =
-    judged_fits (drill_content_of c.args.layer.now) (Some (Move c.in-Move.k c.in-Move.by)) c.shift.result c.requires
+    judged_fits (drill_content_of c.args.layer.now) (Some (Move c.in-Move.k c.in-Move.by)) c.shift.result c.requires.sound
     c.shift.ensures
 
 pub returns-in-Reorder-clause-fits : goal.returns-in-Reorder-clause-fits
 returns-in-Reorder-clause-fits c =
     judged_fits (drill_content_of c.args.layer.now) (Some (Reorder c.in-Reorder.k c.in-Reorder.m)) c.reordering.result
-    c.requires
+    c.requires.sound
     c.reordering.ensures
 
 pub returns-in-Tool-clause-fits : goal.returns-in-Tool-clause-fits
 returns-in-Tool-clause-fits c =
     judged_fits (drill_content_of c.args.layer.now) (Some (Tool c.in-Tool.k c.in-Tool.t)) c.tool_change.result
-    c.requires
+    c.requires.sound
     c.tool_change.ensures
 
 pub returns-in-Diameter-clause-fits : goal.returns-in-Diameter-clause-fits
 returns-in-Diameter-clause-fits c =
     judged_fits (drill_content_of c.args.layer.now) (Some (Diameter c.in-Diameter.t c.in-Diameter.d))
     c.diameter_change.result
-    c.requires c.diameter_change.ensures
+    c.requires.sound c.diameter_change.ensures

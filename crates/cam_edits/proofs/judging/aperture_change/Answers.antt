@@ -30,8 +30,8 @@ returns-in-Err c =
     (read_at layer.items.items c.deref.result.now c.args.k x c.deref.ensures.value read.0 read.1) set.item
     (sym c.other_aperture.ensures.value ∙ set.is) c.check_item.result c.check_item.ensures c.in-Err.fault c.in-Err.is)
 
-pub returns-then-not-has_room_at : goal.returns-then-not-has_room_at
-returns-then-not-has_room_at c =
+pub returns-then-not-has_room_at_beside : goal.returns-then-not-has_room_at_beside
+returns-then-not-has_room_at_beside c =
     let layer = c.args.layer.now in
     let x = c.in-Some.item.now in
     let read = c.in-Some.ensures.lookup in
@@ -40,7 +40,7 @@ returns-then-not-has_room_at c =
     aperture_limited (content_of layer) c.args.k c.args.n x
     (read_at layer.items.items c.deref.result.now c.args.k x c.deref.ensures.value read.0 read.1) set.item
     (sym c.other_aperture.ensures.value ∙ set.is) c.check_item.result c.check_item.ensures checked.field-0 checked.is
-    c.has_room_at.result c.has_room_at.ensures c.if-not-has_room_at.true
+    c.has_room_at_beside.result c.has_room_at_beside.ensures c.if-not-has_room_at_beside.true
 
 pub returns : goal.returns
 returns c =
@@ -52,4 +52,4 @@ returns c =
     aperture_changed (content_of layer) c.args.k c.args.n x
     (read_at layer.items.items c.deref.result.now c.args.k x c.deref.ensures.value read.0 read.1) set.item
     (sym c.other_aperture.ensures.value ∙ set.is) c.check_item.result c.check_item.ensures checked.field-0 checked.is
-    c.has_room_at.result c.has_room_at.ensures c.if-not-has_room_at.false
+    c.has_room_at_beside.result c.has_room_at_beside.ensures c.if-not-has_room_at_beside.false

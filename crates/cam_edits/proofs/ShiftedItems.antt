@@ -1,0 +1,309 @@
+-- items that shift with a step: which stood where, what they count, and what is kept of them
+use Rattle.std.proofs.Common.{◌≡◌, ℕ, ◌+◌, ◌-◌, ◌<◌, ◌≤◌, inl, inr, List, length, map, get_or, min, max, Option, None, Some}
+use Rattle.std.proofs.Common.{insert, remove, slice_get, slice_set, sum_by, refl, sym, ap, subst, ◌∙◌, arith}
+use Rattle.std.specs.List.{All}
+use Rattle.std.proofs.lemmas.Bool.{cases_eq, cases_lt}
+use Rattle.std.proofs.lemmas.List.{get_or-map, get_or-set_other, length-map, length-set}
+use Rattle.std.proofs.lemmas.List.Edits.{get_or-insert_above, get_or-insert_below, get_or-remove_above, get_or-remove_below}
+use Rattle.std.proofs.lemmas.List.Edits.{length-insert, length-remove}
+use Rattle.std.proofs.lemmas.List.Sums.{sum_by-insert, sum_by-remove, sum_by-set}
+use Rattle.std.proofs.lemmas.Option.{get_or_from_slice_get, slice_get-get_or, slice_get_within}
+use Rattle.cam_units.specs.declared.bounds.Bounds.{Bounds}
+use Rattle.cam_units.specs.declared.bounds.Bounds.TheVariants.{Empty}
+use Rattle.std.specs.Prelude.{unwrap_or}
+use Rattle.cam_objects.specs.Bounds.{bounds_of}
+use Rattle.cam_objects.specs.Chunks.{AreChunksOf, IsEditOf, box_at, item_boxes}
+use Rattle.cam_objects.specs.Leaves.{item_leaves, meaning_in}
+use Rattle.cam_objects.specs.Soundness.{HasSoundItems, IsSoundContent, IsSoundDictionary, IsSoundItem}
+use Rattle.cam_objects.specs.declared.item.Item.{Item}
+use Rattle.cam_objects.specs.Weights.{item_count, weight_in}
+use Rattle.cam_objects.specs.declared.layer.Layer.{Layer}
+use Rattle.cam_edits.specs.declared.chunked.Kept.{Kept}
+use Rattle.cam_edits.specs.declared.shift.Shift.{Shift}
+use Rattle.cam_edits.specs.Machinery.PlaceLaws.{changed_is, element_at, found, get_inserted, get_set, reordered_is}
+use Rattle.cam_edits.specs.Places.{HasAt, changed, reordered}
+use Rattle.cam_edits.specs.Machinery.Shifts.{IsKeptOf, IsShift, WereChunks, count_at, count_of, leaves_at}
+use Rattle.cam_edits.specs.Machinery.Shifts.{leaves_in}
+
+abbrev pub made : ℕ → ℕ → Option ℕ → Option ℕ → Shift
+made low high from to = record { low = low; high = high; from = from; to = to }
+
+module _ {X : Type 0} where
+  alike : (xs ys : List X) (i j : ℕ) (d : X) → i < length xs → j < length ys → get_or xs i d ≡ get_or ys j d
+      → slice_get xs i ≡ slice_get ys j
+  alike xs ys i j d h h' e = slice_get-get_or xs i d h ∙ ap Some e ∙ sym (slice_get-get_or ys j d h')
+
+  pub stayed : (xs : List X) → IsShift (made 0 0 None None) xs xs
+  stayed xs = record {
+    stood = λ k h. inr (record { was = k; same = refl; near = inl refl });
+    sums = λ f. refl;
+  }
+
+  pub inserted_shift : (xs : List X) (k n : ℕ) (x : X) → k ≤ length xs → n ≡ length xs
+      → IsShift (made k n None (Some k)) xs (insert xs k x)
+  inserted_shift xs k n x h many = record {
+    stood = λ i listed.
+        let all = length-insert xs k x h in
+        elim (cases_lt i k) [
+          | inl below ↦
+              inr (record {
+                was = i;
+                same = alike xs (insert xs k x) i i x (omega (arith, below, h)) listed
+                    (sym (get_or-insert_below xs k x x i below h));
+                near = inl refl;
+              })
+          | inr above ↦ elim (cases_eq i k) [
+            | inl e ↦ inl (ap Some (sym e))
+            | inr apart ↦
+                (let j = i - 1 in
+                let e : j + 1 ≡ i = omega arith in
+                let after : k ≤ j = omega arith in
+                inr (record {
+                  was = j;
+                  same = alike xs (insert xs k x) j i x (omega arith) listed
+                      (sym (ap (λ m. get_or (insert xs k x) m x) (sym e) ∙ get_or-insert_above xs k x x j after h));
+                  near = inr (omega arith, omega arith, omega arith, omega arith);
+                }))
+          ]
+        ];
+    sums = λ f. omega (arith, sum_by-insert f xs k x, ap (count_of f) (get_inserted xs k x h));
+  }
+
+  pub deleted_shift : (xs : List X) (k n : ℕ) → k < length xs → n ≡ length xs
+      → IsShift (made k n (Some k) None) xs (remove xs k)
+  deleted_shift xs k n h many =
+      let here = element_at xs k h in
+      let d = here.0 in
+      let fewer = length-remove xs k h in
+      record {
+        stood = λ i listed.
+            elim (cases_lt i k) [
+              | inl below ↦
+                  inr (record {
+                    was = i;
+                    same = alike xs (remove xs k) i i d (omega (arith, below, h)) listed
+                        (sym (get_or-remove_below xs k d i below h));
+                    near = inl refl;
+                  })
+              | inr above ↦
+                  inr (record {
+                    was = i + 1;
+                    same = alike xs (remove xs k) (i + 1) i d (omega (arith, listed, fewer)) listed
+                        (sym (get_or-remove_above xs k d i above h));
+                    near = inr (above, omega (arith, listed, fewer, many), omega arith, omega arith);
+                  })
+            ];
+        sums = λ f.
+            omega (
+              arith,
+              sum_by-remove f xs k d h,
+              ap (count_of f) here.1,
+              ap f (get_or_from_slice_get xs k d d here.1),
+            );
+      }
+
+  changed_shift : (xs : List X) (k : ℕ) (x y : X) → slice_get xs k ≡ Some x
+      → IsShift (made k k (Some k) (Some k)) xs (slice_set xs k y)
+  changed_shift xs k x y here =
+      let h = slice_get_within xs k x here in
+      let many = length-set xs k y in
+      record {
+        stood = λ i listed.
+            elim (cases_eq i k) [
+              | inl e ↦ inl (ap Some (sym e))
+              | inr apart ↦
+                  inr (record {
+                    was = i;
+                    same = alike xs (slice_set xs k y) i i x (omega (arith, listed, many)) listed
+                        (sym (get_or-set_other xs k i y x apart));
+                    near = inl refl;
+                  })
+            ];
+        sums = λ f.
+            omega (
+              arith,
+              sum_by-set f xs k y x h,
+              ap (count_of f) here,
+              ap f (get_or_from_slice_get xs k x x here),
+              ap (count_of f) (get_set xs k x y here),
+            );
+      }
+
+  carried_shift : (xs : List X) (k m : ℕ) (x : X) → slice_get xs k ≡ Some x → m < length xs
+      → IsShift (made (min k m) (max k m) (Some k) (Some m)) xs (insert (remove xs k) m x)
+  carried_shift xs k m x here within =
+      let h = slice_get_within xs k x here in
+      let fewer = length-remove xs k h in
+      let fits : m ≤ length (remove xs k) = omega arith in
+      let all = length-insert (remove xs k) m x fits in
+      record {
+        stood = λ i listed.
+            elim (cases_lt i m) [
+              | inl below ↦
+                  (let read = get_or-insert_below (remove xs k) m x x i below fits in
+                  elim (cases_lt i k) [
+                    | inl early ↦
+                        inr (record {
+                          was = i;
+                          same = alike xs (insert (remove xs k) m x) i i x (omega (arith, early, h)) listed
+                              (sym (read ∙ get_or-remove_below xs k x i early h));
+                          near = inl refl;
+                        })
+                    | inr late ↦
+                        inr (record {
+                          was = i + 1;
+                          same = alike xs (insert (remove xs k) m x) (i + 1) i x (omega (arith, below, within)) listed
+                              (sym (read ∙ get_or-remove_above xs k x i late h));
+                          near = inr (omega (arith, late), omega (arith, below), omega arith, omega arith);
+                        })
+                  ])
+              | inr above ↦ elim (cases_eq i m) [
+                | inl e ↦ inl (ap Some (sym e))
+                | inr apart ↦
+                    (let j = i - 1 in
+                    let e : j + 1 ≡ i = omega (arith, above, apart) in
+                    let after : m ≤ j = omega (arith, above, apart) in
+                    let read = ap (λ n. get_or (insert (remove xs k) m x) n x) (sym e)
+                    ∙ get_or-insert_above (remove xs k) m x x j after fits in
+                    elim (cases_lt j k) [
+                      | inl early ↦
+                          inr (record {
+                            was = j;
+                            same = alike xs (insert (remove xs k) m x) j i x (omega (arith, early, h)) listed
+                                (sym (read ∙ get_or-remove_below xs k x j early h));
+                            near = inr (omega (arith, after, e), omega (arith, early, e), omega (arith, e), omega (arith, e));
+                          })
+                      | inr late ↦
+                          inr (record {
+                            was = i;
+                            same = alike xs (insert (remove xs k) m x) i i x (omega (arith, listed, all, fewer)) listed
+                                (sym (read ∙ get_or-remove_above xs k x j late h
+                                ∙ ap (λ n. get_or xs n x) e));
+                            near = inl refl;
+                          })
+                    ])
+              ]
+            ];
+        sums = λ f.
+            omega (
+              arith,
+              sum_by-insert f (remove xs k) m x,
+              sum_by-remove f xs k x h,
+              ap (count_of f) here,
+              ap f (get_or_from_slice_get xs k x x here),
+              ap (count_of f) (get_inserted (remove xs k) m x fits),
+            );
+      }
+
+  changed_there : (f : X → X) (xs : List X) (k : ℕ) (x : X) → slice_get xs k ≡ Some x
+      → IsShift (made k k (Some k) (Some k)) xs (changed f xs k)
+  changed_there f xs k x here =
+      subst (IsShift (made k k (Some k) (Some k)) xs) (sym (changed_is xs k x here f))
+      (changed_shift xs k x (f x) here)
+
+  pub shift_at : (P : X → Type 0) (f : X → X) (xs : List X) (k : ℕ) → HasAt P xs k
+      → IsShift (made k k (Some k) (Some k)) xs (changed f xs k)
+  shift_at P f xs k h = let here = found P xs k h in changed_there f xs k here.0 here.1
+
+  pub shift_there : (f : X → X) (xs : List X) (k : ℕ) → k < length xs
+      → IsShift (made k k (Some k) (Some k)) xs (changed f xs k)
+  shift_there f xs k h = let here = element_at xs k h in changed_there f xs k here.0 here.1
+
+  pub reordered_shift : (xs : List X) (k m : ℕ) → k < length xs → m < length xs
+      → IsShift (made (min k m) (max k m) (Some k) (Some m)) xs (reordered xs k m)
+  reordered_shift xs k m h within =
+      let here = element_at xs k h in
+      subst (IsShift (made (min k m) (max k m) (Some k) (Some m)) xs) (sym (reordered_is xs k here.0 here.1 m))
+      (carried_shift xs k m here.0 here.1 within)
+
+  -- ---- what shifts with the items
+
+  box_read : (box : X → Bounds) (xs : List X) (k : ℕ) (x : X) → slice_get xs k ≡ Some x
+      → box_at (map box xs) k ≡ box x
+  box_read box xs k x e =
+      get_or-map box xs k x Empty (slice_get_within xs k x e) ∙ ap box (get_or_from_slice_get xs k x x e)
+
+  shifted_boxes : (box : X → Bounds) (shift : Shift) (xs ys : List X) (place : ℕ) → IsShift shift xs ys
+      → ((k : ℕ) → shift.to ≡ Some k → k ≡ place)
+      → IsEditOf (map box xs) (map box ys) shift.low shift.high place
+  shifted_boxes box shift xs ys place shifted is k listed =
+      let within : k < length ys = omega (arith, listed, length-map {B = Bounds} ys box) in
+      let here = element_at ys k within in
+      elim (shifted.stood k within) [
+        | inl come ↦ inl (is k come)
+        | inr stood ↦
+            (let before = stood.same ∙ here.1 in
+            let inside = slice_get_within xs stood.was here.0 before in
+            inr (record {
+              was = stood.was;
+              within = omega (arith, inside, length-map {B = Bounds} xs box);
+              same = box_read box xs stood.was here.0 before ∙ sym (box_read box ys k here.0 here.1);
+              near = stood.near;
+            }))
+      ]
+
+  pub were_chunks : (box : X → Bounds) (shift : Shift) (xs ys : List X) (chunks : List Bounds) → IsShift shift xs ys
+      → AreChunksOf (map box xs) chunks → WereChunks shift chunks (map box ys)
+  were_chunks box shift xs ys chunks shifted known = record {
+    before = map box xs;
+    known = known;
+    edit = shifted_boxes box shift xs ys (unwrap_or shift.to shift.low) shifted
+        (λ k to. sym (ap (λ o. unwrap_or o shift.low) to));
+  }
+
+  pub shifted_all : (P : X → Type 0) (shift : Shift) (xs ys : List X) → IsShift shift xs ys → All P xs
+      → ((k : ℕ) (x : X) → shift.to ≡ Some k → slice_get ys k ≡ Some x → P x) → All P ys
+  shifted_all P shift xs ys shifted before come k d listed =
+      let x = get_or ys k d in
+      let here = slice_get-get_or ys k d listed in
+      elim (shifted.stood k listed) [
+        | inl to ↦ come k x to here
+        | inr stood ↦
+            (let there = stood.same ∙ here in
+            subst P (get_or_from_slice_get xs stood.was x x there)
+            (before stood.was x (slice_get_within xs stood.was x there)))
+      ]
+
+pub shifted_leaves : (before layer : Layer) (shift : Shift) (leaves gone come : ℕ)
+    → before.apertures ≡ layer.apertures → IsShift shift before.items.items layer.items.items
+    → leaves ≡ leaves_in before → gone ≡ leaves_at before shift.from → come ≡ leaves_at layer shift.to
+    → leaves_in layer + gone ≡ leaves + come
+shifted_leaves before layer shift leaves gone come entries shifted all left came =
+    let all' = all ∙ ap (λ es. sum_by (item_count (weight_in es)) before.items.items) entries in
+    let left' = left ∙ ap (λ es. count_at (item_count (weight_in es)) before.items.items shift.from) entries in
+    omega (arith, shifted.sums (item_count (weight_in layer.apertures)), all', left', came)
+
+pub shifted_sound : (before layer : Layer) (shift : Shift) (leaves gone come : ℕ)
+    → before.apertures ≡ layer.apertures → IsShift shift before.items.items layer.items.items → HasSoundItems before
+    → leaves_in layer + gone ≡ leaves + come → length layer.items.items ≤ 1000000 → leaves + come ≤ 4000000 + gone
+    → ((k : ℕ) (item : Item) → shift.to ≡ Some k → slice_get layer.items.items k ≡ Some item
+    → IsSoundItem layer.apertures item)
+    → HasSoundItems layer
+shifted_sound before layer shift leaves gone come entries shifted sound all few room here = record {
+  entries = subst IsSoundDictionary entries sound.entries;
+  items = shifted_all (IsSoundItem layer.apertures) shift before.items.items layer.items.items shifted
+      (subst (λ es. All (IsSoundItem es) before.items.items) entries sound.items) here;
+  limits = record { few = few; leaves = omega (arith, all, room) };
+}
+
+abbrev pub boxes_of : Layer → List Bounds
+boxes_of layer = item_boxes layer.apertures layer.items.items
+
+pub layer_chunks : (before layer : Layer) (shift : Shift) (chunks : List Bounds) → before.apertures ≡ layer.apertures
+    → IsShift shift before.items.items layer.items.items → AreChunksOf (boxes_of before) chunks
+    → WereChunks shift chunks (boxes_of layer)
+layer_chunks before layer shift chunks entries shifted known =
+    were_chunks (λ item. bounds_of (item_leaves (meaning_in layer.apertures) item)) shift before.items.items
+    layer.items.items chunks shifted
+    (subst (λ es. AreChunksOf (item_boxes es before.items.items) chunks) entries known)
+
+-- what is kept of a layer is kept of one that lists the same
+pub kept_alike : (l m : Layer) (kept : Kept) → m.apertures ≡ l.apertures → m.items.items ≡ l.items.items → IsKeptOf l kept
+    → IsKeptOf m kept
+kept_alike l m kept entries items known = record {
+  sound = subst (λ es. IsSoundContent es m.items.items) (sym entries)
+      (subst (IsSoundContent l.apertures) (sym items) known.sound);
+  leaves = known.leaves ∙ sym (λ i. sum_by (item_count (weight_in (entries i))) (items i));
+  chunks = subst (λ (those : List Bounds). AreChunksOf those kept.chunks) (sym (λ i. item_boxes (entries i) (items i)))
+      known.chunks;
+}

@@ -1,0 +1,33 @@
+use Rattle.std.proofs.Common.{◌≡◌, ◌∙◌, ap, subst, sym, length, arith}
+use Rattle.cam_objects.specs.Contents.{DrillContent, drill_content_of}
+use Rattle.cam_objects.specs.declared.drill_layer.DrillLayer.{DrillLayer}
+use Rattle.cam_edits.specs.DrillSteps.{IsDrillFit}
+use Rattle.cam_edits.specs.Machinery.Shifts.{IsShift}
+use Rattle.cam_edits.proofs.KeptDrilling.{unsized}
+use Rattle.cam_edits.proofs.chunked_drill.ChunkedDrillLayer.play.Goals as goal
+
+pub leaves_at-gone-requires : goal.leaves_at-gone-requires
+leaves_at-gone-requires c = (c.self.invariant c.in-Some.kept (sym c.take.ensures.value ∙ c.in-Some.is)).sound
+
+pub resized-requires : goal.resized-requires
+resized-requires c =
+    let before = c.self.inside.layer in
+    let fits = subst (λ (l : DrillLayer). IsDrillFit c.args.step (drill_content_of l)) (sym c.self.view_is) c.requires.fits in
+    let given = c.in-Some-size.ensures.given in
+    unsized before c.play-answer.new.layer c.in-Some.kept c.args.step given.0 c.in-Some-size.d
+    (c.self.invariant c.in-Some.kept (sym c.take.ensures.value ∙ c.in-Some.is)) fits c.play-answer.ensures.content given.1
+
+pub mended-requires-clause-was : goal.mended-requires-clause-was
+mended-requires-clause-was c =
+    let before = c.self.inside.layer in
+    let content = c.play-answer.ensures.content in
+    let fits = subst (λ (l : DrillLayer). IsDrillFit c.args.step (drill_content_of l)) (sym c.self.view_is) c.requires.fits in
+    let many : c.len.result ≡ length before.items.items = omega (arith, before.items.ok.0) in
+    record {
+      before = before;
+      known = c.self.invariant c.in-Some.kept (sym c.take.ensures.value ∙ c.in-Some.is);
+      tools = sym (ap (λ (x : DrillContent). x.tools) content ∙ c.in-None.ensures.kept before.tools);
+      shifted = subst (IsShift c.of_drill-shift.result before.items.items) (sym (ap (λ (x : DrillContent). x.items) content))
+          (c.of_drill-shift.ensures (drill_content_of before) fits many);
+      left = c.leaves_at-gone.ensures.value;
+    }

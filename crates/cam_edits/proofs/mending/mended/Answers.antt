@@ -1,0 +1,40 @@
+use Rattle.std.proofs.Common.{List, ap, refl, subst, sym, arith}
+use Rattle.cam_units.specs.declared.bounds.Bounds.{Bounds}
+use Rattle.cam_objects.specs.Chunks.{AreChunksOf}
+use Rattle.cam_objects.specs.declared.layer.Layer.{Layer}
+use Rattle.cam_edits.specs.Machinery.Shifts.{WereChunks}
+use Rattle.cam_edits.proofs.ShiftedItems.{boxes_of, layer_chunks, shifted_leaves, shifted_sound}
+use Rattle.cam_edits.proofs.mending.mended.Goals as goal
+
+pub boxes-requires : goal.boxes-requires
+boxes-requires c =
+    let was = c.requires.was in
+    let layer = c.args.layer.now in
+    let come = c.in_ok-come.ensures in
+    let all = shifted_leaves was.before layer c.args.shift c.args.kept.leaves c.args.gone c.in_ok-come.come was.entries
+    was.shifted was.known.leaves was.left come.value in
+    shifted_sound was.before layer c.args.shift c.args.kept.leaves c.args.gone c.in_ok-come.come was.entries was.shifted
+    was.known.sound all (omega (arith, layer.items.ok.0)) (omega arith) (λ k item to here. come.sound k item refl to here)
+
+pub mend-requires : goal.mend-requires
+mend-requires c =
+    let was = c.requires.was in
+    let chunks = c.args.kept.chunks in
+    subst (λ (l : Layer). WereChunks c.args.shift chunks (boxes_of l)) (sym c.boxes.ensures)
+    (layer_chunks was.before c.args.layer.now c.args.shift chunks was.entries was.shifted was.known.chunks)
+
+pub returns : goal.returns
+returns c =
+    let was = c.requires.was in
+    let layer = c.args.layer.now in
+    let come = c.in_ok-come.ensures in
+    let all = shifted_leaves was.before layer c.args.shift c.args.kept.leaves c.args.gone c.in_ok-come.come was.entries
+    was.shifted was.known.leaves was.left come.value in
+    record {
+      sound = shifted_sound was.before layer c.args.shift c.args.kept.leaves c.args.gone c.in_ok-come.come was.entries
+          was.shifted was.known.sound all (omega (arith, layer.items.ok.0)) (omega arith)
+          (λ k item to here. come.sound k item refl to here);
+      leaves = omega (arith, all);
+      chunks = subst (λ (those : List Bounds). AreChunksOf those c.mend.new.chunks) (ap boxes_of c.boxes.ensures)
+          c.mend.ensures;
+    }

@@ -1,0 +1,102 @@
+-- Where a step moves the items of a layer, and what is kept beside them.
+use Rattle.std.specs.Prelude.{◌≡◌, ℕ, ◌+◌, ◌<◌, ◌≤◌, ◌⊎◌, List, length, Option, None, Some, IsSome, nat_eq, slice_get, sum_by}
+use Rattle.std.specs.Prelude.{unwrap_or}
+use Rattle.std.specs.Map.{set_value}
+use Rattle.cam_units.specs.declared.bounds.Bounds.{Bounds}
+use Rattle.cam_units.specs.declared.length.Nm.{Nm}
+use Rattle.cam_objects.specs.Chunks.{AreChunksOf, IsEditOf, drill_item_boxes, item_boxes}
+use Rattle.cam_objects.specs.DrillSoundness.{IsSoundDrillLayer, drill_count_of}
+use Rattle.cam_objects.specs.Drilling.{diameter_of}
+use Rattle.cam_objects.specs.Soundness.{HasSoundItems}
+use Rattle.cam_objects.specs.Weights.{item_count, weight_in}
+use Rattle.cam_objects.specs.declared.drill_layer.DrillLayer.{DrillLayer}
+use Rattle.cam_objects.specs.declared.layer.Layer.{Layer}
+use Rattle.cam_edits.specs.declared.chunked.ChunkedLayer.TheInside.{Inside}
+use Rattle.cam_edits.specs.declared.chunked.Kept.{Kept}
+use Rattle.cam_edits.specs.declared.chunked_drill.ChunkedDrillLayer.TheInside.{Inside as DrillInside}
+use Rattle.cam_edits.specs.declared.shift.Shift.{Shift}
+
+abbrev pub count_of : {X : Type 0} → (X → ℕ) → Option X → ℕ
+count_of f None = 0
+count_of f (Some x) = f x
+
+-- what the element at a place counts, where there is one
+abbrev pub count_at : {X : Type 0} → (X → ℕ) → List X → Option ℕ → ℕ
+count_at f xs None = 0
+count_at f xs (Some k) = count_of f (slice_get xs k)
+
+-- the element at a place stood there, or from a low place to a high one at most one place off
+pub record StoodBeside {X : Type 0} (before after : List X) (low high k : ℕ) : Type 0 where
+  pub was : ℕ
+  pub same : slice_get before was ≡ slice_get after k
+  pub near : (was ≡ k) ⊎ ((low ≤ k) × (k ≤ high) × (was ≤ k + 1) × (k ≤ was + 1))
+
+pub record IsShift {X : Type 0} (shift : Shift) (before after : List X) : Type 0 where
+  pub stood : (k : ℕ) → k < length after → (shift.to ≡ Some k) ⊎ StoodBeside before after shift.low shift.high k
+  pub sums : (f : X → ℕ) → sum_by f after + count_at f before shift.from ≡ sum_by f before + count_at f after shift.to
+
+-- they were the chunks of boxes of which an edit with this shift made others
+pub record WereChunks (shift : Shift) (chunks after : List Bounds) : Type 0 where
+  pub before : List Bounds
+  pub known : AreChunksOf before chunks
+  pub edit : IsEditOf before after shift.low shift.high (unwrap_or shift.to shift.low)
+
+-- ---- what is kept of a layer
+
+-- it is sound, its leaves are counted, and the boxes of its items are in chunks
+pub record IsKept (Sound : Type 0) (count : ℕ) (boxes : List Bounds) (kept : Kept) : Type 0 where
+  pub sound : Sound
+  pub leaves : kept.leaves ≡ count
+  pub chunks : AreChunksOf boxes kept.chunks
+
+abbrev pub leaves_in : Layer → ℕ
+leaves_in layer = sum_by (item_count (weight_in layer.apertures)) layer.items.items
+
+abbrev pub leaves_at : Layer → Option ℕ → ℕ
+leaves_at layer place = count_at (item_count (weight_in layer.apertures)) layer.items.items place
+
+abbrev pub IsKeptOf : Layer → Kept → Type 0
+IsKeptOf layer = IsKept (HasSoundItems layer) (leaves_in layer) (item_boxes layer.apertures layer.items.items)
+
+abbrev pub IsChunked : Inside → Type 0
+IsChunked c = (kept : Kept) → c.kept ≡ Some kept → IsKeptOf c.layer kept
+
+-- it was kept of a layer from whose items a shift leads to those of this one, which has the same dictionary
+pub record WasKept (kept : Kept) (shift : Shift) (gone : ℕ) (layer : Layer) : Type 0 where
+  pub before : Layer
+  pub known : IsKeptOf before kept
+  pub entries : before.apertures ≡ layer.apertures
+  pub shifted : IsShift shift before.items.items layer.items.items
+  pub left : gone ≡ leaves_at before shift.from
+
+-- ---- what is kept of a drill layer
+
+abbrev pub drill_leaves_in : DrillLayer → ℕ
+drill_leaves_in layer = sum_by drill_count_of layer.items.items
+
+abbrev pub drill_leaves_at : DrillLayer → Option ℕ → ℕ
+drill_leaves_at layer place = count_at drill_count_of layer.items.items place
+
+abbrev pub IsKeptOfDrill : DrillLayer → Kept → Type 0
+IsKeptOfDrill layer =
+    IsKept (IsSoundDrillLayer layer) (drill_leaves_in layer) (drill_item_boxes layer.tools layer.items.items)
+
+abbrev pub IsChunkedDrill : DrillInside → Type 0
+IsChunkedDrill c = (kept : Kept) → c.kept ≡ Some kept → IsKeptOfDrill c.layer kept
+
+-- it was kept of a drill layer from whose items a shift leads to those of this one, which has the same tools
+pub record WasKeptOfDrill (kept : Kept) (shift : Shift) (gone : ℕ) (layer : DrillLayer) : Type 0 where
+  pub before : DrillLayer
+  pub known : IsKeptOfDrill before kept
+  pub tools : before.tools ≡ layer.tools
+  pub shifted : IsShift shift before.items.items layer.items.items
+  pub left : gone ≡ drill_leaves_at before shift.from
+
+-- it was kept of a drill layer that lists the same items, one of whose tools now has that diameter
+pub record WasKeptUnsized (kept : Kept) (d : Nm) (layer : DrillLayer) : Type 0 where
+  pub before : DrillLayer
+  pub known : IsKeptOfDrill before kept
+  pub tool : ℕ
+  pub there : IsSome (diameter_of before.tools tool)
+  pub tools : layer.tools ≡ set_value (nat_eq tool) before.tools d
+  pub items : layer.items.items ≡ before.items.items

@@ -1,0 +1,114 @@
+//! Drill layers whose items are kept in chunks.
+
+ghost use Rattle.std.specs.Prelude.{◌≡◌, ◌+◌, ◌≤◌, ◌∷◌, ◌++◌, [], IfSome, List, OnOk, length, vec_capacity};
+ghost use Rattle.cam_objects.specs.Chunks.{AreChunksOf, drill_item_boxes};
+ghost use Rattle.cam_objects.specs.Contents.{drill_content_of};
+ghost use Rattle.cam_objects.specs.DrillSoundness.{IsSoundDrillLayer};
+ghost use Rattle.cam_edits.specs.DrillSteps.{HasDrillRoom, IsDrillFit, after_drill_step, inverse_drill_step};
+
+use crate::chunked::{Kept, reserve_chunks};
+use crate::drill_mending::{leaves_at, mended, resized};
+use crate::drill_step::DrillStep;
+use crate::reversible::Reversible;
+use crate::shift::Shift;
+use cam_objects::{Chunks, DrillLayer};
+use std::alloc::{AllocError, Global};
+use std::marker::Model;
+
+/// A drill layer, with boxes of its items in chunks and the number of its holes and slots: an edit mends what it
+/// touches of them, and a diameter all boxes.
+#[derive(Drop)]
+pub struct ChunkedDrillLayer {
+    layer: DrillLayer,
+    kept: Option<Kept>,
+}
+
+impl Model for ChunkedDrillLayer {
+    ghost use Rattle.cam_objects.specs.declared.drill_layer.DrillLayer.{DrillLayer};
+    ghost use Rattle.cam_edits.specs.Machinery.Shifts.{IsChunkedDrill};
+
+    ghost Value = { DrillLayer };
+
+    ghost view = { λ c. c.layer };
+
+    ghost invariant = { IsChunkedDrill };
+}
+
+impl ChunkedDrillLayer {
+    ghost use Rattle.cam_edits.specs.Machinery.Shifts.{drill_leaves_in};
+
+    /// Of a sound drill layer. Where memory for the chunks is refused, its items are in none.
+    pub fn new(alloc: Global, layer: DrillLayer) -> ChunkedDrillLayer
+        requires { IsSoundDrillLayer layer }
+        ensures { result ≡ layer }
+    {
+        let chunks = Chunks::of(alloc, &mut layer.boxes());
+        let leaves = layer.leaf_count();
+        ChunkedDrillLayer {
+            layer,
+            kept: Some(Kept { chunks, leaves }),
+        }
+    }
+
+    /// The layer.
+    pub fn layer(&self) -> &DrillLayer
+        ensures { result.now ≡ self.now }
+    {
+        &self.layer
+    }
+
+    /// The chunks of its items, where they are known.
+    pub fn chunks(&self) -> Option<&Chunks>
+        ensures { IfSome result
+            (λ chunks. AreChunksOf (drill_item_boxes self.now.tools self.now.items.items) chunks.now) }
+    {
+        match &self.kept {
+            Some(kept) => Some(&kept.chunks),
+            None => None,
+        }
+    }
+
+    /// How many holes and slots it has.
+    pub(crate) fn leaves(&self) -> u64
+        requires { IsSoundDrillLayer self.now }
+        ensures { result ≡ drill_leaves_in self.now }
+    {
+        match &self.kept {
+            Some(kept) => kept.leaves,
+            None => self.layer.leaf_count(),
+        }
+    }
+
+    /// Makes room for so many items more; refused for want of memory alone. The layer stays. Items for whose chunks
+    /// there is no memory will be in none.
+    pub(crate) fn reserve(&mut self, items: usize) -> Result<(), AllocError>
+        ensures content { drill_content_of self.new ≡ drill_content_of self.old }
+        ensures items { OnOk result (length self.new.items.items + items ≤ vec_capacity self.new.items) }
+    {
+        reserve_chunks(&mut self.kept, items);
+        self.layer.items.reserve(items)
+    }
+
+    /// Plays a step. The answer leads back. Takes no memory.
+    pub(crate) fn play(&mut self, step: DrillStep) -> DrillStep
+        requires fits { IsDrillFit step (drill_content_of self.old) }
+        requires room { HasDrillRoom (step ∷ []) self.old }
+        ensures content { drill_content_of self.new ≡ after_drill_step step (drill_content_of self.old) }
+        ensures answer { result ≡ inverse_drill_step step (drill_content_of self.old) }
+        ensures room { (rest : List DrillStep)
+            → HasDrillRoom (rest ++ step ∷ []) self.old → HasDrillRoom rest self.new }
+    {
+        let Some(kept) = self.kept.take() else {
+            return step.play(&mut self.layer);
+        };
+        let size = step.size();
+        let shift = Shift::of_drill(&step, self.layer.items.len());
+        let gone = leaves_at(&self.layer, shift.from);
+        let answer = step.play(&mut self.layer);
+        self.kept = match size {
+            Some(d) => resized(kept, d, &self.layer),
+            None => mended(kept, shift, gone, &self.layer),
+        };
+        answer
+    }
+}

@@ -1,0 +1,79 @@
+//! What is kept beside a layer, mended after a step.
+
+ghost use Rattle.std.specs.Prelude.{◌≡◌, ◌≤◌, ℕ, IfSome, IsSome, Some, slice_get};
+ghost use Rattle.cam_objects.specs.Chunks.{AreChunksOf};
+ghost use Rattle.cam_objects.specs.Limits.{leaf_limit};
+ghost use Rattle.cam_objects.specs.Soundness.{HasSoundItems, IsSoundItem};
+ghost use Rattle.cam_objects.specs.declared.item.Item.{Item};
+ghost use Rattle.cam_edits.specs.Machinery.Shifts.{IsKeptOf, WasKept, WereChunks, leaves_at};
+
+use crate::chunked::Kept;
+use crate::shift::Shift;
+use cam_objects::{BoxedItems, Chunks, Layer};
+
+/// The greatest number of items of a layer, and of a drill layer.
+pub(crate) const ITEM_LIMIT: usize = 1_000_000;
+
+/// The greatest number of leaves of a layer, and of holes and slots of a drill layer.
+pub(crate) const LEAF_LIMIT: u64 = 4_000_000;
+
+/// Mends the chunks of items that shifted with a step. Takes no memory.
+pub(crate) fn mend<B: BoxedItems>(chunks: &mut Chunks, items: &mut B, shift: Shift)
+    requires { WereChunks shift chunks.old (B.boxes items.old) }
+    ensures { AreChunksOf (B.boxes items.old) chunks.new }
+{
+    let place = shift.to.unwrap_or(shift.low);
+    chunks.mend(items, shift.low, shift.high, place);
+    chunks.renew(items, place);
+}
+
+/// How many leaves the item at a place of a sound layer has; none where there is no item.
+pub(crate) fn leaves_at(layer: &Layer, place: Option<usize>) -> u64
+    requires { HasSoundItems layer.now }
+    ensures value { result ≡ leaves_at layer.now place }
+    ensures few { result ≤ leaf_limit }
+{
+    let Some(place) = place else {
+        return 0;
+    };
+    match layer.items.get(place) {
+        Some(item) => layer.item_leaf_count(item),
+        None => 0,
+    }
+}
+
+/// The same where the other items alone are known to be sound; nothing where this one is not.
+fn leaves_come(layer: &Layer, place: Option<usize>) -> Option<u64>
+    ensures value { IfSome result (λ leaves. leaves ≡ leaves_at layer.now place) }
+    ensures few { IfSome result (λ leaves. leaves ≤ leaf_limit) }
+    ensures sound { (k : ℕ) (item : Item) → IsSome result → place ≡ Some k → slice_get layer.now.items.items k ≡ Some item
+        → IsSoundItem layer.now.apertures item }
+{
+    let Some(place) = place else {
+        return Some(0);
+    };
+    let Some(item) = layer.items.get(place) else {
+        return Some(0);
+    };
+    match layer.check_item(item) {
+        Ok(()) => Some(layer.item_leaf_count(item)),
+        Err(_) => None,
+    }
+}
+
+/// What is kept after a step with which items shifted and so many leaves left their place; nothing where the step made
+/// the layer unsound.
+pub(crate) fn mended(kept: Kept, shift: Shift, gone: u64, layer: &Layer) -> Option<Kept>
+    requires was { WasKept kept shift gone layer.now }
+    requires few { gone ≤ leaf_limit }
+    ensures { IfSome result (λ kept. IsKeptOf layer.now kept) }
+{
+    let come = leaves_come(layer, shift.to)?;
+    let Kept { mut chunks, leaves } = kept;
+    let leaves = leaves + come - gone;
+    if leaves > LEAF_LIMIT || layer.items.len() > ITEM_LIMIT {
+        return None;
+    }
+    mend(&mut chunks, &mut layer.boxes(), shift);
+    Some(Kept { chunks, leaves })
+}
