@@ -1,5 +1,6 @@
 -- painting by an index: leaves that are seen nowhere may be left out
-use Rattle.std.proofs.Common.{◌≡◌, ℕ, ◌+◌, ◌<◌, ◌≤◌, List, [], ◌∷◌, ◌++◌, length, get_or, take}
+use Rattle.std.proofs.Common.{◌≡◌, ℕ, zero, suc, ◌+◌, ◌<◌, ◌≤◌, ◌⊎◌, inl, inr, List, [], ◌∷◌, ◌++◌, length, get_or, take}
+use Rattle.std.proofs.lemmas.Bool.{cases_lt}
 use Rattle.std.proofs.Common.{refl, sym, ap, subst, ◌∙◌, arith}
 use Rattle.std.specs.List.{All, flat_map}
 use Rattle.std.proofs.lemmas.Int.{ints}
@@ -112,4 +113,27 @@ corners_held (Closed first last) box low high is least greatest s held =
       right = omega (arith, ints, greatest.right, between.right);
       below = omega (arith, ints, least.below, between.below);
       above = omega (arith, ints, greatest.above, between.above);
+    }
+
+-- lists that are passed over
+pub boxed_past : (lists : List (List Leaf)) (within : Bounds) (boxed : List Boxed) (gap n m : ℕ) → n + gap ≡ m
+    → ((k : ℕ) → n ≤ k → k < m → k < length lists → HaveCommonPlace (bounds_of (at lists k)) within → ⊥)
+    → AreBoxedTo lists within n boxed → AreBoxedTo lists within m boxed
+boxed_past lists within boxed zero n m e far so_far =
+    subst (λ k. AreBoxedTo lists within k boxed) (omega (arith, e)) so_far
+boxed_past lists within boxed (suc gap) n m e far so_far =
+    boxed_past lists within boxed gap (n + 1) m (omega (arith, e)) (λ k low high listed. far k (omega (arith, low)) high listed)
+    (by (cases_lt n (length lists)))
+  where
+    by : (n < length lists) ⊎ (length lists ≤ n) → AreBoxedTo lists within (n + 1) boxed
+    by (inl here) =
+        next_missed lists within n boxed here so_far (bounds_of (at lists n)) refl
+        (far n (omega arith) (omega (arith, e)) here)
+    by (inr past) = record {
+      each = so_far.each;
+      enough =
+          let leaves = boxed_leaves lists boxed in
+          let these = flat_map (λ those. those) in
+          alike_are (Holds within) leaves (these (take n lists)) leaves _ refl
+          (ap these (take_all (n + 1) lists (omega (arith, past)) ∙ sym (take_all n lists past))) so_far.enough;
     }

@@ -19,7 +19,7 @@ pub set_or_not : (n i : ℕ) → IsBitSet n i ⊎ (IsBitSet n i → ⊥)
 set_or_not n i = elim (cases_eq (bit_and n (2 ^ i)) 0) [ inl clear ↦ inr (λ set. set clear) | inr set ↦ inl set ]
 
 -- marks and places that are the same are joined to the same
-joined_like : (how : Join) (New Was Be Held Other : Type 0) → Was ↔ Be → Held ↔ Other → New ↔ joined how Was Held
+pub joined_like : (how : Join) (New Was Be Held Other : Type 0) → Was ↔ Be → Held ↔ Other → New ↔ joined how Was Held
     → New ↔ joined how Be Other
 joined_like Add New Was Be Held Other w e h = grind arith
 joined_like Clear New Was Be Held Other w e h = grind arith

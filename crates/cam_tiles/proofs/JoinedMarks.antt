@@ -24,7 +24,7 @@ joined_with Clear P Q R same = grind (arith, same)
 joined_with Turn P Q R same = grind (arith, same)
 
 -- where the shape holds nothing, a mark stays
-joined_none : (how : Join) (P Q : Type 0) → (Q → ⊥) → P ↔ joined how P Q
+pub joined_none : (how : Join) (P Q : Type 0) → (Q → ⊥) → P ↔ joined how P Q
 joined_none Add P Q none = grind (arith, none)
 joined_none Clear P Q none = grind (arith, none)
 joined_none Turn P Q none = grind (arith, none)

@@ -25,6 +25,7 @@ pub mod PbmLemmas
 pub mod PictureLemmas
 pub mod Pictures
 pub mod PlotLemmas
+pub mod RunColumns
 pub mod SameFiles
 pub mod SeenRows
 pub mod ShapeHeights

@@ -6,6 +6,7 @@ pub mod Kept
 pub mod Levels
 pub mod Masks
 pub mod Parities
+pub mod Runs
 pub mod Shown
 pub mod Spans
 pub mod Swaths

@@ -119,20 +119,23 @@ impl Index {
         ensures { IfOk result (λ index. IsIndexOf (leaves_by_item shown.now) index) }
     {
         let count = shown.len();
-        let mut boxed = Vec::with_capacity(alloc, count)?;
+        let mut boxed = Vec::with_capacity(alloc, shown.near_count(within))?;
         let mut room = 0;
         let mut boxes = shown.boxes();
-        for place in 0..count {
+        let mut next = shown.next_near(0, within);
+        while next < count {
+            let place = next;
+            next = shown.next_near(place + 1, within);
             let bounds = boxes.read(place);
             let Bounds::Closed { low, high } = bounds else {
                 continue;
             };
             if bounds.meets(within) {
-                boxed.push_reserved(Boxed {
+                boxed.push(Boxed {
                     place: place as u32,
                     low,
                     high,
-                });
+                })?;
                 room += shown.room_to_file(place);
             }
         }

@@ -9,6 +9,8 @@ pub(crate) mod join;
 pub(crate) mod mask;
 pub(crate) mod parity;
 pub(crate) mod row_shape;
+pub(crate) mod runs;
 pub(crate) mod shapes;
 pub(crate) mod stamps;
+pub(crate) mod strokes;
 pub(crate) mod swath;

@@ -1,20 +1,31 @@
 //! Layers of either kind, and how they are painted, item by item.
 
-ghost use Rattle.std.specs.Prelude.{◌≡◌, ◌<◌, ◌≤◌, [], ◌∷◌, IfSome, length, slice_index_or};
+ghost use Rattle.std.specs.Prelude.{◌≡◌, ◌<◌, ◌≤◌, ℕ, [], ◌∷◌, IfSome, List, length, slice_index_or};
+ghost use Rattle.cam_units.specs.Boxes.{HaveCommonPlace};
+ghost use Rattle.cam_units.specs.declared.bounds.Bounds.{Bounds};
 ghost use Rattle.cam_objects.specs.Bounds.{bounds_of};
 ghost use Rattle.cam_objects.specs.Canvases.{Paints};
+ghost use Rattle.cam_objects.specs.Chunks.{AreChunksOf, box_at};
 ghost use Rattle.cam_objects.specs.Leaves.{Filled, leaf};
 ghost use Rattle.cam_tiles.specs.Machinery.Filing.{IsOnBoardWhole};
 ghost use Rattle.cam_tiles.specs.Machinery.Shown.{IsReady, leaves_by_item, leaves_of, lists_of};
 
-use cam_objects::{Canvas, Contour, DrillItemBoxes, DrillLayer, Item, ItemBoxes, Layer, Object};
+use cam_objects::{
+    Canvas, Chunks, Contour, DrillItemBoxes, DrillLayer, Item, ItemBoxes, Layer, Object,
+};
 use cam_units::Bounds;
 
-/// A layer of either kind.
+/// A layer of either kind, and perhaps the chunks of its items.
 #[derive(Drop)]
 pub(crate) enum Shown<'a> {
-    Gerber(&'a Layer),
-    Drill(&'a DrillLayer),
+    Gerber {
+        layer: &'a Layer,
+        chunks: Option<&'a Chunks>,
+    },
+    Drill {
+        layer: &'a DrillLayer,
+        chunks: Option<&'a Chunks>,
+    },
 }
 
 /// Reads the boxes of the items of a layer of either kind, one after another.
@@ -58,14 +69,62 @@ fn region_in(item: &Item) -> Option<Region<'_>>
     }
 }
 
+/// The next place from one on whose item may have a place in common with a box: by the chunks of the items, where there
+/// are any.
+fn next_near(chunks: Option<&Chunks>, place: usize, near: Bounds) -> usize
+    ensures onward { place ≤ result }
+    ensures apart { (boxes : List Bounds) → IfSome chunks.entry (λ kept. AreChunksOf boxes kept.now) → (k : ℕ) → place ≤ k
+        → k < result → k < length boxes → ¬ HaveCommonPlace (box_at boxes k) near }
+{
+    match chunks {
+        Some(chunks) => chunks.next_near(place, near),
+        None => place,
+    }
+}
+
+/// About how many of so many items may have a place in common with a box.
+fn near_count(chunks: Option<&Chunks>, count: usize, near: Bounds) -> usize
+    ensures { result ≤ count }
+{
+    match chunks {
+        Some(chunks) => chunks.near_count(count, near),
+        None => count,
+    }
+}
+
 impl<'a> Shown<'a> {
     /// How many items it has.
     pub(crate) fn len(&self) -> usize
-        ensures { result ≡ length (leaves_by_item self.now) }
+        ensures count { result ≡ length (leaves_by_item self.now) }
+        ensures few { IsReady self.now → result ≤ 1000000 }
     {
         match self {
-            Shown::Gerber(layer) => layer.items.len(),
-            Shown::Drill(layer) => layer.items.len(),
+            Shown::Gerber { layer, .. } => layer.items.len(),
+            Shown::Drill { layer, .. } => layer.items.len(),
+        }
+    }
+
+    /// The next place from one on whose item may have a place in common with a box: the items before it, from that
+    /// place on, have none.
+    pub(crate) fn next_near(&self, place: usize, near: Bounds) -> usize
+        requires { IsReady self.now }
+        ensures onward { place ≤ result }
+        ensures apart { (k : ℕ) → place ≤ k → k < result → k < length (leaves_by_item self.now)
+            → ¬ HaveCommonPlace (bounds_of (slice_index_or (leaves_by_item self.now) k [])) near }
+    {
+        match self {
+            Shown::Gerber { chunks, .. } => next_near(*chunks, place, near),
+            Shown::Drill { chunks, .. } => next_near(*chunks, place, near),
+        }
+    }
+
+    /// About how many items may have a place in common with a box.
+    pub(crate) fn near_count(&self, near: Bounds) -> usize
+        ensures { result ≤ length (leaves_by_item self.now) }
+    {
+        match self {
+            Shown::Gerber { layer, chunks } => near_count(*chunks, layer.items.len(), near),
+            Shown::Drill { layer, chunks } => near_count(*chunks, layer.items.len(), near),
         }
     }
 
@@ -75,8 +134,8 @@ impl<'a> Shown<'a> {
         ensures { lists_of result ≡ leaves_by_item self.now }
     {
         match self {
-            Shown::Gerber(layer) => Boxes::Gerber(layer.boxes()),
-            Shown::Drill(layer) => Boxes::Drill(layer.boxes()),
+            Shown::Gerber { layer, .. } => Boxes::Gerber(layer.boxes()),
+            Shown::Drill { layer, .. } => Boxes::Drill(layer.boxes()),
         }
     }
 
@@ -89,8 +148,8 @@ impl<'a> Shown<'a> {
         ensures contour { IfSome result (λ region. IsOnBoardWhole region.contour.now) }
     {
         match self {
-            Shown::Gerber(layer) => region_in(&layer.items[place]),
-            Shown::Drill(_) => None,
+            Shown::Gerber { layer, .. } => region_in(&layer.items[place]),
+            Shown::Drill { .. } => None,
         }
     }
 
@@ -112,8 +171,8 @@ impl<'a> Shown<'a> {
         ensures { Paints C.has C.place C.ink canvas.old (leaves_of self.now) canvas.new }
     {
         match self {
-            Shown::Gerber(layer) => layer.paint(canvas),
-            Shown::Drill(layer) => layer.paint(canvas),
+            Shown::Gerber { layer, .. } => layer.paint(canvas),
+            Shown::Drill { layer, .. } => layer.paint(canvas),
         }
     }
 
@@ -124,8 +183,8 @@ impl<'a> Shown<'a> {
         ensures { Paints C.has C.place C.ink canvas.old (slice_index_or (leaves_by_item self.now) place []) canvas.new }
     {
         match self {
-            Shown::Gerber(layer) => layer.paint_item(place, canvas),
-            Shown::Drill(layer) => layer.paint_item(place, canvas),
+            Shown::Gerber { layer, .. } => layer.paint_item(place, canvas),
+            Shown::Drill { layer, .. } => layer.paint_item(place, canvas),
         }
     }
 }

@@ -1,6 +1,7 @@
 //! Layers as painters.
 
 ghost use Rattle.std.specs.Prelude.{◌≡◌, count_by, is_none};
+ghost use Rattle.cam_objects.specs.Chunks.{AreChunksOf, drill_item_boxes, item_boxes};
 ghost use Rattle.cam_objects.specs.Contents.{content_leaves, content_of, drill_content_leaves, drill_content_of};
 ghost use Rattle.cam_objects.specs.DrillSoundness.{IsSoundDrillLayer};
 ghost use Rattle.cam_objects.specs.Soundness.{HasSoundItems};
@@ -10,7 +11,7 @@ use crate::drawing::draw;
 use crate::painter::{Painter, Tile};
 use crate::shown::Shown;
 use crate::window::Window;
-use cam_objects::{DrillLayer, Layer};
+use cam_objects::{Chunks, DrillLayer, Layer};
 use std::alloc::Global;
 use std::marker::Model;
 
@@ -41,7 +42,27 @@ impl<'a> Source<'a> {
         ensures { result ≡ unasked (content_leaves (content_of layer.now)) }
     {
         Source {
-            shown: Shown::Gerber(layer),
+            shown: Shown::Gerber {
+                layer,
+                chunks: None,
+            },
+            alloc: None,
+            asked: 0,
+        }
+    }
+
+    /// Paints a sound layer whose items are in chunks: those whose boxes the tiles do not meet are passed over. No tile
+    /// was asked for.
+    pub fn gerber_in_chunks(layer: &'a Layer, chunks: &'a Chunks) -> Source<'a>
+        requires sound { HasSoundItems layer.now }
+        requires chunks { AreChunksOf (item_boxes layer.now.apertures layer.now.items.items) chunks.now }
+        ensures { result ≡ unasked (content_leaves (content_of layer.now)) }
+    {
+        Source {
+            shown: Shown::Gerber {
+                layer,
+                chunks: Some(chunks),
+            },
             alloc: None,
             asked: 0,
         }
@@ -53,7 +74,27 @@ impl<'a> Source<'a> {
         ensures { result ≡ unasked (drill_content_leaves (drill_content_of layer.now)) }
     {
         Source {
-            shown: Shown::Drill(layer),
+            shown: Shown::Drill {
+                layer,
+                chunks: None,
+            },
+            alloc: None,
+            asked: 0,
+        }
+    }
+
+    /// Paints a sound drill layer whose items are in chunks: those whose boxes the tiles do not meet are passed over. No
+    /// tile was asked for.
+    pub fn drill_in_chunks(layer: &'a DrillLayer, chunks: &'a Chunks) -> Source<'a>
+        requires sound { IsSoundDrillLayer layer.now }
+        requires chunks { AreChunksOf (drill_item_boxes layer.now.tools layer.now.items.items) chunks.now }
+        ensures { result ≡ unasked (drill_content_leaves (drill_content_of layer.now)) }
+    {
+        Source {
+            shown: Shown::Drill {
+                layer,
+                chunks: Some(chunks),
+            },
             alloc: None,
             asked: 0,
         }

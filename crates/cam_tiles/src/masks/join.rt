@@ -1,6 +1,7 @@
 //! How marks are joined.
 
-ghost use Rattle.std.specs.Prelude.{◌≡◌, ◌<◌, ◌^◌, ℕ, slice_index};
+ghost use Rattle.std.specs.Prelude.{◌≡◌, ◌↔◌, ◌<◌, ◌^◌, ℕ, slice_index};
+ghost use Rattle.std.specs.Int.{IsBitSet};
 ghost use Rattle.cam_rows.specs.Lanes.{AreJoined};
 ghost use Rattle.cam_tiles.specs.Machinery.Masks.{inked, joined};
 
@@ -23,6 +24,18 @@ impl Join {
         ensures { result ≡ inked dark }
     {
         if dark { Join::Add } else { Join::Clear }
+    }
+
+    /// The row that a row becomes, joined with another.
+    #[inline]
+    pub(crate) fn join_row(self, row: u64, other: u64) -> u64
+        ensures { (i : ℕ) → i < 64 → IsBitSet result i ↔ joined self (IsBitSet row i) (IsBitSet other i) }
+    {
+        match self {
+            Join::Add => row | other,
+            Join::Clear => row & !other,
+            Join::Turn => row ^ other,
+        }
     }
 
     /// Joins rows with others, each with the one of its place.

@@ -1,14 +1,16 @@
 //! A mask, and how it gains and loses marks.
 
-ghost use Rattle.std.specs.Prelude.{◌≡◌, ◌≢◌, ◌↔◌, ◌<◌, ◌≤◌, ℕ, IsTrue};
+ghost use Rattle.std.specs.Prelude.{◌≡◌, ◌≢◌, ◌↔◌, ◌+◌, ◌<◌, ◌≤◌, ℕ, IsTrue};
 ghost use Rattle.std.specs.Int.{IsBitSet};
 ghost use Rattle.cam_units.specs.Board.{IsOnBoard};
 ghost use Rattle.cam_shapes.specs.Edge.{crosses_ray, edge, is_above};
 ghost use Rattle.cam_objects.specs.Image.{relative};
 ghost use Rattle.cam_rows.specs.Rows.{IsRow, centre_at};
+ghost use Rattle.cam_rows.specs.Runs.{most_columns};
 ghost use Rattle.cam_tiles.specs.declared.masks.join.Join.TheVariants.{Turn as Turned};
 ghost use Rattle.cam_tiles.specs.Machinery.Masks.{HoldsCentres, IsBlank, IsIn, IsMarked, IsMask, IsWithin, Joins};
 ghost use Rattle.cam_tiles.specs.Machinery.Masks.{Merges, joined};
+ghost use Rattle.cam_tiles.specs.Machinery.Runs.{Fits, HasColumn};
 ghost use Rattle.cam_tiles.specs.Tiles.{IsGrid, centre_in};
 
 use crate::grid::Grid;
@@ -16,7 +18,8 @@ use crate::levels::Levels;
 use crate::masks::heights::Heights;
 use crate::masks::join::{Join, told_by_type};
 use crate::masks::row_shape::RowShape;
-use cam_rows::{Centres, turn_edge};
+use crate::masks::runs::Runs;
+use cam_rows::{Centres, run_row, turn_edge};
 use cam_units::{Bounds, Point, Spot};
 use std::marker::Model;
 
@@ -186,6 +189,28 @@ impl Mask {
         for row in 0..self.grid.rows {
             let turned = if (rows >> row) & 1 == 1 { columns } else { 0 };
             self.rows[row as usize] ^= turned;
+        }
+    }
+
+    /// Joins the marks with runs of columns, in rows of which the grid begins at a column.
+    pub(crate) fn join_runs(&mut self, runs: &Runs, column: u32, how: Join)
+        requires near { column < most_columns }
+        requires fits { Fits self.old.grid.rows runs.now }
+        ensures grid { self.new.grid ≡ self.old.grid }
+        ensures marks { (i row : ℕ) → IsIn self.old.grid i row
+            → IsMarked self.new i row ↔ joined how (IsMarked self.old i row) (HasColumn runs.now row (column + i)) }
+    {
+        let columns = self.grid.columns;
+        if runs.end <= column {
+            return;
+        }
+        if column + columns <= runs.first {
+            return;
+        }
+        for row in runs.band.first..runs.band.end {
+            let k = row as usize;
+            let marks = run_row(runs.firsts[k], runs.ends[k], column, columns);
+            self.rows[k] = how.join_row(self.rows[k], marks);
         }
     }
 

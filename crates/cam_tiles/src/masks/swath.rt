@@ -34,6 +34,7 @@ ghost use Rattle.cam_tiles.specs.Tiles.{across, centre_in, grid_of, tile_rows};
 use crate::masks::filing::FiledSegment;
 use crate::masks::join::Join;
 use crate::masks::mask::Mask;
+use crate::masks::strokes::{paint_each, paint_strokes, stroke_of};
 use crate::painter::Tile;
 use crate::shown::Region;
 use crate::window::Window;
@@ -251,14 +252,19 @@ fn put_blanks(
     bounds
 }
 
-/// Paints a leaf on the masks from one number to another.
+/// Paints a leaf on the masks from one number to another: a stroke of a circle or a disc on all of them at once.
 fn paint_masks(masks: &mut [Mask], first: usize, end: usize, print: Print<'_>)
     requires end { end ≤ length masks.old }
     requires print { IsSoundPrint print }
     ensures { ArePaintedIn first end (leaf_of print.entry ∷ []) masks.old masks.new }
 {
-    for k in first..end {
-        masks[k].paint(print);
+    if end.saturating_sub(first) < 2 {
+        paint_each(masks, first, end, print);
+        return;
+    }
+    match stroke_of(&print.figure) {
+        Some(capsule) => paint_strokes(masks, first, end, &capsule, print),
+        None => paint_each(masks, first, end, print),
     }
 }
 

@@ -1,13 +1,14 @@
-use Rattle.std.proofs.Common.{◌≡◌, ◌*◌, ◌≤◌, length, vec_capacity}
+use Rattle.std.proofs.Common.{◌≡◌, ◌-◌, ◌*◌, ◌≤◌}
 use Rattle.cam_tiles.specs.Machinery.Shown.{leaves_by_item, lists_of}
 use Rattle.cam_tiles.proofs.Indexed.{AreBoxedTo}
 use Rattle.cam_tiles.proofs.index.Index.new.Given as goal
 
-abbrev pub invariant-loop-place : goal.invariant-loop-place
-invariant-loop-place l = record {
+abbrev pub invariant-loop-next : goal.invariant-loop-next
+invariant-loop-next l = record {
   lists : lists_of l.boxes ≡ leaves_by_item l.shown;
-  boxed : AreBoxedTo (leaves_by_item l.shown) l.within l.place l.boxed.items;
-  few : length l.boxed.items ≤ l.place;
-  capacity : l.count ≤ vec_capacity l.boxed;
-  room : l.room ≤ 1000001 * l.place;
+  boxed : AreBoxedTo (leaves_by_item l.shown) l.within l.next l.boxed.items;
+  room : l.room ≤ 1000001 * l.next;
 }
+
+abbrev pub decreases-loop-next : goal.decreases-loop-next
+decreases-loop-next l = l.count - l.next

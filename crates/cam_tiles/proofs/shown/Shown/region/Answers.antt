@@ -26,4 +26,4 @@ returns-in-Gerber-clause-contour c =
     IfSome_then c.region_in.result c.region_in.ensures
     (λ (region : Region) is.
     region_whole layer c.index.result.now region.contour.now region.dark is k c.index.ensures within
-    (subst IsReady c.in-Gerber.is c.requires.ready))
+    (subst IsReady c.in-Gerber.is c.requires.ready).0)

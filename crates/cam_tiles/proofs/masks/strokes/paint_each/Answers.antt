@@ -1,7 +1,7 @@
 use Rattle.std.proofs.Common.{[], ◌∷◌, refl, arith}
 use Rattle.cam_objects.specs.Canvases.{leaf_of}
 use Rattle.cam_tiles.proofs.PaintedSwaths.{all_painted, none_painted, one_more_painted}
-use Rattle.cam_tiles.proofs.masks.swath.paint_masks.Goals as goal
+use Rattle.cam_tiles.proofs.masks.strokes.paint_each.Goals as goal
 
 pub loop-k-init : goal.loop-k-init
 loop-k-init c = record {

@@ -1,7 +1,7 @@
 use Rattle.std.proofs.Common.{◌≤◌, ◌∷◌, []}
 use Rattle.cam_objects.specs.Canvases.{leaf_of}
 use Rattle.cam_tiles.specs.Machinery.Swaths.{ArePaintedIn}
-use Rattle.cam_tiles.proofs.masks.swath.paint_masks.Given as goal
+use Rattle.cam_tiles.proofs.masks.strokes.paint_strokes.Given as goal
 
 abbrev pub invariant-loop-k : goal.invariant-loop-k
 invariant-loop-k l = record {
