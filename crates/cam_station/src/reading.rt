@@ -1,14 +1,17 @@
 //! Reads files of each kind.
 
 ghost use Rattle.std.specs.Prelude.{◌≡◌, IfOk};
+ghost use Rattle.cam_objects.specs.DrillSoundness.{IsSoundDrillLayer};
+ghost use Rattle.cam_objects.specs.Soundness.{HasSoundItems};
 ghost use Rattle.cam_edits.specs.Sheets.{IsSound, content_of};
 ghost use Rattle.cam_station.specs.Machine.{memory_of, reader_answer};
 ghost use Rattle.cam_station.specs.Meanings.{meaning_of};
 ghost use Rattle.cam_station.specs.Machinery.Answers.{answer_of};
 
 use crate::fault::Fault;
-use cam_edits::SheetContent;
+use cam_edits::{ChunkedDrillLayer, ChunkedLayer, SheetContent};
 use cam_gerber::read_gerber;
+use cam_objects::{DrillLayer, Layer};
 use cam_script::{Bytes, FileKind};
 use cam_xnc::read_xnc;
 use std::alloc::Global;
@@ -32,12 +35,20 @@ fn read_gerber_layer(alloc: Global, file: &Bytes) -> Result<SheetContent, Fault>
     ensures sound { IfOk result (λ layer. IsSound (content_of layer)) }
 {
     match read_gerber(alloc, file.as_slice()) {
-        Ok(layer) => Ok(SheetContent::Gerber(layer)),
+        Ok(layer) => Ok(chunked(alloc, layer)),
         Err(fault) => Err(Fault {
             code: fault.code,
             at: Some(fault.at),
         }),
     }
+}
+
+/// A sound layer, with its items in chunks where there is memory for them.
+fn chunked(alloc: Global, layer: Layer) -> SheetContent
+    requires { HasSoundItems layer }
+    ensures { result ≡ SheetContent.Gerber layer }
+{
+    SheetContent::Gerber(ChunkedLayer::new(alloc, layer))
 }
 
 /// The layer of a drill file.
@@ -47,10 +58,18 @@ fn read_drill_layer(alloc: Global, file: &Bytes) -> Result<SheetContent, Fault>
     ensures sound { IfOk result (λ layer. IsSound (content_of layer)) }
 {
     match read_xnc(alloc, file.as_slice()) {
-        Ok(layer) => Ok(SheetContent::Drill(layer)),
+        Ok(layer) => Ok(chunked_drill(alloc, layer)),
         Err(fault) => Err(Fault {
             code: fault.code,
             at: Some(fault.at),
         }),
     }
+}
+
+/// A sound drill layer, with its items in chunks where there is memory for them.
+fn chunked_drill(alloc: Global, layer: DrillLayer) -> SheetContent
+    requires { IsSoundDrillLayer layer }
+    ensures { result ≡ SheetContent.Drill layer }
+{
+    SheetContent::Drill(ChunkedDrillLayer::new(alloc, layer))
 }

@@ -1,6 +1,14 @@
 //! What layers are drawn and written as.
 
 ghost use Rattle.std.specs.Prelude.{◌≡◌, ◌≤◌, length, min, option_map, replicate, true, IfErr, IfOk, Some};
+ghost use Rattle.cam_objects.specs.Contents.{
+  content_leaves,
+  content_of as gerber_content_of,
+  drill_content_leaves,
+  drill_content_of,
+};
+ghost use Rattle.cam_objects.specs.DrillSoundness.{IsSoundDrillLayer};
+ghost use Rattle.cam_objects.specs.Soundness.{HasSoundItems};
 ghost use Rattle.cam_edits.specs.Images.{image_of};
 ghost use Rattle.cam_edits.specs.Sheets.{AreSound, IsSound, content_of, sheets_of};
 ghost use Rattle.cam_station.specs.TileTables.{dirty_in, redrawn_in};
@@ -8,12 +16,13 @@ ghost use Rattle.cam_station.specs.Machine.{fault};
 ghost use Rattle.cam_station.specs.Refusals.{memory_refused};
 ghost use Rattle.cam_station.specs.Writing.{text_of};
 ghost use Rattle.cam_tiles.specs.Picture.{accepts};
+ghost use Rattle.cam_tiles.specs.Sources.{unasked};
 ghost use Rattle.cam_tiles.specs.declared.window.Window.{Window};
 ghost use Rattle.cam_tiles.specs.Tables.{blank, dirty_count, redrawn};
 
 use crate::fault::{Fault, refusal};
 use crate::refusals;
-use cam_edits::{Board, SheetContent};
+use cam_edits::{Board, ChunkedDrillLayer, ChunkedLayer, SheetContent};
 use cam_tiles::{Raster, Source, Window};
 use cam_writers::{gerber_text, xnc_text};
 use std::alloc::{AllocError, Global};
@@ -78,11 +87,33 @@ pub(crate) fn draw(alloc: Global, content: &SheetContent, raster: &mut Raster, a
     ensures tiles { raster.new ≡ redrawn (image_of (content_of content.now)) at_most raster.old }
 {
     let mut source = match content {
-        SheetContent::Gerber(layer) => Source::gerber(layer),
-        SheetContent::Drill(layer) => Source::drill(layer),
+        SheetContent::Gerber(layer) => painter(layer),
+        SheetContent::Drill(layer) => drill_painter(layer),
     };
     source.keep_boxes(alloc);
     raster.redraw(&mut source, at_most)
+}
+
+/// Paints a sound layer: chunk by chunk of its items, where they are in chunks.
+fn painter(layer: &ChunkedLayer) -> Source<'_>
+    requires { HasSoundItems layer.now }
+    ensures { result ≡ unasked (content_leaves (gerber_content_of layer.now)) }
+{
+    match layer.chunks() {
+        Some(chunks) => Source::gerber_in_chunks(layer.layer(), chunks),
+        None => Source::gerber(layer.layer()),
+    }
+}
+
+/// Paints a sound drill layer in the same way.
+fn drill_painter(layer: &ChunkedDrillLayer) -> Source<'_>
+    requires { IsSoundDrillLayer layer.now }
+    ensures { result ≡ unasked (drill_content_leaves (drill_content_of layer.now)) }
+{
+    match layer.chunks() {
+        Some(chunks) => Source::drill_in_chunks(layer.layer(), chunks),
+        None => Source::drill(layer.layer()),
+    }
 }
 
 /// The canonical text of a layer, as a file of its kind.
@@ -91,7 +122,7 @@ pub(crate) fn text(alloc: Global, content: &SheetContent) -> Result<Vec<u8>, All
     ensures { IfOk result (λ text. text.items ≡ text_of (content_of content.now)) }
 {
     match content {
-        SheetContent::Gerber(layer) => gerber_text(alloc, layer),
-        SheetContent::Drill(layer) => xnc_text(alloc, layer),
+        SheetContent::Gerber(layer) => gerber_text(alloc, layer.layer()),
+        SheetContent::Drill(layer) => xnc_text(alloc, layer.layer()),
     }
 }
