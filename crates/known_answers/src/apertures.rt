@@ -23,7 +23,7 @@ fn defined(
     if !macro_text.is_empty() {
         macros.add(alloc, Macro::parse(alloc, macro_text)?)?;
     }
-    Ok(parse_ad(alloc, text, &macros, unit))
+    Ok(parse_ad(alloc, text, &mut macros, unit))
 }
 
 /// The aperture of the texts, in millimetres.
