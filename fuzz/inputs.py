@@ -36,9 +36,14 @@ def macro(name, parts):
     return b"%%AM%s*\n%s%%\n" % (name, b"".join(part + b"*\n" for part in parts))
 
 
-def used_macro(discs, definitions):
+def used_macro(discs, definitions, parameter=False):
     parts = (b"1,1,0.1,%d.%d,0" % (k % 99, k % 7) for k in range(discs))
-    return macro(b"A", parts) + rows(definitions, lambda k: b"%%ADD%dA*%%\n" % (k + 10))
+    told = (lambda k: b",%d" % k) if parameter else lambda k: b""
+    return macro(b"A", parts) + rows(definitions, lambda k: b"%%ADD%dA%s*%%\n" % (k + 10, told(k)))
+
+
+def unused_macro(part, size):
+    return macro(b"A", [part] * (size // (len(part) + 2)))
 
 
 def apertures(count):
@@ -126,6 +131,7 @@ ORDINARY = {
 INPUTS = {
     # of a length of their own
     "a macro of 20,000 discs, 1,000 AD": lambda size: gerber(used_macro(20000, 1000)),
+    "a macro of 20,000 discs, 1,000 other AD": lambda size: gerber(used_macro(20000, 1000, True)),
     "a macro of 20,000 discs, flashed": lambda size: gerber(
         used_macro(20000, 1), b"D10*\n", flashes(1000), lines="window 0 0 100000 1000 1000\nplot top p\n"
     ),
@@ -146,6 +152,12 @@ INPUTS = {
     ),
     # as long as is wished
     "a macro of 20 discs, many AD": lambda size: gerber(used_macro(20, size // 12)),
+    "a macro of 20 discs, many other AD": lambda size: gerber(used_macro(20, size // 20, True)),
+    "a macro of discs alone": lambda size: gerber(unused_macro(b"1,1,1,0,0", size)),
+    "a macro of codes alone": lambda size: gerber(unused_macro(b"1", size)),
+    "a macro of settings alone": lambda size: gerber(unused_macro(b"$1=1", size)),
+    "a macro of outlines alone": lambda size: gerber(unused_macro(b"4,1,99" + b",0" * 200, size)),
+    "macros without a part": lambda size: gerber(rows(size // 13, lambda k: b"%%AMA%d*%%\n" % k)),
     "macros alone": lambda size: gerber(rows(size // 28, lambda k: macro(b"A%d" % k, [b"1,1,1,0,0"]))),
     "apertures in turn": lambda size: gerber(apertures(size // 34)),
     "macros of 1,000 operators": lambda size: gerber(operators(size)),
