@@ -23,3 +23,12 @@ class WithProgram(unittest.TestCase):
     def setUp(self) -> None:
         if not PROGRAM.is_file():
             self.fail(f"{PROGRAM} is not there")
+
+
+def add_refusals(tests: type, refusals: dict) -> None:
+    """A test for each text that a tool refuses, by its name: the text, the options, and words that are said of it."""
+    for name, (text, options, words) in refusals.items():
+        def is_refused(self, text=text, options=options, words=words) -> None:
+            self.refused(text, options, words)
+
+        setattr(tests, f"test_{name}_is_refused", is_refused)

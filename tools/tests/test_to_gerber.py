@@ -5,7 +5,7 @@ import tempfile
 import unittest
 from pathlib import Path
 
-from support import CASES, PROGRAM, REPOSITORY, run_tool
+from support import CASES, PROGRAM, REPOSITORY, add_refusals, run_tool
 
 FOLDER = CASES / "old_gerber"
 
@@ -203,11 +203,7 @@ def add_tests() -> None:
         stem = name.replace(".", "_")
         setattr(Conversions, f"test_{stem}_needs_nothing_more", needs_nothing_more)
         setattr(Conversions, f"test_{stem}_loads", loads)
-    for name, (text, options, words) in REFUSALS.items():
-        def is_refused(self, text=text, options=options, words=words) -> None:
-            self.refused(text, options, words)
-
-        setattr(Conversions, f"test_{name}_is_refused", is_refused)
+    add_refusals(Conversions, REFUSALS)
 
 
 add_tests()

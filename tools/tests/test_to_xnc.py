@@ -7,7 +7,7 @@ import unittest
 from decimal import Decimal
 from pathlib import Path
 
-from support import CASES, PROGRAM, run_tool
+from support import CASES, PROGRAM, add_refusals, run_tool
 
 FOLDER = CASES / "drill"
 WITH_SLOT = """M48
@@ -166,11 +166,7 @@ def add_tests() -> None:
         stem = name.replace(".", "_")
         setattr(Conversions, f"test_{stem}_says_the_board", says_the_board)
         setattr(Conversions, f"test_{stem}_loads", loads)
-    for name, (text, options, words) in REFUSALS.items():
-        def is_refused(self, text=text, options=options, words=words) -> None:
-            self.refused(text, options, words)
-
-        setattr(Conversions, f"test_{name}_is_refused", is_refused)
+    add_refusals(Conversions, REFUSALS)
 
 
 add_tests()
