@@ -1,3 +1,4 @@
+pub mod BlockChunks
 pub mod BoardBoxes
 pub mod BoxJoins
 pub mod BoxLimits

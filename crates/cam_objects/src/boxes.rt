@@ -1,5 +1,6 @@
 //! Boxes of what is painted, in half nm.
 
+pub(crate) mod block_chunks;
 pub(crate) mod extent;
 pub(crate) mod item_boxes;
 pub(crate) mod items;

@@ -6,7 +6,9 @@ ghost use Rattle.std.specs.Prelude.{
   ◌==◌,
   ◌++◌,
   ◌∷◌,
+  ◌<◌,
   ◌≤◌,
+  ℕ,
   [],
   None,
   Some,
@@ -18,19 +20,24 @@ ghost use Rattle.std.specs.Prelude.{
   length,
   nat_eq,
   slice_get,
+  take,
 };
 ghost use Rattle.std.specs.List.{IsDistinct};
 ghost use Rattle.std.specs.Map.{keys_of, lookup};
 ghost use Rattle.cam_objects.specs.Limits.{depth_limit, leaf_limit};
+ghost use Rattle.cam_objects.specs.Machinery.BlockChunks.{HasChunks};
 ghost use Rattle.cam_objects.specs.Machinery.Boxes.{IsNearBox};
 ghost use Rattle.cam_objects.specs.Machinery.Facts.{facts_at};
 ghost use Rattle.cam_objects.specs.Machinery.Inside.{IsBoxOnBoard};
 ghost use Rattle.cam_objects.specs.Soundness.{IsSoundDictionary, MayAddEntry};
 ghost use Rattle.cam_objects.specs.Weights.{object_count, object_depth, weight_in};
+ghost use Rattle.cam_objects.specs.declared.entry.Entry.{Entry};
 
+use crate::boxes::block_chunks::chunks_of;
 use crate::checks::facts::{Facts, NO_FACTS};
 use crate::entry::Entry;
 use crate::object::Object;
+use cam_units::{Bounds, Items};
 use indexmap::IndexMap;
 use std::alloc::{AllocError, Global};
 use std::marker::Model;
@@ -41,6 +48,8 @@ use std::marker::Model;
 pub struct Dictionary {
     map: IndexMap<u32, Entry>,
     facts: Vec<Facts>,
+    chunks: Vec<Items<Bounds>>,
+    alloc: Global,
 }
 
 impl Model for Dictionary {
@@ -49,11 +58,12 @@ impl Model for Dictionary {
 
     ghost Value = { List (ℕ × Entry) };
 
+    ghost use Rattle.cam_objects.specs.Machinery.BlockChunks.{AreChunksKept};
     ghost use Rattle.cam_objects.specs.Machinery.Facts.{IsKept};
 
     ghost view = { λ d. d.map.entries };
 
-    ghost invariant = { λ d. IsKept d.map.entries d.facts.items };
+    ghost invariant = { λ d. IsKept d.map.entries d.facts.items × AreChunksKept d.map.entries d.chunks.items };
 }
 
 impl Dictionary {
@@ -64,6 +74,8 @@ impl Dictionary {
         Dictionary {
             map: IndexMap::new(alloc),
             facts: Vec::new(alloc),
+            chunks: Vec::new(alloc),
+            alloc,
         }
     }
 
@@ -165,6 +177,15 @@ impl Dictionary {
         }
     }
 
+    /// The boxes of the chunks of the block at a place in the order, counted from 0.
+    pub(crate) fn chunks(&self, place: usize) -> &[Bounds]
+        requires { place < length self.now }
+        ensures { (number : ℕ) (entry : Entry) → slice_get self.now place ≡ Some (number, entry)
+            → HasChunks (take place self.now) entry result.now }
+    {
+        self.chunks[place].as_slice()
+    }
+
     /// Adds an entry behind the others; refused for want of memory alone.
     pub fn push(&mut self, number: u32, entry: Entry) -> Result<(), AllocError>
         requires { MayAddEntry self.old number entry }
@@ -172,14 +193,13 @@ impl Dictionary {
         ensures err { OnErr result (self.new ≡ self.old) }
     {
         let facts = Facts::of(self, &entry);
-        self.facts.push(facts)?;
-        match self.map.insert(number, entry) {
-            Ok(_) => Ok(()),
-            Err(_) => {
-                self.facts.pop();
-                Err(AllocError)
-            }
-        }
+        let chunks = chunks_of(self.alloc, self, &entry);
+        self.facts.reserve(1)?;
+        self.chunks.reserve(1)?;
+        self.map.insert(number, entry)?;
+        self.facts.push_reserved(facts);
+        self.chunks.push_reserved(chunks);
+        Ok(())
     }
 
     /// A copy; an error where no memory is left for it.

@@ -1,12 +1,15 @@
 //! Objects, painted on a canvas in order. Nothing is unfolded.
 
-ghost use Rattle.std.specs.Prelude.{◌≡◌, ◌+◌, ◌≤◌, All, IfSome, length};
+ghost use Rattle.std.specs.Prelude.{◌≡◌, ◌+◌, ◌≤◌, All, IfSome, length, take};
+ghost use Rattle.cam_objects.specs.Bounds.{bounds_of};
 ghost use Rattle.cam_objects.specs.Canvases.{Paints};
-ghost use Rattle.cam_objects.specs.Leaves.{block_leaves, object_leaves};
-ghost use Rattle.cam_objects.specs.Machinery.Boxes.{IsSizedTip};
+ghost use Rattle.cam_objects.specs.Leaves.{block_leaves, object_leaves, origin};
+ghost use Rattle.cam_objects.specs.Machinery.BlockChunks.{AreBlockChunks};
+ghost use Rattle.cam_objects.specs.Machinery.Boxes.{IsNearBox, IsSizedTip};
 ghost use Rattle.cam_objects.specs.Machinery.Painting.{IsPrintable, StandsOnBoard, flash_leaves, meaning_before};
 ghost use Rattle.cam_objects.specs.Soundness.{IsSoundDictionary};
 
+use crate::boxes::block_chunks::{behind_chunks, chunk_at};
 use crate::canvas::{Canvas, Figure, Print, misses};
 use crate::dictionary::Dictionary;
 use crate::entry::Entry;
@@ -15,6 +18,7 @@ use crate::paint::prints::{paint_region, paint_stroke, paint_sweep};
 use crate::placing::place::Place;
 use crate::tip::{Tip, round_width};
 use cam_shapes::Arc;
+use cam_units::Bounds;
 
 /// Paints what a flash of the number paints at a place, if its box meets the canvas.
 #[cycle(paint)]
@@ -49,8 +53,61 @@ fn paint_flash<C: Canvas>(
             dark: place.dark,
             bounds,
         }),
-        Entry::Block(objects) => paint_block(entries, at, objects.as_slice(), place, canvas),
+        Entry::Block(objects) => {
+            let chunks = entries.chunks(at);
+            paint_chunks(entries, at, objects.as_slice(), chunks, place, canvas);
+        }
     }
+}
+
+/// Paints the objects of a block at a place, in order, but for the chunks whose boxes miss the canvas.
+#[cycle(paint)]
+fn paint_chunks<C: Canvas>(
+    entries: &Dictionary,
+    upto: usize,
+    objects: &[Object],
+    chunks: &[Bounds],
+    place: &Place,
+    canvas: &mut C,
+)
+    requires objects { All StandsOnBoard objects.now }
+    requires chunks { AreBlockChunks (take upto entries.now) objects.now chunks.now }
+    requires ready { IsPrintable entries.now upto (upto + 1) place.now
+        (block_leaves (meaning_before upto entries.now) place.now objects.now) }
+    ensures { Paints C.has C.place C.ink canvas.old
+        (block_leaves (meaning_before upto entries.now) place.now objects.now) canvas.new }
+{
+    for chunk in 0..chunks.len() {
+        let part = chunk_at(objects, chunk);
+        paint_part(entries, upto, part, chunks[chunk], place, canvas);
+    }
+    let behind = behind_chunks(objects, chunks.len());
+    paint_block(entries, upto, behind, place, canvas);
+}
+
+/// Paints objects of a block at a place, in order, if their box there meets the canvas.
+#[cycle(paint)]
+fn paint_part<C: Canvas>(
+    entries: &Dictionary,
+    upto: usize,
+    objects: &[Object],
+    bounds: Bounds,
+    place: &Place,
+    canvas: &mut C,
+)
+    requires objects { All StandsOnBoard objects.now }
+    requires bounds { bounds ≡ bounds_of (block_leaves (meaning_before upto entries.now) origin objects.now) }
+    requires near { IsNearBox bounds }
+    requires ready { IsPrintable entries.now upto (upto + 1) place.now
+        (block_leaves (meaning_before upto entries.now) place.now objects.now) }
+    ensures { Paints C.has C.place C.ink canvas.old
+        (block_leaves (meaning_before upto entries.now) place.now objects.now) canvas.new }
+{
+    let there = place.bounds(bounds);
+    if misses(canvas, there) {
+        return;
+    }
+    paint_block(entries, upto, objects, place, canvas);
 }
 
 /// Paints the objects of a block at a place, in order.

@@ -13,15 +13,15 @@ returns-in-Some c =
     let e = c.in-Some.entry.now in
     let f = c.index.result.now in
     let here = ap (λ (ds : List (ℕ × Entry)). slice_get ds i) c.self.view_is ∙ c.in-Some.ensures.found in
-    let same = facts_found es fs i n e f c.self.invariant here c.index.ensures in
-    let low = light_found es fs i n e f c.self.invariant here same in
+    let same = facts_found es fs i n e f c.self.invariant.0 here c.index.ensures in
+    let low = light_found es fs i n e f c.self.invariant.0 here same in
     record {
       found = c.in-Some.ensures.found;
       value = same ∙ ap (λ (ds : List (ℕ × Entry)). facts_at ds n) c.self.view_is;
       few = low.0;
       shallow = low.1;
       near = low.2;
-      reach = near_found es n f c.self.invariant.sound same low.2;
+      reach = near_found es n f c.self.invariant.0.sound same low.2;
       absent = tt;
       distinct = c.in-Some.ensures.distinct;
     }

@@ -5,13 +5,26 @@ use Rattle.cam_objects.specs.Machinery.Painting.{meaning_before}
 use Rattle.cam_objects.proofs.paint.objects.+paint.Given as goal
 
 abbrev pub decreases-paint_flash : goal.decreases-paint_flash
-decreases-paint_flash g l = 3 * l.upto
+decreases-paint_flash g l = 5 * l.upto
 
 abbrev pub decreases-paint_object : goal.decreases-paint_object
-decreases-paint_object g l = 3 * l.upto + 1
+decreases-paint_object g l = 5 * l.upto + 1
 
 abbrev pub decreases-paint_block : goal.decreases-paint_block
-decreases-paint_block g l = 3 * l.upto + 2
+decreases-paint_block g l = 5 * l.upto + 2
+
+abbrev pub decreases-paint_part : goal.decreases-paint_part
+decreases-paint_part g l = 5 * l.upto + 3
+
+abbrev pub decreases-paint_chunks : goal.decreases-paint_chunks
+decreases-paint_chunks g l = 5 * l.upto + 4
+
+-- the objects before this chunk are painted
+abbrev pub invariant-paint_chunks-loop-chunk : goal.invariant-paint_chunks-loop-chunk
+invariant-paint_chunks-loop-chunk g l =
+    let canvas = g.C.Canvas in
+    Paints canvas.has canvas.place canvas.ink l.fn.canvas
+    (block_leaves (meaning_before l.upto l.entries) l.place (take (l.chunk * 512) l.objects)) l.canvas
 
 -- the objects before this one are painted
 abbrev pub invariant-paint_block-loop-object : goal.invariant-paint_block-loop-object

@@ -2,7 +2,7 @@ use Rattle.cam_objects.specs.declared.drill_item.DrillItem.{DrillItem}
 use Rattle.cam_objects.specs.Bounds.{bounds_of}
 use Rattle.cam_objects.specs.Drilling.{drill_item_leaves}
 use Rattle.cam_objects.proofs.KeptBoxes.{read_box_at}
-use Rattle.std.proofs.Common.{length, arith, map}
+use Rattle.std.proofs.Common.{arith}
 use Rattle.std.proofs.lemmas.List.{length-map}
 use Rattle.cam_units.specs.declared.bounds.Bounds.{Bounds}
 use Rattle.cam_objects.proofs.chunks.item_list.DrillItemBoxesBoxedItems.box_at.Goals as goal

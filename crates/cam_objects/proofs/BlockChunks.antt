@@ -1,0 +1,141 @@
+-- chunks of a block are parts of its objects, and are kept beside a dictionary that grows
+use Rattle.std.proofs.Common.{◌≡◌, ℕ, ◌+◌, ◌*◌, ◌≤◌, List, [], ◌∷◌, ◌++◌, length, take, drop, get_or, reverse, slice_get, Some, sym, ap, subst, ◌∙◌, arith, inl, inr, take-add}
+use Rattle.std.specs.List.{All, flat_map}
+use Rattle.std.proofs.lemmas.Bool.{cases_lt}
+use Rattle.std.proofs.lemmas.Option.{get_or_from_slice_get, slice_get_within}
+use Rattle.std.proofs.lemmas.List.{get_or_append_left, length-append, take-append-drop, take-append-le}
+use Rattle.std.proofs.lemmas.List.Concat.{flat_map-append}
+use Rattle.std.proofs.Math.Seq.{get_or-append_seam}
+use Rattle.cam_units.specs.declared.bounds.Bounds.{Bounds}
+use Rattle.cam_objects.specs.declared.entry.Entry.{Entry}
+use Rattle.cam_objects.specs.declared.object.Object.{Object}
+use Rattle.cam_objects.specs.declared.placing.place.Place.{Place}
+use Rattle.cam_objects.specs.Bounds.{bounds_of, box_of_shape}
+use Rattle.cam_objects.specs.Leaves.{Leaf, Meaning, block_leaves, meaning_in, object_leaves, origin}
+use Rattle.cam_objects.specs.Machinery.BlockChunks.{AreBlockChunks, AreChunksKept, HasChunks, chunk_at}
+use Rattle.cam_objects.specs.Machinery.Boxes.{IsNearBox, placed_bounds}
+use Rattle.cam_objects.specs.Machinery.Painting.{IsPrintable, meaning_before}
+use Rattle.cam_objects.specs.Soundness.{AreOnBoard, points_of_shape}
+use Rattle.cam_units.specs.Board.{IsOnBoard}
+use Rattle.cam_objects.proofs.Dictionaries.{whole}
+use Rattle.cam_objects.proofs.Painting.{All_left, All_right}
+use Rattle.cam_objects.proofs.PlacedBoxes.{block_box_placed}
+use Rattle.cam_objects.proofs.PlacedShapes.{shapes_so}
+use Rattle.std.proofs.lemmas.List.Elements.{All-append, All-cons, All-nil}
+
+-- ---- parts of a list
+
+-- what holds of all holds behind a place, and of as many as are wished from there on
+pub all_behind : {X : Type 0} (P : X → Type 0) (xs : List X) (a : ℕ) → All P xs → All P (drop a xs)
+all_behind P xs a h = All_right P (take a xs) (drop a xs) (subst (All P) (sym (take-append-drop a xs)) h)
+
+pub all_part : {X : Type 0} (P : X → Type 0) (xs : List X) (a n : ℕ) → All P xs → All P (take n (drop a xs))
+all_part P xs a n h =
+    All_left P (take n (drop a xs)) (drop n (drop a xs)) (subst (All P) (sym (take-append-drop n (drop a xs))) (all_behind P xs a h))
+
+module _ {X Y : Type 0} (f : X → List Y) where
+  -- what elements unfold to: those in front, and those behind
+  pub flat_split : (xs : List X) (a : ℕ) → flat_map f xs ≡ flat_map f (take a xs) ++ flat_map f (drop a xs)
+  flat_split xs a = ap (flat_map f) (sym (take-append-drop a xs)) ∙ flat_map-append f (take a xs) (drop a xs)
+
+  pub flat_more : (xs : List X) (a n m : ℕ) → m ≡ a + n → flat_map f (take m xs) ≡ flat_map f (take a xs) ++ flat_map f (take n (drop a xs))
+  flat_more xs a n m e =
+      ap (λ k. flat_map f (take k xs)) e ∙ ap (flat_map f) (take-add a n xs) ∙ flat_map-append f (take a xs) (take n (drop a xs))
+
+  pub flat_behind : (P : Y → Type 0) (xs : List X) (a : ℕ) → All P (flat_map f xs) → All P (flat_map f (drop a xs))
+  flat_behind P xs a h = All_right P (flat_map f (take a xs)) (flat_map f (drop a xs)) (subst (All P) (flat_split xs a) h)
+
+  pub flat_part : (P : Y → Type 0) (xs : List X) (a n : ℕ) → All P (flat_map f xs) → All P (flat_map f (take n (drop a xs)))
+  flat_part P xs a n h =
+      All_left P (flat_map f (take n (drop a xs))) (flat_map f (drop n (drop a xs)))
+      (subst (All P) (flat_split (drop a xs) n) (flat_behind P xs a h))
+
+-- ---- what is asked of a chunk, and of the objects behind the last one
+
+abbrev IsLeafOnBoard : Leaf → Type 0
+IsLeafOnBoard l = All IsOnBoard (points_of_shape l.shape)
+
+pub board_chunk : (means : ℕ → Meaning) (p : Place) (objects : List Object) (k : ℕ) → AreOnBoard (block_leaves means p objects)
+    → AreOnBoard (block_leaves means p (chunk_at k objects))
+board_chunk means p objects k h = flat_part (object_leaves means p) IsLeafOnBoard objects (k * 512) 512 h
+
+pub printable_chunk : (es : List (ℕ × Entry)) (upto m k : ℕ) (objects : List Object) (p : Place)
+    → IsPrintable es upto m p (block_leaves (meaning_before upto es) p objects)
+    → IsPrintable es upto m p (block_leaves (meaning_before upto es) p (chunk_at k objects))
+printable_chunk es upto m k objects p h = record {
+  within = h.within;
+  sound = h.sound;
+  board = board_chunk (meaning_before upto es) p objects k h.board;
+  reach = h.reach;
+}
+
+pub printable_behind : (es : List (ℕ × Entry)) (upto m a : ℕ) (objects : List Object) (p : Place)
+    → IsPrintable es upto m p (block_leaves (meaning_before upto es) p objects)
+    → IsPrintable es upto m p (block_leaves (meaning_before upto es) p (drop a objects))
+printable_behind es upto m a objects p h = record {
+  within = h.within;
+  sound = h.sound;
+  board = flat_behind (object_leaves (meaning_before upto es) p) IsLeafOnBoard objects a h.board;
+  reach = h.reach;
+}
+
+-- the box of objects, placed, is that of what they paint there
+pub part_box : (es : List (ℕ × Entry)) (objects : List Object) (p : Place) (b placed : Bounds)
+    → b ≡ bounds_of (block_leaves (meaning_in es) origin objects) → placed ≡ placed_bounds p b
+    → placed ≡ bounds_of (block_leaves (meaning_in es) p objects)
+part_box es objects p b placed is at =
+    at ∙ ap (placed_bounds p) is ∙ sym (block_box_placed box_of_shape shapes_so (reverse es) objects p)
+
+-- ---- chunks that are kept
+
+pub no_chunks : (es : List (ℕ × Entry)) (objects : List Object) → AreBlockChunks es objects []
+no_chunks es objects = record { within = omega arith; each = λ k d h. absurd (omega (arith, h)); near = λ k d h. absurd (omega (arith, h)) }
+
+pub chunk_pushed : (es : List (ℕ × Entry)) (objects : List Object) (chunks : List Bounds) (b : Bounds) (n : ℕ) → length chunks ≡ n
+    → (n + 1) * 512 ≤ length objects → b ≡ bounds_of (block_leaves (meaning_in es) origin (chunk_at n objects)) → IsNearBox b
+    → AreBlockChunks es objects chunks → AreBlockChunks es objects (chunks ++ b ∷ [])
+chunk_pushed es objects chunks b n many room box near kept = record {
+  within = omega (arith, many, room, length-append chunks (b ∷ []));
+  each = λ k d h. elim (cases_lt k (length chunks)) [
+    | inl low ↦ get_or_append_left chunks (b ∷ []) d k low ∙ kept.each k d low
+    | inr past ↦
+        let last : k ≡ length chunks = omega (arith, length-append chunks (b ∷ []), h) in
+        ap (λ j. get_or (chunks ++ b ∷ []) j d) last
+        ∙ get_or-append_seam chunks b [] d
+        ∙ box
+        ∙ ap (λ j. bounds_of (block_leaves (meaning_in es) origin (chunk_at j objects))) (sym (last ∙ many))
+  ];
+  near = All-append IsNearBox chunks (b ∷ []) kept.near (All-cons IsNearBox b [] near (All-nil IsNearBox));
+}
+
+-- beside an entry that is found
+pub chunks_found : (es : List (ℕ × Entry)) (kept : List (List Bounds)) (k n : ℕ) (e : Entry) (c : List Bounds) → AreChunksKept es kept
+    → slice_get es k ≡ Some (n, e) → c ≡ get_or kept k c → HasChunks (take k es) e c
+chunks_found es kept k n e c are found is =
+    let within = slice_get_within es k (n, e) found in
+    subst (HasChunks (take k es) e) (sym is)
+    (subst (λ (d : ℕ × Entry). HasChunks (take k es) d.1 (get_or kept k c)) (get_or_from_slice_get es k (n, e) (n, e) found)
+    (are.each k (n, e) c within))
+
+pub chunks_grow : (es : List (ℕ × Entry)) (kept : List (List Bounds)) (n : ℕ) (e : Entry) (c : List Bounds) → AreChunksKept es kept
+    → HasChunks es e c → AreChunksKept (es ++ (n, e) ∷ []) (kept ++ c ∷ [])
+chunks_grow es kept n e c are new = record {
+  many = length-append kept (c ∷ []) ∙ ap (λ k. k + 1) are.many ∙ sym (length-append es ((n, e) ∷ []));
+  each = λ k d x within.
+      let es' = es ++ (n, e) ∷ [] in
+      let Has = λ (p : List (ℕ × Entry) × (ℕ × Entry) × List Bounds). HasChunks p.0 p.1.1 p.2 in
+      elim (cases_lt k (length es)) [
+        | inl low ↦
+            let front : take k es' ≡ take k es = take-append-le k es ((n, e) ∷ []) (omega arith) in
+            let item : get_or es' k d ≡ get_or es k d = get_or_append_left es ((n, e) ∷ []) d k low in
+            let there : get_or (kept ++ c ∷ []) k x ≡ get_or kept k x = get_or_append_left kept (c ∷ []) x k (omega (arith, are.many)) in
+            subst Has (sym (λ i. (front i, item i, there i))) (are.each k d x low)
+        | inr past ↦
+            let last : k ≡ length es = omega (arith, length-append es ((n, e) ∷ []), within) in
+            let front : take k es' ≡ es = ap (λ j. take j es') last ∙ take-append-le (length es) es ((n, e) ∷ []) (omega arith) ∙ whole es in
+            let item : get_or es' k d ≡ (n, e) = ap (λ j. get_or es' j d) last ∙ get_or-append_seam es (n, e) [] d in
+            let there : get_or (kept ++ c ∷ []) k x ≡ c =
+            ap (λ j. get_or (kept ++ c ∷ []) j x) (last ∙ sym are.many) ∙ get_or-append_seam kept c [] x in
+            subst Has (sym (λ i. (front i, item i, there i))) new
+      ];
+}
