@@ -1,4 +1,3 @@
-pub mod BlockChunks
 pub mod BoardBoxes
 pub mod BoxJoins
 pub mod BoxLimits
@@ -28,6 +27,7 @@ pub mod PaintedBoxes
 pub mod PaintedLists
 pub mod PaintedRuns
 pub mod Painting
+pub mod Parts
 pub mod Placed
 pub mod PlacedBoxes
 pub mod PlacedJoins

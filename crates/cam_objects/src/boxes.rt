@@ -1,8 +1,8 @@
 //! Boxes of what is painted, in half nm.
 
-pub(crate) mod block_chunks;
 pub(crate) mod extent;
 pub(crate) mod item_boxes;
 pub(crate) mod items;
+pub(crate) mod parts;
 pub(crate) mod placed;
 pub(crate) mod shapes;

@@ -25,7 +25,7 @@ ghost use Rattle.std.specs.Prelude.{
 ghost use Rattle.std.specs.List.{IsDistinct};
 ghost use Rattle.std.specs.Map.{keys_of, lookup};
 ghost use Rattle.cam_objects.specs.Limits.{depth_limit, leaf_limit};
-ghost use Rattle.cam_objects.specs.Machinery.BlockChunks.{HasChunks};
+ghost use Rattle.cam_objects.specs.Machinery.Parts.{HasChunks};
 ghost use Rattle.cam_objects.specs.Machinery.Boxes.{IsNearBox};
 ghost use Rattle.cam_objects.specs.Machinery.Facts.{facts_at};
 ghost use Rattle.cam_objects.specs.Machinery.Inside.{IsBoxOnBoard};
@@ -33,7 +33,7 @@ ghost use Rattle.cam_objects.specs.Soundness.{IsSoundDictionary, MayAddEntry};
 ghost use Rattle.cam_objects.specs.Weights.{object_count, object_depth, weight_in};
 ghost use Rattle.cam_objects.specs.declared.entry.Entry.{Entry};
 
-use crate::boxes::block_chunks::chunks_of;
+use crate::boxes::parts::chunks_of;
 use crate::checks::facts::{Facts, NO_FACTS};
 use crate::entry::Entry;
 use crate::object::Object;
@@ -58,7 +58,7 @@ impl Model for Dictionary {
 
     ghost Value = { List (ℕ × Entry) };
 
-    ghost use Rattle.cam_objects.specs.Machinery.BlockChunks.{AreChunksKept};
+    ghost use Rattle.cam_objects.specs.Machinery.Parts.{AreChunksKept};
     ghost use Rattle.cam_objects.specs.Machinery.Facts.{IsKept};
 
     ghost view = { λ d. d.map.entries };

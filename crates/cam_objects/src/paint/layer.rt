@@ -13,6 +13,7 @@ ghost use Rattle.cam_objects.specs.Leaves.{
   repeat_leaves,
   shifted,
 };
+ghost use Rattle.cam_objects.specs.Machinery.Parts.{ArePartsOf};
 ghost use Rattle.cam_objects.specs.Machinery.Painting.{
   IsCopied,
   IsPaintableItem,
@@ -25,20 +26,28 @@ ghost use Rattle.cam_objects.specs.Soundness.{HasSoundItems};
 ghost use Rattle.cam_objects.specs.declared.item.Item.{Item};
 
 use crate::boxes::items::block_bounds;
+use crate::boxes::parts::Parts;
 use crate::canvas::Canvas;
 use crate::dictionary::Dictionary;
 use crate::item::Item;
 use crate::layer::Layer;
 use crate::object::Object;
-use crate::paint::objects::{paint_block, paint_object};
+use crate::paint::objects::{paint_object, paint_parts};
 use crate::paint::run::Run;
 use crate::placing::copies::Copies;
 use crate::placing::place::Place;
 use cam_units::Point;
 
 /// Paints a copy of objects, moved by so many nm.
-fn paint_copy<C: Canvas>(entries: &Dictionary, objects: &[Object], by: Point, canvas: &mut C)
+fn paint_copy<C: Canvas>(
+    entries: &Dictionary,
+    objects: &[Object],
+    parts: &Parts,
+    by: Point,
+    canvas: &mut C,
+)
     requires objects { All StandsOnBoard objects.now }
+    requires parts { ArePartsOf entries.now objects.now parts.now }
     requires across { unsigned_abs by.x < 2 ^ 53 }
     requires up { unsigned_abs by.y < 2 ^ 53 }
     requires ready { IsReadyToPrint entries.now
@@ -47,7 +56,9 @@ fn paint_copy<C: Canvas>(entries: &Dictionary, objects: &[Object], by: Point, ca
         (block_leaves (meaning_in entries.now) (shifted by.x by.y) objects.now) canvas.new }
 {
     let place = Place::shifted(by);
-    paint_block(entries, entries.len(), objects, &place, canvas);
+    let upto = entries.len();
+    let boxes = parts.as_slice();
+    paint_parts(entries, upto, objects, parts.size, boxes, &place, canvas);
 }
 
 /// Paints one column of a repeat: the copies in a run of its rows, where no other covers a pixel.
@@ -55,10 +66,12 @@ fn paint_column<C: Canvas>(
     entries: &Dictionary,
     copies: &Copies,
     objects: &[Object],
+    parts: &Parts,
     column: u32,
     seen: Run,
     canvas: &mut C,
 )
+    requires parts { ArePartsOf entries.now objects.now parts.now }
     requires across { IsCopied copies.now.columns copies.now.i objects.now }
     requires up { IsCopied copies.now.rows copies.now.j objects.now }
     requires column { column < copies.now.columns }
@@ -73,7 +86,7 @@ fn paint_column<C: Canvas>(
 {
     for r in seen.first..seen.end {
         let by = copies.offset(column, r);
-        paint_copy(entries, objects, by, canvas);
+        paint_copy(entries, objects, parts, by, canvas);
     }
 }
 
@@ -101,8 +114,9 @@ fn paint_repeat<C: Canvas>(
         return;
     }
     let columns = copies.columns_over(first, whole);
+    let parts = Parts::of(entries, objects);
     for c in columns.first..columns.end {
-        paint_column(entries, copies, objects, c, rows, canvas);
+        paint_column(entries, copies, objects, &parts, c, rows, canvas);
     }
 }
 

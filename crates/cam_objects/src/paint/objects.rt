@@ -4,13 +4,14 @@ ghost use Rattle.std.specs.Prelude.{◌≡◌, ◌+◌, ◌≤◌, All, IfSome, 
 ghost use Rattle.cam_objects.specs.Bounds.{bounds_of};
 ghost use Rattle.cam_objects.specs.Canvases.{Paints};
 ghost use Rattle.cam_objects.specs.Leaves.{block_leaves, object_leaves, origin};
-ghost use Rattle.cam_objects.specs.Machinery.BlockChunks.{AreBlockChunks};
+ghost use Rattle.cam_objects.specs.Machinery.Parts.{ArePartBoxes};
 ghost use Rattle.cam_objects.specs.Machinery.Boxes.{IsNearBox, IsSizedTip};
 ghost use Rattle.cam_objects.specs.Machinery.Painting.{IsPrintable, StandsOnBoard, flash_leaves, meaning_before};
 ghost use Rattle.cam_objects.specs.Soundness.{IsSoundDictionary};
 
-use crate::boxes::block_chunks::{behind_chunks, chunk_at};
+use crate::boxes::parts::{behind_parts, part_at};
 use crate::canvas::{Canvas, Figure, Print, misses};
+use crate::chunks::mending::CHUNK_SIZE;
 use crate::dictionary::Dictionary;
 use crate::entry::Entry;
 use crate::object::Object;
@@ -54,38 +55,40 @@ fn paint_flash<C: Canvas>(
             bounds,
         }),
         Entry::Block(objects) => {
+            let objects = objects.as_slice();
             let chunks = entries.chunks(at);
-            paint_chunks(entries, at, objects.as_slice(), chunks, place, canvas);
+            paint_parts(entries, at, objects, CHUNK_SIZE, chunks, place, canvas);
         }
     }
 }
 
-/// Paints the objects of a block at a place, in order, but for the chunks whose boxes miss the canvas.
+/// Paints objects at a place, in order, but for the parts of so many whose boxes miss the canvas there.
 #[cycle(paint)]
-fn paint_chunks<C: Canvas>(
+pub(crate) fn paint_parts<C: Canvas>(
     entries: &Dictionary,
     upto: usize,
     objects: &[Object],
-    chunks: &[Bounds],
+    size: usize,
+    boxes: &[Bounds],
     place: &Place,
     canvas: &mut C,
 )
     requires objects { All StandsOnBoard objects.now }
-    requires chunks { AreBlockChunks (take upto entries.now) objects.now chunks.now }
+    requires boxes { ArePartBoxes size (take upto entries.now) objects.now boxes.now }
     requires ready { IsPrintable entries.now upto (upto + 1) place.now
         (block_leaves (meaning_before upto entries.now) place.now objects.now) }
     ensures { Paints C.has C.place C.ink canvas.old
         (block_leaves (meaning_before upto entries.now) place.now objects.now) canvas.new }
 {
-    for chunk in 0..chunks.len() {
-        let part = chunk_at(objects, chunk);
-        paint_part(entries, upto, part, chunks[chunk], place, canvas);
+    for k in 0..boxes.len() {
+        let part = part_at(objects, size, k);
+        paint_part(entries, upto, part, boxes[k], place, canvas);
     }
-    let behind = behind_chunks(objects, chunks.len());
+    let behind = behind_parts(objects, size, boxes.len());
     paint_block(entries, upto, behind, place, canvas);
 }
 
-/// Paints objects of a block at a place, in order, if their box there meets the canvas.
+/// Paints objects at a place, in order, if their box there meets the canvas.
 #[cycle(paint)]
 fn paint_part<C: Canvas>(
     entries: &Dictionary,
@@ -112,7 +115,7 @@ fn paint_part<C: Canvas>(
 
 /// Paints the objects of a block at a place, in order.
 #[cycle(paint)]
-pub(crate) fn paint_block<C: Canvas>(
+fn paint_block<C: Canvas>(
     entries: &Dictionary,
     upto: usize,
     objects: &[Object],

@@ -4,10 +4,10 @@ use Rattle.indexmap.proofs.CallerLemmas.{insert_entry-new}
 use Rattle.cam_units.specs.declared.bounds.Bounds.{Bounds}
 use Rattle.cam_objects.specs.declared.entry.Entry.{Entry}
 use Rattle.cam_objects.specs.declared.checks.facts.Facts.{Facts}
-use Rattle.cam_objects.specs.Machinery.BlockChunks.{AreChunksKept, HasChunks}
+use Rattle.cam_objects.specs.Machinery.Parts.{AreChunksKept, HasChunks}
 use Rattle.cam_objects.specs.Machinery.Facts.{IsKept, facts_of}
 use Rattle.cam_objects.specs.Soundness.{MayAddEntry}
-use Rattle.cam_objects.proofs.BlockChunks.{chunks_grow}
+use Rattle.cam_objects.proofs.Parts.{chunks_grow}
 use Rattle.cam_objects.proofs.KeptFacts.{kept_grows}
 use Rattle.cam_objects.proofs.dictionary.Dictionary.push.Goals as goal
 

@@ -24,6 +24,12 @@ block_bounds-first-requires-clause-board g c =
     first_on_board (meaning_in c.args.entries.now) p.columns p.rows p.i p.j c.args.objects.now
     (omega arith) c.requires.ready.board
 
+pub of-parts-requires-clause-board : goal.of-parts-requires-clause-board
+of-parts-requires-clause-board g c =
+    let p = c.args.copies.now in
+    first_on_board (meaning_in c.args.entries.now) p.columns p.rows p.i p.j c.args.objects.now
+    (omega arith) c.requires.ready.board
+
 pub returns-then-is_empty : goal.returns-then-is_empty
 returns-then-is_empty g c =
     let canvas = g.C.Canvas in

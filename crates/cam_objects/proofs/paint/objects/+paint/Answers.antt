@@ -9,10 +9,10 @@ use Rattle.cam_objects.specs.declared.placing.place.Place.{Place}
 use Rattle.cam_objects.specs.Bounds.{bounds_of}
 use Rattle.cam_objects.specs.Canvases.{Paints}
 use Rattle.cam_objects.specs.Leaves.{Leaf, Meaning, block_leaves, meaning_in, object_leaves, origin, round_width}
-use Rattle.cam_objects.specs.Machinery.BlockChunks.{AreBlockChunks, chunk_at}
+use Rattle.cam_objects.specs.Machinery.Parts.{ArePartBoxes, part_at}
 use Rattle.cam_objects.specs.Machinery.Painting.{HasReach, IsPrintable, StandsOnBoard, flash_leaves, meaning_before}
 use Rattle.cam_objects.specs.Soundness.{AreOnBoard}
-use Rattle.cam_objects.proofs.BlockChunks.{all_behind, all_part, flat_more, flat_split, part_box, printable_behind, printable_chunk}
+use Rattle.cam_objects.proofs.Parts.{all_behind, all_part, flat_more, flat_split, part_box, printable_behind, printable_part}
 use Rattle.cam_objects.proofs.Canvases.{paints_missed, paints_more, paints_next, paints_nothing, sound_print}
 use Rattle.cam_objects.proofs.ItemBounds.{flash_box, meaning_among}
 use Rattle.cam_objects.proofs.Painting.{
@@ -72,7 +72,7 @@ paint_block-returns g t c =
     (block_leaves means c.args.place.now os) c.loop-object.canvas)
     all c.loop-object.invariant
 
--- ---- the chunks of a block
+-- ---- parts
 
 pub paint_part-bounds-there-requires-clause-offset : goal.paint_part-bounds-there-requires-clause-offset
 paint_part-bounds-there-requires-clause-offset g t c = reach_box (c.args.upto + 1) c.args.place.now c.requires.ready.reach
@@ -90,60 +90,66 @@ paint_part-returns-then-misses g t c =
 pub paint_part-paint_block-requires : goal.paint_part-paint_block-requires
 paint_part-paint_block-requires g t c κs within = (omega (arith, c.decreases), (within, (c.requires.objects, c.requires.ready)))
 
-pub paint_chunks-loop-chunk-init : goal.paint_chunks-loop-chunk-init
-paint_chunks-loop-chunk-init g t c =
-    let canvas = g.C.Canvas in paints_nothing canvas.has canvas.place canvas.ink c.args.canvas.now
+pub paint_parts-loop-k-init : goal.paint_parts-loop-k-init
+paint_parts-loop-k-init g t c =
+    let canvas = g.C.Canvas in
+    let none : 0 ≡ 0 * c.args.size = omega arith in
+    subst (λ (n : ℕ). Paints canvas.has canvas.place canvas.ink c.args.canvas.now
+    (block_leaves (meaning_before c.args.upto c.args.entries.now) c.args.place.now (take n c.args.objects.now)) c.args.canvas.now)
+    none (paints_nothing canvas.has canvas.place canvas.ink c.args.canvas.now)
 
-pub paint_chunks-paint_part-requires : goal.paint_chunks-paint_part-requires
-paint_chunks-paint_part-requires g t c κs within =
+pub paint_parts-paint_part-requires : goal.paint_parts-paint_part-requires
+paint_parts-paint_part-requires g t c κs within =
     let es = c.args.entries.now in
-    let k = c.loop-chunk.chunk in
+    let k = c.loop-k.k in
+    let size = c.args.size in
     let objects = c.args.objects.now in
     let p = c.args.place.now in
     let means = meaning_before c.args.upto es in
-    let same : chunk_at k objects ≡ c.chunk_at-part.result.now = sym c.chunk_at-part.ensures in
-    let below : k < length c.args.chunks.now = c.loop-chunk-test.true in (
+    let same : part_at size k objects ≡ c.part_at-part.result.now = sym c.part_at-part.ensures in
+    let below : k < length c.args.boxes.now = c.loop-k-test.true in (
       omega (arith, c.decreases),
       (
         within,
         (
-          subst (λ (os : List Object). All StandsOnBoard os) same (all_part StandsOnBoard objects (k * 512) 512 c.requires.objects),
+          subst (λ (os : List Object). All StandsOnBoard os) same (all_part StandsOnBoard objects (k * size) size c.requires.objects),
           (
-            subst (λ (os : List Object). get_or c.args.chunks.now k Empty ≡ bounds_of (block_leaves means origin os)) same
-                (c.requires.chunks.each k Empty below),
+            subst (λ (os : List Object). get_or c.args.boxes.now k Empty ≡ bounds_of (block_leaves means origin os)) same
+                (c.requires.boxes.each k Empty below),
             (
-              c.requires.chunks.near k Empty below,
+              c.requires.boxes.near k Empty below,
               subst (λ (os : List Object). IsPrintable es c.args.upto (c.args.upto + 1) p (block_leaves means p os)) same
-                  (printable_chunk es c.args.upto (c.args.upto + 1) k objects p c.requires.ready),
+                  (printable_part es c.args.upto (c.args.upto + 1) size k objects p c.requires.ready),
             ),
           ),
         ),
       ),
     )
 
-pub paint_chunks-loop-chunk-preserved : goal.paint_chunks-loop-chunk-preserved
-paint_chunks-loop-chunk-preserved g t c =
+pub paint_parts-loop-k-preserved : goal.paint_parts-loop-k-preserved
+paint_parts-loop-k-preserved g t c =
     let canvas = g.C.Canvas in
     let means = meaning_before c.args.upto c.args.entries.now in
     let p = c.args.place.now in
-    let k = c.loop-chunk.chunk in
+    let k = c.loop-k.k in
+    let size = c.args.size in
     let objects = c.args.objects.now in
     let f : Object → List Leaf = object_leaves means p in
     subst (λ (leaves : List Leaf). Paints canvas.has canvas.place canvas.ink c.args.canvas.now leaves c.paint_part.new.canvas)
-    (sym (flat_more f objects (k * 512) 512 ((k + 1) * 512) (omega arith)))
-    (paints_more canvas.has canvas.place canvas.ink c.args.canvas.now c.loop-chunk.canvas c.paint_part.new.canvas
-    (block_leaves means p (take (k * 512) objects)) (block_leaves means p (chunk_at k objects)) c.loop-chunk.invariant
-    (subst (λ (os : List Object). Paints canvas.has canvas.place canvas.ink c.loop-chunk.canvas (block_leaves means p os)
+    (sym (flat_more f objects (k * size) size ((k + 1) * size) (omega arith)))
+    (paints_more canvas.has canvas.place canvas.ink c.args.canvas.now c.loop-k.canvas c.paint_part.new.canvas
+    (block_leaves means p (take (k * size) objects)) (block_leaves means p (part_at size k objects)) c.loop-k.invariant
+    (subst (λ (os : List Object). Paints canvas.has canvas.place canvas.ink c.loop-k.canvas (block_leaves means p os)
     c.paint_part.new.canvas)
-    c.chunk_at-part.ensures c.paint_part.ensures))
+    c.part_at-part.ensures c.paint_part.ensures))
 
-pub paint_chunks-paint_block-requires : goal.paint_chunks-paint_block-requires
-paint_chunks-paint_block-requires g t c κs within =
+pub paint_parts-paint_block-requires : goal.paint_parts-paint_block-requires
+paint_parts-paint_block-requires g t c κs within =
     let es = c.args.entries.now in
-    let n = length c.args.chunks.now * 512 in
+    let n = length c.args.boxes.now * c.args.size in
     let objects = c.args.objects.now in
     let p = c.args.place.now in
-    let same : drop n objects ≡ c.behind_chunks-behind.result.now = sym c.behind_chunks-behind.ensures in (
+    let same : drop n objects ≡ c.behind_parts-behind.result.now = sym c.behind_parts-behind.ensures in (
       omega (arith, c.decreases),
       (
         within,
@@ -155,24 +161,24 @@ paint_chunks-paint_block-requires g t c κs within =
       ),
     )
 
-pub paint_chunks-returns : goal.paint_chunks-returns
-paint_chunks-returns g t c =
+pub paint_parts-returns : goal.paint_parts-returns
+paint_parts-returns g t c =
     let canvas = g.C.Canvas in
     let means = meaning_before c.args.upto c.args.entries.now in
     let p = c.args.place.now in
-    let n = length c.args.chunks.now * 512 in
+    let n = length c.args.boxes.now * c.args.size in
     let objects = c.args.objects.now in
     let f : Object → List Leaf = object_leaves means p in
-    let last : c.loop-chunk.chunk * 512 ≡ n = omega (arith, c.loop-chunk-test.false) in
+    let last : c.loop-k.k * c.args.size ≡ n = ap (λ m. m * c.args.size) (omega (arith, c.loop-k-test.false)) in
     subst (λ (leaves : List Leaf). Paints canvas.has canvas.place canvas.ink c.args.canvas.now leaves c.paint_block.new.canvas)
     (sym (flat_split f objects n))
-    (paints_more canvas.has canvas.place canvas.ink c.args.canvas.now c.loop-chunk.canvas c.paint_block.new.canvas
+    (paints_more canvas.has canvas.place canvas.ink c.args.canvas.now c.loop-k.canvas c.paint_block.new.canvas
     (block_leaves means p (take n objects)) (block_leaves means p (drop n objects))
-    (subst (λ (m : ℕ). Paints canvas.has canvas.place canvas.ink c.args.canvas.now (block_leaves means p (take m objects)) c.loop-chunk.canvas)
-    last c.loop-chunk.invariant)
-    (subst (λ (os : List Object). Paints canvas.has canvas.place canvas.ink c.loop-chunk.canvas (block_leaves means p os)
+    (subst (λ (m : ℕ). Paints canvas.has canvas.place canvas.ink c.args.canvas.now (block_leaves means p (take m objects)) c.loop-k.canvas)
+    last c.loop-k.invariant)
+    (subst (λ (os : List Object). Paints canvas.has canvas.place canvas.ink c.loop-k.canvas (block_leaves means p os)
     c.paint_block.new.canvas)
-    c.behind_chunks-behind.ensures c.paint_block.ensures))
+    c.behind_parts-behind.ensures c.paint_block.ensures))
 
 -- ---- a flash
 
@@ -226,14 +232,14 @@ paint_flash-paint-requires g t c =
     )
     (box ∙ ap (λ (m : Meaning). bounds_of (m.flash p)) (sym among ∙ means))
 
-pub paint_flash-paint_chunks-requires : goal.paint_flash-paint_chunks-requires
-paint_flash-paint_chunks-requires g t c κs within =
+pub paint_flash-paint_parts-requires : goal.paint_flash-paint_parts-requires
+paint_flash-paint_parts-requires g t c κs within =
     let es = c.args.entries.now in
     let i = c.in-Some.found.0 in
     let below : i < c.args.upto = omega (arith, c.if-upto-at.false) in
     let at : slice_get es i ≡ Some (c.args.number, Block c.in-Block.objects) =
     c.in-Some.ensures.found ∙ ap (λ (e : Entry). Some (c.args.number, e)) c.in-Block.is in
-    let same : c.in-Block.objects ≡ c.as_slice.result.now = sym c.as_slice.ensures in (
+    let same : c.in-Block.objects ≡ c.as_slice-objects.result.now = sym c.as_slice-objects.ensures in (
       omega (arith, c.decreases, below),
       (
         within,
@@ -241,7 +247,7 @@ paint_flash-paint_chunks-requires g t c κs within =
           subst (λ (os : List Object). (k : ℕ) (d : Object) → k < length os → StandsOnBoard (get_or os k d)) same
               (block_stands es i c.args.number c.in-Block.objects at c.requires.sound),
           (
-            subst (λ (os : List Object). AreBlockChunks (take i es) os c.chunks-chunks.result.now) same
+            subst (λ (os : List Object). ArePartBoxes 512 (take i es) os c.chunks-chunks.result.now) same
                 (c.chunks-chunks.ensures c.args.number (Block c.in-Block.objects) at),
             subst (λ (os : List Object). IsPrintable es i (i + 1) c.args.place.now (block_leaves (meaning_before i es) c.args.place.now os))
                 same
@@ -271,12 +277,12 @@ paint_flash-returns-in-Block g t c =
     let i = c.in-Some.found.0 in
     let at : slice_get es i ≡ Some (c.args.number, Block c.in-Block.objects) =
     c.in-Some.ensures.found ∙ ap (λ (e : Entry). Some (c.args.number, e)) c.in-Block.is in
-    subst (λ (m : Meaning). Paints canvas.has canvas.place canvas.ink c.args.canvas.now (m.flash c.args.place.now) c.paint_chunks.new.canvas)
+    subst (λ (m : Meaning). Paints canvas.has canvas.place canvas.ink c.args.canvas.now (m.flash c.args.place.now) c.paint_parts.new.canvas)
     (sym (meaning-at es i c.args.upto c.args.number (Block c.in-Block.objects) c.find_with_facts.ensures.distinct at
     (omega (arith, c.if-upto-at.false)) c.requires.within))
     (subst (λ (os : List Object). Paints canvas.has canvas.place canvas.ink c.args.canvas.now
-    (block_leaves (meaning_before i es) c.args.place.now os) c.paint_chunks.new.canvas)
-    c.as_slice.ensures c.paint_chunks.ensures)
+    (block_leaves (meaning_before i es) c.args.place.now os) c.paint_parts.new.canvas)
+    c.as_slice-objects.ensures c.paint_parts.ensures)
 
 -- ---- an object
 

@@ -16,15 +16,15 @@ decreases-paint_block g l = 5 * l.upto + 2
 abbrev pub decreases-paint_part : goal.decreases-paint_part
 decreases-paint_part g l = 5 * l.upto + 3
 
-abbrev pub decreases-paint_chunks : goal.decreases-paint_chunks
-decreases-paint_chunks g l = 5 * l.upto + 4
+abbrev pub decreases-paint_parts : goal.decreases-paint_parts
+decreases-paint_parts g l = 5 * l.upto + 4
 
--- the objects before this chunk are painted
-abbrev pub invariant-paint_chunks-loop-chunk : goal.invariant-paint_chunks-loop-chunk
-invariant-paint_chunks-loop-chunk g l =
+-- the objects before this part are painted
+abbrev pub invariant-paint_parts-loop-k : goal.invariant-paint_parts-loop-k
+invariant-paint_parts-loop-k g l =
     let canvas = g.C.Canvas in
     Paints canvas.has canvas.place canvas.ink l.fn.canvas
-    (block_leaves (meaning_before l.upto l.entries) l.place (take (l.chunk * 512) l.objects)) l.canvas
+    (block_leaves (meaning_before l.upto l.entries) l.place (take (l.k * l.size) l.objects)) l.canvas
 
 -- the objects before this one are painted
 abbrev pub invariant-paint_block-loop-object : goal.invariant-paint_block-loop-object

@@ -12,7 +12,7 @@ use Rattle.cam_objects.specs.declared.object.Object.{Object}
 use Rattle.cam_objects.specs.declared.placing.place.Place.{Place}
 use Rattle.cam_objects.specs.Bounds.{bounds_of, box_of_shape}
 use Rattle.cam_objects.specs.Leaves.{Leaf, Meaning, block_leaves, meaning_in, object_leaves, origin}
-use Rattle.cam_objects.specs.Machinery.BlockChunks.{AreBlockChunks, AreChunksKept, HasChunks, chunk_at}
+use Rattle.cam_objects.specs.Machinery.Parts.{ArePartBoxes, AreChunksKept, HasChunks, part_at}
 use Rattle.cam_objects.specs.Machinery.Boxes.{IsNearBox, placed_bounds}
 use Rattle.cam_objects.specs.Machinery.Painting.{IsPrintable, meaning_before}
 use Rattle.cam_objects.specs.Soundness.{AreOnBoard, points_of_shape}
@@ -55,17 +55,17 @@ module _ {X Y : Type 0} (f : X → List Y) where
 abbrev IsLeafOnBoard : Leaf → Type 0
 IsLeafOnBoard l = All IsOnBoard (points_of_shape l.shape)
 
-pub board_chunk : (means : ℕ → Meaning) (p : Place) (objects : List Object) (k : ℕ) → AreOnBoard (block_leaves means p objects)
-    → AreOnBoard (block_leaves means p (chunk_at k objects))
-board_chunk means p objects k h = flat_part (object_leaves means p) IsLeafOnBoard objects (k * 512) 512 h
+pub board_part : (means : ℕ → Meaning) (p : Place) (objects : List Object) (size k : ℕ) → AreOnBoard (block_leaves means p objects)
+    → AreOnBoard (block_leaves means p (part_at size k objects))
+board_part means p objects size k h = flat_part (object_leaves means p) IsLeafOnBoard objects (k * size) size h
 
-pub printable_chunk : (es : List (ℕ × Entry)) (upto m k : ℕ) (objects : List Object) (p : Place)
+pub printable_part : (es : List (ℕ × Entry)) (upto m size k : ℕ) (objects : List Object) (p : Place)
     → IsPrintable es upto m p (block_leaves (meaning_before upto es) p objects)
-    → IsPrintable es upto m p (block_leaves (meaning_before upto es) p (chunk_at k objects))
-printable_chunk es upto m k objects p h = record {
+    → IsPrintable es upto m p (block_leaves (meaning_before upto es) p (part_at size k objects))
+printable_part es upto m size k objects p h = record {
   within = h.within;
   sound = h.sound;
-  board = board_chunk (meaning_before upto es) p objects k h.board;
+  board = board_part (meaning_before upto es) p objects size k h.board;
   reach = h.reach;
 }
 
@@ -88,25 +88,28 @@ part_box es objects p b placed is at =
 
 -- ---- chunks that are kept
 
-pub no_chunks : (es : List (ℕ × Entry)) (objects : List Object) → AreBlockChunks es objects []
-no_chunks es objects = record { within = omega arith; each = λ k d h. absurd (omega (arith, h)); near = λ k d h. absurd (omega (arith, h)) }
+pub no_parts : (size : ℕ) (es : List (ℕ × Entry)) (objects : List Object) → ArePartBoxes size es objects []
+no_parts size es objects =
+    record { within = omega arith; each = λ k d h. absurd (omega (arith, h)); near = λ k d h. absurd (omega (arith, h)) }
 
-pub chunk_pushed : (es : List (ℕ × Entry)) (objects : List Object) (chunks : List Bounds) (b : Bounds) (n : ℕ) → length chunks ≡ n
-    → (n + 1) * 512 ≤ length objects → b ≡ bounds_of (block_leaves (meaning_in es) origin (chunk_at n objects)) → IsNearBox b
-    → AreBlockChunks es objects chunks → AreBlockChunks es objects (chunks ++ b ∷ [])
-chunk_pushed es objects chunks b n many room box near kept = record {
-  within = omega (arith, many, room, length-append chunks (b ∷ []));
-  each = λ k d h. elim (cases_lt k (length chunks)) [
-    | inl low ↦ get_or_append_left chunks (b ∷ []) d k low ∙ kept.each k d low
-    | inr past ↦
-        let last : k ≡ length chunks = omega (arith, length-append chunks (b ∷ []), h) in
-        ap (λ j. get_or (chunks ++ b ∷ []) j d) last
-        ∙ get_or-append_seam chunks b [] d
-        ∙ box
-        ∙ ap (λ j. bounds_of (block_leaves (meaning_in es) origin (chunk_at j objects))) (sym (last ∙ many))
-  ];
-  near = All-append IsNearBox chunks (b ∷ []) kept.near (All-cons IsNearBox b [] near (All-nil IsNearBox));
-}
+pub part_pushed : (size : ℕ) (es : List (ℕ × Entry)) (objects : List Object) (boxes : List Bounds) (b : Bounds) (n : ℕ)
+    → length boxes ≡ n → (n + 1) * size ≤ length objects → b ≡ bounds_of (block_leaves (meaning_in es) origin (part_at size n objects))
+    → IsNearBox b → ArePartBoxes size es objects boxes → ArePartBoxes size es objects (boxes ++ b ∷ [])
+part_pushed size es objects boxes b n many room box near kept =
+    let more : length (boxes ++ b ∷ []) ≡ n + 1 = length-append boxes (b ∷ []) ∙ ap (λ m. m + 1) many in
+    record {
+      within = subst (λ m. m * size ≤ length objects) (sym more) room;
+      each = λ k d h. elim (cases_lt k (length boxes)) [
+        | inl low ↦ get_or_append_left boxes (b ∷ []) d k low ∙ kept.each k d low
+        | inr past ↦
+            let last : k ≡ length boxes = omega (arith, more, many, h) in
+            ap (λ j. get_or (boxes ++ b ∷ []) j d) last
+            ∙ get_or-append_seam boxes b [] d
+            ∙ box
+            ∙ ap (λ j. bounds_of (block_leaves (meaning_in es) origin (part_at size j objects))) (sym (last ∙ many))
+      ];
+      near = All-append IsNearBox boxes (b ∷ []) kept.near (All-cons IsNearBox b [] near (All-nil IsNearBox));
+    }
 
 -- beside an entry that is found
 pub chunks_found : (es : List (ℕ × Entry)) (kept : List (List Bounds)) (k n : ℕ) (e : Entry) (c : List Bounds) → AreChunksKept es kept

@@ -6,7 +6,7 @@ use Rattle.cam_objects.specs.Machinery.Painting.{StandsOnBoard}
 use Rattle.cam_objects.specs.Soundness.{AreOnBoard, IsSoundEntry}
 use Rattle.cam_objects.proofs.KeptFacts.{board_block}
 use Rattle.cam_objects.proofs.SoundLayers.{painted_block}
-use Rattle.cam_objects.proofs.boxes.block_chunks.chunks_of.Goals as goal
+use Rattle.cam_objects.proofs.boxes.parts.chunks_of.Goals as goal
 
 pub block_chunks-requires-clause-stands : goal.block_chunks-requires-clause-stands
 block_chunks-requires-clause-stands c =
