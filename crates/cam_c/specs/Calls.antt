@@ -1,6 +1,6 @@
 -- What the calls of a session come to: turns of a run, steps of the station's machine, and copies.
-use Rattle.std.specs.Prelude.{◌≡◌, ℕ, ◌++◌, Bool, true, nat_le, if◌then◌else◌, List, [], length, drop, unwrap_or}
-use Rattle.std.specs.Prelude.{Option, None, Some, Result, Ok, Err}
+use Rattle.std.specs.Prelude.{◌≡◌, ℕ, ◌++◌, true, nat_le, if◌then◌else◌, List, [], length, drop, unwrap_or}
+use Rattle.std.specs.Prelude.{Option, None, Some, Ok, Err}
 use Rattle.cam_script.specs.declared.command.Command.TheVariants.{Redraw}
 use Rattle.cam_station.specs.declared.fault.Fault.{Fault}
 use Rattle.cam_station.specs.TileTables.{tile_at}

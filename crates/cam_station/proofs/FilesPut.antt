@@ -1,5 +1,5 @@
 -- The files that a run puts are pictures and texts.
-use Rattle.std.proofs.Common.{◌≡◌, ℕ, List, [], ◌∷◌, ◌++◌, None, Some, Result, Ok, Err, refl, ap, sym, subst, ◌∙◌}
+use Rattle.std.proofs.Common.{◌≡◌, ℕ, List, [], ◌∷◌, ◌++◌, None, Some, Result, Ok, Err, refl, sym, subst, ◌∙◌}
 use Rattle.cam_script.specs.declared.command.FileKind.{FileKind}
 use Rattle.cam_script.specs.declared.command.Command.TheVariants as commands
 use Rattle.cam_script.specs.declared.line.Line.TheVariants.{Command, Load, Plot, Write}
@@ -7,9 +7,9 @@ use Rattle.cam_script.specs.Parsing.{Parsed, parsed}
 use Rattle.cam_station.specs.declared.files.FileFault.{FileFault}
 use Rattle.cam_station.specs.declared.reply.Reply.{Reply}
 use Rattle.cam_station.specs.declared.reply.Reply.TheVariants.{Done, Numbers, Bytes}
-use Rattle.cam_station.specs.Calls.{Call, answer_to, states_after}
+use Rattle.cam_station.specs.Calls.{Call, states_after}
 use Rattle.cam_station.specs.FilesPut.{ExactFiles, IsExactPut, PutsExactly}
-use Rattle.cam_station.specs.Machine.{State, Outcome, MemoryGrant, fresh, step}
+use Rattle.cam_station.specs.Machine.{State, Outcome, fresh, step}
 use Rattle.cam_station.specs.Plots.{IsPlotOf}
 use Rattle.cam_station.specs.Run.{World, byte_count, load_turn, parsed_turn, put_turn, turn}
 use Rattle.cam_station.specs.RunLaws.{line_calls}

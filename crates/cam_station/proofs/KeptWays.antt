@@ -1,5 +1,5 @@
 -- Each command keeps the ways back and on.
-use Rattle.std.proofs.Common.{◌≡◌, ℕ, ◌<◌, zero, suc, List, [], ◌∷◌, ◌++◌, length, reverse, Option, None, Some}
+use Rattle.std.proofs.Common.{◌≡◌, ℕ, zero, suc, List, [], ◌∷◌, ◌++◌, reverse, Option, None, Some}
 use Rattle.std.proofs.Common.{refl, subst, subst₂, arith, length-append}
 use Rattle.circular_buffer.specs.Buffer.{last_item}
 use Rattle.cam_edits.specs.BoxLaws.{ChangesInside}

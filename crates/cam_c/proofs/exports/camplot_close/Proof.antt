@@ -1,10 +1,10 @@
 -- `camplot_close` meets its contract: a walk of its MIR by hand. The box is made again of its pointer, and given away.
-use Rattle.cam_c.proofs.Steps.{◌≡◌, ℕ, ◌<◌, ◌^◌, List, [], ◌∷◌, refl, sym, ap, subst, lit<, proved, full_share, SProp, ent, sep, ex, emp, id⊢, ftrue, flft, fsep, Val, vunit, vptr, fact, fact_i, tables, Logic, sem, ‵, raw, ◌⊛◌, some, later, at_ret, ◌$◌, ◌∵◌, !, qed, by, done, move, drop, pick, await, split, split3, fsplit, fjoin, rewrite, use0, use1, use2, join, feq_i, feq_l, suffices, group, enter, of_opd, lit, unit_lit, bin, no_more, and_then, first, blocks, branches, skips, exec, returns, returns_within, alloc_all, pass_all, free_all, look_at, get, sets, lands_as, lands_last, env, unit, yes, Ptr, RawPtr, block_ptr, null_ptr, Testable, tests_null, rawptr_vals, rawptr_Tells, plain, nothing, heard, only, on_entry, Stays, walk_of, stay_dropped, Goes-dropped, ends_at, lft_new, calls_at, calls_at_last, lasts, triple_of, framed}
+use Rattle.cam_c.proofs.Steps.{◌≡◌, List, [], ◌∷◌, refl, sym, ap, subst, lit<, proved, full_share, SProp, ent, sep, emp, id⊢, ftrue, flft, Val, vunit, vptr, fact, fact_i, tables, Logic, sem, ‵, raw, ◌⊛◌, some, later, at_ret, ◌$◌, ◌∵◌, !, qed, by, done, move, drop, pick, await, split, fsplit, rewrite, use0, use1, use2, join, feq_i, feq_l, suffices, group, enter, of_opd, lit, unit_lit, bin, no_more, and_then, first, blocks, branches, skips, exec, returns, returns_within, alloc_all, pass_all, free_all, look_at, get, sets, lands_as, lands_last, env, unit, yes, Ptr, RawPtr, block_ptr, null_ptr, Testable, tests_null, rawptr_vals, rawptr_Tells, plain, nothing, heard, only, Stays, walk_of, stay_dropped, Goes-dropped, ends_at, lft_new, calls_at, calls_at_last, lasts, triple_of, framed}
 use seplogic.Ra.Ura.{Ura}
 use lib.Dec.{T as Holds}
 use mir.Val.{has_ty, WT}
 use mir.Raw.{raw as bare}
-use mir.Syntax.{Dict, impl, dnil, dcons, tcons, tnil}
+use mir.Syntax.{Dict, impl, dnil, tcons, tnil}
 use prog.Model.{Model}
 use contract.BorrowLft.{◌⊑◌}
 use contract.Running.{Running, MachineTables, within}
@@ -14,11 +14,10 @@ use denote.Param.{arg, layout}
 use denote.Param.Laws.{Laws, arg_laws}
 use denote.Param.NoDrop.{glues}
 use denote.RattleType.{RattleType, owns}
-use denote.Triple.Statement.{Contract, Triple}
+use denote.Triple.Statement.{Contract}
 use denote.Triple.Clauses.{Lasts}
 use prog.Wired.{Wired}
 use prog.Wp.{WpFn}
-use Rattle.std.specs.Box.Ownership.{box_owns}
 use Rattle.std.specs.contracts.alloc.Global.{the_row as Z}
 use Rattle.std.proofs.alloc.Global.TheLaws as global_laws
 use Rattle.std.specs.declared.alloc.Global.{Global}

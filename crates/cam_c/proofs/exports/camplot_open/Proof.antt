@@ -1,32 +1,21 @@
 -- `camplot_open` meets its contract: a walk of its MIR by hand. Where there is a session its box is taken apart, and its
 -- pointer written; else null is.
-use Rattle.cam_c.proofs.Steps.{◌≡◌, ℕ, ◌<◌, ◌^◌, List, [], ◌∷◌, refl, sym, ap, subst, ◌∙◌, lit<, w32, proved, full_share, SProp, ent, sep, ex, emp, id⊢, ftrue, flft, fat, fsep, Val, vint, vptr, fact, fact_i, tables, Logic, sem, ‵, raw, ◌⊛◌, some, later, at_ret, ◌$◌, ◌∵◌, !, qed, by, done, move, drop, pick, await, split, split3, fsplit, fjoin, rewrite, use0, use1, use2, use3, join, feq_i, feq_l, show, suffices, group, enter, of_opd, lit, bin, stop, no_more, and_then, assigns, assigns_last, first, blocks, branches, skips, exec, returns, returns_within, alloc_all, pass_all, free_all, look_at, get, through, sets, sets_last, lands_as, env, u32, yes, uint_Makes, uint_vals, uint_Tells, Ptr, RawPtr, block_ptr, null_ptr, Testable, tests_null, rawptr_vals, rawptr_Tells, plain, nothing, owned, heard, peeks, only, on_entry, Stays, walk_of, stay_dropped, Goes-dropped, ends_at, lft_new, calls_at, lasts, triple_of, framed, Is, shows, part_at}
+use Rattle.cam_c.proofs.Steps.{ℕ, ◌<◌, ◌^◌, List, [], ◌∷◌, refl, ap, subst, ◌∙◌, lit<, w32, proved, full_share, SProp, ent, sep, ex, emp, id⊢, ftrue, Val, vint, vptr, fact, fact_i, tables, Logic, sem, ‵, raw, ◌⊛◌, some, later, at_ret, ◌$◌, ◌∵◌, !, qed, by, done, move, drop, pick, await, split, split3, fsplit, use0, use1, use2, join, feq_i, show, suffices, group, enter, of_opd, lit, bin, stop, no_more, and_then, assigns_last, first, blocks, branches, skips, exec, returns, returns_within, alloc_all, pass_all, free_all, look_at, get, through, sets, sets_last, lands_as, env, u32, yes, uint_Makes, uint_vals, uint_Tells, Ptr, RawPtr, block_ptr, null_ptr, Testable, tests_null, rawptr_vals, rawptr_Tells, plain, nothing, owned, heard, peeks, only, Stays, walk_of, stay_dropped, Goes-dropped, ends_at, calls_at, lasts, triple_of, framed, Is, shows, part_at}
 use mathlib.Core.List.{◌++◌}
 use seplogic.Ra.Ura.{Ura}
-use lib.Dec.{T as Holds}
-use mir.Raw.{raw as bare}
-use mir.Syntax.{Body, Dict, impl, dnil, dcons, tcons, tnil, ty_ptr}
-use mir.Val.{has_ty, WT, vnull, of_list}
-use base.Fml.{Fml, froom}
-use base.Logic.{never, fst∗}
+use mir.Syntax.{Body}
+use mir.Val.{vnull, of_list}
 use prog.Model.{Model}
-use contract.BorrowLft.{◌⊑◌}
-use contract.Running.{Running, MachineTables, within}
-use denote.Exit.{no}
+use contract.Running.{Running, MachineTables}
 use denote.Laws.{Is as IsOf}
-use denote.Memory.{cell_at}
-use denote.Param.{arg, layout}
-use denote.Param.Laws.{Laws, arg_laws}
-use denote.Param.NoDrop.{glues}
 use denote.RattleType.{RattleType, owns}
-use denote.RawPtr.{ptr_val, in_a_block, lies_at, room_at}
+use denote.RawPtr.{lies_at, room_at}
 use denote.Triple.Statement.{Contract}
 use denote.Triple.Clauses.{Lasts}
 use prog.Wired.{Wired}
 use prog.Wp.{WpFn}
 use Rattle.std.specs.Prelude.{IfOk, IfErr}
 use Rattle.std.specs.Ptr.{if_non_null}
-use Rattle.std.specs.Box.Ownership.{box_owns}
 use Rattle.std.specs.contracts.alloc.Global.{the_row as Z}
 use Rattle.std.proofs.alloc.Global.TheLaws as global_laws
 use Rattle.std.specs.declared.alloc.Global.{Global}

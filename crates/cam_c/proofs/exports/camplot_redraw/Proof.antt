@@ -1,5 +1,5 @@
 -- `camplot_redraw` meets its contract: a walk of its MIR by hand.
-use Rattle.cam_c.proofs.Steps.{◌≡◌, ℕ, ◌<◌, ◌^◌, List, [], ◌∷◌, refl, lit<, w32, proved, full_share, SProp, ent, sep, ex, emp, id⊢, ftrue, flft, flent, named, Val, vint, vptr, fact, fact_i, tables, Logic, sem, ‵, raw, ◌⊛◌, some, later, at_ret, ◌$◌, ◌∵◌, !, qed, by, done, move, drop, pick, await, split, fsplit, fjoin, use0, use1, use2, use3, join, suffices, group, show, enter, of_opd, lit, bin, addr, stop, no_more, and_then, first, blocks, branches, skips, exec, returns, returns_within, alloc_all, pass_all, free_all, look_at, get, through, sets, sets_last, lands_as, env, u32, yes, uint_Makes, uint_vals, uint_Tells, uint_Lawful, Ptr, RawPtr, block_ptr, null_ptr, Testable, tests_null, rawptr_vals, rawptr_Tells, plain, nothing, owned, heard, peeks, on_entry, Stays, walk_of, stay_dropped, Goes-dropped, ends_at, Body, lft_new, lft_end, lends_ref, ref_back, mem, part_at, MutRef, calls_at, lasts, triple_of, framed, Is, shows}
+use Rattle.cam_c.proofs.Steps.{ℕ, ◌<◌, ◌^◌, [], ◌∷◌, refl, lit<, w32, proved, full_share, SProp, ent, sep, ex, emp, id⊢, ftrue, flft, flent, named, Val, vint, vptr, fact, fact_i, tables, Logic, sem, ‵, raw, ◌⊛◌, some, later, at_ret, ◌$◌, ◌∵◌, !, qed, by, done, move, drop, pick, await, split, fsplit, fjoin, use0, use1, use2, use3, join, suffices, group, show, enter, of_opd, lit, bin, addr, stop, no_more, and_then, first, blocks, branches, skips, exec, returns, returns_within, alloc_all, pass_all, free_all, look_at, get, through, sets, sets_last, lands_as, env, u32, yes, uint_Makes, uint_vals, uint_Tells, uint_Lawful, Ptr, RawPtr, block_ptr, null_ptr, Testable, tests_null, rawptr_vals, rawptr_Tells, plain, nothing, owned, heard, peeks, on_entry, Stays, walk_of, stay_dropped, Goes-dropped, ends_at, Body, lft_new, lft_end, lends_ref, ref_back, mem, part_at, MutRef, calls_at, lasts, triple_of, framed, Is, shows}
 use seplogic.Ra.Ura.{Ura}
 use prog.Model.{Model}
 use contract.Running.{Running, MachineTables}

@@ -1,6 +1,6 @@
 -- `camplot_reply` meets its contract: a walk of its MIR by hand. The station and the room are lent for the call, each for a
 -- lifetime of its own, and come back once these are over.
-use Rattle.cam_c.proofs.Steps.{and_false, big_lit, long, short, short_is, ◌≡◌, ℕ, ◌<◌, ◌*◌, ◌^◌, List, [], ◌∷◌, length, true, false, refl, sym, ap, subst, ◌∙◌, lit<, w8, w64, arith, proved, full_share, SProp, ent, sep, ex, emp, id⊢, ftrue, flft, flent, named, Val, vint, vptr, fact, fact_i, tables, Logic, sem, ‵, raw, ◌⊛◌, some, later, at_ret, ◌$◌, ◌∵◌, !, qed, by, done, move, drop, pick, await, split, split3, fsplit, fjoin, rewrite, use0, use1, use2, use3, join, suffices, group, show, enter, of_opd, lit, bin, addr, agg, stop, no_more, and_then, first, blocks, branches, skips, exec, returns, returns_within, alloc_all, pass_all, free_all, look_at, get, through, sets, sets_last, lands_as, env, u8, usize, yes, uint_Makes, uint_vals, uint_Tells, uint_Lawful, Ptr, RawPtr, block_ptr, null_ptr, Testable, tests_null, rawptr_vals, rawptr_Tells, rawptr_Lawful, plain, nothing, owned, heard, peeks, on_entry, Stays, walk_of, stay_dropped, Goes-dropped, ends_at, Body, Held, Arr, lft_new, lft_end, lends_ref, ref_back, lends_slice, slice_back, mem, part_at, MutRef, MutSlice, slice_val, calls_at, lasts, triple_of, framed, Is, shows}
+use Rattle.cam_c.proofs.Steps.{big_lit, long, short, short_is, ◌≡◌, ℕ, ◌<◌, ◌*◌, ◌^◌, List, [], ◌∷◌, length, refl, sym, ap, subst, ◌∙◌, lit<, w64, arith, proved, full_share, SProp, ent, sep, ex, emp, id⊢, ftrue, flft, flent, named, Val, vint, vptr, fact, fact_i, tables, Logic, sem, ‵, raw, ◌⊛◌, some, later, at_ret, ◌$◌, ◌∵◌, !, qed, by, done, move, drop, pick, await, split, split3, fsplit, fjoin, rewrite, use0, use1, use2, use3, join, suffices, group, show, enter, of_opd, lit, bin, addr, agg, stop, no_more, and_then, first, blocks, branches, skips, exec, returns, returns_within, alloc_all, pass_all, free_all, look_at, get, through, sets, sets_last, lands_as, env, u8, usize, yes, uint_Makes, uint_vals, uint_Tells, uint_Lawful, Ptr, RawPtr, block_ptr, null_ptr, Testable, tests_null, rawptr_vals, rawptr_Tells, rawptr_Lawful, plain, nothing, owned, heard, peeks, on_entry, Stays, walk_of, stay_dropped, Goes-dropped, ends_at, Body, Held, Arr, lft_new, lft_end, lends_ref, ref_back, lends_slice, slice_back, mem, part_at, MutRef, MutSlice, slice_val, calls_at, lasts, triple_of, framed, Is, shows}
 use seplogic.Ra.Ura.{Ura}
 use prog.Model.{Model}
 use contract.Running.{Running, MachineTables}
