@@ -1,3 +1,4 @@
+pub mod Rotations
 pub mod BoardSheets
 pub mod BoardRoom
 pub mod Names

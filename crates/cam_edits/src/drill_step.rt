@@ -14,6 +14,7 @@ ghost use Rattle.cam_edits.specs.DrillSteps.{
 ghost use Rattle.cam_edits.specs.declared.drill_step.DrillStep.TheVariants.{Diameter};
 ghost use Rattle.cam_objects.specs.Contents.{DrillContent, drill_content_of};
 
+use crate::carrying::carry;
 use crate::moving::{back, can_move_drill_item};
 use crate::reversible::Reversible;
 use cam_objects::{DrillItem, DrillLayer};
@@ -101,8 +102,7 @@ impl Reversible for DrillStep {
                 DrillStep::Move { k, by: back(by) }
             }
             DrillStep::Reorder { k, m } => {
-                let item = layer.items.remove(k);
-                layer.items.insert(m, item).unwrap();
+                carry(layer.items.as_mut_slice(), k, m);
                 DrillStep::Reorder { k: m, m: k }
             }
             DrillStep::Tool { k, t } => {

@@ -10,6 +10,7 @@ mod apertures;
 mod attribute_judging;
 mod board;
 mod board_step;
+mod carrying;
 mod chunked;
 mod chunked_drill;
 mod drill_judging;

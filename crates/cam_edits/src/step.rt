@@ -18,6 +18,7 @@ ghost use Rattle.cam_edits.specs.Steps.{
   with_polarity,
 };
 
+use crate::carrying::carry;
 use crate::moving::{back, can_move_item};
 use crate::reversible::Reversible;
 use cam_objects::{Attribute, Item, Layer, Object};
@@ -122,8 +123,7 @@ impl Reversible for Step {
                 Step::Move { k, by: back(by) }
             }
             Step::Reorder { k, m } => {
-                let item = layer.items.remove(k);
-                layer.items.insert(m, item).unwrap();
+                carry(layer.items.as_mut_slice(), k, m);
                 Step::Reorder { k: m, m: k }
             }
             Step::Aperture { k, n } => {
