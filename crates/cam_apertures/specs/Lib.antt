@@ -1,5 +1,6 @@
 pub mod Turned
 pub mod Primitives
+pub mod Views
 pub mod Cover
 pub mod Bounds
 pub mod Soundness

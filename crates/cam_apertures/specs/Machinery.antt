@@ -2,3 +2,4 @@
 pub mod Boxes
 pub mod Macros
 pub mod Outcomes
+pub mod Packing

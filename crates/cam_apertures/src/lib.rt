@@ -10,7 +10,8 @@
 //!   [`Aperture::is_solid_rect`]: whether straight lines may.
 //! - [`turned`]: a box, mirrored and turned; [`has_place`]: whether a place lies in a box.
 //! - [`turned_width`], [`turned_height`]: the sides of a shape, once it is turned.
-//! - [`Primitives`]: the primitives of a macro, with the box of all of them kept beside them.
+//! - [`Primitives`]: the primitives of a macro in 24 bytes each, with the box of all of them kept beside
+//!   them; [`PrimitiveView`]: one of them as it is read.
 //! - [`Macros`]: the macros of a file, each found by its name.
 //! - [`parse_ad`]: the aperture that a definition of a Gerber file stands for, or the fault of least
 //!   number; [`ad_number`]: its number alone.
@@ -23,11 +24,14 @@ mod aperture;
 mod boxes;
 mod definition;
 mod fault;
+mod kept;
 mod laws;
 mod macros;
+mod packed;
 mod primitives;
 mod shape;
 mod sides;
+mod view;
 
 pub use aperture::Aperture;
 pub use boxes::{has_place, turned};
@@ -39,3 +43,4 @@ pub use laws::{
 pub use macros::Macros;
 pub use primitives::Primitives;
 pub use sides::{turned_height, turned_width};
+pub use view::{PrimitiveView, ShapeView};

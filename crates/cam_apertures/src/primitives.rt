@@ -1,14 +1,17 @@
 //! The primitives of a macro aperture.
 
-ghost use Rattle.std.specs.Prelude.{◌≡◌, ◌↔◌, All, IfOk, IsTrue, map};
+ghost use Rattle.std.specs.Prelude.{◌≡◌, ◌↔◌, ◌<◌, [], All, IfOk, IsTrue, Some, length, map, slice_get};
 ghost use Rattle.cam_units.specs.Board.{IsInReach};
 ghost use Rattle.cam_apertures.specs.Cover.{IsPainted};
 ghost use Rattle.cam_apertures.specs.Primitives.{IsSoundPrim, box_of_prims};
 ghost use Rattle.cam_apertures.specs.Turned.{turned_prim};
+ghost use Rattle.cam_apertures.specs.Views.{primitive_of};
 
 use crate::boxes::{box_of_prims, has_place, turned};
+use crate::packed::Packed;
 use crate::shape::holds;
-use cam_macros::{MacroPrimitive, Prims};
+use crate::view::PrimitiveView;
+use cam_macros::Prims;
 use cam_units::{Bounds, Spot, Turn};
 use std::alloc::{AllocError, Global};
 use std::marker::Model;
@@ -23,7 +26,7 @@ pub struct Primitives {
 /// Primitives, and the box of all of them beside them.
 #[derive(Debug, Drop)]
 struct Boxed {
-    prims: Prims,
+    prims: Packed,
     bounds: Bounds,
 }
 
@@ -41,23 +44,39 @@ impl Model for Primitives {
 
 impl Primitives {
     /// These primitives: sizes from 0 to 200 mm, coordinates of at most 200 mm in absolute value,
-    /// outlines of 1 to 5,000 points. An error where no memory is left to share them.
+    /// outlines of 1 to 5,000 points. An error where no memory is left for them.
     pub fn from_prims(alloc: Global, prims: Prims) -> Result<Primitives, AllocError>
         requires { All IsSoundPrim prims }
         ensures { IfOk result (λ made. made ≡ prims) }
     {
         let bounds = box_of_prims(prims.as_slice());
+        let prims = Packed::from_prims(alloc, prims)?;
         match Rc::new(alloc, Boxed { prims, bounds }) {
             Ok(shared) => Ok(Primitives { shared }),
             Err(_) => Err(AllocError),
         }
     }
 
-    /// The primitives in order.
-    pub fn as_slice(&self) -> &[MacroPrimitive]
-        ensures { result.now ≡ self.now }
+    /// How many primitives there are.
+    pub fn len(&self) -> usize
+        ensures { result ≡ length self.now }
     {
-        self.shared.prims.as_slice()
+        self.shared.prims.len()
+    }
+
+    /// Whether there is none.
+    pub fn is_empty(&self) -> bool
+        ensures { IsTrue result ↔ (self.now ≡ []) }
+    {
+        self.len() == 0
+    }
+
+    /// The primitive at a place in the order, counted from 0.
+    pub fn at(&self, place: usize) -> PrimitiveView<'_>
+        requires { place < length self.now }
+        ensures { slice_get self.now place ≡ Some (primitive_of result) }
+    {
+        self.shared.prims.at(place)
     }
 
     /// Whether the last primitive that holds the place, once they are turned, paints; false where
@@ -69,7 +88,7 @@ impl Primitives {
         if !has_place(self.bounds(turn), spot) {
             return false;
         }
-        is_painted(self.shared.prims.as_slice(), spot, turn)
+        is_painted(&self.shared.prims, spot, turn)
     }
 
     /// Whether all are within the limits: always, since no others are made.
@@ -89,14 +108,14 @@ impl Primitives {
 }
 
 /// Whether the last of the primitives that holds the place, once they are turned, paints.
-fn is_painted(prims: &[MacroPrimitive], spot: Spot, turn: Turn) -> bool
+fn is_painted(prims: &Packed, spot: Spot, turn: Turn) -> bool
     requires prims { All IsSoundPrim prims.now }
     requires spot { IsInReach spot }
     ensures { IsTrue result ↔ IsPainted (map (turned_prim turn) prims.now) spot }
 {
     for place in (0..prims.len()).rev() {
-        let prim = &prims[place];
-        if holds(&prim.shape, spot, turn) {
+        let prim = prims.at(place);
+        if holds(prim.shape, spot, turn) {
             return prim.paint;
         }
     }

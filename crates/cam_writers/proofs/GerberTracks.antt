@@ -199,13 +199,12 @@ macro_written : (n : ℕ) (prims : List MacroPrimitive) (commands : Commands) (w
 macro_written n prims commands w text h longer =
     quiet_written (macro_command n prims) _ commands w text (macro_says n prims) (macro_named _ _) h longer
 
-pub macro_of_written : (n : ℕ) (a : Shape) (prims slice : List MacroPrimitive) (commands : Commands) (w : GerberText)
-    (text : Vec ℕ) → TracksCommands commands w → a ≡ Prims prims → slice ≡ prims
-    → IsLonger (macro_command n slice) w text → TracksCommands (with_macro n a commands) (record w { text = text })
-macro_of_written n a prims slice commands w text h is same longer =
+pub macro_of_written : (n : ℕ) (a : Shape) (prims : List MacroPrimitive) (commands : Commands) (w : GerberText)
+    (text : Vec ℕ) → TracksCommands commands w → a ≡ Prims prims → IsLonger (macro_command n prims) w text
+    → TracksCommands (with_macro n a commands) (record w { text = text })
+macro_of_written n a prims commands w text h is longer =
     subst (λ (shape : Shape). TracksCommands (with_macro n shape commands) (record w { text = text })) (sym is)
-    (macro_written n prims commands w text h
-    (longer ∙ ap (λ (ps : List MacroPrimitive). w.text.items ++ line_of (macro_command n ps)) same))
+    (macro_written n prims commands w text h longer)
 
 pub definition_written : (n : ℕ) (a : Shape) (commands : Commands) (w : GerberText) (text : Vec ℕ)
     → TracksCommands commands w → IsApertureNumber n → IsSoundAperture a → IsLonger (definition_command n a) w text

@@ -27,9 +27,7 @@ impl GerberText {
             → OnOk result (TracksCommands (with_macro number aperture.now commands) self.new) }
     {
         match aperture {
-            Aperture::Prims(primitives) => {
-                push_macro(&mut self.text, number, primitives.as_slice())
-            }
+            Aperture::Prims(primitives) => push_macro(&mut self.text, number, primitives),
             _ => Ok(()),
         }
     }

@@ -2,6 +2,7 @@
 
 ghost use Rattle.std.specs.Prelude.{◌≡◌, ◌++◌, OnOk};
 ghost use Rattle.std.specs.List.{flat_map};
+ghost use Rattle.cam_apertures.specs.Views.{primitive_of, shape_of};
 ghost use Rattle.cam_writers.specs.Commands.{macro_command, point_fields, primitive_text, shape_code, shape_fields};
 ghost use Rattle.cam_writers.specs.Lengths.{mm};
 ghost use Rattle.cam_writers.specs.Machinery.Writing.{behind_comma, fields_text, line_of, outline_fields};
@@ -9,7 +10,7 @@ ghost use Rattle.cam_writers.specs.Machinery.Writing.{primitive_lines};
 
 use crate::gerber_apertures::push_macro_name;
 use crate::lengths::{push_mm, push_number};
-use cam_macros::{MacroPrimitive, PrimShape};
+use cam_apertures::{PrimitiveView, Primitives, ShapeView};
 use cam_units::{Nm, Point};
 use std::alloc::AllocError;
 
@@ -54,61 +55,62 @@ fn push_outline(text: &mut Vec<u8>, points: &[Point]) -> Result<(), AllocError>
 }
 
 /// Writes the fields of a shape.
-fn push_shape(text: &mut Vec<u8>, shape: &PrimShape) -> Result<(), AllocError>
-    ensures { OnOk result (text.new.items ≡ text.old.items ++ fields_text (shape_fields shape.now)) }
+fn push_shape(text: &mut Vec<u8>, shape: ShapeView<'_>) -> Result<(), AllocError>
+    ensures { OnOk result (text.new.items ≡ text.old.items ++ fields_text (shape_fields (shape_of shape.entry))) }
 {
     match shape {
-        PrimShape::Disc { centre, diameter } => {
-            push_length(text, *diameter)?;
-            push_point(text, *centre)
+        ShapeView::Disc { centre, diameter } => {
+            push_length(text, diameter)?;
+            push_point(text, centre)
         }
-        PrimShape::Bar { from, to, width } => {
-            push_length(text, *width)?;
-            push_point(text, *from)?;
-            push_point(text, *to)
+        ShapeView::Bar { from, to, width } => {
+            push_length(text, width)?;
+            push_point(text, from)?;
+            push_point(text, to)
         }
-        PrimShape::Rect {
+        ShapeView::Rect {
             centre,
             width,
             height,
         } => {
-            push_length(text, *width)?;
-            push_length(text, *height)?;
-            push_point(text, *centre)
+            push_length(text, width)?;
+            push_length(text, height)?;
+            push_point(text, centre)
         }
-        PrimShape::Outline { points } => push_outline(text, points.as_slice()),
+        ShapeView::Outline { points } => push_outline(text, points),
     }
 }
 
 /// The code of a shape.
-fn shape_code(shape: &PrimShape) -> &'static [u8]
-    ensures { result.now ≡ shape_code shape.now }
+fn shape_code(shape: ShapeView<'_>) -> &'static [u8]
+    ensures { result.now ≡ shape_code (shape_of shape.entry) }
 {
     match shape {
-        PrimShape::Disc { .. } => b"1",
-        PrimShape::Bar { .. } => b"20",
-        PrimShape::Rect { .. } => b"21",
-        PrimShape::Outline { .. } => b"4",
+        ShapeView::Disc { .. } => b"1",
+        ShapeView::Bar { .. } => b"20",
+        ShapeView::Rect { .. } => b"21",
+        ShapeView::Outline { .. } => b"4",
     }
 }
 
 /// Writes a primitive.
 #[tactic(auto, unfolding(crate::specs::Commands::primitive_text))]
-fn push_primitive(text: &mut Vec<u8>, primitive: &MacroPrimitive) -> Result<(), AllocError>
-    ensures { OnOk result (text.new.items ≡ text.old.items ++ primitive_text primitive.now) }
+fn push_primitive(text: &mut Vec<u8>, primitive: PrimitiveView<'_>) -> Result<(), AllocError>
+    ensures { OnOk result (text.new.items ≡ text.old.items ++ primitive_text (primitive_of primitive.entry)) }
 {
-    text.extend_from_slice(shape_code(&primitive.shape))?;
+    text.extend_from_slice(shape_code(primitive.shape))?;
     text.extend_from_slice(if primitive.paint { b",1" } else { b",0" })?;
-    push_shape(text, &primitive.shape)?;
+    push_shape(text, primitive.shape)?;
     text.extend_from_slice(b",0")
 }
 
 /// Writes the line of each primitive behind the end of the line before it.
-fn push_primitives(text: &mut Vec<u8>, primitives: &[MacroPrimitive]) -> Result<(), AllocError>
+fn push_primitives(text: &mut Vec<u8>, primitives: &Primitives) -> Result<(), AllocError>
     ensures { OnOk result (text.new.items ≡ text.old.items ++ primitive_lines primitives.now) }
 {
-    for primitive in primitives {
+    for place in 0..primitives.len() {
         text.extend_from_slice(b"*\n")?;
+        let primitive = primitives.at(place);
         push_primitive(text, primitive)?;
     }
     Ok(())
@@ -119,7 +121,7 @@ fn push_primitives(text: &mut Vec<u8>, primitives: &[MacroPrimitive]) -> Result<
 pub fn push_macro(
     text: &mut Vec<u8>,
     number: u32,
-    primitives: &[MacroPrimitive],
+    primitives: &Primitives,
 ) -> Result<(), AllocError>
     ensures { OnOk result
         (text.new.items ≡ text.old.items ++ line_of (macro_command number primitives.now)) }

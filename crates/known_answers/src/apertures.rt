@@ -4,8 +4,8 @@
 mod covering;
 mod defining;
 
-use cam_apertures::{AdFault, Aperture, Macros, ad_number, parse_ad};
-use cam_macros::{Macro, PrimShape};
+use cam_apertures::{AdFault, Aperture, Macros, ShapeView, ad_number, parse_ad};
+use cam_macros::Macro;
 use cam_units::{Bounds, Point, Spot, Turn, Unit};
 use covering::{BOXES, NOTHING, PLACES, SOLID, Text};
 use defining::{DEFINITIONS, NUMBERS, Wanted};
@@ -37,12 +37,13 @@ fn is_disc(aperture: &Aperture, wanted: i64) -> bool {
     let Aperture::Prims(prims) = aperture else {
         return false;
     };
-    let [prim] = prims.as_slice() else {
+    if prims.len() != 1 {
         return false;
-    };
-    match &prim.shape {
-        PrimShape::Disc { centre, diameter } => {
-            prim.paint && *centre == Point { x: 0, y: 0 } && diameter.0 == wanted
+    }
+    let prim = prims.at(0);
+    match prim.shape {
+        ShapeView::Disc { centre, diameter } => {
+            prim.paint && centre == Point { x: 0, y: 0 } && diameter.0 == wanted
         }
         _ => false,
     }

@@ -7,6 +7,7 @@ ghost use Rattle.cam_apertures.specs.Cover.{IsCovered, IsInShape, IsPainted, dis
 ghost use Rattle.cam_apertures.specs.Primitives.{IsSoundPrim};
 ghost use Rattle.cam_apertures.specs.Soundness.{IsSoundAperture};
 ghost use Rattle.cam_apertures.specs.Turned.{turned_prim, turned_shape};
+ghost use Rattle.cam_apertures.specs.Views.{primitive_of, shape_of};
 ghost use Rattle.cam_objects.specs.Image.{relative};
 ghost use Rattle.cam_tiles.specs.Machinery.Masks.{Joins, inked};
 
@@ -14,8 +15,7 @@ use crate::masks::join::Join;
 use crate::masks::mask::{Mask, ORIGIN};
 use crate::masks::row_shape::RowShape;
 use crate::masks::shapes::Hole;
-use cam_apertures::{Aperture, turned_height, turned_width};
-use cam_macros::{MacroPrimitive, PrimShape};
+use cam_apertures::{Aperture, PrimitiveView, Primitives, ShapeView, turned_height, turned_width};
 use cam_shapes::{Bar, Disc, Obround, Rectangle};
 use cam_units::{Nm, Point, Turn};
 
@@ -55,7 +55,7 @@ impl Mask {
                 };
                 self.pierced(&obround, *hole, at, how);
             }
-            Aperture::Prims(prims) => self.primitives(prims.as_slice(), turn, at, how),
+            Aperture::Prims(prims) => self.primitives(prims, turn, at, how),
         }
     }
 
@@ -78,55 +78,56 @@ impl Mask {
     }
 
     /// Joins the marks with what primitives paint, once they are turned: a later one takes back what it clears.
-    fn primitives(&mut self, prims: &[MacroPrimitive], turn: Turn, at: Point, how: Join)
+    fn primitives(&mut self, prims: &Primitives, turn: Turn, at: Point, how: Join)
         requires prims { All IsSoundPrim prims.now }
         requires at { IsOnBoard at }
         ensures { Joins how (λ s. IsPainted (map (turned_prim turn) prims.now) (relative at s)) self.old self.new }
     {
         let mut own = Mask::blank(self.grid());
-        for primitive in prims {
+        for place in 0..prims.len() {
+            let primitive = prims.at(place);
             own.primitive(primitive, turn, at);
         }
         self.merge(&own, how);
     }
 
     /// Adds what a primitive paints, or clears what it takes back.
-    fn primitive(&mut self, primitive: &MacroPrimitive, turn: Turn, at: Point)
-        requires primitive { IsSoundPrim primitive.now }
+    fn primitive(&mut self, primitive: PrimitiveView<'_>, turn: Turn, at: Point)
+        requires primitive { IsSoundPrim (primitive_of primitive) }
         requires at { IsOnBoard at }
-        ensures { Joins (inked primitive.now.paint)
-            (λ s. IsInShape (turned_shape turn primitive.now.shape) (relative at s)) self.old self.new }
+        ensures { Joins (inked primitive.entry.paint)
+            (λ s. IsInShape (turned_shape turn (shape_of primitive.entry.shape)) (relative at s)) self.old self.new }
     {
         let how = Join::inked(primitive.paint);
-        match &primitive.shape {
-            PrimShape::Disc { centre, diameter } => {
+        match primitive.shape {
+            ShapeView::Disc { centre, diameter } => {
                 let disc = Disc {
-                    centre: turn.apply(*centre),
-                    diameter: *diameter,
+                    centre: turn.apply(centre),
+                    diameter,
                 };
                 self.join(&disc, at, how);
             }
-            PrimShape::Bar { from, to, width } => {
+            ShapeView::Bar { from, to, width } => {
                 let bar = Bar {
-                    from: turn.apply(*from),
-                    to: turn.apply(*to),
-                    width: *width,
+                    from: turn.apply(from),
+                    to: turn.apply(to),
+                    width,
                 };
                 self.join(&bar, at, how);
             }
-            PrimShape::Rect {
+            ShapeView::Rect {
                 centre,
                 width,
                 height,
             } => {
                 let rectangle = Rectangle {
-                    centre: turn.apply(*centre),
-                    width: turned_width(turn, *width, *height),
-                    height: turned_height(turn, *width, *height),
+                    centre: turn.apply(centre),
+                    width: turned_width(turn, width, height),
+                    height: turned_height(turn, width, height),
                 };
                 self.join(&rectangle, at, how);
             }
-            PrimShape::Outline { points } => self.fill_outline(points.as_slice(), turn, at, how),
+            ShapeView::Outline { points } => self.fill_outline(points, turn, at, how),
         }
     }
 }

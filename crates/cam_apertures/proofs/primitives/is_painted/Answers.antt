@@ -1,13 +1,26 @@
-use Rattle.std.proofs.Common.{◌-◌, arith}
+use Rattle.std.proofs.Common.{◌≡◌, ◌-◌, arith, get_or, sym}
+use Rattle.std.proofs.lemmas.Option.{get_or_from_slice_get}
+use Rattle.cam_macros.specs.declared.primitive.MacroPrimitive.{MacroPrimitive}
+use Rattle.cam_apertures.specs.Views.{primitive_of}
 use Rattle.cam_apertures.proofs.Painting.{decides_at, none_at, not_false, passes_at, round, through}
 use Rattle.cam_apertures.proofs.primitives.is_painted.Goals as goal
+use Rattle.cam_apertures.proofs.primitives.is_painted.Goals.{After-at-prim}
+
+-- the primitive that is looked at
+abbrev seen : After-at-prim → MacroPrimitive
+seen c = primitive_of c.at-prim.result
+
+is_there : (c : After-at-prim) → seen c ≡ get_or c.args.prims.now (c.loop-place.place - 1) (seen c)
+is_there c =
+    sym (get_or_from_slice_get c.args.prims.now (c.loop-place.place - 1) (seen c) (seen c) c.at-prim.ensures)
 
 pub returns-then-holds : goal.returns-then-holds
 returns-then-holds c =
     let t = c.args.turn in
     let prims = c.args.prims.now in
     let n = c.loop-place.place in
-    through (decides_at t prims (n - 1) n c.index-prims-place.result c.args.spot (omega arith) (omega (arith, c.loop-place.invariant.here)) c.index-prims-place.is
+    let at = (goal.at.returns-then-holds c).After-at-prim in
+    through (decides_at t prims (n - 1) n (seen at) c.args.spot (omega arith) (omega (arith, c.loop-place.invariant.here)) (is_there at)
     (c.holds.ensures.0 c.if-holds.true)) c.loop-place.invariant.same
 
 pub loop-place-preserved : goal.loop-place-preserved
@@ -15,10 +28,11 @@ loop-place-preserved c =
     let t = c.args.turn in
     let prims = c.args.prims.now in
     let n = c.loop-place.place in
+    let at = (goal.at.loop-place-preserved c).After-at-prim in
     record {
       here = omega (arith, c.loop-place.invariant.here);
-      same = through (round (passes_at t prims (n - 1) n c.index-prims-place.result c.args.spot (omega arith) (omega (arith, c.loop-place.invariant.here))
-          c.index-prims-place.is (not_false c.holds.result c.if-holds.false c.holds.ensures))) c.loop-place.invariant.same;
+      same = through (round (passes_at t prims (n - 1) n (seen at) c.args.spot (omega arith) (omega (arith, c.loop-place.invariant.here))
+          (is_there at) (not_false c.holds.result c.if-holds.false c.holds.ensures))) c.loop-place.invariant.same;
     }
 
 pub returns : goal.returns

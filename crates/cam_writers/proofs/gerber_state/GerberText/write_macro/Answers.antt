@@ -6,5 +6,5 @@ pub returns-in-Prims : goal.returns-in-Prims
 returns-in-Prims c =
     λ commands h.
     on_ok c.push_macro.result
-    (macro_of_written c.args.number c.args.aperture.now c.in-Prims.primitives c.as_slice.result.now commands
-    c.args.self.now c.push_macro.new.text h c.in-Prims.is c.as_slice.ensures) c.push_macro.ensures
+    (macro_of_written c.args.number c.args.aperture.now c.in-Prims.primitives commands c.args.self.now
+    c.push_macro.new.text h c.in-Prims.is) c.push_macro.ensures

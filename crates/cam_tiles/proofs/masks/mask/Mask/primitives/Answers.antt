@@ -1,8 +1,10 @@
-use Rattle.std.proofs.Common.{[], map, take, ◌∙◌}
+use Rattle.std.proofs.Common.{[], map, sym, take, ◌∙◌, arith}
 use Rattle.std.proofs.lemmas.List.{take_all}
+use Rattle.std.proofs.lemmas.Option.{get_or_from_slice_get}
 use Rattle.cam_units.specs.declared.point.Spot.{Spot}
 use Rattle.cam_apertures.specs.Cover.{IsInShape, IsPainted}
 use Rattle.cam_apertures.specs.Turned.{turned_prim, turned_shape}
+use Rattle.cam_apertures.specs.Views.{primitive_of}
 use Rattle.cam_apertures.proofs.Painting.{none_painted}
 use Rattle.cam_objects.specs.Image.{relative}
 use Rattle.cam_tiles.specs.Machinery.Masks.{inked}
@@ -10,33 +12,33 @@ use Rattle.cam_tiles.proofs.Joined.{merges_shown, shows_joined, shows_like, show
 use Rattle.cam_tiles.proofs.Stamps.{painted_more}
 use Rattle.cam_tiles.proofs.masks.mask.Mask.primitives.Goals as goal
 
-pub loop-primitive-init : goal.loop-primitive-init
-loop-primitive-init c = record {
+pub loop-place-init : goal.loop-place-init
+loop-place-init c = record {
   grid = c.blank-own.ensures.grid ∙ c.grid.ensures.value;
   shown = shows_like (λ s. ⊥) (λ s. IsPainted [] (relative c.args.at s)) c.blank-own.result
       (λ s. (λ none. absurd none, none_painted (relative c.args.at s)))
       (shows_nothing c.blank-own.result c.blank-own.ensures.marks);
 }
 
-pub loop-primitive-preserved : goal.loop-primitive-preserved
-loop-primitive-preserved c =
+pub loop-place-preserved : goal.loop-place-preserved
+loop-place-preserved c =
     let t = c.args.turn in
     let prims = c.args.prims.now in
-    let n = c.loop-primitive.primitive-index in
-    let p = c.primitive-item.result in
+    let n = c.loop-place.place in
+    let p = primitive_of c.at-primitive.result in
     let before : Spot → Type 0 = λ s. IsPainted (map (turned_prim t) (take n prims)) (relative c.args.at s) in
     let held : Spot → Type 0 = λ s. IsInShape (turned_shape t p.shape) (relative c.args.at s) in
     record {
-      grid = c.primitive.ensures.grid ∙ c.loop-primitive.invariant.grid;
+      grid = c.primitive.ensures.grid ∙ c.loop-place.invariant.grid;
       shown = shows_like _ _ c.primitive.new.self
-          (λ s. painted_more t prims n p (relative c.args.at s) c.loop-primitive-test.true c.primitive-item.is)
-          (shows_joined (inked p.paint) before held c.loop-primitive.own c.primitive.new.self
-          c.loop-primitive.invariant.shown c.primitive.ensures);
+          (λ s. painted_more t prims n p (relative c.args.at s) (omega (arith, c.loop-place-test.true, c.len-place-end.ensures)) (sym (get_or_from_slice_get prims n p p c.at-primitive.ensures)))
+          (shows_joined (inked p.paint) before held c.loop-place.own c.primitive.new.self
+          c.loop-place.invariant.shown c.primitive.ensures);
     }
 
 pub returns : goal.returns
 returns c =
-    let all = take_all c.loop-primitive.primitive-index c.args.prims.now c.loop-primitive-test.false in
+    let all = take_all c.loop-place.place c.args.prims.now (omega (arith, c.loop-place-test.false, c.len-place-end.ensures)) in
     merges_shown c.args.how (λ s. IsPainted (map (turned_prim c.args.turn) c.args.prims.now) (relative c.args.at s))
-    c.loop-primitive.own c.args.self.now c.merge.new.self c.loop-primitive.invariant.grid
-    (rw all at c.loop-primitive.invariant.shown) c.merge.ensures
+    c.loop-place.own c.args.self.now c.merge.new.self c.loop-place.invariant.grid
+    (rw all at c.loop-place.invariant.shown) c.merge.ensures

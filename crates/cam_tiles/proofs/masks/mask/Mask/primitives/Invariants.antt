@@ -6,9 +6,9 @@ use Rattle.cam_tiles.proofs.Joined.{Shows}
 use Rattle.cam_tiles.proofs.masks.mask.Mask.primitives.Given as goal
 
 -- what the primitives so far paint
-abbrev pub invariant-loop-primitive : goal.invariant-loop-primitive
-invariant-loop-primitive l = record {
+abbrev pub invariant-loop-place : goal.invariant-loop-place
+invariant-loop-place l = record {
   grid : l.own.grid ≡ l.self.grid;
   shown : Shows
-      (λ s. IsPainted (map (turned_prim l.turn) (take l.primitive-index l.prims)) (relative l.at s)) l.own;
+      (λ s. IsPainted (map (turned_prim l.turn) (take l.place l.prims)) (relative l.at s)) l.own;
 }
