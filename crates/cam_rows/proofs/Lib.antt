@@ -11,6 +11,7 @@ pub mod ChordTurns
 pub mod Chords
 pub mod Circling
 pub mod Columns
+pub mod CountedRuns
 pub mod EdgeEnds
 pub mod EdgeSides
 pub mod EitherRows

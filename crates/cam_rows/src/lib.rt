@@ -23,7 +23,8 @@
 //! - [`edge_row`], [`cap_row`]: parts of a region; [`turn_edge`] turns over what an edge of it changes, [`edge_end`]
 //!   tells where that ends at one height.
 //! - [`bar_runs`], [`disc_runs`]: the same in rows of up to 32,768 centres, a run of columns for each row;
-//!   [`run_row`]: the bits of a part of it.
+//!   [`run_row`]: the bits of a part of it. [`cap_runs`] and [`edge_runs`] are those of parts of a region: a run of an
+//!   edge begins at the leftmost column.
 //! - [`or_rows`], [`clear_rows`], [`xor_rows`]: the 64 rows of a tile; [`pbm_bytes`]: a row in a file.
 //!
 //! What a row is stands in `specs/Rows.antt`, what a run is in `specs/Runs.antt`, rows joined lane by lane in
@@ -69,6 +70,8 @@ pub use lanes::{clear_rows, or_rows, pbm_bytes, xor_rows};
 pub use obround::{obround_row, obround_rows};
 pub use rect::{rect_row, rect_rows};
 pub use runs::bar::bar_runs;
+pub use runs::cap::cap_runs;
 pub use runs::disc::disc_runs;
+pub use runs::edge::edge_runs;
 pub use runs::run_row;
 pub use swept::{swept_row, swept_rows};

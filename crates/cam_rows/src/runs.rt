@@ -1,7 +1,9 @@
 //! Runs of centres, found by division; those of wide rows are found row after row.
 
 pub(crate) mod bar;
+pub(crate) mod cap;
 pub(crate) mod disc;
+pub(crate) mod edge;
 mod narrowing;
 mod wide;
 
