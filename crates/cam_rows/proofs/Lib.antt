@@ -22,6 +22,7 @@ pub mod HalfPlanes
 pub mod JoinedLanes
 pub mod KeptRows
 pub mod Marked
+pub mod MarkedColumns
 pub mod MissedDiscs
 pub mod NarrowedRuns
 pub mod OneRow

@@ -1,4 +1,5 @@
 pub mod Lanes
 pub mod Machinery
+pub mod Marks
 pub mod Rows
 pub mod Runs

@@ -25,10 +25,12 @@
 //! - [`bar_runs`], [`disc_runs`]: the same in rows of up to 32,768 centres, a run of columns for each row;
 //!   [`run_row`]: the bits of a part of it. [`cap_runs`] and [`edge_runs`] are those of parts of a region: a run of an
 //!   edge begins at the leftmost column.
+//! - [`mark_end`], [`spread_marks`]: marks in rows of tiles side by side, of which each turns over all columns left of it,
+//!   and the columns that all of them together turn over.
 //! - [`or_rows`], [`clear_rows`], [`xor_rows`]: the 64 rows of a tile; [`pbm_bytes`]: a row in a file.
 //!
 //! What a row is stands in `specs/Rows.antt`, what a run is in `specs/Runs.antt`, rows joined lane by lane in
-//! `specs/Lanes.antt`.
+//! `specs/Lanes.antt`, what a mark turns over in `specs/Marks.antt`.
 #![tactic(auto)]
 
 mod arc;
@@ -47,6 +49,7 @@ mod hole;
 mod keeping;
 mod lanes;
 mod linear;
+mod marks;
 mod obround;
 mod offsets;
 mod rect;
@@ -67,6 +70,7 @@ pub use disc::{disc_row, disc_rows};
 pub use edge::{edge_end, edge_row, turn_edge};
 pub use hole::{hole_row, hole_rows};
 pub use lanes::{clear_rows, or_rows, pbm_bytes, xor_rows};
+pub use marks::{mark_end, spread_marks};
 pub use obround::{obround_row, obround_rows};
 pub use rect::{rect_row, rect_rows};
 pub use runs::bar::bar_runs;
