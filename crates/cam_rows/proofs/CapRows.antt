@@ -4,6 +4,7 @@ use Rattle.std.proofs.Common.{List, length, replicate, slice_index, refl, ap, ar
 use Rattle.std.proofs.Math.ListN.{length-replicate}
 use Rattle.std.specs.Int.{IsBitSet}
 use Rattle.std.proofs.lemmas.List.{get_or-replicate}
+use Rattle.cam_units.specs.declared.point.Spot.{Spot}
 use Rattle.cam_shapes.specs.declared.cap.Cap.{Cap}
 use Rattle.cam_shapes.specs.Cap.{is_full_circle, is_in_cap, is_in_circle, is_on_side}
 use Rattle.cam_shapes.specs.Plane.{seen_from, way}
@@ -86,3 +87,17 @@ inside_marked rows new top c size sides kept k within i small =
           let both = parts.0 held.1 in
           told.1 ((sides k i before small held.0).1 both.1, (held.0, both.0))),
     )
+
+-- the places of a cap, with its chord and without one
+pub part_of_circle : (s : Spot) (c : Cap) → is_full_circle c ≡ false
+    → (IsTrue (is_in_circle (way c.centre c.from) (seen_from c.centre s)) × IsTrue (is_on_side s c))
+    ↔ IsTrue (is_in_cap s c)
+part_of_circle s c part =
+    let parts = both_true (is_in_circle (way c.centre c.from) (seen_from c.centre s)) (is_on_side s c) in
+    rw part (parts.1, parts.0)
+
+pub all_of_circle : (s : Spot) (c : Cap) → is_full_circle c ≡ true
+    → IsTrue (is_in_circle (way c.centre c.from) (seen_from c.centre s)) ↔ IsTrue (is_in_cap s c)
+all_of_circle s c whole =
+    let parts = both_true (is_in_circle (way c.centre c.from) (seen_from c.centre s)) true in
+    rw whole ((λ inside. parts.1 (inside, refl)), (λ held. (parts.0 held).0))

@@ -12,6 +12,7 @@ use Rattle.cam_shapes.specs.Plane.{dot, square}
 use Rattle.cam_shapes.proofs.Crossings.{less_is, not_under, under}
 use Rattle.cam_shapes.proofs.Widths.{square_is}
 use Rattle.cam_rows.specs.Machinery.Chords.{IsBeforeChord, IsBeforeEnd}
+use Rattle.cam_rows.specs.Runs.{IsInRun}
 use Rattle.cam_rows.specs.Machinery.Ties.{is_inside_chord, leads_down_or_right}
 
 tied : (m n : ℤ) (tie : Bool) → m ≡ n → IsTrue tie ↔ ((m <ℤ n) ⊎ ((m ≤ℤ n) × IsTrue tie))
@@ -117,26 +118,31 @@ in_run i first end x room to_right is_below right before not_before until not_un
       )),
     )
 
--- one bit of a row of the circle through u
-pub circle_bit : (B : Type 0) (i first end count : ℕ) (u v : Vector) (radius height to_right : ℕ) (is_below : Bool)
+-- a column of the run of the circle through u
+pub circle_run : (i first end : ℕ) (u v : Vector) (radius height to_right : ℕ) (is_below : Bool)
     → IsTrue (is_in_circle u v) ↔ IsTrue (is_inside_chord v.x (radius - height) is_below)
     → (pos 0 ≤ℤ v.x → IsTrue (is_inside_chord v.x (radius - height) is_below) ↔ (square v.x <ℤ pos to_right))
-    → end ≤ count
     → (i < first → IsBeforeChord v.x (radius - height + 1))
-    → (i < count → first ≤ i → IsBeforeChord v.x (radius - height + 1) → ⊥)
+    → (first ≤ i → IsBeforeChord v.x (radius - height + 1) → ⊥)
     → (i < end → IsBeforeEnd v.x to_right)
-    → (i < count → end ≤ i → IsBeforeEnd v.x to_right → ⊥)
-    → B ↔ ((first ≤ i) × (i < end)) → B ↔ ((i < count) × IsTrue (is_in_circle u v))
-circle_bit B i first end count u v radius height to_right is_below circle right within before not_before until
-    not_until told =
-    let run : i < count → ((first ≤ i) × (i < end)) ↔ IsTrue (is_inside_chord v.x (radius - height) is_below) =
-    λ h. in_run i first end v.x (radius - height) to_right is_below right before (not_before h) until (not_until h) in (
-      (λ set.
-          let ends = told.0 set in
-          let inside : i < count = omega (arith, ends.1, within) in
-          (inside, circle.1 ((run inside).0 ends))),
-      (λ on. told.1 ((run on.0).1 (circle.0 on.1))),
+    → (end ≤ i → IsBeforeEnd v.x to_right → ⊥)
+    → IsInRun first end i ↔ IsTrue (is_in_circle u v)
+circle_run i first end u v radius height to_right is_below circle right before not_before until not_until =
+    let run = in_run i first end v.x (radius - height) to_right is_below right before not_before until not_until in (
+      (λ on. circle.1 (run.0 on)),
+      (λ inside. run.1 (circle.0 inside)),
     )
+
+-- a bit of the row of a run
+pub run_bit : (B P : Type 0) (i first end count : ℕ) → end ≤ count → B ↔ ((first ≤ i) × (i < end))
+    → (i < count → IsInRun first end i ↔ P) → B ↔ ((i < count) × P)
+run_bit B P i first end count within bit told = (
+  (λ set.
+      let on = bit.0 set in
+      let inside : i < count = omega (arith, on.1, within) in
+      (inside, (told inside).0 on)),
+  (λ held. bit.1 ((told held.0).1 held.1)),
+)
 
 -- what lies before the chord lies before its end
 pub ends_ordered : (first end count : ℕ) (x : ℕ → ℤ) (room to_right : ℕ) → first ≤ count

@@ -1,8 +1,8 @@
 -- Which side of an edge a place is on, by its ends in either order.
 use Rattle.std.proofs.Common.{◌≡◌, ◌≢◌, ◌↔◌, ℕ, Bool, true, false, IsTrue, ℤ, pos, negsuc, ◌-ℤ◌, ◌*ℤ◌, ◌≤ℤ◌, ◌<ℤ◌}
 use Rattle.std.proofs.Common.{inl, inr, subst, sym, ◌∙◌, arith}
-use Rattle.std.proofs.lemmas.Bool.{cases_Bool}
-use Rattle.std.proofs.lemmas.Int.{ints}
+use Rattle.std.proofs.lemmas.Bool.{cases_Bool, false≢true}
+use Rattle.std.proofs.lemmas.Int.{by_lt_z, ints}
 use Rattle.cam_units.specs.declared.point.Point.{Point}
 use Rattle.cam_units.specs.declared.point.Spot.{Spot}
 use Rattle.cam_units.proofs.Ring.{Polynomial, Atom, Difference, Product, equal}
@@ -86,3 +86,21 @@ rises_through p q c k i up below top crossed =
     left_of_edge (centre_at (row_below c k) i) p q
     (other_below (is_above q (row_below c k).first) (is_above p (row_below c k).first) here (λ e. crossed (sym e)))
     here
+
+-- of a row between the ends, the higher one is above it
+lower_end : (p q : Point) (s : Spot) → is_above p s ≡ true → is_above q s ≡ false → q.y <ℤ p.y
+lower_end p q s above below =
+    let high = (less_is s.y (pos 2 *ℤ p.y)).0 above in
+    by_lt_z s.y (pos 2 *ℤ q.y)
+    (λ less. absurd (false≢true (sym below ∙ (less_is s.y (pos 2 *ℤ q.y)).1 less)))
+    (λ most. omega (arith, ints, high, most))
+
+pub falls_to : (p q : Point) (c : Centres) → is_above p c.first ≡ true → IsCrossed p q (row_below c 0) → q.y <ℤ p.y
+falls_to p q c above crossed =
+    lower_end p q c.first above
+    (other_below (is_above p c.first) (is_above q c.first) above (subst (IsCrossed p q) (top_row c) crossed))
+
+pub rises_to : (p q : Point) (c : Centres) → is_above p c.first ≡ false → IsCrossed p q (row_below c 0) → p.y <ℤ q.y
+rises_to p q c below crossed =
+    lower_end q p c.first
+    (other_above (is_above p c.first) (is_above q c.first) below (subst (IsCrossed p q) (top_row c) crossed)) below

@@ -12,6 +12,7 @@ pub mod ChordTurns
 pub mod Chords
 pub mod Circling
 pub mod Columns
+pub mod CountedRuns
 pub mod EdgeEnds
 pub mod EdgeSides
 pub mod EitherRows
@@ -22,6 +23,7 @@ pub mod HalfPlanes
 pub mod JoinedLanes
 pub mod KeptRows
 pub mod Marked
+pub mod MarkedColumns
 pub mod MissedDiscs
 pub mod NarrowedRuns
 pub mod OneRow

@@ -30,3 +30,10 @@ pub record AreRuns (firsts ends : List ℕ) (top : Centres) (IsIn : Spot → Typ
   pub each : (k i : ℕ) → k < length firsts → i < top.count
       → IsInRun (slice_index firsts k) (slice_index ends k) i ↔ IsIn (centre_at (row_below top k) i)
   pub within : (k : ℕ) → k < length firsts → slice_index ends k ≤ top.count
+
+-- runs from the leftmost column on, by their ends, in rows one below another from the top one: a column of a row lies
+-- before its row's end exactly where the shape holds its centre, and no run goes on behind the last column
+pub record AreEnds (ends : List ℕ) (top : Centres) (IsIn : Spot → Type 0) : Type 0 where
+  pub each : (k i : ℕ) → k < length ends → i < top.count
+      → (i < slice_index ends k) ↔ IsIn (centre_at (row_below top k) i)
+  pub within : (k : ℕ) → k < length ends → slice_index ends k ≤ top.count

@@ -43,7 +43,7 @@ pub fn cap_rows(cap: Cap, top: Centres, rows: &mut [u64])
 }
 
 /// The side of a cap's chord on which the cap lies, with the places of the chord's line that belong to it.
-fn side(cap: &Cap, top: &Centres) -> HalfPlane
+pub(crate) fn side(cap: &Cap, top: &Centres) -> HalfPlane
     requires cap { IsSoundCap cap.now }
     requires row { IsRow top.now }
     ensures { IsHalfPlaneOf top.now (λ s. IsTrue (is_on_side s cap.now)) result }

@@ -14,7 +14,7 @@ ghost use Rattle.cam_rows.specs.Rows.{IsRow, Marks};
 
 use crate::bits::bits_between;
 use crate::centres::Centres;
-use crate::circle::{squared_distance, squared_height};
+use crate::circle::squared_height;
 use crate::offsets::Offsets;
 use crate::turns::{RowTest, turn_near};
 use cam_shapes::{Cap, Disc};
@@ -148,33 +148,15 @@ fn is_within(distance: i64, room: u128) -> bool
 }
 
 impl Chord {
-    /// The row of the centres in a cap's circle, or on it before its centre, with no root and no division: an end of
-    /// the row's chord is inside where it is left of the middle, or is the circle's lowest place.
+    /// The row of the centres in a cap's circle, or on it before its centre: those of its run.
     pub(crate) fn cap_row(&mut self, cap: &Cap, centres: &Centres) -> u64
         requires cap { IsSoundCap cap.now }
         requires row { IsRow centres.now }
         ensures { Marks result centres.now
             (λ s. IsTrue (is_in_circle (way cap.now.centre cap.now.from) (seen_from cap.now.centre s))) }
     {
-        let radius = squared_distance(&cap.centre, &cap.from);
-        let height = squared_height(&cap.centre, centres);
-        if height > radius {
-            return 0;
-        }
-        let room = radius - height;
-        let to_right = right_room(room, centres.first.y < 2 * cap.centre.y);
-        let offsets = Offsets::from(&cap.centre, centres);
-        let left = BeforeChord {
-            offsets,
-            room: room + 1,
-        };
-        let right = BeforeEnd {
-            offsets,
-            room: to_right,
-        };
-        self.first = turn_near(&left, self.first, centres.count);
-        self.end = turn_near(&right, self.end, centres.count);
-        bits_between(self.first, self.end)
+        let run = self.cap_run(cap, centres);
+        bits_between(run.first, run.end)
     }
 }
 

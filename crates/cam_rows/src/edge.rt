@@ -122,7 +122,7 @@ fn kept_between(number: i128, least: i64, most: i64) -> i64
 }
 
 /// Whether the point is higher than the centres.
-fn is_above(point: &Point, centres: &Centres) -> bool
+pub(crate) fn is_above(point: &Point, centres: &Centres) -> bool
     requires { IsOnBoard point.now }
     ensures { result ≡ is_above point.now centres.now.first }
 {

@@ -1,6 +1,6 @@
 //! Half planes, row after row: the centres on one side of a line, by the sign of a number.
 
-ghost use Rattle.std.specs.Prelude.{◌^◌, ◌<◌, pos, ◌+ℤ◌, ◌≤ℤ◌};
+ghost use Rattle.std.specs.Prelude.{◌≡◌, ◌^◌, ◌<◌, pos, ◌+ℤ◌, ◌-ℤ◌, ◌*ℤ◌, ◌≤ℤ◌};
 ghost use Rattle.std.specs.Int.RustNames.{unsigned_abs};
 ghost use Rattle.cam_units.specs.Board.{IsOnBoard};
 ghost use Rattle.cam_shapes.specs.Plane.{cross, dot, seen_from, way};
@@ -43,8 +43,9 @@ impl HalfPlane {
         requires to { IsOnBoard to.now }
         requires reach { unsigned_abs reach < 2 ^ 64 }
         requires row { IsRow top.now }
-        ensures { IsHalfPlaneOf top.now
+        ensures holds { IsHalfPlaneOf top.now
             (λ s. pos 0 ≤ℤ (cross (way from.now to.now) (seen_from from.now s) +ℤ reach)) result }
+        ensures step { result.row.step ≡ (pos 0 -ℤ (way from.now to.now).y) *ℤ top.now.step }
     {
         HalfPlane {
             row: across(from, to, top).raised(reach),

@@ -25,12 +25,15 @@
 //! - [`edge_row`], [`cap_row`]: parts of a region; [`turn_edge`] turns over what an edge of it changes, [`edge_end`]
 //!   tells where that ends at one height.
 //! - [`bar_runs`], [`disc_runs`], [`hole_runs`], [`rect_runs`], [`obround_runs`], [`swept_runs`]: the same in rows of up
-//!   to 32,768 centres, a run of columns for each row; [`run_row`]: the bits of a part of it.
+//!   to 32,768 centres, a run of columns for each row; [`run_row`]: the bits of a part of it. [`cap_runs`] and
+//!   [`edge_runs`] are those of parts of a region: a run of an edge begins at the leftmost column.
 //! - [`ring_of`], [`outer_runs`], [`hollow_runs`], [`beyond_runs`]: an arc in such rows.
+//! - [`mark_end`], [`spread_marks`]: marks in rows of tiles side by side, of which each turns over all columns left of it,
+//!   and the columns that all of them together turn over.
 //! - [`or_rows`], [`clear_rows`], [`xor_rows`]: the 64 rows of a tile; [`pbm_bytes`]: a row in a file.
 //!
 //! What a row is stands in `specs/Rows.antt`, what a run is in `specs/Runs.antt`, the runs of an arc in
-//! `specs/ArcRuns.antt`, rows joined lane by lane in `specs/Lanes.antt`.
+//! `specs/ArcRuns.antt`, rows joined lane by lane in `specs/Lanes.antt`, what a mark turns over in `specs/Marks.antt`.
 #![tactic(auto)]
 
 mod arc;
@@ -50,6 +53,7 @@ mod keeping;
 mod lanes;
 mod laws;
 mod linear;
+mod marks;
 mod obround;
 mod offsets;
 mod rect;
@@ -72,12 +76,15 @@ pub use edge::{edge_end, edge_row, turn_edge};
 pub use hole::{hole_row, hole_rows};
 pub use lanes::{clear_rows, or_rows, pbm_bytes, xor_rows};
 pub use laws::arc_is_its_runs;
+pub use marks::{mark_end, spread_marks};
 pub use obround::{obround_row, obround_rows};
 pub use rect::{rect_row, rect_rows};
 pub use ring::{Ring, ring_of};
 pub use runs::arc::{beyond_runs, hollow_runs, outer_runs};
 pub use runs::bar::bar_runs;
+pub use runs::cap::cap_runs;
 pub use runs::disc::disc_runs;
+pub use runs::edge::edge_runs;
 pub use runs::hole::hole_runs;
 pub use runs::obround::obround_runs;
 pub use runs::rect::rect_runs;

@@ -3,8 +3,10 @@
 pub(crate) mod arc;
 pub(crate) mod bar;
 mod boxes;
+pub(crate) mod cap;
 mod circle;
 pub(crate) mod disc;
+pub(crate) mod edge;
 pub(crate) mod hole;
 mod narrowing;
 pub(crate) mod obround;

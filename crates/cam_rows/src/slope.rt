@@ -1,5 +1,6 @@
 //! Half planes, row after row: where a run ends moves by a quotient and a remainder from each row to the next.
 
+mod counting;
 mod narrowing;
 
 ghost use Rattle.std.specs.Prelude.{◌≡◌, ◌-◌, ◌^◌, ◌/◌, ◌<◌, ◌≤◌, ◌↔◌, IsTrue, ℕ, length, pos, ◌+ℤ◌, ◌*ℤ◌, ◌≤ℤ◌, ◌<ℤ◌};

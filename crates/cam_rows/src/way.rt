@@ -129,6 +129,7 @@ pub(crate) fn across(from: &Point, to: &Point, centres: &Centres) -> Linear
     requires row { IsRow centres.now }
     ensures value { (i : ℕ) → number_at result i
         ≡ cross (way from.now to.now) (seen_from from.now (centre_at centres.now i)) }
+    ensures step { result.step ≡ (pos 0 -ℤ (way from.now to.now).y) *ℤ centres.now.step }
     ensures fits { IsShortLinear result }
 {
     Way::between(from, to).turned_left().dots(from, centres)

@@ -32,3 +32,9 @@ pub record AreNarrowed (columns : ℕ) (firsts ends : List ℕ) (IsHeld : ℕ �
   pub within : (k : ℕ) → slice_index new_ends k ≤ slice_index ends k
   pub same_firsts : (k : ℕ) → end ≤ k → slice_index new_firsts k ≡ slice_index firsts k
   pub same_ends : (k : ℕ) → end ≤ k → slice_index new_ends k ≡ slice_index ends k
+
+-- in so many rows from the top one on, the ends of runs from the left: of so many columns those lie before them that are
+-- held there
+pub record AreCounted (columns : ℕ) (IsHeld : ℕ → ℕ → Type 0) (end : ℕ) (ends : List ℕ) : Type 0 where
+  pub each : (k i : ℕ) → k < end → i < columns → (i < slice_index ends k) ↔ IsHeld k i
+  pub within : (k : ℕ) → k < end → slice_index ends k ≤ columns

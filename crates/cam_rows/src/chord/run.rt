@@ -1,20 +1,21 @@
 //! Chords in wide rows.
 
-ghost use Rattle.std.specs.Prelude.{◌↔◌, ◌^◌, ◌<◌, ◌≤◌, ℕ, pos, ◌<ℤ◌};
+ghost use Rattle.std.specs.Prelude.{◌↔◌, ◌^◌, ◌<◌, ◌≤◌, ℕ, IsTrue, pos, ◌<ℤ◌};
 ghost use Rattle.cam_units.specs.Board.{IsOnBoard};
+ghost use Rattle.cam_shapes.specs.Cap.{IsSoundCap, is_in_circle};
 ghost use Rattle.cam_shapes.specs.Disc.{IsInDisc, IsSoundDisc};
-ghost use Rattle.cam_shapes.specs.Plane.{square};
+ghost use Rattle.cam_shapes.specs.Plane.{seen_from, square, way};
 ghost use Rattle.cam_rows.specs.Machinery.Chords.{AreWideOffsets, offset};
 ghost use Rattle.cam_rows.specs.Rows.{centre_at};
 ghost use Rattle.cam_rows.specs.Runs.{IsInRun, IsWideRow};
 
-use super::{BeforeChord, BeforeEnd, Chord};
+use super::{BeforeChord, BeforeEnd, Chord, right_room};
 use crate::centres::Centres;
-use crate::circle::{half_chord, squared_height};
+use crate::circle::{half_chord, squared_distance, squared_height};
 use crate::offsets::Offsets;
 use crate::runs::Run;
 use crate::turns::turn_near;
-use cam_shapes::Disc;
+use cam_shapes::{Cap, Disc};
 use cam_units::Point;
 
 impl Chord {
@@ -50,6 +51,41 @@ impl Chord {
         let offsets = *offsets;
         self.first = turn_near(&BeforeChord { offsets, room }, self.first, offsets.count);
         self.end = turn_near(&BeforeEnd { offsets, room }, self.end, offsets.count);
+        Run {
+            first: self.first,
+            end: self.end,
+        }
+    }
+
+    /// The run of the columns in a cap's circle, or on it before its centre, with no root and no division: an end of the
+    /// row's chord is inside where it is left of the middle, or is the circle's lowest place.
+    pub(crate) fn cap_run(&mut self, cap: &Cap, row: &Centres) -> Run
+        requires cap { IsSoundCap cap.now }
+        requires row { IsWideRow row.now }
+        ensures each { (i : ℕ) → i < row.now.count → IsInRun result.first result.end i
+            ↔ IsTrue (is_in_circle (way cap.now.centre cap.now.from)
+            (seen_from cap.now.centre (centre_at row.now i))) }
+        ensures ordered { result.first ≤ result.end }
+        ensures within { result.end ≤ row.now.count }
+    {
+        let radius = squared_distance(&cap.centre, &cap.from);
+        let height = squared_height(&cap.centre, &row.leftmost());
+        if height > radius {
+            return Run { first: 0, end: 0 };
+        }
+        let room = radius - height;
+        let to_right = right_room(room, row.first.y < 2 * cap.centre.y);
+        let offsets = row.offsets_from(&cap.centre);
+        let left = BeforeChord {
+            offsets,
+            room: room + 1,
+        };
+        let right = BeforeEnd {
+            offsets,
+            room: to_right,
+        };
+        self.first = turn_near(&left, self.first, row.count);
+        self.end = turn_near(&right, self.end, row.count);
         Run {
             first: self.first,
             end: self.end,

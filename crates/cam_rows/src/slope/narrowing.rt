@@ -102,9 +102,10 @@ fn part_beside(side: Side, end: i64, run: Run, columns: u32) -> Run
 
 /// How many columns lie left of the column `end` or are that one.
 #[inline]
-fn columns_up_to(end: i64, columns: u32) -> u32
+pub(super) fn columns_up_to(end: i64, columns: u32) -> u32
     requires few { columns ≤ most_columns }
-    ensures { (i : ℕ) → i < columns → (i < result) ↔ (pos i ≤ℤ end) }
+    ensures each { (i : ℕ) → i < columns → (i < result) ↔ (pos i ≤ℤ end) }
+    ensures within { result ≤ columns }
 {
     if end < 0 {
         return 0;

@@ -26,7 +26,7 @@ kept_reach : (reach : ℤ) → unsigned_abs reach < 2 ^ 64 → to_z w128 (of_z w
 kept_reach reach short = kept_number reach (omega (arith, short))
 
 pub keep-requires-then-keep : goal.keep-requires-then-keep
-keep-requires-then-keep c = c.left-then-keep.ensures.short _ (rw c.keep.auto.rows c.requires.rows)
+keep-requires-then-keep c = c.left-then-keep.ensures.holds.short _ (rw c.keep.auto.rows c.requires.rows)
 
 at_edge : (c : After-keep)
     → AreKept c.args.rows.now (Has c.args.top.now (IsLeft c.args.from.now c.args.to.now c.args.reach)) c.keep.new.rows
@@ -35,7 +35,7 @@ at_edge c =
     let to = c.args.to.now in
     let reach = c.args.reach in
     kept_first c.args.rows.now c.keep.new.rows c.args.top.now c.left.result (IsLeft from to reach)
-    (rw (kept_reach reach c.requires.reach) at c.left.ensures) c.keep.ensures.kept
+    (rw (kept_reach reach c.requires.reach) at c.left.ensures.holds) c.keep.ensures.kept
 
 pub returns-else-keep : goal.returns-else-keep
 returns-else-keep c =
@@ -60,6 +60,6 @@ returns-then-keep c =
     kept_same old new (λ k i. Has top (IsLeft from to reach) k i × Has top (IsLeft to from reach) k i)
     (Has top (IsNear from to reach))
     (kept_next old c.keep.new.rows new (Has top (IsLeft from to reach)) top c.left-then-keep.result
-    (IsLeft to from reach) (rw (kept_reach reach c.requires.reach) at c.left-then-keep.ensures) c.keep.auto.rows
+    (IsLeft to from reach) (rw (kept_reach reach c.requires.reach) at c.left-then-keep.ensures.holds) c.keep.auto.rows
     (at_edge known.After-keep) c.keep-then-keep.ensures.kept)
     (near_both top from to reach)

@@ -22,10 +22,10 @@ returns-then-cap c =
     let tie = to_z w128 c.if-leads_down_or_right.tie-bits in
     let told = decided ((goal.at.returns-then-cap c).Joined-leads_down_or_right) in
     right_side cap c.args.top.now tie _ c.left.result c.if-cap.true told (other_tie (way cap.from cap.to) tie told)
-    c.left.ensures
+    c.left.ensures.holds
 
 pub returns : goal.returns
 returns c =
     let cap = c.args.cap.now in
     left_side cap c.args.top.now (to_z w128 c.if-leads_down_or_right.tie-bits) c.left-2.result c.if-cap.false
-    (decided ((goal.at.returns c).Joined-leads_down_or_right)) c.left-2.ensures
+    (decided ((goal.at.returns c).Joined-leads_down_or_right)) c.left-2.ensures.holds

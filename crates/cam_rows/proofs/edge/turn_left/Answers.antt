@@ -18,7 +18,7 @@ left-requires-clause-row c =
     top_is_row c.args.top.now (length c.args.rows.now) (search arith) c.requires.rows
 
 pub turn-requires : goal.turn-requires
-turn-requires c = c.left.ensures.short (length c.args.rows.now) c.requires.rows
+turn-requires c = c.left.ensures.holds.short (length c.args.rows.now) c.requires.rows
 
 pub returns : goal.returns
 returns c =
@@ -27,5 +27,5 @@ returns c =
     turned_same c.args.rows.now top (λ s. pos 0 ≤ℤ (cross (way from c.args.to.now) (seen_from from s) +ℤ negsuc 0))
     (λ s. pos 0 <ℤ cross (way from c.args.to.now) (seen_from from s)) c.turn.new.rows
     (changed_same Turn c.args.rows.now (HasCentre c.left.result) _ c.turn.new.rows c.turn.ensures
-    (λ k i _ _. c.left.ensures.has k i))
+    (λ k i _ _. c.left.ensures.holds.has k i))
     (λ k i _. less_natural (cross (way from c.args.to.now) (seen_from from (centre_at (row_below top k) i))))

@@ -7,8 +7,8 @@ use Rattle.cam_rows.proofs.HalfPlanes.{by_numbers, cross_fits, raised_below, rai
 use Rattle.cam_rows.proofs.Quotients.{kept_number}
 use Rattle.cam_rows.proofs.half_plane.HalfPlane.left.Goals as goal
 
-pub returns : goal.returns
-returns c =
+pub returns-clause-holds : goal.returns-clause-holds
+returns-clause-holds c =
     let from = c.args.from.now in
     let to = c.args.to.now in
     let top = c.args.top.now in

@@ -12,13 +12,13 @@ leftmost-left-requires c = top_is_wide c.args.top.now (length c.args.firsts.now)
 
 pub narrow-requires-clause-short : goal.narrow-requires-clause-short
 narrow-requires-clause-short c =
-    c.left.ensures.short _
+    c.left.ensures.holds.short _
     (leftmost_rows c.args.top.now c.leftmost-left.result (length c.args.firsts.now) _ c.leftmost-left.ensures.value
     c.fill.ensures.len c.requires.rows)
 
 pub narrow-requires-2-clause-short : goal.narrow-requires-2-clause-short
 narrow-requires-2-clause-short c =
-    c.left-2.ensures.short _
+    c.left-2.ensures.holds.short _
     (leftmost_rows c.args.top.now c.leftmost-left.result (length c.args.firsts.now) _ c.leftmost-left.ensures.value
     (c.narrow.auto.firsts ∙ c.fill.ensures.len) c.requires.rows)
 
@@ -68,9 +68,9 @@ returns c =
     (λ k within. c.fill-2.ensures.clones k 0
     (omega (arith, within, c.fill.ensures.len, c.requires.ends)) refl) in
     let one = runs_narrowed c.fill.new.self c.fill-2.new.self c.narrow.new.firsts c.narrow.new.ends top left IsAny
-    (IsLeft bar.from bar.to (reach at)) c.left.result is c.left.ensures all c.narrow.ensures c.narrow.auto.firsts in
+    (IsLeft bar.from bar.to (reach at)) c.left.result is c.left.ensures.holds all c.narrow.ensures c.narrow.auto.firsts in
     let two = runs_narrowed _ _ c.narrow-2.new.firsts c.narrow-2.new.ends top left _
-    (IsLeft bar.to bar.from (reach at)) c.left-2.result is c.left-2.ensures one c.narrow-2.ensures
+    (IsLeft bar.to bar.from (reach at)) c.left-2.result is c.left-2.ensures.holds one c.narrow-2.ensures
     c.narrow-2.auto.firsts in
     let three = runs_narrowed _ _ c.narrow-3.new.firsts c.narrow-3.new.ends top left _
     (IsAhead bar.from bar.to) c.ahead.result is c.ahead.ensures two c.narrow-3.ensures c.narrow-3.auto.firsts in

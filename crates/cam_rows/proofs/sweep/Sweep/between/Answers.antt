@@ -58,4 +58,4 @@ returns c =
     (other_points c.args.start.now c.args.end.now c.eq.result c.eq.ensures c.if-eq.false)
     (λ e. rw turn.ensures.value at (right_by_test turn.result turn.ensures.bound e))
     (λ e. narrow_by_turn start end turn.result turn.ensures.value (left_by_test turn.result turn.ensures.bound e) back)
-    c.left.ensures c.left-2.ensures
+    c.left.ensures.holds c.left-2.ensures.holds

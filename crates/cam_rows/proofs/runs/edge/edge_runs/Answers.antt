@@ -1,0 +1,54 @@
+use Rattle.std.proofs.Common.{◌≡◌, IsTrue, pos, ◌<ℤ◌, length, sym, ◌∙◌, arith, rules}
+use Rattle.cam_shapes.specs.Edge.{crosses_ray, edge, is_above}
+use Rattle.cam_shapes.specs.Plane.{cross, seen_from, way}
+use Rattle.cam_rows.proofs.CountedRuns.{ends_like}
+use Rattle.cam_rows.proofs.EdgeSides.{falls_through, falls_to, rises_through, rises_to}
+use Rattle.cam_rows.proofs.WideRows.{top_is_wide}
+use Rattle.cam_rows.proofs.runs.edge.edge_runs.Goals as goal
+use Rattle.cam_rows.proofs.runs.edge.edge_runs.Goals.{After-is_above}
+
+-- whether the start is above the top row
+told : (c : After-is_above) → c.is_above.result ≡ is_above c.args.from c.args.top.now.first
+told c = rw c.leftmost.ensures.value at c.is_above.ensures
+
+pub leftmost-requires : goal.leftmost-requires
+leftmost-requires c = top_is_wide c.args.top.now (length c.args.ends.now) (search rules) c.requires.rows
+
+pub runs_left-requires-clause-rises : goal.runs_left-requires-clause-rises
+runs_left-requires-clause-rises c =
+    falls_to c.args.from c.args.to c.args.top.now
+    (sym (told (goal.at.runs_left-requires-clause-rises c).After-is_above) ∙ c.if-is_above.true)
+    (c.requires.crossed 0 (search rules))
+
+pub runs_left-requires-else-is_above-clause-rises : goal.runs_left-requires-else-is_above-clause-rises
+runs_left-requires-else-is_above-clause-rises c =
+    rises_to c.args.from c.args.to c.args.top.now
+    (sym (told (goal.at.runs_left-requires-else-is_above-clause-rises c).After-is_above) ∙ c.if-is_above.false)
+    (c.requires.crossed 0 (search rules))
+
+pub returns-then-is_above : goal.returns-then-is_above
+returns-then-is_above c =
+    let p = c.args.from in
+    let q = c.args.to in
+    let size = c.runs_left.auto.ends in
+    ends_like c.runs_left.new.ends c.args.top.now (λ s. pos 0 <ℤ cross (way q p) (seen_from q s))
+    (λ s. IsTrue (crosses_ray s (edge p q)))
+    (λ k i within.
+    falls_through p q c.args.top.now k i (c.requires.rows k (omega (arith, within, size))).step
+    (sym (told (goal.at.returns-then-is_above c).After-is_above) ∙ c.if-is_above.true)
+    (c.requires.crossed k (omega (arith, within, size))))
+    c.runs_left.ensures
+
+pub returns-else-is_above : goal.returns-else-is_above
+returns-else-is_above c =
+    let p = c.args.from in
+    let q = c.args.to in
+    let size = c.runs_left-else-is_above.auto.ends in
+    ends_like c.runs_left-else-is_above.new.ends c.args.top.now (λ s. pos 0 <ℤ cross (way p q) (seen_from p s))
+    (λ s. IsTrue (crosses_ray s (edge p q)))
+    (λ k i within.
+    rises_through p q c.args.top.now k i (c.requires.rows k (omega (arith, within, size))).step
+    (sym (told (goal.at.returns-else-is_above c).After-is_above) ∙ c.if-is_above.false)
+    (c.requires.crossed 0 (omega (arith, within, size)))
+    (c.requires.crossed k (omega (arith, within, size))))
+    c.runs_left-else-is_above.ensures

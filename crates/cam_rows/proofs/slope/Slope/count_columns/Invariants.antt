@@ -1,0 +1,10 @@
+use Rattle.std.proofs.Common.{◌≡◌, ◌<◌, ◌-◌, length}
+use Rattle.cam_rows.specs.Machinery.Narrowing.{AreCounted, IsUp}
+use Rattle.cam_rows.specs.Machinery.Slopes.{lowered}
+use Rattle.cam_rows.proofs.slope.Slope.count_columns.Given as goal
+
+abbrev pub invariant-loop-k : goal.invariant-loop-k
+invariant-loop-k l = record {
+  slope : l.k < length l.ends → l.slope ≡ lowered (l.k - 1) l.fn.self;
+  counted : AreCounted l.columns (IsUp l.fn.self) l.k l.ends;
+}

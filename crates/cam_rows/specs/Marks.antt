@@ -1,0 +1,42 @@
+-- Marks in rows of tiles side by side: each turns over all columns left of it, and its own.
+use Rattle.std.specs.Prelude.{◌≡◌, ◌≢◌, ◌↔◌, ◌⊎◌, ℕ, zero, suc, ◌+◌, ◌-◌, ◌*◌, ◌/◌, ◌%◌, ◌<◌, ◌==◌, Bool, false, IsTrue, List, length}
+use Rattle.std.specs.Prelude.{slice_index}
+use Rattle.std.specs.Int.{bit_at}
+use Rattle.cam_shapes.specs.Sides.{differ}
+
+-- whether a test holds at an odd number of so many columns, from one on
+abbrev pub is_odd : (ℕ → Bool) → ℕ → ℕ → Bool
+is_odd holds zero column = false
+is_odd holds (suc n) column = differ (holds column) (is_odd holds n (column + 1))
+
+-- whether bit i of a word is set
+abbrev pub is_set : ℕ → ℕ → Bool
+is_set word i = bit_at word i == 1
+
+-- whether a column of a row is marked: each tile has 64 words, one for each of its rows, from the top, and its columns
+-- are their bits
+abbrev pub is_marked : List ℕ → ℕ → ℕ → Bool
+is_marked marks row column = is_set (slice_index marks (64 * (column / 64) + row)) (column % 64)
+
+-- whether the marks of a row at a column and right of it are odd in number; a tile has as many columns as words
+abbrev pub is_turned : List ℕ → ℕ → ℕ → Bool
+is_turned marks row column = is_odd (is_marked marks row) (length marks - column) column
+
+-- all columns of a row before an end are turned over, and the others stay as they were
+abbrev pub TurnsBefore : ℕ → ℕ → List ℕ → List ℕ → Type 0
+TurnsBefore row end old new =
+    (r column : ℕ) → r < 64 → column < length old
+    → (let was = IsTrue (is_turned old r column) in
+    let held = (r ≡ row) × (column < end) in
+    IsTrue (is_turned new r column) ↔ ((was × (held → ⊥)) ⊎ ((was → ⊥) × held)))
+
+-- the columns that are turned in one list of marks are marked in another
+abbrev pub AreSpread : List ℕ → List ℕ → Type 0
+AreSpread old new =
+    (row column : ℕ) → row < 64 → column < length old
+    → is_marked new row column ≡ is_turned old row column
+
+-- so it is in one row, and the others stay as they were
+pub record IsRowSpread (row : ℕ) (old new : List ℕ) : Type 0 where
+  pub here : (column : ℕ) → column < length old → is_marked new row column ≡ is_turned old row column
+  pub others : (r column : ℕ) → r < 64 → r ≢ row → is_marked new r column ≡ is_marked old r column

@@ -1,0 +1,49 @@
+//! Runs of caps.
+
+ghost use Rattle.std.specs.Prelude.{◌≡◌, ◌<◌, IsTrue, length};
+ghost use Rattle.cam_shapes.specs.Cap.{IsSoundCap, is_in_cap, is_in_circle};
+ghost use Rattle.cam_shapes.specs.Plane.{seen_from, way};
+ghost use Rattle.cam_rows.specs.Runs.{AreRuns, AreWideRows};
+
+use crate::cap::side;
+use crate::centres::Centres;
+use crate::chord::Chord;
+use crate::circle::squared_distance;
+use cam_shapes::Cap;
+
+/// The runs of a cap in wide rows, one below another from the top one: the columns in its circle and on its side of the
+/// chord, with the ties of `cam_shapes::in_cap`. A run goes from its first column on and before its end; points are in
+/// nanometres, the centres in half nanometres, up to 32,768 of them in a row.
+pub fn cap_runs(cap: &Cap, top: &Centres, firsts: &mut [u32], ends: &mut [u32])
+    requires cap { IsSoundCap cap.now }
+    requires rows { AreWideRows top.now (length firsts.old) }
+    requires ends { length ends.old ≡ length firsts.old }
+    ensures { AreRuns firsts.new ends.new top.now (λ s. IsTrue (is_in_cap s cap.now)) }
+{
+    if firsts.is_empty() {
+        return;
+    }
+    circle_runs(cap, top, firsts, ends);
+    if cap.from == cap.to {
+        return;
+    }
+    side(cap, &top.leftmost()).narrow(top.count, firsts, ends);
+}
+
+/// The runs of a cap's circle.
+fn circle_runs(cap: &Cap, top: &Centres, firsts: &mut [u32], ends: &mut [u32])
+    requires cap { IsSoundCap cap.now }
+    requires some { 0 < length firsts.old }
+    requires rows { AreWideRows top.now (length firsts.old) }
+    requires ends { length ends.old ≡ length firsts.old }
+    ensures { AreRuns firsts.new ends.new top.now
+        (λ s. IsTrue (is_in_circle (way cap.now.centre cap.now.from) (seen_from cap.now.centre s))) }
+{
+    let radius = squared_distance(&cap.centre, &cap.from);
+    let mut chord = Chord::near(&cap.centre, radius, top);
+    for k in 0..firsts.len() {
+        let run = chord.cap_run(cap, &top.wide_below(k));
+        firsts[k] = run.first;
+        ends[k] = run.end;
+    }
+}
