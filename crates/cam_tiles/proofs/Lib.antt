@@ -36,6 +36,7 @@ pub mod Stamps
 pub mod StepLemmas
 pub mod Strips
 pub mod SwathLayouts
+pub mod SwathRows
 pub mod TableFacts
 pub mod TablePixels
 pub mod TileCounts

@@ -1,23 +1,22 @@
 -- Columns of runs, by the bits of masks.
-use Rattle.std.proofs.Common.{◌≡◌, ◌↔◌, ◌⊎◌, ℕ, ◌+◌, ◌-◌, ◌*◌, ◌<◌, ◌≤◌, ℤ, pos, ◌+ℤ◌, ◌-ℤ◌, ◌*ℤ◌, ◌≤ℤ◌}
+use Rattle.std.proofs.Common.{◌≡◌, ◌↔◌, ◌⊎◌, ℕ, ◌+◌, ◌-◌, ◌<◌, ◌≤◌, ℤ, pos, ◌+ℤ◌, ◌-ℤ◌, ◌*ℤ◌}
 use Rattle.std.proofs.Common.{Bool, true, false, List, length, slice_index, inl, inr, refl, arith}
-use Rattle.std.specs.Int.RustNames.{unsigned_abs}
 use Rattle.std.proofs.lemmas.Bool.{cases_lt}
 use Rattle.std.proofs.lemmas.Int.{ints}
 use borrow.Rule.Slice.PartMut.{put_mid}
-use Rattle.cam_units.specs.Board.{IsInReach, IsPlace, place_limit}
+use Rattle.cam_units.specs.Board.{IsInReach, IsPlace}
 use Rattle.cam_units.specs.declared.length.Nm.{Nm}
 use Rattle.cam_units.specs.declared.point.Point.{Point}
 use Rattle.cam_units.specs.declared.point.Spot.{Spot}
 use Rattle.cam_units.proofs.Ring.{equal}
-use Rattle.cam_units.proofs.Ring.Polynomial.{Atom, Difference, Product, Sum}
+use Rattle.cam_units.proofs.Ring.Polynomial.{Atom, Difference, Product}
 use Rattle.cam_shapes.specs.Bar.{IsInBar, IsInCapsule}
 use Rattle.cam_shapes.specs.Disc.{IsInDisc}
 use Rattle.cam_shapes.specs.declared.capsule.Capsule.{Capsule}
 use Rattle.cam_objects.specs.Image.{relative}
 use Rattle.cam_rows.specs.declared.centres.Centres.{Centres}
 use Rattle.cam_rows.specs.Rows.{centre_at, row_below}
-use Rattle.cam_rows.specs.Runs.{AreRuns, AreWideRows, IsInRun, IsWideRow, most_columns}
+use Rattle.cam_rows.specs.Runs.{AreRuns, AreWideRows, IsInRun, IsWideRow}
 use Rattle.cam_rows.proofs.CapsuleParts.{bar_of, end_of, in_capsule, start_of}
 use Rattle.cam_tiles.specs.declared.grid.Grid.{Grid}
 use Rattle.cam_tiles.specs.declared.masks.heights.Heights.{Heights}
@@ -26,9 +25,8 @@ use Rattle.cam_tiles.specs.declared.masks.runs.Runs.{Runs}
 use Rattle.cam_tiles.specs.declared.masks.strokes.StrokeRuns.{StrokeRuns}
 use Rattle.cam_tiles.specs.Machinery.Levels.{IsOnRow, height, levels_of}
 use Rattle.cam_tiles.specs.Machinery.Masks.{IsIn, IsMarked, IsWithin, Joins, Marking, inked, joined}
-use Rattle.cam_tiles.specs.Machinery.Runs.{HasColumn, HasPart, IsWideGrid, StandsAt, Tells, TellsStroke}
-use Rattle.cam_tiles.specs.Tiles.{IsGrid, centre_in}
-use Rattle.cam_tiles.proofs.GridBoxes.{steps_up}
+use Rattle.cam_tiles.specs.Machinery.Runs.{AllFit, HasColumn, HasPart, IsToldAt, IsWideGrid, Tells, TellsStroke}
+use Rattle.cam_tiles.specs.Tiles.{centre_in}
 use Rattle.cam_tiles.proofs.Joined.{joined_like}
 use Rattle.cam_tiles.proofs.TurnedBands.{part_at}
 
@@ -130,8 +128,8 @@ module _ (g : Grid) (columns first : ℕ) where
       rw (is_x, is_y, is_step) (wide_rows wide k (omega (arith, within, size, few)))
 
 pub tells_band : (g : Grid) (columns first end : ℕ) (h : Heights) (IsHeld : Spot → Type 0) (x y step : ℤ)
-    (clear firsts ends : List ℕ) (from until : ℕ) → x ≡ g.first.x → y ≡ height (levels_of g) first → step ≡ g.step → first < end
-    → end ≤ g.rows → g.rows ≤ 64 → length clear ≡ 64 → length firsts ≡ end - first → length ends ≡ end - first
+    (clear clear_ends firsts ends : List ℕ) (from until : ℕ) → x ≡ g.first.x → y ≡ height (levels_of g) first → step ≡ g.step → first < end
+    → end ≤ g.rows → g.rows ≤ 64 → length clear ≡ 64 → length clear_ends ≡ 64 → length firsts ≡ end - first → length ends ≡ end - first
     → ((row : ℕ) (s : Spot) → IsOnRow (levels_of g) row s → ((first ≤ row) × (row < end)) ↔ IsWithin h s)
     → ((s : Spot) → IsHeld s → IsWithin h s)
     → AreRuns firsts ends (record { first = record { x = x; y = y }; step = step; count = columns }) IsHeld
@@ -140,21 +138,21 @@ pub tells_band : (g : Grid) (columns first end : ℕ) (h : Heights) (IsHeld : Sp
     → Tells g columns IsHeld (record {
       band = record { first = first; end = end };
       firsts = put_mid first (end - first) clear firsts;
-      ends = put_mid first (end - first) clear ends;
-      first = from;
-      end = until;
+      ends = put_mid first (end - first) clear_ends ends;
+      columns = record { first = from; end = until };
     })
-tells_band g columns first end h IsHeld x y step clear firsts ends from to is_x is_y is_step some low few whole firsts_size
-    ends_size rows heights runs spanned =
+tells_band g columns first end h IsHeld x y step clear clear_ends firsts ends from to is_x is_y is_step some low few whole
+    whole_ends firsts_size ends_size rows heights runs spanned =
     let told = rw (is_x, is_y, is_step) at runs.each in
     let long : end ≤ length clear = omega (arith, whole, low, few) in
+    let long_ends : end ≤ length clear_ends = omega (arith, whole_ends, low, few) in
     record {
       fits = record {
         low = low;
         spanned = λ row column on.
             let here = rw (
               part_at first end clear firsts some long firsts_size row on.0 on.1,
-              part_at first end clear ends some long ends_size row on.0 on.1,
+              part_at first end clear_ends ends some long_ends ends_size row on.0 on.1,
             ) at on.2 in
             spanned (row - first) column (omega (arith, firsts_size, on.0, on.1)) here;
       };
@@ -163,12 +161,12 @@ tells_band g columns first end h IsHeld x y step clear firsts ends from to is_x 
           let inside = rows row s (within, refl) in
           let here : first ≤ row → row < end
           → IsInRun (slice_index (put_mid first (end - first) clear firsts) row)
-          (slice_index (put_mid first (end - first) clear ends) row) column ↔ IsHeld s = λ after until.
+          (slice_index (put_mid first (end - first) clear_ends ends) row) column ↔ IsHeld s = λ after until.
           let k = row - first in
           let same : first + k ≡ row = omega arith in
           rw (
             part_at first end clear firsts some long firsts_size row after until,
-            part_at first end clear ends some long ends_size row after until,
+            part_at first end clear_ends ends some long_ends ends_size row after until,
           )
           (rw (below_top g columns first k column, same) at (told k column (omega (arith, firsts_size, until, after)) near)) in (
             (λ on. (here on.0 on.1).0 on.2),
@@ -177,53 +175,6 @@ tells_band g columns first end h IsHeld x y step clear firsts ends from to is_x 
                 (band.0, band.1, (here band.0 band.1).1 held)),
           );
     }
-
--- ---- grids side by side
-
-stepped_on : (x s : ℤ) (column i : ℕ) → x +ℤ pos column *ℤ s +ℤ pos i *ℤ s ≡ x +ℤ pos (column + i) *ℤ s
-stepped_on x s column i =
-    equal
-    (Sum (Sum (Atom x) (Product (Atom (pos column)) (Atom s))) (Product (Atom (pos i)) (Atom s)))
-    (Sum (Atom x) (Product (Atom (pos (column + i))) (Atom s)))
-    (omega arith)
-
-spot_is : (x y x' y' : ℤ) → x ≡ x' → y ≡ y' → ◌≡◌ {A = Spot} record { x = x; y = y } record { x = x'; y = y' }
-spot_is x y x' y' e f = rw (e, f) refl
-
-pub stands_at : (g other : Grid) (column gap pitch : ℕ) → other.first.y ≡ g.first.y → other.rows ≡ g.rows
-    → other.step ≡ g.step → other.first.x ≡ g.first.x +ℤ pos gap → g.step ≡ pos pitch → column * pitch ≡ gap
-    → column < most_columns → StandsAt g column other
-stands_at g other column gap pitch is_y is_rows is_step is_x is_pitch whole near =
-    let far : pos column *ℤ g.step ≡ pos gap = rw is_pitch (omega (arith, ints, whole)) in
-    record {
-      near = near;
-      rows = is_rows;
-      centres = λ i row.
-          spot_is _ _ _ _
-          (rw (is_x, is_step, ← far) (stepped_on g.first.x g.step column i))
-          (rw (is_y, is_step) refl);
-    }
-
-between : (x a b c : ℤ) → unsigned_abs (x +ℤ a) < place_limit → unsigned_abs (x +ℤ c) < place_limit → a ≤ℤ b → b ≤ℤ c
-    → unsigned_abs (x +ℤ b) < place_limit
-between x a b c first last from to = omega (arith, ints)
-
-pub wide_through : (g last : Grid) (column : ℕ) → IsGrid g → IsGrid last → StandsAt g column last
-    → column + last.columns ≤ most_columns → IsWideGrid g (column + last.columns)
-wide_through g last column grid other stands few = record {
-  grid = grid;
-  count = (omega (arith, other.columns.0), few);
-  centres = λ i row inside below.
-      let start = grid.centres 0 row (omega (arith, grid.columns.0)) below in
-      let there = other.centres (last.columns - 1) 0 (omega (arith, other.columns.0)) (omega (arith, other.rows.0)) in
-      let end = rw (stands.centres (last.columns - 1) 0) at there in
-      record {
-        x = between g.first.x (pos 0 *ℤ g.step) (pos i *ℤ g.step) (pos (column + (last.columns - 1)) *ℤ g.step)
-            start.x end.x (steps_up 0 i g.step grid.step (omega arith))
-            (steps_up i (column + (last.columns - 1)) g.step grid.step (omega (arith, inside)));
-        y = start.y;
-      };
-}
 
 -- ---- strokes
 
@@ -287,22 +238,32 @@ tells_like g columns P Q s same told = record {
       ((λ on. there.1 (here.0 on)), (λ held. here.1 (there.0 held)));
 }
 
--- marks that are joined with the runs of a stroke, where a mask stands in their rows
-pub joins_stroke : (g own : Grid) (columns column : ℕ) (how : Join) (IsHeld : Spot → Type 0) (stroke : StrokeRuns)
-    (old new : Marking) → own ≡ old.grid → TellsStroke g columns IsHeld stroke → StandsAt g column own
-    → column + own.columns ≤ columns → new.grid ≡ old.grid
+-- marks that are joined with the runs of a stroke, in whose rows a mask stands
+pub joins_stroke : (column : ℕ) (how : Join) (IsHeld : Spot → Type 0) (stroke : StrokeRuns) (old new : Marking)
+    → IsToldAt column old.grid IsHeld stroke → new.grid ≡ old.grid
     → ((i row : ℕ) → IsIn old.grid i row
     → IsMarked new i row ↔ joined how (IsMarked old i row) (HasPart stroke row (column + i)))
     → Joins how IsHeld old new
-joins_stroke g own columns column how IsHeld stroke old new is told stands within grid marks = record {
+joins_stroke column how IsHeld stroke old new told grid marks = record {
   grid = grid;
   marks = λ i row inside.
-      let here : IsIn own i row = rw is inside in
-      let part : HasPart stroke row (column + i) ↔ IsHeld (centre_in own i row) =
-      rw (stands.centres i row) (told.each (column + i) row (omega (arith, here.0, within))
-      (omega (arith, here.1, stands.rows))) in
-      joined_like how _ _ _ _ _ ((λ a. a), (λ a. a)) (rw is at part) (marks i row inside);
+      joined_like how _ _ _ _ _ ((λ a. a), (λ a. a)) (told.each i row inside) (marks i row inside);
 }
+
+-- all parts lie between two columns
+pub parts_spanned : (s : StrokeRuns) (rows from to disc_from disc_to row column : ℕ) → AllFit rows s
+    → ((k : ℕ) → ((s.start.columns.first ≤ k) × (k < s.start.columns.end))
+    ⊎ ((s.end.columns.first ≤ k) × (k < s.end.columns.end)) → (disc_from ≤ k) × (k < disc_to))
+    → ((k : ℕ) → ((s.bar.columns.first ≤ k) × (k < s.bar.columns.end)) ⊎ ((disc_from ≤ k) × (k < disc_to))
+    → (from ≤ k) × (k < to))
+    → HasPart s row column → IsInRun from to column
+parts_spanned s rows from to disc_from disc_to row column fit discs all part = elim part [
+  | inl before ↦ elim before [
+    | inl on ↦ all column (inl (fit.bar.spanned row column on))
+    | inr on ↦ all column (inr (discs column (inl (fit.start.spanned row column on))))
+  ]
+  | inr on ↦ all column (inr (discs column (inr (fit.end.spanned row column on))))
+]
 
 -- three parts are joined as one
 pub joined_parts : (dark : Bool) (A B C D New One Two : Type 0) → One ↔ joined (inked dark) A B

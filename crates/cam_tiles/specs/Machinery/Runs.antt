@@ -15,6 +15,7 @@ use Rattle.cam_rows.specs.Runs.{IsInRun, most_columns}
 use Rattle.cam_tiles.specs.declared.grid.Grid.{Grid}
 use Rattle.cam_tiles.specs.declared.masks.runs.Runs.{Runs}
 use Rattle.cam_tiles.specs.declared.masks.strokes.StrokeRuns.{StrokeRuns}
+use Rattle.cam_tiles.specs.Machinery.Masks.{IsIn}
 use Rattle.cam_tiles.specs.Tiles.{IsGrid, centre_in}
 
 -- a column is in the run of a row
@@ -25,7 +26,7 @@ HasColumn r row column =
 -- the band is one of so many rows, and all runs lie between two columns
 pub record Fits (rows : ℕ) (r : Runs) : Type 0 where
   pub low : r.band.end ≤ rows
-  pub spanned : (row column : ℕ) → HasColumn r row column → IsInRun r.first r.end column
+  pub spanned : (row column : ℕ) → HasColumn r row column → IsInRun r.columns.first r.columns.end column
 
 -- the rows of a grid go on to the right: so many columns from its left on
 pub record IsWideGrid (g : Grid) (columns : ℕ) : Type 0 where
@@ -60,6 +61,12 @@ pub record TellsStroke (g : Grid) (columns : ℕ) (IsHeld : Spot → Type 0) (s 
   pub fit : AllFit g.rows s
   pub each : (column row : ℕ) → column < columns → row < g.rows
       → HasPart s row column ↔ IsHeld (centre_in g column row)
+
+-- the same in the rows of a grid from a column on
+pub record IsToldAt (column : ℕ) (g : Grid) (IsHeld : Spot → Type 0) (s : StrokeRuns) : Type 0 where
+  pub near : column < most_columns
+  pub fit : AllFit g.rows s
+  pub each : (i row : ℕ) → IsIn g i row → HasPart s row (column + i) ↔ IsHeld (centre_in g i row)
 
 -- a figure is a stroke
 pub record IsStrokeOf (f : Figure) (c : Capsule) : Type 0 where
