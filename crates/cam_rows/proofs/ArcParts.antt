@@ -2,22 +2,15 @@
 use Rattle.std.proofs.Common.{◌≡◌, ◌-◌, ◌^◌, ◌<◌, ◌↔◌, ◌⊎◌, ℕ, pos, ◌<ℤ◌, List, length, slice_index, inl, inr, ◌∙◌}
 use Rattle.cam_units.specs.declared.point.Spot.{Spot}
 use Rattle.cam_shapes.specs.declared.arc.Arc.{Arc}
-use Rattle.cam_shapes.specs.declared.disc.Disc.{Disc}
 use Rattle.cam_shapes.specs.Arc.{IsInArc, IsSwept}
 use Rattle.cam_shapes.specs.Disc.{IsInDisc}
 use Rattle.cam_shapes.specs.Plane.{seen_from, way}
 use Rattle.cam_rows.specs.declared.centres.Centres.{Centres}
+use Rattle.cam_rows.specs.ArcRuns.{IsInRing, end_of, start_of}
 use Rattle.cam_rows.specs.Machinery.Kept.{AreAdded, AreClear, AreKept, Has}
 use Rattle.cam_rows.specs.Rows.{AreMarked}
 use Rattle.cam_rows.proofs.CapsuleParts.{marked_either}
 use Rattle.cam_rows.proofs.KeptRows.{kept_both, kept_none, kept_of_ones, kept_same}
-use Rattle.cam_rows.proofs.RingRows.{IsInRing}
-
-abbrev pub start_of : Arc → Disc
-start_of a = record { centre = a.from; diameter = a.width }
-
-abbrev pub end_of : Arc → Disc
-end_of a = record { centre = a.to; diameter = a.width }
 
 -- the place is in the arc's sweep
 abbrev pub IsInTurn : Arc → Spot → Type 0

@@ -36,7 +36,7 @@ from_the_end p q s =
     (omega arith)
 
 -- what is left of the way back is right of the way
-from_the_right : (p q : Point) (s : Spot)
+pub from_the_right : (p q : Point) (s : Spot)
     → cross (way q p) (seen_from q s) ≡ pos 0 -ℤ cross (way p q) (seen_from p s)
 from_the_right p q s =
     let product : Polynomial → Polynomial → Polynomial → Polynomial → Polynomial =

@@ -1,4 +1,5 @@
 pub mod ArcParts
+pub mod ArcRuns
 pub mod BarRows
 pub mod BesideWays
 pub mod CapRows

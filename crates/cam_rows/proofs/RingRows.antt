@@ -5,27 +5,17 @@ use Rattle.std.specs.Int.{IsBitSet, bit_not, w64}
 use Rattle.std.specs.Int.RustNames.{unsigned_abs}
 use Rattle.std.proofs.lemmas.Bool.{cases_lt}
 use Rattle.std.proofs.lemmas.Int.{ints}
-use Rattle.cam_units.specs.declared.point.Spot.{Spot}
 use Rattle.cam_shapes.specs.declared.arc.Arc.{Arc}
-use Rattle.cam_shapes.specs.Arc.{IsNearCircle}
-use Rattle.cam_shapes.specs.Plane.{dot, seen_from, square, way}
+use Rattle.cam_shapes.specs.Plane.{seen_from, square}
 use Rattle.cam_shapes.proofs.Strokes.{dot_is}
 use Rattle.cam_shapes.proofs.Widths.{square_is}
-use Rattle.cam_rows.specs.declared.arc.Ring.{Ring}
+use Rattle.cam_rows.specs.declared.ring.Ring.{Ring}
 use Rattle.cam_rows.specs.declared.centres.Centres.{Centres}
 use Rattle.cam_rows.specs.declared.offsets.Offsets.{Offsets}
+use Rattle.cam_rows.specs.ArcRuns.{IsBetween, IsInRing, IsRingOf, distance_of}
 use Rattle.cam_rows.specs.Machinery.Chords.{AreOffsets, offset, side}
-use Rattle.cam_rows.specs.Machinery.Rings.{IsBetween, IsRingOf}
 use Rattle.cam_rows.specs.Rows.{Marks, centre_at, row_below}
 use Rattle.cam_rows.proofs.SetBits.{set_in_rest}
-
--- the square of a place's distance from the arc's centre
-abbrev pub distance_of : Arc → Spot → ℤ
-distance_of a s = dot (seen_from a.centre s) (seen_from a.centre s)
-
--- the place is near the arc's circle
-abbrev pub IsInRing : Arc → Spot → Type 0
-IsInRing a s = IsNearCircle (distance_of a s) (dot (way a.centre a.from) (way a.centre a.from)) a.width.0
 
 -- the square of a distance, as a natural number
 natural_square : (x : ℤ) (n : ℕ) → (square x <ℤ pos n) ↔ (unsigned_abs x * unsigned_abs x < n)

@@ -21,7 +21,7 @@ use Rattle.cam_rows.proofs.SetBits.{set_in_and, set_in_or}
 use Rattle.cam_rows.proofs.Sweeps.{narrow_sweep, same_way, same_wide, wide_sweep}
 
 -- before the end, by the side of the way from there to the centre
-beyond_end : (c e : Point) (s : Spot) → cross (way e c) (seen_from e s) ≡ cross (seen_from c s) (way c e)
+pub beyond_end : (c e : Point) (s : Spot) → cross (way e c) (seen_from e s) ≡ cross (seen_from c s) (way c e)
 beyond_end c e s =
     let twice : ℤ → Polynomial = λ z. Product (Atom (pos 2)) (Atom z) in
     let gap : ℤ → ℤ → Polynomial = λ m n. Difference (twice m) (twice n) in
@@ -31,7 +31,7 @@ beyond_end c e s =
     (Difference (Product (seen s.x c.x) (gap e.y c.y)) (Product (seen s.y c.y) (gap e.x c.x)))
     (omega arith)
 
-no_more : (z : ℤ) → z +ℤ pos 0 ≡ z
+pub no_more : (z : ℤ) → z +ℤ pos 0 ≡ z
 no_more z = omega (arith, ints)
 
 -- two facts about centres of a row, each beside its place in the row

@@ -13,9 +13,10 @@ use Rattle.cam_shapes.specs.Disc.{IsInDisc}
 use Rattle.cam_shapes.specs.Plane.{seen_from, square}
 use Rattle.cam_rows.specs.declared.centres.Centres.{Centres}
 use Rattle.cam_rows.specs.declared.half_plane.HalfPlane.{HalfPlane}
-use Rattle.cam_rows.specs.Machinery.Chords.{AreOffsetsFrom, AreWideOffsets}
+use Rattle.cam_rows.specs.declared.offsets.Offsets.{Offsets}
+use Rattle.cam_rows.specs.Machinery.Chords.{AreOffsetsFrom, AreWideOffsets, offset}
 use Rattle.cam_rows.specs.Machinery.HalfPlanes.{IsHalfPlaneOf, numbers_of}
-use Rattle.cam_rows.specs.Machinery.Narrowing.{AreNarrowed, IsInRow, IsUp, leftmost}
+use Rattle.cam_rows.specs.Machinery.Narrowing.{AreNarrowed, IsInRow, IsNearer, IsUp, leftmost}
 use Rattle.cam_rows.specs.Rows.{AreRows, IsRow, centre_at, row_below}
 use Rattle.cam_rows.specs.Runs.{AreRuns, AreWideRows, IsInRun, IsWideRow}
 use Rattle.cam_rows.proofs.Chords.{in_disc_is}
@@ -71,6 +72,34 @@ whole_runs firsts ends top begin end = record {
   each = λ k i within small. (
     (λ _. omega arith),
     (λ _. (omega (arith, begin k within), omega (arith, end k within, small))),
+  );
+  within = λ k within. omega (arith, end k within);
+}
+
+pub runs_kept : (firsts ends new_firsts new_ends : List ℕ) (top : Centres) (P Q : Spot → Type 0)
+    → AreRuns firsts ends top P
+    → AreNarrowed top.count firsts ends (λ k i. Q (centre_at (row_below top k) i)) (length firsts) new_firsts new_ends
+    → length new_firsts ≡ length firsts → AreRuns new_firsts new_ends top (λ s. P s × Q s)
+runs_kept firsts ends new_firsts new_ends top P Q runs narrowed size = record {
+  each = λ k i within small.
+      let before : k < length firsts = omega (arith, within, size) in
+      let here = narrowed.each k i before small in
+      let was = runs.each k i before small in (
+        (λ on. let both = here.0 on in (was.0 both.0, both.1)),
+        (λ both. here.1 (was.1 both.0, both.1)),
+      );
+  within = λ k within.
+      let before : k < length firsts = omega (arith, within, size) in
+      omega (arith, narrowed.within k, runs.within k before);
+}
+
+-- none of the columns is held
+pub empty_runs : (firsts ends : List ℕ) (top : Centres) (P : Spot → Type 0)
+    → ((k : ℕ) → k < length firsts → slice_index ends k ≡ 0) → ((s : Spot) → P s → ⊥) → AreRuns firsts ends top P
+empty_runs firsts ends top P end none = record {
+  each = λ k i within small. (
+    (λ on. absurd (omega (arith, on.1, end k within))),
+    (λ held. absurd (none (centre_at (row_below top k) i) held)),
   );
   within = λ k within. omega (arith, end k within);
 }
@@ -160,3 +189,12 @@ in_disc_run i first end room r high x s d some e f g h told =
       (λ on. same.1 (seen.0 (here.0 on))),
       (λ held. here.1 (seen.1 (same.0 held))),
     )
+
+-- ---- circles
+
+-- a column of a row that lies so high, by its distance to the side
+pub near_column : (top : Centres) (p : Point) (o : Offsets) (k i height room bound : ℕ) → AreOffsetsFrom top p o
+    → pos height ≡ square (seen_from p (row_below top k).first).y → room ≡ bound - height
+    → (square (offset o.first o.step i) <ℤ pos room) ↔ IsNearer p bound (centre_at (row_below top k) i)
+near_column top p o k i height room bound columns e is =
+    rw (is, columns.each i) (seen_in_chord (seen_from p (centre_at (row_below top k) i)) height bound e)

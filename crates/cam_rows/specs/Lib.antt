@@ -1,3 +1,4 @@
+pub mod ArcRuns
 pub mod Lanes
 pub mod Machinery
 pub mod Rows

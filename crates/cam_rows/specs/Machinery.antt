@@ -10,7 +10,6 @@ pub mod Kept
 pub mod Linear
 pub mod Narrowing
 pub mod Quarters
-pub mod Rings
 pub mod Slopes
 pub mod Sweeps
 pub mod Ties

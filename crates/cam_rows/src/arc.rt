@@ -1,22 +1,21 @@
 //! Rows of an arc's stroke.
 
-ghost use Rattle.std.specs.Prelude.{◌≡◌, ◌↔◌, ◌+◌, ◌^◌, ◌<◌, ℕ, pos, length};
+ghost use Rattle.std.specs.Prelude.{◌↔◌, ◌+◌, ◌^◌, ◌<◌, ℕ, length};
 ghost use Rattle.std.specs.Int.{IsBitSet};
-ghost use Rattle.cam_shapes.specs.Arc.{IsInArc, IsNearCircle, IsSoundArc};
-ghost use Rattle.cam_shapes.specs.Plane.{dot, seen_from, square, way};
+ghost use Rattle.cam_shapes.specs.Arc.{IsInArc, IsSoundArc};
+ghost use Rattle.cam_rows.specs.ArcRuns.{IsBetween, IsInRing, IsRingOf};
 ghost use Rattle.cam_rows.specs.Machinery.Chords.{AreSteady, IsBandOf, side};
 ghost use Rattle.cam_rows.specs.Machinery.Kept.{AreKept, Has};
-ghost use Rattle.cam_rows.specs.Machinery.Rings.{IsBetween, IsRingOf};
 ghost use Rattle.cam_rows.specs.Rows.{AreMarked, AreRows, IsRow, Marks};
 
 use crate::centres::Centres;
 use crate::chord::Chord;
-use crate::circle::{squared_distance, squared_height};
+use crate::circle::squared_height;
 use crate::disc::add_disc;
 use crate::offsets::{Band, Offsets};
+use crate::ring::{Ring, ring_of};
 use crate::sweep::Sweep;
 use cam_shapes::{Arc, Disc};
-use cam_units::isqrt;
 
 /// The centres in an arc's stroke or on its edge: those in a disc about one of its ends, and those in its sweep between
 /// the circles that bound the stroke. Bit i is that of centre i, from the left; points and the width are in nanometres,
@@ -60,13 +59,6 @@ pub fn arc_rows(arc: Arc, top: Centres, rows: &mut [u64])
     add_disc(&end, &top, rows);
 }
 
-/// The squares of the distances from an arc's centre at which its stroke begins, and behind which it ends.
-#[derive(Clone, Copy)]
-struct Ring {
-    inner: u128,
-    outer: u128,
-}
-
 impl Ring {
     /// Clears the bits of the centres that are not near an arc's circle, in rows one below another from the top one. It
     /// looks at no row in which no bit is left.
@@ -74,9 +66,7 @@ impl Ring {
         requires arc { IsSoundArc arc.now }
         requires ring { IsRingOf self.now arc.now }
         requires rows { AreRows top.now (length rows.old) }
-        ensures { AreKept rows.old
-            (Has top.now (λ s. IsNearCircle (dot (seen_from arc.now.centre s) (seen_from arc.now.centre s))
-            (dot (way arc.now.centre arc.now.from) (way arc.now.centre arc.now.from)) arc.now.width.0)) rows.new }
+        ensures { AreKept rows.old (Has top.now (IsInRing arc.now)) rows.new }
     {
         if rows.is_empty() {
             return;
@@ -118,32 +108,4 @@ impl Ring {
         let in_inner = inner.row(offsets, self.inner.saturating_sub(height));
         in_outer & !in_inner
     }
-}
-
-/// Where the circles lie that bound an arc's stroke, by one root.
-fn ring_of(arc: &Arc) -> Ring
-    requires { IsSoundArc arc.now }
-    ensures { IsRingOf result arc.now }
-{
-    let radius = squared_distance(&arc.centre, &arc.from);
-    let width = squared_width(arc);
-    let spread = u128::from(isqrt(4 * width * radius));
-    let outer = radius + width + spread + 1;
-    if radius <= width {
-        return Ring { inner: 0, outer };
-    }
-    Ring {
-        inner: (radius + width).saturating_sub(spread),
-        outer,
-    }
-}
-
-/// The square of an arc's width.
-fn squared_width(arc: &Arc) -> u128
-    requires { IsSoundArc arc.now }
-    ensures value { pos result ≡ square arc.now.width.0 }
-    ensures bound { result < 2 ^ 56 }
-{
-    let width = arc.width.0 as u64;
-    u128::from(width * width)
 }

@@ -11,7 +11,9 @@
 //! sweep and its ring keep, with such discs, and a cap what its side and its circle keep. The stroke of a rectangle is
 //! what two half planes keep of the box of its ends, with no root; along an axis it is the box.
 //!
-//! In wide rows a bar's half planes narrow runs of columns in place of bits, with no work for a column.
+//! In wide rows a bar's half planes narrow runs of columns in place of bits, with no work for a column. An arc is three
+//! runs a row and the discs about its ends: a chord of its outer circle, narrowed to a sweep of at most a half turn,
+//! without a chord of its inner circle and without what a wider sweep leaves out.
 //!
 //! Where the line of a half plane crosses the rows moves by a quotient and a remainder from each to the next, and the
 //! ends of a chord are found by a walk from those of the row above: with no root and no division for a row. Where the
@@ -24,10 +26,11 @@
 //!   tells where that ends at one height.
 //! - [`bar_runs`], [`disc_runs`]: the same in rows of up to 32,768 centres, a run of columns for each row;
 //!   [`run_row`]: the bits of a part of it.
+//! - [`ring_of`], [`outer_runs`], [`hollow_runs`], [`beyond_runs`]: an arc in such rows.
 //! - [`or_rows`], [`clear_rows`], [`xor_rows`]: the 64 rows of a tile; [`pbm_bytes`]: a row in a file.
 //!
-//! What a row is stands in `specs/Rows.antt`, what a run is in `specs/Runs.antt`, rows joined lane by lane in
-//! `specs/Lanes.antt`.
+//! What a row is stands in `specs/Rows.antt`, what a run is in `specs/Runs.antt`, the runs of an arc in
+//! `specs/ArcRuns.antt`, rows joined lane by lane in `specs/Lanes.antt`.
 #![tactic(auto)]
 
 mod arc;
@@ -45,10 +48,12 @@ mod half_plane;
 mod hole;
 mod keeping;
 mod lanes;
+mod laws;
 mod linear;
 mod obround;
 mod offsets;
 mod rect;
+mod ring;
 mod runs;
 mod slope;
 mod sweep;
@@ -66,8 +71,11 @@ pub use disc::{disc_row, disc_rows};
 pub use edge::{edge_end, edge_row, turn_edge};
 pub use hole::{hole_row, hole_rows};
 pub use lanes::{clear_rows, or_rows, pbm_bytes, xor_rows};
+pub use laws::arc_is_its_runs;
 pub use obround::{obround_row, obround_rows};
 pub use rect::{rect_row, rect_rows};
+pub use ring::{Ring, ring_of};
+pub use runs::arc::{beyond_runs, hollow_runs, outer_runs};
 pub use runs::bar::bar_runs;
 pub use runs::disc::disc_runs;
 pub use runs::run_row;

@@ -1,6 +1,8 @@
 //! Runs of centres, found by division; those of wide rows are found row after row.
 
+pub(crate) mod arc;
 pub(crate) mod bar;
+mod circle;
 pub(crate) mod disc;
 mod narrowing;
 mod wide;

@@ -93,7 +93,7 @@ impl Sweep {
 }
 
 /// The cross product of two points as they are seen from a third.
-fn cross_product(centre: &Point, start: &Point, end: &Point) -> i128
+pub(crate) fn cross_product(centre: &Point, start: &Point, end: &Point) -> i128
     requires centre { IsOnBoard centre.now }
     requires start { IsOnBoard start.now }
     requires end { IsOnBoard end.now }
@@ -104,7 +104,7 @@ fn cross_product(centre: &Point, start: &Point, end: &Point) -> i128
 }
 
 /// The dot product of two points as they are seen from a third.
-fn dot_product(centre: &Point, start: &Point, end: &Point) -> i128
+pub(crate) fn dot_product(centre: &Point, start: &Point, end: &Point) -> i128
     requires centre { IsOnBoard centre.now }
     requires start { IsOnBoard start.now }
     requires end { IsOnBoard end.now }

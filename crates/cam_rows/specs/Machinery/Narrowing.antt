@@ -1,5 +1,8 @@
 -- Runs of rows, narrowed to the columns that something holds.
-use Rattle.std.specs.Prelude.{◌≡◌, ◌↔◌, ℕ, ◌<◌, ◌≤◌, List, slice_index, pos, ◌≤ℤ◌}
+use Rattle.std.specs.Prelude.{◌≡◌, ◌↔◌, ℕ, ◌<◌, ◌≤◌, List, slice_index, pos, ◌≤ℤ◌, ◌<ℤ◌}
+use Rattle.cam_units.specs.declared.point.Point.{Point}
+use Rattle.cam_units.specs.declared.point.Spot.{Spot}
+use Rattle.cam_shapes.specs.Plane.{dot, seen_from}
 use Rattle.cam_rows.specs.declared.centres.Centres.{Centres}
 use Rattle.cam_rows.specs.Machinery.Slopes.{Sloped, lowered, number_on}
 use Rattle.cam_rows.specs.Runs.{IsInRun}
@@ -11,6 +14,10 @@ leftmost c = record { first = c.first; step = c.step; count = 1 }
 -- the number at column i of the row that lies k steps below the top one is not negative
 abbrev pub IsUp : Sloped → ℕ → ℕ → Type 0
 IsUp s k i = pos 0 ≤ℤ number_on (lowered k s) i
+
+-- the square of a place's distance from a point is less than a bound
+abbrev pub IsNearer : Point → ℕ → Spot → Type 0
+IsNearer p bound s = dot (seen_from p s) (seen_from p s) <ℤ pos bound
 
 -- a column is in the run of a row
 abbrev pub IsInRow : List ℕ → List ℕ → ℕ → ℕ → Type 0

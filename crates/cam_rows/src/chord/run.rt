@@ -1,6 +1,7 @@
 //! Chords in wide rows.
 
-ghost use Rattle.std.specs.Prelude.{◌↔◌, ◌<◌, ◌≤◌, ℕ, pos, ◌≤ℤ◌, ◌<ℤ◌};
+ghost use Rattle.std.specs.Prelude.{◌↔◌, ◌^◌, ◌<◌, ◌≤◌, ℕ, pos, ◌<ℤ◌};
+ghost use Rattle.cam_units.specs.Board.{IsOnBoard};
 ghost use Rattle.cam_shapes.specs.Disc.{IsInDisc, IsSoundDisc};
 ghost use Rattle.cam_shapes.specs.Plane.{square};
 ghost use Rattle.cam_rows.specs.Machinery.Chords.{AreWideOffsets, offset};
@@ -9,11 +10,12 @@ ghost use Rattle.cam_rows.specs.Runs.{IsInRun, IsWideRow};
 
 use super::{BeforeChord, BeforeEnd, Chord};
 use crate::centres::Centres;
-use crate::circle::half_chord;
+use crate::circle::{half_chord, squared_height};
 use crate::offsets::Offsets;
 use crate::runs::Run;
 use crate::turns::turn_near;
 use cam_shapes::Disc;
+use cam_units::Point;
 
 impl Chord {
     /// The run of the columns in a disc or on its edge; empty at once where the row lies above or below it.
@@ -54,17 +56,40 @@ impl Chord {
         }
     }
 
-    /// A guess for the chord of a disc at the height of a row: by a root, since it may be long.
-    pub(crate) fn near(disc: &Disc, row: &Centres) -> Chord
-        requires disc { IsSoundDisc disc.now }
+    /// The part of a run that lies in a chord: the columns whose distance to the side has a square less than `room`. An
+    /// empty run, or a chord without a place, is not looked for.
+    #[inline]
+    pub(crate) fn narrowed(&mut self, offsets: &Offsets, room: u128, run: Run) -> Run
+        requires { AreWideOffsets offsets.now }
+        ensures each { (i : ℕ) → i < offsets.now.count → IsInRun result.first result.end i
+            ↔ (IsInRun run.first run.end i × (square (offset offsets.now.first offsets.now.step i) <ℤ pos room)) }
+        ensures within { result.end ≤ run.end }
+    {
+        if run.end <= run.first {
+            return run;
+        }
+        if room == 0 {
+            return Run { first: 0, end: 0 };
+        }
+        let chord = self.run(offsets, room);
+        Run {
+            first: run.first.max(chord.first),
+            end: run.end.min(chord.end),
+        }
+    }
+
+    /// A guess for the chord at the height of a row of the circle of the places whose squared distance from a point is
+    /// less than a bound: by a root, since it may be long.
+    pub(crate) fn near(point: &Point, bound: u128, row: &Centres) -> Chord
+        requires point { IsOnBoard point.now }
+        requires bound { bound < 2 ^ 68 }
         requires row { IsWideRow row.now }
     {
-        let radius = disc.diameter.0 as u64;
-        let height = row.leftmost().height_over(&disc.centre).min(radius);
-        let half = half_chord(u128::from(radius * radius - height * height)) as i64;
+        let height = squared_height(point, &row.leftmost());
+        let half = half_chord(bound.saturating_sub(height)) as i64;
         Chord {
-            first: row.column_near(2 * disc.centre.x - half),
-            end: row.column_near(2 * disc.centre.x + half),
+            first: row.column_near(2 * point.x - half),
+            end: row.column_near(2 * point.x + half),
         }
     }
 }

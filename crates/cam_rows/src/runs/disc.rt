@@ -20,7 +20,8 @@ pub fn disc_runs(disc: &Disc, top: &Centres, firsts: &mut [u32], ends: &mut [u32
     if firsts.is_empty() {
         return;
     }
-    let mut chord = Chord::near(disc, top);
+    let radius = disc.diameter.0 as u64;
+    let mut chord = Chord::near(&disc.centre, u128::from(radius * radius), top);
     for k in 0..firsts.len() {
         let run = chord.disc_run(disc, &top.wide_below(k));
         firsts[k] = run.first;

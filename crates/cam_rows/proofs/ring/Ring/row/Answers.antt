@@ -1,6 +1,6 @@
 use Rattle.std.proofs.Common.{rules}
 use Rattle.cam_rows.proofs.RingRows.{ring_bit}
-use Rattle.cam_rows.proofs.arc.Ring.row.Goals as goal
+use Rattle.cam_rows.proofs.ring.Ring.row.Goals as goal
 
 pub returns : goal.returns
 returns c = λ i within.

@@ -1,7 +1,7 @@
 use Rattle.std.proofs.Common.{rules}
 use Rattle.cam_shapes.specs.Plane.{dot, way}
 use Rattle.cam_rows.proofs.Rings.{near_in_full_ring, near_in_open_ring}
-use Rattle.cam_rows.proofs.arc.ring_of.Goals as goal
+use Rattle.cam_rows.proofs.ring.ring_of.Goals as goal
 
 pub returns-then-radius-width : goal.returns-then-radius-width
 returns-then-radius-width c =

@@ -1,11 +1,12 @@
 use Rattle.std.proofs.Common.{length, arith, rules}
+use Rattle.cam_rows.specs.ArcRuns.{IsInRing}
 use Rattle.cam_rows.specs.Machinery.Kept.{Has}
 use Rattle.cam_rows.specs.Rows.{Marks, row_below}
 use Rattle.cam_rows.proofs.KeptRows.{kept_row, none_here}
-use Rattle.cam_rows.proofs.RingRows.{IsInRing, ring_marks}
+use Rattle.cam_rows.proofs.RingRows.{ring_marks}
 use Rattle.cam_rows.proofs.RowsBelow.{top_is_row}
-use Rattle.cam_rows.proofs.arc.Ring.keep.Goals as goal
-use Rattle.cam_rows.proofs.arc.Ring.keep.Goals.{then-rows-k-ne0, else-rows-k-ne0}
+use Rattle.cam_rows.proofs.ring.Ring.keep.Goals as goal
+use Rattle.cam_rows.proofs.ring.Ring.keep.Goals.{then-rows-k-ne0, else-rows-k-ne0}
 
 pub from-offsets-requires-clause-row : goal.from-offsets-requires-clause-row
 from-offsets-requires-clause-row c = top_is_row c.args.top.now (length c.args.rows.now) (search rules) c.requires.rows

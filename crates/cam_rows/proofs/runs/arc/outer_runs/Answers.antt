@@ -1,0 +1,35 @@
+use Rattle.std.proofs.Common.{refl, arith}
+use Rattle.std.proofs.lemmas.Int.{ints}
+use Rattle.cam_rows.specs.ArcRuns.{IsInHalf, IsOuter, in_turn}
+use Rattle.cam_rows.specs.Machinery.Narrowing.{IsNearer}
+use Rattle.cam_rows.proofs.ArcRuns.{in_outer}
+use Rattle.cam_rows.proofs.WideRows.{empty_runs, runs_kept, runs_like}
+use Rattle.cam_rows.proofs.runs.arc.outer_runs.Goals as goal
+
+pub returns-then-arc-eq0 : goal.returns-then-arc-eq0
+returns-then-arc-eq0 c =
+    empty_runs c.fill.new.self c.fill-then-arc-eq0.new.self c.args.top.now (λ s. IsOuter c.args.arc.now s)
+    (λ k within. c.fill-then-arc-eq0.ensures.clones k 0
+    (omega (arith, within, c.fill.ensures.len, c.requires.ends)) refl)
+    (λ s outer. omega (arith, ints, outer.wide, c.if-arc-eq0.true))
+
+pub returns : goal.returns
+returns c =
+    let arc = c.args.arc.now in
+    let ring = c.args.ring.now in
+    let top = c.args.top.now in
+    let turn = c.turn_runs in
+    let narrowed = c.narrow_to_circle in
+    let kept = runs_kept turn.new.firsts turn.new.ends narrowed.new.firsts narrowed.new.ends top
+    (λ s. in_turn IsInHalf arc s) (IsNearer arc.centre ring.outer) turn.ensures narrowed.ensures
+    narrowed.auto.firsts in
+    runs_like narrowed.new.firsts narrowed.new.ends top _ (λ s. IsOuter arc s)
+    (λ s.
+    let told = in_outer ring arc s c.requires.ring in (
+      (λ held. record {
+        wide = omega (arith, ints, c.requires.arc.width, c.if-arc-eq0.false);
+        near = told.0 held.1;
+        turn = held.0;
+      }),
+      (λ outer. (outer.turn, told.1 outer.near)),
+    )) kept
