@@ -35,6 +35,7 @@ pub mod SpanLemmas
 pub mod Stamps
 pub mod StepLemmas
 pub mod Strips
+pub mod StrokeColumns
 pub mod SwathLayouts
 pub mod SwathRows
 pub mod TableFacts

@@ -10,10 +10,11 @@ use Rattle.cam_units.proofs.Ring.Polynomial.{Atom, Sum, Product}
 use Rattle.cam_rows.specs.Runs.{IsInRun}
 use Rattle.cam_tiles.specs.declared.grid.Grid.{Grid}
 use Rattle.cam_tiles.specs.declared.levels.Levels.{Levels}
-use Rattle.cam_tiles.specs.declared.masks.strokes.StrokeRuns.{StrokeRuns}
+use Rattle.cam_tiles.specs.declared.masks.stroke_runs.StrokeRuns.{StrokeRuns}
 use Rattle.cam_tiles.specs.declared.window.Window.{Window}
 use Rattle.cam_tiles.specs.Machinery.Masks.{IsIn, Marking}
-use Rattle.cam_tiles.specs.Machinery.Runs.{AllFit, HasPart, IsToldAt, IsWideGrid, StandsAt, TellsStroke}
+use Rattle.cam_tiles.specs.Machinery.Runs.{IsWideGrid, StandsAt}
+use Rattle.cam_tiles.specs.Machinery.Strokes.{AllFit, HasPart, IsToldAt, TellsStroke}
 use Rattle.cam_tiles.specs.Machinery.Swaths.{StandInRow, grid_at, no_mask}
 use Rattle.cam_tiles.specs.Picture.{accepts}
 use Rattle.cam_tiles.specs.Tiles.{across, centre_in, columns, grid_of, left, tiles_of, top}

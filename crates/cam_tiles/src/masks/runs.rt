@@ -1,6 +1,6 @@
 //! Runs of columns in the rows of masks side by side.
 
-ghost use Rattle.std.specs.Prelude.{◌≡◌, ◌<◌, ◌≤◌, ℕ, length, slice_index};
+ghost use Rattle.std.specs.Prelude.{◌≡◌, ◌<◌, ◌≤◌, ℕ, IsTrue, length, slice_index};
 ghost use Rattle.cam_units.specs.declared.point.Spot.{Spot};
 ghost use Rattle.cam_shapes.specs.Bar.{IsInBar, IsSoundBar};
 ghost use Rattle.cam_shapes.specs.Disc.{IsInDisc, IsSoundDisc};
@@ -82,7 +82,15 @@ impl Runs {
         self.columns = Span::NONE;
     }
 
-    /// Turns to those of a shape between two heights, in the rows of a grid, and as many columns from its left on.
+    /// Whether its band has no rows.
+    pub(crate) fn is_none(&self) -> bool
+        ensures { IsTrue result → (row column : ℕ) → HasColumn self.now row column → ⊥ }
+    {
+        self.band.end <= self.band.first
+    }
+
+    /// Turns to those of a shape that lies between two heights, in the rows of a grid, and as many columns from its left
+    /// on.
     pub(crate) fn find<S: RunShape>(
         &mut self,
         shape: &S,
@@ -94,6 +102,21 @@ impl Runs {
         requires heights { (s : Spot) → S.holds shape.now s → IsWithin heights s }
         requires grid { IsWideGrid grid.now columns }
         ensures { Tells grid.now columns (S.holds shape.now) self.new }
+    {
+        self.find_between(shape, heights, grid, columns);
+    }
+
+    /// The same of what a shape holds between two heights, wherever else it may lie.
+    pub(crate) fn find_between<S: RunShape>(
+        &mut self,
+        shape: &S,
+        heights: Heights,
+        grid: &Grid,
+        columns: u32,
+    )
+        requires sound { S.is_sound shape.now }
+        requires grid { IsWideGrid grid.now columns }
+        ensures { Tells grid.now columns (λ s. S.holds shape.now s × IsWithin heights s) self.new }
     {
         let levels = grid.levels();
         let band = levels.band(heights);

@@ -11,7 +11,7 @@ ghost use Rattle.cam_tiles.specs.declared.grid.Grid.{Grid};
 ghost use Rattle.cam_tiles.specs.Machinery.Filing.{AreFiled, IsOnBoardWhole};
 ghost use Rattle.cam_tiles.specs.Machinery.Levels.{levels_of};
 ghost use Rattle.cam_tiles.specs.Machinery.Masks.{IsBlank, IsIn};
-ghost use Rattle.cam_tiles.specs.Machinery.Runs.{IsStrokeOf};
+ghost use Rattle.cam_tiles.specs.Machinery.Strokes.{IsStrokeOf};
 ghost use Rattle.cam_tiles.specs.declared.masks.swath.Pitch.{Pitch};
 ghost use Rattle.cam_tiles.specs.Machinery.Swaths.{
   AreDrawn,
@@ -37,12 +37,12 @@ use crate::grid::Grid;
 use crate::masks::filing::FiledSegment;
 use crate::masks::join::Join;
 use crate::masks::mask::Mask;
-use crate::masks::strokes::{StrokeRuns, paint_each, paint_strokes, stroke_of};
+use crate::masks::stroke_runs::{Stroke, StrokeRuns};
+use crate::masks::strokes::{paint_each, paint_strokes, stroke_of};
 use crate::painter::Tile;
 use crate::shown::Region;
 use crate::window::Window;
 use cam_objects::{Canvas, Print};
-use cam_shapes::Capsule;
 use cam_units::{Bounds, Spot};
 use std::alloc::{AllocError, Global};
 use std::marker::Model;
@@ -184,11 +184,11 @@ impl Swath {
     }
 
     /// Paints a stroke: its runs are found once for the row of tiles, and drawn on those masks alone that they reach.
-    fn paint_stroke(&mut self, capsule: &Capsule, print: Print<'_>)
-        requires { IsStrokeOf print.figure capsule.now }
+    fn paint_stroke(&mut self, stroke: &Stroke, print: Print<'_>)
+        requires { IsStrokeOf print.figure stroke.now }
         ensures { PaintsSwath self.old (leaf_of print.entry ∷ []) self.new }
     {
-        self.stroke.find(capsule, &self.corner, self.columns);
+        self.stroke.find(stroke, &self.corner, self.columns);
         let columns = self.stroke.columns();
         let first_tile = columns.first as usize / 64;
         let end_tile = columns.end.div_ceil(64) as usize;
@@ -245,9 +245,9 @@ impl Canvas for Swath {
         let first = self.first_reached(low.x);
         let end = self.end_reached(high.x);
         if end.saturating_sub(first) > 1
-            && let Some(capsule) = stroke_of(&print.figure)
+            && let Some(stroke) = stroke_of(&print.figure)
         {
-            self.paint_stroke(&capsule, print);
+            self.paint_stroke(&stroke, print);
             return;
         }
         paint_each(&mut self.masks, first, end, print);

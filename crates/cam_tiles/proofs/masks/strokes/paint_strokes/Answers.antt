@@ -2,7 +2,7 @@ use Rattle.std.proofs.Common.{[], ◌∷◌, ◌*◌, slice_index, refl, subst, 
 use Rattle.cam_objects.specs.Canvases.{leaf_of, shape_of}
 use Rattle.cam_objects.specs.Image.{Covers}
 use Rattle.cam_tiles.specs.Machinery.Masks.{Marking}
-use Rattle.cam_tiles.specs.Machinery.Runs.{IsToldAt}
+use Rattle.cam_tiles.specs.Machinery.Strokes.{IsToldAt}
 use Rattle.cam_tiles.proofs.PaintedSwaths.{all_painted, none_painted, one_more_painted, untouched}
 use Rattle.cam_tiles.proofs.masks.strokes.paint_strokes.Goals as goal
 

@@ -2,7 +2,7 @@ use Rattle.cam_objects.specs.Canvases.{shape_of}
 use Rattle.cam_objects.specs.Image.{Covers}
 use Rattle.cam_tiles.specs.Machinery.Masks.{inked}
 use Rattle.cam_tiles.proofs.PaintedMasks.{joined_is_painted}
-use Rattle.cam_tiles.proofs.RunColumns.{joins_stroke}
+use Rattle.cam_tiles.proofs.StrokeColumns.{joins_stroke}
 use Rattle.cam_tiles.proofs.masks.mask.Mask.paint_stroke.Goals as goal
 
 pub returns : goal.returns

@@ -1,15 +1,14 @@
 use Rattle.std.proofs.Common.{List, [], ◌∷◌, ◌+◌, ◌/◌, ◌*◌, ◌≡◌, ℕ, length, get_or, ap, sym, subst, ◌∙◌, arith}
 use Rattle.std.specs.Vec.{with_items}
 use Rattle.std.proofs.lemmas.List.{with_items_is}
-use Rattle.cam_shapes.specs.Bar.{IsInCapsule}
 use Rattle.cam_objects.specs.Canvases.{leaf_of, shape_of}
 use Rattle.cam_objects.specs.Image.{Covers}
 use Rattle.cam_tiles.specs.Machinery.Masks.{Marking}
-use Rattle.cam_tiles.specs.Machinery.Runs.{IsToldAt, TellsStroke}
+use Rattle.cam_tiles.specs.Machinery.Strokes.{IsInStroke, IsToldAt, TellsStroke}
 use Rattle.cam_tiles.specs.Machinery.Swaths.{PaintsSwath, grid_at, mask_at}
 use Rattle.cam_tiles.proofs.PaintedMasks.{passed_by}
 use Rattle.cam_tiles.proofs.PaintedSwaths.{part_kept, part_painted, put_back}
-use Rattle.cam_tiles.proofs.RunColumns.{tells_like}
+use Rattle.cam_tiles.proofs.StrokeColumns.{tells_like}
 use Rattle.cam_tiles.proofs.SwathRows.{found, not_reached, told_there}
 use Rattle.cam_tiles.proofs.masks.swath.Swath.paint_stroke.Goals as goal
 
@@ -22,7 +21,7 @@ paint_strokes-requires-clause-told c = λ k after until.
     let figure = c.args.print.figure in
     let stand = c.self.invariant.stand in
     let told : TellsStroke s.corner s.columns (Covers (shape_of figure)) c.find.new.self =
-    tells_like s.corner s.columns (λ t. IsInCapsule t c.args.capsule.now) (Covers (shape_of figure)) c.find.new.self
+    tells_like s.corner s.columns (IsInStroke c.args.stroke.now) (Covers (shape_of figure)) c.find.new.self
     c.requires.same c.find.ensures in
     let end = found s.before.items s.masks.items _ _ _ _ c.deref-3.ensures.value c.deref-4.ensures.value
     c.masks_before-end.ensures in
@@ -70,7 +69,7 @@ returns c =
     put_back first end leaves s.masks.items c.deref_mut.result.now new _ c.deref_mut.ensures.value after
     c.paint_strokes.ensures in
     let told : TellsStroke s.corner s.columns (Covers (shape_of print.figure)) c.find.new.self =
-    tells_like s.corner s.columns (λ t. IsInCapsule t c.args.capsule.now) (Covers (shape_of print.figure))
+    tells_like s.corner s.columns (IsInStroke c.args.stroke.now) (Covers (shape_of print.figure))
     c.find.new.self c.requires.same c.find.ensures in
     let up : c.div_ceil-end_tile.result ≡ (c.columns-columns.result.end + 63) / 64 =
     omega (arith, c.div_ceil-end_tile.ensures) in

@@ -1,5 +1,5 @@
-use Rattle.cam_tiles.proofs.RunColumns.{parts_spanned}
-use Rattle.cam_tiles.proofs.masks.strokes.StrokeRuns.columns.Goals as goal
+use Rattle.cam_tiles.proofs.StrokeColumns.{parts_spanned}
+use Rattle.cam_tiles.proofs.masks.stroke_runs.StrokeRuns.columns.Goals as goal
 
 pub returns : goal.returns
 returns c = λ rows row column fit part.
