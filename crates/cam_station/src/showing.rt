@@ -87,32 +87,31 @@ pub(crate) fn draw(alloc: Global, content: &SheetContent, raster: &mut Raster, a
     ensures tiles { raster.new ≡ redrawn (image_of (content_of content.now)) at_most raster.old }
 {
     let mut source = match content {
-        SheetContent::Gerber(layer) => painter(layer),
-        SheetContent::Drill(layer) => drill_painter(layer),
+        SheetContent::Gerber(layer) => painter(alloc, layer),
+        SheetContent::Drill(layer) => drill_painter(alloc, layer),
     };
-    source.keep_boxes(alloc);
     raster.redraw(&mut source, at_most)
 }
 
 /// Paints a sound layer: chunk by chunk of its items, where they are in chunks.
-fn painter(layer: &ChunkedLayer) -> Source<'_>
+fn painter(alloc: Global, layer: &ChunkedLayer) -> Source<'_>
     requires { HasSoundItems layer.now }
     ensures { result ≡ unasked (content_leaves (gerber_content_of layer.now)) }
 {
     match layer.chunks() {
-        Some(chunks) => Source::gerber_in_chunks(layer.layer(), chunks),
-        None => Source::gerber(layer.layer()),
+        Some(chunks) => Source::gerber_in_chunks(alloc, layer.layer(), chunks),
+        None => Source::gerber(alloc, layer.layer()),
     }
 }
 
 /// Paints a sound drill layer in the same way.
-fn drill_painter(layer: &ChunkedDrillLayer) -> Source<'_>
+fn drill_painter(alloc: Global, layer: &ChunkedDrillLayer) -> Source<'_>
     requires { IsSoundDrillLayer layer.now }
     ensures { result ≡ unasked (drill_content_leaves (drill_content_of layer.now)) }
 {
     match layer.chunks() {
-        Some(chunks) => Source::drill_in_chunks(layer.layer(), chunks),
-        None => Source::drill(layer.layer()),
+        Some(chunks) => Source::drill_in_chunks(alloc, layer.layer(), chunks),
+        None => Source::drill(alloc, layer.layer()),
     }
 }
 

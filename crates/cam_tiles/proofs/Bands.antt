@@ -14,7 +14,7 @@ use Rattle.cam_objects.proofs.CoveredBoxes.{outside_box}
 use Rattle.cam_objects.proofs.Inking.{front_more}
 use Rattle.cam_tiles.specs.declared.index.Boxed.{Boxed}
 use Rattle.cam_tiles.specs.declared.index.Entry.{Entry}
-use Rattle.cam_tiles.specs.declared.index.Span.{Span}
+use Rattle.cam_tiles.specs.declared.span.Span.{Span}
 use Rattle.cam_tiles.specs.declared.levels.Levels.{Levels}
 use Rattle.cam_tiles.specs.declared.masks.filing.FiledSegment.{FiledSegment}
 use Rattle.cam_tiles.specs.Machinery.Filing.{AreFiled}

@@ -35,7 +35,9 @@ pub mod SpanLemmas
 pub mod Stamps
 pub mod StepLemmas
 pub mod Strips
+pub mod StrokeColumns
 pub mod SwathLayouts
+pub mod SwathRows
 pub mod TableFacts
 pub mod TablePixels
 pub mod TileCounts

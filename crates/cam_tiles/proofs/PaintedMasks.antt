@@ -9,6 +9,8 @@ use Rattle.cam_objects.specs.Canvases.{shape_of}
 use Rattle.cam_objects.specs.Image.{Covers}
 use Rattle.cam_objects.specs.Leaves.{Shape, leaf}
 use Rattle.cam_objects.specs.Tests.{covers}
+use Rattle.cam_objects.proofs.Canvases.{paints_off}
+use Rattle.cam_objects.proofs.Inking.{uncovered_cons, uncovered_nil}
 use Rattle.cam_objects.proofs.TestLaws.{cover_law}
 use Rattle.cam_tiles.specs.declared.grid.Grid.{Grid}
 use Rattle.cam_tiles.specs.declared.masks.join.Join.{Join}
@@ -84,3 +86,13 @@ pub figure_is_painted : (figure : Figure) (shape : Shape) (dark : Bool) (how : J
 figure_is_painted figure shape dark how old new is_shape is_how h =
     subst (λ (it : Shape). PaintsMask old (leaf it dark ∷ []) new) (sym is_shape)
     (joined_is_painted shape dark old new (subst (λ (j : Join). Joins j (Covers shape) old new) is_how h))
+
+-- a shape that holds no centre of a grid leaves its mask as it is
+pub passed_by : (m : Marking) (shape : Shape) (dark : Bool)
+    → ((column row : ℕ) → IsIn m.grid column row → Covers shape (centre_in m.grid column row) → ⊥)
+    → PaintsMask m (leaf shape dark ∷ []) m
+passed_by m shape dark off =
+    paints_off (λ (n : Marking). IsIn n.grid) (λ (n : Marking). centre_in n.grid) ink_of m (leaf shape dark ∷ [])
+    (λ column row there.
+    let s = centre_in m.grid column row in
+    uncovered_cons s (leaf shape dark) [] (off column row there) (uncovered_nil s))

@@ -16,7 +16,7 @@ use Rattle.cam_tiles.specs.declared.masks.swath.Pitch.{Pitch}
 use Rattle.cam_tiles.specs.Machinery.Levels.{levels_of}
 use Rattle.cam_tiles.specs.Machinery.Masks.{IsBlank, IsIn, IsMask, Marking, PaintsMask, ink_of}
 use Rattle.cam_tiles.specs.Machinery.Swaths.{AreDrawn, ArePaintedIn, HasLevels, HasMask, IsDrawn, IsLaidOut}
-use Rattle.cam_tiles.specs.Machinery.Swaths.{PaintsSwath, grid_at, mask_at, no_grid, no_mask}
+use Rattle.cam_tiles.specs.Machinery.Swaths.{PaintsSwath, StandInRow, grid_at, mask_at, no_grid, no_mask}
 use Rattle.cam_tiles.specs.Tiles.{IsGrid, centre_in, tile_rows}
 use Rattle.cam_tiles.proofs.MaskWords.{rows_of_marks}
 use Rattle.cam_tiles.proofs.PaintedMasks.{clear_if_unmarked}
@@ -56,13 +56,33 @@ module _ (first end : ℕ) (leaves : List Leaf) (old new : List Marking) (part :
         (λ after until. sym (painted_grid leaves (mask_at old k) (mask_at new k) (grids k (omega arith)) (part.each k after until)))
         (λ late. kept (inr late))
 
-    pub part_laid_out : (p : Pitch) (box : Bounds) (before : List ℕ) → end ≤ length old
+    part_laid_out : (p : Pitch) (box : Bounds) (before : List ℕ) → end ≤ length old
         → IsLaidOut p box before (length old) (grid_at old) → IsLaidOut p box before (length new) (grid_at new)
     part_laid_out p box before within laid =
         let same = part_grids (λ k inside. (laid.each k inside).0) within in
         let of : (n : ℕ) → length new ≡ n → IsLaidOut p box before n (grid_at old) → IsLaidOut p box before (length new) (grid_at old) =
         λ n e h. subst (λ m. IsLaidOut p box before m (grid_at old)) (sym e) h in
         subst (IsLaidOut p box before (length new)) (λ i k. same k i) (of (length old) part.size laid)
+
+    part_stands : (g : Grid) (columns : ℕ) (tiles before : List ℕ)
+        → ((k : ℕ) → k < length old → IsGrid (grid_at old k)) → end ≤ length old
+        → StandInRow g columns tiles before (length old) (grid_at old)
+        → StandInRow g columns tiles before (length new) (grid_at new)
+    part_stands g columns tiles before grids within stand =
+        let same = part_grids grids within in
+        subst (StandInRow g columns tiles before (length new)) (λ i k. same k i)
+        (subst (λ n. StandInRow g columns tiles before n (grid_at old)) (sym part.size) stand)
+
+    -- what is kept of a swath stays
+    pub part_kept : (p : Pitch) (box : Bounds) (g : Grid) (columns : ℕ) (tiles before : List ℕ) → end ≤ length old
+        → IsLaidOut p box before (length old) (grid_at old)
+        → StandInRow g columns tiles before (length old) (grid_at old)
+        → IsLaidOut p box before (length new) (grid_at new)
+        × StandInRow g columns tiles before (length new) (grid_at new)
+    part_kept p box g columns tiles before within laid stand = (
+      part_laid_out p box before within laid,
+      part_stands g columns tiles before (λ k inside. (laid.each k inside).0) within stand,
+    )
 
 -- the masks that are passed over hold no place between two across
 pub passed_over : (first end : ℕ) (masks : List Marking) (left right : ℤ)

@@ -1,35 +1,22 @@
 -- Columns of runs, by the bits of masks.
-use Rattle.std.proofs.Common.{◌≡◌, ◌↔◌, ◌⊎◌, ℕ, ◌+◌, ◌-◌, ◌*◌, ◌<◌, ◌≤◌, ℤ, pos, ◌+ℤ◌, ◌-ℤ◌, ◌*ℤ◌, ◌≤ℤ◌}
-use Rattle.std.proofs.Common.{Bool, true, false, List, length, slice_index, inl, inr, refl, arith}
-use Rattle.std.specs.Int.RustNames.{unsigned_abs}
+use Rattle.std.proofs.Common.{◌≡◌, ◌↔◌, ℕ, ◌+◌, ◌-◌, ◌<◌, ◌≤◌, ℤ, pos, ◌+ℤ◌, ◌-ℤ◌, ◌*ℤ◌}
+use Rattle.std.proofs.Common.{List, length, slice_index, inl, inr, refl, arith}
 use Rattle.std.proofs.lemmas.Bool.{cases_lt}
-use Rattle.std.proofs.lemmas.Int.{ints}
 use borrow.Rule.Slice.PartMut.{put_mid}
-use Rattle.cam_units.specs.Board.{IsInReach, IsPlace, place_limit}
-use Rattle.cam_units.specs.declared.length.Nm.{Nm}
-use Rattle.cam_units.specs.declared.point.Point.{Point}
+use Rattle.cam_units.specs.Board.{IsInReach, IsPlace}
 use Rattle.cam_units.specs.declared.point.Spot.{Spot}
 use Rattle.cam_units.proofs.Ring.{equal}
-use Rattle.cam_units.proofs.Ring.Polynomial.{Atom, Difference, Product, Sum}
-use Rattle.cam_shapes.specs.Bar.{IsInBar, IsInCapsule}
-use Rattle.cam_shapes.specs.Disc.{IsInDisc}
-use Rattle.cam_shapes.specs.declared.capsule.Capsule.{Capsule}
-use Rattle.cam_objects.specs.Image.{relative}
+use Rattle.cam_units.proofs.Ring.Polynomial.{Atom, Difference, Product}
 use Rattle.cam_rows.specs.declared.centres.Centres.{Centres}
 use Rattle.cam_rows.specs.Rows.{centre_at, row_below}
-use Rattle.cam_rows.specs.Runs.{AreRuns, AreWideRows, IsInRun, IsWideRow, most_columns}
-use Rattle.cam_rows.proofs.CapsuleParts.{bar_of, end_of, in_capsule, start_of}
+use Rattle.cam_rows.specs.Runs.{AreRuns, AreWideRows, IsInRun, IsWideRow}
 use Rattle.cam_tiles.specs.declared.grid.Grid.{Grid}
 use Rattle.cam_tiles.specs.declared.masks.heights.Heights.{Heights}
-use Rattle.cam_tiles.specs.declared.masks.join.Join.{Join}
 use Rattle.cam_tiles.specs.declared.masks.runs.Runs.{Runs}
-use Rattle.cam_tiles.specs.declared.masks.strokes.StrokeRuns.{StrokeRuns}
 use Rattle.cam_tiles.specs.Machinery.Levels.{IsOnRow, height, levels_of}
-use Rattle.cam_tiles.specs.Machinery.Masks.{IsIn, IsMarked, IsWithin, Joins, Marking, inked, joined}
-use Rattle.cam_tiles.specs.Machinery.Runs.{HasColumn, HasPart, IsWideGrid, StandsAt, Tells, TellsStroke}
-use Rattle.cam_tiles.specs.Tiles.{IsGrid, centre_in}
-use Rattle.cam_tiles.proofs.GridBoxes.{steps_up}
-use Rattle.cam_tiles.proofs.Joined.{joined_like}
+use Rattle.cam_tiles.specs.Machinery.Masks.{IsWithin}
+use Rattle.cam_tiles.specs.Machinery.Runs.{HasColumn, IsWideGrid, Tells}
+use Rattle.cam_tiles.specs.Tiles.{centre_in}
 use Rattle.cam_tiles.proofs.TurnedBands.{part_at}
 
 -- a row of the band
@@ -39,38 +26,6 @@ pub in_band : (r : Runs) (row column : ℕ) (B P : Type 0) → r.band.first ≤ 
 in_band r row column B P after until told = (
   (λ b. let both = told.0 b in (both.0, (after, until, both.1))),
   (λ both. told.1 (both.0, both.1.2)),
-)
-
--- ---- discs as strokes of no length
-
-no_way : (z : ℤ) → pos 2 *ℤ z -ℤ pos 2 *ℤ z ≡ pos 0
-no_way z = omega (arith, ints)
-
-pub disc_stroke : (s : Spot) (p : Point) (w : Nm)
-    → IsInDisc s (record { centre = p; diameter = w }) ↔ IsInCapsule s (record { from = p; to = p; width = w })
-disc_stroke s p w = (
-  (λ inside. record { wide = inside.some; near = inl inside.near }),
-  (λ inside. elim inside.near [
-    | inl first ↦ record { some = inside.wide; near = first }
-    | inr other ↦ elim other [
-      | inl last ↦ record { some = inside.wide; near = last }
-      | inr beside ↦
-          let long = rw (no_way p.x, no_way p.y) at beside.between.long in
-          absurd (omega (arith, ints, long))
-    ]
-  ]),
-)
-
-not_moved : (z at : ℤ) → (z -ℤ pos 2 *ℤ at) -ℤ pos 2 *ℤ pos 0 ≡ z -ℤ pos 2 *ℤ at
-not_moved z at = omega (arith, ints)
-
--- a disc about the flash point, where it is flashed
-pub flashed_disc : (s : Spot) (at : Point) (w : Nm)
-    → IsInDisc (relative at s) (record { centre = record { x = pos 0; y = pos 0 }; diameter = w })
-    ↔ IsInDisc s (record { centre = at; diameter = w })
-flashed_disc s at w = (
-  (λ inside. record { some = inside.some; near = rw (not_moved s.x at.x, not_moved s.y at.y) at inside.near }),
-  (λ inside. record { some = inside.some; near = rw (not_moved s.x at.x, not_moved s.y at.y) inside.near }),
 )
 
 -- ---- runs in the rows of a grid
@@ -130,31 +85,30 @@ module _ (g : Grid) (columns first : ℕ) where
       rw (is_x, is_y, is_step) (wide_rows wide k (omega (arith, within, size, few)))
 
 pub tells_band : (g : Grid) (columns first end : ℕ) (h : Heights) (IsHeld : Spot → Type 0) (x y step : ℤ)
-    (clear firsts ends : List ℕ) (from until : ℕ) → x ≡ g.first.x → y ≡ height (levels_of g) first → step ≡ g.step → first < end
-    → end ≤ g.rows → g.rows ≤ 64 → length clear ≡ 64 → length firsts ≡ end - first → length ends ≡ end - first
+    (clear clear_ends firsts ends : List ℕ) (from until : ℕ) → x ≡ g.first.x → y ≡ height (levels_of g) first → step ≡ g.step → first < end
+    → end ≤ g.rows → g.rows ≤ 64 → length clear ≡ 64 → length clear_ends ≡ 64 → length firsts ≡ end - first → length ends ≡ end - first
     → ((row : ℕ) (s : Spot) → IsOnRow (levels_of g) row s → ((first ≤ row) × (row < end)) ↔ IsWithin h s)
-    → ((s : Spot) → IsHeld s → IsWithin h s)
     → AreRuns firsts ends (record { first = record { x = x; y = y }; step = step; count = columns }) IsHeld
     → ((k column : ℕ) → k < length firsts → IsInRun (slice_index firsts k) (slice_index ends k) column
     → IsInRun from until column)
-    → Tells g columns IsHeld (record {
+    → Tells g columns (λ s. IsHeld s × IsWithin h s) (record {
       band = record { first = first; end = end };
       firsts = put_mid first (end - first) clear firsts;
-      ends = put_mid first (end - first) clear ends;
-      first = from;
-      end = until;
+      ends = put_mid first (end - first) clear_ends ends;
+      columns = record { first = from; end = until };
     })
-tells_band g columns first end h IsHeld x y step clear firsts ends from to is_x is_y is_step some low few whole firsts_size
-    ends_size rows heights runs spanned =
+tells_band g columns first end h IsHeld x y step clear clear_ends firsts ends from to is_x is_y is_step some low few whole
+    whole_ends firsts_size ends_size rows runs spanned =
     let told = rw (is_x, is_y, is_step) at runs.each in
     let long : end ≤ length clear = omega (arith, whole, low, few) in
+    let long_ends : end ≤ length clear_ends = omega (arith, whole_ends, low, few) in
     record {
       fits = record {
         low = low;
         spanned = λ row column on.
             let here = rw (
               part_at first end clear firsts some long firsts_size row on.0 on.1,
-              part_at first end clear ends some long ends_size row on.0 on.1,
+              part_at first end clear_ends ends some long_ends ends_size row on.0 on.1,
             ) at on.2 in
             spanned (row - first) column (omega (arith, firsts_size, on.0, on.1)) here;
       };
@@ -163,186 +117,41 @@ tells_band g columns first end h IsHeld x y step clear firsts ends from to is_x 
           let inside = rows row s (within, refl) in
           let here : first ≤ row → row < end
           → IsInRun (slice_index (put_mid first (end - first) clear firsts) row)
-          (slice_index (put_mid first (end - first) clear ends) row) column ↔ IsHeld s = λ after until.
+          (slice_index (put_mid first (end - first) clear_ends ends) row) column ↔ IsHeld s = λ after until.
           let k = row - first in
           let same : first + k ≡ row = omega arith in
           rw (
             part_at first end clear firsts some long firsts_size row after until,
-            part_at first end clear ends some long ends_size row after until,
+            part_at first end clear_ends ends some long_ends ends_size row after until,
           )
           (rw (below_top g columns first k column, same) at (told k column (omega (arith, firsts_size, until, after)) near)) in (
-            (λ on. (here on.0 on.1).0 on.2),
+            (λ on. ((here on.0 on.1).0 on.2, inside.0 (on.0, on.1))),
             (λ held.
-                let band = inside.1 (heights s held) in
-                (band.0, band.1, (here band.0 band.1).1 held)),
+                let band = inside.1 held.1 in
+                (band.0, band.1, (here band.0 band.1).1 held.0)),
           );
     }
 
--- ---- grids side by side
-
-stepped_on : (x s : ℤ) (column i : ℕ) → x +ℤ pos column *ℤ s +ℤ pos i *ℤ s ≡ x +ℤ pos (column + i) *ℤ s
-stepped_on x s column i =
-    equal
-    (Sum (Sum (Atom x) (Product (Atom (pos column)) (Atom s))) (Product (Atom (pos i)) (Atom s)))
-    (Sum (Atom x) (Product (Atom (pos (column + i))) (Atom s)))
-    (omega arith)
-
-spot_is : (x y x' y' : ℤ) → x ≡ x' → y ≡ y' → ◌≡◌ {A = Spot} record { x = x; y = y } record { x = x'; y = y' }
-spot_is x y x' y' e f = rw (e, f) refl
-
-pub stands_at : (g other : Grid) (column gap pitch : ℕ) → other.first.y ≡ g.first.y → other.rows ≡ g.rows
-    → other.step ≡ g.step → other.first.x ≡ g.first.x +ℤ pos gap → g.step ≡ pos pitch → column * pitch ≡ gap
-    → column < most_columns → StandsAt g column other
-stands_at g other column gap pitch is_y is_rows is_step is_x is_pitch whole near =
-    let far : pos column *ℤ g.step ≡ pos gap = rw is_pitch (omega (arith, ints, whole)) in
-    record {
-      near = near;
-      rows = is_rows;
-      centres = λ i row.
-          spot_is _ _ _ _
-          (rw (is_x, is_step, ← far) (stepped_on g.first.x g.step column i))
-          (rw (is_y, is_step) refl);
-    }
-
-between : (x a b c : ℤ) → unsigned_abs (x +ℤ a) < place_limit → unsigned_abs (x +ℤ c) < place_limit → a ≤ℤ b → b ≤ℤ c
-    → unsigned_abs (x +ℤ b) < place_limit
-between x a b c first last from to = omega (arith, ints)
-
-pub wide_through : (g last : Grid) (column : ℕ) → IsGrid g → IsGrid last → StandsAt g column last
-    → column + last.columns ≤ most_columns → IsWideGrid g (column + last.columns)
-wide_through g last column grid other stands few = record {
-  grid = grid;
-  count = (omega (arith, other.columns.0), few);
-  centres = λ i row inside below.
-      let start = grid.centres 0 row (omega (arith, grid.columns.0)) below in
-      let there = other.centres (last.columns - 1) 0 (omega (arith, other.columns.0)) (omega (arith, other.rows.0)) in
-      let end = rw (stands.centres (last.columns - 1) 0) at there in
-      record {
-        x = between g.first.x (pos 0 *ℤ g.step) (pos i *ℤ g.step) (pos (column + (last.columns - 1)) *ℤ g.step)
-            start.x end.x (steps_up 0 i g.step grid.step (omega arith))
-            (steps_up i (column + (last.columns - 1)) g.step grid.step (omega (arith, inside)));
-        y = start.y;
-      };
+-- runs that hold nothing
+pub tells_nothing : (g : Grid) (columns : ℕ) (r : Runs) → ((row column : ℕ) → HasColumn r row column → ⊥)
+    → r.band.end ≡ 0 → Tells g columns (λ s. ⊥) r
+tells_nothing g columns r none low = record {
+  fits = record { low = omega (arith, low); spanned = λ row column on. absurd (none row column on) };
+  each = λ column row _ _. ((λ on. none row column on), (λ held. absurd held));
 }
 
--- ---- strokes
-
-pub tells_disc : (g : Grid) (columns : ℕ) (p q : Point) (w : Nm) (bar start end : Runs) → p ≡ q
-    → ((row column : ℕ) → HasColumn bar row column → ⊥) → bar.band.end ≡ 0
-    → ((row column : ℕ) → HasColumn end row column → ⊥) → end.band.end ≡ 0
-    → Tells g columns (λ s. IsInDisc s (record { centre = p; diameter = w })) start
-    → TellsStroke g columns (λ s. IsInCapsule s (record { from = p; to = q; width = w }))
-    (record { bar = bar; start = start; end = end })
-tells_disc g columns p q w bar start end is no_bar low_bar no_end low_end told = record {
-  fit = record {
-    bar = record { low = omega (arith, low_bar); spanned = λ row column on. absurd (no_bar row column on) };
-    start = told.fits;
-    end = record { low = omega (arith, low_end); spanned = λ row column on. absurd (no_end row column on) };
-  };
+-- a shape that lies between the heights
+pub tells_whole : (g : Grid) (columns : ℕ) (h : Heights) (IsHeld : Spot → Type 0) (r : Runs)
+    → ((s : Spot) → IsHeld s → IsWithin h s) → Tells g columns (λ s. IsHeld s × IsWithin h s) r
+    → Tells g columns IsHeld r
+tells_whole g columns h IsHeld r heights told = record {
+  fits = told.fits;
   each = λ column row near within.
-      let s = centre_in g column row in
-      let here = told.each column row near within in
-      let same : IsInDisc s (record { centre = p; diameter = w })
-      ↔ IsInCapsule s (record { from = p; to = q; width = w }) = rw is (disc_stroke s q w) in (
-        (λ part. elim part [
-          | inl before ↦ elim before [
-            | inl on ↦ absurd (no_bar row column on)
-            | inr on ↦ same.0 (here.0 on)
-          ]
-          | inr on ↦ absurd (no_end row column on)
-        ]),
-        (λ inside. inl (inr (here.1 (same.1 inside)))),
+      let here = told.each column row near within in (
+        (λ on. (here.0 on).0),
+        (λ held. here.1 (held, heights (centre_in g column row) held)),
       );
 }
-
-pub tells_parts : (g : Grid) (columns : ℕ) (c : Capsule) (bar start end : Runs)
-    → Tells g columns (λ s. IsInBar s (bar_of c)) bar → Tells g columns (λ s. IsInDisc s (start_of c)) start
-    → Tells g columns (λ s. IsInDisc s (end_of c)) end
-    → TellsStroke g columns (λ s. IsInCapsule s c) (record { bar = bar; start = start; end = end })
-tells_parts g columns c bar start end in_bar in_start in_end = record {
-  fit = record { bar = in_bar.fits; start = in_start.fits; end = in_end.fits };
-  each = λ column row near within.
-      let whole = in_capsule (centre_in g column row) c in
-      let of_bar = in_bar.each column row near within in
-      let of_start = in_start.each column row near within in
-      let of_end = in_end.each column row near within in (
-        (λ part. whole.1 (elim part [
-          | inl before ↦ inl (elim before [ inl on ↦ inl (of_bar.0 on) | inr on ↦ inr (of_start.0 on) ])
-          | inr on ↦ inr (of_end.0 on)
-        ])),
-        (λ inside. elim (whole.0 inside) [
-          | inl before ↦ inl (elim before [ inl on ↦ inl (of_bar.1 on) | inr on ↦ inr (of_start.1 on) ])
-          | inr on ↦ inr (of_end.1 on)
-        ]),
-      );
-}
-
-pub tells_like : (g : Grid) (columns : ℕ) (P Q : Spot → Type 0) (s : StrokeRuns) → ((t : Spot) → Q t ↔ P t)
-    → TellsStroke g columns P s → TellsStroke g columns Q s
-tells_like g columns P Q s same told = record {
-  fit = told.fit;
-  each = λ column row near within.
-      let here = told.each column row near within in
-      let there = same (centre_in g column row) in
-      ((λ on. there.1 (here.0 on)), (λ held. here.1 (there.0 held)));
-}
-
--- marks that are joined with the runs of a stroke, where a mask stands in their rows
-pub joins_stroke : (g own : Grid) (columns column : ℕ) (how : Join) (IsHeld : Spot → Type 0) (stroke : StrokeRuns)
-    (old new : Marking) → own ≡ old.grid → TellsStroke g columns IsHeld stroke → StandsAt g column own
-    → column + own.columns ≤ columns → new.grid ≡ old.grid
-    → ((i row : ℕ) → IsIn old.grid i row
-    → IsMarked new i row ↔ joined how (IsMarked old i row) (HasPart stroke row (column + i)))
-    → Joins how IsHeld old new
-joins_stroke g own columns column how IsHeld stroke old new is told stands within grid marks = record {
-  grid = grid;
-  marks = λ i row inside.
-      let here : IsIn own i row = rw is inside in
-      let part : HasPart stroke row (column + i) ↔ IsHeld (centre_in own i row) =
-      rw (stands.centres i row) (told.each (column + i) row (omega (arith, here.0, within))
-      (omega (arith, here.1, stands.rows))) in
-      joined_like how _ _ _ _ _ ((λ a. a), (λ a. a)) (rw is at part) (marks i row inside);
-}
-
--- three parts are joined as one
-pub joined_parts : (dark : Bool) (A B C D New One Two : Type 0) → One ↔ joined (inked dark) A B
-    → Two ↔ joined (inked dark) One C → New ↔ joined (inked dark) Two D
-    → New ↔ joined (inked dark) A ((B ⊎ C) ⊎ D)
-joined_parts true A B C D New One Two first second third = (
-  (λ new. elim (third.0 new) [
-    | inl two ↦ elim (second.0 two) [
-      | inl one ↦ elim (first.0 one) [ inl a ↦ inl a | inr b ↦ inr (inl (inl b)) ]
-      | inr c ↦ inr (inl (inr c))
-    ]
-    | inr d ↦ inr (inr d)
-  ]),
-  (λ some. third.1 (elim some [
-    | inl a ↦ inl (second.1 (inl (first.1 (inl a))))
-    | inr part ↦ elim part [
-      | inl before ↦ elim before [
-        | inl b ↦ inl (second.1 (inl (first.1 (inr b))))
-        | inr c ↦ inl (second.1 (inr c))
-      ]
-      | inr d ↦ inr d
-    ]
-  ])),
-)
-joined_parts false A B C D New One Two first second third = (
-  (λ new.
-      let two = third.0 new in
-      let one = second.0 two.0 in
-      let was = first.0 one.0 in (
-        was.0,
-        (λ part. elim part [
-          | inl before ↦ elim before [ inl b ↦ was.1 b | inr c ↦ one.1 c ]
-          | inr d ↦ two.1 d
-        ]),
-      )),
-  (λ p. third.1 (
-    second.1 (first.1 (p.0, (λ b. p.1 (inl (inl b)))), (λ c. p.1 (inl (inr c)))),
-    (λ d. p.1 (inr d)),
-  )),
-)
 
 -- ---- spans
 

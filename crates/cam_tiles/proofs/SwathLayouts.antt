@@ -87,29 +87,26 @@ further_on : (left stride : ℤ) (a b : ℕ) → pos 1 ≤ℤ stride → a ≤ b
     → (left +ℤ pos a *ℤ stride) ≤ℤ (left +ℤ pos b *ℤ stride)
 further_on left stride a b some more = omega (arith, ints, steps_up a b stride some more)
 
+pub pushed : (before : List ℕ) (masks : List Marking) (tile n : ℕ) → n ≡ length masks
+    → get_or (before ++ n ∷ []) tile (length masks) ≡ get_or before tile (length masks)
+pushed before masks tile n is = elim (cases_lt tile (length before)) [
+  | inl under ↦ get_or_append_left before (n ∷ []) (length masks) tile under
+  | inr over ↦ elim (cases_lt (length before) tile) [
+    | inl past ↦ get_or_past (before ++ n ∷ []) tile (length masks) (omega (arith, length_push before n))
+        ∙ sym (get_or_past before tile (length masks) over)
+    | inr here ↦ get_or_push before n (length masks) tile (omega arith) ∙ is
+        ∙ sym (get_or_past before tile (length masks) over)
+  ]
+]
+
 module _ (p : Pitch) (box : Bounds) (before : List ℕ) (masks : List Marking)
     (laid : IsLaidOut p box before (length masks) (grid_at masks)) where
-  count : ℕ
-  count = length masks
-
-  pushed : (tile n : ℕ) → n ≡ length masks
-      → get_or (before ++ n ∷ []) tile (length masks) ≡ get_or before tile (length masks)
-  pushed tile n is = elim (cases_lt tile (length before)) [
-    | inl under ↦ get_or_append_left before (n ∷ []) (length masks) tile under
-    | inr over ↦ elim (cases_lt (length before) tile) [
-      | inl past ↦ get_or_past (before ++ n ∷ []) tile (length masks) (omega (arith, length_push before n))
-          ∙ sym (get_or_past before tile (length masks) over)
-      | inr here ↦ get_or_push before n (length masks) tile (omega arith) ∙ is
-          ∙ sym (get_or_past before tile (length masks) over)
-    ]
-  ]
-
   -- one more tile
   pub next_tile : (more : List ℕ) (n : ℕ) → more ≡ before ++ n ∷ [] → n ≡ length masks
       → IsLaidOut p box more (length masks) (grid_at masks)
   next_tile more n is all =
       let at : (tile : ℕ) → get_or more tile (length masks) ≡ get_or before tile (length masks) = λ tile.
-      ap (λ those. get_or those tile (length masks)) is ∙ pushed tile n all in
+      ap (λ those. get_or those tile (length masks)) is ∙ pushed before masks tile n all in
       let size : length more ≡ length before + 1 = ap length is ∙ length_push before n in
       record {
         stride = laid.stride;

@@ -9,4 +9,5 @@ pub mod Parities
 pub mod Runs
 pub mod Shown
 pub mod Spans
+pub mod Strokes
 pub mod Swaths

@@ -19,24 +19,20 @@ use crate::window::Window;
 use cam_units::Bounds;
 use std::alloc::Global;
 
-/// Draws the dirty ones of the first tiles of a window: row by row of them where an index may be kept, and there is
-/// memory for it.
-pub(crate) fn draw(alloc: Option<Global>, shown: &Shown<'_>, window: &Window, tiles: &mut [Tile])
+/// Draws the dirty ones of the first tiles of a window: row by row of them where there is memory for an index.
+pub(crate) fn draw(alloc: Global, shown: &Shown<'_>, window: &Window, tiles: &mut [Tile])
     requires ready { IsReady shown.now }
     requires accepted { accepts window.now ≡ true }
     requires within { length tiles.old ≤ tiles_of window.now }
     ensures { tiles.new
         ≡ all_drawn_from (λ k. tile_rows (is_black (leaves_of shown.now)) (grid_of window.now k)) 0 tiles.old }
 {
-    if let Some(alloc) = alloc
-        && let Ok(index) = Index::new(alloc, shown, box_of_dirty(tiles, window))
-    {
-        let mut index = index;
-        let mut swath = Swath::new(alloc);
-        draw_rows(&mut index, &mut swath, shown, window, tiles);
-    } else {
+    let Ok(mut index) = Index::new(alloc, shown, box_of_dirty(tiles, window)) else {
         draw_each(shown, window, 0, tiles);
-    }
+        return;
+    };
+    let mut swath = Swath::new(alloc);
+    draw_rows(&mut index, &mut swath, shown, window, tiles);
 }
 
 /// The box of the centres of the dirty tiles, in half nm.

@@ -17,6 +17,7 @@ use crate::masks::filing::{FiledSegment, file_contour};
 use crate::masks::heights::Heights;
 use crate::masks::swath::Swath;
 use crate::shown::Shown;
+use crate::span::Span;
 use cam_apertures::has_place;
 use cam_objects::Canvas;
 use cam_units::{Bounds, Spot};
@@ -29,13 +30,6 @@ pub(crate) struct Boxed {
     place: u32,
     low: Spot,
     high: Spot,
-}
-
-/// A part of the segments that are filed, the first of them included and the end not.
-#[derive(Clone, Copy)]
-pub(crate) struct Span {
-    first: u32,
-    end: u32,
 }
 
 /// How many rows a strip has below those of the tile that it was filed for: the rows of seven tiles.

@@ -8,7 +8,7 @@ ghost use Rattle.cam_tiles.specs.Tiles.{IsGrid};
 
 use crate::grid::Grid;
 use crate::masks::heights::Heights;
-use crate::masks::mask::{Band, NO_ROWS};
+use crate::span::Span;
 
 /// Rows of centres, one below another: the height of the top one and how far they are apart, in half nm, and how many
 /// they are, from 1 to 64.
@@ -47,16 +47,16 @@ impl Levels {
 
     /// The rows at some heights: by a division for each end of these that lies inside the rows.
     #[inline]
-    pub(crate) fn band(&self, heights: Heights) -> Band
+    pub(crate) fn band(&self, heights: Heights) -> Span
         requires { AreLevels self.now }
         ensures rows { (row : ℕ) (s : Spot) → IsOnRow self.now row s
             → ((result.first ≤ row) × (row < result.end)) ↔ IsWithin heights s }
         ensures end { result.end ≤ self.now.rows }
     {
         if !self.reach(heights) {
-            return NO_ROWS;
+            return Span::NONE;
         }
-        Band {
+        Span {
             first: self.rows_above(self.top - heights.high.min(self.top)),
             end: self.rows_above(self.top - heights.low.max(self.bottom()) + 1),
         }

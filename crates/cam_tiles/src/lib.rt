@@ -24,7 +24,7 @@
 //!     height: 3,
 //! };
 //! let mut raster = Raster::new(alloc, window)?;
-//! let mut source = Source::gerber(&layer);
+//! let mut source = Source::gerber(alloc, &layer);
 //! assert!(rt; raster.redraw(&mut source, u32::MAX) == 1);
 //! assert!(rt; raster.pixel(0, 1) == Some(true));
 //! let file = raster.to_pbm(alloc)?;
@@ -44,6 +44,7 @@ mod pbm;
 mod raster;
 mod shown;
 mod source;
+mod span;
 mod touch;
 mod window;
 

@@ -1,5 +1,6 @@
 //! Masks: which pixel centres of a tile are marked.
 
+pub(crate) mod arc_parts;
 pub(crate) mod canvas;
 pub(crate) mod clipping;
 pub(crate) mod contours;
@@ -12,5 +13,6 @@ pub(crate) mod row_shape;
 pub(crate) mod runs;
 pub(crate) mod shapes;
 pub(crate) mod stamps;
+pub(crate) mod stroke_runs;
 pub(crate) mod strokes;
 pub(crate) mod swath;

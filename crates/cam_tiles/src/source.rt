@@ -17,10 +17,14 @@ use std::marker::Model;
 
 /// Paints the image of a layer: of a Gerber layer a place is black where the last leaf that covers it is dark, of a
 /// drill layer where a hole or a slot covers it.
+///
+/// While it draws it asks its allocator for memory: for the boxes of items, and for the tiles of a row of tiles, which
+/// are then drawn at once from those items alone that they may show. Where memory is refused, each tile asks every item;
+/// what is painted is the same.
 #[derive(Drop)]
 pub struct Source<'a> {
     shown: Shown<'a>,
-    alloc: Option<Global>,
+    alloc: Global,
     asked: u64,
 }
 
@@ -37,7 +41,7 @@ impl<'a> Model for Source<'a> {
 
 impl<'a> Source<'a> {
     /// Paints a sound layer. No tile was asked for.
-    pub fn gerber(layer: &'a Layer) -> Source<'a>
+    pub fn gerber(alloc: Global, layer: &'a Layer) -> Source<'a>
         requires { HasSoundItems layer.now }
         ensures { result ≡ unasked (content_leaves (content_of layer.now)) }
     {
@@ -46,14 +50,14 @@ impl<'a> Source<'a> {
                 layer,
                 chunks: None,
             },
-            alloc: None,
+            alloc,
             asked: 0,
         }
     }
 
     /// Paints a sound layer whose items are in chunks: those whose boxes the tiles do not meet are passed over. No tile
     /// was asked for.
-    pub fn gerber_in_chunks(layer: &'a Layer, chunks: &'a Chunks) -> Source<'a>
+    pub fn gerber_in_chunks(alloc: Global, layer: &'a Layer, chunks: &'a Chunks) -> Source<'a>
         requires sound { HasSoundItems layer.now }
         requires chunks { AreChunksOf (item_boxes layer.now.apertures layer.now.items.items) chunks.now }
         ensures { result ≡ unasked (content_leaves (content_of layer.now)) }
@@ -63,13 +67,13 @@ impl<'a> Source<'a> {
                 layer,
                 chunks: Some(chunks),
             },
-            alloc: None,
+            alloc,
             asked: 0,
         }
     }
 
     /// Paints a sound drill layer. No tile was asked for.
-    pub fn drill(layer: &'a DrillLayer) -> Source<'a>
+    pub fn drill(alloc: Global, layer: &'a DrillLayer) -> Source<'a>
         requires { IsSoundDrillLayer layer.now }
         ensures { result ≡ unasked (drill_content_leaves (drill_content_of layer.now)) }
     {
@@ -78,14 +82,14 @@ impl<'a> Source<'a> {
                 layer,
                 chunks: None,
             },
-            alloc: None,
+            alloc,
             asked: 0,
         }
     }
 
     /// Paints a sound drill layer whose items are in chunks: those whose boxes the tiles do not meet are passed over. No
     /// tile was asked for.
-    pub fn drill_in_chunks(layer: &'a DrillLayer, chunks: &'a Chunks) -> Source<'a>
+    pub fn drill_in_chunks(alloc: Global, layer: &'a DrillLayer, chunks: &'a Chunks) -> Source<'a>
         requires sound { IsSoundDrillLayer layer.now }
         requires chunks { AreChunksOf (drill_item_boxes layer.now.tools layer.now.items.items) chunks.now }
         ensures { result ≡ unasked (drill_content_leaves (drill_content_of layer.now)) }
@@ -95,18 +99,9 @@ impl<'a> Source<'a> {
                 layer,
                 chunks: Some(chunks),
             },
-            alloc: None,
+            alloc,
             asked: 0,
         }
-    }
-
-    /// Lets memory be taken for the boxes of items and for the tiles of a row of tiles, which are then drawn at once
-    /// from those items alone that they may show; where it is refused, each tile asks every item. What is painted is
-    /// the same.
-    pub fn keep_boxes(&mut self, alloc: Global)
-        ensures { self.new ≡ self.old }
-    {
-        self.alloc = Some(alloc);
     }
 }
 

@@ -8,15 +8,9 @@ ghost use Rattle.cam_tiles.specs.Machinery.Spans.{has_pixel, is_between, is_in_s
 ghost use Rattle.cam_tiles.specs.Tiles.{across, down};
 
 use crate::painter::Tile;
+use crate::span::Span;
 use crate::window::Window;
 use cam_units::Spot;
-
-/// Tiles side by side: those from `first` on, and before `end`.
-#[derive(Clone, Copy)]
-pub(crate) struct Span {
-    pub(crate) first: u32,
-    pub(crate) end: u32,
-}
 
 /// Pixel centres in a line, the first at 0 and then one at each `step`, and the ends of a closed range of that line;
 /// all in half nm.
@@ -72,7 +66,7 @@ impl Line {
         let first = self.count_before();
         let end = self.count_through();
         if end <= first {
-            return Span { first: 0, end: 0 };
+            return Span::NONE;
         }
         Span {
             first: first / 64,

@@ -36,7 +36,7 @@ fn cam_tiles(rt: HostRuntime) -> Result<(), Fail> {
         height: 3,
     };
     let mut raster = Raster::new(alloc, window)?;
-    let mut source = Source::gerber(&layer);
+    let mut source = Source::gerber(alloc, &layer);
     assert!(rt; raster.redraw(&mut source, u32::MAX) == 1);
     assert!(rt; raster.pixel(0, 1) == Some(true));
     let file = raster.to_pbm(alloc)?;

@@ -2,7 +2,7 @@
 use Rattle.std.specs.Prelude.{ℕ, ◌*◌, ◌-◌, ℤ, min, Bool, ◌&&◌, nat_le, nat_lt}
 use Rattle.std.specs.Int.RustNames.{int_le}
 use Rattle.std.specs.List.{list_any, range_with_len}
-use Rattle.cam_tiles.specs.declared.touch.Span.{Span}
+use Rattle.cam_tiles.specs.declared.span.Span.{Span}
 
 -- whether the tile is one of the span
 abbrev pub is_in_span : Span → ℕ → Bool

@@ -1,6 +1,6 @@
 -- Swaths: the dirty tiles of a row of tiles, as masks side by side, on which a leaf is painted once.
 use Rattle.std.specs.Prelude.{◌≡◌, ◌↔◌, ◌⊎◌, ℕ, ◌+◌, ◌/◌, ◌%◌, ◌<◌, ◌≤◌, pos, ◌+ℤ◌, ◌*ℤ◌, ◌≤ℤ◌}
-use Rattle.std.specs.Prelude.{Bool, List, [], ◌∷◌, Some, None, length, slice_index_or}
+use Rattle.std.specs.Prelude.{Bool, List, [], ◌∷◌, Some, None, length, slice_index, slice_index_or, ◌*◌}
 use Rattle.cam_units.specs.declared.bounds.Bounds.{Bounds}
 use Rattle.cam_units.specs.declared.point.Spot.{Spot}
 use Rattle.cam_objects.specs.Canvases.{Paints}
@@ -12,6 +12,7 @@ use Rattle.cam_tiles.specs.declared.masks.swath.Swath.TheInside.{Inside}
 use Rattle.cam_tiles.specs.declared.window.Window.{Window}
 use Rattle.cam_tiles.specs.Machinery.Levels.{levels_of}
 use Rattle.cam_tiles.specs.Machinery.Masks.{HoldsCentres, IsIn, Marking, PaintsMask, ink_of}
+use Rattle.cam_tiles.specs.Machinery.Runs.{IsWideGrid, StandsAt}
 use Rattle.cam_tiles.specs.Tables.{Tile}
 use Rattle.cam_tiles.specs.Tiles.{IsGrid, across, centre_in, tiles_of}
 
@@ -102,5 +103,17 @@ pub record IsLaidOut (p : Pitch) (box : Bounds) (before : List ℕ) (count : ℕ
   pub late : (tile k : ℕ) → tile < length before → slice_index_or before tile count ≤ k → k < count
       → (p.left +ℤ pos tile *ℤ p.stride) ≤ℤ (grids k).first.x
 
-abbrev pub IsSwath : Inside → Type 0
-IsSwath s = IsLaidOut s.pitch s.bounds s.before.items (length s.masks.items) (grid_at s.masks.items)
+-- The masks stand in the rows of the first tile, which go on to the right: each where its tile stands. It is one of the
+-- masks of tiles before another just where its tile stands before that one.
+pub record StandInRow (g : Grid) (columns : ℕ) (tiles before : List ℕ) (count : ℕ) (grids : ℕ → Grid) : Type 0 where
+  pub wide : IsWideGrid g columns
+  pub size : length tiles ≡ count
+  pub each : (k : ℕ) → k < count → StandsAt g (64 * slice_index tiles k) (grids k)
+  pub within : (k : ℕ) → k < count → 64 * slice_index tiles k + (grids k).columns ≤ columns
+  pub narrow : (k : ℕ) → k < count → (grids k).columns ≤ 64
+  pub few : (tile : ℕ) → slice_index_or before tile count ≤ count
+  pub order : (k tile : ℕ) → k < count → (k < slice_index_or before tile count) ↔ (slice_index tiles k < tile)
+
+pub record IsSwath (s : Inside) : Type 0 where
+  pub laid : IsLaidOut s.pitch s.bounds s.before.items (length s.masks.items) (grid_at s.masks.items)
+  pub stand : StandInRow s.corner s.columns s.tiles.items s.before.items (length s.masks.items) (grid_at s.masks.items)

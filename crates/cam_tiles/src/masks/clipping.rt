@@ -8,7 +8,7 @@ ghost use Rattle.cam_tiles.specs.Machinery.Filing.{AreEndsIn};
 ghost use Rattle.cam_tiles.specs.Machinery.Levels.{IsLevels, IsOnRow};
 
 use crate::levels::Levels;
-use crate::masks::mask::Band;
+use crate::span::Span;
 use cam_rows::edge_end;
 use cam_units::Point;
 
@@ -16,7 +16,7 @@ use cam_units::Point;
 ///
 /// It stands apart, so that filing stays short where a line crosses none of the rows, as most do.
 #[inline(never)]
-pub(crate) fn ends_in_rows(from: Point, to: Point, levels: Levels, band: Band) -> (i64, i64)
+pub(crate) fn ends_in_rows(from: Point, to: Point, levels: Levels, band: Span) -> (i64, i64)
     requires from { IsOnBoard from }
     requires to { IsOnBoard to }
     requires levels { IsLevels levels }

@@ -19,6 +19,7 @@ use crate::masks::heights::Heights;
 use crate::masks::join::{Join, told_by_type};
 use crate::masks::row_shape::RowShape;
 use crate::masks::runs::Runs;
+use crate::span::Span;
 use cam_rows::{Centres, run_row, turn_edge};
 use cam_units::{Bounds, Point, Spot};
 use std::marker::Model;
@@ -45,26 +46,6 @@ impl Model for Mask {
     ghost invariant = { IsBoxedMask };
 }
 
-/// Rows from one to another, the first of them included and the last not.
-#[derive(Clone, Copy)]
-pub(crate) struct Band {
-    pub(crate) first: u32,
-    pub(crate) end: u32,
-}
-
-pub(crate) const NO_ROWS: Band = Band { first: 0, end: 0 };
-
-impl Band {
-    /// Its rows as bits: bit k for row k.
-    pub(crate) fn bits(self) -> u64
-        requires some { self.first < self.end }
-        requires few { self.end ≤ 64 }
-        ensures { (row : ℕ) → row < 64 → IsBitSet result row ↔ ((self.first ≤ row) × (row < self.end)) }
-    {
-        (u64::MAX >> (64 - self.end)) & (u64::MAX << self.first)
-    }
-}
-
 impl Grid {
     /// The centres of a row, which is counted from the top, as they are seen from a point.
     pub(crate) fn row_from(&self, row: u32, at: Point) -> Centres
@@ -87,7 +68,7 @@ impl Grid {
 
     /// The rows whose centres lie, as they are seen from a point, between two heights: by a division for each, where
     /// there are any.
-    pub(crate) fn band(&self, heights: Heights, at: Point) -> Band
+    pub(crate) fn band(&self, heights: Heights, at: Point) -> Span
         requires grid { IsGrid self.now }
         requires at { IsOnBoard at }
         ensures rows { (row : ℕ) → row < self.now.rows
@@ -159,7 +140,7 @@ impl Mask {
 
     /// Turns over the marks at the centres, as they are seen from a point, from which the ray to the right crosses an
     /// edge: in the rows of a band, which are those that the edge crosses.
-    pub(crate) fn turn_edge(&mut self, from: Point, to: Point, at: Point, band: Band)
+    pub(crate) fn turn_edge(&mut self, from: Point, to: Point, at: Point, band: Span)
         requires from { IsOnBoard from }
         requires to { IsOnBoard to }
         requires at { IsOnBoard at }
@@ -201,10 +182,10 @@ impl Mask {
             → IsMarked self.new i row ↔ joined how (IsMarked self.old i row) (HasColumn runs.now row (column + i)) }
     {
         let columns = self.grid.columns;
-        if runs.end <= column {
+        if runs.columns.end <= column {
             return;
         }
-        if column + columns <= runs.first {
+        if column + columns <= runs.columns.first {
             return;
         }
         for row in runs.band.first..runs.band.end {

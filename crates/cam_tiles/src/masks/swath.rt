@@ -11,6 +11,7 @@ ghost use Rattle.cam_tiles.specs.declared.grid.Grid.{Grid};
 ghost use Rattle.cam_tiles.specs.Machinery.Filing.{AreFiled, IsOnBoardWhole};
 ghost use Rattle.cam_tiles.specs.Machinery.Levels.{levels_of};
 ghost use Rattle.cam_tiles.specs.Machinery.Masks.{IsBlank, IsIn};
+ghost use Rattle.cam_tiles.specs.Machinery.Strokes.{IsStrokeOf};
 ghost use Rattle.cam_tiles.specs.declared.masks.swath.Pitch.{Pitch};
 ghost use Rattle.cam_tiles.specs.Machinery.Swaths.{
   AreDrawn,
@@ -20,6 +21,7 @@ ghost use Rattle.cam_tiles.specs.Machinery.Swaths.{
   IsLaidOut,
   IsRowOfTiles,
   PaintsSwath,
+  StandInRow,
   dirty_grids,
   grid_at,
   ink_in,
@@ -31,15 +33,17 @@ ghost use Rattle.cam_tiles.specs.Picture.{accepts};
 ghost use Rattle.cam_tiles.specs.Tables.{all_drawn_from};
 ghost use Rattle.cam_tiles.specs.Tiles.{across, centre_in, grid_of, tile_rows};
 
+use crate::grid::Grid;
 use crate::masks::filing::FiledSegment;
 use crate::masks::join::Join;
 use crate::masks::mask::Mask;
+use crate::masks::stroke_runs::{Stroke, StrokeRuns};
 use crate::masks::strokes::{paint_each, paint_strokes, stroke_of};
 use crate::painter::Tile;
 use crate::shown::Region;
 use crate::window::Window;
 use cam_objects::{Canvas, Print};
-use cam_units::Bounds;
+use cam_units::{Bounds, Spot};
 use std::alloc::{AllocError, Global};
 use std::marker::Model;
 
@@ -51,16 +55,31 @@ pub(crate) struct Pitch {
 }
 
 /// Masks of the dirty tiles of a row of tiles, from the left, which are painted at once: each leaf on those masks
-/// alone that its box may reach.
+/// alone that its box may reach, and one whose runs are known on those alone that these reach.
 #[derive(Drop)]
 pub(crate) struct Swath {
     pitch: Pitch,
+    /// The grid of the first tile of the row, and how many columns the row has.
+    corner: Grid,
+    columns: u32,
     /// A box that holds the centres of all masks.
     bounds: Bounds,
     /// For each tile of the row, how many masks are of tiles before it.
     before: Vec<u32>,
+    /// For each mask, how many tiles of the row are before its own.
+    tiles: Vec<u32>,
     masks: Vec<Mask>,
+    /// The runs of the stroke that was painted last.
+    stroke: StrokeRuns,
 }
+
+/// A grid of one centre, at (0, 0).
+const ONE_CENTRE: Grid = Grid {
+    first: Spot { x: 0, y: 0 },
+    step: 1,
+    columns: 1,
+    rows: 1,
+};
 
 impl Model for Swath {
     ghost use Rattle.std.specs.Prelude.{List};
@@ -79,9 +98,13 @@ impl Swath {
     pub(crate) fn new(alloc: Global) -> Swath {
         Swath {
             pitch: Pitch { left: 0, stride: 1 },
+            corner: ONE_CENTRE,
+            columns: 1,
             bounds: Bounds::Empty,
             before: Vec::new(alloc),
+            tiles: Vec::new(alloc),
             masks: Vec::new(alloc),
+            stroke: StrokeRuns::none(),
         }
     }
 
@@ -100,15 +123,26 @@ impl Swath {
         ensures blank { OnOk result ((k : ℕ) → IsBlank (mask_at self.new k)) }
     {
         self.before.clear();
+        self.tiles.clear();
         self.masks.clear();
         self.before.reserve(tiles.len())?;
+        self.tiles.reserve(tiles.len())?;
         self.masks.reserve(tiles.len())?;
         let corner = window.grid(first);
         self.pitch = Pitch {
             left: corner.first.x,
             stride: 64 * corner.step,
         };
-        self.bounds = put_blanks(window, first, tiles, &mut self.before, &mut self.masks);
+        self.corner = corner;
+        self.columns = window.width;
+        self.bounds = put_blanks(
+            window,
+            first,
+            tiles,
+            &mut self.before,
+            &mut self.tiles,
+            &mut self.masks,
+        );
         Ok(())
     }
 
@@ -147,6 +181,27 @@ impl Swath {
         let first = self.first_reached(left);
         let end = self.end_reached(right);
         fill_masks(&mut self.masks, first, end, region, filed);
+    }
+
+    /// Paints a stroke: its runs are found once for the row of tiles, and drawn on those masks alone that they reach.
+    fn paint_stroke(&mut self, stroke: &Stroke, print: Print<'_>)
+        requires { IsStrokeOf print.figure stroke.now }
+        ensures { PaintsSwath self.old (leaf_of print.entry ∷ []) self.new }
+    {
+        self.stroke.find(stroke, &self.corner, self.columns);
+        let columns = self.stroke.columns();
+        let first_tile = columns.first as usize / 64;
+        let end_tile = columns.end.div_ceil(64) as usize;
+        let first = masks_before(&self.before, first_tile, &self.masks);
+        let end = masks_before(&self.before, end_tile, &self.masks);
+        paint_strokes(
+            &mut self.masks,
+            first,
+            end,
+            &self.tiles,
+            &self.stroke,
+            print,
+        );
     }
 
     /// The number of the first mask that may have a centre at a place across or right of it, in half nm.
@@ -189,7 +244,13 @@ impl Canvas for Swath {
         };
         let first = self.first_reached(low.x);
         let end = self.end_reached(high.x);
-        paint_masks(&mut self.masks, first, end, print);
+        if end.saturating_sub(first) > 1
+            && let Some(stroke) = stroke_of(&print.figure)
+        {
+            self.paint_stroke(&stroke, print);
+            return;
+        }
+        paint_each(&mut self.masks, first, end, print);
     }
 }
 
@@ -220,25 +281,30 @@ fn masks_before(before: &[u32], tile: usize, masks: &[Mask]) -> usize
     }
 }
 
-/// Puts down a blank mask for each dirty one of tiles that stand in a row of tiles, and how many masks are of tiles
-/// before each of them. Answers a box that holds the centres of all masks, in half nm.
+/// Puts down a blank mask for each dirty one of tiles that stand in a row of tiles, and which of the tiles it is; and for
+/// each of them, how many masks are of tiles before it. Answers a box that holds the centres of all masks, in half nm.
 fn put_blanks(
     window: &Window,
     first: u32,
     tiles: &[Tile],
     before: &mut Vec<u32>,
+    own: &mut Vec<u32>,
     masks: &mut Vec<Mask>,
 ) -> Bounds
     requires accepted { accepts window.now ≡ true }
     requires row { IsRowOfTiles window.now first tiles.now }
     requires none_before { before.old.items ≡ [] }
+    requires no_own { own.old.items ≡ [] }
     requires no_masks { masks.old.items ≡ [] }
     requires room_before { length tiles.now ≤ vec_capacity before.old }
+    requires room_own { length tiles.now ≤ vec_capacity own.old }
     requires room { length tiles.now ≤ vec_capacity masks.old }
     ensures grids { map (λ m. m.grid) masks.new.items ≡ dirty_grids (grid_of window.now) first tiles.now }
     ensures blank { (k : ℕ) → IsBlank (mask_at masks.new.items k) }
     ensures laid { (pitch : Pitch) → pitch ≡ pitch_of (grid_of window.now first)
         → IsLaidOut pitch result before.new.items (length masks.new.items) (grid_at masks.new.items) }
+    ensures stand { (corner : Grid) → corner ≡ grid_of window.now first → StandInRow corner window.now.width
+        own.new.items before.new.items (length masks.new.items) (grid_at masks.new.items) }
 {
     let mut bounds = Bounds::Empty;
     for (tile, drawn) in tiles.iter().enumerate() {
@@ -246,26 +312,11 @@ fn put_blanks(
         if drawn.is_none() {
             let mask = Mask::blank(window.grid(first + tile as u32));
             bounds = bounds.joined(mask.grid_bounds());
+            own.push_reserved(tile as u32);
             masks.push_reserved(mask);
         }
     }
     bounds
-}
-
-/// Paints a leaf on the masks from one number to another: a stroke of a circle or a disc on all of them at once.
-fn paint_masks(masks: &mut [Mask], first: usize, end: usize, print: Print<'_>)
-    requires end { end ≤ length masks.old }
-    requires print { IsSoundPrint print }
-    ensures { ArePaintedIn first end (leaf_of print.entry ∷ []) masks.old masks.new }
-{
-    if end.saturating_sub(first) < 2 {
-        paint_each(masks, first, end, print);
-        return;
-    }
-    match stroke_of(&print.figure) {
-        Some(capsule) => paint_strokes(masks, first, end, &capsule, print),
-        None => paint_each(masks, first, end, print),
-    }
 }
 
 /// Joins the masks from one number to another with the inside of a region whose segments are filed for their rows.

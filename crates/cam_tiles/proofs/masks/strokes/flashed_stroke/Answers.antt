@@ -1,6 +1,6 @@
 use Rattle.std.proofs.Common.{◌≡◌, pos, arith}
 use Rattle.std.proofs.lemmas.Int.{ints}
-use Rattle.cam_tiles.proofs.RunColumns.{disc_stroke, flashed_disc}
+use Rattle.cam_tiles.proofs.StrokeColumns.{disc_stroke, flashed_disc}
 use Rattle.cam_tiles.proofs.masks.strokes.flashed_stroke.Goals as goal
 
 pub returns-else-hole-ne0 : goal.returns-else-hole-ne0

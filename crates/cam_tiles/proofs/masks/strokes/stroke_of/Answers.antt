@@ -1,4 +1,4 @@
-use Rattle.cam_tiles.proofs.RunColumns.{disc_stroke}
+use Rattle.cam_tiles.proofs.StrokeColumns.{disc_stroke}
 use Rattle.cam_tiles.proofs.masks.strokes.stroke_of.Goals as goal
 
 pub returns-in-Drilled : goal.returns-in-Drilled

@@ -1,4 +1,4 @@
-use Rattle.std.proofs.Common.{◌≡◌, ◌+◌, ◌<◌, ℕ, List, [], ◌∷◌, ◌++◌, Some, None, length, map, drop, get_or, vec_capacity}
+use Rattle.std.proofs.Common.{◌≡◌, ◌+◌, ◌*◌, ◌<◌, ℕ, List, [], ◌∷◌, ◌++◌, Some, None, length, map, drop, get_or, vec_capacity}
 use Rattle.std.proofs.Common.{refl, ap, sym, subst, ◌∙◌, arith}
 use Rattle.std.proofs.lemmas.List.{get_or_default, length_push, map_push}
 use Rattle.std.specs.Global.{Vec}
@@ -6,16 +6,22 @@ use Rattle.cam_units.specs.declared.bounds.Bounds.{Bounds}
 use Rattle.cam_units.specs.declared.bounds.Bounds.TheVariants.{Empty}
 use Rattle.cam_tiles.specs.declared.grid.Grid.{Grid}
 use Rattle.cam_tiles.specs.Machinery.Masks.{IsBlank, Marking}
-use Rattle.cam_tiles.specs.Machinery.Swaths.{IsLaidOut, dirty_grids, grid_at, mask_at, pitch_of}
+use Rattle.cam_tiles.specs.Machinery.Runs.{IsWideGrid, StandsAt}
+use Rattle.cam_tiles.specs.Machinery.Swaths.{IsLaidOut, StandInRow, dirty_grids, grid_at, mask_at, pitch_of}
 use Rattle.cam_tiles.specs.declared.masks.swath.Pitch.{Pitch}
 use Rattle.cam_tiles.specs.Tiles.{IsGrid, across, grid_of}
 use Rattle.cam_tiles.proofs.GridLemmas.{on_board}
 use Rattle.cam_tiles.proofs.SwathLayouts.{laid_none, next_blank, next_mask, next_tile, no_blanks, row_stride}
 use Rattle.cam_tiles.proofs.SwathLayouts.{tile_begins, tile_wide}
-use Rattle.cam_tiles.proofs.TileCounts.{few_tiles}
+use Rattle.cam_tiles.proofs.SwathRows.{next_mask_stands, next_tile_stands, stand_none, tile_narrow, tile_stands, tile_within}
+use Rattle.cam_tiles.proofs.SwathRows.{wide_row}
+use Rattle.cam_tiles.proofs.TileCounts.{few_across, few_tiles}
 use Rattle.cam_tiles.proofs.TilesInOrder.{grids_clean, grids_dirty, read_clean, read_dirty}
 use Rattle.cam_tiles.proofs.masks.swath.put_blanks.Goals.{then-is_none, else-is_none}
 use Rattle.cam_tiles.proofs.masks.swath.put_blanks.Goals as goal
+
+one_longer : (xs more : List ℕ) (n : ℕ) → more ≡ xs ++ n ∷ [] → length more ≡ length xs + 1
+one_longer xs more n is = ap length is ∙ length_push xs n
 
 pub overflow_add-first : goal.overflow_add-first
 overflow_add-first c =
@@ -36,9 +42,17 @@ loop-tile-init c =
           (row_stride w first pitch is
           (on_board w first c.requires.accepted (omega (arith, c.requires.row.within, c.requires.row.some))))
           c.requires.none_before c.requires.no_masks;
+      stand = λ corner is.
+          stand_none corner w.width c.args.own.now.items c.args.before.now.items c.args.masks.now.items
+          (subst (λ (g : Grid). IsWideGrid g w.width) (sym is)
+          (wide_row w first c.requires.accepted c.requires.row.left
+          (omega (arith, c.requires.row.within, c.requires.row.some))))
+          c.requires.no_own c.requires.none_before c.requires.no_masks;
       size = ap length c.requires.none_before;
+      own = omega (arith, ap length c.requires.no_own);
       few = omega (arith, ap length c.requires.no_masks);
       room_before = refl;
+      room_own = refl;
       room = refl;
     }
 
@@ -62,10 +76,12 @@ loop-tile-preserved c =
     let size : length more ≡ tile + 1 = omega (arith, ap length is_more, length_push before n, so_far.size) in
     let laid = λ (p : Pitch) (is : p ≡ pitch_of (grid_of window first)).
     next_tile p box before masks (so_far.laid p is) more n is_more count in
+    let stand = λ (g : Grid) (is : g ≡ grid_of window first).
+    next_tile_stands g window.width c.loop-tile.own.items before masks (so_far.stand g is) more n is_more count in
     elim c.if-is_none.branch [
       | then-is_none w ↦
           (let m = w.blank-mask.result in
-          let added = ap (λ (v : Vec Marking). v.items) w.masks-is ∙ w.push_reserved-then-is_none.ensures.items in
+          let added = ap (λ (v : Vec Marking). v.items) w.masks-is ∙ w.push_reserved-then-is_none-2.ensures.items in
           let is_grid : m.grid ≡ grid_of window (first + tile) = w.blank-mask.ensures.grid ∙ w.grid.ensures.value in
           let read = read_dirty (get_or tiles tile None) c.is_none.result c.is_none.ensures w.if-is_none.true in
           record {
@@ -87,10 +103,25 @@ loop-tile-preserved c =
                 (tile_begins window first tile row.left fits p is m.grid is_grid)
                 (tile_wide window first tile row.left fits p is m.grid is_grid)
                 w.joined-bounds.ensures.least.first w.joined-bounds.ensures.least.second));
+            stand = λ g is.
+                let stands = subst (λ (o : Grid). StandsAt o (64 * tile) m.grid) (sym is)
+                (tile_stands window first tile row.left fits c.requires.accepted m.grid is_grid) in
+                subst (λ (ms : List Marking). StandInRow g window.width c.if-is_none.own.items more (length ms) (grid_at ms))
+                (sym added)
+                (next_mask_stands g window.width c.loop-tile.own.items more masks (stand g is) m tile _
+                c.if-is_none.own.items
+                (ap (λ (v : Vec ℕ). v.items) w.own-is ∙ w.push_reserved-then-is_none.ensures.items)
+                (omega (arith, fits, few_across window c.requires.accepted)) size stands
+                (tile_within window first tile row.left fits c.requires.accepted m.grid is_grid)
+                (tile_narrow window first tile row.left fits c.requires.accepted m.grid is_grid));
             size = size;
+            own =
+                (let longer = one_longer _ _ _ w.push_reserved-then-is_none.ensures.items in
+                omega (arith, so_far.own, ap (λ (v : Vec ℕ). length v.items) w.own-is, longer));
             few = omega (arith, so_far.few, ap length added, length_push masks m);
             room_before = c.push_reserved.ensures.capacity ∙ so_far.room_before;
-            room = ap vec_capacity w.masks-is ∙ w.push_reserved-then-is_none.ensures.capacity ∙ so_far.room;
+            room_own = ap vec_capacity w.own-is ∙ w.push_reserved-then-is_none.ensures.capacity ∙ so_far.room_own;
+            room = ap vec_capacity w.masks-is ∙ w.push_reserved-then-is_none-2.ensures.capacity ∙ so_far.room;
           })
       | else-is_none w ↦
           (let same = ap (λ (v : Vec Marking). v.items) w.masks-is in
@@ -106,9 +137,16 @@ loop-tile-preserved c =
             laid = λ p is.
                 subst (λ (ms : List Marking). IsLaidOut p c.if-is_none.bounds more (length ms) (grid_at ms)) (sym same)
                 (subst (λ (b : Bounds). IsLaidOut p b more (length masks) (grid_at masks)) (sym w.bounds-is) (laid p is));
+            stand = λ g is.
+                subst (λ (ms : List Marking). StandInRow g window.width c.if-is_none.own.items more (length ms) (grid_at ms))
+                (sym same)
+                (subst (λ (v : Vec ℕ). StandInRow g window.width v.items more (length masks) (grid_at masks)) (sym w.own-is)
+                (stand g is));
             size = size;
+            own = omega (arith, so_far.own, ap (λ (v : Vec ℕ). length v.items) w.own-is);
             few = omega (arith, so_far.few, ap length same);
             room_before = c.push_reserved.ensures.capacity ∙ so_far.room_before;
+            room_own = ap vec_capacity w.own-is ∙ so_far.room_own;
             room = ap vec_capacity w.masks-is ∙ so_far.room;
           })
     ]

@@ -11,7 +11,7 @@ use Rattle.cam_tiles.specs.Machinery.Levels.{levels_of}
 use Rattle.cam_tiles.specs.Machinery.Masks.{IsIn, Marking, ink_of}
 use Rattle.cam_tiles.specs.Machinery.Swaths.{HasMask, grid_at, mask_at}
 use Rattle.cam_tiles.specs.Tiles.{centre_in}
-use Rattle.cam_tiles.proofs.PaintedSwaths.{part_laid_out, part_painted, passed_over, put_back}
+use Rattle.cam_tiles.proofs.PaintedSwaths.{part_kept, part_painted, passed_over, put_back}
 use Rattle.cam_tiles.proofs.masks.swath.Swath.fill_filed.Goals as goal
 
 pub fill_masks-requires-clause-filed : goal.fill_masks-requires-clause-filed
@@ -20,7 +20,7 @@ fill_masks-requires-clause-filed c = λ k after until.
     let within : c.end_reached-end.result ≤ length s.masks.items =
     subst (λ (ms : List Marking). c.end_reached-end.result ≤ length ms) (sym c.self.view_is)
     c.end_reached-end.ensures.within in
-    let grid = (c.self.invariant.each k (omega arith)).0 in
+    let grid = (c.self.invariant.laid.each k (omega arith)).0 in
     let filed = c.requires.filed k
     (subst (λ (ms : List Marking). HasMask ms k) c.self.view_is (grid.columns.0, grid.rows.0)) in
     subst (λ (ms : List Marking). AreFiled c.args.region.contour.now (levels_of (grid_at ms k)) c.args.filed.now)
@@ -32,13 +32,15 @@ invariant_of-self c =
     let leaves = leaf (Filled c.args.region.contour.now) c.args.region.dark ∷ [] in
     let new = c.fill_masks.new.masks in
     let after = with_items_is s.masks new (c.fill_masks.ensures.size ∙ c.deref_mut.ensures.len) in
-    part_laid_out c.first_reached-first.result c.end_reached-end.result leaves s.masks.items _
+    let kept =
+    part_kept c.first_reached-first.result c.end_reached-end.result leaves s.masks.items _
     (put_back c.first_reached-first.result c.end_reached-end.result leaves s.masks.items c.deref_mut.result.now new _
     c.deref_mut.ensures.value after c.fill_masks.ensures)
-    s.pitch s.bounds s.before.items
+    s.pitch s.bounds s.corner s.columns s.tiles.items s.before.items
     (subst (λ (ms : List Marking). c.end_reached-end.result ≤ length ms) (sym c.self.view_is)
     c.end_reached-end.ensures.within)
-    c.self.invariant
+    c.self.invariant.laid c.self.invariant.stand in
+    record { laid = kept.0; stand = kept.1 }
 
 pub returns : goal.returns
 returns c =

@@ -18,5 +18,8 @@ invariant_of-self-2 c =
     let short : FitsSigned w64 c.grid-corner.result.step = search rules in
     let long : FitsSigned w64 (pos 64 *ℤ c.grid-corner.result.step) = omega (arith, ints, step, limits.pitch) in
     let left : FitsSigned w64 c.grid-corner.result.first.x = search rules in
-    simp to_z-of_z (c.put_blanks-self-inside.ensures.laid (pitch_of c.grid-corner.result)
-    (ap pitch_of c.grid-corner.ensures.value))
+    record {
+      laid = simp to_z-of_z (c.put_blanks-self-inside.ensures.laid (pitch_of c.grid-corner.result)
+          (ap pitch_of c.grid-corner.ensures.value));
+      stand = c.put_blanks-self-inside.ensures.stand c.grid-corner.result c.grid-corner.ensures.value;
+    }

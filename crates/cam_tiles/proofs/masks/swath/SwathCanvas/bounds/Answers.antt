@@ -11,4 +11,4 @@ returns c =
     subst
     (λ (masks : List Marking). (column row : ℕ) → IsInSwath masks column row
     → Holds s.bounds (place_in masks column row)) c.self.view_is
-    (swath_held s.pitch s.bounds s.before.items s.masks.items c.self.invariant)
+    (swath_held s.pitch s.bounds s.before.items s.masks.items c.self.invariant.laid)

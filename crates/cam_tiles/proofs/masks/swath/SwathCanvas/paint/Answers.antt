@@ -9,7 +9,7 @@ use Rattle.cam_objects.proofs.Canvases.{paints_outside}
 use Rattle.cam_tiles.specs.Machinery.Masks.{IsIn, Marking, ink_of}
 use Rattle.cam_tiles.specs.Machinery.Swaths.{IsInSwath, ink_in, mask_at, place_in}
 use Rattle.cam_tiles.specs.Tiles.{centre_in}
-use Rattle.cam_tiles.proofs.PaintedSwaths.{part_laid_out, part_painted, passed_over, put_back}
+use Rattle.cam_tiles.proofs.PaintedSwaths.{part_kept, part_painted, passed_over, put_back}
 use Rattle.cam_tiles.proofs.masks.swath.SwathCanvas.paint.Goals as goal
 
 pub returns-in_default : goal.returns-in_default
@@ -22,28 +22,30 @@ pub invariant_of-self : goal.invariant_of-self
 invariant_of-self c =
     let s = c.self.inside in
     let leaves = leaf_of c.args.print ∷ [] in
-    let new = c.paint_masks.new.masks in
-    let after = with_items_is s.masks new (c.paint_masks.ensures.size ∙ c.deref_mut.ensures.len) in
-    part_laid_out c.first_reached-first.result c.end_reached-end.result leaves s.masks.items _
+    let new = c.paint_each.new.masks in
+    let after = with_items_is s.masks new (c.paint_each.ensures.size ∙ c.deref_mut.ensures.len) in
+    let kept =
+    part_kept c.first_reached-first.result c.end_reached-end.result leaves s.masks.items _
     (put_back c.first_reached-first.result c.end_reached-end.result leaves s.masks.items c.deref_mut.result.now new _
-    c.deref_mut.ensures.value after c.paint_masks.ensures)
-    s.pitch s.bounds s.before.items
+    c.deref_mut.ensures.value after c.paint_each.ensures)
+    s.pitch s.bounds s.corner s.columns s.tiles.items s.before.items
     (subst (λ (ms : List Marking). c.end_reached-end.result ≤ length ms) (sym c.self.view_is)
     c.end_reached-end.ensures.within)
-    c.self.invariant
+    c.self.invariant.laid c.self.invariant.stand in
+    record { laid = kept.0; stand = kept.1 }
 
-pub returns : goal.returns
-returns c =
+pub returns-2 : goal.returns-2
+returns-2 c =
     let s = c.self.inside in
     let old = c.args.self.now in
     let first = c.first_reached-first.result in
     let end = c.end_reached-end.result in
     let leaves = leaf_of c.args.print ∷ [] in
-    let new = c.paint_masks.new.masks in
-    let after = with_items_is s.masks new (c.paint_masks.ensures.size ∙ c.deref_mut.ensures.len) in
+    let new = c.paint_each.new.masks in
+    let after = with_items_is s.masks new (c.paint_each.ensures.size ∙ c.deref_mut.ensures.len) in
     let part =
     put_back first end leaves old c.deref_mut.result.now new _ (c.deref_mut.ensures.value ∙ c.self.view_is) after
-    c.paint_masks.ensures in
+    c.paint_each.ensures in
     let sides : (t : Spot) → Holds c.args.print.bounds t → (c.in-Closed.low.x ≤ℤ t.x) × (t.x ≤ℤ c.in-Closed.high.x) =
     λ t held. let between = subst (λ (b : Bounds). Holds b t) c.in-Closed.is held in (between.left, between.right) in
     let least : FitsSigned w64 c.in-Closed.low.x = search rules in

@@ -3,7 +3,7 @@ use Rattle.std.specs.Int.{IsBitSet}
 use Rattle.std.proofs.lemmas.Nat.Bits.{bit_at-lt, bit_at_mask_below, bit_at_mask_inside, ones_shl}
 use Rattle.cam_rows.proofs.SetBits.{set_in_and, set_is_one}
 use Rattle.cam_tiles.proofs.WordBits.{set_in_low}
-use Rattle.cam_tiles.proofs.masks.mask.Band.bits.Goals as goal
+use Rattle.cam_tiles.proofs.span.Span.bits.Goals as goal
 
 -- the bits from one on
 set_from : (first i : ℕ) → first ≤ 64 → i < 64 → IsBitSet ((2 ^ 64 - 1) * 2 ^ first % 2 ^ 64) i ↔ (first ≤ i)
@@ -12,9 +12,9 @@ set_from first i low near =
     (grind (arith, set_is_one, bit_at-lt, bit_at_mask_below first 64 i, bit_at_mask_inside first 64 i))
 
 pub returns : goal.returns
-returns c = λ row near.
-    let low = set_in_low c.args.self.end row c.requires.few in
-    let high = set_from c.args.self.first row (omega arith) near in
+returns c = λ k near.
+    let low = set_in_low c.args.self.end k c.requires.few in
+    let high = set_from c.args.self.first k (omega arith) near in
     let both = set_in_and ((2 ^ 64 - 1) / 2 ^ (64 - c.args.self.end))
-    ((2 ^ 64 - 1) * 2 ^ c.args.self.first % 2 ^ 64) row in
+    ((2 ^ 64 - 1) * 2 ^ c.args.self.first % 2 ^ 64) k in
     grind (arith, low, high, both)

@@ -1,7 +1,7 @@
 use Rattle.std.proofs.Common.{arith}
 use Rattle.cam_tiles.proofs.RunColumns.{one_more_spanned}
-use Rattle.cam_tiles.proofs.masks.runs.span.Goals.{then-firsts-k, else-firsts-k}
-use Rattle.cam_tiles.proofs.masks.runs.span.Goals as goal
+use Rattle.cam_tiles.proofs.masks.runs.columns_between.Goals.{then-firsts-k, else-firsts-k}
+use Rattle.cam_tiles.proofs.masks.runs.columns_between.Goals as goal
 
 pub loop-k-preserved : goal.loop-k-preserved
 loop-k-preserved c =

@@ -1,0 +1,22 @@
+use Rattle.std.proofs.Common.{◌≡◌, ◌+◌, refl, sym, subst, ◌∙◌}
+use Rattle.cam_tiles.specs.declared.grid.Grid.{Grid}
+use Rattle.cam_tiles.specs.Machinery.Masks.{IsIn}
+use Rattle.cam_tiles.proofs.Joined.{joined_like}
+use Rattle.cam_tiles.proofs.StrokeColumns.{composed, nothing_taken}
+use Rattle.cam_tiles.proofs.masks.mask.Mask.join_body.Goals as goal
+
+pub returns-then-is_whole-clause-marks : goal.returns-then-is_whole-clause-marks
+returns-then-is_whole-clause-marks c = λ i row inside.
+    nothing_taken c.args.how _ _ _ _ _ (c.if-is_whole.ensures refl row (c.args.column + i))
+    (c.join_runs.ensures.marks i row inside)
+
+pub returns-clause-marks : goal.returns-clause-marks
+returns-clause-marks c = λ i row inside.
+    let own : c.blank-own.result.grid ≡ c.args.self.now.grid = c.blank-own.ensures.grid ∙ c.grid.ensures.value in
+    let there = subst (λ (g : Grid). IsIn g i row) (sym own) inside in
+    let second = subst (λ (g : Grid). IsIn g i row) (sym c.join_runs-2.ensures.grid) there in
+    let third = subst (λ (g : Grid). IsIn g i row) (sym c.join_runs-3.ensures.grid) second in
+    let body =
+    composed _ _ _ _ _ _ _ (c.blank-own.ensures.marks i row there) (c.join_runs-2.ensures.marks i row there)
+    (c.join_runs-3.ensures.marks i row second) (c.join_runs-4.ensures.marks i row third) in
+    joined_like c.args.how _ _ _ _ _ ((λ a. a), (λ a. a)) body (c.merge.ensures.marks i row inside)

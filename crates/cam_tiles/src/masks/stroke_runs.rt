@@ -1,0 +1,195 @@
+//! The runs of a stroke of a circle in the rows of masks side by side, and how they are joined with a mask.
+
+ghost use Rattle.std.specs.Prelude.{◌≡◌, ◌↔◌, ◌⊎◌, ◌+◌, ◌<◌, ℕ, IsTrue, ◌∷◌, []};
+ghost use Rattle.cam_shapes.specs.Arc.{IsInArc, IsSoundArc};
+ghost use Rattle.cam_shapes.specs.Bar.{IsInCapsule, IsSoundCapsule};
+ghost use Rattle.cam_objects.specs.Canvases.{leaf_of, shape_of};
+ghost use Rattle.cam_objects.specs.Image.{Covers};
+ghost use Rattle.cam_rows.specs.Runs.{IsInRun, most_columns};
+ghost use Rattle.cam_tiles.specs.Machinery.Masks.{IsIn, IsMarked, PaintsMask, inked, joined};
+ghost use Rattle.cam_tiles.specs.Machinery.Runs.{HasColumn, IsWideGrid};
+ghost use Rattle.cam_tiles.specs.Machinery.Strokes.{
+  AllFit,
+  HasBody,
+  HasPart,
+  IsInStroke,
+  IsSoundStroke,
+  IsToldAt,
+  TellsStroke,
+};
+
+use crate::grid::Grid;
+use crate::masks::arc_parts::{Beyond, Hollow, Outer};
+use crate::masks::join::Join;
+use crate::masks::mask::Mask;
+use crate::masks::row_shape::RowShape;
+use crate::masks::runs::Runs;
+use crate::span::Span;
+use cam_objects::Print;
+use cam_rows::ring_of;
+use cam_shapes::{Arc, Bar, Capsule, Disc};
+
+/// A stroke of a circle along a straight way or an arc; a disc is a straight one of no length.
+#[derive(Clone, Copy)]
+pub(crate) enum Stroke {
+    Straight(Capsule),
+    Round(Arc),
+}
+
+/// The runs of a stroke of a circle: those of its body, those of what is taken out of this, and those of the discs about
+/// its ends.
+#[derive(Clone, Copy)]
+pub(crate) struct StrokeRuns {
+    /// Of a straight stroke the bar between its ends; of an arc what its outer circle and its sweep hold.
+    pub(crate) body: Runs,
+    /// Of an arc what its inner circle holds.
+    pub(crate) hollow: Runs,
+    /// Of an arc what its sweep leaves out.
+    pub(crate) beyond: Runs,
+    pub(crate) start: Runs,
+    pub(crate) end: Runs,
+}
+
+impl StrokeRuns {
+    /// None.
+    pub(crate) fn none() -> StrokeRuns {
+        StrokeRuns {
+            body: Runs::none(),
+            hollow: Runs::none(),
+            beyond: Runs::none(),
+            start: Runs::none(),
+            end: Runs::none(),
+        }
+    }
+
+    /// Turns to those of a stroke in the rows of a grid, and as many columns from its left on.
+    pub(crate) fn find(&mut self, stroke: &Stroke, grid: &Grid, columns: u32)
+        requires sound { IsSoundStroke stroke.now }
+        requires grid { IsWideGrid grid.now columns }
+        ensures { TellsStroke grid.now columns (IsInStroke stroke.now) self.new }
+    {
+        match stroke {
+            Stroke::Straight(capsule) => self.find_straight(capsule, grid, columns),
+            Stroke::Round(arc) => self.find_round(arc, grid, columns),
+        }
+    }
+
+    /// Turns to those of a straight stroke. One of no length is a disc.
+    fn find_straight(&mut self, capsule: &Capsule, grid: &Grid, columns: u32)
+        requires sound { IsSoundCapsule capsule.now }
+        requires grid { IsWideGrid grid.now columns }
+        ensures { TellsStroke grid.now columns (λ s. IsInCapsule s capsule.now) self.new }
+    {
+        let Capsule { from, to, width } = *capsule;
+        self.hollow.clear();
+        self.beyond.clear();
+        let disc = Disc {
+            centre: from,
+            diameter: width,
+        };
+        self.start.find(&disc, disc.heights(), grid, columns);
+        if from == to {
+            self.body.clear();
+            self.end.clear();
+            return;
+        }
+        let other = Disc {
+            centre: to,
+            diameter: width,
+        };
+        self.end.find(&other, other.heights(), grid, columns);
+        let bar = Bar { from, to, width };
+        self.body.find(&bar, bar.heights(), grid, columns);
+    }
+
+    /// Turns to those of an arc. All that is taken out of its body is so between the arc's heights alone.
+    fn find_round(&mut self, arc: &Arc, grid: &Grid, columns: u32)
+        requires sound { IsSoundArc arc.now }
+        requires grid { IsWideGrid grid.now columns }
+        ensures { TellsStroke grid.now columns (λ s. IsInArc s arc.now) self.new }
+    {
+        let arc = *arc;
+        let ring = ring_of(&arc);
+        let heights = arc.heights();
+        let outer = Outer { arc, ring };
+        self.body.find_between(&outer, heights, grid, columns);
+        let hollow = Hollow { arc, ring };
+        self.hollow.find_between(&hollow, heights, grid, columns);
+        let beyond = Beyond(arc);
+        self.beyond.find_between(&beyond, heights, grid, columns);
+        let start = Disc {
+            centre: arc.from,
+            diameter: arc.width,
+        };
+        self.start.find(&start, start.heights(), grid, columns);
+        let end = Disc {
+            centre: arc.to,
+            diameter: arc.width,
+        };
+        self.end.find(&end, end.heights(), grid, columns);
+    }
+
+    /// Columns between which the whole stroke lies.
+    pub(crate) fn columns(&self) -> Span
+        ensures { (rows row column : ℕ) → AllFit rows self.now → HasPart self.now row column
+            → IsInRun result.first result.end column }
+    {
+        let discs = self.start.columns.joined(self.end.columns);
+        self.body.columns.joined(discs)
+    }
+
+    /// Whether nothing is taken out of the body.
+    fn is_whole(&self) -> bool
+        ensures { IsTrue result → (row column : ℕ)
+            → HasColumn self.now.hollow row column ⊎ HasColumn self.now.beyond row column → ⊥ }
+    {
+        if !self.hollow.is_none() {
+            return false;
+        }
+        self.beyond.is_none()
+    }
+}
+
+impl Mask {
+    /// Joins the marks with the body of a stroke, by its runs in rows of which the grid begins at a column. One that
+    /// something is taken out of is composed in a mask of its own.
+    fn join_body(&mut self, stroke: &StrokeRuns, column: u32, how: Join)
+        requires near { column < most_columns }
+        requires fit { AllFit self.old.grid.rows stroke.now }
+        ensures grid { self.new.grid ≡ self.old.grid }
+        ensures marks { (i row : ℕ) → IsIn self.old.grid i row → IsMarked self.new i row
+            ↔ joined how (IsMarked self.old i row) (HasBody stroke.now row (column + i)) }
+    {
+        if stroke.is_whole() {
+            self.join_runs(&stroke.body, column, how);
+            return;
+        }
+        let mut own = Mask::blank(self.grid());
+        own.join_runs(&stroke.body, column, Join::Add);
+        own.join_runs(&stroke.hollow, column, Join::Clear);
+        own.join_runs(&stroke.beyond, column, Join::Clear);
+        self.merge(&own, how);
+    }
+
+    /// Joins the marks with a stroke.
+    fn join_stroke(&mut self, stroke: &StrokeRuns, column: u32, dark: bool)
+        requires near { column < most_columns }
+        requires fit { AllFit self.old.grid.rows stroke.now }
+        ensures grid { self.new.grid ≡ self.old.grid }
+        ensures marks { (i row : ℕ) → IsIn self.old.grid i row → IsMarked self.new i row
+            ↔ joined (inked dark) (IsMarked self.old i row) (HasPart stroke.now row (column + i)) }
+    {
+        let how = Join::inked(dark);
+        self.join_body(stroke, column, how);
+        self.join_runs(&stroke.start, column, how);
+        self.join_runs(&stroke.end, column, how);
+    }
+
+    /// Paints a stroke.
+    pub(crate) fn paint_stroke(&mut self, stroke: &StrokeRuns, column: u32, print: Print<'_>)
+        requires { IsToldAt column self.old.grid (Covers (shape_of print.figure)) stroke.now }
+        ensures { PaintsMask self.old (leaf_of print.entry ∷ []) self.new }
+    {
+        self.join_stroke(stroke, column, print.dark);
+    }
+}

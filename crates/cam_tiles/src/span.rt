@@ -1,0 +1,42 @@
+//! Numbers side by side: of rows, of columns, of tiles.
+
+ghost use Rattle.std.specs.Prelude.{◌↔◌, ◌⊎◌, ◌<◌, ◌≤◌, ℕ};
+ghost use Rattle.std.specs.Int.{IsBitSet};
+
+/// Those from `first` on, and before `end`; none where `end` is not past `first`.
+#[derive(Clone, Copy)]
+pub(crate) struct Span {
+    pub(crate) first: u32,
+    pub(crate) end: u32,
+}
+
+impl Span {
+    /// None.
+    pub(crate) const NONE: Span = Span { first: 0, end: 0 };
+
+    /// As bits: bit k for number k.
+    pub(crate) fn bits(self) -> u64
+        requires some { self.first < self.end }
+        requires few { self.end ≤ 64 }
+        ensures { (k : ℕ) → k < 64 → IsBitSet result k ↔ ((self.first ≤ k) × (k < self.end)) }
+    {
+        (u64::MAX >> (64 - self.end)) & (u64::MAX << self.first)
+    }
+
+    /// Those between which all of it and of another lie.
+    pub(crate) fn joined(self, other: Span) -> Span
+        ensures { (k : ℕ) → ((self.first ≤ k) × (k < self.end)) ⊎ ((other.first ≤ k) × (k < other.end))
+            → (result.first ≤ k) × (k < result.end) }
+    {
+        if self.end <= self.first {
+            return other;
+        }
+        if other.end <= other.first {
+            return self;
+        }
+        Span {
+            first: self.first.min(other.first),
+            end: self.end.max(other.end),
+        }
+    }
+}
