@@ -68,13 +68,13 @@ narrow-requires-clause-few c =
 
 pub narrow-requires-clause-short : goal.narrow-requires-clause-short
 narrow-requires-clause-short c =
-    c.left.ensures.short _
+    c.left.ensures.holds.short _
     (leftmost_rows c.args.top.now c.leftmost-left.result (length c.args.firsts.now) _ c.leftmost-left.ensures.value
     c.fill.ensures.len c.requires.rows)
 
 pub narrow-requires-2-clause-short : goal.narrow-requires-2-clause-short
 narrow-requires-2-clause-short c =
-    c.left-2.ensures.short _
+    c.left-2.ensures.holds.short _
     (leftmost_rows c.args.top.now c.leftmost-left.result (length c.args.firsts.now) _ c.leftmost-left.ensures.value
     (c.narrow.auto.firsts ∙ c.fill.ensures.len) c.requires.rows)
 
@@ -99,10 +99,10 @@ returns c =
     let left = c.leftmost-left.result in
     let is = c.leftmost-left.ensures.value in
     let one = runs_narrowed c.fill.new.self c.fill-2.new.self c.narrow.new.firsts c.narrow.new.ends top left IsAny
-    (IsLeft centre start (pos 0)) c.left.result is c.left.ensures (all (goal.at.returns c).After-fill-2)
+    (IsLeft centre start (pos 0)) c.left.result is c.left.ensures.holds (all (goal.at.returns c).After-fill-2)
     c.narrow.ensures c.narrow.auto.firsts in
     let two = runs_narrowed _ _ c.narrow-2.new.firsts c.narrow-2.new.ends top left _
-    (IsLeft end centre (pos 0)) c.left-2.result is c.left-2.ensures one c.narrow-2.ensures
+    (IsLeft end centre (pos 0)) c.left-2.result is c.left-2.ensures.holds one c.narrow-2.ensures
     c.narrow-2.auto.firsts in
     runs_like c.narrow-2.new.firsts c.narrow-2.new.ends top _
     (λ s. IsInHalf (way centre start) (way centre end) (seen_from centre s))

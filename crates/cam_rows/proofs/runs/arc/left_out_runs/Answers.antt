@@ -9,13 +9,13 @@ use Rattle.cam_rows.proofs.runs.arc.left_out_runs.Goals as goal
 
 pub narrow-requires-clause-short : goal.narrow-requires-clause-short
 narrow-requires-clause-short c =
-    c.left.ensures.short _
+    c.left.ensures.holds.short _
     (leftmost_rows c.args.top.now c.leftmost-left.result (length c.args.firsts.now) _ c.leftmost-left.ensures.value
     c.fill.ensures.len c.requires.rows)
 
 pub narrow-requires-2-clause-short : goal.narrow-requires-2-clause-short
 narrow-requires-2-clause-short c =
-    c.left-2.ensures.short _
+    c.left-2.ensures.holds.short _
     (leftmost_rows c.args.top.now c.leftmost-left.result (length c.args.firsts.now) _ c.leftmost-left.ensures.value
     (c.narrow.auto.firsts ∙ c.fill.ensures.len) c.requires.rows)
 
@@ -34,9 +34,9 @@ returns c =
     (λ k within. c.fill.ensures.clones k 0 (rw c.fill.ensures.len at within) refl)
     (λ k within. c.fill-2.ensures.clones k 0 (omega (arith, within, c.fill.ensures.len, c.requires.ends)) refl) in
     let one = runs_narrowed c.fill.new.self c.fill-2.new.self c.narrow.new.firsts c.narrow.new.ends top left IsAny
-    (IsLeft start centre (negsuc 0)) c.left.result is c.left.ensures all c.narrow.ensures c.narrow.auto.firsts in
+    (IsLeft start centre (negsuc 0)) c.left.result is c.left.ensures.holds all c.narrow.ensures c.narrow.auto.firsts in
     let two = runs_narrowed _ _ c.narrow-2.new.firsts c.narrow-2.new.ends top left _
-    (IsLeft centre end (negsuc 0)) c.left-2.result is c.left-2.ensures one c.narrow-2.ensures
+    (IsLeft centre end (negsuc 0)) c.left-2.result is c.left-2.ensures.holds one c.narrow-2.ensures
     c.narrow-2.auto.firsts in
     runs_like c.narrow-2.new.firsts c.narrow-2.new.ends top _
     (λ s. IsLeftOut (way centre start) (way centre end) (seen_from centre s))

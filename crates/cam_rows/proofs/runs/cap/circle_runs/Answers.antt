@@ -4,8 +4,8 @@ use Rattle.cam_shapes.specs.Plane.{seen_from, way}
 use Rattle.cam_rows.proofs.WideRows.{all_found, no_run, one_more_run, top_is_wide}
 use Rattle.cam_rows.proofs.runs.cap.circle_runs.Goals as goal
 
-pub near_cap-chord-requires-clause-row : goal.near_cap-chord-requires-clause-row
-near_cap-chord-requires-clause-row c = top_is_wide c.args.top.now (length c.args.firsts.now) (search rules) c.requires.rows
+pub near-chord-requires-clause-row : goal.near-chord-requires-clause-row
+near-chord-requires-clause-row c = top_is_wide c.args.top.now (length c.args.firsts.now) (search rules) c.requires.rows
 
 pub loop-k-init : goal.loop-k-init
 loop-k-init c = no_run _ _ _ _

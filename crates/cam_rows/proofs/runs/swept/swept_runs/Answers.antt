@@ -57,13 +57,13 @@ narrow-requires-2-clause-few c = few (goal.at.narrow-requires-2-clause-few c).Af
 
 pub narrow-requires-clause-short : goal.narrow-requires-clause-short
 narrow-requires-clause-short c =
-    c.left.ensures.short _
+    c.left.ensures.holds.short _
     (leftmost_rows c.args.top.now c.leftmost-left.result (length c.args.firsts.now) _ c.leftmost-left.ensures.value
     c.box_runs.auto.firsts c.requires.rows)
 
 pub narrow-requires-2-clause-short : goal.narrow-requires-2-clause-short
 narrow-requires-2-clause-short c =
-    c.left-2.ensures.short _
+    c.left-2.ensures.holds.short _
     (leftmost_rows c.args.top.now c.leftmost-left.result (length c.args.firsts.now) _ c.leftmost-left.ensures.value
     (c.narrow.auto.firsts ∙ c.box_runs.auto.firsts) c.requires.rows)
 
@@ -77,10 +77,10 @@ returns c =
     let reach = to_z w128 (of_z w128 c.corner_reach-reach.result) in
     let kept : reach ≡ c.corner_reach-reach.result = omega (arith, ints, c.corner_reach-reach.ensures.bound) in
     let one = runs_narrowed c.box_runs.new.firsts c.box_runs.new.ends c.narrow.new.firsts c.narrow.new.ends top left
-    (λ s. IsInBox (low_corner r) (high_corner r) s) (IsLeft r.from r.to reach) c.left.result is c.left.ensures
+    (λ s. IsInBox (low_corner r) (high_corner r) s) (IsLeft r.from r.to reach) c.left.result is c.left.ensures.holds
     (boxed at) c.narrow.ensures c.narrow.auto.firsts in
     let two = runs_narrowed _ _ c.narrow-2.new.firsts c.narrow-2.new.ends top left _ (IsLeft r.to r.from reach)
-    c.left-2.result is c.left-2.ensures one c.narrow-2.ensures c.narrow-2.auto.firsts in
+    c.left-2.result is c.left-2.ensures.holds one c.narrow-2.ensures c.narrow-2.auto.firsts in
     runs_like c.narrow-2.new.firsts c.narrow-2.new.ends top _ (λ s. IsInSwept s r)
     (λ s.
     let told = in_box_and_near r (wide at) (high at) reach (kept ∙ c.corner_reach-reach.ensures.value) s in
