@@ -25,7 +25,7 @@
 //! - [`bar_runs`], [`disc_runs`]: the same in rows of up to 32,768 centres, a run of columns for each row;
 //!   [`run_row`]: the bits of a part of it. [`cap_runs`] and [`edge_runs`] are those of parts of a region: a run of an
 //!   edge begins at the leftmost column.
-//! - [`mark_end`], [`spread_marks`]: marks in rows of tiles side by side, of which each turns over all columns left of it,
+//! - [`mark_end`], [`mark_ends`], [`mark_runs`], [`spread_marks`]: marks in rows of tiles side by side, of which each turns over all columns left of it,
 //!   and the columns that all of them together turn over.
 //! - [`or_rows`], [`clear_rows`], [`xor_rows`]: the 64 rows of a tile; [`pbm_bytes`]: a row in a file.
 //!
@@ -70,7 +70,7 @@ pub use disc::{disc_row, disc_rows};
 pub use edge::{edge_end, edge_row, turn_edge};
 pub use hole::{hole_row, hole_rows};
 pub use lanes::{clear_rows, or_rows, pbm_bytes, xor_rows};
-pub use marks::{mark_end, spread_marks};
+pub use marks::{mark_end, mark_ends, mark_runs, spread_marks};
 pub use obround::{obround_row, obround_rows};
 pub use rect::{rect_row, rect_rows};
 pub use runs::bar::bar_runs;
