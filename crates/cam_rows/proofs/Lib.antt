@@ -24,6 +24,7 @@ pub mod JoinedLanes
 pub mod KeptRows
 pub mod Marked
 pub mod MarkedColumns
+pub mod MarkedRows
 pub mod MissedDiscs
 pub mod NarrowedRuns
 pub mod OneRow

@@ -10,7 +10,7 @@ use Rattle.std.proofs.lemmas.Nat.{one_shl, shr-shr}
 use Rattle.std.proofs.lemmas.Nat.Bits.{bit_at-lt, bit_at-pow_other, bit_at-pow_same, bit_at-zero}
 use Rattle.std.proofs.lemmas.Nat.Bits.{bit_at_above, bit_at_lowest, bit_at_ones, bit_at_xor}
 use Rattle.cam_shapes.specs.Sides.{differ}
-use Rattle.cam_rows.specs.Marks.{AreSpread, IsRowSpread, TurnsBefore, is_marked, is_odd, is_set, is_turned}
+use Rattle.cam_rows.specs.Marks.{AreSpread, IsRowSpread, TurnsRow, is_marked, is_odd, is_set, is_turned}
 
 -- ---- exactly one of two
 
@@ -198,7 +198,7 @@ module _ (marks : List ℕ) (row p : ℕ) (low : row < 64) (whole : length marks
       (λ j _. marked_other r (c + j) small (λ e _. apart e)))
 
   -- a mark turns over its own column and all left of it
-  pub turns_before : (end : ℕ) → p + 1 ≡ end → TurnsBefore row end marks marked
+  pub turns_before : (end : ℕ) → p + 1 ≡ end → TurnsRow row (λ c. c < end) marks marked
   turns_before end e r c small inside = elim (cases_eq r row) [
     | inl is ↦ elim (cases_lt c end) [
       | inl before ↦ held_turned _ _ _ (is, before) (rw is (turned_here c (omega (arith, e, before))))
@@ -209,7 +209,7 @@ module _ (marks : List ℕ) (row p : ℕ) (low : row < 64) (whole : length marks
   ]
 
 -- no mark turns over none
-pub turns_none : (row : ℕ) (marks : List ℕ) → TurnsBefore row 0 marks marks
+pub turns_none : (row : ℕ) (marks : List ℕ) → TurnsRow row (λ c. c < 0) marks marks
 turns_none row marks r c small inside = other_kept _ _ _ (λ held. omega (arith, held.1)) refl
 
 -- ---- marks that are spread

@@ -1,5 +1,5 @@
 -- Marks in rows of tiles side by side: each turns over all columns left of it, and its own.
-use Rattle.std.specs.Prelude.{◌≡◌, ◌≢◌, ◌↔◌, ◌⊎◌, ℕ, zero, suc, ◌+◌, ◌-◌, ◌*◌, ◌/◌, ◌%◌, ◌<◌, ◌==◌, Bool, false, IsTrue, List, length}
+use Rattle.std.specs.Prelude.{◌≡◌, ◌≢◌, ◌↔◌, ◌⊎◌, ℕ, zero, suc, ◌+◌, ◌-◌, ◌*◌, ◌/◌, ◌%◌, ◌<◌, ◌≤◌, ◌==◌, Bool, false, IsTrue, List, length}
 use Rattle.std.specs.Prelude.{slice_index}
 use Rattle.std.specs.Int.{bit_at}
 use Rattle.cam_shapes.specs.Sides.{differ}
@@ -22,12 +22,20 @@ is_marked marks row column = is_set (slice_index marks (64 * (column / 64) + row
 abbrev pub is_turned : List ℕ → ℕ → ℕ → Bool
 is_turned marks row column = is_odd (is_marked marks row) (length marks - column) column
 
--- all columns of a row before an end are turned over, and the others stay as they were
-abbrev pub TurnsBefore : ℕ → ℕ → List ℕ → List ℕ → Type 0
-TurnsBefore row end old new =
+-- the columns of a row that something holds are turned over, and the others stay as they were
+abbrev pub TurnsRow : ℕ → (ℕ → Type 0) → List ℕ → List ℕ → Type 0
+TurnsRow row IsHeld old new =
     (r column : ℕ) → r < 64 → column < length old
     → (let was = IsTrue (is_turned old r column) in
-    let held = (r ≡ row) × (column < end) in
+    let held = (r ≡ row) × IsHeld column in
+    IsTrue (is_turned new r column) ↔ ((was × (held → ⊥)) ⊎ ((was → ⊥) × held)))
+
+-- and in so many rows from one on those that something holds, by the number of the row among these
+abbrev pub TurnsRows : ℕ → ℕ → (ℕ → ℕ → Type 0) → List ℕ → List ℕ → Type 0
+TurnsRows first rows IsHeld old new =
+    (r column : ℕ) → r < 64 → column < length old
+    → (let was = IsTrue (is_turned old r column) in
+    let held = (first ≤ r) × (r < first + rows) × IsHeld (r - first) column in
     IsTrue (is_turned new r column) ↔ ((was × (held → ⊥)) ⊎ ((was → ⊥) × held)))
 
 -- the columns that are turned in one list of marks are marked in another

@@ -28,8 +28,8 @@
 //!   to 32,768 centres, a run of columns for each row; [`run_row`]: the bits of a part of it. [`cap_runs`] and
 //!   [`edge_runs`] are those of parts of a region: a run of an edge begins at the leftmost column.
 //! - [`ring_of`], [`outer_runs`], [`hollow_runs`], [`beyond_runs`]: an arc in such rows.
-//! - [`mark_end`], [`spread_marks`]: marks in rows of tiles side by side, of which each turns over all columns left of it,
-//!   and the columns that all of them together turn over.
+//! - [`mark_end`], [`mark_ends`], [`mark_runs`], [`spread_marks`]: marks in rows of tiles side by side, of which each turns
+//!   over all columns left of it, and the columns that all of them together turn over.
 //! - [`or_rows`], [`clear_rows`], [`xor_rows`]: the 64 rows of a tile; [`pbm_bytes`]: a row in a file.
 //!
 //! What a row is stands in `specs/Rows.antt`, what a run is in `specs/Runs.antt`, the runs of an arc in
@@ -76,7 +76,7 @@ pub use edge::{edge_end, edge_row, turn_edge};
 pub use hole::{hole_row, hole_rows};
 pub use lanes::{clear_rows, or_rows, pbm_bytes, xor_rows};
 pub use laws::arc_is_its_runs;
-pub use marks::{mark_end, spread_marks};
+pub use marks::{mark_end, mark_ends, mark_runs, spread_marks};
 pub use obround::{obround_row, obround_rows};
 pub use rect::{rect_row, rect_rows};
 pub use ring::{Ring, ring_of};

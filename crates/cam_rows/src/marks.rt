@@ -1,7 +1,8 @@
 //! Marks in rows of tiles side by side: each turns over the columns left of it, and its own.
 
-ghost use Rattle.std.specs.Prelude.{◌≡◌, ◌-◌, ◌%◌, ◌<◌, ◌≤◌, ℕ, length};
-ghost use Rattle.cam_rows.specs.Marks.{AreSpread, IsRowSpread, TurnsBefore, is_odd, is_set};
+ghost use Rattle.std.specs.Prelude.{◌≡◌, ◌+◌, ◌-◌, ◌%◌, ◌<◌, ◌≤◌, ℕ, length, slice_index};
+ghost use Rattle.cam_rows.specs.Runs.{IsInRun};
+ghost use Rattle.cam_rows.specs.Marks.{AreSpread, IsRowSpread, TurnsRow, TurnsRows, is_odd, is_set};
 
 /// The row whose bit i tells whether the bits of another row from i on are odd in number: six shifts for all of them.
 #[inline]
@@ -23,7 +24,7 @@ pub fn mark_end(marks: &mut [u64], row: u32, end: u32)
     requires row { row < 64 }
     requires end { end ≤ length marks.old }
     requires tiles { length marks.old % 64 ≡ 0 }
-    ensures { TurnsBefore row end marks.old marks.new }
+    ensures { TurnsRow row (λ column. column < end) marks.old marks.new }
 {
     if end == 0 {
         return;
@@ -31,6 +32,48 @@ pub fn mark_end(marks: &mut [u64], row: u32, end: u32)
     let column = end - 1;
     let word = (column / 64 * 64 + row) as usize;
     marks[word] ^= 1 << (column % 64);
+}
+
+/// Turns over the columns before an end in each of rows one below another, from one on: by one mark in each, as
+/// [`mark_end`] does.
+pub fn mark_ends(marks: &mut [u64], first: u32, ends: &[u32])
+    requires rows { first + length ends.now ≤ 64 }
+    requires ends { (k : ℕ) → k < length ends.now → slice_index ends.now k ≤ length marks.old }
+    requires tiles { length marks.old % 64 ≡ 0 }
+    ensures { TurnsRows first (length ends.now) (λ k column. column < slice_index ends.now k) marks.old marks.new }
+{
+    for k in 0..ends.len() {
+        mark_end(marks, first + k as u32, ends[k]);
+    }
+}
+
+/// Turns over the columns of a run in each of rows one below another, from one on: from its first column on and before
+/// its end, by two marks; a run whose end is not behind its first column has none.
+pub fn mark_runs(marks: &mut [u64], first: u32, firsts: &[u32], ends: &[u32])
+    requires rows { first + length firsts.now ≤ 64 }
+    requires same { length ends.now ≡ length firsts.now }
+    requires ends { (k : ℕ) → k < length firsts.now → slice_index ends.now k ≤ length marks.old }
+    requires tiles { length marks.old % 64 ≡ 0 }
+    ensures { TurnsRows first (length firsts.now)
+        (λ k column. IsInRun (slice_index firsts.now k) (slice_index ends.now k) column) marks.old marks.new }
+{
+    for k in 0..firsts.len() {
+        mark_run(marks, first + k as u32, firsts[k], ends[k]);
+    }
+}
+
+/// Turns over the columns of a run in one row.
+#[inline]
+fn mark_run(marks: &mut [u64], row: u32, first: u32, end: u32)
+    requires row { row < 64 }
+    requires end { end ≤ length marks.old }
+    requires tiles { length marks.old % 64 ≡ 0 }
+    ensures { TurnsRow row (IsInRun first end) marks.old marks.new }
+{
+    if first < end {
+        mark_end(marks, row, first);
+        mark_end(marks, row, end);
+    }
 }
 
 /// Marks each column that some marks turn over, and no other: where the marks at it and right of it are odd in number.

@@ -1,0 +1,18 @@
+use Rattle.std.proofs.Common.{◌+◌, length, slice_index, refl, arith}
+use Rattle.cam_rows.specs.Runs.{IsInRun}
+use Rattle.cam_rows.proofs.MarkedRows.{all_turned, next_turned, none_turned}
+use Rattle.cam_rows.proofs.marks.mark_runs.Goals as goal
+
+pub loop-k-init : goal.loop-k-init
+loop-k-init c = none_turned c.args.first (λ k i. IsInRun (slice_index c.args.firsts.now k) (slice_index c.args.ends.now k) i) c.args.marks.now
+
+pub loop-k-preserved : goal.loop-k-preserved
+loop-k-preserved c =
+    next_turned c.args.first (λ k i. IsInRun (slice_index c.args.firsts.now k) (slice_index c.args.ends.now k) i) c.loop-k.k c.args.marks.now
+    c.loop-k.marks c.mark_run.new.marks (c.args.first + c.loop-k.k) refl c.mark_run.auto.marks c.loop-k.invariant
+    c.mark_run.ensures
+
+pub returns : goal.returns
+returns c =
+    all_turned c.args.first (λ k i. IsInRun (slice_index c.args.firsts.now k) (slice_index c.args.ends.now k) i) c.loop-k.k (length c.args.firsts.now)
+    c.args.marks.now c.loop-k.marks (omega (arith, c.loop-k-test.false, c.loop-k.auto.k-end)) c.loop-k.invariant
