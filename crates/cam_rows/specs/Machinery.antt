@@ -12,6 +12,7 @@ pub mod Narrowing
 pub mod Quarters
 pub mod Rings
 pub mod Slopes
+pub mod Spreading
 pub mod Sweeps
 pub mod Ties
 pub mod Turns
