@@ -10,7 +10,8 @@ use Rattle.std.proofs.lemmas.Nat.{one_shl, shr-shr}
 use Rattle.std.proofs.lemmas.Nat.Bits.{bit_at-lt, bit_at-pow_other, bit_at-pow_same, bit_at-zero}
 use Rattle.std.proofs.lemmas.Nat.Bits.{bit_at_above, bit_at_lowest, bit_at_ones, bit_at_xor}
 use Rattle.cam_shapes.specs.Sides.{differ}
-use Rattle.cam_rows.specs.Marks.{AreSpread, IsRowSpread, TurnsRow, is_marked, is_odd, is_set, is_turned}
+use Rattle.cam_rows.specs.Machinery.Spreading.{IsRowSpread}
+use Rattle.cam_rows.specs.Marks.{AreSpread, TurnsRow, is_marked, is_odd, is_set, is_turned}
 
 -- ---- exactly one of two
 

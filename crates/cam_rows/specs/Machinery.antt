@@ -11,6 +11,7 @@ pub mod Linear
 pub mod Narrowing
 pub mod Quarters
 pub mod Slopes
+pub mod Spreading
 pub mod Sweeps
 pub mod Ties
 pub mod Turns

@@ -1,5 +1,5 @@
 -- Marks in rows of tiles side by side: each turns over all columns left of it, and its own.
-use Rattle.std.specs.Prelude.{◌≡◌, ◌≢◌, ◌↔◌, ◌⊎◌, ℕ, zero, suc, ◌+◌, ◌-◌, ◌*◌, ◌/◌, ◌%◌, ◌<◌, ◌≤◌, ◌==◌, Bool, false, IsTrue, List, length}
+use Rattle.std.specs.Prelude.{◌≡◌, ◌↔◌, ◌⊎◌, ℕ, zero, suc, ◌+◌, ◌-◌, ◌*◌, ◌/◌, ◌%◌, ◌<◌, ◌≤◌, ◌==◌, Bool, false, IsTrue, List, length}
 use Rattle.std.specs.Prelude.{slice_index}
 use Rattle.std.specs.Int.{bit_at}
 use Rattle.cam_shapes.specs.Sides.{differ}
@@ -43,8 +43,3 @@ abbrev pub AreSpread : List ℕ → List ℕ → Type 0
 AreSpread old new =
     (row column : ℕ) → row < 64 → column < length old
     → is_marked new row column ≡ is_turned old row column
-
--- so it is in one row, and the others stay as they were
-pub record IsRowSpread (row : ℕ) (old new : List ℕ) : Type 0 where
-  pub here : (column : ℕ) → column < length old → is_marked new row column ≡ is_turned old row column
-  pub others : (r column : ℕ) → r < 64 → r ≢ row → is_marked new r column ≡ is_marked old r column

@@ -2,7 +2,8 @@
 
 ghost use Rattle.std.specs.Prelude.{◌≡◌, ◌+◌, ◌-◌, ◌%◌, ◌<◌, ◌≤◌, ℕ, length, slice_index};
 ghost use Rattle.cam_rows.specs.Runs.{IsInRun};
-ghost use Rattle.cam_rows.specs.Marks.{AreSpread, IsRowSpread, TurnsRow, TurnsRows, is_odd, is_set};
+ghost use Rattle.cam_rows.specs.Machinery.Spreading.{IsRowSpread};
+ghost use Rattle.cam_rows.specs.Marks.{AreSpread, TurnsRow, TurnsRows, is_odd, is_set};
 
 /// The row whose bit i tells whether the bits of another row from i on are odd in number: six shifts for all of them.
 #[inline]
