@@ -6,7 +6,7 @@ use Rattle.cam_units.specs.declared.bounds.Bounds.{Bounds}
 use Rattle.cam_units.specs.declared.length.Nm.{Nm}
 use Rattle.cam_units.specs.declared.point.Point.{Point}
 use Rattle.cam_objects.specs.Bounds.{bounds_of}
-use Rattle.cam_objects.specs.Chunks.{AreChunksOf, drill_item_boxes}
+use Rattle.cam_objects.specs.Chunks.{AreChunksOf, Reaches, drill_item_boxes}
 use Rattle.cam_objects.specs.Contents.{DrillContent, drill_content_of}
 use Rattle.cam_objects.specs.DrillSoundness.{IsSoundDrillContent, IsSoundDrillItem, IsSoundDrillLayer}
 use Rattle.cam_objects.specs.DrillSoundness.{drill_count_from, drill_count_of}
@@ -57,7 +57,7 @@ module _ (before layer : DrillLayer) (shift : Shift) (tools : before.tools ≡ l
         limits = record { few = few; leaves = omega (arith, all, room) };
       }
 
-  pub shifted_chunks : (chunks : List Bounds) → AreChunksOf (drill_item_boxes before.tools before.items.items) chunks
+  pub shifted_chunks : (chunks : Reaches) → AreChunksOf (drill_item_boxes before.tools before.items.items) chunks
       → WereChunks shift chunks (drill_item_boxes layer.tools layer.items.items)
   shifted_chunks chunks known =
       were_chunks (λ item. bounds_of (drill_item_leaves layer.tools item)) shift before.items.items layer.items.items

@@ -1,18 +1,16 @@
 -- items that shift with a step: which stood where, what they count, and what is kept of them
-use Rattle.std.proofs.Common.{◌≡◌, ℕ, ◌+◌, ◌-◌, ◌<◌, ◌≤◌, inl, inr, List, length, map, get_or, min, max, Option, None, Some}
+use Rattle.std.proofs.Common.{◌≡◌, ℕ, zero, suc, ◌+◌, ◌-◌, ◌<◌, ◌≤◌, inl, inr, List, [], ◌∷◌, length, map, get_or, Option, None, Some}
 use Rattle.std.proofs.Common.{insert, remove, slice_get, slice_set, sum_by, refl, sym, ap, subst, ◌∙◌, arith}
 use Rattle.std.specs.List.{All}
 use Rattle.std.proofs.lemmas.Bool.{cases_eq, cases_lt}
-use Rattle.std.proofs.lemmas.List.{get_or-map, get_or-set_other, length-map, length-set}
+use Rattle.std.proofs.lemmas.List.{get_or-set_other, length-map, length-set}
 use Rattle.std.proofs.lemmas.List.Edits.{get_or-insert_above, get_or-insert_below, get_or-remove_above, get_or-remove_below}
 use Rattle.std.proofs.lemmas.List.Edits.{length-insert, length-remove}
 use Rattle.std.proofs.lemmas.List.Sums.{sum_by-insert, sum_by-remove, sum_by-set}
 use Rattle.std.proofs.lemmas.Option.{get_or_from_slice_get, slice_get-get_or, slice_get_within}
 use Rattle.cam_units.specs.declared.bounds.Bounds.{Bounds}
-use Rattle.cam_units.specs.declared.bounds.Bounds.TheVariants.{Empty}
-use Rattle.std.specs.Prelude.{unwrap_or}
 use Rattle.cam_objects.specs.Bounds.{bounds_of}
-use Rattle.cam_objects.specs.Chunks.{AreChunksOf, IsEditOf, box_at, item_boxes}
+use Rattle.cam_objects.specs.Chunks.{AreChunksOf, Reaches, item_boxes}
 use Rattle.cam_objects.specs.Leaves.{item_leaves, meaning_in}
 use Rattle.cam_objects.specs.Soundness.{HasSoundItems, IsSoundContent, IsSoundDictionary, IsSoundItem}
 use Rattle.cam_objects.specs.declared.item.Item.{Item}
@@ -22,26 +20,22 @@ use Rattle.cam_edits.specs.declared.chunked.Kept.{Kept}
 use Rattle.cam_edits.specs.declared.shift.Shift.{Shift}
 use Rattle.cam_edits.specs.Machinery.PlaceLaws.{changed_is, element_at, found, get_inserted, get_set, reordered_is}
 use Rattle.cam_edits.specs.Places.{HasAt, changed, reordered}
-use Rattle.cam_edits.specs.Machinery.Shifts.{IsKeptOf, IsShift, WereChunks, count_at, count_of, leaves_at}
+use Rattle.cam_edits.specs.Machinery.Shifts.{IsEdited, IsKeptOf, IsShift, WereChunks, count_at, count_of, leaves_at}
 use Rattle.cam_edits.specs.Machinery.Shifts.{leaves_in}
 
-abbrev pub made : ℕ → ℕ → Option ℕ → Option ℕ → Shift
-made low high from to = record { low = low; high = high; from = from; to = to }
+abbrev pub made : Option ℕ → Option ℕ → Shift
+made from to = record { from = from; to = to }
 
 module _ {X : Type 0} where
   alike : (xs ys : List X) (i j : ℕ) (d : X) → i < length xs → j < length ys → get_or xs i d ≡ get_or ys j d
       → slice_get xs i ≡ slice_get ys j
   alike xs ys i j d h h' e = slice_get-get_or xs i d h ∙ ap Some e ∙ sym (slice_get-get_or ys j d h')
 
-  pub stayed : (xs : List X) → IsShift (made 0 0 None None) xs xs
-  stayed xs = record {
-    stood = λ k h. inr (record { was = k; same = refl; near = inl refl });
-    sums = λ f. refl;
-  }
+  pub stayed : (xs : List X) → IsShift (made None None) xs xs
+  stayed xs = record { stood = λ k h. inr (record { was = k; same = refl }); sums = λ f. refl; edit = refl }
 
-  pub inserted_shift : (xs : List X) (k n : ℕ) (x : X) → k ≤ length xs → n ≡ length xs
-      → IsShift (made k n None (Some k)) xs (insert xs k x)
-  inserted_shift xs k n x h many = record {
+  pub inserted_shift : (xs : List X) (k : ℕ) (x : X) → k ≤ length xs → IsShift (made None (Some k)) xs (insert xs k x)
+  inserted_shift xs k x h = record {
     stood = λ i listed.
         let all = length-insert xs k x h in
         elim (cases_lt i k) [
@@ -50,7 +44,6 @@ module _ {X : Type 0} where
                 was = i;
                 same = alike xs (insert xs k x) i i x (omega (arith, below, h)) listed
                     (sym (get_or-insert_below xs k x x i below h));
-                near = inl refl;
               })
           | inr above ↦ elim (cases_eq i k) [
             | inl e ↦ inl (ap Some (sym e))
@@ -62,16 +55,15 @@ module _ {X : Type 0} where
                   was = j;
                   same = alike xs (insert xs k x) j i x (omega arith) listed
                       (sym (ap (λ m. get_or (insert xs k x) m x) (sym e) ∙ get_or-insert_above xs k x x j after h));
-                  near = inr (omega arith, omega arith, omega arith, omega arith);
                 }))
           ]
         ];
     sums = λ f. omega (arith, sum_by-insert f xs k x, ap (count_of f) (get_inserted xs k x h));
+    edit = (h, (x, refl));
   }
 
-  pub deleted_shift : (xs : List X) (k n : ℕ) → k < length xs → n ≡ length xs
-      → IsShift (made k n (Some k) None) xs (remove xs k)
-  deleted_shift xs k n h many =
+  pub deleted_shift : (xs : List X) (k : ℕ) → k < length xs → IsShift (made (Some k) None) xs (remove xs k)
+  deleted_shift xs k h =
       let here = element_at xs k h in
       let d = here.0 in
       let fewer = length-remove xs k h in
@@ -83,14 +75,12 @@ module _ {X : Type 0} where
                     was = i;
                     same = alike xs (remove xs k) i i d (omega (arith, below, h)) listed
                         (sym (get_or-remove_below xs k d i below h));
-                    near = inl refl;
                   })
               | inr above ↦
                   inr (record {
                     was = i + 1;
                     same = alike xs (remove xs k) (i + 1) i d (omega (arith, listed, fewer)) listed
                         (sym (get_or-remove_above xs k d i above h));
-                    near = inr (above, omega (arith, listed, fewer, many), omega arith, omega arith);
                   })
             ];
         sums = λ f.
@@ -100,10 +90,17 @@ module _ {X : Type 0} where
               ap (count_of f) here.1,
               ap f (get_or_from_slice_get xs k d d here.1),
             );
+        edit = (h, refl);
       }
 
+  -- an element that changes goes and comes
+  pub set_is : (xs : List X) (k : ℕ) (y : X) → k < length xs → slice_set xs k y ≡ insert (remove xs k) k y
+  set_is [] k y h = absurd (omega arith)
+  set_is (x ∷ xs) zero y h = refl
+  set_is (x ∷ xs) (suc k) y h = ap (λ l. x ∷ l) (set_is xs k y (omega arith))
+
   changed_shift : (xs : List X) (k : ℕ) (x y : X) → slice_get xs k ≡ Some x
-      → IsShift (made k k (Some k) (Some k)) xs (slice_set xs k y)
+      → IsShift (made (Some k) (Some k)) xs (slice_set xs k y)
   changed_shift xs k x y here =
       let h = slice_get_within xs k x here in
       let many = length-set xs k y in
@@ -116,7 +113,6 @@ module _ {X : Type 0} where
                     was = i;
                     same = alike xs (slice_set xs k y) i i x (omega (arith, listed, many)) listed
                         (sym (get_or-set_other xs k i y x apart));
-                    near = inl refl;
                   })
             ];
         sums = λ f.
@@ -127,10 +123,11 @@ module _ {X : Type 0} where
               ap f (get_or_from_slice_get xs k x x here),
               ap (count_of f) (get_set xs k x y here),
             );
+        edit = (h, h, (y, set_is xs k y h));
       }
 
   carried_shift : (xs : List X) (k m : ℕ) (x : X) → slice_get xs k ≡ Some x → m < length xs
-      → IsShift (made (min k m) (max k m) (Some k) (Some m)) xs (insert (remove xs k) m x)
+      → IsShift (made (Some k) (Some m)) xs (insert (remove xs k) m x)
   carried_shift xs k m x here within =
       let h = slice_get_within xs k x here in
       let fewer = length-remove xs k h in
@@ -147,14 +144,12 @@ module _ {X : Type 0} where
                           was = i;
                           same = alike xs (insert (remove xs k) m x) i i x (omega (arith, early, h)) listed
                               (sym (read ∙ get_or-remove_below xs k x i early h));
-                          near = inl refl;
                         })
                     | inr late ↦
                         inr (record {
                           was = i + 1;
                           same = alike xs (insert (remove xs k) m x) (i + 1) i x (omega (arith, below, within)) listed
                               (sym (read ∙ get_or-remove_above xs k x i late h));
-                          near = inr (omega (arith, late), omega (arith, below), omega arith, omega arith);
                         })
                   ])
               | inr above ↦ elim (cases_eq i m) [
@@ -171,7 +166,6 @@ module _ {X : Type 0} where
                             was = j;
                             same = alike xs (insert (remove xs k) m x) j i x (omega (arith, early, h)) listed
                                 (sym (read ∙ get_or-remove_below xs k x j early h));
-                            near = inr (omega (arith, after, e), omega (arith, early, e), omega (arith, e), omega (arith, e));
                           })
                       | inr late ↦
                           inr (record {
@@ -179,7 +173,6 @@ module _ {X : Type 0} where
                             same = alike xs (insert (remove xs k) m x) i i x (omega (arith, listed, all, fewer)) listed
                                 (sym (read ∙ get_or-remove_above xs k x j late h
                                 ∙ ap (λ n. get_or xs n x) e));
-                            near = inl refl;
                           })
                     ])
               ]
@@ -193,63 +186,66 @@ module _ {X : Type 0} where
               ap f (get_or_from_slice_get xs k x x here),
               ap (count_of f) (get_inserted (remove xs k) m x fits),
             );
+        edit = (h, within, (x, refl));
       }
 
   changed_there : (f : X → X) (xs : List X) (k : ℕ) (x : X) → slice_get xs k ≡ Some x
-      → IsShift (made k k (Some k) (Some k)) xs (changed f xs k)
+      → IsShift (made (Some k) (Some k)) xs (changed f xs k)
   changed_there f xs k x here =
-      subst (IsShift (made k k (Some k) (Some k)) xs) (sym (changed_is xs k x here f))
-      (changed_shift xs k x (f x) here)
+      subst (IsShift (made (Some k) (Some k)) xs) (sym (changed_is xs k x here f)) (changed_shift xs k x (f x) here)
 
   pub shift_at : (P : X → Type 0) (f : X → X) (xs : List X) (k : ℕ) → HasAt P xs k
-      → IsShift (made k k (Some k) (Some k)) xs (changed f xs k)
+      → IsShift (made (Some k) (Some k)) xs (changed f xs k)
   shift_at P f xs k h = let here = found P xs k h in changed_there f xs k here.0 here.1
 
   pub shift_there : (f : X → X) (xs : List X) (k : ℕ) → k < length xs
-      → IsShift (made k k (Some k) (Some k)) xs (changed f xs k)
+      → IsShift (made (Some k) (Some k)) xs (changed f xs k)
   shift_there f xs k h = let here = element_at xs k h in changed_there f xs k here.0 here.1
 
   pub reordered_shift : (xs : List X) (k m : ℕ) → k < length xs → m < length xs
-      → IsShift (made (min k m) (max k m) (Some k) (Some m)) xs (reordered xs k m)
+      → IsShift (made (Some k) (Some m)) xs (reordered xs k m)
   reordered_shift xs k m h within =
       let here = element_at xs k h in
-      subst (IsShift (made (min k m) (max k m) (Some k) (Some m)) xs) (sym (reordered_is xs k here.0 here.1 m))
+      subst (IsShift (made (Some k) (Some m)) xs) (sym (reordered_is xs k here.0 here.1 m))
       (carried_shift xs k m here.0 here.1 within)
 
   -- ---- what shifts with the items
 
-  box_read : (box : X → Bounds) (xs : List X) (k : ℕ) (x : X) → slice_get xs k ≡ Some x
-      → box_at (map box xs) k ≡ box x
-  box_read box xs k x e =
-      get_or-map box xs k x Empty (slice_get_within xs k x e) ∙ ap box (get_or_from_slice_get xs k x x e)
+  module _ {Y : Type 0} (read : X → Y) where
+    insert_read : (xs : List X) (k : ℕ) (x : X) → map read (insert xs k x) ≡ insert (map read xs) k (read x)
+    insert_read xs zero x = refl
+    insert_read [] (suc k) x = refl
+    insert_read (y ∷ xs) (suc k) x = ap (λ l. read y ∷ l) (insert_read xs k x)
 
-  shifted_boxes : (box : X → Bounds) (shift : Shift) (xs ys : List X) (place : ℕ) → IsShift shift xs ys
-      → ((k : ℕ) → shift.to ≡ Some k → k ≡ place)
-      → IsEditOf (map box xs) (map box ys) shift.low shift.high place
-  shifted_boxes box shift xs ys place shifted is k listed =
-      let within : k < length ys = omega (arith, listed, length-map {B = Bounds} ys box) in
-      let here = element_at ys k within in
-      elim (shifted.stood k within) [
-        | inl come ↦ inl (is k come)
-        | inr stood ↦
-            (let before = stood.same ∙ here.1 in
-            let inside = slice_get_within xs stood.was here.0 before in
-            inr (record {
-              was = stood.was;
-              within = omega (arith, inside, length-map {B = Bounds} xs box);
-              same = box_read box xs stood.was here.0 before ∙ sym (box_read box ys k here.0 here.1);
-              near = stood.near;
-            }))
-      ]
+    remove_read : (xs : List X) (k : ℕ) → map read (remove xs k) ≡ remove (map read xs) k
+    remove_read [] zero = refl
+    remove_read [] (suc k) = refl
+    remove_read (y ∷ xs) zero = refl
+    remove_read (y ∷ xs) (suc k) = ap (λ l. read y ∷ l) (remove_read xs k)
 
-  pub were_chunks : (box : X → Bounds) (shift : Shift) (xs ys : List X) (chunks : List Bounds) → IsShift shift xs ys
+    pub edit_read : (from to : Option ℕ) (xs ys : List X) → IsEdited from to xs ys
+        → IsEdited from to (map read xs) (map read ys)
+    edit_read None None xs ys e = ap (map read) e
+    edit_read None (Some m) xs ys e = (
+      omega (arith, e.0, length-map {B = Y} xs read),
+      (read e.1.0, ap (map read) e.1.1 ∙ insert_read xs m e.1.0),
+    )
+    edit_read (Some k) None xs ys e =
+        (omega (arith, e.0, length-map {B = Y} xs read), ap (map read) e.1 ∙ remove_read xs k)
+    edit_read (Some k) (Some m) xs ys e = (
+      omega (arith, e.0, length-map {B = Y} xs read),
+      omega (arith, e.1, length-map {B = Y} xs read),
+      (
+        read e.2.0,
+        ap (map read) e.2.1 ∙ insert_read (remove xs k) m e.2.0
+            ∙ ap (λ l. insert l m (read e.2.0)) (remove_read xs k),
+      ),
+    )
+
+  pub were_chunks : (box : X → Bounds) (shift : Shift) (xs ys : List X) (chunks : Reaches) → IsShift shift xs ys
       → AreChunksOf (map box xs) chunks → WereChunks shift chunks (map box ys)
-  were_chunks box shift xs ys chunks shifted known = record {
-    before = map box xs;
-    known = known;
-    edit = shifted_boxes box shift xs ys (unwrap_or shift.to shift.low) shifted
-        (λ k to. sym (ap (λ o. unwrap_or o shift.low) to));
-  }
+  were_chunks box shift xs ys chunks shifted known =
+      record { before = map box xs; known = known; edit = edit_read box shift.from shift.to xs ys shifted.edit }
 
   pub shifted_all : (P : X → Type 0) (shift : Shift) (xs ys : List X) → IsShift shift xs ys → All P xs
       → ((k : ℕ) (x : X) → shift.to ≡ Some k → slice_get ys k ≡ Some x → P x) → All P ys
@@ -289,7 +285,7 @@ shifted_sound before layer shift leaves gone come entries shifted sound all few 
 abbrev pub boxes_of : Layer → List Bounds
 boxes_of layer = item_boxes layer.apertures layer.items.items
 
-pub layer_chunks : (before layer : Layer) (shift : Shift) (chunks : List Bounds) → before.apertures ≡ layer.apertures
+pub layer_chunks : (before layer : Layer) (shift : Shift) (chunks : Reaches) → before.apertures ≡ layer.apertures
     → IsShift shift before.items.items layer.items.items → AreChunksOf (boxes_of before) chunks
     → WereChunks shift chunks (boxes_of layer)
 layer_chunks before layer shift chunks entries shifted known =

@@ -1,4 +1,4 @@
-//! Layers whose items are kept in chunks.
+//! Layers beside which it is kept what their items reach.
 
 ghost use Rattle.std.specs.Prelude.{◌≡◌, ◌+◌, ◌≤◌, ◌∷◌, ◌++◌, [], IfSome, List, OnOk, length, vec_capacity};
 ghost use Rattle.cam_objects.specs.Chunks.{AreChunksOf, item_boxes};
@@ -14,14 +14,14 @@ use cam_objects::{Chunks, Layer};
 use std::alloc::{AllocError, Global};
 use std::marker::Model;
 
-/// What is kept beside a layer of either kind: its items in chunks, and how many leaves they have.
+/// What is kept beside a layer of either kind: the cells that its items reach, and how many leaves they have.
 #[derive(Drop)]
 pub(crate) struct Kept {
     pub chunks: Chunks,
     pub leaves: u64,
 }
 
-/// A layer, with boxes of its items in chunks and the number of its leaves: an edit mends what it touches of them.
+/// A layer, with the cells that its items reach and the number of its leaves: an edit reads what it touches alone.
 #[derive(Drop)]
 pub struct ChunkedLayer {
     layer: Layer,
@@ -42,7 +42,7 @@ impl Model for ChunkedLayer {
 impl ChunkedLayer {
     ghost use Rattle.cam_edits.specs.Machinery.Shifts.{leaves_in};
 
-    /// Of a sound layer. Where memory for the chunks is refused, its items are in none.
+    /// Of a sound layer. Where memory for the chunks is refused, it is not known what its items reach.
     pub fn new(alloc: Global, layer: Layer) -> ChunkedLayer
         requires { HasSoundItems layer }
         ensures { result ≡ layer }
@@ -62,7 +62,7 @@ impl ChunkedLayer {
         &self.layer
     }
 
-    /// The chunks of its items, where they are known.
+    /// What its items reach, where it is known.
     pub fn chunks(&self) -> Option<&Chunks>
         ensures { IfSome result
             (λ chunks. AreChunksOf (item_boxes self.now.apertures self.now.items.items) chunks.now) }
@@ -85,7 +85,7 @@ impl ChunkedLayer {
     }
 
     /// Makes room for so many items more, and for so many attributes; refused for want of memory alone. The layer
-    /// stays. Items for whose chunks there is no memory will be in none.
+    /// stays. Of items for whose chunks there is no memory it will not be known what they reach.
     pub(crate) fn reserve(&mut self, items: usize, attributes: usize) -> Result<(), AllocError>
         ensures content { content_of self.new ≡ content_of self.old }
         ensures items { OnOk result (length self.new.items.items + items ≤ vec_capacity self.new.items) }
@@ -108,7 +108,7 @@ impl ChunkedLayer {
         let Some(kept) = self.kept.take() else {
             return step.play(&mut self.layer);
         };
-        let shift = Shift::of(&step, self.layer.items.len());
+        let shift = Shift::of(&step);
         let gone = leaves_at(&self.layer, shift.from);
         let answer = step.play(&mut self.layer);
         self.kept = mended(kept, shift, gone, &self.layer);
@@ -116,7 +116,7 @@ impl ChunkedLayer {
     }
 }
 
-/// Makes room for the chunks of so many items more; where memory for it is refused, they will be in none.
+/// Makes room for what so many items more reach; where memory for it is refused, it will not be known.
 pub(crate) fn reserve_chunks(kept: &mut Option<Kept>, items: usize)
     ensures { kept.new ≡ kept.old }
 {

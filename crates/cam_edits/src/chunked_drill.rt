@@ -1,4 +1,4 @@
-//! Drill layers whose items are kept in chunks.
+//! Drill layers beside which it is kept what their items reach.
 
 ghost use Rattle.std.specs.Prelude.{◌≡◌, ◌+◌, ◌≤◌, ◌∷◌, ◌++◌, [], IfSome, List, OnOk, length, vec_capacity};
 ghost use Rattle.cam_objects.specs.Chunks.{AreChunksOf, drill_item_boxes};
@@ -15,8 +15,8 @@ use cam_objects::{Chunks, DrillLayer};
 use std::alloc::{AllocError, Global};
 use std::marker::Model;
 
-/// A drill layer, with boxes of its items in chunks and the number of its holes and slots: an edit mends what it
-/// touches of them, and a diameter all boxes.
+/// A drill layer, with the cells that its items reach and the number of its holes and slots: an edit reads what it
+/// touches alone, and a diameter all items.
 #[derive(Drop)]
 pub struct ChunkedDrillLayer {
     layer: DrillLayer,
@@ -37,7 +37,7 @@ impl Model for ChunkedDrillLayer {
 impl ChunkedDrillLayer {
     ghost use Rattle.cam_edits.specs.Machinery.Shifts.{drill_leaves_in};
 
-    /// Of a sound drill layer. Where memory for the chunks is refused, its items are in none.
+    /// Of a sound drill layer. Where memory for the chunks is refused, it is not known what its items reach.
     pub fn new(alloc: Global, layer: DrillLayer) -> ChunkedDrillLayer
         requires { IsSoundDrillLayer layer }
         ensures { result ≡ layer }
@@ -57,7 +57,7 @@ impl ChunkedDrillLayer {
         &self.layer
     }
 
-    /// The chunks of its items, where they are known.
+    /// What its items reach, where it is known.
     pub fn chunks(&self) -> Option<&Chunks>
         ensures { IfSome result
             (λ chunks. AreChunksOf (drill_item_boxes self.now.tools self.now.items.items) chunks.now) }
@@ -79,8 +79,8 @@ impl ChunkedDrillLayer {
         }
     }
 
-    /// Makes room for so many items more; refused for want of memory alone. The layer stays. Items for whose chunks
-    /// there is no memory will be in none.
+    /// Makes room for so many items more; refused for want of memory alone. The layer stays. Of items for whose chunks
+    /// there is no memory it will not be known what they reach.
     pub(crate) fn reserve(&mut self, items: usize) -> Result<(), AllocError>
         ensures content { drill_content_of self.new ≡ drill_content_of self.old }
         ensures items { OnOk result (length self.new.items.items + items ≤ vec_capacity self.new.items) }
@@ -102,7 +102,7 @@ impl ChunkedDrillLayer {
             return step.play(&mut self.layer);
         };
         let size = step.size();
-        let shift = Shift::of_drill(&step, self.layer.items.len());
+        let shift = Shift::of_drill(&step);
         let gone = leaves_at(&self.layer, shift.from);
         let answer = step.play(&mut self.layer);
         self.kept = match size {

@@ -17,14 +17,31 @@ pub(crate) const ITEM_LIMIT: usize = 1_000_000;
 /// The greatest number of leaves of a layer, and of holes and slots of a drill layer.
 pub(crate) const LEAF_LIMIT: u64 = 4_000_000;
 
-/// Mends the chunks of items that shifted with a step. Takes no memory.
+/// Lets chunks follow an item that left a place and came to one, or that changed where they are the same. Takes no
+/// memory.
+fn carry<B: BoxedItems>(chunks: &mut Chunks, items: &mut B, from: usize, to: usize)
+    requires { WereChunks (record { from = Some from; to = Some to }) chunks.old (B.boxes items.old) }
+    ensures { AreChunksOf (B.boxes items.old) chunks.new }
+{
+    if from == to {
+        chunks.renew(items, to);
+        return;
+    }
+    chunks.remove(from);
+    chunks.insert(items, to);
+}
+
+/// Lets chunks follow items that shifted with a step. Takes no memory.
 pub(crate) fn mend<B: BoxedItems>(chunks: &mut Chunks, items: &mut B, shift: Shift)
     requires { WereChunks shift chunks.old (B.boxes items.old) }
     ensures { AreChunksOf (B.boxes items.old) chunks.new }
 {
-    let place = shift.to.unwrap_or(shift.low);
-    chunks.mend(items, shift.low, shift.high, place);
-    chunks.renew(items, place);
+    match (shift.from, shift.to) {
+        (Some(from), Some(to)) => carry(chunks, items, from, to),
+        (Some(from), None) => chunks.remove(from),
+        (None, Some(to)) => chunks.insert(items, to),
+        (None, None) => {}
+    }
 }
 
 /// How many leaves the item at a place of a sound layer has; none where there is no item.

@@ -1,14 +1,20 @@
--- boxes of chunks of items, made and mended
-use Rattle.std.proofs.Common.{◌≡◌, ◌≢◌, ℕ, ◌+◌, ◌*◌, ◌/◌, ◌%◌, ◌<◌, ◌≤◌, ◌⊎◌, inl, inr, List, [], ◌∷◌, ◌++◌, length, map, get_or, min, slice_set}
-use Rattle.std.proofs.Common.{sym, ap, subst, ◌∙◌, slice_get, Some, arith}
-use Rattle.std.specs.Int.{div_ceil}
+-- the cells that items reach, read and followed
+use Rattle.std.proofs.Common.{◌≡◌, ℕ, ◌+◌, ◌-◌, ◌<◌, ◌≤◌, ◌⊎◌, ℤ, ◌≤ℤ◌, inl, inr, List, [], ◌∷◌, ◌++◌, length, map, get_or}
+use Rattle.std.proofs.Common.{slice_get, slice_set, take, insert, remove, Some, sym, ap, subst, ◌∙◌, arith}
 use Rattle.std.proofs.lemmas.Bool.{cases_eq, cases_lt}
-use Rattle.std.proofs.lemmas.List.{get_or-map, get_or_append_left, get_or_default, get_or_push, get_or-set_same, get_or-set_other, length-set, length_push}
+use Rattle.std.proofs.lemmas.Int.{ints}
+use Rattle.std.proofs.lemmas.List.{get_or-map, get_or_append_left, get_or_push, get_or-set_same, get_or-set_other, get_or-take}
+use Rattle.std.proofs.lemmas.List.{length-set, length-take, length_push}
+use Rattle.std.proofs.lemmas.List.Edits.{get_or-insert_above, get_or-insert_at, get_or-insert_below, get_or-remove_above}
+use Rattle.std.proofs.lemmas.List.Edits.{get_or-remove_below, length-insert, length-remove}
 use Rattle.std.proofs.lemmas.Option.{slice_get-get_or}
-use Rattle.cam_units.specs.Boxes.{HaveCommonPlace, Holds, IsWithin}
+use Rattle.cam_units.specs.Boxes.{HaveCommonPlace}
 use Rattle.cam_units.specs.declared.bounds.Bounds.{Bounds}
-use Rattle.cam_units.specs.declared.bounds.Bounds.TheVariants.{Empty}
-use Rattle.cam_objects.specs.Chunks.{AreChunksOf, IsEditOf, box_at}
+use Rattle.cam_units.specs.declared.bounds.Bounds.TheVariants.{Empty, Closed}
+use Rattle.cam_objects.specs.declared.chunks.reach.Reach.{Reach}
+use Rattle.cam_objects.specs.declared.chunks.sides.Sides.{Sides}
+use Rattle.cam_objects.specs.Chunks.{AreBeside, AreChunksOf, IsCell, IsReachOf, IsSide, Reaches, bottom_of, box_at, left_of, right_of, top_of}
+use Rattle.cam_objects.specs.Machinery.Sides.{AreSidesOf, HasSides, MeetsAt}
 
 -- the box that is read of an item is that of the list
 pub read_box_at : {X : Type 0} (box : X → Bounds) (items : List X) (k : ℕ) (b : Bounds) → k < length items
@@ -17,143 +23,199 @@ read_box_at box [] k b h told = absurd (omega arith)
 read_box_at box (x ∷ xs) k b h told =
     told (get_or (x ∷ xs) k x) (slice_get-get_or (x ∷ xs) k x h) ∙ sym (get_or-map box (x ∷ xs) k x Empty h)
 
--- a box around the items of a chunk
-abbrev pub Around : List Bounds → ℕ → Bounds → Type 0
-Around boxes n b = (k : ℕ) → k < length boxes → k / 512 ≡ n → IsWithin (box_at boxes k) b
+-- ---- cells
 
--- ---- a box that is set
-
-module _ (chunks : List Bounds) (i : ℕ) (b : Bounds) (here : i < length chunks) where
-  pub at_set : box_at (slice_set chunks i b) i ≡ b
-  at_set = get_or-set_same chunks i b Empty here
-
-  pub off_set : (j : ℕ) → j ≢ i → box_at (slice_set chunks i b) j ≡ box_at chunks j
-  off_set j apart = get_or-set_other chunks i j b Empty apart
-
-  -- a greater box
-  pub grown_set : IsWithin (box_at chunks i) b → (j : ℕ) → IsWithin (box_at chunks j) (box_at (slice_set chunks i b) j)
-  grown_set held j s h =
-      elim (cases_eq j i) [
-        | inl e ↦
-            subst (λ x. Holds x s) (sym (ap (box_at (slice_set chunks i b)) e ∙ at_set))
-            (held s (subst (λ k. Holds (box_at chunks k) s) e h))
-        | inr apart ↦ subst (λ x. Holds x s) (sym (off_set j apart)) h
-      ]
-
-  -- the same of the box that was read there
-  pub grown_read : (read : Bounds) → read ≡ get_or chunks i read → IsWithin read b
-      → (j : ℕ) → IsWithin (box_at chunks j) (box_at (slice_set chunks i b) j)
-  grown_read read is held =
-      grown_set (subst (λ x. IsWithin x b) (is ∙ get_or_default chunks i read Empty here) held)
-
-  -- one that holds the items of its chunk
-  pub renewed_set : (boxes : List Bounds) → Around boxes i b → AreChunksOf boxes chunks
-      → AreChunksOf boxes (slice_set chunks i b)
-  renewed_set boxes around before = record {
-    each = λ k listed kept s h.
-        elim (cases_eq (k / 512) i) [
-          | inl e ↦
-              subst (λ x. Holds x s) (sym (ap (box_at (slice_set chunks i b)) e ∙ at_set)) (around k listed e s h)
-          | inr apart ↦
-              subst (λ x. Holds x s) (sym (off_set (k / 512) apart))
-              (before.each k listed (omega (arith, kept, length-set chunks i b)) s h)
-        ];
-  }
-
--- ---- a chunk behind the last one
-
-pub pushed_chunk : (boxes chunks : List Bounds) (b : Bounds) (n : ℕ) → length chunks ≡ n
-    → Around boxes n b → AreChunksOf boxes chunks
-    → AreChunksOf boxes (chunks ++ b ∷ [])
-pushed_chunk boxes chunks b n many around before = record {
-  each = λ k listed kept s h.
-      elim (cases_lt (k / 512) n) [
-        | inl below ↦
-            (let old : k / 512 < length chunks = omega (arith, below, many) in
-            subst (λ x. Holds x s) (sym (get_or_append_left chunks (b ∷ []) Empty (k / 512) old))
-            (before.each k listed old s h))
-        | inr last ↦
-            (let e : k / 512 ≡ n = omega (arith, last, many, kept, length_push chunks b) in
-            subst (λ x. Holds x s) (sym (get_or_push chunks b Empty (k / 512) (many ∙ sym e))) (around k listed e s h))
-      ];
-}
-
--- ---- an edit
-
--- the places of its chunk are those beside it, where it is neither the first nor the last
-same_chunk : (k was : ℕ) → k % 512 ≢ 0 → k % 512 ≢ 511 → was ≤ k + 1 → k ≤ was + 1 → was / 512 ≡ k / 512
-same_chunk k was first last low high = omega arith
-
-module _ (before after old new : List Bounds) (low high place : ℕ) where
-  pub mended_chunks : length new ≡ length old → ((j : ℕ) → IsWithin (box_at old j) (box_at new j))
-      → ((k : ℕ) → k < length after → k / 512 < length old → low ≤ k → k ≤ high
-      → ((k % 512 ≡ 0) ⊎ (k % 512 ≡ 511)) → IsWithin (box_at after k) (box_at new (k / 512)))
-      → (place < length after → place / 512 < length old → IsWithin (box_at after place) (box_at new (place / 512)))
-      → AreChunksOf before old → IsEditOf before after low high place → AreChunksOf after new
-  mended_chunks many grown ends here kept edit = record {
-    each = λ k listed known s h.
-        let within : k / 512 < length old = omega (arith, known, many) in
-        elim (edit k listed) [
-          | inl e ↦
-              subst (λ j. Holds (box_at new (j / 512)) s) (sym e)
-              (here (subst (λ j. j < length after) e listed) (subst (λ j. j / 512 < length old) e within) s
-              (subst (λ j. Holds (box_at after j) s) e h))
-          | inr stood ↦
-              (let held : Holds (box_at before stood.was) s = subst (λ x. Holds x s) (sym stood.same) h in
-              let as_before : stood.was / 512 ≡ k / 512 → Holds (box_at new (k / 512)) s =
-              λ e. grown (k / 512) s (subst (λ j. Holds (box_at old j) s) e
-              (kept.each stood.was stood.within (subst (λ j. j < length old) (sym e) within) s held)) in
-              elim stood.near [
-                | inl e ↦ as_before (ap (λ j. j / 512) e)
-                | inr beside ↦ elim (cases_eq (k % 512) 0) [
-                  | inl first ↦ ends k listed within beside.0 beside.1 (inl first) s h
-                  | inr inner ↦ elim (cases_eq (k % 512) 511) [
-                    | inl last ↦ ends k listed within beside.0 beside.1 (inr last) s h
-                    | inr middle ↦ as_before (same_chunk k stood.was inner middle beside.2 beside.3)
-                  ]
-                ]
-              ])
-        ];
-  }
-
--- ---- chunks that are passed over
-
-pub far_item : (boxes chunks : List Bounds) (near : Bounds) (k : ℕ) → AreChunksOf boxes chunks → k < length boxes
-    → k / 512 < length chunks → (HaveCommonPlace (box_at chunks (k / 512)) near → ⊥)
-    → HaveCommonPlace (box_at boxes k) near → ⊥
-far_item boxes chunks near k kept listed known apart common =
-    apart (common.0, (kept.each k listed known common.0 common.1.0, common.1.1))
-
--- ---- the first and the last item of a chunk more are held
-
-pub chunk_start : (count high chunk : ℕ) → chunk < min (div_ceil count 512) high → chunk * 512 < count
-chunk_start count high chunk h = omega arith
-
-pub ends_more : (boxes start now mid new : List Bounds) (low chunk a b : ℕ) → length now ≡ length start
-    → length mid ≡ length now → a ≡ chunk * 512
-    → ((k : ℕ) → k < length boxes → k / 512 ≡ chunk → k % 512 ≡ 511 → k ≡ b)
-    → (a / 512 < length now → IsWithin (box_at boxes a) (box_at mid (a / 512)))
-    → ((j : ℕ) → IsWithin (box_at now j) (box_at mid j))
-    → (b / 512 < length mid → IsWithin (box_at boxes b) (box_at new (b / 512)))
-    → ((j : ℕ) → IsWithin (box_at mid j) (box_at new j))
-    → ((k : ℕ) → k < length boxes → k / 512 < length start → low ≤ k → k / 512 < chunk
-    → ((k % 512 ≡ 0) ⊎ (k % 512 ≡ 511)) → IsWithin (box_at boxes k) (box_at now (k / 512)))
-    → (k : ℕ) → k < length boxes → k / 512 < length start → low ≤ k → k / 512 < chunk + 1
-    → ((k % 512 ≡ 0) ⊎ (k % 512 ≡ 511)) → IsWithin (box_at boxes k) (box_at new (k / 512))
-ends_more boxes start now mid new low chunk a b many many' first last held grown held' grown' before k listed known after until end s h =
-    elim (cases_eq (k / 512) chunk) [
-      | inr apart ↦
-          grown' (k / 512) s (grown (k / 512) s (before k listed known after (omega (arith, apart, until)) end s h))
-      | inl e ↦ elim end [
-        | inl start_of ↦
-            (let is : k ≡ a = omega (arith, e, start_of, first) in
-            grown' (k / 512) s (subst (λ j. Holds (box_at mid (j / 512)) s) (sym is)
-            (held (subst (λ j. j / 512 < length now) is (omega (arith, known, many))) s
-            (subst (λ j. Holds (box_at boxes j) s) is h))))
-        | inr end_of ↦
-            (let is : k ≡ b = last k listed e end_of in
-            subst (λ j. Holds (box_at new (j / 512)) s) (sym is)
-            (held' (subst (λ j. j / 512 < length mid) is (omega (arith, known, many, many'))) s
-            (subst (λ j. Holds (box_at boxes j) s) is h)))
-      ]
+-- a place that does not lie before another is in no earlier cell
+cells_in_order : (x y : ℤ) (a b : ℕ) → IsCell x a → IsCell y b → x ≤ℤ y → a ≤ b
+cells_in_order x y a b here there h =
+    elim (cases_lt b a) [
+      | inl after ↦
+          (let low = here.from (omega (arith, after)) in
+          let high = there.until (omega (arith, after, here.few)) in
+          absurd (omega (arith, ints, after, low, high, h)))
+      | inr is ↦ is
     ]
+
+-- cells of a box that has a place in common with another
+pub common_cell : (b n : Bounds) (l o r t : ℕ) (s : Reach) → IsSide left_of b l → IsSide bottom_of b o → IsSide right_of b r
+    → IsSide top_of b t → IsReachOf n s → HaveCommonPlace b n
+    → (l ≤ s.right) × (s.left ≤ r) × (o ≤ s.top) × (s.bottom ≤ t)
+common_cell Empty n l o r t s left bottom right top near common = absurd common.1.0
+common_cell (Closed low high) Empty l o r t s left bottom right top near common = absurd common.1.1
+common_cell (Closed low high) (Closed low' high') l o r t s left bottom right top near common =
+    let here = common.1.0 in
+    let there = common.1.1 in (
+      cells_in_order low.x high'.x l s.right left near.right (omega (arith, ints, here.left, there.right)),
+      cells_in_order low'.x high.x s.left r near.left right (omega (arith, ints, there.left, here.right)),
+      cells_in_order low.y high'.y o s.top bottom near.top (omega (arith, ints, here.below, there.above)),
+      cells_in_order low'.y high.y s.bottom t near.bottom top (omega (arith, ints, there.below, here.above)),
+    )
+
+pub far_item : (boxes : List Bounds) (reaches : Reaches) (sides : Sides) (near : Bounds) (s : Reach) (k : ℕ)
+    → AreChunksOf boxes reaches → AreSidesOf reaches sides → HasSides sides (k + 1) → IsReachOf near s → k < length boxes
+    → (MeetsAt sides k s → ⊥) → HaveCommonPlace (box_at boxes k) near → ⊥
+far_item boxes reaches sides near s k kept same known told listed apart common =
+    let b = box_at boxes k in
+    let side : (f : List ℕ) (g : List ℕ) → f ≡ g → k + 1 ≤ length f → k < length g =
+    λ f g e h. subst (λ (l : List ℕ). k < length l) e (omega (arith, h)) in
+    let left = kept.left.each k listed (side sides.left.now reaches.left same.left known.left) in
+    let bottom = kept.bottom.each k listed (side sides.bottom.now reaches.bottom same.bottom known.bottom) in
+    let right = kept.right.each k listed (side sides.right.now reaches.right same.right known.right) in
+    let top = kept.top.each k listed (side sides.top.now reaches.top same.top known.top) in
+    let met =
+    common_cell b near (get_or reaches.left k 0) (get_or reaches.bottom k 0) (get_or reaches.right k 0)
+    (get_or reaches.top k 0) s left bottom right top told common in
+    apart (record {
+      left = subst (λ (l : List ℕ). get_or l k 0 ≤ s.right) (sym same.left) met.0;
+      right = subst (λ (l : List ℕ). s.left ≤ get_or l k 0) (sym same.right) met.1;
+      below = subst (λ (l : List ℕ). get_or l k 0 ≤ s.top) (sym same.bottom) met.2;
+      above = subst (λ (l : List ℕ). s.bottom ≤ get_or l k 0) (sym same.top) met.3;
+    })
+
+-- ---- numbers beside a list that is edited
+
+module _ {X : Type 0} (R : X → ℕ → Type 0) (d : X) where
+  pub beside_none : (xs : List X) → AreBeside R d xs []
+  beside_none xs = record { each = λ k listed known. absurd (omega arith) }
+
+  pub beside_pushed : (xs : List X) (old new : List ℕ) (n v : ℕ) → R (get_or xs n d) v → AreBeside R d xs old
+      → (new ≡ old) ⊎ ((length old ≡ n) × (new ≡ old ++ v ∷ [])) → AreBeside R d xs new
+  beside_pushed xs old new n v here before pushed =
+      elim pushed [
+        | inl same ↦ subst (AreBeside R d xs) (sym same) before
+        | inr more ↦
+            subst (AreBeside R d xs) (sym more.1)
+            (record {
+              each = λ k listed known.
+                  elim (cases_lt k n) [
+                    | inl below ↦
+                        (let within : k < length old = omega (arith, below, more.0) in
+                        subst (R (get_or xs k d)) (sym (get_or_append_left old (v ∷ []) 0 k within))
+                        (before.each k listed within))
+                    | inr last ↦
+                        (let e : k ≡ n = omega (arith, last, more.0, known, length_push old v) in
+                        subst (R (get_or xs k d)) (sym (get_or_push old v 0 k (more.0 ∙ sym e)))
+                        (subst (λ j. R (get_or xs j d) v) (sym e) here))
+                  ];
+            })
+      ]
+
+  module _ (xs : List X) (old : List ℕ) (kept : AreBeside R d xs old) where
+    beside_whole : (place : ℕ) (x : X) (v : ℕ) → place ≤ length xs → place ≤ length old → R x v
+        → AreBeside R d (insert xs place x) (insert old place v)
+    beside_whole place x v within room here =
+        let Held = λ (k : ℕ). R (get_or (insert xs place x) k d) (get_or (insert old place v) k 0) in
+        let held : (k : ℕ) (y : X) (w : ℕ) → get_or (insert xs place x) k d ≡ y → get_or (insert old place v) k 0 ≡ w
+        → R y w → Held k =
+        λ k y w is is' h.
+        subst (λ z. R z (get_or (insert old place v) k 0)) (sym is) (subst (R y) (sym is') h) in
+        let all = length-insert xs place x within in
+        let all' = length-insert old place v room in
+        record {
+          each = λ k listed known.
+              elim (cases_lt k place) [
+                | inl below ↦
+                    held k (get_or xs k d) (get_or old k 0) (get_or-insert_below xs place x d k below within)
+                    (get_or-insert_below old place v 0 k below room)
+                    (kept.each k (omega (arith, below, within)) (omega (arith, below, room)))
+                | inr above ↦ elim (cases_eq k place) [
+                  | inl e ↦
+                      subst Held (sym e)
+                      (held place x v (get_or-insert_at xs place x d within) (get_or-insert_at old place v 0 room) here)
+                  | inr apart ↦
+                      (let j = k - 1 in
+                      let e : j + 1 ≡ k = omega (arith, above, apart) in
+                      let after : place ≤ j = omega (arith, above, apart) in
+                      subst Held e
+                      (held (j + 1) (get_or xs j d) (get_or old j 0) (get_or-insert_above xs place x d j after within)
+                      (get_or-insert_above old place v 0 j after room)
+                      (kept.each j (omega (arith, listed, all, e)) (omega (arith, known, all', e)))))
+                ]
+              ];
+        }
+
+    -- a part from the first on will do
+    beside_part : (ys zs : List ℕ) (us : List X) → AreBeside R d us ys → zs ≡ take (length zs) ys → AreBeside R d us zs
+    beside_part ys zs us whole part =
+        let few : length zs ≤ length ys = omega (arith, ap length part, length-take (length zs) ys) in
+        record {
+          each = λ k listed known.
+              subst (R (get_or us k d))
+              (sym (ap (λ l. get_or l k 0) part ∙ get_or-take (length zs) ys k 0 known))
+              (whole.each k listed (omega (arith, few, known)));
+        }
+
+    pub beside_inserted : (place : ℕ) (x : X) (v : ℕ) (new : List ℕ) → place ≤ length xs → R x v
+        → (new ≡ take (length new) (insert old place v)) × ((length old < place) → new ≡ old)
+        → AreBeside R d (insert xs place x) new
+    beside_inserted place x v new within here came =
+        elim (cases_lt (length old) place) [
+          | inl short ↦
+              subst (AreBeside R d (insert xs place x)) (sym (came.1 short))
+              (record {
+                each = λ k listed known.
+                    let below : k < place = omega (arith, known, short) in
+                    subst (λ y. R y (get_or old k 0)) (sym (get_or-insert_below xs place x d k below within))
+                    (kept.each k (omega (arith, below, within)) known);
+              })
+          | inr long ↦
+              beside_part (insert old place v) new (insert xs place x) (beside_whole place x v within long here) came.0
+        ]
+
+    pub beside_removed : (place : ℕ) (new : List ℕ) → place < length xs
+        → ((place < length old → new ≡ remove old place) × (length old ≤ place → new ≡ old))
+        → AreBeside R d (remove xs place) new
+    beside_removed place new within went =
+        elim (cases_lt place (length old)) [
+          | inl known ↦
+              (let held : (k j : ℕ) → get_or (remove xs place) k d ≡ get_or xs j d
+              → get_or (remove old place) k 0 ≡ get_or old j 0 → R (get_or xs j d) (get_or old j 0)
+              → R (get_or (remove xs place) k d) (get_or (remove old place) k 0) =
+              λ k j is is' h.
+              subst (λ y. R y (get_or (remove old place) k 0)) (sym is) (subst (R (get_or xs j d)) (sym is') h) in
+              let fewer = length-remove xs place within in
+              let fewer' = length-remove old place known in
+              subst (AreBeside R d (remove xs place)) (sym (went.0 known))
+              (record {
+                each = λ k listed there.
+                    elim (cases_lt k place) [
+                      | inl below ↦
+                          held k k (get_or-remove_below xs place d k below within)
+                          (get_or-remove_below old place 0 k below known)
+                          (kept.each k (omega (arith, below, within)) (omega (arith, below, known)))
+                      | inr above ↦
+                          held k (k + 1) (get_or-remove_above xs place d k above within)
+                          (get_or-remove_above old place 0 k above known)
+                          (kept.each (k + 1) (omega (arith, listed, fewer)) (omega (arith, there, fewer')))
+                    ];
+              }))
+          | inr few ↦
+              subst (AreBeside R d (remove xs place)) (sym (went.1 few))
+              (record {
+                each = λ k listed known.
+                    let below : k < place = omega (arith, known, few) in
+                    subst (λ y. R y (get_or old k 0)) (sym (get_or-remove_below xs place d k below within))
+                    (kept.each k (omega (arith, below, within)) known);
+              })
+        ]
+
+    pub beside_set : (place : ℕ) (x : X) (v : ℕ) (new : List ℕ) → place < length xs → R x v → new ≡ slice_set old place v
+        → AreBeside R d (slice_set xs place x) new
+    beside_set place x v new within here is =
+        subst (AreBeside R d (slice_set xs place x)) (sym is)
+        (record {
+          each = λ k listed there.
+              elim (cases_eq k place) [
+                | inl e ↦
+                    (let known : place < length old = omega (arith, there, e, length-set old place v) in
+                    subst (λ j. R (get_or (slice_set xs place x) j d) (get_or (slice_set old place v) j 0)) (sym e)
+                    (subst (λ y. R y (get_or (slice_set old place v) place 0))
+                    (sym (get_or-set_same xs place x d within))
+                    (subst (R x) (sym (get_or-set_same old place v 0 known)) here)))
+                | inr apart ↦
+                    subst (λ y. R y (get_or (slice_set old place v) k 0)) (sym (get_or-set_other xs place k x d apart))
+                    (subst (R (get_or xs k d)) (sym (get_or-set_other old place k v 0 apart))
+                    (kept.each k (omega (arith, listed, length-set xs place x))
+                    (omega (arith, there, length-set old place v))))
+              ];
+        })

@@ -9,3 +9,4 @@ pub mod Tracing
 pub mod Inside
 pub mod Runs
 pub mod Extents
+pub mod Sides

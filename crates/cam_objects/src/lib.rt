@@ -62,6 +62,7 @@ pub use canvas::{Canvas, Figure, Print};
 pub use checks::attributes::is_attribute;
 pub use chunks::item_list::BoxedItems;
 pub use chunks::kept::Chunks;
+pub use chunks::numbers::ItemNumbers;
 pub use dictionary::Dictionary;
 pub use drill::item_boxes::DrillItemBoxes;
 pub use drill_item::DrillItem;

@@ -1,10 +1,10 @@
 -- Where a step moves the items of a layer, and what is kept beside them.
 use Rattle.std.specs.Prelude.{◌≡◌, ℕ, ◌+◌, ◌<◌, ◌≤◌, ◌⊎◌, List, length, Option, None, Some, IsSome, nat_eq, slice_get, sum_by}
-use Rattle.std.specs.Prelude.{unwrap_or}
+use Rattle.std.specs.Prelude.{insert, remove}
 use Rattle.std.specs.Map.{set_value}
 use Rattle.cam_units.specs.declared.bounds.Bounds.{Bounds}
 use Rattle.cam_units.specs.declared.length.Nm.{Nm}
-use Rattle.cam_objects.specs.Chunks.{AreChunksOf, IsEditOf, drill_item_boxes, item_boxes}
+use Rattle.cam_objects.specs.Chunks.{AreChunksOf, Reaches, drill_item_boxes, item_boxes}
 use Rattle.cam_objects.specs.DrillSoundness.{IsSoundDrillLayer, drill_count_of}
 use Rattle.cam_objects.specs.Drilling.{diameter_of}
 use Rattle.cam_objects.specs.Soundness.{HasSoundItems}
@@ -25,21 +25,29 @@ abbrev pub count_at : {X : Type 0} → (X → ℕ) → List X → Option ℕ →
 count_at f xs None = 0
 count_at f xs (Some k) = count_of f (slice_get xs k)
 
--- the element at a place stood there, or from a low place to a high one at most one place off
-pub record StoodBeside {X : Type 0} (before after : List X) (low high k : ℕ) : Type 0 where
+-- the element at a place stood somewhere
+pub record StoodBefore {X : Type 0} (before after : List X) (k : ℕ) : Type 0 where
   pub was : ℕ
   pub same : slice_get before was ≡ slice_get after k
-  pub near : (was ≡ k) ⊎ ((low ≤ k) × (k ≤ high) × (was ≤ k + 1) × (k ≤ was + 1))
+
+-- an element left its place, and then one came to a place
+abbrev pub IsEdited : {X : Type 0} → Option ℕ → Option ℕ → List X → List X → Type 0
+IsEdited None None before after = after ≡ before
+IsEdited {X = X} None (Some m) before after = (m ≤ length before) × ((x : X) × (after ≡ insert before m x))
+IsEdited (Some k) None before after = (k < length before) × (after ≡ remove before k)
+IsEdited {X = X} (Some k) (Some m) before after =
+    (k < length before) × (m < length before) × ((x : X) × (after ≡ insert (remove before k) m x))
 
 pub record IsShift {X : Type 0} (shift : Shift) (before after : List X) : Type 0 where
-  pub stood : (k : ℕ) → k < length after → (shift.to ≡ Some k) ⊎ StoodBeside before after shift.low shift.high k
+  pub stood : (k : ℕ) → k < length after → (shift.to ≡ Some k) ⊎ StoodBefore before after k
   pub sums : (f : X → ℕ) → sum_by f after + count_at f before shift.from ≡ sum_by f before + count_at f after shift.to
+  pub edit : IsEdited shift.from shift.to before after
 
 -- they were the chunks of boxes of which an edit with this shift made others
-pub record WereChunks (shift : Shift) (chunks after : List Bounds) : Type 0 where
+pub record WereChunks (shift : Shift) (chunks : Reaches) (after : List Bounds) : Type 0 where
   pub before : List Bounds
   pub known : AreChunksOf before chunks
-  pub edit : IsEditOf before after shift.low shift.high (unwrap_or shift.to shift.low)
+  pub edit : IsEdited shift.from shift.to before after
 
 -- ---- what is kept of a layer
 

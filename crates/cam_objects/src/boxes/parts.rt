@@ -8,12 +8,14 @@ ghost use Rattle.cam_objects.specs.Machinery.Painting.{StandsOnBoard};
 ghost use Rattle.cam_objects.specs.Soundness.{AreOnBoard, IsSoundEntry};
 
 use crate::boxes::items::block_bounds;
-use crate::chunks::mending::CHUNK_SIZE;
 use crate::dictionary::Dictionary;
 use crate::entry::Entry;
 use crate::object::Object;
 use cam_units::{Bounds, Items};
 use std::alloc::Global;
+
+/// How many objects are in one chunk of a block.
+pub(crate) const CHUNK_SIZE: usize = 512;
 
 /// The objects of a part, each of so many; the parts are counted from 0.
 pub(crate) fn part_at(objects: &[Object], size: usize, part: usize) -> &[Object]

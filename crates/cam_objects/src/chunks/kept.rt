@@ -1,125 +1,176 @@
-//! The chunks of a list of items.
+//! The cells that the items of a list reach.
 
-ghost use Rattle.std.specs.Prelude.{◌≡◌, ◌<◌, ◌≤◌, ℕ, List, [], length};
+ghost use Rattle.std.specs.Prelude.{◌≡◌, ◌<◌, ◌≤◌, ℕ, [], List, insert, length, remove, slice_set};
 ghost use Rattle.cam_units.specs.declared.bounds.Bounds.{Bounds};
 ghost use Rattle.cam_units.specs.Boxes.{HaveCommonPlace};
-ghost use Rattle.cam_objects.specs.Chunks.{AreChunksOf, IsEditOf, box_at};
+ghost use Rattle.cam_objects.specs.Chunks.{AreChunksOf, box_at};
+ghost use Rattle.cam_objects.specs.Machinery.Sides.{AreSidesOf};
 
 use crate::chunks::item_list::BoxedItems;
-use crate::chunks::mending::{CHUNK_SIZE, extend, hold, hold_ends, renew};
+use crate::chunks::numbers::ItemNumbers;
+use crate::chunks::reach::Reach;
+use crate::chunks::sides::Sides;
 use cam_units::Bounds;
 use std::alloc::Global;
 use std::marker::Model;
 
-/// A list of items in chunks of 512, and of each chunk a box that holds the boxes of its items, in half nm: who looks
-/// for what meets some box passes over whole chunks. The items behind the last chunk are in none.
-///
-/// An edit mends the chunks that it changes. Where items move up or down, their chunks keep what they held besides,
-/// until they are read anew, one with each edit.
+/// Of each item of a list, one after another, the cells that its box reaches: who looks for what meets some box passes
+/// over the others. The items behind those are read as they are.
 #[derive(Drop)]
 pub struct Chunks {
-    boxes: Vec<Bounds>,
-    next: usize,
+    left: ItemNumbers,
+    bottom: ItemNumbers,
+    right: ItemNumbers,
+    top: ItemNumbers,
 }
 
 impl Model for Chunks {
-    ghost use Rattle.std.specs.Prelude.{List};
-    ghost use Rattle.cam_units.specs.declared.bounds.Bounds.{Bounds};
+    ghost use Rattle.cam_objects.specs.Chunks.{Reaches};
 
-    ghost Value = { List Bounds };
+    ghost Value = { Reaches };
 
-    ghost view = { λ c. c.boxes.items };
+    ghost view = { λ c. record { left = c.left; bottom = c.bottom; right = c.right; top = c.top } };
+}
+
+/// Puts what items reach, from the first on, into lists that are empty, as far as there is room.
+fn read_all<B: BoxedItems>(
+    items: &mut B,
+    left: &mut ItemNumbers,
+    bottom: &mut ItemNumbers,
+    right: &mut ItemNumbers,
+    top: &mut ItemNumbers,
+)
+    requires left { left.old ≡ [] }
+    requires bottom { bottom.old ≡ [] }
+    requires right { right.old ≡ [] }
+    requires top { top.old ≡ [] }
+    ensures chunks { AreChunksOf (B.boxes items.old)
+        (record { left = left.new; bottom = bottom.new; right = right.new; top = top.new }) }
+    ensures list { B.boxes items.new ≡ B.boxes items.old }
+{
+    for place in 0..items.count() {
+        let reach = Reach::of(items.box_at(place));
+        left.push_at(place, reach.left);
+        bottom.push_at(place, reach.bottom);
+        right.push_at(place, reach.right);
+        top.push_at(place, reach.top);
+    }
 }
 
 impl Chunks {
-    /// The chunks of a list of items; where memory for them is refused, none.
+    /// Of a list of items; where memory is refused, of none of them.
     pub fn of<B: BoxedItems>(alloc: Global, items: &mut B) -> Chunks
         ensures chunks { AreChunksOf (B.boxes items.old) result }
         ensures list { B.boxes items.new ≡ B.boxes items.old }
     {
-        let mut boxes = match Vec::with_capacity(alloc, items.count().div_ceil(CHUNK_SIZE)) {
-            Ok(boxes) => boxes,
-            Err(_) => Vec::new(alloc),
-        };
-        extend(&mut boxes, items);
-        Chunks { boxes, next: 0 }
+        let count = items.count();
+        let mut left = ItemNumbers::with_room(alloc, count);
+        let mut bottom = ItemNumbers::with_room(alloc, count);
+        let mut right = ItemNumbers::with_room(alloc, count);
+        let mut top = ItemNumbers::with_room(alloc, count);
+        read_all(items, &mut left, &mut bottom, &mut right, &mut top);
+        Chunks {
+            left,
+            bottom,
+            right,
+            top,
+        }
     }
 
-    /// Makes room for the chunks of so many items more; where memory for it is refused, they will be in none.
+    /// Makes room for so many items more; where memory for it is refused, those behind an item that comes will be read
+    /// as they are.
     pub fn reserve(&mut self, items: usize)
         ensures { self.new ≡ self.old }
     {
-        let _ = self.boxes.reserve(items.div_ceil(CHUNK_SIZE));
+        self.left.reserve(items);
+        self.bottom.reserve(items);
+        self.right.reserve(items);
+        self.top.reserve(items);
     }
 
-    /// Mends the chunks after an edit, with which items from one place to another moved by at most one place, and an
-    /// item came to stand at a place or was changed there. Takes no memory.
-    pub fn mend<B: BoxedItems>(&mut self, items: &mut B, low: usize, high: usize, place: usize)
-        ensures chunks { (before : List Bounds) → AreChunksOf before self.old
-            → IsEditOf before (B.boxes items.old) low high place → AreChunksOf (B.boxes items.old) self.new }
+    /// Follows an item that came to a place, counted from 0. Takes no memory.
+    pub fn insert<B: BoxedItems>(&mut self, items: &mut B, place: usize)
+        requires { place < length (B.boxes items.old) }
+        ensures chunks { (before : List Bounds) (b : Bounds) → AreChunksOf before self.old → place ≤ length before
+            → B.boxes items.old ≡ insert before place b → AreChunksOf (B.boxes items.old) self.new }
         ensures list { B.boxes items.new ≡ B.boxes items.old }
     {
-        let count = items.count();
-        hold_ends(&mut self.boxes, items, low, high);
-        if place < count {
-            hold(&mut self.boxes, items, place);
-        }
+        let reach = Reach::of(items.box_at(place));
+        self.left.insert(place, reach.left);
+        self.bottom.insert(place, reach.bottom);
+        self.right.insert(place, reach.right);
+        self.top.insert(place, reach.top);
     }
 
-    /// Reads the items of two chunks anew: of that of a place, and of the one whose turn it is. Puts chunks behind the
-    /// last one, as far as there is room. Takes no memory.
+    /// Follows an item that left its place, counted from 0. Takes no memory.
+    pub fn remove(&mut self, place: usize)
+        ensures { (boxes : List Bounds) → AreChunksOf boxes self.old → place < length boxes
+            → AreChunksOf (remove boxes place) self.new }
+    {
+        self.left.remove(place);
+        self.bottom.remove(place);
+        self.right.remove(place);
+        self.top.remove(place);
+    }
+
+    /// Reads the item at a place anew. Takes no memory.
     pub fn renew<B: BoxedItems>(&mut self, items: &mut B, place: usize)
-        requires { AreChunksOf (B.boxes items.old) self.old }
-        ensures chunks { AreChunksOf (B.boxes items.old) self.new }
+        requires { place < length (B.boxes items.old) }
+        ensures chunks { (before : List Bounds) (b : Bounds) → AreChunksOf before self.old
+            → B.boxes items.old ≡ slice_set before place b → AreChunksOf (B.boxes items.old) self.new }
         ensures list { B.boxes items.new ≡ B.boxes items.old }
     {
-        extend(&mut self.boxes, items);
-        renew(&mut self.boxes, items, place / CHUNK_SIZE);
-        if self.next >= self.boxes.len() {
-            self.next = 0;
-        }
-        renew(&mut self.boxes, items, self.next);
-        self.next += 1;
+        let reach = Reach::of(items.box_at(place));
+        self.left.set(place, reach.left);
+        self.bottom.set(place, reach.bottom);
+        self.right.set(place, reach.right);
+        self.top.set(place, reach.top);
     }
 
-    /// Reads the items of all chunks anew, whatever was changed of them. Takes no memory.
+    /// Reads all items anew, whatever was changed of them. Takes no memory.
     pub fn renew_all<B: BoxedItems>(&mut self, items: &mut B)
         ensures chunks { AreChunksOf (B.boxes items.old) self.new }
         ensures list { B.boxes items.new ≡ B.boxes items.old }
     {
-        self.boxes.clear();
-        extend(&mut self.boxes, items);
+        self.left.clear();
+        self.bottom.clear();
+        self.right.clear();
+        self.top.clear();
+        read_all(
+            items,
+            &mut self.left,
+            &mut self.bottom,
+            &mut self.right,
+            &mut self.top,
+        );
     }
 
-    /// The next place from one on whose item may have a place in common with a box: the items before it, from that
-    /// place on, have none. Passes over whole chunks.
+    /// The cells of the items.
+    fn sides(&self) -> Sides<'_>
+        ensures { AreSidesOf self.now result }
+    {
+        Sides {
+            left: self.left.as_slice(),
+            bottom: self.bottom.as_slice(),
+            right: self.right.as_slice(),
+            top: self.top.as_slice(),
+        }
+    }
+
+    /// The next place from one on whose item may have a place in common with a box, in half nm: the items before it,
+    /// from that place on, have none.
     pub fn next_near(&self, place: usize, near: Bounds) -> usize
         ensures onward { place ≤ result }
         ensures apart { (boxes : List Bounds) → AreChunksOf boxes self.now → (k : ℕ) → place ≤ k → k < result
             → k < length boxes → ¬ HaveCommonPlace (box_at boxes k) near }
     {
-        if place % CHUNK_SIZE != 0 {
-            return place;
-        }
-        let first = place / CHUNK_SIZE;
-        for chunk in first..self.boxes.len() {
-            if self.boxes[chunk].meets(near) {
-                return chunk.saturating_mul(CHUNK_SIZE);
-            }
-        }
-        place.max(self.boxes.len().saturating_mul(CHUNK_SIZE))
+        self.sides().next_meeting(place, Reach::of(near))
     }
 
-    /// How many of so many items are left where those of the chunks are passed over that have no place in common with
-    /// a box.
+    /// About how many of so many items may have a place in common with a box, in half nm.
     pub fn near_count(&self, count: usize, near: Bounds) -> usize
         ensures { result ≤ count }
     {
-        let far = self
-            .boxes
-            .iter()
-            .filter(|bounds| !bounds.meets(near))
-            .count();
-        count.saturating_sub(far.saturating_mul(CHUNK_SIZE))
+        count.saturating_sub(self.sides().far_count(Reach::of(near)))
     }
 }

@@ -9,9 +9,8 @@ ghost use Rattle.cam_objects.specs.Machinery.Boxes.{IsNearBox, IsSizedTip};
 ghost use Rattle.cam_objects.specs.Machinery.Painting.{IsPrintable, StandsOnBoard, flash_leaves, meaning_before};
 ghost use Rattle.cam_objects.specs.Soundness.{IsSoundDictionary};
 
-use crate::boxes::parts::{behind_parts, part_at};
+use crate::boxes::parts::{CHUNK_SIZE, behind_parts, part_at};
 use crate::canvas::{Canvas, Figure, Print, misses};
-use crate::chunks::mending::CHUNK_SIZE;
 use crate::dictionary::Dictionary;
 use crate::entry::Entry;
 use crate::object::Object;

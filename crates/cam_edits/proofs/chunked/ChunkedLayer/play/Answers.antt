@@ -1,4 +1,4 @@
-use Rattle.std.proofs.Common.{◌≡◌, ◌∙◌, ap, subst, sym, length, arith}
+use Rattle.std.proofs.Common.{◌∙◌, ap, subst, sym}
 use Rattle.cam_objects.specs.Contents.{Content, content_of}
 use Rattle.cam_objects.specs.declared.layer.Layer.{Layer}
 use Rattle.cam_edits.specs.Machinery.Shifts.{IsShift}
@@ -13,12 +13,11 @@ mended-requires-clause-was c =
     let before = c.self.inside.layer in
     let content = c.play-answer.ensures.content in
     let fits = subst (λ (l : Layer). IsFit c.args.step (content_of l)) (sym c.self.view_is) c.requires.fits in
-    let many : c.len.result ≡ length before.items.items = omega (arith, before.items.ok.0) in
     record {
       before = before;
       known = c.self.invariant c.in-Some.kept (sym c.take.ensures.value ∙ c.in-Some.is);
       entries = sym (ap (λ (x : Content). x.entries) content);
       shifted = subst (IsShift c.of-shift.result before.items.items) (sym (ap (λ (x : Content). x.items) content))
-          (c.of-shift.ensures (content_of before) fits many);
+          (c.of-shift.ensures (content_of before) fits);
       left = c.leaves_at-gone.ensures.value;
     }

@@ -1,4 +1,4 @@
-use Rattle.std.proofs.Common.{◌≡◌, ◌∙◌, ap, subst, sym, length, arith}
+use Rattle.std.proofs.Common.{◌∙◌, ap, subst, sym}
 use Rattle.cam_objects.specs.Contents.{DrillContent, drill_content_of}
 use Rattle.cam_objects.specs.declared.drill_layer.DrillLayer.{DrillLayer}
 use Rattle.cam_edits.specs.DrillSteps.{IsDrillFit}
@@ -22,12 +22,11 @@ mended-requires-clause-was c =
     let before = c.self.inside.layer in
     let content = c.play-answer.ensures.content in
     let fits = subst (λ (l : DrillLayer). IsDrillFit c.args.step (drill_content_of l)) (sym c.self.view_is) c.requires.fits in
-    let many : c.len.result ≡ length before.items.items = omega (arith, before.items.ok.0) in
     record {
       before = before;
       known = c.self.invariant c.in-Some.kept (sym c.take.ensures.value ∙ c.in-Some.is);
       tools = sym (ap (λ (x : DrillContent). x.tools) content ∙ c.in-None.ensures.kept before.tools);
       shifted = subst (IsShift c.of_drill-shift.result before.items.items) (sym (ap (λ (x : DrillContent). x.items) content))
-          (c.of_drill-shift.ensures (drill_content_of before) fits many);
+          (c.of_drill-shift.ensures (drill_content_of before) fits);
       left = c.leaves_at-gone.ensures.value;
     }
