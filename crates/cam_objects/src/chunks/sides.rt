@@ -76,7 +76,8 @@ impl<'a> Sides<'a> {
         ensures known { (result ≡ place) ⊎ HasSides self.entry result }
     {
         let count = self.len();
-        if count <= place {
+        // where most are near, the next one is
+        if count <= place || self.meets(place, reach) {
             return place;
         }
         let chunks = (count - place) / CHUNK_SIZE;
