@@ -2,7 +2,7 @@
 use Rattle.std.proofs.Common.{◌≡◌, ℕ, ◌+◌, ◌*◌, ◌<◌, ◌≤◌, ◌↔◌, ℤ, pos, ◌+ℤ◌, ◌-ℤ◌, ◌≤ℤ◌, ◌<ℤ◌}
 use Rattle.std.proofs.Common.{to_z, of_z, w64, sym, arith}
 use Rattle.std.specs.Int.RustNames.{unsigned_abs}
-use Rattle.std.proofs.lemmas.Int.{ints}
+use Rattle.std.proofs.lemmas.Int.{by_lt_z, ints}
 use Rattle.std.proofs.lemmas.Nat.{mul-le}
 use Rattle.cam_units.specs.declared.point.Spot.{Spot}
 use Rattle.cam_units.specs.Board.{IsSize}
@@ -46,6 +46,20 @@ pub in_hole_is : (s : Spot) (d : Disc) (r bound : ℕ) → pos 0 <ℤ d.diameter
     → bound ≡ r * r → IsInHole s d ↔ (dot (seen_from d.centre s) (seen_from d.centre s) <ℤ pos bound)
 in_hole_is s d r bound some e f =
     rw (f, square_of r d.diameter.0 e) ((λ inside. inside.near), (λ less. record { some = some; near = less }))
+
+-- also where its diameter is 0
+pub in_any_hole : (s : Spot) (d : Disc) (r bound : ℕ) → IsSize d.diameter.0 → r ≡ unsigned_abs d.diameter.0
+    → bound ≡ r * r → (dot (seen_from d.centre s) (seen_from d.centre s) <ℤ pos bound) ↔ IsInHole s d
+in_any_hole s d r bound size e f =
+    let v = seen_from d.centre s in
+    let is = square_of r d.diameter.0 e in (
+      (λ near. by_lt_z (pos 0) d.diameter.0
+          (λ some. (in_hole_is s d r bound some e f).1 near)
+          (λ none.
+          let no : r ≡ 0 = omega (arith, ints, none, size.0, e) in
+          absurd (omega (arith, ints, near, dot_is v, rw no at f)))),
+      (λ inside. (in_hole_is s d r bound inside.some e f).0 inside),
+    )
 
 -- a row above or below a disc holds none of it, and one that touches it none of its hole
 pub over_disc : (s : Spot) (d : Disc) (high r : ℕ) → r ≡ unsigned_abs d.diameter.0

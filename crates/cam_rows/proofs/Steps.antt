@@ -7,9 +7,11 @@ use Rattle.std.proofs.lemmas.Bool.{cases_lt}
 use Rattle.std.proofs.lemmas.Grind.{div_ceil_times}
 use Rattle.std.proofs.lemmas.Int.{by_lt_z, ints}
 use Rattle.std.proofs.lemmas.Nat.{mul-le}
+use Rattle.cam_units.specs.Board.{IsInReach}
 use Rattle.cam_shapes.proofs.Widths.{narrow}
 use Rattle.cam_rows.specs.declared.centres.Centres.{Centres}
-use Rattle.cam_rows.specs.Rows.{IsRow}
+use Rattle.cam_rows.specs.Rows.{IsRow, centre_at}
+use Rattle.cam_rows.specs.Runs.{IsWideRow}
 
 -- how many steps end before a gap, by division
 steps_before : (n gap step : ℕ) → 0 < step → (n < div_ceil gap step) ↔ (n * step < gap)
@@ -37,8 +39,20 @@ left_by_division first step x n gap pitch steps positive is_step is_x is_steps =
       (λ left. before.1 (omega (arith, ints, left))),
     )
 
--- the last of some centres is a place of the board
-pub last_near : (c : Centres) → IsRow c → unsigned_abs (c.first.x +ℤ pos (c.count - 1) *ℤ c.step) < 4000000000
+-- a row is one of the wide ones
+pub wide_row : (c : Centres) → IsRow c → IsWideRow c
+wide_row c row = record {
+  count = (row.count.0, omega (arith, row.count.1));
+  step = row.step;
+  centres = row.centres;
+}
+
+-- the first and the last of some centres are places of the board
+pub first_near : (c : Centres) → IsWideRow c → unsigned_abs c.first.x < 4000000000
+first_near c row =
+    let p : IsInReach (centre_at c 0) = row.centres 0 (omega (arith, row.count.0)) in omega (arith, ints, p.x)
+
+pub last_near : (c : Centres) → IsWideRow c → unsigned_abs (c.first.x +ℤ pos (c.count - 1) *ℤ c.step) < 4000000000
 last_near c row = (row.centres (c.count - 1) (omega (arith, row.count.0))).x
 
 -- a gap, and how far the last centre lies from the first one, as 64 bits compute them
@@ -96,4 +110,23 @@ run_in_strip B n first end count x left right low high is_low is_high few before
         | inl h ↦ let left_of = first_up h in absurd (omega (arith, ints, left_of, p.1.0, is_low))
         | inr h ↦ (h, early (omega (arith, ints, p.1.1, is_high)))
       ])),
+)
+
+-- and the same columns of a run
+pub columns_in_strip : (n first end : ℕ) (x left right low high : ℤ) → low ≡ left → high ≡ right +ℤ pos 1
+    → (n < first) ↔ (x <ℤ low) → (n < end) ↔ (x <ℤ high)
+    → ((first ≤ n) × (n < end)) ↔ ((left ≤ℤ x) × (x ≤ℤ right))
+columns_in_strip n first end x left right low high is_low is_high before through = (
+  (λ run.
+      let until = through.0 run.1 in (
+        by_lt_z x low (λ h. absurd (omega (arith, before.1 h, run.0))) (λ h. omega (arith, ints, h, is_low)),
+        omega (arith, ints, until, is_high),
+      )),
+  (λ p. (
+    elim (cases_lt n first) [
+      | inl h ↦ let out = before.0 h in absurd (omega (arith, ints, out, p.0, is_low))
+      | inr h ↦ h
+    ],
+    through.1 (omega (arith, ints, p.1, is_high)),
+  )),
 )

@@ -46,7 +46,7 @@ marked_same rows top P R marked told k within =
 
 module _ (r : Swept) (wide : pos 0 <ℤ r.width.0) (high : pos 0 <ℤ r.height.0) where
   -- the stroke is what of the box of its ends is near its line
-  in_box_and_near : (reach : ℤ) → reach ≡ corner_reach (way r.from r.to) r.width.0 r.height.0 → (s : Spot)
+  pub in_box_and_near : (reach : ℤ) → reach ≡ corner_reach (way r.from r.to) r.width.0 r.height.0 → (s : Spot)
       → IsInSwept s r ↔ (IsInBox (low_corner r) (high_corner r) s × IsNear r.from r.to reach s)
   in_box_and_near reach is s =
       let near = within_reach (cross (way r.from r.to) (seen_from r.from s)) reach in (

@@ -1,16 +1,18 @@
 -- Wide rows and their runs.
 use Rattle.std.proofs.Common.{◌≡◌, ℕ, ◌+◌, ◌-◌, ◌*◌, ◌<◌, ◌≤◌, ◌≢◌, ◌↔◌, List, length, slice_index, slice_set}
-use Rattle.std.proofs.Common.{ℤ, pos, ◌-ℤ◌, ◌*ℤ◌, ◌<ℤ◌}
+use Rattle.std.proofs.Common.{ℤ, pos, ◌+ℤ◌, ◌-ℤ◌, ◌*ℤ◌, ◌≤ℤ◌, ◌<ℤ◌}
 use Rattle.std.proofs.Common.{get_or-set_other, get_or-set_same, inl, inr, refl, subst, arith}
 use Rattle.std.specs.Int.RustNames.{unsigned_abs}
 use Rattle.std.proofs.lemmas.Bool.{cases_lt}
 use Rattle.std.proofs.lemmas.Int.{ints}
 use Rattle.cam_units.specs.Board.{IsOnBoard}
+use Rattle.cam_units.specs.Boxes.{IsBetween as IsInBox}
 use Rattle.cam_units.specs.declared.point.Point.{Point}
 use Rattle.cam_units.specs.declared.point.Spot.{Spot}
 use Rattle.cam_shapes.specs.declared.disc.Disc.{Disc}
+use Rattle.cam_shapes.specs.declared.rectangle.Rectangle.{Rectangle}
 use Rattle.cam_shapes.specs.Disc.{IsInDisc}
-use Rattle.cam_shapes.specs.Plane.{seen_from, square}
+use Rattle.cam_shapes.specs.Plane.{IsBetween, seen_from, square}
 use Rattle.cam_rows.specs.declared.centres.Centres.{Centres}
 use Rattle.cam_rows.specs.declared.half_plane.HalfPlane.{HalfPlane}
 use Rattle.cam_rows.specs.declared.offsets.Offsets.{Offsets}
@@ -198,3 +200,40 @@ pub near_column : (top : Centres) (p : Point) (o : Offsets) (k i height room bou
     → (square (offset o.first o.step i) <ℤ pos room) ↔ IsNearer p bound (centre_at (row_below top k) i)
 near_column top p o k i height room bound columns e is =
     rw (is, columns.each i) (seen_in_chord (seen_from p (centre_at (row_below top k) i)) height bound e)
+
+-- ---- boxes
+
+-- a column between the sides of a box, in a row so high
+pub in_box_run : (B R : Type 0) (low high s : Spot) (left right y : ℤ) → left ≡ low.x → right ≡ high.x → y ≡ s.y
+    → R ↔ ((left ≤ℤ s.x) × (s.x ≤ℤ right)) → B ↔ (R × (low.y ≤ℤ y) × (y ≤ℤ high.y)) → B ↔ IsInBox low high s
+in_box_run B R low high s left right y e f g strip high_enough =
+    let across = rw (e, f) at strip in
+    let told = rw g at high_enough in (
+      (λ on.
+          let held = told.0 on in
+          let sides = across.0 held.0 in
+          record { left = sides.0; right = sides.1; below = held.1; above = held.2 }),
+      (λ inside. told.1 (across.1 (inside.left, inside.right), inside.below, inside.above)),
+    )
+
+-- a rectangle by its corners
+pub in_corners : (s low high : Spot) (r : Rectangle) → low.x ≡ pos 2 *ℤ r.centre.x -ℤ r.width.0
+    → low.y ≡ pos 2 *ℤ r.centre.y -ℤ r.height.0 → high.x ≡ pos 2 *ℤ r.centre.x +ℤ r.width.0
+    → high.y ≡ pos 2 *ℤ r.centre.y +ℤ r.height.0
+    → IsInBox low high s ↔ IsBetween (seen_from r.centre s) r.width.0 r.height.0
+in_corners s low high r e f g h = (
+  (λ p. record {
+    across = omega (arith, ints, e, g, p.left, p.right);
+    along = omega (arith, ints, f, h, p.below, p.above);
+  }),
+  (λ p. record {
+    left = omega (arith, ints, e, p.across);
+    right = omega (arith, ints, g, p.across);
+    below = omega (arith, ints, f, p.along);
+    above = omega (arith, ints, h, p.along);
+  }),
+)
+
+-- what two facts say alike
+pub by_strip : (B S N : Type 0) → B ↔ S → N ↔ S → B ↔ N
+by_strip B S N told near = ((λ b. near.1 (told.0 b)), (λ n. told.1 (near.0 n)))

@@ -30,6 +30,7 @@ pub(crate) struct Chord {
 
 impl Chord {
     /// A guess for circles about a point: the centre next to it.
+    #[tactic(auto, using(crate::proofs::Steps::wide_row))]
     pub(crate) fn about(point: &Point, centres: &Centres) -> Chord
         requires point { IsOnBoard point.now }
         requires row { IsRow centres.now }

@@ -24,8 +24,8 @@
 //!   a rectangle.
 //! - [`edge_row`], [`cap_row`]: parts of a region; [`turn_edge`] turns over what an edge of it changes, [`edge_end`]
 //!   tells where that ends at one height.
-//! - [`bar_runs`], [`disc_runs`]: the same in rows of up to 32,768 centres, a run of columns for each row;
-//!   [`run_row`]: the bits of a part of it.
+//! - [`bar_runs`], [`disc_runs`], [`hole_runs`], [`rect_runs`], [`obround_runs`], [`swept_runs`]: the same in rows of up
+//!   to 32,768 centres, a run of columns for each row; [`run_row`]: the bits of a part of it.
 //! - [`ring_of`], [`outer_runs`], [`hollow_runs`], [`beyond_runs`]: an arc in such rows.
 //! - [`or_rows`], [`clear_rows`], [`xor_rows`]: the 64 rows of a tile; [`pbm_bytes`]: a row in a file.
 //!
@@ -78,5 +78,9 @@ pub use ring::{Ring, ring_of};
 pub use runs::arc::{beyond_runs, hollow_runs, outer_runs};
 pub use runs::bar::bar_runs;
 pub use runs::disc::disc_runs;
+pub use runs::hole::hole_runs;
+pub use runs::obround::obround_runs;
+pub use runs::rect::rect_runs;
 pub use runs::run_row;
+pub use runs::swept::swept_runs;
 pub use swept::{swept_row, swept_rows};

@@ -49,7 +49,7 @@ pub fn obround_rows(obround: Obround, top: Centres, rows: &mut [u64])
 
 /// How far an obround of these sides reaches to the left and to the right of its centre, so far over it: half its
 /// straight part, and half the chord of its round ends where the row passes those.
-fn reach_at(over: u64, width: u64, height: u64) -> u64
+pub(crate) fn reach_at(over: u64, width: u64, height: u64) -> u64
     requires low { over ≤ height }
     requires width { width < 2 ^ 28 }
     requires height { height < 2 ^ 28 }

@@ -2,17 +2,22 @@
 
 pub(crate) mod arc;
 pub(crate) mod bar;
+mod boxes;
 mod circle;
 pub(crate) mod disc;
+pub(crate) mod hole;
 mod narrowing;
+pub(crate) mod obround;
+pub(crate) mod rect;
+pub(crate) mod swept;
 mod wide;
 
-ghost use Rattle.std.specs.Prelude.{◌+◌, ◌^◌, ◌<◌, ◌≤◌, ◌↔◌, ℕ, ◌≤ℤ◌, ◌<ℤ◌};
+ghost use Rattle.std.specs.Prelude.{◌+◌, ◌^◌, ◌<◌, ◌≤◌, ◌↔◌, ℕ, ◌≤ℤ◌};
 ghost use Rattle.std.specs.Int.{IsBitSet};
 ghost use Rattle.std.specs.Int.RustNames.{unsigned_abs};
 ghost use Rattle.cam_units.specs.Board.{IsOnBoard};
 ghost use Rattle.cam_shapes.specs.Plane.{seen_from};
-ghost use Rattle.cam_rows.specs.Rows.{IsRow, Marks, centre_at};
+ghost use Rattle.cam_rows.specs.Rows.{IsRow, Marks};
 ghost use Rattle.cam_rows.specs.Runs.{IsInRun};
 
 use crate::bits::bits_between;
@@ -34,28 +39,8 @@ pub(crate) struct Strip {
     pub(crate) right: i64,
 }
 
-impl Centres {
-    /// How many of the centres lie left of the vertical at `x`. It divides only where some do, and some do not.
-    pub(crate) fn count_left_of(&self, x: i64) -> u32
-        requires row { IsRow self.now }
-        requires short { unsigned_abs x < 2 ^ 62 }
-        ensures each { (i : ℕ) → i < self.now.count → (i < result) ↔ ((centre_at self.now i).x <ℤ x) }
-        ensures few { result ≤ self.now.count }
-    {
-        let gap = x - self.first.x;
-        if gap <= 0 {
-            return 0;
-        }
-        let gap = gap as u64;
-        let step = self.step as u64;
-        if gap > u64::from(self.count - 1) * step {
-            return self.count;
-        }
-        gap.div_ceil(step) as u32
-    }
-}
-
 /// The row of the centres in a strip.
+#[tactic(auto, using(crate::proofs::Steps::wide_row))]
 pub(crate) fn run_between(strip: &Strip, centres: &Centres) -> u64
     requires left { unsigned_abs strip.now.left < 2 ^ 61 }
     requires right { unsigned_abs strip.now.right < 2 ^ 61 }

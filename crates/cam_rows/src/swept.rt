@@ -91,7 +91,7 @@ fn run_across(run: u64, low: &Spot, high: &Spot, centres: &Centres) -> u64
 }
 
 /// The left lower corner of the box of both ends, widened by the sides.
-fn low_corner(swept: &Swept) -> Spot
+pub(crate) fn low_corner(swept: &Swept) -> Spot
     requires { IsSoundSwept swept.now }
     ensures value { result ≡ low_corner swept.now }
     ensures bound { unsigned_abs result.x < 2 ^ 61 }
@@ -104,7 +104,7 @@ fn low_corner(swept: &Swept) -> Spot
 }
 
 /// The right upper corner of the box of both ends, widened by the sides.
-fn high_corner(swept: &Swept) -> Spot
+pub(crate) fn high_corner(swept: &Swept) -> Spot
     requires { IsSoundSwept swept.now }
     ensures value { result ≡ high_corner swept.now }
     ensures bound { unsigned_abs result.x < 2 ^ 61 }
@@ -117,7 +117,7 @@ fn high_corner(swept: &Swept) -> Spot
 }
 
 /// The greatest cross product of the line's way and a corner of the rectangle about its start.
-fn corner_reach(swept: &Swept) -> i128
+pub(crate) fn corner_reach(swept: &Swept) -> i128
     requires { IsSoundSwept swept.now }
     ensures value { result
         ≡ corner_reach (way swept.now.from swept.now.to) swept.now.width.0 swept.now.height.0 }

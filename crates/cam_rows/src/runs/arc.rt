@@ -7,7 +7,7 @@ ghost use Rattle.cam_shapes.specs.Plane.{seen_from, way};
 ghost use Rattle.cam_rows.specs.ArcRuns.{IsBeyond, IsHollow, IsInHalf, IsLeftOut, IsOuter, IsRingOf, in_turn};
 ghost use Rattle.cam_rows.specs.Runs.{AreRuns, AreWideRows};
 
-use super::circle::narrow_to_circle;
+use super::circle::{circle_runs, narrow_to_circle};
 use crate::centres::Centres;
 use crate::half_plane::HalfPlane;
 use crate::ring::Ring;
@@ -49,12 +49,7 @@ pub fn hollow_runs(arc: &Arc, ring: &Ring, top: &Centres, firsts: &mut [u32], en
     requires ends { length ends.old ≡ length firsts.old }
     ensures { AreRuns firsts.new ends.new top.now (λ s. IsHollow arc.now s) }
 {
-    if firsts.is_empty() {
-        return;
-    }
-    firsts.fill(0);
-    ends.fill(top.count);
-    narrow_to_circle(&arc.centre, ring.inner, top, firsts, ends);
+    circle_runs(&arc.centre, ring.inner, top, firsts, ends);
 }
 
 /// The runs in wide rows, one below another from the top one, of what an arc's sweep leaves out, where it is more than a

@@ -1,13 +1,14 @@
 //! Wide rows: up to 32,768 centres side by side.
 
-ghost use Rattle.std.specs.Prelude.{◌≡◌, ◌^◌, ◌<◌, ◌≤◌};
+ghost use Rattle.std.specs.Prelude.{◌≡◌, ◌↔◌, ◌^◌, ◌<◌, ◌≤◌, ℕ, ◌≤ℤ◌, ◌<ℤ◌};
 ghost use Rattle.std.specs.Int.RustNames.{unsigned_abs};
 ghost use Rattle.cam_units.specs.Board.{IsOnBoard};
 ghost use Rattle.cam_rows.specs.Machinery.Chords.{AreOffsetsFrom, AreWideOffsets};
 ghost use Rattle.cam_rows.specs.Machinery.Narrowing.{leftmost};
-ghost use Rattle.cam_rows.specs.Rows.{IsRow, row_below};
-ghost use Rattle.cam_rows.specs.Runs.{IsWideRow};
+ghost use Rattle.cam_rows.specs.Rows.{IsRow, centre_at, row_below};
+ghost use Rattle.cam_rows.specs.Runs.{IsInRun, IsWideRow};
 
+use super::{Run, Strip};
 use crate::centres::Centres;
 use crate::offsets::Offsets;
 use cam_units::Point;
@@ -63,5 +64,39 @@ impl Centres {
     {
         let gap = (x - self.first.x).max(0) as u64;
         (gap / self.step as u64).min(u64::from(self.count)) as u32
+    }
+
+    /// How many of the centres lie left of the vertical at `x`. It divides only where some do, and some do not.
+    pub(crate) fn count_left_of(&self, x: i64) -> u32
+        requires row { IsWideRow self.now }
+        requires short { unsigned_abs x < 2 ^ 62 }
+        ensures each { (i : ℕ) → i < self.now.count → (i < result) ↔ ((centre_at self.now i).x <ℤ x) }
+        ensures few { result ≤ self.now.count }
+    {
+        let gap = x - self.first.x;
+        if gap <= 0 {
+            return 0;
+        }
+        let gap = gap as u64;
+        let step = self.step as u64;
+        if gap > u64::from(self.count - 1) * step {
+            return self.count;
+        }
+        gap.div_ceil(step) as u32
+    }
+
+    /// The run of the columns in a strip.
+    pub(crate) fn columns_in(&self, strip: &Strip) -> Run
+        requires row { IsWideRow self.now }
+        requires left { unsigned_abs strip.now.left < 2 ^ 61 }
+        requires right { unsigned_abs strip.now.right < 2 ^ 61 }
+        ensures each { (i : ℕ) → i < self.now.count → IsInRun result.first result.end i
+            ↔ ((strip.now.left ≤ℤ (centre_at self.now i).x) × ((centre_at self.now i).x ≤ℤ strip.now.right)) }
+        ensures within { result.end ≤ self.now.count }
+    {
+        Run {
+            first: self.count_left_of(strip.left),
+            end: self.count_left_of(strip.right + 1),
+        }
     }
 }

@@ -4,7 +4,7 @@ use Rattle.std.proofs.lemmas.Int.{ints}
 use Rattle.cam_rows.specs.Rows.{centre_at, row_below}
 use Rattle.cam_rows.proofs.MissedDiscs.{far_across, far_along}
 use Rattle.cam_rows.proofs.RowsBelow.{top_is_row}
-use Rattle.cam_rows.proofs.Steps.{last_near}
+use Rattle.cam_rows.proofs.Steps.{last_near, wide_row}
 use Rattle.cam_rows.proofs.WayProducts.{first_x}
 use Rattle.cam_rows.proofs.disc.misses.Goals as goal
 use Rattle.cam_rows.proofs.disc.misses.Goals.{After-from}
@@ -23,14 +23,14 @@ overflow_mul-last c =
     let at = (goal.at.overflow_mul-last c).After-from in
     let top = c.args.top.now in
     let row = top_is_row top c.args.rows c.requires.some c.requires.rows in
-    rw (steps_kept at, step_kept at) (omega (arith, ints, first_x top row, last_near top row))
+    rw (steps_kept at, step_kept at) (omega (arith, ints, first_x top row, last_near top (wide_row top row)))
 
 pub overflow_add-last : goal.overflow_add-last
 overflow_add-last c =
     let at = (goal.at.overflow_add-last c).After-from in
     let top = c.args.top.now in
     let row = top_is_row top c.args.rows c.requires.some c.requires.rows in
-    rw (steps_kept at, step_kept at) (omega (arith, ints, first_x top row, last_near top row))
+    rw (steps_kept at, step_kept at) (omega (arith, ints, first_x top row, last_near top (wide_row top row)))
 
 pub below-lowest-requires-clause-top : goal.below-lowest-requires-clause-top
 below-lowest-requires-clause-top c = top_is_row c.args.top.now c.args.rows c.requires.some c.requires.rows

@@ -2,19 +2,18 @@ use Rattle.std.proofs.Common.{◌≡◌, ◌≤◌, pos, arith}
 use Rattle.std.specs.Int.RustNames.{unsigned_abs}
 use Rattle.std.proofs.lemmas.Int.{ints}
 use Rattle.cam_shapes.proofs.Widths.{narrow}
-use Rattle.cam_rows.proofs.Steps.{all_left, few_before, gap_fits, last_near, left_by_division, none_left, reach_fits}
-use Rattle.cam_rows.proofs.WayProducts.{first_x}
+use Rattle.cam_rows.proofs.Steps.{all_left, few_before, first_near, gap_fits, last_near, left_by_division, none_left, reach_fits}
 use Rattle.cam_rows.proofs.centres.Centres.count_left_of.Goals as goal
 use Rattle.cam_rows.proofs.centres.Centres.count_left_of.Goals.{After-from, After-div_ceil}
 
 pub overflow_sub-gap : goal.overflow_sub-gap
 overflow_sub-gap c =
-    gap_fits c.args.x c.args.self.now.first.x c.requires.short (first_x c.args.self.now c.requires.row)
+    gap_fits c.args.x c.args.self.now.first.x c.requires.short (first_near c.args.self.now c.requires.row)
 
 pub returns-then-gap-le0-clause-each : goal.returns-then-gap-le0-clause-each
 returns-then-gap-le0-clause-each c = λ i _.
     let row = c.args.self.now in
-    let first = first_x row c.requires.row in
+    let first = first_near row c.requires.row in
     none_left row.first.x row.step c.args.x i (unsigned_abs row.step) (omega (arith, ints, c.requires.row.step))
     (omega (arith, ints, first, c.if-gap-le0.true))
 
@@ -24,13 +23,13 @@ is_pitch c = omega (arith, ints, c.requires.row.step)
 pub overflow_mul-from : goal.overflow_mul-from
 overflow_mul-from c =
     let row = c.args.self.now in
-    reach_fits c.from.result row.count _ row.first.x row.step c.from.ensures (is_pitch c) (first_x row c.requires.row)
+    reach_fits c.from.result row.count _ row.first.x row.step c.from.ensures (is_pitch c) (first_near row c.requires.row)
     (last_near row c.requires.row)
 
 pub returns-then-gap-from-clause-each : goal.returns-then-gap-from-clause-each
 returns-then-gap-from-clause-each c = λ i within.
     let row = c.args.self.now in
-    let first = first_x row c.requires.row in
+    let first = first_near row c.requires.row in
     all_left row.first.x row.step c.args.x i row.count c.from.result _ _
     (is_pitch ((goal.at.returns-then-gap-from-clause-each c).After-from))
     (omega (arith, ints, first, c.if-gap-le0.false)) c.from.ensures c.if-gap-from.true within
@@ -51,7 +50,7 @@ returns-clause-few c =
 pub returns-clause-each : goal.returns-clause-each
 returns-clause-each c = λ i within.
     let row = c.args.self.now in
-    let first = first_x row c.requires.row in
+    let first = first_near row c.requires.row in
     left_by_division row.first.x row.step c.args.x i _ _ _ c.requires.row.step
     (omega (arith, ints, c.requires.row.step)) (omega (arith, ints, first, c.if-gap-le0.false))
     c.div_ceil.ensures

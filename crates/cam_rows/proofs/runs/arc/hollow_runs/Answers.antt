@@ -1,22 +1,12 @@
-use Rattle.std.proofs.Common.{refl, arith}
 use Rattle.cam_rows.specs.ArcRuns.{IsHollow}
 use Rattle.cam_rows.specs.Machinery.Narrowing.{IsNearer}
 use Rattle.cam_rows.proofs.ArcRuns.{in_inner}
-use Rattle.cam_rows.proofs.WideRows.{IsAny, runs_kept, runs_like, whole_runs}
+use Rattle.cam_rows.proofs.WideRows.{runs_like}
 use Rattle.cam_rows.proofs.runs.arc.hollow_runs.Goals as goal
 
 pub returns : goal.returns
 returns c =
     let arc = c.args.arc.now in
     let ring = c.args.ring.now in
-    let top = c.args.top.now in
-    let all = whole_runs c.fill.new.self c.fill-2.new.self top
-    (λ k within. c.fill.ensures.clones k 0 (rw c.fill.ensures.len at within) refl)
-    (λ k within. c.fill-2.ensures.clones k 0 (omega (arith, within, c.fill.ensures.len, c.requires.ends)) refl) in
-    let narrowed = c.narrow_to_circle in
-    let kept = runs_kept c.fill.new.self c.fill-2.new.self narrowed.new.firsts narrowed.new.ends top IsAny
-    (IsNearer arc.centre ring.inner) all narrowed.ensures narrowed.auto.firsts in
-    runs_like narrowed.new.firsts narrowed.new.ends top _ (λ s. IsHollow arc s)
-    (λ s.
-    let told = in_inner ring arc s c.requires.ring in
-    ((λ held. told.0 held.1), (λ hollow. (omega arith, told.1 hollow)))) kept
+    runs_like c.circle_runs.new.firsts c.circle_runs.new.ends c.args.top.now (IsNearer arc.centre ring.inner)
+    (λ s. IsHollow arc s) (λ s. in_inner ring arc s c.requires.ring) c.circle_runs.ensures

@@ -1,0 +1,6 @@
+use Rattle.cam_units.specs.Boxes.{IsBetween as IsInBox}
+use Rattle.cam_rows.proofs.WideRows.{AreRunsAbove}
+use Rattle.cam_rows.proofs.runs.boxes.box_runs.Given as goal
+
+abbrev pub invariant-loop-k : goal.invariant-loop-k
+invariant-loop-k l = AreRunsAbove l.firsts l.ends l.top (λ s. IsInBox l.low l.high s) l.k
