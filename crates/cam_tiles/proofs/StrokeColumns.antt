@@ -122,6 +122,16 @@ straight_law c t =
       ])),
     )
 
+-- what is all body
+pub body_law : (P : Type 0) → P ↔ (((P × (⊥ → ⊥) × (⊥ → ⊥)) ⊎ ⊥) ⊎ ⊥)
+body_law P = (
+  (λ held. inl (inl (held, (λ x. x), (λ x. x)))),
+  (λ part. elim part [
+    | inl before ↦ elim before [ inl on ↦ on.0 | inr none ↦ absurd none ]
+    | inr none ↦ absurd none
+  ]),
+)
+
 -- what is taken out of an arc's body is so between the heights of its stroke
 pub round_law : (a : Arc) (h : Heights) → ((t : Spot) → IsInArc t a → IsWithin h t) → (t : Spot)
     → IsInArc t a

@@ -1,10 +1,11 @@
--- Strokes of a circle, and their runs in the rows of masks side by side.
+-- Strokes, and their runs in the rows of masks side by side.
 use Rattle.std.specs.Prelude.{◌↔◌, ◌⊎◌, ℕ, ◌+◌, ◌<◌}
 use Rattle.cam_units.specs.declared.point.Point.{Point}
 use Rattle.cam_units.specs.declared.point.Spot.{Spot}
 use Rattle.cam_units.specs.declared.turn.Turn.{Turn}
 use Rattle.cam_shapes.specs.Arc.{IsInArc, IsSoundArc}
 use Rattle.cam_shapes.specs.Bar.{IsInCapsule, IsSoundCapsule}
+use Rattle.cam_shapes.specs.Swept.{IsInSwept, IsSoundSwept}
 use Rattle.cam_apertures.specs.Cover.{IsCovered}
 use Rattle.cam_apertures.specs.declared.aperture.Aperture.{Aperture}
 use Rattle.cam_objects.specs.declared.canvas.Figure.{Figure}
@@ -13,7 +14,7 @@ use Rattle.cam_objects.specs.Image.{Covers, relative}
 use Rattle.cam_rows.specs.Runs.{most_columns}
 use Rattle.cam_tiles.specs.declared.grid.Grid.{Grid}
 use Rattle.cam_tiles.specs.declared.masks.stroke_runs.Stroke.{Stroke}
-use Rattle.cam_tiles.specs.declared.masks.stroke_runs.Stroke.TheVariants.{Straight, Round}
+use Rattle.cam_tiles.specs.declared.masks.stroke_runs.Stroke.TheVariants.{Straight, Round, Swept}
 use Rattle.cam_tiles.specs.declared.masks.stroke_runs.StrokeRuns.{StrokeRuns}
 use Rattle.cam_tiles.specs.Machinery.Masks.{IsIn}
 use Rattle.cam_tiles.specs.Machinery.Runs.{Fits, HasColumn}
@@ -23,10 +24,12 @@ use Rattle.cam_tiles.specs.Tiles.{centre_in}
 abbrev pub IsInStroke : Stroke → Spot → Type 0
 IsInStroke (Straight c) = λ s. IsInCapsule s c
 IsInStroke (Round a) = λ s. IsInArc s a
+IsInStroke (Swept r) = λ s. IsInSwept s r
 
 abbrev pub IsSoundStroke : Stroke → Type 0
 IsSoundStroke (Straight c) = IsSoundCapsule c
 IsSoundStroke (Round a) = IsSoundArc a
+IsSoundStroke (Swept r) = IsSoundSwept r
 
 -- a column is in the run of the body, and in none that is taken out of it
 abbrev pub HasBody : StrokeRuns → ℕ → ℕ → Type 0

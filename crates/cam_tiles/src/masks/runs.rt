@@ -4,6 +4,7 @@ ghost use Rattle.std.specs.Prelude.{◌≡◌, ◌<◌, ◌≤◌, ℕ, IsTrue, 
 ghost use Rattle.cam_units.specs.declared.point.Spot.{Spot};
 ghost use Rattle.cam_shapes.specs.Bar.{IsInBar, IsSoundBar};
 ghost use Rattle.cam_shapes.specs.Disc.{IsInDisc, IsSoundDisc};
+ghost use Rattle.cam_shapes.specs.Swept.{IsInSwept, IsSoundSwept};
 ghost use Rattle.cam_rows.specs.Runs.{AreRuns, AreWideRows, IsInRun};
 ghost use Rattle.cam_tiles.specs.Machinery.Masks.{IsWithin};
 ghost use Rattle.cam_tiles.specs.Machinery.Runs.{HasColumn, IsWideGrid, Tells};
@@ -11,8 +12,8 @@ ghost use Rattle.cam_tiles.specs.Machinery.Runs.{HasColumn, IsWideGrid, Tells};
 use crate::grid::Grid;
 use crate::masks::heights::Heights;
 use crate::span::Span;
-use cam_rows::{Centres, bar_runs, disc_runs};
-use cam_shapes::{Bar, Disc};
+use cam_rows::{Centres, bar_runs, disc_runs, swept_runs};
+use cam_shapes::{Bar, Disc, Swept};
 use cam_units::Spot;
 
 /// A shape whose runs in wide rows are known.
@@ -48,6 +49,16 @@ impl RunShape for Disc {
 
     fn runs(&self, top: &Centres, firsts: &mut [u32], ends: &mut [u32]) {
         disc_runs(self, top, firsts, ends);
+    }
+}
+
+impl RunShape for Swept {
+    ghost is_sound = { IsSoundSwept };
+
+    ghost holds = { λ r s. IsInSwept s r };
+
+    fn runs(&self, top: &Centres, firsts: &mut [u32], ends: &mut [u32]) {
+        swept_runs(self, top, firsts, ends);
     }
 }
 

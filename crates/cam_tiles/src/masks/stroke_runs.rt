@@ -1,8 +1,9 @@
-//! The runs of a stroke of a circle in the rows of masks side by side, and how they are joined with a mask.
+//! The runs of a stroke in the rows of masks side by side, and how they are joined with a mask.
 
 ghost use Rattle.std.specs.Prelude.{◌≡◌, ◌↔◌, ◌⊎◌, ◌+◌, ◌<◌, ℕ, IsTrue, ◌∷◌, []};
 ghost use Rattle.cam_shapes.specs.Arc.{IsInArc, IsSoundArc};
 ghost use Rattle.cam_shapes.specs.Bar.{IsInCapsule, IsSoundCapsule};
+ghost use Rattle.cam_shapes.specs.Swept.{IsInSwept, IsSoundSwept};
 ghost use Rattle.cam_objects.specs.Canvases.{leaf_of, shape_of};
 ghost use Rattle.cam_objects.specs.Image.{Covers};
 ghost use Rattle.cam_rows.specs.Runs.{IsInRun, most_columns};
@@ -27,20 +28,22 @@ use crate::masks::runs::Runs;
 use crate::span::Span;
 use cam_objects::Print;
 use cam_rows::ring_of;
-use cam_shapes::{Arc, Bar, Capsule, Disc};
+use cam_shapes::{Arc, Bar, Capsule, Disc, Swept};
 
-/// A stroke of a circle along a straight way or an arc; a disc is a straight one of no length.
+/// A stroke of a circle along a straight way or an arc, or of a rectangle along a straight way; a disc is a straight one
+/// of no length.
 #[derive(Clone, Copy)]
 pub(crate) enum Stroke {
     Straight(Capsule),
     Round(Arc),
+    Swept(Swept),
 }
 
-/// The runs of a stroke of a circle: those of its body, those of what is taken out of this, and those of the discs about
-/// its ends.
+/// The runs of a stroke: those of its body, those of what is taken out of this, and those of the discs about its ends.
 #[derive(Clone, Copy)]
 pub(crate) struct StrokeRuns {
-    /// Of a straight stroke the bar between its ends; of an arc what its outer circle and its sweep hold.
+    /// Of a straight stroke of a circle the bar between its ends; of an arc what its outer circle and its sweep hold; of
+    /// a rectangle's stroke all of it.
     pub(crate) body: Runs,
     /// Of an arc what its inner circle holds.
     pub(crate) hollow: Runs,
@@ -71,6 +74,7 @@ impl StrokeRuns {
         match stroke {
             Stroke::Straight(capsule) => self.find_straight(capsule, grid, columns),
             Stroke::Round(arc) => self.find_round(arc, grid, columns),
+            Stroke::Swept(swept) => self.find_swept(swept, grid, columns),
         }
     }
 
@@ -127,6 +131,19 @@ impl StrokeRuns {
             diameter: arc.width,
         };
         self.end.find(&end, end.heights(), grid, columns);
+    }
+
+    /// Turns to those of a stroke of a rectangle, which is all body.
+    fn find_swept(&mut self, swept: &Swept, grid: &Grid, columns: u32)
+        requires sound { IsSoundSwept swept.now }
+        requires grid { IsWideGrid grid.now columns }
+        ensures { TellsStroke grid.now columns (λ s. IsInSwept s swept.now) self.new }
+    {
+        self.hollow.clear();
+        self.beyond.clear();
+        self.start.clear();
+        self.end.clear();
+        self.body.find(swept, swept.heights(), grid, columns);
     }
 
     /// Columns between which the whole stroke lies.

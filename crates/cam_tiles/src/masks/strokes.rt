@@ -1,4 +1,4 @@
-//! Strokes of a circle, and discs, painted on masks side by side by their runs.
+//! Strokes, and discs, painted on masks side by side by their runs.
 
 ghost use Rattle.std.specs.Prelude.{◌*◌, ◌<◌, ◌≤◌, ℕ, IfSome, ◌∷◌, [], length, slice_index};
 ghost use Rattle.cam_units.specs.Board.{IsOnBoard};
@@ -23,6 +23,7 @@ pub(crate) fn stroke_of(figure: &Figure<'_>) -> Option<Stroke>
     match *figure {
         Figure::Stroke(capsule) => Some(Stroke::Straight(capsule)),
         Figure::Sweep(arc) => Some(Stroke::Round(arc)),
+        Figure::Swept(swept) => Some(Stroke::Swept(swept)),
         Figure::Drilled(disc) => Some(Stroke::Straight(Capsule {
             from: disc.centre,
             to: disc.centre,
