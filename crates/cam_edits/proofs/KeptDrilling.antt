@@ -79,24 +79,24 @@ kept_alike l m kept tools items known = record {
 pub unsized : (before layer : DrillLayer) (kept : Kept) (step : DrillStep) (t : ℕ) (d : Nm) → IsKeptOfDrill before kept
     → IsDrillFit step (drill_content_of before)
     → drill_content_of layer ≡ after_drill_step step (drill_content_of before) → step ≡ Diameter t d
-    → WasKeptUnsized kept d layer
+    → WasKeptUnsized kept t d layer
 unsized before layer kept step t d known fits content is =
     let changed = content ∙ ap (λ (s : DrillStep). after_drill_step s (drill_content_of before)) is in record {
       before = before;
       known = known;
-      tool = t;
       there = subst (λ (s : DrillStep). IsDrillFit s (drill_content_of before)) is fits;
       tools = ap (λ (c : DrillContent). c.tools) changed;
       items = ap (λ (c : DrillContent). c.items) changed;
     }
 
 -- it keeps a layer sound
-pub sized_sound : (kept : Kept) (d : Nm) (layer : DrillLayer) → WasKeptUnsized kept d layer → IsTrue (is_tool_size d)
+pub sized_sound : (kept : Kept) (t : ℕ) (d : Nm) (layer : DrillLayer) → WasKeptUnsized kept t d layer
+    → IsTrue (is_tool_size d)
     → IsSoundDrillLayer layer
-sized_sound kept d layer was size =
+sized_sound kept t d layer was size =
     let before = was.before in
     let sound = was.known.sound in
     subst (λ ts. IsSoundDrillContent ts layer.items.items) (sym was.tools)
-    (subst (IsSoundDrillContent (set_value (nat_eq was.tool) before.tools d)) (sym was.items)
-    (drill_edits.diameter before.tools before.items.items was.tool d sound was.there
-    (sized_tool before.tools was.tool d sound.tools was.there size)))
+    (subst (IsSoundDrillContent (set_value (nat_eq t) before.tools d)) (sym was.items)
+    (drill_edits.diameter before.tools before.items.items t d sound was.there
+    (sized_tool before.tools t d sound.tools was.there size)))

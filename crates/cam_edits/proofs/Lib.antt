@@ -4,6 +4,7 @@ pub mod BoardRoom
 pub mod Names
 pub mod Refusals
 pub mod ItemMoves
+pub mod ItemTools
 pub mod GerberEdits
 pub mod FittingEdits
 pub mod AttributeSteps

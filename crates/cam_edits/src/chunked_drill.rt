@@ -9,18 +9,20 @@ ghost use Rattle.cam_edits.specs.DrillSteps.{HasDrillRoom, IsDrillFit, after_dri
 use crate::chunked::{Kept, reserve_chunks};
 use crate::drill_mending::{leaves_at, mended, resized};
 use crate::drill_step::DrillStep;
+use crate::item_tools::{follow, tools_of};
 use crate::reversible::Reversible;
 use crate::shift::Shift;
-use cam_objects::{Chunks, DrillLayer};
+use cam_objects::{Chunks, DrillLayer, ItemNumbers};
 use std::alloc::{AllocError, Global};
 use std::marker::Model;
 
-/// A drill layer, with the cells that its items reach and the number of its holes and slots: an edit reads what it
-/// touches alone, and a diameter all items.
+/// A drill layer, with the cells that its items reach, the number of its holes and slots, and the tools of its items:
+/// an edit reads what it touches alone, and a diameter the items of its tool.
 #[derive(Drop)]
 pub struct ChunkedDrillLayer {
     layer: DrillLayer,
     kept: Option<Kept>,
+    tools: ItemNumbers,
 }
 
 impl Model for ChunkedDrillLayer {
@@ -35,7 +37,7 @@ impl Model for ChunkedDrillLayer {
 }
 
 impl ChunkedDrillLayer {
-    ghost use Rattle.cam_edits.specs.Machinery.Shifts.{drill_leaves_in};
+    ghost use Rattle.cam_edits.specs.Machinery.Shifts.{AreToolsOf, drill_leaves_in, tools_of};
 
     /// Of a sound drill layer. Where memory for the chunks is refused, it is not known what its items reach.
     pub fn new(alloc: Global, layer: DrillLayer) -> ChunkedDrillLayer
@@ -44,9 +46,11 @@ impl ChunkedDrillLayer {
     {
         let chunks = Chunks::of(alloc, &mut layer.boxes());
         let leaves = layer.leaf_count();
+        let tools = tools_of(alloc, &layer);
         ChunkedDrillLayer {
             layer,
             kept: Some(Kept { chunks, leaves }),
+            tools,
         }
     }
 
@@ -79,6 +83,13 @@ impl ChunkedDrillLayer {
         }
     }
 
+    /// The tools of its items, from the first on, as far as there was memory for them.
+    pub(crate) fn tools(&self) -> &ItemNumbers
+        ensures { AreToolsOf (tools_of self.now.items.items) result.now }
+    {
+        &self.tools
+    }
+
     /// Makes room for so many items more; refused for want of memory alone. The layer stays. Of items for whose chunks
     /// there is no memory it will not be known what they reach.
     pub(crate) fn reserve(&mut self, items: usize) -> Result<(), AllocError>
@@ -86,6 +97,7 @@ impl ChunkedDrillLayer {
         ensures items { OnOk result (length self.new.items.items + items ≤ vec_capacity self.new.items) }
     {
         reserve_chunks(&mut self.kept, items);
+        self.tools.reserve(items);
         self.layer.items.reserve(items)
     }
 
@@ -98,15 +110,18 @@ impl ChunkedDrillLayer {
         ensures room { (rest : List DrillStep)
             → HasDrillRoom (rest ++ step ∷ []) self.old → HasDrillRoom rest self.new }
     {
-        let Some(kept) = self.kept.take() else {
-            return step.play(&mut self.layer);
-        };
         let size = step.size();
         let shift = Shift::of_drill(&step);
+        let Some(kept) = self.kept.take() else {
+            let answer = step.play(&mut self.layer);
+            follow(&mut self.tools, &self.layer, shift);
+            return answer;
+        };
         let gone = leaves_at(&self.layer, shift.from);
         let answer = step.play(&mut self.layer);
+        follow(&mut self.tools, &self.layer, shift);
         self.kept = match size {
-            Some(d) => resized(kept, d, &self.layer),
+            Some((t, d)) => resized(kept, t, d, &self.tools, &self.layer),
             None => mended(kept, shift, gone, &self.layer),
         };
         answer

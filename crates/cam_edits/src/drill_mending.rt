@@ -1,21 +1,26 @@
 //! What is kept beside a drill layer, mended after a step.
 
 ghost use Rattle.std.specs.Prelude.{◌≡◌, ◌≤◌, ℕ, IfSome, IsSome, Some, slice_get};
+ghost use Rattle.cam_objects.specs.Chunks.{AreChunksOf, drill_item_boxes};
 ghost use Rattle.cam_objects.specs.DrillSoundness.{IsSoundDrillItem, IsSoundDrillLayer};
 ghost use Rattle.cam_objects.specs.Limits.{leaf_limit};
 ghost use Rattle.cam_objects.specs.declared.drill_item.DrillItem.{DrillItem};
 ghost use Rattle.cam_edits.specs.Machinery.Shifts.{
+  AreRenewedUntil,
+  AreToolsOf,
   IsKeptOfDrill,
   WasKeptOfDrill,
   WasKeptUnsized,
   drill_leaves_at,
+  tools_of,
 };
 
 use crate::chunked::Kept;
 use crate::drill_judging::is_tool_size;
+use crate::item_tools::next_of_tool;
 use crate::mending::{ITEM_LIMIT, LEAF_LIMIT, mend};
 use crate::shift::Shift;
-use cam_objects::DrillLayer;
+use cam_objects::{Chunks, DrillLayer, ItemNumbers};
 use cam_units::Nm;
 
 /// How many holes and slots the item at a place of a sound drill layer has; none where there is no item.
@@ -69,16 +74,39 @@ pub(crate) fn mended(kept: Kept, shift: Shift, gone: u64, layer: &DrillLayer) ->
     Some(Kept { chunks, leaves })
 }
 
-/// What is kept after a step that gave a tool that diameter; nothing where the step made the layer unsound. Reads all
-/// items anew: those of a tool may lie in any chunk.
-pub(crate) fn resized(kept: Kept, d: Nm, layer: &DrillLayer) -> Option<Kept>
-    requires { WasKeptUnsized kept d layer.now }
+/// Reads the items of a tool anew, whose diameter was changed.
+fn renew_tool(chunks: &mut Chunks, t: u16, tools: &ItemNumbers, layer: &DrillLayer)
+    requires sound { IsSoundDrillLayer layer.now }
+    requires known { AreToolsOf (tools_of layer.now.items.items) tools.now }
+    requires others { AreRenewedUntil 0 t layer.now chunks.old }
+    ensures { AreChunksOf (drill_item_boxes layer.now.tools layer.now.items.items) chunks.new }
+{
+    let mut boxes = layer.boxes();
+    let count = layer.items.len();
+    let mut place = next_of_tool(layer, tools, 0, t);
+    while place < count {
+        chunks.renew(&mut boxes, place);
+        place = next_of_tool(layer, tools, place + 1, t);
+    }
+}
+
+/// What is kept after a step that gave a tool that diameter; nothing where the step made the layer unsound. Reads the
+/// items of the tool alone.
+pub(crate) fn resized(
+    kept: Kept,
+    t: u16,
+    d: Nm,
+    tools: &ItemNumbers,
+    layer: &DrillLayer,
+) -> Option<Kept>
+    requires was { WasKeptUnsized kept t d layer.now }
+    requires known { AreToolsOf (tools_of layer.now.items.items) tools.now }
     ensures { IfSome result (λ kept. IsKeptOfDrill layer.now kept) }
 {
     if !is_tool_size(d) {
         return None;
     }
     let Kept { mut chunks, leaves } = kept;
-    chunks.renew_all(&mut layer.boxes());
+    renew_tool(&mut chunks, t, tools, layer);
     Some(Kept { chunks, leaves })
 }

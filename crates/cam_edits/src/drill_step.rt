@@ -118,9 +118,9 @@ impl Reversible for DrillStep {
 }
 
 impl DrillStep {
-    /// The diameter that it gives to a tool, in nm, where it is such a step; the others keep the tools.
-    pub(crate) fn size(&self) -> Option<Nm>
-        ensures given { IfSome result (λ d. (t : ℕ) × (self.now ≡ Diameter t d)) }
+    /// The tool and the diameter that it gives to it, in nm, where it is such a step; the others keep the tools.
+    pub(crate) fn size(&self) -> Option<(u16, Nm)>
+        ensures given { IfSome result (λ size. self.now ≡ Diameter size.0 size.1) }
         ensures kept { IfNone result ((tools : List (ℕ × Nm)) → tools_after self.now tools ≡ tools) }
     {
         match self {
@@ -129,7 +129,7 @@ impl DrillStep {
             DrillStep::Move { .. } => None,
             DrillStep::Reorder { .. } => None,
             DrillStep::Tool { .. } => None,
-            DrillStep::Diameter { d, .. } => Some(*d),
+            DrillStep::Diameter { t, d } => Some((*t, *d)),
         }
     }
 }

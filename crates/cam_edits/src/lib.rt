@@ -19,6 +19,7 @@ mod drill_step;
 mod edit;
 mod fault;
 mod item_refusal;
+mod item_tools;
 mod judging;
 mod laws;
 mod mending;

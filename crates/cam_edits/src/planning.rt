@@ -101,6 +101,6 @@ impl ChunkedDrillLayer {
         requires accepted { first_refusal (meets_drill_step (drill_content_of self.now) step.now) ≡ None }
         ensures { IfOk result (λ boxes. boxes.items ≡ drill_touched step.now (drill_content_of self.now)) }
     {
-        drill_touched(alloc, self.layer(), step)
+        drill_touched(alloc, self.layer(), self.tools(), step)
     }
 }

@@ -1,22 +1,24 @@
 //! The boxes of what steps touch.
 
-ghost use Rattle.std.specs.Prelude.{◌≡◌, ◌∷◌, [], None, IfOk};
+ghost use Rattle.std.specs.Prelude.{◌≡◌, ◌≤◌, ◌∷◌, [], None, IfOk, length};
 ghost use Rattle.cam_objects.specs.Bounds.{bounds_of};
 ghost use Rattle.cam_objects.specs.Contents.{content_of, drill_content_of};
 ghost use Rattle.cam_objects.specs.Drilling.{drill_item_leaves};
-ghost use Rattle.cam_objects.specs.DrillSoundness.{IsSoundDrillItem, IsSoundDrillLayer, tool_of};
+ghost use Rattle.cam_objects.specs.DrillSoundness.{IsSoundDrillItem, IsSoundDrillLayer};
 ghost use Rattle.cam_objects.specs.Leaves.{item_leaves, meaning_in};
 ghost use Rattle.cam_objects.specs.Soundness.{HasSoundItems, IsSoundItem};
 ghost use Rattle.cam_edits.specs.DrillSteps.{with_tool};
 ghost use Rattle.cam_edits.specs.Editing.{first_refusal, meets_drill_step, meets_step};
+ghost use Rattle.cam_edits.specs.Machinery.Shifts.{AreToolsOf, tools_of};
 ghost use Rattle.cam_edits.specs.Steps.{with_aperture, with_object};
 ghost use Rattle.cam_edits.specs.Touched.{drill_touched, touched};
 ghost use Rattle.cam_edits.specs.declared.drill_step.DrillStep.TheVariants.{Diameter};
 
 use crate::apertures::other_aperture;
 use crate::drill_step::DrillStep;
+use crate::item_tools::next_of_tool;
 use crate::step::Step;
-use cam_objects::{DrillItem, DrillLayer, Item, Layer};
+use cam_objects::{DrillItem, DrillLayer, Item, ItemNumbers, Layer};
 use cam_units::{Bounds, Nm};
 use std::alloc::{AllocError, Global};
 
@@ -45,13 +47,15 @@ pub(crate) fn touched(alloc: Global, layer: &Layer, step: &Step) -> Result<Vec<B
     }
 }
 
-/// The boxes of what an accepted step of the drill layer touches.
+/// The boxes of what an accepted step of the drill layer touches, beside which the tools of its items are kept.
 pub(crate) fn drill_touched(
     alloc: Global,
     layer: &DrillLayer,
+    tools: &ItemNumbers,
     step: &DrillStep,
 ) -> Result<Vec<Bounds>, AllocError>
     requires sound { IsSoundDrillLayer layer.now }
+    requires known { AreToolsOf (tools_of layer.now.items.items) tools.now }
     requires accepted { first_refusal (meets_drill_step (drill_content_of layer.now) step.now) ≡ None }
     ensures { IfOk result (λ boxes. boxes.items ≡ drill_touched step.now (drill_content_of layer.now)) }
 {
@@ -67,7 +71,7 @@ pub(crate) fn drill_touched(
             let after = bounds_with_tool(layer, &layer.items[*k], *t);
             two_boxes(alloc, layer.item_bounds(*k), after)
         }
-        DrillStep::Diameter { t, d } => boxes_of_tool(alloc, layer, *t, *d),
+        DrillStep::Diameter { t, d } => boxes_of_tool(alloc, layer, tools, *t, *d),
     }
 }
 
@@ -128,34 +132,40 @@ fn bounds_with_tool(layer: &DrillLayer, item: &DrillItem, t: u16) -> Bounds
     }
 }
 
-/// The boxes of each item of the tool, with the diameter before and with that after.
+/// How many items the tool has.
+fn count_of_tool(layer: &DrillLayer, tools: &ItemNumbers, t: u16) -> usize
+    requires { AreToolsOf (tools_of layer.now.items.items) tools.now }
+    ensures { result ≤ length layer.now.items.items }
+{
+    let mut count = 0;
+    let mut place = next_of_tool(layer, tools, 0, t);
+    while place < layer.items.len() {
+        count += 1;
+        place = next_of_tool(layer, tools, place + 1, t);
+    }
+    count
+}
+
+/// The boxes of each item of the tool, with the diameter before and with that after. Reads these items alone.
 fn boxes_of_tool(
     alloc: Global,
     layer: &DrillLayer,
+    tools: &ItemNumbers,
     t: u16,
     d: Nm,
 ) -> Result<Vec<Bounds>, AllocError>
     requires sound { IsSoundDrillLayer layer.now }
+    requires known { AreToolsOf (tools_of layer.now.items.items) tools.now }
     requires accepted { first_refusal (meets_drill_step (drill_content_of layer.now) (Diameter t d)) ≡ None }
     ensures { IfOk result (λ boxes. boxes.items ≡ drill_touched (Diameter t d) (drill_content_of layer.now)) }
 {
-    let count = layer.items.iter().filter(|item| tool(item) == t).count();
-    let mut boxes = Vec::with_capacity(alloc, 2 * count)?;
-    for item in &layer.items {
-        if tool(item) == t {
-            boxes.push(layer.bounds_of(item))?;
-            boxes.push(item.bounds(d))?;
-        }
+    let mut boxes = Vec::with_capacity(alloc, 2 * count_of_tool(layer, tools, t))?;
+    let mut place = next_of_tool(layer, tools, 0, t);
+    while place < layer.items.len() {
+        let item = &layer.items[place];
+        boxes.push(layer.bounds_of(item))?;
+        boxes.push(item.bounds(d))?;
+        place = next_of_tool(layer, tools, place + 1, t);
     }
     Ok(boxes)
-}
-
-/// The number of its tool.
-fn tool(item: &DrillItem) -> u16
-    ensures { result ≡ tool_of item.now }
-{
-    match item {
-        DrillItem::Hit { tool, .. } => *tool,
-        DrillItem::Rout { tool, .. } => *tool,
-    }
 }

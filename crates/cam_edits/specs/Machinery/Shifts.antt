@@ -1,14 +1,15 @@
 -- Where a step moves the items of a layer, and what is kept beside them.
-use Rattle.std.specs.Prelude.{◌≡◌, ℕ, ◌+◌, ◌<◌, ◌≤◌, ◌⊎◌, List, length, Option, None, Some, IsSome, nat_eq, slice_get, sum_by}
-use Rattle.std.specs.Prelude.{insert, remove}
+use Rattle.std.specs.Prelude.{◌≡◌, ℕ, ◌+◌, ◌<◌, ◌≤◌, ◌⊎◌, List, length, Option, None, Some, IsSome, map, nat_eq, slice_get, sum_by}
+use Rattle.std.specs.Prelude.{insert, remove, slice_index}
 use Rattle.std.specs.Map.{set_value}
 use Rattle.cam_units.specs.declared.bounds.Bounds.{Bounds}
 use Rattle.cam_units.specs.declared.length.Nm.{Nm}
-use Rattle.cam_objects.specs.Chunks.{AreChunksOf, Reaches, drill_item_boxes, item_boxes}
-use Rattle.cam_objects.specs.DrillSoundness.{IsSoundDrillLayer, drill_count_of}
+use Rattle.cam_objects.specs.Chunks.{AreBeside, AreChunksOf, Reaches, box_at, drill_item_boxes, item_boxes}
+use Rattle.cam_objects.specs.DrillSoundness.{IsSoundDrillLayer, drill_count_of, tool_of}
 use Rattle.cam_objects.specs.Drilling.{diameter_of}
 use Rattle.cam_objects.specs.Soundness.{HasSoundItems}
 use Rattle.cam_objects.specs.Weights.{item_count, weight_in}
+use Rattle.cam_objects.specs.declared.drill_item.DrillItem.{DrillItem}
 use Rattle.cam_objects.specs.declared.drill_layer.DrillLayer.{DrillLayer}
 use Rattle.cam_objects.specs.declared.layer.Layer.{Layer}
 use Rattle.cam_edits.specs.declared.chunked.ChunkedLayer.TheInside.{Inside}
@@ -89,8 +90,41 @@ abbrev pub IsKeptOfDrill : DrillLayer → Kept → Type 0
 IsKeptOfDrill layer =
     IsKept (IsSoundDrillLayer layer) (drill_leaves_in layer) (drill_item_boxes layer.tools layer.items.items)
 
-abbrev pub IsChunkedDrill : DrillInside → Type 0
-IsChunkedDrill c = (kept : Kept) → c.kept ≡ Some kept → IsKeptOfDrill c.layer kept
+-- ---- the tools of the items of a drill layer
+
+abbrev pub tools_of : List DrillItem → List ℕ
+tools_of items = map tool_of items
+
+-- the numbers of the tools, one after another from the first item on; nothing is known of those behind
+abbrev pub AreToolsOf : List ℕ → List ℕ → Type 0
+AreToolsOf tools numbers = AreBeside (λ tool number. number ≡ tool) 0 tools numbers
+
+-- they were the numbers of tools of which an edit with this shift made others
+pub record WereTools (shift : Shift) (numbers : List ℕ) (after : List ℕ) : Type 0 where
+  pub before : List ℕ
+  pub known : AreToolsOf before numbers
+  pub edit : IsEdited shift.from shift.to before after
+
+-- the next place from one on with an item of a tool; how many items there are, where there is none
+pub record IsNextOfTool (tools : List ℕ) (t place next : ℕ) : Type 0 where
+  pub onward : place ≤ next
+  pub within : next ≤ length tools
+  pub others : (k : ℕ) → place ≤ k → k < next → slice_index tools k ≡ t → ⊥
+  pub found : next < length tools → slice_index tools next ≡ t
+
+pub record IsChunkedDrill (c : DrillInside) : Type 0 where
+  pub kept : (kept : Kept) → c.kept ≡ Some kept → IsKeptOfDrill c.layer kept
+  pub tools : AreToolsOf (tools_of c.layer.items.items) c.tools
+
+-- they are the chunks of boxes that are those of the layer's items as far as a place, and of all items of other tools
+pub record AreRenewedUntil (place t : ℕ) (layer : DrillLayer) (chunks : Reaches) : Type 0 where
+  pub boxes : List Bounds
+  pub many : length boxes ≡ length layer.items.items
+  pub known : AreChunksOf boxes chunks
+  pub until : (k : ℕ) → k < place → k < length layer.items.items
+      → box_at boxes k ≡ box_at (drill_item_boxes layer.tools layer.items.items) k
+  pub others : (k : ℕ) → k < length layer.items.items → (slice_index (tools_of layer.items.items) k ≡ t → ⊥)
+      → box_at boxes k ≡ box_at (drill_item_boxes layer.tools layer.items.items) k
 
 -- it was kept of a drill layer from whose items a shift leads to those of this one, which has the same tools
 pub record WasKeptOfDrill (kept : Kept) (shift : Shift) (gone : ℕ) (layer : DrillLayer) : Type 0 where
@@ -100,11 +134,10 @@ pub record WasKeptOfDrill (kept : Kept) (shift : Shift) (gone : ℕ) (layer : Dr
   pub shifted : IsShift shift before.items.items layer.items.items
   pub left : gone ≡ drill_leaves_at before shift.from
 
--- it was kept of a drill layer that lists the same items, one of whose tools now has that diameter
-pub record WasKeptUnsized (kept : Kept) (d : Nm) (layer : DrillLayer) : Type 0 where
+-- it was kept of a drill layer that lists the same items, where a tool now has that diameter
+pub record WasKeptUnsized (kept : Kept) (t : ℕ) (d : Nm) (layer : DrillLayer) : Type 0 where
   pub before : DrillLayer
   pub known : IsKeptOfDrill before kept
-  pub tool : ℕ
-  pub there : IsSome (diameter_of before.tools tool)
-  pub tools : layer.tools ≡ set_value (nat_eq tool) before.tools d
+  pub there : IsSome (diameter_of before.tools t)
+  pub tools : layer.tools ≡ set_value (nat_eq t) before.tools d
   pub items : layer.items.items ≡ before.items.items

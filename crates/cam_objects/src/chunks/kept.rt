@@ -118,6 +118,8 @@ impl Chunks {
         requires { place < length (B.boxes items.old) }
         ensures chunks { (before : List Bounds) (b : Bounds) → AreChunksOf before self.old
             → B.boxes items.old ≡ slice_set before place b → AreChunksOf (B.boxes items.old) self.new }
+        ensures one { (before : List Bounds) → AreChunksOf before self.old → place < length before
+            → AreChunksOf (slice_set before place (box_at (B.boxes items.old) place)) self.new }
         ensures list { B.boxes items.new ≡ B.boxes items.old }
     {
         let reach = Reach::of(items.box_at(place));
@@ -125,24 +127,6 @@ impl Chunks {
         self.bottom.set(place, reach.bottom);
         self.right.set(place, reach.right);
         self.top.set(place, reach.top);
-    }
-
-    /// Reads all items anew, whatever was changed of them. Takes no memory.
-    pub fn renew_all<B: BoxedItems>(&mut self, items: &mut B)
-        ensures chunks { AreChunksOf (B.boxes items.old) self.new }
-        ensures list { B.boxes items.new ≡ B.boxes items.old }
-    {
-        self.left.clear();
-        self.bottom.clear();
-        self.right.clear();
-        self.top.clear();
-        read_all(
-            items,
-            &mut self.left,
-            &mut self.bottom,
-            &mut self.right,
-            &mut self.top,
-        );
     }
 
     /// The cells of the items.

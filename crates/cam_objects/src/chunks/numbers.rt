@@ -1,6 +1,23 @@
 //! Numbers beside the items of a list.
 
-ghost use Rattle.std.specs.Prelude.{◌≡◌, ◌<◌, ◌≤◌, ◌⊎◌, ◌∷◌, ◌++◌, [], insert, length, remove, slice_set, take};
+ghost use Rattle.std.specs.Prelude.{
+  ◌≡◌,
+  ◌+◌,
+  ◌<◌,
+  ◌≤◌,
+  ◌⊎◌,
+  ◌∷◌,
+  ◌++◌,
+  ℕ,
+  [],
+  false,
+  insert,
+  length,
+  remove,
+  slice_index,
+  slice_set,
+  take,
+};
 
 use std::alloc::Global;
 use std::marker::Model;
@@ -20,6 +37,54 @@ impl Model for ItemNumbers {
     ghost view = { λ c. c.numbers.items };
 }
 
+/// How many numbers are tested at once.
+const CHUNK_SIZE: usize = 64;
+
+/// Whether a number stands somewhere from a place to an end. It tests all, which is quicker than to stop.
+fn any_is(numbers: &[u16], first: usize, end: usize, number: u16) -> bool
+    requires { end ≤ length numbers.now }
+    ensures { result ≡ false → (k : ℕ) → first ≤ k → k < end → ¬ (slice_index numbers.now k ≡ number) }
+{
+    let mut any = false;
+    for place in first..end {
+        any |= numbers[place] == number;
+    }
+    any
+}
+
+/// The first place from one to an end where a number stands, or the end.
+fn first_place(numbers: &[u16], first: usize, end: usize, number: u16) -> usize
+    requires listed { end ≤ length numbers.now }
+    requires order { first ≤ end }
+    ensures onward { first ≤ result }
+    ensures within { result ≤ end }
+    ensures others { (k : ℕ) → first ≤ k → k < result → ¬ (slice_index numbers.now k ≡ number) }
+{
+    for place in first..end {
+        if numbers[place] == number {
+            return place;
+        }
+    }
+    end
+}
+
+/// The next place from one on where a number stands; where there is none, the place behind the last number.
+fn next_place(numbers: &[u16], place: usize, number: u16) -> usize
+    requires { place < length numbers.now }
+    ensures onward { place ≤ result }
+    ensures within { result ≤ length numbers.now }
+    ensures others { (k : ℕ) → place ≤ k → k < result → ¬ (slice_index numbers.now k ≡ number) }
+{
+    let chunks = (numbers.len() - place) / CHUNK_SIZE;
+    for chunk in 0..chunks {
+        let first = place + chunk * CHUNK_SIZE;
+        if any_is(numbers, first, first + CHUNK_SIZE, number) {
+            return first_place(numbers, first, first + CHUNK_SIZE, number);
+        }
+    }
+    first_place(numbers, place + chunks * CHUNK_SIZE, numbers.len(), number)
+}
+
 impl ItemNumbers {
     /// Of no items yet, with room for so many; where memory is refused, without.
     pub fn with_room(alloc: Global, items: usize) -> ItemNumbers
@@ -30,13 +95,6 @@ impl ItemNumbers {
             Err(_) => Vec::new(alloc),
         };
         ItemNumbers { numbers }
-    }
-
-    /// Takes all out; their room stays.
-    pub fn clear(&mut self)
-        ensures { self.new ≡ [] }
-    {
-        self.numbers.clear();
     }
 
     /// Makes room for those of so many items more; where memory for it is refused, they will have none.
@@ -97,5 +155,19 @@ impl ItemNumbers {
         if place < self.numbers.len() {
             self.numbers[place] = number;
         }
+    }
+
+    /// The next place from one on whose item may have a number: the items before it, from that place on, have others.
+    pub fn next_of(&self, place: usize, number: u16) -> usize
+        ensures onward { place ≤ result }
+        ensures others { (k : ℕ) → place ≤ k → k < result
+            → (k < length self.now) × ¬ (slice_index self.now k ≡ number) }
+    {
+        let numbers = self.numbers.as_slice();
+        // where many have it, the next one has
+        if numbers.len() <= place || numbers[place] == number {
+            return place;
+        }
+        next_place(numbers, place, number)
     }
 }

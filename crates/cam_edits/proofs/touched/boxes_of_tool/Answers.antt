@@ -1,51 +1,67 @@
-use Rattle.std.proofs.Common.{[], ◌∷◌, ◌++◌, ap, refl, sym, ◌∙◌}
+use Rattle.std.proofs.Common.{◌≡◌, ◌∙◌, ℕ, ◌+◌, ◌-◌, ◌<◌, ◌++◌, ◌∷◌, [], ap, length, refl, arith}
+use Rattle.std.proofs.lemmas.List.{length-map}
 use Rattle.cam_objects.specs.declared.item_fault.ItemFault.TheVariants.{OutOfBoard}
 use Rattle.cam_objects.specs.Contents.{drill_content_of}
+use Rattle.cam_objects.specs.DrillSoundness.{tool_of}
 use Rattle.cam_edits.specs.declared.drill_step.DrillStep.TheVariants.{Diameter}
+use Rattle.cam_edits.proofs.ItemTools.{boxes_past, tool_at}
 use Rattle.cam_edits.proofs.TouchedDrillBoxes.{boxes_of_all, diameter_boxes, diameter_size, has_tool}
-use Rattle.cam_edits.proofs.TouchedDrillBoxes.{item_of_other, item_of_tool, sound_read}
+use Rattle.cam_edits.proofs.TouchedDrillBoxes.{item_of_tool, sound_read}
 use Rattle.cam_edits.proofs.touched.boxes_of_tool.Goals as goal
-use Rattle.cam_edits.proofs.touched.boxes_of_tool.Goals.{then-tool-t+in_ok-push+in_ok-push-2, else-tool-t}
+
+pub loop-place-init : goal.loop-place-init
+loop-place-init c =
+    let layer = c.args.layer.now in
+    let next = c.next_of_tool-place in
+    record {
+      boxes = boxes_past layer.tools c.args.t c.args.d layer.items.items next.result 0 next.result (omega arith)
+          (omega (arith, next.ensures.within, length-map {B = ℕ} layer.items.items tool_of))
+          next.ensures.others c.in_ok-boxes.boxes.items c.in_ok-boxes.ensures.items;
+      within = next.ensures.within;
+      found = next.ensures.found;
+    }
 
 pub bounds-requires-clause-points : goal.bounds-requires-clause-points
 bounds-requires-clause-points c =
-    sound_read c.args.layer.now.tools c.args.layer.now.items.items c.deref-item-items.result.now c.loop-item.item-index
-    c.item-item.result
-    c.requires.sound.items c.deref-item-items.ensures.value c.loop-item-test.true c.item-item.is OutOfBoard
+    let items = c.args.layer.now.items.items in
+    sound_read c.args.layer.now.tools items items c.loop-place.place c.index-item.result.now c.requires.sound.items refl
+    (omega (arith, c.loop-place-test.true, c.len.ensures, c.args.layer.now.items.ok.0)) c.index-item.ensures OutOfBoard
 
 pub bounds-requires-clause-diameter : goal.bounds-requires-clause-diameter
 bounds-requires-clause-diameter c =
     diameter_size (drill_content_of c.args.layer.now) (Diameter c.args.t c.args.d) c.requires.accepted c.requires.sound
     c.args.t c.args.d refl
 
-pub loop-item-preserved : goal.loop-item-preserved
-loop-item-preserved c =
+pub loop-place-preserved : goal.loop-place-preserved
+loop-place-preserved c =
     let tools = c.args.layer.now.tools in
-    let items = c.deref-item-items.result.now in
-    let i = c.loop-item.item-index in
-    let x = c.item-item.result in
-    let boxes = c.loop-item.boxes.items in
+    let items = c.args.layer.now.items.items in
+    let i = c.loop-place.place in
+    let x = c.index-item.result.now in
+    let boxes = c.loop-place.boxes.items in
+    let next = c.next_of_tool-place-in-loop-place in
     let there = has_tool (drill_content_of c.args.layer.now) (Diameter c.args.t c.args.d) c.requires.accepted
     c.requires.sound c.args.t c.args.d refl in
-    elim c.if-tool-t.branch [
-      | then-tool-t+in_ok-push+in_ok-push-2 w ↦
-          (λ k. (w.boxes-is k).items)
-          ∙ w.in_ok-push-2.ensures.items
-          ∙ ap (λ l. l ++ w.bounds.result ∷ []) w.in_ok-push.ensures.items
-          ∙ item_of_tool tools c.args.t c.args.d items i x c.loop-item-test.true c.item-item.is boxes
-          w.bounds_of.result w.bounds.result
-          c.loop-item.invariant there (sym c.tool.ensures ∙ w.if-tool-t.true) w.bounds_of.ensures w.bounds.ensures
-      | else-tool-t w ↦
-          (λ k. (w.boxes-is k).items)
-          ∙ item_of_other tools c.args.t c.args.d items i x c.loop-item-test.true c.item-item.is boxes
-          c.loop-item.invariant
-          (λ same. w.if-tool-t.false (c.tool.ensures ∙ same))
-    ]
+    let listed = length-map {B = ℕ} items tool_of in
+    let below : i < length items = omega (arith, c.loop-place-test.true, c.len.ensures, c.args.layer.now.items.ok.0) in
+    let of_tool : tool_of x ≡ c.args.t =
+    tool_at items i x (tool_of x) below c.index-item.ensures refl ∙ c.loop-place.invariant.found (omega (arith, below, listed)) in
+    let here = c.in_ok-push-2.ensures.items
+    ∙ ap (λ l. l ++ c.bounds.result ∷ []) c.in_ok-push.ensures.items
+    ∙ item_of_tool tools c.args.t c.args.d items i x below c.index-item.ensures boxes c.bounds_of.result c.bounds.result
+    c.loop-place.invariant.boxes there of_tool c.bounds_of.ensures c.bounds.ensures in
+    record {
+      boxes = boxes_past tools c.args.t c.args.d items (next.result - (i + 1)) (i + 1) next.result
+          (omega (arith, next.ensures.onward)) (omega (arith, next.ensures.within, listed)) next.ensures.others
+          c.push-in-loop-place.new.self.items here;
+      within = next.ensures.within;
+      found = next.ensures.found;
+    }
 
 pub returns : goal.returns
 returns c =
     let layer = c.args.layer.now in
-    c.loop-item.invariant
-    ∙ boxes_of_all layer.tools c.args.t c.args.d layer.items.items c.deref-item-items.result.now c.loop-item.item-index
-    c.deref-item-items.ensures.value c.loop-item-test.false
+    c.loop-place.invariant.boxes
+    ∙ boxes_of_all layer.tools c.args.t c.args.d layer.items.items layer.items.items c.loop-place.place refl
+    (omega (arith, c.loop-place-test.false, c.len.ensures, layer.items.ok.0))
     ∙ diameter_boxes (drill_content_of layer) c.args.t c.args.d

@@ -6,4 +6,4 @@ use Rattle.cam_edits.proofs.chunked_drill.ChunkedDrillLayer.chunks.Goals as goal
 pub returns-in-Some : goal.returns-in-Some
 returns-in-Some c =
     subst (λ (l : DrillLayer). AreChunksOf (drill_item_boxes l.tools l.items.items) c.in-Some.kept.chunks) c.self.view_is
-    (c.self.invariant c.in-Some.kept c.in-Some.is).chunks
+    (c.self.invariant.kept c.in-Some.kept c.in-Some.is).chunks
