@@ -67,10 +67,6 @@ not_left false z w tie other told back e = (
 same_centres : (top : Centres) (P Q : Spot → Type 0) (h : HalfPlane) → ((s : Spot) → P s ↔ Q s)
     → IsHalfPlaneOf top P h → IsHalfPlaneOf top Q h
 same_centres top P Q h same half = record {
-  has = λ k i. (
-    (λ held. let on = (half.has k i).0 held in (on.0, (same _).0 on.1)),
-    (λ on. (half.has k i).1 (on.0, (same _).1 on.1)),
-  );
   tells = λ k i. (
     (λ up. (same _).0 ((half.tells k i).0 up)),
     (λ on. (half.tells k i).1 ((same _).1 on)),

@@ -133,17 +133,6 @@ circle_run i first end u v radius height to_right is_below circle right before n
       (λ inside. run.1 (circle.0 inside)),
     )
 
--- a bit of the row of a run
-pub run_bit : (B P : Type 0) (i first end count : ℕ) → end ≤ count → B ↔ ((first ≤ i) × (i < end))
-    → (i < count → IsInRun first end i ↔ P) → B ↔ ((i < count) × P)
-run_bit B P i first end count within bit told = (
-  (λ set.
-      let on = bit.0 set in
-      let inside : i < count = omega (arith, on.1, within) in
-      (inside, (told inside).0 on)),
-  (λ held. bit.1 ((told held.0).1 held.1)),
-)
-
 -- what lies before the chord lies before its end
 pub ends_ordered : (first end count : ℕ) (x : ℕ → ℤ) (room to_right : ℕ) → first ≤ count
     → ((i : ℕ) → i < first → IsBeforeChord (x i) room)

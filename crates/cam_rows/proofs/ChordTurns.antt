@@ -1,6 +1,5 @@
 -- Chords by the distances of centres from the middle of a circle: which of them lie left of the chord, and which in it.
 use Rattle.std.proofs.Common.{◌≡◌, ◌<◌, ◌≤◌, ◌↔◌, ℕ, ℤ, pos, ◌-◌, ◌≤ℤ◌, ◌<ℤ◌, inl, inr, arith}
-use Rattle.std.specs.Int.{IsBitSet}
 use Rattle.std.specs.Int.RustNames.{unsigned_abs}
 use Rattle.std.proofs.lemmas.Bool.{cases_lt}
 use Rattle.std.proofs.lemmas.Int.{by_lt_z, ints}
@@ -11,7 +10,6 @@ use Rattle.cam_shapes.proofs.Widths.{square_is}
 use Rattle.cam_rows.specs.Machinery.Chords.{IsBeforeChord, IsBeforeEnd, offset}
 use Rattle.cam_rows.specs.Machinery.Turns.{Falls}
 use Rattle.cam_rows.proofs.Columns.{goes_right}
-use Rattle.cam_rows.proofs.SetBits.{none_set}
 
 -- of the squares of two places on the same side
 left_square : (x y : ℤ) → x ≤ℤ y → y <ℤ pos 0 → square y ≤ℤ square x
@@ -46,16 +44,6 @@ before_end_falls first step room count h i j order _ before =
       | inr near ↦ omega (arith, ints, right_square x y right past, near)
     ]))
 
--- what lies before the chord lies before its end
-pub chord_ordered : (first end count : ℕ) (x : ℕ → ℤ) (room : ℕ) → first ≤ count
-    → ((i : ℕ) → i < first → IsBeforeChord (x i) room)
-    → ((i : ℕ) → end ≤ i → i < count → IsBeforeEnd (x i) room → ⊥) → first ≤ end
-chord_ordered first end count x room within before after =
-    elim (cases_lt end first) [
-      | inl less ↦ absurd (after end (omega arith) (omega arith) (inl (before end less).0))
-      | inr order ↦ order
-    ]
-
 -- the centres of the run are those in the chord
 pub in_run : (i first end count : ℕ) (x : ℤ) (room : ℕ) → i < count
     → (i < first → IsBeforeChord x room) → (first ≤ i → IsBeforeChord x room → ⊥)
@@ -78,39 +66,3 @@ pub seen_in_chord : (v : Vector) (height bound : ℕ) → pos height ≡ square 
 seen_in_chord v height bound e =
     let wide = square_is v.x in
     ((λ near. omega (arith, ints, e, wide, near)), (λ near. omega (arith, ints, e, wide, near)))
-
--- one bit of a row that lies so high, by its chord
-pub in_chord_is : (B : Type 0) (i count : ℕ) (v : Vector) (x : ℤ) (height bound : ℕ) → pos height ≡ square v.y
-    → x ≡ v.x → B ↔ ((i < count) × (square x <ℤ pos (bound - height))) → B ↔ ((i < count) × (dot v v <ℤ pos bound))
-in_chord_is B i count v x height bound e f told =
-    let seen = seen_in_chord v height bound e in
-    let here = rw f at told in (
-      (λ set. let on = here.0 set in (on.0, seen.0 on.1)),
-      (λ on. here.1 (on.0, seen.1 on.1)),
-    )
-
--- one bit of a chord's row
-pub chord_bit : (B : Type 0) (i first end count : ℕ) (x : ℤ) (room : ℕ) → end ≤ count
-    → (i < first → IsBeforeChord x room)
-    → (i < count → first ≤ i → IsBeforeChord x room → ⊥)
-    → (i < end → IsBeforeEnd x room)
-    → (i < count → end ≤ i → IsBeforeEnd x room → ⊥)
-    → B ↔ ((first ≤ i) × (i < end)) → B ↔ ((i < count) × (square x <ℤ pos room))
-chord_bit B i first end count x room within before not_before until not_until told =
-    let in_chord : i < count → ((first ≤ i) × (i < end)) ↔ (square x <ℤ pos room) =
-    λ h. in_run i first end count x room h before (not_before h) until (not_until h) in (
-      (λ set.
-          let run = told.0 set in
-          let inside : i < count = omega (arith, run.1, within) in
-          (inside, (in_chord inside).0 run)),
-      (λ on. told.1 ((in_chord on.0).1 on.1)),
-    )
-
--- no centre is in a chord that is no longer than a place
-pub no_chord : (row i : ℕ) (count : ℕ) (x : ℤ) (room : ℕ) → row ≡ 0 → room ≡ 0
-    → IsBitSet row i ↔ ((i < count) × (square x <ℤ pos room))
-no_chord row i count x room e none =
-    let wide = square_is x in (
-      (λ set. absurd (none_set row i e set)),
-      (λ on. absurd (omega (arith, ints, wide, none, on.1))),
-    )

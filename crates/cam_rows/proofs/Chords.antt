@@ -1,23 +1,16 @@
 -- How far a disc, a hole or a rectangle reaches from its centre, at the height of a row.
 use Rattle.std.proofs.Common.{◌≡◌, ℕ, ◌+◌, ◌*◌, ◌<◌, ◌≤◌, ◌↔◌, ℤ, pos, ◌+ℤ◌, ◌-ℤ◌, ◌≤ℤ◌, ◌<ℤ◌}
-use Rattle.std.proofs.Common.{to_z, of_z, w64, sym, arith}
+use Rattle.std.proofs.Common.{to_z, of_z, w64, arith}
 use Rattle.std.specs.Int.RustNames.{unsigned_abs}
 use Rattle.std.proofs.lemmas.Int.{by_lt_z, ints}
-use Rattle.std.proofs.lemmas.Nat.{mul-le}
 use Rattle.cam_units.specs.declared.point.Spot.{Spot}
 use Rattle.cam_units.specs.Board.{IsSize}
 use Rattle.cam_shapes.specs.declared.disc.Disc.{Disc}
-use Rattle.cam_shapes.specs.declared.rectangle.Rectangle.{Rectangle}
 use Rattle.cam_shapes.specs.Plane.{dot, seen_from, square}
 use Rattle.cam_shapes.specs.Disc.{IsInDisc, IsInHole}
-use Rattle.cam_shapes.specs.Box.{IsInRectangle}
 use Rattle.cam_shapes.proofs.Reaches.{other_leg}
 use Rattle.cam_shapes.proofs.Strokes.{dot_is}
-use Rattle.cam_rows.specs.declared.centres.Centres.{Centres}
-use Rattle.cam_rows.specs.Machinery.Columns.{IsInColumns}
-use Rattle.cam_rows.specs.Rows.{Marks}
 use Rattle.cam_rows.proofs.Circling.{square_of}
-use Rattle.cam_rows.proofs.Marked.{marks_none, marks_same}
 
 -- a size without its sign, as 64 bits pass it
 pub cast_size : (z : ℤ) → IsSize z → unsigned_abs z ≡ unsigned_abs (to_z w64 (of_z w64 z))
@@ -66,49 +59,3 @@ pub over_disc : (s : Spot) (d : Disc) (high r : ℕ) → r ≡ unsigned_abs d.di
     → high ≡ unsigned_abs (seen_from d.centre s).y → r < high → IsInDisc s d → ⊥
 over_disc s d high r e f over inside =
     let within = other_leg (seen_from d.centre s) d.diameter.0 inside.near in omega arith
-
-pub over_hole : (s : Spot) (d : Disc) (high r : ℕ) → r ≡ unsigned_abs d.diameter.0
-    → high ≡ unsigned_abs (seen_from d.centre s).y → r ≤ high → IsInHole s d → ⊥
-over_hole s d high r e f over inside =
-    let v = seen_from d.centre s in
-    let squares = rw (sym f) at (dot_is v) in
-    omega (arith, ints, inside.near, squares, square_of r d.diameter.0 e, mul-le r r high high over over)
-
--- a row across a rectangle
-pub in_width : (s : Spot) (r : Rectangle) (wide high : ℕ) → pos 0 <ℤ r.width.0 → pos 0 <ℤ r.height.0
-    → unsigned_abs r.width.0 ≡ wide → unsigned_abs (seen_from r.centre s).y ≡ high → high ≤ unsigned_abs r.height.0
-    → IsInRectangle s r ↔ (unsigned_abs (seen_from r.centre s).x ≤ wide)
-in_width s r wide high some_width some_height is_width is_high across =
-    let v = seen_from r.centre s in (
-      (λ inside. omega (arith, ints, inside.between.across)),
-      (λ near. record {
-        wide = some_width;
-        high = some_height;
-        between = record { across = omega (arith, ints); along = omega (arith, ints) };
-      }),
-    )
-
--- and the columns that it spans
-pub in_columns : (s : Spot) (r : Rectangle) (wide : ℕ) → pos 0 <ℤ r.width.0 → pos 0 <ℤ r.height.0
-    → unsigned_abs r.width.0 ≡ wide → IsInColumns s r ↔ (unsigned_abs (seen_from r.centre s).x ≤ wide)
-in_columns s r wide some_width some_height is_width = (
-  (λ inside. omega (arith, ints, inside.2)),
-  (λ near. (some_width, some_height, omega (arith, ints))),
-)
-
--- the same run in each row that lies across
-pub across_columns : (run : ℕ) (c : Centres) (r : Rectangle) → Marks run c (λ s. IsInColumns s r)
-    → pos (unsigned_abs (seen_from r.centre c.first).y) ≤ℤ r.height.0 → Marks run c (λ s. IsInRectangle s r)
-across_columns run c r told across =
-    marks_same run c (λ s. IsInColumns s r) (λ s. IsInRectangle s r) told
-    (λ i _. (
-      (λ inside. (inside.wide, inside.high, inside.between.across)),
-      (λ p. record { wide = p.0; high = p.1; between = record { across = p.2; along = across } }),
-    ))
-
--- none of it lies in a row above or below it
-pub past_rectangle : (run : ℕ) (c : Centres) (r : Rectangle) → run ≡ 0
-    → r.height.0 <ℤ pos (unsigned_abs (seen_from r.centre c.first).y) → Marks run c (λ s. IsInRectangle s r)
-past_rectangle run c r none over =
-    marks_none run c (λ s. IsInRectangle s r) none
-    (λ i _ inside. omega (arith, ints, inside.between.along, over))

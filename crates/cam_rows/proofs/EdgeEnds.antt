@@ -187,9 +187,6 @@ near_most : (m a b : ℤ) → unsigned_abs a < board_limit → unsigned_abs b < 
     → unsigned_abs m < board_limit
 near_most m a b near near_too e = omega (arith, ints, clamps)
 
-twice_fits : (m : ℤ) → unsigned_abs m < board_limit → FitsSigned w64 (pos 2 *ℤ narrow m)
-twice_fits m near = omega (arith, ints)
-
 twice_kept : (m : ℤ) → unsigned_abs m < board_limit → narrow (pos 2 *ℤ narrow m) ≡ pos 2 *ℤ m
 twice_kept m near = omega (arith, ints)
 
@@ -243,12 +240,6 @@ module _ (a b : Point) (m n : ℤ) (near_a : unsigned_abs a.x < board_limit) (ne
 
   near_n : unsigned_abs n < board_limit
   near_n = near_most n a.x b.x near_a near_b most
-
-  pub least_fit : FitsSigned w64 (pos 2 *ℤ narrow m)
-  least_fit = twice_fits m near_m
-
-  pub most_fit : FitsSigned w64 (pos 2 *ℤ narrow n)
-  most_fit = twice_fits n near_n
 
   pub are_ordered : narrow (pos 2 *ℤ narrow m) ≤ℤ narrow (pos 2 *ℤ narrow n)
   are_ordered = rw (twice_kept m near_m, twice_kept n near_n) (ordered_ends m n a.x b.x least most)

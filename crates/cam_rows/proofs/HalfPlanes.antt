@@ -1,5 +1,5 @@
 -- Half planes, by the numbers at the centres of their rows.
-use Rattle.std.proofs.Common.{◌≡◌, ◌↔◌, ℕ, ◌^◌, ◌<◌, ℤ, pos, ◌+ℤ◌, ◌-ℤ◌, ◌*ℤ◌, ◌≤ℤ◌, sym, ◌∙◌, arith}
+use Rattle.std.proofs.Common.{◌≡◌, ℕ, ◌^◌, ◌<◌, ℤ, pos, ◌+ℤ◌, ◌-ℤ◌, ◌*ℤ◌, ◌≤ℤ◌, sym, ◌∙◌, arith}
 use Rattle.std.specs.Int.RustNames.{unsigned_abs}
 use Rattle.std.proofs.lemmas.Int.{ints}
 use Rattle.cam_units.specs.declared.point.Point.{Point}
@@ -10,8 +10,7 @@ use Rattle.cam_shapes.specs.Plane.{cross, dot, seen_from, way}
 use Rattle.cam_shapes.proofs.Widths.{dot_bound}
 use Rattle.cam_rows.specs.declared.centres.Centres.{Centres}
 use Rattle.cam_rows.specs.declared.half_plane.HalfPlane.{HalfPlane}
-use Rattle.cam_rows.specs.Machinery.HalfPlanes.{HasCentre, IsHalfPlaneOf, numbers_of}
-use Rattle.cam_rows.specs.Machinery.Kept.{Has}
+use Rattle.cam_rows.specs.Machinery.HalfPlanes.{IsHalfPlaneOf, numbers_of}
 use Rattle.cam_rows.specs.Machinery.Linear.{IsShortLinear}
 use Rattle.cam_rows.specs.Machinery.Slopes.{Sloped, lowered, number_on}
 use Rattle.cam_rows.specs.Rows.{IsRow, centre_at, row_below}
@@ -21,14 +20,10 @@ use Rattle.cam_rows.proofs.Slopes.{short_way}
 -- the numbers of a half plane are those of the places, and short where a row's first place is
 module _ (top : Centres) (number : Spot → ℤ) (h : HalfPlane)
     (value : (k i : ℕ) → number_on (lowered k (numbers_of h)) i ≡ number (centre_at (row_below top k) i)) where
-  holds_natural : h.count ≡ top.count → (k i : ℕ) → HasCentre h k i ↔ Has top (λ s. pos 0 ≤ℤ number s) k i
-  holds_natural same k i = rw (same, value k i) ((λ held. held), (λ held. held))
-
   pub by_numbers : IsRow top → h.count ≡ top.count → IsShortLinear h.row → unsigned_abs h.down < 2 ^ 100
       → ((k : ℕ) → IsRow (row_below top k) → unsigned_abs (number (centre_at (row_below top k) 0)) < 2 ^ 100)
       → IsHalfPlaneOf top (λ s. pos 0 ≤ℤ number s) h
   by_numbers row same short down fits = record {
-    has = holds_natural same;
     tells = λ k i. rw (value k i) ((λ held. held), (λ held. held));
     short = λ n rows. record {
       row = short;
@@ -82,11 +77,3 @@ raised_below p q c s f r k i e first down =
     let plain : Sloped = record { first = f; step = s.step; down = s.down; count = s.count } in
     rw first (raised_number f s.step r s.down (cross (way p q) (seen_from p (centre_at (row_below c k) i))) k i
     (cross_below p q c plain k i e down))
-
--- a number that is the same everywhere
-pub level_number : (n : ℤ) (k i : ℕ) → (n +ℤ pos k *ℤ pos 0) +ℤ pos i *ℤ pos 0 ≡ n
-level_number n k i =
-    equal
-    (Sum (Sum (Atom n) (Product (Atom (pos k)) (Atom (pos 0)))) (Product (Atom (pos i)) (Atom (pos 0))))
-    (Atom n)
-    (omega arith)

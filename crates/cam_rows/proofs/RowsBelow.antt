@@ -1,13 +1,11 @@
 -- Rows one below another.
-use Rattle.std.proofs.Common.{◌≡◌, ◌≢◌, ◌+◌, ◌<◌, ℕ, ℤ, pos, ◌-ℤ◌, ◌*ℤ◌, ◌≤ℤ◌, List, length}
-use Rattle.std.proofs.Common.{slice_index, slice_set, get_or-set_other, get_or-set_same, inl, inr, subst, arith}
+use Rattle.std.proofs.Common.{◌≡◌, ◌<◌, ℕ, ℤ, pos, ◌-ℤ◌, ◌*ℤ◌, ◌≤ℤ◌}
+use Rattle.std.proofs.Common.{subst, arith}
 use Rattle.std.specs.Int.RustNames.{unsigned_abs}
-use Rattle.std.proofs.lemmas.Bool.{cases_lt}
 use Rattle.std.proofs.lemmas.Int.{ints}
 use Rattle.std.proofs.lemmas.Nat.{mul-le}
-use Rattle.cam_units.specs.declared.point.Spot.{Spot}
 use Rattle.cam_rows.specs.declared.centres.Centres.{Centres}
-use Rattle.cam_rows.specs.Rows.{AreRows, IsRow, Marks, row_below}
+use Rattle.cam_rows.specs.Rows.{AreRows, IsRow}
 use Rattle.cam_rows.proofs.Slopes.{top_row}
 
 -- the top row is the first of them
@@ -22,17 +20,3 @@ few_steps y step steps h k l =
     let is : step ≡ pos pitch = omega (arith, ints) in
     let below : unsigned_abs (y -ℤ pos steps *ℤ pos pitch) < 4000000000 = rw is at l in
     omega (arith, ints, mul-le steps 1 steps pitch (omega arith) (omega (arith, ints)))
-
--- the rows above one of them are marked
-abbrev pub AreMarkedAbove : List ℕ → Centres → (Spot → Type 0) → ℕ → Type 0
-AreMarkedAbove rows top IsIn end = (k : ℕ) → k < end → Marks (slice_index rows k) (row_below top k) IsIn
-
--- one more row
-pub next_row : (rows : List ℕ) (top : Centres) (IsIn : Spot → Type 0) (end row : ℕ) → end < length rows
-    → AreMarkedAbove rows top IsIn end → Marks row (row_below top end) IsIn
-    → AreMarkedAbove (slice_set rows end row) top IsIn (end + 1)
-next_row rows top IsIn end row within above here k early =
-    elim (cases_lt k end) [
-      | inl before ↦ let apart : k ≢ end = omega arith in rw get_or-set_other (above k before)
-      | inr after ↦ let same : k ≡ end = omega arith in rw (same, get_or-set_same) here
-    ]

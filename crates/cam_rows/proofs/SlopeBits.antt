@@ -1,5 +1,5 @@
 -- On which side of the end of a run the numbers of a slope are not negative.
-use Rattle.std.proofs.Common.{◌≡◌, ℕ, ◌<◌, ◌≤◌, ◌↔◌, ℤ, pos, negsuc, ◌+ℤ◌, ◌-ℤ◌, ◌*ℤ◌, ◌≤ℤ◌, ◌<ℤ◌, subst, arith}
+use Rattle.std.proofs.Common.{◌≡◌, ℕ, ◌≤◌, ◌↔◌, ℤ, pos, negsuc, ◌+ℤ◌, ◌-ℤ◌, ◌*ℤ◌, ◌≤ℤ◌, ◌<ℤ◌, subst, arith}
 use Rattle.std.proofs.lemmas.Int.{by_lt_z, ints}
 use Rattle.std.proofs.lemmas.Nat.{mul-le}
 use Rattle.cam_units.proofs.Ring.{Atom, Difference, Product, Sum, equal}
@@ -80,44 +80,6 @@ level_number n i = equal (Sum (Atom n) (Product (Atom (pos i)) (Atom (pos 0)))) 
 level_of_end : (e d r : ℤ) (i : ℕ) → IsDivisor d → IsRest r d
     → (pos 0 ≤ℤ e) ↔ (pos 0 ≤ℤ (whole e d r +ℤ pos i *ℤ pos 0))
 level_of_end e d r i h rest = rw (level_number (whole e d r) i) (natural_quotient e d r h rest)
-
--- the bit of a centre
-told_by : (B P Q : Type 0) (i count : ℕ) → B ↔ ((i < count) × P) → P ↔ Q → B ↔ ((i < count) × Q)
-told_by B P Q i count bit same = (
-  (λ set. let p = bit.0 set in (p.0, same.0 p.1)),
-  (λ p. bit.1 (p.0, same.1 p.1)),
-)
-
-bit_of : (B : Type 0) (side : Side) (e d r m : ℤ) (i count : ℕ) → IsDivisor d → IsRest r d
-    → B ↔ ((i < count) × IsBeside side e i)
-    → B ↔ ((i < (numbers side (whole e d r) m d count).count)
-    × (pos 0 ≤ℤ number_on (numbers side (whole e d r) m d count) i))
-bit_of B Left e d r m i count h rest bit = told_by B _ _ i count bit (left_of_end e d r i h rest)
-bit_of B Right e d r m i count h rest bit = told_by B _ _ i count bit (right_of_end e d r i h rest)
-bit_of B Level e d r m i count h rest bit = told_by B _ _ i count bit (level_of_end e d r i h rest)
-
-pub sloped_bit : (B : Type 0) (s : Inside) (z : Sloped) (i : ℕ) → sloped s ≡ z → IsSlope s
-    → B ↔ ((i < s.count) × IsBeside s.side s.end i) → B ↔ ((i < z.count) × (pos 0 ≤ℤ number_on z i))
-sloped_bit B s z i e slope bit =
-    subst (λ (z : Sloped). B ↔ ((i < z.count) × (pos 0 ≤ℤ number_on z i))) e
-    (bit_of B s.side s.end s.divisor s.rest (whole s.end_step s.divisor s.rest_step) i s.count slope.divisor slope.rest
-    bit)
-
--- where an end stands for another one
-same_side : (side : Side) (e f : ℤ) (i : ℕ) → i < 64 → ((j : ℕ) → j < 64 → (pos j ≤ℤ e) ↔ (pos j ≤ℤ f))
-    → IsBeside side e i ↔ IsBeside side f i
-same_side Left e f i h same = same i h
-same_side Right e f i h same = (
-  (λ far near. far ((same i h).1 near)),
-  (λ far near. far ((same i h).0 near)),
-)
-same_side Level e f i h same = same 0 (omega arith)
-
-pub bit_by_near : (B : Type 0) (side : Side) (e f : ℤ) (i count : ℕ) → i < 64
-    → ((j : ℕ) → j < 64 → (pos j ≤ℤ e) ↔ (pos j ≤ℤ f)) → B ↔ ((i < count) × IsBeside side e i)
-    → B ↔ ((i < count) × IsBeside side f i)
-bit_by_near B side e f i count h same bit =
-    told_by B (IsBeside side e i) (IsBeside side f i) i count bit (same_side side e f i h same)
 
 -- any centre, however far to the right
 side_of : (side : Side) (e d r m : ℤ) (i count : ℕ) → IsDivisor d → IsRest r d

@@ -89,29 +89,6 @@ few_before gap pitch steps last some is within =
       | inr h ↦ h
     ]
 
--- a run of bits as the centres of a strip, of which `first` lie left of it and `end` not right of it
-pub run_in_strip : (B : Type 0) (n first end count : ℕ) (x left right low high : ℤ)
-    → low ≡ left → high ≡ right +ℤ pos 1 → end ≤ count
-    → (n < count → (n < first) ↔ (x <ℤ low)) → (n < count → (n < end) ↔ (x <ℤ high))
-    → B ↔ ((first ≤ n) × (n < end)) → B ↔ ((n < count) × ((left ≤ℤ x) × (x ≤ℤ right)))
-run_in_strip B n first end count x left right low high is_low is_high few before through run = (
-  (λ set.
-      let between = run.0 set in
-      let within : n < count = omega (arith, between.1, few) in
-      let after = (before within).1 in
-      let until = (through within).0 between.1 in
-      let from : left ≤ℤ x =
-      by_lt_z x low (λ h. absurd (omega (arith, after h, between.0))) (λ h. omega (arith, ints, h, is_low)) in
-      (within, (from, omega (arith, ints, until, is_high)))),
-  (λ p.
-      let first_up = (before p.0).0 in
-      let early = (through p.0).1 in
-      run.1 (elim (cases_lt n first) [
-        | inl h ↦ let left_of = first_up h in absurd (omega (arith, ints, left_of, p.1.0, is_low))
-        | inr h ↦ (h, early (omega (arith, ints, p.1.1, is_high)))
-      ])),
-)
-
 -- and the same columns of a run
 pub columns_in_strip : (n first end : ℕ) (x left right low high : ℤ) → low ≡ left → high ≡ right +ℤ pos 1
     → (n < first) ↔ (x <ℤ low) → (n < end) ↔ (x <ℤ high)

@@ -1,5 +1,5 @@
 -- Sweeps by the sides of their ends.
-use Rattle.std.proofs.Common.{◌≡◌, ◌↔◌, ◌⊎◌, ◌<◌, ◌^◌, ℤ, pos, ◌+ℤ◌, ◌-ℤ◌, ◌*ℤ◌, ◌≤ℤ◌, ◌<ℤ◌}
+use Rattle.std.proofs.Common.{◌≡◌, ◌↔◌, ◌<◌, ◌^◌, ℤ, pos, ◌+ℤ◌, ◌-ℤ◌, ◌*ℤ◌, ◌≤ℤ◌, ◌<ℤ◌}
 use Rattle.std.proofs.Common.{inl, inr, ap, sym, ◌∙◌, arith}
 use Rattle.std.specs.Int.RustNames.{unsigned_abs}
 use Rattle.std.proofs.lemmas.Int.{ints}
@@ -53,19 +53,6 @@ narrow_sweep s e v z w f g other narrow = rw (f, g) (
     ]
   ]),
   (λ both. inr (inl (narrow, both.0, both.1))),
-)
-
-pub wide_sweep : (s e v : Vector) (z w : ℤ) → z ≡ cross s v → w ≡ cross v e → (s ≡ e → ⊥)
-    → cross s e <ℤ pos 0 → IsInSweep s e v ↔ ((pos 0 ≤ℤ z) ⊎ (pos 0 ≤ℤ w))
-wide_sweep s e v z w f g other turned = rw (f, g) (
-  (λ h. elim h [
-    | inl same ↦ absurd (other same)
-    | inr rest ↦ elim rest [
-      | inl both ↦ absurd (narrow_not_wide s e turned both.0)
-      | inr either ↦ either.1
-    ]
-  ]),
-  (λ either. inr (inr (turned, either))),
 )
 
 pub no_sweep : (s e v : Vector) → (s ≡ e → ⊥) → (IsNarrow s e → ⊥) → (cross s e <ℤ pos 0 → ⊥) → IsInSweep s e v → ⊥

@@ -43,14 +43,6 @@ pub leftmost_rows : (top left : Centres) (n m : ℕ) → left ≡ leftmost top �
 leftmost_rows top left n m is size rows k within =
     rw is (leftmost_row (row_below top k) (rows k (omega (arith, size, within))))
 
--- a row of a tile is not too wide
-pub row_is_wide : (c : Centres) → IsRow c → IsWideRow c
-row_is_wide c row = record {
-  count = (row.count.0, omega (arith, row.count.1));
-  step = row.step;
-  centres = row.centres;
-}
-
 -- how far the centres lie from a point
 module _ (row : Centres) (p : Point) (first step : ℤ) (wide : IsWideRow row) (e : first ≡ row.first.x -ℤ pos 2 *ℤ p.x)
     (f : step ≡ row.step) where

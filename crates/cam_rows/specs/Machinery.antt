@@ -3,16 +3,13 @@
 pub mod Beside
 pub mod Changes
 pub mod Chords
-pub mod Columns
 pub mod Forms
 pub mod HalfPlanes
-pub mod Kept
 pub mod Linear
 pub mod Narrowing
 pub mod Quarters
 pub mod Slopes
 pub mod Spreading
-pub mod Sweeps
 pub mod Ties
 pub mod Turns
 pub mod Ways

@@ -1,21 +1,67 @@
 //! Rows of an arc's stroke.
 
-ghost use Rattle.std.specs.Prelude.{◌↔◌, ◌+◌, ◌^◌, ◌<◌, ℕ, length};
-ghost use Rattle.std.specs.Int.{IsBitSet};
+ghost use Rattle.std.specs.Prelude.{length};
 ghost use Rattle.cam_shapes.specs.Arc.{IsInArc, IsSoundArc};
-ghost use Rattle.cam_rows.specs.ArcRuns.{IsBetween, IsInRing, IsRingOf};
-ghost use Rattle.cam_rows.specs.Machinery.Chords.{AreSteady, IsBandOf, side};
-ghost use Rattle.cam_rows.specs.Machinery.Kept.{AreKept, Has};
+ghost use Rattle.cam_rows.specs.ArcRuns.{IsBeyond, IsHollow, IsOuter, IsRingOf};
 ghost use Rattle.cam_rows.specs.Rows.{AreMarked, AreRows, IsRow, Marks};
 
 use crate::centres::Centres;
-use crate::chord::Chord;
-use crate::circle::squared_height;
 use crate::disc::add_disc;
-use crate::offsets::{Band, Offsets};
 use crate::ring::{Ring, ring_of};
-use crate::sweep::Sweep;
+use crate::rows::{Change, change_rows, mark_rows};
+use crate::run_shape::RunShape;
+use crate::runs::arc::{beyond_runs, hollow_runs, outer_runs};
 use cam_shapes::{Arc, Disc};
+
+/// An arc's outer circle in its sweep.
+#[derive(Clone, Copy)]
+struct Outer {
+    arc: Arc,
+    ring: Ring,
+}
+
+/// An arc's inner circle.
+#[derive(Clone, Copy)]
+struct Hollow {
+    arc: Arc,
+    ring: Ring,
+}
+
+/// What an arc's sweep leaves out.
+#[derive(Clone, Copy)]
+struct Beyond {
+    arc: Arc,
+}
+
+impl RunShape for Outer {
+    ghost is_sound = { λ o. IsSoundArc o.arc × IsRingOf o.ring o.arc };
+
+    ghost holds = { λ o s. IsOuter o.arc s };
+
+    fn runs(&self, top: &Centres, firsts: &mut [u32], ends: &mut [u32]) {
+        outer_runs(&self.arc, &self.ring, top, firsts, ends);
+    }
+}
+
+impl RunShape for Hollow {
+    ghost is_sound = { λ h. IsSoundArc h.arc × IsRingOf h.ring h.arc };
+
+    ghost holds = { λ h s. IsHollow h.arc s };
+
+    fn runs(&self, top: &Centres, firsts: &mut [u32], ends: &mut [u32]) {
+        hollow_runs(&self.arc, &self.ring, top, firsts, ends);
+    }
+}
+
+impl RunShape for Beyond {
+    ghost is_sound = { λ b. IsSoundArc b.arc };
+
+    ghost holds = { λ b s. IsBeyond b.arc s };
+
+    fn runs(&self, top: &Centres, firsts: &mut [u32], ends: &mut [u32]) {
+        beyond_runs(&self.arc, top, firsts, ends);
+    }
+}
 
 /// The centres in an arc's stroke or on its edge: those in a disc about one of its ends, and those in its sweep between
 /// the circles that bound the stroke. Bit i is that of centre i, from the left; points and the width are in nanometres,
@@ -36,17 +82,10 @@ pub fn arc_rows(arc: Arc, top: Centres, rows: &mut [u64])
     requires rows { AreRows top (length rows.old) }
     ensures { AreMarked rows.new top (λ s. IsInArc s arc) }
 {
-    if rows.is_empty() {
-        return;
-    }
-    if arc.width.0 == 0 {
-        rows.fill(0);
-        return;
-    }
-    rows.fill(u64::MAX);
-    if Sweep::of(&arc, &top).keep(rows) {
-        ring_of(&arc).keep(&arc, &top, rows);
-    }
+    let ring = ring_of(&arc);
+    mark_rows(&Outer { arc, ring }, &top, rows);
+    change_rows(&Hollow { arc, ring }, Change::Clear, &top, rows);
+    change_rows(&Beyond { arc }, Change::Clear, &top, rows);
     let start = Disc {
         centre: arc.from,
         diameter: arc.width,
@@ -57,55 +96,4 @@ pub fn arc_rows(arc: Arc, top: Centres, rows: &mut [u64])
     };
     add_disc(&start, &top, rows);
     add_disc(&end, &top, rows);
-}
-
-impl Ring {
-    /// Clears the bits of the centres that are not near an arc's circle, in rows one below another from the top one. It
-    /// looks at no row in which no bit is left.
-    fn keep(&self, arc: &Arc, top: &Centres, rows: &mut [u64])
-        requires arc { IsSoundArc arc.now }
-        requires ring { IsRingOf self.now arc.now }
-        requires rows { AreRows top.now (length rows.old) }
-        ensures { AreKept rows.old (Has top.now (IsInRing arc.now)) rows.new }
-    {
-        if rows.is_empty() {
-            return;
-        }
-        let offsets = Offsets::from(&arc.centre, top);
-        let band = offsets.band();
-        let mut outer = Chord::about(&arc.centre, top);
-        let mut inner = outer;
-        for k in 0..rows.len() {
-            if rows[k] != 0 {
-                let height = squared_height(&arc.centre, &top.below(k));
-                rows[k] &= self.row(height, &offsets, &band, &mut outer, &mut inner);
-            }
-        }
-    }
-
-    /// The row of the centres near the arc's circle, by the square of the row's height over the arc's centre: those in
-    /// the chord of the outer circle and not in that of the inner one. Neither is looked for where none of the columns
-    /// comes near.
-    #[inline]
-    fn row(
-        &self,
-        height: u128,
-        offsets: &Offsets,
-        band: &Band,
-        outer: &mut Chord,
-        inner: &mut Chord,
-    ) -> u64
-        requires height { height < 2 ^ 66 }
-        requires offsets { AreSteady offsets.now }
-        requires band { IsBandOf offsets.now band.now }
-        ensures { (i : ℕ) → i < 64 → IsBitSet result i
-            ↔ ((i < offsets.now.count) × IsBetween self.now (height + side offsets.now i)) }
-    {
-        if self.outer <= height + band.nearest || height + band.farthest < self.inner {
-            return 0;
-        }
-        let in_outer = outer.row(offsets, self.outer.saturating_sub(height));
-        let in_inner = inner.row(offsets, self.inner.saturating_sub(height));
-        in_outer & !in_inner
-    }
 }

@@ -4,9 +4,21 @@ ghost use Rattle.std.specs.Prelude.{length};
 ghost use Rattle.cam_shapes.specs.Bar.{IsInBar, IsSoundBar};
 ghost use Rattle.cam_rows.specs.Rows.{AreMarked, AreRows, IsRow, Marks};
 
-use crate::beside::keep_beside;
 use crate::centres::Centres;
+use crate::rows::{mark_rows, row_of};
+use crate::run_shape::RunShape;
+use crate::runs::bar::bar_runs;
 use cam_shapes::Bar;
+
+impl RunShape for Bar {
+    ghost is_sound = { IsSoundBar };
+
+    ghost holds = { λ b s. IsInBar s b };
+
+    fn runs(&self, top: &Centres, firsts: &mut [u32], ends: &mut [u32]) {
+        bar_runs(self, top, firsts, ends);
+    }
+}
 
 /// The centres in a bar or on its edge; none where its width or its length is 0. Bit i is that of centre i, from the
 /// left; the width and the ends are in nanometres, the centres in half nanometres.
@@ -15,9 +27,7 @@ pub fn bar_row(bar: Bar, centres: Centres) -> u64
     requires row { IsRow centres }
     ensures { Marks result centres (λ s. IsInBar s bar) }
 {
-    let mut rows = [0];
-    bar_rows(bar, centres, &mut rows);
-    rows[0]
+    row_of(&bar, &centres)
 }
 
 /// The rows of a bar, one below another from the top one: each is that of [`bar_row`].
@@ -26,6 +36,5 @@ pub fn bar_rows(bar: Bar, top: Centres, rows: &mut [u64])
     requires rows { AreRows top (length rows.old) }
     ensures { AreMarked rows.new top (λ s. IsInBar s bar) }
 {
-    rows.fill(u64::MAX);
-    keep_beside(&bar, &top, rows);
+    mark_rows(&bar, &top, rows);
 }

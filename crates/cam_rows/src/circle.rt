@@ -1,29 +1,13 @@
-//! Rows of circles.
+//! Circles: how far places lie from their centres.
 
-ghost use Rattle.std.specs.Prelude.{◌≡◌, ◌+◌, ◌*◌, ◌^◌, ◌<◌, ◌≤◌, pos, ◌-ℤ◌, ◌*ℤ◌, ◌<ℤ◌};
+ghost use Rattle.std.specs.Prelude.{◌≡◌, ◌+◌, ◌*◌, ◌^◌, ◌<◌, ◌≤◌, pos, ◌-ℤ◌, ◌*ℤ◌};
 ghost use Rattle.cam_units.specs.Board.{IsOnBoard};
-ghost use Rattle.cam_shapes.specs.Plane.{dot, seen_from, square, way};
-ghost use Rattle.cam_rows.specs.Rows.{IsRow, Marks};
+ghost use Rattle.cam_shapes.specs.Plane.{dot, square, way};
+ghost use Rattle.cam_rows.specs.Rows.{IsRow};
 
 use crate::centres::Centres;
-use crate::runs::run_about;
 use crate::way::Way;
 use cam_units::{Point, isqrt};
-
-/// The row of the centres whose squared distance from a point is less than a bound, by one root.
-pub(crate) fn circle_row(point: &Point, bound: u128, centres: &Centres) -> u64
-    requires point { IsOnBoard point.now }
-    requires bound { bound < 2 ^ 68 }
-    requires row { IsRow centres.now }
-    ensures { Marks result centres.now
-        (λ s. dot (seen_from point.now s) (seen_from point.now s) <ℤ pos bound) }
-{
-    let height = squared_height(point, centres);
-    if bound <= height {
-        return 0;
-    }
-    run_about(point, half_chord(bound - height - 1), centres)
-}
 
 /// The whole part of half a circle's chord, by the square of the half.
 #[tactic(auto, using(crate::proofs::Circling::short_root))]

@@ -3,13 +3,25 @@
 ghost use Rattle.std.specs.Prelude.{◌^◌, ◌<◌, ℕ, IsTrue, length, ℤ, pos, ◌-ℤ◌, ◌≤ℤ◌};
 ghost use Rattle.std.specs.Int.RustNames.{unsigned_abs};
 ghost use Rattle.cam_shapes.specs.Disc.{IsInDisc, IsSoundDisc};
-ghost use Rattle.cam_rows.specs.Machinery.Kept.{AreAdded, Has};
+ghost use Rattle.cam_rows.specs.declared.rows.Change.TheVariants.{Set};
+ghost use Rattle.cam_rows.specs.Machinery.Changes.{AreChanged, Has};
 ghost use Rattle.cam_rows.specs.Rows.{AreMarked, AreRows, IsRow, Marks};
 
 use crate::centres::Centres;
-use crate::chord::Chord;
-use crate::circle::circle_row;
+use crate::rows::{Change, change_rows, mark_rows, row_of};
+use crate::run_shape::RunShape;
+use crate::runs::disc::disc_runs;
 use cam_shapes::Disc;
+
+impl RunShape for Disc {
+    ghost is_sound = { IsSoundDisc };
+
+    ghost holds = { λ d s. IsInDisc s d };
+
+    fn runs(&self, top: &Centres, firsts: &mut [u32], ends: &mut [u32]) {
+        disc_runs(self, top, firsts, ends);
+    }
+}
 
 /// The centres in a disc or on its edge: one run, as wide as the chord on which the row lies, or none where the row
 /// lies above or below the disc, or its diameter is 0. Bit i is that of centre i, from the left; the diameter is in
@@ -19,14 +31,7 @@ pub fn disc_row(disc: Disc, centres: Centres) -> u64
     requires row { IsRow centres }
     ensures { Marks result centres (λ s. IsInDisc s disc) }
 {
-    if disc.diameter.0 == 0 {
-        return 0;
-    }
-    let radius = disc.diameter.0 as u64;
-    if centres.height_over(&disc.centre) > radius {
-        return 0;
-    }
-    circle_row(&disc.centre, u128::from(radius * radius + 1), &centres)
+    row_of(&disc, &centres)
 }
 
 /// The rows of a disc, one below another from the top one: each is that of [`disc_row`].
@@ -35,13 +40,7 @@ pub fn disc_rows(disc: Disc, top: Centres, rows: &mut [u64])
     requires rows { AreRows top (length rows.old) }
     ensures { AreMarked rows.new top (λ s. IsInDisc s disc) }
 {
-    if rows.is_empty() {
-        return;
-    }
-    let mut chord = Chord::about(&disc.centre, &top);
-    for (k, row) in rows.iter_mut().enumerate() {
-        *row = chord.disc_row(&disc, &top.below(k));
-    }
+    mark_rows(&disc, &top, rows);
 }
 
 /// Adds the centres in a disc to rows, one below another from the top one: none of them is looked at where the disc
@@ -49,15 +48,12 @@ pub fn disc_rows(disc: Disc, top: Centres, rows: &mut [u64])
 pub(crate) fn add_disc(disc: &Disc, top: &Centres, rows: &mut [u64])
     requires disc { IsSoundDisc disc.now }
     requires rows { AreRows top.now (length rows.old) }
-    ensures { AreAdded rows.old (Has top.now (λ s. IsInDisc s disc.now)) rows.new }
+    ensures { AreChanged Set rows.old (Has top.now (λ s. IsInDisc s disc.now)) rows.new }
 {
     if rows.is_empty() || misses(disc, top, rows.len()) {
         return;
     }
-    let mut chord = Chord::about(&disc.centre, top);
-    for k in 0..rows.len() {
-        rows[k] |= chord.disc_row(disc, &top.below(k));
-    }
+    change_rows(disc, Change::Set, top, rows);
 }
 
 /// Whether a disc lies wholly left or right of the centres of some rows, above or below them.

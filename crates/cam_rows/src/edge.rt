@@ -9,11 +9,33 @@ ghost use Rattle.cam_shapes.specs.Plane.{cross, seen_from, way};
 ghost use Rattle.cam_rows.specs.Rows.{AreRows, AreTurned, IsRow, Marks, row_below};
 
 use crate::centres::Centres;
-use crate::half_plane::HalfPlane;
-use crate::linear::positive_row;
+use crate::rows::{Change, change_rows, row_of};
+use crate::run_shape::RunShape;
+use crate::runs::edge::runs_left;
 use crate::slope::floor_division;
-use crate::way::{Way, across};
+use crate::way::Way;
 use cam_units::Point;
+
+/// The places strictly left of the line from a point to a higher one.
+#[derive(Clone, Copy)]
+struct LeftSide {
+    from: Point,
+    to: Point,
+}
+
+impl RunShape for LeftSide {
+    ghost is_sound = { λ l. IsOnBoard l.from × IsOnBoard l.to × (l.from.y <ℤ l.to.y) };
+
+    ghost holds = { λ l s. pos 0 <ℤ cross (way l.from l.to) (seen_from l.from s) };
+
+    fn runs(&self, top: &Centres, firsts: &mut [u32], ends: &mut [u32]) {
+        if firsts.is_empty() {
+            return;
+        }
+        firsts.fill(0);
+        runs_left(&self.from, &self.to, top, ends);
+    }
+}
 
 /// The row of the edge: bit i is set exactly where the edge crosses the ray that goes right from centre i.
 ///
@@ -29,10 +51,10 @@ pub fn edge_row(from: Point, to: Point, centres: Centres) -> u64
         if is_above(&to, &centres) {
             0
         } else {
-            left_row(&to, &from, &centres)
+            row_of(&LeftSide { from: to, to: from }, &centres)
         }
     } else if is_above(&to, &centres) {
-        left_row(&from, &to, &centres)
+        row_of(&LeftSide { from, to }, &centres)
     } else {
         0
     }
@@ -63,25 +85,26 @@ pub fn turn_edge(from: Point, to: Point, top: Centres, rows: &mut [u64])
         → is_above from (row_below top k).first ≢ is_above to (row_below top k).first }
     ensures { AreTurned rows.old top (λ s. IsTrue (crosses_ray s (edge from to))) rows.new }
 {
-    if is_above(&from, &top) {
-        turn_left(&to, &from, &top, rows);
-    } else {
-        turn_left(&from, &to, &top, rows);
-    }
-}
-
-/// Turns over the bits of the centres strictly left of the line through two points, as it leads from the first to the
-/// second, in rows one below another from the top one.
-fn turn_left(from: &Point, to: &Point, top: &Centres, rows: &mut [u64])
-    requires from { IsOnBoard from.now }
-    requires to { IsOnBoard to.now }
-    requires rows { AreRows top.now (length rows.old) }
-    ensures { AreTurned rows.old top.now (λ s. pos 0 <ℤ cross (way from.now to.now) (seen_from from.now s)) rows.new }
-{
     if rows.is_empty() {
         return;
     }
-    HalfPlane::left(from, to, -1, top).turn(rows);
+    if is_above(&from, &top) {
+        turn_left(to, from, &top, rows);
+    } else {
+        turn_left(from, to, &top, rows);
+    }
+}
+
+/// Turns over the bits of the centres strictly left of the line from a point to a higher one, in rows one below another
+/// from the top one.
+fn turn_left(from: Point, to: Point, top: &Centres, rows: &mut [u64])
+    requires from { IsOnBoard from }
+    requires to { IsOnBoard to }
+    requires rises { from.y <ℤ to.y }
+    requires rows { AreRows top.now (length rows.old) }
+    ensures { AreTurned rows.old top.now (λ s. pos 0 <ℤ cross (way from to) (seen_from from s)) rows.new }
+{
+    change_rows(&LeftSide { from, to }, Change::Turn, top, rows);
 }
 
 /// Where the line from a point to a higher one crosses a height between them, rounded up: the places at that height
@@ -127,14 +150,4 @@ pub(crate) fn is_above(point: &Point, centres: &Centres) -> bool
     ensures { result ≡ is_above point.now centres.now.first }
 {
     centres.first.y < 2 * point.y
-}
-
-/// The row of the centres strictly left of the line through two points, as it leads from the first to the second.
-fn left_row(from: &Point, to: &Point, centres: &Centres) -> u64
-    requires from { IsOnBoard from.now }
-    requires to { IsOnBoard to.now }
-    requires row { IsRow centres.now }
-    ensures { Marks result centres.now (λ s. pos 0 <ℤ cross (way from.now to.now) (seen_from from.now s)) }
-{
-    positive_row(&across(from, to, centres), centres.count)
 }

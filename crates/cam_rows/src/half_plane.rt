@@ -1,14 +1,16 @@
 //! Half planes, row after row: the centres on one side of a line, by the sign of a number.
 
-ghost use Rattle.std.specs.Prelude.{◌≡◌, ◌^◌, ◌<◌, pos, ◌+ℤ◌, ◌-ℤ◌, ◌*ℤ◌, ◌≤ℤ◌};
+ghost use Rattle.std.specs.Prelude.{◌≡◌, ◌^◌, ◌<◌, ◌≤◌, pos, ◌+ℤ◌, ◌-ℤ◌, ◌*ℤ◌, ◌≤ℤ◌};
 ghost use Rattle.std.specs.Int.RustNames.{unsigned_abs};
 ghost use Rattle.cam_units.specs.Board.{IsOnBoard};
 ghost use Rattle.cam_shapes.specs.Plane.{cross, dot, seen_from, way};
-ghost use Rattle.cam_rows.specs.Machinery.HalfPlanes.{IsHalfPlaneOf};
+ghost use Rattle.cam_rows.specs.Machinery.HalfPlanes.{IsHalfPlaneOf, numbers_of};
+ghost use Rattle.cam_rows.specs.Machinery.Linear.{IsShortLinear};
 ghost use Rattle.cam_rows.specs.Rows.{IsRow};
 
 use crate::centres::Centres;
 use crate::linear::Linear;
+use crate::slope::Slope;
 use crate::way::{Way, across, along};
 use cam_units::Point;
 
@@ -54,19 +56,13 @@ impl HalfPlane {
         }
     }
 
-    /// All places where a number is not negative, and else none.
-    pub(crate) fn level(number: i128, top: &Centres) -> HalfPlane
-        requires short { unsigned_abs number < 2 }
-        requires row { IsRow top.now }
-        ensures { IsHalfPlaneOf top.now (λ s. pos 0 ≤ℤ number) result }
+    /// Its numbers, from the top row on.
+    pub(crate) fn slope(&self) -> Slope
+        requires row { IsShortLinear self.now.row }
+        requires down { unsigned_abs self.now.down < 2 ^ 100 }
+        requires few { self.now.count ≤ 64 }
+        ensures { result ≡ numbers_of self.now }
     {
-        HalfPlane {
-            row: Linear {
-                first: number,
-                step: 0,
-            },
-            down: 0,
-            count: top.count,
-        }
+        Slope::new(&self.row, self.down, self.count)
     }
 }

@@ -5,9 +5,24 @@ ghost use Rattle.cam_shapes.specs.Disc.{IsInHole, IsSoundDisc};
 ghost use Rattle.cam_rows.specs.Rows.{AreMarked, AreRows, IsRow, Marks};
 
 use crate::centres::Centres;
-use crate::chord::Chord;
-use crate::circle::circle_row;
+use crate::rows::{mark_rows, row_of};
+use crate::run_shape::RunShape;
+use crate::runs::hole::hole_runs;
 use cam_shapes::Disc;
+
+/// A disc without its edge.
+#[derive(Clone, Copy)]
+struct Hole(Disc);
+
+impl RunShape for Hole {
+    ghost is_sound = { λ h. IsSoundDisc h.0 };
+
+    ghost holds = { λ h s. IsInHole s h.0 };
+
+    fn runs(&self, top: &Centres, firsts: &mut [u32], ends: &mut [u32]) {
+        hole_runs(&self.0, top, firsts, ends);
+    }
+}
 
 /// The centres in a disc, but not on its edge: one run, or none where the row lies above or below the disc or touches
 /// it, or its diameter is 0. Bit i is that of centre i, from the left; the diameter is in nanometres, the centres in
@@ -17,11 +32,7 @@ pub fn hole_row(disc: Disc, centres: Centres) -> u64
     requires row { IsRow centres }
     ensures { Marks result centres (λ s. IsInHole s disc) }
 {
-    let radius = disc.diameter.0 as u64;
-    if centres.height_over(&disc.centre) >= radius {
-        return 0;
-    }
-    circle_row(&disc.centre, u128::from(radius * radius), &centres)
+    row_of(&Hole(disc), &centres)
 }
 
 /// The rows of a hole, one below another from the top one: each is that of [`hole_row`].
@@ -30,11 +41,5 @@ pub fn hole_rows(disc: Disc, top: Centres, rows: &mut [u64])
     requires rows { AreRows top (length rows.old) }
     ensures { AreMarked rows.new top (λ s. IsInHole s disc) }
 {
-    if rows.is_empty() {
-        return;
-    }
-    let mut chord = Chord::about(&disc.centre, &top);
-    for (k, row) in rows.iter_mut().enumerate() {
-        *row = chord.hole_row(&disc, &top.below(k));
-    }
+    mark_rows(&Hole(disc), &top, rows);
 }

@@ -1,25 +1,24 @@
 //! Rows of up to 64 pixel centres of a shape, found at once in place of 64 point tests.
 //!
 //! A shape's row has bit i set exactly where the point test of `cam_shapes` holds at centre i of [`Centres`]; bits
-//! behind the last centre are 0. None of them rounds, and no call takes memory. Runs end where a division tells, and
-//! those of a single row of a disc or an obround by half a chord, which is a root; where the row lies above or below a
-//! disc, a rectangle or an obround, it is 0 before any division or root.
+//! behind the last centre are 0. None of them rounds, and no call takes memory.
 //!
-//! Each shape has a second call, such as [`disc_rows`], for rows one below another, which finds once what they share.
-//! A bar is what four half planes keep of full rows, one after another: those across its ends, and those of its long
-//! edges, whose distance is one root. A capsule is a bar to which the discs about its ends are added, an arc what its
-//! sweep and its ring keep, with such discs, and a cap what its side and its circle keep. The stroke of a rectangle is
-//! what two half planes keep of the box of its ends, with no root; along an axis it is the box.
-//!
-//! In wide rows a bar's half planes narrow runs of columns in place of bits, with no work for a column. An arc is three
-//! runs a row and the discs about its ends: a chord of its outer circle, narrowed to a sweep of at most a half turn,
-//! without a chord of its inner circle and without what a wider sweep leaves out.
+//! The places of a shape in a row of centres are a few runs of columns side by side, in rows of up to 32,768 centres:
+//! that of a disc is a chord, that of a rectangle is between its sides, and each half plane narrows runs at one end, with
+//! no work for a column. A bar is narrowed by four half planes: those across its ends, and those of its long edges, whose
+//! distance is one root. The stroke of a rectangle is narrowed from the box of its ends by two half planes, with no root;
+//! along an axis it is the box. A cap is narrowed from its circle by the side of its chord. An arc is three runs a row and
+//! the discs about its ends: a chord of its outer circle, narrowed to a sweep of at most a half turn, without a chord of
+//! its inner circle and without what a wider sweep leaves out.
 //!
 //! Where the line of a half plane crosses the rows moves by a quotient and a remainder from each to the next, and the
-//! ends of a chord are found by a walk from those of the row above: with no root and no division for a row. Where the
-//! line crosses none of them, all are changed alike.
+//! ends of a chord are found by a walk from those of the row above: with no root and no division for a row.
 //!
-//! - [`disc_row`], [`rect_row`], [`obround_row`], [`hole_row`]: the standard apertures and their holes, one run each.
+//! The bits of a row are those of its runs: they are set, cleared or turned over by one shape after another, 64 rows at
+//! once. A capsule is a bar to which the discs about its ends are added.
+//!
+//! - [`disc_row`], [`rect_row`], [`obround_row`], [`hole_row`]: the standard apertures and their holes; each shape has a
+//!   second call, such as [`disc_rows`], for rows one below another.
 //! - [`bar_row`]: a line of a macro; [`capsule_row`], [`arc_row`]: the strokes of a round tool; [`swept_row`]: that of
 //!   a rectangle.
 //! - [`edge_row`], [`cap_row`]: parts of a region; [`turn_edge`] turns over what an edge of it changes, [`edge_end`]
@@ -49,7 +48,6 @@ mod disc;
 mod edge;
 mod half_plane;
 mod hole;
-mod keeping;
 mod lanes;
 mod laws;
 mod linear;
@@ -58,6 +56,8 @@ mod obround;
 mod offsets;
 mod rect;
 mod ring;
+mod rows;
+mod run_shape;
 mod runs;
 mod slope;
 mod sweep;

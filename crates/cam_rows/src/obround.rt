@@ -7,8 +7,20 @@ ghost use Rattle.cam_rows.specs.Rows.{AreMarked, AreRows, IsRow, Marks};
 
 use crate::centres::Centres;
 use crate::circle::half_chord;
-use crate::runs::run_about;
+use crate::rows::{mark_rows, row_of};
+use crate::run_shape::RunShape;
+use crate::runs::obround::obround_runs;
 use cam_shapes::Obround;
+
+impl RunShape for Obround {
+    ghost is_sound = { IsSoundObround };
+
+    ghost holds = { λ o s. IsInObround s o };
+
+    fn runs(&self, top: &Centres, firsts: &mut [u32], ends: &mut [u32]) {
+        obround_runs(self, top, firsts, ends);
+    }
+}
 
 /// The centres in an obround or on its edge: one run, or none where the row lies above or below it, or a side is 0.
 /// Bit i is that of centre i, from the left; the sides are in nanometres, the centres in half nanometres.
@@ -17,23 +29,7 @@ pub fn obround_row(obround: Obround, centres: Centres) -> u64
     requires row { IsRow centres }
     ensures { Marks result centres (λ s. IsInObround s obround) }
 {
-    let Obround {
-        centre,
-        width,
-        height,
-    } = obround;
-    if width.0 == 0 || height.0 == 0 {
-        return 0;
-    }
-    let over = centres.height_over(&centre);
-    if over > height.0 as u64 {
-        return 0;
-    }
-    run_about(
-        &centre,
-        reach_at(over, width.0 as u64, height.0 as u64),
-        &centres,
-    )
+    row_of(&obround, &centres)
 }
 
 /// The rows of an obround, one below another from the top one: each is that of [`obround_row`].
@@ -42,9 +38,7 @@ pub fn obround_rows(obround: Obround, top: Centres, rows: &mut [u64])
     requires rows { AreRows top (length rows.old) }
     ensures { AreMarked rows.new top (λ s. IsInObround s obround) }
 {
-    for (k, row) in rows.iter_mut().enumerate() {
-        *row = obround_row(obround, top.below(k));
-    }
+    mark_rows(&obround, &top, rows);
 }
 
 /// How far an obround of these sides reaches to the left and to the right of its centre, so far over it: half its

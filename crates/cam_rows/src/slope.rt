@@ -3,17 +3,13 @@
 mod counting;
 mod narrowing;
 
-ghost use Rattle.std.specs.Prelude.{◌≡◌, ◌-◌, ◌^◌, ◌/◌, ◌<◌, ◌≤◌, ◌↔◌, IsTrue, ℕ, length, pos, ◌+ℤ◌, ◌*ℤ◌, ◌≤ℤ◌, ◌<ℤ◌};
-ghost use Rattle.std.specs.Int.{IsBitSet};
+ghost use Rattle.std.specs.Prelude.{◌≡◌, ◌^◌, ◌/◌, ◌<◌, ◌≤◌, ◌↔◌, IsTrue, ℕ, pos, ◌+ℤ◌, ◌*ℤ◌, ◌≤ℤ◌, ◌<ℤ◌};
 ghost use Rattle.std.specs.Int.RustNames.{unsigned_abs};
-ghost use Rattle.cam_rows.specs.Machinery.Changes.{AreChanged, AreChangedAbove, IsNatural};
 ghost use Rattle.cam_rows.specs.Machinery.Forms.{in_form};
 ghost use Rattle.cam_rows.specs.Machinery.Linear.{IsShortLinear};
-ghost use Rattle.cam_rows.specs.Machinery.Slopes.{IsBeside, IsDivisor, IsRest, lowered, number_on, numbers, whole};
+ghost use Rattle.cam_rows.specs.Machinery.Slopes.{IsDivisor, IsRest, lowered, numbers, whole};
 ghost use Rattle.cam_rows.specs.declared.slope.Side.TheVariants.{Level};
 
-use crate::bits::bits_between;
-use crate::keeping::Change;
 use crate::linear::Linear;
 use std::marker::Model;
 
@@ -113,69 +109,9 @@ impl Slope {
             form: LongSlope::new(row, down, count).into_form(),
         }
     }
-
-    /// The row of the centres at which the number is not negative.
-    #[inline]
-    pub(crate) fn row(&self) -> u64
-        ensures { (i : ℕ) → i < 64
-            → IsBitSet result i ↔ ((i < self.now.count) × (pos 0 ≤ℤ number_on self.now i)) }
-    {
-        match &self.form {
-            Form::Short(slope) => slope.row(),
-            Form::Long(slope) => slope.row(),
-        }
-    }
-
-    /// Goes to the next row.
-    #[inline]
-    pub(crate) fn step_down(&mut self)
-        requires here { unsigned_abs self.old.first < 2 ^ 100 }
-        ensures { self.new ≡ lowered 1 self.old }
-    {
-        let mut longer = match &mut self.form {
-            Form::Short(slope) => {
-                if slope.step_down() {
-                    return;
-                }
-                slope.widened()
-            }
-            Form::Long(slope) => {
-                slope.step_down();
-                return;
-            }
-        };
-        longer.step_down();
-        self.form = Form::Long(longer);
-    }
-
-    /// Changes rows, one below another from its own on, at the centres at which the number is not negative.
-    pub(crate) fn change(self, change: Change, rows: &mut [u64])
-        requires { (k : ℕ) → k < length rows.old → unsigned_abs (lowered k self).first < 2 ^ 100 }
-        ensures { AreChanged change rows.old (IsNatural self) rows.new }
-    {
-        let (done, mut slope) = match self.form {
-            Form::Short(slope) => slope.change(change, rows),
-            Form::Long(slope) => (0, slope),
-        };
-        for k in done..rows.len() {
-            if k > 0 {
-                slope.step_down();
-            }
-            rows[k] = change.of(rows[k], slope.row());
-        }
-    }
 }
 
 impl ShortSlope {
-    /// The row of the centres at which the number is not negative.
-    #[inline]
-    fn row(&self) -> u64
-        ensures { (i : ℕ) → i < 64
-            → IsBitSet result i ↔ ((i < self.now.count) × (pos 0 ≤ℤ number_on self.now i)) }
-    {
-        bits_beside(self.side, self.end, self.count)
-    }
-
     /// Goes to the next row, unless the end of its run may not fit 64 bits.
     #[inline]
     fn step_down(&mut self) -> bool
@@ -192,22 +128,6 @@ impl ShortSlope {
             self.end += 1;
         }
         true
-    }
-
-    /// Changes rows, one below another from its own on, at the centres at which the number is not negative: up to one
-    /// below which it may not fit. It tells how many, and the slope at the last of them.
-    fn change(mut self, change: Change, rows: &mut [u64]) -> (usize, LongSlope)
-        ensures within { result.0 ≤ length rows.old }
-        ensures changed { AreChangedAbove change rows.old (IsNatural self) result.0 rows.new }
-        ensures slope { result.0 < length rows.old → result.1 ≡ lowered (result.0 - 1) self }
-    {
-        for k in 0..rows.len() {
-            rows[k] = change.of(rows[k], self.row());
-            if !self.step_down() {
-                return (k + 1, self.widened());
-            }
-        }
-        (rows.len(), self.widened())
     }
 
     /// The same numbers, in 128 bits.
@@ -287,14 +207,6 @@ impl LongSlope {
         })
     }
 
-    /// The row of the centres at which the number is not negative.
-    fn row(&self) -> u64
-        ensures { (i : ℕ) → i < 64
-            → IsBitSet result i ↔ ((i < self.now.count) × (pos 0 ≤ℤ number_on self.now i)) }
-    {
-        bits_beside(self.side, near_end(self.end), self.count)
-    }
-
     /// Goes to the next row.
     fn step_down(&mut self)
         requires here { unsigned_abs self.old.first < 2 ^ 100 }
@@ -307,36 +219,6 @@ impl LongSlope {
             self.end += 1;
         }
     }
-}
-
-/// The centres of a row on one side of the end of a run.
-#[inline]
-fn bits_beside(side: Side, end: i64, count: u32) -> u64
-    requires few { count ≤ 64 }
-    ensures { (i : ℕ) → i < 64 → IsBitSet result i ↔ ((i < count) × IsBeside side end i) }
-{
-    let all = bits_between(0, count);
-    let run = bits_up_to(end);
-    match side {
-        Side::Left => all & run,
-        Side::Right => all & !run,
-        Side::Level if end >= 0 => all,
-        Side::Level => 0,
-    }
-}
-
-/// The run of centres from the left up to the centre `end`.
-#[inline]
-fn bits_up_to(end: i64) -> u64
-    ensures { (i : ℕ) → i < 64 → IsBitSet result i ↔ (pos i ≤ℤ end) }
-{
-    if end < 0 {
-        return 0;
-    }
-    if end >= 63 {
-        return u64::MAX;
-    }
-    u64::MAX >> (63 - end as u32)
 }
 
 /// An end on the same side of each centre of a row, however wide.

@@ -1,18 +1,28 @@
 //! Rows of the strokes of rectangles.
 
-ghost use Rattle.std.specs.Prelude.{◌≡◌, ◌^◌, ◌<◌, ◌≤ℤ◌, length};
+ghost use Rattle.std.specs.Prelude.{◌≡◌, ◌^◌, ◌<◌, length};
 ghost use Rattle.std.specs.Int.RustNames.{unsigned_abs};
-ghost use Rattle.cam_units.specs.Boxes.{IsBetween as IsInBox};
 ghost use Rattle.cam_shapes.specs.Plane.{way};
 ghost use Rattle.cam_shapes.specs.Swept.{IsInSwept, IsSoundSwept, corner_reach, high_corner, low_corner};
 ghost use Rattle.cam_rows.specs.Rows.{AreMarked, AreRows, IsRow, Marks};
 
-use crate::beside::keep_near_line;
 use crate::centres::Centres;
-use crate::runs::{Strip, run_between};
+use crate::rows::{mark_rows, row_of};
+use crate::run_shape::RunShape;
+use crate::runs::swept::swept_runs;
 use crate::way::Way;
 use cam_shapes::Swept;
 use cam_units::Spot;
+
+impl RunShape for Swept {
+    ghost is_sound = { IsSoundSwept };
+
+    ghost holds = { λ w s. IsInSwept s w };
+
+    fn runs(&self, top: &Centres, firsts: &mut [u32], ends: &mut [u32]) {
+        swept_runs(self, top, firsts, ends);
+    }
+}
 
 /// The centres in the stroke of a rectangle along a straight line, or on its edge: those in the box of both ends,
 /// widened by the sides, that are no farther from the line than the rectangle's corners; none where a side is 0. Bit i
@@ -22,9 +32,7 @@ pub fn swept_row(swept: Swept, centres: Centres) -> u64
     requires row { IsRow centres }
     ensures { Marks result centres (λ s. IsInSwept s swept) }
 {
-    let mut rows = [0];
-    swept_rows(swept, centres, &mut rows);
-    rows[0]
+    row_of(&swept, &centres)
 }
 
 /// The rows of the stroke of a rectangle, one below another from the top one: each is that of [`swept_row`].
@@ -33,61 +41,7 @@ pub fn swept_rows(swept: Swept, top: Centres, rows: &mut [u64])
     requires rows { AreRows top (length rows.old) }
     ensures { AreMarked rows.new top (λ s. IsInSwept s swept) }
 {
-    let Swept {
-        from,
-        to,
-        width,
-        height,
-    } = swept;
-    if rows.is_empty() {
-        return;
-    }
-    if width.0 == 0 || height.0 == 0 {
-        rows.fill(0);
-        return;
-    }
-    fill_box(&swept, &top, rows);
-    // along an axis, the stroke is the box
-    if from.x == to.x || from.y == to.y {
-        return;
-    }
-    keep_near_line(&from, &to, corner_reach(&swept), &top, rows);
-}
-
-/// The rows of the box of both ends, widened by the sides, one below another from the top one: the same run in each
-/// that crosses it.
-fn fill_box(swept: &Swept, top: &Centres, rows: &mut [u64])
-    requires swept { IsSoundSwept swept.now }
-    requires rows { AreRows top.now (length rows.old) }
-    ensures { AreMarked rows.new top.now (λ s. IsInBox (low_corner swept.now) (high_corner swept.now) s) }
-{
-    if rows.is_empty() {
-        return;
-    }
-    let low = low_corner(swept);
-    let high = high_corner(swept);
-    let strip = Strip {
-        left: low.x,
-        right: high.x,
-    };
-    let run = run_between(&strip, top);
-    for (k, row) in rows.iter_mut().enumerate() {
-        *row = run_across(run, &low, &high, &top.below(k));
-    }
-}
-
-/// A run of the centres between the sides of a box, where their row crosses it.
-fn run_across(run: u64, low: &Spot, high: &Spot, centres: &Centres) -> u64
-    requires { Marks run centres.now (λ s. (low.now.x ≤ℤ s.x) × (s.x ≤ℤ high.now.x)) }
-    ensures { Marks result centres.now (λ s. IsInBox low.now high.now s) }
-{
-    if centres.first.y < low.y {
-        return 0;
-    }
-    if high.y < centres.first.y {
-        return 0;
-    }
-    run
+    mark_rows(&swept, &top, rows);
 }
 
 /// The left lower corner of the box of both ends, widened by the sides.

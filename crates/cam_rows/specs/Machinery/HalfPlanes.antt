@@ -1,22 +1,17 @@
 -- Half planes, row after row: the centres at which a number is not negative.
-use Rattle.std.specs.Prelude.{◌↔◌, ℕ, ◌^◌, ◌<◌, ◌≤◌, pos, ◌≤ℤ◌}
+use Rattle.std.specs.Prelude.{◌↔◌, ℕ, ◌^◌, ◌<◌, ◌≤◌}
 use Rattle.std.specs.Int.RustNames.{unsigned_abs}
 use Rattle.cam_units.specs.declared.point.Spot.{Spot}
 use Rattle.cam_rows.specs.declared.centres.Centres.{Centres}
 use Rattle.cam_rows.specs.declared.half_plane.HalfPlane.{HalfPlane}
-use Rattle.cam_rows.specs.Machinery.Kept.{Has}
 use Rattle.cam_rows.specs.Machinery.Linear.{IsShortLinear}
-use Rattle.cam_rows.specs.Machinery.Slopes.{Sloped, lowered, number_on}
+use Rattle.cam_rows.specs.Machinery.Slopes.{Sloped, lowered}
 use Rattle.cam_rows.specs.Machinery.Narrowing.{IsUp}
 use Rattle.cam_rows.specs.Rows.{AreRows, centre_at, row_below}
 
 -- its numbers
 abbrev pub numbers_of : HalfPlane → Sloped
 numbers_of h = record { first = h.row.first; step = h.row.step; down = h.down; count = h.count }
-
--- it holds centre i of the row that lies k steps below the top one
-abbrev pub HasCentre : HalfPlane → ℕ → ℕ → Type 0
-HasCentre h k i = (i < h.count) × (pos 0 ≤ℤ number_on (lowered k (numbers_of h)) i)
 
 -- its numbers fit 128 bits, in each of so many rows
 pub record IsShortIn (n : ℕ) (h : HalfPlane) : Type 0 where
@@ -25,8 +20,7 @@ pub record IsShortIn (n : ℕ) (h : HalfPlane) : Type 0 where
   pub few : h.count ≤ 64
   pub rows : (k : ℕ) → k < n → unsigned_abs (lowered k (numbers_of h)).first < 2 ^ 100
 
--- in rows from the top one on, it holds the centres in a shape, and those behind the last one by their numbers, and fits
+-- in rows from the top one on, it holds the places in a shape by their numbers, and fits
 pub record IsHalfPlaneOf (top : Centres) (IsIn : Spot → Type 0) (h : HalfPlane) : Type 0 where
-  pub has : (k i : ℕ) → HasCentre h k i ↔ Has top IsIn k i
   pub tells : (k i : ℕ) → IsUp (numbers_of h) k i ↔ IsIn (centre_at (row_below top k) i)
   pub short : (n : ℕ) → AreRows top n → IsShortIn n h

@@ -8,5 +8,5 @@ returns-else-is_above-2 c = λ i h.
     let same =
     left_of_reverse (centre_at c.args.centres i) c.args.from c.args.to
     (sym c.is_above.ensures ∙ c.if-is_above.true) (sym c.is_above-then-is_above.ensures ∙ c.if-is_above-2.false) in
-    let row = c.left_row.ensures i h in
+    let row = c.row_of.ensures i h in
     ((λ set. ((row.0 set).0, same.0 (row.0 set).1)), (λ p. row.1 (p.0, same.1 p.1)))

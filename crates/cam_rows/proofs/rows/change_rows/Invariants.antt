@@ -1,0 +1,12 @@
+use Rattle.std.proofs.Common.{◌+◌, ◌*◌}
+use Rattle.cam_rows.specs.Machinery.Changes.{Has}
+use Rattle.cam_rows.proofs.ChangedRows.{AreChangedAbove}
+use Rattle.cam_rows.proofs.rows.change_rows.Given as goal
+
+abbrev pub invariant-loop-block : goal.invariant-loop-block
+invariant-loop-block g l =
+    AreChangedAbove l.change l.fn.rows (Has l.top (g.S.RunShape.holds l.shape)) l.rows (64 * l.block)
+
+abbrev pub invariant-loop-k : goal.invariant-loop-k
+invariant-loop-k g l =
+    AreChangedAbove l.change l.fn.rows (Has l.top (g.S.RunShape.holds l.shape)) l.rows (l.first + l.k)
