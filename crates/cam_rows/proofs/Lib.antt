@@ -18,6 +18,7 @@ pub mod EdgeSides
 pub mod EitherRows
 pub mod EqualRows
 pub mod Falls
+pub mod FarPlaces
 pub mod Gaps
 pub mod HalfPlanes
 pub mod JoinedLanes
@@ -29,6 +30,7 @@ pub mod MissedDiscs
 pub mod NarrowedRuns
 pub mod OneRow
 pub mod Opposites
+pub mod PartRuns
 pub mod Quarters
 pub mod Quotients
 pub mod RingRows
