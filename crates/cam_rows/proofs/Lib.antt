@@ -13,6 +13,7 @@ pub mod Columns
 pub mod CountedRuns
 pub mod EdgeEnds
 pub mod EdgeSides
+pub mod FarPlaces
 pub mod Gaps
 pub mod HalfPlanes
 pub mod JoinedLanes
@@ -22,6 +23,7 @@ pub mod MarkedRows
 pub mod MissedDiscs
 pub mod NarrowedRuns
 pub mod OneRow
+pub mod PartRuns
 pub mod Quarters
 pub mod Quotients
 pub mod Rings

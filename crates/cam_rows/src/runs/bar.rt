@@ -1,13 +1,18 @@
 //! Runs of bars.
 
-ghost use Rattle.std.specs.Prelude.{◌≡◌, length};
+ghost use Rattle.std.specs.Prelude.{◌≡◌, ◌↔◌, ◌<◌, ◌≤◌, ℕ, length};
+ghost use Rattle.cam_units.specs.Board.{IsOnBoard, IsSize};
 ghost use Rattle.cam_shapes.specs.Bar.{IsInBar, IsSoundBar};
-ghost use Rattle.cam_rows.specs.Runs.{AreRuns, AreWideRows};
+ghost use Rattle.cam_rows.specs.Machinery.Beside.{IsFar, IsFarOrAhead};
+ghost use Rattle.cam_rows.specs.Machinery.Narrowing.{AreNarrowed};
+ghost use Rattle.cam_rows.specs.Rows.{centre_at, row_below};
+ghost use Rattle.cam_rows.specs.Runs.{AreRuns, AreWideRows, IsInRun};
 
 use crate::beside::reach_of;
 use crate::centres::Centres;
 use crate::half_plane::HalfPlane;
 use cam_shapes::Bar;
+use cam_units::Point;
 
 /// The runs of a bar in wide rows, one below another from the top one: the columns in it or on its edge, none where its
 /// width or its length is 0. A run goes from its first column on and before its end; the width and the ends of the bar
@@ -30,6 +35,60 @@ pub fn bar_runs(bar: &Bar, top: &Centres, firsts: &mut [u32], ends: &mut [u32])
     let left = top.leftmost();
     HalfPlane::left(&from, &to, reach, &left).narrow(top.count, firsts, ends);
     HalfPlane::left(&to, &from, reach, &left).narrow(top.count, firsts, ends);
-    HalfPlane::ahead(&from, &to, &left).narrow(top.count, firsts, ends);
-    HalfPlane::ahead(&to, &from, &left).narrow(top.count, firsts, ends);
+    narrow_ahead(&from, &to, bar.width.0, top, firsts, ends);
+    narrow_ahead(&to, &from, bar.width.0, top, firsts, ends);
+}
+
+/// Narrows runs of wide rows, one below another from the top one, to the places ahead of a point or beside it, as one
+/// looks from there to another one: but not in the rows that lie `width` or more above or below the point, on the side
+/// of the other one, since there all that is at most `width` from the line through both is ahead.
+fn narrow_ahead(
+    from: &Point,
+    to: &Point,
+    width: i64,
+    top: &Centres,
+    firsts: &mut [u32],
+    ends: &mut [u32],
+)
+    requires from { IsOnBoard from.now }
+    requires to { IsOnBoard to.now }
+    requires width { IsSize width }
+    requires some { 0 < length firsts.old }
+    requires rows { AreWideRows top.now (length firsts.old) }
+    requires ends { length ends.old ≡ length firsts.old }
+    ensures { AreNarrowed top.now.count firsts.old ends.old
+        (λ k i. IsFarOrAhead from.now to.now width (centre_at (row_below top.now k) i)) (length firsts.old)
+        firsts.new ends.new }
+{
+    let (first, end) = rows_not_far(from, to, width, top, firsts.len());
+    if end <= first {
+        return;
+    }
+    HalfPlane::ahead(from, to, &top.wide_below(first).leftmost()).narrow(
+        top.count,
+        &mut firsts[first..end],
+        &mut ends[first..end],
+    );
+}
+
+/// The first of some wide rows, one below another from the top one, whose height does not tell that what is near the
+/// line from a point to another one is ahead of it, and the row behind the last of them.
+fn rows_not_far(from: &Point, to: &Point, width: i64, top: &Centres, rows: usize) -> (usize, usize)
+    requires from { IsOnBoard from.now }
+    requires to { IsOnBoard to.now }
+    requires width { IsSize width }
+    requires some { 0 < rows }
+    requires rows { AreWideRows top.now rows }
+    ensures each { (k : ℕ) → k < rows
+        → IsInRun result.0 result.1 k ↔ (IsFar from.now to.now width (row_below top.now k).first → ⊥) }
+    ensures within { result.1 ≤ rows }
+{
+    let start = 2 * from.y;
+    if from.y < to.y {
+        return (top.rows_above(start + width, rows), rows);
+    }
+    if from.y > to.y {
+        return (0, top.rows_above(start - width + 1, rows));
+    }
+    (0, rows)
 }

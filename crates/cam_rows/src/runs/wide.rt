@@ -85,6 +85,20 @@ impl Centres {
         gap.div_ceil(step) as u32
     }
 
+    /// How many of some rows, one below another from this one, lie as high as `height` or higher, by one division.
+    pub(crate) fn rows_above(&self, height: i64, rows: usize) -> usize
+        requires row { IsWideRow self.now }
+        requires short { unsigned_abs height < 2 ^ 62 }
+        ensures each { (k : ℕ) → k < rows → (k < result) ↔ (height ≤ℤ (row_below self.now k).first.y) }
+        ensures within { result ≤ rows }
+    {
+        let fall = self.first.y - height;
+        if fall < 0 {
+            return 0;
+        }
+        (fall as u64 / self.step as u64 + 1).min(rows as u64) as usize
+    }
+
     /// The run of the columns in a strip.
     pub(crate) fn columns_in(&self, strip: &Strip) -> Run
         requires row { IsWideRow self.now }

@@ -1,0 +1,85 @@
+use Rattle.std.proofs.Common.{◌≡◌, ◌↔◌, ℕ, ◌+◌, ◌-◌, ◌<◌, ◌∙◌, length, to_z, of_z, inl, inr, arith}
+use Rattle.std.specs.Int.{w64}
+use Rattle.std.proofs.lemmas.Int.{ints}
+use Rattle.cam_rows.specs.Machinery.Beside.{IsFar, IsFarOrAhead}
+use Rattle.cam_rows.specs.Machinery.HalfPlanes.{numbers_of}
+use Rattle.cam_rows.specs.Machinery.Narrowing.{IsUp}
+use Rattle.cam_rows.specs.Rows.{centre_at, row_below}
+use Rattle.cam_rows.specs.Runs.{IsInRun}
+use Rattle.cam_rows.proofs.BesideWays.{IsAhead}
+use Rattle.cam_rows.proofs.FarPlaces.{far_by_row, ahead_by_row}
+use Rattle.cam_rows.proofs.PartRuns.{none_narrowed, part_length, part_narrowed, part_rows, told_below}
+use Rattle.cam_rows.proofs.WideRows.{leftmost_rows, top_is_wide}
+use Rattle.cam_rows.proofs.runs.bar.narrow_ahead.Goals as goal
+use Rattle.cam_rows.proofs.runs.bar.narrow_ahead.Goals.{After-rows_not_far-first}
+
+-- the width, as it is passed
+kept_width : (c : After-rows_not_far-first) → to_z w64 (of_z w64 c.args.width) ≡ c.args.width
+kept_width c = omega (arith, ints, c.requires.width)
+
+not_far : (c : After-rows_not_far-first) (k : ℕ) → k < length c.args.firsts.now
+    → IsInRun c.rows_not_far-first.result.0 c.rows_not_far-first.result.1 k
+    ↔ (IsFar c.args.from.now c.args.to.now c.args.width (row_below c.args.top.now k).first → ⊥)
+not_far c = rw (kept_width c) at c.rows_not_far-first.ensures.each
+
+pub returns-then-end-first : goal.returns-then-end-first
+returns-then-end-first c =
+    none_narrowed c.args.top.now.count c.args.firsts.now c.args.ends.now _
+    (λ k i within. far_by_row c.args.from.now c.args.to.now c.args.width c.args.top.now k i _ _
+    (not_far (goal.at.returns-then-end-first c).After-rows_not_far-first k within) (λ on. omega (arith, on.0, on.1, c.if-end-first.true)))
+
+pub wide_below-requires-clause-top : goal.wide_below-requires-clause-top
+wide_below-requires-clause-top c =
+    top_is_wide c.args.top.now (length c.args.firsts.now) c.requires.some c.requires.rows
+
+pub wide_below-requires-clause-row : goal.wide_below-requires-clause-row
+wide_below-requires-clause-row c =
+    c.requires.rows c.rows_not_far-first.result.0
+    (omega (arith, c.if-end-first.false, c.rows_not_far-first.ensures.within))
+
+pub leftmost-requires : goal.leftmost-requires
+leftmost-requires c =
+    rw c.wide_below.ensures (c.requires.rows c.rows_not_far-first.result.0
+    (omega (arith, c.if-end-first.false, c.rows_not_far-first.ensures.within)))
+
+pub narrow-requires-clause-short : goal.narrow-requires-clause-short
+narrow-requires-clause-short c =
+    let first = c.rows_not_far-first.result.0 in
+    let end = c.rows_not_far-first.result.1 in
+    let within = c.rows_not_far-first.ensures.within in
+    c.ahead.ensures.short _
+    (leftmost_rows c.wide_below.result c.leftmost.result (end - first) _ c.leftmost.ensures.value
+    (part_length first end c.args.firsts.now (omega (arith, c.if-end-first.false)) within)
+    (rw c.wide_below.ensures (part_rows c.args.top.now first (end - first) (length c.args.firsts.now)
+    (omega (arith, within, c.if-end-first.false)) c.requires.rows)))
+
+pub narrow-requires-clause-few : goal.narrow-requires-clause-few
+narrow-requires-clause-few c =
+    (top_is_wide c.args.top.now (length c.args.firsts.now) c.requires.some c.requires.rows).count.1
+
+pub returns : goal.returns
+returns c =
+    let top = c.args.top.now in
+    let from = c.args.from.now in
+    let to = c.args.to.now in
+    let first = c.rows_not_far-first.result.0 in
+    let end = c.rows_not_far-first.result.1 in
+    let within = c.rows_not_far-first.ensures.within in
+    let some : first < end = omega (arith, c.if-end-first.false) in
+    let size = part_length first end c.args.firsts.now some within in
+    let size_ends = part_length first end c.args.ends.now some (omega (arith, within, c.requires.ends)) in
+    let near = not_far (goal.at.returns c).After-rows_not_far-first in
+    let tells = rw c.leftmost.ensures.value at c.ahead.ensures.tells in
+    part_narrowed top.count first end c.args.firsts.now c.args.ends.now c.narrow.new.firsts c.narrow.new.ends
+    (IsUp (numbers_of c.ahead.result)) (λ k i. IsFarOrAhead from to c.args.width (centre_at (row_below top k) i))
+    some within c.requires.ends (c.narrow.auto.firsts ∙ size) (c.narrow.auto.ends ∙ size_ends)
+    (rw size at c.narrow.ensures)
+    (λ k i inside. ahead_by_row from to c.args.width top (first + k) i _ _ _
+    (near (first + k) (omega (arith, inside, within)))
+    (omega arith, omega (arith, inside))
+    (told_below top c.wide_below.result first k i _ (IsAhead from to) c.wide_below.ensures (tells k i)))
+    (λ k i there off. far_by_row from to c.args.width top k i _ _ (near k there)
+    (λ on. elim off [
+      | inl early ↦ absurd (omega (arith, early, on.0))
+      | inr late ↦ absurd (omega (arith, late, on.1))
+    ]))
