@@ -173,7 +173,8 @@ impl Mask {
         }
     }
 
-    /// Joins the marks with runs of columns, in rows of which the grid begins at a column.
+    /// Joins the marks with runs of columns, in rows of which the grid begins at a column. Of a long slanted stroke most
+    /// runs do not reach the grid, and are passed over.
     pub(crate) fn join_runs(&mut self, runs: &Runs, column: u32, how: Join)
         requires near { column < most_columns }
         requires fits { Fits self.old.grid.rows runs.now }
@@ -185,13 +186,18 @@ impl Mask {
         if runs.columns.end <= column {
             return;
         }
-        if column + columns <= runs.columns.first {
+        let past = column + columns;
+        if past <= runs.columns.first {
             return;
         }
         for row in runs.band.first..runs.band.end {
             let k = row as usize;
-            let marks = run_row(runs.firsts[k], runs.ends[k], column, columns);
-            self.rows[k] = how.join_row(self.rows[k], marks);
+            let first = runs.firsts[k];
+            let end = runs.ends[k];
+            if column < end && first < past {
+                let marks = run_row(first, end, column, columns);
+                self.rows[k] = how.join_row(self.rows[k], marks);
+            }
         }
     }
 

@@ -1,8 +1,16 @@
-use Rattle.std.proofs.Common.{◌≡◌, ◌+◌, ◌<◌, ◌≤◌, ap, sym, ◌∙◌, inl, inr, rules, arith}
+use Rattle.std.proofs.Common.{◌≡◌, ◌+◌, ◌<◌, ◌≤◌, ap, sym, ◌∙◌, inl, inr, subst, rules, arith}
 use Rattle.cam_apertures.proofs.Painting.{through}
+use Rattle.cam_tiles.specs.declared.masks.mask.Mask.TheInside.{Inside}
+use Rattle.cam_tiles.specs.Machinery.Masks.{HoldsCentres}
 use Rattle.cam_tiles.specs.Machinery.Runs.{HasColumn}
-use Rattle.cam_tiles.proofs.JoinedMarks.{all_joined_at, joined_none, joined_with, next_row_at}
+use Rattle.cam_tiles.proofs.JoinedMarks.{AreJoinedAt, all_joined_at, joined_none, joined_with, next_row_at, same_row_at}
 use Rattle.cam_tiles.proofs.RunColumns.{in_band}
+use Rattle.cam_tiles.proofs.masks.mask.Mask.join_runs.Goals.{
+  then-column-end+then-first-past,
+  else-column-end,
+  else-column-end-via-then-column-end+else-first-past,
+  else-column-end-via-else-column-end,
+}
 use Rattle.cam_tiles.proofs.masks.mask.Mask.join_runs.Goals as goal
 
 pub loop-row-preserved : goal.loop-row-preserved
@@ -10,20 +18,42 @@ loop-row-preserved c =
     let inside = c.loop-row.self-inside in
     let row = c.loop-row.row in
     let runs = c.args.runs.now in
+    let column = c.args.column in
     let before = c.loop-row.invariant.rows in
     let same : c.self.inside.grid ≡ inside.grid = ap (λ m. m.grid) c.self.view_is ∙ sym before.grid in
     let after : runs.band.first ≤ row = omega arith in
     let until : row < runs.band.end = omega arith in
     let below : row < inside.grid.rows = rw before.grid (omega (arith, c.requires.fits.low, until)) in
-    record {
-      rows = next_row_at c.args.how (λ i k. HasColumn runs k (c.args.column + i)) c.args.self.now _ runs.band.first row
-          c.join_row.result after below before
-          (λ i near. through (c.join_row.ensures i near)
-          (joined_with c.args.how _ _ _
-          (in_band runs row (c.args.column + i) _ _ after until (rw same at (c.run_row-marks.ensures i near)))))
-          (search rules);
-      bounds = c.loop-row.invariant.bounds;
-    }
+    let Next : Inside → Type 0 = λ m.
+    AreJoinedAt c.args.how (λ i k. HasColumn runs k (column + i)) c.args.self.now
+    (record { grid = m.grid; rows = m.rows }) runs.band.first (row + 1)
+    × HoldsCentres m.bounds m.grid in
+    let next : Next c.if-column-end.self-inside =
+    elim c.if-column-end.branch [
+      | then-column-end+then-first-past w ↦
+          subst Next (sym w.self-inside-is) (
+            next_row_at c.args.how (λ i k. HasColumn runs k (column + i)) c.args.self.now _ runs.band.first row
+            w.join_row.result after below before
+            (λ i near. through (w.join_row.ensures i near)
+            (joined_with c.args.how _ _ _
+            (in_band runs row (column + i) _ _ after until (rw same at (w.run_row-marks.ensures i near)))))
+            (search rules),
+            c.loop-row.invariant.bounds,
+          )
+      | else-column-end w ↦
+          subst Next (sym w.self-inside-is) (
+            same_row_at c.args.how (λ i k. HasColumn runs k (column + i)) c.args.self.now _ runs.band.first row before
+            (λ i within held.
+            let near : i < c.self.inside.grid.columns = rw (same, before.grid) within.0 in
+            elim w.else-column-end.branch [
+              | else-column-end-via-then-column-end+else-first-past v ↦
+                  omega (arith, held.2, near, v.if-first-past.false)
+              | else-column-end-via-else-column-end v ↦ omega (arith, held.2, v.if-column-end.false)
+            ]),
+            c.loop-row.invariant.bounds,
+          )
+    ] in
+    record { rows = next.0; bounds = next.1 }
 
 pub returns-clause-marks : goal.returns-clause-marks
 returns-clause-marks c =
@@ -42,11 +72,11 @@ returns-then-runs-column-clause-marks c = λ i row inside.
     let between = c.requires.fits.spanned row (c.args.column + i) on in
     omega (arith, between.1, c.if-runs-column.true))
 
-pub returns-then-column-columns-clause-marks : goal.returns-then-column-columns-clause-marks
-returns-then-column-columns-clause-marks c = λ i row inside.
+pub returns-then-past-runs-clause-marks : goal.returns-then-past-runs-clause-marks
+returns-then-past-runs-clause-marks c = λ i row inside.
     joined_none c.args.how _ (HasColumn c.args.runs.now row (c.args.column + i))
     (λ on.
     let between = c.requires.fits.spanned row (c.args.column + i) on in
     let grid : c.self.inside.grid ≡ c.args.self.now.grid = ap (λ m. m.grid) c.self.view_is in
     let near : i < c.self.inside.grid.columns = rw grid inside.0 in
-    omega (arith, between.0, near, c.if-column-columns.true))
+    omega (arith, between.0, near, c.if-past-runs.true))
