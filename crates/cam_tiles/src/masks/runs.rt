@@ -71,6 +71,8 @@ pub(crate) struct Runs {
     pub(crate) ends: [u32; 64],
     /// Columns between which all of them lie.
     pub(crate) columns: Span,
+    /// Columns that lie in all of them.
+    pub(crate) common: Span,
 }
 
 impl Runs {
@@ -81,6 +83,7 @@ impl Runs {
             firsts: [0; 64],
             ends: [0; 64],
             columns: Span::NONE,
+            common: Span::NONE,
         }
     }
 
@@ -91,6 +94,7 @@ impl Runs {
     {
         self.band = Span::NONE;
         self.columns = Span::NONE;
+        self.common = Span::NONE;
     }
 
     /// Whether its band has no rows.
@@ -147,6 +151,7 @@ impl Runs {
         let ends = &mut self.ends[band.first as usize..band.end as usize];
         shape.runs(&top, firsts, ends);
         self.columns = columns_between(firsts, ends);
+        self.common = columns_in_all(firsts, ends);
         self.band = band;
     }
 }
@@ -165,6 +170,21 @@ fn columns_between(firsts: &[u32], ends: &[u32]) -> Span
             first = first.min(firsts[k]);
             end = end.max(ends[k]);
         }
+    }
+    Span { first, end }
+}
+
+/// Columns that lie in all of some runs.
+fn columns_in_all(firsts: &[u32], ends: &[u32]) -> Span
+    requires { length ends.now ≡ length firsts.now }
+    ensures { (k column : ℕ) → k < length firsts.now → IsInRun result.first result.end column
+        → IsInRun (slice_index firsts.now k) (slice_index ends.now k) column }
+{
+    let mut first = 0u32;
+    let mut end = u32::MAX;
+    for k in 0..firsts.len() {
+        first = first.max(firsts[k]);
+        end = end.min(ends[k]);
     }
     Span { first, end }
 }

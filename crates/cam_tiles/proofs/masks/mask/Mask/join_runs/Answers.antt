@@ -33,23 +33,23 @@ loop-row-preserved c =
       | then-column-end+then-first-past w ↦
           subst Next (sym w.self-inside-is) (
             next_row_at c.args.how (λ i k. HasColumn runs k (column + i)) c.args.self.now _ runs.band.first row
-            w.join_row.result after below before
-            (λ i near. through (w.join_row.ensures i near)
-            (joined_with c.args.how _ _ _
-            (in_band runs row (column + i) _ _ after until (rw same at (w.run_row-marks.ensures i near)))))
-            (search rules),
+                w.join_row.result after below before
+                (λ i near. through (w.join_row.ensures i near)
+                (joined_with c.args.how _ _ _
+                (in_band runs row (column + i) _ _ after until (rw same at (w.run_row-marks.ensures i near)))))
+                (search rules),
             c.loop-row.invariant.bounds,
           )
       | else-column-end w ↦
           subst Next (sym w.self-inside-is) (
             same_row_at c.args.how (λ i k. HasColumn runs k (column + i)) c.args.self.now _ runs.band.first row before
-            (λ i within held.
-            let near : i < c.self.inside.grid.columns = rw (same, before.grid) within.0 in
-            elim w.else-column-end.branch [
-              | else-column-end-via-then-column-end+else-first-past v ↦
-                  omega (arith, held.2, near, v.if-first-past.false)
-              | else-column-end-via-else-column-end v ↦ omega (arith, held.2, v.if-column-end.false)
-            ]),
+                (λ i within held.
+                let near : i < c.self.inside.grid.columns = rw (same, before.grid) within.0 in
+                elim w.else-column-end.branch [
+                  | else-column-end-via-then-column-end+else-first-past v ↦
+                      omega (arith, held.2, near, v.if-first-past.false)
+                  | else-column-end-via-else-column-end v ↦ omega (arith, held.2, v.if-column-end.false)
+                ]),
             c.loop-row.invariant.bounds,
           )
     ] in
