@@ -1,17 +1,35 @@
-use Rattle.std.proofs.Common.{◌≡◌, ◌+◌, ◌<◌, ◌≤◌, ap, sym, ◌∙◌, inl, inr, subst, rules, arith}
+use Rattle.std.proofs.Common.{◌≡◌, ℕ, ◌+◌, ◌<◌, ◌≤◌, ap, sym, ◌∙◌, inl, inr, subst, rules, arith}
+use Rattle.std.specs.Int.{IsBitSet}
 use Rattle.cam_apertures.proofs.Painting.{through}
+use Rattle.cam_rows.proofs.SetBits.{none_set}
 use Rattle.cam_tiles.specs.declared.masks.mask.Mask.TheInside.{Inside}
-use Rattle.cam_tiles.specs.Machinery.Masks.{HoldsCentres}
+use Rattle.cam_tiles.specs.Machinery.Masks.{HoldsCentres, IsIn}
 use Rattle.cam_tiles.specs.Machinery.Runs.{HasColumn}
 use Rattle.cam_tiles.proofs.JoinedMarks.{AreJoinedAt, all_joined_at, joined_none, joined_with, next_row_at, same_row_at}
 use Rattle.cam_tiles.proofs.RunColumns.{in_band}
 use Rattle.cam_tiles.proofs.masks.mask.Mask.join_runs.Goals.{
+  After-run_row-widest,
   then-column-end+then-first-past,
   else-column-end,
   else-column-end-via-then-column-end+else-first-past,
   else-column-end-via-else-column-end,
 }
 use Rattle.cam_tiles.proofs.masks.mask.Mask.join_runs.Goals as goal
+
+-- a column of the mask is one of 64
+columns_of : (c : After-run_row-widest) → (i row : ℕ) → IsIn c.args.self.now.grid i row
+    → (i < 64) × (i < c.self.inside.grid.columns)
+columns_of c i row inside =
+    let grid : c.self.inside.grid ≡ c.args.self.now.grid = ap (λ m. m.grid) c.self.view_is in
+    let near : i < c.self.inside.grid.columns = rw grid inside.0 in
+    (omega (arith, near, c.self.invariant.mask.grid.columns.1), near)
+
+-- and where it is in a run, it is among the columns between which all runs lie
+in_widest : (c : After-run_row-widest) → (i row : ℕ) → IsIn c.args.self.now.grid i row
+    → HasColumn c.args.runs.now row (c.args.column + i) → IsBitSet c.run_row-widest.result i
+in_widest c i row inside on =
+    let near = columns_of c i row inside in
+    (c.run_row-widest.ensures i near.0).1 (near.1, c.requires.fits.spanned row (c.args.column + i) on)
 
 pub loop-row-preserved : goal.loop-row-preserved
 loop-row-preserved c =
@@ -65,18 +83,22 @@ returns-clause-marks c =
       | inr late ↦ omega (arith, held.1, late, c.loop-row-test.false)
     ])
 
-pub returns-then-runs-column-clause-marks : goal.returns-then-runs-column-clause-marks
-returns-then-runs-column-clause-marks c = λ i row inside.
+pub returns-then-widest-eq0-clause-marks : goal.returns-then-widest-eq0-clause-marks
+returns-then-widest-eq0-clause-marks c = λ i row inside.
     joined_none c.args.how _ (HasColumn c.args.runs.now row (c.args.column + i))
-    (λ on.
-    let between = c.requires.fits.spanned row (c.args.column + i) on in
-    omega (arith, between.1, c.if-runs-column.true))
+    (λ on. none_set c.run_row-widest.result i c.if-widest-eq0.true
+    (in_widest (goal.at.returns-then-widest-eq0-clause-marks c).After-run_row-widest i row inside on))
 
-pub returns-then-past-runs-clause-marks : goal.returns-then-past-runs-clause-marks
-returns-then-past-runs-clause-marks c = λ i row inside.
-    joined_none c.args.how _ (HasColumn c.args.runs.now row (c.args.column + i))
-    (λ on.
-    let between = c.requires.fits.spanned row (c.args.column + i) on in
-    let grid : c.self.inside.grid ≡ c.args.self.now.grid = ap (λ m. m.grid) c.self.view_is in
-    let near : i < c.self.inside.grid.columns = rw grid inside.0 in
-    omega (arith, between.0, near, c.if-past-runs.true))
+pub returns-then-narrowest-widest-clause-marks : goal.returns-then-narrowest-widest-clause-marks
+returns-then-narrowest-widest-clause-marks c = λ i row inside.
+    let runs = c.args.runs.now in
+    let same : c.run_row-narrowest.result ≡ c.run_row-widest.result = c.if-narrowest-widest.true in
+    let found = (goal.at.returns-then-narrowest-widest-clause-marks c).After-run_row-widest in
+    let near = columns_of found i row inside in
+    through (c.join_band.ensures.marks i row inside)
+    (joined_with c.args.how _ _ _ (
+      (λ on.
+          let narrow = (c.run_row-narrowest.ensures i near.0).0 (rw same on.2) in
+          c.requires.fits.shared row (c.args.column + i) on.0 on.1 narrow.1),
+      (λ held. (held.0, held.1, in_widest found i row inside held)),
+    ))
