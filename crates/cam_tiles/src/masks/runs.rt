@@ -3,7 +3,8 @@
 ghost use Rattle.std.specs.Prelude.{◌≡◌, ◌<◌, ◌≤◌, ℕ, IsTrue, length, slice_index};
 ghost use Rattle.cam_units.specs.declared.point.Spot.{Spot};
 ghost use Rattle.cam_shapes.specs.Bar.{IsInBar, IsSoundBar};
-ghost use Rattle.cam_shapes.specs.Disc.{IsInDisc, IsSoundDisc};
+ghost use Rattle.cam_shapes.specs.Box.{IsInObround, IsInRectangle, IsSoundObround, IsSoundRectangle};
+ghost use Rattle.cam_shapes.specs.Disc.{IsInDisc, IsInHole, IsSoundDisc};
 ghost use Rattle.cam_shapes.specs.Swept.{IsInSwept, IsSoundSwept};
 ghost use Rattle.cam_rows.specs.Runs.{AreRuns, AreWideRows, IsInRun};
 ghost use Rattle.cam_tiles.specs.Machinery.Masks.{IsWithin};
@@ -11,9 +12,10 @@ ghost use Rattle.cam_tiles.specs.Machinery.Runs.{HasColumn, IsWideGrid, Tells};
 
 use crate::grid::Grid;
 use crate::masks::heights::Heights;
+use crate::masks::shapes::Hole;
 use crate::span::Span;
-use cam_rows::{Centres, bar_runs, disc_runs, swept_runs};
-use cam_shapes::{Bar, Disc, Swept};
+use cam_rows::{Centres, bar_runs, disc_runs, hole_runs, obround_runs, rect_runs, swept_runs};
+use cam_shapes::{Bar, Disc, Obround, Rectangle, Swept};
 use cam_units::Spot;
 
 /// A shape whose runs in wide rows are known.
@@ -59,6 +61,36 @@ impl RunShape for Swept {
 
     fn runs(&self, top: &Centres, firsts: &mut [u32], ends: &mut [u32]) {
         swept_runs(self, top, firsts, ends);
+    }
+}
+
+impl RunShape for Rectangle {
+    ghost is_sound = { IsSoundRectangle };
+
+    ghost holds = { λ r s. IsInRectangle s r };
+
+    fn runs(&self, top: &Centres, firsts: &mut [u32], ends: &mut [u32]) {
+        rect_runs(self, top, firsts, ends);
+    }
+}
+
+impl RunShape for Obround {
+    ghost is_sound = { IsSoundObround };
+
+    ghost holds = { λ o s. IsInObround s o };
+
+    fn runs(&self, top: &Centres, firsts: &mut [u32], ends: &mut [u32]) {
+        obround_runs(self, top, firsts, ends);
+    }
+}
+
+impl RunShape for Hole {
+    ghost is_sound = { λ h. IsSoundDisc h.0 };
+
+    ghost holds = { λ h s. IsInHole s h.0 };
+
+    fn runs(&self, top: &Centres, firsts: &mut [u32], ends: &mut [u32]) {
+        hole_runs(&self.0, top, firsts, ends);
     }
 }
 

@@ -1,4 +1,4 @@
-use Rattle.std.proofs.Common.{◌≡◌, ◌↔◌, ℕ, ◌<◌, ◌≤◌, ap, sym, ◌∙◌, inl, inr, rules, arith}
+use Rattle.std.proofs.Common.{◌↔◌, ℕ, ◌<◌, ◌≤◌, inl, inr, rules, arith}
 use Rattle.std.specs.Int.{IsBitSet}
 use Rattle.cam_apertures.proofs.Painting.{through}
 use Rattle.cam_tiles.proofs.JoinedMarks.{all_joined_at, joined_with, next_row_at}
