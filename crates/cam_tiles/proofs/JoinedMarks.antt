@@ -107,6 +107,25 @@ module _ (how : Join) (IsHeld : ℕ → ℕ → Type 0) (old new : Marking) (fir
     ];
   }
 
+-- one row more, in which nothing is held: it stays
+pub same_row_at : (how : Join) (IsHeld : ℕ → ℕ → Type 0) (old new : Marking) (first row : ℕ)
+    → AreJoinedAt how IsHeld old new first row → ((i : ℕ) → IsIn old.grid i row → IsHeld i row → ⊥)
+    → AreJoinedAt how IsHeld old new first (row + 1)
+same_row_at how IsHeld old new first row before none = record {
+  mask = before.mask;
+  grid = before.grid;
+  marks = λ i k inside after until. elim (cases_eq k row) [
+    | inl e ↦
+        rw (e, before.kept row (inr (omega arith)))
+        (joined_none how (IsMarked old i row) (IsHeld i row) (none i (rw e at inside)))
+    | inr apart ↦ before.marks i k inside after (omega (arith, apart, until))
+  ];
+  kept = λ k outside. elim outside [
+    | inl early ↦ before.kept k (inl early)
+    | inr late ↦ before.kept k (inr (omega arith))
+  ];
+}
+
 -- all rows, where nothing is held in the others
 pub all_joined_at : (how : Join) (IsHeld : ℕ → ℕ → Type 0) (old new : Marking) (first end : ℕ)
     → AreJoinedAt how IsHeld old new first end

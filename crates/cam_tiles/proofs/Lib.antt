@@ -8,6 +8,7 @@ pub mod DrawnTiles
 pub mod EdgeSpans
 pub mod FiledContours
 pub mod FiledSegments
+pub mod Flashes
 pub mod GridBoxes
 pub mod GridColumns
 pub mod GridLemmas

@@ -15,7 +15,7 @@ use Rattle.cam_tiles.specs.declared.masks.heights.Heights.{Heights}
 use Rattle.cam_tiles.specs.declared.masks.runs.Runs.{Runs}
 use Rattle.cam_tiles.specs.Machinery.Levels.{IsOnRow, height, levels_of}
 use Rattle.cam_tiles.specs.Machinery.Masks.{IsWithin}
-use Rattle.cam_tiles.specs.Machinery.Runs.{HasColumn, IsWideGrid, Tells}
+use Rattle.cam_tiles.specs.Machinery.Runs.{Fits, HasColumn, IsWideGrid, Tells}
 use Rattle.cam_tiles.specs.Tiles.{centre_in}
 use Rattle.cam_tiles.proofs.TurnedBands.{part_at}
 
@@ -30,13 +30,20 @@ in_band r row column B P after until told = (
 
 -- ---- runs in the rows of a grid
 
+without_rows : (rows : ℕ) (r : Runs) → ((row column : ℕ) → HasColumn r row column → ⊥) → r.band.end ≡ 0 → Fits rows r
+without_rows rows r none low = record {
+  low = omega (arith, low);
+  spanned = λ row column on. absurd (none row column on);
+  shared = λ row column after until on. absurd (omega (arith, low, until));
+}
+
 -- nothing is held in a band without rows
 pub tells_none : (g : Grid) (columns first end : ℕ) (h : Heights) (IsHeld : Spot → Type 0) (r : Runs) → end ≤ first
     → ((row : ℕ) (s : Spot) → IsOnRow (levels_of g) row s → ((first ≤ row) × (row < end)) ↔ IsWithin h s)
     → ((s : Spot) → IsHeld s → IsWithin h s) → ((row column : ℕ) → HasColumn r row column → ⊥) → r.band.end ≡ 0
     → Tells g columns IsHeld r
 tells_none g columns first end h IsHeld r empty rows heights none low = record {
-  fits = record { low = omega (arith, low); spanned = λ row column on. absurd (none row column on) };
+  fits = without_rows g.rows r none low;
   each = λ column row _ within. (
     (λ on. absurd (none row column on)),
     (λ held.
@@ -85,20 +92,23 @@ module _ (g : Grid) (columns first : ℕ) where
       rw (is_x, is_y, is_step) (wide_rows wide k (omega (arith, within, size, few)))
 
 pub tells_band : (g : Grid) (columns first end : ℕ) (h : Heights) (IsHeld : Spot → Type 0) (x y step : ℤ)
-    (clear clear_ends firsts ends : List ℕ) (from until : ℕ) → x ≡ g.first.x → y ≡ height (levels_of g) first → step ≡ g.step → first < end
+    (clear clear_ends firsts ends : List ℕ) (from until late early : ℕ) → x ≡ g.first.x → y ≡ height (levels_of g) first → step ≡ g.step → first < end
     → end ≤ g.rows → g.rows ≤ 64 → length clear ≡ 64 → length clear_ends ≡ 64 → length firsts ≡ end - first → length ends ≡ end - first
     → ((row : ℕ) (s : Spot) → IsOnRow (levels_of g) row s → ((first ≤ row) × (row < end)) ↔ IsWithin h s)
     → AreRuns firsts ends (record { first = record { x = x; y = y }; step = step; count = columns }) IsHeld
     → ((k column : ℕ) → k < length firsts → IsInRun (slice_index firsts k) (slice_index ends k) column
     → IsInRun from until column)
+    → ((k column : ℕ) → k < length firsts → IsInRun late early column
+    → IsInRun (slice_index firsts k) (slice_index ends k) column)
     → Tells g columns (λ s. IsHeld s × IsWithin h s) (record {
       band = record { first = first; end = end };
       firsts = put_mid first (end - first) clear firsts;
       ends = put_mid first (end - first) clear_ends ends;
       columns = record { first = from; end = until };
+      common = record { first = late; end = early };
     })
-tells_band g columns first end h IsHeld x y step clear clear_ends firsts ends from to is_x is_y is_step some low few whole
-    whole_ends firsts_size ends_size rows runs spanned =
+tells_band g columns first end h IsHeld x y step clear clear_ends firsts ends from to late early is_x is_y is_step some low few whole
+    whole_ends firsts_size ends_size rows runs spanned shared =
     let told = rw (is_x, is_y, is_step) at runs.each in
     let long : end ≤ length clear = omega (arith, whole, low, few) in
     let long_ends : end ≤ length clear_ends = omega (arith, whole_ends, low, few) in
@@ -111,6 +121,14 @@ tells_band g columns first end h IsHeld x y step clear clear_ends firsts ends fr
               part_at first end clear_ends ends some long_ends ends_size row on.0 on.1,
             ) at on.2 in
             spanned (row - first) column (omega (arith, firsts_size, on.0, on.1)) here;
+        shared = λ row column after before on. (
+          after,
+          before,
+          rw (
+            part_at first end clear firsts some long firsts_size row after before,
+            part_at first end clear_ends ends some long_ends ends_size row after before,
+          ) (shared (row - first) column (omega (arith, firsts_size, after, before)) on),
+        );
       };
       each = λ column row near within.
           let s = centre_in g column row in
@@ -136,7 +154,7 @@ tells_band g columns first end h IsHeld x y step clear clear_ends firsts ends fr
 pub tells_nothing : (g : Grid) (columns : ℕ) (r : Runs) → ((row column : ℕ) → HasColumn r row column → ⊥)
     → r.band.end ≡ 0 → Tells g columns (λ s. ⊥) r
 tells_nothing g columns r none low = record {
-  fits = record { low = omega (arith, low); spanned = λ row column on. absurd (none row column on) };
+  fits = without_rows g.rows r none low;
   each = λ column row _ _. ((λ on. none row column on), (λ held. absurd held));
 }
 
@@ -159,6 +177,22 @@ tells_whole g columns h IsHeld r heights told = record {
 abbrev pub AreSpanned : List ℕ → List ℕ → ℕ → ℕ → ℕ → Type 0
 AreSpanned firsts ends end from to =
     (k column : ℕ) → k < end → IsInRun (slice_index firsts k) (slice_index ends k) column → IsInRun from to column
+
+-- columns are in all runs of the rows above an end
+abbrev pub AreShared : List ℕ → List ℕ → ℕ → ℕ → ℕ → Type 0
+AreShared firsts ends end from to =
+    (k column : ℕ) → k < end → IsInRun from to column → IsInRun (slice_index firsts k) (slice_index ends k) column
+
+pub one_more_shared : (firsts ends : List ℕ) (end from to first last : ℕ) → AreShared firsts ends end from to
+    → from ≤ first → last ≤ to → slice_index firsts end ≤ first → last ≤ slice_index ends end
+    → AreShared firsts ends (end + 1) first last
+one_more_shared firsts ends end from to first last before left right here_left here_right k column early on =
+    elim (cases_lt k end) [
+      | inl above ↦ before k column above (omega (arith, on.0, left), omega (arith, on.1, right))
+      | inr below ↦
+          let same : k ≡ end = omega arith in
+          rw same (omega (arith, on.0, here_left), omega (arith, on.1, here_right))
+    ]
 
 pub one_more_spanned : (firsts ends : List ℕ) (end from to first last : ℕ) → AreSpanned firsts ends end from to
     → first ≤ from → to ≤ last

@@ -5,6 +5,8 @@ use Rattle.cam_units.specs.declared.point.Spot.{Spot}
 use Rattle.cam_units.specs.declared.turn.Turn.{Turn}
 use Rattle.cam_shapes.specs.Arc.{IsInArc, IsSoundArc}
 use Rattle.cam_shapes.specs.Bar.{IsInCapsule, IsSoundCapsule}
+use Rattle.cam_shapes.specs.Box.{IsInObround, IsInRectangle, IsSoundObround, IsSoundRectangle}
+use Rattle.cam_shapes.specs.Disc.{IsInDisc, IsInHole, IsSoundDisc}
 use Rattle.cam_shapes.specs.Swept.{IsInSwept, IsSoundSwept}
 use Rattle.cam_apertures.specs.Cover.{IsCovered}
 use Rattle.cam_apertures.specs.declared.aperture.Aperture.{Aperture}
@@ -14,7 +16,7 @@ use Rattle.cam_objects.specs.Image.{Covers, relative}
 use Rattle.cam_rows.specs.Runs.{most_columns}
 use Rattle.cam_tiles.specs.declared.grid.Grid.{Grid}
 use Rattle.cam_tiles.specs.declared.masks.stroke_runs.Stroke.{Stroke}
-use Rattle.cam_tiles.specs.declared.masks.stroke_runs.Stroke.TheVariants.{Straight, Round, Swept}
+use Rattle.cam_tiles.specs.declared.masks.stroke_runs.Stroke.TheVariants.{Straight, Round, Swept, Pierced, Rectangle, Obround}
 use Rattle.cam_tiles.specs.declared.masks.stroke_runs.StrokeRuns.{StrokeRuns}
 use Rattle.cam_tiles.specs.Machinery.Masks.{IsIn}
 use Rattle.cam_tiles.specs.Machinery.Runs.{Fits, HasColumn}
@@ -25,11 +27,17 @@ abbrev pub IsInStroke : Stroke → Spot → Type 0
 IsInStroke (Straight c) = λ s. IsInCapsule s c
 IsInStroke (Round a) = λ s. IsInArc s a
 IsInStroke (Swept r) = λ s. IsInSwept s r
+IsInStroke (Pierced d hole) = λ s. IsInDisc s d × ¬ IsInHole s hole.0
+IsInStroke (Rectangle r hole) = λ s. IsInRectangle s r × ¬ IsInHole s hole.0
+IsInStroke (Obround o hole) = λ s. IsInObround s o × ¬ IsInHole s hole.0
 
 abbrev pub IsSoundStroke : Stroke → Type 0
 IsSoundStroke (Straight c) = IsSoundCapsule c
 IsSoundStroke (Round a) = IsSoundArc a
 IsSoundStroke (Swept r) = IsSoundSwept r
+IsSoundStroke (Pierced d hole) = IsSoundDisc d × IsSoundDisc hole.0
+IsSoundStroke (Rectangle r hole) = IsSoundRectangle r × IsSoundDisc hole.0
+IsSoundStroke (Obround o hole) = IsSoundObround o × IsSoundDisc hole.0
 
 -- a column is in the run of the body, and in none that is taken out of it
 abbrev pub HasBody : StrokeRuns → ℕ → ℕ → Type 0
@@ -64,7 +72,7 @@ pub record IsStrokeOf (f : Figure) (stroke : Stroke) : Type 0 where
   pub sound : IsSoundStroke stroke
   pub same : (s : Spot) → Covers (shape_of f) s ↔ IsInStroke stroke s
 
--- and so is a flash at a point
-pub record IsFlashOf (a : Aperture) (at : Point) (stroke : Stroke) : Type 0 where
+-- and so is an aperture, mirrored and turned, that is flashed at a point
+pub record IsFlashOf (a : Aperture) (t : Turn) (at : Point) (stroke : Stroke) : Type 0 where
   pub sound : IsSoundStroke stroke
-  pub same : (t : Turn) (s : Spot) → IsCovered a t (relative at s) ↔ IsInStroke stroke s
+  pub same : (s : Spot) → IsCovered a t (relative at s) ↔ IsInStroke stroke s

@@ -173,7 +173,9 @@ impl Mask {
         }
     }
 
-    /// Joins the marks with runs of columns, in rows of which the grid begins at a column.
+    /// Joins the marks with runs of columns, in rows of which the grid begins at a column. Where all runs have the same
+    /// columns of the grid, as inside a rectangle, the rows are joined with the same marks; of a long slanted stroke
+    /// most runs do not reach the grid, and are passed over.
     pub(crate) fn join_runs(&mut self, runs: &Runs, column: u32, how: Join)
         requires near { column < most_columns }
         requires fits { Fits self.old.grid.rows runs.now }
@@ -182,15 +184,37 @@ impl Mask {
             → IsMarked self.new i row ↔ joined how (IsMarked self.old i row) (HasColumn runs.now row (column + i)) }
     {
         let columns = self.grid.columns;
-        if runs.columns.end <= column {
+        let widest = run_row(runs.columns.first, runs.columns.end, column, columns);
+        if widest == 0 {
             return;
         }
-        if column + columns <= runs.columns.first {
+        let narrowest = run_row(runs.common.first, runs.common.end, column, columns);
+        if narrowest == widest {
+            self.join_band(runs.band, widest, how);
             return;
         }
+        let past = column + columns;
         for row in runs.band.first..runs.band.end {
             let k = row as usize;
-            let marks = run_row(runs.firsts[k], runs.ends[k], column, columns);
+            let first = runs.firsts[k];
+            let end = runs.ends[k];
+            if column < end && first < past {
+                let marks = run_row(first, end, column, columns);
+                self.rows[k] = how.join_row(self.rows[k], marks);
+            }
+        }
+    }
+
+    /// Joins the marks in the rows of a band with the same ones in each.
+    fn join_band(&mut self, band: Span, marks: u64, how: Join)
+        requires end { band.end ≤ self.old.grid.rows }
+        requires inside { (i : ℕ) → i < 64 → IsBitSet marks i → i < self.old.grid.columns }
+        ensures grid { self.new.grid ≡ self.old.grid }
+        ensures marks { (i row : ℕ) → IsIn self.old.grid i row → IsMarked self.new i row
+            ↔ joined how (IsMarked self.old i row) ((band.first ≤ row) × (row < band.end) × IsBitSet marks i) }
+    {
+        for row in band.first..band.end {
+            let k = row as usize;
             self.rows[k] = how.join_row(self.rows[k], marks);
         }
     }

@@ -3,7 +3,8 @@
 ghost use Rattle.std.specs.Prelude.{◌≡◌, ◌<◌, ◌≤◌, ℕ, IsTrue, length, slice_index};
 ghost use Rattle.cam_units.specs.declared.point.Spot.{Spot};
 ghost use Rattle.cam_shapes.specs.Bar.{IsInBar, IsSoundBar};
-ghost use Rattle.cam_shapes.specs.Disc.{IsInDisc, IsSoundDisc};
+ghost use Rattle.cam_shapes.specs.Box.{IsInObround, IsInRectangle, IsSoundObround, IsSoundRectangle};
+ghost use Rattle.cam_shapes.specs.Disc.{IsInDisc, IsInHole, IsSoundDisc};
 ghost use Rattle.cam_shapes.specs.Swept.{IsInSwept, IsSoundSwept};
 ghost use Rattle.cam_rows.specs.Runs.{AreRuns, AreWideRows, IsInRun};
 ghost use Rattle.cam_tiles.specs.Machinery.Masks.{IsWithin};
@@ -11,9 +12,10 @@ ghost use Rattle.cam_tiles.specs.Machinery.Runs.{HasColumn, IsWideGrid, Tells};
 
 use crate::grid::Grid;
 use crate::masks::heights::Heights;
+use crate::masks::shapes::Hole;
 use crate::span::Span;
-use cam_rows::{Centres, bar_runs, disc_runs, swept_runs};
-use cam_shapes::{Bar, Disc, Swept};
+use cam_rows::{Centres, bar_runs, disc_runs, hole_runs, obround_runs, rect_runs, swept_runs};
+use cam_shapes::{Bar, Disc, Obround, Rectangle, Swept};
 use cam_units::Spot;
 
 /// A shape whose runs in wide rows are known.
@@ -62,6 +64,36 @@ impl RunShape for Swept {
     }
 }
 
+impl RunShape for Rectangle {
+    ghost is_sound = { IsSoundRectangle };
+
+    ghost holds = { λ r s. IsInRectangle s r };
+
+    fn runs(&self, top: &Centres, firsts: &mut [u32], ends: &mut [u32]) {
+        rect_runs(self, top, firsts, ends);
+    }
+}
+
+impl RunShape for Obround {
+    ghost is_sound = { IsSoundObround };
+
+    ghost holds = { λ o s. IsInObround s o };
+
+    fn runs(&self, top: &Centres, firsts: &mut [u32], ends: &mut [u32]) {
+        obround_runs(self, top, firsts, ends);
+    }
+}
+
+impl RunShape for Hole {
+    ghost is_sound = { λ h. IsSoundDisc h.0 };
+
+    ghost holds = { λ h s. IsInHole s h.0 };
+
+    fn runs(&self, top: &Centres, firsts: &mut [u32], ends: &mut [u32]) {
+        hole_runs(&self.0, top, firsts, ends);
+    }
+}
+
 /// For each row of a band the run of the columns that a shape holds, from the first one on and before an end; none in
 /// other rows. Columns are counted from the left of a row of tiles.
 #[derive(Clone, Copy)]
@@ -71,6 +103,8 @@ pub(crate) struct Runs {
     pub(crate) ends: [u32; 64],
     /// Columns between which all of them lie.
     pub(crate) columns: Span,
+    /// Columns that lie in all of them.
+    pub(crate) common: Span,
 }
 
 impl Runs {
@@ -81,6 +115,7 @@ impl Runs {
             firsts: [0; 64],
             ends: [0; 64],
             columns: Span::NONE,
+            common: Span::NONE,
         }
     }
 
@@ -91,6 +126,7 @@ impl Runs {
     {
         self.band = Span::NONE;
         self.columns = Span::NONE;
+        self.common = Span::NONE;
     }
 
     /// Whether its band has no rows.
@@ -147,6 +183,7 @@ impl Runs {
         let ends = &mut self.ends[band.first as usize..band.end as usize];
         shape.runs(&top, firsts, ends);
         self.columns = columns_between(firsts, ends);
+        self.common = columns_in_all(firsts, ends);
         self.band = band;
     }
 }
@@ -165,6 +202,21 @@ fn columns_between(firsts: &[u32], ends: &[u32]) -> Span
             first = first.min(firsts[k]);
             end = end.max(ends[k]);
         }
+    }
+    Span { first, end }
+}
+
+/// Columns that lie in all of some runs.
+fn columns_in_all(firsts: &[u32], ends: &[u32]) -> Span
+    requires { length ends.now ≡ length firsts.now }
+    ensures { (k column : ℕ) → k < length firsts.now → IsInRun result.first result.end column
+        → IsInRun (slice_index firsts.now k) (slice_index ends.now k) column }
+{
+    let mut first = 0u32;
+    let mut end = u32::MAX;
+    for k in 0..firsts.len() {
+        first = first.max(firsts[k]);
+        end = end.min(ends[k]);
     }
     Span { first, end }
 }

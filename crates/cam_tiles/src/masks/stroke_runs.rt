@@ -3,11 +3,13 @@
 ghost use Rattle.std.specs.Prelude.{◌≡◌, ◌↔◌, ◌⊎◌, ◌+◌, ◌<◌, ℕ, IsTrue, ◌∷◌, []};
 ghost use Rattle.cam_shapes.specs.Arc.{IsInArc, IsSoundArc};
 ghost use Rattle.cam_shapes.specs.Bar.{IsInCapsule, IsSoundCapsule};
+ghost use Rattle.cam_shapes.specs.Disc.{IsInHole, IsSoundDisc};
 ghost use Rattle.cam_shapes.specs.Swept.{IsInSwept, IsSoundSwept};
+ghost use Rattle.cam_units.specs.declared.point.Spot.{Spot};
 ghost use Rattle.cam_objects.specs.Canvases.{leaf_of, shape_of};
 ghost use Rattle.cam_objects.specs.Image.{Covers};
 ghost use Rattle.cam_rows.specs.Runs.{IsInRun, most_columns};
-ghost use Rattle.cam_tiles.specs.Machinery.Masks.{IsIn, IsMarked, PaintsMask, inked, joined};
+ghost use Rattle.cam_tiles.specs.Machinery.Masks.{IsIn, IsMarked, IsWithin, PaintsMask, inked, joined};
 ghost use Rattle.cam_tiles.specs.Machinery.Runs.{HasColumn, IsWideGrid};
 ghost use Rattle.cam_tiles.specs.Machinery.Strokes.{
   AllFit,
@@ -21,31 +23,36 @@ ghost use Rattle.cam_tiles.specs.Machinery.Strokes.{
 
 use crate::grid::Grid;
 use crate::masks::arc_parts::{Beyond, Hollow, Outer};
+use crate::masks::heights::Heights;
 use crate::masks::join::Join;
 use crate::masks::mask::Mask;
 use crate::masks::row_shape::RowShape;
-use crate::masks::runs::Runs;
+use crate::masks::runs::{RunShape, Runs};
+use crate::masks::shapes::Hole;
 use crate::span::Span;
 use cam_objects::Print;
 use cam_rows::ring_of;
-use cam_shapes::{Arc, Bar, Capsule, Disc, Swept};
+use cam_shapes::{Arc, Bar, Capsule, Disc, Obround, Rectangle, Swept};
 
 /// A stroke of a circle along a straight way or an arc, or of a rectangle along a straight way; a disc is a straight one
-/// of no length.
+/// of no length. Or a flash: a disc with a hole, or a rectangle or an obround with one, which may have a diameter of 0.
 #[derive(Clone, Copy)]
 pub(crate) enum Stroke {
     Straight(Capsule),
     Round(Arc),
     Swept(Swept),
+    Pierced(Disc, Hole),
+    Rectangle(Rectangle, Hole),
+    Obround(Obround, Hole),
 }
 
-/// The runs of a stroke: those of its body, those of what is taken out of this, and those of the discs about its ends.
+/// The runs of a stroke or a flash: those of its body, those of what is taken out of this, and those of the discs about its ends.
 #[derive(Clone, Copy)]
 pub(crate) struct StrokeRuns {
     /// Of a straight stroke of a circle the bar between its ends; of an arc what its outer circle and its sweep hold; of
-    /// a rectangle's stroke all of it.
+    /// a rectangle's stroke all of it; of a flash the shape without its hole.
     pub(crate) body: Runs,
-    /// Of an arc what its inner circle holds.
+    /// Of an arc what its inner circle holds; of a flash its hole.
     pub(crate) hollow: Runs,
     /// Of an arc what its sweep leaves out.
     pub(crate) beyond: Runs,
@@ -75,6 +82,15 @@ impl StrokeRuns {
             Stroke::Straight(capsule) => self.find_straight(capsule, grid, columns),
             Stroke::Round(arc) => self.find_round(arc, grid, columns),
             Stroke::Swept(swept) => self.find_swept(swept, grid, columns),
+            Stroke::Pierced(disc, hole) => {
+                self.find_pierced(disc, disc.heights(), hole, grid, columns);
+            }
+            Stroke::Rectangle(rectangle, hole) => {
+                self.find_pierced(rectangle, rectangle.heights(), hole, grid, columns);
+            }
+            Stroke::Obround(obround, hole) => {
+                self.find_pierced(obround, obround.heights(), hole, grid, columns);
+            }
         }
     }
 
@@ -144,6 +160,32 @@ impl StrokeRuns {
         self.start.clear();
         self.end.clear();
         self.body.find(swept, swept.heights(), grid, columns);
+    }
+
+    /// Turns to those of a shape, which lies between two heights, without a hole. One of diameter 0 is none.
+    fn find_pierced<S: RunShape>(
+        &mut self,
+        shape: &S,
+        heights: Heights,
+        hole: &Hole,
+        grid: &Grid,
+        columns: u32,
+    )
+        requires sound { S.is_sound shape.now }
+        requires heights { (s : Spot) → S.holds shape.now s → IsWithin heights s }
+        requires hole { IsSoundDisc hole.now.0 }
+        requires grid { IsWideGrid grid.now columns }
+        ensures { TellsStroke grid.now columns (λ s. S.holds shape.now s × (IsInHole s hole.now.0 → ⊥)) self.new }
+    {
+        self.beyond.clear();
+        self.start.clear();
+        self.end.clear();
+        self.body.find(shape, heights, grid, columns);
+        if hole.0.diameter.0 == 0 {
+            self.hollow.clear();
+            return;
+        }
+        self.hollow.find(hole, hole.heights(), grid, columns);
     }
 
     /// Columns between which the whole stroke lies.

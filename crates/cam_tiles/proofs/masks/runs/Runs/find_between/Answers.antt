@@ -35,7 +35,7 @@ returns g c =
     (omega (arith, low, wide.grid.rows)) in
     tells_band grid c.args.columns band.first band.end c.args.heights (g.S.RunShape.holds c.args.shape.now) _ _ _
     old.firsts old.ends c.runs.new.firsts c.runs.new.ends c.columns_between-self.result.first
-    c.columns_between-self.result.end (search rules) (search rules) (search rules)
+    c.columns_between-self.result.end c.columns_in_all-self.result.first c.columns_in_all-self.result.end (search rules) (search rules) (search rules)
     (omega (arith, c.if-band.false)) low wide.grid.rows.1 (omega arith) (omega arith) (omega (arith, c.runs.auto.firsts, size))
     (omega (arith, c.runs.auto.ends, size_ends)) (rw c.levels-levels.ensures.value at c.band-band.ensures.rows)
-    c.runs.ensures c.columns_between-self.ensures
+    c.runs.ensures c.columns_between-self.ensures c.columns_in_all-self.ensures
