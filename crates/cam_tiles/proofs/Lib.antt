@@ -46,6 +46,7 @@ pub mod TilesInOrder
 pub mod TouchedTiles
 pub mod TurnedBands
 pub mod TurnedContours
+pub mod TurnedMarks
 pub mod WindowLemmas
 pub mod WipedTiles
 pub mod WordBits
