@@ -16,6 +16,7 @@ pub mod Joined
 pub mod JoinedMarks
 pub mod LevelRows
 pub mod MarkedBands
+pub mod MarkedTiles
 pub mod MaskWords
 pub mod PaintedBands
 pub mod PaintedMasks

@@ -2,7 +2,7 @@
 use Rattle.std.proofs.Common.{◌≡◌, ◌≢◌, ◌↔◌, ℕ, ◌+◌, ◌-◌, ◌*◌, ◌/◌, ◌%◌, ◌<◌, ◌≤◌, ◌==◌, ℤ, Bool, false, IsTrue}
 use Rattle.std.proofs.Common.{List, [], ◌∷◌, ◌++◌, length, slice_index, take, refl, sym, ap, subst, ◌∙◌, inl, inr, arith}
 use Rattle.std.proofs.lemmas.Bool.{cases_lt, false≢true}
-use Rattle.std.proofs.lemmas.List.{get_or_past, take_all}
+use Rattle.std.proofs.lemmas.List.{get_or_append_left, get_or_past, take_all}
 use Rattle.std.proofs.lemmas.Nat.Bits.{bit_at-zero}
 use Rattle.cam_units.specs.declared.point.Point.{Point}
 use Rattle.cam_units.specs.declared.point.Spot.{Spot}
@@ -202,3 +202,12 @@ module _ (g : Grid) (columns : ℕ) where
       none_odd (is_marked blank row) (length blank - column) column (λ j _. none_marked blank none row j) in
       from_even _ _ _ _ ((λ t. sym same ∙ t), (λ t. same ∙ t)) (λ t. false≢true (sym even ∙ t))
       (h column row near within)
+
+  -- words behind them change none of them
+  pub marks_before : (P : Spot → Type 0) (part rest : List ℕ) → g.rows ≤ 64 → AreWide columns part
+      → MarksCentres g columns P part → MarksCentres g columns P (part ++ rest)
+  marks_before P part rest few wide told column row near within =
+      let k = 64 * (column / 64) + row in
+      let same : slice_index (part ++ rest) k ≡ slice_index part k =
+      get_or_append_left part rest 0 k (omega (arith, near, within, few, wide.room, wide.tiles)) in
+      rw same (told column row near within)

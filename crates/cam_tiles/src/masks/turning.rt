@@ -1,7 +1,7 @@
 //! The insides of contours in a row of tiles: each segment is counted once for all of them, by marks that turn over the
 //! columns left of them.
 
-ghost use Rattle.std.specs.Prelude.{◌≡◌, ◌≢◌, ◌↔◌, ◌-◌, ◌<◌, ◌≤◌, ℕ, IsTrue, length, slice_index, ◌∷◌, []};
+ghost use Rattle.std.specs.Prelude.{◌≡◌, ◌≢◌, ◌↔◌, ◌+◌, ◌-◌, ◌*◌, ◌/◌, ◌<◌, ◌≤◌, ℕ, IsTrue, length, slice_index, ◌∷◌, []};
 ghost use Rattle.cam_units.specs.Board.{IsOnBoard};
 ghost use Rattle.cam_units.specs.declared.point.Spot.{Spot};
 ghost use Rattle.cam_shapes.specs.Cap.{IsSoundCap, is_in_cap};
@@ -27,7 +27,8 @@ use cam_rows::{Centres, cap_runs, edge_runs, mark_ends, mark_runs, spread_marks}
 use cam_shapes::{Cap, Contour, Seg};
 use cam_units::{Point, Spot};
 
-/// Marks the inside of a contour that is filed for the rows of a grid, and as many columns from its left on.
+/// Marks the inside of a contour that is filed for the rows of a grid, and as many columns from its left on: the words of
+/// the tiles that these take up.
 pub(crate) fn mark_inside(
     marks: &mut [u64],
     grid: &Grid,
@@ -36,11 +37,13 @@ pub(crate) fn mark_inside(
     filed: &[FiledSegment],
 )
     requires grid { IsWideGrid grid.now columns }
-    requires wide { AreWide columns marks.old }
+    requires room { 64 * ((columns + 63) / 64) ≤ length marks.old }
     requires contour { IsOnBoardWhole contour.now }
     requires filed { AreFiled contour.now (levels_of grid.now) filed.now }
     ensures { MarksCentres grid.now columns (λ s. IsInContour s contour.now) marks.new }
 {
+    let words = 64 * columns.div_ceil(64) as usize;
+    let marks = &mut marks[..words];
     marks.fill(0);
     turn_filed(marks, grid, columns, contour, filed);
     spread_marks(marks);
@@ -205,24 +208,26 @@ fn turn_reached(
 }
 
 /// Joins the masks from one number to another with the inside of a region, by its marks in the row of tiles of which
-/// each mask is one.
+/// each mask is one: they begin at the tile of a number.
 pub(crate) fn fill_marked(
     masks: &mut [Mask],
     first: usize,
     end: usize,
     tiles: &[u32],
+    from: u32,
     marks: &[u64],
     region: Region<'_>,
 )
     requires end { end ≤ length masks.old }
     requires tiles { end ≤ length tiles.now }
-    requires marked { (k : ℕ) → first ≤ k → k < end → AreMarkedAt (slice_index tiles.now k) (grid_at masks.old k)
-        (λ s. IsInContour s region.contour.now) marks.now }
+    requires from { (k : ℕ) → first ≤ k → k < end → from ≤ slice_index tiles.now k }
+    requires marked { (k : ℕ) → first ≤ k → k < end → AreMarkedAt (slice_index tiles.now k - from)
+        (grid_at masks.old k) (λ s. IsInContour s region.contour.now) marks.now }
     ensures { ArePaintedIn first end (leaf (Filled region.entry.contour.now) region.entry.dark ∷ [])
         masks.old masks.new }
 {
     let how = Join::inked(region.dark);
     for k in first..end {
-        masks[k].join_tile(marks, tiles[k], how);
+        masks[k].join_tile(marks, tiles[k] - from, how);
     }
 }

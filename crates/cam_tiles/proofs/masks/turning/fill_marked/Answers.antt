@@ -1,4 +1,4 @@
-use Rattle.std.proofs.Common.{[], ◌∷◌, get_or, slice_index, refl, subst, arith}
+use Rattle.std.proofs.Common.{[], ◌∷◌, ◌-◌, get_or, slice_index, refl, subst, arith}
 use Rattle.cam_shapes.specs.Contour.{IsInContour}
 use Rattle.cam_objects.specs.Image.{Covers}
 use Rattle.cam_objects.specs.Leaves.{Filled, leaf}
@@ -31,7 +31,7 @@ loop-k-preserved c =
     let was : Marking = get_or here.masks here.k d in
     let m = c.join_tile.new.self in
     let marked =
-    subst (λ (m : Marking). AreMarkedAt (slice_index c.args.tiles.now here.k) m.grid (λ s. IsInContour s region.contour.now) c.args.marks.now)
+    subst (λ (m : Marking). AreMarkedAt (slice_index c.args.tiles.now here.k - c.args.from) m.grid (λ s. IsInContour s region.contour.now) c.args.marks.now)
     (untouched c.args.first here.k (leaf (Filled region.contour.now) region.dark ∷ []) c.args.masks.now
     here.masks c.index-masks-k.result here.invariant.part (omega arith))
     (c.requires.marked here.k (omega arith) (omega arith)) in
