@@ -3,6 +3,7 @@ pub mod Bytes
 pub mod ChangedParities
 pub mod CircleBounds
 pub mod ClippedLines
+pub mod CountedMarks
 pub mod CountedSegments
 pub mod DrawnTiles
 pub mod EdgeSpans

@@ -59,32 +59,7 @@ module _ (g : Grid) (columns : ℕ) where
       → ((column row : ℕ) → row < g.rows → P (centre_in g column row) → ⊥) → TurnsCentres g columns P old old
   turns_nothing P old none column row near within = not_turned _ _ (none column row within)
 
-  -- ---- filed segments
-
-  pub none_filed : (c : Contour) (fs : List FiledSegment) (old : List ℕ)
-      → TurnsCentres g columns (λ s. IsTrue (filed_change c (take 0 fs) s)) old old
-  none_filed c fs old = turns_nothing (λ s. IsTrue false) old (λ column row within t. false≢true t)
-
-  pub next_filed : (c : Contour) (fs : List FiledSegment) (k : ℕ) (f : FiledSegment) (old now new : List ℕ)
-      → take (k + 1) fs ≡ take k fs ++ f ∷ []
-      → TurnsCentres g columns (λ s. IsTrue (filed_change c (take k fs) s)) old now
-      → TurnsCentres g columns (λ s. IsTrue (changes_at c s f.place)) now new
-      → TurnsCentres g columns (λ s. IsTrue (filed_change c (take (k + 1) fs) s)) old new
-  next_filed c fs k f old now new next h t =
-      subst (λ (xs : List FiledSegment). TurnsCentres g columns (λ s. IsTrue (filed_change c xs s)) old new) (sym next)
-      (turns_like (λ s. IsTrue (differ (filed_change c (take k fs) s) (changes_at c s f.place)))
-      (λ s. IsTrue (filed_change c (take k fs ++ f ∷ []) s)) old new
-      (λ s. ((λ t. changed_more c (take k fs) f s ∙ t), (λ t. sym (changed_more c (take k fs) f s) ∙ t)))
-      (turns_twice (λ s. filed_change c (take k fs) s) (λ s. changes_at c s f.place) old now new h t))
-
-  pub all_filed : (c : Contour) (fs : List FiledSegment) (k : ℕ) (old new : List ℕ) → length fs ≤ k
-      → AreFiled c (levels_of g) fs → TurnsCentres g columns (λ s. IsTrue (filed_change c (take k fs) s)) old new
-      → TurnsCentres g columns (λ s. IsInContour s c) old new
-  all_filed c fs k old new all filed h column row near within =
-      let s = centre_in g column row in
-      let told : filed_change c (take k fs) s ≡ change_side s c.start c.start c.segs =
-      ap (λ xs. filed_change c xs s) (take_all k fs all) ∙ filed.change row s (within, refl) in
-      turned_like _ _ _ _ (sides_are_parity s c (filed_change c (take k fs) s) told) (h column row near within)
+  -- ---- segments
 
   pub turned_at : (c : Contour) (k : ℕ) (here : Point) (seg : Seg) (old new : List ℕ) → here ≡ corner_of c k
       → seg ≡ segment_of c k → TurnsCentres g columns (λ s. IsTrue (changes_side s here seg)) old new

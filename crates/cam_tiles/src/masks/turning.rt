@@ -2,6 +2,7 @@
 //! columns left of them.
 
 ghost use Rattle.std.specs.Prelude.{◌≡◌, ◌≢◌, ◌↔◌, ◌+◌, ◌-◌, ◌*◌, ◌/◌, ◌<◌, ◌≤◌, ℕ, IsTrue, length, slice_index, ◌∷◌, []};
+ghost use Rattle.std.specs.Int.{IsBitSet};
 ghost use Rattle.cam_units.specs.Board.{IsOnBoard};
 ghost use Rattle.cam_units.specs.declared.point.Spot.{Spot};
 ghost use Rattle.cam_shapes.specs.Cap.{IsSoundCap, is_in_cap};
@@ -9,11 +10,15 @@ ghost use Rattle.cam_shapes.specs.Contour.{IsInContour, IsSoundSeg};
 ghost use Rattle.cam_shapes.specs.Edge.{crosses_ray, edge, is_above};
 ghost use Rattle.cam_shapes.specs.Sides.{changes_side};
 ghost use Rattle.cam_objects.specs.Leaves.{Filled, leaf};
+ghost use Rattle.cam_rows.specs.Marks.{is_turned};
+ghost use Rattle.cam_tiles.specs.declared.masks.join.Join.TheVariants.{Turn as Turned};
 ghost use Rattle.cam_tiles.specs.Machinery.Filing.{AreFiled, IsOnBoardWhole, changes_at};
 ghost use Rattle.cam_tiles.specs.Machinery.Levels.{IsOnRow, levels_of};
+ghost use Rattle.cam_tiles.specs.Machinery.Masks.{joined};
 ghost use Rattle.cam_tiles.specs.Machinery.Runs.{IsWideGrid};
 ghost use Rattle.cam_tiles.specs.Machinery.Swaths.{ArePaintedIn, grid_at};
 ghost use Rattle.cam_tiles.specs.Machinery.Turning.{AreMarkedAt, AreWide, MarksCentres, TurnsCentres};
+ghost use Rattle.cam_tiles.specs.Tiles.{centre_in};
 
 use crate::grid::Grid;
 use crate::masks::filing::{FiledSegment, corner_at, segment_at};
@@ -23,9 +28,19 @@ use crate::masks::parity::crossed_heights;
 use crate::masks::row_shape::RowShape;
 use crate::shown::Region;
 use crate::span::Span;
-use cam_rows::{Centres, cap_runs, edge_runs, mark_ends, mark_runs, spread_marks};
+use cam_rows::{Centres, cap_runs, edge_runs, mark_end, mark_ends, mark_runs, spread_marks};
 use cam_shapes::{Cap, Contour, Seg};
 use cam_units::{Point, Spot};
+
+impl Grid {
+    /// The x of the last one of so many columns from the left on, in half nm.
+    fn last_x(&self, columns: u32) -> i64
+        requires { IsWideGrid self.now columns }
+        ensures { result ≡ (centre_in self.now (columns - 1) 0).x }
+    {
+        self.first.x + i64::from(columns - 1) * self.step
+    }
+}
 
 /// Marks the inside of a contour that is filed for the rows of a grid, and as many columns from its left on: the words of
 /// the tiles that these take up.
@@ -49,7 +64,8 @@ pub(crate) fn mark_inside(
     spread_marks(marks);
 }
 
-/// Counts the segments of a contour that are filed.
+/// Counts the segments of a contour that are filed. Those that lie right of all columns turn over whole rows, and those
+/// left of them change nothing: the others are marked.
 fn turn_filed(
     marks: &mut [u64],
     grid: &Grid,
@@ -63,8 +79,32 @@ fn turn_filed(
     requires filed { AreFiled contour.now (levels_of grid.now) filed.now }
     ensures { TurnsCentres grid.now columns (λ s. IsInContour s contour.now) marks.old marks.new }
 {
+    let first = grid.first.x;
+    let last = grid.last_x(columns);
+    let mut whole = 0;
     for segment in filed {
-        turn_place(marks, grid, columns, contour, segment.place);
+        if last < segment.left {
+            whole ^= segment.rows;
+        } else if first < segment.right {
+            turn_place(marks, grid, columns, contour, segment.place);
+        }
+    }
+    turn_whole(marks, grid.rows, columns, whole);
+}
+
+/// Turns over all columns in some of the first rows: bit k of `whole` for row k from the top.
+fn turn_whole(marks: &mut [u64], rows: u32, columns: u32, whole: u64)
+    requires rows { rows ≤ 64 }
+    requires wide { AreWide columns marks.old }
+    ensures { (column row : ℕ) → column < columns → row < rows → IsTrue (is_turned marks.new row column)
+        ↔ joined Turned (IsTrue (is_turned marks.old row column)) (IsBitSet whole row) }
+{
+    if whole == 0 {
+        return;
+    }
+    for row in 0..rows {
+        let end = if (whole >> row) & 1 == 1 { columns } else { 0 };
+        mark_end(marks, row, end);
     }
 }
 
