@@ -20,7 +20,7 @@ use Rattle.cam_tiles.proofs.Joined.{merges_shown, seen_itself, set_or_not}
 abbrev pub Either : Type 0 → Type 0
 Either P = P ⊎ (P → ⊥)
 
-true_or_not : (b : Bool) → Either (IsTrue b)
+pub true_or_not : (b : Bool) → Either (IsTrue b)
 true_or_not true = grind arith
 true_or_not false = grind arith
 
@@ -33,7 +33,7 @@ odd_or_not p column row = differs_or_not _ _ (set_or_not _ column) (set_or_not p
 pub turned_like : (New Was P Q : Type 0) → P ↔ Q → New ↔ joined Turn Was P → New ↔ joined Turn Was Q
 turned_like New Was P Q e h = grind arith
 
-turned_twice : (f g : Bool) (Was Between New : Type 0) → Either Was → Between ↔ joined Turn Was (IsTrue f)
+pub turned_twice : (f g : Bool) (Was Between New : Type 0) → Either Was → Between ↔ joined Turn Was (IsTrue f)
     → New ↔ joined Turn Between (IsTrue g) → New ↔ joined Turn Was (IsTrue (differ f g))
 turned_twice true true Was Between New either h k = grind arith
 turned_twice true false Was Between New either h k = grind arith
@@ -49,7 +49,7 @@ row_turned : (Marked Was New Held : Type 0) → Either Marked → Either Was →
     → joined Turn Marked New ↔ joined Turn (joined Turn Marked Was) Held
 row_turned Marked Was New Held marked was held h = grind arith
 
-not_turned : (Was Held : Type 0) → (Held → ⊥) → Was ↔ joined Turn Was Held
+pub not_turned : (Was Held : Type 0) → (Held → ⊥) → Was ↔ joined Turn Was Held
 not_turned Was Held none = grind arith
 
 -- ---- the centres of a grid
@@ -117,7 +117,7 @@ changes_rows P old new rows e f crossed = record {
 
 -- ---- masks
 
-from_even : (Marked Odd Was Held : Type 0) → Marked ↔ Odd → (Was → ⊥) → Odd ↔ joined Turn Was Held → Marked ↔ Held
+pub from_even : (Marked Odd Was Held : Type 0) → Marked ↔ Odd → (Was → ⊥) → Odd ↔ joined Turn Was Held → Marked ↔ Held
 from_even Marked Odd Was Held e none h = grind arith
 
 -- marks that are joined with the centres at which the number is odd, once something is counted

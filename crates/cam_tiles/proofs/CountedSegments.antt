@@ -38,7 +38,7 @@ use Rattle.cam_tiles.proofs.StepLemmas.{first_x}
 -- ---- one centre
 
 -- one more of the rows that are turned over in the end
-row_more : (f x : Bool) (Now Was Whole Rows New : Type 0) → Either Now → Either Was → Either Whole → Either Rows
+pub row_more : (f x : Bool) (Now Was Whole Rows New : Type 0) → Either Now → Either Was → Either Whole → Either Rows
     → joined Turn Now Whole ↔ joined Turn Was (IsTrue f) → IsTrue x ↔ Rows → New ↔ joined Turn Whole Rows
     → joined Turn Now New ↔ joined Turn Was (IsTrue (differ f x))
 row_more true true Now Was Whole Rows New now was whole rows h e t = grind arith
@@ -47,7 +47,7 @@ row_more false true Now Was Whole Rows New now was whole rows h e t = grind arit
 row_more false false Now Was Whole Rows New now was whole rows h e t = grind arith
 
 -- one more that is counted
-place_more : (f x : Bool) (Now Was Whole New : Type 0) → Either Now → Either Was → Either Whole
+pub place_more : (f x : Bool) (Now Was Whole New : Type 0) → Either Now → Either Was → Either Whole
     → joined Turn Now Whole ↔ joined Turn Was (IsTrue f) → New ↔ joined Turn Now (IsTrue x)
     → joined Turn New Whole ↔ joined Turn Was (IsTrue (differ f x))
 place_more true true Now Was Whole New now was whole h t = grind arith
@@ -55,7 +55,7 @@ place_more true false Now Was Whole New now was whole h t = grind arith
 place_more false true Now Was Whole New now was whole h t = grind arith
 place_more false false Now Was Whole New now was whole h t = grind arith
 
-none_more : (f x : Bool) (Now Was Whole : Type 0) → joined Turn Now Whole ↔ joined Turn Was (IsTrue f) → (IsTrue x → ⊥)
+pub none_more : (f x : Bool) (Now Was Whole : Type 0) → joined Turn Now Whole ↔ joined Turn Was (IsTrue f) → (IsTrue x → ⊥)
     → joined Turn Now Whole ↔ joined Turn Was (IsTrue (differ f x))
 none_more true true Now Was Whole h none = absurd (none refl)
 none_more false true Now Was Whole h none = absurd (none refl)
@@ -126,18 +126,18 @@ module _ (c : Contour) (old now : Parities) (whole : ℕ) (fs : List FiledSegmen
 
 -- ---- columns
 
-less_kept : (a b : ℤ) → FitsSigned w64 a → FitsSigned w64 b → lt_z (long a) (long b) ≡ true → a <ℤ b
+pub less_kept : (a b : ℤ) → FitsSigned w64 a → FitsSigned w64 b → lt_z (long a) (long b) ≡ true → a <ℤ b
 less_kept a b fits fits_too told = (less_is a b).0 (rw (to_z-of_z w64 a fits, to_z-of_z w64 b fits_too) at told)
 
-most_kept : (a b : ℤ) → FitsSigned w64 a → FitsSigned w64 b → lt_z (long a) (long b) ≡ false → b ≤ℤ a
+pub most_kept : (a b : ℤ) → FitsSigned w64 a → FitsSigned w64 b → lt_z (long a) (long b) ≡ false → b ≤ℤ a
 most_kept a b fits fits_too told =
     let other = rw (to_z-of_z w64 a fits, to_z-of_z w64 b fits_too) at told in
     by_lt_z a b (λ less. absurd (false≢true (sym other ∙ (less_is a b).1 less))) (λ most. most)
 
-before_end : (first far last left : ℤ) → far ≤ℤ last → (first +ℤ last) <ℤ left → (first +ℤ far) <ℤ left
+pub before_end : (first far last left : ℤ) → far ≤ℤ last → (first +ℤ last) <ℤ left → (first +ℤ far) <ℤ left
 before_end first far last left h k = omega (arith, ints)
 
-after_start : (first far right : ℤ) → pos 0 ≤ℤ far → right ≤ℤ first → right ≤ℤ (first +ℤ far)
+pub after_start : (first far right : ℤ) → pos 0 ≤ℤ far → right ≤ℤ first → right ≤ℤ (first +ℤ far)
 after_start first far right h k = omega (arith, ints)
 
 -- a segment of which the grid's columns lie all to one side

@@ -1,11 +1,13 @@
 -- Marks that are joined, row after row: with those of a shape, or with what is held in a column and a row.
-use Rattle.std.proofs.Common.{◌≡◌, ◌≢◌, ◌↔◌, ℕ, ◌+◌, ◌^◌, ◌<◌, ◌≤◌, ◌⊎◌, List, slice_index, slice_set}
-use Rattle.std.proofs.Common.{get_or-set_other, get_or-set_same, inl, inr, ◌∙◌, arith}
+use Rattle.std.proofs.Common.{◌≡◌, ◌≢◌, ◌↔◌, ℕ, ◌+◌, ◌-◌, ◌*◌, ◌/◌, ◌%◌, ◌^◌, ◌<◌, ◌≤◌, ◌⊎◌, List, slice_index, slice_set}
+use Rattle.std.proofs.Common.{IsTrue, bit_and, get_or-set_other, get_or-set_same, inl, inr, ◌∙◌, arith}
 use Rattle.std.proofs.Math.ListN.{length-set}
 use Rattle.std.specs.Int.{IsBitSet}
-use Rattle.std.proofs.lemmas.Bool.{cases_eq, cases_lt}
+use Rattle.std.proofs.lemmas.Bool.{cases_eq, cases_lt, eq-eqb, eqb-true}
 use Rattle.cam_units.specs.declared.point.Point.{Point}
 use Rattle.cam_units.specs.declared.point.Spot.{Spot}
+use Rattle.cam_rows.specs.Marks.{is_marked}
+use Rattle.cam_rows.proofs.SetBits.{set_in_and, set_is_one}
 use Rattle.cam_apertures.proofs.Painting.{through}
 use Rattle.cam_objects.specs.Image.{relative}
 use Rattle.cam_tiles.specs.declared.grid.Grid.{Grid}
@@ -14,6 +16,7 @@ use Rattle.cam_tiles.specs.declared.masks.join.Join.{Join}
 use Rattle.cam_tiles.specs.declared.masks.join.Join.TheVariants.{Add, Clear, Turn}
 use Rattle.cam_tiles.specs.Machinery.Masks.{IsIn, IsMarked, IsMask, IsWithin, Joins, Marking, joined}
 use Rattle.cam_tiles.specs.Tiles.{centre_in}
+use Rattle.cam_tiles.proofs.WordBits.{set_in_low}
 
 -- ---- one mark
 
@@ -164,3 +167,21 @@ pub none_outside : (IsHeld : Spot → Type 0) (h : Heights) (at : Point) (g : Gr
 none_outside IsHeld h at g first end stop band heights done column row inside outside held =
     let between = (band row inside.1).1 (heights (relative at (centre_in g column row)) held) in
     elim outside [ inl early ↦ omega (arith, between.0) | inr late ↦ omega (arith, between.1, done) ]
+
+-- ---- the words of a tile
+
+-- a word of a tile, cut to some columns
+pub tile_word : (marks : List ℕ) (tile row columns slim i word : ℕ) → columns ≤ 64 → columns ≡ slim → i < 64
+    → word ≡ bit_and (slice_index marks (64 * tile + row)) ((2 ^ 64 - 1) / 2 ^ (64 - columns))
+    → IsBitSet word i ↔ ((i < slim) × IsTrue (is_marked marks row (64 * tile + i)))
+tile_word marks tile row columns slim i word few same near is =
+    let own : (64 * tile + i) / 64 ≡ tile = omega arith in
+    let column : (64 * tile + i) % 64 ≡ i = omega arith in
+    let here = slice_index marks (64 * tile + row) in
+    let both = set_in_and here ((2 ^ 64 - 1) / 2 ^ (64 - columns)) i in
+    let low = set_in_low columns i few in
+    let narrow : (i < columns) ↔ (i < slim) = ((λ h. omega (arith, h, same)), (λ h. omega (arith, h, same))) in
+    rw (is, own, column) (
+      (λ set. (narrow.0 (low.0 (both.0 set).1), eq-eqb _ 1 ((set_is_one here i).0 (both.0 set).0))),
+      (λ on. both.1 ((set_is_one here i).1 (eqb-true _ 1 on.1), low.1 (narrow.1 on.0))),
+    )

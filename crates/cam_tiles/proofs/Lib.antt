@@ -3,6 +3,7 @@ pub mod Bytes
 pub mod ChangedParities
 pub mod CircleBounds
 pub mod ClippedLines
+pub mod CountedMarks
 pub mod CountedSegments
 pub mod DrawnTiles
 pub mod EdgeSpans
@@ -17,6 +18,7 @@ pub mod Joined
 pub mod JoinedMarks
 pub mod LevelRows
 pub mod MarkedBands
+pub mod MarkedTiles
 pub mod MaskWords
 pub mod PaintedBands
 pub mod PaintedMasks
@@ -47,6 +49,7 @@ pub mod TilesInOrder
 pub mod TouchedTiles
 pub mod TurnedBands
 pub mod TurnedContours
+pub mod TurnedMarks
 pub mod WindowLemmas
 pub mod WipedTiles
 pub mod WordBits

@@ -6,10 +6,13 @@ use Rattle.std.proofs.lemmas.Bool.{cases_lt}
 use Rattle.std.proofs.lemmas.Int.{ints}
 use Rattle.std.proofs.lemmas.List.{get_or_default, get_or-map, get_or_past, get_or-set_other, get_or-set_same, length-map, length-set}
 use Rattle.std.proofs.lemmas.List.Elements.{All-get_or}
+use Rattle.cam_units.specs.Boxes.{Holds}
 use Rattle.cam_units.specs.declared.bounds.Bounds.{Bounds}
 use Rattle.cam_units.specs.declared.point.Spot.{Spot}
+use Rattle.cam_objects.specs.Bounds.{bounds_of}
 use Rattle.cam_objects.specs.Leaves.{Leaf}
 use Rattle.cam_objects.specs.Tests.{is_black, painted}
+use Rattle.cam_objects.proofs.Canvases.{paints_missed}
 use Rattle.cam_tiles.specs.declared.grid.Grid.{Grid}
 use Rattle.cam_tiles.specs.declared.levels.Levels.{Levels}
 use Rattle.cam_tiles.specs.declared.masks.swath.Pitch.{Pitch}
@@ -99,6 +102,21 @@ passed_over first end masks left right before behind IsHeld sides k apart column
       | inl early ↦ (let off = before k column row early there in omega (arith, ints, off, between.0))
       | inr late ↦ (let off = behind k column row late there in omega (arith, ints, off, between.1))
     ]
+
+-- leaves whose box lies between two places across are painted where the masks that may reach these are
+pub painted_between : (first end : ℕ) (leaves : List Leaf) (old new : List Marking) (left right : ℤ)
+    → ((k column row : ℕ) → k < first → IsIn (grid_at old k) column row
+    → (centre_in (grid_at old k) column row).x <ℤ left)
+    → ((k column row : ℕ) → end ≤ k → IsIn (grid_at old k) column row
+    → right <ℤ (centre_in (grid_at old k) column row).x)
+    → ((s : Spot) → Holds (bounds_of leaves) s → (left ≤ℤ s.x) × (s.x ≤ℤ right))
+    → ArePaintedIn first end leaves old new → PaintsSwath old leaves new
+painted_between first end leaves old new left right before behind sides part =
+    part_painted first end leaves old new part
+    (λ k apart.
+    paints_missed (λ (m : Marking). IsIn m.grid) (λ (m : Marking). centre_in m.grid) ink_of (mask_at old k) leaves
+    (bounds_of leaves) refl
+    (passed_over first end old left right before behind (λ (s : Spot). Holds (bounds_of leaves) s) sides k apart))
 
 -- ---- masks from a first one up to an end, painted one after another
 

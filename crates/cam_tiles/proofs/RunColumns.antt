@@ -59,7 +59,7 @@ top_of g columns first = record {
   count = columns;
 }
 
-further_down : (y step : ℤ) (first k : ℕ) → y -ℤ pos first *ℤ step -ℤ pos k *ℤ step ≡ y -ℤ pos (first + k) *ℤ step
+pub further_down : (y step : ℤ) (first k : ℕ) → y -ℤ pos first *ℤ step -ℤ pos k *ℤ step ≡ y -ℤ pos (first + k) *ℤ step
 further_down y step first k =
     equal
     (Difference (Difference (Atom y) (Product (Atom (pos first)) (Atom step))) (Product (Atom (pos k)) (Atom step)))

@@ -13,23 +13,23 @@ use Rattle.cam_tiles.proofs.GridLemmas.{long}
 use Rattle.cam_tiles.proofs.WindowLemmas.{IsNear}
 
 -- the way between two that are near is short
-way_right : (x d : ℤ) → IsNear x → IsNear (x +ℤ d) → unsigned_abs d < 4000000000
+pub way_right : (x d : ℤ) → IsNear x → IsNear (x +ℤ d) → unsigned_abs d < 4000000000
 way_right x d here there = omega (arith, ints)
 
 way_down : (y d : ℤ) → IsNear y → IsNear (y -ℤ d) → unsigned_abs d < 4000000000
 way_down y d here there = omega (arith, ints)
 
 -- so many steps
-pub way_kept : (n s : ℤ) (k : ℕ) → n ≡ pos k → k < 64 → FitsSigned w64 s → long n *ℤ long s ≡ pos k *ℤ s
+pub way_kept : (n s : ℤ) (k : ℕ) → n ≡ pos k → k < 1000000 → FitsSigned w64 s → long n *ℤ long s ≡ pos k *ℤ s
 way_kept n s k e few fits =
     ap (λ z. long z *ℤ long s) e ∙ ap (λ z. z *ℤ long s) (to_z-of_z w64 (pos k) (omega (arith, ints)))
     ∙ ap (λ z. pos k *ℤ z) (to_z-of_z w64 s fits)
 
-fits_short : (d e : ℤ) → d ≡ e → unsigned_abs e < 4000000000 → FitsSigned w64 d
+pub fits_short : (d e : ℤ) → d ≡ e → unsigned_abs e < 4000000000 → FitsSigned w64 d
 fits_short d e same short = omega (arith, ints, ap unsigned_abs same)
 
 -- a step to the right, and one down
-right_is : (x d e : ℤ) → d ≡ e → IsNear x → unsigned_abs e < 4000000000
+pub right_is : (x d e : ℤ) → d ≡ e → IsNear x → unsigned_abs e < 4000000000
     → long x +ℤ long d ≡ x +ℤ e
 right_is x d e same here short = omega (arith, ints)
 
@@ -37,7 +37,7 @@ down_is : (y d e : ℤ) → d ≡ e → IsNear y → unsigned_abs e < 4000000000
     → long y -ℤ long d ≡ y -ℤ e
 down_is y d e same here short = omega (arith, ints)
 
-fits_near : (z m : ℤ) → z ≡ m → IsNear m → FitsSigned w64 z
+pub fits_near : (z m : ℤ) → z ≡ m → IsNear m → FitsSigned w64 z
 fits_near z m e h = omega (arith, ints, ap unsigned_abs e)
 
 pub long_near : (z m : ℤ) → z ≡ m → IsNear m → long z ≡ m

@@ -11,3 +11,4 @@ pub mod Shown
 pub mod Spans
 pub mod Strokes
 pub mod Swaths
+pub mod Turning

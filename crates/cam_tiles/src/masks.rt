@@ -16,3 +16,4 @@ pub(crate) mod stamps;
 pub(crate) mod stroke_runs;
 pub(crate) mod strokes;
 pub(crate) mod swath;
+pub(crate) mod turning;

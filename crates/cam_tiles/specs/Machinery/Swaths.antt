@@ -117,3 +117,4 @@ pub record StandInRow (g : Grid) (columns : ℕ) (tiles before : List ℕ) (coun
 pub record IsSwath (s : Inside) : Type 0 where
   pub laid : IsLaidOut s.pitch s.bounds s.before.items (length s.masks.items) (grid_at s.masks.items)
   pub stand : StandInRow s.corner s.columns s.tiles.items s.before.items (length s.masks.items) (grid_at s.masks.items)
+  pub room : 64 * length s.before.items ≤ length s.marks.items

@@ -8,7 +8,8 @@ ghost use Rattle.cam_shapes.specs.Cap.{IsSoundCap};
 ghost use Rattle.cam_shapes.specs.Contour.{IsInContour, end_of};
 ghost use Rattle.cam_shapes.specs.Contour.{IsSoundSeg};
 ghost use Rattle.cam_shapes.specs.Plane.{dot, square, way};
-ghost use Rattle.cam_tiles.specs.Machinery.Filing.{AreFiled, Files, IsOnBoardWhole, Misses, changes_at};
+ghost use Rattle.cam_tiles.specs.Machinery.Filing.{AreFiled, Files, IsOnBoardWhole, Misses, changes_at, corner_of};
+ghost use Rattle.cam_tiles.specs.Machinery.Filing.{segment_of};
 ghost use Rattle.cam_tiles.specs.Machinery.Levels.{IsLevels, levels_of};
 ghost use Rattle.cam_tiles.specs.Machinery.Masks.{Joins};
 ghost use Rattle.cam_tiles.specs.Machinery.Parities.{Changes};
@@ -179,6 +180,34 @@ fn end_of(seg: Seg) -> Point
     }
 }
 
+/// The point where the segment at a place of a contour starts.
+pub(crate) fn corner_at(contour: &Contour, place: u32) -> Point
+    requires contour { IsOnBoardWhole contour.now }
+    requires place { place ≤ length contour.now.segs }
+    ensures corner { result ≡ corner_of contour.now place }
+    ensures board { IsOnBoard result }
+{
+    if place == 0 {
+        return contour.start;
+    }
+    end_of(contour.segs.as_slice()[place as usize - 1])
+}
+
+/// The segment at a place of a contour, or the line that closes it.
+pub(crate) fn segment_at(contour: &Contour, place: u32) -> Seg
+    requires contour { IsOnBoardWhole contour.now }
+    requires place { place ≤ length contour.now.segs }
+    ensures seg { result ≡ segment_of contour.now place }
+    ensures sound { IsSoundSeg result }
+{
+    let segs = contour.segs.as_slice();
+    let place = place as usize;
+    if place < segs.len() {
+        return segs[place];
+    }
+    Seg::Line { to: contour.start }
+}
+
 impl Mask {
     /// Joins the marks with the inside of a contour that is filed for the rows of the grid.
     pub(crate) fn fill_filed(&mut self, contour: &Contour, filed: &[FiledSegment], how: Join)
@@ -220,18 +249,8 @@ impl Parity {
         requires place { place ≤ length contour.now.segs }
         ensures { Changes (λ s. IsTrue (changes_at contour.now s place)) self.old self.new }
     {
-        let segs = contour.segs.as_slice();
-        let place = place as usize;
-        let here = if place == 0 {
-            contour.start
-        } else {
-            end_of(segs[place - 1])
-        };
-        let seg = if place < segs.len() {
-            segs[place]
-        } else {
-            Seg::Line { to: contour.start }
-        };
+        let here = corner_at(contour, place);
+        let seg = segment_at(contour, place);
         self.turn_segment(here, seg);
     }
 }

@@ -1,10 +1,11 @@
 //! A mask, and how it gains and loses marks.
 
-ghost use Rattle.std.specs.Prelude.{◌≡◌, ◌≢◌, ◌↔◌, ◌+◌, ◌<◌, ◌≤◌, ℕ, IsTrue};
+ghost use Rattle.std.specs.Prelude.{◌≡◌, ◌≢◌, ◌↔◌, ◌+◌, ◌*◌, ◌<◌, ◌≤◌, ℕ, IsTrue, length};
 ghost use Rattle.std.specs.Int.{IsBitSet};
 ghost use Rattle.cam_units.specs.Board.{IsOnBoard};
 ghost use Rattle.cam_shapes.specs.Edge.{crosses_ray, edge, is_above};
 ghost use Rattle.cam_objects.specs.Image.{relative};
+ghost use Rattle.cam_rows.specs.Marks.{is_marked};
 ghost use Rattle.cam_rows.specs.Rows.{IsRow, centre_at};
 ghost use Rattle.cam_rows.specs.Runs.{most_columns};
 ghost use Rattle.cam_tiles.specs.declared.masks.join.Join.TheVariants.{Turn as Turned};
@@ -216,6 +217,22 @@ impl Mask {
         for row in band.first..band.end {
             let k = row as usize;
             self.rows[k] = how.join_row(self.rows[k], marks);
+        }
+    }
+
+    /// Joins the marks with those of a tile of a row of tiles: it has 64 words, one for each of its rows.
+    pub(crate) fn join_tile(&mut self, marks: &[u64], tile: u32, how: Join)
+        requires near { 64 * tile < most_columns }
+        requires room { 64 * tile + 64 ≤ length marks.now }
+        ensures grid { self.new.grid ≡ self.old.grid }
+        ensures marks { (i row : ℕ) → IsIn self.old.grid i row → IsMarked self.new i row
+            ↔ joined how (IsMarked self.old i row) (IsTrue (is_marked marks.now row (64 * tile + i))) }
+    {
+        let first = 64 * tile as usize;
+        let columns = u64::MAX >> (64 - self.grid.columns);
+        for row in 0..self.grid.rows as usize {
+            let word = marks[first + row] & columns;
+            self.rows[row] = how.join_row(self.rows[row], word);
         }
     }
 

@@ -39,6 +39,7 @@ use crate::masks::join::Join;
 use crate::masks::mask::Mask;
 use crate::masks::stroke_runs::{Stroke, StrokeRuns};
 use crate::masks::strokes::{paint_each, paint_strokes, stroke_of};
+use crate::masks::turning::{fill_marked, mark_inside};
 use crate::painter::Tile;
 use crate::shown::Region;
 use crate::window::Window;
@@ -71,6 +72,8 @@ pub(crate) struct Swath {
     masks: Vec<Mask>,
     /// The runs of the stroke that was painted last.
     stroke: StrokeRuns,
+    /// Room for the marks of a region: 64 words for each tile of the row.
+    marks: Vec<u64>,
 }
 
 /// A grid of one centre, at (0, 0).
@@ -105,6 +108,7 @@ impl Swath {
             tiles: Vec::new(alloc),
             masks: Vec::new(alloc),
             stroke: StrokeRuns::none(),
+            marks: Vec::new(alloc),
         }
     }
 
@@ -128,6 +132,7 @@ impl Swath {
         self.before.reserve(tiles.len())?;
         self.tiles.reserve(tiles.len())?;
         self.masks.reserve(tiles.len())?;
+        self.marks.resize(64 * tiles.len(), 0)?;
         let corner = window.grid(first);
         self.pitch = Pitch {
             left: corner.first.x,
@@ -180,7 +185,49 @@ impl Swath {
     {
         let first = self.first_reached(left);
         let end = self.end_reached(right);
+        if end.saturating_sub(first) > 1 {
+            self.fill_together(first, end, region, filed);
+            return;
+        }
         fill_masks(&mut self.masks, first, end, region, filed);
+    }
+
+    /// Joins the masks from one number to another with the inside of a region: each segment is counted once for all of
+    /// them, by marks in the rows of the tiles from the first of them to the last.
+    fn fill_together(
+        &mut self,
+        first: usize,
+        end: usize,
+        region: Region<'_>,
+        filed: &[FiledSegment],
+    )
+        requires some { first < end }
+        requires end { end ≤ length self.old }
+        requires contour { IsOnBoardWhole region.contour.now }
+        requires filed { (k : ℕ) → HasMask self.old k
+            → AreFiled region.contour.now (levels_of (grid_at self.old k)) filed.now }
+        ensures { ArePaintedIn first end (leaf (Filled region.entry.contour.now) region.entry.dark ∷ [])
+            self.old self.new }
+    {
+        let left = self.tiles[first];
+        let right = self.columns.min(64 * (self.tiles[end - 1] + 1));
+        let grid = self.masks[first].grid();
+        mark_inside(
+            &mut self.marks,
+            &grid,
+            right - 64 * left,
+            region.contour,
+            filed,
+        );
+        fill_marked(
+            &mut self.masks,
+            first,
+            end,
+            &self.tiles,
+            left,
+            &self.marks,
+            region,
+        );
     }
 
     /// Paints a stroke: its runs are found once for the row of tiles, and drawn on those masks alone that they reach.
@@ -305,6 +352,7 @@ fn put_blanks(
         → IsLaidOut pitch result before.new.items (length masks.new.items) (grid_at masks.new.items) }
     ensures stand { (corner : Grid) → corner ≡ grid_of window.now first → StandInRow corner window.now.width
         own.new.items before.new.items (length masks.new.items) (grid_at masks.new.items) }
+    ensures each { length before.new.items ≡ length tiles.now }
 {
     let mut bounds = Bounds::Empty;
     for (tile, drawn) in tiles.iter().enumerate() {

@@ -1,18 +1,13 @@
 use Rattle.std.proofs.Common.{◌≡◌, ℕ, ◌-◌, ◌/◌, ◌^◌, ◌<◌, ◌≤◌, ◌↔◌, slice_index, ap, sym, ◌∙◌, rules, arith, bit_and}
 use Rattle.std.specs.Int.{IsBitSet}
 use Rattle.std.proofs.lemmas.Nat.{xor_lt}
-use Rattle.std.proofs.lemmas.Nat.Bits.{shr_and_one}
 use Rattle.cam_apertures.proofs.Painting.{through}
-use Rattle.cam_rows.proofs.SetBits.{none_set, set_in_xor, set_is_one}
+use Rattle.cam_rows.proofs.SetBits.{none_set, set_in_xor}
 use Rattle.cam_tiles.specs.declared.masks.join.Join.TheVariants.{Turn as Turned}
 use Rattle.cam_tiles.proofs.JoinedMarks.{joined_with, next_row_at}
-use Rattle.cam_tiles.proofs.WordBits.{set_in_low}
+use Rattle.cam_tiles.proofs.WordBits.{row_told, set_in_low}
 use Rattle.cam_tiles.proofs.masks.mask.Mask.turn_rows.Goals as goal
 use Rattle.cam_tiles.proofs.masks.mask.Mask.turn_rows.Goals.{then-rows-row-eq1, else-rows-row-eq1}
-
--- the bit of a row, as the code tests it
-row_told : (rows row : ℕ) → (bit_and (rows / 2 ^ row) 1 ≡ 1) ↔ IsBitSet rows row
-row_told rows row = rw (shr_and_one rows row) ((set_is_one rows row).1, (set_is_one rows row).0)
 
 -- the bits of the columns where the row is turned, and none where it is not
 turned_row : (rows row columns word i : ℕ) → columns ≤ 64 → word ≡ (2 ^ 64 - 1) / 2 ^ (64 - columns)

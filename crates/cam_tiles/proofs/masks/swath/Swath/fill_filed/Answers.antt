@@ -1,17 +1,12 @@
-use Rattle.std.proofs.Common.{List, [], ◌∷◌, ◌≤◌, length, sym, subst, ◌∙◌, refl, rules, FitsSigned, w64, arith}
+use Rattle.std.proofs.Common.{List, [], ◌∷◌, ◌≤◌, length, sym, subst, ◌∙◌, rules, FitsSigned, w64, arith}
 use Rattle.std.proofs.lemmas.Int.{to_z-of_z}
 use Rattle.std.proofs.lemmas.List.{with_items_is}
-use Rattle.cam_units.specs.Boxes.{Holds}
-use Rattle.cam_units.specs.declared.point.Spot.{Spot}
-use Rattle.cam_objects.specs.Bounds.{bounds_of}
 use Rattle.cam_objects.specs.Leaves.{Filled, leaf}
-use Rattle.cam_objects.proofs.Canvases.{paints_missed}
 use Rattle.cam_tiles.specs.Machinery.Filing.{AreFiled}
 use Rattle.cam_tiles.specs.Machinery.Levels.{levels_of}
-use Rattle.cam_tiles.specs.Machinery.Masks.{IsIn, Marking, ink_of}
-use Rattle.cam_tiles.specs.Machinery.Swaths.{HasMask, grid_at, mask_at}
-use Rattle.cam_tiles.specs.Tiles.{centre_in}
-use Rattle.cam_tiles.proofs.PaintedSwaths.{part_kept, part_painted, passed_over, put_back}
+use Rattle.cam_tiles.specs.Machinery.Masks.{Marking}
+use Rattle.cam_tiles.specs.Machinery.Swaths.{HasMask, grid_at}
+use Rattle.cam_tiles.proofs.PaintedSwaths.{painted_between, part_kept, put_back}
 use Rattle.cam_tiles.proofs.masks.swath.Swath.fill_filed.Goals as goal
 
 pub fill_masks-requires-clause-filed : goal.fill_masks-requires-clause-filed
@@ -40,27 +35,30 @@ invariant_of-self c =
     (subst (λ (ms : List Marking). c.end_reached-end.result ≤ length ms) (sym c.self.view_is)
     c.end_reached-end.ensures.within)
     c.self.invariant.laid c.self.invariant.stand in
-    record { laid = kept.0; stand = kept.1 }
+    record { laid = kept.0; stand = kept.1; room = c.self.invariant.room }
+
+pub returns-then-saturating_sub-gt1 : goal.returns-then-saturating_sub-gt1
+returns-then-saturating_sub-gt1 c =
+    let least : FitsSigned w64 c.args.left = search rules in
+    let greatest : FitsSigned w64 c.args.right = search rules in
+    let before = simp to_z-of_z at c.first_reached-first.ensures in
+    let behind = simp to_z-of_z at c.end_reached-end.ensures.apart in
+    painted_between c.first_reached-first.result c.end_reached-end.result
+    (leaf (Filled c.args.region.contour.now) c.args.region.dark ∷ []) c.args.self.now _ c.args.left c.args.right before
+    behind c.requires.sides c.fill_together.ensures
 
 pub returns : goal.returns
 returns c =
     let s = c.self.inside in
-    let old = c.args.self.now in
     let first = c.first_reached-first.result in
     let end = c.end_reached-end.result in
     let leaves = leaf (Filled c.args.region.contour.now) c.args.region.dark ∷ [] in
     let new = c.fill_masks.new.masks in
     let after = with_items_is s.masks new (c.fill_masks.ensures.size ∙ c.deref_mut.ensures.len) in
-    let part =
-    put_back first end leaves old c.deref_mut.result.now new _ (c.deref_mut.ensures.value ∙ c.self.view_is) after
-    c.fill_masks.ensures in
     let least : FitsSigned w64 c.args.left = search rules in
     let greatest : FitsSigned w64 c.args.right = search rules in
     let before = simp to_z-of_z at c.first_reached-first.ensures in
     let behind = simp to_z-of_z at c.end_reached-end.ensures.apart in
-    part_painted first end leaves old _ part
-    (λ k apart.
-    paints_missed (λ (m : Marking). IsIn m.grid) (λ (m : Marking). centre_in m.grid) ink_of (mask_at old k) leaves
-    (bounds_of leaves) refl
-    (passed_over first end old c.args.left c.args.right before behind
-    (λ (t : Spot). Holds (bounds_of leaves) t) c.requires.sides k apart))
+    painted_between first end leaves c.args.self.now _ c.args.left c.args.right before behind c.requires.sides
+    (put_back first end leaves c.args.self.now c.deref_mut.result.now new _
+    (c.deref_mut.ensures.value ∙ c.self.view_is) after c.fill_masks.ensures)

@@ -54,7 +54,7 @@ invariant_of-self c =
       c.self.invariant.stand.few c.div_ceil-end_tile.result,
     ))
     c.self.invariant.laid c.self.invariant.stand in
-    record { laid = kept.0; stand = kept.1 }
+    record { laid = kept.0; stand = kept.1; room = c.self.invariant.room }
 
 pub returns : goal.returns
 returns c =

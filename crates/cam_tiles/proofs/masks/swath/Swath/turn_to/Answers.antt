@@ -22,4 +22,5 @@ invariant_of-self-2 c =
       laid = simp to_z-of_z (c.put_blanks-self-inside.ensures.laid (pitch_of c.grid-corner.result)
           (ap pitch_of c.grid-corner.ensures.value));
       stand = c.put_blanks-self-inside.ensures.stand c.grid-corner.result c.grid-corner.ensures.value;
+      room = omega (arith, c.put_blanks-self-inside.ensures.each, c.in_ok-resize.ensures.len);
     }

@@ -32,7 +32,7 @@ invariant_of-self c =
     (subst (λ (ms : List Marking). c.end_reached-end.result ≤ length ms) (sym c.self.view_is)
     c.end_reached-end.ensures.within)
     c.self.invariant.laid c.self.invariant.stand in
-    record { laid = kept.0; stand = kept.1 }
+    record { laid = kept.0; stand = kept.1; room = c.self.invariant.room }
 
 pub returns-2 : goal.returns-2
 returns-2 c =

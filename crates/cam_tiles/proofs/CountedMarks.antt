@@ -1,0 +1,213 @@
+-- Filed segments, counted one after another by marks: some of them by rows that are turned over whole in the end.
+use Rattle.std.proofs.Common.{◌≡◌, ◌↔◌, ℕ, ◌+◌, ◌-◌, ◌<◌, ◌≤◌, ℤ, pos, ◌+ℤ◌, ◌*ℤ◌, ◌<ℤ◌, Bool, true, false, IsTrue}
+use Rattle.std.proofs.Common.{List, ◌∷◌, [], ◌++◌, length, take, refl, sym, ap, subst, ◌∙◌, inl, inr, FitsSigned, w64, arith}
+use Rattle.std.specs.Int.{IsBitSet}
+use Rattle.std.specs.Int.RustNames.{bit_xor, unsigned_abs}
+use Rattle.std.proofs.lemmas.Bool.{cases_eq, false≢true}
+use Rattle.std.proofs.lemmas.Int.{ints}
+use Rattle.std.proofs.lemmas.List.{take_all}
+use lib.Signed.{lt_z}
+use Rattle.cam_units.specs.Board.{IsPlace}
+use Rattle.cam_units.specs.declared.point.Spot.{Spot}
+use Rattle.cam_shapes.specs.declared.contour.Contour.{Contour}
+use Rattle.cam_shapes.specs.Contour.{IsInContour}
+use Rattle.cam_shapes.specs.Sides.{change_side, differ}
+use Rattle.cam_shapes.proofs.Parity.{sides_are_parity}
+use Rattle.cam_rows.specs.Marks.{TurnsRow, is_turned}
+use Rattle.cam_rows.proofs.SetBits.{none_set, set_in_xor}
+use Rattle.cam_apertures.proofs.Painting.{through}
+use Rattle.cam_tiles.specs.declared.grid.Grid.{Grid}
+use Rattle.cam_tiles.specs.declared.masks.filing.FiledSegment.{FiledSegment}
+use Rattle.cam_tiles.specs.declared.masks.join.Join.TheVariants.{Turn}
+use Rattle.cam_tiles.specs.Machinery.Filing.{AreFiled, IsFiledSegment, changes_at, filed_change}
+use Rattle.cam_tiles.specs.Machinery.Levels.{levels_of}
+use Rattle.cam_tiles.specs.Machinery.Masks.{joined}
+use Rattle.cam_tiles.specs.Machinery.Runs.{IsWideGrid}
+use Rattle.cam_tiles.specs.Machinery.Turning.{TurnsCentres}
+use Rattle.cam_tiles.specs.Tiles.{centre_in}
+use Rattle.cam_tiles.proofs.ChangedParities.{true_or_not, turned_like}
+use Rattle.cam_tiles.proofs.CountedSegments.{after_start, before_end, less_kept, most_kept, none_more, place_more, row_more}
+use Rattle.cam_tiles.proofs.FiledContours.{changed_more}
+use Rattle.cam_tiles.proofs.GridColumns.{column_far}
+use Rattle.cam_tiles.proofs.GridLemmas.{long}
+use Rattle.cam_tiles.proofs.Joined.{set_or_not}
+use Rattle.cam_tiles.proofs.LevelRows.{down_to}
+use Rattle.cam_tiles.proofs.StepLemmas.{first_x, fits_near, fits_short, long_near, right_is, way_kept, way_right}
+
+-- ---- one centre
+
+-- nothing is counted yet
+none_yet : (Was Set : Type 0) → (Set → ⊥) → joined Turn Was Set ↔ joined Turn Was (IsTrue false)
+none_yet Was Set none = let no : IsTrue false → ⊥ = λ t. false≢true t in grind (arith, no)
+
+-- a row above the one that is turned, that one, and one below it
+row_passed : (Now Was New Held Set Above More : Type 0) → (Held → ⊥) → Above ↔ More → New ↔ joined Turn Now Held
+    → Now ↔ joined Turn Was (Above × Set) → New ↔ joined Turn Was (More × Set)
+row_passed Now Was New Held Set Above More none same h k = grind arith
+
+row_turned : (Now Was New Held Set Above More : Type 0) → Held ↔ Set → (Above → ⊥) → More → New ↔ joined Turn Now Held
+    → Now ↔ joined Turn Was (Above × Set) → New ↔ joined Turn Was (More × Set)
+row_turned Now Was New Held Set Above More same none more h k = grind arith
+
+all_passed : (Now Was Above Set : Type 0) → Above → Now ↔ joined Turn Was (Above × Set) → Now ↔ joined Turn Was Set
+all_passed Now Was Above Set above h = grind arith
+
+-- ---- whole rows
+
+-- the rows above one are turned over
+abbrev pub AreTurnedAbove : ℕ → ℕ → ℕ → List ℕ → List ℕ → Type 0
+AreTurnedAbove columns end whole old now =
+    (column row : ℕ) → column < columns → row < 64
+    → IsTrue (is_turned now row column) ↔ joined Turn (IsTrue (is_turned old row column)) ((row < end) × IsBitSet whole row)
+
+pub none_above : (columns whole : ℕ) (old : List ℕ) → AreTurnedAbove columns 0 whole old old
+none_above columns whole old column row near below = (
+  (λ t. inl (t, (λ h. omega (arith, h.0)))),
+  (λ h. elim h [
+    | inl was ↦ was.0
+    | inr new ↦ absurd (omega (arith, new.1.0))
+  ]),
+)
+
+pub one_more_above : (columns k whole end : ℕ) (old now new : List ℕ) → k < 64 → columns ≤ length now
+    → ((column : ℕ) → column < columns → (column < end) ↔ IsBitSet whole k)
+    → TurnsRow k (λ column. column < end) now new → AreTurnedAbove columns k whole old now
+    → AreTurnedAbove columns (k + 1) whole old new
+one_more_above columns k whole end old now new few room told turned so_far column row near below =
+    let h = turned row column below (omega (arith, near, room)) in
+    elim (cases_eq row k) [
+      | inl here ↦ row_turned _ _ _ _ _ _ _ (
+        (λ held. subst (IsBitSet whole) (sym here) ((told column near).0 held.1)),
+        (λ set. (here, (told column near).1 (subst (IsBitSet whole) here set))),
+      ) (λ above. omega (arith, above, here)) (omega (arith, here)) h (so_far column row near below)
+      | inr apart ↦ row_passed _ _ _ _ _ _ _ (λ held. apart held.0)
+          ((λ above. omega (arith, above)), (λ more. omega (arith, more, apart))) h (so_far column row near below)
+    ]
+
+pub all_above : (columns rows end whole : ℕ) (old now : List ℕ) → rows ≤ 64 → rows ≤ end
+    → AreTurnedAbove columns end whole old now → (column row : ℕ) → column < columns → row < rows
+    → IsTrue (is_turned now row column) ↔ joined Turn (IsTrue (is_turned old row column)) (IsBitSet whole row)
+all_above columns rows end whole old now few done so_far column row near below =
+    all_passed _ _ _ _ (omega (arith, below, done)) (so_far column row near (omega (arith, below, few)))
+
+-- no row is turned
+pub none_turned : (whole row : ℕ) (Was : Type 0) → whole ≡ 0 → Was ↔ joined Turn Was (IsBitSet whole row)
+none_turned whole row Was none = let no = none_set whole row none in grind (arith, no)
+
+-- ---- the columns of rows that go on to the right
+
+module _ (g : Grid) (columns : ℕ) (wide : IsWideGrid g columns) where
+  last_place : IsPlace (centre_in g (columns - 1) 0)
+  last_place = wide.centres (columns - 1) 0 (omega (arith, wide.count.0)) wide.grid.rows.0
+
+  module _ (fits : FitsSigned w64 g.step) (n : ℤ) (is : n ≡ pos (columns - 1)) where
+    last_short : unsigned_abs (pos (columns - 1) *ℤ g.step) < 4000000000
+    last_short = way_right g.first.x (pos (columns - 1) *ℤ g.step) (first_x g wide.grid) last_place.x
+
+    way_is : long n *ℤ long g.step ≡ pos (columns - 1) *ℤ g.step
+    way_is = way_kept n g.step (columns - 1) is (omega (arith, wide.count.1)) fits
+
+    pub last_way_fits : FitsSigned w64 (long n *ℤ long g.step)
+    last_way_fits = fits_short _ _ way_is last_short
+
+    x_is : long g.first.x +ℤ long (long n *ℤ long g.step) ≡ (centre_in g (columns - 1) 0).x
+    x_is =
+        right_is g.first.x (long n *ℤ long g.step) (pos (columns - 1) *ℤ g.step) way_is (first_x g wide.grid) last_short
+
+    pub last_fits : FitsSigned w64 (long g.first.x +ℤ long (long n *ℤ long g.step))
+    last_fits = fits_near _ _ x_is last_place.x
+
+    pub last_kept : long (long g.first.x +ℤ long (long n *ℤ long g.step)) ≡ (centre_in g (columns - 1) 0).x
+    last_kept = long_near _ _ x_is last_place.x
+
+  -- a segment of which the columns lie all to one side
+  module _ (c : Contour) (f : FiledSegment) (filed : IsFiledSegment c (levels_of g) f) where
+    pub left_of_it : (last : ℤ) → last ≡ (centre_in g (columns - 1) 0).x → FitsSigned w64 f.left
+        → lt_z (long last) (long f.left) ≡ true → (column row : ℕ) → column < columns → row < g.rows
+        → IsTrue (changes_at c (centre_in g column row) f.place) ↔ IsBitSet f.rows row
+    left_of_it last is_last fits told column row near below =
+        let ends = less_kept last f.left (fits_near last _ is_last last_place.x) fits told in
+        let far =
+        down_to g.step (unsigned_abs g.step) column (columns - 1) (omega (arith, ints, wide.grid.step)) (omega (arith, near)) in
+        filed.left row (centre_in g column row) (below, refl) (before_end g.first.x _ _ f.left far (rw is_last at ends))
+
+    pub right_of_it : FitsSigned w64 f.right → lt_z (long g.first.x) (long f.right) ≡ false → (column row : ℕ)
+        → column < columns → row < g.rows → IsTrue (changes_at c (centre_in g column row) f.place) → ⊥
+    right_of_it fits told column row near below =
+        let starts =
+        most_kept g.first.x f.right (fits_near g.first.x g.first.x refl (first_x g wide.grid)) fits told in
+        filed.right row (centre_in g column row) (below, refl)
+        (after_start g.first.x _ f.right (column_far g column wide.grid) starts)
+
+-- ---- filed segments
+
+-- at each centre, what is counted and what is left to be turned over make up the changes by some filed segments
+abbrev pub AreCounted : Grid → ℕ → Contour → List FiledSegment → List ℕ → List ℕ → ℕ → Type 0
+AreCounted g columns c fs old now whole =
+    (column row : ℕ) → column < columns → row < g.rows
+    → joined Turn (IsTrue (is_turned now row column)) (IsBitSet whole row)
+    ↔ joined Turn (IsTrue (is_turned old row column)) (IsTrue (filed_change c fs (centre_in g column row)))
+
+module _ (g : Grid) (columns : ℕ) (c : Contour) where
+  pub none_counted_yet : (fs : List FiledSegment) (old : List ℕ) → AreCounted g columns c (take 0 fs) old old 0
+  none_counted_yet fs old column row near below = none_yet _ _ (none_set 0 row refl)
+
+  module _ (old now : List ℕ) (whole : ℕ) (fs : List FiledSegment) (k : ℕ) (f : FiledSegment)
+      (next : take (k + 1) fs ≡ take k fs ++ f ∷ []) (so_far : AreCounted g columns c (take k fs) old now whole) where
+    abbrev place : ℕ → ℕ → Spot
+    place column row = centre_in g column row
+
+    counted_next : (new : List ℕ) (turned : ℕ)
+        → ((column row : ℕ) → column < columns → row < g.rows
+        → joined Turn (IsTrue (is_turned new row column)) (IsBitSet turned row)
+        ↔ joined Turn (IsTrue (is_turned old row column))
+        (IsTrue (differ (filed_change c (take k fs) (place column row)) (changes_at c (place column row) f.place))))
+        → AreCounted g columns c (take (k + 1) fs) old new turned
+    counted_next new turned odd column row near below =
+        let IsSo : Bool → Type 0 = λ b. joined Turn (IsTrue (is_turned new row column)) (IsBitSet turned row)
+        ↔ joined Turn (IsTrue (is_turned old row column)) (IsTrue b) in
+        subst IsSo
+        (sym (ap (λ xs. filed_change c xs (place column row)) next ∙ changed_more c (take k fs) f (place column row)))
+        (odd column row near below)
+
+    -- a segment right of all columns is counted by its rows
+    pub rows_more : (turned : ℕ) → turned ≡ bit_xor whole f.rows
+        → ((column row : ℕ) → column < columns → row < g.rows
+        → IsTrue (changes_at c (place column row) f.place) ↔ IsBitSet f.rows row)
+        → AreCounted g columns c (take (k + 1) fs) old now turned
+    rows_more turned is_turned_over rows =
+        counted_next now turned (λ column row near below.
+        row_more (filed_change c (take k fs) (place column row)) (changes_at c (place column row) f.place) _ _ _ _ _
+        (true_or_not (is_turned now row column)) (true_or_not (is_turned old row column)) (set_or_not whole row)
+        (set_or_not f.rows row) (so_far column row near below) (rows column row near below)
+        (rw is_turned_over (set_in_xor whole f.rows row)))
+
+    -- one that has an end among them is marked
+    pub marks_more : (new : List ℕ) → TurnsCentres g columns (λ s. IsTrue (changes_at c s f.place)) now new
+        → AreCounted g columns c (take (k + 1) fs) old new whole
+    marks_more new changed =
+        counted_next new whole (λ column row near below.
+        place_more (filed_change c (take k fs) (place column row)) (changes_at c (place column row) f.place) _ _ _ _
+        (true_or_not (is_turned now row column)) (true_or_not (is_turned old row column)) (set_or_not whole row)
+        (so_far column row near below) (changed column row near below))
+
+    -- and one left of them changes nothing
+    pub nothing_more : ((column row : ℕ) → column < columns → row < g.rows
+        → IsTrue (changes_at c (place column row) f.place) → ⊥)
+        → AreCounted g columns c (take (k + 1) fs) old now whole
+    nothing_more none =
+        counted_next now whole (λ column row near below.
+        none_more (filed_change c (take k fs) (place column row)) (changes_at c (place column row) f.place) _ _ _
+        (so_far column row near below) (none column row near below))
+
+  pub all_marked : (old now new : List ℕ) (whole : ℕ) (fs : List FiledSegment) (k : ℕ) → length fs ≤ k
+      → AreFiled c (levels_of g) fs → AreCounted g columns c (take k fs) old now whole
+      → ((column row : ℕ) → column < columns → row < g.rows
+      → IsTrue (is_turned new row column) ↔ joined Turn (IsTrue (is_turned now row column)) (IsBitSet whole row))
+      → TurnsCentres g columns (λ s. IsInContour s c) old new
+  all_marked old now new whole fs k all filed so_far turned column row near below =
+      let s = centre_in g column row in
+      let told : filed_change c (take k fs) s ≡ change_side s c.start c.start c.segs =
+      ap (λ xs. filed_change c xs s) (take_all k fs all) ∙ filed.change row s (below, refl) in
+      turned_like _ _ _ _ (sides_are_parity s c (filed_change c (take k fs) s) told)
+      (through (turned column row near below) (so_far column row near below))

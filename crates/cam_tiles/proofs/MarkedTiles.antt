@@ -1,0 +1,133 @@
+-- Masks side by side that are filled by marks: those of the tiles from the first of them to the last one.
+use Rattle.std.proofs.Common.{◌≡◌, ◌↔◌, ℕ, ◌+◌, ◌-◌, ◌*◌, ◌/◌, ◌<◌, ◌≤◌, IsTrue, List, length, get_or, min}
+use Rattle.std.proofs.Common.{sym, ap, subst, ◌∙◌, arith}
+use Rattle.std.proofs.lemmas.List.{get_or_default, get_or_past}
+use Rattle.cam_units.specs.Board.{IsPlace}
+use Rattle.cam_units.specs.declared.point.Spot.{Spot}
+use Rattle.cam_rows.specs.Marks.{is_marked}
+use Rattle.cam_tiles.specs.declared.grid.Grid.{Grid}
+use Rattle.cam_tiles.specs.Machinery.Masks.{Marking}
+use Rattle.cam_tiles.specs.Machinery.Runs.{IsWideGrid}
+use Rattle.cam_tiles.specs.Machinery.Swaths.{HasMask, StandInRow, grid_at, no_mask}
+use Rattle.cam_tiles.specs.Machinery.Turning.{AreMarkedAt, MarksCentres}
+use Rattle.cam_tiles.specs.Tiles.{IsGrid, centre_in}
+
+module _ (g : Grid) (columns : ℕ) (tiles before : List ℕ) (masks : List Marking)
+    (stand : StandInRow g columns tiles before (length masks) (grid_at masks)) where
+  abbrev tile : ℕ → ℕ
+  tile k = get_or tiles k 0
+
+  -- the tiles of the masks go from the left to the right
+  pub in_order : (j k : ℕ) → j ≤ k → k < length masks → tile j ≤ tile k
+  in_order j k no_later within =
+      let here = (stand.order k (tile k + 1) within).1 (omega arith) in
+      let there = (stand.order j (tile k + 1) (omega (arith, no_later, within))).0 (omega (arith, here, no_later)) in
+      omega (arith, there)
+
+  module _ (first last right : ℕ) (no_later : first ≤ last) (within : last < length masks)
+      (grid : IsGrid (grid_at masks first)) (is : right ≡ min columns (64 * (tile last + 1))) where
+    inside : first < length masks
+    inside = omega (arith, no_later, within)
+
+    -- the columns from the left end of the first of them to the right end of the last
+    pub begins_before : 64 * tile first < right
+    begins_before =
+        omega (arith, is, stand.within first inside, grid.columns.0, in_order first last no_later within)
+
+    pub words_there : (words : ℕ) → 64 * length before ≤ words → 64 * ((right - 64 * tile first + 63) / 64) ≤ words
+    words_there words room =
+        let all = get_or_past before (length before) (length masks) (omega arith) in
+        let near = (stand.order last (length before) within).0 (omega (arith, all, within)) in
+        omega (arith, is, near, room)
+
+    further : (column row : ℕ)
+        → centre_in (grid_at masks first) column row ≡ centre_in g (64 * tile first + column) row
+    further column row = (stand.each first inside).centres column row
+
+    -- the rows of the first of them go on to the right
+    pub wide_from : IsWideGrid (grid_at masks first) (right - 64 * tile first)
+    wide_from = record {
+      grid = grid;
+      count = (omega (arith, begins_before), omega (arith, is, stand.wide.count.1));
+      centres = λ column row near below.
+          subst IsPlace (sym (further column row))
+          (stand.wide.centres (64 * tile first + column) row (omega (arith, near, is))
+          (omega (arith, below, (stand.each first inside).rows)));
+    }
+
+    -- what is marked from there on is so in each of the masks up to the last one
+    pub marked_there : (IsHeld : Spot → Type 0) (marks : List ℕ) → 64 * length before ≤ length marks
+        → MarksCentres (grid_at masks first) (right - 64 * tile first) IsHeld marks
+        → (k : ℕ) → first ≤ k → k ≤ last → AreMarkedAt (tile k - tile first) (grid_at masks k) IsHeld marks
+    marked_there IsHeld marks room told k after until =
+        let there_is : k < length masks = omega (arith, until, within) in
+        let at = stand.each k there_is in
+        let from = in_order first k after there_is in
+        let to = in_order k last until within in
+        let all = get_or_past before (length before) (length masks) (omega arith) in
+        let in_row = (stand.order k (length before) there_is).0 (omega (arith, all, there_is)) in
+        record {
+          near = omega (arith, at.near);
+          room = omega (arith, room, in_row);
+          each = λ i row there.
+              let column = 64 * (tile k - tile first) + i in
+              let same : 64 * tile first + column ≡ 64 * tile k + i = omega (arith, from) in
+              let place : centre_in (grid_at masks first) column row ≡ centre_in (grid_at masks k) i row =
+              further column row ∙ ap (λ j. centre_in g j row) same ∙ sym (at.centres i row) in
+              let near : column < right - 64 * tile first =
+              omega (arith, there.0, from, to, is, stand.narrow k there_is, stand.within k there_is) in
+              subst (λ (s : Spot). IsTrue (is_marked marks row column) ↔ IsHeld s) place
+              (told column row near (omega (arith, there.1, at.rows, (stand.each first inside).rows)));
+        }
+
+  -- the same, by what is read of them
+  module _ (first end left last right : ℕ) (h : Grid) (d : Marking) (some : first < end) (few : end ≤ length masks)
+      (is_left : left ≡ get_or tiles first left) (is_last : last ≡ get_or tiles (end - 1) last)
+      (is_right : right ≡ min columns (64 * (last + 1))) (is_grid : h ≡ (get_or masks first d).grid) (grid : IsGrid h)
+    where
+      no_later : first ≤ end - 1
+      no_later = omega (arith, some)
+
+      under : end - 1 < length masks
+      under = omega (arith, some, few)
+
+      same_left : left ≡ tile first
+      same_left = is_left ∙ get_or_default tiles first left 0 (omega (arith, stand.size, some, few))
+
+      same_right : right ≡ min columns (64 * (tile (end - 1) + 1))
+      same_right =
+          is_right
+          ∙ ap (λ n. min columns (64 * (n + 1)))
+          (is_last ∙ get_or_default tiles (end - 1) last 0 (omega (arith, stand.size, some, few)))
+
+      same_grid : h ≡ grid_at masks first
+      same_grid =
+          is_grid ∙ ap (λ (m : Marking). m.grid) (get_or_default masks first d no_mask (omega (arith, some, few)))
+
+      grid_there : IsGrid (grid_at masks first)
+      grid_there = subst IsGrid same_grid grid
+
+      pub left_before : 64 * left ≤ right
+      left_before =
+          omega (arith, same_left, begins_before first (end - 1) right no_later under grid_there same_right)
+
+      pub room_read : (words : ℕ) → 64 * length before ≤ words → 64 * ((right - 64 * left + 63) / 64) ≤ words
+      room_read words room =
+          rw same_left (words_there first (end - 1) right no_later under grid_there same_right words room)
+
+      pub wide_read : IsWideGrid h (right - 64 * left)
+      wide_read = rw (same_left, same_grid) (wide_from first (end - 1) right no_later under grid_there same_right)
+
+      pub filed_read : (IsFiled : Grid → Type 0) → ((k : ℕ) → HasMask masks k → IsFiled (grid_at masks k)) → IsFiled h
+      filed_read IsFiled filed =
+          subst IsFiled (sym same_grid) (filed first (grid_there.columns.0, grid_there.rows.0))
+
+      pub left_of_all : (k : ℕ) → first ≤ k → k < end → left ≤ tile k
+      left_of_all k after until = omega (arith, same_left, in_order first k after (omega (arith, until, few)))
+
+      pub marked_read : (IsHeld : Spot → Type 0) (marks : List ℕ) → 64 * length before ≤ length marks
+          → MarksCentres h (right - 64 * left) IsHeld marks
+          → (k : ℕ) → first ≤ k → k < end → AreMarkedAt (tile k - left) (grid_at masks k) IsHeld marks
+      marked_read IsHeld marks room told k after until =
+          rw same_left (marked_there first (end - 1) right no_later under grid_there same_right IsHeld marks room
+          (rw (same_left, same_grid) at told) k after (omega (arith, until)))

@@ -1,0 +1,188 @@
+-- Centres in the rows of tiles that are turned over by marks: those of a contour, one segment after another.
+use Rattle.std.proofs.Common.{◌≡◌, ◌≢◌, ◌↔◌, ℕ, ◌+◌, ◌-◌, ◌*◌, ◌/◌, ◌%◌, ◌<◌, ◌≤◌, ◌==◌, ℤ, Bool, false, IsTrue}
+use Rattle.std.proofs.Common.{List, [], ◌∷◌, ◌++◌, length, slice_index, take, refl, sym, ap, subst, ◌∙◌, inl, inr, arith}
+use Rattle.std.proofs.lemmas.Bool.{cases_lt, false≢true}
+use Rattle.std.proofs.lemmas.List.{get_or_append_left, get_or_past, take_all}
+use Rattle.std.proofs.lemmas.Nat.Bits.{bit_at-zero}
+use Rattle.cam_units.specs.declared.point.Point.{Point}
+use Rattle.cam_units.specs.declared.point.Spot.{Spot}
+use Rattle.cam_shapes.specs.declared.contour.Contour.{Contour}
+use Rattle.cam_shapes.specs.declared.segments.Seg.{Seg}
+use Rattle.cam_shapes.specs.declared.segments.Seg.TheVariants.{Curve}
+use Rattle.cam_shapes.specs.declared.cap.Cap.{Cap}
+use Rattle.cam_shapes.specs.Cap.{is_in_cap}
+use Rattle.cam_shapes.specs.Contour.{IsInContour}
+use Rattle.cam_shapes.specs.Edge.{crosses_ray, edge, is_above}
+use Rattle.cam_shapes.specs.Sides.{change_side, changes_side, differ}
+use Rattle.cam_shapes.proofs.Parity.{sides_are_parity}
+use Rattle.cam_rows.specs.Marks.{AreSpread, TurnsRows, is_marked, is_set, is_turned}
+use Rattle.cam_rows.specs.declared.centres.Centres.{Centres}
+use Rattle.cam_rows.specs.Rows.{row_below}
+use Rattle.cam_rows.specs.Runs.{AreEnds, AreRuns, IsInRun}
+use Rattle.cam_rows.proofs.MarkedColumns.{none_odd}
+use Rattle.cam_tiles.specs.declared.grid.Grid.{Grid}
+use Rattle.cam_tiles.specs.declared.masks.filing.FiledSegment.{FiledSegment}
+use Rattle.cam_tiles.specs.declared.masks.heights.Heights.{Heights}
+use Rattle.cam_tiles.specs.Machinery.Filing.{AreFiled, changes_at, corner_of, filed_change, segment_of}
+use Rattle.cam_tiles.specs.Machinery.Levels.{IsOnRow, height, levels_of}
+use Rattle.cam_tiles.specs.Machinery.Masks.{IsWithin}
+use Rattle.cam_tiles.specs.Machinery.Turning.{AreWide, MarksCentres, TurnsCentres}
+use Rattle.cam_tiles.specs.Tiles.{centre_in}
+use Rattle.cam_tiles.proofs.ChangedParities.{from_even, not_turned, true_or_not, turned_like, turned_twice}
+use Rattle.cam_tiles.proofs.FiledContours.{changed_more}
+use Rattle.cam_tiles.proofs.RunColumns.{below_top, further_down, top_of}
+
+pub still_wide : (columns : ℕ) (old new : List ℕ) → length new ≡ length old → AreWide columns old
+    → AreWide columns new
+still_wide columns old new size wide = record {
+  room = omega (arith, size, wide.room);
+  tiles = ap (λ n. n % 64) size ∙ wide.tiles;
+}
+
+module _ (g : Grid) (columns : ℕ) where
+  pub turns_like : (P Q : Spot → Type 0) (old new : List ℕ) → ((s : Spot) → P s ↔ Q s)
+      → TurnsCentres g columns P old new → TurnsCentres g columns Q old new
+  turns_like P Q old new alike h column row near within =
+      turned_like _ _ _ _ (alike (centre_in g column row)) (h column row near within)
+
+  -- two more
+  pub turns_twice : (e f : Spot → Bool) (old between new : List ℕ)
+      → TurnsCentres g columns (λ s. IsTrue (e s)) old between
+      → TurnsCentres g columns (λ s. IsTrue (f s)) between new
+      → TurnsCentres g columns (λ s. IsTrue (differ (e s) (f s))) old new
+  turns_twice e f old between new h k column row near within =
+      turned_twice (e (centre_in g column row)) (f (centre_in g column row)) _ _ _
+      (true_or_not (is_turned old row column)) (h column row near within) (k column row near within)
+
+  -- nothing more
+  pub turns_nothing : (P : Spot → Type 0) (old : List ℕ)
+      → ((column row : ℕ) → row < g.rows → P (centre_in g column row) → ⊥) → TurnsCentres g columns P old old
+  turns_nothing P old none column row near within = not_turned _ _ (none column row within)
+
+  -- ---- segments
+
+  pub turned_at : (c : Contour) (k : ℕ) (here : Point) (seg : Seg) (old new : List ℕ) → here ≡ corner_of c k
+      → seg ≡ segment_of c k → TurnsCentres g columns (λ s. IsTrue (changes_side s here seg)) old new
+      → TurnsCentres g columns (λ s. IsTrue (changes_at c s k)) old new
+  turned_at c k here seg old new e f =
+      turns_like (λ s. IsTrue (changes_side s here seg)) (λ s. IsTrue (changes_at c s k)) old new
+      (λ s.
+      let same : changes_side s here seg ≡ changes_at c s k =
+      ap (λ p. changes_side s p seg) e ∙ ap (changes_side s (corner_of c k)) f in
+      ((λ t. sym same ∙ t), (λ t. same ∙ t)))
+
+  pub curve_counted : (here to centre : Point) (ccw : Bool) (seg : Seg) (old between new : List ℕ)
+      → seg ≡ Curve to centre ccw
+      → TurnsCentres g columns (λ s. IsTrue (crosses_ray s (edge here to))) old between
+      → TurnsCentres g columns
+      (λ s. IsTrue (is_in_cap s (record { from = here; to = to; centre = centre; ccw = ccw }))) between new
+      → TurnsCentres g columns (λ s. IsTrue (changes_side s here seg)) old new
+  curve_counted here to centre ccw seg old between new e h k =
+      let cap : Cap = record { from = here; to = to; centre = centre; ccw = ccw } in
+      rw e (turns_twice (λ s. crosses_ray s (edge here to)) (λ s. is_in_cap s cap) old between new h k)
+
+  -- ---- bands of rows
+
+  -- what is turned in a band, outside which nothing is held
+  rows_turned : (first n : ℕ) (P : Spot → Type 0) (IsHeld : ℕ → ℕ → Type 0) (old new : List ℕ) → g.rows ≤ 64
+      → columns ≤ length old
+      → ((k i : ℕ) → k < n → i < columns → IsHeld k i ↔ P (centre_in g i (first + k)))
+      → ((column row : ℕ) → row < g.rows → P (centre_in g column row) → (first ≤ row) × (row < first + n))
+      → TurnsRows first n IsHeld old new → TurnsCentres g columns P old new
+  rows_turned first n P IsHeld old new few room each inside turned column row near within =
+      let there : first ≤ row → row < first + n → IsHeld (row - first) column ↔ P (centre_in g column row) =
+      λ after until.
+      let same : first + (row - first) ≡ row = omega arith in
+      subst (λ r. IsHeld (row - first) column ↔ P (centre_in g column r)) same
+      (each (row - first) column (omega arith) near) in
+      turned_like _ _ _ _ (
+        (λ on. (there on.0 on.1).0 on.2),
+        (λ held.
+            let band = inside column row within held in
+            (band.0, band.1, (there band.0 band.1).1 held)),
+      )
+      (turned row column (omega (arith, within, few)) (omega (arith, near, room)))
+
+  module _ (first end : ℕ) (P : Spot → Type 0) (x y step : ℤ) (old new : List ℕ) (is_x : x ≡ g.first.x)
+      (is_y : y ≡ height (levels_of g) first) (is_step : step ≡ g.step) (some : first < end) (few : g.rows ≤ 64)
+      (room : columns ≤ length old)
+      (rows : (row : ℕ) (s : Spot) → IsOnRow (levels_of g) row s → P s → (first ≤ row) × (row < end)) where
+    in_rows : (n : ℕ) → n ≡ end - first → (column row : ℕ) → row < g.rows → P (centre_in g column row)
+        → (first ≤ row) × (row < first + n)
+    in_rows n size column row within held =
+        let band = rows row (centre_in g column row) (within, refl) held in
+        (band.0, omega (arith, band.1, size, some))
+
+    pub ends_turned : (ends : List ℕ) → length ends ≡ end - first
+        → AreEnds ends (record { first = record { x = x; y = y }; step = step; count = columns }) P
+        → TurnsRows first (length ends) (λ k column. column < slice_index ends k) old new
+        → TurnsCentres g columns P old new
+    ends_turned ends size told turned =
+        let each = rw (is_x, is_y, is_step) at told.each in
+        rows_turned first (length ends) P (λ k column. column < slice_index ends k) old new few room
+        (λ k i under near. rw (below_top g columns first k i) at (each k i under near))
+        (in_rows (length ends) size) turned
+
+    pub runs_turned : (firsts ends : List ℕ) → length firsts ≡ end - first
+        → AreRuns firsts ends (record { first = record { x = x; y = y }; step = step; count = columns }) P
+        → TurnsRows first (length firsts) (λ k column. IsInRun (slice_index firsts k) (slice_index ends k) column) old new
+        → TurnsCentres g columns P old new
+    runs_turned firsts ends size told turned =
+        let each = rw (is_x, is_y, is_step) at told.each in
+        rows_turned first (length firsts) P
+        (λ k column. IsInRun (slice_index firsts k) (slice_index ends k) column) old new few room
+        (λ k i under near. rw (below_top g columns first k i) at (each k i under near))
+        (in_rows (length firsts) size) turned
+
+  -- the top row of a band that an edge crosses, and those below it, as the code computes it
+  pub top_crossed : (first end : ℕ) (p q : Point) (x y step : ℤ)
+      → y ≡ height (levels_of g) first → step ≡ g.step → end ≤ g.rows
+      → ((row : ℕ) (s : Spot) → IsOnRow (levels_of g) row s
+      → ((first ≤ row) × (row < end)) ↔ (is_above p s ≢ is_above q s))
+      → (n : ℕ) → n ≡ end - first → (k : ℕ) → k < n
+      → (let top : Centres = record { first = record { x = x; y = y }; step = step; count = columns } in
+      is_above p (row_below top k).first ≢ is_above q (row_below top k).first)
+  top_crossed first end p q x y step is_y is_step low rows n size k few =
+      rw (is_y, is_step) ((rows (first + k) (row_below (top_of g columns first) k).first
+      (omega (arith, few, size, low), further_down g.first.y g.step first k)).0
+      (omega arith, omega (arith, few, size)))
+
+  -- a band without rows
+  pub no_rows : (first end : ℕ) (h : Heights) (P : Spot → Type 0) (old : List ℕ) → end ≤ first
+      → ((row : ℕ) (s : Spot) → IsOnRow (levels_of g) row s → ((first ≤ row) × (row < end)) ↔ IsWithin h s)
+      → ((s : Spot) → P s → IsWithin h s) → TurnsCentres g columns P old old
+  no_rows first end h P old empty rows heights =
+      turns_nothing P old (λ column row within held.
+      let band = (rows row (centre_in g column row) (within, refl)).1 (heights (centre_in g column row) held) in
+      omega (arith, band.0, band.1, empty))
+
+  -- ---- marks that are spread
+
+  none_set : (word i : ℕ) → word ≡ 0 → is_set word i ≡ false
+  none_set word i e = rw e (ap (λ x. x == 1) (bit_at-zero i))
+
+  none_marked : (marks : List ℕ) → ((k : ℕ) → k < length marks → slice_index marks k ≡ 0) → (row column : ℕ)
+      → is_marked marks row column ≡ false
+  none_marked marks none row column =
+      let k = 64 * (column / 64) + row in
+      none_set (slice_index marks k) (column % 64)
+      (elim (cases_lt k (length marks)) [ inl inside ↦ none k inside | inr past ↦ get_or_past marks k 0 past ])
+
+  pub spread_inside : (P : Spot → Type 0) (blank turned spread : List ℕ)
+      → ((k : ℕ) → k < length blank → slice_index blank k ≡ 0) → g.rows ≤ 64 → columns ≤ length turned
+      → TurnsCentres g columns P blank turned → AreSpread turned spread → MarksCentres g columns P spread
+  spread_inside P blank turned spread none few room h told column row near within =
+      let same = told row column (omega (arith, within, few)) (omega (arith, near, room)) in
+      let even : is_turned blank row column ≡ false =
+      none_odd (is_marked blank row) (length blank - column) column (λ j _. none_marked blank none row j) in
+      from_even _ _ _ _ ((λ t. sym same ∙ t), (λ t. same ∙ t)) (λ t. false≢true (sym even ∙ t))
+      (h column row near within)
+
+  -- words behind them change none of them
+  pub marks_before : (P : Spot → Type 0) (part rest : List ℕ) → g.rows ≤ 64 → AreWide columns part
+      → MarksCentres g columns P part → MarksCentres g columns P (part ++ rest)
+  marks_before P part rest few wide told column row near within =
+      let k = 64 * (column / 64) + row in
+      let same : slice_index (part ++ rest) k ≡ slice_index part k =
+      get_or_append_left part rest 0 k (omega (arith, near, within, few, wide.room, wide.tiles)) in
+      rw same (told column row near within)

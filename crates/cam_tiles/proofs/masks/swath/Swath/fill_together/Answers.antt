@@ -1,0 +1,123 @@
+use Rattle.std.proofs.Common.{List, [], ◌∷◌, ◌≡◌, ◌≤◌, ◌<◌, ◌-◌, ◌*◌, ℕ, length, slice_index, ap, sym, subst, ◌∙◌, arith}
+use Rattle.std.proofs.lemmas.List.{with_items_is}
+use Rattle.cam_units.specs.declared.point.Spot.{Spot}
+use Rattle.cam_shapes.specs.Contour.{IsInContour}
+use Rattle.cam_objects.specs.Leaves.{Filled, leaf}
+use Rattle.cam_tiles.specs.declared.grid.Grid.{Grid}
+use Rattle.cam_tiles.specs.Machinery.Filing.{AreFiled}
+use Rattle.cam_tiles.specs.Machinery.Levels.{levels_of}
+use Rattle.cam_tiles.specs.Machinery.Masks.{Marking}
+use Rattle.cam_tiles.specs.Machinery.Swaths.{ArePaintedIn, HasMask, grid_at}
+use Rattle.cam_tiles.specs.Machinery.Turning.{AreMarkedAt}
+use Rattle.cam_tiles.proofs.MarkedTiles.{filed_read, left_before, left_of_all, marked_read, room_read, wide_read}
+use Rattle.cam_tiles.proofs.PaintedSwaths.{part_kept, put_back}
+use Rattle.cam_tiles.proofs.masks.swath.Swath.fill_together.Goals as goal
+
+pub overflow_sub-right : goal.overflow_sub-right
+overflow_sub-right c =
+    let s = c.self.inside in
+    let few : c.args.end ≤ length s.masks.items =
+    subst (λ (ms : List Marking). c.args.end ≤ length ms) (sym c.self.view_is) c.requires.end in
+    left_before s.corner s.columns s.tiles.items s.before.items s.masks.items c.self.invariant.stand c.args.first
+    c.args.end c.index-left.result.now c.index.result.now c.min-right.result c.grid-grid.result c.index-2.result.now
+    c.requires.some few c.index-left.ensures c.index.ensures c.min-right.ensures
+    (c.grid-grid.ensures.value ∙ ap (λ (m : Marking). m.grid) c.index-2.ensures) c.grid-grid.ensures.grid
+
+pub mark_inside-requires-clause-grid : goal.mark_inside-requires-clause-grid
+mark_inside-requires-clause-grid c =
+    let s = c.self.inside in
+    let few : c.args.end ≤ length s.masks.items =
+    subst (λ (ms : List Marking). c.args.end ≤ length ms) (sym c.self.view_is) c.requires.end in
+    wide_read s.corner s.columns s.tiles.items s.before.items s.masks.items c.self.invariant.stand c.args.first
+    c.args.end c.index-left.result.now c.index.result.now c.min-right.result c.grid-grid.result c.index-2.result.now
+    c.requires.some few c.index-left.ensures c.index.ensures c.min-right.ensures
+    (c.grid-grid.ensures.value ∙ ap (λ (m : Marking). m.grid) c.index-2.ensures) c.grid-grid.ensures.grid
+
+pub mark_inside-requires-clause-room : goal.mark_inside-requires-clause-room
+mark_inside-requires-clause-room c =
+    let s = c.self.inside in
+    let few : c.args.end ≤ length s.masks.items =
+    subst (λ (ms : List Marking). c.args.end ≤ length ms) (sym c.self.view_is) c.requires.end in
+    room_read s.corner s.columns s.tiles.items s.before.items s.masks.items c.self.invariant.stand c.args.first
+    c.args.end c.index-left.result.now c.index.result.now c.min-right.result c.grid-grid.result c.index-2.result.now
+    c.requires.some few c.index-left.ensures c.index.ensures c.min-right.ensures
+    (c.grid-grid.ensures.value ∙ ap (λ (m : Marking). m.grid) c.index-2.ensures) c.grid-grid.ensures.grid
+    (length c.deref_mut.result.now) (omega (arith, c.self.invariant.room, ap length c.deref_mut.ensures.value))
+
+pub mark_inside-requires-clause-filed : goal.mark_inside-requires-clause-filed
+mark_inside-requires-clause-filed c =
+    let s = c.self.inside in
+    let few : c.args.end ≤ length s.masks.items =
+    subst (λ (ms : List Marking). c.args.end ≤ length ms) (sym c.self.view_is) c.requires.end in
+    filed_read s.corner s.columns s.tiles.items s.before.items s.masks.items c.self.invariant.stand c.args.first
+    c.args.end c.index-left.result.now c.index.result.now c.min-right.result c.grid-grid.result c.index-2.result.now
+    c.requires.some few c.index-left.ensures c.index.ensures c.min-right.ensures
+    (c.grid-grid.ensures.value ∙ ap (λ (m : Marking). m.grid) c.index-2.ensures) c.grid-grid.ensures.grid
+    (λ (g : Grid). AreFiled c.args.region.contour.now (levels_of g) c.args.filed.now)
+    (subst
+    (λ (ms : List Marking). (k : ℕ) → HasMask ms k
+    → AreFiled c.args.region.contour.now (levels_of (grid_at ms k)) c.args.filed.now)
+    (sym c.self.view_is) c.requires.filed)
+
+pub fill_marked-requires-clause-from : goal.fill_marked-requires-clause-from
+fill_marked-requires-clause-from c = λ k after until.
+    let s = c.self.inside in
+    let few : c.args.end ≤ length s.masks.items =
+    subst (λ (ms : List Marking). c.args.end ≤ length ms) (sym c.self.view_is) c.requires.end in
+    subst (λ (ts : List ℕ). c.index-left.result.now ≤ slice_index ts k) (sym c.deref.ensures.value)
+    (left_of_all s.corner s.columns s.tiles.items s.before.items s.masks.items c.self.invariant.stand c.args.first
+    c.args.end c.index-left.result.now c.index.result.now c.min-right.result c.grid-grid.result c.index-2.result.now
+    c.requires.some few c.index-left.ensures c.index.ensures c.min-right.ensures
+    (c.grid-grid.ensures.value ∙ ap (λ (m : Marking). m.grid) c.index-2.ensures) c.grid-grid.ensures.grid k after until)
+
+pub fill_marked-requires-clause-marked : goal.fill_marked-requires-clause-marked
+fill_marked-requires-clause-marked c = λ k after until.
+    let s = c.self.inside in
+    let few : c.args.end ≤ length s.masks.items =
+    subst (λ (ms : List Marking). c.args.end ≤ length ms) (sym c.self.view_is) c.requires.end in
+    let left = c.index-left.result.now in
+    let IsHeld : Spot → Type 0 = λ s. IsInContour s c.args.region.contour.now in
+    let marks = c.mark_inside.new.marks in
+    let kept =
+    c.deref-2.ensures.value ∙ with_items_is s.marks marks (c.mark_inside.auto.marks ∙ c.deref_mut.ensures.len) in
+    let room : 64 * length s.before.items ≤ length marks =
+    omega (arith, c.self.invariant.room, c.mark_inside.auto.marks, ap length c.deref_mut.ensures.value) in
+    let here = marked_read s.corner s.columns s.tiles.items s.before.items s.masks.items c.self.invariant.stand c.args.first
+    c.args.end c.index-left.result.now c.index.result.now c.min-right.result c.grid-grid.result c.index-2.result.now
+    c.requires.some few c.index-left.ensures c.index.ensures c.min-right.ensures
+    (c.grid-grid.ensures.value ∙ ap (λ (m : Marking). m.grid) c.index-2.ensures) c.grid-grid.ensures.grid
+    IsHeld marks room c.mark_inside.ensures k after until in
+    subst (λ (ts : List ℕ). AreMarkedAt (slice_index ts k - left) (grid_at c.deref_mut-2.result.now k) IsHeld c.deref-2.result.now)
+    (sym c.deref.ensures.value)
+    (subst (λ (ms : List Marking). AreMarkedAt (slice_index s.tiles.items k - left) (grid_at ms k) IsHeld c.deref-2.result.now)
+    (sym c.deref_mut-2.ensures.value)
+    (subst (AreMarkedAt (slice_index s.tiles.items k - left) (grid_at s.masks.items k) IsHeld) (sym kept) here))
+
+pub invariant_of-self : goal.invariant_of-self
+invariant_of-self c =
+    let s = c.self.inside in
+    let leaves = leaf (Filled c.args.region.contour.now) c.args.region.dark ∷ [] in
+    let new = c.fill_marked.new.masks in
+    let after = with_items_is s.masks new (c.fill_marked.ensures.size ∙ c.deref_mut-2.ensures.len) in
+    let words = with_items_is s.marks c.mark_inside.new.marks (c.mark_inside.auto.marks ∙ c.deref_mut.ensures.len) in
+    let kept =
+    part_kept c.args.first c.args.end leaves s.masks.items _
+    (put_back c.args.first c.args.end leaves s.masks.items c.deref_mut-2.result.now new _
+    c.deref_mut-2.ensures.value after c.fill_marked.ensures)
+    s.pitch s.bounds s.corner s.columns s.tiles.items s.before.items
+    (subst (λ (ms : List Marking). c.args.end ≤ length ms) (sym c.self.view_is) c.requires.end)
+    c.self.invariant.laid c.self.invariant.stand in
+    record {
+      laid = kept.0;
+      stand = kept.1;
+      room = omega (arith, c.self.invariant.room, ap length words, c.mark_inside.auto.marks, ap length c.deref_mut.ensures.value);
+    }
+
+pub returns : goal.returns
+returns c =
+    let s = c.self.inside in
+    let leaves = leaf (Filled c.args.region.contour.now) c.args.region.dark ∷ [] in
+    let new = c.fill_marked.new.masks in
+    let after = with_items_is s.masks new (c.fill_marked.ensures.size ∙ c.deref_mut-2.ensures.len) in
+    put_back c.args.first c.args.end leaves c.args.self.now c.deref_mut-2.result.now new _
+    (c.deref_mut-2.ensures.value ∙ c.self.view_is) after c.fill_marked.ensures

@@ -1,0 +1,273 @@
+//! The insides of contours in a row of tiles: each segment is counted once for all of them, by marks that turn over the
+//! columns left of them.
+
+ghost use Rattle.std.specs.Prelude.{◌≡◌, ◌≢◌, ◌↔◌, ◌+◌, ◌-◌, ◌*◌, ◌/◌, ◌<◌, ◌≤◌, ℕ, IsTrue, length, slice_index, ◌∷◌, []};
+ghost use Rattle.std.specs.Int.{IsBitSet};
+ghost use Rattle.cam_units.specs.Board.{IsOnBoard};
+ghost use Rattle.cam_units.specs.declared.point.Spot.{Spot};
+ghost use Rattle.cam_shapes.specs.Cap.{IsSoundCap, is_in_cap};
+ghost use Rattle.cam_shapes.specs.Contour.{IsInContour, IsSoundSeg};
+ghost use Rattle.cam_shapes.specs.Edge.{crosses_ray, edge, is_above};
+ghost use Rattle.cam_shapes.specs.Sides.{changes_side};
+ghost use Rattle.cam_objects.specs.Leaves.{Filled, leaf};
+ghost use Rattle.cam_rows.specs.Marks.{is_turned};
+ghost use Rattle.cam_tiles.specs.declared.masks.join.Join.TheVariants.{Turn as Turned};
+ghost use Rattle.cam_tiles.specs.Machinery.Filing.{AreFiled, IsOnBoardWhole, changes_at};
+ghost use Rattle.cam_tiles.specs.Machinery.Levels.{IsOnRow, levels_of};
+ghost use Rattle.cam_tiles.specs.Machinery.Masks.{joined};
+ghost use Rattle.cam_tiles.specs.Machinery.Runs.{IsWideGrid};
+ghost use Rattle.cam_tiles.specs.Machinery.Swaths.{ArePaintedIn, grid_at};
+ghost use Rattle.cam_tiles.specs.Machinery.Turning.{AreMarkedAt, AreWide, MarksCentres, TurnsCentres};
+ghost use Rattle.cam_tiles.specs.Tiles.{centre_in};
+
+use crate::grid::Grid;
+use crate::masks::filing::{FiledSegment, corner_at, segment_at};
+use crate::masks::join::Join;
+use crate::masks::mask::Mask;
+use crate::masks::parity::crossed_heights;
+use crate::masks::row_shape::RowShape;
+use crate::shown::Region;
+use crate::span::Span;
+use cam_rows::{Centres, cap_runs, edge_runs, mark_end, mark_ends, mark_runs, spread_marks};
+use cam_shapes::{Cap, Contour, Seg};
+use cam_units::{Point, Spot};
+
+impl Grid {
+    /// The x of the last one of so many columns from the left on, in half nm.
+    fn last_x(&self, columns: u32) -> i64
+        requires { IsWideGrid self.now columns }
+        ensures { result ≡ (centre_in self.now (columns - 1) 0).x }
+    {
+        self.first.x + i64::from(columns - 1) * self.step
+    }
+}
+
+/// Marks the inside of a contour that is filed for the rows of a grid, and as many columns from its left on: the words of
+/// the tiles that these take up.
+pub(crate) fn mark_inside(
+    marks: &mut [u64],
+    grid: &Grid,
+    columns: u32,
+    contour: &Contour,
+    filed: &[FiledSegment],
+)
+    requires grid { IsWideGrid grid.now columns }
+    requires room { 64 * ((columns + 63) / 64) ≤ length marks.old }
+    requires contour { IsOnBoardWhole contour.now }
+    requires filed { AreFiled contour.now (levels_of grid.now) filed.now }
+    ensures { MarksCentres grid.now columns (λ s. IsInContour s contour.now) marks.new }
+{
+    let words = 64 * columns.div_ceil(64) as usize;
+    let marks = &mut marks[..words];
+    marks.fill(0);
+    turn_filed(marks, grid, columns, contour, filed);
+    spread_marks(marks);
+}
+
+/// Counts the segments of a contour that are filed. Those that lie right of all columns turn over whole rows, and those
+/// left of them change nothing: the others are marked.
+fn turn_filed(
+    marks: &mut [u64],
+    grid: &Grid,
+    columns: u32,
+    contour: &Contour,
+    filed: &[FiledSegment],
+)
+    requires grid { IsWideGrid grid.now columns }
+    requires wide { AreWide columns marks.old }
+    requires contour { IsOnBoardWhole contour.now }
+    requires filed { AreFiled contour.now (levels_of grid.now) filed.now }
+    ensures { TurnsCentres grid.now columns (λ s. IsInContour s contour.now) marks.old marks.new }
+{
+    let first = grid.first.x;
+    let last = grid.last_x(columns);
+    let mut whole = 0;
+    for segment in filed {
+        if last < segment.left {
+            whole ^= segment.rows;
+        } else if first < segment.right {
+            turn_place(marks, grid, columns, contour, segment.place);
+        }
+    }
+    turn_whole(marks, grid.rows, columns, whole);
+}
+
+/// Turns over all columns in some of the first rows: bit k of `whole` for row k from the top.
+fn turn_whole(marks: &mut [u64], rows: u32, columns: u32, whole: u64)
+    requires rows { rows ≤ 64 }
+    requires wide { AreWide columns marks.old }
+    ensures { (column row : ℕ) → column < columns → row < rows → IsTrue (is_turned marks.new row column)
+        ↔ joined Turned (IsTrue (is_turned marks.old row column)) (IsBitSet whole row) }
+{
+    if whole == 0 {
+        return;
+    }
+    for row in 0..rows {
+        let end = if (whole >> row) & 1 == 1 { columns } else { 0 };
+        mark_end(marks, row, end);
+    }
+}
+
+/// Counts the segment at a place of a contour, or the line that closes it.
+fn turn_place(marks: &mut [u64], grid: &Grid, columns: u32, contour: &Contour, place: u32)
+    requires grid { IsWideGrid grid.now columns }
+    requires wide { AreWide columns marks.old }
+    requires contour { IsOnBoardWhole contour.now }
+    requires place { place ≤ length contour.now.segs }
+    ensures { TurnsCentres grid.now columns (λ s. IsTrue (changes_at contour.now s place)) marks.old marks.new }
+{
+    let here = corner_at(contour, place);
+    let seg = segment_at(contour, place);
+    turn_segment(marks, grid, columns, here, seg);
+}
+
+/// Counts what a segment from a point changes.
+fn turn_segment(marks: &mut [u64], grid: &Grid, columns: u32, here: Point, seg: Seg)
+    requires grid { IsWideGrid grid.now columns }
+    requires wide { AreWide columns marks.old }
+    requires here { IsOnBoard here }
+    requires seg { IsSoundSeg seg }
+    ensures { TurnsCentres grid.now columns (λ s. IsTrue (changes_side s here seg)) marks.old marks.new }
+{
+    match seg {
+        Seg::Line { to } => turn_edge(marks, grid, columns, here, to),
+        Seg::Curve { to, centre, ccw } => {
+            let cap = Cap {
+                from: here,
+                to,
+                centre,
+                ccw,
+            };
+            turn_edge(marks, grid, columns, here, to);
+            turn_cap(marks, grid, columns, &cap);
+        }
+    }
+}
+
+/// Counts an edge: in each row that it crosses by one mark.
+fn turn_edge(marks: &mut [u64], grid: &Grid, columns: u32, from: Point, to: Point)
+    requires grid { IsWideGrid grid.now columns }
+    requires wide { AreWide columns marks.old }
+    requires from { IsOnBoard from }
+    requires to { IsOnBoard to }
+    ensures { TurnsCentres grid.now columns (λ s. IsTrue (crosses_ray s (edge from to))) marks.old marks.new }
+{
+    let levels = grid.levels();
+    let band = levels.band(crossed_heights(from, to));
+    if band.end <= band.first {
+        return;
+    }
+    let mut ends = [0u32; 64];
+    let ends = &mut ends[..(band.end - band.first) as usize];
+    turn_crossed(marks, grid, columns, from, to, band, ends);
+}
+
+/// Counts an edge in the rows that it crosses, of which each takes up one of some numbers.
+fn turn_crossed(
+    marks: &mut [u64],
+    grid: &Grid,
+    columns: u32,
+    from: Point,
+    to: Point,
+    band: Span,
+    ends: &mut [u32],
+)
+    requires grid { IsWideGrid grid.now columns }
+    requires wide { AreWide columns marks.old }
+    requires from { IsOnBoard from }
+    requires to { IsOnBoard to }
+    requires some { band.first < band.end }
+    requires low { band.end ≤ grid.now.rows }
+    requires rows { (row : ℕ) (s : Spot) → IsOnRow (levels_of grid.now) row s
+        → ((band.first ≤ row) × (row < band.end)) ↔ (is_above from s ≢ is_above to s) }
+    requires size { length ends.old ≡ band.end - band.first }
+    ensures { TurnsCentres grid.now columns (λ s. IsTrue (crosses_ray s (edge from to))) marks.old marks.new }
+{
+    let top = Centres {
+        first: Spot {
+            x: grid.first.x,
+            y: grid.levels().height(band.first),
+        },
+        step: grid.step,
+        count: columns,
+    };
+    edge_runs(from, to, &top, ends);
+    mark_ends(marks, band.first, ends);
+}
+
+/// Counts a cap: in each row that it may reach by its run.
+fn turn_cap(marks: &mut [u64], grid: &Grid, columns: u32, cap: &Cap)
+    requires grid { IsWideGrid grid.now columns }
+    requires wide { AreWide columns marks.old }
+    requires cap { IsSoundCap cap.now }
+    ensures { TurnsCentres grid.now columns (λ s. IsTrue (is_in_cap s cap.now)) marks.old marks.new }
+{
+    let levels = grid.levels();
+    let band = levels.band(cap.heights());
+    if band.end <= band.first {
+        return;
+    }
+    let mut firsts = [0u32; 64];
+    let mut ends = [0u32; 64];
+    let firsts = &mut firsts[..(band.end - band.first) as usize];
+    let ends = &mut ends[..(band.end - band.first) as usize];
+    turn_reached(marks, grid, columns, cap, band, firsts, ends);
+}
+
+/// Counts a cap in the rows that it may reach, of which each takes up one of some numbers.
+fn turn_reached(
+    marks: &mut [u64],
+    grid: &Grid,
+    columns: u32,
+    cap: &Cap,
+    band: Span,
+    firsts: &mut [u32],
+    ends: &mut [u32],
+)
+    requires grid { IsWideGrid grid.now columns }
+    requires wide { AreWide columns marks.old }
+    requires cap { IsSoundCap cap.now }
+    requires some { band.first < band.end }
+    requires low { band.end ≤ grid.now.rows }
+    requires rows { (row : ℕ) (s : Spot) → IsOnRow (levels_of grid.now) row s → IsTrue (is_in_cap s cap.now)
+        → (band.first ≤ row) × (row < band.end) }
+    requires size { length firsts.old ≡ band.end - band.first }
+    requires ends { length ends.old ≡ length firsts.old }
+    ensures { TurnsCentres grid.now columns (λ s. IsTrue (is_in_cap s cap.now)) marks.old marks.new }
+{
+    let top = Centres {
+        first: Spot {
+            x: grid.first.x,
+            y: grid.levels().height(band.first),
+        },
+        step: grid.step,
+        count: columns,
+    };
+    cap_runs(cap, &top, firsts, ends);
+    mark_runs(marks, band.first, firsts, ends);
+}
+
+/// Joins the masks from one number to another with the inside of a region, by its marks in the row of tiles of which
+/// each mask is one: they begin at the tile of a number.
+pub(crate) fn fill_marked(
+    masks: &mut [Mask],
+    first: usize,
+    end: usize,
+    tiles: &[u32],
+    from: u32,
+    marks: &[u64],
+    region: Region<'_>,
+)
+    requires end { end ≤ length masks.old }
+    requires tiles { end ≤ length tiles.now }
+    requires from { (k : ℕ) → first ≤ k → k < end → from ≤ slice_index tiles.now k }
+    requires marked { (k : ℕ) → first ≤ k → k < end → AreMarkedAt (slice_index tiles.now k - from)
+        (grid_at masks.old k) (λ s. IsInContour s region.contour.now) marks.now }
+    ensures { ArePaintedIn first end (leaf (Filled region.entry.contour.now) region.entry.dark ∷ [])
+        masks.old masks.new }
+{
+    let how = Join::inked(region.dark);
+    for k in first..end {
+        masks[k].join_tile(marks, tiles[k] - from, how);
+    }
+}
