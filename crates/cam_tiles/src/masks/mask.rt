@@ -185,23 +185,27 @@ impl Mask {
             → IsMarked self.new i row ↔ joined how (IsMarked self.old i row) (HasColumn runs.now row (column + i)) }
     {
         let columns = self.grid.columns;
-        let widest = run_row(runs.columns.first, runs.columns.end, column, columns);
-        if widest == 0 {
-            return;
-        }
-        let narrowest = run_row(runs.common.first, runs.common.end, column, columns);
-        if narrowest == widest {
-            self.join_band(runs.band, widest, how);
+        if runs.columns.end <= column {
             return;
         }
         let past = column + columns;
+        if past <= runs.columns.first {
+            return;
+        }
+        let first = runs.columns.first.max(column);
+        let end = runs.columns.end.min(past);
+        if runs.common.first <= first && end <= runs.common.end {
+            self.join_band(runs.band, run_row(first, end, column, columns), how);
+            return;
+        }
         for row in runs.band.first..runs.band.end {
             let k = row as usize;
-            let first = runs.firsts[k];
-            let end = runs.ends[k];
-            if column < end && first < past {
-                let marks = run_row(first, end, column, columns);
-                self.rows[k] = how.join_row(self.rows[k], marks);
+            let run = Span {
+                first: runs.firsts[k].saturating_sub(column),
+                end: runs.ends[k].saturating_sub(column).min(columns),
+            };
+            if run.first < run.end {
+                self.rows[k] = how.join_row(self.rows[k], run.bits());
             }
         }
     }

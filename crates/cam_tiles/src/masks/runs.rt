@@ -8,7 +8,7 @@ ghost use Rattle.cam_shapes.specs.Disc.{IsInDisc, IsInHole, IsSoundDisc};
 ghost use Rattle.cam_shapes.specs.Swept.{IsInSwept, IsSoundSwept};
 ghost use Rattle.cam_rows.specs.Runs.{AreRuns, AreWideRows, IsInRun};
 ghost use Rattle.cam_tiles.specs.Machinery.Masks.{IsWithin};
-ghost use Rattle.cam_tiles.specs.Machinery.Runs.{HasColumn, IsWideGrid, Tells};
+ghost use Rattle.cam_tiles.specs.Machinery.Runs.{Fits, HasColumn, IsWideGrid, Tells};
 
 use crate::grid::Grid;
 use crate::masks::heights::Heights;
@@ -129,11 +129,15 @@ impl Runs {
         self.common = Span::NONE;
     }
 
-    /// Whether its band has no rows.
-    pub(crate) fn is_none(&self) -> bool
-        ensures { IsTrue result → (row column : ℕ) → HasColumn self.now row column → ⊥ }
+    /// Whether no run reaches the columns from a first one on and before an end.
+    pub(crate) fn misses(&self, first: u32, end: u32) -> bool
+        ensures { IsTrue result → (rows row column : ℕ) → Fits rows self.now → HasColumn self.now row column
+            → first ≤ column → column < end → ⊥ }
     {
-        self.band.end <= self.band.first
+        if self.columns.end <= first {
+            return true;
+        }
+        end <= self.columns.first
     }
 
     /// Turns to those of a shape that lies between two heights, in the rows of a grid, and as many columns from its left

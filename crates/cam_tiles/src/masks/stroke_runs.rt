@@ -1,6 +1,6 @@
 //! The runs of a stroke in the rows of masks side by side, and how they are joined with a mask.
 
-ghost use Rattle.std.specs.Prelude.{◌≡◌, ◌↔◌, ◌⊎◌, ◌+◌, ◌<◌, ℕ, IsTrue, ◌∷◌, []};
+ghost use Rattle.std.specs.Prelude.{◌≡◌, ◌↔◌, ◌⊎◌, ◌+◌, ◌<◌, ◌≤◌, ℕ, IsTrue, ◌∷◌, []};
 ghost use Rattle.cam_shapes.specs.Arc.{IsInArc, IsSoundArc};
 ghost use Rattle.cam_shapes.specs.Bar.{IsInCapsule, IsSoundCapsule};
 ghost use Rattle.cam_shapes.specs.Disc.{IsInHole, IsSoundDisc};
@@ -197,21 +197,21 @@ impl StrokeRuns {
         self.body.columns.joined(discs)
     }
 
-    /// Whether nothing is taken out of the body.
-    fn is_whole(&self) -> bool
-        ensures { IsTrue result → (row column : ℕ)
+    /// Whether nothing is taken out of the body in the columns from a first one on and before an end.
+    fn is_whole_between(&self, first: u32, end: u32) -> bool
+        ensures { IsTrue result → (rows row column : ℕ) → AllFit rows self.now → first ≤ column → column < end
             → HasColumn self.now.hollow row column ⊎ HasColumn self.now.beyond row column → ⊥ }
     {
-        if !self.hollow.is_none() {
+        if !self.hollow.misses(first, end) {
             return false;
         }
-        self.beyond.is_none()
+        self.beyond.misses(first, end)
     }
 }
 
 impl Mask {
     /// Joins the marks with the body of a stroke, by its runs in rows of which the grid begins at a column. One that
-    /// something is taken out of is composed in a mask of its own.
+    /// something is taken out of in the columns of the grid is composed in a mask of its own.
     fn join_body(&mut self, stroke: &StrokeRuns, column: u32, how: Join)
         requires near { column < most_columns }
         requires fit { AllFit self.old.grid.rows stroke.now }
@@ -219,11 +219,12 @@ impl Mask {
         ensures marks { (i row : ℕ) → IsIn self.old.grid i row → IsMarked self.new i row
             ↔ joined how (IsMarked self.old i row) (HasBody stroke.now row (column + i)) }
     {
-        if stroke.is_whole() {
+        let grid = self.grid();
+        if stroke.is_whole_between(column, column + grid.columns) {
             self.join_runs(&stroke.body, column, how);
             return;
         }
-        let mut own = Mask::blank(self.grid());
+        let mut own = Mask::blank(grid);
         own.join_runs(&stroke.body, column, Join::Add);
         own.join_runs(&stroke.hollow, column, Join::Clear);
         own.join_runs(&stroke.beyond, column, Join::Clear);

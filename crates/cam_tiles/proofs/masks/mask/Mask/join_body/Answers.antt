@@ -1,18 +1,20 @@
-use Rattle.std.proofs.Common.{◌≡◌, ◌+◌, refl, sym, subst, ◌∙◌}
+use Rattle.std.proofs.Common.{◌≡◌, ◌+◌, ◌<◌, refl, sym, subst, ◌∙◌, arith}
 use Rattle.cam_tiles.specs.declared.grid.Grid.{Grid}
 use Rattle.cam_tiles.specs.Machinery.Masks.{IsIn}
 use Rattle.cam_tiles.proofs.Joined.{joined_like}
 use Rattle.cam_tiles.proofs.StrokeColumns.{composed, nothing_taken}
 use Rattle.cam_tiles.proofs.masks.mask.Mask.join_body.Goals as goal
 
-pub returns-then-is_whole-clause-marks : goal.returns-then-is_whole-clause-marks
-returns-then-is_whole-clause-marks c = λ i row inside.
-    nothing_taken c.args.how _ _ _ _ _ (c.if-is_whole.ensures refl row (c.args.column + i))
+pub returns-then-is_whole_between-clause-marks : goal.returns-then-is_whole_between-clause-marks
+returns-then-is_whole_between-clause-marks c = λ i row inside.
+    let near : i < c.grid-grid.result.columns = rw c.grid-grid.ensures.value inside.0 in
+    nothing_taken c.args.how _ _ _ _ _
+    (c.if-is_whole_between.ensures refl _ row (c.args.column + i) c.requires.fit (omega arith) (omega (arith, near)))
     (c.join_runs.ensures.marks i row inside)
 
 pub returns-clause-marks : goal.returns-clause-marks
 returns-clause-marks c = λ i row inside.
-    let own : c.blank-own.result.grid ≡ c.args.self.now.grid = c.blank-own.ensures.grid ∙ c.grid.ensures.value in
+    let own : c.blank-own.result.grid ≡ c.args.self.now.grid = c.blank-own.ensures.grid ∙ c.grid-grid.ensures.value in
     let there = subst (λ (g : Grid). IsIn g i row) (sym own) inside in
     let second = subst (λ (g : Grid). IsIn g i row) (sym c.join_runs-2.ensures.grid) there in
     let third = subst (λ (g : Grid). IsIn g i row) (sym c.join_runs-3.ensures.grid) second in
