@@ -1,5 +1,5 @@
 -- Filed segments, counted one after another by marks: some of them by rows that are turned over whole in the end.
-use Rattle.std.proofs.Common.{◌≡◌, ◌↔◌, ℕ, ◌+◌, ◌-◌, ◌<◌, ◌≤◌, ℤ, pos, ◌+ℤ◌, ◌*ℤ◌, ◌<ℤ◌, Bool, true, false, IsTrue}
+use Rattle.std.proofs.Common.{◌≡◌, ◌↔◌, ℕ, ◌+◌, ◌-◌, ◌<◌, ◌≤◌, ℤ, pos, ◌+ℤ◌, ◌*ℤ◌, Bool, true, false, IsTrue}
 use Rattle.std.proofs.Common.{List, ◌∷◌, [], ◌++◌, length, take, refl, sym, ap, subst, ◌∙◌, inl, inr, FitsSigned, w64, arith}
 use Rattle.std.specs.Int.{IsBitSet}
 use Rattle.std.specs.Int.RustNames.{bit_xor, unsigned_abs}

@@ -1,8 +1,8 @@
 -- Centres in the rows of tiles that are turned over by marks: those of a contour, one segment after another.
 use Rattle.std.proofs.Common.{◌≡◌, ◌≢◌, ◌↔◌, ℕ, ◌+◌, ◌-◌, ◌*◌, ◌/◌, ◌%◌, ◌<◌, ◌≤◌, ◌==◌, ℤ, Bool, false, IsTrue}
-use Rattle.std.proofs.Common.{List, [], ◌∷◌, ◌++◌, length, slice_index, take, refl, sym, ap, subst, ◌∙◌, inl, inr, arith}
+use Rattle.std.proofs.Common.{List, ◌++◌, length, slice_index, refl, sym, ap, subst, ◌∙◌, inl, inr, arith}
 use Rattle.std.proofs.lemmas.Bool.{cases_lt, false≢true}
-use Rattle.std.proofs.lemmas.List.{get_or_append_left, get_or_past, take_all}
+use Rattle.std.proofs.lemmas.List.{get_or_append_left, get_or_past}
 use Rattle.std.proofs.lemmas.Nat.Bits.{bit_at-zero}
 use Rattle.cam_units.specs.declared.point.Point.{Point}
 use Rattle.cam_units.specs.declared.point.Spot.{Spot}
@@ -11,25 +11,21 @@ use Rattle.cam_shapes.specs.declared.segments.Seg.{Seg}
 use Rattle.cam_shapes.specs.declared.segments.Seg.TheVariants.{Curve}
 use Rattle.cam_shapes.specs.declared.cap.Cap.{Cap}
 use Rattle.cam_shapes.specs.Cap.{is_in_cap}
-use Rattle.cam_shapes.specs.Contour.{IsInContour}
 use Rattle.cam_shapes.specs.Edge.{crosses_ray, edge, is_above}
-use Rattle.cam_shapes.specs.Sides.{change_side, changes_side, differ}
-use Rattle.cam_shapes.proofs.Parity.{sides_are_parity}
+use Rattle.cam_shapes.specs.Sides.{changes_side, differ}
 use Rattle.cam_rows.specs.Marks.{AreSpread, TurnsRows, is_marked, is_set, is_turned}
 use Rattle.cam_rows.specs.declared.centres.Centres.{Centres}
 use Rattle.cam_rows.specs.Rows.{row_below}
 use Rattle.cam_rows.specs.Runs.{AreEnds, AreRuns, IsInRun}
 use Rattle.cam_rows.proofs.MarkedColumns.{none_odd}
 use Rattle.cam_tiles.specs.declared.grid.Grid.{Grid}
-use Rattle.cam_tiles.specs.declared.masks.filing.FiledSegment.{FiledSegment}
 use Rattle.cam_tiles.specs.declared.masks.heights.Heights.{Heights}
-use Rattle.cam_tiles.specs.Machinery.Filing.{AreFiled, changes_at, corner_of, filed_change, segment_of}
+use Rattle.cam_tiles.specs.Machinery.Filing.{changes_at, corner_of, segment_of}
 use Rattle.cam_tiles.specs.Machinery.Levels.{IsOnRow, height, levels_of}
 use Rattle.cam_tiles.specs.Machinery.Masks.{IsWithin}
 use Rattle.cam_tiles.specs.Machinery.Turning.{AreWide, MarksCentres, TurnsCentres}
 use Rattle.cam_tiles.specs.Tiles.{centre_in}
 use Rattle.cam_tiles.proofs.ChangedParities.{from_even, not_turned, true_or_not, turned_like, turned_twice}
-use Rattle.cam_tiles.proofs.FiledContours.{changed_more}
 use Rattle.cam_tiles.proofs.RunColumns.{below_top, further_down, top_of}
 
 pub still_wide : (columns : ℕ) (old new : List ℕ) → length new ≡ length old → AreWide columns old

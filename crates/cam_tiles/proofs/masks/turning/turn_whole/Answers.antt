@@ -1,6 +1,6 @@
 use Rattle.std.proofs.Common.{◌↔◌, ◌<◌, ℕ, arith}
 use Rattle.std.specs.Int.{IsBitSet}
-use Rattle.cam_tiles.proofs.CountedMarks.{all_above, none_above, none_turned, one_more_above}
+use Rattle.cam_tiles.proofs.CountedMarks.{one_more_above}
 use Rattle.cam_tiles.proofs.TurnedMarks.{still_wide}
 use Rattle.cam_tiles.proofs.WordBits.{row_told}
 use Rattle.cam_tiles.proofs.masks.turning.turn_whole.Goals.{else-whole-row-eq1, then-whole-row-eq1}

@@ -1,4 +1,4 @@
-use Rattle.std.proofs.Common.{List, [], ◌∷◌, ◌≡◌, ◌≤◌, ◌<◌, ◌-◌, ◌*◌, ℕ, length, slice_index, ap, sym, subst, ◌∙◌, arith}
+use Rattle.std.proofs.Common.{List, [], ◌∷◌, ◌≤◌, ◌-◌, ◌*◌, ℕ, length, slice_index, ap, sym, subst, ◌∙◌, arith}
 use Rattle.std.proofs.lemmas.List.{with_items_is}
 use Rattle.cam_units.specs.declared.point.Spot.{Spot}
 use Rattle.cam_shapes.specs.Contour.{IsInContour}
@@ -7,7 +7,7 @@ use Rattle.cam_tiles.specs.declared.grid.Grid.{Grid}
 use Rattle.cam_tiles.specs.Machinery.Filing.{AreFiled}
 use Rattle.cam_tiles.specs.Machinery.Levels.{levels_of}
 use Rattle.cam_tiles.specs.Machinery.Masks.{Marking}
-use Rattle.cam_tiles.specs.Machinery.Swaths.{ArePaintedIn, HasMask, grid_at}
+use Rattle.cam_tiles.specs.Machinery.Swaths.{HasMask, grid_at}
 use Rattle.cam_tiles.specs.Machinery.Turning.{AreMarkedAt}
 use Rattle.cam_tiles.proofs.MarkedTiles.{filed_read, left_before, left_of_all, marked_read, room_read, wide_read}
 use Rattle.cam_tiles.proofs.PaintedSwaths.{part_kept, put_back}
