@@ -1,6 +1,6 @@
 -- Which bits are set in rows that are joined, and in runs of bits.
 use Rattle.std.proofs.Common.{◌≡◌, ℕ, ◌+◌, ◌*◌, ◌-◌, ◌/◌, ◌%◌, ◌^◌, ◌<◌, ◌↔◌, ◌⊎◌}
-use Rattle.std.proofs.Common.{ap, ◌∙◌, arith, bit_and, bit_or}
+use Rattle.std.proofs.Common.{refl, ap, ◌∙◌, arith, bit_and, bit_or}
 use Rattle.std.specs.Int.{IsBitSet, bit_at, bit_not, w64}
 use Rattle.std.specs.Int.RustNames.{bit_xor}
 use Rattle.std.proofs.lemmas.Nat.{bit_set_by_shift, one_shl, shr-shr}
@@ -13,6 +13,10 @@ set_is_one n i = rw (← shr_and_one n i) ((bit_set_by_shift n i).1, (bit_set_by
 
 -- what tells of a set bit by its value
 ruleset bit_values = (set_is_one, bit_at-lt)
+
+-- no bit is set in 0
+pub none_set : (row i : ℕ) → row ≡ 0 → IsBitSet row i → ⊥
+none_set row i e set = (rw e at set) refl
 
 -- masks
 pub set_in_and : (a b i : ℕ) → IsBitSet (bit_and a b) i ↔ (IsBitSet a i × IsBitSet b i)
