@@ -1,44 +1,12 @@
 -- The bytes of a row whose bits are turned over in each byte: runs of four bits are exchanged, of two, and single ones.
 use Rattle.std.proofs.Common.{◌≡◌, ℕ, zero, suc, ◌+◌, ◌*◌, ◌-◌, ◌/◌, ◌%◌, ◌^◌, ◌<◌, ◌≤◌, ◌↔◌, ◌⊎◌}
 use Rattle.std.proofs.Common.{Bool, true, ◌&&◌, List, slice_index, nat_eq, refl, ap, sym, inl, inr, ◌∙◌, arith}
-use Rattle.std.proofs.Common.{add-zero, bit_and, bit_or, subst}
+use Rattle.std.proofs.Common.{bit_and, bit_or, subst}
 use Rattle.std.specs.Int.{IsBitSet, bit_at, byte_at, bytes_low_first, to_le_bytes, w64}
 use Rattle.std.proofs.lemmas.Bool.{and_parts, cases_lt, eqb-true}
-use Rattle.std.proofs.lemmas.Nat.{pow-add, pow_pos, shr_split, shr-shr}
+use Rattle.std.proofs.lemmas.Nat.{pow-add, shr-shr}
 use Rattle.std.proofs.Math.Nat.{add-div_right, div-eq_of_lt, pow-suc}
-use Rattle.std.proofs.lemmas.Nat.Bits.{bit_at-zero, bit_at_cat_high, bit_at_cat_low}
-use Rattle.cam_rows.proofs.SetBits.{set_in_and, set_in_or, set_in_shr, set_is_one}
-
--- ---- shifts
-
-low_bits : (n width i : ℕ) → i < width → bit_at (n % 2 ^ width) i ≡ bit_at n i
-low_bits n width i within =
-    sym (bit_at_cat_low (n / 2 ^ width) width (n % 2 ^ width) i within) ∙ ap (λ m. bit_at m i) (shr_split n width)
-
-moved_up : (n places i : ℕ) → places ≤ i → bit_at (n * 2 ^ places) i ≡ bit_at n (i - places)
-moved_up n places i past =
-    ap (λ m. bit_at m i) (sym (add-zero (n * 2 ^ places))) ∙ bit_at_cat_high n places 0 i (pow_pos places) past
-
-clear_below : (n places i : ℕ) → i < places → bit_at (n * 2 ^ places) i ≡ 0
-clear_below n places i below =
-    ap (λ m. bit_at m i) (sym (add-zero (n * 2 ^ places))) ∙ bit_at_cat_low n places 0 i below ∙ bit_at-zero i
-
-set_in_shl : (n places i : ℕ) → i < 64
-    → IsBitSet (n * 2 ^ places % 2 ^ 64) i ↔ ((places ≤ i) × IsBitSet n (i - places))
-set_in_shl n places i within =
-    let low = low_bits (n * 2 ^ places) 64 i within in
-    let shifted = set_is_one (n * 2 ^ places % 2 ^ 64) i in
-    let kept = set_is_one n (i - places) in
-    elim (cases_lt i places) [
-      | inl below ↦ (
-        (λ h. absurd (omega (arith, shifted.0 h, low, clear_below n places i below))),
-        (λ h. absurd (omega (arith, h.0))),
-      )
-      | inr past ↦ (
-        (λ h. (past, kept.1 (sym (moved_up n places i past) ∙ sym low ∙ shifted.0 h))),
-        (λ h. shifted.1 (low ∙ moved_up n places i past ∙ kept.0 h.1)),
-      )
-    ]
+use Rattle.cam_rows.proofs.SetBits.{low_bits, set_in_and, set_in_or, set_in_shl, set_in_shr, set_is_one}
 
 -- ---- bits that are exchanged with those so many places above them
 

@@ -1,11 +1,12 @@
 -- Which bits are set in rows that are joined, and in runs of bits.
-use Rattle.std.proofs.Common.{◌≡◌, ℕ, ◌+◌, ◌*◌, ◌-◌, ◌/◌, ◌%◌, ◌^◌, ◌<◌, ◌↔◌, ◌⊎◌}
-use Rattle.std.proofs.Common.{refl, ap, ◌∙◌, arith, bit_and, bit_or}
+use Rattle.std.proofs.Common.{◌≡◌, ℕ, ◌+◌, ◌*◌, ◌-◌, ◌/◌, ◌%◌, ◌^◌, ◌<◌, ◌≤◌, ◌↔◌, ◌⊎◌}
+use Rattle.std.proofs.Common.{refl, ap, sym, inl, inr, add-zero, ◌∙◌, arith, bit_and, bit_or}
 use Rattle.std.specs.Int.{IsBitSet, bit_at, bit_not, w64}
 use Rattle.std.specs.Int.RustNames.{bit_xor}
-use Rattle.std.proofs.lemmas.Nat.{bit_set_by_shift, one_shl, shr-shr}
+use Rattle.std.proofs.lemmas.Bool.{cases_lt}
+use Rattle.std.proofs.lemmas.Nat.{bit_set_by_shift, pow_pos, shr_split, shr-shr}
 use Rattle.std.proofs.lemmas.Nat.Bits.{bit_at-lt, bit_at_and, bit_at_not, bit_at_ones, bit_at_ones_above, bit_at_or}
-use Rattle.std.proofs.lemmas.Nat.Bits.{bit_at_xor, shr_and_one}
+use Rattle.std.proofs.lemmas.Nat.Bits.{bit_at_cat_high, bit_at_cat_low, bit_at_xor, bit_at-zero, shr_and_one}
 
 -- a set bit is 1
 pub set_is_one : (n i : ℕ) → IsBitSet n i ↔ (bit_at n i ≡ 1)
@@ -44,12 +45,58 @@ set_in_shr n places i =
     ap (λ m. m % 2) (shr-shr n places i) ∙ ap (bit_at n) (omega arith) in
     grind (arith, set_is_one, same)
 
+-- the low bits of a number
+pub low_bits : (n width i : ℕ) → i < width → bit_at (n % 2 ^ width) i ≡ bit_at n i
+low_bits n width i within =
+    sym (bit_at_cat_low (n / 2 ^ width) width (n % 2 ^ width) i within) ∙ ap (λ m. bit_at m i) (shr_split n width)
+
+-- a row that is shifted up
+moved_up : (n places i : ℕ) → places ≤ i → bit_at (n * 2 ^ places) i ≡ bit_at n (i - places)
+moved_up n places i past =
+    ap (λ m. bit_at m i) (sym (add-zero (n * 2 ^ places))) ∙ bit_at_cat_high n places 0 i (pow_pos places) past
+
+clear_below : (n places i : ℕ) → i < places → bit_at (n * 2 ^ places) i ≡ 0
+clear_below n places i below =
+    ap (λ m. bit_at m i) (sym (add-zero (n * 2 ^ places))) ∙ bit_at_cat_low n places 0 i below ∙ bit_at-zero i
+
+pub set_in_shl : (n places i : ℕ) → i < 64
+    → IsBitSet (n * 2 ^ places % 2 ^ 64) i ↔ ((places ≤ i) × IsBitSet n (i - places))
+set_in_shl n places i within =
+    let low = low_bits (n * 2 ^ places) 64 i within in
+    let shifted = set_is_one (n * 2 ^ places % 2 ^ 64) i in
+    let kept = set_is_one n (i - places) in
+    elim (cases_lt i places) [
+      | inl below ↦ (
+        (λ h. absurd (omega (arith, shifted.0 h, low, clear_below n places i below))),
+        (λ h. absurd (omega (arith, h.0))),
+      )
+      | inr past ↦ (
+        (λ h. (past, kept.1 (sym (moved_up n places i past) ∙ sym low ∙ shifted.0 h))),
+        (λ h. shifted.1 (low ∙ moved_up n places i past ∙ kept.0 h.1)),
+      )
+    ]
+
 -- the run of bits below an end, as shifts compute it
 run_below : (end i : ℕ) → IsBitSet (2 ^ end - 1) i ↔ (i < end)
 run_below end i = grind (arith, bit_values, bit_at_ones, bit_at_ones_above)
 
-pub shifted_run : (end i : ℕ) → end < 64 → IsBitSet (1 * 2 ^ end % 2 ^ 64 - 1) i ↔ (i < end)
-shifted_run end i short = rw (one_shl end 64 short) (run_below end i)
-
 pub whole_run : (end i : ℕ) → end ≡ 64 → IsBitSet (2 ^ 64 - 1) i ↔ (i < end)
 whole_run end i whole = rw whole (run_below 64 i)
+
+-- the bits from a first one on and below an end, as shifts of all bits compute them
+pub between_shifts : (first end i : ℕ) → end ≤ 64 → i < 64
+    → IsBitSet (bit_and ((2 ^ 64 - 1) * 2 ^ first % 2 ^ 64) ((2 ^ 64 - 1) / 2 ^ (64 - end))) i
+    ↔ ((first ≤ i) × (i < end))
+between_shifts first end i fits within =
+    let both = set_in_and ((2 ^ 64 - 1) * 2 ^ first % 2 ^ 64) ((2 ^ 64 - 1) / 2 ^ (64 - end)) i in
+    let up = set_in_shl (2 ^ 64 - 1) first i within in
+    let down = set_in_shr (2 ^ 64 - 1) (64 - end) i in
+    let high = whole_run 64 (i - first) refl in
+    let low = whole_run 64 (i + (64 - end)) refl in (
+      (λ set. let on = both.0 set in
+          ((up.0 on.0).0, omega (arith, fits, low.0 (down.0 on.1)))),
+      (λ run. both.1 (
+        up.1 (run.0, high.1 (omega (arith, within))),
+        down.1 (low.1 (omega (arith, fits, run.1))),
+      )),
+    )

@@ -1,8 +1,11 @@
 //! Rows of an arc's stroke.
 
-ghost use Rattle.std.specs.Prelude.{length};
+ghost use Rattle.std.specs.Prelude.{IsTrue, length};
+ghost use Rattle.cam_units.specs.declared.point.Spot.{Spot};
 ghost use Rattle.cam_shapes.specs.Arc.{IsInArc, IsSoundArc};
+ghost use Rattle.cam_rows.specs.declared.rows.Change.TheVariants.{Clear};
 ghost use Rattle.cam_rows.specs.ArcRuns.{IsBeyond, IsHollow, IsOuter, IsRingOf};
+ghost use Rattle.cam_rows.specs.Machinery.Changes.{AreChanged, Has};
 ghost use Rattle.cam_rows.specs.Rows.{AreMarked, AreRows, IsRow, Marks};
 
 use crate::centres::Centres;
@@ -11,6 +14,7 @@ use crate::ring::{Ring, ring_of};
 use crate::rows::{Change, change_rows, mark_rows};
 use crate::run_shape::RunShape;
 use crate::runs::arc::{beyond_runs, hollow_runs, outer_runs};
+use crate::sweep::cross_product;
 use cam_shapes::{Arc, Disc};
 
 /// An arc's outer circle in its sweep.
@@ -85,7 +89,7 @@ pub fn arc_rows(arc: Arc, top: Centres, rows: &mut [u64])
     let ring = ring_of(&arc);
     mark_rows(&Outer { arc, ring }, &top, rows);
     change_rows(&Hollow { arc, ring }, Change::Clear, &top, rows);
-    change_rows(&Beyond { arc }, Change::Clear, &top, rows);
+    clear_beyond(&arc, &top, rows);
     let start = Disc {
         centre: arc.from,
         diameter: arc.width,
@@ -96,4 +100,25 @@ pub fn arc_rows(arc: Arc, top: Centres, rows: &mut [u64])
     };
     add_disc(&start, &top, rows);
     add_disc(&end, &top, rows);
+}
+
+/// Clears the bits of the centres that an arc's sweep leaves out, in rows one below another from the top one: none of
+/// them is looked at where it is at most a half turn.
+fn clear_beyond(arc: &Arc, top: &Centres, rows: &mut [u64])
+    requires arc { IsSoundArc arc.now }
+    requires rows { AreRows top.now (length rows.old) }
+    ensures { AreChanged Clear rows.old (Has top.now (λ s. IsBeyond arc.now s)) rows.new }
+{
+    if leaves_out(arc) {
+        change_rows(&Beyond { arc: *arc }, Change::Clear, top, rows);
+    }
+}
+
+/// Whether an arc's sweep is more than a half turn, and so leaves places out.
+fn leaves_out(arc: &Arc) -> bool
+    requires { IsSoundArc arc.now }
+    ensures { (IsTrue result → ⊥) → (s : Spot) → IsBeyond arc.now s → ⊥ }
+{
+    let turn = cross_product(&arc.centre, &arc.from, &arc.to);
+    if arc.ccw { turn < 0 } else { turn > 0 }
 }

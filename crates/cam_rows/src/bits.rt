@@ -10,18 +10,8 @@ pub(crate) fn bits_between(first: u32, end: u32) -> u64
     requires within { end ≤ 64 }
     ensures { (i : ℕ) → i < 64 → IsBitSet result i ↔ ((first ≤ i) × (i < end)) }
 {
-    bits_below(end) & !bits_below(first)
-}
-
-/// The row whose bits below `end` are set.
-#[inline]
-fn bits_below(end: u32) -> u64
-    requires { end ≤ 64 }
-    ensures { (i : ℕ) → i < 64 → IsBitSet result i ↔ (i < end) }
-{
-    if end == 64 {
-        u64::MAX
-    } else {
-        (1u64 << end) - 1
+    if end <= first {
+        return 0;
     }
+    (u64::MAX << first) & (u64::MAX >> (64 - end))
 }

@@ -21,13 +21,6 @@ pub(crate) enum Change {
     Turn,
 }
 
-/// The runs of up to 64 rows.
-#[derive(Clone, Copy)]
-struct RowRuns {
-    firsts: [u32; 64],
-    ends: [u32; 64],
-}
-
 impl Change {
     /// The row that it makes of a row, where another row has the centres that are held.
     #[inline]
@@ -69,27 +62,32 @@ pub(crate) fn change_rows<S: RunShape>(shape: &S, change: Change, top: &Centres,
     requires rows { AreRows top.now (length rows.old) }
     ensures { AreChanged change rows.old (Has top.now (S.holds shape.now)) rows.new }
 {
+    let mut firsts = [0; 64];
+    let mut ends = [0; 64];
     for block in 0..rows.len().div_ceil(64) {
         let first = 64 * block;
         let count = (rows.len() - first).min(64);
-        let runs = runs_from(shape, &top.below(first), count);
+        find_runs(shape, &top.below(first), count, &mut firsts, &mut ends);
         for k in 0..count {
-            let held = run_row(runs.firsts[k], runs.ends[k], 0, top.count);
+            let held = run_row(firsts[k], ends[k], 0, top.count);
             rows[first + k] = change.of(rows[first + k], held);
         }
     }
 }
 
 /// The runs of a shape in up to 64 rows, one below another from the top one.
-fn runs_from<S: RunShape>(shape: &S, top: &Centres, count: usize) -> RowRuns
+fn find_runs<S: RunShape>(
+    shape: &S,
+    top: &Centres,
+    count: usize,
+    firsts: &mut [u32; 64],
+    ends: &mut [u32; 64],
+)
     requires sound { S.is_sound shape.now }
     requires few { count ≤ 64 }
     requires rows { AreRows top.now count }
     ensures { (k i : ℕ) → k < count → i < top.now.count
-        → IsInRow result.firsts result.ends k i ↔ S.holds shape.now (centre_at (row_below top.now k) i) }
+        → IsInRow firsts.new ends.new k i ↔ S.holds shape.now (centre_at (row_below top.now k) i) }
 {
-    let mut firsts = [0; 64];
-    let mut ends = [0; 64];
     shape.runs(top, &mut firsts[..count], &mut ends[..count]);
-    RowRuns { firsts, ends }
 }

@@ -8,8 +8,8 @@ use Rattle.cam_rows.proofs.rows.change_rows.Goals as goal
 pub loop-block-init : goal.loop-block-init
 loop-block-init g c = no_rows c.args.change c.args.rows.now _
 
-pub runs_from-runs-requires-clause-rows : goal.runs_from-runs-requires-clause-rows
-runs_from-runs-requires-clause-rows g c = λ k within.
+pub find_runs-requires-clause-rows : goal.find_runs-requires-clause-rows
+find_runs-requires-clause-rows g c = λ k within.
     rw (c.below.ensures, below_below c.args.top.now (64 * c.loop-block.block) k)
     (c.requires.rows (64 * c.loop-block.block + k)
     (omega (arith, within, c.min-count.ensures, c.loop-block.auto.rows)))
@@ -38,7 +38,7 @@ loop-k-preserved g c =
     (run_has _ top (g.S.RunShape.holds c.args.shape.now) row i _ _ (c.run_row-held.ensures i small)
     (λ inside.
     told_below _ top c.below.result (g.S.RunShape.holds c.args.shape.now) first c.loop-k.k i c.below.ensures
-    (c.runs_from-runs.ensures c.loop-k.k i c.loop-k-test.true (rw c.below.ensures inside))))
+    (c.find_runs.ensures c.loop-k.k i c.loop-k-test.true (rw c.below.ensures inside))))
     (c.of.ensures i small)))
 
 pub loop-block-preserved : goal.loop-block-preserved
