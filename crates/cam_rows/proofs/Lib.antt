@@ -13,6 +13,7 @@ pub mod Columns
 pub mod CountedRuns
 pub mod EdgeEnds
 pub mod EdgeSides
+pub mod FoundRuns
 pub mod Gaps
 pub mod HalfPlanes
 pub mod JoinedLanes

@@ -15,6 +15,10 @@ set_is_one n i = rw (← shr_and_one n i) ((bit_set_by_shift n i).1, (bit_set_by
 -- what tells of a set bit by its value
 ruleset bit_values = (set_is_one, bit_at-lt)
 
+-- no bit is set in 0
+pub none_set : (row i : ℕ) → row ≡ 0 → IsBitSet row i → ⊥
+none_set row i e set = (rw e at set) refl
+
 -- masks
 pub set_in_and : (a b i : ℕ) → IsBitSet (bit_and a b) i ↔ (IsBitSet a i × IsBitSet b i)
 set_in_and a b i = grind (arith, bit_values, bit_at_and)
