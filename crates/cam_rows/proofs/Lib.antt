@@ -4,7 +4,6 @@ pub mod BesideWays
 pub mod CapRows
 pub mod CapSides
 pub mod CapTies
-pub mod CapsuleParts
 pub mod ChangedRows
 pub mod ChordTurns
 pub mod Chords
@@ -17,7 +16,6 @@ pub mod FoundRuns
 pub mod Gaps
 pub mod HalfPlanes
 pub mod JoinedLanes
-pub mod Marked
 pub mod MarkedColumns
 pub mod MarkedRows
 pub mod MissedDiscs
