@@ -9,9 +9,21 @@ use Rattle.cam_rows.specs.declared.centres.Centres.{Centres}
 use Rattle.cam_rows.specs.declared.rows.Change.TheVariants.{Clear, Set}
 use Rattle.cam_rows.specs.ArcRuns.{IsBeyond, IsHollow, IsOuter, end_of, start_of}
 use Rattle.cam_rows.specs.Machinery.Changes.{AreChanged, Has}
-use Rattle.cam_rows.specs.Rows.{AreMarked}
+use Rattle.cam_rows.specs.Rows.{AreMarked, centre_at, row_below}
 use Rattle.cam_rows.proofs.ArcRuns.{arc_is_its_runs}
-use Rattle.cam_rows.proofs.CapsuleParts.{marked_either}
+
+in_either : (r a b k P Q R : Type 0) → (r ↔ (a ⊎ b)) → (a ↔ (k × P)) → (b ↔ (k × Q)) → (k → R ↔ (P ⊎ Q))
+    → r ↔ (k × R)
+in_either r a b k P Q R join first second meaning = grind (arith, join, first, second, meaning)
+
+-- rows of one shape, to which another is added
+marked_either : (old new : List ℕ) (top : Centres) (P Q R : Spot → Type 0) → length new ≡ length old
+    → AreMarked old top P → AreChanged Set old (Has top Q) new → ((s : Spot) → R s ↔ (P s ⊎ Q s)) → AreMarked new top R
+marked_either old new top P Q R size marked added told k within i small =
+    let here : k < length old = omega (arith, size) in
+    let s = centre_at (row_below top k) i in
+    in_either _ _ _ _ (P s) (Q s) (R s) (added k i here small) (marked k here i small) ((λ h. h), (λ h. h))
+    (λ _. told s)
 
 -- rows of one shape, of which another is cleared
 marked_rest : (old new : List ℕ) (top : Centres) (P Q R : Spot → Type 0) → length new ≡ length old

@@ -1,16 +1,11 @@
--- A capsule by its parts, a bar and a disc about each end, and rows of a shape to which another is added.
-use Rattle.std.proofs.Common.{◌≡◌, ◌<◌, ◌↔◌, ◌⊎◌, ℕ, List, length, inl, inr, arith}
+-- A capsule by its parts: a bar, and a disc about each end.
+use Rattle.std.proofs.Common.{◌↔◌, ◌⊎◌, inl, inr}
 use Rattle.cam_units.specs.declared.point.Spot.{Spot}
 use Rattle.cam_shapes.specs.declared.bar.Bar.{Bar}
 use Rattle.cam_shapes.specs.declared.capsule.Capsule.{Capsule}
 use Rattle.cam_shapes.specs.declared.disc.Disc.{Disc}
 use Rattle.cam_shapes.specs.Bar.{IsInBar, IsInCapsule}
 use Rattle.cam_shapes.specs.Disc.{IsInDisc}
-use Rattle.cam_rows.specs.declared.centres.Centres.{Centres}
-use Rattle.cam_rows.specs.declared.rows.Change.TheVariants.{Set}
-use Rattle.cam_rows.specs.Machinery.Changes.{AreChanged, Has}
-use Rattle.cam_rows.specs.Rows.{AreMarked, centre_at, row_below}
-use Rattle.cam_rows.proofs.Marked.{in_either}
 
 abbrev pub start_of : Capsule → Disc
 start_of c = record { centre = c.from; diameter = c.width }
@@ -42,12 +37,3 @@ in_capsule s c = (
     | inr last ↦ record { wide = last.some; near = inr (inl last.near) }
   ]),
 )
-
--- rows of one shape, to which another is added
-pub marked_either : (old new : List ℕ) (top : Centres) (P Q R : Spot → Type 0) → length new ≡ length old
-    → AreMarked old top P → AreChanged Set old (Has top Q) new → ((s : Spot) → R s ↔ (P s ⊎ Q s)) → AreMarked new top R
-marked_either old new top P Q R size marked added told k within i small =
-    let here : k < length old = omega (arith, size) in
-    let s = centre_at (row_below top k) i in
-    in_either _ _ _ _ (P s) (Q s) (R s) (added k i here small) (marked k here i small) ((λ h. h), (λ h. h))
-    (λ _. told s)

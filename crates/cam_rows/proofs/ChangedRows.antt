@@ -1,7 +1,7 @@
 -- Rows of which each bit is what it was, changed by whether something holds its centre: from the top row on.
 use Rattle.std.proofs.Common.{◌≡◌, ℕ, ◌+◌, ◌<◌, ◌≤◌, ◌≢◌, ◌↔◌, ◌⊎◌, ℤ, pos, ◌-ℤ◌, ◌*ℤ◌}
 use Rattle.std.proofs.Common.{List, length, slice_index, slice_set}
-use Rattle.std.proofs.Common.{get_or-set_other, get_or-set_same, inl, inr, refl, subst, ap, ◌∙◌, arith}
+use Rattle.std.proofs.Common.{get_or-set_other, get_or-set_same, inl, inr, refl, subst, ◌∙◌, arith}
 use Rattle.std.proofs.Math.ListN.{length-set}
 use Rattle.std.specs.Int.{IsBitSet}
 use Rattle.std.proofs.lemmas.Bool.{cases_lt}
@@ -10,9 +10,8 @@ use Rattle.cam_units.proofs.Ring.{Atom, Difference, Product, equal}
 use Rattle.cam_rows.specs.declared.centres.Centres.{Centres}
 use Rattle.cam_rows.specs.declared.rows.Change.{Change}
 use Rattle.cam_rows.specs.declared.rows.Change.TheVariants.{Clear, Set, Turn}
-use Rattle.cam_rows.specs.Machinery.Changes.{AreChanged, Has, IsSetBy}
+use Rattle.cam_rows.specs.Machinery.Changes.{AreChanged, IsSetBy}
 use Rattle.cam_rows.specs.Rows.{AreTurned, centre_at, row_below}
-use Rattle.cam_rows.specs.Runs.{IsInRun}
 
 module _ (change : Change) (old : List ℕ) (IsHeld : ℕ → ℕ → Type 0) where
   -- the rows above an end are changed, and the others as they were
@@ -95,17 +94,3 @@ below_below top first k = λ j. record {
   step = top.step;
   count = top.count;
 }
-
-pub told_below : (B : Type 0) (top lower : Centres) (IsIn : Spot → Type 0) (first k i : ℕ) → lower ≡ row_below top first
-    → B ↔ IsIn (centre_at (row_below lower k) i) → B ↔ IsIn (centre_at (row_below top (first + k)) i)
-told_below B top lower IsIn first k i is told =
-    subst (λ (c : Centres). B ↔ IsIn (centre_at c i)) (ap (λ c. row_below c k) is ∙ below_below top first k) told
-
--- the bits of a row by its run
-pub run_has : (B : Type 0) (top : Centres) (IsIn : Spot → Type 0) (row i first end : ℕ)
-    → B ↔ ((i < top.count) × IsInRun first end (0 + i))
-    → (i < top.count → IsInRun first end i ↔ IsIn (centre_at (row_below top row) i)) → B ↔ Has top IsIn row i
-run_has B top IsIn row i first end bit told = (
-  (λ set. let on = bit.0 set in (on.0, (told on.0).0 (omega (arith, on.1.0), omega (arith, on.1.1)))),
-  (λ held. let run = (told held.0).1 held.1 in bit.1 (held.0, (omega (arith, run.0), omega (arith, run.1)))),
-)

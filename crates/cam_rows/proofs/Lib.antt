@@ -14,10 +14,10 @@ pub mod CountedRuns
 pub mod EdgeEnds
 pub mod EdgeSides
 pub mod FarPlaces
+pub mod FoundRuns
 pub mod Gaps
 pub mod HalfPlanes
 pub mod JoinedLanes
-pub mod Marked
 pub mod MarkedColumns
 pub mod MarkedRows
 pub mod MissedDiscs

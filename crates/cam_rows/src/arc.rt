@@ -13,7 +13,8 @@ use crate::disc::add_disc;
 use crate::ring::{Ring, ring_of};
 use crate::rows::{Change, change_rows, mark_rows};
 use crate::run_shape::RunShape;
-use crate::runs::arc::{beyond_runs, hollow_runs, outer_runs};
+use crate::runs::arc::{beyond_runs, outer_runs};
+use crate::runs::circle::narrow_to_circle;
 use crate::sweep::cross_product;
 use cam_shapes::{Arc, Disc};
 
@@ -42,7 +43,8 @@ impl RunShape for Outer {
 
     ghost holds = { λ o s. IsOuter o.arc s };
 
-    fn runs(&self, top: &Centres, firsts: &mut [u32], ends: &mut [u32]) {
+    #[tactic(auto, using(crate::proofs::FoundRuns::found_anew))]
+    fn find(&self, top: &Centres, firsts: &mut [u32], ends: &mut [u32]) {
         outer_runs(&self.arc, &self.ring, top, firsts, ends);
     }
 }
@@ -52,8 +54,11 @@ impl RunShape for Hollow {
 
     ghost holds = { λ h s. IsHollow h.arc s };
 
-    fn runs(&self, top: &Centres, firsts: &mut [u32], ends: &mut [u32]) {
-        hollow_runs(&self.arc, &self.ring, top, firsts, ends);
+    fn find(&self, top: &Centres, firsts: &mut [u32], ends: &mut [u32]) {
+        if firsts.is_empty() {
+            return;
+        }
+        narrow_to_circle(&self.arc.centre, self.ring.inner, top, firsts, ends);
     }
 }
 
@@ -62,7 +67,8 @@ impl RunShape for Beyond {
 
     ghost holds = { λ b s. IsBeyond b.arc s };
 
-    fn runs(&self, top: &Centres, firsts: &mut [u32], ends: &mut [u32]) {
+    #[tactic(auto, using(crate::proofs::FoundRuns::found_anew))]
+    fn find(&self, top: &Centres, firsts: &mut [u32], ends: &mut [u32]) {
         beyond_runs(&self.arc, top, firsts, ends);
     }
 }

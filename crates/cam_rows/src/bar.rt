@@ -15,7 +15,8 @@ impl RunShape for Bar {
 
     ghost holds = { λ b s. IsInBar s b };
 
-    fn runs(&self, top: &Centres, firsts: &mut [u32], ends: &mut [u32]) {
+    #[tactic(auto, using(crate::proofs::FoundRuns::found_anew))]
+    fn find(&self, top: &Centres, firsts: &mut [u32], ends: &mut [u32]) {
         bar_runs(self, top, firsts, ends);
     }
 }

@@ -19,7 +19,8 @@ impl RunShape for Cap {
 
     ghost holds = { λ c s. IsTrue (is_in_cap s c) };
 
-    fn runs(&self, top: &Centres, firsts: &mut [u32], ends: &mut [u32]) {
+    #[tactic(auto, using(crate::proofs::FoundRuns::found_anew))]
+    fn find(&self, top: &Centres, firsts: &mut [u32], ends: &mut [u32]) {
         cap_runs(self, top, firsts, ends);
     }
 }

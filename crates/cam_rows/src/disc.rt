@@ -18,7 +18,8 @@ impl RunShape for Disc {
 
     ghost holds = { λ d s. IsInDisc s d };
 
-    fn runs(&self, top: &Centres, firsts: &mut [u32], ends: &mut [u32]) {
+    #[tactic(auto, using(crate::proofs::FoundRuns::found_anew))]
+    fn find(&self, top: &Centres, firsts: &mut [u32], ends: &mut [u32]) {
         disc_runs(self, top, firsts, ends);
     }
 }

@@ -28,7 +28,8 @@ impl RunShape for LeftSide {
 
     ghost holds = { λ l s. pos 0 <ℤ cross (way l.from l.to) (seen_from l.from s) };
 
-    fn runs(&self, top: &Centres, firsts: &mut [u32], ends: &mut [u32]) {
+    #[tactic(auto, using(crate::proofs::FoundRuns::found_anew))]
+    fn find(&self, top: &Centres, firsts: &mut [u32], ends: &mut [u32]) {
         if firsts.is_empty() {
             return;
         }

@@ -19,7 +19,8 @@ impl RunShape for Hole {
 
     ghost holds = { λ h s. IsInHole s h.0 };
 
-    fn runs(&self, top: &Centres, firsts: &mut [u32], ends: &mut [u32]) {
+    #[tactic(auto, using(crate::proofs::FoundRuns::found_anew))]
+    fn find(&self, top: &Centres, firsts: &mut [u32], ends: &mut [u32]) {
         hole_runs(&self.0, top, firsts, ends);
     }
 }

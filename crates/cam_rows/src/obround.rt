@@ -17,7 +17,8 @@ impl RunShape for Obround {
 
     ghost holds = { λ o s. IsInObround s o };
 
-    fn runs(&self, top: &Centres, firsts: &mut [u32], ends: &mut [u32]) {
+    #[tactic(auto, using(crate::proofs::FoundRuns::found_anew))]
+    fn find(&self, top: &Centres, firsts: &mut [u32], ends: &mut [u32]) {
         obround_runs(self, top, firsts, ends);
     }
 }

@@ -15,7 +15,8 @@ impl RunShape for Rectangle {
 
     ghost holds = { λ r s. IsInRectangle s r };
 
-    fn runs(&self, top: &Centres, firsts: &mut [u32], ends: &mut [u32]) {
+    #[tactic(auto, using(crate::proofs::FoundRuns::found_anew))]
+    fn find(&self, top: &Centres, firsts: &mut [u32], ends: &mut [u32]) {
         rect_runs(self, top, firsts, ends);
     }
 }

@@ -1,7 +1,8 @@
 //! Rows of up to 64 centres, one below another, changed where a shape holds them: by its runs.
 
-ghost use Rattle.std.specs.Prelude.{◌↔◌, ◌<◌, ◌≤◌, ℕ, length};
+ghost use Rattle.std.specs.Prelude.{◌≡◌, ◌↔◌, ◌⊎◌, ◌<◌, ◌≤◌, ℕ, length, slice_index};
 ghost use Rattle.std.specs.Int.{IsBitSet};
+ghost use Rattle.cam_rows.specs.declared.rows.Change.TheVariants.{Clear};
 ghost use Rattle.cam_rows.specs.Machinery.Changes.{AreChanged, Has, IsSetBy};
 ghost use Rattle.cam_rows.specs.Machinery.Narrowing.{IsInRow};
 ghost use Rattle.cam_rows.specs.Rows.{AreMarked, AreRows, IsRow, Marks, centre_at, row_below};
@@ -22,6 +23,17 @@ pub(crate) enum Change {
 }
 
 impl Change {
+    /// Up to which of the columns it may change a row: of one without a bit nothing is cleared.
+    #[inline]
+    fn reach(self, row: u64, columns: u32) -> u32
+        ensures { (result ≡ columns) ⊎ ((self ≡ Clear) × (row ≡ 0)) }
+    {
+        match self {
+            Change::Clear if row == 0 => 0,
+            _ => columns,
+        }
+    }
+
     /// The row that it makes of a row, where another row has the centres that are held.
     #[inline]
     fn of(self, row: u64, held: u64) -> u64
@@ -62,11 +74,14 @@ pub(crate) fn change_rows<S: RunShape>(shape: &S, change: Change, top: &Centres,
     requires rows { AreRows top.now (length rows.old) }
     ensures { AreChanged change rows.old (Has top.now (S.holds shape.now)) rows.new }
 {
-    let mut firsts = [0; 64];
-    let mut ends = [0; 64];
     for block in 0..rows.len().div_ceil(64) {
         let first = 64 * block;
         let count = (rows.len() - first).min(64);
+        let mut firsts = [0; 64];
+        let mut ends = [0; 64];
+        for row in 0..count {
+            ends[row] = change.reach(rows[first + row], top.count);
+        }
         find_runs(shape, &top.below(first), count, &mut firsts, &mut ends);
         for k in 0..count {
             let held = run_row(firsts[k], ends[k], 0, top.count);
@@ -75,7 +90,8 @@ pub(crate) fn change_rows<S: RunShape>(shape: &S, change: Change, top: &Centres,
     }
 }
 
-/// The runs of a shape in up to 64 rows, one below another from the top one.
+/// Finds a shape in up to 64 rows, one below another from the top one, before the ends of runs from the leftmost column
+/// on.
 fn find_runs<S: RunShape>(
     shape: &S,
     top: &Centres,
@@ -86,8 +102,11 @@ fn find_runs<S: RunShape>(
     requires sound { S.is_sound shape.now }
     requires few { count ≤ 64 }
     requires rows { AreRows top.now count }
-    ensures { (k i : ℕ) → k < count → i < top.now.count
-        → IsInRow firsts.new ends.new k i ↔ S.holds shape.now (centre_at (row_below top.now k) i) }
+    requires leftmost { (k : ℕ) → k < count → slice_index firsts.old k ≡ 0 }
+    ensures held { (k i : ℕ) → k < count → i < top.now.count → IsInRow firsts.new ends.new k i
+        → S.holds shape.now (centre_at (row_below top.now k) i) }
+    ensures all { (k i : ℕ) → k < count → i < top.now.count → i < slice_index ends.old k
+        → S.holds shape.now (centre_at (row_below top.now k) i) → IsInRow firsts.new ends.new k i }
 {
-    shape.runs(top, &mut firsts[..count], &mut ends[..count]);
+    shape.find(top, &mut firsts[..count], &mut ends[..count]);
 }

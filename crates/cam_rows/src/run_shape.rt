@@ -2,7 +2,8 @@
 
 ghost use Rattle.std.specs.Prelude.{◌≡◌, length};
 ghost use Rattle.cam_units.specs.declared.point.Spot.{Spot};
-ghost use Rattle.cam_rows.specs.Runs.{AreRuns, AreWideRows};
+ghost use Rattle.cam_rows.specs.Machinery.Narrowing.{AreFound};
+ghost use Rattle.cam_rows.specs.Runs.{AreWideRows};
 
 use crate::centres::Centres;
 
@@ -14,10 +15,11 @@ pub(crate) trait RunShape {
     /// The places that it holds.
     ghost holds: { Self → Spot → Type 0 };
 
-    /// Its runs in wide rows, one below another from the top one.
-    fn runs(&self, top: &Centres, firsts: &mut [u32], ends: &mut [u32])
+    /// Finds its columns in the runs of wide rows, one below another from the top one: those outside of the runs may be
+    /// found too.
+    fn find(&self, top: &Centres, firsts: &mut [u32], ends: &mut [u32])
         requires sound { is_sound self.now }
         requires rows { AreWideRows top.now (length firsts.old) }
         requires ends { length ends.old ≡ length firsts.old }
-        ensures { AreRuns firsts.new ends.new top.now (holds self.now) };
+        ensures { AreFound firsts.old ends.old top.now (holds self.now) firsts.new ends.new };
 }

@@ -4,7 +4,7 @@ pub(crate) mod arc;
 pub(crate) mod bar;
 mod boxes;
 pub(crate) mod cap;
-mod circle;
+pub(crate) mod circle;
 pub(crate) mod disc;
 pub(crate) mod edge;
 pub(crate) mod hole;

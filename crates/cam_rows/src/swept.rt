@@ -19,7 +19,8 @@ impl RunShape for Swept {
 
     ghost holds = { λ w s. IsInSwept s w };
 
-    fn runs(&self, top: &Centres, firsts: &mut [u32], ends: &mut [u32]) {
+    #[tactic(auto, using(crate::proofs::FoundRuns::found_anew))]
+    fn find(&self, top: &Centres, firsts: &mut [u32], ends: &mut [u32]) {
         swept_runs(self, top, firsts, ends);
     }
 }

@@ -1,7 +1,9 @@
-use Rattle.std.proofs.Common.{◌*◌, ◌+◌, ◌<◌, length, inl, inr, arith}
+use Rattle.std.proofs.Common.{◌≡◌, ◌*◌, ◌+◌, ◌<◌, length, inl, inr, slice_index, sym, ◌∙◌, arith}
 use Rattle.std.proofs.lemmas.Bool.{cases_lt}
+use Rattle.std.proofs.lemmas.List.{get_or-replicate}
 use Rattle.std.proofs.lemmas.Grind.{div_ceil_times}
-use Rattle.cam_rows.proofs.ChangedRows.{all_changed, below_below, block_done, next_row, no_rows, run_has, set_alike, told_below}
+use Rattle.cam_rows.proofs.ChangedRows.{all_changed, below_below, block_done, next_row, no_rows}
+use Rattle.cam_rows.proofs.FoundRuns.{bit_found, changed_by_found, reached_more}
 use Rattle.cam_rows.proofs.RowsBelow.{top_is_row}
 use Rattle.cam_rows.proofs.rows.change_rows.Goals as goal
 
@@ -25,21 +27,36 @@ run_row-held-requires g c =
     omega (arith, c.loop-k-test.true, c.min-count.ensures, c.loop-block.auto.rows) in
     record { few = (top_is_row c.args.top.now (length c.args.rows.now) some c.requires.rows).count.1 }
 
+pub loop-row-preserved : goal.loop-row-preserved
+loop-row-preserved g c =
+    reached_more c.loop-row.ends c.args.change c.loop-block.rows (64 * c.loop-block.block) c.args.top.now.count
+    c.loop-row.row c.reach.result (omega (arith, c.loop-row-test.true, c.min-count.ensures)) c.loop-row.invariant
+    c.reach.ensures
+
+pub find_runs-requires-clause-leftmost : goal.find_runs-requires-clause-leftmost
+find_runs-requires-clause-leftmost g c = λ k within.
+    get_or-replicate 64 k 0 0 (omega (arith, within, c.min-count.ensures))
+
 pub loop-k-preserved : goal.loop-k-preserved
 loop-k-preserved g c =
     let top = c.args.top.now in
     let first = 64 * c.loop-block.block in
-    let row = first + c.loop-k.k in
-    block_done c.args.change c.args.rows.now _ _ (row + 1) (first + (c.loop-k.k + 1)) (omega arith) (inl (omega arith))
+    let k = c.loop-k.k in
+    let row = first + k in
+    let before = c.loop-block.invariant.same row (omega arith) in
+    let was : slice_index c.loop-k.rows row ≡ slice_index c.loop-block.rows row =
+    c.loop-k.invariant.same row (omega arith) ∙ sym before in
+    let reached = c.loop-row.invariant.each k (omega (arith, c.loop-k-test.true, c.loop-row-test.false)) in
+    block_done c.args.change c.args.rows.now _ _ (row + 1) (first + (k + 1)) (omega arith) (inl (omega arith))
     (next_row c.args.change c.args.rows.now _ c.loop-k.rows row c.of.result
     (omega (arith, c.loop-k-test.true, c.min-count.ensures, c.loop-block.auto.rows)) c.loop-k.invariant
     (λ i small.
-    set_alike c.args.change _ _ _ _
-    (run_has _ top (g.S.RunShape.holds c.args.shape.now) row i _ _ (c.run_row-held.ensures i small)
-    (λ inside.
-    told_below _ top c.below.result (g.S.RunShape.holds c.args.shape.now) first c.loop-k.k i c.below.ensures
-    (c.find_runs.ensures c.loop-k.k i c.loop-k-test.true (rw c.below.ensures inside))))
-    (c.of.ensures i small)))
+    let found =
+    bit_found _ top c.below.result (g.S.RunShape.holds c.args.shape.now) first k i _ _ _ c.below.ensures
+    (c.run_row-held.ensures i small)
+    (c.find_runs.ensures.held k i c.loop-k-test.true) (c.find_runs.ensures.all k i c.loop-k-test.true) in
+    changed_by_found c.args.change _ _ _ (slice_index c.loop-k.rows row) i (slice_index c.loop-row.ends k) top.count
+    (rw was reached) found.0 found.1 (c.of.ensures i small)))
 
 pub loop-block-preserved : goal.loop-block-preserved
 loop-block-preserved g c =
