@@ -186,7 +186,7 @@ impl Swath {
         let first = self.first_reached(left);
         let end = self.end_reached(right);
         let masks = end.saturating_sub(first);
-        if masks > 8 && lie_across(filed, masks, self.pitch.stride) {
+        if masks > 1 && lie_across(filed, masks, self.pitch.stride) {
             self.fill_together(first, end, region, filed);
             return;
         }
