@@ -39,7 +39,7 @@ use crate::masks::join::Join;
 use crate::masks::mask::Mask;
 use crate::masks::stroke_runs::{Stroke, StrokeRuns};
 use crate::masks::strokes::{paint_each, paint_strokes, stroke_of};
-use crate::masks::turning::{fill_marked, mark_inside};
+use crate::masks::turning::{fill_marked, lie_across, mark_inside};
 use crate::painter::Tile;
 use crate::shown::Region;
 use crate::window::Window;
@@ -185,7 +185,8 @@ impl Swath {
     {
         let first = self.first_reached(left);
         let end = self.end_reached(right);
-        if end.saturating_sub(first) > 1 {
+        let masks = end.saturating_sub(first);
+        if masks > 1 && lie_across(filed, masks, self.pitch.stride) {
             self.fill_together(first, end, region, filed);
             return;
         }

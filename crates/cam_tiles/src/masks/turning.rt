@@ -32,6 +32,19 @@ use cam_rows::{Centres, cap_runs, edge_runs, mark_end, mark_ends, mark_runs, spr
 use cam_shapes::{Cap, Contour, Seg};
 use cam_units::{Point, Spot};
 
+/// Whether filed segments lie across tiles so far, an eighth of one each and two for each of so many masks, that to count
+/// each of them once costs less than to follow it in each tile that it lies in. Tiles are so far from each other, in
+/// half nm.
+pub(crate) fn lie_across(filed: &[FiledSegment], masks: usize, stride: i64) -> bool {
+    let mut across = 0u64;
+    for segment in filed {
+        across = across.saturating_add(segment.right.abs_diff(segment.left));
+    }
+    let tiles = (masks as u64).saturating_mul(16);
+    let eighths = tiles.saturating_add(filed.len() as u64);
+    across.saturating_mul(8) > eighths.saturating_mul(stride.unsigned_abs())
+}
+
 impl Grid {
     /// The x of the last one of so many columns from the left on, in half nm.
     fn last_x(&self, columns: u32) -> i64

@@ -37,8 +37,8 @@ invariant_of-self c =
     c.self.invariant.laid c.self.invariant.stand in
     record { laid = kept.0; stand = kept.1; room = c.self.invariant.room }
 
-pub returns-then-saturating_sub-gt1 : goal.returns-then-saturating_sub-gt1
-returns-then-saturating_sub-gt1 c =
+pub returns-then-lie_across : goal.returns-then-lie_across
+returns-then-lie_across c =
     let least : FitsSigned w64 c.args.left = search rules in
     let greatest : FitsSigned w64 c.args.right = search rules in
     let before = simp to_z-of_z at c.first_reached-first.ensures in
