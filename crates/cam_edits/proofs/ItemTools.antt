@@ -13,8 +13,8 @@ use Rattle.cam_units.specs.declared.bounds.Bounds.{Bounds}
 use Rattle.cam_units.specs.declared.bounds.Bounds.TheVariants.{Empty}
 use Rattle.cam_units.specs.declared.length.Nm.{Nm}
 use Rattle.cam_units.specs.declared.point.Spot.{Spot}
-use Rattle.cam_objects.specs.Chunks.{AreBeside, AreChunksOf, IsSide, Reaches, bottom_of, box_at, drill_item_boxes, left_of}
-use Rattle.cam_objects.specs.Chunks.{right_of, top_of}
+use Rattle.cam_objects.specs.Cells.{AreBeside, AreCellsOf, IsSide, Reaches, bottom_of, box_at, drill_item_boxes, left_of}
+use Rattle.cam_objects.specs.Cells.{right_of, top_of}
 use Rattle.cam_objects.specs.Bounds.{bounds_of}
 use Rattle.cam_objects.specs.DrillSoundness.{tool_of}
 use Rattle.cam_objects.specs.Drilling.{diameter_of, leaves_with}
@@ -24,7 +24,7 @@ use Rattle.cam_objects.proofs.KeptBoxes.{beside_inserted, beside_removed, beside
 use Rattle.cam_edits.specs.Machinery.Shifts.{AreRenewedUntil, AreToolsOf, IsEdited, IsShift, WasKeptUnsized, WereTools, tools_of}
 use Rattle.cam_edits.specs.Machinery.PlaceLaws.{element_at}
 use Rattle.cam_edits.specs.Touched.{drill_box}
-use Rattle.cam_edits.specs.declared.chunked.Kept.{Kept}
+use Rattle.cam_edits.specs.declared.indexed.Kept.{Kept}
 use Rattle.cam_edits.specs.declared.shift.Shift.{Shift}
 use Rattle.cam_edits.proofs.ShiftedItems.{edit_read, set_is}
 use Rattle.cam_edits.proofs.TouchedDrillBoxes.{boxes_of_items, item_of_other, leaves_of_item, same_number}
@@ -99,10 +99,10 @@ other_tools tools numbers place next t known passed k from until listed is =
 abbrev pub boxes_in : DrillLayer → List Bounds
 boxes_in layer = drill_item_boxes layer.tools layer.items.items
 
-module _ (t : ℕ) (layer : DrillLayer) (chunks : Reaches) (place : ℕ) (was : AreRenewedUntil place t layer chunks) where
+module _ (t : ℕ) (layer : DrillLayer) (cells : Reaches) (place : ℕ) (was : AreRenewedUntil place t layer cells) where
   pub renewed_past : (next : ℕ)
       → ((k : ℕ) → place ≤ k → k < next → slice_index (tools_of layer.items.items) k ≡ t → ⊥)
-      → AreRenewedUntil next t layer chunks
+      → AreRenewedUntil next t layer cells
   renewed_past next others = record {
     boxes = was.boxes;
     many = was.many;
@@ -116,8 +116,8 @@ module _ (t : ℕ) (layer : DrillLayer) (chunks : Reaches) (place : ℕ) (was : 
   }
 
   pub renewed_here : (new : Reaches) → place < length layer.items.items
-      → ((before : List Bounds) → AreChunksOf before chunks → place < length before
-      → AreChunksOf (slice_set before place (box_at (boxes_in layer) place)) new)
+      → ((before : List Bounds) → AreCellsOf before cells → place < length before
+      → AreCellsOf (slice_set before place (box_at (boxes_in layer) place)) new)
       → AreRenewedUntil (place + 1) t layer new
   renewed_here new within one =
       let b = box_at (boxes_in layer) place in
@@ -144,7 +144,7 @@ module _ (t : ℕ) (layer : DrillLayer) (chunks : Reaches) (place : ℕ) (was : 
             ];
       }
 
-  pub renewed_all : length layer.items.items ≤ place → AreChunksOf (boxes_in layer) chunks
+  pub renewed_all : length layer.items.items ≤ place → AreCellsOf (boxes_in layer) cells
   renewed_all past =
       let side : (f : Spot → Spot → ℤ) (ns : List ℕ) → AreBeside (IsSide f) Empty was.boxes ns
       → AreBeside (IsSide f) Empty (boxes_in layer) ns =
@@ -155,10 +155,10 @@ module _ (t : ℕ) (layer : DrillLayer) (chunks : Reaches) (place : ℕ) (was : 
             (before.each k (omega (arith, item, was.many)) there);
       } in
       record {
-        left = side left_of chunks.left was.known.left;
-        bottom = side bottom_of chunks.bottom was.known.bottom;
-        right = side right_of chunks.right was.known.right;
-        top = side top_of chunks.top was.known.top;
+        left = side left_of cells.left was.known.left;
+        bottom = side bottom_of cells.bottom was.known.bottom;
+        right = side right_of cells.right was.known.right;
+        top = side top_of cells.top was.known.top;
       }
 
 -- ---- what a diameter leaves alone
@@ -178,15 +178,15 @@ other_box ts t d item there other =
     ∙ ap (λ (o : Option Nm). leaves_with o item) (sym (other_diameter ts t (tool_of item) d there other))
     ∙ sym (leaves_of_item after item))
 
-pub unsized_chunks : (kept : Kept) (t : ℕ) (d : Nm) (layer : DrillLayer) → WasKeptUnsized kept t d layer
-    → AreRenewedUntil 0 t layer kept.chunks
-unsized_chunks kept t d layer was =
+pub unsized_cells : (kept : Kept) (t : ℕ) (d : Nm) (layer : DrillLayer) → WasKeptUnsized kept t d layer
+    → AreRenewedUntil 0 t layer kept.cells
+unsized_cells kept t d layer was =
     let ts = was.before.tools in
     let items = layer.items.items in
     record {
       boxes = boxes_in was.before;
       many = length-map {B = Bounds} was.before.items.items (drill_box ts) ∙ sym (ap length was.items);
-      known = was.known.chunks;
+      known = was.known.cells;
       until = λ k below listed. absurd (omega (arith, below));
       others = λ k listed other.
           let d' = (element_at items k listed).0 in

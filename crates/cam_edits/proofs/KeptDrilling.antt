@@ -6,7 +6,7 @@ use Rattle.cam_units.specs.declared.bounds.Bounds.{Bounds}
 use Rattle.cam_units.specs.declared.length.Nm.{Nm}
 use Rattle.cam_units.specs.declared.point.Point.{Point}
 use Rattle.cam_objects.specs.Bounds.{bounds_of}
-use Rattle.cam_objects.specs.Chunks.{AreChunksOf, Reaches, drill_item_boxes}
+use Rattle.cam_objects.specs.Cells.{AreCellsOf, Reaches, drill_item_boxes}
 use Rattle.cam_objects.specs.Contents.{DrillContent, drill_content_of}
 use Rattle.cam_objects.specs.DrillSoundness.{IsSoundDrillContent, IsSoundDrillItem, IsSoundDrillLayer}
 use Rattle.cam_objects.specs.DrillSoundness.{drill_count_from, drill_count_of}
@@ -16,14 +16,14 @@ use Rattle.cam_objects.specs.declared.drill_item.DrillItem.TheVariants.{Hit, Rou
 use Rattle.cam_objects.specs.declared.drill_layer.DrillLayer.{DrillLayer}
 use Rattle.cam_objects.specs.declared.item_fault.ItemFault.TheVariants.{TooMuch}
 use Rattle.cam_objects.proofs.EditedLayers.{drill_edits}
-use Rattle.cam_edits.specs.declared.chunked.Kept.{Kept}
+use Rattle.cam_edits.specs.declared.indexed.Kept.{Kept}
 use Rattle.cam_edits.specs.declared.drill_step.DrillStep.{DrillStep}
 use Rattle.cam_edits.specs.declared.drill_step.DrillStep.TheVariants.{Diameter}
 use Rattle.cam_edits.specs.declared.shift.Shift.{Shift}
 use Rattle.cam_edits.specs.DrillSteps.{IsDrillFit, after_drill_step}
 use Rattle.cam_edits.specs.Editing.{is_tool_size}
-use Rattle.cam_edits.specs.Machinery.Shifts.{IsKeptOfDrill, IsShift, WasKeptUnsized, WereChunks, drill_leaves_at, drill_leaves_in}
-use Rattle.cam_edits.proofs.ShiftedItems.{shifted_all, were_chunks}
+use Rattle.cam_edits.specs.Machinery.Shifts.{IsKeptOfDrill, IsShift, WasKeptUnsized, WereCells, drill_leaves_at, drill_leaves_in}
+use Rattle.cam_edits.proofs.ShiftedItems.{shifted_all, were_cells}
 use Rattle.cam_edits.proofs.SoundDrillEdits.{sized_tool}
 
 -- an item counts at most its points
@@ -57,12 +57,12 @@ module _ (before layer : DrillLayer) (shift : Shift) (tools : before.tools ≡ l
         limits = record { few = few; leaves = omega (arith, all, room) };
       }
 
-  pub shifted_chunks : (chunks : Reaches) → AreChunksOf (drill_item_boxes before.tools before.items.items) chunks
-      → WereChunks shift chunks (drill_item_boxes layer.tools layer.items.items)
-  shifted_chunks chunks known =
-      were_chunks (λ item. bounds_of (drill_item_leaves layer.tools item)) shift before.items.items layer.items.items
-      chunks shifted
-      (subst (λ ts. AreChunksOf (drill_item_boxes ts before.items.items) chunks) tools known)
+  pub shifted_cells : (cells : Reaches) → AreCellsOf (drill_item_boxes before.tools before.items.items) cells
+      → WereCells shift cells (drill_item_boxes layer.tools layer.items.items)
+  shifted_cells cells known =
+      were_cells (λ item. bounds_of (drill_item_leaves layer.tools item)) shift before.items.items layer.items.items
+      cells shifted
+      (subst (λ ts. AreCellsOf (drill_item_boxes ts before.items.items) cells) tools known)
 
 -- what is kept of a layer is kept of one that lists the same
 pub kept_alike : (l m : DrillLayer) (kept : Kept) → m.tools ≡ l.tools → m.items.items ≡ l.items.items → IsKeptOfDrill l kept
@@ -71,8 +71,8 @@ kept_alike l m kept tools items known = record {
   sound = subst (λ ts. IsSoundDrillContent ts m.items.items) (sym tools)
       (subst (IsSoundDrillContent l.tools) (sym items) known.sound);
   leaves = known.leaves ∙ sym (λ i. sum_by drill_count_of (items i));
-  chunks = subst (λ (those : List Bounds). AreChunksOf those kept.chunks)
-      (sym (λ i. drill_item_boxes (tools i) (items i))) known.chunks;
+  cells = subst (λ (those : List Bounds). AreCellsOf those kept.cells)
+      (sym (λ i. drill_item_boxes (tools i) (items i))) known.cells;
 }
 
 -- a step that gives a tool another diameter

@@ -10,17 +10,17 @@ use Rattle.std.proofs.lemmas.List.Sums.{sum_by-insert, sum_by-remove, sum_by-set
 use Rattle.std.proofs.lemmas.Option.{get_or_from_slice_get, slice_get-get_or, slice_get_within}
 use Rattle.cam_units.specs.declared.bounds.Bounds.{Bounds}
 use Rattle.cam_objects.specs.Bounds.{bounds_of}
-use Rattle.cam_objects.specs.Chunks.{AreChunksOf, Reaches, item_boxes}
+use Rattle.cam_objects.specs.Cells.{AreCellsOf, Reaches, item_boxes}
 use Rattle.cam_objects.specs.Leaves.{item_leaves, meaning_in}
 use Rattle.cam_objects.specs.Soundness.{HasSoundItems, IsSoundContent, IsSoundDictionary, IsSoundItem}
 use Rattle.cam_objects.specs.declared.item.Item.{Item}
 use Rattle.cam_objects.specs.Weights.{item_count, weight_in}
 use Rattle.cam_objects.specs.declared.layer.Layer.{Layer}
-use Rattle.cam_edits.specs.declared.chunked.Kept.{Kept}
+use Rattle.cam_edits.specs.declared.indexed.Kept.{Kept}
 use Rattle.cam_edits.specs.declared.shift.Shift.{Shift}
 use Rattle.cam_edits.specs.Machinery.PlaceLaws.{changed_is, element_at, found, get_inserted, get_set, reordered_is}
 use Rattle.cam_edits.specs.Places.{HasAt, changed, reordered}
-use Rattle.cam_edits.specs.Machinery.Shifts.{IsEdited, IsKeptOf, IsShift, WereChunks, count_at, count_of, leaves_at}
+use Rattle.cam_edits.specs.Machinery.Shifts.{IsEdited, IsKeptOf, IsShift, WereCells, count_at, count_of, leaves_at}
 use Rattle.cam_edits.specs.Machinery.Shifts.{leaves_in}
 
 abbrev pub made : Option ℕ → Option ℕ → Shift
@@ -242,9 +242,9 @@ module _ {X : Type 0} where
       ),
     )
 
-  pub were_chunks : (box : X → Bounds) (shift : Shift) (xs ys : List X) (chunks : Reaches) → IsShift shift xs ys
-      → AreChunksOf (map box xs) chunks → WereChunks shift chunks (map box ys)
-  were_chunks box shift xs ys chunks shifted known =
+  pub were_cells : (box : X → Bounds) (shift : Shift) (xs ys : List X) (cells : Reaches) → IsShift shift xs ys
+      → AreCellsOf (map box xs) cells → WereCells shift cells (map box ys)
+  were_cells box shift xs ys cells shifted known =
       record { before = map box xs; known = known; edit = edit_read box shift.from shift.to xs ys shifted.edit }
 
   pub shifted_all : (P : X → Type 0) (shift : Shift) (xs ys : List X) → IsShift shift xs ys → All P xs
@@ -285,13 +285,13 @@ shifted_sound before layer shift leaves gone come entries shifted sound all few 
 abbrev pub boxes_of : Layer → List Bounds
 boxes_of layer = item_boxes layer.apertures layer.items.items
 
-pub layer_chunks : (before layer : Layer) (shift : Shift) (chunks : Reaches) → before.apertures ≡ layer.apertures
-    → IsShift shift before.items.items layer.items.items → AreChunksOf (boxes_of before) chunks
-    → WereChunks shift chunks (boxes_of layer)
-layer_chunks before layer shift chunks entries shifted known =
-    were_chunks (λ item. bounds_of (item_leaves (meaning_in layer.apertures) item)) shift before.items.items
-    layer.items.items chunks shifted
-    (subst (λ es. AreChunksOf (item_boxes es before.items.items) chunks) entries known)
+pub layer_cells : (before layer : Layer) (shift : Shift) (cells : Reaches) → before.apertures ≡ layer.apertures
+    → IsShift shift before.items.items layer.items.items → AreCellsOf (boxes_of before) cells
+    → WereCells shift cells (boxes_of layer)
+layer_cells before layer shift cells entries shifted known =
+    were_cells (λ item. bounds_of (item_leaves (meaning_in layer.apertures) item)) shift before.items.items
+    layer.items.items cells shifted
+    (subst (λ es. AreCellsOf (item_boxes es before.items.items) cells) entries known)
 
 -- what is kept of a layer is kept of one that lists the same
 pub kept_alike : (l m : Layer) (kept : Kept) → m.apertures ≡ l.apertures → m.items.items ≡ l.items.items → IsKeptOf l kept
@@ -300,6 +300,6 @@ kept_alike l m kept entries items known = record {
   sound = subst (λ es. IsSoundContent es m.items.items) (sym entries)
       (subst (IsSoundContent l.apertures) (sym items) known.sound);
   leaves = known.leaves ∙ sym (λ i. sum_by (item_count (weight_in (entries i))) (items i));
-  chunks = subst (λ (those : List Bounds). AreChunksOf those kept.chunks) (sym (λ i. item_boxes (entries i) (items i)))
-      known.chunks;
+  cells = subst (λ (those : List Bounds). AreCellsOf those kept.cells) (sym (λ i. item_boxes (entries i) (items i)))
+      known.cells;
 }

@@ -6,16 +6,16 @@ ghost use Rattle.cam_edits.specs.Machinery.Room.{HasPlaces};
 ghost use Rattle.cam_edits.specs.Boards.{content_at, place_named};
 ghost use Rattle.cam_edits.specs.Sheets.{content_of, entry_count, item_count, sheet_of, sheets_of};
 
-use crate::chunked::ChunkedLayer;
-use crate::chunked_drill::ChunkedDrillLayer;
+use crate::indexed::IndexedLayer;
+use crate::indexed_drill::IndexedDrillLayer;
 use crate::name::Name;
 use std::alloc::{AllocError, Global};
 
 /// A layer of one of two kinds.
 #[derive(Drop)]
 pub enum SheetContent {
-    Gerber(ChunkedLayer),
-    Drill(ChunkedDrillLayer),
+    Gerber(IndexedLayer),
+    Drill(IndexedDrillLayer),
 }
 
 impl SheetContent {

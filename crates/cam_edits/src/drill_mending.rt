@@ -1,7 +1,7 @@
 //! What is kept beside a drill layer, mended after a step.
 
 ghost use Rattle.std.specs.Prelude.{◌≡◌, ◌≤◌, ℕ, IfSome, IsSome, Some, slice_get};
-ghost use Rattle.cam_objects.specs.Chunks.{AreChunksOf, drill_item_boxes};
+ghost use Rattle.cam_objects.specs.Cells.{AreCellsOf, drill_item_boxes};
 ghost use Rattle.cam_objects.specs.DrillSoundness.{IsSoundDrillItem, IsSoundDrillLayer};
 ghost use Rattle.cam_objects.specs.Limits.{leaf_limit};
 ghost use Rattle.cam_objects.specs.declared.drill_item.DrillItem.{DrillItem};
@@ -15,12 +15,12 @@ ghost use Rattle.cam_edits.specs.Machinery.Shifts.{
   tools_of,
 };
 
-use crate::chunked::Kept;
 use crate::drill_judging::is_tool_size;
+use crate::indexed::Kept;
 use crate::item_tools::next_of_tool;
 use crate::mending::{ITEM_LIMIT, LEAF_LIMIT, mend};
 use crate::shift::Shift;
-use cam_objects::{Chunks, DrillLayer, ItemNumbers};
+use cam_objects::{DrillLayer, ItemCells, ItemNumbers};
 use cam_units::Nm;
 
 /// How many holes and slots the item at a place of a sound drill layer has; none where there is no item.
@@ -65,27 +65,27 @@ pub(crate) fn mended(kept: Kept, shift: Shift, gone: u64, layer: &DrillLayer) ->
     ensures { IfSome result (λ kept. IsKeptOfDrill layer.now kept) }
 {
     let come = leaves_come(layer, shift.to)?;
-    let Kept { mut chunks, leaves } = kept;
+    let Kept { mut cells, leaves } = kept;
     let leaves = leaves + come - gone;
     if leaves > LEAF_LIMIT || layer.items.len() > ITEM_LIMIT {
         return None;
     }
-    mend(&mut chunks, &mut layer.boxes(), shift);
-    Some(Kept { chunks, leaves })
+    mend(&mut cells, &mut layer.boxes(), shift);
+    Some(Kept { cells, leaves })
 }
 
 /// Reads the items of a tool anew, whose diameter was changed.
-fn renew_tool(chunks: &mut Chunks, t: u16, tools: &ItemNumbers, layer: &DrillLayer)
+fn renew_tool(cells: &mut ItemCells, t: u16, tools: &ItemNumbers, layer: &DrillLayer)
     requires sound { IsSoundDrillLayer layer.now }
     requires known { AreToolsOf (tools_of layer.now.items.items) tools.now }
-    requires others { AreRenewedUntil 0 t layer.now chunks.old }
-    ensures { AreChunksOf (drill_item_boxes layer.now.tools layer.now.items.items) chunks.new }
+    requires others { AreRenewedUntil 0 t layer.now cells.old }
+    ensures { AreCellsOf (drill_item_boxes layer.now.tools layer.now.items.items) cells.new }
 {
     let mut boxes = layer.boxes();
     let count = layer.items.len();
     let mut place = next_of_tool(layer, tools, 0, t);
     while place < count {
-        chunks.renew(&mut boxes, place);
+        cells.renew(&mut boxes, place);
         place = next_of_tool(layer, tools, place + 1, t);
     }
 }
@@ -106,7 +106,7 @@ pub(crate) fn resized(
     if !is_tool_size(d) {
         return None;
     }
-    let Kept { mut chunks, leaves } = kept;
-    renew_tool(&mut chunks, t, tools, layer);
-    Some(Kept { chunks, leaves })
+    let Kept { mut cells, leaves } = kept;
+    renew_tool(&mut cells, t, tools, layer);
+    Some(Kept { cells, leaves })
 }

@@ -1,15 +1,15 @@
 //! What is kept beside a layer, mended after a step.
 
 ghost use Rattle.std.specs.Prelude.{◌≡◌, ◌≤◌, ℕ, IfSome, IsSome, Some, slice_get};
-ghost use Rattle.cam_objects.specs.Chunks.{AreChunksOf};
+ghost use Rattle.cam_objects.specs.Cells.{AreCellsOf};
 ghost use Rattle.cam_objects.specs.Limits.{leaf_limit};
 ghost use Rattle.cam_objects.specs.Soundness.{HasSoundItems, IsSoundItem};
 ghost use Rattle.cam_objects.specs.declared.item.Item.{Item};
-ghost use Rattle.cam_edits.specs.Machinery.Shifts.{IsKeptOf, WasKept, WereChunks, leaves_at};
+ghost use Rattle.cam_edits.specs.Machinery.Shifts.{IsKeptOf, WasKept, WereCells, leaves_at};
 
-use crate::chunked::Kept;
+use crate::indexed::Kept;
 use crate::shift::Shift;
-use cam_objects::{BoxedItems, Chunks, Layer};
+use cam_objects::{BoxedItems, ItemCells, Layer};
 
 /// The greatest number of items of a layer, and of a drill layer.
 pub(crate) const ITEM_LIMIT: usize = 1_000_000;
@@ -17,29 +17,29 @@ pub(crate) const ITEM_LIMIT: usize = 1_000_000;
 /// The greatest number of leaves of a layer, and of holes and slots of a drill layer.
 pub(crate) const LEAF_LIMIT: u64 = 4_000_000;
 
-/// Lets chunks follow an item that left a place and came to one, or that changed where they are the same. Takes no
+/// Lets cells follow an item that left a place and came to one, or that changed where they are the same. Takes no
 /// memory.
-fn carry<B: BoxedItems>(chunks: &mut Chunks, items: &mut B, from: usize, to: usize)
-    requires { WereChunks (record { from = Some from; to = Some to }) chunks.old (B.boxes items.old) }
-    ensures { AreChunksOf (B.boxes items.old) chunks.new }
+fn carry<B: BoxedItems>(cells: &mut ItemCells, items: &mut B, from: usize, to: usize)
+    requires { WereCells (record { from = Some from; to = Some to }) cells.old (B.boxes items.old) }
+    ensures { AreCellsOf (B.boxes items.old) cells.new }
 {
     if from == to {
-        chunks.renew(items, to);
+        cells.renew(items, to);
         return;
     }
-    chunks.remove(from);
-    chunks.insert(items, to);
+    cells.remove(from);
+    cells.insert(items, to);
 }
 
-/// Lets chunks follow items that shifted with a step. Takes no memory.
-pub(crate) fn mend<B: BoxedItems>(chunks: &mut Chunks, items: &mut B, shift: Shift)
-    requires { WereChunks shift chunks.old (B.boxes items.old) }
-    ensures { AreChunksOf (B.boxes items.old) chunks.new }
+/// Lets cells follow items that shifted with a step. Takes no memory.
+pub(crate) fn mend<B: BoxedItems>(cells: &mut ItemCells, items: &mut B, shift: Shift)
+    requires { WereCells shift cells.old (B.boxes items.old) }
+    ensures { AreCellsOf (B.boxes items.old) cells.new }
 {
     match (shift.from, shift.to) {
-        (Some(from), Some(to)) => carry(chunks, items, from, to),
-        (Some(from), None) => chunks.remove(from),
-        (None, Some(to)) => chunks.insert(items, to),
+        (Some(from), Some(to)) => carry(cells, items, from, to),
+        (Some(from), None) => cells.remove(from),
+        (None, Some(to)) => cells.insert(items, to),
         (None, None) => {}
     }
 }
@@ -86,11 +86,11 @@ pub(crate) fn mended(kept: Kept, shift: Shift, gone: u64, layer: &Layer) -> Opti
     ensures { IfSome result (λ kept. IsKeptOf layer.now kept) }
 {
     let come = leaves_come(layer, shift.to)?;
-    let Kept { mut chunks, leaves } = kept;
+    let Kept { mut cells, leaves } = kept;
     let leaves = leaves + come - gone;
     if leaves > LEAF_LIMIT || layer.items.len() > ITEM_LIMIT {
         return None;
     }
-    mend(&mut chunks, &mut layer.boxes(), shift);
-    Some(Kept { chunks, leaves })
+    mend(&mut cells, &mut layer.boxes(), shift);
+    Some(Kept { cells, leaves })
 }

@@ -21,12 +21,12 @@ ghost use Rattle.cam_edits.specs.Touched.{drill_touched, touched};
 
 use crate::board::{Board, SheetContent};
 use crate::board_step::BoardStep;
-use crate::chunked::ChunkedLayer;
-use crate::chunked_drill::ChunkedDrillLayer;
 use crate::drill_judging::judged_drill;
 use crate::drill_step::DrillStep;
 use crate::edit::{Change, Edit};
 use crate::fault::EditFault;
+use crate::indexed::IndexedLayer;
+use crate::indexed_drill::IndexedDrillLayer;
 use crate::judging::judged;
 use crate::step::Step;
 use crate::touched::{drill_touched, touched};
@@ -65,7 +65,7 @@ pub fn plan(alloc: Global, board: &Board, edit: Edit) -> Result<BoardStep, EditF
     }
 }
 
-impl ChunkedLayer {
+impl IndexedLayer {
     /// The step of an edit of the layer, which fits it, or the edit's first refusal.
     fn judged(&self, change: Change) -> Result<Step, EditFault>
         requires { IsSoundGerber (gerber_content_of self.now) }
@@ -85,7 +85,7 @@ impl ChunkedLayer {
     }
 }
 
-impl ChunkedDrillLayer {
+impl IndexedDrillLayer {
     /// The step of an edit of the layer, which fits it, or the edit's first refusal.
     fn judged_drill(&self, change: Change) -> Result<DrillStep, EditFault>
         requires { IsSoundDrillLayer self.now }

@@ -11,9 +11,9 @@ use Rattle.std.proofs.lemmas.Option.{slice_get-get_or}
 use Rattle.cam_units.specs.Boxes.{HaveCommonPlace}
 use Rattle.cam_units.specs.declared.bounds.Bounds.{Bounds}
 use Rattle.cam_units.specs.declared.bounds.Bounds.TheVariants.{Empty, Closed}
-use Rattle.cam_objects.specs.declared.chunks.reach.Reach.{Reach}
-use Rattle.cam_objects.specs.declared.chunks.sides.Sides.{Sides}
-use Rattle.cam_objects.specs.Chunks.{AreBeside, AreChunksOf, IsCell, IsReachOf, IsSide, Reaches, bottom_of, box_at, left_of, right_of, top_of}
+use Rattle.cam_objects.specs.declared.cells.reach.Reach.{Reach}
+use Rattle.cam_objects.specs.declared.cells.sides.Sides.{Sides}
+use Rattle.cam_objects.specs.Cells.{AreBeside, AreCellsOf, IsCell, IsReachOf, IsSide, Reaches, bottom_of, box_at, left_of, right_of, top_of}
 use Rattle.cam_objects.specs.Machinery.Sides.{AreSidesOf, HasSides, MeetsAt}
 
 -- the box that is read of an item is that of the list
@@ -52,7 +52,7 @@ common_cell (Closed low high) (Closed low' high') l o r t s left bottom right to
     )
 
 pub far_item : (boxes : List Bounds) (reaches : Reaches) (sides : Sides) (near : Bounds) (s : Reach) (k : ℕ)
-    → AreChunksOf boxes reaches → AreSidesOf reaches sides → HasSides sides (k + 1) → IsReachOf near s → k < length boxes
+    → AreCellsOf boxes reaches → AreSidesOf reaches sides → HasSides sides (k + 1) → IsReachOf near s → k < length boxes
     → (MeetsAt sides k s → ⊥) → HaveCommonPlace (box_at boxes k) near → ⊥
 far_item boxes reaches sides near s k kept same known told listed apart common =
     let b = box_at boxes k in

@@ -2,7 +2,7 @@ pub mod Attributes
 pub mod Bounds
 pub mod BoxLaws
 pub mod Canvases
-pub mod Chunks
+pub mod Cells
 pub mod Contents
 pub mod Demands
 pub mod DrillSoundness

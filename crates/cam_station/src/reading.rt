@@ -9,7 +9,7 @@ ghost use Rattle.cam_station.specs.Meanings.{meaning_of};
 ghost use Rattle.cam_station.specs.Machinery.Answers.{answer_of};
 
 use crate::fault::Fault;
-use cam_edits::{ChunkedDrillLayer, ChunkedLayer, SheetContent};
+use cam_edits::{IndexedDrillLayer, IndexedLayer, SheetContent};
 use cam_gerber::read_gerber;
 use cam_objects::{DrillLayer, Layer};
 use cam_script::{Bytes, FileKind};
@@ -35,7 +35,7 @@ fn read_gerber_layer(alloc: Global, file: &Bytes) -> Result<SheetContent, Fault>
     ensures sound { IfOk result (λ layer. IsSound (content_of layer)) }
 {
     match read_gerber(alloc, file.as_slice()) {
-        Ok(layer) => Ok(chunked(alloc, layer)),
+        Ok(layer) => Ok(indexed(alloc, layer)),
         Err(fault) => Err(Fault {
             code: fault.code,
             at: Some(fault.at),
@@ -43,12 +43,12 @@ fn read_gerber_layer(alloc: Global, file: &Bytes) -> Result<SheetContent, Fault>
     }
 }
 
-/// A sound layer, with its items in chunks where there is memory for them.
-fn chunked(alloc: Global, layer: Layer) -> SheetContent
+/// A sound layer, with the cells that its items reach where there is memory for them.
+fn indexed(alloc: Global, layer: Layer) -> SheetContent
     requires { HasSoundItems layer }
     ensures { result ≡ SheetContent.Gerber layer }
 {
-    SheetContent::Gerber(ChunkedLayer::new(alloc, layer))
+    SheetContent::Gerber(IndexedLayer::new(alloc, layer))
 }
 
 /// The layer of a drill file.
@@ -58,7 +58,7 @@ fn read_drill_layer(alloc: Global, file: &Bytes) -> Result<SheetContent, Fault>
     ensures sound { IfOk result (λ layer. IsSound (content_of layer)) }
 {
     match read_xnc(alloc, file.as_slice()) {
-        Ok(layer) => Ok(chunked_drill(alloc, layer)),
+        Ok(layer) => Ok(indexed_drill(alloc, layer)),
         Err(fault) => Err(Fault {
             code: fault.code,
             at: Some(fault.at),
@@ -66,10 +66,10 @@ fn read_drill_layer(alloc: Global, file: &Bytes) -> Result<SheetContent, Fault>
     }
 }
 
-/// A sound drill layer, with its items in chunks where there is memory for them.
-fn chunked_drill(alloc: Global, layer: DrillLayer) -> SheetContent
+/// A sound drill layer, with the cells that its items reach where there is memory for them.
+fn indexed_drill(alloc: Global, layer: DrillLayer) -> SheetContent
     requires { IsSoundDrillLayer layer }
     ensures { result ≡ SheetContent.Drill layer }
 {
-    SheetContent::Drill(ChunkedDrillLayer::new(alloc, layer))
+    SheetContent::Drill(IndexedDrillLayer::new(alloc, layer))
 }

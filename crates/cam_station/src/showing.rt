@@ -22,7 +22,7 @@ ghost use Rattle.cam_tiles.specs.Tables.{blank, dirty_count, redrawn};
 
 use crate::fault::{Fault, refusal};
 use crate::refusals;
-use cam_edits::{Board, ChunkedDrillLayer, ChunkedLayer, SheetContent};
+use cam_edits::{Board, IndexedDrillLayer, IndexedLayer, SheetContent};
 use cam_tiles::{Raster, Source, Window};
 use cam_writers::{gerber_text, xnc_text};
 use std::alloc::{AllocError, Global};
@@ -93,24 +93,24 @@ pub(crate) fn draw(alloc: Global, content: &SheetContent, raster: &mut Raster, a
     raster.redraw(&mut source, at_most)
 }
 
-/// Paints a sound layer: chunk by chunk of its items, where they are in chunks.
-fn painter(alloc: Global, layer: &ChunkedLayer) -> Source<'_>
+/// Paints a sound layer: by the cells that its items reach, where they are known.
+fn painter(alloc: Global, layer: &IndexedLayer) -> Source<'_>
     requires { HasSoundItems layer.now }
     ensures { result ≡ unasked (content_leaves (gerber_content_of layer.now)) }
 {
-    match layer.chunks() {
-        Some(chunks) => Source::gerber_in_chunks(alloc, layer.layer(), chunks),
+    match layer.cells() {
+        Some(cells) => Source::gerber_by_cells(alloc, layer.layer(), cells),
         None => Source::gerber(alloc, layer.layer()),
     }
 }
 
 /// Paints a sound drill layer in the same way.
-fn drill_painter(alloc: Global, layer: &ChunkedDrillLayer) -> Source<'_>
+fn drill_painter(alloc: Global, layer: &IndexedDrillLayer) -> Source<'_>
     requires { IsSoundDrillLayer layer.now }
     ensures { result ≡ unasked (drill_content_leaves (drill_content_of layer.now)) }
 {
-    match layer.chunks() {
-        Some(chunks) => Source::drill_in_chunks(alloc, layer.layer(), chunks),
+    match layer.cells() {
+        Some(cells) => Source::drill_by_cells(alloc, layer.layer(), cells),
         None => Source::drill(alloc, layer.layer()),
     }
 }

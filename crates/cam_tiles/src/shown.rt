@@ -5,26 +5,26 @@ ghost use Rattle.cam_units.specs.Boxes.{HaveCommonPlace};
 ghost use Rattle.cam_units.specs.declared.bounds.Bounds.{Bounds};
 ghost use Rattle.cam_objects.specs.Bounds.{bounds_of};
 ghost use Rattle.cam_objects.specs.Canvases.{Paints};
-ghost use Rattle.cam_objects.specs.Chunks.{AreChunksOf, box_at};
+ghost use Rattle.cam_objects.specs.Cells.{AreCellsOf, box_at};
 ghost use Rattle.cam_objects.specs.Leaves.{Filled, leaf};
 ghost use Rattle.cam_tiles.specs.Machinery.Filing.{IsOnBoardWhole};
 ghost use Rattle.cam_tiles.specs.Machinery.Shown.{IsReady, leaves_by_item, leaves_of, lists_of};
 
 use cam_objects::{
-    Canvas, Chunks, Contour, DrillItemBoxes, DrillLayer, Item, ItemBoxes, Layer, Object,
+    Canvas, Contour, DrillItemBoxes, DrillLayer, Item, ItemBoxes, ItemCells, Layer, Object,
 };
 use cam_units::Bounds;
 
-/// A layer of either kind, and perhaps the chunks of its items.
+/// A layer of either kind, and perhaps the cells of its items.
 #[derive(Drop)]
 pub(crate) enum Shown<'a> {
     Gerber {
         layer: &'a Layer,
-        chunks: Option<&'a Chunks>,
+        cells: Option<&'a ItemCells>,
     },
     Drill {
         layer: &'a DrillLayer,
-        chunks: Option<&'a Chunks>,
+        cells: Option<&'a ItemCells>,
     },
 }
 
@@ -69,25 +69,25 @@ fn region_in(item: &Item) -> Option<Region<'_>>
     }
 }
 
-/// The next place from one on whose item may have a place in common with a box: by the chunks of the items, where there
+/// The next place from one on whose item may have a place in common with a box: by the cells of the items, where there
 /// are any.
-fn next_near(chunks: Option<&Chunks>, place: usize, near: Bounds) -> usize
+fn next_near(cells: Option<&ItemCells>, place: usize, near: Bounds) -> usize
     ensures onward { place ≤ result }
-    ensures apart { (boxes : List Bounds) → IfSome chunks.entry (λ kept. AreChunksOf boxes kept.now) → (k : ℕ) → place ≤ k
+    ensures apart { (boxes : List Bounds) → IfSome cells.entry (λ kept. AreCellsOf boxes kept.now) → (k : ℕ) → place ≤ k
         → k < result → k < length boxes → ¬ HaveCommonPlace (box_at boxes k) near }
 {
-    match chunks {
-        Some(chunks) => chunks.next_near(place, near),
+    match cells {
+        Some(cells) => cells.next_near(place, near),
         None => place,
     }
 }
 
 /// About how many of so many items may have a place in common with a box.
-fn near_count(chunks: Option<&Chunks>, count: usize, near: Bounds) -> usize
+fn near_count(cells: Option<&ItemCells>, count: usize, near: Bounds) -> usize
     ensures { result ≤ count }
 {
-    match chunks {
-        Some(chunks) => chunks.near_count(count, near),
+    match cells {
+        Some(cells) => cells.near_count(count, near),
         None => count,
     }
 }
@@ -113,8 +113,8 @@ impl<'a> Shown<'a> {
             → ¬ HaveCommonPlace (bounds_of (slice_index_or (leaves_by_item self.now) k [])) near }
     {
         match self {
-            Shown::Gerber { chunks, .. } => next_near(*chunks, place, near),
-            Shown::Drill { chunks, .. } => next_near(*chunks, place, near),
+            Shown::Gerber { cells, .. } => next_near(*cells, place, near),
+            Shown::Drill { cells, .. } => next_near(*cells, place, near),
         }
     }
 
@@ -123,8 +123,8 @@ impl<'a> Shown<'a> {
         ensures { result ≤ length (leaves_by_item self.now) }
     {
         match self {
-            Shown::Gerber { layer, chunks } => near_count(*chunks, layer.items.len(), near),
-            Shown::Drill { layer, chunks } => near_count(*chunks, layer.items.len(), near),
+            Shown::Gerber { layer, cells } => near_count(*cells, layer.items.len(), near),
+            Shown::Drill { layer, cells } => near_count(*cells, layer.items.len(), near),
         }
     }
 

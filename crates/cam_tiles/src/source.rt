@@ -1,7 +1,7 @@
 //! Layers as painters.
 
 ghost use Rattle.std.specs.Prelude.{◌≡◌, count_by, is_none};
-ghost use Rattle.cam_objects.specs.Chunks.{AreChunksOf, drill_item_boxes, item_boxes};
+ghost use Rattle.cam_objects.specs.Cells.{AreCellsOf, drill_item_boxes, item_boxes};
 ghost use Rattle.cam_objects.specs.Contents.{content_leaves, content_of, drill_content_leaves, drill_content_of};
 ghost use Rattle.cam_objects.specs.DrillSoundness.{IsSoundDrillLayer};
 ghost use Rattle.cam_objects.specs.Soundness.{HasSoundItems};
@@ -11,7 +11,7 @@ use crate::drawing::draw;
 use crate::painter::{Painter, Tile};
 use crate::shown::Shown;
 use crate::window::Window;
-use cam_objects::{Chunks, DrillLayer, Layer};
+use cam_objects::{DrillLayer, ItemCells, Layer};
 use std::alloc::Global;
 use std::marker::Model;
 
@@ -46,26 +46,23 @@ impl<'a> Source<'a> {
         ensures { result ≡ unasked (content_leaves (content_of layer.now)) }
     {
         Source {
-            shown: Shown::Gerber {
-                layer,
-                chunks: None,
-            },
+            shown: Shown::Gerber { layer, cells: None },
             alloc,
             asked: 0,
         }
     }
 
-    /// Paints a sound layer whose items are in chunks: those whose boxes the tiles do not meet are passed over. No tile
-    /// was asked for.
-    pub fn gerber_in_chunks(alloc: Global, layer: &'a Layer, chunks: &'a Chunks) -> Source<'a>
+    /// Paints a sound layer of whose items the cells are known: those whose boxes the tiles do not meet are passed over.
+    /// No tile was asked for.
+    pub fn gerber_by_cells(alloc: Global, layer: &'a Layer, cells: &'a ItemCells) -> Source<'a>
         requires sound { HasSoundItems layer.now }
-        requires chunks { AreChunksOf (item_boxes layer.now.apertures layer.now.items.items) chunks.now }
+        requires cells { AreCellsOf (item_boxes layer.now.apertures layer.now.items.items) cells.now }
         ensures { result ≡ unasked (content_leaves (content_of layer.now)) }
     {
         Source {
             shown: Shown::Gerber {
                 layer,
-                chunks: Some(chunks),
+                cells: Some(cells),
             },
             alloc,
             asked: 0,
@@ -78,26 +75,23 @@ impl<'a> Source<'a> {
         ensures { result ≡ unasked (drill_content_leaves (drill_content_of layer.now)) }
     {
         Source {
-            shown: Shown::Drill {
-                layer,
-                chunks: None,
-            },
+            shown: Shown::Drill { layer, cells: None },
             alloc,
             asked: 0,
         }
     }
 
-    /// Paints a sound drill layer whose items are in chunks: those whose boxes the tiles do not meet are passed over. No
-    /// tile was asked for.
-    pub fn drill_in_chunks(alloc: Global, layer: &'a DrillLayer, chunks: &'a Chunks) -> Source<'a>
+    /// Paints a sound drill layer of whose items the cells are known: those whose boxes the tiles do not meet are passed
+    /// over. No tile was asked for.
+    pub fn drill_by_cells(alloc: Global, layer: &'a DrillLayer, cells: &'a ItemCells) -> Source<'a>
         requires sound { IsSoundDrillLayer layer.now }
-        requires chunks { AreChunksOf (drill_item_boxes layer.now.tools layer.now.items.items) chunks.now }
+        requires cells { AreCellsOf (drill_item_boxes layer.now.tools layer.now.items.items) cells.now }
         ensures { result ≡ unasked (drill_content_leaves (drill_content_of layer.now)) }
     {
         Source {
             shown: Shown::Drill {
                 layer,
-                chunks: Some(chunks),
+                cells: Some(cells),
             },
             alloc,
             asked: 0,

@@ -4,7 +4,7 @@ use Rattle.std.specs.Prelude.{insert, remove, slice_index}
 use Rattle.std.specs.Map.{set_value}
 use Rattle.cam_units.specs.declared.bounds.Bounds.{Bounds}
 use Rattle.cam_units.specs.declared.length.Nm.{Nm}
-use Rattle.cam_objects.specs.Chunks.{AreBeside, AreChunksOf, Reaches, box_at, drill_item_boxes, item_boxes}
+use Rattle.cam_objects.specs.Cells.{AreBeside, AreCellsOf, Reaches, box_at, drill_item_boxes, item_boxes}
 use Rattle.cam_objects.specs.DrillSoundness.{IsSoundDrillLayer, drill_count_of, tool_of}
 use Rattle.cam_objects.specs.Drilling.{diameter_of}
 use Rattle.cam_objects.specs.Soundness.{HasSoundItems}
@@ -12,9 +12,9 @@ use Rattle.cam_objects.specs.Weights.{item_count, weight_in}
 use Rattle.cam_objects.specs.declared.drill_item.DrillItem.{DrillItem}
 use Rattle.cam_objects.specs.declared.drill_layer.DrillLayer.{DrillLayer}
 use Rattle.cam_objects.specs.declared.layer.Layer.{Layer}
-use Rattle.cam_edits.specs.declared.chunked.ChunkedLayer.TheInside.{Inside}
-use Rattle.cam_edits.specs.declared.chunked.Kept.{Kept}
-use Rattle.cam_edits.specs.declared.chunked_drill.ChunkedDrillLayer.TheInside.{Inside as DrillInside}
+use Rattle.cam_edits.specs.declared.indexed.IndexedLayer.TheInside.{Inside}
+use Rattle.cam_edits.specs.declared.indexed.Kept.{Kept}
+use Rattle.cam_edits.specs.declared.indexed_drill.IndexedDrillLayer.TheInside.{Inside as DrillInside}
 use Rattle.cam_edits.specs.declared.shift.Shift.{Shift}
 
 abbrev pub count_of : {X : Type 0} → (X → ℕ) → Option X → ℕ
@@ -44,19 +44,19 @@ pub record IsShift {X : Type 0} (shift : Shift) (before after : List X) : Type 0
   pub sums : (f : X → ℕ) → sum_by f after + count_at f before shift.from ≡ sum_by f before + count_at f after shift.to
   pub edit : IsEdited shift.from shift.to before after
 
--- they were the chunks of boxes of which an edit with this shift made others
-pub record WereChunks (shift : Shift) (chunks : Reaches) (after : List Bounds) : Type 0 where
+-- they were the cells of boxes of which an edit with this shift made others
+pub record WereCells (shift : Shift) (cells : Reaches) (after : List Bounds) : Type 0 where
   pub before : List Bounds
-  pub known : AreChunksOf before chunks
+  pub known : AreCellsOf before cells
   pub edit : IsEdited shift.from shift.to before after
 
 -- ---- what is kept of a layer
 
--- it is sound, its leaves are counted, and the boxes of its items are in chunks
+-- it is sound, its leaves are counted, and so are the cells that its items reach
 pub record IsKept (Sound : Type 0) (count : ℕ) (boxes : List Bounds) (kept : Kept) : Type 0 where
   pub sound : Sound
   pub leaves : kept.leaves ≡ count
-  pub chunks : AreChunksOf boxes kept.chunks
+  pub cells : AreCellsOf boxes kept.cells
 
 abbrev pub leaves_in : Layer → ℕ
 leaves_in layer = sum_by (item_count (weight_in layer.apertures)) layer.items.items
@@ -67,8 +67,8 @@ leaves_at layer place = count_at (item_count (weight_in layer.apertures)) layer.
 abbrev pub IsKeptOf : Layer → Kept → Type 0
 IsKeptOf layer = IsKept (HasSoundItems layer) (leaves_in layer) (item_boxes layer.apertures layer.items.items)
 
-abbrev pub IsChunked : Inside → Type 0
-IsChunked c = (kept : Kept) → c.kept ≡ Some kept → IsKeptOf c.layer kept
+abbrev pub IsIndexed : Inside → Type 0
+IsIndexed c = (kept : Kept) → c.kept ≡ Some kept → IsKeptOf c.layer kept
 
 -- it was kept of a layer from whose items a shift leads to those of this one, which has the same dictionary
 pub record WasKept (kept : Kept) (shift : Shift) (gone : ℕ) (layer : Layer) : Type 0 where
@@ -112,15 +112,15 @@ pub record IsNextOfTool (tools : List ℕ) (t place next : ℕ) : Type 0 where
   pub others : (k : ℕ) → place ≤ k → k < next → slice_index tools k ≡ t → ⊥
   pub found : next < length tools → slice_index tools next ≡ t
 
-pub record IsChunkedDrill (c : DrillInside) : Type 0 where
+pub record IsIndexedDrill (c : DrillInside) : Type 0 where
   pub kept : (kept : Kept) → c.kept ≡ Some kept → IsKeptOfDrill c.layer kept
   pub tools : AreToolsOf (tools_of c.layer.items.items) c.tools
 
--- they are the chunks of boxes that are those of the layer's items as far as a place, and of all items of other tools
-pub record AreRenewedUntil (place t : ℕ) (layer : DrillLayer) (chunks : Reaches) : Type 0 where
+-- they are the cells of boxes that are those of the layer's items as far as a place, and of all items of other tools
+pub record AreRenewedUntil (place t : ℕ) (layer : DrillLayer) (cells : Reaches) : Type 0 where
   pub boxes : List Bounds
   pub many : length boxes ≡ length layer.items.items
-  pub known : AreChunksOf boxes chunks
+  pub known : AreCellsOf boxes cells
   pub until : (k : ℕ) → k < place → k < length layer.items.items
       → box_at boxes k ≡ box_at (drill_item_boxes layer.tools layer.items.items) k
   pub others : (k : ℕ) → k < length layer.items.items → (slice_index (tools_of layer.items.items) k ≡ t → ⊥)

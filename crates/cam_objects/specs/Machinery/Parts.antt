@@ -8,7 +8,6 @@ use Rattle.cam_objects.specs.declared.entry.Entry.{Entry}
 use Rattle.cam_objects.specs.declared.entry.Entry.TheVariants.{Aperture, Block}
 use Rattle.cam_objects.specs.declared.object.Object.{Object}
 use Rattle.cam_objects.specs.Bounds.{bounds_of}
-use Rattle.cam_objects.specs.Chunks.{chunk_size}
 use Rattle.cam_objects.specs.Leaves.{block_leaves, meaning_in, origin}
 use Rattle.cam_objects.specs.Machinery.Boxes.{IsNearBox}
 
@@ -29,6 +28,10 @@ pub record ArePartsOf (older : List (ℕ × Entry)) (objects : List Object) (par
   pub boxes : ArePartBoxes parts.size older objects (take parts.count parts.boxes)
 
 -- an aperture has no objects
+-- objects in one chunk of a block
+abbrev pub chunk_size : ℕ
+chunk_size = 512
+
 abbrev pub HasChunks : List (ℕ × Entry) → Entry → List Bounds → Type 0
 HasChunks older (Aperture a) chunks = ⊤
 HasChunks older (Block objects) chunks = ArePartBoxes chunk_size older objects chunks

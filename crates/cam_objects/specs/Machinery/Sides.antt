@@ -1,8 +1,8 @@
 -- The cells of many items, side by side.
 use Rattle.std.specs.Prelude.{◌≡◌, ℕ, ◌≤◌, length, slice_index}
-use Rattle.cam_objects.specs.Chunks.{Reaches}
-use Rattle.cam_objects.specs.declared.chunks.reach.Reach.{Reach}
-use Rattle.cam_objects.specs.declared.chunks.sides.Sides.{Sides}
+use Rattle.cam_objects.specs.Cells.{Reaches}
+use Rattle.cam_objects.specs.declared.cells.reach.Reach.{Reach}
+use Rattle.cam_objects.specs.declared.cells.sides.Sides.{Sides}
 
 -- so many items have all four
 pub record HasSides (sides : Sides) (count : ℕ) : Type 0 where

@@ -1,9 +1,8 @@
 //! Boxes of parts of objects, one part after another: what painting passes over.
 
 ghost use Rattle.std.specs.Prelude.{◌≡◌, ◌+◌, ◌*◌, ◌≤◌, All, drop, length, take};
-ghost use Rattle.cam_objects.specs.Chunks.{chunk_size};
 ghost use Rattle.cam_objects.specs.Leaves.{block_leaves, meaning_in, origin};
-ghost use Rattle.cam_objects.specs.Machinery.Parts.{ArePartBoxes, ArePartsOf, HasChunks, part_at};
+ghost use Rattle.cam_objects.specs.Machinery.Parts.{ArePartBoxes, ArePartsOf, HasChunks, chunk_size, part_at};
 ghost use Rattle.cam_objects.specs.Machinery.Painting.{StandsOnBoard};
 ghost use Rattle.cam_objects.specs.Soundness.{AreOnBoard, IsSoundEntry};
 

@@ -6,7 +6,7 @@ use Rattle.cam_edits.proofs.drill_mending.renew_tool.Given as goal
 abbrev pub invariant-loop-place : goal.invariant-loop-place
 invariant-loop-place l = record {
   boxes : boxes_in l.boxes ≡ boxes_in l.layer;
-  renewed : AreRenewedUntil l.place l.t l.layer l.chunks;
+  renewed : AreRenewedUntil l.place l.t l.layer l.cells;
 }
 
 abbrev pub decreases-loop-place : goal.decreases-loop-place

@@ -14,7 +14,7 @@ pub returns-then-from-to : goal.returns-then-from-to
 returns-then-from-to g c =
     let was = c.requires in
     let x = was.edit.2.0 in
-    c.renew.ensures.chunks was.before x was.known
+    c.renew.ensures.cells was.before x was.known
     (was.edit.2.1 ∙ ap (λ k. insert (remove was.before k) c.args.to x) c.if-from-to.true
     ∙ sym (set_is was.before c.args.to x was.edit.1))
 
@@ -29,5 +29,5 @@ pub returns : goal.returns
 returns g c =
     let was = c.requires in
     let fewer = length-remove was.before c.args.from was.edit.0 in
-    c.insert.ensures.chunks (remove was.before c.args.from) was.edit.2.0
+    c.insert.ensures.cells (remove was.before c.args.from) was.edit.2.0
     (c.remove.ensures was.before was.known was.edit.0) (omega (arith, was.edit.1, fewer)) was.edit.2.1

@@ -1,9 +1,9 @@
 use Rattle.std.proofs.Common.{List, ap, refl, subst, sym, arith}
 use Rattle.cam_units.specs.declared.bounds.Bounds.{Bounds}
-use Rattle.cam_objects.specs.Chunks.{AreChunksOf}
+use Rattle.cam_objects.specs.Cells.{AreCellsOf}
 use Rattle.cam_objects.specs.declared.layer.Layer.{Layer}
-use Rattle.cam_edits.specs.Machinery.Shifts.{WereChunks}
-use Rattle.cam_edits.proofs.ShiftedItems.{boxes_of, layer_chunks, shifted_leaves, shifted_sound}
+use Rattle.cam_edits.specs.Machinery.Shifts.{WereCells}
+use Rattle.cam_edits.proofs.ShiftedItems.{boxes_of, layer_cells, shifted_leaves, shifted_sound}
 use Rattle.cam_edits.proofs.mending.mended.Goals as goal
 
 pub boxes-requires : goal.boxes-requires
@@ -19,9 +19,9 @@ boxes-requires c =
 pub mend-requires : goal.mend-requires
 mend-requires c =
     let was = c.requires.was in
-    let chunks = c.args.kept.chunks in
-    subst (λ (l : Layer). WereChunks c.args.shift chunks (boxes_of l)) (sym c.boxes.ensures)
-    (layer_chunks was.before c.args.layer.now c.args.shift chunks was.entries was.shifted was.known.chunks)
+    let cells = c.args.kept.cells in
+    subst (λ (l : Layer). WereCells c.args.shift cells (boxes_of l)) (sym c.boxes.ensures)
+    (layer_cells was.before c.args.layer.now c.args.shift cells was.entries was.shifted was.known.cells)
 
 pub returns : goal.returns
 returns c =
@@ -35,6 +35,6 @@ returns c =
           was.shifted was.known.sound all (omega (arith, layer.items.ok.0)) (omega arith)
           (λ k item to here. come.sound k item refl to here);
       leaves = omega (arith, all);
-      chunks = subst (λ (those : List Bounds). AreChunksOf those c.mend.new.chunks) (ap boxes_of c.boxes.ensures)
+      cells = subst (λ (those : List Bounds). AreCellsOf those c.mend.new.cells) (ap boxes_of c.boxes.ensures)
           c.mend.ensures;
     }

@@ -1,5 +1,5 @@
 use Rattle.std.proofs.Common.{sym, subst}
-use Rattle.cam_objects.specs.Chunks.{drill_item_boxes, item_boxes}
+use Rattle.cam_objects.specs.Cells.{drill_item_boxes, item_boxes}
 use Rattle.cam_objects.specs.Drilling.{drill_item_leaves}
 use Rattle.cam_objects.specs.Leaves.{item_leaves, meaning_in}
 use Rattle.cam_tiles.specs.declared.shown.Shown.{Shown}

@@ -1,0 +1,126 @@
+//! Layers beside which it is kept what their items reach.
+
+ghost use Rattle.std.specs.Prelude.{◌≡◌, ◌+◌, ◌≤◌, ◌∷◌, ◌++◌, [], IfSome, List, OnOk, length, vec_capacity};
+ghost use Rattle.cam_objects.specs.Cells.{AreCellsOf, item_boxes};
+ghost use Rattle.cam_objects.specs.Contents.{content_of};
+ghost use Rattle.cam_objects.specs.Soundness.{HasSoundItems};
+ghost use Rattle.cam_edits.specs.Steps.{HasRoom, IsFit, after_step, inverse_step};
+
+use crate::mending::{leaves_at, mended};
+use crate::reversible::Reversible;
+use crate::shift::Shift;
+use crate::step::Step;
+use cam_objects::{ItemCells, Layer};
+use std::alloc::{AllocError, Global};
+use std::marker::Model;
+
+/// What is kept beside a layer of either kind: the cells that its items reach, and how many leaves they have.
+#[derive(Drop)]
+pub(crate) struct Kept {
+    pub cells: ItemCells,
+    pub leaves: u64,
+}
+
+/// A layer, with the cells that its items reach and the number of its leaves: an edit reads what it touches alone.
+#[derive(Drop)]
+pub struct IndexedLayer {
+    layer: Layer,
+    kept: Option<Kept>,
+}
+
+impl Model for IndexedLayer {
+    ghost use Rattle.cam_objects.specs.declared.layer.Layer.{Layer};
+    ghost use Rattle.cam_edits.specs.Machinery.Shifts.{IsIndexed};
+
+    ghost Value = { Layer };
+
+    ghost view = { λ c. c.layer };
+
+    ghost invariant = { IsIndexed };
+}
+
+impl IndexedLayer {
+    ghost use Rattle.cam_edits.specs.Machinery.Shifts.{leaves_in};
+
+    /// Of a sound layer. Where memory for the cells is refused, it is not known what its items reach.
+    pub fn new(alloc: Global, layer: Layer) -> IndexedLayer
+        requires { HasSoundItems layer }
+        ensures { result ≡ layer }
+    {
+        let cells = ItemCells::of(alloc, &mut layer.boxes());
+        let leaves = layer.leaf_count();
+        IndexedLayer {
+            layer,
+            kept: Some(Kept { cells, leaves }),
+        }
+    }
+
+    /// The layer.
+    pub fn layer(&self) -> &Layer
+        ensures { result.now ≡ self.now }
+    {
+        &self.layer
+    }
+
+    /// What its items reach, where it is known.
+    pub fn cells(&self) -> Option<&ItemCells>
+        ensures { IfSome result
+            (λ cells. AreCellsOf (item_boxes self.now.apertures self.now.items.items) cells.now) }
+    {
+        match &self.kept {
+            Some(kept) => Some(&kept.cells),
+            None => None,
+        }
+    }
+
+    /// How many leaves it has.
+    pub(crate) fn leaves(&self) -> u64
+        requires { HasSoundItems self.now }
+        ensures { result ≡ leaves_in self.now }
+    {
+        match &self.kept {
+            Some(kept) => kept.leaves,
+            None => self.layer.leaf_count(),
+        }
+    }
+
+    /// Makes room for so many items more, and for so many attributes; refused for want of memory alone. The layer
+    /// stays. Of items for whose cells there is no memory it will not be known what they reach.
+    pub(crate) fn reserve(&mut self, items: usize, attributes: usize) -> Result<(), AllocError>
+        ensures content { content_of self.new ≡ content_of self.old }
+        ensures items { OnOk result (length self.new.items.items + items ≤ vec_capacity self.new.items) }
+        ensures attributes { OnOk result
+            (length self.new.attributes.items + attributes ≤ vec_capacity self.new.attributes) }
+    {
+        reserve_cells(&mut self.kept, items);
+        self.layer.items.reserve(items)?;
+        self.layer.attributes.reserve(attributes)
+    }
+
+    /// Plays a step. The answer leads back. Takes no memory.
+    pub(crate) fn play(&mut self, step: Step) -> Step
+        requires fits { IsFit step (content_of self.old) }
+        requires room { HasRoom (step ∷ []) self.old }
+        ensures content { content_of self.new ≡ after_step step (content_of self.old) }
+        ensures answer { result ≡ inverse_step step (content_of self.old) }
+        ensures room { (rest : List Step) → HasRoom (rest ++ step ∷ []) self.old → HasRoom rest self.new }
+    {
+        let Some(kept) = self.kept.take() else {
+            return step.play(&mut self.layer);
+        };
+        let shift = Shift::of(&step);
+        let gone = leaves_at(&self.layer, shift.from);
+        let answer = step.play(&mut self.layer);
+        self.kept = mended(kept, shift, gone, &self.layer);
+        answer
+    }
+}
+
+/// Makes room for what so many items more reach; where memory for it is refused, it will not be known.
+pub(crate) fn reserve_cells(kept: &mut Option<Kept>, items: usize)
+    ensures { kept.new ≡ kept.old }
+{
+    if let Some(kept) = kept {
+        kept.cells.reserve(items);
+    }
+}

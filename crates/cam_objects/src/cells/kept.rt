@@ -1,0 +1,160 @@
+//! The cells that the items of a list reach.
+
+ghost use Rattle.std.specs.Prelude.{◌≡◌, ◌<◌, ◌≤◌, ℕ, [], List, insert, length, remove, slice_set};
+ghost use Rattle.cam_units.specs.declared.bounds.Bounds.{Bounds};
+ghost use Rattle.cam_units.specs.Boxes.{HaveCommonPlace};
+ghost use Rattle.cam_objects.specs.Cells.{AreCellsOf, box_at};
+ghost use Rattle.cam_objects.specs.Machinery.Sides.{AreSidesOf};
+
+use crate::cells::item_list::BoxedItems;
+use crate::cells::numbers::ItemNumbers;
+use crate::cells::reach::Reach;
+use crate::cells::sides::Sides;
+use cam_units::Bounds;
+use std::alloc::Global;
+use std::marker::Model;
+
+/// Of each item of a list, one after another, the cells that its box reaches: who looks for what meets some box passes
+/// over the others. The items behind those are read as they are.
+#[derive(Drop)]
+pub struct ItemCells {
+    left: ItemNumbers,
+    bottom: ItemNumbers,
+    right: ItemNumbers,
+    top: ItemNumbers,
+}
+
+impl Model for ItemCells {
+    ghost use Rattle.cam_objects.specs.Cells.{Reaches};
+
+    ghost Value = { Reaches };
+
+    ghost view = { λ c. record { left = c.left; bottom = c.bottom; right = c.right; top = c.top } };
+}
+
+/// Puts what items reach, from the first on, into lists that are empty, as far as there is room.
+fn read_all<B: BoxedItems>(
+    items: &mut B,
+    left: &mut ItemNumbers,
+    bottom: &mut ItemNumbers,
+    right: &mut ItemNumbers,
+    top: &mut ItemNumbers,
+)
+    requires left { left.old ≡ [] }
+    requires bottom { bottom.old ≡ [] }
+    requires right { right.old ≡ [] }
+    requires top { top.old ≡ [] }
+    ensures cells { AreCellsOf (B.boxes items.old)
+        (record { left = left.new; bottom = bottom.new; right = right.new; top = top.new }) }
+    ensures list { B.boxes items.new ≡ B.boxes items.old }
+{
+    for place in 0..items.count() {
+        let reach = Reach::of(items.box_at(place));
+        left.push_at(place, reach.left);
+        bottom.push_at(place, reach.bottom);
+        right.push_at(place, reach.right);
+        top.push_at(place, reach.top);
+    }
+}
+
+impl ItemCells {
+    /// Of a list of items; where memory is refused, of none of them.
+    pub fn of<B: BoxedItems>(alloc: Global, items: &mut B) -> ItemCells
+        ensures cells { AreCellsOf (B.boxes items.old) result }
+        ensures list { B.boxes items.new ≡ B.boxes items.old }
+    {
+        let count = items.count();
+        let mut left = ItemNumbers::with_room(alloc, count);
+        let mut bottom = ItemNumbers::with_room(alloc, count);
+        let mut right = ItemNumbers::with_room(alloc, count);
+        let mut top = ItemNumbers::with_room(alloc, count);
+        read_all(items, &mut left, &mut bottom, &mut right, &mut top);
+        ItemCells {
+            left,
+            bottom,
+            right,
+            top,
+        }
+    }
+
+    /// Makes room for so many items more; where memory for it is refused, those behind an item that comes will be read
+    /// as they are.
+    pub fn reserve(&mut self, items: usize)
+        ensures { self.new ≡ self.old }
+    {
+        self.left.reserve(items);
+        self.bottom.reserve(items);
+        self.right.reserve(items);
+        self.top.reserve(items);
+    }
+
+    /// Follows an item that came to a place, counted from 0. Takes no memory.
+    pub fn insert<B: BoxedItems>(&mut self, items: &mut B, place: usize)
+        requires { place < length (B.boxes items.old) }
+        ensures cells { (before : List Bounds) (b : Bounds) → AreCellsOf before self.old → place ≤ length before
+            → B.boxes items.old ≡ insert before place b → AreCellsOf (B.boxes items.old) self.new }
+        ensures list { B.boxes items.new ≡ B.boxes items.old }
+    {
+        let reach = Reach::of(items.box_at(place));
+        self.left.insert(place, reach.left);
+        self.bottom.insert(place, reach.bottom);
+        self.right.insert(place, reach.right);
+        self.top.insert(place, reach.top);
+    }
+
+    /// Follows an item that left its place, counted from 0. Takes no memory.
+    pub fn remove(&mut self, place: usize)
+        ensures { (boxes : List Bounds) → AreCellsOf boxes self.old → place < length boxes
+            → AreCellsOf (remove boxes place) self.new }
+    {
+        self.left.remove(place);
+        self.bottom.remove(place);
+        self.right.remove(place);
+        self.top.remove(place);
+    }
+
+    /// Reads the item at a place anew. Takes no memory.
+    pub fn renew<B: BoxedItems>(&mut self, items: &mut B, place: usize)
+        requires { place < length (B.boxes items.old) }
+        ensures cells { (before : List Bounds) (b : Bounds) → AreCellsOf before self.old
+            → B.boxes items.old ≡ slice_set before place b → AreCellsOf (B.boxes items.old) self.new }
+        ensures one { (before : List Bounds) → AreCellsOf before self.old → place < length before
+            → AreCellsOf (slice_set before place (box_at (B.boxes items.old) place)) self.new }
+        ensures list { B.boxes items.new ≡ B.boxes items.old }
+    {
+        let reach = Reach::of(items.box_at(place));
+        self.left.set(place, reach.left);
+        self.bottom.set(place, reach.bottom);
+        self.right.set(place, reach.right);
+        self.top.set(place, reach.top);
+    }
+
+    /// The cells of the items.
+    fn sides(&self) -> Sides<'_>
+        ensures { AreSidesOf self.now result }
+    {
+        Sides {
+            left: self.left.as_slice(),
+            bottom: self.bottom.as_slice(),
+            right: self.right.as_slice(),
+            top: self.top.as_slice(),
+        }
+    }
+
+    /// The next place from one on whose item may have a place in common with a box, in half nm: the items before it,
+    /// from that place on, have none.
+    pub fn next_near(&self, place: usize, near: Bounds) -> usize
+        ensures onward { place ≤ result }
+        ensures apart { (boxes : List Bounds) → AreCellsOf boxes self.now → (k : ℕ) → place ≤ k → k < result
+            → k < length boxes → ¬ HaveCommonPlace (box_at boxes k) near }
+    {
+        self.sides().next_meeting(place, Reach::of(near))
+    }
+
+    /// About how many of so many items may have a place in common with a box, in half nm.
+    pub fn near_count(&self, count: usize, near: Bounds) -> usize
+        ensures { result ≤ count }
+    {
+        count.saturating_sub(self.sides().far_count(Reach::of(near)))
+    }
+}
