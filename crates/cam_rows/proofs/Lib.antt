@@ -1,5 +1,6 @@
 pub mod ArcParts
 pub mod ArcRuns
+pub mod AxisBars
 pub mod BesideWays
 pub mod CapRows
 pub mod CapSides

@@ -1,6 +1,10 @@
 //! Runs of bars.
 
-ghost use Rattle.std.specs.Prelude.{◌≡◌, ◌↔◌, ◌<◌, ◌≤◌, ℕ, length};
+ghost use Rattle.std.specs.Prelude.{◌≡◌, ◌↔◌, ◌^◌, ◌<◌, ◌≤◌, ℕ, IfSome, length, pos, ◌+ℤ◌, ◌-ℤ◌, ◌*ℤ◌};
+ghost use Rattle.std.specs.Int.{int_max, int_min};
+ghost use Rattle.std.specs.Int.RustNames.{unsigned_abs};
+ghost use Rattle.cam_units.specs.declared.point.Spot.{Spot};
+ghost use Rattle.cam_units.specs.Boxes.{IsBetween as IsInBox};
 ghost use Rattle.cam_units.specs.Board.{IsOnBoard, IsSize};
 ghost use Rattle.cam_shapes.specs.Bar.{IsInBar, IsSoundBar};
 ghost use Rattle.cam_rows.specs.Machinery.Beside.{IsFar, IsFarOrAhead};
@@ -8,11 +12,12 @@ ghost use Rattle.cam_rows.specs.Machinery.Narrowing.{AreNarrowed};
 ghost use Rattle.cam_rows.specs.Rows.{centre_at, row_below};
 ghost use Rattle.cam_rows.specs.Runs.{AreRuns, AreWideRows, IsInRun};
 
+use super::boxes::box_runs;
 use crate::beside::reach_of;
 use crate::centres::Centres;
 use crate::half_plane::HalfPlane;
 use cam_shapes::Bar;
-use cam_units::Point;
+use cam_units::{Point, Spot};
 
 /// The runs of a bar in wide rows, one below another from the top one: the columns in it or on its edge, none where its
 /// width or its length is 0. A run goes from its first column on and before its end; the width and the ends of the bar
@@ -20,6 +25,65 @@ use cam_units::Point;
 ///
 /// A capsule is a bar with the discs about its ends.
 pub fn bar_runs(bar: &Bar, top: &Centres, firsts: &mut [u32], ends: &mut [u32])
+    requires bar { IsSoundBar bar.now }
+    requires rows { AreWideRows top.now (length firsts.old) }
+    requires ends { length ends.old ≡ length firsts.old }
+    ensures { AreRuns firsts.new ends.new top.now (λ s. IsInBar s bar.now) }
+{
+    match box_of(bar) {
+        Some((low, high)) => box_runs(&low, &high, top, firsts, ends),
+        None => slanted_runs(bar, top, firsts, ends),
+    }
+}
+
+/// The left lower corner and the right upper one of the box that a bar along an axis is; none of another bar.
+fn box_of(bar: &Bar) -> Option<(Spot, Spot)>
+    requires { IsSoundBar bar.now }
+    ensures each { IfSome result (λ c. (s : Spot) → IsInBox c.0 c.1 s ↔ IsInBar s bar.now) }
+    ensures left { IfSome result (λ c. unsigned_abs c.0.x < 2 ^ 61) }
+    ensures right { IfSome result (λ c. unsigned_abs c.1.x < 2 ^ 61) }
+{
+    let Bar { from, to, width } = *bar;
+    if width.0 == 0 {
+        return None;
+    }
+    if from.y == to.y {
+        if from.x == to.x {
+            return None;
+        }
+        return Some(widened_ends(bar, 0, width.0));
+    }
+    if from.x == to.x {
+        return Some(widened_ends(bar, width.0, 0));
+    }
+    None
+}
+
+/// The left lower corner and the right upper one of the box of both ends of a bar, widened by so much to both sides, and
+/// up and down.
+fn widened_ends(bar: &Bar, across: i64, along: i64) -> (Spot, Spot)
+    requires bar { IsSoundBar bar.now }
+    requires across { IsSize across }
+    requires along { IsSize along }
+    ensures left { result.0.x ≡ int_min (pos 2 *ℤ bar.now.from.x) (pos 2 *ℤ bar.now.to.x) -ℤ across }
+    ensures below { result.0.y ≡ int_min (pos 2 *ℤ bar.now.from.y) (pos 2 *ℤ bar.now.to.y) -ℤ along }
+    ensures right { result.1.x ≡ int_max (pos 2 *ℤ bar.now.from.x) (pos 2 *ℤ bar.now.to.x) +ℤ across }
+    ensures above { result.1.y ≡ int_max (pos 2 *ℤ bar.now.from.y) (pos 2 *ℤ bar.now.to.y) +ℤ along }
+{
+    let (from, to) = (bar.from, bar.to);
+    let low = Spot {
+        x: 2 * from.x.min(to.x) - across,
+        y: 2 * from.y.min(to.y) - along,
+    };
+    let high = Spot {
+        x: 2 * from.x.max(to.x) + across,
+        y: 2 * from.y.max(to.y) + along,
+    };
+    (low, high)
+}
+
+/// The runs of a bar of any direction, by the half planes whose inside it is.
+fn slanted_runs(bar: &Bar, top: &Centres, firsts: &mut [u32], ends: &mut [u32])
     requires bar { IsSoundBar bar.now }
     requires rows { AreWideRows top.now (length firsts.old) }
     requires ends { length ends.old ≡ length firsts.old }

@@ -46,7 +46,8 @@ pub(crate) enum Stroke {
     Obround(Obround, Hole),
 }
 
-/// The runs of a stroke or a flash: those of its body, those of what is taken out of this, and those of the discs about its ends.
+/// The runs of a stroke or a flash: those of its body, those of what is taken out of this, and those of the discs about
+/// its ends.
 #[derive(Clone, Copy)]
 pub(crate) struct StrokeRuns {
     /// Of a straight stroke of a circle the bar between its ends; of an arc what its outer circle and its sweep hold; of
