@@ -1,18 +1,18 @@
 -- Caps by rows: how ties are decided, which centres of a row are in the circle, and where a chord leads.
-use Rattle.std.proofs.Common.{◌≡◌, ◌↔◌, ◌⊎◌, ℕ, ◌+◌, ◌-◌, ◌<◌, ◌≤◌, ℤ, pos, ◌+ℤ◌, ◌-ℤ◌, ◌*ℤ◌, ◌≤ℤ◌, ◌<ℤ◌}
+use Rattle.std.proofs.Common.{◌≡◌, ◌↔◌, ◌⊎◌, ℕ, ◌+◌, ◌-◌, ◌*◌, ◌<◌, ◌≤◌, ℤ, pos, ◌+ℤ◌, ◌-ℤ◌, ◌*ℤ◌, ◌≤ℤ◌, ◌<ℤ◌}
 use Rattle.std.proofs.Common.{inl, inr, Bool, true, false, IsTrue, ap, sym, ◌∙◌, arith}
-use Rattle.std.specs.Int.RustNames.{int_lt}
+use Rattle.std.specs.Int.RustNames.{int_lt, unsigned_abs}
 use Rattle.std.specs.Ordering.{int_eq}
 use Rattle.std.proofs.lemmas.Int.{ints, by_lt_z}
-use Rattle.std.proofs.lemmas.Bool.{cases_Bool, cases_lt, false≢true}
+use Rattle.std.proofs.lemmas.Bool.{cases_Bool, false≢true}
 use Rattle.std.proofs.lemmas.Bool.Decides.{Decides-int_eq}
 use Rattle.cam_shapes.specs.declared.vector.Vector.{Vector}
 use Rattle.cam_shapes.specs.Cap.{is_in_circle, is_less}
 use Rattle.cam_shapes.specs.Plane.{dot, square}
 use Rattle.cam_shapes.proofs.Crossings.{less_is, not_under, under}
 use Rattle.cam_shapes.proofs.Widths.{square_is}
-use Rattle.cam_rows.specs.Machinery.Chords.{IsBeforeChord, IsBeforeEnd}
-use Rattle.cam_rows.specs.Runs.{IsInRun}
+use Rattle.cam_rows.proofs.Circling.{below_root}
+use Rattle.cam_rows.specs.Machinery.Chords.{IsInChord}
 use Rattle.cam_rows.specs.Machinery.Ties.{is_inside_chord, leads_down_or_right}
 
 tied : (m n : ℤ) (tie : Bool) → m ≡ n → IsTrue tie ↔ ((m <ℤ n) ⊎ ((m ≤ℤ n) × IsTrue tie))
@@ -86,62 +86,42 @@ inside_left x room is_below left =
       (λ near. outer.1 (inr (omega (arith, ints, near), inner.1 (inl left)))),
     )
 
--- the run of a chord's places
-in_run : (i first end : ℕ) (x : ℤ) (room to_right : ℕ) (is_below : Bool)
-    → (pos 0 ≤ℤ x → IsTrue (is_inside_chord x room is_below) ↔ (square x <ℤ pos to_right))
-    → (i < first → IsBeforeChord x (room + 1)) → (first ≤ i → IsBeforeChord x (room + 1) → ⊥)
-    → (i < end → IsBeforeEnd x to_right) → (end ≤ i → IsBeforeEnd x to_right → ⊥)
-    → ((first ≤ i) × (i < end)) ↔ IsTrue (is_inside_chord x room is_below)
-in_run i first end x room to_right is_below right before not_before until not_until =
-    let left = inside_left x room is_below in (
-      (λ run. by_lt_z x (pos 0)
-          (λ h. by_lt_z (square x) (pos (room + 1))
-          (λ near. (left h).1 near)
-          (λ far. absurd (not_before run.0 (h, far))))
-          (λ h. elim (until run.1) [
-            | inl other ↦ absurd (omega (arith, ints, h, other))
-            | inr near ↦ (right h).1 near
-          ])),
-      (λ inside. (
-        elim (cases_lt i first) [
-          | inl early ↦
-              let far = before early in
-              absurd (omega (arith, ints, far.1, (left far.0).0 inside))
-          | inr late ↦ late
-        ],
-        elim (cases_lt i end) [
-          | inl early ↦ early
-          | inr late ↦ by_lt_z x (pos 0)
-              (λ h. absurd (not_until late (inl h)))
-              (λ h. absurd (not_until late (inr ((right h).0 inside))))
-        ],
-      )),
+-- a chord's places by the squares of its halves
+pub circle_chord : (u v : Vector) (room to_right : ℕ) (is_below : Bool)
+    → IsTrue (is_in_circle u v) ↔ IsTrue (is_inside_chord v.x room is_below)
+    → (pos 0 ≤ℤ v.x → IsTrue (is_inside_chord v.x room is_below) ↔ (square v.x <ℤ pos to_right))
+    → IsTrue (is_in_circle u v) ↔ IsInChord v.x (room + 1) to_right
+circle_chord u v room to_right is_below circle right =
+    let left = inside_left v.x room is_below in (
+      (λ inside. by_lt_z v.x (pos 0)
+          (λ h. inl (h, (left h).0 (circle.0 inside)))
+          (λ h. inr (h, (right h).0 (circle.0 inside)))),
+      (λ on. circle.1 (elim on [ inl both ↦ (left both.0).1 both.1 | inr both ↦ (right both.0).1 both.1 ])),
     )
 
--- a column of the run of the circle through u
-pub circle_run : (i first end : ℕ) (u v : Vector) (radius height to_right : ℕ) (is_below : Bool)
-    → IsTrue (is_in_circle u v) ↔ IsTrue (is_inside_chord v.x (radius - height) is_below)
-    → (pos 0 ≤ℤ v.x → IsTrue (is_inside_chord v.x (radius - height) is_below) ↔ (square v.x <ℤ pos to_right))
-    → (i < first → IsBeforeChord v.x (radius - height + 1))
-    → (first ≤ i → IsBeforeChord v.x (radius - height + 1) → ⊥)
-    → (i < end → IsBeforeEnd v.x to_right)
-    → (end ≤ i → IsBeforeEnd v.x to_right → ⊥)
-    → IsInRun first end i ↔ IsTrue (is_in_circle u v)
-circle_run i first end u v radius height to_right is_below circle right before not_before until not_until =
-    let run = in_run i first end v.x (radius - height) to_right is_below right before not_before until not_until in (
-      (λ on. circle.1 (run.0 on)),
-      (λ inside. run.1 (circle.0 inside)),
+-- and by how far they reach
+pub circle_strip : (u v : Vector) (place middle left right reach : ℤ) (room root : ℕ) (is_below : Bool)
+    → IsTrue (is_in_circle u v) ↔ IsTrue (is_inside_chord v.x room is_below)
+    → (pos 0 ≤ℤ v.x → IsTrue (is_inside_chord v.x room is_below) ↔ (v.x ≤ℤ reach))
+    → root * root ≤ room → room < (root + 1) * (root + 1) → v.x ≡ place -ℤ middle → left ≡ middle -ℤ pos root
+    → right ≡ middle +ℤ reach → pos 0 ≤ℤ (reach +ℤ pos 1)
+    → IsTrue (is_in_circle u v) ↔ ((left ≤ℤ place) × (place ≤ℤ right))
+circle_strip u v place middle left right reach room root is_below circle to_right least greatest is_place is_left is_right
+    some =
+    let to_left = inside_left v.x room is_below in
+    let rooted = below_root (unsigned_abs v.x) room root least greatest in
+    let wide = square_is v.x in (
+      (λ inside. by_lt_z v.x (pos 0)
+          (λ h.
+          let near = rooted.0 (omega (arith, ints, (to_left h).0 (circle.0 inside), wide)) in
+          (omega (arith, ints, near, is_place, is_left), omega (arith, ints, h, is_place, is_right, some)))
+          (λ h.
+          let near = (to_right h).0 (circle.0 inside) in
+          (omega (arith, ints, h, is_place, is_left), omega (arith, ints, near, is_place, is_right)))),
+      (λ between. circle.1 (by_lt_z v.x (pos 0)
+          (λ h. (to_left h).1 (omega (arith, ints, rooted.1 (omega (arith, ints, h, between.0, is_place, is_left)), wide)))
+          (λ h. (to_right h).1 (omega (arith, ints, between.1, is_place, is_right))))),
     )
-
--- what lies before the chord lies before its end
-pub ends_ordered : (first end count : ℕ) (x : ℕ → ℤ) (room to_right : ℕ) → first ≤ count
-    → ((i : ℕ) → i < first → IsBeforeChord (x i) room)
-    → ((i : ℕ) → end ≤ i → i < count → IsBeforeEnd (x i) to_right → ⊥) → first ≤ end
-ends_ordered first end count x room to_right within before after =
-    elim (cases_lt end first) [
-      | inl less ↦ absurd (after end (omega arith) (omega arith) (inl (before end less).0))
-      | inr order ↦ order
-    ]
 
 -- a row above or below the circle
 pub over_circle : (u v : Vector) (radius height : ℕ) → pos radius ≡ dot u u → pos height ≡ square v.y

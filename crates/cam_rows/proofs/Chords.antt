@@ -1,5 +1,5 @@
 -- How far a disc, a hole or a rectangle reaches from its centre, at the height of a row.
-use Rattle.std.proofs.Common.{◌≡◌, ℕ, ◌+◌, ◌*◌, ◌<◌, ◌≤◌, ◌↔◌, ℤ, pos, ◌+ℤ◌, ◌-ℤ◌, ◌≤ℤ◌, ◌<ℤ◌}
+use Rattle.std.proofs.Common.{◌≡◌, ℕ, ◌+◌, ◌-◌, ◌*◌, ◌<◌, ◌≤◌, ◌↔◌, ℤ, pos, ◌+ℤ◌, ◌-ℤ◌, ◌≤ℤ◌, ◌<ℤ◌}
 use Rattle.std.proofs.Common.{to_z, of_z, w64, arith}
 use Rattle.std.specs.Int.RustNames.{unsigned_abs}
 use Rattle.std.proofs.lemmas.Int.{by_lt_z, ints}
@@ -8,8 +8,10 @@ use Rattle.cam_units.specs.Board.{IsSize}
 use Rattle.cam_shapes.specs.declared.disc.Disc.{Disc}
 use Rattle.cam_shapes.specs.Plane.{dot, seen_from, square}
 use Rattle.cam_shapes.specs.Disc.{IsInDisc, IsInHole}
+use Rattle.cam_shapes.specs.declared.vector.Vector.{Vector}
 use Rattle.cam_shapes.proofs.Reaches.{other_leg}
 use Rattle.cam_shapes.proofs.Strokes.{dot_is}
+use Rattle.cam_shapes.proofs.Widths.{square_is}
 use Rattle.cam_rows.proofs.Circling.{square_of}
 
 -- a size without its sign, as 64 bits pass it
@@ -35,6 +37,14 @@ in_disc_is s d r bound some e f =
     let same = at_most_is (dot v v) (square d.diameter.0) (r * r) (square_of r d.diameter.0 e) in
     rw f ((λ inside. same.0 inside.near), (λ less. record { some = some; near = same.1 less }))
 
+-- none where its diameter is 0
+pub in_no_disc : (s : Spot) (d : Disc) → d.diameter.0 ≤ℤ pos 0
+    → (dot (seen_from d.centre s) (seen_from d.centre s) <ℤ pos 0) ↔ IsInDisc s d
+in_no_disc s d none = (
+  (λ near. absurd (omega (arith, ints, near, dot_is (seen_from d.centre s)))),
+  (λ inside. absurd (omega (arith, ints, inside.some, none))),
+)
+
 pub in_hole_is : (s : Spot) (d : Disc) (r bound : ℕ) → pos 0 <ℤ d.diameter.0 → r ≡ unsigned_abs d.diameter.0
     → bound ≡ r * r → IsInHole s d ↔ (dot (seen_from d.centre s) (seen_from d.centre s) <ℤ pos bound)
 in_hole_is s d r bound some e f =
@@ -59,3 +69,10 @@ pub over_disc : (s : Spot) (d : Disc) (high r : ℕ) → r ≡ unsigned_abs d.di
     → high ≡ unsigned_abs (seen_from d.centre s).y → r < high → IsInDisc s d → ⊥
 over_disc s d high r e f over inside =
     let within = other_leg (seen_from d.centre s) d.diameter.0 inside.near in omega arith
+
+-- x and y are the legs of the way from the circle's middle
+pub seen_in_chord : (v : Vector) (height bound : ℕ) → pos height ≡ square v.y
+    → (square v.x <ℤ pos (bound - height)) ↔ (dot v v <ℤ pos bound)
+seen_in_chord v height bound e =
+    let wide = square_is v.x in
+    ((λ near. omega (arith, ints, e, wide, near)), (λ near. omega (arith, ints, e, wide, near)))

@@ -11,7 +11,7 @@ use Rattle.cam_shapes.specs.Plane.{seen_from}
 use Rattle.cam_shapes.proofs.Reaches.{leg, other_leg}
 
 -- a number between the first of some, a step apart, and the last
-rising : (step : ℤ) (i last : ℕ) → i ≤ last → pos 1 ≤ℤ step
+pub rising : (step : ℤ) (i last : ℕ) → i ≤ last → pos 1 ≤ℤ step
     → (pos 0 ≤ℤ (pos i *ℤ step)) × ((pos i *ℤ step) ≤ℤ (pos last *ℤ step))
 rising step i last within some =
     let pitch = unsigned_abs step in

@@ -1,17 +1,14 @@
 -- Wide rows and their runs.
-use Rattle.std.proofs.Common.{◌≡◌, ℕ, ◌+◌, ◌-◌, ◌*◌, ◌<◌, ◌≤◌, ◌≢◌, ◌↔◌, List, length, slice_index, slice_set}
+use Rattle.std.proofs.Common.{◌≡◌, ℕ, ◌+◌, ◌-◌, ◌<◌, ◌≤◌, ◌≢◌, ◌↔◌, List, length, slice_index, slice_set}
 use Rattle.std.proofs.Common.{ℤ, pos, ◌+ℤ◌, ◌-ℤ◌, ◌*ℤ◌, ◌≤ℤ◌, ◌<ℤ◌}
 use Rattle.std.proofs.Common.{get_or-set_other, get_or-set_same, inl, inr, refl, subst, arith}
-use Rattle.std.specs.Int.RustNames.{unsigned_abs}
 use Rattle.std.proofs.lemmas.Bool.{cases_lt}
 use Rattle.std.proofs.lemmas.Int.{ints}
 use Rattle.cam_units.specs.Board.{IsOnBoard}
 use Rattle.cam_units.specs.Boxes.{IsBetween as IsInBox}
 use Rattle.cam_units.specs.declared.point.Point.{Point}
 use Rattle.cam_units.specs.declared.point.Spot.{Spot}
-use Rattle.cam_shapes.specs.declared.disc.Disc.{Disc}
 use Rattle.cam_shapes.specs.declared.rectangle.Rectangle.{Rectangle}
-use Rattle.cam_shapes.specs.Disc.{IsInDisc}
 use Rattle.cam_shapes.specs.Plane.{IsBetween, seen_from, square}
 use Rattle.cam_rows.specs.declared.centres.Centres.{Centres}
 use Rattle.cam_rows.specs.declared.half_plane.HalfPlane.{HalfPlane}
@@ -21,9 +18,7 @@ use Rattle.cam_rows.specs.Machinery.HalfPlanes.{IsHalfPlaneOf, numbers_of}
 use Rattle.cam_rows.specs.Machinery.Narrowing.{AreNarrowed, IsInRow, IsNearer, IsUp, leftmost}
 use Rattle.cam_rows.specs.Rows.{AreRows, IsRow, centre_at, row_below}
 use Rattle.cam_rows.specs.Runs.{AreRuns, AreWideRows, IsInRun, IsWideRow}
-use Rattle.cam_rows.proofs.Chords.{in_disc_is}
-use Rattle.cam_rows.proofs.ChordTurns.{seen_in_chord}
-use Rattle.cam_rows.proofs.Circling.{square_of}
+use Rattle.cam_rows.proofs.Chords.{seen_in_chord}
 use Rattle.cam_rows.proofs.Columns.{offset_is, offset_short}
 use Rattle.cam_rows.proofs.Slopes.{top_row}
 
@@ -49,6 +44,7 @@ module _ (row : Centres) (p : Point) (first step : ℤ) (wide : IsWideRow row) (
   pub offsets_from : AreOffsetsFrom row p (record { first = first; step = step; count = row.count })
   offsets_from = record {
     each = λ i. offset_is row.first.x row.step (pos 2 *ℤ p.x) first step i e f;
+    step = f;
     count = refl;
   }
 
@@ -173,26 +169,10 @@ all_found firsts ends top IsIn end all above = record {
   within = λ k within. above.within k (omega arith);
 }
 
--- ---- discs
+-- ---- circles
 
 pub in_no_run : (first end i : ℕ) (P : Type 0) → end ≡ 0 → (P → ⊥) → IsInRun first end i ↔ P
 in_no_run first end i P none off = ((λ on. absurd (omega (arith, on.1, none))), (λ held. absurd (off held)))
-
--- a column by its distance to the side
-pub in_disc_run : (i first end room r high : ℕ) (x : ℤ) (s : Spot) (d : Disc) → pos 0 <ℤ d.diameter.0
-    → r ≡ unsigned_abs d.diameter.0 → high ≡ unsigned_abs (seen_from d.centre s).y
-    → room ≡ (r * r + 1) - high * high → x ≡ (seen_from d.centre s).x
-    → IsInRun first end i ↔ (square x <ℤ pos room) → IsInRun first end i ↔ IsInDisc s d
-in_disc_run i first end room r high x s d some e f g h told =
-    let v = seen_from d.centre s in
-    let seen = seen_in_chord v (high * high) (r * r + 1) (square_of high v.y f) in
-    let same = in_disc_is s d r (r * r + 1) some e refl in
-    let here = rw (h, g) at told in (
-      (λ on. same.1 (seen.0 (here.0 on))),
-      (λ held. here.1 (seen.1 (same.0 held))),
-    )
-
--- ---- circles
 
 -- a column of a row that lies so high, by its distance to the side
 pub near_column : (top : Centres) (p : Point) (o : Offsets) (k i height room bound : ℕ) → AreOffsetsFrom top p o
@@ -237,3 +217,7 @@ in_corners s low high r e f g h = (
 -- what two facts say alike
 pub by_strip : (B S N : Type 0) → B ↔ S → N ↔ S → B ↔ N
 by_strip B S N told near = ((λ b. near.1 (told.0 b)), (λ n. told.1 (near.0 n)))
+
+-- a column of a row is in the run of all of them
+pub of_whole_row : (count i : ℕ) (R P : Type 0) → i < count → R ↔ (IsInRun 0 count i × P) → R ↔ P
+of_whole_row count i R P within told = ((λ r. (told.0 r).1), (λ held. told.1 ((omega arith, within), held)))

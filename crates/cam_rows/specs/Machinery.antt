@@ -11,5 +11,4 @@ pub mod Quarters
 pub mod Slopes
 pub mod Spreading
 pub mod Ties
-pub mod Turns
 pub mod Ways

@@ -62,7 +62,6 @@ mod runs;
 mod slope;
 mod sweep;
 mod swept;
-mod turns;
 mod way;
 
 pub use arc::{arc_row, arc_rows};

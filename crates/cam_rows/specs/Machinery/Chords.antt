@@ -1,11 +1,14 @@
 -- Chords of circles, by how far the centres of a row lie to the right of the circle's middle.
-use Rattle.std.specs.Prelude.{◌≡◌, ℕ, ℤ, pos, ◌+ℤ◌, ◌*ℤ◌, ◌≤ℤ◌, ◌<ℤ◌, ◌^◌, ◌<◌, ◌⊎◌}
+use Rattle.std.specs.Prelude.{◌≡◌, ℕ, ◌+◌, ◌-◌, ◌*◌, ℤ, pos, ◌+ℤ◌, ◌-ℤ◌, ◌*ℤ◌, ◌≤ℤ◌, ◌<ℤ◌, ◌^◌, ◌<◌, ◌≤◌, ◌⊎◌}
 use Rattle.std.specs.Int.RustNames.{unsigned_abs}
 use Rattle.cam_units.specs.declared.point.Point.{Point}
 use Rattle.cam_shapes.specs.Plane.{seen_from, square}
 use Rattle.cam_rows.specs.declared.centres.Centres.{Centres}
+use Rattle.cam_rows.specs.declared.chord.Chord.{Chord}
+use Rattle.cam_rows.specs.declared.chord.side.Side.{Side}
 use Rattle.cam_rows.specs.declared.offsets.Offsets.{Offsets}
-use Rattle.cam_rows.specs.Rows.{centre_at}
+use Rattle.cam_rows.specs.Rows.{centre_at, row_below}
+use Rattle.cam_rows.specs.Runs.{most_columns}
 
 -- how far a centre lies to the right, by the leftmost one and the step
 abbrev pub offset : ℤ → ℤ → ℕ → ℤ
@@ -15,14 +18,6 @@ offset first step i = first +ℤ pos i *ℤ step
 abbrev pub AreShort : ℤ → ℤ → ℕ → Type 0
 AreShort first step i = (unsigned_abs first < 2 ^ 33) × (unsigned_abs (offset first step i) < 2 ^ 33)
 
--- left of the chord, where the square of half the chord is so
-abbrev pub IsBeforeChord : ℤ → ℕ → Type 0
-IsBeforeChord x room = (x <ℤ pos 0) × (pos room ≤ℤ square x)
-
--- left of the chord or in it
-abbrev pub IsBeforeEnd : ℤ → ℕ → Type 0
-IsBeforeEnd x room = (x <ℤ pos 0) ⊎ (square x <ℤ pos room)
-
 -- centres of wide rows, each right of the one before it, as near as that
 pub record AreWideOffsets (o : Offsets) : Type 0 where
   pub step : pos 1 ≤ℤ o.step
@@ -31,4 +26,72 @@ pub record AreWideOffsets (o : Offsets) : Type 0 where
 -- how far the centres of a row lie to the right of a point
 pub record AreOffsetsFrom (row : Centres) (p : Point) (o : Offsets) : Type 0 where
   pub each : (i : ℕ) → offset o.first o.step i ≡ (seen_from p (centre_at row i)).x
+  pub step : o.step ≡ row.step
   pub count : o.count ≡ row.count
+
+-- ---- the columns on one side of a circle's middle, counted outwards
+
+-- how far one lies from the middle
+abbrev pub distance_at : Side → ℕ → ℕ
+distance_at s j = s.start + j * s.step
+
+-- a distance from the middle is past half a chord, where the square of the half is so
+abbrev pub IsBeyond : ℕ → ℕ → Type 0
+IsBeyond distance room = room ≤ distance * distance
+
+-- the next one after those in the chord is known, and the squares of the distances of all of them fit 64 bits
+pub record IsSide (s : Side) : Type 0 where
+  pub some : 1 ≤ s.step
+  pub step : s.step < 2 ^ 32
+  pub within : s.inside ≤ s.columns
+  pub next : s.next ≡ distance_at s s.inside
+  pub near : (j : ℕ) → j < s.columns → distance_at s j < 2 ^ 32
+
+-- those that are taken to be in the chord are
+abbrev pub AreNear : Side → ℕ → Type 0
+AreNear s room = (j : ℕ) → j < s.inside → IsBeyond (distance_at s j) room → ⊥
+
+-- the others are not
+abbrev pub AreBeyond : Side → ℕ → Type 0
+AreBeyond s room = (j : ℕ) → s.inside ≤ j → j < s.columns → IsBeyond (distance_at s j) room
+
+pub record HasReached (s : Side) (room : ℕ) : Type 0 where
+  pub near : AreNear s room
+  pub beyond : AreBeyond s room
+
+-- the same columns
+pub record IsSameSide (s t : Side) : Type 0 where
+  pub start : t.start ≡ s.start
+  pub step : t.step ≡ s.step
+  pub columns : t.columns ≡ s.columns
+
+-- ---- chords
+
+-- in a chord, where the squares of its halves are so
+abbrev pub IsInChord : ℤ → ℕ → ℕ → Type 0
+IsInChord x to_left to_right =
+    ((x <ℤ pos 0) × (square x <ℤ pos to_left)) ⊎ ((pos 0 ≤ℤ x) × (square x <ℤ pos to_right))
+
+-- how far to the right a column of a chord's rows lies
+abbrev pub place_of : Chord → ℕ → ℤ
+place_of c i = offset c.offsets.first c.offsets.step i
+
+-- its sides have the columns to the left and to the right of the middle, and have reached the ends of a chord
+pub record IsChord (c : Chord) : Type 0 where
+  pub few : c.offsets.count ≤ most_columns
+  pub columns : c.left.columns + c.right.columns ≡ c.offsets.count
+  pub left : IsSide c.left
+  pub right : IsSide c.right
+  pub left_reached : HasReached c.left c.left.room
+  pub right_reached : HasReached c.right c.right.room
+  pub before : (i : ℕ) → i < c.left.columns
+      → (place_of c i ≡ pos 0 -ℤ pos (distance_at c.left (c.left.columns - 1 - i))) × (place_of c i <ℤ pos 0)
+  pub after : (i : ℕ) → c.left.columns ≤ i → i < c.offsets.count
+      → place_of c i ≡ pos (distance_at c.right (i - c.left.columns))
+
+-- the centres of so many rows lie so near to a point that the squares of their distances to the side fit 64 bits, and
+-- those of their heights
+pub record AreNearby (p : Point) (top : Centres) (n : ℕ) : Type 0 where
+  pub step : top.step <ℤ pos (2 ^ 32)
+  pub columns : (i : ℕ) → i < top.count → unsigned_abs (seen_from p (centre_at top i)).x < 2 ^ 32
+  pub rows : (k : ℕ) → k < n → unsigned_abs (seen_from p (row_below top k).first).y < 2 ^ 32

@@ -1,15 +1,16 @@
 //! Runs of wide rows, narrowed to circles.
 
-ghost use Rattle.std.specs.Prelude.{◌≡◌, ◌^◌, ◌<◌, length};
+ghost use Rattle.std.specs.Prelude.{◌≡◌, ◌↔◌, ◌^◌, ◌<◌, ◌≤◌, ℕ, length};
 ghost use Rattle.cam_units.specs.Board.{IsOnBoard};
+ghost use Rattle.cam_rows.specs.Machinery.Chords.{AreNearby};
 ghost use Rattle.cam_rows.specs.Machinery.Narrowing.{AreNarrowed, IsNearer};
 ghost use Rattle.cam_rows.specs.Rows.{centre_at, row_below};
-ghost use Rattle.cam_rows.specs.Runs.{AreRuns, AreWideRows};
+ghost use Rattle.cam_rows.specs.Runs.{AreRuns, AreWideRows, IsInRun, IsWideRow};
 
-use super::Run;
+use super::{Run, Strip};
 use crate::centres::Centres;
-use crate::chord::Chord;
-use crate::circle::squared_height;
+use crate::chord::{Chord, is_nearby, room_at};
+use crate::circle::{half_chord, squared_height};
 use cam_units::Point;
 
 /// The runs of a circle in wide rows, one below another from the top one: the columns whose squared distance from a
@@ -30,13 +31,17 @@ pub(crate) fn circle_runs(
     if firsts.is_empty() {
         return;
     }
+    if bound <= u128::from(u64::MAX) && is_nearby(point, top, firsts.len()) {
+        near_runs(point, bound as u64, top, firsts, ends);
+        return;
+    }
     firsts.fill(0);
     ends.fill(top.count);
-    narrow_to_circle(point, bound, top, firsts, ends);
+    narrow_by_roots(point, bound, top, firsts, ends);
 }
 
 /// Narrows the runs of wide rows, one below another from the top one, to the columns whose squared distance from a
-/// point is less than a bound: by one root for all of them.
+/// point is less than a bound.
 pub(crate) fn narrow_to_circle(
     point: &Point,
     bound: u128,
@@ -52,16 +57,95 @@ pub(crate) fn narrow_to_circle(
     ensures { AreNarrowed top.now.count firsts.old ends.old
         (λ k i. IsNearer point.now bound (centre_at (row_below top.now k) i)) (length firsts.old) firsts.new ends.new }
 {
-    let offsets = top.offsets_from(point);
-    let mut chord = Chord::near(point, bound, top);
+    if bound <= u128::from(u64::MAX) && is_nearby(point, top, firsts.len()) {
+        narrow_nearby(point, bound as u64, top, firsts, ends);
+    } else {
+        narrow_by_roots(point, bound, top, firsts, ends);
+    }
+}
+
+/// The runs of a circle in rows near its middle, by walks from each row to the next.
+fn near_runs(point: &Point, bound: u64, top: &Centres, firsts: &mut [u32], ends: &mut [u32])
+    requires point { IsOnBoard point.now }
+    requires some { 0 < length firsts.old }
+    requires rows { AreWideRows top.now (length firsts.old) }
+    requires near { AreNearby point.now top.now (length firsts.old) }
+    requires ends { length ends.old ≡ length firsts.old }
+    ensures { AreRuns firsts.new ends.new top.now (IsNearer point.now bound) }
+{
+    let mut chord = Chord::at_middle(point, top);
+    let mut height = top.rise_over(point);
+    chord.leap(room_at(bound, height));
     for k in 0..firsts.len() {
-        let height = squared_height(point, &top.wide_below(k).leftmost());
+        let row = Run {
+            first: 0,
+            end: top.count,
+        };
+        let run = chord.part(room_at(bound, height), row);
+        firsts[k] = run.first;
+        ends[k] = run.end;
+        height -= top.step;
+    }
+}
+
+/// Narrows the runs of rows near a circle's middle to the circle, by walks from each row to the next.
+fn narrow_nearby(point: &Point, bound: u64, top: &Centres, firsts: &mut [u32], ends: &mut [u32])
+    requires point { IsOnBoard point.now }
+    requires some { 0 < length firsts.old }
+    requires rows { AreWideRows top.now (length firsts.old) }
+    requires near { AreNearby point.now top.now (length firsts.old) }
+    requires ends { length ends.old ≡ length firsts.old }
+    ensures { AreNarrowed top.now.count firsts.old ends.old
+        (λ k i. IsNearer point.now bound (centre_at (row_below top.now k) i)) (length firsts.old) firsts.new ends.new }
+{
+    let mut chord = Chord::at_middle(point, top);
+    let mut height = top.rise_over(point);
+    chord.leap(room_at(bound, height));
+    for k in 0..firsts.len() {
         let run = Run {
             first: firsts[k],
             end: ends[k],
         };
-        let part = chord.narrowed(&offsets, bound.saturating_sub(height), run);
+        let part = chord.part(room_at(bound, height), run);
         firsts[k] = part.first;
         ends[k] = part.end;
+        height -= top.step;
     }
+}
+
+/// Narrows the runs of any rows to a circle, by a root for each.
+fn narrow_by_roots(point: &Point, bound: u128, top: &Centres, firsts: &mut [u32], ends: &mut [u32])
+    requires point { IsOnBoard point.now }
+    requires bound { bound < 2 ^ 68 }
+    requires some { 0 < length firsts.old }
+    requires rows { AreWideRows top.now (length firsts.old) }
+    requires ends { length ends.old ≡ length firsts.old }
+    ensures { AreNarrowed top.now.count firsts.old ends.old
+        (λ k i. IsNearer point.now bound (centre_at (row_below top.now k) i)) (length firsts.old) firsts.new ends.new }
+{
+    for k in 0..firsts.len() {
+        let run = root_run(point, bound, &top.wide_below(k));
+        firsts[k] = firsts[k].max(run.first);
+        ends[k] = ends[k].min(run.end);
+    }
+}
+
+/// The run of a circle in a row, by a root.
+fn root_run(point: &Point, bound: u128, row: &Centres) -> Run
+    requires point { IsOnBoard point.now }
+    requires bound { bound < 2 ^ 68 }
+    requires row { IsWideRow row.now }
+    ensures { (i : ℕ) → i < row.now.count
+        → IsInRun result.first result.end i ↔ IsNearer point.now bound (centre_at row.now i) }
+{
+    let height = squared_height(point, &row.leftmost());
+    if bound <= height {
+        return Run { first: 0, end: 0 };
+    }
+    let reach = half_chord(bound - height - 1) as i64;
+    let strip = Strip {
+        left: 2 * point.x - reach,
+        right: 2 * point.x + reach,
+    };
+    row.columns_in(&strip)
 }

@@ -1,11 +1,13 @@
 //! Runs of discs.
 
-ghost use Rattle.std.specs.Prelude.{◌≡◌, length};
+ghost use Rattle.std.specs.Prelude.{◌≡◌, ◌↔◌, length};
+ghost use Rattle.cam_units.specs.declared.point.Spot.{Spot};
 ghost use Rattle.cam_shapes.specs.Disc.{IsInDisc, IsSoundDisc};
+ghost use Rattle.cam_rows.specs.Machinery.Narrowing.{IsNearer};
 ghost use Rattle.cam_rows.specs.Runs.{AreRuns, AreWideRows};
 
+use super::circle::circle_runs;
 use crate::centres::Centres;
-use crate::chord::Chord;
 use cam_shapes::Disc;
 
 /// The runs of a disc in wide rows, one below another from the top one: the columns in it or on its edge, none where
@@ -17,14 +19,18 @@ pub fn disc_runs(disc: &Disc, top: &Centres, firsts: &mut [u32], ends: &mut [u32
     requires ends { length ends.old ≡ length firsts.old }
     ensures { AreRuns firsts.new ends.new top.now (λ s. IsInDisc s disc.now) }
 {
-    if firsts.is_empty() {
-        return;
-    }
+    circle_runs(&disc.centre, u128::from(bound_of(disc)), top, firsts, ends);
+}
+
+/// What the squared distances from a disc's centre are less than at its places.
+#[inline]
+fn bound_of(disc: &Disc) -> u64
+    requires { IsSoundDisc disc.now }
+    ensures { (s : Spot) → IsNearer disc.now.centre result s ↔ IsInDisc s disc.now }
+{
     let radius = disc.diameter.0 as u64;
-    let mut chord = Chord::near(&disc.centre, u128::from(radius * radius), top);
-    for k in 0..firsts.len() {
-        let run = chord.disc_run(disc, &top.wide_below(k));
-        firsts[k] = run.first;
-        ends[k] = run.end;
+    if radius == 0 {
+        return 0;
     }
+    radius * radius + 1
 }

@@ -3,6 +3,7 @@
 ghost use Rattle.std.specs.Prelude.{◌≡◌, ◌↔◌, ◌^◌, ◌<◌, ◌≤◌, ℕ, ◌≤ℤ◌, ◌<ℤ◌};
 ghost use Rattle.std.specs.Int.RustNames.{unsigned_abs};
 ghost use Rattle.cam_units.specs.Board.{IsOnBoard};
+ghost use Rattle.cam_shapes.specs.Plane.{seen_from};
 ghost use Rattle.cam_rows.specs.Machinery.Chords.{AreOffsetsFrom, AreWideOffsets};
 ghost use Rattle.cam_rows.specs.Machinery.Narrowing.{leftmost};
 ghost use Rattle.cam_rows.specs.Rows.{IsRow, centre_at, row_below};
@@ -57,13 +58,14 @@ impl Centres {
         }
     }
 
-    /// About how many of the columns lie left of the vertical at `x`, by one division: no promise.
-    pub(crate) fn column_near(&self, x: i64) -> u32
+    /// How far its centres lie over a point.
+    #[inline]
+    pub(crate) fn rise_over(&self, point: &Point) -> i64
         requires row { IsWideRow self.now }
-        requires short { unsigned_abs x < 2 ^ 62 }
+        requires point { IsOnBoard point.now }
+        ensures { result ≡ (seen_from point.now self.now.first).y }
     {
-        let gap = (x - self.first.x).max(0) as u64;
-        (gap / self.step as u64).min(u64::from(self.count)) as u32
+        self.first.y - 2 * point.y
     }
 
     /// How many of the centres lie left of the vertical at `x`. It divides only where some do, and some do not.

@@ -1,11 +1,8 @@
-use Rattle.std.proofs.Common.{IsTrue, length, arith, rules}
+use Rattle.std.proofs.Common.{IsTrue, length, arith}
 use Rattle.cam_shapes.specs.Cap.{is_in_circle}
 use Rattle.cam_shapes.specs.Plane.{seen_from, way}
 use Rattle.cam_rows.proofs.WideRows.{all_found, no_run, one_more_run, top_is_wide}
 use Rattle.cam_rows.proofs.runs.cap.circle_runs.Goals as goal
-
-pub near-chord-requires-clause-row : goal.near-chord-requires-clause-row
-near-chord-requires-clause-row c = top_is_wide c.args.top.now (length c.args.firsts.now) (search rules) c.requires.rows
 
 pub loop-k-init : goal.loop-k-init
 loop-k-init c = no_run _ _ _ _
@@ -13,17 +10,17 @@ loop-k-init c = no_run _ _ _ _
 pub wide_below-requires-clause-top : goal.wide_below-requires-clause-top
 wide_below-requires-clause-top c = top_is_wide c.args.top.now (length c.args.firsts.now) (omega arith) c.requires.rows
 
-pub cap_run-run-requires-clause-row : goal.cap_run-run-requires-clause-row
-cap_run-run-requires-clause-row c = rw c.wide_below.ensures (c.requires.rows c.loop-k.k (omega arith))
+pub root_run-run-requires-clause-row : goal.root_run-run-requires-clause-row
+root_run-run-requires-clause-row c = rw c.wide_below.ensures (c.requires.rows c.loop-k.k (omega arith))
 
 pub loop-k-preserved : goal.loop-k-preserved
 loop-k-preserved c =
     one_more_run c.loop-k.firsts c.loop-k.ends c.args.top.now
     (λ s. IsTrue (is_in_circle (way c.args.cap.now.centre c.args.cap.now.from) (seen_from c.args.cap.now.centre s)))
     c.loop-k.k
-    c.cap_run-run.result.first c.cap_run-run.result.end (omega arith) (omega (arith, c.requires.ends))
-    c.loop-k.invariant (rw c.wide_below.ensures at c.cap_run-run.ensures.each)
-    (rw c.wide_below.ensures at c.cap_run-run.ensures.within)
+    c.root_run-run.result.first c.root_run-run.result.end (omega arith) (omega (arith, c.requires.ends))
+    c.loop-k.invariant (rw c.wide_below.ensures at c.root_run-run.ensures.each)
+    (rw c.wide_below.ensures at c.root_run-run.ensures.within)
 
 pub returns : goal.returns
 returns c =

@@ -1,28 +1,11 @@
-use Rattle.std.proofs.Common.{length, arith, rules}
 use Rattle.cam_shapes.specs.Disc.{IsInDisc}
-use Rattle.cam_rows.proofs.WideRows.{all_found, no_run, one_more_run, top_is_wide}
+use Rattle.cam_rows.specs.Machinery.Narrowing.{IsNearer}
+use Rattle.cam_rows.proofs.WideRows.{runs_like}
 use Rattle.cam_rows.proofs.runs.disc.disc_runs.Goals as goal
-
-pub near-chord-requires-clause-row : goal.near-chord-requires-clause-row
-near-chord-requires-clause-row c = top_is_wide c.args.top.now (length c.args.firsts.now) (search rules) c.requires.rows
-
-pub loop-k-init : goal.loop-k-init
-loop-k-init c = no_run _ _ _ _
-
-pub wide_below-requires-clause-top : goal.wide_below-requires-clause-top
-wide_below-requires-clause-top c = top_is_wide c.args.top.now (length c.args.firsts.now) (omega arith) c.requires.rows
-
-pub disc_run-run-requires-clause-row : goal.disc_run-run-requires-clause-row
-disc_run-run-requires-clause-row c = rw c.wide_below.ensures (c.requires.rows c.loop-k.k (omega arith))
-
-pub loop-k-preserved : goal.loop-k-preserved
-loop-k-preserved c =
-    one_more_run c.loop-k.firsts c.loop-k.ends c.args.top.now (λ s. IsInDisc s c.args.disc.now) c.loop-k.k
-    c.disc_run-run.result.first c.disc_run-run.result.end (omega arith) (omega (arith, c.requires.ends))
-    c.loop-k.invariant (rw c.wide_below.ensures at c.disc_run-run.ensures.each)
-    (rw c.wide_below.ensures at c.disc_run-run.ensures.within)
 
 pub returns : goal.returns
 returns c =
-    all_found c.loop-k.firsts c.loop-k.ends c.args.top.now (λ s. IsInDisc s c.args.disc.now) c.loop-k.k
-    (omega (arith, c.loop-k-test.false)) c.loop-k.invariant
+    let disc = c.args.disc.now in
+    runs_like c.circle_runs.new.firsts c.circle_runs.new.ends c.args.top.now
+    (IsNearer disc.centre c.from.result) (λ s. IsInDisc s disc) (rw c.from.ensures c.bound_of.ensures)
+    c.circle_runs.ensures

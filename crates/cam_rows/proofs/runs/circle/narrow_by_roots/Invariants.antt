@@ -1,7 +1,7 @@
 use Rattle.cam_rows.specs.Machinery.Narrowing.{IsNearer}
 use Rattle.cam_rows.specs.Rows.{centre_at, row_below}
 use Rattle.cam_rows.proofs.NarrowedRuns.{AreNarrowedAbove}
-use Rattle.cam_rows.proofs.runs.circle.narrow_to_circle.Given as goal
+use Rattle.cam_rows.proofs.runs.circle.narrow_by_roots.Given as goal
 
 abbrev pub invariant-loop-k : goal.invariant-loop-k
 invariant-loop-k l =

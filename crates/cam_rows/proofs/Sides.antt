@@ -1,0 +1,54 @@
+-- The columns on one side of a circle's middle, counted outwards.
+use Rattle.std.proofs.Common.{◌≡◌, ℕ, ◌+◌, ◌-◌, ◌*◌, ◌^◌, ◌<◌, ◌≤◌, Fits, w64, arith}
+use Rattle.std.proofs.lemmas.Nat.{mul-le, mul-lt}
+use Rattle.cam_rows.specs.declared.chord.side.Side.{Side}
+use Rattle.cam_rows.specs.Machinery.Chords.{AreBeyond, AreNear, HasReached, IsBeyond, IsSide, distance_at}
+
+-- the square of a distance fits
+pub square_fits : (n : ℕ) → n < 2 ^ 32 → Fits w64 (n * n)
+square_fits n short = let small = mul-lt n n (2 ^ 32) (2 ^ 32) short short in omega arith
+
+-- what lies farther out than a column beyond the chord is beyond it too
+pub beyond_on : (start step room i j : ℕ) → i ≤ j → IsBeyond (start + i * step) room → IsBeyond (start + j * step) room
+beyond_on start step room i j order beyond =
+    let near = start + i * step in
+    let far = start + j * step in
+    let farther : near ≤ far = omega (arith, mul-le i step j step order (omega arith)) in
+    omega (arith, beyond, mul-le near near far far farther farther)
+
+-- the column before the next one
+pub last_is : (s : Side) (last : ℕ) → IsSide s → 0 < s.inside → last ≡ s.next - s.step
+    → last ≡ distance_at s (s.inside - 1)
+last_is s last side some is =
+    let inside : s.inside ≡ (s.inside - 1) + 1 = omega arith in
+    let next : s.next ≡ distance_at s ((s.inside - 1) + 1) = rw inside at side.next in
+    omega (arith, next, is)
+
+pub last_short : (s : Side) → IsSide s → 0 < s.inside → s.next - s.step < 2 ^ 32
+last_short s side some =
+    let within = side.within in
+    omega (arith, last_is s (s.next - s.step) side some (omega arith), side.near (s.inside - 1) (omega arith))
+
+-- where a walk outwards ends
+pub reached_outwards : (s : Side) (room : ℕ) → IsSide s → AreNear s room
+    → (s.inside < s.columns → IsBeyond s.next room) → HasReached s room
+reached_outwards s room side near stops = record {
+  near = near;
+  beyond = λ j from within.
+      beyond_on s.start s.step room s.inside j from (rw side.next at (stops (omega arith)));
+}
+
+-- where a walk inwards ends
+pub reached_inwards : (s : Side) (room : ℕ) → IsSide s → AreBeyond s room
+    → (0 < s.inside → IsBeyond (distance_at s (s.inside - 1)) room → ⊥) → HasReached s room
+reached_inwards s room side beyond stops = record {
+  near = λ j before here.
+      stops (omega arith) (beyond_on s.start s.step room j (s.inside - 1) (omega arith) here);
+  beyond = beyond;
+}
+
+-- and a step of it
+pub beyond_from : (s : Side) (room : ℕ) → IsSide s → 0 < s.inside
+    → IsBeyond (distance_at s (s.inside - 1)) room
+    → (j : ℕ) → s.inside - 1 ≤ j → IsBeyond (distance_at s j) room
+beyond_from s room side some last j from = beyond_on s.start s.step room (s.inside - 1) j from last

@@ -1,0 +1,35 @@
+use Rattle.std.proofs.Common.{arith}
+use Rattle.std.proofs.lemmas.Bool.{false≢true}
+use Rattle.cam_rows.proofs.Sides.{beyond_from, last_is, reached_inwards}
+use Rattle.cam_rows.proofs.chord.side.Side.narrow.Goals as goal
+use Rattle.cam_rows.proofs.chord.side.Side.narrow.Goals.{then-loop-self-test+else-is_last_beyond, else-loop-self-test}
+
+pub loop-self-preserved : goal.loop-self-preserved
+loop-self-preserved c =
+    let s = c.loop-self.self in
+    let side = c.loop-self.invariant.side in
+    let same = c.loop-self.invariant.same in
+    let within = side.within in
+    let some = c.loop-self-test.true in
+    record {
+      side = record {
+        some = side.some;
+        step = side.step;
+        within = omega arith;
+        next = last_is s _ side (omega (arith, some)) (omega arith);
+        near = side.near;
+      };
+      beyond = λ j from _.
+          beyond_from s c.args.room side (omega (arith, some)) (c.is_last_beyond.ensures.0 c.if-is_last_beyond.true) j
+          from;
+      same = record { start = same.start; step = same.step; columns = same.columns };
+    }
+
+pub returns-clause-reached : goal.returns-clause-reached
+returns-clause-reached c =
+    let reached = reached_inwards c.loop-self.self c.args.room c.loop-self.invariant.side c.loop-self.invariant.beyond
+    (λ some. elim c.loop-self-test.branch [
+      | then-loop-self-test+else-is_last_beyond w ↦ (λ here. absurd (false≢true (w.if-is_last_beyond.ensures.1 here)))
+      | else-loop-self-test w ↦ absurd (omega (arith, some, w.loop-self-test.false))
+    ]) in
+    record { near = reached.near; beyond = reached.beyond }

@@ -1,0 +1,12 @@
+use Rattle.cam_rows.specs.Machinery.Chords.{AreBeyond, IsSameSide, IsSide}
+use Rattle.cam_rows.proofs.chord.side.Side.narrow.Given as goal
+
+abbrev pub invariant-loop-self : goal.invariant-loop-self
+invariant-loop-self l = record {
+  side : IsSide l.self;
+  beyond : AreBeyond l.self l.room;
+  same : IsSameSide l.fn.self l.self;
+}
+
+abbrev pub decreases-loop-self : goal.decreases-loop-self
+decreases-loop-self l = l.self.inside

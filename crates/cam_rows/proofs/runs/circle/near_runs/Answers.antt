@@ -1,0 +1,65 @@
+use Rattle.std.proofs.Common.{◌<◌, length, arith}
+use Rattle.cam_rows.specs.Machinery.Narrowing.{IsNearer}
+use Rattle.cam_rows.specs.Rows.{row_below}
+use Rattle.cam_rows.proofs.NarrowedRuns.{run_by}
+use Rattle.cam_rows.proofs.NearRows.{height_square, next_height, top_height, top_height_near}
+use Rattle.cam_rows.proofs.WideRows.{all_found, near_column, no_run, of_whole_row, one_more_run, top_is_wide}
+use Rattle.cam_rows.proofs.runs.circle.near_runs.Goals as goal
+
+pub at_middle-chord-requires-clause-row : goal.at_middle-chord-requires-clause-row
+at_middle-chord-requires-clause-row c =
+    top_is_wide c.args.top.now (length c.args.firsts.now) c.requires.some c.requires.rows
+
+pub rise_over-height-requires-clause-row : goal.rise_over-height-requires-clause-row
+rise_over-height-requires-clause-row c =
+    top_is_wide c.args.top.now (length c.args.firsts.now) c.requires.some c.requires.rows
+
+pub room_at-requires : goal.room_at-requires
+room_at-requires c =
+    top_height_near c.args.point.now c.args.top.now (length c.args.firsts.now) _ c.requires.near c.requires.some
+    c.rise_over-height.ensures
+
+pub loop-k-init : goal.loop-k-init
+loop-k-init c = record {
+  chord = c.leap.ensures.chord;
+  offsets = rw c.leap.ensures.same c.at_middle-chord.ensures.offsets;
+  height = top_height c.args.point.now c.args.top.now (length c.args.firsts.now) _ c.requires.near c.requires.some
+      c.rise_over-height.ensures;
+  found = no_run _ _ _ _;
+}
+
+pub room_at-requires-in-loop-k : goal.room_at-requires-in-loop-k
+room_at-requires-in-loop-k c = rw c.loop-k.invariant.height (c.requires.near.rows c.loop-k.k (omega arith))
+
+pub overflow_sub-height : goal.overflow_sub-height
+overflow_sub-height c =
+    (next_height c.args.point.now c.args.top.now (length c.args.firsts.now) c.loop-k.k _ c.requires.near
+    (omega arith) (c.requires.rows 0 c.requires.some).step c.loop-k.invariant.height).0
+
+pub loop-k-preserved : goal.loop-k-preserved
+loop-k-preserved c =
+    let top = c.args.top.now in
+    let point = c.args.point.now in
+    let k = c.loop-k.k in
+    let run = c.part-run in
+    let inv = c.loop-k.invariant in
+    let within : k < length c.args.firsts.now = omega arith in
+    record {
+      chord = run.ensures.chord;
+      offsets = rw run.ensures.same inv.offsets;
+      height = (next_height point top (length c.args.firsts.now) k _ c.requires.near within
+          (c.requires.rows 0 c.requires.some).step inv.height).1;
+      found = one_more_run c.loop-k.firsts c.loop-k.ends top (IsNearer point c.args.bound) k run.result.first
+          run.result.end (omega arith) (omega (arith, c.requires.ends)) inv.found
+          (λ i small.
+          of_whole_row top.count i _ _ small
+          (run_by _ _ _ _ (rw inv.offsets.count at (run.ensures.each i) small)
+          (near_column top point c.loop-k.chord.offsets k i _ c.room_at-in-loop-k.result c.args.bound inv.offsets
+          (height_square point (row_below top k) _ inv.height) c.room_at-in-loop-k.ensures)))
+          run.ensures.within;
+    }
+
+pub returns : goal.returns
+returns c =
+    all_found c.loop-k.firsts c.loop-k.ends c.args.top.now (IsNearer c.args.point.now c.args.bound) c.loop-k.k
+    (omega (arith, c.loop-k-test.false)) c.loop-k.invariant.found
