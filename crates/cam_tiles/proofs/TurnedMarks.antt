@@ -13,7 +13,7 @@ use Rattle.cam_shapes.specs.declared.cap.Cap.{Cap}
 use Rattle.cam_shapes.specs.Cap.{is_in_cap}
 use Rattle.cam_shapes.specs.Edge.{crosses_ray, edge, is_above}
 use Rattle.cam_shapes.specs.Sides.{changes_side, differ}
-use Rattle.cam_rows.specs.Marks.{AreSpread, TurnsRows, is_marked, is_set, is_turned}
+use Rattle.cam_rows.specs.Marks.{AreSpread, TurnsRows, is_marked, is_set, is_turned, turns_past}
 use Rattle.cam_rows.specs.declared.centres.Centres.{Centres}
 use Rattle.cam_rows.specs.Rows.{row_below}
 use Rattle.cam_rows.specs.Runs.{AreEnds, AreRuns, IsInRun}
@@ -157,20 +157,21 @@ module _ (g : Grid) (columns : ℕ) where
   none_set : (word i : ℕ) → word ≡ 0 → is_set word i ≡ false
   none_set word i e = rw e (ap (λ x. x == 1) (bit_at-zero i))
 
-  none_marked : (marks : List ℕ) → ((k : ℕ) → k < length marks → slice_index marks k ≡ 0) → (row column : ℕ)
-      → is_marked marks row column ≡ false
-  none_marked marks none row column =
-      let k = 64 * (column / 64) + row in
-      none_set (slice_index marks k) (column % 64)
-      (elim (cases_lt k (length marks)) [ inl inside ↦ none k inside | inr past ↦ get_or_past marks k 0 past ])
+  nothing_turned : (marks : List ℕ) → ((k : ℕ) → k < length marks → slice_index marks k ≡ 0) → (row column : ℕ)
+      → is_turned marks row column ≡ false
+  nothing_turned marks none row column =
+      let blank : (k i : ℕ) → is_set (slice_index marks k) i ≡ false = λ k i. none_set (slice_index marks k) i
+      (elim (cases_lt k (length marks)) [ inl inside ↦ none k inside | inr past ↦ get_or_past marks k 0 past ]) in
+      rw (blank (64 * (column / 64) + row) (column % 64))
+      (none_odd (turns_past marks row) (length marks / 64 - (column / 64 + 1)) (column / 64 + 1)
+      (λ j _. blank (64 * j + row) 0))
 
   pub spread_inside : (P : Spot → Type 0) (blank turned spread : List ℕ)
       → ((k : ℕ) → k < length blank → slice_index blank k ≡ 0) → g.rows ≤ 64 → columns ≤ length turned
       → TurnsCentres g columns P blank turned → AreSpread turned spread → MarksCentres g columns P spread
   spread_inside P blank turned spread none few room h told column row near within =
       let same = told row column (omega (arith, within, few)) (omega (arith, near, room)) in
-      let even : is_turned blank row column ≡ false =
-      none_odd (is_marked blank row) (length blank - column) column (λ j _. none_marked blank none row j) in
+      let even = nothing_turned blank none row column in
       from_even _ _ _ _ ((λ t. sym same ∙ t), (λ t. same ∙ t)) (λ t. false≢true (sym even ∙ t))
       (h column row near within)
 
