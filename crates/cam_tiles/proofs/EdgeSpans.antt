@@ -1,6 +1,6 @@
 -- The heights that an edge crosses, by its ends.
-use Rattle.std.proofs.Common.{◌≡◌, ◌≢◌, ◌↔◌, ℕ, ◌<◌, ◌≤◌, ℤ, pos, ◌-ℤ◌, ◌*ℤ◌, ◌≤ℤ◌, ◌<ℤ◌}
-use Rattle.std.proofs.Common.{Bool, true, false, IsTrue, if◌then◌else◌, refl, sym, ◌∙◌, arith}
+use Rattle.std.proofs.Common.{◌≡◌, ◌≢◌, ◌↔◌, ℤ, pos, ◌-ℤ◌, ◌*ℤ◌, ◌≤ℤ◌}
+use Rattle.std.proofs.Common.{Bool, true, false, IsTrue, if◌then◌else◌, sym, ◌∙◌, arith}
 use Rattle.std.specs.Int.{int_max, int_min}
 use Rattle.std.specs.Int.RustNames.{int_lt}
 use Rattle.std.proofs.lemmas.Bool.{false≢true}
@@ -8,15 +8,9 @@ use Rattle.std.proofs.lemmas.Int.{by_lt_z, clamps, ints}
 use Rattle.cam_units.specs.declared.point.Point.{Point}
 use Rattle.cam_units.specs.declared.point.Spot.{Spot}
 use Rattle.cam_shapes.specs.Edge.{crosses_ray, edge, is_above, is_left, is_right}
-use Rattle.cam_shapes.specs.Sides.{differ}
-use Rattle.cam_shapes.proofs.Boxes.{tells_left, tells_right}
 use Rattle.cam_shapes.proofs.Crossings.{not_under, under}
-use Rattle.cam_apertures.proofs.Painting.{through}
-use Rattle.cam_objects.specs.Image.{relative}
-use Rattle.cam_tiles.specs.declared.grid.Grid.{Grid}
 use Rattle.cam_tiles.specs.declared.masks.heights.Heights.{Heights}
 use Rattle.cam_tiles.specs.Machinery.Masks.{IsWithin}
-use Rattle.cam_tiles.specs.Tiles.{centre_in}
 
 -- a number that only one of two others exceeds lies between them
 apart_between : (y a b low high : ℤ) → low ≡ int_min a b → high ≡ int_max a b -ℤ pos 1

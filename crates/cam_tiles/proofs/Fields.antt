@@ -1,15 +1,14 @@
 -- Rows of columns whose centres are places of the board, or as they are seen from a point of it.
-use Rattle.std.proofs.Common.{◌≡◌, ℕ, ◌+◌, ◌*◌, ◌<◌, ◌≤◌, ℤ, pos, ◌-ℤ◌, ◌+ℤ◌, ◌*ℤ◌, List, length, slice_index, IsTrue, ◌↔◌, refl, ap, sym}
-use Rattle.std.proofs.Common.{◌∙◌, FitsSigned, w64, arith}
-use Rattle.std.proofs.lemmas.Int.{ints, to_z-of_z}
+use Rattle.std.proofs.Common.{◌≡◌, ℕ, ◌+◌, ◌*◌, ◌≤◌, ℤ, pos, ◌-ℤ◌, ◌+ℤ◌, ◌*ℤ◌, List, IsTrue, ◌↔◌, refl}
+use Rattle.std.proofs.Common.{arith}
+use Rattle.std.proofs.lemmas.Int.{ints}
 use Rattle.cam_apertures.proofs.Painting.{through}
 use Rattle.cam_units.specs.Board.{IsInReach, IsOnBoard, IsPlace}
 use Rattle.cam_units.specs.declared.point.Point.{Point}
 use Rattle.cam_units.specs.declared.point.Spot.{Spot}
 use Rattle.cam_objects.specs.Image.{relative}
 use Rattle.cam_rows.specs.Marks.{is_marked}
-use Rattle.cam_rows.specs.Runs.{AreWideRows, IsWideRow}
-use Rattle.cam_rows.specs.Rows.{row_below}
+use Rattle.cam_rows.specs.Runs.{AreWideRows}
 use Rattle.cam_tiles.specs.declared.grid.Grid.{Grid}
 use Rattle.cam_tiles.specs.declared.masks.join.Join.{Join}
 use Rattle.cam_tiles.specs.Machinery.Levels.{height, levels_of}
@@ -19,9 +18,7 @@ use Rattle.cam_tiles.specs.Machinery.Turning.{IsField, MarksCentres, seen}
 use Rattle.cam_tiles.specs.Tiles.{IsGrid, centre_in}
 use Rattle.cam_tiles.proofs.JoinedMarks.{joined_with}
 use Rattle.cam_tiles.proofs.LevelRows.{are_heights_seen, in_reach, of_grid}
-use Rattle.cam_tiles.proofs.RunColumns.{below_top, top_of}
-use Rattle.cam_tiles.proofs.SeenRows.{seen_kept}
-use Rattle.cam_tiles.proofs.StepLemmas.{first_x, first_y}
+use Rattle.cam_tiles.proofs.RunColumns.{below_top}
 
 near_reach : (s : Spot) → IsPlace s → IsInReach s
 near_reach s place = record { x = omega (arith, place.x); y = omega (arith, place.y) }

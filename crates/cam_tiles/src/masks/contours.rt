@@ -78,13 +78,7 @@ impl Grid {
 }
 
 /// Counts the inside of a contour.
-fn turn_contour(
-    marks: &mut [u64],
-    grid: &Grid,
-    columns: u32,
-    contour: &Contour,
-    placing: Placing,
-)
+fn turn_contour(marks: &mut [u64], grid: &Grid, columns: u32, contour: &Contour, placing: Placing)
     requires grid { IsField grid.now columns }
     requires wide { AreWide columns marks.old }
     requires contour { IsPlaceable placing.turn placing.offset contour.now }

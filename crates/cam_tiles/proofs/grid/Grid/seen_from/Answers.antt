@@ -1,4 +1,4 @@
-use Rattle.std.proofs.Common.{◌≡◌, pos, ◌*ℤ◌, ◌-ℤ◌, FitsSigned, w64, rules, subst, sym, arith}
+use Rattle.std.proofs.Common.{pos, ◌*ℤ◌, ◌-ℤ◌, FitsSigned, w64, rules, subst, sym, arith}
 use Rattle.std.proofs.lemmas.Int.{ints, to_z-of_z}
 use Rattle.cam_tiles.specs.declared.grid.Grid.{Grid}
 use Rattle.cam_tiles.specs.Machinery.Turning.{IsField}

@@ -1,4 +1,4 @@
-use Rattle.std.proofs.Common.{List, [], ◌∷◌, ◌≤◌, FitsSigned, w64, rules, arith}
+use Rattle.std.proofs.Common.{[], ◌∷◌, FitsSigned, w64, rules, arith}
 use Rattle.std.proofs.lemmas.Int.{to_z-of_z}
 use Rattle.cam_objects.specs.Leaves.{Filled, leaf}
 use Rattle.cam_tiles.proofs.PaintedSwaths.{all_painted, none_painted, painted_between}
