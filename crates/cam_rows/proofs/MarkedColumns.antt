@@ -6,12 +6,11 @@ use Rattle.std.specs.Int.{bit_at}
 use Rattle.std.specs.Int.RustNames.{bit_xor}
 use Rattle.std.proofs.Math.ListN.{length-set}
 use Rattle.std.proofs.lemmas.Bool.{cases_eq, cases_lt}
-use Rattle.std.proofs.lemmas.Nat.{one_shl, shr-shr}
-use Rattle.std.proofs.lemmas.Nat.Bits.{bit_at-lt, bit_at-pow_other, bit_at-pow_same, bit_at-zero}
-use Rattle.std.proofs.lemmas.Nat.Bits.{bit_at_above, bit_at_lowest, bit_at_ones, bit_at_xor}
+use Rattle.std.proofs.lemmas.Nat.{shr-shr}
+use Rattle.std.proofs.lemmas.Nat.Bits.{bit_at-lt, bit_at-zero, bit_at_lowest, bit_at_ones, bit_at_ones_above, bit_at_xor}
 use Rattle.cam_shapes.specs.Sides.{differ}
-use Rattle.cam_rows.specs.Machinery.Spreading.{IsRowSpread}
-use Rattle.cam_rows.specs.Marks.{AreSpread, TurnsRow, is_marked, is_odd, is_set, is_turned}
+use Rattle.cam_rows.specs.Machinery.Spreading.{AreRowsSpread}
+use Rattle.cam_rows.specs.Marks.{AreSpread, TurnsRow, is_marked, is_odd, is_set, is_turned, turns_past}
 
 -- ---- exactly one of two
 
@@ -27,18 +26,6 @@ differ_none true = refl
 differ_none false = refl
 
 -- ---- columns side by side
-
--- those of two parts
-pub odd_parts : (f : ℕ → Bool) (n m c : ℕ) → is_odd f (n + m) c ≡ differ (is_odd f n c) (is_odd f m (c + n))
-odd_parts f zero m c =
-    let here : 0 + m ≡ m = omega arith in
-    let there : c + 0 ≡ c = omega arith in
-    rw (here, there) refl
-odd_parts f (suc n) m c =
-    let here : suc n + m ≡ suc (n + m) = omega arith in
-    let there : (c + 1) + n ≡ c + suc n = omega arith in
-    rw here (ap (differ (f c)) (odd_parts f n m (c + 1) ∙ ap (λ d. differ (is_odd f n (c + 1)) (is_odd f m d)) there)
-    ∙ sym (differ_apart (f c) (is_odd f n (c + 1)) (is_odd f m (c + suc n))))
 
 -- by another test that says the same
 pub odd_alike : (f g : ℕ → Bool) (n c d : ℕ) → ((j : ℕ) → j < n → f (c + j) ≡ g (d + j)) → is_odd f n c ≡ is_odd g n d
@@ -77,32 +64,6 @@ set_in_xor a b i = one_of (bit_at a i) (bit_at b i) (bit_at_xor a b i) (bit_at-l
 set_in_shr : (n places i : ℕ) → is_set (n / 2 ^ places) i ≡ is_set n (i + places)
 set_in_shr n places i = ap (λ m. m % 2 == 1) (shr-shr n places i ∙ ap (λ k. n / 2 ^ k) (omega arith))
 
--- twice as many columns by a shift
-pub odd_twice : (f : ℕ → Bool) (row s : ℕ) → ((j : ℕ) → is_set row j ≡ is_odd f s j) → (i : ℕ)
-    → is_set (bit_xor row (row / 2 ^ s)) i ≡ is_odd f (s + s) i
-odd_twice f row s told i =
-    set_in_xor row (row / 2 ^ s) i
-    ∙ ap (differ (is_set row i)) (set_in_shr row s i)
-    ∙ ap (λ b. differ b (is_set row (i + s))) (told i)
-    ∙ ap (differ (is_odd f s i)) (told (i + s))
-    ∙ sym (odd_parts f s s i)
-
-pub odd_one : (f : ℕ → Bool) (i : ℕ) → f i ≡ is_odd f 1 i
-odd_one f i = sym (differ_none (f i))
-
-past_word : (word j : ℕ) → word < 2 ^ 64 → 64 ≤ j → is_set word j ≡ false
-past_word word j fits past = ap (λ b. b == 1) (bit_at_above word 64 j fits past)
-
--- of 64 bits from one on, those behind the last count nothing
-pub odd_in_word : (word i : ℕ) → word < 2 ^ 64 → i < 64 → is_odd (is_set word) 64 i ≡ is_odd (is_set word) (64 - i) i
-odd_in_word word i fits within =
-    let whole : 64 ≡ 64 - i + i = omega arith in
-    ap (λ n. is_odd (is_set word) n i) whole
-    ∙ odd_parts (is_set word) (64 - i) i i
-    ∙ ap (differ (is_odd (is_set word) (64 - i) i))
-    (none_odd (is_set word) i (i + (64 - i)) (λ j h. past_word word j fits (omega arith)))
-    ∙ differ_none (is_odd (is_set word) (64 - i) i)
-
 -- ---- one mark more
 
 swapped : (a b : Bool) → differ (differ a true) b ≡ differ (differ a b) true
@@ -131,12 +92,16 @@ odd_flipped f g p (suc n) c others flip h k = elim (cases_eq c p) [
 pub odd_kept : (f g : ℕ → Bool) (p n c : ℕ) → ((j : ℕ) → j ≢ p → g j ≡ f j) → p < c → is_odd g n c ≡ is_odd f n c
 odd_kept f g p n c others before = odd_alike g f n c c (λ j _. others (c + j) (λ e. omega (arith, e, before)))
 
--- the word with one bit
-one_bit : (b i : ℕ) → b < 64 → i ≡ b → is_set (1 * 2 ^ b % 2 ^ 64) i ≡ true
-one_bit b i short e = rw (one_shl b 64 short, e) (ap (λ x. x == 1) (bit_at-pow_same b))
+-- the bits of a word up to one
+low_bit : (b i : ℕ) → b < 64 → i ≤ b → is_set ((2 ^ 64 - 1) / 2 ^ (63 - b)) i ≡ true
+low_bit b i short before =
+    set_in_shr (2 ^ 64 - 1) (63 - b) i
+    ∙ ap (λ x. x == 1) (bit_at_ones 64 (i + (63 - b)) (omega (arith, short, before)))
 
-no_other_bit : (b i : ℕ) → b < 64 → i ≢ b → is_set (1 * 2 ^ b % 2 ^ 64) i ≡ false
-no_other_bit b i short apart = rw (one_shl b 64 short) (ap (λ x. x == 1) (bit_at-pow_other b i apart))
+no_low_bit : (b i : ℕ) → b < 64 → b < i → is_set ((2 ^ 64 - 1) / 2 ^ (63 - b)) i ≡ false
+no_low_bit b i short behind =
+    set_in_shr (2 ^ 64 - 1) (63 - b) i
+    ∙ ap (λ x. x == 1) (bit_at_ones_above 64 (i + (63 - b)) (omega (arith, short, behind)))
 
 held_turned : (new was : Bool) (Held : Type 0) → Held → new ≡ differ was true
     → IsTrue new ↔ ((IsTrue was × (Held → ⊥)) ⊎ ((IsTrue was → ⊥) × Held))
@@ -152,51 +117,88 @@ module _ (marks : List ℕ) (row p : ℕ) (low : row < 64) (whole : length marks
   abbrev word : ℕ
   word = p / 64 * 64 + row
 
-  abbrev marked : List ℕ
-  marked = slice_set marks word (bit_xor (slice_index marks word) (1 * 2 ^ (p % 64) % 2 ^ 64))
+  abbrev turning : ℕ
+  turning = (2 ^ 64 - 1) / 2 ^ (63 - p % 64)
 
-  short : p % 64 < 64
-  short = omega arith
+  abbrev marked : List ℕ
+  marked = slice_set marks word (bit_xor (slice_index marks word) turning)
 
   in_marks : word < length marks
   in_marks = omega (arith, low, whole, within)
 
-  marked_here : is_marked marked row p ≡ differ (is_marked marks row p) true
-  marked_here =
-      let same : 64 * (p / 64) + row ≡ p / 64 * 64 + row = omega arith in
-      let inside = in_marks in
-      rw (same, get_or-set_same) (set_in_xor (slice_index marks word) (1 * 2 ^ (p % 64) % 2 ^ 64) (p % 64)
-      ∙ ap (differ (is_set (slice_index marks word) (p % 64))) (one_bit (p % 64) (p % 64) short refl))
+  here : (i : ℕ) → is_set (slice_index marked word) i ≡ differ (is_set (slice_index marks word) i) (is_set turning i)
+  here i = let inside = in_marks in rw get_or-set_same (set_in_xor (slice_index marks word) turning i)
 
-  marked_other : (r c : ℕ) → r < 64 → (r ≡ row → c ≡ p → ⊥) → is_marked marked r c ≡ is_marked marks r c
-  marked_other r c small apart = elim (cases_eq (64 * (c / 64) + r) word) [
-    | inl same ↦
-        let inside = in_marks in
-        let tile : r ≡ row = omega (arith, same, small, low) in
-        let other : c % 64 ≢ p % 64 = λ e. apart tile (omega (arith, same, small, low, e)) in
-        rw (same, get_or-set_same) (set_in_xor (slice_index marks word) (1 * 2 ^ (p % 64) % 2 ^ 64) (c % 64)
-        ∙ ap (differ (is_set (slice_index marks word) (c % 64))) (no_other_bit (p % 64) (c % 64) short other)
-        ∙ differ_none (is_set (slice_index marks word) (c % 64)))
-    | inr elsewhere ↦ rw get_or-set_other refl
-  ]
+  elsewhere : (k : ℕ) → k ≢ word → slice_index marked k ≡ slice_index marks k
+  elsewhere k apart = get_or-set_other marks word k _ _ apart
 
   size : length marked ≡ length marks
   size = length-set marks word _
 
-  turned_here : (c : ℕ) → c ≤ p → is_turned marked row c ≡ differ (is_turned marks row c) true
-  turned_here c before =
-      rw size (odd_flipped (is_marked marks row) (is_marked marked row) p (length marks - c) c
-      (λ j apart. marked_other row j low (λ _ e. apart e)) marked_here before (omega (arith, within, before)))
+  -- words that are as they were, and so tiles
+  tiles_kept : (r n t : ℕ) → ((j : ℕ) → 64 * (t + j) + r ≢ word)
+      → is_odd (turns_past marked r) n t ≡ is_odd (turns_past marks r) n t
+  tiles_kept r n t apart =
+      odd_alike (turns_past marked r) (turns_past marks r) n t t
+      (λ j _. ap (λ w. is_set w 0) (elsewhere (64 * (t + j) + r) (apart j)))
 
-  turned_right : (c : ℕ) → p < c → is_turned marked row c ≡ is_turned marks row c
-  turned_right c after =
-      rw size (odd_kept (is_marked marks row) (is_marked marked row) p (length marks - c) c
-      (λ j apart. marked_other row j low (λ _ e. apart e)) after)
+  -- what the tiles right of a column's turn over
+  abbrev past : List ℕ → ℕ → ℕ → Bool
+  past words r c = is_odd (turns_past words r) (length marks / 64 - (c / 64 + 1)) (c / 64 + 1)
+
+  turned_kept : (r c : ℕ) → is_marked marked r c ≡ is_marked marks r c
+      → ((j : ℕ) → 64 * (c / 64 + 1 + j) + r ≢ word) → is_turned marked r c ≡ is_turned marks r c
+  turned_kept r c same apart =
+      rw size (ap (λ b. differ b (past marked r c)) same
+      ∙ ap (differ (is_marked marks r c)) (tiles_kept r (length marks / 64 - (c / 64 + 1)) (c / 64 + 1) apart))
 
   turned_elsewhere : (r c : ℕ) → r < 64 → r ≢ row → is_turned marked r c ≡ is_turned marks r c
   turned_elsewhere r c small apart =
-      rw size (odd_alike (is_marked marked r) (is_marked marks r) (length marks - c) c c
-      (λ j _. marked_other r (c + j) small (λ e _. apart e)))
+      turned_kept r c
+      (ap (λ w. is_set w (c % 64)) (elsewhere (64 * (c / 64) + r) (λ e. apart (omega (arith, e, small, low)))))
+      (λ j e. apart (omega (arith, e, small, low)))
+
+  turned_right : (c : ℕ) → p < c → is_turned marked row c ≡ is_turned marks row c
+  turned_right c after =
+      turned_kept row c (elim (cases_eq (c / 64) (p / 64)) [
+        | inl same ↦
+            let which : 64 * (c / 64) + row ≡ word = omega (arith, same) in
+            rw which (here (c % 64)
+            ∙ ap (differ (is_set (slice_index marks word) (c % 64)))
+            (no_low_bit (p % 64) (c % 64) (omega arith) (omega (arith, same, after)))
+            ∙ differ_none (is_set (slice_index marks word) (c % 64)))
+        | inr apart ↦
+            ap (λ w. is_set w (c % 64)) (elsewhere (64 * (c / 64) + row) (λ e. apart (omega (arith, e))))
+      ])
+      (λ j e. omega (arith, e, after))
+
+  turned_here : (c : ℕ) → c ≤ p → is_turned marked row c ≡ differ (is_turned marks row c) true
+  turned_here c before = elim (cases_eq (c / 64) (p / 64)) [
+    | inl same ↦
+        let which : 64 * (c / 64) + row ≡ word = omega (arith, same) in
+        let flip : is_marked marked row c ≡ differ (is_marked marks row c) true =
+        rw which (here (c % 64)
+        ∙ ap (differ (is_set (slice_index marks word) (c % 64)))
+        (low_bit (p % 64) (c % 64) (omega arith) (omega (arith, same, before)))) in
+        rw size (ap (λ b. differ b (past marked row c)) flip
+        ∙ ap (differ (differ (is_marked marks row c) true))
+        (tiles_kept row (length marks / 64 - (c / 64 + 1)) (c / 64 + 1) (λ j e. omega (arith, e, same)))
+        ∙ swapped (is_marked marks row c) (past marks row c))
+    | inr apart ↦
+        let kept : is_marked marked row c ≡ is_marked marks row c =
+        ap (λ w. is_set w (c % 64)) (elsewhere (64 * (c / 64) + row) (λ e. apart (omega (arith, e)))) in
+        let which : 64 * (p / 64) + row ≡ word = omega arith in
+        let flip : turns_past marked row (p / 64) ≡ differ (turns_past marks row (p / 64)) true =
+        rw which (here 0 ∙ ap (differ (is_set (slice_index marks word) 0))
+        (low_bit (p % 64) 0 (omega arith) (omega arith))) in
+        rw size (ap (λ b. differ b (past marked row c)) kept
+        ∙ ap (differ (is_marked marks row c))
+        (odd_flipped (turns_past marks row) (turns_past marked row) (p / 64) (length marks / 64 - (c / 64 + 1))
+        (c / 64 + 1)
+        (λ j other. ap (λ w. is_set w 0) (elsewhere (64 * j + row) (λ e. other (omega (arith, e))))) flip
+        (omega (arith, before, apart)) (omega (arith, whole, within, before, apart)))
+        ∙ sym (differ_apart (is_marked marks row c) (past marks row c) true))
+  ]
 
   -- a mark turns over its own column and all left of it
   pub turns_before : (end : ℕ) → p + 1 ≡ end → TurnsRow row (λ c. c < end) marks marked
@@ -215,95 +217,89 @@ turns_none row marks r c small inside = other_kept _ _ _ (λ held. omega (arith,
 
 -- ---- marks that are spread
 
--- the bits of a word, and what is carried to it
-pub word_spread : (f : ℕ → Bool) (word turned carry n c i : ℕ) → i < 64
-    → ((j : ℕ) → j < 64 → f (c + j) ≡ is_set word j)
-    → is_set turned i ≡ is_odd (is_set word) (64 - i) i → is_set carry i ≡ is_odd f n (c + 64)
-    → is_set (bit_xor turned carry) i ≡ is_odd f (n + (64 - i)) (c + i)
-word_spread f word turned carry n c i small bits told carried =
-    let whole : n + (64 - i) ≡ (64 - i) + n = omega arith in
-    let behind : (c + i) + (64 - i) ≡ c + 64 = omega arith in
-    let own : is_odd f (64 - i) (c + i) ≡ is_odd (is_set word) (64 - i) i =
-    odd_alike f (is_set word) (64 - i) (c + i) i (λ j h.
-    let on : c + (i + j) ≡ (c + i) + j = omega arith in rw on at (bits (i + j) (omega (arith, h)))) in
-    set_in_xor turned carry i
-    ∙ ap (λ b. differ b (is_set carry i)) told
-    ∙ ap (differ (is_odd (is_set word) (64 - i) i)) carried
-    ∙ ap (λ b. differ b (is_odd f n (c + 64))) (sym own)
-    ∙ ap (λ d. differ (is_odd f (64 - i) (c + i)) (is_odd f n d)) (sym behind)
-    ∙ sym (odd_parts f (64 - i) n (c + i))
-    ∙ ap (λ m. is_odd f m (c + i)) (sym whole)
-
--- words of a row that are passed, from the right
-pub record ArePassed (row passed : ℕ) (old new : List ℕ) (carry : ℕ) : Type 0 where
-  pub size : length new ≡ length old
-  pub done : (c : ℕ) → length old ≤ c + 64 * passed → c < length old → is_marked new row c ≡ is_turned old row c
-  pub kept : (r c : ℕ) → r < 64 → (r ≢ row) ⊎ (c + 64 * passed < length old) → is_marked new r c ≡ is_marked old r c
-  pub carried : (i : ℕ) → i < 64
-      → is_set carry i ≡ is_odd (is_marked old row) (64 * passed) (length old - 64 * passed)
-
-pub none_passed : (row carry : ℕ) (marks : List ℕ) → carry ≡ 0 → ArePassed row 0 marks marks carry
-none_passed row carry marks none = record {
-  size = refl;
-  done = λ c late within. absurd (omega (arith, late, within));
-  kept = λ _ _ _ _. refl;
-  carried = λ i small. rw none (ap (λ x. x == 1) (bit_at-zero i));
+-- no row of a tile is spread yet
+pub no_row : (tile : ℕ) (marks : List ℕ) → AreRowsSpread tile 0 marks marks
+no_row tile marks = record {
+  done = λ row i early _. absurd (omega (arith, early));
+  others = λ _ _. refl;
 }
 
-pub next_passed : (row passed tile : ℕ) (old new : List ℕ) (carry turned next : ℕ) → row < 64
-    → length old ≡ 64 * (tile + 1 + passed) → ArePassed row passed old new carry
-    → ((i : ℕ) → i < 64
-    → is_set turned i ≡ is_odd (is_set (slice_index new (64 * tile + row))) (64 - i) i)
-    → ((i : ℕ) → i < 64 → is_set next i ≡ is_set (bit_xor turned carry) 0)
-    → ArePassed row (passed + 1) old (slice_set new (64 * tile + row) (bit_xor turned carry)) next
-next_passed row passed tile old new carry turned next low size so_far told is_next =
-    let word = 64 * tile + row in
-    let in_new : word < length new = omega (arith, low, size, so_far.size) in
-    let bits : (j : ℕ) → j < 64 → is_marked old row (64 * tile + j) ≡ is_set (slice_index new word) j = λ j small.
-    let here = so_far.kept row (64 * tile + j) low (inr (omega (arith, size, small))) in
-    let which : 64 * ((64 * tile + j) / 64) + row ≡ word = omega (arith, small) in
-    let bit : (64 * tile + j) % 64 ≡ j = omega (arith, small) in
-    sym here ∙ rw (which, bit) refl in
-    let spread : (i : ℕ) → i < 64
-    → is_set (bit_xor turned carry) i ≡ is_odd (is_marked old row) (64 * passed + (64 - i)) (64 * tile + i) = λ i small.
-    let start : length old - 64 * passed ≡ 64 * tile + 64 = omega (arith, size) in
-    word_spread (is_marked old row) (slice_index new word) turned carry (64 * passed) (64 * tile) i small bits
-    (told i small) (rw start at (so_far.carried i small)) in
+pub next_row : (tile row word right carry : ℕ) (old new : List ℕ) → word ≡ 64 * tile + row
+    → right ≡ 64 * (tile + 1) + row → word < length new → row < 64 → AreRowsSpread tile row old new
+    → ((i : ℕ) → i < 64 → is_set carry i ≡ is_set (slice_index new right) 0)
+    → AreRowsSpread tile (row + 1) old (slice_set new word (bit_xor (slice_index new word) carry))
+next_row tile row word right carry old new is is_right within low so_far carried =
+    let own : slice_index new word ≡ slice_index old word = so_far.others word (inr (omega (arith, is))) in
+    let past : slice_index new right ≡ slice_index old (64 * (tile + 1) + row) =
+    so_far.others right (inr (omega (arith, is_right, low))) ∙ ap (slice_index old) is_right in
     record {
-      size = length-set new word _ ∙ so_far.size;
-      done = λ c late within. elim (cases_eq (c / 64) tile) [
-        | inl is ↦
-            let which : 64 * (c / 64) + row ≡ word = omega (arith, is) in
-            let place : 64 * tile + c % 64 ≡ c = omega (arith, is) in
-            let count : 64 * passed + (64 - c % 64) ≡ length old - c = omega (arith, size, is) in
-            let here = spread (c % 64) (omega arith) in
-            rw (which, get_or-set_same) (rw (place, count) at here)
+      done = λ r i early small. elim (cases_eq r row) [
+        | inl same ↦
+            let which : 64 * tile + r ≡ word = omega (arith, is, same) in
+            rw (which, get_or-set_same) (set_in_xor (slice_index new word) carry i
+            ∙ ap (λ w. differ (is_set w i) (is_set carry i)) own
+            ∙ ap (differ (is_set (slice_index old word) i))
+            (carried i small ∙ ap (λ w. is_set w 0) past ∙ rw same refl))
         | inr apart ↦
-            let other : 64 * (c / 64) + row ≢ word = λ e. apart (omega (arith, e)) in
-            rw get_or-set_other (so_far.done c (omega (arith, late, size, apart, within)) within)
+            let other : 64 * tile + r ≢ word = λ e. apart (omega (arith, e, is)) in
+            rw get_or-set_other (so_far.done r i (omega (arith, early, apart)) small)
       ];
-      kept = λ r c small either.
-          let other : 64 * (c / 64) + r ≢ word = λ e. elim either [
-            | inl apart ↦ apart (omega (arith, e, small, low))
-            | inr before ↦ omega (arith, e, small, low, before, size)
+      others = λ k either.
+          let other : k ≢ word = λ e. elim either [
+            | inl before ↦ omega (arith, e, is, before)
+            | inr behind ↦ omega (arith, e, is, behind)
           ] in
-          rw get_or-set_other (so_far.kept r c small (elim either [
-            | inl apart ↦ inl apart
-            | inr before ↦ inr (omega (arith, before))
+          rw get_or-set_other (so_far.others k (elim either [
+            | inl before ↦ inl before
+            | inr behind ↦ inr (omega (arith, behind))
           ]));
-      carried = λ i small.
-          let here = spread 0 (omega arith) in
-          let count : 64 * passed + (64 - 0) ≡ 64 * (passed + 1) = omega arith in
-          let place : 64 * tile + 0 ≡ length old - 64 * (passed + 1) = omega (arith, size) in
-          is_next i small ∙ rw (count, place) at here;
     }
 
-pub all_passed : (row passed carry : ℕ) (old new : List ℕ) → length old ≤ 64 * passed
-    → ArePassed row passed old new carry → IsRowSpread row old new
-all_passed row passed carry old new all so_far = record {
-  here = λ c within. so_far.done c (omega (arith, all)) within;
-  others = λ r c small apart. so_far.kept r c small (inl apart);
+-- tiles that are spread, from one on to the last
+pub record AreTilesSpread (first : ℕ) (old new : List ℕ) : Type 0 where
+  pub size : length new ≡ length old
+  pub done : (row c : ℕ) → row < 64 → 64 * first ≤ c → c < length old → is_marked new row c ≡ is_turned old row c
+  pub kept : (word : ℕ) → word < 64 * first → slice_index new word ≡ slice_index old word
+
+-- the last one has none right of it
+pub last_tile : (first : ℕ) (marks : List ℕ) → first ≡ length marks / 64 - 1 → length marks % 64 ≡ 0
+    → AreTilesSpread first marks marks
+last_tile first marks is whole = record {
+  size = refl;
+  done = λ row c low late within.
+      let none : length marks / 64 - (c / 64 + 1) ≡ 0 = omega (arith, is, whole, late, within) in
+      rw none (sym (differ_none (is_marked marks row c)));
+  kept = λ _ _. refl;
 }
+
+pub next_tile : (tile first : ℕ) (old between new : List ℕ) → first ≡ tile + 1 → 64 * first + 64 ≤ length old
+    → length new ≡ length between → AreTilesSpread first old between → AreRowsSpread tile 64 between new
+    → AreTilesSpread tile old new
+next_tile tile first old between new is room size so_far spread = record {
+  size = size ∙ so_far.size;
+  done = λ row c low late within. elim (cases_eq (c / 64) tile) [
+    | inl same ↦
+        let own : slice_index between (64 * tile + row) ≡ slice_index old (64 * tile + row) =
+        so_far.kept (64 * tile + row) (omega (arith, is, low)) in
+        let right = so_far.done row (64 * (tile + 1)) low (omega (arith, is)) (omega (arith, is, room)) in
+        let which : 64 * (tile + 1) / 64 ≡ tile + 1 = omega arith in
+        let bit : 64 * (tile + 1) % 64 ≡ 0 = omega arith in
+        let rest : length old / 64 - (tile + 1) ≡ suc (length old / 64 - (tile + 1 + 1)) =
+        omega (arith, is, room) in
+        rw (same, rest) (spread.done row (c % 64) low (omega arith)
+        ∙ ap (λ w. differ (is_set w (c % 64)) (turns_past between row (tile + 1))) own
+        ∙ ap (differ (is_set (slice_index old (64 * tile + row)) (c % 64))) (rw (which, bit) at right))
+    | inr apart ↦
+        ap (λ w. is_set w (c % 64))
+        (spread.others (64 * (c / 64) + row) (inr (omega (arith, late, apart))))
+        ∙ so_far.done row c low (omega (arith, is, late, apart)) within
+  ];
+  kept = λ word before.
+      spread.others word (inl before) ∙ so_far.kept word (omega (arith, is, before));
+}
+
+pub all_spread : (first : ℕ) (old new : List ℕ) → first ≡ 0 → AreTilesSpread first old new → AreSpread old new
+all_spread first old new none so_far row c low within = so_far.done row c low (omega (arith, none)) within
 
 -- the lowest bit
 pub lowest_carried : (word carry i : ℕ) → i < 64 → word % 2 ≡ 1 → carry ≡ 2 ^ 64 - 1 → is_set carry i ≡ is_set word 0
@@ -315,37 +311,3 @@ pub nothing_carried : (word carry i : ℕ) → (word % 2 ≡ 1 → ⊥) → carr
 nothing_carried word carry i none e =
     let even : word % 2 ≡ 0 = omega (arith, none) in
     rw e (ap (λ x. x == 1) (bit_at-zero i)) ∙ sym (ap (λ x. x == 1) (bit_at_lowest word ∙ even))
-
--- rows that are spread, from the top one on
-pub record AreRowsSpread (rows : ℕ) (old new : List ℕ) : Type 0 where
-  pub size : length new ≡ length old
-  pub done : (r c : ℕ) → r < rows → c < length old → is_marked new r c ≡ is_turned old r c
-  pub kept : (r c : ℕ) → rows ≤ r → r < 64 → is_marked new r c ≡ is_marked old r c
-
-pub no_row : (marks : List ℕ) → AreRowsSpread 0 marks marks
-no_row marks = record {
-  size = refl;
-  done = λ r c early _. absurd (omega (arith, early));
-  kept = λ _ _ _ _. refl;
-}
-
-pub next_row : (row : ℕ) (old between new : List ℕ) → row < 64 → length new ≡ length between
-    → AreRowsSpread row old between → IsRowSpread row between new → AreRowsSpread (row + 1) old new
-next_row row old between new low size so_far spread = record {
-  size = size ∙ so_far.size;
-  done = λ r c early within. elim (cases_eq r row) [
-    | inl is ↦
-        let inside : c < length between = omega (arith, within, so_far.size) in
-        rw is (spread.here c inside
-        ∙ ap (λ n. is_odd (is_marked between row) (n - c) c) so_far.size
-        ∙ odd_alike (is_marked between row) (is_marked old row) (length old - c) c c
-        (λ j _. so_far.kept row (c + j) (omega arith) low))
-    | inr apart ↦
-        spread.others r c (omega (arith, early, low)) apart ∙ so_far.done r c (omega (arith, early, apart)) within
-  ];
-  kept = λ r c late small.
-      spread.others r c small (λ e. omega (arith, late, e)) ∙ so_far.kept r c (omega (arith, late)) small;
-}
-
-pub all_spread : (rows : ℕ) (old new : List ℕ) → 64 ≤ rows → AreRowsSpread rows old new → AreSpread old new
-all_spread rows old new all so_far row c low within = so_far.done row c (omega (arith, low, all)) within

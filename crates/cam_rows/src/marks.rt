@@ -1,22 +1,10 @@
-//! Marks in rows of tiles side by side: each turns over the columns left of it, and its own.
+//! Marks in rows of tiles side by side: each turns over the columns left of it, and its own. Those of its tile it turns over
+//! at once, and by its first column it tells the tiles left of it, so that no word is gone through bit by bit.
 
-ghost use Rattle.std.specs.Prelude.{◌≡◌, ◌+◌, ◌-◌, ◌%◌, ◌<◌, ◌≤◌, ℕ, length, slice_index};
+ghost use Rattle.std.specs.Prelude.{◌≡◌, ◌+◌, ◌*◌, ◌%◌, ◌<◌, ◌≤◌, ℕ, length, slice_index};
 ghost use Rattle.cam_rows.specs.Runs.{IsInRun};
-ghost use Rattle.cam_rows.specs.Machinery.Spreading.{IsRowSpread};
-ghost use Rattle.cam_rows.specs.Marks.{AreSpread, TurnsRow, TurnsRows, is_odd, is_set};
-
-/// The row whose bit i tells whether the bits of another row from i on are odd in number: six shifts for all of them.
-#[inline]
-fn odd_from(marks: u64) -> u64
-    ensures { (i : ℕ) → i < 64 → is_set result i ≡ is_odd (is_set marks) (64 - i) i }
-{
-    let of_two = marks ^ (marks >> 1);
-    let of_four = of_two ^ (of_two >> 2);
-    let of_eight = of_four ^ (of_four >> 4);
-    let of_sixteen = of_eight ^ (of_eight >> 8);
-    let of_half = of_sixteen ^ (of_sixteen >> 16);
-    of_half ^ (of_half >> 32)
-}
+ghost use Rattle.cam_rows.specs.Machinery.Spreading.{AreRowsSpread};
+ghost use Rattle.cam_rows.specs.Marks.{AreSpread, TurnsRow, TurnsRows, is_set};
 
 /// Turns over the columns of a row before an end, by one mark. A tile has 64 words, one for each of its rows from the
 /// top, and its columns are their bits.
@@ -32,7 +20,7 @@ pub fn mark_end(marks: &mut [u64], row: u32, end: u32)
     }
     let column = end - 1;
     let word = (column / 64 * 64 + row) as usize;
-    marks[word] ^= 1 << (column % 64);
+    marks[word] ^= u64::MAX >> (63 - column % 64);
 }
 
 /// Turns over the columns before an end in each of rows one below another, from one on: by one mark in each, as
@@ -77,30 +65,26 @@ fn mark_run(marks: &mut [u64], row: u32, first: u32, end: u32)
     }
 }
 
-/// Marks each column that some marks turn over, and no other: where the marks at it and right of it are odd in number.
-/// Each word is gone through once.
+/// Marks each column that some marks turn over, and no other: each tile is turned over where the first column of the one
+/// right of it is. Each word is gone through once.
 pub fn spread_marks(marks: &mut [u64])
     requires { length marks.old % 64 ≡ 0 }
     ensures { AreSpread marks.old marks.new }
 {
-    for row in 0..64 {
-        spread_row(row, marks);
+    let tiles = marks.len() / 64;
+    for passed in 1..tiles {
+        spread_to(marks, tiles - (passed + 1));
     }
 }
 
-/// The same in one row, from the right to the left: what all words right of one make of its columns is carried to it.
-fn spread_row(row: usize, marks: &mut [u64])
-    requires row { row < 64 }
-    requires tiles { length marks.old % 64 ≡ 0 }
-    ensures { IsRowSpread row marks.old marks.new }
+/// Turns over those rows of a tile of which the first column of the tile right of it is marked.
+fn spread_to(marks: &mut [u64], tile: usize)
+    requires { 64 * tile + 128 ≤ length marks.old }
+    ensures { AreRowsSpread tile 64 marks.old marks.new }
 {
-    let tiles = marks.len() / 64;
-    let mut carry = 0;
-    for passed in 0..tiles {
-        let word = 64 * (tiles - 1 - passed) + row;
-        let turned = odd_from(marks[word]) ^ carry;
-        marks[word] = turned;
-        carry = carried(turned);
+    let first = 64 * tile;
+    for row in 0..64 {
+        marks[first + row] ^= carried(marks[first + 64 + row]);
     }
 }
 

@@ -1,17 +1,19 @@
 -- Filed segments, counted one after another by marks: some of them by rows that are turned over whole in the end.
-use Rattle.std.proofs.Common.{◌≡◌, ◌↔◌, ℕ, ◌+◌, ◌-◌, ◌<◌, ◌≤◌, ℤ, pos, ◌+ℤ◌, ◌*ℤ◌, Bool, true, false, IsTrue}
+use Rattle.std.proofs.Common.{◌≡◌, ◌↔◌, ℕ, ◌+◌, ◌-◌, ◌<◌, ◌≤◌, ℤ, pos, ◌+ℤ◌, ◌*ℤ◌, ◌≤ℤ◌, ◌<ℤ◌, Bool, true, false, IsTrue}
 use Rattle.std.proofs.Common.{List, ◌∷◌, [], ◌++◌, length, take, refl, sym, ap, subst, ◌∙◌, inl, inr, FitsSigned, w64, arith}
 use Rattle.std.specs.Int.{IsBitSet}
 use Rattle.std.specs.Int.RustNames.{bit_xor, unsigned_abs}
 use Rattle.std.proofs.lemmas.Bool.{cases_eq, false≢true}
 use Rattle.std.proofs.lemmas.Int.{ints}
 use Rattle.std.proofs.lemmas.List.{take_all}
+use Rattle.std.proofs.lemmas.Int.{by_lt_z, to_z-of_z}
 use lib.Signed.{lt_z}
 use Rattle.cam_units.specs.Board.{IsPlace}
 use Rattle.cam_units.specs.declared.point.Spot.{Spot}
 use Rattle.cam_shapes.specs.declared.contour.Contour.{Contour}
 use Rattle.cam_shapes.specs.Contour.{IsInContour}
 use Rattle.cam_shapes.specs.Sides.{change_side, differ}
+use Rattle.cam_shapes.proofs.Crossings.{less_is}
 use Rattle.cam_shapes.proofs.Parity.{sides_are_parity}
 use Rattle.cam_rows.specs.Marks.{TurnsRow, is_turned}
 use Rattle.cam_rows.proofs.SetBits.{none_set, set_in_xor}
@@ -24,14 +26,12 @@ use Rattle.cam_tiles.specs.Machinery.Levels.{levels_of}
 use Rattle.cam_tiles.specs.Machinery.Masks.{joined}
 use Rattle.cam_tiles.specs.Machinery.Runs.{IsWideGrid}
 use Rattle.cam_tiles.specs.Machinery.Turning.{TurnsCentres}
-use Rattle.cam_tiles.specs.Tiles.{centre_in}
-use Rattle.cam_tiles.proofs.ChangedParities.{true_or_not, turned_like}
-use Rattle.cam_tiles.proofs.CountedSegments.{after_start, before_end, less_kept, most_kept, none_more, place_more, row_more}
+use Rattle.cam_tiles.specs.Tiles.{IsGrid, centre_in}
+use Rattle.cam_tiles.proofs.ChangedParities.{Either, true_or_not, turned_like}
 use Rattle.cam_tiles.proofs.FiledContours.{changed_more}
-use Rattle.cam_tiles.proofs.GridColumns.{column_far}
 use Rattle.cam_tiles.proofs.GridLemmas.{long}
 use Rattle.cam_tiles.proofs.Joined.{set_or_not}
-use Rattle.cam_tiles.proofs.LevelRows.{down_to}
+use Rattle.cam_tiles.proofs.LevelRows.{down_some, down_to}
 use Rattle.cam_tiles.proofs.StepLemmas.{first_x, fits_near, fits_short, long_near, right_is, way_kept, way_right}
 
 -- ---- one centre
@@ -51,6 +51,31 @@ row_turned Now Was New Held Set Above More same none more h k = grind arith
 
 all_passed : (Now Was Above Set : Type 0) → Above → Now ↔ joined Turn Was (Above × Set) → Now ↔ joined Turn Was Set
 all_passed Now Was Above Set above h = grind arith
+
+-- one more of the rows that are turned over in the end
+row_more : (f x : Bool) (Now Was Whole Rows New : Type 0) → Either Now → Either Was → Either Whole → Either Rows
+    → joined Turn Now Whole ↔ joined Turn Was (IsTrue f) → IsTrue x ↔ Rows → New ↔ joined Turn Whole Rows
+    → joined Turn Now New ↔ joined Turn Was (IsTrue (differ f x))
+row_more true true Now Was Whole Rows New now was whole rows h e t = grind arith
+row_more true false Now Was Whole Rows New now was whole rows h e t = grind arith
+row_more false true Now Was Whole Rows New now was whole rows h e t = grind arith
+row_more false false Now Was Whole Rows New now was whole rows h e t = grind arith
+
+-- one more that is counted
+place_more : (f x : Bool) (Now Was Whole New : Type 0) → Either Now → Either Was → Either Whole
+    → joined Turn Now Whole ↔ joined Turn Was (IsTrue f) → New ↔ joined Turn Now (IsTrue x)
+    → joined Turn New Whole ↔ joined Turn Was (IsTrue (differ f x))
+place_more true true Now Was Whole New now was whole h t = grind arith
+place_more true false Now Was Whole New now was whole h t = grind arith
+place_more false true Now Was Whole New now was whole h t = grind arith
+place_more false false Now Was Whole New now was whole h t = grind arith
+
+none_more : (f x : Bool) (Now Was Whole : Type 0) → joined Turn Now Whole ↔ joined Turn Was (IsTrue f) → (IsTrue x → ⊥)
+    → joined Turn Now Whole ↔ joined Turn Was (IsTrue (differ f x))
+none_more true true Now Was Whole h none = absurd (none refl)
+none_more false true Now Was Whole h none = absurd (none refl)
+none_more true false Now Was Whole h none = h
+none_more false false Now Was Whole h none = h
 
 -- ---- whole rows
 
@@ -95,6 +120,24 @@ pub none_turned : (whole row : ℕ) (Was : Type 0) → whole ≡ 0 → Was ↔ j
 none_turned whole row Was none = let no = none_set whole row none in grind (arith, no)
 
 -- ---- the columns of rows that go on to the right
+
+less_kept : (a b : ℤ) → FitsSigned w64 a → FitsSigned w64 b → lt_z (long a) (long b) ≡ true → a <ℤ b
+less_kept a b fits fits_too told = (less_is a b).0 (rw (to_z-of_z w64 a fits, to_z-of_z w64 b fits_too) at told)
+
+most_kept : (a b : ℤ) → FitsSigned w64 a → FitsSigned w64 b → lt_z (long a) (long b) ≡ false → b ≤ℤ a
+most_kept a b fits fits_too told =
+    let other = rw (to_z-of_z w64 a fits, to_z-of_z w64 b fits_too) at told in
+    by_lt_z a b (λ less. absurd (false≢true (sym other ∙ (less_is a b).1 less))) (λ most. most)
+
+before_end : (first far last left : ℤ) → far ≤ℤ last → (first +ℤ last) <ℤ left → (first +ℤ far) <ℤ left
+before_end first far last left h k = omega (arith, ints)
+
+after_start : (first far right : ℤ) → pos 0 ≤ℤ far → right ≤ℤ first → right ≤ℤ (first +ℤ far)
+after_start first far right h k = omega (arith, ints)
+
+-- how far a column lies right of the first
+column_far : (g : Grid) (column : ℕ) → IsGrid g → pos 0 ≤ℤ (pos column *ℤ g.step)
+column_far g column grid = down_some g.step (unsigned_abs g.step) column (omega (arith, ints, grid.step))
 
 module _ (g : Grid) (columns : ℕ) (wide : IsWideGrid g columns) where
   last_place : IsPlace (centre_in g (columns - 1) 0)
@@ -189,7 +232,7 @@ module _ (g : Grid) (columns : ℕ) (c : Contour) where
         counted_next new whole (λ column row near below.
         place_more (filed_change c (take k fs) (place column row)) (changes_at c (place column row) f.place) _ _ _ _
         (true_or_not (is_turned now row column)) (true_or_not (is_turned old row column)) (set_or_not whole row)
-        (so_far column row near below) (changed column row near below))
+        (so_far column row near below) (changed.each column row near below))
 
     -- and one left of them changes nothing
     pub nothing_more : ((column row : ℕ) → column < columns → row < g.rows
@@ -205,9 +248,11 @@ module _ (g : Grid) (columns : ℕ) (c : Contour) where
       → ((column row : ℕ) → column < columns → row < g.rows
       → IsTrue (is_turned new row column) ↔ joined Turn (IsTrue (is_turned now row column)) (IsBitSet whole row))
       → TurnsCentres g columns (λ s. IsInContour s c) old new
-  all_marked old now new whole fs k all filed so_far turned column row near below =
-      let s = centre_in g column row in
-      let told : filed_change c (take k fs) s ≡ change_side s c.start c.start c.segs =
-      ap (λ xs. filed_change c xs s) (take_all k fs all) ∙ filed.change row s (below, refl) in
-      turned_like _ _ _ _ (sides_are_parity s c (filed_change c (take k fs) s) told)
-      (through (turned column row near below) (so_far column row near below))
+  all_marked old now new whole fs k all filed so_far turned = record {
+    each = λ column row near below.
+        let s = centre_in g column row in
+        let told : filed_change c (take k fs) s ≡ change_side s c.start c.start c.segs =
+        ap (λ xs. filed_change c xs s) (take_all k fs all) ∙ filed.change row s (below, refl) in
+        turned_like _ _ _ _ (sides_are_parity s c (filed_change c (take k fs) s) told)
+        (through (turned column row near below) (so_far column row near below));
+  }

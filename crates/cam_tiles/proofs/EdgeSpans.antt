@@ -1,6 +1,6 @@
--- Edges by their ends: the heights that they cross, and places of which both ends lie on one side.
-use Rattle.std.proofs.Common.{◌≡◌, ◌≢◌, ◌↔◌, ℕ, ◌<◌, ◌≤◌, ℤ, pos, ◌-ℤ◌, ◌*ℤ◌, ◌≤ℤ◌, ◌<ℤ◌}
-use Rattle.std.proofs.Common.{Bool, true, false, IsTrue, if◌then◌else◌, refl, sym, ◌∙◌, arith}
+-- The heights that an edge crosses, by its ends.
+use Rattle.std.proofs.Common.{◌≡◌, ◌≢◌, ◌↔◌, ℤ, pos, ◌-ℤ◌, ◌*ℤ◌, ◌≤ℤ◌}
+use Rattle.std.proofs.Common.{Bool, true, false, IsTrue, if◌then◌else◌, sym, ◌∙◌, arith}
 use Rattle.std.specs.Int.{int_max, int_min}
 use Rattle.std.specs.Int.RustNames.{int_lt}
 use Rattle.std.proofs.lemmas.Bool.{false≢true}
@@ -8,17 +8,9 @@ use Rattle.std.proofs.lemmas.Int.{by_lt_z, clamps, ints}
 use Rattle.cam_units.specs.declared.point.Point.{Point}
 use Rattle.cam_units.specs.declared.point.Spot.{Spot}
 use Rattle.cam_shapes.specs.Edge.{crosses_ray, edge, is_above, is_left, is_right}
-use Rattle.cam_shapes.specs.Sides.{differ}
-use Rattle.cam_shapes.proofs.Boxes.{tells_left, tells_right}
 use Rattle.cam_shapes.proofs.Crossings.{not_under, under}
-use Rattle.cam_apertures.proofs.Painting.{through}
-use Rattle.cam_objects.specs.Image.{relative}
-use Rattle.cam_tiles.specs.declared.grid.Grid.{Grid}
 use Rattle.cam_tiles.specs.declared.masks.heights.Heights.{Heights}
 use Rattle.cam_tiles.specs.Machinery.Masks.{IsWithin}
-use Rattle.cam_tiles.specs.Tiles.{centre_in}
-
--- ---- the heights that an edge crosses
 
 -- a number that only one of two others exceeds lies between them
 apart_between : (y a b low high : ℤ) → low ≡ int_min a b → high ≡ int_max a b -ℤ pos 1
@@ -68,36 +60,3 @@ two_apart false false m n h e = false≢true h
 pub met_apart : (s : Spot) (p q : Point) → IsTrue (crosses_ray s (edge p q)) → is_above p s ≢ is_above q s
 met_apart s p q met =
     two_apart (is_above p s) (is_above q s) (is_right s (edge p q)) (is_left s (edge p q)) met
-
--- the rows of a grid between the heights that an edge crosses, as they are seen from a point
-module _ (g : Grid) (h : Heights) (p q at : Point) (first end : ℕ)
-    (rows : (row : ℕ) → row < g.rows
-    → ((first ≤ row) × (row < end)) ↔ IsWithin h (relative at (centre_in g 0 row)))
-    (heights : (s : Spot) → IsWithin h s ↔ (is_above p s ≢ is_above q s)) where
-  pub rows_crossed : (row : ℕ) → row < g.rows
-      → ((first ≤ row) × (row < end))
-      ↔ (is_above p (relative at (centre_in g 0 row)) ≢ is_above q (relative at (centre_in g 0 row)))
-  rows_crossed row below = through (rows row below) (heights (relative at (centre_in g 0 row)))
-
-  -- those of the rays that meet it
-  pub row_met : (column row : ℕ) → row < g.rows
-      → IsTrue (crosses_ray (relative at (centre_in g column row)) (edge p q)) → (first ≤ row) × (row < end)
-  row_met column row below met = (rows_crossed row below).1 (met_apart (relative at (centre_in g column row)) p q met)
-
--- ---- places on one side of both ends
-
-differ_where_other : (a b : Bool) → a ≢ b → differ a b ≡ true
-differ_where_other true true other = absurd (other refl)
-differ_where_other true false other = refl
-differ_where_other false true other = refl
-differ_where_other false false other = absurd (other refl)
-
--- a ray from the left of both ends meets an edge that crosses its height
-pub met_left : (s : Spot) (p q : Point) → s.x <ℤ (pos 2 *ℤ p.x) → s.x <ℤ (pos 2 *ℤ q.x)
-    → is_above p s ≢ is_above q s → IsTrue (crosses_ray s (edge p q))
-met_left s p q a b apart = tells_left s p q a b ∙ differ_where_other (is_above p s) (is_above q s) apart
-
--- a ray from the right of both ends, or from below one, meets nothing
-pub missed_right : (s : Spot) (p q : Point) → (pos 2 *ℤ p.x) ≤ℤ s.x → (pos 2 *ℤ q.x) ≤ℤ s.x
-    → IsTrue (crosses_ray s (edge p q)) → ⊥
-missed_right s p q a b met = false≢true (sym (tells_right s p q a b) ∙ met)

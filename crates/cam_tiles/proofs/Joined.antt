@@ -25,7 +25,7 @@ joined_like Add New Was Be Held Other w e h = grind arith
 joined_like Clear New Was Be Held Other w e h = grind arith
 joined_like Turn New Was Be Held Other w e h = grind arith
 
-same : {A : Type 0} → A ↔ A
+pub same : {A : Type 0} → A ↔ A
 same = ((λ a. a), (λ a. a))
 
 -- ---- the marks of a grid

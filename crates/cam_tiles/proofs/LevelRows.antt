@@ -188,6 +188,15 @@ way_near y at d near short = omega (arith, ints)
 seen_first : (y at d : ℤ) → y -ℤ d -ℤ pos 2 *ℤ at ≡ y -ℤ pos 2 *ℤ at -ℤ d
 seen_first y at d = omega (arith, ints)
 
+pub are_heights_seen : (g : Grid) (at : Point) → IsGrid g → IsOnBoard at
+    → AreLevels (record { top = g.first.y -ℤ pos 2 *ℤ at.y; step = g.step; rows = g.rows })
+are_heights_seen g at grid board = record {
+  step = grid.step;
+  rows = grid.rows;
+  heights = λ row within.
+      way_near g.first.y at.y (pos row *ℤ g.step) (grid.centres 0 row grid.columns.0 within).y board.y;
+}
+
 module _ (g : Grid) (at : Point) (grid : IsGrid g) (board : IsOnBoard at) (fits : FitsSigned w64 g.step) where
   -- as the code computes them
   abbrev pub seen_now : Levels
@@ -205,12 +214,7 @@ module _ (g : Grid) (at : Point) (grid : IsGrid g) (board : IsOnBoard at) (fits 
       ∙ ap (levels (g.first.y -ℤ pos 2 *ℤ at.y)) (to_z-of_z w64 g.step fits)
 
   pub are_seen : AreLevels seen_now
-  are_seen = subst AreLevels (sym seen_is) record {
-    step = grid.step;
-    rows = grid.rows;
-    heights = λ row within.
-        way_near g.first.y at.y (pos row *ℤ g.step) (grid.centres 0 row grid.columns.0 within).y board.y;
-  }
+  are_seen = subst AreLevels (sym seen_is) (are_heights_seen g at grid board)
 
   pub seen_on_row : (row : ℕ) → row < g.rows → IsOnRow seen_now row (relative at (centre_in g 0 row))
   seen_on_row row within =

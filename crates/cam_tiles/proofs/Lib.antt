@@ -4,14 +4,13 @@ pub mod ChangedParities
 pub mod CircleBounds
 pub mod ClippedLines
 pub mod CountedMarks
-pub mod CountedSegments
 pub mod DrawnTiles
 pub mod EdgeSpans
+pub mod Fields
 pub mod FiledContours
 pub mod FiledSegments
 pub mod Flashes
 pub mod GridBoxes
-pub mod GridColumns
 pub mod GridLemmas
 pub mod Indexed
 pub mod Joined

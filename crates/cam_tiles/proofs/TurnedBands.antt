@@ -1,26 +1,19 @@
--- Rows of a band, one below another from its first: as they are seen from a point, and once their marks are turned.
-use Rattle.std.proofs.Common.{◌≡◌, ◌≢◌, ◌↔◌, ◌⊎◌, ℕ, ◌+◌, ◌-◌, ◌^◌, ◌<◌, ◌≤◌, ℤ, pos, ◌+ℤ◌, ◌-ℤ◌, ◌*ℤ◌}
-use Rattle.std.proofs.Common.{List, length, slice_index, refl, sym, ap, ◌∙◌, subst, inl, inr, rules, arith}
-use Rattle.std.specs.Int.RustNames.{int_lt}
+-- Rows of a band, one below another from its first, as they are seen from a point.
+use Rattle.std.proofs.Common.{◌≡◌, ◌⊎◌, ℕ, ◌+◌, ◌-◌, ◌<◌, ◌≤◌, ℤ, pos, ◌+ℤ◌, ◌-ℤ◌, ◌*ℤ◌}
+use Rattle.std.proofs.Common.{List, length, slice_index, ap, ◌∙◌, inl, inr, rules, arith}
 use Rattle.std.proofs.lemmas.Bool.{cases_lt}
 use Rattle.std.proofs.lemmas.Int.{ints}
 use Rattle.std.proofs.lemmas.List.{places}
 use borrow.Rule.Slice.PartMut.{mid_of, put_mid}
 use Rattle.cam_units.specs.Board.{IsOnBoard}
 use Rattle.cam_units.specs.declared.point.Point.{Point}
-use Rattle.cam_units.specs.declared.point.Spot.{Spot}
 use Rattle.cam_units.proofs.Ring.{equal}
 use Rattle.cam_units.proofs.Ring.Polynomial.{Atom, Difference, Product}
-use Rattle.cam_apertures.proofs.Painting.{through}
-use Rattle.cam_shapes.specs.Edge.{is_above}
 use Rattle.cam_objects.specs.Image.{relative}
 use Rattle.cam_rows.specs.declared.centres.Centres.{Centres}
-use Rattle.cam_rows.specs.Rows.{AreTurned, IsRow, centre_at, row_below}
+use Rattle.cam_rows.specs.Rows.{IsRow, centre_at, row_below}
 use Rattle.cam_tiles.specs.declared.grid.Grid.{Grid}
-use Rattle.cam_tiles.specs.declared.masks.join.Join.TheVariants.{Turn}
-use Rattle.cam_tiles.specs.Machinery.Masks.{IsIn, IsMarked, IsMask, Marking, joined}
 use Rattle.cam_tiles.specs.Tiles.{IsGrid, centre_in}
-use Rattle.cam_tiles.proofs.JoinedMarks.{AreRowsJoined, joined_from, joined_with}
 use Rattle.cam_tiles.proofs.SeenRows.{in_reach}
 
 -- ---- a part of a list that is written
@@ -90,15 +83,6 @@ module _ (g : Grid) (at : Point) (top : Centres) (first : ℕ)
         (grid.centres i (first + k) (rw (← count) inside) below));
   }
 
-  -- an edge that crosses a row of the grid crosses it there
-  pub crossed_below : (p q : Point) (k : ℕ)
-      → is_above p (relative at (centre_in g 0 (first + k))) ≢ is_above q (relative at (centre_in g 0 (first + k)))
-      → is_above p (row_below top k).first ≢ is_above q (row_below top k).first
-  crossed_below p q k apart =
-      subst (λ y. int_lt y (pos 2 *ℤ p.y) ≢ int_lt y (pos 2 *ℤ q.y)) (sym (height_below k)) apart
-
--- ---- marks
-
 -- a row lies above a band, in it or below it
 pub by_band : (first end row : ℕ) {Q : Type 0} → (row < first → Q) → (first ≤ row → row < end → Q) → (end ≤ row → Q) → Q
 by_band first end row above within below =
@@ -106,61 +90,3 @@ by_band first end row above within below =
       | inl early ↦ above early
       | inr after ↦ elim (cases_lt row end) [ inl until ↦ within after until | inr late ↦ below late ]
     ]
-
--- a part of the rows of a mask, whose bits are turned over where a shape holds their centres as they are seen from a
--- point
-module _ (P : Spot → Type 0) (at : Point) (top : Centres) (old : Marking) (first end : ℕ) (part : List ℕ)
-    (mask : IsMask old) (some : first < end) (low : end ≤ old.grid.rows) (size : length part ≡ end - first)
-    (fits : (k : ℕ) → slice_index part k < 2 ^ 64) (count : top.count ≡ old.grid.columns)
-    (centres : (i : ℕ) → centre_at top i ≡ relative at (centre_in old.grid i first))
-    (turned : AreTurned (mid_of first (end - first) old.rows) top P part) where
-  long : end ≤ length old.rows
-  long = omega (arith, mask.whole, mask.grid.rows)
-
-  abbrev pub new : Marking
-  new = record { grid = old.grid; rows = put_mid first (end - first) old.rows part }
-
-  there : (i row : ℕ) → i < 64 → first ≤ row → row < end
-      → IsMarked new i row
-      ↔ joined Turn (IsMarked old i row) ((i < old.grid.columns) × P (relative at (centre_in old.grid i row)))
-  there i row near after until =
-      let k = row - first in
-      let inside : k < end - first = omega arith in
-      let same : first + k ≡ row = omega arith in
-      let held = turned k i (rw (part_length first end old.rows some long) inside) near in
-      rw (part_at first end old.rows part some long size row after until) (rw (
-        part_was first end k old.rows inside,
-        below_seen old.grid at top first centres k i,
-        count,
-        same,
-      ) at held)
-
-  bits_inside : (i row : ℕ) → i < 64 → first ≤ row → row < end → IsMarked new i row → IsIn old.grid i row
-  bits_inside i row near after until set =
-      joined_from Turn (IsMarked old i row) ((i < old.grid.columns) × P (relative at (centre_in old.grid i row)))
-      (IsIn old.grid i row) (mask.inside i row near (omega (arith, low, until, mask.grid.rows)))
-      (λ held. (held.0, omega (arith, low, until))) ((there i row near after until).0 set)
-
-  pub band_turned : AreRowsJoined Turn (λ s. P (relative at s)) old new first end
-  band_turned =
-      let kept = others_kept first end old.rows part some long size in
-      record {
-        grid = refl;
-        mask = record {
-          grid = mask.grid;
-          whole = written_length first end old.rows part some long size ∙ mask.whole;
-          fit = λ row. by_band first end row (λ early. rw (kept row (inl early)) (mask.fit row))
-              (λ after until.
-              rw (part_at first end old.rows part some long size row after until) (fits (row - first)))
-              (λ late. rw (kept row (inr late)) (mask.fit row));
-          inside = λ i row near under. by_band first end row (λ early. rw (kept row (inl early)) (mask.inside i row near under))
-              (λ after until. bits_inside i row near after until)
-              (λ late. rw (kept row (inr late)) (mask.inside i row near under));
-        };
-        marks = λ i row inside after until.
-            through (there i row (omega (arith, inside.0, mask.grid.columns)) after until)
-            (joined_with Turn (IsMarked old i row)
-            ((i < old.grid.columns) × P (relative at (centre_in old.grid i row)))
-            (P (relative at (centre_in old.grid i row))) ((λ h. h.1), (λ h. (inside.0, h))));
-        kept = kept;
-      }

@@ -1,5 +1,5 @@
 -- Centres in the rows of tiles that are turned over by marks: those of a contour, one segment after another.
-use Rattle.std.proofs.Common.{◌≡◌, ◌≢◌, ◌↔◌, ℕ, ◌+◌, ◌-◌, ◌*◌, ◌/◌, ◌%◌, ◌<◌, ◌≤◌, ◌==◌, ℤ, Bool, false, IsTrue}
+use Rattle.std.proofs.Common.{◌≡◌, ◌≢◌, ◌↔◌, ℕ, ◌+◌, ◌-◌, ◌*◌, ◌/◌, ◌%◌, ◌<◌, ◌≤◌, ◌==◌, ℤ, Bool, true, false, IsTrue}
 use Rattle.std.proofs.Common.{List, ◌++◌, length, slice_index, refl, sym, ap, subst, ◌∙◌, inl, inr, arith}
 use Rattle.std.proofs.lemmas.Bool.{cases_lt, false≢true}
 use Rattle.std.proofs.lemmas.List.{get_or_append_left, get_or_past}
@@ -13,7 +13,7 @@ use Rattle.cam_shapes.specs.declared.cap.Cap.{Cap}
 use Rattle.cam_shapes.specs.Cap.{is_in_cap}
 use Rattle.cam_shapes.specs.Edge.{crosses_ray, edge, is_above}
 use Rattle.cam_shapes.specs.Sides.{changes_side, differ}
-use Rattle.cam_rows.specs.Marks.{AreSpread, TurnsRows, is_marked, is_set, is_turned}
+use Rattle.cam_rows.specs.Marks.{AreSpread, TurnsRows, is_marked, is_set, is_turned, turns_past}
 use Rattle.cam_rows.specs.declared.centres.Centres.{Centres}
 use Rattle.cam_rows.specs.Rows.{row_below}
 use Rattle.cam_rows.specs.Runs.{AreEnds, AreRuns, IsInRun}
@@ -35,25 +35,33 @@ still_wide columns old new size wide = record {
   tiles = ap (λ n. n % 64) size ∙ wide.tiles;
 }
 
+differ_none : (b : Bool) → differ b false ≡ b
+differ_none true = refl
+differ_none false = refl
+
 module _ (g : Grid) (columns : ℕ) where
   pub turns_like : (P Q : Spot → Type 0) (old new : List ℕ) → ((s : Spot) → P s ↔ Q s)
       → TurnsCentres g columns P old new → TurnsCentres g columns Q old new
-  turns_like P Q old new alike h column row near within =
-      turned_like _ _ _ _ (alike (centre_in g column row)) (h column row near within)
+  turns_like P Q old new alike h = record {
+    each = λ column row near within.
+        turned_like _ _ _ _ (alike (centre_in g column row)) (h.each column row near within);
+  }
 
   -- two more
   pub turns_twice : (e f : Spot → Bool) (old between new : List ℕ)
       → TurnsCentres g columns (λ s. IsTrue (e s)) old between
       → TurnsCentres g columns (λ s. IsTrue (f s)) between new
       → TurnsCentres g columns (λ s. IsTrue (differ (e s) (f s))) old new
-  turns_twice e f old between new h k column row near within =
-      turned_twice (e (centre_in g column row)) (f (centre_in g column row)) _ _ _
-      (true_or_not (is_turned old row column)) (h column row near within) (k column row near within)
+  turns_twice e f old between new h k = record {
+    each = λ column row near within.
+        turned_twice (e (centre_in g column row)) (f (centre_in g column row)) _ _ _
+        (true_or_not (is_turned old row column)) (h.each column row near within) (k.each column row near within);
+  }
 
   -- nothing more
   pub turns_nothing : (P : Spot → Type 0) (old : List ℕ)
       → ((column row : ℕ) → row < g.rows → P (centre_in g column row) → ⊥) → TurnsCentres g columns P old old
-  turns_nothing P old none column row near within = not_turned _ _ (none column row within)
+  turns_nothing P old none = record { each = λ column row near within. not_turned _ _ (none column row within) }
 
   -- ---- segments
 
@@ -85,19 +93,21 @@ module _ (g : Grid) (columns : ℕ) where
       → ((k i : ℕ) → k < n → i < columns → IsHeld k i ↔ P (centre_in g i (first + k)))
       → ((column row : ℕ) → row < g.rows → P (centre_in g column row) → (first ≤ row) × (row < first + n))
       → TurnsRows first n IsHeld old new → TurnsCentres g columns P old new
-  rows_turned first n P IsHeld old new few room each inside turned column row near within =
-      let there : first ≤ row → row < first + n → IsHeld (row - first) column ↔ P (centre_in g column row) =
-      λ after until.
-      let same : first + (row - first) ≡ row = omega arith in
-      subst (λ r. IsHeld (row - first) column ↔ P (centre_in g column r)) same
-      (each (row - first) column (omega arith) near) in
-      turned_like _ _ _ _ (
-        (λ on. (there on.0 on.1).0 on.2),
-        (λ held.
-            let band = inside column row within held in
-            (band.0, band.1, (there band.0 band.1).1 held)),
-      )
-      (turned row column (omega (arith, within, few)) (omega (arith, near, room)))
+  rows_turned first n P IsHeld old new few room each inside turned = record {
+    each = λ column row near within.
+        let there : first ≤ row → row < first + n → IsHeld (row - first) column ↔ P (centre_in g column row) =
+        λ after until.
+        let same : first + (row - first) ≡ row = omega arith in
+        subst (λ r. IsHeld (row - first) column ↔ P (centre_in g column r)) same
+        (each (row - first) column (omega arith) near) in
+        turned_like _ _ _ _ (
+          (λ on. (there on.0 on.1).0 on.2),
+          (λ held.
+              let band = inside column row within held in
+              (band.0, band.1, (there band.0 band.1).1 held)),
+        )
+        (turned row column (omega (arith, within, few)) (omega (arith, near, room)));
+  }
 
   module _ (first end : ℕ) (P : Spot → Type 0) (x y step : ℤ) (old new : List ℕ) (is_x : x ≡ g.first.x)
       (is_y : y ≡ height (levels_of g) first) (is_step : step ≡ g.step) (some : first < end) (few : g.rows ≤ 64)
@@ -157,22 +167,34 @@ module _ (g : Grid) (columns : ℕ) where
   none_set : (word i : ℕ) → word ≡ 0 → is_set word i ≡ false
   none_set word i e = rw e (ap (λ x. x == 1) (bit_at-zero i))
 
-  none_marked : (marks : List ℕ) → ((k : ℕ) → k < length marks → slice_index marks k ≡ 0) → (row column : ℕ)
-      → is_marked marks row column ≡ false
-  none_marked marks none row column =
-      let k = 64 * (column / 64) + row in
-      none_set (slice_index marks k) (column % 64)
-      (elim (cases_lt k (length marks)) [ inl inside ↦ none k inside | inr past ↦ get_or_past marks k 0 past ])
+  nothing_turned : (marks : List ℕ) → ((k : ℕ) → k < length marks → slice_index marks k ≡ 0) → (row column : ℕ)
+      → is_turned marks row column ≡ false
+  nothing_turned marks none row column =
+      let blank : (k i : ℕ) → is_set (slice_index marks k) i ≡ false = λ k i. none_set (slice_index marks k) i
+      (elim (cases_lt k (length marks)) [ inl inside ↦ none k inside | inr past ↦ get_or_past marks k 0 past ]) in
+      rw (blank (64 * (column / 64) + row) (column % 64))
+      (none_odd (turns_past marks row) (length marks / 64 - (column / 64 + 1)) (column / 64 + 1)
+      (λ j _. blank (64 * j + row) 0))
 
   pub spread_inside : (P : Spot → Type 0) (blank turned spread : List ℕ)
       → ((k : ℕ) → k < length blank → slice_index blank k ≡ 0) → g.rows ≤ 64 → columns ≤ length turned
       → TurnsCentres g columns P blank turned → AreSpread turned spread → MarksCentres g columns P spread
   spread_inside P blank turned spread none few room h told column row near within =
       let same = told row column (omega (arith, within, few)) (omega (arith, near, room)) in
-      let even : is_turned blank row column ≡ false =
-      none_odd (is_marked blank row) (length blank - column) column (λ j _. none_marked blank none row j) in
+      let even = nothing_turned blank none row column in
       from_even _ _ _ _ ((λ t. sym same ∙ t), (λ t. same ∙ t)) (λ t. false≢true (sym even ∙ t))
-      (h column row near within)
+      (h.each column row near within)
+
+  -- the marks of one tile, which need not be spread
+  pub marked_inside : (P : Spot → Type 0) (blank turned : List ℕ)
+      → ((k : ℕ) → k < length blank → slice_index blank k ≡ 0) → columns ≤ 64 → length turned ≡ 64
+      → TurnsCentres g columns P blank turned → MarksCentres g columns P turned
+  marked_inside P blank turned none narrow one h column row near within =
+      let last : length turned / 64 - (column / 64 + 1) ≡ 0 = omega (arith, one) in
+      let same : is_turned turned row column ≡ is_marked turned row column = rw last (differ_none (is_marked turned row column)) in
+      let even = nothing_turned blank none row column in
+      from_even _ _ _ _ ((λ t. same ∙ t), (λ t. sym same ∙ t)) (λ t. false≢true (sym even ∙ t))
+      (h.each column row near within)
 
   -- words behind them change none of them
   pub marks_before : (P : Spot → Type 0) (part rest : List ℕ) → g.rows ≤ 64 → AreWide columns part

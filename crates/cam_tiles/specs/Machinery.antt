@@ -5,7 +5,6 @@ pub mod Indexes
 pub mod Kept
 pub mod Levels
 pub mod Masks
-pub mod Parities
 pub mod Runs
 pub mod Shown
 pub mod Spans

@@ -8,7 +8,6 @@ pub(crate) mod filing;
 pub(crate) mod heights;
 pub(crate) mod join;
 pub(crate) mod mask;
-pub(crate) mod parity;
 pub(crate) mod row_shape;
 pub(crate) mod runs;
 pub(crate) mod shapes;

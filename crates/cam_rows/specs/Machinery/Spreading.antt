@@ -1,8 +1,13 @@
--- Marks that are spread, row by row.
-use Rattle.std.specs.Prelude.{◌≡◌, ◌≢◌, ℕ, ◌<◌, List, length}
-use Rattle.cam_rows.specs.Marks.{is_marked, is_turned}
+-- Marks that are spread, tile by tile.
+use Rattle.std.specs.Prelude.{◌≡◌, ◌⊎◌, ℕ, ◌+◌, ◌*◌, ◌<◌, ◌≤◌, List, slice_index}
+use Rattle.cam_shapes.specs.Sides.{differ}
+use Rattle.cam_rows.specs.Marks.{is_set, turns_past}
 
--- the columns that are turned in a row are marked, and the other rows stay as they were
-pub record IsRowSpread (row : ℕ) (old new : List ℕ) : Type 0 where
-  pub here : (column : ℕ) → column < length old → is_marked new row column ≡ is_turned old row column
-  pub others : (r column : ℕ) → r < 64 → r ≢ row → is_marked new r column ≡ is_marked old r column
+-- in the first rows of a tile the columns are turned over where the tile right of it says so, and all other words are
+-- as they were
+pub record AreRowsSpread (tile rows : ℕ) (old new : List ℕ) : Type 0 where
+  pub done : (row i : ℕ) → row < rows → i < 64
+      → is_set (slice_index new (64 * tile + row)) i
+      ≡ differ (is_set (slice_index old (64 * tile + row)) i) (turns_past old row (tile + 1))
+  pub others : (word : ℕ) → (word < 64 * tile) ⊎ (64 * tile + rows ≤ word)
+      → slice_index new word ≡ slice_index old word

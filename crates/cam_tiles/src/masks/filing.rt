@@ -5,20 +5,15 @@ ghost use Rattle.std.specs.Prelude.{IsTrue, drop, length, pos, take, vec_capacit
 ghost use Rattle.cam_units.specs.Board.{IsOnBoard};
 ghost use Rattle.cam_shapes.specs.declared.segments.Seg.TheVariants.{Line, Curve};
 ghost use Rattle.cam_shapes.specs.Cap.{IsSoundCap};
-ghost use Rattle.cam_shapes.specs.Contour.{IsInContour, end_of};
+ghost use Rattle.cam_shapes.specs.Contour.{end_of};
 ghost use Rattle.cam_shapes.specs.Contour.{IsSoundSeg};
 ghost use Rattle.cam_shapes.specs.Plane.{dot, square, way};
-ghost use Rattle.cam_tiles.specs.Machinery.Filing.{AreFiled, Files, IsOnBoardWhole, Misses, changes_at, corner_of};
+ghost use Rattle.cam_tiles.specs.Machinery.Filing.{AreFiled, Files, IsOnBoardWhole, Misses, corner_of};
 ghost use Rattle.cam_tiles.specs.Machinery.Filing.{segment_of};
-ghost use Rattle.cam_tiles.specs.Machinery.Levels.{IsLevels, levels_of};
-ghost use Rattle.cam_tiles.specs.Machinery.Masks.{Joins};
-ghost use Rattle.cam_tiles.specs.Machinery.Parities.{Changes};
+ghost use Rattle.cam_tiles.specs.Machinery.Levels.{IsLevels};
 
 use crate::levels::Levels;
-use crate::masks::clipping::ends_in_rows;
-use crate::masks::join::Join;
-use crate::masks::mask::Mask;
-use crate::masks::parity::{Parity, crossed_heights};
+use crate::masks::clipping::{crossed_heights, ends_in_rows};
 use crate::masks::shapes::{about, past_circle};
 use cam_shapes::{Cap, Contour, Seg};
 use cam_units::{Nm, Point};
@@ -171,7 +166,7 @@ fn circle_bound(centre: Point, from: Point) -> Nm
 
 /// The point where a segment ends.
 #[inline]
-fn end_of(seg: Seg) -> Point
+pub(crate) fn end_of(seg: Seg) -> Point
     ensures { result ≡ end_of seg }
 {
     match seg {
@@ -206,51 +201,4 @@ pub(crate) fn segment_at(contour: &Contour, place: u32) -> Seg
         return segs[place];
     }
     Seg::Line { to: contour.start }
-}
-
-impl Mask {
-    /// Joins the marks with the inside of a contour that is filed for the rows of the grid.
-    pub(crate) fn fill_filed(&mut self, contour: &Contour, filed: &[FiledSegment], how: Join)
-        requires contour { IsOnBoardWhole contour.now }
-        requires filed { AreFiled contour.now (levels_of self.old.grid) filed.now }
-        ensures { Joins how (λ s. IsInContour s contour.now) self.old self.new }
-    {
-        let mut inside = Parity::even(self.grid());
-        inside.turn_filed(contour, filed);
-        self.merge(&inside.into_mask(), how);
-    }
-}
-
-impl Parity {
-    /// Counts the segments of a contour that is filed for the rows of the grid. Most of them lie right of all columns,
-    /// and turn over whole rows, or left of them, and change nothing: the others are asked.
-    fn turn_filed(&mut self, contour: &Contour, filed: &[FiledSegment])
-        requires contour { IsOnBoardWhole contour.now }
-        requires filed { AreFiled contour.now (levels_of self.old.marking.grid) filed.now }
-        ensures { Changes (λ s. IsInContour s contour.now) self.old self.new }
-    {
-        let grid = self.grid();
-        let first = grid.first.x;
-        let last = grid.centre(grid.columns - 1, 0).x;
-        let mut whole = 0;
-        for segment in filed {
-            if last < segment.left {
-                whole ^= segment.rows;
-            } else if first < segment.right {
-                self.turn_place(contour, segment.place);
-            }
-        }
-        self.turn_whole(whole);
-    }
-
-    /// Counts the segment at a place of a contour, or the line that closes it.
-    fn turn_place(&mut self, contour: &Contour, place: u32)
-        requires contour { IsOnBoardWhole contour.now }
-        requires place { place ≤ length contour.now.segs }
-        ensures { Changes (λ s. IsTrue (changes_at contour.now s place)) self.old self.new }
-    {
-        let here = corner_at(contour, place);
-        let seg = segment_at(contour, place);
-        self.turn_segment(here, seg);
-    }
 }

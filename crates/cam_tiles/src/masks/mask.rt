@@ -1,14 +1,12 @@
 //! A mask, and how it gains and loses marks.
 
-ghost use Rattle.std.specs.Prelude.{◌≡◌, ◌≢◌, ◌↔◌, ◌+◌, ◌*◌, ◌<◌, ◌≤◌, ℕ, IsTrue, length};
+ghost use Rattle.std.specs.Prelude.{◌≡◌, ◌↔◌, ◌+◌, ◌*◌, ◌<◌, ◌≤◌, ℕ, IsTrue, length};
 ghost use Rattle.std.specs.Int.{IsBitSet};
 ghost use Rattle.cam_units.specs.Board.{IsOnBoard};
-ghost use Rattle.cam_shapes.specs.Edge.{crosses_ray, edge, is_above};
 ghost use Rattle.cam_objects.specs.Image.{relative};
 ghost use Rattle.cam_rows.specs.Marks.{is_marked};
 ghost use Rattle.cam_rows.specs.Rows.{IsRow, centre_at};
 ghost use Rattle.cam_rows.specs.Runs.{most_columns};
-ghost use Rattle.cam_tiles.specs.declared.masks.join.Join.TheVariants.{Turn as Turned};
 ghost use Rattle.cam_tiles.specs.Machinery.Masks.{HoldsCentres, IsBlank, IsIn, IsMarked, IsMask, IsWithin, Joins};
 ghost use Rattle.cam_tiles.specs.Machinery.Masks.{Merges, joined};
 ghost use Rattle.cam_tiles.specs.Machinery.Runs.{Fits, HasColumn};
@@ -17,11 +15,11 @@ ghost use Rattle.cam_tiles.specs.Tiles.{IsGrid, centre_in};
 use crate::grid::Grid;
 use crate::levels::Levels;
 use crate::masks::heights::Heights;
-use crate::masks::join::{Join, told_by_type};
+use crate::masks::join::Join;
 use crate::masks::row_shape::RowShape;
 use crate::masks::runs::Runs;
 use crate::span::Span;
-use cam_rows::{Centres, run_row, turn_edge};
+use cam_rows::{Centres, run_row};
 use cam_units::{Bounds, Point, Spot};
 use std::marker::Model;
 
@@ -137,41 +135,6 @@ impl Mask {
         let rows = &mut marks[band.first as usize..band.end as usize];
         shape.rows(self.grid.row_from(band.first, at), rows);
         how.join_rows(&mut self.rows, &marks);
-    }
-
-    /// Turns over the marks at the centres, as they are seen from a point, from which the ray to the right crosses an
-    /// edge: in the rows of a band, which are those that the edge crosses.
-    pub(crate) fn turn_edge(&mut self, from: Point, to: Point, at: Point, band: Span)
-        requires from { IsOnBoard from }
-        requires to { IsOnBoard to }
-        requires at { IsOnBoard at }
-        requires some { band.first < band.end }
-        requires end { band.end ≤ self.old.grid.rows }
-        requires crossed { (row : ℕ) → row < self.old.grid.rows
-            → (let s = relative at (centre_in self.old.grid 0 row) in
-            ((band.first ≤ row) × (row < band.end)) ↔ (is_above from s ≢ is_above to s)) }
-        ensures { Joins Turned (λ s. IsTrue (crosses_ray (relative at s) (edge from to))) self.old self.new }
-    {
-        let top = self.grid.row_from(band.first, at);
-        let rows = &mut self.rows[band.first as usize..band.end as usize];
-        turn_edge(from, to, top, rows);
-        told_by_type(rows);
-    }
-
-    /// Turns over all marks of some rows: bit k of `rows` for row k from the top.
-    pub(crate) fn turn_rows(&mut self, rows: u64)
-        ensures grid { self.new.grid ≡ self.old.grid }
-        ensures marks { (column row : ℕ) → IsIn self.old.grid column row
-            → IsMarked self.new column row ↔ joined Turned (IsMarked self.old column row) (IsBitSet rows row) }
-    {
-        if rows == 0 {
-            return;
-        }
-        let columns = u64::MAX >> (64 - self.grid.columns);
-        for row in 0..self.grid.rows {
-            let turned = if (rows >> row) & 1 == 1 { columns } else { 0 };
-            self.rows[row as usize] ^= turned;
-        }
     }
 
     /// Joins the marks with runs of columns, in rows of which the grid begins at a column. Where all runs have the same

@@ -35,11 +35,10 @@ ghost use Rattle.cam_tiles.specs.Tiles.{across, centre_in, grid_of, tile_rows};
 
 use crate::grid::Grid;
 use crate::masks::filing::FiledSegment;
-use crate::masks::join::Join;
 use crate::masks::mask::Mask;
 use crate::masks::stroke_runs::{Stroke, StrokeRuns};
 use crate::masks::strokes::{paint_each, paint_strokes, stroke_of};
-use crate::masks::turning::{fill_marked, lie_across, mark_inside};
+use crate::masks::turning::{fill_marked, mark_inside};
 use crate::painter::Tile;
 use crate::shown::Region;
 use crate::window::Window;
@@ -185,12 +184,9 @@ impl Swath {
     {
         let first = self.first_reached(left);
         let end = self.end_reached(right);
-        let masks = end.saturating_sub(first);
-        if masks > 1 && lie_across(filed, masks, self.pitch.stride) {
+        if first < end {
             self.fill_together(first, end, region, filed);
-            return;
         }
-        fill_masks(&mut self.masks, first, end, region, filed);
     }
 
     /// Joins the masks from one number to another with the inside of a region: each segment is counted once for all of
@@ -366,24 +362,4 @@ fn put_blanks(
         }
     }
     bounds
-}
-
-/// Joins the masks from one number to another with the inside of a region whose segments are filed for their rows.
-fn fill_masks(
-    masks: &mut [Mask],
-    first: usize,
-    end: usize,
-    region: Region<'_>,
-    filed: &[FiledSegment],
-)
-    requires end { end ≤ length masks.old }
-    requires contour { IsOnBoardWhole region.contour.now }
-    requires filed { (k : ℕ) → first ≤ k → k < end
-        → AreFiled region.contour.now (levels_of (grid_at masks.old k)) filed.now }
-    ensures { ArePaintedIn first end (leaf (Filled region.entry.contour.now) region.entry.dark ∷ [])
-        masks.old masks.new }
-{
-    for k in first..end {
-        masks[k].fill_filed(region.contour, filed, Join::inked(region.dark));
-    }
 }

@@ -1,5 +1,5 @@
-//! The insides of contours in a row of tiles: each segment is counted once for all of them, by marks that turn over the
-//! columns left of them.
+//! The insides of contours in the rows of a tile, or of tiles side by side: each segment is counted once for all of them,
+//! by marks that turn over the columns left of them.
 
 ghost use Rattle.std.specs.Prelude.{◌≡◌, ◌≢◌, ◌↔◌, ◌+◌, ◌-◌, ◌*◌, ◌/◌, ◌<◌, ◌≤◌, ℕ, IsTrue, length, slice_index, ◌∷◌, []};
 ghost use Rattle.std.specs.Int.{IsBitSet};
@@ -13,37 +13,25 @@ ghost use Rattle.cam_objects.specs.Leaves.{Filled, leaf};
 ghost use Rattle.cam_rows.specs.Marks.{is_turned};
 ghost use Rattle.cam_tiles.specs.declared.masks.join.Join.TheVariants.{Turn as Turned};
 ghost use Rattle.cam_tiles.specs.Machinery.Filing.{AreFiled, IsOnBoardWhole, changes_at};
-ghost use Rattle.cam_tiles.specs.Machinery.Levels.{IsOnRow, levels_of};
+ghost use Rattle.cam_tiles.specs.Machinery.Levels.{AreLevels, IsOnRow, levels_of};
 ghost use Rattle.cam_tiles.specs.Machinery.Masks.{joined};
 ghost use Rattle.cam_tiles.specs.Machinery.Runs.{IsWideGrid};
 ghost use Rattle.cam_tiles.specs.Machinery.Swaths.{ArePaintedIn, grid_at};
-ghost use Rattle.cam_tiles.specs.Machinery.Turning.{AreMarkedAt, AreWide, MarksCentres, TurnsCentres};
+ghost use Rattle.cam_tiles.specs.Machinery.Turning.{AreMarkedAt, AreWide, IsField, MarksCentres, TurnsCentres};
 ghost use Rattle.cam_tiles.specs.Tiles.{centre_in};
 
 use crate::grid::Grid;
+use crate::levels::Levels;
+use crate::masks::clipping::crossed_heights;
 use crate::masks::filing::{FiledSegment, corner_at, segment_at};
 use crate::masks::join::Join;
 use crate::masks::mask::Mask;
-use crate::masks::parity::crossed_heights;
 use crate::masks::row_shape::RowShape;
 use crate::shown::Region;
 use crate::span::Span;
 use cam_rows::{Centres, cap_runs, edge_runs, mark_end, mark_ends, mark_runs, spread_marks};
 use cam_shapes::{Cap, Contour, Seg};
 use cam_units::{Point, Spot};
-
-/// Whether filed segments lie across tiles so far, an eighth of one each and two for each of so many masks, that to count
-/// each of them once costs less than to follow it in each tile that it lies in. Tiles are so far from each other, in
-/// half nm.
-pub(crate) fn lie_across(filed: &[FiledSegment], masks: usize, stride: i64) -> bool {
-    let mut across = 0u64;
-    for segment in filed {
-        across = across.saturating_add(segment.right.abs_diff(segment.left));
-    }
-    let tiles = (masks as u64).saturating_mul(16);
-    let eighths = tiles.saturating_add(filed.len() as u64);
-    across.saturating_mul(8) > eighths.saturating_mul(stride.unsigned_abs())
-}
 
 impl Grid {
     /// The x of the last one of so many columns from the left on, in half nm.
@@ -123,7 +111,7 @@ fn turn_whole(marks: &mut [u64], rows: u32, columns: u32, whole: u64)
 
 /// Counts the segment at a place of a contour, or the line that closes it.
 fn turn_place(marks: &mut [u64], grid: &Grid, columns: u32, contour: &Contour, place: u32)
-    requires grid { IsWideGrid grid.now columns }
+    requires grid { IsField grid.now columns }
     requires wide { AreWide columns marks.old }
     requires contour { IsOnBoardWhole contour.now }
     requires place { place ≤ length contour.now.segs }
@@ -135,8 +123,8 @@ fn turn_place(marks: &mut [u64], grid: &Grid, columns: u32, contour: &Contour, p
 }
 
 /// Counts what a segment from a point changes.
-fn turn_segment(marks: &mut [u64], grid: &Grid, columns: u32, here: Point, seg: Seg)
-    requires grid { IsWideGrid grid.now columns }
+pub(crate) fn turn_segment(marks: &mut [u64], grid: &Grid, columns: u32, here: Point, seg: Seg)
+    requires grid { IsField grid.now columns }
     requires wide { AreWide columns marks.old }
     requires here { IsOnBoard here }
     requires seg { IsSoundSeg seg }
@@ -157,15 +145,29 @@ fn turn_segment(marks: &mut [u64], grid: &Grid, columns: u32, here: Point, seg: 
     }
 }
 
+/// The heights of the rows of a grid, which may be seen from a point.
+#[inline]
+fn levels_in(grid: &Grid) -> Levels
+    requires { AreLevels (levels_of grid.now) }
+    ensures value { result ≡ levels_of grid.now }
+    ensures levels { AreLevels result }
+{
+    Levels {
+        top: grid.first.y,
+        step: grid.step,
+        rows: grid.rows,
+    }
+}
+
 /// Counts an edge: in each row that it crosses by one mark.
-fn turn_edge(marks: &mut [u64], grid: &Grid, columns: u32, from: Point, to: Point)
-    requires grid { IsWideGrid grid.now columns }
+pub(crate) fn turn_edge(marks: &mut [u64], grid: &Grid, columns: u32, from: Point, to: Point)
+    requires grid { IsField grid.now columns }
     requires wide { AreWide columns marks.old }
     requires from { IsOnBoard from }
     requires to { IsOnBoard to }
     ensures { TurnsCentres grid.now columns (λ s. IsTrue (crosses_ray s (edge from to))) marks.old marks.new }
 {
-    let levels = grid.levels();
+    let levels = levels_in(grid);
     let band = levels.band(crossed_heights(from, to));
     if band.end <= band.first {
         return;
@@ -185,7 +187,7 @@ fn turn_crossed(
     band: Span,
     ends: &mut [u32],
 )
-    requires grid { IsWideGrid grid.now columns }
+    requires grid { IsField grid.now columns }
     requires wide { AreWide columns marks.old }
     requires from { IsOnBoard from }
     requires to { IsOnBoard to }
@@ -199,7 +201,7 @@ fn turn_crossed(
     let top = Centres {
         first: Spot {
             x: grid.first.x,
-            y: grid.levels().height(band.first),
+            y: levels_in(grid).height(band.first),
         },
         step: grid.step,
         count: columns,
@@ -210,12 +212,12 @@ fn turn_crossed(
 
 /// Counts a cap: in each row that it may reach by its run.
 fn turn_cap(marks: &mut [u64], grid: &Grid, columns: u32, cap: &Cap)
-    requires grid { IsWideGrid grid.now columns }
+    requires grid { IsField grid.now columns }
     requires wide { AreWide columns marks.old }
     requires cap { IsSoundCap cap.now }
     ensures { TurnsCentres grid.now columns (λ s. IsTrue (is_in_cap s cap.now)) marks.old marks.new }
 {
-    let levels = grid.levels();
+    let levels = levels_in(grid);
     let band = levels.band(cap.heights());
     if band.end <= band.first {
         return;
@@ -237,7 +239,7 @@ fn turn_reached(
     firsts: &mut [u32],
     ends: &mut [u32],
 )
-    requires grid { IsWideGrid grid.now columns }
+    requires grid { IsField grid.now columns }
     requires wide { AreWide columns marks.old }
     requires cap { IsSoundCap cap.now }
     requires some { band.first < band.end }
@@ -251,7 +253,7 @@ fn turn_reached(
     let top = Centres {
         first: Spot {
             x: grid.first.x,
-            y: grid.levels().height(band.first),
+            y: levels_in(grid).height(band.first),
         },
         step: grid.step,
         count: columns,

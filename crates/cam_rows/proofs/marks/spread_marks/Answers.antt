@@ -1,16 +1,15 @@
-use Rattle.std.proofs.Common.{arith}
-use Rattle.cam_rows.proofs.MarkedColumns.{all_spread, next_row, no_row}
+use Rattle.std.proofs.Common.{refl, arith}
+use Rattle.cam_rows.proofs.MarkedColumns.{all_spread, last_tile, next_tile}
 use Rattle.cam_rows.proofs.marks.spread_marks.Goals as goal
 
-pub loop-row-init : goal.loop-row-init
-loop-row-init c = no_row c.args.marks.now
+pub loop-passed-init : goal.loop-passed-init
+loop-passed-init c = last_tile _ c.args.marks.now refl c.requires
 
-pub loop-row-preserved : goal.loop-row-preserved
-loop-row-preserved c =
-    next_row c.loop-row.row c.args.marks.now c.loop-row.marks c.spread_row.new.marks (omega (arith, c.loop-row-test.true))
-    c.spread_row.auto.marks c.loop-row.invariant c.spread_row.ensures
+pub loop-passed-preserved : goal.loop-passed-preserved
+loop-passed-preserved c =
+    next_tile _ _ c.args.marks.now c.loop-passed.marks c.spread_to.new.marks (omega arith) (omega arith)
+    c.spread_to.auto.marks c.loop-passed.invariant c.spread_to.ensures
 
 pub returns : goal.returns
 returns c =
-    all_spread c.loop-row.row c.args.marks.now c.loop-row.marks (omega (arith, c.loop-row-test.false))
-    c.loop-row.invariant
+    all_spread _ c.args.marks.now c.loop-passed.marks (omega arith) c.loop-passed.invariant

@@ -1,13 +1,13 @@
 use Rattle.std.proofs.Common.{◌-◌, IsTrue, rules, arith, ◌∙◌}
 use Rattle.cam_shapes.specs.Edge.{crosses_ray, edge}
 use Rattle.cam_tiles.proofs.EdgeSpans.{met_apart}
-use Rattle.cam_tiles.proofs.RunColumns.{wide_rows_of}
+use Rattle.cam_tiles.proofs.Fields.{field_rows}
 use Rattle.cam_tiles.proofs.TurnedMarks.{ends_turned, top_crossed}
 use Rattle.cam_tiles.proofs.masks.turning.turn_crossed.Goals as goal
 
 pub edge_runs-requires-clause-rows : goal.edge_runs-requires-clause-rows
 edge_runs-requires-clause-rows c =
-    wide_rows_of c.args.grid.now c.args.columns c.args.band.first _ _ _ (c.args.band.end - c.args.band.first) _
+    field_rows c.args.grid.now c.args.columns c.args.band.first _ _ _ (c.args.band.end - c.args.band.first) _
     (search rules) (search rules) (search rules) c.requires.grid
     (omega (arith, c.requires.low, c.requires.some)) c.requires.size
 
@@ -20,6 +20,6 @@ pub returns : goal.returns
 returns c =
     ends_turned c.args.grid.now c.args.columns c.args.band.first c.args.band.end
     (λ s. IsTrue (crosses_ray s (edge c.args.from c.args.to))) _ _ _ c.args.marks.now c.mark_ends.new.marks
-    (search rules) (search rules) (search rules) c.requires.some c.requires.grid.grid.rows.1 c.requires.wide.room
+    (search rules) (search rules) (search rules) c.requires.some c.requires.grid.rows c.requires.wide.room
     (λ row s on met. (c.requires.rows row s on).1 (met_apart s c.args.from c.args.to met)) c.edge_runs.new.ends
     (c.edge_runs.auto.ends ∙ c.requires.size) c.edge_runs.ensures c.mark_ends.ensures

@@ -4,10 +4,17 @@ use Rattle.cam_tiles.specs.declared.masks.filing.FiledSegment.{FiledSegment}
 use Rattle.cam_tiles.specs.Machinery.Turning.{AreWide}
 use Rattle.cam_tiles.proofs.CountedMarks.{AreCounted, all_marked, left_of_it, marks_more, nothing_more, right_of_it, rows_more}
 use Rattle.cam_tiles.proofs.TurnedMarks.{still_wide}
+use Rattle.cam_tiles.proofs.Fields.{field_of_wide}
 use Rattle.cam_tiles.proofs.masks.turning.turn_filed.Goals.{else-last-segment+else-first-segment}
+use Rattle.cam_tiles.proofs.Fields.{field_of_wide}
 use Rattle.cam_tiles.proofs.masks.turning.turn_filed.Goals.{else-last-segment+then-first-segment}
+use Rattle.cam_tiles.proofs.Fields.{field_of_wide}
 use Rattle.cam_tiles.proofs.masks.turning.turn_filed.Goals.{then-last-segment}
+use Rattle.cam_tiles.proofs.Fields.{field_of_wide}
 use Rattle.cam_tiles.proofs.masks.turning.turn_filed.Goals as goal
+
+pub turn_place-requires-clause-grid : goal.turn_place-requires-clause-grid
+turn_place-requires-clause-grid c = field_of_wide c.args.grid.now c.args.columns c.requires.grid
 
 pub loop-segment-preserved : goal.loop-segment-preserved
 loop-segment-preserved c =

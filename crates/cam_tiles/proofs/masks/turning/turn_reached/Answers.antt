@@ -1,12 +1,12 @@
 use Rattle.std.proofs.Common.{◌-◌, IsTrue, rules, arith, ◌∙◌}
 use Rattle.cam_shapes.specs.Cap.{is_in_cap}
-use Rattle.cam_tiles.proofs.RunColumns.{wide_rows_of}
+use Rattle.cam_tiles.proofs.Fields.{field_rows}
 use Rattle.cam_tiles.proofs.TurnedMarks.{runs_turned}
 use Rattle.cam_tiles.proofs.masks.turning.turn_reached.Goals as goal
 
 pub cap_runs-requires-clause-rows : goal.cap_runs-requires-clause-rows
 cap_runs-requires-clause-rows c =
-    wide_rows_of c.args.grid.now c.args.columns c.args.band.first _ _ _ (c.args.band.end - c.args.band.first) _
+    field_rows c.args.grid.now c.args.columns c.args.band.first _ _ _ (c.args.band.end - c.args.band.first) _
     (search rules) (search rules) (search rules) c.requires.grid
     (omega (arith, c.requires.low, c.requires.some)) c.requires.size
 
@@ -14,6 +14,6 @@ pub returns : goal.returns
 returns c =
     runs_turned c.args.grid.now c.args.columns c.args.band.first c.args.band.end
     (λ s. IsTrue (is_in_cap s c.args.cap.now)) _ _ _ c.args.marks.now c.mark_runs.new.marks
-    (search rules) (search rules) (search rules) c.requires.some c.requires.grid.grid.rows.1 c.requires.wide.room
+    (search rules) (search rules) (search rules) c.requires.some c.requires.grid.rows c.requires.wide.room
     c.requires.rows c.cap_runs.new.firsts c.cap_runs.new.ends
     (c.cap_runs.auto.firsts ∙ c.requires.size) c.cap_runs.ensures c.mark_runs.ensures
