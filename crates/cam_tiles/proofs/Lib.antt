@@ -17,7 +17,6 @@ pub mod Indexed
 pub mod Joined
 pub mod JoinedMarks
 pub mod LevelRows
-pub mod MarkedBands
 pub mod MarkedTiles
 pub mod MaskWords
 pub mod PaintedBands
@@ -38,7 +37,7 @@ pub mod SpanLemmas
 pub mod Stamps
 pub mod StepLemmas
 pub mod Strips
-pub mod StrokeColumns
+pub mod FigureColumns
 pub mod SwathLayouts
 pub mod SwathRows
 pub mod TableFacts

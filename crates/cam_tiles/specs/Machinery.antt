@@ -9,6 +9,6 @@ pub mod Parities
 pub mod Runs
 pub mod Shown
 pub mod Spans
-pub mod Strokes
+pub mod Figures
 pub mod Swaths
 pub mod Turning

@@ -16,9 +16,8 @@ ghost use Rattle.cam_tiles.specs.Tiles.{IsGrid, centre_in};
 
 use crate::grid::Grid;
 use crate::levels::Levels;
-use crate::masks::heights::Heights;
+use crate::masks::heights::{HasHeights, Heights};
 use crate::masks::join::{Join, told_by_type};
-use crate::masks::row_shape::RowShape;
 use crate::masks::runs::Runs;
 use crate::span::Span;
 use cam_rows::{Centres, run_row, turn_edge};
@@ -122,21 +121,16 @@ impl Mask {
         self.rows
     }
 
-    /// Joins the marks with the places of a shape, which stands at a point as it does about (0, 0): in the rows that it
-    /// may reach.
-    pub(crate) fn join<S: RowShape>(&mut self, shape: &S, at: Point, how: Join)
+    /// Joins the marks with the places of a shape, which stands at a point as it does about (0, 0).
+    pub(crate) fn join<S: HasHeights>(&mut self, shape: &S, at: Point, how: Join)
         requires sound { S.is_sound shape.now }
         requires at { IsOnBoard at }
         ensures { Joins how (λ s. S.holds shape.now (relative at s)) self.old self.new }
     {
-        let band = self.grid.band(shape.heights(), at);
-        if band.end <= band.first {
-            return;
-        }
-        let mut marks = [0; 64];
-        let rows = &mut marks[band.first as usize..band.end as usize];
-        shape.rows(self.grid.row_from(band.first, at), rows);
-        how.join_rows(&mut self.rows, &marks);
+        let grid = self.grid();
+        let mut runs = Runs::none();
+        runs.find(shape, at, &grid, grid.columns);
+        self.join_runs(&runs, 0, how);
     }
 
     /// Turns over the marks at the centres, as they are seen from a point, from which the ray to the right crosses an

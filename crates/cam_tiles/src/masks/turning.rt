@@ -22,10 +22,10 @@ ghost use Rattle.cam_tiles.specs.Tiles.{centre_in};
 
 use crate::grid::Grid;
 use crate::masks::filing::{FiledSegment, corner_at, segment_at};
+use crate::masks::heights::HasHeights;
 use crate::masks::join::Join;
 use crate::masks::mask::Mask;
 use crate::masks::parity::crossed_heights;
-use crate::masks::row_shape::RowShape;
 use crate::shown::Region;
 use crate::span::Span;
 use cam_rows::{Centres, cap_runs, edge_runs, mark_end, mark_ends, mark_runs, spread_marks};
