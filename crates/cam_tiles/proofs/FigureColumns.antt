@@ -21,7 +21,7 @@ use Rattle.cam_tiles.specs.declared.masks.join.Join.TheVariants.{Add, Clear}
 use Rattle.cam_tiles.specs.declared.masks.runs.Runs.{Runs}
 use Rattle.cam_tiles.specs.declared.masks.figure_runs.FigureRuns.{FigureRuns}
 use Rattle.cam_tiles.specs.Machinery.Masks.{IsIn, IsMarked, IsWithin, Joins, Marking, inked, joined}
-use Rattle.cam_tiles.specs.Machinery.Runs.{IsClear, Tells}
+use Rattle.cam_tiles.specs.Machinery.Runs.{Fits, HasColumn, IsClear, Tells}
 use Rattle.cam_tiles.specs.Machinery.Figures.{AllFit, HasPart, IsToldAt, TellsFigure}
 use Rattle.cam_tiles.specs.Tiles.{IsGrid, centre_in}
 use Rattle.cam_tiles.proofs.Joined.{joined_like}
@@ -82,19 +82,13 @@ tells_figure g columns IsHeld B H Y S E body hollow beyond start end b h y s e l
       );
 }
 
--- a disc is the start of a stroke of no length
+-- a disc is a stroke of no length
 pub disc_law : (p q : Point) (w : Nm) → p ≡ q → (t : Spot)
-    → IsInCapsule t (record { from = p; to = q; width = w })
-    ↔ (((⊥ × (⊥ → ⊥) × (⊥ → ⊥)) ⊎ IsInDisc t (record { centre = p; diameter = w })) ⊎ ⊥)
+    → IsInCapsule t (record { from = p; to = q; width = w }) ↔ IsInDisc t (record { centre = p; diameter = w })
 disc_law p q w is t =
     let same : IsInDisc t (record { centre = p; diameter = w })
-    ↔ IsInCapsule t (record { from = p; to = q; width = w }) = rw is (disc_stroke t q w) in (
-      (λ held. inl (inr (same.1 held))),
-      (λ part. elim part [
-        | inl before ↦ elim before [ inl none ↦ absurd none.0 | inr on ↦ same.0 on ]
-        | inr none ↦ absurd none
-      ]),
-    )
+    ↔ IsInCapsule t (record { from = p; to = q; width = w }) = rw is (disc_stroke t q w) in
+    (same.1, same.0)
 
 pub straight_law : (c : Capsule) (t : Spot)
     → IsInCapsule t c
@@ -138,6 +132,46 @@ tells_body g columns IsHeld body none told hollow beyond start end =
         | inr empty ↦ absurd empty
       ]),
     ))
+
+parts_united : (P B L N S T E F H Y : Type 0) → (H → ⊥) → (Y → ⊥) → (L ⊎ T) ↔ (B ⊎ S) → (N ⊎ F) ↔ (L ⊎ E)
+    → (((B × (H → ⊥) × (Y → ⊥)) ⊎ S) ⊎ E) ↔ P → (((N × (H → ⊥) × (Y → ⊥)) ⊎ T) ⊎ F) ↔ P
+parts_united P B L N S T E F H Y no_hollow no_beyond first second told =
+    let whole : B → P = λ b. told.0 (inl (inl (b, no_hollow, no_beyond))) in
+    let old : L ⊎ T → P = λ part. elim (first.0 part) [ inl b ↦ whole b | inr s ↦ told.0 (inl (inr s)) ] in
+    let new : L ⊎ E → ((N × (H → ⊥) × (Y → ⊥)) ⊎ T) ⊎ F = λ part. elim (second.1 part) [
+      | inl n ↦ inl (inl (n, no_hollow, no_beyond))
+      | inr f ↦ inr f
+    ] in
+    let any : B ⊎ S → ((N × (H → ⊥) × (Y → ⊥)) ⊎ T) ⊎ F = λ part. elim (first.1 part) [
+      | inl l ↦ new (inl l)
+      | inr t ↦ inl (inr t)
+    ] in
+    let ahead : N ⊎ F → P = λ part. elim (second.0 part) [ inl l ↦ old (inl l) | inr e ↦ told.0 (inr e) ] in (
+      (λ part. elim part [
+        | inl before ↦ elim before [ inl n ↦ ahead (inl n.0) | inr t ↦ old (inr t) ]
+        | inr f ↦ ahead (inr f)
+      ]),
+      (λ p. elim (told.1 p) [
+        | inl before ↦ elim before [ inl b ↦ any (inl b.0) | inr s ↦ any (inr s) ]
+        | inr e ↦ new (inr e)
+      ]),
+    )
+
+-- a body that takes in what it may of the discs about its ends
+pub tells_united : (g : Grid) (columns : ℕ) (IsHeld : Spot → Type 0) (r : FigureRuns) (longer body start end : Runs)
+    → IsClear r.hollow → IsClear r.beyond → TellsFigure g columns IsHeld r → Fits g.rows body → Fits g.rows start
+    → Fits g.rows end
+    → ((row column : ℕ) → (HasColumn longer row column ⊎ HasColumn start row column)
+    ↔ (HasColumn r.body row column ⊎ HasColumn r.start row column))
+    → ((row column : ℕ) → (HasColumn body row column ⊎ HasColumn end row column)
+    ↔ (HasColumn longer row column ⊎ HasColumn r.end row column))
+    → TellsFigure g columns IsHeld (record r { body = body; start = start; end = end })
+tells_united g columns IsHeld r longer body start end no_hollow no_beyond told fit fit_start fit_end first second = record {
+  fit = record { body = fit; hollow = told.fit.hollow; beyond = told.fit.beyond; start = fit_start; end = fit_end };
+  each = λ column row near within.
+      parts_united _ _ _ _ _ _ _ _ _ _ (no_hollow.none row column) (no_beyond.none row column) (first row column)
+      (second row column) (told.each column row near within);
+}
 
 -- what is taken out of an arc's body is so between the heights of its stroke
 pub round_law : (a : Arc) (h : Heights) → ((t : Spot) → IsInArc t a → IsWithin h t) → (t : Spot)

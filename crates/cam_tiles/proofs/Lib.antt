@@ -7,6 +7,7 @@ pub mod CountedMarks
 pub mod CountedSegments
 pub mod DrawnTiles
 pub mod EdgeSpans
+pub mod FigureColumns
 pub mod FiledContours
 pub mod FiledSegments
 pub mod Flashes
@@ -37,11 +38,11 @@ pub mod SpanLemmas
 pub mod Stamps
 pub mod StepLemmas
 pub mod Strips
-pub mod FigureColumns
 pub mod SwathLayouts
 pub mod SwathRows
 pub mod TableFacts
 pub mod TablePixels
+pub mod TakenRuns
 pub mod TileCounts
 pub mod TileRowLemmas
 pub mod TilesInOrder

@@ -35,7 +35,7 @@ in_band r row column B P after until told = (
 
 -- ---- runs in the rows of a grid
 
-without_rows : (rows : ℕ) (r : Runs) → IsClear r → Fits rows r
+pub without_rows : (rows : ℕ) (r : Runs) → IsClear r → Fits rows r
 without_rows rows r clear = record {
   low = omega (arith, clear.low);
   spanned = λ row column on. absurd (clear.none row column on);

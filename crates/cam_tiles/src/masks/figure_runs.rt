@@ -97,7 +97,7 @@ impl FigureRuns {
         }
     }
 
-    /// Turns to those of a straight stroke. One of no length is a disc.
+    /// Turns to those of a straight stroke, which are one in each row. One of no length is a disc.
     fn find_straight(&mut self, capsule: &Capsule, at: Point, grid: &Grid, columns: u32)
         requires sound { IsSoundCapsule capsule.now }
         requires at { IsOnBoard at }
@@ -110,10 +110,11 @@ impl FigureRuns {
             centre: from,
             diameter: width,
         };
-        self.start.find(&start, at, grid, columns);
         if from == to {
+            self.body.find(&start, at, grid, columns);
             return;
         }
+        self.start.find(&start, at, grid, columns);
         let end = Disc {
             centre: to,
             diameter: width,
@@ -121,6 +122,8 @@ impl FigureRuns {
         self.end.find(&end, at, grid, columns);
         let bar = Bar { from, to, width };
         self.body.find(&bar, at, grid, columns);
+        self.body.take_in(&mut self.start);
+        self.body.take_in(&mut self.end);
     }
 
     /// Turns to those of an arc. All that is taken out of its body is so between the arc's heights alone.

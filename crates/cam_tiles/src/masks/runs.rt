@@ -1,6 +1,6 @@
 //! Runs of columns in the rows of masks side by side.
 
-ghost use Rattle.std.specs.Prelude.{◌≡◌, ◌↔◌, ◌<◌, ◌≤◌, ℕ, IsTrue, length, slice_index};
+ghost use Rattle.std.specs.Prelude.{◌≡◌, ◌↔◌, ◌⊎◌, ◌<◌, ◌≤◌, ℕ, IsTrue, length, slice_index};
 ghost use Rattle.cam_units.specs.Board.{IsOnBoard};
 ghost use Rattle.cam_objects.specs.Image.{relative};
 ghost use Rattle.cam_rows.specs.Rows.{centre_at, row_below};
@@ -46,6 +46,37 @@ impl Runs {
         self.band = Span::NONE;
         self.columns = Span::NONE;
         self.common = Span::NONE;
+    }
+
+    /// Takes in the runs of another, row after row, as long as each is one run with that of its row here. Once it has
+    /// taken in all of them, the other has none.
+    pub(crate) fn take_in(&mut self, other: &mut Runs)
+        requires few { other.old.band.end ≤ 64 }
+        ensures columns { (row column : ℕ) → (HasColumn self.new row column ⊎ HasColumn other.new row column)
+            ↔ (HasColumn self.old row column ⊎ HasColumn other.old row column) }
+        ensures fits { (rows : ℕ) → Fits rows self.old → Fits rows other.old → Fits rows self.new × Fits rows other.new }
+    {
+        if other.band.first < self.band.first || self.band.end < other.band.end {
+            return;
+        }
+        self.columns = self.columns.joined(other.columns);
+        for row in other.band.first..other.band.end {
+            let k = row as usize;
+            let here = Span {
+                first: self.firsts[k],
+                end: self.ends[k],
+            };
+            let there = Span {
+                first: other.firsts[k],
+                end: other.ends[k],
+            };
+            let Some(run) = here.united(there) else {
+                return;
+            };
+            self.firsts[k] = run.first;
+            self.ends[k] = run.end;
+        }
+        other.clear();
     }
 
     /// Whether no run reaches the columns from a first one on and before an end.
