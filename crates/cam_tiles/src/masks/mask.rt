@@ -192,14 +192,45 @@ impl Mask {
             self.join_band(runs.band, run_row(first, end, column, columns), how);
             return;
         }
-        for row in runs.band.first..runs.band.end {
+        let band = runs.rows_between(column, past);
+        self.join_rows(runs, band, column, how);
+    }
+
+    /// Joins the marks in the rows of a band with runs of columns: by a loop for each way to join.
+    fn join_rows(&mut self, runs: &Runs, band: Span, column: u32, how: Join)
+        requires near { column < most_columns }
+        requires band { band.end ≤ self.old.grid.rows }
+        ensures grid { self.new.grid ≡ self.old.grid }
+        ensures marks { (i row : ℕ) → IsIn self.old.grid i row → IsMarked self.new i row
+            ↔ joined how (IsMarked self.old i row) (HasColumn (record runs.now { band = band }) row (column + i)) }
+    {
+        match how {
+            Join::Add => self.join_each_row(runs, band, column, Join::Add),
+            Join::Clear => self.join_each_row(runs, band, column, Join::Clear),
+            Join::Turn => self.join_each_row(runs, band, column, Join::Turn),
+        }
+    }
+
+    /// The same, compiled for each way to join.
+    #[inline(always)]
+    fn join_each_row(&mut self, runs: &Runs, band: Span, column: u32, how: Join)
+        requires near { column < most_columns }
+        requires band { band.end ≤ self.old.grid.rows }
+        ensures grid { self.new.grid ≡ self.old.grid }
+        ensures marks { (i row : ℕ) → IsIn self.old.grid i row → IsMarked self.new i row
+            ↔ joined how (IsMarked self.old i row) (HasColumn (record runs.now { band = band }) row (column + i)) }
+    {
+        let past = column + self.grid.columns;
+        for row in band.first..band.end {
             let k = row as usize;
-            let run = Span {
-                first: runs.firsts[k].saturating_sub(column),
-                end: runs.ends[k].saturating_sub(column).min(columns),
-            };
-            if run.first < run.end {
-                self.rows[k] = how.join_row(self.rows[k], run.bits());
+            let first = runs.firsts[k].max(column);
+            let end = runs.ends[k].min(past);
+            if first < end {
+                let marks = Span {
+                    first: first - column,
+                    end: end - column,
+                };
+                self.rows[k] = how.join_row(self.rows[k], marks.bits());
             }
         }
     }

@@ -90,6 +90,39 @@ impl Runs {
         end <= self.columns.first
     }
 
+    /// Rows of the band outside of which no run reaches the columns from a first one on and before an end.
+    pub(crate) fn rows_between(&self, first: u32, end: u32) -> Span
+        requires few { self.now.band.end ≤ 64 }
+        ensures within { (self.now.band.first ≤ result.first) × (result.end ≤ self.now.band.end) }
+        ensures others { (row column : ℕ) → HasColumn self.now row column → first ≤ column → column < end
+            → (result.first ≤ row) × (row < result.end) }
+    {
+        let mut top = self.band.first;
+        let mut bottom = self.band.end;
+        while top < bottom && self.misses_in(top, first, end) {
+            top += 1;
+        }
+        while top < bottom && self.misses_in(bottom - 1, first, end) {
+            bottom -= 1;
+        }
+        Span {
+            first: top,
+            end: bottom,
+        }
+    }
+
+    /// Whether the run of a row does not reach the columns from a first one on and before an end.
+    #[inline]
+    fn misses_in(&self, row: u32, first: u32, end: u32) -> bool
+        requires { row < 64 }
+        ensures { IsTrue result → (column : ℕ) → HasColumn self.now row column → first ≤ column → column < end → ⊥ }
+    {
+        if self.ends[row as usize] <= first {
+            return true;
+        }
+        end <= self.firsts[row as usize]
+    }
+
     /// Turns to those of a shape, which stands at a point as it does about (0, 0), in the rows of a grid, and as many
     /// columns from its left on.
     pub(crate) fn find<S: HasHeights>(&mut self, shape: &S, at: Point, grid: &Grid, columns: u32)
