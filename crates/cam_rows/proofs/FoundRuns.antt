@@ -9,9 +9,9 @@ use Rattle.cam_rows.specs.declared.centres.Centres.{Centres}
 use Rattle.cam_rows.specs.declared.rows.Change.{Change}
 use Rattle.cam_rows.specs.declared.rows.Change.TheVariants.{Clear}
 use Rattle.cam_rows.specs.Machinery.Changes.{Has, IsSetBy}
-use Rattle.cam_rows.specs.Machinery.Narrowing.{AreFound, AreNarrowed}
+use Rattle.cam_rows.specs.Machinery.Narrowing.{AreNarrowed}
 use Rattle.cam_rows.specs.Rows.{centre_at, row_below}
-use Rattle.cam_rows.specs.Runs.{AreRuns, IsInRun}
+use Rattle.cam_rows.specs.Runs.{AreFound, AreRuns, IsInRun}
 use Rattle.cam_rows.proofs.ChangedRows.{below_below, set_alike}
 use Rattle.cam_rows.proofs.SetBits.{none_set}
 

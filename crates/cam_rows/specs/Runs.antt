@@ -37,3 +37,12 @@ pub record AreEnds (ends : List ℕ) (top : Centres) (IsIn : Spot → Type 0) : 
   pub each : (k i : ℕ) → k < length ends → i < top.count
       → (i < slice_index ends k) ↔ IsIn (centre_at (row_below top k) i)
   pub within : (k : ℕ) → k < length ends → slice_index ends k ≤ top.count
+
+-- of the columns that are in the runs of rows all are found that a shape holds, and no column that it does not hold
+pub record AreFound (firsts ends : List ℕ) (top : Centres) (IsIn : Spot → Type 0) (new_firsts new_ends : List ℕ)
+    : Type 0 where
+  pub held : (k i : ℕ) → k < length firsts → i < top.count
+      → IsInRun (slice_index new_firsts k) (slice_index new_ends k) i → IsIn (centre_at (row_below top k) i)
+  pub all : (k i : ℕ) → k < length firsts → i < top.count
+      → IsInRun (slice_index firsts k) (slice_index ends k) i → IsIn (centre_at (row_below top k) i)
+      → IsInRun (slice_index new_firsts k) (slice_index new_ends k) i

@@ -18,25 +18,24 @@ use crate::runs::circle::narrow_to_circle;
 use crate::sweep::cross_product;
 use cam_shapes::{Arc, Disc};
 
-/// An arc's outer circle in its sweep.
+/// What the outer circle of an arc's stroke holds, and its sweep, where that is at most a half turn: the runs are those of
+/// [`outer_runs`].
 #[derive(Clone, Copy)]
-struct Outer {
-    arc: Arc,
-    ring: Ring,
+pub struct Outer {
+    pub arc: Arc,
+    pub ring: Ring,
 }
 
-/// An arc's inner circle.
+/// What the inner circle of an arc's stroke holds: the runs are those of [`hollow_runs`](crate::hollow_runs).
 #[derive(Clone, Copy)]
-struct Hollow {
-    arc: Arc,
-    ring: Ring,
+pub struct Hollow {
+    pub arc: Arc,
+    pub ring: Ring,
 }
 
-/// What an arc's sweep leaves out.
+/// What an arc's sweep leaves out, where it is more than a half turn: the runs are those of [`beyond_runs`].
 #[derive(Clone, Copy)]
-struct Beyond {
-    arc: Arc,
-}
+pub struct Beyond(pub Arc);
 
 impl RunShape for Outer {
     ghost is_sound = { λ o. IsSoundArc o.arc × IsRingOf o.ring o.arc };
@@ -63,13 +62,13 @@ impl RunShape for Hollow {
 }
 
 impl RunShape for Beyond {
-    ghost is_sound = { λ b. IsSoundArc b.arc };
+    ghost is_sound = { λ b. IsSoundArc b.0 };
 
-    ghost holds = { λ b s. IsBeyond b.arc s };
+    ghost holds = { λ b s. IsBeyond b.0 s };
 
     #[tactic(auto, using(crate::proofs::FoundRuns::found_anew))]
     fn find(&self, top: &Centres, firsts: &mut [u32], ends: &mut [u32]) {
-        beyond_runs(&self.arc, top, firsts, ends);
+        beyond_runs(&self.0, top, firsts, ends);
     }
 }
 
@@ -116,7 +115,7 @@ fn clear_beyond(arc: &Arc, top: &Centres, rows: &mut [u64])
     ensures { AreChanged Clear rows.old (Has top.now (λ s. IsBeyond arc.now s)) rows.new }
 {
     if leaves_out(arc) {
-        change_rows(&Beyond { arc: *arc }, Change::Clear, top, rows);
+        change_rows(&Beyond(*arc), Change::Clear, top, rows);
     }
 }
 

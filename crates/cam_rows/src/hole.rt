@@ -10,9 +10,9 @@ use crate::run_shape::RunShape;
 use crate::runs::hole::hole_runs;
 use cam_shapes::Disc;
 
-/// A disc without its edge.
+/// The hole of an aperture: a disc without its edge. The diameter is in nanometres.
 #[derive(Clone, Copy)]
-struct Hole(Disc);
+pub struct Hole(pub Disc);
 
 impl RunShape for Hole {
     ghost is_sound = { λ h. IsSoundDisc h.0 };

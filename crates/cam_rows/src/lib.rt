@@ -27,6 +27,8 @@
 //!   to 32,768 centres, a run of columns for each row; [`run_row`]: the bits of a part of it. [`cap_runs`] and
 //!   [`edge_runs`] are those of parts of a region: a run of an edge begins at the leftmost column.
 //! - [`ring_of`], [`outer_runs`], [`hollow_runs`], [`beyond_runs`]: an arc in such rows.
+//! - [`RunShape`]: all of these shapes alike; [`Hole`] stands for a hole, [`Outer`], [`Hollow`] and [`Beyond`] for the parts
+//!   of an arc.
 //! - [`mark_end`], [`mark_ends`], [`mark_runs`], [`spread_marks`]: marks in rows of tiles side by side, of which each turns
 //!   over all columns left of it, and the columns that all of them together turn over.
 //! - [`or_rows`], [`clear_rows`], [`xor_rows`]: the 64 rows of a tile; [`pbm_bytes`]: a row in a file.
@@ -64,7 +66,7 @@ mod sweep;
 mod swept;
 mod way;
 
-pub use arc::{arc_row, arc_rows};
+pub use arc::{Beyond, Hollow, Outer, arc_row, arc_rows};
 pub use bar::{bar_row, bar_rows};
 pub use cap::{cap_row, cap_rows};
 pub use capsule::{capsule_row, capsule_rows};
@@ -72,13 +74,14 @@ pub use centres::Centres;
 pub use circle::squared_distance;
 pub use disc::{disc_row, disc_rows};
 pub use edge::{edge_end, edge_row, turn_edge};
-pub use hole::{hole_row, hole_rows};
+pub use hole::{Hole, hole_row, hole_rows};
 pub use lanes::{clear_rows, or_rows, pbm_bytes, xor_rows};
 pub use laws::arc_is_its_runs;
 pub use marks::{mark_end, mark_ends, mark_runs, spread_marks};
 pub use obround::{obround_row, obround_rows};
 pub use rect::{rect_row, rect_rows};
 pub use ring::{Ring, ring_of};
+pub use run_shape::RunShape;
 pub use runs::arc::{beyond_runs, hollow_runs, outer_runs};
 pub use runs::bar::bar_runs;
 pub use runs::cap::cap_runs;

@@ -77,12 +77,6 @@ shows_joined how P Q old new h j = record {
       (λ column row within. joined_like how _ _ _ _ _ (h.marks column row within) same (j.marks column row within));
 }
 
--- a blank mask shows what is added to it
-pub shows_added : (P : Spot → Type 0) (blank own : Marking) → IsBlank blank → Joins Add P blank own → Shows P own
-shows_added P blank own none j =
-    shows_like (λ s. joined Add ⊥ (P s)) P own (λ s. grind arith)
-    (shows_joined Add (λ s. ⊥) P blank own (shows_nothing blank none) j)
-
 -- marks that are joined with a mask are joined with the shape that it shows
 pub merges_shown : (how : Join) (P : Spot → Type 0) (own old new : Marking) → own.grid ≡ old.grid → Shows P own
     → Merges how own old new → Joins how P old new
@@ -93,9 +87,3 @@ merges_shown how P own old new e h m = record {
       → IsMarked own column row ↔ P (centre_in g column row)) e h.marks column row within)
       (m.marks column row within);
 }
-
--- a mask that was blank, and that a shape is added to
-pub merged_added : (how : Join) (P : Spot → Type 0) (blank own old new : Marking) → blank.grid ≡ old.grid
-    → IsBlank blank → Joins Add P blank own → Merges how own old new → Joins how P old new
-merged_added how P blank own old new e none j m =
-    merges_shown how P own old new (j.grid ∙ e) (shows_added P blank own none j) m

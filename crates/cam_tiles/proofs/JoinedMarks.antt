@@ -158,16 +158,6 @@ all_joined how IsHeld old new first end rows none = record {
   marks = all_joined_at how (λ column row. IsHeld (centre_in old.grid column row)) old new first end rows none;
 }
 
--- the centres that a shape holds lie in the rows between its heights
-pub none_outside : (IsHeld : Spot → Type 0) (h : Heights) (at : Point) (g : Grid) (first end stop : ℕ)
-    → ((row : ℕ) → row < g.rows
-    → ((first ≤ row) × (row < end)) ↔ IsWithin h (relative at (centre_in g 0 row)))
-    → ((s : Spot) → IsHeld s → IsWithin h s) → end ≤ stop → (column row : ℕ) → IsIn g column row
-    → (row < first) ⊎ (stop ≤ row) → IsHeld (relative at (centre_in g column row)) → ⊥
-none_outside IsHeld h at g first end stop band heights done column row inside outside held =
-    let between = (band row inside.1).1 (heights (relative at (centre_in g column row)) held) in
-    elim outside [ inl early ↦ omega (arith, between.0) | inr late ↦ omega (arith, between.1, done) ]
-
 -- ---- the words of a tile
 
 -- a word of a tile, cut to some columns

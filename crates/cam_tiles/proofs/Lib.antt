@@ -7,6 +7,7 @@ pub mod CountedMarks
 pub mod DrawnTiles
 pub mod EdgeSpans
 pub mod Fields
+pub mod FigureColumns
 pub mod FiledContours
 pub mod FiledSegments
 pub mod Flashes
@@ -16,7 +17,6 @@ pub mod Indexed
 pub mod Joined
 pub mod JoinedMarks
 pub mod LevelRows
-pub mod MarkedBands
 pub mod MarkedTiles
 pub mod MaskWords
 pub mod PaintedBands
@@ -37,11 +37,11 @@ pub mod SpanLemmas
 pub mod Stamps
 pub mod StepLemmas
 pub mod Strips
-pub mod StrokeColumns
 pub mod SwathLayouts
 pub mod SwathRows
 pub mod TableFacts
 pub mod TablePixels
+pub mod TakenRuns
 pub mod TileCounts
 pub mod TileRowLemmas
 pub mod TilesInOrder

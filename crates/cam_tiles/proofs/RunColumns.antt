@@ -1,23 +1,28 @@
 -- Columns of runs, by the bits of masks.
-use Rattle.std.proofs.Common.{◌≡◌, ◌↔◌, ℕ, ◌+◌, ◌-◌, ◌<◌, ◌≤◌, ℤ, pos, ◌+ℤ◌, ◌-ℤ◌, ◌*ℤ◌}
-use Rattle.std.proofs.Common.{List, length, slice_index, inl, inr, refl, arith}
+use Rattle.std.proofs.Common.{◌≡◌, ◌↔◌, ℕ, ◌+◌, ◌-◌, ◌<◌, ◌≤◌, ℤ, pos, ◌+ℤ◌, ◌-ℤ◌, ◌*ℤ◌, ◌≤ℤ◌}
+use Rattle.std.proofs.Common.{List, length, slice_index, inl, inr, subst, zero-add, arith}
 use Rattle.std.proofs.lemmas.Bool.{cases_lt}
 use borrow.Rule.Slice.PartMut.{put_mid}
-use Rattle.cam_units.specs.Board.{IsInReach, IsPlace}
+use Rattle.cam_units.specs.Board.{IsInReach, IsOnBoard, IsPlace}
+use Rattle.cam_units.specs.declared.point.Point.{Point}
 use Rattle.cam_units.specs.declared.point.Spot.{Spot}
 use Rattle.cam_units.proofs.Ring.{equal}
 use Rattle.cam_units.proofs.Ring.Polynomial.{Atom, Difference, Product}
+use Rattle.cam_objects.specs.Image.{relative}
 use Rattle.cam_rows.specs.declared.centres.Centres.{Centres}
 use Rattle.cam_rows.specs.Rows.{centre_at, row_below}
-use Rattle.cam_rows.specs.Runs.{AreRuns, AreWideRows, IsInRun, IsWideRow}
+use Rattle.cam_rows.specs.Runs.{AreWideRows, IsInRun, IsWideRow}
 use Rattle.cam_tiles.specs.declared.grid.Grid.{Grid}
 use Rattle.cam_tiles.specs.declared.masks.heights.Heights.{Heights}
+use Rattle.cam_tiles.specs.declared.masks.join.Join.{Join}
 use Rattle.cam_tiles.specs.declared.masks.runs.Runs.{Runs}
-use Rattle.cam_tiles.specs.Machinery.Levels.{IsOnRow, height, levels_of}
-use Rattle.cam_tiles.specs.Machinery.Masks.{IsWithin}
-use Rattle.cam_tiles.specs.Machinery.Runs.{Fits, HasColumn, IsWideGrid, Tells}
-use Rattle.cam_tiles.specs.Tiles.{centre_in}
-use Rattle.cam_tiles.proofs.TurnedBands.{part_at}
+use Rattle.cam_tiles.specs.Machinery.Levels.{height, levels_of}
+use Rattle.cam_tiles.specs.Machinery.Masks.{IsIn, IsMarked, IsWithin, Joins, Marking, joined}
+use Rattle.cam_tiles.specs.Machinery.Runs.{Fits, HasColumn, IsClear, IsWideGrid, Tells}
+use Rattle.cam_tiles.specs.Tiles.{IsGrid, centre_in}
+use Rattle.cam_tiles.proofs.Joined.{joined_like}
+use Rattle.cam_tiles.proofs.SeenRows.{in_reach}
+use Rattle.cam_tiles.proofs.TurnedBands.{below_seen, part_at}
 
 -- a row of the band
 pub in_band : (r : Runs) (row column : ℕ) (B P : Type 0) → r.band.first ≤ row → row < r.band.end
@@ -30,27 +35,146 @@ in_band r row column B P after until told = (
 
 -- ---- runs in the rows of a grid
 
-without_rows : (rows : ℕ) (r : Runs) → ((row column : ℕ) → HasColumn r row column → ⊥) → r.band.end ≡ 0 → Fits rows r
-without_rows rows r none low = record {
-  low = omega (arith, low);
-  spanned = λ row column on. absurd (none row column on);
-  shared = λ row column after until on. absurd (omega (arith, low, until));
+pub without_rows : (rows : ℕ) (r : Runs) → IsClear r → Fits rows r
+without_rows rows r clear = record {
+  low = omega (arith, clear.low);
+  spanned = λ row column on. absurd (clear.none row column on);
+  shared = λ row column after until on. absurd (omega (arith, clear.low, until));
 }
 
+-- runs that hold nothing
+pub tells_nothing : (g : Grid) (columns : ℕ) (r : Runs) → IsClear r → Tells g columns (λ s. ⊥) r
+tells_nothing g columns r clear = record {
+  fits = without_rows g.rows r clear;
+  each = λ column row _ _. ((λ on. clear.none row column on), (λ held. absurd held));
+}
+
+-- rows of a grid at some heights, as they are seen from a point
+abbrev pub IsBand : Grid → Point → Heights → ℕ → ℕ → Type 0
+IsBand g at h first end =
+    (row : ℕ) → row < g.rows → ((first ≤ row) × (row < end)) ↔ IsWithin h (relative at (centre_in g 0 row))
+
 -- nothing is held in a band without rows
-pub tells_none : (g : Grid) (columns first end : ℕ) (h : Heights) (IsHeld : Spot → Type 0) (r : Runs) → end ≤ first
-    → ((row : ℕ) (s : Spot) → IsOnRow (levels_of g) row s → ((first ≤ row) × (row < end)) ↔ IsWithin h s)
-    → ((s : Spot) → IsHeld s → IsWithin h s) → ((row column : ℕ) → HasColumn r row column → ⊥) → r.band.end ≡ 0
-    → Tells g columns IsHeld r
-tells_none g columns first end h IsHeld r empty rows heights none low = record {
-  fits = without_rows g.rows r none low;
+pub tells_none : (g : Grid) (columns first end : ℕ) (at : Point) (h : Heights) (IsHeld : Spot → Type 0) (r : Runs)
+    → end ≤ first → IsBand g at h first end → IsClear r
+    → Tells g columns (λ s. IsHeld (relative at s) × IsWithin h (relative at s)) r
+tells_none g columns first end at h IsHeld r empty rows clear = record {
+  fits = without_rows g.rows r clear;
   each = λ column row _ within. (
-    (λ on. absurd (none row column on)),
-    (λ held.
-        let inside = (rows row (centre_in g column row) (within, refl)).1 (heights (centre_in g column row) held) in
-        absurd (omega (arith, empty, inside.0, inside.1))),
+    (λ on. absurd (clear.none row column on)),
+    (λ held. let inside = (rows row within).1 held.1 in absurd (omega (arith, empty, inside.0, inside.1))),
   );
 }
+
+-- the rows below one of a grid that goes on to the right
+pub wide_below : (g : Grid) (columns n : ℕ) (at : Point) (top : Centres) (first : ℕ)
+    → ((i : ℕ) → centre_at top i ≡ relative at (centre_in g i first)) → IsWideGrid g columns → IsOnBoard at
+    → top.count ≡ columns → pos 1 ≤ℤ top.step → first + n ≤ g.rows → AreWideRows top n
+wide_below g columns n at top first centres wide board count step within k below = record {
+  count = rw count wide.count;
+  step = step;
+  centres = λ i inside. rw (below_seen g at top first centres k i) (in_reach at (centre_in g i (first + k)) board
+      (wide.centres i (first + k) (rw (← count) inside) (omega (arith, within, below))));
+}
+
+pub tells_band : (g : Grid) (columns first end : ℕ) (at : Point) (h : Heights) (IsHeld : Spot → Type 0) (top : Centres)
+    (clear clear_ends firsts ends : List ℕ) (from until late early : ℕ)
+    → ((i : ℕ) → centre_at top i ≡ relative at (centre_in g i first)) → top.count ≡ columns → first < end
+    → end ≤ g.rows → g.rows ≤ 64 → length clear ≡ 64 → length clear_ends ≡ 64 → length firsts ≡ end - first
+    → length ends ≡ end - first → IsBand g at h first end
+    → ((k i : ℕ) → k < length firsts → i < top.count
+    → IsInRun (slice_index firsts k) (slice_index ends k) i ↔ IsHeld (centre_at (row_below top k) i))
+    → ((k column : ℕ) → k < length firsts → IsInRun (slice_index firsts k) (slice_index ends k) column
+    → IsInRun from until column)
+    → ((k column : ℕ) → k < length firsts → IsInRun late early column
+    → IsInRun (slice_index firsts k) (slice_index ends k) column)
+    → Tells g columns (λ s. IsHeld (relative at s) × IsWithin h (relative at s)) (record {
+      band = record { first = first; end = end };
+      firsts = put_mid first (end - first) clear firsts;
+      ends = put_mid first (end - first) clear_ends ends;
+      columns = record { first = from; end = until };
+      common = record { first = late; end = early };
+    })
+tells_band g columns first end at h IsHeld top clear clear_ends firsts ends from to late early centres count some low few
+    whole whole_ends firsts_size ends_size rows told spanned shared =
+    let long : end ≤ length clear = omega (arith, whole, low, few) in
+    let long_ends : end ≤ length clear_ends = omega (arith, whole_ends, low, few) in
+    record {
+      fits = record {
+        low = low;
+        spanned = λ row column on.
+            let here = rw (
+              part_at first end clear firsts some long firsts_size row on.0 on.1,
+              part_at first end clear_ends ends some long_ends ends_size row on.0 on.1,
+            ) at on.2 in
+            spanned (row - first) column (omega (arith, firsts_size, on.0, on.1)) here;
+        shared = λ row column after before on. (
+          after,
+          before,
+          rw (
+            part_at first end clear firsts some long firsts_size row after before,
+            part_at first end clear_ends ends some long_ends ends_size row after before,
+          ) (shared (row - first) column (omega (arith, firsts_size, after, before)) on),
+        );
+      };
+      each = λ column row near within.
+          let s = relative at (centre_in g column row) in
+          let inside = rows row within in
+          let here : first ≤ row → row < end
+          → IsInRun (slice_index (put_mid first (end - first) clear firsts) row)
+          (slice_index (put_mid first (end - first) clear_ends ends) row) column ↔ IsHeld s = λ after until.
+          let k = row - first in
+          let same : first + k ≡ row = omega arith in
+          rw (
+            part_at first end clear firsts some long firsts_size row after until,
+            part_at first end clear_ends ends some long_ends ends_size row after until,
+          )
+          (rw (below_seen g at top first centres k column, same) at (told k column (omega (arith, firsts_size, until, after)) (rw count near))) in (
+            (λ on. ((here on.0 on.1).0 on.2, inside.0 (on.0, on.1))),
+            (λ held.
+                let band = inside.1 held.1 in
+                (band.0, band.1, (here band.0 band.1).1 held.0)),
+          );
+    }
+
+-- a shape that lies between the heights
+pub tells_whole : (g : Grid) (columns : ℕ) (at : Point) (h : Heights) (IsHeld : Spot → Type 0) (r : Runs)
+    → ((s : Spot) → IsHeld s → IsWithin h s)
+    → Tells g columns (λ s. IsHeld (relative at s) × IsWithin h (relative at s)) r
+    → Tells g columns (λ s. IsHeld (relative at s)) r
+tells_whole g columns at h IsHeld r heights told = record {
+  fits = told.fits;
+  each = λ column row near within.
+      let here = told.each column row near within in (
+        (λ on. (here.0 on).0),
+        (λ held. here.1 (held, heights (relative at (centre_in g column row)) held)),
+      );
+}
+
+-- the rows of a grid itself
+pub own_grid : (g : Grid) → IsGrid g → IsWideGrid g g.columns
+own_grid g grid = record {
+  grid = grid;
+  count = (grid.columns.0, omega (arith, grid.columns.1));
+  centres = grid.centres;
+}
+
+-- marks that are joined with the runs of a shape in the rows of their own grid
+pub joins_runs : (how : Join) (IsHeld : Spot → Type 0) (g : Grid) (r : Runs) (old new : Marking) → g ≡ old.grid
+    → Tells g g.columns IsHeld r → new.grid ≡ old.grid
+    → ((i row : ℕ) → IsIn old.grid i row
+    → IsMarked new i row ↔ joined how (IsMarked old i row) (HasColumn r row (0 + i)))
+    → Joins how IsHeld old new
+joins_runs how IsHeld g r old new is told grid marks =
+    let here = subst (λ (o : Grid). Tells o o.columns IsHeld r) is told in
+    record {
+      grid = grid;
+      marks = λ i row inside.
+          joined_like how _ _ _ _ _ ((λ a. a), (λ a. a)) (here.each i row inside.0 inside.1)
+          (rw (zero-add i) at (marks i row inside));
+    }
+
+-- ---- rows that go on to the right
 
 abbrev pub top_of : Grid → ℕ → ℕ → Centres
 top_of g columns first = record {
@@ -73,15 +197,15 @@ module _ (g : Grid) (columns first : ℕ) where
     y = further_down g.first.y g.step first k j;
   }
 
-  in_reach : (s : Spot) → IsPlace s → IsInReach s
-  in_reach s place = record { x = omega (arith, place.x); y = omega (arith, place.y) }
+  place_in_reach : (s : Spot) → IsPlace s → IsInReach s
+  place_in_reach s place = record { x = omega (arith, place.x); y = omega (arith, place.y) }
 
   pub wide_rows : IsWideGrid g columns → (k : ℕ) → first + k < g.rows → IsWideRow (row_below (top_of g columns first) k)
   wide_rows wide k below = record {
     count = wide.count;
     step = wide.grid.step;
     centres = λ i inside.
-        rw (below_top k i) (in_reach (centre_in g i (first + k)) (wide.centres i (first + k) inside below));
+        rw (below_top k i) (place_in_reach (centre_in g i (first + k)) (wide.centres i (first + k) inside below));
   }
 
   -- as the code computes the top row
@@ -90,86 +214,6 @@ module _ (g : Grid) (columns first : ℕ) where
       → AreWideRows (record { first = record { x = x; y = y }; step = step; count = columns }) m
   wide_rows_of x y step n m is_x is_y is_step wide within size k few =
       rw (is_x, is_y, is_step) (wide_rows wide k (omega (arith, within, size, few)))
-
-pub tells_band : (g : Grid) (columns first end : ℕ) (h : Heights) (IsHeld : Spot → Type 0) (x y step : ℤ)
-    (clear clear_ends firsts ends : List ℕ) (from until late early : ℕ) → x ≡ g.first.x → y ≡ height (levels_of g) first → step ≡ g.step → first < end
-    → end ≤ g.rows → g.rows ≤ 64 → length clear ≡ 64 → length clear_ends ≡ 64 → length firsts ≡ end - first → length ends ≡ end - first
-    → ((row : ℕ) (s : Spot) → IsOnRow (levels_of g) row s → ((first ≤ row) × (row < end)) ↔ IsWithin h s)
-    → AreRuns firsts ends (record { first = record { x = x; y = y }; step = step; count = columns }) IsHeld
-    → ((k column : ℕ) → k < length firsts → IsInRun (slice_index firsts k) (slice_index ends k) column
-    → IsInRun from until column)
-    → ((k column : ℕ) → k < length firsts → IsInRun late early column
-    → IsInRun (slice_index firsts k) (slice_index ends k) column)
-    → Tells g columns (λ s. IsHeld s × IsWithin h s) (record {
-      band = record { first = first; end = end };
-      firsts = put_mid first (end - first) clear firsts;
-      ends = put_mid first (end - first) clear_ends ends;
-      columns = record { first = from; end = until };
-      common = record { first = late; end = early };
-    })
-tells_band g columns first end h IsHeld x y step clear clear_ends firsts ends from to late early is_x is_y is_step some low few whole
-    whole_ends firsts_size ends_size rows runs spanned shared =
-    let told = rw (is_x, is_y, is_step) at runs.each in
-    let long : end ≤ length clear = omega (arith, whole, low, few) in
-    let long_ends : end ≤ length clear_ends = omega (arith, whole_ends, low, few) in
-    record {
-      fits = record {
-        low = low;
-        spanned = λ row column on.
-            let here = rw (
-              part_at first end clear firsts some long firsts_size row on.0 on.1,
-              part_at first end clear_ends ends some long_ends ends_size row on.0 on.1,
-            ) at on.2 in
-            spanned (row - first) column (omega (arith, firsts_size, on.0, on.1)) here;
-        shared = λ row column after before on. (
-          after,
-          before,
-          rw (
-            part_at first end clear firsts some long firsts_size row after before,
-            part_at first end clear_ends ends some long_ends ends_size row after before,
-          ) (shared (row - first) column (omega (arith, firsts_size, after, before)) on),
-        );
-      };
-      each = λ column row near within.
-          let s = centre_in g column row in
-          let inside = rows row s (within, refl) in
-          let here : first ≤ row → row < end
-          → IsInRun (slice_index (put_mid first (end - first) clear firsts) row)
-          (slice_index (put_mid first (end - first) clear_ends ends) row) column ↔ IsHeld s = λ after until.
-          let k = row - first in
-          let same : first + k ≡ row = omega arith in
-          rw (
-            part_at first end clear firsts some long firsts_size row after until,
-            part_at first end clear_ends ends some long_ends ends_size row after until,
-          )
-          (rw (below_top g columns first k column, same) at (told k column (omega (arith, firsts_size, until, after)) near)) in (
-            (λ on. ((here on.0 on.1).0 on.2, inside.0 (on.0, on.1))),
-            (λ held.
-                let band = inside.1 held.1 in
-                (band.0, band.1, (here band.0 band.1).1 held.0)),
-          );
-    }
-
--- runs that hold nothing
-pub tells_nothing : (g : Grid) (columns : ℕ) (r : Runs) → ((row column : ℕ) → HasColumn r row column → ⊥)
-    → r.band.end ≡ 0 → Tells g columns (λ s. ⊥) r
-tells_nothing g columns r none low = record {
-  fits = without_rows g.rows r none low;
-  each = λ column row _ _. ((λ on. none row column on), (λ held. absurd held));
-}
-
--- a shape that lies between the heights
-pub tells_whole : (g : Grid) (columns : ℕ) (h : Heights) (IsHeld : Spot → Type 0) (r : Runs)
-    → ((s : Spot) → IsHeld s → IsWithin h s) → Tells g columns (λ s. IsHeld s × IsWithin h s) r
-    → Tells g columns IsHeld r
-tells_whole g columns h IsHeld r heights told = record {
-  fits = told.fits;
-  each = λ column row near within.
-      let here = told.each column row near within in (
-        (λ on. (here.0 on).0),
-        (λ held. here.1 (held, heights (centre_in g column row) held)),
-      );
-}
 
 -- ---- spans
 

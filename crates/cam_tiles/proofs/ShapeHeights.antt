@@ -10,12 +10,11 @@ use Rattle.cam_shapes.specs.declared.disc.Disc.{Disc}
 use Rattle.cam_shapes.specs.declared.rectangle.Rectangle.{Rectangle}
 use Rattle.cam_shapes.specs.declared.obround.Obround.{Obround}
 use Rattle.cam_shapes.specs.declared.bar.Bar.{Bar}
-use Rattle.cam_shapes.specs.declared.capsule.Capsule.{Capsule}
 use Rattle.cam_shapes.specs.declared.swept.Swept.{Swept}
 use Rattle.cam_shapes.specs.declared.arc.Arc.{Arc}
 use Rattle.cam_shapes.specs.declared.cap.Cap.{Cap}
 use Rattle.cam_shapes.specs.Arc.{IsInArc}
-use Rattle.cam_shapes.specs.Bar.{IsInBar, IsInCapsule}
+use Rattle.cam_shapes.specs.Bar.{IsInBar}
 use Rattle.cam_shapes.specs.Box.{IsInObround, IsInRectangle}
 use Rattle.cam_shapes.specs.Cap.{is_in_cap}
 use Rattle.cam_shapes.specs.Disc.{IsInDisc, IsInHole}
@@ -78,14 +77,6 @@ module _ (p q : Point) (w : Nm) (h : Heights) (a : AreAlong p q w.0 h) (s : Spot
 
 pub in_bar : (b : Bar) (h : Heights) → AreAlong b.from b.to b.width.0 h → (s : Spot) → IsInBar s b → IsWithin h s
 in_bar b h a s on = beside b.from b.to b.width h a s on
-
-pub in_capsule : (c : Capsule) (h : Heights) → AreAlong c.from c.to c.width.0 h
-    → (s : Spot) → IsInCapsule s c → IsWithin h s
-in_capsule c h a s on = elim on.near [
-  | inl near ↦ at_start c.from c.to c.width h a s (record { some = on.wide; near = near })
-  | inr (inl near) ↦ at_end c.from c.to c.width h a s (record { some = on.wide; near = near })
-  | inr (inr near) ↦ beside c.from c.to c.width h a s (record { wide = on.wide; beside = near })
-]
 
 pub in_swept : (r : Swept) (h : Heights) → AreAlong r.from r.to r.height.0 h
     → (s : Spot) → IsInSwept s r → IsWithin h s

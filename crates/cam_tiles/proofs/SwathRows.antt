@@ -10,11 +10,11 @@ use Rattle.cam_units.proofs.Ring.Polynomial.{Atom, Sum, Product}
 use Rattle.cam_rows.specs.Runs.{IsInRun}
 use Rattle.cam_tiles.specs.declared.grid.Grid.{Grid}
 use Rattle.cam_tiles.specs.declared.levels.Levels.{Levels}
-use Rattle.cam_tiles.specs.declared.masks.stroke_runs.StrokeRuns.{StrokeRuns}
+use Rattle.cam_tiles.specs.declared.masks.figure_runs.FigureRuns.{FigureRuns}
 use Rattle.cam_tiles.specs.declared.window.Window.{Window}
 use Rattle.cam_tiles.specs.Machinery.Masks.{IsIn, Marking}
 use Rattle.cam_tiles.specs.Machinery.Runs.{IsWideGrid, StandsAt}
-use Rattle.cam_tiles.specs.Machinery.Strokes.{AllFit, HasPart, IsToldAt, TellsStroke}
+use Rattle.cam_tiles.specs.Machinery.Figures.{AllFit, HasPart, IsToldAt, TellsFigure}
 use Rattle.cam_tiles.specs.Machinery.Swaths.{StandInRow, grid_at, no_mask}
 use Rattle.cam_tiles.specs.Picture.{accepts}
 use Rattle.cam_tiles.specs.Tiles.{across, centre_in, columns, grid_of, left, tiles_of, top}
@@ -208,7 +208,7 @@ module _ (g : Grid) (columns : ℕ) (tiles before : List ℕ) (masks : List Mark
 
   -- ---- runs in these rows
 
-  module _ (IsHeld : Spot → Type 0) (stroke : StrokeRuns) (told : TellsStroke g columns IsHeld stroke) where
+  module _ (IsHeld : Spot → Type 0) (stroke : FigureRuns) (told : TellsFigure g columns IsHeld stroke) where
     pub told_there : (k : ℕ) → k < length masks → IsToldAt (64 * get_or tiles k 0) (grid_at masks k) IsHeld stroke
     told_there k inside =
         let at = stand.each k inside in

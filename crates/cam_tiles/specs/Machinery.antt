@@ -8,6 +8,6 @@ pub mod Masks
 pub mod Runs
 pub mod Shown
 pub mod Spans
-pub mod Strokes
+pub mod Figures
 pub mod Swaths
 pub mod Turning

@@ -1,6 +1,6 @@
 //! Numbers side by side: of rows, of columns, of tiles.
 
-ghost use Rattle.std.specs.Prelude.{◌↔◌, ◌⊎◌, ◌<◌, ◌≤◌, ℕ};
+ghost use Rattle.std.specs.Prelude.{◌↔◌, ◌⊎◌, ◌<◌, ◌≤◌, ℕ, IfSome};
 ghost use Rattle.std.specs.Int.{IsBitSet};
 
 /// Those from `first` on, and before `end`; none where `end` is not past `first`.
@@ -21,6 +21,27 @@ impl Span {
         ensures { (k : ℕ) → k < 64 → IsBitSet result k ↔ ((self.first ≤ k) × (k < self.end)) }
     {
         (u64::MAX >> (64 - self.end)) & (u64::MAX << self.first)
+    }
+
+    /// Those of it and of another, where they are side by side.
+    #[inline]
+    pub(crate) fn united(self, other: Span) -> Option<Span>
+        ensures { IfSome result (λ s. (k : ℕ) → ((s.first ≤ k) × (k < s.end))
+            ↔ (((self.first ≤ k) × (k < self.end)) ⊎ ((other.first ≤ k) × (k < other.end)))) }
+    {
+        if other.end <= other.first {
+            return Some(self);
+        }
+        if self.end <= self.first {
+            return Some(other);
+        }
+        if self.end < other.first || other.end < self.first {
+            return None;
+        }
+        Some(Span {
+            first: self.first.min(other.first),
+            end: self.end.max(other.end),
+        })
     }
 
     /// Those between which all of it and of another lie.

@@ -39,11 +39,3 @@ pub record AreNarrowed (columns : ℕ) (firsts ends : List ℕ) (IsHeld : ℕ �
 pub record AreCounted (columns : ℕ) (IsHeld : ℕ → ℕ → Type 0) (end : ℕ) (ends : List ℕ) : Type 0 where
   pub each : (k i : ℕ) → k < end → i < columns → (i < slice_index ends k) ↔ IsHeld k i
   pub within : (k : ℕ) → k < end → slice_index ends k ≤ columns
-
--- of the columns that are in the runs of rows all are found that a shape holds, and no column that it does not hold
-pub record AreFound (firsts ends : List ℕ) (top : Centres) (IsIn : Spot → Type 0) (new_firsts new_ends : List ℕ)
-    : Type 0 where
-  pub held : (k i : ℕ) → k < length firsts → i < top.count → IsInRow new_firsts new_ends k i
-      → IsIn (centre_at (row_below top k) i)
-  pub all : (k i : ℕ) → k < length firsts → i < top.count → IsInRow firsts ends k i
-      → IsIn (centre_at (row_below top k) i) → IsInRow new_firsts new_ends k i

@@ -20,6 +20,11 @@ pub record Fits (rows : ℕ) (r : Runs) : Type 0 where
   pub shared : (row column : ℕ) → r.band.first ≤ row → row < r.band.end
       → IsInRun r.common.first r.common.end column → HasColumn r row column
 
+-- no column is in a run, and no row in the band
+pub record IsClear (r : Runs) : Type 0 where
+  pub none : (row column : ℕ) → HasColumn r row column → ⊥
+  pub low : r.band.end ≡ 0
+
 -- the rows of a grid go on to the right: so many columns from its left on
 pub record IsWideGrid (g : Grid) (columns : ℕ) : Type 0 where
   pub grid : IsGrid g

@@ -5,8 +5,9 @@ ghost use Rattle.std.specs.Prelude.{◌==◌, slice_index};
 ghost use Rattle.cam_tiles.specs.Machinery.Masks.{IsIn};
 ghost use Rattle.cam_tiles.specs.Tiles.{centre_in};
 
+use crate::masks::figures::placed_of;
 use crate::masks::join::Join;
-use crate::masks::mask::{Mask, ORIGIN};
+use crate::masks::mask::Mask;
 use cam_objects::{Canvas, Figure, Print};
 use cam_units::Bounds;
 
@@ -22,18 +23,19 @@ impl Canvas for Mask {
     }
 
     fn paint(&mut self, print: Print<'_>) {
+        if let Some(placed) = placed_of(&print.figure) {
+            self.paint_placed(&placed, print);
+            return;
+        }
         let how = Join::inked(print.dark);
         match print.figure {
             Figure::Stamp { aperture, turn, at } => self.stamp(aperture, turn, at, how),
-            Figure::Stroke(capsule) => self.join(&capsule, ORIGIN, how),
-            Figure::Swept(swept) => self.join(&swept, ORIGIN, how),
-            Figure::Sweep(arc) => self.join(&arc, ORIGIN, how),
             Figure::Filled {
                 contour,
                 turn,
                 offset,
             } => self.fill(contour, turn, offset, how),
-            Figure::Drilled(disc) => self.join(&disc, ORIGIN, how),
+            _ => {}
         }
     }
 }

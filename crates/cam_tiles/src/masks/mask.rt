@@ -14,9 +14,8 @@ ghost use Rattle.cam_tiles.specs.Tiles.{IsGrid, centre_in};
 
 use crate::grid::Grid;
 use crate::levels::Levels;
-use crate::masks::heights::Heights;
+use crate::masks::heights::{HasHeights, Heights};
 use crate::masks::join::Join;
-use crate::masks::row_shape::RowShape;
 use crate::masks::runs::Runs;
 use crate::span::Span;
 use cam_rows::{Centres, run_row};
@@ -120,21 +119,16 @@ impl Mask {
         self.rows
     }
 
-    /// Joins the marks with the places of a shape, which stands at a point as it does about (0, 0): in the rows that it
-    /// may reach.
-    pub(crate) fn join<S: RowShape>(&mut self, shape: &S, at: Point, how: Join)
+    /// Joins the marks with the places of a shape, which stands at a point as it does about (0, 0).
+    pub(crate) fn join<S: HasHeights>(&mut self, shape: &S, at: Point, how: Join)
         requires sound { S.is_sound shape.now }
         requires at { IsOnBoard at }
         ensures { Joins how (λ s. S.holds shape.now (relative at s)) self.old self.new }
     {
-        let band = self.grid.band(shape.heights(), at);
-        if band.end <= band.first {
-            return;
-        }
-        let mut marks = [0; 64];
-        let rows = &mut marks[band.first as usize..band.end as usize];
-        shape.rows(self.grid.row_from(band.first, at), rows);
-        how.join_rows(&mut self.rows, &marks);
+        let grid = self.grid();
+        let mut runs = Runs::none();
+        runs.find(shape, at, &grid, grid.columns);
+        self.join_runs(&runs, 0, how);
     }
 
     /// Joins the marks with runs of columns, in rows of which the grid begins at a column. Where all runs have the same
@@ -161,14 +155,45 @@ impl Mask {
             self.join_band(runs.band, run_row(first, end, column, columns), how);
             return;
         }
-        for row in runs.band.first..runs.band.end {
+        let band = runs.rows_between(column, past);
+        self.join_rows(runs, band, column, how);
+    }
+
+    /// Joins the marks in the rows of a band with runs of columns: by a loop for each way to join.
+    fn join_rows(&mut self, runs: &Runs, band: Span, column: u32, how: Join)
+        requires near { column < most_columns }
+        requires band { band.end ≤ self.old.grid.rows }
+        ensures grid { self.new.grid ≡ self.old.grid }
+        ensures marks { (i row : ℕ) → IsIn self.old.grid i row → IsMarked self.new i row
+            ↔ joined how (IsMarked self.old i row) (HasColumn (record runs.now { band = band }) row (column + i)) }
+    {
+        match how {
+            Join::Add => self.join_each_row(runs, band, column, Join::Add),
+            Join::Clear => self.join_each_row(runs, band, column, Join::Clear),
+            Join::Turn => self.join_each_row(runs, band, column, Join::Turn),
+        }
+    }
+
+    /// The same, compiled for each way to join.
+    #[inline(always)]
+    fn join_each_row(&mut self, runs: &Runs, band: Span, column: u32, how: Join)
+        requires near { column < most_columns }
+        requires band { band.end ≤ self.old.grid.rows }
+        ensures grid { self.new.grid ≡ self.old.grid }
+        ensures marks { (i row : ℕ) → IsIn self.old.grid i row → IsMarked self.new i row
+            ↔ joined how (IsMarked self.old i row) (HasColumn (record runs.now { band = band }) row (column + i)) }
+    {
+        let past = column + self.grid.columns;
+        for row in band.first..band.end {
             let k = row as usize;
-            let run = Span {
-                first: runs.firsts[k].saturating_sub(column),
-                end: runs.ends[k].saturating_sub(column).min(columns),
-            };
-            if run.first < run.end {
-                self.rows[k] = how.join_row(self.rows[k], run.bits());
+            let first = runs.firsts[k].max(column);
+            let end = runs.ends[k].min(past);
+            if first < end {
+                let marks = Span {
+                    first: first - column,
+                    end: end - column,
+                };
+                self.rows[k] = how.join_row(self.rows[k], marks.bits());
             }
         }
     }

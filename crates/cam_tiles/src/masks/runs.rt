@@ -1,98 +1,18 @@
 //! Runs of columns in the rows of masks side by side.
 
-ghost use Rattle.std.specs.Prelude.{◌≡◌, ◌<◌, ◌≤◌, ℕ, IsTrue, length, slice_index};
-ghost use Rattle.cam_units.specs.declared.point.Spot.{Spot};
-ghost use Rattle.cam_shapes.specs.Bar.{IsInBar, IsSoundBar};
-ghost use Rattle.cam_shapes.specs.Box.{IsInObround, IsInRectangle, IsSoundObround, IsSoundRectangle};
-ghost use Rattle.cam_shapes.specs.Disc.{IsInDisc, IsInHole, IsSoundDisc};
-ghost use Rattle.cam_shapes.specs.Swept.{IsInSwept, IsSoundSwept};
-ghost use Rattle.cam_rows.specs.Runs.{AreRuns, AreWideRows, IsInRun};
+ghost use Rattle.std.specs.Prelude.{◌≡◌, ◌↔◌, ◌⊎◌, ◌<◌, ◌≤◌, ℕ, IsTrue, length, slice_index};
+ghost use Rattle.cam_units.specs.Board.{IsOnBoard};
+ghost use Rattle.cam_objects.specs.Image.{relative};
+ghost use Rattle.cam_rows.specs.Rows.{centre_at, row_below};
+ghost use Rattle.cam_rows.specs.Runs.{AreWideRows, IsInRun};
 ghost use Rattle.cam_tiles.specs.Machinery.Masks.{IsWithin};
-ghost use Rattle.cam_tiles.specs.Machinery.Runs.{Fits, HasColumn, IsWideGrid, Tells};
+ghost use Rattle.cam_tiles.specs.Machinery.Runs.{Fits, HasColumn, IsClear, IsWideGrid, Tells};
 
 use crate::grid::Grid;
-use crate::masks::heights::Heights;
-use crate::masks::shapes::Hole;
+use crate::masks::heights::{HasHeights, Heights};
 use crate::span::Span;
-use cam_rows::{Centres, bar_runs, disc_runs, hole_runs, obround_runs, rect_runs, swept_runs};
-use cam_shapes::{Bar, Disc, Obround, Rectangle, Swept};
-use cam_units::Spot;
-
-/// A shape whose runs in wide rows are known.
-pub(crate) trait RunShape {
-    /// Whether its sizes and points are within the limits.
-    ghost is_sound: { Self → Type 0 };
-
-    /// The places that it holds.
-    ghost holds: { Self → Spot → Type 0 };
-
-    /// Its runs in rows one below another from the top one.
-    fn runs(&self, top: &Centres, firsts: &mut [u32], ends: &mut [u32])
-        requires sound { is_sound self.now }
-        requires rows { AreWideRows top.now (length firsts.old) }
-        requires ends { length ends.old ≡ length firsts.old }
-        ensures { AreRuns firsts.new ends.new top.now (holds self.now) };
-}
-
-impl RunShape for Bar {
-    ghost is_sound = { IsSoundBar };
-
-    ghost holds = { λ b s. IsInBar s b };
-
-    fn runs(&self, top: &Centres, firsts: &mut [u32], ends: &mut [u32]) {
-        bar_runs(self, top, firsts, ends);
-    }
-}
-
-impl RunShape for Disc {
-    ghost is_sound = { IsSoundDisc };
-
-    ghost holds = { λ d s. IsInDisc s d };
-
-    fn runs(&self, top: &Centres, firsts: &mut [u32], ends: &mut [u32]) {
-        disc_runs(self, top, firsts, ends);
-    }
-}
-
-impl RunShape for Swept {
-    ghost is_sound = { IsSoundSwept };
-
-    ghost holds = { λ r s. IsInSwept s r };
-
-    fn runs(&self, top: &Centres, firsts: &mut [u32], ends: &mut [u32]) {
-        swept_runs(self, top, firsts, ends);
-    }
-}
-
-impl RunShape for Rectangle {
-    ghost is_sound = { IsSoundRectangle };
-
-    ghost holds = { λ r s. IsInRectangle s r };
-
-    fn runs(&self, top: &Centres, firsts: &mut [u32], ends: &mut [u32]) {
-        rect_runs(self, top, firsts, ends);
-    }
-}
-
-impl RunShape for Obround {
-    ghost is_sound = { IsSoundObround };
-
-    ghost holds = { λ o s. IsInObround s o };
-
-    fn runs(&self, top: &Centres, firsts: &mut [u32], ends: &mut [u32]) {
-        obround_runs(self, top, firsts, ends);
-    }
-}
-
-impl RunShape for Hole {
-    ghost is_sound = { λ h. IsSoundDisc h.0 };
-
-    ghost holds = { λ h s. IsInHole s h.0 };
-
-    fn runs(&self, top: &Centres, firsts: &mut [u32], ends: &mut [u32]) {
-        hole_runs(&self.0, top, firsts, ends);
-    }
-}
+use cam_rows::{Centres, RunShape};
+use cam_units::Point;
 
 /// For each row of a band the run of the columns that a shape holds, from the first one on and before an end; none in
 /// other rows. Columns are counted from the left of a row of tiles.
@@ -121,12 +41,42 @@ impl Runs {
 
     /// Turns to those of a shape that holds nothing.
     pub(crate) fn clear(&mut self)
-        ensures none { (row column : ℕ) → HasColumn self.new row column → ⊥ }
-        ensures low { self.new.band.end ≡ 0 }
+        ensures { IsClear self.new }
     {
         self.band = Span::NONE;
         self.columns = Span::NONE;
         self.common = Span::NONE;
+    }
+
+    /// Takes in the runs of another, row after row, as long as each is one run with that of its row here. Once it has
+    /// taken in all of them, the other has none.
+    pub(crate) fn take_in(&mut self, other: &mut Runs)
+        requires few { other.old.band.end ≤ 64 }
+        ensures columns { (row column : ℕ) → (HasColumn self.new row column ⊎ HasColumn other.new row column)
+            ↔ (HasColumn self.old row column ⊎ HasColumn other.old row column) }
+        ensures fits { (rows : ℕ) → Fits rows self.old → Fits rows other.old → Fits rows self.new × Fits rows other.new }
+    {
+        if other.band.first < self.band.first || self.band.end < other.band.end {
+            return;
+        }
+        self.columns = self.columns.joined(other.columns);
+        for row in other.band.first..other.band.end {
+            let k = row as usize;
+            let here = Span {
+                first: self.firsts[k],
+                end: self.ends[k],
+            };
+            let there = Span {
+                first: other.firsts[k],
+                end: other.ends[k],
+            };
+            let Some(run) = here.united(there) else {
+                return;
+            };
+            self.firsts[k] = run.first;
+            self.ends[k] = run.end;
+        }
+        other.clear();
     }
 
     /// Whether no run reaches the columns from a first one on and before an end.
@@ -140,21 +90,48 @@ impl Runs {
         end <= self.columns.first
     }
 
-    /// Turns to those of a shape that lies between two heights, in the rows of a grid, and as many columns from its left
-    /// on.
-    pub(crate) fn find<S: RunShape>(
-        &mut self,
-        shape: &S,
-        heights: Heights,
-        grid: &Grid,
-        columns: u32,
-    )
-        requires sound { S.is_sound shape.now }
-        requires heights { (s : Spot) → S.holds shape.now s → IsWithin heights s }
-        requires grid { IsWideGrid grid.now columns }
-        ensures { Tells grid.now columns (S.holds shape.now) self.new }
+    /// Rows of the band outside of which no run reaches the columns from a first one on and before an end.
+    pub(crate) fn rows_between(&self, first: u32, end: u32) -> Span
+        requires few { self.now.band.end ≤ 64 }
+        ensures within { (self.now.band.first ≤ result.first) × (result.end ≤ self.now.band.end) }
+        ensures others { (row column : ℕ) → HasColumn self.now row column → first ≤ column → column < end
+            → (result.first ≤ row) × (row < result.end) }
     {
-        self.find_between(shape, heights, grid, columns);
+        let mut top = self.band.first;
+        let mut bottom = self.band.end;
+        while top < bottom && self.misses_in(top, first, end) {
+            top += 1;
+        }
+        while top < bottom && self.misses_in(bottom - 1, first, end) {
+            bottom -= 1;
+        }
+        Span {
+            first: top,
+            end: bottom,
+        }
+    }
+
+    /// Whether the run of a row does not reach the columns from a first one on and before an end.
+    #[inline]
+    fn misses_in(&self, row: u32, first: u32, end: u32) -> bool
+        requires { row < 64 }
+        ensures { IsTrue result → (column : ℕ) → HasColumn self.now row column → first ≤ column → column < end → ⊥ }
+    {
+        if self.ends[row as usize] <= first {
+            return true;
+        }
+        end <= self.firsts[row as usize]
+    }
+
+    /// Turns to those of a shape, which stands at a point as it does about (0, 0), in the rows of a grid, and as many
+    /// columns from its left on.
+    pub(crate) fn find<S: HasHeights>(&mut self, shape: &S, at: Point, grid: &Grid, columns: u32)
+        requires sound { S.is_sound shape.now }
+        requires at { IsOnBoard at }
+        requires grid { IsWideGrid grid.now columns }
+        ensures { Tells grid.now columns (λ s. S.holds shape.now (relative at s)) self.new }
+    {
+        self.find_between(shape, shape.heights(), at, grid, columns);
     }
 
     /// The same of what a shape holds between two heights, wherever else it may lie.
@@ -162,34 +139,44 @@ impl Runs {
         &mut self,
         shape: &S,
         heights: Heights,
+        at: Point,
         grid: &Grid,
         columns: u32,
     )
         requires sound { S.is_sound shape.now }
+        requires at { IsOnBoard at }
         requires grid { IsWideGrid grid.now columns }
-        ensures { Tells grid.now columns (λ s. S.holds shape.now s × IsWithin heights s) self.new }
+        ensures { Tells grid.now columns (λ s. S.holds shape.now (relative at s) × IsWithin heights (relative at s))
+            self.new }
     {
-        let levels = grid.levels();
-        let band = levels.band(heights);
+        let band = grid.band(heights, at);
         if band.end <= band.first {
             self.clear();
             return;
         }
-        let top = Centres {
-            first: Spot {
-                x: grid.first.x,
-                y: levels.height(band.first),
-            },
-            step: grid.step,
-            count: columns,
-        };
+        let mut top = grid.row_from(band.first, at);
+        top.count = columns;
         let firsts = &mut self.firsts[band.first as usize..band.end as usize];
         let ends = &mut self.ends[band.first as usize..band.end as usize];
-        shape.runs(&top, firsts, ends);
+        find_anew(shape, &top, firsts, ends);
         self.columns = columns_between(firsts, ends);
         self.common = columns_in_all(firsts, ends);
         self.band = band;
     }
+}
+
+/// Finds the runs of a shape in wide rows, one below another from the top one, whatever they were.
+fn find_anew<S: RunShape>(shape: &S, top: &Centres, firsts: &mut [u32], ends: &mut [u32])
+    requires sound { S.is_sound shape.now }
+    requires rows { AreWideRows top.now (length firsts.old) }
+    requires ends { length ends.old ≡ length firsts.old }
+    ensures { (k i : ℕ) → k < length firsts.new → i < top.now.count
+        → IsInRun (slice_index firsts.new k) (slice_index ends.new k) i
+        ↔ S.holds shape.now (centre_at (row_below top.now k) i) }
+{
+    firsts.fill(0);
+    ends.fill(top.count);
+    shape.find(top, firsts, ends);
 }
 
 /// Columns between which all of some runs lie.

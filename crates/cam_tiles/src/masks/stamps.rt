@@ -1,83 +1,37 @@
-//! Apertures, stamped on masks.
+//! Macros, stamped on masks.
 
-ghost use Rattle.std.specs.Prelude.{◌≡◌, All, map};
-ghost use Rattle.cam_units.specs.Board.{IsOnBoard, IsSize};
-ghost use Rattle.cam_shapes.specs.Disc.{IsInHole};
-ghost use Rattle.cam_apertures.specs.Cover.{IsCovered, IsInShape, IsPainted, disc};
+ghost use Rattle.std.specs.Prelude.{All, map};
+ghost use Rattle.cam_units.specs.Board.{IsOnBoard};
+ghost use Rattle.cam_apertures.specs.Cover.{IsCovered, IsInShape, IsPainted};
 ghost use Rattle.cam_apertures.specs.Primitives.{IsSoundPrim};
 ghost use Rattle.cam_apertures.specs.Soundness.{IsSoundAperture};
 ghost use Rattle.cam_apertures.specs.Turned.{turned_prim, turned_shape};
 ghost use Rattle.cam_apertures.specs.Views.{primitive_of, shape_of};
 ghost use Rattle.cam_objects.specs.Image.{relative};
+ghost use Rattle.cam_tiles.specs.Machinery.Figures.{IsMacro};
 ghost use Rattle.cam_tiles.specs.Machinery.Masks.{Joins, inked};
 
 use crate::masks::join::Join;
-use crate::masks::mask::{Mask, ORIGIN};
-use crate::masks::row_shape::RowShape;
-use crate::masks::shapes::Hole;
+use crate::masks::mask::Mask;
 use cam_apertures::{Aperture, PrimitiveView, Primitives, ShapeView, turned_height, turned_width};
-use cam_shapes::{Bar, Disc, Obround, Rectangle};
-use cam_units::{Nm, Point, Turn};
+use cam_shapes::{Bar, Disc, Rectangle};
+use cam_units::{Point, Turn};
 
 impl Mask {
-    /// Joins the marks with what an aperture covers, mirrored and turned, at a point: one with a hole, and the
-    /// primitives of a macro, are composed in a mask of their own.
+    /// Joins the marks with what the aperture of a macro covers, mirrored and turned, at a point.
     pub(crate) fn stamp(&mut self, aperture: &Aperture, turn: Turn, at: Point, how: Join)
         requires aperture { IsSoundAperture aperture.now }
+        requires composed { IsMacro aperture.now }
         requires at { IsOnBoard at }
         ensures { Joins how (λ s. IsCovered aperture.now turn (relative at s)) self.old self.new }
     {
-        match aperture {
-            Aperture::Circle { diameter, hole } => {
-                self.pierced(&disc(*diameter), *hole, at, how);
-            }
-            Aperture::Rect {
-                width,
-                height,
-                hole,
-            } => {
-                let rectangle = Rectangle {
-                    centre: ORIGIN,
-                    width: turned_width(turn, *width, *height),
-                    height: turned_height(turn, *width, *height),
-                };
-                self.pierced(&rectangle, *hole, at, how);
-            }
-            Aperture::Obround {
-                width,
-                height,
-                hole,
-            } => {
-                let obround = Obround {
-                    centre: ORIGIN,
-                    width: turned_width(turn, *width, *height),
-                    height: turned_height(turn, *width, *height),
-                };
-                self.pierced(&obround, *hole, at, how);
-            }
-            Aperture::Prims(prims) => self.primitives(prims, turn, at, how),
+        if let Aperture::Prims(prims) = aperture {
+            self.primitives(prims, turn, at, how);
         }
     }
 
-    /// Joins the marks with a shape that has a round hole about the flash point; a hole of 0 is none.
-    fn pierced<S: RowShape>(&mut self, shape: &S, hole: Nm, at: Point, how: Join)
-        requires shape { S.is_sound shape.now }
-        requires hole { IsSize hole.0 }
-        requires at { IsOnBoard at }
-        ensures { Joins how (λ s. S.holds shape.now (relative at s) × (IsInHole (relative at s) (disc hole) → ⊥))
-            self.old self.new }
-    {
-        if hole.0 == 0 {
-            self.join(shape, at, how);
-            return;
-        }
-        let mut own = Mask::blank(self.grid());
-        own.join(shape, at, Join::Add);
-        own.join(&Hole(disc(hole)), at, Join::Clear);
-        self.merge(&own, how);
-    }
-
-    /// Joins the marks with what primitives paint, once they are turned: a later one takes back what it clears.
+    /// Joins the marks with what primitives paint, once they are turned: they are composed in a mask of their own, where a
+    /// later one takes back what it clears.
     fn primitives(&mut self, prims: &Primitives, turn: Turn, at: Point, how: Join)
         requires prims { All IsSoundPrim prims.now }
         requires at { IsOnBoard at }
@@ -129,15 +83,5 @@ impl Mask {
             }
             ShapeView::Outline { points } => self.fill_outline(points, turn, at, how),
         }
-    }
-}
-
-/// A disc about the flash point.
-fn disc(diameter: Nm) -> Disc
-    ensures { result ≡ disc diameter }
-{
-    Disc {
-        centre: ORIGIN,
-        diameter,
     }
 }

@@ -11,7 +11,7 @@ ghost use Rattle.cam_tiles.specs.declared.grid.Grid.{Grid};
 ghost use Rattle.cam_tiles.specs.Machinery.Filing.{AreFiled, IsOnBoardWhole};
 ghost use Rattle.cam_tiles.specs.Machinery.Levels.{levels_of};
 ghost use Rattle.cam_tiles.specs.Machinery.Masks.{IsBlank, IsIn};
-ghost use Rattle.cam_tiles.specs.Machinery.Strokes.{IsStrokeOf};
+ghost use Rattle.cam_tiles.specs.Machinery.Figures.{IsPlacedFor};
 ghost use Rattle.cam_tiles.specs.declared.masks.swath.Pitch.{Pitch};
 ghost use Rattle.cam_tiles.specs.Machinery.Swaths.{
   AreDrawn,
@@ -34,10 +34,10 @@ ghost use Rattle.cam_tiles.specs.Tables.{all_drawn_from};
 ghost use Rattle.cam_tiles.specs.Tiles.{across, centre_in, grid_of, tile_rows};
 
 use crate::grid::Grid;
+use crate::masks::figure_runs::FigureRuns;
+use crate::masks::figures::{Placed, paint_each, paint_figures, placed_of};
 use crate::masks::filing::FiledSegment;
 use crate::masks::mask::Mask;
-use crate::masks::stroke_runs::{Stroke, StrokeRuns};
-use crate::masks::strokes::{paint_each, paint_strokes, stroke_of};
 use crate::masks::turning::{fill_marked, mark_inside};
 use crate::painter::Tile;
 use crate::shown::Region;
@@ -69,8 +69,8 @@ pub(crate) struct Swath {
     /// For each mask, how many tiles of the row are before its own.
     tiles: Vec<u32>,
     masks: Vec<Mask>,
-    /// The runs of the stroke that was painted last.
-    stroke: StrokeRuns,
+    /// The runs of the figure that was painted last.
+    runs: FigureRuns,
     /// Room for the marks of a region: 64 words for each tile of the row.
     marks: Vec<u64>,
 }
@@ -106,7 +106,7 @@ impl Swath {
             before: Vec::new(alloc),
             tiles: Vec::new(alloc),
             masks: Vec::new(alloc),
-            stroke: StrokeRuns::none(),
+            runs: FigureRuns::none(),
             marks: Vec::new(alloc),
         }
     }
@@ -227,25 +227,19 @@ impl Swath {
         );
     }
 
-    /// Paints a stroke: its runs are found once for the row of tiles, and drawn on those masks alone that they reach.
-    fn paint_stroke(&mut self, stroke: &Stroke, print: Print<'_>)
-        requires { IsStrokeOf print.figure stroke.now }
+    /// Paints a stroke or a flash: its runs are found once for the row of tiles, and drawn on those masks alone that they
+    /// reach.
+    fn paint_figure(&mut self, placed: &Placed, print: Print<'_>)
+        requires { IsPlacedFor print.figure placed.now }
         ensures { PaintsSwath self.old (leaf_of print.entry ∷ []) self.new }
     {
-        self.stroke.find(stroke, &self.corner, self.columns);
-        let columns = self.stroke.columns();
+        self.runs.find(placed, &self.corner, self.columns);
+        let columns = self.runs.columns();
         let first_tile = columns.first as usize / 64;
         let end_tile = columns.end.div_ceil(64) as usize;
         let first = masks_before(&self.before, first_tile, &self.masks);
         let end = masks_before(&self.before, end_tile, &self.masks);
-        paint_strokes(
-            &mut self.masks,
-            first,
-            end,
-            &self.tiles,
-            &self.stroke,
-            print,
-        );
+        paint_figures(&mut self.masks, first, end, &self.tiles, &self.runs, print);
     }
 
     /// The number of the first mask that may have a centre at a place across or right of it, in half nm.
@@ -288,10 +282,10 @@ impl Canvas for Swath {
         };
         let first = self.first_reached(low.x);
         let end = self.end_reached(high.x);
-        if end.saturating_sub(first) > 1
-            && let Some(stroke) = stroke_of(&print.figure)
+        if first < end
+            && let Some(placed) = placed_of(&print.figure)
         {
-            self.paint_stroke(&stroke, print);
+            self.paint_figure(&placed, print);
             return;
         }
         paint_each(&mut self.masks, first, end, print);

@@ -2,7 +2,7 @@ use Rattle.std.proofs.Common.{◌≡◌, ◌+◌, ◌<◌, refl, sym, subst, ◌
 use Rattle.cam_tiles.specs.declared.grid.Grid.{Grid}
 use Rattle.cam_tiles.specs.Machinery.Masks.{IsIn}
 use Rattle.cam_tiles.proofs.Joined.{joined_like}
-use Rattle.cam_tiles.proofs.StrokeColumns.{composed, nothing_taken}
+use Rattle.cam_tiles.proofs.FigureColumns.{composed, nothing_taken}
 use Rattle.cam_tiles.proofs.masks.mask.Mask.join_body.Goals as goal
 
 pub returns-then-is_whole_between-clause-marks : goal.returns-then-is_whole_between-clause-marks

@@ -1,0 +1,299 @@
+-- Figures by their runs.
+use Rattle.std.proofs.Common.{◌≡◌, ◌↔◌, ◌⊎◌, ℕ, ◌+◌, ◌<◌, ◌≤◌, ℤ, pos, ◌-ℤ◌, ◌*ℤ◌, true, false, inl, inr, Bool, arith}
+use Rattle.std.proofs.Common.{subst, zero-add, lit<}
+use Rattle.std.proofs.lemmas.Int.{ints}
+use Rattle.cam_units.specs.declared.length.Nm.{Nm}
+use Rattle.cam_units.specs.declared.point.Point.{Point}
+use Rattle.cam_units.specs.declared.point.Spot.{Spot}
+use Rattle.cam_shapes.specs.Arc.{IsInArc}
+use Rattle.cam_shapes.specs.Bar.{IsInBar, IsInCapsule}
+use Rattle.cam_shapes.specs.Disc.{IsInDisc}
+use Rattle.cam_shapes.specs.declared.arc.Arc.{Arc}
+use Rattle.cam_shapes.specs.declared.capsule.Capsule.{Capsule}
+use Rattle.cam_rows.specs.ArcRuns.{IsBeyond, IsHollow, IsOuter, start_of as first_of, end_of as last_of}
+use Rattle.cam_rows.specs.Runs.{IsInRun}
+use Rattle.cam_rows.proofs.ArcRuns.{arc_is_its_runs}
+use Rattle.cam_rows.proofs.CapsuleParts.{bar_of, end_of, in_capsule, start_of}
+use Rattle.cam_tiles.specs.declared.grid.Grid.{Grid}
+use Rattle.cam_tiles.specs.declared.masks.heights.Heights.{Heights}
+use Rattle.cam_tiles.specs.declared.masks.join.Join.{Join}
+use Rattle.cam_tiles.specs.declared.masks.join.Join.TheVariants.{Add, Clear}
+use Rattle.cam_tiles.specs.declared.masks.runs.Runs.{Runs}
+use Rattle.cam_tiles.specs.declared.masks.figure_runs.FigureRuns.{FigureRuns}
+use Rattle.cam_tiles.specs.Machinery.Masks.{IsIn, IsMarked, IsWithin, Joins, Marking, inked, joined}
+use Rattle.cam_tiles.specs.Machinery.Runs.{Fits, HasColumn, IsClear, Tells}
+use Rattle.cam_tiles.specs.Machinery.Figures.{AllFit, HasPart, IsToldAt, TellsFigure}
+use Rattle.cam_tiles.specs.Tiles.{IsGrid, centre_in}
+use Rattle.cam_tiles.proofs.Joined.{joined_like}
+use Rattle.cam_tiles.proofs.RunColumns.{tells_nothing}
+
+-- ---- discs as strokes of no length
+
+no_way : (z : ℤ) → pos 2 *ℤ z -ℤ pos 2 *ℤ z ≡ pos 0
+no_way z = omega (arith, ints)
+
+pub disc_stroke : (s : Spot) (p : Point) (w : Nm)
+    → IsInDisc s (record { centre = p; diameter = w }) ↔ IsInCapsule s (record { from = p; to = p; width = w })
+disc_stroke s p w = (
+  (λ inside. record { wide = inside.some; near = inl inside.near }),
+  (λ inside. elim inside.near [
+    | inl first ↦ record { some = inside.wide; near = first }
+    | inr other ↦ elim other [
+      | inl last ↦ record { some = inside.wide; near = last }
+      | inr beside ↦
+          let long = rw (no_way p.x, no_way p.y) at beside.between.long in
+          absurd (omega (arith, ints, long))
+    ]
+  ]),
+)
+
+-- ---- figures
+
+-- a figure by its parts
+pub tells_figure : (g : Grid) (columns : ℕ) (IsHeld B H Y S E : Spot → Type 0) (body hollow beyond start end : Runs)
+    → Tells g columns B body → Tells g columns H hollow → Tells g columns Y beyond → Tells g columns S start
+    → Tells g columns E end
+    → ((t : Spot) → IsHeld t ↔ (((B t × (H t → ⊥) × (Y t → ⊥)) ⊎ S t) ⊎ E t))
+    → TellsFigure g columns IsHeld
+    (record { body = body; hollow = hollow; beyond = beyond; start = start; end = end })
+tells_figure g columns IsHeld B H Y S E body hollow beyond start end b h y s e law = record {
+  fit = record { body = b.fits; hollow = h.fits; beyond = y.fits; start = s.fits; end = e.fits };
+  each = λ column row near within.
+      let whole = law (centre_in g column row) in
+      let in_body = b.each column row near within in
+      let in_hollow = h.each column row near within in
+      let in_beyond = y.each column row near within in
+      let in_start = s.each column row near within in
+      let in_end = e.each column row near within in (
+        (λ part. whole.1 (elim part [
+          | inl before ↦ inl (elim before [
+            | inl on ↦ inl (in_body.0 on.0, (λ x. on.1 (in_hollow.1 x)), (λ x. on.2 (in_beyond.1 x)))
+            | inr on ↦ inr (in_start.0 on)
+          ])
+          | inr on ↦ inr (in_end.0 on)
+        ])),
+        (λ held. elim (whole.0 held) [
+          | inl before ↦ inl (elim before [
+            | inl on ↦ inl (in_body.1 on.0, (λ x. on.1 (in_hollow.0 x)), (λ x. on.2 (in_beyond.0 x)))
+            | inr on ↦ inr (in_start.1 on)
+          ])
+          | inr on ↦ inr (in_end.1 on)
+        ]),
+      );
+}
+
+-- a disc is a stroke of no length
+pub disc_law : (p q : Point) (w : Nm) → p ≡ q → (t : Spot)
+    → IsInCapsule t (record { from = p; to = q; width = w }) ↔ IsInDisc t (record { centre = p; diameter = w })
+disc_law p q w is t =
+    let same : IsInDisc t (record { centre = p; diameter = w })
+    ↔ IsInCapsule t (record { from = p; to = q; width = w }) = rw is (disc_stroke t q w) in
+    (same.1, same.0)
+
+pub straight_law : (c : Capsule) (t : Spot)
+    → IsInCapsule t c
+    ↔ (((IsInBar t (bar_of c) × (⊥ → ⊥) × (⊥ → ⊥)) ⊎ IsInDisc t (start_of c)) ⊎ IsInDisc t (end_of c))
+straight_law c t =
+    let whole = in_capsule t c in (
+      (λ held. elim (whole.0 held) [
+        | inl before ↦ inl (elim before [ inl on ↦ inl (on, (λ x. x), (λ x. x)) | inr on ↦ inr on ])
+        | inr on ↦ inr on
+      ]),
+      (λ part. whole.1 (elim part [
+        | inl before ↦ inl (elim before [ inl on ↦ inl on.0 | inr on ↦ inr on ])
+        | inr on ↦ inr on
+      ])),
+    )
+
+-- what is outside of a hole
+pub pierced_law : (P H : Type 0) → (P × (H → ⊥)) ↔ (((P × (H → ⊥) × (⊥ → ⊥)) ⊎ ⊥) ⊎ ⊥)
+pierced_law P H = (
+  (λ held. inl (inl (held.0, held.1, (λ x. x)))),
+  (λ part. elim part [
+    | inl before ↦ elim before [ inl on ↦ (on.0, on.1) | inr none ↦ absurd none ]
+    | inr none ↦ absurd none
+  ]),
+)
+
+pub without_none : (P H : Type 0) → (H → ⊥) → (P × (H → ⊥)) ↔ P
+without_none P H none = ((λ held. held.0), (λ on. (on, none)))
+
+-- what is all body
+pub tells_body : (g : Grid) (columns : ℕ) (IsHeld : Spot → Type 0) (body : Runs) (none : FigureRuns)
+    → Tells g columns IsHeld body → IsClear none.hollow → IsClear none.beyond → IsClear none.start → IsClear none.end
+    → TellsFigure g columns IsHeld (record none { body = body })
+tells_body g columns IsHeld body none told hollow beyond start end =
+    tells_figure g columns IsHeld IsHeld (λ s. ⊥) (λ s. ⊥) (λ s. ⊥) (λ s. ⊥) body none.hollow none.beyond none.start
+    none.end told (tells_nothing g columns none.hollow hollow) (tells_nothing g columns none.beyond beyond)
+    (tells_nothing g columns none.start start) (tells_nothing g columns none.end end) (λ s. (
+      (λ held. inl (inl (held, (λ x. x), (λ x. x)))),
+      (λ part. elim part [
+        | inl before ↦ elim before [ inl on ↦ on.0 | inr empty ↦ absurd empty ]
+        | inr empty ↦ absurd empty
+      ]),
+    ))
+
+parts_united : (P B L N S T E F H Y : Type 0) → (H → ⊥) → (Y → ⊥) → (L ⊎ T) ↔ (B ⊎ S) → (N ⊎ F) ↔ (L ⊎ E)
+    → (((B × (H → ⊥) × (Y → ⊥)) ⊎ S) ⊎ E) ↔ P → (((N × (H → ⊥) × (Y → ⊥)) ⊎ T) ⊎ F) ↔ P
+parts_united P B L N S T E F H Y no_hollow no_beyond first second told =
+    let whole : B → P = λ b. told.0 (inl (inl (b, no_hollow, no_beyond))) in
+    let old : L ⊎ T → P = λ part. elim (first.0 part) [ inl b ↦ whole b | inr s ↦ told.0 (inl (inr s)) ] in
+    let new : L ⊎ E → ((N × (H → ⊥) × (Y → ⊥)) ⊎ T) ⊎ F = λ part. elim (second.1 part) [
+      | inl n ↦ inl (inl (n, no_hollow, no_beyond))
+      | inr f ↦ inr f
+    ] in
+    let any : B ⊎ S → ((N × (H → ⊥) × (Y → ⊥)) ⊎ T) ⊎ F = λ part. elim (first.1 part) [
+      | inl l ↦ new (inl l)
+      | inr t ↦ inl (inr t)
+    ] in
+    let ahead : N ⊎ F → P = λ part. elim (second.0 part) [ inl l ↦ old (inl l) | inr e ↦ told.0 (inr e) ] in (
+      (λ part. elim part [
+        | inl before ↦ elim before [ inl n ↦ ahead (inl n.0) | inr t ↦ old (inr t) ]
+        | inr f ↦ ahead (inr f)
+      ]),
+      (λ p. elim (told.1 p) [
+        | inl before ↦ elim before [ inl b ↦ any (inl b.0) | inr s ↦ any (inr s) ]
+        | inr e ↦ new (inr e)
+      ]),
+    )
+
+-- a body that takes in what it may of the discs about its ends
+pub tells_united : (g : Grid) (columns : ℕ) (IsHeld : Spot → Type 0) (r : FigureRuns) (longer body start end : Runs)
+    → IsClear r.hollow → IsClear r.beyond → TellsFigure g columns IsHeld r → Fits g.rows body → Fits g.rows start
+    → Fits g.rows end
+    → ((row column : ℕ) → (HasColumn longer row column ⊎ HasColumn start row column)
+    ↔ (HasColumn r.body row column ⊎ HasColumn r.start row column))
+    → ((row column : ℕ) → (HasColumn body row column ⊎ HasColumn end row column)
+    ↔ (HasColumn longer row column ⊎ HasColumn r.end row column))
+    → TellsFigure g columns IsHeld (record r { body = body; start = start; end = end })
+tells_united g columns IsHeld r longer body start end no_hollow no_beyond told fit fit_start fit_end first second = record {
+  fit = record { body = fit; hollow = told.fit.hollow; beyond = told.fit.beyond; start = fit_start; end = fit_end };
+  each = λ column row near within.
+      parts_united _ _ _ _ _ _ _ _ _ _ (no_hollow.none row column) (no_beyond.none row column) (first row column)
+      (second row column) (told.each column row near within);
+}
+
+-- what is taken out of an arc's body is so between the heights of its stroke
+pub round_law : (a : Arc) (h : Heights) → ((t : Spot) → IsInArc t a → IsWithin h t) → (t : Spot)
+    → IsInArc t a
+    ↔ ((((IsOuter a t × IsWithin h t) × ((IsHollow a t × IsWithin h t) → ⊥) × ((IsBeyond a t × IsWithin h t) → ⊥))
+    ⊎ IsInDisc t (first_of a)) ⊎ IsInDisc t (last_of a))
+round_law a h heights t =
+    let law = arc_is_its_runs t a in (
+      (λ held. elim (law.0 held) [
+        | inl on ↦ inl (inl ((on.0, heights t held), (λ x. on.1 x.0), (λ x. on.2 x.0)))
+        | inr ends ↦ elim ends [ inl on ↦ inl (inr on) | inr on ↦ inr on ]
+      ]),
+      (λ part. law.1 (elim part [
+        | inl before ↦ elim before [
+          | inl on ↦ inl (on.0.0, (λ x. on.1 (x, on.0.1)), (λ x. on.2 (x, on.0.1)))
+          | inr on ↦ inr (inl on)
+        ]
+        | inr on ↦ inr (inr on)
+      ])),
+    )
+
+pub tells_like : (g : Grid) (columns : ℕ) (P Q : Spot → Type 0) (s : FigureRuns) → ((t : Spot) → Q t ↔ P t)
+    → TellsFigure g columns P s → TellsFigure g columns Q s
+tells_like g columns P Q s same told = record {
+  fit = told.fit;
+  each = λ column row near within.
+      let here = told.each column row near within in
+      let there = same (centre_in g column row) in
+      ((λ on. there.1 (here.0 on)), (λ held. here.1 (there.0 held)));
+}
+
+-- marks that are joined with the runs of a figure, in whose rows a mask stands
+pub joins_figure : (column : ℕ) (how : Join) (IsHeld : Spot → Type 0) (r : FigureRuns) (old new : Marking)
+    → IsToldAt column old.grid IsHeld r → new.grid ≡ old.grid
+    → ((i row : ℕ) → IsIn old.grid i row
+    → IsMarked new i row ↔ joined how (IsMarked old i row) (HasPart r row (column + i)))
+    → Joins how IsHeld old new
+joins_figure column how IsHeld r old new told grid marks = record {
+  grid = grid;
+  marks = λ i row inside.
+      joined_like how _ _ _ _ _ ((λ a. a), (λ a. a)) (told.each i row inside) (marks i row inside);
+}
+
+-- and in the rows of its own grid
+pub told_itself : (g h : Grid) (IsHeld : Spot → Type 0) (r : FigureRuns) → g ≡ h → IsGrid g
+    → TellsFigure g g.columns IsHeld r → IsToldAt 0 h IsHeld r
+told_itself g h IsHeld r is grid told =
+    subst (λ (o : Grid). IsToldAt 0 o IsHeld r) is (record {
+      near = lit< tt;
+      fit = told.fit;
+      each = λ i row there. rw (zero-add i) (told.each i row there.0 there.1);
+    })
+
+-- all parts lie between two columns
+pub parts_spanned : (s : FigureRuns) (rows from to disc_from disc_to row column : ℕ) → AllFit rows s
+    → ((k : ℕ) → ((s.start.columns.first ≤ k) × (k < s.start.columns.end))
+    ⊎ ((s.end.columns.first ≤ k) × (k < s.end.columns.end)) → (disc_from ≤ k) × (k < disc_to))
+    → ((k : ℕ) → ((s.body.columns.first ≤ k) × (k < s.body.columns.end)) ⊎ ((disc_from ≤ k) × (k < disc_to))
+    → (from ≤ k) × (k < to))
+    → HasPart s row column → IsInRun from to column
+parts_spanned s rows from to disc_from disc_to row column fit discs all part = elim part [
+  | inl before ↦ elim before [
+    | inl on ↦ all column (inl (fit.body.spanned row column on.0))
+    | inr on ↦ all column (inr (discs column (inl (fit.start.spanned row column on))))
+  ]
+  | inr on ↦ all column (inr (discs column (inr (fit.end.spanned row column on))))
+]
+
+-- three parts are joined as one
+pub joined_parts : (dark : Bool) (A B C D New One Two : Type 0) → One ↔ joined (inked dark) A B
+    → Two ↔ joined (inked dark) One C → New ↔ joined (inked dark) Two D
+    → New ↔ joined (inked dark) A ((B ⊎ C) ⊎ D)
+joined_parts true A B C D New One Two first second third = (
+  (λ new. elim (third.0 new) [
+    | inl two ↦ elim (second.0 two) [
+      | inl one ↦ elim (first.0 one) [ inl a ↦ inl a | inr b ↦ inr (inl (inl b)) ]
+      | inr c ↦ inr (inl (inr c))
+    ]
+    | inr d ↦ inr (inr d)
+  ]),
+  (λ some. third.1 (elim some [
+    | inl a ↦ inl (second.1 (inl (first.1 (inl a))))
+    | inr part ↦ elim part [
+      | inl before ↦ elim before [
+        | inl b ↦ inl (second.1 (inl (first.1 (inr b))))
+        | inr c ↦ inl (second.1 (inr c))
+      ]
+      | inr d ↦ inr d
+    ]
+  ])),
+)
+joined_parts false A B C D New One Two first second third = (
+  (λ new.
+      let two = third.0 new in
+      let one = second.0 two.0 in
+      let was = first.0 one.0 in (
+        was.0,
+        (λ part. elim part [
+          | inl before ↦ elim before [ inl b ↦ was.1 b | inr c ↦ one.1 c ]
+          | inr d ↦ two.1 d
+        ]),
+      )),
+  (λ p. third.1 (
+    second.1 (first.1 (p.0, (λ b. p.1 (inl (inl b)))), (λ c. p.1 (inl (inr c)))),
+    (λ d. p.1 (inr d)),
+  )),
+)
+
+-- a body from which something is taken, composed on a mask that was blank
+pub composed : (Blank B H Y One Two Three : Type 0) → (Blank → ⊥) → One ↔ joined Add Blank B
+    → Two ↔ joined Clear One H → Three ↔ joined Clear Two Y → Three ↔ (B × (H → ⊥) × (Y → ⊥))
+composed Blank B H Y One Two Three none first second third = (
+  (λ three.
+      let two = third.0 three in
+      let one = second.0 two.0 in
+      (elim (first.0 one.0) [ inl was ↦ absurd (none was) | inr on ↦ on ], one.1, two.1)),
+  (λ on. third.1 (second.1 (first.1 (inr on.0), on.1), on.2)),
+)
+
+-- a body from which nothing is taken
+pub nothing_taken : (how : Join) (New Was B H Y : Type 0) → (H ⊎ Y → ⊥) → New ↔ joined how Was B
+    → New ↔ joined how Was (B × (H → ⊥) × (Y → ⊥))
+nothing_taken how New Was B H Y none told =
+    joined_like how New Was Was B (B × (H → ⊥) × (Y → ⊥)) ((λ a. a), (λ a. a))
+    ((λ on. (on, (λ x. none (inl x)), (λ x. none (inr x)))), (λ on. on.0)) told

@@ -1,0 +1,29 @@
+use Rattle.std.proofs.Common.{arith}
+use Rattle.std.proofs.lemmas.Int.{ints}
+use Rattle.cam_units.specs.declared.point.Spot.{Spot}
+use Rattle.cam_shapes.specs.Disc.{IsInHole}
+use Rattle.cam_objects.specs.Image.{relative}
+use Rattle.cam_tiles.proofs.FigureColumns.{pierced_law, tells_body, tells_figure, tells_like, without_none}
+use Rattle.cam_tiles.proofs.RunColumns.{tells_nothing}
+use Rattle.cam_tiles.proofs.masks.figure_runs.FigureRuns.find_pierced.Goals as goal
+
+pub returns-then-hole-eq0 : goal.returns-then-hole-eq0
+returns-then-hole-eq0 g c =
+    let none = c.clear.ensures in
+    let holds : Spot → Type 0 = λ s. g.S.RunShape.holds c.args.shape.now (relative c.args.at s) in
+    let hole : Spot → Type 0 = λ s. IsInHole (relative c.args.at s) c.args.hole.now.0 in
+    tells_like c.args.grid.now c.args.columns holds (λ s. holds s × (hole s → ⊥)) _
+    (λ s. without_none (holds s) (hole s) (λ inside. omega (arith, ints, c.if-hole-eq0.true, inside.some)))
+    (tells_body c.args.grid.now c.args.columns holds c.find.new.self c.clear.new.self c.find.ensures none.hollow
+    none.beyond none.start none.end)
+
+pub returns : goal.returns
+returns g c =
+    let none = c.clear.ensures in
+    let grid = c.args.grid.now in
+    let columns = c.args.columns in
+    let holds : Spot → Type 0 = λ s. g.S.RunShape.holds c.args.shape.now (relative c.args.at s) in
+    let hole : Spot → Type 0 = λ s. IsInHole (relative c.args.at s) c.args.hole.now.0 in
+    tells_figure grid columns (λ s. holds s × (hole s → ⊥)) holds hole (λ s. ⊥) (λ s. ⊥) (λ s. ⊥) _ _ _ _ _
+    c.find.ensures c.find-2.ensures (tells_nothing grid columns _ none.beyond) (tells_nothing grid columns _ none.start)
+    (tells_nothing grid columns _ none.end) (λ s. pierced_law (holds s) (hole s))

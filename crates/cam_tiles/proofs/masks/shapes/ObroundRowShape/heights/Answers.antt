@@ -1,6 +1,0 @@
-use Rattle.cam_tiles.proofs.ShapeHeights.{in_obround}
-use Rattle.cam_tiles.proofs.masks.shapes.ObroundRowShape.heights.Goals as goal
-
-pub returns : goal.returns
-returns c =
-    in_obround c.args.self.now c.about.result (record { low = c.about.ensures.low; high = c.about.ensures.high })

@@ -1,0 +1,258 @@
+//! The runs of a figure in the rows of masks side by side, and how they are joined with a mask.
+
+ghost use Rattle.std.specs.Prelude.{◌≡◌, ◌↔◌, ◌⊎◌, ◌+◌, ◌<◌, ◌≤◌, ℕ, IsTrue, ◌∷◌, []};
+ghost use Rattle.cam_shapes.specs.Arc.{IsInArc, IsSoundArc};
+ghost use Rattle.cam_shapes.specs.Bar.{IsInCapsule, IsSoundCapsule};
+ghost use Rattle.cam_shapes.specs.Disc.{IsInHole, IsSoundDisc};
+ghost use Rattle.cam_shapes.specs.Swept.{IsInSwept, IsSoundSwept};
+ghost use Rattle.cam_units.specs.Board.{IsOnBoard};
+ghost use Rattle.cam_objects.specs.Canvases.{leaf_of, shape_of};
+ghost use Rattle.cam_objects.specs.Image.{Covers, relative};
+ghost use Rattle.cam_rows.specs.Runs.{IsInRun, most_columns};
+ghost use Rattle.cam_tiles.specs.Machinery.Masks.{IsIn, IsMarked, PaintsMask, inked, joined};
+ghost use Rattle.cam_tiles.specs.Machinery.Runs.{HasColumn, IsClear, IsWideGrid};
+ghost use Rattle.cam_tiles.specs.Machinery.Figures.{
+  AllFit,
+  HasBody,
+  HasPart,
+  IsInFigure,
+  IsSoundPlaced,
+  IsToldAt,
+  TellsFigure,
+};
+
+use crate::grid::Grid;
+use crate::masks::figures::{Placed, RunFigure};
+use crate::masks::heights::HasHeights;
+use crate::masks::join::Join;
+use crate::masks::mask::Mask;
+use crate::masks::runs::Runs;
+use crate::masks::shapes::arc_heights;
+use crate::span::Span;
+use cam_objects::Print;
+use cam_rows::{Beyond, Hole, Hollow, Outer, ring_of};
+use cam_shapes::{Arc, Bar, Capsule, Disc, Swept};
+use cam_units::Point;
+
+/// The runs of a stroke or a flash: those of its body, those of what is taken out of this, and those of the discs about
+/// its ends.
+#[derive(Clone, Copy)]
+pub(crate) struct FigureRuns {
+    /// Of a straight stroke of a circle the bar between its ends; of an arc what its outer circle and its sweep hold; of
+    /// a rectangle's stroke all of it; of a flash the shape without its hole.
+    pub(crate) body: Runs,
+    /// Of an arc what its inner circle holds; of a flash its hole.
+    pub(crate) hollow: Runs,
+    /// Of an arc what its sweep leaves out.
+    pub(crate) beyond: Runs,
+    pub(crate) start: Runs,
+    pub(crate) end: Runs,
+}
+
+impl FigureRuns {
+    /// None.
+    pub(crate) fn none() -> FigureRuns {
+        FigureRuns {
+            body: Runs::none(),
+            hollow: Runs::none(),
+            beyond: Runs::none(),
+            start: Runs::none(),
+            end: Runs::none(),
+        }
+    }
+
+    /// Turns to none.
+    fn clear(&mut self)
+        ensures body { IsClear self.new.body }
+        ensures hollow { IsClear self.new.hollow }
+        ensures beyond { IsClear self.new.beyond }
+        ensures start { IsClear self.new.start }
+        ensures end { IsClear self.new.end }
+    {
+        self.body.clear();
+        self.hollow.clear();
+        self.beyond.clear();
+        self.start.clear();
+        self.end.clear();
+    }
+
+    /// Turns to those of a figure in the rows of a grid, and as many columns from its left on.
+    pub(crate) fn find(&mut self, placed: &Placed, grid: &Grid, columns: u32)
+        requires sound { IsSoundPlaced placed.now }
+        requires grid { IsWideGrid grid.now columns }
+        ensures { TellsFigure grid.now columns (λ s. IsInFigure placed.now.figure (relative placed.now.at s)) self.new }
+    {
+        let at = placed.at;
+        match &placed.figure {
+            RunFigure::Straight(capsule) => self.find_straight(capsule, at, grid, columns),
+            RunFigure::Round(arc) => self.find_round(arc, at, grid, columns),
+            RunFigure::Swept(swept) => self.find_swept(swept, at, grid, columns),
+            RunFigure::Disc(disc, hole) => self.find_pierced(disc, hole, at, grid, columns),
+            RunFigure::Rectangle(rectangle, hole) => {
+                self.find_pierced(rectangle, hole, at, grid, columns);
+            }
+            RunFigure::Obround(obround, hole) => {
+                self.find_pierced(obround, hole, at, grid, columns);
+            }
+        }
+    }
+
+    /// Turns to those of a straight stroke, which are one in each row. One of no length is a disc.
+    fn find_straight(&mut self, capsule: &Capsule, at: Point, grid: &Grid, columns: u32)
+        requires sound { IsSoundCapsule capsule.now }
+        requires at { IsOnBoard at }
+        requires grid { IsWideGrid grid.now columns }
+        ensures { TellsFigure grid.now columns (λ s. IsInCapsule (relative at s) capsule.now) self.new }
+    {
+        let Capsule { from, to, width } = *capsule;
+        self.clear();
+        let start = Disc {
+            centre: from,
+            diameter: width,
+        };
+        if from == to {
+            self.body.find(&start, at, grid, columns);
+            return;
+        }
+        self.start.find(&start, at, grid, columns);
+        let end = Disc {
+            centre: to,
+            diameter: width,
+        };
+        self.end.find(&end, at, grid, columns);
+        let bar = Bar { from, to, width };
+        self.body.find(&bar, at, grid, columns);
+        self.body.take_in(&mut self.start);
+        self.body.take_in(&mut self.end);
+    }
+
+    /// Turns to those of an arc. All that is taken out of its body is so between the arc's heights alone.
+    fn find_round(&mut self, arc: &Arc, at: Point, grid: &Grid, columns: u32)
+        requires sound { IsSoundArc arc.now }
+        requires at { IsOnBoard at }
+        requires grid { IsWideGrid grid.now columns }
+        ensures { TellsFigure grid.now columns (λ s. IsInArc (relative at s) arc.now) self.new }
+    {
+        let arc = *arc;
+        let ring = ring_of(&arc);
+        let heights = arc_heights(&arc);
+        let outer = Outer { arc, ring };
+        self.body.find_between(&outer, heights, at, grid, columns);
+        let hollow = Hollow { arc, ring };
+        self.hollow
+            .find_between(&hollow, heights, at, grid, columns);
+        let beyond = Beyond(arc);
+        self.beyond
+            .find_between(&beyond, heights, at, grid, columns);
+        let start = Disc {
+            centre: arc.from,
+            diameter: arc.width,
+        };
+        self.start.find(&start, at, grid, columns);
+        let end = Disc {
+            centre: arc.to,
+            diameter: arc.width,
+        };
+        self.end.find(&end, at, grid, columns);
+    }
+
+    /// Turns to those of a stroke of a rectangle, which is all body.
+    fn find_swept(&mut self, swept: &Swept, at: Point, grid: &Grid, columns: u32)
+        requires sound { IsSoundSwept swept.now }
+        requires at { IsOnBoard at }
+        requires grid { IsWideGrid grid.now columns }
+        ensures { TellsFigure grid.now columns (λ s. IsInSwept (relative at s) swept.now) self.new }
+    {
+        self.clear();
+        self.body.find(swept, at, grid, columns);
+    }
+
+    /// Turns to those of a shape without a hole. A hole of diameter 0 is none.
+    fn find_pierced<S: HasHeights>(
+        &mut self,
+        shape: &S,
+        hole: &Hole,
+        at: Point,
+        grid: &Grid,
+        columns: u32,
+    )
+        requires sound { S.is_sound shape.now }
+        requires hole { IsSoundDisc hole.now.0 }
+        requires at { IsOnBoard at }
+        requires grid { IsWideGrid grid.now columns }
+        ensures { TellsFigure grid.now columns
+            (λ s. S.holds shape.now (relative at s) × (IsInHole (relative at s) hole.now.0 → ⊥)) self.new }
+    {
+        self.clear();
+        self.body.find(shape, at, grid, columns);
+        if hole.0.diameter.0 == 0 {
+            return;
+        }
+        self.hollow.find(hole, at, grid, columns);
+    }
+
+    /// Columns between which the whole figure lies.
+    pub(crate) fn columns(&self) -> Span
+        ensures { (rows row column : ℕ) → AllFit rows self.now → HasPart self.now row column
+            → IsInRun result.first result.end column }
+    {
+        let discs = self.start.columns.joined(self.end.columns);
+        self.body.columns.joined(discs)
+    }
+
+    /// Whether nothing is taken out of the body in the columns from a first one on and before an end.
+    fn is_whole_between(&self, first: u32, end: u32) -> bool
+        ensures { IsTrue result → (rows row column : ℕ) → AllFit rows self.now → first ≤ column → column < end
+            → HasColumn self.now.hollow row column ⊎ HasColumn self.now.beyond row column → ⊥ }
+    {
+        if !self.hollow.misses(first, end) {
+            return false;
+        }
+        self.beyond.misses(first, end)
+    }
+}
+
+impl Mask {
+    /// Joins the marks with the body of a figure, by its runs in rows of which the grid begins at a column. One that
+    /// something is taken out of in the columns of the grid is composed in a mask of its own.
+    fn join_body(&mut self, runs: &FigureRuns, column: u32, how: Join)
+        requires near { column < most_columns }
+        requires fit { AllFit self.old.grid.rows runs.now }
+        ensures grid { self.new.grid ≡ self.old.grid }
+        ensures marks { (i row : ℕ) → IsIn self.old.grid i row → IsMarked self.new i row
+            ↔ joined how (IsMarked self.old i row) (HasBody runs.now row (column + i)) }
+    {
+        let grid = self.grid();
+        if runs.is_whole_between(column, column + grid.columns) {
+            self.join_runs(&runs.body, column, how);
+            return;
+        }
+        let mut own = Mask::blank(grid);
+        own.join_runs(&runs.body, column, Join::Add);
+        own.join_runs(&runs.hollow, column, Join::Clear);
+        own.join_runs(&runs.beyond, column, Join::Clear);
+        self.merge(&own, how);
+    }
+
+    /// Joins the marks with a figure.
+    fn join_figure(&mut self, runs: &FigureRuns, column: u32, dark: bool)
+        requires near { column < most_columns }
+        requires fit { AllFit self.old.grid.rows runs.now }
+        ensures grid { self.new.grid ≡ self.old.grid }
+        ensures marks { (i row : ℕ) → IsIn self.old.grid i row → IsMarked self.new i row
+            ↔ joined (inked dark) (IsMarked self.old i row) (HasPart runs.now row (column + i)) }
+    {
+        let how = Join::inked(dark);
+        self.join_body(runs, column, how);
+        self.join_runs(&runs.start, column, how);
+        self.join_runs(&runs.end, column, how);
+    }
+
+    /// Paints a figure, by its runs in rows of which the grid begins at a column.
+    pub(crate) fn paint_figure(&mut self, runs: &FigureRuns, column: u32, print: Print<'_>)
+        requires { IsToldAt column self.old.grid (Covers (shape_of print.figure)) runs.now }
+        ensures { PaintsMask self.old (leaf_of print.entry ∷ []) self.new }
+    {
+        self.join_figure(runs, column, print.dark);
+    }
+}

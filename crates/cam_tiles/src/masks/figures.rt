@@ -1,0 +1,162 @@
+//! Figures, painted on masks side by side: strokes and flashes by their runs.
+
+ghost use Rattle.std.specs.Prelude.{◌≡◌, ◌*◌, ◌<◌, ◌≤◌, ℕ, MatchOption, ◌∷◌, [], length, slice_index};
+ghost use Rattle.cam_apertures.specs.Cover.{disc};
+ghost use Rattle.cam_apertures.specs.Soundness.{IsSoundAperture};
+ghost use Rattle.cam_objects.specs.Canvases.{IsSoundFigure, IsSoundPrint, leaf_of, shape_of};
+ghost use Rattle.cam_objects.specs.Image.{Covers};
+ghost use Rattle.cam_tiles.specs.Machinery.Figures.{IsComposed, IsFlashOf, IsMacro, IsPlacedFor, IsToldAt};
+ghost use Rattle.cam_tiles.specs.Machinery.Masks.{PaintsMask};
+ghost use Rattle.cam_tiles.specs.Machinery.Swaths.{ArePaintedIn, grid_at};
+
+use crate::masks::figure_runs::FigureRuns;
+use crate::masks::mask::{Mask, ORIGIN};
+use cam_apertures::{Aperture, turned_height, turned_width};
+use cam_objects::{Canvas, Figure, Print};
+use cam_rows::Hole;
+use cam_shapes::{Arc, Capsule, Disc, Obround, Rectangle, Swept};
+use cam_units::{Nm, Point, Turn};
+
+/// A figure whose runs are known: the stroke of a circle along a straight way or an arc, that of a rectangle along a
+/// straight way, or the flash of a disc, a rectangle or an obround with a hole, which may have a diameter of 0.
+#[derive(Clone, Copy)]
+pub(crate) enum RunFigure {
+    Straight(Capsule),
+    Round(Arc),
+    Swept(Swept),
+    Disc(Disc, Hole),
+    Rectangle(Rectangle, Hole),
+    Obround(Obround, Hole),
+}
+
+/// A figure that stands at a point as it does about (0, 0).
+#[derive(Clone, Copy)]
+pub(crate) struct Placed {
+    pub(crate) figure: RunFigure,
+    pub(crate) at: Point,
+}
+
+impl RunFigure {
+    /// At a point.
+    fn at(self, at: Point) -> Placed
+        ensures { result ≡ record { figure = self; at = at } }
+    {
+        Placed { figure: self, at }
+    }
+}
+
+/// The stroke or the flash that a figure is; none of a macro, and none of a contour.
+pub(crate) fn placed_of(figure: &Figure<'_>) -> Option<Placed>
+    requires { IsSoundFigure figure.now }
+    ensures { MatchOption result (IsComposed figure.now) (IsPlacedFor figure.now) }
+{
+    match *figure {
+        Figure::Stroke(capsule) => Some(RunFigure::Straight(capsule).at(ORIGIN)),
+        Figure::Sweep(arc) => Some(RunFigure::Round(arc).at(ORIGIN)),
+        Figure::Swept(swept) => Some(RunFigure::Swept(swept).at(ORIGIN)),
+        Figure::Drilled(disc) => Some(RunFigure::Disc(disc, hole(Nm(0))).at(ORIGIN)),
+        Figure::Stamp { aperture, turn, at } => match flashed(aperture, turn) {
+            Some(flash) => Some(flash.at(at)),
+            None => None,
+        },
+        Figure::Filled { .. } => None,
+    }
+}
+
+/// The flash of an aperture, mirrored and turned; none of a macro.
+fn flashed(aperture: &Aperture, turn: Turn) -> Option<RunFigure>
+    requires { IsSoundAperture aperture.now }
+    ensures { MatchOption result (IsMacro aperture.now) (IsFlashOf aperture.now turn) }
+{
+    match aperture {
+        Aperture::Circle {
+            diameter,
+            hole: inner,
+        } => {
+            let disc = Disc {
+                centre: ORIGIN,
+                diameter: *diameter,
+            };
+            Some(RunFigure::Disc(disc, hole(*inner)))
+        }
+        Aperture::Rect {
+            width,
+            height,
+            hole: inner,
+        } => {
+            let rectangle = Rectangle {
+                centre: ORIGIN,
+                width: turned_width(turn, *width, *height),
+                height: turned_height(turn, *width, *height),
+            };
+            Some(RunFigure::Rectangle(rectangle, hole(*inner)))
+        }
+        Aperture::Obround {
+            width,
+            height,
+            hole: inner,
+        } => {
+            let obround = Obround {
+                centre: ORIGIN,
+                width: turned_width(turn, *width, *height),
+                height: turned_height(turn, *width, *height),
+            };
+            Some(RunFigure::Obround(obround, hole(*inner)))
+        }
+        Aperture::Prims(_) => None,
+    }
+}
+
+/// A hole about the flash point.
+fn hole(diameter: Nm) -> Hole
+    ensures { result.0 ≡ disc diameter }
+{
+    Hole(Disc {
+        centre: ORIGIN,
+        diameter,
+    })
+}
+
+impl Mask {
+    /// Paints a stroke or a flash on the mask alone.
+    pub(crate) fn paint_placed(&mut self, placed: &Placed, print: Print<'_>)
+        requires { IsPlacedFor print.figure placed.now }
+        ensures { PaintsMask self.old (leaf_of print.entry ∷ []) self.new }
+    {
+        let grid = self.grid();
+        let mut runs = FigureRuns::none();
+        runs.find(placed, &grid, grid.columns);
+        self.paint_figure(&runs, 0, print);
+    }
+}
+
+/// Paints a figure on the masks from one number to another, by its runs in the row of tiles of which each mask is one.
+pub(crate) fn paint_figures(
+    masks: &mut [Mask],
+    first: usize,
+    end: usize,
+    tiles: &[u32],
+    runs: &FigureRuns,
+    print: Print<'_>,
+)
+    requires end { end ≤ length masks.old }
+    requires tiles { end ≤ length tiles.now }
+    requires told { (k : ℕ) → first ≤ k → k < end
+        → IsToldAt (64 * slice_index tiles.now k) (grid_at masks.old k) (Covers (shape_of print.figure)) runs.now }
+    ensures { ArePaintedIn first end (leaf_of print.entry ∷ []) masks.old masks.new }
+{
+    for k in first..end {
+        masks[k].paint_figure(runs, 64 * tiles[k], print);
+    }
+}
+
+/// Paints a leaf on the masks from one number to another, on each of them alone.
+pub(crate) fn paint_each(masks: &mut [Mask], first: usize, end: usize, print: Print<'_>)
+    requires end { end ≤ length masks.old }
+    requires print { IsSoundPrint print }
+    ensures { ArePaintedIn first end (leaf_of print.entry ∷ []) masks.old masks.new }
+{
+    for k in first..end {
+        masks[k].paint(print);
+    }
+}
