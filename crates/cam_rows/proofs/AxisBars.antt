@@ -14,7 +14,7 @@ use Rattle.cam_shapes.specs.declared.bar.Bar.{Bar}
 use Rattle.cam_shapes.specs.Bar.{IsBeside, IsInBar}
 use Rattle.cam_shapes.specs.Plane.{cross, dot, seen_from, square, way}
 use Rattle.cam_shapes.proofs.Crossings.{product_above, product_least}
-use Rattle.cam_shapes.proofs.Strokes.{natural_or_not, squares_order}
+use Rattle.cam_shapes.proofs.Strokes.{squares_order}
 use Rattle.cam_shapes.proofs.Widths.{square_is}
 
 abbrev two : ℤ → ℤ → Polynomial

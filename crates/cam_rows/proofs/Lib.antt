@@ -31,6 +31,7 @@ pub mod Rings
 pub mod RowBytes
 pub mod RowsBelow
 pub mod SetBits
+pub mod SetRows
 pub mod ShortSlopes
 pub mod SlopeBits
 pub mod SlopeParts

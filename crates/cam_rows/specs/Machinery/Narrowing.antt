@@ -47,3 +47,14 @@ pub record AreFound (firsts ends : List ℕ) (top : Centres) (IsIn : Spot → Ty
       → IsIn (centre_at (row_below top k) i)
   pub all : (k i : ℕ) → k < length firsts → i < top.count → IsInRow firsts ends k i
       → IsIn (centre_at (row_below top k) i) → IsInRow new_firsts new_ends k i
+
+-- of the columns before the ends of runs those stay that are held
+abbrev pub AreEndsCut : (ℕ → ℕ → Type 0) → List ℕ → List ℕ → Type 0
+AreEndsCut IsHeld ends new_ends =
+    (k i : ℕ) → k < length ends → (i < slice_index new_ends k) ↔ ((i < slice_index ends k) × IsHeld k i)
+
+-- of so many columns from the first ones of runs on, those stay that are not held
+abbrev pub AreFirstsCut : ℕ → (ℕ → ℕ → Type 0) → List ℕ → List ℕ → Type 0
+AreFirstsCut columns IsHeld firsts new_firsts =
+    (k i : ℕ) → k < length firsts → i < columns
+    → (slice_index new_firsts k ≤ i) ↔ ((slice_index firsts k ≤ i) × (IsHeld k i → ⊥))
