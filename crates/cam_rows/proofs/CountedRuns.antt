@@ -1,76 +1,15 @@
 -- Runs of wide rows from the leftmost column on, by their ends, where the numbers of a slope fall.
-use Rattle.std.proofs.Common.{◌≡◌, ◌↔◌, ℕ, ◌+◌, ◌<◌, ◌≤◌, ◌≢◌, ℤ, pos, negsuc, ◌*◌, ◌∙◌, ◌-ℤ◌, ◌*ℤ◌, ◌≤ℤ◌, ◌<ℤ◌, List, length}
-use Rattle.std.proofs.Common.{slice_set, get_or-set_other, get_or-set_same, inl, inr, arith}
-use Rattle.std.proofs.lemmas.Bool.{cases_lt}
+use Rattle.std.proofs.Common.{◌≡◌, ◌↔◌, ℕ, ◌<◌, ◌≤◌, ℤ, pos, negsuc, ◌*◌, ◌∙◌, ◌-ℤ◌, ◌*ℤ◌, ◌≤ℤ◌, ◌<ℤ◌, List, length, arith}
 use Rattle.std.proofs.lemmas.Int.{ints}
 use Rattle.std.proofs.lemmas.Nat.{mul-le}
 use Rattle.cam_units.proofs.Ring.{Atom, Difference, Product, equal}
 use Rattle.cam_units.specs.declared.point.Spot.{Spot}
 use Rattle.cam_rows.specs.declared.centres.Centres.{Centres}
 use Rattle.cam_rows.specs.declared.half_plane.HalfPlane.{HalfPlane}
-use Rattle.cam_rows.specs.declared.slope.Side.{Side}
-use Rattle.cam_rows.specs.declared.slope.Side.TheVariants.{Left, Right, Level}
-use Rattle.cam_rows.specs.declared.slope.LongSlope.TheInside.{Inside}
 use Rattle.cam_rows.specs.Machinery.HalfPlanes.{IsHalfPlaneOf, numbers_of}
 use Rattle.cam_rows.specs.Machinery.Narrowing.{AreCounted, IsUp, leftmost}
-use Rattle.cam_rows.specs.Machinery.Slopes.{IsBeside, IsDivisor, IsSlope, Sloped, number_on, numbers, sloped, whole}
 use Rattle.cam_rows.specs.Rows.{centre_at, row_below}
 use Rattle.cam_rows.specs.Runs.{AreEnds}
-use Rattle.cam_rows.proofs.SlopeBits.{beside_is}
-
--- ---- one row
-
--- numbers that fall are on the left of an end
-beside_left : (side : Side) (n m d e : ℤ) (i count : ℕ) → IsDivisor d → (numbers side n m d count).step <ℤ pos 0
-    → IsBeside side e i ↔ (pos i ≤ℤ e)
-beside_left Left n m d e i count some falls = ((λ h. h), (λ h. h))
-beside_left Right n m d e i count some falls = absurd (omega (arith, ints, some.0, falls))
-beside_left Level n m d e i count some falls = absurd (omega (arith, ints, falls))
-
-pub count_told : (s : Inside) (z : Sloped) (i n : ℕ) → sloped s ≡ z → IsSlope s → z.step <ℤ pos 0
-    → (i < n) ↔ (pos i ≤ℤ s.end) → (i < n) ↔ (pos 0 ≤ℤ number_on z i)
-count_told s z i n e slope falls told =
-    let left = beside_left s.side (whole s.end s.divisor s.rest) (whole s.end_step s.divisor s.rest_step) s.divisor
-    s.end i s.count slope.divisor (rw e falls) in
-    let here = beside_is s z i e slope in (
-      (λ h. here.0 (left.1 (told.0 h))),
-      (λ up. told.1 (left.0 (here.1 up))),
-    )
-
-pub told_near : (i n : ℕ) (near end : ℤ) → (pos i ≤ℤ near) ↔ (pos i ≤ℤ end) → (i < n) ↔ (pos i ≤ℤ near)
-    → (i < n) ↔ (pos i ≤ℤ end)
-told_near i n near end same told = ((λ h. same.0 (told.0 h)), (λ h. told.1 (same.1 h)))
-
--- ---- rows one below another
-
-module _ (columns : ℕ) (IsHeld : ℕ → ℕ → Type 0) where
-  pub none_counted : (ends : List ℕ) → AreCounted columns IsHeld 0 ends
-  none_counted ends = record {
-    each = λ k i early _. absurd (omega arith);
-    within = λ k early. absurd (omega arith);
-  }
-
-  -- one more row
-  pub next_counted : (ends : List ℕ) (row count : ℕ) → row < length ends → AreCounted columns IsHeld row ends
-      → ((i : ℕ) → i < columns → (i < count) ↔ IsHeld row i) → count ≤ columns
-      → AreCounted columns IsHeld (row + 1) (slice_set ends row count)
-  next_counted ends row count within above here fits = record {
-    each = λ k i early small. elim (cases_lt k row) [
-      | inl before ↦ let apart : k ≢ row = omega arith in rw get_or-set_other (above.each k i before small)
-      | inr after ↦ let is : k ≡ row = omega arith in rw (is, get_or-set_same) (here i small)
-    ];
-    within = λ k early. elim (cases_lt k row) [
-      | inl before ↦ let apart : k ≢ row = omega arith in rw get_or-set_other (above.within k before)
-      | inr after ↦ let is : k ≡ row = omega arith in rw (is, get_or-set_same) fits
-    ];
-  }
-
-  pub all_counted : (ends : List ℕ) (end n : ℕ) → n ≤ end → AreCounted columns IsHeld end ends
-      → AreCounted columns IsHeld n ends
-  all_counted ends end n all above = record {
-    each = λ k i within small. above.each k i (omega arith) small;
-    within = λ k within. above.within k (omega arith);
-  }
 
 -- ---- the columns that a half plane holds
 

@@ -1,5 +1,6 @@
 -- Half planes, by the numbers at the centres of their rows.
-use Rattle.std.proofs.Common.{◌≡◌, ℕ, ◌^◌, ◌<◌, ℤ, pos, ◌+ℤ◌, ◌-ℤ◌, ◌*ℤ◌, ◌≤ℤ◌, sym, ◌∙◌, arith}
+use Rattle.std.proofs.Common.{◌≡◌, ℕ, ◌^◌, ◌<◌, ◌≤◌, ℤ, pos, negsuc, ◌+ℤ◌, ◌-ℤ◌, ◌*ℤ◌, ◌≤ℤ◌, ◌<ℤ◌, ◌↔◌, sym, ◌∙◌, arith}
+use Rattle.std.specs.Prelude.{Option, Some, None, IfSome}
 use Rattle.std.specs.Int.RustNames.{unsigned_abs}
 use Rattle.std.proofs.lemmas.Int.{ints}
 use Rattle.cam_units.specs.declared.point.Point.{Point}
@@ -7,28 +8,31 @@ use Rattle.cam_units.specs.declared.point.Spot.{Spot}
 use Rattle.cam_units.specs.Board.{IsOnBoard}
 use Rattle.cam_units.proofs.Ring.{Atom, Product, Sum, equal}
 use Rattle.cam_shapes.specs.Plane.{cross, dot, seen_from, way}
-use Rattle.cam_shapes.proofs.Widths.{dot_bound}
+use Rattle.cam_shapes.proofs.Widths.{dot_bound, wide}
 use Rattle.cam_rows.specs.declared.centres.Centres.{Centres}
 use Rattle.cam_rows.specs.declared.half_plane.HalfPlane.{HalfPlane}
-use Rattle.cam_rows.specs.Machinery.HalfPlanes.{IsHalfPlaneOf, numbers_of}
+use Rattle.cam_rows.specs.declared.slope.Crossing.{Crossing}
+use Rattle.cam_rows.specs.declared.slope.Steps.{Steps}
+use Rattle.cam_rows.specs.Machinery.HalfPlanes.{IsCrossingIn, IsHalfPlaneOf, numbers_of}
 use Rattle.cam_rows.specs.Machinery.Linear.{IsShortLinear}
-use Rattle.cam_rows.specs.Machinery.Slopes.{Sloped, lowered, number_on}
+use Rattle.cam_rows.specs.Machinery.Narrowing.{IsUp}
+use Rattle.cam_rows.specs.Machinery.Slopes.{IsCrossingOf, Sloped, lowered, number_on}
 use Rattle.cam_rows.specs.Rows.{IsRow, centre_at, row_below}
+use Rattle.cam_rows.proofs.SlopeBits.{lacking_in_row}
 use Rattle.cam_rows.proofs.Slopes.{cross_below, first_in_reach, first_is, no_steps, short_cross, short_seen}
 use Rattle.cam_rows.proofs.Slopes.{short_way}
 
 -- the numbers of a half plane are those of the places, and short where a row's first place is
 module _ (top : Centres) (number : Spot → ℤ) (h : HalfPlane)
     (value : (k i : ℕ) → number_on (lowered k (numbers_of h)) i ≡ number (centre_at (row_below top k) i)) where
-  pub by_numbers : IsRow top → h.count ≡ top.count → IsShortLinear h.row → unsigned_abs h.down < 2 ^ 100
+  pub by_numbers : IsShortLinear h.row → unsigned_abs h.down < 2 ^ 100
       → ((k : ℕ) → IsRow (row_below top k) → unsigned_abs (number (centre_at (row_below top k) 0)) < 2 ^ 100)
       → IsHalfPlaneOf top (λ s. pos 0 ≤ℤ number s) h
-  by_numbers row same short down fits = record {
+  by_numbers short down fits = record {
     tells = λ k i. rw (value k i) ((λ held. held), (λ held. held));
     short = λ n rows. record {
       row = short;
       down = down;
-      few = rw same row.count.1;
       rows = λ k small.
           rw (first_is (numbers_of h) k (number (centre_at (row_below top k) 0)) (value k 0)) (fits k (rows k small));
     };
@@ -74,6 +78,63 @@ pub raised_below : (p q : Point) (c : Centres) (s : Sloped) (f r : ℤ) (k i : �
     → s.down ≡ pos 0 -ℤ (way p q).x *ℤ c.step
     → number_on (lowered k s) i ≡ cross (way p q) (seen_from p (centre_at (row_below c k) i)) +ℤ r
 raised_below p q c s f r k i e first down =
-    let plain : Sloped = record { first = f; step = s.step; down = s.down; count = s.count } in
+    let plain : Sloped = record { first = f; step = s.step; down = s.down } in
     rw first (raised_number f s.step r s.down (cross (way p q) (seen_from p (centre_at (row_below c k) i))) k i
     (cross_below p q c plain k i e down))
+
+-- where the line of a half plane crosses its rows
+opposite_twice : (z : ℤ) → unsigned_abs z < 2 ^ 100 → pos 0 -ℤ wide (pos 0 -ℤ wide z) ≡ z
+opposite_twice z h = omega (arith, ints)
+
+opposite : (z : ℤ) → unsigned_abs z < 2 ^ 100 → wide (pos 0 -ℤ wide z) ≡ pos 0 -ℤ z
+opposite z h = omega (arith, ints)
+
+lacked : (z : ℤ) → unsigned_abs z < 2 ^ 100 → wide (negsuc 0 -ℤ wide z) ≡ negsuc 0 -ℤ z
+lacked z h = omega (arith, ints)
+
+kept : (z : ℤ) → unsigned_abs z < 2 ^ 100 → wide z ≡ z
+kept z h = omega (arith, ints)
+
+module _ (rows : ℕ) (h : HalfPlane) (few : rows ≤ 2 ^ 20) (row : IsShortLinear h.row)
+    (down : unsigned_abs h.down < 2 ^ 100) where
+  pub falling_crossing : (o : Option (Crossing × Steps)) → h.row.step <ℤ pos 0
+      → IfSome o (λ r. IsCrossingOf r.0 r.1 (wide h.row.first) (wide h.down) (wide (pos 0 -ℤ wide h.row.step)))
+      → IfSome o (λ r. IsCrossingIn rows r.0 r.1 h)
+  falling_crossing None falls at = tt {0}
+  falling_crossing (Some r) falls at = record {
+    few = few;
+    steps = at.steps;
+    top = at.top;
+    falls = λ _.
+        rw (kept h.row.first row.first, kept h.down down, opposite_twice h.row.step row.step) at at.is;
+    rises = λ rises. absurd (omega (arith, ints, falls, rises));
+  }
+
+  pub rising_crossing : (o : Option (Crossing × Steps)) → pos 0 ≤ℤ h.row.step
+      → IfSome o (λ r. IsCrossingOf r.0 r.1 (wide (negsuc 0 -ℤ wide h.row.first)) (wide (pos 0 -ℤ wide h.down))
+      (wide h.row.step))
+      → IfSome o (λ r. IsCrossingIn rows r.0 r.1 h)
+  rising_crossing None rises at = tt {0}
+  rising_crossing (Some r) rises at = record {
+    few = few;
+    steps = at.steps;
+    top = at.top;
+    falls = λ falls. absurd (omega (arith, ints, falls, rises));
+    rises = λ _. rw (lacked h.row.first row.first, opposite h.down down, kept h.row.step row.step) at at.is;
+  }
+
+-- the columns of a row up to the last number that is not negative, where they fall, or what they lack does
+module _ (h : HalfPlane) (k i n : ℕ) (number : ℤ) (is : number ≡ (lowered k (numbers_of h)).first)
+    (short : unsigned_abs number < 2 ^ 100) (step : unsigned_abs h.row.step < 2 ^ 100) where
+  pub falling_told : (i < n) ↔ (pos 0 ≤ℤ (wide number +ℤ pos i *ℤ (pos 0 -ℤ wide (pos 0 -ℤ wide h.row.step))))
+      → (i < n) ↔ IsUp (numbers_of h) k i
+  falling_told told = rw (kept number short, opposite_twice h.row.step step, is) at told
+
+  pub rising_told : (i < n) ↔ (pos 0 ≤ℤ (wide (negsuc 0 -ℤ wide number) +ℤ pos i *ℤ (pos 0 -ℤ wide h.row.step)))
+      → IsUp (numbers_of h) k i ↔ (i < n → ⊥)
+  rising_told told =
+      let here = rw (lacked number short, kept h.row.step step, is) at told in
+      let same = lacking_in_row (lowered k (numbers_of h)).first h.row.step i in (
+        (λ up early. same.0 up (here.0 early)),
+        (λ late. same.1 (λ lacks. late (here.1 lacks))),
+      )

@@ -34,6 +34,7 @@ pub mod RootRuns
 pub mod RowBytes
 pub mod RowsBelow
 pub mod SetBits
+pub mod SetRows
 pub mod ShortSlopes
 pub mod Sides
 pub mod SlopeBits

@@ -1,167 +1,103 @@
--- Slopes in 64 bits: what their parts are one row lower, and where those of 128 bits are the same.
-use Rattle.std.proofs.Common.{◌≡◌, ◌^◌, ◌≤◌, ◌↔◌, IsTrue, Bool, true, ℤ, pos, ◌+ℤ◌, ◌-ℤ◌, ◌≤ℤ◌, ◌<ℤ◌}
-use Rattle.std.proofs.Common.{FitsSigned, ap, refl, subst, sym, arith}
-use Rattle.std.specs.Int.{w64, w128}
+-- Crossings of falling numbers, as 64 bits compute them.
+use Rattle.std.proofs.Common.{◌≡◌, ℕ, ◌/◌, ◌%◌, ◌^◌, ◌<◌, ◌≤◌, ◌↔◌, IsTrue, Bool, true, ℤ, pos, negsuc, ◌+ℤ◌, ◌-ℤ◌}
+use Rattle.std.proofs.Common.{FitsSigned, refl, to_z, w64, arith}
+use Rattle.std.specs.Int.{w128}
 use Rattle.std.specs.Int.RustNames.{unsigned_abs}
 use Rattle.std.proofs.lemmas.Int.{ints}
+use Rattle.std.proofs.lemmas.Nat.{mul-le}
+use Rattle.cam_units.proofs.Ring.{Atom, Difference, Product, Sum, equal}
 use Rattle.cam_shapes.proofs.Widths.{narrow, wide}
-use Rattle.cam_rows.specs.declared.slope.LongSlope.TheInside.{Inside}
-use Rattle.cam_rows.specs.declared.slope.ShortSlope.TheInside.{Inside as ShortInside}
-use Rattle.cam_rows.specs.Machinery.Slopes.{IsRest, IsShortSlope, IsSlope, Sloped}
-use Rattle.cam_rows.specs.Machinery.Slopes.{lowered, short_sloped, sloped, widened}
-use Rattle.cam_rows.proofs.SlopeParts.{few_rest, few_whole, many_rest, many_whole, with_rest, with_whole}
+use Rattle.cam_rows.specs.Machinery.Slopes.{IsCrossingOf, IsRest, IsShortDivisor, whole}
+use Rattle.cam_rows.proofs.SlopeParts.{next_whole}
 
--- how 64 bits compute them
 pub kept_fitting : (z : ℤ) → FitsSigned w64 z → narrow z ≡ z
 kept_fitting z h = omega (arith, ints)
 
-kept_sum : (a b : ℤ) → unsigned_abs a ≤ 2 ^ 61 → unsigned_abs b ≤ 2 ^ 61 → narrow (narrow a +ℤ narrow b) ≡ a +ℤ b
-kept_sum a b h k = omega (arith, ints)
-
-kept_next : (a b : ℤ) → unsigned_abs a ≤ 2 ^ 61 → unsigned_abs b ≤ 2 ^ 61
-    → narrow (narrow (narrow (narrow a +ℤ narrow b)) +ℤ pos 1) ≡ a +ℤ b +ℤ pos 1
-kept_next a b h k = omega (arith, ints)
-
-next_fits : (a b : ℤ) → unsigned_abs a ≤ 2 ^ 61 → unsigned_abs b ≤ 2 ^ 61
-    → FitsSigned w64 (narrow (narrow (narrow a +ℤ narrow b)) +ℤ pos 1)
-next_fits a b h k = omega (arith, ints)
-
-kept_less : (r t d : ℤ) → unsigned_abs r ≤ 2 ^ 61 → unsigned_abs t ≤ 2 ^ 61 → unsigned_abs d ≤ 2 ^ 61
-    → narrow (narrow (narrow (narrow r +ℤ narrow t)) -ℤ narrow d) ≡ r +ℤ t -ℤ d
+pub kept_less : (r t d : ℤ) → unsigned_abs r ≤ 2 ^ 61 → unsigned_abs t ≤ 2 ^ 61 → unsigned_abs d ≤ 2 ^ 61
+    → narrow (narrow (narrow r +ℤ narrow t) -ℤ narrow d) ≡ r +ℤ t -ℤ d
 kept_less r t d h k m = omega (arith, ints)
 
--- the parts of a slope that has not come too far
-pub record AreNear (s : Inside) : Type 0 where
-  pub end : unsigned_abs s.end ≤ 2 ^ 61
-  pub end_step : unsigned_abs s.end_step ≤ 2 ^ 61
-  pub rest : unsigned_abs s.rest ≤ 2 ^ 61
-  pub rest_step : unsigned_abs s.rest_step ≤ 2 ^ 61
-  pub divisor : unsigned_abs s.divisor ≤ 2 ^ 61
+kept_next : (q : ℤ) → unsigned_abs q ≤ 2 ^ 61 → narrow (narrow q +ℤ pos 1) ≡ q +ℤ pos 1
+kept_next q h = omega (arith, ints)
 
-near_rest : (r d : ℤ) → IsRest r d → d ≤ℤ pos (2 ^ 61) → unsigned_abs r ≤ 2 ^ 61
-near_rest r d h near = omega (arith, ints, h.0, h.1)
+kept_lack : (r d : ℤ) → IsShortDivisor d → IsRest r d → narrow (narrow r -ℤ narrow d) ≡ r -ℤ d
+kept_lack r d h rest = omega (arith, ints, h.1, rest.0, rest.1)
 
-near_divisor : (d : ℤ) → pos 1 ≤ℤ d → d ≤ℤ pos (2 ^ 61) → unsigned_abs d ≤ 2 ^ 61
-near_divisor d h near = omega (arith, ints)
+kept_short : (z : ℤ) → unsigned_abs z ≤ 2 ^ 61 → narrow z ≡ z
+kept_short z h = omega (arith, ints)
 
-pub near_parts : (s : Inside) → IsSlope s → unsigned_abs s.end ≤ 2 ^ 61 → unsigned_abs s.end_step ≤ 2 ^ 61
-    → s.divisor ≤ℤ pos (2 ^ 61) → AreNear s
-near_parts s slope end end_step divisor = record {
-  end = end;
-  end_step = end_step;
-  rest = near_rest s.rest s.divisor slope.rest divisor;
-  rest_step = near_rest s.rest_step s.divisor slope.rest_step divisor;
-  divisor = near_divisor s.divisor slope.divisor.0 divisor;
-}
+kept_short_divisor : (d : ℤ) → IsShortDivisor d → narrow d ≡ d
+kept_short_divisor d h = omega (arith, ints, h.0, h.1)
 
--- the parts one row lower
-abbrev with_end : ShortInside → ℤ → ℤ → ShortInside
-with_end s end rest = record {
-  side = s.side;
-  end = end;
-  rest = rest;
-  divisor = s.divisor;
-  end_step = s.end_step;
-  rest_step = s.rest_step;
-  count = s.count;
-}
+kept_short_rest : (r d : ℤ) → IsShortDivisor d → IsRest r d → narrow r ≡ r
+kept_short_rest r d h rest = omega (arith, ints, h.1, rest.0, rest.1)
 
-module _ (s : ShortInside) (near : AreNear (widened s)) where
-  pub next_end_fits : FitsSigned w64 (narrow (narrow (narrow s.end +ℤ narrow s.end_step)) +ℤ pos 1)
-  next_end_fits = next_fits s.end s.end_step near.end near.end_step
+pub kept_cast : (z : ℤ) → unsigned_abs z ≤ 2 ^ 61 → narrow (wide z) ≡ z
+kept_cast z h = omega (arith, ints)
 
-  pub few_slope : IsShortSlope s → (s.rest +ℤ s.rest_step) <ℤ s.divisor
-      → IsShortSlope (with_end s (narrow (narrow s.end +ℤ narrow s.end_step))
-      (narrow (narrow s.rest +ℤ narrow s.rest_step)))
-  few_slope short less = record {
-    slope =
-        with_rest (widened s) (narrow (narrow s.end +ℤ narrow s.end_step))
-        (narrow (narrow s.rest +ℤ narrow s.rest_step)) short.slope
-        (rw (kept_sum s.rest s.rest_step near.rest near.rest_step)
-        (few_rest s.rest s.rest_step s.divisor short.slope.rest short.slope.rest_step less));
-    divisor = short.divisor;
-    end_step = short.end_step;
-  }
-
-  pub few_numbers : (z : Sloped) → short_sloped s ≡ z
-      → short_sloped (with_end s (narrow (narrow s.end +ℤ narrow s.end_step))
-      (narrow (narrow s.rest +ℤ narrow s.rest_step))) ≡ lowered 1 z
-  few_numbers z e =
-      with_whole (widened s) z (narrow (narrow s.end +ℤ narrow s.end_step))
-      (narrow (narrow s.rest +ℤ narrow s.rest_step)) e
-      (rw (kept_sum s.end s.end_step near.end near.end_step, kept_sum s.rest s.rest_step near.rest near.rest_step)
-      (few_whole s.end s.rest s.divisor s.end_step s.rest_step))
-
-  pub many_slope : IsShortSlope s → s.divisor ≤ℤ (s.rest +ℤ s.rest_step)
-      → IsShortSlope (with_end s (narrow (narrow (narrow (narrow s.end +ℤ narrow s.end_step)) +ℤ pos 1))
-      (narrow (narrow (narrow (narrow s.rest +ℤ narrow s.rest_step)) -ℤ narrow s.divisor)))
-  many_slope short most = record {
-    slope =
-        with_rest (widened s) (narrow (narrow (narrow (narrow s.end +ℤ narrow s.end_step)) +ℤ pos 1))
-        (narrow (narrow (narrow (narrow s.rest +ℤ narrow s.rest_step)) -ℤ narrow s.divisor)) short.slope
-        (rw (kept_less s.rest s.rest_step s.divisor near.rest near.rest_step near.divisor)
-        (many_rest s.rest s.rest_step s.divisor short.slope.rest short.slope.rest_step most));
-    divisor = short.divisor;
-    end_step = short.end_step;
-  }
-
-  pub many_numbers : (z : Sloped) → short_sloped s ≡ z
-      → short_sloped (with_end s (narrow (narrow (narrow (narrow s.end +ℤ narrow s.end_step)) +ℤ pos 1))
-      (narrow (narrow (narrow (narrow s.rest +ℤ narrow s.rest_step)) -ℤ narrow s.divisor))) ≡ lowered 1 z
-  many_numbers z e =
-      with_whole (widened s) z (narrow (narrow (narrow (narrow s.end +ℤ narrow s.end_step)) +ℤ pos 1))
-      (narrow (narrow (narrow (narrow s.rest +ℤ narrow s.rest_step)) -ℤ narrow s.divisor)) e
-      (rw (
-        kept_next s.end s.end_step near.end near.end_step,
-        kept_less s.rest s.rest_step s.divisor near.rest near.rest_step near.divisor,
-      )
-      (many_whole s.end s.rest s.divisor s.end_step s.rest_step))
-
--- in 64 bits, as those of 128 are
 pub told_short : (z : ℤ) (b : Bool) → FitsSigned w128 z → b ≡ true
     → (IsTrue b ↔ (unsigned_abs (wide z) ≤ 2 ^ 61)) → unsigned_abs z ≤ 2 ^ 61
 told_short z b fits e told =
     let short = told.0 e in
     omega (arith, ints)
 
-pub at_most : (d : ℤ) → unsigned_abs d ≤ 2 ^ 61 → d ≤ℤ pos (2 ^ 61)
-at_most d h = omega (arith, ints)
-
-pub cast_fits : (z : ℤ) → unsigned_abs z ≤ 2 ^ 61 → FitsSigned w64 (wide z)
-cast_fits z h = omega (arith, ints)
-
-kept_cast : (z : ℤ) → unsigned_abs z ≤ 2 ^ 61 → narrow (wide z) ≡ z
-kept_cast z h = omega (arith, ints)
-
-abbrev shortened : Inside → ShortInside
-shortened s = record {
-  side = s.side;
-  end = narrow (wide s.end);
-  rest = narrow (wide s.rest);
-  divisor = narrow (wide s.divisor);
-  end_step = narrow (wide s.end_step);
-  rest_step = narrow (wide s.rest_step);
-  count = s.count;
-}
-
-module _ (s : Inside) (near : AreNear s) where
-  same_parts : widened (shortened s) ≡ s
-  same_parts =
+-- a crossing by two divisions
+module _ (q r u t n m d : ℤ) (h : IsShortDivisor d) where
+  pub divided_crossing : unsigned_abs n ≤ 2 ^ 61 → unsigned_abs m ≤ 2 ^ 61
+      → whole q (narrow d) r ≡ narrow n → IsRest r (narrow d) → unsigned_abs q ≤ 2 ^ 61
+      → whole u (narrow d) t ≡ narrow m → IsRest t (narrow d) → unsigned_abs u ≤ 2 ^ 40
+      → IsCrossingOf (record { columns = narrow (narrow q +ℤ pos 1); rest = narrow (narrow r -ℤ narrow d) })
+      (record { columns = narrow u; rest = narrow t; divisor = narrow d }) n m d
+  divided_crossing short_n short_m is_n rest_n short_q is_m rest_m short_u =
+      let same = kept_short_divisor d h in
+      let number : whole q d r ≡ n = rw (same, kept_short n short_n) at is_n in
+      let change : whole u d t ≡ m = rw (same, kept_short m short_m) at is_m in
+      let rest : IsRest r d = rw same at rest_n in
+      let step : IsRest t d = rw same at rest_m in
       rw (
-        kept_cast s.end near.end,
-        kept_cast s.rest near.rest,
-        kept_cast s.divisor near.divisor,
-        kept_cast s.end_step near.end_step,
-        kept_cast s.rest_step near.rest_step,
+        kept_next q short_q,
+        kept_lack r d h rest,
+        kept_short u (omega arith),
+        kept_short_rest t d h step,
+        same,
       )
-      refl
+      (record {
+        steps = record { divisor = h; rest = step; columns = short_u };
+        top = record {
+          low = omega (arith, ints, rest.0);
+          high = omega (arith, ints, rest.1);
+          near = omega (arith, ints, short_q);
+        };
+        is = rw (next_whole q r d, number, change) refl;
+      })
 
-  pub shortened_slope : IsSlope s → IsShortSlope (shortened s)
-  shortened_slope slope = record {
-    slope = subst IsSlope (sym same_parts) slope;
-    divisor = rw (kept_cast s.divisor near.divisor) (at_most s.divisor near.divisor);
-    end_step = rw (kept_cast s.end_step near.end_step) near.end_step;
-  }
+-- a number below 0 by the quotient of what it lacks
+below_whole : (q r b : ℤ) → whole (negsuc 0 -ℤ q) b (b -ℤ pos 1 -ℤ r) ≡ negsuc 0 -ℤ whole q b r
+below_whole q r b =
+    equal
+    (Sum
+    (Product (Difference (Atom (negsuc 0)) (Atom q)) (Atom b))
+    (Difference (Difference (Atom b) (Atom (pos 1))) (Atom r)))
+    (Difference (Atom (negsuc 0)) (Sum (Product (Atom q) (Atom b)) (Atom r)))
+    (omega arith)
 
-  pub shortened_numbers : short_sloped (shortened s) ≡ sloped s
-  shortened_numbers = ap sloped same_parts
+natural_whole : (a b : ℕ) → 0 < b → whole (pos (a / b)) (pos b) (pos (a % b)) ≡ pos a
+natural_whole a b some = omega (arith, ints)
+
+at_most_all : (a b : ℕ) → 0 < b → a / b ≤ a
+at_most_all a b some = omega (arith, mul-le 1 (a / b) b (a / b) some (omega arith))
+
+pub below_division : (n d : ℤ) (a b : ℕ) → IsShortDivisor d → unsigned_abs n ≤ 2 ^ 61 → n ≡ negsuc 0 -ℤ pos a
+    → d ≡ pos b
+    → whole (narrow (negsuc 0 -ℤ to_z w64 (a / b))) d
+    (narrow (narrow (narrow d -ℤ pos 1) -ℤ to_z w64 (a % b))) ≡ n
+below_division n d a b h short is_n is_d =
+    let some : 0 < b = omega (arith, ints, h.0, is_d) in
+    let most : b ≤ 2 ^ 61 = omega (arith, ints, h.1, is_d) in
+    let few : a ≤ 2 ^ 61 = omega (arith, ints) in
+    let part = at_most_all a b some in
+    let left : a % b < b = omega arith in
+    let quotient : narrow (negsuc 0 -ℤ to_z w64 (a / b)) ≡ negsuc 0 -ℤ pos (a / b) = omega (arith, ints, part, few) in
+    let rest : narrow (narrow (narrow (pos b) -ℤ pos 1) -ℤ to_z w64 (a % b)) ≡ pos b -ℤ pos 1 -ℤ pos (a % b) =
+    omega (arith, ints, left, most) in
+    rw (is_n, is_d, quotient, rest, below_whole (pos (a / b)) (pos (a % b)) (pos b), natural_whole a b some) refl

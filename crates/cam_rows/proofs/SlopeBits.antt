@@ -1,30 +1,35 @@
--- On which side of the end of a run the numbers of a slope are not negative.
-use Rattle.std.proofs.Common.{◌≡◌, ℕ, ◌≤◌, ◌↔◌, ℤ, pos, negsuc, ◌+ℤ◌, ◌-ℤ◌, ◌*ℤ◌, ◌≤ℤ◌, ◌<ℤ◌, subst, arith}
+-- How many columns there are up to the last number that is not negative, where they fall.
+use Rattle.std.proofs.Common.{◌≡◌, ℕ, suc, zero, ◌+◌, ◌≤◌, ◌<◌, ◌↔◌, ℤ, pos, negsuc, ◌+ℤ◌, ◌-ℤ◌, ◌*ℤ◌, ◌≤ℤ◌, ◌<ℤ◌, ap, subst, sym, ◌∙◌, inl, inr, max, arith}
+use Rattle.std.proofs.lemmas.Bool.{cases_lt}
 use Rattle.std.proofs.lemmas.Int.{by_lt_z, ints}
 use Rattle.std.proofs.lemmas.Nat.{mul-le}
 use Rattle.cam_units.proofs.Ring.{Atom, Difference, Product, Sum, equal}
-use Rattle.cam_rows.specs.declared.slope.Side.{Side}
-use Rattle.cam_rows.specs.declared.slope.Side.TheVariants.{Left, Right, Level}
-use Rattle.cam_rows.specs.declared.slope.LongSlope.TheInside.{Inside}
-use Rattle.cam_rows.specs.Machinery.Slopes.{IsBeside, IsDivisor, IsRest, IsSlope, Sloped}
-use Rattle.cam_rows.specs.Machinery.Slopes.{number_on, numbers, sloped, whole}
+use Rattle.cam_rows.specs.declared.slope.Crossing.{Crossing}
+use Rattle.cam_rows.specs.declared.slope.Steps.{Steps}
+use Rattle.cam_rows.specs.Machinery.Narrowing.{IsUp}
+use Rattle.cam_rows.specs.Machinery.Slopes.{AreSteps, IsCrossing, IsRest, Sloped}
+use Rattle.cam_rows.specs.Machinery.Slopes.{falling, lacking, lowered, number_on, whole}
+use Rattle.cam_rows.proofs.SlopeParts.{next_whole}
+use Rattle.cam_rows.proofs.Slopes.{lowered_more}
 
--- a number is negative where its quotient is
-natural_whole : (a b : ℕ) (r : ℤ) → pos 0 ≤ℤ r → pos 0 ≤ℤ whole (pos a) (pos b) r
-natural_whole a b r h = omega (arith, ints)
+-- a number is negative where its quotient, rounded up, is not positive
+some_whole : (a b : ℕ) (r : ℤ) → (pos 0 -ℤ pos b) ≤ℤ r → pos 0 ≤ℤ whole (pos (suc a)) (pos b) r
+some_whole a b r h = omega (arith, ints, mul-le 1 b (suc a) b (omega arith) (omega arith))
 
-negative_whole : (a b : ℕ) (r : ℤ) → r <ℤ pos b → whole (negsuc a) (pos b) r <ℤ pos 0
-negative_whole a b r h = omega (arith, ints, mul-le 0 b a b (omega arith) (omega arith))
+none_whole : (a b : ℕ) (r : ℤ) → r <ℤ pos 0 → whole (negsuc a) (pos b) r <ℤ pos 0
+none_whole a b r h = omega (arith, ints)
 
-natural_quotient : (q d r : ℤ) → IsDivisor d → IsRest r d → (pos 0 ≤ℤ q) ↔ (pos 0 ≤ℤ whole q d r)
-natural_quotient (pos a) (pos b) r h rest = ((λ _. natural_whole a b r rest.0), (λ _. omega (arith, ints)))
-natural_quotient (negsuc a) (pos b) r h rest = (
+positive_quotient : (q d r : ℤ) → pos 1 ≤ℤ d → (pos 0 -ℤ d) ≤ℤ r → r <ℤ pos 0
+    → (pos 0 <ℤ q) ↔ (pos 0 ≤ℤ whole q d r)
+positive_quotient (pos zero) (pos b) r h low high =
+    ((λ up. absurd (omega (arith, ints))), (λ up. absurd (omega (arith, ints))))
+positive_quotient (pos (suc a)) (pos b) r h low high = ((λ _. some_whole a b r low), (λ _. omega (arith, ints)))
+positive_quotient (negsuc a) (pos b) r h low high = (
   (λ up. absurd (omega (arith, ints))),
-  (λ up. let less = negative_whole a b r rest.1 in absurd (omega (arith, ints, less))),
+  (λ up. let less = none_whole a b r high in absurd (omega (arith, ints, less))),
 )
-natural_quotient q (negsuc b) r h rest = absurd (omega (arith, ints, h.0))
+positive_quotient q (negsuc b) r h low high = absurd (omega (arith, ints, h))
 
--- up to the end of the run
 left_whole : (e d r : ℤ) (i : ℕ) → whole e d r +ℤ pos i *ℤ (pos 0 -ℤ d) ≡ whole (e -ℤ pos i) d r
 left_whole e d r i =
     equal
@@ -34,71 +39,101 @@ left_whole e d r i =
     (Sum (Product (Difference (Atom e) (Atom (pos i))) (Atom d)) (Atom r))
     (omega arith)
 
-no_gap : (e : ℤ) (i : ℕ) → (pos i ≤ℤ e) ↔ (pos 0 ≤ℤ (e -ℤ pos i))
-no_gap e i = ((λ h. omega (arith, ints)), (λ h. omega (arith, ints)))
-
-pub left_of_end : (e d r : ℤ) (i : ℕ) → IsDivisor d → IsRest r d
-    → (pos i ≤ℤ e) ↔ (pos 0 ≤ℤ (whole e d r +ℤ pos i *ℤ (pos 0 -ℤ d)))
-left_of_end e d r i h rest =
-    let gap = no_gap e i in
-    let same = natural_quotient (e -ℤ pos i) d r h rest in
-    rw (left_whole e d r i) ((λ near. same.0 (gap.0 near)), (λ up. gap.1 (same.1 up)))
-
--- behind it
-right_whole : (e d r : ℤ) (i : ℕ) → pos 0 -ℤ whole e d r -ℤ pos 1 +ℤ pos i *ℤ d
-    ≡ pos 0 -ℤ whole (e -ℤ pos i) d r -ℤ pos 1
-right_whole e d r i =
-    let nought = Atom (pos 0) in
-    let one = Atom (pos 1) in
-    equal
-    (Sum
-    (Difference (Difference nought (Sum (Product (Atom e) (Atom d)) (Atom r))) one)
-    (Product (Atom (pos i)) (Atom d)))
-    (Difference (Difference nought (Sum (Product (Difference (Atom e) (Atom (pos i))) (Atom d)) (Atom r))) one)
-    (omega arith)
-
-lacking : (z : ℤ) → (pos 0 ≤ℤ (pos 0 -ℤ z -ℤ pos 1)) ↔ (z <ℤ pos 0)
-lacking z = ((λ h. omega (arith, ints)), (λ h. omega (arith, ints)))
-
-pub right_of_end : (e d r : ℤ) (i : ℕ) → IsDivisor d → IsRest r d
-    → (pos i ≤ℤ e → ⊥) ↔ (pos 0 ≤ℤ (pos 0 -ℤ whole e d r -ℤ pos 1 +ℤ pos i *ℤ d))
-right_of_end e d r i h rest =
-    let gap = no_gap e i in
-    let same = natural_quotient (e -ℤ pos i) d r h rest in
-    let less = lacking (whole (e -ℤ pos i) d r) in
-    rw (right_whole e d r i) (
-      (λ far. less.1 (by_lt_z (whole (e -ℤ pos i) d r) (pos 0)
-          (λ down. down)
-          (λ up. absurd (far (gap.1 (same.1 up)))))),
-      (λ up near. let most = same.0 (gap.0 near) in absurd (omega (arith, ints, most, less.0 up))),
+up_to_last : (e d r : ℤ) (i : ℕ) → pos 1 ≤ℤ d → (pos 0 -ℤ d) ≤ℤ r → r <ℤ pos 0
+    → (pos i <ℤ e) ↔ (pos 0 ≤ℤ (whole e d r +ℤ pos i *ℤ (pos 0 -ℤ d)))
+up_to_last e d r i h low high =
+    let same = positive_quotient (e -ℤ pos i) d r h low high in
+    rw (left_whole e d r i) (
+      (λ near. same.0 (omega (arith, ints, near))),
+      (λ up. let some = same.1 up in omega (arith, ints, some)),
     )
 
--- in a level row
-level_number : (n : ℤ) (i : ℕ) → n +ℤ pos i *ℤ pos 0 ≡ n
-level_number n i = equal (Sum (Atom n) (Product (Atom (pos i)) (Atom (pos 0)))) (Atom n) (omega arith)
+-- by a crossing
+pub crossing_tells : (c : Crossing) (t : Steps) (bound i : ℕ) → AreSteps t → IsCrossing t bound c
+    → (pos i <ℤ c.columns) ↔ (pos 0 ≤ℤ number_on (falling c t) i)
+crossing_tells c t bound i steps here =
+    up_to_last c.columns t.divisor c.rest i steps.divisor.0 here.low here.high
 
-level_of_end : (e d r : ℤ) (i : ℕ) → IsDivisor d → IsRest r d
-    → (pos 0 ≤ℤ e) ↔ (pos 0 ≤ℤ (whole e d r +ℤ pos i *ℤ pos 0))
-level_of_end e d r i h rest = rw (level_number (whole e d r) i) (natural_quotient e d r h rest)
+-- by a quotient that is rounded down
+pub quotient_tells : (q d r n : ℤ) (i : ℕ) → pos 1 ≤ℤ d → IsRest r d → whole q d r ≡ n
+    → (pos i ≤ℤ q) ↔ (pos 0 ≤ℤ (n +ℤ pos i *ℤ (pos 0 -ℤ d)))
+quotient_tells q d r n i h rest e =
+    let same = up_to_last (q +ℤ pos 1) d (r -ℤ d) i h (omega (arith, ints, rest.0)) (omega (arith, ints, rest.1)) in
+    let told = rw (next_whole q r d, e) at same in (
+      (λ near. told.0 (omega (arith, ints, near))),
+      (λ up. let some = told.1 up in omega (arith, ints, some)),
+    )
 
--- any centre, however far to the right
-side_of : (side : Side) (e d r m : ℤ) (i count : ℕ) → IsDivisor d → IsRest r d
-    → IsBeside side e i ↔ (pos 0 ≤ℤ number_on (numbers side (whole e d r) m d count) i)
-side_of Left e d r m i count h rest = left_of_end e d r i h rest
-side_of Right e d r m i count h rest = right_of_end e d r i h rest
-side_of Level e d r m i count h rest = level_of_end e d r i h rest
+-- what numbers lack is not negative where they are
+lacking_number : (f t : ℤ) (i : ℕ) → (negsuc 0 -ℤ f) +ℤ pos i *ℤ (pos 0 -ℤ t) ≡ negsuc 0 -ℤ (f +ℤ pos i *ℤ t)
+lacking_number f t i =
+    equal
+    (Sum
+    (Difference (Atom (negsuc 0)) (Atom f))
+    (Product (Atom (pos i)) (Difference (Atom (pos 0)) (Atom t))))
+    (Difference (Atom (negsuc 0)) (Sum (Atom f) (Product (Atom (pos i)) (Atom t))))
+    (omega arith)
 
-pub beside_is : (s : Inside) (z : Sloped) (i : ℕ) → sloped s ≡ z → IsSlope s
-    → IsBeside s.side s.end i ↔ (pos 0 ≤ℤ number_on z i)
-beside_is s z i e slope =
-    subst (λ (z : Sloped). IsBeside s.side s.end i ↔ (pos 0 ≤ℤ number_on z i)) e
-    (side_of s.side s.end s.divisor s.rest (whole s.end_step s.divisor s.rest_step) i s.count slope.divisor slope.rest)
-
-pub beside_near : (side : Side) (e f : ℤ) (i : ℕ) → ((j : ℕ) → j ≤ i → (pos j ≤ℤ e) ↔ (pos j ≤ℤ f))
-    → IsBeside side e i ↔ IsBeside side f i
-beside_near Left e f i same = same i (omega arith)
-beside_near Right e f i same = (
-  (λ far near. far ((same i (omega arith)).1 near)),
-  (λ far near. far ((same i (omega arith)).0 near)),
+negative_lacks : (z : ℤ) → (pos 0 ≤ℤ z) ↔ (pos 0 ≤ℤ (negsuc 0 -ℤ z) → ⊥)
+negative_lacks z = (
+  (λ up down. absurd (omega (arith, ints, up, down))),
+  (λ off. by_lt_z z (pos 0) (λ down. absurd (off (omega (arith, ints, down)))) (λ up. up)),
 )
-beside_near Level e f i same = same 0 (omega arith)
+
+pub lacking_in_row : (f t : ℤ) (i : ℕ)
+    → (pos 0 ≤ℤ (f +ℤ pos i *ℤ t)) ↔ (pos 0 ≤ℤ ((negsuc 0 -ℤ f) +ℤ pos i *ℤ (pos 0 -ℤ t)) → ⊥)
+lacking_in_row f t i = rw (lacking_number f t i) (negative_lacks (f +ℤ pos i *ℤ t))
+
+pub lacking_tells : (s : Sloped) (k i : ℕ) → IsUp s k i ↔ (IsUp (lacking s) k i → ⊥)
+lacking_tells s k i = rw (lacking_number s.first s.down k) (lacking_in_row (lowered k s).first s.step i)
+
+-- one row lower
+left_step : (n m : ℤ) → n +ℤ m ≡ n +ℤ pos 1 *ℤ m
+left_step n m = equal (Sum (Atom n) (Atom m)) (Sum (Atom n) (Product (Atom (pos 1)) (Atom m))) (omega arith)
+
+pub falling_below : (top c next : Crossing) (t : Steps) (k : ℕ) → falling c t ≡ lowered k (falling top t)
+    → whole next.columns t.divisor next.rest ≡ whole c.columns t.divisor c.rest +ℤ whole t.columns t.divisor t.rest
+    → falling next t ≡ lowered (k + 1) (falling top t)
+falling_below top c next t k e more =
+    let down = whole t.columns t.divisor t.rest in
+    ap (λ (z : ℤ). record { first = z; step = pos 0 -ℤ t.divisor; down = down })
+    (more ∙ left_step (whole c.columns t.divisor c.rest) down)
+    ∙ ap (lowered 1) e ∙ lowered_more k (falling top t)
+
+pub nearer : (t : Steps) (c : Crossing) (bound more : ℕ) → bound ≤ more → IsCrossing t bound c → IsCrossing t more c
+nearer t c bound more most here = record { low = here.low; high = here.high; near = omega (arith, here.near, most) }
+
+-- columns of a row that are cut
+module _ (top c : Crossing) (t : Steps) (k bound : ℕ) (steps : AreSteps t) (here : IsCrossing t bound c)
+    (e : falling c t ≡ lowered k (falling top t)) where
+  told : (i : ℕ) → (pos i <ℤ c.columns) ↔ IsUp (falling top t) k i
+  told i =
+      subst (λ (z : Sloped). (pos i <ℤ c.columns) ↔ (pos 0 ≤ℤ number_on z i)) e
+      (crossing_tells c t bound i steps here)
+
+  pub end_cut : (end new : ℕ) → ((i : ℕ) → (i < new) ↔ ((i < end) × (pos i <ℤ c.columns)))
+      → (i : ℕ) → (i < new) ↔ ((i < end) × IsUp (falling top t) k i)
+  end_cut end new before i =
+      let here = before i in (
+        (λ on. let both = here.0 on in (both.0, (told i).0 both.1)),
+        (λ both. here.1 (both.0, (told i).1 both.1)),
+      )
+
+  pub first_cut : (columns first before new : ℕ)
+      → ((i : ℕ) → (i < before) ↔ ((i < columns) × (pos i <ℤ c.columns))) → new ≡ max first before
+      → (i : ℕ) → i < columns → (new ≤ i) ↔ ((first ≤ i) × (IsUp (falling top t) k i → ⊥))
+  first_cut columns first before new cut is i small =
+      let here = cut i in (
+        (λ on. (omega (arith, is, on), λ up. absurd (omega (arith, is, on, here.1 (small, (told i).1 up))))),
+        (λ both. elim (cases_lt i before) [
+          | inl early ↦ absurd (both.1 ((told i).0 (here.0 early).1))
+          | inr late ↦ omega (arith, is, both.0, late)
+        ]),
+      )
+
+-- by equal numbers, and by those that lack
+pub up_alike : (s z : Sloped) (k i : ℕ) → s ≡ z → IsUp z k i ↔ IsUp s k i
+up_alike s z k i e = subst (λ (y : Sloped). IsUp y k i ↔ IsUp s k i) e ((λ up. up), (λ up. up))
+
+pub lacking_alike : (s z : Sloped) (k i : ℕ) → z ≡ lacking s → IsUp s k i ↔ (IsUp z k i → ⊥)
+lacking_alike s z k i e = subst (λ (y : Sloped). IsUp s k i ↔ (IsUp y k i → ⊥)) (sym e) (lacking_tells s k i)

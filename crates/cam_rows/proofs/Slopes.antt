@@ -1,5 +1,5 @@
 -- Numbers at the centres of rows, one row below another.
-use Rattle.std.proofs.Common.{◌≡◌, ℕ, ◌+◌, ◌-◌, ◌<◌, ◌^◌, ℤ, pos, ◌+ℤ◌, ◌-ℤ◌, ◌*ℤ◌}
+use Rattle.std.proofs.Common.{◌≡◌, ℕ, ◌+◌, ◌<◌, ◌^◌, ℤ, pos, ◌+ℤ◌, ◌-ℤ◌, ◌*ℤ◌}
 use Rattle.std.proofs.Common.{ap, sym, ◌∙◌, arith}
 use Rattle.std.specs.Int.RustNames.{unsigned_abs}
 use Rattle.std.proofs.lemmas.Int.{ints}
@@ -27,7 +27,7 @@ one_more_step x step k =
 
 -- the same numbers but for the first one
 from_first : Sloped → ℤ → Sloped
-from_first s z = record { first = z; step = s.step; down = s.down; count = s.count }
+from_first s z = record { first = z; step = s.step; down = s.down }
 
 pub lowered_none : (s : Sloped) → lowered 0 s ≡ s
 unfolding from_first
@@ -124,6 +124,3 @@ cross_below p q c s k i e down =
     below_first s.first s.step (cross (way p q) (seen_from p (centre_at c i)))
     (cross (way p q) (seen_from p (centre_at (row_below c k) i))) s.down k i e
     (lower_cross (way p q).x (way p q).y (seen_from p (centre_at c i)).x c.first.y p.y c.step s.down k down)
-
-pub stepped : (k : ℕ) (s : Sloped) → 0 < k → lowered 1 (lowered (k - 1) s) ≡ lowered k s
-stepped k s some = lowered_more (k - 1) s ∙ ap (λ n. lowered n s) (omega arith)

@@ -3,7 +3,6 @@
 pub mod Beside
 pub mod Changes
 pub mod Chords
-pub mod Forms
 pub mod HalfPlanes
 pub mod Linear
 pub mod Narrowing

@@ -1,26 +1,23 @@
 //! Half planes, row after row: the centres on one side of a line, by the sign of a number.
 
-ghost use Rattle.std.specs.Prelude.{◌≡◌, ◌^◌, ◌<◌, ◌≤◌, pos, ◌+ℤ◌, ◌-ℤ◌, ◌*ℤ◌, ◌≤ℤ◌};
+ghost use Rattle.std.specs.Prelude.{◌≡◌, ◌^◌, ◌<◌, pos, ◌+ℤ◌, ◌-ℤ◌, ◌*ℤ◌, ◌≤ℤ◌};
 ghost use Rattle.std.specs.Int.RustNames.{unsigned_abs};
 ghost use Rattle.cam_units.specs.Board.{IsOnBoard};
 ghost use Rattle.cam_shapes.specs.Plane.{cross, dot, seen_from, way};
-ghost use Rattle.cam_rows.specs.Machinery.HalfPlanes.{IsHalfPlaneOf, numbers_of};
-ghost use Rattle.cam_rows.specs.Machinery.Linear.{IsShortLinear};
+ghost use Rattle.cam_rows.specs.Machinery.HalfPlanes.{IsHalfPlaneOf};
 ghost use Rattle.cam_rows.specs.Rows.{IsRow};
 
 use crate::centres::Centres;
 use crate::linear::Linear;
-use crate::slope::Slope;
 use crate::way::{Way, across, along};
 use cam_units::Point;
 
-/// The centres of rows, one below another, at which a number is not negative: that of the top row, how much more it is
-/// in each row below, and how many centres a row has.
+/// The centres of rows, one below another, at which a number is not negative: that of the top row, and how much more it
+/// is in each row below.
 #[derive(Clone, Copy)]
 pub struct HalfPlane {
     pub row: Linear,
     pub down: i128,
-    pub count: u32,
 }
 
 impl HalfPlane {
@@ -34,7 +31,6 @@ impl HalfPlane {
         HalfPlane {
             row: along(from, to, top),
             down: Way::between(from, to).dot_down(top),
-            count: top.count,
         }
     }
 
@@ -52,17 +48,6 @@ impl HalfPlane {
         HalfPlane {
             row: across(from, to, top).raised(reach),
             down: Way::between(from, to).turned_left().dot_down(top),
-            count: top.count,
         }
-    }
-
-    /// Its numbers, from the top row on.
-    pub(crate) fn slope(&self) -> Slope
-        requires row { IsShortLinear self.now.row }
-        requires down { unsigned_abs self.now.down < 2 ^ 100 }
-        requires few { self.now.count ≤ 64 }
-        ensures { result ≡ numbers_of self.now }
-    {
-        Slope::new(&self.row, self.down, self.count)
     }
 }

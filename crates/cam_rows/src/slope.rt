@@ -1,245 +1,82 @@
-//! Half planes, row after row: where a run ends moves by a quotient and a remainder from each row to the next.
+//! Numbers that fall from each centre of a row to the next, row after row: how many of them are not negative moves by a
+//! quotient and a remainder from each row to the next.
 
-mod counting;
-mod narrowing;
+mod cutting;
+mod dividing;
 
-ghost use Rattle.std.specs.Prelude.{◌≡◌, ◌^◌, ◌/◌, ◌<◌, ◌≤◌, ◌↔◌, IsTrue, ℕ, pos, ◌+ℤ◌, ◌*ℤ◌, ◌≤ℤ◌, ◌<ℤ◌};
+ghost use Rattle.std.specs.Prelude.{◌≡◌, ◌/◌, ◌+◌, ◌^◌, ◌<◌, ◌≤◌, ◌↔◌, ℕ, pos, ◌-ℤ◌, ◌+ℤ◌, ◌*ℤ◌, ◌≤ℤ◌, ◌<ℤ◌};
 ghost use Rattle.std.specs.Int.RustNames.{unsigned_abs};
-ghost use Rattle.cam_rows.specs.Machinery.Forms.{in_form};
-ghost use Rattle.cam_rows.specs.Machinery.Linear.{IsShortLinear};
-ghost use Rattle.cam_rows.specs.Machinery.Slopes.{IsDivisor, IsRest, lowered, numbers, whole};
-ghost use Rattle.cam_rows.specs.declared.slope.Side.TheVariants.{Level};
+ghost use Rattle.cam_rows.specs.Machinery.Slopes.{AreSteps, IsCrossing, IsDivisor, IsRest, IsShortDivisor, falling, whole};
+ghost use Rattle.cam_rows.specs.Runs.{most_columns};
 
-use crate::linear::Linear;
-use std::marker::Model;
+pub(crate) use cutting::{cut_ends, cut_firsts};
+pub(crate) use dividing::crossing_of;
 
-/// Where the numbers are not negative.
+/// How many columns of a row there are up to the last number that is not negative: the number left of the first column
+/// is `columns` times the divisor less what the remainder, which is negative, lacks.
 #[derive(Clone, Copy)]
-enum Side {
-    /// Up to the end of a run.
-    Left,
-    /// Behind it.
-    Right,
-    /// In the whole row, or nowhere: the end is the number itself.
-    Level,
+pub(crate) struct Crossing {
+    pub columns: i64,
+    pub rest: i64,
 }
 
-/// The greatest size of the parts of a slope in 64 bits: the sum of two of them fits as well, with one more.
-const LONGEST: i64 = 1 << 61;
-
-/// Numbers at the centres of a row, and how they change from each row to the next: seen as `Sloped`.
-#[derive(Drop)]
-pub(crate) struct Slope {
-    form: Form,
+/// How it moves from each row to the next: by whole columns, and by a rest of less than the divisor, which is how much
+/// the numbers fall from each centre to the next.
+#[derive(Clone, Copy)]
+pub(crate) struct Steps {
+    pub columns: i64,
+    pub rest: i64,
+    pub divisor: i64,
 }
 
-/// A slope in as few bits as hold it.
-#[derive(Drop)]
-enum Form {
-    Short(ShortSlope),
-    Long(LongSlope),
-}
-
-/// A slope whose parts fit 64 bits. The run of centres from the left up to `end` ends where the numbers change sign;
-/// `end * divisor + rest` is what the first one has, or lacks.
-#[derive(Drop)]
-struct ShortSlope {
-    side: Side,
-    end: i64,
-    rest: i64,
-    divisor: i64,
-    end_step: i64,
-    rest_step: i64,
-    count: u32,
-}
-
-/// The same in 128 bits, which hold every slope.
-#[derive(Drop)]
-struct LongSlope {
-    side: Side,
-    end: i128,
-    rest: i128,
-    divisor: i128,
-    end_step: i128,
-    rest_step: i128,
-    count: u32,
-}
-
-impl Model for ShortSlope {
-    ghost use Rattle.cam_rows.specs.Machinery.Slopes.{IsShortSlope, Sloped, short_sloped};
-
-    ghost Value = { Sloped };
-
-    ghost view = { short_sloped };
-
-    ghost invariant = { IsShortSlope };
-}
-
-impl Model for LongSlope {
-    ghost use Rattle.cam_rows.specs.Machinery.Slopes.{IsSlope, Sloped, sloped};
-
-    ghost Value = { Sloped };
-
-    ghost view = { sloped };
-
-    ghost invariant = { IsSlope };
-}
-
-impl Model for Slope {
-    ghost use Rattle.cam_rows.specs.Machinery.Forms.{in_form};
-    ghost use Rattle.cam_rows.specs.Machinery.Slopes.{Sloped};
-
-    ghost Value = { Sloped };
-
-    ghost view = { λ s. in_form s.form };
-}
-
-impl Slope {
-    /// Numbers that change by `down` from each row to the next.
-    pub(crate) fn new(row: &Linear, down: i128, count: u32) -> Slope
-        requires short { IsShortLinear row.now }
-        requires down { unsigned_abs down < 2 ^ 100 }
-        requires few { count ≤ 64 }
-        ensures first { result.first ≡ row.now.first }
-        ensures step { result.step ≡ row.now.step }
-        ensures down { result.down ≡ down }
-        ensures count { result.count ≡ count }
-    {
-        Slope {
-            form: LongSlope::new(row, down, count).into_form(),
-        }
-    }
-}
-
-impl ShortSlope {
-    /// Goes to the next row, unless the end of its run may not fit 64 bits.
+impl Crossing {
+    /// How many of the columns before an end they are.
     #[inline]
-    fn step_down(&mut self) -> bool
-        ensures steps { IsTrue result → self.new ≡ lowered 1 self.old }
-        ensures stays { (IsTrue result → ⊥) → self.new ≡ self.old }
+    pub(crate) fn columns_before(self, end: u32) -> u32
+        ensures { (i : ℕ) → (i < result) ↔ ((i < end) × (pos i <ℤ self.columns)) }
     {
-        if self.end < -LONGEST || self.end > LONGEST {
-            return false;
-        }
-        self.end += self.end_step;
-        self.rest += self.rest_step;
-        if self.rest >= self.divisor {
-            self.rest -= self.divisor;
-            self.end += 1;
-        }
-        true
+        self.columns.max(0).min(i64::from(end)) as u32
     }
 
-    /// The same numbers, in 128 bits.
-    fn widened(&self) -> LongSlope
-        ensures { result ≡ self.now }
+    /// The crossing of the next row.
+    #[inline]
+    pub(crate) fn below(self, steps: &Steps) -> Crossing
+        requires steps { AreSteps steps.now }
+        requires here { IsCrossing steps.now (2 ^ 62) self }
+        ensures lowered { whole result.columns steps.now.divisor result.rest
+            ≡ whole self.columns steps.now.divisor self.rest
+            +ℤ whole steps.now.columns steps.now.divisor steps.now.rest }
+        ensures near { (bound : ℕ) → IsCrossing steps.now bound self → IsCrossing steps.now (bound + 2 ^ 41) result }
     {
-        LongSlope {
-            side: self.side,
-            end: i128::from(self.end),
-            rest: i128::from(self.rest),
-            divisor: i128::from(self.divisor),
-            end_step: i128::from(self.end_step),
-            rest_step: i128::from(self.rest_step),
-            count: self.count,
+        let columns = self.columns + steps.columns;
+        let rest = self.rest + steps.rest;
+        if rest < 0 {
+            return Crossing { columns, rest };
+        }
+        Crossing {
+            columns: columns + 1,
+            rest: rest - steps.divisor,
         }
     }
 }
 
-impl LongSlope {
-    /// Numbers that change by `down` from each row to the next.
-    fn new(row: &Linear, down: i128, count: u32) -> LongSlope
-        requires short { IsShortLinear row.now }
-        requires down { unsigned_abs down < 2 ^ 100 }
-        requires few { count ≤ 64 }
-        ensures first { result.first ≡ row.now.first }
-        ensures step { result.step ≡ row.now.step }
-        ensures down { result.down ≡ down }
-        ensures count { result.count ≡ count }
-    {
-        if row.step < 0 {
-            LongSlope::divided(Side::Left, row.first, down, -row.step, count)
-        } else if row.step > 0 {
-            LongSlope::divided(Side::Right, -1 - row.first, -down, row.step, count)
-        } else {
-            LongSlope::divided(Side::Level, row.first, down, 1, count)
-        }
-    }
-
-    /// The slope of a run that ends where the quotient of a number by a divisor tells, which changes from each row to
-    /// the next.
-    fn divided(side: Side, number: i128, change: i128, divisor: i128, count: u32) -> LongSlope
-        requires number { unsigned_abs number ≤ 2 ^ 100 }
-        requires change { unsigned_abs change < 2 ^ 100 }
-        requires divisor { IsDivisor divisor }
-        requires level { side ≡ Level → divisor ≡ pos 1 }
-        requires few { count ≤ 64 }
-        ensures { result ≡ numbers side number change divisor count }
-    {
-        let (end, rest) = floor_division(number, divisor);
-        let (end_step, rest_step) = floor_division(change, divisor);
-        LongSlope {
-            side,
-            end,
-            rest,
-            divisor,
-            end_step,
-            rest_step,
-            count,
-        }
-    }
-
-    /// The same numbers, in 64 bits where their parts fit them.
-    fn into_form(self) -> Form
-        ensures { in_form result ≡ self }
-    {
-        if !is_short(self.end) || !is_short(self.end_step) || !is_short(self.divisor) {
-            return Form::Long(self);
-        }
-        Form::Short(ShortSlope {
-            side: self.side,
-            end: self.end as i64,
-            rest: self.rest as i64,
-            divisor: self.divisor as i64,
-            end_step: self.end_step as i64,
-            rest_step: self.rest_step as i64,
-            count: self.count,
-        })
-    }
-
-    /// Goes to the next row.
-    fn step_down(&mut self)
-        requires here { unsigned_abs self.old.first < 2 ^ 100 }
-        ensures { self.new ≡ lowered 1 self.old }
-    {
-        self.end += self.end_step;
-        self.rest += self.rest_step;
-        if self.rest >= self.divisor {
-            self.rest -= self.divisor;
-            self.end += 1;
-        }
-    }
-}
-
-/// An end on the same side of each centre of a row, however wide.
-fn near_end(end: i128) -> i64
-    ensures { (i : ℕ) → i < 2 ^ 32 → (pos i ≤ℤ result) ↔ (pos i ≤ℤ end) }
+/// How many of the columns there are up to the last number that is not negative, where they fall by a divisor.
+pub(crate) fn columns_up_to(number: i128, divisor: i128, columns: u32) -> u32
+    requires number { unsigned_abs number ≤ 2 ^ 100 }
+    requires divisor { IsDivisor divisor }
+    requires few { columns ≤ most_columns }
+    ensures each { (i : ℕ) → i < columns
+        → (i < result) ↔ (pos 0 ≤ℤ (number +ℤ pos i *ℤ (pos 0 -ℤ divisor))) }
+    ensures within { result ≤ columns }
 {
-    if end < 0 {
-        return -1;
+    let (last, _) = floor_division(number, divisor);
+    if last < 0 {
+        return 0;
     }
-    if end >= 1 << 32 {
-        return 1 << 32;
+    if last >= i128::from(columns) {
+        return columns;
     }
-    end as i64
-}
-
-/// Whether a part of a slope is at most the greatest one in 64 bits.
-fn is_short(part: i128) -> bool
-    ensures { IsTrue result ↔ (unsigned_abs part ≤ 2 ^ 61) }
-{
-    let longest = i128::from(LONGEST);
-    -longest <= part && part <= longest
+    last as u32 + 1
 }
 
 /// The greatest whole number that is at most the quotient, and what is left of the number.

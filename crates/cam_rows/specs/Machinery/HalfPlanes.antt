@@ -1,26 +1,35 @@
 -- Half planes, row after row: the centres at which a number is not negative.
-use Rattle.std.specs.Prelude.{◌↔◌, ℕ, ◌^◌, ◌<◌, ◌≤◌}
+use Rattle.std.specs.Prelude.{◌≡◌, ◌↔◌, ℕ, ◌^◌, ◌+◌, ◌<◌, ◌≤◌, pos, ◌≤ℤ◌, ◌<ℤ◌}
 use Rattle.std.specs.Int.RustNames.{unsigned_abs}
 use Rattle.cam_units.specs.declared.point.Spot.{Spot}
 use Rattle.cam_rows.specs.declared.centres.Centres.{Centres}
 use Rattle.cam_rows.specs.declared.half_plane.HalfPlane.{HalfPlane}
 use Rattle.cam_rows.specs.Machinery.Linear.{IsShortLinear}
-use Rattle.cam_rows.specs.Machinery.Slopes.{Sloped, lowered}
+use Rattle.cam_rows.specs.declared.slope.Crossing.{Crossing}
+use Rattle.cam_rows.specs.declared.slope.Steps.{Steps}
+use Rattle.cam_rows.specs.Machinery.Slopes.{AreSteps, IsCrossing, Sloped, falling, lacking, lowered}
 use Rattle.cam_rows.specs.Machinery.Narrowing.{IsUp}
 use Rattle.cam_rows.specs.Rows.{AreRows, centre_at, row_below}
 
 -- its numbers
 abbrev pub numbers_of : HalfPlane → Sloped
-numbers_of h = record { first = h.row.first; step = h.row.step; down = h.down; count = h.count }
+numbers_of h = record { first = h.row.first; step = h.row.step; down = h.down }
 
 -- its numbers fit 128 bits, in each of so many rows
 pub record IsShortIn (n : ℕ) (h : HalfPlane) : Type 0 where
   pub row : IsShortLinear h.row
   pub down : unsigned_abs h.down < 2 ^ 100
-  pub few : h.count ≤ 64
   pub rows : (k : ℕ) → k < n → unsigned_abs (lowered k (numbers_of h)).first < 2 ^ 100
 
 -- in rows from the top one on, it holds the places in a shape by their numbers, and fits
 pub record IsHalfPlaneOf (top : Centres) (IsIn : Spot → Type 0) (h : HalfPlane) : Type 0 where
   pub tells : (k i : ℕ) → IsUp (numbers_of h) k i ↔ IsIn (centre_at (row_below top k) i)
   pub short : (n : ℕ) → AreRows top n → IsShortIn n h
+
+-- where it crosses so many rows: its numbers fall, or what they lack does
+pub record IsCrossingIn (rows : ℕ) (c : Crossing) (t : Steps) (h : HalfPlane) : Type 0 where
+  pub few : rows ≤ 2 ^ 20
+  pub steps : AreSteps t
+  pub top : IsCrossing t (2 ^ 61 + 1) c
+  pub falls : h.row.step <ℤ pos 0 → falling c t ≡ numbers_of h
+  pub rises : pos 0 ≤ℤ h.row.step → falling c t ≡ lacking (numbers_of h)

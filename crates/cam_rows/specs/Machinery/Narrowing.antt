@@ -39,3 +39,14 @@ pub record AreNarrowed (columns : ℕ) (firsts ends : List ℕ) (IsHeld : ℕ �
 pub record AreCounted (columns : ℕ) (IsHeld : ℕ → ℕ → Type 0) (end : ℕ) (ends : List ℕ) : Type 0 where
   pub each : (k i : ℕ) → k < end → i < columns → (i < slice_index ends k) ↔ IsHeld k i
   pub within : (k : ℕ) → k < end → slice_index ends k ≤ columns
+
+-- of the columns before the ends of runs those stay that are held
+abbrev pub AreEndsCut : (ℕ → ℕ → Type 0) → List ℕ → List ℕ → Type 0
+AreEndsCut IsHeld ends new_ends =
+    (k i : ℕ) → k < length ends → (i < slice_index new_ends k) ↔ ((i < slice_index ends k) × IsHeld k i)
+
+-- of so many columns from the first ones of runs on, those stay that are not held
+abbrev pub AreFirstsCut : ℕ → (ℕ → ℕ → Type 0) → List ℕ → List ℕ → Type 0
+AreFirstsCut columns IsHeld firsts new_firsts =
+    (k i : ℕ) → k < length firsts → i < columns
+    → (slice_index new_firsts k ≤ i) ↔ ((slice_index firsts k ≤ i) × (IsHeld k i → ⊥))

@@ -1,13 +1,20 @@
 //! Runs of wide rows, narrowed to half planes.
 
-ghost use Rattle.std.specs.Prelude.{◌≡◌, ◌^◌, ◌<◌, ◌≤◌, length, pos, ◌<ℤ◌};
+ghost use Rattle.std.specs.Prelude.{◌≡◌, ◌↔◌, ◌+◌, ◌^◌, ◌<◌, ◌≤◌, ℕ, IfSome, length, pos, ◌<ℤ◌};
 ghost use Rattle.std.specs.Int.RustNames.{unsigned_abs};
-ghost use Rattle.cam_units.specs.Board.{IsOnBoard};
-ghost use Rattle.cam_rows.specs.Machinery.HalfPlanes.{IsShortIn, numbers_of};
+ghost use Rattle.cam_rows.specs.Machinery.HalfPlanes.{IsCrossingIn, IsShortIn, numbers_of};
+ghost use Rattle.cam_rows.specs.Machinery.Linear.{IsShortLinear};
 ghost use Rattle.cam_rows.specs.Machinery.Narrowing.{AreCounted, AreNarrowed, IsUp};
-ghost use Rattle.cam_rows.specs.Runs.{most_columns};
+ghost use Rattle.cam_rows.specs.Machinery.Slopes.{lowered};
+ghost use Rattle.cam_rows.specs.Runs.{IsInRun, most_columns};
 
+use super::Run;
 use crate::half_plane::HalfPlane;
+use crate::linear::Linear;
+use crate::slope::{Crossing, Steps, columns_up_to, crossing_of, cut_ends, cut_firsts};
+
+/// The most rows whose crossings are stepped through in 64 bits.
+const MOST_ROWS: usize = 1 << 20;
 
 impl HalfPlane {
     /// Narrows the runs of wide rows, one below another from the top one, to its own columns.
@@ -18,7 +25,11 @@ impl HalfPlane {
         ensures { AreNarrowed columns firsts.old ends.old (IsUp (numbers_of self.now)) (length firsts.old)
             firsts.new ends.new }
     {
-        self.slope().narrow(columns, firsts, ends);
+        match self.crossing(firsts.len()) {
+            Some((top, steps)) if self.row.step < 0 => cut_ends(top, &steps, ends),
+            Some((top, steps)) => cut_firsts(top, &steps, columns, firsts),
+            None => self.narrow_each(columns, firsts, ends),
+        }
     }
 
     /// The ends of runs of wide rows, one below another from the top one, that begin at the leftmost column, where its
@@ -29,6 +40,100 @@ impl HalfPlane {
         requires few { columns ≤ most_columns }
         ensures { AreCounted columns (IsUp (numbers_of self.now)) (length ends.old) ends.new }
     {
-        self.slope().count_columns(columns, ends);
+        match self.crossing(ends.len()) {
+            Some((top, steps)) => {
+                ends.fill(columns);
+                cut_ends(top, &steps, ends);
+            }
+            None => self.count_each(columns, ends),
+        }
+    }
+
+    /// Where its numbers cross 0 in the top row, and how that moves from each row to the next: the numbers themselves
+    /// where they fall, and else what they lack. None where they are level, or may not fit 64 bits in so many rows.
+    fn crossing(&self, rows: usize) -> Option<(Crossing, Steps)>
+        requires row { IsShortLinear self.now.row }
+        requires down { unsigned_abs self.now.down < 2 ^ 100 }
+        ensures { IfSome result (λ r. IsCrossingIn rows r.0 r.1 self.now) }
+    {
+        if rows > MOST_ROWS {
+            return None;
+        }
+        let Linear { first, step } = self.row;
+        if step < 0 {
+            return crossing_of(first, self.down, -step);
+        }
+        crossing_of(-1 - first, -self.down, step)
+    }
+
+    /// The same as `narrow`, by a division in each row.
+    fn narrow_each(&self, columns: u32, firsts: &mut [u32], ends: &mut [u32])
+        requires short { IsShortIn (length firsts.old) self.now }
+        requires few { columns ≤ most_columns }
+        requires ends { length ends.old ≡ length firsts.old }
+        ensures { AreNarrowed columns firsts.old ends.old (IsUp (numbers_of self.now)) (length firsts.old)
+            firsts.new ends.new }
+    {
+        for k in 0..firsts.len() {
+            let run = self.narrowed(
+                k,
+                Run {
+                    first: firsts[k],
+                    end: ends[k],
+                },
+                columns,
+            );
+            firsts[k] = run.first;
+            ends[k] = run.end;
+        }
+    }
+
+    /// The same as `count_columns`, by a division in each row.
+    fn count_each(&self, columns: u32, ends: &mut [u32])
+        requires short { IsShortIn (length ends.old) self.now }
+        requires falls { self.now.row.step <ℤ pos 0 }
+        requires few { columns ≤ most_columns }
+        ensures { AreCounted columns (IsUp (numbers_of self.now)) (length ends.old) ends.new }
+    {
+        for k in 0..ends.len() {
+            ends[k] = columns_up_to(self.number_below(k), -self.row.step, columns);
+        }
+    }
+
+    /// Its columns of a run in the row that lies so many steps lower.
+    fn narrowed(&self, steps: usize, run: Run, columns: u32) -> Run
+        requires short { IsShortIn (steps + 1) self.now }
+        requires few { columns ≤ most_columns }
+        ensures each { (i : ℕ) → i < columns → IsInRun result.first result.end i
+            ↔ (IsInRun run.first run.end i × IsUp (numbers_of self.now) steps i) }
+        ensures within { result.end ≤ run.end }
+    {
+        let number = self.number_below(steps);
+        let Run { first, end } = run;
+        let step = self.row.step;
+        if step < 0 {
+            return Run {
+                first,
+                end: end.min(columns_up_to(number, -step, columns)),
+            };
+        }
+        if step > 0 {
+            return Run {
+                first: first.max(columns_up_to(-1 - number, step, columns)),
+                end,
+            };
+        }
+        if number < 0 {
+            return Run { first: 0, end: 0 };
+        }
+        run
+    }
+
+    /// Its number at the leftmost centre of the row that lies so many steps lower.
+    fn number_below(&self, steps: usize) -> i128
+        requires short { IsShortIn (steps + 1) self.now }
+        ensures { result ≡ (lowered steps (numbers_of self.now)).first }
+    {
+        self.row.first + steps as i128 * self.down
     }
 }

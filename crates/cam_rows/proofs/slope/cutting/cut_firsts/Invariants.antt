@@ -1,0 +1,15 @@
+use Rattle.std.proofs.Common.{◌≡◌, ◌↔◌, ℕ, ◌+◌, ◌*◌, ◌^◌, ◌<◌, ◌≤◌, slice_index}
+use Rattle.cam_rows.specs.Machinery.Narrowing.{IsUp}
+use Rattle.cam_rows.specs.Machinery.Slopes.{IsCrossing, falling, lowered}
+use Rattle.cam_rows.proofs.SetRows.{AreSetAbove}
+use Rattle.cam_rows.proofs.slope.cutting.cut_firsts.Given as goal
+
+abbrev pub invariant-loop-k : goal.invariant-loop-k
+invariant-loop-k l = record {
+  lowered : falling l.crossing l.steps ≡ lowered l.k (falling l.fn.top l.steps);
+  here : IsCrossing l.steps (2 ^ 61 + 1 + l.k * 2 ^ 41) l.crossing;
+  cut : AreSetAbove
+      (λ k first. (i : ℕ) → i < l.columns
+      → (first ≤ i) ↔ ((slice_index l.fn.firsts k ≤ i) × (IsUp (falling l.fn.top l.steps) k i → ⊥)))
+      l.fn.firsts l.k l.firsts;
+}

@@ -1,0 +1,35 @@
+//! Runs of wide rows, one below another, cut where falling numbers cross 0.
+
+ghost use Rattle.std.specs.Prelude.{◌+◌, ◌^◌, ◌≤◌, length};
+ghost use Rattle.cam_rows.specs.Machinery.Narrowing.{AreEndsCut, AreFirstsCut, IsUp};
+ghost use Rattle.cam_rows.specs.Machinery.Slopes.{AreSteps, IsCrossing, falling};
+
+use super::{Crossing, Steps};
+
+/// Cuts the ends of runs to the columns at which the numbers are not negative.
+pub(crate) fn cut_ends(top: Crossing, steps: &Steps, ends: &mut [u32])
+    requires steps { AreSteps steps.now }
+    requires top { IsCrossing steps.now (2 ^ 61 + 1) top }
+    requires rows { length ends.old ≤ 2 ^ 20 }
+    ensures { AreEndsCut (IsUp (falling top steps.now)) ends.old ends.new }
+{
+    let mut crossing = top;
+    for k in 0..ends.len() {
+        ends[k] = crossing.columns_before(ends[k]);
+        crossing = crossing.below(steps);
+    }
+}
+
+/// Cuts the first columns of runs to those at which the numbers are negative.
+pub(crate) fn cut_firsts(top: Crossing, steps: &Steps, columns: u32, firsts: &mut [u32])
+    requires steps { AreSteps steps.now }
+    requires top { IsCrossing steps.now (2 ^ 61 + 1) top }
+    requires rows { length firsts.old ≤ 2 ^ 20 }
+    ensures { AreFirstsCut columns (IsUp (falling top steps.now)) firsts.old firsts.new }
+{
+    let mut crossing = top;
+    for k in 0..firsts.len() {
+        firsts[k] = firsts[k].max(crossing.columns_before(columns));
+        crossing = crossing.below(steps);
+    }
+}
