@@ -3,8 +3,8 @@ use Rattle.std.proofs.Common.{◌≡◌, ℕ, ◌+◌, ◌-◌, ◌<◌, ◌≤�
 use Rattle.std.proofs.Common.{slice_get, slice_set, take, insert, remove, Some, sym, ap, subst, ◌∙◌, arith}
 use Rattle.std.proofs.lemmas.Bool.{cases_eq, cases_lt}
 use Rattle.std.proofs.lemmas.Int.{ints}
-use Rattle.std.proofs.lemmas.List.{get_or-map, get_or_append_left, get_or_push, get_or-set_same, get_or-set_other, get_or-take}
-use Rattle.std.proofs.lemmas.List.{length-set, length-take, length_push}
+use Rattle.std.proofs.lemmas.List.{get_or-map, get_or-set_same, get_or-set_other, get_or-take}
+use Rattle.std.proofs.lemmas.List.{length-set, length-take}
 use Rattle.std.proofs.lemmas.List.Edits.{get_or-insert_above, get_or-insert_at, get_or-insert_below, get_or-remove_above}
 use Rattle.std.proofs.lemmas.List.Edits.{get_or-remove_below, length-insert, length-remove}
 use Rattle.std.proofs.lemmas.Option.{slice_get-get_or}
@@ -78,27 +78,9 @@ module _ {X : Type 0} (R : X → ℕ → Type 0) (d : X) where
   pub beside_none : (xs : List X) → AreBeside R d xs []
   beside_none xs = record { each = λ k listed known. absurd (omega arith) }
 
-  pub beside_pushed : (xs : List X) (old new : List ℕ) (n v : ℕ) → R (get_or xs n d) v → AreBeside R d xs old
-      → (new ≡ old) ⊎ ((length old ≡ n) × (new ≡ old ++ v ∷ [])) → AreBeside R d xs new
-  beside_pushed xs old new n v here before pushed =
-      elim pushed [
-        | inl same ↦ subst (AreBeside R d xs) (sym same) before
-        | inr more ↦
-            subst (AreBeside R d xs) (sym more.1)
-            (record {
-              each = λ k listed known.
-                  elim (cases_lt k n) [
-                    | inl below ↦
-                        (let within : k < length old = omega (arith, below, more.0) in
-                        subst (R (get_or xs k d)) (sym (get_or_append_left old (v ∷ []) 0 k within))
-                        (before.each k listed within))
-                    | inr last ↦
-                        (let e : k ≡ n = omega (arith, last, more.0, known, length_push old v) in
-                        subst (R (get_or xs k d)) (sym (get_or_push old v 0 k (more.0 ∙ sym e)))
-                        (subst (λ j. R (get_or xs j d) v) (sym e) here))
-                  ];
-            })
-      ]
+  -- the first so many are beside the others
+  abbrev pub AreBesideBelow : ℕ → List X → List ℕ → Type 0
+  AreBesideBelow n xs ys = (k : ℕ) → k < n → R (get_or xs k d) (get_or ys k 0)
 
   module _ (xs : List X) (old : List ℕ) (kept : AreBeside R d xs old) where
     beside_whole : (place : ℕ) (x : X) (v : ℕ) → place ≤ length xs → place ≤ length old → R x v

@@ -39,6 +39,7 @@ impl Extent {
     }
 
     /// Of a number.
+    #[inline(never)]
     fn of(entries: &Dictionary, number: u32) -> Extent
         ensures extent { IsExtentIn entries.now result }
         ensures number { result.number ≡ number }
@@ -58,6 +59,7 @@ impl Extent {
     }
 
     /// Makes it that of a number, which is looked up only where it is another one.
+    #[inline]
     fn go_to(&mut self, entries: &Dictionary, number: u32)
         requires { IsExtentIn entries.now self.old }
         ensures extent { IsExtentIn entries.now self.new }
@@ -69,6 +71,7 @@ impl Extent {
     }
 
     /// The box of what an object paints. It becomes the extent of the aperture that the object names.
+    #[inline]
     pub(crate) fn object_bounds(&mut self, entries: &Dictionary, object: &Object) -> Bounds
         requires extent { IsExtentIn entries.now self.old }
         requires sound { IsSoundDictionary entries.now }

@@ -52,6 +52,7 @@ impl Layer {
     /// ends' and, where it is an arc, the whole circle's, widened by half the width, of a rectangle's stroke the
     /// rectangles' at both ends, of a region its points' and its arcs' circles'. Takes no memory, and goes through no
     /// block.
+    #[inline(never)]
     pub fn bounds_of(&self, item: &Item) -> Bounds
         requires { IsSoundItem self.now.apertures item.now }
         ensures { result ≡ bounds_of (item_leaves (meaning_in self.now.apertures) item.now) }

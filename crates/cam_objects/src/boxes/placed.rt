@@ -22,6 +22,7 @@ fn moved_spot(spot: Spot, by: Point) -> Spot
 }
 
 /// A box, moved by so many nm.
+#[inline]
 pub(crate) fn moved(bounds: Bounds, by: Point) -> Bounds
     requires bounds { IsNearBox bounds }
     requires by { IsBoxOffset by }
@@ -38,6 +39,7 @@ pub(crate) fn moved(bounds: Bounds, by: Point) -> Bounds
 
 impl Place {
     /// The box there of what has this box at (0, 0).
+    #[inline]
     pub(crate) fn bounds(&self, bounds: Bounds) -> Bounds
         requires offset { IsBoxOffset self.now.offset }
         requires bounds { IsNearBox bounds }

@@ -149,6 +149,7 @@ fn ends(from: &Point, to: &Point) -> Bounds
 }
 
 /// The box of a stroke of a round tool along a line.
+#[inline]
 pub(crate) fn stroke_bounds(stroke: &Capsule) -> Bounds
     requires { IsSoundCapsule stroke.now }
     ensures { result ≡ box_of_shape (Stroke stroke.now) }
@@ -157,6 +158,7 @@ pub(crate) fn stroke_bounds(stroke: &Capsule) -> Bounds
 }
 
 /// The box of a stroke of a rectangle along a line: the rectangles at both ends.
+#[inline(never)]
 pub(crate) fn swept_bounds(swept: &Swept) -> Bounds
     requires { IsSoundSwept swept.now }
     ensures { result ≡ box_of_shape (SweptLeaf swept.now) }
@@ -169,6 +171,7 @@ pub(crate) fn swept_bounds(swept: &Swept) -> Bounds
 }
 
 /// The box of a straight stroke of a tip.
+#[inline]
 pub(crate) fn drawn_bounds(from: &Point, to: &Point, tip: &Tip) -> Bounds
     requires from { IsOnBoard from.now }
     requires to { IsOnBoard to.now }
@@ -188,6 +191,7 @@ pub(crate) fn drawn_bounds(from: &Point, to: &Point, tip: &Tip) -> Bounds
 }
 
 /// The box of a stroke along an arc: both its ends, and the circle that it is a part of.
+#[inline(never)]
 pub(crate) fn sweep_bounds(stroke: &Arc) -> Bounds
     requires { IsSoundArc stroke.now }
     ensures { result ≡ box_of_shape (Sweep stroke.now) }
@@ -239,6 +243,7 @@ impl Trace {
 }
 
 /// The box of a contour: its points, and the circles that its arcs are parts of.
+#[inline(never)]
 pub(crate) fn contour_bounds(contour: &Contour) -> Bounds
     requires { All IsOnBoard (points_of_contour contour.now) }
     ensures { result ≡ box_of_contour contour.now }

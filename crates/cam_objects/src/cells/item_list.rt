@@ -31,6 +31,7 @@ impl<'a> BoxedItems for ItemBoxes<'a> {
         self.len()
     }
 
+    #[inline]
     fn box_at(&mut self, place: usize) -> Bounds {
         self.read(place)
     }
@@ -43,6 +44,7 @@ impl<'a> BoxedItems for DrillItemBoxes<'a> {
         self.len()
     }
 
+    #[inline]
     fn box_at(&mut self, place: usize) -> Bounds {
         self.read(place)
     }

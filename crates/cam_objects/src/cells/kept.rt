@@ -1,6 +1,6 @@
 //! The cells that the items of a list reach.
 
-ghost use Rattle.std.specs.Prelude.{◌≡◌, ◌<◌, ◌≤◌, ℕ, [], List, insert, length, remove, slice_set};
+ghost use Rattle.std.specs.Prelude.{◌≡◌, ◌<◌, ◌≤◌, ℕ, IfOk, List, insert, length, remove, slice_set};
 ghost use Rattle.cam_units.specs.declared.bounds.Bounds.{Bounds};
 ghost use Rattle.cam_units.specs.Boxes.{HaveCommonPlace};
 ghost use Rattle.cam_objects.specs.Cells.{AreCellsOf, box_at};
@@ -11,7 +11,7 @@ use crate::cells::numbers::ItemNumbers;
 use crate::cells::reach::Reach;
 use crate::cells::sides::Sides;
 use cam_units::Bounds;
-use std::alloc::Global;
+use std::alloc::{AllocError, Global};
 use std::marker::Model;
 
 /// Of each item of a list, one after another, the cells that its box reaches: who looks for what meets some box passes
@@ -32,48 +32,80 @@ impl Model for ItemCells {
     ghost view = { λ c. record { left = c.left; bottom = c.bottom; right = c.right; top = c.top } };
 }
 
-/// Puts what items reach, from the first on, into lists that are empty, as far as there is room.
+/// A number for each of so many items, to be written over.
+fn zeros(alloc: Global, items: usize) -> Result<Vec<u16>, AllocError>
+    ensures { IfOk result (λ numbers. length numbers.items ≡ items) }
+{
+    let mut numbers = Vec::with_capacity(alloc, items)?;
+    numbers.resize(items, 0)?;
+    Ok(numbers)
+}
+
+/// Writes what each item of a list reaches.
 fn read_all<B: BoxedItems>(
     items: &mut B,
-    left: &mut ItemNumbers,
-    bottom: &mut ItemNumbers,
-    right: &mut ItemNumbers,
-    top: &mut ItemNumbers,
+    left: &mut [u16],
+    bottom: &mut [u16],
+    right: &mut [u16],
+    top: &mut [u16],
 )
-    requires left { left.old ≡ [] }
-    requires bottom { bottom.old ≡ [] }
-    requires right { right.old ≡ [] }
-    requires top { top.old ≡ [] }
+    requires left { length left.old ≡ length (B.boxes items.old) }
+    requires bottom { length bottom.old ≡ length (B.boxes items.old) }
+    requires right { length right.old ≡ length (B.boxes items.old) }
+    requires top { length top.old ≡ length (B.boxes items.old) }
     ensures cells { AreCellsOf (B.boxes items.old)
         (record { left = left.new; bottom = bottom.new; right = right.new; top = top.new }) }
     ensures list { B.boxes items.new ≡ B.boxes items.old }
 {
     for place in 0..items.count() {
         let reach = Reach::of(items.box_at(place));
-        left.push_at(place, reach.left);
-        bottom.push_at(place, reach.bottom);
-        right.push_at(place, reach.right);
-        top.push_at(place, reach.top);
+        left[place] = reach.left;
+        bottom[place] = reach.bottom;
+        right[place] = reach.right;
+        top[place] = reach.top;
     }
 }
 
 impl ItemCells {
+    /// Of no items.
+    fn none(alloc: Global) -> ItemCells
+        ensures { (boxes : List Bounds) → AreCellsOf boxes result }
+    {
+        ItemCells {
+            left: ItemNumbers::from_vec(Vec::new(alloc)),
+            bottom: ItemNumbers::from_vec(Vec::new(alloc)),
+            right: ItemNumbers::from_vec(Vec::new(alloc)),
+            top: ItemNumbers::from_vec(Vec::new(alloc)),
+        }
+    }
+
+    /// Of all items of a list; refused for want of memory alone.
+    fn of_all<B: BoxedItems>(alloc: Global, items: &mut B) -> Result<ItemCells, AllocError>
+        ensures cells { IfOk result (λ cells. AreCellsOf (B.boxes items.old) cells) }
+        ensures list { B.boxes items.new ≡ B.boxes items.old }
+    {
+        let count = items.count();
+        let mut left = zeros(alloc, count)?;
+        let mut bottom = zeros(alloc, count)?;
+        let mut right = zeros(alloc, count)?;
+        let mut top = zeros(alloc, count)?;
+        read_all(items, &mut left, &mut bottom, &mut right, &mut top);
+        Ok(ItemCells {
+            left: ItemNumbers::from_vec(left),
+            bottom: ItemNumbers::from_vec(bottom),
+            right: ItemNumbers::from_vec(right),
+            top: ItemNumbers::from_vec(top),
+        })
+    }
+
     /// Of a list of items; where memory is refused, of none of them.
     pub fn of<B: BoxedItems>(alloc: Global, items: &mut B) -> ItemCells
         ensures cells { AreCellsOf (B.boxes items.old) result }
         ensures list { B.boxes items.new ≡ B.boxes items.old }
     {
-        let count = items.count();
-        let mut left = ItemNumbers::with_room(alloc, count);
-        let mut bottom = ItemNumbers::with_room(alloc, count);
-        let mut right = ItemNumbers::with_room(alloc, count);
-        let mut top = ItemNumbers::with_room(alloc, count);
-        read_all(items, &mut left, &mut bottom, &mut right, &mut top);
-        ItemCells {
-            left,
-            bottom,
-            right,
-            top,
+        match ItemCells::of_all(alloc, items) {
+            Ok(cells) => cells,
+            Err(_) => ItemCells::none(alloc),
         }
     }
 

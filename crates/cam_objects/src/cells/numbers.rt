@@ -86,6 +86,13 @@ fn next_place(numbers: &[u16], place: usize, number: u16) -> usize
 }
 
 impl ItemNumbers {
+    /// The numbers of a vector.
+    pub(crate) fn from_vec(numbers: Vec<u16>) -> ItemNumbers
+        ensures { result ≡ numbers.items }
+    {
+        ItemNumbers { numbers }
+    }
+
     /// Of no items yet, with room for so many; where memory is refused, without.
     pub fn with_room(alloc: Global, items: usize) -> ItemNumbers
         ensures { result ≡ [] }

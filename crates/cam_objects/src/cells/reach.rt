@@ -25,13 +25,10 @@ pub(crate) struct Reach {
 fn cell(distance: i64) -> u16
     ensures { IsCell distance result }
 {
-    if distance < -TO_ORIGIN {
-        return 0;
+    if (-TO_ORIGIN..TO_ORIGIN).contains(&distance) {
+        return ((distance + TO_ORIGIN) as u64 / CELL_SIZE) as u16;
     }
-    if distance >= TO_ORIGIN {
-        return u16::MAX;
-    }
-    ((distance + TO_ORIGIN) as u64 / CELL_SIZE) as u16
+    if distance < 0 { 0 } else { u16::MAX }
 }
 
 impl Reach {

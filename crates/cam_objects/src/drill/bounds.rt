@@ -23,6 +23,7 @@ use cam_shapes::Disc;
 use cam_units::{Bounds, Nm, Point};
 
 /// The box of a rout: that of its points, widened by the radius of the tool.
+#[inline(never)]
 fn rout_bounds(points: &[Point], diameter: &Nm) -> Bounds
     requires points { All IsOnBoard points.now }
     requires diameter { IsSize diameter.now.0 }
@@ -33,6 +34,7 @@ fn rout_bounds(points: &[Point], diameter: &Nm) -> Bounds
 
 impl DrillItem {
     /// The box of the item with a tool of that diameter: of its points, widened by the radius. Takes no memory.
+    #[inline]
     pub fn bounds(&self, diameter: Nm) -> Bounds
         requires points { All IsOnBoard (drill_points_of self.now) }
         requires diameter { IsSize diameter.0 }
@@ -48,6 +50,7 @@ impl DrillItem {
     }
 
     /// The same, empty where there is no such tool.
+    #[inline]
     pub(crate) fn bounds_with(&self, diameter: Option<Nm>) -> Bounds
         requires points { All IsOnBoard (drill_points_of self.now) }
         requires diameter { IfSome diameter (λ d. IsSize d.0) }

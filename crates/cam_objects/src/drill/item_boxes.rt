@@ -22,6 +22,7 @@ pub(crate) struct LastTool {
 
 impl LastTool {
     /// The diameter of a tool, which is looked up only where it is another one.
+    #[inline]
     fn diameter_in(&mut self, tools: &Tools, tool: u16) -> Option<Nm>
         requires { IsLastToolIn tools.now self.old }
         ensures value { result ≡ diameter_of tools.now tool }
@@ -80,6 +81,7 @@ impl<'a> DrillItemBoxes<'a> {
     }
 
     /// The box of the item at a place of the list, counted from 0: that of `DrillLayer::item_bounds`. Takes no memory.
+    #[inline]
     pub fn read(&mut self, place: usize) -> Bounds
         requires { place < length self.old.items.items }
         ensures value { (item : DrillItem) → slice_get self.old.items.items place ≡ Some item

@@ -1,10 +1,16 @@
-use Rattle.std.proofs.Common.{◌≡◌}
-use Rattle.cam_objects.specs.Cells.{AreCellsOf}
+use Rattle.std.proofs.Common.{◌≡◌, length}
+use Rattle.cam_units.specs.declared.bounds.Bounds.TheVariants.{Empty}
+use Rattle.cam_objects.specs.Cells.{IsSide, bottom_of, left_of, right_of, top_of}
+use Rattle.cam_objects.proofs.KeptBoxes.{AreBesideBelow}
 use Rattle.cam_objects.proofs.cells.kept.read_all.Given as goal
 
 abbrev pub invariant-loop-place : goal.invariant-loop-place
-invariant-loop-place g l = record {
-  list : g.B.BoxedItems.boxes l.items ≡ g.B.BoxedItems.boxes l.initial.items;
-  cells : AreCellsOf (g.B.BoxedItems.boxes l.initial.items)
-      (record { left = l.left; bottom = l.bottom; right = l.right; top = l.top });
-}
+invariant-loop-place g l =
+    let boxes = g.B.BoxedItems.boxes l.initial.items in
+    record {
+      list : g.B.BoxedItems.boxes l.items ≡ boxes;
+      left : AreBesideBelow (IsSide left_of) Empty l.place boxes l.left;
+      bottom : AreBesideBelow (IsSide bottom_of) Empty l.place boxes l.bottom;
+      right : AreBesideBelow (IsSide right_of) Empty l.place boxes l.right;
+      top : AreBesideBelow (IsSide top_of) Empty l.place boxes l.top;
+    }
