@@ -1,5 +1,5 @@
 -- How far a disc, a hole or a rectangle reaches from its centre, at the height of a row.
-use Rattle.std.proofs.Common.{◌≡◌, ℕ, ◌+◌, ◌-◌, ◌*◌, ◌<◌, ◌≤◌, ◌↔◌, ℤ, pos, ◌+ℤ◌, ◌-ℤ◌, ◌≤ℤ◌, ◌<ℤ◌}
+use Rattle.std.proofs.Common.{◌≡◌, ℕ, ◌+◌, ◌-◌, ◌*◌, ◌≤◌, ◌↔◌, ℤ, pos, ◌+ℤ◌, ◌-ℤ◌, ◌≤ℤ◌, ◌<ℤ◌}
 use Rattle.std.proofs.Common.{to_z, of_z, w64, arith}
 use Rattle.std.specs.Int.RustNames.{unsigned_abs}
 use Rattle.std.proofs.lemmas.Int.{by_lt_z, ints}
@@ -9,7 +9,6 @@ use Rattle.cam_shapes.specs.declared.disc.Disc.{Disc}
 use Rattle.cam_shapes.specs.Plane.{dot, seen_from, square}
 use Rattle.cam_shapes.specs.Disc.{IsInDisc, IsInHole}
 use Rattle.cam_shapes.specs.declared.vector.Vector.{Vector}
-use Rattle.cam_shapes.proofs.Reaches.{other_leg}
 use Rattle.cam_shapes.proofs.Strokes.{dot_is}
 use Rattle.cam_shapes.proofs.Widths.{square_is}
 use Rattle.cam_rows.proofs.Circling.{square_of}
@@ -63,12 +62,6 @@ in_any_hole s d r bound size e f =
           absurd (omega (arith, ints, near, dot_is v, rw no at f)))),
       (λ inside. (in_hole_is s d r bound inside.some e f).0 inside),
     )
-
--- a row above or below a disc holds none of it, and one that touches it none of its hole
-pub over_disc : (s : Spot) (d : Disc) (high r : ℕ) → r ≡ unsigned_abs d.diameter.0
-    → high ≡ unsigned_abs (seen_from d.centre s).y → r < high → IsInDisc s d → ⊥
-over_disc s d high r e f over inside =
-    let within = other_leg (seen_from d.centre s) d.diameter.0 inside.near in omega arith
 
 -- x and y are the legs of the way from the circle's middle
 pub seen_in_chord : (v : Vector) (height bound : ℕ) → pos height ≡ square v.y

@@ -12,7 +12,8 @@
 //! its inner circle and without what a wider sweep leaves out.
 //!
 //! Where the line of a half plane crosses the rows moves by a quotient and a remainder from each to the next, and the
-//! ends of a chord are found by a walk from those of the row above: with no root and no division for a row.
+//! ends of a chord are found by a walk from those of the row above, outwards or inwards from the circle's middle, in 64
+//! bits: with no root and no division for a row. Rows more than two metres from the middle take a root each.
 //!
 //! The bits of a row are those of its runs: they are set, cleared or turned over by one shape after another, 64 rows at
 //! once. A capsule is a bar to which the discs about its ends are added.

@@ -70,10 +70,11 @@ fn near_runs(cap: &Cap, radius: u64, top: &Centres, firsts: &mut [u32], ends: &m
     let mut chord = Chord::at_middle(&cap.centre, top);
     let mut height = top.rise_over(&cap.centre);
     chord.leap(room_at(radius, height));
+    let step = top.step;
     for k in 0..firsts.len() {
         let run = near_run(&mut chord, radius, height);
         firsts[k] = run.first;
         ends[k] = run.end;
-        height -= top.step;
+        height -= step;
     }
 }

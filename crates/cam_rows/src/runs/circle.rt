@@ -76,15 +76,17 @@ fn near_runs(point: &Point, bound: u64, top: &Centres, firsts: &mut [u32], ends:
     let mut chord = Chord::at_middle(point, top);
     let mut height = top.rise_over(point);
     chord.leap(room_at(bound, height));
+    let count = top.count;
+    let step = top.step;
     for k in 0..firsts.len() {
         let row = Run {
             first: 0,
-            end: top.count,
+            end: count,
         };
         let run = chord.part(room_at(bound, height), row);
         firsts[k] = run.first;
         ends[k] = run.end;
-        height -= top.step;
+        height -= step;
     }
 }
 
@@ -101,6 +103,7 @@ fn narrow_nearby(point: &Point, bound: u64, top: &Centres, firsts: &mut [u32], e
     let mut chord = Chord::at_middle(point, top);
     let mut height = top.rise_over(point);
     chord.leap(room_at(bound, height));
+    let step = top.step;
     for k in 0..firsts.len() {
         let run = Run {
             first: firsts[k],
@@ -109,7 +112,7 @@ fn narrow_nearby(point: &Point, bound: u64, top: &Centres, firsts: &mut [u32], e
         let part = chord.part(room_at(bound, height), run);
         firsts[k] = part.first;
         ends[k] = part.end;
-        height -= top.step;
+        height -= step;
     }
 }
 
