@@ -1,6 +1,6 @@
 -- Marks that are joined: with shapes that hold the same centres, and with masks that show one shape.
 use Rattle.std.proofs.Common.{◌≡◌, ◌↔◌, ◌⊎◌, ℕ, ◌^◌, pos, ◌-ℤ◌, ◌*ℤ◌, bit_and}
-use Rattle.std.proofs.Common.{sym, ◌∙◌, subst, inl, inr, arith}
+use Rattle.std.proofs.Common.{sym, subst, inl, inr, arith}
 use Rattle.std.specs.Int.{IsBitSet}
 use Rattle.std.proofs.lemmas.Bool.{cases_eq}
 use Rattle.std.proofs.lemmas.Int.{ints}
@@ -93,9 +93,3 @@ merges_shown how P own old new e h m = record {
       → IsMarked own column row ↔ P (centre_in g column row)) e h.marks column row within)
       (m.marks column row within);
 }
-
--- a mask that was blank, and that a shape is added to
-pub merged_added : (how : Join) (P : Spot → Type 0) (blank own old new : Marking) → blank.grid ≡ old.grid
-    → IsBlank blank → Joins Add P blank own → Merges how own old new → Joins how P old new
-merged_added how P blank own old new e none j m =
-    merges_shown how P own old new (j.grid ∙ e) (shows_added P blank own none j) m

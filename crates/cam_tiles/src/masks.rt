@@ -2,7 +2,6 @@
 
 pub(crate) mod arc_parts;
 pub(crate) mod canvas;
-pub(crate) mod clipping;
 pub(crate) mod contours;
 pub(crate) mod filing;
 pub(crate) mod heights;
