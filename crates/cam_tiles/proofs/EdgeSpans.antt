@@ -1,6 +1,6 @@
--- The heights that an edge crosses, by its ends.
-use Rattle.std.proofs.Common.{◌≡◌, ◌≢◌, ◌↔◌, ℤ, pos, ◌-ℤ◌, ◌*ℤ◌, ◌≤ℤ◌}
-use Rattle.std.proofs.Common.{Bool, true, false, IsTrue, if◌then◌else◌, sym, ◌∙◌, arith}
+-- Edges by their ends: the heights that they cross, and places of which both ends lie on one side.
+use Rattle.std.proofs.Common.{◌≡◌, ◌≢◌, ◌↔◌, ℤ, pos, ◌-ℤ◌, ◌*ℤ◌, ◌≤ℤ◌, ◌<ℤ◌}
+use Rattle.std.proofs.Common.{Bool, true, false, IsTrue, if◌then◌else◌, refl, sym, ◌∙◌, arith}
 use Rattle.std.specs.Int.{int_max, int_min}
 use Rattle.std.specs.Int.RustNames.{int_lt}
 use Rattle.std.proofs.lemmas.Bool.{false≢true}
@@ -8,6 +8,8 @@ use Rattle.std.proofs.lemmas.Int.{by_lt_z, clamps, ints}
 use Rattle.cam_units.specs.declared.point.Point.{Point}
 use Rattle.cam_units.specs.declared.point.Spot.{Spot}
 use Rattle.cam_shapes.specs.Edge.{crosses_ray, edge, is_above, is_left, is_right}
+use Rattle.cam_shapes.specs.Sides.{differ}
+use Rattle.cam_shapes.proofs.Boxes.{tells_left, tells_right}
 use Rattle.cam_shapes.proofs.Crossings.{not_under, under}
 use Rattle.cam_tiles.specs.declared.masks.heights.Heights.{Heights}
 use Rattle.cam_tiles.specs.Machinery.Masks.{IsWithin}
@@ -60,3 +62,21 @@ two_apart false false m n h e = false≢true h
 pub met_apart : (s : Spot) (p q : Point) → IsTrue (crosses_ray s (edge p q)) → is_above p s ≢ is_above q s
 met_apart s p q met =
     two_apart (is_above p s) (is_above q s) (is_right s (edge p q)) (is_left s (edge p q)) met
+
+-- ---- places on one side of both ends
+
+differ_where_other : (a b : Bool) → a ≢ b → differ a b ≡ true
+differ_where_other true true other = absurd (other refl)
+differ_where_other true false other = refl
+differ_where_other false true other = refl
+differ_where_other false false other = absurd (other refl)
+
+-- a ray from the left of both ends meets an edge that crosses its height
+pub met_left : (s : Spot) (p q : Point) → s.x <ℤ (pos 2 *ℤ p.x) → s.x <ℤ (pos 2 *ℤ q.x)
+    → is_above p s ≢ is_above q s → IsTrue (crosses_ray s (edge p q))
+met_left s p q a b apart = tells_left s p q a b ∙ differ_where_other (is_above p s) (is_above q s) apart
+
+-- a ray from the right of both ends, or from below one, meets nothing
+pub missed_right : (s : Spot) (p q : Point) → (pos 2 *ℤ p.x) ≤ℤ s.x → (pos 2 *ℤ q.x) ≤ℤ s.x
+    → IsTrue (crosses_ray s (edge p q)) → ⊥
+missed_right s p q a b met = false≢true (sym (tells_right s p q a b) ∙ met)

@@ -1,6 +1,6 @@
 -- What is filed of one segment of a contour.
 use Rattle.std.proofs.Common.{◌≡◌, ◌≢◌, ◌↔◌, ℕ, ◌<◌, ◌≤◌, ℤ, pos, ◌+ℤ◌, ◌-ℤ◌, ◌*ℤ◌, ◌≤ℤ◌, ◌<ℤ◌}
-use Rattle.std.proofs.Common.{◌-◌, ◌^◌, negsuc, FitsSigned, w64, Bool, true, false, IsTrue, refl, arith}
+use Rattle.std.proofs.Common.{◌-◌, ◌^◌, negsuc, FitsSigned, w64, Bool, true, false, IsTrue, refl, ap, ◌∙◌, arith}
 use Rattle.std.specs.Int.{IsBitSet, int_max, int_min}
 use Rattle.std.specs.Int.RustNames.{unsigned_abs}
 use Rattle.std.proofs.lemmas.Bool.{false≢true}
@@ -20,21 +20,27 @@ use Rattle.cam_apertures.proofs.ShapeBoxes.{less_at_most}
 use Rattle.cam_tiles.specs.declared.levels.Levels.{Levels}
 use Rattle.cam_tiles.specs.declared.masks.filing.FiledSegment.{FiledSegment}
 use Rattle.cam_tiles.specs.declared.masks.heights.Heights.{Heights}
-use Rattle.cam_tiles.specs.Machinery.Filing.{AreEndsIn, IsFiledAs, Misses}
+use Rattle.cam_tiles.specs.Machinery.Filing.{IsFiledAs, Misses}
 use Rattle.cam_tiles.specs.Machinery.Levels.{AreLevels, IsOnRow, height}
 use Rattle.cam_tiles.specs.Machinery.Masks.{IsWithin}
-use Rattle.cam_tiles.proofs.EdgeSpans.{met_apart}
+use Rattle.cam_tiles.proofs.EdgeSpans.{met_apart, met_left, missed_right}
 use Rattle.cam_tiles.proofs.GridLemmas.{long}
 use Rattle.cam_tiles.proofs.LevelRows.{rows_reached}
 use Rattle.cam_tiles.proofs.ShapeHeights.{AreAbout, squared_radius}
 
 -- ---- lines
 
-pub before_both : (x a b least : ℤ) → least ≡ int_min a b → x <ℤ least → (x <ℤ a) × (x <ℤ b)
+before_both : (x a b least : ℤ) → least ≡ int_min a b → x <ℤ least → (x <ℤ a) × (x <ℤ b)
 before_both x a b least e h = (omega (arith, ints, clamps), omega (arith, ints, clamps))
 
-pub after_both : (x a b most : ℤ) → most ≡ int_max a b → most ≤ℤ x → (a ≤ℤ x) × (b ≤ℤ x)
+after_both : (x a b most : ℤ) → most ≡ int_max a b → most ≤ℤ x → (a ≤ℤ x) × (b ≤ℤ x)
 after_both x a b most e h = (omega (arith, ints, clamps), omega (arith, ints, clamps))
+
+before_ends : (x a b left : ℤ) → left ≡ pos 2 *ℤ int_min a b → x <ℤ left → (x <ℤ (pos 2 *ℤ a)) × (x <ℤ (pos 2 *ℤ b))
+before_ends x a b left e h = (omega (arith, ints, clamps), omega (arith, ints, clamps))
+
+after_ends : (x a b right : ℤ) → right ≡ pos 2 *ℤ int_max a b → right ≤ℤ x → ((pos 2 *ℤ a) ≤ℤ x) × ((pos 2 *ℤ b) ≤ℤ x)
+after_ends x a b right e h = (omega (arith, ints, clamps), omega (arith, ints, clamps))
 
 -- a line, of which the rows between its heights are those from a first one up to below an end
 module _ (l : Levels) (p q : Point) (h : Heights) (first end : ℕ)
@@ -49,17 +55,45 @@ module _ (l : Levels) (p q : Point) (h : Heights) (first end : ℕ)
 
   pub line_filed : (k bits : ℕ) (left right : ℤ) → l.rows ≤ 64
       → ((row : ℕ) → row < 64 → IsBitSet bits row ↔ ((first ≤ row) × (row < end)))
-      → AreEndsIn l p q first end left right
+      → left ≡ pos 2 *ℤ int_min p.x q.x → right ≡ pos 2 *ℤ int_max p.x q.x
       → IsFiledAs l k p (Line q) (record { place = k; rows = bits; left = left; right = right })
-  line_filed k bits left right few told ends = record {
+  line_filed k bits left right few told is_left is_right = record {
     place = refl;
     left = λ row s on before.
-        let bit = told row (omega (arith, on.0, few)) in (
+        let bit = told row (omega (arith, on.0, few)) in
+        let ends = before_ends s.x p.x q.x left is_left before in (
           (λ met. bit.1 (crossed_rows row s on met)),
-          (λ set. ends.left row s on (bit.0 set) before),
+          (λ set. met_left s p q ends.0 ends.1 ((heights s).0 ((rows row s on).0 (bit.0 set)))),
         );
-    right = λ row s on after met. ends.right row s on (crossed_rows row s on met) after met;
+    right = λ row s on after.
+        let ends = after_ends s.x p.x q.x right is_right after in missed_right s p q ends.0 ends.1;
   }
+
+-- as code of 64 bits computes them
+kept : (m : ℤ) → unsigned_abs m < board_limit → long m ≡ m
+kept m short = omega (arith, ints)
+
+twice_kept : (m : ℤ) → unsigned_abs m < board_limit → long (pos 2 *ℤ long m) ≡ pos 2 *ℤ m
+twice_kept m short = omega (arith, ints)
+
+most_short : (a b m : ℤ) → m ≡ int_max a b → unsigned_abs a < board_limit → unsigned_abs b < board_limit
+    → unsigned_abs m < board_limit
+most_short a b m e f g = omega (arith, ints, clamps)
+
+least_short : (a b m : ℤ) → m ≡ int_min a b → unsigned_abs a < board_limit → unsigned_abs b < board_limit
+    → unsigned_abs m < board_limit
+least_short a b m e f g = omega (arith, ints, clamps)
+
+module _ (a b m : ℤ) (near : unsigned_abs a < board_limit) (near_too : unsigned_abs b < board_limit) where
+  pub twice_least : m ≡ int_min (long a) (long b) → long (pos 2 *ℤ long m) ≡ pos 2 *ℤ int_min a b
+  twice_least e =
+      let is = e ∙ ap (λ z. int_min z (long b)) (kept a near) ∙ ap (λ z. int_min a z) (kept b near_too) in
+      twice_kept m (least_short a b m is near near_too) ∙ ap (λ z. pos 2 *ℤ z) is
+
+  pub twice_most : m ≡ int_max (long a) (long b) → long (pos 2 *ℤ long m) ≡ pos 2 *ℤ int_max a b
+  twice_most e =
+      let is = e ∙ ap (λ z. int_max z (long b)) (kept a near) ∙ ap (λ z. int_max a z) (kept b near_too) in
+      twice_kept m (most_short a b m is near near_too) ∙ ap (λ z. pos 2 *ℤ z) is
 
 -- ---- caps
 

@@ -14,7 +14,7 @@ use Rattle.cam_tiles.specs.declared.grid.Grid.{Grid}
 use Rattle.cam_tiles.specs.declared.masks.heights.Heights.{Heights}
 use Rattle.cam_tiles.specs.declared.masks.join.Join.{Join}
 use Rattle.cam_tiles.specs.declared.masks.join.Join.TheVariants.{Add, Clear, Turn}
-use Rattle.cam_tiles.specs.Machinery.Masks.{IsIn, IsMarked, IsMask, IsWithin, Joins, Marking, joined}
+use Rattle.cam_tiles.specs.Machinery.Masks.{IsIn, IsMarked, IsMask, IsWithin, Marking, joined}
 use Rattle.cam_tiles.specs.Tiles.{centre_in}
 use Rattle.cam_tiles.proofs.WordBits.{set_in_low}
 
@@ -47,11 +47,6 @@ pub record AreJoinedAt (how : Join) (IsHeld : ℕ → ℕ → Type 0) (old new :
   pub marks : (column row : ℕ) → IsIn old.grid column row → first ≤ row → row < end
       → IsMarked new column row ↔ joined how (IsMarked old column row) (IsHeld column row)
   pub kept : (row : ℕ) → (row < first) ⊎ (end ≤ row) → slice_index new.rows row ≡ slice_index old.rows row
-
--- the same with a shape that holds centres
-abbrev pub AreRowsJoined : Join → (Spot → Type 0) → Marking → Marking → ℕ → ℕ → Type 0
-AreRowsJoined how IsHeld old new first end =
-    AreJoinedAt how (λ column row. IsHeld (centre_in old.grid column row)) old new first end
 
 -- one row more: its word is what the row becomes, and the others stay
 module _ (how : Join) (IsHeld : ℕ → ℕ → Type 0) (old new : Marking) (first row word : ℕ) (from : first ≤ row)
@@ -148,15 +143,6 @@ all_joined_at how IsHeld old new first end rows none =
       ]
     ]
 
-pub all_joined : (how : Join) (IsHeld : Spot → Type 0) (old new : Marking) (first end : ℕ)
-    → AreRowsJoined how IsHeld old new first end
-    → ((column row : ℕ) → IsIn old.grid column row → (row < first) ⊎ (end ≤ row)
-    → IsHeld (centre_in old.grid column row) → ⊥)
-    → Joins how IsHeld old new
-all_joined how IsHeld old new first end rows none = record {
-  grid = rows.grid;
-  marks = all_joined_at how (λ column row. IsHeld (centre_in old.grid column row)) old new first end rows none;
-}
 
 -- ---- the words of a tile
 

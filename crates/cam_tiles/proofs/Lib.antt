@@ -2,7 +2,6 @@ pub mod Bands
 pub mod Bytes
 pub mod ChangedParities
 pub mod CircleBounds
-pub mod ClippedLines
 pub mod CountedMarks
 pub mod DrawnTiles
 pub mod EdgeSpans

@@ -23,9 +23,6 @@ module _ (first end : ℕ) (old part : List ℕ) (some : first < end) (long : en
   abbrev pub written : List ℕ
   written = put_mid first (end - first) old part
 
-  pub written_length : length written ≡ length old
-  written_length = search (rules, places)
-
   pub part_at : (row : ℕ) → first ≤ row → row < end → slice_index written row ≡ slice_index part (row - first)
   part_at row after until = search (rules, places)
 
@@ -36,10 +33,6 @@ module _ (first end : ℕ) (old part : List ℕ) (some : first < end) (long : en
 pub part_length : (first end : ℕ) (old : List ℕ) → first < end → end ≤ length old
     → length (mid_of first (end - first) old) ≡ end - first
 part_length first end old some long = search (rules, places)
-
-part_was : (first end k : ℕ) (old : List ℕ) → k < end - first
-    → slice_index (mid_of first (end - first) old) k ≡ slice_index old (first + k)
-part_was first end k old inside = search (rules, places)
 
 -- ---- centres
 

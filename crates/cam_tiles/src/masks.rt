@@ -1,7 +1,6 @@
 //! Masks: which pixel centres of a tile are marked.
 
 pub(crate) mod canvas;
-pub(crate) mod clipping;
 pub(crate) mod contours;
 pub(crate) mod figure_runs;
 pub(crate) mod figures;

@@ -1,5 +1,5 @@
 -- Segments of a contour, filed for some rows: those that may change the side of a place there.
-use Rattle.std.specs.Prelude.{◌≡◌, ◌↔◌, ℕ, zero, suc, ◌<◌, ◌≤◌, ℤ, ◌≤ℤ◌, ◌<ℤ◌, Bool, false, IsTrue, List, [], ◌∷◌}
+use Rattle.std.specs.Prelude.{◌≡◌, ◌↔◌, ℕ, zero, suc, ◌≤◌, ◌≤ℤ◌, ◌<ℤ◌, Bool, false, IsTrue, List, [], ◌∷◌}
 use Rattle.std.specs.Prelude.{All, MatchOption, Option, length}
 use Rattle.std.specs.Int.{IsBitSet}
 use Rattle.std.specs.List.{slice_index_or}
@@ -10,7 +10,6 @@ use Rattle.cam_shapes.specs.declared.contour.Contour.{Contour}
 use Rattle.cam_shapes.specs.declared.segments.Seg.{Seg}
 use Rattle.cam_shapes.specs.declared.segments.Seg.TheVariants.{Line}
 use Rattle.cam_shapes.specs.Contour.{end_of}
-use Rattle.cam_shapes.specs.Edge.{crosses_ray, edge}
 use Rattle.cam_shapes.specs.Sides.{change_side, changes_side, differ}
 use Rattle.cam_shapes.specs.Contour.{IsSoundSeg}
 use Rattle.cam_tiles.specs.declared.levels.Levels.{Levels}
@@ -51,14 +50,6 @@ pub record AreFiled (c : Contour) (l : Levels) (fs : List FiledSegment) : Type 0
 -- a segment from a point that changes no place in some rows
 abbrev pub Misses : Levels → Point → Seg → Type 0
 Misses l here seg = (row : ℕ) (s : Spot) → IsOnRow l row s → IsTrue (changes_side s here seg) → ⊥
-
--- between which x a line lies in the rows from a first one up to below an end: there it crosses the rays to the right
--- from all places left of the least one, and from none right of the greatest one or at it
-pub record AreEndsIn (l : Levels) (p q : Point) (first end : ℕ) (least greatest : ℤ) : Type 0 where
-  pub left : (row : ℕ) (s : Spot) → IsOnRow l row s → (first ≤ row) × (row < end) → s.x <ℤ least
-      → IsTrue (crosses_ray s (edge p q))
-  pub right : (row : ℕ) (s : Spot) → IsOnRow l row s → (first ≤ row) × (row < end) → greatest ≤ℤ s.x
-      → IsTrue (crosses_ray s (edge p q)) → ⊥
 
 -- what may be filed of one that stands at a place of a contour
 pub record IsFiledAs (l : Levels) (k : ℕ) (here : Point) (seg : Seg) (f : FiledSegment) : Type 0 where

@@ -100,24 +100,24 @@ fn turn_outline(
     marks: &mut [u64],
     grid: &Grid,
     columns: u32,
-    start: Point,
+    first: Point,
     others: &[Point],
     placing: Placing,
 )
     requires grid { IsField grid.now columns }
     requires wide { AreWide columns marks.old }
-    requires start { IsOnBoard start }
+    requires first { IsOnBoard first }
     requires offset { IsOffset placing.offset }
     requires others { All (IsPlaceablePoint placing.turn placing.offset) others.now }
     ensures { TurnsCentres grid.now columns
-        (λ s. IsTrue (change_side s start start
+        (λ s. IsTrue (change_side s first first
         (map (placed_seg placing.turn placing.offset) (lines_to others.now)))) marks.old marks.new }
 {
-    let mut here = start;
+    let mut here = first;
     for point in others {
         let next = placing.point(*point);
         turn_edge(marks, grid, columns, here, next);
         here = next;
     }
-    turn_edge(marks, grid, columns, here, start);
+    turn_edge(marks, grid, columns, here, first);
 }

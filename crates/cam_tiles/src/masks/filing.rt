@@ -1,19 +1,22 @@
 //! Contours whose segments are filed for the rows of a tile, so that a tile asks those alone that cross its rows.
 
-ghost use Rattle.std.specs.Prelude.{◌≡◌, ◌+◌, ◌<◌, ◌≤◌, ◌^◌, ◌*ℤ◌, ◌+ℤ◌, ◌-ℤ◌, ◌≤ℤ◌, ◌<ℤ◌};
+ghost use Rattle.std.specs.Prelude.{◌≡◌, ◌≢◌, ◌↔◌, ◌+◌, ◌<◌, ◌≤◌, ◌^◌, ◌*ℤ◌, ◌+ℤ◌, ◌-ℤ◌, ◌≤ℤ◌, ◌<ℤ◌};
 ghost use Rattle.std.specs.Prelude.{IsTrue, drop, length, pos, take, vec_capacity};
 ghost use Rattle.cam_units.specs.Board.{IsOnBoard};
+ghost use Rattle.cam_units.specs.declared.point.Spot.{Spot};
 ghost use Rattle.cam_shapes.specs.declared.segments.Seg.TheVariants.{Line, Curve};
 ghost use Rattle.cam_shapes.specs.Cap.{IsSoundCap};
 ghost use Rattle.cam_shapes.specs.Contour.{end_of};
+ghost use Rattle.cam_shapes.specs.Edge.{is_above};
 ghost use Rattle.cam_shapes.specs.Contour.{IsSoundSeg};
 ghost use Rattle.cam_shapes.specs.Plane.{dot, square, way};
 ghost use Rattle.cam_tiles.specs.Machinery.Filing.{AreFiled, Files, IsOnBoardWhole, Misses, corner_of};
 ghost use Rattle.cam_tiles.specs.Machinery.Filing.{segment_of};
 ghost use Rattle.cam_tiles.specs.Machinery.Levels.{IsLevels};
+ghost use Rattle.cam_tiles.specs.Machinery.Masks.{IsWithin};
 
 use crate::levels::Levels;
-use crate::masks::clipping::{crossed_heights, ends_in_rows};
+use crate::masks::heights::Heights;
 use crate::masks::shapes::{about, past_circle};
 use cam_shapes::{Cap, Contour, Seg};
 use cam_units::{Nm, Point};
@@ -75,8 +78,20 @@ fn filed_segment(place: u32, here: Point, seg: Seg, levels: Levels) -> Option<Fi
     }
 }
 
-/// What is filed of a line: in the rows that it crosses it changes all places left of what of it lies there, and none
-/// right of that.
+/// The heights of the rays to the right that an edge may cross: from its lower end on, up to below its higher one.
+pub(crate) fn crossed_heights(from: Point, to: Point) -> Heights
+    requires from { IsOnBoard from }
+    requires to { IsOnBoard to }
+    ensures { (s : Spot) → IsWithin result s ↔ (is_above from s ≢ is_above to s) }
+{
+    Heights {
+        low: 2 * from.y.min(to.y),
+        high: 2 * from.y.max(to.y) - 1,
+    }
+}
+
+/// What is filed of a line: in the rows that it crosses it changes all places left of both its ends, and none right of
+/// them.
 #[inline]
 fn filed_line(place: u32, from: Point, to: Point, levels: Levels) -> Option<FiledSegment>
     requires from { IsOnBoard from }
@@ -88,12 +103,11 @@ fn filed_line(place: u32, from: Point, to: Point, levels: Levels) -> Option<File
     if band.end <= band.first {
         return None;
     }
-    let (left, right) = ends_in_rows(from, to, levels, band);
     Some(FiledSegment {
         place,
         rows: band.bits(),
-        left,
-        right,
+        left: 2 * from.x.min(to.x),
+        right: 2 * from.x.max(to.x),
     })
 }
 

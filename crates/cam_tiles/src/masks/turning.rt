@@ -22,8 +22,7 @@ ghost use Rattle.cam_tiles.specs.Tiles.{centre_in};
 
 use crate::grid::Grid;
 use crate::levels::Levels;
-use crate::masks::clipping::crossed_heights;
-use crate::masks::filing::{FiledSegment, corner_at, segment_at};
+use crate::masks::filing::{FiledSegment, corner_at, crossed_heights, segment_at};
 use crate::masks::heights::HasHeights;
 use crate::masks::join::Join;
 use crate::masks::mask::Mask;

@@ -6,9 +6,9 @@ use Rattle.cam_tiles.proofs.masks.contours.turn_outline.Goals as goal
 
 pub loop-point-init : goal.loop-point-init
 loop-point-init c = record {
-  on_board = c.requires.start;
+  on_board = c.requires.first;
   wide = c.requires.wide;
-  turned = none_turned c.args.grid.now c.args.columns c.args.start
+  turned = none_turned c.args.grid.now c.args.columns c.args.first
       (lines c.args.grid.now c.args.columns c.args.placing.turn c.args.placing.offset c.args.others.now)
       c.args.marks.now;
 }
@@ -19,13 +19,13 @@ loop-point-preserved c = record {
       (c.requires.others c.loop-point.point-index _ c.loop-point-test.true).there;
   wide = still_wide c.args.columns c.loop-point.marks c.turn_edge.new.marks c.turn_edge.auto.marks
       c.loop-point.invariant.wide;
-  turned = point_turned c.args.grid.now c.args.columns c.args.placing.turn c.args.placing.offset c.args.start
+  turned = point_turned c.args.grid.now c.args.columns c.args.placing.turn c.args.placing.offset c.args.first
       c.loop-point.here c.point-next.result c.args.others.now c.loop-point.point-index _ c.loop-point-test.true
       c.point-next.ensures c.loop-point.invariant.turned c.turn_edge.ensures;
 }
 
 pub returns : goal.returns
 returns c =
-    lines_turned c.args.grid.now c.args.columns c.args.placing.turn c.args.placing.offset c.args.start
+    lines_turned c.args.grid.now c.args.columns c.args.placing.turn c.args.placing.offset c.args.first
     c.loop-point.here c.args.others.now c.loop-point.point-index c.loop-point-test.false
     c.loop-point.invariant.turned c.turn_edge-2.ensures

@@ -13,6 +13,6 @@ invariant-loop-point l =
     record {
       on_board : IsOnBoard l.here;
       wide : AreWide l.columns l.marks;
-      turned : TurnsBut l.grid l.columns l.start l.here (edges (drop l.point-index l.others)) (edges l.others)
+      turned : TurnsBut l.grid l.columns l.first l.here (edges (drop l.point-index l.others)) (edges l.others)
           l.fn.marks l.marks;
     }

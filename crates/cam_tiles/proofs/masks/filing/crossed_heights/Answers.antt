@@ -1,7 +1,7 @@
 use Rattle.std.proofs.Common.{arith}
 use Rattle.std.proofs.lemmas.Int.{clamps, ints}
 use Rattle.cam_tiles.proofs.EdgeSpans.{between_ends}
-use Rattle.cam_tiles.proofs.masks.clipping.crossed_heights.Goals as goal
+use Rattle.cam_tiles.proofs.masks.filing.crossed_heights.Goals as goal
 
 pub overflow_sub-result : goal.overflow_sub-result
 overflow_sub-result c = omega (arith, ints, clamps, c.max.ensures.value)
