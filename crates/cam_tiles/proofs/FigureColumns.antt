@@ -135,27 +135,7 @@ tells_body g columns IsHeld body none told hollow beyond start end =
 
 parts_united : (P B L N S T E F H Y : Type 0) → (H → ⊥) → (Y → ⊥) → (L ⊎ T) ↔ (B ⊎ S) → (N ⊎ F) ↔ (L ⊎ E)
     → (((B × (H → ⊥) × (Y → ⊥)) ⊎ S) ⊎ E) ↔ P → (((N × (H → ⊥) × (Y → ⊥)) ⊎ T) ⊎ F) ↔ P
-parts_united P B L N S T E F H Y no_hollow no_beyond first second told =
-    let whole : B → P = λ b. told.0 (inl (inl (b, no_hollow, no_beyond))) in
-    let old : L ⊎ T → P = λ part. elim (first.0 part) [ inl b ↦ whole b | inr s ↦ told.0 (inl (inr s)) ] in
-    let new : L ⊎ E → ((N × (H → ⊥) × (Y → ⊥)) ⊎ T) ⊎ F = λ part. elim (second.1 part) [
-      | inl n ↦ inl (inl (n, no_hollow, no_beyond))
-      | inr f ↦ inr f
-    ] in
-    let any : B ⊎ S → ((N × (H → ⊥) × (Y → ⊥)) ⊎ T) ⊎ F = λ part. elim (first.1 part) [
-      | inl l ↦ new (inl l)
-      | inr t ↦ inl (inr t)
-    ] in
-    let ahead : N ⊎ F → P = λ part. elim (second.0 part) [ inl l ↦ old (inl l) | inr e ↦ told.0 (inr e) ] in (
-      (λ part. elim part [
-        | inl before ↦ elim before [ inl n ↦ ahead (inl n.0) | inr t ↦ old (inr t) ]
-        | inr f ↦ ahead (inr f)
-      ]),
-      (λ p. elim (told.1 p) [
-        | inl before ↦ elim before [ inl b ↦ any (inl b.0) | inr s ↦ any (inr s) ]
-        | inr e ↦ new (inr e)
-      ]),
-    )
+parts_united P B L N S T E F H Y no_hollow no_beyond first second told = grind arith
 
 -- a body that takes in what it may of the discs about its ends
 pub tells_united : (g : Grid) (columns : ℕ) (IsHeld : Spot → Type 0) (r : FigureRuns) (longer body start end : Runs)
