@@ -107,13 +107,7 @@ straight_law c t =
 
 -- what is outside of a hole
 pub pierced_law : (P H : Type 0) → (P × (H → ⊥)) ↔ (((P × (H → ⊥) × (⊥ → ⊥)) ⊎ ⊥) ⊎ ⊥)
-pierced_law P H = (
-  (λ held. inl (inl (held.0, held.1, (λ x. x)))),
-  (λ part. elim part [
-    | inl before ↦ elim before [ inl on ↦ (on.0, on.1) | inr none ↦ absurd none ]
-    | inr none ↦ absurd none
-  ]),
-)
+pierced_law P H = grind arith
 
 pub without_none : (P H : Type 0) → (H → ⊥) → (P × (H → ⊥)) ↔ P
 without_none P H none = ((λ held. held.0), (λ on. (on, none)))
@@ -224,52 +218,13 @@ parts_spanned s rows from to disc_from disc_to row column fit discs all part = e
 pub joined_parts : (dark : Bool) (A B C D New One Two : Type 0) → One ↔ joined (inked dark) A B
     → Two ↔ joined (inked dark) One C → New ↔ joined (inked dark) Two D
     → New ↔ joined (inked dark) A ((B ⊎ C) ⊎ D)
-joined_parts true A B C D New One Two first second third = (
-  (λ new. elim (third.0 new) [
-    | inl two ↦ elim (second.0 two) [
-      | inl one ↦ elim (first.0 one) [ inl a ↦ inl a | inr b ↦ inr (inl (inl b)) ]
-      | inr c ↦ inr (inl (inr c))
-    ]
-    | inr d ↦ inr (inr d)
-  ]),
-  (λ some. third.1 (elim some [
-    | inl a ↦ inl (second.1 (inl (first.1 (inl a))))
-    | inr part ↦ elim part [
-      | inl before ↦ elim before [
-        | inl b ↦ inl (second.1 (inl (first.1 (inr b))))
-        | inr c ↦ inl (second.1 (inr c))
-      ]
-      | inr d ↦ inr d
-    ]
-  ])),
-)
-joined_parts false A B C D New One Two first second third = (
-  (λ new.
-      let two = third.0 new in
-      let one = second.0 two.0 in
-      let was = first.0 one.0 in (
-        was.0,
-        (λ part. elim part [
-          | inl before ↦ elim before [ inl b ↦ was.1 b | inr c ↦ one.1 c ]
-          | inr d ↦ two.1 d
-        ]),
-      )),
-  (λ p. third.1 (
-    second.1 (first.1 (p.0, (λ b. p.1 (inl (inl b)))), (λ c. p.1 (inl (inr c)))),
-    (λ d. p.1 (inr d)),
-  )),
-)
+joined_parts true A B C D New One Two first second third = grind arith
+joined_parts false A B C D New One Two first second third = grind arith
 
 -- a body from which something is taken, composed on a mask that was blank
 pub composed : (Blank B H Y One Two Three : Type 0) → (Blank → ⊥) → One ↔ joined Add Blank B
     → Two ↔ joined Clear One H → Three ↔ joined Clear Two Y → Three ↔ (B × (H → ⊥) × (Y → ⊥))
-composed Blank B H Y One Two Three none first second third = (
-  (λ three.
-      let two = third.0 three in
-      let one = second.0 two.0 in
-      (elim (first.0 one.0) [ inl was ↦ absurd (none was) | inr on ↦ on ], one.1, two.1)),
-  (λ on. third.1 (second.1 (first.1 (inr on.0), on.1), on.2)),
-)
+composed Blank B H Y One Two Three none first second third = grind arith
 
 -- a body from which nothing is taken
 pub nothing_taken : (how : Join) (New Was B H Y : Type 0) → (H ⊎ Y → ⊥) → New ↔ joined how Was B
