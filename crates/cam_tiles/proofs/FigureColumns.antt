@@ -107,13 +107,7 @@ straight_law c t =
 
 -- what is outside of a hole
 pub pierced_law : (P H : Type 0) → (P × (H → ⊥)) ↔ (((P × (H → ⊥) × (⊥ → ⊥)) ⊎ ⊥) ⊎ ⊥)
-pierced_law P H = (
-  (λ held. inl (inl (held.0, held.1, (λ x. x)))),
-  (λ part. elim part [
-    | inl before ↦ elim before [ inl on ↦ (on.0, on.1) | inr none ↦ absurd none ]
-    | inr none ↦ absurd none
-  ]),
-)
+pierced_law P H = grind arith
 
 pub without_none : (P H : Type 0) → (H → ⊥) → (P × (H → ⊥)) ↔ P
 without_none P H none = ((λ held. held.0), (λ on. (on, none)))
@@ -135,27 +129,7 @@ tells_body g columns IsHeld body none told hollow beyond start end =
 
 parts_united : (P B L N S T E F H Y : Type 0) → (H → ⊥) → (Y → ⊥) → (L ⊎ T) ↔ (B ⊎ S) → (N ⊎ F) ↔ (L ⊎ E)
     → (((B × (H → ⊥) × (Y → ⊥)) ⊎ S) ⊎ E) ↔ P → (((N × (H → ⊥) × (Y → ⊥)) ⊎ T) ⊎ F) ↔ P
-parts_united P B L N S T E F H Y no_hollow no_beyond first second told =
-    let whole : B → P = λ b. told.0 (inl (inl (b, no_hollow, no_beyond))) in
-    let old : L ⊎ T → P = λ part. elim (first.0 part) [ inl b ↦ whole b | inr s ↦ told.0 (inl (inr s)) ] in
-    let new : L ⊎ E → ((N × (H → ⊥) × (Y → ⊥)) ⊎ T) ⊎ F = λ part. elim (second.1 part) [
-      | inl n ↦ inl (inl (n, no_hollow, no_beyond))
-      | inr f ↦ inr f
-    ] in
-    let any : B ⊎ S → ((N × (H → ⊥) × (Y → ⊥)) ⊎ T) ⊎ F = λ part. elim (first.1 part) [
-      | inl l ↦ new (inl l)
-      | inr t ↦ inl (inr t)
-    ] in
-    let ahead : N ⊎ F → P = λ part. elim (second.0 part) [ inl l ↦ old (inl l) | inr e ↦ told.0 (inr e) ] in (
-      (λ part. elim part [
-        | inl before ↦ elim before [ inl n ↦ ahead (inl n.0) | inr t ↦ old (inr t) ]
-        | inr f ↦ ahead (inr f)
-      ]),
-      (λ p. elim (told.1 p) [
-        | inl before ↦ elim before [ inl b ↦ any (inl b.0) | inr s ↦ any (inr s) ]
-        | inr e ↦ new (inr e)
-      ]),
-    )
+parts_united P B L N S T E F H Y no_hollow no_beyond first second told = grind arith
 
 -- a body that takes in what it may of the discs about its ends
 pub tells_united : (g : Grid) (columns : ℕ) (IsHeld : Spot → Type 0) (r : FigureRuns) (longer body start end : Runs)
@@ -244,52 +218,13 @@ parts_spanned s rows from to disc_from disc_to row column fit discs all part = e
 pub joined_parts : (dark : Bool) (A B C D New One Two : Type 0) → One ↔ joined (inked dark) A B
     → Two ↔ joined (inked dark) One C → New ↔ joined (inked dark) Two D
     → New ↔ joined (inked dark) A ((B ⊎ C) ⊎ D)
-joined_parts true A B C D New One Two first second third = (
-  (λ new. elim (third.0 new) [
-    | inl two ↦ elim (second.0 two) [
-      | inl one ↦ elim (first.0 one) [ inl a ↦ inl a | inr b ↦ inr (inl (inl b)) ]
-      | inr c ↦ inr (inl (inr c))
-    ]
-    | inr d ↦ inr (inr d)
-  ]),
-  (λ some. third.1 (elim some [
-    | inl a ↦ inl (second.1 (inl (first.1 (inl a))))
-    | inr part ↦ elim part [
-      | inl before ↦ elim before [
-        | inl b ↦ inl (second.1 (inl (first.1 (inr b))))
-        | inr c ↦ inl (second.1 (inr c))
-      ]
-      | inr d ↦ inr d
-    ]
-  ])),
-)
-joined_parts false A B C D New One Two first second third = (
-  (λ new.
-      let two = third.0 new in
-      let one = second.0 two.0 in
-      let was = first.0 one.0 in (
-        was.0,
-        (λ part. elim part [
-          | inl before ↦ elim before [ inl b ↦ was.1 b | inr c ↦ one.1 c ]
-          | inr d ↦ two.1 d
-        ]),
-      )),
-  (λ p. third.1 (
-    second.1 (first.1 (p.0, (λ b. p.1 (inl (inl b)))), (λ c. p.1 (inl (inr c)))),
-    (λ d. p.1 (inr d)),
-  )),
-)
+joined_parts true A B C D New One Two first second third = grind arith
+joined_parts false A B C D New One Two first second third = grind arith
 
 -- a body from which something is taken, composed on a mask that was blank
 pub composed : (Blank B H Y One Two Three : Type 0) → (Blank → ⊥) → One ↔ joined Add Blank B
     → Two ↔ joined Clear One H → Three ↔ joined Clear Two Y → Three ↔ (B × (H → ⊥) × (Y → ⊥))
-composed Blank B H Y One Two Three none first second third = (
-  (λ three.
-      let two = third.0 three in
-      let one = second.0 two.0 in
-      (elim (first.0 one.0) [ inl was ↦ absurd (none was) | inr on ↦ on ], one.1, two.1)),
-  (λ on. third.1 (second.1 (first.1 (inr on.0), on.1), on.2)),
-)
+composed Blank B H Y One Two Three none first second third = grind arith
 
 -- a body from which nothing is taken
 pub nothing_taken : (how : Join) (New Was B H Y : Type 0) → (H ⊎ Y → ⊥) → New ↔ joined how Was B

@@ -39,8 +39,8 @@ impl Span {
             return None;
         }
         Some(Span {
-            first: self.first.min(other.first),
-            end: self.end.max(other.end),
+            first: other.first.min(self.first),
+            end: other.end.max(self.end),
         })
     }
 

@@ -10,16 +10,9 @@ use Rattle.cam_shapes.specs.Disc.{IsInDisc, IsInHole, IsSoundDisc}
 use Rattle.cam_shapes.specs.Swept.{IsInSwept, IsSoundSwept}
 use Rattle.cam_apertures.specs.Cover.{IsCovered}
 use Rattle.cam_apertures.specs.declared.aperture.Aperture.{Aperture}
-use Rattle.cam_apertures.specs.declared.aperture.Aperture.TheVariants.{Circle, Rect, Obround as AnObround, Prims}
+use Rattle.cam_apertures.specs.declared.aperture.Aperture.TheVariants.{Prims}
 use Rattle.cam_objects.specs.declared.canvas.Figure.{Figure}
-use Rattle.cam_objects.specs.declared.canvas.Figure.TheVariants.{
-  Stamp,
-  Stroke,
-  Swept as ASwept,
-  Sweep,
-  Filled,
-  Drilled,
-}
+use Rattle.cam_objects.specs.declared.canvas.Figure.TheVariants.{Stamp, Filled}
 use Rattle.cam_objects.specs.Canvases.{shape_of}
 use Rattle.cam_objects.specs.Image.{Covers, relative}
 use Rattle.cam_rows.specs.Runs.{most_columns}
@@ -55,19 +48,14 @@ pub record IsSoundPlaced (p : Placed) : Type 0 where
 
 -- the primitives of a macro are composed one after another
 abbrev pub IsMacro : Aperture → Type 0
-IsMacro (Circle diameter hole) = ⊥
-IsMacro (Rect width height hole) = ⊥
-IsMacro (AnObround width height hole) = ⊥
 IsMacro (Prims prims) = Unit {0}
+IsMacro _ = ⊥
 
 -- and so are the segments of a contour
 abbrev pub IsComposed : Figure → Type 0
 IsComposed (Stamp aperture turn at) = IsMacro aperture.now
-IsComposed (Stroke capsule) = ⊥
-IsComposed (ASwept swept) = ⊥
-IsComposed (Sweep arc) = ⊥
 IsComposed (Filled contour turn offset) = Unit {0}
-IsComposed (Drilled disc) = ⊥
+IsComposed _ = ⊥
 
 -- a column is in the run of the body, and in none that is taken out of it
 abbrev pub HasBody : FigureRuns → ℕ → ℕ → Type 0

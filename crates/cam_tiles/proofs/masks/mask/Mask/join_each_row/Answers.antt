@@ -5,7 +5,7 @@ use Rattle.cam_tiles.specs.declared.masks.mask.Mask.TheInside.{Inside}
 use Rattle.cam_tiles.specs.declared.masks.runs.Runs.{Runs}
 use Rattle.cam_tiles.specs.Machinery.Masks.{HoldsCentres}
 use Rattle.cam_tiles.specs.Machinery.Runs.{HasColumn}
-use Rattle.cam_tiles.proofs.JoinedMarks.{AreJoinedAt, all_joined_at, joined_none, joined_with, next_row_at, same_row_at}
+use Rattle.cam_tiles.proofs.JoinedMarks.{AreJoinedAt, all_joined_at, joined_with, next_row_at, same_row_at}
 use Rattle.cam_tiles.proofs.RunColumns.{in_band}
 use Rattle.cam_tiles.proofs.masks.mask.Mask.join_each_row.Goals.{then-first-end, else-first-end}
 use Rattle.cam_tiles.proofs.masks.mask.Mask.join_each_row.Goals as goal

@@ -1,5 +1,4 @@
-use Rattle.std.proofs.Common.{◌⊎◌, ◌<◌, ◌≤◌, refl, inl, inr, arith}
-use Rattle.cam_tiles.specs.Machinery.Runs.{Fits, HasColumn}
+use Rattle.std.proofs.Common.{refl, inl, inr, arith}
 use Rattle.cam_tiles.proofs.RunColumns.{without_rows}
 use Rattle.cam_tiles.proofs.TakenRuns.{one_more_taken, taken_fit}
 use Rattle.cam_tiles.proofs.masks.runs.Runs.take_in.Goals as goal
