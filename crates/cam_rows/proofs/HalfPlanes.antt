@@ -1,6 +1,6 @@
 -- Half planes, by the numbers at the centres of their rows.
-use Rattle.std.proofs.Common.{◌≡◌, ℕ, ◌^◌, ◌<◌, ◌≤◌, ℤ, pos, negsuc, ◌+ℤ◌, ◌-ℤ◌, ◌*ℤ◌, ◌≤ℤ◌, ◌<ℤ◌, ◌↔◌, sym, ◌∙◌, arith}
-use Rattle.std.specs.Prelude.{Option, Some, None, IfSome}
+use Rattle.std.proofs.Common.{◌≡◌, ℕ, ◌^◌, ◌<◌, ◌≤◌, ℤ, pos, negsuc, ◌+ℤ◌, ◌-ℤ◌, ◌*ℤ◌, ◌≤ℤ◌, ◌↔◌, FitsSigned, sym, refl, ◌∙◌, arith}
+use Rattle.std.specs.Int.{w128}
 use Rattle.std.specs.Int.RustNames.{unsigned_abs}
 use Rattle.std.proofs.lemmas.Int.{ints}
 use Rattle.cam_units.specs.declared.point.Point.{Point}
@@ -13,10 +13,10 @@ use Rattle.cam_rows.specs.declared.centres.Centres.{Centres}
 use Rattle.cam_rows.specs.declared.half_plane.HalfPlane.{HalfPlane}
 use Rattle.cam_rows.specs.declared.slope.Crossing.{Crossing}
 use Rattle.cam_rows.specs.declared.slope.Steps.{Steps}
-use Rattle.cam_rows.specs.Machinery.HalfPlanes.{IsCrossingIn, IsHalfPlaneOf, numbers_of}
+use Rattle.cam_rows.specs.Machinery.HalfPlanes.{IsHalfPlaneOf, numbers_of}
 use Rattle.cam_rows.specs.Machinery.Linear.{IsShortLinear}
 use Rattle.cam_rows.specs.Machinery.Narrowing.{IsUp}
-use Rattle.cam_rows.specs.Machinery.Slopes.{IsCrossingOf, Sloped, lowered, number_on}
+use Rattle.cam_rows.specs.Machinery.Slopes.{AreStepsOf, IsTopOf, Sloped, falling, lowered, number_on}
 use Rattle.cam_rows.specs.Rows.{IsRow, centre_at, row_below}
 use Rattle.cam_rows.proofs.SlopeBits.{lacking_in_row}
 use Rattle.cam_rows.proofs.Slopes.{cross_below, first_in_reach, first_is, no_steps, short_cross, short_seen}
@@ -63,7 +63,7 @@ module _ (p q : Point) (c : Centres) where
   raised_first f t g r e more small h m row = rw (more, sym (no_steps f t) ∙ e) (cross_fits r small h m row)
 
 -- numbers that are greater by the same in each row
-raised_number : (f t r d z : ℤ) (k i : ℕ) → (f +ℤ pos k *ℤ d) +ℤ pos i *ℤ t ≡ z
+pub raised_number : (f t r d z : ℤ) (k i : ℕ) → (f +ℤ pos k *ℤ d) +ℤ pos i *ℤ t ≡ z
     → ((f +ℤ r) +ℤ pos k *ℤ d) +ℤ pos i *ℤ t ≡ z +ℤ r
 raised_number f t r d z k i e =
     let steps = Product (Atom (pos i)) (Atom t) in
@@ -95,33 +95,12 @@ lacked z h = omega (arith, ints)
 kept : (z : ℤ) → unsigned_abs z < 2 ^ 100 → wide z ≡ z
 kept z h = omega (arith, ints)
 
-module _ (rows : ℕ) (h : HalfPlane) (few : rows ≤ 2 ^ 20) (row : IsShortLinear h.row)
-    (down : unsigned_abs h.down < 2 ^ 100) where
-  pub falling_crossing : (o : Option (Crossing × Steps)) → h.row.step <ℤ pos 0
-      → IfSome o (λ r. IsCrossingOf r.0 r.1 (wide h.row.first) (wide h.down) (wide (pos 0 -ℤ wide h.row.step)))
-      → IfSome o (λ r. IsCrossingIn rows r.0 r.1 h)
-  falling_crossing None falls at = tt {0}
-  falling_crossing (Some r) falls at = record {
-    few = few;
-    steps = at.steps;
-    top = at.top;
-    falls = λ _.
-        rw (kept h.row.first row.first, kept h.down down, opposite_twice h.row.step row.step) at at.is;
-    rises = λ rises. absurd (omega (arith, ints, falls, rises));
-  }
-
-  pub rising_crossing : (o : Option (Crossing × Steps)) → pos 0 ≤ℤ h.row.step
-      → IfSome o (λ r. IsCrossingOf r.0 r.1 (wide (negsuc 0 -ℤ wide h.row.first)) (wide (pos 0 -ℤ wide h.down))
-      (wide h.row.step))
-      → IfSome o (λ r. IsCrossingIn rows r.0 r.1 h)
-  rising_crossing None rises at = tt {0}
-  rising_crossing (Some r) rises at = record {
-    few = few;
-    steps = at.steps;
-    top = at.top;
-    falls = λ falls. absurd (omega (arith, ints, falls, rises));
-    rises = λ _. rw (lacked h.row.first row.first, opposite h.down down, kept h.row.step row.step) at at.is;
-  }
+-- what a crossing and its steps stand for
+pub falling_is : (c : Crossing) (t : Steps) (n m d : ℤ) → AreStepsOf t m (pos 0 -ℤ d) → IsTopOf c t n
+    → falling c t ≡ record { first = n; step = d; down = m }
+falling_is c t n m d steps top =
+    let twice : pos 0 -ℤ (pos 0 -ℤ d) ≡ d = omega (arith, ints) in
+    rw (top.first, steps.down, steps.divisor, twice) refl
 
 -- the columns of a row up to the last number that is not negative, where they fall, or what they lack does
 module _ (h : HalfPlane) (k i n : ℕ) (number : ℤ) (is : number ≡ (lowered k (numbers_of h)).first)
@@ -138,3 +117,26 @@ module _ (h : HalfPlane) (k i n : ℕ) (number : ℤ) (is : number ≡ (lowered 
         (λ up early. same.0 up (here.0 early)),
         (λ late. same.1 (λ lacks. late (here.1 lacks))),
       )
+
+pub fell : (f : HalfPlane) (c : Crossing) (t : Steps) (n : ℤ) → unsigned_abs f.row.step < 2 ^ 100
+    → unsigned_abs f.down < 2 ^ 100 → AreStepsOf t (wide f.down) (wide (pos 0 -ℤ wide f.row.step)) → IsTopOf c t n
+    → falling c t ≡ record { first = n; step = f.row.step; down = f.down }
+fell f c t n step down steps top =
+    falling_is c t n f.down f.row.step (rw (kept f.down down, opposite f.row.step step) at steps) top
+
+-- the sides of a strip, as 128 bits compute them
+pub kept_low : (f e r : ℤ) → unsigned_abs f ≤ 2 ^ 100 → unsigned_abs e ≤ 1 → unsigned_abs r < 2 ^ 64
+    → wide (wide (wide (wide f +ℤ wide e) -ℤ wide r) -ℤ pos 1) ≡ f +ℤ (e -ℤ r -ℤ pos 1)
+kept_low f e r h k m = omega (arith, ints)
+
+pub kept_high : (f e r : ℤ) → unsigned_abs f ≤ 2 ^ 100 → unsigned_abs e ≤ 1 → unsigned_abs r < 2 ^ 64
+    → wide (wide (wide f +ℤ wide e) +ℤ wide r) ≡ f +ℤ (e +ℤ r)
+kept_high f e r h k m = omega (arith, ints)
+
+pub low_fits : (f e r : ℤ) → unsigned_abs f ≤ 2 ^ 100 → unsigned_abs e ≤ 1 → unsigned_abs r < 2 ^ 64
+    → FitsSigned w128 (wide (wide (wide f +ℤ wide e) -ℤ wide r) -ℤ pos 1)
+low_fits f e r h k m = omega (arith, ints)
+
+pub high_fits : (f e r : ℤ) → unsigned_abs f ≤ 2 ^ 100 → unsigned_abs e ≤ 1 → unsigned_abs r < 2 ^ 64
+    → FitsSigned w128 (wide (wide f +ℤ wide e) +ℤ wide r)
+high_fits f e r h k m = omega (arith, ints)

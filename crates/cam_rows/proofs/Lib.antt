@@ -41,6 +41,7 @@ pub mod SlopeBits
 pub mod SlopeParts
 pub mod Slopes
 pub mod Steps
+pub mod Strips
 pub mod SweepRows
 pub mod Sweeps
 pub mod SweptRows

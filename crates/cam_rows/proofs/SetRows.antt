@@ -83,3 +83,16 @@ ends_counted columns n ends new Cut IsHeld size all same cut = record {
     | inr most ↦ most
   ];
 }
+
+-- ends of runs from the leftmost column on, of the columns that are held
+pub all_counted : (columns n : ℕ) (old new : List ℕ) (IsHeld : ℕ → ℕ → Type 0) (row : ℕ) → n ≤ row
+    → AreSetAbove (λ k end. (i : ℕ) → (i < end) ↔ ((i < columns) × IsHeld k i)) old row new
+    → AreCounted columns IsHeld n new
+all_counted columns n old new IsHeld row all set = record {
+  each = λ k i within small.
+      let here = set.above k (omega arith) i in ((λ on. (here.0 on).1), (λ held. here.1 (small, held)));
+  within = λ k within. elim (cases_lt columns (slice_index new k)) [
+    | inl more ↦ let both = (set.above k (omega arith) columns).0 more in absurd (omega (arith, both.0))
+    | inr most ↦ most
+  ];
+}

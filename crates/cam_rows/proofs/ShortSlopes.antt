@@ -1,13 +1,14 @@
 -- Crossings of falling numbers, as 64 bits compute them.
 use Rattle.std.proofs.Common.{◌≡◌, ℕ, ◌/◌, ◌%◌, ◌^◌, ◌<◌, ◌≤◌, ◌↔◌, IsTrue, Bool, true, ℤ, pos, negsuc, ◌+ℤ◌, ◌-ℤ◌}
-use Rattle.std.proofs.Common.{FitsSigned, refl, to_z, w64, arith}
+use Rattle.std.proofs.Common.{FitsSigned, refl, ◌∙◌, to_z, w64, arith}
 use Rattle.std.specs.Int.{w128}
 use Rattle.std.specs.Int.RustNames.{unsigned_abs}
 use Rattle.std.proofs.lemmas.Int.{ints}
 use Rattle.std.proofs.lemmas.Nat.{mul-le}
 use Rattle.cam_units.proofs.Ring.{Atom, Difference, Product, Sum, equal}
 use Rattle.cam_shapes.proofs.Widths.{narrow, wide}
-use Rattle.cam_rows.specs.Machinery.Slopes.{IsCrossingOf, IsRest, IsShortDivisor, whole}
+use Rattle.cam_rows.specs.declared.slope.Steps.{Steps}
+use Rattle.cam_rows.specs.Machinery.Slopes.{AreStepsOf, IsRest, IsShortDivisor, IsTopOf, whole}
 use Rattle.cam_rows.proofs.SlopeParts.{next_whole}
 
 pub kept_fitting : (z : ℤ) → FitsSigned w64 z → narrow z ≡ z
@@ -26,7 +27,7 @@ kept_lack r d h rest = omega (arith, ints, h.1, rest.0, rest.1)
 kept_short : (z : ℤ) → unsigned_abs z ≤ 2 ^ 61 → narrow z ≡ z
 kept_short z h = omega (arith, ints)
 
-kept_short_divisor : (d : ℤ) → IsShortDivisor d → narrow d ≡ d
+pub kept_short_divisor : (d : ℤ) → IsShortDivisor d → narrow d ≡ d
 kept_short_divisor d h = omega (arith, ints, h.0, h.1)
 
 kept_short_rest : (r d : ℤ) → IsShortDivisor d → IsRest r d → narrow r ≡ r
@@ -41,35 +42,28 @@ told_short z b fits e told =
     let short = told.0 e in
     omega (arith, ints)
 
--- a crossing by two divisions
-module _ (q r u t n m d : ℤ) (h : IsShortDivisor d) where
-  pub divided_crossing : unsigned_abs n ≤ 2 ^ 61 → unsigned_abs m ≤ 2 ^ 61
-      → whole q (narrow d) r ≡ narrow n → IsRest r (narrow d) → unsigned_abs q ≤ 2 ^ 61
-      → whole u (narrow d) t ≡ narrow m → IsRest t (narrow d) → unsigned_abs u ≤ 2 ^ 40
-      → IsCrossingOf (record { columns = narrow (narrow q +ℤ pos 1); rest = narrow (narrow r -ℤ narrow d) })
-      (record { columns = narrow u; rest = narrow t; divisor = narrow d }) n m d
-  divided_crossing short_n short_m is_n rest_n short_q is_m rest_m short_u =
-      let same = kept_short_divisor d h in
-      let number : whole q d r ≡ n = rw (same, kept_short n short_n) at is_n in
-      let change : whole u d t ≡ m = rw (same, kept_short m short_m) at is_m in
-      let rest : IsRest r d = rw same at rest_n in
-      let step : IsRest t d = rw same at rest_m in
-      rw (
-        kept_next q short_q,
-        kept_lack r d h rest,
-        kept_short u (omega arith),
-        kept_short_rest t d h step,
-        same,
-      )
-      (record {
-        steps = record { divisor = h; rest = step; columns = short_u };
-        top = record {
-          low = omega (arith, ints, rest.0);
-          high = omega (arith, ints, rest.1);
-          near = omega (arith, ints, short_q);
-        };
-        is = rw (next_whole q r d, number, change) refl;
-      })
+-- by divisions
+pub divided_steps : (u t m d f : ℤ) → IsShortDivisor d → f ≡ d → unsigned_abs m ≤ 2 ^ 61 → whole u d t ≡ m
+    → IsRest t d → unsigned_abs u ≤ 2 ^ 40 → AreStepsOf (record { columns = narrow u; rest = narrow t; divisor = f }) m d
+divided_steps u t m d f h same short is rest few =
+    rw (kept_short u (omega arith), kept_short_rest t d h rest, same) (record {
+      steps = record { divisor = h; rest = rest; columns = few };
+      divisor = refl;
+      down = is;
+    })
+
+pub divided_top : (t : Steps) (q r n : ℤ) → IsShortDivisor t.divisor → whole q t.divisor r ≡ n → IsRest r t.divisor
+    → unsigned_abs q ≤ 2 ^ 61
+    → IsTopOf (record { columns = narrow (narrow q +ℤ pos 1); rest = narrow (narrow r -ℤ narrow t.divisor) }) t n
+divided_top t q r n h is rest short =
+    rw (kept_next q short, kept_lack r t.divisor h rest) (record {
+      here = record {
+        low = omega (arith, ints, rest.0);
+        high = omega (arith, ints, rest.1);
+        near = omega (arith, ints, short);
+      };
+      first = next_whole q r t.divisor ∙ is;
+    })
 
 -- a number below 0 by the quotient of what it lacks
 below_whole : (q r b : ℤ) → whole (negsuc 0 -ℤ q) b (b -ℤ pos 1 -ℤ r) ≡ negsuc 0 -ℤ whole q b r

@@ -84,8 +84,12 @@ pub lacking_in_row : (f t : ℤ) (i : ℕ)
     → (pos 0 ≤ℤ (f +ℤ pos i *ℤ t)) ↔ (pos 0 ≤ℤ ((negsuc 0 -ℤ f) +ℤ pos i *ℤ (pos 0 -ℤ t)) → ⊥)
 lacking_in_row f t i = rw (lacking_number f t i) (negative_lacks (f +ℤ pos i *ℤ t))
 
+pub lacking_sloped : (s : Sloped) (k i : ℕ)
+    → number_on (lowered k (lacking s)) i ≡ negsuc 0 -ℤ number_on (lowered k s) i
+lacking_sloped s k i = rw (lacking_number s.first s.down k) (lacking_number (lowered k s).first s.step i)
+
 pub lacking_tells : (s : Sloped) (k i : ℕ) → IsUp s k i ↔ (IsUp (lacking s) k i → ⊥)
-lacking_tells s k i = rw (lacking_number s.first s.down k) (lacking_in_row (lowered k s).first s.step i)
+lacking_tells s k i = rw (lacking_sloped s k i) (negative_lacks (number_on (lowered k s) i))
 
 -- one row lower
 left_step : (n m : ℤ) → n +ℤ m ≡ n +ℤ pos 1 *ℤ m

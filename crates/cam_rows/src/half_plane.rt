@@ -1,11 +1,13 @@
 //! Half planes, row after row: the centres on one side of a line, by the sign of a number.
 
-ghost use Rattle.std.specs.Prelude.{◌≡◌, ◌^◌, ◌<◌, pos, ◌+ℤ◌, ◌-ℤ◌, ◌*ℤ◌, ◌≤ℤ◌};
+ghost use Rattle.std.specs.Prelude.{◌≡◌, ◌^◌, ◌<◌, ℕ, pos, ◌+ℤ◌, ◌-ℤ◌, ◌*ℤ◌, ◌≤ℤ◌};
 ghost use Rattle.std.specs.Int.RustNames.{unsigned_abs};
 ghost use Rattle.cam_units.specs.Board.{IsOnBoard};
 ghost use Rattle.cam_shapes.specs.Plane.{cross, dot, seen_from, way};
-ghost use Rattle.cam_rows.specs.Machinery.HalfPlanes.{IsHalfPlaneOf};
-ghost use Rattle.cam_rows.specs.Rows.{IsRow};
+ghost use Rattle.cam_rows.specs.Machinery.HalfPlanes.{IsHalfPlaneOf, numbers_of};
+ghost use Rattle.cam_rows.specs.Machinery.Linear.{IsShortLinear};
+ghost use Rattle.cam_rows.specs.Machinery.Slopes.{lowered, number_on};
+ghost use Rattle.cam_rows.specs.Rows.{IsRow, centre_at, row_below};
 
 use crate::centres::Centres;
 use crate::linear::Linear;
@@ -47,6 +49,22 @@ impl HalfPlane {
     {
         HalfPlane {
             row: across(from, to, top).raised(reach),
+            down: Way::between(from, to).turned_left().dot_down(top),
+        }
+    }
+
+    /// The places at which the cross product with the way from a point to another one is not negative.
+    pub(crate) fn line(from: &Point, to: &Point, top: &Centres) -> HalfPlane
+        requires from { IsOnBoard from.now }
+        requires to { IsOnBoard to.now }
+        requires row { IsRow top.now }
+        ensures numbers { (k i : ℕ) → number_on (lowered k (numbers_of result)) i
+            ≡ cross (way from.now to.now) (seen_from from.now (centre_at (row_below top.now k) i)) }
+        ensures row { IsShortLinear result.row }
+        ensures down { unsigned_abs result.down < 2 ^ 100 }
+    {
+        HalfPlane {
+            row: across(from, to, top),
             down: Way::between(from, to).turned_left().dot_down(top),
         }
     }

@@ -5,15 +5,16 @@
 //!
 //! The places of a shape in a row of centres are a few runs of columns side by side, in rows of up to 32,768 centres:
 //! that of a disc is a chord, that of a rectangle is between its sides, and each half plane narrows runs at one end, with
-//! no work for a column. A bar is narrowed by four half planes: those across its ends, and those of its long edges, whose
-//! distance is one root. The stroke of a rectangle is narrowed from the box of its ends by two half planes, with no root;
-//! along an axis it is the box. A cap is narrowed from its circle by the side of its chord. An arc is three runs a row and
-//! the discs about its ends: a chord of its outer circle, narrowed to a sweep of at most a half turn, without a chord of
-//! its inner circle and without what a wider sweep leaves out.
+//! no work for a column. A bar lies between the lines of its long edges, whose distance is one root, and is narrowed by
+//! the half planes across its ends. The stroke of a rectangle is narrowed from the box of its ends by two half planes,
+//! with no root; along an axis it is the box. A cap is narrowed from its circle by the side of its chord. An arc is three
+//! runs a row and the discs about its ends: a chord of its outer circle, narrowed to a sweep of at most a half turn,
+//! without a chord of its inner circle and without what a wider sweep leaves out.
 //!
 //! Where the line of a half plane crosses the rows moves by a quotient and a remainder from each to the next, and the
 //! ends of a chord are found by a walk from those of the row above, outwards or inwards from the circle's middle, in 64
-//! bits: with no root and no division for a row. Rows more than two metres from the middle take a root each.
+//! bits: with no root and no division for a row. Where the products of a line may not fit 64 bits, about half a metre from
+//! it, each row takes a division, and rows more than two metres from a circle's middle take a root each.
 //!
 //! The bits of a row are those of its runs: they are set, cleared or turned over by one shape after another, 64 rows at
 //! once. A capsule is a bar to which the discs about its ends are added.

@@ -2,6 +2,7 @@
 
 pub(crate) mod arc;
 pub(crate) mod bar;
+mod beside_line;
 mod boxes;
 pub(crate) mod cap;
 pub(crate) mod circle;

@@ -1,13 +1,14 @@
 -- Half planes, row after row: the centres at which a number is not negative.
-use Rattle.std.specs.Prelude.{◌≡◌, ◌↔◌, ℕ, ◌^◌, ◌+◌, ◌<◌, ◌≤◌, pos, ◌≤ℤ◌, ◌<ℤ◌}
+use Rattle.std.specs.Prelude.{◌≡◌, ◌↔◌, ℕ, ℤ, ◌^◌, ◌+◌, ◌<◌, ◌≤◌, pos, ◌≤ℤ◌, ◌<ℤ◌}
 use Rattle.std.specs.Int.RustNames.{unsigned_abs}
 use Rattle.cam_units.specs.declared.point.Spot.{Spot}
 use Rattle.cam_rows.specs.declared.centres.Centres.{Centres}
 use Rattle.cam_rows.specs.declared.half_plane.HalfPlane.{HalfPlane}
+use Rattle.cam_rows.specs.Machinery.Beside.{IsWithinReach}
 use Rattle.cam_rows.specs.Machinery.Linear.{IsShortLinear}
 use Rattle.cam_rows.specs.declared.slope.Crossing.{Crossing}
 use Rattle.cam_rows.specs.declared.slope.Steps.{Steps}
-use Rattle.cam_rows.specs.Machinery.Slopes.{AreSteps, IsCrossing, Sloped, falling, lacking, lowered}
+use Rattle.cam_rows.specs.Machinery.Slopes.{AreSteps, IsCrossing, Sloped, falling, lacking, lowered, number_on}
 use Rattle.cam_rows.specs.Machinery.Narrowing.{IsUp}
 use Rattle.cam_rows.specs.Rows.{AreRows, centre_at, row_below}
 
@@ -33,3 +34,12 @@ pub record IsCrossingIn (rows : ℕ) (c : Crossing) (t : Steps) (h : HalfPlane) 
   pub top : IsCrossing t (2 ^ 61 + 1) c
   pub falls : h.row.step <ℤ pos 0 → falling c t ≡ numbers_of h
   pub rises : pos 0 ≤ℤ h.row.step → falling c t ≡ lacking (numbers_of h)
+
+-- where its numbers are at most `reach` from 0 in so many rows: not up to the one crossing, and up to the other one
+pub record IsStripIn (rows : ℕ) (low high : Crossing) (t : Steps) (reach : ℤ) (h : HalfPlane) : Type 0 where
+  pub few : rows ≤ 2 ^ 20
+  pub steps : AreSteps t
+  pub near_low : IsCrossing t (2 ^ 61 + 1) low
+  pub near_high : IsCrossing t (2 ^ 61 + 1) high
+  pub within : (k i : ℕ) → IsWithinReach (number_on (lowered k (numbers_of h)) i) reach
+      ↔ ((IsUp (falling low t) k i → ⊥) × IsUp (falling high t) k i)

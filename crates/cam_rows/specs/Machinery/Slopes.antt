@@ -58,8 +58,13 @@ pub record IsCrossing (t : Steps) (bound : ℕ) (c : Crossing) : Type 0 where
   pub high : c.rest <ℤ pos 0
   pub near : unsigned_abs c.columns ≤ bound
 
--- where a number falls by a divisor from each centre to the next, and changes from each row to the next
-pub record IsCrossingOf (c : Crossing) (t : Steps) (number change divisor : ℤ) : Type 0 where
+-- the steps of numbers that fall by a divisor from each centre to the next, and change from each row to the next
+pub record AreStepsOf (t : Steps) (change fall : ℤ) : Type 0 where
   pub steps : AreSteps t
-  pub top : IsCrossing t (2 ^ 61 + 1) c
-  pub is : falling c t ≡ record { first = number; step = pos 0 -ℤ divisor; down = change }
+  pub divisor : t.divisor ≡ fall
+  pub down : whole t.columns t.divisor t.rest ≡ change
+
+-- the crossing of a row by the number at its leftmost centre
+pub record IsTopOf (c : Crossing) (t : Steps) (number : ℤ) : Type 0 where
+  pub here : IsCrossing t (2 ^ 61 + 1) c
+  pub first : whole c.columns t.divisor c.rest ≡ number

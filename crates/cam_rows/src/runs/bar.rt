@@ -12,6 +12,7 @@ ghost use Rattle.cam_rows.specs.Machinery.Narrowing.{AreNarrowed};
 ghost use Rattle.cam_rows.specs.Rows.{centre_at, row_below};
 ghost use Rattle.cam_rows.specs.Runs.{AreRuns, AreWideRows, IsInRun};
 
+use super::beside_line::runs_beside;
 use super::boxes::box_runs;
 use crate::beside::reach_of;
 use crate::centres::Centres;
@@ -82,7 +83,7 @@ fn widened_ends(bar: &Bar, across: i64, along: i64) -> (Spot, Spot)
     (low, high)
 }
 
-/// The runs of a bar of any direction, by the half planes whose inside it is.
+/// The runs of a bar of any direction, by the strip along its line and the half planes ahead of its ends.
 fn slanted_runs(bar: &Bar, top: &Centres, firsts: &mut [u32], ends: &mut [u32])
     requires bar { IsSoundBar bar.now }
     requires rows { AreWideRows top.now (length firsts.old) }
@@ -92,15 +93,10 @@ fn slanted_runs(bar: &Bar, top: &Centres, firsts: &mut [u32], ends: &mut [u32])
     if firsts.is_empty() {
         return;
     }
-    firsts.fill(0);
-    ends.fill(top.count);
-    let Bar { from, to, .. } = *bar;
-    let reach = reach_of(bar);
-    let left = top.leftmost();
-    HalfPlane::left(&from, &to, reach, &left).narrow(top.count, firsts, ends);
-    HalfPlane::left(&to, &from, reach, &left).narrow(top.count, firsts, ends);
-    narrow_ahead(&from, &to, bar.width.0, top, firsts, ends);
-    narrow_ahead(&to, &from, bar.width.0, top, firsts, ends);
+    let Bar { from, to, width } = *bar;
+    runs_beside(&from, &to, reach_of(bar), top, firsts, ends);
+    narrow_ahead(&from, &to, width.0, top, firsts, ends);
+    narrow_ahead(&to, &from, width.0, top, firsts, ends);
 }
 
 /// Narrows runs of wide rows, one below another from the top one, to the places ahead of a point or beside it, as one

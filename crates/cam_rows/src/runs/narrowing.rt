@@ -1,20 +1,20 @@
 //! Runs of wide rows, narrowed to half planes.
 
-ghost use Rattle.std.specs.Prelude.{◌≡◌, ◌↔◌, ◌+◌, ◌^◌, ◌<◌, ◌≤◌, ℕ, IfSome, length, pos, ◌<ℤ◌};
+ghost use Rattle.std.specs.Prelude.{◌≡◌, ◌↔◌, ◌+◌, ◌^◌, ◌<◌, ◌≤◌, ℕ, IfSome, length, pos, ◌≤ℤ◌, ◌<ℤ◌};
 ghost use Rattle.std.specs.Int.RustNames.{unsigned_abs};
 ghost use Rattle.cam_rows.specs.Machinery.HalfPlanes.{IsCrossingIn, IsShortIn, numbers_of};
 ghost use Rattle.cam_rows.specs.Machinery.Linear.{IsShortLinear};
 ghost use Rattle.cam_rows.specs.Machinery.Narrowing.{AreCounted, AreNarrowed, IsUp};
-ghost use Rattle.cam_rows.specs.Machinery.Slopes.{lowered};
+ghost use Rattle.cam_rows.specs.Machinery.Slopes.{lacking, lowered};
 ghost use Rattle.cam_rows.specs.Runs.{IsInRun, most_columns};
 
 use super::Run;
 use crate::half_plane::HalfPlane;
 use crate::linear::Linear;
-use crate::slope::{Crossing, Steps, columns_up_to, crossing_of, cut_ends, cut_firsts};
+use crate::slope::{Crossing, Steps, columns_up_to, cut_ends, cut_firsts};
 
 /// The most rows whose crossings are stepped through in 64 bits.
-const MOST_ROWS: usize = 1 << 20;
+pub(super) const MOST_ROWS: usize = 1 << 20;
 
 impl HalfPlane {
     /// Narrows the runs of wide rows, one below another from the top one, to its own columns.
@@ -59,11 +59,33 @@ impl HalfPlane {
         if rows > MOST_ROWS {
             return None;
         }
+        let falling = self.falling();
+        let steps = Steps::of(falling.down, -falling.row.step)?;
+        let top = steps.crossing(falling.row.first)?;
+        Some((top, steps))
+    }
+
+    /// Its numbers where they fall from each column to the next, and else what they lack.
+    pub(super) fn falling(&self) -> HalfPlane
+        requires row { IsShortLinear self.now.row }
+        requires down { unsigned_abs self.now.down < 2 ^ 100 }
+        ensures falls { self.now.row.step <ℤ pos 0 → numbers_of result ≡ numbers_of self.now }
+        ensures rises { pos 0 ≤ℤ self.now.row.step → numbers_of result ≡ lacking (numbers_of self.now) }
+        ensures first { unsigned_abs result.row.first ≤ 2 ^ 100 }
+        ensures step { unsigned_abs result.row.step < 2 ^ 100 }
+        ensures bound { unsigned_abs result.down < 2 ^ 100 }
+    {
         let Linear { first, step } = self.row;
         if step < 0 {
-            return crossing_of(first, self.down, -step);
+            return *self;
         }
-        crossing_of(-1 - first, -self.down, step)
+        HalfPlane {
+            row: Linear {
+                first: -1 - first,
+                step: -step,
+            },
+            down: -self.down,
+        }
     }
 
     /// The same as `narrow`, by a division in each row.

@@ -1,7 +1,7 @@
 //! Runs of wide rows, one below another, cut where falling numbers cross 0.
 
-ghost use Rattle.std.specs.Prelude.{◌+◌, ◌^◌, ◌≤◌, length};
-ghost use Rattle.cam_rows.specs.Machinery.Narrowing.{AreEndsCut, AreFirstsCut, IsUp};
+ghost use Rattle.std.specs.Prelude.{◌≡◌, ◌+◌, ◌^◌, ◌≤◌, length};
+ghost use Rattle.cam_rows.specs.Machinery.Narrowing.{AreCounted, AreEndsCut, AreFirstsCut, IsUp};
 ghost use Rattle.cam_rows.specs.Machinery.Slopes.{AreSteps, IsCrossing, falling};
 
 use super::{Crossing, Steps};
@@ -31,5 +31,32 @@ pub(crate) fn cut_firsts(top: Crossing, steps: &Steps, columns: u32, firsts: &mu
     for k in 0..firsts.len() {
         firsts[k] = firsts[k].max(crossing.columns_before(columns));
         crossing = crossing.below(steps);
+    }
+}
+
+/// Counts the columns at which the numbers of a row are not negative, from two top rows with the same steps.
+pub(crate) fn count_both(
+    low: Crossing,
+    high: Crossing,
+    steps: &Steps,
+    columns: u32,
+    firsts: &mut [u32],
+    ends: &mut [u32],
+)
+    requires steps { AreSteps steps.now }
+    requires low { IsCrossing steps.now (2 ^ 61 + 1) low }
+    requires high { IsCrossing steps.now (2 ^ 61 + 1) high }
+    requires rows { length firsts.old ≤ 2 ^ 20 }
+    requires ends { length ends.old ≡ length firsts.old }
+    ensures firsts { AreCounted columns (IsUp (falling low steps.now)) (length firsts.old) firsts.new }
+    ensures ends { AreCounted columns (IsUp (falling high steps.now)) (length firsts.old) ends.new }
+{
+    let mut first = low;
+    let mut end = high;
+    for k in 0..firsts.len() {
+        firsts[k] = first.columns_before(columns);
+        ends[k] = end.columns_before(columns);
+        first = first.below(steps);
+        end = end.below(steps);
     }
 }

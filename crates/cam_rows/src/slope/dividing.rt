@@ -1,8 +1,8 @@
-//! Where falling numbers cross 0 in the top row, in 64 bits.
+//! Where falling numbers cross 0 in the top row, and how that moves, in 64 bits.
 
 ghost use Rattle.std.specs.Prelude.{◌≡◌, ◌^◌, ◌≤◌, ◌↔◌, IfSome, IsTrue};
 ghost use Rattle.std.specs.Int.RustNames.{unsigned_abs};
-ghost use Rattle.cam_rows.specs.Machinery.Slopes.{IsCrossingOf, IsRest, IsShortDivisor, whole};
+ghost use Rattle.cam_rows.specs.Machinery.Slopes.{AreSteps, AreStepsOf, IsRest, IsShortDivisor, IsTopOf, whole};
 
 use super::{Crossing, Steps};
 
@@ -12,39 +12,41 @@ const LONGEST: i64 = 1 << 61;
 /// The most columns that are stepped over from a row to the next.
 const LONGEST_STEP: u64 = 1 << 40;
 
-/// The crossing of a number that falls by a divisor from each centre to the next, and how it moves where the number
-/// changes from each row to the next; none where they may not fit 64 bits.
-pub(crate) fn crossing_of(number: i128, change: i128, divisor: i128) -> Option<(Crossing, Steps)>
-    ensures { IfSome result (λ r. IsCrossingOf r.0 r.1 number change divisor) }
-{
-    if divisor <= 0 || !is_short(number) || !is_short(change) || !is_short(divisor) {
-        return None;
+impl Steps {
+    /// The steps of numbers that fall by a divisor from each centre to the next, and change from each row to the next;
+    /// none where they may not fit 64 bits.
+    pub(crate) fn of(change: i128, divisor: i128) -> Option<Steps>
+        ensures { IfSome result (λ t. AreStepsOf t change divisor) }
+    {
+        if divisor <= 0 || !is_short(divisor) || !is_short(change) {
+            return None;
+        }
+        let divisor = divisor as i64;
+        let (columns, rest) = short_division(change as i64, divisor);
+        if columns.unsigned_abs() > LONGEST_STEP {
+            return None;
+        }
+        Some(Steps {
+            columns,
+            rest,
+            divisor,
+        })
     }
-    short_crossing(number as i64, change as i64, divisor as i64)
-}
 
-/// The same of numbers of 64 bits.
-fn short_crossing(number: i64, change: i64, divisor: i64) -> Option<(Crossing, Steps)>
-    requires number { unsigned_abs number ≤ 2 ^ 61 }
-    requires change { unsigned_abs change ≤ 2 ^ 61 }
-    requires divisor { IsShortDivisor divisor }
-    ensures { IfSome result (λ r. IsCrossingOf r.0 r.1 number change divisor) }
-{
-    let (columns, rest) = short_division(change, divisor);
-    if columns.unsigned_abs() > LONGEST_STEP {
-        return None;
+    /// The crossing of the row that has this number at its leftmost centre; none where it may not fit 64 bits.
+    pub(crate) fn crossing(&self, number: i128) -> Option<Crossing>
+        requires { AreSteps self.now }
+        ensures { IfSome result (λ c. IsTopOf c self.now number) }
+    {
+        if !is_short(number) {
+            return None;
+        }
+        let (last, rest) = short_division(number as i64, self.divisor);
+        Some(Crossing {
+            columns: last + 1,
+            rest: rest - self.divisor,
+        })
     }
-    let steps = Steps {
-        columns,
-        rest,
-        divisor,
-    };
-    let (last, rest) = short_division(number, divisor);
-    let crossing = Crossing {
-        columns: last + 1,
-        rest: rest - divisor,
-    };
-    Some((crossing, steps))
 }
 
 /// The greatest whole number that is at most the quotient, and what is left of the number.

@@ -1,14 +1,18 @@
-use Rattle.std.proofs.Common.{arith}
-use Rattle.std.proofs.lemmas.Int.{ints}
-use Rattle.cam_rows.proofs.HalfPlanes.{falling_crossing, rising_crossing}
+use Rattle.std.proofs.Common.{◌∙◌, arith}
+use Rattle.cam_rows.proofs.HalfPlanes.{fell}
+use Rattle.cam_rows.proofs.Quotients.{kept_number}
 use Rattle.cam_rows.proofs.half_plane.HalfPlane.crossing.Goals as goal
-
-pub returns-then-step-lt0 : goal.returns-then-step-lt0
-returns-then-step-lt0 c =
-    falling_crossing c.args.rows c.args.self.now (omega arith) c.requires.row c.requires.down _
-    (omega (arith, ints, c.requires.row.step)) c.crossing_of.ensures
 
 pub returns : goal.returns
 returns c =
-    rising_crossing c.args.rows c.args.self.now (omega arith) c.requires.row c.requires.down _
-    (omega (arith, ints, c.requires.row.step)) c.crossing_of-2.ensures
+    let f = c.falling-falling in
+    let top = rw (kept_number f.result.row.first (omega (arith, f.ensures.first))) at c.in_ok-top.ensures in
+    let is = fell f.result c.in_ok-top.top c.in_ok-steps.steps f.result.row.first f.ensures.step f.ensures.bound
+    c.in_ok-steps.ensures top in
+    record {
+      few = omega (arith, c.if-rows-gt-MOST_ROWS.false);
+      steps = c.in_ok-steps.ensures.steps;
+      top = c.in_ok-top.ensures.here;
+      falls = λ falls. is ∙ f.ensures.falls falls;
+      rises = λ rises. is ∙ f.ensures.rises rises;
+    }

@@ -1,0 +1,40 @@
+use Rattle.std.proofs.Common.{pos, inl, inr, arith}
+use Rattle.std.proofs.lemmas.Int.{by_lt_z}
+use Rattle.cam_rows.specs.Machinery.Slopes.{falling}
+use Rattle.cam_rows.proofs.HalfPlanes.{fell, high_fits, kept_high, kept_low, low_fits}
+use Rattle.cam_rows.proofs.Strips.{strip_within}
+use Rattle.cam_rows.proofs.half_plane.HalfPlane.strip.Goals as goal
+
+pub overflow_sub-middle-2 : goal.overflow_sub-middle-2
+overflow_sub-middle-2 c =
+    low_fits c.falling-falling.result.row.first c.excess.result c.args.reach c.falling-falling.ensures.first
+    c.excess.ensures.few c.requires.reach
+
+pub overflow_add-middle-2 : goal.overflow_add-middle-2
+overflow_add-middle-2 c =
+    high_fits c.falling-falling.result.row.first c.excess.result c.args.reach c.falling-falling.ensures.first
+    c.excess.ensures.few c.requires.reach
+
+pub returns : goal.returns
+returns c =
+    let h = c.args.self.now in
+    let f = c.falling-falling in
+    let t = c.in_ok-steps.steps in
+    let e = c.excess in
+    let low = rw (kept_low f.result.row.first e.result c.args.reach f.ensures.first e.ensures.few c.requires.reach)
+    at c.in_ok-low.ensures in
+    let high = rw (kept_high f.result.row.first e.result c.args.reach f.ensures.first e.ensures.few c.requires.reach)
+    at c.in_ok-high.ensures in
+    record {
+      few = omega (arith, c.if-rows-gt-MOST_ROWS.false);
+      steps = c.in_ok-steps.ensures.steps;
+      near_low = c.in_ok-low.ensures.here;
+      near_high = c.in_ok-high.ensures.here;
+      within = λ k i.
+          strip_within h f.result (falling c.in_ok-low.low t) (falling c.in_ok-high.high t) c.args.reach e.result
+          (fell f.result c.in_ok-low.low t _ f.ensures.step f.ensures.bound c.in_ok-steps.ensures low)
+          (fell f.result c.in_ok-high.high t _ f.ensures.step f.ensures.bound c.in_ok-steps.ensures high) k i
+          (by_lt_z h.row.step (pos 0)
+          (λ falls. inl (f.ensures.falls falls, e.ensures.falls falls))
+          (λ rises. inr (f.ensures.rises rises, e.ensures.rises rises)));
+    }

@@ -1,0 +1,48 @@
+use Rattle.std.proofs.Common.{sym, length, arith}
+use Rattle.cam_rows.specs.Machinery.Narrowing.{IsUp}
+use Rattle.cam_rows.specs.Machinery.Slopes.{falling}
+use Rattle.cam_rows.proofs.SetRows.{all_counted, next_set, none_set}
+use Rattle.cam_rows.proofs.SlopeBits.{end_cut, falling_below, nearer}
+use Rattle.cam_rows.proofs.Slopes.{lowered_none}
+use Rattle.cam_rows.proofs.slope.cutting.count_both.Goals as goal
+
+pub loop-k-init : goal.loop-k-init
+loop-k-init c = record {
+  low = sym (lowered_none _);
+  high = sym (lowered_none _);
+  near_low = c.requires.low;
+  near_high = c.requires.high;
+  firsts = none_set _ _;
+  ends = none_set _ _;
+}
+
+pub loop-k-preserved : goal.loop-k-preserved
+loop-k-preserved c =
+    let steps = c.args.steps.now in
+    let was = c.loop-k.invariant in
+    let k = c.loop-k.k in
+    record {
+      low = falling_below c.args.low c.loop-k.first c.below-first.result steps k was.low c.below-first.ensures.lowered;
+      high = falling_below c.args.high c.loop-k.end c.below-end.result steps k was.high c.below-end.ensures.lowered;
+      near_low = nearer steps c.below-first.result _ _ (omega arith) (c.below-first.ensures.near _ was.near_low);
+      near_high = nearer steps c.below-end.result _ _ (omega arith) (c.below-end.ensures.near _ was.near_high);
+      firsts =
+          next_set _ c.args.firsts.now c.loop-k.firsts k _ (omega arith) was.firsts
+          (end_cut c.args.low c.loop-k.first steps k _ c.requires.steps was.near_low was.low _ _ c.columns_before.ensures);
+      ends =
+          next_set _ c.args.ends.now c.loop-k.ends k _ (omega (arith, c.requires.ends)) was.ends
+          (end_cut c.args.high c.loop-k.end steps k _ c.requires.steps was.near_high was.high _ _
+          c.columns_before-in-loop-k.ensures);
+    }
+
+pub returns-clause-firsts : goal.returns-clause-firsts
+returns-clause-firsts c =
+    all_counted c.args.columns (length c.args.firsts.now) c.args.firsts.now c.loop-k.firsts
+    (IsUp (falling c.args.low c.args.steps.now)) c.loop-k.k (omega (arith, c.loop-k-test.false, c.loop-k.invariant.firsts.size))
+    c.loop-k.invariant.firsts
+
+pub returns-clause-ends : goal.returns-clause-ends
+returns-clause-ends c =
+    all_counted c.args.columns (length c.args.firsts.now) c.args.ends.now c.loop-k.ends
+    (IsUp (falling c.args.high c.args.steps.now)) c.loop-k.k (omega (arith, c.loop-k-test.false, c.loop-k.invariant.firsts.size))
+    c.loop-k.invariant.ends

@@ -1,0 +1,97 @@
+//! Runs of what lies near a line.
+
+ghost use Rattle.std.specs.Prelude.{◌≡◌, ◌^◌, ◌<◌, ◌≤◌, IfSome, length, pos, ◌≤ℤ◌, ◌<ℤ◌};
+ghost use Rattle.std.specs.Int.RustNames.{unsigned_abs};
+ghost use Rattle.cam_units.specs.Board.{IsOnBoard};
+ghost use Rattle.cam_shapes.specs.Plane.{cross, seen_from, way};
+ghost use Rattle.cam_rows.specs.Machinery.Beside.{IsWithinReach};
+ghost use Rattle.cam_rows.specs.Machinery.HalfPlanes.{IsStripIn};
+ghost use Rattle.cam_rows.specs.Machinery.Linear.{IsShortLinear};
+ghost use Rattle.cam_rows.specs.Runs.{AreRuns, AreWideRows};
+
+use super::narrowing::MOST_ROWS;
+use crate::centres::Centres;
+use crate::half_plane::HalfPlane;
+use crate::slope::{Crossing, Steps, count_both};
+use cam_units::Point;
+
+/// The runs of the places near the line through two points, in wide rows, one below another from the top one: those at
+/// which the cross product with the way is at most `reach` from 0.
+pub(super) fn runs_beside(
+    from: &Point,
+    to: &Point,
+    reach: i128,
+    top: &Centres,
+    firsts: &mut [u32],
+    ends: &mut [u32],
+)
+    requires from { IsOnBoard from.now }
+    requires to { IsOnBoard to.now }
+    requires reach { unsigned_abs reach < 2 ^ 64 }
+    requires some { 0 < length firsts.old }
+    requires rows { AreWideRows top.now (length firsts.old) }
+    requires ends { length ends.old ≡ length firsts.old }
+    ensures { AreRuns firsts.new ends.new top.now
+        (λ s. IsWithinReach (cross (way from.now to.now) (seen_from from.now s)) reach) }
+{
+    match HalfPlane::line(from, to, &top.leftmost()).strip(reach, firsts.len()) {
+        Some((low, high, steps)) => count_both(low, high, &steps, top.count, firsts, ends),
+        None => long_runs_beside(from, to, reach, top, firsts, ends),
+    }
+}
+
+/// The same, where a side of the strip may not fit 64 bits.
+fn long_runs_beside(
+    from: &Point,
+    to: &Point,
+    reach: i128,
+    top: &Centres,
+    firsts: &mut [u32],
+    ends: &mut [u32],
+)
+    requires from { IsOnBoard from.now }
+    requires to { IsOnBoard to.now }
+    requires reach { unsigned_abs reach < 2 ^ 64 }
+    requires some { 0 < length firsts.old }
+    requires rows { AreWideRows top.now (length firsts.old) }
+    requires ends { length ends.old ≡ length firsts.old }
+    ensures { AreRuns firsts.new ends.new top.now
+        (λ s. IsWithinReach (cross (way from.now to.now) (seen_from from.now s)) reach) }
+{
+    firsts.fill(0);
+    ends.fill(top.count);
+    let left = top.leftmost();
+    HalfPlane::left(from, to, reach, &left).narrow(top.count, firsts, ends);
+    HalfPlane::left(to, from, reach, &left).narrow(top.count, firsts, ends);
+}
+
+impl HalfPlane {
+    /// Where its numbers are at most `reach` from 0 in the top row, and how that moves from each row to the next: from
+    /// the columns before one crossing to those before another. None where they are level, or may not fit 64 bits.
+    fn strip(&self, reach: i128, rows: usize) -> Option<(Crossing, Crossing, Steps)>
+        requires row { IsShortLinear self.now.row }
+        requires down { unsigned_abs self.now.down < 2 ^ 100 }
+        requires reach { unsigned_abs reach < 2 ^ 64 }
+        ensures { IfSome result (λ r. IsStripIn rows r.0 r.1 r.2 reach self.now) }
+    {
+        if rows > MOST_ROWS {
+            return None;
+        }
+        let falling = self.falling();
+        let steps = Steps::of(falling.down, -falling.row.step)?;
+        let middle = falling.row.first + self.excess();
+        let low = steps.crossing(middle - reach - 1)?;
+        let high = steps.crossing(middle + reach)?;
+        Some((low, high, steps))
+    }
+
+    /// How much more its falling numbers are than what is taken for them: the opposites of numbers that rise are 1 more
+    /// than what they lack.
+    fn excess(&self) -> i128
+        ensures falls { self.now.row.step <ℤ pos 0 → result ≡ pos 0 }
+        ensures rises { pos 0 ≤ℤ self.now.row.step → result ≡ pos 1 }
+        ensures few { unsigned_abs result ≤ 1 }
+    {
+        if self.row.step < 0 { 0 } else { 1 }
+    }
+}
