@@ -57,6 +57,7 @@ impl<'a> ItemBoxes<'a> {
     }
 
     /// The box of the item at a place of the list, counted from 0: that of `Layer::item_bounds`. Takes no memory.
+    #[inline]
     pub fn read(&mut self, place: usize) -> Bounds
         requires { place < length self.old.items.items }
         ensures value { (item : Item) → slice_get self.old.items.items place ≡ Some item
