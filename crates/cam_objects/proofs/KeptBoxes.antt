@@ -1,5 +1,5 @@
 -- the cells that items reach, read and followed
-use Rattle.std.proofs.Common.{◌≡◌, ℕ, ◌+◌, ◌-◌, ◌<◌, ◌≤◌, ◌⊎◌, ℤ, ◌≤ℤ◌, inl, inr, List, [], ◌∷◌, ◌++◌, length, map, get_or}
+use Rattle.std.proofs.Common.{◌≡◌, ℕ, ◌+◌, ◌-◌, ◌<◌, ◌≤◌, ℤ, ◌≤ℤ◌, inl, inr, List, [], ◌∷◌, length, map, get_or}
 use Rattle.std.proofs.Common.{slice_get, slice_set, take, insert, remove, Some, sym, ap, subst, ◌∙◌, arith}
 use Rattle.std.proofs.lemmas.Bool.{cases_eq, cases_lt}
 use Rattle.std.proofs.lemmas.Int.{ints}
@@ -7,12 +7,16 @@ use Rattle.std.proofs.lemmas.List.{get_or-map, get_or-set_same, get_or-set_other
 use Rattle.std.proofs.lemmas.List.{length-set, length-take}
 use Rattle.std.proofs.lemmas.List.Edits.{get_or-insert_above, get_or-insert_at, get_or-insert_below, get_or-remove_above}
 use Rattle.std.proofs.lemmas.List.Edits.{get_or-remove_below, length-insert, length-remove}
-use Rattle.std.proofs.lemmas.Option.{slice_get-get_or}
+use Rattle.std.proofs.lemmas.Option.{get_or_from_slice_get, slice_get-get_or}
 use Rattle.cam_units.specs.Boxes.{HaveCommonPlace}
 use Rattle.cam_units.specs.declared.bounds.Bounds.{Bounds}
 use Rattle.cam_units.specs.declared.bounds.Bounds.TheVariants.{Empty, Closed}
 use Rattle.cam_objects.specs.declared.cells.reach.Reach.{Reach}
+use Rattle.cam_objects.specs.declared.item.Item.{Item}
+use Rattle.cam_objects.specs.declared.layer.Layer.{Layer}
 use Rattle.cam_objects.specs.declared.cells.sides.Sides.{Sides}
+use Rattle.cam_objects.specs.Bounds.{bounds_of}
+use Rattle.cam_objects.specs.Leaves.{item_leaves, meaning_in}
 use Rattle.cam_objects.specs.Cells.{AreBeside, AreCellsOf, IsCell, IsReachOf, IsSide, Reaches, bottom_of, box_at, left_of, right_of, top_of}
 use Rattle.cam_objects.specs.Machinery.Sides.{AreSidesOf, HasSides, MeetsAt}
 
@@ -22,6 +26,27 @@ pub read_box_at : {X : Type 0} (box : X → Bounds) (items : List X) (k : ℕ) (
 read_box_at box [] k b h told = absurd (omega arith)
 read_box_at box (x ∷ xs) k b h told =
     told (get_or (x ∷ xs) k x) (slice_get-get_or (x ∷ xs) k x h) ∙ sym (get_or-map box (x ∷ xs) k x Empty h)
+
+-- the cells that are read of it are those that the box of the list reaches
+pub reach_box_at : {X : Type 0} (box : X → Bounds) (items : List X) (k : ℕ) (r : Reach) → k < length items
+    → ((item : X) → slice_get items k ≡ Some item → IsReachOf (box item) r) → IsReachOf (box_at (map box items) k) r
+reach_box_at box [] k r h told = absurd (omega arith)
+reach_box_at box (x ∷ xs) k r h told =
+    subst (λ (b : Bounds). IsReachOf b r) (sym (get_or-map box (x ∷ xs) k x Empty h))
+    (told (get_or (x ∷ xs) k x) (slice_get-get_or (x ∷ xs) k x h))
+
+-- the item read is that of the layer shown
+pub read_box : (layer shown : Layer) (place : ℕ) (x item : Item) (b : Bounds) → layer ≡ shown
+    → x ≡ get_or layer.items.items place x → slice_get shown.items.items place ≡ Some item
+    → b ≡ bounds_of (item_leaves (meaning_in layer.apertures) x)
+    → b ≡ bounds_of (item_leaves (meaning_in shown.apertures) item)
+read_box layer shown place x item b is here at box =
+    box
+    ∙ ap (λ (l : Layer). bounds_of (item_leaves (meaning_in l.apertures) x)) is
+    ∙ ap (λ (y : Item). bounds_of (item_leaves (meaning_in shown.apertures) y))
+    (here
+    ∙ ap (λ (l : Layer). get_or l.items.items place x) is
+    ∙ get_or_from_slice_get shown.items.items place item x at)
 
 -- ---- cells
 

@@ -1,12 +1,13 @@
 //! How far flashes and strokes of an aperture reach.
 
-ghost use Rattle.std.specs.Prelude.{◌≡◌, Some};
+ghost use Rattle.std.specs.Prelude.{◌≡◌, Bool, Some};
 ghost use Rattle.cam_units.specs.Board.{IsOnBoard};
 ghost use Rattle.cam_objects.specs.Bounds.{bounds_of};
 ghost use Rattle.cam_objects.specs.Leaves.{arc_leaves, draw_leaves, meaning_in, object_leaves, origin};
 ghost use Rattle.cam_objects.specs.Machinery.Extents.{IsExtentIn};
 ghost use Rattle.cam_objects.specs.Machinery.Painting.{StandsOnBoard};
 ghost use Rattle.cam_objects.specs.Soundness.{IsSoundDictionary};
+ghost use Rattle.cam_objects.specs.declared.object.Object.TheVariants.{Flash};
 
 use crate::boxes::shapes::{contour_bounds, drawn_bounds, sweep_bounds};
 use crate::dictionary::Dictionary;
@@ -14,7 +15,7 @@ use crate::object::Object;
 use crate::placing::place::Place;
 use crate::tip::{Tip, round_width};
 use cam_shapes::Arc;
-use cam_units::{Bounds, Point};
+use cam_units::{Bounds, Point, Turn};
 
 /// What the boxes of objects need of a number: the box of what one flash of it paints at (0, 0), neither mirrored nor
 /// turned, in half nm, and what its strokes are drawn with.
@@ -58,6 +59,15 @@ impl Extent {
         }
     }
 
+    /// Makes it that of a number, which is looked up.
+    #[inline(never)]
+    fn look_up(&mut self, entries: &Dictionary, number: u32)
+        ensures extent { IsExtentIn entries.now self.new }
+        ensures number { self.new.number ≡ number }
+    {
+        *self = Extent::of(entries, number);
+    }
+
     /// Makes it that of a number, which is looked up only where it is another one.
     #[inline]
     fn go_to(&mut self, entries: &Dictionary, number: u32)
@@ -66,12 +76,35 @@ impl Extent {
         ensures number { self.new.number ≡ number }
     {
         if self.number != number {
-            *self = Extent::of(entries, number);
+            self.look_up(entries, number);
         }
     }
 
-    /// The box of what an object paints. It becomes the extent of the aperture that the object names.
+    /// The box of what a flash paints. It becomes the extent of the aperture that is flashed.
     #[inline]
+    pub(crate) fn flash_bounds(
+        &mut self,
+        entries: &Dictionary,
+        aperture: u32,
+        at: Point,
+        turn: Turn,
+    ) -> Bounds
+        requires extent { IsExtentIn entries.now self.old }
+        requires at { IsOnBoard at }
+        ensures value { (dark : Bool)
+            → result ≡ bounds_of (object_leaves (meaning_in entries.now) origin (Flash aperture at turn dark)) }
+        ensures extent { IsExtentIn entries.now self.new }
+    {
+        self.go_to(entries, aperture);
+        let place = Place {
+            turn,
+            offset: at,
+            dark: true,
+        };
+        place.bounds(self.bounds)
+    }
+
+    /// The box of what an object paints. It becomes the extent of the aperture that the object names.
     pub(crate) fn object_bounds(&mut self, entries: &Dictionary, object: &Object) -> Bounds
         requires extent { IsExtentIn entries.now self.old }
         requires sound { IsSoundDictionary entries.now }
@@ -85,15 +118,7 @@ impl Extent {
                 at,
                 turn,
                 ..
-            } => {
-                self.go_to(entries, *aperture);
-                let place = Place {
-                    turn: *turn,
-                    offset: *at,
-                    dark: true,
-                };
-                place.bounds(self.bounds)
-            }
+            } => self.flash_bounds(entries, *aperture, *at, *turn),
             Object::Draw {
                 aperture,
                 from,

@@ -2,13 +2,16 @@
 
 ghost use Rattle.std.specs.Prelude.{◌≡◌, ◌<◌, Some, length, slice_get};
 ghost use Rattle.cam_objects.specs.Bounds.{bounds_of};
+ghost use Rattle.cam_objects.specs.Cells.{IsReachOf};
 ghost use Rattle.cam_objects.specs.Leaves.{item_leaves, meaning_in};
 ghost use Rattle.cam_objects.specs.Soundness.{HasSoundItems};
 ghost use Rattle.cam_objects.specs.declared.item.Item.{Item};
 
 use crate::boxes::extent::Extent;
+use crate::cells::reach::Reach;
 use crate::item::Item;
 use crate::layer::Layer;
+use crate::object::Object;
 use cam_units::Bounds;
 use std::marker::Model;
 
@@ -67,5 +70,42 @@ impl<'a> ItemBoxes<'a> {
             Item::One(object) => self.last.object_bounds(&layer.apertures, object),
             Item::Repeat { .. } => layer.bounds_of(item),
         }
+    }
+
+    /// The cells that it reaches, of an item that is no flash.
+    #[inline(never)]
+    fn other_reach(&mut self, place: usize) -> Reach
+        requires { place < length self.old.items.items }
+        ensures value { (item : Item) → slice_get self.old.items.items place ≡ Some item
+            → IsReachOf (bounds_of (item_leaves (meaning_in self.old.apertures) item)) result }
+        ensures layer { self.new ≡ self.old }
+    {
+        Reach::of(self.read(place))
+    }
+
+    /// The cells that the box of the item at a place of the list reaches. Takes no memory.
+    // A flash has a way of its own: of most items that are read one after another nothing is written but the cells.
+    #[inline]
+    pub(crate) fn reach(&mut self, place: usize) -> Reach
+        requires { place < length self.old.items.items }
+        ensures value { (item : Item) → slice_get self.old.items.items place ≡ Some item
+            → IsReachOf (bounds_of (item_leaves (meaning_in self.old.apertures) item)) result }
+        ensures layer { self.new ≡ self.old }
+    {
+        let layer = self.layer;
+        if let Item::One(object) = &layer.items[place]
+            && let Object::Flash {
+                aperture,
+                at,
+                turn,
+                ..
+            } = object
+        {
+            return Reach::of(
+                self.last
+                    .flash_bounds(&layer.apertures, *aperture, *at, *turn),
+            );
+        }
+        self.other_reach(place)
     }
 }

@@ -2,9 +2,10 @@
 
 ghost use Rattle.std.specs.Prelude.{◌≡◌, ◌<◌, List, length};
 ghost use Rattle.cam_units.specs.declared.bounds.Bounds.{Bounds};
-ghost use Rattle.cam_objects.specs.Cells.{box_at, drill_item_boxes, item_boxes};
+ghost use Rattle.cam_objects.specs.Cells.{IsReachOf, box_at, drill_item_boxes, item_boxes};
 
 use crate::boxes::item_boxes::ItemBoxes;
+use crate::cells::reach::Reach;
 use crate::drill::item_boxes::DrillItemBoxes;
 use cam_units::Bounds;
 
@@ -22,6 +23,12 @@ pub trait BoxedItems {
         requires { place < length (boxes self.old) }
         ensures value { result ≡ box_at (boxes self.old) place }
         ensures list { boxes self.new ≡ boxes self.old };
+
+    /// The cells that it reaches.
+    fn reach_at(&mut self, place: usize) -> Reach
+        requires { place < length (boxes self.old) }
+        ensures value { IsReachOf (box_at (boxes self.old) place) result }
+        ensures list { boxes self.new ≡ boxes self.old };
 }
 
 impl<'a> BoxedItems for ItemBoxes<'a> {
@@ -31,9 +38,13 @@ impl<'a> BoxedItems for ItemBoxes<'a> {
         self.len()
     }
 
-    #[inline]
     fn box_at(&mut self, place: usize) -> Bounds {
         self.read(place)
+    }
+
+    #[inline]
+    fn reach_at(&mut self, place: usize) -> Reach {
+        self.reach(place)
     }
 }
 
@@ -47,5 +58,10 @@ impl<'a> BoxedItems for DrillItemBoxes<'a> {
     #[inline]
     fn box_at(&mut self, place: usize) -> Bounds {
         self.read(place)
+    }
+
+    #[inline]
+    fn reach_at(&mut self, place: usize) -> Reach {
+        Reach::of(self.read(place))
     }
 }

@@ -58,7 +58,7 @@ fn read_all<B: BoxedItems>(
     ensures list { B.boxes items.new ≡ B.boxes items.old }
 {
     for place in 0..items.count() {
-        let reach = Reach::of(items.box_at(place));
+        let reach = items.reach_at(place);
         left[place] = reach.left;
         bottom[place] = reach.bottom;
         right[place] = reach.right;
@@ -127,7 +127,7 @@ impl ItemCells {
             → B.boxes items.old ≡ insert before place b → AreCellsOf (B.boxes items.old) self.new }
         ensures list { B.boxes items.new ≡ B.boxes items.old }
     {
-        let reach = Reach::of(items.box_at(place));
+        let reach = items.reach_at(place);
         self.left.insert(place, reach.left);
         self.bottom.insert(place, reach.bottom);
         self.right.insert(place, reach.right);
@@ -154,7 +154,7 @@ impl ItemCells {
             → AreCellsOf (slice_set before place (box_at (B.boxes items.old) place)) self.new }
         ensures list { B.boxes items.new ≡ B.boxes items.old }
     {
-        let reach = Reach::of(items.box_at(place));
+        let reach = items.reach_at(place);
         self.left.set(place, reach.left);
         self.bottom.set(place, reach.bottom);
         self.right.set(place, reach.right);

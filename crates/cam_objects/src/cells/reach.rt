@@ -13,7 +13,7 @@ const TO_ORIGIN: i64 = 2_147_483_648;
 /// The cells that a box reaches, from the left to the right column and from the bottom to the top row: 65,536 columns
 /// and rows of cells of 65,536 half nm lie about the origin, and what lies outside is in those at the edge.
 #[derive(Clone, Copy)]
-pub(crate) struct Reach {
+pub struct Reach {
     pub left: u16,
     pub bottom: u16,
     pub right: u16,

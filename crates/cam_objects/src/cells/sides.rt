@@ -17,6 +17,9 @@ pub(crate) struct Sides<'a> {
 /// How many items are tested at once.
 const CHUNK_SIZE: usize = 64;
 
+/// About how many items of a long list are tested to tell how many are far.
+const SAMPLES: usize = 1_024;
+
 impl<'a> Sides<'a> {
     /// How many items have all four.
     fn len(self) -> usize
@@ -90,15 +93,19 @@ impl<'a> Sides<'a> {
         self.first_meeting(place + chunks * CHUNK_SIZE, count, reach)
     }
 
-    /// About how many items reach none of these cells, by one of each 64.
+    /// About how many items reach none of these cells: by one of each 64, and of a long list by fewer.
     pub(crate) fn far_count(self, reach: Reach) -> usize
         ensures { HasSides self.entry result }
     {
+        let count = self.len();
+        let step = (count / SAMPLES).max(CHUNK_SIZE);
+        let mut place = 0;
         let mut far = 0;
-        for chunk in 0..self.len() / CHUNK_SIZE {
-            if !self.meets(chunk * CHUNK_SIZE, reach) {
-                far += CHUNK_SIZE;
+        while count - place >= step {
+            if !self.meets(place, reach) {
+                far += step;
             }
+            place += step;
         }
         far
     }

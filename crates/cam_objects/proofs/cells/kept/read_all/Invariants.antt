@@ -1,4 +1,4 @@
-use Rattle.std.proofs.Common.{◌≡◌, length}
+use Rattle.std.proofs.Common.{◌≡◌}
 use Rattle.cam_units.specs.declared.bounds.Bounds.TheVariants.{Empty}
 use Rattle.cam_objects.specs.Cells.{IsSide, bottom_of, left_of, right_of, top_of}
 use Rattle.cam_objects.proofs.KeptBoxes.{AreBesideBelow}

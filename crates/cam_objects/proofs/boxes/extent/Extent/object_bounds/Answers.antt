@@ -4,12 +4,12 @@ use Rattle.cam_objects.specs.declared.tip.Tip.{Tip}
 use Rattle.cam_objects.specs.Bounds.{bounds_of, box_of_shape}
 use Rattle.cam_objects.specs.Leaves.{drawn, meaning_in, object_leaves, origin}
 use Rattle.cam_objects.specs.Machinery.Painting.{StandsOnBoard}
-use Rattle.cam_objects.proofs.Extents.{bounded_arc, bounded_draw, bounded_flash, bounded_region, sized, wide}
+use Rattle.cam_objects.proofs.Extents.{bounded_arc, bounded_draw, bounded_region, sized, wide}
 use Rattle.cam_objects.proofs.boxes.extent.Extent.object_bounds.Goals as goal
 
 pub turned-requires : goal.turned-requires
 turned-requires c =
-    let go = c.go_to-in-Draw in
+    let go = c.go_to in
     sized c.args.entries.now go.new.self go.ensures.extent c.in-Draw.aperture go.ensures.number c.requires.sound
     c.in-Some.tip c.in-Some.is
 
@@ -37,15 +37,13 @@ contour_bounds-requires c = rw c.in-Region.is at c.requires.stands
 pub returns-in-Flash-clause-value : goal.returns-in-Flash-clause-value
 returns-in-Flash-clause-value c =
     let es = c.args.entries.now in
-    let here = c.in-Flash in
-    bounded_flash es c.go_to.new.self c.go_to.ensures.extent here.aperture c.go_to.ensures.number here.at here.turn
-    here.dark c.bounds.result c.bounds.ensures
-    ∙ ap (λ (o : Object). bounds_of (object_leaves (meaning_in es) origin o)) (sym here.is)
+    c.flash_bounds.ensures.value c.in-Flash.dark
+    ∙ ap (λ (o : Object). bounds_of (object_leaves (meaning_in es) origin o)) (sym c.in-Flash.is)
 
 pub returns-in-Some-clause-value : goal.returns-in-Some-clause-value
 returns-in-Some-clause-value c =
     let es = c.args.entries.now in
-    let go = c.go_to-in-Draw in
+    let go = c.go_to in
     let here = c.in-Draw in
     bounded_draw es go.new.self go.ensures.extent here.aperture go.ensures.number here.from here.to here.turn here.dark
     c.in-Some.tip c.drawn_bounds.result c.in-Some.is

@@ -1,6 +1,4 @@
-use Rattle.std.proofs.Common.{◌≡◌, ℕ, ◌<◌, length, get_or, slice_get, Some, ap, sym, subst, ◌∙◌, arith}
-use Rattle.std.proofs.lemmas.Option.{get_or_from_slice_get}
-use Rattle.cam_units.specs.declared.bounds.Bounds.{Bounds}
+use Rattle.std.proofs.Common.{◌<◌, length, ap, sym, subst, ◌∙◌, arith}
 use Rattle.cam_objects.specs.declared.item.Item.{Item}
 use Rattle.cam_objects.specs.declared.item.Item.TheVariants.{One}
 use Rattle.cam_objects.specs.declared.item_fault.ItemFault.TheVariants.{OutOfBoard}
@@ -8,6 +6,7 @@ use Rattle.cam_objects.specs.declared.layer.Layer.{Layer}
 use Rattle.cam_objects.specs.Bounds.{bounds_of}
 use Rattle.cam_objects.specs.Leaves.{item_leaves, meaning_in}
 use Rattle.cam_objects.specs.Soundness.{IsInside, IsSoundItem}
+use Rattle.cam_objects.proofs.KeptBoxes.{read_box}
 use Rattle.cam_objects.proofs.boxes.item_boxes.ItemBoxes.read.Goals as goal
 
 pub object_bounds-requires-clause-stands : goal.object_bounds-requires-clause-stands
@@ -21,19 +20,6 @@ object_bounds-requires-clause-stands c =
     subst (IsSoundItem es) (sym c.index-item.ensures ∙ c.in-One.is) listed in
     let inside : IsInside es (One c.in-One.object) = sound OutOfBoard in
     inside.points 0 c.in-One.object (omega arith)
-
--- the item read is that of the layer shown
-read_box : (layer shown : Layer) (place : ℕ) (x item : Item) (b : Bounds) → layer ≡ shown
-    → x ≡ get_or layer.items.items place x → slice_get shown.items.items place ≡ Some item
-    → b ≡ bounds_of (item_leaves (meaning_in layer.apertures) x)
-    → b ≡ bounds_of (item_leaves (meaning_in shown.apertures) item)
-read_box layer shown place x item b is here at box =
-    box
-    ∙ ap (λ (l : Layer). bounds_of (item_leaves (meaning_in l.apertures) x)) is
-    ∙ ap (λ (y : Item). bounds_of (item_leaves (meaning_in shown.apertures) y))
-    (here
-    ∙ ap (λ (l : Layer). get_or l.items.items place x) is
-    ∙ get_or_from_slice_get shown.items.items place item x at)
 
 pub returns-in-One-clause-value : goal.returns-in-One-clause-value
 returns-in-One-clause-value c = λ item at.

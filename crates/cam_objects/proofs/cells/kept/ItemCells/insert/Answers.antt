@@ -10,11 +10,10 @@ pub returns-clause-cells : goal.returns-clause-cells
 returns-clause-cells g c = λ before b kept within is.
     let place = c.args.place in
     let old = c.self.inside in
-    let r = c.of-reach.result in
-    let read : c.box_at.result ≡ b =
-    c.box_at.ensures.value ∙ ap (λ (those : List Bounds). box_at those place) is
-    ∙ get_or-insert_at before place b Empty within in
-    let reach = subst (λ (x : Bounds). IsReachOf x r) read c.of-reach.ensures in
+    let r = c.reach_at-reach.result in
+    let read : box_at (g.B.BoxedItems.boxes c.args.items.now) place ≡ b =
+    ap (λ (those : List Bounds). box_at those place) is ∙ get_or-insert_at before place b Empty within in
+    let reach = subst (λ (x : Bounds). IsReachOf x r) read c.reach_at-reach.ensures.value in
     let known = subst (AreCellsOf before) (sym c.self.view_is) kept in
     let new : Reaches =
     record { left = c.insert.new.self; bottom = c.insert-2.new.self; right = c.insert-3.new.self; top = c.insert-4.new.self } in
