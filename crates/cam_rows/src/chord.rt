@@ -87,7 +87,8 @@ impl Chord {
         requires chord { IsChord self.old }
         ensures chord { IsChord self.new }
         ensures same { self.new.offsets ≡ self.old.offsets }
-        ensures each { (i : ℕ) → i < self.old.offsets.count → IsInRun result.first result.end i ↔ (IsInRun run.first run.end i
+        ensures each { (i : ℕ) → i < self.old.offsets.count → IsInRun result.first result.end i
+            ↔ (IsInRun run.first run.end i
             × (square (offset self.old.offsets.first self.old.offsets.step i) <ℤ pos room)) }
         ensures within { result.end ≤ run.end }
     {
