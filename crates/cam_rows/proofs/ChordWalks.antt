@@ -7,7 +7,7 @@ use Rattle.std.proofs.lemmas.Int.{ints}
 use Rattle.cam_shapes.specs.Plane.{square}
 use Rattle.cam_shapes.proofs.Widths.{square_is}
 use Rattle.cam_rows.specs.declared.chord.Chord.{Chord}
-use Rattle.cam_rows.specs.declared.chord.side.Side.{Side}
+use Rattle.cam_rows.specs.declared.chord.side.ChordSide.{ChordSide}
 use Rattle.cam_rows.specs.Machinery.Chords.{HasReached, IsBeyond, IsChord, IsInChord, IsSameSide, IsSide, distance_at}
 use Rattle.cam_rows.specs.Machinery.Chords.{place_of}
 use Rattle.cam_rows.specs.Runs.{IsInRun}
@@ -29,7 +29,7 @@ on_side inside j distance room x is near beyond =
     )
 
 -- the columns of the run are those in the chord
-pub in_walk : (c : Chord) (l r : Side) (to_left to_right i : ℕ) → IsChord c → IsSameSide c.left l
+pub in_walk : (c : Chord) (l r : ChordSide) (to_left to_right i : ℕ) → IsChord c → IsSameSide c.left l
     → IsSameSide c.right r → HasReached l l.room → HasReached r r.room → l.room ≡ to_left → r.room ≡ to_right
     → IsSide l → IsSide r → i < c.offsets.count
     → IsInRun (c.left.columns - l.inside) (c.left.columns + r.inside) i ↔ IsInChord (place_of c i) to_left to_right
@@ -70,7 +70,7 @@ in_walk c l r to_left to_right i chord left right left_reached right_reached is_
     ]
 
 -- and its sides are those of a chord again
-pub walked : (c : Chord) (l r : Side) → IsChord c → IsSameSide c.left l → IsSameSide c.right r → HasReached l l.room
+pub walked : (c : Chord) (l r : ChordSide) → IsChord c → IsSameSide c.left l → IsSameSide c.right r → HasReached l l.room
     → HasReached r r.room → IsSide l → IsSide r → IsChord (record { offsets = c.offsets; left = l; right = r })
 walked c l r chord left right left_reached right_reached left_side right_side = record {
   few = chord.few;

@@ -6,7 +6,7 @@ use Rattle.std.proofs.lemmas.Bool.{cases_eq}
 use Rattle.std.proofs.lemmas.Int.{by_lt_z, ints}
 use Rattle.cam_units.specs.declared.point.Point.{Point}
 use Rattle.cam_rows.specs.declared.centres.Centres.{Centres}
-use Rattle.cam_rows.specs.declared.chord.side.Side.{Side}
+use Rattle.cam_rows.specs.declared.chord.side.ChordSide.{ChordSide}
 use Rattle.cam_rows.specs.declared.offsets.Offsets.{Offsets}
 use Rattle.cam_rows.specs.Machinery.Chords.{AreNearby, AreOffsetsFrom, HasReached, IsChord, IsSide, offset}
 use Rattle.cam_rows.specs.Rows.{centre_at}
@@ -122,7 +122,7 @@ module _ (row : Centres) (p : Point) (o : Offsets) (m pitch left right : ℕ) (x
 
   module _ (is_left_start : 0 < m → pos left ≡ o.step -ℤ place_at o m) (is_right_start : m < row.count → pos right ≡ place_at o m)
     where
-      pub chord_of : (s t : Side) → IsSide s → IsSide t → HasReached s s.room → HasReached t t.room
+      pub chord_of : (s t : ChordSide) → IsSide s → IsSide t → HasReached s s.room → HasReached t t.room
           → s.start ≡ left → t.start ≡ right → s.step ≡ pitch → t.step ≡ pitch → s.columns ≡ m
           → t.columns ≡ o.count - m → IsChord (record { offsets = o; left = s; right = t })
       chord_of s t s_side t_side s_reached t_reached s_start t_start s_step t_step s_columns t_columns = record {

@@ -1,7 +1,7 @@
 -- The columns on one side of a circle's middle, counted outwards.
 use Rattle.std.proofs.Common.{◌≡◌, ℕ, ◌+◌, ◌-◌, ◌*◌, ◌^◌, ◌<◌, ◌≤◌, Fits, w64, arith}
 use Rattle.std.proofs.lemmas.Nat.{mul-le, mul-lt}
-use Rattle.cam_rows.specs.declared.chord.side.Side.{Side}
+use Rattle.cam_rows.specs.declared.chord.side.ChordSide.{ChordSide}
 use Rattle.cam_rows.specs.Machinery.Chords.{AreBeyond, AreNear, HasReached, IsBeyond, IsSide, distance_at}
 
 -- the square of a distance fits
@@ -17,20 +17,20 @@ beyond_on start step room i j order beyond =
     omega (arith, beyond, mul-le near near far far farther farther)
 
 -- the column before the next one
-pub last_is : (s : Side) (last : ℕ) → IsSide s → 0 < s.inside → last ≡ s.next - s.step
+pub last_is : (s : ChordSide) (last : ℕ) → IsSide s → 0 < s.inside → last ≡ s.next - s.step
     → last ≡ distance_at s (s.inside - 1)
 last_is s last side some is =
     let inside : s.inside ≡ (s.inside - 1) + 1 = omega arith in
     let next : s.next ≡ distance_at s ((s.inside - 1) + 1) = rw inside at side.next in
     omega (arith, next, is)
 
-pub last_short : (s : Side) → IsSide s → 0 < s.inside → s.next - s.step < 2 ^ 32
+pub last_short : (s : ChordSide) → IsSide s → 0 < s.inside → s.next - s.step < 2 ^ 32
 last_short s side some =
     let within = side.within in
     omega (arith, last_is s (s.next - s.step) side some (omega arith), side.near (s.inside - 1) (omega arith))
 
 -- where a walk outwards ends
-pub reached_outwards : (s : Side) (room : ℕ) → IsSide s → AreNear s room
+pub reached_outwards : (s : ChordSide) (room : ℕ) → IsSide s → AreNear s room
     → (s.inside < s.columns → IsBeyond s.next room) → HasReached s room
 reached_outwards s room side near stops = record {
   near = near;
@@ -39,7 +39,7 @@ reached_outwards s room side near stops = record {
 }
 
 -- where a walk inwards ends
-pub reached_inwards : (s : Side) (room : ℕ) → IsSide s → AreBeyond s room
+pub reached_inwards : (s : ChordSide) (room : ℕ) → IsSide s → AreBeyond s room
     → (0 < s.inside → IsBeyond (distance_at s (s.inside - 1)) room → ⊥) → HasReached s room
 reached_inwards s room side beyond stops = record {
   near = λ j before here.
@@ -48,7 +48,7 @@ reached_inwards s room side beyond stops = record {
 }
 
 -- and a step of it
-pub beyond_from : (s : Side) (room : ℕ) → IsSide s → 0 < s.inside
+pub beyond_from : (s : ChordSide) (room : ℕ) → IsSide s → 0 < s.inside
     → IsBeyond (distance_at s (s.inside - 1)) room
     → (j : ℕ) → s.inside - 1 ≤ j → IsBeyond (distance_at s j) room
 beyond_from s room side some last j from = beyond_on s.start s.step room (s.inside - 1) j from last

@@ -13,7 +13,7 @@ use crate::centres::Centres;
 use crate::offsets::Offsets;
 use crate::runs::Run;
 use cam_units::{Point, isqrt};
-use side::Side;
+use side::ChordSide;
 
 /// What the coordinates of places are less than, as they are seen from a point, where 64 bits hold their squares.
 const NEAR: i64 = 1 << 32;
@@ -23,8 +23,8 @@ const NEAR: i64 = 1 << 32;
 #[derive(Clone, Copy)]
 pub(crate) struct Chord {
     offsets: Offsets,
-    left: Side,
-    right: Side,
+    left: ChordSide,
+    right: ChordSide,
 }
 
 impl Chord {
@@ -42,8 +42,8 @@ impl Chord {
         let step = at_least_zero(offsets.step);
         Chord {
             offsets,
-            left: Side::new(at_least_zero(offsets.step - next), step, middle),
-            right: Side::new(at_least_zero(next), step, offsets.count - middle),
+            left: ChordSide::new(at_least_zero(offsets.step - next), step, middle),
+            right: ChordSide::new(at_least_zero(next), step, offsets.count - middle),
         }
     }
 
@@ -87,7 +87,8 @@ impl Chord {
         requires chord { IsChord self.old }
         ensures chord { IsChord self.new }
         ensures same { self.new.offsets ≡ self.old.offsets }
-        ensures each { (i : ℕ) → i < self.old.offsets.count → IsInRun result.first result.end i ↔ (IsInRun run.first run.end i
+        ensures each { (i : ℕ) → i < self.old.offsets.count → IsInRun result.first result.end i
+            ↔ (IsInRun run.first run.end i
             × (square (offset self.old.offsets.first self.old.offsets.step i) <ℤ pos room)) }
         ensures within { result.end ≤ run.end }
     {

@@ -5,7 +5,7 @@ use Rattle.cam_units.specs.declared.point.Point.{Point}
 use Rattle.cam_shapes.specs.Plane.{seen_from, square}
 use Rattle.cam_rows.specs.declared.centres.Centres.{Centres}
 use Rattle.cam_rows.specs.declared.chord.Chord.{Chord}
-use Rattle.cam_rows.specs.declared.chord.side.Side.{Side}
+use Rattle.cam_rows.specs.declared.chord.side.ChordSide.{ChordSide}
 use Rattle.cam_rows.specs.declared.offsets.Offsets.{Offsets}
 use Rattle.cam_rows.specs.Rows.{centre_at, row_below}
 use Rattle.cam_rows.specs.Runs.{most_columns}
@@ -32,7 +32,7 @@ pub record AreOffsetsFrom (row : Centres) (p : Point) (o : Offsets) : Type 0 whe
 -- ---- the columns on one side of a circle's middle, counted outwards
 
 -- how far one lies from the middle
-abbrev pub distance_at : Side → ℕ → ℕ
+abbrev pub distance_at : ChordSide → ℕ → ℕ
 distance_at s j = s.start + j * s.step
 
 -- a distance from the middle is past half a chord, where the square of the half is so
@@ -40,7 +40,7 @@ abbrev pub IsBeyond : ℕ → ℕ → Type 0
 IsBeyond distance room = room ≤ distance * distance
 
 -- the next one after those in the chord is known, and the squares of the distances of all of them fit 64 bits
-pub record IsSide (s : Side) : Type 0 where
+pub record IsSide (s : ChordSide) : Type 0 where
   pub some : 1 ≤ s.step
   pub step : s.step < 2 ^ 32
   pub within : s.inside ≤ s.columns
@@ -48,19 +48,19 @@ pub record IsSide (s : Side) : Type 0 where
   pub near : (j : ℕ) → j < s.columns → distance_at s j < 2 ^ 32
 
 -- those that are taken to be in the chord are
-abbrev pub AreNear : Side → ℕ → Type 0
+abbrev pub AreNear : ChordSide → ℕ → Type 0
 AreNear s room = (j : ℕ) → j < s.inside → IsBeyond (distance_at s j) room → ⊥
 
 -- the others are not
-abbrev pub AreBeyond : Side → ℕ → Type 0
+abbrev pub AreBeyond : ChordSide → ℕ → Type 0
 AreBeyond s room = (j : ℕ) → s.inside ≤ j → j < s.columns → IsBeyond (distance_at s j) room
 
-pub record HasReached (s : Side) (room : ℕ) : Type 0 where
+pub record HasReached (s : ChordSide) (room : ℕ) : Type 0 where
   pub near : AreNear s room
   pub beyond : AreBeyond s room
 
 -- the same columns
-pub record IsSameSide (s t : Side) : Type 0 where
+pub record IsSameSide (s t : ChordSide) : Type 0 where
   pub start : t.start ≡ s.start
   pub step : t.step ≡ s.step
   pub columns : t.columns ≡ s.columns

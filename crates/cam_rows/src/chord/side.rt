@@ -8,7 +8,7 @@ ghost use Rattle.cam_rows.specs.Machinery.Chords.{distance_at};
 /// distance of neighbours, and how many they are. Those that lie in the chord of a row are the first ones of them, up to
 /// the next one; their distances have squares less than `room`.
 #[derive(Clone, Copy)]
-pub(super) struct Side {
+pub(super) struct ChordSide {
     start: u64,
     pub(super) step: u64,
     pub(super) columns: u32,
@@ -17,10 +17,10 @@ pub(super) struct Side {
     room: u64,
 }
 
-impl Side {
+impl ChordSide {
     /// A side none of whose columns is in the chord yet.
     #[inline]
-    pub(super) fn new(start: u64, step: u64, columns: u32) -> Side
+    pub(super) fn new(start: u64, step: u64, columns: u32) -> ChordSide
         requires some { 1 ≤ step }
         requires short { step < 2 ^ 32 }
         requires near { (j : ℕ) → j < columns → start + j * step < 2 ^ 32 }
@@ -30,7 +30,7 @@ impl Side {
         ensures step { result.step ≡ step }
         ensures columns { result.columns ≡ columns }
     {
-        Side {
+        ChordSide {
             start,
             step,
             columns,

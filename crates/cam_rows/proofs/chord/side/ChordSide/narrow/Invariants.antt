@@ -1,5 +1,5 @@
 use Rattle.cam_rows.specs.Machinery.Chords.{AreBeyond, IsSameSide, IsSide}
-use Rattle.cam_rows.proofs.chord.side.Side.narrow.Given as goal
+use Rattle.cam_rows.proofs.chord.side.ChordSide.narrow.Given as goal
 
 abbrev pub invariant-loop-self : goal.invariant-loop-self
 invariant-loop-self l = record {

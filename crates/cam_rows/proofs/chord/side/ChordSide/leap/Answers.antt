@@ -1,6 +1,6 @@
 use Rattle.std.proofs.Common.{◌-◌, arith}
 use Rattle.cam_rows.proofs.Sides.{beyond_on}
-use Rattle.cam_rows.proofs.chord.side.Side.leap.Goals as goal
+use Rattle.cam_rows.proofs.chord.side.ChordSide.leap.Goals as goal
 
 pub narrow-requires-clause-beyond : goal.narrow-requires-clause-beyond
 narrow-requires-clause-beyond c = λ j from _.

@@ -1,8 +1,8 @@
 use Rattle.std.proofs.Common.{arith}
 use Rattle.std.proofs.lemmas.Bool.{false≢true}
 use Rattle.cam_rows.proofs.Sides.{beyond_from, last_is, reached_inwards}
-use Rattle.cam_rows.proofs.chord.side.Side.narrow.Goals as goal
-use Rattle.cam_rows.proofs.chord.side.Side.narrow.Goals.{then-loop-self-test+else-is_last_beyond, else-loop-self-test}
+use Rattle.cam_rows.proofs.chord.side.ChordSide.narrow.Goals as goal
+use Rattle.cam_rows.proofs.chord.side.ChordSide.narrow.Goals.{then-loop-self-test+else-is_last_beyond, else-loop-self-test}
 
 pub loop-self-preserved : goal.loop-self-preserved
 loop-self-preserved c =

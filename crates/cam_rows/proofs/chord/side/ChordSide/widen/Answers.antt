@@ -1,7 +1,7 @@
 use Rattle.std.proofs.Common.{arith}
 use Rattle.cam_rows.proofs.Sides.{reached_outwards}
-use Rattle.cam_rows.proofs.chord.side.Side.widen.Goals as goal
-use Rattle.cam_rows.proofs.chord.side.Side.widen.Goals.{then-loop-self-test+else-self-room, else-loop-self-test}
+use Rattle.cam_rows.proofs.chord.side.ChordSide.widen.Goals as goal
+use Rattle.cam_rows.proofs.chord.side.ChordSide.widen.Goals.{then-loop-self-test+else-self-room, else-loop-self-test}
 
 pub returns-clause-reached : goal.returns-clause-reached
 returns-clause-reached c =

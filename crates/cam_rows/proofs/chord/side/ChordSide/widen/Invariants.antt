@@ -1,6 +1,6 @@
 use Rattle.std.proofs.Common.{◌-◌}
 use Rattle.cam_rows.specs.Machinery.Chords.{AreNear, IsSameSide, IsSide}
-use Rattle.cam_rows.proofs.chord.side.Side.widen.Given as goal
+use Rattle.cam_rows.proofs.chord.side.ChordSide.widen.Given as goal
 
 abbrev pub invariant-loop-self : goal.invariant-loop-self
 invariant-loop-self l = record {
