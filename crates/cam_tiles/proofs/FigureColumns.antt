@@ -93,17 +93,7 @@ disc_law p q w is t =
 pub straight_law : (c : Capsule) (t : Spot)
     → IsInCapsule t c
     ↔ (((IsInBar t (bar_of c) × (⊥ → ⊥) × (⊥ → ⊥)) ⊎ IsInDisc t (start_of c)) ⊎ IsInDisc t (end_of c))
-straight_law c t =
-    let whole = in_capsule t c in (
-      (λ held. elim (whole.0 held) [
-        | inl before ↦ inl (elim before [ inl on ↦ inl (on, (λ x. x), (λ x. x)) | inr on ↦ inr on ])
-        | inr on ↦ inr on
-      ]),
-      (λ part. whole.1 (elim part [
-        | inl before ↦ inl (elim before [ inl on ↦ inl on.0 | inr on ↦ inr on ])
-        | inr on ↦ inr on
-      ])),
-    )
+straight_law c t = let whole = in_capsule t c in grind (arith, whole)
 
 -- what is outside of a hole
 pub pierced_law : (P H : Type 0) → (P × (H → ⊥)) ↔ (((P × (H → ⊥) × (⊥ → ⊥)) ⊎ ⊥) ⊎ ⊥)

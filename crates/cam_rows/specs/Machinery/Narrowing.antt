@@ -1,11 +1,10 @@
 -- Runs of rows, narrowed to the columns that something holds.
-use Rattle.std.specs.Prelude.{◌≡◌, ◌↔◌, ℕ, ◌<◌, ◌≤◌, List, length, slice_index, pos, ◌≤ℤ◌, ◌<ℤ◌}
+use Rattle.std.specs.Prelude.{◌≡◌, ◌↔◌, ℕ, ◌<◌, ◌≤◌, List, slice_index, pos, ◌≤ℤ◌, ◌<ℤ◌}
 use Rattle.cam_units.specs.declared.point.Point.{Point}
 use Rattle.cam_units.specs.declared.point.Spot.{Spot}
 use Rattle.cam_shapes.specs.Plane.{dot, seen_from}
 use Rattle.cam_rows.specs.declared.centres.Centres.{Centres}
 use Rattle.cam_rows.specs.Machinery.Slopes.{Sloped, lowered, number_on}
-use Rattle.cam_rows.specs.Rows.{centre_at, row_below}
 use Rattle.cam_rows.specs.Runs.{IsInRun}
 
 -- the leftmost centre of a row alone
