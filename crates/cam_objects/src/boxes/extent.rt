@@ -7,7 +7,7 @@ ghost use Rattle.cam_objects.specs.Leaves.{arc_leaves, draw_leaves, meaning_in, 
 ghost use Rattle.cam_objects.specs.Machinery.Extents.{IsExtentIn};
 ghost use Rattle.cam_objects.specs.Machinery.Painting.{StandsOnBoard};
 ghost use Rattle.cam_objects.specs.Soundness.{IsSoundDictionary};
-ghost use Rattle.cam_objects.specs.declared.object.Object.TheVariants.{Flash};
+ghost use Rattle.cam_objects.specs.declared.object.Object.TheVariants.{Draw, Flash};
 
 use crate::boxes::shapes::{contour_bounds, drawn_bounds, sweep_bounds};
 use crate::dictionary::Dictionary;
@@ -104,6 +104,31 @@ impl Extent {
         place.bounds(self.bounds)
     }
 
+    /// The box of what a draw paints. It becomes the extent of the aperture that it is drawn with.
+    #[inline]
+    pub(crate) fn draw_bounds(
+        &mut self,
+        entries: &Dictionary,
+        aperture: u32,
+        from: &Point,
+        to: &Point,
+        turn: Turn,
+    ) -> Bounds
+        requires extent { IsExtentIn entries.now self.old }
+        requires sound { IsSoundDictionary entries.now }
+        requires from { IsOnBoard from.now }
+        requires to { IsOnBoard to.now }
+        ensures value { (dark : Bool) → result
+            ≡ bounds_of (object_leaves (meaning_in entries.now) origin (Draw aperture from.now to.now turn dark)) }
+        ensures extent { IsExtentIn entries.now self.new }
+    {
+        self.go_to(entries, aperture);
+        match self.tip {
+            Some(tip) => drawn_bounds(from, to, &tip.turned(turn)),
+            None => Bounds::Empty,
+        }
+    }
+
     /// The box of what an object paints. It becomes the extent of the aperture that the object names.
     pub(crate) fn object_bounds(&mut self, entries: &Dictionary, object: &Object) -> Bounds
         requires extent { IsExtentIn entries.now self.old }
@@ -125,13 +150,7 @@ impl Extent {
                 to,
                 turn,
                 ..
-            } => {
-                self.go_to(entries, *aperture);
-                match self.tip {
-                    Some(tip) => drawn_bounds(from, to, &tip.turned(*turn)),
-                    None => Bounds::Empty,
-                }
-            }
+            } => self.draw_bounds(entries, *aperture, from, to, *turn),
             Object::Arc {
                 aperture,
                 from,

@@ -72,7 +72,7 @@ impl<'a> ItemBoxes<'a> {
         }
     }
 
-    /// The cells that it reaches, of an item that is no flash.
+    /// The cells that it reaches, of an item that is no flash and no draw.
     #[inline(never)]
     fn other_reach(&mut self, place: usize) -> Reach
         requires { place < length self.old.items.items }
@@ -84,7 +84,7 @@ impl<'a> ItemBoxes<'a> {
     }
 
     /// The cells that the box of the item at a place of the list reaches. Takes no memory.
-    // A flash has a way of its own: of most items that are read one after another nothing is written but the cells.
+    // Flashes and draws have a way of their own: of most items nothing is written to memory but the cells.
     #[inline]
     pub(crate) fn reach(&mut self, place: usize) -> Reach
         requires { place < length self.old.items.items }
@@ -93,18 +93,33 @@ impl<'a> ItemBoxes<'a> {
         ensures layer { self.new ≡ self.old }
     {
         let layer = self.layer;
-        if let Item::One(object) = &layer.items[place]
-            && let Object::Flash {
-                aperture,
-                at,
-                turn,
-                ..
-            } = object
-        {
-            return Reach::of(
-                self.last
-                    .flash_bounds(&layer.apertures, *aperture, *at, *turn),
-            );
+        if let Item::One(object) = &layer.items[place] {
+            match object {
+                Object::Flash {
+                    aperture,
+                    at,
+                    turn,
+                    ..
+                } => {
+                    let bounds = self
+                        .last
+                        .flash_bounds(&layer.apertures, *aperture, *at, *turn);
+                    return Reach::of(bounds);
+                }
+                Object::Draw {
+                    aperture,
+                    from,
+                    to,
+                    turn,
+                    ..
+                } => {
+                    let bounds = self
+                        .last
+                        .draw_bounds(&layer.apertures, *aperture, from, to, *turn);
+                    return Reach::of(bounds);
+                }
+                _ => {}
+            }
         }
         self.other_reach(place)
     }
