@@ -26,12 +26,13 @@ use Rattle.cam_tiles.specs.Machinery.Levels.{levels_of}
 use Rattle.cam_tiles.specs.Machinery.Masks.{joined}
 use Rattle.cam_tiles.specs.Machinery.Runs.{IsWideGrid}
 use Rattle.cam_tiles.specs.Machinery.Turning.{TurnsCentres}
-use Rattle.cam_tiles.specs.Tiles.{IsGrid, centre_in}
+use Rattle.cam_tiles.specs.Tiles.{centre_in}
 use Rattle.cam_tiles.proofs.ChangedParities.{Either, true_or_not, turned_like}
+use Rattle.cam_tiles.proofs.Fields.{columns_far, up_right}
 use Rattle.cam_tiles.proofs.FiledContours.{changed_more}
 use Rattle.cam_tiles.proofs.GridLemmas.{long}
 use Rattle.cam_tiles.proofs.Joined.{set_or_not}
-use Rattle.cam_tiles.proofs.LevelRows.{down_some, down_to}
+use Rattle.cam_tiles.proofs.LevelRows.{down_to}
 use Rattle.cam_tiles.proofs.StepLemmas.{first_x, fits_near, fits_short, long_near, right_is, way_kept, way_right}
 
 -- ---- one centre
@@ -132,13 +133,6 @@ most_kept a b fits fits_too told =
 before_end : (first far last left : ℤ) → far ≤ℤ last → (first +ℤ last) <ℤ left → (first +ℤ far) <ℤ left
 before_end first far last left h k = omega (arith, ints)
 
-after_start : (first far right : ℤ) → pos 0 ≤ℤ far → right ≤ℤ first → right ≤ℤ (first +ℤ far)
-after_start first far right h k = omega (arith, ints)
-
--- how far a column lies right of the first
-column_far : (g : Grid) (column : ℕ) → IsGrid g → pos 0 ≤ℤ (pos column *ℤ g.step)
-column_far g column grid = down_some g.step (unsigned_abs g.step) column (omega (arith, ints, grid.step))
-
 module _ (g : Grid) (columns : ℕ) (wide : IsWideGrid g columns) where
   last_place : IsPlace (centre_in g (columns - 1) 0)
   last_place = wide.centres (columns - 1) 0 (omega (arith, wide.count.0)) wide.grid.rows.0
@@ -180,7 +174,7 @@ module _ (g : Grid) (columns : ℕ) (wide : IsWideGrid g columns) where
         let starts =
         most_kept g.first.x f.right (fits_near g.first.x g.first.x refl (first_x g wide.grid)) fits told in
         filed.right row (centre_in g column row) (below, refl)
-        (after_start g.first.x _ f.right (column_far g column wide.grid) starts)
+        (up_right g.first.x _ f.right (columns_far g column wide.grid.step) starts)
 
 -- ---- filed segments
 

@@ -1,6 +1,7 @@
 -- Rows of columns whose centres are places of the board, or as they are seen from a point of it.
-use Rattle.std.proofs.Common.{◌≡◌, ℕ, ◌+◌, ◌*◌, ◌≤◌, ℤ, pos, ◌-ℤ◌, ◌+ℤ◌, ◌*ℤ◌, List, IsTrue, ◌↔◌, refl}
+use Rattle.std.proofs.Common.{◌≡◌, ℕ, ◌+◌, ◌*◌, ◌≤◌, ℤ, pos, ◌-ℤ◌, ◌+ℤ◌, ◌*ℤ◌, ◌≤ℤ◌, List, IsTrue, ◌↔◌, refl}
 use Rattle.std.proofs.Common.{arith}
+use Rattle.std.specs.Int.RustNames.{unsigned_abs}
 use Rattle.std.proofs.lemmas.Int.{ints}
 use Rattle.cam_apertures.proofs.Painting.{through}
 use Rattle.cam_units.specs.Board.{IsInReach, IsOnBoard, IsPlace}
@@ -17,7 +18,7 @@ use Rattle.cam_tiles.specs.Machinery.Runs.{IsWideGrid}
 use Rattle.cam_tiles.specs.Machinery.Turning.{IsField, MarksCentres, seen}
 use Rattle.cam_tiles.specs.Tiles.{IsGrid, centre_in}
 use Rattle.cam_tiles.proofs.JoinedMarks.{joined_with}
-use Rattle.cam_tiles.proofs.LevelRows.{are_heights_seen, in_reach, of_grid}
+use Rattle.cam_tiles.proofs.LevelRows.{are_heights_seen, down_some, in_reach, of_grid}
 use Rattle.cam_tiles.proofs.RunColumns.{below_top}
 
 near_reach : (s : Spot) → IsPlace s → IsInReach s
@@ -92,6 +93,13 @@ field_rows g columns first x y step n m is_x is_y is_step field within size k fe
       centres = λ i inside. rw (below_top g columns first k i)
           (field.centres i (first + k) inside (omega (arith, within, size, few)));
     })
+
+-- how far a column lies right of the first
+pub columns_far : (g : Grid) (column : ℕ) → pos 1 ≤ℤ g.step → pos 0 ≤ℤ (pos column *ℤ g.step)
+columns_far g column step = down_some g.step (unsigned_abs g.step) column (omega (arith, ints, step))
+
+pub up_right : (first far end : ℤ) → pos 0 ≤ℤ far → end ≤ℤ first → end ≤ℤ (first +ℤ far)
+up_right first far end some h = omega (arith, ints)
 
 -- ---- one mask
 

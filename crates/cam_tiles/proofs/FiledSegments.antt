@@ -39,7 +39,7 @@ after_both x a b most e h = (omega (arith, ints, clamps), omega (arith, ints, cl
 before_ends : (x a b left : ℤ) → left ≡ pos 2 *ℤ int_min a b → x <ℤ left → (x <ℤ (pos 2 *ℤ a)) × (x <ℤ (pos 2 *ℤ b))
 before_ends x a b left e h = (omega (arith, ints, clamps), omega (arith, ints, clamps))
 
-after_ends : (x a b right : ℤ) → right ≡ pos 2 *ℤ int_max a b → right ≤ℤ x → ((pos 2 *ℤ a) ≤ℤ x) × ((pos 2 *ℤ b) ≤ℤ x)
+pub after_ends : (x a b right : ℤ) → right ≡ pos 2 *ℤ int_max a b → right ≤ℤ x → ((pos 2 *ℤ a) ≤ℤ x) × ((pos 2 *ℤ b) ≤ℤ x)
 after_ends x a b right e h = (omega (arith, ints, clamps), omega (arith, ints, clamps))
 
 -- a line, of which the rows between its heights are those from a first one up to below an end

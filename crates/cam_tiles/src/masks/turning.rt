@@ -158,7 +158,7 @@ fn levels_in(grid: &Grid) -> Levels
     }
 }
 
-/// Counts an edge: in each row that it crosses by one mark.
+/// Counts an edge: in each row that it crosses by one mark, where it does not lie left of all columns.
 pub(crate) fn turn_edge(marks: &mut [u64], grid: &Grid, columns: u32, from: Point, to: Point)
     requires grid { IsField grid.now columns }
     requires wide { AreWide columns marks.old }
@@ -166,6 +166,9 @@ pub(crate) fn turn_edge(marks: &mut [u64], grid: &Grid, columns: u32, from: Poin
     requires to { IsOnBoard to }
     ensures { TurnsCentres grid.now columns (λ s. IsTrue (crosses_ray s (edge from to))) marks.old marks.new }
 {
+    if 2 * from.x.max(to.x) <= grid.first.x {
+        return;
+    }
     let levels = levels_in(grid);
     let band = levels.band(crossed_heights(from, to));
     if band.end <= band.first {

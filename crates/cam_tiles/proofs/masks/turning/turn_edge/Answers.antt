@@ -1,8 +1,14 @@
-use Rattle.std.proofs.Common.{IsTrue}
+use Rattle.std.proofs.Common.{IsTrue, pos, ◌+ℤ◌, ◌*ℤ◌, ◌≤ℤ◌, FitsSigned, w64, rules}
+use Rattle.std.proofs.lemmas.Int.{to_z-of_z}
 use Rattle.cam_shapes.specs.Edge.{crosses_ray, edge}
+use Rattle.cam_shapes.proofs.Widths.{at_most_is}
 use Rattle.cam_apertures.proofs.Painting.{through}
-use Rattle.cam_tiles.proofs.EdgeSpans.{met_apart}
-use Rattle.cam_tiles.proofs.TurnedMarks.{no_rows}
+use Rattle.cam_tiles.specs.Tiles.{centre_in}
+use Rattle.cam_tiles.proofs.EdgeSpans.{met_apart, missed_right}
+use Rattle.cam_tiles.proofs.Fields.{columns_far, up_right}
+use Rattle.cam_tiles.proofs.FiledSegments.{after_ends, twice_most}
+use Rattle.cam_tiles.proofs.GridLemmas.{long}
+use Rattle.cam_tiles.proofs.TurnedMarks.{no_rows, turns_nothing}
 use Rattle.cam_tiles.proofs.masks.turning.turn_edge.Goals as goal
 
 pub returns-then-band : goal.returns-then-band
@@ -18,3 +24,18 @@ turn_crossed-requires-clause-rows c = λ row s on.
 
 pub turn_crossed-requires-clause-low : goal.turn_crossed-requires-clause-low
 turn_crossed-requires-clause-low c = rw c.levels_in-levels.ensures.value at c.band-band.ensures.end
+
+-- no ray meets an edge left of all columns
+pub returns-then-max-grid : goal.returns-then-max-grid
+returns-then-max-grid c =
+    let g = c.args.grid.now in
+    let p = c.args.from in
+    let q = c.args.to in
+    let fits : FitsSigned w64 g.first.x = search rules in
+    let past : long (pos 2 *ℤ long c.max.result) ≤ℤ long g.first.x = (at_most_is _ _).0 c.if-max-grid.true in
+    let reach = rw (to_z-of_z w64 g.first.x fits) at past in
+    turns_nothing g c.args.columns (λ s. IsTrue (crosses_ray s (edge p q))) c.args.marks.now (λ column row within met.
+    let ends = after_ends (g.first.x +ℤ pos column *ℤ g.step) p.x q.x _
+    (twice_most p.x q.x c.max.result c.requires.from.x c.requires.to.x c.max.ensures.value)
+    (up_right g.first.x (pos column *ℤ g.step) _ (columns_far g column c.requires.grid.step) reach) in
+    missed_right (centre_in g column row) p q ends.0 ends.1 met)
