@@ -18,8 +18,8 @@ use crate::runs::circle::narrow_to_circle;
 use crate::sweep::cross_product;
 use cam_shapes::{Arc, Disc};
 
-/// What the outer circle of an arc's stroke holds, and its sweep, where that is at most a half turn: the runs are those of
-/// [`outer_runs`].
+/// What the outer circle of an arc's stroke holds, and its sweep, where that is at most a half turn: the runs are those
+/// of [`outer_runs`].
 #[derive(Clone, Copy)]
 pub struct Outer {
     pub arc: Arc,

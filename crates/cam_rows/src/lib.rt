@@ -29,8 +29,8 @@
 //!   to 32,768 centres, a run of columns for each row; [`run_row`]: the bits of a part of it. [`cap_runs`] and
 //!   [`edge_runs`] are those of parts of a region: a run of an edge begins at the leftmost column.
 //! - [`ring_of`], [`outer_runs`], [`hollow_runs`], [`beyond_runs`]: an arc in such rows.
-//! - [`RunShape`]: all of these shapes alike; [`Hole`] stands for a hole, [`Outer`], [`Hollow`] and [`Beyond`] for the parts
-//!   of an arc.
+//! - [`RunShape`]: all of these shapes alike; [`Hole`] stands for a hole, [`Outer`], [`Hollow`] and [`Beyond`] for the
+//!   parts of an arc.
 //! - [`mark_end`], [`mark_ends`], [`mark_runs`], [`spread_marks`]: marks in rows of tiles side by side, of which each turns
 //!   over all columns left of it, and the columns that all of them together turn over.
 //! - [`or_rows`], [`clear_rows`], [`xor_rows`]: the 64 rows of a tile; [`pbm_bytes`]: a row in a file.

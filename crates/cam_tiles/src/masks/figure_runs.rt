@@ -38,8 +38,9 @@ use cam_units::Point;
 /// its ends.
 #[derive(Clone, Copy)]
 pub(crate) struct FigureRuns {
-    /// Of a straight stroke of a circle the bar between its ends; of an arc what its outer circle and its sweep hold; of
-    /// a rectangle's stroke all of it; of a flash the shape without its hole.
+    /// Of a straight stroke of a circle the bar between its ends, and what it takes in of the discs about these; of an
+    /// arc what its outer circle and its sweep hold; of a rectangle's stroke all of it; of a flash the shape without its
+    /// hole.
     pub(crate) body: Runs,
     /// Of an arc what its inner circle holds; of a flash its hole.
     pub(crate) hollow: Runs,

@@ -54,7 +54,8 @@ impl Runs {
         requires few { other.old.band.end ≤ 64 }
         ensures columns { (row column : ℕ) → (HasColumn self.new row column ⊎ HasColumn other.new row column)
             ↔ (HasColumn self.old row column ⊎ HasColumn other.old row column) }
-        ensures fits { (rows : ℕ) → Fits rows self.old → Fits rows other.old → Fits rows self.new × Fits rows other.new }
+        ensures fits { (rows : ℕ) → Fits rows self.old → Fits rows other.old
+            → Fits rows self.new × Fits rows other.new }
     {
         if other.band.first < self.band.first || self.band.end < other.band.end {
             return;

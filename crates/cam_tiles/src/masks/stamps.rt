@@ -30,8 +30,8 @@ impl Mask {
         }
     }
 
-    /// Joins the marks with what primitives paint, once they are turned: they are composed in a mask of their own, where a
-    /// later one takes back what it clears.
+    /// Joins the marks with what primitives paint, once they are turned: they are composed in a mask of their own, where
+    /// a later one takes back what it clears.
     fn primitives(&mut self, prims: &Primitives, turn: Turn, at: Point, how: Join)
         requires prims { All IsSoundPrim prims.now }
         requires at { IsOnBoard at }

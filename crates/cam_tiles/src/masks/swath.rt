@@ -227,8 +227,8 @@ impl Swath {
         );
     }
 
-    /// Paints a stroke or a flash: its runs are found once for the row of tiles, and drawn on those masks alone that they
-    /// reach.
+    /// Paints a stroke or a flash: its runs are found once for the row of tiles, and drawn on those masks alone that
+    /// they reach.
     fn paint_figure(&mut self, placed: &Placed, print: Print<'_>)
         requires { IsPlacedFor print.figure placed.now }
         ensures { PaintsSwath self.old (leaf_of print.entry ∷ []) self.new }
