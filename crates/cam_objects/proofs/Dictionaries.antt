@@ -145,18 +145,6 @@ lookup_none (e ∷ es) n d others =
     ap (λ b. cond b (Some e.1) (lookup (nat_eq n) es)) (flip e.0 n (others zero (omega arith)))
     ∙ lookup_none es n d (λ j b. others (suc j) (omega arith))
 
-pub absent_before : (es : Pairs) (k n : ℕ) (e : Entry) → IsDistinct nat_eq (keys_of es) → slice_get es k ≡ Some (n, e)
-    → lookup (nat_eq n) (take k es) ≡ None
-absent_before es k n e distinct at =
-    let within = slice_get_within es k (n, e) at in
-    let found = get_or_from_slice_get es k (n, e) (n, e) at in
-    lookup_none (take k es) n (n, e)
-    (λ j b.
-    let low : j < k = omega (arith, length-take k es) in
-    let apart = keys_apart es j k (n, e) distinct low within in
-    let apart' : nat_eq (get_or es j (n, e)).0 n ≡ false = rw found at apart in
-    rw (get_or-take k es j (n, e) low) apart')
-
 pub take_pair : (es : Pairs) (k n : ℕ) (e : Entry) → slice_get es k ≡ Some (n, e) → take (k + 1) es ≡ take k es ++ (n, e) ∷ []
 take_pair es k n e at =
     take_more es k (n, e) (slice_get_within es k (n, e) at)

@@ -131,10 +131,6 @@ first_on_board means (suc columns) (suc rows) i j objects h board =
     none : (z : ℤ) → pos 0 *ℤ z ≡ pos 0
     none z = omega (arith, ints)
 
-pub refuted : (b : Bool) → IsTrue (not b) → IsTrue b → ⊥
-refuted true other h = absurd (false≢true other)
-refuted false other h = absurd (false≢true h)
-
 -- the placed box of a flash is that of its leaves
 pub flash_box : (es : List (ℕ × Entry)) (n : ℕ) (p : Place) (f : Facts) (b : Bounds) → f ≡ facts_at es n → b ≡ placed_bounds p f.bounds
     → b ≡ bounds_of ((meaning_in es n).flash p)

@@ -111,15 +111,6 @@ part_pushed size es objects boxes b n many room box near kept =
       near = All-append IsNearBox boxes (b ∷ []) kept.near (All-cons IsNearBox b [] near (All-nil IsNearBox));
     }
 
--- beside an entry that is found
-pub chunks_found : (es : List (ℕ × Entry)) (kept : List (List Bounds)) (k n : ℕ) (e : Entry) (c : List Bounds) → AreChunksKept es kept
-    → slice_get es k ≡ Some (n, e) → c ≡ get_or kept k c → HasChunks (take k es) e c
-chunks_found es kept k n e c are found is =
-    let within = slice_get_within es k (n, e) found in
-    subst (HasChunks (take k es) e) (sym is)
-    (subst (λ (d : ℕ × Entry). HasChunks (take k es) d.1 (get_or kept k c)) (get_or_from_slice_get es k (n, e) (n, e) found)
-    (are.each k (n, e) c within))
-
 pub chunks_grow : (es : List (ℕ × Entry)) (kept : List (List Bounds)) (n : ℕ) (e : Entry) (c : List Bounds) → AreChunksKept es kept
     → HasChunks es e c → AreChunksKept (es ++ (n, e) ∷ []) (kept ++ c ∷ [])
 chunks_grow es kept n e c are new = record {

@@ -86,15 +86,6 @@ AreTurnedAbove columns end whole old now =
     (column row : ℕ) → column < columns → row < 64
     → IsTrue (is_turned now row column) ↔ joined Turn (IsTrue (is_turned old row column)) ((row < end) × IsBitSet whole row)
 
-pub none_above : (columns whole : ℕ) (old : List ℕ) → AreTurnedAbove columns 0 whole old old
-none_above columns whole old column row near below = (
-  (λ t. inl (t, (λ h. omega (arith, h.0)))),
-  (λ h. elim h [
-    | inl was ↦ was.0
-    | inr new ↦ absurd (omega (arith, new.1.0))
-  ]),
-)
-
 pub one_more_above : (columns k whole end : ℕ) (old now new : List ℕ) → k < 64 → columns ≤ length now
     → ((column : ℕ) → column < columns → (column < end) ↔ IsBitSet whole k)
     → TurnsRow k (λ column. column < end) now new → AreTurnedAbove columns k whole old now
@@ -109,12 +100,6 @@ one_more_above columns k whole end old now new few room told turned so_far colum
       | inr apart ↦ row_passed _ _ _ _ _ _ _ (λ held. apart held.0)
           ((λ above. omega (arith, above)), (λ more. omega (arith, more, apart))) h (so_far column row near below)
     ]
-
-pub all_above : (columns rows end whole : ℕ) (old now : List ℕ) → rows ≤ 64 → rows ≤ end
-    → AreTurnedAbove columns end whole old now → (column row : ℕ) → column < columns → row < rows
-    → IsTrue (is_turned now row column) ↔ joined Turn (IsTrue (is_turned old row column)) (IsBitSet whole row)
-all_above columns rows end whole old now few done so_far column row near below =
-    all_passed _ _ _ _ (omega (arith, below, done)) (so_far column row near (omega (arith, below, few)))
 
 -- no row is turned
 pub none_turned : (whole row : ℕ) (Was : Type 0) → whole ≡ 0 → Was ↔ joined Turn Was (IsBitSet whole row)

@@ -36,22 +36,6 @@ seen_itself P s =
     let y : s.y -ℤ pos 2 *ℤ pos 0 ≡ s.y = omega (arith, ints) in
     rw (x, y) same
 
--- shapes that hold the same centres
-pub joins_like : (how : Join) (P Q : Spot → Type 0) (old new : Marking)
-    → ((column row : ℕ) → IsIn old.grid column row
-    → P (centre_in old.grid column row) ↔ Q (centre_in old.grid column row))
-    → Joins how P old new → Joins how Q old new
-joins_like how P Q old new alike h = record {
-  grid = h.grid;
-  marks = λ column row within. joined_like how _ _ _ _ _ same (alike column row within) (h.marks column row within);
-}
-
--- places as they are seen from the origin are those themselves
-pub joins_from_origin : (how : Join) (P : Spot → Type 0) (old new : Marking)
-    → Joins how (λ s. P (relative (record { x = pos 0; y = pos 0 }) s)) old new → Joins how P old new
-joins_from_origin how P old new h =
-    joins_like how _ P old new (λ column row within. seen_itself P (centre_in old.grid column row)) h
-
 -- ---- masks that show a shape
 
 -- the centres that are marked are those that the shape holds

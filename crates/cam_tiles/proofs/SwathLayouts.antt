@@ -268,14 +268,6 @@ up_to_tile left x (pos q) d s n way same some after within =
     omega (arith, ints)
 up_to_tile left x (negsuc q) d s n way same some after within = absurd (omega (arith, ints))
 
-pub before_next_tile : (left x stride : ℤ) (d s : ℕ) → d ≡ unsigned_abs (x -ℤ left) → s ≡ unsigned_abs stride
-    → pos 1 ≤ℤ stride → left ≤ℤ x → x <ℤ (left +ℤ pos (d / s + 1) *ℤ stride)
-before_next_tile left x (pos q) d s way same some after =
-    let is : s ≡ q = omega (arith, ints) in
-    let under : d < (d / q + 1) * q = let positive : 0 < q = omega (arith, ints) in omega arith in
-    subst (λ m. x <ℤ (left +ℤ pos (d / m + 1) *ℤ pos q)) (sym is) (omega (arith, ints))
-before_next_tile left x (negsuc q) d s way same some after = absurd (omega (arith, ints))
-
 -- what a swath finds by its tiles
 module _ (p : Pitch) (box : Bounds) (before : List ℕ) (masks : List Marking)
     (laid : IsLaidOut p box before (length masks) (grid_at masks)) (tile result : ℕ) (those : List ℕ)
