@@ -1,4 +1,4 @@
--- Marks that are joined: with shapes that hold the same centres, and with masks that show one shape.
+-- Marks that are joined with others, and with masks that show one shape.
 use Rattle.std.proofs.Common.{◌≡◌, ◌↔◌, ◌⊎◌, ℕ, ◌^◌, pos, ◌-ℤ◌, ◌*ℤ◌, bit_and}
 use Rattle.std.proofs.Common.{sym, subst, inl, inr, arith}
 use Rattle.std.specs.Int.{IsBitSet}
