@@ -12,7 +12,6 @@ pub mod Chords
 pub mod Circling
 pub mod Columns
 pub mod CountedRuns
-pub mod EdgeEnds
 pub mod EdgeSides
 pub mod FarPlaces
 pub mod FoundRuns

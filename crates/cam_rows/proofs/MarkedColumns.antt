@@ -89,9 +89,6 @@ odd_flipped f g p (suc n) c others flip h k = elim (cases_eq c p) [
       ∙ sym (differ_apart (f c) (is_odd f n (c + 1)) true)
 ]
 
-pub odd_kept : (f g : ℕ → Bool) (p n c : ℕ) → ((j : ℕ) → j ≢ p → g j ≡ f j) → p < c → is_odd g n c ≡ is_odd f n c
-odd_kept f g p n c others before = odd_alike g f n c c (λ j _. others (c + j) (λ e. omega (arith, e, before)))
-
 -- the bits of a word up to one
 low_bit : (b i : ℕ) → b < 64 → i ≤ b → is_set ((2 ^ 64 - 1) / 2 ^ (63 - b)) i ≡ true
 low_bit b i short before =

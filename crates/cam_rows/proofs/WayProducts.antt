@@ -37,10 +37,6 @@ gap_product_fits b a p r t h k m e f =
     rw (kept_factors b (a -ℤ pos 2 *ℤ p) r t h (short_gap a p k m) e (kept_gap a p t k m f))
     (fits_signed_from_abs w128 (b *ℤ (a -ℤ pos 2 *ℤ p)) (omega arith))
 
-pub gap_product_short : (b a p : ℤ) → unsigned_abs b < 2 ^ 33 → unsigned_abs a < 4000000000
-    → unsigned_abs p < 1000000000 → unsigned_abs (b *ℤ (a -ℤ pos 2 *ℤ p)) < 2 ^ 66
-gap_product_short b a p h k m = short_product b (a -ℤ pos 2 *ℤ p) h (short_gap a p k m)
-
 kept_wide : (z : ℤ) → unsigned_abs z < 2 ^ 126 → wide z ≡ z
 kept_wide z h = omega (arith, ints)
 

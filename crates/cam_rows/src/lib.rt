@@ -23,8 +23,7 @@
 //!   second call, such as [`disc_rows`], for rows one below another.
 //! - [`bar_row`]: a line of a macro; [`capsule_row`], [`arc_row`]: the strokes of a round tool; [`swept_row`]: that of
 //!   a rectangle.
-//! - [`edge_row`], [`cap_row`]: parts of a region; [`turn_edge`] turns over what an edge of it changes, [`edge_end`]
-//!   tells where that ends at one height.
+//! - [`edge_row`], [`cap_row`]: parts of a region; [`turn_edge`] turns over what an edge of it changes.
 //! - [`bar_runs`], [`disc_runs`], [`hole_runs`], [`rect_runs`], [`obround_runs`], [`swept_runs`]: the same in rows of up
 //!   to 32,768 centres, a run of columns for each row; [`run_row`]: the bits of a part of it. [`cap_runs`] and
 //!   [`edge_runs`] are those of parts of a region: a run of an edge begins at the leftmost column.
@@ -75,7 +74,7 @@ pub use capsule::{capsule_row, capsule_rows};
 pub use centres::Centres;
 pub use circle::squared_distance;
 pub use disc::{disc_row, disc_rows};
-pub use edge::{edge_end, edge_row, turn_edge};
+pub use edge::{edge_row, turn_edge};
 pub use hole::{Hole, hole_row, hole_rows};
 pub use lanes::{clear_rows, or_rows, pbm_bytes, xor_rows};
 pub use laws::arc_is_its_runs;

@@ -79,7 +79,7 @@ pub(crate) fn columns_up_to(number: i128, divisor: i128, columns: u32) -> u32
 }
 
 /// The greatest whole number that is at most the quotient, and what is left of the number.
-pub(crate) fn floor_division(number: i128, divisor: i128) -> (i128, i128)
+fn floor_division(number: i128, divisor: i128) -> (i128, i128)
     requires number { unsigned_abs number ≤ 2 ^ 100 }
     requires divisor { IsDivisor divisor }
     ensures whole { whole result.0 divisor result.1 ≡ number }
