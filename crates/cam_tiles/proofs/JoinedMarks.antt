@@ -139,7 +139,6 @@ all_joined_at how IsHeld old new first end rows none =
       ]
     ]
 
-
 -- ---- the words of a tile
 
 -- a word of a tile, cut to some columns

@@ -96,17 +96,3 @@ in_cap c r h past some a s on =
     let room = less_at_most (squared_radius c.centre c.from) (pos (n.0 * n.0)) (rw n.1 at past) in
     let k = cap_square s c n.0 room on in
     in_box c.centre r r h a s (within_box c.centre s r r (rw n.1 k.across) (rw n.1 k.along))
-
--- an arc lies between the heights of its circle, widened, or between those of its ends
-pub in_arc : (a : Arc) (r : ℤ) (circle ends : Heights) → squared_radius a.centre a.from <ℤ square r → pos 0 <ℤ r
-    → AreAbout a.centre (r +ℤ a.width.0) circle → AreAlong a.from a.to a.width.0 ends
-    → (s : Spot) → IsInArc s a → IsWithin circle s ⊎ IsWithin ends s
-in_arc a r circle ends past some around along s on =
-    let reach = r +ℤ a.width.0 in
-    let n = natural_or_not r some in
-    elim (arc_square s a n.0 (rw n.1 at past) on) [
-      | inl k ↦ inl (in_box a.centre reach reach circle around s
-          (within_box a.centre s reach reach (rw n.1 k.across) (rw n.1 k.along)))
-      | inr (inl near) ↦ inr (at_start a.from a.to a.width ends along s (record { some = on.wide; near = near }))
-      | inr (inr near) ↦ inr (at_end a.from a.to a.width ends along s (record { some = on.wide; near = near }))
-    ]

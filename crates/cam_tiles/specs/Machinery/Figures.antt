@@ -18,25 +18,30 @@ use Rattle.cam_objects.specs.Image.{Covers, relative}
 use Rattle.cam_rows.specs.Runs.{most_columns}
 use Rattle.cam_tiles.specs.declared.grid.Grid.{Grid}
 use Rattle.cam_tiles.specs.declared.masks.figure_runs.FigureRuns.{FigureRuns}
+use Rattle.cam_tiles.specs.declared.masks.heights.Heights.{Heights}
 use Rattle.cam_tiles.specs.declared.masks.figures.Placed.{Placed}
 use Rattle.cam_tiles.specs.declared.masks.figures.RunFigure.{RunFigure}
 use Rattle.cam_tiles.specs.declared.masks.figures.RunFigure.TheVariants.{Straight, Round, Swept, Disc, Rectangle, Obround}
-use Rattle.cam_tiles.specs.Machinery.Masks.{IsIn}
+use Rattle.cam_tiles.specs.Machinery.Masks.{IsIn, IsWithin}
 use Rattle.cam_tiles.specs.Machinery.Runs.{Fits, HasColumn}
 use Rattle.cam_tiles.specs.Tiles.{centre_in}
 
 -- the places of a figure whose runs are known
 abbrev pub IsInFigure : RunFigure → Spot → Type 0
 IsInFigure (Straight c) = λ s. IsInCapsule s c
-IsInFigure (Round a) = λ s. IsInArc s a
+IsInFigure (Round a heights) = λ s. IsInArc s a
 IsInFigure (Swept r) = λ s. IsInSwept s r
 IsInFigure (Disc d hole) = λ s. IsInDisc s d × ¬ IsInHole s hole.0
 IsInFigure (Rectangle r hole) = λ s. IsInRectangle s r × ¬ IsInHole s hole.0
 IsInFigure (Obround o hole) = λ s. IsInObround s o × ¬ IsInHole s hole.0
 
+-- heights between which all of some places lie
+abbrev pub LiesWithin : Heights → (Spot → Type 0) → Type 0
+LiesWithin heights IsHeld = (s : Spot) → IsHeld s → IsWithin heights s
+
 abbrev pub IsSoundRunFigure : RunFigure → Type 0
 IsSoundRunFigure (Straight c) = IsSoundCapsule c
-IsSoundRunFigure (Round a) = IsSoundArc a
+IsSoundRunFigure (Round a heights) = IsSoundArc a × LiesWithin heights (λ s. IsInArc s a)
 IsSoundRunFigure (Swept r) = IsSoundSwept r
 IsSoundRunFigure (Disc d hole) = IsSoundDisc d × IsSoundDisc hole.0
 IsSoundRunFigure (Rectangle r hole) = IsSoundRectangle r × IsSoundDisc hole.0

@@ -6,6 +6,7 @@ ghost use Rattle.cam_tiles.specs.Machinery.Masks.{IsIn};
 ghost use Rattle.cam_tiles.specs.Tiles.{centre_in};
 
 use crate::masks::figures::placed_of;
+use crate::masks::heights::Heights;
 use crate::masks::join::Join;
 use crate::masks::mask::Mask;
 use cam_objects::{Canvas, Figure, Print};
@@ -23,7 +24,14 @@ impl Canvas for Mask {
     }
 
     fn paint(&mut self, print: Print<'_>) {
-        if let Some(placed) = placed_of(&print.figure) {
+        let Bounds::Closed { low, high } = print.bounds else {
+            return;
+        };
+        let heights = Heights {
+            low: low.y,
+            high: high.y,
+        };
+        if let Some(placed) = placed_of(&print.figure, heights) {
             self.paint_placed(&placed, print);
             return;
         }

@@ -18,16 +18,16 @@ ghost use Rattle.cam_tiles.specs.Machinery.Figures.{
   IsInFigure,
   IsSoundPlaced,
   IsToldAt,
+  LiesWithin,
   TellsFigure,
 };
 
 use crate::grid::Grid;
 use crate::masks::figures::{Placed, RunFigure};
-use crate::masks::heights::HasHeights;
+use crate::masks::heights::{HasHeights, Heights};
 use crate::masks::join::Join;
 use crate::masks::mask::Mask;
 use crate::masks::runs::Runs;
-use crate::masks::shapes::arc_heights;
 use crate::span::Span;
 use cam_objects::Print;
 use cam_rows::{Beyond, Hole, Hollow, Outer, ring_of};
@@ -86,7 +86,7 @@ impl FigureRuns {
         let at = placed.at;
         match &placed.figure {
             RunFigure::Straight(capsule) => self.find_straight(capsule, at, grid, columns),
-            RunFigure::Round(arc) => self.find_round(arc, at, grid, columns),
+            RunFigure::Round(arc, heights) => self.find_round(arc, *heights, at, grid, columns),
             RunFigure::Swept(swept) => self.find_swept(swept, at, grid, columns),
             RunFigure::Disc(disc, hole) => self.find_pierced(disc, hole, at, grid, columns),
             RunFigure::Rectangle(rectangle, hole) => {
@@ -127,16 +127,16 @@ impl FigureRuns {
         self.body.take_in(&mut self.end);
     }
 
-    /// Turns to those of an arc. All that is taken out of its body is so between the arc's heights alone.
-    fn find_round(&mut self, arc: &Arc, at: Point, grid: &Grid, columns: u32)
+    /// Turns to those of an arc, which lies between two heights: its circles are found between these alone.
+    fn find_round(&mut self, arc: &Arc, heights: Heights, at: Point, grid: &Grid, columns: u32)
         requires sound { IsSoundArc arc.now }
+        requires heights { LiesWithin heights (λ s. IsInArc s arc.now) }
         requires at { IsOnBoard at }
         requires grid { IsWideGrid grid.now columns }
         ensures { TellsFigure grid.now columns (λ s. IsInArc (relative at s) arc.now) self.new }
     {
         let arc = *arc;
         let ring = ring_of(&arc);
-        let heights = arc_heights(&arc);
         let outer = Outer { arc, ring };
         self.body.find_between(&outer, heights, at, grid, columns);
         let hollow = Hollow { arc, ring };

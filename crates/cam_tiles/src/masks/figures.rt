@@ -5,11 +5,12 @@ ghost use Rattle.cam_apertures.specs.Cover.{disc};
 ghost use Rattle.cam_apertures.specs.Soundness.{IsSoundAperture};
 ghost use Rattle.cam_objects.specs.Canvases.{IsSoundFigure, IsSoundPrint, leaf_of, shape_of};
 ghost use Rattle.cam_objects.specs.Image.{Covers};
-ghost use Rattle.cam_tiles.specs.Machinery.Figures.{IsComposed, IsFlashOf, IsMacro, IsPlacedFor, IsToldAt};
+ghost use Rattle.cam_tiles.specs.Machinery.Figures.{IsComposed, IsFlashOf, IsMacro, IsPlacedFor, IsToldAt, LiesWithin};
 ghost use Rattle.cam_tiles.specs.Machinery.Masks.{PaintsMask};
 ghost use Rattle.cam_tiles.specs.Machinery.Swaths.{ArePaintedIn, grid_at};
 
 use crate::masks::figure_runs::FigureRuns;
+use crate::masks::heights::Heights;
 use crate::masks::mask::{Mask, ORIGIN};
 use cam_apertures::{Aperture, turned_height, turned_width};
 use cam_objects::{Canvas, Figure, Print};
@@ -18,11 +19,12 @@ use cam_shapes::{Arc, Capsule, Disc, Obround, Rectangle, Swept};
 use cam_units::{Nm, Point, Turn};
 
 /// A figure whose runs are known: the stroke of a circle along a straight way or an arc, that of a rectangle along a
-/// straight way, or the flash of a disc, a rectangle or an obround with a hole, which may have a diameter of 0.
+/// straight way, or the flash of a disc, a rectangle or an obround with a hole, which may have a diameter of 0. An arc has
+/// heights between which it lies, since its circles reach higher and lower.
 #[derive(Clone, Copy)]
 pub(crate) enum RunFigure {
     Straight(Capsule),
-    Round(Arc),
+    Round(Arc, Heights),
     Swept(Swept),
     Disc(Disc, Hole),
     Rectangle(Rectangle, Hole),
@@ -45,14 +47,15 @@ impl RunFigure {
     }
 }
 
-/// The stroke or the flash that a figure is; none of a macro, and none of a contour.
-pub(crate) fn placed_of(figure: &Figure<'_>) -> Option<Placed>
-    requires { IsSoundFigure figure.now }
+/// The stroke or the flash that a figure is, which lies between two heights; none of a macro, and none of a contour.
+pub(crate) fn placed_of(figure: &Figure<'_>, heights: Heights) -> Option<Placed>
+    requires sound { IsSoundFigure figure.now }
+    requires heights { LiesWithin heights (Covers (shape_of figure.now)) }
     ensures { MatchOption result (IsComposed figure.now) (IsPlacedFor figure.now) }
 {
     match *figure {
         Figure::Stroke(capsule) => Some(RunFigure::Straight(capsule).at(ORIGIN)),
-        Figure::Sweep(arc) => Some(RunFigure::Round(arc).at(ORIGIN)),
+        Figure::Sweep(arc) => Some(RunFigure::Round(arc, heights).at(ORIGIN)),
         Figure::Swept(swept) => Some(RunFigure::Swept(swept).at(ORIGIN)),
         Figure::Drilled(disc) => Some(RunFigure::Disc(disc, hole(Nm(0))).at(ORIGIN)),
         Figure::Stamp { aperture, turn, at } => match flashed(aperture, turn) {

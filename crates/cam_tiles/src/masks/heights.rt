@@ -1,6 +1,5 @@
 //! Heights between which shapes lie.
 
-ghost use Rattle.std.specs.Prelude.{◌⊎◌};
 ghost use Rattle.cam_units.specs.declared.point.Spot.{Spot};
 ghost use Rattle.cam_tiles.specs.Machinery.Masks.{IsWithin};
 
@@ -11,18 +10,6 @@ use cam_rows::RunShape;
 pub(crate) struct Heights {
     pub(crate) low: i64,
     pub(crate) high: i64,
-}
-
-impl Heights {
-    /// Heights between which lies what lies between either.
-    pub(crate) fn joined(self, other: Heights) -> Heights
-        ensures { (s : Spot) → IsWithin self s ⊎ IsWithin other s → IsWithin result s }
-    {
-        Heights {
-            low: self.low.min(other.low),
-            high: self.high.max(other.high),
-        }
-    }
 }
 
 /// A shape whose heights are known, and whose runs are.

@@ -4,14 +4,11 @@ ghost use Rattle.std.specs.Prelude.{◌≡◌, ◌^◌, ◌<◌, ◌+ℤ◌, ◌
 ghost use Rattle.std.specs.Int.{int_max, int_min};
 ghost use Rattle.std.specs.Int.RustNames.{unsigned_abs};
 ghost use Rattle.cam_units.specs.Board.{IsOnBoard, IsSize};
-ghost use Rattle.cam_units.specs.declared.point.Spot.{Spot};
-ghost use Rattle.cam_shapes.specs.Arc.{IsInArc, IsSoundArc};
 ghost use Rattle.cam_shapes.specs.Plane.{dot, square, way};
-ghost use Rattle.cam_tiles.specs.Machinery.Masks.{IsWithin};
 
 use crate::masks::heights::{HasHeights, Heights};
 use cam_rows::{Hole, squared_distance};
-use cam_shapes::{Arc, Bar, Cap, Disc, Obround, Rectangle, Swept};
+use cam_shapes::{Bar, Cap, Disc, Obround, Rectangle, Swept};
 use cam_units::{Nm, Point, isqrt};
 
 impl HasHeights for Disc {
@@ -54,15 +51,6 @@ impl HasHeights for Cap {
     fn heights(&self) -> Heights {
         about(self.centre, past_circle(self.centre, self.from))
     }
-}
-
-/// Heights between which an arc's stroke lies.
-pub(crate) fn arc_heights(arc: &Arc) -> Heights
-    requires { IsSoundArc arc.now }
-    ensures { (s : Spot) → IsInArc s arc.now → IsWithin result s }
-{
-    let reach = past_circle(arc.centre, arc.from).0 + arc.width.0;
-    about(arc.centre, Nm(reach)).joined(along(arc.from, arc.to, arc.width))
 }
 
 /// The heights so far to both sides of a point.

@@ -37,6 +37,7 @@ use crate::grid::Grid;
 use crate::masks::figure_runs::FigureRuns;
 use crate::masks::figures::{Placed, paint_each, paint_figures, placed_of};
 use crate::masks::filing::FiledSegment;
+use crate::masks::heights::Heights;
 use crate::masks::mask::Mask;
 use crate::masks::turning::{fill_marked, mark_inside};
 use crate::painter::Tile;
@@ -282,8 +283,12 @@ impl Canvas for Swath {
         };
         let first = self.first_reached(low.x);
         let end = self.end_reached(high.x);
+        let heights = Heights {
+            low: low.y,
+            high: high.y,
+        };
         if first < end
-            && let Some(placed) = placed_of(&print.figure)
+            && let Some(placed) = placed_of(&print.figure, heights)
         {
             self.paint_figure(&placed, print);
             return;

@@ -21,22 +21,23 @@ whole s d hole is = (
 
 pub returns-in-Stroke : goal.returns-in-Stroke
 returns-in-Stroke c =
-    as_drawn c.args.figure.now _ c.at.result c.at.ensures (rw c.in-Stroke.is at c.requires)
+    as_drawn c.args.figure.now _ c.at.result c.at.ensures (rw c.in-Stroke.is at c.requires.sound)
     (λ s. rw c.in-Stroke.is ((λ a. a), (λ a. a)))
 
 pub returns-in-Sweep : goal.returns-in-Sweep
 returns-in-Sweep c =
-    as_drawn c.args.figure.now _ c.at-in-Sweep.result c.at-in-Sweep.ensures (rw c.in-Sweep.is at c.requires)
+    as_drawn c.args.figure.now _ c.at-in-Sweep.result c.at-in-Sweep.ensures
+    (rw c.in-Sweep.is at c.requires.sound, rw c.in-Sweep.is at c.requires.heights)
     (λ s. rw c.in-Sweep.is ((λ a. a), (λ a. a)))
 
 pub returns-in-Swept : goal.returns-in-Swept
 returns-in-Swept c =
-    as_drawn c.args.figure.now _ c.at-in-Swept.result c.at-in-Swept.ensures (rw c.in-Swept.is at c.requires)
+    as_drawn c.args.figure.now _ c.at-in-Swept.result c.at-in-Swept.ensures (rw c.in-Swept.is at c.requires.sound)
     (λ s. rw c.in-Swept.is ((λ a. a), (λ a. a)))
 
 pub returns-in-Drilled : goal.returns-in-Drilled
 returns-in-Drilled c =
     let hole = c.hole.result.0 in
     as_drawn c.args.figure.now _ c.at-in-Drilled.result c.at-in-Drilled.ensures
-    (rw c.in-Drilled.is at c.requires, sound_hole hole _ c.hole.ensures (omega (arith, ints), omega (arith, ints)))
+    (rw c.in-Drilled.is at c.requires.sound, sound_hole hole _ c.hole.ensures (omega (arith, ints), omega (arith, ints)))
     (λ s. rw c.in-Drilled.is (whole s c.in-Drilled.disc hole c.hole.ensures))

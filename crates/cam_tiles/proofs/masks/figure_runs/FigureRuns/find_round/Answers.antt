@@ -9,11 +9,11 @@ use Rattle.cam_tiles.proofs.masks.figure_runs.FigureRuns.find_round.Goals as goa
 pub returns : goal.returns
 returns c =
     let arc = c.args.arc.now in
-    let h = c.arc_heights-heights.result in
+    let h = c.args.heights in
     let seen = relative c.args.at in
     tells_figure c.args.grid.now c.args.columns (λ s. IsInArc (seen s) arc)
     (λ s. IsOuter arc (seen s) × IsWithin h (seen s)) (λ s. IsHollow arc (seen s) × IsWithin h (seen s))
     (λ s. IsBeyond arc (seen s) × IsWithin h (seen s)) (λ s. IsInDisc (seen s) (start_of arc))
     (λ s. IsInDisc (seen s) (end_of arc)) _ _ _ _ _ c.find_between.ensures c.find_between-2.ensures
     c.find_between-3.ensures c.find.ensures c.find-2.ensures
-    (λ s. round_law arc h c.arc_heights-heights.ensures (seen s))
+    (λ s. round_law arc h c.requires.heights (seen s))
