@@ -4,14 +4,12 @@ use Rattle.std.proofs.Common.{IsTrue, bit_and, get_or-set_other, get_or-set_same
 use Rattle.std.proofs.Math.ListN.{length-set}
 use Rattle.std.specs.Int.{IsBitSet}
 use Rattle.std.proofs.lemmas.Bool.{cases_eq, cases_lt, eq-eqb, eqb-true}
-use Rattle.cam_units.specs.declared.point.Spot.{Spot}
 use Rattle.cam_rows.specs.Marks.{is_marked}
 use Rattle.cam_rows.proofs.SetBits.{set_in_and, set_is_one}
 use Rattle.cam_apertures.proofs.Painting.{through}
 use Rattle.cam_tiles.specs.declared.masks.join.Join.{Join}
 use Rattle.cam_tiles.specs.declared.masks.join.Join.TheVariants.{Add, Clear, Turn}
 use Rattle.cam_tiles.specs.Machinery.Masks.{IsIn, IsMarked, IsMask, Marking, joined}
-use Rattle.cam_tiles.specs.Tiles.{centre_in}
 use Rattle.cam_tiles.proofs.WordBits.{set_in_low}
 
 -- ---- one mark

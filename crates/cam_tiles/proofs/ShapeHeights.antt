@@ -1,5 +1,5 @@
 -- What a shape holds lies between its heights.
-use Rattle.std.proofs.Common.{◌≡◌, ◌*◌, ℤ, pos, ◌+ℤ◌, ◌-ℤ◌, ◌*ℤ◌, ◌<ℤ◌, IsTrue, ◌⊎◌, inl, inr, arith}
+use Rattle.std.proofs.Common.{◌≡◌, ◌*◌, ℤ, pos, ◌+ℤ◌, ◌-ℤ◌, ◌*ℤ◌, ◌<ℤ◌, IsTrue, arith}
 use Rattle.std.specs.Int.{int_max, int_min}
 use Rattle.std.proofs.lemmas.Int.{ints, clamps}
 use Rattle.cam_units.specs.Boxes.{Holds}
@@ -11,9 +11,7 @@ use Rattle.cam_shapes.specs.declared.rectangle.Rectangle.{Rectangle}
 use Rattle.cam_shapes.specs.declared.obround.Obround.{Obround}
 use Rattle.cam_shapes.specs.declared.bar.Bar.{Bar}
 use Rattle.cam_shapes.specs.declared.swept.Swept.{Swept}
-use Rattle.cam_shapes.specs.declared.arc.Arc.{Arc}
 use Rattle.cam_shapes.specs.declared.cap.Cap.{Cap}
-use Rattle.cam_shapes.specs.Arc.{IsInArc}
 use Rattle.cam_shapes.specs.Bar.{IsInBar}
 use Rattle.cam_shapes.specs.Box.{IsInObround, IsInRectangle}
 use Rattle.cam_shapes.specs.Cap.{is_in_cap}
@@ -21,7 +19,7 @@ use Rattle.cam_shapes.specs.Disc.{IsInDisc, IsInHole}
 use Rattle.cam_shapes.specs.Plane.{dot, place_of, square, way}
 use Rattle.cam_shapes.specs.Swept.{IsInSwept}
 use Rattle.cam_shapes.proofs.Caps.{cap_square}
-use Rattle.cam_shapes.proofs.Strokes.{arc_square, natural_or_not}
+use Rattle.cam_shapes.proofs.Strokes.{natural_or_not}
 use Rattle.cam_apertures.specs.Primitives.{box_about}
 use Rattle.cam_apertures.proofs.ShapeBoxes.{bar_span, disc_box, less_at_most, obround_box, rectangle_box, within_box}
 use Rattle.cam_tiles.specs.declared.masks.heights.Heights.{Heights}
