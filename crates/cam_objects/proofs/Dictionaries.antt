@@ -34,7 +34,7 @@ use Rattle.std.proofs.Common.{
 }
 use Rattle.std.specs.List.{IsDistinct}
 use Rattle.std.specs.Map.{keys_of, lookup}
-use Rattle.std.proofs.lemmas.List.{take_all, take_more, reverse-append, get_or-map, get_or-take, length-map, length-take}
+use Rattle.std.proofs.lemmas.List.{take_all, take_more, reverse-append, get_or-map, length-map}
 use Rattle.std.proofs.lemmas.Option.{get_or_from_slice_get, slice_get-get_or, slice_get_within}
 use Rattle.std.proofs.lemmas.Map.Keys.{apart_from_distinct}
 use Rattle.std.proofs.lemmas.Bool.{eq-eqb, ne_eqb, eqb-false, cases_lt}
