@@ -1,6 +1,6 @@
 //! What lies beside a way, near its line.
 
-ghost use Rattle.std.specs.Prelude.{◌+◌, ◌*◌, ◌^◌, ◌<◌, ◌≤◌, ◌↔◌, ℤ};
+ghost use Rattle.std.specs.Prelude.{◌^◌, ◌<◌, ◌↔◌, ℤ};
 ghost use Rattle.std.specs.Int.RustNames.{unsigned_abs};
 ghost use Rattle.cam_shapes.specs.Bar.{IsSoundBar};
 ghost use Rattle.cam_shapes.specs.Plane.{dot, way};
@@ -9,7 +9,6 @@ ghost use Rattle.cam_rows.specs.Machinery.Beside.{IsInside, IsWithinReach};
 use crate::circle::squared_distance;
 use cam_shapes::Bar;
 use cam_units::isqrt;
-use std::num::{nearest_u64_to_f64, saturating_f64_to_u64};
 
 /// How far from 0 a cross product with a bar's way is at most, inside the bar: the whole root of the squares of the
 /// width and the length. It is -1, so that nothing is inside, where one of them is 0.
@@ -24,24 +23,5 @@ pub(crate) fn reach_of(bar: &Bar) -> i128
     if width == 0 || squared_length == 0 {
         return -1;
     }
-    let near = product_near(width, squared_length);
-    i128::from(root(u128::from(width * width) * squared_length, near))
-}
-
-/// The whole root of a number: another number where that is the root, and else by divisions.
-fn root(number: u128, near: u64) -> u64
-    ensures square { result * result ≤ number }
-    ensures greatest { number < (result + 1) * (result + 1) }
-{
-    let square = u128::from(near) * u128::from(near);
-    if square <= number && number - square <= 2 * u128::from(near) {
-        return near;
-    }
-    isqrt(number)
-}
-
-/// About the product of a width and a length, by floats: no promise.
-fn product_near(width: u64, squared_length: u128) -> u64 {
-    let squared_length = squared_length.min(u128::from(u64::MAX)) as u64;
-    saturating_f64_to_u64(nearest_u64_to_f64(width) * nearest_u64_to_f64(squared_length).sqrt())
+    i128::from(isqrt(u128::from(width * width) * squared_length))
 }

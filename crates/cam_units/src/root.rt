@@ -4,27 +4,18 @@ ghost use Rattle.std.specs.Prelude.{◌+◌, ◌*◌, ◌^◌, ◌<◌, ◌≤�
 
 use std::num::{nearest_u64_to_f64, saturating_f64_to_u64};
 
+/// What the upper half of 128 bits is worth: 2^64.
+const UPPER_HALF: f64 = 18_446_744_073_709_551_616.0;
+
 /// The greatest number whose square is at most `n`.
 ///
-/// Of a number of 64 bits it is nearly always that of the nearest float, which is tried; else it is found by Newton's
-/// method, from a power of two above it, by about six divisions.
+/// It is nearly always that of the nearest float, or one less than that, where this was rounded up: these are tried. Else
+/// it is found by Newton's method, from a power of two above it: about six divisions, of 64 bits where `n` fits them.
 pub fn isqrt(n: u128) -> u64
     ensures square { result * result ≤ n }
     ensures greatest { n < (result + 1) * (result + 1) }
 {
-    if n < 0x1_0000_0000_0000_0000 {
-        return short_root(n as u64);
-    }
-    long_root(n) as u64
-}
-
-/// The root of a number of 64 bits: that of the nearest float, where it is right, as it nearly always is, or one less than
-/// that, where this was rounded up.
-fn short_root(n: u64) -> u64
-    ensures square { result * result ≤ n }
-    ensures greatest { n < (result + 1) * (result + 1) }
-{
-    let near = saturating_f64_to_u64(nearest_u64_to_f64(n).sqrt()).min(u64::from(u32::MAX));
+    let near = root_near(n);
     if is_root(near, n) {
         return near;
     }
@@ -35,19 +26,37 @@ fn short_root(n: u64) -> u64
     divided_root(n)
 }
 
+/// About the root, by floats: no promise.
+#[inline]
+fn root_near(n: u128) -> u64 {
+    let upper = nearest_u64_to_f64((n >> 64) as u64);
+    let lower = nearest_u64_to_f64((n % 0x1_0000_0000_0000_0000) as u64);
+    saturating_f64_to_u64((upper * UPPER_HALF + lower).sqrt())
+}
+
 /// Whether a number is the root of another one.
 #[inline]
-fn is_root(root: u64, n: u64) -> bool
-    requires { root < 2 ^ 32 }
+fn is_root(root: u64, n: u128) -> bool
     ensures square { IsTrue result → root * root ≤ n }
     ensures greatest { IsTrue result → n < (root + 1) * (root + 1) }
 {
-    let square = root * root;
-    square <= n && n - square <= 2 * root
+    let square = u128::from(root) * u128::from(root);
+    square <= n && n - square <= 2 * u128::from(root)
 }
 
-/// The root of a number of 64 bits, by divisions.
-fn divided_root(n: u64) -> u64
+/// The root, by divisions.
+fn divided_root(n: u128) -> u64
+    ensures square { result * result ≤ n }
+    ensures greatest { n < (result + 1) * (result + 1) }
+{
+    if n < 0x1_0000_0000_0000_0000 {
+        return short_root(n as u64);
+    }
+    long_root(n) as u64
+}
+
+/// The root of a number of 64 bits.
+fn short_root(n: u64) -> u64
     ensures square { result * result ≤ n }
     ensures greatest { n < (result + 1) * (result + 1) }
 {

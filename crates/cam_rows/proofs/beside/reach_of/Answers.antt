@@ -28,6 +28,6 @@ returns-clause-each c = λ z.
     let wide : pos 0 <ℤ w = omega (arith, ints, c.requires.width, c.if-width-eq0.false) in
     let long : pos 0 <ℤ dot a a =
     rw (← c.squared_distance-squared_length.ensures.value) (omega (arith, ints, c.if-squared_length-eq0.false)) in
-    let kept : to_z w128 (of_z w128 c.from-2.result) ≡ pos c.root.result = omega (arith, ints) in
-    rw kept (inside_by_root z w (dot a a) c.root.result (c.from.result * length) wide long squared
-    c.root.ensures.square c.root.ensures.greatest)
+    let kept : to_z w128 (of_z w128 c.from-2.result) ≡ pos c.isqrt.result = omega (arith, ints) in
+    rw kept (inside_by_root z w (dot a a) c.isqrt.result (c.from.result * length) wide long squared
+    c.isqrt.ensures.square c.isqrt.ensures.greatest)

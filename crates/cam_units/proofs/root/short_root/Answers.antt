@@ -1,6 +1,6 @@
 use Rattle.std.proofs.Common.{arith}
 use Rattle.cam_units.proofs.NewtonRoots.{first_root, next_root}
-use Rattle.cam_units.proofs.root.divided_root.Goals as goal
+use Rattle.cam_units.proofs.root.short_root.Goals as goal
 
 pub loop-quotient-init : goal.loop-quotient-init
 loop-quotient-init c =

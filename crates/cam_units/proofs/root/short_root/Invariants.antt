@@ -1,6 +1,6 @@
 use Rattle.std.proofs.Common.{◌^◌, ◌≤◌}
 use Rattle.cam_units.proofs.NewtonRoots.{IsFromAbove}
-use Rattle.cam_units.proofs.root.divided_root.Given as goal
+use Rattle.cam_units.proofs.root.short_root.Given as goal
 
 abbrev pub invariant-loop-quotient : goal.invariant-loop-quotient
 invariant-loop-quotient l = record { from : IsFromAbove l.n l.root l.quotient; short : l.root ≤ 2 ^ 32 }
