@@ -32,6 +32,7 @@ pub mod SeenRows
 pub mod ShapeHeights
 pub mod ShownItems
 pub mod ShownRegions
+pub mod SolidMasks
 pub mod SpanLemmas
 pub mod Stamps
 pub mod StepLemmas

@@ -10,6 +10,7 @@ pub(crate) mod join;
 pub(crate) mod mask;
 pub(crate) mod runs;
 pub(crate) mod shapes;
+pub(crate) mod solid;
 pub(crate) mod stamps;
 pub(crate) mod swath;
 pub(crate) mod turning;

@@ -1,6 +1,6 @@
 -- Swaths: the dirty tiles of a row of tiles, as masks side by side, on which a leaf is painted once.
 use Rattle.std.specs.Prelude.{◌≡◌, ◌↔◌, ◌⊎◌, ℕ, ◌+◌, ◌/◌, ◌%◌, ◌<◌, ◌≤◌, pos, ◌+ℤ◌, ◌*ℤ◌, ◌≤ℤ◌}
-use Rattle.std.specs.Prelude.{Bool, List, [], ◌∷◌, Some, None, length, slice_index, slice_index_or, ◌*◌}
+use Rattle.std.specs.Prelude.{Bool, List, [], ◌∷◌, Some, None, length, slice_index, slice_index_or, true, ◌*◌}
 use Rattle.cam_units.specs.declared.bounds.Bounds.{Bounds}
 use Rattle.cam_units.specs.declared.point.Spot.{Spot}
 use Rattle.cam_objects.specs.Canvases.{Paints}
@@ -58,6 +58,16 @@ HasMask masks k = IsIn (grid_at masks k) 0 0
 -- the rows of each mask have these heights
 abbrev pub HasLevels : Levels → List Marking → Type 0
 HasLevels levels masks = (k : ℕ) → HasMask masks k → levels_of (grid_at masks k) ≡ levels
+
+-- ---- masks that are black
+
+-- the rows of a mask before one are black all along
+abbrev pub IsSolid : ℕ → Marking → Type 0
+IsSolid rows m = (column row : ℕ) → row < rows → IsIn m.grid column row → ink_of m column row ≡ true
+
+-- and those of each of some masks
+abbrev pub AreSolid : List ℕ → List Marking → Type 0
+AreSolid rows masks = (k : ℕ) → IsSolid (slice_index rows k) (mask_at masks k)
 
 -- ---- the tiles of a row of tiles
 
@@ -118,3 +128,5 @@ pub record IsSwath (s : Inside) : Type 0 where
   pub laid : IsLaidOut s.pitch s.bounds s.before.items (length s.masks.items) (grid_at s.masks.items)
   pub stand : StandInRow s.corner s.columns s.tiles.items s.before.items (length s.masks.items) (grid_at s.masks.items)
   pub room : 64 * length s.before.items ≤ length s.marks.items
+  pub known : length s.masks.items ≤ length s.solid.items
+  pub solid : AreSolid s.solid.items s.masks.items

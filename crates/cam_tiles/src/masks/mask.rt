@@ -1,6 +1,6 @@
 //! A mask, and how it gains and loses marks.
 
-ghost use Rattle.std.specs.Prelude.{◌≡◌, ◌↔◌, ◌+◌, ◌*◌, ◌<◌, ◌≤◌, ℕ, IsTrue, length};
+ghost use Rattle.std.specs.Prelude.{◌≡◌, ◌↔◌, ◌+◌, ◌*◌, ◌<◌, ◌≤◌, ℕ, IsTrue, length, true};
 ghost use Rattle.std.specs.Int.{IsBitSet};
 ghost use Rattle.cam_units.specs.Board.{IsOnBoard};
 ghost use Rattle.cam_objects.specs.Image.{relative};
@@ -8,8 +8,9 @@ ghost use Rattle.cam_rows.specs.Marks.{is_marked};
 ghost use Rattle.cam_rows.specs.Rows.{IsRow, centre_at};
 ghost use Rattle.cam_rows.specs.Runs.{most_columns};
 ghost use Rattle.cam_tiles.specs.Machinery.Masks.{HoldsCentres, IsBlank, IsIn, IsMarked, IsMask, IsWithin, Joins};
-ghost use Rattle.cam_tiles.specs.Machinery.Masks.{Merges, joined};
+ghost use Rattle.cam_tiles.specs.Machinery.Masks.{Merges, ink_of, joined};
 ghost use Rattle.cam_tiles.specs.Machinery.Runs.{Fits, HasColumn};
+ghost use Rattle.cam_tiles.specs.Machinery.Swaths.{IsSolid};
 ghost use Rattle.cam_tiles.specs.Tiles.{IsGrid, centre_in};
 
 use crate::grid::Grid;
@@ -117,6 +118,28 @@ impl Mask {
         ensures mask { IsMask self.now }
     {
         self.rows
+    }
+
+    /// Whether all centres of a row are marked.
+    #[inline]
+    fn is_solid_in(&self, row: u32) -> bool
+        requires { row < self.now.grid.rows }
+        ensures { IsTrue result → (column : ℕ) → IsIn self.now.grid column row → ink_of self.now column row ≡ true }
+    {
+        self.rows[row as usize] == u64::MAX >> (64 - self.grid.columns)
+    }
+
+    /// How many rows from the top are black all along, where so many are known to be.
+    pub(crate) fn solid_rows(&self, known: u32) -> u32
+        requires { IsSolid known self.now }
+        ensures { IsSolid result self.now }
+    {
+        for row in known..self.grid.rows {
+            if !self.is_solid_in(row) {
+                return row;
+            }
+        }
+        self.grid.rows
     }
 
     /// Joins the marks with the places of a shape, which stands at a point as it does about (0, 0).

@@ -1,12 +1,12 @@
 //! The tiles of a row of tiles that are drawn at once, as masks side by side.
 
 ghost use Rattle.std.specs.Prelude.{◌≡◌, ◌+◌, ◌<◌, ◌≤◌, ◌⊎◌, ℕ, ◌∷◌, [], OnOk, count_by, is_none, length, map, slice_index_or};
-ghost use Rattle.std.specs.Prelude.{pos, vec_capacity, ◌+ℤ◌, ◌*ℤ◌, ◌≤ℤ◌, ◌<ℤ◌, ℤ, Bool, true};
+ghost use Rattle.std.specs.Prelude.{pos, vec_capacity, ◌+ℤ◌, ◌*ℤ◌, ◌≤ℤ◌, ◌<ℤ◌, ℤ, Bool, IsTrue, true};
 ghost use Rattle.cam_units.specs.Boxes.{Holds};
 ghost use Rattle.cam_units.specs.declared.point.Spot.{Spot};
 ghost use Rattle.cam_objects.specs.Bounds.{bounds_of};
 ghost use Rattle.cam_objects.specs.Canvases.{IsSoundPrint, leaf_of};
-ghost use Rattle.cam_objects.specs.Leaves.{Filled, leaf};
+ghost use Rattle.cam_objects.specs.Leaves.{Filled, Shape, leaf};
 ghost use Rattle.cam_tiles.specs.declared.grid.Grid.{Grid};
 ghost use Rattle.cam_tiles.specs.Machinery.Filing.{AreFiled, IsOnBoardWhole};
 ghost use Rattle.cam_tiles.specs.Machinery.Levels.{levels_of};
@@ -39,6 +39,7 @@ use crate::masks::figures::{Placed, paint_each, paint_figures, placed_of};
 use crate::masks::filing::FiledSegment;
 use crate::masks::heights::Heights;
 use crate::masks::mask::Mask;
+use crate::masks::solid::{are_solid, follow};
 use crate::masks::turning::{fill_marked, mark_inside};
 use crate::painter::Tile;
 use crate::shown::Region;
@@ -72,6 +73,8 @@ pub(crate) struct Swath {
     masks: Vec<Mask>,
     /// The runs of the figure that was painted last.
     runs: FigureRuns,
+    /// For each mask, how many of its rows from the top are known to be black all along.
+    solid: Vec<u32>,
     /// Room for the marks of a region: 64 words for each tile of the row.
     marks: Vec<u64>,
 }
@@ -108,6 +111,7 @@ impl Swath {
             tiles: Vec::new(alloc),
             masks: Vec::new(alloc),
             runs: FigureRuns::none(),
+            solid: Vec::new(alloc),
             marks: Vec::new(alloc),
         }
     }
@@ -129,9 +133,11 @@ impl Swath {
         self.before.clear();
         self.tiles.clear();
         self.masks.clear();
+        self.solid.clear();
         self.before.reserve(tiles.len())?;
         self.tiles.reserve(tiles.len())?;
         self.masks.reserve(tiles.len())?;
+        self.solid.resize(tiles.len(), 0)?;
         self.marks.resize(64 * tiles.len(), 0)?;
         let corner = window.grid(first);
         self.pitch = Pitch {
@@ -185,9 +191,22 @@ impl Swath {
     {
         let first = self.first_reached(left);
         let end = self.end_reached(right);
-        if first < end {
+        if first < end && !self.is_hidden(first, end, region.dark) {
             self.fill_together(first, end, region, filed);
         }
+    }
+
+    /// Whether a leaf changes no mask from one number to another: a dark one, where all of them are black all over.
+    fn is_hidden(&mut self, first: usize, end: usize, dark: bool) -> bool
+        requires { end ≤ length self.old }
+        ensures kept { self.new ≡ self.old }
+        ensures hidden { IsTrue result
+            → (shape : Shape) → ArePaintedIn first end (leaf shape dark ∷ []) self.old self.old }
+    {
+        if !dark {
+            return false;
+        }
+        are_solid(&self.masks, first, end, &mut self.solid)
     }
 
     /// Joins the masks from one number to another with the inside of a region: each segment is counted once for all of
@@ -217,6 +236,7 @@ impl Swath {
             region.contour,
             filed,
         );
+        follow(&mut self.solid, first, end, region.dark);
         fill_marked(
             &mut self.masks,
             first,
@@ -240,6 +260,7 @@ impl Swath {
         let end_tile = columns.end.div_ceil(64) as usize;
         let first = masks_before(&self.before, first_tile, &self.masks);
         let end = masks_before(&self.before, end_tile, &self.masks);
+        follow(&mut self.solid, first, end, print.dark);
         paint_figures(&mut self.masks, first, end, &self.tiles, &self.runs, print);
     }
 
@@ -283,6 +304,9 @@ impl Canvas for Swath {
         };
         let first = self.first_reached(low.x);
         let end = self.end_reached(high.x);
+        if self.is_hidden(first, end, print.dark) {
+            return;
+        }
         let heights = Heights {
             low: low.y,
             high: high.y,
@@ -293,6 +317,7 @@ impl Canvas for Swath {
             self.paint_figure(&placed, print);
             return;
         }
+        follow(&mut self.solid, first, end, print.dark);
         paint_each(&mut self.masks, first, end, print);
     }
 }

@@ -11,6 +11,7 @@ use Rattle.cam_tiles.specs.Machinery.Swaths.{HasMask, grid_at}
 use Rattle.cam_tiles.specs.Machinery.Turning.{AreMarkedAt}
 use Rattle.cam_tiles.proofs.MarkedTiles.{filed_read, left_before, left_of_all, marked_read, room_read, wide_read}
 use Rattle.cam_tiles.proofs.PaintedSwaths.{part_kept, put_back}
+use Rattle.cam_tiles.proofs.SolidMasks.{solid_back}
 use Rattle.cam_tiles.proofs.masks.swath.Swath.fill_together.Goals as goal
 
 pub overflow_sub-right : goal.overflow_sub-right
@@ -87,10 +88,10 @@ fill_marked-requires-clause-marked c = λ k after until.
     c.requires.some few c.index-left.ensures c.index.ensures c.min-right.ensures
     (c.grid-grid.ensures.value ∙ ap (λ (m : Marking). m.grid) c.index-2.ensures) c.grid-grid.ensures.grid
     IsHeld marks room c.mark_inside.ensures k after until in
-    subst (λ (ts : List ℕ). AreMarkedAt (slice_index ts k - left) (grid_at c.deref_mut-2.result.now k) IsHeld c.deref-2.result.now)
+    subst (λ (ts : List ℕ). AreMarkedAt (slice_index ts k - left) (grid_at c.deref_mut-3.result.now k) IsHeld c.deref-2.result.now)
     (sym c.deref.ensures.value)
     (subst (λ (ms : List Marking). AreMarkedAt (slice_index s.tiles.items k - left) (grid_at ms k) IsHeld c.deref-2.result.now)
-    (sym c.deref_mut-2.ensures.value)
+    (sym c.deref_mut-3.ensures.value)
     (subst (AreMarkedAt (slice_index s.tiles.items k - left) (grid_at s.masks.items k) IsHeld) (sym kept) here))
 
 pub invariant_of-self : goal.invariant_of-self
@@ -98,19 +99,25 @@ invariant_of-self c =
     let s = c.self.inside in
     let leaves = leaf (Filled c.args.region.contour.now) c.args.region.dark ∷ [] in
     let new = c.fill_marked.new.masks in
-    let after = with_items_is s.masks new (c.fill_marked.ensures.size ∙ c.deref_mut-2.ensures.len) in
+    let after = with_items_is s.masks new (c.fill_marked.ensures.size ∙ c.deref_mut-3.ensures.len) in
     let words = with_items_is s.marks c.mark_inside.new.marks (c.mark_inside.auto.marks ∙ c.deref_mut.ensures.len) in
+    let rows = with_items_is s.solid c.follow.new.solid (c.follow.auto.solid ∙ c.deref_mut-2.ensures.len) in
+    let part =
+    put_back c.args.first c.args.end leaves s.masks.items c.deref_mut-3.result.now new _
+    c.deref_mut-3.ensures.value after c.fill_marked.ensures in
     let kept =
-    part_kept c.args.first c.args.end leaves s.masks.items _
-    (put_back c.args.first c.args.end leaves s.masks.items c.deref_mut-2.result.now new _
-    c.deref_mut-2.ensures.value after c.fill_marked.ensures)
-    s.pitch s.bounds s.corner s.columns s.tiles.items s.before.items
+    part_kept c.args.first c.args.end leaves s.masks.items _ part s.pitch s.bounds s.corner s.columns s.tiles.items s.before.items
     (subst (λ (ms : List Marking). c.args.end ≤ length ms) (sym c.self.view_is) c.requires.end)
     c.self.invariant.laid c.self.invariant.stand in
     record {
       laid = kept.0;
       stand = kept.1;
       room = omega (arith, c.self.invariant.room, ap length words, c.mark_inside.auto.marks, ap length c.deref_mut.ensures.value);
+      known = omega (arith, c.self.invariant.known, part.size, ap length rows, c.follow.auto.solid, c.deref_mut-2.ensures.len);
+      solid = solid_back s.solid.items c.deref_mut-2.result.now c.follow.new.solid _ s.masks.items _
+          c.deref_mut-2.ensures.value rows
+          (λ known. c.follow.ensures (Filled c.args.region.contour.now) s.masks.items _ known part)
+          c.self.invariant.solid;
     }
 
 pub returns : goal.returns
@@ -118,6 +125,6 @@ returns c =
     let s = c.self.inside in
     let leaves = leaf (Filled c.args.region.contour.now) c.args.region.dark ∷ [] in
     let new = c.fill_marked.new.masks in
-    let after = with_items_is s.masks new (c.fill_marked.ensures.size ∙ c.deref_mut-2.ensures.len) in
-    put_back c.args.first c.args.end leaves c.args.self.now c.deref_mut-2.result.now new _
-    (c.deref_mut-2.ensures.value ∙ c.self.view_is) after c.fill_marked.ensures
+    let after = with_items_is s.masks new (c.fill_marked.ensures.size ∙ c.deref_mut-3.ensures.len) in
+    put_back c.args.first c.args.end leaves c.args.self.now c.deref_mut-3.result.now new _
+    (c.deref_mut-3.ensures.value ∙ c.self.view_is) after c.fill_marked.ensures
