@@ -14,9 +14,9 @@ use Rattle.cam_rows.specs.declared.centres.Centres.{Centres}
 use Rattle.cam_rows.specs.declared.half_plane.HalfPlane.{HalfPlane}
 use Rattle.cam_rows.specs.declared.offsets.Offsets.{Offsets}
 use Rattle.cam_rows.specs.Machinery.Chords.{AreOffsetsFrom, AreWideOffsets, offset}
-use Rattle.cam_rows.specs.Machinery.HalfPlanes.{IsHalfPlaneOf, numbers_of}
+use Rattle.cam_rows.specs.Machinery.HalfPlanes.{AreRows, IsHalfPlaneOf, numbers_of}
 use Rattle.cam_rows.specs.Machinery.Narrowing.{AreNarrowed, IsInRow, IsNearer, IsUp, leftmost}
-use Rattle.cam_rows.specs.Rows.{AreRows, IsRow, centre_at, row_below}
+use Rattle.cam_rows.specs.Rows.{IsRow, centre_at, row_below}
 use Rattle.cam_rows.specs.Runs.{AreRuns, AreWideRows, IsInRun, IsWideRow}
 use Rattle.cam_rows.proofs.Chords.{seen_in_chord}
 use Rattle.cam_rows.proofs.Columns.{offset_is, offset_short}

@@ -1,11 +1,10 @@
 //! The row of a hole.
 
-ghost use Rattle.std.specs.Prelude.{length};
 ghost use Rattle.cam_shapes.specs.Disc.{IsInHole, IsSoundDisc};
-ghost use Rattle.cam_rows.specs.Rows.{AreMarked, AreRows, IsRow, Marks};
+ghost use Rattle.cam_rows.specs.Rows.{IsRow, Marks};
 
 use crate::centres::Centres;
-use crate::rows::{mark_rows, row_of};
+use crate::rows::row_of;
 use crate::run_shape::RunShape;
 use crate::runs::hole::hole_runs;
 use cam_shapes::Disc;
@@ -34,13 +33,4 @@ pub fn hole_row(disc: Disc, centres: Centres) -> u64
     ensures { Marks result centres (λ s. IsInHole s disc) }
 {
     row_of(&Hole(disc), &centres)
-}
-
-/// The rows of a hole, one below another from the top one: each is that of [`hole_row`].
-pub fn hole_rows(disc: Disc, top: Centres, rows: &mut [u64])
-    requires disc { IsSoundDisc disc }
-    requires rows { AreRows top (length rows.old) }
-    ensures { AreMarked rows.new top (λ s. IsInHole s disc) }
-{
-    mark_rows(&Hole(disc), &top, rows);
 }
