@@ -49,9 +49,6 @@ impl RunShape for Hollow {
     ghost holds = { λ h s. IsHollow h.arc s };
 
     fn find(&self, top: &Centres, firsts: &mut [u32], ends: &mut [u32]) {
-        if firsts.is_empty() {
-            return;
-        }
         narrow_to_circle(&self.arc.centre, self.ring.inner, top, firsts, ends);
     }
 }

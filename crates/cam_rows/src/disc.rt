@@ -6,7 +6,8 @@ ghost use Rattle.cam_rows.specs.Rows.{IsRow, Marks};
 use crate::centres::Centres;
 use crate::rows::row_of;
 use crate::run_shape::RunShape;
-use crate::runs::disc::disc_runs;
+use crate::runs::circle::narrow_to_circle;
+use crate::runs::disc::bound_of;
 use cam_shapes::Disc;
 
 impl RunShape for Disc {
@@ -14,9 +15,9 @@ impl RunShape for Disc {
 
     ghost holds = { λ d s. IsInDisc s d };
 
-    #[tactic(auto, using(crate::proofs::FoundRuns::found_anew))]
     fn find(&self, top: &Centres, firsts: &mut [u32], ends: &mut [u32]) {
-        disc_runs(self, top, firsts, ends);
+        let bound = u128::from(bound_of(self));
+        narrow_to_circle(&self.centre, bound, top, firsts, ends);
     }
 }
 

@@ -6,7 +6,8 @@ ghost use Rattle.cam_rows.specs.Rows.{IsRow, Marks};
 use crate::centres::Centres;
 use crate::rows::row_of;
 use crate::run_shape::RunShape;
-use crate::runs::hole::hole_runs;
+use crate::runs::circle::narrow_to_circle;
+use crate::runs::hole::bound_of;
 use cam_shapes::Disc;
 
 /// The hole of an aperture: a disc without its edge. The diameter is in nanometres.
@@ -18,9 +19,9 @@ impl RunShape for Hole {
 
     ghost holds = { λ h s. IsInHole s h.0 };
 
-    #[tactic(auto, using(crate::proofs::FoundRuns::found_anew))]
     fn find(&self, top: &Centres, firsts: &mut [u32], ends: &mut [u32]) {
-        hole_runs(&self.0, top, firsts, ends);
+        let bound = u128::from(bound_of(&self.0));
+        narrow_to_circle(&self.0.centre, bound, top, firsts, ends);
     }
 }
 

@@ -1,6 +1,6 @@
 //! Runs of edges of closed polygons.
 
-ghost use Rattle.std.specs.Prelude.{◌≡◌, ◌≢◌, ◌<◌, ℕ, IsTrue, length, pos, ◌<ℤ◌};
+ghost use Rattle.std.specs.Prelude.{◌≢◌, ◌<◌, ℕ, IsTrue, length, pos, ◌<ℤ◌};
 ghost use Rattle.cam_units.specs.Board.{IsOnBoard};
 ghost use Rattle.cam_shapes.specs.Edge.{crosses_ray, edge, is_above};
 ghost use Rattle.cam_shapes.specs.Plane.{cross, seen_from, way};
