@@ -1,5 +1,5 @@
 -- Which side of an edge a place is on, by its ends in either order.
-use Rattle.std.proofs.Common.{◌≡◌, ◌≢◌, ◌↔◌, ℕ, Bool, true, false, IsTrue, ℤ, pos, negsuc, ◌-ℤ◌, ◌*ℤ◌, ◌≤ℤ◌, ◌<ℤ◌}
+use Rattle.std.proofs.Common.{◌≡◌, ◌≢◌, ◌↔◌, ℕ, ◌<◌, Bool, true, false, IsTrue, ℤ, pos, negsuc, ◌-ℤ◌, ◌*ℤ◌, ◌≤ℤ◌, ◌<ℤ◌}
 use Rattle.std.proofs.Common.{inl, inr, subst, sym, ◌∙◌, arith}
 use Rattle.std.proofs.lemmas.Bool.{cases_Bool, false≢true}
 use Rattle.std.proofs.lemmas.Int.{by_lt_z, ints}
@@ -31,7 +31,7 @@ through : {A B C : Type 0} → (A ↔ B) → (C ↔ B) → A ↔ C
 through f g = ((λ a. g.1 (f.0 a)), (λ c. f.1 (g.0 c)))
 
 -- an edge that falls crosses the rays from the left of its reverse
-pub left_of_reverse : (s : Spot) (p q : Point) → is_above p s ≡ true → is_above q s ≡ false
+left_of_reverse : (s : Spot) (p q : Point) → is_above p s ≡ true → is_above q s ≡ false
     → (pos 0 <ℤ cross (way q p) (seen_from q s)) ↔ IsTrue (crosses_ray s (edge p q))
 left_of_reverse s p q above below =
     rw (above, below) (through
@@ -39,7 +39,7 @@ left_of_reverse s p q above below =
     (less_is (cross (way p q) (seen_from p s)) (pos 0)))
 
 -- and one that rises, from its own left
-pub left_of_edge : (s : Spot) (p q : Point) → is_above p s ≡ false → is_above q s ≡ true
+left_of_edge : (s : Spot) (p q : Point) → is_above p s ≡ false → is_above q s ≡ true
     → (pos 0 <ℤ cross (way p q) (seen_from p s)) ↔ IsTrue (crosses_ray s (edge p q))
 left_of_edge s p q below above =
     let told = less_is (pos 0) (cross (way p q) (seen_from p s)) in rw (below, above) (told.1, told.0)
@@ -65,6 +65,10 @@ other_above a b e apart = elim (cases_Bool b) [ inl other ↦ other | inr same �
 -- exactly one end of the edge is above the row
 abbrev IsCrossed : Point → Point → Centres → Type 0
 IsCrossed p q c = is_above p c.first ≢ is_above q c.first
+
+pub only_crossed : (p q : Point) (c : Centres) (k : ℕ) → k < 1 → IsCrossed p q c → IsCrossed p q (row_below c k)
+only_crossed p q c k within crossed =
+    let top : k ≡ 0 = omega arith in rw top (subst (IsCrossed p q) (sym (top_row c)) crossed)
 
 -- an edge whose start is above the top row falls through each row that it crosses, and another rises
 pub falls_through : (p q : Point) (c : Centres) (k i : ℕ) → pos 1 ≤ℤ c.step → is_above p c.first ≡ true

@@ -1,4 +1,3 @@
-pub mod ArcParts
 pub mod ArcRuns
 pub mod AxisBars
 pub mod BesideWays
@@ -6,7 +5,6 @@ pub mod CapRows
 pub mod CapSides
 pub mod CapTies
 pub mod CapsuleParts
-pub mod ChangedRows
 pub mod ChordWalks
 pub mod Chords
 pub mod Circling
@@ -21,7 +19,6 @@ pub mod JoinedLanes
 pub mod MarkedColumns
 pub mod MarkedRows
 pub mod Middles
-pub mod MissedDiscs
 pub mod NarrowedRuns
 pub mod NearRows
 pub mod OneRow

@@ -1,8 +1,9 @@
 -- Rows whose centres lie near a point, by their first and last centres.
-use Rattle.std.proofs.Common.{◌≡◌, ℕ, ◌+◌, ◌-◌, ◌*◌, ◌^◌, ◌<◌, ℤ, pos, ◌+ℤ◌, ◌-ℤ◌, ◌*ℤ◌, ◌≤ℤ◌, ◌<ℤ◌}
+use Rattle.std.proofs.Common.{◌≡◌, ℕ, ◌+◌, ◌-◌, ◌*◌, ◌^◌, ◌<◌, ◌≤◌, ℤ, pos, ◌+ℤ◌, ◌-ℤ◌, ◌*ℤ◌, ◌≤ℤ◌, ◌<ℤ◌}
 use Rattle.std.proofs.Common.{FitsSigned, w64, refl, arith}
 use Rattle.std.specs.Int.RustNames.{unsigned_abs}
 use Rattle.std.proofs.lemmas.Int.{ints}
+use Rattle.std.proofs.lemmas.Nat.{mul-le}
 use Rattle.cam_units.specs.declared.point.Point.{Point}
 use Rattle.cam_shapes.specs.Plane.{seen_from, square}
 use Rattle.cam_shapes.proofs.Widths.{narrow}
@@ -13,7 +14,14 @@ use Rattle.cam_rows.specs.Rows.{row_below}
 use Rattle.cam_rows.specs.Runs.{IsWideRow}
 use Rattle.cam_rows.proofs.Circling.{square_of}
 use Rattle.cam_rows.proofs.Columns.{goes_right}
-use Rattle.cam_rows.proofs.MissedDiscs.{rising}
+
+-- a number of steps, by that of the last row
+rising : (step : ℤ) (k last : ℕ) → k ≤ last → pos 1 ≤ℤ step
+    → (pos 0 ≤ℤ (pos k *ℤ step)) × ((pos k *ℤ step) ≤ℤ (pos last *ℤ step))
+rising step k last within some =
+    let pitch = unsigned_abs step in
+    let is : step ≡ pos pitch = omega (arith, ints) in
+    rw is (omega (arith, ints), omega (arith, ints, mul-le k pitch last pitch within (omega arith)))
 
 pub near_rows : (p : Point) (top : Centres) (n : ℕ) (o : Offsets) → IsWideRow top → AreOffsetsFrom top p o
     → top.step <ℤ pos (2 ^ 32) → (pos 0 -ℤ pos (2 ^ 32)) <ℤ o.first

@@ -14,9 +14,9 @@ use Rattle.cam_rows.specs.declared.centres.Centres.{Centres}
 use Rattle.cam_rows.specs.declared.half_plane.HalfPlane.{HalfPlane}
 use Rattle.cam_rows.specs.declared.offsets.Offsets.{Offsets}
 use Rattle.cam_rows.specs.Machinery.Chords.{AreOffsetsFrom, AreWideOffsets, offset}
-use Rattle.cam_rows.specs.Machinery.HalfPlanes.{IsHalfPlaneOf, numbers_of}
+use Rattle.cam_rows.specs.Machinery.HalfPlanes.{AreRows, IsHalfPlaneOf, numbers_of}
 use Rattle.cam_rows.specs.Machinery.Narrowing.{AreNarrowed, IsInRow, IsNearer, IsUp, leftmost}
-use Rattle.cam_rows.specs.Rows.{AreRows, IsRow, centre_at, row_below}
+use Rattle.cam_rows.specs.Rows.{IsRow, centre_at, row_below}
 use Rattle.cam_rows.specs.Runs.{AreRuns, AreWideRows, IsInRun, IsWideRow}
 use Rattle.cam_rows.proofs.Chords.{seen_in_chord}
 use Rattle.cam_rows.proofs.Columns.{offset_is, offset_short}
@@ -217,7 +217,3 @@ in_corners s low high r e f g h = (
 -- what two facts say alike
 pub by_strip : (B S N : Type 0) → B ↔ S → N ↔ S → B ↔ N
 by_strip B S N told near = ((λ b. near.1 (told.0 b)), (λ n. told.1 (near.0 n)))
-
--- a column of a row is in the run of all of them
-pub of_whole_row : (count i : ℕ) (R P : Type 0) → i < count → R ↔ (IsInRun 0 count i × P) → R ↔ P
-of_whole_row count i R P within told = ((λ r. (told.0 r).1), (λ held. told.1 ((omega arith, within), held)))

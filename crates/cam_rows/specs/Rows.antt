@@ -1,5 +1,5 @@
 -- Rows: the centres of up to 64 pixels side by side, and which of them a shape holds.
-use Rattle.std.specs.Prelude.{◌↔◌, ℕ, ◌<◌, ◌≤◌, ◌⊎◌, List, length, slice_index, pos, ◌+ℤ◌, ◌-ℤ◌, ◌*ℤ◌, ◌≤ℤ◌}
+use Rattle.std.specs.Prelude.{◌↔◌, ℕ, ◌<◌, ◌≤◌, pos, ◌+ℤ◌, ◌-ℤ◌, ◌*ℤ◌, ◌≤ℤ◌}
 use Rattle.std.specs.Int.{IsBitSet}
 use Rattle.cam_units.specs.Board.{IsInReach}
 use Rattle.cam_units.specs.declared.point.Spot.{Spot}
@@ -27,19 +27,3 @@ row_below c k = record {
   step = c.step;
   count = c.count;
 }
-
--- so many rows, one below another from the top one
-abbrev pub AreRows : Centres → ℕ → Type 0
-AreRows top n = (k : ℕ) → k < n → IsRow (row_below top k)
-
--- each number of a list marks the shape in its row
-abbrev pub AreMarked : List ℕ → Centres → (Spot → Type 0) → Type 0
-AreMarked rows top IsIn = (k : ℕ) → k < length rows → Marks (slice_index rows k) (row_below top k) IsIn
-
--- the bits of a list of rows are turned over where the shape holds their centres, and the others as they were
-abbrev pub AreTurned : List ℕ → Centres → (Spot → Type 0) → List ℕ → Type 0
-AreTurned old top IsIn new =
-    (k i : ℕ) → k < length old → i < 64
-    → (let was = IsBitSet (slice_index old k) i in
-    let held = (i < top.count) × IsIn (centre_at (row_below top k) i) in
-    IsBitSet (slice_index new k) i ↔ ((was × (held → ⊥)) ⊎ ((was → ⊥) × held)))

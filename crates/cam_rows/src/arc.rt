@@ -1,21 +1,16 @@
 //! Rows of an arc's stroke.
 
-ghost use Rattle.std.specs.Prelude.{IsTrue, length};
-ghost use Rattle.cam_units.specs.declared.point.Spot.{Spot};
 ghost use Rattle.cam_shapes.specs.Arc.{IsInArc, IsSoundArc};
-ghost use Rattle.cam_rows.specs.declared.rows.Change.TheVariants.{Clear};
 ghost use Rattle.cam_rows.specs.ArcRuns.{IsBeyond, IsHollow, IsOuter, IsRingOf};
-ghost use Rattle.cam_rows.specs.Machinery.Changes.{AreChanged, Has};
-ghost use Rattle.cam_rows.specs.Rows.{AreMarked, AreRows, IsRow, Marks};
+ghost use Rattle.cam_rows.specs.Rows.{IsRow, Marks};
 
 use crate::centres::Centres;
-use crate::disc::add_disc;
+use crate::disc::disc_row;
 use crate::ring::{Ring, ring_of};
-use crate::rows::{Change, change_rows, mark_rows};
+use crate::rows::row_of;
 use crate::run_shape::RunShape;
 use crate::runs::arc::{beyond_runs, outer_runs};
 use crate::runs::circle::narrow_to_circle;
-use crate::sweep::cross_product;
 use cam_shapes::{Arc, Disc};
 
 /// What the outer circle of an arc's stroke holds, and its sweep, where that is at most a half turn: the runs are those
@@ -54,9 +49,6 @@ impl RunShape for Hollow {
     ghost holds = { λ h s. IsHollow h.arc s };
 
     fn find(&self, top: &Centres, firsts: &mut [u32], ends: &mut [u32]) {
-        if firsts.is_empty() {
-            return;
-        }
         narrow_to_circle(&self.arc.centre, self.ring.inner, top, firsts, ends);
     }
 }
@@ -80,21 +72,10 @@ pub fn arc_row(arc: Arc, centres: Centres) -> u64
     requires row { IsRow centres }
     ensures { Marks result centres (λ s. IsInArc s arc) }
 {
-    let mut rows = [0];
-    arc_rows(arc, centres, &mut rows);
-    rows[0]
-}
-
-/// The rows of an arc's stroke, one below another from the top one: each is that of [`arc_row`].
-pub fn arc_rows(arc: Arc, top: Centres, rows: &mut [u64])
-    requires arc { IsSoundArc arc }
-    requires rows { AreRows top (length rows.old) }
-    ensures { AreMarked rows.new top (λ s. IsInArc s arc) }
-{
     let ring = ring_of(&arc);
-    mark_rows(&Outer { arc, ring }, &top, rows);
-    change_rows(&Hollow { arc, ring }, Change::Clear, &top, rows);
-    clear_beyond(&arc, &top, rows);
+    let outer = row_of(&Outer { arc, ring }, &centres);
+    let hollow = row_of(&Hollow { arc, ring }, &centres);
+    let beyond = row_of(&Beyond(arc), &centres);
     let start = Disc {
         centre: arc.from,
         diameter: arc.width,
@@ -103,27 +84,5 @@ pub fn arc_rows(arc: Arc, top: Centres, rows: &mut [u64])
         centre: arc.to,
         diameter: arc.width,
     };
-    add_disc(&start, &top, rows);
-    add_disc(&end, &top, rows);
-}
-
-/// Clears the bits of the centres that an arc's sweep leaves out, in rows one below another from the top one: none of
-/// them is looked at where it is at most a half turn.
-fn clear_beyond(arc: &Arc, top: &Centres, rows: &mut [u64])
-    requires arc { IsSoundArc arc.now }
-    requires rows { AreRows top.now (length rows.old) }
-    ensures { AreChanged Clear rows.old (Has top.now (λ s. IsBeyond arc.now s)) rows.new }
-{
-    if leaves_out(arc) {
-        change_rows(&Beyond(*arc), Change::Clear, top, rows);
-    }
-}
-
-/// Whether an arc's sweep is more than a half turn, and so leaves places out.
-fn leaves_out(arc: &Arc) -> bool
-    requires { IsSoundArc arc.now }
-    ensures { (IsTrue result → ⊥) → (s : Spot) → IsBeyond arc.now s → ⊥ }
-{
-    let turn = cross_product(&arc.centre, &arc.from, &arc.to);
-    if arc.ccw { turn < 0 } else { turn > 0 }
+    (outer & !hollow & !beyond) | disc_row(start, centres) | disc_row(end, centres)
 }

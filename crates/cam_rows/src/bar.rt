@@ -1,11 +1,10 @@
 //! Rows of bars.
 
-ghost use Rattle.std.specs.Prelude.{length};
 ghost use Rattle.cam_shapes.specs.Bar.{IsInBar, IsSoundBar};
-ghost use Rattle.cam_rows.specs.Rows.{AreMarked, AreRows, IsRow, Marks};
+ghost use Rattle.cam_rows.specs.Rows.{IsRow, Marks};
 
 use crate::centres::Centres;
-use crate::rows::{mark_rows, row_of};
+use crate::rows::row_of;
 use crate::run_shape::RunShape;
 use crate::runs::bar::bar_runs;
 use cam_shapes::Bar;
@@ -29,13 +28,4 @@ pub fn bar_row(bar: Bar, centres: Centres) -> u64
     ensures { Marks result centres (λ s. IsInBar s bar) }
 {
     row_of(&bar, &centres)
-}
-
-/// The rows of a bar, one below another from the top one: each is that of [`bar_row`].
-pub fn bar_rows(bar: Bar, top: Centres, rows: &mut [u64])
-    requires bar { IsSoundBar bar }
-    requires rows { AreRows top (length rows.old) }
-    ensures { AreMarked rows.new top (λ s. IsInBar s bar) }
-{
-    mark_rows(&bar, &top, rows);
 }

@@ -1,15 +1,15 @@
 //! The row of a cap.
 
-ghost use Rattle.std.specs.Prelude.{◌≡◌, IsTrue, length};
+ghost use Rattle.std.specs.Prelude.{◌≡◌, IsTrue};
 ghost use Rattle.cam_shapes.specs.Cap.{IsSoundCap, is_in_cap, is_on_side};
 ghost use Rattle.cam_shapes.specs.Plane.{way};
-ghost use Rattle.cam_rows.specs.Rows.{AreMarked, AreRows, IsRow, Marks};
+ghost use Rattle.cam_rows.specs.Rows.{IsRow, Marks};
 ghost use Rattle.cam_rows.specs.Machinery.HalfPlanes.{IsHalfPlaneOf};
 ghost use Rattle.cam_rows.specs.Machinery.Ties.{leads_down_or_right};
 
 use crate::centres::Centres;
 use crate::half_plane::HalfPlane;
-use crate::rows::{mark_rows, row_of};
+use crate::rows::row_of;
 use crate::run_shape::RunShape;
 use crate::runs::cap::cap_runs;
 use cam_shapes::Cap;
@@ -34,15 +34,6 @@ pub fn cap_row(cap: Cap, centres: Centres) -> u64
     ensures { Marks result centres (λ s. IsTrue (is_in_cap s cap)) }
 {
     row_of(&cap, &centres)
-}
-
-/// The rows of a cap, one below another from the top one: each is that of [`cap_row`].
-pub fn cap_rows(cap: Cap, top: Centres, rows: &mut [u64])
-    requires cap { IsSoundCap cap }
-    requires rows { AreRows top (length rows.old) }
-    ensures { AreMarked rows.new top (λ s. IsTrue (is_in_cap s cap)) }
-{
-    mark_rows(&cap, &top, rows);
 }
 
 /// The side of a cap's chord on which the cap lies, with the places of the chord's line that belong to it.

@@ -1,12 +1,11 @@
 //! Rows of capsules.
 
-ghost use Rattle.std.specs.Prelude.{length};
 ghost use Rattle.cam_shapes.specs.Bar.{IsInCapsule, IsSoundCapsule};
-ghost use Rattle.cam_rows.specs.Rows.{AreMarked, AreRows, IsRow, Marks};
+ghost use Rattle.cam_rows.specs.Rows.{IsRow, Marks};
 
-use crate::bar::bar_rows;
+use crate::bar::bar_row;
 use crate::centres::Centres;
-use crate::disc::add_disc;
+use crate::disc::disc_row;
 use cam_shapes::{Bar, Capsule, Disc};
 
 /// The centres in a capsule or on its edge: those in the discs about its ends, and those beside the way between them;
@@ -17,17 +16,6 @@ pub fn capsule_row(capsule: Capsule, centres: Centres) -> u64
     requires row { IsRow centres }
     ensures { Marks result centres (λ s. IsInCapsule s capsule) }
 {
-    let mut rows = [0];
-    capsule_rows(capsule, centres, &mut rows);
-    rows[0]
-}
-
-/// The rows of a capsule, one below another from the top one: each is that of [`capsule_row`].
-pub fn capsule_rows(capsule: Capsule, top: Centres, rows: &mut [u64])
-    requires capsule { IsSoundCapsule capsule }
-    requires rows { AreRows top (length rows.old) }
-    ensures { AreMarked rows.new top (λ s. IsInCapsule s capsule) }
-{
     let Capsule { from, to, width } = capsule;
     let start = Disc {
         centre: from,
@@ -37,7 +25,5 @@ pub fn capsule_rows(capsule: Capsule, top: Centres, rows: &mut [u64])
         centre: to,
         diameter: width,
     };
-    bar_rows(Bar { from, to, width }, top, rows);
-    add_disc(&start, &top, rows);
-    add_disc(&end, &top, rows);
+    bar_row(Bar { from, to, width }, centres) | disc_row(start, centres) | disc_row(end, centres)
 }

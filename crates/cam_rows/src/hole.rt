@@ -1,13 +1,13 @@
 //! The row of a hole.
 
-ghost use Rattle.std.specs.Prelude.{length};
 ghost use Rattle.cam_shapes.specs.Disc.{IsInHole, IsSoundDisc};
-ghost use Rattle.cam_rows.specs.Rows.{AreMarked, AreRows, IsRow, Marks};
+ghost use Rattle.cam_rows.specs.Rows.{IsRow, Marks};
 
 use crate::centres::Centres;
-use crate::rows::{mark_rows, row_of};
+use crate::rows::row_of;
 use crate::run_shape::RunShape;
-use crate::runs::hole::hole_runs;
+use crate::runs::circle::narrow_to_circle;
+use crate::runs::hole::bound_of;
 use cam_shapes::Disc;
 
 /// The hole of an aperture: a disc without its edge. The diameter is in nanometres.
@@ -19,9 +19,9 @@ impl RunShape for Hole {
 
     ghost holds = { λ h s. IsInHole s h.0 };
 
-    #[tactic(auto, using(crate::proofs::FoundRuns::found_anew))]
     fn find(&self, top: &Centres, firsts: &mut [u32], ends: &mut [u32]) {
-        hole_runs(&self.0, top, firsts, ends);
+        let bound = u128::from(bound_of(&self.0));
+        narrow_to_circle(&self.0.centre, bound, top, firsts, ends);
     }
 }
 
@@ -34,13 +34,4 @@ pub fn hole_row(disc: Disc, centres: Centres) -> u64
     ensures { Marks result centres (λ s. IsInHole s disc) }
 {
     row_of(&Hole(disc), &centres)
-}
-
-/// The rows of a hole, one below another from the top one: each is that of [`hole_row`].
-pub fn hole_rows(disc: Disc, top: Centres, rows: &mut [u64])
-    requires disc { IsSoundDisc disc }
-    requires rows { AreRows top (length rows.old) }
-    ensures { AreMarked rows.new top (λ s. IsInHole s disc) }
-{
-    mark_rows(&Hole(disc), &top, rows);
 }

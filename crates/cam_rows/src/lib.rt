@@ -16,14 +16,12 @@
 //! bits: with no root and no division for a row. Where the products of a line may not fit 64 bits, about half a metre from
 //! it, each row takes a division, and rows more than two metres from a circle's middle take a root each.
 //!
-//! The bits of a row are those of its runs: they are set, cleared or turned over by one shape after another, 64 rows at
-//! once. A capsule is a bar to which the discs about its ends are added.
+//! The bits of a row are those of its run. A capsule is a bar and the discs about its ends.
 //!
-//! - [`disc_row`], [`rect_row`], [`obround_row`], [`hole_row`]: the standard apertures and their holes; each shape has a
-//!   second call, such as [`disc_rows`], for rows one below another.
+//! - [`disc_row`], [`rect_row`], [`obround_row`], [`hole_row`]: the standard apertures and their holes.
 //! - [`bar_row`]: a line of a macro; [`capsule_row`], [`arc_row`]: the strokes of a round tool; [`swept_row`]: that of
 //!   a rectangle.
-//! - [`edge_row`], [`cap_row`]: parts of a region; [`turn_edge`] turns over what an edge of it changes.
+//! - [`edge_row`], [`cap_row`]: parts of a region.
 //! - [`bar_runs`], [`disc_runs`], [`hole_runs`], [`rect_runs`], [`obround_runs`], [`swept_runs`]: the same in rows of up
 //!   to 32,768 centres, a run of columns for each row; [`run_row`]: the bits of a part of it. [`cap_runs`] and
 //!   [`edge_runs`] are those of parts of a region: a run of an edge begins at the leftmost column.
@@ -67,20 +65,20 @@ mod sweep;
 mod swept;
 mod way;
 
-pub use arc::{Beyond, Hollow, Outer, arc_row, arc_rows};
-pub use bar::{bar_row, bar_rows};
-pub use cap::{cap_row, cap_rows};
-pub use capsule::{capsule_row, capsule_rows};
+pub use arc::{Beyond, Hollow, Outer, arc_row};
+pub use bar::bar_row;
+pub use cap::cap_row;
+pub use capsule::capsule_row;
 pub use centres::Centres;
 pub use circle::squared_distance;
-pub use disc::{disc_row, disc_rows};
-pub use edge::{edge_row, turn_edge};
-pub use hole::{Hole, hole_row, hole_rows};
+pub use disc::disc_row;
+pub use edge::edge_row;
+pub use hole::{Hole, hole_row};
 pub use lanes::{clear_rows, or_rows, pbm_bytes, xor_rows};
 pub use laws::arc_is_its_runs;
 pub use marks::{mark_end, mark_ends, mark_runs, spread_marks};
-pub use obround::{obround_row, obround_rows};
-pub use rect::{rect_row, rect_rows};
+pub use obround::obround_row;
+pub use rect::rect_row;
 pub use ring::{Ring, ring_of};
 pub use run_shape::RunShape;
 pub use runs::arc::{beyond_runs, hollow_runs, outer_runs};
@@ -93,4 +91,4 @@ pub use runs::obround::obround_runs;
 pub use runs::rect::rect_runs;
 pub use runs::run_row;
 pub use runs::swept::swept_runs;
-pub use swept::{swept_row, swept_rows};
+pub use swept::swept_row;

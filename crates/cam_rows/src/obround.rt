@@ -1,13 +1,13 @@
 //! The row of an obround.
 
-ghost use Rattle.std.specs.Prelude.{◌^◌, ◌<◌, ◌≤◌, ◌↔◌, ℕ, length};
+ghost use Rattle.std.specs.Prelude.{◌^◌, ◌<◌, ◌≤◌, ◌↔◌, ℕ};
 ghost use Rattle.cam_shapes.specs.Box.{IsInObround, IsSoundObround};
 ghost use Rattle.cam_rows.specs.Machinery.Quarters.{IsInQuarter};
-ghost use Rattle.cam_rows.specs.Rows.{AreMarked, AreRows, IsRow, Marks};
+ghost use Rattle.cam_rows.specs.Rows.{IsRow, Marks};
 
 use crate::centres::Centres;
 use crate::circle::half_chord;
-use crate::rows::{mark_rows, row_of};
+use crate::rows::row_of;
 use crate::run_shape::RunShape;
 use crate::runs::obround::obround_runs;
 use cam_shapes::Obround;
@@ -31,15 +31,6 @@ pub fn obround_row(obround: Obround, centres: Centres) -> u64
     ensures { Marks result centres (λ s. IsInObround s obround) }
 {
     row_of(&obround, &centres)
-}
-
-/// The rows of an obround, one below another from the top one: each is that of [`obround_row`].
-pub fn obround_rows(obround: Obround, top: Centres, rows: &mut [u64])
-    requires obround { IsSoundObround obround }
-    requires rows { AreRows top (length rows.old) }
-    ensures { AreMarked rows.new top (λ s. IsInObround s obround) }
-{
-    mark_rows(&obround, &top, rows);
 }
 
 /// How far an obround of these sides reaches to the left and to the right of its centre, so far over it: half its

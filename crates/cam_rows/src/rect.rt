@@ -1,11 +1,10 @@
 //! The row of a rectangle.
 
-ghost use Rattle.std.specs.Prelude.{length};
 ghost use Rattle.cam_shapes.specs.Box.{IsInRectangle, IsSoundRectangle};
-ghost use Rattle.cam_rows.specs.Rows.{AreMarked, AreRows, IsRow, Marks};
+ghost use Rattle.cam_rows.specs.Rows.{IsRow, Marks};
 
 use crate::centres::Centres;
-use crate::rows::{mark_rows, row_of};
+use crate::rows::row_of;
 use crate::run_shape::RunShape;
 use crate::runs::rect::rect_runs;
 use cam_shapes::Rectangle;
@@ -29,13 +28,4 @@ pub fn rect_row(rectangle: Rectangle, centres: Centres) -> u64
     ensures { Marks result centres (λ s. IsInRectangle s rectangle) }
 {
     row_of(&rectangle, &centres)
-}
-
-/// The rows of a rectangle, one below another from the top one: each is that of [`rect_row`].
-pub fn rect_rows(rectangle: Rectangle, top: Centres, rows: &mut [u64])
-    requires rectangle { IsSoundRectangle rectangle }
-    requires rows { AreRows top (length rows.old) }
-    ensures { AreMarked rows.new top (λ s. IsInRectangle s rectangle) }
-{
-    mark_rows(&rectangle, &top, rows);
 }

@@ -15,7 +15,7 @@ pub(crate) mod rect;
 pub(crate) mod swept;
 mod wide;
 
-ghost use Rattle.std.specs.Prelude.{◌+◌, ◌^◌, ◌<◌, ◌≤◌, ◌↔◌, ℕ, ◌≤ℤ◌};
+ghost use Rattle.std.specs.Prelude.{◌+◌, ◌<◌, ◌≤◌, ◌↔◌, ℕ};
 ghost use Rattle.std.specs.Int.{IsBitSet};
 ghost use Rattle.cam_rows.specs.Runs.{IsInRun};
 

@@ -6,7 +6,7 @@ mod dividing;
 
 ghost use Rattle.std.specs.Prelude.{◌≡◌, ◌/◌, ◌+◌, ◌^◌, ◌<◌, ◌≤◌, ◌↔◌, ℕ, pos, ◌-ℤ◌, ◌+ℤ◌, ◌*ℤ◌, ◌≤ℤ◌, ◌<ℤ◌};
 ghost use Rattle.std.specs.Int.RustNames.{unsigned_abs};
-ghost use Rattle.cam_rows.specs.Machinery.Slopes.{AreSteps, IsCrossing, IsDivisor, IsRest, IsShortDivisor, falling, whole};
+ghost use Rattle.cam_rows.specs.Machinery.Slopes.{AreSteps, IsCrossing, IsDivisor, IsRest, whole};
 ghost use Rattle.cam_rows.specs.Runs.{most_columns};
 
 pub(crate) use cutting::{count_both, cut_ends, cut_firsts};

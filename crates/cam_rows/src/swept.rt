@@ -1,13 +1,13 @@
 //! Rows of the strokes of rectangles.
 
-ghost use Rattle.std.specs.Prelude.{◌≡◌, ◌^◌, ◌<◌, length};
+ghost use Rattle.std.specs.Prelude.{◌≡◌, ◌^◌, ◌<◌};
 ghost use Rattle.std.specs.Int.RustNames.{unsigned_abs};
 ghost use Rattle.cam_shapes.specs.Plane.{way};
 ghost use Rattle.cam_shapes.specs.Swept.{IsInSwept, IsSoundSwept, corner_reach, high_corner, low_corner};
-ghost use Rattle.cam_rows.specs.Rows.{AreMarked, AreRows, IsRow, Marks};
+ghost use Rattle.cam_rows.specs.Rows.{IsRow, Marks};
 
 use crate::centres::Centres;
-use crate::rows::{mark_rows, row_of};
+use crate::rows::row_of;
 use crate::run_shape::RunShape;
 use crate::runs::swept::swept_runs;
 use crate::way::Way;
@@ -34,15 +34,6 @@ pub fn swept_row(swept: Swept, centres: Centres) -> u64
     ensures { Marks result centres (λ s. IsInSwept s swept) }
 {
     row_of(&swept, &centres)
-}
-
-/// The rows of the stroke of a rectangle, one below another from the top one: each is that of [`swept_row`].
-pub fn swept_rows(swept: Swept, top: Centres, rows: &mut [u64])
-    requires swept { IsSoundSwept swept }
-    requires rows { AreRows top (length rows.old) }
-    ensures { AreMarked rows.new top (λ s. IsInSwept s swept) }
-{
-    mark_rows(&swept, &top, rows);
 }
 
 /// The left lower corner of the box of both ends, widened by the sides.

@@ -10,11 +10,15 @@ use Rattle.cam_rows.specs.declared.slope.Crossing.{Crossing}
 use Rattle.cam_rows.specs.declared.slope.Steps.{Steps}
 use Rattle.cam_rows.specs.Machinery.Slopes.{AreSteps, IsCrossing, Sloped, falling, lacking, lowered, number_on}
 use Rattle.cam_rows.specs.Machinery.Narrowing.{IsUp}
-use Rattle.cam_rows.specs.Rows.{AreRows, centre_at, row_below}
+use Rattle.cam_rows.specs.Rows.{IsRow, centre_at, row_below}
 
 -- its numbers
 abbrev pub numbers_of : HalfPlane → Sloped
 numbers_of h = record { first = h.row.first; step = h.row.step; down = h.down }
+
+-- so many rows, one below another from the top one
+abbrev pub AreRows : Centres → ℕ → Type 0
+AreRows top n = (k : ℕ) → k < n → IsRow (row_below top k)
 
 -- its numbers fit 128 bits, in each of so many rows
 pub record IsShortIn (n : ℕ) (h : HalfPlane) : Type 0 where

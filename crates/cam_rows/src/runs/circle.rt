@@ -1,6 +1,6 @@
 //! Runs of wide rows, narrowed to circles.
 
-ghost use Rattle.std.specs.Prelude.{◌≡◌, ◌↔◌, ◌^◌, ◌<◌, ◌≤◌, ℕ, length};
+ghost use Rattle.std.specs.Prelude.{◌≡◌, ◌↔◌, ◌^◌, ◌<◌, ℕ, length};
 ghost use Rattle.cam_units.specs.Board.{IsOnBoard};
 ghost use Rattle.cam_rows.specs.Machinery.Chords.{AreNearby};
 ghost use Rattle.cam_rows.specs.Machinery.Narrowing.{AreNarrowed, IsNearer};
@@ -28,16 +28,9 @@ pub(crate) fn circle_runs(
     requires ends { length ends.old ≡ length firsts.old }
     ensures { AreRuns firsts.new ends.new top.now (IsNearer point.now bound) }
 {
-    if firsts.is_empty() {
-        return;
-    }
-    if bound <= u128::from(u64::MAX) && is_nearby(point, top, firsts.len()) {
-        near_runs(point, bound as u64, top, firsts, ends);
-        return;
-    }
     firsts.fill(0);
     ends.fill(top.count);
-    narrow_by_roots(point, bound, top, firsts, ends);
+    narrow_to_circle(point, bound, top, firsts, ends);
 }
 
 /// Narrows the runs of wide rows, one below another from the top one, to the columns whose squared distance from a
@@ -51,42 +44,18 @@ pub(crate) fn narrow_to_circle(
 )
     requires point { IsOnBoard point.now }
     requires bound { bound < 2 ^ 68 }
-    requires some { 0 < length firsts.old }
     requires rows { AreWideRows top.now (length firsts.old) }
     requires ends { length ends.old ≡ length firsts.old }
     ensures { AreNarrowed top.now.count firsts.old ends.old
         (λ k i. IsNearer point.now bound (centre_at (row_below top.now k) i)) (length firsts.old) firsts.new ends.new }
 {
+    if firsts.is_empty() {
+        return;
+    }
     if bound <= u128::from(u64::MAX) && is_nearby(point, top, firsts.len()) {
         narrow_nearby(point, bound as u64, top, firsts, ends);
     } else {
         narrow_by_roots(point, bound, top, firsts, ends);
-    }
-}
-
-/// The runs of a circle in rows near its middle, by walks from each row to the next.
-fn near_runs(point: &Point, bound: u64, top: &Centres, firsts: &mut [u32], ends: &mut [u32])
-    requires point { IsOnBoard point.now }
-    requires some { 0 < length firsts.old }
-    requires rows { AreWideRows top.now (length firsts.old) }
-    requires near { AreNearby point.now top.now (length firsts.old) }
-    requires ends { length ends.old ≡ length firsts.old }
-    ensures { AreRuns firsts.new ends.new top.now (IsNearer point.now bound) }
-{
-    let mut chord = Chord::at_middle(point, top);
-    let mut height = top.rise_over(point);
-    chord.leap(room_at(bound, height));
-    let count = top.count;
-    let step = top.step;
-    for k in 0..firsts.len() {
-        let row = Run {
-            first: 0,
-            end: count,
-        };
-        let run = chord.part(room_at(bound, height), row);
-        firsts[k] = run.first;
-        ends[k] = run.end;
-        height -= step;
     }
 }
 

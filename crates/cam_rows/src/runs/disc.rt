@@ -24,7 +24,7 @@ pub fn disc_runs(disc: &Disc, top: &Centres, firsts: &mut [u32], ends: &mut [u32
 
 /// What the squared distances from a disc's centre are less than at its places.
 #[inline]
-fn bound_of(disc: &Disc) -> u64
+pub(crate) fn bound_of(disc: &Disc) -> u64
     requires { IsSoundDisc disc.now }
     ensures { (s : Spot) → IsNearer disc.now.centre result s ↔ IsInDisc s disc.now }
 {

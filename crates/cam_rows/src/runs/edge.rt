@@ -1,6 +1,6 @@
 //! Runs of edges of closed polygons.
 
-ghost use Rattle.std.specs.Prelude.{◌≡◌, ◌≢◌, ◌<◌, ℕ, IsTrue, length, pos, ◌<ℤ◌};
+ghost use Rattle.std.specs.Prelude.{◌≢◌, ◌<◌, ℕ, IsTrue, length, pos, ◌<ℤ◌};
 ghost use Rattle.cam_units.specs.Board.{IsOnBoard};
 ghost use Rattle.cam_shapes.specs.Edge.{crosses_ray, edge, is_above};
 ghost use Rattle.cam_shapes.specs.Plane.{cross, seen_from, way};
@@ -34,7 +34,7 @@ pub fn edge_runs(from: Point, to: Point, top: &Centres, ends: &mut [u32])
 }
 
 /// The runs of the columns strictly left of the line from a point to a higher one.
-pub(crate) fn runs_left(from: &Point, to: &Point, top: &Centres, ends: &mut [u32])
+fn runs_left(from: &Point, to: &Point, top: &Centres, ends: &mut [u32])
     requires from { IsOnBoard from.now }
     requires to { IsOnBoard to.now }
     requires rises { from.now.y <ℤ to.now.y }

@@ -1,7 +1,9 @@
 //! Runs of holes.
 
-ghost use Rattle.std.specs.Prelude.{◌≡◌, length};
+ghost use Rattle.std.specs.Prelude.{◌≡◌, ◌↔◌, length};
+ghost use Rattle.cam_units.specs.declared.point.Spot.{Spot};
 ghost use Rattle.cam_shapes.specs.Disc.{IsInHole, IsSoundDisc};
+ghost use Rattle.cam_rows.specs.Machinery.Narrowing.{IsNearer};
 ghost use Rattle.cam_rows.specs.Runs.{AreRuns, AreWideRows};
 
 use super::circle::circle_runs;
@@ -17,6 +19,15 @@ pub fn hole_runs(disc: &Disc, top: &Centres, firsts: &mut [u32], ends: &mut [u32
     requires ends { length ends.old ≡ length firsts.old }
     ensures { AreRuns firsts.new ends.new top.now (λ s. IsInHole s disc.now) }
 {
+    circle_runs(&disc.centre, u128::from(bound_of(disc)), top, firsts, ends);
+}
+
+/// What the squared distances from a disc's centre are less than at the places of its hole.
+#[inline]
+pub(crate) fn bound_of(disc: &Disc) -> u64
+    requires { IsSoundDisc disc.now }
+    ensures { (s : Spot) → IsNearer disc.now.centre result s ↔ IsInHole s disc.now }
+{
     let radius = disc.diameter.0 as u64;
-    circle_runs(&disc.centre, u128::from(radius * radius), top, firsts, ends);
+    radius * radius
 }

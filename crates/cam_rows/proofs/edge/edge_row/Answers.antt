@@ -1,12 +1,20 @@
-use Rattle.std.proofs.Common.{sym, ◌∙◌}
-use Rattle.cam_rows.specs.Rows.{centre_at}
-use Rattle.cam_rows.proofs.EdgeSides.{left_of_reverse}
+use Rattle.std.proofs.Common.{◌≡◌, IsTrue, sym, ◌∙◌, arith}
+use Rattle.cam_shapes.specs.Edge.{crosses_ray, edge}
+use Rattle.cam_rows.proofs.EdgeSides.{only_crossed}
+use Rattle.cam_rows.proofs.OneRow.{marks_run}
 use Rattle.cam_rows.proofs.edge.edge_row.Goals as goal
 
-pub returns-else-is_above-2 : goal.returns-else-is_above-2
-returns-else-is_above-2 c = λ i h.
-    let same =
-    left_of_reverse (centre_at c.args.centres i) c.args.from c.args.to
-    (sym c.is_above.ensures ∙ c.if-is_above.true) (sym c.is_above-then-is_above.ensures ∙ c.if-is_above-2.false) in
-    let row = c.row_of.ensures i h in
-    ((λ set. ((row.0 set).0, same.0 (row.0 set).1)), (λ p. row.1 (p.0, same.1 p.1)))
+pub edge_runs-requires-clause-crossed : goal.edge_runs-requires-clause-crossed
+edge_runs-requires-clause-crossed c = λ k within.
+    only_crossed c.args.from c.args.to c.args.centres k within
+    (λ same.
+    let alike : c.is_above.result ≡ c.is_above-2.result = c.is_above.ensures ∙ same ∙ sym c.is_above-2.ensures in
+    grind (arith, alike, c.if-is_above.false))
+
+pub returns : goal.returns
+returns c =
+    marks_run c.run_row.result 0 _ c.args.centres (λ s. IsTrue (crosses_ray s (edge c.args.from c.args.to)))
+    c.run_row.ensures
+    (λ i small.
+    let here = c.edge_runs.ensures.each 0 i (omega arith) small in
+    ((λ on. here.0 on.1), (λ held. (omega arith, here.1 held))))

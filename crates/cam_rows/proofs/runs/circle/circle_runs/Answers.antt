@@ -10,7 +10,7 @@ returns c =
     let all = whole_runs c.fill.new.self c.fill-2.new.self top
     (λ k within. c.fill.ensures.clones k 0 (rw c.fill.ensures.len at within) refl)
     (λ k within. c.fill-2.ensures.clones k 0 (omega (arith, within, c.fill.ensures.len, c.requires.ends)) refl) in
-    let narrowed = c.narrow_by_roots in
+    let narrowed = c.narrow_to_circle in
     let kept = runs_kept c.fill.new.self c.fill-2.new.self narrowed.new.firsts narrowed.new.ends top IsAny
     (IsNearer point c.args.bound) all narrowed.ensures narrowed.auto.firsts in
     runs_like narrowed.new.firsts narrowed.new.ends top _ (IsNearer point c.args.bound)
