@@ -25,7 +25,7 @@ further edge pitch n steps =
     (Sum (Product (Atom (pos 2)) (Atom edge)) (Product (Atom (pos (2 * (n + steps) + 1))) (Atom pitch)))
     (omega arith)
 
-back : (edge pitch : ℤ) (n steps : ℕ)
+pub back : (edge pitch : ℤ) (n steps : ℕ)
     → middle edge pitch (n + steps) -ℤ pos steps *ℤ (pos 2 *ℤ pitch) ≡ middle edge pitch n
 back edge pitch n steps =
     equal

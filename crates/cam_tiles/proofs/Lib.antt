@@ -1,4 +1,3 @@
-pub mod Bands
 pub mod Bytes
 pub mod ChangedParities
 pub mod CircleBounds
@@ -18,7 +17,7 @@ pub mod JoinedMarks
 pub mod LevelRows
 pub mod MarkedTiles
 pub mod MaskWords
-pub mod PaintedBands
+pub mod PaintedLists
 pub mod PaintedMasks
 pub mod PaintedSwaths
 pub mod PaintedTiles
@@ -26,6 +25,8 @@ pub mod PbmLemmas
 pub mod PictureLemmas
 pub mod Pictures
 pub mod PlotLemmas
+pub mod RowLists
+pub mod RowsOfTiles
 pub mod RunColumns
 pub mod SameFiles
 pub mod SeenRows
@@ -35,7 +36,6 @@ pub mod ShownRegions
 pub mod SpanLemmas
 pub mod Stamps
 pub mod StepLemmas
-pub mod Strips
 pub mod SwathLayouts
 pub mod SwathRows
 pub mod TableFacts

@@ -17,7 +17,7 @@ use Rattle.cam_tiles.proofs.WindowLemmas.{le_of, from_le}
 abbrev pub PassesIn : (ℕ → Bool) → ℕ → ℕ → Type 0
 PassesIn p a n = (k : ℕ) × ((a ≤ k) × ((k < a + n) × (p k ≡ true)))
 
-any_in_range : (p : ℕ → Bool) (a n : ℕ) → Decides (list_any p (range_with_len a n)) (PassesIn p a n)
+pub any_in_range : (p : ℕ → Bool) (a n : ℕ) → Decides (list_any p (range_with_len a n)) (PassesIn p a n)
 any_in_range p a n = (
   (λ e.
       let found = Any-from_list_any p (range_with_len a n) e in

@@ -5,6 +5,7 @@ pub mod Indexes
 pub mod Kept
 pub mod Levels
 pub mod Masks
+pub mod RowLists
 pub mod Runs
 pub mod Shown
 pub mod Spans

@@ -27,7 +27,7 @@ pub(crate) fn draw(alloc: Global, shown: &Shown<'_>, window: &Window, tiles: &mu
     ensures { tiles.new
         ≡ all_drawn_from (λ k. tile_rows (is_black (leaves_of shown.now)) (grid_of window.now k)) 0 tiles.old }
 {
-    let Ok(mut index) = Index::new(alloc, shown, box_of_dirty(tiles, window)) else {
+    let Ok(mut index) = Index::new(alloc, shown, window, box_of_dirty(tiles, window)) else {
         draw_each(shown, window, 0, tiles);
         return;
     };
@@ -75,7 +75,7 @@ fn draw_rows(
     tiles: &mut [Tile],
 )
     requires ready { IsReady shown.now }
-    requires index { IsIndexOf (leaves_by_item shown.now) index.old }
+    requires index { IsIndexOf (leaves_by_item shown.now) window.now index.old }
     requires accepted { accepts window.now ≡ true }
     requires within { length tiles.old ≤ tiles_of window.now }
     ensures { tiles.new
@@ -101,10 +101,10 @@ fn draw_row(
     tiles: &mut [Tile],
 )
     requires ready { IsReady shown.now }
-    requires index { IsIndexOf (leaves_by_item shown.now) index.old }
+    requires index { IsIndexOf (leaves_by_item shown.now) window.now index.old }
     requires accepted { accepts window.now ≡ true }
     requires row { IsRowOfTiles window.now first tiles.old }
-    ensures index { IsIndexOf (leaves_by_item shown.now) index.new }
+    ensures index { IsIndexOf (leaves_by_item shown.now) window.now index.new }
     ensures tiles { tiles.new
         ≡ all_drawn_from (λ k. tile_rows (is_black (leaves_of shown.now)) (grid_of window.now k)) first tiles.old }
 {
@@ -112,6 +112,6 @@ fn draw_row(
         draw_each(shown, window, first, tiles);
         return;
     };
-    index.paint(shown, window.grid(first).levels(), swath);
+    index.paint(shown, window, first, swath);
     swath.put(tiles);
 }

@@ -1,9 +1,9 @@
-use Rattle.std.proofs.Common.{◌≡◌, ℕ, ◌+◌, ap, sym, subst, ◌∙◌, arith}
+use Rattle.std.proofs.Common.{◌≡◌, ℕ, ◌+◌, arith}
 use Rattle.cam_objects.specs.Tests.{is_black}
 use Rattle.cam_tiles.specs.declared.grid.Grid.{Grid}
 use Rattle.cam_tiles.specs.Machinery.Levels.{levels_of}
 use Rattle.cam_tiles.specs.Machinery.Shown.{leaves_of}
-use Rattle.cam_tiles.specs.Machinery.Swaths.{HasLevels, dirty_grids}
+use Rattle.cam_tiles.specs.Machinery.Swaths.{dirty_grids}
 use Rattle.cam_tiles.specs.Tiles.{IsGrid, grid_of}
 use Rattle.cam_tiles.proofs.GridLemmas.{on_board}
 use Rattle.cam_tiles.proofs.PaintedSwaths.{enough_masks, has_levels, swath_drawn}
@@ -16,12 +16,10 @@ paint-requires-clause-rows c =
     let w = c.args.window.now in
     let row = c.requires.row in
     let grid : ℕ → Grid = grid_of w in
-    let same = c.levels.ensures.value ∙ ap (λ (g : Grid). levels_of g) c.grid.ensures.value in
-    subst (λ levels. HasLevels levels c.turn_to.new.self) (sym same)
-    (has_levels c.turn_to.new.self (dirty_grids grid c.args.first c.args.tiles.now) (levels_of (grid c.args.first))
+    has_levels c.turn_to.new.self (dirty_grids grid c.args.first c.args.tiles.now) (levels_of (grid c.args.first))
     c.in-Ok.ensures.grids
     (all_grids grid (λ (g : Grid). levels_of g ≡ levels_of (grid c.args.first)) c.args.first c.args.tiles.now
-    (λ t within. levels_are w c.args.first t row.left (omega (arith, row.fits)))))
+    (λ t within. levels_are w c.args.first t row.left (omega (arith, row.fits))))
 
 pub put-requires : goal.put-requires
 put-requires c =

@@ -11,5 +11,5 @@ abbrev pub invariant-loop-row : goal.invariant-loop-row
 invariant-loop-row l =
     let draw : ℕ → List ℕ = λ k. tile_rows (is_black (leaves_of l.shown)) (grid_of l.window k) in record {
       drawn : all_drawn_from draw 0 l.fn.tiles ≡ drawn_on draw 0 (min (l.row * l.across) (length l.tiles)) l.tiles;
-      index : IsIndexOf (leaves_by_item l.shown) l.index;
+      index : IsIndexOf (leaves_by_item l.shown) l.window l.index;
     }
