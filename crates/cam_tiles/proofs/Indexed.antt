@@ -54,7 +54,8 @@ module _ (Seen : Spot → Type 0) where
 -- ---- the boxes that are seen, found one after another
 
 -- so many lists have been looked at
-pub record AreBoxedTo (lists : List (List Leaf)) (w : Window) (within : Bounds) (n : ℕ) (boxed : List Boxed) : Type 0 where
+pub record AreBoxedTo (lists : List (List Leaf)) (w : Window) (within : Bounds) (n : ℕ) (boxed : List Boxed)
+    : Type 0 where
   pub each : All (IsBoxed lists) boxed
   pub ends : All (λ b. b.rows.end ≤ down w) boxed
   pub enough : (row : ℕ) → PaintAlike (IsSeen w within row) (row_leaves lists row boxed) (joined (take n lists))
@@ -63,7 +64,11 @@ module _ (lists : List (List Leaf)) (w : Window) (within : Bounds) where
   pub none_boxed : (boxed : List Boxed) → boxed ≡ [] → AreBoxedTo lists w within 0 boxed
   none_boxed boxed none =
       subst (AreBoxedTo lists w within 0) (sym none)
-      (record { each = All-nil (IsBoxed lists); ends = All-nil (λ b. b.rows.end ≤ down w); enough = λ row ink s seen. refl })
+      (record {
+        each = All-nil (IsBoxed lists);
+        ends = All-nil (λ b. b.rows.end ≤ down w);
+        enough = λ row ink s seen. refl;
+      })
 
   module _ (n : ℕ) (boxed : List Boxed) (here : n < length lists) (so_far : AreBoxedTo lists w within n boxed) where
     one_more : joined (take (n + 1) lists) ≡ joined (take n lists) ++ at lists n
@@ -87,7 +92,8 @@ module _ (lists : List (List Leaf)) (w : Window) (within : Bounds) where
         let leaves = row_leaves lists row boxed in
         let of : List Boxed → List Leaf = λ those. flat_map (λ (b : Boxed). at lists b.place) those in
         alike_are (IsSeen w within row) (leaves ++ at lists n) (before ++ at lists n) _ _
-        (ap of (filter-append (reaches row) boxed (b ∷ []) ∙ ap (λ t. filter (reaches row) boxed ++ cond t (b ∷ []) []) reached)
+        (ap of (filter-append (reaches row) boxed (b ∷ [])
+        ∙ ap (λ t. filter (reaches row) boxed ++ cond t (b ∷ []) []) reached)
         ∙ flat_map-append (λ (b : Boxed). at lists b.place) (filter (reaches row) boxed) (b ∷ [])
         ∙ ap (λ last. leaves ++ last) (append-nil (at lists b.place)) ∙ ap (λ k. leaves ++ at lists k) place) one_more
         (alike_more (IsSeen w within row) leaves before (at lists n) (so_far.enough row))
@@ -130,13 +136,15 @@ module _ (lists : List (List Leaf)) (w : Window) (within : Bounds) where
       alike_are (IsSeen w within row) leaves _ leaves _ refl (ap joined (sym (take_all n lists end))) (so_far.enough row)
 
 -- lists that are passed over
-pub boxed_past : (lists : List (List Leaf)) (w : Window) (within : Bounds) (boxed : List Boxed) (gap n m : ℕ) → n + gap ≡ m
+pub boxed_past : (lists : List (List Leaf)) (w : Window) (within : Bounds) (boxed : List Boxed) (gap n m : ℕ)
+    → n + gap ≡ m
     → ((k : ℕ) → n ≤ k → k < m → k < length lists → HaveCommonPlace (bounds_of (at lists k)) within → ⊥)
     → AreBoxedTo lists w within n boxed → AreBoxedTo lists w within m boxed
 boxed_past lists w within boxed zero n m e far so_far =
     subst (λ k. AreBoxedTo lists w within k boxed) (omega (arith, e)) so_far
 boxed_past lists w within boxed (suc gap) n m e far so_far =
-    boxed_past lists w within boxed gap (n + 1) m (omega (arith, e)) (λ k low high listed. far k (omega (arith, low)) high listed)
+    boxed_past lists w within boxed gap (n + 1) m (omega (arith, e))
+    (λ k low high listed. far k (omega (arith, low)) high listed)
     (by (cases_lt n (length lists)))
   where
     by : (n < length lists) ⊎ (length lists ≤ n) → AreBoxedTo lists w within (n + 1) boxed
@@ -181,7 +189,8 @@ module _ (lists : List (List Leaf)) (row : ℕ) (boxed : List Boxed) where
       let behind = numbered_from (number + 1) rest after in
       elim (cases_Bool (reaches row b)) [
         | inl reached ↦
-            rw reached (ap (λ (b : Boxed). at lists b.place ++ numbered_leaves lists boxed (numbers_from row (number + 1) rest)) read
+            rw reached (ap (λ (b : Boxed).
+            at lists b.place ++ numbered_leaves lists boxed (numbers_from row (number + 1) rest)) read
             ∙ ap (λ those. at lists b.place ++ those) behind)
         | inr missed ↦ rw missed behind
       ]

@@ -4,11 +4,11 @@ use Rattle.std.proofs.Common.{refl, ap, subst, ◌∙◌, arith}
 use Rattle.std.proofs.lemmas.Int.{ints}
 use Rattle.cam_units.specs.Boxes.{Holds}
 use Rattle.cam_units.specs.declared.bounds.Bounds.{Bounds}
-use Rattle.cam_units.specs.declared.bounds.Bounds.TheVariants.{Empty, Closed}
+use Rattle.cam_units.specs.declared.bounds.Bounds.TheVariants.{Closed}
 use Rattle.cam_units.specs.declared.point.Spot.{Spot}
 use Rattle.cam_objects.specs.Bounds.{bounds_of}
 use Rattle.cam_objects.specs.Leaves.{Leaf}
-use Rattle.cam_objects.proofs.Canvases.{paints_missed, paints_next, paints_off}
+use Rattle.cam_objects.proofs.Canvases.{paints_missed, paints_next}
 use Rattle.cam_tiles.specs.declared.grid.Grid.{Grid}
 use Rattle.cam_tiles.specs.declared.index.Boxed.{Boxed}
 use Rattle.cam_tiles.specs.declared.levels.Levels.{Levels}
@@ -22,13 +22,6 @@ use Rattle.cam_tiles.proofs.Indexed.{at}
 -- a box that holds the places of all pixels
 abbrev pub HoldsSwath : Bounds → List Marking → Type 0
 HoldsSwath box masks = (column row : ℕ) → IsInSwath masks column row → Holds box (place_in masks column row)
-
--- where it holds none, there is no pixel, and nothing to paint
-pub nothing_painted : (masks : List Marking) (box : Bounds) (leaves : List Leaf) → box ≡ Empty → HoldsSwath box masks
-    → PaintsSwath masks leaves masks
-nothing_painted masks box leaves is held =
-    paints_off IsInSwath place_in ink_in masks leaves (λ column row there.
-    absurd (subst (λ (b : Bounds). Holds b (place_in masks column row)) is (held column row there)))
 
 -- the leaves of the box that has a number
 abbrev pub of_number : List (List Leaf) → List Boxed → ℕ → List Leaf

@@ -1,5 +1,6 @@
 -- rows of tiles: which of them boxes reach
-use Rattle.std.proofs.Common.{◌≡◌, ℕ, ◌+◌, ◌-◌, ◌*◌, ◌<◌, ◌≤◌, min, pos, ◌-ℤ◌, ◌*ℤ◌, ◌≤ℤ◌, true, ◌↔◌, sym, ap, subst, ◌∙◌, arith}
+use Rattle.std.proofs.Common.{◌≡◌, ◌↔◌, ℕ, ◌+◌, ◌-◌, ◌*◌, ◌<◌, ◌≤◌, min, pos, ◌-ℤ◌, ◌*ℤ◌, ◌≤ℤ◌, true}
+use Rattle.std.proofs.Common.{sym, ap, subst, ◌∙◌, arith}
 use Rattle.std.proofs.lemmas.Bool.{and_from}
 use Rattle.std.proofs.lemmas.Bool.Decides.{nat_tests}
 use Rattle.std.proofs.lemmas.Int.{ints}
@@ -29,7 +30,8 @@ row_reached w low high rows are row s on below above =
     let height : s.y ≡ middle w.y w.pitch rest =
     on.1.1 ∙ ap (λ n. middle w.y w.pitch n -ℤ pos on.0 *ℤ (pos 2 *ℤ w.pitch)) (sym up) ∙ back w.y w.pitch rest on.0 in
     let passes : is_between low.y high.y (middle w.y w.pitch rest) ≡ true =
-    and_from _ _ (from_le low.y _ (omega (arith, ints, below, height))) (from_le _ high.y (omega (arith, ints, above, height))) in
+    and_from _ _ (from_le low.y _ (omega (arith, ints, below, height)))
+    (from_le _ high.y (omega (arith, ints, above, height))) in
     are row (omega arith)
     ∙ (any_in_range (λ row. is_between low.y high.y (middle w.y w.pitch (w.height - 1 - row))) (64 * row)
     (min 64 (w.height - 64 * row))).1 (pixel, (omega arith, (omega arith, passes)))

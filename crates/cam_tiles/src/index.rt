@@ -27,7 +27,7 @@ use std::alloc::{AllocError, Global};
 
 /// An item that may be seen: its place in the list, the rows of tiles that its box reaches, and the sides of the box, in
 /// half nm.
-// It has 32 bytes.
+// In this order of the fields it has 32 bytes: those of a row of tiles are gone through each time that it is painted.
 #[derive(Clone, Copy)]
 pub(crate) struct Boxed {
     place: u32,
@@ -36,7 +36,7 @@ pub(crate) struct Boxed {
     right: i64,
 }
 
-/// The items that may be seen in a box, in their order, and which of them reach each row of tiles.
+/// The items that may be seen in a box, in their order, and for each row of tiles of a window those that reach it.
 #[derive(Drop)]
 pub(crate) struct Index {
     within: Bounds,
@@ -47,8 +47,8 @@ pub(crate) struct Index {
 }
 
 impl Boxed {
-    /// The item at a place, if its box has a place of another box in common that is in a row of tiles: these rows
-    /// alone are kept.
+    /// The item at a place, if some row of tiles of a window has a place of its box within another box: it reaches
+    /// these rows alone.
     fn seen(place: u32, bounds: Bounds, window: &Window, within: Bounds) -> Option<Boxed>
         requires { accepts window.now ≡ true }
         ensures place { IfSome result (λ b. b.place ≡ place) }
@@ -88,7 +88,7 @@ impl Boxed {
 }
 
 impl Index {
-    /// An index of the items of which some place is seen in a box, in half nm, that holds tiles of a window.
+    /// An index of the items that reach some row of tiles of a window within a box, in half nm.
     pub(crate) fn new(
         alloc: Global,
         shown: &Shown<'_>,

@@ -54,7 +54,8 @@ row_leaves lists row boxed = flat_map (λ (b : Boxed). slice_index_or lists b.pl
 
 -- and those whose boxes have some numbers
 abbrev pub numbered_leaves : List (List Leaf) → List Boxed → List ℕ → List Leaf
-numbered_leaves lists boxed numbers = flat_map (λ k. slice_index_or lists (slice_index_or boxed k no_box).place []) numbers
+numbered_leaves lists boxed numbers =
+    flat_map (λ k. slice_index_or lists (slice_index_or boxed k no_box).place []) numbers
 
 -- In each row of tiles of a box, painting the lists whose boxes reach the row is painting all lists, in order; and each
 -- row has the numbers of these.

@@ -16,8 +16,9 @@ use Rattle.cam_tiles.proofs.index.paint_all.Goals as goal
 
 pub paint_item-requires-clause-rows : goal.paint_item-requires-clause-rows
 paint_item-requires-clause-rows c =
-    levels_kept (numbered_leaves (leaves_by_item c.args.shown.now) c.args.boxed.now (take c.loop-number.number-index c.args.numbers.now))
-    c.args.swath.now c.loop-number.swath c.args.levels c.loop-number.invariant c.requires.rows
+    levels_kept
+    (numbered_leaves (leaves_by_item c.args.shown.now) c.args.boxed.now
+    (take c.loop-number.number-index c.args.numbers.now)) c.args.swath.now c.loop-number.swath c.args.levels c.loop-number.invariant c.requires.rows
 
 pub loop-number-preserved : goal.loop-number-preserved
 loop-number-preserved c =
@@ -30,7 +31,8 @@ loop-number-preserved c =
     let b : Boxed = get_or boxed k no_box in
     let old = c.args.swath.now in
     let read = get_or_default numbers i 0 k c.loop-number-test.true in
-    let within : k < length boxed = All-get_or (λ k. k < length boxed) numbers i 0 c.loop-number-test.true c.requires.numbers in
+    let within : k < length boxed =
+    All-get_or (λ k. k < length boxed) numbers i 0 c.loop-number-test.true c.requires.numbers in
     let IsNext = λ (m : List Marking). PaintsSwath old (numbered_leaves lists boxed (take (i + 1) numbers)) m in
     elim c.if-reaches.branch [
       | then-reaches w ↦ subst IsNext (sym w.swath-is)

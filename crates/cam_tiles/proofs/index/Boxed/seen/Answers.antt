@@ -17,7 +17,8 @@ returns-clause-some c =
     let greatest : FitsSigned w64 c.in-Closed-bounds.high.x = search rules in
     record {
       sides = λ s held.
-          let between : IsBetween c.in-Closed-bounds.low c.in-Closed-bounds.high s = subst (λ b. Holds b s) c.in-Closed-bounds.is held in
+          let between : IsBetween c.in-Closed-bounds.low c.in-Closed-bounds.high s =
+          subst (λ b. Holds b s) c.in-Closed-bounds.is held in
           simp to_z-of_z (between.left, between.right);
       rows = row_seen c.args.window.now c.args.within c.args.bounds c.clipped.result c.in-Closed.bottom
           c.in-Closed.top c.rows_between-rows.result c.in-Closed.is c.clipped.ensures.places

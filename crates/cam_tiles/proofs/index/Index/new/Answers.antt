@@ -53,7 +53,8 @@ loop-next-preserved-in-Some c =
       boxed = onward lists w c.args.within more (n + 1) next.result next.ensures.onward next.ensures.apart
           (next_boxed lists w c.args.within n boxed (omega (arith, c.len-count.ensures.count)) so_far.boxed more b is
           c.in-Some.ensures.place
-          (subst (λ box. IsBoxOf w c.args.within box b) (is_box n c.read.ensures.value so_far.lists) c.in-Some.ensures.some));
+          (subst (λ box. IsBoxOf w c.args.within box b) (is_box n c.read.ensures.value so_far.lists)
+          c.in-Some.ensures.some));
       few = (
         omega (arith, next.ensures.onward, so_far.few, ap length is, length_push boxed b),
         omega (arith, so_far.few, ap length is, length_push boxed b),

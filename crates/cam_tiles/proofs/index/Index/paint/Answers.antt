@@ -34,7 +34,8 @@ paint_all-requires-clause-numbers c =
     (sym (listed_in w c.args.tile c.across.result i.boxed.items i.rows.starts.items i.rows.numbers.items
     c.list-numbers.result.now c.requires.accepted c.requires.tile c.across.ensures c.requires.index.listed
     c.list-numbers.ensures))
-    (numbers_below (c.args.tile / across w) (length boxed) 0 i.boxed.items (omega (arith, ap length c.deref.ensures.value)))
+    (numbers_below (c.args.tile / across w) (length boxed) 0 i.boxed.items
+    (omega (arith, ap length c.deref.ensures.value)))
 
 pub returns-clause-painted : goal.returns-clause-painted
 returns-clause-painted c =
