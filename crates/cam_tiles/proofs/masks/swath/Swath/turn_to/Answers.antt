@@ -1,4 +1,4 @@
-use Rattle.std.proofs.Common.{◌≡◌, sym, ◌*ℤ◌, pos, rules, is_none, length, FitsSigned, w64, ap, arith}
+use Rattle.std.proofs.Common.{◌*ℤ◌, pos, rules, is_none, length, FitsSigned, w64, ap, arith}
 use Rattle.std.proofs.lemmas.List.{length-map}
 use Rattle.std.proofs.lemmas.List.Sums.{count_by-le-length}
 use Rattle.std.proofs.lemmas.Int.{ints, to_z-of_z}
