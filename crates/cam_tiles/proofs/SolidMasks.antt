@@ -1,6 +1,7 @@
 -- Masks that are black: a dark leaf leaves them as they are, and what is known of rows holds on where it is painted.
-use Rattle.std.proofs.Common.{◌≡◌, ◌⊎◌, ℕ, ◌<◌, ◌≤◌, Bool, true, false, cond, replicate, ◌++◌, take, ap, List, [], ◌∷◌, slice_index, inl, inr}
-use Rattle.std.proofs.Common.{get_or, get_or-set_other, get_or-set_same, set, length, refl, sym, subst, ◌∙◌, arith}
+use Rattle.std.proofs.Common.{◌≡◌, ◌⊎◌, ℕ, ◌<◌, ◌≤◌, ◌∷◌, ◌++◌, Bool, true, false, cond, List, [], inl, inr}
+use Rattle.std.proofs.Common.{get_or, get_or-set_other, get_or-set_same, length, replicate, set, slice_index, take}
+use Rattle.std.proofs.Common.{refl, ap, sym, subst, ◌∙◌, arith}
 use Rattle.std.proofs.Math.Seq.{take-nil}
 use Rattle.std.proofs.lemmas.Bool.{cases_eq, cases_lt}
 use Rattle.std.proofs.lemmas.List.{get_or-replicate, get_or_default, get_or_past, length-replicate}

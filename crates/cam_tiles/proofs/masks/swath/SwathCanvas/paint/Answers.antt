@@ -30,7 +30,8 @@ invariant_of-self c =
     put_back c.first_reached-first.result c.end_reached-end.result leaves s.masks.items c.deref_mut-2.result.now new _
     c.deref_mut-2.ensures.value after c.paint_each.ensures in
     let kept =
-    part_kept c.first_reached-first.result c.end_reached-end.result leaves s.masks.items _ part s.pitch s.bounds s.corner s.columns s.tiles.items s.before.items
+    part_kept c.first_reached-first.result c.end_reached-end.result leaves s.masks.items _ part s.pitch s.bounds s.corner
+    s.columns s.tiles.items s.before.items
     (subst (λ (ms : List Marking). c.end_reached-end.result ≤ length ms)
     (sym (c.self.view_is ∙ c.is_hidden.ensures.kept)) c.end_reached-end.ensures.within)
     c.self.invariant.laid c.self.invariant.stand in
