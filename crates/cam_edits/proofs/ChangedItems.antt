@@ -54,7 +54,7 @@ each_kept f P kept (Repeat columns rows i j objects) h = h
 aperture_formed : (n : ℕ) (o : Object) → IsFormed o → IsFormed (with_aperture n o)
 aperture_formed n (Flash m at t dark) h = tt
 aperture_formed n (Draw m from to t dark) h = tt
-aperture_formed n (Arc m from to centre ccw dark) h = tt
+aperture_formed n (Arc ccw dark m from to centre) h = tt
 aperture_formed n (Region contour dark) h = h
 
 pub formed_with_aperture : (es : List (ℕ × Entry)) (n : ℕ) (item : Item) → MeetsItem es item Malformed
@@ -88,7 +88,7 @@ module _ (dark : Bool) where
         flash_placed m so (reverse es) n (flashed origin at t dark)
         ∙ sym (flash_placed m so (reverse es) n (flashed origin at t before))
     inked_box (Draw n from to t before) = drawn_box (meaning_in es n).tip _ _ _ before
-    inked_box (Arc n from to centre ccw before) = swept_box (round_width (meaning_in es n).tip) _ _ _ _ before
+    inked_box (Arc ccw before n from to centre) = swept_box (round_width (meaning_in es n).tip) _ _ _ _ before
     inked_box (Region contour before) = refl
 
   pub box_with_polarity : (es : List (ℕ × Entry)) (item : Item)
@@ -99,43 +99,43 @@ module _ (dark : Bool) where
   formed : (o : Object) → IsFormed o → IsFormed (inked o)
   formed (Flash n at t before) h = tt
   formed (Draw n from to t before) h = tt
-  formed (Arc n from to centre ccw before) h = tt
+  formed (Arc ccw before n from to centre) h = tt
   formed (Region contour before) h = h
 
   known : (es : List (ℕ × Entry)) (o : Object) → IsKnown es o → IsKnown es (inked o)
   known es (Flash n at t before) h = h
   known es (Draw n from to t before) h = h
-  known es (Arc n from to centre ccw before) h = h
+  known es (Arc ccw before n from to centre) h = h
   known es (Region contour before) h = tt
 
   drawable : (means : ℕ → Meaning) (o : Object) → IsDrawable means o → IsDrawable means (inked o)
   drawable means (Flash n at t before) h = tt
   drawable means (Draw n from to t before) h = h
-  drawable means (Arc n from to centre ccw before) h = h
+  drawable means (Arc ccw before n from to centre) h = h
   drawable means (Region contour before) h = tt
 
   radius : (o : Object) → HasRadius o → HasRadius (inked o)
   radius (Flash n at t before) h = tt
   radius (Draw n from to t before) h = tt
-  radius (Arc n from to centre ccw before) h = h
+  radius (Arc ccw before n from to centre) h = h
   radius (Region contour before) h = h
 
   stands : (o : Object) → StandsOnBoard o → StandsOnBoard (inked o)
   stands (Flash n at t before) h = h
   stands (Draw n from to t before) h = h
-  stands (Arc n from to centre ccw before) h = h
+  stands (Arc ccw before n from to centre) h = h
   stands (Region contour before) h = h
 
   few_segs : (o : Object) → length (segs_of o) ≤ 1000000 → length (segs_of (inked o)) ≤ 1000000
   few_segs (Flash n at t before) h = h
   few_segs (Draw n from to t before) h = h
-  few_segs (Arc n from to centre ccw before) h = h
+  few_segs (Arc ccw before n from to centre) h = h
   few_segs (Region contour before) h = h
 
   counted : (w : ℕ → Weight) (o : Object) → object_count w (inked o) ≡ object_count w o
   counted w (Flash n at t before) = refl
   counted w (Draw n from to t before) = refl
-  counted w (Arc n from to centre ccw before) = refl
+  counted w (Arc ccw before n from to centre) = refl
   counted w (Region contour before) = refl
 
   pub count_with_polarity : (w : ℕ → Weight) (item : Item) → item_count w (with_object inked item) ≡ item_count w item

@@ -43,7 +43,7 @@ module _ (c : Content) where
   one_aperture : (x : Item) → has_aperture x ≡ true → IsOne HasAperture x
   one_aperture (One (Flash m at t dark)) e = tt
   one_aperture (One (Draw m from to t dark)) e = tt
-  one_aperture (One (Arc m from to centre ccw dark)) e = tt
+  one_aperture (One (Arc ccw dark m from to centre)) e = tt
   one_aperture (One (Region contour dark)) e = absurd cc
   one_aperture (Repeat columns rows i j objects) e = absurd cc
 

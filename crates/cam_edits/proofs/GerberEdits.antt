@@ -65,21 +65,21 @@ module _ (es : List (ℕ × Entry)) (xs : List Item) (k : ℕ) (item : Item) (wi
 set_is : (n : ℕ) (x y : Item) → other_aperture n x ≡ Some y → y ≡ with_object (with_aperture n) x
 set_is n (One (Flash m at t dark)) y e = cc
 set_is n (One (Draw m from to t dark)) y e = cc
-set_is n (One (Arc m from to centre ccw dark)) y e = cc
+set_is n (One (Arc ccw dark m from to centre)) y e = cc
 set_is n (One (Region contour dark)) y e = absurd cc
 set_is n (Repeat columns rows i j objects) y e = absurd cc
 
 has_one : (n : ℕ) (x y : Item) → other_aperture n x ≡ Some y → has_aperture x ≡ true
 has_one n (One (Flash m at t dark)) y e = refl
 has_one n (One (Draw m from to t dark)) y e = refl
-has_one n (One (Arc m from to centre ccw dark)) y e = refl
+has_one n (One (Arc ccw dark m from to centre)) y e = refl
 has_one n (One (Region contour dark)) y e = absurd cc
 has_one n (Repeat columns rows i j objects) y e = absurd cc
 
 has_none : (n : ℕ) (x : Item) → other_aperture n x ≡ None → has_aperture x ≡ false
 has_none n (One (Flash m at t dark)) e = absurd cc
 has_none n (One (Draw m from to t dark)) e = absurd cc
-has_none n (One (Arc m from to centre ccw dark)) e = absurd cc
+has_none n (One (Arc ccw dark m from to centre)) e = absurd cc
 has_none n (One (Region contour dark)) e = refl
 has_none n (Repeat columns rows i j objects) e = refl
 
@@ -89,7 +89,7 @@ set_formed : (es : List (ℕ × Entry)) (n : ℕ) (x : Item) → has_aperture x 
 unfolding meets_item
 set_formed es n (One (Flash m at t dark)) e = refl
 set_formed es n (One (Draw m from to t dark)) e = refl
-set_formed es n (One (Arc m from to centre ccw dark)) e = refl
+set_formed es n (One (Arc ccw dark m from to centre)) e = refl
 set_formed es n (One (Region contour dark)) e = absurd cc
 set_formed es n (Repeat columns rows i j objects) e = absurd cc
 

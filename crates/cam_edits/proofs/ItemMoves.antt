@@ -83,7 +83,7 @@ module _ (by : Point) where
       let here = rest_here from (to ∷ []) (shifted_point by to ∷ []) h k in
       let there = rest_there from (to ∷ []) (shifted_point by to ∷ []) h k in
       (movable_first from (to ∷ []) (shifted_point by to ∷ []) h k, movable_first to [] [] here there)
-  movable_object (Arc n from to centre ccw dark) h k =
+  movable_object (Arc ccw dark n from to centre) h k =
       let ps : List Point = to ∷ centre ∷ [] in
       let qs : List Point = shifted_point by to ∷ shifted_point by centre ∷ [] in
       let here = rest_here from ps qs h k in
@@ -106,7 +106,7 @@ module _ (by : Point) where
       → IsMove by
   short_object (Flash n at t dark) h k = short_first at [] [] h k
   short_object (Draw n from to t dark) h k = short_first from (to ∷ []) (shifted_point by to ∷ []) h k
-  short_object (Arc n from to centre ccw dark) h k =
+  short_object (Arc ccw dark n from to centre) h k =
       short_first from (to ∷ centre ∷ []) (shifted_point by to ∷ shifted_point by centre ∷ []) h k
   short_object (Region contour dark) h k =
       short_first contour.start (flat_map points_of_seg contour.segs)

@@ -83,7 +83,7 @@ holds_at test xs k = holds_of test (slice_get xs k)
 abbrev pub has_aperture : Item → Bool
 has_aperture (One (Flash n at t dark)) = true
 has_aperture (One (Draw n from to t dark)) = true
-has_aperture (One (Arc n from to centre ccw dark)) = true
+has_aperture (One (Arc ccw dark n from to centre)) = true
 has_aperture _ = false
 
 abbrev pub has_polarity : Item → Bool

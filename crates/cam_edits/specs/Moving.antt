@@ -30,7 +30,7 @@ IsMovableContour by c = IsMovablePoint by c.start × All (IsMovableSeg by) c.seg
 abbrev pub IsMovableObject : Point → Object → Type 0
 IsMovableObject by (Flash n at t dark) = IsMovablePoint by at
 IsMovableObject by (Draw n from to t dark) = IsMovablePoint by from × IsMovablePoint by to
-IsMovableObject by (Arc n from to centre ccw dark) =
+IsMovableObject by (Arc ccw dark n from to centre) =
     IsMovablePoint by from × IsMovablePoint by to × IsMovablePoint by centre
 IsMovableObject by (Region contour dark) = IsMovableContour by contour
 

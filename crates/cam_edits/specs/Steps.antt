@@ -21,7 +21,7 @@ use Rattle.cam_edits.specs.Places.{HasAt, changed, reordered}
 abbrev pub with_aperture : ℕ → Object → Object
 with_aperture n (Flash m at t dark) = Flash n at t dark
 with_aperture n (Draw m from to t dark) = Draw n from to t dark
-with_aperture n (Arc m from to centre ccw dark) = Arc n from to centre ccw dark
+with_aperture n (Arc ccw dark m from to centre) = Arc ccw dark n from to centre
 with_aperture n (Region contour dark) = Region contour dark
 
 abbrev pub HasAperture : Object → Type 0
@@ -32,19 +32,19 @@ HasAperture _ = Unit {0}
 abbrev pub aperture_of : Object → ℕ
 aperture_of (Flash m at t dark) = m
 aperture_of (Draw m from to t dark) = m
-aperture_of (Arc m from to centre ccw dark) = m
+aperture_of (Arc ccw dark m from to centre) = m
 aperture_of _ = 0
 
 abbrev pub with_polarity : Bool → Object → Object
 with_polarity dark (Flash m at t _) = Flash m at t dark
 with_polarity dark (Draw m from to t _) = Draw m from to t dark
-with_polarity dark (Arc m from to centre ccw _) = Arc m from to centre ccw dark
+with_polarity dark (Arc ccw _ m from to centre) = Arc ccw dark m from to centre
 with_polarity dark (Region contour _) = Region contour dark
 
 abbrev pub polarity_of : Object → Bool
 polarity_of (Flash m at t dark) = dark
 polarity_of (Draw m from to t dark) = dark
-polarity_of (Arc m from to centre ccw dark) = dark
+polarity_of (Arc ccw dark m from to centre) = dark
 polarity_of (Region contour dark) = dark
 
 -- a repeat has neither aperture nor polarity of its own

@@ -35,20 +35,20 @@ pub(crate) fn other_aperture(item: &Item, n: u32) -> Option<Item>
         })),
         Item::One(
             Object::Arc {
+                ccw,
+                dark,
                 from,
                 to,
                 centre,
-                ccw,
-                dark,
                 ..
             },
         ) => Some(Item::One(Object::Arc {
+            ccw: *ccw,
+            dark: *dark,
             aperture: n,
             from: *from,
             to: *to,
             centre: *centre,
-            ccw: *ccw,
-            dark: *dark,
         })),
         Item::One(Object::Region { .. }) => None,
         Item::Repeat { .. } => None,

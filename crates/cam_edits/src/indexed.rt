@@ -47,8 +47,7 @@ impl IndexedLayer {
         requires { HasSoundItems layer }
         ensures { result ≡ layer }
     {
-        let cells = ItemCells::of(alloc, &mut layer.boxes());
-        let leaves = layer.leaf_count();
+        let (cells, leaves) = ItemCells::of(alloc, &mut layer.boxes());
         IndexedLayer {
             layer,
             kept: Some(Kept { cells, leaves }),

@@ -44,8 +44,7 @@ impl IndexedDrillLayer {
         requires { IsSoundDrillLayer layer }
         ensures { result ≡ layer }
     {
-        let cells = ItemCells::of(alloc, &mut layer.boxes());
-        let leaves = layer.leaf_count();
+        let (cells, leaves) = ItemCells::of(alloc, &mut layer.boxes());
         let tools = tools_of(alloc, &layer);
         IndexedDrillLayer {
             layer,

@@ -109,7 +109,7 @@ stamp_inside es (object.Flash n at turn dark) names well =
     let there : is_on_board (placed origin at) ≡ true = passes_board (placed origin at) (stands at (All-head IsOnBoard at [] well.points)) in
     ap are_on_board (means_stamp es n at turn dark names) ∙ rw there refl
 stamp_inside es (object.Draw n from to turn dark) names well = absurd names
-stamp_inside es (object.Arc n from to centre ccw dark) names well = absurd names
+stamp_inside es (object.Arc ccw dark n from to centre) names well = absurd names
 stamp_inside es (object.Region contour dark) names well = absurd names
 
 pub stamp_weighs : (es : List (ℕ × Entry)) (o : Object) → IsOfAperture es o → Weighs (record { leaves = 1; depth = 0 }) es o
@@ -119,7 +119,7 @@ stamp_weighs es (object.Flash n at turn dark) names =
       depth = ap (λ (w : Weight). w.depth) (sym none);
     }
 stamp_weighs es (object.Draw n from to turn dark) names = absurd names
-stamp_weighs es (object.Arc n from to centre ccw dark) names = absurd names
+stamp_weighs es (object.Arc ccw dark n from to centre) names = absurd names
 stamp_weighs es (object.Region contour dark) names = absurd names
 
 -- ---- a flash

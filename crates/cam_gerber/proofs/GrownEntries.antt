@@ -76,7 +76,7 @@ module _ (es : Pairs) (n : ℕ) (e : Entry) (absent : lookup (nat_eq n) es ≡ N
   object_same x y (Draw m from to t dark) h =
       ap (λ (d : Meaning). draw_leaves d.tip (after t R0) (placed (shifted x y) from) (placed (shifted x y) to) (polarity_in true dark))
       (means_same m h)
-  object_same x y (Arc m from to centre ccw dark) h =
+  object_same x y (Arc ccw dark m from to centre) h =
       ap (λ (d : Meaning). arc_leaves (round_width d.tip) (placed (shifted x y) from) (placed (shifted x y) to)
       (placed (shifted x y) centre) (placed_direction R0 ccw) (polarity_in true dark)) (means_same m h)
   object_same x y (Region c dark) h = refl
@@ -84,19 +84,19 @@ module _ (es : Pairs) (n : ℕ) (e : Entry) (absent : lookup (nat_eq n) es ≡ N
   pub count_same : (o : Object) → IsKnown es o → object_count (weight_in grown) o ≡ object_count (weight_in es) o
   count_same (Flash m at t dark) h = ap (λ (w : Weight). 1 + w.leaves) (weighs_same m h)
   count_same (Draw m from to t dark) h = refl
-  count_same (Arc m from to centre ccw dark) h = refl
+  count_same (Arc ccw dark m from to centre) h = refl
   count_same (Region c dark) h = refl
 
   pub drawable_same : (o : Object) → IsKnown es o → IsDrawable (meaning_in es) o → IsDrawable (meaning_in grown) o
   drawable_same (Flash m at t dark) h k = tt
   drawable_same (Draw m from to t dark) h k = subst (λ (x : Meaning). IsSome x.tip) (sym (means_same m h)) k
-  drawable_same (Arc m from to centre ccw dark) h k = subst (λ (x : Meaning). IsSome (round_width x.tip)) (sym (means_same m h)) k
+  drawable_same (Arc ccw dark m from to centre) h k = subst (λ (x : Meaning). IsSome (round_width x.tip)) (sym (means_same m h)) k
   drawable_same (Region c dark) h k = tt
 
   pub known_same : (o : Object) → IsKnown es o → IsKnown grown o
   known_same (Flash m at t dark) h = known_more es ((n, e) ∷ []) m h
   known_same (Draw m from to t dark) h = known_more es ((n, e) ∷ []) m h
-  known_same (Arc m from to centre ccw dark) h = known_more es ((n, e) ∷ []) m h
+  known_same (Arc ccw dark m from to centre) h = known_more es ((n, e) ∷ []) m h
   known_same (Region c dark) h = tt
 
   -- ---- lists of them, and items

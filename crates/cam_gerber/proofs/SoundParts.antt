@@ -111,7 +111,7 @@ module _ (es : Pairs) (n : ℕ) (e : Entry) (absent : lookup (nat_eq n) es ≡ N
   depth_same : (o : Object) → IsKnown es o → object_depth (weight_in (es ++ (n, e) ∷ [])) o ≡ object_depth (weight_in es) o
   depth_same (Flash m at t dark) h = ap (λ (w : Weight). w.depth) (weighs_same es n e absent m h)
   depth_same (Draw m from to t dark) h = refl
-  depth_same (Arc m from to centre ccw dark) h = refl
+  depth_same (Arc ccw dark m from to centre) h = refl
   depth_same (Region c dark) h = refl
 
   depths : (objects : List Object) → All (IsKnown es) objects → All (λ o. object_depth (weight_in es) o ≤ 7) objects

@@ -77,7 +77,7 @@ segments (Curve to centre ccw ∷ segs) h =
 abbrev pub IsNoFlash : Object → Type 0
 IsNoFlash (Flash n at t dark) = ⊥
 IsNoFlash (Draw n from to t dark) = Unit {0}
-IsNoFlash (Arc n from to centre ccw dark) = Unit {0}
+IsNoFlash (Arc ccw dark n from to centre) = Unit {0}
 IsNoFlash (Region c dark) = Unit {0}
 
 pub leaves_stand : (means : ℕ → Meaning) (o : Object) → IsNoFlash o → All IsOnBoard (points_of o)
@@ -87,7 +87,7 @@ leaves_stand means (Draw n from to t dark) none h =
     straight (means n).tip (after t origin.turn) (placed origin from) (placed origin to) (polarity_in origin.dark dark)
     (stands from (All-head IsOnBoard from (to ∷ []) h))
     (stands to (All-head IsOnBoard to [] (All-tail IsOnBoard from (to ∷ []) h)))
-leaves_stand means (Arc n from to centre ccw dark) none h =
+leaves_stand means (Arc ccw dark n from to centre) none h =
     let behind = All-tail IsOnBoard from (to ∷ centre ∷ []) h in
     arced (round_width (means n).tip) (placed origin from) (placed origin to) (placed origin centre) (placed_direction origin.turn ccw)
     (polarity_in origin.dark dark)

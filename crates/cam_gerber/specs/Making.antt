@@ -75,8 +75,8 @@ region_in past = region_by (start_in past) (segments_in past) (dark_in past)
 -- a plot outside regions, by its mode
 abbrev pub stroke : Mode → ℕ → Point → Point → Point → Turn → Bool → Object
 stroke Linear n from to centre turn dark = object.Draw n from to turn dark
-stroke Clockwise n from to centre turn dark = object.Arc n from to centre false dark
-stroke Counterclockwise n from to centre turn dark = object.Arc n from to centre true dark
+stroke Clockwise n from to centre turn dark = object.Arc false dark n from to centre
+stroke Counterclockwise n from to centre turn dark = object.Arc true dark n from to centre
 
 abbrev pub number_in : Past → ℕ
 number_in past = unwrap_or (aperture_in past) 0

@@ -273,12 +273,12 @@ impl Modal {
                 dark: self.dark,
             },
             Seg::Curve { to, centre, ccw } => Object::Arc {
+                ccw,
+                dark: self.dark,
                 aperture,
                 from: self.point,
                 to,
                 centre,
-                ccw,
-                dark: self.dark,
             },
         }
     }

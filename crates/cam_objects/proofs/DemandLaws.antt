@@ -100,19 +100,19 @@ at_most a b = (leb-true a b, le-leb a b)
 formed : (o : Object) → Decides (is_formed o) (IsFormed o)
 formed (Flash n at t dark) = always
 formed (Draw n from to t dark) = always
-formed (Arc n from to centre ccw dark) = always
+formed (Arc ccw dark n from to centre) = always
 formed (Region contour dark) = Decides-ltb 0 (length contour.segs)
 
 known : (es : List (ℕ × Entry)) (o : Object) → Decides (is_known es o) (IsKnown es o)
 known es (Flash n at t dark) = ((λ h. h), (λ h. h))
 known es (Draw n from to t dark) = ((λ h. h), (λ h. h))
-known es (Arc n from to centre ccw dark) = ((λ h. h), (λ h. h))
+known es (Arc ccw dark n from to centre) = ((λ h. h), (λ h. h))
 known es (Region contour dark) = always
 
 drawable : (means : ℕ → Meaning) (o : Object) → Decides (is_drawable means o) (IsDrawable means o)
 drawable means (Flash n at t dark) = always
 drawable means (Draw n from to t dark) = ((λ h. h), (λ h. h))
-drawable means (Arc n from to centre ccw dark) = ((λ h. h), (λ h. h))
+drawable means (Arc ccw dark n from to centre) = ((λ h. h), (λ h. h))
 drawable means (Region contour dark) = always
 
 not_apart : (a : Point) → is_apart a a ≡ false
@@ -140,7 +140,7 @@ radii here (Curve to centre ccw ∷ segs) = both (apart here centre) (radii to s
 radius : (o : Object) → Decides (has_radius o) (HasRadius o)
 radius (Flash n at t dark) = always
 radius (Draw n from to t dark) = always
-radius (Arc n from to centre ccw dark) = apart from centre
+radius (Arc ccw dark n from to centre) = apart from centre
 radius (Region contour dark) = radii contour.start contour.segs
 
 -- ---- items

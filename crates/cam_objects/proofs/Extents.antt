@@ -122,18 +122,34 @@ extent_none es sound =
 
 -- ---- the boxes of objects
 
+module _ (es : List (ℕ × Entry)) (n : ℕ) where
+  pub flash_box : (at : Point) (t : Turn) (dark : Bool)
+      → moved at (turned_box t (bounds_of ((meaning_in es n).flash origin)))
+      ≡ bounds_of (object_leaves (meaning_in es) origin (Flash n at t dark))
+  flash_box at t dark =
+      let one = bounds_of ((meaning_in es n).flash origin) in
+      sym (placed_nowhere (moved at (turned_box t one)))
+      ∙ sym (placed_flash origin at t dark one)
+      ∙ sym (flash_placed box_of_shape shapes_so (reverse es) n (flashed origin at t dark))
+
+  pub draw_box : (from to : Point) (t : Turn) (dark : Bool) (tip : Tip) → Some tip ≡ (meaning_in es n).tip
+      → box_of_shape (drawn (turned_tip t tip) from to)
+      ≡ bounds_of (object_leaves (meaning_in es) origin (Draw n from to t dark))
+  draw_box from to t dark tip some =
+      sym (placed_nowhere (box_of_shape (drawn (turned_tip t tip) from to)))
+      ∙ sym (drawn_placed box_of_shape shapes_so origin tip t from to)
+      ∙ ap (λ (o : Option Tip).
+      bounds_of (draw_leaves o (after t R0) (placed origin from) (placed origin to) (polarity_in origin.dark dark))) some
+
 module _ (es : List (ℕ × Entry)) (e : Extent) (extent : IsExtentIn es e) (n : ℕ) (is : e.number ≡ n) where
   pub bounded_flash : (at : Point) (t : Turn) (dark : Bool) (b : Bounds)
       → b ≡ placed_bounds (record { turn = t; offset = at; dark = true }) e.bounds
       → b ≡ bounds_of (object_leaves (meaning_in es) origin (Flash n at t dark))
   bounded_flash at t dark b box =
-      let one = bounds_of ((meaning_in es n).flash origin) in
       box
       ∙ ap (λ (x : Bounds). moved at (turned_box t x))
       (extent.bounds ∙ ap (λ k. bounds_of ((meaning_in es k).flash origin)) is)
-      ∙ sym (placed_nowhere (moved at (turned_box t one)))
-      ∙ sym (placed_flash origin at t dark one)
-      ∙ sym (flash_placed box_of_shape shapes_so (reverse es) n (flashed origin at t dark))
+      ∙ flash_box es n at t dark
 
   -- what its strokes are drawn with
   tip_in : e.tip ≡ (meaning_in es n).tip
@@ -154,17 +170,11 @@ module _ (es : List (ℕ × Entry)) (e : Extent) (extent : IsExtentIn es e) (n :
   pub bounded_draw : (from to : Point) (t : Turn) (dark : Bool) (tip : Tip) (b : Bounds) → e.tip ≡ Some tip
       → b ≡ box_of_shape (drawn (turned_tip t tip) from to)
       → b ≡ bounds_of (object_leaves (meaning_in es) origin (Draw n from to t dark))
-  bounded_draw from to t dark tip b some box =
-      box
-      ∙ sym (placed_nowhere (box_of_shape (drawn (turned_tip t tip) from to)))
-      ∙ sym (drawn_placed box_of_shape shapes_so origin tip t from to)
-      ∙ ap (λ (o : Option Tip).
-      bounds_of (draw_leaves o (after t R0) (placed origin from) (placed origin to) (polarity_in origin.dark dark)))
-      (sym some ∙ tip_in)
+  bounded_draw from to t dark tip b some box = box ∙ draw_box es n from to t dark tip (sym some ∙ tip_in)
 
   pub bounded_arc : (from to centre : Point) (ccw dark : Bool) (w : Nm) (b : Bounds) → round_width e.tip ≡ Some w
       → b ≡ box_of_shape (sweep from to centre ccw w)
-      → b ≡ bounds_of (object_leaves (meaning_in es) origin (Arc n from to centre ccw dark))
+      → b ≡ bounds_of (object_leaves (meaning_in es) origin (Arc ccw dark n from to centre))
   bounded_arc from to centre ccw dark w b some box =
       box
       ∙ sym (shapes_so.sweep origin from to centre ccw w ∙ placed_nowhere (box_of_shape (sweep from to centre ccw w)))

@@ -129,7 +129,7 @@ module _ (es : Pairs) (n : ℕ) (e : Entry) (absent : lookup (nat_eq n) es ≡ N
   object_same p (Flash m at t dark) h = ap (λ (x : Meaning). x.flash (flashed p at t dark)) (means_same m h)
   object_same p (Draw m from to t dark) h =
       ap (λ (x : Meaning). draw_leaves x.tip (after t p.turn) (placed p from) (placed p to) (polarity_in p.dark dark)) (means_same m h)
-  object_same p (Arc m from to centre ccw dark) h =
+  object_same p (Arc ccw dark m from to centre) h =
       ap (λ (x : Meaning). arc_leaves (round_width x.tip) (placed p from) (placed p to) (placed p centre) (placed_direction p.turn ccw)
       (polarity_in p.dark dark)) (means_same m h)
   object_same p (Region c dark) h = refl
@@ -137,19 +137,19 @@ module _ (es : Pairs) (n : ℕ) (e : Entry) (absent : lookup (nat_eq n) es ≡ N
   count_same : (o : Object) → IsKnown es o → object_count (weight_in grown) o ≡ object_count (weight_in es) o
   count_same (Flash m at t dark) h = ap (λ (w : Weight). 1 + w.leaves) (weighs_same m h)
   count_same (Draw m from to t dark) h = refl
-  count_same (Arc m from to centre ccw dark) h = refl
+  count_same (Arc ccw dark m from to centre) h = refl
   count_same (Region c dark) h = refl
 
   drawable_same : (o : Object) → IsKnown es o → IsDrawable (meaning_in es) o → IsDrawable (meaning_in grown) o
   drawable_same (Flash m at t dark) h k = tt
   drawable_same (Draw m from to t dark) h k = subst (λ (x : Meaning). IsSome x.tip) (sym (means_same m h)) k
-  drawable_same (Arc m from to centre ccw dark) h k = subst (λ (x : Meaning). IsSome (round_width x.tip)) (sym (means_same m h)) k
+  drawable_same (Arc ccw dark m from to centre) h k = subst (λ (x : Meaning). IsSome (round_width x.tip)) (sym (means_same m h)) k
   drawable_same (Region c dark) h k = tt
 
   known_same : (o : Object) → IsKnown es o → IsKnown grown o
   known_same (Flash m at t dark) h = known_more es ((n, e) ∷ []) m h
   known_same (Draw m from to t dark) h = known_more es ((n, e) ∷ []) m h
-  known_same (Arc m from to centre ccw dark) h = known_more es ((n, e) ∷ []) m h
+  known_same (Arc ccw dark m from to centre) h = known_more es ((n, e) ∷ []) m h
   known_same (Region c dark) h = tt
 
   -- ---- lists of them, and items

@@ -11,29 +11,25 @@ use Rattle.std.proofs.lemmas.Option.{get_or_from_slice_get, slice_get-get_or}
 use Rattle.cam_units.specs.Boxes.{HaveCommonPlace}
 use Rattle.cam_units.specs.declared.bounds.Bounds.{Bounds}
 use Rattle.cam_units.specs.declared.bounds.Bounds.TheVariants.{Empty, Closed}
+use Rattle.cam_objects.specs.declared.cells.reach.Measure.{Measure}
 use Rattle.cam_objects.specs.declared.cells.reach.Reach.{Reach}
+use Rattle.cam_objects.specs.declared.drill_item.DrillItem.{DrillItem}
+use Rattle.cam_objects.specs.declared.drill_layer.DrillLayer.{DrillLayer}
 use Rattle.cam_objects.specs.declared.item.Item.{Item}
 use Rattle.cam_objects.specs.declared.layer.Layer.{Layer}
 use Rattle.cam_objects.specs.declared.cells.sides.Sides.{Sides}
 use Rattle.cam_objects.specs.Bounds.{bounds_of}
 use Rattle.cam_objects.specs.Leaves.{item_leaves, meaning_in}
 use Rattle.cam_objects.specs.Cells.{AreBeside, AreCellsOf, IsCell, IsReachOf, IsSide, Reaches, bottom_of, box_at, left_of, right_of, top_of}
+use Rattle.cam_objects.specs.Machinery.Measures.{IsDrillMeasureOf, IsMeasureOf}
 use Rattle.cam_objects.specs.Machinery.Sides.{AreSidesOf, HasSides, MeetsAt}
 
--- the box that is read of an item is that of the list
-pub read_box_at : {X : Type 0} (box : X → Bounds) (items : List X) (k : ℕ) (b : Bounds) → k < length items
-    → ((item : X) → slice_get items k ≡ Some item → b ≡ box item) → b ≡ box_at (map box items) k
-read_box_at box [] k b h told = absurd (omega arith)
-read_box_at box (x ∷ xs) k b h told =
-    told (get_or (x ∷ xs) k x) (slice_get-get_or (x ∷ xs) k x h) ∙ sym (get_or-map box (x ∷ xs) k x Empty h)
-
--- the cells that are read of it are those that the box of the list reaches
-pub reach_box_at : {X : Type 0} (box : X → Bounds) (items : List X) (k : ℕ) (r : Reach) → k < length items
-    → ((item : X) → slice_get items k ≡ Some item → IsReachOf (box item) r) → IsReachOf (box_at (map box items) k) r
-reach_box_at box [] k r h told = absurd (omega arith)
-reach_box_at box (x ∷ xs) k r h told =
-    subst (λ (b : Bounds). IsReachOf b r) (sym (get_or-map box (x ∷ xs) k x Empty h))
-    (told (get_or (x ∷ xs) k x) (slice_get-get_or (x ∷ xs) k x h))
+-- what is read of an item is so in a list of that of each
+pub read_at : {X Y : Type 0} (f : X → Y) (R : Y → Type 0) (d : Y) (items : List X) (k : ℕ) → k < length items
+    → ((item : X) → slice_get items k ≡ Some item → R (f item)) → R (get_or (map f items) k d)
+read_at f R d [] k h told = absurd (omega arith)
+read_at f R d (x ∷ xs) k h told =
+    subst R (sym (get_or-map f (x ∷ xs) k x d h)) (told (get_or (x ∷ xs) k x) (slice_get-get_or (x ∷ xs) k x h))
 
 -- the item read is that of the layer shown
 pub read_box : (layer shown : Layer) (place : ℕ) (x item : Item) (b : Bounds) → layer ≡ shown
@@ -47,6 +43,29 @@ read_box layer shown place x item b is here at box =
     (here
     ∙ ap (λ (l : Layer). get_or l.items.items place x) is
     ∙ get_or_from_slice_get shown.items.items place item x at)
+
+-- and so is what is read of it
+pub measured : (layer shown : Layer) (place : ℕ) (x y item : Item) (m : Measure) → layer ≡ shown
+    → x ≡ get_or layer.items.items place x → slice_get shown.items.items place ≡ Some item → x ≡ y
+    → IsMeasureOf layer.apertures y m → IsMeasureOf shown.apertures item m
+measured layer shown place x y item m is here at same known =
+    subst (λ (z : Item). IsMeasureOf shown.apertures z m)
+    (sym same
+    ∙ here
+    ∙ ap (λ (l : Layer). get_or l.items.items place x) is
+    ∙ get_or_from_slice_get shown.items.items place item x at)
+    (subst (λ (l : Layer). IsMeasureOf l.apertures y m) is known)
+
+pub drill_measured : (layer shown : DrillLayer) (place : ℕ) (x y item : DrillItem) (m : Measure) → layer ≡ shown
+    → x ≡ get_or layer.items.items place x → slice_get shown.items.items place ≡ Some item → x ≡ y
+    → IsDrillMeasureOf layer.tools y m → IsDrillMeasureOf shown.tools item m
+drill_measured layer shown place x y item m is here at same known =
+    subst (λ (z : DrillItem). IsDrillMeasureOf shown.tools z m)
+    (sym same
+    ∙ here
+    ∙ ap (λ (l : DrillLayer). get_or l.items.items place x) is
+    ∙ get_or_from_slice_get shown.items.items place item x at)
+    (subst (λ (l : DrillLayer). IsDrillMeasureOf l.tools y m) is known)
 
 -- ---- cells
 

@@ -138,7 +138,7 @@ module _ (by : Point) where
   points_of_moved : (o : Object) → points_of (shifted_object by o) ≡ map (shifted_point by) (points_of o)
   points_of_moved (Flash n at t dark) = refl
   points_of_moved (Draw n from to t dark) = refl
-  points_of_moved (Arc n from to centre ccw dark) = refl
+  points_of_moved (Arc ccw dark n from to centre) = refl
   points_of_moved (Region c dark) = ap (λ ps. shifted_point by c.start ∷ ps) (segs_moved c.segs)
 
   pub stands_moved : (o : Object) → IsBoxOnBoard (moved by (standing o)) ↔ StandsOnBoard (shifted_object by o)
@@ -185,7 +185,7 @@ module _ (by : Point) where
         λ i. (means n).flash (record { turn = (flashed origin at t dark).turn; offset = point_there at i; dark = polarity_in true dark })
     object_there (Draw n from to t dark) =
         λ i. draw_leaves (means n).tip (after t R0) (point_there from i) (point_there to i) (polarity_in true dark)
-    object_there (Arc n from to centre ccw dark) =
+    object_there (Arc ccw dark n from to centre) =
         λ i. arc_leaves (round_width (means n).tip) (point_there from i) (point_there to i) (point_there centre i) (placed_direction R0 ccw)
         (polarity_in true dark)
     object_there (Region c dark) =

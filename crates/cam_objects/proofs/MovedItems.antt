@@ -62,37 +62,37 @@ module _ (by : Point) where
   radius_kept : (o : Object) → HasRadius o → HasRadius (moves o)
   radius_kept (Flash n at t dark) h = tt
   radius_kept (Draw n from to t dark) h = tt
-  radius_kept (Arc n from to centre ccw dark) h = points_apart from centre h
+  radius_kept (Arc ccw dark n from to centre) h = points_apart from centre h
   radius_kept (Region c dark) h = radii_kept c.start c.segs h
 
   formed_kept : (o : Object) → IsFormed o → IsFormed (moves o)
   formed_kept (Flash n at t dark) h = tt
   formed_kept (Draw n from to t dark) h = tt
-  formed_kept (Arc n from to centre ccw dark) h = tt
+  formed_kept (Arc ccw dark n from to centre) h = tt
   formed_kept (Region c dark) h = subst (λ k. 0 < k) (sym (length-map c.segs (shifted_seg by))) h
 
   known_kept : (es : List (ℕ × Entry)) (o : Object) → IsKnown es o → IsKnown es (moves o)
   known_kept es (Flash n at t dark) h = h
   known_kept es (Draw n from to t dark) h = h
-  known_kept es (Arc n from to centre ccw dark) h = h
+  known_kept es (Arc ccw dark n from to centre) h = h
   known_kept es (Region c dark) h = h
 
   drawable_kept : (means : ℕ → Meaning) (o : Object) → IsDrawable means o → IsDrawable means (moves o)
   drawable_kept means (Flash n at t dark) h = h
   drawable_kept means (Draw n from to t dark) h = h
-  drawable_kept means (Arc n from to centre ccw dark) h = h
+  drawable_kept means (Arc ccw dark n from to centre) h = h
   drawable_kept means (Region c dark) h = h
 
   few_segs_kept : (o : Object) → length (segs_of o) ≤ 1000000 → length (segs_of (moves o)) ≤ 1000000
   few_segs_kept (Flash n at t dark) h = h
   few_segs_kept (Draw n from to t dark) h = h
-  few_segs_kept (Arc n from to centre ccw dark) h = h
+  few_segs_kept (Arc ccw dark n from to centre) h = h
   few_segs_kept (Region c dark) h = subst (λ k. k ≤ 1000000) (sym (length-map c.segs (shifted_seg by))) h
 
   count_kept : (w : ℕ → Weight) (o : Object) → object_count w (moves o) ≡ object_count w o
   count_kept w (Flash n at t dark) = refl
   count_kept w (Draw n from to t dark) = refl
-  count_kept w (Arc n from to centre ccw dark) = refl
+  count_kept w (Arc ccw dark n from to centre) = refl
   count_kept w (Region c dark) = refl
 
   block_kept : (w : ℕ → Weight) (objects : List Object) → block_count w (map moves objects) ≡ block_count w objects

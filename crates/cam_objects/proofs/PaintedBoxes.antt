@@ -122,7 +122,7 @@ pub painted_standing : (means : ℕ → Meaning) (o : Object) → ((n : ℕ) (at
     → points_bounds_of (object_leaves means origin o) ≡ box_of_all box_of_point (points_of o)
 painted_standing means (Flash n at t dark) other h = absurd (other n at t dark refl)
 painted_standing means (Draw n from to t dark) other h = standing (means n).tip t from to (polarity_in true dark) h
-painted_standing means (Arc n from to centre ccw dark) other h = swept (round_width (means n).tip) from to centre ccw (polarity_in true dark) h
+painted_standing means (Arc ccw dark n from to centre) other h = swept (round_width (means n).tip) from to centre ccw (polarity_in true dark) h
 painted_standing means (Region contour dark) other h = points_so.filled origin contour ∙ placed_nowhere (box_of_points (Filled contour))
 
 pub inside_one : (es : List (ℕ × Entry)) (o : Object) (box : Bounds) (b : Bool) → StandsOnBoard o

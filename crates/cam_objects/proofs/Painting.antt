@@ -221,7 +221,7 @@ drawn_points means p n from to t dark tip e stands board =
     )
 
 pub swept_points : (means : ℕ → Meaning) (p : Place) (n : ℕ) (from to centre : Point) (ccw dark : Bool) (w : Nm) → Some w ≡ round_width (means n).tip
-    → StandsOnBoard (Arc n from to centre ccw dark) → AreOnBoard (object_leaves means p (Arc n from to centre ccw dark))
+    → StandsOnBoard (Arc ccw dark n from to centre) → AreOnBoard (object_leaves means p (Arc ccw dark n from to centre))
     → IsPlaceablePoint p.turn p.offset from × IsPlaceablePoint p.turn p.offset to × IsPlaceablePoint p.turn p.offset centre
 swept_points means p n from to centre ccw dark w e stands board =
     let l = leaf (Sweep (record {

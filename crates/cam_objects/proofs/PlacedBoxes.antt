@@ -109,7 +109,7 @@ module _ (m : Shape → Bounds) where
       pub object_placed : (o : Object) → IsPlacedWith (λ p. object_leaves means p o)
       object_placed (Flash n at t dark) = flash_of_placed (means n).flash at t dark (so n)
       object_placed (Draw n from to t dark) = draws_placed (means n).tip t from to dark
-      object_placed (Arc n from to centre ccw dark) = arcs_placed (round_width (means n).tip) from to centre ccw dark
+      object_placed (Arc ccw dark n from to centre) = arcs_placed (round_width (means n).tip) from to centre ccw dark
       object_placed (Region c dark) = λ p. from_origin p _ _ _ (law.filled p c) (law.filled origin c)
 
       pub block_placed : (objects : List Object) → IsPlacedWith (λ p. block_leaves means p objects)

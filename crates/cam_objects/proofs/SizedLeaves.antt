@@ -187,7 +187,7 @@ module _ (means : ℕ → Meaning) (so : (n : ℕ) → IsSizedMeaning (means n))
   object_sized p (Flash n at t dark) = (so n).flash (flashed p at t dark)
   object_sized p (Draw n from to t dark) =
       draw_sized (means n).tip (after t p.turn) (placed p from) (placed p to) (polarity_in p.dark dark) (so n).tip
-  object_sized p (Arc n from to centre ccw dark) =
+  object_sized p (Arc ccw dark n from to centre) =
       arc_sized (means n).tip (placed p from) (placed p to) (placed p centre) (placed_direction p.turn ccw) (polarity_in p.dark dark)
       (so n).tip
   object_sized p (Region c dark) = one_sized _ tt
@@ -384,7 +384,7 @@ ends_spanned from to h k =
     λ i. joined (here i) (there i) (box_of_point from) (box_of_point to)
 
 -- a rectangle about a point of the board
-board_rectangle : (p : Point) (w h : ℤ) → IsOnBoard p → IsSize w → IsSize h → IsBoxWithin inner (box_about (place_of p) w h)
+pub board_rectangle : (p : Point) (w h : ℤ) → IsOnBoard p → IsSize w → IsSize h → IsBoxWithin inner (box_about (place_of p) w h)
 board_rectangle p w h on a b =
     within_less (2 * 1000000000 + 200000000) inner (box_about (place_of p) w h) (omega arith)
     (within_about 1000000000 200000000 p w h (omega (arith, on.x)) (omega (arith, on.y)) a.0 a.1 b.0 b.1)

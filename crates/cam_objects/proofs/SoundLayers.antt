@@ -107,7 +107,7 @@ few_entries es sound =
 pub count_some : (w : ℕ → Weight) (o : Object) → 1 ≤ object_count w o
 count_some w (Flash n at t dark) = omega arith
 count_some w (Draw n from to t dark) = omega arith
-count_some w (Arc n from to centre ccw dark) = omega arith
+count_some w (Arc ccw dark n from to centre) = omega arith
 count_some w (Region contour dark) = omega arith
 
 block_some : (w : ℕ → Weight) (os : List Object) → 0 < length os → 1 ≤ block_count w os

@@ -65,7 +65,7 @@ use Rattle.cam_objects.specs.Weights.{item_count, weight_in}
 abbrev pub is_formed : Object → Bool
 is_formed (Flash n at t dark) = true
 is_formed (Draw n from to t dark) = true
-is_formed (Arc n from to centre ccw dark) = true
+is_formed (Arc ccw dark n from to centre) = true
 is_formed (Region contour dark) = nat_lt 0 (length contour.segs)
 
 -- the dictionary has the number
@@ -75,14 +75,14 @@ has_number entries n = is_some (lookup (nat_eq n) entries)
 abbrev pub is_known : List (ℕ × Entry) → Object → Bool
 is_known entries (Flash n at t dark) = has_number entries n
 is_known entries (Draw n from to t dark) = has_number entries n
-is_known entries (Arc n from to centre ccw dark) = has_number entries n
+is_known entries (Arc ccw dark n from to centre) = has_number entries n
 is_known entries (Region contour dark) = true
 
 -- draws are strokes of solid circles and of solid rectangles, and arcs of solid circles alone
 abbrev pub is_drawable : (ℕ → Meaning) → Object → Bool
 is_drawable means (Flash n at t dark) = true
 is_drawable means (Draw n from to t dark) = is_some (means n).tip
-is_drawable means (Arc n from to centre ccw dark) = is_some (round_width (means n).tip)
+is_drawable means (Arc ccw dark n from to centre) = is_some (round_width (means n).tip)
 is_drawable means (Region contour dark) = true
 
 abbrev pub is_apart : Point → Point → Bool
@@ -97,7 +97,7 @@ have_radii here (Curve to centre ccw ∷ segs) = is_apart here centre && have_ra
 abbrev pub has_radius : Object → Bool
 has_radius (Flash n at t dark) = true
 has_radius (Draw n from to t dark) = true
-has_radius (Arc n from to centre ccw dark) = is_apart from centre
+has_radius (Arc ccw dark n from to centre) = is_apart from centre
 has_radius (Region contour dark) = have_radii contour.start contour.segs
 
 -- ---- items

@@ -130,7 +130,7 @@ module _ (means : ℕ → Meaning) where
   object_leaves p (Flash n at t dark) = (means n).flash (flashed p at t dark)
   object_leaves p (Draw n from to t dark) =
       draw_leaves (means n).tip (after t p.turn) (placed p from) (placed p to) (polarity_in p.dark dark)
-  object_leaves p (Arc n from to centre ccw dark) =
+  object_leaves p (Arc ccw dark n from to centre) =
       arc_leaves (round_width (means n).tip) (placed p from) (placed p to) (placed p centre) (placed_direction p.turn ccw)
       (polarity_in p.dark dark)
   object_leaves p (Region contour dark) =

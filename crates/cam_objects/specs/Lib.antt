@@ -4,6 +4,7 @@ pub mod BoxLaws
 pub mod Canvases
 pub mod Cells
 pub mod Contents
+pub mod Darkness
 pub mod Demands
 pub mod DrillSoundness
 pub mod Drilling

@@ -9,4 +9,6 @@ pub mod Tracing
 pub mod Inside
 pub mod Runs
 pub mod Extents
+pub mod Frames
+pub mod Measures
 pub mod Sides

@@ -14,8 +14,8 @@ use Rattle.cam_objects.specs.declared.drill_item.DrillItem.TheVariants.{Hit, Rou
 abbrev pub shifted_object : Point → Object → Object
 shifted_object by (Flash n at t dark) = Flash n (shifted_point by at) t dark
 shifted_object by (Draw n from to t dark) = Draw n (shifted_point by from) (shifted_point by to) t dark
-shifted_object by (Arc n from to centre ccw dark) =
-    Arc n (shifted_point by from) (shifted_point by to) (shifted_point by centre) ccw dark
+shifted_object by (Arc ccw dark n from to centre) =
+    Arc ccw dark n (shifted_point by from) (shifted_point by to) (shifted_point by centre)
 shifted_object by (Region contour dark) = Region (shifted_contour by contour) dark
 
 -- of a repeat the objects of each copy
@@ -31,7 +31,7 @@ shifted_drill_item by (Rout tool points) = Rout tool (map (shifted_point by) poi
 abbrev pub IsShiftableObject : Object → Type 0
 IsShiftableObject (Flash n at t dark) = IsShiftable at
 IsShiftableObject (Draw n from to t dark) = IsShiftable from × IsShiftable to
-IsShiftableObject (Arc n from to centre ccw dark) = IsShiftable from × IsShiftable to × IsShiftable centre
+IsShiftableObject (Arc ccw dark n from to centre) = IsShiftable from × IsShiftable to × IsShiftable centre
 IsShiftableObject (Region contour dark) = IsShiftableContour contour
 
 abbrev pub IsShiftableItem : Item → Type 0

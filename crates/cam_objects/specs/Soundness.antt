@@ -59,7 +59,7 @@ points_of_contour c = c.start ∷ flat_map points_of_seg c.segs
 abbrev pub points_of : Object → List Point
 points_of (Flash n at t dark) = at ∷ []
 points_of (Draw n from to t dark) = from ∷ to ∷ []
-points_of (Arc n from to centre ccw dark) = from ∷ to ∷ centre ∷ []
+points_of (Arc ccw dark n from to centre) = from ∷ to ∷ centre ∷ []
 points_of (Region contour dark) = points_of_contour contour
 
 -- of a leaf, where it is painted
@@ -79,14 +79,14 @@ AreOnBoard leaves = All (λ l. All IsOnBoard (points_of_shape l.shape)) leaves
 abbrev pub segs_of : Object → List Seg
 segs_of (Flash n at t dark) = []
 segs_of (Draw n from to t dark) = []
-segs_of (Arc n from to centre ccw dark) = []
+segs_of (Arc ccw dark n from to centre) = []
 segs_of (Region contour dark) = contour.segs
 
 -- a contour has a segment
 abbrev pub IsFormed : Object → Type 0
 IsFormed (Flash n at t dark) = Unit {0}
 IsFormed (Draw n from to t dark) = Unit {0}
-IsFormed (Arc n from to centre ccw dark) = Unit {0}
+IsFormed (Arc ccw dark n from to centre) = Unit {0}
 IsFormed (Region contour dark) = 0 < length contour.segs
 
 -- the dictionary has the number
@@ -96,14 +96,14 @@ HasNumber entries n = IsSome (lookup (nat_eq n) entries)
 abbrev pub IsKnown : List (ℕ × Entry) → Object → Type 0
 IsKnown entries (Flash n at t dark) = HasNumber entries n
 IsKnown entries (Draw n from to t dark) = HasNumber entries n
-IsKnown entries (Arc n from to centre ccw dark) = HasNumber entries n
+IsKnown entries (Arc ccw dark n from to centre) = HasNumber entries n
 IsKnown entries (Region contour dark) = Unit {0}
 
 -- draws are strokes of solid circles and of solid rectangles, and arcs of solid circles alone
 abbrev pub IsDrawable : (ℕ → Meaning) → Object → Type 0
 IsDrawable means (Flash n at t dark) = Unit {0}
 IsDrawable means (Draw n from to t dark) = IsSome (means n).tip
-IsDrawable means (Arc n from to centre ccw dark) = IsSome (round_width (means n).tip)
+IsDrawable means (Arc ccw dark n from to centre) = IsSome (round_width (means n).tip)
 IsDrawable means (Region contour dark) = Unit {0}
 
 -- no arc starts at its centre
@@ -115,7 +115,7 @@ HaveRadii here (Curve to centre ccw ∷ segs) = (here ≢ centre) × HaveRadii t
 abbrev pub HasRadius : Object → Type 0
 HasRadius (Flash n at t dark) = Unit {0}
 HasRadius (Draw n from to t dark) = Unit {0}
-HasRadius (Arc n from to centre ccw dark) = from ≢ centre
+HasRadius (Arc ccw dark n from to centre) = from ≢ centre
 HasRadius (Region contour dark) = HaveRadii contour.start contour.segs
 
 -- ---- items

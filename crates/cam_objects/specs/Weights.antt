@@ -22,7 +22,7 @@ module _ (weigh : ℕ → Weight) where
   abbrev pub object_count : Object → ℕ
   object_count (Flash n at t dark) = 1 + (weigh n).leaves
   object_count (Draw n from to t dark) = 1
-  object_count (Arc n from to centre ccw dark) = 1
+  object_count (Arc ccw dark n from to centre) = 1
   object_count (Region contour dark) = 1
 
   abbrev pub block_count : List Object → ℕ
@@ -36,7 +36,7 @@ module _ (weigh : ℕ → Weight) where
   abbrev pub object_depth : Object → ℕ
   object_depth (Flash n at t dark) = (weigh n).depth
   object_depth (Draw n from to t dark) = 0
-  object_depth (Arc n from to centre ccw dark) = 0
+  object_depth (Arc ccw dark n from to centre) = 0
   object_depth (Region contour dark) = 0
 
   -- one more than that of the deepest block that a block flashes, else one

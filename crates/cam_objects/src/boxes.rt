@@ -3,6 +3,7 @@
 pub(crate) mod extent;
 pub(crate) mod item_boxes;
 pub(crate) mod items;
+pub(crate) mod last_frame;
 pub(crate) mod parts;
 pub(crate) mod placed;
 pub(crate) mod shapes;

@@ -4,6 +4,7 @@ ghost use Rattle.std.specs.Prelude.{◌≡◌, IfOk};
 
 use crate::object::{Object, Objects};
 use std::alloc::{AllocError, Global};
+use std::mem::size_of;
 
 /// What a layer lists: an object, or objects that are painted again and again (Gerber Layer Format
 /// Specification, "Step and Repeat (SR)"), the copy of column `c` and row `r` shifted by `c * i` and
@@ -19,6 +20,11 @@ pub enum Item {
         objects: Objects,
     },
 }
+
+// A layer keeps up to a million items. Fields lie in the order in which they are declared, so the flags of an arc stand
+// first, beside the tag and before the aperture, in bytes that its alignment leaves free. Behind the points they would
+// take eight bytes more of each item.
+const _: () = prove!(size_of::<Item>() == 64);
 
 impl Item {
     /// A copy; an error where no memory is left for it.

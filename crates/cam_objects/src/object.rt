@@ -32,12 +32,12 @@ pub enum Object {
     },
     /// The stroke of a solid circle along an arc, a full circle where it ends at its start.
     Arc {
+        ccw: bool,
+        dark: bool,
         aperture: u32,
         from: Point,
         to: Point,
         centre: Point,
-        ccw: bool,
-        dark: bool,
     },
     /// The inside of a contour.
     Region {
@@ -77,19 +77,19 @@ impl Object {
                 dark: *dark,
             }),
             Object::Arc {
+                ccw,
+                dark,
                 aperture,
                 from,
                 to,
                 centre,
-                ccw,
-                dark,
             } => Ok(Object::Arc {
+                ccw: *ccw,
+                dark: *dark,
                 aperture: *aperture,
                 from: *from,
                 to: *to,
                 centre: *centre,
-                ccw: *ccw,
-                dark: *dark,
             }),
             Object::Region { contour, dark } => {
                 let contour = contour.try_clone(alloc)?;

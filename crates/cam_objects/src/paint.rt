@@ -1,5 +1,6 @@
 //! Layers, painted on a canvas.
 
+pub(crate) mod dark;
 pub(crate) mod layer;
 pub(crate) mod objects;
 pub(crate) mod prints;

@@ -71,7 +71,7 @@ draw_in _ = None
 abbrev pub arc_in : List (List ℕ) → Option Object
 arc_in (n ∷ x1 ∷ y1 ∷ x2 ∷ y2 ∷ cx ∷ cy ∷ direction ∷ polarity ∷ []) =
     reads count_in n (λ n. reads_point x1 y1 (λ from. reads_point x2 y2 (λ to. reads_point cx cy (λ centre.
-    reads direction_in direction (λ ccw. reads polarity_in polarity (λ dark. Some (Arc n from to centre ccw dark)))))))
+    reads direction_in direction (λ ccw. reads polarity_in polarity (λ dark. Some (Arc ccw dark n from to centre)))))))
 arc_in _ = None
 
 -- what stands first in a list, where both can be read

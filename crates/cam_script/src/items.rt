@@ -83,12 +83,12 @@ fn arc(words: &mut Words<'_>) -> Option<Object>
     let ccw = direction(sense)?;
     let dark = polarity(tone)?;
     Some(Object::Arc {
+        ccw,
+        dark,
         aperture,
         from,
         to,
         centre,
-        ccw,
-        dark,
     })
 }
 

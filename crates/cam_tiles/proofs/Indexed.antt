@@ -1,13 +1,12 @@
 -- painting by an index: leaves that are seen nowhere may be left out
-use Rattle.std.proofs.Common.{◌≡◌, ℕ, zero, suc, ◌+◌, ◌<◌, ◌≤◌, ◌≤ℤ◌, ◌⊎◌, inl, inr, true, cond}
-use Rattle.std.proofs.Common.{List, [], ◌∷◌, ◌++◌, length, get_or, take, drop, filter}
+use Rattle.std.proofs.Common.{◌≡◌, ℕ, zero, suc, ◌+◌, ◌<◌, ◌≤◌, ◌≤ℤ◌, inl, inr, true, cond}
+use Rattle.std.proofs.Common.{◌-◌, List, [], ◌∷◌, ◌++◌, length, get_or, drop, filter}
 use Rattle.std.proofs.Common.{refl, sym, ap, subst, ◌∙◌, arith}
 use Rattle.std.specs.List.{All, flat_map}
-use Rattle.std.proofs.lemmas.Bool.{cases_Bool, cases_lt, false≢true}
+use Rattle.std.proofs.lemmas.Bool.{cases_Bool, false≢true}
 use Rattle.std.proofs.lemmas.Int.{ints}
-use Rattle.std.proofs.lemmas.List.{append-nil, drop_more, get_or_default, length-drop, take_all}
-use Rattle.std.proofs.lemmas.List.Concat.{flat_map-append}
-use Rattle.std.proofs.lemmas.List.Elements.{All-cons, All-nil, All-push, filter-append}
+use Rattle.std.proofs.lemmas.List.{drop_all, drop_more, length-drop, length_push, reverse-append}
+use Rattle.std.proofs.lemmas.List.Elements.{All-cons, All-nil, All-push}
 use Rattle.cam_units.specs.Boxes.{HaveCommonPlace, Holds, IsBetween}
 use Rattle.cam_units.specs.declared.bounds.Bounds.{Bounds}
 use Rattle.cam_units.specs.declared.bounds.Bounds.TheVariants.{Empty, Closed}
@@ -17,11 +16,11 @@ use Rattle.cam_objects.specs.Image.{IsUncovered}
 use Rattle.cam_objects.specs.Leaves.{Leaf}
 use Rattle.cam_objects.specs.Tests.{painted}
 use Rattle.cam_objects.proofs.CoveredBoxes.{outside_box}
-use Rattle.cam_objects.proofs.Inking.{front_more}
 use Rattle.cam_objects.proofs.TestLaws.{painted_off, painted-append}
 use Rattle.cam_tiles.specs.declared.index.Boxed.{Boxed}
 use Rattle.cam_tiles.specs.declared.window.Window.{Window}
-use Rattle.cam_tiles.specs.Machinery.Indexes.{IsBoxOf, IsBoxed, IsSeen, PaintAlike, numbered_leaves, row_leaves}
+use Rattle.cam_tiles.specs.Machinery.Indexes.{AreSeenFrom, IsBoxOf, IsBoxed, IsSeen, PaintAlike, all_from, last_leaves}
+use Rattle.cam_tiles.specs.Machinery.Indexes.{numbered_leaves, row_leaves}
 use Rattle.cam_tiles.specs.Machinery.RowLists.{no_box, numbers_from, reaches}
 use Rattle.cam_tiles.specs.Tiles.{down}
 
@@ -40,73 +39,80 @@ module _ (Seen : Spot → Type 0) where
   alike_are a b c d e f h ink s seen =
       ap (λ those. painted ink those s) e ∙ h ink s seen ∙ ap (λ those. painted ink those s) (sym f)
 
-  -- the same leaves behind them
-  alike_more : (a b more : List Leaf) → PaintAlike Seen a b → PaintAlike Seen (a ++ more) (b ++ more)
-  alike_more a b more h ink s seen =
-      painted-append ink a more s ∙ ap (λ i. painted i more s) (h ink s seen) ∙ sym (painted-append ink b more s)
+  -- the same leaves before them
+  alike_before : (a b before : List Leaf) → PaintAlike Seen a b → PaintAlike Seen (before ++ a) (before ++ b)
+  alike_before a b before h ink s seen =
+      painted-append ink before a s ∙ h (painted ink before s) s seen ∙ sym (painted-append ink before b s)
 
   -- leaves that are not seen
-  alike_unseen : (a b more : List Leaf) → ((s : Spot) → Seen s → IsUncovered more s)
-      → PaintAlike Seen a b → PaintAlike Seen a (b ++ more)
-  alike_unseen a b more unseen h ink s seen =
-      h ink s seen ∙ sym (painted-append ink b more s ∙ painted_off (painted ink b s) more s (unseen s seen))
+  alike_unseen : (a b before : List Leaf) → ((s : Spot) → Seen s → IsUncovered before s)
+      → PaintAlike Seen a b → PaintAlike Seen a (before ++ b)
+  alike_unseen a b before unseen h ink s seen =
+      h ink s seen
+      ∙ sym (painted-append ink before b s ∙ ap (λ i. painted i b s) (painted_off ink before s (unseen s seen)))
 
--- ---- the boxes that are seen, found one after another
+-- ---- the boxes that are seen, found from the last on
 
--- so many lists have been looked at
-pub record AreBoxedTo (lists : List (List Leaf)) (w : Window) (within : Bounds) (n : ℕ) (boxed : List Boxed)
-    : Type 0 where
-  pub each : All (IsBoxed lists) boxed
-  pub ends : All (λ b. b.rows.end ≤ down w) boxed
-  pub enough : (row : ℕ) → PaintAlike (IsSeen w within row) (row_leaves lists row boxed) (joined (take n lists))
+-- one box more stands before the others
+pub last_leaves-push : (lists : List (List Leaf)) (row : ℕ) (boxed : List Boxed) (b : Boxed)
+    → last_leaves lists row (boxed ++ b ∷ [])
+    ≡ cond (reaches row b) (at lists b.place ++ last_leaves lists row boxed) (last_leaves lists row boxed)
+last_leaves-push lists row boxed b =
+    let of : List Boxed → List Leaf = λ those. flat_map (λ (b : Boxed). at lists b.place) (filter (reaches row) those) in
+    ap of (reverse-append boxed (b ∷ []))
+    ∙ elim (cases_Bool (reaches row b)) [
+      | inl reached ↦ rw reached refl
+      | inr missed ↦ rw missed refl
+    ]
 
 module _ (lists : List (List Leaf)) (w : Window) (within : Bounds) where
-  pub none_boxed : (boxed : List Boxed) → boxed ≡ [] → AreBoxedTo lists w within 0 boxed
-  none_boxed boxed none =
-      subst (AreBoxedTo lists w within 0) (sym none)
+  pub none_seen : (n : ℕ) (boxed : List Boxed) → n ≡ length lists → boxed ≡ [] → AreSeenFrom lists w within n boxed
+  none_seen n boxed all none =
+      subst (AreSeenFrom lists w within n) (sym none)
       (record {
         each = All-nil (IsBoxed lists);
         ends = All-nil (λ b. b.rows.end ≤ down w);
-        enough = λ row ink s seen. refl;
+        enough = λ row ink s seen.
+            ap (λ those. painted ink (joined those) s) (sym (drop_all n lists (omega (arith, all))));
+        few = omega (arith, all);
       })
 
-  module _ (n : ℕ) (boxed : List Boxed) (here : n < length lists) (so_far : AreBoxedTo lists w within n boxed) where
-    one_more : joined (take (n + 1) lists) ≡ joined (take n lists) ++ at lists n
-    one_more = front_more (λ those. those) lists n (at lists n) here (get_or_default lists n [] (at lists n) here)
+  module _ (n : ℕ) (boxed : List Boxed) (so_far : AreSeenFrom lists w within (n + 1) boxed) where
+    one_more : n < length lists → all_from lists n ≡ at lists n ++ all_from lists (n + 1)
+    one_more here = ap joined (drop_more lists n [] here)
 
     -- a list that is not seen in a row
     passed : (row : ℕ) → ((s : Spot) → IsSeen w within row s → Holds (bounds_of (at lists n)) s → ⊥)
-        → PaintAlike (IsSeen w within row) (row_leaves lists row boxed) (joined (take (n + 1) lists))
+        → PaintAlike (IsSeen w within row) (last_leaves lists row boxed) (all_from lists n)
     passed row unseen =
-        let before = joined (take n lists) in
-        let leaves = row_leaves lists row boxed in
-        alike_are (IsSeen w within row) leaves (before ++ at lists n) leaves _ refl one_more
-        (alike_unseen (IsSeen w within row) leaves before (at lists n)
+        let behind = all_from lists (n + 1) in
+        let leaves = last_leaves lists row boxed in
+        alike_are (IsSeen w within row) leaves (at lists n ++ behind) leaves _ refl
+        (one_more (omega (arith, so_far.few)))
+        (alike_unseen (IsSeen w within row) leaves behind (at lists n)
         (λ s seen. outside_box (at lists n) s (unseen s seen)) (so_far.enough row))
 
     -- and one that is listed for it
     entered : (row : ℕ) (b : Boxed) → b.place ≡ n → reaches row b ≡ true
-        → PaintAlike (IsSeen w within row) (row_leaves lists row (boxed ++ b ∷ [])) (joined (take (n + 1) lists))
+        → PaintAlike (IsSeen w within row) (last_leaves lists row (boxed ++ b ∷ [])) (all_from lists n)
     entered row b place reached =
-        let before = joined (take n lists) in
-        let leaves = row_leaves lists row boxed in
-        let of : List Boxed → List Leaf = λ those. flat_map (λ (b : Boxed). at lists b.place) those in
-        alike_are (IsSeen w within row) (leaves ++ at lists n) (before ++ at lists n) _ _
-        (ap of (filter-append (reaches row) boxed (b ∷ [])
-        ∙ ap (λ t. filter (reaches row) boxed ++ cond t (b ∷ []) []) reached)
-        ∙ flat_map-append (λ (b : Boxed). at lists b.place) (filter (reaches row) boxed) (b ∷ [])
-        ∙ ap (λ last. leaves ++ last) (append-nil (at lists b.place)) ∙ ap (λ k. leaves ++ at lists k) place) one_more
-        (alike_more (IsSeen w within row) leaves before (at lists n) (so_far.enough row))
+        let behind = all_from lists (n + 1) in
+        let leaves = last_leaves lists row boxed in
+        alike_are (IsSeen w within row) (at lists n ++ leaves) (at lists n ++ behind) _ _
+        (last_leaves-push lists row boxed b
+        ∙ ap (λ t. cond t (at lists b.place ++ leaves) leaves) reached ∙ ap (λ k. at lists k ++ leaves) place)
+        (one_more (omega (arith, so_far.few)))
+        (alike_before (IsSeen w within row) leaves behind (at lists n) (so_far.enough row))
 
     -- a list whose box is kept
-    pub next_boxed : (more : List Boxed) (b : Boxed) → more ≡ boxed ++ b ∷ [] → b.place ≡ n
-        → IsBoxOf w within (bounds_of (at lists n)) b → AreBoxedTo lists w within (n + 1) more
-    next_boxed more b is place box =
-        subst (AreBoxedTo lists w within (n + 1)) (sym is)
+    pub next_seen : (more : List Boxed) (b : Boxed) → more ≡ boxed ++ b ∷ [] → b.place ≡ n
+        → IsBoxOf w within (bounds_of (at lists n)) b → AreSeenFrom lists w within n more
+    next_seen more b is place box =
+        subst (AreSeenFrom lists w within n) (sym is)
         (record {
           each = All-push (IsBoxed lists) boxed b so_far.each
               (record {
-                within = omega (arith, place);
+                within = omega (arith, place, so_far.few);
                 sides = subst (λ k. (s : Spot) → Holds (bounds_of (at lists k)) s → (b.left ≤ℤ s.x) × (s.x ≤ℤ b.right))
                     (sym place) box.sides;
               });
@@ -114,53 +120,46 @@ module _ (lists : List (List Leaf)) (w : Window) (within : Bounds) where
           enough = λ row. elim (cases_Bool (reaches row b)) [
             | inl reached ↦ entered row b place reached
             | inr missed ↦
-                alike_are (IsSeen w within row) (row_leaves lists row boxed) (joined (take (n + 1) lists)) _ _
-                (ap (λ those. flat_map (λ (b : Boxed). at lists b.place) those)
-                (filter-append (reaches row) boxed (b ∷ [])
-                ∙ ap (λ t. filter (reaches row) boxed ++ cond t (b ∷ []) []) missed
-                ∙ append-nil (filter (reaches row) boxed))) refl
-                (passed row (λ s seen held. false≢true (sym missed ∙ box.rows row s seen held)))
+                alike_are (IsSeen w within row) (last_leaves lists row boxed) (all_from lists n) _ _
+                (last_leaves-push lists row boxed b
+                ∙ ap (λ t. cond t (at lists b.place ++ last_leaves lists row boxed) (last_leaves lists row boxed)) missed)
+                refl (passed row (λ s seen held. false≢true (sym missed ∙ box.rows row s seen held)))
           ];
+          few = omega (arith, length_push boxed b, so_far.few);
         })
 
     -- a list that is not seen
     pub next_missed : ((row : ℕ) (s : Spot) → IsSeen w within row s → Holds (bounds_of (at lists n)) s → ⊥)
-        → AreBoxedTo lists w within (n + 1) boxed
-    next_missed unseen = record { each = so_far.each; ends = so_far.ends; enough = λ row. passed row (unseen row) }
+        → AreSeenFrom lists w within n boxed
+    next_missed unseen = record {
+      each = so_far.each;
+      ends = so_far.ends;
+      enough = λ row. passed row (unseen row);
+      few = omega (arith, so_far.few);
+    }
 
-  -- all have been looked at
-  pub all_boxed : (n : ℕ) (boxed : List Boxed) → length lists ≤ n → AreBoxedTo lists w within n boxed → (row : ℕ)
-      → PaintAlike (IsSeen w within row) (row_leaves lists row boxed) (joined lists)
-  all_boxed n boxed end so_far row =
-      let leaves = row_leaves lists row boxed in
-      alike_are (IsSeen w within row) leaves _ leaves _ refl (ap joined (sym (take_all n lists end))) (so_far.enough row)
+-- lists that are passed over, back to number m
+seen_past : (lists : List (List Leaf)) (w : Window) (within : Bounds) (boxed : List Boxed) (gap n m : ℕ)
+    → m + gap ≡ n
+    → ((k : ℕ) → m ≤ k → k < n → k < length lists → HaveCommonPlace (bounds_of (at lists k)) within → ⊥)
+    → AreSeenFrom lists w within n boxed → AreSeenFrom lists w within m boxed
+seen_past lists w within boxed zero n m e far so_far =
+    subst (λ k. AreSeenFrom lists w within k boxed) (omega (arith, e)) so_far
+seen_past lists w within boxed (suc gap) n m e far so_far =
+    let before : ℕ = n - 1 in
+    let last : n ≡ before + 1 = omega (arith, e) in
+    let here = subst (λ k. AreSeenFrom lists w within k boxed) last so_far in
+    seen_past lists w within boxed gap before m (omega (arith, e))
+    (λ k low high listed. far k low (omega (arith, high)) listed)
+    (next_missed lists w within before boxed here
+    (λ row s seen held.
+    far before (omega (arith, e)) (omega (arith, last)) (omega (arith, here.few)) (s, (held, seen.0))))
 
--- lists that are passed over
-pub boxed_past : (lists : List (List Leaf)) (w : Window) (within : Bounds) (boxed : List Boxed) (gap n m : ℕ)
-    → n + gap ≡ m
-    → ((k : ℕ) → n ≤ k → k < m → k < length lists → HaveCommonPlace (bounds_of (at lists k)) within → ⊥)
-    → AreBoxedTo lists w within n boxed → AreBoxedTo lists w within m boxed
-boxed_past lists w within boxed zero n m e far so_far =
-    subst (λ k. AreBoxedTo lists w within k boxed) (omega (arith, e)) so_far
-boxed_past lists w within boxed (suc gap) n m e far so_far =
-    boxed_past lists w within boxed gap (n + 1) m (omega (arith, e))
-    (λ k low high listed. far k (omega (arith, low)) high listed)
-    (by (cases_lt n (length lists)))
-  where
-    by : (n < length lists) ⊎ (length lists ≤ n) → AreBoxedTo lists w within (n + 1) boxed
-    by (inl here) =
-        next_missed lists w within n boxed here so_far
-        (λ row s seen held. far n (omega arith) (omega (arith, e)) here (s, (held, seen.0)))
-    by (inr past) =
-        let same = take_all (n + 1) lists (omega (arith, past)) ∙ sym (take_all n lists past) in
-        record {
-          each = so_far.each;
-          ends = so_far.ends;
-          enough = λ row.
-              let leaves = row_leaves lists row boxed in
-              alike_are (IsSeen w within row) leaves (joined (take n lists)) leaves _ refl (ap joined same)
-              (so_far.enough row);
-        }
+pub seen_back : (lists : List (List Leaf)) (w : Window) (within : Bounds) (boxed : List Boxed) (n m : ℕ) → m ≤ n
+    → ((k : ℕ) → m ≤ k → k < n → k < length lists → HaveCommonPlace (bounds_of (at lists k)) within → ⊥)
+    → AreSeenFrom lists w within n boxed → AreSeenFrom lists w within m boxed
+seen_back lists w within boxed n m low far so_far =
+    seen_past lists w within boxed (n - m) n m (omega (arith, low)) far so_far
 
 -- a box that has both corners of another has all its places
 pub corners_held : (b box : Bounds) (low high : Spot) → box ≡ Closed low high → Holds b low → Holds b high

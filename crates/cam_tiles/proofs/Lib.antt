@@ -1,3 +1,4 @@
+pub mod Blackened
 pub mod Bytes
 pub mod ChangedParities
 pub mod CircleBounds
@@ -21,11 +22,13 @@ pub mod PaintedLists
 pub mod PaintedMasks
 pub mod PaintedSwaths
 pub mod PaintedTiles
+pub mod PartlyDrawn
 pub mod PbmLemmas
 pub mod PictureLemmas
 pub mod Pictures
 pub mod PlotLemmas
 pub mod RowLists
+pub mod RowsInOrder
 pub mod RowsOfTiles
 pub mod RunColumns
 pub mod SameFiles

@@ -189,22 +189,22 @@ pub middle_length : (first end : ℕ) (tiles : List Tile) → first ≤ end → 
 middle_length first end tiles order within =
     length-take-le (end - first) (drop first tiles) (omega (arith, length-drop first tiles))
 
+-- a list of tiles from one number on, before another and from there on
+pub split : (first end : ℕ) (tiles : List Tile) → first ≤ end → end ≤ length tiles
+    → drop first tiles ≡ mid_of first (end - first) tiles ++ drop end tiles
+split first end tiles order within =
+    let there : first + (end - first) ≡ end = omega arith in
+    sym (take-append-drop (end - first) (drop first tiles))
+    ∙ ap (λ rest. take (end - first) (drop first tiles) ++ rest)
+    (drop-drop (end - first) first tiles ∙ ap (λ n. drop n tiles) there)
+
 -- a row of tiles that is drawn in a list of them
 module _ (draw : ℕ → List ℕ) (first end : ℕ) (tiles part : List Tile) (order : first ≤ end)
     (within : end ≤ length tiles) (is : part ≡ all_drawn_from draw first (mid_of first (end - first) tiles)) where
-  there : first + (end - first) ≡ end
-  there = omega arith
-
   pub part_size : length part ≡ end - first
   part_size =
       ap length is ∙ length-all_drawn_from draw first (mid_of first (end - first) tiles)
       ∙ middle_length first end tiles order within
-
-  split : drop first tiles ≡ mid_of first (end - first) tiles ++ drop end tiles
-  split =
-      sym (take-append-drop (end - first) (drop first tiles))
-      ∙ ap (λ rest. take (end - first) (drop first tiles) ++ rest)
-      (drop-drop (end - first) first tiles ∙ ap (λ n. drop n tiles) there)
 
   pub row_drawn : drawn_on draw 0 first tiles ≡ drawn_on draw 0 end (put_mid first (end - first) tiles part)
   row_drawn =
@@ -213,7 +213,7 @@ module _ (draw : ℕ → List ℕ) (first end : ℕ) (tiles part : List Tile) (o
       let rest = all_drawn_from draw (0 + end) (drop end tiles) in
       let now = put_mid first (end - first) tiles part in
       let next : 0 + end ≡ 0 + first + length (mid_of first (end - first) tiles) = omega (arith, middle_length first end tiles order within) in
-      ap (λ those. front ++ all_drawn_from draw (0 + first) those) split
+      ap (λ those. front ++ all_drawn_from draw (0 + first) those) (split first end tiles order within)
       ∙ ap (λ those. front ++ those)
       (drawn_append draw (0 + first) (0 + end) (mid_of first (end - first) tiles) (drop end tiles) next)
       ∙ ap (λ those. front ++ (those ++ rest))

@@ -1,9 +1,10 @@
 //! Dirty tiles of a window, drawn row of tiles by row of tiles, or each on its own.
 
-ghost use Rattle.std.specs.Prelude.{◌≡◌, ◌+◌, ◌%◌, ◌<◌, ◌≤◌, length, true};
+ghost use Rattle.std.specs.Prelude.{◌≡◌, ◌+◌, ◌%◌, ◌<◌, ◌≤◌, OnOk, count_by, is_none, length, true};
 ghost use Rattle.cam_objects.specs.Leaves.{Leaf};
 ghost use Rattle.cam_objects.specs.Tests.{is_black};
-ghost use Rattle.cam_tiles.specs.Machinery.Indexes.{IsIndexOf};
+ghost use Rattle.cam_tiles.specs.Machinery.Blackened.{IsPartlyDrawn};
+ghost use Rattle.cam_tiles.specs.Machinery.Indexes.{AreSeenBy, IsIndexOf};
 ghost use Rattle.cam_tiles.specs.Machinery.Shown.{IsReady, leaves_by_item, leaves_of};
 ghost use Rattle.cam_tiles.specs.Machinery.Swaths.{IsRowOfTiles};
 ghost use Rattle.cam_tiles.specs.Picture.{accepts};
@@ -11,13 +12,20 @@ ghost use Rattle.cam_tiles.specs.Tables.{all_drawn_from};
 ghost use Rattle.cam_tiles.specs.Tiles.{across, grid_of, tile_rows, tiles_of};
 
 use crate::index::Index;
+use crate::index::seen::Seen;
 use crate::masks::mask::Mask;
 use crate::masks::swath::Swath;
 use crate::painter::Tile;
 use crate::shown::Shown;
 use crate::window::Window;
 use cam_units::Bounds;
-use std::alloc::Global;
+use std::alloc::{AllocError, Global};
+
+/// Of how many dirty tiles it is tried whether the last items make them black.
+const FEW_TILES: usize = 16;
+
+/// How many items may be seen at least where that is tried.
+const MANY_ITEMS: usize = 256;
 
 /// Draws the dirty ones of the first tiles of a window: row by row of them where there is memory for an index.
 pub(crate) fn draw(alloc: Global, shown: &Shown<'_>, window: &Window, tiles: &mut [Tile])
@@ -27,12 +35,113 @@ pub(crate) fn draw(alloc: Global, shown: &Shown<'_>, window: &Window, tiles: &mu
     ensures { tiles.new
         ≡ all_drawn_from (λ k. tile_rows (is_black (leaves_of shown.now)) (grid_of window.now k)) 0 tiles.old }
 {
-    let Ok(mut index) = Index::new(alloc, shown, window, box_of_dirty(tiles, window)) else {
+    if draw_seen(alloc, shown, window, tiles).is_err() {
         draw_each(shown, window, 0, tiles);
-        return;
-    };
+    }
+}
+
+/// Draws the dirty ones of the first tiles of a window, by the items that may be seen there. Where memory is refused,
+/// some of them.
+fn draw_seen(
+    alloc: Global,
+    shown: &Shown<'_>,
+    window: &Window,
+    tiles: &mut [Tile],
+) -> Result<(), AllocError>
+    requires ready { IsReady shown.now }
+    requires accepted { accepts window.now ≡ true }
+    requires within { length tiles.old ≤ tiles_of window.now }
+    ensures some { IsPartlyDrawn (λ k. tile_rows (is_black (leaves_of shown.now)) (grid_of window.now k)) 0
+        tiles.old tiles.new }
+    ensures all { OnOk result (tiles.new
+        ≡ all_drawn_from (λ k. tile_rows (is_black (leaves_of shown.now)) (grid_of window.now k)) 0 tiles.old) }
+{
+    let within = box_of_dirty(tiles, window);
+    let mut seen = Seen::new(alloc, shown, within)?;
     let mut swath = Swath::new(alloc);
+    seen.look(shown, window, MANY_ITEMS)?;
+    draw_black(&mut seen, &mut swath, shown, window, tiles)?;
+    if dirty_in(tiles) == 0 {
+        return Ok(());
+    }
+    seen.look(shown, window, shown.len())?;
+    let mut index = Index::of(alloc, shown, window, seen)?;
     draw_rows(&mut index, &mut swath, shown, window, tiles);
+    Ok(())
+}
+
+/// Draws those rows of tiles that the last items make black all over, where few tiles are dirty and more items may be
+/// seen than were looked for.
+fn draw_black(
+    seen: &mut Seen,
+    swath: &mut Swath,
+    shown: &Shown<'_>,
+    window: &Window,
+    tiles: &mut [Tile],
+) -> Result<(), AllocError>
+    requires ready { IsReady shown.now }
+    requires seen { AreSeenBy (leaves_by_item shown.now) window.now seen.old }
+    requires accepted { accepts window.now ≡ true }
+    requires within { length tiles.old ≤ tiles_of window.now }
+    ensures seen { OnOk result (AreSeenBy (leaves_by_item shown.now) window.now seen.new) }
+    ensures tiles { IsPartlyDrawn (λ k. tile_rows (is_black (leaves_of shown.now)) (grid_of window.now k)) 0
+        tiles.old tiles.new }
+{
+    if seen.is_complete() || dirty_in(tiles) > FEW_TILES {
+        return Ok(());
+    }
+    draw_black_rows(seen, swath, shown, window, tiles)
+}
+
+/// Draws those rows of tiles that the last items make black all over.
+fn draw_black_rows(
+    seen: &mut Seen,
+    swath: &mut Swath,
+    shown: &Shown<'_>,
+    window: &Window,
+    tiles: &mut [Tile],
+) -> Result<(), AllocError>
+    requires ready { IsReady shown.now }
+    requires seen { AreSeenBy (leaves_by_item shown.now) window.now seen.old }
+    requires accepted { accepts window.now ≡ true }
+    requires within { length tiles.old ≤ tiles_of window.now }
+    ensures seen { OnOk result (AreSeenBy (leaves_by_item shown.now) window.now seen.new) }
+    ensures tiles { IsPartlyDrawn (λ k. tile_rows (is_black (leaves_of shown.now)) (grid_of window.now k)) 0
+        tiles.old tiles.new }
+{
+    let across = window.across() as usize;
+    for row in 0..tiles.len().div_ceil(across) {
+        let first = row * across;
+        let end = (first + across).min(tiles.len());
+        let part = &mut tiles[first..end];
+        draw_black_row(seen, swath, shown, window, first as u32, part)?;
+    }
+    Ok(())
+}
+
+/// Draws the dirty ones of tiles of a row of them where the last items make all of these black all over. The first of
+/// them has a number.
+fn draw_black_row(
+    seen: &mut Seen,
+    swath: &mut Swath,
+    shown: &Shown<'_>,
+    window: &Window,
+    first: u32,
+    tiles: &mut [Tile],
+) -> Result<(), AllocError>
+    requires ready { IsReady shown.now }
+    requires seen { AreSeenBy (leaves_by_item shown.now) window.now seen.old }
+    requires accepted { accepts window.now ≡ true }
+    requires row { IsRowOfTiles window.now first tiles.old }
+    ensures seen { OnOk result (AreSeenBy (leaves_by_item shown.now) window.now seen.new) }
+    ensures tiles { IsPartlyDrawn (λ k. tile_rows (is_black (leaves_of shown.now)) (grid_of window.now k)) first
+        tiles.old tiles.new }
+{
+    swath.turn_to(window, first, tiles)?;
+    if seen.blacken(shown, window, first, swath)? {
+        swath.put(tiles);
+    }
+    Ok(())
 }
 
 /// The box of the centres of the dirty tiles, in half nm.
@@ -114,4 +223,11 @@ fn draw_row(
     };
     index.paint(shown, window, first, swath);
     swath.put(tiles);
+}
+
+/// How many of the tiles are dirty.
+pub(crate) fn dirty_in(tiles: &[Tile]) -> usize
+    ensures { result ≡ count_by is_none tiles.now }
+{
+    tiles.iter().filter(|tile| tile.is_none()).count()
 }

@@ -1,19 +1,22 @@
 //! What of a layer a redraw may show: the items that may be seen in a box, and which of them reach each row of tiles.
 
 mod row_lists;
+pub(crate) mod seen;
 
 ghost use Rattle.std.specs.Prelude.{◌≡◌, ◌↔◌, ◌<◌, ◌≤◌, ◌≤ℤ◌, ℕ, [], All, IfNone, IfOk, IfSome, IsTrue, length};
 ghost use Rattle.std.specs.Prelude.{slice_index_or, true};
 ghost use Rattle.cam_units.specs.Boxes.{Holds};
 ghost use Rattle.cam_units.specs.declared.point.Spot.{Spot};
-ghost use Rattle.cam_tiles.specs.Machinery.Indexes.{IsBoxed, IsBoxOf, IsIndexOf, IsSeen, numbered_leaves};
+ghost use Rattle.cam_tiles.specs.Machinery.Indexes.{AreSeenBy, IsBoxed, IsBoxOf, IsIndexOf, IsSeen, numbered_leaves};
 ghost use Rattle.cam_tiles.specs.Machinery.Levels.{IsLevels, levels_of};
+ghost use Rattle.cam_tiles.specs.Machinery.RowLists.{reaches};
 ghost use Rattle.cam_tiles.specs.Machinery.Shown.{IsReady, leaves_by_item, leaves_of};
 ghost use Rattle.cam_tiles.specs.Machinery.Swaths.{HasLevels, PaintsSwath};
 ghost use Rattle.cam_tiles.specs.Picture.{accepts};
 ghost use Rattle.cam_tiles.specs.Tiles.{grid_of, tiles_of};
 
 use crate::index::row_lists::RowLists;
+use crate::index::seen::Seen;
 use crate::levels::Levels;
 use crate::masks::filing::{FiledSegment, file_contour};
 use crate::masks::swath::Swath;
@@ -78,6 +81,14 @@ impl Boxed {
         })
     }
 
+    /// Whether it reaches a row of tiles.
+    #[inline]
+    fn is_in_row(&self, row: u32) -> bool
+        ensures { result ≡ reaches row self.now }
+    {
+        self.rows.first <= row && row < self.rows.end
+    }
+
     /// Whether its box has a place from the first column of a tile to the last.
     #[inline]
     fn reaches(&self, first: i64, last: i64) -> bool
@@ -88,30 +99,26 @@ impl Boxed {
 }
 
 impl Index {
-    /// An index of the items that reach some row of tiles of a window within a box, in half nm.
-    pub(crate) fn new(
+    /// An index of the items that may be seen, once all items were looked at.
+    pub(crate) fn of(
         alloc: Global,
         shown: &Shown<'_>,
         window: &Window,
-        within: Bounds,
+        seen: Seen,
     ) -> Result<Index, AllocError>
         requires ready { IsReady shown.now }
         requires accepted { accepts window.now ≡ true }
+        requires seen { AreSeenBy (leaves_by_item shown.now) window.now seen }
+        requires all { seen.left ≡ 0 }
         ensures { IfOk result (λ index. IsIndexOf (leaves_by_item shown.now) window.now index) }
     {
-        let count = shown.len();
-        let mut boxed = Vec::with_capacity(alloc, shown.near_count(within))?;
-        let mut room = 0;
-        let mut boxes = shown.boxes();
-        let mut next = shown.next_near(0, within);
-        while next < count {
-            let place = next;
-            next = shown.next_near(place + 1, within);
-            if let Some(item) = Boxed::seen(place as u32, boxes.read(place), window, within) {
-                boxed.push(item)?;
-                room = shown.room_to_file(place).max(room);
-            }
-        }
+        let Seen {
+            within,
+            mut boxed,
+            room,
+            ..
+        } = seen;
+        boxed.reverse();
         let rows = RowLists::new(alloc, &boxed, window.height.div_ceil(64))?;
         let segments = Vec::with_capacity(alloc, room)?;
         Ok(Index {

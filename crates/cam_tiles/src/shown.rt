@@ -1,11 +1,12 @@
 //! Layers of either kind, and how they are painted, item by item.
 
-ghost use Rattle.std.specs.Prelude.{◌≡◌, ◌<◌, ◌≤◌, ℕ, [], ◌∷◌, IfSome, List, length, slice_index_or};
+ghost use Rattle.std.specs.Prelude.{◌≡◌, ◌<◌, ◌≤◌, ℕ, [], ◌∷◌, IfSome, IsTrue, List, length, slice_index_or};
 ghost use Rattle.cam_units.specs.Boxes.{HaveCommonPlace};
 ghost use Rattle.cam_units.specs.declared.bounds.Bounds.{Bounds};
 ghost use Rattle.cam_objects.specs.Bounds.{bounds_of};
 ghost use Rattle.cam_objects.specs.Canvases.{Paints};
 ghost use Rattle.cam_objects.specs.Cells.{AreCellsOf, box_at};
+ghost use Rattle.cam_objects.specs.Darkness.{AreDark};
 ghost use Rattle.cam_objects.specs.Leaves.{Filled, leaf};
 ghost use Rattle.cam_tiles.specs.Machinery.Filing.{IsOnBoardWhole};
 ghost use Rattle.cam_tiles.specs.Machinery.Shown.{IsReady, leaves_by_item, leaves_of, lists_of};
@@ -69,16 +70,16 @@ fn region_in(item: &Item) -> Option<Region<'_>>
     }
 }
 
-/// The next place from one on whose item may have a place in common with a box: by the cells of the items, where there
-/// are any.
-fn next_near(cells: Option<&ItemCells>, place: usize, near: Bounds) -> usize
-    ensures onward { place ≤ result }
-    ensures apart { (boxes : List Bounds) → IfSome cells.entry (λ kept. AreCellsOf boxes kept.now) → (k : ℕ) → place ≤ k
-        → k < result → k < length boxes → ¬ HaveCommonPlace (box_at boxes k) near }
+/// The place behind the last item before an end that may have a place in common with a box, or 0: by the cells of the
+/// items, where there are any.
+fn near_end(cells: Option<&ItemCells>, end: usize, near: Bounds) -> usize
+    ensures within { result ≤ end }
+    ensures apart { (boxes : List Bounds) → IfSome cells.entry (λ kept. AreCellsOf boxes kept.now) → (k : ℕ) → result ≤ k
+        → k < end → k < length boxes → ¬ HaveCommonPlace (box_at boxes k) near }
 {
     match cells {
-        Some(cells) => cells.next_near(place, near),
-        None => place,
+        Some(cells) => cells.near_end(end, near),
+        None => end,
     }
 }
 
@@ -104,17 +105,17 @@ impl<'a> Shown<'a> {
         }
     }
 
-    /// The next place from one on whose item may have a place in common with a box: the items before it, from that
-    /// place on, have none.
-    pub(crate) fn next_near(&self, place: usize, near: Bounds) -> usize
+    /// The place behind the last item before an end that may have a place in common with a box, or 0: the items from
+    /// there to the end have none.
+    pub(crate) fn near_end(&self, end: usize, near: Bounds) -> usize
         requires { IsReady self.now }
-        ensures onward { place ≤ result }
-        ensures apart { (k : ℕ) → place ≤ k → k < result → k < length (leaves_by_item self.now)
+        ensures within { result ≤ end }
+        ensures apart { (k : ℕ) → result ≤ k → k < end → k < length (leaves_by_item self.now)
             → ¬ HaveCommonPlace (bounds_of (slice_index_or (leaves_by_item self.now) k [])) near }
     {
         match self {
-            Shown::Gerber { cells, .. } => next_near(*cells, place, near),
-            Shown::Drill { cells, .. } => next_near(*cells, place, near),
+            Shown::Gerber { cells, .. } => near_end(*cells, end, near),
+            Shown::Drill { cells, .. } => near_end(*cells, end, near),
         }
     }
 
@@ -162,6 +163,19 @@ impl<'a> Shown<'a> {
         match self.region(place) {
             Some(region) => region.contour.segs.as_slice().len() + 1,
             None => 0,
+        }
+    }
+
+    /// Whether all that the item at a place of the list paints is dark; of repeats and of flashes of blocks it is not
+    /// known.
+    pub(crate) fn is_dark(&self, place: usize) -> bool
+        requires { place < length (leaves_by_item self.now) }
+        ensures { IsTrue result → AreDark (slice_index_or (leaves_by_item self.now) place []) }
+    {
+        match self {
+            Shown::Gerber { layer, .. } => layer.is_dark(place),
+            // what is drilled or routed is dark
+            Shown::Drill { .. } => true,
         }
     }
 

@@ -7,7 +7,7 @@ ghost use Rattle.cam_objects.specs.DrillSoundness.{IsSoundDrillLayer};
 ghost use Rattle.cam_objects.specs.Soundness.{HasSoundItems};
 ghost use Rattle.cam_tiles.specs.Sources.{picture_of, unasked};
 
-use crate::drawing::draw;
+use crate::drawing::{dirty_in, draw};
 use crate::painter::{Painter, Tile};
 use crate::shown::Shown;
 use crate::window::Window;
@@ -115,11 +115,4 @@ impl<'a> Painter for Source<'a> {
     fn asked(&self) -> u64 {
         self.asked
     }
-}
-
-/// How many of the tiles are dirty.
-fn dirty_in(tiles: &[Tile]) -> usize
-    ensures { result ≡ count_by is_none tiles.now }
-{
-    tiles.iter().filter(|tile| tile.is_none()).count()
 }

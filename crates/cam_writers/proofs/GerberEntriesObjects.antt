@@ -56,7 +56,7 @@ module _ (past : Past) (es : Pairs) (entries : entries_in past ≡ es) where
   defined_in : (o : Object) → IsKnown es o → IsDefinedIn past o
   defined_in (Flash n at turn dark) known = has_number n known
   defined_in (Draw n from to turn dark) known = has_number n known
-  defined_in (Arc n from to centre ccw dark) known = has_number n known
+  defined_in (Arc ccw dark n from to centre) known = has_number n known
   defined_in (Region contour dark) known = tt
 
   fit_line : (n : ℕ) → IsSome (meaning_in es n).tip → is_unfit past false (Some n) ≡ false
@@ -68,7 +68,7 @@ module _ (past : Past) (es : Pairs) (entries : entries_in past ≡ es) where
   fit_in : (o : Object) → IsDrawable (meaning_in es) o → IsFitIn past o
   fit_in (Flash n at turn dark) wide = tt
   fit_in (Draw n from to turn dark) some = fit_line n some
-  fit_in (Arc n from to centre ccw dark) some = fit_arc n some
+  fit_in (Arc ccw dark n from to centre) some = fit_arc n some
   fit_in (Region contour dark) wide = tt
 
   inside_in : (h : Home) → home past ≡ h → (o : Object) → IsPlacedAt h es o → IsInsideIn past o
@@ -76,7 +76,7 @@ module _ (past : Past) (es : Pairs) (entries : entries_in past ≡ es) where
       ap (λ k. is_outside_at k past (Flash n at turn dark)) at_home
       ∙ inside_at h past es (Flash n at turn dark) entries on
   inside_in h at_home (Draw n from to turn dark) on = tt
-  inside_in h at_home (Arc n from to centre ccw dark) on = tt
+  inside_in h at_home (Arc ccw dark n from to centre) on = tt
   inside_in h at_home (Region contour dark) on = tt
 
   pub may_stand : (h : Home) → home past ≡ h → (o : Object) → IsSoundAt h es o → is_full h past o ≡ false

@@ -82,7 +82,7 @@ object_fits entries (Flash n at turn dark) numbers on known = (numbers n known, 
 object_fits entries (Draw n from to turn dark) numbers on known =
     let others = All-tail IsOnBoard from (to ∷ []) on in
     (numbers n known, All-head IsOnBoard from (to ∷ []) on, All-head IsOnBoard to [] others)
-object_fits entries (Arc n from to centre ccw dark) numbers on known =
+object_fits entries (Arc ccw dark n from to centre) numbers on known =
     let others = All-tail IsOnBoard from (to ∷ centre ∷ []) on in (
       numbers n known,
       All-head IsOnBoard from (to ∷ centre ∷ []) on,

@@ -89,7 +89,7 @@ module _ (kept : List Attribute) where
       more _ _ refl refl
       (started from (past_mode Linear ready)
       (moded Linear ready (selected n (past_turn turn dyed) (turned turn dyed (polarity dark past h)))))
-  object past (Arc n from to centre ccw dark) h =
+  object past (Arc ccw dark n from to centre) h =
       let dyed = past_polarity dark past in
       let ready = past_aperture n dyed in
       more _ _ refl refl

@@ -29,21 +29,21 @@ use Rattle.cam_writers.proofs.GerberObjectsValues.{both_parts}
 abbrev pub IsDefinedIn : Past → Object → Type 0
 IsDefinedIn past (Flash n at turn dark) = is_defined past n ≡ true
 IsDefinedIn past (Draw n from to turn dark) = is_defined past n ≡ true
-IsDefinedIn past (Arc n from to centre ccw dark) = is_defined past n ≡ true
+IsDefinedIn past (Arc ccw dark n from to centre) = is_defined past n ≡ true
 IsDefinedIn past (Region contour dark) = Unit {0}
 
 -- draws are strokes of solid circles and of solid rectangles, and arcs of solid circles alone
 abbrev pub IsFitIn : Past → Object → Type 0
 IsFitIn past (Flash n at turn dark) = Unit {0}
 IsFitIn past (Draw n from to turn dark) = is_unfit past false (Some n) ≡ false
-IsFitIn past (Arc n from to centre ccw dark) = is_unfit past true (Some n) ≡ false
+IsFitIn past (Arc ccw dark n from to centre) = is_unfit past true (Some n) ≡ false
 IsFitIn past (Region contour dark) = Unit {0}
 
 -- the leaves of a flash lie on the board, where they are judged at once
 abbrev pub IsInsideIn : Past → Object → Type 0
 IsInsideIn past (Flash n at turn dark) = is_outside_at (home past) past (Flash n at turn dark) ≡ false
 IsInsideIn past (Draw n from to turn dark) = Unit {0}
-IsInsideIn past (Arc n from to centre ccw dark) = Unit {0}
+IsInsideIn past (Arc ccw dark n from to centre) = Unit {0}
 IsInsideIn past (Region contour dark) = Unit {0}
 
 pub record MayStand (past : Past) (object : Object) : Type 0 where
@@ -102,7 +102,7 @@ object_joins past (Draw n from to turn dark) s may =
       point = set.point;
       plottable = there;
     }) may.fit may.room
-object_joins past (Arc n from to centre ccw dark) s may =
+object_joins past (Arc ccw dark n from to centre) s may =
     let begun = aperture_set past _ _ (darkened past s dark) n may.known in
     let round = mode_set past _ _ begun (arc_mode ccw) in
     let set = point_set past _ _ round from (All-head IsOnBoard from (to ∷ centre ∷ []) may.points) in

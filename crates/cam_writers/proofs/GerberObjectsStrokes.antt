@@ -78,7 +78,7 @@ flash_made older past n at turn dark s k aperture turned darkened on inside room
 -- a stroke along a segment; an arc has no turn
 abbrev pub stroke_along : ℕ → Point → Seg → Turn → Bool → Object
 stroke_along n from (Line to) turn dark = Draw n from to turn dark
-stroke_along n from (Curve to centre ccw) turn dark = Arc n from to centre ccw dark
+stroke_along n from (Curve to centre ccw) turn dark = Arc ccw dark n from to centre
 
 by_segment : (mode : Mode) (n : ℕ) (from to centre : Point) (turn : Turn) (dark : Bool)
     → stroke mode n from to centre turn dark ≡ stroke_along n from (segment mode to centre) turn dark

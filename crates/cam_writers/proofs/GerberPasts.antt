@@ -171,7 +171,7 @@ abbrev pub past_object : Past → Object → Past
 past_object past (Flash n at turn dark) = flash_at at ∷ past_aperture n (past_turn turn (past_polarity dark past))
 past_object past (Draw n from to turn dark) =
     line_to to ∷ past_start from (past_mode Linear (past_aperture n (past_turn turn (past_polarity dark past))))
-past_object past (Arc n from to centre ccw dark) =
+past_object past (Arc ccw dark n from to centre) =
     arc_to from to centre ∷ past_start from (past_mode (arc_mode ccw) (past_aperture n (past_polarity dark past)))
 past_object past (Region contour dark) = past_contour contour (past_polarity dark past)
 

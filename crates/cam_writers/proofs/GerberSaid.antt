@@ -60,7 +60,7 @@ IsFitSegment (Curve to centre ccw) = IsOnBoard to × IsOnBoard centre
 abbrev pub IsFit : Object → Type 0
 IsFit (Flash n at turn dark) = IsApertureNumber n × IsOnBoard at
 IsFit (Draw n from to turn dark) = IsApertureNumber n × IsOnBoard from × IsOnBoard to
-IsFit (Arc n from to centre ccw dark) = IsApertureNumber n × IsOnBoard from × IsOnBoard to × IsOnBoard centre
+IsFit (Arc ccw dark n from to centre) = IsApertureNumber n × IsOnBoard from × IsOnBoard to × IsOnBoard centre
 IsFit (Region contour dark) = IsOnBoard contour.start × AllByRecursion IsFitSegment contour.segs
 
 -- the macro of an aperture is found, and says its primitives
@@ -194,7 +194,7 @@ module _ (older : Commands) where
       line_told _ _ to fit.2
       (start_told _ _ from fit.1
       (mode_told _ _ Linear (aperture_told _ _ n fit.0 (turn_told _ _ turn (polarity_told commands past dark h)))))
-  object_told commands past (Arc n from to centre ccw dark) fit h =
+  object_told commands past (Arc ccw dark n from to centre) fit h =
       arc_told _ _ from to centre fit.1 fit.2 fit.3
       (start_told _ _ from fit.1
       (mode_told _ _ (arc_mode ccw) (aperture_told _ _ n fit.0 (polarity_told commands past dark h))))

@@ -35,7 +35,7 @@ segments_writable (Curve to centre ccw ∷ segs) fit = (fit.0, segments_writable
 pub object_writable : (object : Object) → IsFit object → IsWritableObject object
 object_writable (Flash n at turn dark) fit = fit
 object_writable (Draw n from to turn dark) fit = fit
-object_writable (Arc n from to centre ccw dark) fit = fit
+object_writable (Arc ccw dark n from to centre) fit = fit
 object_writable (Region contour dark) fit = record {
   begins = fit.0;
   each = All-from_recursion IsWritableSegment contour.segs (segments_writable contour.segs fit.1);

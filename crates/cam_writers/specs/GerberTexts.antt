@@ -129,7 +129,7 @@ with_object commands (Flash n at turn dark) =
 with_object commands (Draw n from to turn dark) =
     line_command to
     ∷ with_start from (with_mode Linear (with_aperture n (with_turn turn (with_polarity dark commands))))
-with_object commands (Arc n from to centre ccw dark) =
+with_object commands (Arc ccw dark n from to centre) =
     arc_command from to centre
     ∷ with_start from (with_mode (arc_mode ccw) (with_aperture n (with_polarity dark commands)))
 with_object commands (Region contour dark) = with_contour contour (with_polarity dark commands)

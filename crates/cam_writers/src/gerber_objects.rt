@@ -116,12 +116,12 @@ impl GerberText {
                 self.plot_line(*to)
             }
             Object::Arc {
+                ccw,
+                dark,
                 aperture,
                 from,
                 to,
                 centre,
-                ccw,
-                dark,
             } => {
                 self.set_polarity(*dark)?;
                 self.select(*aperture)?;

@@ -38,5 +38,5 @@ insertion_answer checked has_place = if has_place then placed checked else Err (
 abbrev pub other_aperture : ℕ → Item → Option Item
 other_aperture n (One (Flash m at t dark)) = Some (One (Flash n at t dark))
 other_aperture n (One (Draw m from to t dark)) = Some (One (Draw n from to t dark))
-other_aperture n (One (Arc m from to centre ccw dark)) = Some (One (Arc n from to centre ccw dark))
+other_aperture n (One (Arc ccw dark m from to centre)) = Some (One (Arc ccw dark n from to centre))
 other_aperture n _ = None

@@ -55,7 +55,7 @@ module _ (by : Point) where
   object_back : (object : Object) → shifted_object back (shifted_object by object) ≡ object
   object_back (Flash n at t dark) = rw (point_back at) refl
   object_back (Draw n from to t dark) = rw (point_back from, point_back to) refl
-  object_back (Arc n from to centre ccw dark) = rw (point_back from, point_back to, point_back centre) refl
+  object_back (Arc ccw dark n from to centre) = rw (point_back from, point_back to, point_back centre) refl
   object_back (Region contour dark) =
       rw (point_back contour.start, map_back (shifted_seg by) (shifted_seg back) seg_back contour.segs) refl
 
@@ -80,7 +80,7 @@ module _ (by : Point) where
   movable_object : (object : Object) → IsMovableObject by object → IsMovableObject back (shifted_object by object)
   movable_object (Flash n at t dark) h = movable_point at h
   movable_object (Draw n from to t dark) h = (movable_point from h.0, movable_point to h.1)
-  movable_object (Arc n from to centre ccw dark) h =
+  movable_object (Arc ccw dark n from to centre) h =
       (movable_point from h.0, movable_point to h.1, movable_point centre h.2)
   movable_object (Region contour dark) h = (
     movable_point contour.start h.0,
@@ -106,7 +106,7 @@ module _ (by : Point) where
   shiftable_object : (object : Object) → IsMovableObject by object → IsShiftableObject object
   shiftable_object (Flash n at t dark) h = h.0
   shiftable_object (Draw n from to t dark) h = (h.0.0, h.1.0)
-  shiftable_object (Arc n from to centre ccw dark) h = (h.0.0, h.1.0, h.2.0)
+  shiftable_object (Arc ccw dark n from to centre) h = (h.0.0, h.1.0, h.2.0)
   shiftable_object (Region contour dark) h =
       record { start = h.0.0; segs = All-weaker (IsMovableSeg by) IsShiftableSeg shiftable_seg contour.segs h.1 }
 

@@ -28,32 +28,32 @@ use Rattle.cam_edits.specs.Steps.{with_object, with_polarity}
 has_aperture : (n : ℕ) (object : Object) → HasAperture object → HasAperture (with_aperture n object)
 has_aperture n (Flash m at t dark) h = tt
 has_aperture n (Draw m from to t dark) h = tt
-has_aperture n (Arc m from to centre ccw dark) h = tt
+has_aperture n (Arc ccw dark m from to centre) h = tt
 has_aperture n (Region contour dark) h = h
 
 aperture_back : (n : ℕ) (object : Object) → with_aperture (aperture_of object) (with_aperture n object) ≡ object
 aperture_back n (Flash m at t dark) = refl
 aperture_back n (Draw m from to t dark) = refl
-aperture_back n (Arc m from to centre ccw dark) = refl
+aperture_back n (Arc ccw dark m from to centre) = refl
 aperture_back n (Region contour dark) = refl
 
 aperture_set : (n : ℕ) (object : Object) → HasAperture object → aperture_of (with_aperture n object) ≡ n
 aperture_set n (Flash m at t dark) h = refl
 aperture_set n (Draw m from to t dark) h = refl
-aperture_set n (Arc m from to centre ccw dark) h = refl
+aperture_set n (Arc ccw dark m from to centre) h = refl
 aperture_set n (Region contour dark) h = absurd h
 
 polarity_back : (dark : Bool) (object : Object)
     → with_polarity (polarity_of object) (with_polarity dark object) ≡ object
 polarity_back b (Flash m at t dark) = refl
 polarity_back b (Draw m from to t dark) = refl
-polarity_back b (Arc m from to centre ccw dark) = refl
+polarity_back b (Arc ccw dark m from to centre) = refl
 polarity_back b (Region contour dark) = refl
 
 polarity_set : (dark : Bool) (object : Object) → polarity_of (with_polarity dark object) ≡ dark
 polarity_set b (Flash m at t dark) = refl
 polarity_set b (Draw m from to t dark) = refl
-polarity_set b (Arc m from to centre ccw dark) = refl
+polarity_set b (Arc ccw dark m from to centre) = refl
 polarity_set b (Region contour dark) = refl
 
 -- the object of an item that is one

@@ -152,7 +152,7 @@ path_table m operation =
 -- the stroke along a segment from the current point
 abbrev pub stroke_along : Modal → ℕ → Seg → Object
 stroke_along m n (Line to) = Draw n m.point to (after m.mirror m.rotation) m.dark
-stroke_along m n (Curve to centre ccw) = Arc n m.point to centre ccw m.dark
+stroke_along m n (Curve to centre ccw) = Arc ccw m.dark n m.point to centre
 
 -- the first number that holds: the least, where the numbers ascend
 abbrev pub first_of : Table → Option ℕ

@@ -33,7 +33,7 @@ pub record NamesAperture (entries : List (ℕ × Entry)) (n : ℕ) : Type 0 wher
 abbrev pub IsOfAperture : List (ℕ × Entry) → Object → Type 0
 IsOfAperture entries (Flash n at turn dark) = NamesAperture entries n
 IsOfAperture entries (Draw n from to turn dark) = ⊥
-IsOfAperture entries (Arc n from to centre ccw dark) = ⊥
+IsOfAperture entries (Arc ccw dark n from to centre) = ⊥
 IsOfAperture entries (Region contour dark) = ⊥
 
 -- of an item

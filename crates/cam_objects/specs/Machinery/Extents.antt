@@ -1,15 +1,19 @@
 -- What is kept of the aperture or the tool that an item named last, by those who read boxes or count leaves.
-use Rattle.std.specs.Prelude.{◌≡◌, ℕ, ◌≤◌, List}
+use Rattle.std.specs.Prelude.{◌≡◌, ℕ, ◌≤◌, pos, List}
 use Rattle.cam_units.specs.declared.length.Nm.{Nm}
+use Rattle.cam_apertures.specs.Turned.{turned_box}
+use Rattle.cam_objects.specs.declared.boxes.last_frame.LastFrame.{LastFrame}
 use Rattle.cam_objects.specs.declared.checks.last_leaves.LastLeaves.{LastLeaves}
 use Rattle.cam_objects.specs.declared.drill.item_boxes.LastTool.{LastTool}
+use Rattle.cam_objects.specs.declared.drill.last_hole.LastHole.{LastHole}
 use Rattle.cam_objects.specs.declared.entry.Entry.{Entry}
 use Rattle.cam_objects.specs.declared.boxes.extent.Extent.{Extent}
 use Rattle.cam_objects.specs.Bounds.{bounds_of}
-use Rattle.cam_objects.specs.Drilling.{diameter_of}
+use Rattle.cam_objects.specs.Drilling.{diameter_of, hit_leaves_with}
 use Rattle.cam_objects.specs.Leaves.{meaning_in, origin}
 use Rattle.cam_objects.specs.Limits.{leaf_limit}
 use Rattle.cam_objects.specs.Machinery.Boxes.{IsNearBox}
+use Rattle.cam_objects.specs.Machinery.Frames.{IsFrameOf}
 use Rattle.cam_objects.specs.Weights.{weight_in}
 
 -- how far flashes and strokes of a number reach, among these entries
@@ -18,9 +22,20 @@ pub record IsExtentIn (entries : List (ℕ × Entry)) (e : Extent) : Type 0 wher
   pub tip : e.tip ≡ (meaning_in entries e.number).tip
   pub near : IsNearBox e.bounds
 
+-- how far flashes of a number reach that is turned so, and the leaves that it adds to one
+pub record IsLastFrameIn (entries : List (ℕ × Entry)) (last : LastFrame) : Type 0 where
+  pub frame : IsFrameOf (turned_box last.turn (bounds_of ((meaning_in entries last.number).flash origin))) last.frame
+  pub leaves : last.leaves ≡ (weight_in entries last.number).leaves
+  pub few : last.leaves ≤ leaf_limit
+
 -- a tool with its diameter among these
 abbrev pub IsLastToolIn : List (ℕ × Nm) → LastTool → Type 0
 IsLastToolIn tools last = last.diameter ≡ diameter_of tools last.tool
+
+-- a tool with the box of a hole of it at (0, 0)
+abbrev pub IsLastHoleIn : List (ℕ × Nm) → LastHole → Type 0
+IsLastHoleIn tools last =
+    IsFrameOf (bounds_of (hit_leaves_with (diameter_of tools last.tool) (record { x = pos 0; y = pos 0 }))) last.frame
 
 -- a number with the leaves that it adds to its flash
 pub record IsLastLeavesIn (entries : List (ℕ × Entry)) (last : LastLeaves) : Type 0 where

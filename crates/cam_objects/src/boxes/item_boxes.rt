@@ -1,18 +1,21 @@
 //! The boxes of the items of a layer, one after another.
 
-ghost use Rattle.std.specs.Prelude.{◌≡◌, ◌<◌, Some, length, slice_get};
+ghost use Rattle.std.specs.Prelude.{◌≡◌, ◌<◌, ◌≤◌, Some, length, slice_get, sum_by};
 ghost use Rattle.cam_objects.specs.Bounds.{bounds_of};
-ghost use Rattle.cam_objects.specs.Cells.{IsReachOf};
 ghost use Rattle.cam_objects.specs.Leaves.{item_leaves, meaning_in};
+ghost use Rattle.cam_objects.specs.Limits.{leaf_limit};
+ghost use Rattle.cam_objects.specs.Machinery.Measures.{IsMeasureOf};
 ghost use Rattle.cam_objects.specs.Soundness.{HasSoundItems};
+ghost use Rattle.cam_objects.specs.Weights.{item_count, weight_in};
 ghost use Rattle.cam_objects.specs.declared.item.Item.{Item};
 
 use crate::boxes::extent::Extent;
-use crate::cells::reach::Reach;
+use crate::boxes::last_frame::LastFrame;
+use crate::cells::reach::{Measure, Reach};
 use crate::item::Item;
 use crate::layer::Layer;
 use crate::object::Object;
-use cam_units::Bounds;
+use cam_units::{Bounds, Turn};
 use std::marker::Model;
 
 /// Reads the boxes of the items of a layer: an aperture that the item read before named is not looked up again.
@@ -20,6 +23,7 @@ use std::marker::Model;
 pub struct ItemBoxes<'a> {
     layer: &'a Layer,
     last: Extent,
+    frame: LastFrame,
 }
 
 impl<'a> Model for ItemBoxes<'a> {
@@ -27,12 +31,13 @@ impl<'a> Model for ItemBoxes<'a> {
 
     ghost Value = { Layer };
 
-    ghost use Rattle.cam_objects.specs.Machinery.Extents.{IsExtentIn};
+    ghost use Rattle.cam_objects.specs.Machinery.Extents.{IsExtentIn, IsLastFrameIn};
     ghost use Rattle.cam_objects.specs.Soundness.{HasSoundItems};
 
     ghost view = { λ r. r.layer.now };
 
-    ghost invariant = { λ r. HasSoundItems r.layer.now × IsExtentIn r.layer.now.apertures r.last };
+    ghost invariant = { λ r. HasSoundItems r.layer.now
+        × (IsExtentIn r.layer.now.apertures r.last × IsLastFrameIn r.layer.now.apertures r.frame) };
 }
 
 impl Layer {
@@ -44,6 +49,7 @@ impl Layer {
         ItemBoxes {
             layer: self,
             last: Extent::none(&self.apertures),
+            frame: LastFrame::of(&self.apertures, 0, Turn::R0),
         }
     }
 }
@@ -51,9 +57,17 @@ impl Layer {
 impl<'a> ItemBoxes<'a> {
     /// How many items there are.
     pub(crate) fn len(&self) -> usize
-        ensures { result ≡ length self.now.items.items }
+        ensures value { result ≡ length self.now.items.items }
+        ensures few { sum_by (item_count (weight_in self.now.apertures)) self.now.items.items ≤ leaf_limit }
     {
         self.layer.items.len()
+    }
+
+    /// How many leaves they have.
+    pub(crate) fn leaves(&self) -> u64
+        ensures { result ≡ sum_by (item_count (weight_in self.now.apertures)) self.now.items.items }
+    {
+        self.layer.leaf_count()
     }
 
     /// The box of the item at a place of the list, counted from 0: that of `Layer::item_bounds`. Takes no memory.
@@ -72,24 +86,28 @@ impl<'a> ItemBoxes<'a> {
         }
     }
 
-    /// The cells that it reaches, of an item that is no flash and no draw.
+    /// The cells that it reaches and its leaves, of an item that is no flash and no draw.
     #[inline(never)]
-    fn other_reach(&mut self, place: usize) -> Reach
+    fn other_measure(&mut self, place: usize) -> Measure
         requires { place < length self.old.items.items }
         ensures value { (item : Item) → slice_get self.old.items.items place ≡ Some item
-            → IsReachOf (bounds_of (item_leaves (meaning_in self.old.apertures) item)) result }
+            → IsMeasureOf self.old.apertures item result }
         ensures layer { self.new ≡ self.old }
     {
-        Reach::of(self.read(place))
+        let layer = self.layer;
+        Measure {
+            reach: Reach::of(self.read(place)),
+            leaves: layer.item_leaf_count(&layer.items[place]),
+        }
     }
 
-    /// The cells that the box of the item at a place of the list reaches. Takes no memory.
+    /// The cells that the box of the item at a place of the list reaches, and how many leaves it has. Takes no memory.
     // Flashes and draws have a way of their own: of most items nothing is written to memory but the cells.
     #[inline]
-    pub(crate) fn reach(&mut self, place: usize) -> Reach
+    pub(crate) fn measure(&mut self, place: usize) -> Measure
         requires { place < length self.old.items.items }
         ensures value { (item : Item) → slice_get self.old.items.items place ≡ Some item
-            → IsReachOf (bounds_of (item_leaves (meaning_in self.old.apertures) item)) result }
+            → IsMeasureOf self.old.apertures item result }
         ensures layer { self.new ≡ self.old }
     {
         let layer = self.layer;
@@ -101,10 +119,11 @@ impl<'a> ItemBoxes<'a> {
                     turn,
                     ..
                 } => {
-                    let bounds = self
-                        .last
-                        .flash_bounds(&layer.apertures, *aperture, *at, *turn);
-                    return Reach::of(bounds);
+                    let reach = self.frame.flash(&layer.apertures, *aperture, *at, *turn);
+                    return Measure {
+                        reach,
+                        leaves: 1 + self.frame.leaves,
+                    };
                 }
                 Object::Draw {
                     aperture,
@@ -113,14 +132,14 @@ impl<'a> ItemBoxes<'a> {
                     turn,
                     ..
                 } => {
-                    let bounds = self
-                        .last
-                        .draw_bounds(&layer.apertures, *aperture, from, to, *turn);
-                    return Reach::of(bounds);
+                    let reach = self
+                        .frame
+                        .draw(&layer.apertures, *aperture, from, to, *turn);
+                    return Measure { reach, leaves: 1 };
                 }
                 _ => {}
             }
         }
-        self.other_reach(place)
+        self.other_measure(place)
     }
 }

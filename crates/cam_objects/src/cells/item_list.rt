@@ -1,67 +1,85 @@
-//! Lists of items, by their boxes.
+//! Lists of items, by their boxes and their leaves.
 
-ghost use Rattle.std.specs.Prelude.{◌≡◌, ◌<◌, List, length};
+ghost use Rattle.std.specs.Prelude.{◌≡◌, ◌<◌, ◌≤◌, ℕ, List, length, map, slice_index, sum};
 ghost use Rattle.cam_units.specs.declared.bounds.Bounds.{Bounds};
 ghost use Rattle.cam_objects.specs.Cells.{IsReachOf, box_at, drill_item_boxes, item_boxes};
+ghost use Rattle.cam_objects.specs.DrillSoundness.{drill_count_of};
+ghost use Rattle.cam_objects.specs.Limits.{leaf_limit};
+ghost use Rattle.cam_objects.specs.Weights.{item_count, weight_in};
 
 use crate::boxes::item_boxes::ItemBoxes;
-use crate::cells::reach::Reach;
+use crate::cells::reach::{Measure, Reach};
 use crate::drill::item_boxes::DrillItemBoxes;
-use cam_units::Bounds;
 
-/// A list of items whose boxes are read, one after another.
+/// A list of items that are read, one after another.
 pub trait BoxedItems {
     /// The box of what each item paints, in half nm.
     ghost boxes: { Self → List Bounds };
 
+    /// How many leaves each has.
+    ghost leaf_counts: { Self → List ℕ };
+
     /// How many items there are.
     fn count(&self) -> usize
-        ensures { result ≡ length (boxes self.now) };
+        ensures boxes { result ≡ length (boxes self.now) }
+        ensures leaf_counts { result ≡ length (leaf_counts self.now) }
+        ensures few { sum (leaf_counts self.now) ≤ leaf_limit };
 
-    /// The box of the item at a place of the list, counted from 0.
-    fn box_at(&mut self, place: usize) -> Bounds
+    /// How many leaves all of them have.
+    fn leaf_count(&self) -> u64
+        ensures { result ≡ sum (leaf_counts self.now) };
+
+    /// The cells that the box of the item at a place of the list reaches, counted from 0, and how many leaves it has.
+    fn measure_at(&mut self, place: usize) -> Measure
         requires { place < length (boxes self.old) }
-        ensures value { result ≡ box_at (boxes self.old) place }
-        ensures list { boxes self.new ≡ boxes self.old };
+        ensures reach { IsReachOf (box_at (boxes self.old) place) result.reach }
+        ensures leaves { result.leaves ≡ slice_index (leaf_counts self.old) place }
+        ensures list { self.new ≡ self.old };
 
-    /// The cells that it reaches.
+    /// The cells alone.
     fn reach_at(&mut self, place: usize) -> Reach
         requires { place < length (boxes self.old) }
         ensures value { IsReachOf (box_at (boxes self.old) place) result }
-        ensures list { boxes self.new ≡ boxes self.old };
+        ensures list { boxes self.new ≡ boxes self.old }
+    {
+        self.measure_at(place).reach
+    }
 }
 
 impl<'a> BoxedItems for ItemBoxes<'a> {
     ghost boxes = { λ r. item_boxes r.apertures r.items.items };
 
+    ghost leaf_counts = { λ r. map (item_count (weight_in r.apertures)) r.items.items };
+
     fn count(&self) -> usize {
         self.len()
     }
 
-    fn box_at(&mut self, place: usize) -> Bounds {
-        self.read(place)
+    fn leaf_count(&self) -> u64 {
+        self.leaves()
     }
 
     #[inline]
-    fn reach_at(&mut self, place: usize) -> Reach {
-        self.reach(place)
+    fn measure_at(&mut self, place: usize) -> Measure {
+        self.measure(place)
     }
 }
 
 impl<'a> BoxedItems for DrillItemBoxes<'a> {
     ghost boxes = { λ r. drill_item_boxes r.tools r.items.items };
 
+    ghost leaf_counts = { λ r. map drill_count_of r.items.items };
+
     fn count(&self) -> usize {
         self.len()
     }
 
-    #[inline]
-    fn box_at(&mut self, place: usize) -> Bounds {
-        self.read(place)
+    fn leaf_count(&self) -> u64 {
+        self.leaves()
     }
 
     #[inline]
-    fn reach_at(&mut self, place: usize) -> Reach {
-        Reach::of(self.read(place))
+    fn measure_at(&mut self, place: usize) -> Measure {
+        self.measure(place)
     }
 }

@@ -1,6 +1,6 @@
 //! The cells that the items of a list reach.
 
-ghost use Rattle.std.specs.Prelude.{◌≡◌, ◌<◌, ◌≤◌, ℕ, IfOk, List, insert, length, remove, slice_set};
+ghost use Rattle.std.specs.Prelude.{◌≡◌, ◌<◌, ◌≤◌, ℕ, IfOk, List, insert, length, remove, slice_set, sum};
 ghost use Rattle.cam_units.specs.declared.bounds.Bounds.{Bounds};
 ghost use Rattle.cam_units.specs.Boxes.{HaveCommonPlace};
 ghost use Rattle.cam_objects.specs.Cells.{AreCellsOf, box_at};
@@ -41,29 +41,33 @@ fn zeros(alloc: Global, items: usize) -> Result<Vec<u16>, AllocError>
     Ok(numbers)
 }
 
-/// Writes what each item of a list reaches.
+/// Writes what each item of a list reaches, and answers how many leaves they have.
 fn read_all<B: BoxedItems>(
     items: &mut B,
     left: &mut [u16],
     bottom: &mut [u16],
     right: &mut [u16],
     top: &mut [u16],
-)
+) -> u64
     requires left { length left.old ≡ length (B.boxes items.old) }
     requires bottom { length bottom.old ≡ length (B.boxes items.old) }
     requires right { length right.old ≡ length (B.boxes items.old) }
     requires top { length top.old ≡ length (B.boxes items.old) }
     ensures cells { AreCellsOf (B.boxes items.old)
         (record { left = left.new; bottom = bottom.new; right = right.new; top = top.new }) }
-    ensures list { B.boxes items.new ≡ B.boxes items.old }
+    ensures leaves { result ≡ sum (B.leaf_counts items.old) }
+    ensures list { items.new ≡ items.old }
 {
+    let mut leaves = 0;
     for place in 0..items.count() {
-        let reach = items.reach_at(place);
-        left[place] = reach.left;
-        bottom[place] = reach.bottom;
-        right[place] = reach.right;
-        top[place] = reach.top;
+        let measure = items.measure_at(place);
+        leaves += measure.leaves;
+        left[place] = measure.reach.left;
+        bottom[place] = measure.reach.bottom;
+        right[place] = measure.reach.right;
+        top[place] = measure.reach.top;
     }
+    leaves
 }
 
 impl ItemCells {
@@ -79,33 +83,36 @@ impl ItemCells {
         }
     }
 
-    /// Of all items of a list; refused for want of memory alone.
-    fn of_all<B: BoxedItems>(alloc: Global, items: &mut B) -> Result<ItemCells, AllocError>
-        ensures cells { IfOk result (λ cells. AreCellsOf (B.boxes items.old) cells) }
-        ensures list { B.boxes items.new ≡ B.boxes items.old }
+    /// Of all items of a list, and how many leaves they have; refused for want of memory alone.
+    fn of_all<B: BoxedItems>(alloc: Global, items: &mut B) -> Result<(ItemCells, u64), AllocError>
+        ensures cells { IfOk result (λ all. AreCellsOf (B.boxes items.old) all.0) }
+        ensures leaves { IfOk result (λ all. all.1 ≡ sum (B.leaf_counts items.old)) }
+        ensures list { items.new ≡ items.old }
     {
         let count = items.count();
         let mut left = zeros(alloc, count)?;
         let mut bottom = zeros(alloc, count)?;
         let mut right = zeros(alloc, count)?;
         let mut top = zeros(alloc, count)?;
-        read_all(items, &mut left, &mut bottom, &mut right, &mut top);
-        Ok(ItemCells {
+        let leaves = read_all(items, &mut left, &mut bottom, &mut right, &mut top);
+        let cells = ItemCells {
             left: ItemNumbers::from_vec(left),
             bottom: ItemNumbers::from_vec(bottom),
             right: ItemNumbers::from_vec(right),
             top: ItemNumbers::from_vec(top),
-        })
+        };
+        Ok((cells, leaves))
     }
 
-    /// Of a list of items; where memory is refused, of none of them.
-    pub fn of<B: BoxedItems>(alloc: Global, items: &mut B) -> ItemCells
-        ensures cells { AreCellsOf (B.boxes items.old) result }
+    /// Of a list of items, and how many leaves they have; where memory is refused, the cells of none of them.
+    pub fn of<B: BoxedItems>(alloc: Global, items: &mut B) -> (ItemCells, u64)
+        ensures cells { AreCellsOf (B.boxes items.old) result.0 }
+        ensures leaves { result.1 ≡ sum (B.leaf_counts items.old) }
         ensures list { B.boxes items.new ≡ B.boxes items.old }
     {
         match ItemCells::of_all(alloc, items) {
-            Ok(cells) => cells,
-            Err(_) => ItemCells::none(alloc),
+            Ok(all) => all,
+            Err(_) => (ItemCells::none(alloc), items.leaf_count()),
         }
     }
 
@@ -173,14 +180,14 @@ impl ItemCells {
         }
     }
 
-    /// The next place from one on whose item may have a place in common with a box, in half nm: the items before it,
-    /// from that place on, have none.
-    pub fn next_near(&self, place: usize, near: Bounds) -> usize
-        ensures onward { place ≤ result }
-        ensures apart { (boxes : List Bounds) → AreCellsOf boxes self.now → (k : ℕ) → place ≤ k → k < result
+    /// The place behind the last item before an end that may have a place in common with a box, in half nm, or 0: the
+    /// items from there to the end have none.
+    pub fn near_end(&self, end: usize, near: Bounds) -> usize
+        ensures within { result ≤ end }
+        ensures apart { (boxes : List Bounds) → AreCellsOf boxes self.now → (k : ℕ) → result ≤ k → k < end
             → k < length boxes → ¬ HaveCommonPlace (box_at boxes k) near }
     {
-        self.sides().next_meeting(place, Reach::of(near))
+        self.sides().end_of_meeting(end, Reach::of(near))
     }
 
     /// About how many of so many items may have a place in common with a box, in half nm.

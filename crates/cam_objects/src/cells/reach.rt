@@ -5,10 +5,10 @@ ghost use Rattle.cam_objects.specs.Cells.{IsCell, IsReachOf};
 use cam_units::Bounds;
 
 /// Half nm from one side of a cell to the other.
-const CELL_SIZE: u64 = 65_536;
+pub(crate) const CELL_SIZE: u64 = 65_536;
 
 /// Half nm from the outer edge of the first cells to the origin.
-const TO_ORIGIN: i64 = 2_147_483_648;
+pub(crate) const TO_ORIGIN: i64 = 2_147_483_648;
 
 /// The cells that a box reaches, from the left to the right column and from the bottom to the top row: 65,536 columns
 /// and rows of cells of 65,536 half nm lie about the origin, and what lies outside is in those at the edge.
@@ -20,9 +20,16 @@ pub struct Reach {
     pub top: u16,
 }
 
+/// What is read of an item when all are read: the cells that it reaches, and how many leaves it has.
+#[derive(Clone, Copy)]
+pub struct Measure {
+    pub reach: Reach,
+    pub leaves: u64,
+}
+
 /// The column of a place, by its distance to the right of the origin, or its row, by that above the origin, in half nm.
 #[inline]
-fn cell(distance: i64) -> u16
+pub(crate) fn cell(distance: i64) -> u16
     ensures { IsCell distance result }
 {
     if (-TO_ORIGIN..TO_ORIGIN).contains(&distance) {

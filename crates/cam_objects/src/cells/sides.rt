@@ -56,41 +56,40 @@ impl<'a> Sides<'a> {
         any
     }
 
-    /// The first item from a place to an end that reaches a cell of these, or the end.
-    fn first_meeting(self, first: usize, end: usize, reach: Reach) -> usize
+    /// The place behind the last item from one place to another that reaches a cell of these, or the first place.
+    fn end_of_last(self, first: usize, end: usize, reach: Reach) -> usize
         requires sides { HasSides self end }
         requires order { first ≤ end }
-        ensures onward { first ≤ result }
-        ensures apart { (k : ℕ) → first ≤ k → k < result → ¬ MeetsAt self.entry k reach }
-        ensures known { HasSides self.entry result }
+        ensures within { result ≤ end }
+        ensures apart { (k : ℕ) → result ≤ k → k < end → ¬ MeetsAt self.entry k reach }
     {
-        for place in first..end {
+        for place in (first..end).rev() {
             if self.meets(place, reach) {
-                return place;
+                return place + 1;
             }
         }
-        end
+        first
     }
 
-    /// The next place from one on that may reach a cell of these: the items before it, from that place on, reach none.
-    pub(crate) fn next_meeting(self, place: usize, reach: Reach) -> usize
-        ensures onward { place ≤ result }
-        ensures apart { (k : ℕ) → place ≤ k → k < result → ¬ MeetsAt self.entry k reach }
-        ensures known { (result ≡ place) ⊎ HasSides self.entry result }
+    /// The place behind the last item before an end that may reach a cell of these, or 0: the items from there to the
+    /// end reach none.
+    pub(crate) fn end_of_meeting(self, end: usize, reach: Reach) -> usize
+        ensures within { result ≤ end }
+        ensures apart { (k : ℕ) → result ≤ k → k < end → ¬ MeetsAt self.entry k reach }
+        ensures known { (result ≡ end) ⊎ HasSides self.entry end }
     {
-        let count = self.len();
-        // where most are near, the next one is
-        if count <= place || self.meets(place, reach) {
-            return place;
+        // where most are near, the last one is
+        if end == 0 || self.len() < end || self.meets(end - 1, reach) {
+            return end;
         }
-        let chunks = (count - place) / CHUNK_SIZE;
+        let chunks = end / CHUNK_SIZE;
         for chunk in 0..chunks {
-            let first = place + chunk * CHUNK_SIZE;
-            if self.any_meets(first, first + CHUNK_SIZE, reach) {
-                return self.first_meeting(first, first + CHUNK_SIZE, reach);
+            let last = end - chunk * CHUNK_SIZE;
+            if self.any_meets(last - CHUNK_SIZE, last, reach) {
+                return self.end_of_last(last - CHUNK_SIZE, last, reach);
             }
         }
-        self.first_meeting(place + chunks * CHUNK_SIZE, count, reach)
+        self.end_of_last(0, end - chunks * CHUNK_SIZE, reach)
     }
 
     /// About how many items reach none of these cells: by one of each 64, and of a long list by fewer.

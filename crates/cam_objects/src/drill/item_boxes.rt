@@ -1,12 +1,16 @@
 //! The boxes of the items of a drill layer, one after another.
 
-ghost use Rattle.std.specs.Prelude.{◌≡◌, ◌<◌, Some, length, slice_get};
+ghost use Rattle.std.specs.Prelude.{◌≡◌, ◌<◌, ◌≤◌, Some, length, slice_get, sum_by};
 ghost use Rattle.cam_objects.specs.Bounds.{bounds_of};
 ghost use Rattle.cam_objects.specs.Drilling.{diameter_of, drill_item_leaves};
-ghost use Rattle.cam_objects.specs.DrillSoundness.{IsSoundDrillLayer};
+ghost use Rattle.cam_objects.specs.DrillSoundness.{IsSoundDrillLayer, drill_count_of};
+ghost use Rattle.cam_objects.specs.Limits.{leaf_limit};
 ghost use Rattle.cam_objects.specs.Machinery.Extents.{IsLastToolIn};
+ghost use Rattle.cam_objects.specs.Machinery.Measures.{IsDrillMeasureOf};
 ghost use Rattle.cam_objects.specs.declared.drill_item.DrillItem.{DrillItem};
 
+use crate::cells::reach::{Measure, Reach};
+use crate::drill::last_hole::LastHole;
 use crate::drill_item::DrillItem;
 use crate::drill_layer::DrillLayer;
 use crate::tools::Tools;
@@ -41,6 +45,7 @@ impl LastTool {
 pub struct DrillItemBoxes<'a> {
     layer: &'a DrillLayer,
     last: LastTool,
+    hole: LastHole,
 }
 
 impl<'a> Model for DrillItemBoxes<'a> {
@@ -49,11 +54,12 @@ impl<'a> Model for DrillItemBoxes<'a> {
     ghost Value = { DrillLayer };
 
     ghost use Rattle.cam_objects.specs.DrillSoundness.{IsSoundDrillLayer};
-    ghost use Rattle.cam_objects.specs.Machinery.Extents.{IsLastToolIn};
+    ghost use Rattle.cam_objects.specs.Machinery.Extents.{IsLastHoleIn, IsLastToolIn};
 
     ghost view = { λ r. r.layer.now };
 
-    ghost invariant = { λ r. IsSoundDrillLayer r.layer.now × IsLastToolIn r.layer.now.tools r.last };
+    ghost invariant = { λ r. IsSoundDrillLayer r.layer.now
+        × (IsLastToolIn r.layer.now.tools r.last × IsLastHoleIn r.layer.now.tools r.hole) };
 }
 
 impl DrillLayer {
@@ -68,6 +74,7 @@ impl DrillLayer {
                 tool: 0,
                 diameter: self.tools.get(0),
             },
+            hole: LastHole::of(self, 0),
         }
     }
 }
@@ -75,9 +82,17 @@ impl DrillLayer {
 impl<'a> DrillItemBoxes<'a> {
     /// How many items there are.
     pub(crate) fn len(&self) -> usize
-        ensures { result ≡ length self.now.items.items }
+        ensures value { result ≡ length self.now.items.items }
+        ensures few { sum_by drill_count_of self.now.items.items ≤ leaf_limit }
     {
         self.layer.items.len()
+    }
+
+    /// How many holes and slots they have.
+    pub(crate) fn leaves(&self) -> u64
+        ensures { result ≡ sum_by drill_count_of self.now.items.items }
+    {
+        self.layer.leaf_count()
     }
 
     /// The box of the item at a place of the list, counted from 0: that of `DrillLayer::item_bounds`. Takes no memory.
@@ -91,5 +106,37 @@ impl<'a> DrillItemBoxes<'a> {
         let layer = self.layer;
         let item = &layer.items[place];
         item.bounds_with(self.last.diameter_in(&layer.tools, item.tool()))
+    }
+
+    /// The cells that it reaches and its holes and slots, of a rout.
+    #[inline(never)]
+    fn rout_measure(&mut self, place: usize) -> Measure
+        requires { place < length self.old.items.items }
+        ensures value { (item : DrillItem) → slice_get self.old.items.items place ≡ Some item
+            → IsDrillMeasureOf self.old.tools item result }
+        ensures layer { self.new ≡ self.old }
+    {
+        let layer = self.layer;
+        Measure {
+            reach: Reach::of(self.read(place)),
+            leaves: layer.items[place].leaf_count() as u64,
+        }
+    }
+
+    /// The cells that the box of the item at a place of the list reaches, and how many holes and slots it has. Takes no
+    /// memory.
+    #[inline]
+    pub(crate) fn measure(&mut self, place: usize) -> Measure
+        requires { place < length self.old.items.items }
+        ensures value { (item : DrillItem) → slice_get self.old.items.items place ≡ Some item
+            → IsDrillMeasureOf self.old.tools item result }
+        ensures layer { self.new ≡ self.old }
+    {
+        let layer = self.layer;
+        if let DrillItem::Hit { tool, at } = &layer.items[place] {
+            let reach = self.hole.hit(layer, *tool, *at);
+            return Measure { reach, leaves: 1 };
+        }
+        self.rout_measure(place)
     }
 }

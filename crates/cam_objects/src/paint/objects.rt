@@ -169,12 +169,12 @@ pub(crate) fn paint_object<C: Canvas>(
             }
         }
         Object::Arc {
+            ccw,
+            dark,
             aperture,
             from,
             to,
             centre,
-            ccw,
-            dark,
         } => {
             if let Some(width) = round_width(tip(entries, upto, *aperture)) {
                 let stroke = Arc {

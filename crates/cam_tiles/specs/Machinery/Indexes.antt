@@ -1,5 +1,6 @@
 -- Indexes of many lists of leaves: which of the lists paint the places in each row of tiles of a box.
-use Rattle.std.specs.Prelude.{◌≡◌, ℕ, ◌-◌, ◌*◌, ◌<◌, ◌≤◌, min, pos, ◌*ℤ◌, ◌≤ℤ◌, Bool, true, List, [], length, filter, All}
+use Rattle.std.specs.Prelude.{◌≡◌, ℕ, ◌+◌, ◌-◌, ◌*◌, ◌<◌, ◌≤◌, min, pos, ◌*ℤ◌, ◌≤ℤ◌, Bool, true, List, [], length, filter, All}
+use Rattle.std.specs.Prelude.{drop, reverse, take}
 use Rattle.std.specs.List.{flat_map, slice_index_or}
 use Rattle.cam_units.specs.Boxes.{Holds}
 use Rattle.cam_units.specs.declared.bounds.Bounds.{Bounds}
@@ -9,6 +10,7 @@ use Rattle.cam_objects.specs.Leaves.{Leaf}
 use Rattle.cam_objects.specs.Tests.{painted}
 use Rattle.cam_tiles.specs.declared.index.Boxed.{Boxed}
 use Rattle.cam_tiles.specs.declared.index.Index.{Index}
+use Rattle.cam_tiles.specs.declared.index.seen.Seen.{Seen}
 use Rattle.cam_tiles.specs.declared.levels.Levels.{Levels}
 use Rattle.cam_tiles.specs.declared.window.Window.{Window}
 use Rattle.cam_tiles.specs.Machinery.Levels.{IsOnRow}
@@ -56,6 +58,35 @@ row_leaves lists row boxed = flat_map (λ (b : Boxed). slice_index_or lists b.pl
 abbrev pub numbered_leaves : List (List Leaf) → List Boxed → List ℕ → List Leaf
 numbered_leaves lists boxed numbers =
     flat_map (λ k. slice_index_or lists (slice_index_or boxed k no_box).place []) numbers
+
+-- ---- lists that are looked at from the last one on
+
+-- the lists from a place on, one after another
+abbrev pub all_from : List (List Leaf) → ℕ → List Leaf
+all_from lists n = flat_map (λ those. those) (drop n lists)
+
+-- those whose boxes reach a row, in order, where the boxes come from the last on
+abbrev pub last_leaves : List (List Leaf) → ℕ → List Boxed → List Leaf
+last_leaves lists row boxed = row_leaves lists row (reverse boxed)
+
+-- The lists from a place on have been looked at: in each row of tiles of a box, painting those of them whose boxes reach
+-- the row is painting all of them, in order.
+pub record AreSeenFrom (lists : List (List Leaf)) (w : Window) (within : Bounds) (n : ℕ) (boxed : List Boxed)
+    : Type 0 where
+  pub each : All (IsBoxed lists) boxed
+  pub ends : All (λ b. b.rows.end ≤ down w) boxed
+  pub enough : (row : ℕ) → PaintAlike (IsSeen w within row) (last_leaves lists row boxed) (all_from lists n)
+  pub few : length boxed + n ≤ length lists
+
+abbrev pub AreSeenBy : List (List Leaf) → Window → Seen → Type 0
+AreSeenBy lists w s = AreSeenFrom lists w s.within s.left s.boxed.items
+
+-- what was found before comes first
+pub record IsBegunBy (old new : Seen) : Type 0 where
+  pub within : new.within ≡ old.within
+  pub boxed : take (length old.boxed.items) new.boxed.items ≡ old.boxed.items
+
+-- ---- once all were looked at
 
 -- In each row of tiles of a box, painting the lists whose boxes reach the row is painting all lists, in order; and each
 -- row has the numbers of these.

@@ -209,6 +209,15 @@ impl Swath {
         are_solid(&self.masks, first, end, &mut self.solid)
     }
 
+    /// Whether all masks are black all over.
+    pub(crate) fn is_black(&mut self) -> bool
+        ensures kept { self.new ≡ self.old }
+        ensures black { IsTrue result
+            → (column row : ℕ) → IsInSwath self.old column row → ink_in self.old column row ≡ true }
+    {
+        are_solid(&self.masks, 0, self.masks.len(), &mut self.solid)
+    }
+
     /// Joins the masks from one number to another with the inside of a region: each segment is counted once for all of
     /// them, by marks in the rows of the tiles from the first of them to the last.
     fn fill_together(

@@ -47,7 +47,7 @@ pub record IsWritableContour (contour : Contour) : Type 0 where
 abbrev pub IsWritableObject : Object → Type 0
 IsWritableObject (Flash n at turn dark) = IsApertureNumber n × IsOnBoard at
 IsWritableObject (Draw n from to turn dark) = IsApertureNumber n × IsOnBoard from × IsOnBoard to
-IsWritableObject (Arc n from to centre ccw dark) =
+IsWritableObject (Arc ccw dark n from to centre) =
     IsApertureNumber n × IsOnBoard from × IsOnBoard to × IsOnBoard centre
 IsWritableObject (Region contour dark) = IsWritableContour contour
 

@@ -76,12 +76,12 @@ fn object(alloc: Global, drawn: &Drawn) -> Result<Object, AllocError> {
             Ok(draw(aperture, from, to, turn, dark))
         }
         Drawn::Arc(aperture, from, to, centre, ccw, dark) => Ok(Object::Arc {
+            ccw,
+            dark,
             aperture,
             from: point(from),
             to: point(to),
             centre: point(centre),
-            ccw,
-            dark,
         }),
         Drawn::Region(start, sides, dark) => Ok(region(start, segs(alloc, sides)?, dark)),
         Drawn::Zigzag(times) => Ok(region((0, 0), zigzag(alloc, times)?, true)),

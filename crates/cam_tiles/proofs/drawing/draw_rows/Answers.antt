@@ -1,40 +1,13 @@
-use Rattle.std.proofs.Common.{rules, ◌≡◌, ◌+◌, ◌-◌, ◌*◌, ◌/◌, ◌%◌, ◌<◌, ◌≤◌, ℕ, inl, inr, List, length, min, ap, sym, subst, ◌∙◌, arith}
-use Rattle.std.proofs.lemmas.Bool.{cases_lt}
+use Rattle.std.proofs.Common.{rules, ◌≡◌, ◌+◌, ◌-◌, ◌*◌, ◌≤◌, ℕ, List, length, min, ap, sym, ◌∙◌, arith}
 use Rattle.std.proofs.lemmas.List.{places}
-use Rattle.std.proofs.lemmas.Nat.{mod-mul-add, mul-le}
 use borrow.Rule.Slice.PartMut.{put_mid}
 use Rattle.cam_objects.specs.Tests.{is_black}
 use Rattle.cam_tiles.specs.Machinery.Shown.{leaves_of}
 use Rattle.cam_tiles.specs.Tiles.{grid_of, tile_rows}
+use Rattle.cam_tiles.proofs.RowsInOrder.{begins, covers, row_there}
 use Rattle.cam_tiles.proofs.TileCounts.{few_tiles, some_across}
-use Rattle.cam_tiles.proofs.TilesInOrder.{all_done, drawn_on, middle_length, none_yet, part_size, row_drawn}
+use Rattle.cam_tiles.proofs.TilesInOrder.{all_done, drawn_on, none_yet, part_size, row_drawn}
 use Rattle.cam_tiles.proofs.drawing.draw_rows.Goals as goal
-
--- each row of tiles begins before the last tile
-begins : (row size across : ℕ) → 0 < across → row < size / across + min 1 (size % across) → row * across < size
-begins row size across some under = elim (cases_lt row (size / across)) [
-  | inl below ↦
-      (let more : (row + 1) * across ≤ (size / across) * across =
-      mul-le (row + 1) across (size / across) across (omega arith) (omega arith) in
-      omega arith)
-  | inr last ↦
-      (let here : row ≡ size / across = omega arith in
-      let same : row * across ≡ (size / across) * across = ap (λ n. n * across) here in
-      omega arith)
-]
-
--- and all rows of them have all tiles
-covers : (row size across : ℕ) → 0 < across → size / across + min 1 (size % across) ≤ row → size ≤ row * across
-covers row size across some over = elim (cases_lt 0 (size % across)) [
-  | inl rest ↦
-      (let most : (size / across + 1) * across ≤ row * across =
-      mul-le (size / across + 1) across row across (omega arith) (omega arith) in
-      omega arith)
-  | inr whole ↦
-      (let most : (size / across) * across ≤ row * across =
-      mul-le (size / across) across row across (omega arith) (omega arith) in
-      omega arith)
-]
 
 pub div_ceil-row-end-requires : goal.div_ceil-row-end-requires
 div_ceil-row-end-requires c =
@@ -51,28 +24,12 @@ overflow_cast-first c =
 
 pub draw_row-requires-clause-row : goal.draw_row-requires-clause-row
 draw_row-requires-clause-row c =
-    let w = c.args.window.now in
-    let row = c.loop-row.row in
-    let wide = c.across-across.result in
-    let tiles = c.loop-row.tiles in
-    let first : ℕ = row * wide in
-    let end = c.min-end.result in
-    let positive : 0 < wide = omega (arith, c.across-across.ensures, some_across w c.requires.accepted) in
-    let size_is : length tiles ≡ length c.args.tiles.now = c.loop-row.auto.tiles in
-    let begun =
-    begins row (length c.args.tiles.now) wide positive (omega (arith, c.loop-row-test.true, c.div_ceil-row-end.ensures)) in
-    let last : end ≡ min (first + wide) (length tiles) = omega (arith, c.min-end.ensures, size_is) in
-    let order : first ≤ end = omega (arith, begun, size_is) in
-    let within : end ≤ length tiles = omega arith in
-    let size = middle_length first end tiles order within in
-    let none : row * wide + 0 ≡ row * wide = omega arith in
-    let left : (row * wide) % wide ≡ 0 = ap (λ n. n % wide) (sym none) ∙ mod-mul-add row wide 0 positive in
-    record {
-      some = omega (arith, size, begun, size_is);
-      left = subst (λ n. (row * wide) % n ≡ 0) c.across-across.ensures left;
-      fits = omega (arith, size, c.across-across.ensures);
-      within = omega (arith, size, c.requires.within, size_is);
-    }
+    let here = c.loop-row in
+    let size : ℕ = length c.args.tiles.now in
+    (row_there c.args.window.now here.tiles size here.row c.across-across.result c.min-end.result c.requires.accepted
+    c.across-across.ensures here.auto.tiles c.requires.within
+    (omega (arith, c.loop-row-test.true, c.div_ceil-row-end.ensures))
+    (omega (arith, c.min-end.ensures, here.auto.tiles))).row
 
 pub returns : goal.returns
 returns c =
@@ -105,14 +62,14 @@ loop-row-preserved c =
     let first : ℕ = row * across in
     let end = c.min-end.result in
     let part = c.draw_row.new.tiles in
-    let some : 0 < across = omega (arith, c.across-across.ensures, some_across c.args.window.now c.requires.accepted) in
     let size_is : length tiles ≡ length c.args.tiles.now = c.loop-row.auto.tiles in
-    let begun : first < length tiles =
-    subst (λ n. first < n) (sym size_is)
-    (begins row (length c.args.tiles.now) across some (omega (arith, c.loop-row-test.true, c.div_ceil-row-end.ensures))) in
-    let last : end ≡ min (first + across) (length tiles) = omega (arith, c.min-end.ensures, c.loop-row.auto.tiles) in
-    let order : first ≤ end = omega arith in
-    let within : end ≤ length tiles = omega arith in
+    let last : end ≡ min (first + across) (length tiles) = omega (arith, c.min-end.ensures, size_is) in
+    let there =
+    row_there c.args.window.now tiles (length c.args.tiles.now) row across end c.requires.accepted
+    c.across-across.ensures size_is c.requires.within
+    (omega (arith, c.loop-row-test.true, c.div_ceil-row-end.ensures)) (omega (arith, last, size_is)) in
+    let order : first ≤ end = there.order in
+    let within : end ≤ length tiles = there.within in
     let is = c.draw_row.ensures.tiles in
     let long = part_size draw first end tiles part order within is in
     let size : length (put_mid first (end - first) tiles part) ≡ length tiles = search (rules, places) in

@@ -1,0 +1,23 @@
+use Rattle.std.proofs.Common.{◌≡◌, ℕ, arith}
+use Rattle.std.proofs.lemmas.List.{length-map}
+use Rattle.cam_units.specs.declared.bounds.Bounds.{Bounds}
+use Rattle.cam_units.specs.declared.bounds.Bounds.TheVariants.{Empty}
+use Rattle.cam_objects.specs.Bounds.{bounds_of}
+use Rattle.cam_objects.specs.Cells.{IsReachOf}
+use Rattle.cam_objects.specs.Leaves.{item_leaves, meaning_in}
+use Rattle.cam_objects.specs.Weights.{item_count, weight_in}
+use Rattle.cam_objects.specs.declared.item.Item.{Item}
+use Rattle.cam_objects.proofs.KeptBoxes.{read_at}
+use Rattle.cam_objects.proofs.cells.item_list.ItemBoxesBoxedItems.measure_at.Goals as goal
+
+pub returns-clause-reach : goal.returns-clause-reach
+returns-clause-reach c =
+    let layer = c.args.self.now in
+    read_at (λ (item : Item). bounds_of (item_leaves (meaning_in layer.apertures) item)) (λ b. IsReachOf b c.measure.result.reach) Empty layer.items.items c.args.place
+    (omega (arith, c.requires, length-map {B = Bounds} layer.items.items)) (λ item at. (c.measure.ensures.value item at).reach)
+
+pub returns-clause-leaves : goal.returns-clause-leaves
+returns-clause-leaves c =
+    let layer = c.args.self.now in
+    read_at (item_count (weight_in layer.apertures)) (λ (n : ℕ). c.measure.result.leaves ≡ n) 0 layer.items.items c.args.place
+    (omega (arith, c.requires, length-map {B = Bounds} layer.items.items)) (λ item at. (c.measure.ensures.value item at).leaves)
