@@ -1,5 +1,5 @@
 -- the tools of items, kept beside a drill layer, and what a tool's diameter changes
-use Rattle.std.proofs.Common.{◌≡◌, ◌∙◌, ℕ, ℤ, ◌+◌, ◌<◌, ◌≤◌, inl, inr, List, length, get_or, insert, remove, slice_index, slice_set, take, None, Some}
+use Rattle.std.proofs.Common.{◌≡◌, ◌∙◌, ℕ, ℤ, ◌+◌, ◌<◌, ◌≤◌, ◌⊎◌, inl, inr, List, length, get_or, insert, remove, slice_index, slice_set, take, None, Some}
 use Rattle.std.proofs.Common.{zero, suc, Option, false, cond, nat_eq, ap, refl, subst, sym, arith}
 use Rattle.std.specs.Prelude.{IsSome}
 use Rattle.std.specs.Cmp.{nat_eq_equiv}
@@ -20,7 +20,7 @@ use Rattle.cam_objects.specs.DrillSoundness.{tool_of}
 use Rattle.cam_objects.specs.Drilling.{diameter_of, leaves_with}
 use Rattle.cam_objects.specs.declared.drill_item.DrillItem.{DrillItem}
 use Rattle.cam_objects.specs.declared.drill_layer.DrillLayer.{DrillLayer}
-use Rattle.cam_objects.proofs.KeptBoxes.{beside_inserted, beside_removed, beside_set}
+use Rattle.cam_objects.proofs.KeptBoxes.{beside_carried, beside_inserted, beside_removed, beside_set}
 use Rattle.cam_edits.specs.Machinery.Shifts.{AreRenewedUntil, AreToolsOf, IsEdited, IsShift, WasKeptUnsized, WereTools, tools_of}
 use Rattle.cam_edits.specs.Machinery.PlaceLaws.{element_at}
 use Rattle.cam_edits.specs.Touched.{drill_box}
@@ -54,17 +54,16 @@ module _ (old xs ys : List ℕ) (known : AreToolsOf xs old) where
       let here : v ≡ x = read ∙ ap (λ l. get_or l to 0) after ∙ get_or-set_same xs to x 0 edit.1 in
       subst (λ l. AreToolsOf l new) (sym after) (beside_set Is 0 xs old known to x v new edit.1 here is)
 
-  pub tools_carried : (from to v : ℕ) (mid new : List ℕ) → IsEdited (Some from) (Some to) xs ys → v ≡ get_or ys to 0
-      → ((from < length old → mid ≡ remove old from) × (length old ≤ from → mid ≡ old))
-      → (new ≡ take (length new) (insert mid to v)) × ((length mid < to) → new ≡ mid) → AreToolsOf ys new
-  tools_carried from to v mid new edit read went came =
+  pub tools_carried : (from to v : ℕ) (new : List ℕ) → IsEdited (Some from) (Some to) xs ys → v ≡ get_or ys to 0
+      → (from < length old → to < length old → new ≡ insert (remove old from) to v)
+      → ((length old ≤ from) ⊎ (length old ≤ to) → new ≡ take to (take from old)) → AreToolsOf ys new
+  tools_carried from to v new edit read came behind =
       let x = edit.2.0 in
       let fewer = length-remove xs from edit.0 in
       let fits : to ≤ length (remove xs from) = omega (arith, fewer, edit.1) in
       let here : v ≡ x = read ∙ ap (λ l. get_or l to 0) edit.2.1 ∙ get_or-insert_at (remove xs from) to x 0 fits in
       subst (λ l. AreToolsOf l new) (sym edit.2.1)
-      (beside_inserted Is 0 (remove xs from) mid (beside_removed Is 0 xs old known from mid edit.0 went) to x v new fits here
-      came)
+      (beside_carried Is 0 xs old known from to x v new edit.0 edit.1 here came behind)
 
   pub tools_inserted : (to v : ℕ) (new : List ℕ) → IsEdited None (Some to) xs ys → v ≡ get_or ys to 0
       → (new ≡ take (length new) (insert old to v)) × ((length old < to) → new ≡ old) → AreToolsOf ys new

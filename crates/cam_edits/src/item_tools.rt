@@ -41,8 +41,7 @@ fn carry(tools: &mut ItemNumbers, layer: &DrillLayer, from: usize, to: usize)
         tools.set(to, number);
         return;
     }
-    tools.remove(from);
-    tools.insert(to, number);
+    tools.carry(from, to, number);
 }
 
 /// Lets them follow items that shifted with a step. Takes no memory.

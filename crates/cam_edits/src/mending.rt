@@ -27,8 +27,7 @@ fn carry<B: BoxedItems>(cells: &mut ItemCells, items: &mut B, from: usize, to: u
         cells.renew(items, to);
         return;
     }
-    cells.remove(from);
-    cells.insert(items, to);
+    cells.carry(items, from, to);
 }
 
 /// Lets cells follow items that shifted with a step. Takes no memory.

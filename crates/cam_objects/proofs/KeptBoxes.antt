@@ -1,6 +1,6 @@
 -- the cells that items reach, read and followed
-use Rattle.std.proofs.Common.{◌≡◌, ℕ, ◌+◌, ◌-◌, ◌<◌, ◌≤◌, ℤ, ◌≤ℤ◌, inl, inr, List, [], ◌∷◌, length, map, get_or}
-use Rattle.std.proofs.Common.{slice_get, slice_set, take, insert, remove, Some, sym, ap, subst, ◌∙◌, arith}
+use Rattle.std.proofs.Common.{◌≡◌, ℕ, ◌+◌, ◌-◌, ◌<◌, ◌≤◌, ◌⊎◌, ℤ, ◌≤ℤ◌, inl, inr, List, [], ◌∷◌, length, map, get_or}
+use Rattle.std.proofs.Common.{slice_get, slice_set, take, insert, remove, Some, refl, sym, ap, subst, ◌∙◌, arith}
 use Rattle.std.proofs.lemmas.Bool.{cases_eq, cases_lt}
 use Rattle.std.proofs.lemmas.Int.{ints}
 use Rattle.std.proofs.lemmas.List.{get_or-map, get_or-set_same, get_or-set_other, get_or-take}
@@ -245,3 +245,40 @@ module _ {X : Type 0} (R : X → ℕ → Type 0) (d : X) where
                     (omega (arith, there, length-set old place v))))
               ];
         })
+
+  pub beside_carried : (xs : List X) (old : List ℕ) → AreBeside R d xs old → (from to : ℕ) (x : X) (v : ℕ) (new : List ℕ) → from < length xs → to < length xs → R x v
+      → (from < length old → to < length old → new ≡ insert (remove old from) to v)
+      → ((length old ≤ from) ⊎ (length old ≤ to) → new ≡ take to (take from old))
+      → AreBeside R d (insert (remove xs from) to x) new
+  beside_carried xs old kept from to x v new h within here came behind =
+      let fewer = length-remove xs from h in
+      let fits : to ≤ length (remove xs from) = omega (arith, fewer, within) in
+      let part : (length old ≤ from) ⊎ (length old ≤ to) → AreBeside R d (insert (remove xs from) to x) new =
+      λ short.
+      let is = behind short in
+      let few : length new ≤ to = omega (arith, ap length is, length-take to (take from old)) in
+      let few' : length new ≤ length (take from old) = omega (arith, ap length is, length-take to (take from old)) in
+      let few'' : (length new ≤ from) × (length new ≤ length old) =
+      (omega (arith, few', length-take from old), omega (arith, few', length-take from old)) in
+      record {
+        each = λ k listed known.
+            let below : k < to = omega (arith, known, few) in
+            let below' : k < from = omega (arith, known, few''.0) in
+            let read = get_or-insert_below (remove xs from) to x d k below fits ∙ get_or-remove_below xs from d k below' h in
+            let read' = ap (λ l. get_or l k 0) is
+            ∙ get_or-take to (take from old) k 0 below ∙ get_or-take from old k 0 below' in
+            subst (λ y. R y (get_or new k 0)) (sym read)
+            (subst (R (get_or xs k d)) (sym read')
+            (kept.each k (omega (arith, below', h)) (omega (arith, known, few''.1))));
+      } in
+      elim (cases_lt from (length old)) [
+        | inr short ↦ part (inl short)
+        | inl known ↦ elim (cases_lt to (length old)) [
+          | inr short ↦ part (inr short)
+          | inl known' ↦
+              (let gone = beside_removed xs old kept from (remove old from) h (λ listed. refl, λ short. absurd (omega (arith, known, short))) in
+              subst (AreBeside R d (insert (remove xs from) to x)) (sym (came known known'))
+              (beside_whole (remove xs from) (remove old from) gone to x v fits
+              (omega (arith, length-remove old from known, known')) here))
+        ]
+      ]

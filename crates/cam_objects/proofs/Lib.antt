@@ -2,6 +2,7 @@ pub mod BoardBoxes
 pub mod BoxJoins
 pub mod BoxLimits
 pub mod Canvases
+pub mod CarriedNumbers
 pub mod Computed
 pub mod Copied
 pub mod CopyBoxes

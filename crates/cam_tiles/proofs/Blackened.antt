@@ -103,9 +103,10 @@ module _ (old : List Marking) where
         let was : (column row : ℕ) → IsInSwath old column row → IsInSwath now column row =
         λ column row there. (so_far.pixels column row).1 there in
         record {
-          pixels = λ column row.
-              ((λ there. (so_far.pixels column row).0 ((h.pixels column row).0 there)),
-              (λ there. (h.pixels column row).1 ((so_far.pixels column row).1 there)));
+          pixels = λ column row. (
+            (λ there. (so_far.pixels column row).0 ((h.pixels column row).0 there)),
+            (λ there. (h.pixels column row).1 ((so_far.pixels column row).1 there)),
+          );
           places = h.places ∙ so_far.places;
           stay = λ column row there.
               let s = place_in old column row in

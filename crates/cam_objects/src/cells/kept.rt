@@ -152,6 +152,22 @@ impl ItemCells {
         self.top.remove(place);
     }
 
+    /// Follows an item that left its place and came to another one, both counted from 0, the second where the first item is
+    /// gone. Takes no memory.
+    pub fn carry<B: BoxedItems>(&mut self, items: &mut B, from: usize, to: usize)
+        requires { to < length (B.boxes items.old) }
+        ensures cells { (before : List Bounds) (b : Bounds) → AreCellsOf before self.old → from < length before
+            → to < length before → B.boxes items.old ≡ insert (remove before from) to b
+            → AreCellsOf (B.boxes items.old) self.new }
+        ensures list { B.boxes items.new ≡ B.boxes items.old }
+    {
+        let reach = items.reach_at(to);
+        self.left.carry(from, to, reach.left);
+        self.bottom.carry(from, to, reach.bottom);
+        self.right.carry(from, to, reach.right);
+        self.top.carry(from, to, reach.top);
+    }
+
     /// Reads the item at a place anew. Takes no memory.
     pub fn renew<B: BoxedItems>(&mut self, items: &mut B, place: usize)
         requires { place < length (B.boxes items.old) }

@@ -85,6 +85,20 @@ fn next_place(numbers: &[u16], place: usize, number: u16) -> usize
     first_place(numbers, place + chunks * CHUNK_SIZE, numbers.len(), number)
 }
 
+/// Takes the number at a place out and puts one at a place: those between the two move by one, and no others.
+fn carry(numbers: &mut [u16], from: usize, to: usize, number: u16)
+    requires from { from < length numbers.old }
+    requires to { to < length numbers.old }
+    ensures { numbers.new ≡ insert (remove numbers.old from) to number }
+{
+    if from < to {
+        numbers.copy_within(from + 1..to + 1, from);
+    } else {
+        numbers.copy_within(to..from, to + 1);
+    }
+    numbers[to] = number;
+}
+
 impl ItemNumbers {
     /// The numbers of a vector.
     pub(crate) fn from_vec(numbers: Vec<u16>) -> ItemNumbers
@@ -152,6 +166,21 @@ impl ItemNumbers {
         if place < self.numbers.len() {
             self.numbers.remove(place);
         }
+    }
+
+    /// Takes that at a place out and puts one at a place, as `remove` and `insert` do: those between the two move by one,
+    /// and no others. Takes no memory: where a place has none, those from the first of the two on have none from then on.
+    pub fn carry(&mut self, from: usize, to: usize, number: u16)
+        ensures within { from < length self.old → to < length self.old
+            → self.new ≡ insert (remove self.old from) to number }
+        ensures behind { (length self.old ≤ from) ⊎ (length self.old ≤ to) → self.new ≡ take to (take from self.old) }
+    {
+        if self.numbers.len() <= from.max(to) {
+            self.numbers.truncate(from);
+            self.numbers.truncate(to);
+            return;
+        }
+        carry(&mut self.numbers, from, to, number);
     }
 
     /// Changes that at a place.

@@ -11,8 +11,8 @@ returns c =
     let items = c.args.layer.now.items.items in
     let to = c.args.to in
     let within = comes_within c.args.tools.now was.before (tools_of items) was.known c.args.from to was.edit in
-    tools_carried c.args.tools.now was.before (tools_of items) was.known c.args.from to c.tool-number.result c.remove.new.self
-    c.insert.new.self was.edit
+    tools_carried c.args.tools.now was.before (tools_of items) was.known c.args.from to c.tool-number.result c.carry.new.self
+    was.edit
     (tool_at items to c.index.result.now c.tool-number.result (omega (arith, within, length-map {B = ℕ} items tool_of)) c.index.ensures
     c.tool-number.ensures)
-    (c.remove.ensures.went, c.remove.ensures.behind) (c.insert.ensures.came, c.insert.ensures.behind)
+    c.carry.ensures.within c.carry.ensures.behind

@@ -18,8 +18,8 @@ returns-then-from-to g c =
     (was.edit.2.1 ∙ ap (λ k. insert (remove was.before k) c.args.to x) c.if-from-to.true
     ∙ sym (set_is was.before c.args.to x was.edit.1))
 
-pub insert-requires : goal.insert-requires
-insert-requires g c =
+pub carry-requires : goal.carry-requires
+carry-requires g c =
     let was = c.requires in
     let fewer = length-remove was.before c.args.from was.edit.0 in
     let all = length-insert (remove was.before c.args.from) c.args.to was.edit.2.0 (omega (arith, was.edit.1, fewer)) in
@@ -28,6 +28,4 @@ insert-requires g c =
 pub returns : goal.returns
 returns g c =
     let was = c.requires in
-    let fewer = length-remove was.before c.args.from was.edit.0 in
-    c.insert.ensures.cells (remove was.before c.args.from) was.edit.2.0
-    (c.remove.ensures was.before was.known was.edit.0) (omega (arith, was.edit.1, fewer)) was.edit.2.1
+    c.carry.ensures.cells was.before was.edit.2.0 was.known was.edit.0 was.edit.1 was.edit.2.1

@@ -98,11 +98,12 @@ returns-then-is_black-clause-painted c = λ on.
     (λ (m : List Marking). (column r : ℕ) → IsInSwath m column r → ink_in m column r ≡ true)
     (sym c.is_black.ensures.kept) (c.is_black.ensures.black c.if-is_black.true))
     (λ column r inside made.
-    black_by_last lists w seen c.in_ok-item.ensures.seen row (n + 1) (place_in old column r)
-    (subst (λ (box : Bounds). Holds box (place_in old column r)) (sym within)
-    (corners_held c.args.self.now.within c.bounds.result c.in-Closed.low c.in-Closed.high c.in-Closed.is first last
-    (place_in old column r) (c.bounds.ensures column r inside)),
-    on_levels (levels_of (grid_of w c.args.tile)) old c.requires.rows column r inside) made))
+    black_by_last lists w seen c.in_ok-item.ensures.seen row (n + 1) (place_in old column r) (
+      subst (λ (box : Bounds). Holds box (place_in old column r)) (sym within)
+          (corners_held c.args.self.now.within c.bounds.result c.in-Closed.low c.in-Closed.high c.in-Closed.is first last
+          (place_in old column r) (c.bounds.ensures column r inside)),
+      on_levels (levels_of (grid_of w c.args.tile)) old c.requires.rows column r inside,
+    ) made))
 
 pub loop-number-preserved : goal.loop-number-preserved
 loop-number-preserved c =
