@@ -2,7 +2,7 @@ use Rattle.std.proofs.Common.{◌≡◌, ◌≤◌, length, take}
 use Rattle.cam_tiles.specs.Machinery.Blackened.{AreBlackened}
 use Rattle.cam_tiles.specs.Machinery.Indexes.{AreSeenBy, last_leaves}
 use Rattle.cam_tiles.specs.Machinery.Shown.{leaves_by_item}
-use Rattle.cam_tiles.proofs.index.seen.Seen.blacken.Given as goal
+use Rattle.cam_tiles.proofs.index.seen.Seen.paint_last_first.Given as goal
 
 abbrev pub invariant-loop-number : goal.invariant-loop-number
 invariant-loop-number l = record {

@@ -1,4 +1,4 @@
-use Rattle.std.proofs.Common.{rules, ◌≡◌, ◌+◌, ◌/◌, ℕ, List, ◌++◌, true, Some, Option, IfSome, FitsSigned, w64}
+use Rattle.std.proofs.Common.{rules, ◌≡◌, ◌+◌, ◌/◌, ℕ, List, ◌++◌, true, Some, Option, IfNone, IfSome, FitsSigned, w64}
 use Rattle.std.proofs.Common.{◌≤◌, refl, take, length, sym, ap, subst, ◌∙◌, arith}
 use Rattle.std.specs.List.{flat_map}
 use Rattle.std.specs.Prelude.{slice_get}
@@ -17,13 +17,13 @@ use Rattle.cam_tiles.specs.Machinery.Masks.{Marking}
 use Rattle.cam_tiles.specs.Machinery.Shown.{leaves_by_item}
 use Rattle.cam_tiles.specs.Machinery.Swaths.{IsInSwath, PaintsSwath, ink_in, place_in}
 use Rattle.cam_tiles.specs.Tiles.{across, grid_of}
-use Rattle.cam_tiles.proofs.Blackened.{all_blackened, beside_uncovered, black_by_last, kept_last, next_blackened, none_blackened}
-use Rattle.cam_tiles.proofs.Blackened.{one_boxed, one_in_row, one_off_row, passed_blackened}
+use Rattle.cam_tiles.proofs.Blackened.{all_blackened, all_by_last, all_shown, beside_uncovered, black_by_last, kept_last, next_blackened}
+use Rattle.cam_tiles.proofs.Blackened.{none_blackened, one_boxed, one_in_row, one_off_row, passed_blackened}
 use Rattle.cam_tiles.proofs.Indexed.{at, corners_held}
 use Rattle.cam_tiles.proofs.PaintedLists.{on_levels}
 use Rattle.cam_tiles.proofs.ShownItems.{leaves_are}
-use Rattle.cam_tiles.proofs.index.seen.Seen.blacken.Goals.{then-is_in_row+then-reaches+else-not-is_dark+else-is_black, else-is_in_row, else-is_in_row-via-then-is_in_row+else-reaches, else-is_in_row-via-else-is_in_row}
-use Rattle.cam_tiles.proofs.index.seen.Seen.blacken.Goals as goal
+use Rattle.cam_tiles.proofs.index.seen.Seen.paint_last_first.Goals.{then-is_in_row+then-reaches+else-not-is_dark+else-is_black, else-is_in_row, else-is_in_row-via-then-is_in_row+else-reaches, else-is_in_row-via-else-is_in_row}
+use Rattle.cam_tiles.proofs.index.seen.Seen.paint_last_first.Goals as goal
 
 -- the item that was found
 there : (o : Option Boxed) (b : Boxed) (boxed : List Boxed) (n : ℕ) → o ≡ Some b
@@ -104,6 +104,37 @@ returns-then-is_black-clause-painted c = λ on.
           (place_in old column r) (c.bounds.ensures column r inside)),
       on_levels (levels_of (grid_of w c.args.tile)) old c.requires.rows column r inside,
     ) made))
+
+pub returns-in_default-2-clause-painted : goal.returns-in_default-2-clause-painted
+returns-in_default-2-clause-painted c = λ on.
+    let shown = c.args.shown.now in
+    let lists = leaves_by_item shown in
+    let w = c.args.window.now in
+    let seen = c.numbered.new.self in
+    let n = c.loop-number.number in
+    let wide = c.across.result in
+    let row : ℕ = c.args.tile / across w in
+    let old = c.args.swath.now in
+    let left : (seen.left ≡ 0) × (length seen.boxed.items ≤ n) =
+    subst (λ (o : Option Boxed). IfNone o ((seen.left ≡ 0) × (length seen.boxed.items ≤ n))) c.in_default-2.is
+    c.in_ok-item.ensures.none in
+    let before = still lists (c.args.tile / wide) n c.loop-number.self seen old c.loop-number.swath
+    c.loop-number.invariant.black c.loop-number.invariant.found c.in_ok-item.ensures.begun in
+    let same = λ (m : ℕ). last_leaves lists (c.args.tile / m) (take n seen.boxed.items) in
+    let found : AreBlackened (same (across w)) old c.loop-number.swath =
+    subst (λ (ls : List Leaf). AreBlackened ls old c.loop-number.swath) (ap same c.across.ensures) before in
+    let within = c.in_ok-item.ensures.begun.within ∙ c.loop-number.invariant.within in
+    let first = c.has_place.ensures.0 c.if-not-has_place.false in
+    let last = c.has_place-else-not-has_place.ensures.0 c.if-not-has_place-2.false in
+    subst (λ (leaves : List Leaf). PaintsSwath old leaves c.loop-number.swath) (leaves_are shown)
+    (all_shown old (same (across w)) (flat_map (λ those. those) lists) c.loop-number.swath found c.requires.blank
+    (λ column r inside.
+    all_by_last lists w seen c.in_ok-item.ensures.seen row n left.0 left.1 (place_in old column r) (
+      subst (λ (box : Bounds). Holds box (place_in old column r)) (sym within)
+          (corners_held c.args.self.now.within c.bounds.result c.in-Closed.low c.in-Closed.high c.in-Closed.is first last
+          (place_in old column r) (c.bounds.ensures column r inside)),
+      on_levels (levels_of (grid_of w c.args.tile)) old c.requires.rows column r inside,
+    )))
 
 pub loop-number-preserved : goal.loop-number-preserved
 loop-number-preserved c =
