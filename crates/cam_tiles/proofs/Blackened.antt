@@ -3,7 +3,7 @@ use Rattle.std.proofs.Common.{◌≡◌, ℕ, ◌+◌, ◌/◌, ◌%◌, ◌≤�
 use Rattle.std.proofs.Common.{List, [], ◌∷◌, ◌++◌, length, take, drop, filter, refl, sym, ap, subst, ◌∙◌, arith}
 use Rattle.std.specs.List.{All, flat_map}
 use Rattle.std.specs.Prelude.{reverse, slice_get}
-use Rattle.std.proofs.lemmas.Bool.{cases_Bool}
+use Rattle.std.proofs.lemmas.Bool.{cases_Bool, false≢true}
 use Rattle.std.proofs.lemmas.Int.{ints}
 use Rattle.std.proofs.lemmas.List.{reverse-append, take_all, take-append-drop, take-take, take_more}
 use Rattle.std.proofs.lemmas.List.Concat.{flat_map-append}
@@ -13,6 +13,7 @@ use Rattle.cam_units.specs.Boxes.{Holds}
 use Rattle.cam_units.specs.declared.bounds.Bounds.{Bounds}
 use Rattle.cam_units.specs.declared.bounds.Bounds.TheVariants.{Closed}
 use Rattle.cam_units.specs.declared.point.Spot.{Spot}
+use Rattle.cam_objects.specs.Bounds.{bounds_of}
 use Rattle.cam_objects.specs.Darkness.{AreDark}
 use Rattle.cam_objects.specs.Image.{IsUncovered}
 use Rattle.cam_objects.specs.Leaves.{Leaf}
@@ -66,6 +67,24 @@ inks_by false front ls s stay stay' is = elim (cases_Bool (painted false front s
   | inr off ↦ off ∙ is ∙ sym (painted-append false front ls s ∙ ap (λ i. painted i ls s) off)
 ]
 inks_by true front ls s stay stay' is = stay ∙ sym (black_behind false front ls s (sym is))
+
+-- dark leaves leave masks as they are that are black in their box
+pub hidden_dark : (ls : List Leaf) (masks : List Marking) → AreDark ls
+    → ((column row : ℕ) → IsInSwath masks column row → Holds (bounds_of ls) (place_in masks column row)
+    → ink_in masks column row ≡ true)
+    → PaintsSwath masks ls masks
+hidden_dark ls masks dark black = record {
+  pixels = λ column row. ((λ there. there), (λ there. there));
+  places = refl;
+  inks = λ column row there.
+      let s = place_in masks column row in
+      elim (cases_Bool (ink_in masks column row)) [
+        | inl on ↦ on ∙ sym (ap (λ i. painted i ls s) on ∙ dark_stays ls s dark)
+        | inr off ↦
+            sym (painted_off (ink_in masks column row) ls s
+            (outside_box ls s (λ held. false≢true (sym off ∙ black column row there held))))
+      ];
+}
 
 -- ---- masks
 

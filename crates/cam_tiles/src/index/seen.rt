@@ -1,6 +1,8 @@
 //! The items of a layer that may be seen in a box, looked for from the last one on.
 
-ghost use Rattle.std.specs.Prelude.{◌≡◌, ◌==◌, ◌<◌, ◌≤◌, ◌⊎◌, ℕ, IfNone, IfOk, IfSome, IsTrue, OnOk, Some, length, slice_get, true};
+ghost use Rattle.std.specs.Prelude.{◌≡◌, ◌==◌, ◌<◌, ◌≤◌, ◌⊎◌, ℕ, [], IfNone, IfOk, IfSome, IsTrue, OnOk, Some, length};
+ghost use Rattle.std.specs.Prelude.{slice_get, slice_index_or, true};
+ghost use Rattle.cam_objects.specs.Darkness.{AreDark};
 ghost use Rattle.cam_tiles.specs.Machinery.Indexes.{AreSeenBy, IsBegunBy};
 ghost use Rattle.cam_tiles.specs.Machinery.Levels.{levels_of};
 ghost use Rattle.cam_tiles.specs.Machinery.Masks.{IsBlank};
@@ -35,6 +37,21 @@ const LAST_ITEMS: usize = 4_096;
 
 /// How many more are looked for at a time.
 const STEP: usize = 64;
+
+/// Paints a dark item on masks, unless they are black wherever its box is.
+fn paint_dark_item(shown: &Shown<'_>, boxes: &mut Boxes<'_>, place: usize, swath: &mut Swath)
+    requires ready { IsReady shown.now }
+    requires within { place < length (leaves_by_item shown.now) }
+    requires dark { AreDark (slice_index_or (leaves_by_item shown.now) place []) }
+    requires lists { lists_of boxes.old ≡ leaves_by_item shown.now }
+    ensures painted { PaintsSwath swath.old (slice_index_or (leaves_by_item shown.now) place []) swath.new }
+    ensures lists { lists_of boxes.new ≡ leaves_by_item shown.now }
+{
+    if swath.is_black_in(boxes.read(place)) {
+        return;
+    }
+    shown.paint_item(place, swath);
+}
 
 impl Seen {
     /// No item was looked at yet.
@@ -160,15 +177,17 @@ impl Seen {
             return Ok(false);
         }
         let row = tile / window.across();
+        let mut boxes = shown.boxes();
         for number in 0..LAST_ITEMS {
             let Some(item) = self.numbered(shown, window, number)? else {
                 return Ok(true);
             };
             if item.is_in_row(row) && item.reaches(low.x, high.x) {
-                if !shown.is_dark(item.place as usize) {
+                let place = item.place as usize;
+                if !shown.is_dark(place) {
                     return Ok(false);
                 }
-                shown.paint_item(item.place as usize, swath);
+                paint_dark_item(shown, &mut boxes, place, swath);
                 if swath.is_black() {
                     return Ok(true);
                 }

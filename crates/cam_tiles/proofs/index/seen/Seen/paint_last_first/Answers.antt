@@ -14,7 +14,7 @@ use Rattle.cam_tiles.specs.Machinery.Blackened.{AreBlackened}
 use Rattle.cam_tiles.specs.Machinery.Indexes.{IsBegunBy, last_leaves}
 use Rattle.cam_tiles.specs.Machinery.Levels.{levels_of}
 use Rattle.cam_tiles.specs.Machinery.Masks.{Marking}
-use Rattle.cam_tiles.specs.Machinery.Shown.{leaves_by_item}
+use Rattle.cam_tiles.specs.Machinery.Shown.{leaves_by_item, lists_of}
 use Rattle.cam_tiles.specs.Machinery.Swaths.{IsInSwath, PaintsSwath, ink_in, place_in}
 use Rattle.cam_tiles.specs.Tiles.{across, grid_of}
 use Rattle.cam_tiles.proofs.Blackened.{all_blackened, all_by_last, all_shown, beside_uncovered, black_by_last, kept_last, next_blackened}
@@ -42,6 +42,7 @@ pub loop-number-init : goal.loop-number-init
 loop-number-init c = record {
   seen = c.requires.seen;
   within = refl;
+  lists = c.boxes-boxes.ensures;
   found = omega arith;
   black = none_blackened c.args.swath.now c.requires.blank;
 }
@@ -55,8 +56,8 @@ is_dark-requires c =
     (one_boxed lists (c.args.tile / c.across.result) c.loop-number.number seen.boxed.items b found
     c.in_ok-item.ensures.seen.each).within
 
-pub paint_item-requires-clause-within : goal.paint_item-requires-clause-within
-paint_item-requires-clause-within c =
+pub paint_dark_item-requires-clause-within : goal.paint_dark_item-requires-clause-within
+paint_dark_item-requires-clause-within c =
     let seen = c.numbered.new.self in
     let lists = leaves_by_item c.args.shown.now in
     let b = c.in-Some.item in
@@ -81,14 +82,14 @@ returns-then-is_black-clause-painted c = λ on.
     let late = last_leaves lists (c.args.tile / wide) (take n seen.boxed.items) in
     let before = still lists (c.args.tile / wide) n c.loop-number.self seen old c.loop-number.swath
     c.loop-number.invariant.black c.loop-number.invariant.found c.in_ok-item.ensures.begun in
-    let painted_now = next_blackened old late (at lists b.place) c.loop-number.swath before c.paint_item.new.canvas
-    (c.is_dark.ensures (c.if-not-is_dark.false)) c.paint_item.ensures in
+    let painted_now = next_blackened old late (at lists b.place) c.loop-number.swath before c.paint_dark_item.new.swath
+    (c.is_dark.ensures (c.if-not-is_dark.false)) c.paint_dark_item.ensures.painted in
     let leaves : at lists b.place ++ late ≡ same (across w) =
     sym (one_in_row lists (c.args.tile / wide) n seen.boxed.items b found (sym c.is_in_row.ensures ∙ c.if-is_in_row.true))
     ∙ ap same c.across.ensures in
     let blackened : AreBlackened (same (across w)) old new =
     subst (AreBlackened (same (across w)) old) (sym c.is_black.ensures.kept)
-    (subst (λ (ls : List Leaf). AreBlackened ls old c.paint_item.new.canvas) leaves painted_now) in
+    (subst (λ (ls : List Leaf). AreBlackened ls old c.paint_dark_item.new.swath) leaves painted_now) in
     let within = c.in_ok-item.ensures.begun.within ∙ c.loop-number.invariant.within in
     let first = c.has_place.ensures.0 c.if-not-has_place.false in
     let last = c.has_place-else-not-has_place.ensures.0 c.if-not-has_place-2.false in
@@ -155,14 +156,19 @@ loop-number-preserved c =
     record {
       seen = c.in_ok-item.ensures.seen;
       within = c.in_ok-item.ensures.begun.within ∙ c.loop-number.invariant.within;
+      lists = elim c.if-is_in_row.branch [
+        | then-is_in_row+then-reaches+else-not-is_dark+else-is_black w ↦
+            ap lists_of w.boxes-is ∙ w.paint_dark_item.ensures.lists
+        | else-is_in_row w ↦ ap lists_of w.boxes-is ∙ c.loop-number.invariant.lists
+      ];
       found = omega (arith, slice_get_within seen.boxed.items n b found);
       black = elim c.if-is_in_row.branch [
         | then-is_in_row+then-reaches+else-not-is_dark+else-is_black w ↦
             subst IsNext (sym (w.swath-is ∙ w.is_black.ensures.kept))
-            (subst (λ (ls : List Leaf). AreBlackened ls old w.paint_item.new.canvas)
+            (subst (λ (ls : List Leaf). AreBlackened ls old w.paint_dark_item.new.swath)
             (sym (one (sym c.is_in_row.ensures ∙ w.if-is_in_row.true)))
-            (next_blackened old late (at lists b.place) now before w.paint_item.new.canvas
-            (w.is_dark.ensures w.if-not-is_dark.false) w.paint_item.ensures))
+            (next_blackened old late (at lists b.place) now before w.paint_dark_item.new.swath
+            (w.is_dark.ensures w.if-not-is_dark.false) w.paint_dark_item.ensures.painted))
         | else-is_in_row w ↦
             subst IsNext (sym w.swath-is)
             (elim w.else-is_in_row.branch [
