@@ -5,7 +5,7 @@ use Rattle.std.specs.List.{All, flat_map}
 use Rattle.std.specs.Prelude.{reverse, slice_get}
 use Rattle.std.proofs.lemmas.Bool.{cases_Bool, false≢true}
 use Rattle.std.proofs.lemmas.Int.{ints}
-use Rattle.std.proofs.lemmas.List.{reverse-append, take-append-drop, take-take, take_more}
+use Rattle.std.proofs.lemmas.List.{reverse-append, take_all, take-append-drop, take-take, take_more}
 use Rattle.std.proofs.lemmas.List.Concat.{flat_map-append}
 use Rattle.std.proofs.lemmas.List.Elements.{All-get_or, All-head, All-tail, filter-append}
 use Rattle.std.proofs.lemmas.Option.{get_or_from_slice_get, slice_get_within}
@@ -13,6 +13,7 @@ use Rattle.cam_units.specs.Boxes.{Holds}
 use Rattle.cam_units.specs.declared.bounds.Bounds.{Bounds}
 use Rattle.cam_units.specs.declared.bounds.Bounds.TheVariants.{Closed}
 use Rattle.cam_units.specs.declared.point.Spot.{Spot}
+use Rattle.cam_objects.specs.Bounds.{bounds_of}
 use Rattle.cam_objects.specs.Darkness.{AreDark}
 use Rattle.cam_objects.specs.Image.{IsUncovered}
 use Rattle.cam_objects.specs.Leaves.{Leaf}
@@ -58,12 +59,32 @@ dark_stays (l ∷ ls) s dark =
       | inr off ↦ rw off rest
     ]
 
--- a clear place that leaves make black, and others behind them that leave black what is
-black_by : (ink : Bool) (front ls : List Leaf) (s : Spot) → painted ink front s ≡ true → painted true ls s ≡ true
-    → (ink ≡ true → painted false ls s ≡ true) → painted false (front ++ ls) s ≡ true
-black_by false front ls s made stays before =
-    painted-append false front ls s ∙ ap (λ i. painted i ls s) made ∙ stays
-black_by true front ls s made stays before = black_behind false front ls s (before refl)
+-- dark leaves leave behind others what they leave before them
+inks_by : (ink : Bool) (front ls : List Leaf) (s : Spot) → painted true front s ≡ true → painted true ls s ≡ true
+    → ink ≡ painted false ls s → painted ink front s ≡ painted false (front ++ ls) s
+inks_by false front ls s stay stay' is = elim (cases_Bool (painted false front s)) [
+  | inl on ↦ on ∙ sym (painted-append false front ls s ∙ ap (λ i. painted i ls s) on ∙ stay')
+  | inr off ↦ off ∙ is ∙ sym (painted-append false front ls s ∙ ap (λ i. painted i ls s) off)
+]
+inks_by true front ls s stay stay' is = stay ∙ sym (black_behind false front ls s (sym is))
+
+-- dark leaves leave masks as they are that are black in their box
+pub hidden_dark : (ls : List Leaf) (masks : List Marking) → AreDark ls
+    → ((column row : ℕ) → IsInSwath masks column row → Holds (bounds_of ls) (place_in masks column row)
+    → ink_in masks column row ≡ true)
+    → PaintsSwath masks ls masks
+hidden_dark ls masks dark black = record {
+  pixels = λ column row. ((λ there. there), (λ there. there));
+  places = refl;
+  inks = λ column row there.
+      let s = place_in masks column row in
+      elim (cases_Bool (ink_in masks column row)) [
+        | inl on ↦ on ∙ sym (ap (λ i. painted i ls s) on ∙ dark_stays ls s dark)
+        | inr off ↦
+            sym (painted_off (ink_in masks column row) ls s
+            (outside_box ls s (λ held. false≢true (sym off ∙ black column row there held))))
+      ];
+}
 
 -- ---- masks
 
@@ -73,9 +94,8 @@ module _ (old : List Marking) where
     pixels = λ column row. ((λ there. there), (λ there. there));
     places = refl;
     stay = λ column row there. refl;
-    black = λ column row there on.
-        absurd (false≢true (sym (clear_if_unmarked (mask_at old (column / 64)) (column % 64) row
-        (blank (column / 64) (column % 64) row there)) ∙ on));
+    inks = λ column row there.
+        clear_if_unmarked (mask_at old (column / 64)) (column % 64) row (blank (column / 64) (column % 64) row there);
   }
 
   module _ (leaves more : List Leaf) (now : List Marking) (so_far : AreBlackened leaves old now) where
@@ -93,7 +113,7 @@ module _ (old : List Marking) where
           pixels = so_far.pixels;
           places = so_far.places;
           stay = λ column row there. same true column row there ∙ so_far.stay column row there;
-          black = λ column row there on. same false column row there ∙ so_far.black column row there on;
+          inks = λ column row there. so_far.inks column row there ∙ sym (same false column row there);
         }
 
     -- dark leaves before them that are painted now
@@ -112,13 +132,13 @@ module _ (old : List Marking) where
               let s = place_in old column row in
               painted-append true more leaves s
               ∙ ap (λ i. painted i leaves s) (dark_stays more s dark) ∙ so_far.stay column row there;
-          black = λ column row there on.
+          inks = λ column row there.
               let place : place_in now column row ≡ place_in old column row =
               ap (λ (place : ℕ → ℕ → Spot). place column row) so_far.places in
-              black_by (ink_in now column row) more leaves (place_in old column row)
-              (ap (painted (ink_in now column row) more) (sym place)
-              ∙ sym (h.inks column row (was column row there)) ∙ on)
-              (so_far.stay column row there) (so_far.black column row there);
+              h.inks column row (was column row there)
+              ∙ ap (painted (ink_in now column row) more) place
+              ∙ inks_by (ink_in now column row) more leaves (place_in old column row)
+              (dark_stays more (place_in old column row) dark) (so_far.stay column row there) (so_far.inks column row there);
         }
 
   -- masks that are black all over show all leaves that are black there, whatever was painted on them
@@ -135,7 +155,23 @@ module _ (old : List Marking) where
         let on = black column row ((h.pixels column row).1 there) in
         on ∙ sym (ap (λ i. painted i all (place_in old column row))
         (clear_if_unmarked (mask_at old (column / 64)) (column % 64) row (blank (column / 64) (column % 64) row there))
-        ∙ more column row there (h.black column row there on));
+        ∙ more column row there (sym (h.inks column row there) ∙ on));
+  }
+
+  -- and masks show all leaves that leave there what those do that were painted
+  pub all_shown : (leaves all : List Leaf) (new : List Marking) → AreBlackened leaves old new
+      → ((k : ℕ) → IsBlank (mask_at old k))
+      → ((column row : ℕ) → IsInSwath old column row
+      → painted false leaves (place_in old column row) ≡ painted false all (place_in old column row))
+      → PaintsSwath old all new
+  all_shown leaves all new h blank same = record {
+    pixels = h.pixels;
+    places = h.places;
+    inks = λ column row there.
+        h.inks column row there
+        ∙ same column row there
+        ∙ sym (ap (λ i. painted i all (place_in old column row))
+        (clear_if_unmarked (mask_at old (column / 64)) (column % 64) row (blank (column / 64) (column % 64) row there)));
   }
 
 -- ---- the last of the items
@@ -169,6 +205,15 @@ module _ (lists : List (List Leaf)) (w : Window) (seen : Seen) (is : AreSeenBy l
       let from = sym (is.enough row false s there) ∙ found in
       ap (λ those. painted false those s) all_split
       ∙ black_behind false (flat_map (λ those. those) (take seen.left lists)) (all_from lists seen.left) s from
+
+  -- and once all were found, they leave what all do
+  pub all_by_last : seen.left ≡ 0 → length seen.boxed.items ≤ n → (s : Spot) → IsSeen w seen.within row s
+      → painted false (last_leaves lists row (take n seen.boxed.items)) s
+      ≡ painted false (flat_map (λ those. those) lists) s
+  all_by_last whole few s there =
+      ap (λ those. painted false (last_leaves lists row those) s) (take_all n seen.boxed.items few)
+      ∙ is.enough row false s there
+      ∙ ap (λ k. painted false (all_from lists k) s) whole
 
 -- ---- one item after another, from the last on
 

@@ -19,7 +19,7 @@ use Rattle.cam_tiles.specs.Machinery.Masks.{IsWithin}
 use Rattle.cam_tiles.specs.Tiles.{IsGrid, centre_in}
 use Rattle.cam_tiles.proofs.GridLemmas.{long}
 use Rattle.cam_tiles.proofs.SeenRows.{seen_kept}
-use Rattle.cam_tiles.proofs.StepLemmas.{first_y, no_step_down, way_kept}
+use Rattle.cam_tiles.proofs.StepLemmas.{first_x, first_y, no_step_down, way_kept}
 
 -- ---- rows by their distance from the first
 
@@ -220,3 +220,46 @@ module _ (g : Grid) (at : Point) (grid : IsGrid g) (board : IsOnBoard at) (fits 
   seen_on_row row within =
       let IsSeen : Levels → Type 0 = λ l. IsOnRow l row (relative at (centre_in g 0 row)) in
       subst IsSeen (sym seen_is) (within, seen_first g.first.y at.y (pos row *ℤ g.step))
+
+-- ---- columns, which are from the right what rows are from above
+
+mirrored_near : (x d : ℤ) → unsigned_abs (x +ℤ d) < 2000000000 → unsigned_abs (pos 0 -ℤ x -ℤ d) < 4000000000
+mirrored_near x d near = omega (arith, ints)
+
+mirrored_place : (x d : ℤ) → pos 0 -ℤ (x +ℤ d) ≡ pos 0 -ℤ x -ℤ d
+mirrored_place x d = omega (arith, ints)
+
+pub mirrored_kept : (m : ℤ) → unsigned_abs m < 9223372036854775808 → long (pos 0 -ℤ long m) ≡ pos 0 -ℤ m
+mirrored_kept m near =
+    ap (λ z. long (pos 0 -ℤ z)) (to_z-of_z w64 m (omega (arith, ints))) ∙ to_z-of_z w64 (pos 0 -ℤ m) (omega (arith, ints))
+
+module _ (g : Grid) (grid : IsGrid g) (fits : FitsSigned w64 g.step) where
+  -- as the code computes them
+  abbrev pub columns_now : Levels
+  columns_now = record { top = long (pos 0 -ℤ long g.first.x); step = long g.step; rows = g.columns }
+
+  pub first_near : unsigned_abs g.first.x < 2000000000
+  first_near = first_x g grid
+
+  columns_is : columns_now ≡ record { top = pos 0 -ℤ g.first.x; step = g.step; rows = g.columns }
+  columns_is =
+      let levels : ℤ → ℤ → Levels = λ x step. record { top = x; step = step; rows = g.columns } in
+      ap (λ x. levels x (long g.step)) (mirrored_kept g.first.x (omega (arith, first_near)))
+      ∙ ap (levels (pos 0 -ℤ g.first.x)) (to_z-of_z w64 g.step fits)
+
+  pub are_columns : AreLevels columns_now
+  are_columns =
+      subst AreLevels (sym columns_is)
+      (record {
+        step = grid.step;
+        rows = grid.columns;
+        heights = λ column within.
+            mirrored_near g.first.x (pos column *ℤ g.step) (grid.centres column 0 within grid.rows.0).x;
+      })
+
+  pub in_column : (column : ℕ) → column < g.columns
+      → IsOnRow columns_now column (record { x = pos 0; y = pos 0 -ℤ (centre_in g column 0).x })
+  in_column column within =
+      let IsThere : Levels → Type 0 =
+      λ l. IsOnRow l column (record { x = pos 0; y = pos 0 -ℤ (centre_in g column 0).x }) in
+      subst IsThere (sym columns_is) (within, mirrored_place g.first.x (pos column *ℤ g.step))

@@ -21,7 +21,7 @@ use crate::window::Window;
 use cam_units::Bounds;
 use std::alloc::{AllocError, Global};
 
-/// Of how many dirty tiles it is tried whether the last items make them black.
+/// Of how many dirty tiles at most it is tried to paint the last items first.
 const FEW_TILES: usize = 16;
 
 /// How many items may be seen at least where that is tried.
@@ -60,7 +60,7 @@ fn draw_seen(
     let mut seen = Seen::new(alloc, shown, within)?;
     let mut swath = Swath::new(alloc);
     seen.look(shown, window, MANY_ITEMS)?;
-    draw_black(&mut seen, &mut swath, shown, window, tiles)?;
+    draw_last_first(&mut seen, &mut swath, shown, window, tiles)?;
     if dirty_in(tiles) == 0 {
         return Ok(());
     }
@@ -70,9 +70,9 @@ fn draw_seen(
     Ok(())
 }
 
-/// Draws those rows of tiles that the last items make black all over, where few tiles are dirty and more items may be
+/// Draws those rows of tiles whose items can be painted from the last on, where few tiles are dirty and more items may be
 /// seen than were looked for.
-fn draw_black(
+fn draw_last_first(
     seen: &mut Seen,
     swath: &mut Swath,
     shown: &Shown<'_>,
@@ -90,11 +90,11 @@ fn draw_black(
     if seen.is_complete() || dirty_in(tiles) > FEW_TILES {
         return Ok(());
     }
-    draw_black_rows(seen, swath, shown, window, tiles)
+    draw_rows_last_first(seen, swath, shown, window, tiles)
 }
 
-/// Draws those rows of tiles that the last items make black all over.
-fn draw_black_rows(
+/// Draws those rows of tiles whose items can be painted from the last on.
+fn draw_rows_last_first(
     seen: &mut Seen,
     swath: &mut Swath,
     shown: &Shown<'_>,
@@ -114,14 +114,14 @@ fn draw_black_rows(
         let first = row * across;
         let end = (first + across).min(tiles.len());
         let part = &mut tiles[first..end];
-        draw_black_row(seen, swath, shown, window, first as u32, part)?;
+        draw_row_last_first(seen, swath, shown, window, first as u32, part)?;
     }
     Ok(())
 }
 
-/// Draws the dirty ones of tiles of a row of them where the last items make all of these black all over. The first of
-/// them has a number.
-fn draw_black_row(
+/// Draws the dirty ones of tiles of a row of them, if their items can be painted from the last on. The first of them has
+/// a number.
+fn draw_row_last_first(
     seen: &mut Seen,
     swath: &mut Swath,
     shown: &Shown<'_>,
@@ -138,7 +138,7 @@ fn draw_black_row(
         tiles.old tiles.new }
 {
     swath.turn_to(window, first, tiles)?;
-    if seen.blacken(shown, window, first, swath)? {
+    if seen.paint_last_first(shown, window, first, swath)? {
         swath.put(tiles);
     }
     Ok(())

@@ -4,7 +4,7 @@ ghost use Rattle.std.specs.Prelude.{◌≡◌, ◌↔◌, ℕ, ◌-◌, ◌<◌,
 ghost use Rattle.cam_units.specs.declared.point.Spot.{Spot};
 ghost use Rattle.cam_tiles.specs.Machinery.Levels.{AreLevels, IsLevels, IsOnRow, height, levels_of};
 ghost use Rattle.cam_tiles.specs.Machinery.Masks.{IsWithin};
-ghost use Rattle.cam_tiles.specs.Tiles.{IsGrid};
+ghost use Rattle.cam_tiles.specs.Tiles.{IsGrid, centre_in};
 
 use crate::grid::Grid;
 use crate::masks::heights::Heights;
@@ -31,6 +31,24 @@ impl Grid {
             step: self.step,
             rows: self.rows,
         }
+    }
+
+    /// The columns whose centres lie between two places across, in half nm.
+    pub(crate) fn columns_between(&self, left: i64, right: i64) -> Span
+        requires { IsGrid self.now }
+        ensures { (column : ℕ) → column < self.now.columns → left ≤ℤ (centre_in self.now column 0).x
+            → (centre_in self.now column 0).x ≤ℤ right → (result.first ≤ column) × (column < result.end) }
+    {
+        // from the right, columns are what rows are from above
+        let columns = Levels {
+            top: -self.first.x,
+            step: self.step,
+            rows: self.columns,
+        };
+        columns.band(Heights {
+            low: -right.max(-i64::MAX),
+            high: -left.max(-i64::MAX),
+        })
     }
 }
 

@@ -1,6 +1,8 @@
 //! The items of a layer that may be seen in a box, looked for from the last one on.
 
-ghost use Rattle.std.specs.Prelude.{◌≡◌, ◌==◌, ◌<◌, ◌≤◌, ℕ, IfOk, IfSome, IsTrue, OnOk, Some, length, slice_get, true};
+ghost use Rattle.std.specs.Prelude.{◌≡◌, ◌==◌, ◌<◌, ◌≤◌, ◌⊎◌, ℕ, [], IfNone, IfOk, IfSome, IsTrue, OnOk, Some, length};
+ghost use Rattle.std.specs.Prelude.{slice_get, slice_index_or, true};
+ghost use Rattle.cam_objects.specs.Darkness.{AreDark};
 ghost use Rattle.cam_tiles.specs.Machinery.Indexes.{AreSeenBy, IsBegunBy};
 ghost use Rattle.cam_tiles.specs.Machinery.Levels.{levels_of};
 ghost use Rattle.cam_tiles.specs.Machinery.Masks.{IsBlank};
@@ -30,11 +32,26 @@ pub(crate) struct Seen {
     pub(super) room: usize,
 }
 
-/// Among how many items that may be seen it is tried whether they make a row of tiles black.
+/// How many items that may be seen are painted at most, the last one first.
 const LAST_ITEMS: usize = 4_096;
 
 /// How many more are looked for at a time.
 const STEP: usize = 64;
+
+/// Paints a dark item on masks, unless they are black wherever its box is.
+fn paint_dark_item(shown: &Shown<'_>, boxes: &mut Boxes<'_>, place: usize, swath: &mut Swath)
+    requires ready { IsReady shown.now }
+    requires within { place < length (leaves_by_item shown.now) }
+    requires dark { AreDark (slice_index_or (leaves_by_item shown.now) place []) }
+    requires lists { lists_of boxes.old ≡ leaves_by_item shown.now }
+    ensures painted { PaintsSwath swath.old (slice_index_or (leaves_by_item shown.now) place []) swath.new }
+    ensures lists { lists_of boxes.new ≡ leaves_by_item shown.now }
+{
+    if swath.is_black_in(boxes.read(place)) {
+        return;
+    }
+    shown.paint_item(place, swath);
+}
 
 impl Seen {
     /// No item was looked at yet.
@@ -101,6 +118,7 @@ impl Seen {
         ensures seen { OnOk result (AreSeenBy (leaves_by_item shown.now) window.now self.new) }
         ensures begun { OnOk result (IsBegunBy self.old self.new) }
         ensures all { OnOk result (length (leaves_by_item shown.now) ≤ enough → self.new.left ≡ 0) }
+        ensures enough { OnOk result ((self.new.left ≡ 0) ⊎ (enough ≤ length self.new.boxed.items)) }
     {
         let mut boxes = shown.boxes();
         while self.left > 0 && self.boxed.len() < enough {
@@ -124,6 +142,8 @@ impl Seen {
         ensures seen { OnOk result (AreSeenBy (leaves_by_item shown.now) window.now self.new) }
         ensures begun { OnOk result (IsBegunBy self.old self.new) }
         ensures there { IfOk result (λ found. IfSome found (λ item. slice_get self.new.boxed.items number ≡ Some item)) }
+        ensures none { IfOk result (λ found. IfNone found
+            ((self.new.left ≡ 0) × (length self.new.boxed.items ≤ number))) }
     {
         if self.boxed.len() <= number {
             self.look(shown, window, number + STEP)?;
@@ -131,10 +151,10 @@ impl Seen {
         Ok(self.boxed.get(number).copied())
     }
 
-    /// Paints the last items on blank masks in the row of tiles of a tile, the last one first, until these are black all
-    /// over, and answers whether they are: then all items are painted, since those before change nothing. It stops at
-    /// an item of which it is not known that it is dark, and where the items are too many.
-    pub(crate) fn blacken(
+    /// Paints items on blank masks in the row of tiles of a tile, the last one first, and answers whether that is as if
+    /// all were painted in order: dark ones may come in any order, and where the masks are black all over, those before
+    /// change nothing. It stops at an item of which it is not known that it is dark, and where the items are too many.
+    pub(crate) fn paint_last_first(
         &mut self,
         shown: &Shown<'_>,
         window: &Window,
@@ -157,15 +177,17 @@ impl Seen {
             return Ok(false);
         }
         let row = tile / window.across();
+        let mut boxes = shown.boxes();
         for number in 0..LAST_ITEMS {
             let Some(item) = self.numbered(shown, window, number)? else {
-                return Ok(false);
+                return Ok(true);
             };
             if item.is_in_row(row) && item.reaches(low.x, high.x) {
-                if !shown.is_dark(item.place as usize) {
+                let place = item.place as usize;
+                if !shown.is_dark(place) {
                     return Ok(false);
                 }
-                shown.paint_item(item.place as usize, swath);
+                paint_dark_item(shown, &mut boxes, place, swath);
                 if swath.is_black() {
                     return Ok(true);
                 }

@@ -3,6 +3,8 @@
 ghost use Rattle.std.specs.Prelude.{◌≡◌, ◌↔◌, ◌+◌, ◌*◌, ◌<◌, ◌≤◌, ℕ, IsTrue, length, true};
 ghost use Rattle.std.specs.Int.{IsBitSet};
 ghost use Rattle.cam_units.specs.Board.{IsOnBoard};
+ghost use Rattle.cam_units.specs.Boxes.{Holds};
+ghost use Rattle.cam_units.specs.declared.bounds.Bounds.TheVariants.{Closed};
 ghost use Rattle.cam_objects.specs.Image.{relative};
 ghost use Rattle.cam_rows.specs.Marks.{is_marked};
 ghost use Rattle.cam_rows.specs.Rows.{IsRow, centre_at};
@@ -140,6 +142,25 @@ impl Mask {
             }
         }
         self.grid.rows
+    }
+
+    /// Whether all centres in a box are marked.
+    pub(crate) fn is_black_in(&self, low: &Spot, high: &Spot) -> bool
+        ensures { IsTrue result → (column row : ℕ) → IsIn self.now.grid column row
+            → Holds (Closed low.now high.now) (centre_in self.now.grid column row) → ink_of self.now column row ≡ true }
+    {
+        let columns = self.grid.columns_between(low.x, high.x);
+        let run = run_row(columns.first, columns.end, 0, self.grid.columns);
+        let rows = self.grid.levels().band(Heights {
+            low: low.y,
+            high: high.y,
+        });
+        for row in rows.first..rows.end {
+            if self.rows[row as usize] & run != run {
+                return false;
+            }
+        }
+        true
     }
 
     /// Joins the marks with the places of a shape, which stands at a point as it does about (0, 0).

@@ -39,7 +39,7 @@ use crate::masks::figures::{Placed, paint_each, paint_figures, placed_of};
 use crate::masks::filing::FiledSegment;
 use crate::masks::heights::Heights;
 use crate::masks::mask::Mask;
-use crate::masks::solid::{are_solid, follow};
+use crate::masks::solid::{are_black_in, are_solid, follow};
 use crate::masks::turning::{fill_marked, mark_inside};
 use crate::painter::Tile;
 use crate::shown::Region;
@@ -216,6 +216,17 @@ impl Swath {
             → (column row : ℕ) → IsInSwath self.old column row → ink_in self.old column row ≡ true }
     {
         are_solid(&self.masks, 0, self.masks.len(), &mut self.solid)
+    }
+
+    /// Whether all centres in a box are black.
+    pub(crate) fn is_black_in(&self, bounds: Bounds) -> bool
+        ensures { IsTrue result → (column row : ℕ) → IsInSwath self.now column row
+            → Holds bounds (place_in self.now column row) → ink_in self.now column row ≡ true }
+    {
+        let Bounds::Closed { low, high } = bounds else {
+            return true;
+        };
+        are_black_in(&self.masks, &low, &high)
     }
 
     /// Joins the masks from one number to another with the inside of a region: each segment is counted once for all of

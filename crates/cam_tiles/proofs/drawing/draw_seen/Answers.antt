@@ -9,11 +9,11 @@ use Rattle.cam_tiles.proofs.drawing.draw_seen.Goals as goal
 pub returns-then-dirty_in-eq0-clause-all : goal.returns-then-dirty_in-eq0-clause-all
 returns-then-dirty_in-eq0-clause-all c =
     let draw : ℕ → List ℕ = λ k. tile_rows (is_black (leaves_of c.args.shown.now)) (grid_of c.args.window.now k) in
-    sym (all_clean draw 0 c.draw_black.new.tiles (omega (arith, c.dirty_in.ensures, c.if-dirty_in-eq0.true)))
-    ∙ c.draw_black.ensures.tiles
+    sym (all_clean draw 0 c.draw_last_first.new.tiles (omega (arith, c.dirty_in.ensures, c.if-dirty_in-eq0.true)))
+    ∙ c.draw_last_first.ensures.tiles
 
 pub returns-clause-some : goal.returns-clause-some
 returns-clause-some c =
     let draw : ℕ → List ℕ = λ k. tile_rows (is_black (leaves_of c.args.shown.now)) (grid_of c.args.window.now k) in
-    all_partly_drawn draw 0 c.draw_black.new.tiles c.draw_rows.new.tiles c.draw_rows.ensures
-    ∙ c.draw_black.ensures.tiles
+    all_partly_drawn draw 0 c.draw_last_first.new.tiles c.draw_rows.new.tiles c.draw_rows.ensures
+    ∙ c.draw_last_first.ensures.tiles

@@ -5,7 +5,7 @@ use Rattle.cam_tiles.specs.Tiles.{grid_of, tile_rows}
 use Rattle.cam_tiles.proofs.PartlyDrawn.{row_partly_drawn}
 use Rattle.cam_tiles.proofs.RowsInOrder.{begins, row_there}
 use Rattle.cam_tiles.proofs.TileCounts.{few_tiles, some_across}
-use Rattle.cam_tiles.proofs.drawing.draw_black_rows.Goals as goal
+use Rattle.cam_tiles.proofs.drawing.draw_rows_last_first.Goals as goal
 
 pub div_ceil-row-end-requires : goal.div_ceil-row-end-requires
 div_ceil-row-end-requires c =
@@ -20,8 +20,8 @@ overflow_cast-first c =
     (omega (arith, c.loop-row-test.true, c.div_ceil-row-end.ensures)) in
     omega (arith, first, c.requires.within, few_tiles c.args.window.now c.requires.accepted)
 
-pub draw_black_row-requires-clause-row : goal.draw_black_row-requires-clause-row
-draw_black_row-requires-clause-row c =
+pub draw_row_last_first-requires-clause-row : goal.draw_row_last_first-requires-clause-row
+draw_row_last_first-requires-clause-row c =
     let here = c.loop-row in
     let size : ℕ = length c.args.tiles.now in
     (row_there c.args.window.now here.tiles size here.row c.across-across.result c.min-end.result c.requires.accepted
@@ -29,8 +29,8 @@ draw_black_row-requires-clause-row c =
     (omega (arith, c.loop-row-test.true, c.div_ceil-row-end.ensures))
     (omega (arith, c.min-end.ensures, here.auto.tiles))).row
 
-pub returns-in_err-draw_black_row-clause-tiles : goal.returns-in_err-draw_black_row-clause-tiles
-returns-in_err-draw_black_row-clause-tiles c =
+pub returns-in_err-draw_row_last_first-clause-tiles : goal.returns-in_err-draw_row_last_first-clause-tiles
+returns-in_err-draw_row_last_first-clause-tiles c =
     let draw : ℕ → List ℕ = λ k. tile_rows (is_black (leaves_of c.args.shown.now)) (grid_of c.args.window.now k) in
     let here = c.loop-row in
     let size : ℕ = length c.args.tiles.now in
@@ -39,8 +39,8 @@ returns-in_err-draw_black_row-clause-tiles c =
     c.across-across.ensures here.auto.tiles c.requires.within
     (omega (arith, c.loop-row-test.true, c.div_ceil-row-end.ensures))
     (omega (arith, c.min-end.ensures, here.auto.tiles)) in
-    row_partly_drawn draw (here.row * c.across-across.result) c.min-end.result here.tiles c.draw_black_row.new.tiles
-    there.order there.within c.draw_black_row.ensures.tiles
+    row_partly_drawn draw (here.row * c.across-across.result) c.min-end.result here.tiles c.draw_row_last_first.new.tiles
+    there.order there.within c.draw_row_last_first.ensures.tiles
     ∙ here.invariant.drawn
 
 pub loop-row-preserved : goal.loop-row-preserved
@@ -56,7 +56,7 @@ loop-row-preserved c =
     record {
       drawn =
           row_partly_drawn draw (here.row * c.across-across.result) c.min-end.result here.tiles
-          c.draw_black_row.new.tiles there.order there.within c.draw_black_row.ensures.tiles
+          c.draw_row_last_first.new.tiles there.order there.within c.draw_row_last_first.ensures.tiles
           ∙ here.invariant.drawn;
-      seen = c.in_ok-draw_black_row.ensures.seen;
+      seen = c.in_ok-draw_row_last_first.ensures.seen;
     }

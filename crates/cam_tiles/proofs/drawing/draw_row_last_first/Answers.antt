@@ -10,10 +10,10 @@ use Rattle.cam_tiles.proofs.PartlyDrawn.{all_partly_drawn}
 use Rattle.cam_tiles.proofs.PaintedSwaths.{enough_masks, has_levels, swath_drawn}
 use Rattle.cam_tiles.proofs.SwathLayouts.{levels_are}
 use Rattle.cam_tiles.proofs.TilesInOrder.{all_grids, length-dirty_grids}
-use Rattle.cam_tiles.proofs.drawing.draw_black_row.Goals as goal
+use Rattle.cam_tiles.proofs.drawing.draw_row_last_first.Goals as goal
 
-pub blacken-requires-clause-rows : goal.blacken-requires-clause-rows
-blacken-requires-clause-rows c =
+pub paint_last_first-requires-clause-rows : goal.paint_last_first-requires-clause-rows
+paint_last_first-requires-clause-rows c =
     let w = c.args.window.now in
     let row = c.requires.row in
     let grid : ℕ → Grid = grid_of w in
@@ -33,8 +33,8 @@ put-requires c =
     omega (
       arith,
       length-dirty_grids grid c.args.first c.args.tiles.now,
-      enough_masks (leaves_of c.args.shown.now) c.turn_to.new.self c.blacken.new.swath grids
-          (c.in_ok-blacken.ensures.painted c.if-branch.true) c.in_ok-turn_to.ensures.grids sound,
+      enough_masks (leaves_of c.args.shown.now) c.turn_to.new.self c.paint_last_first.new.swath grids
+          (c.in_ok-paint_last_first.ensures.painted c.if-branch.true) c.in_ok-turn_to.ensures.grids sound,
     )
 
 pub returns-then-branch-clause-tiles : goal.returns-then-branch-clause-tiles
@@ -48,5 +48,5 @@ returns-then-branch-clause-tiles c =
     (λ t within. on_board w (c.args.first + t) c.requires.accepted (omega (arith, row.within))) in
     all_partly_drawn (λ k. tile_rows (is_black leaves) (grid k)) c.args.first c.args.tiles.now c.put.new.tiles
     (c.put.ensures (is_black leaves) grid c.args.first
-    (swath_drawn leaves c.turn_to.new.self c.blacken.new.swath grids (c.in_ok-blacken.ensures.painted c.if-branch.true)
+    (swath_drawn leaves c.turn_to.new.self c.paint_last_first.new.swath grids (c.in_ok-paint_last_first.ensures.painted c.if-branch.true)
     c.in_ok-turn_to.ensures.grids sound c.in_ok-turn_to.ensures.blank))

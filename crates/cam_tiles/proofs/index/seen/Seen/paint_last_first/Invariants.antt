@@ -1,13 +1,14 @@
 use Rattle.std.proofs.Common.{◌≡◌, ◌≤◌, length, take}
 use Rattle.cam_tiles.specs.Machinery.Blackened.{AreBlackened}
 use Rattle.cam_tiles.specs.Machinery.Indexes.{AreSeenBy, last_leaves}
-use Rattle.cam_tiles.specs.Machinery.Shown.{leaves_by_item}
-use Rattle.cam_tiles.proofs.index.seen.Seen.blacken.Given as goal
+use Rattle.cam_tiles.specs.Machinery.Shown.{leaves_by_item, lists_of}
+use Rattle.cam_tiles.proofs.index.seen.Seen.paint_last_first.Given as goal
 
 abbrev pub invariant-loop-number : goal.invariant-loop-number
 invariant-loop-number l = record {
   seen : AreSeenBy (leaves_by_item l.shown) l.window l.self;
   within : l.self.within ≡ l.fn.self.within;
+  lists : lists_of l.boxes ≡ leaves_by_item l.shown;
   found : l.number ≤ length l.self.boxed.items;
   black : AreBlackened (last_leaves (leaves_by_item l.shown) l.row (take l.number l.self.boxed.items)) l.fn.swath
       l.swath;

@@ -1,4 +1,4 @@
-use Rattle.std.proofs.Common.{rules, ◌≡◌, ◌+◌, ◌/◌, ℕ, List, ◌++◌, true, Some, Option, IfSome, FitsSigned, w64}
+use Rattle.std.proofs.Common.{rules, ◌≡◌, ◌+◌, ◌/◌, ℕ, List, ◌++◌, true, Some, Option, IfNone, IfSome, FitsSigned, w64}
 use Rattle.std.proofs.Common.{◌≤◌, refl, take, length, sym, ap, subst, ◌∙◌, arith}
 use Rattle.std.specs.List.{flat_map}
 use Rattle.std.specs.Prelude.{slice_get}
@@ -14,16 +14,16 @@ use Rattle.cam_tiles.specs.Machinery.Blackened.{AreBlackened}
 use Rattle.cam_tiles.specs.Machinery.Indexes.{IsBegunBy, last_leaves}
 use Rattle.cam_tiles.specs.Machinery.Levels.{levels_of}
 use Rattle.cam_tiles.specs.Machinery.Masks.{Marking}
-use Rattle.cam_tiles.specs.Machinery.Shown.{leaves_by_item}
+use Rattle.cam_tiles.specs.Machinery.Shown.{leaves_by_item, lists_of}
 use Rattle.cam_tiles.specs.Machinery.Swaths.{IsInSwath, PaintsSwath, ink_in, place_in}
 use Rattle.cam_tiles.specs.Tiles.{across, grid_of}
-use Rattle.cam_tiles.proofs.Blackened.{all_blackened, beside_uncovered, black_by_last, kept_last, next_blackened, none_blackened}
-use Rattle.cam_tiles.proofs.Blackened.{one_boxed, one_in_row, one_off_row, passed_blackened}
+use Rattle.cam_tiles.proofs.Blackened.{all_blackened, all_by_last, all_shown, beside_uncovered, black_by_last, kept_last, next_blackened}
+use Rattle.cam_tiles.proofs.Blackened.{none_blackened, one_boxed, one_in_row, one_off_row, passed_blackened}
 use Rattle.cam_tiles.proofs.Indexed.{at, corners_held}
 use Rattle.cam_tiles.proofs.PaintedLists.{on_levels}
 use Rattle.cam_tiles.proofs.ShownItems.{leaves_are}
-use Rattle.cam_tiles.proofs.index.seen.Seen.blacken.Goals.{then-is_in_row+then-reaches+else-not-is_dark+else-is_black, else-is_in_row, else-is_in_row-via-then-is_in_row+else-reaches, else-is_in_row-via-else-is_in_row}
-use Rattle.cam_tiles.proofs.index.seen.Seen.blacken.Goals as goal
+use Rattle.cam_tiles.proofs.index.seen.Seen.paint_last_first.Goals.{then-is_in_row+then-reaches+else-not-is_dark+else-is_black, else-is_in_row, else-is_in_row-via-then-is_in_row+else-reaches, else-is_in_row-via-else-is_in_row}
+use Rattle.cam_tiles.proofs.index.seen.Seen.paint_last_first.Goals as goal
 
 -- the item that was found
 there : (o : Option Boxed) (b : Boxed) (boxed : List Boxed) (n : ℕ) → o ≡ Some b
@@ -42,6 +42,7 @@ pub loop-number-init : goal.loop-number-init
 loop-number-init c = record {
   seen = c.requires.seen;
   within = refl;
+  lists = c.boxes-boxes.ensures;
   found = omega arith;
   black = none_blackened c.args.swath.now c.requires.blank;
 }
@@ -55,8 +56,8 @@ is_dark-requires c =
     (one_boxed lists (c.args.tile / c.across.result) c.loop-number.number seen.boxed.items b found
     c.in_ok-item.ensures.seen.each).within
 
-pub paint_item-requires-clause-within : goal.paint_item-requires-clause-within
-paint_item-requires-clause-within c =
+pub paint_dark_item-requires-clause-within : goal.paint_dark_item-requires-clause-within
+paint_dark_item-requires-clause-within c =
     let seen = c.numbered.new.self in
     let lists = leaves_by_item c.args.shown.now in
     let b = c.in-Some.item in
@@ -81,14 +82,14 @@ returns-then-is_black-clause-painted c = λ on.
     let late = last_leaves lists (c.args.tile / wide) (take n seen.boxed.items) in
     let before = still lists (c.args.tile / wide) n c.loop-number.self seen old c.loop-number.swath
     c.loop-number.invariant.black c.loop-number.invariant.found c.in_ok-item.ensures.begun in
-    let painted_now = next_blackened old late (at lists b.place) c.loop-number.swath before c.paint_item.new.canvas
-    (c.is_dark.ensures (c.if-not-is_dark.false)) c.paint_item.ensures in
+    let painted_now = next_blackened old late (at lists b.place) c.loop-number.swath before c.paint_dark_item.new.swath
+    (c.is_dark.ensures (c.if-not-is_dark.false)) c.paint_dark_item.ensures.painted in
     let leaves : at lists b.place ++ late ≡ same (across w) =
     sym (one_in_row lists (c.args.tile / wide) n seen.boxed.items b found (sym c.is_in_row.ensures ∙ c.if-is_in_row.true))
     ∙ ap same c.across.ensures in
     let blackened : AreBlackened (same (across w)) old new =
     subst (AreBlackened (same (across w)) old) (sym c.is_black.ensures.kept)
-    (subst (λ (ls : List Leaf). AreBlackened ls old c.paint_item.new.canvas) leaves painted_now) in
+    (subst (λ (ls : List Leaf). AreBlackened ls old c.paint_dark_item.new.swath) leaves painted_now) in
     let within = c.in_ok-item.ensures.begun.within ∙ c.loop-number.invariant.within in
     let first = c.has_place.ensures.0 c.if-not-has_place.false in
     let last = c.has_place-else-not-has_place.ensures.0 c.if-not-has_place-2.false in
@@ -104,6 +105,37 @@ returns-then-is_black-clause-painted c = λ on.
           (place_in old column r) (c.bounds.ensures column r inside)),
       on_levels (levels_of (grid_of w c.args.tile)) old c.requires.rows column r inside,
     ) made))
+
+pub returns-in_default-2-clause-painted : goal.returns-in_default-2-clause-painted
+returns-in_default-2-clause-painted c = λ on.
+    let shown = c.args.shown.now in
+    let lists = leaves_by_item shown in
+    let w = c.args.window.now in
+    let seen = c.numbered.new.self in
+    let n = c.loop-number.number in
+    let wide = c.across.result in
+    let row : ℕ = c.args.tile / across w in
+    let old = c.args.swath.now in
+    let left : (seen.left ≡ 0) × (length seen.boxed.items ≤ n) =
+    subst (λ (o : Option Boxed). IfNone o ((seen.left ≡ 0) × (length seen.boxed.items ≤ n))) c.in_default-2.is
+    c.in_ok-item.ensures.none in
+    let before = still lists (c.args.tile / wide) n c.loop-number.self seen old c.loop-number.swath
+    c.loop-number.invariant.black c.loop-number.invariant.found c.in_ok-item.ensures.begun in
+    let same = λ (m : ℕ). last_leaves lists (c.args.tile / m) (take n seen.boxed.items) in
+    let found : AreBlackened (same (across w)) old c.loop-number.swath =
+    subst (λ (ls : List Leaf). AreBlackened ls old c.loop-number.swath) (ap same c.across.ensures) before in
+    let within = c.in_ok-item.ensures.begun.within ∙ c.loop-number.invariant.within in
+    let first = c.has_place.ensures.0 c.if-not-has_place.false in
+    let last = c.has_place-else-not-has_place.ensures.0 c.if-not-has_place-2.false in
+    subst (λ (leaves : List Leaf). PaintsSwath old leaves c.loop-number.swath) (leaves_are shown)
+    (all_shown old (same (across w)) (flat_map (λ those. those) lists) c.loop-number.swath found c.requires.blank
+    (λ column r inside.
+    all_by_last lists w seen c.in_ok-item.ensures.seen row n left.0 left.1 (place_in old column r) (
+      subst (λ (box : Bounds). Holds box (place_in old column r)) (sym within)
+          (corners_held c.args.self.now.within c.bounds.result c.in-Closed.low c.in-Closed.high c.in-Closed.is first last
+          (place_in old column r) (c.bounds.ensures column r inside)),
+      on_levels (levels_of (grid_of w c.args.tile)) old c.requires.rows column r inside,
+    )))
 
 pub loop-number-preserved : goal.loop-number-preserved
 loop-number-preserved c =
@@ -124,14 +156,19 @@ loop-number-preserved c =
     record {
       seen = c.in_ok-item.ensures.seen;
       within = c.in_ok-item.ensures.begun.within ∙ c.loop-number.invariant.within;
+      lists = elim c.if-is_in_row.branch [
+        | then-is_in_row+then-reaches+else-not-is_dark+else-is_black w ↦
+            ap lists_of w.boxes-is ∙ w.paint_dark_item.ensures.lists
+        | else-is_in_row w ↦ ap lists_of w.boxes-is ∙ c.loop-number.invariant.lists
+      ];
       found = omega (arith, slice_get_within seen.boxed.items n b found);
       black = elim c.if-is_in_row.branch [
         | then-is_in_row+then-reaches+else-not-is_dark+else-is_black w ↦
             subst IsNext (sym (w.swath-is ∙ w.is_black.ensures.kept))
-            (subst (λ (ls : List Leaf). AreBlackened ls old w.paint_item.new.canvas)
+            (subst (λ (ls : List Leaf). AreBlackened ls old w.paint_dark_item.new.swath)
             (sym (one (sym c.is_in_row.ensures ∙ w.if-is_in_row.true)))
-            (next_blackened old late (at lists b.place) now before w.paint_item.new.canvas
-            (w.is_dark.ensures w.if-not-is_dark.false) w.paint_item.ensures))
+            (next_blackened old late (at lists b.place) now before w.paint_dark_item.new.swath
+            (w.is_dark.ensures w.if-not-is_dark.false) w.paint_dark_item.ensures.painted))
         | else-is_in_row w ↦
             subst IsNext (sym w.swath-is)
             (elim w.else-is_in_row.branch [
