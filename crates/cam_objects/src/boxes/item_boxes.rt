@@ -103,7 +103,7 @@ impl<'a> ItemBoxes<'a> {
 
     /// The cells that the box of the item at a place of the list reaches, and how many leaves it has. Takes no memory.
     // Flashes and draws have a way of their own: of most items nothing is written to memory but the cells.
-    #[inline]
+    #[inline(always)]
     pub(crate) fn measure(&mut self, place: usize) -> Measure
         requires { place < length self.old.items.items }
         ensures value { (item : Item) → slice_get self.old.items.items place ≡ Some item

@@ -74,7 +74,7 @@ impl LastFrame {
     }
 
     /// Makes it that of a number that is turned so, which is looked up only where it is another one or turned otherwise.
-    #[inline]
+    #[inline(always)]
     fn go_to(&mut self, entries: &Dictionary, number: u32, turn: Turn)
         requires { IsLastFrameIn entries.now self.old }
         ensures last { IsLastFrameIn entries.now self.new }
@@ -87,7 +87,7 @@ impl LastFrame {
     }
 
     /// The cells that a flash reaches.
-    #[inline]
+    #[inline(always)]
     pub(crate) fn flash(
         &mut self,
         entries: &Dictionary,
@@ -108,7 +108,7 @@ impl LastFrame {
     }
 
     /// The cells that a draw reaches: what it draws with is as large as a flash of it.
-    #[inline]
+    #[inline(always)]
     pub(crate) fn draw(
         &mut self,
         entries: &Dictionary,

@@ -114,7 +114,7 @@ impl Frame {
 
     /// The cells between the corners.
     // One test of all four sides, and a shift of each: most of what the cells of an item take.
-    #[inline]
+    #[inline(always)]
     fn cells(&self) -> Reach
         requires { IsFrameWithin (2 ^ 36) self.now }
         ensures { IsReachOf (Closed (about_origin self.now.low) (about_origin self.now.high)) result }
@@ -132,7 +132,7 @@ impl Frame {
     }
 
     /// The cells that the box reaches where its low corner is moved by so many nm, and its high corner by so many.
-    #[inline]
+    #[inline(always)]
     pub(crate) fn reach(&self, low: Point, high: Point) -> Reach
         requires near { IsFrameWithin (2 ^ 35) self.now }
         requires low { IsOnBoard low }

@@ -59,7 +59,7 @@ impl<'a> BoxedItems for ItemBoxes<'a> {
         self.leaves()
     }
 
-    #[inline]
+    #[inline(always)]
     fn measure_at(&mut self, place: usize) -> Measure {
         self.measure(place)
     }
@@ -78,7 +78,7 @@ impl<'a> BoxedItems for DrillItemBoxes<'a> {
         self.leaves()
     }
 
-    #[inline]
+    #[inline(always)]
     fn measure_at(&mut self, place: usize) -> Measure {
         self.measure(place)
     }

@@ -125,7 +125,7 @@ impl<'a> DrillItemBoxes<'a> {
 
     /// The cells that the box of the item at a place of the list reaches, and how many holes and slots it has. Takes no
     /// memory.
-    #[inline]
+    #[inline(always)]
     pub(crate) fn measure(&mut self, place: usize) -> Measure
         requires { place < length self.old.items.items }
         ensures value { (item : DrillItem) → slice_get self.old.items.items place ≡ Some item

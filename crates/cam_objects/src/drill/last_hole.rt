@@ -52,7 +52,7 @@ impl LastHole {
     }
 
     /// Makes it that of a tool, which is looked up only where it is another one.
-    #[inline]
+    #[inline(always)]
     fn go_to(&mut self, layer: &DrillLayer, tool: u16)
         requires sound { IsSoundDrillLayer layer.now }
         requires last { IsLastHoleIn layer.now.tools self.old }
@@ -65,7 +65,7 @@ impl LastHole {
     }
 
     /// The cells that a hole of a tool reaches.
-    #[inline]
+    #[inline(always)]
     pub(crate) fn hit(&mut self, layer: &DrillLayer, tool: u16, at: Point) -> Reach
         requires sound { IsSoundDrillLayer layer.now }
         requires last { IsLastHoleIn layer.now.tools self.old }
