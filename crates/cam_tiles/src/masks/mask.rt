@@ -1,6 +1,6 @@
 //! A mask, and how it gains and loses marks.
 
-ghost use Rattle.std.specs.Prelude.{◌≡◌, ◌↔◌, ◌+◌, ◌*◌, ◌<◌, ◌≤◌, ℕ, IsTrue, length, true};
+ghost use Rattle.std.specs.Prelude.{◌≡◌, ◌↔◌, ◌+◌, ◌*◌, ◌<◌, ◌≤◌, ℕ, IsTrue, length, slice_index_or, true};
 ghost use Rattle.std.specs.Int.{IsBitSet};
 ghost use Rattle.cam_units.specs.Board.{IsOnBoard};
 ghost use Rattle.cam_units.specs.Boxes.{Holds};
@@ -278,5 +278,16 @@ impl Mask {
         ensures { Merges how other.now self.old self.new }
     {
         how.join_rows(&mut self.rows, &other.rows);
+    }
+}
+
+/// How many of some masks are of tiles before one, by what is kept of these; all of them behind the last one.
+pub(crate) fn masks_before(before: &[u32], tile: usize, masks: &[Mask]) -> usize
+    ensures { result ≡ slice_index_or before.now tile (length masks.now) }
+{
+    if tile < before.len() {
+        before[tile] as usize
+    } else {
+        masks.len()
     }
 }

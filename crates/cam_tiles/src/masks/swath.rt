@@ -1,6 +1,6 @@
 //! The tiles of a row of tiles that are drawn at once, as masks side by side.
 
-ghost use Rattle.std.specs.Prelude.{◌≡◌, ◌+◌, ◌<◌, ◌≤◌, ◌⊎◌, ℕ, ◌∷◌, [], OnOk, count_by, is_none, length, map, slice_index_or};
+ghost use Rattle.std.specs.Prelude.{◌≡◌, ◌+◌, ◌<◌, ◌≤◌, ◌⊎◌, ℕ, ◌∷◌, [], OnOk, count_by, is_none, length, map};
 ghost use Rattle.std.specs.Prelude.{pos, vec_capacity, ◌+ℤ◌, ◌*ℤ◌, ◌≤ℤ◌, ◌<ℤ◌, ℤ, Bool, IsTrue, true};
 ghost use Rattle.cam_units.specs.Boxes.{Holds};
 ghost use Rattle.cam_units.specs.declared.point.Spot.{Spot};
@@ -38,7 +38,7 @@ use crate::masks::figure_runs::FigureRuns;
 use crate::masks::figures::{Placed, paint_each, paint_figures, placed_of};
 use crate::masks::filing::FiledSegment;
 use crate::masks::heights::Heights;
-use crate::masks::mask::Mask;
+use crate::masks::mask::{Mask, masks_before};
 use crate::masks::solid::{are_black_in, are_solid, follow};
 use crate::masks::turning::{fill_marked, mark_inside};
 use crate::painter::Tile;
@@ -355,17 +355,6 @@ impl Pitch {
         }
         let tile = x.abs_diff(self.left) / self.stride.unsigned_abs();
         tile.min(tiles as u64) as usize
-    }
-}
-
-/// How many of some masks are of tiles before one, by what is kept of these; all of them behind the last one.
-fn masks_before(before: &[u32], tile: usize, masks: &[Mask]) -> usize
-    ensures { result ≡ slice_index_or before.now tile (length masks.now) }
-{
-    if tile < before.len() {
-        before[tile] as usize
-    } else {
-        masks.len()
     }
 }
 
