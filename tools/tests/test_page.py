@@ -20,7 +20,7 @@ import pages
 from boards import Picture
 from windows import Window
 
-WITHOUT = "no chromium is at hand, so the page is not tried"
+WITHOUT = "there is no browser: Debian's package chromium has one"
 
 
 def pbm(width: int, height: int, black) -> bytes:
