@@ -2,7 +2,8 @@
 
 import { latin1 } from "../bytes.js";
 import { disc, join } from "./box.js";
-import { Aperture, Item, Lacking, NotCanonical, Text, nm, whole } from "./text.js";
+import { Hit, Item } from "./items.js";
+import { Aperture, Lacking, NotCanonical, Text, nm, whole } from "./text.js";
 
 const DECIMAL = "(-?\\d+\\.\\d{6})";
 const TOOL = new RegExp(`^T(\\d+)C${DECIMAL}$`);
@@ -20,22 +21,17 @@ class Reader {
     this.isEnded = false;
   }
 
-  diameter() {
+  selected() {
     if (this.tool === null) throw new Lacking("no tool is selected");
     const tool = this.text.apertures.get(this.tool);
     if (!tool) throw new Lacking("no tool of this number");
-    return tool.width;
-  }
-
-  hit(x, y) {
-    const diameter = this.diameter();
-    this.text.items.push(new Item("hit", `hit ${this.tool} ${x} ${y}`, `diameter ${diameter}`, disc(x, y, diameter)));
+    return tool;
   }
 
   endRout() {
     const points = this.rout;
     if (!points || !this.isLowered) throw new Lacking("no rout is open");
-    const diameter = this.diameter();
+    const diameter = this.selected().width;
     const words = `rout ${this.tool} ${points.map(([x, y]) => `${x} ${y}`).join(" ")}`;
     const size = `diameter ${diameter}, ${pathLength(points)} long`;
     this.text.items.push(new Item("rout", words, size, join(points.map(([x, y]) => disc(x, y, diameter)))));
@@ -50,7 +46,7 @@ class Reader {
       if (!this.rout || !this.isLowered) throw new Lacking("the tool is up");
       this.rout.push([x, y]);
     } else {
-      this.hit(x, y);
+      this.text.items.push(new Hit(this.tool, this.selected(), x, y));
     }
   }
 
@@ -72,7 +68,7 @@ class Reader {
       this.place(place[1], nm(place[2]), nm(place[3]));
     } else if (select) {
       this.tool = whole(select[1]);
-      this.diameter();
+      this.selected();
     } else if (line === "M15" && this.rout) {
       this.isLowered = true;
     } else if (line === "M16") {

@@ -3,7 +3,8 @@
 import { latin1 } from "../bytes.js";
 import { Box, arcBox, half, join } from "./box.js";
 import { apertureOf, macroOf } from "./gerber_definitions.js";
-import { Aperture, Item, Lacking, NotCanonical, Text, countOf, distance, nm, whole } from "./text.js";
+import { Draw, Flash, Item } from "./items.js";
+import { Aperture, Lacking, NotCanonical, Text, countOf, distance, nm, whole } from "./text.js";
 
 const COMMAND = /[ \t\r\n]*(?:%([^%]*)%|([^*%]*)\*)/y;
 const BLOCK = /^ABD(\d+)\*$/;
@@ -161,17 +162,13 @@ class Reader {
   }
 
   flash([x, y]) {
-    const aperture = this.selected(), turn = this.mirror + this.turn;
-    const box = aperture.box && aperture.box.turned(turn).moved(x, y);
-    this.keep(new Item("flash", `flash ${this.aperture} ${x} ${y} ${turn} ${this.polarity}`, aperture.size, box));
+    const aperture = this.selected();
+    this.keep(new Flash(this.aperture, aperture, this.mirror + this.turn, this.polarity, x, y));
   }
 
   draw(start, end) {
-    const aperture = this.selected(), turn = this.mirror + this.turn;
-    const tip = aperture.box && aperture.box.turned(turn);
-    const box = tip && tip.moved(start[0], start[1]).joined(tip.moved(end[0], end[1]));
-    const words = `draw ${this.aperture} ${start[0]} ${start[1]} ${end[0]} ${end[1]} ${turn} ${this.polarity}`;
-    this.keep(new Item("draw", words, `${aperture.size}, ${distance(start, end)} long`, box));
+    const aperture = this.selected();
+    this.keep(new Draw(this.aperture, aperture, this.mirror + this.turn, this.polarity, start, end));
   }
 
   arcWord() {

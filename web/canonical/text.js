@@ -21,26 +21,6 @@ export class NotCanonical extends Error {
 /** What a line or a command lacks; a reader adds the place of it. */
 export class Lacking extends Error {}
 
-/** An item of a layer. */
-export class Item {
-  /**
-   * @param {string} kind one of KINDS
-   * @param {string} words as `insert` takes them; of a repeat, what it is
-   * @param {string} size what is to be known of its size, in words
-   * @param {import("./box.js").Box | null} box of what it paints
-   * @param {Item[]} objects of a repeat
-   */
-  constructor(kind, words, size, box, objects = NO_OBJECTS) {
-    this.kind = kind;
-    this.words = words;
-    this.size = size;
-    this.box = box;
-    this.objects = objects;
-  }
-}
-
-const NO_OBJECTS = Object.freeze([]);
-
 /** What a flash takes from the dictionary: the size in words, the box about (0, 0), and the pen's width. */
 export class Aperture {
   constructor(size, box, width = 0) {
@@ -57,7 +37,7 @@ export class Text {
     this.isDrill = isDrill;
     /** @type {Map<number, Aperture>} */
     this.apertures = new Map();
-    /** @type {Item[]} */
+    /** @type {import("./items.js").Item[]} */
     this.items = [];
   }
 
