@@ -4,14 +4,15 @@
 // before and behind the point, and which zeros are left out. Each is taken from the first of these that tells it: an
 // option; the file; a report; the coordinates. The digits are assumed where nothing tells them, the unit never is.
 
-import { hasByteOrderMark, latin1, latin1Bytes } from "../../bytes.js";
+import { hasByteOrderMark, latin1 } from "../../bytes.js";
 import { Changes, Failure, Unsaid, toldChanges } from "../report.js";
 import { Form } from "./form.js";
 import { Hints, reportHints } from "./hints.js";
-import { lengthText, micrometres, sizeOf } from "./lengths.js";
+import { micrometres, sizeOf } from "./lengths.js";
 import { hintsIn, linesOf } from "./lines.js";
 import { Reader } from "./reader.js";
-import { allowedDiameter, declarationText, unitLine } from "./tools.js";
+import { allowedDiameter } from "./tools.js";
+import { xncBytes } from "./write.js";
 
 /**
  * What is known beside the file; all may be missing.
@@ -68,36 +69,6 @@ function givenTools(tools, unit) {
   return given;
 }
 
-function pointText({ x, y }) {
-  return `X${lengthText(x)}Y${lengthText(y)}`;
-}
-
-function xncText(header, drilling) {
-  const lines = ["M48", unitLine(drilling.unit)];
-  for (const entry of header) {
-    lines.push(typeof entry === "string" ? entry : declarationText(entry, drilling.tools.get(entry)));
-  }
-  lines.push("%", "G05");
-  let tool = null, drills = true;
-  for (const item of drilling.items) {
-    if (item.tool !== tool) {
-      tool = item.tool;
-      lines.push(`T${tool}`);
-    }
-    if (item.points) {
-      lines.push(`G00${pointText(item.points[0])}`, "M15");
-      for (const point of item.points.slice(1)) lines.push(`G01${pointText(point)}`);
-      lines.push("M16");
-    } else {
-      if (!drills) lines.push("G05");
-      lines.push(pointText(item));
-    }
-    drills = !item.points;
-  }
-  lines.push("M30", "");
-  return lines.join("\n");
-}
-
 // What the text that is to be written does: read with points alone, and nothing given.
 function readBack(bytes, unit) {
   const reader = new Reader(unit, null, null, new Map(), new Map());
@@ -106,27 +77,18 @@ function readBack(bytes, unit) {
   return reader.drilling;
 }
 
-function spanText({ unit, items }) {
-  const least = { x: Infinity, y: Infinity }, most = { x: -Infinity, y: -Infinity };
-  const take = (point) => {
-    for (const axis of ["x", "y"]) {
-      if (point[axis] < least[axis]) least[axis] = point[axis];
-      if (point[axis] > most[axis]) most[axis] = point[axis];
-    }
-  };
-  for (const item of items) {
-    if (item.points) item.points.forEach(take);
-    else take(item);
+function rangeText(values, unit) {
+  let least = Infinity, most = -Infinity;
+  for (const value of values) {
+    if (value < least) least = value;
+    if (value > most) most = value;
   }
-  const spans = ["x", "y"].map((axis) => {
-    return `${axis.toUpperCase()} ${micrometres(least[axis], unit)} to ${micrometres(most[axis], unit)}`;
-  });
-  return `centres: ${spans.join(", ")} mm`;
+  return `${micrometres(least, unit)} to ${micrometres(most, unit)}`;
 }
 
 function looksOf(read, hints) {
   const counts = new Map();
-  for (const { tool } of read.items) counts.set(tool, (counts.get(tool) ?? 0) + 1);
+  for (const tool of read.itemTools) counts.set(tool, (counts.get(tool) ?? 0) + 1);
   return [...hints.tools].sort(([one], [other]) => one - other)
     .filter(([number, told]) => told.count !== null && told.count !== (counts.get(number) ?? 0))
     .map(([number, told]) => {
@@ -135,15 +97,16 @@ function looksOf(read, hints) {
 }
 
 function accountOf(reader, changes, again, form, hints) {
-  const read = reader.drilling, routs = read.routs(), others = again.routs();
-  const slots = reader.slots ? `${routs} (${reader.slots} by G85, ${routs - reader.slots} by M15)` : `${routs}`;
+  const { drilling: read, slots: byG85 } = reader;
+  const slots = byG85 ? `${read.routs} (${byG85} by G85, ${read.routs - byG85} by M15)` : `${read.routs}`;
+  const spans = () => `centres: X ${rangeText(read.xs, read.unit)}, Y ${rangeText(read.ys, read.unit)} mm`;
   return [
     ...form.told(),
     ...toldChanges(changes),
-    `tools: ${read.tools.size} read, ${again.tools.size} written`,
-    `hits: ${read.items.length - routs} read, ${again.items.length - others} written`,
-    `slots: ${slots} read, ${others} written`,
-    ...(read.items.length ? [spanText(read)] : []),
+    `tools: ${read.diameters.size} read, ${again.diameters.size} written`,
+    `hits: ${read.hits} read, ${again.hits} written`,
+    `slots: ${slots} read, ${again.routs} written`,
+    ...(read.xs.length ? [spans()] : []),
     ...looksOf(read, hints),
   ];
 }
@@ -170,7 +133,7 @@ export function convertDrill(bytes, options = {}) {
   }
   let form = null;
   try {
-    form = new Form(options, hints, lines);
+    form = new Form(options, hints, lines.codes);
     refusals.push(...form.refusals());
   } catch (fault) {
     if (!(fault instanceof Unsaid)) throw fault;
@@ -180,10 +143,10 @@ export function convertDrill(bytes, options = {}) {
   const unit = form.unit.value, given = givenTools(options.tools ?? [], unit);
   const reader = new Reader(unit, form.digits?.value ?? null, form.zeros?.value ?? null, given, hints.tools);
   reader.read(lines);
-  const missing = [...given.keys()].sort((one, other) => one - other).find((number) => !reader.drilling.tools.has(number));
+  const missing = [...given.keys()].sort((one, other) => one - other).find((number) => !reader.drilling.diameters.has(number));
   if (missing !== undefined) throw new Failure(`--tool ${missing}: the file has no tool of this number`);
   if (reader.refusals.length) return refused(reader.refusals);
-  const made = latin1Bytes(xncText(reader.header, reader.drilling));
+  const made = xncBytes(reader.header, reader.drilling);
   const again = readBack(made, unit);
   if (!again.isSame(reader.drilling)) throw new Error("the text that was made does something else");
   const all = [...changes.list, ...reader.changes.list];

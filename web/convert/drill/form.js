@@ -41,22 +41,40 @@ function settled(kind, chosen, told, option) {
  * @typedef {{digits: string, line: number}} Pointless
  */
 
-const POINTLESS = /[XY][+-]?(\d+)(?![\d.])/g;
 const CODED = /^(?:[NTGM]\d|[XY][\d.+-])/;
 
-/**
- * The coordinates without a point that are not 0, of lines that begin with a code and not with a word.
- * @param {import("./lines.js").Line[]} lines
- * @returns {Pointless[]}
- */
-function pointlessIn(lines) {
-  const found = [];
-  for (const { code, number } of lines) {
+// Calls `each(code, start, end, line)` with each run of digits that is a coordinate without a point and is not 0, of lines
+// that begin with a code and not with a word.
+function forEachPointless(codes, each) {
+  for (let line = 0; line < codes.length; line++) {
+    const code = codes[line];
     if (!CODED.test(code)) continue;
-    for (const [, digits] of code.matchAll(POINTLESS)) {
-      if (/[1-9]/.test(digits)) found.push({ digits, line: number });
+    for (let at = 0; at < code.length; at++) {
+      if (code.charCodeAt(at) !== 88 && code.charCodeAt(at) !== 89) continue;
+      const sign = code.charCodeAt(at + 1);
+      const start = sign === 43 || sign === 45 ? at + 2 : at + 1;
+      let end = start, isZero = true, next = code.charCodeAt(end);
+      for (; next >= 48 && next <= 57; next = code.charCodeAt(++end)) isZero &&= next === 48;
+      if (!isZero && next !== 46) each(code, start, end, line + 1);
+      at = end - 1;
     }
   }
+}
+
+/**
+ * The coordinates without a point that are not 0. They differ in what they tell of digits and zeros by their lengths and
+ * by the zeros at their ends alone: the first of each such sort, in the file's order.
+ * @param {string[]} codes
+ * @returns {Pointless[]}
+ */
+function pointlessIn(codes) {
+  const found = [], seen = new Set();
+  forEachPointless(codes, (code, start, end, line) => {
+    const key = 4 * (end - start) + (code.charCodeAt(start) === 48 ? 2 : 0) + (code.charCodeAt(end - 1) === 48 ? 1 : 0);
+    if (seen.has(key)) return;
+    seen.add(key);
+    found.push({ digits: code.slice(start, end), line });
+  });
   return found;
 }
 
@@ -84,11 +102,11 @@ function zerosThatFit(numbers, digits) {
     + "--zeros trailing, for those that are written");
 }
 
-// Whether a coordinate can stand in this form; with trailing zeros the board's limit judges instead.
-function fits(number, { whole, decimals }, zeros) {
+// Whether a coordinate of so many digits can stand in this form; with trailing zeros the board's limit judges instead.
+function fits(length, { whole, decimals }, zeros) {
   const all = whole + decimals;
-  if (zeros === BOTH) return number.digits.length === all;
-  return zeros === TRAILING || number.digits.length <= all;
+  if (zeros === BOTH) return length === all;
+  return zeros === TRAILING || length <= all;
 }
 
 const LENGTH = /[XYT]\d|[XY][+\-.]/;
@@ -98,12 +116,13 @@ export class Form {
   /**
    * @param {{unit?: string | null, digits?: import("./lengths.js").Digits | null, zeros?: string | null}} options
    * @param {import("./hints.js").Hints} hints
-   * @param {import("./lines.js").Line[]} lines
+   * @param {string[]} codes the lines
    * @throws {Unsaid} where the unit or the zeros are not told, or something is told in two ways
    */
-  constructor(options, hints, lines) {
-    this.numbers = pointlessIn(lines);
-    this.unit = settled("unit", options.unit, hints.units, "--unit") ?? this.unitOfNothing(lines);
+  constructor(options, hints, codes) {
+    this.codes = codes;
+    this.numbers = pointlessIn(codes);
+    this.unit = settled("unit", options.unit, hints.units, "--unit") ?? this.unitOfNothing();
     this.digits = this.zeros = null;
     if (this.numbers.length) {
       this.digits = settled("number of digits", options.digits, hints.digits, "--digits")
@@ -113,8 +132,8 @@ export class Form {
     }
   }
 
-  unitOfNothing(lines) {
-    if (this.numbers.length || lines.some(({ code }) => LENGTH.test(code))) {
+  unitOfNothing() {
+    if (this.numbers.length || this.codes.some((code) => LENGTH.test(code))) {
       throw new Unsaid("the unit is not told: give --unit mm or --unit inch");
     }
     return { value: MM, source: "the file has no length" };
@@ -122,12 +141,16 @@ export class Form {
 
   /** The coordinates that have more digits, or fewer, than the form allows. */
   refusals() {
-    if (!this.numbers.length) return [];
+    const refusals = [];
+    if (!this.numbers.length) return refusals;
     const digits = this.digits.value, zeros = this.zeros.value;
-    return this.numbers.filter((number) => !fits(number, digits, zeros)).map((number) => ({
-      line: number.line,
-      what: `${number.digits} does not fit ${digitsText(digits)} digits: give others by --digits`,
-    }));
+    if (this.numbers.every((number) => fits(number.digits.length, digits, zeros))) return refusals;
+    forEachPointless(this.codes, (code, start, end, line) => {
+      if (fits(end - start, digits, zeros)) return;
+      const what = `${code.slice(start, end)} does not fit ${digitsText(digits)} digits: give others by --digits`;
+      refusals.push({ line, what });
+    });
+    return refusals;
   }
 
   /** What is told of the form, line by line. */

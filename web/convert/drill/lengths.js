@@ -76,32 +76,30 @@ export function lengthOf(text, digits, zeros) {
 }
 
 /**
- * A function that gives the length of a coordinate's text, as `lengthOf` does, fast for those of few digits.
+ * A function that gives the length of a coordinate that stands in a line from one place to before another, as `lengthOf`
+ * does, where it has few digits and no sign but `-`; else NaN.
  * @param {Digits | null} digits
  * @param {string | null} zeros
- * @returns {(text: string) => number}
+ * @returns {(line: string, from: number, to: number) => number}
  */
-export function lengthReader(digits, zeros) {
-  const slow = (text) => lengthOf(text, digits, zeros);
-  return (text) => {
-    const start = text.charCodeAt(0) === 45 ? 1 : 0;
-    const length = text.length - start;
-    if (length === 0 || length > 12) return slow(text);
+export function quickReader(digits, zeros) {
+  const places = digits && zeros && zeros !== LEADING ? digits.decimals : -1;
+  const whole = digits && zeros === LEADING ? digits.whole : NaN;
+  return (line, from, to) => {
+    const isNegative = line.charCodeAt(from) === 45;
+    const start = isNegative ? from + 1 : from;
     let value = 0, point = -1;
-    for (let at = start; at < text.length; at++) {
-      const code = text.charCodeAt(at);
+    if (to - start < 1 || to - start > 12) return NaN;
+    for (let at = start; at < to; at++) {
+      const code = line.charCodeAt(at);
       if (code >= 48 && code <= 57) value = value * 10 + code - 48;
       else if (code === 46 && point < 0) point = at;
-      else return slow(text);
+      else return NaN;
     }
-    if (value === 0) return length === 1 && point >= 0 ? slow(text) : 0;
-    let decimals;
-    if (point >= 0) decimals = text.length - 1 - point;
-    else if (zeros === LEADING) decimals = digits ? length - digits.whole : -1;
-    else decimals = digits && zeros ? digits.decimals : -1;
-    if (decimals < 0 || decimals > MOST_DECIMALS || value >= 1e6 * POWERS[decimals]) return slow(text);
-    value *= POWERS[MOST_DECIMALS - decimals];
-    return start ? -value : value;
+    if (value === 0) return point >= 0 && to - start === 1 ? NaN : 0;
+    const decimals = point >= 0 ? to - 1 - point : zeros === LEADING ? to - start - whole : places;
+    if (!(decimals >= 0 && decimals <= MOST_DECIMALS) || value >= 1e6 * POWERS[decimals]) return NaN;
+    return value * (isNegative ? -POWERS[MOST_DECIMALS - decimals] : POWERS[MOST_DECIMALS - decimals]);
   };
 }
 

@@ -1,9 +1,10 @@
 // An Excellon drill file line by line: what it drills, and what in it cannot be written in XNC.
 
 import { Changes, Unsaid } from "../report.js";
+import { Drilling } from "./drilling.js";
 import { tellsForm, unitHints } from "./hints.js";
-import { decimalOf, inMm, lengthReader } from "./lengths.js";
-import { Drilling, numberForZero } from "./lines.js";
+import { ONE, decimalOf, inMm, lengthOf, quickReader } from "./lengths.js";
+import { numberForZero } from "./lines.js";
 import { FEEDS, diameterOf, toolNumber, unitLine } from "./tools.js";
 import { isNeutralCode, isNeutralWord, whyNotCode, whyNotLetter, whyNotWord } from "./words.js";
 
@@ -12,7 +13,6 @@ const BOARD_MM = 1000;
 const NUMBER = "[+-]?(?:[0-9]+(?:\\.[0-9]*)?|\\.[0-9]*)?";
 const CODE = new RegExp(`([A-Z])(${NUMBER})`, "g");
 const CODES = new RegExp(`^(?:[A-Z]${NUMBER})+$`);
-const PLAIN = new RegExp(`^X(?!Y)(${NUMBER})Y(${NUMBER})$`);
 const LENGTH = /[XYT]\d|[XY][+\-.]/;
 
 // Coordinates are hits, or the tool goes to a rout's start, or cuts one.
@@ -33,7 +33,9 @@ export class Reader {
     this.drilling = new Drilling(unit);
     this.digits = digits;
     this.zeros = zeros;
-    this.length = lengthReader(digits, zeros);
+    this.quick = quickReader(digits, zeros);
+    // Lengths below this are on the board in any case.
+    this.near = inMm(ONE, unit) > 1 ? 39 * ONE : 999 * ONE;
     this.given = given;
     this.told = told;
     /** @type {import("../report.js").Refusal[]} */
@@ -56,16 +58,17 @@ export class Reader {
     this.line = 0;
   }
 
-  /** Reads all lines. @param {import("./lines.js").Line[]} lines */
+  /** Reads all lines. @param {import("./lines.js").Lines} lines */
   read(lines) {
+    const { codes, comments } = lines;
     this.toolZero = numberForZero(lines);
-    for (const line of lines) {
-      this.line = line.number;
+    for (let at = 0; at < codes.length; at++) {
+      this.line = at + 1;
       try {
-        this.readLine(line);
+        this.readLine(codes[at], comments.get(at + 1));
       } catch (fault) {
         if (!(fault instanceof Unsaid)) throw fault;
-        this.refusals.push({ line: line.number, what: fault.message });
+        this.refusals.push({ line: this.line, what: fault.message });
       }
     }
     if (!this.ended) {
@@ -78,23 +81,32 @@ export class Reader {
     this.changes.add(what, this.line);
   }
 
-  readLine({ code, comment }) {
+  readLine(code, comment) {
     if (this.ended) {
       if (LENGTH.test(code)) {
         throw new Unsaid(`${code.slice(0, 40)} stands behind the end on line ${this.ended}: cut the file there, or take `
           + "the end out");
       }
-    } else if (code) {
-      const plain = PLAIN.exec(code);
-      if (plain && this.height === DRILLING) this.hit(this.coordinate(plain[1]), this.coordinate(plain[2]));
-      else this.readCode(code);
+    } else if (code && !this.isPlainHit(code)) {
+      this.readCode(code);
     }
-    if (comment !== null) this.keepComment(comment);
+    if (comment !== undefined) this.keepComment(comment);
+  }
+
+  // Reads a line of an X and a Y that makes a hit, as most are; tells whether it was one.
+  isPlainHit(code) {
+    if (code.charCodeAt(0) !== 88 || this.height !== DRILLING || this.tool === null) return false;
+    const at = code.indexOf("Y", 1);
+    if (at < 0) return false;
+    const x = this.quick(code, 1, at), y = this.quick(code, at + 1, code.length);
+    if (!(Math.abs(x) < this.near && Math.abs(y) < this.near)) return false;
+    this.hit(x, y);
+    return true;
   }
 
   keepComment(comment) {
     if (tellsForm(comment)) this.change("the comment on digits and zeros is left out");
-    else if (this.isInHeader || !(this.hasHeader || this.drilling.items.length)) this.header.push(`;${comment}`);
+    else if (this.isInHeader || !(this.hasHeader || this.drilling.itemTools.length)) this.header.push(`;${comment}`);
     else this.change("the comment behind the header is left out");
   }
 
@@ -191,7 +203,7 @@ export class Reader {
     this.hasCut = true;
     if (rest.length) {
       this.goTo(rest);
-      this.rout.push({ x: this.x, y: this.y });
+      this.rout.push([this.x, this.y]);
     }
   }
 
@@ -201,7 +213,7 @@ export class Reader {
     this.needTool();
     this.height = LOWERED;
     this.hasCut = false;
-    this.rout = [{ x: this.x, y: this.y }];
+    this.rout = [[this.x, this.y]];
   }
 
   raise(number) {
@@ -210,7 +222,7 @@ export class Reader {
       return;
     }
     if (number === 17) this.change("M17 is written as M16");
-    this.drilling.items.push({ tool: this.tool, points: this.rout });
+    this.drilling.rout(this.tool, this.rout);
     this.height = RAISED;
   }
 
@@ -231,11 +243,11 @@ export class Reader {
         return;
       }
       this.goTo(codes.slice(0, half));
-      const start = { x: this.x, y: this.y };
+      const start = [this.x, this.y];
       this.goTo(codes.slice(half + 1));
       this.needTool();
       this.slots++;
-      this.drilling.items.push({ tool: this.tool, points: [start, { x: this.x, y: this.y }] });
+      this.drilling.rout(this.tool, [start, [this.x, this.y]]);
     } else if (this.height === LOWERED && this.hasCut && half < 0) {
       this.cutTo(codes);
     } else {
@@ -247,7 +259,7 @@ export class Reader {
     this.x = x;
     this.y = y;
     this.needTool();
-    this.drilling.items.push({ tool: this.tool, x, y });
+    this.drilling.hit(this.tool, x, y);
   }
 
   // Goes to the point of X and Y; what is missing is as it was last.
@@ -263,6 +275,10 @@ export class Reader {
     const y = texts.has("Y") ? this.coordinate(texts.get("Y")) : this.y;
     this.x = x;
     this.y = y;
+  }
+
+  length(text) {
+    return lengthOf(text, this.digits, this.zeros);
   }
 
   coordinate(text) {
@@ -292,7 +308,7 @@ export class Reader {
       this.raisedOnly("a change of tool");
       this.tool = number || null;
     }
-    if (number && (this.isInHeader || sizes.has("C") || !this.drilling.tools.has(number))) {
+    if (number && (this.isInHeader || sizes.has("C") || !this.drilling.diameters.has(number))) {
       this.declare(number, sizes.get("C"));
     }
     if (places.length === 1 && places[0][0] === "M" && Number(places[0][1]) === 6) {
@@ -303,10 +319,10 @@ export class Reader {
   }
 
   declare(number, size) {
-    const { tools, unit } = this.drilling;
+    const { diameters, unit } = this.drilling;
     // A tool without a diameter is told once.
-    const before = tools.get(number);
-    if (before === undefined) tools.set(number, 0);
+    const before = diameters.get(number);
+    if (before === undefined) diameters.set(number, 0);
     let diameter = this.given.get(number);
     if (diameter === undefined) {
       const found = diameterOf(number, size, this.told.get(number), unit);
@@ -321,7 +337,7 @@ export class Reader {
       this.header.push(number);
       if (!this.isInHeader) this.change("tools are declared in the header");
     }
-    tools.set(number, diameter);
+    diameters.set(number, diameter);
   }
 }
 
