@@ -41,16 +41,23 @@ function settled(kind, chosen, told, option) {
  * @typedef {{digits: string, line: number}} Pointless
  */
 
-const CODED = /^(?:[NTGM]\d|[XY][\d.+-])/;
+// Whether a line begins with a code and not with a word.
+function isCoded(code) {
+  const first = code.charCodeAt(0), second = code.charCodeAt(1);
+  const isDigit = second >= 48 && second <= 57;
+  if (first === 88 || first === 89) return isDigit || second === 46 || second === 43 || second === 45;
+  return isDigit && (first === 71 || first === 77 || first === 78 || first === 84);
+}
 
 // Calls `each(code, start, end, line)` with each run of digits that is a coordinate without a point and is not 0, of lines
 // that begin with a code and not with a word.
 function forEachPointless(codes, each) {
   for (let line = 0; line < codes.length; line++) {
     const code = codes[line];
-    if (!CODED.test(code)) continue;
+    if (!isCoded(code)) continue;
     for (let at = 0; at < code.length; at++) {
-      if (code.charCodeAt(at) !== 88 && code.charCodeAt(at) !== 89) continue;
+      const letter = code.charCodeAt(at);
+      if (letter !== 88 && letter !== 89) continue;
       const sign = code.charCodeAt(at + 1);
       const start = sign === 43 || sign === 45 ? at + 2 : at + 1;
       let end = start, isZero = true, next = code.charCodeAt(end);

@@ -1,6 +1,5 @@
 // The text of an XNC file.
 
-import { latin1Bytes } from "../../bytes.js";
 import { ONE } from "./lengths.js";
 import { declarationText, unitLine } from "./tools.js";
 
@@ -24,8 +23,7 @@ class Bytes {
 
   text(text) {
     this.reserve(text.length);
-    this.bytes.set(latin1Bytes(text), this.length);
-    this.length += text.length;
+    for (let at = 0; at < text.length; at++) this.bytes[this.length++] = text.charCodeAt(at);
   }
 
   line(text) {
