@@ -11,7 +11,7 @@ import { afterwards, skip } from "../../tools/tests/harness.js";
 export const REPOSITORY = dirname(dirname(dirname(fileURLToPath(import.meta.url))));
 export const EXAMPLES = join(REPOSITORY, "examples");
 
-const MODULE = process.env.STATION_MODULE ?? join(REPOSITORY, "web", "out", "station.wasm");
+export const MODULE = process.env.STATION_MODULE ?? join(REPOSITORY, "web", "out", "station.wasm");
 
 export function room() {
   const folder = mkdtempSync(join(tmpdir(), "camplot-page-"));
