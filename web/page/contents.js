@@ -8,9 +8,10 @@ export async function unpacked(text) {
   return new Uint8Array(await new Response(stream).arrayBuffer());
 }
 
-// The page's contents, { title, files: [{ name, bytes }] }; null where there are none.
+// The page's contents, { title, id, files: [{ name, bytes }] }; null where there are none.
 export async function contentsOf(text) {
-  const { title, files = [] } = JSON.parse(text || "{}");
-  if (!title) return null;
-  return { title, files: await Promise.all(files.map(async ({ name, packed }) => ({ name, bytes: await unpacked(packed) }))) };
+  const contents = JSON.parse(text);
+  if (!contents) return null;
+  const { title, id, files } = contents;
+  return { title, id, files: await Promise.all(files.map(async ({ name, packed }) => ({ name, bytes: await unpacked(packed) }))) };
 }

@@ -63,10 +63,21 @@ export async function boxOfAll(layers) {
   return joined(boxes);
 }
 
-// The entries of a layer: number and definition.
+// The entries of a layer: number and definition. They are asked for again when a line may have changed them.
 const entriesOf = new Map();
+const lists = new Map();
+const CHANGING = new Set(["diameter", "undo", "redo", "abort", "load"]);
+
+export function entriesMayChange(line) {
+  if (CHANGING.has(/\S+/.exec(line)?.[0])) lists.clear();
+}
 
 export async function entries(name) {
+  if (!lists.has(name)) lists.set(name, await askedEntries(name));
+  return lists.get(name);
+}
+
+async function askedEntries(name) {
   const lines = await question(`entries ${name}`) ?? [];
   const found = lines.map((line) => {
     const at = line.indexOf(" ");

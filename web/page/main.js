@@ -4,7 +4,7 @@ import { DEPTH, keepIn, listenToLine, plotView, replay, run, steps, told } from 
 import { act, listenToButtons, listenToKeys, showKeys } from "./actions.js";
 import { activeBy, listenToLayers, makeActive, showAll, showOnly, toggleActive } from "./layer_panel.js";
 import { ask, byId, element, tell } from "./dom.js";
-import { boxOfAll, describeBy, loaded, refresh, widthOf } from "./documents.js";
+import { boxOfAll, describeBy, entriesMayChange, loaded, refresh, widthOf } from "./documents.js";
 import { changed, on, state } from "./state.js";
 import { chooseTool, endMaking, escape, listenToPointer, pointUnder, pointer, showPicked } from "./pointer.js";
 import { compare, leave, listenToHistory } from "./history_panel.js";
@@ -193,11 +193,12 @@ async function start() {
   await openStation(await unpacked(byId("module").textContent), DEPTH);
   const contents = await contentsOf(byId("contents").textContent.trim());
   if (contents?.title) document.title = byId("title").textContent = contents.title;
-  journal = await Journal.open(contents?.title ?? "");
+  journal = await Journal.open(contents?.id ?? "");
   if (journal.why) tell(journal.why, true);
   const showUnsaved = listenToLeaving();
   on("document", async () => {
     for (const { line, path } of told.slice(-1)) if (path) loaded(line);
+    told.slice(-2).forEach(({ line }) => entriesMayChange(line));
     await refresh();
     showUnsaved();
     if (journal.why) tell(journal.why, true);

@@ -7,6 +7,7 @@ import { join } from "node:path";
 import { EXAMPLES, builtPage, filesOf, gerber, give, lines, onPage, openPage, program, room, run, runProgram, savedFile,
   settle, text, written } from "./support.js";
 import { Browser } from "./browser.js";
+import { withContents } from "../building/contents.js";
 import { afterwards, suite, test } from "../../tools/tests/harness.js";
 
 const CTRL = 2, SHIFT = 8;
@@ -351,6 +352,18 @@ suite("files", () => {
     await browser.ask("document.body.append(Object.assign(document.createElement('script'), { textContent: 'window.ran = 1' }))");
     await browser.ask("document.body.insertAdjacentHTML('beforeend', '<img src=\"data:image/gif;base64,R0lGODlhAQABAAAAACw=\" onerror=\"window.ran = 2\">')");
     assert.equal(await browser.ask("window.ran === undefined"), true);
+  });
+});
+
+suite("a page with files inside", () => {
+  test("opens them, and keeps its work apart", async () => {
+    const path = join(room(), "board.html");
+    writeFileSync(path, withContents(readFileSync(builtPage(), "utf8"), "a <b>board</b>", kicad()));
+    const browser = await openPage({ page: path });
+    await settle(browser);
+    assert.equal(await browser.ask("camplot.state.layers.length"), 8);
+    assert.equal(await text(browser, "title"), "a <b>board</b>");
+    assert.deepEqual(browser.complaints(), []);
   });
 });
 

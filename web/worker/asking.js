@@ -14,8 +14,10 @@ export class Questions {
     this.kept = new Map();
   }
 
-  forget() {
-    this.kept.clear();
+  // A line was accepted: what it may have changed is read again when it is asked for.
+  forget(command, name) {
+    if (["undo", "redo", "abort"].includes(command)) this.kept.clear();
+    else this.kept.delete(name);
   }
 
   // The number of the refusal, or 0, and the answer's text.

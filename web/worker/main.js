@@ -53,7 +53,7 @@ function line({ line: given, file, isSilent }) {
   if (code === 0 && command === "window") drawing.windowed(given);
   if (code === 0 && command === "load") layers.set(rest[0], Number(reply.split(" ")[1]));
   if (code === 0 && !isSilent) {
-    questions.forget();
+    questions.forget(command, rest[0]);
     drawing.refresh();
     goOn();
   }
