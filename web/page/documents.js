@@ -14,7 +14,6 @@ export function loaded(line) {
   const [, name, kind] = line.trim().split(/\s+/);
   if (!layerOf(name)) state.layers.push({ items: 0, entries: 0, ...described(name, kind) });
   state.layers.sort((one, other) => one.height - other.height);
-  state.active ??= name;
 }
 
 // The numbers of the replies to `list`.
@@ -34,6 +33,7 @@ export async function refresh() {
     const [items, entries] = await listed(`list ${layer.name}`) ?? [0, 0];
     Object.assign(layer, { items, entries });
   }
+  state.active ??= (layerOf("top") ?? state.layers[state.layers.length - 1])?.name ?? null;
   state.picked = await itemsAt(state.picked.map(({ name, place }) => ({ name, place })));
   await changed("layers");
   await changed("picked");

@@ -61,6 +61,7 @@ export async function openFiles(files, areNamed = true) {
     else refused.push({ name, layer, reply });
   }
   state.isOpening = false;
+  if (wasEmpty && opened.length) state.active = opened.includes("top") ? "top" : opened[opened.length - 1];
   for (const entry of refused) await aboutRefused(entry, opened);
   await refresh();
   if (opened.length && wasEmpty) await changed("fit", await boxOfAll(state.layers));
@@ -68,8 +69,6 @@ export async function openFiles(files, areNamed = true) {
   const count = `${plural(opened.length, "layer")} opened.`;
   tell(`${count}${left}${refused.length ? ` ${plural(refused.length, "file")} refused, see Files.` : ""}`,
     refused.length > 0);
-  state.active ??= opened[opened.length - 1] ?? null;
-  await changed("layers");
   return { opened, refused, others };
 }
 

@@ -25,9 +25,9 @@ function row(layer) {
     layer.opacity = opacity.value / 100;
     view.paint();
   };
-  const name = button("", () => makeActive(layer.name), { className: "name", title: `${layer.name}: ${layer.file ?? ""}`,
-    "aria-pressed": String(layer.name === state.active) });
-  name.append(element("b", {}, layer.label), element("small", {}, ` ${layer.name}, ${plural(layer.items, "item")}`));
+  const name = button("", () => makeActive(layer.name), { className: "name",
+    title: `${layer.name}: ${plural(layer.items, "item")}, ${layer.file ?? ""}`, "aria-pressed": String(layer.name === state.active) });
+  name.append(element("b", {}, layer.label), element("small", {}, ` ${layer.items.toLocaleString("en")}`));
   const only = button("only", () => showOnly(layer.name), { className: "only", title: "show this layer alone",
     "aria-label": `show ${layer.label} alone` });
   return element("li", { className: layer.name === state.active ? "active" : "" }, shown, colour, name, opacity, only);

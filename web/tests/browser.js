@@ -73,11 +73,10 @@ export class Browser {
   }
 
   async close() {
-    this.session = undefined;
     try {
       const ended = new Promise((done) => this.process.once("exit", done));
-      await this.call("Browser.close");
-      await Promise.race([ended, pause(10000)]);
+      await this.call("Browser.close", {}, null);
+      await Promise.race([ended, pause(5000)]);
     } catch {
       // It ended already.
     }
@@ -98,7 +97,9 @@ export class Browser {
       const waiting = this.waiting.get(message.id);
       if (!waiting) {
         this.events.push(message);
-        if (message.method === "Page.javascriptDialogOpening") this.onDialogue?.(message.params);
+        if (message.method === "Page.javascriptDialogOpening") {
+          this.call("Page.handleJavaScriptDialog", { accept: true }).catch(() => {});
+        }
         continue;
       }
       this.waiting.delete(message.id);
@@ -107,7 +108,7 @@ export class Browser {
     }
   }
 
-  call(method, params = {}) {
+  call(method, params = {}, sessionId = this.session) {
     const id = ++this.number;
     return new Promise((done, fail) => {
       const timer = setTimeout(() => fail(new Error(`${method}: the browser was silent`)), SILENT_MS);
@@ -116,7 +117,7 @@ export class Browser {
         end(value);
       };
       this.waiting.set(id, { method, done: settle(done), fail: settle(fail) });
-      this.process.stdio[3].write(`${JSON.stringify({ id, method, params, sessionId: this.session })}\0`);
+      this.process.stdio[3].write(`${JSON.stringify({ id, method, params, sessionId: sessionId ?? undefined })}\0`);
     });
   }
 
@@ -129,7 +130,7 @@ export class Browser {
     return reply.result.value;
   }
 
-  async wait(expression, seconds = 120) {
+  async wait(expression, seconds = 30) {
     const until = Date.now() + 1000 * seconds;
     while (!await this.ask(expression)) {
       if (Date.now() > until) throw new Error(`not in ${seconds} seconds: ${expression}; ${this.complaints().join("; ")}`);
