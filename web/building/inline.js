@@ -42,7 +42,7 @@ class Inliner {
       return "";
     });
     for (const [, name] of text.matchAll(EXPORTED)) exported.push(name);
-    text = text.replace(/^export (?=(?:async )?(?:function|class|const|let) )/gm, "");
+    text = text.replace(/^export (?=(?:async )?(?:function\*?|class|const|let) )/gm, "");
     const left = /^(?:import|export)\b.*/m.exec(text);
     if (left) throw new Error(`${path}: this form is not read: ${left[0]}`);
     const name = `module${this.names.size}`;

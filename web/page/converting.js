@@ -1,15 +1,23 @@
-// Old and foreign files in the form that the station reads, by the modules of web/convert. A converter answers the
-// bytes with the changes that it made, or why it refuses; null where there is none for this kind of file.
+// Old and foreign files in the form that the station reads, by the modules of web/convert. What comes of it is the bytes
+// with the changes that were made, or why it is refused; null where the file needs no change.
 
-let converters = {};
+import { convertDrill } from "../convert/drill/convert.js";
+import { convertGerber } from "../convert/gerber/convert.js";
+import { refusalText, toldChanges } from "../convert/report.js";
 
-export const convertBy = (known) => { converters = known; };
+function gerber(bytes) {
+  const exact = convertGerber(bytes);
+  if (exact.bytes) return exact;
+  // What can only be written to the nearest nanometre is told among the changes.
+  const nearest = convertGerber(bytes, { nearest: true });
+  return nearest.bytes ? nearest : exact;
+}
 
-export function convertedOf(kind, bytes, name) {
-  const convert = converters[kind];
-  if (!convert) return null;
+export function convertedOf(kind, bytes) {
   try {
-    return convert(bytes, name);
+    const { bytes: written, changes, refusals, account } = kind === "drill" ? convertDrill(bytes) : gerber(bytes);
+    if (!written) return { refusals: refusals.map(refusalText) };
+    return changes.length ? { bytes: written, changes: account ?? toldChanges(changes) } : null;
   } catch (fault) {
     return { refusals: [fault?.message ?? String(fault)] };
   }

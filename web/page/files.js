@@ -81,7 +81,7 @@ async function aboutRefused(entry, opened) {
   const row = element("li", {}, element("b", {}, layer.file.name), ` ${words}`);
   byId("refused").append(row);
   byId("refused-panel").hidden = false;
-  const converted = convertedOf(layer.kind, layer.file.bytes, layer.file.name);
+  const converted = convertedOf(layer.kind, layer.file.bytes);
   if (!converted) return;
   if (converted.refusals) {
     row.append(element("p", {}, `It cannot be converted: ${converted.refusals.slice(0, 5).join("; ")}`));

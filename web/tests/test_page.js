@@ -338,6 +338,34 @@ suite("files", () => {
     assert.deepEqual(await browser.ask("camplot.state.layers.map(({ name }) => name)"), ["top"]);
   });
 
+  test("old files are converted after a question that lists each change", async () => {
+    const browser = await openPage();
+    const convert = async (name, lines_, question) => {
+      const opening = give(browser, [{ name, bytes: Buffer.from(lines_.join("\n")) }]);
+      await browser.wait("document.getElementById('question').open");
+      assert.match(await text(browser, "question-body"), question);
+      await browser.ask("document.querySelector('#question-choices button').click()");
+      return (await opening).opened;
+    };
+    assert.deepEqual(await convert("old.gtl", ["%FSLAX36Y36*MOMM*%", "%ADD10C,1.0*%", "G54D10*", "X0Y0D03*", "M00*", ""],
+      /refused 3, .*line 1: .*line 5: /s), ["top"]);
+    assert.deepEqual(await convert("old.drl", ["M48", "METRIC,TZ,000.000", "T01C0.800", "%", "T01", "X010000Y020000", "M30", ""],
+      /refused 4[15], .*line 2/s), ["holes"]);
+    assert.match(await text(browser, "refused"), /old\.gtl .*It was converted and opened/s);
+    assert.match(await written(browser, "holes"), /X10\.000000Y20\.000000/);
+    // The converted bytes are what the script's file holds.
+    assert.match(await browser.ask("new TextDecoder().decode(camplot.session.get('files/old.gtl'))"), /^%FSLAX36Y36\*%/);
+  });
+
+  test("an old file that is left out changes nothing", async () => {
+    const browser = await openPage();
+    const opening = give(browser, [{ name: "old.gtl", bytes: Buffer.from("%FSLAX36Y36*MOMM*%\nM00*\n") }]);
+    await browser.wait("document.getElementById('question').open");
+    await browser.key("Escape");
+    assert.deepEqual((await opening).opened, []);
+    assert.equal(await browser.ask("camplot.state.layers.length"), 0);
+  });
+
   test("names are text, and never HTML", async () => {
     const browser = await openPage();
     await give(browser, [{ name: "<img src=x onerror=alert(1)>.gtl", bytes: gerber("X0Y0D03*") },

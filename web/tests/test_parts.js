@@ -12,7 +12,7 @@ import { compared, paint, pictureOf, putTile } from "../worker/pictures.js";
 import { crc32, pngOf, zipOf } from "../page/packing.js";
 import { itemOf, shifted } from "../page/items.js";
 import { lengthOf, mm } from "../page/units.js";
-import { knowRefusals, placeIn, refusalWords } from "../page/refusals.js";
+import { knowRefusals, refusalWords } from "../page/refusals.js";
 import { inlined } from "../building/inline.js";
 
 const bytesOf = (text) => new TextEncoder().encode(text);
@@ -127,14 +127,10 @@ suite("packing", () => {
 });
 
 suite("refusals", () => {
-  test("their place", () => {
-    assert.deepEqual(placeIn(bytesOf("ab\ncde\nf"), 4), { line: 2, column: 2, excerpt: "de" });
-    assert.deepEqual(placeIn(bytesOf("ab\r\ncd"), 6), { line: 2, column: 3, excerpt: "" });
-  });
   test("in words", () => {
     knowRefusals({ general: { 26: { name: "no end", text: "It was cut short." } }, drill: {} });
     assert.equal(refusalWords("refused 26 3", bytesOf("ab\n"), "gerber"),
-      "refused 26, no end. It was cut short. At line 2, column 1 (byte 3), the end");
+      "refused 26, no end. It was cut short. At line 2, column 1 (byte 3), the end.");
   });
 });
 
