@@ -22,11 +22,6 @@ async function listed(line) {
   return code ? null : reply.split(" ").slice(1).map(Number);
 }
 
-export async function history() {
-  const [, undo, redo] = await listed("list") ?? [0, 0, 0];
-  return { undo, redo };
-}
-
 // Asks how many items each layer has, and what the picked ones are now; those that are not there any more are let go.
 export async function refresh() {
   for (const layer of state.layers) {

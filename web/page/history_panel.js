@@ -4,7 +4,7 @@ import { button, byId, element, tell } from "./dom.js";
 import { changed, on, state } from "./state.js";
 import { compareWith } from "./station.js";
 import { plural } from "./units.js";
-import { run, steps } from "./script.js";
+import { steps } from "./script.js";
 
 // In both, only before, only now: colours that are told apart by those who do not see red or green.
 export const COMPARED = [["#7c8796", "in both"], ["#ff9a3c", "before alone"], ["#35c8f0", "now alone"]];
@@ -55,11 +55,6 @@ export function leave() {
   state.comparison = null;
   byId("compared").hidden = true;
   view.paint();
-}
-
-// Undoes or redoes until so many steps are left.
-export async function takeBack(count) {
-  for (let step = 0; step < count; step++) if (!(await run(["undo"])).isWell) return;
 }
 
 export function listenToHistory(opened) {

@@ -25,6 +25,7 @@ function row(layer) {
     layer.opacity = opacity.value / 100;
     view.paint();
   };
+  opacity.onchange = () => changed("looks");
   const name = button("", () => makeActive(layer.name), { className: "name",
     title: `${layer.name}: ${plural(layer.items, "item")}, ${layer.file ?? ""}`, "aria-pressed": String(layer.name === state.active) });
   name.append(element("b", {}, layer.label), element("small", {}, ` ${layer.items.toLocaleString("en")}`));

@@ -141,8 +141,8 @@ function heard(message) {
 const TOO_OLD = "This browser cannot run the page: it lacks 64-bit WebAssembly memory. Use Chromium, Chrome or Edge from "
   + "version 133 on, or Firefox from version 134 on; or the program camplot, which does the same from a script.";
 
-// A module of a memory of 64 bits, and nothing else.
-const TRIAL = new Uint8Array([0, 97, 115, 109, 1, 0, 0, 0, 5, 3, 1, 4, 0]);
+// A module of a table and a memory with places of 64 bits, and nothing else.
+const TRIAL = new Uint8Array([0, 97, 115, 109, 1, 0, 0, 0, 4, 4, 1, 112, 4, 0, 5, 3, 1, 4, 0]);
 
 async function restore(contents) {
   const lines = await journal.lines();

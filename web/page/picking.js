@@ -85,5 +85,3 @@ export async function pickAllOf(name) {
   if (count > GREATEST) return tell(`${name} has more than ${GREATEST} items, too many to be picked at once.`, true);
   await pick(Array.from({ length: count }, (_, place) => ({ name, place })));
 }
-
-export const forgetClick = () => { click = null; };

@@ -26,7 +26,3 @@ export const wholeOf = (text) => /^\s*\d{1,10}\s*$/.test(text) ? Number(text) : 
 export const plural = (count, word) => `${count.toLocaleString("en")} ${word}${count === 1 ? "" : "s"}`;
 
 export const snapped = (value, grid) => Math.round(value / grid) * grid;
-
-export function bytesWords(count) {
-  return count < 1e4 ? `${count} bytes` : count < 1e7 ? `${Math.round(count / 1e3)} kB` : `${(count / 1e6).toFixed(1)} MB`;
-}
