@@ -37,6 +37,6 @@ export function ask(title, parts, choices) {
 
 // What happened, for the eye and for screen readers.
 export function tell(text, isFault = false) {
-  byId("told").textContent = text;
+  byId("told").textContent = byId("told").title = text;
   byId("told").classList.toggle("fault", isFault);
 }

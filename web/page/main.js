@@ -98,7 +98,7 @@ function nameActions() {
   act("later", "Edit", "One place later in the list", ["]"], () => reorder(state.picked[0]?.place + 1));
   for (const [key, x, y, words] of [["ArrowLeft", -1, 0, "left"], ["ArrowRight", 1, 0, "right"], ["ArrowUp", 0, 1, "up"],
     ["ArrowDown", 0, -1, "down"]]) {
-    act(`step-${words}`, "Edit", `Move what is picked ${words} by a step of the grid, with Shift by ten; else the view`,
+    act(`step-${words}`, "Edit", `Move ${words} what is picked, with Shift ten steps; else the view`,
       [key, `Shift+${key}`], step(x, y));
   }
   act("pick", "Tools", "Pick and move", ["v"], () => chooseTool("pick"));

@@ -383,6 +383,30 @@ suite("files", () => {
   });
 });
 
+suite("large boards", () => {
+  test("a million flashes are opened, panned, edited and taken back", async () => {
+    const browser = await openPage();
+    const opened = await browser.ask(`(async () => {
+      const rows = ["%FSLAX46Y46*%\\n%MOMM*%\\n%ADD10C,0.05*%\\nD10*\\n"];
+      for (let k = 0; k < 1e6; k++) rows.push(\`X\${k % 1000 * 100000}Y\${Math.floor(k / 1000) * 100000}D03*\\n\`);
+      rows.push("M02*\\n");
+      const bytes = new TextEncoder().encode(rows.join(""));
+      return (await camplot.openFiles([{ name: "a.gtl", bytes }])).opened;
+    })()`);
+    assert.deepEqual(opened, ["top"]);
+    await settle(browser);
+    assert.equal((await lines(browser))[0], "load top gerber files/a.gtl -> ok 1000000");
+    await browser.ask("camplot.view.pan(200, 100)");
+    await settle(browser);
+    assert.deepEqual(await run(browser, "move top 500000 1000000 0"), ["ok"]);
+    await settle(browser);
+    assert.deepEqual(await run(browser, "undo"), ["ok"]);
+    await settle(browser);
+    assert.deepEqual(await browser.ask("[camplot.steps.done.length, camplot.steps.undone.length]"), [0, 1]);
+    assert.deepEqual(browser.complaints(), []);
+  });
+});
+
 suite("a page with files inside", () => {
   test("opens them, and keeps its work apart", async () => {
     const path = join(room(), "board.html");
