@@ -201,16 +201,17 @@ export function partsOf({ template, macro, sizes, text }) {
 export function settleApertures(state) {
   for (const aperture of state.dictionary.waiting) {
     const { text, line, unsaid, slot } = aperture;
-    const why = unsaid.split(": ")[0];
+    const why = unsaid.split(":")[0].replace(/ \(.*/, "");
     if (!aperture.isUsed) {
-      state.changes.add(`%${text.slice(0, 60)}*% is left out: nothing is painted with it (${why})`, line);
+      const reason = aperture.isReplaced ? "others are written for it" : `nothing is painted with it (${why})`;
+      state.changes.add(`%${text.slice(0, 60)}*% is left out: ${reason}`, line);
     } else if (state.options.nearest || OCTAGON.test(aperture.macro?.key ?? "")) {
       slot.text = nearestText(state, aperture, why);
       for (const { slot: place, text: word } of aperture.selections) {
         place.text = word;
       }
     } else {
-      state.refusals.push({ line, what: `%${text.slice(0, 60)}*%: ${unsaid}` });
+      state.refusals.push({ line, what: `%${text.slice(0, 60)}*%${aperture.macro === null ? "," : ":"} ${unsaid}` });
     }
   }
 }
