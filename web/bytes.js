@@ -9,11 +9,18 @@ const PIECE = 8192;
  * @returns {string}
  */
 export function latin1(bytes) {
+  // Of ASCII both decodings are the same, and this one is quick.
+  if (isAscii(bytes)) return utf8(bytes);
   let text = "";
   for (let at = 0; at < bytes.length; at += PIECE) {
     text += String.fromCharCode.apply(null, bytes.subarray(at, at + PIECE));
   }
   return text;
+}
+
+function isAscii(bytes) {
+  for (let at = 0; at < bytes.length; at++) if (bytes[at] > 127) return false;
+  return true;
 }
 
 /**

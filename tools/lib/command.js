@@ -1,6 +1,7 @@
 // What all commands share: the words of a call, what is printed, and the exit status.
 
 import { Failure } from "../../web/convert/report.js";
+import { reasonOf } from "./files.js";
 
 export { Failure };
 
@@ -187,6 +188,9 @@ export async function perform(command, run, words, name = command.tool) {
       process.exitCode = FAILED;
     } else if (fault instanceof Failure) {
       complain(`${name}: ${fault.message}`);
+      process.exitCode = FAILED;
+    } else if (fault.syscall) {
+      complain(`${name}: ${[fault.path, reasonOf(fault)].filter((part) => part).join(": ")}`);
       process.exitCode = FAILED;
     } else {
       throw fault;

@@ -1,5 +1,6 @@
 // What tests of the tools share: where things are, and how a tool is run.
 
+import assert from "node:assert/strict";
 import { spawnSync } from "node:child_process";
 import { existsSync, mkdtempSync, rmSync } from "node:fs";
 import { tmpdir } from "node:os";
@@ -40,5 +41,5 @@ export function newRoom() {
 
 /** Fails where camplot is not built. */
 export function needProgram() {
-  if (!existsSync(PROGRAM)) throw new Error(`${PROGRAM} is not there`);
+  if (!existsSync(PROGRAM)) assert.fail(`${PROGRAM} is not there`);
 }

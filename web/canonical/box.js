@@ -90,7 +90,7 @@ export function lengthUp(dx, dy) {
   const square = dx * dx + dy * dy;
   let root = Math.ceil(Math.sqrt(square));
   if (square < Number.MAX_SAFE_INTEGER) {
-    if ((root - 1) ** 2 >= square) root--;
+    if (root > 0 && (root - 1) ** 2 >= square) root--;
     return root;
   }
   const exact = BigInt(dx) ** 2n + BigInt(dy) ** 2n;
