@@ -193,7 +193,7 @@ export function partsOf({ template, macro, sizes, text }) {
   try {
     return macro.primitives(sizes).map(partOf);
   } catch (error) {
-    throw error instanceof NoValue ? new Unsaid(`%${text}*%: an expression of its macro has no value`) : error;
+    throw error instanceof NoValue ? new Unsaid("an expression of its macro has no value") : error;
   }
 }
 
@@ -201,11 +201,12 @@ export function partsOf({ template, macro, sizes, text }) {
 export function settleApertures(state) {
   for (const aperture of state.dictionary.waiting) {
     const { text, line, unsaid, slot } = aperture;
+    const mayRound = (aperture.macro?.unreadable() ?? null) === null;
     const why = unsaid.split(":")[0].replace(/ \(.*/, "");
     if (!aperture.isUsed) {
       const reason = aperture.isReplaced ? "others are written for it" : `nothing is painted with it (${why})`;
       state.changes.add(`%${text.slice(0, 60)}*% is left out: ${reason}`, line);
-    } else if (state.options.nearest || OCTAGON.test(aperture.macro?.key ?? "")) {
+    } else if (mayRound && (state.options.nearest || OCTAGON.test(aperture.macro?.key ?? ""))) {
       slot.text = nearestText(state, aperture, why);
       for (const { slot: place, text: word } of aperture.selections) {
         place.text = word;
