@@ -13,4 +13,5 @@ pub mod Images
 pub mod BoxLaws
 pub mod AttributeLaws
 pub mod Planning
+pub mod Faults
 pub mod Machinery

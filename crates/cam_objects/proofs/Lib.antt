@@ -1,4 +1,5 @@
 pub mod BoardBoxes
+pub mod BoardLeaves
 pub mod BoxJoins
 pub mod BoxLimits
 pub mod Canvases

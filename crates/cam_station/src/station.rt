@@ -5,6 +5,7 @@ ghost use Rattle.cam_edits.specs.Sheets.{IsSound, sheet_of};
 ghost use Rattle.cam_station.specs.Machine.{
   abort_step,
   begin_step,
+  edit_of,
   edit_step,
   end_step,
   fault,
@@ -32,7 +33,7 @@ use crate::refusals;
 use crate::reply::{Numbers, Reply};
 use crate::showing::{blank_in, blanks, draw, draw_all, text};
 use crate::touching::{touch, touch_accepted, touch_group};
-use cam_edits::{Board, BoardStep, Edit, Name, Reversible, Sheet, plan};
+use cam_edits::{Board, BoardStep, Change, Edit, Name, Reversible, Sheet, plan};
 use cam_script::{Bytes, Command, FileKind};
 use cam_tiles::{Raster, Window};
 use cam_undo::History;
@@ -120,7 +121,16 @@ impl Station {
             Command::Redraw { at_most } => self.redraw(at_most),
             Command::Plot { name } => self.plot(&name),
             Command::Write { name } => self.write(&name),
-            Command::Edit(edit) => self.edit(edit),
+            Command::Insert { name, k, item } => self.change(name, Change::Insert { k, item }),
+            Command::Delete { name, k } => self.change(name, Change::Delete { k }),
+            Command::Move { name, k, dx, dy } => self.change(name, Change::Move { k, dx, dy }),
+            Command::Reorder { name, k, m } => self.change(name, Change::Reorder { k, m }),
+            Command::Aperture { name, k, n } => self.change(name, Change::Aperture { k, n }),
+            Command::Polarity { name, k, dark } => self.change(name, Change::Polarity { k, dark }),
+            Command::Tool { name, k, t } => self.change(name, Change::Tool { k, t }),
+            Command::Diameter { name, t, d } => self.change(name, Change::Diameter { t, d }),
+            Command::SetAttribute { name, key, fields } => self.change(name, Change::SetAttribute { key, fields }),
+            Command::DropAttribute { name, key } => self.change(name, Change::DropAttribute { key }),
             Command::Begin => self.begin(),
             Command::End => self.end(),
             Command::Abort => self.abort(),
@@ -258,6 +268,13 @@ impl Station {
         }
     }
 
+    /// Changes the layer of this name.
+    fn change(&mut self, name: Name, change: Change) -> Result<Reply, Fault>
+        ensures { edit_step self.old (edit_of name change) (memory_of result) ≡ (self.new, result) }
+    {
+        self.edit(Edit { name, change })
+    }
+
     fn edit(&mut self, edit: Edit) -> Result<Reply, Fault>
         ensures { edit_step self.old edit (memory_of result) ≡ (self.new, result) }
     {
@@ -269,7 +286,7 @@ impl Station {
                 }
                 Err(_) => Err(refusal(refusals::NO_MEMORY)),
             },
-            Err(fault) => Err(refusal(refusals::of_edit(fault))),
+            Err(fault) => Err(refusal(fault.number())),
         }
     }
 
@@ -278,7 +295,7 @@ impl Station {
     {
         match self.history.begin() {
             Ok(()) => Ok(Reply::Done),
-            Err(fault) => Err(refusal(refusals::of_history(fault))),
+            Err(fault) => Err(refusal(fault.number())),
         }
     }
 
@@ -287,7 +304,7 @@ impl Station {
     {
         match self.history.end() {
             Ok(()) => Ok(Reply::Done),
-            Err(fault) => Err(refusal(refusals::of_history(fault))),
+            Err(fault) => Err(refusal(fault.number())),
         }
     }
 
@@ -299,7 +316,7 @@ impl Station {
                 touch(&mut self.rasters, &steps);
                 Ok(Reply::Done)
             }
-            Err(fault) => Err(refusal(refusals::of_history(fault))),
+            Err(fault) => Err(refusal(fault.number())),
         }
     }
 
@@ -311,7 +328,7 @@ impl Station {
                 touch_group(&mut self.rasters, self.history.last_redo());
                 Ok(Reply::Done)
             }
-            Err(fault) => Err(refusal(refusals::of_history(fault))),
+            Err(fault) => Err(refusal(fault.number())),
         }
     }
 
@@ -323,7 +340,7 @@ impl Station {
                 touch_group(&mut self.rasters, self.history.last_undo());
                 Ok(Reply::Done)
             }
-            Err(fault) => Err(refusal(refusals::of_history(fault))),
+            Err(fault) => Err(refusal(fault.number())),
         }
     }
 
