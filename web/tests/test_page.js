@@ -102,10 +102,14 @@ suite("picking", () => {
 
   test("a pad of a board", async () => {
     const browser = await withBoard();
+    // The track that ends at the pad lies over it.
     await clickAt(browser, ...PAD);
     await browser.wait("camplot.state.picked.length === 1");
+    assert.match((await picked(browser))[0], /^top 23 draw 18 117937500 -85000000 /);
+    await clickAt(browser, ...PAD);
+    await browser.wait("camplot.state.picked[0].place === 6");
     assert.deepEqual(await picked(browser), ["top 6 flash 13 117937500 -85000000 r0 dark"]);
-    assert.match(await text(browser, "picked"), /top 6/);
+    await browser.wait("document.getElementById('picked').textContent.includes('top 6')");
   });
 
   test("a box, and more by shift", async () => {
@@ -331,10 +335,10 @@ suite("files", () => {
   test("a refused file is told with its place, the others load", async () => {
     const browser = await openPage();
     const { opened, refused } = await give(browser, [{ name: "good.gtl", bytes: gerber("X0Y0D03*") },
-      { name: "bad.gbl", bytes: gerber("X0Y0D03*", "%ADD12P,1.0X5*%", "D12*") }]);
-    assert.deepEqual([opened, refused], [["top"], ["refused 11 91"]]);
+      { name: "bad.gbl", bytes: gerber("X0Y0D03*", "D99*") }]);
+    assert.deepEqual([opened, refused], [["top"], ["refused 9 93"]]);
     const told = await text(browser, "refused");
-    assert.match(told, /bad\.gbl refused 11, template refused\. .* At line 8, column 1 \(byte 91\): %ADD12P,1\.0X5\*%/);
+    assert.match(told, /bad\.gbl refused 9, unknown aperture\. .* At line 9, column 1 \(byte 93\): D99\*/);
     assert.deepEqual(await browser.ask("camplot.state.layers.map(({ name }) => name)"), ["top"]);
   });
 

@@ -145,6 +145,15 @@ suite("modules in one text", () => {
     new Function(inlined(join(folder, "a.js")))();
     assert.equal(globalThis.told, "2 3 4");
   });
+  test("several of one line, and a name that is not there", () => {
+    const folder = room();
+    writeFileSync(join(folder, "a.js"), 'import { TWO } from "./b.js";\nglobalThis.told = TWO;\n');
+    writeFileSync(join(folder, "b.js"), 'export const ONE = "1", TWO = "2";\n');
+    new Function(inlined(join(folder, "a.js")))();
+    assert.equal(globalThis.told, "2");
+    writeFileSync(join(folder, "b.js"), 'export const ONE = "1";\n');
+    assert.throws(() => inlined(join(folder, "a.js")), /does not export TWO/);
+  });
   test("modules that import one another are refused", () => {
     const folder = room();
     writeFileSync(join(folder, "a.js"), 'import { b } from "./b.js";\nexport const a = b;\n');
