@@ -6,6 +6,8 @@ import { readCanonical } from "../canonical/read.js";
 const text = new TextEncoder();
 const words = new TextDecoder();
 
+// Bytes of a text among which its definitions are looked for.
+const HEAD = 1 << 20;
 const NO_LAYER = 60, NO_ITEM = 61, BAD_LINE = 80;
 
 export class Questions {
@@ -38,7 +40,10 @@ export class Questions {
   layer(name) {
     if (!this.kept.has(name)) {
       if (this.station.apply(text.encode(`write ${name} text`))) return null;
-      this.kept.set(name, readCanonical(this.station.file));
+      const written = this.station.file, layer = readCanonical(written);
+      // What stands before the items, where the definitions are.
+      layer.head = words.decode(written.subarray(0, HEAD));
+      this.kept.set(name, layer);
     }
     return this.kept.get(name);
   }
@@ -70,7 +75,15 @@ export class Questions {
     return box ? [`${box.left} ${box.low} ${box.right} ${box.high}`] : [];
   }
 
-  answer_entries(layer) {
-    return [...layer.apertures].map(([number, aperture]) => `${number} ${aperture.size}`);
+  answer_entries({ head, isDrill }) {
+    const form = isDrill ? /^T(\d+)C.*$/gm : /^%A(?:D|B)D(\d+).*$/gm;
+    return [...head.matchAll(form)].flatMap(([definition, number]) => {
+      if (isDrill) return [`tool ${number}`, definition];
+      return definition.startsWith("%AB") ? [`block ${number} 0`] : [`aperture ${number}`, definition];
+    });
+  }
+
+  answer_attributes({ head }) {
+    return [...head.matchAll(/^%TF([^*]*)\*%$/gm)].map(([, attribute]) => attribute);
   }
 }
