@@ -1,0 +1,160 @@
+// tools/board: a board as pictures and a page.
+
+import { closeSync, existsSync, openSync, readFileSync, readSync, readdirSync, statSync } from "node:fs";
+import { basename, dirname, join } from "node:path";
+import { latin1, latin1Bytes, utf8 } from "../../web/bytes.js";
+import { DRILL, GERBER, HEAD } from "../../web/file_kinds.js";
+import { recogniseFiles } from "../../web/layers.js";
+import { explain } from "../../web/refusals.js";
+import { scriptLines } from "../../web/replies.js";
+import { describeWindow, windowAround } from "../../web/windows.js";
+import { Board } from "./boards.js";
+import { Call, DONE, Failure, REFUSED, perform, say } from "./command.js";
+import { writePage } from "./pages.js";
+import { Room } from "./rooms.js";
+import { PROGRAM, checkProgram, meanings } from "./station.js";
+
+const MOST_DPI = 25_400_000;
+
+const COMMAND = {
+  tool: "tools/board",
+  about: `Plots a board: all its layers in one window, as PBM pictures and as a page to look at.
+
+  tools/board FOLDER                   the layers among the files of a folder, plotted into FOLDER/board
+  tools/board top.gbr holes.drl        these files, whatever their names are, plotted into \`board\` beside the first
+  tools/board FOLDER --dpi 2540        with pixels of 10 µm; 1000 an inch, of 25.4 µm, where nothing is said
+  tools/board FOLDER --edits FILE      then runs the lines of FILE, edits and further plots, which come onto the page
+
+What a file shows is told by its attribute %TF.FileFunction%, else by the names that KiCad, Altium, EAGLE, Fritzing
+and pcb-rnd give. One window lies around the outline, or around all layers where there is none that loads.
+
+It leaves in the folder of --out:
+  index.html   the page: open it in a browser; it needs no server and no network
+  NAME.pbm     a picture for each layer
+  script       what camplot ran there, with plain names; run it again by \`camplot script\` in that folder
+  replies      each of its lines beside its reply
+  files/       the layers' files under plain names
+  texts/       the layers' canonical texts, for tools/items
+
+It says for each layer what came of it. Where that folder holds anything that it did not write itself, or that was
+changed since, it stops, but for --replace. The exit status is 0; 1 where a layer or a line was refused; 2 where
+nothing could be done.`,
+  operand: { name: "FOLDER|FILE", isMany: true },
+  options: [
+    { name: "--dpi", value: "N", isWhole: true, otherwise: 1000, help: "pixels an inch (1000)" },
+    { name: "--out", value: "DIR", help: "the folder for what it leaves" },
+    { name: "--edits", value: "FILE", help: "lines of a script that run behind the plots" },
+    { name: "--replace", help: "replace what stands in the folder under the same names" },
+    { name: "--camplot", value: "PROGRAM", otherwise: PROGRAM, help: `the program (${PROGRAM})` },
+  ],
+};
+
+function headOf(path) {
+  const head = new Uint8Array(HEAD), file = openSync(path, "r");
+  try {
+    let length = 0, count = 0;
+    do {
+      count = readSync(file, head, length, HEAD - length, null);
+      length += count;
+    } while (count > 0 && length < HEAD);
+    return head.subarray(0, length);
+  } finally {
+    closeSync(file);
+  }
+}
+
+function boardFile(path, name) {
+  return { path, name, bytes: headOf(path) };
+}
+
+// Names are bytes, and need not be UTF-8.
+function filesOf(folder) {
+  const names = readdirSync(folder, { encoding: "buffer" }).sort(Buffer.compare);
+  return names.map((name) => ({ name, path: Buffer.concat([Buffer.from(join(folder, "/")), name]) }))
+    .filter(({ name, path }) => name[0] !== 0x2e && statSync(path, { throwIfNoEntry: false })?.isFile())
+    .map(({ name, path }) => boardFile(path, utf8(name)));
+}
+
+// The files to look at, whether they were named one by one, and the folder where the pictures go.
+function inputs(paths) {
+  for (const path of paths) if (!existsSync(path)) throw new Failure(`${path} is not there`);
+  const isFolder = (path) => statSync(path).isDirectory();
+  if (paths.length === 1 && isFolder(paths[0])) {
+    return { files: filesOf(paths[0]), areNamed: false, folder: join(paths[0], "board") };
+  }
+  const folder = paths.find(isFolder);
+  if (folder !== undefined) throw new Failure(`${folder} is a folder: name one folder, or files`);
+  return { files: paths.map((path) => boardFile(path, basename(path))), areNamed: true,
+    folder: join(dirname(paths[0]), "board") };
+}
+
+// What may make a refused file one that loads, by the numbers of its refusals.
+const MENDERS = {
+  [DRILL]: { tool: "to_xnc", refusals: [4, 6, 40, 41, 45] },
+  [GERBER]: { tool: "to_gerber", refusals: [1, 3, 6, 8, 12, 17, 28] },
+};
+
+function menderOf(board, layer) {
+  const { tool, refusals } = MENDERS[layer.kind], reply = board.loads.get(layer.name);
+  return !reply.isAccepted && refusals.includes(reply.refusal) ? `tools/${tool}` : null;
+}
+
+function tellLayers(board) {
+  const width = Math.max(...board.layers.map((layer) => layer.name.length)), blank = " ".repeat(width);
+  for (const layer of board.layers) {
+    say(`${layer.name.padEnd(width)}  ${layer.layerFunction.label}, by ${layer.toldBy}: ${layer.file.name}`);
+    say(`${blank}  ${board.outcome(layer)}`);
+    const mender = menderOf(board, layer);
+    if (mender) say(`${blank}  it may load once it went through ${mender}`);
+  }
+  if (board.isAnyRefused()) say("docs/refusals.md says of each refusal what to do, in the CAD program too");
+}
+
+function tellLines(board) {
+  for (const reply of board.refusedLines()) {
+    say(`line ${reply.number} of ${join(board.room.folder, "script")}: ${utf8(latin1Bytes(reply.line))}`);
+    say(`  ${explain(reply, meanings())}`);
+  }
+}
+
+function plotInto(room, layers, edits, { dpi, camplot, operands }) {
+  const board = new Board(layers, room, camplot);
+  board.load();
+  const outline = board.outline(), window = windowAround(outline, board.boxes(), dpi);
+  if (window) {
+    board.plot(window, edits);
+    say(describeWindow(window, outline !== null, dpi));
+  }
+  tellLines(board);
+  tellLayers(board);
+  const pictures = board.pictures();
+  if (pictures.length) {
+    const page = room.path("index.html");
+    writePage(page, board.title(operands), window, pictures);
+    say(`the page: ${page}`);
+  } else {
+    say("no layer was plotted, so there is no page");
+  }
+  return board.isAnyRefused() ? REFUSED : DONE;
+}
+
+function run(options) {
+  if (options.dpi < 1 || options.dpi > MOST_DPI) throw new Call(`--dpi is from 1 to ${MOST_DPI}`);
+  const { files, areNamed, folder } = inputs(options.operands);
+  const { layers, others } = recogniseFiles(files, areNamed);
+  for (const { name } of others) say(`left out, as it looks like no layer: ${name}`);
+  if (!layers.length) throw new Failure(`no layer is seen among ${files.length} files of ${options.operands[0]}`);
+  const edits = options.edits === null ? [] : scriptLines(latin1(readFileSync(options.edits)));
+  checkProgram(options.camplot);
+  const room = new Room(options.out ?? folder, options.replace);
+  try {
+    return plotInto(room, layers, edits, options);
+  } finally {
+    room.close();
+  }
+}
+
+/** Runs the command with the words of a call. @param {string[]} words */
+export function main(words) {
+  return perform(COMMAND, run, words);
+}

@@ -1,0 +1,203 @@
+// A board: its layers, what camplot replied to each, and what was plotted.
+
+import { readFileSync, writeFileSync } from "node:fs";
+import { basename, join, resolve } from "node:path";
+import { latin1Bytes } from "../../web/bytes.js";
+import { NotCanonical, readCanonical } from "../../web/canonical/read.js";
+import { Text, countOf } from "../../web/canonical/text.js";
+import { Failure } from "../../web/convert/report.js";
+import { GERBER } from "../../web/file_kinds.js";
+import { PLAIN } from "../../web/layer_functions.js";
+import { BY_ATTRIBUTE, Layer, nameParts } from "../../web/layers.js";
+import { explain } from "../../web/refusals.js";
+import { wordsOf } from "../../web/replies.js";
+import { isInWindow, windowLine } from "../../web/windows.js";
+import { LAYERS, meanings, runLines } from "./station.js";
+
+/**
+ * A picture of a layer: where it is, whose it is, and whether an edit came before it.
+ * @typedef {{path: string, layer: Layer, text: Text, label: string, isEdited: boolean}} Picture
+ */
+
+// A layer that a line of the user's own loads.
+function ownLayer(name) {
+  return new Layer({ name, path: name, bytes: new Uint8Array() }, GERBER, PLAIN.get("other"), "a line");
+}
+
+function loadLine(layer) {
+  return `load ${layer.name} ${layer.kind} ${layer.copy}`;
+}
+
+function plotLine(layer) {
+  return `plot ${layer.name} ${layer.picture}`;
+}
+
+// The layers in runs of as many as one run takes.
+function partsOf(layers) {
+  const parts = [];
+  for (let at = 0; at < layers.length; at += LAYERS) parts.push(layers.slice(at, at + LAYERS));
+  return parts;
+}
+
+/** The layers of a board in a room; each layer's file has a `path`. */
+export class Board {
+  /**
+   * @param {Layer[]} layers from the bottom up
+   * @param {import("./rooms.js").Room} room
+   * @param {string} program
+   */
+  constructor(layers, room, program) {
+    this.layers = layers;
+    this.room = room;
+    this.program = program;
+    /** @type {Map<string, import("../../web/replies.js").Reply>} the replies to loads, by the layers' names */
+    this.loads = new Map();
+    /** @type {Map<string, import("../../web/replies.js").Reply>} */
+    this.plots = new Map();
+    /** @type {Map<string, Text>} */
+    this.texts = new Map();
+    /** @type {import("../../web/replies.js").Reply[]} of the lines of a user's own */
+    this.edits = [];
+    this.window = null;
+  }
+
+  /** Loads each layer, and writes and reads the texts of those that load. */
+  load() {
+    for (const layer of this.layers) {
+      this.room.copy(layer.file.path, layer.copy);
+      this.room.path(layer.text);
+    }
+    for (const part of partsOf(this.layers)) {
+      const lines = part.flatMap((layer) => [loadLine(layer), `write ${layer.name} ${layer.text}`]);
+      const replies = runLines(this.program, this.room.folder, lines);
+      part.forEach((layer, at) => {
+        const loaded = replies[2 * at], written = replies[2 * at + 1];
+        this.loads.set(layer.name, !loaded.isAccepted || written.isAccepted ? loaded : written);
+      });
+    }
+    for (const layer of this.loaded()) this.texts.set(layer.name, this.readText(layer));
+  }
+
+  readText(layer) {
+    const path = join(this.room.folder, layer.text);
+    try {
+      return readCanonical(readFileSync(path));
+    } catch (fault) {
+      if (fault instanceof NotCanonical) throw new Failure(`${path}: ${fault.message}`);
+      throw fault;
+    }
+  }
+
+  /** The layers that load. */
+  loaded() {
+    return this.layers.filter((layer) => this.loads.get(layer.name).isAccepted);
+  }
+
+  boxes() {
+    return this.loaded().map((layer) => this.texts.get(layer.name).box()).filter((box) => box);
+  }
+
+  /** The box of the outline: of the one that an attribute names, else of the first that has an item. */
+  outline() {
+    const outlines = this.loaded().filter((layer) => layer.layerFunction.name === "outline");
+    const isNamed = (layer) => layer.toldBy === BY_ATTRIBUTE;
+    for (const layer of [...outlines.filter(isNamed), ...outlines.filter((other) => !isNamed(other))]) {
+      const box = this.texts.get(layer.name).box();
+      if (box) return box;
+    }
+    return null;
+  }
+
+  /**
+   * Plots each layer that loads, and then runs the lines of the user's own over the first of the runs.
+   * @param {import("../../web/windows.js").PlotWindow} window
+   * @param {string[]} edits
+   */
+  plot(window, edits) {
+    this.window = window;
+    const told = [];
+    partsOf(this.loaded()).forEach((part, number) => {
+      const { lines, firstOwn } = this.script(part, number === 0 ? edits : [], window);
+      const script = this.room.path(number === 0 ? "script" : `script-${number + 1}`);
+      const replies = runLines(this.program, this.room.folder, lines, script);
+      for (const layer of part) this.plots.set(layer.name, replies.find((reply) => reply.line === plotLine(layer)));
+      this.edits.push(...replies.filter((reply) => reply.number >= firstOwn));
+      for (const reply of replies) told.push(`${reply.words.join(" ").padEnd(16)} ${reply.line}\n`);
+    });
+    for (const reply of this.edits) {
+      const [command, , path] = wordsOf(reply.line);
+      if (reply.isAccepted && (command === "plot" || command === "write")) {
+        this.room.left.add(join(this.room.folder, path));
+      }
+    }
+    writeFileSync(this.room.path("replies"), latin1Bytes(told.join("")));
+  }
+
+  // The lines of a run, and the number of the first one that is the user's own.
+  script(part, edits, window) {
+    const lines = ["# the board's layers, plotted by tools/board"];
+    for (const layer of this.layers) {
+      const reply = this.loads.get(layer.name);
+      if (!reply.isAccepted) lines.push(`# ${reply.words.join(" ")}: ${reply.line}`);
+    }
+    lines.push(...part.map(loadLine), windowLine(window));
+    for (const layer of part) {
+      this.room.path(layer.picture);
+      lines.push(plotLine(layer));
+    }
+    if (edits.length) lines.push("# lines of one's own");
+    return { lines: [...lines, ...edits], firstOwn: lines.length + 1 };
+  }
+
+  /** What came of a layer, in a line for people. @param {Layer} layer */
+  outcome(layer) {
+    const loaded = this.loads.get(layer.name);
+    if (!loaded.isAccepted) return explain(loaded, meanings(), readFileSync(layer.file.path));
+    const items = countOf(loaded.count, "item"), plotted = this.plots.get(layer.name);
+    if (!plotted) return `loaded, ${items}`;
+    if (!plotted.isAccepted) return `loaded, ${items}; its plot was ${explain(plotted, meanings())}`;
+    const box = this.texts.get(layer.name).box();
+    const beyond = !box || isInWindow(this.window, box) ? "" : "; it reaches beyond the window";
+    return `loaded, ${items}; plotted as ${layer.picture}${beyond}`;
+  }
+
+  /** The refused lines of the user's own. */
+  refusedLines() {
+    return this.edits.filter((reply) => !reply.isAccepted);
+  }
+
+  isAnyRefused() {
+    return [...this.loads.values(), ...this.plots.values(), ...this.edits].some((reply) => !reply.isAccepted);
+  }
+
+  /**
+   * The pictures that were plotted: the layers' from the bottom up, then those of the user's own lines.
+   * @returns {Picture[]}
+   */
+  pictures() {
+    const loaded = this.loaded(), found = [];
+    for (const layer of loaded) {
+      if (this.plots.get(layer.name)?.isAccepted) {
+        found.push(this.picture(layer, layer.picture, layer.layerFunction.label, false));
+      }
+    }
+    for (const reply of this.edits) {
+      const [command, name, path] = wordsOf(reply.line);
+      if (!reply.isAccepted || command !== "plot") continue;
+      const layer = loaded.find((other) => other.name === name) ?? ownLayer(name);
+      found.push(this.picture(layer, path, `${path} (line ${reply.number})`, true));
+    }
+    return found;
+  }
+
+  picture(layer, name, label, isEdited) {
+    const text = this.texts.get(layer.name) ?? new Text(false);
+    return { path: join(this.room.folder, name), layer, text, label, isEdited };
+  }
+
+  /** What the page is called. @param {string[]} paths the files or the folder that were named */
+  title(paths) {
+    if (paths.length === 1) return basename(resolve(paths[0]));
+    return nameParts(this.layers[this.layers.length - 1].file.name).stem;
+  }
+}

@@ -1,0 +1,68 @@
+// Running `camplot`, and the page that explains its refusals.
+
+import { spawnSync } from "node:child_process";
+import { existsSync, mkdtempSync, readFileSync, rmSync, statSync, writeFileSync } from "node:fs";
+import { tmpdir } from "node:os";
+import { dirname, join, relative, resolve } from "node:path";
+import { fileURLToPath } from "node:url";
+import { latin1Bytes } from "../../web/bytes.js";
+import { Failure } from "../../web/convert/report.js";
+import { meaningsOf } from "../../web/refusals.js";
+import { repliesOf } from "../../web/replies.js";
+
+const REPOSITORY = dirname(dirname(dirname(fileURLToPath(import.meta.url))));
+const REFUSALS = join(REPOSITORY, "docs", "refusals.md");
+// What a run may print.
+const MOST_OUTPUT = 1 << 30;
+
+/** The program that `./demo` builds. */
+export const PROGRAM = relative(process.cwd(), join(REPOSITORY, "crates", "camplot", "out", "camplot"));
+/** A layer more than these is refused with 85. */
+export const LAYERS = 32;
+
+/** Whether a program is built. @param {string} program */
+export function isBuilt(program) {
+  return existsSync(program) && statSync(program).isFile();
+}
+
+/** Stops where the program is not built. @param {string} program */
+export function checkProgram(program) {
+  if (!isBuilt(program)) throw new Failure(`${program} is not there: ./demo builds it, and --camplot names another`);
+}
+
+function outputOf(program, folder, path) {
+  const done = spawnSync(resolve(program), [resolve(path)], { cwd: folder, encoding: "latin1", maxBuffer: MOST_OUTPUT });
+  if (done.status === 0 || done.status === 1) return done.stdout;
+  const why = done.error?.message ?? (done.stderr.trim() || `ended with status ${done.status ?? done.signal}`);
+  throw new Failure(`${program}: ${why}`);
+}
+
+/**
+ * Runs lines in a folder, and leaves them as a script where a path is given. A character of a line is a byte of the script.
+ * @param {string} program
+ * @param {string} folder
+ * @param {string[]} lines
+ * @param {string | null} script
+ * @returns {import("../../web/replies.js").Reply[]}
+ */
+export function runLines(program, folder, lines, script = null) {
+  checkProgram(program);
+  const room = mkdtempSync(join(tmpdir(), "camplot-"));
+  try {
+    const path = script ?? join(room, "script");
+    writeFileSync(path, latin1Bytes(lines.map((line) => `${line}\n`).join("")));
+    const replies = repliesOf(lines, outputOf(program, folder, path));
+    if (!replies) throw new Failure(`${program}: another number of replies than of lines`);
+    return replies;
+  } finally {
+    rmSync(room, { recursive: true, force: true });
+  }
+}
+
+let known = null;
+
+/** The refusals' meanings; none where the page that explains them is not there. */
+export function meanings() {
+  known ??= existsSync(REFUSALS) ? meaningsOf(readFileSync(REFUSALS, "utf8")) : { general: new Map(), drill: new Map() };
+  return known;
+}

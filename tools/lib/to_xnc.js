@@ -1,0 +1,79 @@
+// tools/to_xnc: Excellon drill files as XNC.
+
+import { convertDrill } from "../../web/convert/drill/convert.js";
+import { toldRefusals } from "../../web/convert/report.js";
+import { DONE, Failure, REFUSED, complain, perform, say } from "./command.js";
+import { readBytes, writeNew } from "./files.js";
+
+const COMMAND = {
+  tool: "tools/to_xnc",
+  about: `Writes an Excellon drill file as XNC that \`camplot\` loads: coordinates with a point, slots as routs.
+
+An Excellon coordinate without a point, as X0145300, says where it lies only with three other things: the unit, how many
+digits stand before and behind the point, and which zeros are left out. Each is taken from the first of these that
+tells it: an option; the file, by METRIC, INCH, M71, M72, LZ, TZ, a form such as 000.000, or the comments that KiCad,
+Altium and Allegro write; a report beside it (--report). The digits, where nothing tells them, are assumed to be 2:4 in
+inches and 3:3 in mm; the zeros are worked out where the coordinates leave one choice. The unit is never assumed.
+What was taken from where is said, and so is each thing that was left out or changed. Compare the size that is said with
+the board's.
+
+Every value is written exactly. What cannot be is refused with its line, and then nothing is written: arcs, repeats,
+patterns, incremental coordinates, mirrors, tools without a diameter. A file of M30 alone becomes a file without holes.
+
+  tools/to_xnc holes.drl                                  holes.xnc, by what the file tells
+  tools/to_xnc holes.drd --report holes.dri               the form by EAGLE's report, or Allegro's nc_param.txt
+  tools/to_xnc holes.tap -o out/holes.xnc --unit inch --digits 2:4 --zeros trailing
+  tools/to_xnc holes.txt --unit mm --tool 1=0.8 --tool 2=40mil
+
+Exit status 0: written; 1: refused, and nothing was written; 2: the words of the call or a file cannot be used.`,
+  operand: { name: "FILE", help: "the Excellon drill file" },
+  options: [
+    { name: "-o", value: "OUT", help: "the file to be written; else FILE with the ending .xnc" },
+    { name: "--unit", value: "UNIT", choices: ["mm", "inch"], help: "mm or inch" },
+    { name: "--digits", value: "I:D", help: "how many digits stand before the point and behind it" },
+    { name: "--zeros", value: "ZEROS", choices: ["leading", "trailing"],
+      help: "the zeros that are written (LZ, TZ), and not those that are left out" },
+    { name: "--report", value: "REPORT", help: "the report that the CAD program wrote beside the file" },
+    { name: "--tool", value: "N=SIZE", isList: true,
+      help: "a tool's diameter, in the file's unit or with mm, inch or mil behind it" },
+    { name: "--force", help: "write over a file that is there" },
+  ],
+};
+
+function chosenDigits(text) {
+  if (text === null) return null;
+  const found = /^([1-6])[:.]([0-6])$/.exec(text);
+  if (!found) throw new Failure(`--digits ${text}: two digits are wanted, as 2:4`);
+  return { whole: Number(found[1]), decimals: Number(found[2]) };
+}
+
+function chosenTool(word) {
+  const found = /^T?0*(\d{1,4})=(\d+\.?\d*|\.\d+)(mm|inch|in|mil)?$/.exec(word);
+  if (!found) throw new Failure(`--tool ${word}: a number and a diameter are wanted, as 1=0.8mm`);
+  return { number: Number(found[1]), size: found[2], unit: found[3] ?? null, shown: `--tool ${word}` };
+}
+
+function outOf(file) {
+  return `${file.replace(/(?<=[^/])\.[^./]+$/, "")}.xnc`;
+}
+
+function run({ operands: [file], o, unit, digits, zeros, report, tool, force }) {
+  const bytes = readBytes(file);
+  const done = convertDrill(bytes, {
+    unit, zeros, digits: chosenDigits(digits), tools: tool.map(chosenTool),
+    report: report === null ? null : { name: report, bytes: readBytes(report) },
+  });
+  if (!done.bytes) {
+    complain(toldRefusals("to_xnc", file, done.refusals).join("\n"));
+    return REFUSED;
+  }
+  const out = o ?? outOf(file);
+  writeNew(out, done.bytes, file, force);
+  say([...done.account, `written: ${out}`].join("\n"));
+  return DONE;
+}
+
+/** Runs the command with the words of a call. @param {string[]} words */
+export function main(words) {
+  return perform(COMMAND, run, words, "to_xnc");
+}

@@ -1,0 +1,179 @@
+// What a drill file's header, its comments and a report tell of the form of its numbers and of its tools.
+
+import { Unsaid } from "../report.js";
+import { BOTH, INCH, LEADING, MM, TRAILING, unitOf } from "./lengths.js";
+
+/**
+ * A unit, digits or zeros, and where they come from.
+ * @typedef {{value: *, source: string}} Told
+ */
+
+/**
+ * What a comment or a report tells of a tool: its diameter with the name of its unit, and how many holes it makes.
+ * @typedef {{diameter: string, unit: string, count: number | null, source: string}} ToldTool
+ */
+
+/** The digits that are assumed where nothing tells them. */
+export const DEFAULT_DIGITS = { [MM]: { whole: 3, decimals: 3 }, [INCH]: { whole: 2, decimals: 4 } };
+
+/** All that a source tells of units, digits, zeros and tools. */
+export class Hints {
+  constructor() {
+    /** @type {Told[]} */
+    this.units = [];
+    /** @type {Told[]} */
+    this.digits = [];
+    /** @type {Told[]} */
+    this.zeros = [];
+    /** @type {Map<number, ToldTool>} */
+    this.tools = new Map();
+    /** @type {string[]} the sources that tell of incremental coordinates */
+    this.incremental = [];
+  }
+
+  join(other) {
+    for (const kind of ["units", "digits", "zeros", "incremental"]) this[kind].push(...other[kind]);
+    for (const [number, tool] of other.tools) this.tools.set(number, tool);
+  }
+
+  get isEmpty() {
+    return !(this.units.length || this.digits.length || this.zeros.length || this.tools.size);
+  }
+
+  addDigits(whole, decimals, source) {
+    this.digits.push({ value: { whole: Number(whole), decimals: Number(decimals) }, source });
+  }
+
+  addMode(mode, source) {
+    if (mode.toLowerCase() !== "absolute") this.incremental.push(source);
+  }
+}
+
+const UNITS = { METRIC: MM, INCH, M71: MM, M72: INCH };
+const HEADER_UNIT = /^(METRIC|INCH|M71|M72)((?:,[^,]*)*)$/;
+const HEADER_ZEROS = { LZ: LEADING, TZ: TRAILING };
+const HEADER_DIGITS = /^(0+)\.(0+)$/;
+
+/**
+ * What a line such as `METRIC,LZ,000.000` or `M72` tells.
+ * @param {string} code
+ * @param {number} line
+ * @returns {Hints | null} null where it is no such line
+ * @throws {Unsaid} where a word of it is not known
+ */
+export function unitHints(code, line) {
+  const first = code.charCodeAt(0);
+  const found = (first === 73 || first === 77) && HEADER_UNIT.exec(code);
+  if (!found) return null;
+  const hints = new Hints(), source = `${code} on line ${line}`;
+  hints.units.push({ value: UNITS[found[1]], source });
+  for (const word of found[2].split(",").slice(1)) {
+    const digits = HEADER_DIGITS.exec(word);
+    if (Object.hasOwn(HEADER_ZEROS, word)) hints.zeros.push({ value: HEADER_ZEROS[word], source });
+    else if (digits) hints.addDigits(digits[1].length, digits[2].length, source);
+    else throw new Unsaid(`${code}: what ${word || "nothing"} behind a comma means is not known`);
+  }
+  return hints;
+}
+
+// What a program writes into a comment has no more characters.
+const COMMENT = 500;
+const ALTIUM_FORMAT = /FILE_FORMAT=(\d):(\d)/;
+const KICAD_FORMAT = /FORMAT=\{([\d-]):([\d-])\s*\/\s*(\w+)\s*\/\s*(\w+)\s*\/\s*([\w ]+?)\s*\}/i;
+const KICAD_ZEROS = { "suppress leading zeros": TRAILING, "suppress trailing zeros": LEADING, "keep zeros": BOTH };
+const MENTOR_FORMAT = /Format\s*:\s*(\d)\.(\d)\s*\/\s*(\w+)\s*\/\s*(MM|INCH)\b/i;
+const ALLEGRO_TOOL = new RegExp("(?:T(\\d+)\\s+)?Holesize\\s+(\\d+)\\.?\\s*=\\s*([\\d.]+)\\b.*\\b(MILS|INCHES|MM|MICRONS)\\b"
+  + "(?:\\s+Quantity\\s*=\\s*(\\d+))?", "i");
+
+function kicadHints(found, line) {
+  const hints = new Hints(), source = `the comment FORMAT={..} on line ${line}`;
+  const [, whole, decimals, mode, unit, zeros] = found;
+  if (whole !== "-" && decimals !== "-") hints.addDigits(whole, decimals, source);
+  hints.units.push({ value: unit.toLowerCase() === "metric" ? MM : INCH, source });
+  hints.addMode(mode, source);
+  const value = KICAD_ZEROS[zeros.toLowerCase()];
+  if (value) hints.zeros.push({ value, source });
+  return hints;
+}
+
+function mentorHints([, whole, decimals, mode, unit], line) {
+  const hints = new Hints(), source = `the comment Format : .. on line ${line}`;
+  hints.addDigits(whole, decimals, source);
+  hints.units.push({ value: unitOf(unit), source });
+  hints.addMode(mode, source);
+  return hints;
+}
+
+/**
+ * What a comment of KiCad's, Altium's, Mentor's or Allegro's tells of the numbers or of a tool.
+ * @param {string} comment
+ * @param {number} line
+ * @returns {Hints}
+ */
+export function commentHints(comment, line) {
+  if (comment.length > COMMENT) return new Hints();
+  const hints = new Hints();
+  const altium = ALTIUM_FORMAT.exec(comment), kicad = KICAD_FORMAT.exec(comment), mentor = MENTOR_FORMAT.exec(comment);
+  if (altium) {
+    hints.addDigits(altium[1], altium[2], `${altium[0]} in the comment on line ${line}`);
+    return hints;
+  }
+  if (kicad) return kicadHints(kicad, line);
+  if (mentor) return mentorHints(mentor, line);
+  const tool = ALLEGRO_TOOL.exec(comment);
+  if (tool) {
+    const count = tool[5] === undefined ? null : Number(tool[5]);
+    hints.tools.set(Number(tool[1] ?? tool[2]),
+      { diameter: tool[3], unit: tool[4], count, source: `the comment on line ${line}` });
+  }
+  return hints;
+}
+
+/** Whether a comment is about digits or zeros, which the XNC file no longer has. */
+export function tellsForm(comment) {
+  return comment.length <= COMMENT && [ALTIUM_FORMAT, KICAD_FORMAT, MENTOR_FORMAT].some((form) => form.test(comment));
+}
+
+const EAGLE_UNITS = /^[ \t]*Units[ \t]*:[ \t]*1\/(10+)[ \t]*(inch|mm)/im;
+const EAGLE_MODE = /^[ \t]*Data Mode[ \t]*:[ \t]*(\w+)/im;
+const EAGLE_TOOL = /^[ \t]*T(\d+)[ \t]+([\d.]+)[ \t]*(inch|mm|mil)[ \t]+(\d+)[ \t]*$/gim;
+const ALLEGRO_WORD = /^[ \t]*([A-Z][A-Z-]+)[ \t]+(\S+)[ \t]*$/gm;
+
+/**
+ * What a report tells that a CAD program wrote with the file: EAGLE's `.dri` or Allegro's `nc_param.txt`.
+ * @param {string} text
+ * @param {string} name the report's
+ * @returns {Hints} empty where it is neither
+ */
+export function reportHints(text, name) {
+  const found = EAGLE_UNITS.exec(text);
+  if (!found) {
+    const words = new Map([...text.matchAll(ALLEGRO_WORD)].map(([, word, value]) => [word, value.toUpperCase()]));
+    return allegroHints(words, name);
+  }
+  const hints = new Hints(), unit = unitOf(found[2]);
+  const source = `${found[0].trim().split(/\s+/).join(" ")} in ${name}`;
+  hints.units.push({ value: unit, source });
+  hints.addDigits(DEFAULT_DIGITS[unit].whole, found[1].length - 1, source);
+  hints.zeros.push({ value: TRAILING, source });
+  const mode = EAGLE_MODE.exec(text);
+  if (mode) hints.addMode(mode[1], `Data Mode in ${name}`);
+  for (const [, number, diameter, itsUnit, count] of text.matchAll(EAGLE_TOOL)) {
+    hints.tools.set(Number(number), { diameter, unit: itsUnit, count: Number(count), source: name });
+  }
+  return hints;
+}
+
+const ALLEGRO_ZEROS = { "NO NO": BOTH, "YES NO": TRAILING, "NO YES": LEADING };
+
+function allegroHints(words, name) {
+  const hints = new Hints();
+  const digits = /^(\d)\.(\d)$/.exec(words.get("FORMAT") ?? "");
+  if (digits) hints.addDigits(digits[1], digits[2], `FORMAT in ${name}`);
+  const unit = { ENGLISH: INCH, METRIC: MM }[words.get("OUTPUT-UNITS")];
+  if (unit) hints.units.push({ value: unit, source: `OUTPUT-UNITS in ${name}` });
+  hints.addMode(words.get("COORDINATES") ?? "ABSOLUTE", `COORDINATES in ${name}`);
+  const zeros = ALLEGRO_ZEROS[`${words.get("SUPPRESS-LEAD-ZEROES")} ${words.get("SUPPRESS-TRAIL-ZEROES")}`];
+  if (zeros) hints.zeros.push({ value: zeros, source: `SUPPRESS-..-ZEROES in ${name}` });
+  return hints;
+}

@@ -1,0 +1,55 @@
+/**
+ * Arcs of one quadrant (G74), whose offsets have no sign: at most a quarter of a circle, about the one of four centres
+ * from which it is that.
+ */
+
+import { Unsaid } from "../report.js";
+
+const QUARTER = Math.PI / 2;
+const ANGLE_SLACK = 0.02;
+const CLOSE_STEPS = 3;
+const ADVICE = "have arcs written under G75";
+
+/** The angle from start to end about (0, 0), from 0 to a full turn. */
+function sweepOf(start, end, isClockwise) {
+  const angle = Math.atan2(end[1], end[0]) - Math.atan2(start[1], start[0]);
+  const turn = 2 * Math.PI;
+  return (((isClockwise ? -angle : angle) % turn) + turn) % turn;
+}
+
+/**
+ * The offsets with the signs of the arc's centre.
+ * @param {[number, number]} start  whole numbers, as all places here
+ * @param {[number, number]} end
+ * @param {[number, number]} offsets
+ * @param {boolean} isClockwise
+ * @param {number} step  the least difference of two coordinates
+ * @returns {[number, number]}
+ * @throws {Unsaid} where no centre fits, or two
+ */
+export function signedOffsets(start, end, offsets, isClockwise, step) {
+  if (Math.min(...offsets) < 0) {
+    throw new Unsaid(`an arc under G74 whose offset has a sign: ${ADVICE}`);
+  }
+  if (start[0] === end[0] && start[1] === end[1]) {
+    throw new Unsaid(`an arc under G74 that ends where it starts: ${ADVICE}`);
+  }
+  const radius = Math.hypot(...offsets);
+  const fits = [];
+  const signsOf = (offset) => (offset === 0 ? [1] : [1, -1]);
+  for (const a of signsOf(offsets[0])) {
+    for (const b of signsOf(offsets[1])) {
+      const signed = [a * offsets[0], b * offsets[1]];
+      const [first, last] = [start, end].map((place) => place.map((value, axis) => value - start[axis] - signed[axis]));
+      if (sweepOf(first, last, isClockwise) <= QUARTER + ANGLE_SLACK) {
+        fits.push({ off: Math.abs(Math.hypot(...last) - radius), signed });
+      }
+    }
+  }
+  fits.sort((one, other) => one.off - other.off);
+  const close = CLOSE_STEPS * step;
+  if (fits.length === 0 || fits[0].off > close || (fits.length > 1 && fits[1].off <= 2 * close)) {
+    throw new Unsaid(`an arc under G74 whose centre is not told by its ends: ${ADVICE}`);
+  }
+  return fits[0].signed;
+}

@@ -1,0 +1,85 @@
+/** The bytes that are written: what stays is copied, and places are kept whose text is settled at the end. */
+
+import { latin1Bytes } from "../../bytes.js";
+
+/** Below this many bytes a loop is faster than a call that copies. */
+const FEW = 64;
+
+export class Output {
+  /** @param {Uint8Array} source */
+  constructor(source) {
+    this.source = source;
+    this.bytes = new Uint8Array(source.length + 1024);
+    this.length = 0;
+    /** Where the part of the source begins that is not copied yet. */
+    this.copied = 0;
+    /** @type {{at: number, text: string}[]} */
+    this.slots = [];
+    this.isChanged = false;
+  }
+
+  /** Writes a text, or a slot's place, for the source from start to end; what lies before it stays. */
+  replace(start, end, pieces) {
+    this.copyTo(start);
+    for (const piece of pieces) {
+      if (typeof piece === "string") {
+        this.putText(piece);
+      } else {
+        piece.at = this.length;
+        this.slots.push(piece);
+      }
+    }
+    this.copied = end;
+    this.isChanged = true;
+  }
+
+  copyTo(end) {
+    const { source, copied } = this;
+    this.makeRoom(end - copied);
+    if (end - copied < FEW) {
+      for (let at = copied; at < end; at++) {
+        this.bytes[this.length++] = source[at];
+      }
+    } else {
+      this.bytes.set(source.subarray(copied, end), this.length);
+      this.length += end - copied;
+    }
+    this.copied = end;
+  }
+
+  putText(text) {
+    this.makeRoom(text.length);
+    for (let at = 0; at < text.length; at++) {
+      this.bytes[this.length++] = text.charCodeAt(at);
+    }
+  }
+
+  makeRoom(more) {
+    if (this.length + more > this.bytes.length) {
+      const grown = new Uint8Array(2 * (this.length + more));
+      grown.set(this.bytes.subarray(0, this.length));
+      this.bytes = grown;
+    }
+  }
+
+  /** @returns {Uint8Array} all of it, with the texts of the slots at their places */
+  finished() {
+    if (!this.isChanged) {
+      return this.source;
+    }
+    this.copyTo(this.source.length);
+    const texts = this.slots.map((slot) => latin1Bytes(slot.text));
+    const whole = new Uint8Array(texts.reduce((sum, text) => sum + text.length, this.length));
+    let from = 0;
+    let to = 0;
+    this.slots.forEach((slot, place) => {
+      whole.set(this.bytes.subarray(from, slot.at), to);
+      to += slot.at - from;
+      whole.set(texts[place], to);
+      to += texts[place].length;
+      from = slot.at;
+    });
+    whole.set(this.bytes.subarray(from, this.length), to);
+    return whole;
+  }
+}

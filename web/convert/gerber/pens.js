@@ -1,0 +1,105 @@
+/**
+ * What a straight draw covers with a pen that camplot does not draw with: the hull of the pen at both ends. A pen is a
+ * convex outline, or all places at most a radius from a core of one or two points.
+ *
+ * @typedef {import("./placing.js").Place} Place
+ * @typedef {import("./placing.js").Placed} Placed
+ */
+
+import { Unsaid } from "../report.js";
+import { add, multiply, negate } from "../exact.js";
+
+/**
+ * The pen that the parts of an aperture are, placed about (0, 0).
+ * @param {import("./parts.js").Part[]} parts
+ * @param {import("./placing.js").Placing} placing
+ * @returns {{points: Place[], diameter: bigint}} an outline where the diameter is 0, else a core
+ * @throws {Unsaid} where it is no such pen
+ */
+export function penOf(parts, placing) {
+  if (parts.length !== 1 || !parts[0].on) {
+    throw new Unsaid(parts.some((part) => part.on === false) ? "has a hole" : `is made of ${parts.length} shapes`);
+  }
+  const [part] = parts;
+  if (part.kind === "outline" && !isConvex(part.points)) {
+    throw new Unsaid("is not convex");
+  }
+  const [placed] = placing.placed(part);
+  switch (placed.code) {
+    case 1:
+      return { points: [placed.at], diameter: placed.diameter };
+    case 4:
+      return { points: placed.points, diameter: 0n };
+    default:
+      return part.kind === "capsule" ? { points: [placed.from, placed.to], diameter: placed.width }
+        : { points: cornersOf(part, placing), diameter: 0n };
+  }
+}
+
+/** The corners of a bar or a rectangle that is turned by quarters. */
+function cornersOf(part, placing) {
+  const corners = part.kind === "bar" ? placing.cornersOfBar(part) : placing.cornersOfRectangle(part);
+  return placing.outline(true, corners, placing.turnOfPart(part.turn)).points;
+}
+
+/**
+ * The primitives that cover all that a pen passes on its way, about the way's start.
+ * @param {{points: Place[], diameter: bigint}} pen
+ * @param {Place} way  from the start to the end
+ * @returns {Placed[]}
+ */
+export function hullOf({ points, diameter }, [dx, dy]) {
+  const corners = hull([...points, ...points.map(([x, y]) => [x + dx, y + dy])]);
+  const core = corners.length > 2 ? [{ code: 4, on: true, points: corners }] : [];
+  if (diameter === 0n) {
+    return core;
+  }
+  const sides = corners.map((from, place) => ({ code: 20, on: true, width: diameter, from,
+    to: corners[(place + 1) % corners.length] }));
+  const ends = corners.map((at) => ({ code: 1, on: true, diameter, at }));
+  return [...core, ...(corners.length > 2 ? sides : sides.slice(0, corners.length - 1)), ...ends];
+}
+
+const cross = (o, a, b) => (a[0] - o[0]) * (b[1] - o[1]) - (a[1] - o[1]) * (b[0] - o[0]);
+
+/** The corners of the convex hull, counterclockwise, none of them on a side. */
+function hull(points) {
+  const order = (a, b) => (a[0] === b[0] ? (a[1] < b[1] ? -1 : a[1] > b[1] ? 1 : 0) : a[0] < b[0] ? -1 : 1);
+  const sorted = [...points].sort(order).filter((point, place, all) => place === 0 || order(point, all[place - 1]) !== 0);
+  if (sorted.length < 3) {
+    return sorted;
+  }
+  const chain = (list) => {
+    const corners = [];
+    for (const point of list) {
+      while (corners.length > 1 && cross(corners[corners.length - 2], corners[corners.length - 1], point) <= 0n) {
+        corners.pop();
+      }
+      corners.push(point);
+    }
+    return corners.slice(0, -1);
+  };
+  return [...chain(sorted), ...chain(sorted.reverse())];
+}
+
+/** Whether a closed outline turns one way all along, and once around. */
+function isConvex(points) {
+  const steps = points.map((point, place) => {
+    const next = points[(place + 1) % points.length];
+    return [add(next[0], negate(point[0])), add(next[1], negate(point[1]))];
+  }).filter(([x, y]) => x.n !== 0n || y.n !== 0n);
+  const turns = steps.map(([x, y], place) => {
+    const [nextX, nextY] = steps[(place + 1) % steps.length];
+    return Number(sign(add(multiply(x, nextY), negate(multiply(y, nextX)))));
+  });
+  const isOneWay = !(turns.some((turn) => turn > 0) && turns.some((turn) => turn < 0));
+  return isOneWay && [0, 1].every((axis) => changesOf(steps.map((step) => sign(step[axis]))) <= 2);
+}
+
+const sign = ({ n }) => (n > 0n ? 1 : n < 0n ? -1 : 0);
+
+/** How often a sign changes around a closed list. */
+function changesOf(signs) {
+  const told = signs.filter((value) => value !== 0);
+  return told.filter((value, place) => value !== told[(place + 1) % told.length]).length;
+}

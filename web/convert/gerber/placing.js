@@ -1,0 +1,167 @@
+/**
+ * Parts as the primitives that camplot reads, mirrored, turned and scaled, in whole nanometres: each corner and each
+ * centre at the nearest place, ties away from zero, so at most 0.71 nm from where it should be.
+ *
+ * @typedef {import("../exact.js").Rational} Rational
+ * @typedef {import("./parts.js").Part} Part
+ * @typedef {[bigint, bigint]} Place  whole nm
+ * @typedef {{code: 1, on: boolean, diameter: bigint, at: Place}
+ *   | {code: 20, on: boolean, width: bigint, from: Place, to: Place}
+ *   | {code: 21, on: boolean, width: bigint, height: bigint, at: Place}
+ *   | {code: 4, on: boolean, points: Place[]}} Placed
+ */
+
+import { BITS, ZERO, add, approximately, fixed, half, modulo, multiply, nearest, negate, rational, roundReal, squareRoot,
+  times } from "../exact.js";
+import { turnOf } from "../turns.js";
+
+const QUARTER = 90n;
+const HALF_CIRCLE = rational(180n);
+const FULL_CIRCLE = rational(360n);
+const NM = { mm: rational(1_000_000n), inch: rational(25_400_000n) };
+
+/** How far rounded places lie from where they should be, in nm. */
+export class Rounding {
+  constructor() {
+    this.corners = 0;
+    this.centres = 0;
+    this.worst = 0;
+  }
+
+  /** @returns {string | undefined} what was rounded, and by how much at most */
+  told() {
+    const words = [[this.corners, "corner"], [this.centres, "centre"]].filter(([count]) => count > 0)
+      .map(([count, word]) => `${count} ${word}${count > 1 ? "s" : ""}`);
+    return words.length === 0 ? undefined : `${words.join(" and ")}, by at most ${this.worst.toFixed(2)} nm`;
+  }
+}
+
+/** A mirror, then a turn about (0, 0) and a scale, of parts in a unit. */
+export class Placing {
+  /**
+   * @param {"mm" | "inch"} unit
+   * @param {{turn?: Rational, scale?: Rational, mirror?: string}} [settings]  the mirror is N, X (x is negated), Y or XY
+   * @param {Rounding} [rounding]
+   */
+  constructor(unit, { turn = ZERO, scale = rational(1n), mirror = "N" } = {}, rounding = new Rounding()) {
+    this.factor = multiply(NM[unit], scale);
+    this.turn = turn;
+    this.mirror = mirror;
+    this.rounding = rounding;
+  }
+
+  /** The angle by which a part of this turn lies turned in the end. */
+  turnOfPart(turn) {
+    const isReversed = this.mirror === "X" || this.mirror === "Y";
+    return modulo(add(this.turn, isReversed ? negate(turn) : turn), 360n);
+  }
+
+  length(length) {
+    return nearest(multiply(length, this.factor));
+  }
+
+  /** A place of the part, mirrored, as reals in nm. */
+  real([x, y]) {
+    const real = (value, isNegated) => fixed(multiply(isNegated ? negate(value) : value, this.factor));
+    return [real(x, this.mirror.includes("X")), real(y, this.mirror.includes("Y"))];
+  }
+
+  turned([x, y], turn) {
+    const { cos, sin } = turnOf(turn);
+    return [(x * cos - y * sin) >> BITS, (x * sin + y * cos) >> BITS];
+  }
+
+  /** The nearest place; what it is the place of is counted where it had to be rounded. */
+  rounded([x, y], counted) {
+    const place = [roundReal(x), roundReal(y)];
+    const off = Math.hypot(approximately(x - (place[0] << BITS)), approximately(y - (place[1] << BITS)));
+    if (off > 1e-9) {
+      this.rounding[counted] += 1;
+      this.rounding.worst = Math.max(this.rounding.worst, off);
+    }
+    return place;
+  }
+
+  centre(at, turn) {
+    return this.rounded(this.turned(this.real(at), turn), "centres");
+  }
+
+  /**
+   * @param {Part} part  but a moire or a thermal
+   * @returns {Placed[]}
+   */
+  placed(part) {
+    const turn = this.turnOfPart(part.turn);
+    const isQuarter = turn.d === 1n && turn.n % QUARTER === 0n;
+    switch (part.kind) {
+      case "disc":
+        return [{ code: 1, on: part.on, diameter: this.length(part.diameter), at: this.centre(part.at, turn) }];
+      case "capsule":
+        return this.capsule(part, turn);
+      case "bar":
+        return isQuarter ? [this.bar(part, turn)] : [this.outline(part.on, this.cornersOfBar(part), turn)];
+      case "rectangle":
+        return [isQuarter ? this.rectangle(part, turn) : this.outline(part.on, this.cornersOfRectangle(part), turn)];
+      case "outline":
+        return [this.outline(part.on, part.points.map((point) => this.real(point)), turn)];
+      default:
+        return [{ code: 4, on: part.on, points: this.cornersOfPolygon(part, turn) }];
+    }
+  }
+
+  outline(on, corners, turn) {
+    return { code: 4, on, points: corners.map((corner) => this.rounded(this.turned(corner, turn), "corners")) };
+  }
+
+  bar({ on, width, from, to }, turn) {
+    return { code: 20, on, width: this.length(width), from: this.centre(from, turn), to: this.centre(to, turn) };
+  }
+
+  /** Discs at both ends, and between their centres as they were rounded a bar that touches them. */
+  capsule(part, turn) {
+    const bar = this.bar(part, turn);
+    const ends = [bar.from, bar.to].map((at) => ({ code: 1, on: part.on, diameter: bar.width, at }));
+    return [bar, ...ends];
+  }
+
+  rectangle({ on, width, height, at }, turn) {
+    const sides = [this.length(width), this.length(height)];
+    const [across, up] = turn.n % (2n * QUARTER) === 0n ? sides : [sides[1], sides[0]];
+    return { code: 21, on, width: across, height: up, at: this.centre(at, turn) };
+  }
+
+  cornersOfRectangle({ width, height, at }) {
+    const [x, y] = this.real(at);
+    const [a, b] = [width, height].map((side) => fixed(half(multiply(side, this.factor))));
+    return [[x - a, y - b], [x + a, y - b], [x + a, y + b], [x - a, y + b]];
+  }
+
+  /** Half the width to both sides of each end; of a bar of no length, which covers nothing, its ends. */
+  cornersOfBar({ width, from, to }) {
+    const [start, end] = [this.real(from), this.real(to)];
+    const [dx, dy] = [0, 1].map((axis) => add(to[axis], negate(from[axis])));
+    const length = squareRoot(add(multiply(dx, dx), multiply(dy, dy)));
+    if (length === 0n) {
+      return [start, end, end, start];
+    }
+    const reach = half(multiply(width, this.factor));
+    const sides = [dy, dx].map((side) => (fixed(multiply(side, reach)) << BITS) / length);
+    const across = [this.mirror.includes("X") ? sides[0] : -sides[0], this.mirror.includes("Y") ? -sides[1] : sides[1]];
+    const beside = ([x, y], sign) => [x + sign * across[0], y + sign * across[1]];
+    return [beside(start, 1n), beside(end, 1n), beside(end, -1n), beside(start, -1n)];
+  }
+
+  cornersOfPolygon({ count, diameter, at, start }, turn) {
+    const [x, y] = this.turned(this.real(at), turn);
+    const radius = half(multiply(diameter, this.factor));
+    const mirrored = { N: start, X: add(HALF_CIRCLE, negate(start)), Y: negate(start), XY: add(HALF_CIRCLE, start) };
+    const first = add(turn, mirrored[this.mirror]);
+    const step = rational(FULL_CIRCLE.n, BigInt(count));
+    const corners = [];
+    for (let place = 0n; place < count; place += 1n) {
+      const { cos, sin } = turnOf(add(first, multiply(step, rational(place))));
+      corners.push(this.rounded([x + times(radius, cos), y + times(radius, sin)], "corners"));
+    }
+    return corners;
+  }
+}

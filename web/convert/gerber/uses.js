@@ -1,0 +1,178 @@
+/** Flashes and draws with the aperture that is selected, and those that are made for them: turned, scaled, as hulls. */
+
+import { Unsaid } from "../report.js";
+import { add, equal, isZero, multiply, negate, rational, shown } from "../exact.js";
+import { NEAREST, partsOf } from "./definitions.js";
+import { hullOf, penOf } from "./pens.js";
+import { Placing, Rounding } from "./placing.js";
+import { lengthText, macroTexts, placedParts } from "./shapes_written.js";
+
+const PEN_ADVICE = "have areas filled with a round pen, or by regions";
+const NAMES = { C: "a circle with a hole", R: "a rectangle", O: "an obround", P: "a polygon", AB: "a block" };
+const ONE = rational(1n);
+
+/** @returns {string} what an aperture is, for messages */
+function nameOf({ template, macro }) {
+  return macro === null ? NAMES[template] : `the macro ${template}`;
+}
+
+/**
+ * The number with which a flash is written, and the definitions that have to stand before it.
+ * @param {import("./state.js").State} state
+ * @returns {{number: number, before: string[]}}
+ */
+export function forFlash(state) {
+  const { aperture } = state;
+  checkCurrent(state);
+  if (aperture === null) {
+    return { number: state.selected, before: [] };
+  }
+  return state.isUpright || aperture.isSolidCircle && isOne(state.scale) ? own(aperture) : turned(state, aperture);
+}
+
+/**
+ * The same of a draw, where camplot draws with the aperture; null where a hull has to be flashed.
+ * @param {import("./state.js").State} state
+ * @param {boolean} isArc
+ * @returns {{number: number, before: string[]} | null}
+ */
+export function forDraw(state, isArc) {
+  const { aperture } = state;
+  checkCurrent(state);
+  if (aperture === null) {
+    return { number: state.selected, before: [] };
+  }
+  if (aperture.isSolidCircle) {
+    return isOne(state.scale) ? own(aperture) : turned(state, aperture);
+  }
+  if (aperture.isSolidRectangle && !isArc && isZero(state.turnLeft)) {
+    return isOne(state.scale) ? own(aperture) : turned(state, aperture);
+  }
+  const round = roundPen(state, aperture);
+  if (round !== null) {
+    return round;
+  }
+  if (isArc) {
+    throw new Unsaid(`an arc with aperture ${state.selected}, ${nameOf(aperture)}, which is no solid circle: ${PEN_ADVICE}`);
+  }
+  if (!state.options.nearest) {
+    throw new Unsaid(`a draw with aperture ${state.selected}, ${nameOf(aperture)}, which is no solid circle or ` +
+      `rectangle: ${PEN_ADVICE}, ${NEAREST}`);
+  }
+  return null;
+}
+
+function checkCurrent(state) {
+  if (state.isOutdated) {
+    throw new Unsaid(`aperture ${state.selected} was defined again since it was selected: select it anew where the new ` +
+      "one is meant");
+  }
+}
+
+const isOne = (scale) => equal(scale, ONE);
+
+function own(aperture) {
+  aperture.isUsed = true;
+  return { number: aperture.number, before: [] };
+}
+
+/** An aperture that is made, once for each key: its number, and its definition where it is new. */
+function made(state, key, make) {
+  const { dictionary } = state;
+  state.aperture.isReplaced = true;
+  const old = dictionary.made.get(key);
+  if (old !== undefined) {
+    return { number: old, before: [] };
+  }
+  const number = dictionary.freeNumber();
+  const before = make(number);
+  dictionary.made.set(key, number);
+  return { number, before };
+}
+
+/** The aperture turned by what is left of the turn beyond quarters, and scaled. */
+function turned(state, aperture) {
+  const { turnLeft, scale, mirror, lengthUnit } = state;
+  if (aperture.template === "AB") {
+    throw new Unsaid(`a flash of aperture ${state.selected}, a block, ${settingsText(state)}: plot its objects without a ` +
+      "block");
+  }
+  const turn = mirror === "X" || mirror === "Y" ? negate(turnLeft) : turnLeft;
+  return made(state, `${keyOf(aperture)} ${fraction(turn)} ${fraction(scale)}`, (number) => {
+    const rounding = new Rounding();
+    const texts = scaledTemplate(state, aperture, number) ?? macroTexts(number, state.dictionary.nameFor(number),
+      placedParts(partsOf(aperture), new Placing(lengthUnit, { turn, scale }, rounding)), lengthUnit);
+    state.change(`aperture ${state.selected} ${settingsText(state)} is written as aperture ${number}`, rounding.told());
+    return texts;
+  });
+}
+
+function settingsText({ turnLeft, quarters, scale }) {
+  const turn = isZero(turnLeft) ? [] : [`turned by ${shown(add(turnLeft, rational(90 * quarters)))} degrees`];
+  return [...turn, ...(isOne(scale) ? [] : [`scaled by ${shown(scale)}`])].join(" and ");
+}
+
+const fraction = ({ n, d }) => `${n}/${d}`;
+const keyOf = (aperture) => `${aperture.number}:${aperture.key}`;
+
+/** A template of the standard that is scaled alone. */
+function scaledTemplate({ turnLeft, scale, lengthUnit }, { template, sizes }, number) {
+  const isTurned = !isZero(turnLeft) && template !== "C";
+  const most = { C: 2, R: 3, O: 3 }[template];
+  if (isTurned || most === undefined || sizes.length > most) {
+    return null;
+  }
+  const placing = new Placing(lengthUnit, { scale });
+  return [`%ADD${number}${template},${sizes.map((size) => lengthText(placing.length(size), lengthUnit)).join("X")}*%`];
+}
+
+/** Where a macro is one disc about (0, 0), the circle that it is, which draws the same. */
+function roundPen(state, aperture) {
+  if (aperture.macro === null) {
+    return null;
+  }
+  let parts;
+  try {
+    parts = partsOf(aperture);
+  } catch (error) {
+    if (error instanceof Unsaid) {
+      return null;
+    }
+    throw error;
+  }
+  const [part] = parts;
+  if (parts.length !== 1 || part.kind !== "disc" || !part.on || !part.at.every(isZero)) {
+    return null;
+  }
+  return made(state, `circle ${keyOf(aperture)} ${fraction(state.scale)}`, (number) => {
+    state.change(`a draw with aperture ${state.selected}, a macro of one disc, is written with the circle ${number}`);
+    const diameter = new Placing(state.lengthUnit, { scale: state.scale }).length(part.diameter);
+    return [`%ADD${number}C,${lengthText(diameter, state.lengthUnit)}*%`];
+  });
+}
+
+/**
+ * The flash of the hull that a straight draw covers; of one of no length, of the pen alone.
+ * @param {import("./state.js").State} state
+ * @param {[bigint, bigint]} way  from its start to its end, in nm
+ * @returns {{number: number, before: string[]}}
+ */
+export function forHull(state, way) {
+  const { aperture, mirror, quarters, turnLeft, scale, lengthUnit } = state;
+  const what = `a draw with aperture ${state.selected}, ${nameOf(aperture)}`;
+  const turn = add(rational(90 * quarters), turnLeft);
+  const key = `hull ${keyOf(aperture)} ${mirror} ${fraction(turn)} ${fraction(scale)}`;
+  const rounding = new Rounding();
+  let pen;
+  try {
+    pen = penOf(partsOf(aperture), new Placing(lengthUnit, { turn, scale, mirror }, rounding));
+  } catch (error) {
+    throw error instanceof Unsaid ? new Unsaid(`${what}, which ${error.message}: ${PEN_ADVICE}`) : error;
+  }
+  state.change(`${what}, is written as a flash of the hull that it covers`, rounding.told());
+  return made(state, `${key} ${way}`, (number) => {
+    const name = state.dictionary.nameFor(number);
+    return macroTexts(number, name, hullOf(pen, way), lengthUnit);
+  });
+}
+

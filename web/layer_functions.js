@@ -1,0 +1,97 @@
+// What the layers of a board show: their names in a script, what people call them, their colours and their order; and
+// how a file tells it by its attribute.
+
+import { latin1Bytes, latin1, utf8 } from "./bytes.js";
+
+/**
+ * What a layer shows.
+ * @typedef {object} LayerFunction
+ * @property {string} name its name in a script, as `top-mask`
+ * @property {string} label what people call it
+ * @property {string} colour `#rrggbb`
+ * @property {number} height where it lies, from the bottom of the pile to its top
+ * @property {boolean} isShown whether it is shown at first
+ */
+
+const TABLE = [
+  ["bottom-glue", "bottom glue", "#7a6a9a", 4, false],
+  ["bottom-paste", "bottom paste", "#8b9db0", 6, false],
+  ["bottom-silk", "bottom silkscreen", "#d6b3e6", 8, true],
+  ["bottom-mask", "bottom solder mask", "#1fa08b", 10, false],
+  ["bottom", "bottom copper", "#3f7fe0", 12, true],
+  ["top", "top copper", "#d8433b", 60, true],
+  ["top-mask", "top solder mask", "#b45ad0", 62, false],
+  ["top-paste", "top paste", "#b9b3a0", 64, false],
+  ["top-glue", "top glue", "#9a7a6a", 66, false],
+  ["top-silk", "top silkscreen", "#f2eda1", 68, true],
+  ["drawing", "drawing", "#8f98a3", 72, false],
+  ["other", "other", "#9fb06a", 74, false],
+  ["outline", "outline", "#e8d14a", 80, true],
+  ["nonplated", "holes without plating", "#7fd6e8", 84, true],
+  ["plated", "plated holes", "#ffffff", 86, true],
+  ["holes", "holes", "#ffffff", 88, true],
+];
+const INNER_COLOURS = ["#c9a227", "#46a758", "#c2689a", "#5bb7c9", "#d98f43", "#8f7ae0"];
+
+function layerFunction([name, label, colour, height, isShown]) {
+  return Object.freeze({ name, label, colour, height, isShown });
+}
+
+/** The functions of a board but inner copper, by name. @type {Map<string, LayerFunction>} */
+export const PLAIN = new Map(TABLE.map((row) => [row[0], layerFunction(row)]));
+
+/**
+ * Inner copper.
+ * @param {number} number from 1 below the top; less counts as 1
+ * @returns {LayerFunction}
+ */
+export function inner(number) {
+  const place = Math.max(1, number);
+  const colour = INNER_COLOURS[(place - 1) % INNER_COLOURS.length];
+  return layerFunction([`in${place}`, `inner copper ${place}`, colour, Math.max(13, 59 - place), false]);
+}
+
+/**
+ * A function of the table with a label of its own.
+ * @param {string} name
+ * @param {string} label
+ * @returns {LayerFunction}
+ */
+export function labelled(name, label) {
+  return Object.freeze({ ...PLAIN.get(name), label });
+}
+
+const ATTRIBUTE = /TF[ \t\r\n\v\f]*\.FileFunction[ \t\r\n\v\f]*,([^*\r\n]*)/;
+const SIDES = { Top: "top", Bot: "bottom" };
+const ON_A_SIDE = { Soldermask: "mask", Legend: "silk", Paste: "paste", Glue: "glue" };
+const HOLES = { Plated: "plated", NonPlated: "nonplated", MixedPlating: "holes" };
+const DRAWINGS = ["Drillmap", "Component"];
+
+/**
+ * What a file says that it shows: `%TF.FileFunction,..*%` (Gerber Layer Format Specification, "File attributes"), also in
+ * the comments `G04 #@! TF..*` and `; #@! TF..` that KiCad writes.
+ * @param {Uint8Array} head the file's first bytes
+ * @returns {LayerFunction | null} null where it says nothing
+ */
+export function byAttribute(head) {
+  const found = ATTRIBUTE.exec(latin1(head));
+  if (!found) return null;
+  const value = utf8(latin1Bytes(found[1])).trim();
+  const fields = value.split(",").map((field) => field.trim());
+  const what = fields[0];
+  if (what === "Copper" && fields.length > 2 && /^L\d+$/.test(fields[1])) {
+    const side = own(SIDES, fields[2]);
+    return side ? PLAIN.get(side) : inner(Number(fields[1].slice(1)) - 1);
+  }
+  if (own(ON_A_SIDE, what)) {
+    const side = own(SIDES, fields[1]);
+    return side ? PLAIN.get(`${side}-${ON_A_SIDE[what]}`) : labelled("other", value);
+  }
+  if (what === "Profile") return PLAIN.get("outline");
+  if (own(HOLES, what)) return PLAIN.get(HOLES[what]);
+  return labelled(what.endsWith("Drawing") || DRAWINGS.includes(what) ? "drawing" : "other", value);
+}
+
+function own(table, key) {
+  return Object.hasOwn(table, key) ? table[key] : undefined;
+}
