@@ -130,8 +130,14 @@ impl Station {
             Command::Polarity { name, k, dark } => self.change(name, Change::Polarity { k, dark }),
             Command::Tool { name, k, t } => self.change(name, Change::Tool { k, t }),
             Command::Diameter { name, t, d } => self.change(name, Change::Diameter { t, d }),
-            Command::SetAttribute { name, key, fields } => self.change(name, Change::SetAttribute { key, fields }),
-            Command::DropAttribute { name, key } => self.change(name, Change::DropAttribute { key }),
+            Command::SetAttribute { name, key, fields } => self.change(
+                name,
+                Change::SetAttribute { key, fields },
+            ),
+            Command::DropAttribute { name, key } => self.change(
+                name,
+                Change::DropAttribute { key },
+            ),
             Command::Begin => self.begin(),
             Command::End => self.end(),
             Command::Abort => self.abort(),
