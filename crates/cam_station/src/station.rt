@@ -266,7 +266,7 @@ impl Station {
         let raster = &mut self.rasters[place];
         let dirty = raster.dirty();
         let drawn = draw(self.alloc, self.board.content(place), raster, dirty);
-        match raster.to_pbm(self.alloc) {
+        match raster.to_pbm() {
             Ok(bytes) => Ok(Reply::Bytes {
                 bytes: Bytes::from_vec(bytes),
                 drawn: u64::from(drawn),
