@@ -31,19 +31,23 @@ export class Hints {
     this.incremental = [];
   }
 
+  /** Adds what another source tells. @param {Hints} other */
   join(other) {
     for (const kind of ["units", "digits", "zeros", "incremental"]) this[kind].push(...other[kind]);
     for (const [number, tool] of other.tools) this.tools.set(number, tool);
   }
 
+  /** Whether nothing of units, digits, zeros and tools is told. */
   get isEmpty() {
     return !(this.units.length || this.digits.length || this.zeros.length || this.tools.size);
   }
 
+  /** Adds digits, given as numbers or as their texts. */
   addDigits(whole, decimals, source) {
     this.digits.push({ value: { whole: Number(whole), decimals: Number(decimals) }, source });
   }
 
+  /** Adds a source that tells of incremental coordinates, where its word is not "absolute". */
   addMode(mode, source) {
     if (mode.toLowerCase() !== "absolute") this.incremental.push(source);
   }
