@@ -2,6 +2,7 @@ pub mod CleanTiles
 pub mod Depths
 pub mod DirtyTiles
 pub mod DrawnTiles
+pub mod EditCommands
 pub mod FaultNumbers
 pub mod FilesPut
 pub mod Groups
