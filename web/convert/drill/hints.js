@@ -66,8 +66,7 @@ const HEADER_DIGITS = /^(0+)\.(0+)$/;
  * @throws {Unsaid} where a word of it is not known
  */
 export function unitHints(code, line) {
-  const first = code.charCodeAt(0);
-  const found = (first === 73 || first === 77) && HEADER_UNIT.exec(code);
+  const found = HEADER_UNIT.exec(code);
   if (!found) return null;
   const hints = new Hints(), source = `${code} on line ${line}`;
   hints.units.push({ value: UNITS[found[1]], source });
