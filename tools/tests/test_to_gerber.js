@@ -170,3 +170,18 @@ written: old.gbr.gbr
 `);
   });
 });
+
+suite("a board of parts at odd angles", () => {
+  for (const [layer, items] of [["F_Cu", 34], ["F_Mask", 17]]) {
+    test(`${layer} is refused, and loads by --nearest`, () => {
+      if (!existsSync(PROGRAM)) skip("the program is not built");
+      const room = newRoom();
+      copyFileSync(join(REPOSITORY, "examples", "kicad_angles", `windrose-${layer}.gbr`), join(room, "a.gbr"));
+      assert.equal(runTool("to_gerber", ["a.gbr"], room).status, 1);
+      assert.equal(runTool("to_gerber", ["a.gbr", "--nearest", "-o", "b.gbr"], room).status, 0);
+      writeFileSync(join(room, "script"), "load a gerber a.gbr\nload b gerber b.gbr\n");
+      const { stdout } = runProgram(PROGRAM, ["script"], room);
+      assert.match(stdout, new RegExp(`^refused 13 \\d+\nok ${items}\n$`));
+    });
+  }
+});
