@@ -20,7 +20,7 @@ const COMMAND = {
   tools/test board page              the tests alone whose names hold one of these words
 
 It says a line for each test that was left out, with why, and where a test failed. The last line is
-'N passed, M failed'; the exit status is 0 where M is 0, else 1, and 2 where the words of the call do not fit.`,
+'N passed, M failed', and ', K skipped' if some were left out; the exit status is 0 where M is 0, else 1, and 2 where the words of the call do not fit.`,
   operand: { name: "WORD", isMany: true, isOptional: true, help: "run the tests whose names hold one of these words" },
   options: [{ name: "--camplot", value: "PROGRAM", help: "the program to be run",
     otherwise: join(REPOSITORY, "crates", "camplot", "out", "camplot") }],
@@ -46,13 +46,14 @@ async function main({ camplot, operands: words }) {
   if (!existsSync(camplot)) console.log(`tools: ${camplot} is not there; tests that run it fail`);
   await load();
   const chosen = tests.filter(({ id }) => words.length === 0 || words.some((word) => id.includes(word)));
-  let passed = 0, failed = 0;
+  let passed = 0, failed = 0, skipped = 0;
   for (const test of chosen) {
     try {
       await runTest(test);
       passed++;
     } catch (fault) {
       if (fault instanceof Skipped) {
+        skipped++;
         console.log(`tools: ${test.id}: left out: ${fault.message}`);
       } else {
         failed++;
@@ -60,7 +61,7 @@ async function main({ camplot, operands: words }) {
       }
     }
   }
-  console.log(`${passed} passed, ${failed} failed`);
+  console.log(`${passed} passed, ${failed} failed${skipped ? `, ${skipped} skipped` : ""}`);
   return failed ? 1 : 0;
 }
 

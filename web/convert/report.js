@@ -22,8 +22,8 @@ export class Changes {
   constructor() {
     /** @type {Change[]} */
     this.list = [];
-    /** @type {Map<string, number>} the last line of each change */
-    this.lastLines = new Map();
+    /** @type {Map<string, {line: number}>} the last one of each kind */
+    this.lastOnes = new Map();
   }
 
   /**
@@ -33,11 +33,15 @@ export class Changes {
    */
   add(what, line, rounded) {
     const key = rounded === undefined ? what : `${what}\n${rounded}`;
-    if (this.lastLines.get(key) === line) {
-      return;
+    let last = this.lastOnes.get(key);
+    if (last === undefined) {
+      last = { line: 0 };
+      this.lastOnes.set(key, last);
     }
-    this.lastLines.set(key, line);
-    this.list.push(rounded === undefined ? { line, what } : { line, what, rounded });
+    if (last.line !== line) {
+      last.line = line;
+      this.list.push(rounded === undefined ? { line, what } : { line, what, rounded });
+    }
   }
 }
 

@@ -14,9 +14,10 @@ use std::test::Fail;
 /// first fails, this one says what the first says otherwise.
 type Call = (usize, Option<usize>);
 
-/// A script, what each of its lines says, which of them get and put files, how many lines are refused, how many gets
-/// find no file, and what the last puts of some paths leave.
+/// A script and its depth, what each of its lines says, which of them get and put files, how many lines are refused, how
+/// many gets find no file, and what the last puts of some paths leave.
 struct Script {
+    depth: u32,
     text: &'static [u8],
     replies: &'static [&'static [u8]],
     gets: &'static [Call],
@@ -35,6 +36,7 @@ const FILES: &[File] = &[
 
 /// Lines that are refused beside such as are not.
 const REFUSALS: &Script = &Script {
+    depth: 100,
     text: b"plot top p\nload top gerber none.gbr\nload top gerber cut.gbr\nload top gerber a.gbr\nload top gerber a.gbr\n\
 plot top p\nwindow 0 0 1 1 1\nplot none p\nplot top p\nplot top p\ndelete top 7\nwrite none t\nwrite top t\nwrite top t\n\
 load top drill e.drl\nundo\nwindow 0 0 1 40000 1\nbegin\nload more drill e.drl\nabort\nlist\n",
@@ -77,6 +79,7 @@ load top drill e.drl\nundo\nwindow 0 0 1 40000 1\nbegin\nload more drill e.drl\n
 
 /// Edits, and a group of them, that are taken back and made again.
 const HISTORY: &Script = &Script {
+    depth: 100,
     text: b"load top gerber a.gbr\nload top gerber a.gbr\nload holes drill e.drl\nload holes drill e.drl\n\
 window 990000 990000 20000 1 1\nplot holes h\nplot top p\nmove top 0 1000000 1000000\nplot top p\nplot top q\nbegin\n\
 delete top 0\ndiameter holes 1 500000\nplot holes h\nend\nplot top q\nwrite holes t\nundo\nplot top p\nundo\nplot top q\n\
@@ -130,6 +133,83 @@ write top t\nwrite top t\nredo\nredo\nplot top q\nlist\n",
     written: &[("p", BLACK), ("q", WHITE)],
 };
 
+/// The oldest entry is dropped: of three moves at depth 2 two are taken back.
+const OLDEST: &Script = &Script {
+    depth: 2,
+    text: b"load top gerber a.gbr\nload top gerber a.gbr\nmove top 0 1000000 0\nmove top 0 1000000 0\nmove top 0 1000000 0\n\
+undo\nundo\nundo\nredo\nredo\npolarity top 0 clear\nredo\nlist\nwrite top t\nwrite top t\n",
+    replies: &[
+        b"ok 1\n",
+        b"refused 83\n",
+        b"ok\n",
+        b"ok\n",
+        b"ok\n",
+        b"ok\n",
+        b"ok\n",
+        b"refused 70\n",
+        b"ok\n",
+        b"ok\n",
+        b"ok\n",
+        b"refused 71\n",
+        b"ok 1 2 0\n",
+        b"ok 83\n",
+        b"ok 83\n",
+    ],
+    gets: &[(0, Some(1)), (1, None)],
+    puts: &[(13, None), (14, None)],
+    refused: 3,
+    absent: 0,
+    written: &[("t", MOVED_AND_CLEARED)],
+};
+
+/// Refusals in turn, from an empty station on, and at the end what is plotted and written all the same.
+const IN_TURN: &Script = &Script {
+    depth: 100,
+    text: b"plot top x\nload top gerber a.gbr\nload top gerber a.gbr\nplot top x\nredraw 5\nload top gerber a.gbr\n\
+move top 1 0 0\ninsert top 2 flash 10 0 0 r0 dark\naperture top 0 11\ntool top 0 1\nmove top 0 1000000000 0\n\
+window 0 0 0 1 1\nbegin\nload b gerber a.gbr\nbegin\nend\nend\nabort\nundo\nfrob\nload b gerber none\n\
+window -10000 -10000 20000 1 1\nplot top p\nplot top p\nwrite top t\n",
+    replies: &[
+        b"refused 60\n",
+        b"ok 1\n",
+        b"refused 83\n",
+        b"refused 84\n",
+        b"refused 84\n",
+        b"refused 83\n",
+        b"refused 61\n",
+        b"refused 61\n",
+        b"refused 62\n",
+        b"refused 68\n",
+        b"refused 65\n",
+        b"refused 50\n",
+        b"ok\n",
+        b"refused 72\n",
+        b"refused 72\n",
+        b"ok\n",
+        b"refused 73\n",
+        b"refused 73\n",
+        b"refused 70\n",
+        b"refused 80\n",
+        b"refused 82\n",
+        b"ok\n",
+        b"ok 1\n",
+        b"ok 0\n",
+        b"ok 70\n",
+    ],
+    gets: &[(1, Some(2)), (2, None), (5, None), (13, None), (20, None)],
+    puts: &[(22, None), (23, None), (24, None)],
+    refused: 18,
+    absent: 1,
+    written: &[("p", BLACK)],
+};
+
+/// What is written of a disc that was moved three times and made clear.
+const MOVED_AND_CLEARED: &[u8] =
+    b"%FSLAX46Y46*%\n%MOMM*%\nG01*\nG75*\n%ADD10C,1.000000*%\n%LPC*%\nD10*\nX3000000Y0D03*\nM02*\n";
+
+/// All scripts.
+const SCRIPTS: &[&Script] = &[REFUSALS, HISTORY, OLDEST, IN_TURN];
+
 /// The files, of which the get and the put of these numbers fail, counted from 1 once the files are there.
 fn files(alloc: Global, get: usize, put: usize) -> Result<MemoryFiles, Fail> {
     let put = match put {
@@ -175,7 +255,7 @@ fn runs(
     failed: Option<Call>,
 ) -> Result<(), Fail> {
     let mut out = MemoryOut::new(alloc);
-    let refused = run(alloc, 100, script.text, &mut files, &mut out)?;
+    let refused = run(alloc, script.depth, script.text, &mut files, &mut out)?;
     let told = told(alloc, script, failed)?;
     assert_eq!(rt; out.said.as_slice(), told.as_slice(), "{failed:?}");
     let failures = files.failures();
@@ -197,7 +277,7 @@ fn runs(
 #[test]
 fn each_get(rt: HostRuntime) -> Result<(), Fail> {
     let alloc = rt.alloc();
-    for script in [REFUSALS, HISTORY] {
+    for &script in SCRIPTS {
         for (k, call) in script.gets.iter().enumerate() {
             // Where there is no file, the failure is counted all the same.
             if reply_at(script, call.0) != b"refused 82\n".as_slice() {
@@ -215,7 +295,7 @@ fn each_get(rt: HostRuntime) -> Result<(), Fail> {
 #[test]
 fn each_put(rt: HostRuntime) -> Result<(), Fail> {
     let alloc = rt.alloc();
-    for script in [REFUSALS, HISTORY] {
+    for &script in SCRIPTS {
         for (k, call) in script.puts.iter().enumerate() {
             let files = files(alloc, 0, k.saturating_add(1))?;
             runs(&rt, alloc, script, files, Some(*call))?;
@@ -230,7 +310,7 @@ fn each_put(rt: HostRuntime) -> Result<(), Fail> {
 fn says(alloc: Global, script: &Script, say: usize) -> Result<(Option<u64>, MemoryOut), Fail> {
     let mut files = files(alloc, 0, 0)?;
     let mut out = MemoryOut::failing(alloc, say as u64);
-    match run(alloc, 100, script.text, &mut files, &mut out) {
+    match run(alloc, script.depth, script.text, &mut files, &mut out) {
         Ok(refused) => Ok((Some(refused), out)),
         Err(RunFault::Output) => Ok((None, out)),
         Err(fault) => Err(Fail::new(fault)),
@@ -241,7 +321,7 @@ fn says(alloc: Global, script: &Script, say: usize) -> Result<(Option<u64>, Memo
 #[test]
 fn each_say(rt: HostRuntime) -> Result<(), Fail> {
     let alloc = rt.alloc();
-    for script in [REFUSALS, HISTORY] {
+    for &script in SCRIPTS {
         let told = told(alloc, script, None)?;
         let mut before = 0;
         let mut ended = None;

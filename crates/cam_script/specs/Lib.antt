@@ -1,4 +1,6 @@
 pub mod Words
 pub mod Items
+pub mod Commands
 pub mod Parsing
+pub mod Faults
 pub mod Machinery

@@ -25,7 +25,7 @@ use crate::items::item;
 use crate::line::{Line, LineFault};
 use crate::marks::polarity;
 use crate::names::{is_name, name_of};
-use crate::numbers::{count, length, point, tool};
+use crate::numbers::{count, length, tool};
 use crate::pieces::is;
 use crate::words::Words;
 use cam_edits::{Change, Edit};
@@ -122,8 +122,9 @@ fn move_change(words: &mut Words<'_>) -> Option<Change>
 {
     let (k, dx, dy) = words.three()?;
     let k = place(k)?;
-    let by = point((dx, dy))?;
-    Some(Change::Move { k, by })
+    let dx = length(dx)?;
+    let dy = length(dy)?;
+    Some(Change::Move { k, dx, dy })
 }
 
 /// The words behind the name of a change of order.
@@ -212,5 +213,5 @@ pub fn edit(alloc: Global, form: ChangeForm, words: &mut Words<'_>) -> Result<Li
     }
     let change = change(alloc, form, words)?;
     let name = name_of(alloc, name)?;
-    Ok(Line::Command(Command::Edit(Edit { name, change })))
+    Ok(Line::Command(Command::from(Edit { name, change })))
 }

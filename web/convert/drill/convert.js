@@ -97,7 +97,7 @@ function looksOf(read, hints) {
 }
 
 function accountOf(reader, changes, again, form, hints) {
-  const { drilling: read, slots: byG85 } = reader;
+  const { drilling: read, machine: { slots: byG85 } } = reader;
   const slots = byG85 ? `${read.routs} (${byG85} by G85, ${read.routs - byG85} by M15)` : `${read.routs}`;
   const spans = () => `centres: X ${rangeText(read.xs, read.unit)}, Y ${rangeText(read.ys, read.unit)} mm`;
   return [

@@ -1,24 +1,17 @@
 // An Excellon drill file line by line: what it drills, and what in it cannot be written in XNC.
 
 import { Changes, Unsaid } from "../report.js";
-import { Drilling } from "./drilling.js";
 import { tellsForm, unitHints } from "./hints.js";
-import { ONE, decimalOf, inMm, lengthOf, quickReader } from "./lengths.js";
 import { numberForZero } from "./lines.js";
+import { Machine } from "./machine.js";
 import { FEEDS, diameterOf, toolNumber, unitLine } from "./tools.js";
 import { isNeutralCode, isNeutralWord, whyNotCode, whyNotLetter, whyNotWord } from "./words.js";
 
-const BOARD_MM = 1000;
 // No number can be matched in two ways: else a long line takes for ever.
 const NUMBER = "[+-]?(?:[0-9]+(?:\\.[0-9]*)?|\\.[0-9]*)?";
 const CODE = new RegExp(`([A-Z])(${NUMBER})`, "g");
 const CODES = new RegExp(`^(?:[A-Z]${NUMBER})+$`);
 const LENGTH = /[XYT]\d|[XY][+\-.]/;
-
-// Coordinates are hits, or the tool goes to a rout's start, or cuts one.
-const DRILLING = "drilling", RAISED = "raised", LOWERED = "lowered";
-
-/** A code: a letter and the number behind it. @typedef {[string, string]} Code */
 
 /** What the lines before have told. */
 export class Reader {
@@ -30,12 +23,7 @@ export class Reader {
    * @param {Map<number, import("./hints.js").ToldTool>} told the tools by comments and a report
    */
   constructor(unit, digits, zeros, given, told) {
-    this.drilling = new Drilling(unit);
-    this.digits = digits;
-    this.zeros = zeros;
-    this.quick = quickReader(digits, zeros);
-    // Lengths below this are on the board in any case.
-    this.near = inMm(ONE, unit) > 1 ? 39 * ONE : 999 * ONE;
+    this.machine = new Machine(unit, digits, zeros);
     this.given = given;
     this.told = told;
     /** @type {import("../report.js").Refusal[]} */
@@ -45,17 +33,16 @@ export class Reader {
     /** @type {(string | number)[]} */
     this.header = [];
     this.declared = new Set();
-    this.slots = 0;
     this.hasHeader = this.isInHeader = this.isFormatOne = false;
     // The line of the end, once it is read.
     this.ended = 0;
-    this.height = DRILLING;
-    this.hasCut = false;
-    this.tool = null;
-    this.x = this.y = 0;
-    this.rout = [];
     this.toolZero = 0;
     this.line = 0;
+  }
+
+  /** What was drilled and routed so far. */
+  get drilling() {
+    return this.machine.drilling;
   }
 
   /** Reads all lines. @param {import("./lines.js").Lines} lines */
@@ -87,21 +74,10 @@ export class Reader {
         throw new Unsaid(`${code.slice(0, 40)} stands behind the end on line ${this.ended}: cut the file there, or take `
           + "the end out");
       }
-    } else if (code && !this.isPlainHit(code)) {
+    } else if (code && !this.machine.isPlainHit(code)) {
       this.readCode(code);
     }
     if (comment !== undefined) this.keepComment(comment);
-  }
-
-  // Reads a line of an X and a Y that makes a hit, as most are; tells whether it was one.
-  isPlainHit(code) {
-    if (code.charCodeAt(0) !== 88 || this.height !== DRILLING || this.tool === null) return false;
-    const at = code.indexOf("Y", 1);
-    if (at < 0) return false;
-    const x = this.quick(code, 1, at), y = this.quick(code, at + 1, code.length);
-    if (!(Math.abs(x) < this.near && Math.abs(y) < this.near)) return false;
-    this.hit(x, y);
-    return true;
   }
 
   keepComment(comment) {
@@ -134,7 +110,7 @@ export class Reader {
     else this.change(`${code} is left out where no header ends`);
   }
 
-  /** @param {Code[]} codes */
+  /** @param {import("./machine.js").Code[]} codes */
   readCodes(codes) {
     const [letter, text] = codes[0], rest = codes.slice(1);
     if (letter === "N") {
@@ -147,22 +123,24 @@ export class Reader {
       if (letter === "G") this.preparatory(Number(text), rest);
       else this.miscellaneous(Number(text), rest);
     } else if (letter === "X" || letter === "Y") {
-      this.place(codes);
+      this.machine.place(codes);
     } else {
       throw new Unsaid(`${letter}${text} is ${whyNotLetter(letter) ?? "no code that is known"}`);
     }
   }
 
   preparatory(number, rest) {
+    const { machine } = this, isZero = ([, text]) => machine.length(text) === 0;
     if (number === 5 || number === 81) {
-      this.drillMode(number, rest);
+      machine.raisedOnly(`G${padded(number)}`);
+      if (number === 81) this.change("G81 is written as G05");
+      machine.drill(rest);
     } else if (number === 0) {
-      this.raisedOnly("G00");
-      this.height = RAISED;
-      if (rest.length) this.goTo(rest);
+      machine.raisedOnly("G00");
+      machine.approach(rest);
     } else if (number === 1) {
-      this.cutTo(rest);
-    } else if ((number === 92 || number === 93) && rest.length && rest.every(([, text]) => this.length(text) === 0)) {
+      machine.cutTo(rest);
+    } else if ((number === 92 || number === 93) && rest.length && rest.every(isZero)) {
       this.change("a zero point at (0, 0) is left out");
     } else if (number === 4) {
       this.change("a dwell (G04) is left out: it moves no hole");
@@ -173,123 +151,34 @@ export class Reader {
 
   miscellaneous(number, rest) {
     const isAlone = rest.length === 0;
-    if (isAlone && number === 15) this.lower();
+    if (isAlone && number === 15) this.machine.lower();
     else if (isAlone && (number === 16 || number === 17)) this.raise(number);
     else if (isAlone && (number === 30 || number === 0 || (number === 2 && this.isFormatOne))) this.end(number);
     else this.neutralOnly("M", number, rest);
   }
 
   neutralOnly(letter, number, rest) {
-    const shown = `${letter}${String(number).padStart(2, "0")}`;
+    const shown = letter + padded(number);
     if (rest.length || !isNeutralCode(letter, number)) {
       throw new Unsaid(`${shown} with what stands on its line is ${whyNotCode(letter, number)}`);
     }
     this.change(`${shown} is left out: it moves no hole`);
   }
 
-  raisedOnly(code) {
-    if (this.height === LOWERED) throw new Unsaid(`${code} while the tool is down: the M16 before it is missing`);
-  }
-
-  drillMode(number, rest) {
-    this.raisedOnly(`G${String(number).padStart(2, "0")}`);
-    this.height = DRILLING;
-    if (number === 81) this.change("G81 is written as G05");
-    if (rest.length) this.place(rest);
-  }
-
-  cutTo(rest) {
-    if (this.height !== LOWERED) throw new Unsaid("G01 while the tool is up: the M15 before it is missing");
-    this.hasCut = true;
-    if (rest.length) {
-      this.goTo(rest);
-      this.rout.push([this.x, this.y]);
-    }
-  }
-
-  lower() {
-    if (this.height === LOWERED) throw new Unsaid("M15 while the tool is down");
-    if (this.height !== RAISED) throw new Unsaid("M15 with no G00 before it");
-    this.needTool();
-    this.height = LOWERED;
-    this.hasCut = false;
-    this.rout = [[this.x, this.y]];
-  }
-
   raise(number) {
-    if (this.height !== LOWERED) {
+    if (!this.machine.isLowered) {
       this.change(`M${number} is left out where the tool is up`);
       return;
     }
     if (number === 17) this.change("M17 is written as M16");
-    this.drilling.rout(this.tool, this.rout);
-    this.height = RAISED;
+    this.machine.raise();
   }
 
   end(number) {
-    const shown = `M${String(number).padStart(2, "0")}`;
-    this.raisedOnly(shown);
+    const shown = `M${padded(number)}`;
+    this.machine.raisedOnly(shown);
     if (number !== 30) this.change(`${shown} is written as M30`);
     this.ended = this.line;
-  }
-
-  // A hit, a slot by G85, or where routing is modal a further cut.
-  place(codes) {
-    const half = codes.findIndex(([letter, text]) => letter === "G" && text === "85");
-    if (this.height === DRILLING) {
-      if (half < 0) {
-        this.goTo(codes);
-        this.hit(this.x, this.y);
-        return;
-      }
-      this.goTo(codes.slice(0, half));
-      const start = [this.x, this.y];
-      this.goTo(codes.slice(half + 1));
-      this.needTool();
-      this.slots++;
-      this.drilling.rout(this.tool, [start, [this.x, this.y]]);
-    } else if (this.height === LOWERED && this.hasCut && half < 0) {
-      this.cutTo(codes);
-    } else {
-      throw new Unsaid("a coordinate or a slot that the mode of routing does not say: G05, G00 or G01 is missing");
-    }
-  }
-
-  hit(x, y) {
-    this.x = x;
-    this.y = y;
-    this.needTool();
-    this.drilling.hit(this.tool, x, y);
-  }
-
-  // Goes to the point of X and Y; what is missing is as it was last.
-  goTo(codes) {
-    const texts = new Map(codes);
-    const isPoint = codes.length && texts.size === codes.length && codes.every(([letter]) => letter === "X" || letter === "Y");
-    if (!isPoint) {
-      const shown = codes.map(([letter, text]) => letter + text).join("");
-      const why = codes.map(([letter]) => whyNotLetter(letter)).find((found) => found);
-      throw new Unsaid(`${shown || "nothing"} is ${why ?? "no point of one X and one Y"}`);
-    }
-    const x = texts.has("X") ? this.coordinate(texts.get("X")) : this.x;
-    const y = texts.has("Y") ? this.coordinate(texts.get("Y")) : this.y;
-    this.x = x;
-    this.y = y;
-  }
-
-  length(text) {
-    return lengthOf(text, this.digits, this.zeros);
-  }
-
-  coordinate(text) {
-    const { unit } = this.drilling, value = this.length(text);
-    if (Math.abs(inMm(value, unit)) < BOARD_MM) return value;
-    throw new Unsaid(`a coordinate of ${decimalOf(text, this.digits, this.zeros)} ${unit} is 1 m or more from 0: unit, `
-      + "digits or zeros do not fit");
-  }
-
-  needTool() {
-    if (this.tool === null) throw new Unsaid("a hole before any tool is selected");
   }
 
   // Declares a tool in the header, and selects one in the body, which may declare it first.
@@ -305,8 +194,8 @@ export class Reader {
     }
     if (sizes.size > (sizes.has("C") ? 1 : 0)) this.change("feeds, speeds and hit limits of tools are left out");
     if (!this.isInHeader) {
-      this.raisedOnly("a change of tool");
-      this.tool = number || null;
+      this.machine.raisedOnly("a change of tool");
+      this.machine.tool = number || null;
     }
     if (number && (this.isInHeader || sizes.has("C") || !this.drilling.diameters.has(number))) {
       this.declare(number, sizes.get("C"));
@@ -347,4 +236,9 @@ function cut(code) {
     throw new Unsaid(`${code.slice(0, 40)} is ${whyNotWord(/^[A-Z]*/.exec(code)[0])}`);
   }
   return [...code.matchAll(CODE)].map(([, letter, text]) => [letter, text]);
+}
+
+// A code's number as it is mostly written.
+function padded(number) {
+  return String(number).padStart(2, "0");
 }

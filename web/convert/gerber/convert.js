@@ -19,7 +19,7 @@ import { hasByteOrderMark, latin1 } from "../../bytes.js";
 import { isComment } from "./cut.js";
 import { settleApertures } from "./definitions.js";
 import { rewriteExtended } from "./extended.js";
-import { passPlainWord } from "./plain_words.js";
+import { passQuickWord } from "./quick_words.js";
 import { State } from "./state.js";
 import { rewriteWord } from "./words.js";
 
@@ -81,7 +81,7 @@ function rewritten(bytes, options, changes) {
   let isEnded = false;
   while (!isEnded && cutter.passGap()) {
     cleanGap(state);
-    if (passPlainWord(state)) {
+    if (passQuickWord(state)) {
       continue;
     }
     if (!cutter.passCommand()) {

@@ -2,6 +2,8 @@
 
 import { latin1 } from "../../bytes.js";
 
+/** How many bytes are made text at once, since a call for each command would take longer than all else. */
+const PIECE = 65_536;
 const LF = 10, SPACE = 32, PERCENT = 37, STAR = 42, DELETE = 127;
 const SKIPPED = /[ \t\r\n]/g;
 const COMMENT = /^[ \t\r\n]*[Gg][ \t\r\n]*0*4(?!\d)/;
@@ -25,6 +27,9 @@ export class Cutter {
     /** The line of the command's start, and of its end. */
     this.line = line;
     this.lineAtEnd = line;
+    /** The text of some bytes, and where they begin. */
+    this.piece = "";
+    this.pieceAt = 0;
   }
 
   /** Goes to the next command's start. @returns {boolean} whether one begins there */
@@ -68,11 +73,19 @@ export class Cutter {
 
   /** The command as it stands. */
   get text() {
-    return latin1(this.bytes.subarray(this.start, this.end));
+    return this.textOf(this.start, this.end);
   }
 
   get gapText() {
-    return latin1(this.bytes.subarray(this.gap, this.start));
+    return this.textOf(this.gap, this.start);
+  }
+
+  textOf(start, end) {
+    if (start < this.pieceAt || end > this.pieceAt + this.piece.length) {
+      this.piece = latin1(this.bytes.subarray(start, Math.max(end, start + PIECE)));
+      this.pieceAt = start;
+    }
+    return this.piece.slice(start - this.pieceAt, end - this.pieceAt);
   }
 }
 

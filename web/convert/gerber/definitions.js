@@ -193,7 +193,7 @@ export function partsOf({ template, macro, sizes, text }) {
   try {
     return macro.primitives(sizes).map(partOf);
   } catch (error) {
-    throw error instanceof NoValue ? new Unsaid(`%${text}*%: an expression of its macro has no value`) : error;
+    throw error instanceof NoValue ? new Unsaid("an expression of its macro has no value") : error;
   }
 }
 
@@ -201,16 +201,18 @@ export function partsOf({ template, macro, sizes, text }) {
 export function settleApertures(state) {
   for (const aperture of state.dictionary.waiting) {
     const { text, line, unsaid, slot } = aperture;
-    const why = unsaid.split(": ")[0];
+    const mayRound = (aperture.macro?.unreadable() ?? null) === null;
+    const why = unsaid.split(":")[0].replace(/ \(.*/, "");
     if (!aperture.isUsed) {
-      state.changes.add(`%${text.slice(0, 60)}*% is left out: nothing is painted with it (${why})`, line);
-    } else if (state.options.nearest || OCTAGON.test(aperture.macro?.key ?? "")) {
+      const reason = aperture.isReplaced ? "others are written for it" : `nothing is painted with it (${why})`;
+      state.changes.add(`%${text.slice(0, 60)}*% is left out: ${reason}`, line);
+    } else if (mayRound && (state.options.nearest || OCTAGON.test(aperture.macro?.key ?? ""))) {
       slot.text = nearestText(state, aperture, why);
       for (const { slot: place, text: word } of aperture.selections) {
         place.text = word;
       }
     } else {
-      state.refusals.push({ line, what: `%${text.slice(0, 60)}*%: ${unsaid}` });
+      state.refusals.push({ line, what: `%${text.slice(0, 60)}*%${aperture.macro === null ? "," : ":"} ${unsaid}` });
     }
   }
 }

@@ -35,6 +35,8 @@ export class Aperture {
     /** Whether it is written as it stands, so that operations may use it as they stand. */
     this.isKept = unsaid === "";
     this.isUsed = false;
+    /** Whether other apertures are written for some of what is painted with it. */
+    this.isReplaced = false;
     /** @type {Slot | null} where its definition is written, once it is known that it is used */
     this.slot = null;
     /** @type {{slot: Slot, text: string}[]} where it is selected */

@@ -196,9 +196,8 @@ function turn(state, command, text) {
     throw new Unsaid(`%${text}*%, a rotation that is no multiple of 90 degrees: ${TURN_ADVICE}`);
   }
   const quarter = subtract(whole, left).n / 90n;
-  state.turnLeft = left;
   state.quarters = state.writtenQuarters = Number(quarter);
-  state.refresh();
+  state.setFlashes(left, state.scale);
   if (isZero(left)) {
     return `%${command}*%`;
   }
@@ -215,8 +214,7 @@ function scale(state, command, text) {
   if (!isOne && !state.options.nearest) {
     throw new Unsaid(`%${text}*% is ${REFUSED.LS}`);
   }
-  state.scale = factor;
-  state.refresh();
+  state.setFlashes(state.turnLeft, factor);
   if (isOne) {
     return `%${command}*%`;
   }

@@ -34,6 +34,25 @@ export class Form {
   }
 
   /**
+   * How many zeros stand behind the digits of a coordinate in steps of the form that is written.
+   * @param {number} axis  0 of X and I, 1 of Y and J
+   * @param {number} count  of the digits
+   * @param {number} fraction  how many of them stand behind a point; -1 where there is none
+   * @returns {number} below 0 where `steps` has to judge
+   */
+  zerosBehind(axis, count, fraction) {
+    if (fraction >= 0) {
+      return this.targetDecimals - fraction;
+    }
+    const left = this.targetDecimals - this.decimals[axis];
+    if (this.omits === "T") {
+      const missing = this.whole[axis] + this.decimals[axis] - count;
+      return missing < 0 ? -1 : left + missing;
+    }
+    return this.omits === "D" ? -1 : left;
+  }
+
+  /**
    * A coordinate in steps of the form that is written: a whole number, below 10^15.
    * @param {string} letter  X, Y, I or J
    * @param {string} text

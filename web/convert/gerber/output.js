@@ -2,6 +2,9 @@
 
 import { latin1Bytes } from "../../bytes.js";
 
+/** Below this many bytes a loop is faster than a call that copies. */
+const FEW = 64;
+
 export class Output {
   /** @param {Uint8Array} source */
   constructor(source) {
@@ -20,7 +23,7 @@ export class Output {
     this.copyTo(start);
     for (const piece of pieces) {
       if (typeof piece === "string") {
-        this.put(latin1Bytes(piece));
+        this.putText(piece);
       } else {
         piece.at = this.length;
         this.slots.push(piece);
@@ -31,18 +34,32 @@ export class Output {
   }
 
   copyTo(end) {
-    this.put(this.source.subarray(this.copied, end));
+    const { source, copied } = this;
+    this.makeRoom(end - copied);
+    if (end - copied < FEW) {
+      for (let at = copied; at < end; at++) {
+        this.bytes[this.length++] = source[at];
+      }
+    } else {
+      this.bytes.set(source.subarray(copied, end), this.length);
+      this.length += end - copied;
+    }
     this.copied = end;
   }
 
-  put(bytes) {
-    if (this.length + bytes.length > this.bytes.length) {
-      const grown = new Uint8Array(2 * (this.length + bytes.length));
+  putText(text) {
+    this.makeRoom(text.length);
+    for (let at = 0; at < text.length; at++) {
+      this.bytes[this.length++] = text.charCodeAt(at);
+    }
+  }
+
+  makeRoom(more) {
+    if (this.length + more > this.bytes.length) {
+      const grown = new Uint8Array(2 * (this.length + more));
       grown.set(this.bytes.subarray(0, this.length));
       this.bytes = grown;
     }
-    this.bytes.set(bytes, this.length);
-    this.length += bytes.length;
   }
 
   /** @returns {Uint8Array} all of it, with the texts of the slots at their places */

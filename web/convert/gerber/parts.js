@@ -171,13 +171,14 @@ export function partsOfTemplate(template, sizes) {
     O: () => obround(sizes[0], sizes[1]),
     P: () => polygon(true, sizes[1], sizes[0], NO_PLACE, sizes[2] ?? ZERO, ZERO),
   }[template]();
-  return [shape, ...holeOf(sizes.slice(holeAt))];
+  return [shape, ...holeOf(sizes.slice(holeAt), template === "P" ? sizes[2] ?? ZERO : ZERO)];
 }
 
-function holeOf(sides) {
+/** The hole, turned as a polygon is, of which the standard says that it is the aperture's rotation. */
+function holeOf(sides, turn) {
   if (sides.length === 0 || sides.every(isZero)) {
     return [];
   }
   return [sides.length === 1 ? disc(false, sides[0], NO_PLACE, ZERO)
-    : rectangle(false, sides[0], sides[1], NO_PLACE, ZERO)];
+    : rectangle(false, sides[0], sides[1], NO_PLACE, turn)];
 }

@@ -62,6 +62,16 @@ export class State {
     this.turnLeft = ZERO;
     /** @type {Rational} */
     this.scale = ONE;
+    /** Whether flashes are turned by quarters alone, and not scaled. */
+    this.isUpright = true;
+    this.refresh();
+  }
+
+  /** @param {Rational} turnLeft @param {Rational} scale */
+  setFlashes(turnLeft, scale) {
+    this.turnLeft = turnLeft;
+    this.scale = scale;
+    this.isUpright = isZero(turnLeft) && equal(scale, ONE);
     this.refresh();
   }
 
@@ -75,11 +85,6 @@ export class State {
     this.plainFlash = isPlain && (aperture === null || aperture.isKept);
     this.plainDraw = this.plainFlash && (aperture === null || aperture.isSolidCircle || aperture.isSolidRectangle);
     this.plainArc = this.plainFlash && (aperture === null || aperture.isSolidCircle);
-  }
-
-  /** Whether flashes are turned by quarters alone, and not scaled. */
-  get isUpright() {
-    return isZero(this.turnLeft) && equal(this.scale, ONE);
   }
 
   /** Whether the number that is selected was defined another way since. */

@@ -79,6 +79,7 @@ function own(aperture) {
 /** An aperture that is made, once for each key: its number, and its definition where it is new. */
 function made(state, key, make) {
   const { dictionary } = state;
+  state.aperture.isReplaced = true;
   const old = dictionary.made.get(key);
   if (old !== undefined) {
     return { number: old, before: [] };

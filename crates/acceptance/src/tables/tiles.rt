@@ -4,7 +4,7 @@ use crate::tables::Row;
 use crate::tables::boards::DISC;
 
 /// A disc of 0.1 mm at (0.32, 0.32) mm: in the middle of a tile of 64 by 64 pixels of 10 µm.
-const SPECK: &[u8] = b"%FSLAX46Y46*%%MOMM*%%ADD10C,0.1*%D10*X320000Y320000D03*M02*";
+pub const SPECK: &[u8] = b"%FSLAX46Y46*%%MOMM*%%ADD10C,0.1*%D10*X320000Y320000D03*M02*";
 
 /// Redraws, and plots after them.
 pub const TILES: &[Row] = &[

@@ -1,0 +1,22 @@
+# Completion of camplot for bash: options, and paths of scripts.
+_camplot() {
+  local word=${COMP_WORDS[COMP_CWORD]} before=${COMP_WORDS[COMP_CWORD - 1]}
+  case $before in
+    --depth)
+      mapfile -t COMPREPLY < <(compgen -W '1 10 100 1000' -- "$word")
+      return
+      ;;
+  esac
+  case $word in
+    -*) mapfile -t COMPREPLY < <(compgen -W '- --depth --explain --help --version' -- "$word") ;;
+    *) mapfile -t COMPREPLY < <(compgen -f -- "$word") ;;
+  esac
+}
+complete -o filenames -F _camplot camplot
+
+# The tools beside it take folders and files of a board.
+_camplot_board() {
+  local word=${COMP_WORDS[COMP_CWORD]}
+  mapfile -t COMPREPLY < <(compgen -f -- "$word")
+}
+complete -o filenames -F _camplot_board camplot-board camplot-items camplot-to-gerber camplot-to-xnc
