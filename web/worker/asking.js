@@ -10,6 +10,26 @@ const words = new TextDecoder();
 const HEAD = 1 << 20;
 const NO_LAYER = 60, NO_ITEM = 61, BAD_LINE = 80;
 
+// A layer's text, whose items are read when they are asked for.
+class Written {
+  constructor(bytes) {
+    this.bytes = bytes;
+    // What stands before the items, where the definitions are.
+    this.head = words.decode(bytes.subarray(0, HEAD));
+    this.isDrill = this.head.startsWith("M48");
+    this.read = null;
+  }
+
+  get items() {
+    this.read ??= readCanonical(this.bytes);
+    return this.read.items;
+  }
+
+  box() {
+    return this.items && this.read.box();
+  }
+}
+
 export class Questions {
   constructor(station) {
     this.station = station;
@@ -40,10 +60,7 @@ export class Questions {
   layer(name) {
     if (!this.kept.has(name)) {
       if (this.station.apply(text.encode(`write ${name} text`))) return null;
-      const written = this.station.file, layer = readCanonical(written);
-      // What stands before the items, where the definitions are.
-      layer.head = words.decode(written.subarray(0, HEAD));
-      this.kept.set(name, layer);
+      this.kept.set(name, new Written(this.station.file));
     }
     return this.kept.get(name);
   }
