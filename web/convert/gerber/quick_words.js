@@ -3,6 +3,9 @@
  * byte, and kept or written anew without a text for each. What is more than that is left to `words.js`.
  */
 
+import { SIGNED, offsetsThatFit } from "./arcs.js";
+
+const SMALL_A = 97, SMALL_Z = 122, TO_CAPITAL = 32;
 const STAR = 42, PLUS = 43, MINUS = 45, POINT = 46, ZERO = 48, D = 68, G = 71, I = 73, J = 74, N = 78, X = 88, Y = 89;
 const MOST_DIGITS = 15;
 const LETTERS = ["X", "Y", "I", "J"];
@@ -11,7 +14,10 @@ const LETTERS = ["X", "Y", "I", "J"];
 const word = {
   end: 0,
   hasNumber: false,
+  hasSmall: false,
   has54: false,
+  /** Whether the offsets of an arc got their signs. */
+  isSigned: false,
   mode: 0,
   selection: 0,
   code: 0,
@@ -108,14 +114,18 @@ function readD(bytes) {
 
 /** Reads the word that begins at a place; false where it holds more than is known here. */
 function read(bytes, start) {
-  word.hasNumber = word.has54 = word.hasPlaces = word.hasPoint = false;
+  word.hasNumber = word.has54 = word.hasPlaces = word.hasPoint = word.hasSmall = word.isSigned = false;
   word.mode = word.selection = word.code = 0;
   word.isOrdered = true;
   word.places[0] = word.places[1] = word.places[2] = word.places[3] = 0;
   at = start;
   let last = -1;
   for (;;) {
-    const letter = bytes[at++];
+    let letter = bytes[at++];
+    if (letter >= SMALL_A && letter <= SMALL_Z) {
+      letter -= TO_CAPITAL;
+      word.hasSmall = true;
+    }
     let rank = 0;
     let isRead = true;
     if (letter === STAR) {
@@ -190,7 +200,7 @@ export function passQuickWord(state) {
   }
   const isChosenToo = word.selection !== 0 && hasOperation;
   const isRewritten = word.hasPlaces && (word.hasPoint || !state.form.isRead);
-  if (word.hasNumber || isChosenToo || isRewritten || !word.isOrdered) {
+  if (word.hasNumber || word.hasSmall || word.isSigned || isChosenToo || isRewritten || !word.isOrdered) {
     state.line = cutter.line;
     write(state, hasOperation);
     tell(state, isChosenToo);
@@ -210,7 +220,8 @@ function operate(state) {
     return false;
   }
   const mode = word.mode === 0 ? state.mode : word.mode;
-  if (!mayStay(state, code, mode)) {
+  const isUnsigned = code === 1 && mode !== 1 && state.quadrants === 74 && state.writtenQuadrants === 75;
+  if (isUnsigned && !sign(state, mode) || !mayStay(state, code, mode, isUnsigned)) {
     return false;
   }
   if (word.mode !== 0) {
@@ -224,9 +235,22 @@ function operate(state) {
   return true;
 }
 
-function mayStay(state, code, mode) {
+/** Gives the offsets of an arc of one quadrant their signs; false where `words.js` has to tell why it cannot. */
+function sign(state, mode) {
+  const end = [word.places[0] !== 0 ? word.values[0] : state.x, word.places[1] !== 0 ? word.values[1] : state.y];
+  const step = POWERS[state.form.targetDecimals - Math.min(...state.form.decimals)];
+  const signed = offsetsThatFit([state.x, state.y], end, [word.values[2], word.values[3]], mode === 2, step);
+  if (typeof signed === "string") {
+    return false;
+  }
+  [word.values[2], word.values[3]] = signed;
+  word.isSigned = true;
+  return true;
+}
+
+function mayStay(state, code, mode, isSigned) {
   if (code !== 1) {
-    return code === 2 || state.inRegion || state.plainFlash;
+    return code === 2 || state.inRegion || state.plainFlash || state.readyFlash === state.writtenAperture;
   }
   if (word.mode === 0 && state.writtenMode !== mode) {
     return false;
@@ -234,7 +258,7 @@ function mayStay(state, code, mode) {
   if (mode === 1) {
     return state.inRegion || state.plainDraw;
   }
-  return state.quadrants === 75 && state.writtenQuadrants === 75 && (word.values[2] !== 0 || word.values[3] !== 0) &&
+  return (isSigned || state.quadrants === 75 && state.writtenQuadrants === 75) && (word.values[2] !== 0 || word.values[3] !== 0) &&
     (state.inRegion || state.plainArc);
 }
 
@@ -249,8 +273,7 @@ function write({ form, output, cutter }, hasOperation) {
       if (word.places[axis] !== 0) {
         output.putText(LETTERS[axis]);
         if (form.isRead && word.fractions[axis] < 0) {
-          output.copied = word.starts[axis];
-          output.copyTo(word.ends[axis]);
+          copyNumber(output, axis);
         } else {
           output.putText(`${word.values[axis]}`);
         }
@@ -262,7 +285,21 @@ function write({ form, output, cutter }, hasOperation) {
   output.isChanged = true;
 }
 
+/** Writes a number as it stands, but for the sign of an offset that got one. */
+function copyNumber(output, axis) {
+  const isSigned = word.isSigned && axis > 1;
+  if (isSigned && word.values[axis] < 0) {
+    output.putText("-");
+  }
+  const hasSign = word.ends[axis] - word.starts[axis] > word.counts[axis];
+  output.copied = word.starts[axis] + (isSigned && hasSign ? 1 : 0);
+  output.copyTo(word.ends[axis]);
+}
+
 function tell(state, isChosenToo) {
+  if (word.hasSmall) {
+    state.change("small letters are written as capitals");
+  }
   if (word.hasNumber) {
     state.change("line numbers (N) are left out");
   }
@@ -273,6 +310,9 @@ function tell(state, isChosenToo) {
     state.change("several codes in one word are split");
   } else if (!word.isOrdered) {
     state.change("codes are written in the order of today's form");
+  }
+  if (word.isSigned) {
+    state.change(SIGNED);
   }
   if (word.hasPoint && state.form.isRead) {
     state.change("coordinates with a point are written in the format");
