@@ -45,7 +45,8 @@ class Crate:
 
     def own_sum(self):
         """A checksum of its files as they are now, of its line of crates.txt, and of the toolchain."""
-        summed = hashlib.sha256(repr((toolchain_sum(), self.name, self.is_static, [it.name for it in self.deps])).encode())
+        line = (self.name, self.is_static, [it.name for it in self.deps])
+        summed = hashlib.sha256(repr((toolchain_sum(), line)).encode())
         for path in files_below(self.folder, *PARTS):
             with open(f"{self.folder}/{path}", "rb") as it:
                 summed.update(repr((path, it.read())).encode())
@@ -92,21 +93,21 @@ def crates_of(root, built="rlib", made=Crate):
 
 def files_below(folder, *parts):
     """The files below these parts of a folder, by their paths in it."""
-    return sorted(
-        os.path.relpath(f"{at}/{name}", folder) for part in parts for at, _, names in os.walk(f"{folder}/{part}") for name in names
-    )
+    walked = [it for part in parts for it in os.walk(f"{folder}/{part}")]
+    return sorted(os.path.relpath(f"{at}/{name}", folder) for at, _, names in walked for name in names)
 
 
 @functools.lru_cache(maxsize=None)
 def toolchain_sum():
-    """A checksum of what a check reads of the toolchain: the texts that name it, and each other file by its size and time."""
+    """A checksum of what a check reads of the toolchain: the texts that name it, each other file by its size and time."""
     summed = hashlib.sha256()
     for name in ("KIT-ID", "WHAT"):
         with open(f"{KIT}/{name}", "rb") as it:
             summed.update(it.read())
     # the file `format` of a built library holds the checksum of its other files
     formats = [f"rlibs/{it}/format" for it in sorted(os.listdir(f"{KIT}/rlibs"))]
-    walked = [f"{part}/{it}" for part in ("logic_built", "rattle/logic", "rattle/antt") for it in files_below(f"{KIT}/{part}", ".")]
+    parts = ("logic_built", "rattle/logic", "rattle/antt")
+    walked = [f"{part}/{it}" for part in parts for it in files_below(f"{KIT}/{part}", ".")]
     for path in ["bin/rattle", *formats, *walked]:
         if os.path.isfile(f"{KIT}/{path}"):
             found = os.stat(f"{KIT}/{path}")

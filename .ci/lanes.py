@@ -20,7 +20,7 @@ OTHERS = 1_500_000
 
 @dataclass
 class Task:
-    """`seconds` is about how long one processor works at it, `memory` the most kilobytes that one of its commands takes."""
+    """`seconds` is about how long one processor works at it, `memory` the most kilobytes that a command of it takes."""
 
     name: str
     work: object
@@ -34,8 +34,8 @@ class Task:
 
 @dataclass
 class Said:
-    """What a command came to: its exit status, what it wrote, how long it ran by the clock and of one processor, and the most
-    kilobytes that it held."""
+    """What a command came to: its exit status, what it wrote, how long it ran by the clock and of one processor, and the
+    most kilobytes that it held."""
 
     status: int
     text: str
@@ -54,7 +54,7 @@ def number_in(path, pattern):
 
 
 def processors():
-    """How many processors there are to use: those that this process may run on, or fewer by a quota of its control group."""
+    """How many processors there are to use: those that this process may run on, or fewer by its control group's quota."""
     found = len(os.sched_getaffinity(0))
     quota = number_in("/sys/fs/cgroup/cpu.max", r"^(\d+) ")
     period = number_in("/sys/fs/cgroup/cpu.max", r" (\d+)")
@@ -64,7 +64,8 @@ def processors():
 def free_memory():
     """How many kilobytes are free, under the limit of the control group too."""
     free = number_in("/proc/meminfo", r"MemAvailable:\s+(\d+)") or 4_000_000
-    most, held = number_in("/sys/fs/cgroup/memory.max", r"^(\d+)"), number_in("/sys/fs/cgroup/memory.current", r"^(\d+)")
+    most = number_in("/sys/fs/cgroup/memory.max", r"^(\d+)")
+    held = number_in("/sys/fs/cgroup/memory.current", r"^(\d+)")
     return min(free, (most - held) // 1024) if most and held is not None else free
 
 
@@ -84,8 +85,8 @@ def behind(tasks):
 
 
 def starts(ready, idle, memory, is_idle, most=4):
-    """Which of the tasks that are ready begin now, in this order, each with how many jobs, `most` at most: processors that
-    no other task needs go to those that are there. Where nothing runs, the first begins whatever memory there is."""
+    """Which of the tasks that are ready begin now, in this order, each with how many jobs, `most` at most: processors
+    that no other task needs go to those that are there. Where nothing runs, the first begins whatever memory there is."""
     found = []
     for at, task in enumerate(ready):
         if idle < 1:
@@ -100,7 +101,8 @@ def starts(ready, idle, memory, is_idle, most=4):
 
 
 def forecast(tasks, number, memory, running=(), pace=1.0):
-    """How many seconds are left until all these tasks are done; `running` has pairs of a task and the seconds left of it."""
+    """How many seconds are left until all these tasks are done; `running` has those that are begun, each with its jobs
+    and the seconds left of it."""
     every = [*tasks, *(it for it, _, _ in running)]
     ways, there, now = behind(every), {it.name for it in every}, 0.0
     left, going = list(tasks), [(rest, it, jobs) for it, jobs, rest in running]
@@ -136,7 +138,8 @@ class Group:
             os.setpgid(0, self.guard.pid)
             os.nice(self.nice)
 
-        return subprocess.Popen(words, cwd=folder, stdin=subprocess.DEVNULL, stdout=output, stderr=subprocess.STDOUT, preexec_fn=join)
+        to = {"stdin": subprocess.DEVNULL, "stdout": output, "stderr": subprocess.STDOUT}
+        return subprocess.Popen(words, cwd=folder, preexec_fn=join, **to)
 
     def end(self):
         os.close(self.held)
@@ -171,22 +174,17 @@ class Lanes:
             while self.left or self.waiting or self.going:
                 self.begin()
                 tell(self)
-                if not self.going and not self.waiting and self.left and not any(map(self.is_ready, self.left)) and not self.is_held():
-                    break
                 self.look()
             return self.results
         finally:
             self.group.end()
 
-    def is_held(self):
-        """Whether a task is not yet begun only because it may not begin yet."""
-        return any(all(name in self.results for name in it.after) and not self.may_begin(it) for it in self.left)
-
     def is_ready(self, task):
         return all(name in self.results for name in task.after) and self.may_begin(task)
 
     def begin(self):
-        for task in [it for it in self.left if any(name in self.results and self.results[name] is None for name in it.after)]:
+        failed = {name for name, result in self.results.items() if result is None}
+        for task in [it for it in self.left if failed & {*it.after}]:
             self.left.remove(task)
             self.results[task.name] = None
         for task in [it for it in self.left if self.is_ready(it)]:
@@ -198,7 +196,8 @@ class Lanes:
         idle = self.number - sum(it.jobs for it in self.going) - busy
         # what runs may still grow, ours to what it is known to take
         growth = sum(max(0, it.task.takes(it.jobs) - held_by(it.process.pid)) for it in self.going) + OTHERS * busy
-        for task, jobs in starts([it for it, _ in self.waiting], idle, free_memory() - growth, not self.going and not busy, self.most):
+        every, room, is_idle = [it for it, _ in self.waiting], free_memory() - growth, not self.going and not busy
+        for task, jobs in starts(every, idle, room, is_idle, self.most):
             self.waiting = [it for it in self.waiting if it[0] is not task]
             folder, words = ready[task.name]
             output = tempfile.TemporaryFile("w+", errors="replace")
