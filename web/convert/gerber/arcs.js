@@ -5,6 +5,8 @@
 
 import { Unsaid } from "../report.js";
 
+/** What is told of an arc that got its signs. */
+export const SIGNED = "an arc of one quadrant (G74) is written under G75, its offsets with their signs";
 const QUARTER = Math.PI / 2;
 const ANGLE_SLACK = 0.02;
 const CLOSE_STEPS = 3;
@@ -24,15 +26,14 @@ function sweepOf(start, end, isClockwise) {
  * @param {[number, number]} offsets
  * @param {boolean} isClockwise
  * @param {number} step  the least difference of two coordinates
- * @returns {[number, number]}
- * @throws {Unsaid} where no centre fits, or two
+ * @returns {[number, number] | string} why there are none, where no centre fits, or two
  */
-export function signedOffsets(start, end, offsets, isClockwise, step) {
+export function offsetsThatFit(start, end, offsets, isClockwise, step) {
   if (Math.min(...offsets) < 0) {
-    throw new Unsaid(`an arc under G74 whose offset has a sign: ${ADVICE}`);
+    return "whose offset has a sign";
   }
   if (start[0] === end[0] && start[1] === end[1]) {
-    throw new Unsaid(`an arc under G74 that ends where it starts: ${ADVICE}`);
+    return "that ends where it starts";
   }
   const radius = Math.hypot(...offsets);
   const fits = [];
@@ -49,7 +50,20 @@ export function signedOffsets(start, end, offsets, isClockwise, step) {
   fits.sort((one, other) => one.off - other.off);
   const close = CLOSE_STEPS * step;
   if (fits.length === 0 || fits[0].off > close || (fits.length > 1 && fits[1].off <= 2 * close)) {
-    throw new Unsaid(`an arc under G74 whose centre is not told by its ends: ${ADVICE}`);
+    return "whose centre is not told by its ends";
   }
   return fits[0].signed;
+}
+
+/**
+ * The same, where there have to be some.
+ * @returns {[number, number]}
+ * @throws {Unsaid} where there are none
+ */
+export function signedOffsets(start, end, offsets, isClockwise, step) {
+  const signed = offsetsThatFit(start, end, offsets, isClockwise, step);
+  if (typeof signed === "string") {
+    throw new Unsaid(`an arc under G74 ${signed}: ${ADVICE}`);
+  }
+  return signed;
 }

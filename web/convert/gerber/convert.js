@@ -118,7 +118,6 @@ function rewriteCommand(state) {
   try {
     const { pieces, isEnd } = isComment(raw) ? comment(state, raw)
       : cutter.isExtended ? rewriteExtended(state, raw) : rewriteWord(state, raw);
-    state.refresh();
     if (pieces.length !== 1 || pieces[0] !== raw) {
       state.output.replace(cutter.start, cutter.end, withLineEnds(pieces));
     }

@@ -2,7 +2,7 @@
 
 import { Unsaid } from "../report.js";
 import { nearest, rational } from "../exact.js";
-import { signedOffsets } from "./arcs.js";
+import { SIGNED, signedOffsets } from "./arcs.js";
 import { NEAREST } from "./definitions.js";
 import { forDraw, forFlash, forHull } from "./uses.js";
 
@@ -79,7 +79,9 @@ class Operation {
     }
     if (code === 3) {
       const { number, before } = forFlash(state);
-      return [...before, ...this.settings(), ...this.selection(number), ...this.word(number)];
+      const front = [...before, ...this.settings(), ...this.selection(number)];
+      state.readyFlash = number;
+      return [...front, ...this.word(number)];
     }
     const isArc = state.mode !== 1 && !this.isPoint();
     const found = forDraw(state, isArc);
@@ -150,7 +152,7 @@ class Operation {
         this.texts[letter] = (signed[axis] < 0 ? "-" : "") + this.texts[letter].replace(/^[+-]/, "");
       }
     });
-    state.change("an arc of one quadrant (G74) is written under G75, its offsets with their signs");
+    state.change(SIGNED);
   }
 
   /** The mirror and the turn of flashes, where others are in force in what is written. */

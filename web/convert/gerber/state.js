@@ -64,6 +64,8 @@ export class State {
     this.scale = ONE;
     /** Whether flashes are turned by quarters alone, and not scaled. */
     this.isUpright = true;
+    /** The number that was made for flashes under the settings in force; -1 where there is none. */
+    this.readyFlash = -1;
     this.refresh();
   }
 
@@ -84,6 +86,7 @@ export class State {
       this.quarters === this.writtenQuarters && !this.isOutdated;
     this.plainFlash = isPlain && (aperture === null || aperture.isKept);
     this.plainDraw = this.plainFlash && (aperture === null || aperture.isSolidCircle || aperture.isSolidRectangle);
+    this.readyFlash = -1;
     this.plainArc = this.plainFlash && (aperture === null || aperture.isSolidCircle);
   }
 
