@@ -137,6 +137,25 @@ written: holes.xnc
     assert.ok(stdout.includes("line 5: the diameter of T1 is from the comment on line 3\n"), stdout);
   });
 
+  test("does not look at zeros that such a file has", () => {
+    const { status, stdout } = runOn(newRoom(), "M48\nINCH,LZ\nT1C0.032\n%\nT1\nX10Y0125\nX012500Y1\nM30\n");
+    assert.deepEqual([status, stdout.includes("LOOK")], [0, false], stdout);
+    assert.ok(stdout.includes("centres: X 31.75 to 254.0, Y 31.75 to 254.0 mm"), stdout);
+  });
+
+  test("settings that move no hole are left out, each told with its line", () => {
+    const room = newRoom();
+    const words = ["VER,1", "FMAT,2", "DETECT,ON", "ICI,OFF", "R,CP", "OM48", "M45,A TEXT", "PPR,1.5", "M47"];
+    const codes = ["G90", "G40", "M06", "M09", "G04X5", "G93X0Y0", "(a comment)", "T1M06"];
+    const text = ["M48", "METRIC,TZ", "T1C0.8", ...words, "%", "T1", ...codes, "X1000Y-1000", "M30"].join("\r\n");
+    const { status, stdout } = runOn(room, text);
+    assert.equal(status, 0);
+    words.forEach((word, at) => {
+      assert.ok(stdout.includes(`line ${4 + at}: ${word.replace(" ", "")} is left out: it moves no hole\n`), word);
+    });
+    assert.equal(readFileSync(join(room, "holes.xnc"), "utf8"), "M48\nMETRIC\nT1C0.8\n%\nG05\nT1\nX1.0Y-1.0\nM30\n");
+  });
+
   test("an option goes before the file", () => {
     const room = newRoom(), text = "M48\nINCH,TZ,00.0000\nT1C0.032\n%\nT1\nX1000Y1000\nM30\n";
     assert.equal(runOn(room, text, "--digits", "2:3", "--tool", "1=40mil").status, 0);
