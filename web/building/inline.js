@@ -7,6 +7,8 @@ import { dirname, resolve } from "node:path";
 const IMPORT = /^import (?:(\* as \w+)|\{([^}]*)\}) from "([^"]+)";$/gm;
 const REEXPORT = /^export \{([^}]*)\} from "([^"]+)";$/gm;
 const EXPORTED = /^export (?:async )?(?:function\*?|class|const|let) (\w+)/gm;
+// Several of one line, as 'export const MM = "mm", INCH = "inch";'.
+const SEVERAL = /^export const (\w+ = "\w*"(?:, \w+ = "\w*")+);$/gm;
 const LIST = /^export \{([^}]*)\};$/gm;
 
 // 'a, b as c' as [[a, a], [b, c]].
@@ -16,6 +18,8 @@ const pairs = (list) => list.split(",").map((part) => part.trim()).filter((part)
 class Inliner {
   constructor() {
     this.names = new Map();
+    // What each exports.
+    this.exports = new Map();
     this.open = [];
     this.texts = [];
   }
@@ -26,14 +30,19 @@ class Inliner {
     if (this.names.has(path)) return this.names.get(path);
     this.open.push(path);
     const exported = [];
-    const of = (source) => this.add(resolve(dirname(path), source));
+    const of = (source, wanted) => {
+      const other = resolve(dirname(path), source), name = this.add(other);
+      const lacking = wanted.find(([from]) => !this.exports.get(name).has(from));
+      if (lacking) throw new Error(`${path}: ${other} does not export ${lacking[0]}`);
+      return name;
+    };
     let text = readFileSync(path, "utf8").replace(IMPORT, (_, whole, list, source) => {
-      const name = of(source);
+      const name = of(source, whole ? [] : pairs(list));
       if (whole) return `const ${whole.slice(5)} = ${name};`;
       return `const { ${pairs(list).map(([from, to]) => from === to ? from : `${from}: ${to}`).join(", ")} } = ${name};`;
     });
     text = text.replace(REEXPORT, (_, list, source) => {
-      const name = of(source);
+      const name = of(source, pairs(list));
       exported.push(...pairs(list).map(([from, to]) => `${to}: ${name}.${from}`));
       return "";
     });
@@ -41,13 +50,15 @@ class Inliner {
       exported.push(...pairs(list).map(([from, to]) => `${to}: ${from}`));
       return "";
     });
-    for (const [, name] of text.matchAll(EXPORTED)) exported.push(name);
+    for (const [, list] of text.matchAll(SEVERAL)) exported.push(...[...list.matchAll(/(\w+) =/g)].map(([, name]) => name));
+    for (const [, name] of text.matchAll(EXPORTED)) if (!exported.includes(name)) exported.push(name);
     text = text.replace(/^export (?=(?:async )?(?:function\*?|class|const|let) )/gm, "");
     const left = /^(?:import|export)\b.*/m.exec(text);
     if (left) throw new Error(`${path}: this form is not read: ${left[0]}`);
     const name = `module${this.names.size}`;
     this.names.set(path, name);
     this.open.pop();
+    this.exports.set(name, new Set(exported.map((word) => word.split(":")[0])));
     this.texts.push(`const ${name} = (() => {\n${text}\nreturn { ${exported.join(", ")} };\n})();\n`);
     return name;
   }

@@ -1,6 +1,6 @@
 // What the page knows of the document: asked anew whenever a line was accepted.
 
-import { boxOf, joined } from "./items.js";
+import { boxOf, entriesFrom, joined } from "./items.js";
 import { changed, layerOf, state } from "./state.js";
 import { question, sendLine } from "./station.js";
 
@@ -73,20 +73,10 @@ export async function entries(name) {
 }
 
 async function askedEntries(name) {
-  const lines = await question(`entries ${name}`) ?? [];
-  const found = lines.map((line) => {
-    const at = line.indexOf(" ");
-    return at < 0 ? { number: Number(line), words: "" } : { number: Number(line.slice(0, at)), words: line.slice(at + 1) };
-  });
-  entriesOf.set(name, new Map(found.map((entry) => [entry.number, entry.words])));
+  const found = entriesFrom(await question(`entries ${name}`) ?? []);
+  entriesOf.set(name, new Map(found.map((entry) => [entry.number, entry])));
   return found;
 }
 
 // How wide an aperture or a tool strokes, in nm, as far as the page knows.
-export function widthOf(name, number) {
-  const words = entriesOf.get(name)?.get(number) ?? "";
-  const found = /(?:^C |diameter |\bR )(\d+)/.exec(words) ?? null;
-  if (found) return Number(found[1]);
-  const canonical = /(?:%ADD\d+[CR],|T\d+C)(\d+\.\d+)/.exec(words);
-  return canonical ? Math.round(Number(canonical[1]) * 1e6) : 0;
-}
+export const widthOf = (name, number) => entriesOf.get(name)?.get(number)?.width ?? 0;

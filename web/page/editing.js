@@ -1,15 +1,16 @@
 // Edits by hand, as lines of the script. What is done to several items is a group.
 
-import { changed, layerOf, state } from "./state.js";
+import { layerOf, state } from "./state.js";
 import { run } from "./script.js";
 import { shifted } from "./items.js";
 import { tell } from "./dom.js";
 
 const isRepeat = (item) => item.words.startsWith("repeat");
 
-async function edit(lines) {
+// `picks` are picked where the lines are accepted.
+async function edit(lines, picks = null) {
   if (!lines.length) return false;
-  const { isWell } = await run(lines);
+  const { isWell } = await run(lines, null, () => { if (picks) state.picked = picks; });
   if (isWell) tell("");
   return isWell;
 }
@@ -20,9 +21,7 @@ export const move = (dx, dy) => (dx || dy)
 // From the last place to the first, so that each is where it was when its turn comes.
 export async function remove() {
   const places = state.picked.slice().sort((one, other) => other.place - one.place);
-  state.picked = [];
-  if (!await edit(places.map(({ name, place }) => `delete ${name} ${place}`))) state.picked = places;
-  await changed("picked");
+  await edit(places.map(({ name, place }) => `delete ${name} ${place}`), []);
 }
 
 export const polarity = (value) =>
@@ -42,11 +41,7 @@ export async function reorder(to) {
   const { name, place } = item;
   const place_ = Math.max(0, Math.min(to, layerOf(name).items - 1));
   if (place_ === place) return;
-  state.picked = [{ ...item, place: place_ }];
-  if (!await edit([`reorder ${name} ${place} ${place_}`])) {
-    state.picked = [item];
-    await changed("picked");
-  }
+  await edit([`reorder ${name} ${place} ${place_}`], [{ ...item, place: place_ }]);
 }
 
 // An item at the end of the active layer, and then it is picked.
@@ -58,14 +53,8 @@ export async function insert(words) {
 
 async function insertAll(layer, items) {
   const first = layer.items;
-  const kept = state.picked;
-  state.picked = items.map((words, at) => ({ name: layer.name, place: first + at, words, box: null }));
-  const isWell = await edit(items.map((words, at) => `insert ${layer.name} ${first + at} ${words}`));
-  if (!isWell) {
-    state.picked = kept;
-    await changed("picked");
-  }
-  return isWell;
+  return edit(items.map((words, at) => `insert ${layer.name} ${first + at} ${words}`),
+    items.map((words, at) => ({ name: layer.name, place: first + at, words, box: null })));
 }
 
 // What was copied: the words of items.

@@ -67,7 +67,7 @@ export async function openFiles(files, areNamed = true) {
   if (opened.length && wasEmpty) await changed("fit", await boxOfAll(state.layers));
   const left = others.length ? ` ${plural(others.length, "file")} left out: ${names(others)}.` : "";
   const count = `${plural(opened.length, "layer")} opened.`;
-  tell(`${count}${left}${refused.length ? ` ${plural(refused.length, "file")} refused, see Files.` : ""}`,
+  tell(`${count}${left}${refused.length ? ` ${plural(refused.length, "file")} refused, see the left side.` : ""}`,
     refused.length > 0);
   return { opened, refused, others };
 }

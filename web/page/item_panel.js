@@ -32,7 +32,7 @@ function moveForm() {
 
 function entryChoice(list, chosen) {
   return element("select", { "aria-label": "aperture or tool" }, ...list.map(({ number, words }) =>
-    element("option", { value: number, selected: number === chosen }, `${number}: ${words.slice(0, 60)}`)));
+    element("option", { value: number, selected: number === chosen }, `${number}: ${words}`)));
 }
 
 async function entryForm(item) {

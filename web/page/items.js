@@ -113,3 +113,32 @@ export function joined(boxes) {
     right: Math.max(...found.map((box) => box.right)), high: Math.max(...found.map((box) => box.high)),
   };
 }
+
+// The apertures, blocks or tools that an answer to `entries` tells: each has a line of its kind and number, and its
+// definition below. { number, words, width }, with the width in nm that it strokes, 0 where that is not known.
+export function entriesFrom(lines) {
+  const found = [];
+  for (const line of lines) {
+    const head = /^(aperture|block|tool) (\d+)/.exec(line);
+    if (head) found.push({ number: Number(head[2]), words: head[1] === "block" ? "block" : "", width: 0 });
+    else if (found.length) describe(found[found.length - 1], line);
+  }
+  return found;
+}
+
+const NAMES = { C: "circle", R: "rectangle", O: "obround" };
+
+function describe(entry, line) {
+  const template = /^%ADD\d+([CRO]),([\d.]+)(?:X([\d.]+))?(?:X[\d.]+)?\*%$/.exec(line), tool = /^T\d+C([\d.]+)$/.exec(line);
+  const short = (length) => String(Number(length));
+  if (template) {
+    const [, name, width, height] = template;
+    entry.words = `${NAMES[name]} ${short(width)}${name === "C" ? "" : ` by ${short(height)}`} mm`;
+    entry.width = Math.round(Number(width) * 1e6);
+  } else if (tool) {
+    entry.words = `${short(tool[1])} mm`;
+    entry.width = Math.round(Number(tool[1]) * 1e6);
+  } else if (line.startsWith("%ADD")) {
+    entry.words = "a shape of primitives";
+  }
+}

@@ -50,14 +50,14 @@ async function applyOne(line, bytes) {
 }
 
 // Applies the lines of one gesture, several edits as a group: all of them, or none where one is refused. Answers the
-// answers, and tells a refusal.
-export function run(lines, bytes = null) {
-  const going = last.then(() => runNow(lines, bytes));
+// answers, and tells a refusal. `accepted` runs behind all lines, where they were, before anybody looks at the document.
+export function run(lines, bytes = null, accepted = () => {}) {
+  const going = last.then(() => runNow(lines, bytes, accepted));
   last = going.catch(() => {});
   return going;
 }
 
-async function runNow(lines, bytes) {
+async function runNow(lines, bytes, accepted) {
   const isGroup = lines.length > 1 && lines.every(isEdit) && !steps.group;
   const answers = [];
   let isWell = true;
@@ -72,6 +72,7 @@ async function runNow(lines, bytes) {
     break;
   }
   if (isGroup) await applyOne(isWell ? "end" : "abort", null);
+  if (isWell) accepted();
   await changed("document");
   return { isWell, answers };
 }

@@ -7,6 +7,8 @@ import { spawn } from "node:child_process";
 import { tmpdir } from "node:os";
 
 const NAMES = ["chromium", "chromium-browser", "google-chrome-stable", "google-chrome"];
+// Keys to which the browser itself has an answer.
+const CODES = { Enter: 13, Escape: 27 };
 // A browser that is silent for so long is given up.
 const SILENT_MS = 180000;
 
@@ -161,7 +163,7 @@ export class Browser {
   // A key by its name, with Ctrl (2) or Shift (8) in `modifiers`.
   async key(key, modifiers = 0) {
     const text = key.length === 1 && !(modifiers & 2) ? key : undefined;
-    const more = key === "Enter" ? { text: "\r" } : { text };
+    const more = { text: key === "Enter" ? "\r" : text, windowsVirtualKeyCode: CODES[key] };
     await this.call("Input.dispatchKeyEvent", { type: "keyDown", key, modifiers, ...more });
     await this.call("Input.dispatchKeyEvent", { type: "keyUp", key, modifiers });
   }

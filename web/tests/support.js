@@ -93,3 +93,29 @@ export function program() {
 }
 
 export const runProgram = (folder, script) => spawnSync(program(), [script], { cwd: folder, encoding: "latin1" });
+
+// Modifiers of keys and clicks.
+export const CTRL = 2, SHIFT = 8;
+export const PAD = [117937500, -85000000];
+export const kicad = () => filesOf(join(EXAMPLES, "kicad"));
+export const last = (list, count) => list.slice(list.length - count);
+export const picked = (browser) => browser.ask("camplot.state.picked.map(({ name, place, words }) => `${name} ${place} ${words}`)");
+
+export async function withBoard() {
+  const browser = await openPage();
+  await give(browser, kicad());
+  await settle(browser);
+  return browser;
+}
+
+// Four pads of 1 mm in a row, 2 mm apart, from (0, 0).
+export async function withPads() {
+  const browser = await openPage();
+  await give(browser, [{ name: "pads.gtl", bytes: gerber(...[0, 2, 4, 6].map((x) => `X${x}000000Y0D03*`)) }]);
+  await settle(browser);
+  return browser;
+}
+
+export async function clickAt(browser, x, y, modifiers = 0) {
+  await browser.click(...await onPage(browser, x, y), modifiers);
+}

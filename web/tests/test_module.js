@@ -80,7 +80,8 @@ function filesUnder(folder, before = "", found = {}) {
 }
 
 // Cases that ask for what a file system alone can answer.
-const OF_FILES = new Set(["files_that_fail", "folders_and_full_devices"]);
+const OF_FILES = new Set(["checks_before_files", "failed_plot_keeps_its_tiles", "files_that_fail",
+  "folders_and_full_devices"]);
 
 suite("the same station", () => {
   test("scripts at random by the module and by the program", async () => {

@@ -10,7 +10,7 @@ import { Steps, stepWords } from "../page/steps.js";
 import { afterwards, skip, suite, test } from "../../tools/tests/harness.js";
 import { compared, paint, pictureOf, putTile } from "../worker/pictures.js";
 import { crc32, pngOf, zipOf } from "../page/packing.js";
-import { itemOf, shifted } from "../page/items.js";
+import { entriesFrom, itemOf, shifted } from "../page/items.js";
 import { lengthOf, mm } from "../page/units.js";
 import { knowRefusals, refusalWords } from "../page/refusals.js";
 import { inlined } from "../building/inline.js";
@@ -72,6 +72,18 @@ suite("words of items", () => {
     assert.deepEqual(region.segments, [{ kind: "l", to: [10, 0], centre: null }, { kind: "ccw", to: [0, 10], centre: [5, 5] }]);
     assert.deepEqual(itemOf("rout 2 0 0 1 1 2 2").points, [[0, 0], [1, 1], [2, 2]]);
     assert.equal(itemOf("repeat 2 x 2 at steps 1 1"), null);
+  });
+});
+
+suite("entries", () => {
+  test("of an answer of the station", () => {
+    const lines = ["aperture 10", "%ADD10C,0.500000*%", "aperture 11", "%AMM11*", "1,1,0.500000,0.000000,0.000000*", "%",
+      "%ADD11M11*%", "block 12 2", "  flash 10 0 0 r0 dark", "  flash 11 1000000 0 r0 clear", "aperture 13",
+      "%ADD13R,2.000000X1.000000X0.300000*%"];
+    assert.deepEqual(entriesFrom(lines), [{ number: 10, words: "circle 0.5 mm", width: 500000 },
+      { number: 11, words: "a shape of primitives", width: 0 }, { number: 12, words: "block", width: 0 },
+      { number: 13, words: "rectangle 2 by 1 mm", width: 2000000 }]);
+    assert.deepEqual(entriesFrom(["tool 1", "T1C0.800000"]), [{ number: 1, words: "0.8 mm", width: 800000 }]);
   });
 });
 
@@ -144,6 +156,15 @@ suite("modules in one text", () => {
     writeFileSync(join(folder, "c.js"), "const inner = 4;\nexport { inner as four };\n");
     new Function(inlined(join(folder, "a.js")))();
     assert.equal(globalThis.told, "2 3 4");
+  });
+  test("several of one line, and a name that is not there", () => {
+    const folder = room();
+    writeFileSync(join(folder, "a.js"), 'import { TWO } from "./b.js";\nglobalThis.told = TWO;\n');
+    writeFileSync(join(folder, "b.js"), 'export const ONE = "1", TWO = "2";\n');
+    new Function(inlined(join(folder, "a.js")))();
+    assert.equal(globalThis.told, "2");
+    writeFileSync(join(folder, "b.js"), 'export const ONE = "1";\n');
+    assert.throws(() => inlined(join(folder, "a.js")), /does not export TWO/);
   });
   test("modules that import one another are refused", () => {
     const folder = room();

@@ -6,7 +6,29 @@ import { readCanonical } from "../canonical/read.js";
 const text = new TextEncoder();
 const words = new TextDecoder();
 
+// Bytes of a text among which its definitions are looked for.
+const HEAD = 1 << 20;
 const NO_LAYER = 60, NO_ITEM = 61, BAD_LINE = 80;
+
+// A layer's text, whose items are read when they are asked for.
+class Written {
+  constructor(bytes) {
+    this.bytes = bytes;
+    // What stands before the items, where the definitions are.
+    this.head = words.decode(bytes.subarray(0, HEAD));
+    this.isDrill = this.head.startsWith("M48");
+    this.read = null;
+  }
+
+  get items() {
+    this.read ??= readCanonical(this.bytes);
+    return this.read.items;
+  }
+
+  box() {
+    return this.items && this.read.box();
+  }
+}
 
 export class Questions {
   constructor(station) {
@@ -38,7 +60,7 @@ export class Questions {
   layer(name) {
     if (!this.kept.has(name)) {
       if (this.station.apply(text.encode(`write ${name} text`))) return null;
-      this.kept.set(name, readCanonical(this.station.file));
+      this.kept.set(name, new Written(this.station.file));
     }
     return this.kept.get(name);
   }
@@ -70,7 +92,15 @@ export class Questions {
     return box ? [`${box.left} ${box.low} ${box.right} ${box.high}`] : [];
   }
 
-  answer_entries(layer) {
-    return [...layer.apertures].map(([number, aperture]) => `${number} ${aperture.size}`);
+  answer_entries({ head, isDrill }) {
+    const form = isDrill ? /^T(\d+)C.*$/gm : /^%A(?:D|B)D(\d+).*$/gm;
+    return [...head.matchAll(form)].flatMap(([definition, number]) => {
+      if (isDrill) return [`tool ${number}`, definition];
+      return definition.startsWith("%AB") ? [`block ${number} 0`] : [`aperture ${number}`, definition];
+    });
+  }
+
+  answer_attributes({ head }) {
+    return [...head.matchAll(/^%TF([^*]*)\*%$/gm)].map(([, attribute]) => attribute);
   }
 }

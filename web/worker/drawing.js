@@ -7,6 +7,8 @@ import { compared, inkOf, paint, pictureOf, putTile } from "./pictures.js";
 const HEAVY_MS = 80;
 const HEAVY_ITEMS = 200000;
 const PART = 24;
+// What is not drawn yet in such a layer's picture.
+const UNDRAWN = "#80808066";
 // Between pictures of a layer that is drawn in parts.
 const PART_MS = 200;
 
@@ -132,14 +134,15 @@ export class Drawing {
     this.send(layer, 1, () => pictureOf(this.station.file), false);
   }
 
-  // The picture of the tiles that are clean.
+  // The picture of the tiles that are clean, and the numbers of the others.
   tilesOf(number) {
     const [, , , , width, height] = this.view.window.split(" ").map(Number);
     const stride = width + 7 >> 3;
-    const picture = { width, height, stride, bits: new Uint8Array(stride * height) };
+    const picture = { width, height, stride, bits: new Uint8Array(stride * height), dirty: [] };
     for (let tile = 0, count = this.tiles(); tile < count; tile++) {
       const rows = this.station.tile(number, tile);
       if (rows) putTile(picture, rows, tile);
+      else picture.dirty.push(tile);
     }
     return picture;
   }
@@ -158,9 +161,15 @@ export class Drawing {
     const { samples } = this.view;
     const width = Math.ceil(picture.width / samples), height = Math.ceil(picture.height / samples);
     const image = new ImageData(width, height);
-    if (!paint(picture, samples, inkOf(colour), new Uint32Array(image.data.buffer), width)) return null;
-    const canvas = new OffscreenCanvas(width, height);
-    canvas.getContext("2d").putImageData(image, 0, 0);
+    const isAny = paint(picture, samples, inkOf(colour), new Uint32Array(image.data.buffer), width);
+    if (!isAny && !picture.dirty?.length) return null;
+    const canvas = new OffscreenCanvas(width, height), context = canvas.getContext("2d");
+    context.putImageData(image, 0, 0);
+    context.fillStyle = UNDRAWN;
+    const columns = Math.ceil(picture.width / 64), side = 64 / samples;
+    for (const tile of picture.dirty ?? []) {
+      context.fillRect(tile % columns * side, Math.floor(tile / columns) * side, side, side);
+    }
     return canvas.transferToImageBitmap();
   }
 

@@ -65,7 +65,7 @@ fn shows(alloc: Global, row: &Picture) -> Result<bool, AllocError> {
     let Some(layer) = layer(alloc, row.entries, row.items)? else {
         return Ok(false);
     };
-    let copy = layer.try_copy(alloc)?;
+    let copy = layer.try_copy()?;
     Ok(
         are(&layer, row.black, true)
             && are(&layer, row.white, false)
@@ -117,10 +117,12 @@ fn is_pointed(alloc: Global, row: &Pointed) -> Result<bool, AllocError> {
         return Ok(false);
     };
     let (cells, _) = ItemCells::of(alloc, &mut layer.boxes());
-    Ok(are_found(&layer, None, row.found)
-        && are_found(&layer, Some(&cells), row.found)
-        && are_enclosed(&layer, row.enclosed)
-        && layer.bounds() == box_or_empty(row.whole))
+    Ok(
+        are_found(&layer, None, row.found)
+            && are_found(&layer, Some(&cells), row.found)
+            && are_enclosed(&layer, row.enclosed)
+            && layer.bounds() == box_or_empty(row.whole),
+    )
 }
 
 /// What the check of an item says beside these entries; `None` where they are refused.
