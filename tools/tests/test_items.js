@@ -133,6 +133,15 @@ suite("refused", () => {
     }
   });
 
+  test("hostile texts, at once", () => {
+    for (const command of [`%ADD${"1".repeat(1_000_000)}`, `%AMa${"*".repeat(1_000_000)}x*%`, `%ADD10C,${"1".repeat(1_000_000)}*%`,
+      "X1".repeat(500_000), "%TF".repeat(1), `%SRX1Y1I${"1.".repeat(500_000)}*%`]) {
+      const started = Date.now();
+      assert.throws(() => readCanonical(bytesOf(`%FSLAX46Y46*%\n${command}\nM02*\n`)), NotCanonical);
+      assert.ok(Date.now() - started < 5000, command.slice(0, 20));
+    }
+  });
+
   test("a file that is not there", () => {
     const { status, stdout, stderr } = runTool("items", ["/nowhere/at all.gbr"]);
     assert.deepEqual([status, stdout], [2, ""]);

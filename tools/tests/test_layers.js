@@ -43,6 +43,16 @@ suite("layers", () => {
     }
   });
 
+  test("kinds of hostile files, at once", () => {
+    for (const head of [`M${" ".repeat(65000)}x`, `*${"G04 ".repeat(16000)}`, `X1${"G04 ".repeat(16000)}`,
+      `T1\nX${"1".repeat(65000)}`, `G04${"\t".repeat(65000)}`, "TF".repeat(32000)]) {
+      const started = Date.now();
+      kindOf(bytesOf(head));
+      byAttribute(bytesOf(head));
+      assert.ok(Date.now() - started < 500, head.slice(0, 10));
+    }
+  });
+
   test("a board's layers come from the bottom up, each under a name of its own", () => {
     const file = (name, text) => ({ name, bytes: bytesOf(text) });
     const { layers, others } = recogniseFiles([file("a.gtl", "G04 x*"), file("readme.txt", "hello"), file("b.gtl", "G04 x*"),

@@ -253,13 +253,15 @@ suite("lengths", () => {
 suite("large and hostile files", () => {
   test("a long line is refused at once", () => {
     for (const line of [`X${"1".repeat(1_000_000)}!`, "X1".repeat(300_000) + "!", `;Holesize 1 = ${"1.".repeat(500_000)}`,
-      `M45,${"1".repeat(1_000_000)}!`, `;FORMAT={3:3/ absolute / metric /${" ".repeat(1_000_000)}`]) {
+      `M45,${"1".repeat(1_000_000)}!`, `X1.${"0".repeat(1_000_000)}1Y1`, `T2C${"1".repeat(1_000_000)}.1.1`, `;FORMAT={3:3/ absolute / metric /${" ".repeat(1_000_000)}`]) {
       const started = Date.now();
       convertDrill(latin1Bytes(`M48\nMETRIC,TZ\nT1C0.8\n%\nT1\n${line}\nM30\n`));
       assert.ok(Date.now() - started < 5000, line.slice(0, 20));
     }
     const report = { name: "r", bytes: latin1Bytes("FORMAT 2.4\n".padEnd(1_000_000, "\n")) };
     assert.ok(convertDrill(latin1Bytes("M30\n"), { report }).bytes);
+    const dri = { name: "r", bytes: latin1Bytes(`Units: 1/100000 inch\nT1 ${"1".repeat(1_000_000)}.1.1 inch 3\n`) };
+    assert.ok(convertDrill(latin1Bytes("T1\nX1Y1\nM30\n"), { report: dri }).refusals.length);
   });
 
   test("a million lines", () => {
