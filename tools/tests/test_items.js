@@ -106,6 +106,14 @@ suite("boxes", () => {
     }
   });
 
+  test("hold the points on their sides", () => {
+    const box = new Box(1, 2, 5, 10);
+    for (const [x, y, isHeld] of [[1, 2, true], [5, 10, true], [1, 10, true], [0, 5, false], [6, 5, false], [3, 1, false],
+      [3, 11, false]]) {
+      assert.equal(box.holds(x, y), isHeld, `${x} ${y}`);
+    }
+  });
+
   test("of arcs, which reach as far as they go", () => {
     for (const [start, end, isClockwise, box] of [[[10, 0], [0, 10], false, [0, 0, 10, 10]],
       [[10, 0], [0, 10], true, [-10, -10, 10, 10]], [[10, 0], [10, 0], false, [-10, -10, 10, 10]],

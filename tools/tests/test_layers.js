@@ -21,6 +21,14 @@ suite("layers", () => {
     }
   });
 
+  test("inner copper lies in its order between the outer layers, and is not shown at first", () => {
+    const [first, second, far] = ["a-In1_Cu.gbr", "a-In2_Cu.gbr", "a-In99_Cu.gbr"].map(byName);
+    const heights = [byName("a-B_Cu.gbr"), far, second, first, byName("a-F_Cu.gbr")].map(({ height }) => height);
+    assert.deepEqual(heights, [12, 13, 57, 58, 60]);
+    assert.deepEqual([first.isShown, first.label, byName("a-F_Cu.gbr").isShown], [false, "inner copper 1", true]);
+    assert.notEqual(first.colour, second.colour);
+  });
+
   test("names that tell nothing", () => {
     for (const name of ["README.txt", "board.gbr", "A.TXT", "fabric.pdf", "laptop.gbr", "constructor", "a.constructor"]) {
       assert.equal(byName(name), null, name);

@@ -4,6 +4,7 @@ import assert from "node:assert/strict";
 import { copyFileSync, existsSync, readFileSync, readdirSync, writeFileSync } from "node:fs";
 import { join } from "node:path";
 import { convertDrill } from "../../web/convert/drill/convert.js";
+import { Drilling } from "../../web/convert/drill/drilling.js";
 import { decimalOf, lengthOf, lengthText, micrometres, quickReader, sizeOf } from "../../web/convert/drill/lengths.js";
 import { latin1, latin1Bytes } from "../../web/bytes.js";
 import { part, skip, suite, test } from "./harness.js";
@@ -215,6 +216,43 @@ written: holes.xnc
     assert.equal(runOn(room, text, "--uni=mm", "--zer", "trailing", "-oout.xnc").status, 0);
     assert.ok(existsSync(join(room, "out.xnc")));
     assert.ok(runTool("to_xnc", ["--help"]).stdout.includes("--zeros ZEROS"));
+  });
+});
+
+suite("drillings", () => {
+  const drilling = (unit, diameter, act) => {
+    const made = new Drilling(unit);
+    made.diameters.set(1, diameter);
+    act(made);
+    return made;
+  };
+  const slot = (made) => made.rout(1, [[0, 0], [1, 0]]);
+
+  test("are the same where all is", () => {
+    const one = drilling("mm", 5, slot);
+    assert.ok(one.isSame(drilling("mm", 5, slot)));
+    for (const other of [drilling("inch", 5, slot), drilling("mm", 6, slot), drilling("mm", 5, () => {}),
+      drilling("mm", 5, (made) => made.rout(1, [[0, 0], [1, 1]])), drilling("mm", 5, (made) => made.rout(2, [[0, 0], [1, 0]])),
+      drilling("mm", 5, (made) => {
+        made.hit(1, 0, 0);
+        made.hit(1, 1, 0);
+      })]) {
+      assert.ok(!one.isSame(other));
+    }
+    assert.deepEqual([one.hits, one.routs], [0, 1]);
+  });
+
+  test("begin at (0, 0)", () => {
+    const { bytes } = convertDrill(latin1Bytes("M48\nMETRIC,TZ\nT1C0.8\n%\nT1\nX1000\nY2000\nM30\n"));
+    assert.equal(latin1(bytes), "M48\nMETRIC\nT1C0.8\n%\nG05\nT1\nX1.0Y0.0\nX1.0Y2.0\nM30\n");
+  });
+
+  test("leave out what stands at a file's ends", () => {
+    for (const [text, told] of [["\0\0M30\n", ["zero bytes or Ctrl-Z at the file's ends are left out"]],
+      ["M30\n\x1a", ["zero bytes or Ctrl-Z at the file's ends are left out"]], ["M30\n", []],
+      ["\xef\xbb\xbfM30\n", ["a byte order mark is left out"]]]) {
+      assert.deepEqual(convertDrill(latin1Bytes(text)).changes.map(({ what }) => what), told, JSON.stringify(text));
+    }
   });
 });
 
