@@ -18,7 +18,8 @@ export function endingOf(kind) {
 }
 
 const BEGIN = /^(?:%[ \t\v\f]*(?!PD)(?:[A-Z]{2}|$)|\*|[GDM]\d|[XY][-+]?\d)/;
-const COMMAND = /%[ \t\r\n\v\f]*(?:FS|MO|TF|AM|AD|LP|IN|IC)|G0?4[^0-9][^*]*\*|[XY][-+]?\d+D0?[123]\*/;
+const EXTENDED = /%[ \t\r\n\v\f]*(?:FS|MO|TF|AM|AD|LP|IN|IC)/;
+const WORD = /G0?4[^0-9][^*]*\*|[XY][-+]?\d+D0?[123]\*/;
 const HOLE = /^(?:T\d+)?X[-+]?[\d.]+Y[-+]?[\d.]+/;
 const TOOL = /^T\d+(?:[CFS].*)?$/;
 
@@ -31,12 +32,24 @@ export function kindOf(bytes) {
   const head = latin1(bytes.subarray(hasByteOrderMark(bytes) ? 3 : 0, HEAD));
   const lines = head.split(/[\r\n]+/).map(stripped).filter((line) => line && !line.startsWith(";"));
   if (lines.slice(0, 3).includes("M48")) return DRILL;
-  if (lines.length && BEGIN.test(lines[0]) && COMMAND.test(head)) return GERBER;
+  if (lines.length && BEGIN.test(lines[0]) && hasCommand(head)) return GERBER;
   const hasTools = lines.some((line) => TOOL.test(line));
   if (hasTools && (lines.includes("M30") || lines.some((line) => HOLE.test(line)))) return DRILL;
   return lines.length === 1 && lines[0] === "M30" ? DRILL : null;
 }
 
+// Whether a Gerber command stands in a text. A word ends with a star, so none stands behind the last one.
+function hasCommand(head) {
+  return EXTENDED.test(head) || WORD.test(head.slice(0, head.lastIndexOf("*") + 1));
+}
+
 function stripped(line) {
-  return line.replace(/^[ \t\v\f]+|[ \t\v\f]+$/g, "");
+  let start = 0, end = line.length;
+  while (start < end && isBlank(line.charCodeAt(start))) start++;
+  while (end > start && isBlank(line.charCodeAt(end - 1))) end--;
+  return line.slice(start, end);
+}
+
+function isBlank(code) {
+  return code === 32 || code === 9 || code === 11 || code === 12;
 }

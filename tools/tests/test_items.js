@@ -106,6 +106,14 @@ suite("boxes", () => {
     }
   });
 
+  test("hold the points on their sides", () => {
+    const box = new Box(1, 2, 5, 10);
+    for (const [x, y, isHeld] of [[1, 2, true], [5, 10, true], [1, 10, true], [0, 5, false], [6, 5, false], [3, 1, false],
+      [3, 11, false]]) {
+      assert.equal(box.holds(x, y), isHeld, `${x} ${y}`);
+    }
+  });
+
   test("of arcs, which reach as far as they go", () => {
     for (const [start, end, isClockwise, box] of [[[10, 0], [0, 10], false, [0, 0, 10, 10]],
       [[10, 0], [0, 10], true, [-10, -10, 10, 10]], [[10, 0], [10, 0], false, [-10, -10, 10, 10]],
@@ -130,6 +138,15 @@ suite("refused", () => {
       ["%FSLAX46Y46*%\n%ADD10P,1.000000X6*%\nM02*\n", 2], ["%FSLAX46Y46*%\n%ADD10O,1.000000*%\nM02*\n", 2],
       ["%FSLAX46Y46*%\n%AMM10*\n1,1,1.000000*%\nM02*\n", 2], ["%FSLAX46Y46*%\n%AB*%\nM02*\n", 2], ["", 1]]) {
       assert.throws(() => readCanonical(bytesOf(text)), (fault) => fault instanceof NotCanonical && fault.line === line, text);
+    }
+  });
+
+  test("hostile texts, at once", () => {
+    for (const command of [`%ADD${"1".repeat(1_000_000)}`, `%AMa${"*".repeat(1_000_000)}x*%`, `%ADD10C,${"1".repeat(1_000_000)}*%`,
+      "X1".repeat(500_000), "%TF".repeat(1), `%SRX1Y1I${"1.".repeat(500_000)}*%`]) {
+      const started = Date.now();
+      assert.throws(() => readCanonical(bytesOf(`%FSLAX46Y46*%\n${command}\nM02*\n`)), NotCanonical);
+      assert.ok(Date.now() - started < 5000, command.slice(0, 20));
     }
   });
 

@@ -21,6 +21,14 @@ suite("layers", () => {
     }
   });
 
+  test("inner copper lies in its order between the outer layers, and is not shown at first", () => {
+    const [first, second, far] = ["a-In1_Cu.gbr", "a-In2_Cu.gbr", "a-In99_Cu.gbr"].map(byName);
+    const heights = [byName("a-B_Cu.gbr"), far, second, first, byName("a-F_Cu.gbr")].map(({ height }) => height);
+    assert.deepEqual(heights, [12, 13, 57, 58, 60]);
+    assert.deepEqual([first.isShown, first.label, byName("a-F_Cu.gbr").isShown], [false, "inner copper 1", true]);
+    assert.notEqual(first.colour, second.colour);
+  });
+
   test("names that tell nothing", () => {
     for (const name of ["README.txt", "board.gbr", "A.TXT", "fabric.pdf", "laptop.gbr", "constructor", "a.constructor"]) {
       assert.equal(byName(name), null, name);
@@ -40,6 +48,16 @@ suite("layers", () => {
       ["\xef\xbb\xbfM48\nMETRIC\n", "drill"], ["%\nT01C0.5\nX1Y1\nM30\n", "drill"], ["M30\n", "drill"], ["a,b\n1,2\n", null],
       ["Use\n%FSLAX24Y24*%\n", null], ["%PDF-1.4\n%MO", null], ["", null], ["\x89PNG\r\n", null]]) {
       assert.equal(kindOf(bytesOf(head)), kind, head);
+    }
+  });
+
+  test("kinds of hostile files, at once", () => {
+    for (const head of [`M${" ".repeat(65000)}x`, `*${"G04 ".repeat(16000)}`, `X1${"G04 ".repeat(16000)}`,
+      `T1\nX${"1".repeat(65000)}`, `G04${"\t".repeat(65000)}`, "TF".repeat(32000)]) {
+      const started = Date.now();
+      kindOf(bytesOf(head));
+      byAttribute(bytesOf(head));
+      assert.ok(Date.now() - started < 500, head.slice(0, 10));
     }
   });
 

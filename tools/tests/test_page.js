@@ -6,9 +6,9 @@ import { join } from "node:path";
 import { readCanonical } from "../../web/canonical/read.js";
 import { PLAIN } from "../../web/layer_functions.js";
 import { Layer } from "../../web/layers.js";
+import { Browser, chromium } from "../../web/tests/browser.js";
 import { writePage } from "../lib/pages.js";
-import { chromium, openPage } from "./browser.js";
-import { skip, suite, test } from "./harness.js";
+import { afterwards, skip, suite, test } from "./harness.js";
 import { Png, chances, pbm, square } from "./pictures.js";
 import { CASES, PROGRAM, REPOSITORY, needProgram, newRoom, runTool } from "./support.js";
 
@@ -32,9 +32,23 @@ function pageOf(pictures, [x, y, pitch, width, height]) {
   return path;
 }
 
+async function openPage(path, size = {}) {
+  const page = await Browser.open(path, size);
+  afterwards(() => page.close());
+  return page;
+}
+
+// Waits until all that is in view is drawn.
+async function settle(page) {
+  await page.ask("new Promise(done => requestAnimationFrame(() => requestAnimationFrame(done)))");
+  await page.wait("!view.isWaiting");
+}
+
 async function shotOf(page) {
-  await page.settle();
-  return new Png(await page.screenshot());
+  const path = join(newRoom(), "shot.png");
+  await settle(page);
+  await page.screenshot(path);
+  return new Png(readFileSync(path));
 }
 
 async function onPage(page, column, row) {
@@ -119,7 +133,7 @@ suite("pages", () => {
     const top = pbm(40, 30, (column, row) => column === 3 && row === 4);
     const page = await openPage(pageOf([["top", top]], [-1000, 500, 100, 40, 30]));
     await page.ask("view.show({ left: 0, top: 0, right: 40, bottom: 30 })");
-    await page.settle();
+    await settle(page);
     // The centre of column 3 of row 4: row 0 is the upmost of 30.
     await page.mouse("mouseMoved", ...await onPage(page, 3.5, 4.5));
     const place = await page.ask("byId('place').textContent"), [x, y, unit] = place.split(/\s+/);
@@ -176,7 +190,7 @@ suite("pages", () => {
 
   test("zoom, pan and ruler", async () => {
     const page = await openPage(pageOf([["top", pbm(400, 300, () => true)]], [0, 0, 10000, 400, 300]));
-    await page.settle();
+    await settle(page);
     const isNear = (one, other) => assert.ok(Math.abs(one - other) < 1e-6, `${one} ${other}`);
     const before = await page.ask("view.placeAt(500, 300).column"), scale = await page.ask("view.scale");
     const [x, y] = await page.ask("(box => [box.left + 500, box.top + 300])(byId('board').getBoundingClientRect())");
@@ -202,7 +216,7 @@ suite("pages", () => {
   test("items at a point", async () => {
     const path = pageOf([["top", pbm(200, 200, () => true)]], [-10_000_000, -10_000_000, 100_000, 200, 200]);
     const page = await openPage(path);
-    await page.settle();
+    await settle(page);
     // The block's flash at (5 mm, 5 mm) stands in the box of the repeat.
     await page.click(...await onPage(page, 150.5, 49.5));
     await page.wait("byId('items').textContent.includes('top 1')");
@@ -215,10 +229,10 @@ suite("pages", () => {
     for (let at = 0; at < rows.length; at++) rows[at] = at % 251;
     const data = Buffer.concat([Buffer.from(`P4\n${side} ${side}\n`), rows]), started = Date.now();
     const page = await openPage(pageOf([["bottom", data], ["top", data]], [0, 0, 10000, side, side]));
-    await page.settle();
+    await settle(page);
     for (const act of ["view.zoom(6, 500, 400)", "view.move(200, 100)", "view.zoom(6, 500, 400)", "view.fit()"]) {
       await page.ask(act);
-      await page.settle();
+      await settle(page);
     }
     assert.ok(await page.ask("view.sheets.length === 2 && pictures[0].bits.isBlack(9999, 9999) !== null"));
     assert.ok(await page.ask("view.tiles.size") < 1000);
@@ -239,7 +253,7 @@ suite("boards", () => {
       renameSync(join(out, "index.html"), alone);
       rmSync(out, { recursive: true });
       const page = await openPage(alone);
-      await page.settle();
+      await settle(page);
       assert.equal(await page.ask("view.sheets.map(sheet => sheet.layer).join()"), shown);
       assert.ok(await page.ask("view.sheets.every(sheet => sheet.bits.count() > 0)"));
       assert.deepEqual(page.complaints(), []);

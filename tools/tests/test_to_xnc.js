@@ -4,6 +4,7 @@ import assert from "node:assert/strict";
 import { copyFileSync, existsSync, readFileSync, readdirSync, writeFileSync } from "node:fs";
 import { join } from "node:path";
 import { convertDrill } from "../../web/convert/drill/convert.js";
+import { Drilling } from "../../web/convert/drill/drilling.js";
 import { decimalOf, lengthOf, lengthText, micrometres, quickReader, sizeOf } from "../../web/convert/drill/lengths.js";
 import { latin1, latin1Bytes } from "../../web/bytes.js";
 import { part, skip, suite, test } from "./harness.js";
@@ -137,6 +138,25 @@ written: holes.xnc
     assert.ok(stdout.includes("line 5: the diameter of T1 is from the comment on line 3\n"), stdout);
   });
 
+  test("does not look at zeros that such a file has", () => {
+    const { status, stdout } = runOn(newRoom(), "M48\nINCH,LZ\nT1C0.032\n%\nT1\nX10Y0125\nX012500Y1\nM30\n");
+    assert.deepEqual([status, stdout.includes("LOOK")], [0, false], stdout);
+    assert.ok(stdout.includes("centres: X 31.75 to 254.0, Y 31.75 to 254.0 mm"), stdout);
+  });
+
+  test("settings that move no hole are left out, each told with its line", () => {
+    const room = newRoom();
+    const words = ["VER,1", "FMAT,2", "DETECT,ON", "ICI,OFF", "R,CP", "OM48", "M45,A TEXT", "PPR,1.5", "M47"];
+    const codes = ["G90", "G40", "M06", "M09", "G04X5", "G93X0Y0", "(a comment)", "T1M06"];
+    const text = ["M48", "METRIC,TZ", "T1C0.8", ...words, "%", "T1", ...codes, "X1000Y-1000", "M30"].join("\r\n");
+    const { status, stdout } = runOn(room, text);
+    assert.equal(status, 0);
+    words.forEach((word, at) => {
+      assert.ok(stdout.includes(`line ${4 + at}: ${word.replace(" ", "")} is left out: it moves no hole\n`), word);
+    });
+    assert.equal(readFileSync(join(room, "holes.xnc"), "utf8"), "M48\nMETRIC\nT1C0.8\n%\nG05\nT1\nX1.0Y-1.0\nM30\n");
+  });
+
   test("an option goes before the file", () => {
     const room = newRoom(), text = "M48\nINCH,TZ,00.0000\nT1C0.032\n%\nT1\nX1000Y1000\nM30\n";
     assert.equal(runOn(room, text, "--digits", "2:3", "--tool", "1=40mil").status, 0);
@@ -199,6 +219,43 @@ written: holes.xnc
   });
 });
 
+suite("drillings", () => {
+  const drilling = (unit, diameter, act) => {
+    const made = new Drilling(unit);
+    made.diameters.set(1, diameter);
+    act(made);
+    return made;
+  };
+  const slot = (made) => made.rout(1, [[0, 0], [1, 0]]);
+
+  test("are the same where all is", () => {
+    const one = drilling("mm", 5, slot);
+    assert.ok(one.isSame(drilling("mm", 5, slot)));
+    for (const other of [drilling("inch", 5, slot), drilling("mm", 6, slot), drilling("mm", 5, () => {}),
+      drilling("mm", 5, (made) => made.rout(1, [[0, 0], [1, 1]])), drilling("mm", 5, (made) => made.rout(2, [[0, 0], [1, 0]])),
+      drilling("mm", 5, (made) => {
+        made.hit(1, 0, 0);
+        made.hit(1, 1, 0);
+      })]) {
+      assert.ok(!one.isSame(other));
+    }
+    assert.deepEqual([one.hits, one.routs], [0, 1]);
+  });
+
+  test("begin at (0, 0)", () => {
+    const { bytes } = convertDrill(latin1Bytes("M48\nMETRIC,TZ\nT1C0.8\n%\nT1\nX1000\nY2000\nM30\n"));
+    assert.equal(latin1(bytes), "M48\nMETRIC\nT1C0.8\n%\nG05\nT1\nX1.0Y0.0\nX1.0Y2.0\nM30\n");
+  });
+
+  test("leave out what stands at a file's ends", () => {
+    for (const [text, told] of [["\0\0M30\n", ["zero bytes or Ctrl-Z at the file's ends are left out"]],
+      ["M30\n\x1a", ["zero bytes or Ctrl-Z at the file's ends are left out"]], ["M30\n", []],
+      ["\xef\xbb\xbfM30\n", ["a byte order mark is left out"]]]) {
+      assert.deepEqual(convertDrill(latin1Bytes(text)).changes.map(({ what }) => what), told, JSON.stringify(text));
+    }
+  });
+});
+
 suite("lengths", () => {
   test("are exact, whichever way they are read", () => {
     const digits = { whole: 2, decimals: 4 };
@@ -234,13 +291,15 @@ suite("lengths", () => {
 suite("large and hostile files", () => {
   test("a long line is refused at once", () => {
     for (const line of [`X${"1".repeat(1_000_000)}!`, "X1".repeat(300_000) + "!", `;Holesize 1 = ${"1.".repeat(500_000)}`,
-      `M45,${"1".repeat(1_000_000)}!`, `;FORMAT={3:3/ absolute / metric /${" ".repeat(1_000_000)}`]) {
+      `M45,${"1".repeat(1_000_000)}!`, `X1.${"0".repeat(1_000_000)}1Y1`, `T2C${"1".repeat(1_000_000)}.1.1`, `;FORMAT={3:3/ absolute / metric /${" ".repeat(1_000_000)}`]) {
       const started = Date.now();
       convertDrill(latin1Bytes(`M48\nMETRIC,TZ\nT1C0.8\n%\nT1\n${line}\nM30\n`));
       assert.ok(Date.now() - started < 5000, line.slice(0, 20));
     }
     const report = { name: "r", bytes: latin1Bytes("FORMAT 2.4\n".padEnd(1_000_000, "\n")) };
     assert.ok(convertDrill(latin1Bytes("M30\n"), { report }).bytes);
+    const dri = { name: "r", bytes: latin1Bytes(`Units: 1/100000 inch\nT1 ${"1".repeat(1_000_000)}.1.1 inch 3\n`) };
+    assert.ok(convertDrill(latin1Bytes("T1\nX1Y1\nM30\n"), { report: dri }).refusals.length);
   });
 
   test("a million lines", () => {

@@ -3,7 +3,7 @@
 import { Box, around, disc, half, join } from "./box.js";
 import { Aperture, Lacking, nm, whole } from "./text.js";
 
-const DEFINITION = /^ADD(\d+)([^,*]+)(?:,([^*]*))?\*$/;
+const DEFINITION = /^ADD(\d+)([^,*\d][^,*]*)(?:,([^*]*))?\*$/;
 const TEMPLATES = ["C", "R", "O"];
 
 // The box of one primitive of a macro, whose fields are numbers alone.
@@ -33,7 +33,7 @@ function primitiveBox(line) {
  * @returns {{name: string, aperture: Aperture}}
  */
 export function macroOf(command) {
-  const [name, ...lines] = command.replace(/\n/g, "").replace(/\*+$/, "").split("*");
+  const [name, ...lines] = command.replace(/\n/g, "").split("*");
   const box = join(lines.filter((line) => line).map(primitiveBox));
   return { name: name.slice(2), aperture: new Aperture(`primitives ${box ? box.sides() : "nothing"}`, box) };
 }

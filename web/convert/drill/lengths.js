@@ -10,7 +10,7 @@ export const ONE = 1e9;
 // Whole parts of more digits than these are past every limit of a drill file.
 const WHOLE_DIGITS = 6;
 const POWERS = Array.from({ length: MOST_DECIMALS + 1 }, (_, exponent) => 10 ** exponent);
-const NUMBER = /^[+-]*(?:(\d+)\.?(\d*)|\.(\d+))$/;
+const NUMBER = /^[+-]*(?:(\d+)(?:\.(\d*))?|\.(\d+))$/;
 
 /** The units of lengths. */
 export const MM = "mm", INCH = "inch";
@@ -41,7 +41,13 @@ function partsOf(text, digits, zeros) {
     whole = body.slice(0, point);
     decimals = body.slice(point);
   }
-  return { isNegative: text.startsWith("-"), whole: whole.replace(/^0+/, ""), decimals: decimals.replace(/0+$/, "") };
+  return { isNegative: text.startsWith("-"), whole: whole.replace(/^0+/, ""), decimals: withoutLastZeros(decimals) };
+}
+
+function withoutLastZeros(digits) {
+  let end = digits.length;
+  while (end > 0 && digits.charCodeAt(end - 1) === 48) end--;
+  return digits.slice(0, end);
 }
 
 /**
