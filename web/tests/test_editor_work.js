@@ -53,6 +53,22 @@ suite("history", () => {
   });
 });
 
+suite("two pages", () => {
+  test("the second says that it keeps nothing", async () => {
+    const browser = await openPage();
+    const { targetId } = await browser.call("Target.createTarget", { url: browser.url }, null);
+    const { sessionId } = await browser.call("Target.attachToTarget", { targetId, flatten: true }, null);
+    const told = async () => (await browser.call("Runtime.evaluate", { returnByValue: true,
+      expression: "document.body?.dataset.ready ? document.getElementById('told').textContent : ''" }, sessionId)).result.value;
+    let words = "";
+    for (let turn = 0; turn < 200 && !words; turn++) {
+      words = await told();
+      await new Promise((done) => setTimeout(done, 50));
+    }
+    assert.match(words, /Another page has the same work open/);
+  });
+});
+
 suite("saving", () => {
   test("the script outside gives the same texts and pictures", async () => {
     program();
