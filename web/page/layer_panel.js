@@ -27,7 +27,8 @@ function row(layer) {
   };
   opacity.onchange = () => changed("looks");
   const name = button("", () => makeActive(layer.name), { className: "name",
-    title: `${layer.name}: ${plural(layer.items, "item")}, ${layer.file ?? ""}`, "aria-pressed": String(layer.name === state.active) });
+    title: `${layer.name}: ${plural(layer.items, "item")}, ${layer.file ?? ""}`,
+    "aria-pressed": String(layer.name === state.active) });
   name.append(element("b", {}, layer.label), element("small", {}, ` ${layer.items.toLocaleString("en")}`));
   const only = button("only", () => showOnly(layer.name), { className: "only", title: "show this layer alone",
     "aria-label": `show ${layer.label} alone` });

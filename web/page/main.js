@@ -163,8 +163,9 @@ async function restore(contents) {
     state.active = looks?.active ?? state.active;
     await refresh();
     await changed("document");
-    const box = await boxOfAll(state.layers);
+    const box = looks?.view ? null : await boxOfAll(state.layers);
     if (box) view.fit(box);
+    else if (looks?.view) view.show(looks.view);
     tell("Opened where you were.");
   } else if (contents?.files.length) {
     await openFiles(contents.files, true);
@@ -206,6 +207,7 @@ async function start() {
   });
   on("looks", () => { showUnsaved(); return journal.keepLooks(looksNow()); });
   on("fit", (box) => box && view.fit(box));
+  document.addEventListener("visibilitychange", () => journal.keepLooks(looksNow()));
   listenToLine(async (path) => session.get(path) ?? null);
   chooseTool("pick");
   keepIn(journal);

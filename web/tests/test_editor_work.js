@@ -39,11 +39,12 @@ suite("history", () => {
     await run(first, "undo");
     await run(first, "move nowhere 0 0 0");
     const text_ = await written(first, "top");
-    const shown = await first.ask("camplot.state.layers.map(({ name, label, colour, isShown, items }) => [name, label, colour, isShown, items])");
+    const layers = "camplot.state.layers.map(({ name, label, colour, isShown, items }) => [name, label, colour, isShown, items])";
+    const shown = await first.ask(layers);
     await first.kill();
     const again = await Browser.open(page, { profile });
     afterwards(() => again.close());
-    assert.deepEqual(await again.ask("camplot.state.layers.map(({ name, label, colour, isShown, items }) => [name, label, colour, isShown, items])"), shown);
+    assert.deepEqual(await again.ask(layers), shown);
     assert.equal(await again.ask("camplot.steps.done.length + ' ' + camplot.steps.undone.length"), "1 1");
     assert.equal(await written(again, "top"), text_);
     assert.deepEqual(await run(again, "redo"), ["ok"]);
