@@ -22,7 +22,12 @@ export function windowLine({ x, y, pitch, width, height }) {
   return `window ${x} ${y} ${pitch} ${width} ${height}`;
 }
 
-/** Whether a window reaches around a box. */
+/**
+ * Whether a window reaches around a box.
+ * @param {PlotWindow} window
+ * @param {import("./canonical/box.js").Box} box in nm
+ * @returns {boolean}
+ */
 export function isInWindow({ x, y, pitch, width, height }, box) {
   return x <= box.left && y <= box.low && box.right <= x + width * pitch && box.high <= y + height * pitch;
 }

@@ -21,8 +21,8 @@ const COMMAND = {
   about: `Plots a board: all its layers in one window, as PBM pictures and as a page to look at.
 
   tools/board FOLDER                   the layers among the files of a folder, plotted into FOLDER/board
-  tools/board top.gbr holes.drl        these files, whatever their names are, plotted into \`board\` beside the first
-  tools/board FOLDER --dpi 2540        with pixels of 10 µm; 1000 an inch, of 25.4 µm, where nothing is said
+  tools/board top.gbr holes.drl        these files, whatever their names are, plotted into \`board\` next to the first
+  tools/board FOLDER --dpi 2540        with pixels of 10 µm; 1000 an inch, of 25.4 µm, by default
   tools/board FOLDER --edits FILE      then runs the lines of FILE, edits and further plots, which come onto the page
 
 What a file shows is told by its attribute %TF.FileFunction%, else by the names that KiCad, Altium, EAGLE, Fritzing
@@ -32,18 +32,18 @@ It leaves in the folder of --out:
   index.html   the page: open it in a browser; it needs no server and no network
   NAME.pbm     a picture for each layer
   script       what camplot ran there, with plain names; run it again by \`camplot script\` in that folder
-  replies      each of its lines beside its reply
+  replies      each of its lines after its reply
   files/       the layers' files under plain names
   texts/       the layers' canonical texts, for tools/items
 
-It says for each layer what came of it. Where that folder holds anything that it did not write itself, or that was
+It prints for each layer what came of it. Where that folder holds anything that it did not write itself, or that was
 changed since, it stops, but for --replace. The exit status is 0; 1 where a layer or a line was refused; 2 where
 nothing could be done.`,
   operand: { name: "FOLDER|FILE", isMany: true },
   options: [
     { name: "--dpi", value: "N", isWhole: true, otherwise: 1000, help: "pixels an inch (1000)" },
     { name: "--out", value: "DIR", help: "the folder for what it leaves" },
-    { name: "--edits", value: "FILE", help: "lines of a script that run behind the plots" },
+    { name: "--edits", value: "FILE", help: "lines of a script that run after the plots" },
     { name: "--replace", help: "replace what stands in the folder under the same names" },
     { name: "--camplot", value: "PROGRAM", otherwise: PROGRAM, help: `the program (${PROGRAM})` },
   ],

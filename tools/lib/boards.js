@@ -93,6 +93,7 @@ export class Board {
     return this.layers.filter((layer) => this.loads.get(layer.name).isAccepted);
   }
 
+  /** The boxes of the layers that load and paint something, in nm. */
   boxes() {
     return this.loaded().map((layer) => this.texts.get(layer.name).box()).filter((box) => box);
   }
@@ -166,6 +167,7 @@ export class Board {
     return this.edits.filter((reply) => !reply.isAccepted);
   }
 
+  /** Whether a load, a plot or a line of the user's own was refused. */
   isAnyRefused() {
     return [...this.loads.values(), ...this.plots.values(), ...this.edits].some((reply) => !reply.isAccepted);
   }

@@ -9,13 +9,12 @@ const COMMAND = {
   tool: "tools/to_xnc",
   about: `Writes an Excellon drill file as XNC that \`camplot\` loads: coordinates with a point, slots as routs.
 
-An Excellon coordinate without a point, as X0145300, says where it lies only with three other things: the unit, how many
-digits stand before and behind the point, and which zeros are left out. Each is taken from the first of these that
-tells it: an option; the file, by METRIC, INCH, M71, M72, LZ, TZ, a form such as 000.000, or the comments that KiCad,
-Altium and Allegro write; a report beside it (--report). The digits, where nothing tells them, are assumed to be 2:4 in
-inches and 3:3 in mm; the zeros are worked out where the coordinates leave one choice. The unit is never assumed.
-What was taken from where is said, and so is each thing that was left out or changed. Compare the size that is said with
-the board's.
+The place of a coordinate without a point, as X0145300, depends on three other things: the unit, how many digits stand
+before and behind the point, and which zeros are left out. Each is taken from the first of these that tells it: an
+option; the file, by METRIC, INCH, M71, M72, LZ, TZ, a form such as 000.000, or the comments that KiCad, Altium and
+Allegro write; a report (--report). The digits, where nothing tells them, are assumed to be 2:4 in inches and 3:3 in
+mm; the zeros are worked out where the coordinates leave one choice. The unit is never assumed. The tool prints what it
+took from where, and each thing that it left out or changed. Compare the size that it prints with the board's.
 
 Every value is written exactly. What cannot be is refused with its line, and then nothing is written: arcs, repeats,
 patterns, incremental coordinates, mirrors, tools without a diameter. A file of M30 alone becomes a file without holes.

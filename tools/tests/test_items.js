@@ -109,7 +109,8 @@ suite("boxes", () => {
   test("of arcs, which reach as far as they go", () => {
     for (const [start, end, isClockwise, box] of [[[10, 0], [0, 10], false, [0, 0, 10, 10]],
       [[10, 0], [0, 10], true, [-10, -10, 10, 10]], [[10, 0], [10, 0], false, [-10, -10, 10, 10]],
-      [[6, 8], [-6, 8], false, [-6, 8, 6, 10]]]) {
+      [[6, 8], [-6, 8], false, [-6, 8, 6, 10]], [[-6, 8], [-6, -8], false, [-10, -8, -6, 8]],
+      [[-6, -8], [6, -8], false, [-6, -10, 6, -8]], [[6, -8], [6, 8], false, [6, -8, 10, 8]]]) {
       assert.deepEqual(arcBox(start, end, [0, 0], isClockwise), new Box(...box), String([start, end, isClockwise]));
     }
   });

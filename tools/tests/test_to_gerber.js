@@ -12,6 +12,8 @@ const LAYERS = join(CASES, "gerber_layers");
 const NEW_FORMS = join(CASES, "to_gerber");
 const HEAD = "%FSLAX24Y24*%\n%MOIN*%\n%ADD10C,0.05*%\nD10*\n";
 const WINDOW = "window -5000000 -5000000 50000 1000 500";
+/** Its pixels' centres lie on no edge of the shapes. */
+const PICTURE = "window -1999983 -1999977 20003 1200 700";
 
 function runOn(room, text, words) {
   writeFileSync(join(room, "old.gbr"), text, "latin1");
@@ -169,6 +171,26 @@ operations: 2 read and written, 2 flashes and 0 draws
 written: old.gbr.gbr
 `);
   });
+});
+
+// Each two of these texts are the same picture, one of them in a form that has to be written anew.
+suite("pictures", () => {
+  for (const { name, one, other } of rows("gerber_pairs.json")) {
+    test(name, () => {
+      if (!existsSync(PROGRAM)) skip("the program is not built");
+      const room = newRoom();
+      const pictures = [one, other].map((text, place) => {
+        const { stderr } = runOn(room, text, ["--nearest", "-o", `${place}.gbr`]);
+        assert.equal(stderr, "");
+        writeFileSync(join(room, "script"), `load a gerber ${place}.gbr\n${PICTURE}\nplot a a.pbm\n`);
+        const { stdout } = runProgram(PROGRAM, ["script"], room);
+        assert.match(stdout, /^ok \d+\nok\nok \d+\n$/);
+        return readFileSync(join(room, "a.pbm"));
+      });
+      assert.ok(pictures[0].some((byte, at) => at > 20 && byte !== 0));
+      assert.deepEqual(pictures[0], pictures[1]);
+    });
+  }
 });
 
 suite("a board of parts at odd angles", () => {

@@ -143,6 +143,12 @@ written: holes.xnc
     assert.equal(readFileSync(join(room, "holes.xnc"), "utf8"), "M48\nINCH\nT1C0.04\n%\nG05\nT1\nX1.0Y1.0\nM30\n");
   });
 
+  test("a first line and a last one count as others do", () => {
+    const room = newRoom();
+    assert.equal(runOn(room, "INCH,LZ\nT1C0.032\n%\nT1\nX01Y01\nM30").status, 0);
+    assert.equal(readFileSync(join(room, "holes.xnc"), "utf8"), "M48\nINCH\nT1C0.032\n%\nG05\nT1\nX1.0Y1.0\nM30\n");
+  });
+
   test("a tool 0 gets another number", () => {
     const room = newRoom();
     const { status, stdout } = runOn(room, "M48\nMETRIC,TZ\nT0C0.4\nT3C0.8\nR,H\n/\n%\nT0\nX1000Y1000\nT3\nX2000Y1\nM30\n");
@@ -209,6 +215,7 @@ suite("lengths", () => {
     }
     assert.equal(lengthOf("1000000", digits, null ?? "trailing"), 100e9);
     assert.equal(lengthOf("-1234567.0", null, null), -Infinity);
+    assert.throws(() => lengthOf("145", digits, null), /no point/);
     for (const text of ["", "-", ".", "1.2.3", "1e3", "145"]) assert.throws(() => lengthOf(text, null, null), /no number|no point/);
     assert.throws(() => lengthOf("0.0000000001", null, null), /more than the 9 decimals/);
   });

@@ -22,10 +22,12 @@ export class Box {
       Math.max(this.right, other.right), Math.max(this.high, other.high));
   }
 
+  /** The box moved by (dx, dy). */
   moved(dx, dy) {
     return new Box(this.left + dx, this.low + dy, this.right + dx, this.high + dy);
   }
 
+  /** The box with each side moved outwards by so much. */
   widened(by) {
     return new Box(this.left - by, this.low - by, this.right + by, this.high + by);
   }
@@ -42,6 +44,7 @@ export class Box {
     }
   }
 
+  /** Whether a point lies in it or on a side. */
   holds(x, y) {
     return this.left <= x && x <= this.right && this.low <= y && y <= this.high;
   }

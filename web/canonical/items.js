@@ -48,6 +48,7 @@ class Stroke {
   }
 }
 
+/** A flash at (x, y), in nm; as an Item to read. */
 export class Flash extends Stroke {
   constructor(number, aperture, turn, polarity, x, y) {
     super(number, aperture, turn, polarity);
@@ -73,6 +74,7 @@ export class Flash extends Stroke {
   }
 }
 
+/** A draw from (sx, sy) to (ex, ey), in nm; as an Item to read. */
 export class Draw extends Stroke {
   constructor(number, aperture, turn, polarity, [sx, sy], [ex, ey]) {
     super(number, aperture, turn, polarity);
@@ -100,6 +102,7 @@ export class Draw extends Stroke {
   }
 }
 
+/** A hit at (x, y), in nm, with a tool and its number; as an Item to read. */
 export class Hit {
   constructor(number, tool, x, y) {
     this.number = number;

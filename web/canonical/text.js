@@ -23,6 +23,11 @@ export class Lacking extends Error {}
 
 /** What a flash takes from the dictionary: the size in words, the box about (0, 0), and the pen's width. */
 export class Aperture {
+  /**
+   * @param {string} size
+   * @param {import("./box.js").Box | null} box
+   * @param {number} width in nm
+   */
   constructor(size, box, width = 0) {
     this.size = size;
     this.box = box;

@@ -7,7 +7,7 @@ ghost use Rattle.cam_apertures.specs.Machinery.Packing.{is_outline};
 
 use crate::kept::Kept;
 use crate::view::PrimitiveView;
-use cam_macros::{Prim, Points, PrimShape, Prims};
+use cam_macros::{Points, Prim, PrimShape, Prims};
 use std::alloc::{AllocError, Global};
 use std::marker::Model;
 

@@ -214,7 +214,7 @@ module _ (s : State) (P : State × Outcome → Type 0) (h : AfterOthers s P) whe
   after_others (commands.Insert name k item) m other = asked (edit_of name (changes.Insert k item)) m
   after_others (commands.Delete name k) m other = asked (edit_of name (changes.Delete k)) m
   after_others (commands.Move name k dx dy) m other = asked (edit_of name (changes.Move k dx dy)) m
-  after_others (commands.Reorder name k m) m other = asked (edit_of name (changes.Reorder k m)) m
+  after_others (commands.Reorder name k to) m other = asked (edit_of name (changes.Reorder k to)) m
   after_others (commands.Aperture name k n) m other = asked (edit_of name (changes.Aperture k n)) m
   after_others (commands.Polarity name k dark) m other = asked (edit_of name (changes.Polarity k dark)) m
   after_others (commands.Tool name k t) m other = asked (edit_of name (changes.Tool k t)) m

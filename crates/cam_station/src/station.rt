@@ -130,8 +130,14 @@ impl Station {
             Command::Polarity { name, k, dark } => self.change(name, Change::Polarity { k, dark }),
             Command::Tool { name, k, t } => self.change(name, Change::Tool { k, t }),
             Command::Diameter { name, t, d } => self.change(name, Change::Diameter { t, d }),
-            Command::SetAttribute { name, key, fields } => self.change(name, Change::SetAttribute { key, fields }),
-            Command::DropAttribute { name, key } => self.change(name, Change::DropAttribute { key }),
+            Command::SetAttribute { name, key, fields } => self.change(
+                name,
+                Change::SetAttribute { key, fields },
+            ),
+            Command::DropAttribute { name, key } => self.change(
+                name,
+                Change::DropAttribute { key },
+            ),
             Command::Begin => self.begin(),
             Command::End => self.end(),
             Command::Abort => self.abort(),
@@ -260,7 +266,7 @@ impl Station {
         let raster = &mut self.rasters[place];
         let dirty = raster.dirty();
         let drawn = draw(self.alloc, self.board.content(place), raster, dirty);
-        match raster.to_pbm(self.alloc) {
+        match raster.to_pbm() {
             Ok(bytes) => Ok(Reply::Bytes {
                 bytes: Bytes::from_vec(bytes),
                 drawn: u64::from(drawn),

@@ -1,6 +1,6 @@
 -- Columns of runs, by the bits of masks.
 use Rattle.std.proofs.Common.{◌≡◌, ◌↔◌, ℕ, ◌+◌, ◌-◌, ◌<◌, ◌≤◌, ℤ, pos, ◌+ℤ◌, ◌-ℤ◌, ◌*ℤ◌, ◌≤ℤ◌}
-use Rattle.std.proofs.Common.{List, length, slice_index, inl, inr, subst, zero-add, arith}
+use Rattle.std.proofs.Common.{List, length, slice_index, inl, inr, arith}
 use Rattle.std.proofs.lemmas.Bool.{cases_lt}
 use borrow.Rule.Slice.PartMut.{put_mid}
 use Rattle.cam_units.specs.Board.{IsInReach, IsOnBoard, IsPlace}
@@ -14,13 +14,11 @@ use Rattle.cam_rows.specs.Rows.{centre_at, row_below}
 use Rattle.cam_rows.specs.Runs.{AreWideRows, IsInRun, IsWideRow}
 use Rattle.cam_tiles.specs.declared.grid.Grid.{Grid}
 use Rattle.cam_tiles.specs.declared.masks.heights.Heights.{Heights}
-use Rattle.cam_tiles.specs.declared.masks.join.Join.{Join}
 use Rattle.cam_tiles.specs.declared.masks.runs.Runs.{Runs}
 use Rattle.cam_tiles.specs.Machinery.Levels.{height, levels_of}
-use Rattle.cam_tiles.specs.Machinery.Masks.{IsIn, IsMarked, IsWithin, Joins, Marking, joined}
+use Rattle.cam_tiles.specs.Machinery.Masks.{IsWithin}
 use Rattle.cam_tiles.specs.Machinery.Runs.{Fits, HasColumn, IsClear, IsWideGrid, Tells}
-use Rattle.cam_tiles.specs.Tiles.{IsGrid, centre_in}
-use Rattle.cam_tiles.proofs.Joined.{joined_like}
+use Rattle.cam_tiles.specs.Tiles.{centre_in}
 use Rattle.cam_tiles.proofs.SeenRows.{in_reach}
 use Rattle.cam_tiles.proofs.TurnedBands.{below_seen, part_at}
 
@@ -69,7 +67,7 @@ tells_none g columns first end at h IsHeld r empty rows clear = record {
 -- the rows below one of a grid that goes on to the right
 pub wide_below : (g : Grid) (columns n : ℕ) (at : Point) (top : Centres) (first : ℕ)
     → ((i : ℕ) → centre_at top i ≡ relative at (centre_in g i first)) → IsWideGrid g columns → IsOnBoard at
-    → top.count ≡ columns → pos 1 ≤ℤ top.step → first + n ≤ g.rows → AreWideRows top n
+    → top.n ≡ columns → pos 1 ≤ℤ top.step → first + n ≤ g.rows → AreWideRows top n
 wide_below g columns n at top first centres wide board count step within k below = record {
   count = rw count wide.count;
   step = step;
@@ -79,10 +77,10 @@ wide_below g columns n at top first centres wide board count step within k below
 
 pub tells_band : (g : Grid) (columns first end : ℕ) (at : Point) (h : Heights) (IsHeld : Spot → Type 0) (top : Centres)
     (clear clear_ends firsts ends : List ℕ) (from until late early : ℕ)
-    → ((i : ℕ) → centre_at top i ≡ relative at (centre_in g i first)) → top.count ≡ columns → first < end
+    → ((i : ℕ) → centre_at top i ≡ relative at (centre_in g i first)) → top.n ≡ columns → first < end
     → end ≤ g.rows → g.rows ≤ 64 → length clear ≡ 64 → length clear_ends ≡ 64 → length firsts ≡ end - first
     → length ends ≡ end - first → IsBand g at h first end
-    → ((k i : ℕ) → k < length firsts → i < top.count
+    → ((k i : ℕ) → k < length firsts → i < top.n
     → IsInRun (slice_index firsts k) (slice_index ends k) i ↔ IsHeld (centre_at (row_below top k) i))
     → ((k column : ℕ) → k < length firsts → IsInRun (slice_index firsts k) (slice_index ends k) column
     → IsInRun from until column)
@@ -151,37 +149,10 @@ tells_whole g columns at h IsHeld r heights told = record {
       );
 }
 
--- the rows of a grid itself
-pub own_grid : (g : Grid) → IsGrid g → IsWideGrid g g.columns
-own_grid g grid = record {
-  grid = grid;
-  count = (grid.columns.0, omega (arith, grid.columns.1));
-  centres = grid.centres;
-}
-
--- marks that are joined with the runs of a shape in the rows of their own grid
-pub joins_runs : (how : Join) (IsHeld : Spot → Type 0) (g : Grid) (r : Runs) (old new : Marking) → g ≡ old.grid
-    → Tells g g.columns IsHeld r → new.grid ≡ old.grid
-    → ((i row : ℕ) → IsIn old.grid i row
-    → IsMarked new i row ↔ joined how (IsMarked old i row) (HasColumn r row (0 + i)))
-    → Joins how IsHeld old new
-joins_runs how IsHeld g r old new is told grid marks =
-    let here = subst (λ (o : Grid). Tells o o.columns IsHeld r) is told in
-    record {
-      grid = grid;
-      marks = λ i row inside.
-          joined_like how _ _ _ _ _ ((λ a. a), (λ a. a)) (here.each i row inside.0 inside.1)
-          (rw (zero-add i) at (marks i row inside));
-    }
-
 -- ---- rows that go on to the right
 
 abbrev pub top_of : Grid → ℕ → ℕ → Centres
-top_of g columns first = record {
-  first = record { x = g.first.x; y = height (levels_of g) first };
-  step = g.step;
-  count = columns;
-}
+top_of g columns first = record { x = g.x; y = height (levels_of g) first; step = g.step; n = columns }
 
 pub further_down : (y step : ℤ) (first k : ℕ) → y -ℤ pos first *ℤ step -ℤ pos k *ℤ step ≡ y -ℤ pos (first + k) *ℤ step
 further_down y step first k =
@@ -193,8 +164,8 @@ further_down y step first k =
 module _ (g : Grid) (columns first : ℕ) where
   pub below_top : (k i : ℕ) → centre_at (row_below (top_of g columns first) k) i ≡ centre_in g i (first + k)
   below_top k i = λ j. record {
-    x = g.first.x +ℤ pos i *ℤ g.step;
-    y = further_down g.first.y g.step first k j;
+    x = g.x +ℤ pos i *ℤ g.step;
+    y = further_down g.y g.step first k j;
   }
 
   place_in_reach : (s : Spot) → IsPlace s → IsInReach s
@@ -209,9 +180,9 @@ module _ (g : Grid) (columns first : ℕ) where
   }
 
   -- as the code computes the top row
-  pub wide_rows_of : (x y step : ℤ) (n m : ℕ) → x ≡ g.first.x → y ≡ height (levels_of g) first → step ≡ g.step
+  pub wide_rows_of : (x y step : ℤ) (n m : ℕ) → x ≡ g.x → y ≡ height (levels_of g) first → step ≡ g.step
       → IsWideGrid g columns → first + n ≤ g.rows → m ≡ n
-      → AreWideRows (record { first = record { x = x; y = y }; step = step; count = columns }) m
+      → AreWideRows (record { x = x; y = y; step = step; n = columns }) m
   wide_rows_of x y step n m is_x is_y is_step wide within size k few =
       rw (is_x, is_y, is_step) (wide_rows wide k (omega (arith, within, size, few)))
 

@@ -88,6 +88,20 @@ module _ (draw : ℕ → List ℕ) where
   length-all_drawn_from k (Some rows ∷ tiles) = ap suc (length-all_drawn_from (k + 1) tiles)
   length-all_drawn_from k (None ∷ tiles) = ap suc (length-all_drawn_from (k + 1) tiles)
 
+-- how many of the tiles from number k on are dirty
+pub dirty_past_clean : (k : ℕ) (tiles : List Tile) (rows : List ℕ) → k < length tiles
+    → get_or tiles k (Some rows) ≡ Some rows → dirty (drop k tiles) ≡ dirty (drop (k + 1) tiles)
+dirty_past_clean k tiles rows within read =
+    ap dirty (drop_more tiles k (Some rows) within ∙ ap (λ t. t ∷ drop (k + 1) tiles) read)
+    ∙ dirty_after_clean rows (drop (k + 1) tiles)
+
+pub dirty_past_dirty : (k : ℕ) (tiles : List Tile) (rows : List ℕ) → k < length tiles → get_or tiles k None ≡ None
+    → dirty (drop k tiles) ≡ 1 + dirty (drop (k + 1) (set tiles k (Some rows)))
+dirty_past_dirty k tiles rows within read =
+    ap dirty (drop_more tiles k None within ∙ ap (λ t. t ∷ drop (k + 1) tiles) read)
+    ∙ dirty_after_dirty (drop (k + 1) tiles)
+    ∙ ap (λ rest. 1 + dirty rest) (sym (drop-set-lt (k + 1) tiles k (Some rows) (omega arith)))
+
 module _ (grid : ℕ → Grid) where
   -- there are as many grids as dirty tiles
   pub length-dirty_grids : (k : ℕ) (tiles : List Tile) → length (dirty_grids grid k tiles) ≡ dirty tiles

@@ -54,20 +54,20 @@ module _ (g : Grid) (at : Point) (top : Centres) (first : ℕ)
     (centres : (i : ℕ) → centre_at top i ≡ relative at (centre_in g i first)) where
   step_kept : top.step ≡ g.step
   step_kept =
-      step_is top.first.x top.step g.first.x g.step (pos 2 *ℤ at.x) (ap (λ s. s.x) (centres 0))
+      step_is top.x top.step g.x g.step (pos 2 *ℤ at.x) (ap (λ s. s.x) (centres 0))
       (ap (λ s. s.x) (centres 1))
 
   height_below : (k : ℕ)
-      → top.first.y -ℤ pos k *ℤ top.step ≡ g.first.y -ℤ pos (first + k) *ℤ g.step -ℤ pos 2 *ℤ at.y
+      → top.y -ℤ pos k *ℤ top.step ≡ g.y -ℤ pos (first + k) *ℤ g.step -ℤ pos 2 *ℤ at.y
   height_below k =
       ap (λ s. s.y -ℤ pos k *ℤ top.step) (centres 0)
-      ∙ ap (λ s. g.first.y -ℤ pos first *ℤ g.step -ℤ pos 2 *ℤ at.y -ℤ pos k *ℤ s) step_kept
-      ∙ further_down g.first.y g.step (pos 2 *ℤ at.y) first k
+      ∙ ap (λ s. g.y -ℤ pos first *ℤ g.step -ℤ pos 2 *ℤ at.y -ℤ pos k *ℤ s) step_kept
+      ∙ further_down g.y g.step (pos 2 *ℤ at.y) first k
 
   pub below_seen : (k i : ℕ) → centre_at (row_below top k) i ≡ relative at (centre_in g i (first + k))
   below_seen k i = λ j. record { x = (centres i j).x; y = height_below k j }
 
-  pub rows_below : IsGrid g → IsOnBoard at → top.count ≡ g.columns → IsRow top
+  pub rows_below : IsGrid g → IsOnBoard at → top.n ≡ g.cols → IsRow top
       → (k : ℕ) → first + k < g.rows → IsRow (row_below top k)
   rows_below grid board count row k below = record {
     count = row.count;

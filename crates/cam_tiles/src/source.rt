@@ -1,6 +1,6 @@
 //! Layers as painters.
 
-ghost use Rattle.std.specs.Prelude.{◌≡◌, count_by, is_none};
+ghost use Rattle.std.specs.Prelude.{◌≡◌, ◌+◌, count_by, is_none};
 ghost use Rattle.cam_objects.specs.Cells.{AreCellsOf, drill_item_boxes, item_boxes};
 ghost use Rattle.cam_objects.specs.Contents.{content_leaves, content_of, drill_content_leaves, drill_content_of};
 ghost use Rattle.cam_objects.specs.DrillSoundness.{IsSoundDrillLayer};
@@ -8,7 +8,9 @@ ghost use Rattle.cam_objects.specs.Soundness.{HasSoundItems};
 ghost use Rattle.cam_tiles.specs.Sources.{picture_of, unasked};
 
 use crate::drawing::{dirty_in, draw};
+use crate::grid::Grid;
 use crate::painter::{Painter, Tile};
+use crate::plain::tile_of;
 use crate::shown::Shown;
 use crate::window::Window;
 use cam_objects::{DrillLayer, ItemCells, Layer};
@@ -18,13 +20,14 @@ use std::marker::Model;
 /// Paints the image of a layer: of a Gerber layer a place is black where the last leaf that covers it is dark, of a
 /// drill layer where a hole or a slot covers it.
 ///
-/// While it draws it asks its allocator for memory: for the boxes of items, and for the tiles of a row of tiles, which
-/// are then drawn at once from those items alone that they may show. Where memory is refused, each tile asks every item;
-/// what is painted is the same.
+/// One that knows the cells of its items draws the dirty tiles of a row of tiles at once, from those items alone that
+/// they may show. For that it asks its allocator for memory; where that is refused, and where it knows no cells, it draws
+/// tile by tile and takes none. The tiles are the same.
 #[derive(Drop)]
 pub struct Source<'a> {
     shown: Shown<'a>,
-    alloc: Global,
+    /// What the quick way asks for memory.
+    alloc: Option<Global>,
     asked: u64,
 }
 
@@ -41,13 +44,13 @@ impl<'a> Model for Source<'a> {
 
 impl<'a> Source<'a> {
     /// Paints a sound layer. No tile was asked for.
-    pub fn gerber(alloc: Global, layer: &'a Layer) -> Source<'a>
+    pub fn gerber(layer: &'a Layer) -> Source<'a>
         requires { HasSoundItems layer.now }
         ensures { result ≡ unasked (content_leaves (content_of layer.now)) }
     {
         Source {
             shown: Shown::Gerber { layer, cells: None },
-            alloc,
+            alloc: None,
             asked: 0,
         }
     }
@@ -64,19 +67,19 @@ impl<'a> Source<'a> {
                 layer,
                 cells: Some(cells),
             },
-            alloc,
+            alloc: Some(alloc),
             asked: 0,
         }
     }
 
     /// Paints a sound drill layer. No tile was asked for.
-    pub fn drill(alloc: Global, layer: &'a DrillLayer) -> Source<'a>
+    pub fn drill(layer: &'a DrillLayer) -> Source<'a>
         requires { IsSoundDrillLayer layer.now }
         ensures { result ≡ unasked (drill_content_leaves (drill_content_of layer.now)) }
     {
         Source {
             shown: Shown::Drill { layer, cells: None },
-            alloc,
+            alloc: None,
             asked: 0,
         }
     }
@@ -93,7 +96,7 @@ impl<'a> Source<'a> {
                 layer,
                 cells: Some(cells),
             },
-            alloc,
+            alloc: Some(alloc),
             asked: 0,
         }
     }
@@ -103,6 +106,11 @@ impl<'a> Painter for Source<'a> {
     ghost picture = { picture_of };
 
     ghost count = { λ s. s.asked };
+
+    fn tile(&mut self, grid: Grid) -> [u64; 64] {
+        self.asked += 1;
+        tile_of(&self.shown, grid)
+    }
 
     fn draw(&mut self, window: &Window, tiles: &mut [Tile]) {
         let dirty = dirty_in(tiles);

@@ -43,10 +43,11 @@ pub fn read_all<R: Read>(alloc: Global, reader: &mut R, limit: usize) -> Result<
     let Ok(mut chunk) = zeros(alloc, CHUNK) else {
         return Err(FileFault::Memory);
     };
+    let buffer = chunk.as_mut_slice();
     let mut bytes = Vec::new(alloc);
     for _ in 0..limit + 1 {
         let room = CHUNK.min(limit + 1 - bytes.len());
-        let piece = &mut chunk[..room];
+        let piece = &mut buffer[..room];
         let count = match reader.read(piece) {
             Ok(count) => count,
             Err(error) => return Err(fault_of(&error)),

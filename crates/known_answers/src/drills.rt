@@ -141,7 +141,7 @@ fn shows(alloc: Global, row: &Drilling) -> Result<bool, AllocError> {
     let Some(layer) = layer_of(alloc, row.tools, row.items)? else {
         return Ok(false);
     };
-    let copy = layer.try_copy(alloc)?;
+    let copy = layer.try_copy()?;
     Ok(
         are(&layer, row.black, true)
             && are(&layer, row.white, false)

@@ -65,7 +65,7 @@ fn shows(alloc: Global, row: &Picture) -> Result<bool, AllocError> {
     let Some(layer) = layer(alloc, row.entries, row.items)? else {
         return Ok(false);
     };
-    let copy = layer.try_copy(alloc)?;
+    let copy = layer.try_copy()?;
     Ok(
         are(&layer, row.black, true)
             && are(&layer, row.white, false)

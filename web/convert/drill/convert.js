@@ -133,7 +133,7 @@ export function convertDrill(bytes, options = {}) {
   }
   let form = null;
   try {
-    form = new Form(options, hints, lines.codes);
+    form = new Form(options, hints, lines);
     refusals.push(...form.refusals());
   } catch (fault) {
     if (!(fault instanceof Unsaid)) throw fault;

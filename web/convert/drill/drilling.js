@@ -27,6 +27,7 @@ export class Drilling {
     return this.itemTools.length - this.routs;
   }
 
+  /** Adds a hit. @param {number} tool @param {number} x @param {number} y */
   hit(tool, x, y) {
     this.itemTools.push(tool);
     this.pointCounts.push(0);
@@ -34,7 +35,7 @@ export class Drilling {
     this.ys.push(y);
   }
 
-  /** @param {number} tool @param {[number, number][]} points from each point to the next */
+  /** Adds a rout, from each point to the next. @param {number} tool @param {[number, number][]} points */
   rout(tool, points) {
     this.itemTools.push(tool);
     this.pointCounts.push(points.length);

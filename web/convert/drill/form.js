@@ -41,28 +41,29 @@ function settled(kind, chosen, told, option) {
  * @typedef {{digits: string, line: number}} Pointless
  */
 
-// Whether a line begins with a code and not with a word.
-function isCoded(code) {
-  const first = code.charCodeAt(0), second = code.charCodeAt(1);
+// Whether the line that begins there does so with a code and not with a word.
+function isCoded(text, start) {
+  const first = text.charCodeAt(start), second = text.charCodeAt(start + 1);
   const isDigit = second >= 48 && second <= 57;
   if (first === 88 || first === 89) return isDigit || second === 46 || second === 43 || second === 45;
   return isDigit && (first === 71 || first === 77 || first === 78 || first === 84);
 }
 
-// Calls `each(code, start, end, line)` with each run of digits that is a coordinate without a point and is not 0, of lines
-// that begin with a code and not with a word.
-function forEachPointless(codes, each) {
-  for (let line = 0; line < codes.length; line++) {
-    const code = codes[line];
-    if (!isCoded(code)) continue;
-    for (let at = 0; at < code.length; at++) {
-      const letter = code.charCodeAt(at);
+// Calls `each(start, end, line)` with each run of digits that is a coordinate without a point and is not 0, of lines that
+// begin with a code and not with a word.
+function forEachPointless(lines, each) {
+  const { text } = lines;
+  for (let line = 0; line < lines.count; line++) {
+    const last = lines.endOf(line);
+    if (!isCoded(text, lines.starts[line])) continue;
+    for (let at = lines.starts[line]; at < last; at++) {
+      const letter = text.charCodeAt(at);
       if (letter !== 88 && letter !== 89) continue;
-      const sign = code.charCodeAt(at + 1);
+      const sign = text.charCodeAt(at + 1);
       const start = sign === 43 || sign === 45 ? at + 2 : at + 1;
-      let end = start, isZero = true, next = code.charCodeAt(end);
-      for (; next >= 48 && next <= 57; next = code.charCodeAt(++end)) isZero &&= next === 48;
-      if (!isZero && next !== 46) each(code, start, end, line + 1);
+      let end = start, isZero = true, next = text.charCodeAt(end);
+      for (; next >= 48 && next <= 57; next = text.charCodeAt(++end)) isZero &&= next === 48;
+      if (!isZero && next !== 46) each(start, end, line + 1);
       at = end - 1;
     }
   }
@@ -71,16 +72,16 @@ function forEachPointless(codes, each) {
 /**
  * The coordinates without a point that are not 0. They differ in what they tell of digits and zeros by their lengths and
  * by the zeros at their ends alone: the first of each such sort, in the file's order.
- * @param {string[]} codes
+ * @param {import("./lines.js").Lines} lines
  * @returns {Pointless[]}
  */
-function pointlessIn(codes) {
-  const found = [], seen = new Set();
-  forEachPointless(codes, (code, start, end, line) => {
-    const key = 4 * (end - start) + (code.charCodeAt(start) === 48 ? 2 : 0) + (code.charCodeAt(end - 1) === 48 ? 1 : 0);
+function pointlessIn(lines) {
+  const found = [], seen = new Set(), { text } = lines;
+  forEachPointless(lines, (start, end, line) => {
+    const key = 4 * (end - start) + (text.charCodeAt(start) === 48 ? 2 : 0) + (text.charCodeAt(end - 1) === 48 ? 1 : 0);
     if (seen.has(key)) return;
     seen.add(key);
-    found.push({ digits: code.slice(start, end), line });
+    found.push({ digits: text.slice(start, end), line });
   });
   return found;
 }
@@ -123,12 +124,12 @@ export class Form {
   /**
    * @param {{unit?: string | null, digits?: import("./lengths.js").Digits | null, zeros?: string | null}} options
    * @param {import("./hints.js").Hints} hints
-   * @param {string[]} codes the lines
+   * @param {import("./lines.js").Lines} lines
    * @throws {Unsaid} where the unit or the zeros are not told, or something is told in two ways
    */
-  constructor(options, hints, codes) {
-    this.codes = codes;
-    this.numbers = pointlessIn(codes);
+  constructor(options, hints, lines) {
+    this.lines = lines;
+    this.numbers = pointlessIn(lines);
     this.unit = settled("unit", options.unit, hints.units, "--unit") ?? this.unitOfNothing();
     this.digits = this.zeros = null;
     if (this.numbers.length) {
@@ -140,7 +141,7 @@ export class Form {
   }
 
   unitOfNothing() {
-    if (this.numbers.length || this.codes.some((code) => LENGTH.test(code))) {
+    if (this.numbers.length || LENGTH.test(this.lines.text)) {
       throw new Unsaid("the unit is not told: give --unit mm or --unit inch");
     }
     return { value: MM, source: "the file has no length" };
@@ -152,9 +153,9 @@ export class Form {
     if (!this.numbers.length) return refusals;
     const digits = this.digits.value, zeros = this.zeros.value;
     if (this.numbers.every((number) => fits(number.digits.length, digits, zeros))) return refusals;
-    forEachPointless(this.codes, (code, start, end, line) => {
+    forEachPointless(this.lines, (start, end, line) => {
       if (fits(end - start, digits, zeros)) return;
-      const what = `${code.slice(start, end)} does not fit ${digitsText(digits)} digits: give others by --digits`;
+      const what = `${this.lines.text.slice(start, end)} does not fit ${digitsText(digits)} digits: give others by --digits`;
       refusals.push({ line, what });
     });
     return refusals;

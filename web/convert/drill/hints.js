@@ -31,19 +31,23 @@ export class Hints {
     this.incremental = [];
   }
 
+  /** Adds what another source tells. @param {Hints} other */
   join(other) {
     for (const kind of ["units", "digits", "zeros", "incremental"]) this[kind].push(...other[kind]);
     for (const [number, tool] of other.tools) this.tools.set(number, tool);
   }
 
+  /** Whether nothing of units, digits, zeros and tools is told. */
   get isEmpty() {
     return !(this.units.length || this.digits.length || this.zeros.length || this.tools.size);
   }
 
+  /** Adds digits, given as numbers or as their texts. */
   addDigits(whole, decimals, source) {
     this.digits.push({ value: { whole: Number(whole), decimals: Number(decimals) }, source });
   }
 
+  /** Adds a source that tells of incremental coordinates, where its word is not "absolute". */
   addMode(mode, source) {
     if (mode.toLowerCase() !== "absolute") this.incremental.push(source);
   }
@@ -62,8 +66,7 @@ const HEADER_DIGITS = /^(0+)\.(0+)$/;
  * @throws {Unsaid} where a word of it is not known
  */
 export function unitHints(code, line) {
-  const first = code.charCodeAt(0);
-  const found = (first === 73 || first === 77) && HEADER_UNIT.exec(code);
+  const found = HEADER_UNIT.exec(code);
   if (!found) return null;
   const hints = new Hints(), source = `${code} on line ${line}`;
   hints.units.push({ value: UNITS[found[1]], source });

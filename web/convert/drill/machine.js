@@ -43,12 +43,18 @@ export class Machine {
     if (this.isLowered) throw new Unsaid(`${code} while the tool is down: the M16 before it is missing`);
   }
 
-  /** Reads a line of an X and a Y that makes a hit, as most are; tells whether it was one. @param {string} code */
-  isPlainHit(code) {
-    if (code.charCodeAt(0) !== 88 || this.height !== DRILLING || this.tool === null) return false;
-    const at = code.indexOf("Y", 1);
-    if (at < 0) return false;
-    const x = this.quick(code, 1, at), y = this.quick(code, at + 1, code.length);
+  /**
+   * Reads a line of an X and a Y that makes a hit, as most are.
+   * @param {string} text
+   * @param {number} start where the line begins
+   * @param {number} end where it ends
+   * @returns {boolean} whether it was one
+   */
+  isPlainHit(text, start, end) {
+    if (text.charCodeAt(start) !== 88 || this.height !== DRILLING || this.tool === null) return false;
+    let middle = start + 1;
+    while (middle < end && text.charCodeAt(middle) !== 89) middle++;
+    const x = this.quick(text, start + 1, middle), y = this.quick(text, middle + 1, end);
     if (!(Math.abs(x) < this.near && Math.abs(y) < this.near)) return false;
     this.hit(x, y);
     return true;

@@ -47,12 +47,11 @@ export class Reader {
 
   /** Reads all lines. @param {import("./lines.js").Lines} lines */
   read(lines) {
-    const { codes, comments } = lines;
     this.toolZero = numberForZero(lines);
-    for (let at = 0; at < codes.length; at++) {
+    for (let at = 0; at < lines.count; at++) {
       this.line = at + 1;
       try {
-        this.readLine(codes[at], comments.get(at + 1));
+        this.readLine(lines, at);
       } catch (fault) {
         if (!(fault instanceof Unsaid)) throw fault;
         this.refusals.push({ line: this.line, what: fault.message });
@@ -68,16 +67,19 @@ export class Reader {
     this.changes.add(what, this.line);
   }
 
-  readLine(code, comment) {
-    if (this.ended) {
-      if (LENGTH.test(code)) {
-        throw new Unsaid(`${code.slice(0, 40)} stands behind the end on line ${this.ended}: cut the file there, or take `
-          + "the end out");
-      }
-    } else if (code && !this.machine.isPlainHit(code)) {
-      this.readCode(code);
-    }
+  readLine(lines, at) {
+    const start = lines.starts[at], end = lines.endOf(at);
+    if (this.ended) this.checkBehindEnd(lines.code(at));
+    else if (start < end && !this.machine.isPlainHit(lines.text, start, end)) this.readCode(lines.code(at));
+    const comment = lines.comments.get(at + 1);
     if (comment !== undefined) this.keepComment(comment);
+  }
+
+  checkBehindEnd(code) {
+    if (LENGTH.test(code)) {
+      throw new Unsaid(`${code.slice(0, 40)} stands behind the end on line ${this.ended}: cut the file there, or take `
+        + "the end out");
+    }
   }
 
   keepComment(comment) {

@@ -106,7 +106,7 @@ fn half_runs(
         (λ s. IsInHalf (way centre.now start.now) (way centre.now end.now) (seen_from centre.now s)) }
 {
     firsts.fill(0);
-    ends.fill(top.count);
+    ends.fill(top.n);
     if *start == *end {
         return;
     }
@@ -119,8 +119,8 @@ fn half_runs(
         return;
     }
     let left = top.leftmost();
-    HalfPlane::left(centre, start, 0, &left).narrow(top.count, firsts, ends);
-    HalfPlane::left(end, centre, 0, &left).narrow(top.count, firsts, ends);
+    HalfPlane::left(centre, start, 0, &left).narrow(top.n, firsts, ends);
+    HalfPlane::left(end, centre, 0, &left).narrow(top.n, firsts, ends);
 }
 
 /// The runs of what a sweep about a point leaves out, counterclockwise from a start to an end, where it is more than a
@@ -147,8 +147,8 @@ fn left_out_runs(
         ends.fill(0);
         return;
     }
-    ends.fill(top.count);
+    ends.fill(top.n);
     let left = top.leftmost();
-    HalfPlane::left(start, centre, -1, &left).narrow(top.count, firsts, ends);
-    HalfPlane::left(centre, end, -1, &left).narrow(top.count, firsts, ends);
+    HalfPlane::left(start, centre, -1, &left).narrow(top.n, firsts, ends);
+    HalfPlane::left(centre, end, -1, &left).narrow(top.n, firsts, ends);
 }

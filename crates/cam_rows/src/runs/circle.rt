@@ -29,7 +29,7 @@ pub(crate) fn circle_runs(
     ensures { AreRuns firsts.new ends.new top.now (IsNearer point.now bound) }
 {
     firsts.fill(0);
-    ends.fill(top.count);
+    ends.fill(top.n);
     narrow_to_circle(point, bound, top, firsts, ends);
 }
 
@@ -46,7 +46,7 @@ pub(crate) fn narrow_to_circle(
     requires bound { bound < 2 ^ 68 }
     requires rows { AreWideRows top.now (length firsts.old) }
     requires ends { length ends.old ≡ length firsts.old }
-    ensures { AreNarrowed top.now.count firsts.old ends.old
+    ensures { AreNarrowed top.now.n firsts.old ends.old
         (λ k i. IsNearer point.now bound (centre_at (row_below top.now k) i)) (length firsts.old) firsts.new ends.new }
 {
     if firsts.is_empty() {
@@ -66,7 +66,7 @@ fn narrow_nearby(point: &Point, bound: u64, top: &Centres, firsts: &mut [u32], e
     requires rows { AreWideRows top.now (length firsts.old) }
     requires near { AreNearby point.now top.now (length firsts.old) }
     requires ends { length ends.old ≡ length firsts.old }
-    ensures { AreNarrowed top.now.count firsts.old ends.old
+    ensures { AreNarrowed top.now.n firsts.old ends.old
         (λ k i. IsNearer point.now bound (centre_at (row_below top.now k) i)) (length firsts.old) firsts.new ends.new }
 {
     let mut chord = Chord::at_middle(point, top);
@@ -92,7 +92,7 @@ fn narrow_by_roots(point: &Point, bound: u128, top: &Centres, firsts: &mut [u32]
     requires some { 0 < length firsts.old }
     requires rows { AreWideRows top.now (length firsts.old) }
     requires ends { length ends.old ≡ length firsts.old }
-    ensures { AreNarrowed top.now.count firsts.old ends.old
+    ensures { AreNarrowed top.now.n firsts.old ends.old
         (λ k i. IsNearer point.now bound (centre_at (row_below top.now k) i)) (length firsts.old) firsts.new ends.new }
 {
     for k in 0..firsts.len() {
@@ -107,7 +107,7 @@ fn root_run(point: &Point, bound: u128, row: &Centres) -> Run
     requires point { IsOnBoard point.now }
     requires bound { bound < 2 ^ 68 }
     requires row { IsWideRow row.now }
-    ensures { (i : ℕ) → i < row.now.count
+    ensures { (i : ℕ) → i < row.now.n
         → IsInRun result.first result.end i ↔ IsNearer point.now bound (centre_at row.now i) }
 {
     let height = squared_height(point, &row.leftmost());

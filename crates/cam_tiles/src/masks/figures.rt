@@ -6,7 +6,6 @@ ghost use Rattle.cam_apertures.specs.Soundness.{IsSoundAperture};
 ghost use Rattle.cam_objects.specs.Canvases.{IsSoundFigure, IsSoundPrint, leaf_of, shape_of};
 ghost use Rattle.cam_objects.specs.Image.{Covers};
 ghost use Rattle.cam_tiles.specs.Machinery.Figures.{IsComposed, IsFlashOf, IsMacro, IsPlacedFor, IsToldAt, LiesWithin};
-ghost use Rattle.cam_tiles.specs.Machinery.Masks.{PaintsMask};
 ghost use Rattle.cam_tiles.specs.Machinery.Swaths.{ArePaintedIn, grid_at};
 
 use crate::masks::figure_runs::FigureRuns;
@@ -118,19 +117,6 @@ fn hole(diameter: Nm) -> Hole
         centre: ORIGIN,
         diameter,
     })
-}
-
-impl Mask {
-    /// Paints a stroke or a flash on the mask alone.
-    pub(crate) fn paint_placed(&mut self, placed: &Placed, print: Print<'_>)
-        requires { IsPlacedFor print.figure placed.now }
-        ensures { PaintsMask self.old (leaf_of print.entry ∷ []) self.new }
-    {
-        let grid = self.grid();
-        let mut runs = FigureRuns::none();
-        runs.find(placed, &grid, grid.columns);
-        self.paint_figure(&runs, 0, print);
-    }
 }
 
 /// Paints a figure on the masks from one number to another, by its runs in the row of tiles of which each mask is one.
