@@ -1,7 +1,7 @@
 // The list of layers, the topmost first: shown or not, alone, colour, opacity, and which one insertions go to.
 
 import { button, byId, element } from "./dom.js";
-import { changed, layerOf, on, state } from "./state.js";
+import { changed, layerOf, on, shownLayers, state } from "./state.js";
 import { plural } from "./units.js";
 
 let view = null;
@@ -52,9 +52,14 @@ function renewed(isListed = true) {
   changed("looks");
 }
 
+// Those that were shown before one was shown alone.
+let shownBefore = null;
+
+// One layer alone, or again those that were shown before.
 export function showOnly(name) {
   const isAlone = state.layers.every((layer) => layer.isShown === (layer.name === name));
-  for (const layer of state.layers) layer.isShown = isAlone || layer.name === name;
+  if (!isAlone) shownBefore = new Set(shownLayers().map((layer) => layer.name));
+  for (const layer of state.layers) layer.isShown = isAlone ? shownBefore?.has(layer.name) ?? true : layer.name === name;
   renewed();
 }
 

@@ -114,7 +114,7 @@ function nameActions() {
   act("fit-picked", "View", "Show what is picked", ["f"], showPicked);
   act("zoom-in", "View", "Closer", ["+", "="], zoomBy(1.5));
   act("zoom-out", "View", "Farther", ["-"], zoomBy(1 / 1.5));
-  act("only", "View", "Show the chosen layer alone, or all", ["o"], () => showOnly(state.active));
+  act("only", "View", "Show the chosen layer alone, or those before", ["o"], () => showOnly(state.active));
   act("toggle", "View", "Show or hide the chosen layer", ["t"], toggleActive);
   act("all", "View", "Show all layers", ["a"], () => showAll(true));
   act("none", "View", "Hide all layers", [], () => showAll(false));

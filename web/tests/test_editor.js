@@ -58,12 +58,16 @@ suite("looking", () => {
 
   test("layers are hidden, shown alone and coloured", async () => {
     const browser = await withBoard();
+    const shown = () => browser.ask("camplot.state.layers.filter(({ isShown }) => isShown).map(({ name }) => name)");
+    const before = await shown();
     await browser.ask("camplot.makeActive('top')");
     await browser.key("o");
     await settle(browser);
-    assert.deepEqual(await browser.ask("camplot.state.layers.filter(({ isShown }) => isShown).map(({ name }) => name)"), ["top"]);
+    assert.deepEqual(await shown(), ["top"]);
     await browser.key("o");
-    assert.equal(await browser.ask("camplot.state.layers.every(({ isShown }) => isShown)"), true);
+    assert.deepEqual(await shown(), before);
+    await browser.key("a");
+    assert.equal((await shown()).length, 8);
   });
 });
 
