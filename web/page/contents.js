@@ -13,5 +13,6 @@ export async function contentsOf(text) {
   const contents = JSON.parse(text);
   if (!contents) return null;
   const { title, id, files } = contents;
-  return { title, id, files: await Promise.all(files.map(async ({ name, packed }) => ({ name, bytes: await unpacked(packed) }))) };
+  const read = async ({ name, packed }) => ({ name, bytes: await unpacked(packed) });
+  return { title, id, files: await Promise.all(files.map(read)) };
 }

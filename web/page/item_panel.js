@@ -117,8 +117,9 @@ async function attributeParts(name) {
     return element("li", {}, element("code", {}, line.slice(0, 120)),
       button("drop", () => dropAttribute(name, shown), { "aria-label": `drop ${shown}` }));
   });
-  return [element("ul", { className: "attributes" }, ...rows),
-    form("attribute", "set", [key, fields], () => setAttribute(name, key.value.trim(), fields.value.trim()))];
+  return [element("details", {}, element("summary", {}, plural(lines.length, "file attribute")),
+    element("ul", { className: "attributes" }, ...rows),
+    form("attribute", "set", [key, fields], () => setAttribute(name, key.value.trim(), fields.value.trim())))];
 }
 
 export function listenToItems() {

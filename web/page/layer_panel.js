@@ -1,7 +1,7 @@
 // The list of layers, the topmost first: shown or not, alone, colour, opacity, and which one insertions go to.
 
 import { button, byId, element } from "./dom.js";
-import { changed, layerOf, on, state } from "./state.js";
+import { changed, layerOf, on, shownLayers, state } from "./state.js";
 import { plural } from "./units.js";
 
 let view = null;
@@ -27,7 +27,8 @@ function row(layer) {
   };
   opacity.onchange = () => changed("looks");
   const name = button("", () => makeActive(layer.name), { className: "name",
-    title: `${layer.name}: ${plural(layer.items, "item")}, ${layer.file ?? ""}`, "aria-pressed": String(layer.name === state.active) });
+    title: `${layer.name}: ${plural(layer.items, "item")}, ${layer.file ?? ""}`,
+    "aria-pressed": String(layer.name === state.active) });
   name.append(element("b", {}, layer.label), element("small", {}, ` ${layer.items.toLocaleString("en")}`));
   const only = button("only", () => showOnly(layer.name), { className: "only", title: "show this layer alone",
     "aria-label": `show ${layer.label} alone` });
@@ -51,9 +52,14 @@ function renewed(isListed = true) {
   changed("looks");
 }
 
+// Those that were shown before one was shown alone.
+let shownBefore = null;
+
+// One layer alone, or again those that were shown before.
 export function showOnly(name) {
   const isAlone = state.layers.every((layer) => layer.isShown === (layer.name === name));
-  for (const layer of state.layers) layer.isShown = isAlone || layer.name === name;
+  if (!isAlone) shownBefore = new Set(shownLayers().map((layer) => layer.name));
+  for (const layer of state.layers) layer.isShown = isAlone ? shownBefore?.has(layer.name) ?? true : layer.name === name;
   renewed();
 }
 

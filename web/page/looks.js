@@ -21,6 +21,7 @@ export function changeLook() {
 export function looksNow() {
   return {
     look: document.documentElement.dataset.look, grid: state.grid, active: state.active, unsaved: state.unsaved,
+    view: { left: view.left, top: view.top, pitch: view.pitch },
     layers: state.layers.map(({ name, kind, label, colour, opacity, isShown, height, file }) =>
       ({ name, kind, label, colour, opacity, isShown, height, file })),
   };

@@ -114,7 +114,7 @@ function nameActions() {
   act("fit-picked", "View", "Show what is picked", ["f"], showPicked);
   act("zoom-in", "View", "Closer", ["+", "="], zoomBy(1.5));
   act("zoom-out", "View", "Farther", ["-"], zoomBy(1 / 1.5));
-  act("only", "View", "Show the chosen layer alone, or all", ["o"], () => showOnly(state.active));
+  act("only", "View", "Show the chosen layer alone, or those before", ["o"], () => showOnly(state.active));
   act("toggle", "View", "Show or hide the chosen layer", ["t"], toggleActive);
   act("all", "View", "Show all layers", ["a"], () => showAll(true));
   act("none", "View", "Hide all layers", [], () => showAll(false));
@@ -163,8 +163,9 @@ async function restore(contents) {
     state.active = looks?.active ?? state.active;
     await refresh();
     await changed("document");
-    const box = await boxOfAll(state.layers);
+    const box = looks?.view ? null : await boxOfAll(state.layers);
     if (box) view.fit(box);
+    else if (looks?.view) view.show(looks.view);
     tell("Opened where you were.");
   } else if (contents?.files.length) {
     await openFiles(contents.files, true);
@@ -206,6 +207,7 @@ async function start() {
   });
   on("looks", () => { showUnsaved(); return journal.keepLooks(looksNow()); });
   on("fit", (box) => box && view.fit(box));
+  document.addEventListener("visibilitychange", () => journal.keepLooks(looksNow()));
   listenToLine(async (path) => session.get(path) ?? null);
   chooseTool("pick");
   keepIn(journal);

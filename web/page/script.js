@@ -40,7 +40,8 @@ async function applyOne(line, bytes) {
     await journal?.add(line, answer.reply, entry.path ?? null, bytes);
     steps.take(line);
     if (firstWord(line) === "window") hasWindow = true;
-    if (isEdit(line) || ["undo", "redo", "abort"].includes(firstWord(line))) state.unsaved++;
+    // A group is one change.
+    if (isEdit(line) && !steps.group || ["end", "undo", "redo"].includes(firstWord(line))) state.unsaved++;
   }
   if (answer.reply) {
     told.push(entry);

@@ -15,7 +15,7 @@ export function stepWords(lines) {
   if (edits.length === 0) return "nothing";
   const [verb, layer, place, ...rest] = edits[0];
   const isSame = edits.every((words) => words[0] === verb);
-  if (edits.length > 1) return `${isSame ? verb : "change"} ${plural(edits.length, isSame ? "item" : "time")}`;
+  if (edits.length > 1) return isSame ? `${verb} ${plural(edits.length, "item")}` : plural(edits.length, "edit");
   const length = (text) => `${Number(text) / 1e6}`;
   switch (verb) {
     case "move": return `move ${layer} ${place} by ${length(rest[0])}, ${length(rest[1])} mm`;

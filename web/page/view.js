@@ -58,6 +58,12 @@ export class View {
     this.centre((box.left + box.right) / 2, (box.low + box.high) / 2);
   }
 
+  // The view that the page had when it was left.
+  show({ left, top, pitch }) {
+    Object.assign(this, { left, top, pitch });
+    this.renew();
+  }
+
   centre(x, y) {
     this.left = Math.round(x - this.canvas.width / 2 * this.pitch);
     this.top = Math.round(y + this.canvas.height / 2 * this.pitch);

@@ -54,7 +54,7 @@ suite("steps", () => {
     assert.deepEqual(after("delete a 1", "load b drill f"), [[], []]);
     assert.deepEqual(after("delete a 1", "delete a 2", "delete a 3", "delete a 4")[0], ["delete a 2", "delete a 3", "delete a 4"]);
   });
-  test("several verbs", () => assert.equal(stepWords(["move a 0 1 0", "delete a 1"]), "change 2 times"));
+  test("several verbs", () => assert.equal(stepWords(["move a 0 1 0", "delete a 1"]), "2 edits"));
 });
 
 suite("words of items", () => {

@@ -43,14 +43,31 @@ suite("looking", () => {
     await browser.wait(`camplot.view.pitch === ${pitch}`);
   });
 
+  test("a pinch", async () => {
+    const browser = await withPads();
+    await browser.call("Emulation.setTouchEmulationEnabled", { enabled: true, maxTouchPoints: 2 });
+    const [x, y] = await onPage(browser, 3000000, 0), pitch = await browser.ask("camplot.view.pitch");
+    const touch = (type, ...at) => browser.call("Input.dispatchTouchEvent", { type,
+      touchPoints: at.map((left, id) => ({ x: left, y, id })) });
+    await touch("touchStart", x - 50, x + 50);
+    for (const apart of [60, 80, 100]) await touch("touchMove", x - apart, x + apart);
+    await touch("touchEnd");
+    await browser.wait(`camplot.view.pitch < ${pitch} * 0.6`);
+    assert.equal(await browser.ask("camplot.state.picked.length"), 0);
+  });
+
   test("layers are hidden, shown alone and coloured", async () => {
     const browser = await withBoard();
+    const shown = () => browser.ask("camplot.state.layers.filter(({ isShown }) => isShown).map(({ name }) => name)");
+    const before = await shown();
     await browser.ask("camplot.makeActive('top')");
     await browser.key("o");
     await settle(browser);
-    assert.deepEqual(await browser.ask("camplot.state.layers.filter(({ isShown }) => isShown).map(({ name }) => name)"), ["top"]);
+    assert.deepEqual(await shown(), ["top"]);
     await browser.key("o");
-    assert.equal(await browser.ask("camplot.state.layers.every(({ isShown }) => isShown)"), true);
+    assert.deepEqual(await shown(), before);
+    await browser.key("a");
+    assert.equal((await shown()).length, 8);
   });
 });
 

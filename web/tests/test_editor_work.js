@@ -39,17 +39,34 @@ suite("history", () => {
     await run(first, "undo");
     await run(first, "move nowhere 0 0 0");
     const text_ = await written(first, "top");
-    const shown = await first.ask("camplot.state.layers.map(({ name, label, colour, isShown, items }) => [name, label, colour, isShown, items])");
+    const layers = "camplot.state.layers.map(({ name, label, colour, isShown, items }) => [name, label, colour, isShown, items])";
+    const shown = await first.ask(layers);
     await first.kill();
     const again = await Browser.open(page, { profile });
     afterwards(() => again.close());
-    assert.deepEqual(await again.ask("camplot.state.layers.map(({ name, label, colour, isShown, items }) => [name, label, colour, isShown, items])"), shown);
+    assert.deepEqual(await again.ask(layers), shown);
     assert.equal(await again.ask("camplot.steps.done.length + ' ' + camplot.steps.undone.length"), "1 1");
     assert.equal(await written(again, "top"), text_);
     assert.deepEqual(await run(again, "redo"), ["ok"]);
     assert.deepEqual(await run(again, "undo"), ["ok"]);
     assert.deepEqual(await run(again, "undo"), ["ok"]);
     assert.notEqual(await written(again, "top"), text_);
+  });
+});
+
+suite("two pages", () => {
+  test("the second says that it keeps nothing", async () => {
+    const browser = await openPage();
+    const { targetId } = await browser.call("Target.createTarget", { url: browser.url }, null);
+    const { sessionId } = await browser.call("Target.attachToTarget", { targetId, flatten: true }, null);
+    const told = async () => (await browser.call("Runtime.evaluate", { returnByValue: true,
+      expression: "document.body?.dataset.ready ? document.getElementById('told').textContent : ''" }, sessionId)).result.value;
+    let words = "";
+    for (let turn = 0; turn < 200 && !words; turn++) {
+      words = await told();
+      await new Promise((done) => setTimeout(done, 50));
+    }
+    assert.match(words, /Another page has the same work open/);
   });
 });
 
