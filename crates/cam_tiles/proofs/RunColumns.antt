@@ -168,24 +168,6 @@ module _ (g : Grid) (columns first : ℕ) where
     y = further_down g.y g.step first k j;
   }
 
-  place_in_reach : (s : Spot) → IsPlace s → IsInReach s
-  place_in_reach s place = record { x = omega (arith, place.x); y = omega (arith, place.y) }
-
-  pub wide_rows : IsWideGrid g columns → (k : ℕ) → first + k < g.rows → IsWideRow (row_below (top_of g columns first) k)
-  wide_rows wide k below = record {
-    count = wide.count;
-    step = wide.grid.step;
-    centres = λ i inside.
-        rw (below_top k i) (place_in_reach (centre_in g i (first + k)) (wide.centres i (first + k) inside below));
-  }
-
-  -- as the code computes the top row
-  pub wide_rows_of : (x y step : ℤ) (n m : ℕ) → x ≡ g.x → y ≡ height (levels_of g) first → step ≡ g.step
-      → IsWideGrid g columns → first + n ≤ g.rows → m ≡ n
-      → AreWideRows (record { x = x; y = y; step = step; n = columns }) m
-  wide_rows_of x y step n m is_x is_y is_step wide within size k few =
-      rw (is_x, is_y, is_step) (wide_rows wide k (omega (arith, within, size, few)))
-
 -- ---- spans
 
 -- all runs of the rows above an end lie between two columns

@@ -35,10 +35,6 @@ still_wide columns old new size wide = record {
   tiles = ap (λ n. n % 64) size ∙ wide.tiles;
 }
 
-differ_none : (b : Bool) → differ b false ≡ b
-differ_none true = refl
-differ_none false = refl
-
 module _ (g : Grid) (columns : ℕ) where
   pub turns_like : (P Q : Spot → Type 0) (old new : List ℕ) → ((s : Spot) → P s ↔ Q s)
       → TurnsCentres g columns P old new → TurnsCentres g columns Q old new
