@@ -32,7 +32,7 @@ use Rattle.cam_tiles.proofs.FiledContours.{changed_more}
 use Rattle.cam_tiles.proofs.GridLemmas.{long}
 use Rattle.cam_tiles.proofs.Joined.{set_or_not}
 use Rattle.cam_tiles.proofs.LevelRows.{down_to}
-use Rattle.cam_tiles.proofs.StepLemmas.{first_x, fits_near, fits_short, long_near, right_is, way_kept, way_right}
+use Rattle.cam_tiles.proofs.StepLemmas.{first_x, fits_near, long_near, right_is, way_kept, way_right}
 
 -- ---- one centre
 
