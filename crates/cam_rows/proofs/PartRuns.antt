@@ -18,9 +18,6 @@ module _ (first end : ℕ) (old part : List ℕ) (some : first < end) (long : en
   abbrev pub written : List ℕ
   written = put_mid first (end - first) old part
 
-  written_length : length written ≡ length old
-  written_length = search (rules, places)
-
   part_at : (k : ℕ) → first ≤ k → k < end → slice_index written k ≡ slice_index part (k - first)
   part_at k after until = search (rules, places)
 

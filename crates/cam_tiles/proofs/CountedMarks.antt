@@ -32,7 +32,7 @@ use Rattle.cam_tiles.proofs.FiledContours.{changed_more}
 use Rattle.cam_tiles.proofs.GridLemmas.{long}
 use Rattle.cam_tiles.proofs.Joined.{set_or_not}
 use Rattle.cam_tiles.proofs.LevelRows.{down_to}
-use Rattle.cam_tiles.proofs.StepLemmas.{first_x, fits_near, fits_short, long_near, right_is, way_kept, way_right}
+use Rattle.cam_tiles.proofs.StepLemmas.{first_x, fits_near, long_near, right_is, way_kept, way_right}
 
 -- ---- one centre
 
@@ -48,9 +48,6 @@ row_passed Now Was New Held Set Above More none same h k = grind arith
 row_turned : (Now Was New Held Set Above More : Type 0) → Held ↔ Set → (Above → ⊥) → More → New ↔ turned_over Now Held
     → Now ↔ turned_over Was (Above × Set) → New ↔ turned_over Was (More × Set)
 row_turned Now Was New Held Set Above More same none more h k = grind arith
-
-all_passed : (Now Was Above Set : Type 0) → Above → Now ↔ turned_over Was (Above × Set) → Now ↔ turned_over Was Set
-all_passed Now Was Above Set above h = grind arith
 
 -- one more of the rows that are turned over in the end
 row_more : (f x : Bool) (Now Was Whole Rows New : Type 0) → Either Now → Either Was → Either Whole → Either Rows
@@ -128,9 +125,6 @@ module _ (g : Grid) (columns : ℕ) (wide : IsWideGrid g columns) where
     way_is : long n *ℤ long g.step ≡ pos (columns - 1) *ℤ g.step
     way_is = way_kept n g.step (columns - 1) is (omega (arith, wide.count.1)) fits
 
-    pub last_way_fits : FitsSigned w64 (long n *ℤ long g.step)
-    last_way_fits = fits_short _ _ way_is last_short
-
     x_is : long g.x +ℤ long (long n *ℤ long g.step) ≡ (centre_in g (columns - 1) 0).x
     x_is =
         right_is g.x (long n *ℤ long g.step) (pos (columns - 1) *ℤ g.step) way_is (first_x g wide.grid) last_short
@@ -170,9 +164,6 @@ AreCounted g columns c fs old now whole =
     ↔ turned_over (IsTrue (is_turned old row column)) (IsTrue (filed_change c fs (centre_in g column row)))
 
 module _ (g : Grid) (columns : ℕ) (c : Contour) where
-  pub none_counted_yet : (fs : List FiledSegment) (old : List ℕ) → AreCounted g columns c (take 0 fs) old old 0
-  none_counted_yet fs old column row near below = none_yet _ _ (none_set 0 row refl)
-
   module _ (old now : List ℕ) (whole : ℕ) (fs : List FiledSegment) (k : ℕ) (f : FiledSegment)
       (next : take (k + 1) fs ≡ take k fs ++ f ∷ []) (so_far : AreCounted g columns c (take k fs) old now whole) where
     abbrev place : ℕ → ℕ → Spot

@@ -1,9 +1,9 @@
 -- Columns of runs, by the bits of masks.
 use Rattle.std.proofs.Common.{◌≡◌, ◌↔◌, ℕ, ◌+◌, ◌-◌, ◌<◌, ◌≤◌, ℤ, pos, ◌+ℤ◌, ◌-ℤ◌, ◌*ℤ◌, ◌≤ℤ◌}
-use Rattle.std.proofs.Common.{List, length, slice_index, inl, inr, arith}
+use Rattle.std.proofs.Common.{List, length, slice_index, inl, inr, subst, zero-add, arith}
 use Rattle.std.proofs.lemmas.Bool.{cases_lt}
 use borrow.Rule.Slice.PartMut.{put_mid}
-use Rattle.cam_units.specs.Board.{IsInReach, IsOnBoard, IsPlace}
+use Rattle.cam_units.specs.Board.{IsOnBoard}
 use Rattle.cam_units.specs.declared.point.Point.{Point}
 use Rattle.cam_units.specs.declared.point.Spot.{Spot}
 use Rattle.cam_units.proofs.Ring.{equal}
@@ -11,14 +11,16 @@ use Rattle.cam_units.proofs.Ring.Polynomial.{Atom, Difference, Product}
 use Rattle.cam_objects.specs.Image.{relative}
 use Rattle.cam_rows.specs.declared.centres.Centres.{Centres}
 use Rattle.cam_rows.specs.Rows.{centre_at, row_below}
-use Rattle.cam_rows.specs.Runs.{AreWideRows, IsInRun, IsWideRow}
+use Rattle.cam_rows.specs.Runs.{AreWideRows, IsInRun}
 use Rattle.cam_tiles.specs.declared.grid.Grid.{Grid}
 use Rattle.cam_tiles.specs.declared.masks.heights.Heights.{Heights}
+use Rattle.cam_tiles.specs.declared.masks.join.Join.{Join}
 use Rattle.cam_tiles.specs.declared.masks.runs.Runs.{Runs}
 use Rattle.cam_tiles.specs.Machinery.Levels.{height, levels_of}
-use Rattle.cam_tiles.specs.Machinery.Masks.{IsWithin}
+use Rattle.cam_tiles.specs.Machinery.Masks.{IsIn, IsMarked, IsWithin, Joins, Marking, joined}
 use Rattle.cam_tiles.specs.Machinery.Runs.{Fits, HasColumn, IsClear, IsWideGrid, Tells}
-use Rattle.cam_tiles.specs.Tiles.{centre_in}
+use Rattle.cam_tiles.specs.Tiles.{IsGrid, centre_in}
+use Rattle.cam_tiles.proofs.Joined.{joined_like}
 use Rattle.cam_tiles.proofs.SeenRows.{in_reach}
 use Rattle.cam_tiles.proofs.TurnedBands.{below_seen, part_at}
 
@@ -149,6 +151,29 @@ tells_whole g columns at h IsHeld r heights told = record {
       );
 }
 
+-- the rows of a grid itself
+pub own_grid : (g : Grid) → IsGrid g → IsWideGrid g g.cols
+own_grid g grid = record {
+  grid = grid;
+  count = (grid.columns.0, omega (arith, grid.columns.1));
+  centres = grid.centres;
+}
+
+-- marks that are joined with the runs of a shape in the rows of their own grid
+pub joins_runs : (how : Join) (IsHeld : Spot → Type 0) (g : Grid) (r : Runs) (old new : Marking) → g ≡ old.grid
+    → Tells g g.cols IsHeld r → new.grid ≡ old.grid
+    → ((i row : ℕ) → IsIn old.grid i row
+    → IsMarked new i row ↔ joined how (IsMarked old i row) (HasColumn r row (0 + i)))
+    → Joins how IsHeld old new
+joins_runs how IsHeld g r old new is told grid marks =
+    let here = subst (λ (o : Grid). Tells o o.cols IsHeld r) is told in
+    record {
+      grid = grid;
+      marks = λ i row inside.
+          joined_like how _ _ _ _ _ ((λ a. a), (λ a. a)) (here.each i row inside.0 inside.1)
+          (rw (zero-add i) at (marks i row inside));
+    }
+
 -- ---- rows that go on to the right
 
 abbrev pub top_of : Grid → ℕ → ℕ → Centres
@@ -167,24 +192,6 @@ module _ (g : Grid) (columns first : ℕ) where
     x = g.x +ℤ pos i *ℤ g.step;
     y = further_down g.y g.step first k j;
   }
-
-  place_in_reach : (s : Spot) → IsPlace s → IsInReach s
-  place_in_reach s place = record { x = omega (arith, place.x); y = omega (arith, place.y) }
-
-  pub wide_rows : IsWideGrid g columns → (k : ℕ) → first + k < g.rows → IsWideRow (row_below (top_of g columns first) k)
-  wide_rows wide k below = record {
-    count = wide.count;
-    step = wide.grid.step;
-    centres = λ i inside.
-        rw (below_top k i) (place_in_reach (centre_in g i (first + k)) (wide.centres i (first + k) inside below));
-  }
-
-  -- as the code computes the top row
-  pub wide_rows_of : (x y step : ℤ) (n m : ℕ) → x ≡ g.x → y ≡ height (levels_of g) first → step ≡ g.step
-      → IsWideGrid g columns → first + n ≤ g.rows → m ≡ n
-      → AreWideRows (record { x = x; y = y; step = step; n = columns }) m
-  wide_rows_of x y step n m is_x is_y is_step wide within size k few =
-      rw (is_x, is_y, is_step) (wide_rows wide k (omega (arith, within, size, few)))
 
 -- ---- spans
 

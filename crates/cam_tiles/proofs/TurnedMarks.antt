@@ -1,5 +1,5 @@
 -- Centres in the rows of tiles that are turned over by marks: those of a contour, one segment after another.
-use Rattle.std.proofs.Common.{◌≡◌, ◌≢◌, ◌↔◌, ℕ, ◌+◌, ◌-◌, ◌*◌, ◌/◌, ◌%◌, ◌<◌, ◌≤◌, ◌==◌, ℤ, Bool, true, false, IsTrue}
+use Rattle.std.proofs.Common.{◌≡◌, ◌≢◌, ◌↔◌, ℕ, ◌+◌, ◌-◌, ◌*◌, ◌/◌, ◌%◌, ◌<◌, ◌≤◌, ◌==◌, ℤ, Bool, false, IsTrue}
 use Rattle.std.proofs.Common.{List, ◌++◌, length, slice_index, refl, sym, ap, subst, ◌∙◌, inl, inr, arith}
 use Rattle.std.proofs.lemmas.Bool.{cases_lt, false≢true}
 use Rattle.std.proofs.lemmas.List.{get_or_append_left, get_or_past}
@@ -34,10 +34,6 @@ still_wide columns old new size wide = record {
   room = omega (arith, size, wide.room);
   tiles = ap (λ n. n % 64) size ∙ wide.tiles;
 }
-
-differ_none : (b : Bool) → differ b false ≡ b
-differ_none true = refl
-differ_none false = refl
 
 module _ (g : Grid) (columns : ℕ) where
   pub turns_like : (P Q : Spot → Type 0) (old new : List ℕ) → ((s : Spot) → P s ↔ Q s)

@@ -101,25 +101,6 @@ fn draw_last_first(
     if seen.is_complete() || dirty_in(tiles) > FEW_TILES {
         return Ok(());
     }
-    draw_rows_last_first(seen, swath, shown, window, tiles)
-}
-
-/// Draws those rows of tiles whose items can be painted from the last on.
-fn draw_rows_last_first(
-    seen: &mut Seen,
-    swath: &mut Swath,
-    shown: &Shown<'_>,
-    window: &Window,
-    tiles: &mut [Tile],
-) -> Result<(), AllocError>
-    requires ready { IsReady shown.now }
-    requires seen { AreSeenBy (leaves_by_item shown.now) window.now seen.old }
-    requires accepted { accepts window.now ≡ true }
-    requires within { length tiles.old ≤ tiles_of window.now }
-    ensures seen { OnOk result (AreSeenBy (leaves_by_item shown.now) window.now seen.new) }
-    ensures tiles { IsPartlyDrawn (λ k. tile_rows (is_black (leaves_of shown.now)) (grid_of window.now k)) 0
-        tiles.old tiles.new }
-{
     let across = window.across() as usize;
     for row in 0..tiles.len().div_ceil(across) {
         let first = row * across;

@@ -13,9 +13,10 @@ pub(crate) mod shapes;
 pub(crate) mod stamps;
 
 ghost use Rattle.std.specs.Int.{bit_at};
-ghost use Rattle.std.specs.Prelude.{◌≡◌, ◌==◌, slice_index};
+ghost use Rattle.std.specs.Prelude.{◌≡◌, ◌==◌, ◌∷◌, [], slice_index};
+ghost use Rattle.cam_objects.specs.Canvases.{IsSoundPrint, leaf_of};
 ghost use Rattle.cam_objects.specs.Tests.{is_black};
-ghost use Rattle.cam_tiles.specs.Machinery.Masks.{IsIn};
+ghost use Rattle.cam_tiles.specs.Machinery.Masks.{IsIn, PaintsMask};
 ghost use Rattle.cam_tiles.specs.Machinery.Shown.{IsReady, leaves_of};
 ghost use Rattle.cam_tiles.specs.Tiles.{IsGrid, centre_in, tile_rows};
 
@@ -51,6 +52,16 @@ impl Canvas for Mask {
     }
 
     fn paint(&mut self, print: Print<'_>) {
+        self.paint_leaf(print, false);
+    }
+}
+
+impl Mask {
+    /// Paints a leaf. The primitives of a macro are found row by row, or, where it is to be quick, by their runs.
+    pub(crate) fn paint_leaf(&mut self, print: Print<'_>, quick: bool)
+        requires { IsSoundPrint print }
+        ensures { PaintsMask self.old (leaf_of print.entry ∷ []) self.new }
+    {
         let Bounds::Closed { low, high } = print.bounds else {
             return;
         };
@@ -64,7 +75,7 @@ impl Canvas for Mask {
         }
         let how = Join::inked(print.dark);
         match print.figure {
-            Figure::Stamp { aperture, turn, at } => self.stamp(aperture, turn, at, how),
+            Figure::Stamp { aperture, turn, at } => self.stamp(aperture, turn, at, how, quick),
             Figure::Filled {
                 contour,
                 turn,

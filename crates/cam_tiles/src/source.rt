@@ -5,6 +5,7 @@ ghost use Rattle.cam_objects.specs.Cells.{AreCellsOf, drill_item_boxes, item_box
 ghost use Rattle.cam_objects.specs.Contents.{content_leaves, content_of, drill_content_leaves, drill_content_of};
 ghost use Rattle.cam_objects.specs.DrillSoundness.{IsSoundDrillLayer};
 ghost use Rattle.cam_objects.specs.Soundness.{HasSoundItems};
+ghost use Rattle.cam_tiles.specs.Machinery.Shown.{IsReady, leaves_of};
 ghost use Rattle.cam_tiles.specs.Sources.{picture_of, unasked};
 
 use crate::drawing::{dirty_in, draw};
@@ -48,11 +49,7 @@ impl<'a> Source<'a> {
         requires { HasSoundItems layer.now }
         ensures { result ≡ unasked (content_leaves (content_of layer.now)) }
     {
-        Source {
-            shown: Shown::Gerber { layer, cells: None },
-            alloc: None,
-            asked: 0,
-        }
+        Source::of(Shown::Gerber { layer, cells: None }, None)
     }
 
     /// Paints a sound layer of whose items the cells are known: those whose boxes the tiles do not meet are passed over.
@@ -62,14 +59,8 @@ impl<'a> Source<'a> {
         requires cells { AreCellsOf (item_boxes layer.now.apertures layer.now.items.items) cells.now }
         ensures { result ≡ unasked (content_leaves (content_of layer.now)) }
     {
-        Source {
-            shown: Shown::Gerber {
-                layer,
-                cells: Some(cells),
-            },
-            alloc: Some(alloc),
-            asked: 0,
-        }
+        let cells = Some(cells);
+        Source::of(Shown::Gerber { layer, cells }, Some(alloc))
     }
 
     /// Paints a sound drill layer. No tile was asked for.
@@ -77,11 +68,7 @@ impl<'a> Source<'a> {
         requires { IsSoundDrillLayer layer.now }
         ensures { result ≡ unasked (drill_content_leaves (drill_content_of layer.now)) }
     {
-        Source {
-            shown: Shown::Drill { layer, cells: None },
-            alloc: None,
-            asked: 0,
-        }
+        Source::of(Shown::Drill { layer, cells: None }, None)
     }
 
     /// Paints a sound drill layer of whose items the cells are known: those whose boxes the tiles do not meet are passed
@@ -91,12 +78,20 @@ impl<'a> Source<'a> {
         requires cells { AreCellsOf (drill_item_boxes layer.now.tools layer.now.items.items) cells.now }
         ensures { result ≡ unasked (drill_content_leaves (drill_content_of layer.now)) }
     {
+        let cells = Some(cells);
+        Source::of(Shown::Drill { layer, cells }, Some(alloc))
+    }
+}
+
+impl<'a> Source<'a> {
+    /// No tile was asked for.
+    fn of(shown: Shown<'a>, alloc: Option<Global>) -> Source<'a>
+        requires { IsReady shown }
+        ensures { result ≡ unasked (leaves_of shown.entry) }
+    {
         Source {
-            shown: Shown::Drill {
-                layer,
-                cells: Some(cells),
-            },
-            alloc: Some(alloc),
+            shown,
+            alloc,
             asked: 0,
         }
     }

@@ -5,33 +5,13 @@ ghost use Rattle.cam_units.specs.Board.{IsOnBoard};
 ghost use Rattle.cam_rows.specs.Machinery.Chords.{AreNearby};
 ghost use Rattle.cam_rows.specs.Machinery.Narrowing.{AreNarrowed, IsNearer};
 ghost use Rattle.cam_rows.specs.Rows.{centre_at, row_below};
-ghost use Rattle.cam_rows.specs.Runs.{AreRuns, AreWideRows, IsInRun, IsWideRow};
+ghost use Rattle.cam_rows.specs.Runs.{AreWideRows, IsInRun, IsWideRow};
 
 use super::{Run, Strip};
 use crate::centres::Centres;
 use crate::chord::{Chord, is_nearby, room_at};
 use crate::circle::{half_chord, squared_height};
 use cam_units::Point;
-
-/// The runs of a circle in wide rows, one below another from the top one: the columns whose squared distance from a
-/// point is less than a bound.
-pub(crate) fn circle_runs(
-    point: &Point,
-    bound: u128,
-    top: &Centres,
-    firsts: &mut [u32],
-    ends: &mut [u32],
-)
-    requires point { IsOnBoard point.now }
-    requires bound { bound < 2 ^ 68 }
-    requires rows { AreWideRows top.now (length firsts.old) }
-    requires ends { length ends.old ≡ length firsts.old }
-    ensures { AreRuns firsts.new ends.new top.now (IsNearer point.now bound) }
-{
-    firsts.fill(0);
-    ends.fill(top.n);
-    narrow_to_circle(point, bound, top, firsts, ends);
-}
 
 /// Narrows the runs of wide rows, one below another from the top one, to the columns whose squared distance from a
 /// point is less than a bound.

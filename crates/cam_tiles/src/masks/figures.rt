@@ -12,7 +12,7 @@ use crate::masks::figure_runs::FigureRuns;
 use crate::masks::heights::Heights;
 use crate::masks::mask::{Mask, ORIGIN};
 use cam_apertures::{Aperture, turned_height, turned_width};
-use cam_objects::{Canvas, Figure, Print};
+use cam_objects::{Figure, Print};
 use cam_rows::Hole;
 use cam_shapes::{Arc, Capsule, Disc, Obround, Rectangle, Swept};
 use cam_units::{Nm, Point, Turn};
@@ -146,6 +146,6 @@ pub(crate) fn paint_each(masks: &mut [Mask], first: usize, end: usize, print: Pr
     ensures { ArePaintedIn first end (leaf_of print.entry ∷ []) masks.old masks.new }
 {
     for k in first..end {
-        masks[k].paint(print);
+        masks[k].paint_leaf(print, true);
     }
 }

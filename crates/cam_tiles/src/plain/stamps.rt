@@ -20,20 +20,27 @@ use cam_units::{Point, Turn};
 
 impl Mask {
     /// Joins the marks with what the aperture of a macro covers, mirrored and turned, at a point.
-    pub(crate) fn stamp(&mut self, aperture: &Aperture, turn: Turn, at: Point, how: Join)
+    pub(crate) fn stamp(
+        &mut self,
+        aperture: &Aperture,
+        turn: Turn,
+        at: Point,
+        how: Join,
+        quick: bool,
+    )
         requires aperture { IsSoundAperture aperture.now }
         requires composed { IsMacro aperture.now }
         requires at { IsOnBoard at }
         ensures { Joins how (λ s. IsCovered aperture.now turn (relative at s)) self.old self.new }
     {
         if let Aperture::Prims(prims) = aperture {
-            self.primitives(prims, turn, at, how);
+            self.primitives(prims, turn, at, how, quick);
         }
     }
 
     /// Joins the marks with what primitives paint, once they are turned: they are composed in a mask of their own, where
     /// a later one takes back what it clears.
-    fn primitives(&mut self, prims: &Primitives, turn: Turn, at: Point, how: Join)
+    fn primitives(&mut self, prims: &Primitives, turn: Turn, at: Point, how: Join, quick: bool)
         requires prims { All IsSoundPrim prims.now }
         requires at { IsOnBoard at }
         ensures { Joins how (λ s. IsPainted (map (turned_prim turn) prims.now) (relative at s)) self.old self.new }
@@ -41,13 +48,13 @@ impl Mask {
         let mut own = Mask::blank(self.grid());
         for place in 0..prims.len() {
             let primitive = prims.at(place);
-            own.primitive(primitive, turn, at);
+            own.primitive(primitive, turn, at, quick);
         }
         self.merge(&own, how);
     }
 
     /// Adds what a primitive paints, or clears what it takes back.
-    fn primitive(&mut self, primitive: PrimitiveView<'_>, turn: Turn, at: Point)
+    fn primitive(&mut self, primitive: PrimitiveView<'_>, turn: Turn, at: Point, quick: bool)
         requires primitive { IsSoundPrim (primitive_of primitive) }
         requires at { IsOnBoard at }
         ensures { Joins (inked primitive.entry.paint)
@@ -60,7 +67,7 @@ impl Mask {
                     centre: turn.apply(centre),
                     diameter,
                 };
-                self.join(&RowShape::Disc(disc), at, how);
+                self.join_shape(&RowShape::Disc(disc), at, how, quick);
             }
             ShapeView::Bar { from, to, width } => {
                 let bar = Bar {
@@ -68,7 +75,7 @@ impl Mask {
                     to: turn.apply(to),
                     width,
                 };
-                self.join(&RowShape::Bar(bar), at, how);
+                self.join_shape(&RowShape::Bar(bar), at, how, quick);
             }
             ShapeView::Rect {
                 centre,
@@ -80,7 +87,7 @@ impl Mask {
                     width: turned_width(turn, width, height),
                     height: turned_height(turn, width, height),
                 };
-                self.join(&RowShape::Rectangle(rectangle), at, how);
+                self.join_shape(&RowShape::Rectangle(rectangle), at, how, quick);
             }
             ShapeView::Outline { points } => self.fill_outline(points, turn, at, how),
         }

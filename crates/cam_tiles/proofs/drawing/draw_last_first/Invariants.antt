@@ -4,7 +4,7 @@ use Rattle.cam_tiles.specs.Machinery.Blackened.{IsPartlyDrawn}
 use Rattle.cam_tiles.specs.Machinery.Indexes.{AreSeenBy}
 use Rattle.cam_tiles.specs.Machinery.Shown.{leaves_by_item, leaves_of}
 use Rattle.cam_tiles.specs.Tiles.{grid_of, tile_rows}
-use Rattle.cam_tiles.proofs.drawing.draw_rows_last_first.Given as goal
+use Rattle.cam_tiles.proofs.drawing.draw_last_first.Given as goal
 
 abbrev pub invariant-loop-row : goal.invariant-loop-row
 invariant-loop-row l =

@@ -6,7 +6,7 @@ use Rattle.cam_objects.proofs.Canvases.{paints_outside}
 use Rattle.cam_tiles.specs.Machinery.Masks.{IsIn, Marking, ink_of}
 use Rattle.cam_tiles.specs.Tiles.{centre_in}
 use Rattle.cam_tiles.proofs.PaintedMasks.{figure_is_painted}
-use Rattle.cam_tiles.proofs.plain.MaskCanvas.paint.Goals as goal
+use Rattle.cam_tiles.proofs.masks.mask.Mask.paint_leaf.Goals as goal
 
 pub returns-in_default : goal.returns-in_default
 returns-in_default c =

@@ -5,7 +5,7 @@ use Rattle.cam_tiles.specs.Tiles.{grid_of, tile_rows}
 use Rattle.cam_tiles.proofs.PartlyDrawn.{row_partly_drawn}
 use Rattle.cam_tiles.proofs.RowsInOrder.{begins, row_there}
 use Rattle.cam_tiles.proofs.TileCounts.{few_tiles, some_across}
-use Rattle.cam_tiles.proofs.drawing.draw_rows_last_first.Goals as goal
+use Rattle.cam_tiles.proofs.drawing.draw_last_first.Goals as goal
 
 pub div_ceil-row-end-requires : goal.div_ceil-row-end-requires
 div_ceil-row-end-requires c =
