@@ -1,4 +1,5 @@
 pub mod Words
 pub mod Items
 pub mod Parsing
+pub mod Spelling
 pub mod Machinery
