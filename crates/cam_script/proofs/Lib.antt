@@ -8,3 +8,4 @@ pub mod Spelled
 pub mod ReadBack
 pub mod Insertions
 pub mod SoundWords
+pub mod Queries

@@ -50,16 +50,16 @@ fn direction_word(ccw: bool) -> &'static [u8]
     if ccw { b"ccw" } else { b"cw" }
 }
 
-/// Writes a space and a word.
-fn push_word(text: &mut Vec<u8>, word: &[u8]) -> Result<(), AllocError>
+/// Writes a space and a word at the text's end; an error where memory is refused.
+pub fn push_word(text: &mut Vec<u8>, word: &[u8]) -> Result<(), AllocError>
     ensures { OnOk result (text.new.items ≡ text.old.items ++ 32 ∷ word.now) }
 {
     text.push(b' ')?;
     text.extend_from_slice(word)
 }
 
-/// Writes a space and a number.
-fn push_number(text: &mut Vec<u8>, number: u32) -> Result<(), AllocError>
+/// Writes a space and a number at the text's end, in decimal; an error where memory is refused.
+pub fn push_number(text: &mut Vec<u8>, number: u64) -> Result<(), AllocError>
     ensures { OnOk result (text.new.items ≡ text.old.items ++ 32 ∷ decimal number) }
 {
     let mut buffer = Buffer::new();
@@ -159,7 +159,7 @@ pub fn push_object_words(text: &mut Vec<u8>, object: &Object) -> Result<(), Allo
             dark,
         } => {
             text.extend_from_slice(b"flash")?;
-            push_number(text, *aperture)?;
+            push_number(text, u64::from(*aperture))?;
             push_point(text, *at)?;
             push_setting(text, *turn, *dark)
         }
@@ -171,7 +171,7 @@ pub fn push_object_words(text: &mut Vec<u8>, object: &Object) -> Result<(), Allo
             dark,
         } => {
             text.extend_from_slice(b"draw")?;
-            push_number(text, *aperture)?;
+            push_number(text, u64::from(*aperture))?;
             push_point(text, *from)?;
             push_point(text, *to)?;
             push_setting(text, *turn, *dark)
@@ -185,7 +185,7 @@ pub fn push_object_words(text: &mut Vec<u8>, object: &Object) -> Result<(), Allo
             centre,
         } => {
             text.extend_from_slice(b"arc")?;
-            push_number(text, *aperture)?;
+            push_number(text, u64::from(*aperture))?;
             push_point(text, *from)?;
             push_point(text, *to)?;
             push_point(text, *centre)?;
@@ -207,12 +207,12 @@ pub fn push_drill_item_words(text: &mut Vec<u8>, item: &DrillItem) -> Result<(),
     match item {
         DrillItem::Hit { tool, at } => {
             text.extend_from_slice(b"hit")?;
-            push_number(text, u32::from(*tool))?;
+            push_number(text, u64::from(*tool))?;
             push_point(text, *at)
         }
         DrillItem::Rout { tool, points } => {
             text.extend_from_slice(b"rout")?;
-            push_number(text, u32::from(*tool))?;
+            push_number(text, u64::from(*tool))?;
             push_points(text, points.as_slice())
         }
     }
