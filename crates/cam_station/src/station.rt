@@ -1,7 +1,7 @@
 //! The station: a board, the tiles of its layers in a window, and the history of what was done to the board.
 
 ghost use Rattle.std.specs.Prelude.{◌≡◌, IfErr, IfNone, IfOk, IfSome, None, Ok, OnErr, OnOk, Some};
-ghost use Rattle.cam_edits.specs.Sheets.{IsSound, sheet_of};
+ghost use Rattle.cam_edits.specs.Sheets.{AreSound, IsSound, sheet_of, sheets_of};
 ghost use Rattle.cam_station.specs.Machine.{
   abort_step,
   begin_step,
@@ -25,6 +25,7 @@ ghost use Rattle.cam_station.specs.Machine.{
 ghost use Rattle.cam_station.specs.TileTables.{tile_at};
 ghost use Rattle.cam_station.specs.Refusals.{memory_refused};
 ghost use Rattle.cam_station.specs.Calls.{IsRun, after_refusal};
+ghost use Rattle.cam_undo.specs.Counted.{counts_at};
 
 use crate::fault::{Fault, refusal};
 use crate::reading::read;
@@ -35,7 +36,7 @@ use crate::touching::{touch, touch_accepted, touch_group};
 use cam_edits::{Board, BoardStep, Edit, Name, Reversible, Sheet, plan};
 use cam_script::{Bytes, Command, FileKind};
 use cam_tiles::{Raster, Window};
-use cam_undo::History;
+use cam_undo::{Counts, History};
 use std::alloc::{AllocError, Global};
 use std::collections::VecDeque;
 use std::marker::Model;
@@ -158,6 +159,21 @@ impl Station {
             Some(raster) => raster.rows(tile),
             None => None,
         }
+    }
+
+    /// How many edits and groups can be taken back, how many can be made again, and how many edits the open group has.
+    pub fn history(&self) -> Counts
+        ensures { result ≡ counts_at self.now.timeline }
+    {
+        self.history.counts()
+    }
+
+    /// The board.
+    pub(crate) fn board(&self) -> &Board
+        ensures value { sheets_of result.now ≡ self.now.timeline.document }
+        ensures sound { AreSound (sheets_of result.now) }
+    {
+        &self.board
     }
 
     /// Reads a file as the last layer; what was done before it can't be taken back any more.
