@@ -7,6 +7,7 @@ use Rattle.cam_units.specs.Boxes.{has_no_place}
 use Rattle.cam_units.specs.declared.bounds.Bounds.{Bounds}
 use Rattle.cam_units.specs.declared.bounds.Bounds.TheVariants.{Empty, Closed}
 use Rattle.cam_units.specs.declared.length.Nm.{Nm}
+use Rattle.cam_units.specs.declared.point.Spot.{Spot}
 use Rattle.cam_objects.specs.declared.attribute.Attribute.{Attribute}
 use Rattle.cam_objects.specs.declared.drill_item.DrillItem.{DrillItem}
 use Rattle.cam_objects.specs.declared.entry.Entry.{Entry}
@@ -44,12 +45,15 @@ half_of halves = decimal (halves / 2) ++ (if halves % 2 == 0 then [] else codes 
 unfoldable pub coordinate : ℤ → List ℕ
 coordinate z = (if int_lt z (pos 0) then codes "-" else []) ++ half_of (unsigned_abs z)
 
+abbrev pub corner_text : Spot → List ℕ
+corner_text corner = coordinate corner.x ++ (codes " " ++ coordinate corner.y)
+
 -- a box: its low corner and its high corner; no line where no place lies in it
 abbrev pub box_line : Bounds → List ℕ
 box_line Empty = []
 box_line (Closed low high) =
     if has_no_place (Closed low high) then []
-    else line_of (coordinate low.x) (coordinate low.y ∷ coordinate high.x ∷ coordinate high.y ∷ [])
+    else corner_text low ++ (codes " " ++ (corner_text high ++ codes "\n"))
 
 -- objects of a block or of a repeat, behind two spaces each
 abbrev pub part_line : Object → List ℕ
@@ -58,14 +62,17 @@ part_line object = codes "  " ++ (object_text object ++ codes "\n")
 abbrev pub part_lines : List Object → List ℕ
 part_lines objects = flat_map part_line objects
 
+-- how many objects there are, and these
+abbrev pub repeated_text : List Object → List ℕ
+repeated_text objects = spaced (decimal (length objects) ∷ []) ++ (codes "\n" ++ part_lines objects)
+
 -- an item: the words of a line that inserts it; of a repeat its columns, its rows, its steps and how many objects it
 -- has, and these below it
 abbrev pub item_lines : Item → List ℕ
 item_lines (One object) = object_text object ++ codes "\n"
 item_lines (Repeat columns rows i j objects) =
-    line_of (codes "repeat")
-    (decimal columns ∷ decimal rows ∷ signed_decimal i ∷ signed_decimal j ∷ decimal (length objects) ∷ [])
-    ++ part_lines objects
+    codes "repeat" ++ (spaced (decimal columns ∷ decimal rows ∷ [])
+    ++ (spaced (signed_decimal i ∷ signed_decimal j ∷ []) ++ repeated_text objects))
 
 abbrev pub drill_item_lines : DrillItem → List ℕ
 drill_item_lines item = drill_item_text item ++ codes "\n"

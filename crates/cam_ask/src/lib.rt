@@ -1,10 +1,11 @@
 //! Questions to a station, and the texts of their answers.
 //!
-//! `specs/Texts.antt` has the lines that answers are made of.
+//! `specs/Texts.antt` has the lines that answers are made of, `specs/Telling.antt` what is told of a layer.
 #![tactic(auto)]
 
 mod contents;
 mod lines;
+mod telling;
 
-pub use contents::{push_attributes, push_entries, push_entry_at, push_items};
-pub use lines::{push_box, push_history, push_layer, push_place};
+pub use lines::{push_history, push_layer};
+pub use telling::{can_be_asked, has_place, told};

@@ -8,6 +8,7 @@ ghost use Rattle.cam_ask.specs.Texts.{
   attribute_line,
   box_line,
   coordinate,
+  corner_text,
   drill_item_lines,
   entry_lines,
   half_of,
@@ -18,6 +19,7 @@ ghost use Rattle.cam_ask.specs.Texts.{
   part_line,
   part_lines,
   place_line,
+  repeated_text,
   tool_lines,
 };
 
@@ -25,7 +27,7 @@ use cam_edits::{Name, SheetContent};
 use cam_objects::{Attribute, DrillItem, Entry, Item, Object};
 use cam_script::{push_drill_item_words, push_number, push_object_words, push_word};
 use cam_undo::Counts;
-use cam_units::{Bounds, Nm};
+use cam_units::{Bounds, Nm, Spot};
 use cam_writers::{push_aperture, push_declaration};
 use itoa::Buffer;
 use std::alloc::AllocError;
@@ -106,12 +108,13 @@ fn push_coordinate(text: &mut Vec<u8>, halves: i64) -> Result<(), AllocError>
     push_half(text, halves.unsigned_abs())
 }
 
-/// Writes a space and a coordinate.
-fn push_next_coordinate(text: &mut Vec<u8>, halves: i64) -> Result<(), AllocError>
-    ensures { OnOk result (text.new.items ≡ text.old.items ++ spaced (coordinate halves ∷ [])) }
+/// Writes the coordinates of a corner.
+fn push_corner(text: &mut Vec<u8>, corner: Spot) -> Result<(), AllocError>
+    ensures { OnOk result (text.new.items ≡ text.old.items ++ corner_text corner) }
 {
+    push_coordinate(text, corner.x)?;
     text.push(b' ')?;
-    push_coordinate(text, halves)
+    push_coordinate(text, corner.y)
 }
 
 /// Writes the line of a box, where a place lies in it.
@@ -124,10 +127,9 @@ pub fn push_box(text: &mut Vec<u8>, bounds: Bounds) -> Result<(), AllocError>
     if bounds.is_empty() {
         return Ok(());
     }
-    push_coordinate(text, low.x)?;
-    push_next_coordinate(text, low.y)?;
-    push_next_coordinate(text, high.x)?;
-    push_next_coordinate(text, high.y)?;
+    push_corner(text, low)?;
+    text.push(b' ')?;
+    push_corner(text, high)?;
     end_line(text)
 }
 
@@ -150,24 +152,31 @@ fn push_parts(text: &mut Vec<u8>, objects: &[Object]) -> Result<(), AllocError>
     Ok(())
 }
 
-/// Writes the first line of a repeat.
-fn push_repeat(
-    text: &mut Vec<u8>,
-    counts: (u32, u32),
-    steps: (i64, i64),
-    objects: usize,
-) -> Result<(), AllocError>
-    ensures { OnOk result (text.new.items ≡ text.old.items
-        ++ (codes "repeat" ++ (spaced (decimal counts.0 ∷ decimal counts.1 ∷ signed_decimal steps.0
-        ∷ signed_decimal steps.1 ∷ decimal objects ∷ []) ++ codes "\n"))) }
+/// Writes how many copies a repeat has along each axis, a space before each.
+fn push_counts(text: &mut Vec<u8>, columns: u32, rows: u32) -> Result<(), AllocError>
+    ensures { OnOk result
+        (text.new.items ≡ text.old.items ++ spaced (decimal columns ∷ decimal rows ∷ [])) }
 {
-    text.extend_from_slice(b"repeat")?;
-    push_number(text, u64::from(counts.0))?;
-    push_number(text, u64::from(counts.1))?;
-    push_length(text, steps.0)?;
-    push_length(text, steps.1)?;
-    push_number(text, objects as u64)?;
-    end_line(text)
+    push_number(text, u64::from(columns))?;
+    push_number(text, u64::from(rows))
+}
+
+/// Writes the steps of a repeat, a space before each.
+fn push_steps(text: &mut Vec<u8>, i: i64, j: i64) -> Result<(), AllocError>
+    ensures { OnOk result
+        (text.new.items ≡ text.old.items ++ spaced (signed_decimal i ∷ signed_decimal j ∷ [])) }
+{
+    push_length(text, i)?;
+    push_length(text, j)
+}
+
+/// Writes how many objects a repeat has, and their lines.
+fn push_repeated(text: &mut Vec<u8>, objects: &[Object]) -> Result<(), AllocError>
+    ensures { OnOk result (text.new.items ≡ text.old.items ++ repeated_text objects.now) }
+{
+    push_number(text, objects.len() as u64)?;
+    end_line(text)?;
+    push_parts(text, objects)
 }
 
 /// Writes the lines of an item.
@@ -186,9 +195,10 @@ pub fn push_item(text: &mut Vec<u8>, item: &Item) -> Result<(), AllocError>
             j,
             objects,
         } => {
-            let objects = objects.as_slice();
-            push_repeat(text, (*columns, *rows), (*i, *j), objects.len())?;
-            push_parts(text, objects)
+            text.extend_from_slice(b"repeat")?;
+            push_counts(text, *columns, *rows)?;
+            push_steps(text, *i, *j)?;
+            push_repeated(text, objects.as_slice())
         }
     }
 }

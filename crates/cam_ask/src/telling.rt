@@ -144,11 +144,7 @@ fn told_enclosed(
 }
 
 /// Writes the box of an item.
-fn push_item_box(
-    text: &mut Vec<u8>,
-    content: &SheetContent,
-    k: usize,
-) -> Result<(), AllocError>
+fn push_item_box(text: &mut Vec<u8>, content: &SheetContent, k: usize) -> Result<(), AllocError>
     requires { IsSound (content_of content.now) }
     ensures { OnOk result (text.new.items ≡ text.old.items
         ++ flat_map box_line (option_to_list (slice_get (sheet_boxes (content_of content.now)) k))) }
@@ -160,11 +156,7 @@ fn push_item_box(
 }
 
 /// What is told of a layer, where the question can be asked and the place is there.
-pub fn told(
-    alloc: Global,
-    content: &SheetContent,
-    query: Query,
-) -> Result<Vec<u8>, AllocError>
+pub fn told(alloc: Global, content: &SheetContent, query: Query) -> Result<Vec<u8>, AllocError>
     requires sound { IsSound (content_of content.now) }
     requires asked { can_be_asked query ≡ true }
     requires place { has_place (content_of content.now) query ≡ true }
