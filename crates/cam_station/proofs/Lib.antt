@@ -1,3 +1,4 @@
+pub mod AskedLayers
 pub mod CleanTiles
 pub mod Depths
 pub mod DirtyTiles

@@ -117,10 +117,12 @@ fn is_pointed(alloc: Global, row: &Pointed) -> Result<bool, AllocError> {
         return Ok(false);
     };
     let (cells, _) = ItemCells::of(alloc, &mut layer.boxes());
-    Ok(are_found(&layer, None, row.found)
-        && are_found(&layer, Some(&cells), row.found)
-        && are_enclosed(&layer, row.enclosed)
-        && layer.bounds() == box_or_empty(row.whole))
+    Ok(
+        are_found(&layer, None, row.found)
+            && are_found(&layer, Some(&cells), row.found)
+            && are_enclosed(&layer, row.enclosed)
+            && layer.bounds() == box_or_empty(row.whole),
+    )
 }
 
 /// What the check of an item says beside these entries; `None` where they are refused.

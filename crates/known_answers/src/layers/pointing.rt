@@ -16,10 +16,7 @@ const SHAPES: Entries = &[
     (11, Circle(20, 0)),
     (
         12,
-        Block(&[
-            Flash(11, (0, 0), R0, true),
-            Flash(10, (0, 0), R0, false),
-        ]),
+        Block(&[Flash(11, (0, 0), R0, true), Flash(10, (0, 0), R0, false)]),
     ),
 ];
 
@@ -86,11 +83,7 @@ pub const POINTED: &[Pointed] = &[
             One(Draw(11, (0, 0), (50, 0), false)),
             One(Region(
                 (200, 0),
-                &[
-                    Line((220, 0)),
-                    Line((220, 20)),
-                    Line((200, 0)),
-                ],
+                &[Line((220, 0)), Line((220, 20)), Line((200, 0))],
                 true,
             )),
         ],
