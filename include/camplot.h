@@ -19,10 +19,9 @@
  *  - `malloc`, `realloc` and `free` are of one allocator, which aligns a block as the C standard asks.
  *
  * The library keeps no pointer of the caller's after a call, and has no state but its stations. Each function looks
- * for null: where a pointer may not be null and is, nothing is done. camplot_open, camplot_apply, camplot_ask,
- * camplot_redraw and camplot_tile then answer 90, and so do camplot_apply and camplot_ask where a length is past
- * 2^63 - 1; camplot_reply and camplot_file answer 0 for a station that is null, and otherwise the length, whatever the
- * room is. That closing a station gives all of its memory back is the one promise here that is tested and not
+ * for null: where a pointer may not be null and is, nothing is done. camplot_open, camplot_apply, camplot_redraw and
+ * camplot_tile then answer 90, and so does camplot_apply where a length is past 2^63 - 1; camplot_reply and camplot_file
+ * answer 0 for a station that is null, and otherwise the length, whatever the room is. That closing a station gives all of its memory back is the one promise here that is tested and not
  * proved. */
 #ifndef CAMPLOT_H
 #define CAMPLOT_H
@@ -65,18 +64,6 @@ void camplot_close(camplot_station *station);
  * where `file` is not null, whatever the line says. */
 uint32_t camplot_apply(camplot_station *station, const uint8_t *line, size_t line_length, const uint8_t *file,
                        size_t file_length);
-
-/* Answers a question, of `question_length` bytes, without a line feed at its end: which layers there are, what lies at
- * a point, an item in the words of a line that inserts it, boxes, apertures and tools, attributes, and what can be taken
- * back. docs/library.md has the questions and the lines of their answers. The answer is a text, which camplot_file
- * copies out until the next line, question or redraw; the reply is then `ok`, or `refused` and the number of a
- * refusal. Nothing else of the station changes.
- *
- * Answers 0 where the question was answered, also with an empty text, else the number of the refusal: 60 where there
- * is no layer of the name, 61 where it has nothing at the place, 80 where the line is no question, 81 where it is longer
- * than 65,536 bytes, and 30 where memory was refused. `station` and `question` may not be null; neither is kept. A
- * `question_length` past 2^63 - 1 is answered 90. */
-uint32_t camplot_ask(camplot_station *station, const uint8_t *question, size_t question_length);
 
 /* Draws at most `at_most` dirty tiles, by layer and then by number, as the line `redraw` does, and leaves its reply,
  * which tells how many were drawn. Answers 0, or 84 where no window was set. `station` may not be null. */
