@@ -23,11 +23,7 @@ use std::alloc::{AllocError, Global};
 /// Writes the definition of an aperture at the text's end, as canonical texts have it, behind that of the macro that it
 /// is made of, where it is made of one: `%ADD10C,0.500000*%`. An error where memory is refused; the text then has a part
 /// of it.
-pub fn push_aperture(
-    text: &mut Vec<u8>,
-    number: u32,
-    aperture: &Aperture,
-) -> Result<(), AllocError>
+pub fn push_aperture(text: &mut Vec<u8>, number: u32, aperture: &Aperture) -> Result<(), AllocError>
     ensures { OnOk result
         (text.new.items ≡ text.old.items ++ text_of (with_entry [] (number, Entry.Aperture aperture.now))) }
 {
