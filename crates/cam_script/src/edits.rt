@@ -17,7 +17,6 @@ ghost use Rattle.cam_script.specs.Parsing.{
   tool_change,
 };
 ghost use Rattle.cam_script.specs.Machinery.Reading.{change_by, unless_refused};
-ghost use Rattle.cam_script.specs.Words.{count_in};
 
 use crate::attributes::{drop_change, set_change};
 use crate::command::Command;
@@ -25,7 +24,7 @@ use crate::items::item;
 use crate::line::{Line, LineFault};
 use crate::marks::polarity;
 use crate::names::{is_name, name_of};
-use crate::numbers::{count, length, tool};
+use crate::numbers::{count, length, place, point, tool};
 use crate::pieces::is;
 use crate::words::Words;
 use cam_edits::{Change, Edit};
@@ -82,13 +81,6 @@ pub fn change_form(verb: &[u8]) -> Option<ChangeForm>
         return Some(ChangeForm::DropAttribute);
     }
     None
-}
-
-/// The place of a list that a word writes.
-fn place(word: &[u8]) -> Option<usize>
-    ensures { result ≡ count_in word.now }
-{
-    count(word).map(|place| place as usize)
 }
 
 /// The words behind the name of an insertion.
