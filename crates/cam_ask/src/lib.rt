@@ -1,11 +1,13 @@
 //! Questions to a station, and the texts of their answers.
 //!
-//! `specs/Texts.antt` has the lines that answers are made of, `specs/Telling.antt` what is told of a layer.
+//! [`ask`] answers a question that a line says, [`answer`] one that was read ([`Question`]). `specs/Texts.antt` has the
+//! lines that answers are made of, `specs/Telling.antt` what is told of a layer, and `specs/Answers.antt` what is answered.
 #![tactic(auto)]
 
+mod answers;
 mod contents;
 mod lines;
 mod telling;
 
-pub use lines::{push_history, push_layer};
-pub use telling::{can_be_asked, has_place, told};
+pub use answers::{answer, ask};
+pub use cam_script::{Query, Question, parse_question};

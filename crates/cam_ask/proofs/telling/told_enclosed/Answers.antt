@@ -12,4 +12,4 @@ loop-place-preserved c =
 pub returns : goal.returns
 returns c =
     gathered_all (content_of c.args.content.now) c.args.outer c.loop-place.from c.loop-place.text.items c.loop-place.invariant
-    c.in-None.ensures
+    c.in_default.ensures
