@@ -68,3 +68,9 @@ IsCopyOf None old new code = (code ≡ not_clean) × (new ≡ old)
 
 abbrev pub IsTileCopied : Session → ℕ → ℕ → List ℕ → List ℕ → ℕ → Type 0
 IsTileCopied s layer tile old new code = IsCopyOf (tile_at s.station.tables layer tile) old new code
+
+-- stub
+pub record IsQuestioned (s : Session) (question : List ℕ) (after : Session) (code : ℕ) : Type 0 where
+  pub station : after.station ≡ s.station
+  pub reply : after.reply ≡ None
+  pub code_is : code ≡ code_of after.reply

@@ -5,6 +5,7 @@ ghost use Rattle.std.specs.Option.{option_copied};
 ghost use Rattle.cam_c.specs.Calls.{
   IsApplied,
   IsFresh,
+  IsQuestioned,
   IsRedrawn,
   IsTileCopied,
   IsUnopened,
@@ -109,6 +110,15 @@ impl Session {
         ensures { IsApplied self.old line.now (Some file.now) self.new result }
     {
         self.serve(line, Some(file))
+    }
+
+    /// stub
+    pub(crate) fn ask(&mut self, question: &[u8]) -> u32
+        ensures { IsQuestioned self.old question.now self.new result }
+    {
+        let _ = question;
+        self.reply = None;
+        code(&self.reply)
     }
 
     /// Draws at most so many dirty tiles: one step of the station's machine.
