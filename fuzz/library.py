@@ -25,9 +25,6 @@ sys.path.insert(0, str(HERE.parent / "examples" / "python"))
 
 import camplot  # noqa: E402  (it lies among the examples)
 
-# What a path names that no file can be put under.
-FOLDERS = (b".", b"..")
-
 
 def lines_of(script):
     """The lines of a script, each without its end."""
@@ -56,14 +53,10 @@ def by_library(library, files, script, depth):
 
 
 def once(chance, program, library, maker, seed):
-    text, files = seed
-    maker.names = re.findall(rb"^load (\S+)", text, re.MULTILINE)
-    maker.files = [name.encode() for name in files]
-    made = maker.mutated(text).replace(b"/", b"_").split(b"\n")[: scripts.ROWS]
-    script = b"\n".join(line for line in made if not scripts.is_large(line))
-    if any(word in FOLDERS or len(word) > 200 for word in script.split()):
+    made = scripts.mutated(chance, maker, seed)
+    if made is None:
         return
-    depth = chance.choice((1, 2, 3, 100, 1000))
+    script, files, depth = made
     _, wanted = program.run(files, script, depth)
     told, held = by_library(library, files, script, depth)
     if told != wanted:

@@ -4,6 +4,8 @@ import re
 
 from program import EDITS, LINES, Wrong
 
+# What a path names that no file can be put under.
+FOLDERS = (b".", b"..")
 LARGEST = 1 << 19
 ROWS = 120
 
@@ -15,6 +17,18 @@ def is_large(line):
         return words[:1] == [b"window"] and int(words[4]) * int(words[5]) > LARGEST
     except (IndexError, ValueError):
         return False
+
+
+def mutated(chance, maker, seed):
+    """A mutated script with small windows, the files beside it, and a depth; nothing where it names a folder."""
+    text, files = seed
+    maker.names = re.findall(rb"^load (\S+)", text, re.MULTILINE)
+    maker.files = [name.encode() for name in files]
+    made = maker.mutated(text).replace(b"/", b"_").split(b"\n")[:ROWS]
+    script = b"\n".join(line for line in made if not is_large(line))
+    if any(word in FOLDERS or len(word) > 200 for word in script.split()):
+        return None
+    return script, files, chance.choice((1, 2, 3, 100, 1000))
 
 
 class Counts:

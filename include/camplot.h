@@ -11,15 +11,18 @@
  *  - A pointer is null, or points to as many bytes as this page says, which nobody else writes while the call runs.
  *    Rooms that are written overlap nothing else that is passed. A handle is one that camplot_open gave and
  *    camplot_close did not take.
- *  - Calls for one station come one after another: by one thread at a time, or in an order that a lock or a join
- *    makes. A station stays in the thread that opened it. Two stations are two: calls for them may run at once, each
- *    in its thread.
+ *  - All calls for a station come from the thread that opened it, one after another. Two stations are two: calls for
+ *    them may run at once, each in its thread.
  *  - No call is made from a signal handler, or in a child that a process with threads has forked.
+ *  - A thread that calls has 64 KiB of stack left: 20 KiB were used on boards, and 32 KiB for blocks eight deep. Floating
+ *    point exceptions do not trap, as in a C program that has not asked for it.
  *  - `malloc`, `realloc` and `free` are of one allocator, which aligns a block as the C standard asks.
  *
  * The library keeps no pointer of the caller's after a call, and has no state but its stations. Each function looks
- * for null: where a pointer may not be null and is, or a length is past 2^63 - 1, nothing is done, and the answer is
- * 90. */
+ * for null: where a pointer may not be null and is, nothing is done. camplot_open, camplot_apply, camplot_redraw and
+ * camplot_tile then answer 90, and so does camplot_apply where a length is past 2^63 - 1; camplot_reply and camplot_file
+ * answer 0 for a station that is null, and otherwise the length, whatever the room is. That closing a station gives all of its memory back is the one promise here that is tested and not
+ * proved. */
 #ifndef CAMPLOT_H
 #define CAMPLOT_H
 
@@ -44,7 +47,8 @@ typedef struct camplot_station camplot_station;
  * matter. */
 uint32_t camplot_open(uint32_t depth, camplot_station **station);
 
-/* Closes a station and gives its memory back. Null is no station, and nothing is done. */
+/* Closes a station and gives its memory back, all of it: tests see that, and no proof. Null is no station, and nothing
+ * is done. */
 void camplot_close(camplot_station *station);
 
 /* Applies one line of a script, of `line_length` bytes, without the line feed, or carriage return and line feed, at
@@ -56,7 +60,8 @@ void camplot_close(camplot_station *station);
  * Answers 0 where the line was accepted, and also where it has no reply, as a comment, else the number of the
  * refusal. The reply, and the bytes of a plot or a text, can be read until the next line is applied or tiles are
  * redrawn. A line that is refused changes nothing, but that a plot keeps the tiles that it drew. `station` and `line`
- * may not be null; neither is kept. */
+ * may not be null; neither is kept. A `line_length` past 2^63 - 1 is answered 90, and so is a `file_length` past it
+ * where `file` is not null, whatever the line says. */
 uint32_t camplot_apply(camplot_station *station, const uint8_t *line, size_t line_length, const uint8_t *file,
                        size_t file_length);
 
@@ -65,19 +70,23 @@ uint32_t camplot_apply(camplot_station *station, const uint8_t *line, size_t lin
 uint32_t camplot_redraw(camplot_station *station, uint32_t at_most);
 
 /* Tells how many bytes the line of the last reply has, as `ok 1` with a line feed, and copies it into `room`, which
- * has `capacity` bytes, where it fits; else `room` stays as it is, and may be null. 0 where the last line had no
- * reply, and where `station` is null. 160 bytes always suffice. */
+ * has `capacity` bytes, where it fits; else `room` stays as it is, and may be null. No zero byte stands at its end. 0
+ * before the first line, where the last line had no reply, and where `station` is null. 160 bytes always suffice. Where
+ * `capacity` is past 2^63 - 1, the length is told and nothing is copied. Each byte of `room` has a value before the call,
+ * as that of an array that was set to zeros. */
 size_t camplot_reply(camplot_station *station, uint8_t *room, size_t capacity);
 
 /* The same for the bytes that the last line had for a file: a PBM image after a `plot` that was accepted, and the
- * canonical text after such a `write`. 0 after any other line. They are the caller's once they are copied. */
+ * canonical text after such a `write`. 0 before the first line and after any other. They are the caller's once they
+ * are copied. */
 size_t camplot_file(camplot_station *station, uint8_t *room, size_t capacity);
 
 /* Copies the 512 bytes of a clean tile: `rows` has room for 64 rows from the top, and bit i of a row, counted from
  * the least, is the pixel in column i of the tile, 1 for black. Layers are counted from 0 in the order of their
  * loads, tiles from 0 at the top left of the window, row by row; a window of W by H pixels has (W + 63) / 64 of them
  * side by side. Bits past the window's edge are 0. Answers 0, or 91 where the tile is dirty, or there is no such
- * tile, layer or window; then `rows` stays as it is. Neither pointer may be null. */
+ * tile, layer or window; then `rows` stays as it is. Neither pointer may be null. Each row of `rows` has a value before
+ * the call. */
 uint32_t camplot_tile(camplot_station *station, uint32_t layer, uint32_t tile, uint64_t *rows);
 
 #ifdef __cplusplus

@@ -40,7 +40,7 @@ fn changed(station: &mut Station, alloc: Global, change: Change) -> Result<u8, A
         name: name(alloc)?,
         change,
     };
-    match station.apply(Command::Edit(edit)) {
+    match station.apply(Command::from(edit)) {
         Ok(_) => Ok(0),
         Err(fault) => Ok(fault.code),
     }

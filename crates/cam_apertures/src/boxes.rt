@@ -11,7 +11,7 @@ ghost use Rattle.cam_apertures.specs.Primitives.{box_of_prims, box_of_shape};
 ghost use Rattle.cam_apertures.specs.Machinery.Boxes.{IsSmallBox, across, reversed, spanned, up};
 ghost use Rattle.cam_apertures.specs.Turned.{IsTurnableBox, turned_box};
 
-use cam_macros::{MacroPrimitive, PrimShape};
+use cam_macros::{Prim, PrimShape};
 use cam_units::{Bounds, Nm, Point, Spot, Turn};
 
 /// What a box covers along an axis.
@@ -188,7 +188,7 @@ fn box_of_shape(shape: &PrimShape) -> Bounds
 }
 
 /// The box of all primitives.
-pub(crate) fn box_of_prims(prims: &[MacroPrimitive]) -> Bounds
+pub(crate) fn box_of_prims(prims: &[Prim]) -> Bounds
     requires { All IsSoundPrim prims.now }
     ensures value { result ≡ box_of_prims prims.now }
     ensures small { IsSmallBox result }

@@ -34,7 +34,7 @@ pub enum AdFault {
 
 impl AdFault {
     /// The number by which a refusal is told: 3, 4, 11, 12, 13, 24, 29 or 30.
-    pub fn code(self) -> u8
+    pub fn number(self) -> u8
         ensures { result ≡ number_of self }
     {
         match self {

@@ -8,7 +8,7 @@ ghost use Rattle.cam_apertures.specs.Machinery.Packing.{IsPlaced, kept_of, near_
 ghost use Rattle.cam_apertures.specs.Machinery.Packing.{whole_point};
 
 use crate::view::{PrimitiveView, ShapeView};
-use cam_macros::{MacroPrimitive, Points, PrimShape};
+use cam_macros::{Points, Prim, PrimShape};
 use cam_units::{Nm, Point};
 use std::alloc::AllocError;
 use std::mem::size_of;
@@ -81,15 +81,12 @@ fn near_length(length: Nm) -> i32
 
 impl Kept {
     /// The primitive as it is kept; the points of an outline go behind those of the others.
-    pub(crate) fn of(
-        primitive: MacroPrimitive,
-        outlines: &mut Vec<Points>,
-    ) -> Result<Kept, AllocError>
+    pub(crate) fn of(primitive: Prim, outlines: &mut Vec<Points>) -> Result<Kept, AllocError>
         requires { IsSoundPrim primitive }
         ensures kept { IfOk result (λ kept. kept ≡ kept_of (length outlines.old.items) primitive) }
         ensures outlines { OnOk result (outlines.new.items ≡ outlines.old.items ++ outlines_in primitive) }
     {
-        let MacroPrimitive { paint, shape } = primitive;
+        let Prim { paint, shape } = primitive;
         match shape {
             PrimShape::Disc { centre, diameter } => Ok(Kept::Disc {
                 paint,

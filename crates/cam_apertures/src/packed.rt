@@ -7,7 +7,7 @@ ghost use Rattle.cam_apertures.specs.Machinery.Packing.{is_outline};
 
 use crate::kept::Kept;
 use crate::view::PrimitiveView;
-use cam_macros::{MacroPrimitive, Points, PrimShape, Prims};
+use cam_macros::{Points, Prim, PrimShape, Prims};
 use std::alloc::{AllocError, Global};
 use std::marker::Model;
 
@@ -62,7 +62,7 @@ impl Packed {
 }
 
 /// How many of the primitives are outlines.
-fn outline_count(prims: &[MacroPrimitive]) -> usize
+fn outline_count(prims: &[Prim]) -> usize
     ensures { result ≡ count_by (λ p. is_outline p.shape) prims.now }
 {
     prims

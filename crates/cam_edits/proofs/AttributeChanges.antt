@@ -77,7 +77,7 @@ module _ (c : GerberContent) where
       → Gives change step
   gives (Insert k item) is step e = absurd is
   gives (Delete k) is step e = absurd is
-  gives (Move k by) is step e = absurd is
+  gives (Move k dx dy) is step e = absurd is
   gives (Reorder k m) is step e = absurd is
   gives (Aperture k n) is step e = absurd is
   gives (Polarity k dark) is step e = absurd is
@@ -93,7 +93,7 @@ module _ (c : GerberContent) where
 no_drill : (change : Change) → IsOfAttributes change → drill_step_of change ≡ None
 no_drill (Insert k item) is = absurd is
 no_drill (Delete k) is = absurd is
-no_drill (Move k by) is = absurd is
+no_drill (Move k dx dy) is = absurd is
 no_drill (Reorder k m) is = absurd is
 no_drill (Aperture k n) is = absurd is
 no_drill (Polarity k dark) is = absurd is

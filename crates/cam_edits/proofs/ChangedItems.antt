@@ -3,6 +3,7 @@ use Rattle.std.proofs.Common.{◌≡◌, ℕ, ◌≤◌, Bool, List, [], length,
 use Rattle.std.specs.List.{All}
 use Rattle.std.specs.Prelude.{IsTrue, is_some}
 use Rattle.std.proofs.lemmas.List.Elements.{All-cons, All-head, All-nil}
+use Rattle.cam_units.specs.Board.{IsOnBoard}
 use Rattle.cam_units.specs.declared.bounds.Bounds.{Bounds}
 use Rattle.cam_units.specs.declared.length.Nm.{Nm}
 use Rattle.cam_units.specs.declared.point.Point.{Point}
@@ -30,12 +31,10 @@ use Rattle.cam_objects.specs.Leaves.{
   origin,
   round_width,
 }
-use Rattle.cam_objects.specs.Machinery.Inside.{IsBoxOnBoard}
-use Rattle.cam_objects.specs.Machinery.Painting.{StandsOnBoard}
 use Rattle.cam_objects.specs.Soundness.{HasRadius, IsDrawable, IsFormed, IsInside, IsKnown, IsSoundItem}
-use Rattle.cam_objects.specs.Soundness.{IsWithinLimits, MeetsItem, objects_of, segs_of}
+use Rattle.cam_objects.specs.Soundness.{IsWithinLimits, MeetsItem, objects_of, points_of, segs_of}
 use Rattle.cam_objects.specs.Weights.{Weight, item_count, object_count, weight_in}
-use Rattle.cam_objects.proofs.BoardBoxes.{board_leaves}
+use Rattle.cam_objects.proofs.BoardLeaves.{board_alike}
 use Rattle.cam_objects.proofs.PlacedBoxes.{box_of_leaves, flash_placed}
 use Rattle.cam_objects.proofs.PlacedShapes.{IsPlacedSo, box_of_points, points_so, shapes_so}
 use Rattle.cam_edits.specs.DrillSteps.{with_tool}
@@ -120,7 +119,7 @@ module _ (dark : Bool) where
   radius (Arc ccw before n from to centre) h = h
   radius (Region contour before) h = h
 
-  stands : (o : Object) → StandsOnBoard o → StandsOnBoard (inked o)
+  stands : (o : Object) → All IsOnBoard (points_of o) → All IsOnBoard (points_of (inked o))
   stands (Flash n at t before) h = h
   stands (Draw n from to t before) h = h
   stands (Arc ccw before n from to centre) h = h
@@ -144,11 +143,12 @@ module _ (dark : Bool) where
 
   inside : (es : List (ℕ × Entry)) (o : Object) → IsInside es (One o) → IsInside es (One (inked o))
   inside es o h =
-      let here = board_leaves (object_leaves (meaning_in es) origin o) in
-      let there = board_leaves (object_leaves (meaning_in es) origin (inked o)) in record {
-        points = each_kept inked StandsOnBoard stands (One o) h.points;
+      record {
+        points = each_kept inked (λ o. All IsOnBoard (points_of o)) stands (One o) h.points;
         steps = tt;
-        leaves = there.0 (subst IsBoxOnBoard (sym (inked_box box_of_points points_so es o)) (here.1 h.leaves));
+        leaves =
+            board_alike (object_leaves (meaning_in es) origin o) (object_leaves (meaning_in es) origin (inked o))
+            (sym (inked_box box_of_points points_so es o)) h.leaves;
       }
 
   -- a sound object of another polarity is sound

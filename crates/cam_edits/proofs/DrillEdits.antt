@@ -25,7 +25,7 @@ use Rattle.cam_edits.specs.DrillSteps.{IsDrillFit}
 use Rattle.cam_edits.specs.Editing.{drill_step_unless, first_refusal, holds_at, holds_of, is_tool_size, judged_drill, meets_drill_step}
 use Rattle.cam_edits.specs.Machinery.Judging.{insertion_answer}
 use Rattle.cam_edits.specs.Machinery.PlaceLaws.{element_at}
-use Rattle.cam_edits.specs.Moving.{IsMovableDrillItem}
+use Rattle.cam_edits.specs.Moving.{IsMovableDrillItem, way}
 use Rattle.cam_objects.proofs.DemandLaws.{demand_law, first_law}
 use Rattle.cam_edits.proofs.ItemMoves.{movable_drill_item, shiftable_way, short_drill_item}
 use Rattle.cam_edits.proofs.Refusals.{IsTold, MeetsEach, and_parts, below, both, both_met, each_met, first_told, has_at, has_its_place}
@@ -157,7 +157,7 @@ module _ (c : DrillContent) where
 
   module _ (k : ℕ) (by : Point) where
     abbrev move : DrillStep
-    move = Move k by
+    move = Move k by.x by.y
 
     abbrev lands : DrillItem → Bool
     lands item = meets_drill_item c.tools (shifted_drill_item by item) items.OutOfBoard
@@ -256,14 +256,14 @@ module _ (c : DrillContent) where
   unfolding meets_drill_step
   fits (Insert k item) h met = leb-true k (length c.items) met.place
   fits (Delete k) h met = ltb-true k (length c.items) met.place
-  fits (Move k by) h met =
+  fits (Move k dx dy) h met =
       let at = element_at c.items k (ltb-true k (length c.items) met.place) in
-      let lands : DrillItem → Bool = λ item. meets_drill_item c.tools (shifted_drill_item by item) items.OutOfBoard in
-      let inside = (demand_law.drill_item c.tools (shifted_drill_item by at.0) items.OutOfBoard).0
+      let lands : DrillItem → Bool = λ item. meets_drill_item c.tools (shifted_drill_item (way dx dy) item) items.OutOfBoard in
+      let inside = (demand_law.drill_item c.tools (shifted_drill_item (way dx dy) at.0) items.OutOfBoard).0
       (sym (ap (holds_of lands) at.1) ∙ met.board) in
       let sound : IsSoundDrillItem c.tools at.0 = item_at (IsSoundDrillItem c.tools) c.items k at.0 h.items at.1 in (
-        shiftable_way by (short_drill_item by c.tools at.0 sound inside),
-        has_at (IsMovableDrillItem by) c.items k at.0 at.1 (movable_drill_item by c.tools at.0 sound inside),
+        shiftable_way (way dx dy) (short_drill_item (way dx dy) c.tools at.0 sound inside),
+        has_at (IsMovableDrillItem (way dx dy)) c.items k at.0 at.1 (movable_drill_item (way dx dy) c.tools at.0 sound inside),
       )
   fits (Reorder k m) h met =
       let there = and_parts (nat_lt k (length c.items)) (nat_lt m (length c.items)) met.place in

@@ -18,6 +18,7 @@ use Rattle.cam_edits.specs.declared.drill_step.DrillStep.{DrillStep}
 use Rattle.cam_edits.specs.declared.drill_step.DrillStep.TheVariants.{Insert, Delete, Move, Reorder, Tool, Diameter}
 use Rattle.cam_edits.specs.DrillSteps.{after_drill_step, with_tool}
 use Rattle.cam_edits.specs.Editing.{meets_drill_step}
+use Rattle.cam_edits.specs.Moving.{way}
 use Rattle.cam_edits.specs.Touched.{box_if_there, drill_box, drill_touched}
 use Rattle.cam_edits.proofs.MetDemands.{both, item_there}
 use Rattle.cam_edits.proofs.RedrawnItems.{AreOff, IsOff, carried_off, changed_off, item_off, put_in, repainted, taken_out}
@@ -53,9 +54,9 @@ drill_step_keeps_outside c (Delete k) met s off =
     taken_out paints s c.items k there.0 there.1
     (item_off paints s (slice_get c.items k) there.0 there.1
     (All_left (IsOff s) boxes [] (All_left (IsOff s) (boxes ++ []) [] off)))
-drill_step_keeps_outside c (Move k by) met s off =
+drill_step_keeps_outside c (Move k dx dy) met s off =
     let there = item_there c.items k met.place in
-    changed_off (drill_item_leaves c.tools) s c.items k there.0 there.1 (shifted_drill_item by)
+    changed_off (drill_item_leaves c.tools) s c.items k there.0 there.1 (shifted_drill_item (way dx dy))
     (All_left (IsOff s) _ [] off)
 drill_step_keeps_outside c (Reorder k m) met s off =
     let paints = drill_item_leaves c.tools in

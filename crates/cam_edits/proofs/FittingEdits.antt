@@ -19,7 +19,7 @@ use Rattle.cam_edits.specs.AttributeEdits.{attribute_refusal}
 use Rattle.cam_edits.specs.Editing.{first_refusal, has_aperture, has_polarity, holds_of, judged, judged_change}
 use Rattle.cam_edits.specs.Editing.{judged_unless, meets_step, step_of, step_unless}
 use Rattle.cam_edits.specs.Machinery.PlaceLaws.{element_at}
-use Rattle.cam_edits.specs.Moving.{IsMovableItem}
+use Rattle.cam_edits.specs.Moving.{IsMovableItem, way}
 use Rattle.cam_edits.specs.Steps.{HasAperture, IsFit, IsOne}
 use Rattle.cam_objects.proofs.DemandLaws.{demand_law}
 use Rattle.cam_edits.proofs.ItemMoves.{movable_item, shiftable_way, short_item}
@@ -32,7 +32,7 @@ module _ (c : Content) where
   abbrev pub IsItemStep : Step → Type 0
   IsItemStep (Insert k item) = Unit {0}
   IsItemStep (Delete k) = Unit {0}
-  IsItemStep (Move k by) = Unit {0}
+  IsItemStep (Move k dx dy) = Unit {0}
   IsItemStep (Reorder k m) = Unit {0}
   IsItemStep (Aperture k n) = Unit {0}
   IsItemStep (Polarity k dark) = Unit {0}
@@ -56,14 +56,14 @@ module _ (c : Content) where
   unfolding meets_step
   fits (Insert k item) is h m = leb-true k (length c.items) m.place
   fits (Delete k) is h m = ltb-true k (length c.items) m.place
-  fits (Move k by) is h m =
+  fits (Move k dx dy) is h m =
       let at = element_at c.items k (ltb-true k (length c.items) m.place) in
-      let lands : Item → Bool = λ item. meets_item c.entries (shifted_item by item) items.OutOfBoard in
-      let inside = (demand_law.item c.entries (shifted_item by at.0) items.OutOfBoard).0
+      let lands : Item → Bool = λ item. meets_item c.entries (shifted_item (way dx dy) item) items.OutOfBoard in
+      let inside = (demand_law.item c.entries (shifted_item (way dx dy) at.0) items.OutOfBoard).0
       (sym (ap (holds_of lands) at.1) ∙ m.board) in
       let sound : IsSoundItem c.entries at.0 = item_at (IsSoundItem c.entries) c.items k at.0 h.items at.1 in (
-        shiftable_way by (short_item by c.entries at.0 sound inside),
-        has_at (IsMovableItem by) c.items k at.0 at.1 (movable_item by c.entries at.0 sound inside),
+        shiftable_way (way dx dy) (short_item (way dx dy) c.entries at.0 sound inside),
+        has_at (IsMovableItem (way dx dy)) c.items k at.0 at.1 (movable_item (way dx dy) c.entries at.0 sound inside),
       )
   fits (Reorder k m) is h met =
       let there = and_parts (nat_lt k (length c.items)) (nat_lt m (length c.items)) met.place in

@@ -198,7 +198,7 @@ module _ (c : Content) where
 
   module _ (k : ℕ) (by : Point) where
     abbrev move : Step
-    move = Move k by
+    move = Move k by.x by.y
 
     abbrev lands : Item → Bool
     lands item = meets_item c.entries (shifted_item by item) items.OutOfBoard

@@ -11,6 +11,7 @@ use Rattle.cam_edits.specs.declared.step.Step.{Step}
 use Rattle.cam_edits.specs.declared.step.Step.TheVariants.{Insert, Delete, Move, Reorder, Aperture, Polarity}
 use Rattle.cam_edits.specs.declared.step.Step.TheVariants.{PutAttribute, TakeAttribute, SetFields}
 use Rattle.cam_edits.specs.Editing.{meets_step}
+use Rattle.cam_edits.specs.Moving.{way}
 use Rattle.cam_edits.specs.Steps.{after_step, with_aperture, with_object, with_polarity}
 use Rattle.cam_edits.specs.Touched.{box_if_there, item_box, touched}
 use Rattle.cam_edits.proofs.MetDemands.{both, item_there}
@@ -29,9 +30,9 @@ step_keeps_outside c (Delete k) met s off =
     taken_out paints s c.items k there.0 there.1
     (item_off paints s (slice_get c.items k) there.0 there.1
     (All_left (IsOff s) (box_if_there (item_box c.entries) (slice_get c.items k)) [] off))
-step_keeps_outside c (Move k by) met s off =
+step_keeps_outside c (Move k dx dy) met s off =
     let there = item_there c.items k met.place in
-    changed_off (item_leaves (meaning_in c.entries)) s c.items k there.0 there.1 (shifted_item by) off
+    changed_off (item_leaves (meaning_in c.entries)) s c.items k there.0 there.1 (shifted_item (way dx dy)) off
 step_keeps_outside c (Reorder k m) met s off =
     let paints = item_leaves (meaning_in c.entries) in
     let places = both _ _ met.place in

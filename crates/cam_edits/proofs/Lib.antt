@@ -11,6 +11,7 @@ pub mod AttributeSteps
 pub mod ShiftedItems
 pub mod KeptDrilling
 pub mod SoundAttributes
+pub mod AskedSheets
 pub mod AttributeChanges
 pub mod DrillEdits
 pub mod Plans

@@ -120,7 +120,7 @@ module _ (xs : List Attribute) (h : AreAttributes xs) where
   attributes_stay_sound (changes.Insert k (new_items.Gerber item)) ok step e = kept_by (steps.Insert k item) step e h
   attributes_stay_sound (changes.Insert k (new_items.Drill item)) ok step e = absurd cc
   attributes_stay_sound (changes.Delete k) ok step e = kept_by (steps.Delete k) step e h
-  attributes_stay_sound (changes.Move k by) ok step e = kept_by (steps.Move k by) step e h
+  attributes_stay_sound (changes.Move k dx dy) ok step e = kept_by (steps.Move k dx dy) step e h
   attributes_stay_sound (changes.Reorder k m) ok step e = kept_by (steps.Reorder k m) step e h
   attributes_stay_sound (changes.Aperture k n) ok step e = kept_by (steps.Aperture k n) step e h
   attributes_stay_sound (changes.Polarity k dark) ok step e = kept_by (steps.Polarity k dark) step e h

@@ -26,6 +26,7 @@ use Rattle.cam_edits.specs.declared.drill_step.DrillStep.TheVariants as steps
 use Rattle.cam_edits.specs.DrillSteps.{drill_items_after, tools_after, with_tool}
 use Rattle.cam_edits.specs.Editing.{first_refusal, holds_of, is_tool_size, meets_drill_step}
 use Rattle.cam_edits.specs.Machinery.PlaceLaws.{changed_is, reordered_is, within}
+use Rattle.cam_edits.specs.Moving.{way}
 use Rattle.cam_edits.specs.Places.{changed, reordered}
 use Rattle.cam_edits.proofs.ChangedItems.{count_with_tool, sound_with_tool}
 use Rattle.cam_edits.proofs.EditedLists.{all_here, length_behind, length_of_other, set_here, split_here, sum_behind, sum_of_other}
@@ -137,7 +138,7 @@ module _ (c : DrillContent) where
       let few = both _ _ told.limits in met item TooMuch few.0
 
   pub moved_drill_inside : (k : ℕ) (by : Point) (item : DrillItem) → slice_get c.items k ≡ Some item
-      → AreMet (steps.Move k by)
+      → AreMet (steps.Move k by.x by.y)
       → MeetsDrillItem c.tools (shifted_drill_item by item) OutOfBoard
   unfolding meets_drill_step
   moved_drill_inside k by item here told =
@@ -160,9 +161,9 @@ met_step_sound c (steps.Insert k item) h told =
     ((demand_law.drill_limits (insert c.items k item)).0 room.1)
 met_step_sound c (steps.Delete k) h told =
     let there = item_there c.items k told.place in removed c.tools c.items h k there.0 there.1
-met_step_sound c (steps.Move k by) h told =
+met_step_sound c (steps.Move k dx dy) h told =
     let there = item_there c.items k told.place in
-    moved c.tools c.items h k there.0 there.1 by (moved_drill_inside c k by there.0 there.1 told)
+    moved c.tools c.items h k there.0 there.1 (way dx dy) (moved_drill_inside c k (way dx dy) there.0 there.1 told)
 met_step_sound c (steps.Reorder k m) h told =
     let places = both _ _ told.place in
     let there = item_there c.items k places.0 in carried c.tools c.items h k there.0 there.1 m

@@ -29,6 +29,7 @@ use Rattle.cam_edits.specs.DrillSteps.{after_drill_step}
 use Rattle.cam_edits.specs.Editing.{drill_step_of, edited, edited_at, edited_sheet, first_refusal, drill_step_unless, holds_at, holds_of}
 use Rattle.cam_edits.specs.Editing.{judged_change, judged_drill, meets_drill_step, meets_step, with_drill_step, with_step}
 use Rattle.cam_edits.specs.Machinery.PlaceLaws.{changed_is, reordered_is, within}
+use Rattle.cam_edits.specs.Moving.{way}
 use Rattle.cam_edits.specs.Places.{changed, changed_to, reordered}
 use Rattle.cam_edits.specs.Planning.{EditsStaySound}
 use Rattle.cam_edits.specs.Sheets.{AreSound, Content, Gerber, Drill, IsSound, IsSoundGerber, Sheet, sheet}
@@ -141,7 +142,7 @@ module _ (c : GerberContent) where
     held : (test : Item → Bool) → IsTrue (holds_at test c.items k) → IsTrue (test item)
     held test told = subst (λ (o : Option Item). IsTrue (holds_of test o)) here told
 
-    pub moved_inside : (by : Point) → AreMet (steps.Move k by) → IsInside c.entries (shifted_item by item)
+    pub moved_inside : (by : Point) → AreMet (steps.Move k by.x by.y) → IsInside c.entries (shifted_item by item)
     unfolding meets_step
     moved_inside by told =
         met c.entries (shifted_item by item) items.OutOfBoard
@@ -180,9 +181,9 @@ met_step_sound c (steps.Insert k item) h told =
     ((demand_law.limits c.entries (insert c.items k item)).0 room.1)
 met_step_sound c (steps.Delete k) h told =
     let there = item_there c.items k told.place in removed c.entries c.items h k there.0 there.1
-met_step_sound c (steps.Move k by) h told =
+met_step_sound c (steps.Move k dx dy) h told =
     let there = item_there c.items k told.place in
-    moved c.entries c.items h k there.0 there.1 by (moved_inside c k there.0 there.1 by told)
+    moved c.entries c.items h k there.0 there.1 (way dx dy) (moved_inside c k there.0 there.1 (way dx dy) told)
 met_step_sound c (steps.Reorder k m) h told =
     let places = both _ _ told.place in
     let there = item_there c.items k places.0 in carried c.entries c.items h k there.0 there.1 m

@@ -67,9 +67,9 @@ module _ (c : GerberContent) (step : Step) (none : first_refusal (meets_step c s
   unfolding meets_step
   delete_within k is = let met = told (steps.Delete k) is in less_than k (length c.items) met.place
 
-  pub move_within : (k : ℕ) (by : Point) → step ≡ steps.Move k by → k < length c.items
+  pub move_within : (k : ℕ) (by : Point) → step ≡ steps.Move k by.x by.y → k < length c.items
   unfolding meets_step
-  move_within k by is = let met = told (steps.Move k by) is in less_than k (length c.items) met.place
+  move_within k by is = let met = told (steps.Move k by.x by.y) is in less_than k (length c.items) met.place
 
   pub reorder_within : (k m : ℕ) → step ≡ steps.Reorder k m → k < length c.items
   unfolding meets_step
@@ -99,12 +99,12 @@ module _ (c : GerberContent) (step : Step) (none : first_refusal (meets_step c s
         let within = aperture_within k n is in
         item_with_aperture c k x (here within) n (told (steps.Aperture k n) is) (sound within)
 
-    module _ (by : Point) (is : step ≡ steps.Move k by) where
+    module _ (by : Point) (is : step ≡ steps.Move k by.x by.y) where
       pub sound_before : IsSoundItem c.entries x
       sound_before = sound (move_within k by is)
 
       pub inside_after : IsInside c.entries (shifted_item by x)
-      inside_after = moved_inside c k x (here (move_within k by is)) by (told (steps.Move k by) is)
+      inside_after = moved_inside c k x (here (move_within k by is)) by (told (steps.Move k by.x by.y) is)
 
       pub short_move : IsMove by
       short_move = short_item by c.entries x sound_before inside_after
@@ -141,11 +141,11 @@ module _ (c : GerberContent) (step : Step) (none : first_refusal (meets_step c s
       boxes_are (steps.Delete k) is (b ∷ [])
       (ap (λ b. b ∷ []) (before there.0 there.1) ∙ sym (ap (λ (o : Option Item). box_if_there box o ++ []) there.1))
 
-  pub move_boxes : (k : ℕ) (by : Point) → step ≡ steps.Move k by → (x : Item) → x ≡ get_or c.items k x
+  pub move_boxes : (k : ℕ) (by : Point) → step ≡ steps.Move k by.x by.y → (x : Item) → x ≡ get_or c.items k x
       → (b after : Bounds) → IsBoxAt box c.items k b → after ≡ box (shifted_item by x) → b ∷ after ∷ [] ≡ touched step c
   unfolding touched
   move_boxes k by is x at b after before e =
-      boxes_are (steps.Move k by) is (b ∷ after ∷ [])
+      boxes_are (steps.Move k by.x by.y) is (b ∷ after ∷ [])
       (changed box c.items k (move_within k by is) b before (shifted_item by) x after at e)
 
   pub reorder_boxes : (k m : ℕ) → step ≡ steps.Reorder k m → (b : Bounds) → IsBoxAt box c.items k b

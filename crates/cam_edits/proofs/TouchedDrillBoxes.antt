@@ -126,9 +126,9 @@ module _ (c : DrillContent) (step : DrillStep) (none : first_refusal (meets_dril
   unfolding meets_drill_step
   delete_within k is = let met = told (steps.Delete k) is in less_than k (length c.items) met.place
 
-  pub move_within : (k : ℕ) (by : Point) → step ≡ steps.Move k by → k < length c.items
+  pub move_within : (k : ℕ) (by : Point) → step ≡ steps.Move k by.x by.y → k < length c.items
   unfolding meets_drill_step
-  move_within k by is = let met = told (steps.Move k by) is in less_than k (length c.items) met.place
+  move_within k by is = let met = told (steps.Move k by.x by.y) is in less_than k (length c.items) met.place
 
   pub reorder_within : (k m : ℕ) → step ≡ steps.Reorder k m → k < length c.items
   unfolding meets_drill_step
@@ -150,9 +150,9 @@ module _ (c : DrillContent) (step : DrillStep) (none : first_refusal (meets_dril
       pub sound_there : k < length c.items → IsSoundDrillItem c.tools x
       sound_there within = all_here (IsSoundDrillItem c.tools) c.items k x h.items (here within)
 
-      module _ (by : Point) (is : step ≡ steps.Move k by) where
+      module _ (by : Point) (is : step ≡ steps.Move k by.x by.y) where
         pub inside_after : MeetsDrillItem c.tools (shifted_drill_item by x) OutOfBoard
-        inside_after = moved_drill_inside c k by x (here (move_within k by is)) (told (steps.Move k by) is)
+        inside_after = moved_drill_inside c k by x (here (move_within k by is)) (told (steps.Move k by.x by.y) is)
 
         pub short_move : IsMove by
         short_move = short_drill_item by c.tools x (sound_there (move_within k by is)) inside_after
@@ -188,13 +188,13 @@ module _ (c : DrillContent) (step : DrillStep) (none : first_refusal (meets_dril
       let one = alone box c.items k (delete_within k is) b before in
       boxes_are (steps.Delete k) is (b ∷ []) (λ i. one i ++ [] ++ [])
 
-  pub move_boxes : (k : ℕ) (by : Point) → step ≡ steps.Move k by → (x : DrillItem) → x ≡ get_or c.items k x
+  pub move_boxes : (k : ℕ) (by : Point) → step ≡ steps.Move k by.x by.y → (x : DrillItem) → x ≡ get_or c.items k x
       → (b after : Bounds) → IsBoxAt box c.items k b → after ≡ box (shifted_drill_item by x)
       → b ∷ after ∷ [] ≡ drill_touched step c
   unfolding drill_touched
   move_boxes k by is x at b after before e =
       let two = changed box c.items k (move_within k by is) b before (shifted_drill_item by) x after at e in
-      boxes_are (steps.Move k by) is (b ∷ after ∷ []) (λ i. two i ++ [])
+      boxes_are (steps.Move k by.x by.y) is (b ∷ after ∷ []) (λ i. two i ++ [])
 
   pub reorder_boxes : (k m : ℕ) → step ≡ steps.Reorder k m → (b : Bounds) → IsBoxAt box c.items k b
       → b ∷ b ∷ [] ≡ drill_touched step c

@@ -1,6 +1,6 @@
 -- What the steps of a drill layer do to what it lists, and which steps lead back.
 use Rattle.std.specs.Prelude.{ℕ, ◌+◌, ◌<◌, ◌≤◌, Bool, true, false, List, length, Option, None, Some}
-use Rattle.std.specs.Prelude.{IsSome, count_by, insert, nat_eq, remove, slice_get, vec_capacity}
+use Rattle.std.specs.Prelude.{IsSome, count_by, insert, nat_eq, neg_ℤ, remove, slice_get, vec_capacity}
 use Rattle.std.specs.Map.{set_value}
 use Rattle.cam_units.specs.declared.length.Nm.{Nm}
 use Rattle.cam_shapes.specs.Shifting.{IsShiftable}
@@ -13,7 +13,7 @@ use Rattle.cam_objects.specs.declared.drill_item.DrillItem.TheVariants.{Hit, Rou
 use Rattle.cam_objects.specs.declared.drill_layer.DrillLayer.{DrillLayer}
 use Rattle.cam_edits.specs.declared.drill_step.DrillStep.{DrillStep}
 use Rattle.cam_edits.specs.declared.drill_step.DrillStep.TheVariants.{Insert, Delete, Move, Reorder, Tool, Diameter}
-use Rattle.cam_edits.specs.Moving.{IsMovableDrillItem, negated}
+use Rattle.cam_edits.specs.Moving.{IsMovableDrillItem, way}
 use Rattle.cam_edits.specs.Places.{HasAt, changed, reordered}
 
 abbrev pub with_tool : ℕ → DrillItem → DrillItem
@@ -23,7 +23,7 @@ with_tool t (Rout _ points) = Rout t points
 abbrev pub drill_items_after : DrillStep → List DrillItem → List DrillItem
 drill_items_after (Insert k item) items = insert items k item
 drill_items_after (Delete k) items = remove items k
-drill_items_after (Move k by) items = changed (shifted_drill_item by) items k
+drill_items_after (Move k dx dy) items = changed (shifted_drill_item (way dx dy)) items k
 drill_items_after (Reorder k m) items = reordered items k m
 drill_items_after (Tool k t) items = changed (with_tool t) items k
 drill_items_after (Diameter t d) items = items
@@ -52,7 +52,7 @@ diameter_before t d (Some before) = Diameter t before
 abbrev pub inverse_drill_step : DrillStep → DrillContent → DrillStep
 inverse_drill_step (Insert k item) c = Delete k
 inverse_drill_step (Delete k) c = insertion_of k (slice_get c.items k)
-inverse_drill_step (Move k by) c = Move k (negated by)
+inverse_drill_step (Move k dx dy) c = Move k (neg_ℤ dx) (neg_ℤ dy)
 inverse_drill_step (Reorder k m) c = Reorder m k
 inverse_drill_step (Tool k t) c = tool_before k t (slice_get c.items k)
 inverse_drill_step (Diameter t d) c = diameter_before t d (diameter_of c.tools t)
@@ -60,7 +60,7 @@ inverse_drill_step (Diameter t d) c = diameter_before t d (diameter_of c.tools t
 abbrev pub IsDrillFit : DrillStep → DrillContent → Type 0
 IsDrillFit (Insert k item) c = k ≤ length c.items
 IsDrillFit (Delete k) c = k < length c.items
-IsDrillFit (Move k by) c = IsShiftable by × HasAt (IsMovableDrillItem by) c.items k
+IsDrillFit (Move k dx dy) c = IsShiftable (way dx dy) × HasAt (IsMovableDrillItem (way dx dy)) c.items k
 IsDrillFit (Reorder k m) c = (k < length c.items) × (m < length c.items)
 IsDrillFit (Tool k t) c = k < length c.items
 IsDrillFit (Diameter t d) c = IsSome (diameter_of c.tools t)

@@ -30,6 +30,7 @@ use Rattle.cam_edits.specs.declared.step.Step.TheVariants as steps
 use Rattle.cam_edits.specs.AttributeEdits.{attribute_refusal, setting_step}
 use Rattle.cam_edits.specs.Boards.{changed_at, content_at, place_named}
 use Rattle.cam_edits.specs.DrillSteps.{after_drill_step, drill_items_after}
+use Rattle.cam_edits.specs.Moving.{way}
 use Rattle.cam_edits.specs.Sheets.{Content, Gerber, Drill, Sheet}
 use Rattle.cam_edits.specs.Steps.{after_step, items_after, with_aperture, with_object}
 
@@ -39,7 +40,7 @@ use Rattle.cam_edits.specs.Steps.{after_step, items_after, with_aperture, with_o
 abbrev pub step_of : List Attribute → Change → Option Step
 step_of attributes (changes.Insert k (new_items.Gerber item)) = Some (steps.Insert k item)
 step_of attributes (changes.Delete k) = Some (steps.Delete k)
-step_of attributes (changes.Move k by) = Some (steps.Move k by)
+step_of attributes (changes.Move k dx dy) = Some (steps.Move k dx dy)
 step_of attributes (changes.Reorder k m) = Some (steps.Reorder k m)
 step_of attributes (changes.Aperture k n) = Some (steps.Aperture k n)
 step_of attributes (changes.Polarity k dark) = Some (steps.Polarity k dark)
@@ -52,7 +53,7 @@ step_of attributes _ = None
 abbrev pub drill_step_of : Change → Option DrillStep
 drill_step_of (changes.Insert k (new_items.Drill item)) = Some (drill_steps.Insert k item)
 drill_step_of (changes.Delete k) = Some (drill_steps.Delete k)
-drill_step_of (changes.Move k by) = Some (drill_steps.Move k by)
+drill_step_of (changes.Move k dx dy) = Some (drill_steps.Move k dx dy)
 drill_step_of (changes.Reorder k m) = Some (drill_steps.Reorder k m)
 drill_step_of (changes.Tool k t) = Some (drill_steps.Tool k t)
 drill_step_of (changes.Diameter t d) = Some (drill_steps.Diameter t d)
@@ -100,7 +101,7 @@ module _ (c : GerberContent) where
   abbrev pub has_places : Step → Bool
   has_places (steps.Insert k item) = nat_le k (length c.items)
   has_places (steps.Delete k) = nat_lt k (length c.items)
-  has_places (steps.Move k by) = nat_lt k (length c.items)
+  has_places (steps.Move k dx dy) = nat_lt k (length c.items)
   has_places (steps.Reorder k m) = nat_lt k (length c.items) && nat_lt m (length c.items)
   has_places (steps.Aperture k n) = nat_lt k (length c.items)
   has_places (steps.Polarity k dark) = nat_lt k (length c.items)
@@ -121,7 +122,7 @@ module _ (c : GerberContent) where
   -- and of one that is moved
   abbrev pub holds_of_placed : (Item → Bool) → Step → Bool
   holds_of_placed test (steps.Insert k item) = test item
-  holds_of_placed test (steps.Move k by) = holds_at (λ item. test (shifted_item by item)) c.items k
+  holds_of_placed test (steps.Move k dx dy) = holds_at (λ item. test (shifted_item (way dx dy) item)) c.items k
   holds_of_placed test (steps.Aperture k n) = holds_at (λ item. test (with_object (with_aperture n) item)) c.items k
   holds_of_placed test _ = true
 
@@ -174,7 +175,7 @@ module _ (c : DrillContent) where
   abbrev pub has_drill_places : DrillStep → Bool
   has_drill_places (drill_steps.Insert k item) = nat_le k (length c.items)
   has_drill_places (drill_steps.Delete k) = nat_lt k (length c.items)
-  has_drill_places (drill_steps.Move k by) = nat_lt k (length c.items)
+  has_drill_places (drill_steps.Move k dx dy) = nat_lt k (length c.items)
   has_drill_places (drill_steps.Reorder k m) = nat_lt k (length c.items) && nat_lt m (length c.items)
   has_drill_places (drill_steps.Tool k t) = nat_lt k (length c.items)
   has_drill_places _ = true
@@ -193,8 +194,8 @@ module _ (c : DrillContent) where
   -- an item that is inserted or moved lies on the board
   abbrev pub lies_on_board : DrillStep → Bool
   lies_on_board (drill_steps.Insert k item) = meets_drill_item c.tools item items.OutOfBoard
-  lies_on_board (drill_steps.Move k by) =
-      holds_at (λ item. meets_drill_item c.tools (shifted_drill_item by item) items.OutOfBoard) c.items k
+  lies_on_board (drill_steps.Move k dx dy) =
+      holds_at (λ item. meets_drill_item c.tools (shifted_drill_item (way dx dy) item) items.OutOfBoard) c.items k
   lies_on_board _ = true
 
   abbrev pub leaves_drill_room : DrillStep → Bool

@@ -10,7 +10,9 @@ pub mod Editing
 pub mod Touched
 pub mod Touches
 pub mod Images
+pub mod Asking
 pub mod BoxLaws
 pub mod AttributeLaws
 pub mod Planning
+pub mod Faults
 pub mod Machinery

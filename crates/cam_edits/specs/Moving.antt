@@ -1,5 +1,5 @@
 -- Items that can be moved and moved back.
-use Rattle.std.specs.Prelude.{neg_ℤ, All}
+use Rattle.std.specs.Prelude.{ℤ, All}
 use Rattle.cam_units.specs.declared.point.Point.{Point}
 use Rattle.cam_shapes.specs.Shifting.{IsShiftable, shifted_point}
 use Rattle.cam_shapes.specs.declared.segments.Seg.{Seg}
@@ -12,9 +12,9 @@ use Rattle.cam_objects.specs.declared.item.Item.TheVariants.{One, Repeat}
 use Rattle.cam_objects.specs.declared.drill_item.DrillItem.{DrillItem}
 use Rattle.cam_objects.specs.declared.drill_item.DrillItem.TheVariants.{Hit, Rout}
 
--- the way back
-abbrev pub negated : Point → Point
-negated by = record { x = neg_ℤ by.x; y = neg_ℤ by.y }
+-- the way of a move: so many nm to the right, and so many up
+abbrev pub way : ℤ → ℤ → Point
+way dx dy = record { x = dx; y = dy }
 
 -- each control point has room to be moved, and has it still where it is moved to
 abbrev pub IsMovablePoint : Point → Point → Type 0

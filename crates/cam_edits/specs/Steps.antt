@@ -1,6 +1,6 @@
 -- What the steps of a layer do to what it lists, and which steps lead back.
 use Rattle.std.specs.Prelude.{ℕ, ◌+◌, ◌<◌, ◌≤◌, Bool, true, false, List, length, Option}
-use Rattle.std.specs.Prelude.{Some, count_by, insert, remove, slice_get, vec_capacity}
+use Rattle.std.specs.Prelude.{Some, count_by, insert, neg_ℤ, remove, slice_get, vec_capacity}
 use Rattle.cam_shapes.specs.Shifting.{IsShiftable}
 use Rattle.cam_objects.specs.Attributes.{attribute_of}
 use Rattle.cam_objects.specs.Contents.{Content}
@@ -14,7 +14,7 @@ use Rattle.cam_objects.specs.declared.layer.Layer.{Layer}
 use Rattle.cam_edits.specs.declared.step.Step.{Step}
 use Rattle.cam_edits.specs.declared.step.Step.TheVariants.{Insert, Delete, Move, Reorder, Aperture, Polarity}
 use Rattle.cam_edits.specs.declared.step.Step.TheVariants.{PutAttribute, TakeAttribute, SetFields}
-use Rattle.cam_edits.specs.Moving.{IsMovableItem, negated}
+use Rattle.cam_edits.specs.Moving.{IsMovableItem, way}
 use Rattle.cam_edits.specs.Places.{HasAt, changed, reordered}
 
 -- a flash, a draw or an arc with another aperture; a region has none
@@ -59,7 +59,7 @@ IsOne P (Repeat columns rows i j objects) = ⊥
 abbrev pub items_after : Step → List Item → List Item
 items_after (Insert k item) items = insert items k item
 items_after (Delete k) items = remove items k
-items_after (Move k by) items = changed (shifted_item by) items k
+items_after (Move k dx dy) items = changed (shifted_item (way dx dy)) items k
 items_after (Reorder k m) items = reordered items k m
 items_after (Aperture k n) items = changed (with_object (with_aperture n)) items k
 items_after (Polarity k dark) items = changed (with_object (with_polarity dark)) items k
@@ -85,7 +85,7 @@ after_step step c =
 abbrev pub inverse_at : Step → Option Item → Option Attribute → Step
 inverse_at (Insert k item) before attribute = Delete k
 inverse_at (Delete k) (Some item) attribute = Insert k item
-inverse_at (Move k by) before attribute = Move k (negated by)
+inverse_at (Move k dx dy) before attribute = Move k (neg_ℤ dx) (neg_ℤ dy)
 inverse_at (Reorder k m) before attribute = Reorder m k
 inverse_at (Aperture k n) (Some (One object)) attribute = Aperture k (aperture_of object)
 inverse_at (Polarity k dark) (Some (One object)) attribute = Polarity k (polarity_of object)
@@ -97,7 +97,7 @@ inverse_at step before attribute = step
 abbrev pub step_place : Step → ℕ
 step_place (Insert k item) = k
 step_place (Delete k) = k
-step_place (Move k by) = k
+step_place (Move k dx dy) = k
 step_place (Reorder k m) = k
 step_place (Aperture k n) = k
 step_place (Polarity k dark) = k
@@ -111,7 +111,7 @@ inverse_step step c = inverse_at step (slice_get c.items (step_place step)) (sli
 abbrev pub IsFit : Step → Content → Type 0
 IsFit (Insert k item) c = k ≤ length c.items
 IsFit (Delete k) c = k < length c.items
-IsFit (Move k by) c = IsShiftable by × HasAt (IsMovableItem by) c.items k
+IsFit (Move k dx dy) c = IsShiftable (way dx dy) × HasAt (IsMovableItem (way dx dy)) c.items k
 IsFit (Reorder k m) c = (k < length c.items) × (m < length c.items)
 IsFit (Aperture k n) c = HasAt (IsOne HasAperture) c.items k
 IsFit (Polarity k dark) c = HasAt (IsOne (λ _. Unit {0})) c.items k

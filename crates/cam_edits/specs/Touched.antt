@@ -19,6 +19,7 @@ use Rattle.cam_edits.specs.declared.drill_step.DrillStep.TheVariants as drill_st
 use Rattle.cam_edits.specs.declared.step.Step.{Step}
 use Rattle.cam_edits.specs.declared.step.Step.TheVariants as steps
 use Rattle.cam_edits.specs.DrillSteps.{tools_after, with_tool}
+use Rattle.cam_edits.specs.Moving.{way}
 use Rattle.cam_edits.specs.Steps.{with_aperture, with_object, with_polarity}
 
 -- the boxes of those that are there
@@ -34,7 +35,7 @@ item_box entries item = bounds_of (item_leaves (meaning_in entries) item)
 -- the item before the step
 abbrev pub item_before : Step → List Item → Option Item
 item_before (steps.Delete k) items = slice_get items k
-item_before (steps.Move k by) items = slice_get items k
+item_before (steps.Move k dx dy) items = slice_get items k
 item_before (steps.Reorder k m) items = slice_get items k
 item_before (steps.Aperture k n) items = slice_get items k
 item_before (steps.Polarity k dark) items = slice_get items k
@@ -43,7 +44,7 @@ item_before _ items = None
 -- and after it
 abbrev pub item_after : Step → List Item → Option Item
 item_after (steps.Insert k item) items = Some item
-item_after (steps.Move k by) items = option_map (shifted_item by) (slice_get items k)
+item_after (steps.Move k dx dy) items = option_map (shifted_item (way dx dy)) (slice_get items k)
 item_after (steps.Reorder k m) items = slice_get items k
 item_after (steps.Aperture k n) items = option_map (with_object (with_aperture n)) (slice_get items k)
 item_after (steps.Polarity k dark) items = option_map (with_object (with_polarity dark)) (slice_get items k)
@@ -62,14 +63,14 @@ drill_box tools item = bounds_of (drill_item_leaves tools item)
 -- the item that a step changes, before it
 abbrev pub drill_item_before : DrillStep → List DrillItem → Option DrillItem
 drill_item_before (drill_steps.Delete k) items = slice_get items k
-drill_item_before (drill_steps.Move k by) items = slice_get items k
+drill_item_before (drill_steps.Move k dx dy) items = slice_get items k
 drill_item_before (drill_steps.Reorder k m) items = slice_get items k
 drill_item_before (drill_steps.Tool k t) items = slice_get items k
 drill_item_before _ items = None
 
 abbrev pub drill_item_after : DrillStep → List DrillItem → Option DrillItem
 drill_item_after (drill_steps.Insert k item) items = Some item
-drill_item_after (drill_steps.Move k by) items = option_map (shifted_drill_item by) (slice_get items k)
+drill_item_after (drill_steps.Move k dx dy) items = option_map (shifted_drill_item (way dx dy)) (slice_get items k)
 drill_item_after (drill_steps.Reorder k m) items = slice_get items k
 drill_item_after (drill_steps.Tool k t) items = option_map (with_tool t) (slice_get items k)
 drill_item_after _ items = None

@@ -1,6 +1,7 @@
 //! Boards: named layers in order.
 
-ghost use Rattle.std.specs.Prelude.{◌≡◌, ◌<◌, ◌==◌, ◌++◌, ◌∷◌, [], IfSome, OnErr, OnOk, length, position};
+ghost use Rattle.std.specs.Prelude.{◌≡◌, ◌<◌, ◌==◌, ◌++◌, ◌∷◌, [], IfSome, OnErr, OnOk, length, option_map, position, slice_get};
+ghost use Rattle.std.specs.Option.{option_copied};
 ghost use Rattle.std.specs.Str.{bytes_eq};
 ghost use Rattle.cam_edits.specs.Machinery.Room.{HasPlaces};
 ghost use Rattle.cam_edits.specs.Boards.{content_at, place_named};
@@ -95,6 +96,13 @@ impl Board {
         ensures within { IfSome result (λ place. place < length (sheets_of self.now)) }
     {
         place_among(&self.sheets, name)
+    }
+
+    /// The sheet at a place, counted from 0.
+    pub fn sheet(&self, place: usize) -> Option<&Sheet>
+        ensures { option_map sheet_of (option_copied result) ≡ slice_get (sheets_of self.now) place }
+    {
+        self.sheets.get(place)
     }
 
     /// What the sheet at a place holds.

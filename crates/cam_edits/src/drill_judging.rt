@@ -20,9 +20,9 @@ use crate::drill_step::DrillStep;
 use crate::edit::{Change, NewItem};
 use crate::fault::EditFault;
 use crate::item_refusal::check_insertion;
-use crate::moving::is_move;
+use crate::moving::{is_move, way};
 use cam_objects::{DrillItem, DrillLayer};
-use cam_units::{Nm, Point};
+use cam_units::Nm;
 
 /// The step of an edit of the drill layer, which has so many holes and slots; it fits the layer. Or the edit's first
 /// refusal.
@@ -42,7 +42,7 @@ pub(crate) fn judged_drill(
             NewItem::Drill(item) => insertion(layer, leaves, k, item),
         },
         Change::Delete { k } => deletion(layer, k),
-        Change::Move { k, by } => shift(layer, k, by),
+        Change::Move { k, dx, dy } => shift(layer, k, dx, dy),
         Change::Reorder { k, m } => reordering(layer, k, m),
         Change::Aperture { .. } => Err(EditFault::WrongKind),
         Change::Polarity { .. } => Err(EditFault::WrongKind),
@@ -79,20 +79,21 @@ fn deletion(layer: &DrillLayer, k: usize) -> Result<DrillStep, EditFault>
     Ok(DrillStep::Delete { k })
 }
 
-fn shift(layer: &DrillLayer, k: usize, by: Point) -> Result<DrillStep, EditFault>
+fn shift(layer: &DrillLayer, k: usize, dx: i64, dy: i64) -> Result<DrillStep, EditFault>
     requires { IsSoundDrillLayer layer.now }
-    ensures { result ≡ judged_drill (drill_content_of layer.now) (Some (Move k by)) }
+    ensures { result ≡ judged_drill (drill_content_of layer.now) (Some (Move k dx dy)) }
 {
     let Some(item) = layer.items.get(k) else {
         return Err(EditFault::NoItem);
     };
+    let by = way(dx, dy);
     if !is_move(by) {
         return Err(EditFault::OutOfBoard);
     }
     if !layer.can_move(item, by) {
         return Err(EditFault::OutOfBoard);
     }
-    Ok(DrillStep::Move { k, by })
+    Ok(DrillStep::Move { k, dx, dy })
 }
 
 fn reordering(layer: &DrillLayer, k: usize, m: usize) -> Result<DrillStep, EditFault>

@@ -1,7 +1,10 @@
 //! Steps that edit a drill layer.
 
-ghost use Rattle.std.specs.Prelude.{◌≡◌, ℕ, IfNone, IfSome, List, count_by};
+ghost use Rattle.std.specs.Prelude.{◌≡◌, ◌↔◌, ℕ, IfNone, IfSome, IsTrue, List, count_by};
 ghost use Rattle.cam_objects.specs.DrillSoundness.{tool_of};
+ghost use Rattle.cam_shapes.specs.Shifting.{IsShiftable};
+ghost use Rattle.cam_edits.specs.Moving.{IsMovableDrillItem};
+ghost use Rattle.cam_edits.specs.Places.{HasAt};
 ghost use Rattle.cam_edits.specs.DrillSteps.{
   HasDrillRoom,
   IsDrillFit,
@@ -15,7 +18,7 @@ ghost use Rattle.cam_edits.specs.declared.drill_step.DrillStep.TheVariants.{Diam
 ghost use Rattle.cam_objects.specs.Contents.{DrillContent, drill_content_of};
 
 use crate::carrying::carry;
-use crate::moving::{back, can_move_drill_item};
+use crate::moving::{can_move_drill_item, way};
 use crate::reversible::Reversible;
 use cam_objects::{DrillItem, DrillLayer};
 use cam_units::{Nm, Point};
@@ -29,8 +32,8 @@ pub enum DrillStep {
     Insert { k: usize, item: DrillItem },
     /// The list without place `k`.
     Delete { k: usize },
-    /// The points of item `k` are shifted by so many nm.
-    Move { k: usize, by: Point },
+    /// The points of item `k` are shifted by `dx` nm to the right and `dy` nm up.
+    Move { k: usize, dx: i64, dy: i64 },
     /// Item `k` is taken out, and then stands at place `m`.
     Reorder { k: usize, m: usize },
     /// The item at place `k` gets the tool of that number.
@@ -73,10 +76,7 @@ impl Reversible for DrillStep {
         match self {
             DrillStep::Insert { k, .. } => *k <= layer.items.len(),
             DrillStep::Delete { k } => *k < layer.items.len(),
-            DrillStep::Move { k, by } => match layer.items.get(*k) {
-                Some(item) => can_move_drill_item(item, *by),
-                None => false,
-            },
+            DrillStep::Move { k, dx, dy } => can_move_at(&layer.items, *k, way(*dx, *dy)),
             DrillStep::Reorder { k, m } => *k < layer.items.len() && *m < layer.items.len(),
             DrillStep::Tool { k, .. } => *k < layer.items.len(),
             DrillStep::Diameter { t, .. } => layer.tools.get(*t).is_some(),
@@ -97,9 +97,13 @@ impl Reversible for DrillStep {
                 k,
                 item: layer.items.remove(k),
             },
-            DrillStep::Move { k, by } => {
-                layer.items[k].shift(by);
-                DrillStep::Move { k, by: back(by) }
+            DrillStep::Move { k, dx, dy } => {
+                layer.items[k].shift(way(dx, dy));
+                DrillStep::Move {
+                    k,
+                    dx: -dx,
+                    dy: -dy,
+                }
             }
             DrillStep::Reorder { k, m } => {
                 carry(layer.items.as_mut_slice(), k, m);
@@ -142,6 +146,16 @@ fn insertion_count(group: &[DrillStep]) -> usize
         .iter()
         .filter(|step| matches!(step, DrillStep::Insert { .. }))
         .count()
+}
+
+/// Whether there is an item at the place that can be moved so, and back.
+fn can_move_at(items: &[DrillItem], k: usize, by: Point) -> bool
+    ensures { IsTrue result ↔ IsShiftable by × HasAt (IsMovableDrillItem by) items.now k }
+{
+    match items.get(k) {
+        Some(item) => can_move_drill_item(item, by),
+        None => false,
+    }
 }
 
 /// Gives the item another tool. The answer is the number before.

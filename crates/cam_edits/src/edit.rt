@@ -2,7 +2,7 @@
 
 use crate::name::Name;
 use cam_objects::{DrillItem, Item};
-use cam_units::{Items, Nm, Point};
+use cam_units::{Items, Nm};
 
 /// An item of a layer of one of two kinds.
 #[derive(Drop)]
@@ -18,8 +18,8 @@ pub enum Change {
     Insert { k: usize, item: NewItem },
     /// The list without place `k`.
     Delete { k: usize },
-    /// All control points of item `k` are shifted.
-    Move { k: usize, by: Point },
+    /// All control points of item `k` are shifted by `dx` nm to the right and `dy` nm up.
+    Move { k: usize, dx: i64, dy: i64 },
     /// Item `k` is taken out, and then stands at place `m`.
     Reorder { k: usize, m: usize },
     /// The aperture of a flash, a draw or an arc becomes that of the number. Of a Gerber layer alone.

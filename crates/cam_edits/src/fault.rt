@@ -1,6 +1,7 @@
 //! Why an edit is refused.
 
 ghost use Rattle.std.specs.Prelude.{◌≡◌};
+ghost use Rattle.cam_edits.specs.Faults.{number_of};
 ghost use Rattle.cam_edits.specs.declared.fault.EditFault.TheVariants.{Memory};
 
 use std::alloc::AllocError;
@@ -50,6 +51,29 @@ pub enum EditFault {
     /// Memory was refused (30).
     #[error("no memory")]
     Memory,
+}
+
+impl EditFault {
+    /// The number by which a refusal is told: 60 to 69, 74, 75 or 30.
+    pub fn number(self) -> u8
+        ensures { result ≡ number_of self }
+    {
+        match self {
+            EditFault::NoLayer => 60,
+            EditFault::WrongKind => 68,
+            EditFault::AttributeRefused => 75,
+            EditFault::NoAttribute => 74,
+            EditFault::NoItem => 61,
+            EditFault::HasNone => 64,
+            EditFault::NoAperture => 62,
+            EditFault::NoTool => 66,
+            EditFault::WrongAperture => 63,
+            EditFault::SizeRefused => 67,
+            EditFault::OutOfBoard => 65,
+            EditFault::TooMuch => 69,
+            EditFault::Memory => 30,
+        }
+    }
 }
 
 impl From<AllocError> for EditFault {

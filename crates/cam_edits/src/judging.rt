@@ -15,10 +15,9 @@ use crate::attribute_judging::{dropping, setting};
 use crate::edit::{Change, NewItem};
 use crate::fault::EditFault;
 use crate::item_refusal::{check_insertion, refusal_of};
-use crate::moving::is_move;
+use crate::moving::{is_move, way};
 use crate::step::Step;
 use cam_objects::{Item, Layer, Object};
-use cam_units::Point;
 
 /// The step of an edit of the layer, which has so many leaves; it fits the layer. Or the edit's first refusal.
 pub(crate) fn judged(layer: &Layer, leaves: u64, change: Change) -> Result<Step, EditFault>
@@ -33,7 +32,7 @@ pub(crate) fn judged(layer: &Layer, leaves: u64, change: Change) -> Result<Step,
             NewItem::Drill(_) => Err(EditFault::WrongKind),
         },
         Change::Delete { k } => deletion(layer, k),
-        Change::Move { k, by } => shift(layer, k, by),
+        Change::Move { k, dx, dy } => shift(layer, k, dx, dy),
         Change::Reorder { k, m } => reordering(layer, k, m),
         Change::Aperture { k, n } => aperture_change(layer, leaves, k, n),
         Change::Polarity { k, dark } => polarity_change(layer, k, dark),
@@ -64,20 +63,21 @@ fn deletion(layer: &Layer, k: usize) -> Result<Step, EditFault>
     Ok(Step::Delete { k })
 }
 
-fn shift(layer: &Layer, k: usize, by: Point) -> Result<Step, EditFault>
+fn shift(layer: &Layer, k: usize, dx: i64, dy: i64) -> Result<Step, EditFault>
     requires { HasSoundItems layer.now }
-    ensures { result ≡ judged (content_of layer.now) (Some (Move k by)) }
+    ensures { result ≡ judged (content_of layer.now) (Some (Move k dx dy)) }
 {
     let Some(item) = layer.items.get(k) else {
         return Err(EditFault::NoItem);
     };
+    let by = way(dx, dy);
     if !is_move(by) {
         return Err(EditFault::OutOfBoard);
     }
     if !layer.can_move(item, by) {
         return Err(EditFault::OutOfBoard);
     }
-    Ok(Step::Move { k, by })
+    Ok(Step::Move { k, dx, dy })
 }
 
 fn reordering(layer: &Layer, k: usize, m: usize) -> Result<Step, EditFault>

@@ -7,6 +7,7 @@
 #![tactic(auto)]
 
 mod apertures;
+mod asking;
 mod attribute_judging;
 mod board;
 mod board_step;
@@ -22,6 +23,7 @@ mod item_refusal;
 mod item_tools;
 mod judging;
 mod laws;
+mod listed;
 mod mending;
 mod moving;
 mod name;
@@ -40,6 +42,7 @@ pub use fault::EditFault;
 pub use indexed::IndexedLayer;
 pub use indexed_drill::IndexedDrillLayer;
 pub use laws::{attributes_change_no_picture, edits_stay_in_their_boxes, edits_stay_sound};
+pub use listed::{ListedEntry, ListedItem};
 pub use name::Name;
 pub use planning::plan;
 pub use reversible::Reversible;

@@ -10,7 +10,7 @@ ghost use Rattle.cam_edits.specs.Moving.{
   IsMovableObject,
   IsMovablePoint,
   IsMovableSeg,
-  negated,
+  way,
 };
 
 use cam_objects::{Contour, DrillItem, Item, Object, Seg};
@@ -27,12 +27,11 @@ pub(crate) fn is_move(by: Point) -> bool
     by.x.unsigned_abs() <= FARTHEST && by.y.unsigned_abs() <= FARTHEST
 }
 
-/// The way back.
-pub(crate) fn back(by: Point) -> Point
-    requires { IsShiftable by }
-    ensures { result ≡ negated by }
+/// The way of a move: `dx` nm to the right and `dy` nm up.
+pub(crate) fn way(dx: i64, dy: i64) -> Point
+    ensures { result ≡ way dx dy }
 {
-    Point { x: -by.x, y: -by.y }
+    Point { x: dx, y: dy }
 }
 
 /// Whether the item can be moved by so many nm, and back.

@@ -2,6 +2,9 @@
 
 ghost use Rattle.std.specs.Prelude.{◌≡◌, ◌↔◌, IsTrue, count_by};
 ghost use Rattle.cam_objects.specs.Contents.{Content, content_of};
+ghost use Rattle.cam_shapes.specs.Shifting.{IsShiftable};
+ghost use Rattle.cam_edits.specs.Moving.{IsMovableItem};
+ghost use Rattle.cam_edits.specs.Places.{HasAt};
 ghost use Rattle.cam_edits.specs.Steps.{
   HasAperture,
   HasRoom,
@@ -19,7 +22,7 @@ ghost use Rattle.cam_edits.specs.Steps.{
 };
 
 use crate::carrying::carry;
-use crate::moving::{back, can_move_item};
+use crate::moving::{can_move_item, way};
 use crate::reversible::Reversible;
 use cam_objects::{Attribute, Item, Layer, Object};
 use cam_units::{Items, Point};
@@ -34,8 +37,8 @@ pub enum Step {
     Insert { k: usize, item: Item },
     /// The list without place `k`.
     Delete { k: usize },
-    /// The control points of item `k` are shifted by so many nm.
-    Move { k: usize, by: Point },
+    /// The control points of item `k` are shifted by `dx` nm to the right and `dy` nm up.
+    Move { k: usize, dx: i64, dy: i64 },
     /// Item `k` is taken out, and then stands at place `m`.
     Reorder { k: usize, m: usize },
     /// The flash, draw or arc at place `k` gets the aperture of that number.
@@ -84,19 +87,10 @@ impl Reversible for Step {
         match self {
             Step::Insert { k, .. } => *k <= layer.items.len(),
             Step::Delete { k } => *k < layer.items.len(),
-            Step::Move { k, by } => match layer.items.get(*k) {
-                Some(item) => can_move_item(item, *by),
-                None => false,
-            },
+            Step::Move { k, dx, dy } => can_move_at(&layer.items, *k, way(*dx, *dy)),
             Step::Reorder { k, m } => *k < layer.items.len() && *m < layer.items.len(),
-            Step::Aperture { k, .. } => match layer.items.get(*k) {
-                Some(item) => has_aperture(item),
-                None => false,
-            },
-            Step::Polarity { k, .. } => match layer.items.get(*k) {
-                Some(item) => matches!(item, Item::One(_)),
-                None => false,
-            },
+            Step::Aperture { k, .. } => has_aperture_at(&layer.items, *k),
+            Step::Polarity { k, .. } => is_object_at(&layer.items, *k),
             Step::PutAttribute { k, .. } => *k <= layer.attributes.len(),
             Step::TakeAttribute { k } => *k < layer.attributes.len(),
             Step::SetFields { k, .. } => *k < layer.attributes.len(),
@@ -118,9 +112,13 @@ impl Reversible for Step {
                 k,
                 item: layer.items.remove(k),
             },
-            Step::Move { k, by } => {
-                layer.items[k].shift(by);
-                Step::Move { k, by: back(by) }
+            Step::Move { k, dx, dy } => {
+                layer.items[k].shift(way(dx, dy));
+                Step::Move {
+                    k,
+                    dx: -dx,
+                    dy: -dy,
+                }
             }
             Step::Reorder { k, m } => {
                 carry(layer.items.as_mut_slice(), k, m);
@@ -168,6 +166,36 @@ fn attribute_count(group: &[Step]) -> usize
         .iter()
         .filter(|step| matches!(step, Step::PutAttribute { .. }))
         .count()
+}
+
+/// Whether there is an item at the place that can be moved so, and back.
+fn can_move_at(items: &[Item], k: usize, by: Point) -> bool
+    ensures { IsTrue result ↔ IsShiftable by × HasAt (IsMovableItem by) items.now k }
+{
+    match items.get(k) {
+        Some(item) => can_move_item(item, by),
+        None => false,
+    }
+}
+
+/// Whether there is a flash, a draw or an arc at the place.
+fn has_aperture_at(items: &[Item], k: usize) -> bool
+    ensures { IsTrue result ↔ HasAt (IsOne HasAperture) items.now k }
+{
+    match items.get(k) {
+        Some(item) => has_aperture(item),
+        None => false,
+    }
+}
+
+/// Whether there is an object at the place, and no repeat.
+fn is_object_at(items: &[Item], k: usize) -> bool
+    ensures { IsTrue result ↔ HasAt (IsOne (λ _. Unit {0})) items.now k }
+{
+    match items.get(k) {
+        Some(item) => matches!(item, Item::One(_)),
+        None => false,
+    }
 }
 
 /// Whether the item is a flash, a draw or an arc.

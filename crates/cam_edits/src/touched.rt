@@ -17,6 +17,7 @@ ghost use Rattle.cam_edits.specs.declared.drill_step.DrillStep.TheVariants.{Diam
 use crate::apertures::other_aperture;
 use crate::drill_step::DrillStep;
 use crate::item_tools::next_of_tool;
+use crate::moving::way;
 use crate::step::Step;
 use cam_objects::{DrillItem, DrillLayer, Item, ItemNumbers, Layer};
 use cam_units::{Bounds, Nm};
@@ -31,8 +32,8 @@ pub(crate) fn touched(alloc: Global, layer: &Layer, step: &Step) -> Result<Vec<B
     match step {
         Step::Insert { item, .. } => one_box(alloc, layer.bounds_of(item)),
         Step::Delete { k } => one_box(alloc, layer.item_bounds(*k)),
-        Step::Move { k, by } => {
-            let after = layer.moved_bounds(&layer.items[*k], *by);
+        Step::Move { k, dx, dy } => {
+            let after = layer.moved_bounds(&layer.items[*k], way(*dx, *dy));
             two_boxes(alloc, layer.item_bounds(*k), after)
         }
         Step::Reorder { k, .. } => kept_box(alloc, layer.item_bounds(*k)),
@@ -62,8 +63,8 @@ pub(crate) fn drill_touched(
     match step {
         DrillStep::Insert { item, .. } => one_box(alloc, layer.bounds_of(item)),
         DrillStep::Delete { k } => one_box(alloc, layer.item_bounds(*k)),
-        DrillStep::Move { k, by } => {
-            let after = layer.moved_bounds(&layer.items[*k], *by);
+        DrillStep::Move { k, dx, dy } => {
+            let after = layer.moved_bounds(&layer.items[*k], way(*dx, *dy));
             two_boxes(alloc, layer.item_bounds(*k), after)
         }
         DrillStep::Reorder { k, .. } => kept_box(alloc, layer.item_bounds(*k)),

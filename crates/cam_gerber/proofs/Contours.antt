@@ -26,10 +26,10 @@ use Rattle.cam_gerber.specs.declared.running.Running.{Running}
 use Rattle.cam_gerber.specs.Statements.{Statement, Says}
 use Rattle.cam_gerber.specs.State.{Past, mode_in, point_in, centre_of, code_of, in_region}
 use Rattle.cam_gerber.specs.Homes.{Home, InBlock, InRepeat, InLayer, Opened, home, is_same_home, open_blocks, open_repeat}
-use Rattle.cam_gerber.specs.Making.{segment, segments_in, region_in, made, made_at, objects_of}
+use Rattle.cam_gerber.specs.Making.{segment, segments_in, region_in, made, made_at, objects_of, IsMaker}
 use Rattle.cam_gerber.specs.Faults.{command_faults, operated_faults, is_full, is_on_board, holds_of_one}
 use Rattle.cam_gerber.specs.Machinery.Tracking.{Tracks, Answers, Ended, TracksModal, TracksFrames, TracksBuilt}
-use Rattle.cam_gerber.specs.Machinery.Tracking.{TracksPlaces, IsOperated, IsMaker, mode_by, moved_point, centre_by}
+use Rattle.cam_gerber.specs.Machinery.Tracking.{TracksPlaces, IsOperated, mode_by, moved_point, centre_by}
 use Rattle.cam_gerber.specs.Machinery.Tracking.{path_table, first_of, block_of, repeat_of}
 use Rattle.cam_gerber.proofs.Pasts.{Joins, joins}
 use Rattle.cam_gerber.proofs.Operated.{told_before, passed, mode_same, point_same, centre_same, table_same, operated_tracks, end_same}

@@ -15,11 +15,11 @@ use Rattle.cam_gerber.specs.declared.running.Running.{Running}
 use Rattle.cam_gerber.specs.Statements.{Statement}
 use Rattle.cam_gerber.specs.State.{Past}
 use Rattle.cam_gerber.specs.Homes.{Opened, open_blocks, open_repeat, InBlock, InRepeat, InLayer, home}
-use Rattle.cam_gerber.specs.Making.{made, made_at, objects_of}
+use Rattle.cam_gerber.specs.Making.{made, made_at, objects_of, IsMaker}
 use Rattle.cam_gerber.specs.Layers.{entries_in, items_in, leaves_of}
 use Rattle.cam_gerber.specs.Faults.{is_full, is_block_full}
 use Rattle.cam_gerber.specs.Laws.{IsFaultless}
-use Rattle.cam_gerber.specs.Machinery.Tracking.{IsMaker, TracksPlaces, block_of, repeat_of}
+use Rattle.cam_gerber.specs.Machinery.Tracking.{TracksPlaces, block_of, repeat_of}
 use Rattle.cam_gerber.proofs.Pasts.{Joins, joins, elsewhere, here, home_is, AreApart, stay_apart, others_stay}
 
 -- a weight of one object

@@ -14,7 +14,7 @@ use Rattle.cam_gerber.specs.Statements.{Statement, Says}
 use Rattle.cam_gerber.specs.State.{Past}
 use Rattle.cam_gerber.specs.Homes.{open_blocks, Opened, opened, is_repeated, open_repeat, Home, InBlock, InLayer}
 use Rattle.cam_gerber.specs.Homes.{home_by, home, is_same_home}
-use Rattle.cam_gerber.specs.Making.{made, made_at, objects_of}
+use Rattle.cam_gerber.specs.Making.{made, made_at, objects_of, IsMaker}
 use Rattle.cam_gerber.specs.Layers.{entries_in, items_in, leaves_of, leaves_in, macros_in, item_at, closed_block}
 use Rattle.cam_gerber.specs.Layers.{defined_by, numbered_aperture}
 use Rattle.cam_gerber.specs.Faults.{least, lower_of, command_faults, is_defined, is_taken, is_taken_again, is_empty}
@@ -25,7 +25,7 @@ use Rattle.cam_apertures.specs.declared.aperture.Aperture.{Aperture}
 use Rattle.cam_macros.specs.declared.aperture_macro.Macro.{Macro}
 use Rattle.cam_units.specs.declared.length.Unit.{Unit as FileUnit}
 use Rattle.cam_gerber.specs.Laws.{IsFaultless, KeepsHomesApart}
-use Rattle.cam_gerber.specs.Machinery.Tracking.{IsMaker, block_of}
+use Rattle.cam_gerber.specs.Machinery.Tracking.{block_of}
 use Rattle.cam_gerber.specs.declared.frames.OpenBlock.{OpenBlock as Frame}
 
 -- ---- what a statement that may make an object changes

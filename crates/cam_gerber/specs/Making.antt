@@ -105,6 +105,12 @@ made past (Says (Operate operation)) = operated (code_of operation) (in_region p
 made past (Says EndRegion) = region_in past
 made past _ = []
 
+-- it may make an object
+abbrev pub IsMaker : Statement → Type 0
+IsMaker (Says (Operate operation)) = Unit {0}
+IsMaker (Says EndRegion) = Unit {0}
+IsMaker _ = ⊥
+
 -- what is made behind a past, where that is at home there
 abbrev pub made_at : Home → Past → Statement → List Object
 made_at h past says = if is_same_home (home past) h then made past says else []

@@ -110,7 +110,7 @@ impl Running {
                 AdFault::OutOfMemory => Err(Stop::Memory),
                 _ => {
                     let number = ad_number(self.alloc, text)?;
-                    let code = fault.code();
+                    let code = fault.number();
                     Err(Stop::Fault(self.lowest(number, Some(code)).unwrap_or(code)))
                 }
             },

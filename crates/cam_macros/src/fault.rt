@@ -26,7 +26,7 @@ pub enum MacroFault {
 
 impl MacroFault {
     /// The number by which a refusal is told: 3, 29, 12, 13, 24 or 30.
-    pub fn code(self) -> u8
+    pub fn number(self) -> u8
         ensures { result ≡ number_of self }
     {
         match self {

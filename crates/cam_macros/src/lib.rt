@@ -47,4 +47,4 @@ pub use fault::MacroFault;
 pub use fields::Fields;
 pub use laws::{texts_are_parsed_by_the_grammar, texts_have_one_reading, texts_have_one_tree};
 pub use part::{Part, Parts};
-pub use primitive::{MacroPrimitive, Points, PrimShape, Prims};
+pub use primitive::{MacroPrimitive as Prim, Points, PrimShape, Prims};

@@ -159,7 +159,7 @@ module _ (es : List (ℕ × Entry)) where
         all_moved by (item_leaves means (shifted_item by item)) (item_leaves means item) (item_moved item)
 
   -- what a move asks of a box
-  item_sized : ((n : ℕ) → IsSizedMeaning (means n)) → (item : Item) → AreSized (item_leaves means item)
+  pub item_sized : ((n : ℕ) → IsSizedMeaning (means n)) → (item : Item) → AreSized (item_leaves means item)
   item_sized so (One object) = object_sized means so origin object
   item_sized so (Repeat columns rows i j objects) =
       let P : Leaf → Type 0 = λ l. IsSizedShape l.shape in

@@ -45,7 +45,7 @@ which s (x ∷ a) b (y ∷ before) last after e on off =
       | inr h ↦ inr (h.0, painted_after s (x ∷ []) a last.dark h.1)
     ]
 
-split : (s : Spot) (a b : List Leaf) (d : Bool) → IsPainted (a ++ b) s d → IsPainted b s d ⊎ (IsUncovered b s × IsPainted a s d)
+pub split : (s : Spot) (a b : List Leaf) (d : Bool) → IsPainted (a ++ b) s d → IsPainted b s d ⊎ (IsUncovered b s × IsPainted a s d)
 split s a b d h =
     subst (λ c. IsPainted b s c ⊎ (IsUncovered b s × IsPainted a s c)) h.polarity
     (which s a b h.before h.last h.after h.split h.covered h.uncovered)

@@ -8,6 +8,7 @@ pub mod Darkness
 pub mod Demands
 pub mod DrillSoundness
 pub mod Drilling
+pub mod Enclosed
 pub mod Image
 pub mod LayerLaws
 pub mod Leaves
@@ -17,5 +18,6 @@ pub mod Refusals
 pub mod Shifting
 pub mod Soundness
 pub mod Tests
+pub mod Topmost
 pub mod Turning
 pub mod Weights

@@ -1,5 +1,6 @@
 -- Words of the contracts of inner functions: they mirror the code. A reader who trusts the definitions beside this folder has read all
 -- that the theorems mean.
+pub mod Asked
 pub mod Parts
 pub mod Slots
 pub mod Painting

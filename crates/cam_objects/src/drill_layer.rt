@@ -142,11 +142,12 @@ impl DrillLayer {
         pixel.is_dark()
     }
 
-    /// The same layer in memory of its own.
-    pub fn try_copy(&self, alloc: Global) -> Result<DrillLayer, AllocError>
+    /// The same layer in memory of its own, from the allocator of this one.
+    pub fn try_copy(&self) -> Result<DrillLayer, AllocError>
         ensures tools { IfOk result (λ copy. copy.tools ≡ self.now.tools) }
         ensures items { IfOk result (λ copy. copy.items.items ≡ self.now.items.items) }
     {
+        let alloc = *self.items.allocator();
         let tools = self.tools.try_clone()?;
         let mut items = Vec::with_capacity(alloc, self.items.len())?;
         for item in &self.items {

@@ -69,7 +69,7 @@ impl Canvas for Pixel {
 }
 
 /// Whether a figure covers a place, in half nm.
-fn is_covered(figure: &Figure<'_>, spot: Spot) -> bool
+pub(crate) fn is_covered(figure: &Figure<'_>, spot: Spot) -> bool
     requires figure { IsSoundFigure figure.now }
     requires spot { IsPlace spot }
     ensures { IsTrue result ↔ Covers (shape_of figure.now) spot }

@@ -5,6 +5,7 @@ ghost use Rattle.cam_objects.specs.Demands.{DemandLaw, FirstLaw};
 ghost use Rattle.cam_objects.specs.DrillSoundness.{DrillGrowthLaw};
 ghost use Rattle.cam_objects.specs.LayerLaws.{AttributeEditLaw, DrillEditLaw, LayerEditLaw, SettingLaw};
 ghost use Rattle.cam_objects.specs.Tests.{CoverTestLaw, DrillInsideTestLaw, InsideTestLaw, TestLaw};
+ghost use Rattle.cam_objects.specs.Topmost.{TopmostLaw};
 ghost use Rattle.cam_objects.specs.Turning.{AfterLaw};
 
 /// One turn after another is the turn whose matrix is the product of theirs.
@@ -40,6 +41,12 @@ pub fn tests_tell_covers()
 /// the last leaf that covers them is dark.
 pub fn painting_in_order_makes_the_image()
     ensures { TestLaw }
+{}
+
+/// A place is black exactly where some item covers it and, of the topmost one that does, the last leaf that covers the
+/// place is dark. There is one topmost item at most.
+pub fn topmost_items_make_the_image()
+    ensures { TopmostLaw }
 {}
 
 /// The tests of items that compute hold exactly of those whose control points lie on the board.

@@ -116,12 +116,13 @@ impl Layer {
         self.items.as_slice()
     }
 
-    /// The same layer in memory of its own.
-    pub fn try_copy(&self, alloc: Global) -> Result<Layer, AllocError>
+    /// The same layer in memory of its own, from the allocator of this one.
+    pub fn try_copy(&self) -> Result<Layer, AllocError>
         ensures attributes { IfOk result (λ copy. copy.attributes.items ≡ self.now.attributes.items) }
         ensures apertures { IfOk result (λ copy. copy.apertures ≡ self.now.apertures) }
         ensures items { IfOk result (λ copy. copy.items.items ≡ self.now.items.items) }
     {
+        let alloc = *self.items.allocator();
         let attributes = copies_of(&self.attributes, alloc)?;
         let apertures = self.apertures.try_clone(alloc)?;
         let mut items = Vec::with_capacity(alloc, self.items.len())?;

@@ -32,6 +32,7 @@
 //! that compute; `LayerLaws` and `BoxLaws` say what holds of edits. `specs/Machinery/` mirrors code.
 #![tactic(auto)]
 
+mod asking;
 mod attribute;
 mod boxes;
 mod canvas;
@@ -73,7 +74,8 @@ pub use item_fault::ItemFault;
 pub use laws::{
     attributes_stay_sound, covers_lie_in_their_bounds, drill_layers_stay_sound,
     edits_stay_in_their_bounds, layers_stay_sound, painting_in_order_makes_the_image,
-    tests_tell_covers, tests_tell_demands, tests_tell_what_is_inside, turns_follow_their_matrices,
+    tests_tell_covers, tests_tell_demands, tests_tell_what_is_inside, topmost_items_make_the_image,
+    turns_follow_their_matrices,
 };
 pub use layer::Layer;
 pub use object::{Object, Objects};

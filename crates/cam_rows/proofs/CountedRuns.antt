@@ -15,7 +15,7 @@ use Rattle.cam_rows.specs.Runs.{AreEnds}
 
 pub counted_ends : (ends : List ℕ) (n : ℕ) (top left : Centres) (P Q : Spot → Type 0) (h : HalfPlane)
     → left ≡ leftmost top → IsHalfPlaneOf left P h → ((s : Spot) → P s ↔ Q s) → length ends ≡ n
-    → AreCounted top.count (IsUp (numbers_of h)) n ends → AreEnds ends top Q
+    → AreCounted top.n (IsUp (numbers_of h)) n ends → AreEnds ends top Q
 counted_ends ends n top left P Q h is half same size counted =
     let told : (k i : ℕ) → IsUp (numbers_of h) k i ↔ P (centre_at (row_below top k) i) = rw is at half.tells in
     record {

@@ -18,7 +18,7 @@ found_anew firsts ends new_firsts new_ends top IsIn size runs = record {
 -- or those in the runs alone
 pub found_narrowed : (firsts ends new_firsts new_ends : List ℕ) (top : Centres) (P Q : Spot → Type 0)
     → ((s : Spot) → P s ↔ Q s)
-    → AreNarrowed top.count firsts ends (λ k i. P (centre_at (row_below top k) i)) (length firsts) new_firsts new_ends
+    → AreNarrowed top.n firsts ends (λ k i. P (centre_at (row_below top k) i)) (length firsts) new_firsts new_ends
     → AreFound firsts ends top Q new_firsts new_ends
 found_narrowed firsts ends new_firsts new_ends top P Q same narrowed = record {
   held = λ k i within small on. (same _).0 ((narrowed.each k i within small).0 on).1;

@@ -1,32 +1,27 @@
--- Rows that are joined lane by lane, from the first lane on.
-use Rattle.std.proofs.Common.{◌≡◌, ℕ, ◌+◌, ◌<◌, ◌≤◌, ◌≢◌, ◌↔◌, List, length, slice_index, slice_set}
-use Rattle.std.proofs.Common.{get_or-set_other, get_or-set_same, inl, inr, ◌∙◌, arith}
-use Rattle.std.proofs.Math.ListN.{length-set}
+-- Rows that are joined lane by lane.
+use Rattle.std.proofs.Common.{◌≡◌, ℕ, ◌<◌, ◌↔◌, List, length, arith, bit_and}
+use Rattle.std.proofs.lemmas.Simd.{get_or-zip2, length-zip2}
 use Rattle.std.specs.Int.{IsBitSet}
-use Rattle.std.proofs.lemmas.Bool.{cases_lt}
-use Rattle.cam_rows.specs.Lanes.{IsSetIn}
+use Rattle.std.specs.Int.RustNames.{bit_xor}
+use Rattle.std.specs.Simd.Lanes.{zip2}
+use Rattle.cam_rows.specs.Lanes.{AreJoined}
+use Rattle.cam_rows.proofs.SetBits.{set_in_and, set_in_xor}
 
--- the lanes below an end are joined, and the others as they were
-pub record AreJoinedBelow (how : Type 0 → Type 0 → Type 0) (old other new : List ℕ) (end : ℕ) : Type 0 where
-  pub joined : (k i : ℕ) → k < end → i < 64 → IsSetIn new k i ↔ how (IsSetIn old k i) (IsSetIn other k i)
-  pub size : length new ≡ length old
-  pub kept : (k : ℕ) → end ≤ k → slice_index new k ≡ slice_index old k
+without : (a b i : ℕ) → IsBitSet (bit_xor a (bit_and a b)) i ↔ (IsBitSet a i × (IsBitSet b i → ⊥))
+without a b i = grind (arith, set_in_and a b i, set_in_xor a (bit_and a b) i)
 
--- one more lane
-pub next_lane : (how : Type 0 → Type 0 → Type 0) (old other new : List ℕ) (lane row : ℕ) → lane < length old
-    → AreJoinedBelow how old other new lane
-    → ((i : ℕ) → i < 64 → IsBitSet row i ↔ how (IsSetIn new lane i) (IsSetIn other lane i))
-    → AreJoinedBelow how old other (slice_set new lane row) (lane + 1)
-next_lane how old other new lane row within below here =
-    let inside : lane < length new = omega (arith, below.size, within) in record {
-      joined = λ k i early small. elim (cases_lt k lane) [
-        | inl before ↦
-            let apart : k ≢ lane = omega arith in
-            rw get_or-set_other (below.joined k i before small)
-        | inr after ↦
-            let same : k ≡ lane = omega arith in
-            rw (same, get_or-set_same, ← below.kept lane (omega arith)) (here i small)
-      ];
-      size = length-set new lane row ∙ below.size;
-      kept = λ k late. let apart : k ≢ lane = omega arith in rw get_or-set_other (below.kept k (omega arith));
-    }
+module _ (old other : List ℕ) (whole : length old ≡ 64) (same : length other ≡ 64) where
+  pub lanes_joined : (how : Type 0 → Type 0 → Type 0) (f : ℕ → ℕ → ℕ)
+      → ((x y i : ℕ) → IsBitSet (f x y) i ↔ how (IsBitSet x i) (IsBitSet y i)) → AreJoined how old other (zip2 f old other)
+  lanes_joined how f each k i lane small =
+      rw (get_or-zip2 f old other k 0 0 0 (omega (arith, whole)) (omega (arith, same))) (each _ _ i)
+
+  pub lanes_cleared : AreJoined (λ P Q. P × (Q → ⊥)) old other (zip2 bit_xor old (zip2 bit_and old other))
+  lanes_cleared k i lane small =
+      let here : k < length old = omega (arith, whole) in
+      let there : k < length other = omega (arith, same) in
+      rw (
+        get_or-zip2 bit_xor old (zip2 bit_and old other) k 0 0 0 here
+            (omega (arith, length-zip2 bit_and old other (omega (arith, whole, same)), here)),
+        get_or-zip2 bit_and old other k 0 0 0 here there,
+      ) (without _ _ i)

@@ -74,14 +74,14 @@ place_at o i = offset o.first o.step i
 -- the sides of a circle's middle in a row
 module _ (row : Centres) (p : Point) (o : Offsets) (m pitch left right : ℕ) (x : ℤ) (wide : IsWideRow row)
     (near : AreNearby p row 0) (columns : AreOffsetsFrom row p o) (is_pitch : o.step ≡ pos pitch)
-    (is_middle : x ≡ pos 2 *ℤ p.x) (is_left : (i : ℕ) → i < row.count → (i < m) ↔ ((centre_at row i).x <ℤ x))
-    (few : m ≤ row.count) where
-  seen : (i : ℕ) → place_at o i ≡ (row.first.x +ℤ pos i *ℤ row.step) -ℤ pos 2 *ℤ p.x
+    (is_middle : x ≡ pos 2 *ℤ p.x) (is_left : (i : ℕ) → i < row.n → (i < m) ↔ ((centre_at row i).x <ℤ x))
+    (few : m ≤ row.n) where
+  seen : (i : ℕ) → place_at o i ≡ (row.x +ℤ pos i *ℤ row.step) -ℤ pos 2 *ℤ p.x
   seen i = columns.each i
 
-  near_place : (i : ℕ) → i < row.count → unsigned_abs (place_at o i) < 2 ^ 32
+  near_place : (i : ℕ) → i < row.n → unsigned_abs (place_at o i) < 2 ^ 32
   near_place i within =
-      let short : unsigned_abs ((row.first.x +ℤ pos i *ℤ row.step) -ℤ pos 2 *ℤ p.x) < 2 ^ 32 = near.columns i within in
+      let short : unsigned_abs ((row.x +ℤ pos i *ℤ row.step) -ℤ pos 2 *ℤ p.x) < 2 ^ 32 = near.columns i within in
       rw (seen i) short
 
   pub middle_near : unsigned_abs (place_at o m) < 2 ^ 33
@@ -92,7 +92,7 @@ module _ (row : Centres) (p : Point) (o : Offsets) (m pitch left right : ℕ) (x
 
   left_of_middle : (i : ℕ) → i < m → place_at o i <ℤ pos 0
   left_of_middle i before =
-      let less : (row.first.x +ℤ pos i *ℤ row.step) <ℤ x = (is_left i (omega (arith, before, few))).0 before in
+      let less : (row.x +ℤ pos i *ℤ row.step) <ℤ x = (is_left i (omega (arith, before, few))).0 before in
       omega (arith, ints, less, seen i, is_middle)
 
   pub from_left : 0 < m → pos 0 ≤ℤ (o.step -ℤ place_at o m)
@@ -100,7 +100,7 @@ module _ (row : Centres) (p : Point) (o : Offsets) (m pitch left right : ℕ) (x
       let last = left_of_middle (m - 1) (omega (arith, some)) in
       omega (arith, ints, last, before_next o.first o.step pitch m is_pitch some)
 
-  pub from_right : m < row.count → pos 0 ≤ℤ place_at o m
+  pub from_right : m < row.n → pos 0 ≤ℤ place_at o m
   from_right some = by_lt_z (place_at o m) (pos 0)
       (λ less.
       let before = (is_left m some).1 (omega (arith, ints, less, seen m, is_middle)) in absurd (omega (arith, before)))
@@ -113,14 +113,14 @@ module _ (row : Centres) (p : Point) (o : Offsets) (m pitch left right : ℕ) (x
         (is_start (omega (arith, before))) before in
         omega (arith, ints, at, near_place (m - 1 - j) (omega (arith, before, few)))
 
-  module _ (is_start : m < row.count → pos right ≡ place_at o m) where
-    pub right_near : (j : ℕ) → j < row.count - m → right + j * pitch < 2 ^ 32
+  module _ (is_start : m < row.n → pos right ≡ place_at o m) where
+    pub right_near : (j : ℕ) → j < row.n - m → right + j * pitch < 2 ^ 32
     right_near j before =
         let at = right_distance o.first o.step (place_at o m) pitch right m j is_pitch refl
         (is_start (omega (arith, before))) in
         omega (arith, ints, at, near_place (m + j) (omega (arith, before)))
 
-  module _ (is_left_start : 0 < m → pos left ≡ o.step -ℤ place_at o m) (is_right_start : m < row.count → pos right ≡ place_at o m)
+  module _ (is_left_start : 0 < m → pos left ≡ o.step -ℤ place_at o m) (is_right_start : m < row.n → pos right ≡ place_at o m)
     where
       pub chord_of : (s t : ChordSide) → IsSide s → IsSide t → HasReached s s.room → HasReached t t.room
           → s.start ≡ left → t.start ≡ right → s.step ≡ pitch → t.step ≡ pitch → s.columns ≡ m

@@ -10,7 +10,7 @@ use Rattle.cam_shapes.proofs.Widths.{narrow}
 use Rattle.cam_rows.specs.declared.centres.Centres.{Centres}
 use Rattle.cam_rows.specs.declared.offsets.Offsets.{Offsets}
 use Rattle.cam_rows.specs.Machinery.Chords.{AreNearby, AreOffsetsFrom, offset}
-use Rattle.cam_rows.specs.Rows.{row_below}
+use Rattle.cam_rows.specs.Rows.{first_of, row_below}
 use Rattle.cam_rows.specs.Runs.{IsWideRow}
 use Rattle.cam_rows.proofs.Circling.{square_of}
 use Rattle.cam_rows.proofs.Columns.{goes_right}
@@ -25,15 +25,15 @@ rising step k last within some =
 
 pub near_rows : (p : Point) (top : Centres) (n : ℕ) (o : Offsets) → IsWideRow top → AreOffsetsFrom top p o
     → top.step <ℤ pos (2 ^ 32) → (pos 0 -ℤ pos (2 ^ 32)) <ℤ o.first
-    → offset o.first o.step (top.count - 1) <ℤ pos (2 ^ 32)
-    → (pos 0 -ℤ pos (2 ^ 32)) <ℤ ((top.first.y -ℤ pos (n - 1) *ℤ top.step) -ℤ pos 2 *ℤ p.y)
-    → (top.first.y -ℤ pos 2 *ℤ p.y) <ℤ pos (2 ^ 32) → AreNearby p top n
+    → offset o.first o.step (top.n - 1) <ℤ pos (2 ^ 32)
+    → (pos 0 -ℤ pos (2 ^ 32)) <ℤ ((top.y -ℤ pos (n - 1) *ℤ top.step) -ℤ pos 2 *ℤ p.y)
+    → (top.y -ℤ pos 2 *ℤ p.y) <ℤ pos (2 ^ 32) → AreNearby p top n
 near_rows p top n o wide columns step left right low high = record {
   step = step;
   columns = λ i within.
-      let seen : offset o.first o.step i ≡ (top.first.x +ℤ pos i *ℤ top.step) -ℤ pos 2 *ℤ p.x = columns.each i in
+      let seen : offset o.first o.step i ≡ (top.x +ℤ pos i *ℤ top.step) -ℤ pos 2 *ℤ p.x = columns.each i in
       let after = goes_right o.first o.step 0 i (rw columns.step wide.step) (omega arith) in
-      let before = goes_right o.first o.step i (top.count - 1) (rw columns.step wide.step) (omega (arith, within)) in
+      let before = goes_right o.first o.step i (top.n - 1) (rw columns.step wide.step) (omega (arith, within)) in
       let near : unsigned_abs (offset o.first o.step i) < 2 ^ 32 = omega (arith, ints, left, right, after, before) in
       rw seen at near;
   rows = λ k within.
@@ -43,23 +43,23 @@ near_rows p top n o wide columns step left right low high = record {
 
 -- the height of the top row, as 64 bits pass it
 pub top_height_near : (p : Point) (top : Centres) (n : ℕ) (h : ℤ) → AreNearby p top n → 0 < n
-    → h ≡ (seen_from p top.first).y → unsigned_abs (narrow h) < 2 ^ 32
+    → h ≡ (seen_from p (first_of top)).y → unsigned_abs (narrow h) < 2 ^ 32
 top_height_near p top n h near some is =
-    let here : h ≡ top.first.y -ℤ pos 2 *ℤ p.y = is in
-    let short : unsigned_abs ((top.first.y -ℤ pos 0 *ℤ top.step) -ℤ pos 2 *ℤ p.y) < 2 ^ 32 = near.rows 0 some in
+    let here : h ≡ top.y -ℤ pos 2 *ℤ p.y = is in
+    let short : unsigned_abs ((top.y -ℤ pos 0 *ℤ top.step) -ℤ pos 2 *ℤ p.y) < 2 ^ 32 = near.rows 0 some in
     omega (arith, ints, here, short)
 
 pub top_height : (p : Point) (top : Centres) (n : ℕ) (h : ℤ) → AreNearby p top n → 0 < n
-    → h ≡ (seen_from p top.first).y → narrow h ≡ (seen_from p (row_below top 0).first).y
+    → h ≡ (seen_from p (first_of top)).y → narrow h ≡ (seen_from p (first_of (row_below top 0))).y
 top_height p top n h near some is =
-    let here : h ≡ top.first.y -ℤ pos 2 *ℤ p.y = is in
-    let short : unsigned_abs ((top.first.y -ℤ pos 0 *ℤ top.step) -ℤ pos 2 *ℤ p.y) < 2 ^ 32 = near.rows 0 some in
+    let here : h ≡ top.y -ℤ pos 2 *ℤ p.y = is in
+    let short : unsigned_abs ((top.y -ℤ pos 0 *ℤ top.step) -ℤ pos 2 *ℤ p.y) < 2 ^ 32 = near.rows 0 some in
     omega (arith, ints, here, short)
 
 -- the square of a row's height
-pub height_square : (p : Point) (c : Centres) (h : ℤ) → h ≡ (seen_from p c.first).y
-    → pos (unsigned_abs h * unsigned_abs h) ≡ square (seen_from p c.first).y
-height_square p c h is = rw is (square_of _ (seen_from p c.first).y refl)
+pub height_square : (p : Point) (c : Centres) (h : ℤ) → h ≡ (seen_from p (first_of c)).y
+    → pos (unsigned_abs h * unsigned_abs h) ≡ square (seen_from p (first_of c)).y
+height_square p c h is = rw is (square_of _ (seen_from p (first_of c)).y refl)
 
 less_step : (y step middle h : ℤ) (pitch k : ℕ) → step ≡ pos pitch → h ≡ (y -ℤ pos k *ℤ step) -ℤ middle
     → unsigned_abs ((y -ℤ pos k *ℤ step) -ℤ middle) < 2 ^ 32 → step <ℤ pos (2 ^ 32)
@@ -72,14 +72,14 @@ less_step y step middle h pitch k is_pitch is short small =
 
 -- the height of the next row, as 64 bits compute it
 pub next_height : (p : Point) (top : Centres) (n k : ℕ) (h : ℤ) → AreNearby p top n → k < n → pos 1 ≤ℤ top.step
-    → h ≡ (seen_from p (row_below top k).first).y
+    → h ≡ (seen_from p (first_of (row_below top k))).y
     → FitsSigned w64 (h -ℤ narrow top.step)
-    × (narrow (h -ℤ narrow top.step) ≡ (seen_from p (row_below top (k + 1)).first).y)
+    × (narrow (h -ℤ narrow top.step) ≡ (seen_from p (first_of (row_below top (k + 1)))).y)
 next_height p top n k h near within positive is =
-    let here : h ≡ (top.first.y -ℤ pos k *ℤ top.step) -ℤ pos 2 *ℤ p.y = is in
-    let short : unsigned_abs ((top.first.y -ℤ pos k *ℤ top.step) -ℤ pos 2 *ℤ p.y) < 2 ^ 32 = near.rows k within in
+    let here : h ≡ (top.y -ℤ pos k *ℤ top.step) -ℤ pos 2 *ℤ p.y = is in
+    let short : unsigned_abs ((top.y -ℤ pos k *ℤ top.step) -ℤ pos 2 *ℤ p.y) < 2 ^ 32 = near.rows k within in
     let step = near.step in
     let pitch : top.step ≡ pos (unsigned_abs top.step) = omega (arith, ints, positive) in (
       omega (arith, ints, here, short, step, positive),
-      less_step (top.first.y) top.step (pos 2 *ℤ p.y) h (unsigned_abs top.step) k pitch here short step,
+      less_step (top.y) top.step (pos 2 *ℤ p.y) h (unsigned_abs top.step) k pitch here short step,
     )

@@ -10,8 +10,8 @@ use Rattle.cam_rows.proofs.Slopes.{top_row}
 
 -- the bits of a run are those of the shape whose run it is
 pub marks_run : (row first end : ℕ) (c : Centres) (IsIn : Spot → Type 0)
-    → ((i : ℕ) → i < 64 → IsBitSet row i ↔ ((i < c.count) × IsInRun first end (0 + i)))
-    → ((i : ℕ) → i < c.count → IsInRun first end i ↔ IsIn (centre_at (row_below c 0) i)) → Marks row c IsIn
+    → ((i : ℕ) → i < 64 → IsBitSet row i ↔ ((i < c.n) × IsInRun first end (0 + i)))
+    → ((i : ℕ) → i < c.n → IsInRun first end i ↔ IsIn (centre_at (row_below c 0) i)) → Marks row c IsIn
 marks_run row first end c IsIn bits run i small =
     let bit = bits i small in
     let here = ap (λ (d : Centres). centre_at d i) (top_row c) in (

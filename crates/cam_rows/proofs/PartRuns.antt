@@ -18,9 +18,6 @@ module _ (first end : ℕ) (old part : List ℕ) (some : first < end) (long : en
   abbrev pub written : List ℕ
   written = put_mid first (end - first) old part
 
-  written_length : length written ≡ length old
-  written_length = search (rules, places)
-
   part_at : (k : ℕ) → first ≤ k → k < end → slice_index written k ≡ slice_index part (k - first)
   part_at k after until = search (rules, places)
 
@@ -135,8 +132,8 @@ further_down y step first k =
 
 pub below_part : (top : Centres) (first k : ℕ) → row_below (row_below top first) k ≡ row_below top (first + k)
 below_part top first k =
-    ap (λ y. record { first = record { x = top.first.x; y = y }; step = top.step; count = top.count })
-    (further_down top.first.y top.step first k)
+    ap (λ y. record { x = top.x; y = y; step = top.step; n = top.n })
+    (further_down top.y top.step first k)
 
 pub part_rows : (top : Centres) (first count n : ℕ) → first + count ≤ n → AreWideRows top n
     → AreWideRows (row_below top first) count

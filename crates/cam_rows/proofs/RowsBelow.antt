@@ -18,7 +18,7 @@ few_steps y step steps h k l =
     omega (arith, ints, mul-le steps 1 steps pitch (omega arith) (omega (arith, ints)))
 
 -- the top row lies in reach
-pub top_near : (top : Centres) → IsWideRow top → unsigned_abs top.first.y < 4000000000
+pub top_near : (top : Centres) → IsWideRow top → unsigned_abs top.y < 4000000000
 top_near top row = (row.centres 0 (omega (arith, row.count.0))).y
 
 -- how many of them lie at a height or above it, by division

@@ -39,14 +39,14 @@ lowered_more k s = ap (from_first s) (one_more_step s.first s.down k)
 
 -- the top row
 lifted : Centres → ℤ → Centres
-lifted c y = record { first = record { x = c.first.x; y = y }; step = c.step; count = c.count }
+lifted c y = record { x = c.x; y = y; step = c.step; n = c.n }
 
 no_fall : (y step : ℤ) → y -ℤ pos 0 *ℤ step ≡ y
 no_fall y step = equal (Difference (Atom y) (Product (Atom (pos 0)) (Atom step))) (Atom y) (omega arith)
 
 pub top_row : (c : Centres) → row_below c 0 ≡ c
 unfolding lifted
-top_row c = ap (lifted c) (no_fall c.first.y c.step)
+top_row c = ap (lifted c) (no_fall c.y c.step)
 
 -- the numbers of a row are short
 short_gap : (a p : ℤ) → unsigned_abs a < 4000000000 → unsigned_abs p < 1000000000
@@ -114,7 +114,7 @@ pub dot_below : (p q : Point) (c : Centres) (s : Sloped) (k i : ℕ)
 dot_below p q c s k i e down =
     below_first s.first s.step (dot (way p q) (seen_from p (centre_at c i)))
     (dot (way p q) (seen_from p (centre_at (row_below c k) i))) s.down k i e
-    (lower_dot (way p q).x (way p q).y (seen_from p (centre_at c i)).x c.first.y p.y c.step s.down k down)
+    (lower_dot (way p q).x (way p q).y (seen_from p (centre_at c i)).x c.y p.y c.step s.down k down)
 
 pub cross_below : (p q : Point) (c : Centres) (s : Sloped) (k i : ℕ)
     → s.first +ℤ pos i *ℤ s.step ≡ cross (way p q) (seen_from p (centre_at c i))
@@ -123,4 +123,4 @@ pub cross_below : (p q : Point) (c : Centres) (s : Sloped) (k i : ℕ)
 cross_below p q c s k i e down =
     below_first s.first s.step (cross (way p q) (seen_from p (centre_at c i)))
     (cross (way p q) (seen_from p (centre_at (row_below c k) i))) s.down k i e
-    (lower_cross (way p q).x (way p q).y (seen_from p (centre_at c i)).x c.first.y p.y c.step s.down k down)
+    (lower_cross (way p q).x (way p q).y (seen_from p (centre_at c i)).x c.y p.y c.step s.down k down)

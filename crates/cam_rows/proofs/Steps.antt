@@ -48,12 +48,12 @@ wide_row c row = record {
 }
 
 -- the first and the last of some centres are places of the board
-pub first_near : (c : Centres) → IsWideRow c → unsigned_abs c.first.x < 4000000000
+pub first_near : (c : Centres) → IsWideRow c → unsigned_abs c.x < 4000000000
 first_near c row =
     let p : IsInReach (centre_at c 0) = row.centres 0 (omega (arith, row.count.0)) in omega (arith, ints, p.x)
 
-pub last_near : (c : Centres) → IsWideRow c → unsigned_abs (c.first.x +ℤ pos (c.count - 1) *ℤ c.step) < 4000000000
-last_near c row = (row.centres (c.count - 1) (omega (arith, row.count.0))).x
+pub last_near : (c : Centres) → IsWideRow c → unsigned_abs (c.x +ℤ pos (c.n - 1) *ℤ c.step) < 4000000000
+last_near c row = (row.centres (c.n - 1) (omega (arith, row.count.0))).x
 
 -- a gap, and how far the last centre lies from the first one, as 64 bits compute them
 pub gap_fits : (x first : ℤ) → unsigned_abs x < 2 ^ 62 → unsigned_abs first < 4000000000

@@ -75,8 +75,8 @@ module _ (h f : HalfPlane) (low high : Sloped) (reach e : ℤ)
 pub strip_runs : (firsts ends : List ℕ) (n : ℕ) (top left : Centres) (h : HalfPlane) (low high : Crossing) (t : Steps)
     (reach : ℤ) (number : Spot → ℤ) → left ≡ leftmost top
     → ((k i : ℕ) → number_on (lowered k (numbers_of h)) i ≡ number (centre_at (row_below left k) i))
-    → IsStripIn n low high t reach h → length firsts ≡ n → AreCounted top.count (IsUp (falling low t)) n firsts
-    → AreCounted top.count (IsUp (falling high t)) n ends → AreRuns firsts ends top (λ s. IsWithinReach (number s) reach)
+    → IsStripIn n low high t reach h → length firsts ≡ n → AreCounted top.n (IsUp (falling low t)) n firsts
+    → AreCounted top.n (IsUp (falling high t)) n ends → AreRuns firsts ends top (λ s. IsWithinReach (number s) reach)
 strip_runs firsts ends n top left h low high t reach number is numbers strip size starts stops =
     let told : (k i : ℕ) → number_on (lowered k (numbers_of h)) i ≡ number (centre_at (row_below top k) i) =
     rw is at numbers in

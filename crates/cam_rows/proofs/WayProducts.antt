@@ -105,11 +105,11 @@ pub opposite_short : (z : ℤ) → unsigned_abs z < 2 ^ 100 → unsigned_abs (po
 opposite_short z h = omega (arith, ints)
 
 -- the leftmost centre is in reach
-pub first_x : (c : Centres) → IsRow c → unsigned_abs c.first.x < 4000000000
+pub first_x : (c : Centres) → IsRow c → unsigned_abs c.x < 4000000000
 first_x c row =
     let p : IsInReach (centre_at c 0) = row.centres 0 (omega (arith, row.count.0)) in omega (arith, ints, p.x)
 
-pub first_y : (c : Centres) → IsRow c → unsigned_abs c.first.y < 4000000000
+pub first_y : (c : Centres) → IsRow c → unsigned_abs c.y < 4000000000
 first_y c row = let p : IsInReach (centre_at c 0) = row.centres 0 (omega (arith, row.count.0)) in p.y
 
 -- the numbers are products with the ways to the centres

@@ -16,7 +16,7 @@ use Rattle.cam_rows.specs.declared.offsets.Offsets.{Offsets}
 use Rattle.cam_rows.specs.Machinery.Chords.{AreOffsetsFrom, AreWideOffsets, offset}
 use Rattle.cam_rows.specs.Machinery.HalfPlanes.{AreRows, IsHalfPlaneOf, numbers_of}
 use Rattle.cam_rows.specs.Machinery.Narrowing.{AreNarrowed, IsInRow, IsNearer, IsUp, leftmost}
-use Rattle.cam_rows.specs.Rows.{IsRow, centre_at, row_below}
+use Rattle.cam_rows.specs.Rows.{IsRow, centre_at, first_of, row_below}
 use Rattle.cam_rows.specs.Runs.{AreRuns, AreWideRows, IsInRun, IsWideRow}
 use Rattle.cam_rows.proofs.Chords.{seen_in_chord}
 use Rattle.cam_rows.proofs.Columns.{offset_is, offset_short}
@@ -39,22 +39,22 @@ leftmost_rows top left n m is size rows k within =
     rw is (leftmost_row (row_below top k) (rows k (omega (arith, size, within))))
 
 -- how far the centres lie from a point
-module _ (row : Centres) (p : Point) (first step : ℤ) (wide : IsWideRow row) (e : first ≡ row.first.x -ℤ pos 2 *ℤ p.x)
+module _ (row : Centres) (p : Point) (first step : ℤ) (wide : IsWideRow row) (e : first ≡ row.x -ℤ pos 2 *ℤ p.x)
     (f : step ≡ row.step) where
-  pub offsets_from : AreOffsetsFrom row p (record { first = first; step = step; count = row.count })
+  pub offsets_from : AreOffsetsFrom row p (record { first = first; step = step; count = row.n })
   offsets_from = record {
-    each = λ i. offset_is row.first.x row.step (pos 2 *ℤ p.x) first step i e f;
+    each = λ i. offset_is row.x row.step (pos 2 *ℤ p.x) first step i e f;
     step = f;
     count = refl;
   }
 
-  pub wide_offsets : IsOnBoard p → AreWideOffsets (record { first = first; step = step; count = row.count })
+  pub wide_offsets : IsOnBoard p → AreWideOffsets (record { first = first; step = step; count = row.n })
   wide_offsets on =
       let start = (wide.centres 0 (omega (arith, wide.count))).x in
       record {
         step = rw f wide.step;
         short = λ i within.
-            offset_short row.first.x row.step (pos 2 *ℤ p.x) first step i e f (omega (arith, ints, on.x))
+            offset_short row.x row.step (pos 2 *ℤ p.x) first step i e f (omega (arith, ints, on.x))
             (omega (arith, ints, start)) (wide.centres i within).x;
       }
 
@@ -65,7 +65,7 @@ abbrev pub IsAny : Spot → Type 0
 IsAny s = 0 ≤ 0
 
 pub whole_runs : (firsts ends : List ℕ) (top : Centres) → ((k : ℕ) → k < length firsts → slice_index firsts k ≡ 0)
-    → ((k : ℕ) → k < length firsts → slice_index ends k ≡ top.count) → AreRuns firsts ends top IsAny
+    → ((k : ℕ) → k < length firsts → slice_index ends k ≡ top.n) → AreRuns firsts ends top IsAny
 whole_runs firsts ends top begin end = record {
   each = λ k i within small. (
     (λ _. omega arith),
@@ -76,7 +76,7 @@ whole_runs firsts ends top begin end = record {
 
 pub runs_kept : (firsts ends new_firsts new_ends : List ℕ) (top : Centres) (P Q : Spot → Type 0)
     → AreRuns firsts ends top P
-    → AreNarrowed top.count firsts ends (λ k i. Q (centre_at (row_below top k) i)) (length firsts) new_firsts new_ends
+    → AreNarrowed top.n firsts ends (λ k i. Q (centre_at (row_below top k) i)) (length firsts) new_firsts new_ends
     → length new_firsts ≡ length firsts → AreRuns new_firsts new_ends top (λ s. P s × Q s)
 runs_kept firsts ends new_firsts new_ends top P Q runs narrowed size = record {
   each = λ k i within small.
@@ -104,7 +104,7 @@ empty_runs firsts ends top P end none = record {
 
 pub runs_narrowed : (firsts ends new_firsts new_ends : List ℕ) (top left : Centres) (P Q : Spot → Type 0)
     (h : HalfPlane) → left ≡ leftmost top → IsHalfPlaneOf left Q h → AreRuns firsts ends top P
-    → AreNarrowed top.count firsts ends (IsUp (numbers_of h)) (length firsts) new_firsts new_ends
+    → AreNarrowed top.n firsts ends (IsUp (numbers_of h)) (length firsts) new_firsts new_ends
     → length new_firsts ≡ length firsts → AreRuns new_firsts new_ends top (λ s. P s × Q s)
 runs_narrowed firsts ends new_firsts new_ends top left P Q h is half runs narrowed size =
     let told : (k i : ℕ) → IsUp (numbers_of h) k i ↔ Q (centre_at (row_below top k) i) = rw is at half.tells in
@@ -134,8 +134,8 @@ runs_like firsts ends top P Q same runs = record {
 -- ---- runs that are found one after another
 
 pub record AreRunsAbove (firsts ends : List ℕ) (top : Centres) (IsIn : Spot → Type 0) (end : ℕ) : Type 0 where
-  pub each : (k i : ℕ) → k < end → i < top.count → IsInRow firsts ends k i ↔ IsIn (centre_at (row_below top k) i)
-  pub within : (k : ℕ) → k < end → slice_index ends k ≤ top.count
+  pub each : (k i : ℕ) → k < end → i < top.n → IsInRow firsts ends k i ↔ IsIn (centre_at (row_below top k) i)
+  pub within : (k : ℕ) → k < end → slice_index ends k ≤ top.n
 
 pub no_run : (firsts ends : List ℕ) (top : Centres) (IsIn : Spot → Type 0) → AreRunsAbove firsts ends top IsIn 0
 no_run firsts ends top IsIn = record {
@@ -145,7 +145,7 @@ no_run firsts ends top IsIn = record {
 
 pub one_more_run : (firsts ends : List ℕ) (top : Centres) (IsIn : Spot → Type 0) (row first end : ℕ)
     → row < length firsts → row < length ends → AreRunsAbove firsts ends top IsIn row
-    → ((i : ℕ) → i < top.count → IsInRun first end i ↔ IsIn (centre_at (row_below top row) i)) → end ≤ top.count
+    → ((i : ℕ) → i < top.n → IsInRun first end i ↔ IsIn (centre_at (row_below top row) i)) → end ≤ top.n
     → AreRunsAbove (slice_set firsts row first) (slice_set ends row end) top IsIn (row + 1)
 one_more_run firsts ends top IsIn row first end in_firsts in_ends above here fits = record {
   each = λ k i early small. elim (cases_lt k row) [
@@ -176,7 +176,7 @@ in_no_run first end i P none off = ((λ on. absurd (omega (arith, on.1, none))),
 
 -- a column of a row that lies so high, by its distance to the side
 pub near_column : (top : Centres) (p : Point) (o : Offsets) (k i height room bound : ℕ) → AreOffsetsFrom top p o
-    → pos height ≡ square (seen_from p (row_below top k).first).y → room ≡ bound - height
+    → pos height ≡ square (seen_from p (first_of (row_below top k))).y → room ≡ bound - height
     → (square (offset o.first o.step i) <ℤ pos room) ↔ IsNearer p bound (centre_at (row_below top k) i)
 near_column top p o k i height room bound columns e is =
     rw (is, columns.each i) (seen_in_chord (seen_from p (centre_at (row_below top k) i)) height bound e)

@@ -7,23 +7,23 @@ use Rattle.cam_rows.specs.declared.centres.Centres.{Centres}
 
 -- the centre of a pixel, which is counted from the left
 abbrev pub centre_at : Centres → ℕ → Spot
-centre_at c i = record { x = c.first.x +ℤ pos i *ℤ c.step; y = c.first.y }
+centre_at c i = record { x = c.x +ℤ pos i *ℤ c.step; y = c.y }
+
+-- the leftmost one
+abbrev pub first_of : Centres → Spot
+first_of c = record { x = c.x; y = c.y }
 
 -- from 1 to 64 centres, each right of the one before it, all of them places of the board, or as they are seen from a
 -- point of it
 pub record IsRow (c : Centres) : Type 0 where
-  pub count : (1 ≤ c.count) × (c.count ≤ 64)
+  pub count : (1 ≤ c.n) × (c.n ≤ 64)
   pub step : pos 1 ≤ℤ c.step
-  pub centres : (i : ℕ) → i < c.count → IsInReach (centre_at c i)
+  pub centres : (i : ℕ) → i < c.n → IsInReach (centre_at c i)
 
 -- bit i of a row is set exactly where the shape holds centre i; bits behind the last centre are clear
 abbrev pub Marks : ℕ → Centres → (Spot → Type 0) → Type 0
-Marks row c IsIn = (i : ℕ) → i < 64 → IsBitSet row i ↔ ((i < c.count) × IsIn (centre_at c i))
+Marks row c IsIn = (i : ℕ) → i < 64 → IsBitSet row i ↔ ((i < c.n) × IsIn (centre_at c i))
 
 -- the row that lies so many steps lower
 abbrev pub row_below : Centres → ℕ → Centres
-row_below c k = record {
-  first = record { x = c.first.x; y = c.first.y -ℤ pos k *ℤ c.step };
-  step = c.step;
-  count = c.count;
-}
+row_below c k = record { x = c.x; y = c.y -ℤ pos k *ℤ c.step; step = c.step; n = c.n }

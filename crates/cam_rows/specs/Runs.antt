@@ -12,9 +12,9 @@ most_columns = 32768
 -- up to so many centres, each right of the one before it, all of them places of the board, or as they are seen from a
 -- point of it
 pub record IsWideRow (c : Centres) : Type 0 where
-  pub count : (1 ≤ c.count) × (c.count ≤ most_columns)
+  pub count : (1 ≤ c.n) × (c.n ≤ most_columns)
   pub step : pos 1 ≤ℤ c.step
-  pub centres : (i : ℕ) → i < c.count → IsInReach (centre_at c i)
+  pub centres : (i : ℕ) → i < c.n → IsInReach (centre_at c i)
 
 -- so many of them, one below another from the top one
 abbrev pub AreWideRows : Centres → ℕ → Type 0
@@ -27,22 +27,22 @@ IsInRun first end i = (first ≤ i) × (i < end)
 -- the first columns of runs and their ends, in rows one below another from the top one: a column of a row is in its run
 -- exactly where the shape holds its centre, and no run goes on behind the last column
 pub record AreRuns (firsts ends : List ℕ) (top : Centres) (IsIn : Spot → Type 0) : Type 0 where
-  pub each : (k i : ℕ) → k < length firsts → i < top.count
+  pub each : (k i : ℕ) → k < length firsts → i < top.n
       → IsInRun (slice_index firsts k) (slice_index ends k) i ↔ IsIn (centre_at (row_below top k) i)
-  pub within : (k : ℕ) → k < length firsts → slice_index ends k ≤ top.count
+  pub within : (k : ℕ) → k < length firsts → slice_index ends k ≤ top.n
 
 -- runs from the leftmost column on, by their ends, in rows one below another from the top one: a column of a row lies
 -- before its row's end exactly where the shape holds its centre, and no run goes on behind the last column
 pub record AreEnds (ends : List ℕ) (top : Centres) (IsIn : Spot → Type 0) : Type 0 where
-  pub each : (k i : ℕ) → k < length ends → i < top.count
+  pub each : (k i : ℕ) → k < length ends → i < top.n
       → (i < slice_index ends k) ↔ IsIn (centre_at (row_below top k) i)
-  pub within : (k : ℕ) → k < length ends → slice_index ends k ≤ top.count
+  pub within : (k : ℕ) → k < length ends → slice_index ends k ≤ top.n
 
 -- of the columns that are in the runs of rows all are found that a shape holds, and no column that it does not hold
 pub record AreFound (firsts ends : List ℕ) (top : Centres) (IsIn : Spot → Type 0) (new_firsts new_ends : List ℕ)
     : Type 0 where
-  pub held : (k i : ℕ) → k < length firsts → i < top.count
+  pub held : (k i : ℕ) → k < length firsts → i < top.n
       → IsInRun (slice_index new_firsts k) (slice_index new_ends k) i → IsIn (centre_at (row_below top k) i)
-  pub all : (k i : ℕ) → k < length firsts → i < top.count
+  pub all : (k i : ℕ) → k < length firsts → i < top.n
       → IsInRun (slice_index firsts k) (slice_index ends k) i → IsIn (centre_at (row_below top k) i)
       → IsInRun (slice_index new_firsts k) (slice_index new_ends k) i

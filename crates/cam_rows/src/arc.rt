@@ -21,7 +21,7 @@ pub struct Outer {
     pub ring: Ring,
 }
 
-/// What the inner circle of an arc's stroke holds: the runs are those of [`hollow_runs`](crate::hollow_runs).
+/// What the inner circle of an arc's stroke holds: a circle is found by a walk.
 #[derive(Clone, Copy)]
 pub struct Hollow {
     pub arc: Arc,

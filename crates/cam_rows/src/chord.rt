@@ -134,7 +134,7 @@ pub(crate) fn is_nearby(point: &Point, top: &Centres, rows: usize) -> bool
     ensures { IsTrue result → AreNearby point.now top.now rows }
 {
     let columns = top.offsets_from(point);
-    let rightmost = columns.at(top.count - 1);
+    let rightmost = columns.at(top.n - 1);
     if top.step >= NEAR || columns.first <= -NEAR || rightmost >= NEAR {
         return false;
     }

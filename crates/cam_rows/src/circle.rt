@@ -24,7 +24,7 @@ pub(crate) fn half_chord(room: u128) -> u64
 pub(crate) fn squared_height(point: &Point, centres: &Centres) -> u128
     requires point { IsOnBoard point.now }
     requires row { IsRow centres.now }
-    ensures value { pos result ≡ square (centres.now.first.y -ℤ pos 2 *ℤ point.now.y) }
+    ensures value { pos result ≡ square (centres.now.y -ℤ pos 2 *ℤ point.now.y) }
     ensures bound { result < 2 ^ 66 }
 {
     let height = u128::from(centres.height_over(point));

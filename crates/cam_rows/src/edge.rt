@@ -3,7 +3,7 @@
 ghost use Rattle.std.specs.Prelude.{◌≡◌, IsTrue};
 ghost use Rattle.cam_units.specs.Board.{IsOnBoard};
 ghost use Rattle.cam_shapes.specs.Edge.{crosses_ray, edge, is_above};
-ghost use Rattle.cam_rows.specs.Rows.{IsRow, Marks};
+ghost use Rattle.cam_rows.specs.Rows.{IsRow, Marks, first_of};
 
 use crate::centres::Centres;
 use crate::runs::edge::edge_runs;
@@ -25,13 +25,13 @@ pub fn edge_row(from: Point, to: Point, centres: Centres) -> u64
     }
     let mut ends = [0];
     edge_runs(from, to, &centres, &mut ends);
-    run_row(0, ends[0], 0, centres.count)
+    run_row(0, ends[0], 0, centres.n)
 }
 
 /// Whether the point is higher than the centres.
 pub(crate) fn is_above(point: &Point, centres: &Centres) -> bool
     requires { IsOnBoard point.now }
-    ensures { result ≡ is_above point.now centres.now.first }
+    ensures { result ≡ is_above point.now (first_of centres.now) }
 {
-    centres.first.y < 2 * point.y
+    centres.y < 2 * point.y
 }

@@ -1,8 +1,10 @@
-//! The 64 rows of a tile, joined lane by lane, and their bytes in a file.
+//! The 64 rows of a tile, joined lane by lane as one vector, and their bytes in a file.
 
 ghost use Rattle.std.specs.Prelude.{◌<◌, ◌≤◌, ◌↔◌, ◌⊎◌, ◌+◌, ◌-◌, ◌/◌, ◌%◌, ℕ, slice_index};
 ghost use Rattle.std.specs.Int.{IsBitSet};
 ghost use Rattle.cam_rows.specs.Lanes.{AreJoined};
+
+use std::simd::u64x64;
 
 /// Of each two bits of a row the lower one.
 const LOWER_BITS: u64 = 0x5555_5555_5555_5555;
@@ -17,9 +19,7 @@ const LOWER_FOURS: u64 = 0x0f0f_0f0f_0f0f_0f0f;
 pub fn or_rows(rows: &mut [u64; 64], other: &[u64; 64])
     ensures { AreJoined (λ P Q. P ⊎ Q) rows.old other.now rows.new }
 {
-    for lane in 0..64 {
-        rows[lane] |= other[lane];
-    }
+    *rows = (u64x64::from_array(*rows) | u64x64::from_array(*other)).to_array();
 }
 
 /// Takes out the bits of other rows: bit i of a row is then set where it was, and the other row of its place does not
@@ -27,18 +27,16 @@ pub fn or_rows(rows: &mut [u64; 64], other: &[u64; 64])
 pub fn clear_rows(rows: &mut [u64; 64], other: &[u64; 64])
     ensures { AreJoined (λ P Q. P × (Q → ⊥)) rows.old other.now rows.new }
 {
-    for lane in 0..64 {
-        rows[lane] &= !other[lane];
-    }
+    let lanes = u64x64::from_array(*rows);
+    // what both have is turned over
+    *rows = (lanes ^ (lanes & u64x64::from_array(*other))).to_array();
 }
 
 /// Turns over the bits of other rows: bit i of a row is then set where exactly one of the two rows of its place had it.
 pub fn xor_rows(rows: &mut [u64; 64], other: &[u64; 64])
     ensures { AreJoined (λ P Q. (P × (Q → ⊥)) ⊎ ((P → ⊥) × Q)) rows.old other.now rows.new }
 {
-    for lane in 0..64 {
-        rows[lane] ^= other[lane];
-    }
+    *rows = (u64x64::from_array(*rows) ^ u64x64::from_array(*other)).to_array();
 }
 
 /// The bytes of a row in a bitmap file (netpbm's pbm(5), "P4"): eight pixels a byte, the leftmost of them, which is the

@@ -22,10 +22,10 @@
 //! - [`bar_row`]: a line of a macro; [`capsule_row`], [`arc_row`]: the strokes of a round tool; [`swept_row`]: that of
 //!   a rectangle.
 //! - [`edge_row`], [`cap_row`]: parts of a region.
-//! - [`bar_runs`], [`disc_runs`], [`hole_runs`], [`rect_runs`], [`obround_runs`], [`swept_runs`]: the same in rows of up
-//!   to 32,768 centres, a run of columns for each row; [`run_row`]: the bits of a part of it. [`cap_runs`] and
+//! - [`bar_runs`], [`rect_runs`], [`obround_runs`], [`swept_runs`]: the same in rows of up to 32,768
+//!   centres, a run of columns for each row; [`run_row`]: the bits of a part of it. [`cap_runs`] and
 //!   [`edge_runs`] are those of parts of a region: a run of an edge begins at the leftmost column.
-//! - [`ring_of`], [`outer_runs`], [`hollow_runs`], [`beyond_runs`]: an arc in such rows.
+//! - [`ring_of`], [`outer_runs`], [`beyond_runs`]: an arc in such rows.
 //! - [`RunShape`]: all of these shapes alike; [`Hole`] stands for a hole, [`Outer`], [`Hollow`] and [`Beyond`] for the
 //!   parts of an arc.
 //! - [`mark_end`], [`mark_ends`], [`mark_runs`], [`spread_marks`]: marks in rows of tiles side by side, of which each turns
@@ -81,12 +81,10 @@ pub use obround::obround_row;
 pub use rect::rect_row;
 pub use ring::{Ring, ring_of};
 pub use run_shape::RunShape;
-pub use runs::arc::{beyond_runs, hollow_runs, outer_runs};
+pub use runs::arc::{beyond_runs, outer_runs};
 pub use runs::bar::bar_runs;
 pub use runs::cap::cap_runs;
-pub use runs::disc::disc_runs;
 pub use runs::edge::edge_runs;
-pub use runs::hole::hole_runs;
 pub use runs::obround::obround_runs;
 pub use runs::rect::rect_runs;
 pub use runs::run_row;

@@ -13,7 +13,7 @@ pub(crate) fn row_of<S: RunShape>(shape: &S, centres: &Centres) -> u64
     ensures { Marks result centres.now (S.holds shape.now) }
 {
     let mut firsts = [0];
-    let mut ends = [centres.count];
+    let mut ends = [centres.n];
     shape.find(centres, &mut firsts, &mut ends);
-    run_row(firsts[0], ends[0], 0, centres.count)
+    run_row(firsts[0], ends[0], 0, centres.n)
 }

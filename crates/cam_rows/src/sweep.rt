@@ -4,11 +4,11 @@ ghost use Rattle.std.specs.Prelude.{◌≡◌, ◌^◌, ◌<◌};
 ghost use Rattle.std.specs.Int.RustNames.{unsigned_abs};
 ghost use Rattle.cam_units.specs.Board.{IsOnBoard};
 ghost use Rattle.cam_shapes.specs.Plane.{cross, dot, place_of, way};
-ghost use Rattle.cam_rows.specs.Rows.{IsRow};
+ghost use Rattle.cam_rows.specs.Rows.{IsRow, first_of};
 
 use crate::centres::Centres;
 use crate::way::{across, along};
-use cam_units::{Point, Spot};
+use cam_units::Point;
 
 /// The cross product of two points as they are seen from a third.
 pub(crate) fn cross_product(centre: &Point, start: &Point, end: &Point) -> i128
@@ -35,15 +35,13 @@ pub(crate) fn dot_product(centre: &Point, start: &Point, end: &Point) -> i128
 /// The row of one centre, at a point.
 fn alone(point: &Point) -> Centres
     requires { IsOnBoard point.now }
-    ensures first { result.first ≡ place_of point.now }
+    ensures first { first_of result ≡ place_of point.now }
     ensures row { IsRow result }
 {
     Centres {
-        first: Spot {
-            x: 2 * point.x,
-            y: 2 * point.y,
-        },
+        x: 2 * point.x,
+        y: 2 * point.y,
         step: 1,
-        count: 1,
+        n: 1,
     }
 }

@@ -64,12 +64,12 @@ impl Way {
         requires from { IsOnBoard from.now }
         requires row { IsRow centres.now }
         ensures value { result
-            ≡ self.now.x *ℤ (centres.now.first.x -ℤ pos 2 *ℤ from.now.x)
-            +ℤ self.now.y *ℤ (centres.now.first.y -ℤ pos 2 *ℤ from.now.y) }
+            ≡ self.now.x *ℤ (centres.now.x -ℤ pos 2 *ℤ from.now.x)
+            +ℤ self.now.y *ℤ (centres.now.y -ℤ pos 2 *ℤ from.now.y) }
         ensures bound { unsigned_abs result < 2 ^ 100 }
     {
-        let x = centres.first.x - 2 * from.x;
-        let y = centres.first.y - 2 * from.y;
+        let x = centres.x - 2 * from.x;
+        let y = centres.y - 2 * from.y;
         i128::from(self.x) * i128::from(x) + i128::from(self.y) * i128::from(y)
     }
 
@@ -97,8 +97,8 @@ impl Way {
         requires from { IsOnBoard from.now }
         requires row { IsRow centres.now }
         ensures first { result.first
-            ≡ self.now.x *ℤ (centres.now.first.x -ℤ pos 2 *ℤ from.now.x)
-            +ℤ self.now.y *ℤ (centres.now.first.y -ℤ pos 2 *ℤ from.now.y) }
+            ≡ self.now.x *ℤ (centres.now.x -ℤ pos 2 *ℤ from.now.x)
+            +ℤ self.now.y *ℤ (centres.now.y -ℤ pos 2 *ℤ from.now.y) }
         ensures step { result.step ≡ self.now.x *ℤ centres.now.step }
         ensures fits { IsShortLinear result }
     {

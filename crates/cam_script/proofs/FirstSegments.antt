@@ -8,7 +8,7 @@ joined_nowhere : (first : Option Seg) → None ≡ joined first None
 joined_nowhere None = refl
 joined_nowhere (Some seg) = refl
 
-straight : (form x y : List ℕ) (more : List (List ℕ)) → is_line form ≡ true
+pub straight : (form x y : List ℕ) (more : List (List ℕ)) → is_line form ≡ true
     → segs_in (form ∷ x ∷ y ∷ more) ≡ joined (line_seg x y) (segs_in more)
 straight form x y [] e = rw e refl
 straight form x y (u ∷ []) e = joined_nowhere (line_seg x y)

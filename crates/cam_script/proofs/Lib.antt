@@ -4,3 +4,8 @@ pub mod Forms
 pub mod Parts
 pub mod FirstSegments
 pub mod RefusedMemory
+pub mod Spelled
+pub mod ReadBack
+pub mod Insertions
+pub mod SoundWords
+pub mod Queries

@@ -4,14 +4,14 @@ use Rattle.std.specs.Option.{option_map}
 use Rattle.cam_edits.specs.declared.edit.Change.{Change}
 use Rattle.cam_edits.specs.declared.edit.Change.TheVariants as changes
 use Rattle.cam_edits.specs.declared.edit.NewItem.{NewItem}
-use Rattle.cam_script.specs.declared.command.Command.TheVariants as commands
 use Rattle.cam_script.specs.declared.line.Line.{Line}
 use Rattle.cam_script.specs.declared.line.Line.TheVariants as lines
 use Rattle.cam_script.specs.declared.line.LineFault.{LineFault}
 use Rattle.cam_script.specs.declared.line.LineFault.TheVariants.{LineTooLong, BadLine, Memory}
+use Rattle.cam_script.specs.Commands.{changing}
 use Rattle.cam_script.specs.Words.{count_in, is_name}
 use Rattle.cam_script.specs.Items.{item_in}
-use Rattle.cam_script.specs.Parsing.{is_no_memory, insert_change, edit_line, kept}
+use Rattle.cam_script.specs.Parsing.{is_no_memory, insert_change, edit_line, kept, names_a_layer}
 use Rattle.cam_script.specs.Machinery.Reading.{unless_refused}
 
 -- a part was refused, and so is the whole
@@ -32,11 +32,24 @@ pub insert_refused : (words : List (List ℕ)) (k form : List ℕ) (rest : List 
 insert_refused words k form rest place fault cut count e =
     rw (cut, ← count) (held_refused (item_in form rest) (λ item. changes.Insert place item) fault e)
 
+-- the command of an edit names its layer
+names_edited : (name : List ℕ) (change : Change) → names_a_layer (lines.Command (changing name change)) ≡ true
+names_edited name (changes.Insert k item) = refl
+names_edited name (changes.Delete k) = refl
+names_edited name (changes.Move k dx dy) = refl
+names_edited name (changes.Reorder k m) = refl
+names_edited name (changes.Aperture k n) = refl
+names_edited name (changes.Polarity k dark) = refl
+names_edited name (changes.Tool k t) = refl
+names_edited name (changes.Diameter t d) = refl
+names_edited name (changes.SetAttribute key fields) = refl
+names_edited name (changes.DropAttribute key) = refl
+
 -- an edit of a name and a change of the words behind it
 module _ (change : List (List ℕ) → Option Change) (words : List (List ℕ)) (name : List ℕ) (rest : List (List ℕ))
     (cut : words ≡ name ∷ rest) (named : is_name name ≡ true) where
   edit_of : Option Change → Option Line
-  edit_of read = option_map (λ change. lines.Command (commands.Edit (record { name = name; change = change }))) read
+  edit_of read = option_map (λ change. lines.Command (changing name change)) read
 
   edit_read : edit_line change words ≡ edit_of (change rest)
   unfolding edit_of
@@ -55,7 +68,7 @@ module _ (change : List (List ℕ) → Option Change) (words : List (List ℕ)) 
       by_change None Memory e = cc
       by_change (Some read) LineTooLong e = cc
       by_change (Some read) BadLine e = cc
-      by_change (Some read) Memory e = refl
+      by_change (Some read) Memory e = rw (names_edited name read) refl
 
   pub edit_starved : (made : Change) → unless_refused (change rest) false ≡ Ok made
       → kept (edit_line change words) true ≡ Err Memory
@@ -64,4 +77,4 @@ module _ (change : List (List ℕ) → Option Change) (words : List (List ℕ)) 
     where
       by_change : (read : Option Change) → unless_refused read false ≡ Ok made → kept (edit_of read) true ≡ Err Memory
       by_change None e = cc
-      by_change (Some read) e = refl
+      by_change (Some read) e = rw (names_edited name read) refl

@@ -15,7 +15,8 @@ use Rattle.cam_script.specs.declared.line.Line.{Line}
 use Rattle.cam_script.specs.declared.line.Line.TheVariants as lines
 use Rattle.cam_script.specs.declared.line.LineFault.{LineFault}
 use Rattle.cam_script.specs.declared.line.LineFault.TheVariants.{LineTooLong, BadLine, Memory}
-use Rattle.cam_script.specs.Items.{item_in, polarity_in, reads, reads_point}
+use Rattle.cam_script.specs.Commands.{changing}
+use Rattle.cam_script.specs.Items.{item_in, polarity_in, reads}
 use Rattle.cam_script.specs.Words.{words, is_name, is_path, count_in, length_in, tool_in}
 
 -- how many bytes a line may have
@@ -76,7 +77,8 @@ delete_change _ = None
 
 -- move .. K DX DY
 abbrev pub move_change : List (List ℕ) → Option Change
-move_change (k ∷ dx ∷ dy ∷ []) = reads count_in k (λ k. reads_point dx dy (λ by. Some (changes.Move k by)))
+move_change (k ∷ dx ∷ dy ∷ []) =
+    reads count_in k (λ k. reads length_in dx (λ dx. reads length_in dy (λ dy. Some (changes.Move k dx dy))))
 move_change _ = None
 
 -- reorder .. K M
@@ -138,7 +140,7 @@ abbrev pub edit_line : (List (List ℕ) → Option Change) → List (List ℕ) �
 edit_line change [] = None
 edit_line change (name ∷ words) =
     if is_name name
-    then option_map (λ change. lines.Command (commands.Edit (record { name = name; change = change }))) (change words)
+    then option_map (λ change. lines.Command (changing name change)) (change words)
     else None
 
 -- ---- lines

@@ -26,6 +26,14 @@ impl Bytes {
         Bytes { bytes }
     }
 
+    /// The vector of the bytes, without a copy.
+    pub fn into_vec(self) -> Vec<u8>
+        ensures { result.items ≡ self }
+    {
+        let Bytes { bytes } = self;
+        bytes
+    }
+
     /// All of them.
     pub fn as_slice(&self) -> &[u8]
         ensures { result.now ≡ self.now }

@@ -17,7 +17,6 @@ ghost use Rattle.cam_script.specs.Parsing.{
   tool_change,
 };
 ghost use Rattle.cam_script.specs.Machinery.Reading.{change_by, unless_refused};
-ghost use Rattle.cam_script.specs.Words.{count_in};
 
 use crate::attributes::{drop_change, set_change};
 use crate::command::Command;
@@ -25,7 +24,7 @@ use crate::items::item;
 use crate::line::{Line, LineFault};
 use crate::marks::polarity;
 use crate::names::{is_name, name_of};
-use crate::numbers::{count, length, point, tool};
+use crate::numbers::{count, length, place, point, tool};
 use crate::pieces::is;
 use crate::words::Words;
 use cam_edits::{Change, Edit};
@@ -84,13 +83,6 @@ pub fn change_form(verb: &[u8]) -> Option<ChangeForm>
     None
 }
 
-/// The place of a list that a word writes.
-fn place(word: &[u8]) -> Option<usize>
-    ensures { result ≡ count_in word.now }
-{
-    count(word).map(|place| place as usize)
-}
-
 /// The words behind the name of an insertion.
 fn insert_change(alloc: Global, words: &mut Words<'_>) -> Result<Change, LineFault>
     ensures { unless_refused (insert_change words.old) (is_no_memory result) ≡ result }
@@ -122,8 +114,9 @@ fn move_change(words: &mut Words<'_>) -> Option<Change>
 {
     let (k, dx, dy) = words.three()?;
     let k = place(k)?;
-    let by = point((dx, dy))?;
-    Some(Change::Move { k, by })
+    let dx = length(dx)?;
+    let dy = length(dy)?;
+    Some(Change::Move { k, dx, dy })
 }
 
 /// The words behind the name of a change of order.
@@ -212,5 +205,5 @@ pub fn edit(alloc: Global, form: ChangeForm, words: &mut Words<'_>) -> Result<Li
     }
     let change = change(alloc, form, words)?;
     let name = name_of(alloc, name)?;
-    Ok(Line::Command(Command::Edit(Edit { name, change })))
+    Ok(Line::Command(Command::from(Edit { name, change })))
 }

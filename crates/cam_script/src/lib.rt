@@ -1,13 +1,17 @@
 //! The lines of a script, and the commands that they say.
 //!
 //! [`Lines`] cuts a script into its lines, and [`parse_line`] reads what a line says, as `specs/Parsing.antt` has it.
+//! [`push_object_words`] and [`push_drill_item_words`] write an item in the words of a line that inserts it
+//! (`specs/Spelling.antt`). [`parse_question`] reads a question, in a grammar of its own (`specs/Questions.antt`).
 #![tactic(auto)]
 
+mod asking;
 mod attributes;
 mod bytes;
 mod command;
 mod edits;
 mod items;
+mod laws;
 mod line;
 mod lines;
 mod marks;
@@ -16,12 +20,18 @@ mod numbers;
 mod parse;
 mod path;
 mod pieces;
+mod question;
 mod segments;
+mod spelling;
 mod words;
 
+pub use asking::parse_question;
 pub use bytes::Bytes;
 pub use command::{Command, FileKind};
+pub use laws::{sound_items_can_be_said, words_read_back};
 pub use line::{Line, LineFault};
 pub use lines::Lines;
 pub use parse::parse_line;
 pub use path::FilePath;
+pub use question::{Query, Question};
+pub use spelling::{push_drill_item_words, push_number, push_object_words, push_word};

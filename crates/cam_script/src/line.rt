@@ -1,5 +1,8 @@
 //! What a line of a script says.
 
+ghost use Rattle.std.specs.Prelude.{◌≡◌};
+ghost use Rattle.cam_script.specs.Faults.{number_of};
+
 use crate::command::{Command, FileKind};
 use crate::path::FilePath;
 use cam_edits::Name;
@@ -40,4 +43,17 @@ pub enum LineFault {
     /// Memory for a name, a path or an item was refused (30).
     #[error("no memory")]
     Memory,
+}
+
+impl LineFault {
+    /// The number by which a refusal is told: 81, 80 or 30.
+    pub fn number(self) -> u8
+        ensures { result ≡ number_of self }
+    {
+        match self {
+            LineFault::LineTooLong => 81,
+            LineFault::BadLine => 80,
+            LineFault::Memory => 30,
+        }
+    }
 }

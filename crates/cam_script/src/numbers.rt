@@ -37,6 +37,13 @@ pub fn count(word: &[u8]) -> Option<u32>
     numeral(word, u64::from(u32::MAX)).map(|value| value as u32)
 }
 
+/// A place of a list, or how many of its places: as a count.
+pub fn place(word: &[u8]) -> Option<usize>
+    ensures { result ≡ count_in word.now }
+{
+    count(word).map(|place| place as usize)
+}
+
 /// A length in nanometres: an optional sign and digits, of at most 4,000,000,000 in
 /// absolute value.
 pub fn length(word: &[u8]) -> Option<i64>

@@ -28,7 +28,7 @@ use cam_tiles::Window;
 use std::alloc::Global;
 
 /// The most bytes that a line has.
-const MOST_BYTES: usize = 65_536;
+pub(crate) const MOST_BYTES: usize = 65_536;
 
 /// The words behind `load`.
 #[tactic(auto, using(crate::proofs::Forms::no_load))]

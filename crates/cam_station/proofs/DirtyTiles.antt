@@ -1,5 +1,6 @@
 -- An accepted edit, abort, undo or redo dirties the tiles that its boxes touch, and no others.
-use Rattle.std.proofs.Common.{◌≡◌, ℕ, List, [], ◌∷◌, Option, None, Some, Result, Ok, Err, refl, ap, ◌∙◌, option_map}
+use Rattle.std.proofs.Common.{◌≡◌, ℕ, List, [], ◌∷◌, Option, None, Some, Result, Ok, Err, refl, ap, sym, ◌∙◌, option_map}
+use Rattle.std.proofs.Common.{subst}
 use Rattle.std.specs.Prelude.{IsOk, slice_get}
 use Rattle.cam_units.specs.declared.bounds.Bounds.{Bounds}
 use Rattle.cam_tiles.specs.Tables.{Table}
@@ -28,6 +29,7 @@ use Rattle.cam_station.specs.Machine.{
 }
 use Rattle.cam_station.specs.Touches.{Touches, touched_by_abort, touched_by_redo, touched_by_undo}
 use Rattle.cam_tiles.proofs.TouchedTiles.{touch_law}
+use Rattle.cam_station.proofs.EditCommands.{step_of_edit}
 use Rattle.cam_station.proofs.TablesAt.{touched_at}
 
 window_stays : (boxes : List Bounds) (t : Table) → (touched_by boxes t).window ≡ t.window
@@ -82,8 +84,10 @@ pub dirty_tiles : DirtyTiles
 dirty_tiles =
     record {
       edit = λ s change memory accepted place t here.
-          edit s place t here (touch_of_edit change s.timeline.document) memory (edited change s.timeline.document)
-          accepted;
+          let touch = touch_of_edit change s.timeline.document in
+          let Dirty : State × Outcome → Type 0 = Dirties s place t here (touch ∷ []) in
+          subst Dirty (sym (step_of_edit s change memory))
+          (edit s place t here touch memory (edited change s.timeline.document)) accepted;
       abort = λ s memory accepted place t here. abort s place t here memory accepted;
       undo = λ s memory accepted place t here. undo s place t here memory accepted;
       redo = λ s memory accepted place t here. redo s place t here memory accepted;

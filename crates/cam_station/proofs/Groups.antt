@@ -9,7 +9,6 @@ use Rattle.cam_edits.specs.Touches.{Touch, touch_of_edit}
 use Rattle.cam_undo.specs.Laws.{all_accepted, group_accepted}
 use Rattle.cam_undo.specs.Machine.{Timeline, accepted, begun, end_fault, ended}
 use Rattle.cam_script.specs.declared.command.Command.{Command}
-use Rattle.cam_script.specs.declared.command.Command.TheVariants as commands
 use Rattle.cam_station.specs.Machine.{
   State,
   Outcome,
@@ -22,6 +21,7 @@ use Rattle.cam_station.specs.Machine.{
 }
 use Rattle.cam_station.specs.Calls.{Call, state_after, states_after}
 use Rattle.cam_station.specs.Undoing.{IsAccepted, IsEdit, AreEdits, IsGroup, begin, end, group_calls}
+use Rattle.cam_station.proofs.EditCommands.{step_of_edit}
 use Rattle.cam_station.proofs.Quiet.{Documents, all_quiet_keep, documents_of, quiet_keeps}
 
 -- the documents once some sheets are accepted
@@ -39,9 +39,9 @@ edits_to s RefusedToReader touch (Ok sheets) = λ ok. (sheets, refl)
 edits_to s RefusedToStation touch (Ok sheets) = λ ok. cc
 
 edits : (s : State) (c : Command) (m : MemoryGrant) → IsEdit c → Edits s (step s c m)
-edits s (commands.Edit edit) m is =
-    edits_to s m (touch_of_edit edit s.timeline.document) (edited edit s.timeline.document)
-edits s _ m is = absurd is
+edits s c m (edit, is) =
+    rw (is, step_of_edit s edit m)
+    (edits_to s m (touch_of_edit edit s.timeline.document) (edited edit s.timeline.document))
 
 pub edit_made : (s : State) (c : Call) → IsAccepted s c → After s (state_after s c)
 edit_made s c is = edits s c.0 c.1 is.edit is.accepted

@@ -1,6 +1,6 @@
 -- Edits of file attributes show in no tile and in no picture.
 use Rattle.std.proofs.Common.{◌≡◌, ℕ, zero, suc, Bool, List, [], ◌∷◌, map, Option, None, Some, Result, Ok, Err, refl, ap, sym, ◌∙◌}
-use Rattle.std.proofs.Common.{option_map}
+use Rattle.std.proofs.Common.{option_map, subst}
 use Rattle.std.specs.Prelude.{position}
 use Rattle.std.specs.Str.{bytes_eq}
 use Rattle.cam_tiles.specs.declared.window.Window.{Window}
@@ -22,7 +22,9 @@ use Rattle.cam_edits.proofs.Names.{position_map}
 use Rattle.cam_undo.specs.Machine.{Timeline, accepted_in}
 use Rattle.cam_station.specs.Attributes.{AttributesShowNowhere, ShowsNowhere}
 use Rattle.cam_station.specs.Documents.{SamePictures, picture_named}
-use Rattle.cam_station.specs.Machine.{State, MemoryGrant, Granted, RefusedToReader, RefusedToStation, edit_to, with_edit}
+use Rattle.cam_station.specs.Machine.{State, MemoryGrant, Granted, Outcome, RefusedToReader, RefusedToStation}
+use Rattle.cam_station.specs.Machine.{edit_to, with_edit}
+use Rattle.cam_station.proofs.EditCommands.{step_of_edit}
 use Rattle.cam_station.proofs.TablesAt.{changed-suc}
 
 -- no box touches no tile
@@ -94,4 +96,6 @@ module _ (s : State) (edit : Edit) (is : IsOfAttributes edit.change) where
   by_answer RefusedToStation (Ok sheets) e = stays
 
 pub attributes_show_nowhere : AttributesShowNowhere
-attributes_show_nowhere s edit memory is = by_answer s edit is memory (edited edit s.timeline.document) refl
+attributes_show_nowhere s edit memory is =
+    let Shows : State × Outcome → Type 0 = λ after. ShowsNowhere s after.0 in
+    subst Shows (sym (step_of_edit s edit memory)) (by_answer s edit is memory (edited edit s.timeline.document) refl)

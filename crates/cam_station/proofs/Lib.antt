@@ -1,7 +1,9 @@
+pub mod AskedLayers
 pub mod CleanTiles
 pub mod Depths
 pub mod DirtyTiles
 pub mod DrawnTiles
+pub mod EditCommands
 pub mod FaultNumbers
 pub mod FilesPut
 pub mod Groups

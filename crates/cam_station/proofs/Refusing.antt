@@ -4,15 +4,18 @@ use Rattle.std.proofs.Common.{refl, if◌then◌else◌, nat_le}
 use Rattle.std.specs.Prelude.{IsErr, is_some}
 use Rattle.cam_tiles.specs.declared.window.Window.{Window}
 use Rattle.cam_tiles.specs.Picture.{accepts}
+use Rattle.cam_edits.specs.declared.edit.Change.TheVariants as changes
 use Rattle.cam_edits.specs.declared.edit.Edit.{Edit}
 use Rattle.cam_edits.specs.declared.fault.EditFault.{EditFault}
 use Rattle.cam_edits.specs.declared.fault.EditFault.TheVariants as edits
 use Rattle.cam_edits.specs.Boards.{place_named}
 use Rattle.cam_edits.specs.Editing.{edited}
+use Rattle.cam_edits.specs.Faults.{number_of as edit_code}
 use Rattle.cam_edits.specs.Sheets.{Content, Sheet, item_count}
 use Rattle.cam_edits.specs.Touches.{touch_of_edit}
 use Rattle.cam_undo.specs.declared.fault.HistoryFault.{HistoryFault}
 use Rattle.cam_undo.specs.declared.fault.HistoryFault.TheVariants as histories
+use Rattle.cam_undo.specs.Faults.{number_of as history_code}
 use Rattle.cam_undo.specs.Machine.{
   abort_fault,
   aborted,
@@ -34,10 +37,8 @@ use Rattle.cam_station.specs.declared.reply.Reply.TheVariants.{Done, Numbers}
 use Rattle.cam_station.specs.declared.reply.Numbers.TheVariants.{One}
 use Rattle.cam_station.specs.Meanings.{fault_at, meaning_of}
 use Rattle.cam_station.specs.Refusals.{
-  edit_code,
   file_fault,
   group_open,
-  history_code,
   layer_limit,
   memory_refused,
   name_taken,
@@ -54,6 +55,8 @@ use Rattle.cam_station.specs.Machine.{
   Granted,
   RefusedToReader,
   RefusedToStation,
+  edit_of,
+  edit_step,
   edit_to,
   fault,
   list_layer_at,
@@ -190,6 +193,9 @@ module _ (s : State) (P : State × Outcome → Type 0) (h : AfterOthers s P) whe
   change edit m (Err f) is = without (edit_code f) (edit_own f)
   change edit m (Ok sheets) is = room m _ (h.changed edit sheets is)
 
+  asked : (edit : Edit) (m : MemoryGrant) → P (edit_step s edit m)
+  asked edit m = change edit m (edited edit s.timeline.document) refl
+
   list_named : (place : Option ℕ) → P (list_layer_at s place)
   list_named None = without no_layer refl
   list_named (Some place) = h.looked _
@@ -205,7 +211,16 @@ module _ (s : State) (P : State × Outcome → Type 0) (h : AfterOthers s P) whe
   after_others (commands.Redraw n) m other = redraw n s.window refl
   after_others (commands.Plot name) m other = absurd other
   after_others (commands.Write name) m other = write_named m (place_named name s.timeline.document)
-  after_others (commands.Edit edit) m other = change edit m (edited edit s.timeline.document) refl
+  after_others (commands.Insert name k item) m other = asked (edit_of name (changes.Insert k item)) m
+  after_others (commands.Delete name k) m other = asked (edit_of name (changes.Delete k)) m
+  after_others (commands.Move name k dx dy) m other = asked (edit_of name (changes.Move k dx dy)) m
+  after_others (commands.Reorder name k to) m other = asked (edit_of name (changes.Reorder k to)) m
+  after_others (commands.Aperture name k n) m other = asked (edit_of name (changes.Aperture k n)) m
+  after_others (commands.Polarity name k dark) m other = asked (edit_of name (changes.Polarity k dark)) m
+  after_others (commands.Tool name k t) m other = asked (edit_of name (changes.Tool k t)) m
+  after_others (commands.Diameter name t d) m other = asked (edit_of name (changes.Diameter t d)) m
+  after_others (commands.SetAttribute name key fields) m other = asked (edit_of name (changes.SetAttribute key fields)) m
+  after_others (commands.DropAttribute name key) m other = asked (edit_of name (changes.DropAttribute key)) m
   after_others commands.Begin m other = history (begin_fault s.timeline) _ h.opened
   after_others commands.End m other = history (end_fault s.timeline) _ h.closed
   after_others commands.Abort m other = history (abort_fault s.timeline) _ (λ may. room m _ (h.left may))

@@ -11,7 +11,7 @@ use Rattle.cam_station.specs.declared.fault.Fault.{Fault}
 use Rattle.cam_station.specs.declared.files.FileFault.{FileFault}
 use Rattle.cam_station.specs.declared.files.FileFault.TheVariants.{Memory as NoMemory}
 use Rattle.cam_station.specs.Machine.{State, Outcome, MemoryGrant, Granted, fault, step}
-use Rattle.cam_station.specs.Refusals.{line_code}
+use Rattle.cam_script.specs.Faults.{number_of as line_code}
 use Rattle.cam_station.specs.Run.{Nothing, World, load_turn, parsed_turn, plot_turn, turn, write_turn}
 use Rattle.cam_station.specs.Serving.{IsServed, without_bytes}
 

@@ -12,7 +12,6 @@ use Rattle.cam_tiles.specs.TileLaws.{IsPictured}
 use Rattle.cam_tiles.specs.Touched.{touched_by}
 use Rattle.cam_edits.specs.Boards.{content_at, empty_content, place_named}
 use Rattle.cam_edits.specs.Images.{image_of}
-use Rattle.cam_edits.specs.Machinery.PlaceLaws.{element_at}
 use Rattle.cam_edits.specs.Places.{changed}
 use Rattle.cam_edits.specs.Sheets.{Content, Sheet, sheet}
 use Rattle.cam_edits.specs.Touches.{Touch, touch_of_edit}
@@ -47,7 +46,8 @@ use Rattle.cam_station.proofs.KeptWays.{
   ways_here,
 }
 use Rattle.cam_station.proofs.Refusing.{AfterEach, after_each}
-use Rattle.cam_station.proofs.TablesAt.{IsRedrawn, blank_at, changed_elsewhere, changed_here, redrawn_at, touched_at}
+use Rattle.cam_station.proofs.TablesAt.{IsRedrawn, blank_at, changed_elsewhere, changed_here, element_at, redrawn_at}
+use Rattle.cam_station.proofs.TablesAt.{touched_at}
 use Rattle.cam_station.specs.Ways.{AreWays, KeptWays, Way}
 use Rattle.cam_station.proofs.Ways.{stay}
 

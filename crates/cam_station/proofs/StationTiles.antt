@@ -1,13 +1,12 @@
 -- What a station shows once tiles are drawn, and that it stays a station.
 use Rattle.std.proofs.Common.{◌≡◌, ◌∙◌, ℕ, ◌<◌, false, List, ◌++◌, length, drop, take, slice_get, slice_index_or}
-use Rattle.std.proofs.Common.{slice_set, Option, None, Some, ap, refl, sym, unwrap_or}
+use Rattle.std.proofs.Common.{slice_set, Option, None, Some, ap, option_map, refl, sym, unwrap_or}
 use Rattle.std.specs.Prelude.{Ok, is_none}
 use Rattle.std.proofs.lemmas.Option.{slice_get_read}
 use Rattle.cam_tiles.specs.declared.window.Window.{Window}
 use Rattle.cam_tiles.specs.Tables.{Table, blank, dirty_count, pbm_of}
 use Rattle.cam_edits.specs.Boards.{content_at, place_named}
-use Rattle.cam_edits.specs.Machinery.PlaceLaws.{changed_is, get_changed}
-use Rattle.cam_edits.specs.Places.{changed}
+use Rattle.cam_edits.specs.Places.{changed, changed_to}
 use Rattle.cam_edits.specs.Sheets.{Content, Sheet}
 use Rattle.cam_station.specs.declared.reply.Reply.TheVariants.{Bytes}
 use Rattle.cam_station.specs.TileTables.{AreTables, drawn, redrawn_in, table_at}
@@ -16,6 +15,7 @@ use Rattle.cam_station.specs.Machinery.Stations.{IsStation}
 use Rattle.cam_station.specs.Machine.{plot_at, plot_in, plot_step, refused, with_drawn}
 use Rattle.cam_station.specs.Refusals.{memory_refused}
 use Rattle.cam_station.proofs.KeptTables.{drawn_stays, length-redrawn_in, redraw_stays, written_over}
+use Rattle.cam_station.proofs.TablesAt.{changed_here}
 
 -- ---- a redraw
 
@@ -51,7 +51,7 @@ table_there depth window sheets tables place t h framed here e =
 pub layer_drawn : (content : Content) (tables : List Table) (place : ℕ) (t new : Table) → slice_get tables place ≡ Some t
     → new ≡ drawn content t → slice_set tables place new ≡ changed (drawn content) tables place
 layer_drawn content tables place t new there e =
-    ap (slice_set tables place) e ∙ sym (changed_is tables place t there (drawn content))
+    ap (slice_set tables place) e ∙ sym (ap (changed_to (drawn content) tables place) there)
 
 pub station_drawn : (depth : ℕ) (window : Option Window) (sheets : List Sheet) (content : Content) (tables new : List Table)
     (place : ℕ) → IsStation depth window sheets tables → new ≡ changed (drawn content) tables place
@@ -86,7 +86,7 @@ module _ (s : State) (name : List ℕ) (place : ℕ) (named : place_named name s
     made_in None framed = absurd cc
     made_in (Some w) framed =
         ap (λ o. (with_drawn s place, told (pbm_of (unwrap_or o (blank w))) (dirty_count (table_at w s.tables place))))
-        (get_changed s.tables place t there (drawn content))
+        (changed_here (drawn content) s.tables place ∙ ap (option_map (drawn content)) there)
         ∙ ap (λ o. (with_drawn s place, told (pbm_of (drawn content t)) (dirty_count (unwrap_or o (blank w))))) there
 
     -- the file, and how many tiles were drawn for it

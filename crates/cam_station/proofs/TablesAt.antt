@@ -1,5 +1,5 @@
 -- What becomes of the table of one layer.
-use Rattle.std.proofs.Common.{◌≡◌, ◌≢◌, ℕ, ◌-◌, ◌==◌, zero, suc, Bool, true, false, List, [], ◌∷◌, ◌++◌, length, Option}
+use Rattle.std.proofs.Common.{◌≡◌, ◌≢◌, ℕ, ◌-◌, ◌<◌, ◌==◌, zero, suc, Bool, true, false, List, [], ◌∷◌, ◌++◌, length, Option}
 use Rattle.std.proofs.Common.{None, Some, refl, ap, ◌∙◌, sym, arith, subst, if◌then◌else◌, ⊎_elim, option_map}
 use Rattle.std.specs.Prelude.{slice_get, replicate}
 use Rattle.std.proofs.lemmas.Bool.{eqb-true}
@@ -16,6 +16,12 @@ use Rattle.cam_edits.specs.Sheets.{Sheet}
 use Rattle.cam_edits.specs.Touches.{Touch}
 use Rattle.cam_station.specs.TileTables.{redrawn_in, touched_in}
 use Rattle.cam_station.specs.Locality.{boxes_on}
+
+-- a place of a list has an element
+pub element_at : {X : Type 0} (xs : List X) (k : ℕ) → k < length xs → (x : X) × (slice_get xs k ≡ Some x)
+element_at [] k within = absurd (omega (arith, within))
+element_at (x ∷ xs) zero within = (x, refl)
+element_at (x ∷ xs) (suc k) within = element_at xs k (omega (arith, within))
 
 module _ {X : Type 0} (f : X → X) where
   changed_to-suc : (x : X) (xs : List X) (k : ℕ) (o : Option X)

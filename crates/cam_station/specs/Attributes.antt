@@ -2,7 +2,7 @@
 use Rattle.std.specs.Prelude.{◌≡◌}
 use Rattle.cam_edits.specs.declared.edit.Edit.{Edit}
 use Rattle.cam_edits.specs.AttributeLaws.{IsOfAttributes}
-use Rattle.cam_script.specs.declared.command.Command.TheVariants as commands
+use Rattle.cam_script.specs.Commands.{edit_command}
 use Rattle.cam_station.specs.Documents.{SamePictures}
 use Rattle.cam_station.specs.Machine.{State, MemoryGrant}
 use Rattle.cam_station.specs.Calls.{state_after}
@@ -16,4 +16,4 @@ pub record ShowsNowhere (before after : State) : Type 0 where
 -- in every state, whether the edit is accepted or refused
 abbrev pub AttributesShowNowhere : Type 0
 AttributesShowNowhere = (s : State) (edit : Edit) (memory : MemoryGrant) → IsOfAttributes edit.change
-    → ShowsNowhere s (state_after s (commands.Edit edit, memory))
+    → ShowsNowhere s (state_after s (edit_command edit, memory))

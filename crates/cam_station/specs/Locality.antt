@@ -14,6 +14,7 @@ use Rattle.cam_edits.specs.Images.{image_of, sheet_leaves}
 use Rattle.cam_edits.specs.Sheets.{Content}
 use Rattle.cam_edits.specs.Touches.{Touch, touch_of_edit}
 use Rattle.cam_script.specs.declared.command.Command.TheVariants as commands
+use Rattle.cam_script.specs.Commands.{edit_command}
 use Rattle.cam_station.specs.declared.reply.Numbers.TheVariants.{One}
 use Rattle.cam_station.specs.declared.reply.Reply.TheVariants.{Bytes, Numbers}
 use Rattle.cam_station.specs.TileTables.{AreTables, dirty_in}
@@ -67,7 +68,7 @@ DirtiesAlone s c touches =
 -- that they take back or make again
 pub record DirtyTiles : Type 0 where
   pub edit : (s : State) (edit : Edit) (memory : MemoryGrant)
-      → DirtiesAlone s (commands.Edit edit, memory) (touch_of_edit edit s.timeline.document ∷ [])
+      → DirtiesAlone s (edit_command edit, memory) (touch_of_edit edit s.timeline.document ∷ [])
   pub abort : (s : State) (memory : MemoryGrant) → DirtiesAlone s (commands.Abort, memory) (touched_by_abort s.touches)
   pub undo : (s : State) (memory : MemoryGrant) → DirtiesAlone s (commands.Undo, memory) (touched_by_undo s.touches)
   pub redo : (s : State) (memory : MemoryGrant) → DirtiesAlone s (commands.Redo, memory) (touched_by_redo s.touches)

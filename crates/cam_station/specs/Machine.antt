@@ -5,14 +5,18 @@ use Rattle.std.specs.Prelude.{[], ◌∷◌, ◌++◌, length, Option, None, Som
 use Rattle.cam_tiles.specs.declared.window.Window.{Window}
 use Rattle.cam_tiles.specs.Picture.{accepts}
 use Rattle.cam_tiles.specs.Tables.{Table, dirty_count, pbm_of}
+use Rattle.cam_edits.specs.declared.edit.Change.{Change}
+use Rattle.cam_edits.specs.declared.edit.Change.TheVariants as changes
 use Rattle.cam_edits.specs.declared.edit.Edit.{Edit}
 use Rattle.cam_edits.specs.declared.fault.EditFault.{EditFault}
 use Rattle.cam_edits.specs.Boards.{content_at, place_named}
 use Rattle.cam_edits.specs.Editing.{edited}
+use Rattle.cam_edits.specs.Faults.{number_of as edit_code}
 use Rattle.cam_edits.specs.Places.{changed}
 use Rattle.cam_edits.specs.Sheets.{Content, Sheet, entry_count, item_count, sheet}
 use Rattle.cam_edits.specs.Touches.{Touch, touch_of_edit}
 use Rattle.cam_undo.specs.declared.fault.HistoryFault.{HistoryFault}
+use Rattle.cam_undo.specs.Faults.{number_of as history_code}
 use Rattle.cam_undo.specs.Machine.{Timeline, abort_fault, aborted, accepted, begin_fault, begun}
 use Rattle.cam_undo.specs.Machine.{end_fault, ended, greatest_depth, redo_fault, redone, undo_fault, undone}
 use Rattle.cam_script.specs.declared.command.Command.{Command}
@@ -25,9 +29,7 @@ use Rattle.cam_station.specs.declared.reply.Numbers.TheVariants.{One, Two, Three
 use Rattle.cam_station.specs.TileTables.{blanks, dirty_in, drawn, redrawn_in, table_at, touched_in, with_blank}
 use Rattle.cam_station.specs.Meanings.{fault_at, meaning_of}
 use Rattle.cam_station.specs.Refusals.{
-  edit_code,
   group_open,
-  history_code,
   layer_limit,
   memory_refused,
   name_taken,
@@ -276,6 +278,10 @@ list_layer_at s (Some place) = (s, list_content (content_at s.timeline.document 
 abbrev pub list_layer_step : State → List ℕ → State × Outcome
 list_layer_step s name = list_layer_at s (place_named name s.timeline.document)
 
+-- the edit that a command asks for: what it says besides the layer's name is the change
+abbrev pub edit_of : List ℕ → Change → Edit
+edit_of name change = record { name = name; change = change }
+
 -- one command: the state after it, and its answer
 abbrev pub step : State → Command → MemoryGrant → State × Outcome
 step s (commands.Load name kind file) memory = load_step s name kind file memory
@@ -283,7 +289,16 @@ step s (commands.SetWindow w) memory = window_step s w memory
 step s (commands.Redraw n) memory = redraw_step s n
 step s (commands.Plot name) memory = plot_step s name memory
 step s (commands.Write name) memory = write_step s name memory
-step s (commands.Edit edit) memory = edit_step s edit memory
+step s (commands.Insert name k item) memory = edit_step s (edit_of name (changes.Insert k item)) memory
+step s (commands.Delete name k) memory = edit_step s (edit_of name (changes.Delete k)) memory
+step s (commands.Move name k dx dy) memory = edit_step s (edit_of name (changes.Move k dx dy)) memory
+step s (commands.Reorder name k m) memory = edit_step s (edit_of name (changes.Reorder k m)) memory
+step s (commands.Aperture name k n) memory = edit_step s (edit_of name (changes.Aperture k n)) memory
+step s (commands.Polarity name k dark) memory = edit_step s (edit_of name (changes.Polarity k dark)) memory
+step s (commands.Tool name k t) memory = edit_step s (edit_of name (changes.Tool k t)) memory
+step s (commands.Diameter name t d) memory = edit_step s (edit_of name (changes.Diameter t d)) memory
+step s (commands.SetAttribute name key fields) memory = edit_step s (edit_of name (changes.SetAttribute key fields)) memory
+step s (commands.DropAttribute name key) memory = edit_step s (edit_of name (changes.DropAttribute key)) memory
 step s commands.Begin memory = begin_step s
 step s commands.End memory = end_step s
 step s commands.Abort memory = abort_step s memory

@@ -1,11 +1,5 @@
--- The numbers of refusals, and the limits of a station.
+-- The numbers of the refusals of a station, and its limits.
 use Rattle.std.specs.Prelude.{ℕ}
-use Rattle.cam_edits.specs.declared.fault.EditFault.{EditFault}
-use Rattle.cam_edits.specs.declared.fault.EditFault.TheVariants as edits
-use Rattle.cam_script.specs.declared.line.LineFault.{LineFault}
-use Rattle.cam_script.specs.declared.line.LineFault.TheVariants as lines
-use Rattle.cam_undo.specs.declared.fault.HistoryFault.{HistoryFault}
-use Rattle.cam_undo.specs.declared.fault.HistoryFault.TheVariants as histories
 
 -- memory was refused
 abbrev pub memory_refused : ℕ
@@ -42,34 +36,3 @@ too_many_layers = 85
 -- how many layers there may be
 abbrev pub layer_limit : ℕ
 layer_limit = 32
-
--- why an edit is refused
-abbrev pub edit_code : EditFault → ℕ
-edit_code edits.NoLayer = no_layer
-edit_code edits.WrongKind = 68
-edit_code edits.AttributeRefused = 75
-edit_code edits.NoAttribute = 74
-edit_code edits.NoItem = 61
-edit_code edits.HasNone = 64
-edit_code edits.NoAperture = 62
-edit_code edits.NoTool = 66
-edit_code edits.WrongAperture = 63
-edit_code edits.SizeRefused = 67
-edit_code edits.OutOfBoard = 65
-edit_code edits.TooMuch = 69
-edit_code edits.Memory = memory_refused
-
--- why a history refuses
-abbrev pub history_code : HistoryFault → ℕ
-history_code histories.Depth = out_of_limits
-history_code histories.GroupOpen = group_open
-history_code histories.NoGroup = 73
-history_code histories.NothingToUndo = 70
-history_code histories.NothingToRedo = 71
-history_code histories.Memory = memory_refused
-
--- why a line says nothing
-abbrev pub line_code : LineFault → ℕ
-line_code lines.LineTooLong = 81
-line_code lines.BadLine = 80
-line_code lines.Memory = memory_refused

@@ -6,7 +6,8 @@ use Rattle.cam_script.specs.declared.command.Command.TheVariants as commands
 use Rattle.cam_station.specs.declared.files.FileFault.{FileFault}
 use Rattle.cam_script.specs.declared.line.Line.TheVariants.{Command, Load, Plot, Write}
 use Rattle.cam_station.specs.declared.reply.Reply.TheVariants.{Bytes}
-use Rattle.cam_station.specs.Refusals.{file_fault, line_code}
+use Rattle.cam_script.specs.Faults.{number_of as line_code}
+use Rattle.cam_station.specs.Refusals.{file_fault}
 use Rattle.cam_station.specs.Machine.{State, Outcome, MemoryGrant, refused}
 use Rattle.cam_station.specs.Calls.{Call, answers_to, states_after}
 use Rattle.cam_station.specs.Files.{HasRisenBy}

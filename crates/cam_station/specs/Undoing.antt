@@ -1,8 +1,10 @@
 -- Exact undo: an accepted edit, or a group of them, that is taken back and made again.
 use Rattle.std.specs.Prelude.{◌≡◌, ℕ, ◌≤◌, List, [], ◌∷◌, ◌++◌, None, ◌⊎◌, IsOk, IsErr, Ok}
+use Rattle.cam_edits.specs.declared.edit.Edit.{Edit}
 use Rattle.cam_edits.specs.Sheets.{Sheet}
 use Rattle.cam_script.specs.declared.command.Command.{Command}
 use Rattle.cam_script.specs.declared.command.Command.TheVariants as commands
+use Rattle.cam_script.specs.Commands.{edit_command}
 use Rattle.cam_station.specs.declared.reply.Reply.TheVariants.{Done}
 use Rattle.cam_station.specs.Calls.{Call, answer_to, state_after, states_after}
 use Rattle.cam_station.specs.Documents.{SamePictures, SamePixels, SameTexts}
@@ -11,8 +13,7 @@ use Rattle.cam_undo.specs.Machine.{greatest_depth}
 
 -- the command changes a layer
 abbrev pub IsEdit : Command → Type 0
-IsEdit (commands.Edit edit) = Unit {0}
-IsEdit _ = ⊥
+IsEdit command = (edit : Edit) × (command ≡ edit_command edit)
 
 -- the command only looks: it draws tiles, sets the window that they are seen in, writes or counts
 abbrev pub IsLook : Command → Type 0

@@ -11,6 +11,15 @@ pub struct Fault {
     pub at: Option<usize>,
 }
 
+impl Fault {
+    /// The number by which the refusal is told.
+    pub fn number(self) -> u8
+        ensures { result ≡ self.code }
+    {
+        self.code
+    }
+}
+
 /// A fault without a place.
 pub(crate) fn refusal(code: u8) -> Fault
     ensures { result ≡ fault code }

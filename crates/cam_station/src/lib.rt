@@ -39,6 +39,7 @@
 //! ```
 #![tactic(auto)]
 
+mod asking;
 mod fault;
 mod files;
 mod laws;
@@ -54,8 +55,12 @@ mod showing;
 mod station;
 mod touching;
 
-pub use cam_edits::{Change, Edit, Name, NewItem};
+pub use cam_edits::{Change, Edit, ListedEntry, ListedItem, Name, NewItem, Sheet, SheetContent};
+pub use cam_objects::{Contour, DrillItem, Item, Object, Objects, Points, Seg, Segments};
 pub use cam_script::{Bytes, Command, FileKind, FilePath, Line, LineFault, parse_line};
+pub use cam_tiles::Window;
+pub use cam_undo::Counts;
+pub use cam_units::{Items, Nm, Point, Turn};
 pub use fault::Fault;
 pub use files::{FileFault, Files};
 pub use laws::{

@@ -151,7 +151,7 @@ fn run_line<F: Files>(
         (files_seen (F.contents files.new) (F.failed files.new)) }
 {
     match parse_line(alloc, line) {
-        Err(fault) => Some(Err(refusal(refusals::of_line(fault)))),
+        Err(fault) => Some(Err(refusal(fault.number()))),
         Ok(None) => None,
         Ok(Some(Line::Command(command))) => Some(station.apply(command)),
         Ok(Some(Line::Load { name, kind, path })) => {

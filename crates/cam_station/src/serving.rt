@@ -10,7 +10,6 @@ ghost use Rattle.cam_station.specs.Machinery.Answers.{bytes_in};
 
 use crate::fault::{Fault, refusal};
 use crate::files::FileFault;
-use crate::refusals;
 use crate::reply::{Numbers, Reply};
 use crate::running::file_refusal;
 use crate::station::Station;
@@ -148,7 +147,7 @@ pub fn apply_line(alloc: Global, station: &mut Station, line: &[u8], file: Optio
         station.new result.reply result.file }
 {
     match parse_line(alloc, line) {
-        Err(fault) => told(Err(refusal(refusals::of_line(fault)))),
+        Err(fault) => told(Err(refusal(fault.number()))),
         Ok(None) => Served {
             reply: None,
             file: None,

@@ -100,7 +100,7 @@ fn painter(alloc: Global, layer: &IndexedLayer) -> Source<'_>
 {
     match layer.cells() {
         Some(cells) => Source::gerber_by_cells(alloc, layer.layer(), cells),
-        None => Source::gerber(alloc, layer.layer()),
+        None => Source::gerber(layer.layer()),
     }
 }
 
@@ -111,7 +111,7 @@ fn drill_painter(alloc: Global, layer: &IndexedDrillLayer) -> Source<'_>
 {
     match layer.cells() {
         Some(cells) => Source::drill_by_cells(alloc, layer.layer(), cells),
-        None => Source::drill(alloc, layer.layer()),
+        None => Source::drill(layer.layer()),
     }
 }
 

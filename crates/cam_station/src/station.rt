@@ -1,10 +1,11 @@
 //! The station: a board, the tiles of its layers in a window, and the history of what was done to the board.
 
 ghost use Rattle.std.specs.Prelude.{◌≡◌, IfErr, IfNone, IfOk, IfSome, None, Ok, OnErr, OnOk, Some};
-ghost use Rattle.cam_edits.specs.Sheets.{IsSound, sheet_of};
+ghost use Rattle.cam_edits.specs.Sheets.{AreSound, IsSound, sheet_of, sheets_of};
 ghost use Rattle.cam_station.specs.Machine.{
   abort_step,
   begin_step,
+  edit_of,
   edit_step,
   end_step,
   fault,
@@ -25,6 +26,7 @@ ghost use Rattle.cam_station.specs.Machine.{
 ghost use Rattle.cam_station.specs.TileTables.{tile_at};
 ghost use Rattle.cam_station.specs.Refusals.{memory_refused};
 ghost use Rattle.cam_station.specs.Calls.{IsRun, after_refusal};
+ghost use Rattle.cam_undo.specs.Counted.{counts_at};
 
 use crate::fault::{Fault, refusal};
 use crate::reading::read;
@@ -32,10 +34,10 @@ use crate::refusals;
 use crate::reply::{Numbers, Reply};
 use crate::showing::{blank_in, blanks, draw, draw_all, text};
 use crate::touching::{touch, touch_accepted, touch_group};
-use cam_edits::{Board, BoardStep, Edit, Name, Reversible, Sheet, plan};
+use cam_edits::{Board, BoardStep, Change, Edit, Name, Reversible, Sheet, plan};
 use cam_script::{Bytes, Command, FileKind};
 use cam_tiles::{Raster, Window};
-use cam_undo::History;
+use cam_undo::{Counts, History};
 use std::alloc::{AllocError, Global};
 use std::collections::VecDeque;
 use std::marker::Model;
@@ -120,7 +122,22 @@ impl Station {
             Command::Redraw { at_most } => self.redraw(at_most),
             Command::Plot { name } => self.plot(&name),
             Command::Write { name } => self.write(&name),
-            Command::Edit(edit) => self.edit(edit),
+            Command::Insert { name, k, item } => self.change(name, Change::Insert { k, item }),
+            Command::Delete { name, k } => self.change(name, Change::Delete { k }),
+            Command::Move { name, k, dx, dy } => self.change(name, Change::Move { k, dx, dy }),
+            Command::Reorder { name, k, m } => self.change(name, Change::Reorder { k, m }),
+            Command::Aperture { name, k, n } => self.change(name, Change::Aperture { k, n }),
+            Command::Polarity { name, k, dark } => self.change(name, Change::Polarity { k, dark }),
+            Command::Tool { name, k, t } => self.change(name, Change::Tool { k, t }),
+            Command::Diameter { name, t, d } => self.change(name, Change::Diameter { t, d }),
+            Command::SetAttribute { name, key, fields } => self.change(
+                name,
+                Change::SetAttribute { key, fields },
+            ),
+            Command::DropAttribute { name, key } => self.change(
+                name,
+                Change::DropAttribute { key },
+            ),
             Command::Begin => self.begin(),
             Command::End => self.end(),
             Command::Abort => self.abort(),
@@ -158,6 +175,21 @@ impl Station {
             Some(raster) => raster.rows(tile),
             None => None,
         }
+    }
+
+    /// How many edits and groups can be taken back, how many can be made again, and how many edits the open group has.
+    pub fn history(&self) -> Counts
+        ensures { result ≡ counts_at self.now.timeline }
+    {
+        self.history.counts()
+    }
+
+    /// The board.
+    pub(crate) fn board(&self) -> &Board
+        ensures value { sheets_of result.now ≡ self.now.timeline.document }
+        ensures sound { AreSound (sheets_of result.now) }
+    {
+        &self.board
     }
 
     /// Reads a file as the last layer; what was done before it can't be taken back any more.
@@ -234,7 +266,7 @@ impl Station {
         let raster = &mut self.rasters[place];
         let dirty = raster.dirty();
         let drawn = draw(self.alloc, self.board.content(place), raster, dirty);
-        match raster.to_pbm(self.alloc) {
+        match raster.to_pbm() {
             Ok(bytes) => Ok(Reply::Bytes {
                 bytes: Bytes::from_vec(bytes),
                 drawn: u64::from(drawn),
@@ -258,6 +290,13 @@ impl Station {
         }
     }
 
+    /// Changes the layer of this name.
+    fn change(&mut self, name: Name, change: Change) -> Result<Reply, Fault>
+        ensures { edit_step self.old (edit_of name change) (memory_of result) ≡ (self.new, result) }
+    {
+        self.edit(Edit { name, change })
+    }
+
     fn edit(&mut self, edit: Edit) -> Result<Reply, Fault>
         ensures { edit_step self.old edit (memory_of result) ≡ (self.new, result) }
     {
@@ -269,7 +308,7 @@ impl Station {
                 }
                 Err(_) => Err(refusal(refusals::NO_MEMORY)),
             },
-            Err(fault) => Err(refusal(refusals::of_edit(fault))),
+            Err(fault) => Err(refusal(fault.number())),
         }
     }
 
@@ -278,7 +317,7 @@ impl Station {
     {
         match self.history.begin() {
             Ok(()) => Ok(Reply::Done),
-            Err(fault) => Err(refusal(refusals::of_history(fault))),
+            Err(fault) => Err(refusal(fault.number())),
         }
     }
 
@@ -287,7 +326,7 @@ impl Station {
     {
         match self.history.end() {
             Ok(()) => Ok(Reply::Done),
-            Err(fault) => Err(refusal(refusals::of_history(fault))),
+            Err(fault) => Err(refusal(fault.number())),
         }
     }
 
@@ -299,7 +338,7 @@ impl Station {
                 touch(&mut self.rasters, &steps);
                 Ok(Reply::Done)
             }
-            Err(fault) => Err(refusal(refusals::of_history(fault))),
+            Err(fault) => Err(refusal(fault.number())),
         }
     }
 
@@ -311,7 +350,7 @@ impl Station {
                 touch_group(&mut self.rasters, self.history.last_redo());
                 Ok(Reply::Done)
             }
-            Err(fault) => Err(refusal(refusals::of_history(fault))),
+            Err(fault) => Err(refusal(fault.number())),
         }
     }
 
@@ -323,7 +362,7 @@ impl Station {
                 touch_group(&mut self.rasters, self.history.last_undo());
                 Ok(Reply::Done)
             }
-            Err(fault) => Err(refusal(refusals::of_history(fault))),
+            Err(fault) => Err(refusal(fault.number())),
         }
     }
 

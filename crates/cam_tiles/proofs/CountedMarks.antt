@@ -20,10 +20,9 @@ use Rattle.cam_rows.proofs.SetBits.{none_set, set_in_xor}
 use Rattle.cam_apertures.proofs.Painting.{through}
 use Rattle.cam_tiles.specs.declared.grid.Grid.{Grid}
 use Rattle.cam_tiles.specs.declared.masks.filing.FiledSegment.{FiledSegment}
-use Rattle.cam_tiles.specs.declared.masks.join.Join.TheVariants.{Turn}
 use Rattle.cam_tiles.specs.Machinery.Filing.{AreFiled, IsFiledSegment, changes_at, filed_change}
 use Rattle.cam_tiles.specs.Machinery.Levels.{levels_of}
-use Rattle.cam_tiles.specs.Machinery.Masks.{joined}
+use Rattle.cam_tiles.specs.Machinery.Masks.{turned_over}
 use Rattle.cam_tiles.specs.Machinery.Runs.{IsWideGrid}
 use Rattle.cam_tiles.specs.Machinery.Turning.{TurnsCentres}
 use Rattle.cam_tiles.specs.Tiles.{centre_in}
@@ -33,30 +32,27 @@ use Rattle.cam_tiles.proofs.FiledContours.{changed_more}
 use Rattle.cam_tiles.proofs.GridLemmas.{long}
 use Rattle.cam_tiles.proofs.Joined.{set_or_not}
 use Rattle.cam_tiles.proofs.LevelRows.{down_to}
-use Rattle.cam_tiles.proofs.StepLemmas.{first_x, fits_near, fits_short, long_near, right_is, way_kept, way_right}
+use Rattle.cam_tiles.proofs.StepLemmas.{first_x, fits_near, long_near, right_is, way_kept, way_right}
 
 -- ---- one centre
 
 -- nothing is counted yet
-none_yet : (Was Set : Type 0) → (Set → ⊥) → joined Turn Was Set ↔ joined Turn Was (IsTrue false)
+none_yet : (Was Set : Type 0) → (Set → ⊥) → turned_over Was Set ↔ turned_over Was (IsTrue false)
 none_yet Was Set none = let no : IsTrue false → ⊥ = λ t. false≢true t in grind (arith, no)
 
 -- a row above the one that is turned, that one, and one below it
-row_passed : (Now Was New Held Set Above More : Type 0) → (Held → ⊥) → Above ↔ More → New ↔ joined Turn Now Held
-    → Now ↔ joined Turn Was (Above × Set) → New ↔ joined Turn Was (More × Set)
+row_passed : (Now Was New Held Set Above More : Type 0) → (Held → ⊥) → Above ↔ More → New ↔ turned_over Now Held
+    → Now ↔ turned_over Was (Above × Set) → New ↔ turned_over Was (More × Set)
 row_passed Now Was New Held Set Above More none same h k = grind arith
 
-row_turned : (Now Was New Held Set Above More : Type 0) → Held ↔ Set → (Above → ⊥) → More → New ↔ joined Turn Now Held
-    → Now ↔ joined Turn Was (Above × Set) → New ↔ joined Turn Was (More × Set)
+row_turned : (Now Was New Held Set Above More : Type 0) → Held ↔ Set → (Above → ⊥) → More → New ↔ turned_over Now Held
+    → Now ↔ turned_over Was (Above × Set) → New ↔ turned_over Was (More × Set)
 row_turned Now Was New Held Set Above More same none more h k = grind arith
-
-all_passed : (Now Was Above Set : Type 0) → Above → Now ↔ joined Turn Was (Above × Set) → Now ↔ joined Turn Was Set
-all_passed Now Was Above Set above h = grind arith
 
 -- one more of the rows that are turned over in the end
 row_more : (f x : Bool) (Now Was Whole Rows New : Type 0) → Either Now → Either Was → Either Whole → Either Rows
-    → joined Turn Now Whole ↔ joined Turn Was (IsTrue f) → IsTrue x ↔ Rows → New ↔ joined Turn Whole Rows
-    → joined Turn Now New ↔ joined Turn Was (IsTrue (differ f x))
+    → turned_over Now Whole ↔ turned_over Was (IsTrue f) → IsTrue x ↔ Rows → New ↔ turned_over Whole Rows
+    → turned_over Now New ↔ turned_over Was (IsTrue (differ f x))
 row_more true true Now Was Whole Rows New now was whole rows h e t = grind arith
 row_more true false Now Was Whole Rows New now was whole rows h e t = grind arith
 row_more false true Now Was Whole Rows New now was whole rows h e t = grind arith
@@ -64,15 +60,15 @@ row_more false false Now Was Whole Rows New now was whole rows h e t = grind ari
 
 -- one more that is counted
 place_more : (f x : Bool) (Now Was Whole New : Type 0) → Either Now → Either Was → Either Whole
-    → joined Turn Now Whole ↔ joined Turn Was (IsTrue f) → New ↔ joined Turn Now (IsTrue x)
-    → joined Turn New Whole ↔ joined Turn Was (IsTrue (differ f x))
+    → turned_over Now Whole ↔ turned_over Was (IsTrue f) → New ↔ turned_over Now (IsTrue x)
+    → turned_over New Whole ↔ turned_over Was (IsTrue (differ f x))
 place_more true true Now Was Whole New now was whole h t = grind arith
 place_more true false Now Was Whole New now was whole h t = grind arith
 place_more false true Now Was Whole New now was whole h t = grind arith
 place_more false false Now Was Whole New now was whole h t = grind arith
 
-none_more : (f x : Bool) (Now Was Whole : Type 0) → joined Turn Now Whole ↔ joined Turn Was (IsTrue f) → (IsTrue x → ⊥)
-    → joined Turn Now Whole ↔ joined Turn Was (IsTrue (differ f x))
+none_more : (f x : Bool) (Now Was Whole : Type 0) → turned_over Now Whole ↔ turned_over Was (IsTrue f) → (IsTrue x → ⊥)
+    → turned_over Now Whole ↔ turned_over Was (IsTrue (differ f x))
 none_more true true Now Was Whole h none = absurd (none refl)
 none_more false true Now Was Whole h none = absurd (none refl)
 none_more true false Now Was Whole h none = h
@@ -84,7 +80,7 @@ none_more false false Now Was Whole h none = h
 abbrev pub AreTurnedAbove : ℕ → ℕ → ℕ → List ℕ → List ℕ → Type 0
 AreTurnedAbove columns end whole old now =
     (column row : ℕ) → column < columns → row < 64
-    → IsTrue (is_turned now row column) ↔ joined Turn (IsTrue (is_turned old row column)) ((row < end) × IsBitSet whole row)
+    → IsTrue (is_turned now row column) ↔ turned_over (IsTrue (is_turned old row column)) ((row < end) × IsBitSet whole row)
 
 pub one_more_above : (columns k whole end : ℕ) (old now new : List ℕ) → k < 64 → columns ≤ length now
     → ((column : ℕ) → column < columns → (column < end) ↔ IsBitSet whole k)
@@ -102,7 +98,7 @@ one_more_above columns k whole end old now new few room told turned so_far colum
     ]
 
 -- no row is turned
-pub none_turned : (whole row : ℕ) (Was : Type 0) → whole ≡ 0 → Was ↔ joined Turn Was (IsBitSet whole row)
+pub none_turned : (whole row : ℕ) (Was : Type 0) → whole ≡ 0 → Was ↔ turned_over Was (IsBitSet whole row)
 none_turned whole row Was none = let no = none_set whole row none in grind (arith, no)
 
 -- ---- the columns of rows that go on to the right
@@ -124,22 +120,19 @@ module _ (g : Grid) (columns : ℕ) (wide : IsWideGrid g columns) where
 
   module _ (fits : FitsSigned w64 g.step) (n : ℤ) (is : n ≡ pos (columns - 1)) where
     last_short : unsigned_abs (pos (columns - 1) *ℤ g.step) < 4000000000
-    last_short = way_right g.first.x (pos (columns - 1) *ℤ g.step) (first_x g wide.grid) last_place.x
+    last_short = way_right g.x (pos (columns - 1) *ℤ g.step) (first_x g wide.grid) last_place.x
 
     way_is : long n *ℤ long g.step ≡ pos (columns - 1) *ℤ g.step
     way_is = way_kept n g.step (columns - 1) is (omega (arith, wide.count.1)) fits
 
-    pub last_way_fits : FitsSigned w64 (long n *ℤ long g.step)
-    last_way_fits = fits_short _ _ way_is last_short
-
-    x_is : long g.first.x +ℤ long (long n *ℤ long g.step) ≡ (centre_in g (columns - 1) 0).x
+    x_is : long g.x +ℤ long (long n *ℤ long g.step) ≡ (centre_in g (columns - 1) 0).x
     x_is =
-        right_is g.first.x (long n *ℤ long g.step) (pos (columns - 1) *ℤ g.step) way_is (first_x g wide.grid) last_short
+        right_is g.x (long n *ℤ long g.step) (pos (columns - 1) *ℤ g.step) way_is (first_x g wide.grid) last_short
 
-    pub last_fits : FitsSigned w64 (long g.first.x +ℤ long (long n *ℤ long g.step))
+    pub last_fits : FitsSigned w64 (long g.x +ℤ long (long n *ℤ long g.step))
     last_fits = fits_near _ _ x_is last_place.x
 
-    pub last_kept : long (long g.first.x +ℤ long (long n *ℤ long g.step)) ≡ (centre_in g (columns - 1) 0).x
+    pub last_kept : long (long g.x +ℤ long (long n *ℤ long g.step)) ≡ (centre_in g (columns - 1) 0).x
     last_kept = long_near _ _ x_is last_place.x
 
   -- a segment of which the columns lie all to one side
@@ -151,15 +144,15 @@ module _ (g : Grid) (columns : ℕ) (wide : IsWideGrid g columns) where
         let ends = less_kept last f.left (fits_near last _ is_last last_place.x) fits told in
         let far =
         down_to g.step (unsigned_abs g.step) column (columns - 1) (omega (arith, ints, wide.grid.step)) (omega (arith, near)) in
-        filed.left row (centre_in g column row) (below, refl) (before_end g.first.x _ _ f.left far (rw is_last at ends))
+        filed.left row (centre_in g column row) (below, refl) (before_end g.x _ _ f.left far (rw is_last at ends))
 
-    pub right_of_it : FitsSigned w64 f.right → lt_z (long g.first.x) (long f.right) ≡ false → (column row : ℕ)
+    pub right_of_it : FitsSigned w64 f.right → lt_z (long g.x) (long f.right) ≡ false → (column row : ℕ)
         → column < columns → row < g.rows → IsTrue (changes_at c (centre_in g column row) f.place) → ⊥
     right_of_it fits told column row near below =
         let starts =
-        most_kept g.first.x f.right (fits_near g.first.x g.first.x refl (first_x g wide.grid)) fits told in
+        most_kept g.x f.right (fits_near g.x g.x refl (first_x g wide.grid)) fits told in
         filed.right row (centre_in g column row) (below, refl)
-        (up_right g.first.x _ f.right (columns_far g column wide.grid.step) starts)
+        (up_right g.x _ f.right (columns_far g column wide.grid.step) starts)
 
 -- ---- filed segments
 
@@ -167,13 +160,10 @@ module _ (g : Grid) (columns : ℕ) (wide : IsWideGrid g columns) where
 abbrev pub AreCounted : Grid → ℕ → Contour → List FiledSegment → List ℕ → List ℕ → ℕ → Type 0
 AreCounted g columns c fs old now whole =
     (column row : ℕ) → column < columns → row < g.rows
-    → joined Turn (IsTrue (is_turned now row column)) (IsBitSet whole row)
-    ↔ joined Turn (IsTrue (is_turned old row column)) (IsTrue (filed_change c fs (centre_in g column row)))
+    → turned_over (IsTrue (is_turned now row column)) (IsBitSet whole row)
+    ↔ turned_over (IsTrue (is_turned old row column)) (IsTrue (filed_change c fs (centre_in g column row)))
 
 module _ (g : Grid) (columns : ℕ) (c : Contour) where
-  pub none_counted_yet : (fs : List FiledSegment) (old : List ℕ) → AreCounted g columns c (take 0 fs) old old 0
-  none_counted_yet fs old column row near below = none_yet _ _ (none_set 0 row refl)
-
   module _ (old now : List ℕ) (whole : ℕ) (fs : List FiledSegment) (k : ℕ) (f : FiledSegment)
       (next : take (k + 1) fs ≡ take k fs ++ f ∷ []) (so_far : AreCounted g columns c (take k fs) old now whole) where
     abbrev place : ℕ → ℕ → Spot
@@ -181,13 +171,13 @@ module _ (g : Grid) (columns : ℕ) (c : Contour) where
 
     counted_next : (new : List ℕ) (turned : ℕ)
         → ((column row : ℕ) → column < columns → row < g.rows
-        → joined Turn (IsTrue (is_turned new row column)) (IsBitSet turned row)
-        ↔ joined Turn (IsTrue (is_turned old row column))
+        → turned_over (IsTrue (is_turned new row column)) (IsBitSet turned row)
+        ↔ turned_over (IsTrue (is_turned old row column))
         (IsTrue (differ (filed_change c (take k fs) (place column row)) (changes_at c (place column row) f.place))))
         → AreCounted g columns c (take (k + 1) fs) old new turned
     counted_next new turned odd column row near below =
-        let IsSo : Bool → Type 0 = λ b. joined Turn (IsTrue (is_turned new row column)) (IsBitSet turned row)
-        ↔ joined Turn (IsTrue (is_turned old row column)) (IsTrue b) in
+        let IsSo : Bool → Type 0 = λ b. turned_over (IsTrue (is_turned new row column)) (IsBitSet turned row)
+        ↔ turned_over (IsTrue (is_turned old row column)) (IsTrue b) in
         subst IsSo
         (sym (ap (λ xs. filed_change c xs (place column row)) next ∙ changed_more c (take k fs) f (place column row)))
         (odd column row near below)
@@ -225,7 +215,7 @@ module _ (g : Grid) (columns : ℕ) (c : Contour) where
   pub all_marked : (old now new : List ℕ) (whole : ℕ) (fs : List FiledSegment) (k : ℕ) → length fs ≤ k
       → AreFiled c (levels_of g) fs → AreCounted g columns c (take k fs) old now whole
       → ((column row : ℕ) → column < columns → row < g.rows
-      → IsTrue (is_turned new row column) ↔ joined Turn (IsTrue (is_turned now row column)) (IsBitSet whole row))
+      → IsTrue (is_turned new row column) ↔ turned_over (IsTrue (is_turned now row column)) (IsBitSet whole row))
       → TurnsCentres g columns (λ s. IsInContour s c) old new
   all_marked old now new whole fs k all filed so_far turned = record {
     each = λ column row near below.

@@ -1,6 +1,5 @@
 -- Figures by their runs.
 use Rattle.std.proofs.Common.{◌≡◌, ◌↔◌, ◌⊎◌, ℕ, ◌+◌, ◌<◌, ◌≤◌, ℤ, pos, ◌-ℤ◌, ◌*ℤ◌, true, false, inl, inr, Bool, arith}
-use Rattle.std.proofs.Common.{subst, zero-add, lit<}
 use Rattle.std.proofs.lemmas.Int.{ints}
 use Rattle.cam_units.specs.declared.length.Nm.{Nm}
 use Rattle.cam_units.specs.declared.point.Point.{Point}
@@ -23,7 +22,7 @@ use Rattle.cam_tiles.specs.declared.masks.figure_runs.FigureRuns.{FigureRuns}
 use Rattle.cam_tiles.specs.Machinery.Masks.{IsIn, IsMarked, IsWithin, Joins, Marking, inked, joined}
 use Rattle.cam_tiles.specs.Machinery.Runs.{Fits, HasColumn, IsClear, Tells}
 use Rattle.cam_tiles.specs.Machinery.Figures.{AllFit, HasPart, IsToldAt, TellsFigure}
-use Rattle.cam_tiles.specs.Tiles.{IsGrid, centre_in}
+use Rattle.cam_tiles.specs.Tiles.{centre_in}
 use Rattle.cam_tiles.proofs.Joined.{joined_like}
 use Rattle.cam_tiles.proofs.RunColumns.{tells_nothing}
 
@@ -178,16 +177,6 @@ joins_figure column how IsHeld r old new told grid marks = record {
   marks = λ i row inside.
       joined_like how _ _ _ _ _ ((λ a. a), (λ a. a)) (told.each i row inside) (marks i row inside);
 }
-
--- and in the rows of its own grid
-pub told_itself : (g h : Grid) (IsHeld : Spot → Type 0) (r : FigureRuns) → g ≡ h → IsGrid g
-    → TellsFigure g g.columns IsHeld r → IsToldAt 0 h IsHeld r
-told_itself g h IsHeld r is grid told =
-    subst (λ (o : Grid). IsToldAt 0 o IsHeld r) is (record {
-      near = lit< tt;
-      fit = told.fit;
-      each = λ i row there. rw (zero-add i) (told.each i row there.0 there.1);
-    })
 
 -- all parts lie between two columns
 pub parts_spanned : (s : FigureRuns) (rows from to disc_from disc_to row column : ℕ) → AllFit rows s

@@ -15,15 +15,15 @@ pub steps_on : (a : ℕ) (s : ℤ) → pos 1 ≤ℤ s → pos 0 ≤ℤ (pos a *�
 steps_on a (pos q) some = omega (arith, ints)
 steps_on a (negsuc q) some = absurd (omega (arith, ints))
 
-module _ (g : Grid) (column row : ℕ) (grid : IsGrid g) (inside : column < g.columns) (below : row < g.rows) where
-  across : (pos column *ℤ g.step) ≤ℤ (pos (g.columns - 1) *ℤ g.step)
-  across = steps_up column (g.columns - 1) g.step grid.step (omega arith)
+module _ (g : Grid) (column row : ℕ) (grid : IsGrid g) (inside : column < g.cols) (below : row < g.rows) where
+  across : (pos column *ℤ g.step) ≤ℤ (pos (g.cols - 1) *ℤ g.step)
+  across = steps_up column (g.cols - 1) g.step grid.step (omega arith)
 
   down : (pos row *ℤ g.step) ≤ℤ (pos (g.rows - 1) *ℤ g.step)
   down = steps_up row (g.rows - 1) g.step grid.step (omega arith)
 
-  pub between_ends : (left bottom right top : ℤ) → left ≡ g.first.x → top ≡ g.first.y
-      → right ≡ g.first.x +ℤ pos (g.columns - 1) *ℤ g.step → bottom ≡ g.first.y -ℤ pos (g.rows - 1) *ℤ g.step
+  pub between_ends : (left bottom right top : ℤ) → left ≡ g.x → top ≡ g.y
+      → right ≡ g.x +ℤ pos (g.cols - 1) *ℤ g.step → bottom ≡ g.y -ℤ pos (g.rows - 1) *ℤ g.step
       → IsBetween (record { x = left; y = bottom }) (record { x = right; y = top }) (centre_in g column row)
   between_ends left bottom right top is_left is_top is_right is_bottom =
       let some_across = steps_on column g.step grid.step in

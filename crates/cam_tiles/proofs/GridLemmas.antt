@@ -81,17 +81,17 @@ twice_kept : (pitch : ℤ) → pos 1 ≤ℤ pitch → pitch ≤ℤ pos coarsest_
 twice_kept pitch some most = omega (arith, ints)
 
 -- the grid of a tile as the code computes it
-pub grid_kept : (w : Window) (k a b : ℕ) (first : Spot) (columns_there rows_there : ℕ)
+pub grid_kept : (w : Window) (k a b : ℕ) (first : Spot) (columns_there rows_there : ℕ) → IsPlace first
     → accepts w ≡ true → a ≡ across w → b ≡ across w
     → first ≡ centre_of w (64 * (k % a)) (64 * (k / b))
     → columns_there ≡ min (w.width - 64 * (k % a)) 64 → rows_there ≡ min (w.height - 64 * (k / b)) 64
     → ◌≡◌ {A = Grid}
-    record { first = first; step = long (pos 2 *ℤ long w.pitch); columns = columns_there; rows = rows_there }
+    record { x = long first.x; y = long first.y; step = long (pos 2 *ℤ long w.pitch); cols = columns_there; rows = rows_there }
     (grid_of w k)
-grid_kept w k a b first columns_there rows_there h wide wide_too is_first is_columns is_rows =
+grid_kept w k a b first columns_there rows_there place h wide wide_too is_first is_columns is_rows =
     let limits = accepted w h in
     let step = twice_kept w.pitch limits.pitch.0 limits.pitch.1 in
-    let grid : Spot → ℤ → ℕ → ℕ → Grid = λ f s c r. record { first = f; step = s; columns = c; rows = r } in
+    let grid : Spot → ℤ → ℕ → ℕ → Grid = λ f s c r. record { x = f.x; y = f.y; step = s; cols = c; rows = r } in
     let of_columns : columns_there ≡ columns w k =
     is_columns ∙ ap (λ n. min (w.width - 64 * (k % n)) 64) wide ∙ omega arith in
     let of_rows : rows_there ≡ rows w k =
@@ -99,7 +99,11 @@ grid_kept w k a b first columns_there rows_there h wide wide_too is_first is_col
     let corner : first ≡ centre_of w (left w k) (top w k) =
     is_first ∙ ap (λ n. centre_of w (64 * (k % n)) (64 * (k / b))) wide
     ∙ ap (λ n. centre_of w (left w k) (64 * (k / n))) wide_too in
-    ap (λ f. grid f (long (pos 2 *ℤ long w.pitch)) columns_there rows_there) corner
+    let x_kept : long first.x ≡ first.x = omega (arith, ints, place.x) in
+    let y_kept : long first.y ≡ first.y = omega (arith, ints, place.y) in
+    ap (λ x. grid (record { x = x; y = long first.y }) (long (pos 2 *ℤ long w.pitch)) columns_there rows_there) x_kept
+    ∙ ap (λ y. grid (record { x = first.x; y = y }) (long (pos 2 *ℤ long w.pitch)) columns_there rows_there) y_kept
+    ∙ ap (λ f. grid f (long (pos 2 *ℤ long w.pitch)) columns_there rows_there) corner
     ∙ ap (λ s. grid (centre_of w (left w k) (top w k)) s columns_there rows_there) step
     ∙ ap (λ c. grid (centre_of w (left w k) (top w k)) (pos 2 *ℤ w.pitch) c rows_there) of_columns
     ∙ ap (λ r. grid (centre_of w (left w k) (top w k)) (pos 2 *ℤ w.pitch) (columns w k) r) of_rows

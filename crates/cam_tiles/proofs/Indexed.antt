@@ -5,7 +5,7 @@ use Rattle.std.proofs.Common.{refl, sym, ap, subst, ◌∙◌, arith}
 use Rattle.std.specs.List.{All, flat_map}
 use Rattle.std.proofs.lemmas.Bool.{cases_Bool, false≢true}
 use Rattle.std.proofs.lemmas.Int.{ints}
-use Rattle.std.proofs.lemmas.List.{drop_all, drop_more, length-drop, length_push, reverse-append}
+use Rattle.std.proofs.lemmas.List.{drop_more, length-drop, length_push, reverse-append}
 use Rattle.std.proofs.lemmas.List.Elements.{All-cons, All-nil, All-push}
 use Rattle.cam_units.specs.Boxes.{HaveCommonPlace, Holds, IsBetween}
 use Rattle.cam_units.specs.declared.bounds.Bounds.{Bounds}
@@ -66,17 +66,6 @@ last_leaves-push lists row boxed b =
     ]
 
 module _ (lists : List (List Leaf)) (w : Window) (within : Bounds) where
-  pub none_seen : (n : ℕ) (boxed : List Boxed) → n ≡ length lists → boxed ≡ [] → AreSeenFrom lists w within n boxed
-  none_seen n boxed all none =
-      subst (AreSeenFrom lists w within n) (sym none)
-      (record {
-        each = All-nil (IsBoxed lists);
-        ends = All-nil (λ b. b.rows.end ≤ down w);
-        enough = λ row ink s seen.
-            ap (λ those. painted ink (joined those) s) (sym (drop_all n lists (omega (arith, all))));
-        few = omega (arith, all);
-      })
-
   module _ (n : ℕ) (boxed : List Boxed) (so_far : AreSeenFrom lists w within (n + 1) boxed) where
     one_more : n < length lists → all_from lists n ≡ at lists n ++ all_from lists (n + 1)
     one_more here = ap joined (drop_more lists n [] here)

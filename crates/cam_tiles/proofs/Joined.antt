@@ -9,7 +9,7 @@ use Rattle.cam_apertures.proofs.Painting.{through}
 use Rattle.cam_objects.specs.Image.{relative}
 use Rattle.cam_tiles.specs.declared.grid.Grid.{Grid}
 use Rattle.cam_tiles.specs.declared.masks.join.Join.{Join}
-use Rattle.cam_tiles.specs.declared.masks.join.Join.TheVariants.{Add, Clear, Turn}
+use Rattle.cam_tiles.specs.declared.masks.join.Join.TheVariants.{Add, Clear}
 use Rattle.cam_tiles.specs.Machinery.Masks.{IsBlank, IsIn, IsMarked, Joins, Marking, Merges, joined}
 use Rattle.cam_tiles.specs.Tiles.{centre_in}
 
@@ -23,7 +23,6 @@ pub joined_like : (how : Join) (New Was Be Held Other : Type 0) → Was ↔ Be �
     → New ↔ joined how Be Other
 joined_like Add New Was Be Held Other w e h = grind arith
 joined_like Clear New Was Be Held Other w e h = grind arith
-joined_like Turn New Was Be Held Other w e h = grind arith
 
 pub same : {A : Type 0} → A ↔ A
 same = ((λ a. a), (λ a. a))

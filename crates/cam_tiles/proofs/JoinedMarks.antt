@@ -8,7 +8,7 @@ use Rattle.cam_rows.specs.Marks.{is_marked}
 use Rattle.cam_rows.proofs.SetBits.{set_in_and, set_is_one}
 use Rattle.cam_apertures.proofs.Painting.{through}
 use Rattle.cam_tiles.specs.declared.masks.join.Join.{Join}
-use Rattle.cam_tiles.specs.declared.masks.join.Join.TheVariants.{Add, Clear, Turn}
+use Rattle.cam_tiles.specs.declared.masks.join.Join.TheVariants.{Add, Clear}
 use Rattle.cam_tiles.specs.Machinery.Masks.{IsIn, IsMarked, IsMask, Marking, joined}
 use Rattle.cam_tiles.proofs.WordBits.{set_in_low}
 
@@ -18,19 +18,16 @@ use Rattle.cam_tiles.proofs.WordBits.{set_in_low}
 pub joined_with : (how : Join) (P Q R : Type 0) → Q ↔ R → joined how P Q ↔ joined how P R
 joined_with Add P Q R same = grind (arith, same)
 joined_with Clear P Q R same = grind (arith, same)
-joined_with Turn P Q R same = grind (arith, same)
 
 -- where the shape holds nothing, a mark stays
 pub joined_none : (how : Join) (P Q : Type 0) → (Q → ⊥) → P ↔ joined how P Q
 joined_none Add P Q none = grind (arith, none)
 joined_none Clear P Q none = grind (arith, none)
-joined_none Turn P Q none = grind (arith, none)
 
 -- what is joined was marked before, or is held
 pub joined_from : (how : Join) (P Q R : Type 0) → (P → R) → (Q → R) → joined how P Q → R
 joined_from Add P Q R was held h = elim h [ inl p ↦ was p | inr q ↦ held q ]
 joined_from Clear P Q R was held h = was h.0
-joined_from Turn P Q R was held h = elim h [ inl p ↦ was p.0 | inr q ↦ held q.1 ]
 
 -- ---- row after row
 
@@ -46,7 +43,7 @@ pub record AreJoinedAt (how : Join) (IsHeld : ℕ → ℕ → Type 0) (old new :
 module _ (how : Join) (IsHeld : ℕ → ℕ → Type 0) (old new : Marking) (first row word : ℕ) (from : first ≤ row)
     (below : row < new.grid.rows) (before : AreJoinedAt how IsHeld old new first row)
     (here : (i : ℕ) → i < 64
-    → IsBitSet word i ↔ joined how (IsMarked new i row) ((i < new.grid.columns) × IsHeld i row)) where
+    → IsBitSet word i ↔ joined how (IsMarked new i row) ((i < new.grid.cols) × IsHeld i row)) where
   abbrev pub rows : List ℕ
   rows = slice_set new.rows row word
 
@@ -62,14 +59,14 @@ module _ (how : Join) (IsHeld : ℕ → ℕ → Type 0) (old new : Marking) (fir
   -- a mark of that row is one of a centre of the grid
   within : (i : ℕ) → i < 64 → IsBitSet word i → IsIn new.grid i row
   within i near set =
-      joined_from how (IsMarked new i row) ((i < new.grid.columns) × IsHeld i row) (IsIn new.grid i row)
+      joined_from how (IsMarked new i row) ((i < new.grid.cols) × IsHeld i row) (IsIn new.grid i row)
       (before.mask.inside i row near low) (λ held. (held.0, below)) ((here i near).0 set)
 
-  marked : (i : ℕ) → i < new.grid.columns → IsBitSet word i ↔ joined how (IsMarked old i row) (IsHeld i row)
+  marked : (i : ℕ) → i < new.grid.cols → IsBitSet word i ↔ joined how (IsMarked old i row) (IsHeld i row)
   marked i inside =
       rw (← before.kept row (inr (omega arith))) (
       through (here i (omega (arith, inside, before.mask.grid.columns)))
-      (joined_with how (IsMarked new i row) ((i < new.grid.columns) × IsHeld i row) (IsHeld i row)
+      (joined_with how (IsMarked new i row) ((i < new.grid.cols) × IsHeld i row) (IsHeld i row)
       ((λ h. h.1), (λ h. (inside, h))))
       )
 

@@ -189,29 +189,29 @@ seen_first : (y at d : ℤ) → y -ℤ d -ℤ pos 2 *ℤ at ≡ y -ℤ pos 2 *�
 seen_first y at d = omega (arith, ints)
 
 pub are_heights_seen : (g : Grid) (at : Point) → IsGrid g → IsOnBoard at
-    → AreLevels (record { top = g.first.y -ℤ pos 2 *ℤ at.y; step = g.step; rows = g.rows })
+    → AreLevels (record { top = g.y -ℤ pos 2 *ℤ at.y; step = g.step; rows = g.rows })
 are_heights_seen g at grid board = record {
   step = grid.step;
   rows = grid.rows;
   heights = λ row within.
-      way_near g.first.y at.y (pos row *ℤ g.step) (grid.centres 0 row grid.columns.0 within).y board.y;
+      way_near g.y at.y (pos row *ℤ g.step) (grid.centres 0 row grid.columns.0 within).y board.y;
 }
 
 module _ (g : Grid) (at : Point) (grid : IsGrid g) (board : IsOnBoard at) (fits : FitsSigned w64 g.step) where
   -- as the code computes them
   abbrev pub seen_now : Levels
   seen_now = record {
-    top = long (long g.first.y -ℤ long (pos 2 *ℤ long at.y));
+    top = long (long g.y -ℤ long (pos 2 *ℤ long at.y));
     step = long g.step;
     rows = g.rows;
   }
 
-  seen_is : seen_now ≡ record { top = g.first.y -ℤ pos 2 *ℤ at.y; step = g.step; rows = g.rows }
+  seen_is : seen_now ≡ record { top = g.y -ℤ pos 2 *ℤ at.y; step = g.step; rows = g.rows }
   seen_is =
       let levels : ℤ → ℤ → Levels = λ y step. record { top = y; step = step; rows = g.rows } in
       ap (λ y. levels y (long g.step))
-      (seen_kept (long g.first.y) g.first.y at.y (omega (arith, ints, first_y g grid)) (first_y g grid) board.y)
-      ∙ ap (levels (g.first.y -ℤ pos 2 *ℤ at.y)) (to_z-of_z w64 g.step fits)
+      (seen_kept (long g.y) g.y at.y (omega (arith, ints, first_y g grid)) (first_y g grid) board.y)
+      ∙ ap (levels (g.y -ℤ pos 2 *ℤ at.y)) (to_z-of_z w64 g.step fits)
 
   pub are_seen : AreLevels seen_now
   are_seen = subst AreLevels (sym seen_is) (are_heights_seen g at grid board)
@@ -219,7 +219,7 @@ module _ (g : Grid) (at : Point) (grid : IsGrid g) (board : IsOnBoard at) (fits 
   pub seen_on_row : (row : ℕ) → row < g.rows → IsOnRow seen_now row (relative at (centre_in g 0 row))
   seen_on_row row within =
       let IsSeen : Levels → Type 0 = λ l. IsOnRow l row (relative at (centre_in g 0 row)) in
-      subst IsSeen (sym seen_is) (within, seen_first g.first.y at.y (pos row *ℤ g.step))
+      subst IsSeen (sym seen_is) (within, seen_first g.y at.y (pos row *ℤ g.step))
 
 -- ---- columns, which are from the right what rows are from above
 
@@ -236,16 +236,16 @@ mirrored_kept m near =
 module _ (g : Grid) (grid : IsGrid g) (fits : FitsSigned w64 g.step) where
   -- as the code computes them
   abbrev pub columns_now : Levels
-  columns_now = record { top = long (pos 0 -ℤ long g.first.x); step = long g.step; rows = g.columns }
+  columns_now = record { top = long (pos 0 -ℤ long g.x); step = long g.step; rows = g.cols }
 
-  pub first_near : unsigned_abs g.first.x < 2000000000
+  pub first_near : unsigned_abs g.x < 2000000000
   first_near = first_x g grid
 
-  columns_is : columns_now ≡ record { top = pos 0 -ℤ g.first.x; step = g.step; rows = g.columns }
+  columns_is : columns_now ≡ record { top = pos 0 -ℤ g.x; step = g.step; rows = g.cols }
   columns_is =
-      let levels : ℤ → ℤ → Levels = λ x step. record { top = x; step = step; rows = g.columns } in
-      ap (λ x. levels x (long g.step)) (mirrored_kept g.first.x (omega (arith, first_near)))
-      ∙ ap (levels (pos 0 -ℤ g.first.x)) (to_z-of_z w64 g.step fits)
+      let levels : ℤ → ℤ → Levels = λ x step. record { top = x; step = step; rows = g.cols } in
+      ap (λ x. levels x (long g.step)) (mirrored_kept g.x (omega (arith, first_near)))
+      ∙ ap (levels (pos 0 -ℤ g.x)) (to_z-of_z w64 g.step fits)
 
   pub are_columns : AreLevels columns_now
   are_columns =
@@ -254,12 +254,12 @@ module _ (g : Grid) (grid : IsGrid g) (fits : FitsSigned w64 g.step) where
         step = grid.step;
         rows = grid.columns;
         heights = λ column within.
-            mirrored_near g.first.x (pos column *ℤ g.step) (grid.centres column 0 within grid.rows.0).x;
+            mirrored_near g.x (pos column *ℤ g.step) (grid.centres column 0 within grid.rows.0).x;
       })
 
-  pub in_column : (column : ℕ) → column < g.columns
+  pub in_column : (column : ℕ) → column < g.cols
       → IsOnRow columns_now column (record { x = pos 0; y = pos 0 -ℤ (centre_in g column 0).x })
   in_column column within =
       let IsThere : Levels → Type 0 =
       λ l. IsOnRow l column (record { x = pos 0; y = pos 0 -ℤ (centre_in g column 0).x }) in
-      subst IsThere (sym columns_is) (within, mirrored_place g.first.x (pos column *ℤ g.step))
+      subst IsThere (sym columns_is) (within, mirrored_place g.x (pos column *ℤ g.step))

@@ -34,6 +34,7 @@ pub mod RunColumns
 pub mod SameFiles
 pub mod SeenRows
 pub mod ShapeHeights
+pub mod ShapeRows
 pub mod ShownItems
 pub mod ShownRegions
 pub mod SolidMasks
@@ -52,6 +53,7 @@ pub mod TouchedTiles
 pub mod TurnedBands
 pub mod TurnedContours
 pub mod TurnedMarks
+pub mod TurnedMasks
 pub mod WindowLemmas
 pub mod WipedTiles
 pub mod WordBits

@@ -31,14 +31,14 @@ place_told image m row i mask low near marks =
     let g = m.grid in
     let b = is_black_in image g row i in
     elim (cases_lt row g.rows) [
-      | inl below ↦ elim (cases_lt i g.columns) [
+      | inl below ↦ elim (cases_lt i g.cols) [
         | inl inside ↦ subst (λ shown. IsMarked m i row ↔ IsTrue shown) (shown_within image g row i below inside)
             (marks (inside, below))
         | inr past ↦ neither (IsMarked m i row) b (λ marked. omega (arith, mask.inside i row near low marked))
             (clear_past image g row i past)
       ]
       | inr past ↦ neither (IsMarked m i row) b (λ marked. omega (arith, mask.inside i row near low marked))
-          (ap (λ shown. shown && (nat_lt i g.columns && image (centre_in g i row))) (le-ltb row g.rows past))
+          (ap (λ shown. shown && (nat_lt i g.cols && image (centre_in g i row))) (le-ltb row g.rows past))
     ]
 
 -- a row is the word of its bits

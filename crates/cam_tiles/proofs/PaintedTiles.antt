@@ -34,34 +34,34 @@ module _ (g f : Grid) (some : IsIn g 0 0) (down : (row : ℕ) → IsIn f 0 row �
       let less : g.rows - 1 < f.rows = ((down (g.rows - 1)).1 (some.0, omega (arith, some.1))).1 in
       omega (arith, first_pixel.1, some.1)
 
-  same_x : f.first.x ≡ g.first.x
-  same_x = sym (no_step f.first.x f.step) ∙ ap (λ (s : Spot). s.x) here ∙ no_step g.first.x g.step
+  same_x : f.x ≡ g.x
+  same_x = sym (no_step f.x f.step) ∙ ap (λ (s : Spot). s.x) here ∙ no_step g.x g.step
 
-  same_y : f.first.y ≡ g.first.y
-  same_y = sym (no_step_down f.first.y f.step) ∙ ap (λ (s : Spot). s.y) here ∙ no_step_down g.first.y g.step
+  same_y : f.y ≡ g.y
+  same_y = sym (no_step_down f.y f.step) ∙ ap (λ (s : Spot). s.y) here ∙ no_step_down g.y g.step
 
   same_step : f.step ≡ g.step
-  same_step = next_is f.first.x g.first.x f.step g.step same_x (ap (λ (s : Spot). s.x) next)
+  same_step = next_is f.x g.x f.step g.step same_x (ap (λ (s : Spot). s.x) next)
 
   pub same_levels : levels_of f ≡ levels_of g
   same_levels =
       let of : ℤ → ℤ → ℕ → Levels = λ y s r. record { top = y; step = s; rows = r } in
-      ap (λ y. of y f.step f.rows) same_y ∙ ap (λ s. of g.first.y s f.rows) same_step
-      ∙ ap (λ r. of g.first.y g.step r) same_rows
+      ap (λ y. of y f.step f.rows) same_y ∙ ap (λ s. of g.y s f.rows) same_step
+      ∙ ap (λ r. of g.y g.step r) same_rows
 
   pub same_grid : ((column : ℕ) → IsIn f column 0 ↔ IsIn g column 0) → f ≡ g
   same_grid across =
-      let more : f.columns - 1 < g.columns =
-      ((across (f.columns - 1)).0 (omega (arith, first_pixel.0), first_pixel.1)).0 in
-      let less : g.columns - 1 < f.columns = ((across (g.columns - 1)).1 (omega (arith, some.0), some.1)).0 in
-      let same_columns : f.columns ≡ g.columns = omega (arith, first_pixel.0, some.0) in
+      let more : f.cols - 1 < g.cols =
+      ((across (f.cols - 1)).0 (omega (arith, first_pixel.0), first_pixel.1)).0 in
+      let less : g.cols - 1 < f.cols = ((across (g.cols - 1)).1 (omega (arith, some.0), some.1)).0 in
+      let same_columns : f.cols ≡ g.cols = omega (arith, first_pixel.0, some.0) in
       let of : ℤ → ℤ → ℤ → ℕ → ℕ → Grid =
-      λ x y s c r. record { first = record { x = x; y = y }; step = s; columns = c; rows = r } in
-      ap (λ x. of x f.first.y f.step f.columns f.rows) same_x
-      ∙ ap (λ y. of g.first.x y f.step f.columns f.rows) same_y
-      ∙ ap (λ s. of g.first.x g.first.y s f.columns f.rows) same_step
-      ∙ ap (λ c. of g.first.x g.first.y g.step c f.rows) same_columns
-      ∙ ap (λ r. of g.first.x g.first.y g.step g.columns r) same_rows
+      λ x y s c r. record { x = x; y = y; step = s; cols = c; rows = r } in
+      ap (λ x. of x f.y f.step f.cols f.rows) same_x
+      ∙ ap (λ y. of g.x y f.step f.cols f.rows) same_y
+      ∙ ap (λ s. of g.x g.y s f.cols f.rows) same_step
+      ∙ ap (λ c. of g.x g.y g.step c f.rows) same_columns
+      ∙ ap (λ r. of g.x g.y g.step g.cols r) same_rows
 
 -- painting keeps the grid
 pub painted_grid : (leaves : List Leaf) (old new : Marking) → IsGrid old.grid → PaintsMask old leaves new

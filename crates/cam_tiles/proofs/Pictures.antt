@@ -71,7 +71,7 @@ held (Closed low high) s inside =
 
 -- images that are the same at the centres of a grid have one tile there
 same_tile : (image other : Spot → Bool) (g : Grid)
-    → ((column row : ℕ) → column < g.columns → row < g.rows
+    → ((column row : ℕ) → column < g.cols → row < g.rows
     → image (centre_in g column row) ≡ other (centre_in g column row))
     → tile_rows image g ≡ tile_rows other g
 unfolding tile_rows
@@ -79,7 +79,7 @@ same_tile image other g same =
     same_map (λ row. word (is_black_in image g row) 64) (λ row. word (is_black_in other g row) 64) 0 64
     (λ row. same_word (is_black_in image g row) (is_black_in other g row) 64
     (λ column low. same_under (nat_lt row g.rows) _ _
-    (λ below. same_under (nat_lt column g.columns) _ _
+    (λ below. same_under (nat_lt column g.cols) _ _
     (λ within. same column row (ltb-true _ _ within) (ltb-true _ _ below)))))
 
 -- a tile that is clean after boxes is as before, and none of them touches it
@@ -134,7 +134,7 @@ bit_shown image w column row within below =
     (get_or-map-range_with_len (λ row. word (is_black_in image g row) 64) 0 64 (row % 64) (row % 64) 0
     (omega arith) (omega arith))
     ∙ word_bit (is_black_in image g (row % 64)) 64 (column % 64) (omega arith)
-    ∙ ap (λ b. b && (nat_lt (column % 64) g.columns && image (centre_in g (column % 64) (row % 64))))
+    ∙ ap (λ b. b && (nat_lt (column % 64) g.cols && image (centre_in g (column % 64) (row % 64))))
     (lt-ltb _ _ in_rows)
     ∙ ap (λ b. b && image (centre_in g (column % 64) (row % 64))) (lt-ltb _ _ in_columns)
     ∙ ap image (centre_in_grid w k (column % 64) (row % 64) (omega arith)

@@ -3,7 +3,7 @@ use Rattle.std.proofs.Common.{◌≡◌, ◌↔◌, ℕ, ◌+◌, ◌-◌, ◌<�
 use Rattle.std.proofs.Common.{List, length, slice_index, inl, inr, subst, zero-add, arith}
 use Rattle.std.proofs.lemmas.Bool.{cases_lt}
 use borrow.Rule.Slice.PartMut.{put_mid}
-use Rattle.cam_units.specs.Board.{IsInReach, IsOnBoard, IsPlace}
+use Rattle.cam_units.specs.Board.{IsOnBoard}
 use Rattle.cam_units.specs.declared.point.Point.{Point}
 use Rattle.cam_units.specs.declared.point.Spot.{Spot}
 use Rattle.cam_units.proofs.Ring.{equal}
@@ -11,7 +11,7 @@ use Rattle.cam_units.proofs.Ring.Polynomial.{Atom, Difference, Product}
 use Rattle.cam_objects.specs.Image.{relative}
 use Rattle.cam_rows.specs.declared.centres.Centres.{Centres}
 use Rattle.cam_rows.specs.Rows.{centre_at, row_below}
-use Rattle.cam_rows.specs.Runs.{AreWideRows, IsInRun, IsWideRow}
+use Rattle.cam_rows.specs.Runs.{AreWideRows, IsInRun}
 use Rattle.cam_tiles.specs.declared.grid.Grid.{Grid}
 use Rattle.cam_tiles.specs.declared.masks.heights.Heights.{Heights}
 use Rattle.cam_tiles.specs.declared.masks.join.Join.{Join}
@@ -69,7 +69,7 @@ tells_none g columns first end at h IsHeld r empty rows clear = record {
 -- the rows below one of a grid that goes on to the right
 pub wide_below : (g : Grid) (columns n : ℕ) (at : Point) (top : Centres) (first : ℕ)
     → ((i : ℕ) → centre_at top i ≡ relative at (centre_in g i first)) → IsWideGrid g columns → IsOnBoard at
-    → top.count ≡ columns → pos 1 ≤ℤ top.step → first + n ≤ g.rows → AreWideRows top n
+    → top.n ≡ columns → pos 1 ≤ℤ top.step → first + n ≤ g.rows → AreWideRows top n
 wide_below g columns n at top first centres wide board count step within k below = record {
   count = rw count wide.count;
   step = step;
@@ -79,10 +79,10 @@ wide_below g columns n at top first centres wide board count step within k below
 
 pub tells_band : (g : Grid) (columns first end : ℕ) (at : Point) (h : Heights) (IsHeld : Spot → Type 0) (top : Centres)
     (clear clear_ends firsts ends : List ℕ) (from until late early : ℕ)
-    → ((i : ℕ) → centre_at top i ≡ relative at (centre_in g i first)) → top.count ≡ columns → first < end
+    → ((i : ℕ) → centre_at top i ≡ relative at (centre_in g i first)) → top.n ≡ columns → first < end
     → end ≤ g.rows → g.rows ≤ 64 → length clear ≡ 64 → length clear_ends ≡ 64 → length firsts ≡ end - first
     → length ends ≡ end - first → IsBand g at h first end
-    → ((k i : ℕ) → k < length firsts → i < top.count
+    → ((k i : ℕ) → k < length firsts → i < top.n
     → IsInRun (slice_index firsts k) (slice_index ends k) i ↔ IsHeld (centre_at (row_below top k) i))
     → ((k column : ℕ) → k < length firsts → IsInRun (slice_index firsts k) (slice_index ends k) column
     → IsInRun from until column)
@@ -152,7 +152,7 @@ tells_whole g columns at h IsHeld r heights told = record {
 }
 
 -- the rows of a grid itself
-pub own_grid : (g : Grid) → IsGrid g → IsWideGrid g g.columns
+pub own_grid : (g : Grid) → IsGrid g → IsWideGrid g g.cols
 own_grid g grid = record {
   grid = grid;
   count = (grid.columns.0, omega (arith, grid.columns.1));
@@ -161,12 +161,12 @@ own_grid g grid = record {
 
 -- marks that are joined with the runs of a shape in the rows of their own grid
 pub joins_runs : (how : Join) (IsHeld : Spot → Type 0) (g : Grid) (r : Runs) (old new : Marking) → g ≡ old.grid
-    → Tells g g.columns IsHeld r → new.grid ≡ old.grid
+    → Tells g g.cols IsHeld r → new.grid ≡ old.grid
     → ((i row : ℕ) → IsIn old.grid i row
     → IsMarked new i row ↔ joined how (IsMarked old i row) (HasColumn r row (0 + i)))
     → Joins how IsHeld old new
 joins_runs how IsHeld g r old new is told grid marks =
-    let here = subst (λ (o : Grid). Tells o o.columns IsHeld r) is told in
+    let here = subst (λ (o : Grid). Tells o o.cols IsHeld r) is told in
     record {
       grid = grid;
       marks = λ i row inside.
@@ -177,11 +177,7 @@ joins_runs how IsHeld g r old new is told grid marks =
 -- ---- rows that go on to the right
 
 abbrev pub top_of : Grid → ℕ → ℕ → Centres
-top_of g columns first = record {
-  first = record { x = g.first.x; y = height (levels_of g) first };
-  step = g.step;
-  count = columns;
-}
+top_of g columns first = record { x = g.x; y = height (levels_of g) first; step = g.step; n = columns }
 
 pub further_down : (y step : ℤ) (first k : ℕ) → y -ℤ pos first *ℤ step -ℤ pos k *ℤ step ≡ y -ℤ pos (first + k) *ℤ step
 further_down y step first k =
@@ -193,27 +189,9 @@ further_down y step first k =
 module _ (g : Grid) (columns first : ℕ) where
   pub below_top : (k i : ℕ) → centre_at (row_below (top_of g columns first) k) i ≡ centre_in g i (first + k)
   below_top k i = λ j. record {
-    x = g.first.x +ℤ pos i *ℤ g.step;
-    y = further_down g.first.y g.step first k j;
+    x = g.x +ℤ pos i *ℤ g.step;
+    y = further_down g.y g.step first k j;
   }
-
-  place_in_reach : (s : Spot) → IsPlace s → IsInReach s
-  place_in_reach s place = record { x = omega (arith, place.x); y = omega (arith, place.y) }
-
-  pub wide_rows : IsWideGrid g columns → (k : ℕ) → first + k < g.rows → IsWideRow (row_below (top_of g columns first) k)
-  wide_rows wide k below = record {
-    count = wide.count;
-    step = wide.grid.step;
-    centres = λ i inside.
-        rw (below_top k i) (place_in_reach (centre_in g i (first + k)) (wide.centres i (first + k) inside below));
-  }
-
-  -- as the code computes the top row
-  pub wide_rows_of : (x y step : ℤ) (n m : ℕ) → x ≡ g.first.x → y ≡ height (levels_of g) first → step ≡ g.step
-      → IsWideGrid g columns → first + n ≤ g.rows → m ≡ n
-      → AreWideRows (record { first = record { x = x; y = y }; step = step; count = columns }) m
-  wide_rows_of x y step n m is_x is_y is_step wide within size k few =
-      rw (is_x, is_y, is_step) (wide_rows wide k (omega (arith, within, size, few)))
 
 -- ---- spans
 

@@ -37,7 +37,7 @@ in_reach p s board place = record {
 module _ (g : Grid) (row : ℕ) (at : Point) (n : ℤ) (grid : IsGrid g) (below : row < g.rows) (board : IsOnBoard at)
     (fits : FitsSigned w64 g.step) (is_row : n ≡ pos row) where
   abbrev y_now : ℤ
-  y_now = long (long g.first.y -ℤ long (long n *ℤ long g.step))
+  y_now = long (long g.y -ℤ long (long n *ℤ long g.step))
 
   place : IsPlace (centre_in g 0 row)
   place = grid.centres 0 row grid.columns.0 below
@@ -48,9 +48,9 @@ module _ (g : Grid) (row : ℕ) (at : Point) (n : ℤ) (grid : IsGrid g) (below 
   pub seen_y_fits : FitsSigned w64 (y_now -ℤ long (pos 2 *ℤ long at.y))
   seen_y_fits = seen_fits y_now (centre_in g 0 row).y at.y y_is place.y board.y
 
-  x_seen : long (long g.first.x -ℤ long (pos 2 *ℤ long at.x)) ≡ g.first.x -ℤ pos 2 *ℤ at.x
+  x_seen : long (long g.x -ℤ long (pos 2 *ℤ long at.x)) ≡ g.x -ℤ pos 2 *ℤ at.x
   x_seen =
-      seen_kept (long g.first.x) g.first.x at.x (omega (arith, ints, first_x g grid)) (first_x g grid) board.x
+      seen_kept (long g.x) g.x at.x (omega (arith, ints, first_x g grid)) (first_x g grid) board.x
 
   y_seen : long (y_now -ℤ long (pos 2 *ℤ long at.y)) ≡ (centre_in g 0 row).y -ℤ pos 2 *ℤ at.y
   y_seen = seen_kept y_now (centre_in g 0 row).y at.y y_is place.y board.y
@@ -58,21 +58,19 @@ module _ (g : Grid) (row : ℕ) (at : Point) (n : ℤ) (grid : IsGrid g) (below 
   -- the row as the code computes it
   abbrev pub row_now : Centres
   row_now = record {
-    first = record {
-      x = long (long g.first.x -ℤ long (pos 2 *ℤ long at.x));
-      y = long (y_now -ℤ long (pos 2 *ℤ long at.y));
-    };
+    x = long (long g.x -ℤ long (pos 2 *ℤ long at.x));
+    y = long (y_now -ℤ long (pos 2 *ℤ long at.y));
     step = long g.step;
-    count = g.columns;
+    n = g.cols;
   }
 
   pub row_seen : (i : ℕ) → centre_at row_now i ≡ relative at (centre_in g i row)
   row_seen i =
       let spot : ℤ → ℤ → Spot = λ x y. record { x = x; y = y } in
-      ap (λ s. spot (row_now.first.x +ℤ pos i *ℤ s) row_now.first.y) (to_z-of_z w64 g.step fits)
-      ∙ ap (λ x. spot (x +ℤ pos i *ℤ g.step) row_now.first.y) x_seen
-      ∙ ap (spot (g.first.x -ℤ pos 2 *ℤ at.x +ℤ pos i *ℤ g.step)) y_seen
-      ∙ ap (λ x. spot x ((centre_in g 0 row).y -ℤ pos 2 *ℤ at.y)) (step_seen g.first.x at.x g.step i)
+      ap (λ s. spot (row_now.x +ℤ pos i *ℤ s) row_now.y) (to_z-of_z w64 g.step fits)
+      ∙ ap (λ x. spot (x +ℤ pos i *ℤ g.step) row_now.y) x_seen
+      ∙ ap (spot (g.x -ℤ pos 2 *ℤ at.x +ℤ pos i *ℤ g.step)) y_seen
+      ∙ ap (λ x. spot x ((centre_in g 0 row).y -ℤ pos 2 *ℤ at.y)) (step_seen g.x at.x g.step i)
 
-  pub row_reaches : (i : ℕ) → i < g.columns → IsInReach (centre_at row_now i)
+  pub row_reaches : (i : ℕ) → i < g.cols → IsInReach (centre_at row_now i)
   row_reaches i inside = rw (row_seen i) (in_reach at (centre_in g i row) board (grid.centres i row inside below))

@@ -58,16 +58,6 @@ in_obround o h a s on = in_box o.centre o.width.0 o.height.0 h a s (obround_box 
 
 -- in a disc about an end of a way, or beside it
 module _ (p q : Point) (w : Nm) (h : Heights) (a : AreAlong p q w.0 h) (s : Spot) where
-  at_start : IsInDisc s (record { centre = p; diameter = w }) → IsWithin h s
-  at_start on =
-      let b = disc_box p s w on in
-      (omega (arith, ints, clamps, a.low, b.below), omega (arith, ints, clamps, a.high, b.above))
-
-  at_end : IsInDisc s (record { centre = q; diameter = w }) → IsWithin h s
-  at_end on =
-      let b = disc_box q s w on in
-      (omega (arith, ints, clamps, a.low, b.below), omega (arith, ints, clamps, a.high, b.above))
-
   beside : IsInBar s (record { from = p; to = q; width = w }) → IsWithin h s
   beside on =
       let b = bar_span p q w s on in

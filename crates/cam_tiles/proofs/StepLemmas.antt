@@ -50,22 +50,22 @@ pub no_step_down : (y s : ℤ) → y -ℤ pos 0 *ℤ s ≡ y
 no_step_down y s = equal (Difference (Atom y) (Product (Atom (pos 0)) (Atom s))) (Atom y) (omega arith)
 
 -- the first centre
-pub first_x : (g : Grid) → IsGrid g → IsNear g.first.x
-first_x g grid = subst IsNear (no_step g.first.x g.step) (grid.centres 0 0 grid.columns.0 grid.rows.0).x
+pub first_x : (g : Grid) → IsGrid g → IsNear g.x
+first_x g grid = subst IsNear (no_step g.x g.step) (grid.centres 0 0 grid.columns.0 grid.rows.0).x
 
-pub first_y : (g : Grid) → IsGrid g → IsNear g.first.y
-first_y g grid = subst IsNear (no_step_down g.first.y g.step) (grid.centres 0 0 grid.columns.0 grid.rows.0).y
+pub first_y : (g : Grid) → IsGrid g → IsNear g.y
+first_y g grid = subst IsNear (no_step_down g.y g.step) (grid.centres 0 0 grid.columns.0 grid.rows.0).y
 
-module _ (g : Grid) (column row : ℕ) (grid : IsGrid g) (inside : column < g.columns) (below : row < g.rows)
+module _ (g : Grid) (column row : ℕ) (grid : IsGrid g) (inside : column < g.cols) (below : row < g.rows)
     (fits : FitsSigned w64 g.step) where
   there : IsPlace (centre_in g column row)
   there = grid.centres column row inside below
 
   short_right : unsigned_abs (pos column *ℤ g.step) < 4000000000
-  short_right = way_right g.first.x (pos column *ℤ g.step) (first_x g grid) there.x
+  short_right = way_right g.x (pos column *ℤ g.step) (first_x g grid) there.x
 
   pub short_down : unsigned_abs (pos row *ℤ g.step) < 4000000000
-  short_down = way_down g.first.y (pos row *ℤ g.step) (first_y g grid) there.y
+  short_down = way_down g.y (pos row *ℤ g.step) (first_y g grid) there.y
 
   way_right_is : (n : ℤ) → n ≡ pos column → long n *ℤ long g.step ≡ pos column *ℤ g.step
   way_right_is n e = way_kept n g.step column e (omega (arith, grid.columns)) fits
@@ -80,29 +80,29 @@ module _ (g : Grid) (column row : ℕ) (grid : IsGrid g) (inside : column < g.co
   down_way_fits n e = fits_short _ _ (way_down_is n e) short_down
 
   x_is : (n : ℤ) → n ≡ pos column
-      → long g.first.x +ℤ long (long n *ℤ long g.step) ≡ g.first.x +ℤ pos column *ℤ g.step
+      → long g.x +ℤ long (long n *ℤ long g.step) ≡ g.x +ℤ pos column *ℤ g.step
   x_is n e =
-      right_is g.first.x (long n *ℤ long g.step) (pos column *ℤ g.step) (way_right_is n e) (first_x g grid) short_right
+      right_is g.x (long n *ℤ long g.step) (pos column *ℤ g.step) (way_right_is n e) (first_x g grid) short_right
 
-  y_is : (n : ℤ) → n ≡ pos row → long g.first.y -ℤ long (long n *ℤ long g.step) ≡ g.first.y -ℤ pos row *ℤ g.step
-  y_is n e = down_is g.first.y (long n *ℤ long g.step) (pos row *ℤ g.step) (way_down_is n e) (first_y g grid) short_down
+  y_is : (n : ℤ) → n ≡ pos row → long g.y -ℤ long (long n *ℤ long g.step) ≡ g.y -ℤ pos row *ℤ g.step
+  y_is n e = down_is g.y (long n *ℤ long g.step) (pos row *ℤ g.step) (way_down_is n e) (first_y g grid) short_down
 
-  pub x_fits : (n : ℤ) → n ≡ pos column → FitsSigned w64 (long g.first.x +ℤ long (long n *ℤ long g.step))
+  pub x_fits : (n : ℤ) → n ≡ pos column → FitsSigned w64 (long g.x +ℤ long (long n *ℤ long g.step))
   x_fits n e = fits_near _ _ (x_is n e) there.x
 
-  pub y_fits : (n : ℤ) → n ≡ pos row → FitsSigned w64 (long g.first.y -ℤ long (long n *ℤ long g.step))
+  pub y_fits : (n : ℤ) → n ≡ pos row → FitsSigned w64 (long g.y -ℤ long (long n *ℤ long g.step))
   y_fits n e = fits_near _ _ (y_is n e) there.y
 
   pub y_kept : (n : ℤ) → n ≡ pos row
-      → long (long g.first.y -ℤ long (long n *ℤ long g.step)) ≡ g.first.y -ℤ pos row *ℤ g.step
+      → long (long g.y -ℤ long (long n *ℤ long g.step)) ≡ g.y -ℤ pos row *ℤ g.step
   y_kept n e = long_near _ _ (y_is n e) there.y
 
   -- the centre as the code computes it
   pub centre_kept : (m n : ℤ) → m ≡ pos column → n ≡ pos row → ◌≡◌ {A = Spot} record {
-    x = long (long g.first.x +ℤ long (long m *ℤ long g.step));
-    y = long (long g.first.y -ℤ long (long n *ℤ long g.step));
+    x = long (long g.x +ℤ long (long m *ℤ long g.step));
+    y = long (long g.y -ℤ long (long n *ℤ long g.step));
   } (centre_in g column row)
   centre_kept m n e f =
       let spot : ℤ → ℤ → Spot = λ x y. record { x = x; y = y } in
-      ap (λ x. spot x (long (long g.first.y -ℤ long (long n *ℤ long g.step)))) (long_near _ _ (x_is m e) there.x)
-      ∙ ap (spot (g.first.x +ℤ pos column *ℤ g.step)) (y_kept n f)
+      ap (λ x. spot x (long (long g.y -ℤ long (long n *ℤ long g.step)))) (long_near _ _ (x_is m e) there.x)
+      ∙ ap (spot (g.x +ℤ pos column *ℤ g.step)) (y_kept n f)

@@ -50,8 +50,8 @@ module _ (w : Window) (first tile : ℕ) (begins : first % across w ≡ 0) (fits
       (omega arith)
 
   -- a tile begins so many tiles right of the first
-  pub begins_at : (grid_of w (first + tile)).first.x
-      ≡ (grid_of w first).first.x +ℤ pos tile *ℤ (pos 64 *ℤ (pos 2 *ℤ w.pitch))
+  pub begins_at : (grid_of w (first + tile)).x
+      ≡ (grid_of w first).x +ℤ pos tile *ℤ (pos 64 *ℤ (pos 2 *ℤ w.pitch))
   begins_at =
       let left_end : 64 * (first % across w) ≡ 0 = omega (arith, begins) in
       let here : 64 * ((first + tile) % across w) ≡ 0 + 64 * tile = omega (arith, column_is) in
@@ -61,9 +61,9 @@ module _ (w : Window) (first tile : ℕ) (begins : first % across w ≡ 0) (fits
 
   -- as the pitch of the row has it
   module _ (p : Pitch) (is : p ≡ pitch_of (grid_of w first)) (g : Grid) (there : g ≡ grid_of w (first + tile)) where
-    pub tile_begins : g.first.x ≡ p.left +ℤ pos tile *ℤ p.stride
+    pub tile_begins : g.x ≡ p.left +ℤ pos tile *ℤ p.stride
     tile_begins =
-        ap (λ (h : Grid). h.first.x) there ∙ begins_at
+        ap (λ (h : Grid). h.x) there ∙ begins_at
         ∙ sym (ap (λ (q : Pitch). q.left +ℤ pos tile *ℤ q.stride) is)
 
     pub tile_wide : pos 64 *ℤ g.step ≡ p.stride
@@ -130,7 +130,7 @@ module _ (p : Pitch) (box : Bounds) (before : List ℕ) (masks : List Marking)
 
   -- and its mask
   module _ (m : Marking) (last : ℕ) (own wider : Bounds) (size : length before ≡ last + 1) (grid : IsGrid m.grid)
-      (held : HoldsCentres own m.grid) (begins : m.grid.first.x ≡ p.left +ℤ pos last *ℤ p.stride)
+      (held : HoldsCentres own m.grid) (begins : m.grid.x ≡ p.left +ℤ pos last *ℤ p.stride)
       (wide : pos 64 *ℤ m.grid.step ≡ p.stride) (first : (s : Spot) → Holds box s → Holds wider s)
       (second : (s : Spot) → Holds own s → Holds wider s) where
     one_more : length (masks ++ m ∷ []) ≡ length masks + 1
@@ -147,17 +147,17 @@ module _ (p : Pitch) (box : Bounds) (before : List ℕ) (masks : List Marking)
         → get_or before tile (length (masks ++ m ∷ [])) ≡ get_or before tile (length masks)
     kept_before tile within = get_or_default before tile (length (masks ++ m ∷ [])) (length masks) within
 
-    ends : (m.grid.first.x +ℤ pos 64 *ℤ m.grid.step) ≡ (p.left +ℤ pos (last + 1) *ℤ p.stride)
+    ends : (m.grid.x +ℤ pos 64 *ℤ m.grid.step) ≡ (p.left +ℤ pos (last + 1) *ℤ p.stride)
     ends =
         ap (λ x. x +ℤ pos 64 *ℤ m.grid.step) begins ∙ ap (λ way. p.left +ℤ pos last *ℤ p.stride +ℤ way) wide
         ∙ equal (Sum (Sum (Atom p.left) (Product (Atom (pos last)) (Atom p.stride))) (Atom p.stride))
         (Sum (Atom p.left) (Product (Atom (pos (last + 1))) (Atom p.stride))) (omega arith)
 
     abbrev IsEarly : ℕ → Grid → Type 0
-    IsEarly tile g = (g.first.x +ℤ pos 64 *ℤ g.step) ≤ℤ (p.left +ℤ pos tile *ℤ p.stride)
+    IsEarly tile g = (g.x +ℤ pos 64 *ℤ g.step) ≤ℤ (p.left +ℤ pos tile *ℤ p.stride)
 
     abbrev IsLate : ℕ → Grid → Type 0
-    IsLate tile g = (p.left +ℤ pos tile *ℤ p.stride) ≤ℤ g.first.x
+    IsLate tile g = (p.left +ℤ pos tile *ℤ p.stride) ≤ℤ g.x
 
     pub next_mask : IsLaidOut p wider before (length (masks ++ m ∷ [])) (grid_at (masks ++ m ∷ []))
     next_mask = record {

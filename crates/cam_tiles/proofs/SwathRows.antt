@@ -64,7 +64,7 @@ module _ (w : Window) (first tile : ℕ) (begins : first % across w ≡ 0) (fits
         centres = λ i row.
             spot_is _ _ _ _
             (ap (λ x. x +ℤ pos i *ℤ step) (begins_at w first tile begins fits)
-            ∙ further_right (grid_of w first).first.x step tile i)
+            ∙ further_right (grid_of w first).x step tile i)
             (ap (λ (l : Levels). l.top -ℤ pos row *ℤ step) levels);
       }
 
@@ -72,14 +72,14 @@ module _ (w : Window) (first tile : ℕ) (begins : first % across w ≡ 0) (fits
   pub tile_stands : StandsAt (grid_of w first) (64 * tile) g
   tile_stands = subst (StandsAt (grid_of w first) (64 * tile)) (sym is) stands
 
-  pub tile_within : 64 * tile + g.columns ≤ w.width
+  pub tile_within : 64 * tile + g.cols ≤ w.width
   tile_within =
-      let slim = ap (λ (o : Grid). o.columns) is in
+      let slim = ap (λ (o : Grid). o.cols) is in
       let here = ap (λ n. min 64 (w.width - 64 * n)) (column_is w first tile begins fits) in
       omega (arith, slim, here)
 
-  pub tile_narrow : g.columns ≤ 64
-  tile_narrow = let slim = ap (λ (o : Grid). o.columns) is in omega (arith, slim)
+  pub tile_narrow : g.cols ≤ 64
+  tile_narrow = let slim = ap (λ (o : Grid). o.cols) is in omega (arith, slim)
 
 -- how many masks are of tiles before one, by what was lent
 pub found : (before : List ℕ) (masks : List Marking) (tile result : ℕ) (those : List ℕ) (lent : List Marking)
@@ -128,7 +128,7 @@ module _ (g : Grid) (columns : ℕ) (tiles before : List ℕ) (masks : List Mark
   -- and its mask
   module _ (m : Marking) (last own : ℕ) (more : List ℕ) (is_more : more ≡ tiles ++ own ∷ []) (same : own ≡ last)
       (size : length before ≡ last + 1) (there : StandsAt g (64 * last) m.grid)
-      (inside : 64 * last + m.grid.columns ≤ columns) (slim : m.grid.columns ≤ 64) where
+      (inside : 64 * last + m.grid.cols ≤ columns) (slim : m.grid.cols ≤ 64) where
     one_more : length (masks ++ m ∷ []) ≡ length masks + 1
     one_more = length_push masks m
 
@@ -197,8 +197,8 @@ module _ (g : Grid) (columns : ℕ) (tiles before : List ℕ) (masks : List Mark
       wide = stand.wide;
       size = ap length is_more ∙ omega (arith, length_push tiles own, one_more, stand.size);
       each = by_mask (λ n o. StandsAt g (64 * n) o) stand.each there;
-      within = by_mask (λ n o. 64 * n + o.columns ≤ columns) stand.within inside;
-      narrow = by_mask (λ n o. o.columns ≤ 64) stand.narrow slim;
+      within = by_mask (λ n o. 64 * n + o.cols ≤ columns) stand.within inside;
+      narrow = by_mask (λ n o. o.cols ≤ 64) stand.narrow slim;
       few = λ tile. elim (cases_lt tile (length before)) [
         | inl early ↦ omega (arith, kept_before tile early, stand.few tile, one_more)
         | inr late ↦ omega (arith, get_or_past before tile (length (masks ++ m ∷ [])) late)

@@ -9,17 +9,17 @@ use Rattle.cam_tiles.specs.declared.grid.Grid.{Grid}
 use Rattle.cam_tiles.specs.Tiles.{centre_in, is_black_in, tile_rows, word}
 
 -- a row of a grid is clear past its columns
-pub clear_past : (image : Spot → Bool) (g : Grid) (row i : ℕ) → g.columns ≤ i → is_black_in image g row i ≡ false
+pub clear_past : (image : Spot → Bool) (g : Grid) (row i : ℕ) → g.cols ≤ i → is_black_in image g row i ≡ false
 clear_past image g row i past =
-    ap (λ b. nat_lt row g.rows && (b && image (centre_in g i row))) (le-ltb i g.columns past)
+    ap (λ b. nat_lt row g.rows && (b && image (centre_in g i row))) (le-ltb i g.cols past)
     ∙ and-false (nat_lt row g.rows)
 
 -- and the image within them
-pub shown_within : (image : Spot → Bool) (g : Grid) (row i : ℕ) → row < g.rows → i < g.columns
+pub shown_within : (image : Spot → Bool) (g : Grid) (row i : ℕ) → row < g.rows → i < g.cols
     → image (centre_in g i row) ≡ is_black_in image g row i
 shown_within image g row i below inside =
-    sym (ap (λ b. b && (nat_lt i g.columns && image (centre_in g i row))) (lt-ltb row g.rows below)
-    ∙ ap (λ b. b && image (centre_in g i row)) (lt-ltb i g.columns inside))
+    sym (ap (λ b. b && (nat_lt i g.cols && image (centre_in g i row))) (lt-ltb row g.rows below)
+    ∙ ap (λ b. b && image (centre_in g i row)) (lt-ltb i g.cols inside))
 
 pub length-tile_rows : (image : Spot → Bool) (g : Grid) → length (tile_rows image g) ≡ 64
 unfolding tile_rows

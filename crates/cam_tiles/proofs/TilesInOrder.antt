@@ -6,8 +6,7 @@ use Rattle.std.proofs.lemmas.Bool.{false≢true, true≢false}
 use Rattle.std.proofs.lemmas.List.{append-nil, drop_all, drop_more, drop-drop, drop-set-lt, get_or-drop, length-take-le, take-append-drop, take_all}
 use Rattle.std.proofs.lemmas.List.{take_more, take_more_set}
 use Rattle.std.proofs.lemmas.List.Elements.{All-cons, All-nil}
-use Rattle.std.proofs.lemmas.Slice.{drop-put_mid, take-put_mid}
-use borrow.Rule.Slice.PartMut.{mid_of, put_mid}
+use borrow.Rule.Slice.PartMut.{mid_of}
 use Rattle.cam_tiles.specs.declared.grid.Grid.{Grid}
 use Rattle.cam_tiles.specs.Machinery.Swaths.{dirty_grids}
 use Rattle.cam_tiles.specs.Tables.{Tile, all_drawn_from}
@@ -88,6 +87,20 @@ module _ (draw : ℕ → List ℕ) where
   length-all_drawn_from k (Some rows ∷ tiles) = ap suc (length-all_drawn_from (k + 1) tiles)
   length-all_drawn_from k (None ∷ tiles) = ap suc (length-all_drawn_from (k + 1) tiles)
 
+-- how many of the tiles from number k on are dirty
+pub dirty_past_clean : (k : ℕ) (tiles : List Tile) (rows : List ℕ) → k < length tiles
+    → get_or tiles k (Some rows) ≡ Some rows → dirty (drop k tiles) ≡ dirty (drop (k + 1) tiles)
+dirty_past_clean k tiles rows within read =
+    ap dirty (drop_more tiles k (Some rows) within ∙ ap (λ t. t ∷ drop (k + 1) tiles) read)
+    ∙ dirty_after_clean rows (drop (k + 1) tiles)
+
+pub dirty_past_dirty : (k : ℕ) (tiles : List Tile) (rows : List ℕ) → k < length tiles → get_or tiles k None ≡ None
+    → dirty (drop k tiles) ≡ 1 + dirty (drop (k + 1) (set tiles k (Some rows)))
+dirty_past_dirty k tiles rows within read =
+    ap dirty (drop_more tiles k None within ∙ ap (λ t. t ∷ drop (k + 1) tiles) read)
+    ∙ dirty_after_dirty (drop (k + 1) tiles)
+    ∙ ap (λ rest. 1 + dirty rest) (sym (drop-set-lt (k + 1) tiles k (Some rows) (omega arith)))
+
 module _ (grid : ℕ → Grid) where
   -- there are as many grids as dirty tiles
   pub length-dirty_grids : (k : ℕ) (tiles : List Tile) → length (dirty_grids grid k tiles) ≡ dirty tiles
@@ -137,12 +150,6 @@ pub record IsPutTo (draw : ℕ → List ℕ) (grid : ℕ → Grid) (first k next
   pub rest : drop next (dirty_grids grid first old) ≡ dirty_grids grid (first + k) (drop k now)
 
 module _ (draw : ℕ → List ℕ) (grid : ℕ → Grid) (first : ℕ) (old : List Tile) where
-  pub none_put : IsPutTo draw grid first 0 0 old old
-  none_put = record {
-    drawn = none_yet draw first old;
-    rest = let same : first ≡ first + 0 = omega arith in ap (λ n. dirty_grids grid n old) same;
-  }
-
   module _ (k next : ℕ) (now : List Tile) (so_far : IsPutTo draw grid first k next old now) (within : k < length now)
     where
       pub put_clean : (rows : List ℕ) → get_or now k (Some rows) ≡ Some rows
@@ -205,21 +212,3 @@ module _ (draw : ℕ → List ℕ) (first end : ℕ) (tiles part : List Tile) (o
   part_size =
       ap length is ∙ length-all_drawn_from draw first (mid_of first (end - first) tiles)
       ∙ middle_length first end tiles order within
-
-  pub row_drawn : drawn_on draw 0 first tiles ≡ drawn_on draw 0 end (put_mid first (end - first) tiles part)
-  row_drawn =
-      let begin : 0 + first ≡ first = omega arith in
-      let front = take first tiles in
-      let rest = all_drawn_from draw (0 + end) (drop end tiles) in
-      let now = put_mid first (end - first) tiles part in
-      let next : 0 + end ≡ 0 + first + length (mid_of first (end - first) tiles) = omega (arith, middle_length first end tiles order within) in
-      ap (λ those. front ++ all_drawn_from draw (0 + first) those) (split first end tiles order within)
-      ∙ ap (λ those. front ++ those)
-      (drawn_append draw (0 + first) (0 + end) (mid_of first (end - first) tiles) (drop end tiles) next)
-      ∙ ap (λ those. front ++ (those ++ rest))
-      (ap (λ n. all_drawn_from draw n (mid_of first (end - first) tiles)) begin ∙ sym is)
-      ∙ sym (append_assoc front part rest)
-      ∙ ap (λ those. those ++ rest)
-      (sym (take-put_mid first (end - first) tiles part end (omega (arith, part_size)) (omega arith)))
-      ∙ ap (λ those. take end now ++ all_drawn_from draw (0 + end) those)
-      (sym (drop-put_mid first (end - first) tiles part end (omega arith) (omega arith) part_size))

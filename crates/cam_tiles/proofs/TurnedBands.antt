@@ -1,20 +1,18 @@
 -- Rows of a band, one below another from its first, as they are seen from a point.
-use Rattle.std.proofs.Common.{◌≡◌, ◌⊎◌, ℕ, ◌+◌, ◌-◌, ◌<◌, ◌≤◌, ℤ, pos, ◌+ℤ◌, ◌-ℤ◌, ◌*ℤ◌}
+use Rattle.std.proofs.Common.{◌≡◌, ℕ, ◌+◌, ◌-◌, ◌<◌, ◌≤◌, ℤ, pos, ◌+ℤ◌, ◌-ℤ◌, ◌*ℤ◌}
 use Rattle.std.proofs.Common.{List, length, slice_index, ap, ◌∙◌, inl, inr, rules, arith}
 use Rattle.std.proofs.lemmas.Bool.{cases_lt}
 use Rattle.std.proofs.lemmas.Int.{ints}
 use Rattle.std.proofs.lemmas.List.{places}
 use borrow.Rule.Slice.PartMut.{mid_of, put_mid}
-use Rattle.cam_units.specs.Board.{IsOnBoard}
 use Rattle.cam_units.specs.declared.point.Point.{Point}
 use Rattle.cam_units.proofs.Ring.{equal}
 use Rattle.cam_units.proofs.Ring.Polynomial.{Atom, Difference, Product}
 use Rattle.cam_objects.specs.Image.{relative}
 use Rattle.cam_rows.specs.declared.centres.Centres.{Centres}
-use Rattle.cam_rows.specs.Rows.{IsRow, centre_at, row_below}
+use Rattle.cam_rows.specs.Rows.{centre_at, row_below}
 use Rattle.cam_tiles.specs.declared.grid.Grid.{Grid}
-use Rattle.cam_tiles.specs.Tiles.{IsGrid, centre_in}
-use Rattle.cam_tiles.proofs.SeenRows.{in_reach}
+use Rattle.cam_tiles.specs.Tiles.{centre_in}
 
 -- ---- a part of a list that is written
 
@@ -25,10 +23,6 @@ module _ (first end : ℕ) (old part : List ℕ) (some : first < end) (long : en
 
   pub part_at : (row : ℕ) → first ≤ row → row < end → slice_index written row ≡ slice_index part (row - first)
   part_at row after until = search (rules, places)
-
-  pub others_kept : (row : ℕ) → (row < first) ⊎ (end ≤ row) → slice_index written row ≡ slice_index old row
-  others_kept row (inl early) = search (rules, places)
-  others_kept row (inr late) = search (rules, places)
 
 pub part_length : (first end : ℕ) (old : List ℕ) → first < end → end ≤ length old
     → length (mid_of first (end - first) old) ≡ end - first
@@ -54,27 +48,18 @@ module _ (g : Grid) (at : Point) (top : Centres) (first : ℕ)
     (centres : (i : ℕ) → centre_at top i ≡ relative at (centre_in g i first)) where
   step_kept : top.step ≡ g.step
   step_kept =
-      step_is top.first.x top.step g.first.x g.step (pos 2 *ℤ at.x) (ap (λ s. s.x) (centres 0))
+      step_is top.x top.step g.x g.step (pos 2 *ℤ at.x) (ap (λ s. s.x) (centres 0))
       (ap (λ s. s.x) (centres 1))
 
   height_below : (k : ℕ)
-      → top.first.y -ℤ pos k *ℤ top.step ≡ g.first.y -ℤ pos (first + k) *ℤ g.step -ℤ pos 2 *ℤ at.y
+      → top.y -ℤ pos k *ℤ top.step ≡ g.y -ℤ pos (first + k) *ℤ g.step -ℤ pos 2 *ℤ at.y
   height_below k =
       ap (λ s. s.y -ℤ pos k *ℤ top.step) (centres 0)
-      ∙ ap (λ s. g.first.y -ℤ pos first *ℤ g.step -ℤ pos 2 *ℤ at.y -ℤ pos k *ℤ s) step_kept
-      ∙ further_down g.first.y g.step (pos 2 *ℤ at.y) first k
+      ∙ ap (λ s. g.y -ℤ pos first *ℤ g.step -ℤ pos 2 *ℤ at.y -ℤ pos k *ℤ s) step_kept
+      ∙ further_down g.y g.step (pos 2 *ℤ at.y) first k
 
   pub below_seen : (k i : ℕ) → centre_at (row_below top k) i ≡ relative at (centre_in g i (first + k))
   below_seen k i = λ j. record { x = (centres i j).x; y = height_below k j }
-
-  pub rows_below : IsGrid g → IsOnBoard at → top.count ≡ g.columns → IsRow top
-      → (k : ℕ) → first + k < g.rows → IsRow (row_below top k)
-  rows_below grid board count row k below = record {
-    count = row.count;
-    step = row.step;
-    centres = λ i inside. rw (below_seen k i) (in_reach at (centre_in g i (first + k)) board
-        (grid.centres i (first + k) (rw (← count) inside) below));
-  }
 
 -- a row lies above a band, in it or below it
 pub by_band : (first end row : ℕ) {Q : Type 0} → (row < first → Q) → (first ≤ row → row < end → Q) → (end ≤ row → Q) → Q

@@ -1,5 +1,5 @@
 -- Centres in the rows of tiles that are turned over by marks: those of a contour, one segment after another.
-use Rattle.std.proofs.Common.{◌≡◌, ◌≢◌, ◌↔◌, ℕ, ◌+◌, ◌-◌, ◌*◌, ◌/◌, ◌%◌, ◌<◌, ◌≤◌, ◌==◌, ℤ, Bool, true, false, IsTrue}
+use Rattle.std.proofs.Common.{◌≡◌, ◌≢◌, ◌↔◌, ℕ, ◌+◌, ◌-◌, ◌*◌, ◌/◌, ◌%◌, ◌<◌, ◌≤◌, ◌==◌, ℤ, Bool, false, IsTrue}
 use Rattle.std.proofs.Common.{List, ◌++◌, length, slice_index, refl, sym, ap, subst, ◌∙◌, inl, inr, arith}
 use Rattle.std.proofs.lemmas.Bool.{cases_lt, false≢true}
 use Rattle.std.proofs.lemmas.List.{get_or_append_left, get_or_past}
@@ -13,9 +13,9 @@ use Rattle.cam_shapes.specs.declared.cap.Cap.{Cap}
 use Rattle.cam_shapes.specs.Cap.{is_in_cap}
 use Rattle.cam_shapes.specs.Edge.{crosses_ray, edge, is_above}
 use Rattle.cam_shapes.specs.Sides.{changes_side, differ}
-use Rattle.cam_rows.specs.Marks.{AreSpread, TurnsRows, is_marked, is_set, is_turned, turns_past}
+use Rattle.cam_rows.specs.Marks.{AreSpread, TurnsRows, is_set, is_turned, turns_past}
 use Rattle.cam_rows.specs.declared.centres.Centres.{Centres}
-use Rattle.cam_rows.specs.Rows.{row_below}
+use Rattle.cam_rows.specs.Rows.{first_of, row_below}
 use Rattle.cam_rows.specs.Runs.{AreEnds, AreRuns, IsInRun}
 use Rattle.cam_rows.proofs.MarkedColumns.{none_odd}
 use Rattle.cam_tiles.specs.declared.grid.Grid.{Grid}
@@ -34,10 +34,6 @@ still_wide columns old new size wide = record {
   room = omega (arith, size, wide.room);
   tiles = ap (λ n. n % 64) size ∙ wide.tiles;
 }
-
-differ_none : (b : Bool) → differ b false ≡ b
-differ_none true = refl
-differ_none false = refl
 
 module _ (g : Grid) (columns : ℕ) where
   pub turns_like : (P Q : Spot → Type 0) (old new : List ℕ) → ((s : Spot) → P s ↔ Q s)
@@ -109,7 +105,7 @@ module _ (g : Grid) (columns : ℕ) where
         (turned row column (omega (arith, within, few)) (omega (arith, near, room)));
   }
 
-  module _ (first end : ℕ) (P : Spot → Type 0) (x y step : ℤ) (old new : List ℕ) (is_x : x ≡ g.first.x)
+  module _ (first end : ℕ) (P : Spot → Type 0) (x y step : ℤ) (old new : List ℕ) (is_x : x ≡ g.x)
       (is_y : y ≡ height (levels_of g) first) (is_step : step ≡ g.step) (some : first < end) (few : g.rows ≤ 64)
       (room : columns ≤ length old)
       (rows : (row : ℕ) (s : Spot) → IsOnRow (levels_of g) row s → P s → (first ≤ row) × (row < end)) where
@@ -120,7 +116,7 @@ module _ (g : Grid) (columns : ℕ) where
         (band.0, omega (arith, band.1, size, some))
 
     pub ends_turned : (ends : List ℕ) → length ends ≡ end - first
-        → AreEnds ends (record { first = record { x = x; y = y }; step = step; count = columns }) P
+        → AreEnds ends (record { x = x; y = y; step = step; n = columns }) P
         → TurnsRows first (length ends) (λ k column. column < slice_index ends k) old new
         → TurnsCentres g columns P old new
     ends_turned ends size told turned =
@@ -130,7 +126,7 @@ module _ (g : Grid) (columns : ℕ) where
         (in_rows (length ends) size) turned
 
     pub runs_turned : (firsts ends : List ℕ) → length firsts ≡ end - first
-        → AreRuns firsts ends (record { first = record { x = x; y = y }; step = step; count = columns }) P
+        → AreRuns firsts ends (record { x = x; y = y; step = step; n = columns }) P
         → TurnsRows first (length firsts) (λ k column. IsInRun (slice_index firsts k) (slice_index ends k) column) old new
         → TurnsCentres g columns P old new
     runs_turned firsts ends size told turned =
@@ -146,11 +142,11 @@ module _ (g : Grid) (columns : ℕ) where
       → ((row : ℕ) (s : Spot) → IsOnRow (levels_of g) row s
       → ((first ≤ row) × (row < end)) ↔ (is_above p s ≢ is_above q s))
       → (n : ℕ) → n ≡ end - first → (k : ℕ) → k < n
-      → (let top : Centres = record { first = record { x = x; y = y }; step = step; count = columns } in
-      is_above p (row_below top k).first ≢ is_above q (row_below top k).first)
+      → (let top : Centres = record { x = x; y = y; step = step; n = columns } in
+      is_above p (first_of (row_below top k)) ≢ is_above q (first_of (row_below top k)))
   top_crossed first end p q x y step is_y is_step low rows n size k few =
-      rw (is_y, is_step) ((rows (first + k) (row_below (top_of g columns first) k).first
-      (omega (arith, few, size, low), further_down g.first.y g.step first k)).0
+      rw (is_y, is_step) ((rows (first + k) (first_of (row_below (top_of g columns first) k))
+      (omega (arith, few, size, low), further_down g.y g.step first k)).0
       (omega arith, omega (arith, few, size)))
 
   -- a band without rows
@@ -183,17 +179,6 @@ module _ (g : Grid) (columns : ℕ) where
       let same = told row column (omega (arith, within, few)) (omega (arith, near, room)) in
       let even = nothing_turned blank none row column in
       from_even _ _ _ _ ((λ t. sym same ∙ t), (λ t. same ∙ t)) (λ t. false≢true (sym even ∙ t))
-      (h.each column row near within)
-
-  -- the marks of one tile, which need not be spread
-  pub marked_inside : (P : Spot → Type 0) (blank turned : List ℕ)
-      → ((k : ℕ) → k < length blank → slice_index blank k ≡ 0) → columns ≤ 64 → length turned ≡ 64
-      → TurnsCentres g columns P blank turned → MarksCentres g columns P turned
-  marked_inside P blank turned none narrow one h column row near within =
-      let last : length turned / 64 - (column / 64 + 1) ≡ 0 = omega (arith, one) in
-      let same : is_turned turned row column ≡ is_marked turned row column = rw last (differ_none (is_marked turned row column)) in
-      let even = nothing_turned blank none row column in
-      from_even _ _ _ _ ((λ t. same ∙ t), (λ t. sym same ∙ t)) (λ t. false≢true (sym even ∙ t))
       (h.each column row near within)
 
   -- words behind them change none of them

@@ -1,3 +1,4 @@
+pub mod Faults
 pub mod Machinery
 pub mod Pbm
 pub mod Picture

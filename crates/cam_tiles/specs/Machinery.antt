@@ -1,15 +1,16 @@
 -- Words of the contracts of inner functions: they mirror the code. A reader who trusts the definitions beside this
 -- folder has read all that the theorems mean.
 pub mod Blackened
+pub mod Figures
 pub mod Filing
 pub mod Indexes
 pub mod Kept
 pub mod Levels
 pub mod Masks
+pub mod Plain
 pub mod RowLists
 pub mod Runs
 pub mod Shown
 pub mod Spans
-pub mod Figures
 pub mod Swaths
 pub mod Turning

@@ -41,27 +41,28 @@ rows w k = min 64 (w.height - top w k)
 -- the centres of its pixels
 abbrev pub grid_of : Window → ℕ → Grid
 grid_of w k = record {
-  first = centre_of w (left w k) (top w k);
+  x = (centre_of w (left w k) (top w k)).x;
+  y = (centre_of w (left w k) (top w k)).y;
   step = pos 2 *ℤ w.pitch;
-  columns = columns w k;
+  cols = columns w k;
   rows = rows w k;
 }
 
 -- the centre in a column and a row of a grid, which are counted from the upper left one
 abbrev pub centre_in : Grid → ℕ → ℕ → Spot
-centre_in g column row = record { x = g.first.x +ℤ pos column *ℤ g.step; y = g.first.y -ℤ pos row *ℤ g.step }
+centre_in g column row = record { x = g.x +ℤ pos column *ℤ g.step; y = g.y -ℤ pos row *ℤ g.step }
 
 -- a grid of at most 64 by 64 centres, each right of or below the one before it, all of them places of the board
 pub record IsGrid (g : Grid) : Type 0 where
   pub step : pos 1 ≤ℤ g.step
-  pub columns : (1 ≤ g.columns) × (g.columns ≤ 64)
+  pub columns : (1 ≤ g.cols) × (g.cols ≤ 64)
   pub rows : (1 ≤ g.rows) × (g.rows ≤ 64)
-  pub centres : (column row : ℕ) → column < g.columns → row < g.rows → IsPlace (centre_in g column row)
+  pub centres : (column row : ℕ) → column < g.cols → row < g.rows → IsPlace (centre_in g column row)
 
 -- whether an image is black at a centre of a grid; nothing past it is
 abbrev pub is_black_in : (Spot → Bool) → Grid → ℕ → ℕ → Bool
 is_black_in image g row column =
-    nat_lt row g.rows && (nat_lt column g.columns && image (centre_in g column row))
+    nat_lt row g.rows && (nat_lt column g.cols && image (centre_in g column row))
 
 -- the number whose bit i is set where `bit` says so, for each i under n
 unfoldable pub word : (ℕ → Bool) → ℕ → ℕ

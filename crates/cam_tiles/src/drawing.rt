@@ -1,4 +1,4 @@
-//! Dirty tiles of a window, drawn row of tiles by row of tiles, or each on its own.
+//! The quick way to draw the dirty tiles of a window: row of tiles by row of tiles. It may stop where memory is refused.
 
 ghost use Rattle.std.specs.Prelude.{◌≡◌, ◌+◌, ◌%◌, ◌<◌, ◌≤◌, OnOk, count_by, is_none, length, true};
 ghost use Rattle.cam_objects.specs.Leaves.{Leaf};
@@ -13,9 +13,9 @@ ghost use Rattle.cam_tiles.specs.Tiles.{across, grid_of, tile_rows, tiles_of};
 
 use crate::index::Index;
 use crate::index::seen::Seen;
-use crate::masks::mask::Mask;
 use crate::masks::swath::Swath;
 use crate::painter::Tile;
+use crate::plain::tile_of;
 use crate::shown::Shown;
 use crate::window::Window;
 use cam_units::Bounds;
@@ -27,20 +27,34 @@ const FEW_TILES: usize = 16;
 /// How many items may be seen at least where that is tried.
 const MANY_ITEMS: usize = 256;
 
-/// Draws the dirty ones of the first tiles of a window: row by row of them where there is memory for an index.
-pub(crate) fn draw(alloc: Global, shown: &Shown<'_>, window: &Window, tiles: &mut [Tile])
+/// Draws the dirty ones of the first tiles of a window: row by row of them where there is an allocator, and tile by tile
+/// what is left then.
+pub(crate) fn draw(alloc: Option<Global>, shown: &Shown<'_>, window: &Window, tiles: &mut [Tile])
     requires ready { IsReady shown.now }
     requires accepted { accepts window.now ≡ true }
     requires within { length tiles.old ≤ tiles_of window.now }
     ensures { tiles.new
         ≡ all_drawn_from (λ k. tile_rows (is_black (leaves_of shown.now)) (grid_of window.now k)) 0 tiles.old }
 {
-    if draw_seen(alloc, shown, window, tiles).is_err() {
-        draw_each(shown, window, 0, tiles);
-    }
+    draw_quickly(alloc, shown, window, tiles);
+    draw_left(shown, window, tiles);
 }
 
-/// Draws the dirty ones of the first tiles of a window, by the items that may be seen there. Where memory is refused,
+/// Draws dirty ones of the first tiles of a window, row by row of them: all where there is an allocator and memory.
+fn draw_quickly(alloc: Option<Global>, shown: &Shown<'_>, window: &Window, tiles: &mut [Tile])
+    requires ready { IsReady shown.now }
+    requires accepted { accepts window.now ≡ true }
+    requires within { length tiles.old ≤ tiles_of window.now }
+    ensures { IsPartlyDrawn (λ k. tile_rows (is_black (leaves_of shown.now)) (grid_of window.now k)) 0
+        tiles.old tiles.new }
+{
+    let Some(alloc) = alloc else {
+        return;
+    };
+    let _ = draw_seen(alloc, shown, window, tiles);
+}
+
+/// Draws the dirty ones of the first tiles of a window, by the items that may be seen there; where memory is refused,
 /// some of them.
 fn draw_seen(
     alloc: Global,
@@ -51,10 +65,8 @@ fn draw_seen(
     requires ready { IsReady shown.now }
     requires accepted { accepts window.now ≡ true }
     requires within { length tiles.old ≤ tiles_of window.now }
-    ensures some { IsPartlyDrawn (λ k. tile_rows (is_black (leaves_of shown.now)) (grid_of window.now k)) 0
+    ensures { IsPartlyDrawn (λ k. tile_rows (is_black (leaves_of shown.now)) (grid_of window.now k)) 0
         tiles.old tiles.new }
-    ensures all { OnOk result (tiles.new
-        ≡ all_drawn_from (λ k. tile_rows (is_black (leaves_of shown.now)) (grid_of window.now k)) 0 tiles.old) }
 {
     let within = box_of_dirty(tiles, window);
     let mut seen = Seen::new(alloc, shown, within)?;
@@ -66,8 +78,7 @@ fn draw_seen(
     }
     seen.look(shown, window, shown.len())?;
     let mut index = Index::of(alloc, shown, window, seen)?;
-    draw_rows(&mut index, &mut swath, shown, window, tiles);
-    Ok(())
+    draw_rows(&mut index, &mut swath, shown, window, tiles)
 }
 
 /// Draws those rows of tiles whose items can be painted from the last on, where few tiles are dirty and more items may be
@@ -90,25 +101,6 @@ fn draw_last_first(
     if seen.is_complete() || dirty_in(tiles) > FEW_TILES {
         return Ok(());
     }
-    draw_rows_last_first(seen, swath, shown, window, tiles)
-}
-
-/// Draws those rows of tiles whose items can be painted from the last on.
-fn draw_rows_last_first(
-    seen: &mut Seen,
-    swath: &mut Swath,
-    shown: &Shown<'_>,
-    window: &Window,
-    tiles: &mut [Tile],
-) -> Result<(), AllocError>
-    requires ready { IsReady shown.now }
-    requires seen { AreSeenBy (leaves_by_item shown.now) window.now seen.old }
-    requires accepted { accepts window.now ≡ true }
-    requires within { length tiles.old ≤ tiles_of window.now }
-    ensures seen { OnOk result (AreSeenBy (leaves_by_item shown.now) window.now seen.new) }
-    ensures tiles { IsPartlyDrawn (λ k. tile_rows (is_black (leaves_of shown.now)) (grid_of window.now k)) 0
-        tiles.old tiles.new }
-{
     let across = window.across() as usize;
     for row in 0..tiles.len().div_ceil(across) {
         let first = row * across;
@@ -158,49 +150,33 @@ fn box_of_dirty(tiles: &[Tile], window: &Window) -> Bounds
     all
 }
 
-/// Draws the dirty ones of tiles, each on a mask of its own; the first of them has a number.
-fn draw_each(shown: &Shown<'_>, window: &Window, first: u32, tiles: &mut [Tile])
-    requires ready { IsReady shown.now }
-    requires accepted { accepts window.now ≡ true }
-    requires within { first + length tiles.old ≤ tiles_of window.now }
-    ensures { tiles.new
-        ≡ all_drawn_from (λ k. tile_rows (is_black (leaves_of shown.now)) (grid_of window.now k)) first tiles.old }
-{
-    for k in 0..tiles.len() {
-        if tiles[k].is_none() {
-            let mut mask = Mask::blank(window.grid(first + k as u32));
-            shown.paint(&mut mask);
-            tiles[k] = Some(mask.rows());
-        }
-    }
-}
-
-/// Draws the dirty ones of the first tiles of a window, row by row of them.
+/// Draws the dirty ones of the first tiles of a window, row by row of them. Where memory is refused, some of them.
 fn draw_rows(
     index: &mut Index,
     swath: &mut Swath,
     shown: &Shown<'_>,
     window: &Window,
     tiles: &mut [Tile],
-)
+) -> Result<(), AllocError>
     requires ready { IsReady shown.now }
     requires index { IsIndexOf (leaves_by_item shown.now) window.now index.old }
     requires accepted { accepts window.now ≡ true }
     requires within { length tiles.old ≤ tiles_of window.now }
-    ensures { tiles.new
-        ≡ all_drawn_from (λ k. tile_rows (is_black (leaves_of shown.now)) (grid_of window.now k)) 0 tiles.old }
+    ensures { IsPartlyDrawn (λ k. tile_rows (is_black (leaves_of shown.now)) (grid_of window.now k)) 0
+        tiles.old tiles.new }
 {
     let across = window.across() as usize;
     for row in 0..tiles.len().div_ceil(across) {
         let first = row * across;
         let end = (first + across).min(tiles.len());
         let part = &mut tiles[first..end];
-        draw_row(index, swath, shown, window, first as u32, part);
+        draw_row(index, swath, shown, window, first as u32, part)?;
     }
+    Ok(())
 }
 
-/// Draws the dirty ones of tiles of a row of them, all at once; where memory for their masks is refused, each on its
-/// own. The first of them has a number.
+/// Draws the dirty ones of tiles of a row of them, all at once; none where memory for their masks is refused. The first
+/// of them has a number.
 fn draw_row(
     index: &mut Index,
     swath: &mut Swath,
@@ -208,21 +184,35 @@ fn draw_row(
     window: &Window,
     first: u32,
     tiles: &mut [Tile],
-)
+) -> Result<(), AllocError>
     requires ready { IsReady shown.now }
     requires index { IsIndexOf (leaves_by_item shown.now) window.now index.old }
     requires accepted { accepts window.now ≡ true }
     requires row { IsRowOfTiles window.now first tiles.old }
     ensures index { IsIndexOf (leaves_by_item shown.now) window.now index.new }
-    ensures tiles { tiles.new
-        ≡ all_drawn_from (λ k. tile_rows (is_black (leaves_of shown.now)) (grid_of window.now k)) first tiles.old }
+    ensures tiles { IsPartlyDrawn (λ k. tile_rows (is_black (leaves_of shown.now)) (grid_of window.now k)) first
+        tiles.old tiles.new }
 {
-    let Ok(()) = swath.turn_to(window, first, tiles) else {
-        draw_each(shown, window, first, tiles);
-        return;
-    };
+    swath.turn_to(window, first, tiles)?;
     index.paint(shown, window, first, swath);
     swath.put(tiles);
+    Ok(())
+}
+
+/// Draws the dirty ones of the first tiles of a window, tile by tile.
+fn draw_left(shown: &Shown<'_>, window: &Window, tiles: &mut [Tile])
+    requires ready { IsReady shown.now }
+    requires accepted { accepts window.now ≡ true }
+    requires within { length tiles.old ≤ tiles_of window.now }
+    ensures { tiles.new
+        ≡ all_drawn_from (λ k. tile_rows (is_black (leaves_of shown.now)) (grid_of window.now k)) 0 tiles.old }
+{
+    for k in 0..tiles.len() {
+        if tiles[k].is_none() {
+            let rows = tile_of(shown, window.grid(k as u32));
+            tiles[k] = Some(rows);
+        }
+    }
 }
 
 /// How many of the tiles are dirty.

@@ -1,6 +1,7 @@
 //! What a raster refuses.
 
 ghost use Rattle.std.specs.Prelude.{◌≡◌};
+ghost use Rattle.cam_tiles.specs.Faults.{number_of};
 ghost use Rattle.cam_tiles.specs.declared.fault.RasterFault.TheVariants.{Memory};
 
 use std::alloc::AllocError;
@@ -18,6 +19,19 @@ pub enum RasterFault {
     /// Memory was refused (30).
     #[error("no memory")]
     Memory,
+}
+
+impl RasterFault {
+    /// The number by which a refusal is told: 50, 51 or 30.
+    pub fn number(self) -> u8
+        ensures { result ≡ number_of self }
+    {
+        match self {
+            RasterFault::WindowRefused => 50,
+            RasterFault::StillDirty => 51,
+            RasterFault::Memory => 30,
+        }
+    }
 }
 
 impl From<AllocError> for RasterFault {

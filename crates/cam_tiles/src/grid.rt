@@ -7,13 +7,14 @@ ghost use Rattle.cam_tiles.specs.Tiles.{IsGrid, centre_in};
 
 use cam_units::{Bounds, Spot};
 
-/// The pixel centres of a tile, in half nanometres: the upper left one and the distance of neighbours; and how many
-/// columns and rows of them there are, from 1 to 64.
+/// The pixel centres of a tile: the place of the upper left one and the distance of neighbours, in half nanometres; and
+/// how many columns and rows of them there are, from 1 to 64.
 #[derive(Clone, Copy, Debug, PartialEq, Eq)]
 pub struct Grid {
-    pub first: Spot,
+    pub x: i64,
+    pub y: i64,
     pub step: i64,
-    pub columns: u32,
+    pub cols: u32,
     pub rows: u32,
 }
 
@@ -21,18 +22,18 @@ impl Grid {
     /// The box of the centres, in half nm.
     pub(crate) fn bounds(&self) -> Bounds
         requires { IsGrid self.now }
-        ensures { (column row : ℕ) → column < self.now.columns → row < self.now.rows
+        ensures { (column row : ℕ) → column < self.now.cols → row < self.now.rows
             → Holds result (centre_in self.now column row) }
     {
-        let last = self.centre(self.columns - 1, self.rows - 1);
+        let last = self.centre(self.cols - 1, self.rows - 1);
         Bounds::Closed {
             low: Spot {
-                x: self.first.x,
+                x: self.x,
                 y: last.y,
             },
             high: Spot {
                 x: last.x,
-                y: self.first.y,
+                y: self.y,
             },
         }
     }
@@ -40,14 +41,14 @@ impl Grid {
     /// The centre in a column and a row, which are counted from the upper left one.
     pub(crate) fn centre(&self, column: u32, row: u32) -> Spot
         requires grid { IsGrid self.now }
-        requires column { column < self.now.columns }
+        requires column { column < self.now.cols }
         requires row { row < self.now.rows }
         ensures value { result ≡ centre_in self.now column row }
         ensures place { IsPlace result }
     {
         Spot {
-            x: self.first.x + i64::from(column) * self.step,
-            y: self.first.y - i64::from(row) * self.step,
+            x: self.x + i64::from(column) * self.step,
+            y: self.y - i64::from(row) * self.step,
         }
     }
 }

@@ -27,7 +27,7 @@ impl Grid {
         ensures levels { IsLevels result }
     {
         Levels {
-            top: self.first.y,
+            top: self.y,
             step: self.step,
             rows: self.rows,
         }
@@ -36,14 +36,14 @@ impl Grid {
     /// The columns whose centres lie between two places across, in half nm.
     pub(crate) fn columns_between(&self, left: i64, right: i64) -> Span
         requires { IsGrid self.now }
-        ensures { (column : ℕ) → column < self.now.columns → left ≤ℤ (centre_in self.now column 0).x
+        ensures { (column : ℕ) → column < self.now.cols → left ≤ℤ (centre_in self.now column 0).x
             → (centre_in self.now column 0).x ≤ℤ right → (result.first ≤ column) × (column < result.end) }
     {
         // from the right, columns are what rows are from above
         let columns = Levels {
-            top: -self.first.x,
+            top: -self.x,
             step: self.step,
-            rows: self.columns,
+            rows: self.cols,
         };
         columns.band(Heights {
             low: -right.max(-i64::MAX),

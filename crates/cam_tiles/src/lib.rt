@@ -4,7 +4,10 @@
 //! A [`Window`] has its lower left corner and its pitch in nanometres and its sides in pixels; column 0 is at the left,
 //! row 0 at the top. A [`Raster`] keeps its tiles of 64 by 64 pixels: [`Raster::touch`] makes those dirty that a box
 //! reaches, [`Raster::redraw`] has a [`Painter`] draw as many of them as it may. A [`Source`] paints a layer of either
-//! kind, leaf by leaf on a mask of the tile: a pixel is black exactly where the layer is black at the pixel's centre.
+//! kind: a pixel is black exactly where the layer is black at the pixel's centre.
+//!
+//! A reader starts with `src/plain.rt`: how one tile is drawn, leaf by leaf and row by row. `src/drawing.rt` draws the
+//! dirty tiles of a row of tiles at once, by the runs of shapes in all of them; the tiles are the same.
 //!
 //! What a picture is stands in `specs/Picture.antt`, its file in `specs/Pbm.antt`, tiles in `specs/Tiles.antt`, what is
 //! kept of them in `specs/Tables.antt`, and what boxes touch in `specs/Touched.antt`. The laws in `specs/TileLaws.antt`
@@ -24,10 +27,10 @@
 //!     height: 3,
 //! };
 //! let mut raster = Raster::new(alloc, window)?;
-//! let mut source = Source::gerber(alloc, &layer);
+//! let mut source = Source::gerber(&layer);
 //! assert!(rt; raster.redraw(&mut source, u32::MAX) == 1);
 //! assert!(rt; raster.pixel(0, 1) == Some(true));
-//! let file = raster.to_pbm(alloc)?;
+//! let file = raster.to_pbm()?;
 //! assert!(rt; file.as_slice() == b"P4\n3 3\n\x40\xe0\x40".as_slice());
 //! ```
 #![tactic(auto)]
@@ -41,6 +44,7 @@ mod levels;
 mod masks;
 mod painter;
 mod pbm;
+mod plain;
 mod raster;
 mod shown;
 mod source;

@@ -1,7 +1,5 @@
 //! Masks: which pixel centres of a tile are marked.
 
-pub(crate) mod canvas;
-pub(crate) mod contours;
 pub(crate) mod figure_runs;
 pub(crate) mod figures;
 pub(crate) mod filing;
@@ -11,6 +9,5 @@ pub(crate) mod mask;
 pub(crate) mod runs;
 pub(crate) mod shapes;
 pub(crate) mod solid;
-pub(crate) mod stamps;
 pub(crate) mod swath;
 pub(crate) mod turning;

@@ -1,11 +1,12 @@
 //! What draws tiles.
 
-ghost use Rattle.std.specs.Prelude.{◌≡◌, ℕ, ◌+◌, ◌<◌, ◌≤◌, ◌^◌, Bool, count_by, is_none, length, true};
+ghost use Rattle.std.specs.Prelude.{◌≡◌, ℕ, ◌+◌, ◌-◌, ◌<◌, ◌≤◌, ◌^◌, Bool, count_by, is_none, length, true};
 ghost use Rattle.cam_units.specs.declared.point.Spot.{Spot};
 ghost use Rattle.cam_tiles.specs.Picture.{accepts};
 ghost use Rattle.cam_tiles.specs.Tables.{all_drawn_from};
-ghost use Rattle.cam_tiles.specs.Tiles.{grid_of, tile_rows, tiles_of};
+ghost use Rattle.cam_tiles.specs.Tiles.{IsGrid, grid_of, tile_rows, tiles_of};
 
+use crate::grid::Grid;
 use crate::window::Window;
 
 /// The 64 rows of a tile from the top, bit i for column i; or nothing, where it is dirty.
@@ -21,8 +22,18 @@ pub trait Painter {
     /// How many tiles it was asked for.
     ghost count: { Self → ℕ };
 
+    /// The rows of the picture at the centres of a tile, from the top: bit i of a row is set where the picture is black
+    /// at the centre in column i. Bits and rows past the grid are 0.
+    fn tile(&mut self, grid: Grid) -> [u64; 64]
+        requires grid { IsGrid grid }
+        requires room { count self.old < 2 ^ 64 - 1 }
+        ensures rows { result ≡ tile_rows (picture self.old) grid }
+        ensures kept { picture self.new ≡ picture self.old }
+        ensures asked { count self.new ≡ count self.old + 1 };
+
     /// Draws the dirty ones of the first tiles of a window: a bit of a row is set where the picture is black at the
-    /// centre of its pixel, and bits and rows past the window are 0. The others stay.
+    /// centre of its pixel, and bits and rows past the window are 0. The others stay. It asks [`tile`](Painter::tile)
+    /// once for each, that of least number first; a painter may have a way of its own to the same tiles.
     fn draw(&mut self, window: &Window, tiles: &mut [Tile])
         requires accepted { accepts window.now ≡ true }
         requires within { length tiles.old ≤ tiles_of window.now }
@@ -30,7 +41,15 @@ pub trait Painter {
         ensures tiles { tiles.new
             ≡ all_drawn_from (λ k. tile_rows (picture self.old) (grid_of window.now k)) 0 tiles.old }
         ensures kept { picture self.new ≡ picture self.old }
-        ensures asked { count self.new ≡ count self.old + count_by is_none tiles.old };
+        ensures asked { count self.new ≡ count self.old + count_by is_none tiles.old }
+    {
+        for k in 0..tiles.len() {
+            if tiles[k].is_none() {
+                let rows = self.tile(window.grid(k as u32));
+                tiles[k] = Some(rows);
+            }
+        }
+    }
 
     /// How many tiles it was asked for.
     fn asked(&self) -> u64

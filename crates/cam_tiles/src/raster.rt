@@ -135,8 +135,8 @@ impl Raster {
     }
 
     /// The raw PBM file of the pixels (netpbm's pbm(5), "P4"): 1 is black, the rows go from the top, and each is padded
-    /// with zero bits to a byte. 51 where some tile is dirty, and 30 where memory was refused.
-    pub fn to_pbm(&self, alloc: Global) -> Result<Vec<u8>, RasterFault>
+    /// with zero bits to a byte. 51 where some tile is dirty, and 30 where the allocator of the raster refuses memory.
+    pub fn to_pbm(&self) -> Result<Vec<u8>, RasterFault>
         ensures bytes { IfOk result (λ bytes. bytes.items ≡ pbm_of self.now) }
         ensures refused { IfErr result (λ fault. IsRefusal (file_fault self.now) fault) }
         ensures clean { OnOk result (file_fault self.now ≡ None) }
@@ -144,7 +144,7 @@ impl Raster {
         if self.dirty > 0 {
             return Err(RasterFault::StillDirty);
         }
-        Ok(bitmap(alloc, &self.tiles, &self.window)?)
+        Ok(bitmap(*self.tiles.allocator(), &self.tiles, &self.window)?)
     }
 }
 

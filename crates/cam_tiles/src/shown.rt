@@ -17,7 +17,7 @@ use cam_objects::{
 use cam_units::Bounds;
 
 /// A layer of either kind, and perhaps the cells of its items.
-#[derive(Drop)]
+#[derive(Clone, Copy)]
 pub(crate) enum Shown<'a> {
     Gerber {
         layer: &'a Layer,

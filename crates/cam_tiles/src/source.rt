@@ -1,14 +1,17 @@
 //! Layers as painters.
 
-ghost use Rattle.std.specs.Prelude.{◌≡◌, count_by, is_none};
+ghost use Rattle.std.specs.Prelude.{◌≡◌, ◌+◌, count_by, is_none};
 ghost use Rattle.cam_objects.specs.Cells.{AreCellsOf, drill_item_boxes, item_boxes};
 ghost use Rattle.cam_objects.specs.Contents.{content_leaves, content_of, drill_content_leaves, drill_content_of};
 ghost use Rattle.cam_objects.specs.DrillSoundness.{IsSoundDrillLayer};
 ghost use Rattle.cam_objects.specs.Soundness.{HasSoundItems};
+ghost use Rattle.cam_tiles.specs.Machinery.Shown.{IsReady, leaves_of};
 ghost use Rattle.cam_tiles.specs.Sources.{picture_of, unasked};
 
 use crate::drawing::{dirty_in, draw};
+use crate::grid::Grid;
 use crate::painter::{Painter, Tile};
+use crate::plain::tile_of;
 use crate::shown::Shown;
 use crate::window::Window;
 use cam_objects::{DrillLayer, ItemCells, Layer};
@@ -18,13 +21,14 @@ use std::marker::Model;
 /// Paints the image of a layer: of a Gerber layer a place is black where the last leaf that covers it is dark, of a
 /// drill layer where a hole or a slot covers it.
 ///
-/// While it draws it asks its allocator for memory: for the boxes of items, and for the tiles of a row of tiles, which
-/// are then drawn at once from those items alone that they may show. Where memory is refused, each tile asks every item;
-/// what is painted is the same.
+/// One that knows the cells of its items draws the dirty tiles of a row of tiles at once, from those items alone that
+/// they may show. For that it asks its allocator for memory; where that is refused, and where it knows no cells, it draws
+/// tile by tile and takes none. The tiles are the same.
 #[derive(Drop)]
 pub struct Source<'a> {
     shown: Shown<'a>,
-    alloc: Global,
+    /// What the quick way asks for memory.
+    alloc: Option<Global>,
     asked: u64,
 }
 
@@ -41,15 +45,11 @@ impl<'a> Model for Source<'a> {
 
 impl<'a> Source<'a> {
     /// Paints a sound layer. No tile was asked for.
-    pub fn gerber(alloc: Global, layer: &'a Layer) -> Source<'a>
+    pub fn gerber(layer: &'a Layer) -> Source<'a>
         requires { HasSoundItems layer.now }
         ensures { result ≡ unasked (content_leaves (content_of layer.now)) }
     {
-        Source {
-            shown: Shown::Gerber { layer, cells: None },
-            alloc,
-            asked: 0,
-        }
+        Source::of(Shown::Gerber { layer, cells: None }, None)
     }
 
     /// Paints a sound layer of whose items the cells are known: those whose boxes the tiles do not meet are passed over.
@@ -59,26 +59,16 @@ impl<'a> Source<'a> {
         requires cells { AreCellsOf (item_boxes layer.now.apertures layer.now.items.items) cells.now }
         ensures { result ≡ unasked (content_leaves (content_of layer.now)) }
     {
-        Source {
-            shown: Shown::Gerber {
-                layer,
-                cells: Some(cells),
-            },
-            alloc,
-            asked: 0,
-        }
+        let cells = Some(cells);
+        Source::of(Shown::Gerber { layer, cells }, Some(alloc))
     }
 
     /// Paints a sound drill layer. No tile was asked for.
-    pub fn drill(alloc: Global, layer: &'a DrillLayer) -> Source<'a>
+    pub fn drill(layer: &'a DrillLayer) -> Source<'a>
         requires { IsSoundDrillLayer layer.now }
         ensures { result ≡ unasked (drill_content_leaves (drill_content_of layer.now)) }
     {
-        Source {
-            shown: Shown::Drill { layer, cells: None },
-            alloc,
-            asked: 0,
-        }
+        Source::of(Shown::Drill { layer, cells: None }, None)
     }
 
     /// Paints a sound drill layer of whose items the cells are known: those whose boxes the tiles do not meet are passed
@@ -88,11 +78,19 @@ impl<'a> Source<'a> {
         requires cells { AreCellsOf (drill_item_boxes layer.now.tools layer.now.items.items) cells.now }
         ensures { result ≡ unasked (drill_content_leaves (drill_content_of layer.now)) }
     {
+        let cells = Some(cells);
+        Source::of(Shown::Drill { layer, cells }, Some(alloc))
+    }
+}
+
+impl<'a> Source<'a> {
+    /// No tile was asked for.
+    fn of(shown: Shown<'a>, alloc: Option<Global>) -> Source<'a>
+        requires { IsReady shown }
+        ensures { result ≡ unasked (leaves_of shown.entry) }
+    {
         Source {
-            shown: Shown::Drill {
-                layer,
-                cells: Some(cells),
-            },
+            shown,
             alloc,
             asked: 0,
         }
@@ -103,6 +101,11 @@ impl<'a> Painter for Source<'a> {
     ghost picture = { picture_of };
 
     ghost count = { λ s. s.asked };
+
+    fn tile(&mut self, grid: Grid) -> [u64; 64] {
+        self.asked += 1;
+        tile_of(&self.shown, grid)
+    }
 
     fn draw(&mut self, window: &Window, tiles: &mut [Tile]) {
         let dirty = dirty_in(tiles);

@@ -76,10 +76,12 @@ impl Window {
     {
         let left = 64 * (tile % self.across());
         let top = 64 * (tile / self.across());
+        let first = self.centre(left, top);
         Grid {
-            first: self.centre(left, top),
+            x: first.x,
+            y: first.y,
             step: 2 * self.pitch,
-            columns: (self.width - left).min(64),
+            cols: (self.width - left).min(64),
             rows: (self.height - top).min(64),
         }
     }

@@ -1,3 +1,4 @@
+pub mod Faults
 pub mod Machine
 pub mod Kept
 pub mod Timelines

@@ -1,6 +1,7 @@
 //! What a history refuses.
 
 ghost use Rattle.std.specs.Prelude.{◌≡◌};
+ghost use Rattle.cam_undo.specs.Faults.{number_of};
 ghost use Rattle.cam_undo.specs.declared.fault.HistoryFault.TheVariants.{Memory};
 
 use std::alloc::AllocError;
@@ -27,6 +28,22 @@ pub enum HistoryFault {
     /// Memory was refused (30).
     #[error("no memory")]
     Memory,
+}
+
+impl HistoryFault {
+    /// The number by which a refusal is told: 50, 72, 73, 70, 71 or 30.
+    pub fn number(self) -> u8
+        ensures { result ≡ number_of self }
+    {
+        match self {
+            HistoryFault::Depth => 50,
+            HistoryFault::GroupOpen => 72,
+            HistoryFault::NoGroup => 73,
+            HistoryFault::NothingToUndo => 70,
+            HistoryFault::NothingToRedo => 71,
+            HistoryFault::Memory => 30,
+        }
+    }
 }
 
 impl From<AllocError> for HistoryFault {

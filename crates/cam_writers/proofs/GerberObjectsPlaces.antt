@@ -9,9 +9,8 @@ use Rattle.cam_objects.specs.Weights.{Weight, block_count, object_count, weight_
 use Rattle.cam_gerber.specs.Statements.{Statement}
 use Rattle.cam_gerber.specs.State.{Past}
 use Rattle.cam_gerber.specs.Homes.{Home, InLayer, home, home_by, is_same_home, open_blocks, open_repeat}
-use Rattle.cam_gerber.specs.Making.{made, made_at, objects_of}
+use Rattle.cam_gerber.specs.Making.{made, made_at, objects_of, IsMaker}
 use Rattle.cam_gerber.specs.Layers.{macros_in, entries_in, items_in, leaves_of, leaves_in}
-use Rattle.cam_gerber.specs.Machinery.Tracking.{IsMaker}
 use Rattle.cam_gerber.proofs.Pasts.{joins}
 use Rattle.cam_writers.proofs.GerberPasts.{Stands, Joined, made_here}
 

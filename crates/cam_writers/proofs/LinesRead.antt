@@ -10,9 +10,8 @@ use Rattle.cam_xnc.specs.Bytes.{is_bad, is_blank, code_of, packed}
 use Rattle.cam_xnc.specs.Syntax.{statement_of}
 use Rattle.cam_xnc.specs.Lines.{TextLine, LineFeed, bytes_of, IsLine, AreEnded, FoundLine, found_at, cut}
 use Rattle.cam_xnc.specs.DrillState.{layer_in}
-use Rattle.cam_xnc.specs.Faults.{faults}
+use Rattle.cam_xnc.specs.Faults.{faults, first_of}
 use Rattle.cam_xnc.specs.Reading.{is_told, said, is_end, is_end_statement, through_end, told_lines, reading_of}
-use Rattle.cam_xnc.specs.Machinery.Tracking.{first_of}
 use Rattle.cam_xnc.proofs.Cuttings.{one_cutting}
 use Rattle.cam_xnc.proofs.Readings.{goes_on, reading_goes_on, goes_past, ends_here}
 use Rattle.cam_writers.specs.DrillTexts.{Lines, text_of, said_by}

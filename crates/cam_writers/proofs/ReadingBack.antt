@@ -18,8 +18,7 @@ use Rattle.cam_xnc.specs.declared.read_fault.ReadFault.{ReadFault}
 use Rattle.cam_xnc.specs.declared.statement.Statement.{Statement}
 use Rattle.cam_xnc.specs.declared.statement.Statement.TheVariants.{End}
 use Rattle.cam_xnc.specs.DrillState.{mode_in, tool_in}
-use Rattle.cam_xnc.specs.Faults.{is_drilling, faults}
-use Rattle.cam_xnc.specs.Machinery.Tracking.{first_of}
+use Rattle.cam_xnc.specs.Faults.{is_drilling, faults, first_of}
 use Rattle.cam_writers.specs.DrillTexts.{Lines, said_by, tool_line, point_line, with_tool, with_tools, opening}
 use Rattle.cam_writers.specs.DrillTexts.{is_selected, with_selected, with_hit, with_cut, with_cuts, with_rout}
 use Rattle.cam_writers.specs.DrillTexts.{with_item, lines_before_end, drill_text}

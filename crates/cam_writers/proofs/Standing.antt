@@ -22,9 +22,8 @@ use Rattle.cam_xnc.specs.declared.statement.Statement.TheVariants.{DrillMode, Hi
 use Rattle.cam_xnc.specs.declared.statement.Coordinate.{Coordinate}
 use Rattle.cam_xnc.specs.declared.statement.Coordinate.TheVariants.{Written}
 use Rattle.cam_xnc.specs.DrillState.{Past, part_in, unit_in, mode_in, tool_in, tools_in, items_in, points_in, length_nm}
-use Rattle.cam_xnc.specs.Faults.{faults, is_drilling, is_lowered, is_diameter}
+use Rattle.cam_xnc.specs.Faults.{faults, is_drilling, is_lowered, is_diameter, first_of}
 use Rattle.cam_xnc.specs.Reading.{is_end_statement}
-use Rattle.cam_xnc.specs.Machinery.Tracking.{first_of}
 use Rattle.cam_writers.proofs.Decimals.{scaled, scaled_again}
 
 -- no line has a fault, or ends the file

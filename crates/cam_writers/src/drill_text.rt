@@ -33,9 +33,10 @@ fn push_tool_line(text: &mut Vec<u8>, tool: u16) -> Result<(), AllocError>
     text.extend_from_slice(b"\n")
 }
 
-/// Writes the line that declares a tool.
+/// Writes the line that declares a tool of a diameter at the text's end, as canonical texts have it: `T1C0.800000`. An
+/// error where memory is refused; the text then has a part of the line.
 #[tactic(auto, unfolding(crate::specs::DrillTexts::declaration))]
-fn push_declaration(text: &mut Vec<u8>, tool: u16, diameter: Nm) -> Result<(), AllocError>
+pub fn push_declaration(text: &mut Vec<u8>, tool: u16, diameter: Nm) -> Result<(), AllocError>
     ensures { OnOk result
         (text.new.items ≡ text.old.items ++ (declaration (tool, diameter) ++ codes "\n")) }
 {

@@ -1,12 +1,12 @@
 //! The text of a Gerber layer.
 
-ghost use Rattle.std.specs.Prelude.{◌≡◌, All, IfOk, OnOk, fold};
+ghost use Rattle.std.specs.Prelude.{◌≡◌, ◌++◌, [], All, IfOk, OnOk, fold};
 ghost use Rattle.cam_numbers.specs.Numbers.{IsApertureNumber};
 ghost use Rattle.cam_apertures.specs.Soundness.{IsSoundAperture};
 ghost use Rattle.cam_objects.specs.Soundness.{IsSound, IsSoundDictionary};
 ghost use Rattle.cam_objects.specs.Contents.{content_of};
 ghost use Rattle.cam_gerber.specs.Computing.{reading_of};
-ghost use Rattle.cam_writers.specs.GerberTexts.{Commands, gerber_text, with_entry, with_item};
+ghost use Rattle.cam_writers.specs.GerberTexts.{Commands, gerber_text, text_of, with_entry, with_item};
 ghost use Rattle.cam_writers.specs.GerberTexts.{with_macro};
 ghost use Rattle.cam_writers.specs.Machinery.GerberTracking.{IsWritableEntry, IsWritableGrid, IsWritableItem};
 ghost use Rattle.cam_writers.specs.Machinery.GerberTracking.{IsWritableObject, TracksCommands};
@@ -19,6 +19,19 @@ use cam_apertures::Aperture;
 use cam_objects::{Dictionary, Entry, Item, Layer, Object};
 use cam_units::Nm;
 use std::alloc::{AllocError, Global};
+
+/// Writes the definition of an aperture at the text's end, as canonical texts have it, behind that of the macro that it
+/// is made of, where it is made of one: `%ADD10C,0.500000*%`. An error where memory is refused; the text then has a part
+/// of it.
+pub fn push_aperture(text: &mut Vec<u8>, number: u32, aperture: &Aperture) -> Result<(), AllocError>
+    ensures { OnOk result
+        (text.new.items ≡ text.old.items ++ text_of (with_entry [] (number, Entry.Aperture aperture.now))) }
+{
+    if let Aperture::Prims(primitives) = aperture {
+        push_macro(text, number, primitives)?;
+    }
+    push_definition(text, number, aperture)
+}
 
 impl GerberText {
     /// Writes the macro that an aperture is made of, where it is made of one.

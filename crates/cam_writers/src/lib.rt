@@ -54,8 +54,8 @@ mod gerber_state;
 mod laws;
 mod lengths;
 
-pub use drill_text::xnc_text;
-pub use gerber_layers::gerber_text;
+pub use drill_text::{push_declaration, xnc_text};
+pub use gerber_layers::{gerber_text, push_aperture};
 pub use laws::{
     drill_texts_read_back, drill_texts_tell_their_lines, drill_texts_write_again,
     gerber_texts_read_back, gerber_texts_tell_their_commands, gerber_texts_write_again,

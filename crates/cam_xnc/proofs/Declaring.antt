@@ -8,8 +8,8 @@ use Rattle.cam_objects.specs.Drilling.{diameter_of}
 use Rattle.cam_xnc.specs.declared.statement.Statement.TheVariants.{Declare}
 use Rattle.cam_xnc.specs.declared.state.DrillState.{DrillState}
 use Rattle.cam_xnc.specs.DrillState.{Past, unit_in, tools_in, length_nm}
-use Rattle.cam_xnc.specs.Faults.{header_faults, is_diameter}
-use Rattle.cam_xnc.specs.Machinery.Tracking.{Tracks, first_of}
+use Rattle.cam_xnc.specs.Faults.{header_faults, is_diameter, first_of}
+use Rattle.cam_xnc.specs.Machinery.Tracking.{Tracks}
 
 -- what the tests of a declaration found
 pub record IsTested (s : DrillState) (number : Option ℕ) (diameter : Option ℤ) (n : ℕ) (d : ℤ) (u : FileUnit) (size : Nm)

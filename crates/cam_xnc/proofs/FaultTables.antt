@@ -8,12 +8,12 @@ use Rattle.cam_xnc.specs.declared.statement.Statement.{Statement}
 use Rattle.cam_xnc.specs.declared.statement.Statement.TheVariants.{BeginHeader, SetUnit, Declare, Neutral, EndHeader}
 use Rattle.cam_xnc.specs.declared.statement.Statement.TheVariants.{Select, DrillMode, HitAt, Slot, RoutTo, Lower}
 use Rattle.cam_xnc.specs.declared.statement.Statement.TheVariants.{CutTo, Raise, CutArc, End, Unknown}
+use Rattle.cam_xnc.specs.Faults.{first_of}
 use Rattle.cam_xnc.specs.DrillState.{Past, part_in}
 use Rattle.cam_xnc.specs.Faults.{Table, lower_of, least, faults_by, start_of_file_faults, header_faults, body_faults, end_faults}
 use Rattle.cam_xnc.specs.Lines.{FoundLine}
 use Rattle.cam_xnc.specs.Reading.{line_faults, said}
 use Rattle.cam_xnc.specs.Laws.{Holds}
-use Rattle.cam_xnc.specs.Machinery.Tracking.{first_of}
 
 -- the numbers ascend from one on, and none is that of memory
 abbrev pub IsAscending : ℕ → Table → Type 0

@@ -12,10 +12,10 @@ use Rattle.cam_xnc.specs.Bytes.{is_skipped, is_bad, is_blank, code_of, packed}
 use Rattle.cam_xnc.specs.Syntax.{statement_of}
 use Rattle.cam_xnc.specs.Lines.{FoundLine, lines_of}
 use Rattle.cam_xnc.specs.DrillState.{Past, layer_in}
-use Rattle.cam_xnc.specs.Faults.{least, faults, end_faults}
+use Rattle.cam_xnc.specs.Faults.{least, faults, end_faults, first_of}
 use Rattle.cam_xnc.specs.Reading.{is_told, place_of, said, is_end, is_end_statement, through_end, told_lines}
 use Rattle.cam_xnc.specs.Reading.{line_faults, fault_at, fault_of, first_fault, layer_unless, layer_told, reading_of}
-use Rattle.cam_xnc.specs.Machinery.Tracking.{Tracks, first_of}
+use Rattle.cam_xnc.specs.Machinery.Tracking.{Tracks}
 use Rattle.cam_xnc.proofs.FaultTables.{least_is_first, line_faults_ascend, end_faults_ascend}
 use Rattle.cam_objects.specs.Contents.{DrillContent, drill_content_of}
 

@@ -22,10 +22,10 @@ use Rattle.cam_objects.proofs.SoundDrilling.{distinct_more}
 use Rattle.cam_xnc.specs.declared.statement.Coordinate.{Coordinate}
 use Rattle.cam_xnc.specs.declared.statement.Statement.TheVariants.{Declare, Select, DrillMode, HitAt, Slot, RoutTo}
 use Rattle.cam_xnc.specs.declared.statement.Statement.TheVariants.{Lower, CutTo, Raise}
+use Rattle.cam_xnc.specs.Faults.{first_of}
 use Rattle.cam_xnc.specs.DrillState.{Past, unit_in, mode_in, tool_in, point_in, length_nm, tools_in, points_in, hit_of}
 use Rattle.cam_xnc.specs.DrillState.{slot_start, slot_of, rout_of, items_in, leaves_in}
 use Rattle.cam_xnc.specs.Faults.{Table, header_faults, body_faults, is_diameter, is_on_board, is_drilling, is_lowered, is_too_much}
-use Rattle.cam_xnc.specs.Machinery.Tracking.{first_of}
 use Rattle.cam_xnc.proofs.ToolNumbers.{IsToolNumber}
 
 -- no tool is in force, or one of these

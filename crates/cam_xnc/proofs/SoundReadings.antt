@@ -16,10 +16,9 @@ use Rattle.cam_xnc.specs.declared.statement.Statement.TheVariants.{CutTo, Raise,
 use Rattle.cam_xnc.specs.Bytes.{is_bad, code_of, packed}
 use Rattle.cam_xnc.specs.Lines.{FoundLine, lines_of}
 use Rattle.cam_xnc.specs.DrillState.{Past, part_in, layer_in}
-use Rattle.cam_xnc.specs.Faults.{least, faults, faults_by, end_faults}
+use Rattle.cam_xnc.specs.Faults.{least, faults, faults_by, end_faults, first_of}
 use Rattle.cam_xnc.specs.Reading.{is_told, place_of, said, is_end, line_faults, fault_at, fault_of, layer_unless}
 use Rattle.cam_xnc.specs.Laws.{GivesSoundLayers}
-use Rattle.cam_xnc.specs.Machinery.Tracking.{first_of}
 use Rattle.cam_xnc.proofs.FaultTables.{least_is_first, line_faults_ascend}
 use Rattle.cam_xnc.proofs.Readings.{goes_on, unless_fault, reading_goes_on}
 use Rattle.cam_xnc.proofs.ToolNumbers.{HasToolNumber, has_tool_number}

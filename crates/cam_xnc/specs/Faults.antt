@@ -94,6 +94,11 @@ abbrev pub least : Table → Option ℕ
 least [] = None
 least (fault ∷ others) = if fault.1 then Some (lower_of fault.0 (least others)) else least others
 
+-- the first number that holds: the least, where the numbers ascend
+abbrev pub first_of : Table → Option ℕ
+first_of [] = None
+first_of (fault ∷ others) = if fault.1 then Some fault.0 else first_of others
+
 -- another value than this is set
 abbrev pub is_other_unit : Option FileUnit → FileUnit → Bool
 is_other_unit None unit = false

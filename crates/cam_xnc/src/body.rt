@@ -4,9 +4,9 @@ ghost use Rattle.std.specs.Prelude.{◌≡◌, ◌+◌, ◌≤◌, ◌∷◌, �
 ghost use Rattle.cam_xnc.specs.declared.statement.Statement.TheVariants as statement;
 ghost use Rattle.cam_objects.specs.DrillSoundness.{drill_count_from};
 ghost use Rattle.cam_xnc.specs.DrillState.{Past, mode_in};
-ghost use Rattle.cam_xnc.specs.Faults.{body_faults, cut_faults, drilled_faults, is_drilling, is_lowered};
+ghost use Rattle.cam_xnc.specs.Faults.{body_faults, cut_faults, drilled_faults, is_drilling, is_lowered, first_of};
 ghost use Rattle.cam_xnc.specs.Faults.{is_malformed, is_on_board, is_pointless, is_raised, is_too_much, slot_faults};
-ghost use Rattle.cam_xnc.specs.Machinery.Tracking.{Obeys, Tracks, first_of, moved, moved_point};
+ghost use Rattle.cam_xnc.specs.Machinery.Tracking.{Obeys, Tracks, moved, moved_point};
 
 use crate::faults;
 use crate::modes::Mode;

@@ -2,8 +2,8 @@
 
 ghost use Rattle.std.specs.Prelude.{◌≡◌, ◌∷◌, [], Some, None};
 ghost use Rattle.cam_xnc.specs.DrillState.{Past};
-ghost use Rattle.cam_xnc.specs.Faults.{end_faults, faults, is_malformed, is_pointless, start_of_file_faults};
-ghost use Rattle.cam_xnc.specs.Machinery.Tracking.{Obeys, Tracks, first_of, moved, moved_point};
+ghost use Rattle.cam_xnc.specs.Faults.{end_faults, faults, is_malformed, is_pointless, start_of_file_faults, first_of};
+ghost use Rattle.cam_xnc.specs.Machinery.Tracking.{Obeys, Tracks, moved, moved_point};
 
 use crate::faults;
 use crate::leaves::Leaves;

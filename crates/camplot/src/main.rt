@@ -18,6 +18,7 @@ use cam_station::FileFault;
 use ending::Ending;
 use explain::{Margin, why_no_script};
 use options::{Call, OptionsFault, options};
+use reading::fault_of;
 use script::{run_explained, run_script};
 use std::process::ExitCode;
 use std::{env, io};
@@ -53,7 +54,10 @@ fn main(rt: HostRuntime) -> ExitCode {
     let words = match words(&rt) {
         Ok(words) => words,
         Err(error) => {
-            let _ = eprintln!(rt; "camplot: {error}");
+            let _ = match fault_of(&error) {
+                FileFault::Memory => eprintln!(rt; "camplot: no memory"),
+                FileFault::Failed => eprintln!(rt; "camplot: {error}"),
+            };
             return ExitCode::from(NOT_RUN);
         }
     };
@@ -73,7 +77,7 @@ fn main(rt: HostRuntime) -> ExitCode {
         let _ = eprintln!(rt; "camplot: {complaint}");
     }
     if call.explain && ending == Ending::Unread(FileFault::Failed) {
-        let path = call.script.as_str();
+        let path = call.path.as_str();
         let why = why_no_script(&rt, path);
         let _ = eprintln!(rt; "camplot: {path}: {why}");
     }

@@ -17,7 +17,7 @@ use std::alloc::{AllocError, Global};
 #[derive(Drop)]
 pub struct Call {
     /// The path of the script; `-` is the standard input.
-    pub script: String,
+    pub path: String,
     /// How many edits and groups can be taken back.
     pub depth: u32,
     /// Whether refused lines are explained on standard error.
@@ -105,7 +105,7 @@ fn command<'a>(alloc: Global) -> Result<Command<'a>, AllocError>
 /// to read them, and `Memory` where there is none for the command or the path.
 pub fn options(alloc: Global, words: &[String]) -> Result<Call, OptionsFault>
     ensures given { IfOk result
-        (λ r. IsCallFor (map string_bytes words.now) (string_bytes r.script) r.depth) }
+        (λ r. IsCallFor (map string_bytes words.now) (string_bytes r.path) r.depth) }
     ensures explain { IfOk result (λ r. Asks (map string_bytes words.now) r.explain) }
     ensures accepted { fault_of camplot (map string_bytes words.now) ≡ []
         → IfErr result IsOfMemory }
@@ -113,7 +113,7 @@ pub fn options(alloc: Global, words: &[String]) -> Result<Call, OptionsFault>
     ensures plain { (name script : Text) (depth : Option ℕ) → IsPlainPath script
         → IfSome depth (λ n. (1 ≤ n) × (n ≤ 1000))
         → map string_bytes words.now ≡ plain_call name script depth
-        → MatchResult result (λ r. (string_bytes r.script ≡ script) × (r.depth ≡ unwrap_or depth 100))
+        → MatchResult result (λ r. (string_bytes r.path ≡ script) × (r.depth ≡ unwrap_or depth 100))
         IsOfMemory }
     ensures unasked { (name script : Text) (depth : Option ℕ) → IsPlainPath script
         → IfSome depth (λ n. (1 ≤ n) × (n ≤ 1000))
@@ -129,7 +129,7 @@ pub fn options(alloc: Global, words: &[String]) -> Result<Call, OptionsFault>
     let depth = matches.get_one::<u32>("depth").unwrap();
     let explain = matches.get_flag("explain");
     Ok(Call {
-        script: script.to_string(alloc)?,
+        path: script.to_string(alloc)?,
         depth,
         explain,
     })

@@ -9,7 +9,7 @@ use cam_station::FileFault;
 use std::alloc::{AllocError, Global};
 use std::io::{self, ErrorKind, Read, Write};
 
-/// How many bytes one read may give.
+/// How many bytes one read may give at most.
 const CHUNK: usize = 65_536;
 
 /// So many zeros, for a reader to write over.
@@ -29,8 +29,8 @@ pub fn fault_of(error: &io::Error) -> FileFault
     }
 }
 
-/// All bytes of a reader, which has failed where they are more than `limit`. Want of memory is told of no reader that
-/// has given more than that.
+/// All bytes of a reader, which has failed where they are more than `limit`: it is read to its end, or one byte past
+/// the limit, and no further. Want of memory is told of no reader that has given more than the limit.
 ///
 /// Each read gives at least one byte, the end or a fault, so the reading ends.
 pub fn read_all<R: Read>(alloc: Global, reader: &mut R, limit: usize) -> Result<Vec<u8>, FileFault>
@@ -38,13 +38,17 @@ pub fn read_all<R: Read>(alloc: Global, reader: &mut R, limit: usize) -> Result<
     ensures ok { IfOk result (λ bytes. AreAllOf (R.remaining reader.old) limit bytes.items) }
     ensures memory { IfErr result (λ fault. fault ≡ Memory
         → HasGivenWithin (R.remaining reader.old) (R.remaining reader.new) limit) }
+    ensures taken { HasGivenWithin (R.remaining reader.old) (R.remaining reader.new) (limit + 1) }
 {
     let Ok(mut chunk) = zeros(alloc, CHUNK) else {
         return Err(FileFault::Memory);
     };
+    let buffer = chunk.as_mut_slice();
     let mut bytes = Vec::new(alloc);
     for _ in 0..limit + 1 {
-        let count = match reader.read(chunk.as_mut_slice()) {
+        let room = CHUNK.min(limit + 1 - bytes.len());
+        let piece = &mut buffer[..room];
+        let count = match reader.read(piece) {
             Ok(count) => count,
             Err(error) => return Err(fault_of(&error)),
         };
@@ -54,7 +58,7 @@ pub fn read_all<R: Read>(alloc: Global, reader: &mut R, limit: usize) -> Result<
         if count > limit - bytes.len() {
             return Err(FileFault::Failed);
         }
-        if bytes.extend_from_slice(&chunk[..count]).is_err() {
+        if bytes.extend_from_slice(&piece[..count]).is_err() {
             return Err(FileFault::Memory);
         }
     }

@@ -60,11 +60,11 @@ pub fn run_script<F: Files, I: Read, O: Out>(
     input: &mut I,
     out: &mut O,
 ) -> Ending
-    ensures { EndsAs result (string_bytes call.now.script) (I.remaining input.old) call.now.depth
+    ensures { EndsAs result (string_bytes call.now.path) (I.remaining input.old) call.now.depth
         (moment (F.contents files.old) (F.failed files.old) (O.said out.old) (O.failed out.old) 0)
         (moment (F.contents files.new) (F.failed files.new) (O.said out.new) (O.failed out.new) (refused_in result)) }
 {
-    let script = match script_at(alloc, call.script.as_str(), files, input) {
+    let script = match script_at(alloc, call.path.as_str(), files, input) {
         Ok(script) => script,
         Err(fault) => return Ending::Unread(fault),
     };
@@ -80,16 +80,16 @@ pub fn run_explained<F: Files, I: Read, O: Out, R: SystemFiles, W: Write + Drop>
     out: O,
     margin: Margin<'_, R, W>,
 ) -> (Ending, O)
-    ensures { EndsAs result.0 (string_bytes call.now.script) (I.remaining input.old) call.now.depth
+    ensures { EndsAs result.0 (string_bytes call.now.path) (I.remaining input.old) call.now.depth
         (moment (F.contents files.old) (F.failed files.old) (O.said out) (O.failed out) 0)
         (moment (F.contents files.new) (F.failed files.new) (O.said result.1) (O.failed result.1)
         (refused_in result.0)) }
 {
-    let script = match script_at(alloc, call.script.as_str(), files, input) {
+    let script = match script_at(alloc, call.path.as_str(), files, input) {
         Ok(script) => script,
         Err(fault) => return (Ending::Unread(fault), out),
     };
-    let mut explained = Explained::new(out, margin, alloc, call.script.as_str(), script.as_slice());
+    let mut explained = Explained::new(out, margin, alloc, call.path.as_str(), script.as_slice());
     let ending = run_lines(alloc, call.depth, script.as_slice(), files, &mut explained);
     (ending, explained.into_out())
 }

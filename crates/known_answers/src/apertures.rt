@@ -79,7 +79,7 @@ fn is(aperture: &Aperture, wanted: Wanted) -> bool {
 /// Whether a definition gives what is wanted.
 fn gives(answer: &Result<(u32, Aperture), AdFault>, number: u32, wanted: Wanted) -> bool {
     match (answer, wanted) {
-        (Err(fault), Wanted::Fault(code)) => fault.code() == code,
+        (Err(fault), Wanted::Fault(code)) => fault.number() == code,
         (Ok((found, aperture)), _) => *found == number && is(aperture, wanted),
         _ => false,
     }

@@ -1,15 +1,19 @@
 //! Drill layers and their images (XNC Format Specification, "Drilling" and "Routing").
 
 ghost use Rattle.std.specs.Prelude.{IfOk, IfSome};
+ghost use Rattle.cam_objects.specs.Cells.{AreCellsOf, drill_item_boxes};
 ghost use Rattle.cam_objects.specs.DrillSoundness.{IsSoundDrillLayer};
 
 mod rows;
 
 use crate::places::{At, box_of, place};
 use crate::xnc::files::Drilled;
-use cam_objects::{DrillItem, DrillLayer, ItemFault, Points, drill_layers_stay_sound};
+use cam_objects::{DrillItem, DrillLayer, ItemCells, ItemFault, Points, drill_layers_stay_sound};
 use cam_units::{Bounds, Nm, Point};
-use rows::{Boxed, DRILL_BOXES, DRILL_ITEMS, DRILLINGS, Drilling, KITS, Kit, LONG_ROUTS};
+use rows::{
+    Boxed, DRILL_BOXES, DRILL_ITEMS, DRILL_POINTED, DRILLINGS, Drilling, KITS, Kit, LONG_ROUTS,
+    Pointed,
+};
 use std::alloc::{AllocError, Global};
 use std::slice;
 use std::test::Fail;
@@ -137,7 +141,7 @@ fn shows(alloc: Global, row: &Drilling) -> Result<bool, AllocError> {
     let Some(layer) = layer_of(alloc, row.tools, row.items)? else {
         return Ok(false);
     };
-    let copy = layer.try_copy(alloc)?;
+    let copy = layer.try_copy()?;
     Ok(
         are(&layer, row.black, true)
             && are(&layer, row.white, false)
@@ -162,6 +166,45 @@ fn is_bounded(alloc: Global, row: &Boxed) -> Result<bool, AllocError> {
         return Ok(false);
     };
     Ok(has_box(&layer, &item_of(alloc, &row.1)?, box_of(row.2)))
+}
+
+/// Whether all that is asked is answered as the row has it, by the cells of the items where they are known.
+fn answers(layer: &DrillLayer, cells: Option<&ItemCells>, row: &Pointed) -> bool
+    requires sound { IsSoundDrillLayer layer.now }
+    requires cells { IfSome cells
+        (λ kept. AreCellsOf (drill_item_boxes layer.now.tools layer.now.items.items) kept.now) }
+{
+    for (at, before, wanted) in row.found {
+        let Some(spot) = place(*at) else {
+            return false;
+        };
+        if layer.item_at(cells, spot, *before) != *wanted {
+            return false;
+        }
+    }
+    for (sides, from, wanted) in row.enclosed {
+        if layer.item_in(box_of(*sides), *from) != *wanted {
+            return false;
+        }
+    }
+    layer.bounds() == box_of(row.whole)
+}
+
+/// Whether the layer is made, and all that is asked of it is answered so.
+fn is_pointed(alloc: Global, row: &Pointed) -> Result<bool, AllocError> {
+    let Some(layer) = layer_of(alloc, row.tools, row.items)? else {
+        return Ok(false);
+    };
+    let (cells, _) = ItemCells::of(alloc, &mut layer.boxes());
+    Ok(answers(&layer, None, row) && answers(&layer, Some(&cells), row))
+}
+
+#[test]
+fn pointed_drillings(rt: HostRuntime) -> Result<(), Fail> {
+    for (place, row) in DRILL_POINTED.iter().enumerate() {
+        assert!(rt; is_pointed(rt.alloc(), row)?, "{place}");
+    }
+    Ok(())
 }
 
 #[test]

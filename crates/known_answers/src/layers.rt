@@ -1,6 +1,8 @@
 //! Layers and their images (Gerber Layer Format Specification, "Graphics objects", "Region statement", "Block Aperture
 //! (AB)" and "Step and Repeat (SR)").
 
+ghost use Rattle.std.specs.Prelude.{IfSome};
+ghost use Rattle.cam_objects.specs.Cells.{AreCellsOf, item_boxes};
 ghost use Rattle.cam_objects.specs.Soundness.{IsSound};
 
 mod blocks;
@@ -9,6 +11,7 @@ pub(crate) mod building;
 mod dictionaries;
 mod forms;
 mod limits;
+mod pointing;
 mod reaches;
 mod rectangles;
 mod regions;
@@ -20,16 +23,17 @@ use crate::places::{At, box_of, place};
 use blocks::BLOCKS;
 use boxes::BOXES;
 use building::{dictionary, entry, item, layer};
-use cam_objects::{ItemFault, Layer};
+use cam_objects::{ItemCells, ItemFault, Layer};
 use cam_units::{Bounds, Turn};
 use dictionaries::BASE;
 use forms::FORMS;
 use limits::{ENTRIES, ROOMS};
+use pointing::POINTED;
 use reaches::REACHES;
 use rectangles::RECTANGLES;
 use regions::REGIONS;
 use repeats::REPEATS;
-use rows::{Added, Boxed, Checked, Drawn, Filled, Listed, Picture};
+use rows::{Added, Boxed, Checked, Drawn, Enclosed, Filled, Found, Listed, Picture, Pointed};
 use std::alloc::{AllocError, Global};
 use std::slice;
 use std::test::Fail;
@@ -61,12 +65,63 @@ fn shows(alloc: Global, row: &Picture) -> Result<bool, AllocError> {
     let Some(layer) = layer(alloc, row.entries, row.items)? else {
         return Ok(false);
     };
-    let copy = layer.try_copy(alloc)?;
+    let copy = layer.try_copy()?;
     Ok(
         are(&layer, row.black, true)
             && are(&layer, row.white, false)
             && are(&copy, row.black, true)
             && are(&copy, row.white, false),
+    )
+}
+
+/// The box of these sides, and the empty one of none.
+fn box_or_empty(sides: Option<[i64; 4]>) -> Bounds {
+    match sides {
+        Some(sides) => box_of(sides),
+        None => Bounds::Empty,
+    }
+}
+
+/// Whether the topmost items are found, by the cells of the items where they are known.
+fn are_found(layer: &Layer, cells: Option<&ItemCells>, rows: &[Found]) -> bool
+    requires sound { IsSound layer.now }
+    requires cells { IfSome cells
+        (λ kept. AreCellsOf (item_boxes layer.now.apertures layer.now.items.items) kept.now) }
+{
+    for (at, before, wanted) in rows {
+        let Some(spot) = place(*at) else {
+            return false;
+        };
+        if layer.item_at(cells, spot, *before) != *wanted {
+            return false;
+        }
+    }
+    true
+}
+
+/// Whether the items in the boxes are found.
+fn are_enclosed(layer: &Layer, rows: &[Enclosed]) -> bool
+    requires { IsSound layer.now }
+{
+    for (sides, from, wanted) in rows {
+        if layer.item_in(box_of(*sides), *from) != *wanted {
+            return false;
+        }
+    }
+    true
+}
+
+/// Whether the layer is made, and all that is asked of it is answered so.
+fn is_pointed(alloc: Global, row: &Pointed) -> Result<bool, AllocError> {
+    let Some(layer) = layer(alloc, row.entries, row.items)? else {
+        return Ok(false);
+    };
+    let (cells, _) = ItemCells::of(alloc, &mut layer.boxes());
+    Ok(
+        are_found(&layer, None, row.found)
+            && are_found(&layer, Some(&cells), row.found)
+            && are_enclosed(&layer, row.enclosed)
+            && layer.bounds() == box_or_empty(row.whole),
     )
 }
 
@@ -99,10 +154,7 @@ fn has_room(alloc: Global, row: &Filled) -> Result<Option<bool>, AllocError> {
 
 /// Whether the item has the wanted box, as it stands and as the only one of a layer.
 fn is_bounded(alloc: Global, row: &Boxed) -> Result<bool, AllocError> {
-    let wanted = match row.2 {
-        Some(sides) => box_of(sides),
-        None => Bounds::Empty,
-    };
+    let wanted = box_or_empty(row.2);
     let Some(layer) = layer(alloc, row.0, slice::from_ref(&row.1))? else {
         return Ok(false);
     };
@@ -225,6 +277,14 @@ fn item_counts(rt: HostRuntime) -> Result<(), Fail> {
 fn item_boxes(rt: HostRuntime) -> Result<(), Fail> {
     for (place, row) in BOXES.iter().enumerate() {
         assert!(rt; is_bounded(rt.alloc(), row)?, "{place}");
+    }
+    Ok(())
+}
+
+#[test]
+fn pointed_items(rt: HostRuntime) -> Result<(), Fail> {
+    for (place, row) in POINTED.iter().enumerate() {
+        assert!(rt; is_pointed(rt.alloc(), row)?, "{place}");
     }
     Ok(())
 }

@@ -37,6 +37,8 @@ mod tiles;
 #[cfg(test)]
 mod units;
 #[cfg(test)]
+mod ways;
+#[cfg(test)]
 mod words;
 #[cfg(test)]
 mod writers;

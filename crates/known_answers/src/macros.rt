@@ -13,7 +13,7 @@ use std::test::Fail;
 fn number<T: Drop>(answer: Result<T, MacroFault>) -> u8 {
     match answer {
         Ok(_) => 0,
-        Err(fault) => fault.code(),
+        Err(fault) => fault.number(),
     }
 }
 

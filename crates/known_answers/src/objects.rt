@@ -24,7 +24,7 @@ fn shown(alloc: Global, x: i16, y: i16) -> Result<Option<(bool, usize, usize)>, 
     let Ok(layer) = read_gerber(alloc, DISCS) else {
         return Ok(None);
     };
-    let copy = layer.try_copy(alloc)?;
+    let copy = layer.try_copy()?;
     let black = layer.black_at(Spot {
         x: i64::from(x),
         y: i64::from(y),

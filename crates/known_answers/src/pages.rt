@@ -36,10 +36,10 @@ fn cam_tiles(rt: HostRuntime) -> Result<(), Fail> {
         height: 3,
     };
     let mut raster = Raster::new(alloc, window)?;
-    let mut source = Source::gerber(alloc, &layer);
+    let mut source = Source::gerber(&layer);
     assert!(rt; raster.redraw(&mut source, u32::MAX) == 1);
     assert!(rt; raster.pixel(0, 1) == Some(true));
-    let file = raster.to_pbm(alloc)?;
+    let file = raster.to_pbm()?;
     assert!(rt; file.as_slice() == b"P4\n3 3\n\x40\xe0\x40".as_slice());
     Ok(())
 }

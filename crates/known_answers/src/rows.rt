@@ -156,15 +156,13 @@ fn shapes_of(figure: &Figure, at: At) -> [Shape; 4] {
 }
 
 /// The centres of a row that is moved, `level` rows above the lowest one.
-fn centres_at(((x, step, count), (y, rise, _)): Rows, (right, up): At, level: u32) -> Centres {
+fn centres_at(((x, step, n), (y, rise, _)): Rows, (right, up): At, level: u32) -> Centres {
     Centres {
-        first: Spot {
-            x: x.saturating_add(right),
-            y: y.saturating_add(up)
-                .saturating_add(rise.saturating_mul(i64::from(level))),
-        },
+        x: x.saturating_add(right),
+        y: y.saturating_add(up)
+            .saturating_add(rise.saturating_mul(i64::from(level))),
         step,
-        count,
+        n,
     }
 }
 
@@ -172,12 +170,12 @@ fn centres_at(((x, step, count), (y, rise, _)): Rows, (right, up): At, level: u3
 fn row(centres: Centres) -> Option<Centres>
     ensures { IfSome result IsRow }
 {
-    let Centres { first, step, count } = centres;
-    if count < 1 || 64 < count || step < 1 || 8_000_000_000 < step {
+    let Centres { x, y, step, n } = centres;
+    if n < 1 || 64 < n || step < 1 || 8_000_000_000 < step {
         return None;
     }
-    reach(first.x, first.y)?;
-    reach(first.x + i64::from(count - 1) * step, first.y)?;
+    reach(x, y)?;
+    reach(x + i64::from(n - 1) * step, y)?;
     Some(centres)
 }
 
@@ -204,9 +202,9 @@ fn tested(shape: &Shape, centres: Centres) -> Option<u64>
     requires { IsRow centres }
 {
     let mut bits = 0;
-    for i in 0..centres.count {
-        let x = centres.first.x + i64::from(i) * centres.step;
-        if holds(shape, x, centres.first.y)? {
+    for i in 0..centres.n {
+        let x = centres.x + i64::from(i) * centres.step;
+        if holds(shape, x, centres.y)? {
             bits |= 1u64 << i;
         }
     }

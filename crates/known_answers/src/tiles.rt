@@ -64,14 +64,14 @@ fn picture(alloc: Global, width: u32, height: u32) -> Result<(u32, Vec<u8>), Ras
     let Ok(layer) = read_gerber(alloc, DISCS) else {
         return Err(RasterFault::Memory);
     };
-    let mut source = Source::gerber(alloc, &layer);
+    let mut source = Source::gerber(&layer);
     let tiles = raster.dirty();
     raster.redraw(&mut source, tiles.saturating_sub(1));
-    if !matches!(raster.to_pbm(alloc), Err(RasterFault::StillDirty)) {
+    if !matches!(raster.to_pbm(), Err(RasterFault::StillDirty)) {
         return Err(RasterFault::StillDirty);
     }
     raster.redraw(&mut source, u32::MAX);
-    let file = raster.to_pbm(alloc)?;
+    let file = raster.to_pbm()?;
     if source.asked() != u64::from(tiles) {
         return Err(RasterFault::StillDirty);
     }
@@ -97,7 +97,7 @@ fn touches(alloc: Global, bounds: Bounds, wanted: &[u32]) -> Result<bool, Raster
     let Ok(layer) = read_gerber(alloc, DISCS) else {
         return Err(RasterFault::Memory);
     };
-    raster.redraw(&mut Source::gerber(alloc, &layer), u32::MAX);
+    raster.redraw(&mut Source::gerber(&layer), u32::MAX);
     raster.touch(bounds);
     for tile in 0..6 {
         if raster.is_clean(tile) == wanted.contains(&tile) {
@@ -137,7 +137,7 @@ fn pixel(alloc: Global, column: u32, row: u32) -> Result<Option<bool>, RasterFau
     let Ok(layer) = read_gerber(alloc, DISCS) else {
         return Err(RasterFault::Memory);
     };
-    raster.redraw(&mut Source::gerber(alloc, &layer), 1);
+    raster.redraw(&mut Source::gerber(&layer), 1);
     Ok(raster.pixel(column, row))
 }
 

@@ -62,7 +62,7 @@ fn is_layer(alloc: Global, row: &DrillFile) -> Result<bool, Fail> {
     let Ok(layer) = read_xnc(alloc, row.text) else {
         return Ok(false);
     };
-    let copy = layer.try_copy(alloc)?;
+    let copy = layer.try_copy()?;
     Ok(
         are_tools(layer.tools(), row.tools)
             && are_items(layer.items(), row.items)

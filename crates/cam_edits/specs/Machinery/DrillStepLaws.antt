@@ -5,6 +5,7 @@ use Rattle.std.proofs.Common.{refl, ap, sym, subst, ◌∙◌, arith}
 use Rattle.std.proofs.lemmas.List.Edits.{length-insert, length-remove}
 use Rattle.std.proofs.lemmas.List.Sums.{sum_by-append}
 use Rattle.cam_units.specs.declared.length.Nm.{Nm}
+use Rattle.cam_units.specs.declared.point.Point.{Point}
 use Rattle.cam_objects.specs.Drilling.{diameter_of}
 use Rattle.cam_objects.specs.DrillSoundness.{tool_of}
 use Rattle.cam_objects.specs.Shifting.{shifted_drill_item}
@@ -15,11 +16,12 @@ use Rattle.cam_edits.specs.declared.drill_step.DrillStep.{DrillStep}
 use Rattle.cam_edits.specs.declared.drill_step.DrillStep.TheVariants.{Insert, Delete, Move, Reorder, Tool, Diameter}
 use Rattle.cam_edits.specs.DrillSteps.{HasDrillRoom, IsDrillFit, after_drill_step, diameter_before, insertion_of}
 use Rattle.cam_edits.specs.DrillSteps.{inverse_drill_step, is_drill_insertion, tool_before, with_tool}
-use Rattle.cam_edits.specs.Machinery.MovingLaws.{drill_item_back, movable_drill_item, negated_twice, shiftable_negated}
+use Rattle.cam_edits.specs.Machinery.MovingLaws.{drill_item_back, movable_drill_item, negated, negated_twice}
+use Rattle.cam_edits.specs.Machinery.MovingLaws.{shiftable_negated}
 use Rattle.cam_edits.specs.Machinery.PlaceLaws.{changed_back, element_at, found, get_changed, get_inserted, has_changed}
 use Rattle.cam_edits.specs.Machinery.PlaceLaws.{insert_removed}
 use Rattle.cam_edits.specs.Machinery.PlaceLaws.{length_reordered, remove_inserted, reordered_back, within}
-use Rattle.cam_edits.specs.Moving.{IsMovableDrillItem, negated}
+use Rattle.cam_edits.specs.Moving.{IsMovableDrillItem, way}
 use Rattle.cam_edits.specs.Places.{changed}
 use Rattle.cam_objects.specs.Contents.{DrillContent}
 
@@ -89,11 +91,11 @@ drill_answer_fits (Delete k) c h =
     let n = length-remove c.items k h in
     let le : k ≤ length (remove c.items k) = omega arith in
     subst (λ (s : DrillStep). IsDrillFit s (after_drill_step (Delete k) c)) (sym (ap (insertion_of k) e.1)) le
-drill_answer_fits (Move k by) c h =
-    let f = found (IsMovableDrillItem by) c.items k h.1 in (
-      shiftable_negated by h.0,
-      has_changed c.items k f.0 f.1 (IsMovableDrillItem (negated by)) (shifted_drill_item by)
-          (movable_drill_item by f.0 f.2),
+drill_answer_fits (Move k dx dy) c h =
+    let f = found (IsMovableDrillItem (way dx dy)) c.items k h.1 in (
+      shiftable_negated (way dx dy) h.0,
+      has_changed c.items k f.0 f.1 (IsMovableDrillItem (negated (way dx dy))) (shifted_drill_item (way dx dy))
+          (movable_drill_item (way dx dy) f.0 f.2),
     )
 drill_answer_fits (Reorder k m) c h =
     let e = element_at c.items k h.0 in
@@ -121,10 +123,10 @@ drill_gives_back_content (Delete k) c h =
     let e = element_at c.items k h in
     ap (λ (s : DrillStep). after_drill_step s (after_drill_step (Delete k) c)) (ap (insertion_of k) e.1)
     ∙ ap (with_items c) (insert_removed c.items k e.0 e.1)
-drill_gives_back_content (Move k by) c h =
-    let f = found (IsMovableDrillItem by) c.items k h.1 in
+drill_gives_back_content (Move k dx dy) c h =
+    let f = found (IsMovableDrillItem (way dx dy)) c.items k h.1 in
     ap (with_items c)
-    (changed_back c.items k f.0 f.1 (shifted_drill_item by) (shifted_drill_item (negated by)) (drill_item_back by f.0))
+    (changed_back c.items k f.0 f.1 (shifted_drill_item (way dx dy)) (shifted_drill_item (negated (way dx dy))) (drill_item_back (way dx dy) f.0))
 drill_gives_back_content (Reorder k m) c h =
     let e = element_at c.items k h.0 in ap (with_items c) (reordered_back c.items k e.0 e.1 m h.1)
 drill_gives_back_content (Tool k t) c h =
@@ -145,7 +147,7 @@ pub drill_gives_back_step : (step : DrillStep) (c : DrillContent) → IsDrillFit
 drill_gives_back_step (Insert k item) c h = ap (insertion_of k) (get_inserted c.items k item h)
 drill_gives_back_step (Delete k) c h =
     let e = element_at c.items k h in ap (again (after_drill_step (Delete k) c)) (ap (insertion_of k) e.1)
-drill_gives_back_step (Move k by) c h = ap (Move k) (negated_twice by)
+drill_gives_back_step (Move k dx dy) c h = ap (λ (by : Point). Move k by.x by.y) (negated_twice (way dx dy))
 drill_gives_back_step (Reorder k m) c h = refl
 drill_gives_back_step (Tool k t) c h =
     let e = element_at c.items k h in

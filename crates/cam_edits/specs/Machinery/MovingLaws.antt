@@ -15,7 +15,10 @@ use Rattle.cam_objects.specs.declared.item.Item.TheVariants.{One, Repeat}
 use Rattle.cam_objects.specs.declared.drill_item.DrillItem.{DrillItem}
 use Rattle.cam_objects.specs.declared.drill_item.DrillItem.TheVariants.{Hit, Rout}
 use Rattle.cam_edits.specs.Moving.{IsMovablePoint, IsMovableSeg, IsMovableObject, IsMovableItem, IsMovableDrillItem}
-use Rattle.cam_edits.specs.Moving.{negated}
+
+-- the way back
+abbrev pub negated : Point → Point
+negated by = record { x = neg_ℤ by.x; y = neg_ℤ by.y }
 
 size_negated : (a : ℤ) → unsigned_abs (neg_ℤ a) ≡ unsigned_abs a
 size_negated (pos zero) = refl

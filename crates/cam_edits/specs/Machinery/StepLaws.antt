@@ -3,6 +3,7 @@ use Rattle.std.specs.Prelude.{slice_get}
 use Rattle.std.proofs.Common.{refl, ap, sym, subst, ◌∙◌, arith}
 use Rattle.std.proofs.lemmas.List.Edits.{length-insert, length-remove}
 use Rattle.std.proofs.lemmas.List.Sums.{sum_by-append}
+use Rattle.cam_units.specs.declared.point.Point.{Point}
 use Rattle.cam_objects.specs.Contents.{Content}
 use Rattle.cam_objects.specs.Shifting.{shifted_item}
 use Rattle.cam_objects.specs.declared.attribute.Attribute.{Attribute}
@@ -14,8 +15,8 @@ use Rattle.cam_objects.specs.declared.layer.Layer.{Layer}
 use Rattle.cam_edits.specs.declared.step.Step.{Step}
 use Rattle.cam_edits.specs.declared.step.Step.TheVariants.{Insert, Delete, Move, Reorder, Aperture, Polarity}
 use Rattle.cam_edits.specs.declared.step.Step.TheVariants.{PutAttribute, TakeAttribute, SetFields}
-use Rattle.cam_edits.specs.Moving.{IsMovableItem, negated}
-use Rattle.cam_edits.specs.Machinery.MovingLaws.{item_back, movable_item, negated_twice, shiftable_negated}
+use Rattle.cam_edits.specs.Moving.{IsMovableItem, way}
+use Rattle.cam_edits.specs.Machinery.MovingLaws.{item_back, movable_item, negated, negated_twice, shiftable_negated}
 use Rattle.cam_edits.specs.Machinery.PlaceLaws.{changed_back, element_at, found, get_changed, get_inserted, has_changed}
 use Rattle.cam_edits.specs.Machinery.PlaceLaws.{insert_removed, length_changed, length_reordered, remove_inserted}
 use Rattle.cam_edits.specs.Machinery.PlaceLaws.{reordered_back}
@@ -82,10 +83,10 @@ module _ (c : Content) where
       let n = length-remove c.items k h in
       let le : k ≤ length (remove c.items k) = omega arith in
       rw e le
-  fits_back (Move k by) h =
-      let f = found (IsMovableItem by) c.items k h.1 in (
-        shiftable_negated by h.0,
-        has_changed c.items k f.0 f.1 (IsMovableItem (negated by)) (shifted_item by) (movable_item by f.0 f.2),
+  fits_back (Move k dx dy) h =
+      let f = found (IsMovableItem (way dx dy)) c.items k h.1 in (
+        shiftable_negated (way dx dy) h.0,
+        has_changed c.items k f.0 f.1 (IsMovableItem (negated (way dx dy))) (shifted_item (way dx dy)) (movable_item (way dx dy) f.0 f.2),
       )
   fits_back (Reorder k m) h =
       let e = element_at c.items k h.0 in
@@ -129,10 +130,10 @@ module _ (c : Content) where
   content_back (Delete k) h =
       let e = element_at c.items k h in
       ap (then_step (Delete k)) (ap (by_item (Delete k)) e.1) ∙ ap with_items (insert_removed c.items k e.0 e.1)
-  content_back (Move k by) h =
-      let f = found (IsMovableItem by) c.items k h.1 in
+  content_back (Move k dx dy) h =
+      let f = found (IsMovableItem (way dx dy)) c.items k h.1 in
       ap with_items
-      (changed_back c.items k f.0 f.1 (shifted_item by) (shifted_item (negated by)) (item_back by f.0))
+      (changed_back c.items k f.0 f.1 (shifted_item (way dx dy)) (shifted_item (negated (way dx dy))) (item_back (way dx dy) f.0))
   content_back (Reorder k m) h =
       let e = element_at c.items k h.0 in ap with_items (reordered_back c.items k e.0 e.1 m h.1)
   content_back (Aperture k n) h =
@@ -168,7 +169,7 @@ module _ (c : Content) where
   step_back (Insert k item) h = ap (by_item (Delete k)) (get_inserted c.items k item h)
   step_back (Delete k) h =
       let e = element_at c.items k h in ap (again (Delete k)) (ap (by_item (Delete k)) e.1)
-  step_back (Move k by) h = ap (Move k) (negated_twice by)
+  step_back (Move k dx dy) h = ap (λ (by : Point). Move k by.x by.y) (negated_twice (way dx dy))
   step_back (Reorder k m) h = refl
   step_back (Aperture k n) h =
       let o = one_at HasAperture c.items k h in

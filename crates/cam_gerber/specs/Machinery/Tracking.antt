@@ -34,7 +34,7 @@ use Rattle.cam_gerber.specs.State.{Past, format_in, unit_in, dark_in, mirror_in,
 use Rattle.cam_gerber.specs.State.{has_arcs, in_region, code_in, point_in, value_of, coordinate_nm, code_of}
 use Rattle.cam_gerber.specs.Attributes.{attributes_in}
 use Rattle.cam_gerber.specs.Homes.{home, InBlock, InRepeat, Opened, open_blocks, open_repeat}
-use Rattle.cam_gerber.specs.Making.{start_in, segments_in, region_in, made, objects_of}
+use Rattle.cam_gerber.specs.Making.{start_in, segments_in, region_in, made, objects_of, IsMaker}
 use Rattle.cam_gerber.specs.Layers.{macros_in, entries_in, items_in, closed_repeat, closed_leaves, leaves_of, leaves_in}
 use Rattle.cam_gerber.specs.Faults.{command_faults, faults, least, closing_faults, operated_faults, path_faults, is_arc}
 use Rattle.cam_gerber.specs.Faults.{is_on_board, is_full, holds_of_one}
@@ -181,12 +181,6 @@ abbrev pub Operates : OperationCode → Bool → Operation → Running → Resul
 Operates code region operation old result new =
     (past : Past) → IsFaultless past → Tracks past old → in_region past ≡ region → code_of operation ≡ code
     → Answers result (operated_faults code region past operation) (Tracks (Says (Operate operation) ∷ past) new)
-
--- it may make an object
-abbrev pub IsMaker : Statement → Type 0
-IsMaker (Says (Operate operation)) = Unit {0}
-IsMaker (Says EndRegion) = Unit {0}
-IsMaker _ = ⊥
 
 -- what is open and built behind a past
 pub record TracksPlaces (past : Past) (r : Running) : Type 0 where

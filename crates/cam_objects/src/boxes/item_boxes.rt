@@ -55,6 +55,14 @@ impl Layer {
 }
 
 impl<'a> ItemBoxes<'a> {
+    /// The layer.
+    pub(crate) fn layer(&self) -> &Layer
+        ensures value { result.now ≡ self.now }
+        ensures sound { HasSoundItems self.now }
+    {
+        self.layer
+    }
+
     /// How many items there are.
     pub(crate) fn len(&self) -> usize
         ensures value { result ≡ length self.now.items.items }

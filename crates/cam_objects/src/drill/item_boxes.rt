@@ -80,6 +80,14 @@ impl DrillLayer {
 }
 
 impl<'a> DrillItemBoxes<'a> {
+    /// The layer.
+    pub(crate) fn layer(&self) -> &DrillLayer
+        ensures value { result.now ≡ self.now }
+        ensures sound { IsSoundDrillLayer self.now }
+    {
+        self.layer
+    }
+
     /// How many items there are.
     pub(crate) fn len(&self) -> usize
         ensures value { result ≡ length self.now.items.items }

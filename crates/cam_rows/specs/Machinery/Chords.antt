@@ -7,7 +7,7 @@ use Rattle.cam_rows.specs.declared.centres.Centres.{Centres}
 use Rattle.cam_rows.specs.declared.chord.Chord.{Chord}
 use Rattle.cam_rows.specs.declared.chord.side.ChordSide.{ChordSide}
 use Rattle.cam_rows.specs.declared.offsets.Offsets.{Offsets}
-use Rattle.cam_rows.specs.Rows.{centre_at, row_below}
+use Rattle.cam_rows.specs.Rows.{centre_at, first_of, row_below}
 use Rattle.cam_rows.specs.Runs.{most_columns}
 
 -- how far a centre lies to the right, by the leftmost one and the step
@@ -27,7 +27,7 @@ pub record AreWideOffsets (o : Offsets) : Type 0 where
 pub record AreOffsetsFrom (row : Centres) (p : Point) (o : Offsets) : Type 0 where
   pub each : (i : ℕ) → offset o.first o.step i ≡ (seen_from p (centre_at row i)).x
   pub step : o.step ≡ row.step
-  pub count : o.count ≡ row.count
+  pub count : o.count ≡ row.n
 
 -- ---- the columns on one side of a circle's middle, counted outwards
 
@@ -93,5 +93,5 @@ pub record IsChord (c : Chord) : Type 0 where
 -- those of their heights
 pub record AreNearby (p : Point) (top : Centres) (n : ℕ) : Type 0 where
   pub step : top.step <ℤ pos (2 ^ 32)
-  pub columns : (i : ℕ) → i < top.count → unsigned_abs (seen_from p (centre_at top i)).x < 2 ^ 32
-  pub rows : (k : ℕ) → k < n → unsigned_abs (seen_from p (row_below top k).first).y < 2 ^ 32
+  pub columns : (i : ℕ) → i < top.n → unsigned_abs (seen_from p (centre_at top i)).x < 2 ^ 32
+  pub rows : (k : ℕ) → k < n → unsigned_abs (seen_from p (first_of (row_below top k))).y < 2 ^ 32

@@ -9,7 +9,7 @@ use Rattle.cam_rows.specs.Runs.{IsInRun}
 
 -- the leftmost centre of a row alone
 abbrev pub leftmost : Centres → Centres
-leftmost c = record { first = c.first; step = c.step; count = 1 }
+leftmost c = record { x = c.x; y = c.y; step = c.step; n = 1 }
 
 -- the number at column i of the row that lies k steps below the top one is not negative
 abbrev pub IsUp : Sloped → ℕ → ℕ → Type 0

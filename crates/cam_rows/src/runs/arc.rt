@@ -4,10 +4,10 @@ ghost use Rattle.std.specs.Prelude.{◌≡◌, ◌<◌, length};
 ghost use Rattle.cam_units.specs.Board.{IsOnBoard};
 ghost use Rattle.cam_shapes.specs.Arc.{IsSoundArc};
 ghost use Rattle.cam_shapes.specs.Plane.{seen_from, way};
-ghost use Rattle.cam_rows.specs.ArcRuns.{IsBeyond, IsHollow, IsInHalf, IsLeftOut, IsOuter, IsRingOf, in_turn};
+ghost use Rattle.cam_rows.specs.ArcRuns.{IsBeyond, IsInHalf, IsLeftOut, IsOuter, IsRingOf, in_turn};
 ghost use Rattle.cam_rows.specs.Runs.{AreRuns, AreWideRows};
 
-use super::circle::{circle_runs, narrow_to_circle};
+use super::circle::narrow_to_circle;
 use crate::centres::Centres;
 use crate::half_plane::HalfPlane;
 use crate::ring::Ring;
@@ -20,7 +20,7 @@ use cam_units::Point;
 /// column on and before its end; points and the width are in nanometres, the centres in half nanometres, up to 32,768 of
 /// them in a row.
 ///
-/// The stroke is these columns without those of [`hollow_runs`] and of [`beyond_runs`], and the discs about its ends.
+/// The stroke is these columns without those of the inner circle and of [`beyond_runs`], and the discs about its ends.
 pub fn outer_runs(arc: &Arc, ring: &Ring, top: &Centres, firsts: &mut [u32], ends: &mut [u32])
     requires arc { IsSoundArc arc.now }
     requires ring { IsRingOf ring.now arc.now }
@@ -38,18 +38,6 @@ pub fn outer_runs(arc: &Arc, ring: &Ring, top: &Centres, firsts: &mut [u32], end
     }
     turn_runs(arc, top, firsts, ends);
     narrow_to_circle(&arc.centre, ring.outer, top, firsts, ends);
-}
-
-/// The runs of an arc's inner circle in wide rows, one below another from the top one: the columns in it, but not on its
-/// edge, none where the stroke holds the centre. Units and runs are those of [`outer_runs`].
-pub fn hollow_runs(arc: &Arc, ring: &Ring, top: &Centres, firsts: &mut [u32], ends: &mut [u32])
-    requires arc { IsSoundArc arc.now }
-    requires ring { IsRingOf ring.now arc.now }
-    requires rows { AreWideRows top.now (length firsts.old) }
-    requires ends { length ends.old ≡ length firsts.old }
-    ensures { AreRuns firsts.new ends.new top.now (λ s. IsHollow arc.now s) }
-{
-    circle_runs(&arc.centre, ring.inner, top, firsts, ends);
 }
 
 /// The runs in wide rows, one below another from the top one, of what an arc's sweep leaves out, where it is more than a
@@ -106,7 +94,7 @@ fn half_runs(
         (λ s. IsInHalf (way centre.now start.now) (way centre.now end.now) (seen_from centre.now s)) }
 {
     firsts.fill(0);
-    ends.fill(top.count);
+    ends.fill(top.n);
     if *start == *end {
         return;
     }
@@ -119,8 +107,8 @@ fn half_runs(
         return;
     }
     let left = top.leftmost();
-    HalfPlane::left(centre, start, 0, &left).narrow(top.count, firsts, ends);
-    HalfPlane::left(end, centre, 0, &left).narrow(top.count, firsts, ends);
+    HalfPlane::left(centre, start, 0, &left).narrow(top.n, firsts, ends);
+    HalfPlane::left(end, centre, 0, &left).narrow(top.n, firsts, ends);
 }
 
 /// The runs of what a sweep about a point leaves out, counterclockwise from a start to an end, where it is more than a
@@ -147,8 +135,8 @@ fn left_out_runs(
         ends.fill(0);
         return;
     }
-    ends.fill(top.count);
+    ends.fill(top.n);
     let left = top.leftmost();
-    HalfPlane::left(start, centre, -1, &left).narrow(top.count, firsts, ends);
-    HalfPlane::left(centre, end, -1, &left).narrow(top.count, firsts, ends);
+    HalfPlane::left(start, centre, -1, &left).narrow(top.n, firsts, ends);
+    HalfPlane::left(centre, end, -1, &left).narrow(top.n, firsts, ends);
 }

@@ -9,7 +9,7 @@ ghost use Rattle.cam_units.specs.Board.{IsOnBoard, IsSize};
 ghost use Rattle.cam_shapes.specs.Bar.{IsInBar, IsSoundBar};
 ghost use Rattle.cam_rows.specs.Machinery.Beside.{IsFar, IsFarOrAhead};
 ghost use Rattle.cam_rows.specs.Machinery.Narrowing.{AreNarrowed};
-ghost use Rattle.cam_rows.specs.Rows.{centre_at, row_below};
+ghost use Rattle.cam_rows.specs.Rows.{centre_at, first_of, row_below};
 ghost use Rattle.cam_rows.specs.Runs.{AreRuns, AreWideRows, IsInRun};
 
 use super::beside_line::runs_beside;
@@ -116,7 +116,7 @@ fn narrow_ahead(
     requires some { 0 < length firsts.old }
     requires rows { AreWideRows top.now (length firsts.old) }
     requires ends { length ends.old ≡ length firsts.old }
-    ensures { AreNarrowed top.now.count firsts.old ends.old
+    ensures { AreNarrowed top.now.n firsts.old ends.old
         (λ k i. IsFarOrAhead from.now to.now width (centre_at (row_below top.now k) i)) (length firsts.old)
         firsts.new ends.new }
 {
@@ -125,7 +125,7 @@ fn narrow_ahead(
         return;
     }
     HalfPlane::ahead(from, to, &top.wide_below(first).leftmost()).narrow(
-        top.count,
+        top.n,
         &mut firsts[first..end],
         &mut ends[first..end],
     );
@@ -140,7 +140,7 @@ fn rows_not_far(from: &Point, to: &Point, width: i64, top: &Centres, rows: usize
     requires some { 0 < rows }
     requires rows { AreWideRows top.now rows }
     ensures each { (k : ℕ) → k < rows
-        → IsInRun result.0 result.1 k ↔ (IsFar from.now to.now width (row_below top.now k).first → ⊥) }
+        → IsInRun result.0 result.1 k ↔ (IsFar from.now to.now width (first_of (row_below top.now k)) → ⊥) }
     ensures within { result.1 ≤ rows }
 {
     let start = 2 * from.y;

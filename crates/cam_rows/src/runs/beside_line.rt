@@ -35,7 +35,7 @@ pub(super) fn runs_beside(
         (λ s. IsWithinReach (cross (way from.now to.now) (seen_from from.now s)) reach) }
 {
     match HalfPlane::line(from, to, &top.leftmost()).strip(reach, firsts.len()) {
-        Some((low, high, steps)) => count_both(low, high, &steps, top.count, firsts, ends),
+        Some((low, high, steps)) => count_both(low, high, &steps, top.n, firsts, ends),
         None => long_runs_beside(from, to, reach, top, firsts, ends),
     }
 }
@@ -59,10 +59,10 @@ fn long_runs_beside(
         (λ s. IsWithinReach (cross (way from.now to.now) (seen_from from.now s)) reach) }
 {
     firsts.fill(0);
-    ends.fill(top.count);
+    ends.fill(top.n);
     let left = top.leftmost();
-    HalfPlane::left(from, to, reach, &left).narrow(top.count, firsts, ends);
-    HalfPlane::left(to, from, reach, &left).narrow(top.count, firsts, ends);
+    HalfPlane::left(from, to, reach, &left).narrow(top.n, firsts, ends);
+    HalfPlane::left(to, from, reach, &left).narrow(top.n, firsts, ends);
 }
 
 impl HalfPlane {

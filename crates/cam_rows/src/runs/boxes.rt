@@ -27,7 +27,7 @@ pub(crate) fn box_runs(low: &Spot, high: &Spot, top: &Centres, firsts: &mut [u32
     };
     let all = top.columns_in(&strip);
     for k in 0..firsts.len() {
-        let run = run_across(all, low, high, top.wide_below(k).first.y);
+        let run = run_across(all, low, high, top.wide_below(k).y);
         firsts[k] = run.first;
         ends[k] = run.end;
     }

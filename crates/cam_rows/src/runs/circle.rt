@@ -5,33 +5,13 @@ ghost use Rattle.cam_units.specs.Board.{IsOnBoard};
 ghost use Rattle.cam_rows.specs.Machinery.Chords.{AreNearby};
 ghost use Rattle.cam_rows.specs.Machinery.Narrowing.{AreNarrowed, IsNearer};
 ghost use Rattle.cam_rows.specs.Rows.{centre_at, row_below};
-ghost use Rattle.cam_rows.specs.Runs.{AreRuns, AreWideRows, IsInRun, IsWideRow};
+ghost use Rattle.cam_rows.specs.Runs.{AreWideRows, IsInRun, IsWideRow};
 
 use super::{Run, Strip};
 use crate::centres::Centres;
 use crate::chord::{Chord, is_nearby, room_at};
 use crate::circle::{half_chord, squared_height};
 use cam_units::Point;
-
-/// The runs of a circle in wide rows, one below another from the top one: the columns whose squared distance from a
-/// point is less than a bound.
-pub(crate) fn circle_runs(
-    point: &Point,
-    bound: u128,
-    top: &Centres,
-    firsts: &mut [u32],
-    ends: &mut [u32],
-)
-    requires point { IsOnBoard point.now }
-    requires bound { bound < 2 ^ 68 }
-    requires rows { AreWideRows top.now (length firsts.old) }
-    requires ends { length ends.old ≡ length firsts.old }
-    ensures { AreRuns firsts.new ends.new top.now (IsNearer point.now bound) }
-{
-    firsts.fill(0);
-    ends.fill(top.count);
-    narrow_to_circle(point, bound, top, firsts, ends);
-}
 
 /// Narrows the runs of wide rows, one below another from the top one, to the columns whose squared distance from a
 /// point is less than a bound.
@@ -46,7 +26,7 @@ pub(crate) fn narrow_to_circle(
     requires bound { bound < 2 ^ 68 }
     requires rows { AreWideRows top.now (length firsts.old) }
     requires ends { length ends.old ≡ length firsts.old }
-    ensures { AreNarrowed top.now.count firsts.old ends.old
+    ensures { AreNarrowed top.now.n firsts.old ends.old
         (λ k i. IsNearer point.now bound (centre_at (row_below top.now k) i)) (length firsts.old) firsts.new ends.new }
 {
     if firsts.is_empty() {
@@ -66,7 +46,7 @@ fn narrow_nearby(point: &Point, bound: u64, top: &Centres, firsts: &mut [u32], e
     requires rows { AreWideRows top.now (length firsts.old) }
     requires near { AreNearby point.now top.now (length firsts.old) }
     requires ends { length ends.old ≡ length firsts.old }
-    ensures { AreNarrowed top.now.count firsts.old ends.old
+    ensures { AreNarrowed top.now.n firsts.old ends.old
         (λ k i. IsNearer point.now bound (centre_at (row_below top.now k) i)) (length firsts.old) firsts.new ends.new }
 {
     let mut chord = Chord::at_middle(point, top);
@@ -92,7 +72,7 @@ fn narrow_by_roots(point: &Point, bound: u128, top: &Centres, firsts: &mut [u32]
     requires some { 0 < length firsts.old }
     requires rows { AreWideRows top.now (length firsts.old) }
     requires ends { length ends.old ≡ length firsts.old }
-    ensures { AreNarrowed top.now.count firsts.old ends.old
+    ensures { AreNarrowed top.now.n firsts.old ends.old
         (λ k i. IsNearer point.now bound (centre_at (row_below top.now k) i)) (length firsts.old) firsts.new ends.new }
 {
     for k in 0..firsts.len() {
@@ -107,7 +87,7 @@ fn root_run(point: &Point, bound: u128, row: &Centres) -> Run
     requires point { IsOnBoard point.now }
     requires bound { bound < 2 ^ 68 }
     requires row { IsWideRow row.now }
-    ensures { (i : ℕ) → i < row.now.count
+    ensures { (i : ℕ) → i < row.now.n
         → IsInRun result.first result.end i ↔ IsNearer point.now bound (centre_at row.now i) }
 {
     let height = squared_height(point, &row.leftmost());

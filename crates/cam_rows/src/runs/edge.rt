@@ -4,7 +4,7 @@ ghost use Rattle.std.specs.Prelude.{◌≢◌, ◌<◌, ℕ, IsTrue, length, pos
 ghost use Rattle.cam_units.specs.Board.{IsOnBoard};
 ghost use Rattle.cam_shapes.specs.Edge.{crosses_ray, edge, is_above};
 ghost use Rattle.cam_shapes.specs.Plane.{cross, seen_from, way};
-ghost use Rattle.cam_rows.specs.Rows.{row_below};
+ghost use Rattle.cam_rows.specs.Rows.{first_of, row_below};
 ghost use Rattle.cam_rows.specs.Runs.{AreEnds, AreWideRows};
 
 use crate::centres::Centres;
@@ -20,7 +20,7 @@ pub fn edge_runs(from: Point, to: Point, top: &Centres, ends: &mut [u32])
     requires to { IsOnBoard to }
     requires rows { AreWideRows top.now (length ends.old) }
     requires crossed { (k : ℕ) → k < length ends.old
-        → is_above from (row_below top.now k).first ≢ is_above to (row_below top.now k).first }
+        → is_above from (first_of (row_below top.now k)) ≢ is_above to (first_of (row_below top.now k)) }
     ensures { AreEnds ends.new top.now (λ s. IsTrue (crosses_ray s (edge from to))) }
 {
     if ends.is_empty() {
@@ -42,5 +42,5 @@ fn runs_left(from: &Point, to: &Point, top: &Centres, ends: &mut [u32])
     requires rows { AreWideRows top.now (length ends.old) }
     ensures { AreEnds ends.new top.now (λ s. pos 0 <ℤ cross (way from.now to.now) (seen_from from.now s)) }
 {
-    HalfPlane::left(from, to, -1, &top.leftmost()).count_columns(top.count, ends);
+    HalfPlane::left(from, to, -1, &top.leftmost()).count_columns(top.n, ends);
 }

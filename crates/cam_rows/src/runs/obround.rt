@@ -30,9 +30,9 @@ pub fn obround_runs(obround: &Obround, top: &Centres, firsts: &mut [u32], ends: 
 fn obround_run(obround: &Obround, row: &Centres) -> Run
     requires obround { IsSoundObround obround.now }
     requires row { IsWideRow row.now }
-    ensures each { (i : ℕ) → i < row.now.count
+    ensures each { (i : ℕ) → i < row.now.n
         → IsInRun result.first result.end i ↔ IsInObround (centre_at row.now i) obround.now }
-    ensures within { result.end ≤ row.now.count }
+    ensures within { result.end ≤ row.now.n }
 {
     let Obround {
         centre,

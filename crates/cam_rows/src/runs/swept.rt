@@ -40,6 +40,6 @@ pub fn swept_runs(swept: &Swept, top: &Centres, firsts: &mut [u32], ends: &mut [
     }
     let reach = corner_reach(swept);
     let left = top.leftmost();
-    HalfPlane::left(&from, &to, reach, &left).narrow(top.count, firsts, ends);
-    HalfPlane::left(&to, &from, reach, &left).narrow(top.count, firsts, ends);
+    HalfPlane::left(&from, &to, reach, &left).narrow(top.n, firsts, ends);
+    HalfPlane::left(&to, &from, reach, &left).narrow(top.n, firsts, ends);
 }

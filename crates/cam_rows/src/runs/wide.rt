@@ -6,7 +6,7 @@ ghost use Rattle.cam_units.specs.Board.{IsOnBoard};
 ghost use Rattle.cam_shapes.specs.Plane.{seen_from};
 ghost use Rattle.cam_rows.specs.Machinery.Chords.{AreOffsetsFrom, AreWideOffsets};
 ghost use Rattle.cam_rows.specs.Machinery.Narrowing.{leftmost};
-ghost use Rattle.cam_rows.specs.Rows.{IsRow, centre_at, row_below};
+ghost use Rattle.cam_rows.specs.Rows.{IsRow, centre_at, first_of, row_below};
 ghost use Rattle.cam_rows.specs.Runs.{IsInRun, IsWideRow};
 
 use super::{Run, Strip};
@@ -23,9 +23,10 @@ impl Centres {
         ensures row { IsRow result }
     {
         Centres {
-            first: self.first,
+            x: self.x,
+            y: self.y,
             step: self.step,
-            count: 1,
+            n: 1,
         }
     }
 
@@ -37,9 +38,10 @@ impl Centres {
         ensures { result ≡ row_below self.now steps }
     {
         Centres {
-            first: self.leftmost().below(steps).first,
+            x: self.x,
+            y: self.leftmost().below(steps).y,
             step: self.step,
-            count: self.count,
+            n: self.n,
         }
     }
 
@@ -52,9 +54,9 @@ impl Centres {
         ensures wide { AreWideOffsets result }
     {
         Offsets {
-            first: self.first.x - 2 * point.x,
+            first: self.x - 2 * point.x,
             step: self.step,
-            count: self.count,
+            count: self.n,
         }
     }
 
@@ -63,26 +65,26 @@ impl Centres {
     pub(crate) fn rise_over(&self, point: &Point) -> i64
         requires row { IsWideRow self.now }
         requires point { IsOnBoard point.now }
-        ensures { result ≡ (seen_from point.now self.now.first).y }
+        ensures { result ≡ (seen_from point.now (first_of self.now)).y }
     {
-        self.first.y - 2 * point.y
+        self.y - 2 * point.y
     }
 
     /// How many of the centres lie left of the vertical at `x`. It divides only where some do, and some do not.
     pub(crate) fn count_left_of(&self, x: i64) -> u32
         requires row { IsWideRow self.now }
         requires short { unsigned_abs x < 2 ^ 62 }
-        ensures each { (i : ℕ) → i < self.now.count → (i < result) ↔ ((centre_at self.now i).x <ℤ x) }
-        ensures few { result ≤ self.now.count }
+        ensures each { (i : ℕ) → i < self.now.n → (i < result) ↔ ((centre_at self.now i).x <ℤ x) }
+        ensures few { result ≤ self.now.n }
     {
-        let gap = x - self.first.x;
+        let gap = x - self.x;
         if gap <= 0 {
             return 0;
         }
         let gap = gap as u64;
         let step = self.step as u64;
-        if gap > u64::from(self.count - 1) * step {
-            return self.count;
+        if gap > u64::from(self.n - 1) * step {
+            return self.n;
         }
         gap.div_ceil(step) as u32
     }
@@ -91,10 +93,10 @@ impl Centres {
     pub(crate) fn rows_above(&self, height: i64, rows: usize) -> usize
         requires row { IsWideRow self.now }
         requires short { unsigned_abs height < 2 ^ 62 }
-        ensures each { (k : ℕ) → k < rows → (k < result) ↔ (height ≤ℤ (row_below self.now k).first.y) }
+        ensures each { (k : ℕ) → k < rows → (k < result) ↔ (height ≤ℤ (row_below self.now k).y) }
         ensures within { result ≤ rows }
     {
-        let fall = self.first.y - height;
+        let fall = self.y - height;
         if fall < 0 {
             return 0;
         }
@@ -106,9 +108,9 @@ impl Centres {
         requires row { IsWideRow self.now }
         requires left { unsigned_abs strip.now.left < 2 ^ 61 }
         requires right { unsigned_abs strip.now.right < 2 ^ 61 }
-        ensures each { (i : ℕ) → i < self.now.count → IsInRun result.first result.end i
+        ensures each { (i : ℕ) → i < self.now.n → IsInRun result.first result.end i
             ↔ ((strip.now.left ≤ℤ (centre_at self.now i).x) × ((centre_at self.now i).x ≤ℤ strip.now.right)) }
-        ensures within { result.end ≤ self.now.count }
+        ensures within { result.end ≤ self.now.n }
     {
         Run {
             first: self.count_left_of(strip.left),

@@ -12,7 +12,7 @@ height l row = l.top -ℤ pos row *ℤ l.step
 
 -- those of a grid
 abbrev pub levels_of : Grid → Levels
-levels_of g = record { top = g.first.y; step = g.step; rows = g.rows }
+levels_of g = record { top = g.y; step = g.step; rows = g.rows }
 
 -- from 1 to 64 rows, each below the one before it, all of them on the board
 pub record IsLevels (l : Levels) : Type 0 where

@@ -9,7 +9,7 @@ use Rattle.cam_objects.specs.Leaves.{Leaf}
 use Rattle.cam_tiles.specs.declared.grid.Grid.{Grid}
 use Rattle.cam_tiles.specs.declared.masks.heights.Heights.{Heights}
 use Rattle.cam_tiles.specs.declared.masks.join.Join.{Join}
-use Rattle.cam_tiles.specs.declared.masks.join.Join.TheVariants.{Add, Clear, Turn}
+use Rattle.cam_tiles.specs.declared.masks.join.Join.TheVariants.{Add, Clear}
 use Rattle.cam_tiles.specs.declared.masks.mask.Mask.TheInside.{Inside}
 use Rattle.cam_tiles.specs.Tiles.{IsGrid, centre_in}
 
@@ -19,7 +19,7 @@ pub record Marking : Type 0 where
 
 -- whether a grid has a centre in a column and a row
 abbrev pub IsIn : Grid → ℕ → ℕ → Type 0
-IsIn g column row = (column < g.columns) × (row < g.rows)
+IsIn g column row = (column < g.cols) × (row < g.rows)
 
 -- bit i of a row, which is counted from the top, is the centre in column i
 abbrev pub IsMarked : Marking → ℕ → ℕ → Type 0
@@ -48,11 +48,14 @@ pub record IsBoxedMask (m : Inside) : Type 0 where
 abbrev pub IsBlank : Marking → Type 0
 IsBlank m = (column row : ℕ) → IsIn m.grid column row → IsMarked m column row → ⊥
 
--- what marks become: those of a shape are added, are cleared, or turn what was
+-- what marks become: those of a shape are added or cleared
 abbrev pub joined : Join → Type 0 → Type 0 → Type 0
 joined Add was held = was ⊎ held
 joined Clear was held = was × (held → ⊥)
-joined Turn was held = (was × (held → ⊥)) ⊎ ((was → ⊥) × held)
+
+-- or turn what was
+abbrev pub turned_over : Type 0 → Type 0 → Type 0
+turned_over was held = (was × (held → ⊥)) ⊎ ((was → ⊥) × held)
 
 -- what is dark is added, what is clear is cleared
 abbrev pub inked : Bool → Join
@@ -74,6 +77,22 @@ pub record Merges (how : Join) (other old new : Marking) : Type 0 where
 -- whether a pixel is dark: it is marked
 abbrev pub ink_of : Marking → ℕ → ℕ → Bool
 ink_of m column row = bit_at (slice_index m.rows row) column == 1
+
+-- the marks of a grid, turned over at the places of a shape, or by another mask
+pub record Turns (IsHeld : Spot → Type 0) (old new : Marking) : Type 0 where
+  pub grid : new.grid ≡ old.grid
+  pub marks : (column row : ℕ) → IsIn old.grid column row
+      → IsMarked new column row ↔ turned_over (IsMarked old column row) (IsHeld (centre_in old.grid column row))
+
+pub record TurnsBy (other old new : Marking) : Type 0 where
+  pub grid : new.grid ≡ old.grid
+  pub marks : (column row : ℕ) → IsIn old.grid column row
+      → IsMarked new column row ↔ turned_over (IsMarked old column row) (IsMarked other column row)
+
+-- the centres of a grid that are marked are those that a shape holds
+pub record AreMarksOf (g : Grid) (IsHeld : Spot → Type 0) (m : Marking) : Type 0 where
+  pub grid : m.grid ≡ g
+  pub marks : (column row : ℕ) → IsIn g column row → IsMarked m column row ↔ IsHeld (centre_in g column row)
 
 -- leaves painted on a mask, in order
 abbrev pub PaintsMask : Marking → List Leaf → Marking → Type 0

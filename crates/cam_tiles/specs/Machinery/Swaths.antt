@@ -20,7 +20,7 @@ use Rattle.cam_tiles.specs.Tiles.{IsGrid, across, centre_in, tiles_of}
 
 -- a grid and a mask without a centre
 abbrev pub no_grid : Grid
-no_grid = record { first = record { x = pos 0; y = pos 0 }; step = pos 0; columns = 0; rows = 0 }
+no_grid = record { x = pos 0; y = pos 0; step = pos 0; cols = 0; rows = 0 }
 
 abbrev pub no_mask : Marking
 no_mask = record { grid = no_grid; rows = [] }
@@ -100,7 +100,7 @@ AreDrawn image grids masks =
 
 -- where a row of tiles begins, and how far one is from the next, by the grid of the first
 abbrev pub pitch_of : Grid → Pitch
-pitch_of g = record { left = g.first.x; stride = pos 64 *ℤ g.step }
+pitch_of g = record { left = g.x; stride = pos 64 *ℤ g.step }
 
 -- For each tile of a row, how many masks are of tiles before it: those end left of it, and the others do not begin left
 -- of it. A box holds all centres.
@@ -109,9 +109,9 @@ pub record IsLaidOut (p : Pitch) (box : Bounds) (before : List ℕ) (count : ℕ
   pub each : (k : ℕ) → k < count → IsGrid (grids k) × HoldsCentres box (grids k)
   pub few : (tile : ℕ) → slice_index_or before tile count ≤ count
   pub early : (tile k : ℕ) → tile ≤ length before → k < slice_index_or before tile count
-      → ((grids k).first.x +ℤ pos 64 *ℤ (grids k).step) ≤ℤ (p.left +ℤ pos tile *ℤ p.stride)
+      → ((grids k).x +ℤ pos 64 *ℤ (grids k).step) ≤ℤ (p.left +ℤ pos tile *ℤ p.stride)
   pub late : (tile k : ℕ) → tile < length before → slice_index_or before tile count ≤ k → k < count
-      → (p.left +ℤ pos tile *ℤ p.stride) ≤ℤ (grids k).first.x
+      → (p.left +ℤ pos tile *ℤ p.stride) ≤ℤ (grids k).x
 
 -- The masks stand in the rows of the first tile, which go on to the right: each where its tile stands. It is one of the
 -- masks of tiles before another just where its tile stands before that one.
@@ -119,8 +119,8 @@ pub record StandInRow (g : Grid) (columns : ℕ) (tiles before : List ℕ) (coun
   pub wide : IsWideGrid g columns
   pub size : length tiles ≡ count
   pub each : (k : ℕ) → k < count → StandsAt g (64 * slice_index tiles k) (grids k)
-  pub within : (k : ℕ) → k < count → 64 * slice_index tiles k + (grids k).columns ≤ columns
-  pub narrow : (k : ℕ) → k < count → (grids k).columns ≤ 64
+  pub within : (k : ℕ) → k < count → 64 * slice_index tiles k + (grids k).cols ≤ columns
+  pub narrow : (k : ℕ) → k < count → (grids k).cols ≤ 64
   pub few : (tile : ℕ) → slice_index_or before tile count ≤ count
   pub order : (k tile : ℕ) → k < count → (k < slice_index_or before tile count) ↔ (slice_index tiles k < tile)
 

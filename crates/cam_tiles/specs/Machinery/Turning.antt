@@ -1,15 +1,12 @@
 -- Contours in the rows of a tile, or of tiles side by side, by marks that each turn over the columns left of them.
 use Rattle.std.specs.Prelude.{◌≡◌, ◌↔◌, ℕ, ◌+◌, ◌*◌, ◌%◌, ◌<◌, ◌≤◌, IsTrue, List, length, pos, ◌≤ℤ◌}
 use Rattle.cam_units.specs.Board.{IsInReach}
-use Rattle.cam_units.specs.declared.point.Point.{Point}
 use Rattle.cam_units.specs.declared.point.Spot.{Spot}
-use Rattle.cam_objects.specs.Image.{relative}
 use Rattle.cam_rows.specs.Marks.{is_marked, is_turned}
 use Rattle.cam_rows.specs.Runs.{most_columns}
 use Rattle.cam_tiles.specs.declared.grid.Grid.{Grid}
-use Rattle.cam_tiles.specs.declared.masks.join.Join.TheVariants.{Turn}
 use Rattle.cam_tiles.specs.Machinery.Levels.{AreLevels, levels_of}
-use Rattle.cam_tiles.specs.Machinery.Masks.{IsIn, joined}
+use Rattle.cam_tiles.specs.Machinery.Masks.{IsIn, turned_over}
 use Rattle.cam_tiles.specs.Tiles.{centre_in}
 
 -- whole tiles of marks, for so many columns at least
@@ -25,15 +22,11 @@ pub record IsField (g : Grid) (columns : ℕ) : Type 0 where
   pub centres : (column row : ℕ) → column < columns → row < g.rows → IsInReach (centre_in g column row)
   pub levels : AreLevels (levels_of g)
 
--- a grid, as it is seen from a point
-abbrev pub seen : Point → Grid → Grid
-seen at g = record { first = relative at g.first; step = g.step; columns = g.columns; rows = g.rows }
-
 -- the centres that something holds were turned over, in the rows of a grid that go on to the right
 pub record TurnsCentres (g : Grid) (columns : ℕ) (IsHeld : Spot → Type 0) (old new : List ℕ) : Type 0 where
   pub each : (column row : ℕ) → column < columns → row < g.rows
       → IsTrue (is_turned new row column)
-      ↔ joined Turn (IsTrue (is_turned old row column)) (IsHeld (centre_in g column row))
+      ↔ turned_over (IsTrue (is_turned old row column)) (IsHeld (centre_in g column row))
 
 -- and all others are not marked
 abbrev pub MarksCentres : Grid → ℕ → (Spot → Type 0) → List ℕ → Type 0

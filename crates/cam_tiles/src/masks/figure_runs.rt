@@ -224,7 +224,7 @@ impl Mask {
             ↔ joined how (IsMarked self.old i row) (HasBody runs.now row (column + i)) }
     {
         let grid = self.grid();
-        if runs.is_whole_between(column, column + grid.columns) {
+        if runs.is_whole_between(column, column + grid.cols) {
             self.join_runs(&runs.body, column, how);
             return;
         }

@@ -6,14 +6,13 @@ ghost use Rattle.cam_apertures.specs.Soundness.{IsSoundAperture};
 ghost use Rattle.cam_objects.specs.Canvases.{IsSoundFigure, IsSoundPrint, leaf_of, shape_of};
 ghost use Rattle.cam_objects.specs.Image.{Covers};
 ghost use Rattle.cam_tiles.specs.Machinery.Figures.{IsComposed, IsFlashOf, IsMacro, IsPlacedFor, IsToldAt, LiesWithin};
-ghost use Rattle.cam_tiles.specs.Machinery.Masks.{PaintsMask};
 ghost use Rattle.cam_tiles.specs.Machinery.Swaths.{ArePaintedIn, grid_at};
 
 use crate::masks::figure_runs::FigureRuns;
 use crate::masks::heights::Heights;
 use crate::masks::mask::{Mask, ORIGIN};
 use cam_apertures::{Aperture, turned_height, turned_width};
-use cam_objects::{Canvas, Figure, Print};
+use cam_objects::{Figure, Print};
 use cam_rows::Hole;
 use cam_shapes::{Arc, Capsule, Disc, Obround, Rectangle, Swept};
 use cam_units::{Nm, Point, Turn};
@@ -120,19 +119,6 @@ fn hole(diameter: Nm) -> Hole
     })
 }
 
-impl Mask {
-    /// Paints a stroke or a flash on the mask alone.
-    pub(crate) fn paint_placed(&mut self, placed: &Placed, print: Print<'_>)
-        requires { IsPlacedFor print.figure placed.now }
-        ensures { PaintsMask self.old (leaf_of print.entry ∷ []) self.new }
-    {
-        let grid = self.grid();
-        let mut runs = FigureRuns::none();
-        runs.find(placed, &grid, grid.columns);
-        self.paint_figure(&runs, 0, print);
-    }
-}
-
 /// Paints a figure on the masks from one number to another, by its runs in the row of tiles of which each mask is one.
 pub(crate) fn paint_figures(
     masks: &mut [Mask],
@@ -160,6 +146,6 @@ pub(crate) fn paint_each(masks: &mut [Mask], first: usize, end: usize, print: Pr
     ensures { ArePaintedIn first end (leaf_of print.entry ∷ []) masks.old masks.new }
 {
     for k in first..end {
-        masks[k].paint(print);
+        masks[k].paint_leaf(print, true);
     }
 }

@@ -5,7 +5,7 @@ ghost use Rattle.std.specs.Int.{IsBitSet};
 ghost use Rattle.cam_rows.specs.Lanes.{AreJoined};
 ghost use Rattle.cam_tiles.specs.Machinery.Masks.{inked, joined};
 
-use cam_rows::{clear_rows, or_rows, xor_rows};
+use cam_rows::{clear_rows, or_rows};
 
 /// What becomes of the marks of a mask where others are joined with them.
 #[derive(Clone, Copy)]
@@ -14,8 +14,6 @@ pub(crate) enum Join {
     Add,
     /// They are cleared.
     Clear,
-    /// They turn what was: a mark that both have is none.
-    Turn,
 }
 
 impl Join {
@@ -34,7 +32,6 @@ impl Join {
         match self {
             Join::Add => row | other,
             Join::Clear => row & !other,
-            Join::Turn => row ^ other,
         }
     }
 
@@ -46,7 +43,6 @@ impl Join {
         match self {
             Join::Add => or_rows(rows, others),
             Join::Clear => clear_rows(rows, others),
-            Join::Turn => xor_rows(rows, others),
         }
         told_by_type(rows);
     }

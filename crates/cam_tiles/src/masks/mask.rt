@@ -9,19 +9,19 @@ ghost use Rattle.cam_objects.specs.Image.{relative};
 ghost use Rattle.cam_rows.specs.Marks.{is_marked};
 ghost use Rattle.cam_rows.specs.Rows.{IsRow, centre_at};
 ghost use Rattle.cam_rows.specs.Runs.{most_columns};
-ghost use Rattle.cam_tiles.specs.Machinery.Masks.{HoldsCentres, IsBlank, IsIn, IsMarked, IsMask, IsWithin, Joins};
-ghost use Rattle.cam_tiles.specs.Machinery.Masks.{Merges, ink_of, joined};
+ghost use Rattle.cam_tiles.specs.Machinery.Masks.{HoldsCentres, IsBlank, IsIn, IsMarked, IsMask, IsWithin};
+ghost use Rattle.cam_tiles.specs.Machinery.Masks.{Merges, TurnsBy, ink_of, joined};
 ghost use Rattle.cam_tiles.specs.Machinery.Runs.{Fits, HasColumn};
 ghost use Rattle.cam_tiles.specs.Machinery.Swaths.{IsSolid};
 ghost use Rattle.cam_tiles.specs.Tiles.{IsGrid, centre_in};
 
 use crate::grid::Grid;
 use crate::levels::Levels;
-use crate::masks::heights::{HasHeights, Heights};
-use crate::masks::join::Join;
+use crate::masks::heights::Heights;
+use crate::masks::join::{Join, told_by_type};
 use crate::masks::runs::Runs;
 use crate::span::Span;
-use cam_rows::{Centres, run_row};
+use cam_rows::{Centres, run_row, xor_rows};
 use cam_units::{Bounds, Point, Spot};
 use std::marker::Model;
 
@@ -34,7 +34,7 @@ pub(crate) const ORIGIN: Point = Point { x: 0, y: 0 };
 pub(crate) struct Mask {
     grid: Grid,
     bounds: Bounds,
-    rows: [u64; 64],
+    pub(crate) rows: [u64; 64],
 }
 
 impl Model for Mask {
@@ -53,17 +53,15 @@ impl Grid {
         requires grid { IsGrid self.now }
         requires row { row < self.now.rows }
         requires at { IsOnBoard at }
-        ensures count { result.count ≡ self.now.columns }
+        ensures count { result.n ≡ self.now.cols }
         ensures centres { (i : ℕ) → centre_at result i ≡ relative at (centre_in self.now i row) }
         ensures row { IsRow result }
     {
         Centres {
-            first: Spot {
-                x: self.first.x - 2 * at.x,
-                y: self.first.y - i64::from(row) * self.step - 2 * at.y,
-            },
+            x: self.x - 2 * at.x,
+            y: self.y - i64::from(row) * self.step - 2 * at.y,
             step: self.step,
-            count: self.columns,
+            n: self.cols,
         }
     }
 
@@ -77,7 +75,7 @@ impl Grid {
         ensures end { result.end ≤ self.now.rows }
     {
         let levels = Levels {
-            top: self.first.y - 2 * at.y,
+            top: self.y - 2 * at.y,
             step: self.step,
             rows: self.rows,
         };
@@ -128,7 +126,7 @@ impl Mask {
         requires { row < self.now.grid.rows }
         ensures { IsTrue result → (column : ℕ) → IsIn self.now.grid column row → ink_of self.now column row ≡ true }
     {
-        self.rows[row as usize] == u64::MAX >> (64 - self.grid.columns)
+        self.rows[row as usize] == u64::MAX >> (64 - self.grid.cols)
     }
 
     /// How many rows from the top are black all along, where so many are known to be.
@@ -150,7 +148,7 @@ impl Mask {
             → Holds (Closed low.now high.now) (centre_in self.now.grid column row) → ink_of self.now column row ≡ true }
     {
         let columns = self.grid.columns_between(low.x, high.x);
-        let run = run_row(columns.first, columns.end, 0, self.grid.columns);
+        let run = run_row(columns.first, columns.end, 0, self.grid.cols);
         let rows = self.grid.levels().band(Heights {
             low: low.y,
             high: high.y,
@@ -163,18 +161,6 @@ impl Mask {
         true
     }
 
-    /// Joins the marks with the places of a shape, which stands at a point as it does about (0, 0).
-    pub(crate) fn join<S: HasHeights>(&mut self, shape: &S, at: Point, how: Join)
-        requires sound { S.is_sound shape.now }
-        requires at { IsOnBoard at }
-        ensures { Joins how (λ s. S.holds shape.now (relative at s)) self.old self.new }
-    {
-        let grid = self.grid();
-        let mut runs = Runs::none();
-        runs.find(shape, at, &grid, grid.columns);
-        self.join_runs(&runs, 0, how);
-    }
-
     /// Joins the marks with runs of columns, in rows of which the grid begins at a column. Where all runs have the same
     /// columns of the grid, as inside a rectangle, the rows are joined with the same marks; of a long slanted stroke
     /// most runs do not reach the grid, and are passed over.
@@ -185,7 +171,7 @@ impl Mask {
         ensures marks { (i row : ℕ) → IsIn self.old.grid i row
             → IsMarked self.new i row ↔ joined how (IsMarked self.old i row) (HasColumn runs.now row (column + i)) }
     {
-        let columns = self.grid.columns;
+        let columns = self.grid.cols;
         if runs.columns.end <= column {
             return;
         }
@@ -214,7 +200,6 @@ impl Mask {
         match how {
             Join::Add => self.join_each_row(runs, band, column, Join::Add),
             Join::Clear => self.join_each_row(runs, band, column, Join::Clear),
-            Join::Turn => self.join_each_row(runs, band, column, Join::Turn),
         }
     }
 
@@ -227,7 +212,7 @@ impl Mask {
         ensures marks { (i row : ℕ) → IsIn self.old.grid i row → IsMarked self.new i row
             ↔ joined how (IsMarked self.old i row) (HasColumn (record runs.now { band = band }) row (column + i)) }
     {
-        let past = column + self.grid.columns;
+        let past = column + self.grid.cols;
         for row in band.first..band.end {
             let k = row as usize;
             let first = runs.firsts[k].max(column);
@@ -245,7 +230,7 @@ impl Mask {
     /// Joins the marks in the rows of a band with the same ones in each.
     fn join_band(&mut self, band: Span, marks: u64, how: Join)
         requires end { band.end ≤ self.old.grid.rows }
-        requires inside { (i : ℕ) → i < 64 → IsBitSet marks i → i < self.old.grid.columns }
+        requires inside { (i : ℕ) → i < 64 → IsBitSet marks i → i < self.old.grid.cols }
         ensures grid { self.new.grid ≡ self.old.grid }
         ensures marks { (i row : ℕ) → IsIn self.old.grid i row → IsMarked self.new i row
             ↔ joined how (IsMarked self.old i row) ((band.first ≤ row) × (row < band.end) × IsBitSet marks i) }
@@ -265,7 +250,7 @@ impl Mask {
             ↔ joined how (IsMarked self.old i row) (IsTrue (is_marked marks.now row (64 * tile + i))) }
     {
         let first = 64 * tile as usize;
-        let columns = u64::MAX >> (64 - self.grid.columns);
+        let columns = u64::MAX >> (64 - self.grid.cols);
         for row in 0..self.grid.rows as usize {
             let word = marks[first + row] & columns;
             self.rows[row] = how.join_row(self.rows[row], word);
@@ -278,6 +263,15 @@ impl Mask {
         ensures { Merges how other.now self.old self.new }
     {
         how.join_rows(&mut self.rows, &other.rows);
+    }
+
+    /// Turns over the marks of another mask of the same grid: a centre that both mark is not marked then.
+    pub(crate) fn turn_by(&mut self, other: &Mask)
+        requires { other.now.grid ≡ self.old.grid }
+        ensures { TurnsBy other.now self.old self.new }
+    {
+        xor_rows(&mut self.rows, &other.rows);
+        told_by_type(&self.rows);
     }
 }
 

@@ -156,7 +156,7 @@ impl Runs {
             return;
         }
         let mut top = grid.row_from(band.first, at);
-        top.count = columns;
+        top.n = columns;
         let firsts = &mut self.firsts[band.first as usize..band.end as usize];
         let ends = &mut self.ends[band.first as usize..band.end as usize];
         find_anew(shape, &top, firsts, ends);
@@ -171,12 +171,12 @@ fn find_anew<S: RunShape>(shape: &S, top: &Centres, firsts: &mut [u32], ends: &m
     requires sound { S.is_sound shape.now }
     requires rows { AreWideRows top.now (length firsts.old) }
     requires ends { length ends.old ≡ length firsts.old }
-    ensures { (k i : ℕ) → k < length firsts.new → i < top.now.count
+    ensures { (k i : ℕ) → k < length firsts.new → i < top.now.n
         → IsInRun (slice_index firsts.new k) (slice_index ends.new k) i
         ↔ S.holds shape.now (centre_at (row_below top.now k) i) }
 {
     firsts.fill(0);
-    ends.fill(top.count);
+    ends.fill(top.n);
     shape.find(top, firsts, ends);
 }
 

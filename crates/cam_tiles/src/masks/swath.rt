@@ -81,9 +81,10 @@ pub(crate) struct Swath {
 
 /// A grid of one centre, at (0, 0).
 const ONE_CENTRE: Grid = Grid {
-    first: Spot { x: 0, y: 0 },
+    x: 0,
+    y: 0,
     step: 1,
-    columns: 1,
+    cols: 1,
     rows: 1,
 };
 
@@ -141,7 +142,7 @@ impl Swath {
         self.marks.resize(64 * tiles.len(), 0)?;
         let corner = window.grid(first);
         self.pitch = Pitch {
-            left: corner.first.x,
+            left: corner.x,
             stride: 64 * corner.step,
         };
         self.corner = corner;

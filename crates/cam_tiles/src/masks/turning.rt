@@ -11,10 +11,9 @@ ghost use Rattle.cam_shapes.specs.Edge.{crosses_ray, edge, is_above};
 ghost use Rattle.cam_shapes.specs.Sides.{changes_side};
 ghost use Rattle.cam_objects.specs.Leaves.{Filled, leaf};
 ghost use Rattle.cam_rows.specs.Marks.{is_turned};
-ghost use Rattle.cam_tiles.specs.declared.masks.join.Join.TheVariants.{Turn as Turned};
 ghost use Rattle.cam_tiles.specs.Machinery.Filing.{AreFiled, IsOnBoardWhole, changes_at};
 ghost use Rattle.cam_tiles.specs.Machinery.Levels.{AreLevels, IsOnRow, levels_of};
-ghost use Rattle.cam_tiles.specs.Machinery.Masks.{joined};
+ghost use Rattle.cam_tiles.specs.Machinery.Masks.{turned_over};
 ghost use Rattle.cam_tiles.specs.Machinery.Runs.{IsWideGrid};
 ghost use Rattle.cam_tiles.specs.Machinery.Swaths.{ArePaintedIn, grid_at};
 ghost use Rattle.cam_tiles.specs.Machinery.Turning.{AreMarkedAt, AreWide, IsField, MarksCentres, TurnsCentres};
@@ -30,7 +29,7 @@ use crate::shown::Region;
 use crate::span::Span;
 use cam_rows::{Centres, cap_runs, edge_runs, mark_end, mark_ends, mark_runs, spread_marks};
 use cam_shapes::{Cap, Contour, Seg};
-use cam_units::{Point, Spot};
+use cam_units::Point;
 
 impl Grid {
     /// The x of the last one of so many columns from the left on, in half nm.
@@ -38,7 +37,7 @@ impl Grid {
         requires { IsWideGrid self.now columns }
         ensures { result ≡ (centre_in self.now (columns - 1) 0).x }
     {
-        self.first.x + i64::from(columns - 1) * self.step
+        self.x + i64::from(columns - 1) * self.step
     }
 }
 
@@ -79,7 +78,7 @@ fn turn_filed(
     requires filed { AreFiled contour.now (levels_of grid.now) filed.now }
     ensures { TurnsCentres grid.now columns (λ s. IsInContour s contour.now) marks.old marks.new }
 {
-    let first = grid.first.x;
+    let first = grid.x;
     let last = grid.last_x(columns);
     let mut whole = 0;
     for segment in filed {
@@ -97,7 +96,7 @@ fn turn_whole(marks: &mut [u64], rows: u32, columns: u32, whole: u64)
     requires rows { rows ≤ 64 }
     requires wide { AreWide columns marks.old }
     ensures { (column row : ℕ) → column < columns → row < rows → IsTrue (is_turned marks.new row column)
-        ↔ joined Turned (IsTrue (is_turned marks.old row column)) (IsBitSet whole row) }
+        ↔ turned_over (IsTrue (is_turned marks.old row column)) (IsBitSet whole row) }
 {
     if whole == 0 {
         return;
@@ -122,7 +121,7 @@ fn turn_place(marks: &mut [u64], grid: &Grid, columns: u32, contour: &Contour, p
 }
 
 /// Counts what a segment from a point changes.
-pub(crate) fn turn_segment(marks: &mut [u64], grid: &Grid, columns: u32, here: Point, seg: Seg)
+fn turn_segment(marks: &mut [u64], grid: &Grid, columns: u32, here: Point, seg: Seg)
     requires grid { IsField grid.now columns }
     requires wide { AreWide columns marks.old }
     requires here { IsOnBoard here }
@@ -152,21 +151,21 @@ fn levels_in(grid: &Grid) -> Levels
     ensures levels { AreLevels result }
 {
     Levels {
-        top: grid.first.y,
+        top: grid.y,
         step: grid.step,
         rows: grid.rows,
     }
 }
 
 /// Counts an edge: in each row that it crosses by one mark, where it does not lie left of all columns.
-pub(crate) fn turn_edge(marks: &mut [u64], grid: &Grid, columns: u32, from: Point, to: Point)
+fn turn_edge(marks: &mut [u64], grid: &Grid, columns: u32, from: Point, to: Point)
     requires grid { IsField grid.now columns }
     requires wide { AreWide columns marks.old }
     requires from { IsOnBoard from }
     requires to { IsOnBoard to }
     ensures { TurnsCentres grid.now columns (λ s. IsTrue (crosses_ray s (edge from to))) marks.old marks.new }
 {
-    if 2 * from.x.max(to.x) <= grid.first.x {
+    if 2 * from.x.max(to.x) <= grid.x {
         return;
     }
     let levels = levels_in(grid);
@@ -201,12 +200,10 @@ fn turn_crossed(
     ensures { TurnsCentres grid.now columns (λ s. IsTrue (crosses_ray s (edge from to))) marks.old marks.new }
 {
     let top = Centres {
-        first: Spot {
-            x: grid.first.x,
-            y: levels_in(grid).height(band.first),
-        },
+        x: grid.x,
+        y: levels_in(grid).height(band.first),
         step: grid.step,
-        count: columns,
+        n: columns,
     };
     edge_runs(from, to, &top, ends);
     mark_ends(marks, band.first, ends);
@@ -253,12 +250,10 @@ fn turn_reached(
     ensures { TurnsCentres grid.now columns (λ s. IsTrue (is_in_cap s cap.now)) marks.old marks.new }
 {
     let top = Centres {
-        first: Spot {
-            x: grid.first.x,
-            y: levels_in(grid).height(band.first),
-        },
+        x: grid.x,
+        y: levels_in(grid).height(band.first),
         step: grid.step,
-        count: columns,
+        n: columns,
     };
     cap_runs(cap, &top, firsts, ends);
     mark_runs(marks, band.first, firsts, ends);

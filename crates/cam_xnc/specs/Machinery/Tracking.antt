@@ -10,7 +10,7 @@ use Rattle.cam_xnc.specs.declared.state.Stop.{Stop}
 use Rattle.cam_xnc.specs.declared.state.Stop.TheVariants.{Memory, Fault}
 use Rattle.cam_xnc.specs.DrillState.{Past, part_in, unit_in, mode_in, tool_in, point_in, points_in, tools_in, items_in}
 use Rattle.cam_xnc.specs.DrillState.{leaves_in, value_told, length_nm}
-use Rattle.cam_xnc.specs.Faults.{Table}
+use Rattle.cam_xnc.specs.Faults.{Table, first_of}
 
 -- the state has the values of the past
 pub record Tracks (past : Past) (s : DrillState) : Type 0 where
@@ -23,11 +23,6 @@ pub record Tracks (past : Past) (s : DrillState) : Type 0 where
   pub tools : s.layer.tools ≡ tools_in past
   pub items : s.layer.items.items ≡ items_in past
   pub leaves : s.leaves.count ≡ leaves_in past
-
--- the first number that holds: the least, where the numbers ascend
-abbrev pub first_of : Table → Option ℕ
-first_of [] = None
-first_of (fault ∷ others) = if fault.1 then Some fault.0 else first_of others
 
 -- no fault of the table and what then holds, or the first one
 abbrev pub Answers : Result (Unit {0}) Stop → Table → Type 0 → Type 0

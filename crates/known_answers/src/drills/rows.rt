@@ -17,6 +17,49 @@ pub struct Drilling {
     pub white: &'static [At],
 }
 
+/// A drill layer; places, each with the item before which is asked, and the topmost one there; the sides of boxes, each with
+/// the place from which is asked, and the next item in it; and the box of the whole.
+pub struct Pointed {
+    pub tools: Kit,
+    pub items: &'static [Drilled],
+    pub found: &'static [(At, usize, Option<usize>)],
+    pub enclosed: &'static [([i64; 4], usize, Option<usize>)],
+    pub whole: [i64; 4],
+}
+
+pub const DRILL_POINTED: &[Pointed] = &[
+    // two holes in one another, and a rout over them
+    Pointed {
+        tools: &[(1, 5), (2, 10)],
+        items: &[
+            Hit(2, (0, 0)),
+            Hit(1, (0, 0)),
+            Rout(1, &[(20, 0), (5, 0), (5, 20)]),
+        ],
+        found: &[
+            ((3, 4), 9, Some(1)),
+            ((3, 4), 1, Some(0)),
+            ((3, 4), 0, None),
+            ((6, 0), 9, Some(2)),
+            ((6, 0), 2, Some(0)),
+            ((15, 40), 9, Some(2)),
+            ((16, 40), 9, None),
+            ((10, 10), 2, None),
+            ((-10, 0), 9, Some(0)),
+            ((-11, 0), 9, None),
+        ],
+        enclosed: &[
+            ([-10, -10, 10, 10], 0, Some(0)),
+            ([-10, -10, 10, 10], 1, Some(1)),
+            ([-10, -10, 10, 10], 2, None),
+            ([-9, -10, 10, 10], 0, Some(1)),
+            ([5, -5, 45, 45], 0, Some(2)),
+            ([5, -5, 45, 44], 0, None),
+        ],
+        whole: [-10, -10, 45, 45],
+    },
+];
+
 pub const DRILLINGS: &[Drilling] = &[
     // a hit, and a rout of one point: closed discs
     Drilling {

@@ -66,3 +66,18 @@ pub type Added = (Entries, u32, Entered, bool);
 
 /// Entries, items, and whether there is room for one more.
 pub type Filled = (Entries, &'static [Listed], Listed, bool);
+
+/// A place, the item before which is asked, and the topmost one there.
+pub type Found = (At, usize, Option<usize>);
+
+/// The sides of a box in half nm, the place from which is asked, and the next item in the box.
+pub type Enclosed = ([i64; 4], usize, Option<usize>);
+
+/// A layer, what lies at places of it and in boxes, and the box of it all.
+pub struct Pointed {
+    pub entries: Entries,
+    pub items: &'static [Listed],
+    pub found: &'static [Found],
+    pub enclosed: &'static [Enclosed],
+    pub whole: Option<[i64; 4]>,
+}

@@ -1,4 +1,4 @@
-use Rattle.std.proofs.Common.{Some}
+use Rattle.std.proofs.Common.{ℤ, Some, of_z, to_z, w64}
 use Rattle.cam_objects.specs.Contents.{drill_content_of}
 use Rattle.cam_edits.proofs.DrillEdits.{judged_fits}
 use Rattle.cam_edits.proofs.drill_judging.judged_drill.Goals as goal
@@ -17,8 +17,10 @@ returns-in-Delete-clause-fits c =
 
 pub returns-in-Move-clause-fits : goal.returns-in-Move-clause-fits
 returns-in-Move-clause-fits c =
-    judged_fits (drill_content_of c.args.layer.now) (Some (Move c.in-Move.k c.in-Move.by)) c.shift.result c.requires.sound
-    c.shift.ensures
+    -- (numbers as a call was passed them)
+    let passed : ℤ → ℤ = λ z. to_z w64 (of_z w64 z) in
+    judged_fits (drill_content_of c.args.layer.now)
+    (Some (Move c.in-Move.k (passed c.in-Move.dx) (passed c.in-Move.dy))) c.shift.result c.requires.sound c.shift.ensures
 
 pub returns-in-Reorder-clause-fits : goal.returns-in-Reorder-clause-fits
 returns-in-Reorder-clause-fits c =

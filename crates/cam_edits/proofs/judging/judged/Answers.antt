@@ -1,7 +1,7 @@
 use Rattle.cam_objects.specs.Contents.{content_of}
 use Rattle.cam_edits.proofs.FittingEdits.{judged_fits}
 use Rattle.cam_edits.proofs.judging.judged.Goals as goal
-use Rattle.cam_edits.specs.declared.step.Step.TheVariants.{Aperture, Delete, Insert, Move, Polarity, Reorder}
+use Rattle.cam_edits.specs.declared.step.Step.TheVariants.{Aperture, Delete, Insert, Polarity, Reorder}
 
 pub returns-in-Gerber-clause-fits : goal.returns-in-Gerber-clause-fits
 returns-in-Gerber-clause-fits c =
@@ -16,7 +16,7 @@ returns-in-Delete-clause-fits c =
 
 pub returns-in-Move-clause-fits : goal.returns-in-Move-clause-fits
 returns-in-Move-clause-fits c =
-    judged_fits (content_of c.args.layer.now) (Move c.in-Move.k c.in-Move.by) tt c.shift.result c.requires.sound.content
+    judged_fits (content_of c.args.layer.now) _ tt c.shift.result c.requires.sound.content
     c.shift.ensures
 
 pub returns-in-Reorder-clause-fits : goal.returns-in-Reorder-clause-fits

@@ -1,6 +1,7 @@
-use Rattle.std.proofs.Common.{◌≡◌, IfOk, List, ◌<◌, subst, sym}
+use Rattle.std.proofs.Common.{◌≡◌, IfOk, List, ◌<◌, rules, subst, sym}
 use Rattle.cam_units.specs.declared.bounds.Bounds.{Bounds}
 use Rattle.cam_objects.specs.Contents.{content_of}
+use Rattle.cam_edits.specs.Moving.{way}
 use Rattle.cam_edits.proofs.TouchedBoxes.{aperture_boxes, aperture_within, delete_box, delete_within, insert_box, move_boxes, move_within}
 use Rattle.cam_edits.proofs.TouchedBoxes.{polarity_boxes, polarity_within, reorder_boxes, reorder_within, short_move, sound_aperture}
 use Rattle.cam_edits.proofs.TouchedBoxes.{fields_boxes, put_boxes, sound_before, sound_insertion, take_boxes}
@@ -18,24 +19,26 @@ item_bounds-requires-clause-within c =
 pub index-requires : goal.index-requires
 index-requires c =
     subst (λ n. c.in-Move.k < n) (sym c.args.layer.now.items.ok.0)
-    (move_within (content_of c.args.layer.now) c.args.step.now c.requires.accepted c.in-Move.k c.in-Move.by
+    (move_within (content_of c.args.layer.now) c.args.step.now c.requires.accepted c.in-Move.k (way c.in-Move.dx c.in-Move.dy)
     c.in-Move.is)
 
 pub moved_bounds-after-requires-clause-item : goal.moved_bounds-after-requires-clause-item
 moved_bounds-after-requires-clause-item c =
     sound_before (content_of c.args.layer.now) c.args.step.now c.requires.accepted c.requires.sound c.in-Move.k
     c.index.result.now c.index.ensures
-    c.in-Move.by c.in-Move.is
+    (way c.in-Move.dx c.in-Move.dy) c.in-Move.is
 
 pub moved_bounds-after-requires-clause-by : goal.moved_bounds-after-requires-clause-by
 moved_bounds-after-requires-clause-by c =
-    short_move (content_of c.args.layer.now) c.args.step.now c.requires.accepted c.requires.sound c.in-Move.k
+    let by : c.way.result ≡ way c.in-Move.dx c.in-Move.dy = search rules in
+    rw by
+    (short_move (content_of c.args.layer.now) c.args.step.now c.requires.accepted c.requires.sound c.in-Move.k
     c.index.result.now c.index.ensures
-    c.in-Move.by c.in-Move.is
+    (way c.in-Move.dx c.in-Move.dy) c.in-Move.is)
 
 pub item_bounds-requires-in-Move-clause-within : goal.item_bounds-requires-in-Move-clause-within
 item_bounds-requires-in-Move-clause-within c =
-    move_within (content_of c.args.layer.now) c.args.step.now c.requires.accepted c.in-Move.k c.in-Move.by c.in-Move.is
+    move_within (content_of c.args.layer.now) c.args.step.now c.requires.accepted c.in-Move.k (way c.in-Move.dx c.in-Move.dy) c.in-Move.is
 
 pub item_bounds-requires-in-Reorder-clause-within : goal.item_bounds-requires-in-Reorder-clause-within
 item_bounds-requires-in-Reorder-clause-within c =
@@ -81,10 +84,12 @@ returns-in-Delete c =
 
 pub returns-in-Move : goal.returns-in-Move
 returns-in-Move c =
+    let by : c.way.result ≡ way c.in-Move.dx c.in-Move.dy = search rules in
+    let after = rw by at c.moved_bounds-after.ensures in
     subst (λ (bs : List Bounds). IfOk c.two_boxes.result (λ boxes. boxes.items ≡ bs))
-    (move_boxes (content_of c.args.layer.now) c.args.step.now c.requires.accepted c.in-Move.k c.in-Move.by c.in-Move.is
+    (move_boxes (content_of c.args.layer.now) c.args.step.now c.requires.accepted c.in-Move.k (way c.in-Move.dx c.in-Move.dy) c.in-Move.is
     c.index.result.now c.index.ensures c.item_bounds-in-Move.result c.moved_bounds-after.result
-    c.item_bounds-in-Move.ensures c.moved_bounds-after.ensures)
+    c.item_bounds-in-Move.ensures after)
     c.two_boxes.ensures
 
 pub returns-in-Reorder : goal.returns-in-Reorder

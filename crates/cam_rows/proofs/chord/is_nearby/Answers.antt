@@ -22,7 +22,7 @@ returns-then-lowest c = λ high.
     let top = c.args.top.now in
     let wide = top_is_wide top c.args.rows c.requires.some c.requires.rows in
     let lowest : c.rise_over-lowest.result
-    ≡ (top.first.y -ℤ pos (c.args.rows - 1) *ℤ top.step) -ℤ pos 2 *ℤ c.args.point.now.y =
+    ≡ (top.y -ℤ pos (c.args.rows - 1) *ℤ top.step) -ℤ pos 2 *ℤ c.args.point.now.y =
     rw c.wide_below.ensures at c.rise_over-lowest.ensures in
     near_rows c.args.point.now top c.args.rows c.offsets_from-columns.result wide c.offsets_from-columns.ensures.each
     (omega (arith, ints)) (omega (arith, ints)) (omega (arith, ints, c.at-rightmost.ensures))

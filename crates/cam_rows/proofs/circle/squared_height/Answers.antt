@@ -1,6 +1,7 @@
 use Rattle.std.proofs.Common.{◌<◌, ◌^◌, arith}
 use Rattle.std.proofs.lemmas.Int.{ints}
 use Rattle.cam_shapes.specs.Plane.{seen_from}
+use Rattle.cam_rows.specs.Rows.{first_of}
 use Rattle.cam_rows.proofs.Circling.{short_square, square_of}
 use Rattle.cam_rows.proofs.circle.squared_height.Goals as goal
 use Rattle.cam_rows.proofs.circle.squared_height.Goals.{After-from-height}
@@ -12,7 +13,7 @@ short c =
 
 pub returns-clause-value : goal.returns-clause-value
 returns-clause-value c =
-    square_of c.from-height.result (seen_from c.args.point.now c.args.centres.now.first).y
+    square_of c.from-height.result (seen_from c.args.point.now (first_of c.args.centres.now)).y
     (omega (arith, c.from-height.ensures, c.height_over.ensures))
 
 pub returns-clause-bound : goal.returns-clause-bound

@@ -1,9 +1,5 @@
-use Rattle.std.proofs.Common.{rules, arith}
-use Rattle.cam_rows.proofs.JoinedLanes.{next_lane}
-use Rattle.cam_rows.proofs.SetBits.{set_in_rest}
+use Rattle.cam_rows.proofs.JoinedLanes.{lanes_cleared}
 use Rattle.cam_rows.proofs.lanes.clear_rows.Goals as goal
 
-pub loop-lane-preserved : goal.loop-lane-preserved
-loop-lane-preserved c =
-    next_lane _ _ _ _ c.loop-lane.lane _ (omega (arith, c.told-rows)) c.loop-lane.invariant
-    (λ i small. set_in_rest _ _ i (search rules) small)
+pub returns : goal.returns
+returns c = lanes_cleared _ _ c.told-rows c.told-other

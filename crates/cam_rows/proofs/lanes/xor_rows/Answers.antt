@@ -1,9 +1,7 @@
-use Rattle.std.proofs.Common.{arith}
-use Rattle.cam_rows.proofs.JoinedLanes.{next_lane}
+use Rattle.std.proofs.Common.{◌⊎◌}
+use Rattle.cam_rows.proofs.JoinedLanes.{lanes_joined}
 use Rattle.cam_rows.proofs.SetBits.{set_in_xor}
 use Rattle.cam_rows.proofs.lanes.xor_rows.Goals as goal
 
-pub loop-lane-preserved : goal.loop-lane-preserved
-loop-lane-preserved c =
-    next_lane _ _ _ _ c.loop-lane.lane _ (omega (arith, c.told-rows)) c.loop-lane.invariant
-    (λ i small. set_in_xor _ _ i)
+pub returns : goal.returns
+returns c = lanes_joined _ _ c.told-rows c.told-other (λ P Q. (P × (Q → ⊥)) ⊎ ((P → ⊥) × Q)) _ set_in_xor

@@ -9,6 +9,6 @@ returns-clause-value c = λ i.
     let left = c.turned_left.result in
     let from = c.args.from.now in
     let row = c.args.centres.now in
-    crosses_are w.x w.y v.x v.y left.x left.y row.first.x row.first.y from.x from.y row.step
+    crosses_are w.x w.y v.x v.y left.x left.y row.x row.y from.x from.y row.step
     c.dots.result.first c.dots.result.step i c.between.ensures.x c.between.ensures.y
     c.turned_left.ensures.x c.turned_left.ensures.y c.dots.ensures.first c.dots.ensures.step

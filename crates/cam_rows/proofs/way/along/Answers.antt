@@ -8,5 +8,5 @@ returns-clause-value c = λ i.
     let v = c.between.result in
     let from = c.args.from.now in
     let row = c.args.centres.now in
-    dots_are w.x w.y v.x v.y row.first.x row.first.y from.x from.y row.step c.dots.result.first c.dots.result.step i
+    dots_are w.x w.y v.x v.y row.x row.y from.x from.y row.step c.dots.result.first c.dots.result.step i
     c.between.ensures.x c.between.ensures.y c.dots.ensures.first c.dots.ensures.step

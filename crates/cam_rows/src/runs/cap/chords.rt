@@ -56,10 +56,10 @@ pub(super) fn root_run(cap: &Cap, radius: u128, row: &Centres) -> Run
     requires radius { pos radius ≡ dot (way cap.now.centre cap.now.from) (way cap.now.centre cap.now.from) }
     requires short { radius < 2 ^ 67 }
     requires row { IsWideRow row.now }
-    ensures each { (i : ℕ) → i < row.now.count → IsInRun result.first result.end i
+    ensures each { (i : ℕ) → i < row.now.n → IsInRun result.first result.end i
         ↔ IsTrue (is_in_circle (way cap.now.centre cap.now.from)
         (seen_from cap.now.centre (centre_at row.now i))) }
-    ensures within { result.end ≤ row.now.count }
+    ensures within { result.end ≤ row.now.n }
 {
     let height = squared_height(&cap.centre, &row.leftmost());
     if height > radius {
@@ -69,7 +69,7 @@ pub(super) fn root_run(cap: &Cap, radius: u128, row: &Centres) -> Run
     let middle = 2 * cap.centre.x;
     let strip = Strip {
         left: middle - half_chord(room) as i64,
-        right: middle + right_reach(room, row.first.y < 2 * cap.centre.y),
+        right: middle + right_reach(room, row.y < 2 * cap.centre.y),
     };
     row.columns_in(&strip)
 }

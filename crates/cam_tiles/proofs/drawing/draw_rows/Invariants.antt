@@ -1,15 +1,14 @@
-use Rattle.std.proofs.Common.{◌≡◌, ◌*◌, ℕ, List, length, min}
+use Rattle.std.proofs.Common.{ℕ, List}
 use Rattle.cam_objects.specs.Tests.{is_black}
+use Rattle.cam_tiles.specs.Machinery.Blackened.{IsPartlyDrawn}
 use Rattle.cam_tiles.specs.Machinery.Indexes.{IsIndexOf}
 use Rattle.cam_tiles.specs.Machinery.Shown.{leaves_by_item, leaves_of}
-use Rattle.cam_tiles.specs.Tables.{all_drawn_from}
 use Rattle.cam_tiles.specs.Tiles.{grid_of, tile_rows}
-use Rattle.cam_tiles.proofs.TilesInOrder.{drawn_on}
 use Rattle.cam_tiles.proofs.drawing.draw_rows.Given as goal
 
 abbrev pub invariant-loop-row : goal.invariant-loop-row
 invariant-loop-row l =
     let draw : ℕ → List ℕ = λ k. tile_rows (is_black (leaves_of l.shown)) (grid_of l.window k) in record {
-      drawn : all_drawn_from draw 0 l.fn.tiles ≡ drawn_on draw 0 (min (l.row * l.across) (length l.tiles)) l.tiles;
+      drawn : IsPartlyDrawn draw 0 l.fn.tiles l.tiles;
       index : IsIndexOf (leaves_by_item l.shown) l.window l.index;
     }

@@ -24,12 +24,12 @@ last_fits x step from n k is_step is_from few short near =
     let product : n * k ≤ 63 * 8000000000 = mul-le n k 63 8000000000 few short in
     rw (length_is step from n k is_step is_from few short) (omega (arith, ints))
 
-pub overflow_add-first : goal.overflow_add-first
-overflow_add-first c =
+pub overflow_add-x : goal.overflow_add-x
+overflow_add-x c =
     let row = c.args.centres in
-    let near : unsigned_abs row.first.x < 4000000000 = search rules in
-    last_fits row.first.x row.step c.from.result (row.count - 1) (unsigned_abs row.step)
-    (omega (arith, ints, c.if-step-lt1.false)) c.from.ensures (omega (arith, c.if-count-gt64.false))
+    let near : unsigned_abs row.x < 4000000000 = search rules in
+    last_fits row.x row.step c.from.result (row.n - 1) (unsigned_abs row.step)
+    (omega (arith, ints, c.if-step-lt1.false)) c.from.ensures (omega (arith, c.if-n-gt64.false))
     (omega (arith, ints, c.if-step-gt8000000000.false)) near
 
 last_near : (x step from last : ℤ) (n k : ℕ) → step ≡ pos k → from ≡ pos n → n ≤ 63 → k ≤ 8000000000
@@ -51,18 +51,18 @@ between x step i n k is_step early first last =
 pub returns : goal.returns
 returns c =
     let row = c.args.centres in
-    let near : unsigned_abs row.first.x < 4000000000 = search rules in
-    let level : unsigned_abs row.first.y < 4000000000 = search rules in
+    let near : unsigned_abs row.x < 4000000000 = search rules in
+    let level : unsigned_abs row.y < 4000000000 = search rules in
     let is_step : row.step ≡ pos (unsigned_abs row.step) = omega (arith, ints, c.if-step-lt1.false) in
-    let last = last_near row.first.x row.step c.from.result c.in_ok-reach-2.field-0.x (row.count - 1)
-    (unsigned_abs row.step) is_step c.from.ensures (omega (arith, c.if-count-gt64.false))
+    let last = last_near row.x row.step c.from.result c.in_ok-reach-2.field-0.x (row.n - 1)
+    (unsigned_abs row.step) is_step c.from.ensures (omega (arith, c.if-n-gt64.false))
     (omega (arith, ints, c.if-step-gt8000000000.false)) near c.in_ok-reach-2.ensures.same.0
     c.in_ok-reach-2.ensures.reach.x in
     record {
-      count = omega (arith, c.if-count-lt1.false, c.if-count-gt64.false);
+      count = omega (arith, c.if-n-lt1.false, c.if-n-gt64.false);
       step = omega (arith, ints, c.if-step-lt1.false);
       centres = λ i early. record {
-        x = between row.first.x row.step i (row.count - 1) (unsigned_abs row.step) is_step (omega (arith, early)) near last;
+        x = between row.x row.step i (row.n - 1) (unsigned_abs row.step) is_step (omega (arith, early)) near last;
         y = level;
       };
     }

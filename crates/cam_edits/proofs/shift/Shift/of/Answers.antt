@@ -1,5 +1,5 @@
 use Rattle.cam_objects.specs.Shifting.{shifted_item}
-use Rattle.cam_edits.specs.Moving.{IsMovableItem}
+use Rattle.cam_edits.specs.Moving.{IsMovableItem, way}
 use Rattle.cam_edits.specs.Steps.{HasAperture, IsOne, with_aperture, with_object, with_polarity}
 use Rattle.cam_edits.proofs.ShiftedItems.{deleted_shift, inserted_shift, reordered_shift, shift_at, stayed}
 use Rattle.cam_edits.proofs.shift.Shift.of.Goals as goal
@@ -25,7 +25,7 @@ pub returns-in-Move : goal.returns-in-Move
 returns-in-Move c = λ content fit.
     let fits = rw c.in-Move.is at fit in
     rw (c.at.ensures, c.in-Move.is)
-    (shift_at (IsMovableItem c.in-Move.by) (shifted_item c.in-Move.by) content.items c.in-Move.k fits.1)
+    (shift_at (IsMovableItem (way c.in-Move.dx c.in-Move.dy)) (shifted_item (way c.in-Move.dx c.in-Move.dy)) content.items c.in-Move.k fits.1)
 
 pub returns-in-Aperture : goal.returns-in-Aperture
 returns-in-Aperture c = λ content fit.

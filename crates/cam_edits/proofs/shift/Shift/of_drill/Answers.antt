@@ -1,6 +1,6 @@
 use Rattle.cam_objects.specs.Shifting.{shifted_drill_item}
 use Rattle.cam_edits.specs.DrillSteps.{with_tool}
-use Rattle.cam_edits.specs.Moving.{IsMovableDrillItem}
+use Rattle.cam_edits.specs.Moving.{IsMovableDrillItem, way}
 use Rattle.cam_edits.proofs.ShiftedItems.{deleted_shift, inserted_shift, reordered_shift, shift_at, shift_there, stayed}
 use Rattle.cam_edits.proofs.shift.Shift.of_drill.Goals as goal
 
@@ -25,7 +25,7 @@ pub returns-in-Move : goal.returns-in-Move
 returns-in-Move c = λ content fit.
     let fits = rw c.in-Move.is at fit in
     rw (c.at.ensures, c.in-Move.is)
-    (shift_at (IsMovableDrillItem c.in-Move.by) (shifted_drill_item c.in-Move.by) content.items c.in-Move.k fits.1)
+    (shift_at (IsMovableDrillItem (way c.in-Move.dx c.in-Move.dy)) (shifted_drill_item (way c.in-Move.dx c.in-Move.dy)) content.items c.in-Move.k fits.1)
 
 pub returns-in-Tool : goal.returns-in-Tool
 returns-in-Tool c = λ content fit.

@@ -63,14 +63,14 @@ returns-in_ok-number-in_default c = λ past none t.
     let same = same_macros past c.args.self.now c.parse_ad.new.macros c.parse_ad.ensures.macros t in
     let unit : c.unwrap_or-unit.result ≡ unit_or_mm (unit_in past) = c.unwrap_or-unit.ensures ∙ ap unit_or_mm t.modal.unit in
     let own : least (faults_of (definition_of c.args.text.now) c.args.self.now.built.macros c.unwrap_or-unit.result)
-    ≡ Some c.code-code.result =
+    ≡ Some c.number-code.result =
     faulty_definition c.args.text.now c.args.self.now.built.macros c.unwrap_or-unit.result (number_of c.in-Err.fault)
-    (meant c.in-Err.fault _ (λ e. c.in_default.not-OutOfMemory e) c.in-Err.ensures.fault) ∙ ap Some (sym c.code-code.ensures) in
+    (meant c.in-Err.fault _ (λ e. c.in_default.not-OutOfMemory e) c.in-Err.ensures.fault) ∙ ap Some (sym c.number-code.ensures) in
     let told = definition_faults past c.args.text.now c.args.self.now.built.macros c.unwrap_or-unit.result
-    c.in_ok-number-in_default.number (Some c.code-code.result) c.lowest.result macros unit c.in_ok-number-in_default.ensures
+    c.in_ok-number-in_default.number (Some c.number-code.result) c.lowest.result macros unit c.in_ok-number-in_default.ensures
     (λ table e. c.lowest.ensures past table same e) (sym own) in
     let some = some_fault past c.in_ok-number-in_default.number
     (faults_of (definition_of c.args.text.now) c.args.self.now.built.macros c.unwrap_or-unit.result) c.lowest.result
-    c.code-code.result own
+    c.number-code.result own
     (c.lowest.ensures past (faults_of (definition_of c.args.text.now) c.args.self.now.built.macros c.unwrap_or-unit.result) same (sym own)) in
     (Says (DefineAperture (packed c.args.text.now)), refl, sym told ∙ some ∙ ap Some (sym c.unwrap_or.ensures))

@@ -8,7 +8,7 @@ overflow_mul-row c =
     let row = c.args.self.now in
     let first = (c.requires.top.centres 0 (omega (arith, c.requires.top.count))).y in
     let there = (c.requires.row.centres 0 (omega (arith, c.requires.top.count))).y in
-    let few = few_steps row.first.y row.step c.args.steps c.requires.top.step first there in
+    let few = few_steps row.y row.step c.args.steps c.requires.top.step first there in
     let steps_is : to_z w64 c.args.steps ≡ pos c.args.steps = omega (arith, ints, few) in
     let step_is : to_z w64 (of_z w64 row.step) ≡ row.step = search rules in
     rw (steps_is, step_is) (omega (arith, ints, first, there))
@@ -18,7 +18,7 @@ overflow_sub-row c =
     let row = c.args.self.now in
     let first = (c.requires.top.centres 0 (omega (arith, c.requires.top.count))).y in
     let there = (c.requires.row.centres 0 (omega (arith, c.requires.top.count))).y in
-    let few = few_steps row.first.y row.step c.args.steps c.requires.top.step first there in
+    let few = few_steps row.y row.step c.args.steps c.requires.top.step first there in
     let steps_is : to_z w64 c.args.steps ≡ pos c.args.steps = omega (arith, ints, few) in
     let step_is : to_z w64 (of_z w64 row.step) ≡ row.step = search rules in
     rw (steps_is, step_is) (omega (arith, ints, first, there))
@@ -28,8 +28,8 @@ returns c =
     let row = c.args.self.now in
     let first = (c.requires.top.centres 0 (omega (arith, c.requires.top.count))).y in
     let there = (c.requires.row.centres 0 (omega (arith, c.requires.top.count))).y in
-    let few = few_steps row.first.y row.step c.args.steps c.requires.top.step first there in
+    let few = few_steps row.y row.step c.args.steps c.requires.top.step first there in
     let steps_is : to_z w64 c.args.steps ≡ pos c.args.steps = omega (arith, ints, few) in
     let step_is : to_z w64 (of_z w64 row.step) ≡ row.step = search rules in
-    ap (λ y. record row { first = record row.first { y = y } })
+    ap (λ y. record row { y = y })
     (rw (steps_is, step_is) (omega (arith, ints, first, there)))

@@ -8,13 +8,13 @@ use Rattle.cam_rows.proofs.centres.Centres.count_left_of.Goals.{After-from, Afte
 
 pub overflow_sub-gap : goal.overflow_sub-gap
 overflow_sub-gap c =
-    gap_fits c.args.x c.args.self.now.first.x c.requires.short (first_near c.args.self.now c.requires.row)
+    gap_fits c.args.x c.args.self.now.x c.requires.short (first_near c.args.self.now c.requires.row)
 
 pub returns-then-gap-le0-clause-each : goal.returns-then-gap-le0-clause-each
 returns-then-gap-le0-clause-each c = λ i _.
     let row = c.args.self.now in
     let first = first_near row c.requires.row in
-    none_left row.first.x row.step c.args.x i (unsigned_abs row.step) (omega (arith, ints, c.requires.row.step))
+    none_left row.x row.step c.args.x i (unsigned_abs row.step) (omega (arith, ints, c.requires.row.step))
     (omega (arith, ints, first, c.if-gap-le0.true))
 
 is_pitch : (c : After-from) → c.args.self.now.step ≡ pos (unsigned_abs (narrow c.args.self.now.step))
@@ -23,14 +23,14 @@ is_pitch c = omega (arith, ints, c.requires.row.step)
 pub overflow_mul-from : goal.overflow_mul-from
 overflow_mul-from c =
     let row = c.args.self.now in
-    reach_fits c.from.result row.count _ row.first.x row.step c.from.ensures (is_pitch c) (first_near row c.requires.row)
+    reach_fits c.from.result row.n _ row.x row.step c.from.ensures (is_pitch c) (first_near row c.requires.row)
     (last_near row c.requires.row)
 
 pub returns-then-gap-from-clause-each : goal.returns-then-gap-from-clause-each
 returns-then-gap-from-clause-each c = λ i within.
     let row = c.args.self.now in
     let first = first_near row c.requires.row in
-    all_left row.first.x row.step c.args.x i row.count c.from.result _ _
+    all_left row.x row.step c.args.x i row.n c.from.result _ _
     (is_pitch ((goal.at.returns-then-gap-from-clause-each c).After-from))
     (omega (arith, ints, first, c.if-gap-le0.false)) c.from.ensures c.if-gap-from.true within
 
@@ -51,6 +51,6 @@ pub returns-clause-each : goal.returns-clause-each
 returns-clause-each c = λ i within.
     let row = c.args.self.now in
     let first = first_near row c.requires.row in
-    left_by_division row.first.x row.step c.args.x i _ _ _ c.requires.row.step
+    left_by_division row.x row.step c.args.x i _ _ _ c.requires.row.step
     (omega (arith, ints, c.requires.row.step)) (omega (arith, ints, first, c.if-gap-le0.false))
     c.div_ceil.ensures

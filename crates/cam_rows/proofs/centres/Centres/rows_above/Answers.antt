@@ -7,6 +7,6 @@ pub returns-clause-each : goal.returns-clause-each
 returns-clause-each c = λ k within.
     let row = c.args.self.now in
     let high = top_near row c.requires.row in
-    above_by_division row.first.y c.args.height row.step k _ _ c.min.result c.args.rows c.requires.row.step
+    above_by_division row.y c.args.height row.step k _ _ c.min.result c.args.rows c.requires.row.step
     (omega (arith, ints, c.requires.row.step))
     (omega (arith, ints, high, c.requires.short, c.if-fall-lt0.false)) c.min.ensures within

@@ -75,7 +75,7 @@ left c step short some =
 
 right : (c : After-at_least_zero-2) → c.offsets_from-offsets.result.step ≡ pos c.at_least_zero-step.result
     → unsigned_abs (place_at c.offsets_from-offsets.result c.count_left_of-middle.result) < 2 ^ 33
-    → c.count_left_of-middle.result < c.args.top.now.count
+    → c.count_left_of-middle.result < c.args.top.now.n
     → pos c.at_least_zero-2.result ≡ place_at c.offsets_from-offsets.result c.count_left_of-middle.result
 right c step short some =
     let from = from_right c.args.top.now c.args.point.now c.offsets_from-offsets.result c.count_left_of-middle.result

@@ -4,7 +4,7 @@ use Rattle.std.proofs.lemmas.Int.{ints}
 use Rattle.cam_rows.specs.Machinery.Beside.{IsFar, IsFarOrAhead}
 use Rattle.cam_rows.specs.Machinery.HalfPlanes.{numbers_of}
 use Rattle.cam_rows.specs.Machinery.Narrowing.{IsUp}
-use Rattle.cam_rows.specs.Rows.{centre_at, row_below}
+use Rattle.cam_rows.specs.Rows.{centre_at, first_of, row_below}
 use Rattle.cam_rows.specs.Runs.{IsInRun}
 use Rattle.cam_rows.proofs.BesideWays.{IsAhead}
 use Rattle.cam_rows.proofs.FarPlaces.{far_by_row, ahead_by_row}
@@ -19,12 +19,12 @@ kept_width c = omega (arith, ints, c.requires.width)
 
 not_far : (c : After-rows_not_far-first) (k : ℕ) → k < length c.args.firsts.now
     → IsInRun c.rows_not_far-first.result.0 c.rows_not_far-first.result.1 k
-    ↔ (IsFar c.args.from.now c.args.to.now c.args.width (row_below c.args.top.now k).first → ⊥)
+    ↔ (IsFar c.args.from.now c.args.to.now c.args.width (first_of (row_below c.args.top.now k)) → ⊥)
 not_far c = rw (kept_width c) at c.rows_not_far-first.ensures.each
 
 pub returns-then-end-first : goal.returns-then-end-first
 returns-then-end-first c =
-    none_narrowed c.args.top.now.count c.args.firsts.now c.args.ends.now _
+    none_narrowed c.args.top.now.n c.args.firsts.now c.args.ends.now _
     (λ k i within. far_by_row c.args.from.now c.args.to.now c.args.width c.args.top.now k i _ _
     (not_far (goal.at.returns-then-end-first c).After-rows_not_far-first k within) (λ on. omega (arith, on.0, on.1, c.if-end-first.true)))
 
@@ -70,7 +70,7 @@ returns c =
     let size_ends = part_length first end c.args.ends.now some (omega (arith, within, c.requires.ends)) in
     let near = not_far (goal.at.returns c).After-rows_not_far-first in
     let tells = rw c.leftmost.ensures.value at c.ahead.ensures.tells in
-    part_narrowed top.count first end c.args.firsts.now c.args.ends.now c.narrow.new.firsts c.narrow.new.ends
+    part_narrowed top.n first end c.args.firsts.now c.args.ends.now c.narrow.new.firsts c.narrow.new.ends
     (IsUp (numbers_of c.ahead.result)) (λ k i. IsFarOrAhead from to c.args.width (centre_at (row_below top k) i))
     some within c.requires.ends (c.narrow.auto.firsts ∙ size) (c.narrow.auto.ends ∙ size_ends)
     (rw size at c.narrow.ensures)

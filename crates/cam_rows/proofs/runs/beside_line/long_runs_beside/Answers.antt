@@ -7,7 +7,7 @@ use Rattle.cam_rows.proofs.WideRows.{IsAny, leftmost_rows, runs_like, runs_narro
 use Rattle.cam_rows.proofs.runs.beside_line.long_runs_beside.Goals as goal
 use Rattle.cam_rows.proofs.runs.beside_line.long_runs_beside.Goals.{After-fill}
 
-few : (c : After-fill) → c.args.top.now.count ≤ 32768
+few : (c : After-fill) → c.args.top.now.n ≤ 32768
 few c = (top_is_wide c.args.top.now (length c.args.firsts.now) c.requires.some c.requires.rows).count.1
 
 pub leftmost-left-requires : goal.leftmost-left-requires

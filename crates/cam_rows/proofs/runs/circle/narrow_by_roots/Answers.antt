@@ -17,7 +17,7 @@ pub loop-k-preserved : goal.loop-k-preserved
 loop-k-preserved c =
     let top = c.args.top.now in
     let k = c.loop-k.k in
-    next_run top.count c.args.firsts.now c.args.ends.now
+    next_run top.n c.args.firsts.now c.args.ends.now
     (λ k i. IsNearer c.args.point.now c.args.bound (centre_at (row_below top k) i)) c.loop-k.firsts c.loop-k.ends k
     c.max.result c.min.result (omega (arith, c.loop-k.invariant.firsts_size)) c.requires.ends c.loop-k.invariant
     (λ i small.
@@ -27,6 +27,6 @@ loop-k-preserved c =
 pub returns : goal.returns
 returns c =
     let size = c.loop-k.invariant.firsts_size in
-    all_runs c.args.top.now.count c.args.firsts.now c.args.ends.now
+    all_runs c.args.top.now.n c.args.firsts.now c.args.ends.now
     (λ k i. IsNearer c.args.point.now c.args.bound (centre_at (row_below c.args.top.now k) i)) c.loop-k.firsts
     c.loop-k.ends c.loop-k.k (omega (arith, size, c.loop-k-test.false)) c.requires.ends c.loop-k.invariant

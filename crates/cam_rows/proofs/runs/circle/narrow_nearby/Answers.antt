@@ -51,7 +51,7 @@ loop-k-preserved c =
       offsets = rw part.ensures.same inv.offsets;
       height = (next_height point top (length c.args.firsts.now) k _ c.requires.near within
           (c.requires.rows 0 c.requires.some).step inv.height).1;
-      narrowed = next_run top.count c.args.firsts.now c.args.ends.now
+      narrowed = next_run top.n c.args.firsts.now c.args.ends.now
           (λ k i. IsNearer point c.args.bound (centre_at (row_below top k) i)) c.loop-k.firsts c.loop-k.ends k
           part.result.first part.result.end within c.requires.ends inv.narrowed
           (λ i small.
@@ -64,6 +64,6 @@ loop-k-preserved c =
 pub returns : goal.returns
 returns c =
     let inv = c.loop-k.invariant.narrowed in
-    all_runs c.args.top.now.count c.args.firsts.now c.args.ends.now
+    all_runs c.args.top.now.n c.args.firsts.now c.args.ends.now
     (λ k i. IsNearer c.args.point.now c.args.bound (centre_at (row_below c.args.top.now k) i)) c.loop-k.firsts
     c.loop-k.ends c.loop-k.k (omega (arith, inv.firsts_size, c.loop-k-test.false)) c.requires.ends inv

@@ -1,14 +1,14 @@
 use Rattle.std.proofs.Common.{◌≡◌, pos, refl, arith}
 use Rattle.std.proofs.lemmas.Int.{ints}
 use Rattle.cam_shapes.specs.Plane.{seen_from, square}
-use Rattle.cam_rows.specs.Rows.{centre_at}
+use Rattle.cam_rows.specs.Rows.{centre_at, first_of}
 use Rattle.cam_rows.proofs.RootRuns.{near_by_root, over_circle}
 use Rattle.cam_rows.proofs.WideRows.{by_strip, in_no_run}
 use Rattle.cam_rows.proofs.runs.circle.root_run.Goals as goal
 
 pub returns-then-bound-height : goal.returns-then-bound-height
 returns-then-bound-height c = λ i _.
-    let height : pos c.squared_height-height.result ≡ square (seen_from c.args.point.now c.args.row.now.first).y =
+    let height : pos c.squared_height-height.result ≡ square (seen_from c.args.point.now (first_of c.args.row.now)).y =
     rw c.leftmost.ensures.value at c.squared_height-height.ensures.value in
     in_no_run 0 0 i _ refl
     (over_circle (seen_from c.args.point.now (centre_at c.args.row.now i)) c.squared_height-height.result c.args.bound
@@ -19,7 +19,7 @@ returns c = λ i within.
     let point = c.args.point.now in
     let place = centre_at c.args.row.now i in
     let reach = c.half_chord-reach in
-    let height : pos c.squared_height-height.result ≡ square (seen_from point c.args.row.now.first).y =
+    let height : pos c.squared_height-height.result ≡ square (seen_from point (first_of c.args.row.now)).y =
     rw c.leftmost.ensures.value at c.squared_height-height.ensures.value in
     by_strip _ _ _ (c.columns_in.ensures.each i within)
     (near_by_root point place c.squared_height-height.result c.args.bound reach.result _ _

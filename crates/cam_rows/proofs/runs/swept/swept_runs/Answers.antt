@@ -45,7 +45,7 @@ returns-then-from-to c =
 pub leftmost-left-requires : goal.leftmost-left-requires
 leftmost-left-requires c = top_is_wide c.args.top.now (length c.args.firsts.now) (some _ c.if-is_empty.ensures) c.requires.rows
 
-few : (c : After-box_runs) → c.args.top.now.count ≤ 32768
+few : (c : After-box_runs) → c.args.top.now.n ≤ 32768
 few c =
     (top_is_wide c.args.top.now (length c.args.firsts.now) (some _ c.if-is_empty.ensures) c.requires.rows).count.1
 

@@ -12,7 +12,7 @@ overflow_mul-levels c = twice_fits c.args.at.y c.requires.at.y
 pub overflow_sub-levels : goal.overflow_sub-levels
 overflow_sub-levels c =
     let near = first_y c.args.self.now c.requires.grid in
-    gap_fits c.args.self.now.first.y c.args.at.y (omega (arith, near)) c.requires.at.y
+    gap_fits c.args.self.now.y c.args.at.y (omega (arith, near)) c.requires.at.y
 
 pub band-requires : goal.band-requires
 band-requires c =

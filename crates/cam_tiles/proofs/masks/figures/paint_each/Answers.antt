@@ -14,8 +14,8 @@ loop-k-preserved c =
     let here = c.loop-k in
     record {
       part = one_more_painted c.args.first here.k (leaf_of c.args.print ∷ []) c.args.masks.now here.masks _
-          c.index-masks-k.result c.paint.new.self here.invariant.part (omega arith) (omega arith) refl
-          c.paint.ensures;
+          c.index-masks-k.result c.paint_leaf.new.self here.invariant.part (omega arith) (omega arith) refl
+          c.paint_leaf.ensures;
       none = λ empty. absurd (omega arith);
     }
 

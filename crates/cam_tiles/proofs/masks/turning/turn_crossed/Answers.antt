@@ -14,7 +14,7 @@ edge_runs-requires-clause-rows c =
 pub edge_runs-requires-clause-crossed : goal.edge_runs-requires-clause-crossed
 edge_runs-requires-clause-crossed c =
     top_crossed c.args.grid.now c.args.columns c.args.band.first c.args.band.end c.args.from c.args.to
-    c.args.grid.now.first.x _ _ (search rules) (search rules) c.requires.low c.requires.rows _ c.requires.size
+    c.args.grid.now.x _ _ (search rules) (search rules) c.requires.low c.requires.rows _ c.requires.size
 
 pub returns : goal.returns
 returns c =

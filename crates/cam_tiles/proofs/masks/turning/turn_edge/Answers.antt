@@ -31,11 +31,11 @@ returns-then-max-grid c =
     let g = c.args.grid.now in
     let p = c.args.from in
     let q = c.args.to in
-    let fits : FitsSigned w64 g.first.x = search rules in
-    let past : long (pos 2 *ℤ long c.max.result) ≤ℤ long g.first.x = (at_most_is _ _).0 c.if-max-grid.true in
-    let reach = rw (to_z-of_z w64 g.first.x fits) at past in
+    let fits : FitsSigned w64 g.x = search rules in
+    let past : long (pos 2 *ℤ long c.max.result) ≤ℤ long g.x = (at_most_is _ _).0 c.if-max-grid.true in
+    let reach = rw (to_z-of_z w64 g.x fits) at past in
     turns_nothing g c.args.columns (λ s. IsTrue (crosses_ray s (edge p q))) c.args.marks.now (λ column row within met.
-    let ends = after_ends (g.first.x +ℤ pos column *ℤ g.step) p.x q.x _
+    let ends = after_ends (g.x +ℤ pos column *ℤ g.step) p.x q.x _
     (twice_most p.x q.x c.max.result c.requires.from.x c.requires.to.x c.max.ensures.value)
-    (up_right g.first.x (pos column *ℤ g.step) _ (columns_far g column c.requires.grid.step) reach) in
+    (up_right g.x (pos column *ℤ g.step) _ (columns_far g column c.requires.grid.step) reach) in
     missed_right (centre_in g column row) p q ends.0 ends.1 met)

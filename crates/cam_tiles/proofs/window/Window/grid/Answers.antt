@@ -34,8 +34,8 @@ overflow_mul-top c =
     rw c.across-2.ensures (top_within c.args.self.now c.args.tile limits.width.0 c.requires.tile) in
     omega (arith, top, limits.height.1)
 
-pub centre-requires : goal.centre-requires
-centre-requires c =
+pub centre-first-requires : goal.centre-first-requires
+centre-first-requires c =
     let limits = accepted c.args.self.now c.requires.accepted in
     record {
       accepted = c.requires.accepted;
@@ -65,8 +65,9 @@ overflow_mul-result c =
 
 pub returns-clause-value : goal.returns-clause-value
 returns-clause-value c =
-    grid_kept c.args.self.now c.args.tile c.across.result c.across-2.result c.centre.result c.min.result c.min-2.result
-    c.requires.accepted c.across.ensures c.across-2.ensures c.centre.ensures.value c.min.ensures c.min-2.ensures
+    grid_kept c.args.self.now c.args.tile c.across.result c.across-2.result c.centre-first.result c.min.result c.min-2.result
+    c.centre-first.ensures.place
+    c.requires.accepted c.across.ensures c.across-2.ensures c.centre-first.ensures.value c.min.ensures c.min-2.ensures
 
 pub returns-clause-grid : goal.returns-clause-grid
 returns-clause-grid c =

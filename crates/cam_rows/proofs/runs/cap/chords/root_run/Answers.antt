@@ -34,7 +34,7 @@ returns-clause-each c = λ i within.
     let x = c.requires.cap.centre.x in
     let first = (c.requires.row.centres 0 (omega (arith, c.requires.row.count))).y in
     let v = seen_from cap.centre place in
-    let below = is_below v.y (narrow row.first.y) (narrow (pos 2 *ℤ narrow cap.centre.y))
+    let below = is_below v.y (narrow row.y) (narrow (pos 2 *ℤ narrow cap.centre.y))
     (omega (arith, ints, first, c.requires.cap.centre.y)) in
     let circle = in_circle_is (way cap.centre cap.from) v c.args.radius c.squared_height-height.result _
     c.requires.radius (rw c.leftmost.ensures.value at c.squared_height-height.ensures.value) c.if-height-radius.false

@@ -9,8 +9,8 @@ pub returns : goal.returns
 returns c = λ on.
     let m : Marking = record { grid = c.self.inside.grid; rows = c.self.inside.rows } in
     let few = c.self.invariant.mask.grid.columns.1 in
-    let is : slice_index m.rows c.args.row ≡ (2 ^ 64 - 1) / 2 ^ (64 - m.grid.columns) = eqb-true _ _ on in
+    let is : slice_index m.rows c.args.row ≡ (2 ^ 64 - 1) / 2 ^ (64 - m.grid.cols) = eqb-true _ _ on in
     let black : (column : ℕ) → IsIn m.grid column c.args.row → ink_of m column c.args.row ≡ true =
-    λ column there. dark_if_marked m column c.args.row (rw is ((set_in_low m.grid.columns column few).1 there.0)) in
+    λ column there. dark_if_marked m column c.args.row (rw is ((set_in_low m.grid.cols column few).1 there.0)) in
     subst (λ (n : Marking). (column : ℕ) → IsIn n.grid column c.args.row → ink_of n column c.args.row ≡ true)
     c.self.view_is black

@@ -1,12 +1,13 @@
+use Rattle.std.proofs.Common.{◌∙◌}
 use Rattle.cam_objects.specs.Image.{relative}
-use Rattle.cam_tiles.proofs.RunColumns.{joins_runs, own_grid}
+use Rattle.cam_tiles.specs.Machinery.Plain.{IsInShape}
+use Rattle.cam_tiles.proofs.TurnedMasks.{marks_joined}
 use Rattle.cam_tiles.proofs.masks.mask.Mask.join.Goals as goal
 
-pub find-requires-clause-grid : goal.find-requires-clause-grid
-find-requires-clause-grid g c = own_grid c.grid-grid.result c.grid-grid.ensures.grid
+pub merge-requires : goal.merge-requires
+merge-requires c = c.of-marks.ensures.grid ∙ c.grid.ensures.value
 
 pub returns : goal.returns
-returns g c =
-    joins_runs c.args.how (λ s. g.S.RunShape.holds c.args.shape.now (relative c.args.at s)) c.grid-grid.result
-    c.find.new.self c.args.self.now c.join_runs.new.self c.grid-grid.ensures.value c.find.ensures
-    c.join_runs.ensures.grid c.join_runs.ensures.marks
+returns c =
+    marks_joined (λ s. IsInShape c.args.shape.now (relative c.args.at s)) c.grid.result c.of-marks.result
+    c.args.self.now c.merge.new.self c.grid.ensures.value c.of-marks.ensures c.args.how c.merge.ensures

@@ -27,7 +27,7 @@ loop-row-preserved c =
           band.first row c.join_row.result after below before
           (λ i near. through (c.join_row.ensures i near)
           (joined_with c.args.how _ _ _
-          (in_row band.first band.end row marks i inside.grid.columns after until
+          (in_row band.first band.end row marks i inside.grid.cols after until
           (λ on. rw before.grid (c.requires.inside i near on)))))
           (search rules);
       bounds = c.loop-row.invariant.bounds;

@@ -7,7 +7,7 @@ use Rattle.cam_tiles.proofs.masks.mask.Mask.join_body.Goals as goal
 
 pub returns-then-is_whole_between-clause-marks : goal.returns-then-is_whole_between-clause-marks
 returns-then-is_whole_between-clause-marks c = λ i row inside.
-    let near : i < c.grid-grid.result.columns = rw c.grid-grid.ensures.value inside.0 in
+    let near : i < c.grid-grid.result.cols = rw c.grid-grid.ensures.value inside.0 in
     nothing_taken c.args.how _ _ _ _ _
     (c.if-is_whole_between.ensures refl _ row (c.args.column + i) c.requires.fit (omega arith) (omega (arith, near)))
     (c.join_runs.ensures.marks i row inside)

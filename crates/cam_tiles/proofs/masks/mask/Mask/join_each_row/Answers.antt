@@ -38,8 +38,8 @@ loop-row-preserved c =
     let until : row < runs.band.end = omega arith in
     let below : row < inside.grid.rows = rw before.grid (omega (arith, c.requires.band, until)) in
     let part : (i : ℕ) → ((c.max-first.result ≤ column + i) × (column + i < c.min-end.result))
-    ↔ ((i < c.self.inside.grid.columns) × IsInRun (slice_index runs.firsts row) (slice_index runs.ends row) (column + i)) =
-    λ i. clipped (slice_index runs.firsts row) (slice_index runs.ends row) column c.self.inside.grid.columns _ _ i
+    ↔ ((i < c.self.inside.grid.cols) × IsInRun (slice_index runs.firsts row) (slice_index runs.ends row) (column + i)) =
+    λ i. clipped (slice_index runs.firsts row) (slice_index runs.ends row) column c.self.inside.grid.cols _ _ i
     c.max-first.ensures c.min-end.ensures in
     let Next : Inside → Type 0 = λ m.
     AreJoinedAt c.args.how (λ i k. HasColumn runs k (column + i)) c.args.self.now
@@ -61,7 +61,7 @@ loop-row-preserved c =
           subst Next (sym w.self-inside-is) (
             same_row_at c.args.how (λ i k. HasColumn runs k (column + i)) c.args.self.now _ runs.band.first row before
                 (λ i within held.
-                let near : i < c.self.inside.grid.columns = rw (same, before.grid) within.0 in
+                let near : i < c.self.inside.grid.cols = rw (same, before.grid) within.0 in
                 let on = (part i).1 (near, held.2) in
                 omega (arith, w.if-first-end.false, on.0, on.1)),
             c.loop-row.invariant.bounds,

@@ -8,7 +8,7 @@ pub returns-then-end-runs-clause-marks : goal.returns-then-end-runs-clause-marks
 returns-then-end-runs-clause-marks c = λ i row inside.
     let runs = c.args.runs.now in
     let grid : c.self.inside.grid ≡ c.args.self.now.grid = ap (λ m. m.grid) c.self.view_is in
-    let near : i < c.self.inside.grid.columns = rw grid inside.0 in
+    let near : i < c.self.inside.grid.cols = rw grid inside.0 in
     let set = c.run_row.ensures i (omega (arith, near, c.self.invariant.mask.grid.columns.1)) in
     through (c.join_band.ensures.marks i row inside)
     (joined_with c.args.how _ _ _ (
@@ -42,13 +42,13 @@ returns-then-past-runs-clause-marks c = λ i row inside.
     (λ on.
     let between = c.requires.fits.spanned row (c.args.column + i) on in
     let grid : c.self.inside.grid ≡ c.args.self.now.grid = ap (λ m. m.grid) c.self.view_is in
-    let near : i < c.self.inside.grid.columns = rw grid inside.0 in
+    let near : i < c.self.inside.grid.cols = rw grid inside.0 in
     omega (arith, between.0, near, c.if-past-runs.true))
 
 pub returns-clause-marks : goal.returns-clause-marks
 returns-clause-marks c = λ i row inside.
     let grid : c.self.inside.grid ≡ c.args.self.now.grid = ap (λ m. m.grid) c.self.view_is in
-    let near : i < c.self.inside.grid.columns = rw grid inside.0 in
+    let near : i < c.self.inside.grid.cols = rw grid inside.0 in
     let band = c.rows_between-band.ensures in
     through (c.join_rows.ensures.marks i row inside)
     (joined_with c.args.how _ _ _ (

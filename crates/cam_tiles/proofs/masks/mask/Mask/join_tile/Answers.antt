@@ -13,13 +13,13 @@ loop-row-preserved c =
     let tile = c.args.tile in
     let before = c.loop-row.invariant.rows in
     let same : c.self.inside.grid ≡ inside.grid = ap (λ m. m.grid) c.self.view_is ∙ sym before.grid in
-    let few : c.self.inside.grid.columns ≤ 64 = c.self.invariant.mask.grid.columns.1 in
+    let few : c.self.inside.grid.cols ≤ 64 = c.self.invariant.mask.grid.columns.1 in
     record {
       rows = next_row_at c.args.how (λ i k. IsTrue (is_marked marks k (64 * tile + i))) c.args.self.now _ 0 row
           c.join_row.result (omega arith) (rw (← same) (omega arith)) before
           (λ i near. through (c.join_row.ensures i near)
           (joined_with c.args.how _ _ _
-          (tile_word marks tile row c.self.inside.grid.columns inside.grid.columns i _ few (ap (λ (g : Grid). g.columns) same) near
+          (tile_word marks tile row c.self.inside.grid.cols inside.grid.cols i _ few (ap (λ (g : Grid). g.cols) same) near
           refl)))
           (search rules);
       bounds = c.loop-row.invariant.bounds;

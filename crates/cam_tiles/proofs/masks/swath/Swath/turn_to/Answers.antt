@@ -23,7 +23,7 @@ invariant_of-self-2 c =
     let step = ap (λ (g : Grid). g.step) c.grid-corner.ensures.value in
     let short : FitsSigned w64 c.grid-corner.result.step = search rules in
     let long : FitsSigned w64 (pos 64 *ℤ c.grid-corner.result.step) = omega (arith, ints, step, limits.pitch) in
-    let left : FitsSigned w64 c.grid-corner.result.first.x = search rules in
+    let left : FitsSigned w64 c.grid-corner.result.x = search rules in
     record {
       laid = simp to_z-of_z (c.put_blanks-self-inside.ensures.laid (pitch_of c.grid-corner.result)
           (ap pitch_of c.grid-corner.ensures.value));

@@ -1,0 +1,27 @@
+-- Texts that grow by a part for each element of a list.
+use Rattle.std.proofs.Common.{◌≡◌, ◌∙◌, ap, sym, ℕ, ◌+◌, ◌<◌, ◌≤◌, List, [], ◌∷◌, ◌++◌, length, take, get_or, append-nil, arith}
+use Rattle.std.specs.Prelude.{option_to_list}
+use Rattle.std.specs.List.{flat_map}
+use Rattle.std.proofs.lemmas.List.{flat_map_more, take_all, take_more}
+use Rattle.std.proofs.lemmas.Option.{slice_get-get_or}
+use Rattle.cam_ask.specs.Texts.{lines_at}
+
+-- one part more
+part_added : {X : Type 0} (f : X → List ℕ) (xs : List X) (i : ℕ) (d : X) (front old new : List ℕ) → i < length xs
+    → old ≡ front ++ flat_map f (take i xs) → new ≡ old ++ f (get_or xs i d) → new ≡ front ++ flat_map f (take (i + 1) xs)
+part_added f xs i d front old new lt e more =
+    more ∙ ap (λ (o : List ℕ). o ++ f (get_or xs i d)) e ∙ flat_map_more f front (take i xs) (get_or xs i d)
+    ∙ ap (λ ys. front ++ flat_map f ys) (sym (take_more xs i d lt))
+
+-- of the element at a place that the list has
+pub place_added : {X : Type 0} (f : X → List ℕ) (xs : List X) (i : ℕ) (front old new : List ℕ) → i < length xs
+    → old ≡ front ++ flat_map f (take i xs) → new ≡ old ++ lines_at f xs i → new ≡ front ++ flat_map f (take (i + 1) xs)
+place_added f [] i front old new lt e more = absurd (omega (arith, lt))
+place_added f (d ∷ xs) i front old new lt e more =
+    let here : lines_at f (d ∷ xs) i ≡ f (get_or (d ∷ xs) i d) =
+    ap (λ o. flat_map f (option_to_list o)) (slice_get-get_or (d ∷ xs) i d lt) ∙ append-nil (f (get_or (d ∷ xs) i d)) in
+    part_added f (d ∷ xs) i d front old new lt e (more ∙ ap (λ ys. old ++ ys) here)
+
+-- no more than there are
+pub taken_all : {X : Type 0} (xs : List X) (n : ℕ) → length xs ≤ n → xs ≡ take n xs
+taken_all xs n h = sym (take_all n xs h)

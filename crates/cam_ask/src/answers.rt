@@ -1,0 +1,148 @@
+//! Answers questions.
+
+ghost use Rattle.std.specs.Prelude.{◌++◌, ◌≡◌, Err, IfOk, MatchResult, Ok, OnOk, option_to_list, slice_get};
+ghost use Rattle.std.specs.List.{flat_map};
+ghost use Rattle.cam_edits.specs.Boards.{place_named};
+ghost use Rattle.cam_edits.specs.Sheets.{IsSound, content_of};
+ghost use Rattle.cam_undo.specs.Counted.{counts_at};
+ghost use Rattle.cam_station.specs.Machine.{fault};
+ghost use Rattle.cam_station.specs.Refusals.{line_code, memory_refused};
+ghost use Rattle.cam_ask.specs.Answers.{IsAnswer, IsAnswerAt, IsAnswerOf, IsAsked, sheet_line};
+ghost use Rattle.cam_ask.specs.Texts.{history_line};
+
+use crate::lines::{push_history, push_layer};
+use crate::telling::{can_be_asked, has_place, told};
+use cam_edits::{Name, SheetContent};
+use cam_script::{Bytes, LineFault, Query, Question, parse_question};
+use cam_station::{Fault, Station};
+use std::alloc::{AllocError, Global};
+
+/// Memory was refused.
+const NO_MEMORY: u8 = 30;
+
+/// There is no layer of this name.
+const NO_LAYER: u8 = 60;
+
+/// There is no item, aperture, block or tool at the place.
+const NO_PLACE: u8 = 61;
+
+/// The line is no question.
+const NO_QUESTION: u8 = 80;
+
+/// The line is too long.
+const TOO_LONG: u8 = 81;
+
+/// A refusal.
+fn refused(code: u8) -> Result<Bytes, Fault>
+    ensures { result ≡ Err (fault code) }
+{
+    Err(Fault { code, at: None })
+}
+
+/// A text as an answer; a refusal where there was no memory for it.
+fn granted(text: Result<Vec<u8>, AllocError>) -> Result<Bytes, Fault>
+    ensures { MatchResult text (λ v. result ≡ Ok v.items) (λ _. result ≡ Err (fault memory_refused)) }
+{
+    match text {
+        Ok(text) => Ok(Bytes::from_vec(text)),
+        Err(_) => refused(NO_MEMORY),
+    }
+}
+
+/// Writes the line of the layer at a place.
+fn push_layer_at(text: &mut Vec<u8>, station: &Station, place: usize) -> Result<(), AllocError>
+    ensures { OnOk result (text.new.items ≡ text.old.items
+        ++ flat_map sheet_line (option_to_list (slice_get station.now.timeline.document place))) }
+{
+    match station.layer(place) {
+        Some(sheet) => push_layer(text, &sheet.name, &sheet.content),
+        None => Ok(()),
+    }
+}
+
+/// Writes the lines of the layers.
+fn told_layers(alloc: Global, station: &Station) -> Result<Vec<u8>, AllocError>
+    ensures { IfOk result
+        (λ text. text.items ≡ flat_map sheet_line station.now.timeline.document) }
+{
+    let mut text = Vec::new(alloc);
+    for place in 0..station.layer_count() {
+        push_layer_at(&mut text, station, place)?;
+    }
+    Ok(text)
+}
+
+/// Writes the line of the history.
+fn told_history(alloc: Global, station: &Station) -> Result<Vec<u8>, AllocError>
+    ensures { IfOk result
+        (λ text. text.items ≡ history_line (counts_at station.now.timeline)) }
+{
+    let mut text = Vec::new(alloc);
+    push_history(&mut text, station.history())?;
+    Ok(text)
+}
+
+/// The answer of what a layer holds.
+fn answer_of(alloc: Global, content: &SheetContent, query: Query) -> Result<Bytes, Fault>
+    requires { IsSound (content_of content.now) }
+    ensures { IsAnswerOf (content_of content.now) query result }
+{
+    if !can_be_asked(query) {
+        return refused(NO_QUESTION);
+    }
+    if !has_place(content, query) {
+        return refused(NO_PLACE);
+    }
+    granted(told(alloc, content, query))
+}
+
+/// The answer of the layer of a name.
+fn answer_named(alloc: Global, station: &Station, name: &Name, query: Query) -> Result<Bytes, Fault>
+    ensures { let sheets = station.now.timeline.document in
+        IsAnswerAt sheets (place_named name.now sheets) query result }
+{
+    let Some(place) = station.layer_place(name) else {
+        return refused(NO_LAYER);
+    };
+    let Some(sheet) = station.layer(place) else {
+        return refused(NO_LAYER);
+    };
+    answer_of(alloc, &sheet.content, query)
+}
+
+/// Answers a question with a text, a line for each thing that is told, as `specs/Texts.antt` has them. Nothing of the
+/// station changes.
+///
+/// Refused where there is no layer of the name (60), no item, aperture, block or tool at the place (61), or no memory for
+/// the text (30), and where no line can say the question, since a coordinate is past 4,000,000,000 nm in absolute value
+/// (80). The topmost item at a place off the board is told by no line, as where nothing lies there.
+pub fn answer(alloc: Global, station: &Station, question: &Question) -> Result<Bytes, Fault>
+    ensures { IsAnswer station.now question.now result }
+{
+    match question {
+        Question::Layers => granted(told_layers(alloc, station)),
+        Question::History => granted(told_history(alloc, station)),
+        Question::OfLayer { name, query } => answer_named(alloc, station, name, *query),
+    }
+}
+
+/// The number of the refusal of a line.
+fn line_code(why: LineFault) -> u8
+    ensures { result ≡ line_code why }
+{
+    match why {
+        LineFault::LineTooLong => TOO_LONG,
+        LineFault::BadLine => NO_QUESTION,
+        LineFault::Memory => NO_MEMORY,
+    }
+}
+
+/// Answers the question that a line says: as [`answer`], and refused where the line is too long (81) or no question (80).
+pub fn ask(alloc: Global, station: &Station, line: &[u8]) -> Result<Bytes, Fault>
+    ensures { IsAsked station.now line.now result }
+{
+    match parse_question(alloc, line) {
+        Ok(question) => answer(alloc, station, &question),
+        Err(why) => refused(line_code(why)),
+    }
+}

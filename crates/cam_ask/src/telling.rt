@@ -1,0 +1,180 @@
+//! What is told of a layer.
+
+ghost use Rattle.std.specs.Prelude.{◌↔◌, ◌++◌, ◌≡◌, IfOk, IsTrue, OnOk, option_to_list, slice_get, true};
+ghost use Rattle.std.specs.List.{flat_map};
+ghost use Rattle.cam_units.specs.Board.{IsPlace};
+ghost use Rattle.cam_edits.specs.Asking.{sheet_boxes};
+ghost use Rattle.cam_edits.specs.Sheets.{IsSound, content_of};
+ghost use Rattle.cam_ask.specs.Texts.{box_line};
+ghost use Rattle.cam_ask.specs.Telling.{
+  IsEnclosedTold,
+  IsTold,
+  IsTopmostTold,
+  before_in,
+  box_of,
+  can_be_asked,
+  has_place,
+  is_said,
+  spot_of,
+};
+
+use crate::contents::{push_attributes, push_entries, push_entry_at, push_items};
+use crate::lines::{push_box, push_place};
+use cam_edits::SheetContent;
+use cam_script::Query;
+use cam_units::{Bounds, Point, Spot};
+use std::alloc::{AllocError, Global};
+
+/// The greatest absolute value of a coordinate that a line can say, in nm.
+const LENGTHS: u64 = 4_000_000_000;
+
+/// The coordinates of a place are under two metres in absolute value, in half nm.
+const PLACES: u64 = 2_000_000_000;
+
+/// Whether a line can say a point.
+fn is_said(point: Point) -> bool
+    ensures { result ≡ is_said point }
+{
+    point.x.unsigned_abs() <= LENGTHS && point.y.unsigned_abs() <= LENGTHS
+}
+
+/// Whether a line can say what is asked.
+pub fn can_be_asked(query: Query) -> bool
+    ensures { result ≡ can_be_asked query }
+{
+    match query {
+        Query::At { at, before: _ } => is_said(at),
+        Query::In { from, to } => is_said(from) && is_said(to),
+        _ => true,
+    }
+}
+
+/// Whether a layer has the place that is asked for.
+pub fn has_place(content: &SheetContent, query: Query) -> bool
+    ensures { result ≡ has_place (content_of content.now) query }
+{
+    match query {
+        Query::Item { k } => k < content.item_count(),
+        Query::Items { from, count: _ } => from <= content.item_count(),
+        Query::ItemBounds { k } => k < content.item_count(),
+        Query::Entry { i } => i < content.entry_count(),
+        _ => true,
+    }
+}
+
+/// The place of a point, in half nm.
+fn spot_of(point: Point) -> Spot
+    requires { is_said point ≡ true }
+    ensures { result ≡ spot_of point }
+{
+    Spot {
+        x: 2 * point.x,
+        y: 2 * point.y,
+    }
+}
+
+/// The least box that holds two points.
+fn box_of(from: Point, to: Point) -> Bounds
+    requires from { is_said from ≡ true }
+    requires to { is_said to ≡ true }
+    ensures { result ≡ box_of from to }
+{
+    let from = spot_of(from);
+    let to = spot_of(to);
+    let corner = Bounds::Closed {
+        low: from,
+        high: from,
+    };
+    corner.joined(Bounds::Closed { low: to, high: to })
+}
+
+/// Whether a spot is a place of the board.
+fn is_place(spot: Spot) -> bool
+    ensures { IsTrue result ↔ IsPlace spot }
+{
+    spot.x.unsigned_abs() < PLACES && spot.y.unsigned_abs() < PLACES
+}
+
+/// The items before which the topmost is looked for.
+fn before_in(content: &SheetContent, before: Option<usize>) -> usize
+    ensures { result ≡ before_in (content_of content.now) before }
+{
+    match before {
+        Some(before) => before,
+        None => content.item_count(),
+    }
+}
+
+/// Writes the place of the topmost item at a place of the board, among those before one.
+fn told_topmost(
+    alloc: Global,
+    content: &SheetContent,
+    at: Spot,
+    before: usize,
+) -> Result<Vec<u8>, AllocError>
+    requires { IsSound (content_of content.now) }
+    ensures { IfOk result (λ text. IsTopmostTold (content_of content.now) at before text.items) }
+{
+    let mut text = Vec::new(alloc);
+    if !is_place(at) {
+        return Ok(text);
+    }
+    if let Some(place) = content.item_at(at, before) {
+        push_place(&mut text, place)?;
+    }
+    Ok(text)
+}
+
+/// Writes the places of the items that a box encloses.
+fn told_enclosed(
+    alloc: Global,
+    content: &SheetContent,
+    outer: Bounds,
+) -> Result<Vec<u8>, AllocError>
+    requires { IsSound (content_of content.now) }
+    ensures { IfOk result (λ text. IsEnclosedTold (content_of content.now) outer text.items) }
+{
+    let mut text = Vec::new(alloc);
+    let mut from = 0;
+    while let Some(place) = content.item_in(outer, from) {
+        push_place(&mut text, place)?;
+        from = place + 1;
+    }
+    Ok(text)
+}
+
+/// Writes the box of an item.
+fn push_item_box(text: &mut Vec<u8>, content: &SheetContent, k: usize) -> Result<(), AllocError>
+    requires { IsSound (content_of content.now) }
+    ensures { OnOk result (text.new.items ≡ text.old.items
+        ++ flat_map box_line (option_to_list (slice_get (sheet_boxes (content_of content.now)) k))) }
+{
+    match content.item_bounds(k) {
+        Some(bounds) => push_box(text, bounds),
+        None => Ok(()),
+    }
+}
+
+/// What is told of a layer, where the question can be asked and the place is there.
+pub fn told(alloc: Global, content: &SheetContent, query: Query) -> Result<Vec<u8>, AllocError>
+    requires sound { IsSound (content_of content.now) }
+    requires asked { can_be_asked query ≡ true }
+    requires place { has_place (content_of content.now) query ≡ true }
+    ensures { IfOk result (λ text. IsTold (content_of content.now) query text.items) }
+{
+    let mut text = Vec::new(alloc);
+    match query {
+        Query::At { at, before } => {
+            return told_topmost(alloc, content, spot_of(at), before_in(content, before));
+        }
+        Query::In { from, to } => return told_enclosed(alloc, content, box_of(from, to)),
+        Query::Item { k } => push_items(&mut text, content, k, 1)?,
+        Query::Items { from, count } => push_items(&mut text, content, from, count)?,
+        Query::Bounds => push_box(&mut text, content.bounds())?,
+        Query::ItemBounds { k } => push_item_box(&mut text, content, k)?,
+        Query::Entry { i } => push_entry_at(&mut text, content, i)?,
+        Query::Entries => push_entries(&mut text, content)?,
+        Query::Attributes => push_attributes(&mut text, content)?,
+    }
+    Ok(text)
+}

@@ -1,0 +1,14 @@
+use Rattle.std.proofs.Common.{◌≡◌, List, arith}
+use Rattle.std.proofs.lemmas.List.{length-map}
+use Rattle.cam_objects.specs.Bounds.{bounds_of}
+use Rattle.cam_objects.specs.Drilling.{drill_item_leaves}
+use Rattle.cam_objects.specs.Leaves.{Leaf}
+use Rattle.cam_objects.proofs.Covering.{at_place}
+use Rattle.cam_objects.proofs.asking.asked.DrillItemBoxesAskedItems.read.Goals as goal
+
+pub returns-clause-value : goal.returns-clause-value
+returns-clause-value c =
+    let layer = c.args.self.now in
+    at_place (drill_item_leaves layer.tools) layer.items.items c.args.place
+    (λ (leaves : List Leaf). c.read.result ≡ bounds_of leaves)
+    (omega (arith, c.requires, length-map {B = List Leaf} layer.items.items (drill_item_leaves layer.tools))) c.read.ensures.value

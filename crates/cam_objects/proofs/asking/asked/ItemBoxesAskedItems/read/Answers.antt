@@ -1,0 +1,13 @@
+use Rattle.std.proofs.Common.{◌≡◌, List, arith}
+use Rattle.std.proofs.lemmas.List.{length-map}
+use Rattle.cam_objects.specs.Bounds.{bounds_of}
+use Rattle.cam_objects.specs.Leaves.{Leaf, item_leaves, meaning_in}
+use Rattle.cam_objects.proofs.Covering.{at_place}
+use Rattle.cam_objects.proofs.asking.asked.ItemBoxesAskedItems.read.Goals as goal
+
+pub returns-clause-value : goal.returns-clause-value
+returns-clause-value c =
+    let layer = c.args.self.now in
+    at_place (item_leaves (meaning_in layer.apertures)) layer.items.items c.args.place
+    (λ (leaves : List Leaf). c.read.result ≡ bounds_of leaves)
+    (omega (arith, c.requires, length-map {B = List Leaf} layer.items.items (item_leaves (meaning_in layer.apertures)))) c.read.ensures.value

@@ -1,6 +1,0 @@
-use Rattle.std.proofs.Common.{◌⊎◌}
-use Rattle.cam_rows.proofs.JoinedLanes.{AreJoinedBelow}
-use Rattle.cam_rows.proofs.lanes.xor_rows.Given as goal
-
-abbrev pub invariant-loop-lane : goal.invariant-loop-lane
-invariant-loop-lane l = AreJoinedBelow (λ P Q. (P × (Q → ⊥)) ⊎ ((P → ⊥) × Q)) l.fn.rows l.other l.rows l.lane

@@ -1,0 +1,95 @@
+//! Macros, by the rows of their primitives.
+
+ghost use Rattle.std.specs.Prelude.{All, map};
+ghost use Rattle.cam_units.specs.Board.{IsOnBoard};
+ghost use Rattle.cam_apertures.specs.Cover.{IsCovered, IsInShape, IsPainted};
+ghost use Rattle.cam_apertures.specs.Primitives.{IsSoundPrim};
+ghost use Rattle.cam_apertures.specs.Soundness.{IsSoundAperture};
+ghost use Rattle.cam_apertures.specs.Turned.{turned_prim, turned_shape};
+ghost use Rattle.cam_apertures.specs.Views.{primitive_of, shape_of};
+ghost use Rattle.cam_objects.specs.Image.{relative};
+ghost use Rattle.cam_tiles.specs.Machinery.Figures.{IsMacro};
+ghost use Rattle.cam_tiles.specs.Machinery.Masks.{Joins, inked};
+
+use crate::masks::join::Join;
+use crate::masks::mask::Mask;
+use crate::plain::shapes::RowShape;
+use cam_apertures::{Aperture, PrimitiveView, Primitives, ShapeView, turned_height, turned_width};
+use cam_shapes::{Bar, Disc, Rectangle};
+use cam_units::{Point, Turn};
+
+impl Mask {
+    /// Joins the marks with what the aperture of a macro covers, mirrored and turned, at a point.
+    pub(crate) fn stamp(
+        &mut self,
+        aperture: &Aperture,
+        turn: Turn,
+        at: Point,
+        how: Join,
+        quick: bool,
+    )
+        requires aperture { IsSoundAperture aperture.now }
+        requires composed { IsMacro aperture.now }
+        requires at { IsOnBoard at }
+        ensures { Joins how (λ s. IsCovered aperture.now turn (relative at s)) self.old self.new }
+    {
+        if let Aperture::Prims(prims) = aperture {
+            self.primitives(prims, turn, at, how, quick);
+        }
+    }
+
+    /// Joins the marks with what primitives paint, once they are turned: they are composed in a mask of their own, where
+    /// a later one takes back what it clears.
+    fn primitives(&mut self, prims: &Primitives, turn: Turn, at: Point, how: Join, quick: bool)
+        requires prims { All IsSoundPrim prims.now }
+        requires at { IsOnBoard at }
+        ensures { Joins how (λ s. IsPainted (map (turned_prim turn) prims.now) (relative at s)) self.old self.new }
+    {
+        let mut own = Mask::blank(self.grid());
+        for place in 0..prims.len() {
+            let primitive = prims.at(place);
+            own.primitive(primitive, turn, at, quick);
+        }
+        self.merge(&own, how);
+    }
+
+    /// Adds what a primitive paints, or clears what it takes back.
+    fn primitive(&mut self, primitive: PrimitiveView<'_>, turn: Turn, at: Point, quick: bool)
+        requires primitive { IsSoundPrim (primitive_of primitive) }
+        requires at { IsOnBoard at }
+        ensures { Joins (inked primitive.entry.paint)
+            (λ s. IsInShape (turned_shape turn (shape_of primitive.entry.shape)) (relative at s)) self.old self.new }
+    {
+        let how = Join::inked(primitive.paint);
+        match primitive.shape {
+            ShapeView::Disc { centre, diameter } => {
+                let disc = Disc {
+                    centre: turn.apply(centre),
+                    diameter,
+                };
+                self.join_shape(&RowShape::Disc(disc), at, how, quick);
+            }
+            ShapeView::Bar { from, to, width } => {
+                let bar = Bar {
+                    from: turn.apply(from),
+                    to: turn.apply(to),
+                    width,
+                };
+                self.join_shape(&RowShape::Bar(bar), at, how, quick);
+            }
+            ShapeView::Rect {
+                centre,
+                width,
+                height,
+            } => {
+                let rectangle = Rectangle {
+                    centre: turn.apply(centre),
+                    width: turned_width(turn, width, height),
+                    height: turned_height(turn, width, height),
+                };
+                self.join_shape(&RowShape::Rectangle(rectangle), at, how, quick);
+            }
+            ShapeView::Outline { points } => self.fill_outline(points, turn, at, how),
+        }
+    }
+}

@@ -1,0 +1,41 @@
+// Puts the page together: one file with the module, the worker and the page's own code in it, under a policy that allows
+// these by their sums, and nothing else: no network, no other code, no form.
+
+import { createHash } from "node:crypto";
+import { gzipSync } from "node:zlib";
+import { readFileSync, writeFileSync } from "node:fs";
+import { dirname, join } from "node:path";
+import { fileURLToPath } from "node:url";
+import { inlined } from "./inline.js";
+import { refusalsOf } from "./refusals.js";
+
+const web = dirname(dirname(fileURLToPath(import.meta.url)));
+const read = (path) => readFileSync(join(web, path), "utf8");
+
+const sum = (text) => `'sha256-${createHash("sha256").update(text).digest("base64")}'`;
+
+// A text in an element of the page ends where the first end of that element stands in it.
+function within(text, element) {
+  if (new RegExp(`</${element}|<!--`, "i").test(text)) throw new Error(`a text holds the end of its ${element}`);
+  return text;
+}
+
+const json = (value) => JSON.stringify(value).replace(/</g, "\\u003c");
+
+export function pageOf(module) {
+  const style = within(read("page/style.css"), "style");
+  const script = within(inlined(join(web, "page/main.js")), "script");
+  const worker = within(inlined(join(web, "worker/main.js")), "script");
+  const policy = ["default-src 'none'", `script-src ${sum(script)} 'wasm-unsafe-eval'`, `style-src ${sum(style)}`,
+    "worker-src blob:", "base-uri 'none'", "form-action 'none'"].join("; ");
+  const parts = {
+    policy, style, script, worker, module: gzipSync(module, { level: 9 }).toString("base64"),
+    refusals: json(refusalsOf(read("../docs/refusals.md"))), contents: "null",
+  };
+  return read("page/index.html").replace(/\{(\w+)\}/g, (whole, name) => parts[name] ?? whole);
+}
+
+const [module, out] = process.argv.slice(2);
+const page = pageOf(readFileSync(module));
+writeFileSync(out, page);
+console.log(`${out}: ${page.length} bytes`);

@@ -1,0 +1,42 @@
+// docs/refusals.md as data: of each number its name and what to do, for files of drill layers where those differ.
+
+// A text of the page as a sentence: one line, without its marks.
+const plain = (text) => text.replace(/\s+/g, " ").replace(/[`*]/g, "").trim();
+
+// The first sentences of a text, as long as they are of use in a line.
+function opening(text) {
+  const sentences = plain(text).match(/.*?[.:](?= |$)/g) ?? [plain(text)];
+  let told = "";
+  for (const sentence of sentences) {
+    if (told && told.length + sentence.length > 280) break;
+    told += sentence;
+  }
+  return told.trim().replace(/:$/, ".");
+}
+
+const PARAGRAPH = /^\*\*(\d+), ([^*]+?)\.?\*\*((?:,? (?:and )?\*\*\d+, [^*]+\*\*)*)([\s\S]*?)(?=\n\n\*\*\d|\n## |$(?![\s\S]))/gm;
+
+function paragraphs(section, into) {
+  for (const [, number, name, others, text] of section.matchAll(PARAGRAPH)) {
+    const heads = [[number, name], ...[...others.matchAll(/\*\*(\d+), ([^*]+?)\.?\*\*/g)].map((found) => found.slice(1))];
+    for (const [each, its] of heads) into[each] ??= { name: plain(its), text: opening(text.replace(/^:/, "")) };
+  }
+}
+
+export function refusalsOf(page) {
+  const section = (title) => {
+    const at = page.indexOf(`\n## ${title}\n`);
+    if (at < 0) throw new Error(`docs/refusals.md has no section "${title}"`);
+    const end = page.indexOf("\n## ", at + 4);
+    return page.slice(at, end < 0 ? undefined : end);
+  };
+  const general = {}, drill = {};
+  for (const [, number, name, meaning, advice] of section("Lines of a script").matchAll(
+    /^\| (\d+) \| ([^|]+) \| ([^|]+) \| ([^|]+) \|$/gm)) {
+    general[number] = { name: plain(name), text: `${plain(meaning)}: ${plain(advice)}.` };
+  }
+  paragraphs(section("Gerber files"), general);
+  paragraphs(section("Drill files"), drill);
+  for (const number of Object.keys(drill)) general[number] ??= drill[number];
+  return { general, drill };
+}

@@ -1,0 +1,82 @@
+// What the page knows of the document: asked anew whenever a line was accepted.
+
+import { boxOf, entriesFrom, joined } from "./items.js";
+import { changed, layerOf, state } from "./state.js";
+import { question, sendLine } from "./station.js";
+
+// Layers that the page did not open itself, by a typed line: they have no label and no colour yet.
+const plain = (name, kind) => ({ name, kind, label: name, colour: "#9fb06a", opacity: 0.85, isShown: true, height: 99 });
+let described = plain;
+export const describeBy = (make) => { described = make ?? plain; };
+
+// A load was accepted.
+export function loaded(line) {
+  const [, name, kind] = line.trim().split(/\s+/);
+  if (!layerOf(name)) state.layers.push({ items: 0, entries: 0, ...described(name, kind) });
+  state.layers.sort((one, other) => one.height - other.height);
+}
+
+// The numbers of the replies to `list`.
+async function listed(line) {
+  const { code, reply } = await sendLine(line, null, true);
+  return code ? null : reply.split(" ").slice(1).map(Number);
+}
+
+// Asks how many items each layer has, and what the picked ones are now; those that are not there any more are let go.
+export async function refresh() {
+  for (const layer of state.layers) {
+    const [items, entries] = await listed(`list ${layer.name}`) ?? [0, 0];
+    Object.assign(layer, { items, entries });
+  }
+  state.active ??= (layerOf("top") ?? state.layers[state.layers.length - 1])?.name ?? null;
+  state.picked = await itemsAt(state.picked.map(({ name, place }) => ({ name, place })));
+  await changed("layers");
+  await changed("picked");
+}
+
+// The words and the box of each of these places; those that are not there are left out.
+export async function itemsAt(places) {
+  const found = [];
+  for (const { name, place } of places) {
+    if (place >= (layerOf(name)?.items ?? 0)) continue;
+    const lines = await question(`item ${name} ${place}`);
+    if (!lines) continue;
+    const [box] = await question(`box ${name} ${place}`) ?? [];
+    found.push({ name, place, words: lines[0] ?? "", box: boxOf(box) });
+  }
+  return found;
+}
+
+// The box around the layers of these names, or of the outline alone where one has items.
+export async function boxOfAll(layers) {
+  const outline = layers.find((layer) => layer.name.startsWith("outline") && layer.items > 0);
+  const boxes = [];
+  for (const layer of outline ? [outline] : layers) {
+    const [box] = await question(`box ${layer.name}`) ?? [];
+    boxes.push(boxOf(box));
+  }
+  return joined(boxes);
+}
+
+// The entries of a layer: number and definition. They are asked for again when a line may have changed them.
+const entriesOf = new Map();
+const lists = new Map();
+const CHANGING = new Set(["diameter", "undo", "redo", "abort", "load"]);
+
+export function entriesMayChange(line) {
+  if (CHANGING.has(/\S+/.exec(line)?.[0])) lists.clear();
+}
+
+export async function entries(name) {
+  if (!lists.has(name)) lists.set(name, await askedEntries(name));
+  return lists.get(name);
+}
+
+async function askedEntries(name) {
+  const found = entriesFrom(await question(`entries ${name}`) ?? []);
+  entriesOf.set(name, new Map(found.map((entry) => [entry.number, entry])));
+  return found;
+}
+
+// How wide an aperture or a tool strokes, in nm, as far as the page knows.
+export const widthOf = (name, number) => entriesOf.get(name)?.get(number)?.width ?? 0;

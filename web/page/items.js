@@ -1,0 +1,144 @@
+// The words of an item, as a script has them, taken apart: for its outline, its copies and its fields.
+
+const isTurn = (word) => /^[rm](0|90|180|270)$/.test(word);
+
+// { kind, number, points, polarity, turn, direction, segments }; null where the words are none. `points` are its control
+// points in nm.
+export function itemOf(text) {
+  const words = text.trim().split(/\s+/);
+  const [kind] = words;
+  const numbers = (from, count) => words.slice(from, from + count).map(Number);
+  const pairs = (list) => list.reduce((points, value, at) => {
+    if (at % 2) points[points.length - 1].push(value);
+    else points.push([value]);
+    return points;
+  }, []);
+  switch (kind) {
+    case "flash":
+      return { kind, number: Number(words[1]), points: [numbers(2, 2)], turn: words[4], polarity: words[5] };
+    case "draw":
+      return { kind, number: Number(words[1]), points: pairs(numbers(2, 4)), turn: words[6], polarity: words[7] };
+    case "arc":
+      return { kind, number: Number(words[1]), points: pairs(numbers(2, 6)), direction: words[8], polarity: words[9] };
+    case "hit":
+      return { kind, number: Number(words[1]), points: [numbers(2, 2)] };
+    case "rout":
+      return { kind, number: Number(words[1]), points: pairs(words.slice(2).map(Number)) };
+    case "region":
+      return regionOf(words);
+    default:
+      return null;
+  }
+}
+
+function regionOf(words) {
+  const segments = [];
+  let at = 4;
+  while (at < words.length) {
+    const kind = words[at];
+    const count = kind === "l" ? 2 : 4;
+    const numbers = words.slice(at + 1, at + 1 + count).map(Number);
+    segments.push({ kind, to: numbers.slice(0, 2), centre: kind === "l" ? null : numbers.slice(2) });
+    at += 1 + count;
+  }
+  return { kind: "region", number: null, polarity: words[1], points: [[Number(words[2]), Number(words[3])]], segments };
+}
+
+// The words of the same item somewhere else: all that are lengths are shifted.
+export function shifted(text, dx, dy) {
+  const words = text.trim().split(/\s+/);
+  const last = { flash: 4, hit: 4, draw: 6, arc: 8 }[words[0]] ?? words.length;
+  const first = words[0] === "region" ? 2 : 2;
+  let isX = true;
+  return words.map((word, at) => {
+    if (at < first || at >= last || isTurn(word) || !/^[-+]?\d+$/.test(word)) return word;
+    const moved = Number(word) + (isX ? dx : dy);
+    isX = !isX;
+    return String(moved);
+  }).join(" ");
+}
+
+// The path of an item in nm, with what is stroked; `widthOf(number)` is the width of an aperture or a tool.
+export function outlineOf(item, box, widthOf) {
+  const path = new Path2D();
+  if (item?.kind === "draw" || item?.kind === "rout") {
+    item.points.forEach(([x, y], at) => at ? path.lineTo(x, y) : path.moveTo(x, y));
+    return { path, width: widthOf(item.number) };
+  }
+  if (item?.kind === "arc") {
+    const [start, end, centre] = item.points;
+    path.moveTo(...start);
+    addArc(path, start, end, centre, item.direction === "cw");
+    return { path, width: widthOf(item.number) };
+  }
+  if (item?.kind === "region") {
+    let from = item.points[0];
+    path.moveTo(...from);
+    for (const { kind, to, centre } of item.segments) {
+      if (centre) addArc(path, from, to, centre, kind === "cw");
+      else path.lineTo(...to);
+      from = to;
+    }
+    path.closePath();
+    return { path, width: 0 };
+  }
+  if (item?.kind === "hit") {
+    path.arc(...item.points[0], Math.max(1, widthOf(item.number) / 2), 0, 2 * Math.PI);
+    return { path, width: 0 };
+  }
+  if (box) path.rect(box.left, box.low, box.right - box.left, box.high - box.low);
+  return { path, width: 0 };
+}
+
+function addArc(path, [sx, sy], [ex, ey], [cx, cy], isClockwise) {
+  const radius = Math.hypot(sx - cx, sy - cy);
+  const start = Math.atan2(sy - cy, sx - cx);
+  let end = Math.atan2(ey - cy, ex - cx);
+  if (sx === ex && sy === ey) end = start + (isClockwise ? -2 : 2) * Math.PI;
+  // Angles of the canvas grow the other way round where y goes up, as it does here by the view's transform.
+  path.arc(cx, cy, radius, start, end, isClockwise);
+}
+
+export const boxOf = (line) => {
+  if (!line) return null;
+  const [left, low, right, high] = line.split(" ").map(Number);
+  return { left, low, right, high };
+};
+
+export function joined(boxes) {
+  const found = boxes.filter((box) => box);
+  if (!found.length) return null;
+  return {
+    left: Math.min(...found.map((box) => box.left)), low: Math.min(...found.map((box) => box.low)),
+    right: Math.max(...found.map((box) => box.right)), high: Math.max(...found.map((box) => box.high)),
+  };
+}
+
+// The apertures, blocks or tools that an answer to `entries` tells: each has a line of its kind and number, and its
+// definition below. { number, words, width }, with the width in nm that it strokes, 0 where that is not known.
+export function entriesFrom(lines) {
+  const found = [];
+  for (const line of lines) {
+    const head = /^(aperture|block|tool) (\d+)/.exec(line);
+    if (head) found.push({ number: Number(head[2]), words: head[1] === "block" ? "block" : "", width: 0 });
+    else if (found.length) describe(found[found.length - 1], line);
+  }
+  return found;
+}
+
+const NAMES = { C: "circle", R: "rectangle", O: "obround" };
+
+function describe(entry, line) {
+  const template = /^%ADD\d+([CRO]),([\d.]+)(?:X([\d.]+))?(?:X[\d.]+)?\*%$/.exec(line), tool = /^T\d+C([\d.]+)$/.exec(line);
+  const short = (length) => String(Number(length));
+  if (template) {
+    const [, name, width, height] = template;
+    entry.words = `${NAMES[name]} ${short(width)}${name === "C" ? "" : ` by ${short(height)}`} mm`;
+    entry.width = Math.round(Number(width) * 1e6);
+  } else if (tool) {
+    entry.words = `${short(tool[1])} mm`;
+    entry.width = Math.round(Number(tool[1]) * 1e6);
+  } else if (line.startsWith("%ADD")) {
+    entry.words = "a shape of primitives";
+  }
+}

@@ -1,0 +1,56 @@
+// The worker with the station, as promises. What fails there is thrown here.
+
+let worker = null;
+let number = 0;
+const waiting = new Map();
+let listener = () => {};
+
+function failAll(why) {
+  for (const { fail } of waiting.values()) fail(new Error(why));
+  waiting.clear();
+}
+
+// Starts a worker of this source; pictures and other news go to `heard`.
+export function startWorker(source, heard) {
+  listener = heard;
+  const url = URL.createObjectURL(new Blob([source], { type: "text/javascript" }));
+  worker = new Worker(url);
+  worker.onmessage = ({ data }) => {
+    if (data.id === undefined) return listener(data);
+    const { done, fail } = waiting.get(data.id);
+    waiting.delete(data.id);
+    if (data.fault !== undefined) fail(new Error(data.fault));
+    else done(data.answer);
+  };
+  worker.onerror = (event) => {
+    failAll(event.message || "the station stopped");
+    listener({ kind: "stopped", why: event.message });
+  };
+}
+
+export function send(kind, message = {}, over = []) {
+  const id = ++number;
+  return new Promise((done, fail) => {
+    waiting.set(id, { done, fail });
+    worker.postMessage({ id, kind, ...message }, over);
+  });
+}
+
+export const openStation = (module, depth) => send("open", { module, depth });
+
+// One line of a script: { code, reply, bytes }. The bytes of a load stay the page's: they go over as a copy.
+export const sendLine = (line, file = null, isSilent = false) => send("line", { line, file, isSilent });
+
+export const showView = (view) => send("view", { view });
+
+export const compareWith = (steps, colours) => send("compare", { steps, colours });
+
+// The lines of an answer; null where the question was refused.
+export async function question(words) {
+  const { code, answer } = await send("ask", { question: words });
+  return code ? null : answer.split("\n").filter((line) => line);
+}
+
+export async function numbersOf(words) {
+  return ((await question(words)) ?? []).map(Number);
+}
