@@ -18,7 +18,6 @@ use Rattle.cam_objects.specs.declared.layer.Layer.{Layer}
 use Rattle.cam_objects.specs.declared.item.Item.TheVariants.{One, Repeat}
 use Rattle.cam_objects.specs.declared.object.Object.{Object}
 use Rattle.cam_objects.specs.declared.object.Object.TheVariants.{Flash, Draw, Arc, Region}
-use Rattle.cam_edits.specs.declared.edit.Change.TheVariants as changes
 use Rattle.cam_edits.specs.declared.edit.NewItem.{NewItem}
 use Rattle.cam_edits.specs.declared.edit.NewItem.TheVariants as new_items
 use Rattle.cam_script.specs.declared.command.Command.TheVariants as commands
@@ -133,7 +132,7 @@ insertion_text name k words = codes "insert" ++ 32 ∷ (name ++ 32 ∷ (decimal 
 
 -- the insertion of an item at a place of the layer of a name
 abbrev pub insertion : List ℕ → ℕ → NewItem → ScriptLine
-insertion name k item = lines.Command (commands.Edit (record { name = name; change = changes.Insert k item }))
+insertion name k item = lines.Command (commands.Insert name k item)
 
 -- What is read of the words of an item, behind `insert NAME K`, is the insertion of exactly this item; no memory aside.
 abbrev pub WordsReadBack : Type 0
