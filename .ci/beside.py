@@ -1,4 +1,4 @@
-"""A run of `rt ci` that goes on meanwhile: what it has built so far, and the processors that it takes."""
+"""A run of `rt ci` at the same time: what it has built so far, and the processors that it uses."""
 import os
 import re
 
@@ -17,13 +17,13 @@ class Proofs:
             return ""
 
     def has_built(self, crate):
-        """Whether all libraries below the crate are built; where the run has ended, they are, or never will be."""
+        """Whether all libraries below the crate are built; if the run has ended, they are, or never will be."""
         text = self.text()
         proved = set(re.findall(r"(?m)^rt: (\w+) (?:proved|is kept: .*)$", text))
         return all(it.name in proved for it in crate.below()) or bool(re.search(r"(?m)^proofs: ended$", text))
 
     def busy(self):
-        """How many processors the processes below `top` take now, without those below this one."""
+        """How many processors the processes below `top` use now, without those below this one."""
         above, running = {}, []
         for it in os.listdir("/proc"):
             if it.isdigit():

@@ -1,7 +1,7 @@
 #!/usr/bin/env python3
-"""What each crate took at the last gate: the file `costs` beside this one, a line a crate.
+"""What each crate took at the last gate: the file `costs` next to this one, a line a crate.
 
-  .ci/costs.py SEEN     prints it anew, by what `.ci/times watch` saw of a whole run of the gate; what that saw nothing of
+  .ci/costs.py SEEN     prints it again, by what `.ci/times watch` saw of a whole run of the gate; what that did not see
                         stays as it is
 """
 import os
@@ -11,7 +11,7 @@ from dataclasses import dataclass
 
 HERE = os.path.dirname(os.path.realpath(__file__))
 HEAD = """# What each crate took at the last gate, in seconds of one processor: its proof, that with its tests, its edits;
-# and the most memory of one check, in MB. `./check --costs` writes this file anew.
+# and the most memory of one check, in MB. `./check --costs` writes this file.
 """
 
 

@@ -27,7 +27,7 @@ def own_folder(path):
 
 
 class Kept:
-    """`anew`: nothing is taken from it, and what is found is kept all the same."""
+    """`anew`: nothing is taken from it, but what is found is still kept."""
 
     def __init__(self, anew=False):
         places = [os.environ["CAMPLOT_KEPT"]] if os.environ.get("CAMPLOT_KEPT") else PLACES
@@ -35,7 +35,7 @@ class Kept:
         self.sweep()
 
     def told(self, name):
-        """What was said of the edit of this name, None where nothing is known."""
+        """The result of the edit of this name, None if nothing is known."""
         if not self.at or self.anew:
             return None
         try:

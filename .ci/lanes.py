@@ -158,8 +158,8 @@ class Going:
 
 
 class Lanes:
-    """Runs tasks, the longest way first, each command with `most` jobs at most. `busy` tells how many processors others
-    take that are to be left to them, `may_begin` whether a task may."""
+    """Runs tasks, the longest way first, each command with `most` jobs at most. `busy` gives how many processors others
+    use, which are left to them, `may_begin` whether a task may begin."""
 
     def __init__(self, tasks, number=None, nice=0, most=4, busy=lambda: 0, may_begin=lambda task: True):
         self.number = number or int(os.environ.get("RT_JOBS") or 0) or processors()
