@@ -76,5 +76,5 @@ def head_of(lines, at):
 
 
 def opens(lines, at, end, indent):
-    """The place of the line that opens the body of a function: behind it stands code, before it what callers see."""
+    """The place of the line that opens the body of a function: after it comes code, before it what callers see."""
     return next((i for i in range(at, end + 1) if lines[i].endswith("{") and lines[i][: len(indent) + 1].strip()), end)

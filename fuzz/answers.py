@@ -1,10 +1,10 @@
 #!/usr/bin/env python3
-"""Writes mutated scripts with what the program says of them, for others that have to say the same.
+"""Writes mutated scripts with the program's answers to them, for others that must answer the same.
 
     fuzz/answers.py PROGRAM [--scripts N] [--seed N]
 
-A line of standard output for each, as JSON: the script, its depth, the files beside it, the replies, and the files that
-it puts. Bytes are base64.
+A line of standard output for each, as JSON: the script, its depth, the files next to it, the replies, and the files that
+it writes. Bytes are base64.
 """
 
 import argparse
@@ -42,7 +42,7 @@ def answered(program, script, files, depth):
 
 
 def main():
-    told = argparse.ArgumentParser(description="Writes mutated scripts with what the program says of them.")
+    told = argparse.ArgumentParser(description="Writes mutated scripts with the program's answers to them.")
     told.add_argument("program")
     told.add_argument("--scripts", type=int, default=1000)
     told.add_argument("--seed", type=int, default=2)

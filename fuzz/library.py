@@ -1,10 +1,10 @@
 #!/usr/bin/env python3
-"""Runs mutated scripts by the program and by the library: the replies, and all that is put, have to be the same.
+"""Runs mutated scripts by the program and by the library: the replies, and all that is written, must be the same.
 
     fuzz/library.py PROGRAM LIBRARY [--scripts N] [--seed N]
 
 PROGRAM is the built one, LIBRARY the shared library that docs/library.md links. The last line is
-'scripts: N passed, M failed', and the status is 0 where M is 0.
+'scripts: N passed, M failed', and the status is 0 if M is 0.
 """
 
 import argparse

@@ -76,7 +76,7 @@ class Mutation:
         return self.chance.choice(self.files or (b"a.gbr",))
 
     def by_words(self, text):
-        """Words are put in, taken out, given twice, or change places."""
+        """Inserts words, removes them, repeats them, or exchanges them."""
         row = self.cut(text)
         at = self.place(row)
         deed = self.chance.randrange(6)
@@ -111,7 +111,7 @@ class Mutation:
         return text[: it.start()] + new + text[it.end() :]
 
     def by_bytes(self, text):
-        """A byte is put in, taken out or changed."""
+        """Inserts, removes or changes a byte."""
         at = self.place(text)
         byte = bytes((self.chance.choice((*ODD_BYTES, self.chance.randrange(256))),))
         deed = self.chance.randrange(3)

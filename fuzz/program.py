@@ -42,7 +42,7 @@ class Wrong(Exception):
 
 
 def wanting(script):
-    """The lines of a script that want a reply, each as its words."""
+    """The lines of a script that have a reply, each as its words."""
     lines = script.split(b"\n")
     ended = [line[:-1] if line.endswith(b"\r") else line for line in lines[:-1]]
     found = []
@@ -84,7 +84,7 @@ class Program:
         self.largest = 0
 
     def lay(self, files):
-        """Puts the files, and no others, into the folder."""
+        """Writes the files, and no others, into the folder."""
         shutil.rmtree(self.room, ignore_errors=True)
         os.makedirs(self.room)
         for name, held in files.items():

@@ -20,7 +20,7 @@ def is_large(line):
 
 
 def mutated(chance, maker, seed):
-    """A mutated script with small windows, the files beside it, and a depth; nothing where it names a folder."""
+    """A mutated script with small windows, the files next to it, and a depth; nothing if it names a folder."""
     text, files = seed
     maker.names = re.findall(rb"^load (\S+)", text, re.MULTILINE)
     maker.files = [name.encode() for name in files]
@@ -64,7 +64,7 @@ class Counts:
             raise Wrong(f"the reply {reply!r} to {words!r}, and not {wanted!r}")
 
     def reply_to(self, head):
-        """What the machine says to a line of this word alone."""
+        """The machine's reply to a line of only this word."""
         if head in (b"end", b"abort"):
             return b"refused 73" if self.group is None else b"ok"
         if self.group is not None:

@@ -20,7 +20,7 @@ def dictionary():
 
 
 class Seeds:
-    """Gerber files, drill files, and scripts with the files that lie beside each."""
+    """Gerber files, drill files, and scripts with the files that lie next to each."""
 
     def __init__(self):
         gerber, drill, self.scripts = set(), set(), []
