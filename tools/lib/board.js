@@ -23,12 +23,12 @@ const COMMAND = {
   tools/board FOLDER                   the layers among the files of a folder, plotted into FOLDER/board
   tools/board top.gbr holes.drl        these files, whatever their names are, plotted into \`board\` next to the first
   tools/board FOLDER --dpi 2540        with pixels of 10 µm; 1000 an inch, of 25.4 µm, by default
-  tools/board FOLDER --edits FILE      then runs the lines of FILE, edits and further plots, which come onto the page
+  tools/board FOLDER --edits FILE      then runs the lines of FILE, edits and further plots, which the page shows too
 
-What a file shows is told by its attribute %TF.FileFunction%, else by the names that KiCad, Altium, EAGLE, Fritzing
-and pcb-rnd give. One window lies around the outline, or around all layers where there is none that loads.
+It recognises what a file shows by its attribute %TF.FileFunction%, else by the names that KiCad, Altium, EAGLE, Fritzing
+and pcb-rnd give. One window lies around the outline, or around all layers if no outline loads.
 
-It leaves in the folder of --out:
+It writes into the folder of --out:
   index.html   the page: open it in a browser; it needs no server and no network
   NAME.pbm     a picture for each layer
   script       what camplot ran there, with plain names; run it again by \`camplot script\` in that folder
@@ -36,15 +36,15 @@ It leaves in the folder of --out:
   files/       the layers' files under plain names
   texts/       the layers' canonical texts, for tools/items
 
-It prints for each layer what came of it. Where that folder holds anything that it did not write itself, or that was
-changed since, it stops, but for --replace. The exit status is 0; 1 where a layer or a line was refused; 2 where
-nothing could be done.`,
+It prints the result of each layer. If that folder has anything that it did not write itself, or that was changed since,
+it stops, unless --replace is given. The exit status is 0; 1 if a layer or a line was refused; 2 if nothing could be
+done.`,
   operand: { name: "FOLDER|FILE", isMany: true },
   options: [
     { name: "--dpi", value: "N", isWhole: true, otherwise: 1000, help: "pixels an inch (1000)" },
-    { name: "--out", value: "DIR", help: "the folder for what it leaves" },
+    { name: "--out", value: "DIR", help: "the folder for its files" },
     { name: "--edits", value: "FILE", help: "lines of a script that run after the plots" },
-    { name: "--replace", help: "replace what stands in the folder under the same names" },
+    { name: "--replace", help: "replace files of the same names in the folder" },
     { name: "--camplot", value: "PROGRAM", otherwise: PROGRAM, help: `the program (${PROGRAM})` },
   ],
 };
@@ -77,7 +77,7 @@ function filesOf(folder) {
 
 // The files to look at, whether they were named one by one, and the folder where the pictures go.
 function inputs(paths) {
-  for (const path of paths) if (!existsSync(path)) throw new Failure(`${path} is not there`);
+  for (const path of paths) if (!existsSync(path)) throw new Failure(`${path} does not exist`);
   const isFolder = (path) => statSync(path).isDirectory();
   if (paths.length === 1 && isFolder(paths[0])) {
     return { files: filesOf(paths[0]), areNamed: false, folder: join(paths[0], "board") };
@@ -105,9 +105,9 @@ function tellLayers(board) {
     say(`${layer.name.padEnd(width)}  ${layer.layerFunction.label}, by ${layer.toldBy}: ${layer.file.name}`);
     say(`${blank}  ${board.outcome(layer)}`);
     const mender = menderOf(board, layer);
-    if (mender) say(`${blank}  it may load once it went through ${mender}`);
+    if (mender) say(`${blank}  it may load after ${mender}`);
   }
-  if (board.isAnyRefused()) say("docs/refusals.md says of each refusal what to do, in the CAD program too");
+  if (board.isAnyRefused()) say("docs/refusals.md explains what to do about each refusal, in the CAD program too");
 }
 
 function tellLines(board) {
@@ -142,8 +142,8 @@ function run(options) {
   if (options.dpi < 1 || options.dpi > MOST_DPI) throw new Call(`--dpi is from 1 to ${MOST_DPI}`);
   const { files, areNamed, folder } = inputs(options.operands);
   const { layers, others } = recogniseFiles(files, areNamed);
-  for (const { name } of others) say(`left out, as it looks like no layer: ${name}`);
-  if (!layers.length) throw new Failure(`no layer is seen among ${files.length} files of ${options.operands[0]}`);
+  for (const { name } of others) say(`left out, since it is not recognised as a layer: ${name}`);
+  if (!layers.length) throw new Failure(`no layer is recognised among ${files.length} files of ${options.operands[0]}`);
   const edits = options.edits === null ? [] : scriptLines(latin1(readFileSync(options.edits)));
   checkProgram(options.camplot);
   const room = new Room(options.out ?? folder, options.replace);

@@ -21,16 +21,16 @@ const COMMAND = {
   about: `Numbers the items of a layer as a script counts them, from 0: the place K that \`delete\`, \`move\` and others take.
 
   tools/items FILE                     all items of a text that camplot's \`write\` gave, Gerber or XNC
-  tools/items FILE --at X Y            those alone whose box holds this point, in nm
-  tools/items FILE --only flash        those alone of one kind: flash, draw, arc, region, repeat, hit, rout
+  tools/items FILE --at X Y            only those whose box holds this point, in nm
+  tools/items FILE --only flash        only those of one kind: flash, draw, arc, region, repeat, hit, rout
   tools/items FILE --apertures         the apertures and blocks, or the tools, in place of the items
 
-Each line has the place K, the item in the words that \`insert\` takes, and what is to be known of its size. All
-lengths are in nm. Of a repeat, which no \`insert\` takes, the objects stand below it; they have no place of their own.
-A region or a slot of many points is cut short, but for --whole. Definitions are no items.
+Each line has the place K, the item in the words that \`insert\` takes, and its size. All lengths are in nm. The objects
+of a repeat, which no \`insert\` takes, stand below it; they have no place of their own. A region or a slot of many points
+is cut short, unless --whole is given. Definitions are no items.
 
-FILE may be any other Gerber or drill file too: it is then loaded and written by camplot first.
-The exit status is 0, or 2 where the file cannot be read.`,
+FILE may be any other Gerber or drill file too: camplot then loads and writes it first.
+The exit status is 0, or 2 if the file cannot be read.`,
   operand: { name: "FILE" },
   options: [
     { name: "--at", value: ["X", "Y"], isWhole: true, help: "items whose box holds this point in nm" },

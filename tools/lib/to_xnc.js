@@ -10,16 +10,16 @@ const COMMAND = {
   about: `Writes an Excellon drill file as XNC that \`camplot\` loads: coordinates with a point, slots as routs.
 
 The place of a coordinate without a point, as X0145300, depends on three other things: the unit, how many digits stand
-before and behind the point, and which zeros are left out. Each is taken from the first of these that tells it: an
+before and after the point, and which zeros are left out. Each is taken from the first of these that gives it: an
 option; the file, by METRIC, INCH, M71, M72, LZ, TZ, a form such as 000.000, or the comments that KiCad, Altium and
-Allegro write; a report (--report). The digits, where nothing tells them, are assumed to be 2:4 in inches and 3:3 in
-mm; the zeros are worked out where the coordinates leave one choice. The unit is never assumed. The tool prints what it
-took from where, and each thing that it left out or changed. Compare the size that it prints with the board's.
+Allegro write; a report (--report). If nothing gives the digits, they are assumed to be 2:4 in inches and 3:3 in mm; the
+zeros are worked out if the coordinates leave one choice. The unit is never assumed. The tool prints what it took from
+where, and each thing that it left out or changed. Compare the size that it prints with the board's.
 
 Every value is written exactly. What cannot be is refused with its line, and then nothing is written: arcs, repeats,
 patterns, incremental coordinates, mirrors, tools without a diameter. A file of M30 alone becomes a file without holes.
 
-  tools/to_xnc holes.drl                                  holes.xnc, by what the file tells
+  tools/to_xnc holes.drl                                  holes.xnc, by what the file declares
   tools/to_xnc holes.drd --report holes.dri               the form by EAGLE's report, or Allegro's nc_param.txt
   tools/to_xnc holes.tap -o out/holes.xnc --unit inch --digits 2:4 --zeros trailing
   tools/to_xnc holes.txt --unit mm --tool 1=0.8 --tool 2=40mil
@@ -27,15 +27,15 @@ patterns, incremental coordinates, mirrors, tools without a diameter. A file of 
 Exit status 0: written; 1: refused, and nothing was written; 2: the words of the call or a file cannot be used.`,
   operand: { name: "FILE", help: "the Excellon drill file" },
   options: [
-    { name: "-o", value: "OUT", help: "the file to be written; else FILE with the ending .xnc" },
+    { name: "-o", value: "OUT", help: "the file to write; by default FILE with the ending .xnc" },
     { name: "--unit", value: "UNIT", choices: ["mm", "inch"], help: "mm or inch" },
-    { name: "--digits", value: "I:D", help: "how many digits stand before the point and behind it" },
+    { name: "--digits", value: "I:D", help: "how many digits stand before and after the point" },
     { name: "--zeros", value: "ZEROS", choices: ["leading", "trailing"],
       help: "the zeros that are written (LZ, TZ), and not those that are left out" },
-    { name: "--report", value: "REPORT", help: "the report that the CAD program wrote beside the file" },
+    { name: "--report", value: "REPORT", help: "the report that the CAD program wrote with the file" },
     { name: "--tool", value: "N=SIZE", isList: true,
-      help: "a tool's diameter, in the file's unit or with mm, inch or mil behind it" },
-    { name: "--force", help: "write over a file that is there" },
+      help: "a tool's diameter, in the file's unit or with mm, inch or mil after it" },
+    { name: "--force", help: "replace an existing file" },
   ],
 };
 

@@ -71,7 +71,7 @@ suite("plotted", () => {
     includes(told, "At line 3, column 1 (byte 24): %ADD10P,1X6*%");
     includes(told, "refused 45, no point: A coordinate without a decimal point");
     includes(told, "At line 6, column 1 (byte 24): X0100Y0200");
-    includes(told, "it may load once it went through tools/to_xnc");
+    includes(told, "it may load after tools/to_xnc");
     includes(told, "refused 26, no end: The file ends without `M02*`. At line 1, column 1 (byte 0), the end of the file");
     assert.deepEqual(pictures(join(folder, "board")), ["top"]);
   });

@@ -137,7 +137,7 @@ suite("texts", () => {
     const body = "%ADD10C,0.05*%\nD10*\nX0Y0D03*\nM02*\n";
     assert.equal(made(`%FSLAX24Y24*%\n${body}`, "--unit", "mm"), `%FSLAX24Y24*%\n%MOMM*%\n${body}`);
     const { status, stderr } = runOn(newRoom(), `%FSLAX24Y24*%\n%MOIN*%\n${body}`, ["--unit", "mm"]);
-    assert.deepEqual([status, stderr], [2, "to_gerber: --unit mm: the file says inch on line 2\n"]);
+    assert.deepEqual([status, stderr], [2, "to_gerber: --unit mm: the file has inch on line 2\n"]);
   });
 
   test("arcs of a file that does not tell their quadrants", () => {
@@ -163,7 +163,7 @@ suite("texts", () => {
 line 1: %FSLAN2X24Y24*% is written as %FSLAX24Y24*%: it means the same
 line 2: %ICAS*% is left out: it changes no image
 line 4: line numbers (N) are left out
-line 4: G54 is left out: the choice of an aperture says the same
+line 4: G54 is left out: the choice of an aperture means the same
 line 4: several codes in one word are split
 line 5: D03 is written again, where it was left out
 line 6: M00 is written as M02

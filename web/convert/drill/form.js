@@ -31,7 +31,7 @@ function settled(kind, chosen, told, option) {
   const found = definite.length ? definite : told;
   const other = found.find(({ value }) => !isSame(value, found[0].value));
   if (other) {
-    throw new Unsaid(`the ${kind} is told in two ways, ${toldText(found[0])} and ${toldText(other)}: choose one by ${option}`);
+    throw new Unsaid(`the ${kind} is given in two ways, ${toldText(found[0])} and ${toldText(other)}: choose one by ${option}`);
   }
   return found[0] ?? null;
 }
@@ -106,7 +106,7 @@ function zerosThatFit(numbers, digits) {
   const source = (odd, what) => `worked out: ${odd.digits} on line ${odd.line} has a ${what} zero`;
   if (noLeading && !noTrailing) return { value: TRAILING, source: source(noLeading, "trailing") };
   if (noTrailing && !noLeading) return { value: LEADING, source: source(noTrailing, "leading") };
-  throw new Unsaid("which zeros are left out is not told, and the coordinates do not show it: give --zeros leading or "
+  throw new Unsaid("which zeros are left out is not given, and the coordinates do not show it: give --zeros leading or "
     + "--zeros trailing, for those that are written");
 }
 
@@ -125,7 +125,7 @@ export class Form {
    * @param {{unit?: string | null, digits?: import("./lengths.js").Digits | null, zeros?: string | null}} options
    * @param {import("./hints.js").Hints} hints
    * @param {import("./lines.js").Lines} lines
-   * @throws {Unsaid} where the unit or the zeros are not told, or something is told in two ways
+   * @throws {Unsaid} where the unit or the zeros are not told, or something is given in two ways
    */
   constructor(options, hints, lines) {
     this.lines = lines;
@@ -142,7 +142,7 @@ export class Form {
 
   unitOfNothing() {
     if (this.numbers.length || LENGTH.test(this.lines.text)) {
-      throw new Unsaid("the unit is not told: give --unit mm or --unit inch");
+      throw new Unsaid("the unit is not given: give --unit mm or --unit inch");
     }
     return { value: MM, source: "the file has no length" };
   }

@@ -74,7 +74,7 @@ export function unitHints(code, line) {
     const digits = HEADER_DIGITS.exec(word);
     if (Object.hasOwn(HEADER_ZEROS, word)) hints.zeros.push({ value: HEADER_ZEROS[word], source });
     else if (digits) hints.addDigits(digits[1].length, digits[2].length, source);
-    else throw new Unsaid(`${code}: what ${word || "nothing"} behind a comma means is not known`);
+    else throw new Unsaid(`${code}: what ${word || "nothing"} after a comma means is not known`);
   }
   return hints;
 }

@@ -114,7 +114,7 @@ export class Machine {
     } else if (this.isLowered && this.hasCut && half < 0) {
       this.cutTo(codes);
     } else {
-      throw new Unsaid("a coordinate or a slot that the mode of routing does not say: G05, G00 or G01 is missing");
+      throw new Unsaid("a coordinate or a slot that the mode of routing does not cover: G05, G00 or G01 is missing");
     }
   }
 

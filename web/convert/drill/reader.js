@@ -77,7 +77,7 @@ export class Reader {
 
   checkBehindEnd(code) {
     if (LENGTH.test(code)) {
-      throw new Unsaid(`${code.slice(0, 40)} stands behind the end on line ${this.ended}: cut the file there, or take `
+      throw new Unsaid(`${code.slice(0, 40)} stands after the end on line ${this.ended}: cut the file there, or take `
         + "the end out");
     }
   }
@@ -85,7 +85,7 @@ export class Reader {
   keepComment(comment) {
     if (tellsForm(comment)) this.change("the comment on digits and zeros is left out");
     else if (this.isInHeader || !(this.hasHeader || this.drilling.itemTools.length)) this.header.push(`;${comment}`);
-    else this.change("the comment behind the header is left out");
+    else this.change("the comment after the header is left out");
   }
 
   readCode(code) {

@@ -50,7 +50,7 @@ export function offsetsThatFit(start, end, offsets, isClockwise, step) {
   fits.sort((one, other) => one.off - other.off);
   const close = CLOSE_STEPS * step;
   if (fits.length === 0 || fits[0].off > close || (fits.length > 1 && fits[1].off <= 2 * close)) {
-    return "whose centre is not told by its ends";
+    return "whose ends do not determine its centre";
   }
   return fits[0].signed;
 }

@@ -70,7 +70,7 @@ function checkAgain(written, said) {
   const again = rewritten(written, {}, new Changes());
   const [change, refusal] = [again.changes.list[0], again.refusals[0]];
   if (again.output.isChanged || change || refusal || !again.said.equals(said)) {
-    throw new Error(`the text that was made says something else: ${(change ?? refusal)?.what}`);
+    throw new Error(`the text that was made means something else: ${(change ?? refusal)?.what}`);
   }
 }
 
@@ -148,7 +148,7 @@ function withLineEnds(pieces) {
 function missingEnd(bytes, cutter) {
   const at = cutter.start;
   if (at >= bytes.length) {
-    return { line: cutter.line, what: "M02* is missing: the file was cut short; where it is whole, add it" };
+    return { line: cutter.line, what: "M02* is missing: the file was cut short; if it is whole, add it" };
   }
   const word = latin1(bytes.subarray(at, at + 200)).split(/[ \t\r\n]/)[0].slice(0, 30);
   return { line: cutter.line, what: `${word}: a command without its end` };

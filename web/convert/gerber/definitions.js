@@ -110,7 +110,7 @@ function parametersOf(state, packed, parameters) {
   const texts = parameters === undefined ? [] : parameters.split(/[xX]/);
   if (texts.length > 1 && texts[texts.length - 1] === "") {
     texts.pop();
-    state.change(`the last X of %${packed}*%, with no parameter behind it, is left out`);
+    state.change(`the last X of %${packed}*%, with no parameter after it, is left out`);
   }
   return texts;
 }
@@ -127,7 +127,7 @@ function templateOf(state, packed, name) {
   }
   const later = dictionary.laterMacro(name) ?? dictionary.laterMacro(capitals);
   if (later === null) {
-    throw new Unsaid(`%${packed}*%: no macro of this name stands before it, or behind it`);
+    throw new Unsaid(`%${packed}*%: no macro of this name stands before or after it`);
   }
   later.macro.isMoved = true;
   dictionary.macros.set(later.macro.name, later.macro);

@@ -109,7 +109,7 @@ export function formOf(command) {
       "for absolute, and the digits of X and Y");
   }
   if (found[2] === "I") {
-    throw new Unsaid(`%${command}*% says incremental coordinates: choose absolute ones`);
+    throw new Unsaid(`%${command}*% means incremental coordinates: choose absolute ones`);
   }
   const [wholeX, decimalsX, wholeY, decimalsY] = found.slice(3, 7).map(Number);
   if (Math.max(decimalsX, decimalsY) > 6) {

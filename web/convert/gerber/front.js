@@ -34,10 +34,10 @@ export function missingUnit(state) {
   const { options } = state;
   const told = toldUnit(state);
   if (options.unit) {
-    return [written(state, options.unit, "as --unit says")];
+    return [written(state, options.unit, "as --unit gives it")];
   }
   if (told?.unit === "inch") {
-    return [written(state, "inch", `as line ${told.line} says, too late for camplot`)];
+    return [written(state, "inch", `as line ${told.line} gives it, too late for camplot`)];
   }
   state.isUnitMissing = true;
   throw new Unsaid(told === null ? "a length before any unit: give --unit mm or --unit inch"
@@ -75,7 +75,7 @@ export function missingQuadrants(state, word) {
     state.quadrants = state.options.arcs === "single" ? 74 : 0;
     return [];
   }
-  const why = signed === null ? "as --arcs says"
+  const why = signed === null ? "as --arcs gives it"
     : `since ${signed.text.slice(0, 40)}* on line ${signed.line} has a sign`;
   state.quadrants = state.writtenQuadrants = 75;
   state.change(`G75* is written before it, ${why}`);

@@ -41,7 +41,7 @@ export function partOf({ code, fields }) {
     throw new Unsaid(`primitive ${code}, which is none of the standard`);
   }
   if (fields.length !== count && fields.length !== count + 1) {
-    throw new Unsaid(`primitive ${code} with ${fields.length} values behind its code`);
+    throw new Unsaid(`primitive ${code} with ${fields.length} values after its code`);
   }
   const turn = fields[count] ?? ZERO;
   if (code === "6") {

@@ -63,7 +63,7 @@ class Operation {
     const { state } = this;
     if (state.lastCode !== 1 && (state.lastCode === 0 || !state.options.repeat)) {
       const before = state.lastCode === 0 ? "no operation" : `D0${state.lastCode}`;
-      throw new Unsaid(`coordinates without D01, D02 or D03 behind ${before}: ${REPEATED}`);
+      throw new Unsaid(`coordinates without D01, D02 or D03 after ${before}: ${REPEATED}`);
     }
     if (state.lastCode !== 1) {
       state.change(`D0${state.lastCode} is written again, where it was left out`);

@@ -157,7 +157,7 @@ function tell(state, isChosenToo) {
     state.change("line numbers (N) are left out");
   }
   if (word.has54 && isChosenToo) {
-    state.change("G54 is left out: the choice of an aperture says the same");
+    state.change("G54 is left out: the choice of an aperture means the same");
   }
   if (isChosenToo) {
     state.change("several codes in one word are split");

@@ -116,7 +116,7 @@ export class State {
   tellUnit(unit) {
     const { options } = this;
     if (options.unit && unit !== options.unit) {
-      throw new Failure(`--unit ${options.unit}: the file says ${unit} on line ${this.line}`);
+      throw new Failure(`--unit ${options.unit}: the file has ${unit} on line ${this.line}`);
     }
     if (this.unit !== null && unit !== this.unit) {
       throw new Unsaid("another unit than before");

@@ -64,7 +64,7 @@ export function forDraw(state, isArc) {
 
 function checkCurrent(state) {
   if (state.isOutdated) {
-    throw new Unsaid(`aperture ${state.selected} was defined again since it was selected: select it anew where the new ` +
+    throw new Unsaid(`aperture ${state.selected} was defined again since it was selected: select it again where the new ` +
       "one is meant");
   }
 }

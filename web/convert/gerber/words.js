@@ -191,7 +191,7 @@ class Word {
     const hasChoice = codes.some(([letter, text]) => letter === "G" && Number(text) === 54);
     const isWritten = texts.some((text) => text.startsWith("G54"));
     if (hasChoice && !isWritten && !pieces.some((piece) => typeof piece !== "string")) {
-      state.change("G54 is left out: the choice of an aperture says the same");
+      state.change("G54 is left out: the choice of an aperture means the same");
     }
     const sorted = (text) => [...text].sort().join("");
     const isSplit = pieces.filter((piece) => typeof piece !== "string" || !piece.startsWith("%")).length > 1;
