@@ -108,7 +108,7 @@ export function excerpt(bytes, at) {
 export function explain(reply, meanings, source = null) {
   const meaning = meaningOf(reply, meanings);
   const told = meaning ? `refused ${reply.refusal}, ${meaning.name}: ${meaning.sentence}`
-    : `refused ${reply.refusal}: docs/refusals.md says what that means.`;
+    : `refused ${reply.refusal}: docs/refusals.md explains it.`;
   if (reply.at === null || source === null) return told;
   const { line, column } = placeOf(source, reply.at);
   const where = ` At line ${line}, column ${column} (byte ${reply.at})`;

@@ -146,7 +146,7 @@ export class Board {
       this.room.path(layer.picture);
       lines.push(plotLine(layer));
     }
-    if (edits.length) lines.push("# lines of one's own");
+    if (edits.length) lines.push("# your own lines");
     return { lines: [...lines, ...edits], firstOwn: lines.length + 1 };
   }
 

@@ -43,14 +43,14 @@ function isSameFile(one, other) {
  * @param {Uint8Array | string} content
  * @param {string} source the file that was read
  * @param {boolean} force
- * @throws {Failure} where it is there already, or cannot be written
+ * @throws {Failure} where it exists already, or cannot be written
  */
 export function writeNew(path, content, source, force) {
   if (isSameFile(path, source)) throw new Failure(`${path}: is the file that was read; name another by -o`);
   try {
     writeFileSync(path, content, { flag: force ? "w" : "wx" });
   } catch (fault) {
-    if (fault.code === "EEXIST") throw new Failure(`${path}: is there already; --force writes over it, -o names another`);
+    if (fault.code === "EEXIST") throw new Failure(`${path}: exists already; --force replaces it, -o names another`);
     throw new Failure(`${path}: cannot be written: ${reasonOf(fault)}`);
   }
 }

@@ -109,11 +109,11 @@ function read(path, program) {
   } catch (fault) {
     if (!(fault instanceof NotCanonical)) throw fault;
     if (!isBuilt(program)) {
-      throw new Failure(`${path}: ${fault.message}; and ${program}, which could write one of it, is not built`);
+      throw new Failure(`${path}: ${fault.message}; and ${program}, which could convert it, is not built`);
     }
   }
   const text = canonicalOf(path, written(path, source, program));
-  complain(`tools/items: ${path} is no text that camplot wrote; these are its items once it is loaded`);
+  complain(`tools/items: ${path} is not a text that camplot wrote; these are its items after it is loaded`);
   return text;
 }
 

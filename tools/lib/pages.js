@@ -49,7 +49,7 @@ function entryOf({ path, layer, text, label, isEdited }, number) {
 
 function notesOf(pictures) {
   const names = pictures.filter(({ text, isEdited }) => text.items.length > ITEMS && !isEdited).map(({ layer }) => layer.name);
-  return names.length ? [`more than ${ITEMS} items: those of ${names.join(", ")} are not told here`] : [];
+  return names.length ? [`more than ${ITEMS} items: those of ${names.join(", ")} are not shown here`] : [];
 }
 
 const ENTITIES = { "&": "&amp;", "<": "&lt;", ">": "&gt;", '"': "&quot;", "'": "&#x27;" };

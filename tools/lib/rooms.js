@@ -51,19 +51,19 @@ export class Room {
       return new Map(Object.entries(found).filter(([name]) => !name.split(/[\\/]/).includes("..")));
     } catch (fault) {
       if (!(fault instanceof SyntaxError)) throw fault;
-      throw new Failure(`${path} is no list that was left here`);
+      throw new Failure(`${path} is not a list of an earlier run`);
     }
   }
 
   checkEarlier(earlier) {
     if (!earlier.size && !this.isReplacing && readdirSync(this.folder).length) {
-      throw new Failure(`${this.folder} holds files that are not from here: --out names another folder, and --replace `
+      throw new Failure(`${this.folder} has files of other origin: --out names another folder, and --replace `
         + "replaces those in it that have the same names");
     }
     for (const [name, sumThen] of earlier) {
       const path = join(this.folder, name);
       if (isFile(path) && checksum(path) !== sumThen && !this.isReplacing) {
-        throw new Failure(`${path} was changed since it was left here: --out names another folder, and --replace `
+        throw new Failure(`${path} was changed since an earlier run wrote it: --out names another folder, and --replace `
           + "replaces it");
       }
     }

@@ -27,7 +27,7 @@ export function isBuilt(program) {
 
 /** Stops where the program is not built. @param {string} program */
 export function checkProgram(program) {
-  if (!isBuilt(program)) throw new Failure(`${program} is not there: ./demo builds it, and --camplot names another`);
+  if (!isBuilt(program)) throw new Failure(`${program} does not exist: ./demo builds it, and --camplot names another`);
 }
 
 function outputOf(program, folder, path) {

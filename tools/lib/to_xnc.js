@@ -42,13 +42,13 @@ Exit status 0: written; 1: refused, and nothing was written; 2: the words of the
 function chosenDigits(text) {
   if (text === null) return null;
   const found = /^([1-6])[:.]([0-6])$/.exec(text);
-  if (!found) throw new Failure(`--digits ${text}: two digits are wanted, as 2:4`);
+  if (!found) throw new Failure(`--digits ${text}: it needs two digits, as 2:4`);
   return { whole: Number(found[1]), decimals: Number(found[2]) };
 }
 
 function chosenTool(word) {
   const found = /^T?0*(\d{1,4})=(\d+\.?\d*|\.\d+)(mm|inch|in|mil)?$/.exec(word);
-  if (!found) throw new Failure(`--tool ${word}: a number and a diameter are wanted, as 1=0.8mm`);
+  if (!found) throw new Failure(`--tool ${word}: it needs a number and a diameter, as 1=0.8mm`);
   return { number: Number(found[1]), size: found[2], unit: found[3] ?? null, shown: `--tool ${word}` };
 }
 

@@ -17,12 +17,13 @@ const COMMAND = {
 
   tools/test                         all tests, with the program that \`rt run\` in crates/camplot builds
   tools/test --camplot PROGRAM       with another program
-  tools/test board page              the tests alone whose names hold one of these words
+  tools/test board page              only the tests whose names have one of these words
 
-It says a line for each test that was left out, with why, and where a test failed. The last line is
-'N passed, M failed', and ', K skipped' if some were left out; the exit status is 0 where M is 0, else 1, and 2 where the words of the call do not fit.`,
-  operand: { name: "WORD", isMany: true, isOptional: true, help: "run the tests whose names hold one of these words" },
-  options: [{ name: "--camplot", value: "PROGRAM", help: "the program to be run",
+It prints a line for each test that was left out, with the reason, and for each that failed. The last line is
+'N passed, M failed', and ', K skipped' if some were left out; the exit status is 0 if M is 0, else 1, and 2 if the words
+of the call do not fit.`,
+  operand: { name: "WORD", isMany: true, isOptional: true, help: "run the tests whose names have one of these words" },
+  options: [{ name: "--camplot", value: "PROGRAM", help: "the program to run",
     otherwise: join(REPOSITORY, "crates", "camplot", "out", "camplot") }],
 };
 
@@ -43,7 +44,7 @@ function toldFault(fault) {
 
 async function main({ camplot, operands: words }) {
   process.env.CAMPLOT = resolve(camplot);
-  if (!existsSync(camplot)) console.log(`tools: ${camplot} is not there; tests that run it fail`);
+  if (!existsSync(camplot)) console.log(`tools: ${camplot} does not exist; tests that run it fail`);
   await load();
   const chosen = tests.filter(({ id }) => words.length === 0 || words.some((word) => id.includes(word)));
   let passed = 0, failed = 0, skipped = 0;

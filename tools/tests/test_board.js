@@ -169,7 +169,7 @@ suite("left alone", () => {
     const folder = lay("fritzing"), out = join(newRoom(), "out");
     mkdirSync(out);
     writeFileSync(join(out, "top.pbm"), "mine");
-    includes(board([folder, "--out", out], 2), "holds files that are not from here");
+    includes(board([folder, "--out", out], 2), "has files of other origin");
     assert.deepEqual(readdirSync(out), ["top.pbm"]);
   });
 
@@ -186,7 +186,7 @@ suite("left alone", () => {
     const folder = lay("eagle"), list = join(folder, "board", ".left_by_board.json");
     board([folder]);
     writeFileSync(list, "[1");
-    includes(board([folder], 2), "is no list that was left here");
+    includes(board([folder], 2), "is not a list of an earlier run");
     writeFileSync(list, '{"../amp.dri": "0"}');
     board([folder, "--replace"]);
     assert.ok(existsSync(join(folder, "amp.dri")));
@@ -197,7 +197,7 @@ suite("left alone", () => {
     board([folder]);
     const none = runTool("board", [folder, "--camplot", join(folder, "none")]);
     assert.equal(none.status, 2);
-    includes(none.stderr, "is not there: ./demo builds it");
+    includes(none.stderr, "does not exist: ./demo builds it");
     assert.ok(existsSync(join(folder, "board", "index.html")));
     assert.equal(runTool("board", [folder, "--camplot", ["/bin/false", "/usr/bin/false"].find(existsSync)]).status, 2);
     board([folder]);

@@ -150,7 +150,7 @@ suite("texts", () => {
     writeFileSync(join(room, "old.gbr.gbr"), "mine");
     const { status, stderr } = runOn(room, `${HEAD}M02*\n`, []);
     assert.equal(status, 2);
-    assert.ok(stderr.includes("old.gbr.gbr: is there already; --force writes over it"));
+    assert.ok(stderr.includes("old.gbr.gbr: exists already; --force replaces it"));
     assert.equal(readFileSync(join(room, "old.gbr.gbr"), "utf8"), "mine");
     assert.equal(runOn(room, `${HEAD}M02*\n`, ["-o", "old.gbr", "--force"]).status, 2);
   });

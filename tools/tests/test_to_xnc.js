@@ -190,7 +190,7 @@ written: holes.xnc
     writeFileSync(join(room, "holes.xnc"), "mine");
     const { status, stderr } = runOn(room, "M30\n");
     assert.equal(status, 2);
-    assert.equal(stderr, "to_xnc: holes.xnc: is there already; --force writes over it, -o names another\n");
+    assert.equal(stderr, "to_xnc: holes.xnc: exists already; --force replaces it, -o names another\n");
     assert.equal(readFileSync(join(room, "holes.xnc"), "utf8"), "mine");
     assert.equal(runOn(room, "M30\n", "--force").status, 0);
     assert.equal(runOn(room, "M30\n", "--force", "-o", "holes.drl").status, 2);
