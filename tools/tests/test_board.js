@@ -127,7 +127,7 @@ suite("plotted", () => {
     writeFileSync(edits, "move top 0 500000 0\r\nplot top moved.pbm\nundo\n# größe\nplot top again.pbm\nmove top 9 0 0\n"
       + "load old gerber files/bottom.gbr\nplot old old.pbm\n");
     const told = board([folder, "--edits", edits], 1), left = join(folder, "board");
-    includes(told, "move top 9 0 0\n  refused 61, no item: The layer has no item of this place");
+    includes(told, "move top 9 0 0\n  refused 61, no item: The layer has no item at this place");
     const read = (name) => readFileSync(join(left, name));
     assert.ok(read("again.pbm").equals(read("top.pbm")));
     assert.ok(!read("moved.pbm").equals(read("top.pbm")));
