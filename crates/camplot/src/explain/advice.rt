@@ -118,9 +118,9 @@ fn remedy_of_form(code: u8) -> &'static str {
         9 => "export with embedded apertures (RS-274X): an %ADD has to stand before its Dn",
         10 => "the number or name is in use: these are two files in one, load each by itself",
         11 => "use round, rectangular, oval or rounded pads, or plot the pad as a region",
-        12 => "choose another shape of pad or plot it as a region; tools/to_gerber writes 22 anew",
-        13 => "in KiCad tick `Disable aperture macros`; elsewhere plot such pads as regions",
-        _ => "plot without scaling of apertures",
+        12 => "plot such pads as regions; tools/to_gerber writes 22 anew, the others by --nearest",
+        13 => "in KiCad tick `Disable aperture macros`; other files: tools/to_gerber --nearest",
+        _ => "plot without scaling of apertures, or use tools/to_gerber --nearest",
     }
 }
 
