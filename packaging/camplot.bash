@@ -14,7 +14,7 @@ _camplot() {
 }
 complete -o filenames -F _camplot camplot
 
-# The tools beside it take folders and files of a board.
+# The tools take folders and files of a board.
 _camplot_board() {
   local word=${COMP_WORDS[COMP_CWORD]}
   mapfile -t COMPREPLY < <(compgen -f -- "$word")
