@@ -45,6 +45,11 @@ export const showView = (view) => send("view", { view });
 
 export const compareWith = (steps, colours) => send("compare", { steps, colours });
 
+// A picture beside the layers, with its window as a line; null takes it away.
+export const keepPicture = (name, picture, line = null) => send("picture", { name, picture, line });
+
+export const compareTwo = (pair, names) => send("compareTwo", { pair, names });
+
 // The lines of an answer; null where the question was refused.
 export async function question(words) {
   const { code, answer } = await send("ask", { question: words });

@@ -2,6 +2,7 @@
 // pictures come between them, without one. What the page asks goes before what is still to be drawn.
 
 import { Drawing } from "./drawing.js";
+import { Opened } from "./opened.js";
 import { Questions } from "./asking.js";
 import { Station } from "./station.js";
 
@@ -73,6 +74,17 @@ const kinds = {
     const found = drawing.compare(steps, colours);
     goOn();
     return { ...found, over: (found.sheets ?? []).flatMap((sheet) => sheet.bitmaps) };
+  },
+  picture: ({ name, picture, line: window }) => {
+    drawing.keep(name, picture && new Opened(picture, window));
+    drawing.refresh();
+    goOn();
+    return {};
+  },
+  compareTwo: ({ pair, names }) => {
+    const found = drawing.compareTwo(pair, names);
+    goOn();
+    return found;
   },
   memory: () => ({ bytes: station.memory }),
 };
