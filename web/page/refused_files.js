@@ -3,7 +3,6 @@
 
 import { ask, button, byId, element, field, tell } from "./dom.js";
 import { convertedOf, firstChoices } from "./converting.js";
-import { plural } from "./units.js";
 import { refusalWords } from "./refusals.js";
 
 const SHOWN = 12;
@@ -49,9 +48,10 @@ function listOf(lines, className = "changes") {
 }
 
 // What comes of the choices, in words.
-function outcome(converted) {
+function outcome(converted, kind) {
   if (converted === null) return [element("p", {}, "Nothing in it needs a change.")];
-  if (!converted.refusals) return [element("p", {}, "These changes are made, and no others:"), listOf(converted.changes)];
+  if (!converted.refusals) return [element("p", {}, kind === "drill" ? "It is read so, and changed so:"
+    : "These changes are made, and no others:"), listOf(converted.changes)];
   const { refusals } = converted;
   const more = refusals.length > SHOWN ? [`and ${refusals.length - SHOWN} more`] : [];
   return [element("p", { className: "fault" }, "So it cannot be converted:"), listOf([...refusals.slice(0, SHOWN), ...more])];
@@ -69,7 +69,7 @@ async function asked({ kind, file }, words) {
     const mine = ++turn, found = convertedOf(kind, file.bytes, await choicesOf(fields));
     if (mine !== turn) return;
     converted = found;
-    seen.replaceChildren(...outcome(found));
+    seen.replaceChildren(...outcome(found, kind));
     byId("question-choices").firstChild.disabled = !found?.bytes;
   };
   choose.onchange = renew;
@@ -95,8 +95,7 @@ export async function showRefused({ layer, reply }, open) {
     const converted = await asked(layer, words);
     if (!converted) return;
     const { isWell, reply: again } = await open(converted.bytes);
-    row.append(element("p", {}, isWell ? `It was converted and opened: ${plural(converted.changes.length, "change")}.`
-      : `What it was converted to is refused too: ${again}.`));
+    row.append(element("p", {}, isWell ? "It was converted and opened." : `What it was converted to is refused too: ${again}.`));
     if (isWell) convert.remove();
   };
   const convert = button("convert ..", () => offer().catch((fault) => tell(fault.message, true)),

@@ -2,7 +2,7 @@
 // a window of the station, which the worker draws; while a new one is not there yet, the one before is shown where it
 // belongs, and what no picture covers is marked as not drawn.
 
-import { BOARD } from "./units.js";
+import { BOARD, seen } from "./units.js";
 import { drawnLayers, shownLayers, state } from "./state.js";
 import { showView } from "./station.js";
 
@@ -119,7 +119,9 @@ export class View {
     this.asked = now;
     this.number++;
     // The topmost layers first, since they are seen most.
-    const layers = drawnLayers().map(({ name, colour, isOpened }) => ({ name, colour, isOpened })).reverse();
+    const isLight = document.documentElement.dataset.look === "light";
+    const layers = drawnLayers().map(({ name, colour, isOpened }) => ({ name, colour: seen(colour, isLight), isOpened }))
+      .reverse();
     showView({ number: this.number, window: this.window(), samples: SAMPLES, layers }).catch(() => {});
     state.isDrawing = true;
   }

@@ -20,7 +20,7 @@ export class Drawing {
   // `post` hands a message to the page, with what goes over to it.
   constructor(station, layers, post) {
     this.station = station;
-    // The names of the layers in the order of their loads, with their items: Map of name -> items.
+    // The layers by their names in the order of their loads, each with its kind and how many items it had then.
     this.layers = layers;
     this.post = post;
     // Pictures beside the layers, by the names that the page gave them.
@@ -90,7 +90,7 @@ export class Drawing {
 
   isHeavy(layer) {
     const took = this.took.get(layer.name);
-    return took === undefined ? this.layers.get(layer.name) > HEAVY_ITEMS : took > HEAVY_MS;
+    return took === undefined ? this.layers.get(layer.name)?.items > HEAVY_ITEMS : took > HEAVY_MS;
   }
 
   drawWhole(layer) {
