@@ -23,6 +23,12 @@ function drill(bytes, { unit, digits, zeros, tools = "", report = null }) {
   return convertDrill(bytes, { unit: unit || null, zeros: zeros || null, digits: chosen, tools: sizes, report });
 }
 
+// What the commands' options are called on the page.
+const NAMES = { unit: "the unit", digits: "the digits", zeros: "the zeros", report: "the report", tool: "the diameter",
+  arcs: "the arcs", nearest: "the nearest nm", repeat: "the repeating of points" };
+
+const onPage = (text) => text.replace(/\(--\w+\)/g, "(chosen)").replace(/--(\w+)/g, (whole, name) => NAMES[name] ?? whole);
+
 const isSame = (one, other) => one.length === other.length && one.every((byte, at) => byte === other[at]);
 
 // What a file is converted to under a person's choices, as the options of tools/to_gerber and tools/to_xnc have them: its
@@ -30,11 +36,11 @@ const isSame = (one, other) => one.length === other.length && one.every((byte, a
 export function convertedOf(kind, bytes, choices = {}) {
   try {
     const made = kind === "drill" ? drill(bytes, choices) : gerber(bytes, choices);
-    if (!made.bytes) return { refusals: made.refusals.map(refusalText) };
+    if (!made.bytes) return { refusals: made.refusals.map((each) => onPage(refusalText(each))) };
     if (isSame(made.bytes, bytes)) return null;
-    return { bytes: made.bytes, changes: made.account ?? toldChanges(made.changes) };
+    return { bytes: made.bytes, changes: (made.account ?? toldChanges(made.changes)).map(onPage) };
   } catch (fault) {
-    return { refusals: [fault?.message ?? String(fault)] };
+    return { refusals: [onPage(fault?.message ?? String(fault))] };
   }
 }
 

@@ -100,7 +100,7 @@ export async function openFiles(given, areNamed = true) {
   for (const entry of refused) await showRefused(entry, (bytes) => openConverted(entry, bytes, opened));
   const faults = [], pictures = await openPictures(given.filter(({ bytes }) => isPbm(bytes)), faults);
   const parts = [
-    opened.length || !pictures ? `${plural(opened.length, "layer")} opened.` : "",
+    opened.length || !pictures && !refused.length ? `${plural(opened.length, "layer")} opened.` : "",
     pictures ? `${plural(pictures, "picture")} opened.` : "",
     others.length ? `${plural(others.length, "file")} left out: ${names(others)}.` : "",
     refused.length ? `${plural(refused.length, "file")} refused, see the left side.` : "", ...faults,
