@@ -65,5 +65,5 @@ async function askedEntries(name) {
   return found;
 }
 
-// How wide an aperture or a tool strokes, in nm, as far as the page knows.
-export const widthOf = (name, number) => entriesOf.get(name)?.get(number)?.width ?? 0;
+// An aperture or a tool, as far as the page knows it.
+export const entryOf = (name, number) => entriesOf.get(name)?.get(number) ?? null;

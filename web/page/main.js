@@ -5,7 +5,7 @@ import { act, listenToButtons, listenToKeys, showKeys } from "./actions.js";
 import { activeBy, listenToLayers, makeActive, showAll, showOnly, toggleActive } from "./layer_panel.js";
 import { ask, byId, element, tell } from "./dom.js";
 import { begin } from "./beginning.js";
-import { entriesMayChange, loaded, refresh, widthOf } from "./documents.js";
+import { entriesMayChange, entryOf, loaded, refresh } from "./documents.js";
 import { changed, on, state } from "./state.js";
 import { chooseTool, endMaking, escape, listenToPointer, pointUnder, pointer, showPicked } from "./pointer.js";
 import { compare, listenToHistory } from "./history_panel.js";
@@ -162,7 +162,7 @@ async function start() {
   listenToItemList();
   listenToFiles();
   await listenToItems();
-  marks.widthOf = (number) => widthOf(state.picked[0]?.name ?? state.active, number);
+  marks.entryOf = (number) => entryOf(state.picked[0]?.name ?? state.active, number);
   view.afterDraw = () => marks.draw();
   plotView(() => view.window());
   new ResizeObserver(resize).observe(byId("stage"));

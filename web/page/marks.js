@@ -31,7 +31,7 @@ export class Marks {
     this.shift = null;
     this.measured = null;
     this.drawn = null;
-    this.widthOf = () => 0;
+    this.entryOf = () => null;
   }
 
   draw() {
@@ -66,7 +66,7 @@ export class Marks {
   }
 
   outline(words, box, shift, ink) {
-    const { path, width } = outlineOf(itemOf(words ?? ""), box, this.widthOf);
+    const { path, width } = outlineOf(itemOf(words ?? ""), box, this.entryOf);
     const { context, view } = this;
     context.lineCap = context.lineJoin = "round";
     this.inNm(shift, (scale) => {
