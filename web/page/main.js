@@ -162,7 +162,7 @@ async function start() {
   listenToItemList();
   listenToFiles();
   await listenToItems();
-  marks.entryOf = (number) => entryOf(state.picked[0]?.name ?? state.active, number);
+  marks.entryOf = entryOf;
   view.afterDraw = () => marks.draw();
   plotView(() => view.window());
   new ResizeObserver(resize).observe(byId("stage"));
