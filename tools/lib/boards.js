@@ -7,6 +7,7 @@ import { NotCanonical, readCanonical } from "../../web/canonical/read.js";
 import { countOf } from "../../web/canonical/text.js";
 import { Failure } from "../../web/convert/report.js";
 import { BY_ATTRIBUTE, nameParts } from "../../web/layers.js";
+import { isPbm } from "../../web/pbm.js";
 import { explain } from "../../web/refusals.js";
 import { wordsOf } from "../../web/replies.js";
 import { isInWindow, windowLine } from "../../web/windows.js";
@@ -168,6 +169,12 @@ export class Board {
     return [...this.plots.values(), ...this.edits].some((reply) => reply.isAccepted && wordsOf(reply.line)[0] === "plot");
   }
 
+  // The file of a path in a line, whose characters are the path's bytes.
+  read(path) {
+    const folder = path.startsWith("/") ? [] : [Buffer.from(join(this.room.folder, "/"))];
+    return readFileSync(Buffer.concat([...folder, latin1Bytes(path)]));
+  }
+
   /**
    * What a page opens: the layers' files, the accepted lines of the user's own, and what these plotted.
    * @param {string} title
@@ -178,13 +185,13 @@ export class Board {
     const lines = [], pictures = [];
     let window = this.window && windowLine(this.window);
     for (const { line, number } of this.edits.filter((reply) => reply.isAccepted)) {
-      const [command, layer, path, loaded] = wordsOf(line), read = (name) => readFileSync(join(this.room.folder, name));
+      const [command, layer, path, loaded] = wordsOf(line);
       if (command === "window") window = line;
-      if (command === "plot") pictures.push({ name: `${path} (line ${number})`, layer, window, bytes: read(path) });
-      if (command === "load") lines.push({ line, bytes: read(loaded) });
+      if (command === "plot") pictures.push({ name: `${path} (line ${number})`, layer, window, bytes: this.read(path) });
+      if (command === "load") lines.push({ line, bytes: this.read(loaded) });
       else if (!LOOKS.includes(command)) lines.push({ line: utf8(latin1Bytes(line)) });
     }
-    return { title, files, lines, pictures, window: this.window && windowLine(this.window) };
+    return { title, files, lines, pictures: pictures.filter(({ bytes }) => isPbm(bytes)), window: this.window && windowLine(this.window) };
   }
 
   /** What the page is called. @param {string[]} paths the files or the folder that were named */

@@ -42,6 +42,8 @@ export async function begin(journal, contents, view) {
   if (lines.length) await restore(lines, journal, view);
   else if (contents) await openContents(contents);
   knowWindow(contents?.window);
-  for (const { name, layer, window, bytes } of contents?.pictures ?? []) await addPicture(name, bytes, window, layer);
+  for (const { name, layer, window, bytes } of contents?.pictures ?? []) {
+    await addPicture(name, bytes, window, layer).catch((fault) => tell(`${name}: ${fault.message}`, true));
+  }
   if (lines.length) tell("Opened where you were.");
 }

@@ -26,6 +26,11 @@ export const knowWindow = (line) => { if (line) known.push(line); };
 
 const sidesOf = (line) => line.trim().split(/\s+/).slice(4, 6).map(Number);
 
+function boxOfWindow(line) {
+  const [left, low, pitch, width, height] = line.trim().split(/\s+/).slice(1).map(Number);
+  return { left, low, right: left + width * pitch, high: low + height * pitch };
+}
+
 // The latest window of these sides that the page knows of; null where there is none.
 function windowOf({ width, height }) {
   const scripted = told.filter(({ line, reply }) => firstWord(line) === "window" && reply === "ok").map(({ line }) => line);
@@ -55,6 +60,7 @@ export async function addPicture(label, bytes, line, of = null) {
   if (!window) return false;
   const name = `picture ${++number}`;
   await keepPicture(name, picture, window);
+  if (!state.layers.length && !state.opened.length) await changed("fit", boxOfWindow(window));
   state.opened.push({ name, label, of, window, isOpened: true, isShown: of === null, opacity: 0.85,
     colour: INKS[number % INKS.length] });
   await changed("pictures");
