@@ -1,4 +1,4 @@
-// tools/board: a board as pictures and a page.
+// tools/board: a board as pictures, and in a page.
 
 import { closeSync, existsSync, openSync, readFileSync, readSync, readdirSync, statSync } from "node:fs";
 import { basename, dirname, join } from "node:path";
@@ -10,7 +10,7 @@ import { scriptLines } from "../../web/replies.js";
 import { describeWindow, windowAround } from "../../web/windows.js";
 import { Board } from "./boards.js";
 import { Call, DONE, Failure, REFUSED, perform, say } from "./command.js";
-import { writePage } from "./pages.js";
+import { builtPage, writePage } from "./pages.js";
 import { Room } from "./rooms.js";
 import { PROGRAM, checkProgram, meanings } from "./station.js";
 
@@ -18,18 +18,20 @@ const MOST_DPI = 25_400_000;
 
 const COMMAND = {
   tool: "tools/board",
-  about: `Plots a board: all its layers in one window, as PBM pictures and as a page to look at.
+  about: `Plots a board: all its layers in one window, as PBM pictures, and writes the editor in a page with the board in it.
 
   tools/board FOLDER                   the layers among the files of a folder, plotted into FOLDER/board
   tools/board top.gbr holes.drl        these files, whatever their names are, plotted into \`board\` next to the first
   tools/board FOLDER --dpi 2540        with pixels of 10 µm; 1000 an inch, of 25.4 µm, by default
-  tools/board FOLDER --edits FILE      then runs the lines of FILE, edits and further plots, which the page shows too
+  tools/board FOLDER --edits FILE      then runs the lines of FILE: edits, which the page runs too, and further plots,
+                                       which the page shows
 
 It recognises what a file shows by its attribute %TF.FileFunction%, else by the names that KiCad, Altium, EAGLE, Fritzing
 and pcb-rnd give. One window lies around the outline, or around all layers if no outline loads.
 
 It writes into the folder of --out:
-  index.html   the page: open it in a browser; it needs no server and no network
+  index.html   the page: open it in a browser; it needs no server and no network. It is camplot.html, which ./demo or
+               web/build makes and ./install installs, with the layers' files inside; without it there is no page
   NAME.pbm     a picture for each layer
   script       what camplot ran there, with plain names; run it again by \`camplot script\` in that folder
   replies      each of its lines after its reply
@@ -45,6 +47,7 @@ done.`,
     { name: "--out", value: "DIR", help: "the folder for its files" },
     { name: "--edits", value: "FILE", help: "lines of a script that run after the plots" },
     { name: "--replace", help: "replace files of the same names in the folder" },
+    { name: "--page", value: "HTML", help: "the page without a board (by default camplot.html of ./demo or web/build)" },
     { name: "--camplot", value: "PROGRAM", otherwise: PROGRAM, help: `the program (${PROGRAM})` },
   ],
 };
@@ -117,7 +120,19 @@ function tellLines(board) {
   }
 }
 
-function plotInto(room, layers, edits, { dpi, camplot, operands }) {
+// Writes the page, if there is one to fill.
+function tellPage(board, operands, page) {
+  if (page === null) {
+    say("there is no page, since camplot.html is not built: ./demo builds it if node is installed, and so does web/build "
+      + "after the C library is proved; --page names another");
+    return;
+  }
+  const path = board.room.path("index.html");
+  writePage(path, page, board.contents(board.title(operands)));
+  say(`the page: ${path}`);
+}
+
+function plotInto(room, layers, edits, { dpi, camplot, page, operands }) {
   const board = new Board(layers, room, camplot);
   board.load();
   const outline = board.outline(), window = windowAround(outline, board.boxes(), dpi);
@@ -127,14 +142,8 @@ function plotInto(room, layers, edits, { dpi, camplot, operands }) {
   }
   tellLines(board);
   tellLayers(board);
-  const pictures = board.pictures();
-  if (pictures.length) {
-    const page = room.path("index.html");
-    writePage(page, board.title(operands), window, pictures);
-    say(`the page: ${page}`);
-  } else {
-    say("no layer was plotted, so there is no page");
-  }
+  if (!board.hasPictures()) say("no layer was plotted");
+  tellPage(board, operands, page);
   return board.isAnyRefused() ? REFUSED : DONE;
 }
 
@@ -146,6 +155,8 @@ function run(options) {
   if (!layers.length) throw new Failure(`no layer is recognised among ${files.length} files of ${options.operands[0]}`);
   const edits = options.edits === null ? [] : scriptLines(latin1(readFileSync(options.edits)));
   checkProgram(options.camplot);
+  if (options.page !== null && !existsSync(options.page)) throw new Failure(`${options.page} does not exist`);
+  options.page ??= builtPage();
   const room = new Room(options.out ?? folder, options.replace);
   try {
     return plotInto(room, layers, edits, options);

@@ -2,27 +2,19 @@
 
 import { readFileSync, writeFileSync } from "node:fs";
 import { basename, join, resolve } from "node:path";
-import { latin1Bytes } from "../../web/bytes.js";
+import { latin1Bytes, utf8 } from "../../web/bytes.js";
 import { NotCanonical, readCanonical } from "../../web/canonical/read.js";
-import { Text, countOf } from "../../web/canonical/text.js";
+import { countOf } from "../../web/canonical/text.js";
 import { Failure } from "../../web/convert/report.js";
-import { GERBER } from "../../web/file_kinds.js";
-import { PLAIN } from "../../web/layer_functions.js";
-import { BY_ATTRIBUTE, Layer, nameParts } from "../../web/layers.js";
+import { BY_ATTRIBUTE, nameParts } from "../../web/layers.js";
+import { isPbm } from "../../web/pbm.js";
 import { explain } from "../../web/refusals.js";
 import { wordsOf } from "../../web/replies.js";
 import { isInWindow, windowLine } from "../../web/windows.js";
 import { LAYERS, meanings, runLines } from "./station.js";
 
-/**
- * A picture of a layer: where it is, whose it is, and whether an edit came before it.
- * @typedef {{path: string, layer: Layer, text: Text, label: string, isEdited: boolean}} Picture
- */
-
-// A layer that a line of the user's own loads.
-function ownLayer(name) {
-  return new Layer({ name, path: name, bytes: new Uint8Array() }, GERBER, PLAIN.get("other"), "a line");
-}
+// What a line of the user's own looks at, and does not change; a page that runs the lines does without it.
+const LOOKS = ["plot", "write", "redraw", "list", "window"];
 
 function loadLine(layer) {
   return `load ${layer.name} ${layer.kind} ${layer.copy}`;
@@ -172,29 +164,34 @@ export class Board {
     return [...this.loads.values(), ...this.plots.values(), ...this.edits].some((reply) => !reply.isAccepted);
   }
 
-  /**
-   * The pictures that were plotted: the layers' from the bottom up, then those of the user's own lines.
-   * @returns {Picture[]}
-   */
-  pictures() {
-    const loaded = this.loaded(), found = [];
-    for (const layer of loaded) {
-      if (this.plots.get(layer.name)?.isAccepted) {
-        found.push(this.picture(layer, layer.picture, layer.layerFunction.label, false));
-      }
-    }
-    for (const reply of this.edits) {
-      const [command, name, path] = wordsOf(reply.line);
-      if (!reply.isAccepted || command !== "plot") continue;
-      const layer = loaded.find((other) => other.name === name) ?? ownLayer(name);
-      found.push(this.picture(layer, path, `${path} (line ${reply.number})`, true));
-    }
-    return found;
+  /** Whether any layer or line of the user's own was plotted. */
+  hasPictures() {
+    return [...this.plots.values(), ...this.edits].some((reply) => reply.isAccepted && wordsOf(reply.line)[0] === "plot");
   }
 
-  picture(layer, name, label, isEdited) {
-    const text = this.texts.get(layer.name) ?? new Text(false);
-    return { path: join(this.room.folder, name), layer, text, label, isEdited };
+  // The file of a path in a line, whose characters are the path's bytes.
+  read(path) {
+    const folder = path.startsWith("/") ? [] : [Buffer.from(join(this.room.folder, "/"))];
+    return readFileSync(Buffer.concat([...folder, latin1Bytes(path)]));
+  }
+
+  /**
+   * What a page opens: the layers' files, the accepted lines of the user's own, and what these plotted.
+   * @param {string} title
+   * @returns {import("../../web/building/contents.js").Contents}
+   */
+  contents(title) {
+    const files = this.layers.map(({ file }) => ({ name: file.name, bytes: readFileSync(file.path) }));
+    const lines = [], pictures = [];
+    let window = this.window && windowLine(this.window);
+    for (const { line, number } of this.edits.filter((reply) => reply.isAccepted)) {
+      const [command, layer, path, loaded] = wordsOf(line);
+      if (command === "window") window = line;
+      if (command === "plot") pictures.push({ name: `${path} (line ${number})`, layer, window, bytes: this.read(path) });
+      if (command === "load") lines.push({ line, bytes: this.read(loaded) });
+      else if (!LOOKS.includes(command)) lines.push({ line: utf8(latin1Bytes(line)) });
+    }
+    return { title, files, lines, pictures: pictures.filter(({ bytes }) => isPbm(bytes)), window: this.window && windowLine(this.window) };
   }
 
   /** What the page is called. @param {string[]} paths the files or the folder that were named */

@@ -1,5 +1,6 @@
 // tools/to_xnc: Excellon drill files as XNC.
 
+import { digitsOf, toolOf } from "../../web/convert/drill/choices.js";
 import { convertDrill } from "../../web/convert/drill/convert.js";
 import { toldRefusals } from "../../web/convert/report.js";
 import { DONE, Failure, REFUSED, complain, perform, say } from "./command.js";
@@ -40,16 +41,15 @@ Exit status 0: written; 1: refused, and nothing was written; 2: the words of the
 };
 
 function chosenDigits(text) {
-  if (text === null) return null;
-  const found = /^([1-6])[:.]([0-6])$/.exec(text);
-  if (!found) throw new Failure(`--digits ${text}: it needs two digits, as 2:4`);
-  return { whole: Number(found[1]), decimals: Number(found[2]) };
+  const digits = text === null ? null : digitsOf(text);
+  if (text !== null && !digits) throw new Failure(`--digits ${text}: it needs two digits, as 2:4`);
+  return digits;
 }
 
 function chosenTool(word) {
-  const found = /^T?0*(\d{1,4})=(\d+\.?\d*|\.\d+)(mm|inch|in|mil)?$/.exec(word);
-  if (!found) throw new Failure(`--tool ${word}: it needs a number and a diameter, as 1=0.8mm`);
-  return { number: Number(found[1]), size: found[2], unit: found[3] ?? null, shown: `--tool ${word}` };
+  const tool = toolOf(word, `--tool ${word}`);
+  if (!tool) throw new Failure(`--tool ${word}: it needs a number and a diameter, as 1=0.8mm`);
+  return tool;
 }
 
 function outOf(file) {

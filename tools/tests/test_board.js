@@ -2,18 +2,28 @@
 
 import assert from "node:assert/strict";
 import { copyFileSync, cpSync, existsSync, mkdirSync, readFileSync, readdirSync, renameSync, rmSync, writeFileSync } from "node:fs";
-import { join } from "node:path";
+import { dirname, join } from "node:path";
+import { gunzipSync } from "node:zlib";
 import { scriptLines } from "../../web/replies.js";
 import { runLines } from "../lib/station.js";
 import { part, suite, test } from "./harness.js";
-import { CASES, PROGRAM, REPOSITORY, needProgram, newRoom, runTool } from "./support.js";
+import { CASES, PROGRAM, REPOSITORY, needProgram, newRoom, runProgram, runTool } from "./support.js";
 
 const BOARDS = join(CASES, "board");
+
+// What stands in place of the editor: the page is tried in web/tests.
+const EMPTY = '<p>a page</p><script type="application/json" id="contents">null</script>\n';
+
+function emptyPage() {
+  const path = join(newRoom(), "camplot.html");
+  writeFileSync(path, EMPTY);
+  return path;
+}
 
 // Runs the tool, and gives all that it prints.
 function board(words, status = 0) {
   needProgram();
-  const done = runTool("board", [...words, "--camplot", PROGRAM]);
+  const done = runTool("board", [...words, "--camplot", PROGRAM, "--page", emptyPage()]);
   assert.equal(done.status, status, done.stdout + done.stderr);
   return done.stdout + done.stderr;
 }
@@ -25,6 +35,15 @@ function lay(name, folder = join(newRoom(), "files")) {
 
 function pictures(folder) {
   return readdirSync(folder).filter((name) => name.endsWith(".pbm")).map((name) => name.slice(0, -4)).sort();
+}
+
+// What the page in a folder opens; the bytes of each file are unpacked.
+function contentsOf(folder) {
+  const [, text] = /id="contents">([^<]*)</.exec(readFileSync(join(folder, "index.html"), "utf8"));
+  const { title, window, ...lists } = JSON.parse(text);
+  const unpacked = ({ packed, ...rest }) => (packed ? { ...rest, bytes: gunzipSync(Buffer.from(packed, "base64")) } : rest);
+  const [files, lines, pictures] = [lists.files, lists.lines, lists.pictures].map((list) => list.map(unpacked));
+  return { title, window, files, lines, pictures };
 }
 
 function sides(path) {
@@ -46,7 +65,7 @@ suite("plotted", () => {
         assert.deepEqual(pictures(join(folder, "board")), wanted);
         assert.equal(told.includes("left out"), leftOut !== null);
         includes(told, leftOut ?? "");
-        assert.ok(existsSync(join(folder, "board", "index.html")));
+        assert.equal(contentsOf(join(folder, "board")).title, "files");
       });
     }
   });
@@ -132,8 +151,43 @@ suite("plotted", () => {
     assert.ok(read("again.pbm").equals(read("top.pbm")));
     assert.ok(!read("moved.pbm").equals(read("top.pbm")));
     includes(read("script").toString(), "# größe\n");
-    const page = read("index.html").toString();
-    for (const name of ["moved.pbm", "again.pbm", "old.pbm"]) includes(page, `"label":"${name} (line `);
+    // The page opens the layers' files, runs what was accepted and changes something, and has the plots beside.
+    const { files, lines, pictures: plots, window } = contentsOf(left);
+    assert.ok(files.find(({ name }) => name === "my sketch_copperTop.gtl").bytes.equals(read("files/top.gbr")));
+    assert.deepEqual(lines.map(({ line }) => line), ["move top 0 500000 0", "undo", "load old gerber files/bottom.gbr"]);
+    assert.ok(lines[2].bytes.equals(read("files/bottom.gbr")));
+    assert.deepEqual(plots.map(({ name, layer }) => [name.split(" ")[0], layer]),
+      [["moved.pbm", "top"], ["again.pbm", "top"], ["old.pbm", "old"]]);
+    for (const { name, bytes, window: its } of plots) {
+      assert.ok(bytes.equals(read(name.split(" ")[0])));
+      assert.equal(its, window);
+    }
+  });
+
+  test("a page of refused layers has their files too", () => {
+    const folder = lay("refused");
+    rmSync(join(folder, "b-F_Cu.gbr"));
+    includes(board([folder], 1), "no layer was plotted");
+    assert.equal(contentsOf(join(folder, "board")).files.length, readdirSync(folder).length - 1);
+  });
+
+  test("where the page is not built", () => {
+    needProgram();
+    const top = join(newRoom(), "lib", "camplot"), folder = lay("eagle");
+    for (const part of ["tools", "web"]) {
+      cpSync(join(REPOSITORY, part), join(top, part), { recursive: true, filter: (path) => !path.includes("/out") });
+    }
+    const call = () => runProgram(process.execPath, [join(top, "tools", "board"), folder, "--camplot", PROGRAM]);
+    const without = call();
+    assert.equal(without.status, 0, without.stderr);
+    includes(without.stdout, "there is no page, since camplot.html is not built: ./demo builds it");
+    assert.ok(!existsSync(join(folder, "board", "index.html")));
+    // Where an installation has it.
+    const page = join(dirname(dirname(top)), "share", "camplot", "camplot.html");
+    mkdirSync(dirname(page), { recursive: true });
+    writeFileSync(page, EMPTY);
+    includes(call().stdout, "the page: ");
+    assert.equal(contentsOf(join(folder, "board")).files.length, 6);
   });
 
   test("the repository's boards", () => {
@@ -206,7 +260,7 @@ suite("left alone", () => {
   test("calls that do not fit", () => {
     const room = newRoom();
     for (const words of [[join(room, "nowhere")], [room], [room, room], [room, "--dpi", 0], [room, "--dpi", "x"], [],
-      [room, "--edits", join(room, "none")]]) {
+      [room, "--edits", join(room, "none")], [room, "--page", join(room, "none")]]) {
       part(words.join(" "), () => board(words, 2));
     }
   });

@@ -8,11 +8,14 @@ export async function unpacked(text) {
   return new Uint8Array(await new Response(stream).arrayBuffer());
 }
 
-// The page's contents, { title, id, files: [{ name, bytes }] }; null where there are none.
+const read = async ({ packed, ...rest }) => ({ ...rest, bytes: packed === undefined ? null : await unpacked(packed) });
+const readAll = (list) => Promise.all((list ?? []).map(read));
+
+// The page's contents, { title, id, files, lines, pictures, window } as web/building/contents.js has them; null where
+// there are none.
 export async function contentsOf(text) {
   const contents = JSON.parse(text);
   if (!contents) return null;
-  const { title, id, files } = contents;
-  const read = async ({ name, packed }) => ({ name, bytes: await unpacked(packed) });
-  return { title, id, files: await Promise.all(files.map(read)) };
+  const [files, lines, pictures] = await Promise.all([contents.files, contents.lines, contents.pictures].map(readAll));
+  return { ...contents, files, lines, pictures };
 }

@@ -2,7 +2,7 @@
 
 import { boxOf, entriesFrom, joined } from "./items.js";
 import { changed, layerOf, state } from "./state.js";
-import { question, sendLine } from "./station.js";
+import { question, questions } from "./station.js";
 
 // Layers that the page did not open itself, by a typed line: they have no label and no colour yet.
 const plain = (name, kind) => ({ name, kind, label: name, colour: "#9fb06a", opacity: 0.85, isShown: true, height: 99 });
@@ -16,17 +16,11 @@ export function loaded(line) {
   state.layers.sort((one, other) => one.height - other.height);
 }
 
-// The numbers of the replies to `list`.
-async function listed(line) {
-  const { code, reply } = await sendLine(line, null, true);
-  return code ? null : reply.split(" ").slice(1).map(Number);
-}
-
 // Asks how many items each layer has, and what the picked ones are now; those that are not there any more are let go.
 export async function refresh() {
-  for (const layer of state.layers) {
-    const [items, entries] = await listed(`list ${layer.name}`) ?? [0, 0];
-    Object.assign(layer, { items, entries });
+  for (const line of await question("layers") ?? []) {
+    const [name, , items, entries] = line.split(" "), layer = layerOf(name);
+    if (layer) Object.assign(layer, { items: Number(items), entries: Number(entries) });
   }
   state.active ??= (layerOf("top") ?? state.layers[state.layers.length - 1])?.name ?? null;
   state.picked = await itemsAt(state.picked.map(({ name, place }) => ({ name, place })));
@@ -36,26 +30,19 @@ export async function refresh() {
 
 // The words and the box of each of these places; those that are not there are left out.
 export async function itemsAt(places) {
-  const found = [];
-  for (const { name, place } of places) {
-    if (place >= (layerOf(name)?.items ?? 0)) continue;
-    const lines = await question(`item ${name} ${place}`);
-    if (!lines) continue;
-    const [box] = await question(`box ${name} ${place}`) ?? [];
-    found.push({ name, place, words: lines[0] ?? "", box: boxOf(box) });
-  }
-  return found;
+  const there = places.filter(({ name, place }) => place < (layerOf(name)?.items ?? 0));
+  const answers = await questions(there.flatMap(({ name, place }) => [`item ${name} ${place}`, `box ${name} ${place}`]));
+  return there.flatMap(({ name, place }, at) => {
+    const lines = answers[2 * at], [box] = answers[2 * at + 1] ?? [];
+    return lines ? [{ name, place, words: lines[0] ?? "", box: boxOf(box) }] : [];
+  });
 }
 
 // The box around the layers of these names, or of the outline alone where one has items.
 export async function boxOfAll(layers) {
   const outline = layers.find((layer) => layer.name.startsWith("outline") && layer.items > 0);
-  const boxes = [];
-  for (const layer of outline ? [outline] : layers) {
-    const [box] = await question(`box ${layer.name}`) ?? [];
-    boxes.push(boxOf(box));
-  }
-  return joined(boxes);
+  const answers = await questions((outline ? [outline] : layers).map(({ name }) => `box ${name}`));
+  return joined(answers.map((lines) => boxOf(lines?.[0])));
 }
 
 // The entries of a layer: number and definition. They are asked for again when a line may have changed them.
@@ -78,5 +65,5 @@ async function askedEntries(name) {
   return found;
 }
 
-// How wide an aperture or a tool strokes, in nm, as far as the page knows.
-export const widthOf = (name, number) => entriesOf.get(name)?.get(number)?.width ?? 0;
+// An aperture or a tool, as far as the page knows it.
+export const entryOf = (name, number) => entriesOf.get(name)?.get(number) ?? null;

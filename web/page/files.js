@@ -1,13 +1,14 @@
 // Files that are opened or dropped: which layer each is, loading them, and what is done about one that is refused.
 
-import { ask, byId, element, tell } from "./dom.js";
+import { byId, tell } from "./dom.js";
 import { boxOfAll, describeBy, refresh } from "./documents.js";
 import { changed, layerOf, shownLayers, state } from "./state.js";
-import { convertedOf } from "./converting.js";
+import { isPbm } from "../pbm.js";
+import { openPictures } from "./pictures_panel.js";
 import { plural } from "./units.js";
 import { recogniseFiles } from "../layers.js";
-import { refusalWords } from "./refusals.js";
 import { run } from "./script.js";
+import { showRefused } from "./refused_files.js";
 
 // The bytes of each file of the session by its path in the script.
 export const session = new Map();
@@ -48,11 +49,18 @@ async function loadOne(name, layer, bytes) {
   return { isWell, reply: answers[0].reply };
 }
 
-// Loads files, [{ name, bytes }]; the refused ones are told, and where they can be converted that is offered.
-export async function openFiles(files, areNamed = true) {
-  const wasEmpty = state.layers.length === 0;
-  const { layers, others } = recogniseFiles(files, areNamed);
-  const refused = [], opened = [];
+// A line that came with the page; the file of a load is kept under a path of its own.
+export async function runGiven({ line, bytes }) {
+  if (!bytes) return run([line]);
+  const [, name, kind, given] = line.trim().split(/\s+/), path = pathFor(given.replace(/^.*\//, ""));
+  const done = await run([`load ${name} ${kind} ${path}`], bytes);
+  if (done.isWell) session.set(path, bytes);
+  return done;
+}
+
+// Loads the layers among files under names that none has yet; those that load, and those that are refused.
+async function loadAll(layers) {
+  const opened = [], refused = [];
   state.isOpening = true;
   for (const layer of layers) {
     const name = nameFor(layer.name);
@@ -61,47 +69,47 @@ export async function openFiles(files, areNamed = true) {
     else refused.push({ name, layer, reply });
   }
   state.isOpening = false;
+  return { opened, refused };
+}
+
+// The document has new layers; where it had none before, they are shown whole.
+async function showOpened(opened, wasEmpty) {
   if (wasEmpty && opened.length) state.active = opened.includes("top") ? "top" : opened[opened.length - 1];
-  for (const entry of refused) await aboutRefused(entry, opened);
   await refresh();
   if (opened.length && wasEmpty) await changed("fit", await boxOfAll(state.layers));
-  const left = others.length ? ` ${plural(others.length, "file")} left out: ${names(others)}.` : "";
-  const count = `${plural(opened.length, "layer")} opened.`;
-  tell(`${count}${left}${refused.length ? ` ${plural(refused.length, "file")} refused, see the left side.` : ""}`,
-    refused.length > 0);
+}
+
+// Loads what a refused file was converted to, now or later.
+async function openConverted({ name, layer }, bytes, opened) {
+  const wasEmpty = state.layers.length === 0, again = nameFor(name);
+  const done = await loadOne(again, layer, bytes);
+  if (done.isWell) {
+    opened.push(again);
+    await showOpened([again], wasEmpty);
+  }
+  return done;
+}
+
+// Loads files, [{ name, bytes }]; the refused ones are told, and where they can be converted that is offered. PBM files are
+// pictures beside the layers.
+export async function openFiles(given, areNamed = true) {
+  const wasEmpty = state.layers.length === 0;
+  const { layers, others } = recogniseFiles(given.filter(({ bytes }) => !isPbm(bytes)), areNamed);
+  const { opened, refused } = await loadAll(layers);
+  await showOpened(opened, wasEmpty);
+  for (const entry of refused) await showRefused(entry, (bytes) => openConverted(entry, bytes, opened));
+  const faults = [], pictures = await openPictures(given.filter(({ bytes }) => isPbm(bytes)), faults);
+  const parts = [
+    opened.length || !pictures && !refused.length ? `${plural(opened.length, "layer")} opened.` : "",
+    pictures ? `${plural(pictures, "picture")} opened.` : "",
+    others.length ? `${plural(others.length, "file")} left out: ${names(others)}.` : "",
+    refused.length ? `${plural(refused.length, "file")} refused, see the left side.` : "", ...faults,
+  ];
+  tell(parts.filter((part) => part).join(" "), refused.length > 0 || faults.length > 0);
   return { opened, refused, others };
 }
 
 const names = (files) => files.slice(0, 5).map((file) => file.name).join(", ") + (files.length > 5 ? ", .." : "");
-
-// Shows a refused file, and loads what it is converted to, where the person wants that.
-async function aboutRefused(entry, opened) {
-  const { name, layer, reply } = entry;
-  const words = refusalWords(reply, layer.file.bytes, layer.kind);
-  const row = element("li", {}, element("b", {}, layer.file.name), ` ${words}`);
-  byId("refused").append(row);
-  byId("refused-panel").hidden = false;
-  const converted = convertedOf(layer.kind, layer.file.bytes);
-  if (!converted) return;
-  if (converted.refusals) {
-    row.append(element("p", {}, `It cannot be converted: ${converted.refusals.slice(0, 5).join("; ")}`));
-    return;
-  }
-  const list = element("ul", { className: "changes" }, ...converted.changes.map((change) => element("li", {}, change)));
-  const answer = await ask(`Convert ${layer.file.name}?`, [
-    element("p", {}, words),
-    element("p", {}, "It can be written in the form of today. These changes are made, and no others:"), list,
-  ], [["Convert and open", "yes"], ["Leave it out", "no"]]);
-  if (answer !== "yes") return;
-  const again = nameFor(name);
-  const done = await loadOne(again, layer, converted.bytes);
-  if (done.isWell) {
-    opened.push(again);
-    row.append(element("p", {}, `It was converted and opened: ${plural(converted.changes.length, "change")}.`));
-  } else {
-    row.append(element("p", {}, `What it was converted to is refused too: ${done.reply}.`));
-  }
-}
 
 // The files of a drop, those in folders too.
 export async function droppedFiles(transfer) {

@@ -58,9 +58,10 @@ export function shifted(text, dx, dy) {
   }).join(" ");
 }
 
-// The path of an item in nm, with what is stroked; `widthOf(number)` is the width of an aperture or a tool.
-export function outlineOf(item, box, widthOf) {
+// The path of an item in nm, with what is stroked; `entryOf(number)` is its aperture or tool, or null.
+export function outlineOf(item, box, entryOf) {
   const path = new Path2D();
+  const widthOf = (number) => entryOf(number)?.width ?? 0;
   if (item?.kind === "draw" || item?.kind === "rout") {
     item.points.forEach(([x, y], at) => at ? path.lineTo(x, y) : path.moveTo(x, y));
     return { path, width: widthOf(item.number) };
@@ -86,7 +87,10 @@ export function outlineOf(item, box, widthOf) {
     path.arc(...item.points[0], Math.max(1, widthOf(item.number) / 2), 0, 2 * Math.PI);
     return { path, width: 0 };
   }
-  if (box) path.rect(box.left, box.low, box.right - box.left, box.high - box.low);
+  if (!box) return { path, width: 0 };
+  const width = box.right - box.left, height = box.high - box.low;
+  const isRound = item?.kind === "flash" && ["circle", "obround"].includes(entryOf(item.number)?.shape);
+  path.roundRect(box.left, box.low, width, height, isRound ? Math.min(width, height) / 2 : 0);
   return { path, width: 0 };
 }
 
@@ -115,12 +119,13 @@ export function joined(boxes) {
 }
 
 // The apertures, blocks or tools that an answer to `entries` tells: each has a line of its kind and number, and its
-// definition below. { number, words, width }, with the width in nm that it strokes, 0 where that is not known.
+// definition below. { number, words, width, shape }, with the width in nm that it strokes, 0 where that is not known, and
+// the name of its shape where that is simple.
 export function entriesFrom(lines) {
   const found = [];
   for (const line of lines) {
     const head = /^(aperture|block|tool) (\d+)/.exec(line);
-    if (head) found.push({ number: Number(head[2]), words: head[1] === "block" ? "block" : "", width: 0 });
+    if (head) found.push({ number: Number(head[2]), words: head[1] === "block" ? "block" : "", width: 0, shape: null });
     else if (found.length) describe(found[found.length - 1], line);
   }
   return found;
@@ -135,6 +140,7 @@ function describe(entry, line) {
     const [, name, width, height] = template;
     entry.words = `${NAMES[name]} ${short(width)}${name === "C" ? "" : ` by ${short(height)}`} mm`;
     entry.width = Math.round(Number(width) * 1e6);
+    entry.shape = NAMES[name];
   } else if (tool) {
     entry.words = `${short(tool[1])} mm`;
     entry.width = Math.round(Number(tool[1]) * 1e6);

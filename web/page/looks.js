@@ -10,7 +10,7 @@ const isLight = () => document.documentElement.dataset.look === "light";
 
 export function setLook(look) {
   document.documentElement.dataset.look = look;
-  view?.paint();
+  view?.renew();
 }
 
 export function changeLook() {

@@ -1,13 +1,16 @@
 // The page: what begins, in which order, and the actions by their names and keys.
 
-import { DEPTH, keepIn, listenToLine, plotView, replay, run, steps, told } from "./script.js";
+import { DEPTH, keepIn, listenToLine, plotView, run, steps, told } from "./script.js";
 import { act, listenToButtons, listenToKeys, showKeys } from "./actions.js";
 import { activeBy, listenToLayers, makeActive, showAll, showOnly, toggleActive } from "./layer_panel.js";
 import { ask, byId, element, tell } from "./dom.js";
-import { boxOfAll, describeBy, entriesMayChange, loaded, refresh, widthOf } from "./documents.js";
+import { begin } from "./beginning.js";
+import { entriesMayChange, entryOf, loaded, refresh } from "./documents.js";
 import { changed, on, state } from "./state.js";
 import { chooseTool, endMaking, escape, listenToPointer, pointUnder, pointer, showPicked } from "./pointer.js";
-import { compare, leave, listenToHistory } from "./history_panel.js";
+import { compare, listenToHistory } from "./history_panel.js";
+import { compareChosen, listenToPictures } from "./pictures_panel.js";
+import { leave, listenToCompared } from "./compared.js";
 import { copy, move, paste, polarity, redo, remove, reorder, undo } from "./editing.js";
 import { fitBox, listenToFiles, openFiles, session } from "./files.js";
 import { listenToLeaving, plot, saveAll, saveLayer, savePlot, saveScript, saved } from "./saving.js";
@@ -20,7 +23,7 @@ import { knowRefusals } from "./refusals.js";
 import { listenToItemList } from "./item_list.js";
 import { listenToItems } from "./item_panel.js";
 import { snapped } from "./units.js";
-import { changeLook, listenToLooks, looksNow, restoreLooks, setLook, showGrid } from "./looks.js";
+import { changeLook, listenToLooks, looksNow } from "./looks.js";
 import { openStation, startWorker } from "./station.js";
 import { contentsOf, unpacked } from "./contents.js";
 
@@ -144,34 +147,6 @@ const TOO_OLD = "This browser cannot run the page: it lacks 64-bit WebAssembly m
 // A module of a table and a memory with places of 64 bits, and nothing else.
 const TRIAL = new Uint8Array([0, 97, 115, 109, 1, 0, 0, 0, 4, 4, 1, 112, 4, 0, 5, 3, 1, 4, 0]);
 
-async function restore(contents) {
-  const lines = await journal.lines();
-  const looks = await journal.looks();
-  if (lines.length) {
-    describeBy((name, kind) => ({ ...restoreLooks(looks, name), name, kind }));
-    await replay(lines, async (path) => {
-      const bytes = await journal.file(path);
-      session.set(path, bytes);
-      return bytes;
-    });
-    for (const { line, path } of told) if (path) loaded(line);
-    describeBy(null);
-    state.unsaved = looks?.unsaved ?? 0;
-    state.grid = looks?.grid ?? state.grid;
-    if (looks) setLook(looks.look);
-    showGrid();
-    state.active = looks?.active ?? state.active;
-    await refresh();
-    await changed("document");
-    const box = looks?.view ? null : await boxOfAll(state.layers);
-    if (box) view.fit(box);
-    else if (looks?.view) view.show(looks.view);
-    tell("Opened where you were.");
-  } else if (contents?.files.length) {
-    await openFiles(contents.files, true);
-  }
-}
-
 async function start() {
   nameActions();
   listenToButtons();
@@ -181,11 +156,13 @@ async function start() {
   listenToLooks(view);
   listenToPointer(view, marks);
   listenToLayers(view);
-  listenToHistory(view);
+  listenToCompared(view);
+  listenToHistory();
+  listenToPictures(view);
   listenToItemList();
   listenToFiles();
   await listenToItems();
-  marks.widthOf = (number) => widthOf(state.picked[0]?.name ?? state.active, number);
+  marks.entryOf = entryOf;
   view.afterDraw = () => marks.draw();
   plotView(() => view.window());
   new ResizeObserver(resize).observe(byId("stage"));
@@ -212,7 +189,7 @@ async function start() {
   chooseTool("pick");
   keepIn(journal);
   try {
-    await restore(contents);
+    await begin(journal, contents, view);
   } catch (fault) {
     tell(`What was kept could not be played again (${fault.message}). Start anew, or save the script.`, true);
   }
@@ -221,7 +198,7 @@ async function start() {
 }
 
 // For tests and for those who look with a browser's own tools.
-globalThis.camplot = { state, view, marks, run, steps, told, pick, pickAt, pickIn, pickPlace, compare, leave, openFiles,
-  plot, saved, session, makeActive, fit, snapped };
+globalThis.camplot = { state, view, marks, run, steps, told, pick, pickAt, pickIn, pickPlace, compare, compareChosen, leave,
+  openFiles, plot, saved, session, makeActive, fit, snapped };
 
 start().catch((fault) => tell(`The page could not begin: ${fault.message ?? fault}`, true));

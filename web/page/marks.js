@@ -31,7 +31,7 @@ export class Marks {
     this.shift = null;
     this.measured = null;
     this.drawn = null;
-    this.widthOf = () => 0;
+    this.entryOf = () => null;
   }
 
   draw() {
@@ -50,9 +50,9 @@ export class Marks {
   drawPicked() {
     const shift = this.shift ?? { x: 0, y: 0 };
     // Of many only their boxes, which are enough to see.
-    for (const { words, box } of state.picked.slice(0, 2000)) {
-      if (this.shift) this.outline(words, box, { x: 0, y: 0 }, "--ink-faint");
-      this.outline(words, box, shift, "--ink-picked");
+    for (const { name, words, box } of state.picked.slice(0, 2000)) {
+      if (this.shift) this.outline(words, box, { x: 0, y: 0 }, "--ink-faint", name);
+      this.outline(words, box, shift, "--ink-picked", name);
     }
   }
 
@@ -65,8 +65,9 @@ export class Marks {
     context.restore();
   }
 
-  outline(words, box, shift, ink) {
-    const { path, width } = outlineOf(itemOf(words ?? ""), box, this.widthOf);
+  // Of an item of a layer, in the words that a script has for it.
+  outline(words, box, shift, ink, name = state.active) {
+    const { path, width } = outlineOf(itemOf(words ?? ""), box, (number) => this.entryOf(name, number));
     const { context, view } = this;
     context.lineCap = context.lineJoin = "round";
     this.inNm(shift, (scale) => {

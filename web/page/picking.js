@@ -2,7 +2,7 @@
 
 import { changed, layerOf, shownLayers, state } from "./state.js";
 import { entries, itemsAt } from "./documents.js";
-import { numbersOf } from "./station.js";
+import { question, questions } from "./station.js";
 import { plural } from "./units.js";
 import { tell } from "./dom.js";
 
@@ -34,8 +34,8 @@ async function nextBelow(x, y, below) {
   const first = below ? pile.findIndex((layer) => layer.name === below.name) : 0;
   for (const layer of pile.slice(Math.max(0, first))) {
     const before = below && layer.name === below.name ? ` ${below.place}` : "";
-    const [place] = await numbersOf(`at ${layer.name} ${x} ${y}${before}`);
-    if (place !== undefined) return { name: layer.name, place };
+    const lines = await question(`at ${layer.name} ${x} ${y}${before}`);
+    if (lines?.length) return { name: layer.name, place: Number(lines[0]) };
   }
   return null;
 }
@@ -61,11 +61,9 @@ export async function pickAt(x, y, reach, isAdded = false) {
 const GREATEST = 5000;
 
 export async function pickIn(box, isAdded = false) {
-  const places = [];
-  for (const layer of shownLayers()) {
-    const found = await numbersOf(`in ${layer.name} ${box.left} ${box.low} ${box.right} ${box.high}`);
-    places.push(...found.map((place) => ({ name: layer.name, place })));
-  }
+  const layers = shownLayers();
+  const answers = await questions(layers.map(({ name }) => `in ${name} ${box.left} ${box.low} ${box.right} ${box.high}`));
+  const places = answers.flatMap((lines, at) => (lines ?? []).map((line) => ({ name: layers[at].name, place: Number(line) })));
   if (places.length > GREATEST) {
     return tell(`${plural(places.length, "item")} lie there, and ${GREATEST} are the most that are picked: take a smaller box.`,
       true);

@@ -10,6 +10,8 @@ import { joined } from "./items.js";
 
 // How far the pointer may go in a click, in pixels of the page.
 const STILL = 4;
+// How long it rests before the page looks what lies there.
+const REST_MS = 60;
 
 let view = null, marks = null;
 let drag = null, making = null;
@@ -69,7 +71,7 @@ async function endDrag(event) {
   const to = pointUnder(onCanvas(event));
   drag = null;
   byId("stage").classList.remove("dragging");
-  if (kind === "draw") return addPoint(to);
+  if (kind === "draw") return addPoint(to, event.shiftKey);
   if (kind === "pan" || kind === "measure") return;
   const shift = marks.shift;
   marks.dragged = null;
@@ -86,9 +88,9 @@ async function endDrag(event) {
   marks.draw();
 }
 
-async function addPoint(at) {
+async function addPoint(at, isCentre) {
   if (!making) return;
-  const words = making.add(at);
+  const words = making.add(at, isCentre);
   showMaking(at);
   if (words) await insert(words);
 }
@@ -126,7 +128,7 @@ export function chooseTool(name) {
 export async function escape() {
   if (state.comparison) return changed("compared", null);
   if (making?.points.length) {
-    making.points = [];
+    making.forget();
     marks.drawn = null;
   } else if (state.tool !== "pick") {
     chooseTool("pick");
@@ -150,9 +152,16 @@ function pinchOn(event) {
   if (before.span > 0) view.zoom(now.span / before.span, now.x, now.y);
 }
 
+// The point under the pointer and, once it rests, what is black there.
+let resting = 0;
 function showPlace(at) {
   const { x, y } = pointUnder(at);
   byId("place").textContent = `${x} ${y} nm   ${mm(x)}, ${mm(y)} mm`;
+  clearTimeout(resting);
+  resting = setTimeout(() => {
+    const black = view.blackAt(at.x, at.y);
+    byId("dark").textContent = black.length ? `black in ${black.join(", ")}` : "";
+  }, REST_MS);
 }
 
 export function listenToPointer(opened, over) {

@@ -3,6 +3,8 @@
 export const state = {
   // From the bottom up: { name, kind, label, colour, opacity, isShown, items, entries, height, file }.
   layers: [],
+  // Pictures beside the layers, which lie over them: { name, label, colour, opacity, isShown, isOpened, window }.
+  opened: [],
   // The layer that insertions go to, and the entry of its apertures or tools that they use.
   active: null,
   entry: null,
@@ -10,7 +12,7 @@ export const state = {
   picked: [],
   tool: "pick",
   grid: 10000,
-  // While two states are compared: what the worker made of them.
+  // While two are compared: what is shown in place of the layers, `layers` as they are or bitmaps in `sheets`.
   comparison: null,
   // How many edits were made since all was saved.
   unsaved: 0,
@@ -30,3 +32,7 @@ export const changed = (name, ...more) => Promise.all((heard.get(name) ?? []).ma
 export const layerOf = (name) => state.layers.find((layer) => layer.name === name) ?? null;
 
 export const shownLayers = () => state.layers.filter((layer) => layer.isShown);
+
+// What lies on the board, from the bottom up.
+export const drawnLayers = () => state.comparison?.layers
+  ?? [...shownLayers(), ...state.opened.filter((picture) => picture.isShown)];

@@ -39,18 +39,21 @@ export function send(kind, message = {}, over = []) {
 export const openStation = (module, depth) => send("open", { module, depth });
 
 // One line of a script: { code, reply, bytes }. The bytes of a load stay the page's: they go over as a copy.
-export const sendLine = (line, file = null, isSilent = false) => send("line", { line, file, isSilent });
+export const sendLine = (line, file = null) => send("line", { line, file });
 
 export const showView = (view) => send("view", { view });
 
 export const compareWith = (steps, colours) => send("compare", { steps, colours });
 
-// The lines of an answer; null where the question was refused.
-export async function question(words) {
-  const { code, answer } = await send("ask", { question: words });
-  return code ? null : answer.split("\n").filter((line) => line);
+// A picture beside the layers, with its window as a line; null takes it away.
+export const keepPicture = (name, picture, line = null) => send("picture", { name, picture, line });
+
+export const compareTwo = (pair, names) => send("compareTwo", { pair, names });
+
+// The lines of the answers to several questions; null where one was refused.
+export async function questions(asked) {
+  const { answers } = await send("ask", { asked });
+  return answers.map(({ code, answer }) => code ? null : answer.split("\n").filter((line) => line));
 }
 
-export async function numbersOf(words) {
-  return ((await question(words)) ?? []).map(Number);
-}
+export const question = async (words) => (await questions([words]))[0];

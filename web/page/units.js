@@ -3,6 +3,8 @@
 export const NM_PER_MM = 1e6;
 // No point of a board is so far from (0, 0) along an axis, in nm.
 export const BOARD = 1e9;
+// How light a layer's colour is at most on a light board.
+const LIGHTEST = 0.55;
 
 // A length in mm with its digits as far as they say something, and three behind the point at least.
 export function mm(nm) {
@@ -19,6 +21,14 @@ export function lengthOf(text) {
   const unit = { mm: 1e6, "": 1e6, nm: 1, um: 1e3, "µm": 1e3, in: 25.4e6, mil: 25400 }[found[2]];
   const value = Math.round(Number(found[1].replace(",", ".")) * unit);
   return Math.abs(value) <= 4e9 ? value : null;
+}
+
+// A colour as it is seen on the board of the look: on a light one what is nearly white is darkened.
+export function seen(colour, isLight) {
+  const parts = [1, 3, 5].map((at) => parseInt(colour.slice(at, at + 2), 16));
+  const luminance = (0.2126 * parts[0] + 0.7152 * parts[1] + 0.0722 * parts[2]) / 255;
+  if (!isLight || luminance <= LIGHTEST) return colour;
+  return `#${parts.map((part) => Math.round(part * LIGHTEST / luminance).toString(16).padStart(2, "0")).join("")}`;
 }
 
 export const wholeOf = (text) => /^\s*\d{1,10}\s*$/.test(text) ? Number(text) : null;

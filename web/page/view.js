@@ -2,8 +2,8 @@
 // a window of the station, which the worker draws; while a new one is not there yet, the one before is shown where it
 // belongs, and what no picture covers is marked as not drawn.
 
-import { BOARD } from "./units.js";
-import { shownLayers, state } from "./state.js";
+import { BOARD, seen } from "./units.js";
+import { drawnLayers, shownLayers, state } from "./state.js";
 import { showView } from "./station.js";
 
 // Pixels of a picture beyond each edge of the canvas, so that a small move has its pixels.
@@ -14,6 +14,8 @@ const LEAST_PITCH = 2 * SAMPLES;
 const GREATEST_PITCH = 4e6;
 // The page asks for another window at most so often while the one before is drawn.
 const PATIENCE_MS = 200;
+
+const isEmpty = () => state.layers.length === 0 && state.opened.length === 0;
 
 export class View {
   constructor(canvas) {
@@ -109,7 +111,7 @@ export class View {
   }
 
   request() {
-    if (!this.isWanted || state.layers.length === 0 || state.isOpening) return;
+    if (!this.isWanted || isEmpty() || state.isOpening) return;
     const now = performance.now();
     if (!this.isWhole && now - this.asked < PATIENCE_MS) return;
     this.isWanted = false;
@@ -117,14 +119,20 @@ export class View {
     this.asked = now;
     this.number++;
     // The topmost layers first, since they are seen most.
-    const layers = shownLayers().map(({ name, colour }) => ({ name, colour })).reverse();
+    const isLight = document.documentElement.dataset.look === "light";
+    const layers = drawnLayers().map(({ name, colour, isOpened }) => ({ name, colour: seen(colour, isLight), isOpened }))
+      .reverse();
     showView({ number: this.number, window: this.window(), samples: SAMPLES, layers }).catch(() => {});
     state.isDrawing = true;
   }
 
   // A picture came from the worker.
-  put({ name, bitmap, window, samples }) {
+  put({ name, bitmap, window, samples, place }) {
     this.pictures.get(name)?.bitmap?.close();
+    if (place) {
+      this.pictures.set(name, { bitmap, ...place });
+      return this.paint();
+    }
     const [, left, low, pitch, , height] = window.split(" ").map(Number);
     this.pictures.set(name, { bitmap, left, top: low + height * pitch, pitch: pitch * samples });
     this.paint();
@@ -150,7 +158,7 @@ export class View {
       this.request();
       this.paintNow();
       this.frames++;
-      if (this.isWanted && state.layers.length && !state.isOpening) this.paint();
+      if (this.isWanted && !isEmpty() && !state.isOpening) this.paint();
     });
   }
 
@@ -162,11 +170,11 @@ export class View {
     context.fillRect(0, 0, canvas.width, canvas.height);
     this.clearDrawn(style.getPropertyValue("--board"));
     const compared = state.comparison;
-    if (compared) {
+    if (compared?.sheets) {
       context.globalAlpha = 0.9;
       for (const { bitmaps } of compared.sheets) for (const bitmap of bitmaps) this.place({ ...compared.place, bitmap });
     } else {
-      for (const layer of shownLayers()) {
+      for (const layer of drawnLayers()) {
         const picture = this.pictures.get(layer.name);
         context.globalAlpha = layer.opacity;
         if (picture?.bitmap) this.place(picture);
@@ -178,7 +186,7 @@ export class View {
 
   // Where all shown layers have a picture, nothing is undrawn.
   clearDrawn(colour) {
-    const shown = shownLayers().map((layer) => this.pictures.get(layer.name));
+    const shown = (state.comparison?.layers ? [] : shownLayers()).map((layer) => this.pictures.get(layer.name));
     if (shown.some((picture) => !picture)) return;
     let box = null;
     for (const { left, top, pitch, bitmap, width = bitmap?.width, height = bitmap?.height } of shown) {
@@ -191,6 +199,19 @@ export class View {
     this.context.fillStyle = colour;
     if (!box || state.layers.length === 0) this.context.fillRect(0, 0, this.canvas.width, this.canvas.height);
     else this.context.fillRect(box[0], box[1], box[2] - box[0], box[3] - box[1]);
+  }
+
+  // The names of what is black at a point of the canvas, the topmost first.
+  blackAt(x, y) {
+    const at = this.pointAt(x, y);
+    this.probe ??= new OffscreenCanvas(1, 1).getContext("2d", { willReadFrequently: true });
+    return drawnLayers().filter(({ name }) => {
+      const { bitmap, left, top, pitch } = this.pictures.get(name) ?? {};
+      if (!bitmap) return false;
+      this.probe.clearRect(0, 0, 1, 1);
+      this.probe.drawImage(bitmap, -Math.floor((at.x - left) / pitch), -Math.floor((top - at.y) / pitch));
+      return this.probe.getImageData(0, 0, 1, 1).data[3] > 127;
+    }).map(({ name, label }) => label ?? name).reverse();
   }
 
   place({ bitmap, left, top, pitch }) {

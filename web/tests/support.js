@@ -19,17 +19,17 @@ export function room() {
   return folder;
 }
 
-let page = null;
+// A page that was built already, by its path in STATION_PAGE, in place of one that is built here.
+let page = process.env.STATION_PAGE ?? null;
 
 // The built page; the test is left out where a browser or the module is missing.
 export function builtPage() {
   if (!chromium()) skip("no chromium is at hand, so the page is not tried");
+  if (page) return page;
   if (!existsSync(MODULE)) skip("web/out/station.wasm is not built, so the page is not tried");
-  if (!page) {
-    page = join(mkdtempSync(join(tmpdir(), "camplot-built-")), "camplot.html");
-    process.on("exit", () => rmSync(dirname(page), { recursive: true, force: true }));
-    execFileSync(join(REPOSITORY, "web", "build"), ["--module", MODULE, page], { stdio: "pipe" });
-  }
+  page = join(mkdtempSync(join(tmpdir(), "camplot-built-")), "camplot.html");
+  process.on("exit", () => rmSync(dirname(page), { recursive: true, force: true }));
+  execFileSync(join(REPOSITORY, "web", "build"), ["--module", MODULE, page], { stdio: "pipe" });
   return page;
 }
 

@@ -199,7 +199,7 @@ suite("large boards", () => {
 suite("a page with files inside", () => {
   test("opens them, and keeps its work apart", async () => {
     const path = join(room(), "board.html");
-    writeFileSync(path, withContents(readFileSync(builtPage(), "utf8"), "a <b>board</b>", kicad()));
+    writeFileSync(path, withContents(readFileSync(builtPage(), "utf8"), { title: "a <b>board</b>", files: kicad() }));
     const browser = await openPage({ page: path });
     await settle(browser);
     assert.equal(await browser.ask("camplot.state.layers.length"), 8);

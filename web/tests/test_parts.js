@@ -80,10 +80,10 @@ suite("entries", () => {
     const lines = ["aperture 10", "%ADD10C,0.500000*%", "aperture 11", "%AMM11*", "1,1,0.500000,0.000000,0.000000*", "%",
       "%ADD11M11*%", "block 12 2", "  flash 10 0 0 r0 dark", "  flash 11 1000000 0 r0 clear", "aperture 13",
       "%ADD13R,2.000000X1.000000X0.300000*%"];
-    assert.deepEqual(entriesFrom(lines), [{ number: 10, words: "circle 0.5 mm", width: 500000 },
-      { number: 11, words: "a shape of primitives", width: 0 }, { number: 12, words: "block", width: 0 },
-      { number: 13, words: "rectangle 2 by 1 mm", width: 2000000 }]);
-    assert.deepEqual(entriesFrom(["tool 1", "T1C0.800000"]), [{ number: 1, words: "0.8 mm", width: 800000 }]);
+    assert.deepEqual(entriesFrom(lines), [{ number: 10, words: "circle 0.5 mm", width: 500000, shape: "circle" },
+      { number: 11, words: "a shape of primitives", width: 0, shape: null }, { number: 12, words: "block", width: 0, shape: null },
+      { number: 13, words: "rectangle 2 by 1 mm", width: 2000000, shape: "rectangle" }]);
+    assert.deepEqual(entriesFrom(["tool 1", "T1C0.800000"]), [{ number: 1, words: "0.8 mm", width: 800000, shape: null }]);
   });
 });
 

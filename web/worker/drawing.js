@@ -1,7 +1,8 @@
 // The view: a window of the station, whose shown layers are drawn one after another, a heavy one in parts, between what
 // the page asks meanwhile.
 
-import { compared, inkOf, paint, pictureOf, putTile } from "./pictures.js";
+import { inkOf, paint, pictureOf, putTile } from "./pictures.js";
+import { around, difference, windowOf } from "./opened.js";
 
 // A layer that took longer, or has more items before it was drawn once, is drawn in parts of so many tiles.
 const HEAVY_MS = 80;
@@ -19,9 +20,11 @@ export class Drawing {
   // `post` hands a message to the page, with what goes over to it.
   constructor(station, layers, post) {
     this.station = station;
-    // The names of the layers in the order of their loads, with their items: Map of name -> items.
+    // The layers by their names in the order of their loads, each with its kind and how many items it had then.
     this.layers = layers;
     this.post = post;
+    // Pictures beside the layers, by the names that the page gave them.
+    this.opened = new Map();
     this.view = null;
     // The window that the station has, and that of the script, as lines.
     this.current = null;
@@ -71,7 +74,8 @@ export class Drawing {
     if (this.current !== this.view.window) return this.stop("The view cannot be set.");
     if (isNew) this.sent = new Map();
     const layer = this.part?.layer ?? this.waiting[0];
-    if (this.part || this.isHeavy(layer)) this.drawPart(layer);
+    if (layer.isOpened) this.drawOpened(layer);
+    else if (this.part || this.isHeavy(layer)) this.drawPart(layer);
     else this.drawWhole(layer);
     if (this.waiting.length) return true;
     this.post({ kind: "drawn", number: this.view.number });
@@ -86,7 +90,7 @@ export class Drawing {
 
   isHeavy(layer) {
     const took = this.took.get(layer.name);
-    return took === undefined ? this.layers.get(layer.name) > HEAVY_ITEMS : took > HEAVY_MS;
+    return took === undefined ? this.layers.get(layer.name)?.items > HEAVY_ITEMS : took > HEAVY_MS;
   }
 
   drawWhole(layer) {
@@ -173,33 +177,72 @@ export class Drawing {
     return canvas.transferToImageBitmap();
   }
 
-  // The picture of a layer in the view's window as it is now, or null.
-  pictureNow(name) {
-    this.use(this.view.window);
-    return this.apply(`plot ${name} view`) === 0 ? pictureOf(this.station.file) : null;
+  // A picture beside the layers; null where it goes.
+  keep(name, opened) {
+    if (opened) this.opened.set(name, opened);
+    else this.opened.delete(name);
+    this.sent?.delete(name);
+  }
+
+  drawOpened({ name, colour }) {
+    this.waiting.shift();
+    if (this.sent.get(name) === colour) return;
+    const { left, low, pitch, width, height } = windowOf(this.view.window);
+    const seen = { left, low, right: left + width * pitch, top: low + height * pitch, pitch: pitch * this.view.samples };
+    const part = this.opened.get(name)?.partIn(seen, colour) ?? null;
+    this.sent.set(name, colour);
+    let bitmap = null;
+    if (part) {
+      const canvas = new OffscreenCanvas(part.image.width, part.image.height);
+      canvas.getContext("2d").putImageData(part.image, 0, 0);
+      bitmap = canvas.transferToImageBitmap();
+    }
+    this.post({ kind: "picture", number: this.view.number, name, bitmap,
+      place: { left: part?.left, top: part?.top, pitch: part?.pitch } }, bitmap ? [bitmap] : []);
+  }
+
+  // The picture of a layer in a window as it is now, or null.
+  pictureIn(name, line) {
+    this.use(line);
+    return this.current === line && this.apply(`plot ${name} view`) === 0 ? pictureOf(this.station.file) : null;
+  }
+
+  // What two have in both and alone, each a layer or a picture beside them, in the picture's window where one is, else in
+  // the view's. Three pictures of these names show it.
+  compareTwo(pair, names) {
+    const line = pair.map(({ name }) => this.opened.get(name)?.line).find((found) => found) ?? this.view.window;
+    const pictures = pair.map(({ name, isOpened }) => isOpened ? this.opened.get(name)?.picture : this.pictureIn(name, line));
+    const [first, second] = pictures;
+    this.refresh();
+    if (!first || !second || first.width !== second.width || first.height !== second.height) return { counts: null };
+    const { parts, box } = difference(first, second, line);
+    parts.forEach(({ opened }, at) => this.keep(names[at], opened));
+    return { counts: parts.map(({ count }) => count), box };
   }
 
   // Each shown layer now beside what `steps` undos make of it: how many pixels are in both, only then, only now. The
   // document is as it was when this is done.
   compare(steps, colours) {
-    const names = this.view.layers.map((layer) => layer.name);
-    const now = names.map((name) => this.pictureNow(name));
+    const names = this.view.layers.filter((layer) => !layer.isOpened).map((layer) => layer.name);
+    const now = names.map((name) => this.pictureIn(name, this.view.window));
     let taken = 0;
     while (taken < steps && this.apply("undo") === 0) taken++;
-    const then = names.map((name) => this.pictureNow(name));
+    const then = names.map((name) => this.pictureIn(name, this.view.window));
     let given = 0;
     while (given < taken && this.apply("redo") === 0) given++;
     this.refresh();
     if (taken !== steps || given !== taken) return { isWhole: given === taken, sheets: null };
     const sheets = colours.map((colour) => ({ colour, count: 0, bitmaps: [] }));
-    names.forEach((name, at) => {
-      if (!now[at] || !then[at]) return;
-      compared(then[at], now[at]).forEach(({ picture, count }, part) => {
+    const boxes = names.map((name, at) => {
+      if (!now[at] || !then[at]) return null;
+      const { parts, box } = difference(then[at], now[at], this.view.window);
+      parts.forEach(({ opened, count }, part) => {
         sheets[part].count += count;
-        const bitmap = this.bitmapOf(picture, colours[part]);
+        const bitmap = this.bitmapOf(opened.picture, colours[part]);
         if (bitmap) sheets[part].bitmaps.push(bitmap);
       });
+      return box;
     });
-    return { isWhole: true, sheets, window: this.view.window, samples: this.view.samples };
+    return { isWhole: true, sheets, box: around(boxes), window: this.view.window, samples: this.view.samples };
   }
 }

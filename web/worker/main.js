@@ -2,7 +2,8 @@
 // pictures come between them, without one. What the page asks goes before what is still to be drawn.
 
 import { Drawing } from "./drawing.js";
-import { Questions } from "./asking.js";
+import { Opened } from "./opened.js";
+import { questionsTo } from "./asking.js";
 import { Station } from "./station.js";
 
 const text = new TextEncoder();
@@ -36,14 +37,14 @@ async function open({ module, depth }) {
   station = new Station(compiled, depth);
   layers = new Map();
   drawing = new Drawing(station, layers, post);
-  questions = new Questions(station);
+  questions = questionsTo(station, layers);
   return { asks: station.asks };
 }
 
 const LOOKING = new Set(["plot", "redraw"]);
 
 // One line of a script. `file` holds the bytes of a load.
-function line({ line: given, file, isSilent }) {
+function line({ line: given, file }) {
   const [command, ...rest] = given.split(/[ \t]+/).filter((word) => word);
   if (LOOKING.has(command)) drawing.useScripted();
   const code = station.apply(text.encode(given), file ? new Uint8Array(file) : null);
@@ -51,8 +52,8 @@ function line({ line: given, file, isSilent }) {
   const isPut = code === 0 && (command === "plot" || command === "write");
   const bytes = isPut ? station.file : null;
   if (code === 0 && command === "window") drawing.windowed(given);
-  if (code === 0 && command === "load") layers.set(rest[0], Number(reply.split(" ")[1]));
-  if (code === 0 && !isSilent) {
+  if (code === 0 && command === "load") layers.set(rest[0], { kind: rest[1], items: Number(reply.split(" ")[1]) });
+  if (code === 0) {
     questions.forget(command, rest[0]);
     drawing.refresh();
     goOn();
@@ -63,7 +64,7 @@ function line({ line: given, file, isSilent }) {
 const kinds = {
   open,
   line,
-  ask: ({ question }) => questions.ask(question),
+  ask: ({ asked }) => ({ answers: asked.map((question) => questions.ask(question)) }),
   view: ({ view }) => {
     drawing.show(view);
     goOn();
@@ -73,6 +74,17 @@ const kinds = {
     const found = drawing.compare(steps, colours);
     goOn();
     return { ...found, over: (found.sheets ?? []).flatMap((sheet) => sheet.bitmaps) };
+  },
+  picture: ({ name, picture, line: window }) => {
+    drawing.keep(name, picture && new Opened(picture, window));
+    drawing.refresh();
+    goOn();
+    return {};
+  },
+  compareTwo: ({ pair, names }) => {
+    const found = drawing.compareTwo(pair, names);
+    goOn();
+    return found;
   },
   memory: () => ({ bytes: station.memory }),
 };

@@ -88,6 +88,13 @@ const reversed = new Uint8Array(256).map((_, byte) => {
   return turned;
 });
 
+// Of a byte, how many of its pixels are black.
+export const ones = new Uint8Array(256).map((_, byte) => {
+  let count = 0;
+  for (let rest = byte; rest; rest &= rest - 1) count++;
+  return count;
+});
+
 // What of two pictures of the same sides stands in both, in the first alone and in the second alone, and how many
 // pixels each has.
 export function compared(first, second) {
@@ -97,7 +104,7 @@ export function compared(first, second) {
     for (let at = 0; at < bits.length; at++) {
       const byte = choose(first.bits[at], second.bits[at]);
       bits[at] = byte;
-      for (let rest = byte; rest; rest &= rest - 1) count++;
+      count += ones[byte];
     }
     return { picture: { ...first, bits }, count };
   };
