@@ -47,7 +47,7 @@ export async function reorder(to) {
 // An item at the end of the active layer, and then it is picked.
 export async function insert(words) {
   const layer = layerOf(state.active);
-  if (!layer) return tell("No layer is chosen that the item could go to.", true);
+  if (!layer) return tell("Choose a layer for the item first.", true);
   return insertAll(layer, [words]);
 }
 
@@ -63,7 +63,7 @@ let copied = [];
 export function copy() {
   copied = state.picked.filter((item) => !isRepeat(item)).map((item) => item.words);
   navigator.clipboard?.writeText(copied.join("\n")).catch(() => {});
-  tell(copied.length ? `${copied.length} copied.` : "Nothing is picked that could be copied.");
+  tell(copied.length ? `${copied.length} copied.` : "Nothing is picked to copy.");
 }
 
 export async function paste(dx, dy) {

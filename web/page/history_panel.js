@@ -34,8 +34,8 @@ export async function compare(back) {
   if (steps.group) return tell("A group is open: end it first.", true);
   if (back < 1 || back > steps.done.length) return tell("There is nothing to compare with.", true);
   const { sheets, window, samples, box, isWhole } = await compareWith(back, COLOURS);
-  if (!isWhole) return tell("The steps back could not all be made again: close the page and open it again.", true);
-  if (!sheets) return tell("So many steps cannot be taken back.", true);
+  if (!isWhole) return tell("Not all undone steps could be made again: close the page and open it again.", true);
+  if (!sheets) return tell("So many steps cannot be undone.", true);
   const [, left, low, pitch, , height] = window.split(" ").map(Number);
   const place = { left, top: low + height * pitch, pitch: pitch * samples };
   showCompared({ sheets, back, place }, `Compared with ${plural(back, "step")} before`, WORDS,

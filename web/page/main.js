@@ -72,9 +72,9 @@ function pickUnder() {
 }
 
 async function startAnew() {
-  const answer = await ask("Start anew?", [element("p", {},
+  const answer = await ask("Start over?", [element("p", {},
     "All layers are closed, and what this page keeps of them in the browser is deleted. What you saved stays.")],
-  [["Keep working", "no"], ["Start anew", "yes"]]);
+  [["Keep working", "no"], ["Start over", "yes"]]);
   if (answer !== "yes") return;
   state.unsaved = 0;
   await journal.clear();
@@ -88,7 +88,7 @@ function nameActions() {
   act("save-layer", "Files", "Save this layer", ["Ctrl+Shift+s"], () => saveLayer(state.active));
   act("plot", "Files", "Save a plot", ["Ctrl+p"], savePlot);
   act("save-script", "Files", "Save the script with its files", ["Ctrl+e"], saveScript);
-  act("anew", "Files", "Start anew", [], startAnew);
+  act("anew", "Files", "Start over", [], startAnew);
   act("undo", "Edit", "Undo", ["Ctrl+z"], () => steps.done.length && undo());
   act("redo", "Edit", "Redo", ["Ctrl+y", "Ctrl+Shift+z"], () => steps.undone.length && redo());
   act("delete", "Edit", "Delete what is picked", ["Delete", "Backspace"], remove);
@@ -191,7 +191,7 @@ async function start() {
   try {
     await begin(journal, contents, view);
   } catch (fault) {
-    tell(`What was kept could not be played again (${fault.message}). Start anew, or save the script.`, true);
+    tell(`What was kept could not be replayed (${fault.message}). Start over, or save the script.`, true);
   }
   showUnsaved();
   document.body.dataset.ready = "yes";
@@ -201,4 +201,4 @@ async function start() {
 globalThis.camplot = { state, view, marks, run, steps, told, pick, pickAt, pickIn, pickPlace, compare, compareChosen, leave,
   openFiles, plot, saved, session, makeActive, fit, snapped };
 
-start().catch((fault) => tell(`The page could not begin: ${fault.message ?? fault}`, true));
+start().catch((fault) => tell(`The page could not start: ${fault.message ?? fault}`, true));

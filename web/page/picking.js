@@ -65,11 +65,11 @@ export async function pickIn(box, isAdded = false) {
   const answers = await questions(layers.map(({ name }) => `in ${name} ${box.left} ${box.low} ${box.right} ${box.high}`));
   const places = answers.flatMap((lines, at) => (lines ?? []).map((line) => ({ name: layers[at].name, place: Number(line) })));
   if (places.length > GREATEST) {
-    return tell(`${plural(places.length, "item")} lie there, and ${GREATEST} are the most that are picked: take a smaller box.`,
+    return tell(`${plural(places.length, "item")} lie there, and ${GREATEST} are the most that can be picked: draw a smaller box.`,
       true);
   }
   await pick(places, isAdded);
-  tell(places.length ? `${plural(places.length, "item")} picked.` : "No item lies in the box as a whole.");
+  tell(places.length ? `${plural(places.length, "item")} picked.` : "No item lies completely in the box.");
 }
 
 export async function pickPlace(name, place) {
@@ -80,6 +80,6 @@ export async function pickPlace(name, place) {
 
 export async function pickAllOf(name) {
   const count = layerOf(name)?.items ?? 0;
-  if (count > GREATEST) return tell(`${name} has more than ${GREATEST} items, too many to be picked at once.`, true);
+  if (count > GREATEST) return tell(`${name} has more than ${GREATEST} items, too many to pick at once.`, true);
   await pick(Array.from({ length: count }, (_, place) => ({ name, place })));
 }

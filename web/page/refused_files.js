@@ -10,21 +10,21 @@ const SHOWN = 12;
 const select = (...rows) => element("select", {}, ...rows.map(([value, label]) => element("option", { value }, label)));
 const tick = () => element("input", { type: "checkbox" });
 const typed = (placeholder) => element("input", { type: "text", placeholder, spellcheck: false });
-const UNITS = [["", "as the file says"], ["mm", "mm"], ["inch", "inch"]];
+const UNITS = [["", "as in the file"], ["mm", "mm"], ["inch", "inch"]];
 
 // The choices for a kind of file: the name of each, what it is called, and its input.
 const FIELDS = {
   gerber: () => [
     ["nearest", "to the nearest nm", tick()],
     ["unit", "unit", select(...UNITS)],
-    ["arcs", "arcs", select(["", "as the file says"], ["single", "of one quadrant, without signs"],
+    ["arcs", "arcs", select(["", "as in the file"], ["single", "of one quadrant, without signs"],
       ["multi", "of any angle, with signs"])],
     ["repeat", "a point alone repeats flashes and moves", tick()],
   ],
   drill: () => [
     ["unit", "unit", select(...UNITS)],
     ["digits", "digits", typed("2:4")],
-    ["zeros", "zeros that are written", select(["", "as the file says"], ["leading", "leading"], ["trailing", "trailing"])],
+    ["zeros", "zeros that are written", select(["", "as in the file"], ["leading", "leading"], ["trailing", "trailing"])],
     ["tools", "diameters", typed("1=0.8mm 2=40mil")],
     ["report", "report of the program", element("input", { type: "file" })],
   ],

@@ -83,7 +83,7 @@ export async function savePlot() {
   if (answer !== "yes") return;
   const number = Number(dots.value.replace(",", "."));
   const pitch = unit.value === "dpi" ? Math.round(25.4e6 / number) : lengthOf(dots.value);
-  if (!(pitch >= 1 && pitch <= 1e8)) return tell("The dots an inch, or the mm a pixel, are no number that can be used.", true);
+  if (!(pitch >= 1 && pitch <= 1e8)) return tell("The dots an inch, or the mm a pixel, are not a usable number.", true);
   await plot(which.value === "active" ? [layerOf(state.active)] : shownLayers(), pitch, form.value);
 }
 
@@ -91,7 +91,7 @@ export async function plot(layers, pitch, form) {
   const box = await fitBox();
   if (!box) return tell("There is nothing to plot.", true);
   const { line, isAllowed } = windowAround(box, pitch);
-  if (!isAllowed) return tell("That is more than 32,768 pixels along a side: take fewer dots an inch.", true);
+  if (!isAllowed) return tell("That is more than 32,768 pixels along a side: use fewer dots an inch.", true);
   const { isWell } = await run([line]);
   const files = [];
   for (const layer of isWell ? layers : []) {
