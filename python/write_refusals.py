@@ -12,8 +12,8 @@ HEAD = '"""The refusals of docs/refusals.md: of each number its name and what to
 
 
 def plain(text: str) -> str:
-    """A paragraph in one line, without marks."""
-    return re.sub(r"\s+", " ", re.sub(r"[`*]", "", text)).strip()
+    """A paragraph in one line, without marks. A `*` in code is Gerber's own and stays."""
+    return re.sub(r"`([^`]*)`|\*", lambda found: found[1] or "", re.sub(r"\s+", " ", text)).strip()
 
 
 def refusals(page: str) -> dict[int, tuple[str, str]]:

@@ -1,7 +1,7 @@
 // docs/refusals.md as data: of each number its name and what to do, for files of drill layers where those differ.
 
-// A text of the page as a sentence: one line, without its marks.
-const plain = (text) => text.replace(/\s+/g, " ").replace(/[`*]/g, "").trim();
+// A text of the page as a sentence: one line, without its marks. A `*` in code is Gerber's own and stays.
+const plain = (text) => text.replace(/\s+/g, " ").replace(/`([^`]*)`|\*/g, "$1").trim();
 
 // The first sentences of a text, as long as they are of use in a line.
 function opening(text) {
