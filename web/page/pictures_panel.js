@@ -110,7 +110,8 @@ const choices = () => [...state.layers.slice().reverse(), ...state.opened]
 function list() {
   byId("opened").replaceChildren(...state.opened.map(row));
   const found = choices(), [picture] = state.opened;
-  const proposed = picture ? [picture.of ?? found[0].name, picture.name] : found.slice(0, 2).map(({ name }) => name);
+  const first = picture?.of ?? state.active ?? found[0]?.name;
+  const proposed = [first, picture?.name ?? found.find(({ name }) => name !== first)?.name];
   ["first", "second"].forEach((id, at) => {
     const before = chosen[id];
     byId(id).replaceChildren(...found.map(({ name, label }) => element("option", { value: name }, label)));
@@ -133,6 +134,7 @@ export async function compareChosen(names = [byId("first").value, byId("second")
 export function listenToPictures(opened) {
   view = opened;
   on("layers", list);
+  on("active", list);
   on("pictures", () => {
     list();
     view.renew();
