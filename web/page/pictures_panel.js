@@ -127,7 +127,8 @@ export async function compareChosen(names = [byId("first").value, byId("second")
   if (windows.size > 1) return tell("These two pictures are of other windows, so their pixels cannot be compared.", true);
   const { counts, box } = await compareTwo(pair, FOUND);
   if (!counts) return tell("These two cannot be compared.", true);
-  const layers = FOUND.map((name, at) => ({ name, label: LABELS[at], colour: COLOURS[at], opacity: 1, isShown: true, isOpened: true }));
+  const layers = FOUND.map((name, at) =>
+    ({ name, label: LABELS[at], colour: COLOURS[at], opacity: 1, isShown: true, isOpened: true }));
   showCompared({ layers }, `${pair[0].label} and ${pair[1].label}`, WORDS, counts, box);
 }
 
