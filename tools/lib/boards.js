@@ -183,7 +183,8 @@ export class Board {
   contents(title) {
     const files = this.layers.map(({ file }) => ({ name: file.name, bytes: readFileSync(file.path) }));
     const lines = [], pictures = [];
-    let window = this.window && windowLine(this.window);
+    const plotted = this.window && windowLine(this.window);
+    let window = plotted;
     for (const { line, number } of this.edits.filter((reply) => reply.isAccepted)) {
       const [command, layer, path, loaded] = wordsOf(line);
       if (command === "window") window = line;
@@ -191,7 +192,7 @@ export class Board {
       if (command === "load") lines.push({ line, bytes: this.read(loaded) });
       else if (!LOOKS.includes(command)) lines.push({ line: utf8(latin1Bytes(line)) });
     }
-    return { title, files, lines, pictures: pictures.filter(({ bytes }) => isPbm(bytes)), window: this.window && windowLine(this.window) };
+    return { title, files, lines, pictures: pictures.filter(({ bytes }) => isPbm(bytes)), window: plotted };
   }
 
   /** What the page is called. @param {string[]} paths the files or the folder that were named */

@@ -32,11 +32,12 @@ const onPage = (text) => text.replace(/\(--\w+\)/g, "(chosen)").replace(/--(\w+)
 const isSame = (one, other) => one.length === other.length && one.every((byte, at) => byte === other[at]);
 
 // What a file is converted to under a person's choices, as the options of tools/to_gerber and tools/to_xnc have them: its
-// bytes with the changes that were made, of a drill file with how it was read too, or why it is refused; null where it needs no change.
+// bytes with the changes that were made, of a drill file with how it was read too, or why it is refused; null where it
+// needs no change.
 export function convertedOf(kind, bytes, choices = {}) {
   try {
     const made = kind === "drill" ? drill(bytes, choices) : gerber(bytes, choices);
-    if (!made.bytes) return { refusals: made.refusals.map((each) => onPage(refusalText(each))) };
+    if (!made.bytes) return { refusals: made.refusals.map(refusalText).map(onPage) };
     if (isSame(made.bytes, bytes)) return null;
     return { bytes: made.bytes, changes: (made.account ?? toldChanges(made.changes)).map(onPage) };
   } catch (fault) {

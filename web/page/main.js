@@ -6,7 +6,7 @@ import { activeBy, listenToLayers, makeActive, showAll, showOnly, toggleActive }
 import { ask, byId, element, tell } from "./dom.js";
 import { begin } from "./beginning.js";
 import { entriesMayChange, entryOf, loaded, refresh } from "./documents.js";
-import { changed, on, state } from "./state.js";
+import { on, state } from "./state.js";
 import { chooseTool, endMaking, escape, listenToPointer, pointUnder, pointer, showPicked } from "./pointer.js";
 import { compare, listenToHistory } from "./history_panel.js";
 import { compareChosen, listenToPictures } from "./pictures_panel.js";

@@ -110,7 +110,8 @@ const choices = () => [...state.layers.slice().reverse(), ...state.opened]
 function list() {
   byId("opened").replaceChildren(...state.opened.map(row));
   const found = choices(), [picture] = state.opened;
-  const proposed = picture ? [picture.of ?? found[0].name, picture.name] : found.slice(0, 2).map(({ name }) => name);
+  const first = picture?.of ?? state.active ?? found[0]?.name;
+  const proposed = [first, picture?.name ?? found.find(({ name }) => name !== first)?.name];
   ["first", "second"].forEach((id, at) => {
     const before = chosen[id];
     byId(id).replaceChildren(...found.map(({ name, label }) => element("option", { value: name }, label)));
@@ -126,13 +127,15 @@ export async function compareChosen(names = [byId("first").value, byId("second")
   if (windows.size > 1) return tell("These two pictures are of other windows, so their pixels cannot be compared.", true);
   const { counts, box } = await compareTwo(pair, FOUND);
   if (!counts) return tell("These two cannot be compared.", true);
-  const layers = FOUND.map((name, at) => ({ name, label: LABELS[at], colour: COLOURS[at], opacity: 1, isShown: true, isOpened: true }));
+  const layers = FOUND.map((name, at) =>
+    ({ name, label: LABELS[at], colour: COLOURS[at], opacity: 1, isShown: true, isOpened: true }));
   showCompared({ layers }, `${pair[0].label} and ${pair[1].label}`, WORDS, counts, box);
 }
 
 export function listenToPictures(opened) {
   view = opened;
   on("layers", list);
+  on("active", list);
   on("pictures", () => {
     list();
     view.renew();

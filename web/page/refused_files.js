@@ -95,12 +95,14 @@ export async function showRefused({ layer, reply }, open) {
     const converted = await asked(layer, words);
     if (!converted) return;
     const { isWell, reply: again } = await open(converted.bytes);
-    row.append(element("p", {}, isWell ? "It was converted and opened." : `What it was converted to is refused too: ${again}.`));
+    const told = isWell ? "It was converted and opened." : `What it was converted to is refused too: ${again}.`;
+    row.append(element("p", {}, told));
     if (isWell) convert.remove();
   };
   const convert = button("convert ..", () => offer().catch((fault) => tell(fault.message, true)),
     { "aria-label": `convert ${name}` });
   row.append(convert);
-  if (first.refusals) row.append(element("p", {}, `It cannot be converted as it stands: ${first.refusals.slice(0, 5).join("; ")}`));
-  else await offer();
+  if (!first.refusals) return offer();
+  const why = first.refusals.slice(0, 5).join("; ");
+  row.append(element("p", {}, `It cannot be converted as it stands: ${why}`));
 }

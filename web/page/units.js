@@ -3,8 +3,8 @@
 export const NM_PER_MM = 1e6;
 // No point of a board is so far from (0, 0) along an axis, in nm.
 export const BOARD = 1e9;
-// How light a layer's colour is at most on a light board.
-const LIGHTEST = 0.55;
+// On a light board a layer's colour that is lighter than the first becomes as light as the second.
+const LIGHTEST = 0.55, DARKENED = 0.28;
 
 // A length in mm with its digits as far as they say something, and three behind the point at least.
 export function mm(nm) {
@@ -28,7 +28,7 @@ export function seen(colour, isLight) {
   const parts = [1, 3, 5].map((at) => parseInt(colour.slice(at, at + 2), 16));
   const luminance = (0.2126 * parts[0] + 0.7152 * parts[1] + 0.0722 * parts[2]) / 255;
   if (!isLight || luminance <= LIGHTEST) return colour;
-  return `#${parts.map((part) => Math.round(part * LIGHTEST / luminance).toString(16).padStart(2, "0")).join("")}`;
+  return `#${parts.map((part) => Math.round(part * DARKENED / luminance).toString(16).padStart(2, "0")).join("")}`;
 }
 
 export const wholeOf = (text) => /^\s*\d{1,10}\s*$/.test(text) ? Number(text) : null;

@@ -128,7 +128,7 @@ suite("items in the making", () => {
 suite("colours", () => {
   test("nearly white ones are darker on a light board", () => {
     assert.equal(seen("#ffffff", false), "#ffffff");
-    assert.equal(seen("#ffffff", true), "#8c8c8c");
+    assert.equal(seen("#ffffff", true), "#474747");
     assert.equal(seen("#2040c0", true), "#2040c0");
   });
 });
