@@ -7,21 +7,15 @@ use Rattle.cam_tiles.proofs.raster.Raster.pixel.Goals as goal
 
 pub overflow_mul-row : goal.overflow_mul-row
 overflow_mul-row c =
-    let kept = c.self.inside in
-    omega (
-      arith,
-      tile_number-lt (table_of kept) kept.across c.args.column c.args.row c.self.invariant.table
-          c.self.invariant.wide c.if-column-self.false c.if-row-self.false,
-    )
+    let few = tile_number-lt (table_of c.self.inside) _ c.args.column c.args.row c.self.invariant.table
+    c.self.invariant.wide c.if-column-self.false c.if-row-self.false in
+    omega (arith, few)
 
 pub overflow_add-row : goal.overflow_add-row
 overflow_add-row c =
-    let kept = c.self.inside in
-    omega (
-      arith,
-      tile_number-lt (table_of kept) kept.across c.args.column c.args.row c.self.invariant.table
-          c.self.invariant.wide c.if-column-self.false c.if-row-self.false,
-    )
+    let few = tile_number-lt (table_of c.self.inside) _ c.args.column c.args.row c.self.invariant.table
+    c.self.invariant.wide c.if-column-self.false c.if-row-self.false in
+    omega (arith, few)
 
 pub returns-in-Some : goal.returns-in-Some
 returns-in-Some c =
