@@ -14,13 +14,13 @@ use Rattle.cam_tiles.specs.Tiles.{IsGrid, centre_in}
 
 -- what is read of masks from one number to another: the tiles of the first and the last, the column that these end at,
 -- and the grid of the first
-pub record AreRead (columns : ℕ) (tiles : List ℕ) (masks : List Marking) (first end left last right : ℕ) (h : Grid)
+pub record AreRead (columns : ℕ) (tiles : List ℕ) (masks : List Marking) (first end from at past : ℕ) (h : Grid)
     (d : Marking) : Type 0 where
   pub some : first < end
   pub few : end ≤ length masks
-  pub left : left ≡ get_or tiles first left
-  pub last : last ≡ get_or tiles (end - 1) last
-  pub right : right ≡ min columns (64 * (last + 1))
+  pub left : from ≡ get_or tiles first from
+  pub last : at ≡ get_or tiles (end - 1) at
+  pub right : past ≡ min columns (64 * (at + 1))
   pub of : h ≡ (get_or masks first d).grid
   pub grid : IsGrid h
 

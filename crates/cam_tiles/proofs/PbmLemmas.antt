@@ -197,8 +197,12 @@ all_bytes_header : (width height : ℕ) → width < 2 ^ 64 → height < 2 ^ 64 �
 all_bytes_header width height w h =
     let magic = joined (80 ∷ []) (52 ∷ []) (one_byte 80 (omega arith)) (one_byte 52 (omega arith)) in
     let line_end = one_byte 10 (omega arith) in
-    let first = joined _ _ (joined _ _ magic line_end) (all_bytes_decimal width w) in
-    joined _ _ (joined _ _ (joined _ _ first (one_byte 32 (omega arith))) (all_bytes_decimal height h)) line_end
+    let wide = (80 ∷ 52 ∷ 10 ∷ []) ++ decimal width in
+    let first = joined (80 ∷ 52 ∷ []) (10 ∷ []) magic line_end in
+    let second = joined (80 ∷ 52 ∷ 10 ∷ []) (decimal width) first (all_bytes_decimal width w) in
+    let third = joined wide (32 ∷ []) second (one_byte 32 (omega arith)) in
+    let fourth = joined (wide ++ 32 ∷ []) (decimal height) third (all_bytes_decimal height h) in
+    joined ((wide ++ 32 ∷ []) ++ decimal height) (10 ∷ []) fourth line_end
 
 pub all_bytes_pbm : (black : ℕ → ℕ → Bool) (width height : ℕ) → width < 2 ^ 64 → height < 2 ^ 64
     → AreBytes (pbm black width height)

@@ -72,7 +72,6 @@ pub(crate) fn about(point: Point, reach: Nm) -> Heights
 }
 
 /// The heights of the way between two points, and so far above and below it.
-#[tactic(auto, using(std::proofs::lemmas::Int::clamps))]
 fn along(from: Point, to: Point, reach: Nm) -> Heights
     requires from { IsOnBoard from }
     requires to { IsOnBoard to }

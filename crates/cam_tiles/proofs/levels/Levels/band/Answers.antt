@@ -7,9 +7,6 @@ use Rattle.cam_tiles.specs.Machinery.Levels.{AreLevels, height}
 use Rattle.cam_tiles.proofs.LevelRows.{below_top, between_cut, last_within, over_bottom, top_short, under_kept}
 use Rattle.cam_tiles.proofs.levels.Levels.band.Goals as goal
 
-pub reach-requires : goal.reach-requires
-reach-requires c = c.requires
-
 pub returns-then-not-reach-clause-rows : goal.returns-then-not-reach-clause-rows
 returns-then-not-reach-clause-rows c = λ row s on.
     let l = c.args.self.now in
@@ -30,18 +27,6 @@ pub overflow_sub-self : goal.overflow_sub-self
 overflow_sub-self c =
     let high : FitsSigned w64 c.args.heights.high = search rules in
     omega (arith, ints, clamps, edges c.args.self.now c.requires, high, c.min.ensures, c.if-not-reach.ensures.0 refl)
-
-pub rows_above-requires : goal.rows_above-requires
-rows_above-requires c = c.requires
-
-pub bottom-requires : goal.bottom-requires
-bottom-requires c = c.requires
-
-pub rows_above-requires-2 : goal.rows_above-requires-2
-rows_above-requires-2 c = c.requires
-
-pub returns-clause-end : goal.returns-clause-end
-returns-clause-end c = c.rows_above-2.ensures.end
 
 pub overflow_sub-self-2 : goal.overflow_sub-self-2
 overflow_sub-self-2 c =

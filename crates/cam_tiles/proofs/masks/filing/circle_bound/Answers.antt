@@ -1,4 +1,4 @@
-use Rattle.cam_tiles.proofs.CircleBounds.{back_fits, bound_fits, bound_short, bound_some, bounded, gap_fits, gaps_fit}
+use Rattle.cam_tiles.proofs.CircleBounds.{back_fits, bound_short, bound_some, gap_fits}
 use Rattle.cam_tiles.proofs.masks.filing.circle_bound.Goals as goal
 
 pub overflow_sub-from : goal.overflow_sub-from
@@ -12,18 +12,6 @@ overflow_sub-from-2 c = gap_fits c.args.from.y c.args.centre.y c.requires.from.y
 
 pub abs-requires-2 : goal.abs-requires-2
 abs-requires-2 c = back_fits c.args.from.y c.args.centre.y c.requires.from.y c.requires.centre.y
-
-pub overflow_add-result : goal.overflow_add-result
-overflow_add-result c =
-    gaps_fit _ _ _ _ c.requires.centre c.requires.from c.abs.ensures.value c.abs-2.ensures.value
-
-pub overflow_mul-result : goal.overflow_mul-result
-overflow_mul-result c =
-    bound_fits _ _ _ _ c.requires.centre c.requires.from c.abs.ensures.value c.abs-2.ensures.value
-
-pub returns-clause-past : goal.returns-clause-past
-returns-clause-past c =
-    bounded _ _ _ _ c.requires.centre c.requires.from c.abs.ensures.value c.abs-2.ensures.value
 
 pub returns-clause-some : goal.returns-clause-some
 returns-clause-some c =

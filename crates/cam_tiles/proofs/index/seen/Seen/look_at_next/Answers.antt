@@ -20,7 +20,7 @@ returns-then-self-eq0-clause-seen c =
     c.args.self.now.left near.result near.ensures.within near.ensures.apart c.requires.seen
 
 so_far : (c : After-read-bounds) → AreSeenFrom (leaves_by_item c.args.shown.now) c.args.window.now c.args.self.now.within
-    (c.near_end-self.result - 1) c.args.self.now.boxed.items
+    (c.near_end-self.result - 1 + 1) c.args.self.now.boxed.items
 so_far c =
     let near = c.near_end-self in
     let boxed = c.args.self.now.boxed.items in
