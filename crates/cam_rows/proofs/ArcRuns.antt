@@ -15,11 +15,12 @@ use Rattle.cam_shapes.specs.Plane.{cross, seen_from, square, way}
 use Rattle.cam_shapes.proofs.Circles.{narrow_not_wide}
 use Rattle.cam_shapes.proofs.Strokes.{dot_is}
 use Rattle.cam_shapes.proofs.Widths.{square_is}
+use Rattle.cam_rows.specs.Machinery.HalfPlanes.{IsLeft}
 use Rattle.cam_rows.specs.declared.ring.Ring.{Ring}
 use Rattle.cam_rows.specs.ArcRuns.{ArcRunsLaw, IsBetween, IsHollow, IsInHalf, IsInRing, IsLeftOut, IsRingOf}
 use Rattle.cam_rows.specs.ArcRuns.{by_turn, distance_of, radius_of}
 use Rattle.cam_rows.specs.Machinery.Narrowing.{IsNearer}
-use Rattle.cam_rows.proofs.BesideWays.{IsLeft, from_the_right}
+use Rattle.cam_rows.proofs.BesideWays.{from_the_right}
 use Rattle.cam_rows.proofs.SweepRows.{beyond_end, no_more}
 use Rattle.cam_rows.proofs.Sweeps.{narrow_sweep, same_way}
 

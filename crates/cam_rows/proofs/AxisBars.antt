@@ -1,6 +1,6 @@
 -- Bars along an axis: each is a box.
 use Rattle.std.proofs.Common.{◌≡◌, ◌≢◌, ℕ, ◌+◌, ◌*◌, ◌<◌, ◌≤◌, ◌↔◌, ℤ, pos, ◌+ℤ◌, ◌-ℤ◌, ◌*ℤ◌, ◌≤ℤ◌, ◌<ℤ◌}
-use Rattle.std.proofs.Common.{inl, inr, ap, refl, ◌∙◌, arith}
+use Rattle.std.proofs.Common.{inl, inr, ap, refl, sym, ◌∙◌, arith}
 use Rattle.std.specs.Int.{int_max, int_min}
 use Rattle.std.specs.Int.RustNames.{unsigned_abs}
 use Rattle.std.proofs.lemmas.Bool.{cases_lt}
@@ -47,28 +47,12 @@ ahead_up d x up = (
   (λ h. rw (swapped d x) (product_least x d h up)),
 )
 
-ahead_down : (d x : ℤ) → d <ℤ pos 0 → (pos 0 ≤ℤ (d *ℤ x)) ↔ (x ≤ℤ pos 0)
-ahead_down d x down =
-    let told = ahead_up (pos 0 -ℤ d) (pos 0 -ℤ x) (omega (arith, ints, down)) in
-    let same = turned_twice d x in (
-      (λ h. let back = told.0 (rw same h) in omega (arith, ints, back)),
-      (λ h. let there = told.1 (omega (arith, ints, h)) in rw same at there),
-    )
-
 least_difference : (d l m : ℤ) → d ≡ l -ℤ m → (m ≤ℤ l) ↔ (pos 0 ≤ℤ d)
 least_difference d l m e = ((λ h. omega (arith, ints)), (λ h. omega (arith, ints)))
 
 before_up : (d x : ℤ) → pos 0 <ℤ d → ((d *ℤ x) ≤ℤ (d *ℤ d)) ↔ (x ≤ℤ d)
 before_up d x up =
     let told = ahead_up d (d -ℤ x) up in
-    let apart = least_difference (d *ℤ (d -ℤ x)) (d *ℤ d) (d *ℤ x) (shorter d x) in (
-      (λ h. let left = told.0 (apart.0 h) in omega (arith, ints, left)),
-      (λ h. apart.1 (told.1 (omega (arith, ints, h)))),
-    )
-
-before_down : (d x : ℤ) → d <ℤ pos 0 → ((d *ℤ x) ≤ℤ (d *ℤ d)) ↔ (d ≤ℤ x)
-before_down d x down =
-    let told = ahead_down d (d -ℤ x) down in
     let apart = least_difference (d *ℤ (d -ℤ x)) (d *ℤ d) (d *ℤ x) (shorter d x) in (
       (λ h. let left = told.0 (apart.0 h) in omega (arith, ints, left)),
       (λ h. apart.1 (told.1 (omega (arith, ints, h)))),
@@ -123,23 +107,6 @@ module _ (a v : Vector) (w d x y : ℤ) (along : dot a v ≡ d *ℤ x) (length :
         (λ h. record {
           between = record {
             long = rw length (product_above d d up up);
-            after_start = rw along (start.1 h.0);
-            before_end = rw (along, length) (finish.1 h.1);
-          };
-          near = side.1 h.2;
-        }),
-      )
-
-  pub beside_down : d <ℤ pos 0 → IsBeside a v w ↔ ((x ≤ℤ pos 0) × (d ≤ℤ x) × (pos (unsigned_abs y) ≤ℤ w))
-  beside_down down =
-      let start = ahead_down d x down in
-      let finish = before_down d x down in
-      let side = near (λ none. omega (arith, ints, none, down)) in
-      let back = product_above (pos 0 -ℤ d) (pos 0 -ℤ d) (omega (arith, ints, down)) (omega (arith, ints, down)) in (
-        (λ b. (start.0 (rw along at b.between.after_start), finish.0 (rw (along, length) at b.between.before_end), side.0 b.near)),
-        (λ h. record {
-          between = record {
-            long = rw length (rw (turned_twice d d) at back);
             after_start = rw along (start.1 h.0);
             before_end = rw (along, length) (finish.1 h.1);
           };
@@ -203,10 +170,16 @@ beside : (a v : Vector) (w d x y p q s : ℤ) → dot a v ≡ d *ℤ x → dot a
 beside a v w d x y p q s along length across wide e f apart =
     by_lt_z d (pos 0)
     (λ down.
-    let told = beside_down a v w d x y along length across wide down in
+    -- it leads up as one looks the other way
+    let told = beside_up a v w (pos 0 -ℤ d) (pos 0 -ℤ x) (pos 0 -ℤ y) (along ∙ sym (turned_twice d x))
+    (length ∙ sym (turned_twice d d)) (across ∙ ap square (sym (turned_twice d y))) wide (omega (arith, ints, down)) in
     let sides = down_between p q s (rw e at down) in (
-      (λ b. let h = rw (e, f) at (told.0 b) in (sides.1 (h.0, h.1), h.2)),
-      (λ h. let both = sides.0 h.0 in told.1 (rw (e, f) ((both.0, both.1, h.1)))),
+      (λ b.
+          let h = told.0 b in
+          (sides.1 (omega (arith, ints, h.0, f), omega (arith, ints, h.1, e, f)), omega (arith, ints, h.2))),
+      (λ h.
+          let both = sides.0 h.0 in
+          told.1 (omega (arith, ints, both.0, f), omega (arith, ints, both.1, e, f), omega (arith, ints, h.1))),
     ))
     (λ not_down.
     let up : pos 0 <ℤ d = omega (arith, ints, not_down, e, apart) in

@@ -10,6 +10,7 @@ use Rattle.cam_shapes.specs.declared.bar.Bar.{Bar}
 use Rattle.cam_shapes.specs.Bar.{IsInBar}
 use Rattle.cam_shapes.specs.Plane.{cross, dot, seen_from, square, way}
 use Rattle.cam_shapes.proofs.Widths.{square_is}
+use Rattle.cam_rows.specs.Machinery.HalfPlanes.{IsLeft}
 use Rattle.cam_rows.specs.Machinery.Beside.{IsInside, IsWithinReach}
 use Rattle.cam_rows.proofs.Circling.{below_root}
 
@@ -55,10 +56,6 @@ below_reach d z reach e = ((λ h. omega (arith, ints)), (λ h. omega (arith, int
 -- a place is ahead of one point, as one looks to the other
 abbrev pub IsAhead : Point → Point → Spot → Type 0
 IsAhead p q s = pos 0 ≤ℤ dot (way p q) (seen_from p s)
-
--- or left of the line through both, or near it
-abbrev pub IsLeft : Point → Point → ℤ → Spot → Type 0
-IsLeft p q reach s = pos 0 ≤ℤ (cross (way p q) (seen_from p s) +ℤ reach)
 
 -- before the end of a way, as one looks back from there
 before_end : (p q : Point) (s : Spot) → IsAhead q p s ↔ (dot (way p q) (seen_from p s) ≤ℤ dot (way p q) (way p q))

@@ -68,17 +68,3 @@ in_walk c l r to_left to_right i chord left right left_reached right_reached is_
             ]),
           )
     ]
-
--- and its sides are those of a chord again
-pub walked : (c : Chord) (l r : ChordSide) → IsChord c → IsSameSide c.left l → IsSameSide c.right r → HasReached l l.room
-    → HasReached r r.room → IsSide l → IsSide r → IsChord (record { offsets = c.offsets; left = l; right = r })
-walked c l r chord left right left_reached right_reached left_side right_side = record {
-  few = chord.few;
-  columns = rw (left.columns, right.columns) chord.columns;
-  left = left_side;
-  right = right_side;
-  left_reached = left_reached;
-  right_reached = right_reached;
-  before = rw (left.start, left.step, left.columns) chord.before;
-  after = rw (left.columns, right.start, right.step) chord.after;
-}

@@ -81,45 +81,32 @@ divisor_some b h = omega (arith, ints, h.0)
 divisor_long : (b : ℕ) → IsDivisor (pos b) → b < 2 ^ 127
 divisor_long b h = omega (arith, ints, h.1)
 
-pub floor_least : (n d : ℤ) (q : ℕ) → IsDivisor d → FitsSigned w128 n → pos 0 ≤ℤ n → IsQuotient q n d
-    → (to_z w128 q *ℤ d) ≤ℤ n
-floor_least (pos a) (pos b) q h fits up e =
+-- the quotient q of n by d, rounded down
+pub record IsFloor (q n d : ℤ) : Type 0 where
+  pub least : (q *ℤ d) ≤ℤ n
+  pub greatest : n <ℤ ((q +ℤ pos 1) *ℤ d)
+
+pub floor_up : (n d : ℤ) (q : ℕ) → IsDivisor d → FitsSigned w128 n → pos 0 ≤ℤ n → IsQuotient q n d
+    → IsFloor (to_z w128 q) n d
+floor_up (pos a) (pos b) q h fits up e =
     let some = divisor_some b h in
     let long = long_natural a fits in
     let told = rw (magnitude a long, magnitude b (divisor_long b h)) at e in
-    rw (kept q (short_quotient a b q some long told)) (least_natural a b q some told)
-floor_least (negsuc a) d q h fits up e = absurd (omega (arith, ints))
-floor_least (pos a) (negsuc b) q h fits up e = absurd (omega (arith, ints, h.0))
+    rw (kept q (short_quotient a b q some long told))
+    (record { least = least_natural a b q some told; greatest = greatest_natural a b q some told })
+floor_up (negsuc a) d q h fits up e = absurd (omega (arith, ints))
+floor_up (pos a) (negsuc b) q h fits up e = absurd (omega (arith, ints, h.0))
 
-pub floor_greatest : (n d : ℤ) (q : ℕ) → IsDivisor d → FitsSigned w128 n → pos 0 ≤ℤ n → IsQuotient q n d
-    → n <ℤ ((to_z w128 q +ℤ pos 1) *ℤ d)
-floor_greatest (pos a) (pos b) q h fits up e =
-    let some = divisor_some b h in
-    let long = long_natural a fits in
-    let told = rw (magnitude a long, magnitude b (divisor_long b h)) at e in
-    rw (kept q (short_quotient a b q some long told)) (greatest_natural a b q some told)
-floor_greatest (negsuc a) d q h fits up e = absurd (omega (arith, ints))
-floor_greatest (pos a) (negsuc b) q h fits up e = absurd (omega (arith, ints, h.0))
-
-pub floor_least_below : (n d : ℤ) (q : ℕ) → IsDivisor d → FitsSigned w128 n → n <ℤ pos 0 → IsQuotientBelow q n d
-    → (wide (negsuc 0 -ℤ to_z w128 q) *ℤ d) ≤ℤ n
-floor_least_below (negsuc a) (pos b) q h fits down e =
+pub floor_down : (n d : ℤ) (q : ℕ) → IsDivisor d → FitsSigned w128 n → n <ℤ pos 0 → IsQuotientBelow q n d
+    → IsFloor (wide (negsuc 0 -ℤ to_z w128 q)) n d
+floor_down (negsuc a) (pos b) q h fits down e =
     let some = divisor_some b h in
     let long = long_negative a fits in
     let told = rw (magnitude_below a long, magnitude b (divisor_long b h)) at e in
-    rw (kept_below q (short_quotient a b q some long told)) (least_negative a b q some told)
-floor_least_below (pos a) d q h fits down e = absurd (omega (arith, ints))
-floor_least_below (negsuc a) (negsuc b) q h fits down e = absurd (omega (arith, ints, h.0))
-
-pub floor_greatest_below : (n d : ℤ) (q : ℕ) → IsDivisor d → FitsSigned w128 n → n <ℤ pos 0 → IsQuotientBelow q n d
-    → n <ℤ ((wide (negsuc 0 -ℤ to_z w128 q) +ℤ pos 1) *ℤ d)
-floor_greatest_below (negsuc a) (pos b) q h fits down e =
-    let some = divisor_some b h in
-    let long = long_negative a fits in
-    let told = rw (magnitude_below a long, magnitude b (divisor_long b h)) at e in
-    rw (kept_below q (short_quotient a b q some long told)) (greatest_negative a b q some told)
-floor_greatest_below (pos a) d q h fits down e = absurd (omega (arith, ints))
-floor_greatest_below (negsuc a) (negsuc b) q h fits down e = absurd (omega (arith, ints, h.0))
+    rw (kept_below q (short_quotient a b q some long told))
+    (record { least = least_negative a b q some told; greatest = greatest_negative a b q some told })
+floor_down (pos a) d q h fits down e = absurd (omega (arith, ints))
+floor_down (negsuc a) (negsuc b) q h fits down e = absurd (omega (arith, ints, h.0))
 
 -- what is left of a number
 next_product : (q d : ℤ) → (q +ℤ pos 1) *ℤ d ≡ q *ℤ d +ℤ d
@@ -147,11 +134,6 @@ kept_difference n p h k = omega (arith, ints)
 
 difference_fits : (n p : ℤ) → unsigned_abs n ≤ 2 ^ 100 → unsigned_abs p ≤ 2 ^ 101 → FitsSigned w128 (wide n -ℤ wide p)
 difference_fits n p h k = omega (arith, ints)
-
--- the quotient q of n by d, rounded down
-pub record IsFloor (q n d : ℤ) : Type 0 where
-  pub least : (q *ℤ d) ≤ℤ n
-  pub greatest : n <ℤ ((q +ℤ pos 1) *ℤ d)
 
 pub floor_of : (q n d : ℤ) → unsigned_abs n ≤ 2 ^ 100 → IsDivisor d → (q *ℤ wide d) ≤ℤ wide n
     → wide n <ℤ ((q +ℤ pos 1) *ℤ wide d) → IsFloor q n d

@@ -20,6 +20,7 @@ use Rattle.cam_rows.specs.Rows.{IsRow, centre_at, first_of, row_below}
 use Rattle.cam_rows.specs.Runs.{AreRuns, AreWideRows, IsInRun, IsWideRow}
 use Rattle.cam_rows.proofs.Chords.{seen_in_chord}
 use Rattle.cam_rows.proofs.Columns.{offset_is, offset_short}
+use Rattle.cam_rows.proofs.NarrowedRuns.{run_by}
 use Rattle.cam_rows.proofs.Slopes.{top_row}
 
 -- the top row is the first of them
@@ -102,23 +103,18 @@ empty_runs firsts ends top P end none = record {
   within = λ k within. omega (arith, end k within);
 }
 
-pub runs_narrowed : (firsts ends new_firsts new_ends : List ℕ) (top left : Centres) (P Q : Spot → Type 0)
-    (h : HalfPlane) → left ≡ leftmost top → IsHalfPlaneOf left Q h → AreRuns firsts ends top P
-    → AreNarrowed top.n firsts ends (IsUp (numbers_of h)) (length firsts) new_firsts new_ends
-    → length new_firsts ≡ length firsts → AreRuns new_firsts new_ends top (λ s. P s × Q s)
-runs_narrowed firsts ends new_firsts new_ends top left P Q h is half runs narrowed size =
+-- to a half plane, by its numbers
+pub half_narrowed : (columns : ℕ) (firsts ends new_firsts new_ends : List ℕ) (top left : Centres) (Q : Spot → Type 0)
+    (h : HalfPlane) → left ≡ leftmost top → IsHalfPlaneOf left Q h
+    → AreNarrowed columns firsts ends (IsUp (numbers_of h)) (length firsts) new_firsts new_ends
+    → AreNarrowed columns firsts ends (λ k i. Q (centre_at (row_below top k) i)) (length firsts) new_firsts new_ends
+half_narrowed columns firsts ends new_firsts new_ends top left Q h is half narrowed =
     let told : (k i : ℕ) → IsUp (numbers_of h) k i ↔ Q (centre_at (row_below top k) i) = rw is at half.tells in
     record {
-      each = λ k i within small.
-          let before : k < length firsts = omega (arith, within, size) in
-          let here = narrowed.each k i before small in
-          let was = runs.each k i before small in (
-            (λ on. let both = here.0 on in (was.0 both.0, (told k i).0 both.1)),
-            (λ both. here.1 (was.1 both.0, (told k i).1 both.1)),
-          );
-      within = λ k within.
-          let before : k < length firsts = omega (arith, within, size) in
-          omega (arith, narrowed.within k, runs.within k before);
+      each = λ k i within small. run_by _ _ _ _ (narrowed.each k i within small) (told k i);
+      within = narrowed.within;
+      same_firsts = narrowed.same_firsts;
+      same_ends = narrowed.same_ends;
     }
 
 pub runs_like : (firsts ends : List ℕ) (top : Centres) (P Q : Spot → Type 0) → ((s : Spot) → P s ↔ Q s)

@@ -5,6 +5,7 @@ ghost use Rattle.std.specs.Int.{IsBitSet};
 
 /// The row whose bits from `first` up to `end`, without `end`, are set.
 #[inline]
+#[tactic(auto, using(crate::proofs::SetBits::between_shifts))]
 pub(crate) fn bits_between(first: u32, end: u32) -> u64
     requires ordered { first ≤ end }
     requires within { end ≤ 64 }

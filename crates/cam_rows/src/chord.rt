@@ -127,6 +127,7 @@ pub(crate) fn room_at(bound: u64, height: i64) -> u64
 
 /// Whether the centres of some rows lie so near to a point that 64 bits hold the squares of their distances to the side
 /// and of their heights.
+#[tactic(auto, using(crate::proofs::WideRows::top_is_wide))]
 pub(crate) fn is_nearby(point: &Point, top: &Centres, rows: usize) -> bool
     requires point { IsOnBoard point.now }
     requires some { 0 < rows }

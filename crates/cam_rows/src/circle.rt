@@ -21,6 +21,7 @@ pub(crate) fn half_chord(room: u128) -> u64
 }
 
 /// The square of how far the row lies above or under a point.
+#[tactic(auto, using(crate::proofs::Circling::square_of))]
 pub(crate) fn squared_height(point: &Point, centres: &Centres) -> u128
     requires point { IsOnBoard point.now }
     requires row { IsRow centres.now }

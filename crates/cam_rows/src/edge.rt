@@ -14,6 +14,7 @@ use cam_units::Point;
 ///
 /// Where exactly one end of the edge is higher than the centres, these are the centres strictly left of its crossing
 /// with their line, as many as one division tells; where both are or none is, the row is 0.
+#[tactic(auto, using(crate::proofs::EdgeSides::only_crossed))]
 pub fn edge_row(from: Point, to: Point, centres: Centres) -> u64
     requires from { IsOnBoard from }
     requires to { IsOnBoard to }

@@ -1,10 +1,10 @@
 //! Half planes, row after row: the centres on one side of a line, by the sign of a number.
 
-ghost use Rattle.std.specs.Prelude.{◌≡◌, ◌^◌, ◌<◌, ℕ, pos, ◌+ℤ◌, ◌-ℤ◌, ◌*ℤ◌, ◌≤ℤ◌};
+ghost use Rattle.std.specs.Prelude.{◌≡◌, ◌^◌, ◌<◌, ℕ, pos, ◌-ℤ◌, ◌*ℤ◌, ◌≤ℤ◌};
 ghost use Rattle.std.specs.Int.RustNames.{unsigned_abs};
 ghost use Rattle.cam_units.specs.Board.{IsOnBoard};
 ghost use Rattle.cam_shapes.specs.Plane.{cross, dot, seen_from, way};
-ghost use Rattle.cam_rows.specs.Machinery.HalfPlanes.{IsHalfPlaneOf, numbers_of};
+ghost use Rattle.cam_rows.specs.Machinery.HalfPlanes.{IsHalfPlaneOf, IsLeft, numbers_of};
 ghost use Rattle.cam_rows.specs.Machinery.Linear.{IsShortLinear};
 ghost use Rattle.cam_rows.specs.Machinery.Slopes.{lowered, number_on};
 ghost use Rattle.cam_rows.specs.Rows.{IsRow, centre_at, row_below};
@@ -43,8 +43,7 @@ impl HalfPlane {
         requires to { IsOnBoard to.now }
         requires reach { unsigned_abs reach < 2 ^ 64 }
         requires row { IsRow top.now }
-        ensures holds { IsHalfPlaneOf top.now
-            (λ s. pos 0 ≤ℤ (cross (way from.now to.now) (seen_from from.now s) +ℤ reach)) result }
+        ensures holds { IsHalfPlaneOf top.now (IsLeft from.now to.now reach) result }
         ensures step { result.row.step ≡ (pos 0 -ℤ (way from.now to.now).y) *ℤ top.now.step }
     {
         HalfPlane {

@@ -50,6 +50,7 @@ pub fn pbm_bytes(row: u64) -> [u8; 8]
 }
 
 /// Exchanges each of the `lower` bits with the bit so many places above it.
+#[tactic(auto, using(crate::proofs::RowBytes::exchanged_bit))]
 fn exchanged(row: u64, lower: u64, places: u32) -> u64
     requires { places < 64 }
     ensures { (i : ℕ) → i < 64 → IsBitSet result i

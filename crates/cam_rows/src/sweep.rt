@@ -11,6 +11,7 @@ use crate::way::{across, along};
 use cam_units::Point;
 
 /// The cross product of two points as they are seen from a third.
+#[tactic(auto, using(crate::proofs::Sweeps::first_number, crate::proofs::Sweeps::seen_alone))]
 pub(crate) fn cross_product(centre: &Point, start: &Point, end: &Point) -> i128
     requires centre { IsOnBoard centre.now }
     requires start { IsOnBoard start.now }
@@ -22,6 +23,7 @@ pub(crate) fn cross_product(centre: &Point, start: &Point, end: &Point) -> i128
 }
 
 /// The dot product of two points as they are seen from a third.
+#[tactic(auto, using(crate::proofs::Sweeps::first_number, crate::proofs::Sweeps::seen_alone))]
 pub(crate) fn dot_product(centre: &Point, start: &Point, end: &Point) -> i128
     requires centre { IsOnBoard centre.now }
     requires start { IsOnBoard start.now }

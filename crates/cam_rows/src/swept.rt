@@ -3,7 +3,7 @@
 ghost use Rattle.std.specs.Prelude.{◌≡◌, ◌^◌, ◌<◌};
 ghost use Rattle.std.specs.Int.RustNames.{unsigned_abs};
 ghost use Rattle.cam_shapes.specs.Plane.{way};
-ghost use Rattle.cam_shapes.specs.Swept.{IsInSwept, IsSoundSwept, corner_reach, high_corner, low_corner};
+ghost use Rattle.cam_shapes.specs.Swept.{IsInSwept, IsSoundSwept, corner_reach};
 ghost use Rattle.cam_rows.specs.Rows.{IsRow, Marks};
 
 use crate::centres::Centres;
@@ -12,7 +12,6 @@ use crate::run_shape::RunShape;
 use crate::runs::swept::swept_runs;
 use crate::way::Way;
 use cam_shapes::Swept;
-use cam_units::Spot;
 
 impl RunShape for Swept {
     ghost is_sound = { IsSoundSwept };
@@ -34,32 +33,6 @@ pub fn swept_row(swept: Swept, centres: Centres) -> u64
     ensures { Marks result centres (λ s. IsInSwept s swept) }
 {
     row_of(&swept, &centres)
-}
-
-/// The left lower corner of the box of both ends, widened by the sides.
-pub(crate) fn low_corner(swept: &Swept) -> Spot
-    requires { IsSoundSwept swept.now }
-    ensures value { result ≡ low_corner swept.now }
-    ensures bound { unsigned_abs result.x < 2 ^ 61 }
-{
-    let Swept { from, to, .. } = *swept;
-    Spot {
-        x: 2 * from.x.min(to.x) - swept.width.0,
-        y: 2 * from.y.min(to.y) - swept.height.0,
-    }
-}
-
-/// The right upper corner of the box of both ends, widened by the sides.
-pub(crate) fn high_corner(swept: &Swept) -> Spot
-    requires { IsSoundSwept swept.now }
-    ensures value { result ≡ high_corner swept.now }
-    ensures bound { unsigned_abs result.x < 2 ^ 61 }
-{
-    let Swept { from, to, .. } = *swept;
-    Spot {
-        x: 2 * from.x.max(to.x) + swept.width.0,
-        y: 2 * from.y.max(to.y) + swept.height.0,
-    }
 }
 
 /// The greatest cross product of the line's way and a corner of the rectangle about its start.

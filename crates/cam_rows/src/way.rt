@@ -48,6 +48,7 @@ impl Way {
     }
 
     /// The square of its length.
+    #[tactic(auto, using(crate::proofs::Circling::square_of))]
     pub(crate) fn squared_length(&self) -> u128
         requires { IsShortWay self.now }
         ensures value { pos result ≡ square self.now.x +ℤ square self.now.y }
@@ -59,6 +60,7 @@ impl Way {
     }
 
     /// The dot product with the way from a point to the leftmost centre.
+    #[tactic(auto, using(crate::proofs::Gaps::twice_fits, crate::proofs::WayProducts::first_x, crate::proofs::Gaps::gap_fits))]
     fn first_dot(&self, from: &Point, centres: &Centres) -> i128
         requires short { IsShortWay self.now }
         requires from { IsOnBoard from.now }
@@ -74,6 +76,7 @@ impl Way {
     }
 
     /// How much more the dot product is at the next centre.
+    #[tactic(auto, using(crate::proofs::WayProducts::step_fits, crate::proofs::WayProducts::step_product, crate::proofs::WayProducts::step_short))]
     fn dot_step(&self, centres: &Centres) -> i128
         requires { IsShortWay self.now }
         ensures value { result ≡ self.now.x *ℤ centres.now.step }

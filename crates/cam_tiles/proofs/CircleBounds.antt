@@ -3,7 +3,7 @@ use Rattle.std.proofs.Common.{◌≡◌, ℕ, ◌+◌, ◌*◌, ◌^◌, ◌<◌
 use Rattle.std.proofs.Common.{arith}
 use Rattle.std.specs.Int.RustNames.{unsigned_abs}
 use Rattle.std.proofs.lemmas.Int.{ints}
-use Rattle.cam_units.specs.Board.{board_limit}
+use Rattle.cam_units.specs.Board.{IsOnBoard, board_limit}
 use Rattle.cam_units.specs.declared.point.Point.{Point}
 use Rattle.cam_shapes.specs.declared.vector.Vector.{Vector}
 use Rattle.cam_shapes.specs.Plane.{dot, square, way}
@@ -28,17 +28,6 @@ back_fits a b near near_too = omega (arith, ints)
 sizes_fit : (m n : ℕ) → m < 2000000000 → n < 2000000000 → FitsSigned w64 (long (pos m) +ℤ long (pos n))
 sizes_fit m n short short_too = omega (arith, ints)
 
-pub gaps_fit : (a b d e r t : ℤ) → r ≡ pos (unsigned_abs (a -ℤ b)) → t ≡ pos (unsigned_abs (d -ℤ e))
-    → unsigned_abs a < board_limit → unsigned_abs b < board_limit → unsigned_abs d < board_limit
-    → unsigned_abs e < board_limit → FitsSigned w64 (long r +ℤ long t)
-gaps_fit a b d e r t is_gap is_other near_a near_b near_d near_e =
-    rw (is_gap, is_other) (sizes_fit (unsigned_abs (a -ℤ b)) (unsigned_abs (d -ℤ e)) (gap_short a b near_a near_b)
-    (gap_short d e near_d near_e))
-
-pub gap_is : (a b r : ℤ) → unsigned_abs a < board_limit → unsigned_abs b < board_limit
-    → r ≡ pos (unsigned_abs (long (long a -ℤ long b))) → r ≡ pos (unsigned_abs (a -ℤ b))
-gap_is a b r near near_too e = e ∙ ap (λ z. pos (unsigned_abs z)) (gap_kept a b near near_too)
-
 sum_is : (m n : ℕ) → m < 2000000000 → n < 2000000000
     → long (pos 2 *ℤ long (long (pos m) +ℤ long (pos n))) ≡ pos (2 * (m + n))
 sum_is m n short short_too = omega (arith, ints)
@@ -56,10 +45,9 @@ double : (a b : ℤ) → unsigned_abs (pos 2 *ℤ a -ℤ pos 2 *ℤ b) ≡ 2 * u
 double a b = omega (arith, ints)
 
 -- the bound about p of a circle through q, as the code computes it
-module _ (p q : Point) (across along : ℤ) (is_across : across ≡ pos (unsigned_abs (q.x -ℤ p.x)))
-    (is_along : along ≡ pos (unsigned_abs (q.y -ℤ p.y)))
-    (px : unsigned_abs p.x < board_limit) (py : unsigned_abs p.y < board_limit)
-    (qx : unsigned_abs q.x < board_limit) (qy : unsigned_abs q.y < board_limit) where
+module _ (p q : Point) (across along : ℤ) (p_on : IsOnBoard p) (q_on : IsOnBoard q)
+    (across_is : across ≡ pos (unsigned_abs (long (long q.x -ℤ long p.x))))
+    (along_is : along ≡ pos (unsigned_abs (long (long q.y -ℤ long p.y)))) where
   abbrev m : ℕ
   m = unsigned_abs (q.x -ℤ p.x)
 
@@ -69,11 +57,20 @@ module _ (p q : Point) (across along : ℤ) (is_across : across ≡ pos (unsigne
   abbrev pub r : ℤ
   r = long (pos 2 *ℤ long (long across +ℤ long along))
 
+  is_across : across ≡ pos m
+  is_across = across_is ∙ ap (λ z. pos (unsigned_abs z)) (gap_kept q.x p.x q_on.x p_on.x)
+
+  is_along : along ≡ pos n
+  is_along = along_is ∙ ap (λ z. pos (unsigned_abs z)) (gap_kept q.y p.y q_on.y p_on.y)
+
+  m_short : m < 2000000000
+  m_short = gap_short q.x p.x q_on.x p_on.x
+
+  n_short : n < 2000000000
+  n_short = gap_short q.y p.y q_on.y p_on.y
+
   bound_is : r ≡ pos (2 * (m + n))
-  bound_is =
-      ap (λ z. long (pos 2 *ℤ long (long z +ℤ long along))) is_across
-      ∙ ap (λ z. long (pos 2 *ℤ long (long (pos m) +ℤ long z))) is_along
-      ∙ sum_is m n (gap_short q.x p.x qx px) (gap_short q.y p.y qy py)
+  bound_is = rw (is_across, is_along) (sum_is m n m_short n_short)
 
   pub bounded : dot (way p q) (way p q) ≤ℤ square r
   bounded = rw bound_is (long_enough (way p q) m n (double q.x p.x) (double q.y p.y))
@@ -82,8 +79,10 @@ module _ (p q : Point) (across along : ℤ) (is_across : across ≡ pos (unsigne
   bound_some = rw bound_is (omega (arith, ints))
 
   pub bound_short : r ≤ℤ pos (2 ^ 34)
-  bound_short = rw bound_is (omega (arith, ints, gap_short q.x p.x qx px, gap_short q.y p.y qy py))
+  bound_short = rw bound_is (omega (arith, ints, m_short, n_short))
+
+  pub gaps_fit : FitsSigned w64 (long across +ℤ long along)
+  gaps_fit = rw (is_across, is_along) (sizes_fit m n m_short n_short)
 
   pub bound_fits : FitsSigned w64 (pos 2 *ℤ long (long across +ℤ long along))
-  bound_fits =
-      rw (is_across, is_along) (sum_fits m n (gap_short q.x p.x qx px) (gap_short q.y p.y qy py))
+  bound_fits = rw (is_across, is_along) (sum_fits m n m_short n_short)

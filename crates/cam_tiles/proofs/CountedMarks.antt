@@ -16,7 +16,7 @@ use Rattle.cam_shapes.specs.Sides.{change_side, differ}
 use Rattle.cam_shapes.proofs.Crossings.{less_is}
 use Rattle.cam_shapes.proofs.Parity.{sides_are_parity}
 use Rattle.cam_rows.specs.Marks.{TurnsRow, is_turned}
-use Rattle.cam_rows.proofs.SetBits.{none_set, set_in_xor}
+use Rattle.cam_rows.proofs.SetBits.{set_in_xor}
 use Rattle.cam_apertures.proofs.Painting.{through}
 use Rattle.cam_tiles.specs.declared.grid.Grid.{Grid}
 use Rattle.cam_tiles.specs.declared.masks.filing.FiledSegment.{FiledSegment}
@@ -96,10 +96,6 @@ one_more_above columns k whole end old now new few room told turned so_far colum
       | inr apart ↦ row_passed _ _ _ _ _ _ _ (λ held. apart held.0)
           ((λ above. omega (arith, above)), (λ more. omega (arith, more, apart))) h (so_far column row near below)
     ]
-
--- no row is turned
-pub none_turned : (whole row : ℕ) (Was : Type 0) → whole ≡ 0 → Was ↔ turned_over Was (IsBitSet whole row)
-none_turned whole row Was none = let no = none_set whole row none in grind (arith, no)
 
 -- ---- the columns of rows that go on to the right
 

@@ -123,16 +123,22 @@ redraw_law = record {
 }
 
 -- what a redraw leaves, where m tiles are drawn of those that were there
-module _ (image : Spot → Bool) (n m : ℕ) (t : Table) (before drawn : List Tile) (few : m ≡ min n (dirty t.tiles))
-    (was : before ≡ t.tiles) (is : drawn ≡ drawn_from (λ k. tile_rows image (grid_of t.window k)) 0 m before) where
-  abbrev draw : ℕ → List ℕ
-  draw k = tile_rows image (grid_of t.window k)
+pub record IsRedrawn (image : Spot → Bool) (n m : ℕ) (t : Table) (drawn : List Tile) : Type 0 where
+  pub as_many : drawn ≡ drawn_from (λ k. tile_rows image (grid_of t.window k)) 0 n t.tiles
+  pub size : length drawn ≡ length t.tiles
+  pub left : dirty drawn ≡ dirty t.tiles - m
 
-  pub redrawn_as_many : drawn ≡ drawn_from draw 0 n t.tiles
-  redrawn_as_many = is ∙ ap (drawn_from draw 0 m) was ∙ sym (drawn_as_many draw 0 n m t.tiles few)
-
-  pub redrawn_length : length drawn ≡ length t.tiles
-  redrawn_length = ap length redrawn_as_many ∙ length-drawn_from draw 0 n t.tiles
-
-  pub redrawn_dirty : dirty drawn ≡ dirty t.tiles - m
-  redrawn_dirty = ap dirty (is ∙ ap (drawn_from draw 0 m) was) ∙ dirty-drawn_from draw 0 m t.tiles
+pub redrawn_is : (image : Spot → Bool) (n m end all : ℕ) (t : Table) (lent before drawn : List Tile) → m ≡ min n all
+    → all ≡ dirty t.tiles → lent ≡ t.tiles → before ≡ t.tiles → dirty (take end lent) ≡ m
+    → drawn ≡ drawn_from (λ k. tile_rows image (grid_of t.window k)) 0 (dirty (take end before)) before
+    → IsRedrawn image n m t drawn
+redrawn_is image n m end all t lent before drawn few counted same was many is =
+    let draw : ℕ → List ℕ = λ k. tile_rows image (grid_of t.window k) in
+    let now : drawn ≡ drawn_from draw 0 m t.tiles =
+    is ∙ ap (λ tiles. drawn_from draw 0 (dirty (take end tiles)) tiles) was
+    ∙ ap (λ k. drawn_from draw 0 k t.tiles) (ap (λ tiles. dirty (take end tiles)) (sym same) ∙ many) in
+    record {
+      as_many = now ∙ sym (drawn_as_many draw 0 n m t.tiles (few ∙ ap (min n) counted));
+      size = ap length now ∙ length-drawn_from draw 0 m t.tiles;
+      left = ap dirty now ∙ dirty-drawn_from draw 0 m t.tiles;
+    }

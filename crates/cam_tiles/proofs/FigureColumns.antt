@@ -48,6 +48,10 @@ disc_stroke s p w = (
 
 -- ---- figures
 
+parts_like : (T B H Y S E Body Hollow Beyond Start End : Type 0) → T ↔ (((B × (H → ⊥) × (Y → ⊥)) ⊎ S) ⊎ E) → Body ↔ B
+    → Hollow ↔ H → Beyond ↔ Y → Start ↔ S → End ↔ E → (((Body × (Hollow → ⊥) × (Beyond → ⊥)) ⊎ Start) ⊎ End) ↔ T
+parts_like T B H Y S E Body Hollow Beyond Start End law b h y s e = grind arith
+
 -- a figure by its parts
 pub tells_figure : (g : Grid) (columns : ℕ) (IsHeld B H Y S E : Spot → Type 0) (body hollow beyond start end : Runs)
     → Tells g columns B body → Tells g columns H hollow → Tells g columns Y beyond → Tells g columns S start
@@ -58,27 +62,9 @@ pub tells_figure : (g : Grid) (columns : ℕ) (IsHeld B H Y S E : Spot → Type 
 tells_figure g columns IsHeld B H Y S E body hollow beyond start end b h y s e law = record {
   fit = record { body = b.fits; hollow = h.fits; beyond = y.fits; start = s.fits; end = e.fits };
   each = λ column row near within.
-      let whole = law (centre_in g column row) in
-      let in_body = b.each column row near within in
-      let in_hollow = h.each column row near within in
-      let in_beyond = y.each column row near within in
-      let in_start = s.each column row near within in
-      let in_end = e.each column row near within in (
-        (λ part. whole.1 (elim part [
-          | inl before ↦ inl (elim before [
-            | inl on ↦ inl (in_body.0 on.0, (λ x. on.1 (in_hollow.1 x)), (λ x. on.2 (in_beyond.1 x)))
-            | inr on ↦ inr (in_start.0 on)
-          ])
-          | inr on ↦ inr (in_end.0 on)
-        ])),
-        (λ held. elim (whole.0 held) [
-          | inl before ↦ inl (elim before [
-            | inl on ↦ inl (in_body.1 on.0, (λ x. on.1 (in_hollow.0 x)), (λ x. on.2 (in_beyond.0 x)))
-            | inr on ↦ inr (in_start.1 on)
-          ])
-          | inr on ↦ inr (in_end.1 on)
-        ]),
-      );
+      parts_like _ _ _ _ _ _ _ _ _ _ _ (law (centre_in g column row)) (b.each column row near within)
+      (h.each column row near within) (y.each column row near within) (s.each column row near within)
+      (e.each column row near within);
 }
 
 -- a disc is a stroke of no length
@@ -101,6 +87,9 @@ pierced_law P H = grind arith
 pub without_none : (P H : Type 0) → (H → ⊥) → (P × (H → ⊥)) ↔ P
 without_none P H none = ((λ held. held.0), (λ on. (on, none)))
 
+body_law : (P : Type 0) → P ↔ (((P × (⊥ → ⊥) × (⊥ → ⊥)) ⊎ ⊥) ⊎ ⊥)
+body_law P = grind arith
+
 -- what is all body
 pub tells_body : (g : Grid) (columns : ℕ) (IsHeld : Spot → Type 0) (body : Runs) (none : FigureRuns)
     → Tells g columns IsHeld body → IsClear none.hollow → IsClear none.beyond → IsClear none.start → IsClear none.end
@@ -108,13 +97,8 @@ pub tells_body : (g : Grid) (columns : ℕ) (IsHeld : Spot → Type 0) (body : R
 tells_body g columns IsHeld body none told hollow beyond start end =
     tells_figure g columns IsHeld IsHeld (λ s. ⊥) (λ s. ⊥) (λ s. ⊥) (λ s. ⊥) body none.hollow none.beyond none.start
     none.end told (tells_nothing g columns none.hollow hollow) (tells_nothing g columns none.beyond beyond)
-    (tells_nothing g columns none.start start) (tells_nothing g columns none.end end) (λ s. (
-      (λ held. inl (inl (held, (λ x. x), (λ x. x)))),
-      (λ part. elim part [
-        | inl before ↦ elim before [ inl on ↦ on.0 | inr empty ↦ absurd empty ]
-        | inr empty ↦ absurd empty
-      ]),
-    ))
+    (tells_nothing g columns none.start start) (tells_nothing g columns none.end end)
+    (λ s. body_law (IsHeld s))
 
 parts_united : (P B L N S T E F H Y : Type 0) → (H → ⊥) → (Y → ⊥) → (L ⊎ T) ↔ (B ⊎ S) → (N ⊎ F) ↔ (L ⊎ E)
     → (((B × (H → ⊥) × (Y → ⊥)) ⊎ S) ⊎ E) ↔ P → (((N × (H → ⊥) × (Y → ⊥)) ⊎ T) ⊎ F) ↔ P
@@ -136,25 +120,16 @@ tells_united g columns IsHeld r longer body start end no_hollow no_beyond told f
       (second row column) (told.each column row near within);
 }
 
+round_parts : (A O H Y S E W : Type 0) → A ↔ ((O × (H → ⊥) × (Y → ⊥)) ⊎ S ⊎ E) → (A → W)
+    → A ↔ ((((O × W) × ((H × W) → ⊥) × ((Y × W) → ⊥)) ⊎ S) ⊎ E)
+round_parts A O H Y S E W law high = grind arith
+
 -- what is taken out of an arc's body is so between the heights of its stroke
 pub round_law : (a : Arc) (h : Heights) → ((t : Spot) → IsInArc t a → IsWithin h t) → (t : Spot)
     → IsInArc t a
     ↔ ((((IsOuter a t × IsWithin h t) × ((IsHollow a t × IsWithin h t) → ⊥) × ((IsBeyond a t × IsWithin h t) → ⊥))
     ⊎ IsInDisc t (first_of a)) ⊎ IsInDisc t (last_of a))
-round_law a h heights t =
-    let law = arc_is_its_runs t a in (
-      (λ held. elim (law.0 held) [
-        | inl on ↦ inl (inl ((on.0, heights t held), (λ x. on.1 x.0), (λ x. on.2 x.0)))
-        | inr ends ↦ elim ends [ inl on ↦ inl (inr on) | inr on ↦ inr on ]
-      ]),
-      (λ part. law.1 (elim part [
-        | inl before ↦ elim before [
-          | inl on ↦ inl (on.0.0, (λ x. on.1 (x, on.0.1)), (λ x. on.2 (x, on.0.1)))
-          | inr on ↦ inr (inl on)
-        ]
-        | inr on ↦ inr (inr on)
-      ])),
-    )
+round_law a h heights t = round_parts _ _ _ _ _ _ _ (arc_is_its_runs t a) (heights t)
 
 pub tells_like : (g : Grid) (columns : ℕ) (P Q : Spot → Type 0) (s : FigureRuns) → ((t : Spot) → Q t ↔ P t)
     → TellsFigure g columns P s → TellsFigure g columns Q s

@@ -22,11 +22,11 @@ use Rattle.cam_tiles.specs.declared.masks.filing.FiledSegment.{FiledSegment}
 use Rattle.cam_tiles.specs.declared.masks.heights.Heights.{Heights}
 use Rattle.cam_tiles.specs.Machinery.Filing.{IsFiledAs, Misses}
 use Rattle.cam_tiles.specs.Machinery.Levels.{AreLevels, IsOnRow, height}
-use Rattle.cam_tiles.specs.Machinery.Masks.{IsWithin}
+use Rattle.cam_tiles.specs.Machinery.Masks.{AreAbout, IsWithin}
 use Rattle.cam_tiles.proofs.EdgeSpans.{met_apart, met_left, missed_right}
 use Rattle.cam_tiles.proofs.GridLemmas.{long}
 use Rattle.cam_tiles.proofs.LevelRows.{rows_reached}
-use Rattle.cam_tiles.proofs.ShapeHeights.{AreAbout, squared_radius}
+use Rattle.cam_tiles.proofs.ShapeHeights.{squared_radius}
 
 -- ---- lines
 

@@ -12,6 +12,18 @@ use Rattle.cam_tiles.specs.Machinery.Swaths.{HasMask, StandInRow, grid_at, no_ma
 use Rattle.cam_tiles.specs.Machinery.Turning.{AreMarkedAt, MarksCentres}
 use Rattle.cam_tiles.specs.Tiles.{IsGrid, centre_in}
 
+-- what is read of masks from one number to another: the tiles of the first and the last, the column that these end at,
+-- and the grid of the first
+pub record AreRead (columns : ℕ) (tiles : List ℕ) (masks : List Marking) (first end from at past : ℕ) (h : Grid)
+    (d : Marking) : Type 0 where
+  pub some : first < end
+  pub few : end ≤ length masks
+  pub left : from ≡ get_or tiles first from
+  pub last : at ≡ get_or tiles (end - 1) at
+  pub right : past ≡ min columns (64 * (at + 1))
+  pub of : h ≡ (get_or masks first d).grid
+  pub grid : IsGrid h
+
 module _ (g : Grid) (columns : ℕ) (tiles before : List ℕ) (masks : List Marking)
     (stand : StandInRow g columns tiles before (length masks) (grid_at masks)) where
   abbrev tile : ℕ → ℕ
@@ -81,53 +93,51 @@ module _ (g : Grid) (columns : ℕ) (tiles before : List ℕ) (masks : List Mark
         }
 
   -- the same, by what is read of them
-  module _ (first end left last right : ℕ) (h : Grid) (d : Marking) (some : first < end) (few : end ≤ length masks)
-      (is_left : left ≡ get_or tiles first left) (is_last : last ≡ get_or tiles (end - 1) last)
-      (is_right : right ≡ min columns (64 * (last + 1))) (is_grid : h ≡ (get_or masks first d).grid) (grid : IsGrid h)
-    where
-      no_later : first ≤ end - 1
-      no_later = omega (arith, some)
+  module _ (first end left last right : ℕ) (h : Grid) (d : Marking)
+      (read : AreRead columns tiles masks first end left last right h d) where
+    no_later : first ≤ end - 1
+    no_later = omega (arith, read.some)
 
-      under : end - 1 < length masks
-      under = omega (arith, some, few)
+    under : end - 1 < length masks
+    under = omega (arith, read.some, read.few)
 
-      same_left : left ≡ tile first
-      same_left = is_left ∙ get_or_default tiles first left 0 (omega (arith, stand.size, some, few))
+    same_left : left ≡ tile first
+    same_left = read.left ∙ get_or_default tiles first left 0 (omega (arith, stand.size, read.some, read.few))
 
-      same_right : right ≡ min columns (64 * (tile (end - 1) + 1))
-      same_right =
-          is_right
-          ∙ ap (λ n. min columns (64 * (n + 1)))
-          (is_last ∙ get_or_default tiles (end - 1) last 0 (omega (arith, stand.size, some, few)))
+    same_right : right ≡ min columns (64 * (tile (end - 1) + 1))
+    same_right =
+        read.right
+        ∙ ap (λ n. min columns (64 * (n + 1)))
+        (read.last ∙ get_or_default tiles (end - 1) last 0 (omega (arith, stand.size, read.some, read.few)))
 
-      same_grid : h ≡ grid_at masks first
-      same_grid =
-          is_grid ∙ ap (λ (m : Marking). m.grid) (get_or_default masks first d no_mask (omega (arith, some, few)))
+    same_grid : h ≡ grid_at masks first
+    same_grid =
+        read.of ∙ ap (λ (m : Marking). m.grid) (get_or_default masks first d no_mask (omega (arith, read.some, read.few)))
 
-      grid_there : IsGrid (grid_at masks first)
-      grid_there = subst IsGrid same_grid grid
+    grid_there : IsGrid (grid_at masks first)
+    grid_there = subst IsGrid same_grid read.grid
 
-      pub left_before : 64 * left ≤ right
-      left_before =
-          omega (arith, same_left, begins_before first (end - 1) right no_later under grid_there same_right)
+    pub left_before : 64 * left ≤ right
+    left_before =
+        omega (arith, same_left, begins_before first (end - 1) right no_later under grid_there same_right)
 
-      pub room_read : (words : ℕ) → 64 * length before ≤ words → 64 * ((right - 64 * left + 63) / 64) ≤ words
-      room_read words room =
-          rw same_left (words_there first (end - 1) right no_later under grid_there same_right words room)
+    pub room_read : (words : ℕ) → 64 * length before ≤ words → 64 * ((right - 64 * left + 63) / 64) ≤ words
+    room_read words room =
+        rw same_left (words_there first (end - 1) right no_later under grid_there same_right words room)
 
-      pub wide_read : IsWideGrid h (right - 64 * left)
-      wide_read = rw (same_left, same_grid) (wide_from first (end - 1) right no_later under grid_there same_right)
+    pub wide_read : IsWideGrid h (right - 64 * left)
+    wide_read = rw (same_left, same_grid) (wide_from first (end - 1) right no_later under grid_there same_right)
 
-      pub filed_read : (IsFiled : Grid → Type 0) → ((k : ℕ) → HasMask masks k → IsFiled (grid_at masks k)) → IsFiled h
-      filed_read IsFiled filed =
-          subst IsFiled (sym same_grid) (filed first (grid_there.columns.0, grid_there.rows.0))
+    pub filed_read : (IsFiled : Grid → Type 0) → ((k : ℕ) → HasMask masks k → IsFiled (grid_at masks k)) → IsFiled h
+    filed_read IsFiled filed =
+        subst IsFiled (sym same_grid) (filed first (grid_there.columns.0, grid_there.rows.0))
 
-      pub left_of_all : (k : ℕ) → first ≤ k → k < end → left ≤ tile k
-      left_of_all k after until = omega (arith, same_left, in_order first k after (omega (arith, until, few)))
+    pub left_of_all : (k : ℕ) → first ≤ k → k < end → left ≤ tile k
+    left_of_all k after until = omega (arith, same_left, in_order first k after (omega (arith, until, read.few)))
 
-      pub marked_read : (IsHeld : Spot → Type 0) (marks : List ℕ) → 64 * length before ≤ length marks
-          → MarksCentres h (right - 64 * left) IsHeld marks
-          → (k : ℕ) → first ≤ k → k < end → AreMarkedAt (tile k - left) (grid_at masks k) IsHeld marks
-      marked_read IsHeld marks room told k after until =
-          rw same_left (marked_there first (end - 1) right no_later under grid_there same_right IsHeld marks room
-          (rw (same_left, same_grid) at told) k after (omega (arith, until)))
+    pub marked_read : (IsHeld : Spot → Type 0) (marks : List ℕ) → 64 * length before ≤ length marks
+        → MarksCentres h (right - 64 * left) IsHeld marks
+        → (k : ℕ) → first ≤ k → k < end → AreMarkedAt (tile k - left) (grid_at masks k) IsHeld marks
+    marked_read IsHeld marks room told k after until =
+        rw same_left (marked_there first (end - 1) right no_later under grid_there same_right IsHeld marks room
+        (rw (same_left, same_grid) at told) k after (omega (arith, until)))

@@ -1,5 +1,5 @@
 -- Swaths: leaves that are painted on masks side by side, and what is kept of these.
-use Rattle.std.proofs.Common.{◌≡◌, ◌↔◌, ◌⊎◌, ℕ, ◌+◌, ◌*◌, ◌/◌, ◌%◌, ◌<◌, ◌≤◌, ℤ, ◌≤ℤ◌, ◌<ℤ◌, Bool, List, length, map, set, get_or}
+use Rattle.std.proofs.Common.{◌≡◌, ◌↔◌, ◌⊎◌, ℕ, ◌+◌, ◌*◌, ◌/◌, ◌%◌, ◌<◌, ◌≤◌, ℤ, ◌≤ℤ◌, ◌<ℤ◌, Bool, true, List, length, map, set, get_or}
 use Rattle.std.proofs.Common.{refl, sym, ap, subst, ◌∙◌, inl, inr, arith}
 use Rattle.std.specs.List.{All}
 use Rattle.std.proofs.lemmas.Bool.{cases_lt}
@@ -16,15 +16,21 @@ use Rattle.cam_objects.proofs.Canvases.{paints_missed}
 use Rattle.cam_tiles.specs.declared.grid.Grid.{Grid}
 use Rattle.cam_tiles.specs.declared.levels.Levels.{Levels}
 use Rattle.cam_tiles.specs.declared.masks.swath.Pitch.{Pitch}
+use Rattle.cam_tiles.specs.declared.window.Window.{Window}
 use Rattle.cam_tiles.specs.Machinery.Levels.{levels_of}
 use Rattle.cam_tiles.specs.Machinery.Masks.{IsBlank, IsIn, IsMask, Marking, PaintsMask, ink_of}
 use Rattle.cam_tiles.specs.Machinery.Swaths.{AreDrawn, ArePaintedIn, HasLevels, HasMask, IsDrawn, IsLaidOut}
-use Rattle.cam_tiles.specs.Machinery.Swaths.{PaintsSwath, StandInRow, grid_at, mask_at, no_grid, no_mask}
-use Rattle.cam_tiles.specs.Tiles.{IsGrid, centre_in, tile_rows}
+use Rattle.cam_tiles.specs.Machinery.Swaths.{IsRowOfTiles, PaintsSwath, StandInRow, dirty_grids, grid_at, mask_at, no_grid, no_mask}
+use Rattle.cam_tiles.specs.Picture.{accepts}
+use Rattle.cam_tiles.specs.Tables.{Tile}
+use Rattle.cam_tiles.specs.Tiles.{IsGrid, centre_in, grid_of, tile_rows}
+use Rattle.cam_tiles.proofs.DrawnTiles.{dirty}
+use Rattle.cam_tiles.proofs.GridLemmas.{on_board}
 use Rattle.cam_tiles.proofs.MaskWords.{rows_of_marks}
 use Rattle.cam_tiles.proofs.PaintedMasks.{clear_if_unmarked}
 use Rattle.cam_tiles.proofs.PaintedTiles.{ink_of_image, marks_of_ink, painted_grid, same_grid, same_levels}
-use Rattle.cam_tiles.proofs.SwathLayouts.{mask_there}
+use Rattle.cam_tiles.proofs.SwathLayouts.{levels_are, mask_there}
+use Rattle.cam_tiles.proofs.TilesInOrder.{all_grids, length-dirty_grids}
 use Rattle.cam_tiles.proofs.TurnedBands.{by_band}
 
 -- ---- from masks to the swath
@@ -246,7 +252,7 @@ grid_in_list masks grids k are within =
     ap (λ (those : List Grid). get_or those k no_grid) (sym are)
     ∙ get_or-map (λ (m : Marking). m.grid) masks k no_mask no_grid (omega arith)
 
-pub has_levels : (masks : List Marking) (grids : List Grid) (levels : Levels)
+has_levels : (masks : List Marking) (grids : List Grid) (levels : Levels)
     → map (λ (m : Marking). m.grid) masks ≡ grids → All (λ (g : Grid). levels_of g ≡ levels) grids
     → HasLevels levels masks
 has_levels masks grids levels are all = λ k there.
@@ -255,7 +261,7 @@ has_levels masks grids levels are all = λ k there.
     subst (λ (g : Grid). levels_of g ≡ levels) (grid_in_list masks grids k are within)
     (All-get_or (λ (g : Grid). levels_of g ≡ levels) grids k no_grid within all)
 
-pub swath_drawn : (leaves : List Leaf) (old new : List Marking) (grids : List Grid) → PaintsSwath old leaves new
+swath_drawn : (leaves : List Leaf) (old new : List Marking) (grids : List Grid) → PaintsSwath old leaves new
     → map (λ (m : Marking). m.grid) old ≡ grids → All IsGrid grids → ((k : ℕ) → IsBlank (mask_at old k))
     → AreDrawn (is_black leaves) grids new
 swath_drawn leaves old new grids h are sound blank = λ k within.
@@ -265,7 +271,7 @@ swath_drawn leaves old new grids h are sound blank = λ k within.
     (drawn_at leaves old new h k grid (blank k))
 
 -- there are as many masks as before, at least
-pub enough_masks : (leaves : List Leaf) (old new : List Marking) (grids : List Grid) → PaintsSwath old leaves new
+enough_masks : (leaves : List Leaf) (old new : List Marking) (grids : List Grid) → PaintsSwath old leaves new
     → map (λ (m : Marking). m.grid) old ≡ grids → All IsGrid grids → length grids ≤ length new
 enough_masks leaves old new grids h are sound = elim (cases_lt (length new) (length grids)) [
   | inl fewer ↦
@@ -277,6 +283,32 @@ enough_masks leaves old new grids h are sound = elim (cases_lt (length new) (len
       absurd (omega (arith, found.0)))
   | inr enough ↦ enough
 ]
+
+-- the masks of the dirty ones of tiles that stand in a row of them
+module _ (w : Window) (first : ℕ) (tiles : List Tile) (ok : accepts w ≡ true) (row : IsRowOfTiles w first tiles)
+    (masks : List Marking) (are : map (λ (m : Marking). m.grid) masks ≡ dirty_grids (grid_of w) first tiles) where
+  pub row_levels : HasLevels (levels_of (grid_of w first)) masks
+  row_levels =
+      has_levels masks (dirty_grids (grid_of w) first tiles) (levels_of (grid_of w first)) are
+      (all_grids (grid_of w) (λ (g : Grid). levels_of g ≡ levels_of (grid_of w first)) first tiles
+      (λ t within. levels_are w first t row.left (omega (arith, row.fits))))
+
+  row_sound : All IsGrid (dirty_grids (grid_of w) first tiles)
+  row_sound =
+      all_grids (grid_of w) IsGrid first tiles (λ t within. on_board w (first + t) ok (omega (arith, row.within)))
+
+  module _ (leaves : List Leaf) (new : List Marking) (painted : PaintsSwath masks leaves new) where
+    pub row_masks : dirty tiles ≤ length new
+    row_masks =
+        omega (
+          arith,
+          length-dirty_grids (grid_of w) first tiles,
+          enough_masks leaves masks new (dirty_grids (grid_of w) first tiles) painted are row_sound,
+        )
+
+    pub row_drawn : ((k : ℕ) → IsBlank (mask_at masks k))
+        → AreDrawn (is_black leaves) (dirty_grids (grid_of w) first tiles) new
+    row_drawn = swath_drawn leaves masks new (dirty_grids (grid_of w) first tiles) painted are row_sound
 
 -- ---- rows of a drawn mask
 

@@ -19,65 +19,35 @@ pub bit_of-lt : (b : Bool) → bit_of b < 2
 bit_of-lt true = omega arith
 bit_of-lt false = omega arith
 
-abbrev weighed : (a b c d e f g h : ℕ) → ℕ
-weighed a b c d e f g h = 128 * a + 64 * b + 32 * c + 16 * d + 8 * e + 4 * f + 2 * g + h
+abbrev weighed : (ℕ → ℕ) → ℕ
+weighed b = 128 * b 0 + 64 * b 1 + 32 * b 2 + 16 * b 3 + 8 * b 4 + 4 * b 5 + 2 * b 6 + b 7
+
+abbrev AreBits : (ℕ → ℕ) → Type 0
+AreBits b = (b 0 < 2) × (b 1 < 2) × (b 2 < 2) × (b 3 < 2) × (b 4 < 2) × (b 5 < 2) × (b 6 < 2) × (b 7 < 2)
+
+all_bits : (b : ℕ → ℕ) → ((i : ℕ) → b i < 2) → AreBits b
+all_bits b h = (h 0, h 1, h 2, h 3, h 4, h 5, h 6, h 7)
 
 -- each is the bit of the sum at its place
-record HasBits (a b c d e f g h : ℕ) : Type 0 where
-  at_7 : weighed a b c d e f g h / 128 % 2 ≡ a
-  at_6 : weighed a b c d e f g h / 64 % 2 ≡ b
-  at_5 : weighed a b c d e f g h / 32 % 2 ≡ c
-  at_4 : weighed a b c d e f g h / 16 % 2 ≡ d
-  at_3 : weighed a b c d e f g h / 8 % 2 ≡ e
-  at_2 : weighed a b c d e f g h / 4 % 2 ≡ f
-  at_1 : weighed a b c d e f g h / 2 % 2 ≡ g
-  at_0 : weighed a b c d e f g h / 1 % 2 ≡ h
-
-bits_of_weighed : (a b c d e f g h : ℕ) → a < 2 → b < 2 → c < 2 → d < 2 → e < 2 → f < 2 → g < 2 → h < 2
-    → HasBits a b c d e f g h
-bits_of_weighed a b c d e f g h p q r s t u v w =
-    record {
-      at_7 = omega arith;
-      at_6 = omega arith;
-      at_5 = omega arith;
-      at_4 = omega arith;
-      at_3 = omega arith;
-      at_2 = omega arith;
-      at_1 = omega arith;
-      at_0 = omega arith;
-    }
-
-bits_of_pixels : (black : ℕ → Bool)
-    → HasBits (bit_of (black 0)) (bit_of (black 1)) (bit_of (black 2)) (bit_of (black 3))
-    (bit_of (black 4)) (bit_of (black 5)) (bit_of (black 6)) (bit_of (black 7))
-bits_of_pixels black =
-    bits_of_weighed _ _ _ _ _ _ _ _
-    (bit_of-lt (black 0)) (bit_of-lt (black 1)) (bit_of-lt (black 2)) (bit_of-lt (black 3))
-    (bit_of-lt (black 4)) (bit_of-lt (black 5)) (bit_of-lt (black 6)) (bit_of-lt (black 7))
+bit_of_weighed : (b : ℕ → ℕ) → ((i : ℕ) → b i < 2) → (i : ℕ) → i < 8 → weighed b / 2 ^ (7 - i) % 2 ≡ b i
+bit_of_weighed b h zero within = let p = all_bits b h in omega arith
+bit_of_weighed b h (suc zero) within = let p = all_bits b h in omega arith
+bit_of_weighed b h (suc (suc zero)) within = let p = all_bits b h in omega arith
+bit_of_weighed b h (suc (suc (suc zero))) within = let p = all_bits b h in omega arith
+bit_of_weighed b h (suc (suc (suc (suc zero)))) within = let p = all_bits b h in omega arith
+bit_of_weighed b h (suc (suc (suc (suc (suc zero))))) within = let p = all_bits b h in omega arith
+bit_of_weighed b h (suc (suc (suc (suc (suc (suc zero)))))) within = let p = all_bits b h in omega arith
+bit_of_weighed b h (suc (suc (suc (suc (suc (suc (suc zero))))))) within = let p = all_bits b h in omega arith
+bit_of_weighed b h (suc (suc (suc (suc (suc (suc (suc (suc i)))))))) within = absurd (omega arith)
 
 -- the bits of a byte, from the highest down, are its pixels from the left
 pub bit_at-byte_of : (black : ℕ → Bool) (i : ℕ) → i < 8 → bit_at (byte_of black) (7 - i) ≡ bit_of (black i)
 unfolding byte_of
-bit_at-byte_of black zero within = (bits_of_pixels black).at_7
-bit_at-byte_of black (suc zero) within = (bits_of_pixels black).at_6
-bit_at-byte_of black (suc (suc zero)) within = (bits_of_pixels black).at_5
-bit_at-byte_of black (suc (suc (suc zero))) within = (bits_of_pixels black).at_4
-bit_at-byte_of black (suc (suc (suc (suc zero)))) within = (bits_of_pixels black).at_3
-bit_at-byte_of black (suc (suc (suc (suc (suc zero))))) within = (bits_of_pixels black).at_2
-bit_at-byte_of black (suc (suc (suc (suc (suc (suc zero)))))) within = (bits_of_pixels black).at_1
-bit_at-byte_of black (suc (suc (suc (suc (suc (suc (suc zero))))))) within = (bits_of_pixels black).at_0
-bit_at-byte_of black (suc (suc (suc (suc (suc (suc (suc (suc i)))))))) within = absurd (omega arith)
-
-weighed-lt : (a b c d e f g h : ℕ) → a < 2 → b < 2 → c < 2 → d < 2 → e < 2 → f < 2 → g < 2 → h < 2
-    → weighed a b c d e f g h < 256
-weighed-lt a b c d e f g h p q r s t u v w = omega arith
+bit_at-byte_of black = bit_of_weighed (λ i. bit_of (black i)) (λ i. bit_of-lt (black i))
 
 pub byte_of-lt : (black : ℕ → Bool) → byte_of black < 256
 unfolding byte_of
-byte_of-lt black =
-    weighed-lt _ _ _ _ _ _ _ _
-    (bit_of-lt (black 0)) (bit_of-lt (black 1)) (bit_of-lt (black 2)) (bit_of-lt (black 3))
-    (bit_of-lt (black 4)) (bit_of-lt (black 5)) (bit_of-lt (black 6)) (bit_of-lt (black 7))
+byte_of-lt black = let p = all_bits (λ i. bit_of (black i)) (λ i. bit_of-lt (black i)) in omega arith
 
 -- a byte of a row
 abbrev pub byte_in : (ℕ → Bool) → ℕ → ℕ → ℕ
@@ -223,19 +193,16 @@ all_bytes_decimal n h =
 one_byte : (b : ℕ) → b < 256 → AreBytes (b ∷ [])
 one_byte b h = All-cons (λ byte. byte < 256) b [] h (All-nil (λ byte. byte < 256))
 
-all_bytes_six : (a b c d e f : List ℕ)
-    → AreBytes a → AreBytes b → AreBytes c → AreBytes d → AreBytes e → AreBytes f
-    → AreBytes (a ++ b ++ c ++ d ++ e ++ f)
-all_bytes_six a b c d e f p q r s t u =
-    let four = joined (a ++ b ++ c) d (joined (a ++ b) c (joined a b p q) r) s in
-    joined (a ++ b ++ c ++ d ++ e) f (joined (a ++ b ++ c ++ d) e four t) u
-
 all_bytes_header : (width height : ℕ) → width < 2 ^ 64 → height < 2 ^ 64 → AreBytes (header width height)
 all_bytes_header width height w h =
     let magic = joined (80 ∷ []) (52 ∷ []) (one_byte 80 (omega arith)) (one_byte 52 (omega arith)) in
     let line_end = one_byte 10 (omega arith) in
-    all_bytes_six (80 ∷ 52 ∷ []) (10 ∷ []) (decimal width) (32 ∷ []) (decimal height) (10 ∷ [])
-    magic line_end (all_bytes_decimal width w) (one_byte 32 (omega arith)) (all_bytes_decimal height h) line_end
+    let wide = (80 ∷ 52 ∷ 10 ∷ []) ++ decimal width in
+    let first = joined (80 ∷ 52 ∷ []) (10 ∷ []) magic line_end in
+    let second = joined (80 ∷ 52 ∷ 10 ∷ []) (decimal width) first (all_bytes_decimal width w) in
+    let third = joined wide (32 ∷ []) second (one_byte 32 (omega arith)) in
+    let fourth = joined (wide ++ 32 ∷ []) (decimal height) third (all_bytes_decimal height h) in
+    joined ((wide ++ 32 ∷ []) ++ decimal height) (10 ∷ []) fourth line_end
 
 pub all_bytes_pbm : (black : ℕ → ℕ → Bool) (width height : ℕ) → width < 2 ^ 64 → height < 2 ^ 64
     → AreBytes (pbm black width height)

@@ -1,6 +1,5 @@
 -- What a shape holds lies between its heights.
-use Rattle.std.proofs.Common.{◌≡◌, ◌*◌, ℤ, pos, ◌+ℤ◌, ◌-ℤ◌, ◌*ℤ◌, ◌<ℤ◌, IsTrue, arith}
-use Rattle.std.specs.Int.{int_max, int_min}
+use Rattle.std.proofs.Common.{◌*◌, ℤ, pos, ◌<ℤ◌, IsTrue, arith}
 use Rattle.std.proofs.lemmas.Int.{ints, clamps}
 use Rattle.cam_units.specs.Boxes.{Holds}
 use Rattle.cam_units.specs.declared.length.Nm.{Nm}
@@ -23,17 +22,7 @@ use Rattle.cam_shapes.proofs.Strokes.{natural_or_not}
 use Rattle.cam_apertures.specs.Primitives.{box_about}
 use Rattle.cam_apertures.proofs.ShapeBoxes.{bar_span, disc_box, less_at_most, obround_box, rectangle_box, within_box}
 use Rattle.cam_tiles.specs.declared.masks.heights.Heights.{Heights}
-use Rattle.cam_tiles.specs.Machinery.Masks.{IsWithin}
-
--- heights so far to both sides of a point
-pub record AreAbout (p : Point) (r : ℤ) (h : Heights) : Type 0 where
-  pub low : h.low ≡ pos 2 *ℤ p.y -ℤ r
-  pub high : h.high ≡ pos 2 *ℤ p.y +ℤ r
-
--- the heights of the way between two points, and so far above and below it
-pub record AreAlong (p q : Point) (r : ℤ) (h : Heights) : Type 0 where
-  pub low : h.low ≡ pos 2 *ℤ int_min p.y q.y -ℤ r
-  pub high : h.high ≡ pos 2 *ℤ int_max p.y q.y +ℤ r
+use Rattle.cam_tiles.specs.Machinery.Masks.{AreAbout, AreAlong, IsWithin}
 
 in_box : (p : Point) (w r : ℤ) (h : Heights) → AreAbout p r h → (s : Spot) → Holds (box_about (place_of p) w r) s
     → IsWithin h s

@@ -1,6 +1,6 @@
 -- Apertures on masks: what the primitives of a macro leave marked, one after the other.
 use Rattle.std.proofs.Common.{◌≡◌, ◌↔◌, ◌⊎◌, ℕ, ◌+◌, ◌<◌, Bool, true, false, IsTrue, List, length, get_or, map, take}
-use Rattle.std.proofs.Common.{refl, sym, ◌∙◌, inl, inr}
+use Rattle.std.proofs.Common.{refl, sym, ◌∙◌, inl, inr, arith}
 use Rattle.std.proofs.lemmas.Bool.{cases_Bool, false≢true}
 use Rattle.cam_units.specs.declared.point.Spot.{Spot}
 use Rattle.cam_units.specs.declared.turn.Turn.{Turn}
@@ -22,16 +22,9 @@ held_or_not p s = elim (cases_Bool (is_in_shape p.shape s)) [
 -- ink that decides where it is held, and passes what was elsewhere
 inked_where : (paint : Bool) (Was Held Now : Type 0) → Held ⊎ (Held → ⊥) → (Held → IsTrue paint ↔ Now)
     → ((Held → ⊥) → Now ↔ Was) → joined (inked paint) Was Held ↔ Now
-inked_where paint Was Held Now (inl held) decides passes = on paint (decides held)
-  where
-    on : (paint : Bool) → IsTrue paint ↔ Now → joined (inked paint) Was Held ↔ Now
-    on true told = (λ j. told.0 refl, λ now. inr held)
-    on false told = (λ j. absurd (j.1 held), λ now. absurd (false≢true (told.1 now)))
-inked_where paint Was Held Now (inr free) decides passes = on paint (passes free)
-  where
-    on : (paint : Bool) → Now ↔ Was → joined (inked paint) Was Held ↔ Now
-    on true told = (λ j. elim j [ inl was ↦ told.1 was | inr held ↦ absurd (free held) ], λ now. inl (told.0 now))
-    on false told = (λ j. told.1 j.0, λ now. (told.0 now, free))
+inked_where true Was Held Now known decides passes = let yes : IsTrue true = refl in grind (arith, yes)
+inked_where false Was Held Now known decides passes =
+    let no : IsTrue false → ⊥ = λ t. false≢true t in grind (arith, no)
 
 -- a primitive is added to what those before it paint, or cleared from it
 pub painted_more : (t : Turn) (prims : List MacroPrimitive) (place : ℕ) (p : MacroPrimitive) (s : Spot)

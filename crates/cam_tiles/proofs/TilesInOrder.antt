@@ -204,11 +204,3 @@ split first end tiles order within =
     sym (take-append-drop (end - first) (drop first tiles))
     ∙ ap (λ rest. take (end - first) (drop first tiles) ++ rest)
     (drop-drop (end - first) first tiles ∙ ap (λ n. drop n tiles) there)
-
--- a row of tiles that is drawn in a list of them
-module _ (draw : ℕ → List ℕ) (first end : ℕ) (tiles part : List Tile) (order : first ≤ end)
-    (within : end ≤ length tiles) (is : part ≡ all_drawn_from draw first (mid_of first (end - first) tiles)) where
-  pub part_size : length part ≡ end - first
-  part_size =
-      ap length is ∙ length-all_drawn_from draw first (mid_of first (end - first) tiles)
-      ∙ middle_length first end tiles order within

@@ -34,6 +34,7 @@ impl Grid {
     }
 
     /// The columns whose centres lie between two places across, in half nm.
+    #[tactic(auto, using(crate::proofs::LevelRows::are_columns))]
     pub(crate) fn columns_between(&self, left: i64, right: i64) -> Span
         requires { IsGrid self.now }
         ensures { (column : ℕ) → column < self.now.cols → left ≤ℤ (centre_in self.now column 0).x
@@ -91,6 +92,7 @@ impl Levels {
 
     /// The height of a row, in half nm.
     #[inline]
+    #[tactic(auto, using(crate::proofs::LevelRows::way_fits, crate::proofs::LevelRows::height_fits, crate::proofs::LevelRows::height_is))]
     pub(crate) fn height(&self, row: u32) -> i64
         requires levels { AreLevels self.now }
         requires row { row < self.now.rows }
@@ -101,6 +103,7 @@ impl Levels {
 
     /// How many of the rows lie less than a distance below the first.
     #[inline]
+    #[tactic(auto, using(crate::proofs::LevelRows::rows_by_division, crate::proofs::LevelRows::way_fits, crate::proofs::LevelRows::last_within))]
     fn rows_above(&self, distance: i64) -> u32
         requires { AreLevels self.now }
         ensures rows { (row : ℕ) → row < self.now.rows → (row < result) ↔ ((pos row *ℤ self.now.step) <ℤ distance) }

@@ -94,6 +94,7 @@ impl Raster {
     }
 
     /// Whether the pixel is black; `None` where its tile is dirty, or outside the window.
+    #[tactic(auto, using(crate::proofs::TablePixels::pixel_in, crate::proofs::TablePixels::bit_in, crate::proofs::TablePixels::bit_shifted))]
     pub fn pixel(&self, column: u32, row: u32) -> Option<bool>
         ensures { result ≡ pixel_of self.now column row }
     {

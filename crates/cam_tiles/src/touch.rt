@@ -40,6 +40,7 @@ impl Line {
     }
 
     /// How many of its pixels have their centres before the end of the range, or on it.
+    #[tactic(auto, using(crate::proofs::SpanLemmas::steps_up_to))]
     fn count_through(&self) -> u32
         requires { 0 < self.now.step }
         ensures each { (n : ℕ) → n < self.now.pixels → (pos (n * self.now.step) ≤ℤ self.now.high) ↔ (n < result) }

@@ -1,7 +1,9 @@
 -- Half planes, row after row: the centres at which a number is not negative.
-use Rattle.std.specs.Prelude.{◌≡◌, ◌↔◌, ℕ, ℤ, ◌^◌, ◌+◌, ◌<◌, ◌≤◌, pos, ◌≤ℤ◌, ◌<ℤ◌}
+use Rattle.std.specs.Prelude.{◌≡◌, ◌↔◌, ℕ, ℤ, ◌^◌, ◌+◌, ◌<◌, ◌≤◌, pos, ◌+ℤ◌, ◌≤ℤ◌, ◌<ℤ◌}
 use Rattle.std.specs.Int.RustNames.{unsigned_abs}
+use Rattle.cam_units.specs.declared.point.Point.{Point}
 use Rattle.cam_units.specs.declared.point.Spot.{Spot}
+use Rattle.cam_shapes.specs.Plane.{cross, seen_from, way}
 use Rattle.cam_rows.specs.declared.centres.Centres.{Centres}
 use Rattle.cam_rows.specs.declared.half_plane.HalfPlane.{HalfPlane}
 use Rattle.cam_rows.specs.Machinery.Beside.{IsWithinReach}
@@ -30,6 +32,10 @@ pub record IsShortIn (n : ℕ) (h : HalfPlane) : Type 0 where
 pub record IsHalfPlaneOf (top : Centres) (IsIn : Spot → Type 0) (h : HalfPlane) : Type 0 where
   pub tells : (k i : ℕ) → IsUp (numbers_of h) k i ↔ IsIn (centre_at (row_below top k) i)
   pub short : (n : ℕ) → AreRows top n → IsShortIn n h
+
+-- left of the line through two points, on it, or right of it where the cross product with the way is so little below 0
+abbrev pub IsLeft : Point → Point → ℤ → Spot → Type 0
+IsLeft p q reach s = pos 0 ≤ℤ (cross (way p q) (seen_from p s) +ℤ reach)
 
 -- where it crosses so many rows: its numbers fall, or what they lack does
 pub record IsCrossingIn (rows : ℕ) (c : Crossing) (t : Steps) (h : HalfPlane) : Type 0 where

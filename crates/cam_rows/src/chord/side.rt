@@ -114,6 +114,7 @@ impl ChordSide {
 
     /// Whether the last column of the chord lies beyond another one.
     #[inline]
+    #[tactic(auto, using(crate::proofs::Sides::last_short, crate::proofs::Sides::square_fits))]
     fn is_last_beyond(&self, room: u64) -> bool
         requires side { IsSide self.now }
         requires some { 0 < self.now.inside }

@@ -8,8 +8,8 @@ ghost use Rattle.cam_rows.specs.ArcRuns.{IsBeyond, IsInHalf, IsLeftOut, IsOuter,
 ghost use Rattle.cam_rows.specs.Runs.{AreRuns, AreWideRows};
 
 use super::circle::narrow_to_circle;
+use super::narrowing::narrow_left;
 use crate::centres::Centres;
-use crate::half_plane::HalfPlane;
 use crate::ring::Ring;
 use crate::sweep::{cross_product, dot_product};
 use cam_shapes::Arc;
@@ -21,6 +21,7 @@ use cam_units::Point;
 /// them in a row.
 ///
 /// The stroke is these columns without those of the inner circle and of [`beyond_runs`], and the discs about its ends.
+#[tactic(auto, using(crate::proofs::WideRows::empty_runs))]
 pub fn outer_runs(arc: &Arc, ring: &Ring, top: &Centres, firsts: &mut [u32], ends: &mut [u32])
     requires arc { IsSoundArc arc.now }
     requires ring { IsRingOf ring.now arc.now }
@@ -106,9 +107,8 @@ fn half_runs(
         ends.fill(0);
         return;
     }
-    let left = top.leftmost();
-    HalfPlane::left(centre, start, 0, &left).narrow(top.n, firsts, ends);
-    HalfPlane::left(end, centre, 0, &left).narrow(top.n, firsts, ends);
+    narrow_left(centre, start, 0, top, firsts, ends);
+    narrow_left(end, centre, 0, top, firsts, ends);
 }
 
 /// The runs of what a sweep about a point leaves out, counterclockwise from a start to an end, where it is more than a
@@ -136,7 +136,6 @@ fn left_out_runs(
         return;
     }
     ends.fill(top.n);
-    let left = top.leftmost();
-    HalfPlane::left(start, centre, -1, &left).narrow(top.n, firsts, ends);
-    HalfPlane::left(centre, end, -1, &left).narrow(top.n, firsts, ends);
+    narrow_left(start, centre, -1, top, firsts, ends);
+    narrow_left(centre, end, -1, top, firsts, ends);
 }

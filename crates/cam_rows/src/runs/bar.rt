@@ -1,7 +1,6 @@
 //! Runs of bars.
 
-ghost use Rattle.std.specs.Prelude.{◌≡◌, ◌↔◌, ◌^◌, ◌<◌, ◌≤◌, ℕ, IfSome, length, pos, ◌+ℤ◌, ◌-ℤ◌, ◌*ℤ◌};
-ghost use Rattle.std.specs.Int.{int_max, int_min};
+ghost use Rattle.std.specs.Prelude.{◌≡◌, ◌↔◌, ◌^◌, ◌<◌, ◌≤◌, ℕ, IfSome, length};
 ghost use Rattle.std.specs.Int.RustNames.{unsigned_abs};
 ghost use Rattle.cam_units.specs.declared.point.Spot.{Spot};
 ghost use Rattle.cam_units.specs.Boxes.{IsBetween as IsInBox};
@@ -13,7 +12,7 @@ ghost use Rattle.cam_rows.specs.Rows.{centre_at, first_of, row_below};
 ghost use Rattle.cam_rows.specs.Runs.{AreRuns, AreWideRows, IsInRun};
 
 use super::beside_line::runs_beside;
-use super::boxes::box_runs;
+use super::boxes::{box_runs, widened_ends};
 use crate::beside::reach_of;
 use crate::centres::Centres;
 use crate::half_plane::HalfPlane;
@@ -25,6 +24,7 @@ use cam_units::{Point, Spot};
 /// are in nanometres, the centres in half nanometres, up to 32,768 of them in a row.
 ///
 /// A capsule is a bar with the discs about its ends.
+#[tactic(auto, using(crate::proofs::WideRows::runs_like))]
 pub fn bar_runs(bar: &Bar, top: &Centres, firsts: &mut [u32], ends: &mut [u32])
     requires bar { IsSoundBar bar.now }
     requires rows { AreWideRows top.now (length firsts.old) }
@@ -52,35 +52,12 @@ fn box_of(bar: &Bar) -> Option<(Spot, Spot)>
         if from.x == to.x {
             return None;
         }
-        return Some(widened_ends(bar, 0, width.0));
+        return Some(widened_ends(&from, &to, 0, width.0));
     }
     if from.x == to.x {
-        return Some(widened_ends(bar, width.0, 0));
+        return Some(widened_ends(&from, &to, width.0, 0));
     }
     None
-}
-
-/// The left lower corner and the right upper one of the box of both ends of a bar, widened by so much to both sides, and
-/// up and down.
-fn widened_ends(bar: &Bar, across: i64, along: i64) -> (Spot, Spot)
-    requires bar { IsSoundBar bar.now }
-    requires across { IsSize across }
-    requires along { IsSize along }
-    ensures left { result.0.x ≡ int_min (pos 2 *ℤ bar.now.from.x) (pos 2 *ℤ bar.now.to.x) -ℤ across }
-    ensures below { result.0.y ≡ int_min (pos 2 *ℤ bar.now.from.y) (pos 2 *ℤ bar.now.to.y) -ℤ along }
-    ensures right { result.1.x ≡ int_max (pos 2 *ℤ bar.now.from.x) (pos 2 *ℤ bar.now.to.x) +ℤ across }
-    ensures above { result.1.y ≡ int_max (pos 2 *ℤ bar.now.from.y) (pos 2 *ℤ bar.now.to.y) +ℤ along }
-{
-    let (from, to) = (bar.from, bar.to);
-    let low = Spot {
-        x: 2 * from.x.min(to.x) - across,
-        y: 2 * from.y.min(to.y) - along,
-    };
-    let high = Spot {
-        x: 2 * from.x.max(to.x) + across,
-        y: 2 * from.y.max(to.y) + along,
-    };
-    (low, high)
 }
 
 /// The runs of a bar of any direction, by the strip along its line and the half planes ahead of its ends.
@@ -102,6 +79,7 @@ fn slanted_runs(bar: &Bar, top: &Centres, firsts: &mut [u32], ends: &mut [u32])
 /// Narrows runs of wide rows, one below another from the top one, to the places ahead of a point or beside it, as one
 /// looks from there to another one: but not in the rows that lie `width` or more above or below the point, on the side
 /// of the other one, since there all that is at most `width` from the line through both is ahead.
+#[tactic(auto, using(crate::proofs::WideRows::top_is_wide))]
 fn narrow_ahead(
     from: &Point,
     to: &Point,

@@ -9,7 +9,7 @@ ghost use Rattle.cam_rows.specs.Machinery.HalfPlanes.{IsStripIn};
 ghost use Rattle.cam_rows.specs.Machinery.Linear.{IsShortLinear};
 ghost use Rattle.cam_rows.specs.Runs.{AreRuns, AreWideRows};
 
-use super::narrowing::MOST_ROWS;
+use super::narrowing::{MOST_ROWS, narrow_left};
 use crate::centres::Centres;
 use crate::half_plane::HalfPlane;
 use crate::slope::{Crossing, Steps, count_both};
@@ -17,6 +17,7 @@ use cam_units::Point;
 
 /// The runs of the places near the line through two points, in wide rows, one below another from the top one: those at
 /// which the cross product with the way is at most `reach` from 0.
+#[tactic(auto, using(crate::proofs::Quotients::kept_number, crate::proofs::WideRows::top_is_wide))]
 pub(super) fn runs_beside(
     from: &Point,
     to: &Point,
@@ -60,14 +61,14 @@ fn long_runs_beside(
 {
     firsts.fill(0);
     ends.fill(top.n);
-    let left = top.leftmost();
-    HalfPlane::left(from, to, reach, &left).narrow(top.n, firsts, ends);
-    HalfPlane::left(to, from, reach, &left).narrow(top.n, firsts, ends);
+    narrow_left(from, to, reach, top, firsts, ends);
+    narrow_left(to, from, reach, top, firsts, ends);
 }
 
 impl HalfPlane {
     /// Where its numbers are at most `reach` from 0 in the top row, and how that moves from each row to the next: from
     /// the columns before one crossing to those before another. None where they are level, or may not fit 64 bits.
+    #[tactic(auto, using(crate::proofs::HalfPlanes::low_fits, crate::proofs::HalfPlanes::high_fits))]
     fn strip(&self, reach: i128, rows: usize) -> Option<(Crossing, Crossing, Steps)>
         requires row { IsShortLinear self.now.row }
         requires down { unsigned_abs self.now.down < 2 ^ 100 }

@@ -18,6 +18,7 @@ use chords::{near_run, root_run};
 /// The runs of a cap in wide rows, one below another from the top one: the columns in its circle and on its side of the
 /// chord, with the ties of `cam_shapes::in_cap`. A run goes from its first column on and before its end; points are in
 /// nanometres, the centres in half nanometres, up to 32,768 of them in a row.
+#[tactic(auto, using(crate::proofs::WideRows::top_is_wide))]
 pub fn cap_runs(cap: &Cap, top: &Centres, firsts: &mut [u32], ends: &mut [u32])
     requires cap { IsSoundCap cap.now }
     requires rows { AreWideRows top.now (length firsts.old) }
@@ -35,6 +36,7 @@ pub fn cap_runs(cap: &Cap, top: &Centres, firsts: &mut [u32], ends: &mut [u32])
 }
 
 /// The runs of a cap's circle.
+#[tactic(auto, using(crate::proofs::WideRows::all_found, crate::proofs::WideRows::no_run))]
 fn circle_runs(cap: &Cap, top: &Centres, firsts: &mut [u32], ends: &mut [u32])
     requires cap { IsSoundCap cap.now }
     requires some { 0 < length firsts.old }
@@ -56,6 +58,7 @@ fn circle_runs(cap: &Cap, top: &Centres, firsts: &mut [u32], ends: &mut [u32])
 }
 
 /// The runs of a cap's circle in rows near its middle, by walks from each row to the next.
+#[tactic(auto, using(crate::proofs::NearRows::top_height_near))]
 fn near_runs(cap: &Cap, radius: u64, top: &Centres, firsts: &mut [u32], ends: &mut [u32])
     requires cap { IsSoundCap cap.now }
     requires radius { pos radius ≡ dot (way cap.now.centre cap.now.from) (way cap.now.centre cap.now.from) }

@@ -40,6 +40,7 @@ pub(crate) fn narrow_to_circle(
 }
 
 /// Narrows the runs of rows near a circle's middle to the circle, by walks from each row to the next.
+#[tactic(auto, using(crate::proofs::NearRows::top_height_near))]
 fn narrow_nearby(point: &Point, bound: u64, top: &Centres, firsts: &mut [u32], ends: &mut [u32])
     requires point { IsOnBoard point.now }
     requires some { 0 < length firsts.old }
@@ -66,6 +67,7 @@ fn narrow_nearby(point: &Point, bound: u64, top: &Centres, firsts: &mut [u32], e
 }
 
 /// Narrows the runs of any rows to a circle, by a root for each.
+#[tactic(auto, using(crate::proofs::WideRows::top_is_wide))]
 fn narrow_by_roots(point: &Point, bound: u128, top: &Centres, firsts: &mut [u32], ends: &mut [u32])
     requires point { IsOnBoard point.now }
     requires bound { bound < 2 ^ 68 }
@@ -83,6 +85,7 @@ fn narrow_by_roots(point: &Point, bound: u128, top: &Centres, firsts: &mut [u32]
 }
 
 /// The run of a circle in a row, by a root.
+#[tactic(auto, using(crate::proofs::WideRows::in_no_run, crate::proofs::RootRuns::over_circle))]
 fn root_run(point: &Point, bound: u128, row: &Centres) -> Run
     requires point { IsOnBoard point.now }
     requires bound { bound < 2 ^ 68 }

@@ -9,6 +9,7 @@ use cam_shapes::Disc;
 
 /// What the squared distances from a disc's centre are less than at its places.
 #[inline]
+#[tactic(auto, using(crate::proofs::Chords::in_no_disc, crate::proofs::Chords::cast_size, crate::proofs::Chords::in_disc_is))]
 pub(crate) fn bound_of(disc: &Disc) -> u64
     requires { IsSoundDisc disc.now }
     ensures { (s : Spot) → IsNearer disc.now.centre result s ↔ IsInDisc s disc.now }

@@ -15,6 +15,7 @@ use cam_units::Point;
 /// The runs of an edge in wide rows that it crosses, one below another from the top one: the columns from the leftmost
 /// one up to before an end, from which the ray to the right crosses it. The ends of the edge are in nanometres, the
 /// centres in half nanometres, up to 32,768 of them in a row. It divides a few times for all rows.
+#[tactic(auto, using(crate::proofs::WideRows::top_is_wide))]
 pub fn edge_runs(from: Point, to: Point, top: &Centres, ends: &mut [u32])
     requires from { IsOnBoard from }
     requires to { IsOnBoard to }
@@ -34,6 +35,7 @@ pub fn edge_runs(from: Point, to: Point, top: &Centres, ends: &mut [u32])
 }
 
 /// The runs of the columns strictly left of the line from a point to a higher one.
+#[tactic(auto, using(crate::proofs::CountedRuns::falls_right, crate::proofs::WideRows::top_is_wide))]
 fn runs_left(from: &Point, to: &Point, top: &Centres, ends: &mut [u32])
     requires from { IsOnBoard from.now }
     requires to { IsOnBoard to.now }

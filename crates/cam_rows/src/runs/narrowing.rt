@@ -2,19 +2,46 @@
 
 ghost use Rattle.std.specs.Prelude.{◌≡◌, ◌↔◌, ◌+◌, ◌^◌, ◌<◌, ◌≤◌, ℕ, IfSome, length, pos, ◌≤ℤ◌, ◌<ℤ◌};
 ghost use Rattle.std.specs.Int.RustNames.{unsigned_abs};
-ghost use Rattle.cam_rows.specs.Machinery.HalfPlanes.{IsCrossingIn, IsShortIn, numbers_of};
+ghost use Rattle.cam_units.specs.Board.{IsOnBoard};
+ghost use Rattle.cam_rows.specs.Machinery.HalfPlanes.{IsCrossingIn, IsLeft, IsShortIn, numbers_of};
 ghost use Rattle.cam_rows.specs.Machinery.Linear.{IsShortLinear};
 ghost use Rattle.cam_rows.specs.Machinery.Narrowing.{AreCounted, AreNarrowed, IsUp};
 ghost use Rattle.cam_rows.specs.Machinery.Slopes.{lacking, lowered};
-ghost use Rattle.cam_rows.specs.Runs.{IsInRun, most_columns};
+ghost use Rattle.cam_rows.specs.Rows.{centre_at, row_below};
+ghost use Rattle.cam_rows.specs.Runs.{AreWideRows, IsInRun, most_columns};
 
 use super::Run;
+use crate::centres::Centres;
 use crate::half_plane::HalfPlane;
 use crate::linear::Linear;
 use crate::slope::{Crossing, Steps, columns_up_to, cut_ends, cut_firsts};
+use cam_units::Point;
 
 /// The most rows whose crossings are stepped through in 64 bits.
 pub(super) const MOST_ROWS: usize = 1 << 20;
+
+/// Narrows the runs of wide rows, one below another from the top one, to the columns left of the line through two points,
+/// on it, or right of it where the cross product with the way is at most `reach` below 0.
+pub(super) fn narrow_left(
+    from: &Point,
+    to: &Point,
+    reach: i128,
+    top: &Centres,
+    firsts: &mut [u32],
+    ends: &mut [u32],
+)
+    requires from { IsOnBoard from.now }
+    requires to { IsOnBoard to.now }
+    requires reach { unsigned_abs reach < 2 ^ 64 }
+    requires some { 0 < length firsts.old }
+    requires rows { AreWideRows top.now (length firsts.old) }
+    requires ends { length ends.old ≡ length firsts.old }
+    ensures { AreNarrowed top.now.n firsts.old ends.old
+        (λ k i. IsLeft from.now to.now reach (centre_at (row_below top.now k) i)) (length firsts.old)
+        firsts.new ends.new }
+{
+    HalfPlane::left(from, to, reach, &top.leftmost()).narrow(top.n, firsts, ends);
+}
 
 impl HalfPlane {
     /// Narrows the runs of wide rows, one below another from the top one, to its own columns.
@@ -89,6 +116,7 @@ impl HalfPlane {
     }
 
     /// The same as `narrow`, by a division in each row.
+    #[tactic(auto, using(crate::proofs::NarrowedRuns::all_runs, crate::proofs::NarrowedRuns::no_runs))]
     fn narrow_each(&self, columns: u32, firsts: &mut [u32], ends: &mut [u32])
         requires short { IsShortIn (length firsts.old) self.now }
         requires few { columns ≤ most_columns }

@@ -13,6 +13,7 @@ use cam_shapes::Obround;
 /// The runs of an obround in wide rows, one below another from the top one: the columns in it or on its edge, none where
 /// a side is 0. A run goes from its first column on and before its end; the sides are in nanometres, the centres in half
 /// nanometres, up to 32,768 of them in a row.
+#[tactic(auto, using(crate::proofs::WideRows::no_run))]
 pub fn obround_runs(obround: &Obround, top: &Centres, firsts: &mut [u32], ends: &mut [u32])
     requires obround { IsSoundObround obround.now }
     requires rows { AreWideRows top.now (length firsts.old) }

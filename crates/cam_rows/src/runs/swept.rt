@@ -4,10 +4,10 @@ ghost use Rattle.std.specs.Prelude.{◌≡◌, length};
 ghost use Rattle.cam_shapes.specs.Swept.{IsInSwept, IsSoundSwept};
 ghost use Rattle.cam_rows.specs.Runs.{AreRuns, AreWideRows};
 
-use super::boxes::box_runs;
+use super::boxes::{box_runs, widened_ends};
+use super::narrowing::narrow_left;
 use crate::centres::Centres;
-use crate::half_plane::HalfPlane;
-use crate::swept::{corner_reach, high_corner, low_corner};
+use crate::swept::corner_reach;
 use cam_shapes::Swept;
 
 /// The runs of the stroke of a rectangle along a straight line in wide rows, one below another from the top one: the
@@ -33,13 +33,13 @@ pub fn swept_runs(swept: &Swept, top: &Centres, firsts: &mut [u32], ends: &mut [
         ends.fill(0);
         return;
     }
-    box_runs(&low_corner(swept), &high_corner(swept), top, firsts, ends);
+    let (low, high) = widened_ends(&from, &to, width.0, height.0);
+    box_runs(&low, &high, top, firsts, ends);
     // along an axis, the stroke is the box
     if from.x == to.x || from.y == to.y {
         return;
     }
     let reach = corner_reach(swept);
-    let left = top.leftmost();
-    HalfPlane::left(&from, &to, reach, &left).narrow(top.n, firsts, ends);
-    HalfPlane::left(&to, &from, reach, &left).narrow(top.n, firsts, ends);
+    narrow_left(&from, &to, reach, top, firsts, ends);
+    narrow_left(&to, &from, reach, top, firsts, ends);
 }

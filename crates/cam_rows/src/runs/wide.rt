@@ -71,6 +71,7 @@ impl Centres {
     }
 
     /// How many of the centres lie left of the vertical at `x`. It divides only where some do, and some do not.
+    #[tactic(auto, using(crate::proofs::Steps::first_near, crate::proofs::Steps::none_left))]
     pub(crate) fn count_left_of(&self, x: i64) -> u32
         requires row { IsWideRow self.now }
         requires short { unsigned_abs x < 2 ^ 62 }
@@ -104,6 +105,7 @@ impl Centres {
     }
 
     /// The run of the columns in a strip.
+    #[tactic(auto, using(crate::proofs::Steps::columns_in_strip))]
     pub(crate) fn columns_in(&self, strip: &Strip) -> Run
         requires row { IsWideRow self.now }
         requires left { unsigned_abs strip.now.left < 2 ^ 61 }

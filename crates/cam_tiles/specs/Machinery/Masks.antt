@@ -1,8 +1,9 @@
 -- Masks: which centres of a grid are marked, by 64 rows of 64 bits.
-use Rattle.std.specs.Prelude.{◌≡◌, ◌↔◌, ℕ, ◌^◌, ◌==◌, ◌<◌, ◌⊎◌, Bool, true, false, List, length, slice_index, ◌≤ℤ◌}
-use Rattle.std.specs.Int.{IsBitSet, bit_at}
+use Rattle.std.specs.Prelude.{◌≡◌, ◌↔◌, ℕ, ◌^◌, ◌==◌, ◌<◌, ◌⊎◌, Bool, true, false, List, length, slice_index, ℤ, pos, ◌+ℤ◌, ◌-ℤ◌, ◌*ℤ◌, ◌≤ℤ◌}
+use Rattle.std.specs.Int.{IsBitSet, bit_at, int_max, int_min}
 use Rattle.cam_units.specs.Boxes.{Holds}
 use Rattle.cam_units.specs.declared.bounds.Bounds.{Bounds}
+use Rattle.cam_units.specs.declared.point.Point.{Point}
 use Rattle.cam_units.specs.declared.point.Spot.{Spot}
 use Rattle.cam_objects.specs.Canvases.{Paints}
 use Rattle.cam_objects.specs.Leaves.{Leaf}
@@ -102,3 +103,13 @@ PaintsMask old leaves new =
 -- a height between two, or at one of them
 abbrev pub IsWithin : Heights → Spot → Type 0
 IsWithin h s = (h.low ≤ℤ s.y) × (s.y ≤ℤ h.high)
+
+-- heights so far to both sides of a point
+pub record AreAbout (p : Point) (r : ℤ) (h : Heights) : Type 0 where
+  pub low : h.low ≡ pos 2 *ℤ p.y -ℤ r
+  pub high : h.high ≡ pos 2 *ℤ p.y +ℤ r
+
+-- the heights of the way between two points, and so far above and below it
+pub record AreAlong (p q : Point) (r : ℤ) (h : Heights) : Type 0 where
+  pub low : h.low ≡ pos 2 *ℤ int_min p.y q.y -ℤ r
+  pub high : h.high ≡ pos 2 *ℤ int_max p.y q.y +ℤ r

@@ -168,6 +168,7 @@ fn circle_ends(centre: Point, reach: Nm) -> (i64, i64)
 }
 
 /// At least the radius of the circle about a point through another, without a root, in half nm.
+#[tactic(auto, using(crate::proofs::CircleBounds::gaps_fit, crate::proofs::CircleBounds::bound_fits, crate::proofs::CircleBounds::bounded))]
 fn circle_bound(centre: Point, from: Point) -> Nm
     requires centre { IsOnBoard centre }
     requires from { IsOnBoard from }

@@ -26,6 +26,7 @@ impl Join {
 
     /// The row that a row becomes, joined with another.
     #[inline]
+    #[tactic(auto, using(cam_rows::proofs::SetBits::set_in_or, cam_rows::proofs::SetBits::set_in_rest))]
     pub(crate) fn join_row(self, row: u64, other: u64) -> u64
         ensures { (i : ℕ) → i < 64 → IsBitSet result i ↔ joined self (IsBitSet row i) (IsBitSet other i) }
     {

@@ -49,6 +49,7 @@ impl Model for Mask {
 
 impl Grid {
     /// The centres of a row, which is counted from the top, as they are seen from a point.
+    #[tactic(auto, using(crate::proofs::StepLemmas::down_way_fits, crate::proofs::StepLemmas::y_fits, crate::proofs::SeenRows::seen_y_fits))]
     pub(crate) fn row_from(&self, row: u32, at: Point) -> Centres
         requires grid { IsGrid self.now }
         requires row { row < self.now.rows }
@@ -67,6 +68,7 @@ impl Grid {
 
     /// The rows whose centres lie, as they are seen from a point, between two heights: by a division for each, where
     /// there are any.
+    #[tactic(auto, using(crate::proofs::LevelRows::seen_on_row, crate::proofs::LevelRows::are_seen, cam_rows::proofs::Gaps::twice_fits))]
     pub(crate) fn band(&self, heights: Heights, at: Point) -> Span
         requires grid { IsGrid self.now }
         requires at { IsOnBoard at }
@@ -122,6 +124,7 @@ impl Mask {
 
     /// Whether all centres of a row are marked.
     #[inline]
+    #[tactic(auto, using(crate::proofs::WordBits::set_in_low, crate::proofs::PaintedMasks::dark_if_marked))]
     fn is_solid_in(&self, row: u32) -> bool
         requires { row < self.now.grid.rows }
         ensures { IsTrue result → (column : ℕ) → IsIn self.now.grid column row → ink_of self.now column row ≡ true }

@@ -1,12 +1,11 @@
 //! The heights of the shapes whose runs are known, and how they are joined with a mask.
 
-ghost use Rattle.std.specs.Prelude.{◌≡◌, ◌^◌, ◌<◌, ◌+ℤ◌, ◌-ℤ◌, ◌*ℤ◌, ◌≤ℤ◌, ◌<ℤ◌, pos};
-ghost use Rattle.std.specs.Int.{int_max, int_min};
+ghost use Rattle.std.specs.Prelude.{◌^◌, ◌<◌, ◌≤ℤ◌, ◌<ℤ◌, pos};
 ghost use Rattle.std.specs.Int.RustNames.{unsigned_abs};
 ghost use Rattle.cam_units.specs.Board.{IsOnBoard, IsSize};
 ghost use Rattle.cam_shapes.specs.Plane.{dot, square, way};
 ghost use Rattle.cam_objects.specs.Image.{relative};
-ghost use Rattle.cam_tiles.specs.Machinery.Masks.{Joins};
+ghost use Rattle.cam_tiles.specs.Machinery.Masks.{AreAbout, AreAlong, Joins};
 ghost use Rattle.cam_tiles.specs.Machinery.Plain.{IsInShape, IsSoundShape};
 
 use crate::masks::heights::{HasHeights, Heights};
@@ -64,8 +63,7 @@ impl HasHeights for Cap {
 pub(crate) fn about(point: Point, reach: Nm) -> Heights
     requires point { IsOnBoard point }
     requires reach { unsigned_abs reach.0 < 2 ^ 35 }
-    ensures low { result.low ≡ pos 2 *ℤ point.y -ℤ reach.0 }
-    ensures high { result.high ≡ pos 2 *ℤ point.y +ℤ reach.0 }
+    ensures { AreAbout point reach.0 result }
 {
     Heights {
         low: 2 * point.y - reach.0,
@@ -78,8 +76,7 @@ fn along(from: Point, to: Point, reach: Nm) -> Heights
     requires from { IsOnBoard from }
     requires to { IsOnBoard to }
     requires reach { IsSize reach.0 }
-    ensures low { result.low ≡ pos 2 *ℤ int_min from.y to.y -ℤ reach.0 }
-    ensures high { result.high ≡ pos 2 *ℤ int_max from.y to.y +ℤ reach.0 }
+    ensures { AreAlong from to reach.0 result }
 {
     Heights {
         low: 2 * from.y.min(to.y) - reach.0,

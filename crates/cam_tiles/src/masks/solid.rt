@@ -12,6 +12,7 @@ use crate::masks::mask::Mask;
 use cam_units::Spot;
 
 /// Whether all masks from one number to another are black all over. Of each it is kept how many rows from the top are.
+#[tactic(auto, using(crate::proofs::SolidMasks::solid_there))]
 pub(crate) fn are_solid(masks: &[Mask], first: usize, end: usize, solid: &mut [u32]) -> bool
     requires end { end ≤ length masks.now }
     requires kept { end ≤ length solid.old }

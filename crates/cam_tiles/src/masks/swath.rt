@@ -198,6 +198,7 @@ impl Swath {
     }
 
     /// Whether a leaf changes no mask from one number to another: a dark one, where all of them are black all over.
+    #[tactic(auto, using(crate::proofs::SolidMasks::solid_part))]
     fn is_hidden(&mut self, first: usize, end: usize, dark: bool) -> bool
         requires { end ≤ length self.old }
         ensures kept { self.new ≡ self.old }
@@ -315,6 +316,7 @@ impl Canvas for Swath {
 
     ghost ink = { ink_in };
 
+    #[tactic(auto, using(crate::proofs::SwathLayouts::swath_held))]
     fn bounds(&self) -> Bounds {
         self.bounds
     }
@@ -345,6 +347,7 @@ impl Canvas for Swath {
 
 impl Pitch {
     /// The tile of the row, of so many, that a place is in; left of them the first, and right of them their number.
+    #[tactic(auto, using(crate::proofs::SwathLayouts::up_to_tile))]
     fn tile_at(self, x: i64, tiles: usize) -> usize
         requires { pos 1 ≤ℤ self.stride }
         ensures within { result ≤ tiles }

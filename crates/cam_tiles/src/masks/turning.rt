@@ -33,6 +33,7 @@ use cam_units::Point;
 
 impl Grid {
     /// The x of the last one of so many columns from the left on, in half nm.
+    #[tactic(auto, using(crate::proofs::CountedMarks::last_fits, crate::proofs::CountedMarks::last_kept))]
     fn last_x(&self, columns: u32) -> i64
         requires { IsWideGrid self.now columns }
         ensures { result ≡ (centre_in self.now (columns - 1) 0).x }

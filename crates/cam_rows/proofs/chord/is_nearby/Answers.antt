@@ -4,9 +4,6 @@ use Rattle.cam_rows.proofs.NearRows.{near_rows}
 use Rattle.cam_rows.proofs.WideRows.{top_is_wide}
 use Rattle.cam_rows.proofs.chord.is_nearby.Goals as goal
 
-pub rise_over-highest-requires-clause-row : goal.rise_over-highest-requires-clause-row
-rise_over-highest-requires-clause-row c = top_is_wide c.args.top.now c.args.rows c.requires.some c.requires.rows
-
 pub wide_below-requires-clause-top : goal.wide_below-requires-clause-top
 wide_below-requires-clause-top c = top_is_wide c.args.top.now c.args.rows c.requires.some c.requires.rows
 

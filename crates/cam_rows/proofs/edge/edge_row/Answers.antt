@@ -1,8 +1,7 @@
-use Rattle.std.proofs.Common.{◌≡◌, IsTrue, subst, sym, ◌∙◌, arith}
+use Rattle.std.proofs.Common.{◌≡◌, IsTrue, subst, sym, arith}
 use Rattle.cam_shapes.specs.Edge.{crosses_ray, edge}
 use Rattle.cam_rows.specs.Rows.{row_below}
 use Rattle.cam_rows.specs.Runs.{IsWideRow}
-use Rattle.cam_rows.proofs.EdgeSides.{only_crossed}
 use Rattle.cam_rows.proofs.OneRow.{marks_run}
 use Rattle.cam_rows.proofs.Slopes.{top_row}
 use Rattle.cam_rows.proofs.Steps.{wide_row}
@@ -13,13 +12,6 @@ edge_runs-requires-clause-rows c k within =
     let first : 0 ≡ k = omega arith in
     subst (λ n. IsWideRow (row_below c.args.centres n)) first
     (subst IsWideRow (sym (top_row c.args.centres)) (wide_row c.args.centres c.requires.row))
-
-pub edge_runs-requires-clause-crossed : goal.edge_runs-requires-clause-crossed
-edge_runs-requires-clause-crossed c = λ k within.
-    only_crossed c.args.from c.args.to c.args.centres k within
-    (λ same.
-    let alike : c.is_above.result ≡ c.is_above-2.result = c.is_above.ensures ∙ same ∙ sym c.is_above-2.ensures in
-    grind (arith, alike, c.if-is_above.false))
 
 pub returns : goal.returns
 returns c =

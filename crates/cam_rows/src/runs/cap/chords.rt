@@ -19,6 +19,7 @@ use cam_shapes::Cap;
 
 /// The run of the row so high over the middle of a circle, by a walk from the row before it.
 #[inline]
+#[tactic(auto, using(crate::proofs::WideRows::in_no_run, crate::proofs::Circling::square_of, crate::proofs::CapTies::over_circle))]
 pub(super) fn near_run(chord: &mut Chord, radius: u64, height: i64) -> Run
     requires chord { IsChord chord.old }
     requires height { unsigned_abs height < 2 ^ 32 }
@@ -51,6 +52,7 @@ fn right_room(room: u64, is_below: bool) -> u64
 }
 
 /// The run of a row, by its roots.
+#[tactic(auto, using(crate::proofs::WideRows::in_no_run, crate::proofs::CapTies::over_circle))]
 pub(super) fn root_run(cap: &Cap, radius: u128, row: &Centres) -> Run
     requires cap { IsSoundCap cap.now }
     requires radius { pos radius ≡ dot (way cap.now.centre cap.now.from) (way cap.now.centre cap.now.from) }

@@ -2,20 +2,13 @@ use Rattle.std.proofs.Common.{◌≡◌, ◌≤◌, pos, arith}
 use Rattle.std.specs.Int.RustNames.{unsigned_abs}
 use Rattle.std.proofs.lemmas.Int.{ints}
 use Rattle.cam_shapes.proofs.Widths.{narrow}
-use Rattle.cam_rows.proofs.Steps.{all_left, few_before, first_near, gap_fits, last_near, left_by_division, none_left, reach_fits}
+use Rattle.cam_rows.proofs.Steps.{all_left, few_before, first_near, gap_fits, last_near, left_by_division, reach_fits}
 use Rattle.cam_rows.proofs.centres.Centres.count_left_of.Goals as goal
 use Rattle.cam_rows.proofs.centres.Centres.count_left_of.Goals.{After-from, After-div_ceil}
 
 pub overflow_sub-gap : goal.overflow_sub-gap
 overflow_sub-gap c =
     gap_fits c.args.x c.args.self.now.x c.requires.short (first_near c.args.self.now c.requires.row)
-
-pub returns-then-gap-le0-clause-each : goal.returns-then-gap-le0-clause-each
-returns-then-gap-le0-clause-each c = λ i _.
-    let row = c.args.self.now in
-    let first = first_near row c.requires.row in
-    none_left row.x row.step c.args.x i (unsigned_abs row.step) (omega (arith, ints, c.requires.row.step))
-    (omega (arith, ints, first, c.if-gap-le0.true))
 
 is_pitch : (c : After-from) → c.args.self.now.step ≡ pos (unsigned_abs (narrow c.args.self.now.step))
 is_pitch c = omega (arith, ints, c.requires.row.step)

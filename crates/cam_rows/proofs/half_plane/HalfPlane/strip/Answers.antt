@@ -1,19 +1,9 @@
 use Rattle.std.proofs.Common.{pos, inl, inr, arith}
 use Rattle.std.proofs.lemmas.Int.{by_lt_z}
 use Rattle.cam_rows.specs.Machinery.Slopes.{falling}
-use Rattle.cam_rows.proofs.HalfPlanes.{fell, high_fits, kept_high, kept_low, low_fits}
+use Rattle.cam_rows.proofs.HalfPlanes.{fell, kept_high, kept_low}
 use Rattle.cam_rows.proofs.Strips.{strip_within}
 use Rattle.cam_rows.proofs.half_plane.HalfPlane.strip.Goals as goal
-
-pub overflow_sub-middle-2 : goal.overflow_sub-middle-2
-overflow_sub-middle-2 c =
-    low_fits c.falling-falling.result.row.first c.excess.result c.args.reach c.falling-falling.ensures.first
-    c.excess.ensures.few c.requires.reach
-
-pub overflow_add-middle-2 : goal.overflow_add-middle-2
-overflow_add-middle-2 c =
-    high_fits c.falling-falling.result.row.first c.excess.result c.args.reach c.falling-falling.ensures.first
-    c.excess.ensures.few c.requires.reach
 
 pub returns : goal.returns
 returns c =

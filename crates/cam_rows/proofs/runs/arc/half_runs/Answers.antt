@@ -1,15 +1,15 @@
-use Rattle.std.proofs.Common.{◌≡◌, length, pos, ◌<ℤ◌, inl, inr, ap, refl, ◌∙◌, arith, rules}
+use Rattle.std.proofs.Common.{◌≡◌, pos, ◌<ℤ◌, inl, inr, ap, refl, arith, rules}
 use Rattle.std.proofs.lemmas.Int.{ints}
 use Rattle.cam_shapes.specs.Arc.{IsNarrow}
 use Rattle.cam_shapes.specs.Plane.{cross, dot, seen_from, way}
+use Rattle.cam_rows.specs.Machinery.HalfPlanes.{IsLeft}
 use Rattle.cam_rows.specs.ArcRuns.{IsInHalf}
 use Rattle.cam_rows.specs.Runs.{AreRuns}
 use Rattle.cam_rows.proofs.ArcRuns.{half_by_sides}
-use Rattle.cam_rows.proofs.BesideWays.{IsLeft}
 use Rattle.cam_rows.proofs.SweepRows.{left_by_test, narrow_by_turn, natural_by_test, negative_by_test, other_points}
 use Rattle.cam_rows.proofs.SweepRows.{right_by_test, straight_ahead}
 use Rattle.cam_rows.proofs.Sweeps.{no_sweep, same_way}
-use Rattle.cam_rows.proofs.WideRows.{IsAny, empty_runs, leftmost_rows, runs_like, runs_narrowed, top_is_wide}
+use Rattle.cam_rows.proofs.WideRows.{IsAny, empty_runs, runs_like, runs_kept}
 use Rattle.cam_rows.proofs.WideRows.{whole_runs}
 use Rattle.cam_rows.proofs.runs.arc.half_runs.Goals as goal
 use Rattle.cam_rows.proofs.runs.arc.half_runs.Goals.{After-fill-2, else-turn-eq0-via-else-turn-eq0}
@@ -59,25 +59,6 @@ returns-then-dot_product-ge0 c =
       | inr more ↦ not_wide more
     ])
 
-pub leftmost-left-requires : goal.leftmost-left-requires
-leftmost-left-requires c = top_is_wide c.args.top.now (length c.args.firsts.now) c.requires.some c.requires.rows
-
-pub narrow-requires-clause-few : goal.narrow-requires-clause-few
-narrow-requires-clause-few c =
-    (top_is_wide c.args.top.now (length c.args.firsts.now) c.requires.some c.requires.rows).count.1
-
-pub narrow-requires-clause-short : goal.narrow-requires-clause-short
-narrow-requires-clause-short c =
-    c.left.ensures.holds.short _
-    (leftmost_rows c.args.top.now c.leftmost-left.result (length c.args.firsts.now) _ c.leftmost-left.ensures.value
-    c.fill.ensures.len c.requires.rows)
-
-pub narrow-requires-2-clause-short : goal.narrow-requires-2-clause-short
-narrow-requires-2-clause-short c =
-    c.left-2.ensures.holds.short _
-    (leftmost_rows c.args.top.now c.leftmost-left.result (length c.args.firsts.now) _ c.leftmost-left.ensures.value
-    (c.narrow.auto.firsts ∙ c.fill.ensures.len) c.requires.rows)
-
 pub returns : goal.returns
 returns c =
     let centre = c.args.centre.now in
@@ -96,15 +77,13 @@ returns c =
     let narrow : IsNarrow (way centre start) (way centre end) =
     narrow_by_turn (way centre start) (way centre end) turn.result turn.ensures.value
     (left_by_test turn.result turn.ensures.bound c.if-turn-lt0.false) back in
-    let left = c.leftmost-left.result in
-    let is = c.leftmost-left.ensures.value in
-    let one = runs_narrowed c.fill.new.self c.fill-2.new.self c.narrow.new.firsts c.narrow.new.ends top left IsAny
-    (IsLeft centre start (pos 0)) c.left.result is c.left.ensures.holds (all (goal.at.returns c).After-fill-2)
-    c.narrow.ensures c.narrow.auto.firsts in
-    let two = runs_narrowed _ _ c.narrow-2.new.firsts c.narrow-2.new.ends top left _
-    (IsLeft end centre (pos 0)) c.left-2.result is c.left-2.ensures.holds one c.narrow-2.ensures
-    c.narrow-2.auto.firsts in
-    runs_like c.narrow-2.new.firsts c.narrow-2.new.ends top _
+    let first = c.narrow_left.new in
+    let second = c.narrow_left-2.new in
+    let one = runs_kept c.fill.new.self c.fill-2.new.self first.firsts first.ends top IsAny (IsLeft centre start (pos 0))
+    (all (goal.at.returns c).After-fill-2) c.narrow_left.ensures c.narrow_left.auto.firsts in
+    let two = runs_kept first.firsts first.ends second.firsts second.ends top _ (IsLeft end centre (pos 0)) one
+    c.narrow_left-2.ensures c.narrow_left-2.auto.firsts in
+    runs_like second.firsts second.ends top _
     (λ s. IsInHalf (way centre start) (way centre end) (seen_from centre s))
     (λ s.
     let sides = half_by_sides centre start end s other narrow in (

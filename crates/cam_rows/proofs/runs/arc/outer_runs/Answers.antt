@@ -1,17 +1,10 @@
-use Rattle.std.proofs.Common.{refl, arith}
+use Rattle.std.proofs.Common.{arith}
 use Rattle.std.proofs.lemmas.Int.{ints}
 use Rattle.cam_rows.specs.ArcRuns.{IsInHalf, IsOuter, in_turn}
 use Rattle.cam_rows.specs.Machinery.Narrowing.{IsNearer}
 use Rattle.cam_rows.proofs.ArcRuns.{in_outer}
-use Rattle.cam_rows.proofs.WideRows.{empty_runs, runs_kept, runs_like}
+use Rattle.cam_rows.proofs.WideRows.{runs_kept, runs_like}
 use Rattle.cam_rows.proofs.runs.arc.outer_runs.Goals as goal
-
-pub returns-then-arc-eq0 : goal.returns-then-arc-eq0
-returns-then-arc-eq0 c =
-    empty_runs c.fill.new.self c.fill-then-arc-eq0.new.self c.args.top.now (λ s. IsOuter c.args.arc.now s)
-    (λ k within. c.fill-then-arc-eq0.ensures.clones k 0
-    (omega (arith, within, c.fill.ensures.len, c.requires.ends)) refl)
-    (λ s outer. omega (arith, ints, outer.wide, c.if-arc-eq0.true))
 
 pub returns : goal.returns
 returns c =

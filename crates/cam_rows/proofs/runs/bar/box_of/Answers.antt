@@ -1,5 +1,5 @@
 use Rattle.std.proofs.Common.{arith}
-use Rattle.std.proofs.lemmas.Int.{ints, clamps}
+use Rattle.std.proofs.lemmas.Int.{ints}
 use Rattle.cam_rows.proofs.AxisBars.{level_box, upright_box}
 use Rattle.cam_rows.proofs.runs.bar.box_of.Goals as goal
 
@@ -13,14 +13,6 @@ returns-then-from-to-clause-each c =
     (λ same. omega (arith, ints, same, c.if-from-to-2.false, c.requires.from.x, c.requires.to.x))
     (omega (arith, ints, told.left), omega (arith, ints, told.below, c.requires.width), omega (arith, ints, told.right), omega (arith, ints, told.above, c.requires.width))
 
-pub returns-then-from-to-clause-left : goal.returns-then-from-to-clause-left
-returns-then-from-to-clause-left c =
-    omega (arith, ints, clamps, c.widened_ends.ensures.left, c.requires.from.x, c.requires.to.x)
-
-pub returns-then-from-to-clause-right : goal.returns-then-from-to-clause-right
-returns-then-from-to-clause-right c =
-    omega (arith, ints, clamps, c.widened_ends.ensures.right, c.requires.from.x, c.requires.to.x)
-
 pub returns-then-from-to-3-clause-each : goal.returns-then-from-to-3-clause-each
 returns-then-from-to-3-clause-each c =
     let bar = c.args.bar.now in
@@ -30,11 +22,3 @@ returns-then-from-to-3-clause-each c =
     (omega (arith, ints, c.if-from-to-3.true, c.requires.from.x, c.requires.to.x))
     (λ same. omega (arith, ints, same, c.if-from-to.false, c.requires.from.y, c.requires.to.y))
     (omega (arith, ints, told.left, c.requires.width), omega (arith, ints, told.below), omega (arith, ints, told.right, c.requires.width), omega (arith, ints, told.above))
-
-pub returns-then-from-to-3-clause-left : goal.returns-then-from-to-3-clause-left
-returns-then-from-to-3-clause-left c =
-    omega (arith, ints, clamps, c.widened_ends-then-from-to-3.ensures.left, c.requires.from.x, c.requires.to.x, c.requires.width)
-
-pub returns-then-from-to-3-clause-right : goal.returns-then-from-to-3-clause-right
-returns-then-from-to-3-clause-right c =
-    omega (arith, ints, clamps, c.widened_ends-then-from-to-3.ensures.right, c.requires.from.x, c.requires.to.x, c.requires.width)

@@ -53,10 +53,6 @@ narrow-requires-clause-short c =
     (rw c.wide_below.ensures (part_rows c.args.top.now first (end - first) (length c.args.firsts.now)
     (omega (arith, within, c.if-end-first.false)) c.requires.rows)))
 
-pub narrow-requires-clause-few : goal.narrow-requires-clause-few
-narrow-requires-clause-few c =
-    (top_is_wide c.args.top.now (length c.args.firsts.now) c.requires.some c.requires.rows).count.1
-
 pub returns : goal.returns
 returns c =
     let top = c.args.top.now in

@@ -2,11 +2,7 @@ use Rattle.std.proofs.Common.{length, arith}
 use Rattle.cam_shapes.specs.Plane.{cross, seen_from, way}
 use Rattle.cam_rows.proofs.Quotients.{kept_number}
 use Rattle.cam_rows.proofs.Strips.{strip_runs}
-use Rattle.cam_rows.proofs.WideRows.{top_is_wide}
 use Rattle.cam_rows.proofs.runs.beside_line.runs_beside.Goals as goal
-
-pub leftmost-requires : goal.leftmost-requires
-leftmost-requires c = top_is_wide c.args.top.now (length c.args.firsts.now) c.requires.some c.requires.rows
 
 pub returns-in-Some : goal.returns-in-Some
 returns-in-Some c =
@@ -17,7 +13,3 @@ returns-in-Some c =
     c.line.result c.in-Some.low c.in-Some.high c.in-Some.steps c.args.reach
     (λ s. cross (way from to) (seen_from from s)) c.leftmost.ensures.value c.line.ensures.numbers
     (rw same at c.in-Some.ensures) c.count_both.auto.firsts c.count_both.ensures.firsts c.count_both.ensures.ends
-
-pub returns-in-None : goal.returns-in-None
-returns-in-None c =
-    rw (kept_number c.args.reach (omega (arith, c.requires.reach))) at c.long_runs_beside.ensures

@@ -1,15 +1,9 @@
-use Rattle.std.proofs.Common.{length, arith, rules}
+use Rattle.std.proofs.Common.{length, arith}
 use Rattle.std.proofs.lemmas.Int.{ints}
 use Rattle.cam_units.specs.Boxes.{IsBetween as IsInBox}
 use Rattle.cam_rows.specs.Rows.{centre_at, row_below}
-use Rattle.cam_rows.proofs.WideRows.{all_found, in_box_run, no_run, one_more_run, top_is_wide}
+use Rattle.cam_rows.proofs.WideRows.{all_found, in_box_run, one_more_run, top_is_wide}
 use Rattle.cam_rows.proofs.runs.boxes.box_runs.Goals as goal
-
-pub columns_in-all-requires-clause-row : goal.columns_in-all-requires-clause-row
-columns_in-all-requires-clause-row c = top_is_wide c.args.top.now (length c.args.firsts.now) (search rules) c.requires.rows
-
-pub loop-k-init : goal.loop-k-init
-loop-k-init c = no_run _ _ _ _
 
 pub wide_below-requires-clause-top : goal.wide_below-requires-clause-top
 wide_below-requires-clause-top c = top_is_wide c.args.top.now (length c.args.firsts.now) (omega arith) c.requires.rows

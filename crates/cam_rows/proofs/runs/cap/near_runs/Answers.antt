@@ -2,7 +2,7 @@ use Rattle.std.proofs.Common.{◌<◌, length, IsTrue, sym, arith}
 use Rattle.cam_shapes.specs.Cap.{is_in_circle}
 use Rattle.cam_shapes.specs.Plane.{seen_from, way}
 use Rattle.cam_rows.specs.Rows.{centre_at, row_below}
-use Rattle.cam_rows.proofs.NearRows.{next_height, top_height, top_height_near}
+use Rattle.cam_rows.proofs.NearRows.{next_height, top_height}
 use Rattle.cam_rows.proofs.WideRows.{all_found, no_run, one_more_run, top_is_wide}
 use Rattle.cam_rows.proofs.runs.cap.near_runs.Goals as goal
 
@@ -13,11 +13,6 @@ at_middle-chord-requires-clause-row c =
 pub rise_over-height-requires-clause-row : goal.rise_over-height-requires-clause-row
 rise_over-height-requires-clause-row c =
     top_is_wide c.args.top.now (length c.args.firsts.now) c.requires.some c.requires.rows
-
-pub room_at-requires : goal.room_at-requires
-room_at-requires c =
-    top_height_near c.args.cap.now.centre c.args.top.now (length c.args.firsts.now) _ c.requires.near c.requires.some
-    c.rise_over-height.ensures
 
 pub loop-k-init : goal.loop-k-init
 loop-k-init c = record {

@@ -1,13 +1,8 @@
-use Rattle.std.proofs.Common.{length, arith}
+use Rattle.std.proofs.Common.{arith}
 use Rattle.cam_rows.specs.Machinery.Narrowing.{IsNearer}
 use Rattle.cam_rows.specs.Rows.{centre_at, row_below}
 use Rattle.cam_rows.proofs.NarrowedRuns.{all_runs, joint_run, next_run}
-use Rattle.cam_rows.proofs.WideRows.{top_is_wide}
 use Rattle.cam_rows.proofs.runs.circle.narrow_by_roots.Goals as goal
-
-pub wide_below-requires-clause-top : goal.wide_below-requires-clause-top
-wide_below-requires-clause-top c =
-    top_is_wide c.args.top.now (length c.args.firsts.now) c.requires.some c.requires.rows
 
 pub root_run-run-requires-clause-row : goal.root_run-run-requires-clause-row
 root_run-run-requires-clause-row c =

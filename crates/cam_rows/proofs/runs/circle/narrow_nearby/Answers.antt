@@ -2,7 +2,7 @@ use Rattle.std.proofs.Common.{◌<◌, length, arith}
 use Rattle.cam_rows.specs.Machinery.Narrowing.{IsNearer}
 use Rattle.cam_rows.specs.Rows.{centre_at, row_below}
 use Rattle.cam_rows.proofs.NarrowedRuns.{all_runs, next_run, no_runs, run_by}
-use Rattle.cam_rows.proofs.NearRows.{height_square, next_height, top_height, top_height_near}
+use Rattle.cam_rows.proofs.NearRows.{height_square, next_height, top_height}
 use Rattle.cam_rows.proofs.WideRows.{near_column, top_is_wide}
 use Rattle.cam_rows.proofs.runs.circle.narrow_nearby.Goals as goal
 
@@ -13,11 +13,6 @@ at_middle-chord-requires-clause-row c =
 pub rise_over-height-requires-clause-row : goal.rise_over-height-requires-clause-row
 rise_over-height-requires-clause-row c =
     top_is_wide c.args.top.now (length c.args.firsts.now) c.requires.some c.requires.rows
-
-pub room_at-requires : goal.room_at-requires
-room_at-requires c =
-    top_height_near c.args.point.now c.args.top.now (length c.args.firsts.now) _ c.requires.near c.requires.some
-    c.rise_over-height.ensures
 
 pub loop-k-init : goal.loop-k-init
 loop-k-init c = record {

@@ -1,18 +1,10 @@
-use Rattle.std.proofs.Common.{◌≡◌, pos, refl, arith}
+use Rattle.std.proofs.Common.{◌≡◌, pos, arith}
 use Rattle.std.proofs.lemmas.Int.{ints}
 use Rattle.cam_shapes.specs.Plane.{seen_from, square}
 use Rattle.cam_rows.specs.Rows.{centre_at, first_of}
-use Rattle.cam_rows.proofs.RootRuns.{near_by_root, over_circle}
-use Rattle.cam_rows.proofs.WideRows.{by_strip, in_no_run}
+use Rattle.cam_rows.proofs.RootRuns.{near_by_root}
+use Rattle.cam_rows.proofs.WideRows.{by_strip}
 use Rattle.cam_rows.proofs.runs.circle.root_run.Goals as goal
-
-pub returns-then-bound-height : goal.returns-then-bound-height
-returns-then-bound-height c = λ i _.
-    let height : pos c.squared_height-height.result ≡ square (seen_from c.args.point.now (first_of c.args.row.now)).y =
-    rw c.leftmost.ensures.value at c.squared_height-height.ensures.value in
-    in_no_run 0 0 i _ refl
-    (over_circle (seen_from c.args.point.now (centre_at c.args.row.now i)) c.squared_height-height.result c.args.bound
-    height c.if-bound-height.true)
 
 pub returns : goal.returns
 returns c = λ i within.

@@ -1,31 +1,19 @@
 use Rattle.std.proofs.Common.{◌↔◌, ℤ, pos, negsuc, ◌+ℤ◌, ◌≤ℤ◌, ◌<ℤ◌, length, arith, refl}
 use Rattle.std.proofs.lemmas.Int.{ints}
 use Rattle.cam_shapes.specs.Plane.{cross, seen_from, way}
-use Rattle.cam_rows.proofs.CountedRuns.{counted_ends, falls_right}
-use Rattle.cam_rows.proofs.WideRows.{leftmost_rows, top_is_wide}
+use Rattle.cam_rows.proofs.CountedRuns.{counted_ends}
+use Rattle.cam_rows.proofs.WideRows.{leftmost_rows}
 use Rattle.cam_rows.proofs.runs.edge.runs_left.Goals as goal
 
 -- a whole number less 1 is not negative where it is more than 0
 less_natural : (z : ℤ) → (pos 0 ≤ℤ (z +ℤ negsuc 0)) ↔ (pos 0 <ℤ z)
 less_natural z = ((λ h. omega (arith, ints)), (λ h. omega (arith, ints)))
 
-pub leftmost-requires : goal.leftmost-requires
-leftmost-requires c = top_is_wide c.args.top.now (length c.args.ends.now) c.requires.some c.requires.rows
-
 pub count_columns-requires-clause-short : goal.count_columns-requires-clause-short
 count_columns-requires-clause-short c =
     c.left.ensures.holds.short _
     (leftmost_rows c.args.top.now c.leftmost.result (length c.args.ends.now) _ c.leftmost.ensures.value refl
     c.requires.rows)
-
-pub count_columns-requires-clause-falls : goal.count_columns-requires-clause-falls
-count_columns-requires-clause-falls c =
-    falls_right (way c.args.from.now c.args.to.now).y c.leftmost.result.step c.left.result.row.step
-    (omega (arith, ints, c.requires.rises)) c.leftmost.ensures.row.step c.left.ensures.step
-
-pub count_columns-requires-clause-few : goal.count_columns-requires-clause-few
-count_columns-requires-clause-few c =
-    (top_is_wide c.args.top.now (length c.args.ends.now) c.requires.some c.requires.rows).count.1
 
 pub returns : goal.returns
 returns c =

@@ -1,10 +1,7 @@
 use Rattle.std.proofs.Common.{length, arith}
 use Rattle.cam_shapes.specs.Box.{IsInObround}
-use Rattle.cam_rows.proofs.WideRows.{all_found, no_run, one_more_run, top_is_wide}
+use Rattle.cam_rows.proofs.WideRows.{all_found, one_more_run, top_is_wide}
 use Rattle.cam_rows.proofs.runs.obround.obround_runs.Goals as goal
-
-pub loop-k-init : goal.loop-k-init
-loop-k-init c = no_run _ _ _ _
 
 pub wide_below-requires-clause-top : goal.wide_below-requires-clause-top
 wide_below-requires-clause-top c = top_is_wide c.args.top.now (length c.args.firsts.now) (omega arith) c.requires.rows

@@ -1,6 +1,6 @@
 use Rattle.std.proofs.Common.{◌*◌, ◌^◌, ◌<◌, arith}
 use Rattle.std.proofs.lemmas.Int.{ints}
-use Rattle.cam_rows.proofs.Circling.{short_square, square_of}
+use Rattle.cam_rows.proofs.Circling.{short_square}
 use Rattle.cam_rows.proofs.way.Way.squared_length.Goals as goal
 use Rattle.cam_rows.proofs.way.Way.squared_length.Goals.{After-from-y}
 
@@ -18,12 +18,6 @@ overflow_mul-result-2 c = let short = along c in omega (arith, short)
 
 pub overflow_add-result : goal.overflow_add-result
 overflow_add-result c = omega (arith, across c, along c)
-
-pub returns-clause-value : goal.returns-clause-value
-returns-clause-value c =
-    let x = square_of c.from-x.result c.args.self.now.x (omega (arith, ints, c.requires.x)) in
-    let y = square_of c.from-y.result c.args.self.now.y (omega (arith, ints, c.requires.y)) in
-    omega (arith, ints, x, y)
 
 pub returns-clause-bound : goal.returns-clause-bound
 returns-clause-bound c = omega (arith, across c, along c)

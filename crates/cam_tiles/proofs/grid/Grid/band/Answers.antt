@@ -1,13 +1,10 @@
 use Rattle.std.proofs.Common.{FitsSigned, w64, arith, rules}
 use Rattle.cam_objects.specs.Image.{relative}
-use Rattle.cam_rows.proofs.Gaps.{gap_fits, twice_fits}
+use Rattle.cam_rows.proofs.Gaps.{gap_fits}
 use Rattle.cam_tiles.specs.Tiles.{centre_in}
 use Rattle.cam_tiles.proofs.LevelRows.{are_seen, seen_on_row}
 use Rattle.cam_tiles.proofs.StepLemmas.{first_y}
 use Rattle.cam_tiles.proofs.grid.Grid.band.Goals as goal
-
-pub overflow_mul-levels : goal.overflow_mul-levels
-overflow_mul-levels c = twice_fits c.args.at.y c.requires.at.y
 
 pub overflow_sub-levels : goal.overflow_sub-levels
 overflow_sub-levels c =
@@ -26,6 +23,3 @@ returns-clause-rows c = λ row within.
     let fits : FitsSigned w64 g.step = search rules in
     c.band.ensures.rows row (relative c.args.at (centre_in g 0 row))
     (seen_on_row g c.args.at c.requires.grid c.requires.at fits row within)
-
-pub returns-clause-end : goal.returns-clause-end
-returns-clause-end c = c.band.ensures.end

@@ -1,27 +1,13 @@
 use Rattle.std.proofs.Common.{sym, subst, FitsSigned, w64, rules}
 use Rattle.cam_units.specs.Board.{IsPlace}
-use Rattle.cam_tiles.proofs.StepLemmas.{right_way_fits, down_way_fits, x_fits, y_fits, centre_kept}
+use Rattle.cam_tiles.proofs.StepLemmas.{x_fits, y_fits, centre_kept}
 use Rattle.cam_tiles.proofs.grid.Grid.centre.Goals as goal
-
-pub overflow_mul-result : goal.overflow_mul-result
-overflow_mul-result c =
-    let g = c.args.self.now in
-    let fits : FitsSigned w64 g.step = search rules in
-    right_way_fits g c.args.column c.args.row c.requires.grid c.requires.column c.requires.row fits
-    c.from.result c.from.ensures
 
 pub overflow_add-result : goal.overflow_add-result
 overflow_add-result c =
     let g = c.args.self.now in
     let fits : FitsSigned w64 g.step = search rules in
     x_fits g c.args.column c.args.row c.requires.grid c.requires.column c.requires.row fits c.from.result c.from.ensures
-
-pub overflow_mul-result-2 : goal.overflow_mul-result-2
-overflow_mul-result-2 c =
-    let g = c.args.self.now in
-    let fits : FitsSigned w64 g.step = search rules in
-    down_way_fits g c.args.column c.args.row c.requires.grid c.requires.column c.requires.row fits
-    c.from-2.result c.from-2.ensures
 
 pub overflow_sub-result : goal.overflow_sub-result
 overflow_sub-result c =

@@ -2,14 +2,8 @@ use Rattle.std.proofs.Common.{FitsSigned, w64, arith, rules, pos, ◌-ℤ◌, �
 use Rattle.std.proofs.lemmas.Int.{clamps, ints}
 use Rattle.cam_units.specs.declared.point.Spot.{Spot}
 use Rattle.cam_tiles.specs.Tiles.{centre_in}
-use Rattle.cam_tiles.proofs.LevelRows.{are_columns, in_column, mirrored_kept}
+use Rattle.cam_tiles.proofs.LevelRows.{in_column, mirrored_kept}
 use Rattle.cam_tiles.proofs.grid.Grid.columns_between.Goals as goal
-
-pub band-requires : goal.band-requires
-band-requires c =
-    let g = c.args.self.now in
-    let fits : FitsSigned w64 g.step = search rules in
-    are_columns g c.requires fits
 
 pub returns : goal.returns
 returns c = λ column within left right.

@@ -1,15 +1,8 @@
 use Rattle.std.proofs.Common.{rules, FitsSigned, w64, arith}
 use Rattle.std.proofs.lemmas.Int.{ints}
 use Rattle.cam_tiles.proofs.SeenRows.{row_reaches, row_seen, seen_y_fits}
-use Rattle.cam_tiles.proofs.StepLemmas.{down_way_fits, y_fits}
+use Rattle.cam_tiles.proofs.StepLemmas.{y_fits}
 use Rattle.cam_tiles.proofs.grid.Grid.row_from.Goals as goal
-
-pub overflow_mul-result-2 : goal.overflow_mul-result-2
-overflow_mul-result-2 c =
-    let g = c.args.self.now in
-    let fits : FitsSigned w64 g.step = search rules in
-    down_way_fits g 0 c.args.row c.requires.grid c.requires.grid.columns.0 c.requires.row fits c.from.result
-    c.from.ensures
 
 pub overflow_sub-result-2 : goal.overflow_sub-result-2
 overflow_sub-result-2 c =

@@ -2,12 +2,10 @@ use Rattle.std.proofs.Common.{FitsSigned, w64, pos, ◌*ℤ◌, ◌≤ℤ◌, �
 use Rattle.std.specs.Int.RustNames.{unsigned_abs}
 use Rattle.std.proofs.lemmas.Bool.{false≢true}
 use Rattle.std.proofs.lemmas.Int.{clamps, ints}
-use Rattle.cam_tiles.specs.Machinery.Levels.{height}
+use Rattle.cam_tiles.specs.declared.levels.Levels.{Levels}
+use Rattle.cam_tiles.specs.Machinery.Levels.{AreLevels, height}
 use Rattle.cam_tiles.proofs.LevelRows.{below_top, between_cut, last_within, over_bottom, top_short, under_kept}
 use Rattle.cam_tiles.proofs.levels.Levels.band.Goals as goal
-
-pub reach-requires : goal.reach-requires
-reach-requires c = c.requires
 
 pub returns-then-not-reach-clause-rows : goal.returns-then-not-reach-clause-rows
 returns-then-not-reach-clause-rows c = λ row s on.
@@ -21,44 +19,24 @@ returns-then-not-reach-clause-rows c = λ row s on.
       )))),
     )
 
+-- the heights of the first row and the last are short
+edges : (l : Levels) → AreLevels l → (unsigned_abs l.top < 4000000000) × (unsigned_abs (height l (l.rows - 1)) < 4000000000)
+edges l levels = (top_short l levels, levels.heights (l.rows - 1) (last_within l levels))
+
 pub overflow_sub-self : goal.overflow_sub-self
 overflow_sub-self c =
-    let l = c.args.self.now in
-    let reached = c.if-not-reach.ensures.0 refl in
     let high : FitsSigned w64 c.args.heights.high = search rules in
-    let top = top_short l c.requires in
-    let bottom = c.requires.heights (l.rows - 1) (last_within l c.requires) in
-    omega (arith, ints, clamps, top, bottom, high, c.min.ensures, reached.0, reached.1)
-
-pub rows_above-requires : goal.rows_above-requires
-rows_above-requires c = c.requires
-
-pub bottom-requires : goal.bottom-requires
-bottom-requires c = c.requires
-
-pub rows_above-requires-2 : goal.rows_above-requires-2
-rows_above-requires-2 c = c.requires
-
-pub returns-clause-end : goal.returns-clause-end
-returns-clause-end c = c.rows_above-2.ensures.end
+    omega (arith, ints, clamps, edges c.args.self.now c.requires, high, c.min.ensures, c.if-not-reach.ensures.0 refl)
 
 pub overflow_sub-self-2 : goal.overflow_sub-self-2
 overflow_sub-self-2 c =
-    let l = c.args.self.now in
-    let reached = c.if-not-reach.ensures.0 refl in
     let low : FitsSigned w64 c.args.heights.low = search rules in
-    let top = top_short l c.requires in
-    let bottom = c.requires.heights (l.rows - 1) (last_within l c.requires) in
-    omega (arith, ints, clamps, top, bottom, c.bottom.ensures, c.max.ensures, reached.0, reached.1)
+    omega (arith, ints, clamps, edges c.args.self.now c.requires, c.bottom.ensures, c.max.ensures, c.if-not-reach.ensures.0 refl)
 
 pub overflow_add-self : goal.overflow_add-self
 overflow_add-self c =
-    let l = c.args.self.now in
-    let reached = c.if-not-reach.ensures.0 refl in
     let low : FitsSigned w64 c.args.heights.low = search rules in
-    let top = top_short l c.requires in
-    let bottom = c.requires.heights (l.rows - 1) (last_within l c.requires) in
-    omega (arith, ints, clamps, top, bottom, c.bottom.ensures, c.max.ensures, reached.0, reached.1)
+    omega (arith, ints, clamps, edges c.args.self.now c.requires, c.bottom.ensures, c.max.ensures, c.if-not-reach.ensures.0 refl)
 
 pub returns-clause-rows : goal.returns-clause-rows
 returns-clause-rows c = λ row s on.

@@ -1,13 +1,7 @@
 use Rattle.std.proofs.Common.{FitsSigned, w64, rules, arith, ◌-◌}
 use Rattle.std.proofs.lemmas.Int.{ints}
-use Rattle.cam_tiles.proofs.LevelRows.{few_rows, last_farthest, last_within, rows_by_division, way_fits, way_is}
+use Rattle.cam_tiles.proofs.LevelRows.{few_rows, last_farthest, last_within, rows_by_division, way_is}
 use Rattle.cam_tiles.proofs.levels.Levels.rows_above.Goals as goal
-
-pub overflow_mul-last : goal.overflow_mul-last
-overflow_mul-last c =
-    let l = c.args.self.now in
-    let fits : FitsSigned w64 l.step = search rules in
-    way_fits l c.requires (l.rows - 1) (last_within l c.requires) fits c.from.result c.from.ensures
 
 pub returns-then-distance-last-clause-rows : goal.returns-then-distance-last-clause-rows
 returns-then-distance-last-clause-rows c = λ row within.
@@ -17,10 +11,6 @@ returns-then-distance-last-clause-rows c = λ row within.
     let farthest = last_farthest l c.requires row within in
     (λ inside. omega (arith, ints, last, farthest), λ short. within)
 
-pub returns-clause-rows : goal.returns-clause-rows
-returns-clause-rows c = λ row within.
-    rows_by_division _ _ _ _ _ row c.requires.step (omega (arith, ints)) (omega (arith, ints)) c.div_ceil.ensures
-
 pub returns-clause-end : goal.returns-clause-end
 returns-clause-end c =
     let l = c.args.self.now in
@@ -29,6 +19,3 @@ returns-clause-end c =
     few_rows l.rows _ _ c.args.distance c.requires.rows.0 (omega (arith, ints, last))
     (rows_by_division l.step c.args.distance _ _ _ (l.rows - 1) c.requires.step (omega (arith, ints))
     (omega (arith, ints)) c.div_ceil.ensures)
-
-pub overflow_cast-result : goal.overflow_cast-result
-overflow_cast-result c = let few = returns-clause-end c in omega (arith, few, c.requires.rows)

@@ -70,51 +70,34 @@ push_reserved-requires-in-Some-filed_line c =
     let few = few_filed _ _ _ _ _ _ so_far.filed in
     omega (arith, few, so_far.room, c.requires.room, ap length c.as_slice-segs.ensures)
 
-pub returns-in-Some-filed_line-clause-before : goal.returns-in-Some-filed_line-clause-before
-returns-in-Some-filed_line-clause-before c =
-    before_more _ _ _ _ _ _ c.loop-place.invariant.filed _ _ c.push_reserved-in-Some-filed_line.ensures.items
+pub returns-in-Some-filed_line : goal.returns-in-Some-filed_line
+returns-in-Some-filed_line c =
+    let so_far = c.loop-place.invariant in
+    let segs = c.as_slice-segs in
+    let push = c.push_reserved-in-Some-filed_line.ensures in
+    let end : length segs.result.now ≡ c.loop-place.place = omega arith in
+    let few = few_filed _ _ _ _ _ _ so_far.filed in
+    let added = length_push c.loop-place.filed.items c.in-Some-filed_line.closing in
+    record {
+      before = before_more _ _ _ _ _ _ so_far.filed _ _ push.items;
+      filed = filed_last c.args.contour.now c.args.levels c.args.filed.now.items c.loop-place.filed.items c.loop-place.place
+          c.loop-place.here (sym (ap length segs.ensures) ∙ end) so_far.corner so_far.filed c.in-Some-filed_line.closing _
+          (rw end at c.in-Some-filed_line.ensures) push.items;
+      few = omega (arith, few, ap length push.items, added, ap length segs.ensures);
+      room = push.capacity ∙ so_far.room;
+    }
 
-pub returns-in-Some-filed_line-clause-few : goal.returns-in-Some-filed_line-clause-few
-returns-in-Some-filed_line-clause-few c =
-    let few = few_filed _ _ _ _ _ _ c.loop-place.invariant.filed in
-    let added = ap length c.push_reserved-in-Some-filed_line.ensures.items in
-    omega (
-      arith,
-      few,
-      added,
-      length_push c.loop-place.filed.items c.in-Some-filed_line.closing,
-      ap length c.as_slice-segs.ensures,
-    )
-
-pub returns-in-Some-filed_line-clause-room : goal.returns-in-Some-filed_line-clause-room
-returns-in-Some-filed_line-clause-room c =
-    c.push_reserved-in-Some-filed_line.ensures.capacity ∙ c.loop-place.invariant.room
-
-pub returns-in_default-filed_line-clause-before : goal.returns-in_default-filed_line-clause-before
-returns-in_default-filed_line-clause-before c = before_kept _ _ _ _ _ _ c.loop-place.invariant.filed
-
-pub returns-in_default-filed_line-clause-few : goal.returns-in_default-filed_line-clause-few
-returns-in_default-filed_line-clause-few c =
-    let few = few_filed _ _ _ _ _ _ c.loop-place.invariant.filed in
-    omega (arith, few, ap length c.as_slice-segs.ensures)
-
-pub returns-in_default-filed_line-clause-room : goal.returns-in_default-filed_line-clause-room
-returns-in_default-filed_line-clause-room c = c.loop-place.invariant.room
-
-pub returns-in-Some-filed_line-clause-filed : goal.returns-in-Some-filed_line-clause-filed
-returns-in-Some-filed_line-clause-filed c =
+pub returns-in_default-filed_line : goal.returns-in_default-filed_line
+returns-in_default-filed_line c =
     let so_far = c.loop-place.invariant in
     let segs = c.as_slice-segs in
     let end : length segs.result.now ≡ c.loop-place.place = omega arith in
-    filed_last c.args.contour.now c.args.levels c.args.filed.now.items c.loop-place.filed.items c.loop-place.place
-    c.loop-place.here (sym (ap length segs.ensures) ∙ end) so_far.corner so_far.filed c.in-Some-filed_line.closing _
-    (rw end at c.in-Some-filed_line.ensures) c.push_reserved-in-Some-filed_line.ensures.items
-
-pub returns-in_default-filed_line-clause-filed : goal.returns-in_default-filed_line-clause-filed
-returns-in_default-filed_line-clause-filed c =
-    let so_far = c.loop-place.invariant in
-    let segs = c.as_slice-segs in
-    let end : length segs.result.now ≡ c.loop-place.place = omega arith in
-    passed_last c.args.contour.now c.args.levels c.args.filed.now.items c.loop-place.filed.items c.loop-place.place
-    c.loop-place.here (sym (ap length segs.ensures) ∙ end) so_far.corner so_far.filed
-    c.in_default-filed_line.ensures
+    let few = few_filed _ _ _ _ _ _ so_far.filed in
+    record {
+      before = before_kept _ _ _ _ _ _ so_far.filed;
+      filed = passed_last c.args.contour.now c.args.levels c.args.filed.now.items c.loop-place.filed.items c.loop-place.place
+          c.loop-place.here (sym (ap length segs.ensures) ∙ end) so_far.corner so_far.filed
+          c.in_default-filed_line.ensures;
+      few = omega (arith, few, ap length segs.ensures);
+      room = so_far.room;
+    }

@@ -11,7 +11,7 @@ returns-then-not-reach c =
     arc_misses c.args.levels c.args.cap.now c.requires.chord
     (cap_missed c.args.levels (in_reach c.args.levels c.requires.levels) c.args.cap.now c.circle_bound.result.0
     c.circle_bound.ensures.past c.circle_bound.ensures.some c.about.result
-    (record { low = c.about.ensures.low; high = c.about.ensures.high })
+    c.about.ensures
     (λ reached. false≢true (sym c.if-not-reach.true ∙ c.reach.ensures.1 reached)))
 
 pub returns-then-not-reach-2 : goal.returns-then-not-reach-2
@@ -20,7 +20,7 @@ returns-then-not-reach-2 c =
     arc_misses c.args.levels c.args.cap.now c.requires.chord
     (cap_missed c.args.levels (in_reach c.args.levels c.requires.levels) c.args.cap.now past.result.0
     (less_at_most _ (square past.result.0) past.ensures.past) (less_at_most _ past.result.0 past.ensures.some)
-    c.about-2.result (record { low = c.about-2.ensures.low; high = c.about-2.ensures.high })
+    c.about-2.result c.about-2.ensures
     (λ reached. false≢true (sym c.if-not-reach-2.true ∙ c.reach-2.ensures.1 reached)))
 
 pub returns : goal.returns

@@ -14,8 +14,8 @@ overflow_sub-result c = omega (arith, ints, clamps, c.min.ensures.value)
 pub overflow_add-result : goal.overflow_add-result
 overflow_add-result c = omega (arith, ints, clamps, c.max.ensures.value)
 
-pub returns-clause-low : goal.returns-clause-low
-returns-clause-low c = omega (arith, ints, clamps, c.min.ensures.value)
-
-pub returns-clause-high : goal.returns-clause-high
-returns-clause-high c = omega (arith, ints, clamps, c.max.ensures.value)
+pub returns : goal.returns
+returns c = record {
+  low = omega (arith, ints, clamps, c.min.ensures.value);
+  high = omega (arith, ints, clamps, c.max.ensures.value);
+}

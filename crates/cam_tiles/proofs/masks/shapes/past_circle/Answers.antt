@@ -11,21 +11,13 @@ next_is root h = omega (arith, ints)
 past_square : (d : ℤ) (n root : ℕ) → pos n ≡ d → n < (root + 1) * (root + 1) → d <ℤ square (pos (root + 1))
 past_square d n root e h = omega (arith, ints)
 
-pub returns-clause-past : goal.returns-clause-past
-returns-clause-past c =
+pub returns : goal.returns
+returns c =
     let n = c.squared_distance.result in
     let short = short_root c.isqrt.result n c.isqrt.ensures.square (omega (arith, c.squared_distance.ensures.bound)) in
-    rw (next_is c.isqrt.result short)
-    (past_square _ n c.isqrt.result c.squared_distance.ensures.value c.isqrt.ensures.greatest)
-
-pub returns-clause-some : goal.returns-clause-some
-returns-clause-some c =
-    let n = c.squared_distance.result in
-    let short = short_root c.isqrt.result n c.isqrt.ensures.square (omega (arith, c.squared_distance.ensures.bound)) in
-    rw (next_is c.isqrt.result short) (omega (arith, ints))
-
-pub returns-clause-short : goal.returns-clause-short
-returns-clause-short c =
-    let n = c.squared_distance.result in
-    let short = short_root c.isqrt.result n c.isqrt.ensures.square (omega (arith, c.squared_distance.ensures.bound)) in
-    rw (next_is c.isqrt.result short) (omega (arith, ints, short))
+    record {
+      past = rw (next_is c.isqrt.result short)
+          (past_square _ n c.isqrt.result c.squared_distance.ensures.value c.isqrt.ensures.greatest);
+      some = rw (next_is c.isqrt.result short) (omega (arith, ints));
+      short = rw (next_is c.isqrt.result short) (omega (arith, ints, short));
+    }

@@ -3,13 +3,8 @@ use Rattle.std.proofs.lemmas.Bool.{cases_lt}
 use Rattle.cam_tiles.specs.declared.grid.Grid.{Grid}
 use Rattle.cam_tiles.specs.Machinery.Masks.{IsIn, ink_of}
 use Rattle.cam_tiles.specs.Machinery.Swaths.{grid_at, mask_at}
-use Rattle.cam_tiles.proofs.SolidMasks.{solid_counted, solid_over, solid_there}
+use Rattle.cam_tiles.proofs.SolidMasks.{solid_counted, solid_over}
 use Rattle.cam_tiles.proofs.masks.solid.are_solid.Goals as goal
-
-pub solid_rows-requires : goal.solid_rows-requires
-solid_rows-requires c =
-    solid_there c.loop-k.solid c.args.masks.now c.loop-k.k c.index-masks-k.result (omega arith) c.index-masks-k.is
-    c.loop-k.invariant.rows
 
 pub loop-k-preserved : goal.loop-k-preserved
 loop-k-preserved c =

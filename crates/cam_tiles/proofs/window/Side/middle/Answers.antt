@@ -15,17 +15,6 @@ product_fits n p h k =
     let second : wide p ≡ p = omega (arith, ints) in
     rw (first, second) (fits_signed_from_abs w128 (n *ℤ p) (omega (arith, bound)))
 
-pub overflow_mul-result : goal.overflow_mul-result
-overflow_mul-result c =
-    let edge : FitsSigned w64 c.args.self.edge = search rules in
-    omega (arith, ints, edge, c.from.ensures)
-
-pub overflow_mul-from : goal.overflow_mul-from
-overflow_mul-from c = omega (arith, c.from-2.ensures, c.ranges.pixel.fits)
-
-pub overflow_add-from : goal.overflow_add-from
-overflow_add-from c = omega (arith, c.from-2.ensures, c.ranges.pixel.fits)
-
 pub overflow_mul-result-2 : goal.overflow_mul-result-2
 overflow_mul-result-2 c =
     let pitch : FitsSigned w64 c.args.self.pitch = search rules in

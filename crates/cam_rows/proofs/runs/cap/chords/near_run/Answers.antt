@@ -1,16 +1,10 @@
-use Rattle.std.proofs.Common.{pos, refl, arith}
+use Rattle.std.proofs.Common.{pos, arith}
 use Rattle.std.proofs.lemmas.Int.{ints}
 use Rattle.cam_shapes.proofs.Widths.{narrow}
-use Rattle.cam_rows.proofs.CapTies.{circle_chord, in_circle_is, is_below, over_circle}
+use Rattle.cam_rows.proofs.CapTies.{circle_chord, in_circle_is, is_below}
 use Rattle.cam_rows.proofs.Circling.{square_of}
-use Rattle.cam_rows.proofs.WideRows.{by_strip, in_no_run}
+use Rattle.cam_rows.proofs.WideRows.{by_strip}
 use Rattle.cam_rows.proofs.runs.cap.chords.near_run.Goals as goal
-
-pub returns-then-over-radius-clause-each : goal.returns-then-over-radius-clause-each
-returns-then-over-radius-clause-each c = λ u v i radius height _ _.
-    let over = c.unsigned_abs-over.result in
-    let square = square_of over v.y (omega (arith, ints, height, c.unsigned_abs-over.ensures.value, c.requires.height)) in
-    in_no_run 0 0 i _ refl (over_circle u v c.args.radius _ radius square c.if-over-radius.true)
 
 pub returns-clause-each : goal.returns-clause-each
 returns-clause-each c = λ u v i radius height side within.

@@ -3,17 +3,9 @@ use Rattle.std.proofs.lemmas.Int.{ints}
 use Rattle.cam_shapes.specs.Plane.{seen_from, way}
 use Rattle.cam_shapes.proofs.Widths.{narrow}
 use Rattle.cam_rows.specs.Rows.{centre_at}
-use Rattle.cam_rows.proofs.CapTies.{circle_strip, in_circle_is, is_below, over_circle}
-use Rattle.cam_rows.proofs.WideRows.{by_strip, in_no_run}
+use Rattle.cam_rows.proofs.CapTies.{circle_strip, in_circle_is, is_below}
+use Rattle.cam_rows.proofs.WideRows.{by_strip}
 use Rattle.cam_rows.proofs.runs.cap.chords.root_run.Goals as goal
-
-pub returns-then-height-radius-clause-each : goal.returns-then-height-radius-clause-each
-returns-then-height-radius-clause-each c = λ i _.
-    let cap = c.args.cap.now in
-    in_no_run 0 0 i _ refl
-    (over_circle (way cap.centre cap.from) (seen_from cap.centre (centre_at c.args.row.now i))
-    c.args.radius c.squared_height-height.result c.requires.radius
-    (rw c.leftmost.ensures.value at c.squared_height-height.ensures.value) c.if-height-radius.true)
 
 pub overflow_add-strip : goal.overflow_add-strip
 overflow_add-strip c = let x = c.requires.cap.centre.x in omega (arith, ints, x, c.right_reach.ensures.short)

@@ -6,6 +6,7 @@ use Rattle.cam_objects.specs.Leaves.{Leaf}
 use Rattle.cam_tiles.specs.Machinery.Indexes.{AreSeenFrom, IsBoxOf}
 use Rattle.cam_tiles.specs.Machinery.Shown.{leaves_by_item}
 use Rattle.cam_tiles.proofs.Indexed.{next_missed, next_seen, seen_back}
+use Rattle.cam_tiles.proofs.index.seen.Seen.look_at_next.Goals.{After-read-bounds}
 use Rattle.cam_tiles.proofs.index.seen.Seen.look_at_next.Goals as goal
 
 is_box : {box : Bounds} {read lists : List (List Leaf)} (k : ℕ) → box ≡ bounds_of (get_or read k []) → read ≡ lists
@@ -18,36 +19,31 @@ returns-then-self-eq0-clause-seen c =
     seen_back (leaves_by_item c.args.shown.now) c.args.window.now c.args.self.now.within c.args.self.now.boxed.items
     c.args.self.now.left near.result near.ensures.within near.ensures.apart c.requires.seen
 
+so_far : (c : After-read-bounds) → AreSeenFrom (leaves_by_item c.args.shown.now) c.args.window.now c.args.self.now.within
+    (c.near_end-self.result - 1 + 1) c.args.self.now.boxed.items
+so_far c =
+    let near = c.near_end-self in
+    let boxed = c.args.self.now.boxed.items in
+    let last : near.result ≡ near.result - 1 + 1 = omega (arith, c.if-self-eq0.false) in
+    subst (λ k. AreSeenFrom (leaves_by_item c.args.shown.now) c.args.window.now c.args.self.now.within k boxed) last
+    (seen_back _ _ _ boxed c.args.self.now.left near.result near.ensures.within near.ensures.apart c.requires.seen)
+
 pub returns-in_ok-push-clause-seen : goal.returns-in_ok-push-clause-seen
 returns-in_ok-push-clause-seen c =
-    let lists = leaves_by_item c.args.shown.now in
     let w = c.args.window.now in
     let within = c.args.self.now.within in
-    let boxed = c.args.self.now.boxed.items in
-    let near = c.near_end-self in
-    let n : ℕ = near.result - 1 in
-    let last : near.result ≡ n + 1 = omega (arith, c.if-self-eq0.false) in
-    let so_far = subst (λ k. AreSeenFrom lists w within k boxed) last
-    (seen_back lists w within boxed c.args.self.now.left near.result near.ensures.within near.ensures.apart
-    c.requires.seen) in
-    next_seen lists w within n boxed so_far c.push.new.self.items c.in-Some.item c.in_ok-push.ensures.items
+    let n : ℕ = c.near_end-self.result - 1 in
+    next_seen (leaves_by_item c.args.shown.now) w within n c.args.self.now.boxed.items
+    (so_far (goal.at.returns-in_ok-push-clause-seen c).After-read-bounds) c.push.new.self.items c.in-Some.item c.in_ok-push.ensures.items
     c.in-Some.ensures.place
     (subst (λ box. IsBoxOf w within box c.in-Some.item) (is_box n c.read-bounds.ensures.value c.requires.lists)
     c.in-Some.ensures.some)
 
 pub returns-in_default-clause-seen : goal.returns-in_default-clause-seen
 returns-in_default-clause-seen c =
-    let lists = leaves_by_item c.args.shown.now in
-    let w = c.args.window.now in
-    let within = c.args.self.now.within in
-    let boxed = c.args.self.now.boxed.items in
-    let near = c.near_end-self in
-    let n : ℕ = near.result - 1 in
-    let last : near.result ≡ n + 1 = omega (arith, c.if-self-eq0.false) in
-    let so_far = subst (λ k. AreSeenFrom lists w within k boxed) last
-    (seen_back lists w within boxed c.args.self.now.left near.result near.ensures.within near.ensures.apart
-    c.requires.seen) in
-    next_missed lists w within n boxed so_far
+    let n : ℕ = c.near_end-self.result - 1 in
+    next_missed (leaves_by_item c.args.shown.now) c.args.window.now c.args.self.now.within n c.args.self.now.boxed.items
+    (so_far (goal.at.returns-in_default-clause-seen c).After-read-bounds)
     (λ row s seen held.
     c.in_default.ensures.none row s seen
     (subst (λ box. Holds box s) (sym (is_box n c.read-bounds.ensures.value c.requires.lists)) held))

@@ -1,4 +1,4 @@
-use Rattle.std.proofs.Common.{rules, ◌≡◌, ◌+◌, ◌/◌, ℕ, List, ◌++◌, true, Some, Option, IfNone, IfSome, FitsSigned, w64}
+use Rattle.std.proofs.Common.{rules, ◌≡◌, ◌+◌, ◌/◌, ◌<◌, ℕ, List, ◌++◌, true, Some, Option, IfNone, IfSome, FitsSigned, w64}
 use Rattle.std.proofs.Common.{◌≤◌, refl, take, length, sym, ap, subst, ◌∙◌, arith}
 use Rattle.std.specs.List.{flat_map}
 use Rattle.std.specs.Prelude.{slice_get}
@@ -11,7 +11,7 @@ use Rattle.cam_objects.specs.Leaves.{Leaf}
 use Rattle.cam_tiles.specs.declared.index.Boxed.{Boxed}
 use Rattle.cam_tiles.specs.declared.index.seen.Seen.{Seen}
 use Rattle.cam_tiles.specs.Machinery.Blackened.{AreBlackened}
-use Rattle.cam_tiles.specs.Machinery.Indexes.{IsBegunBy, last_leaves}
+use Rattle.cam_tiles.specs.Machinery.Indexes.{IsBegunBy, IsSeen, last_leaves}
 use Rattle.cam_tiles.specs.Machinery.Levels.{levels_of}
 use Rattle.cam_tiles.specs.Machinery.Masks.{Marking}
 use Rattle.cam_tiles.specs.Machinery.Shown.{leaves_by_item, lists_of}
@@ -22,6 +22,7 @@ use Rattle.cam_tiles.proofs.Blackened.{none_blackened, one_boxed, one_in_row, on
 use Rattle.cam_tiles.proofs.Indexed.{at, corners_held}
 use Rattle.cam_tiles.proofs.PaintedLists.{on_levels}
 use Rattle.cam_tiles.proofs.ShownItems.{leaves_are}
+use Rattle.cam_tiles.proofs.index.seen.Seen.paint_last_first.Goals.{After-is_in_row, After-numbered}
 use Rattle.cam_tiles.proofs.index.seen.Seen.paint_last_first.Goals.{then-is_in_row+then-reaches+else-not-is_dark+else-is_black, else-is_in_row, else-is_in_row-via-then-is_in_row+else-reaches, else-is_in_row-via-else-is_in_row}
 use Rattle.cam_tiles.proofs.index.seen.Seen.paint_last_first.Goals as goal
 
@@ -47,8 +48,8 @@ loop-number-init c = record {
   black = none_blackened c.args.swath.now c.requires.blank;
 }
 
-pub is_dark-requires : goal.is_dark-requires
-is_dark-requires c =
+place_there : (c : After-is_in_row) → c.in-Some.item.place < length (leaves_by_item c.args.shown.now)
+place_there c =
     let seen = c.numbered.new.self in
     let lists = leaves_by_item c.args.shown.now in
     let b = c.in-Some.item in
@@ -56,14 +57,26 @@ is_dark-requires c =
     (one_boxed lists (c.args.tile / c.across.result) c.loop-number.number seen.boxed.items b found
     c.in_ok-item.ensures.seen.each).within
 
+pub is_dark-requires : goal.is_dark-requires
+is_dark-requires c = place_there (goal.at.is_dark-requires c).After-is_in_row
+
 pub paint_dark_item-requires-clause-within : goal.paint_dark_item-requires-clause-within
 paint_dark_item-requires-clause-within c =
-    let seen = c.numbered.new.self in
-    let lists = leaves_by_item c.args.shown.now in
-    let b = c.in-Some.item in
-    let found = there c.in_ok-item.field-0 b seen.boxed.items c.loop-number.number c.in-Some.is c.in_ok-item.ensures.there in
-    (one_boxed lists (c.args.tile / c.across.result) c.loop-number.number seen.boxed.items b found
-    c.in_ok-item.ensures.seen.each).within
+    place_there (goal.at.paint_dark_item-requires-clause-within c).After-is_in_row
+
+-- each centre of the masks may be seen
+seen_there : (c : After-numbered) → c.numbered.new.self.within ≡ c.args.self.now.within → (column r : ℕ)
+    → IsInSwath c.args.swath.now column r
+    → IsSeen c.args.window.now c.numbered.new.self.within (c.args.tile / across c.args.window.now)
+    (place_in c.args.swath.now column r)
+seen_there c within column r inside = (
+  subst (λ (box : Bounds). Holds box (place_in c.args.swath.now column r)) (sym within)
+      (corners_held c.args.self.now.within c.bounds.result c.in-Closed.low c.in-Closed.high c.in-Closed.is
+      (c.has_place.ensures.0 c.if-not-has_place.false)
+      (c.has_place-else-not-has_place.ensures.0 c.if-not-has_place-2.false)
+      (place_in c.args.swath.now column r) (c.bounds.ensures column r inside)),
+  on_levels (levels_of (grid_of c.args.window.now c.args.tile)) c.args.swath.now c.requires.rows column r inside,
+)
 
 pub returns-then-is_black-clause-painted : goal.returns-then-is_black-clause-painted
 returns-then-is_black-clause-painted c = λ on.
@@ -90,21 +103,15 @@ returns-then-is_black-clause-painted c = λ on.
     let blackened : AreBlackened (same (across w)) old new =
     subst (AreBlackened (same (across w)) old) (sym c.is_black.ensures.kept)
     (subst (λ (ls : List Leaf). AreBlackened ls old c.paint_dark_item.new.swath) leaves painted_now) in
-    let within = c.in_ok-item.ensures.begun.within ∙ c.loop-number.invariant.within in
-    let first = c.has_place.ensures.0 c.if-not-has_place.false in
-    let last = c.has_place-else-not-has_place.ensures.0 c.if-not-has_place-2.false in
     subst (λ (leaves : List Leaf). PaintsSwath old leaves new) (leaves_are shown)
     (all_blackened old (same (across w)) (flat_map (λ those. those) lists) new blackened c.requires.blank
     (subst
     (λ (m : List Marking). (column r : ℕ) → IsInSwath m column r → ink_in m column r ≡ true)
     (sym c.is_black.ensures.kept) (c.is_black.ensures.black c.if-is_black.true))
     (λ column r inside made.
-    black_by_last lists w seen c.in_ok-item.ensures.seen row (n + 1) (place_in old column r) (
-      subst (λ (box : Bounds). Holds box (place_in old column r)) (sym within)
-          (corners_held c.args.self.now.within c.bounds.result c.in-Closed.low c.in-Closed.high c.in-Closed.is first last
-          (place_in old column r) (c.bounds.ensures column r inside)),
-      on_levels (levels_of (grid_of w c.args.tile)) old c.requires.rows column r inside,
-    ) made))
+    black_by_last lists w seen c.in_ok-item.ensures.seen row (n + 1) (place_in old column r)
+    (seen_there (goal.at.returns-then-is_black-clause-painted c).After-numbered
+    (c.in_ok-item.ensures.begun.within ∙ c.loop-number.invariant.within) column r inside) made))
 
 pub returns-in_default-2-clause-painted : goal.returns-in_default-2-clause-painted
 returns-in_default-2-clause-painted c = λ on.
@@ -124,18 +131,12 @@ returns-in_default-2-clause-painted c = λ on.
     let same = λ (m : ℕ). last_leaves lists (c.args.tile / m) (take n seen.boxed.items) in
     let found : AreBlackened (same (across w)) old c.loop-number.swath =
     subst (λ (ls : List Leaf). AreBlackened ls old c.loop-number.swath) (ap same c.across.ensures) before in
-    let within = c.in_ok-item.ensures.begun.within ∙ c.loop-number.invariant.within in
-    let first = c.has_place.ensures.0 c.if-not-has_place.false in
-    let last = c.has_place-else-not-has_place.ensures.0 c.if-not-has_place-2.false in
     subst (λ (leaves : List Leaf). PaintsSwath old leaves c.loop-number.swath) (leaves_are shown)
     (all_shown old (same (across w)) (flat_map (λ those. those) lists) c.loop-number.swath found c.requires.blank
     (λ column r inside.
-    all_by_last lists w seen c.in_ok-item.ensures.seen row n left.0 left.1 (place_in old column r) (
-      subst (λ (box : Bounds). Holds box (place_in old column r)) (sym within)
-          (corners_held c.args.self.now.within c.bounds.result c.in-Closed.low c.in-Closed.high c.in-Closed.is first last
-          (place_in old column r) (c.bounds.ensures column r inside)),
-      on_levels (levels_of (grid_of w c.args.tile)) old c.requires.rows column r inside,
-    )))
+    all_by_last lists w seen c.in_ok-item.ensures.seen row n left.0 left.1 (place_in old column r)
+    (seen_there (goal.at.returns-in_default-2-clause-painted c).After-numbered
+    (c.in_ok-item.ensures.begun.within ∙ c.loop-number.invariant.within) column r inside)))
 
 pub loop-number-preserved : goal.loop-number-preserved
 loop-number-preserved c =

@@ -4,5 +4,4 @@ use Rattle.cam_tiles.proofs.masks.shapes.CapHasHeights.heights.Goals as goal
 pub returns : goal.returns
 returns c =
     let past = c.past_circle.ensures in
-    in_cap c.args.self.now c.past_circle.result.0 c.about.result past.past past.some
-    (record { low = c.about.ensures.low; high = c.about.ensures.high })
+    in_cap c.args.self.now c.past_circle.result.0 c.about.result past.past past.some c.about.ensures

@@ -9,51 +9,40 @@ use Rattle.cam_tiles.specs.Machinery.Levels.{levels_of}
 use Rattle.cam_tiles.specs.Machinery.Masks.{Marking}
 use Rattle.cam_tiles.specs.Machinery.Swaths.{HasMask, grid_at}
 use Rattle.cam_tiles.specs.Machinery.Turning.{AreMarkedAt}
-use Rattle.cam_tiles.proofs.MarkedTiles.{filed_read, left_before, left_of_all, marked_read, room_read, wide_read}
+use Rattle.cam_tiles.proofs.MarkedTiles.{AreRead, filed_read, left_before, left_of_all, marked_read, room_read, wide_read}
 use Rattle.cam_tiles.proofs.PaintedSwaths.{part_kept, put_back}
 use Rattle.cam_tiles.proofs.SolidMasks.{solid_back}
+use Rattle.cam_tiles.proofs.masks.swath.Swath.fill_together.Goals.{After-grid-grid}
 use Rattle.cam_tiles.proofs.masks.swath.Swath.fill_together.Goals as goal
+
+read : (c : After-grid-grid) → AreRead c.self.inside.columns c.self.inside.tiles.items c.self.inside.masks.items c.args.first
+    c.args.end c.index-left.result.now c.index.result.now c.min-right.result c.grid-grid.result c.index-2.result.now
+read c = record {
+  some = c.requires.some;
+  few = subst (λ (ms : List Marking). c.args.end ≤ length ms) (sym c.self.view_is) c.requires.end;
+  left = c.index-left.ensures;
+  last = c.index.ensures;
+  right = c.min-right.ensures;
+  of = c.grid-grid.ensures.value ∙ ap (λ (m : Marking). m.grid) c.index-2.ensures;
+  grid = c.grid-grid.ensures.grid;
+}
 
 pub overflow_sub-right : goal.overflow_sub-right
 overflow_sub-right c =
-    let s = c.self.inside in
-    let few : c.args.end ≤ length s.masks.items =
-    subst (λ (ms : List Marking). c.args.end ≤ length ms) (sym c.self.view_is) c.requires.end in
-    left_before s.corner s.columns s.tiles.items s.before.items s.masks.items c.self.invariant.stand c.args.first
-    c.args.end c.index-left.result.now c.index.result.now c.min-right.result c.grid-grid.result c.index-2.result.now
-    c.requires.some few c.index-left.ensures c.index.ensures c.min-right.ensures
-    (c.grid-grid.ensures.value ∙ ap (λ (m : Marking). m.grid) c.index-2.ensures) c.grid-grid.ensures.grid
+    left_before _ _ _ _ _ c.self.invariant.stand _ _ _ _ _ _ _ (read (goal.at.overflow_sub-right c).After-grid-grid)
 
 pub mark_inside-requires-clause-grid : goal.mark_inside-requires-clause-grid
 mark_inside-requires-clause-grid c =
-    let s = c.self.inside in
-    let few : c.args.end ≤ length s.masks.items =
-    subst (λ (ms : List Marking). c.args.end ≤ length ms) (sym c.self.view_is) c.requires.end in
-    wide_read s.corner s.columns s.tiles.items s.before.items s.masks.items c.self.invariant.stand c.args.first
-    c.args.end c.index-left.result.now c.index.result.now c.min-right.result c.grid-grid.result c.index-2.result.now
-    c.requires.some few c.index-left.ensures c.index.ensures c.min-right.ensures
-    (c.grid-grid.ensures.value ∙ ap (λ (m : Marking). m.grid) c.index-2.ensures) c.grid-grid.ensures.grid
+    wide_read _ _ _ _ _ c.self.invariant.stand _ _ _ _ _ _ _ (read (goal.at.mark_inside-requires-clause-grid c).After-grid-grid)
 
 pub mark_inside-requires-clause-room : goal.mark_inside-requires-clause-room
 mark_inside-requires-clause-room c =
-    let s = c.self.inside in
-    let few : c.args.end ≤ length s.masks.items =
-    subst (λ (ms : List Marking). c.args.end ≤ length ms) (sym c.self.view_is) c.requires.end in
-    room_read s.corner s.columns s.tiles.items s.before.items s.masks.items c.self.invariant.stand c.args.first
-    c.args.end c.index-left.result.now c.index.result.now c.min-right.result c.grid-grid.result c.index-2.result.now
-    c.requires.some few c.index-left.ensures c.index.ensures c.min-right.ensures
-    (c.grid-grid.ensures.value ∙ ap (λ (m : Marking). m.grid) c.index-2.ensures) c.grid-grid.ensures.grid
+    room_read _ _ _ _ _ c.self.invariant.stand _ _ _ _ _ _ _ (read (goal.at.mark_inside-requires-clause-room c).After-grid-grid)
     (length c.deref_mut.result.now) (omega (arith, c.self.invariant.room, ap length c.deref_mut.ensures.value))
 
 pub mark_inside-requires-clause-filed : goal.mark_inside-requires-clause-filed
 mark_inside-requires-clause-filed c =
-    let s = c.self.inside in
-    let few : c.args.end ≤ length s.masks.items =
-    subst (λ (ms : List Marking). c.args.end ≤ length ms) (sym c.self.view_is) c.requires.end in
-    filed_read s.corner s.columns s.tiles.items s.before.items s.masks.items c.self.invariant.stand c.args.first
-    c.args.end c.index-left.result.now c.index.result.now c.min-right.result c.grid-grid.result c.index-2.result.now
-    c.requires.some few c.index-left.ensures c.index.ensures c.min-right.ensures
-    (c.grid-grid.ensures.value ∙ ap (λ (m : Marking). m.grid) c.index-2.ensures) c.grid-grid.ensures.grid
+    filed_read _ _ _ _ _ c.self.invariant.stand _ _ _ _ _ _ _ (read (goal.at.mark_inside-requires-clause-filed c).After-grid-grid)
     (λ (g : Grid). AreFiled c.args.region.contour.now (levels_of g) c.args.filed.now)
     (subst
     (λ (ms : List Marking). (k : ℕ) → HasMask ms k
@@ -62,20 +51,12 @@ mark_inside-requires-clause-filed c =
 
 pub fill_marked-requires-clause-from : goal.fill_marked-requires-clause-from
 fill_marked-requires-clause-from c = λ k after until.
-    let s = c.self.inside in
-    let few : c.args.end ≤ length s.masks.items =
-    subst (λ (ms : List Marking). c.args.end ≤ length ms) (sym c.self.view_is) c.requires.end in
     subst (λ (ts : List ℕ). c.index-left.result.now ≤ slice_index ts k) (sym c.deref.ensures.value)
-    (left_of_all s.corner s.columns s.tiles.items s.before.items s.masks.items c.self.invariant.stand c.args.first
-    c.args.end c.index-left.result.now c.index.result.now c.min-right.result c.grid-grid.result c.index-2.result.now
-    c.requires.some few c.index-left.ensures c.index.ensures c.min-right.ensures
-    (c.grid-grid.ensures.value ∙ ap (λ (m : Marking). m.grid) c.index-2.ensures) c.grid-grid.ensures.grid k after until)
+    (left_of_all _ _ _ _ _ c.self.invariant.stand _ _ _ _ _ _ _ (read (goal.at.fill_marked-requires-clause-from c).After-grid-grid) k after until)
 
 pub fill_marked-requires-clause-marked : goal.fill_marked-requires-clause-marked
 fill_marked-requires-clause-marked c = λ k after until.
     let s = c.self.inside in
-    let few : c.args.end ≤ length s.masks.items =
-    subst (λ (ms : List Marking). c.args.end ≤ length ms) (sym c.self.view_is) c.requires.end in
     let left = c.index-left.result.now in
     let IsHeld : Spot → Type 0 = λ s. IsInContour s c.args.region.contour.now in
     let marks = c.mark_inside.new.marks in
@@ -83,10 +64,7 @@ fill_marked-requires-clause-marked c = λ k after until.
     c.deref-2.ensures.value ∙ with_items_is s.marks marks (c.mark_inside.auto.marks ∙ c.deref_mut.ensures.len) in
     let room : 64 * length s.before.items ≤ length marks =
     omega (arith, c.self.invariant.room, c.mark_inside.auto.marks, ap length c.deref_mut.ensures.value) in
-    let here = marked_read s.corner s.columns s.tiles.items s.before.items s.masks.items c.self.invariant.stand c.args.first
-    c.args.end c.index-left.result.now c.index.result.now c.min-right.result c.grid-grid.result c.index-2.result.now
-    c.requires.some few c.index-left.ensures c.index.ensures c.min-right.ensures
-    (c.grid-grid.ensures.value ∙ ap (λ (m : Marking). m.grid) c.index-2.ensures) c.grid-grid.ensures.grid
+    let here = marked_read _ _ _ _ _ c.self.invariant.stand _ _ _ _ _ _ _ (read (goal.at.fill_marked-requires-clause-marked c).After-grid-grid)
     IsHeld marks room c.mark_inside.ensures k after until in
     subst (λ (ts : List ℕ). AreMarkedAt (slice_index ts k - left) (grid_at c.deref_mut-3.result.now k) IsHeld c.deref-2.result.now)
     (sym c.deref.ensures.value)

@@ -1,4 +1,4 @@
-use Rattle.std.proofs.Common.{List, [], ◌∷◌, ◌≤◌, ◌≤ℤ◌, length, ap, sym, subst, ◌∙◌, rules, arith, FitsSigned, w64}
+use Rattle.std.proofs.Common.{ℕ, List, [], ◌∷◌, ◌<◌, ◌≤◌, ◌⊎◌, ◌≤ℤ◌, length, ap, sym, subst, ◌∙◌, rules, arith, FitsSigned, w64}
 use Rattle.std.proofs.lemmas.Int.{to_z-of_z}
 use Rattle.std.proofs.lemmas.List.{with_items_is}
 use Rattle.cam_units.specs.Boxes.{Holds}
@@ -6,11 +6,12 @@ use Rattle.cam_units.specs.declared.bounds.Bounds.{Bounds}
 use Rattle.cam_units.specs.declared.point.Spot.{Spot}
 use Rattle.cam_objects.specs.Canvases.{leaf_of, shape_of}
 use Rattle.cam_objects.proofs.Canvases.{paints_outside}
-use Rattle.cam_tiles.specs.Machinery.Masks.{IsIn, Marking, ink_of}
+use Rattle.cam_tiles.specs.Machinery.Masks.{IsIn, Marking, PaintsMask, ink_of}
 use Rattle.cam_tiles.specs.Machinery.Swaths.{IsInSwath, PaintsSwath, ink_in, mask_at, place_in}
 use Rattle.cam_tiles.specs.Tiles.{centre_in}
 use Rattle.cam_tiles.proofs.PaintedSwaths.{part_kept, part_painted, passed_over, put_back}
 use Rattle.cam_tiles.proofs.SolidMasks.{solid_back}
+use Rattle.cam_tiles.proofs.masks.swath.SwathCanvas.paint.Goals.{After-end_reached-end}
 use Rattle.cam_tiles.proofs.masks.swath.SwathCanvas.paint.Goals as goal
 
 pub returns-in_default : goal.returns-in_default
@@ -46,6 +47,22 @@ invariant_of-self c =
           c.self.invariant.solid;
     }
 
+-- the masks that its box does not reach
+missed : (c : After-end_reached-end) → (k : ℕ) → (k < c.first_reached-first.result) ⊎ (c.end_reached-end.result ≤ k)
+    → PaintsMask (mask_at c.args.self.now k) (leaf_of c.args.print ∷ []) (mask_at c.args.self.now k)
+missed c k apart =
+    let old = c.args.self.now in
+    let sides : (t : Spot) → Holds c.args.print.bounds t → (c.in-Closed.low.x ≤ℤ t.x) × (t.x ≤ℤ c.in-Closed.high.x) =
+    λ t held. let between = subst (λ (b : Bounds). Holds b t) c.in-Closed.is held in (between.left, between.right) in
+    let least : FitsSigned w64 c.in-Closed.low.x = search rules in
+    let greatest : FitsSigned w64 c.in-Closed.high.x = search rules in
+    let before = simp to_z-of_z at c.first_reached-first.ensures in
+    let behind = simp to_z-of_z at c.end_reached-end.ensures.apart in
+    paints_outside (λ (m : Marking). IsIn m.grid) (λ (m : Marking). centre_in m.grid) ink_of (mask_at old k)
+    (leaf_of c.args.print) c.args.print.bounds c.requires.held
+    (passed_over c.first_reached-first.result c.end_reached-end.result old c.in-Closed.low.x c.in-Closed.high.x before
+    behind (λ (t : Spot). Holds c.args.print.bounds t) sides k apart)
+
 pub returns-2 : goal.returns-2
 returns-2 c =
     let s = c.self.inside in
@@ -58,18 +75,8 @@ returns-2 c =
     let part =
     put_back first end leaves old c.deref_mut-2.result.now new _ (c.deref_mut-2.ensures.value ∙ c.self.view_is ∙ c.is_hidden.ensures.kept) after
     c.paint_each.ensures in
-    let sides : (t : Spot) → Holds c.args.print.bounds t → (c.in-Closed.low.x ≤ℤ t.x) × (t.x ≤ℤ c.in-Closed.high.x) =
-    λ t held. let between = subst (λ (b : Bounds). Holds b t) c.in-Closed.is held in (between.left, between.right) in
-    let least : FitsSigned w64 c.in-Closed.low.x = search rules in
-    let greatest : FitsSigned w64 c.in-Closed.high.x = search rules in
-    let before = simp to_z-of_z at c.first_reached-first.ensures in
-    let behind = simp to_z-of_z at c.end_reached-end.ensures.apart in
     part_painted first end leaves old _ part
-    (λ k apart.
-    paints_outside (λ (m : Marking). IsIn m.grid) (λ (m : Marking). centre_in m.grid) ink_of (mask_at old k)
-    (leaf_of c.args.print) c.args.print.bounds c.requires.held
-    (passed_over first end old c.in-Closed.low.x c.in-Closed.high.x before
-    behind (λ (t : Spot). Holds c.args.print.bounds t) sides k apart))
+    (missed (goal.at.returns-2 c).After-end_reached-end)
 
 pub returns-then-is_hidden : goal.returns-then-is_hidden
 returns-then-is_hidden c =
@@ -77,17 +84,7 @@ returns-then-is_hidden c =
     let first = c.first_reached-first.result in
     let end = c.end_reached-end.result in
     let leaves = leaf_of c.args.print ∷ [] in
-    let sides : (t : Spot) → Holds c.args.print.bounds t → (c.in-Closed.low.x ≤ℤ t.x) × (t.x ≤ℤ c.in-Closed.high.x) =
-    λ t held. let between = subst (λ (b : Bounds). Holds b t) c.in-Closed.is held in (between.left, between.right) in
-    let least : FitsSigned w64 c.in-Closed.low.x = search rules in
-    let greatest : FitsSigned w64 c.in-Closed.high.x = search rules in
-    let before = simp to_z-of_z at c.first_reached-first.ensures in
-    let behind = simp to_z-of_z at c.end_reached-end.ensures.apart in
     subst (PaintsSwath old leaves) (sym c.is_hidden.ensures.kept)
     (part_painted first end leaves old old
     (c.is_hidden.ensures.hidden c.if-is_hidden.true (shape_of c.args.print.figure))
-    (λ k apart.
-    paints_outside (λ (m : Marking). IsIn m.grid) (λ (m : Marking). centre_in m.grid) ink_of (mask_at old k)
-    (leaf_of c.args.print) c.args.print.bounds c.requires.held
-    (passed_over first end old c.in-Closed.low.x c.in-Closed.high.x before
-    behind (λ (t : Spot). Holds c.args.print.bounds t) sides k apart)))
+    (missed (goal.at.returns-then-is_hidden c).After-end_reached-end))

@@ -1,5 +1,0 @@
-use Rattle.cam_tiles.proofs.DrawnTiles.{redraw_law}
-use Rattle.cam_tiles.proofs.laws.dirty_tiles_are_drawn_in_order.Goals as goal
-
-pub returns : goal.returns
-returns c = redraw_law
