@@ -5,6 +5,7 @@ from __future__ import annotations
 import os
 import re
 from types import TracebackType
+from typing import NoReturn
 
 from camplot import values
 from camplot.errors import Error, Refused
@@ -73,6 +74,9 @@ class Station:
 
     def __repr__(self) -> str:
         return f"<camplot.Station{', closed' if self.closed else ''}>"
+
+    def __reduce__(self) -> NoReturn:
+        raise TypeError("a station can be neither copied nor pickled")
 
     @property
     def closed(self) -> bool:
