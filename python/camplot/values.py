@@ -111,6 +111,7 @@ def nanometres(text: str) -> int:
 
 
 def layer_of(line: str) -> Layer:
+    """The layer of a line of an answer."""
     name, kind, items, entries = line.split()
     return Layer(name, cast(Kind, kind), int(items), int(entries))
 
@@ -121,6 +122,7 @@ def items_of(text: str) -> list[Item]:
 
 
 def box_of(text: str) -> Box | None:
+    """The box of an answer; None if that has no line."""
     return Box(*(float(it) for it in text.split())) if text else None
 
 
@@ -151,9 +153,11 @@ def _entry(head: str, *below: str) -> Entry:
 
 
 def attribute_of(line: str) -> Attribute:
+    """The attribute of a line of an answer."""
     name, *fields = line.split(",")
     return Attribute(name, tuple(fields))
 
 
 def history_of(text: str) -> History:
+    """The counts of an answer."""
     return History(*(int(it) for it in text.split()))

@@ -8,11 +8,12 @@ from pathlib import Path
 from typing import Any
 
 import camplot
-from camplot.library import load
+from camplot.library import VARIABLE, load
 
 TOP = Path(__file__).resolve().parents[2]
 CASES = TOP / "black_box" / "cases"
-PROGRAM = Path(os.environ.get("CAMPLOT_PROGRAM") or TOP / "crates" / "camplot" / "out" / "camplot")
+NAMED = os.environ.get("CAMPLOT_PROGRAM")
+PROGRAM = Path(NAMED or TOP / "crates" / "camplot" / "out" / "camplot")
 
 ONE_FLASH = b"%FSLAX46Y46*%\n%MOMM*%\n%ADD10C,0.5*%\nD10*\nX1000000Y1000000D03*\nM02*\n"
 
@@ -92,9 +93,12 @@ try:
     load()
     MISSING = ""
 except camplot.LibraryNotFound as fault:
+    if os.environ.get(VARIABLE):
+        raise  # (what is named has to be there)
     MISSING = f"the library is not built: {fault}"
 
 needs_library = unittest.skipIf(MISSING, MISSING)
+needs_program = unittest.skipUnless(NAMED or PROGRAM.is_file(), f"the program is not built: there is no {PROGRAM}: run ./demo")
 
 
 class WithStation(unittest.TestCase):

@@ -4,12 +4,14 @@ from __future__ import annotations
 
 import importlib.util
 import os
+import re
 import shutil
 import subprocess
 import sys
 import sysconfig
 import tempfile
 import unittest
+import venv
 import zipfile
 from pathlib import Path
 
@@ -18,6 +20,7 @@ from camplot import library
 from support import TOP, needs_library
 
 PYTHON = TOP / "python"
+needs_pip = unittest.skipUnless(importlib.util.find_spec("pip"), "there is no pip")
 TELL = "import camplot; s = camplot.Station(); print(s.apply('list')); print(s._session._library._name); print(camplot.__file__)"
 
 
@@ -107,9 +110,9 @@ class Wheels(InFolder):
         self.sources = self.folder / "sources" / "python"
         shutil.copytree(PYTHON, self.sources, ignore=shutil.ignore_patterns("__pycache__", "*.so", "tests"))
 
-    def pip(self, *words: str) -> None:
+    def pip(self, *words: str, python: str = sys.executable) -> None:
         ran = subprocess.run(
-            [sys.executable, "-m", "pip", *words],
+            [python, "-m", "pip", *words],
             env={**os.environ, "PIP_NO_INDEX": "1", "PIP_DISABLE_PIP_VERSION_CHECK": "1"},
             capture_output=True,
             text=True,
@@ -132,25 +135,29 @@ class Wheels(InFolder):
         spec.loader.exec_module(backend)
         self.assertEqual((backend.NAME, backend.VERSION), ("camplot", camplot.__version__))
 
-    @unittest.skipUnless(importlib.util.find_spec("pip"), "there is no pip")
+    @needs_pip
     def test_a_wheel_without_the_library(self) -> None:
         self.pip("wheel", "-w", str(self.folder), str(self.sources))
         names = self.is_recorded(self.folder / "camplot-1.0.0-py3-none-any.whl")
         self.assertIn("camplot/py.typed", names)
         self.assertEqual({it.name for it in (PYTHON / "camplot").glob("*.py")}, {Path(it).name for it in names if it.endswith(".py")})
 
-    @unittest.skipUnless(importlib.util.find_spec("pip"), "there is no pip")
+    @needs_pip
     @needs_library
-    def test_installed_by_pip_with_the_library(self) -> None:
+    def test_installed_in_an_environment_with_the_library(self) -> None:
         shutil.copy(str(library.load()._name), self.sources / "camplot" / library.NAME)
         there = self.folder / "there"
-        self.pip("install", "--target", str(there), str(self.sources))
-        self.assertEqual(self.told(there)[:2], ["(0, 0, 0)", str((there / "camplot" / library.NAME).resolve())])
-        wheel = (there / "camplot-1.0.0.dist-info" / "WHEEL").read_text()
-        self.assertIn(sysconfig.get_platform().replace("-", "_"), wheel)
-        self.assertIn("Root-Is-Purelib: false", wheel)
+        venv.create(there, system_site_packages=True)
+        python = str(there / "bin" / "python")
+        self.pip("install", "--no-user", str(self.sources), python=python)
+        (package,) = there.glob("lib/python*/site-packages/camplot")
+        self.assertEqual(self.told(self.folder, python)[:2], ["(0, 0, 0)", str((package / library.NAME).resolve())])
+        (wheel,) = there.glob("lib/python*/site-packages/camplot-1.0.0.dist-info/WHEEL")
+        self.assertIn(f"Root-Is-Purelib: false\nTag: py3-none-{re.sub('[-.]', '_', sysconfig.get_platform())}\n", wheel.read_text())
+        self.pip("uninstall", "-y", "camplot", python=python)
+        self.assertEqual(list(there.glob("lib/python*/site-packages/camplot*")), [])
 
-    @unittest.skipUnless(importlib.util.find_spec("pip"), "there is no pip")
+    @needs_pip
     def test_the_folder_that_pip_leaves_in_place(self) -> None:
         there = self.folder / "there"
         self.pip("install", "--target", str(there), "-e", str(self.sources))

@@ -12,7 +12,7 @@ from unittest import mock
 
 import camplot
 from camplot import Picture, Tile
-from support import PROGRAM, TOP, WithStation, needs_library
+from support import PROGRAM, TOP, WithStation, needs_library, needs_program
 
 needs_numpy = unittest.skipUnless(importlib.util.find_spec("numpy"), "numpy is not installed")
 
@@ -128,7 +128,7 @@ class Plots(WithStation):
         self.assertNotEqual(before, moved)
         self.assertEqual(before, self.station.plot("top"))
 
-    @unittest.skipUnless(PROGRAM.is_file(), f"the program is not built: {PROGRAM}")
+    @needs_program
     def test_pictures_are_those_of_the_program(self) -> None:
         boards = sorted((TOP / "examples" / "kicad").glob("*.gbr"))
         with tempfile.TemporaryDirectory() as folder, camplot.Station() as station:

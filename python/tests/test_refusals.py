@@ -112,8 +112,8 @@ class Run:
 
 @needs_library
 class Cases(WithStation):
+    # Replies, refusals, pictures and texts are those of the program, byte for byte.
     def test_each_case_of_the_program(self) -> None:
-        """Replies, refusals, pictures and texts are those of the program, byte for byte."""
         refused: set[int] = set()
         count = 0
         for case, depth in cases():
