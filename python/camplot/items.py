@@ -2,7 +2,7 @@
 
 from __future__ import annotations
 
-from collections.abc import Callable, Iterator
+from collections.abc import Callable, Iterable
 from dataclasses import dataclass
 from typing import NamedTuple
 
@@ -60,15 +60,14 @@ class Item:
         """The item that words tell, those of a repeat with its objects in lines below. ValueError if they tell none."""
         first, *below = words.split("\n")
         kind, *rest = first.split() or [""]
-        left = iter(rest)
         try:
             if kind == "repeat":
-                columns, rows, dx, dy, _ = map(int, left)
-                return Repeat(columns, rows, dx, dy, tuple(Item.of(line) for line in below))
-            item = _READERS[kind](left)
-        except (KeyError, StopIteration, ValueError):
+                columns, rows, dx, dy, _ = map(int, rest)
+                return Repeat(columns, rows, dx, dy, tuple(map(Item.of, below)))
+            item = _READERS[kind](*rest)
+        except (KeyError, TypeError, StopIteration, ValueError):
             raise ValueError(f"no words of an item: {words[:80]!r}") from None
-        if below or next(left, None) is not None:
+        if below:
             raise ValueError(f"more than the words of an item: {words[:80]!r}")
         return item
 
@@ -186,60 +185,52 @@ def _direction(clockwise: bool) -> str:
     return "cw" if clockwise else "ccw"
 
 
-def _point(words: Iterator[str]) -> Point:
-    return Point(int(next(words)), int(next(words)))
+# The readers: each takes the words after the kind.
+_TURNS = {turn.word: turn for mirrored in (False, True) for turn in (Turn(it, mirrored) for it in (0, 90, 180, 270))}
+_IS_DARK = {"dark": True, "clear": False}
+_IS_CLOCKWISE = {"cw": True, "ccw": False}
 
 
-def _turn(words: Iterator[str]) -> Turn:
-    word = next(words)
-    return Turn(int(word[1:]), _either(word[0], "m", "r"))
+def _points(numbers: Iterable[str]) -> list[Point]:
+    each = map(int, numbers)
+    return [Point(x, y) for x, y in zip(each, each, strict=True)]
 
 
-def _either(word: str, yes: str, no: str) -> bool:
-    if word not in (yes, no):
-        raise ValueError(word)
-    return word == yes
+def _flash(aperture: str, x: str, y: str, turn: str, polarity: str) -> Item:
+    return Flash(int(aperture), Point(int(x), int(y)), _TURNS[turn], _IS_DARK[polarity])
 
 
-def _dark(words: Iterator[str]) -> bool:
-    return _either(next(words), "dark", "clear")
+def _draw(aperture: str, x1: str, y1: str, x2: str, y2: str, turn: str, polarity: str) -> Item:
+    return Draw(int(aperture), Point(int(x1), int(y1)), Point(int(x2), int(y2)), _TURNS[turn], _IS_DARK[polarity])
 
 
-def _clockwise(words: Iterator[str]) -> bool:
-    return _either(next(words), "cw", "ccw")
+def _arc(aperture: str, *rest: str) -> Item:
+    *numbers, direction, polarity = rest
+    start, end, centre = _points(numbers)
+    return Arc(int(aperture), start, end, centre, _IS_CLOCKWISE[direction], _IS_DARK[polarity])
 
 
-def _flash(words: Iterator[str]) -> Item:
-    return Flash(int(next(words)), _point(words), _turn(words), _dark(words))
-
-
-def _draw(words: Iterator[str]) -> Item:
-    return Draw(int(next(words)), _point(words), _point(words), _turn(words), _dark(words))
-
-
-def _arc(words: Iterator[str]) -> Item:
-    return Arc(int(next(words)), _point(words), _point(words), _point(words), _clockwise(words), _dark(words))
-
-
-def _region(words: Iterator[str]) -> Item:
-    dark, start = _dark(words), _point(words)
+def _region(polarity: str, x: str, y: str, *rest: str) -> Item:
     segments: list[LineTo | ArcTo] = []
+    words = iter(rest)
     for kind in words:
-        to = _point(words)
-        segments.append(LineTo(to) if kind == "l" else ArcTo(to, _point(words), _either(kind, "cw", "ccw")))
-    return Region(start, tuple(segments), dark)
+        to = Point(int(next(words)), int(next(words)))
+        if kind == "l":
+            segments.append(LineTo(to))
+        else:
+            segments.append(ArcTo(to, Point(int(next(words)), int(next(words))), _IS_CLOCKWISE[kind]))
+    return Region(Point(int(x), int(y)), tuple(segments), _IS_DARK[polarity])
 
 
-def _hit(words: Iterator[str]) -> Item:
-    return Hit(int(next(words)), _point(words))
+def _hit(tool: str, x: str, y: str) -> Item:
+    return Hit(int(tool), Point(int(x), int(y)))
 
 
-def _rout(words: Iterator[str]) -> Item:
-    tool, numbers = int(next(words)), [int(it) for it in words]
-    return Rout(tool, tuple(Point(x, y) for x, y in zip(numbers[::2], numbers[1::2], strict=True)))
+def _rout(tool: str, *numbers: str) -> Item:
+    return Rout(int(tool), tuple(_points(numbers)))
 
 
-_READERS: dict[str, Callable[[Iterator[str]], Item]] = {
+_READERS: dict[str, Callable[..., Item]] = {
     "flash": _flash,
     "draw": _draw,
     "arc": _arc,

@@ -6,6 +6,7 @@ import ctypes
 import functools
 import os
 from pathlib import Path
+from typing import Any
 
 from camplot.errors import LibraryNotFound
 
@@ -22,7 +23,7 @@ _SIZE = ctypes.c_size_t
 _CODE = ctypes.c_uint32
 ROWS = ctypes.c_uint64 * 64
 # The functions of include/camplot.h that are called: what each answers and takes.
-_FUNCTIONS = {
+_FUNCTIONS: dict[str, tuple[Any, list[Any]]] = {
     "camplot_open": (_CODE, [_CODE, ctypes.POINTER(HANDLE)]),
     "camplot_close": (None, [HANDLE]),
     "camplot_apply": (_CODE, [HANDLE, _BYTES, _SIZE, _BYTES, _SIZE]),
@@ -36,11 +37,13 @@ _FUNCTIONS = {
 def places() -> list[Path]:
     """Where the library is looked for, in this order."""
     here = Path(__file__).resolve().parent
-    # next to the package; where ./demo leaves it; below the prefix of an installation
-    own = [here / NAME, here.parents[1] / "crates" / "camplot" / "out" / NAME]
+    program = here.parents[1] / "crates" / "camplot"
+    # where ./demo leaves it, if the package stands in the repository
+    built = [program / "out" / NAME] if program.is_dir() else []
+    # below the prefix of an installation
     prefix = [folder / "lib" / NAME for folder in here.parents if (folder / "lib" / NAME).is_file()]
     usual = [Path(folder) / NAME for folder in FOLDERS]
-    return list(dict.fromkeys([*own, *prefix, *usual]))
+    return list(dict.fromkeys([here / NAME, *built, *prefix, *usual]))
 
 
 def find() -> str:
@@ -72,6 +75,5 @@ def load(path: str | os.PathLike[str] | None = None) -> ctypes.CDLL:
         if chosen != SONAME:
             raise LibraryNotFound(f"{chosen} cannot be loaded: {fault}") from None
         looked = ", ".join(str(place) for place in places())
-        raise LibraryNotFound(
-            f"{NAME} is in none of {looked}, and the system's loader knows no {SONAME}: run ./demo, or set {VARIABLE} to its path"
-        ) from None
+        why = f"{NAME} is in none of {looked}, and the system's loader knows no {SONAME}"
+        raise LibraryNotFound(f"{why}: run ./demo, or set {VARIABLE} to its path") from None

@@ -3,7 +3,6 @@
 from __future__ import annotations
 
 import re
-from collections.abc import Callable, Iterator
 from dataclasses import dataclass
 from typing import Literal, NamedTuple, cast
 
@@ -118,7 +117,7 @@ def layer_of(line: str) -> Layer:
 
 def items_of(text: str) -> list[Item]:
     """The items of an answer: the objects of a repeat stand below it, after two spaces each."""
-    return [Item.of("\n".join(lines)) for lines in _heads(text, lambda line: not line.startswith(" "))]
+    return [Item.of(lines) for lines in re.split(r"\n(?! )", text.removesuffix("\n"))] if text else []
 
 
 def box_of(text: str) -> Box | None:
@@ -128,19 +127,7 @@ def box_of(text: str) -> Box | None:
 
 def entries_of(text: str) -> list[Entry]:
     """The entries of an answer: a first line begins with a small letter, and what follows it is the definition."""
-    return [_entry(*lines) for lines in _heads(text, lambda line: line[:1].islower())]
-
-
-def _heads(text: str, is_head: Callable[[str], bool]) -> Iterator[list[str]]:
-    """The lines of a text, each head with those below it."""
-    found: list[str] = []
-    for line in text.split("\n")[:-1]:
-        if found and is_head(line):
-            yield found
-            found = []
-        found.append(line)
-    if found:
-        yield found
+    return [_entry(*lines.split("\n")) for lines in re.split(r"\n(?=[a-z])", text.removesuffix("\n"))] if text else []
 
 
 def _entry(head: str, *below: str) -> Entry:
