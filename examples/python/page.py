@@ -1,5 +1,6 @@
 #!/usr/bin/env python3
-"""Loads a board from memory, picks the item at a point, plots a tile, moves the item, takes the move back, and compares.
+"""Loads a board from memory, picks the item at a point, plots a tile after a move of it, takes the move back, and
+compares.
 
     examples/python/page.py [LIBRARY]     libcamplot.so, which is found if none is named
 """
@@ -12,11 +13,11 @@ sys.path.insert(0, str(Path(__file__).resolve().parents[2] / "python"))
 
 import camplot  # noqa: E402
 
-BOARD = b"%FSLAX46Y46*%\n%MOMM*%\n%ADD10C,0.5*%\nD10*\nX1000000Y1000000D03*\nM02*\n"
+BOARD = b"%FSLAX46Y46*%\n%MOMM*%\n%ADD10C,0.5*%\nD10*\nX5000000Y5000000D03*\nX1000000Y1000000D03*\nM02*\n"
 
 
 def say(line: str, *answer: object) -> None:
-    """Prints a line of a script, which a method stands for, and what it answered."""
+    """Prints the line or the question that a method stands for, and what it answered."""
     print(f"{line:32}", *answer)
 
 
@@ -35,7 +36,8 @@ def main() -> int:
         station.set_window(0, 0, 31_250, 64, 64)
         say("window 0 0 31250 64 64", "ok")
         before = drawn(station)
-        place = station.item_at("top", 1_100_000, 1_000_000)
+        place = station.item_at("top", 1_000_000, 1_000_000)
+        say("at top 1000000 1000000", place)
         assert place is not None
         station.move("top", place, 400_000, 0)
         say(f"move top {place} 400000 0", "ok")
