@@ -84,7 +84,7 @@ class Session:
 
     def tile(self, layer: int, number: int) -> bytes | None:
         """The 512 bytes of a clean tile, by the number of its layer and its own; None if there is no such tile."""
-        rows = ROWS()
+        handle, rows = self._ready(), ROWS()
         if not (0 <= layer <= LARGEST and 0 <= number <= LARGEST):
             return None
-        return None if self._library.camplot_tile(self._ready(), layer, number, rows) else bytes(rows)
+        return None if self._library.camplot_tile(handle, layer, number, rows) else bytes(rows)
