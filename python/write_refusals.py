@@ -29,7 +29,8 @@ def sentences(text: str) -> str:
     pieces = re.split(r"(`[^`]*`)", re.sub(r"(?m)^- ", "", text))
     told = "".join(it[1:-1] if it.startswith("`") else it.replace("*", "") for it in pieces)
     told = re.sub(r"\s+", " ", told).strip().rstrip(":.")
-    return f"{told[:1].upper()}{told[1:]}." if told else ""
+    first = told[:1] if text.lstrip().startswith("`") else told[:1].upper()
+    return f"{first}{told[1:]}." if told else ""
 
 
 def refusals(page: str) -> dict[int, tuple[str, str]]:

@@ -286,7 +286,7 @@ REFUSALS: dict[int, tuple[str, str]] = {
     ),
     68: (
         'wrong kind',
-        'An edit or an item of Gerber layers for a drill layer, or the other way round. Hit, rout, tool and '
+        'An edit or an item of Gerber layers for a drill layer, or the other way round. hit, rout, tool and '
         'diameter go with drill layers, the other items, aperture, polarity, setattr and dropattr with Gerber'
         ' layers.',
     ),
@@ -303,12 +303,12 @@ REFUSALS: dict[int, tuple[str, str]] = {
     ),
     71: (
         'nothing to redo',
-        'Nothing was taken back, or an edit or a load came after it. Redo right behind the undo; else give '
+        'Nothing was taken back, or an edit or a load came after it. redo right behind the undo; else give '
         'the edit once more.',
     ),
     72: (
         'group open',
-        'A load, begin, undo or redo while a group is open. End or abort first.',
+        'A load, begin, undo or redo while a group is open. end or abort first.',
     ),
     73: (
         'no group',
@@ -357,7 +357,7 @@ REFUSALS: dict[int, tuple[str, str]] = {
     90: (
         'no pointer',
         'To a caller of the library alone: a pointer is null that may not be, or a length is past 2^63 - 1. '
-        'Include/camplot.h says which may be null.',
+        'include/camplot.h says which may be null.',
     ),
     91: (
         'not clean',

@@ -28,8 +28,8 @@ class Carried(unittest.TestCase):
     def test_number_name_and_advice(self) -> None:
         fault = camplot.Refused(61, call="delete top 9")
         self.assertEqual((fault.number, fault.name, fault.at), (61, "no item", None))
-        self.assertTrue(fault.advice.startswith("The layer has no item of this place"))
-        self.assertEqual(str(fault), f"delete top 9: refused 61, no item: {fault.advice}")
+        self.assertEqual(fault.advice, REFUSALS[61][1])
+        self.assertEqual(str(fault), f"delete top 9: refused 61, no item: {REFUSALS[61][1]}")
         self.assertIsInstance(fault, camplot.Error)
 
     def test_the_place_in_a_file(self) -> None:
