@@ -50,7 +50,8 @@ def find() -> str:
     """The path of the library; its name alone, where only the system's loader may know it."""
     named = os.environ.get(VARIABLE)
     if named:
-        return named
+        # (the loader would look for a name without a folder elsewhere)
+        return os.path.abspath(named)
     return next((str(place) for place in places() if place.is_file()), SONAME)
 
 
@@ -66,7 +67,7 @@ def _opened(path: str) -> ctypes.CDLL:
 
 def load(path: str | os.PathLike[str] | None = None) -> ctypes.CDLL:
     """The library at a path, or where it is found; `LibraryNotFound` if there is none."""
-    chosen = find() if path is None else os.fspath(path)
+    chosen = find() if path is None else os.path.abspath(path)
     try:
         return _opened(chosen)
     except AttributeError as fault:

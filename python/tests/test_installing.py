@@ -66,6 +66,9 @@ class Missing(InFolder):
 
     @unittest.skipIf(any(Path(it, library.NAME).exists() for it in library.FOLDERS), "a library is installed on this system")
     def test_none_anywhere(self) -> None:
+        # (what lies in the folder where a program runs is not loaded)
+        (self.folder / library.SONAME).write_text("another's")
+        (self.folder / library.NAME).write_text("another's")
         said = self.told(self.package("a"))
         self.assertRegex(said[-1], f"LibraryNotFound: {library.NAME} is in none of .*: run ./demo, or set CAMPLOT_LIBRARY")
 
@@ -78,6 +81,10 @@ class Found(InFolder):
 
     def test_by_the_variable(self) -> None:
         self.assertEqual(self.told(self.package("a"), CAMPLOT_LIBRARY=self.built)[:2], ["(0, 0, 0)", self.built])
+
+    def test_by_a_name_without_a_folder(self) -> None:
+        shutil.copy(self.built, self.folder / "mine.so")
+        self.assertEqual(self.told(self.package("a"), CAMPLOT_LIBRARY="mine.so")[:1], ["(0, 0, 0)"])
 
     def test_next_to_the_package(self) -> None:
         there = self.package("a")
