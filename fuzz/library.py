@@ -8,6 +8,7 @@ PROGRAM is the built one, LIBRARY the shared library that docs/library.md links.
 """
 
 import argparse
+import contextlib
 import os
 import pathlib
 import random
@@ -21,9 +22,10 @@ import seeds
 from program import Program, Wrong
 
 HERE = pathlib.Path(__file__).resolve().parent
-sys.path.insert(0, str(HERE.parent / "examples" / "python"))
+sys.path.insert(0, str(HERE.parent / "python"))
 
-import camplot  # noqa: E402  (it lies among the examples)
+from camplot.library import load  # noqa: E402  (it lies in a folder of its own)
+from camplot.session import Session  # noqa: E402
 
 
 def lines_of(script):
@@ -35,7 +37,7 @@ def lines_of(script):
 def by_library(library, files, script, depth):
     """The replies that a script has, and the files in the end."""
     held, replies = dict(files, script=script), []
-    with camplot.Station(library, depth) as station:
+    with contextlib.closing(Session(library, depth)) as station:
         for line in lines_of(script):
             words = [word for word in re.split(rb"[ \t]+", line) if word]
             path = words[3] if words[:1] == [b"load"] and len(words) == 4 else None
@@ -79,7 +81,7 @@ def main():
     maker = mutation.Mutation(
         chance, [text for text, _ in held.scripts], words["script"], words["numbers"], mutation.LINES
     )
-    library = camplot.load(os.path.realpath(told.library))
+    library = load(os.path.realpath(told.library))
     passed = failed = 0
     with tempfile.TemporaryDirectory(dir="/dev/shm" if os.path.isdir("/dev/shm") else None) as room:
         program = Program(os.path.realpath(told.program), os.path.join(room, "there"))

@@ -1,55 +1,80 @@
 """Finds and loads libcamplot.so."""
 
+from __future__ import annotations
+
 import ctypes
 import functools
 import os
 from pathlib import Path
+from typing import Any
+
+from camplot.errors import LibraryNotFound
 
 NAME = "libcamplot.so"
-# Named in the environment, it is the library, before all other places.
+# What the system's loader knows the library by.
+SONAME = "libcamplot.so.1"
+# Named by this variable of the environment, it is the library, and no other place is looked at.
 VARIABLE = "CAMPLOT_LIBRARY"
-FOLDERS = ("/usr/local/lib", "/usr/lib", "/usr/lib/x86_64-linux-gnu")
+FOLDERS = ("/usr/local/lib", "/usr/lib/x86_64-linux-gnu", "/usr/lib")
 
-_HANDLE = ctypes.c_void_p
+HANDLE = ctypes.c_void_p
 _BYTES = ctypes.c_char_p
 _SIZE = ctypes.c_size_t
 _CODE = ctypes.c_uint32
-# The functions of include/camplot.h: what each answers and takes.
-_FUNCTIONS = {
-    "camplot_open": (_CODE, [_CODE, ctypes.POINTER(_HANDLE)]),
-    "camplot_close": (None, [_HANDLE]),
-    "camplot_apply": (_CODE, [_HANDLE, _BYTES, _SIZE, _BYTES, _SIZE]),
-    "camplot_ask": (_CODE, [_HANDLE, _BYTES, _SIZE]),
-    "camplot_redraw": (_CODE, [_HANDLE, _CODE]),
-    "camplot_reply": (_SIZE, [_HANDLE, _BYTES, _SIZE]),
-    "camplot_file": (_SIZE, [_HANDLE, _BYTES, _SIZE]),
-    "camplot_tile": (_CODE, [_HANDLE, _CODE, _CODE, ctypes.POINTER(ctypes.c_uint64)]),
+ROWS = ctypes.c_uint64 * 64
+# The functions of include/camplot.h that are called: what each answers and takes.
+_FUNCTIONS: dict[str, tuple[Any, list[Any]]] = {
+    "camplot_open": (_CODE, [_CODE, ctypes.POINTER(HANDLE)]),
+    "camplot_close": (None, [HANDLE]),
+    "camplot_apply": (_CODE, [HANDLE, _BYTES, _SIZE, _BYTES, _SIZE]),
+    "camplot_ask": (_CODE, [HANDLE, _BYTES, _SIZE]),
+    "camplot_reply": (_SIZE, [HANDLE, _BYTES, _SIZE]),
+    "camplot_file": (_SIZE, [HANDLE, _BYTES, _SIZE]),
+    "camplot_tile": (_CODE, [HANDLE, _CODE, _CODE, ctypes.POINTER(ctypes.c_uint64)]),
 }
-
-
-class LibraryNotFound(ImportError):
-    """libcamplot.so is in none of the places where it is looked for."""
 
 
 def places() -> list[Path]:
     """Where the library is looked for, in this order."""
     here = Path(__file__).resolve().parent
-    named = [Path(os.environ[VARIABLE])] if os.environ.get(VARIABLE) else []
-    # next to the package; where ./demo leaves it; below the prefix of an installation
-    own = [here / NAME, here.parents[1] / "crates" / "camplot" / "out" / NAME]
-    prefix = [it / "lib" / NAME for it in here.parents if (it / "lib" / NAME).is_file()]
-    return [*named, *own, *prefix, *[Path(it) / NAME for it in FOLDERS]]
+    program = here.parents[1] / "crates" / "camplot"
+    # where ./demo leaves it, if the package stands in the repository
+    built = [program / "out" / NAME] if program.is_dir() else []
+    # below the prefix of an installation
+    prefix = [folder / "lib" / NAME for folder in here.parents if (folder / "lib" / NAME).is_file()]
+    usual = [Path(folder) / NAME for folder in FOLDERS]
+    return list(dict.fromkeys([here / NAME, *built, *prefix, *usual]))
+
+
+def find() -> str:
+    """The path of the library; its name alone, where only the system's loader may know it."""
+    named = os.environ.get(VARIABLE)
+    if named:
+        # (the loader would look for a name without a folder elsewhere)
+        return os.path.abspath(named)
+    return next((str(place) for place in places() if place.is_file()), SONAME)
 
 
 @functools.cache
-def load(path: str | None = None) -> ctypes.CDLL:
-    """The library at a path, or at the first place where it is."""
-    found = [Path(path)] if path else [it for it in places() if it.is_file()]
-    if not found:
-        looked = ", ".join(str(it) for it in places())
-        raise LibraryNotFound(f"{NAME} is in none of {looked}: run ./demo, or set {VARIABLE} to its path")
-    library = ctypes.CDLL(str(found[0]))
+def _opened(path: str) -> ctypes.CDLL:
+    """The library at a path, with the types of its functions."""
+    library = ctypes.CDLL(path)
     for name, (answer, given) in _FUNCTIONS.items():
         function = getattr(library, name)
         function.restype, function.argtypes = answer, given
     return library
+
+
+def load(path: str | os.PathLike[str] | None = None) -> ctypes.CDLL:
+    """The library at a path, or where it is found; `LibraryNotFound` if there is none."""
+    chosen = find() if path is None else os.path.abspath(path)
+    try:
+        return _opened(chosen)
+    except AttributeError as fault:
+        raise LibraryNotFound(f"{chosen} is not the library of this version: {fault}") from None
+    except OSError as fault:
+        if chosen != SONAME:
+            raise LibraryNotFound(f"{chosen} cannot be loaded: {fault}") from None
+        looked = ", ".join(str(place) for place in places())
+        why = f"{NAME} is in none of {looked}, and the system's loader knows no {SONAME}"
+        raise LibraryNotFound(f"{why}: run ./demo, or set {VARIABLE} to its path") from None

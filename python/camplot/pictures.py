@@ -1,4 +1,5 @@
-"""Pictures and tiles: bits that `memoryview` shows, and arrays where numpy is installed."""
+"""Pictures and tiles: bits that `memoryview` shows, and arrays if numpy is installed. They are copies, so they stay as they
+are when the station draws again, and when it is closed."""
 
 from __future__ import annotations
 
@@ -16,8 +17,7 @@ def _numpy() -> Any:
 
 @dataclass(frozen=True)
 class Picture:
-    """A plot: `height` rows of `width` pixels from the top, eight pixels a byte, the leftmost in the highest bit; 1 is
-    black. Each row begins in a byte of its own. `pbm` is the whole PBM file."""
+    """A plot: `height` rows of `width` pixels from the top. `pbm` is the whole PBM file."""
 
     width: int
     height: int
@@ -25,8 +25,13 @@ class Picture:
 
     @classmethod
     def from_pbm(cls, pbm: bytes) -> Picture:
-        width, height = (int(it) for it in pbm.split(b"\n", 2)[1].split())
-        return cls(width, height, pbm)
+        """The picture of a PBM file as plots write it: P4, and the sides in a line of their own."""
+        magic, sides, _ = pbm.split(b"\n", 2)
+        width, height = map(int, sides.split())
+        picture = cls(width, height, pbm)
+        if magic != b"P4" or len(pbm) != len(magic) + len(sides) + 2 + picture.stride * height:
+            raise ValueError("this is no PBM file of a plot")
+        return picture
 
     @property
     def stride(self) -> int:
@@ -35,11 +40,12 @@ class Picture:
 
     @property
     def data(self) -> memoryview:
-        """The rows alone, without the file's head."""
+        """The rows alone, one after another, each of `stride` bytes: eight pixels a byte, the leftmost in the highest bit;
+        1 is black. Read-only."""
         return memoryview(self.pbm)[len(self.pbm) - self.stride * self.height :]
 
     def pixel(self, column: int, row: int) -> bool:
-        """Whether a pixel is black; columns count from the left, rows from the top."""
+        """Whether a pixel is black. Columns count from the left and rows from the top, from 0."""
         if not (0 <= column < self.width and 0 <= row < self.height):
             raise IndexError(f"({column}, {row}) is no pixel of {self.width} by {self.height}")
         return bool(self.data[row * self.stride + column // 8] >> (7 - column % 8) & 1)
@@ -53,18 +59,27 @@ class Picture:
 
 @dataclass(frozen=True)
 class Tile:
-    """The 64 rows of a clean tile from the top, as 64 words of 64 bits: bit i is column i, 1 is black."""
+    """A clean tile: 64 rows of 64 pixels from the top. `octets` are its 512 bytes."""
 
-    data: memoryview
+    octets: bytes
+
+    @property
+    def data(self) -> memoryview:
+        """The rows as 64 words of 64 bits: bit i is column i, 1 is black. Read-only."""
+        return memoryview(self.octets).cast("Q")
 
     def pixel(self, column: int, row: int) -> bool:
-        """Whether a pixel of the tile is black."""
+        """Whether a pixel is black. Columns count from the left and rows from the top, from 0."""
         if not (0 <= column < 64 and 0 <= row < 64):
             raise IndexError(f"({column}, {row}) is no pixel of a tile")
         return bool(self.data[row] >> column & 1)
 
+    def count(self) -> int:
+        """How many pixels are black."""
+        return sum(row.bit_count() for row in self.data)
+
     def array(self) -> Any:
         """The pixels as a numpy array of bool, rows first."""
         numpy = _numpy()
-        octets = numpy.frombuffer(self.data, dtype="<u8").view(numpy.uint8).reshape(64, 8)
-        return numpy.unpackbits(octets, axis=1, bitorder="little").astype(bool)
+        rows = numpy.frombuffer(self.octets, dtype=numpy.uint8).reshape(64, 8)
+        return numpy.unpackbits(rows, axis=1, bitorder="little").astype(bool)

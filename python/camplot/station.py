@@ -2,24 +2,38 @@
 
 from __future__ import annotations
 
-import ctypes
+import os
+import re
 from types import TracebackType
+from typing import NoReturn
 
 from camplot import values
-from camplot.errors import Refused
+from camplot.errors import Error, Refused
+from camplot.items import Item
 from camplot.library import load
 from camplot.pictures import Picture, Tile
-from camplot.values import Attribute, Box, Entry, History, Item, Layer, Window
+from camplot.session import LARGEST, Session
+from camplot.values import Attribute, Box, Entry, History, Layer, Window
 
-_NOT_CLEAN = 91
+_NO_LAYER = 60
+_BAD_LINE = 80
+_ACCEPTED = 0
 
 
-def _text(text: str | bytes) -> bytes:
-    return text.encode() if isinstance(text, str) else bytes(text)
+def _line(*words: object) -> str:
+    """A line of words. A text that is empty or has blanks would be no word of it, or two: it is refused as a bad line."""
+    line = " ".join(map(str, words))
+    if any(isinstance(word, str) and re.search(r"^$|[ \t]", word) for word in words):
+        raise Refused(_BAD_LINE, call=line[:80])
+    return line
+
+
+def _bytes(line: str | bytes) -> bytes:
+    return line.encode(errors="surrogateescape") if isinstance(line, str) else line
 
 
 class Group:
-    """A group of edits, which is taken back as one: `with station.group(): ..`. An exception in it aborts the group."""
+    """A group of edits, which is taken back as one: `with station.group(): ..`. An exception in it takes its edits back."""
 
     def __init__(self, station: Station):
         self._station = station
@@ -29,22 +43,28 @@ class Group:
         return self
 
     def __exit__(self, kind: type[BaseException] | None, fault: BaseException | None, trace: TracebackType | None) -> None:
-        self._station.apply("abort" if kind else "end")
+        if kind is None:
+            self._station.apply("end")
+            return
+        try:
+            self._station.apply("abort")
+        except Error:
+            pass  # (it was closed in the block, or its group was: the exception of the block tells more)
 
 
 class Station:
     """A board of named layers, with a history of up to `depth` edits and groups that can be taken back.
 
-    Close it, or use it in a `with` statement. `library` is the path of libcamplot.so, found by itself if not given.
-    One thread at a time may use a station.
+    Close it, or use it in a `with` statement. `library` is the path of libcamplot.so, which is found if none is given.
+
+    A call that the station refuses raises `Refused`. A station stays in one thread: a call from another than the one that
+    opened it raises `WrongThread`, and a call after its end `Closed`. Two stations are two, and each may have its thread.
     """
 
-    def __init__(self, depth: int = 100, library: str | None = None):
-        self._handle = ctypes.c_void_p()
-        self._library = load(library)
-        code = self._library.camplot_open(depth, ctypes.byref(self._handle))
-        if code:
-            raise Refused(code, call=f"Station({depth})")
+    def __init__(self, depth: int = 100, library: str | os.PathLike[str] | None = None):
+        self._session = Session(load(library), depth)
+        # the places of layers in the order of their loads: no layer ever goes, and none changes its name
+        self._order: dict[str, int] = {}
 
     def __enter__(self) -> Station:
         return self
@@ -52,140 +72,130 @@ class Station:
     def __exit__(self, *_: object) -> None:
         self.close()
 
+    def __repr__(self) -> str:
+        return f"<camplot.Station{', closed' if self.closed else ''}>"
+
+    def __reduce__(self) -> NoReturn:
+        raise TypeError("a station can be neither copied nor pickled")
+
+    @property
+    def closed(self) -> bool:
+        """Whether the station was closed."""
+        return self._session.closed
+
     def close(self) -> None:
-        """Ends the station; every later call raises `Refused` with number 90."""
-        if self._handle:
-            self._library.camplot_close(self._handle)
-            self._handle = ctypes.c_void_p()
+        """Ends the station and gives its memory back. What it answered stays. Once it is closed, this does nothing."""
+        self._session.close()
 
-    def __del__(self) -> None:
-        # (it may have failed before it had a handle)
-        if getattr(self, "_library", None) is not None:
-            self.close()
+    # ---- lines and questions in their own words
 
-    # ---- lines
-
-    def apply(self, line: str | bytes, file: bytes | None = None) -> tuple[int, ...]:
+    def apply(self, line: str | bytes, file: bytes | bytearray | memoryview | None = None) -> tuple[int, ...]:
         """Applies a line of a script, with the bytes of the file that a load reads. Answers the numbers of its reply."""
-        words = _text(line)
-        data = None if file is None else bytes(file)
-        code = self._library.camplot_apply(self._handle, words, len(words), data, len(data or b""))
-        reply = self.reply.split()
-        if code:
+        words = _bytes(line)
+        data = file if file is None or isinstance(file, bytes) else bytes(memoryview(file))
+        code = self._session.apply(words, data)
+        reply = self._session.reply.split()
+        if code != _ACCEPTED:
             at = int(reply[2]) if len(reply) > 2 else None
             raise Refused(code, at, words[:80].decode(errors="replace"))
         return tuple(int(it) for it in reply[1:])
 
-    def ask(self, question: str | bytes) -> bytes:
-        """Asks a question of docs/library.md. Answers its text."""
-        words = _text(question)
-        code = self._library.camplot_ask(self._handle, words, len(words))
-        if code:
+    def ask(self, question: str | bytes) -> str:
+        """Asks a question of docs/questions.md. Answers its text."""
+        words = _bytes(question)
+        code = self._session.ask(words)
+        if code != _ACCEPTED:
             raise Refused(code, call=words[:80].decode(errors="replace"))
-        return self.file
-
-    @property
-    def reply(self) -> str:
-        """The reply to the last line, without its line end; empty if it had none."""
-        return self._copied(self._library.camplot_reply).decode().rstrip("\n")
-
-    @property
-    def file(self) -> bytes:
-        """The bytes of the last plot, text or answer."""
-        return self._copied(self._library.camplot_file)
-
-    def _copied(self, function: ctypes._CFuncPtr) -> bytes:
-        room = ctypes.create_string_buffer(max(function(self._handle, None, 0), 1))
-        return room.raw[: function(self._handle, room, len(room))]
+        return self._session.file.decode(errors="surrogateescape")
 
     # ---- layers
 
-    def load_gerber(self, name: str, data: bytes) -> int:
-        """Reads a Gerber file as a new layer. Answers the number of its items."""
-        return self.apply(f"load {name} gerber file", data)[0]
+    def load_gerber(self, name: str, data: bytes | bytearray | memoryview) -> int:
+        """Reads the bytes of a Gerber file as a new layer. Answers how many items it has."""
+        return self.apply(_line("load", name, "gerber", "file"), data)[0]
 
-    def load_drill(self, name: str, data: bytes) -> int:
-        """Reads a drill file (XNC) as a new layer. Answers the number of its items."""
-        return self.apply(f"load {name} drill file", data)[0]
+    def load_drill(self, name: str, data: bytes | bytearray | memoryview) -> int:
+        """Reads the bytes of a drill file (XNC) as a new layer. Answers how many items it has."""
+        return self.apply(_line("load", name, "drill", "file"), data)[0]
 
     def text(self, name: str) -> bytes:
         """The canonical text of a layer, Gerber or XNC."""
-        self.apply(f"write {name} file")
-        return self.file
+        self.apply(_line("write", name, "file"))
+        return self._session.file
 
     # ---- pictures
 
-    def set_window(self, x: int | Window, y: int = 0, pitch: int = 0, width: int = 0, height: int = 0) -> None:
-        """Sets what plots show: lower left corner and pitch in nm, sides in pixels; or a `Window`."""
-        window = x if isinstance(x, Window) else Window(x, y, pitch, width, height)
-        self.apply(f"window {window.x} {window.y} {window.pitch} {window.width} {window.height}")
+    def set_window(self, x: int, y: int, pitch: int, width: int, height: int) -> Window:
+        """Sets what plots show: the lower left corner and the pitch in nm, the sides in pixels."""
+        self.apply(_line("window", x, y, pitch, width, height))
+        return Window(x, y, pitch, width, height)
 
     def redraw(self, at_most: int) -> int:
-        """Draws at most so many dirty tiles. Answers how many it drew."""
-        code = self._library.camplot_redraw(self._handle, at_most)
-        if code:
-            raise Refused(code, call=f"redraw {at_most}")
-        return int(self.reply.split()[1])
+        """Draws at most so many dirty tiles, by layer and then by number. Answers how many it drew."""
+        return self.apply(_line("redraw", at_most))[0]
 
     def plot(self, name: str) -> Picture:
-        """Draws the layer's dirty tiles. Answers its picture in the window."""
-        self.apply(f"plot {name} file")
-        return Picture.from_pbm(self.file)
+        """Draws the dirty tiles of a layer. Answers its picture in the window."""
+        self.apply(_line("plot", name, "file"))
+        return Picture.from_pbm(self._session.file)
 
-    def tile(self, layer: int, number: int) -> Tile | None:
-        """A tile of 64 by 64 pixels of the layer that was loaded as number `layer`, counted from 0; None if it is dirty."""
-        rows = (ctypes.c_uint64 * 64)()
-        code = self._library.camplot_tile(self._handle, layer, number, rows)
-        if code == _NOT_CLEAN:
-            return None
-        if code:
-            raise Refused(code, call=f"tile {layer} {number}")
-        return Tile(memoryview(rows).cast("B").cast("Q"))
+    def tile(self, name: str, number: int) -> Tile | None:
+        """A tile of 64 by 64 pixels of a layer. They are counted from 0, row by row from the top left of the window. None if
+        it is dirty, or the window has no such tile."""
+        octets = self._session.tile(self._place_of(name), number)
+        return None if octets is None else Tile(octets)
+
+    def _place_of(self, name: str) -> int:
+        if name not in self._order:
+            self._order = {layer.name: place for place, layer in enumerate(self.layers())}
+        if name not in self._order:
+            raise Refused(_NO_LAYER, call=f"tile {name}")
+        return self._order[name]
 
     # ---- edits
 
-    def insert(self, name: str, place: int, item: str | Item) -> None:
-        """Inserts an item, in the words of a script line, at a place."""
-        self.apply(f"insert {name} {place} {item.words if isinstance(item, Item) else item}")
+    def insert(self, name: str, place: int, item: Item | str) -> None:
+        """Inserts an item at a place, which is at most one past the last. It may be in the words of a script line."""
+        self.apply(f"{_line('insert', name, place)} {item.words if isinstance(item, Item) else item}")
 
     def delete(self, name: str, place: int) -> None:
         """Deletes an item."""
-        self.apply(f"delete {name} {place}")
+        self.apply(_line("delete", name, place))
 
     def move(self, name: str, place: int, dx: int, dy: int) -> None:
         """Moves an item, by nm."""
-        self.apply(f"move {name} {place} {dx} {dy}")
+        self.apply(_line("move", name, place, dx, dy))
 
     def reorder(self, name: str, place: int, to: int) -> None:
-        """Takes an item to another place of the list."""
-        self.apply(f"reorder {name} {place} {to}")
+        """Takes an item out, and sets it at a place of the list without it."""
+        self.apply(_line("reorder", name, place, to))
 
     def set_aperture(self, name: str, place: int, number: int) -> None:
-        """Gives an item another aperture."""
-        self.apply(f"aperture {name} {place} {number}")
+        """Gives an item another aperture, by its number."""
+        self.apply(_line("aperture", name, place, number))
 
     def set_polarity(self, name: str, place: int, dark: bool) -> None:
         """Makes an item dark or clear."""
-        self.apply(f"polarity {name} {place} {'dark' if dark else 'clear'}")
+        self.apply(_line("polarity", name, place, "dark" if dark else "clear"))
 
     def set_tool(self, name: str, place: int, tool: int) -> None:
-        """Gives a drill item another tool."""
-        self.apply(f"tool {name} {place} {tool}")
+        """Gives an item of a drill layer another tool, by its number."""
+        self.apply(_line("tool", name, place, tool))
 
     def set_diameter(self, name: str, tool: int, diameter: int) -> None:
         """Gives a tool another diameter, in nm."""
-        self.apply(f"diameter {name} {tool} {diameter}")
+        self.apply(_line("diameter", name, tool, diameter))
 
-    def set_attribute(self, name: str, key: str, fields: str = "") -> None:
-        """Sets a file attribute; `fields` has no comma at its front."""
-        self.apply(f"setattr {name} {key} {fields}" if fields else f"setattr {name} {key}")
+    def set_attribute(self, name: str, key: str, *fields: str) -> None:
+        """Sets a file attribute to its fields, or to none: `set_attribute("top", ".FileFunction", "Copper", "L1", "Top")`."""
+        self.apply(_line("setattr", name, key, *([",".join(fields)] if fields else [])))
 
     def drop_attribute(self, name: str, key: str) -> None:
         """Drops a file attribute."""
-        self.apply(f"dropattr {name} {key}")
+        self.apply(_line("dropattr", name, key))
 
     def group(self) -> Group:
-        """A group of edits, for a `with` statement."""
+        """A group of edits, for a `with` statement: they are taken back as one."""
         return Group(self)
 
     def undo(self) -> None:
@@ -199,13 +209,20 @@ class Station:
     # ---- questions, which change nothing
 
     def layers(self) -> list[Layer]:
-        """The layers, in the order in which they were loaded."""
-        return [values.layer_of(it) for it in self.ask("layers").decode().splitlines()]
+        """The layers, in the order of their loads."""
+        return [values.layer_of(line) for line in self.ask("layers").splitlines()]
+
+    def layer(self, name: str) -> Layer:
+        """The layer of a name."""
+        found = next((layer for layer in self.layers() if layer.name == name), None)
+        if found is None:
+            raise Refused(_NO_LAYER, call=f"layer {name}")
+        return found
 
     def item_at(self, name: str, x: int, y: int, before: int | None = None) -> int | None:
         """The place of the topmost item at a point, of those before a place if one is given; None if there is none. Asked
         again with `before` set to the answer, it gives the item below."""
-        found = self.ask(f"at {name} {x} {y}" + ("" if before is None else f" {before}"))
+        found = self.ask(_line("at", name, x, y, *([] if before is None else [before])))
         return int(found) if found else None
 
     def items_at(self, name: str, x: int, y: int) -> list[int]:
@@ -219,32 +236,32 @@ class Station:
 
     def items_in(self, name: str, x0: int, y0: int, x1: int, y1: int) -> list[int]:
         """The places of the items whose boxes lie in the box between two points."""
-        return [int(it) for it in self.ask(f"in {name} {x0} {y0} {x1} {y1}").split()]
+        return [int(line) for line in self.ask(_line("in", name, x0, y0, x1, y1)).splitlines()]
 
     def item(self, name: str, place: int) -> Item:
         """The item at a place."""
-        return values.items_of(self.ask(f"item {name} {place}").decode())[0]
+        return values.items_of(self.ask(_line("item", name, place)))[0]
 
-    def items(self, name: str, start: int = 0, count: int = 1_000_000) -> list[Item]:
-        """The items from a place on, so many at most."""
-        return values.items_of(self.ask(f"items {name} {start} {count}").decode())
+    def items(self, name: str, start: int = 0, count: int = LARGEST) -> list[Item]:
+        """The items from a place on, `count` at most."""
+        return values.items_of(self.ask(_line("items", name, start, count)))
 
     def box(self, name: str, place: int | None = None) -> Box | None:
-        """The box of a layer, or of the item at a place; None if nothing is painted."""
-        return values.box_of(self.ask(f"box {name}" if place is None else f"box {name} {place}").decode())
+        """The box of a layer, or of the item at a place; None if it paints nothing."""
+        return values.box_of(self.ask(_line("box", name, *([] if place is None else [place]))))
 
     def entry(self, name: str, place: int) -> Entry:
         """The aperture, block or tool at a place of their order."""
-        return values.entries_of(self.ask(f"entry {name} {place}").decode())[0]
+        return values.entries_of(self.ask(_line("entry", name, place)))[0]
 
     def entries(self, name: str) -> list[Entry]:
         """The apertures and blocks, or the tools, in order."""
-        return values.entries_of(self.ask(f"entries {name}").decode())
+        return values.entries_of(self.ask(_line("entries", name)))
 
     def attributes(self, name: str) -> list[Attribute]:
-        """The file attributes, in order."""
-        return [values.attribute_of(it) for it in self.ask(f"attributes {name}").splitlines()]
+        """The file attributes, in order. A line end in a field, which no standard field has, begins another attribute."""
+        return [values.attribute_of(line) for line in self.ask(_line("attributes", name)).split("\n")[:-1]]
 
     def history(self) -> History:
         """How many edits and groups can be taken back and made again."""
-        return values.history_of(self.ask("history").decode())
+        return values.history_of(self.ask("history"))

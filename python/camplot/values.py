@@ -1,8 +1,14 @@
-"""What the station answers, as values."""
+"""What the station answers of layers, as values."""
 
 from __future__ import annotations
 
-from dataclasses import dataclass, field
+import re
+from dataclasses import dataclass
+from typing import Literal, NamedTuple, cast
+
+from camplot.items import Item
+
+Kind = Literal["gerber", "drill"]
 
 
 @dataclass(frozen=True)
@@ -10,31 +16,13 @@ class Layer:
     """A layer: its name, `gerber` or `drill`, how many items it has, and how many apertures and blocks, or tools."""
 
     name: str
-    kind: str
+    kind: Kind
     items: int
     entries: int
 
 
-@dataclass(frozen=True)
-class Item:
-    """An item, in the words of a line that inserts it. A repeat, which no line inserts, has its objects in `objects`."""
-
-    words: str
-    objects: tuple[str, ...] = ()
-
-    @property
-    def kind(self) -> str:
-        """flash, draw, arc, region, hit, rout or repeat."""
-        return self.words.split(" ", 1)[0]
-
-    @property
-    def is_repeat(self) -> bool:
-        return self.kind == "repeat"
-
-
-@dataclass(frozen=True)
-class Box:
-    """A box with its edges, in nm. Coordinates may lie half-way between two nanometres."""
+class Box(NamedTuple):
+    """A box with its edges, in nm. An edge may lie half-way between two nanometres."""
 
     left: float
     low: float
@@ -43,26 +31,57 @@ class Box:
 
 
 @dataclass(frozen=True)
-class Entry:
-    """An aperture, a block or a tool: its number, and its definition as the canonical text has it; of a block the words of
-    its objects."""
+class Aperture:
+    """An aperture: its number, and its definition in the lines of the canonical text, after that of its macro if it is
+    made of one."""
 
-    kind: str
     number: int
-    definition: str = ""
-    objects: tuple[str, ...] = ()
+    definition: str
+
+    @property
+    def template(self) -> str:
+        """`C` for a circle, `R` for a rectangle, `O` for an obround, else the name of a macro."""
+        return self._parts()[0]
+
+    @property
+    def sizes(self) -> tuple[int, ...]:
+        """Its diameter or its sides in nm, and the diameter of its hole if it has one; none if it is made of a macro."""
+        return tuple(nanometres(it) for it in self._parts()[1:])
+
+    def _parts(self) -> list[str]:
+        last = self.definition.rstrip("\n").rpartition("\n")[2]
+        template, _, sizes = re.sub(r"^%ADD\d+|\*%$", "", last).partition(",")
+        return [template, *(sizes.split("X") if sizes else [])]
+
+
+@dataclass(frozen=True)
+class Block:
+    """A block aperture: its number and its objects."""
+
+    number: int
+    objects: tuple[Item, ...]
+
+
+@dataclass(frozen=True)
+class Tool:
+    """A tool of a drill layer: its number, and its diameter in nm."""
+
+    number: int
+    diameter: int
+
+
+Entry = Aperture | Block | Tool
 
 
 @dataclass(frozen=True)
 class Attribute:
-    """A file attribute: its name, and its fields with a comma before each."""
+    """A file attribute: its name and its fields. Bytes that are no UTF-8 are kept as `surrogateescape` has them."""
 
-    name: bytes
-    fields: bytes = b""
+    name: str
+    fields: tuple[str, ...] = ()
 
 
-@dataclass(frozen=True)
-class History:
+class History(NamedTuple):
     """How many edits and groups can be taken back and made again, and how many edits the open group has, if one is open."""
 
     undo: int
@@ -70,8 +89,7 @@ class History:
     group: int | None = None
 
 
-@dataclass(frozen=True)
-class Window:
+class Window(NamedTuple):
     """What plots show: the lower left corner and the pitch in nm, the sides in pixels."""
 
     x: int
@@ -80,49 +98,53 @@ class Window:
     width: int
     height: int
 
+    @property
+    def tiles(self) -> tuple[int, int]:
+        """How many tiles lie side by side, and how many below one another. They are counted row by row from the top."""
+        return (self.width + 63) // 64, (self.height + 63) // 64
+
+
+def nanometres(text: str) -> int:
+    """A length in mm with six decimals, as canonical texts have it, in nm."""
+    return int(text.replace(".", ""))
+
 
 def layer_of(line: str) -> Layer:
+    """The layer of a line of an answer."""
     name, kind, items, entries = line.split()
-    return Layer(name, kind, int(items), int(entries))
+    return Layer(name, cast(Kind, kind), int(items), int(entries))
 
 
 def items_of(text: str) -> list[Item]:
     """The items of an answer: the objects of a repeat stand below it, after two spaces each."""
-    found: list[tuple[str, list[str]]] = []
-    for line in text.splitlines():
-        if line.startswith("  "):
-            found[-1][1].append(line[2:])
-        else:
-            found.append((line, []))
-    return [Item(words, tuple(objects)) for words, objects in found]
+    return [Item.of(lines) for lines in re.split(r"\n(?! )", text.removesuffix("\n"))] if text else []
 
 
 def box_of(text: str) -> Box | None:
+    """The box of an answer; None if that has no line."""
     return Box(*(float(it) for it in text.split())) if text else None
 
 
 def entries_of(text: str) -> list[Entry]:
     """The entries of an answer: a first line begins with a small letter, and what follows it is the definition."""
-    found: list[tuple[list[str], list[str]]] = []
-    for line in text.splitlines():
-        if line[:1].islower():
-            found.append((line.split(), []))
-        else:
-            found[-1][1].append(line)
-    return [_entry(head, lines) for head, lines in found]
+    return [_entry(*lines.split("\n")) for lines in re.split(r"\n(?=[a-z])", text.removesuffix("\n"))] if text else []
 
 
-def _entry(head: list[str], lines: list[str]) -> Entry:
-    kind, number = head[0], int(head[1])
+def _entry(head: str, *below: str) -> Entry:
+    kind, number = head.split()[0], int(head.split()[1])
     if kind == "block":
-        return Entry(kind, number, objects=tuple(it[2:] for it in lines))
-    return Entry(kind, number, "".join(f"{it}\n" for it in lines))
+        return Block(number, tuple(Item.of(it) for it in below))
+    if kind == "tool":
+        return Tool(number, nanometres(below[0].partition("C")[2]))
+    return Aperture(number, "".join(f"{it}\n" for it in below))
 
 
-def attribute_of(line: bytes) -> Attribute:
-    name, comma, fields = line.partition(b",")
-    return Attribute(name, comma + fields)
+def attribute_of(line: str) -> Attribute:
+    """The attribute of a line of an answer."""
+    name, *fields = line.split(",")
+    return Attribute(name, tuple(fields))
 
 
 def history_of(text: str) -> History:
+    """The counts of an answer."""
     return History(*(int(it) for it in text.split()))
