@@ -21,6 +21,7 @@ def load(path):
         ("open", ctypes.c_uint32, [ctypes.c_uint32, ctypes.POINTER(handle)]),
         ("close", None, [handle]),
         ("apply", ctypes.c_uint32, [handle, room, ctypes.c_size_t, room, ctypes.c_size_t]),
+        ("ask", ctypes.c_uint32, [handle, room, ctypes.c_size_t]),
         ("redraw", ctypes.c_uint32, [handle, ctypes.c_uint32]),
         ("reply", ctypes.c_size_t, [handle, room, ctypes.c_size_t]),
         ("file", ctypes.c_size_t, [handle, room, ctypes.c_size_t]),
@@ -57,6 +58,14 @@ class Station:
         """Applies a line, with the bytes of the file of a load; the number of its refusal, or 0."""
         line = line.encode() if isinstance(line, str) else line
         return self.library.camplot_apply(self.handle, line, len(line), file, 0 if file is None else len(file))
+
+    def ask(self, question):
+        """The lines of the answer to a question; Refused where there is none."""
+        question = question.encode() if isinstance(question, str) else question
+        code = self.library.camplot_ask(self.handle, question, len(question))
+        if code:
+            raise Refused(code)
+        return self.file.decode().splitlines()
 
     def redraw(self, at_most):
         return self.library.camplot_redraw(self.handle, at_most)

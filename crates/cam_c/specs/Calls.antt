@@ -1,13 +1,16 @@
 -- What the calls of a session come to: turns of a run, steps of the station's machine, and copies.
 use Rattle.std.specs.Prelude.{◌≡◌, ℕ, ◌++◌, true, nat_le, if◌then◌else◌, List, [], length, drop, unwrap_or}
 use Rattle.std.specs.Prelude.{Option, None, Some, Ok, Err}
+use Rattle.std.specs.Result.{result_ok}
 use Rattle.cam_script.specs.declared.command.Command.TheVariants.{Redraw}
 use Rattle.cam_station.specs.declared.fault.Fault.{Fault}
+use Rattle.cam_station.specs.declared.reply.Reply.TheVariants.{Done}
 use Rattle.cam_station.specs.TileTables.{tile_at}
 use Rattle.cam_station.specs.Machine.{MemoryGrant, Outcome, fresh, is_depth, station_of, step}
 use Rattle.cam_station.specs.Run.{World, spoken, turn}
 use Rattle.cam_station.specs.Serving.{IsServed}
 use Rattle.cam_tiles.specs.Tables.{Tile}
+use Rattle.cam_ask.specs.Answers.{Answer, IsAsked}
 use Rattle.cam_c.specs.declared.session.Session.{Session}
 
 -- what a call answers for a reply: 0 where nothing is refused, else the number of the refusal
@@ -42,6 +45,20 @@ pub record IsUnopened (depth code : ℕ) : Type 0 where
 pub record IsApplied (s : Session) (line : List ℕ) (file : Option (List ℕ)) (after : Session) (code : ℕ) : Type 0 where
   pub world : World
   pub served : IsServed file (turn s.station line world) after.station after.reply after.file
+  pub code_is : code ≡ code_of after.reply
+
+-- a text was made, or the question was refused
+abbrev pub reply_to : Answer → Outcome
+reply_to (Ok text) = Ok Done
+reply_to (Err why) = Err why
+
+-- The question is answered: the text is kept as the bytes of a file are, and the station stays.
+pub record IsQuestioned (s : Session) (question : List ℕ) (after : Session) (code : ℕ) : Type 0 where
+  pub answer : Answer
+  pub asked : IsAsked s.station question answer
+  pub station : after.station ≡ s.station
+  pub reply : after.reply ≡ Some (reply_to answer)
+  pub file : after.file ≡ result_ok answer
   pub code_is : code ≡ code_of after.reply
 
 -- a redraw is a step of the machine

@@ -1,7 +1,7 @@
 -- What the exports come to, by the pointers that C passes: where one cannot be used nothing is done.
 use Rattle.std.specs.Prelude.{◌≡◌, ℕ, ◌^◌, nat_lt, Bool, true, false, ◌&&◌, if◌then◌else◌, List, length, Option, None, Some}
 use Rattle.cam_c.specs.declared.session.Session.{Session}
-use Rattle.cam_c.specs.Calls.{IsApplied, IsFresh, IsRedrawn, IsTileCopied, IsUnopened, copied}
+use Rattle.cam_c.specs.Calls.{IsApplied, IsFresh, IsQuestioned, IsRedrawn, IsTileCopied, IsUnopened, copied}
 use denote.RawPtr.{Ptr, block_ptr, null_ptr}
 
 -- a pointer is null, or a length is past 2^63 - 1
@@ -39,6 +39,14 @@ AppliedWhere false line xs file ys s after code = Refused s after code
 abbrev pub AppliedBy : Ptr → Ptr → List ℕ → Ptr → List ℕ → Session → Session → ℕ → Type 0
 AppliedBy station line xs file ys s after code =
     AppliedWhere (is_there station && (is_usable line xs && can_hand file ys)) line xs file ys s after code
+
+-- the question is answered, where there is a session and it can be read
+abbrev pub AskedWhere : Bool → List ℕ → Session → Session → ℕ → Type 0
+AskedWhere true xs s after code = IsQuestioned s xs after code
+AskedWhere false xs s after code = Refused s after code
+
+abbrev pub AskedBy : Ptr → Ptr → List ℕ → Session → Session → ℕ → Type 0
+AskedBy station question xs s after code = AskedWhere (is_there station && is_usable question xs) xs s after code
 
 abbrev pub RedrawnBy : Ptr → ℕ → Session → Session → ℕ → Type 0
 RedrawnBy null_ptr at_most s after code = Refused s after code

@@ -6,7 +6,7 @@ ghost use Rattle.std.specs.Ptr.{if_non_null, lies_at, room_at};
 ghost use Rattle.cam_c.specs.declared.session.Session.{Session};
 ghost use Rattle.cam_c.specs.Calls.{file_of, reply_of};
 ghost use Rattle.cam_c.specs.Lent.{held, lent, lent_whole};
-ghost use Rattle.cam_c.specs.Pointers.{AppliedBy, OpenedBy, RedrawnBy, TileCopiedBy, ToldBy};
+ghost use Rattle.cam_c.specs.Pointers.{AppliedBy, AskedBy, OpenedBy, RedrawnBy, TileCopiedBy, ToldBy};
 ghost use base.Fml.{Share};
 ghost use base.Logic.{ex};
 ghost use types.Logic.{sem};
@@ -103,6 +103,33 @@ pub unsafe extern "C" fn camplot_apply(
         words,
         unsafe { std::slice::from_raw_parts(file, file_length) },
     )
+}
+
+/// Answers a question.
+#[unsafe(no_mangle)]
+pub unsafe extern "C" fn camplot_ask(
+    station: *mut Handle,
+    question: *const u8,
+    question_length: usize,
+) -> u32
+    ghost g: { Session × (Share × List ℕ) }
+    requires* { sem 𝓛 (held g.0 station) ∗ sem 𝓛 (lent u8 g.1.0 g.1.1 question)
+        ∗ ⌜ Testable station × Testable question ⌝ ∗ ⌜ length g.1.1 ≡ question_length ⌝ }
+    ensures* { ex 𝓤 (λ (s : Session). sem 𝓛 (held s station) ∗ sem 𝓛 (lent u8 g.1.0 g.1.1 question)
+        ∗ ⌜ AskedBy station question g.1.1 g.0 s result ⌝) }
+{
+    if station.is_null() {
+        return NO_POINTER;
+    }
+    if question.is_null() {
+        return NO_POINTER;
+    }
+    if question_length > LONGEST {
+        return NO_POINTER;
+    }
+    let session = unsafe { &mut *(station as *mut Session) };
+    let words = unsafe { std::slice::from_raw_parts(question, question_length) };
+    session.ask(words)
 }
 
 /// Draws dirty tiles.

@@ -5,6 +5,7 @@ ghost use Rattle.std.specs.Option.{option_copied};
 ghost use Rattle.cam_c.specs.Calls.{
   IsApplied,
   IsFresh,
+  IsQuestioned,
   IsRedrawn,
   IsTileCopied,
   IsUnopened,
@@ -16,6 +17,7 @@ ghost use Rattle.cam_c.specs.Calls.{
 
 use crate::line::line_of;
 use crate::loose::Loose;
+use cam_ask::ask;
 use cam_station::{Bytes, Command, Fault, Reply, Station, apply_line};
 use std::alloc::Global;
 
@@ -109,6 +111,24 @@ impl Session {
         ensures { IsApplied self.old line.now (Some file.now) self.new result }
     {
         self.serve(line, Some(file))
+    }
+
+    /// Answers a question: its text is kept for `copy_file`, and the reply tells whether there is one. 0 where it was
+    /// answered, else the number of the refusal.
+    pub(crate) fn ask(&mut self, question: &[u8]) -> u32
+        ensures { IsQuestioned self.old question.now self.new result }
+    {
+        match ask(self.alloc, &self.station, question) {
+            Ok(text) => {
+                self.reply = Some(Ok(Reply::Done));
+                self.file = Some(text);
+            }
+            Err(why) => {
+                self.reply = Some(Err(why));
+                self.file = None;
+            }
+        }
+        code(&self.reply)
     }
 
     /// Draws at most so many dirty tiles: one step of the station's machine.
