@@ -1,5 +1,5 @@
 -- `camplot_ask` meets its contract: a walk of its MIR by hand.
-use Rattle.cam_c.proofs.Steps.{and_false, big_lit, long, short, short_is, ◌≡◌, ℕ, ◌<◌, ◌*◌, ◌^◌, List, [], ◌∷◌, length, true, false, None, Some, refl, sym, ap, subst, ◌∙◌, lit<, w8, w32, w64, arith, proved, full_share, SProp, ent, sep, ex, emp, id⊢, Share, ftrue, flft, flent, Incl-refl, named, Val, vint, vptr, fact, fact_i, tables, Logic, sem, ‵, raw, ◌⊛◌, some, later, at_ret, ◌$◌, ◌∵◌, !, qed, by, done, move, drop, pick, await, split, split3, fsplit, fjoin, feq_i, use0, use1, use2, use3, join, suffices, group, show, enter, of_opd, lit, bin, addr, agg, stop, no_more, and_then, first, blocks, branches, skips, exec, returns, returns_within, alloc_all, pass_all, free_all, look_at, get, through, sets, sets_last, lands_as, env, u8, u32, usize, yes, uint_Makes, uint_vals, uint_Tells, uint_Lawful, uint_Copied, Ptr, RawPtr, block_ptr, null_ptr, Testable, tests_null, rawptr_vals, rawptr_Tells, rawptr_Lawful, plain, nothing, owned, heard, peeks, on_entry, Stays, walk_of, stay_dropped, Goes-dropped, ends_at, Body, arr_parts, lft_new, lft_end, lent_back, lends_ref, ref_back, lends_shr_slice, mem, shares, part_at, MutRef, ShrSlice, slice_val, calls_at, lasts, triple_of, framed, Is, shows}
+use Rattle.cam_c.proofs.Steps.{big_lit, long, short, short_is, ◌≡◌, ℕ, ◌<◌, ◌*◌, ◌^◌, List, [], ◌∷◌, length, false, refl, sym, subst, lit<, w8, w32, w64, arith, proved, full_share, SProp, ent, sep, ex, emp, id⊢, Share, ftrue, flft, flent, Incl-refl, named, Val, vint, vptr, fact, fact_i, tables, Logic, sem, ‵, raw, ◌⊛◌, some, later, at_ret, ◌$◌, ◌∵◌, !, qed, by, done, move, drop, pick, await, split, split3, fsplit, fjoin, feq_i, use0, use1, use2, use3, join, suffices, group, show, enter, of_opd, lit, bin, addr, agg, stop, no_more, and_then, first, blocks, branches, skips, exec, returns, returns_within, alloc_all, pass_all, free_all, look_at, get, through, sets, sets_last, lands_as, env, u8, u32, usize, yes, uint_Makes, uint_vals, uint_Tells, uint_Lawful, uint_Copied, Ptr, RawPtr, block_ptr, null_ptr, Testable, tests_null, rawptr_vals, rawptr_Tells, rawptr_Lawful, plain, nothing, owned, heard, peeks, on_entry, Stays, walk_of, stay_dropped, Goes-dropped, ends_at, Body, arr_parts, lft_new, lft_end, lent_back, lends_ref, ref_back, lends_shr_slice, mem, shares, part_at, MutRef, ShrSlice, slice_val, calls_at, lasts, triple_of, framed, Is, shows}
 use seplogic.Ra.Ura.{Ura}
 use prog.Model.{Model}
 use contract.Running.{Running, MachineTables}
@@ -8,7 +8,6 @@ use denote.Triple.Clauses.{Lasts}
 use prog.Wired.{Wired}
 use prog.Wp.{WpFn}
 use mathlib.Core.Bool.{Bool, ◌&&◌}
-use lib.Dec.{ltb}
 use Rattle.cam_c.specs.declared.session.Session.{Session}
 use Rattle.cam_c.specs.contracts.session.Session.{the_row as R}
 use Rattle.cam_c.specs.Lent.{held, lent}
