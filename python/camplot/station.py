@@ -36,7 +36,7 @@ class Station:
     """A board of named layers, with a history of up to `depth` edits and groups that can be taken back.
 
     Close it, or use it in a `with` statement. `library` is the path of libcamplot.so, found by itself if not given.
-    One thread at a time may use a station.
+    A station is used by the thread that opened it.
     """
 
     def __init__(self, depth: int = 100, library: str | None = None):
