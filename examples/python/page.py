@@ -1,5 +1,5 @@
 #!/usr/bin/env python3
-"""Loads a board from memory, plots a tile after a move, takes the move back, and compares.
+"""Loads a board from memory, picks the item at a point, plots a tile after a move of it, takes the move back, and compares.
 
     examples/python/page.py LIBRARY     the shared library that docs/library.md links
 """
@@ -8,7 +8,7 @@ import sys
 
 import camplot
 
-BOARD = b"%FSLAX46Y46*%\n%MOMM*%\n%ADD10C,0.5*%\nD10*\nX1000000Y1000000D03*\nM02*\n"
+BOARD = b"%FSLAX46Y46*%\n%MOMM*%\n%ADD10C,0.5*%\nD10*\nX5000000Y5000000D03*\nX1000000Y1000000D03*\nM02*\n"
 
 
 def main():
@@ -20,6 +20,11 @@ def main():
             print(f"{line:32} {station.reply.decode()}", end="")
             assert code == 0, code
 
+        def ask(question):
+            answer = station.ask(question)
+            print(f"{question:32} {', '.join(answer)}")
+            return answer
+
         def tile():
             assert station.redraw(1) == 0
             return station.tile(0, 0)
@@ -28,7 +33,8 @@ def main():
         apply("window 0 0 31250 64 64")
         assert station.tile(0, 0) is None
         before = tile()
-        apply("move top 0 400000 0")
+        place = ask("at top 1000000 1000000")[0]
+        apply(f"move top {place} 400000 0")
         moved = tile()
         apply("undo")
         after = tile()
