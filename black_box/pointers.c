@@ -4,7 +4,7 @@
 #include <stdio.h>
 #include <string.h>
 
-static const uint8_t LOAD[] = "load top gerber a.gbr", LIST[] = "list", REDRAW[] = "redraw 1";
+static const uint8_t LOAD[] = "load top gerber a.gbr", LIST[] = "list", REDRAW[] = "redraw 1", LAYERS[] = "layers";
 static const uint8_t BOARD[] = "%FSLAX46Y46*%%MOMM*%%ADD10C,0.5*%D10*X0Y0D03*M02*";
 static int wrong;
 
@@ -19,6 +19,7 @@ static void without_a_station(void) {
     uint8_t room[8] = "as it is";
     uint64_t rows[64] = {7};
     wants("apply", camplot_apply(NULL, LIST, 4, NULL, 0), CAMPLOT_NO_POINTER);
+    wants("ask", camplot_ask(NULL, LAYERS, 6), CAMPLOT_NO_POINTER);
     wants("redraw", camplot_redraw(NULL, 1), CAMPLOT_NO_POINTER);
     wants("tile", camplot_tile(NULL, 0, 0, rows), CAMPLOT_NO_POINTER);
     wants("reply", camplot_reply(NULL, room, sizeof room), 0);
@@ -35,6 +36,8 @@ static void with_a_station(camplot_station *station) {
     wants("no line", camplot_apply(station, NULL, 4, NULL, 0), CAMPLOT_NO_POINTER);
     wants("a long line", camplot_apply(station, LIST, SIZE_MAX, NULL, 0), CAMPLOT_NO_POINTER);
     wants("a long file", camplot_apply(station, LOAD, sizeof LOAD - 1, BOARD, SIZE_MAX), CAMPLOT_NO_POINTER);
+    wants("no question", camplot_ask(station, NULL, 6), CAMPLOT_NO_POINTER);
+    wants("a long question", camplot_ask(station, LAYERS, SIZE_MAX), CAMPLOT_NO_POINTER);
     wants("no rows", camplot_tile(station, 0, 0, NULL), CAMPLOT_NO_POINTER);
     wants("a small room", camplot_reply(station, room, sizeof room), sizeof "ok 0 0 0");
     wants("its bytes", memcmp(room, "as", sizeof room), 0);

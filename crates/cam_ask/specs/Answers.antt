@@ -4,13 +4,14 @@ use Rattle.std.specs.List.{flat_map}
 use Rattle.cam_edits.specs.Boards.{content_at, place_named}
 use Rattle.cam_edits.specs.Sheets.{Content, Sheet}
 use Rattle.cam_undo.specs.Counted.{counts_at}
+use Rattle.cam_script.specs.Faults.{number_of as line_code}
 use Rattle.cam_script.specs.Questions.{asked}
 use Rattle.cam_script.specs.declared.line.LineFault.{LineFault}
 use Rattle.cam_script.specs.declared.question.Query.{Query}
 use Rattle.cam_script.specs.declared.question.Question.{Question}
 use Rattle.cam_script.specs.declared.question.Question.TheVariants as questions
 use Rattle.cam_station.specs.Machine.{State, fault}
-use Rattle.cam_station.specs.Refusals.{line_code, memory_refused, no_layer}
+use Rattle.cam_station.specs.Refusals.{memory_refused, no_layer}
 use Rattle.cam_station.specs.declared.fault.Fault.{Fault}
 use Rattle.cam_ask.specs.Telling.{IsTold, can_be_asked, has_place}
 use Rattle.cam_ask.specs.Texts.{history_line, layer_line}

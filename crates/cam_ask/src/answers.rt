@@ -6,14 +6,14 @@ ghost use Rattle.cam_edits.specs.Boards.{place_named};
 ghost use Rattle.cam_edits.specs.Sheets.{IsSound, content_of};
 ghost use Rattle.cam_undo.specs.Counted.{counts_at};
 ghost use Rattle.cam_station.specs.Machine.{fault};
-ghost use Rattle.cam_station.specs.Refusals.{line_code, memory_refused};
+ghost use Rattle.cam_station.specs.Refusals.{memory_refused};
 ghost use Rattle.cam_ask.specs.Answers.{IsAnswer, IsAnswerAt, IsAnswerOf, IsAsked, sheet_line};
 ghost use Rattle.cam_ask.specs.Texts.{history_line};
 
 use crate::lines::{push_history, push_layer};
 use crate::telling::{can_be_asked, has_place, told};
 use cam_edits::{Name, SheetContent};
-use cam_script::{Bytes, LineFault, Query, Question, parse_question};
+use cam_script::{Bytes, Query, Question, parse_question};
 use cam_station::{Fault, Station};
 use std::alloc::{AllocError, Global};
 
@@ -28,9 +28,6 @@ const NO_PLACE: u8 = 61;
 
 /// The line is no question.
 const NO_QUESTION: u8 = 80;
-
-/// The line is too long.
-const TOO_LONG: u8 = 81;
 
 /// A refusal.
 fn refused(code: u8) -> Result<Bytes, Fault>
@@ -126,23 +123,12 @@ pub fn answer(alloc: Global, station: &Station, question: &Question) -> Result<B
     }
 }
 
-/// The number of the refusal of a line.
-fn line_code(why: LineFault) -> u8
-    ensures { result ≡ line_code why }
-{
-    match why {
-        LineFault::LineTooLong => TOO_LONG,
-        LineFault::BadLine => NO_QUESTION,
-        LineFault::Memory => NO_MEMORY,
-    }
-}
-
 /// Answers the question that a line says: as [`answer`], and refused where the line is too long (81) or no question (80).
 pub fn ask(alloc: Global, station: &Station, line: &[u8]) -> Result<Bytes, Fault>
     ensures { IsAsked station.now line.now result }
 {
     match parse_question(alloc, line) {
         Ok(question) => answer(alloc, station, &question),
-        Err(why) => refused(line_code(why)),
+        Err(why) => refused(why.number()),
     }
 }

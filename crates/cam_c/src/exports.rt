@@ -1,12 +1,12 @@
 //! The functions that C calls. Each looks at its pointers, and calls a session; `include/camplot.h` says what C promises.
 
-ghost use Rattle.std.specs.Prelude.{◌≡◌, List, length, ℕ};
+ghost use Rattle.std.specs.Prelude.{◌≡◌, List, Option, length, ℕ};
 ghost use Rattle.std.specs.Borrow.{full_share, u8, u64};
 ghost use Rattle.std.specs.Ptr.{if_non_null, lies_at, room_at};
 ghost use Rattle.cam_c.specs.declared.session.Session.{Session};
 ghost use Rattle.cam_c.specs.Calls.{file_of, reply_of};
-ghost use Rattle.cam_c.specs.Lent.{held, lent, lent_whole};
-ghost use Rattle.cam_c.specs.Pointers.{AppliedBy, OpenedBy, RedrawnBy, TileCopiedBy, ToldBy};
+ghost use Rattle.cam_c.specs.Lent.{held, lent, lent_room};
+ghost use Rattle.cam_c.specs.Pointers.{AppliedBy, AskedBy, OpenedBy, RedrawnBy, TileCopiedBy, ToldBy};
 ghost use base.Fml.{Share};
 ghost use base.Logic.{ex};
 ghost use types.Logic.{sem};
@@ -15,6 +15,7 @@ ghost use denote.RawPtr.{Ptr, Testable};
 
 use crate::loose::Loose;
 use crate::session::{Session, begin, end};
+use core::slots::Slots;
 use std::alloc::Global;
 use std::ptr::null_mut;
 
@@ -105,6 +106,33 @@ pub unsafe extern "C" fn camplot_apply(
     )
 }
 
+/// Answers a question.
+#[unsafe(no_mangle)]
+pub unsafe extern "C" fn camplot_ask(
+    station: *mut Handle,
+    question: *const u8,
+    question_length: usize,
+) -> u32
+    ghost g: { Session × (Share × List ℕ) }
+    requires* { sem 𝓛 (held g.0 station) ∗ sem 𝓛 (lent u8 g.1.0 g.1.1 question)
+        ∗ ⌜ Testable station × Testable question ⌝ ∗ ⌜ length g.1.1 ≡ question_length ⌝ }
+    ensures* { ex 𝓤 (λ (s : Session). sem 𝓛 (held s station) ∗ sem 𝓛 (lent u8 g.1.0 g.1.1 question)
+        ∗ ⌜ AskedBy station question g.1.1 g.0 s result ⌝) }
+{
+    if station.is_null() {
+        return NO_POINTER;
+    }
+    if question.is_null() {
+        return NO_POINTER;
+    }
+    if question_length > LONGEST {
+        return NO_POINTER;
+    }
+    let session = unsafe { &mut *(station as *mut Session) };
+    let words = unsafe { std::slice::from_raw_parts(question, question_length) };
+    session.ask(words)
+}
+
 /// Draws dirty tiles.
 #[unsafe(no_mangle)]
 pub unsafe extern "C" fn camplot_redraw(station: *mut Handle, at_most: u32) -> u32
@@ -125,10 +153,10 @@ pub unsafe extern "C" fn camplot_reply(
     room: *mut u8,
     capacity: usize,
 ) -> usize
-    ghost g: { Session × List ℕ }
-    requires* { sem 𝓛 (held g.0 station) ∗ sem 𝓛 (lent_whole u8 g.1 room)
+    ghost g: { Session × List (Option ℕ) }
+    requires* { sem 𝓛 (held g.0 station) ∗ sem 𝓛 (lent_room u8 g.1 room)
         ∗ ⌜ Testable station × Testable room ⌝ ∗ ⌜ length g.1 ≡ capacity ⌝ }
-    ensures* { ex 𝓤 (λ (xs : List ℕ). sem 𝓛 (held g.0 station) ∗ sem 𝓛 (lent_whole u8 xs room)
+    ensures* { ex 𝓤 (λ (xs : List (Option ℕ)). sem 𝓛 (held g.0 station) ∗ sem 𝓛 (lent_room u8 xs room)
         ∗ ⌜ ToldBy station room (reply_of g.0) g.1 xs result ⌝) }
 {
     if station.is_null() {
@@ -141,16 +169,18 @@ pub unsafe extern "C" fn camplot_reply(
     if capacity > LONGEST {
         return session.reply_length();
     }
-    session.copy_reply(unsafe { std::slice::from_raw_parts_mut(room, capacity) })
+    let (room, count) = session.copy_reply(unsafe { Slots::from_raw_parts(room, capacity) });
+    let _ = unsafe { room.into_raw_parts() };
+    count
 }
 
 /// Copies the bytes that the last line had for a file, and tells how many they are.
 #[unsafe(no_mangle)]
 pub unsafe extern "C" fn camplot_file(station: *mut Handle, room: *mut u8, capacity: usize) -> usize
-    ghost g: { Session × List ℕ }
-    requires* { sem 𝓛 (held g.0 station) ∗ sem 𝓛 (lent_whole u8 g.1 room)
+    ghost g: { Session × List (Option ℕ) }
+    requires* { sem 𝓛 (held g.0 station) ∗ sem 𝓛 (lent_room u8 g.1 room)
         ∗ ⌜ Testable station × Testable room ⌝ ∗ ⌜ length g.1 ≡ capacity ⌝ }
-    ensures* { ex 𝓤 (λ (xs : List ℕ). sem 𝓛 (held g.0 station) ∗ sem 𝓛 (lent_whole u8 xs room)
+    ensures* { ex 𝓤 (λ (xs : List (Option ℕ)). sem 𝓛 (held g.0 station) ∗ sem 𝓛 (lent_room u8 xs room)
         ∗ ⌜ ToldBy station room (file_of g.0) g.1 xs result ⌝) }
 {
     if station.is_null() {
@@ -163,7 +193,9 @@ pub unsafe extern "C" fn camplot_file(station: *mut Handle, room: *mut u8, capac
     if capacity > LONGEST {
         return session.file_length();
     }
-    session.copy_file(unsafe { std::slice::from_raw_parts_mut(room, capacity) })
+    let (room, count) = session.copy_file(unsafe { Slots::from_raw_parts(room, capacity) });
+    let _ = unsafe { room.into_raw_parts() };
+    count
 }
 
 /// Copies the rows of a clean tile.
@@ -174,10 +206,10 @@ pub unsafe extern "C" fn camplot_tile(
     tile: u32,
     rows: *mut u64,
 ) -> u32
-    ghost g: { Session × List ℕ }
-    requires* { sem 𝓛 (held g.0 station) ∗ sem 𝓛 (lent_whole u64 g.1 rows)
+    ghost g: { Session × List (Option ℕ) }
+    requires* { sem 𝓛 (held g.0 station) ∗ sem 𝓛 (lent_room u64 g.1 rows)
         ∗ ⌜ Testable station × Testable rows ⌝ ∗ ⌜ length g.1 ≡ 64 ⌝ }
-    ensures* { ex 𝓤 (λ (xs : List ℕ). sem 𝓛 (held g.0 station) ∗ sem 𝓛 (lent_whole u64 xs rows)
+    ensures* { ex 𝓤 (λ (xs : List (Option ℕ)). sem 𝓛 (held g.0 station) ∗ sem 𝓛 (lent_room u64 xs rows)
         ∗ ⌜ TileCopiedBy station rows g.0 layer tile g.1 xs result ⌝) }
 {
     if station.is_null() {
@@ -187,9 +219,7 @@ pub unsafe extern "C" fn camplot_tile(
         return NO_POINTER;
     }
     let session = unsafe { &mut *(station as *mut Session) };
-    session.copy_tile(
-        layer,
-        tile,
-        unsafe { std::slice::from_raw_parts_mut(rows, 64) },
-    )
+    let (rows, code) = session.copy_tile(layer, tile, unsafe { Slots::from_raw_parts(rows, 64) });
+    let _ = unsafe { rows.into_raw_parts() };
+    code
 }

@@ -2,21 +2,25 @@
 
 ghost use Rattle.std.specs.Prelude.{◌≡◌, IfErr, IfOk, None, Option, Some, length, ℕ};
 ghost use Rattle.std.specs.Option.{option_copied};
+ghost use Rattle.core.specs.Mem.Slots.{slots_len};
 ghost use Rattle.cam_c.specs.Calls.{
   IsApplied,
+  IsCopied,
   IsFresh,
+  IsQuestioned,
   IsRedrawn,
   IsTileCopied,
   IsUnopened,
   code_of,
-  copied,
   file_of,
   reply_of,
 };
 
 use crate::line::line_of;
 use crate::loose::Loose;
+use cam_ask::ask;
 use cam_station::{Bytes, Command, Fault, Reply, Station, apply_line};
+use core::slots::Slots;
 use std::alloc::Global;
 
 /// No memory.
@@ -44,16 +48,16 @@ fn code(reply: &Option<Result<Reply, Fault>>) -> u32
     }
 }
 
-/// Copies a text into a room that holds it, and tells its length; a smaller room stays as it is.
-fn copy(text: &[u8], room: &mut [u8]) -> usize
-    ensures length { result ≡ length text.now }
-    ensures room { room.new ≡ copied text.now room.old }
+/// Copies values into a room that holds them, and tells how many they are; a smaller room stays as it is.
+fn copy<T: Copy>(text: &[T], mut room: Slots<T>) -> (Slots<T>, usize)
+    ensures length { result.1 ≡ length text.now }
+    ensures room { IsCopied text.now room result.0 }
 {
     let count = text.len();
     if count <= room.len() {
-        room[..count].copy_from_slice(text);
+        room.copy_in(0, text);
     }
-    count
+    (room, count)
 }
 
 /// An empty station that can take back `depth` edits and groups, from 1 to 1,000; 50 at any other depth, and 30 where
@@ -111,6 +115,24 @@ impl Session {
         self.serve(line, Some(file))
     }
 
+    /// Answers a question: its text is kept for `copy_file`, and the reply tells whether there is one. 0 where it was
+    /// answered, else the number of the refusal.
+    pub(crate) fn ask(&mut self, question: &[u8]) -> u32
+        ensures { IsQuestioned self.old question.now self.new result }
+    {
+        match ask(self.alloc, &self.station, question) {
+            Ok(text) => {
+                self.reply = Some(Ok(Reply::Done));
+                self.file = Some(text);
+            }
+            Err(why) => {
+                self.reply = Some(Err(why));
+                self.file = None;
+            }
+        }
+        code(&self.reply)
+    }
+
     /// Draws at most so many dirty tiles: one step of the station's machine.
     pub(crate) fn redraw(&mut self, at_most: u32) -> u32
         ensures { IsRedrawn self.old at_most self.new result }
@@ -126,18 +148,21 @@ impl Session {
         ensures length { result ≡ length (reply_of self.old) }
         ensures kept { self.new ≡ self.old }
     {
-        self.copy_reply(&mut [])
+        match &self.reply {
+            Some(reply) => line_of(reply).as_slice().len(),
+            None => 0,
+        }
     }
 
     /// Copies the reply's line into a room that holds it, and tells its length.
-    pub(crate) fn copy_reply(&mut self, room: &mut [u8]) -> usize
-        ensures length { result ≡ length (reply_of self.old) }
-        ensures room { room.new ≡ copied (reply_of self.old) room.old }
+    pub(crate) fn copy_reply(&mut self, room: Slots<u8>) -> (Slots<u8>, usize)
+        ensures length { result.1 ≡ length (reply_of self.old) }
+        ensures room { IsCopied (reply_of self.old) room result.0 }
         ensures kept { self.new ≡ self.old }
     {
         match &self.reply {
             Some(reply) => copy(line_of(reply).as_slice(), room),
-            None => 0,
+            None => copy(&[], room),
         }
     }
 
@@ -153,30 +178,31 @@ impl Session {
     }
 
     /// Copies the bytes that the last line had for a file into a room that holds them, and tells how many they are.
-    pub(crate) fn copy_file(&mut self, room: &mut [u8]) -> usize
-        ensures length { result ≡ length (file_of self.old) }
-        ensures room { room.new ≡ copied (file_of self.old) room.old }
+    pub(crate) fn copy_file(&mut self, room: Slots<u8>) -> (Slots<u8>, usize)
+        ensures length { result.1 ≡ length (file_of self.old) }
+        ensures room { IsCopied (file_of self.old) room result.0 }
         ensures kept { self.new ≡ self.old }
     {
         match &self.file {
             Some(file) => copy(file.as_slice(), room),
-            None => 0,
+            None => copy(&[], room),
         }
     }
 
     /// Copies the rows of a clean tile of the layer that was loaded as number `layer`; 91 where the tile is dirty, or not
     /// there.
-    pub(crate) fn copy_tile(&mut self, layer: u32, tile: u32, rows: &mut [u64]) -> u32
-        requires { length rows.old ≡ 64 }
-        ensures tile { IsTileCopied self.old layer tile rows.old rows.new result }
+    #[tactic(auto, using(crate::proofs::Rooms::filling))]
+    pub(crate) fn copy_tile(&mut self, layer: u32, tile: u32, rows: Slots<u64>) -> (Slots<u64>, u32)
+        requires { slots_len rows ≡ 64 }
+        ensures tile { IsTileCopied self.old layer tile rows result.0 result.1 }
         ensures kept { self.new ≡ self.old }
     {
         match self.station.tile(layer as usize, tile) {
             Some(kept) => {
-                rows.copy_from_slice(kept);
-                0
+                let (rows, _) = copy(kept, rows);
+                (rows, 0)
             }
-            None => NOT_CLEAN,
+            None => (rows, NOT_CLEAN),
         }
     }
 }
