@@ -180,7 +180,8 @@ def item_lines(station, name, items):
 def put_back(library, label, kind, source, most=200):
     """Takes items of a layer out and inserts them again by their words, a text after each, and counts them."""
     with camplot.Station(library) as station:
-        accepted(station, f"load a {kind} file", source)
+        if station.apply(f"load a {kind} file", source):
+            return 0  # (an example of what the readers refuse)
         before = text_of(station, "a")
         items = int(station.ask("layers")[0].split(" ")[2])
         lines = item_lines(station, "a", items)
