@@ -133,6 +133,7 @@ function nameActions() {
 function heard(message) {
   if (message.kind === "picture") view.put(message);
   else if (message.kind === "drawn") view.drawn(message);
+  else if (message.kind === "changed") view.undrawn();
   else if (message.kind === "undrawn") tell(message.why ?? `${message.name} cannot be drawn: refused ${message.code}`, true);
   else if (message.kind === "stopped") {
     tell("The station stopped. What you did is kept in the browser: close the page and open it again.", true);

@@ -40,8 +40,19 @@ async function nextBelow(x, y, below) {
   return null;
 }
 
+// One pick after another: a click goes on below what the one before it found, however quickly it follows.
+let last = Promise.resolve();
+
+function inTurn(run) {
+  const going = last.then(run);
+  last = going.catch(() => {});
+  return going;
+}
+
 // A click at a point, in nm; `reach` is how far the pointer may be off for the same place.
-export async function pickAt(x, y, reach, isAdded = false) {
+export const pickAt = (x, y, reach, isAdded = false) => inTurn(() => pickNow(x, y, reach, isAdded));
+
+async function pickNow(x, y, reach, isAdded) {
   const isAgain = click && !isAdded && Math.hypot(click.x - x, click.y - y) <= reach && click.found
     && state.picked.length === 1 && isSame(state.picked[0], click.found);
   let found = await nextBelow(x, y, isAgain ? click.found : null);
@@ -60,7 +71,9 @@ export async function pickAt(x, y, reach, isAdded = false) {
 // gesture may change.
 const GREATEST = 5000;
 
-export async function pickIn(box, isAdded = false) {
+export const pickIn = (box, isAdded = false) => inTurn(() => pickInNow(box, isAdded));
+
+async function pickInNow(box, isAdded) {
   const layers = shownLayers();
   const answers = await questions(layers.map(({ name }) => `in ${name} ${box.left} ${box.low} ${box.right} ${box.high}`));
   const places = answers.flatMap((lines, at) => (lines ?? []).map((line) => ({ name: layers[at].name, place: Number(line) })));

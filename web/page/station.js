@@ -39,7 +39,12 @@ export function send(kind, message = {}, over = []) {
 export const openStation = (module, depth) => send("open", { module, depth });
 
 // One line of a script: { code, reply, bytes }. The bytes of a load stay the page's: they go over as a copy.
-export const sendLine = (line, file = null) => send("line", { line, file });
+// What an accepted one changed is still to be drawn.
+export async function sendLine(line, file = null) {
+  const answer = await send("line", { line, file });
+  if (answer.code === 0) listener({ kind: "changed" });
+  return answer;
+}
 
 export const showView = (view) => send("view", { view });
 

@@ -138,6 +138,11 @@ export class View {
     this.paint();
   }
 
+  // Something changed, which the worker draws by itself where it has a view.
+  undrawn() {
+    if (this.number > 0) this.isWhole = false;
+  }
+
   drawn({ number }) {
     if (number !== this.number) return;
     this.isWhole = true;

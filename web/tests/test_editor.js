@@ -85,6 +85,9 @@ suite("picking", () => {
     await browser.wait("camplot.state.picked[0]?.place === 1");
     await clickAt(browser, 2500000, 0);
     await browser.wait("camplot.state.picked.length === 0");
+    // Two clicks at once go down twice.
+    await browser.ask("camplot.pickAt(50000, 0, 1000); camplot.pickAt(50000, 0, 1000)");
+    assert.deepEqual(await picked(browser), ["top 0 flash 10 0 0 r0 dark"]);
   });
 
   test("a pad of a board", async () => {

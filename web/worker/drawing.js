@@ -33,6 +33,8 @@ export class Drawing {
     this.took = new Map();
     this.waiting = [];
     this.part = null;
+    // Whether the page has still to be told that all is drawn.
+    this.isOwed = false;
   }
 
   apply(line) {
@@ -64,11 +66,12 @@ export class Drawing {
   refresh() {
     this.part = null;
     this.waiting = this.view ? this.view.layers.slice() : [];
+    this.isOwed = this.view !== null;
   }
 
   // Draws the next layer, or a part of it; answers whether more is to be done.
   step() {
-    if (!this.waiting.length) return false;
+    if (!this.waiting.length) return this.end();
     const isNew = this.current !== this.view.window;
     this.use(this.view.window);
     if (this.current !== this.view.window) return this.stop("The view cannot be set.");
@@ -77,13 +80,19 @@ export class Drawing {
     if (layer.isOpened) this.drawOpened(layer);
     else if (this.part || this.isHeavy(layer)) this.drawPart(layer);
     else this.drawWhole(layer);
-    if (this.waiting.length) return true;
-    this.post({ kind: "drawn", number: this.view.number });
+    return this.waiting.length > 0 || this.end();
+  }
+
+  // All is drawn, which the page is told once.
+  end() {
+    if (this.isOwed) this.post({ kind: "drawn", number: this.view.number });
+    this.isOwed = false;
     return false;
   }
 
   stop(why) {
     this.waiting = [];
+    this.isOwed = false;
     this.post({ kind: "undrawn", why });
     return false;
   }
