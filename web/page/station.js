@@ -57,7 +57,7 @@ export const compareTwo = (pair, names) => send("compareTwo", { pair, names });
 
 // The lines of the answers to several questions; null where one was refused.
 export async function questions(asked) {
-  const { answers } = await send("ask", { asked });
+  const { answers } = await send("ask", { questions: asked });
   return answers.map(({ code, answer }) => code ? null : answer.split("\n").filter((line) => line));
 }
 

@@ -6,7 +6,7 @@
 
 import { gzipSync } from "node:zlib";
 import { mkdtempSync, readFileSync, rmSync, statSync, writeFileSync } from "node:fs";
-import { basename, dirname, join } from "node:path";
+import { basename, dirname, join, resolve } from "node:path";
 import { execFileSync, spawnSync } from "node:child_process";
 import { fileURLToPath } from "node:url";
 import { tmpdir } from "node:os";
@@ -14,7 +14,8 @@ import { Browser } from "./browser.js";
 import { inlined } from "../building/inline.js";
 
 const web = dirname(dirname(fileURLToPath(import.meta.url)));
-const [program, module = join(web, "out", "station.wasm"), ...files] = process.argv.slice(2);
+const [given, module = join(web, "out", "station.wasm"), ...files] = process.argv.slice(2);
+const program = resolve(given);
 const folder = mkdtempSync(join(tmpdir(), "camplot-measure-"));
 process.on("exit", () => rmSync(folder, { recursive: true, force: true }));
 

@@ -3,13 +3,13 @@
 
 import { Drawing } from "./drawing.js";
 import { Opened } from "./opened.js";
-import { questionsTo } from "./asking.js";
+import { asked } from "./asking.js";
 import { Station } from "./station.js";
 
 const text = new TextEncoder();
 const words = new TextDecoder();
 
-let station = null, drawing = null, questions = null;
+let station = null, drawing = null;
 let layers = new Map();
 
 const post = (message, over = []) => self.postMessage(message, over);
@@ -37,8 +37,7 @@ async function open({ module, depth }) {
   station = new Station(compiled, depth);
   layers = new Map();
   drawing = new Drawing(station, layers, post);
-  questions = questionsTo(station, layers);
-  return { asks: station.asks };
+  return {};
 }
 
 const LOOKING = new Set(["plot", "redraw"]);
@@ -54,7 +53,6 @@ function line({ line: given, file }) {
   if (code === 0 && command === "window") drawing.windowed(given);
   if (code === 0 && command === "load") layers.set(rest[0], { kind: rest[1], items: Number(reply.split(" ")[1]) });
   if (code === 0) {
-    questions.forget(command, rest[0]);
     drawing.refresh();
     goOn();
   }
@@ -64,7 +62,7 @@ function line({ line: given, file }) {
 const kinds = {
   open,
   line,
-  ask: ({ asked }) => ({ answers: asked.map((question) => questions.ask(question)) }),
+  ask: ({ questions }) => ({ answers: questions.map((question) => asked(station, question)) }),
   view: ({ view }) => {
     drawing.show(view);
     goOn();

@@ -26,10 +26,6 @@ export class Station {
     return new Uint8Array(this.exports.memory.buffer);
   }
 
-  get asks() {
-    return this.exports.camplot_ask !== undefined;
-  }
-
   take(count) {
     const room = this.exports.heap_alloc(BigInt(count));
     if (room === 0n) throw new RangeError("no memory");
