@@ -87,12 +87,12 @@ suite("conversions by choice", () => {
     }, 100));
   })()`);
 
-  test("a drill file that does not tell its unit", async () => {
+  test("a drill file without a unit", async () => {
     const browser = await openPage();
     const { opened } = await give(browser, [{ name: "a.drl",
       bytes: bytesOf("M48\nT01C0.800\n%\nT01\nX010000Y020000\nM30\n") }]);
     assert.deepEqual(opened, []);
-    assert.match(await text(browser, "refused"), /cannot be converted as it stands: .*the unit is not told/);
+    assert.match(await text(browser, "refused"), /cannot be converted as it stands: .*the unit is not given/);
     // Unit, digits, zeros, diameters.
     assert.match(await choose(browser, { 0: "mm", 1: "3:3", 2: "leading", 3: "1=0.9mm" }), /digits: 3:3.*1 read, 1 written/);
     await browser.ask("document.querySelector('#question-choices button').click()");
