@@ -21,8 +21,8 @@
  *
  * The library keeps no pointer of the caller's after a call, and has no state but its stations. Each function checks
  * for null: if a pointer is null that may not be, nothing is done. camplot_open, camplot_apply, camplot_ask,
- * camplot_redraw and camplot_tile then answer 90, and so do camplot_apply and camplot_ask if a length is past 2^63 -
- * 1. camplot_reply and camplot_file answer no number of a refusal: 0 for a station that is null, and otherwise the
+ * camplot_redraw and camplot_tile then answer 90, and so do camplot_apply and camplot_ask if a length is past
+ * 2^63 - 1. camplot_reply and camplot_file answer no number of a refusal: 0 for a station that is null, and otherwise the
  * length, whatever the room is. That closing a station frees all of its memory is the one promise here that is tested
  * and not proved. */
 #ifndef CAMPLOT_H
