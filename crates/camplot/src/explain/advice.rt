@@ -109,16 +109,16 @@ fn remedy_of_form(code: u8) -> &'static str {
     match code {
         1 => "load drill files as `drill`; tools/to_gerber and tools/to_xnc drop stray bytes",
         2 => "the file was cut short or is no Gerber file: plot or fetch it again",
-        3 => "tools/to_gerber writes many old forms anew; docs/refusals.md lists the others",
+        3 => "tools/to_gerber converts many old forms; docs/refusals.md lists the others",
         4 => "look at the digits, sign and point of the number, and at the range it may have",
         5 => "plot as RS-274X, extended Gerber or X2, which write %FS..*% at the front",
         6 => "write the unit before it; tools/to_gerber --unit and tools/to_xnc do that",
         7 => "format or unit take two values: these are two files in one, load each by itself",
-        8 => "plot absolute, leading zeros left out (%FSLA); tools/to_gerber writes others anew",
-        9 => "export with embedded apertures (RS-274X): an %ADD has to stand before its Dn",
+        8 => "plot absolute, leading zeros left out (%FSLA); tools/to_gerber converts others",
+        9 => "export with embedded apertures (RS-274X): an %ADD must stand before its Dn",
         10 => "the number or name is in use: these are two files in one, load each by itself",
         11 => "use round, rectangular, oval or rounded pads, or plot the pad as a region",
-        12 => "plot such pads as regions; tools/to_gerber writes 22 anew, the others by --nearest",
+        12 => "plot such pads as regions; tools/to_gerber converts 22, and others by --nearest",
         13 => "in KiCad tick `Disable aperture macros`; other files: tools/to_gerber --nearest",
         _ => "plot without scaling of apertures, or use tools/to_gerber --nearest",
     }
@@ -128,16 +128,16 @@ fn remedy_of_image(code: u8) -> &'static str {
     match code {
         15 => "select an aperture by Dn before the first draw or flash",
         16 => "fill areas by regions, and draw arcs with a round pen without a hole",
-        17 => "write G75* at the front, or let tools/to_gerber write the arcs of G74 anew",
+        17 => "write G75* at the front; tools/to_gerber converts the arcs of G74",
         18 => "write G01* before lines, or choose a format of more decimals for small arcs",
-        19 => "flash behind the region's G37*",
+        19 => "flash after the region's G37*",
         20 => "a G36* is missing before it: plot the file again",
         21 => "take the repeat out of the block, and repeat its flash",
         22 => "close the block by %AB*%, or the region by G37*, before it",
         23 => "see that format and unit fit the coordinates, or set the origin near the board",
         24 => "look at the unit, then for what has no size, or one past 200 mm",
         25 => "fill areas by regions in place of lines; give repeats fewer copies",
-        26 => "the file was cut short: plot it again, or where it is whole add the line M02*",
+        26 => "the file was cut short: plot it again, or if it is whole add the line M02*",
         28 => "plot positive and absolute, with no offset, mirror, rotation or scale",
         _ => "compare the macro's text with the parameters that %ADD gives it",
     }
@@ -145,8 +145,8 @@ fn remedy_of_image(code: u8) -> &'static str {
 
 fn remedy_of_drill_file(code: u8) -> &'static str {
     match code {
-        40 => "load Gerber files as `gerber`; tools/to_xnc writes a header where one is missing",
-        41 => "tools/to_xnc writes many other forms anew; docs/refusals.md lists them",
+        40 => "load Gerber files as `gerber`; tools/to_xnc writes a header if one is missing",
+        41 => "tools/to_xnc converts many other forms; docs/refusals.md lists them",
         42 => "the header lacks this tool: write it there as TnCd, or export again",
         43 => "the header has this number twice (T01 is T1): write the file again",
         44 => "select a tool by Tn before the first hit or slot",
@@ -159,8 +159,8 @@ fn remedy_of_drill_file(code: u8) -> &'static str {
 
 fn remedy_of_edit(code: u8) -> &'static str {
     match code {
-        60 => "look for the reply of its load above; names are told apart by case",
-        61 => "places count from 0; `list NAME` tells how many items there are",
+        60 => "look for the reply to its load above; upper and lower case differ in names",
+        61 => "places count from 0; `list NAME` prints how many items there are",
         62 => "the %ADD and %AB of the layer's text, as `write` shows it, are what it has",
         63 => "take a circle, for a draw also a rectangle, or flash the shape",
         64 => "delete the item, and insert another",
@@ -174,10 +174,10 @@ fn remedy_of_edit(code: u8) -> &'static str {
 
 fn remedy_of_line(code: u8) -> &'static str {
     match code {
-        70 => "edit behind the last load; --depth N keeps up to 1000 edits and groups",
-        71 => "redo right behind the undo; else give the edit once more",
+        70 => "edit after the last load; --depth N keeps up to 1000 edits and groups",
+        71 => "redo right after the undo, or else give the edit again",
         72 => "`end` or `abort` first",
-        73 => "look for the reply of its `begin` above",
+        73 => "look for the reply to its `begin` above",
         74 => "the %TF lines of the layer's text, as `write` shows it, are what it has",
         75 => "keys hold no blanks, comma, % and *, and fields no blanks, % and *",
         80 => "camplot --help has the words of each command; docs/formats.md has all of them",
@@ -186,6 +186,6 @@ fn remedy_of_line(code: u8) -> &'static str {
         83 => "take another name: a layer stays until the run ends",
         84 => "give a `window` first, and look for its reply",
         85 => "a run has at most 32 layers: load the others in a run of their own",
-        _ => "docs/refusals.md says what to do",
+        _ => "see docs/refusals.md",
     }
 }
