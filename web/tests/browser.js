@@ -132,7 +132,7 @@ export class Browser {
     return reply.result.value;
   }
 
-  async wait(expression, seconds = 30) {
+  async wait(expression, seconds = 120) {
     const until = Date.now() + 1000 * seconds;
     while (!await this.ask(expression)) {
       if (Date.now() > until) throw new Error(`not in ${seconds} seconds: ${expression}; ${this.complaints().join("; ")}`);
