@@ -248,6 +248,11 @@ REFUSALS: dict[int, tuple[str, str]] = {
         "A side outside 1 to 32,768 pixels, a pitch outside 1 nm to 100 mm, or a pixel's centre 1 m or more "
         'from (0, 0). All lengths are in nm: 50 µm is 50000.',
     ),
+    51: (
+        'still dirty',
+        'To a caller of the library alone, by its crate cam_tiles: some tile of the picture is still to be '
+        'drawn. Redraw first.',
+    ),
     60: (
         'no layer',
         'No layer has this name. Look for the reply of its load above; upper and lower case differ.',

@@ -14,9 +14,9 @@ import camplot
 from camplot.refusals import DRILL, REFUSALS
 from support import CASES, ONE_FLASH, TOP, WithStation, needs_library
 
-# What no line is refused with here: 30 is of a machine without memory, and 75, 90 and 91 are told to a caller of the
+# What no line is refused with here: 30 is of a machine without memory, and 51, 75, 90 and 91 are told to a caller of the
 # library alone.
-NOT_HERE = {30, 75, 90, 91}
+NOT_HERE = {30, 51, 75, 90, 91}
 # Cases of files that the program cannot write: the package writes none.
 WRITING = {"checks_before_files", "failed_plot_keeps_its_tiles"}
 # Files beside a script that these cases do not have.

@@ -42,7 +42,7 @@ fn changed(station: &mut Station, alloc: Global, change: Change) -> Result<u8, A
     };
     match station.apply(Command::from(edit)) {
         Ok(_) => Ok(0),
-        Err(fault) => Ok(fault.code),
+        Err(fault) => Ok(fault.code.number()),
     }
 }
 

@@ -6,6 +6,7 @@ use Rattle.std.proofs.lemmas.Int.{ints}
 use Rattle.std.proofs.lemmas.Bool.{leb-true, ltb-true, ltb-false, eqb-true, and_parts}
 use Rattle.std.proofs.lemmas.List.{length-take-le}
 use Rattle.std.proofs.lemmas.List.Elements.{All-nil, All-cons, All-append}
+use Rattle.cam_refusals.specs.Limits.{size_limit}
 use Rattle.cam_units.specs.declared.length.Nm.{Nm}
 use Rattle.cam_units.specs.declared.length.Unit.{Unit as FileUnit}
 use Rattle.cam_units.specs.declared.point.Point.{Point}
@@ -49,14 +50,14 @@ abbrev IsSized : Nm → Type 0
 IsSized n = IsSize n.0
 
 abbrev IsCoordinate : Nm → Type 0
-IsCoordinate n = unsigned_abs n.0 ≤ 200000000
+IsCoordinate n = unsigned_abs n.0 ≤ size_limit
 
 sized : (z : ℤ) → IfAnswer IsSized (size z)
-sized (pos k) = tested IsSized (leb k 200000000) (record { 0 = pos k }) _ (λ t. (omega (arith, ints), omega (arith, ints, leb-true k 200000000 t)))
+sized (pos k) = tested IsSized (leb k size_limit) (record { 0 = pos k }) _ (λ t. (omega (arith, ints), omega (arith, ints, leb-true k size_limit t)))
 sized (negsuc k) = tt
 
 coordinated : (z : ℤ) → IfAnswer IsCoordinate (coordinate z)
-coordinated z = tested IsCoordinate (leb (unsigned_abs z) 200000000) (record { 0 = z }) _ (λ t. leb-true (unsigned_abs z) 200000000 t)
+coordinated z = tested IsCoordinate (leb (unsigned_abs z) size_limit) (record { 0 = z }) _ (λ t. leb-true (unsigned_abs z) size_limit t)
 
 pointed : (unit : FileUnit) (t : Turn) (x y : ℤ) → IfAnswer IsMacroPoint (point_of unit t x y)
 pointed unit t x y =

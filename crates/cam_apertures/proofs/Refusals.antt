@@ -3,6 +3,10 @@ use Rattle.std.proofs.Common.{◌≡◌, ℕ, ◌+◌, ◌≤◌, ℤ, Bool, tru
 use Rattle.std.specs.Prelude.{codes, is_none, not, unwrap_or, IfErr, IfOk}
 use Rattle.std.specs.Str.{bytes_eq}
 use Rattle.std.proofs.lemmas.Bool.{false≢true}
+use Rattle.cam_refusals.specs.declared.refusal.Refusal.{Refusal}
+use Rattle.cam_refusals.specs.declared.refusal.Refusal.TheVariants as refusal
+use Rattle.cam_refusals.specs.Checks.{Checks, Holds, IsLeast, NoneHolds}
+use Rattle.cam_refusals.specs.Refusals.{number_of}
 use Rattle.cam_units.specs.declared.length.Unit.{Unit as FileUnit}
 use Rattle.cam_words.specs.Heads.{packed}
 use Rattle.cam_macros.specs.declared.aperture_macro.Macro.{Macro}
@@ -14,24 +18,24 @@ use Rattle.cam_apertures.specs.declared.aperture.Aperture.{Aperture}
 use Rattle.cam_apertures.specs.declared.aperture.Aperture.TheVariants.{Prims}
 use Rattle.cam_apertures.specs.declared.fault.AdFault.{AdFault}
 use Rattle.cam_apertures.specs.declared.fault.AdFault.TheVariants.{UnknownForm, BadNumber, TemplateRefused, PrimitiveRefused, RotationRefused, SizeRefused, Malformed, OutOfMemory}
-use Rattle.cam_apertures.specs.Faults.{number_of, of_macro}
+use Rattle.cam_apertures.specs.Faults.{of_macro, refusal_of}
 use Rattle.cam_numbers.specs.Numbers.{decimal, defined_number}
-use Rattle.cam_apertures.specs.Definition.{aperture_of, by_macro, by_name, circle, definition, definition_of, faults_of, has_sizes, macro_faults, named, obround, painted, rect, standard_faults, template_faults, values_of, with_value, Definition, IsDefined, IsLeast, IsRefused, Table, Tells}
+use Rattle.cam_apertures.specs.Definition.{aperture_of, by_macro, by_name, circle, definition, definition_of, faults_of, has_sizes, macro_faults, named, obround, painted, rect, standard_faults, template_faults, values_of, with_value, Definition, IsDefined, IsRefused}
 use Rattle.cam_apertures.specs.Machinery.Outcomes.{macro_outcome, outcome, standard_outcome, template_outcome, with_aperture, with_number, IsErr}
 
 -- an outcome, the faults that hold and the aperture that is meant say the same
-record Agrees (o : Result Aperture AdFault) (t : Table) (a : Option Aperture) : Type 0 where
+record Agrees (o : Result Aperture AdFault) (t : Checks Refusal) (a : Option Aperture) : Type 0 where
   pub made : (aperture : Aperture) → o ≡ Ok aperture → a ≡ Some aperture
-  pub faultless : (aperture : Aperture) → o ≡ Ok aperture → (n : ℕ) → Tells t n → ⊥
-  pub least : (fault : AdFault) → o ≡ Err fault → IsLeast (Tells t) (number_of fault)
-  pub low : (n : ℕ) → Tells t n → 4 ≤ n
+  pub faultless : (aperture : Aperture) → o ≡ Ok aperture → NoneHolds t
+  pub least : (fault : AdFault) → o ≡ Err fault → IsLeast number_of t (refusal_of fault)
+  pub low : (r : Refusal) → Holds t r → 4 ≤ number_of r
 
-agrees_either : {o o' : Result Aperture AdFault} {t t' : Table} {a a' : Option Aperture} (b : Bool) → Agrees o t a → Agrees o' t' a'
+agrees_either : {o o' : Result Aperture AdFault} {t t' : Checks Refusal} {a a' : Option Aperture} (b : Bool) → Agrees o t a → Agrees o' t' a'
     → Agrees (cond b o o') (cond b t t') (cond b a a')
 agrees_either true h k = h
 agrees_either false h k = k
 
-agrees_by_macro : (found : Option Macro) {o : Result Aperture AdFault} {t : Table} {a : Option Aperture} (o' : Macro → Result Aperture AdFault) (t' : Macro → Table) (a' : Macro → Option Aperture)
+agrees_by_macro : (found : Option Macro) {o : Result Aperture AdFault} {t : Checks Refusal} {a : Option Aperture} (o' : Macro → Result Aperture AdFault) (t' : Macro → Checks Refusal) (a' : Macro → Option Aperture)
     → Agrees o t a → ((m : Macro) → Agrees (o' m) (t' m) (a' m)) → Agrees (by_macro found o o') (by_macro found t t') (by_macro found a a')
 agrees_by_macro None o' t' a' h k = h
 agrees_by_macro (Some m) o' t' a' h k = k m
@@ -40,28 +44,28 @@ agrees_by_macro (Some m) o' t' a' h k = k m
 told : {A : Type 0} (P : AdFault → Type 0) (f g : AdFault) → P f → ◌≡◌ {A = Result A AdFault} (Err f) (Err g) → P g
 told P f g h e = let same : f ≡ g = cc in subst P same h
 
-abbrev rows : Bool → Bool → Bool → Table
-rows x y z = (4, x) ∷ (11, y) ∷ (24, z) ∷ []
+abbrev rows : Bool → Bool → Bool → Checks Refusal
+rows x y z = (refusal.BadNumber, x) ∷ (refusal.TemplateRefused, y) ∷ (refusal.SizeRefused, z) ∷ []
 
-from_4 : (x y z : Bool) (n : ℕ) → Tells (rows x y z) n → 4 ≤ n
-from_4 x y z n (inl p) = omega (arith, p.0)
-from_4 x y z n (inr (inl p)) = omega (arith, p.0)
-from_4 x y z n (inr (inr (inl p))) = omega (arith, p.0)
+from_4 : (x y z : Bool) (r : Refusal) → Holds (rows x y z) r → 4 ≤ number_of r
+from_4 x y z n (inl p) = omega (arith, ap number_of p.0)
+from_4 x y z n (inr (inl p)) = omega (arith, ap number_of p.0)
+from_4 x y z n (inr (inr (inl p))) = omega (arith, ap number_of p.0)
 from_4 x y z n (inr (inr (inr p))) = absurd p
 
-from_11 : (y z : Bool) (n : ℕ) → Tells (rows false y z) n → 11 ≤ n
+from_11 : (y z : Bool) (r : Refusal) → Holds (rows false y z) r → 11 ≤ number_of r
 from_11 y z n (inl p) = absurd (false≢true p.1)
-from_11 y z n (inr (inl p)) = omega (arith, p.0)
-from_11 y z n (inr (inr (inl p))) = omega (arith, p.0)
+from_11 y z n (inr (inl p)) = omega (arith, ap number_of p.0)
+from_11 y z n (inr (inr (inl p))) = omega (arith, ap number_of p.0)
 from_11 y z n (inr (inr (inr p))) = absurd p
 
-from_24 : (z : Bool) (n : ℕ) → Tells (rows false false z) n → 24 ≤ n
+from_24 : (z : Bool) (r : Refusal) → Holds (rows false false z) r → 24 ≤ number_of r
 from_24 z n (inl p) = absurd (false≢true p.1)
 from_24 z n (inr (inl p)) = absurd (false≢true p.1)
-from_24 z n (inr (inr (inl p))) = omega (arith, p.0)
+from_24 z n (inr (inr (inl p))) = omega (arith, ap number_of p.0)
 from_24 z n (inr (inr (inr p))) = absurd p
 
-from_none : (n : ℕ) → Tells (rows false false false) n → ⊥
+from_none : NoneHolds (rows false false false)
 from_none n (inl p) = false≢true p.1
 from_none n (inr (inl p)) = false≢true p.1
 from_none n (inr (inr (inl p))) = false≢true p.1
@@ -72,13 +76,13 @@ agrees_tests : (x y z : Bool) (a : Aperture)
 agrees_tests true y z a = record {
   made = λ b e. absurd cc;
   faultless = λ b e. absurd cc;
-  least = λ f e. told (λ g. IsLeast (Tells (rows true y (not z))) (number_of g)) BadNumber f (record { holds = inl (refl, refl); least = from_4 true y (not z) }) e;
+  least = λ f e. told (λ g. IsLeast number_of (rows true y (not z)) (refusal_of g)) BadNumber f (record { holds = inl (refl, refl); least = from_4 true y (not z) }) e;
   low = from_4 true y (not z);
 }
 agrees_tests false true z a = record {
   made = λ b e. absurd cc;
   faultless = λ b e. absurd cc;
-  least = λ f e. told (λ g. IsLeast (Tells (rows false true (not z))) (number_of g)) TemplateRefused f (record { holds = inr (inl (refl, refl)); least = from_11 true (not z) }) e;
+  least = λ f e. told (λ g. IsLeast number_of (rows false true (not z)) (refusal_of g)) TemplateRefused f (record { holds = inr (inl (refl, refl)); least = from_11 true (not z) }) e;
   low = from_4 false true (not z);
 }
 agrees_tests false false true a = record {
@@ -90,7 +94,7 @@ agrees_tests false false true a = record {
 agrees_tests false false false a = record {
   made = λ b e. absurd cc;
   faultless = λ b e. absurd cc;
-  least = λ f e. told (λ g. IsLeast (Tells (rows false false true)) (number_of g)) SizeRefused f (record { holds = inr (inr (inl (refl, refl))); least = from_24 true }) e;
+  least = λ f e. told (λ g. IsLeast number_of (rows false false true) (refusal_of g)) SizeRefused f (record { holds = inr (inr (inl (refl, refl))); least = from_24 true }) e;
   low = from_4 false false true;
 }
 
@@ -98,19 +102,19 @@ agrees_standard : (fewest count : ℕ) (a : Aperture) → Agrees (standard_outco
 unfolding standard_outcome
 agrees_standard fewest count a = agrees_tests (ltb count fewest) (ltb (fewest + 1) count) (has_sizes a) a
 
-one_row : (n m : ℕ) → Tells ((n, true) ∷ []) m → n ≡ m
+one_row : (n m : Refusal) → Holds ((n, true) ∷ []) m → n ≡ m
 one_row n m (inl p) = p.0
 one_row n m (inr p) = absurd p
 
-agrees_refused : Agrees (Err TemplateRefused) ((11, true) ∷ []) None
+agrees_refused : Agrees (Err TemplateRefused) ((refusal.TemplateRefused, true) ∷ []) None
 agrees_refused = record {
   made = λ b e. absurd cc;
   faultless = λ b e. absurd cc;
-  least = λ f e. told (λ g. IsLeast (Tells ((11, true) ∷ [])) (number_of g)) TemplateRefused f (record { holds = inl (refl, refl); least = λ m h. omega (arith, one_row 11 m h) }) e;
-  low = λ m h. omega (arith, one_row 11 m h);
+  least = λ f e. told (λ g. IsLeast number_of ((refusal.TemplateRefused, true) ∷ []) (refusal_of g)) TemplateRefused f (record { holds = inl (refl, refl); least = λ m h. omega (arith, ap number_of (one_row refusal.TemplateRefused m h)) }) e;
+  low = λ m h. omega (arith, ap number_of (one_row refusal.TemplateRefused m h));
 }
 
-macro_low : (f : MacroFault) → 4 ≤ number_of (of_macro f)
+macro_low : (f : MacroFault) → 4 ≤ number_of (refusal_of (of_macro f))
 macro_low macro.BadName = lit≤ tt
 macro_low macro.Malformed = lit≤ tt
 macro_low macro.PrimitiveRefused = lit≤ tt
@@ -126,12 +130,12 @@ agrees_macro (Ok prims) = record {
   low = λ n h. absurd h;
 }
 agrees_macro (Err fault) =
-    let n = number_of (of_macro fault) in
+    let n = refusal_of (of_macro fault) in
     record {
       made = λ b e. absurd cc;
       faultless = λ b e. absurd cc;
-      least = λ f e. told (λ g. IsLeast (Tells ((n, true) ∷ [])) (number_of g)) (of_macro fault) f (record { holds = inl (refl, refl); least = λ m h. omega (arith, one_row n m h) }) e;
-      low = λ m h. omega (arith, one_row n m h, macro_low fault);
+      least = λ f e. told (λ g. IsLeast number_of ((n, true) ∷ []) (refusal_of g)) (of_macro fault) f (record { holds = inl (refl, refl); least = λ m h. omega (arith, ap number_of (one_row n m h)) }) e;
+      low = λ m h. omega (arith, ap number_of (one_row n m h), macro_low fault);
     }
 
 -- the outcome of a template by the count of its parameters
@@ -166,25 +170,25 @@ values_length [] values e = let same : [] ≡ values = cc in ap length (sym same
 values_length (run ∷ runs) values e =
     with_length (decimal run) (values_of runs) values (length runs) (λ l. values_length runs l) e ∙ (omega arith)
 
-abbrev table_by : Option ℕ → Option (List ℤ) → List ℕ → List Macro → FileUnit → ℕ → Table
-table_by number values name macros unit count = (4, is_none number) ∷ (4, is_none values) ∷ template_faults name macros unit count (unwrap_or values [])
+abbrev table_by : Option ℕ → Option (List ℤ) → List ℕ → List Macro → FileUnit → ℕ → Checks Refusal
+table_by number values name macros unit count = (refusal.BadNumber, is_none number) ∷ (refusal.BadNumber, is_none values) ∷ template_faults name macros unit count (unwrap_or values [])
 
-record Whole (o : Result (ℕ × Aperture) AdFault) (t : Table) : Type 0 where
-  pub least : (fault : AdFault) → o ≡ Err fault → IsLeast (Tells t) (number_of fault)
-  pub faultless : (made : ℕ × Aperture) → o ≡ Ok made → (n : ℕ) → Tells t n → ⊥
+record Whole (o : Result (ℕ × Aperture) AdFault) (t : Checks Refusal) : Type 0 where
+  pub least : (fault : AdFault) → o ≡ Err fault → IsLeast number_of t (refusal_of fault)
+  pub faultless : (made : ℕ × Aperture) → o ≡ Ok made → NoneHolds t
 
-from_table : (number : Option ℕ) (values : Option (List ℤ)) (name : List ℕ) (macros : List Macro) (unit : FileUnit) (count n : ℕ)
-    → Tells (table_by number values name macros unit count) n → 4 ≤ n
-from_table number values name macros unit count n (inl p) = omega (arith, p.0)
-from_table number values name macros unit count n (inr (inl p)) = omega (arith, p.0)
+from_table : (number : Option ℕ) (values : Option (List ℤ)) (name : List ℕ) (macros : List Macro) (unit : FileUnit) (count : ℕ) (r : Refusal)
+    → Holds (table_by number values name macros unit count) r → 4 ≤ number_of r
+from_table number values name macros unit count n (inl p) = omega (arith, ap number_of p.0)
+from_table number values name macros unit count n (inr (inl p)) = omega (arith, ap number_of p.0)
 from_table number values name macros unit count n (inr (inr p)) = (agrees_template name macros unit count (unwrap_or values [])).low n p
 
-behind_two : (t : Table) (n : ℕ) → Tells ((4, false) ∷ (4, false) ∷ t) n → Tells t n
+behind_two : (t : Checks Refusal) (n : Refusal) → Holds ((refusal.BadNumber, false) ∷ (refusal.BadNumber, false) ∷ t) n → Holds t n
 behind_two t n (inl p) = absurd (false≢true p.1)
 behind_two t n (inr (inl p)) = absurd (false≢true p.1)
 behind_two t n (inr (inr p)) = p
 
-whole_with : (o : Result Aperture AdFault) (t : Table) (a : Option Aperture) (number : ℕ) → Agrees o t a → Whole (with_aperture number o) ((4, false) ∷ (4, false) ∷ t)
+whole_with : (o : Result Aperture AdFault) (t : Checks Refusal) (a : Option Aperture) (number : ℕ) → Agrees o t a → Whole (with_aperture number o) ((refusal.BadNumber, false) ∷ (refusal.BadNumber, false) ∷ t)
 whole_with (Ok aperture) t a number h = record {
   least = λ f e. absurd cc;
   faultless = λ made e n k. h.faultless aperture refl n (behind_two t n k);
@@ -192,7 +196,7 @@ whole_with (Ok aperture) t a number h = record {
 whole_with (Err fault) t a number h = record {
   least = λ f e.
       let l = h.least fault refl in
-      told (λ g. IsLeast (Tells ((4, false) ∷ (4, false) ∷ t)) (number_of g)) fault f
+      told (λ g. IsLeast number_of ((refusal.BadNumber, false) ∷ (refusal.BadNumber, false) ∷ t) (refusal_of g)) fault f
       (record { holds = inr (inr l.holds); least = λ m k. l.least m (behind_two t m k) }) e;
   faultless = λ made e. absurd cc;
 }
@@ -202,17 +206,17 @@ whole_by : (number : Option ℕ) (values : Option (List ℤ)) (name : List ℕ) 
     → Whole (with_number number values (template_outcome name macros unit)) (table_by number values name macros unit count)
 unfolding template_outcome
 whole_by None values name macros unit count long = record {
-  least = λ f e. told (λ g. IsLeast (Tells (table_by None values name macros unit count)) (number_of g)) BadNumber f
+  least = λ f e. told (λ g. IsLeast number_of (table_by None values name macros unit count) (refusal_of g)) BadNumber f
       (record { holds = inl (refl, refl); least = from_table None values name macros unit count }) e;
   faultless = λ made e. absurd cc;
 }
 whole_by (Some number) None name macros unit count long = record {
-  least = λ f e. told (λ g. IsLeast (Tells (table_by (Some number) None name macros unit count)) (number_of g)) BadNumber f
+  least = λ f e. told (λ g. IsLeast number_of (table_by (Some number) None name macros unit count) (refusal_of g)) BadNumber f
       (record { holds = inr (inl (refl, refl)); least = from_table (Some number) None name macros unit count }) e;
   faultless = λ made e. absurd cc;
 }
 whole_by (Some number) (Some values) name macros unit count long =
-    subst (λ n. Whole (with_aperture number (outcome_by name macros unit (length values) values)) ((4, false) ∷ (4, false) ∷ template_faults name macros unit n values))
+    subst (λ n. Whole (with_aperture number (outcome_by name macros unit (length values) values)) ((refusal.BadNumber, false) ∷ (refusal.BadNumber, false) ∷ template_faults name macros unit n values))
     (long values refl)
     (whole_with (outcome_by name macros unit (length values) values) (template_faults name macros unit (length values) values) (aperture_of name macros unit values) number
     (agrees_template name macros unit (length values) values))
@@ -220,8 +224,8 @@ whole_by (Some number) (Some values) name macros unit count long =
 whole : (od : Option Definition) (macros : List Macro) (unit : FileUnit) → Whole (outcome od macros unit) (faults_of od macros unit)
 unfolding outcome
 whole None macros unit = record {
-  least = λ f e. told (λ g. IsLeast (Tells ((3, true) ∷ [])) (number_of g)) UnknownForm f
-      (record { holds = inl (refl, refl); least = λ m h. omega (arith, one_row 3 m h) }) e;
+  least = λ f e. told (λ g. IsLeast number_of ((refusal.UnknownCommand, true) ∷ []) (refusal_of g)) UnknownForm f
+      (record { holds = inl (refl, refl); least = λ m h. omega (arith, ap number_of (one_row refusal.UnknownCommand m h)) }) e;
   faultless = λ made e. absurd cc;
 }
 whole (Some d) macros unit =

@@ -1,12 +1,18 @@
 -- Aperture definitions (Gerber Layer Format Specification, "Aperture definition (AD)"): what stands
 -- behind `AD`, without the bytes that do not count.
-use Rattle.std.specs.Prelude.{◌≡◌, ◌≤◌, ◌⊎◌, ℕ, ◌+◌, ℤ, pos, List, [], ◌∷◌, length, take, drop, find, codes, slice_index_or}
+use Rattle.std.specs.Prelude.{◌≡◌, ℕ, ◌+◌, ℤ, pos, List, [], ◌∷◌, length, take, drop, find, codes, slice_index_or}
 use Rattle.std.specs.Prelude.{Option, Some, None, is_none, unwrap_or, Result, Ok, Err, Bool, true, ◌==◌, ◌||◌}
-use Rattle.std.specs.Prelude.{◌&&◌, not, nat_lt, if◌then◌else◌, ⊤}
+use Rattle.std.specs.Prelude.{◌&&◌, not, nat_lt, if◌then◌else◌}
 use Rattle.std.specs.Char.{is_ascii_digit}
 use Rattle.std.specs.List.{after_first, before_first, list_all, position_or_len, prefix_len, slice_split}
 use Rattle.std.specs.Int.RustNames.{int_le}
 use Rattle.std.specs.Str.{bytes_eq}
+use Rattle.cam_refusals.specs.declared.refusal.Refusal.{Refusal}
+use Rattle.cam_refusals.specs.declared.refusal.Refusal.TheVariants.{BadNumber, SizeRefused, TemplateRefused}
+use Rattle.cam_refusals.specs.declared.refusal.Refusal.TheVariants.{UnknownCommand}
+use Rattle.cam_refusals.specs.Checks.{Checks, Holds, IsLeast, NoneHolds}
+use Rattle.cam_refusals.specs.Limits.{size_limit}
+use Rattle.cam_refusals.specs.Refusals.{UnlessMemory, number_of}
 use Rattle.cam_units.specs.declared.length.Nm.{Nm}
 use Rattle.cam_units.specs.declared.length.Unit.{Unit as FileUnit}
 use Rattle.cam_units.specs.Nearest.{fix9_of}
@@ -18,10 +24,7 @@ use Rattle.cam_macros.specs.Expansion.{expansion_of}
 use Rattle.cam_apertures.specs.declared.aperture.Aperture.{Aperture}
 use Rattle.cam_apertures.specs.declared.aperture.Aperture.TheVariants.{Circle, Rect, Obround, Prims}
 use Rattle.cam_apertures.specs.declared.fault.AdFault.{AdFault}
-use Rattle.cam_apertures.specs.declared.fault.AdFault.TheVariants.{UnknownForm, BadNumber, TemplateRefused}
-use Rattle.cam_apertures.specs.declared.fault.AdFault.TheVariants.{PrimitiveRefused, RotationRefused, SizeRefused}
-use Rattle.cam_apertures.specs.declared.fault.AdFault.TheVariants.{Malformed, OutOfMemory}
-use Rattle.cam_apertures.specs.Faults.{number_of, of_macro}
+use Rattle.cam_apertures.specs.Faults.{of_macro, refusal_of}
 use Rattle.cam_numbers.specs.Numbers.{decimal, defined_number, is_numeric}
 
 -- the digits of the number, the name of the template, and the runs of the parameters
@@ -108,7 +111,7 @@ obround unit values = Obround (length_at unit values 0) (length_at unit values 1
 
 -- the limits of sizes, as a test: diameters and holes from 0 to 200 mm, sides from 1 nm
 abbrev pub is_between : ℤ → ℤ → Bool
-is_between low n = int_le low n && int_le n (pos 200000000)
+is_between low n = int_le low n && int_le n (pos size_limit)
 
 abbrev pub has_sizes : Aperture → Bool
 has_sizes (Circle diameter hole) = is_between (pos 0) diameter.0 && is_between (pos 0) hole.0
@@ -145,50 +148,36 @@ aperture_of name macros unit values =
     by_name name macros (Some (circle unit values)) (Some (rect unit values)) (Some (obround unit values)) None
     (λ m. painted (expansion_of unit values m.parts))
 
--- the numbers of faults, each with a test
-abbrev pub Table : Type 0
-Table = List (ℕ × Bool)
-
 -- a standard template takes so many parameters at least, and one more for its hole
-abbrev pub standard_faults : ℕ → ℕ → Aperture → Table
+abbrev pub standard_faults : ℕ → ℕ → Aperture → Checks Refusal
 standard_faults fewest count aperture =
-    (number_of BadNumber, nat_lt count fewest) ∷ (number_of TemplateRefused, nat_lt (fewest + 1) count)
-    ∷ (number_of SizeRefused, not (has_sizes aperture)) ∷ []
+    (BadNumber, nat_lt count fewest) ∷ (TemplateRefused, nat_lt (fewest + 1) count)
+    ∷ (SizeRefused, not (has_sizes aperture)) ∷ []
 
--- the first faulty part of a macro tells one number
-abbrev pub macro_faults : Result (List MacroPrimitive) MacroFault → Table
+-- the first faulty part of a macro tells one fault
+abbrev pub macro_faults : Result (List MacroPrimitive) MacroFault → Checks Refusal
 macro_faults (Ok prims) = []
-macro_faults (Err fault) = (number_of (of_macro fault), true) ∷ []
+macro_faults (Err fault) = (refusal_of (of_macro fault), true) ∷ []
 
-abbrev pub template_faults : List ℕ → List Macro → FileUnit → ℕ → List ℤ → Table
+abbrev pub template_faults : List ℕ → List Macro → FileUnit → ℕ → List ℤ → Checks Refusal
 template_faults name macros unit count values =
     by_name name macros
     (standard_faults 1 count (circle unit values))
     (standard_faults 2 count (rect unit values))
     (standard_faults 2 count (obround unit values))
-    ((number_of TemplateRefused, true) ∷ [])
+    ((TemplateRefused, true) ∷ [])
     (λ m. macro_faults (expansion_of unit values m.parts))
 
--- the table of a text's faults: its form; a number that does not fit its grammar; and those of the template
-abbrev pub faults_of : Option Definition → List Macro → FileUnit → Table
-faults_of None macros unit = (number_of UnknownForm, true) ∷ []
+-- the faults that a text may have: its form; a number that does not fit its grammar; and those of the template
+abbrev pub faults_of : Option Definition → List Macro → FileUnit → Checks Refusal
+faults_of None macros unit = (UnknownCommand, true) ∷ []
 faults_of (Some d) macros unit =
-    (number_of BadNumber, is_none (defined_number d.number)) ∷ (number_of BadNumber, is_none (values_of d.parameters))
+    (BadNumber, is_none (defined_number d.number)) ∷ (BadNumber, is_none (values_of d.parameters))
     ∷ template_faults d.name macros unit (length d.parameters) (unwrap_or (values_of d.parameters) [])
 
--- the test of one of the rows of this number holds
-abbrev pub Tells : Table → ℕ → Type 0
-Tells [] n = ⊥
-Tells (row ∷ rows) n = ((row.0 ≡ n) × (row.1 ≡ true)) ⊎ Tells rows n
-
--- the text has the fault of this number
-abbrev pub IsAdFault : List ℕ → List Macro → FileUnit → ℕ → Type 0
-IsAdFault text macros unit n = Tells (faults_of (definition_of text) macros unit) n
-
--- the least of the numbers of which a predicate holds
-pub record IsLeast (P : ℕ → Type 0) (n : ℕ) : Type 0 where
-  pub holds : P n
-  pub least : (m : ℕ) → P m → n ≤ m
+-- the text has the fault
+abbrev pub IsAdFault : List ℕ → List Macro → FileUnit → Refusal → Type 0
+IsAdFault text macros unit = Holds (faults_of (definition_of text) macros unit)
 
 -- the text has no fault, and defines an aperture of this number
 pub record IsDefined (text : List ℕ) (macros : List Macro) (unit : FileUnit) (number : ℕ) (aperture : Aperture)
@@ -199,22 +188,12 @@ pub record IsDefined (text : List ℕ) (macros : List Macro) (unit : FileUnit) (
   pub number_is : defined_number definition.number ≡ Some number
   pub values_are : values_of definition.parameters ≡ Some values
   pub aperture_is : aperture_of definition.name macros unit values ≡ Some aperture
-  pub faultless : (n : ℕ) → ¬ IsAdFault text macros unit n
+  pub faultless : NoneHolds (faults_of (definition_of text) macros unit)
 
--- the fault is the one that is meant, or memory ran out
-abbrev pub IsMeant : AdFault → Type 0 → Type 0
-IsMeant UnknownForm P = P
-IsMeant BadNumber P = P
-IsMeant TemplateRefused P = P
-IsMeant PrimitiveRefused P = P
-IsMeant RotationRefused P = P
-IsMeant SizeRefused P = P
-IsMeant Malformed P = P
-IsMeant OutOfMemory P = ⊤
-
--- the least number of the text's faults is told
+-- the fault of least number is told, or memory was refused
 abbrev pub IsRefused : List ℕ → List Macro → FileUnit → AdFault → Type 0
-IsRefused text macros unit fault = IsMeant fault (IsLeast (IsAdFault text macros unit) (number_of fault))
+IsRefused text macros unit fault = UnlessMemory (refusal_of fault)
+    (IsLeast number_of (faults_of (definition_of text) macros unit) (refusal_of fault))
 
 -- the number of the definition, where its form and its number are right
 abbrev pub numbered : Option Definition → Option ℕ

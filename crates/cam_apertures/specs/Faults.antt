@@ -1,5 +1,6 @@
--- Refusals of aperture definitions by their numbers.
-use Rattle.std.specs.Prelude.{ℕ}
+-- The refusals that tell faults of aperture definitions.
+use Rattle.cam_refusals.specs.declared.refusal.Refusal.{Refusal}
+use Rattle.cam_refusals.specs.declared.refusal.Refusal.TheVariants as refusal
 use Rattle.cam_macros.specs.declared.fault.MacroFault.{MacroFault}
 use Rattle.cam_macros.specs.declared.fault.MacroFault.TheVariants as macro
 use Rattle.cam_apertures.specs.declared.fault.AdFault.{AdFault}
@@ -7,15 +8,15 @@ use Rattle.cam_apertures.specs.declared.fault.AdFault.TheVariants.{UnknownForm, 
 use Rattle.cam_apertures.specs.declared.fault.AdFault.TheVariants.{PrimitiveRefused, RotationRefused, SizeRefused}
 use Rattle.cam_apertures.specs.declared.fault.AdFault.TheVariants.{Malformed, OutOfMemory}
 
-abbrev pub number_of : AdFault → ℕ
-number_of UnknownForm = 3
-number_of BadNumber = 4
-number_of TemplateRefused = 11
-number_of PrimitiveRefused = 12
-number_of RotationRefused = 13
-number_of SizeRefused = 24
-number_of Malformed = 29
-number_of OutOfMemory = 30
+abbrev pub refusal_of : AdFault → Refusal
+refusal_of UnknownForm = refusal.UnknownCommand
+refusal_of BadNumber = refusal.BadNumber
+refusal_of TemplateRefused = refusal.TemplateRefused
+refusal_of PrimitiveRefused = refusal.PrimitiveRefused
+refusal_of RotationRefused = refusal.RotationRefused
+refusal_of SizeRefused = refusal.SizeRefused
+refusal_of Malformed = refusal.MacroFault
+refusal_of OutOfMemory = refusal.NoMemory
 
 -- the refusal of a definition whose macro is refused so; no expansion is refused for its name
 abbrev pub of_macro : MacroFault → AdFault

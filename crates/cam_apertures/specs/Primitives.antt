@@ -2,6 +2,7 @@
 -- nanometres, and a side of d nanometres reaches d half nanometres to both sides.
 use Rattle.std.specs.Prelude.{◌<◌, ◌≤◌, ℤ, ◌+ℤ◌, ◌-ℤ◌, List, length, All, fold}
 use Rattle.std.specs.Int.RustNames.{unsigned_abs}
+use Rattle.cam_refusals.specs.Limits.{size_limit}
 use Rattle.cam_units.specs.declared.bounds.Bounds.{Bounds}
 use Rattle.cam_units.specs.declared.bounds.Bounds.TheVariants.{Empty, Closed}
 use Rattle.cam_units.specs.declared.point.Point.{Point}
@@ -15,8 +16,8 @@ use Rattle.cam_macros.specs.declared.primitive.PrimShape.TheVariants.{Disc, Bar,
 
 -- each coordinate of a macro's point is at most 200 mm in absolute value
 pub record IsMacroPoint (p : Point) : Type 0 where
-  pub x : unsigned_abs p.x ≤ 200000000
-  pub y : unsigned_abs p.y ≤ 200000000
+  pub x : unsigned_abs p.x ≤ size_limit
+  pub y : unsigned_abs p.y ≤ size_limit
 
 -- from 1 to 5,000 points
 pub record IsSoundOutline (points : List Point) : Type 0 where

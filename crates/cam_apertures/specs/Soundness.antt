@@ -1,5 +1,6 @@
 -- The limits of apertures.
 use Rattle.std.specs.Prelude.{◌≡◌, pos, ℤ, ◌≤ℤ◌, All}
+use Rattle.cam_refusals.specs.Limits.{size_limit}
 use Rattle.cam_units.specs.Board.{IsSize}
 use Rattle.cam_apertures.specs.declared.aperture.Aperture.{Aperture}
 use Rattle.cam_apertures.specs.declared.aperture.Aperture.TheVariants.{Circle, Rect, Obround, Prims}
@@ -7,7 +8,7 @@ use Rattle.cam_apertures.specs.Primitives.{IsSoundPrim}
 
 -- a side of a rectangle or an obround, from 1 nm to 200 mm
 abbrev pub IsSide : ℤ → Type 0
-IsSide n = (pos 1 ≤ℤ n) × (n ≤ℤ pos 200000000)
+IsSide n = (pos 1 ≤ℤ n) × (n ≤ℤ pos size_limit)
 
 -- diameters and holes, from 0 to 200 mm, and sides
 abbrev pub IsSoundAperture : Aperture → Type 0

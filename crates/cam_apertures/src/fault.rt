@@ -1,10 +1,12 @@
 //! What can be wrong with an aperture definition.
 
 ghost use Rattle.std.specs.Prelude.{◌≡◌};
-ghost use Rattle.cam_apertures.specs.Faults.{number_of, of_macro};
+ghost use Rattle.cam_refusals.specs.Refusals.{number_of};
+ghost use Rattle.cam_apertures.specs.Faults.{of_macro, refusal_of};
 ghost use Rattle.cam_apertures.specs.declared.fault.AdFault.TheVariants.{OutOfMemory};
 
 use cam_macros::MacroFault;
+use cam_refusals::Refusal;
 use std::alloc::{AllocError, AllocFailed};
 
 /// Why an aperture definition is refused (Gerber Layer Format Specification, "Aperture definition
@@ -33,20 +35,27 @@ pub enum AdFault {
 }
 
 impl AdFault {
-    /// The number by which a refusal is told: 3, 4, 11, 12, 13, 24, 29 or 30.
-    pub fn number(self) -> u8
-        ensures { result ≡ number_of self }
+    /// The refusal that tells it.
+    pub fn refusal(self) -> Refusal
+        ensures { result ≡ refusal_of self }
     {
         match self {
-            AdFault::UnknownForm => 3,
-            AdFault::BadNumber => 4,
-            AdFault::TemplateRefused => 11,
-            AdFault::PrimitiveRefused => 12,
-            AdFault::RotationRefused => 13,
-            AdFault::SizeRefused => 24,
-            AdFault::Malformed => 29,
-            AdFault::OutOfMemory => 30,
+            AdFault::UnknownForm => Refusal::UnknownCommand,
+            AdFault::BadNumber => Refusal::BadNumber,
+            AdFault::TemplateRefused => Refusal::TemplateRefused,
+            AdFault::PrimitiveRefused => Refusal::PrimitiveRefused,
+            AdFault::RotationRefused => Refusal::RotationRefused,
+            AdFault::SizeRefused => Refusal::SizeRefused,
+            AdFault::Malformed => Refusal::MacroFault,
+            AdFault::OutOfMemory => Refusal::NoMemory,
         }
+    }
+
+    /// The number by which it is told: 3, 4, 11, 12, 13, 24, 29 or 30.
+    pub fn number(self) -> u8
+        ensures { result ≡ number_of (refusal_of self) }
+    {
+        self.refusal().number()
     }
 }
 

@@ -11,7 +11,7 @@ use Rattle.cam_objects.specs.Bounds.{bounds_of}
 use Rattle.cam_objects.specs.Drilling.{drill_item_leaves}
 use Rattle.cam_objects.specs.Enclosed.{AreNoneEnclosed, IsFirstEnclosed}
 use Rattle.cam_objects.specs.Leaves.{item_leaves, meaning_in}
-use Rattle.cam_objects.specs.Limits.{item_limit}
+use Rattle.cam_refusals.specs.Limits.{count_limit}
 use Rattle.cam_objects.specs.Topmost.{PointsAt}
 use Rattle.cam_edits.specs.Asking.{sheet_boxes, sheet_lists}
 use Rattle.cam_edits.specs.Sheets.{Content, Drill, Gerber, IsSound}
@@ -78,7 +78,7 @@ gathered_all c outer from text so_far none = record {
 }
 
 -- a layer has few items
-pub few_boxes : (c : Content) → IsSound c → length (sheet_boxes c) ≤ item_limit
+pub few_boxes : (c : Content) → IsSound c → length (sheet_boxes c) ≤ count_limit
 few_boxes (Gerber c) sound = omega (arith, length-map c.items (λ item. bounds_of (item_leaves (meaning_in c.entries) item)), sound.content.limits.few)
 few_boxes (Drill c) sound = omega (arith, length-map c.items (λ item. bounds_of (drill_item_leaves c.tools item)), sound.limits.few)
 

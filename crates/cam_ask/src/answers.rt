@@ -2,35 +2,24 @@
 
 ghost use Rattle.std.specs.Prelude.{◌++◌, ◌≡◌, Err, IfOk, MatchResult, Ok, OnOk, option_to_list, slice_get};
 ghost use Rattle.std.specs.List.{flat_map};
+ghost use Rattle.cam_refusals.specs.declared.refusal.Refusal.TheVariants.{NoMemory};
 ghost use Rattle.cam_edits.specs.Boards.{place_named};
 ghost use Rattle.cam_edits.specs.Sheets.{IsSound, content_of};
 ghost use Rattle.cam_undo.specs.Counted.{counts_at};
 ghost use Rattle.cam_station.specs.Machine.{fault};
-ghost use Rattle.cam_station.specs.Refusals.{memory_refused};
 ghost use Rattle.cam_ask.specs.Answers.{IsAnswer, IsAnswerAt, IsAnswerOf, IsAsked, sheet_line};
 ghost use Rattle.cam_ask.specs.Texts.{history_line};
 
 use crate::lines::{push_history, push_layer};
 use crate::telling::{can_be_asked, has_place, told};
 use cam_edits::{Name, SheetContent};
+use cam_refusals::Refusal;
 use cam_script::{Bytes, Query, Question, parse_question};
 use cam_station::{Fault, Station};
 use std::alloc::{AllocError, Global};
 
-/// Memory was refused.
-const NO_MEMORY: u8 = 30;
-
-/// There is no layer of this name.
-const NO_LAYER: u8 = 60;
-
-/// There is no item, aperture, block or tool at the place.
-const NO_PLACE: u8 = 61;
-
-/// The line is no question.
-const NO_QUESTION: u8 = 80;
-
 /// A refusal.
-fn refused(code: u8) -> Result<Bytes, Fault>
+fn refused(code: Refusal) -> Result<Bytes, Fault>
     ensures { result ≡ Err (fault code) }
 {
     Err(Fault { code, at: None })
@@ -38,11 +27,11 @@ fn refused(code: u8) -> Result<Bytes, Fault>
 
 /// A text as an answer; a refusal where there was no memory for it.
 fn granted(text: Result<Vec<u8>, AllocError>) -> Result<Bytes, Fault>
-    ensures { MatchResult text (λ v. result ≡ Ok v.items) (λ _. result ≡ Err (fault memory_refused)) }
+    ensures { MatchResult text (λ v. result ≡ Ok v.items) (λ _. result ≡ Err (fault NoMemory)) }
 {
     match text {
         Ok(text) => Ok(Bytes::from_vec(text)),
-        Err(_) => refused(NO_MEMORY),
+        Err(_) => refused(Refusal::NoMemory),
     }
 }
 
@@ -85,10 +74,10 @@ fn answer_of(alloc: Global, content: &SheetContent, query: Query) -> Result<Byte
     ensures { IsAnswerOf (content_of content.now) query result }
 {
     if !can_be_asked(query) {
-        return refused(NO_QUESTION);
+        return refused(Refusal::BadLine);
     }
     if !has_place(content, query) {
-        return refused(NO_PLACE);
+        return refused(Refusal::NoItem);
     }
     granted(told(alloc, content, query))
 }
@@ -99,10 +88,10 @@ fn answer_named(alloc: Global, station: &Station, name: &Name, query: Query) -> 
         IsAnswerAt sheets (place_named name.now sheets) query result }
 {
     let Some(place) = station.layer_place(name) else {
-        return refused(NO_LAYER);
+        return refused(Refusal::NoLayer);
     };
     let Some(sheet) = station.layer(place) else {
-        return refused(NO_LAYER);
+        return refused(Refusal::NoLayer);
     };
     answer_of(alloc, &sheet.content, query)
 }
@@ -129,6 +118,6 @@ pub fn ask(alloc: Global, station: &Station, line: &[u8]) -> Result<Bytes, Fault
 {
     match parse_question(alloc, line) {
         Ok(question) => answer(alloc, station, &question),
-        Err(why) => refused(why.number()),
+        Err(why) => refused(why.refusal()),
     }
 }

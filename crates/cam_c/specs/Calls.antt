@@ -4,6 +4,8 @@ use Rattle.std.specs.Prelude.{Option, None, Some, Ok, Err}
 use Rattle.std.specs.Result.{result_ok}
 use Rattle.core.specs.Mem.Slots.{SamePlaces, slots_filled, slots_items}
 use Rattle.core.specs.declared.slots.Slots.{Slots}
+use Rattle.cam_refusals.specs.declared.refusal.Refusal.TheVariants.{NotClean}
+use Rattle.cam_refusals.specs.Refusals.{number_of}
 use Rattle.cam_script.specs.declared.command.Command.TheVariants.{Redraw}
 use Rattle.cam_station.specs.declared.fault.Fault.{Fault}
 use Rattle.cam_station.specs.declared.reply.Reply.TheVariants.{Done}
@@ -19,7 +21,7 @@ use Rattle.cam_c.specs.declared.session.Session.{Session}
 abbrev pub code_of : Option Outcome → ℕ
 code_of None = 0
 code_of (Some (Ok reply)) = 0
-code_of (Some (Err fault)) = fault.code
+code_of (Some (Err fault)) = number_of fault.code
 
 -- the line of the last reply
 abbrev pub reply_of : Session → List ℕ
@@ -41,7 +43,7 @@ pub record IsUnopened (depth code : ℕ) : Type 0 where
   pub memory : MemoryGrant
   pub why : Fault
   pub refused : station_of depth memory ≡ Err why
-  pub code_is : code ≡ why.code
+  pub code_is : code ≡ number_of why.code
 
 -- The line, with these bytes of a file handed in, is a turn of a run; the session after it has what it leaves.
 pub record IsApplied (s : Session) (line : List ℕ) (file : Option (List ℕ)) (after : Session) (code : ℕ) : Type 0 where
@@ -90,7 +92,7 @@ pub record IsFilled {X : Type 0} (text : List X) (old new : Slots X) : Type 0 wh
 
 -- the tile is dirty, or not there
 abbrev pub not_clean : ℕ
-not_clean = 91
+not_clean = number_of NotClean
 
 -- the rows of a clean tile fill the room; else it stays as it is
 abbrev pub IsCopyOf : Tile → Slots ℕ → Slots ℕ → ℕ → Type 0

@@ -1,5 +1,7 @@
 -- What the exports come to, by the pointers that C passes: where one cannot be used nothing is done.
 use Rattle.std.specs.Prelude.{◌≡◌, ℕ, ◌^◌, nat_lt, Bool, true, false, ◌&&◌, if◌then◌else◌, List, length, map, Option, None, Some}
+use Rattle.cam_refusals.specs.declared.refusal.Refusal.TheVariants.{NoPointer}
+use Rattle.cam_refusals.specs.Refusals.{number_of}
 use Rattle.cam_station.specs.TileTables.{tile_at}
 use Rattle.cam_tiles.specs.Tables.{Tile}
 use Rattle.cam_c.specs.declared.session.Session.{Session}
@@ -8,7 +10,7 @@ use denote.RawPtr.{Ptr, block_ptr, null_ptr}
 
 -- a pointer is null, or a length is past 2^63 - 1
 abbrev pub no_pointer : ℕ
-no_pointer = 90
+no_pointer = number_of NoPointer
 
 abbrev pub is_there : Ptr → Bool
 is_there null_ptr = false

@@ -65,8 +65,8 @@ pub(crate) fn line_of(reply: &Result<Reply, Fault>) -> ArrayVec<u8, ROOM>
         Err(fault) => {
             put(&mut line, b"refused");
             match fault.at {
-                None => put_numbers(&mut line, &[u64::from(fault.code)]),
-                Some(at) => put_numbers(&mut line, &[u64::from(fault.code), at as u64]),
+                None => put_numbers(&mut line, &[u64::from(fault.number())]),
+                Some(at) => put_numbers(&mut line, &[u64::from(fault.number()), at as u64]),
             }
         }
     }

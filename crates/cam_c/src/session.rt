@@ -19,15 +19,10 @@ ghost use Rattle.cam_c.specs.Calls.{
 use crate::line::line_of;
 use crate::loose::Loose;
 use cam_ask::ask;
+use cam_refusals::Refusal;
 use cam_station::{Bytes, Command, Fault, Reply, Station, apply_line};
 use core::slots::Slots;
 use std::alloc::Global;
-
-/// No memory.
-const NO_MEMORY: u32 = 30;
-
-/// The tile is dirty, or not there.
-const NOT_CLEAN: u32 = 91;
 
 /// A station, with the reply to its last line, and the bytes that this had for a file.
 #[derive(Drop)]
@@ -43,7 +38,7 @@ fn code(reply: &Option<Result<Reply, Fault>>) -> u32
     ensures { result ≡ code_of reply.now }
 {
     match reply {
-        Some(Err(fault)) => u32::from(fault.code),
+        Some(Err(fault)) => u32::from(fault.number()),
         Some(Ok(_)) | None => 0,
     }
 }
@@ -76,10 +71,10 @@ pub(crate) fn begin(alloc: Global, depth: u32) -> Result<Loose<Session, Global>,
             };
             match Box::new(alloc, session) {
                 Ok(session) => Ok(Loose::of(session)),
-                Err(_) => Err(NO_MEMORY),
+                Err(_) => Err(u32::from(Refusal::NoMemory.number())),
             }
         }
-        Err(fault) => Err(u32::from(fault.code)),
+        Err(fault) => Err(u32::from(fault.number())),
     }
 }
 
@@ -202,7 +197,7 @@ impl Session {
                 let (rows, _) = copy(kept, rows);
                 (rows, 0)
             }
-            None => (rows, NOT_CLEAN),
+            None => (rows, u32::from(Refusal::NotClean.number())),
         }
     }
 }

@@ -1,16 +1,17 @@
 -- The steps of edits of attributes: they fit, and make of the attributes what the edits say.
-use Rattle.std.proofs.Common.{◌≡◌, ℕ, ◌<◌, ◌≤◌, Bool, true, false, ◌&&◌, nat_le, ◌+◌, List, [], length, get_or}
+use Rattle.std.proofs.Common.{◌≡◌, ℕ, ◌<◌, ◌≤◌, Bool, true, false, ◌&&◌, not, nat_le, ◌+◌, List, [], ◌∷◌, length, get_or}
 use Rattle.std.proofs.Common.{Option, None, Some, Result, Ok, Err, refl, ap, sym, subst, ◌∙◌, arith}
-use Rattle.std.specs.Prelude.{is_some, slice_get, slice_set}
+use Rattle.std.specs.Prelude.{is_none, slice_get, slice_set}
 use Rattle.std.specs.Option.{option_map}
-use Rattle.std.proofs.lemmas.Bool.{le-leb, leb-true}
+use Rattle.std.proofs.lemmas.Bool.{false_from_ne_true, le-leb, leb-true}
 use Rattle.std.proofs.lemmas.List.Edits.{insert_end}
 use Rattle.std.proofs.lemmas.List.Quantifiers.{position-Some}
 use Rattle.std.proofs.lemmas.Option.{get_or_from_slice_get}
 use Rattle.std.proofs.lemmas.Slice.Eq.{bytes_eq-Decides}
 use Rattle.cam_objects.specs.Attributes.{AreAttributes, attribute_of, has_name, place_of as attribute_place, with_attribute}
 use Rattle.cam_objects.specs.Contents.{Content}
-use Rattle.cam_objects.specs.Limits.{attribute_limit}
+use Rattle.cam_refusals.specs.Checks.{first}
+use Rattle.cam_refusals.specs.Limits.{attribute_limit}
 use Rattle.cam_objects.specs.declared.attribute.Attribute.{Attribute}
 use Rattle.cam_objects.proofs.EditedAttributes.{added_last, kept_place, room_added, room_kept}
 use Rattle.cam_edits.specs.declared.edit.Change.TheVariants.{SetAttribute, DropAttribute}
@@ -18,11 +19,10 @@ use Rattle.cam_edits.specs.declared.fault.EditFault.{EditFault}
 use Rattle.cam_edits.specs.declared.fault.EditFault.TheVariants.{AttributeRefused, NoAttribute, TooMuch}
 use Rattle.cam_edits.specs.declared.step.Step.{Step}
 use Rattle.cam_edits.specs.declared.step.Step.TheVariants.{PutAttribute, TakeAttribute, SetFields}
-use Rattle.cam_edits.specs.AttributeEdits.{are_fields, is_key, refused_unless, setting_step}
-use Rattle.cam_edits.specs.Editing.{judged, judged_change, judged_unless, meets_step}
+use Rattle.cam_edits.specs.AttributeEdits.{are_fields, is_key, setting_step}
+use Rattle.cam_edits.specs.Editing.{judged, judged_change, judged_unless, step_checks}
 use Rattle.cam_edits.specs.Machinery.PlaceLaws.{changed_is, element_at}
 use Rattle.cam_edits.specs.Steps.{attributes_after, with_fields}
-use Rattle.cam_edits.proofs.Refusals.{never}
 
 -- ---- where a name stands
 
@@ -74,7 +74,7 @@ module _ (c : Content) (key fields : List ℕ) where
 
   abbrev told : Bool → Bool → Bool → Result Step EditFault
   told named written room =
-      judged_unless c (refused_unless (named && written) AttributeRefused (refused_unless room TooMuch None))
+      judged_unless c (first ((AttributeRefused, not (named && written)) ∷ (TooMuch, not room) ∷ []))
       (Some (set_step (attribute_place key c.attributes)))
 
   pub bad_key : is_key key ≡ false → Err AttributeRefused ≡ judged_change c (SetAttribute key fields)
@@ -92,7 +92,7 @@ module _ (c : Content) (key fields : List ℕ) where
           ∙ (ap (λ written. told true written has_room) written ∙ ap (told true true) e)
 
       made : (place : Option ℕ) → judged c (Some (set_step place)) ≡ Ok (set_step place)
-      unfolding meets_step
+      unfolding step_checks
       made None = refl
       made (Some k) = refl
 
@@ -123,14 +123,14 @@ module _ (c : Content) (key fields : List ℕ) where
         pub too_many : attribute_limit ≤ length c.attributes → Err TooMuch ≡ judged_change c (SetAttribute key fields)
         too_many many =
             let n = more in
-            sym (by_room false (never has_room (λ e.
+            sym (by_room false (false_from_ne_true has_room (λ e.
             let few = leb-true (length (with_attribute (attribute_of key fields) c.attributes)) attribute_limit e in
             omega arith)))
 
 module _ (c : Content) (key : List ℕ) where
   abbrev drop_told : Bool → Option ℕ → Result Step EditFault
   drop_told named place =
-      judged_unless c (refused_unless named AttributeRefused (refused_unless (is_some place) NoAttribute None))
+      judged_unless c (first ((AttributeRefused, not named) ∷ (NoAttribute, is_none place) ∷ []))
       (option_map TakeAttribute place)
 
   pub bad_drop : is_key key ≡ false → Err AttributeRefused ≡ judged_change c (DropAttribute key)
@@ -146,7 +146,7 @@ module _ (c : Content) (key : List ℕ) where
     nothing_dropped at = sym (by_place None at)
 
     pub dropped : (k : ℕ) → Some k ≡ attribute_place key c.attributes → Ok (TakeAttribute k) ≡ judged_change c (DropAttribute key)
-    unfolding meets_step
+    unfolding step_checks
     dropped k at = sym (by_place (Some k) at)
 
 pub fits_there : (c : Content) (key : List ℕ) (k : ℕ) → Some k ≡ attribute_place key c.attributes → k < length c.attributes

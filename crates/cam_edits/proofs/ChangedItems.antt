@@ -12,8 +12,6 @@ use Rattle.cam_objects.specs.declared.drill_item.DrillItem.TheVariants.{Hit, Rou
 use Rattle.cam_objects.specs.declared.entry.Entry.{Entry}
 use Rattle.cam_objects.specs.declared.item.Item.{Item}
 use Rattle.cam_objects.specs.declared.item.Item.TheVariants.{One, Repeat}
-use Rattle.cam_objects.specs.declared.item_fault.ItemFault.TheVariants.{Malformed, UnknownAperture, UnknownTool, WrongAperture}
-use Rattle.cam_objects.specs.declared.item_fault.ItemFault.TheVariants.{ZeroRadius, OutOfBoard, TooMuch}
 use Rattle.cam_objects.specs.declared.object.Object.{Object}
 use Rattle.cam_objects.specs.declared.object.Object.TheVariants.{Flash, Draw, Arc, Region}
 use Rattle.cam_objects.specs.Bounds.{bounds_of, box_of_shape}
@@ -31,35 +29,23 @@ use Rattle.cam_objects.specs.Leaves.{
   origin,
   round_width,
 }
-use Rattle.cam_objects.specs.Soundness.{HasRadius, IsDrawable, IsFormed, IsInside, IsKnown, IsSoundItem}
-use Rattle.cam_objects.specs.Soundness.{IsWithinLimits, MeetsItem, objects_of, points_of, segs_of}
+use Rattle.cam_objects.specs.Soundness.{IsInside, IsSoundItem}
+use Rattle.cam_objects.specs.Soundness.{objects_of, points_of, segs_of}
 use Rattle.cam_objects.specs.Weights.{Weight, item_count, object_count, weight_in}
 use Rattle.cam_objects.proofs.BoardLeaves.{board_alike}
 use Rattle.cam_objects.proofs.PlacedBoxes.{box_of_leaves, flash_placed}
 use Rattle.cam_objects.proofs.PlacedShapes.{IsPlacedSo, box_of_points, points_so, shapes_so}
 use Rattle.cam_edits.specs.DrillSteps.{with_tool}
-use Rattle.cam_edits.specs.Steps.{with_aperture, with_object, with_polarity}
+use Rattle.cam_edits.specs.Steps.{with_object, with_polarity}
 use Rattle.cam_objects.specs.declared.tip.Tip.{Tip}
 use Rattle.cam_units.specs.declared.turn.Turn.{Turn}
+use Rattle.cam_objects.proofs.SoundItems.{HasRadius, IsDrawable, IsFormed, IsKnown, meets, meets_drill, sound, sound_drill}
 
 -- what holds of each object, changed
 each_kept : (f : Object → Object) (P : Object → Type 0) → ((o : Object) → P o → P (f o)) → (item : Item)
     → All P (objects_of item) → All P (objects_of (with_object f item))
 each_kept f P kept (One o) h = All-cons P (f o) [] (kept o (All-head P o [] h)) (All-nil P)
 each_kept f P kept (Repeat columns rows i j objects) h = h
-
--- ---- another aperture
-
-aperture_formed : (n : ℕ) (o : Object) → IsFormed o → IsFormed (with_aperture n o)
-aperture_formed n (Flash m at t dark) h = tt
-aperture_formed n (Draw m from to t dark) h = tt
-aperture_formed n (Arc ccw dark m from to centre) h = tt
-aperture_formed n (Region contour dark) h = h
-
-pub formed_with_aperture : (es : List (ℕ × Entry)) (n : ℕ) (item : Item) → MeetsItem es item Malformed
-    → MeetsItem es (with_object (with_aperture n) item) Malformed
-formed_with_aperture es n (One o) h = (tt, each_kept (with_aperture n) IsFormed (aperture_formed n) (One o) h.1)
-formed_with_aperture es n (Repeat columns rows i j objects) h = h
 
 -- ---- another polarity
 
@@ -96,26 +82,26 @@ module _ (dark : Bool) where
   box_with_polarity es (Repeat columns rows i j objects) = refl
 
   formed : (o : Object) → IsFormed o → IsFormed (inked o)
-  formed (Flash n at t before) h = tt
-  formed (Draw n from to t before) h = tt
-  formed (Arc ccw before n from to centre) h = tt
+  formed (Flash n at t before) h = refl
+  formed (Draw n from to t before) h = refl
+  formed (Arc ccw before n from to centre) h = refl
   formed (Region contour before) h = h
 
   known : (es : List (ℕ × Entry)) (o : Object) → IsKnown es o → IsKnown es (inked o)
   known es (Flash n at t before) h = h
   known es (Draw n from to t before) h = h
   known es (Arc ccw before n from to centre) h = h
-  known es (Region contour before) h = tt
+  known es (Region contour before) h = refl
 
   drawable : (means : ℕ → Meaning) (o : Object) → IsDrawable means o → IsDrawable means (inked o)
-  drawable means (Flash n at t before) h = tt
+  drawable means (Flash n at t before) h = refl
   drawable means (Draw n from to t before) h = h
   drawable means (Arc ccw before n from to centre) h = h
-  drawable means (Region contour before) h = tt
+  drawable means (Region contour before) h = refl
 
   radius : (o : Object) → HasRadius o → HasRadius (inked o)
-  radius (Flash n at t before) h = tt
-  radius (Draw n from to t before) h = tt
+  radius (Flash n at t before) h = refl
+  radius (Draw n from to t before) h = refl
   radius (Arc ccw before n from to centre) h = h
   radius (Region contour before) h = h
 
@@ -153,20 +139,21 @@ module _ (dark : Bool) where
 
   -- a sound object of another polarity is sound
   object_with_polarity : (es : List (ℕ × Entry)) (o : Object) → IsSoundItem es (One o) → IsSoundItem es (One (inked o))
-  object_with_polarity es o h Malformed =
-      let before = h Malformed in (tt, each_kept inked IsFormed formed (One o) before.1)
-  object_with_polarity es o h UnknownAperture = each_kept inked (IsKnown es) (known es) (One o) (h UnknownAperture)
-  object_with_polarity es o h UnknownTool = tt
-  object_with_polarity es o h WrongAperture =
-      each_kept inked (IsDrawable (meaning_in es)) (drawable (meaning_in es)) (One o) (h WrongAperture)
-  object_with_polarity es o h ZeroRadius = each_kept inked HasRadius radius (One o) (h ZeroRadius)
-  object_with_polarity es o h OutOfBoard = inside es o (h OutOfBoard)
-  object_with_polarity es o h TooMuch =
-      let limits : IsWithinLimits es (One o) = h TooMuch in record {
-        segs = each_kept inked (λ o. length (segs_of o) ≤ 1000000) few_segs (One o) limits.segs;
-        objects = limits.objects;
-        leaves = subst (λ k. k ≤ 4000000) (sym (counted (weight_in es) o)) limits.leaves;
-      }
+  object_with_polarity es o h =
+      let m = meets es (One o) h in
+      sound es (One (inked o)) (record {
+        repeated = tt;
+        formed = each_kept inked IsFormed formed (One o) m.formed;
+        known = each_kept inked (IsKnown es) (known es) (One o) m.known;
+        drawable = each_kept inked (IsDrawable (meaning_in es)) (drawable (meaning_in es)) (One o) m.drawable;
+        radii = each_kept inked HasRadius radius (One o) m.radii;
+        inside = inside es o m.inside;
+        limits = record {
+          segs = each_kept inked (λ o. length (segs_of o) ≤ 1000000) few_segs (One o) m.limits.segs;
+          objects = m.limits.objects;
+          leaves = subst (λ k. k ≤ 4000000) (sym (counted (weight_in es) o)) m.limits.leaves;
+        };
+      })
 
   pub sound_with_polarity : (es : List (ℕ × Entry)) (item : Item) → IsSoundItem es item
       → IsSoundItem es (with_object inked item)
@@ -183,17 +170,9 @@ count_with_tool t (Rout before points) = refl
 pub sound_with_tool : (ts : List (ℕ × Nm)) (t : ℕ) (item : DrillItem) → IsTrue (is_some (diameter_of ts t))
     → IsSoundDrillItem ts item
     → IsSoundDrillItem ts (with_tool t item)
-sound_with_tool ts t (Hit before at) there h Malformed = h Malformed
-sound_with_tool ts t (Hit before at) there h UnknownAperture = tt
-sound_with_tool ts t (Hit before at) there h UnknownTool = there
-sound_with_tool ts t (Hit before at) there h WrongAperture = tt
-sound_with_tool ts t (Hit before at) there h ZeroRadius = tt
-sound_with_tool ts t (Hit before at) there h OutOfBoard = h OutOfBoard
-sound_with_tool ts t (Hit before at) there h TooMuch = h TooMuch
-sound_with_tool ts t (Rout before points) there h Malformed = h Malformed
-sound_with_tool ts t (Rout before points) there h UnknownAperture = tt
-sound_with_tool ts t (Rout before points) there h UnknownTool = there
-sound_with_tool ts t (Rout before points) there h WrongAperture = tt
-sound_with_tool ts t (Rout before points) there h ZeroRadius = tt
-sound_with_tool ts t (Rout before points) there h OutOfBoard = h OutOfBoard
-sound_with_tool ts t (Rout before points) there h TooMuch = h TooMuch
+sound_with_tool ts t (Hit before at) there h =
+    let m = meets_drill ts (Hit before at) h in
+    sound_drill ts (Hit t at) (record { some = m.some; known = there; inside = m.inside; few = m.few })
+sound_with_tool ts t (Rout before points) there h =
+    let m = meets_drill ts (Rout before points) h in
+    sound_drill ts (Rout t points) (record { some = m.some; known = there; inside = m.inside; few = m.few })

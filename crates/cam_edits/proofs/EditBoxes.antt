@@ -13,7 +13,7 @@ use Rattle.cam_edits.specs.BoxLaws.{ChangesInside, EditBoxLaw}
 use Rattle.cam_edits.specs.Boards.{changed_at, content_at, content_or_empty, place_named, with_content}
 use Rattle.cam_edits.specs.DrillSteps.{after_drill_step}
 use Rattle.cam_edits.specs.Editing.{drill_step_of, edited, edited_at, edited_sheet, judged_change, judged_drill}
-use Rattle.cam_edits.specs.Editing.{meets_drill_step, meets_step, with_drill_step, with_step}
+use Rattle.cam_edits.specs.Editing.{with_drill_step, with_step}
 use Rattle.cam_edits.specs.Images.{image_of}
 use Rattle.cam_edits.specs.Machinery.PlaceLaws.{get_set}
 use Rattle.cam_edits.specs.Places.{changed_to}
@@ -26,7 +26,7 @@ use Rattle.cam_edits.proofs.EditedLists.{get_other}
 use Rattle.cam_edits.proofs.FittingEdits as fitting_edits
 use Rattle.cam_edits.proofs.GerberStepBoxes.{step_keeps_outside}
 use Rattle.cam_edits.proofs.RedrawnItems.{AreOff}
-use Rattle.cam_edits.proofs.Refusals.{each_met}
+use Rattle.cam_edits.proofs.MetSteps.{drill_met, met}
 
 abbrev touch : ℕ → List Bounds → Touch
 touch place boxes = record { sheet = place; boxes = boxes }
@@ -66,14 +66,14 @@ gerber_kept : (c : GerberContent) (change : Change) (step : Step) → judged_cha
     → KeepsOutside (boxes_in change (Gerber c)) (Gerber c) (Gerber (after_step step c))
 gerber_kept c change step e s off =
     let told = fitting_edits.change_accepted c change step e in
-    step_keeps_outside c step (each_met (meets_step c step) told.1) s
+    step_keeps_outside c step (met c step told.1) s
     (subst (λ (o : Option Step). AreOff s (boxes_of_step o c)) told.0 off)
 
 drill_kept : (c : DrillContent) (o : Option DrillStep) (step : DrillStep) → judged_drill c o ≡ Ok step
     → KeepsOutside (boxes_of_drill_step o c) (Drill c) (Drill (after_drill_step step c))
 drill_kept c o step e s off =
     let told = drill_edits.accepted c o step e in
-    drill_step_keeps_outside c step (each_met (meets_drill_step c step) told.1) s
+    drill_step_keeps_outside c step (drill_met c step told.1) s
     (subst (λ (o : Option DrillStep). AreOff s (boxes_of_drill_step o c)) told.0 off)
 
 module _ (change : Change) (sheets after : List Sheet) (place : ℕ) where

@@ -1,30 +1,25 @@
 -- Edits of a Gerber layer that are not refused: their steps fit.
-use Rattle.std.proofs.Common.{◌≡◌, Bool, true, nat_lt}
-use Rattle.std.proofs.Common.{length, Option, None, Some, Result, Ok, Err, IfOk, refl, ap, sym, subst, ◌∙◌}
-use Rattle.std.proofs.lemmas.Bool.{leb-true, ltb-true}
+use Rattle.std.proofs.Common.{◌≡◌, true}
+use Rattle.std.proofs.Common.{Option, None, Some, Result, Ok, Err, IfOk, refl, ap, sym, subst}
+use Rattle.cam_refusals.specs.Checks.{first}
 use Rattle.cam_objects.specs.Contents.{Content}
-use Rattle.cam_objects.specs.Demands.{meets_item}
-use Rattle.cam_objects.specs.Shifting.{shifted_item}
 use Rattle.cam_objects.specs.Soundness.{IsSoundContent, IsSoundItem}
 use Rattle.cam_objects.specs.declared.item.Item.{Item}
 use Rattle.cam_objects.specs.declared.item.Item.TheVariants.{One, Repeat}
-use Rattle.cam_objects.specs.declared.item_fault.ItemFault.TheVariants as items
 use Rattle.cam_objects.specs.declared.object.Object.TheVariants.{Flash, Draw, Arc, Region}
 use Rattle.cam_edits.specs.declared.edit.Change.{Change}
 use Rattle.cam_edits.specs.declared.fault.EditFault.{EditFault}
 use Rattle.cam_edits.specs.declared.step.Step.{Step}
 use Rattle.cam_edits.specs.declared.step.Step.TheVariants.{Insert, Delete, Move, Reorder, Aperture, Polarity}
 use Rattle.cam_edits.specs.declared.step.Step.TheVariants.{PutAttribute, TakeAttribute, SetFields}
-use Rattle.cam_edits.specs.AttributeEdits.{attribute_refusal}
-use Rattle.cam_edits.specs.Editing.{first_refusal, has_aperture, has_polarity, holds_of, judged, judged_change}
-use Rattle.cam_edits.specs.Editing.{judged_unless, meets_step, step_of, step_unless}
-use Rattle.cam_edits.specs.Machinery.PlaceLaws.{element_at}
+use Rattle.cam_edits.specs.AttributeEdits.{attribute_checks}
+use Rattle.cam_edits.specs.Editing.{has_aperture, has_polarity, judged, judged_change}
+use Rattle.cam_edits.specs.Editing.{judged_unless, step_checks, step_of, step_unless}
 use Rattle.cam_edits.specs.Moving.{IsMovableItem, way}
 use Rattle.cam_edits.specs.Steps.{HasAperture, IsFit, IsOne}
-use Rattle.cam_objects.proofs.DemandLaws.{demand_law}
 use Rattle.cam_edits.proofs.ItemMoves.{movable_item, shiftable_way, short_item}
-use Rattle.cam_edits.proofs.Refusals.{MeetsEach, and_parts, each_met, has_at}
-use Rattle.cam_edits.proofs.Refusals.{item_at}
+use Rattle.cam_edits.proofs.MetSteps.{IsMet, met}
+use Rattle.cam_edits.proofs.Refusals.{has_at, item_at}
 
 module _ (c : Content) where
   -- ---- an edit of items
@@ -51,45 +46,32 @@ module _ (c : Content) where
   one_object (One object) e = tt
   one_object (Repeat columns rows i j objects) e = absurd cc
 
-  fits : (step : Step) → IsItemStep step → IsSoundContent c.entries c.items → MeetsEach (meets_step c step)
-      → IsFit step c
-  unfolding meets_step
-  fits (Insert k item) is h m = leb-true k (length c.items) m.place
-  fits (Delete k) is h m = ltb-true k (length c.items) m.place
+  fits : (step : Step) → IsItemStep step → IsSoundContent c.entries c.items → IsMet c step → IsFit step c
+  fits (Insert k item) is h m = m.0
+  fits (Delete k) is h m = m
   fits (Move k dx dy) is h m =
-      let at = element_at c.items k (ltb-true k (length c.items) m.place) in
-      let lands : Item → Bool = λ item. meets_item c.entries (shifted_item (way dx dy) item) items.OutOfBoard in
-      let inside = (demand_law.item c.entries (shifted_item (way dx dy) at.0) items.OutOfBoard).0
-      (sym (ap (holds_of lands) at.1) ∙ m.board) in
-      let sound : IsSoundItem c.entries at.0 = item_at (IsSoundItem c.entries) c.items k at.0 h.items at.1 in (
-        shiftable_way (way dx dy) (short_item (way dx dy) c.entries at.0 sound inside),
-        has_at (IsMovableItem (way dx dy)) c.items k at.0 at.1 (movable_item (way dx dy) c.entries at.0 sound inside),
+      let by = way dx dy in
+      let sound : IsSoundItem c.entries m.0 = item_at (IsSoundItem c.entries) c.items k m.0 h.items m.1 in (
+        shiftable_way by (short_item by c.entries m.0 sound m.2),
+        has_at (IsMovableItem by) c.items k m.0 m.1 (movable_item by c.entries m.0 sound m.2),
       )
-  fits (Reorder k m) is h met =
-      let there = and_parts (nat_lt k (length c.items)) (nat_lt m (length c.items)) met.place in
-      (ltb-true k (length c.items) there.0, ltb-true m (length c.items) there.1)
-  fits (Aperture k n) is h m =
-      let at = element_at c.items k (ltb-true k (length c.items) m.place) in
-      has_at (IsOne HasAperture) c.items k at.0 at.1
-      (one_aperture at.0 (sym (ap (holds_of has_aperture) at.1) ∙ m.has))
-  fits (Polarity k dark) is h m =
-      let at = element_at c.items k (ltb-true k (length c.items) m.place) in
-      has_at (IsOne (λ _. Unit {0})) c.items k at.0 at.1
-      (one_object at.0 (sym (ap (holds_of has_polarity) at.1) ∙ m.has))
+  fits (Reorder k m) is h both = both
+  fits (Aperture k n) is h m = has_at (IsOne HasAperture) c.items k m.0 m.1 (one_aperture m.0 m.2.0)
+  fits (Polarity k dark) is h m = has_at (IsOne (λ _. Unit {0})) c.items k m.0 m.1 (one_object m.0 m.2)
   fits (PutAttribute k a) is h m = absurd is
   fits (TakeAttribute k) is h m = absurd is
   fits (SetFields k fields) is h m = absurd is
 
   -- a step that is answered is that of the edit, and nothing refuses it
   pub accepted : (o : Option Step) (step : Step) → judged c o ≡ Ok step
-      → (o ≡ Some step) × (first_refusal (meets_step c step) ≡ None)
+      → (o ≡ Some step) × (first (step_checks c step) ≡ None)
   accepted None step e = absurd cc
-  accepted (Some asked) step e = go (first_refusal (meets_step c asked)) refl e where
-    go : (told : Option EditFault) → first_refusal (meets_step c asked) ≡ told → step_unless c asked told ≡ Ok step
-        → (Some asked ≡ Some step) × (first_refusal (meets_step c step) ≡ None)
+  accepted (Some asked) step e = go (first (step_checks c asked)) refl e where
+    go : (told : Option EditFault) → first (step_checks c asked) ≡ told → step_unless c asked told ≡ Ok step
+        → (Some asked ≡ Some step) × (first (step_checks c step) ≡ None)
     go None is e =
         let same : asked ≡ step = cc in
-        (ap Some same, subst (λ s. first_refusal (meets_step c s) ≡ None) same is)
+        (ap Some same, subst (λ s. first (step_checks c s) ≡ None) same is)
     go (Some fault) is e = absurd cc
 
   pub judged_fits : (asked : Step) → IsItemStep asked → (r : Result Step EditFault) → IsSoundContent c.entries c.items
@@ -97,22 +79,22 @@ module _ (c : Content) where
   judged_fits asked item (Ok step) h e =
       let told = accepted (Some asked) step (sym e) in
       let same : asked ≡ step = cc in
-      fits step (subst IsItemStep same item) h (each_met (meets_step c step) told.1)
+      fits step (subst IsItemStep same item) h (met c step told.1)
   judged_fits asked item (Err fault) h e = tt
 
   -- ---- changes
 
   module _ (change : Change) (step : Step) (e : judged_change c change ≡ Ok step) where
     -- one that is answered is not refused for attributes either
-    answered : (o : Option EditFault) → attribute_refusal c.attributes change ≡ o
+    answered : (o : Option EditFault) → first (attribute_checks c.attributes change) ≡ o
         → judged_unless c o (step_of c.attributes change) ≡ Ok step
         → (o ≡ None) × (judged c (step_of c.attributes change) ≡ Ok step)
     answered None is e = (refl, e)
     answered (Some fault) is e = absurd cc
 
-    pub not_refused : attribute_refusal c.attributes change ≡ None
-    not_refused = (answered (attribute_refusal c.attributes change) refl e).0
+    pub not_refused : first (attribute_checks c.attributes change) ≡ None
+    not_refused = (answered (first (attribute_checks c.attributes change)) refl e).0
 
-    pub change_accepted : (step_of c.attributes change ≡ Some step) × (first_refusal (meets_step c step) ≡ None)
+    pub change_accepted : (step_of c.attributes change ≡ Some step) × (first (step_checks c step) ≡ None)
     change_accepted =
-        accepted (step_of c.attributes change) step (answered (attribute_refusal c.attributes change) refl e).1
+        accepted (step_of c.attributes change) step (answered (first (attribute_checks c.attributes change)) refl e).1

@@ -10,42 +10,37 @@ use Rattle.cam_objects.proofs.Painting.{All_left}
 use Rattle.cam_edits.specs.declared.step.Step.{Step}
 use Rattle.cam_edits.specs.declared.step.Step.TheVariants.{Insert, Delete, Move, Reorder, Aperture, Polarity}
 use Rattle.cam_edits.specs.declared.step.Step.TheVariants.{PutAttribute, TakeAttribute, SetFields}
-use Rattle.cam_edits.specs.Editing.{meets_step}
+use Rattle.cam_edits.specs.Machinery.PlaceLaws.{element_at}
 use Rattle.cam_edits.specs.Moving.{way}
 use Rattle.cam_edits.specs.Steps.{after_step, with_aperture, with_object, with_polarity}
 use Rattle.cam_edits.specs.Touched.{box_if_there, item_box, touched}
-use Rattle.cam_edits.proofs.MetDemands.{both, item_there}
+use Rattle.cam_edits.proofs.MetSteps.{IsMet}
 use Rattle.cam_edits.proofs.RedrawnItems.{AreOff, IsOff, carried_off, changed_off, item_off, put_in, taken_out}
-use Rattle.cam_edits.proofs.Refusals.{MeetsEach}
 
-pub step_keeps_outside : (c : Content) (step : Step) → MeetsEach (meets_step c step) → (s : Spot)
+pub step_keeps_outside : (c : Content) (step : Step) → IsMet c step → (s : Spot)
     → AreOff s (touched step c) → is_black (content_leaves c) s ≡ is_black (content_leaves (after_step step c)) s
-unfolding meets_step touched
+unfolding touched
 step_keeps_outside c (Insert k item) met s off =
     let paints = item_leaves (meaning_in c.entries) in
     put_in paints s c.items k item (item_off paints s (Some item) item refl off)
 step_keeps_outside c (Delete k) met s off =
     let paints = item_leaves (meaning_in c.entries) in
-    let there = item_there c.items k met.place in
+    let there = element_at c.items k met in
     taken_out paints s c.items k there.0 there.1
     (item_off paints s (slice_get c.items k) there.0 there.1
     (All_left (IsOff s) (box_if_there (item_box c.entries) (slice_get c.items k)) [] off))
 step_keeps_outside c (Move k dx dy) met s off =
-    let there = item_there c.items k met.place in
-    changed_off (item_leaves (meaning_in c.entries)) s c.items k there.0 there.1 (shifted_item (way dx dy)) off
+    changed_off (item_leaves (meaning_in c.entries)) s c.items k met.0 met.1 (shifted_item (way dx dy)) off
 step_keeps_outside c (Reorder k m) met s off =
     let paints = item_leaves (meaning_in c.entries) in
-    let places = both _ _ met.place in
-    let there = item_there c.items k places.0 in
+    let there = element_at c.items k met.0 in
     let boxes = box_if_there (item_box c.entries) (slice_get c.items k) in
     carried_off paints s c.items k there.0 there.1
     (item_off paints s (slice_get c.items k) there.0 there.1 (All_left (IsOff s) boxes boxes off)) m
 step_keeps_outside c (Aperture k n) met s off =
-    let there = item_there c.items k met.place in
-    changed_off (item_leaves (meaning_in c.entries)) s c.items k there.0 there.1 (with_object (with_aperture n)) off
+    changed_off (item_leaves (meaning_in c.entries)) s c.items k met.0 met.1 (with_object (with_aperture n)) off
 step_keeps_outside c (Polarity k dark) met s off =
-    let there = item_there c.items k met.place in
-    changed_off (item_leaves (meaning_in c.entries)) s c.items k there.0 there.1 (with_object (with_polarity dark)) off
+    changed_off (item_leaves (meaning_in c.entries)) s c.items k met.0 met.1 (with_object (with_polarity dark)) off
 step_keeps_outside c (PutAttribute k a) met s off = refl
 step_keeps_outside c (TakeAttribute k) met s off = refl
 step_keeps_outside c (SetFields k fields) met s off = refl

@@ -17,11 +17,11 @@ use Rattle.cam_objects.specs.declared.object.Object.{Object}
 use Rattle.cam_objects.specs.declared.object.Object.TheVariants.{Flash, Draw, Arc, Region}
 use Rattle.cam_objects.specs.declared.item.Item.{Item}
 use Rattle.cam_objects.specs.declared.item.Item.TheVariants.{One, Repeat}
-use Rattle.cam_objects.specs.declared.item_fault.ItemFault.TheVariants.{Malformed, OutOfBoard}
-use Rattle.cam_objects.specs.DrillSoundness.{IsSoundDrillItem, MeetsDrillItem}
+use Rattle.cam_objects.specs.DrillSoundness.{IsSoundDrillItem, drill_points_of}
 use Rattle.cam_objects.specs.Shifting.{IsMove, shifted_drill_item, shifted_item, shifted_object}
 use Rattle.cam_objects.specs.Soundness.{IsInside, IsSoundItem, points_of, points_of_seg}
 use Rattle.cam_edits.specs.Moving.{IsMovableDrillItem, IsMovableItem, IsMovableObject, IsMovablePoint, IsMovableSeg}
+use Rattle.cam_objects.proofs.SoundItems.{meets, meets_drill}
 
 -- ---- points
 
@@ -136,16 +136,17 @@ module _ (by : Point) where
   module _ (es : List (ℕ × Entry)) where
     -- a sound item that is moved on the board goes no long way
     pub short_item : (item : Item) → IsSoundItem es item → IsInside es (shifted_item by item) → IsMove by
-    short_item (One o) h inside = short_objects (o ∷ []) (omega arith) (h OutOfBoard).points inside.points
+    short_item (One o) h inside = short_objects (o ∷ []) (omega arith) (meets es (One o) h).inside.points inside.points
     short_item (Repeat columns rows i j os) h inside =
-        short_objects os ((h Malformed).0).1 (h OutOfBoard).points inside.points
+        let m = meets es (Repeat columns rows i j os) h in short_objects os m.repeated.1 m.inside.points inside.points
 
     -- and can be moved back
     pub movable_item : (item : Item) → IsSoundItem es item → IsInside es (shifted_item by item) → IsMovableItem by item
     movable_item (One o) h inside =
-        movable_object o (All-head AreStanding o [] (h OutOfBoard).points)
+        movable_object o (All-head AreStanding o [] (meets es (One o) h).inside.points)
         (All-head AreStanding (shifted_object by o) [] inside.points)
-    movable_item (Repeat columns rows i j os) h inside = movable_objects os (h OutOfBoard).points inside.points
+    movable_item (Repeat columns rows i j os) h inside =
+        movable_objects os (meets es (Repeat columns rows i j os) h).inside.points inside.points
 
   -- ---- drill items
 
@@ -164,11 +165,15 @@ module _ (by : Point) where
 
   module _ (tools : List (ℕ × Nm)) where
     pub short_drill_item : (item : DrillItem) → IsSoundDrillItem tools item
-        → MeetsDrillItem tools (shifted_drill_item by item) OutOfBoard → IsMove by
-    short_drill_item (Hit tool at) h inside = short_points (at ∷ []) (omega arith) (h OutOfBoard) inside
-    short_drill_item (Rout tool points) h inside = short_points points (h Malformed) (h OutOfBoard) inside
+        → All IsOnBoard (drill_points_of (shifted_drill_item by item)) → IsMove by
+    short_drill_item (Hit tool at) h inside =
+        short_points (at ∷ []) (omega arith) (meets_drill tools (Hit tool at) h).inside inside
+    short_drill_item (Rout tool points) h inside =
+        let m = meets_drill tools (Rout tool points) h in short_points points m.some m.inside inside
 
     pub movable_drill_item : (item : DrillItem) → IsSoundDrillItem tools item
-        → MeetsDrillItem tools (shifted_drill_item by item) OutOfBoard → IsMovableDrillItem by item
-    movable_drill_item (Hit tool at) h inside = movable_first at [] [] (h OutOfBoard) inside
-    movable_drill_item (Rout tool points) h inside = movable_points points (h OutOfBoard) inside
+        → All IsOnBoard (drill_points_of (shifted_drill_item by item)) → IsMovableDrillItem by item
+    movable_drill_item (Hit tool at) h inside =
+        movable_first at [] [] (meets_drill tools (Hit tool at) h).inside inside
+    movable_drill_item (Rout tool points) h inside =
+        movable_points points (meets_drill tools (Rout tool points) h).inside inside

@@ -14,7 +14,6 @@ use Rattle.cam_objects.specs.Drilling.{drill_item_leaves}
 use Rattle.cam_objects.specs.declared.drill_item.DrillItem.{DrillItem}
 use Rattle.cam_objects.specs.declared.drill_item.DrillItem.TheVariants.{Hit, Rout}
 use Rattle.cam_objects.specs.declared.drill_layer.DrillLayer.{DrillLayer}
-use Rattle.cam_objects.specs.declared.item_fault.ItemFault.TheVariants.{TooMuch}
 use Rattle.cam_objects.proofs.EditedLayers.{drill_edits}
 use Rattle.cam_edits.specs.declared.indexed.Kept.{Kept}
 use Rattle.cam_edits.specs.declared.drill_step.DrillStep.{DrillStep}
@@ -23,6 +22,7 @@ use Rattle.cam_edits.specs.declared.shift.Shift.{Shift}
 use Rattle.cam_edits.specs.DrillSteps.{IsDrillFit, after_drill_step}
 use Rattle.cam_edits.specs.Editing.{is_tool_size}
 use Rattle.cam_edits.specs.Machinery.Shifts.{IsKeptOfDrill, IsShift, WasKeptUnsized, WereCells, drill_leaves_at, drill_leaves_in}
+use Rattle.cam_objects.proofs.SoundItems.{meets_drill}
 use Rattle.cam_edits.proofs.ShiftedItems.{shifted_all, were_cells}
 use Rattle.cam_edits.proofs.SoundDrillEdits.{sized_tool}
 
@@ -35,7 +35,7 @@ few_from (p ∷ q ∷ ps) = omega arith
 pub few_holes : (tools : List (ℕ × Nm)) (item : DrillItem) → IsSoundDrillItem tools item → drill_count_of item ≤ 4000000
 few_holes tools (Hit tool at) h = omega arith
 few_holes tools (Rout tool points) h =
-    let few : length points ≤ 1000000 = h TooMuch in omega (arith, few, few_from points)
+    let m = meets_drill tools (Rout tool points) h in omega (arith, m.few, few_from points)
 
 module _ (before layer : DrillLayer) (shift : Shift) (tools : before.tools ≡ layer.tools)
     (shifted : IsShift shift before.items.items layer.items.items) where

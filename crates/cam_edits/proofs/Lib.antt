@@ -17,7 +17,7 @@ pub mod DrillEdits
 pub mod Plans
 pub mod ChangedItems
 pub mod EditedLists
-pub mod MetDemands
+pub mod MetSteps
 pub mod SoundDrillEdits
 pub mod SoundEdits
 pub mod TouchedBoxes

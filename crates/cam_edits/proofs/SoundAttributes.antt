@@ -1,5 +1,5 @@
 -- An edit leaves the attributes of a layer sound.
-use Rattle.std.proofs.Common.{◌≡◌, ◌≢◌, ℕ, suc, Bool, true, false, ◌&&◌, ◌==◌, nat_le, IsTrue, List, [], ◌∷◌}
+use Rattle.std.proofs.Common.{◌≡◌, ◌≢◌, ℕ, suc, Bool, true, ◌&&◌, ◌==◌, nat_le, IsTrue, List, [], ◌∷◌}
 use Rattle.std.proofs.Common.{length, take, drop, Option, None, Some, refl, sym, subst, arith}
 use Rattle.std.specs.Prelude.{remove, slice_get}
 use Rattle.std.specs.List.{All, list_all}
@@ -9,23 +9,23 @@ use Rattle.std.proofs.lemmas.Bool.Decides.{nat_tests}
 use Rattle.std.proofs.lemmas.List.Elements.{All-cons, All-nil}
 use Rattle.cam_objects.specs.Attributes.{AreAttributes, AreFields, IsAttribute, attribute_of, comma, is_attribute_byte}
 use Rattle.cam_objects.specs.Attributes.{place_of as attribute_place, with_attribute}
-use Rattle.cam_objects.specs.Limits.{attribute_limit}
+use Rattle.cam_refusals.specs.Checks.{first}
+use Rattle.cam_refusals.specs.Limits.{attribute_limit}
 use Rattle.cam_objects.specs.declared.attribute.Attribute.{Attribute}
 use Rattle.cam_objects.proofs.EditedAttributes.{attribute_edits}
+use Rattle.cam_objects.proofs.SoundItems.{passed}
 use Rattle.cam_edits.specs.declared.edit.Change.{Change}
 use Rattle.cam_edits.specs.declared.edit.Change.TheVariants as changes
 use Rattle.cam_edits.specs.declared.edit.NewItem.TheVariants as new_items
-use Rattle.cam_edits.specs.declared.fault.EditFault.{EditFault}
-use Rattle.cam_edits.specs.declared.fault.EditFault.TheVariants.{AttributeRefused, TooMuch}
 use Rattle.cam_edits.specs.declared.step.Step.{Step}
 use Rattle.cam_edits.specs.declared.step.Step.TheVariants as steps
-use Rattle.cam_edits.specs.AttributeEdits.{are_fields, attribute_refusal, is_field_byte, is_field_text, is_key, is_key_byte, refused_unless}
+use Rattle.cam_edits.specs.AttributeEdits.{are_fields, attribute_checks, is_field_byte, is_field_text, is_key, is_key_byte}
 use Rattle.cam_edits.specs.AttributeEdits.{setting_step}
 use Rattle.cam_edits.specs.Editing.{step_of}
 use Rattle.cam_edits.specs.Steps.{attributes_after}
 use Rattle.cam_edits.proofs.AttributeSteps.{after_setting, named}
 use Rattle.cam_edits.proofs.EditedLists.{split_here}
-use Rattle.cam_edits.proofs.MetDemands.{both}
+use Rattle.cam_edits.proofs.MetSteps.{both}
 
 -- ---- a key and fields that are written as they may be
 
@@ -60,15 +60,15 @@ IsByte byte = IsTrue (is_attribute_byte byte)
 
 fields_bytes : (fields : List ℕ) → are_fields fields ≡ true → All IsByte fields
 fields_bytes [] e = All-nil IsByte
-fields_bytes (first ∷ text) e =
-    let parts = both (first == comma) (is_field_text text) e in
-    let is : first ≡ comma = is_comma first parts.0 in
-    All-cons IsByte first text (subst IsByte (sym is) refl)
+fields_bytes (byte ∷ text) e =
+    let parts = both (byte == comma) (is_field_text text) e in
+    let is : byte ≡ comma = is_comma byte parts.0 in
+    All-cons IsByte byte text (subst IsByte (sym is) refl)
     (all_by is_field_byte IsByte field_byte text (text_bytes text parts.1))
 
 fields_apart : (fields : List ℕ) → are_fields fields ≡ true → AreFields fields
 fields_apart [] e = tt
-fields_apart (first ∷ text) e = is_comma first (both (first == comma) (is_field_text text) e).0
+fields_apart (byte ∷ text) e = is_comma byte (both (byte == comma) (is_field_text text) e).0
 
 written : (key fields : List ℕ) → is_key key ≡ true → are_fields fields ≡ true → IsAttribute (attribute_of key fields)
 written key fields good wrote = record {
@@ -80,23 +80,18 @@ written key fields good wrote = record {
 
 -- ---- the attributes after a step
 
-met : (passed : Bool) (fault : EditFault) (later : Option EditFault) → refused_unless passed fault later ≡ None
-    → (passed ≡ true) × (later ≡ None)
-met true fault later e = (refl, e)
-met false fault later e = absurd cc
-
 module _ (xs : List Attribute) (h : AreAttributes xs) where
   abbrev AreSoundAfter : Step → Type 0
   AreSoundAfter step = AreAttributes (attributes_after step xs)
 
-  set_sound : (key fields : List ℕ) → attribute_refusal xs (changes.SetAttribute key fields) ≡ None
+  set_sound : (key fields : List ℕ) → first (attribute_checks xs (changes.SetAttribute key fields)) ≡ None
       → AreSoundAfter (setting_step key fields (length xs) (attribute_place key xs))
   set_sound key fields e =
       let new = attribute_of key fields in
       let room = nat_le (length (with_attribute new xs)) attribute_limit in
-      let told = met (is_key key && are_fields fields) AttributeRefused (refused_unless room TooMuch None) e in
+      let told = passed _ (is_key key && are_fields fields) _ e in
       let good = both (is_key key) (are_fields fields) told.0 in
-      let few = leb-true (length (with_attribute new xs)) attribute_limit (met room TooMuch None told.1).0 in
+      let few = leb-true (length (with_attribute new xs)) attribute_limit (passed _ room _ told.1).0 in
       subst AreAttributes (sym (after_setting xs key fields))
       (attribute_edits.set xs new h (record { sound = written key fields good.0 good.1; room = few }))
 
@@ -115,7 +110,7 @@ module _ (xs : List Attribute) (h : AreAttributes xs) where
   kept_by : (asked step : Step) → ◌≡◌ {A = Option Step} (Some asked) (Some step) → AreSoundAfter asked → AreSoundAfter step
   kept_by asked step e sound = let same : asked ≡ step = cc in subst AreSoundAfter same sound
 
-  pub attributes_stay_sound : (change : Change) → attribute_refusal xs change ≡ None → (step : Step)
+  pub attributes_stay_sound : (change : Change) → first (attribute_checks xs change) ≡ None → (step : Step)
       → step_of xs change ≡ Some step → AreSoundAfter step
   attributes_stay_sound (changes.Insert k (new_items.Gerber item)) ok step e = kept_by (steps.Insert k item) step e h
   attributes_stay_sound (changes.Insert k (new_items.Drill item)) ok step e = absurd cc

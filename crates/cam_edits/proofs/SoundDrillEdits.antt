@@ -1,37 +1,33 @@
 -- What a step makes of a sound drill layer is sound.
 use Rattle.std.proofs.Common.{◌≡◌, ℕ, suc, ◌≤◌, Bool, true, false, cond, nat_eq, List, [], ◌∷◌, ◌++◌}
-use Rattle.std.proofs.Common.{take, drop, Option, None, Some, refl, sym, subst, ◌∙◌, arith}
+use Rattle.std.proofs.Common.{take, drop, None, Some, refl, sym, subst, ◌∙◌, arith}
 use Rattle.std.specs.Prelude.{IsSome, IsTrue, insert, is_some, pos, remove, slice_get}
 use Rattle.std.specs.List.{All}
 use Rattle.std.specs.Map.{lookup}
 use Rattle.std.proofs.lemmas.Bool.Decides.{nat_tests}
 use Rattle.std.proofs.lemmas.List.{take-append-drop}
 use Rattle.std.proofs.lemmas.List.Elements.{All-head, All-tail}
+use Rattle.cam_refusals.specs.Checks.{first}
+use Rattle.cam_units.specs.Board.{IsOnBoard}
 use Rattle.cam_units.specs.declared.length.Nm.{Nm}
 use Rattle.cam_units.specs.declared.point.Point.{Point}
 use Rattle.cam_objects.specs.declared.drill_item.DrillItem.{DrillItem}
-use Rattle.cam_objects.specs.declared.item_fault.ItemFault.{ItemFault}
-use Rattle.cam_objects.specs.declared.item_fault.ItemFault.TheVariants.{Malformed, UnknownAperture, UnknownTool, WrongAperture}
-use Rattle.cam_objects.specs.declared.item_fault.ItemFault.TheVariants.{ZeroRadius, OutOfBoard, TooMuch}
 use Rattle.cam_objects.specs.Contents.{DrillContent}
-use Rattle.cam_objects.specs.Demands.{meets_drill_item}
 use Rattle.cam_objects.specs.Drilling.{diameter_of}
 use Rattle.cam_objects.specs.DrillSoundness.{IsSoundDrillContent, IsSoundDrillItem, IsSoundTool}
-use Rattle.cam_objects.specs.DrillSoundness.{KeepsDrillLimits, MeetsDrillItem, drill_count_of}
+use Rattle.cam_objects.specs.DrillSoundness.{KeepsDrillLimits, drill_count_of, drill_points_of}
 use Rattle.cam_objects.specs.Shifting.{shifted_drill_item}
-use Rattle.cam_objects.proofs.DemandLaws.{demand_law}
 use Rattle.cam_objects.proofs.EditedLayers.{drill_edits}
 use Rattle.cam_edits.specs.declared.drill_step.DrillStep.{DrillStep}
 use Rattle.cam_edits.specs.declared.drill_step.DrillStep.TheVariants as steps
 use Rattle.cam_edits.specs.DrillSteps.{drill_items_after, tools_after, with_tool}
-use Rattle.cam_edits.specs.Editing.{first_refusal, holds_of, is_tool_size, meets_drill_step}
-use Rattle.cam_edits.specs.Machinery.PlaceLaws.{changed_is, reordered_is, within}
+use Rattle.cam_edits.specs.Editing.{drill_step_checks, is_tool_size}
+use Rattle.cam_edits.specs.Machinery.PlaceLaws.{changed_is, element_at, reordered_is, within}
 use Rattle.cam_edits.specs.Moving.{way}
 use Rattle.cam_edits.specs.Places.{changed, reordered}
 use Rattle.cam_edits.proofs.ChangedItems.{count_with_tool, sound_with_tool}
 use Rattle.cam_edits.proofs.EditedLists.{all_here, length_behind, length_of_other, set_here, split_here, sum_behind, sum_of_other}
-use Rattle.cam_edits.proofs.MetDemands.{at_most_signed, both, item_there}
-use Rattle.cam_edits.proofs.Refusals.{MeetsEach, each_met}
+use Rattle.cam_edits.proofs.MetSteps.{IsDrillMet, at_most_signed, both, drill_met}
 
 module _ (ts : List (ℕ × Nm)) (xs : List DrillItem) (h : IsSoundDrillContent ts xs) where
   abbrev AreSoundItems : List DrillItem → Type 0
@@ -64,7 +60,7 @@ module _ (ts : List (ℕ × Nm)) (xs : List DrillItem) (h : IsSoundDrillContent 
     removed : AreSoundItems (remove xs k)
     removed = drill_edits.remove ts before after item split
 
-    moved : (by : Point) → MeetsDrillItem ts (shifted_drill_item by item) OutOfBoard
+    moved : (by : Point) → All IsOnBoard (drill_points_of (shifted_drill_item by item))
         → AreSoundItems (changed (shifted_drill_item by) xs k)
     moved by inside =
         subst AreSoundItems (sym (changed_here (shifted_drill_item by)))
@@ -117,62 +113,20 @@ sized_tool ts t d sound there size =
       narrow = at_most_signed d.0 (pos 200000000) sizes.1;
     }
 
-module _ (c : DrillContent) where
-  met : (item : DrillItem) (fault : ItemFault) → IsTrue (meets_drill_item c.tools item fault)
-      → MeetsDrillItem c.tools item fault
-  met item fault told = (demand_law.drill_item c.tools item fault).0 told
-
-  abbrev AreMet : DrillStep → Type 0
-  AreMet step = MeetsEach (meets_drill_step c step)
-
-  pub inserted_drill_item : (k : ℕ) (item : DrillItem) → AreMet (steps.Insert k item)
-      → IsSoundDrillItem c.tools item
-  unfolding meets_drill_step
-  inserted_drill_item k item told Malformed = met item Malformed told.kind
-  inserted_drill_item k item told UnknownAperture = tt
-  inserted_drill_item k item told UnknownTool = met item UnknownTool told.tool
-  inserted_drill_item k item told WrongAperture = tt
-  inserted_drill_item k item told ZeroRadius = tt
-  inserted_drill_item k item told OutOfBoard = met item OutOfBoard told.board
-  inserted_drill_item k item told TooMuch =
-      let few = both _ _ told.limits in met item TooMuch few.0
-
-  pub moved_drill_inside : (k : ℕ) (by : Point) (item : DrillItem) → slice_get c.items k ≡ Some item
-      → AreMet (steps.Move k by.x by.y)
-      → MeetsDrillItem c.tools (shifted_drill_item by item) OutOfBoard
-  unfolding meets_drill_step
-  moved_drill_inside k by item here told =
-      let test = λ (item : DrillItem). meets_drill_item c.tools (shifted_drill_item by item) OutOfBoard in
-      met (shifted_drill_item by item) OutOfBoard
-      (subst (λ (o : Option DrillItem). IsTrue (holds_of test o)) here told.board)
-
-  pub sound_diameter : (t : ℕ) (d : Nm) → IsSoundDrillContent c.tools c.items → AreMet (steps.Diameter t d)
-      → IsSoundTool t d
-  unfolding meets_drill_step
-  sound_diameter t d h told = sized_tool c.tools t d h.tools told.tool told.size
-
-met_step_sound : (c : DrillContent) (step : DrillStep) → IsSoundDrillContent c.tools c.items
-    → MeetsEach (meets_drill_step c step)
+met_step_sound : (c : DrillContent) (step : DrillStep) → IsSoundDrillContent c.tools c.items → IsDrillMet c step
     → IsSoundDrillContent (tools_after step c.tools) (drill_items_after step c.items)
-unfolding meets_drill_step
-met_step_sound c (steps.Insert k item) h told =
-    let room = both _ _ told.limits in
-    inserted c.tools c.items h k item (inserted_drill_item c k item told)
-    ((demand_law.drill_limits (insert c.items k item)).0 room.1)
-met_step_sound c (steps.Delete k) h told =
-    let there = item_there c.items k told.place in removed c.tools c.items h k there.0 there.1
-met_step_sound c (steps.Move k dx dy) h told =
-    let there = item_there c.items k told.place in
-    moved c.tools c.items h k there.0 there.1 (way dx dy) (moved_drill_inside c k (way dx dy) there.0 there.1 told)
-met_step_sound c (steps.Reorder k m) h told =
-    let places = both _ _ told.place in
-    let there = item_there c.items k places.0 in carried c.tools c.items h k there.0 there.1 m
-met_step_sound c (steps.Tool k t) h told =
-    let there = item_there c.items k told.place in retooled c.tools c.items h k there.0 there.1 t told.tool
-met_step_sound c (steps.Diameter t d) h told =
-    drill_edits.diameter c.tools c.items t d h told.tool (sound_diameter c t d h told)
+met_step_sound c (steps.Insert k item) h m = inserted c.tools c.items h k item m.1 m.2
+met_step_sound c (steps.Delete k) h m =
+    let there = element_at c.items k m in removed c.tools c.items h k there.0 there.1
+met_step_sound c (steps.Move k dx dy) h m = moved c.tools c.items h k m.0 m.1 (way dx dy) m.2
+met_step_sound c (steps.Reorder k m) h both =
+    let there = element_at c.items k both.0 in carried c.tools c.items h k there.0 there.1 m
+met_step_sound c (steps.Tool k t) h m =
+    let there = element_at c.items k m.0 in retooled c.tools c.items h k there.0 there.1 t m.1
+met_step_sound c (steps.Diameter t d) h m =
+    drill_edits.diameter c.tools c.items t d h m.0 (sized_tool c.tools t d h.tools m.0 m.1)
 
 pub drill_step_stays_sound : (c : DrillContent) (step : DrillStep) → IsSoundDrillContent c.tools c.items
-    → first_refusal (meets_drill_step c step) ≡ None
+    → first (drill_step_checks c step) ≡ None
     → IsSoundDrillContent (tools_after step c.tools) (drill_items_after step c.items)
-drill_step_stays_sound c step h none = met_step_sound c step h (each_met (meets_drill_step c step) none)
+drill_step_stays_sound c step h none = met_step_sound c step h (drill_met c step none)

@@ -2,7 +2,8 @@
 use Rattle.std.proofs.Common.{◌≡◌, ℕ, ◌<◌, Bool, List, [], ◌∷◌, ◌++◌, length, get_or, Option, None, Some, refl, sym, ap, subst, ◌∙◌}
 use Rattle.std.specs.Prelude.{slice_get}
 use Rattle.std.specs.Option.{option_map}
-use Rattle.std.proofs.lemmas.Option.{slice_get_read}
+use Rattle.std.proofs.lemmas.Option.{slice_get_read, slice_get_within}
+use Rattle.cam_refusals.specs.Checks.{first}
 use Rattle.cam_units.specs.declared.bounds.Bounds.{Bounds}
 use Rattle.cam_units.specs.declared.point.Point.{Point}
 use Rattle.cam_objects.specs.declared.attribute.Attribute.{Attribute}
@@ -12,16 +13,14 @@ use Rattle.cam_objects.specs.Shifting.{IsMove, shifted_item}
 use Rattle.cam_objects.specs.Soundness.{IsInside, IsSoundContent, IsSoundItem}
 use Rattle.cam_edits.specs.declared.step.Step.{Step}
 use Rattle.cam_edits.specs.declared.step.Step.TheVariants as steps
-use Rattle.cam_edits.specs.Editing.{first_refusal, meets_step}
+use Rattle.cam_edits.specs.Editing.{step_checks}
 use Rattle.cam_edits.specs.Machinery.PlaceLaws.{element_at}
 use Rattle.cam_edits.specs.Steps.{with_aperture, with_object, with_polarity}
 use Rattle.cam_edits.specs.Touched.{box_if_there, item_box, touched}
 use Rattle.cam_edits.proofs.ChangedItems.{box_with_polarity}
 use Rattle.cam_edits.proofs.EditedLists.{all_here}
-use Rattle.cam_edits.proofs.MetDemands.{both, less_than}
-use Rattle.cam_edits.proofs.Refusals.{MeetsEach, each_met}
+use Rattle.cam_edits.proofs.MetSteps.{IsMet, IsThere, met}
 use Rattle.cam_edits.proofs.ItemMoves.{short_item}
-use Rattle.cam_edits.proofs.SoundEdits.{inserted_item, item_with_aperture, moved_inside}
 
 -- ---- the box of the item at a place, before a step and after it
 
@@ -54,36 +53,32 @@ module _ {X : Type 0} (box : X → Bounds) (xs : List X) (k : ℕ) where
 
 -- ---- Gerber layers
 
-module _ (c : GerberContent) (step : Step) (none : first_refusal (meets_step c step) ≡ None) where
-  told : (other : Step) → step ≡ other → MeetsEach (meets_step c other)
-  told other is = each_met (meets_step c other) (subst (λ (s : Step). first_refusal (meets_step c s) ≡ None) is none)
+module _ (c : GerberContent) (step : Step) (none : first (step_checks c step) ≡ None) where
+  told : (other : Step) → step ≡ other → IsMet c other
+  told other is = met c other (subst (λ (s : Step). first (step_checks c s) ≡ None) is none)
 
   pub sound_insertion : (k : ℕ) (item : Item) → step ≡ steps.Insert k item → IsSoundItem c.entries item
-  sound_insertion k item is = inserted_item c k item (told (steps.Insert k item) is)
+  sound_insertion k item is = (told (steps.Insert k item) is).1
 
   -- ---- its place is there
 
+  there : {P : Item → Type 0} (k : ℕ) → IsThere c.items k P → k < length c.items
+  there k at = slice_get_within c.items k at.0 at.1
+
   pub delete_within : (k : ℕ) → step ≡ steps.Delete k → k < length c.items
-  unfolding meets_step
-  delete_within k is = let met = told (steps.Delete k) is in less_than k (length c.items) met.place
+  delete_within k is = told (steps.Delete k) is
 
   pub move_within : (k : ℕ) (by : Point) → step ≡ steps.Move k by.x by.y → k < length c.items
-  unfolding meets_step
-  move_within k by is = let met = told (steps.Move k by.x by.y) is in less_than k (length c.items) met.place
+  move_within k by is = there k (told (steps.Move k by.x by.y) is)
 
   pub reorder_within : (k m : ℕ) → step ≡ steps.Reorder k m → k < length c.items
-  unfolding meets_step
-  reorder_within k m is =
-      let met = told (steps.Reorder k m) is in
-      let places = both _ _ met.place in less_than k (length c.items) places.0
+  reorder_within k m is = (told (steps.Reorder k m) is).0
 
   pub aperture_within : (k n : ℕ) → step ≡ steps.Aperture k n → k < length c.items
-  unfolding meets_step
-  aperture_within k n is = let met = told (steps.Aperture k n) is in less_than k (length c.items) met.place
+  aperture_within k n is = there k (told (steps.Aperture k n) is)
 
   pub polarity_within : (k : ℕ) (dark : Bool) → step ≡ steps.Polarity k dark → k < length c.items
-  unfolding meets_step
-  polarity_within k dark is = let met = told (steps.Polarity k dark) is in less_than k (length c.items) met.place
+  polarity_within k dark is = there k (told (steps.Polarity k dark) is)
 
   -- ---- what it makes of the item there may be asked for its box
 
@@ -91,20 +86,25 @@ module _ (c : GerberContent) (step : Step) (none : first_refusal (meets_step c s
     here : k < length c.items → slice_get c.items k ≡ Some x
     here within = slice_get_read c.items (length c.items) k x refl within at
 
+    same_item : (y : Item) → slice_get c.items k ≡ Some y → k < length c.items → y ≡ x
+    same_item y at within = let e : Some y ≡ Some x = sym at ∙ here within in cc
+
     sound : k < length c.items → IsSoundItem c.entries x
     sound within = all_here (IsSoundItem c.entries) c.items k x h.items (here within)
 
     pub sound_aperture : (n : ℕ) → step ≡ steps.Aperture k n → IsSoundItem c.entries (with_object (with_aperture n) x)
     sound_aperture n is =
-        let within = aperture_within k n is in
-        item_with_aperture c k x (here within) n (told (steps.Aperture k n) is) (sound within)
+        let at = told (steps.Aperture k n) is in
+        subst (λ x. IsSoundItem c.entries (with_object (with_aperture n) x)) (same_item at.0 at.1 (aperture_within k n is)) at.2.1
 
     module _ (by : Point) (is : step ≡ steps.Move k by.x by.y) where
       pub sound_before : IsSoundItem c.entries x
       sound_before = sound (move_within k by is)
 
       pub inside_after : IsInside c.entries (shifted_item by x)
-      inside_after = moved_inside c k x (here (move_within k by is)) by (told (steps.Move k by.x by.y) is)
+      inside_after =
+          let at = told (steps.Move k by.x by.y) is in
+          subst (λ x. IsInside c.entries (shifted_item by x)) (same_item at.0 at.1 (move_within k by is)) at.2
 
       pub short_move : IsMove by
       short_move = short_item by c.entries x sound_before inside_after

@@ -11,29 +11,28 @@ use Rattle.std.proofs.lemmas.Int.{ints}
 use Rattle.std.proofs.lemmas.List.{take_all}
 use Rattle.std.proofs.lemmas.List.Elements.{filter_more}
 use Rattle.std.proofs.lemmas.Map.{lookup-set_value}
-use Rattle.std.proofs.lemmas.Option.{slice_get_read}
-use Rattle.cam_units.specs.Board.{IsSize}
+use Rattle.std.proofs.lemmas.Option.{slice_get_read, slice_get_within}
+use Rattle.cam_refusals.specs.Checks.{first}
+use Rattle.cam_units.specs.Board.{IsOnBoard, IsSize}
 use Rattle.cam_units.specs.declared.bounds.Bounds.{Bounds}
 use Rattle.cam_units.specs.declared.length.Nm.{Nm}
 use Rattle.cam_units.specs.declared.point.Point.{Point}
 use Rattle.cam_objects.specs.declared.drill_item.DrillItem.{DrillItem}
 use Rattle.cam_objects.specs.declared.drill_item.DrillItem.TheVariants.{Hit, Rout}
-use Rattle.cam_objects.specs.declared.item_fault.ItemFault.TheVariants.{OutOfBoard}
 use Rattle.cam_objects.specs.Bounds.{bounds_of}
 use Rattle.cam_objects.specs.Contents.{DrillContent}
 use Rattle.cam_objects.specs.Drilling.{diameter_of, drill_item_leaves, leaves_with}
-use Rattle.cam_objects.specs.DrillSoundness.{IsSoundDrillContent, IsSoundDrillItem, MeetsDrillItem, tool_of}
+use Rattle.cam_objects.specs.DrillSoundness.{IsSoundDrillContent, IsSoundDrillItem, drill_points_of, tool_of}
 use Rattle.cam_objects.specs.Shifting.{IsMove, shifted_drill_item}
 use Rattle.cam_edits.specs.declared.drill_step.DrillStep.{DrillStep}
 use Rattle.cam_edits.specs.declared.drill_step.DrillStep.TheVariants as steps
 use Rattle.cam_edits.specs.DrillSteps.{with_tool}
-use Rattle.cam_edits.specs.Editing.{first_refusal, meets_drill_step}
+use Rattle.cam_edits.specs.Editing.{drill_step_checks}
 use Rattle.cam_edits.specs.Touched.{drill_box, drill_touched}
 use Rattle.cam_edits.proofs.EditedLists.{all_here}
-use Rattle.cam_edits.proofs.MetDemands.{both, less_than}
-use Rattle.cam_edits.proofs.Refusals.{MeetsEach, each_met}
+use Rattle.cam_edits.proofs.MetSteps.{IsDrillMet, drill_met}
 use Rattle.cam_edits.proofs.ItemMoves.{short_drill_item}
-use Rattle.cam_edits.proofs.SoundDrillEdits.{inserted_drill_item, moved_drill_inside, sound_diameter}
+use Rattle.cam_edits.proofs.SoundDrillEdits.{sized_tool}
 use Rattle.cam_edits.proofs.TouchedBoxes.{IsBoxAt, alone, changed}
 
 -- ---- the items of a tool
@@ -111,34 +110,26 @@ sound_read ts xs ys i x h same below at =
 
 -- ---- what is told of a step
 
-module _ (c : DrillContent) (step : DrillStep) (none : first_refusal (meets_drill_step c step) ≡ None) where
-  told : (other : DrillStep) → step ≡ other → MeetsEach (meets_drill_step c other)
-  told other is =
-      each_met (meets_drill_step c other)
-      (subst (λ (s : DrillStep). first_refusal (meets_drill_step c s) ≡ None) is none)
+module _ (c : DrillContent) (step : DrillStep) (none : first (drill_step_checks c step) ≡ None) where
+  told : (other : DrillStep) → step ≡ other → IsDrillMet c other
+  told other is = drill_met c other (subst (λ (s : DrillStep). first (drill_step_checks c s) ≡ None) is none)
 
   pub sound_insertion : (k : ℕ) (item : DrillItem) → step ≡ steps.Insert k item → IsSoundDrillItem c.tools item
-  sound_insertion k item is = inserted_drill_item c k item (told (steps.Insert k item) is)
+  sound_insertion k item is = (told (steps.Insert k item) is).1
 
   -- ---- its place is there
 
   pub delete_within : (k : ℕ) → step ≡ steps.Delete k → k < length c.items
-  unfolding meets_drill_step
-  delete_within k is = let met = told (steps.Delete k) is in less_than k (length c.items) met.place
+  delete_within k is = told (steps.Delete k) is
 
   pub move_within : (k : ℕ) (by : Point) → step ≡ steps.Move k by.x by.y → k < length c.items
-  unfolding meets_drill_step
-  move_within k by is = let met = told (steps.Move k by.x by.y) is in less_than k (length c.items) met.place
+  move_within k by is = let at = told (steps.Move k by.x by.y) is in slice_get_within c.items k at.0 at.1
 
   pub reorder_within : (k m : ℕ) → step ≡ steps.Reorder k m → k < length c.items
-  unfolding meets_drill_step
-  reorder_within k m is =
-      let met = told (steps.Reorder k m) is in
-      let places = both _ _ met.place in less_than k (length c.items) places.0
+  reorder_within k m is = (told (steps.Reorder k m) is).0
 
   pub tool_within : (k t : ℕ) → step ≡ steps.Tool k t → k < length c.items
-  unfolding meets_drill_step
-  tool_within k t is = let met = told (steps.Tool k t) is in less_than k (length c.items) met.place
+  tool_within k t is = (told (steps.Tool k t) is).0
 
   -- ---- the item there, and what is made of it, may be asked for its box
 
@@ -151,20 +142,23 @@ module _ (c : DrillContent) (step : DrillStep) (none : first_refusal (meets_dril
       sound_there within = all_here (IsSoundDrillItem c.tools) c.items k x h.items (here within)
 
       module _ (by : Point) (is : step ≡ steps.Move k by.x by.y) where
-        pub inside_after : MeetsDrillItem c.tools (shifted_drill_item by x) OutOfBoard
-        inside_after = moved_drill_inside c k by x (here (move_within k by is)) (told (steps.Move k by.x by.y) is)
+        pub inside_after : All IsOnBoard (drill_points_of (shifted_drill_item by x))
+        inside_after =
+            let at = told (steps.Move k by.x by.y) is in
+            let e : Some at.0 ≡ Some x = sym at.1 ∙ here (move_within k by is) in
+            let same : at.0 ≡ x = cc in subst (λ x. All IsOnBoard (drill_points_of (shifted_drill_item by x))) same at.2
 
         pub short_move : IsMove by
         short_move = short_drill_item by c.tools x (sound_there (move_within k by is)) inside_after
 
     module _ (t : ℕ) (d : Nm) (is : step ≡ steps.Diameter t d) where
       pub has_tool : IsSome (diameter_of c.tools t)
-      unfolding meets_drill_step
-      has_tool = let met = told (steps.Diameter t d) is in met.tool
+      has_tool = (told (steps.Diameter t d) is).0
 
       pub diameter_size : IsSize d.0
       diameter_size =
-          let tool = sound_diameter c t d h (told (steps.Diameter t d) is) in
+          let told = told (steps.Diameter t d) is in
+          let tool = sized_tool c.tools t d h.tools told.0 told.1 in
           (omega (arith, ints, tool.wide), tool.narrow)
 
   -- ---- the boxes

@@ -1,11 +1,12 @@
 -- Edits of file attributes: how a key and fields are written, which step sets an attribute, and what such an edit may
 -- be refused for (Gerber Layer Format Specification, "File attributes (TF)").
-use Rattle.std.specs.Prelude.{ℕ, ◌==◌, ◌&&◌, not, nat_le, Bool, true, if◌then◌else◌, List, [], ◌∷◌, length}
-use Rattle.std.specs.Prelude.{Option, None, Some, is_some}
+use Rattle.std.specs.Prelude.{ℕ, ◌==◌, ◌&&◌, not, nat_le, Bool, true, List, [], ◌∷◌, length}
+use Rattle.std.specs.Prelude.{Option, None, Some, is_none}
 use Rattle.std.specs.Char.{is_ascii_graphic}
 use Rattle.std.specs.List.{list_all}
+use Rattle.cam_refusals.specs.Checks.{Checks}
+use Rattle.cam_refusals.specs.Limits.{attribute_limit}
 use Rattle.cam_objects.specs.Attributes.{attribute_of, comma, place_of as attribute_place, with_attribute}
-use Rattle.cam_objects.specs.Limits.{attribute_limit}
 use Rattle.cam_objects.specs.declared.attribute.Attribute.{Attribute}
 use Rattle.cam_edits.specs.declared.edit.Change.{Change}
 use Rattle.cam_edits.specs.declared.edit.Change.TheVariants as changes
@@ -37,22 +38,25 @@ abbrev pub are_fields : List ℕ → Bool
 are_fields [] = true
 are_fields (first ∷ text) = (first == comma) && is_field_text text
 
--- ---- steps and refusals
+-- ---- steps and checks
 
 -- a name that stands at a place takes the fields there, and a new one goes last
 abbrev pub setting_step : List ℕ → List ℕ → ℕ → Option ℕ → Step
 setting_step key fields last None = PutAttribute last (attribute_of key fields)
 setting_step key fields last (Some k) = SetFields k fields
 
-abbrev pub refused_unless : Bool → EditFault → Option EditFault → Option EditFault
-refused_unless met fault later = if met then later else Some fault
+-- what an edit of attributes may be refused for, in the order in which it is told
+abbrev pub set_attribute_checks : List Attribute → List ℕ → List ℕ → Checks EditFault
+set_attribute_checks attributes key fields =
+    (AttributeRefused, not (is_key key && are_fields fields))
+    ∷ (TooMuch, not (nat_le (length (with_attribute (attribute_of key fields) attributes)) attribute_limit)) ∷ []
+
+abbrev pub drop_attribute_checks : List Attribute → List ℕ → Checks EditFault
+drop_attribute_checks attributes key =
+    (AttributeRefused, not (is_key key)) ∷ (NoAttribute, is_none (attribute_place key attributes)) ∷ []
 
 -- other edits are not refused for attributes
-abbrev pub attribute_refusal : List Attribute → Change → Option EditFault
-attribute_refusal attributes (changes.SetAttribute key fields) =
-    refused_unless (is_key key && are_fields fields) AttributeRefused (refused_unless
-    (nat_le (length (with_attribute (attribute_of key fields) attributes)) attribute_limit) TooMuch None)
-attribute_refusal attributes (changes.DropAttribute key) =
-    refused_unless (is_key key) AttributeRefused
-    (refused_unless (is_some (attribute_place key attributes)) NoAttribute None)
-attribute_refusal attributes _ = None
+abbrev pub attribute_checks : List Attribute → Change → Checks EditFault
+attribute_checks attributes (changes.SetAttribute key fields) = set_attribute_checks attributes key fields
+attribute_checks attributes (changes.DropAttribute key) = drop_attribute_checks attributes key
+attribute_checks attributes _ = []

@@ -1,19 +1,22 @@
 -- What an edit makes of the sheets, by lists alone, or its first refusal.
-use Rattle.std.specs.Prelude.{ℕ, nat_le, nat_lt, int_le, Bool, true, false, ◌&&◌, if◌then◌else◌, pos, List}
-use Rattle.std.specs.Prelude.{[], ◌∷◌, length, Option, None, Some, Result, Ok, Err, is_some, slice_get}
+use Rattle.std.specs.Prelude.{ℕ, nat_le, nat_lt, int_le, Bool, true, false, not, ◌&&◌, pos, List}
+use Rattle.std.specs.Prelude.{[], ◌∷◌, length, Option, None, Some, Result, Ok, Err, insert, is_some, slice_get}
 use Rattle.std.specs.Option.{option_map}
+use Rattle.cam_refusals.specs.Checks.{Checks, first}
+use Rattle.cam_refusals.specs.Limits.{count_limit, size_limit}
 use Rattle.cam_units.specs.declared.length.Nm.{Nm}
+use Rattle.cam_units.specs.declared.point.Point.{Point}
 use Rattle.cam_objects.specs.Attributes.{place_of as attribute_place}
 use Rattle.cam_objects.specs.Contents.{Content as GerberContent, DrillContent}
-use Rattle.cam_objects.specs.Demands.{keeps_drill_limits, keeps_limits, meets_drill_item, meets_item}
 use Rattle.cam_objects.specs.Drilling.{diameter_of}
+use Rattle.cam_objects.specs.DrillSoundness.{drill_points_of, keeps_drill_limits, tool_of}
 use Rattle.cam_objects.specs.Shifting.{shifted_drill_item, shifted_item}
+use Rattle.cam_objects.specs.Soundness.{are_on_board, has_radii, is_drawable_item, is_formed_item, is_inside}
+use Rattle.cam_objects.specs.Soundness.{is_known_item, is_within_limits, keeps_limits}
 use Rattle.cam_objects.specs.declared.attribute.Attribute.{Attribute}
+use Rattle.cam_objects.specs.declared.drill_item.DrillItem.{DrillItem}
 use Rattle.cam_objects.specs.declared.item.Item.{Item}
 use Rattle.cam_objects.specs.declared.item.Item.TheVariants.{One}
-use Rattle.cam_objects.specs.declared.item_fault.ItemFault.TheVariants.{Malformed, UnknownAperture, UnknownTool}
-use Rattle.cam_objects.specs.declared.item_fault.ItemFault.TheVariants.{ZeroRadius}
-use Rattle.cam_objects.specs.declared.item_fault.ItemFault.TheVariants as items
 use Rattle.cam_objects.specs.declared.object.Object.TheVariants.{Flash, Draw, Arc}
 use Rattle.cam_edits.specs.declared.drill_step.DrillStep.{DrillStep}
 use Rattle.cam_edits.specs.declared.drill_step.DrillStep.TheVariants as drill_steps
@@ -27,12 +30,13 @@ use Rattle.cam_edits.specs.declared.fault.EditFault.TheVariants.{NoAperture, NoT
 use Rattle.cam_edits.specs.declared.fault.EditFault.TheVariants.{OutOfBoard, TooMuch}
 use Rattle.cam_edits.specs.declared.step.Step.{Step}
 use Rattle.cam_edits.specs.declared.step.Step.TheVariants as steps
-use Rattle.cam_edits.specs.AttributeEdits.{attribute_refusal, setting_step}
+use Rattle.cam_edits.specs.AttributeEdits.{attribute_checks, setting_step}
 use Rattle.cam_edits.specs.Boards.{changed_at, content_at, place_named}
-use Rattle.cam_edits.specs.DrillSteps.{after_drill_step, drill_items_after}
+use Rattle.cam_edits.specs.DrillSteps.{after_drill_step}
 use Rattle.cam_edits.specs.Moving.{way}
+use Rattle.cam_edits.specs.Places.{changed}
 use Rattle.cam_edits.specs.Sheets.{Content, Gerber, Drill, Sheet}
-use Rattle.cam_edits.specs.Steps.{after_step, items_after, with_aperture, with_object}
+use Rattle.cam_edits.specs.Steps.{after_step, with_aperture, with_object}
 
 -- ---- the steps of edits
 
@@ -59,27 +63,7 @@ drill_step_of (changes.Tool k t) = Some (drill_steps.Tool k t)
 drill_step_of (changes.Diameter t d) = Some (drill_steps.Diameter t d)
 drill_step_of _ = None
 
--- ---- refusals
-
--- the first of the refusals, in the order in which they are told, whose demand is not met
-abbrev pub first_of : (EditFault → Bool) → List EditFault → Option EditFault
-first_of meets [] = None
-first_of meets (fault ∷ later) = if meets fault then first_of meets later else Some fault
-
-abbrev pub first_refusal : (EditFault → Bool) → Option EditFault
-first_refusal meets =
-    first_of meets
-    (WrongKind ∷ NoItem ∷ HasNone ∷ NoAperture ∷ NoTool ∷ WrongAperture ∷ SizeRefused ∷ OutOfBoard ∷ TooMuch ∷ [])
-
--- the test holds of the item at a place, if there is one
-abbrev pub holds_of : {X : Type 0} → (X → Bool) → Option X → Bool
-holds_of test None = true
-holds_of test (Some x) = test x
-
-abbrev pub holds_at : {X : Type 0} → (X → Bool) → List X → ℕ → Bool
-holds_at test xs k = holds_of test (slice_get xs k)
-
--- ---- a Gerber layer
+-- ---- what a step of a Gerber layer may be refused for, in the order in which it is told
 
 abbrev pub has_aperture : Item → Bool
 has_aperture (One (Flash n at t dark)) = true
@@ -92,126 +76,115 @@ has_polarity (One object) = true
 has_polarity _ = false
 
 module _ (c : GerberContent) where
-  -- an inserted item is not malformed
-  abbrev pub is_formed : Step → Bool
-  is_formed (steps.Insert k item) = meets_item c.entries item Malformed
-  is_formed _ = true
+  abbrev pub insert_checks : ℕ → Item → Checks EditFault
+  insert_checks k item =
+      (WrongKind, not (is_formed_item item))
+      ∷ (NoItem, not (nat_le k (length c.items)))
+      ∷ (NoAperture, not (is_known_item c.entries item))
+      ∷ (WrongAperture, not (is_drawable_item c.entries item))
+      ∷ (SizeRefused, not (has_radii item))
+      ∷ (OutOfBoard, not (is_inside c.entries item))
+      ∷ (TooMuch, not (is_within_limits c.entries item && keeps_limits c.entries (insert c.items k item))) ∷ []
 
-  -- the places that it names are there
-  abbrev pub has_places : Step → Bool
-  has_places (steps.Insert k item) = nat_le k (length c.items)
-  has_places (steps.Delete k) = nat_lt k (length c.items)
-  has_places (steps.Move k dx dy) = nat_lt k (length c.items)
-  has_places (steps.Reorder k m) = nat_lt k (length c.items) && nat_lt m (length c.items)
-  has_places (steps.Aperture k n) = nat_lt k (length c.items)
-  has_places (steps.Polarity k dark) = nat_lt k (length c.items)
-  has_places _ = true
+  abbrev pub delete_checks : ℕ → Checks EditFault
+  delete_checks k = (NoItem, not (nat_lt k (length c.items))) ∷ []
 
-  -- the item has what is to change
-  abbrev pub has_it : Step → Bool
-  has_it (steps.Aperture k n) = holds_at has_aperture c.items k
-  has_it (steps.Polarity k dark) = holds_at has_polarity c.items k
-  has_it _ = true
+  -- by the item at its place
+  abbrev pub move_checks : Point → Option Item → Checks EditFault
+  move_checks by None = (NoItem, true) ∷ []
+  move_checks by (Some item) = (OutOfBoard, not (is_inside c.entries (shifted_item by item))) ∷ []
 
-  -- the test holds of the item that is inserted, or that has another aperture
-  abbrev pub holds_of_set : (Item → Bool) → Step → Bool
-  holds_of_set test (steps.Insert k item) = test item
-  holds_of_set test (steps.Aperture k n) = holds_at (λ item. test (with_object (with_aperture n) item)) c.items k
-  holds_of_set test _ = true
+  abbrev pub reorder_checks : ℕ → ℕ → Checks EditFault
+  reorder_checks k m = (NoItem, not (nat_lt k (length c.items) && nat_lt m (length c.items))) ∷ []
 
-  -- and of one that is moved
-  abbrev pub holds_of_placed : (Item → Bool) → Step → Bool
-  holds_of_placed test (steps.Insert k item) = test item
-  holds_of_placed test (steps.Move k dx dy) = holds_at (λ item. test (shifted_item (way dx dy) item)) c.items k
-  holds_of_placed test (steps.Aperture k n) = holds_at (λ item. test (with_object (with_aperture n) item)) c.items k
-  holds_of_placed test _ = true
+  -- by the item at its place, k
+  abbrev pub aperture_checks : ℕ → ℕ → Option Item → Checks EditFault
+  aperture_checks k n None = (NoItem, true) ∷ []
+  aperture_checks k n (Some before) =
+      let item = with_object (with_aperture n) before in
+      let items = changed (with_object (with_aperture n)) c.items k in
+      (HasNone, not (has_aperture before))
+      ∷ (NoAperture, not (is_known_item c.entries item))
+      ∷ (WrongAperture, not (is_drawable_item c.entries item))
+      ∷ (SizeRefused, not (has_radii item))
+      ∷ (OutOfBoard, not (is_inside c.entries item))
+      ∷ (TooMuch, not (is_within_limits c.entries item && keeps_limits c.entries items)) ∷ []
 
-  -- the layer keeps its limits
-  abbrev pub leaves_room : Step → Bool
-  leaves_room step =
-      holds_of_set
-      (λ item. meets_item c.entries item items.TooMuch && keeps_limits c.entries (items_after step c.items)) step
+  -- by the item at its place
+  abbrev pub polarity_checks : Option Item → Checks EditFault
+  polarity_checks None = (NoItem, true) ∷ []
+  polarity_checks (Some item) = (HasNone, not (has_polarity item)) ∷ []
 
-  -- what a step has to meet, not to be refused so; the other faults are told of no step
-  unfoldable pub meets_step : Step → EditFault → Bool
-  meets_step step WrongKind = is_formed step
-  meets_step step NoItem = has_places step
-  meets_step step HasNone = has_it step
-  meets_step step NoAperture = holds_of_set (λ item. meets_item c.entries item UnknownAperture) step
-  meets_step step WrongAperture = holds_of_set (λ item. meets_item c.entries item items.WrongAperture) step
-  meets_step step SizeRefused = holds_of_set (λ item. meets_item c.entries item ZeroRadius) step
-  meets_step step OutOfBoard = holds_of_placed (λ item. meets_item c.entries item items.OutOfBoard) step
-  meets_step step TooMuch = leaves_room step
-  meets_step step _ = true
+  unfoldable pub step_checks : Step → Checks EditFault
+  step_checks (steps.Insert k item) = insert_checks k item
+  step_checks (steps.Delete k) = delete_checks k
+  step_checks (steps.Move k dx dy) = move_checks (way dx dy) (slice_get c.items k)
+  step_checks (steps.Reorder k m) = reorder_checks k m
+  step_checks (steps.Aperture k n) = aperture_checks k n (slice_get c.items k)
+  step_checks (steps.Polarity k dark) = polarity_checks (slice_get c.items k)
+  step_checks _ = []
 
-  -- the step of an edit, or the edit's first refusal
+  -- the step of an edit, or what the edit is refused for first
   abbrev pub step_unless : Step → Option EditFault → Result Step EditFault
   step_unless step None = Ok step
   step_unless step (Some fault) = Err fault
 
   abbrev pub judged : Option Step → Result Step EditFault
   judged None = Err WrongKind
-  judged (Some step) = step_unless step (first_refusal (meets_step step))
+  judged (Some step) = step_unless step (first (step_checks step))
 
   abbrev pub judged_unless : Option EditFault → Option Step → Result Step EditFault
   judged_unless None step = judged step
   judged_unless (Some fault) step = Err fault
 
-  -- what is to change in a layer of its kind; an edit of attributes has refusals of its own
+  -- what is to change in a layer of its kind; an edit of attributes has checks of its own
   abbrev pub judged_change : Change → Result Step EditFault
-  judged_change change = judged_unless (attribute_refusal c.attributes change) (step_of c.attributes change)
+  judged_change change =
+      judged_unless (first (attribute_checks c.attributes change)) (step_of c.attributes change)
 
--- ---- a drill layer
+-- ---- of a drill layer
 
 -- a tool has a diameter from 1 nm to 200 mm
 abbrev pub is_tool_size : Nm → Bool
-is_tool_size d = int_le (pos 1) d.0 && int_le d.0 (pos 200000000)
+is_tool_size d = int_le (pos 1) d.0 && int_le d.0 (pos size_limit)
 
 module _ (c : DrillContent) where
-  abbrev pub is_formed_drill : DrillStep → Bool
-  is_formed_drill (drill_steps.Insert k item) = meets_drill_item c.tools item Malformed
-  is_formed_drill _ = true
+  abbrev pub has_tool : ℕ → Bool
+  has_tool t = is_some (diameter_of c.tools t)
 
-  abbrev pub has_drill_places : DrillStep → Bool
-  has_drill_places (drill_steps.Insert k item) = nat_le k (length c.items)
-  has_drill_places (drill_steps.Delete k) = nat_lt k (length c.items)
-  has_drill_places (drill_steps.Move k dx dy) = nat_lt k (length c.items)
-  has_drill_places (drill_steps.Reorder k m) = nat_lt k (length c.items) && nat_lt m (length c.items)
-  has_drill_places (drill_steps.Tool k t) = nat_lt k (length c.items)
-  has_drill_places _ = true
+  abbrev pub insert_drill_checks : ℕ → DrillItem → Checks EditFault
+  insert_drill_checks k item =
+      (WrongKind, not (nat_lt 0 (length (drill_points_of item))))
+      ∷ (NoItem, not (nat_le k (length c.items)))
+      ∷ (NoTool, not (has_tool (tool_of item)))
+      ∷ (OutOfBoard, not (are_on_board (drill_points_of item)))
+      ∷ (TooMuch, not (nat_le (length (drill_points_of item)) count_limit && keeps_drill_limits (insert c.items k item))) ∷ []
 
-  -- the tool is one of the layer's
-  abbrev pub knows_tool : DrillStep → Bool
-  knows_tool (drill_steps.Insert k item) = meets_drill_item c.tools item UnknownTool
-  knows_tool (drill_steps.Tool k t) = is_some (diameter_of c.tools t)
-  knows_tool (drill_steps.Diameter t d) = is_some (diameter_of c.tools t)
-  knows_tool _ = true
+  abbrev pub delete_drill_checks : ℕ → Checks EditFault
+  delete_drill_checks k = (NoItem, not (nat_lt k (length c.items))) ∷ []
 
-  abbrev pub has_tool_size : DrillStep → Bool
-  has_tool_size (drill_steps.Diameter t d) = is_tool_size d
-  has_tool_size _ = true
+  -- by the item at its place
+  abbrev pub move_drill_checks : Point → Option DrillItem → Checks EditFault
+  move_drill_checks by None = (NoItem, true) ∷ []
+  move_drill_checks by (Some item) =
+      (OutOfBoard, not (are_on_board (drill_points_of (shifted_drill_item by item)))) ∷ []
 
-  -- an item that is inserted or moved lies on the board
-  abbrev pub lies_on_board : DrillStep → Bool
-  lies_on_board (drill_steps.Insert k item) = meets_drill_item c.tools item items.OutOfBoard
-  lies_on_board (drill_steps.Move k dx dy) =
-      holds_at (λ item. meets_drill_item c.tools (shifted_drill_item (way dx dy) item) items.OutOfBoard) c.items k
-  lies_on_board _ = true
+  abbrev pub reorder_drill_checks : ℕ → ℕ → Checks EditFault
+  reorder_drill_checks k m = (NoItem, not (nat_lt k (length c.items) && nat_lt m (length c.items))) ∷ []
 
-  abbrev pub leaves_drill_room : DrillStep → Bool
-  leaves_drill_room (drill_steps.Insert k item) =
-      meets_drill_item c.tools item items.TooMuch
-      && keeps_drill_limits (drill_items_after (drill_steps.Insert k item) c.items)
-  leaves_drill_room _ = true
+  abbrev pub tool_checks : ℕ → ℕ → Checks EditFault
+  tool_checks k t = (NoItem, not (nat_lt k (length c.items))) ∷ (NoTool, not (has_tool t)) ∷ []
 
-  unfoldable pub meets_drill_step : DrillStep → EditFault → Bool
-  meets_drill_step step WrongKind = is_formed_drill step
-  meets_drill_step step NoItem = has_drill_places step
-  meets_drill_step step NoTool = knows_tool step
-  meets_drill_step step SizeRefused = has_tool_size step
-  meets_drill_step step OutOfBoard = lies_on_board step
-  meets_drill_step step TooMuch = leaves_drill_room step
-  meets_drill_step step _ = true
+  abbrev pub diameter_checks : ℕ → Nm → Checks EditFault
+  diameter_checks t d = (NoTool, not (has_tool t)) ∷ (SizeRefused, not (is_tool_size d)) ∷ []
+
+  unfoldable pub drill_step_checks : DrillStep → Checks EditFault
+  drill_step_checks (drill_steps.Insert k item) = insert_drill_checks k item
+  drill_step_checks (drill_steps.Delete k) = delete_drill_checks k
+  drill_step_checks (drill_steps.Move k dx dy) = move_drill_checks (way dx dy) (slice_get c.items k)
+  drill_step_checks (drill_steps.Reorder k m) = reorder_drill_checks k m
+  drill_step_checks (drill_steps.Tool k t) = tool_checks k t
+  drill_step_checks (drill_steps.Diameter t d) = diameter_checks t d
 
   abbrev pub drill_step_unless : DrillStep → Option EditFault → Result DrillStep EditFault
   drill_step_unless step None = Ok step
@@ -219,7 +192,7 @@ module _ (c : DrillContent) where
 
   abbrev pub judged_drill : Option DrillStep → Result DrillStep EditFault
   judged_drill None = Err WrongKind
-  judged_drill (Some step) = drill_step_unless step (first_refusal (meets_drill_step step))
+  judged_drill (Some step) = drill_step_unless step (first (drill_step_checks step))
 
 -- ---- boards
 

@@ -12,10 +12,8 @@ ghost use Rattle.cam_edits.specs.declared.edit.Change.TheVariants.{DropAttribute
 use crate::fault::EditFault;
 use crate::step::Step;
 use cam_objects::{Attribute, Layer};
+use cam_refusals::limits::ATTRIBUTE_LIMIT;
 use cam_units::Items;
-
-/// The greatest number of file attributes of a layer.
-const ATTRIBUTE_LIMIT: usize = 1_000;
 
 fn is_field_byte(byte: u8) -> bool
     ensures { result ≡ is_field_byte byte }

@@ -22,6 +22,7 @@ use crate::fault::EditFault;
 use crate::item_refusal::check_insertion;
 use crate::moving::{is_move, way};
 use cam_objects::{DrillItem, DrillLayer};
+use cam_refusals::limits::SIZE_LIMIT;
 use cam_units::Nm;
 
 /// The step of an edit of the drill layer, which has so many holes and slots; it fits the layer. Or the edit's first
@@ -70,6 +71,7 @@ fn insertion(
     Ok(DrillStep::Insert { k, item })
 }
 
+#[tactic(auto, unfolding(crate::specs::Editing::drill_step_checks))]
 fn deletion(layer: &DrillLayer, k: usize) -> Result<DrillStep, EditFault>
     ensures { result ≡ judged_drill (drill_content_of layer.now) (Some (Delete k)) }
 {
@@ -96,6 +98,7 @@ fn shift(layer: &DrillLayer, k: usize, dx: i64, dy: i64) -> Result<DrillStep, Ed
     Ok(DrillStep::Move { k, dx, dy })
 }
 
+#[tactic(auto, unfolding(crate::specs::Editing::drill_step_checks))]
 fn reordering(layer: &DrillLayer, k: usize, m: usize) -> Result<DrillStep, EditFault>
     ensures { result ≡ judged_drill (drill_content_of layer.now) (Some (Reorder k m)) }
 {
@@ -108,6 +111,7 @@ fn reordering(layer: &DrillLayer, k: usize, m: usize) -> Result<DrillStep, EditF
     Ok(DrillStep::Reorder { k, m })
 }
 
+#[tactic(auto, unfolding(crate::specs::Editing::drill_step_checks))]
 fn tool_change(layer: &DrillLayer, k: usize, t: u16) -> Result<DrillStep, EditFault>
     ensures { result ≡ judged_drill (drill_content_of layer.now) (Some (Tool k t)) }
 {
@@ -120,6 +124,7 @@ fn tool_change(layer: &DrillLayer, k: usize, t: u16) -> Result<DrillStep, EditFa
     Ok(DrillStep::Tool { k, t })
 }
 
+#[tactic(auto, unfolding(crate::specs::Editing::drill_step_checks))]
 fn diameter_change(layer: &DrillLayer, t: u16, d: Nm) -> Result<DrillStep, EditFault>
     ensures { result ≡ judged_drill (drill_content_of layer.now) (Some (Diameter t d)) }
 {
@@ -143,5 +148,5 @@ fn has_tool(layer: &DrillLayer, t: u16) -> bool
 pub(crate) fn is_tool_size(d: Nm) -> bool
     ensures { result ≡ is_tool_size d }
 {
-    1 <= d.0 && d.0 <= 200_000_000
+    1 <= d.0 && d.0 <= SIZE_LIMIT as i64
 }

@@ -3,7 +3,7 @@
 ghost use Rattle.std.specs.Prelude.{◌≡◌, ◌≤◌, ℕ, IfSome, IsSome, Some, slice_get};
 ghost use Rattle.cam_objects.specs.Cells.{AreCellsOf, drill_item_boxes};
 ghost use Rattle.cam_objects.specs.DrillSoundness.{IsSoundDrillItem, IsSoundDrillLayer};
-ghost use Rattle.cam_objects.specs.Limits.{leaf_limit};
+ghost use Rattle.cam_refusals.specs.Limits.{leaf_limit};
 ghost use Rattle.cam_objects.specs.declared.drill_item.DrillItem.{DrillItem};
 ghost use Rattle.cam_edits.specs.Machinery.Shifts.{
   AreRenewedUntil,
@@ -18,9 +18,10 @@ ghost use Rattle.cam_edits.specs.Machinery.Shifts.{
 use crate::drill_judging::is_tool_size;
 use crate::indexed::Kept;
 use crate::item_tools::next_of_tool;
-use crate::mending::{ITEM_LIMIT, LEAF_LIMIT, mend};
+use crate::mending::mend;
 use crate::shift::Shift;
 use cam_objects::{DrillLayer, ItemCells, ItemNumbers};
+use cam_refusals::limits::{COUNT_LIMIT, LEAF_LIMIT};
 use cam_units::Nm;
 
 /// How many holes and slots the item at a place of a sound drill layer has; none where there is no item.
@@ -67,7 +68,7 @@ pub(crate) fn mended(kept: Kept, shift: Shift, gone: u64, layer: &DrillLayer) ->
     let come = leaves_come(layer, shift.to)?;
     let Kept { mut cells, leaves } = kept;
     let leaves = leaves + come - gone;
-    if leaves > LEAF_LIMIT || layer.items.len() > ITEM_LIMIT {
+    if leaves > LEAF_LIMIT || layer.items.len() > COUNT_LIMIT {
         return None;
     }
     mend(&mut cells, &mut layer.boxes(), shift);

@@ -1,9 +1,11 @@
 //! Why an edit is refused.
 
 ghost use Rattle.std.specs.Prelude.{◌≡◌};
-ghost use Rattle.cam_edits.specs.Faults.{number_of};
+ghost use Rattle.cam_refusals.specs.Refusals.{number_of};
+ghost use Rattle.cam_edits.specs.Faults.{refusal_of};
 ghost use Rattle.cam_edits.specs.declared.fault.EditFault.TheVariants.{Memory};
 
+use cam_refusals::Refusal;
 use std::alloc::AllocError;
 use thiserror::Error;
 
@@ -54,25 +56,32 @@ pub enum EditFault {
 }
 
 impl EditFault {
-    /// The number by which a refusal is told: 60 to 69, 74, 75 or 30.
-    pub fn number(self) -> u8
-        ensures { result ≡ number_of self }
+    /// The refusal that is told of it.
+    pub fn refusal(self) -> Refusal
+        ensures { result ≡ refusal_of self }
     {
         match self {
-            EditFault::NoLayer => 60,
-            EditFault::WrongKind => 68,
-            EditFault::AttributeRefused => 75,
-            EditFault::NoAttribute => 74,
-            EditFault::NoItem => 61,
-            EditFault::HasNone => 64,
-            EditFault::NoAperture => 62,
-            EditFault::NoTool => 66,
-            EditFault::WrongAperture => 63,
-            EditFault::SizeRefused => 67,
-            EditFault::OutOfBoard => 65,
-            EditFault::TooMuch => 69,
-            EditFault::Memory => 30,
+            EditFault::NoLayer => Refusal::NoLayer,
+            EditFault::WrongKind => Refusal::WrongKind,
+            EditFault::AttributeRefused => Refusal::AttributeRefused,
+            EditFault::NoAttribute => Refusal::NoAttribute,
+            EditFault::NoItem => Refusal::NoItem,
+            EditFault::HasNone => Refusal::HasNone,
+            EditFault::NoAperture => Refusal::NoAperture,
+            EditFault::NoTool => Refusal::NoTool,
+            EditFault::WrongAperture => Refusal::EditWrongAperture,
+            EditFault::SizeRefused => Refusal::EditSizeRefused,
+            EditFault::OutOfBoard => Refusal::EditOutOfBoard,
+            EditFault::TooMuch => Refusal::EditTooMuch,
+            EditFault::Memory => Refusal::NoMemory,
         }
+    }
+
+    /// The number by which a refusal is told: 60 to 69, 74, 75 or 30.
+    pub fn number(self) -> u8
+        ensures { result ≡ number_of (refusal_of self) }
+    {
+        self.refusal().number()
     }
 }
 

@@ -54,6 +54,7 @@ fn insertion(layer: &Layer, leaves: u64, k: usize, item: Item) -> Result<Step, E
     Ok(Step::Insert { k, item })
 }
 
+#[tactic(auto, unfolding(crate::specs::Editing::step_checks))]
 fn deletion(layer: &Layer, k: usize) -> Result<Step, EditFault>
     ensures { result ≡ judged (content_of layer.now) (Some (Delete k)) }
 {
@@ -80,6 +81,7 @@ fn shift(layer: &Layer, k: usize, dx: i64, dy: i64) -> Result<Step, EditFault>
     Ok(Step::Move { k, dx, dy })
 }
 
+#[tactic(auto, unfolding(crate::specs::Editing::step_checks))]
 fn reordering(layer: &Layer, k: usize, m: usize) -> Result<Step, EditFault>
     ensures { result ≡ judged (content_of layer.now) (Some (Reorder k m)) }
 {

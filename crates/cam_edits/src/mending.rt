@@ -2,7 +2,7 @@
 
 ghost use Rattle.std.specs.Prelude.{◌≡◌, ◌≤◌, ℕ, IfSome, IsSome, Some, slice_get};
 ghost use Rattle.cam_objects.specs.Cells.{AreCellsOf};
-ghost use Rattle.cam_objects.specs.Limits.{leaf_limit};
+ghost use Rattle.cam_refusals.specs.Limits.{leaf_limit};
 ghost use Rattle.cam_objects.specs.Soundness.{HasSoundItems, IsSoundItem};
 ghost use Rattle.cam_objects.specs.declared.item.Item.{Item};
 ghost use Rattle.cam_edits.specs.Machinery.Shifts.{IsKeptOf, WasKept, WereCells, leaves_at};
@@ -10,12 +10,7 @@ ghost use Rattle.cam_edits.specs.Machinery.Shifts.{IsKeptOf, WasKept, WereCells,
 use crate::indexed::Kept;
 use crate::shift::Shift;
 use cam_objects::{BoxedItems, ItemCells, Layer};
-
-/// The greatest number of items of a layer, and of a drill layer.
-pub(crate) const ITEM_LIMIT: usize = 1_000_000;
-
-/// The greatest number of leaves of a layer, and of holes and slots of a drill layer.
-pub(crate) const LEAF_LIMIT: u64 = 4_000_000;
+use cam_refusals::limits::{COUNT_LIMIT, LEAF_LIMIT};
 
 /// Lets cells follow an item that left a place and came to one, or that changed where they are the same. Takes no
 /// memory.
@@ -87,7 +82,7 @@ pub(crate) fn mended(kept: Kept, shift: Shift, gone: u64, layer: &Layer) -> Opti
     let come = leaves_come(layer, shift.to)?;
     let Kept { mut cells, leaves } = kept;
     let leaves = leaves + come - gone;
-    if leaves > LEAF_LIMIT || layer.items.len() > ITEM_LIMIT {
+    if leaves > LEAF_LIMIT || layer.items.len() > COUNT_LIMIT {
         return None;
     }
     mend(&mut cells, &mut layer.boxes(), shift);

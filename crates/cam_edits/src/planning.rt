@@ -5,15 +5,8 @@ ghost use Rattle.cam_objects.specs.Contents.{content_of as gerber_content_of, dr
 ghost use Rattle.cam_objects.specs.DrillSoundness.{IsSoundDrillLayer};
 ghost use Rattle.cam_objects.specs.Soundness.{HasSoundItems};
 ghost use Rattle.cam_edits.specs.DrillSteps.{IsDrillFit};
-ghost use Rattle.cam_edits.specs.Editing.{
-  drill_step_of,
-  edited,
-  first_refusal,
-  judged_change,
-  judged_drill,
-  meets_drill_step,
-  meets_step,
-};
+ghost use Rattle.cam_refusals.specs.Checks.{first};
+ghost use Rattle.cam_edits.specs.Editing.{drill_step_checks, drill_step_of, edited, judged_change, judged_drill, step_checks};
 ghost use Rattle.cam_edits.specs.Planning.{IsPlan, IsRefused};
 ghost use Rattle.cam_edits.specs.Sheets.{AreSound, IsSoundGerber, sheets_of};
 ghost use Rattle.cam_edits.specs.Steps.{IsFit};
@@ -78,7 +71,7 @@ impl IndexedLayer {
     /// The boxes of what an accepted step of the layer touches.
     fn touched(&self, alloc: Global, step: &Step) -> Result<Vec<Bounds>, AllocError>
         requires sound { HasSoundItems self.now }
-        requires accepted { first_refusal (meets_step (gerber_content_of self.now) step.now) ≡ None }
+        requires accepted { first (step_checks (gerber_content_of self.now) step.now) ≡ None }
         ensures { IfOk result (λ boxes. boxes.items ≡ touched step.now (gerber_content_of self.now)) }
     {
         touched(alloc, self.layer(), step)
@@ -98,7 +91,7 @@ impl IndexedDrillLayer {
     /// The boxes of what an accepted step of the layer touches.
     fn drill_touched(&self, alloc: Global, step: &DrillStep) -> Result<Vec<Bounds>, AllocError>
         requires sound { IsSoundDrillLayer self.now }
-        requires accepted { first_refusal (meets_drill_step (drill_content_of self.now) step.now) ≡ None }
+        requires accepted { first (drill_step_checks (drill_content_of self.now) step.now) ≡ None }
         ensures { IfOk result (λ boxes. boxes.items ≡ drill_touched step.now (drill_content_of self.now)) }
     {
         drill_touched(alloc, self.layer(), self.tools(), step)

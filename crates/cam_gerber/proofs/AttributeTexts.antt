@@ -1,7 +1,7 @@
 -- The text of a file attribute holds only such bytes as may stand in one: the cutting allows no others, and a command with a
 -- star in it is none.
-use Rattle.std.proofs.Common.{◌≡◌, ◌≢◌, ℕ, zero, suc, ◌+◌, ◌≤◌, [], ◌∷◌, ◌++◌, ◌||◌, Bool, true, false, cond, not, List, length, take, drop}
-use Rattle.std.proofs.Common.{Some, None, Ok, Err, IsTrue, refl, sym, ap, subst, ◌∙◌, ◌⊎◌, inl, inr, arith, lit≤}
+use Rattle.std.proofs.Common.{◌≡◌, ◌≢◌, ℕ, zero, suc, ◌+◌, ◌≤◌, [], ◌∷◌, ◌||◌, Bool, true, false, cond, not, List, length, take, drop}
+use Rattle.std.proofs.Common.{Some, None, Ok, Err, IsTrue, refl, sym, ap, subst, ◌∙◌, arith, lit≤}
 use Rattle.std.specs.Prelude.{codes, find, nat_eq, nat_lt}
 use Rattle.std.specs.List.{AllByRecursion, list_any, position_or_len, starts_with}
 use Rattle.std.specs.Str.{bytes_eq}
@@ -10,16 +10,14 @@ use Rattle.std.proofs.lemmas.Bool.Decides.{nat_tests}
 use Rattle.std.proofs.lemmas.List.Elements.{All-drop, All-from_recursion, All-nil, All-take}
 use Rattle.std.proofs.lemmas.Map.Keys.{IsDistinct-from_apart}
 use Rattle.std.proofs.lemmas.Slice.Eq.{bytes_eq-Decides}
+use Rattle.cam_refusals.specs.Checks.{least}
+use Rattle.cam_refusals.specs.Refusals.{number_of}
 use Rattle.cam_words.specs.declared.word.Kind.TheVariants.{Plain, Comment, Extended}
-use Rattle.cam_words.specs.declared.word.TextFault.{TextFault}
 use Rattle.cam_words.specs.Bytes.{is_control, is_forbidden_in_code, is_skipped, is_star, percent}
-use Rattle.cam_words.specs.Cutting.{Command, WordCommand, ExtendedCommand, FoundWord, IsCommand, IsPiece, Piece, Blank, Whole}
-use Rattle.cam_words.specs.Cutting.{bytes_of_command, word_of, words_of}
+use Rattle.cam_words.specs.Cutting.{Command, WordCommand, ExtendedCommand, FoundWord, IsCommand}
+use Rattle.cam_words.specs.Cutting.{word_of}
 use Rattle.cam_words.specs.Heads.{behind_kept, is_comment, is_forbidden_in_extended, is_free_text, packed}
-use Rattle.cam_words.specs.Laws.{HasCutFront, HasCutting}
-use Rattle.cam_words.specs.Reading.{Answer, reading, told}
-use Rattle.cam_words.proofs.Cuttings.{reads_its_words}
-use Rattle.cam_words.proofs.Longest.{stops_at_the_longest_front}
+use Rattle.cam_words.specs.Reading.{Answer, reading}
 use Rattle.cam_objects.specs.Attributes.{AreAttributes, AreFields, IsAttribute, attribute_of, is_attribute_byte, with_attribute}
 use Rattle.cam_objects.proofs.EditedAttributes.{attribute_edits}
 use Rattle.cam_commands.specs.declared.names.FreeText.{FreeText}
@@ -29,13 +27,15 @@ use Rattle.cam_commands.specs.declared.names.Name.TheVariants.{Free}
 use Rattle.cam_commands.specs.Commands.{Command as Said, DefineMacro, KeepText}
 use Rattle.cam_commands.specs.ExtendedCommands.{letters_of, name_of as named_by, names}
 use Rattle.cam_commands.specs.Syntax.{command_of}
-use Rattle.cam_gerber.specs.Statements.{Statement, Says, NamesMacro, Uncut, IsSaidBy, IsMacroOf, Told, IsTold}
+use Rattle.cam_gerber.specs.Statements.{Statement, Says, NamesMacro, Uncut}
 use Rattle.cam_gerber.specs.State.{Past}
 use Rattle.cam_gerber.specs.Attributes.{attributes_in, fields_of, is_comma, name_of, names_in}
-use Rattle.cam_gerber.specs.Faults.{faults, least}
+use Rattle.cam_gerber.specs.Faults.{faults}
+use Rattle.cam_gerber.specs.Computing.{statement_of, told_of}
 use Rattle.cam_gerber.proofs.FileAttributes.{names_counted, sets_its_attribute}
 use Rattle.cam_gerber.proofs.OpenNumbers.{IsNamed, Keeps, kept_text}
-use Rattle.cam_gerber.proofs.Pasts.{none_holds}
+use Rattle.cam_gerber.proofs.Least.{pass_least}
+use Rattle.cam_gerber.proofs.Places.{all_answers}
 
 -- ---- what the cutting allows
 
@@ -53,25 +53,8 @@ clean_word : (at : ℕ) (command : Command) → IsCommand command → IsClean (O
 clean_word at (WordCommand text) h = λ is. absurd (no_extended (is_comment text) is)
 clean_word at (ExtendedCommand text tail) h = λ is. h.0
 
-clean_words : (at : ℕ) (pieces : List Piece) → AllByRecursion IsPiece pieces → AllByRecursion IsClean (told (words_of at pieces))
-clean_words at [] h = tt
-clean_words at (Blank run ∷ pieces) h = clean_words (at + length run) pieces h.1
-clean_words at (Whole command ∷ pieces) h =
-    (clean_word at command h.0, clean_words (at + length (bytes_of_command command)) pieces h.1)
-
-with_fault : (answers : List Answer) (fault : TextFault) → AllByRecursion IsClean answers
-    → AllByRecursion IsClean (answers ++ Err fault ∷ [])
-with_fault [] fault h = (tt, tt)
-with_fault (answer ∷ answers) fault h = (h.0, with_fault answers fault h.1)
-
 pub clean_answers : (text : List ℕ) → AllByRecursion IsClean (reading 0 text)
-clean_answers text = by (stops_at_the_longest_front text) where
-  by : HasCutting text ⊎ HasCutFront text → AllByRecursion IsClean (reading 0 text)
-  by (inl cut) =
-      subst (AllByRecursion IsClean) (sym (reads_its_words text cut.0 cut.1)) (clean_words 0 cut.0 cut.1.each)
-  by (inr cut) =
-      subst (AllByRecursion IsClean) (sym cut.3.read)
-      (with_fault (told (words_of 0 cut.0)) cut.2 (clean_words 0 cut.0 cut.3.cutting.each))
+clean_answers text = all_answers IsClean clean_word (λ fault text tells. tt) text
 
 -- ---- an attribute is free text
 
@@ -143,19 +126,14 @@ StatesText (Says command) = Keeps IsAttributeText command
 StatesText (NamesMacro name parts) = Unit {0}
 StatesText (Uncut code) = Unit {0}
 
-macro_text : (text : List ℕ) (says : Statement) → IsMacroOf text says → StatesText says
-macro_text text (Says command) h = absurd h
-macro_text text (NamesMacro name parts) h = tt
-macro_text text (Uncut code) h = tt
+stated_text : (command : Said) → Keeps IsAttributeText command → StatesText (statement_of command)
+stated_text (DefineMacro text) keeps = tt
+stated_text command keeps = keeps
 
-said_text : (command : Said) (says : Statement) → Keeps IsAttributeText command → IsSaidBy command says → StatesText says
-said_text (DefineMacro text) says keeps h = macro_text text says h
-said_text command says keeps h = subst StatesText (sym h) keeps
-
-pub told_text : (answer : Answer) (told : Told) → IsClean answer → IsTold answer told → StatesText told.says
-told_text (Ok word) told clean h =
-    said_text (command_of word) told.says (kept_text IsAttributeText word (λ is free named. text_allowed word clean is free named)) h.0
-told_text (Err fault) told clean h = subst StatesText (sym h.0) tt
+pub told_text : (answer : Answer) → IsClean answer → StatesText (told_of answer).says
+told_text (Ok word) clean =
+    stated_text (command_of word) (kept_text IsAttributeText word (λ is free named. text_allowed word clean is free named))
+told_text (Err fault) clean = tt
 
 -- ---- the attribute that is set
 
@@ -204,10 +182,10 @@ sets past text allowed few h =
     subst AreAttributes (sym (sets_its_attribute past text))
     (attribute_edits.set (attributes_in past) a h (record { sound = is_attribute text allowed; room = room }))
 
-pub attributes_step : (past : Past) (says : Statement) → StatesText says → least (faults past says) ≡ None
+pub attributes_step : (past : Past) (says : Statement) → StatesText says → least number_of (faults past says) ≡ None
     → AreAttributes (attributes_in past) → AreAttributes (attributes_in (says ∷ past))
 attributes_step past (Says (KeepText FileAttribute text)) allowed none h =
-    sets past text allowed (none_holds (faults past (Says (KeepText FileAttribute text))) none).0 h
+    sets past text allowed (pass_least (faults past (Says (KeepText FileAttribute text))) none).0 h
 attributes_step past _ allowed none h = h
 
 pub no_attributes : AreAttributes []

@@ -7,7 +7,9 @@ use Rattle.std.proofs.lemmas.Bool.{or_parts, false≢true, ltb-true, ltb-false, 
 use Rattle.std.proofs.lemmas.List.{append-nil}
 use Rattle.std.proofs.lemmas.List.Elements.{All-weaker}
 use Rattle.std.proofs.Math.Nat.{mul-le-mul_right}
-use Rattle.cam_apertures.specs.Definition.{Table}
+use Rattle.cam_refusals.specs.declared.refusal.Refusal.{Refusal}
+use Rattle.cam_refusals.specs.declared.refusal.Refusal.TheVariants.{OutOfBoard, TooMuch}
+use Rattle.cam_refusals.specs.Checks.{Checks, first}
 use Rattle.cam_objects.specs.declared.entry.Entry.{Entry}
 use Rattle.cam_objects.specs.declared.item.Item.{Item}
 use Rattle.cam_objects.specs.declared.item.Item.TheVariants as item
@@ -16,11 +18,12 @@ use Rattle.cam_objects.specs.Leaves.{item_leaves, meaning_in}
 use Rattle.cam_objects.specs.Weights.{block_count, weight_in}
 use Rattle.cam_commands.specs.declared.parts.Repeat.{Repeat}
 use Rattle.cam_commands.specs.Commands.{CloseRepeat, End, EndRegion, Operate, SetRepeat}
+use Rattle.cam_objects.proofs.SoundItems.{repeated}
 use Rattle.cam_gerber.specs.declared.built.Built.{Built}
 use Rattle.cam_gerber.specs.declared.frames.OpenRepeat.{OpenRepeat}
 use Rattle.cam_gerber.specs.declared.running.Running.{Running}
-use Rattle.cam_gerber.specs.declared.stop.Stop.{Stop}
-use Rattle.cam_gerber.specs.declared.stop.Stop.TheVariants.{Memory, Fault}
+use Rattle.cam_refusals.specs.declared.stop.Stop.{Stop}
+use Rattle.cam_refusals.specs.declared.stop.Stop.TheVariants.{Memory, Fault}
 use Rattle.cam_gerber.specs.Statements.{Statement, Says}
 use Rattle.cam_gerber.specs.State.{Past}
 use Rattle.cam_gerber.specs.Homes.{Home, InRepeat, Opened, count_of, is_repeated, open_repeat, opened}
@@ -28,9 +31,9 @@ use Rattle.cam_gerber.specs.Making.{made_at, objects_of}
 use Rattle.cam_gerber.specs.Layers.{closed_leaves, closed_repeat, entries_in, items_in, leaves_in, leaves_of, made_leaves, repeat_by}
 use Rattle.cam_gerber.specs.Faults.{are_on_board, closing_faults, holds_of_one, is_empty, is_layer_full, is_outside}
 use Rattle.cam_gerber.specs.Machinery.Closing.{Adds, IsAdded}
-use Rattle.cam_gerber.specs.Machinery.Tracking.{Answers, HasPast, IsSettled, Tracks, first_of, repeat_of}
+use Rattle.cam_gerber.specs.Machinery.Tracking.{Answers, HasPast, IsSettled, Tracks, repeat_of}
 use Rattle.cam_gerber.specs.Machinery.WellMade.{IsWellMade, IsWellMadeItem}
-use Rattle.cam_gerber.proofs.Pasts.{NoneHolds}
+use Rattle.cam_gerber.proofs.Least.{pass_first}
 use Rattle.cam_gerber.proofs.Outside.{outside_is}
 use Rattle.cam_gerber.proofs.SoundParts.{IsMade}
 use Rattle.cam_gerber.proofs.SoundViews.{IsRepeatView, repeat_at}
@@ -119,17 +122,9 @@ same_over b k n h = go (ltb 4000000 (b + k * n)) refl
 
 -- ---- tables
 
-both_hold_not : (table : Table) → first_of table ≡ None → NoneHolds table
-both_hold_not [] h = tt
-both_hold_not (fault ∷ table) h =
-    (elim fault.1 as (λ b. fault.1 ≡ b → cond b (Some fault.0) (first_of table) ≡ None → NoneHolds (fault ∷ table)) [
-      | true ↦ λ is e. absurd cc
-      | false ↦ λ is e. (is, both_hold_not table e)
-    ]) refl h
-
--- what one table is answered by, answers one that tells the same
-pub answers_alike : (result : Result (Unit {0}) Stop) (a b : Table) (P Q : Type 0) → first_of a ≡ first_of b
-    → (first_of b ≡ None → P → Q) → Answers result a P → Answers result b Q
+-- what some checks are answered by, answers others that tell the same
+pub answers_alike : (result : Result (Unit {0}) Stop) (a b : Checks Refusal) (P Q : Type 0) → first a ≡ first b
+    → (first b ≡ None → P → Q) → Answers result a P → Answers result b Q
 answers_alike (Ok done) a b P Q e f h = (sym e ∙ h.0, f (sym e ∙ h.0) h.1)
 answers_alike (Err Memory) a b P Q e f h = tt
 answers_alike (Err (Fault code)) a b P Q e f h = sym e ∙ h
@@ -137,11 +132,11 @@ answers_alike (Err (Fault code)) a b P Q e f h = sym e ∙ h
 -- ---- a repeat without objects
 
 pub settles_none : (past : Past) (old : Running) (after : Option OpenRepeat) → Tracks past old → old.frames.repeat ≡ None → after ≡ None
-    → (first_of (closing_faults past true) ≡ None) × IsSettled past old (record old { frames = record old.frames { repeat = after } })
+    → (first (closing_faults past true) ≡ None) × IsSettled past old (record old { frames = record old.frames { repeat = after } })
 settles_none past old after t e closed = go (open_repeat past) refl
   where
     go : (o : Option Opened) → open_repeat past ≡ o
-        → (first_of (closing_faults past true) ≡ None) × IsSettled past old (record old { frames = record old.frames { repeat = after } })
+        → (first (closing_faults past true) ≡ None) × IsSettled past old (record old { frames = record old.frames { repeat = after } })
     go (Some o) is =
         absurd (let wrong : None ≡ Some (repeat_of past o) = sym e ∙ t.frames.repeat ∙ ap (option_map (repeat_of past)) is in cc)
     go None is = (
@@ -166,7 +161,7 @@ nothing_from (x ∷ xs) h = absurd (false≢true h)
 
 pub settles_empty : (past : Past) (old : Running) (r : OpenRepeat) (after : Option OpenRepeat) → Tracks past old
     → old.frames.repeat ≡ Some r → is_empty r.objects ≡ true → after ≡ None
-    → (first_of (closing_faults past true) ≡ None) × IsSettled past old (record old { frames = record old.frames { repeat = after } })
+    → (first (closing_faults past true) ≡ None) × IsSettled past old (record old { frames = record old.frames { repeat = after } })
 settles_empty past old r after t e empty closed =
     let opens = is_opened past old r t e in
     let o = opens.o in
@@ -175,9 +170,9 @@ settles_empty past old r after t e empty closed =
     let items : closed_repeat past ≡ [] = rw opens.opens (ap (repeat_by o) objects) in
     let leaves : closed_leaves past ≡ 0 =
     rw opens.opens (ap (λ n. o.columns * o.rows * n) (no_leaves (InRepeat o.before) past objects) ∙ omega arith) in (
-      ap (λ all. first_of
-          ((23, not true || holds_of_one (is_outside past) all)
-          ∷ (25, not (is_empty all) && is_layer_full past (closed_leaves past)) ∷ [])) items,
+      ap (λ all. first
+          ((OutOfBoard, not true || holds_of_one (is_outside past) all)
+          ∷ (TooMuch, not (is_empty all) && is_layer_full past (closed_leaves past)) ∷ [])) items,
       record {
         modal = refl;
         region = refl;
@@ -206,7 +201,8 @@ opened_well : (past : Past) (o : Opened) → Sound past → open_repeat past ≡
 opened_well past o sound opens some =
     let view = subst (λ repeat. IsRepeatView (entries_in past) (option_map (repeat_at past) repeat)) opens sound.repeat in
     record {
-      repeated = (view.0.copies, some_objects (objects_of (InRepeat o.before) past) some);
+      repeated = (repeated (item.Repeat o.columns o.rows o.i o.j (objects_of (InRepeat o.before) past))).1
+          (view.0.copies, some_objects (objects_of (InRepeat o.before) past) some);
       steps = (view.0.steps_i, view.0.steps_j);
       objects = All-weaker (IsMade (entries_in past)) (IsWellMade (entries_in past)) (well_made (entries_in past))
           (objects_of (InRepeat o.before) past) view.1.each;
@@ -257,14 +253,14 @@ settles_some past old r after result built t e some closed adds =
     ap (λ es. not (are_on_board (item_leaves (meaning_in es) all))) t.built.entries ∙ sym (outside_is past all) in
     answers_alike result _ (closing_faults past true) (IsAdded all more old.built built)
     (IsSettled past old (record old { frames = record old.frames { repeat = after }; built = built }))
-    (ap₂ (λ a b. first_of ((23, a) ∷ (25, b) ∷ [])) outside full
+    (ap₂ (λ a b. first ((OutOfBoard, a) ∷ (TooMuch, b) ∷ [])) outside full
     ∙ ap (λ items.
-    first_of ((23, not true || holds_of_one (is_outside past) items)
-    ∷ (25, not (is_empty items) && is_layer_full past (closed_leaves past)) ∷ [])) (sym items))
+    first ((OutOfBoard, not true || holds_of_one (is_outside past) items)
+    ∷ (TooMuch, not (is_empty items) && is_layer_full past (closed_leaves past)) ∷ [])) (sym items))
     (λ told h.
     let fits : is_layer_full past (closed_leaves past) ≡ false =
     ap (λ items. not (is_empty items) && is_layer_full past (closed_leaves past)) (sym items)
-    ∙ (both_hold_not (closing_faults past true) told).1.0 in
+    ∙ (pass_first (closing_faults past true) told).1.0 in
     let few : leaves_in past + k * n ≤ 4000000 =
     ltb-false 4000000 (leaves_in past + k * n)
     (ap (λ m. nat_lt 4000000 (leaves_in past + m)) (sym leaves) ∙ (or_parts (nat_le 1000000 (length (items_in past))) _ fits).1) in

@@ -1,9 +1,12 @@
 -- The contour of a region.
 use Rattle.std.proofs.Common.{◌≡◌, ℕ, List, [], ◌∷◌, ◌++◌, length, min, true, false, cond, Option, Some, None, refl}
 use Rattle.std.proofs.Common.{sym, ap, ap₂, ◌∙◌, subst, arith}
-use Rattle.std.specs.Prelude.{map, nat_le, not, Err}
-use Rattle.cam_gerber.specs.declared.stop.Stop.{Stop}
-use Rattle.cam_gerber.specs.declared.stop.Stop.TheVariants.{Memory, Fault}
+use Rattle.std.specs.Prelude.{map, nat_le, Err}
+use Rattle.cam_refusals.specs.declared.refusal.Refusal.{Refusal}
+use Rattle.cam_refusals.specs.declared.refusal.Refusal.TheVariants.{TooMuch}
+use Rattle.cam_refusals.specs.Checks.{Checks, first}
+use Rattle.cam_refusals.specs.declared.stop.Stop.{Stop}
+use Rattle.cam_refusals.specs.declared.stop.Stop.TheVariants.{Memory, Fault}
 use Rattle.std.specs.Option.{option_map}
 use Rattle.std.proofs.lemmas.List.{append-nil}
 use Rattle.cam_objects.specs.declared.object.Object.{Object}
@@ -16,7 +19,6 @@ use Rattle.cam_gerber.specs.Layers.{entries_in, items_in, leaves_of}
 use Rattle.cam_units.specs.declared.point.Point.{Point}
 use Rattle.cam_shapes.specs.declared.segments.Seg.{Seg}
 use Rattle.cam_shapes.specs.Contour.{end_of}
-use Rattle.cam_apertures.specs.Definition.{Table}
 use Rattle.cam_commands.specs.declared.parts.Operation.{Operation}
 use Rattle.cam_commands.specs.declared.parts.OperationCode.TheVariants.{Plot, Move}
 use Rattle.cam_commands.specs.Commands.{Operate, EndRegion}
@@ -30,9 +32,9 @@ use Rattle.cam_gerber.specs.Making.{segment, segments_in, region_in, made, made_
 use Rattle.cam_gerber.specs.Faults.{command_faults, operated_faults, is_full, is_on_board, holds_of_one}
 use Rattle.cam_gerber.specs.Machinery.Tracking.{Tracks, Answers, Ended, TracksModal, TracksFrames, TracksBuilt}
 use Rattle.cam_gerber.specs.Machinery.Tracking.{TracksPlaces, IsOperated, mode_by, moved_point, centre_by}
-use Rattle.cam_gerber.specs.Machinery.Tracking.{path_table, first_of, block_of, repeat_of}
+use Rattle.cam_gerber.specs.Machinery.Tracking.{path_faults_by, block_of, repeat_of}
 use Rattle.cam_gerber.proofs.Pasts.{Joins, joins}
-use Rattle.cam_gerber.proofs.Operated.{told_before, passed, mode_same, point_same, centre_same, table_same, operated_tracks, end_same}
+use Rattle.cam_gerber.proofs.Operated.{told_before, passed, mode_same, point_same, centre_same, plot_same, operated_tracks, end_same}
 
 none_at : (h : Home) (past : Past) (says : Statement) → made past says ≡ [] → made_at h past says ≡ []
 none_at h past says none =
@@ -83,14 +85,20 @@ nothing_made past says r maker none t = record {
   built = stay_built past says (joins past says maker) none r.built t.built;
 }
 
+segment_checks : (past : Past) (operation : Operation) (m : Modal) → TracksModal past m
+    → first (operated_faults Plot true past operation)
+    ≡ first (path_faults_by m operation ++ (TooMuch, nat_le 1000000 (length (segments_in past))) ∷ [])
+segment_checks past operation m t =
+    ap (λ checks. first (checks ++ (TooMuch, nat_le 1000000 (length (segments_in past))) ∷ [])) (sym (plot_same past m operation t))
+
 -- a segment of a region joins the contour
 pub segment_tracks : (past : Past) (operation : Operation) (old : Running) (region : Region) (m : Modal) (seg : Seg)
     → Tracks past old → in_region past ≡ true → code_of operation ≡ Plot
-    → first_of (path_table old.modal operation) ≡ None → nat_le 1000000 (length old.region.segs.items) ≡ false
+    → first (path_faults_by old.modal operation) ≡ None → nat_le 1000000 (length old.region.segs.items) ≡ false
     → seg ≡ segment (mode_by old.modal operation) (moved_point old.modal operation) (centre_by old.modal operation)
     → region.inside ≡ old.region.inside → region.start ≡ old.region.start → region.segs.items ≡ old.region.segs.items ++ seg ∷ []
     → IsOperated old.modal operation (end_of seg) m
-    → (first_of (operated_faults Plot true past operation) ≡ None)
+    → (first (operated_faults Plot true past operation) ≡ None)
     × Tracks (Says (Operate operation) ∷ past) (record old { modal = m; region = region })
 segment_tracks past operation old region m seg t inside plots path few seg_is inside_is start_is segs_is done =
     let now = Says (Operate operation) ∷ past in
@@ -102,10 +110,8 @@ segment_tracks past operation old region m seg t inside plots path few seg_is in
     (centre_same past old.modal operation t.modal) in
     let places = nothing_made past (Says (Operate operation)) old tt (rw (plots, inside) refl)
     (record { frames = t.frames; built = t.built }) in (
-      ap (λ table. first_of (table ++ (25, nat_le 1000000 (length (segments_in past))) ∷ []))
-          (sym (table_same past old.modal operation t.modal))
-          ∙ passed (path_table old.modal operation) ((25, nat_le 1000000 (length (segments_in past))) ∷ []) path
-          ∙ ap (λ b. cond {A = Option ℕ} b (Some 25) None) room,
+      segment_checks past operation old.modal t.modal
+          ∙ passed (path_faults_by old.modal operation) ((TooMuch, nat_le 1000000 (length (segments_in past))) ∷ []) path ∙ rw room refl,
       record {
         modal = operated_tracks past old.modal m operation (end_of seg) t.modal done
             (ap end_of seg_is ∙ end_same (mode_by old.modal operation) (moved_point old.modal operation) (centre_by old.modal operation));
@@ -120,38 +126,35 @@ segment_tracks past operation old region m seg t inside plots path few seg_is in
       },
     )
 
-pub segment_told : (past : Past) (operation : Operation) (m : Modal) (code : ℕ) → TracksModal past m
-    → first_of (path_table m operation) ≡ Some code
-    → first_of (operated_faults Plot true past operation) ≡ Some code
-segment_told past operation m code t path =
-    ap (λ table. first_of (table ++ (25, nat_le 1000000 (length (segments_in past))) ∷ [])) (sym (table_same past m operation t))
-    ∙ told_before (path_table m operation) ((25, nat_le 1000000 (length (segments_in past))) ∷ []) code path
+pub segment_told : (past : Past) (operation : Operation) (m : Modal) (refusal : Refusal) → TracksModal past m
+    → first (path_faults_by m operation) ≡ Some refusal
+    → first (operated_faults Plot true past operation) ≡ Some refusal
+segment_told past operation m refusal t path =
+    segment_checks past operation m t
+    ∙ told_before (path_faults_by m operation) ((TooMuch, nat_le 1000000 (length (segments_in past))) ∷ []) refusal path
 
 pub segment_full : (past : Past) (operation : Operation) (old : Running) → Tracks past old
-    → first_of (path_table old.modal operation) ≡ None → nat_le 1000000 (length old.region.segs.items) ≡ true
-    → first_of (operated_faults Plot true past operation) ≡ Some 25
+    → first (path_faults_by old.modal operation) ≡ None → nat_le 1000000 (length old.region.segs.items) ≡ true
+    → first (operated_faults Plot true past operation) ≡ Some TooMuch
 segment_full past operation old t path full =
     let room : nat_le 1000000 (length (segments_in past)) ≡ true = ap (λ segs. nat_le 1000000 (length segs)) (sym t.region.segs) ∙ full in
-    ap (λ table. first_of (table ++ (25, nat_le 1000000 (length (segments_in past))) ∷ []))
-    (sym (table_same past old.modal operation t.modal))
-    ∙ passed (path_table old.modal operation) ((25, nat_le 1000000 (length (segments_in past))) ∷ []) path
-    ∙ ap (λ b. cond {A = Option ℕ} b (Some 25) None) room
+    segment_checks past operation old.modal t.modal
+    ∙ passed (path_faults_by old.modal operation) ((TooMuch, nat_le 1000000 (length (segments_in past))) ∷ []) path ∙ rw room refl
 
 -- ---- a contour ends
 
--- a refusal of one table is one of another that tells the same
-pub refused_alike : (stop : Stop) (a b : Table) (P Q : Type 0) → first_of a ≡ first_of b → Answers (Err stop) a P → Answers (Err stop) b Q
+-- a refusal for some checks is one for others that tell the same
+pub refused_alike : (stop : Stop) (a b : Checks Refusal) (P Q : Type 0) → first a ≡ first b → Answers (Err stop) a P → Answers (Err stop) b Q
 refused_alike Memory a b P Q e h = tt
 refused_alike (Fault code) a b P Q e h = sym e ∙ h
 
-pub next_table : (past : Past) (operation : Operation) (old : Running) → Tracks past old
+pub next_checks : (past : Past) (operation : Operation) (old : Running) → Tracks past old
     → is_on_board (moved_point old.modal operation) ≡ true
-    → first_of ((25, holds_of_one (is_full (home past) past) (region_in past)) ∷ []) ≡ first_of (operated_faults Move true past operation)
-next_table past operation old t on =
+    → first ((TooMuch, holds_of_one (is_full (home past) past) (region_in past)) ∷ []) ≡ first (operated_faults Move true past operation)
+next_checks past operation old t on =
     let fine : is_on_board (point_in (Says (Operate operation) ∷ past)) ≡ true =
     ap is_on_board (sym (point_same past old.modal operation t.modal)) ∙ on in
-    ap (λ b. cond {A = Option ℕ} (not b) (Some 23) (first_of ((25, holds_of_one (is_full (home past) past) (region_in past)) ∷ [])))
-    (sym fine)
+    sym (rw fine refl)
 
 pub next_made : (past : Past) (operation : Operation) → in_region past ≡ true → code_of operation ≡ Move
     → made past (Says (Operate operation)) ≡ region_in past
@@ -194,9 +197,8 @@ closed_tracks past old kept t ended = record {
   attributes = ended.attributes ∙ t.attributes;
 }
 
-pub closed_table : (past : Past) (old : Running) → Tracks past old → old.region.inside ≡ true
-    → first_of ((25, holds_of_one (is_full (home past) past) (region_in past)) ∷ []) ≡ first_of (command_faults past EndRegion)
-closed_table past old t inside =
+pub closed_checks : (past : Past) (old : Running) → Tracks past old → old.region.inside ≡ true
+    → first ((TooMuch, holds_of_one (is_full (home past) past) (region_in past)) ∷ []) ≡ first (command_faults past EndRegion)
+closed_checks past old t inside =
     let fine : in_region past ≡ true = sym t.region.inside ∙ inside in
-    ap (λ b. cond {A = Option ℕ} (not b) (Some 20) (first_of ((25, holds_of_one (is_full (home past) past) (region_in past)) ∷ [])))
-    (sym fine)
+    sym (rw fine refl)

@@ -1,23 +1,28 @@
 -- Definitions of apertures and macros.
 use Rattle.std.proofs.Common.{◌≡◌, ℕ, suc, ◌+◌, take, arith, List, [], ◌∷◌, ◌++◌, Bool, true, false, cond, Option, Some}
-use Rattle.std.proofs.Common.{None, refl, sym, ap, ap₂, ◌∙◌, subst}
-use Rattle.std.specs.Prelude.{unwrap_or, is_none, is_some, nat_eq, not, ◌==◌, ◌||◌}
+use Rattle.std.proofs.Common.{None, refl, sym, ap, ap₂, ◌∙◌, subst, inr}
+use Rattle.std.specs.Prelude.{unwrap_or, is_none, is_some, nat_eq, not, ◌==◌, ◌||◌, MatchOption}
+use Rattle.cam_refusals.specs.declared.refusal.Refusal.{Refusal}
+use Rattle.cam_refusals.specs.declared.refusal.Refusal.TheVariants.{NoUnit, Redefined, StrayBlock, UnknownCommand}
+use Rattle.cam_refusals.specs.declared.refusal.Refusal.TheVariants as refusal
+use Rattle.cam_refusals.specs.Checks.{Checks, IsLeast, NoneHolds, least}
+use Rattle.cam_refusals.specs.Checks as of_checks
+use Rattle.cam_refusals.specs.Refusals.{UnlessMemory, number_of}
+use Rattle.cam_refusals.proofs.Checks.{tells_least}
 use Rattle.cam_units.specs.declared.length.Unit.{Unit as FileUnit}
 use Rattle.cam_words.specs.Bytes.{is_skipped}
 use Rattle.cam_words.specs.Heads.{packed}
 use Rattle.cam_macros.specs.declared.aperture_macro.Macro.{Macro}
 use Rattle.cam_apertures.specs.declared.aperture.Aperture.{Aperture}
-use Rattle.cam_apertures.specs.Definition.{Table, definition, definition_of, named, numbered, faults_of, IsDefined}
-use Rattle.cam_apertures.specs.Definition.{IsLeast, IsAdFault, IsMeant}
+use Rattle.cam_apertures.specs.Definition.{definition, definition_of, named, numbered, faults_of, IsDefined}
 use Rattle.cam_apertures.specs.declared.fault.AdFault.{AdFault}
-use Rattle.cam_apertures.specs.declared.fault.AdFault.TheVariants.{UnknownForm, BadNumber, TemplateRefused}
-use Rattle.cam_apertures.specs.declared.fault.AdFault.TheVariants.{PrimitiveRefused, RotationRefused, SizeRefused}
-use Rattle.cam_apertures.specs.declared.fault.AdFault.TheVariants.{Malformed, OutOfMemory}
+use Rattle.cam_apertures.specs.declared.fault.AdFault.TheVariants.{OutOfMemory}
+use Rattle.cam_apertures.specs.Faults.{refusal_of}
 use Rattle.cam_objects.specs.declared.entry.Entry.{Entry}
 use Rattle.cam_objects.specs.declared.entry.Entry.TheVariants as entry
 use Rattle.cam_gerber.specs.State.{Past, unit_in, unit_or_mm, in_region}
 use Rattle.cam_gerber.specs.Layers.{macros_in, entries_in, defined, defined_by}
-use Rattle.cam_gerber.specs.Faults.{least, faults, command_faults, is_reserved, is_taken_again, is_defined}
+use Rattle.cam_gerber.specs.Faults.{faults, command_faults, is_reserved, is_taken_again, is_defined}
 use Rattle.cam_gerber.specs.Statements.{Says, NamesMacro, IsMacroOf}
 use Rattle.std.specs.List.{slice_split, onto_first, before_first}
 use Rattle.cam_macros.specs.declared.part.Part.{Part}
@@ -28,11 +33,11 @@ use Rattle.cam_commands.specs.Commands.{DefineAperture}
 use Rattle.cam_objects.specs.declared.layer.Layer.{Layer}
 use Rattle.cam_gerber.specs.declared.running.Running.{Running}
 use Rattle.cam_gerber.specs.Machinery.Tracking.{Tracks}
-use Rattle.cam_gerber.proofs.Pasts.{none_holds}
 use Rattle.cam_gerber.proofs.Opening.{none_from}
 use Rattle.std.proofs.lemmas.Bool.{or_parts}
 use Rattle.std.specs.Map.{lookup}
-use Rattle.cam_gerber.proofs.Least.{least_of, least_none, told_more}
+use Rattle.cam_gerber.proofs.Least.{least_none, pass_least}
+use Rattle.cam_gerber.proofs.AscendingChecks.{least_is_first}
 
 -- bytes that do not count are dropped once
 pub packed_again : (text : List ℕ) → packed (packed text) ≡ packed text
@@ -57,47 +62,42 @@ pub defined_entry : (text : List ℕ) (macros : List Macro) (unit : FileUnit) (n
 defined_entry text macros unit n a d = rw (d.form, d.number_is, d.values_are, d.aperture_is) refl
 
 pub faultless_definition : (text : List ℕ) (macros : List Macro) (unit : FileUnit) (n : ℕ) (a : Aperture) → IsDefined text macros unit n a
-    → least (faults_of (definition_of text) macros unit) ≡ None
+    → least number_of (faults_of (definition_of text) macros unit) ≡ None
 faultless_definition text macros unit n a d = least_none _ d.faultless
 
-pub faulty_definition : (text : List ℕ) (macros : List Macro) (unit : FileUnit) (n : ℕ) → IsLeast (IsAdFault text macros unit) n
-    → least (faults_of (definition_of text) macros unit) ≡ Some n
-faulty_definition text macros unit n h = least_of _ n h
-
 -- what a definition is refused for, beside its own faults
-abbrev with_state : Past → Option ℕ → Table → Table
-with_state past number table = (6, is_none (unit_in past)) ∷ (10, is_taken_again past number) ∷ (22, in_region past) ∷ table
+abbrev with_state : Past → Option ℕ → Checks Refusal → Checks Refusal
+with_state past number checks = (NoUnit, is_none (unit_in past)) ∷ (Redefined, is_taken_again past number) ∷ (StrayBlock, in_region past) ∷ checks
 
-pub definition_faults : (past : Past) (text : List ℕ) (macros : List Macro) (unit : FileUnit) (number told result : Option ℕ)
+pub definition_faults : (past : Past) (text : List ℕ) (macros : List Macro) (unit : FileUnit) (number : Option ℕ) (told result : Option Refusal)
     → macros ≡ macros_in past → unit ≡ unit_or_mm (unit_in past)
     → number ≡ numbered (definition_of text)
-    → ((table : Table) → told ≡ least table → result ≡ least (with_state past number table))
-    → told ≡ least (faults_of (definition_of text) macros unit)
-    → result ≡ least (command_faults past (DefineAperture (packed text)))
+    → ((checks : Checks Refusal) → told ≡ least number_of checks → result ≡ least number_of (with_state past number checks))
+    → told ≡ least number_of (faults_of (definition_of text) macros unit)
+    → result ≡ least number_of (command_faults past (DefineAperture (packed text)))
 definition_faults past text macros unit number told result m u n lowest e =
     lowest (faults_of (definition_of text) macros unit) e
-    ∙ ap (λ k. least (with_state past k (faults_of (definition_of text) macros unit))) n
-    ∙ ap₂ (λ ms v. least (with_state past (numbered (definition_of text)) (faults_of (definition_of text) ms v))) m u
-    ∙ ap (λ d. least (with_state past (numbered d) (faults_of d (macros_in past) (unit_or_mm (unit_in past))))) (sym (same_definition text))
+    ∙ ap (λ k. least number_of (with_state past k (faults_of (definition_of text) macros unit))) n
+    ∙ ap₂ (λ ms v. least number_of (with_state past (numbered (definition_of text)) (faults_of (definition_of text) ms v))) m u
+    ∙ ap (λ d. least number_of (with_state past (numbered d) (faults_of d (macros_in past) (unit_or_mm (unit_in past))))) (sym (same_definition text))
 
 -- a definition's own fault makes one of the command
-pub some_fault : (past : Past) (number : Option ℕ) (table : Table) (result : Option ℕ) (code : ℕ) → least table ≡ Some code
-    → result ≡ least (with_state past number table) → result ≡ Some (unwrap_or result code)
-some_fault past number table result code h e =
-    let one = told_more (22, in_region past) table code h in
-    let two = told_more (10, is_taken_again past number) ((22, in_region past) ∷ table) one.0 one.1 in
-    let three = told_more (6, is_none (unit_in past)) ((10, is_taken_again past number) ∷ (22, in_region past) ∷ table) two.0 two.1 in
-    go result (e ∙ three.1)
+pub some_fault : (past : Past) (number : Option ℕ) (checks : Checks Refusal) (result : Option Refusal) (refusal : Refusal)
+    → IsLeast number_of checks refusal → result ≡ least number_of (with_state past number checks) → result ≡ Some (unwrap_or result refusal)
+some_fault past number checks result refusal h e = go result (subst (λ o. MatchOption o (NoneHolds all) (IsLeast number_of all)) (sym e) (tells_least number_of all))
   where
-    go : {m : ℕ} (o : Option ℕ) → o ≡ Some m → o ≡ Some (unwrap_or o code)
-    go None k = absurd cc
-    go (Some l) k = refl
+    all : Checks Refusal
+    all = with_state past number checks
+
+    go : (o : Option Refusal) → MatchOption o (NoneHolds all) (IsLeast number_of all) → o ≡ Some (unwrap_or o refusal)
+    go None none = absurd (none refusal (inr (inr (inr h.holds))))
+    go (Some least) is = refl
 
 -- a number that is not refused is new
-pub new_number : (past : Past) (number : ℕ) (table : Table) (entries : List (ℕ × Entry)) → entries ≡ entries_in past
-    → least (with_state past (Some number) table) ≡ None → lookup (nat_eq number) entries ≡ None
-new_number past number table entries e h =
-    let met = none_holds (with_state past (Some number) table) h in
+pub new_number : (past : Past) (number : ℕ) (checks : Checks Refusal) (entries : List (ℕ × Entry)) → entries ≡ entries_in past
+    → least number_of (with_state past (Some number) checks) ≡ None → lookup (nat_eq number) entries ≡ None
+new_number past number checks entries e h =
+    let met = pass_least (with_state past (Some number) checks) h in
     let free : is_defined past number ≡ false = (or_parts (is_defined past number) _ met.1.0).0 in
     ap (lookup (nat_eq number)) e ∙ none_from (lookup (nat_eq number) (entries_in past)) free
 
@@ -135,15 +135,9 @@ defined_tracks past text old unit n a layer t u d entries items = record {
         ∙ ap₂ (λ ms v. defined_by (definition_of text) ms v) (sym t.built.macros) (sym u) ∙ defined_entry text old.built.macros unit n a d
 
 -- a refusal that is not of memory
-pub meant : (fault : AdFault) (P : Type 0) → (fault ≡ OutOfMemory → ⊥) → IsMeant fault P → P
-meant UnknownForm P other h = h
-meant BadNumber P other h = h
-meant TemplateRefused P other h = h
-meant PrimitiveRefused P other h = h
-meant RotationRefused P other h = h
-meant SizeRefused P other h = h
-meant Malformed P other h = h
+pub meant : (fault : AdFault) (P : Type 0) → (fault ≡ OutOfMemory → ⊥) → UnlessMemory (refusal_of fault) P → P
 meant OutOfMemory P other h = absurd (other refl)
+meant _ P other h = h
 
 -- ---- macros
 
@@ -165,29 +159,6 @@ from_packed text name parts r = record {
   parts_are = subst (λ ps. AreParts (spoken (others ps)) parts) (same_pieces text) r.parts_are;
 }
 
-abbrev macro_rows : Bool → Bool → Bool → Bool → Table
-macro_rows a b c d = (3, a) ∷ (10, b) ∷ (22, c) ∷ (29, d) ∷ []
-
-tells_3 : (b c d : Bool) → least (macro_rows true b c d) ≡ Some 3
-tells_3 true true true = refl
-tells_3 true true false = refl
-tells_3 true false true = refl
-tells_3 true false false = refl
-tells_3 false true true = refl
-tells_3 false true false = refl
-tells_3 false false true = refl
-tells_3 false false false = refl
-
-tells_10 : (c d : Bool) → least (macro_rows false true c d) ≡ Some 10
-tells_10 true true = refl
-tells_10 true false = refl
-tells_10 false true = refl
-tells_10 false false = refl
-
-tells_22 : (d : Bool) → least (macro_rows false false true d) ≡ Some 22
-tells_22 true = refl
-tells_22 false = refl
-
 -- what a macro's text says
 pub said_macro : (text name : List ℕ) (parts : List Part) → IsReading text name parts
     → IsMacroOf (packed text) (NamesMacro name (Some parts))
@@ -198,33 +169,27 @@ pub said_none : (text : List ℕ) → ((parts : List Part) → ¬ IsReading text
 said_none text none = (ap first (sym (same_pieces text)), λ parts r. none parts (from_packed text (first (pieces text)) parts r))
 
 module _ (past : Past) (name : List ℕ) (parts : Option (List Part)) (macros : List Macro) (m : macros ≡ macros_in past) where
-  abbrev taken : Bool
-  taken = is_some (named (macros_in past) name) || is_reserved name
+  told : least number_of (faults past (NamesMacro name parts)) ≡ of_checks.first (faults past (NamesMacro name parts))
+  told = least_is_first 1 (faults past (NamesMacro name parts)) refl
 
-  same_taken : (is_some (named macros name) || is_reserved name) ≡ taken
-  same_taken = ap (λ ms. is_some (named ms name) || is_reserved name) m
+  same_taken : (is_some (named (macros_in past) name) || is_reserved name) ≡ (is_some (named macros name) || is_reserved name)
+  same_taken = ap (λ ms. is_some (named ms name) || is_reserved name) (sym m)
 
-  pub refused_name : is_name name ≡ false → least (faults past (NamesMacro name parts)) ≡ Some 3
-  refused_name h = ap (λ a. least (macro_rows (not a) taken (in_region past) (is_none parts))) h
-      ∙ tells_3 taken (in_region past) (is_none parts)
+  pub refused_name : is_name name ≡ false → least number_of (faults past (NamesMacro name parts)) ≡ Some UnknownCommand
+  refused_name h = told ∙ rw h refl
 
-  pub refused_again : is_name name ≡ true → (is_some (named macros name) || is_reserved name) ≡ true
-      → least (faults past (NamesMacro name parts)) ≡ Some 10
-  refused_again h k =
-      ap₂ (λ a b. least (macro_rows (not a) b (in_region past) (is_none parts))) h (sym same_taken ∙ k)
-      ∙ tells_10 (in_region past) (is_none parts)
+  module _ (h : is_name name ≡ true) where
+    pub refused_again : (is_some (named macros name) || is_reserved name) ≡ true
+        → least number_of (faults past (NamesMacro name parts)) ≡ Some Redefined
+    refused_again k = told ∙ rw (h, same_taken ∙ k) refl
 
-  pub refused_inside : is_name name ≡ true → (is_some (named macros name) || is_reserved name) ≡ false → in_region past ≡ true
-      → least (faults past (NamesMacro name parts)) ≡ Some 22
-  refused_inside h k l =
-      ap₂ (λ a b. least (macro_rows (not a) b (in_region past) (is_none parts))) h (sym same_taken ∙ k)
-      ∙ ap (λ c. least (macro_rows false false c (is_none parts))) l ∙ tells_22 (is_none parts)
+    module _ (k : (is_some (named macros name) || is_reserved name) ≡ false) where
+      pub refused_inside : in_region past ≡ true → least number_of (faults past (NamesMacro name parts)) ≡ Some StrayBlock
+      refused_inside l = told ∙ rw (h, same_taken ∙ k, l) refl
 
-  pub by_parts : is_name name ≡ true → (is_some (named macros name) || is_reserved name) ≡ false → in_region past ≡ false
-      → least (faults past (NamesMacro name parts)) ≡ cond (is_none parts) (Some 29) None
-  by_parts h k l =
-      ap₂ (λ a b. least (macro_rows (not a) b (in_region past) (is_none parts))) h (sym same_taken ∙ k)
-      ∙ ap (λ c. least (macro_rows false false c (is_none parts))) l
+      pub by_parts : in_region past ≡ false
+          → least number_of (faults past (NamesMacro name parts)) ≡ cond (is_none parts) (Some refusal.MacroFault) None
+      by_parts l = told ∙ rw (h, same_taken ∙ k, l) refl
 
 -- a name that is not taken is that of no macro
 pub not_taken : {A : Type 0} (found : Option A) (reserved : Bool) → (is_some found || reserved) ≡ false → found ≡ None

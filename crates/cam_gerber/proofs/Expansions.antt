@@ -2,6 +2,7 @@
 use Rattle.std.proofs.Common.{ℕ, suc, ◌+◌, ◌*◌, ◌%◌, List, [], ◌∷◌, length, take, drop, Bool, true, false, cond, Option}
 use Rattle.std.proofs.Common.{Some, None, Result, Ok, Err}
 use Rattle.std.specs.Prelude.{ℤ, pos, negsuc, ◌==◌, ◌&&◌, ◌||◌, nat_le, nat_lt, unsigned_abs, ok_or}
+use Rattle.cam_refusals.specs.Limits.{size_limit}
 use Rattle.cam_units.specs.declared.length.Unit.{Unit as FileUnit}
 use Rattle.cam_units.specs.declared.turn.Turn.{Turn}
 use Rattle.cam_units.specs.Nearest.{fix9_of}
@@ -9,8 +10,7 @@ use Rattle.cam_macros.specs.declared.part.Part.{Part}
 use Rattle.cam_macros.specs.declared.part.Part.TheVariants.{Assignment, Primitive}
 use Rattle.cam_macros.specs.declared.primitive.MacroPrimitive.{MacroPrimitive}
 use Rattle.cam_macros.specs.declared.fault.MacroFault.{MacroFault}
-use Rattle.cam_macros.specs.declared.fault.MacroFault.TheVariants.{BadName, Malformed, PrimitiveRefused}
-use Rattle.cam_macros.specs.declared.fault.MacroFault.TheVariants.{RotationRefused, SizeRefused, OutOfMemory}
+use Rattle.cam_macros.specs.declared.fault.MacroFault.TheVariants.{Malformed, RotationRefused, SizeRefused, OutOfMemory}
 use Rattle.cam_macros.specs.Numbers.{billion}
 use Rattle.cam_macros.specs.Tree.{Tree}
 use Rattle.cam_macros.specs.Arithmetic.{Values, parameter, value_of}
@@ -21,12 +21,8 @@ use Rattle.cam_macros.specs.Expansion.{expansion_of}
 
 -- not for want of memory
 abbrev pub IsTrueFault : MacroFault → Type 0
-IsTrueFault BadName = Unit {0}
-IsTrueFault Malformed = Unit {0}
-IsTrueFault PrimitiveRefused = Unit {0}
-IsTrueFault RotationRefused = Unit {0}
-IsTrueFault SizeRefused = Unit {0}
 IsTrueFault OutOfMemory = ⊥
+IsTrueFault _ = Unit {0}
 
 abbrev pub MayBe : {A : Type 0} → Result A MacroFault → Type 0
 MayBe (Ok a) = Unit {0}
@@ -61,18 +57,17 @@ rotations (pos n) = either (n % 90000000000 == 0) _ (Err RotationRefused) tt tt
 rotations (negsuc n) = either (suc n % 90000000000 == 0) _ (Err RotationRefused) tt tt
 
 turns : (values : List ℤ) → MayBe (turn_of values)
-turns [] = tt
 turns (v ∷ []) = rotations v
-turns (v ∷ w ∷ values) = tt
+turns _ = tt
 
 sizes : (z : ℤ) → MayBe (size z)
-sizes (pos n) = either (nat_le n 200000000) _ (Err SizeRefused) tt tt
+sizes (pos n) = either (nat_le n size_limit) _ (Err SizeRefused) tt tt
 sizes (negsuc n) = tt
 
 points : (unit : FileUnit) (turn : Turn) (x y : ℤ) → MayBe (point_of unit turn x y)
 points unit turn x y =
-    bound (coordinate_of unit x) _ (either (nat_le (unsigned_abs (fix9_of x unit)) 200000000) _ (Err SizeRefused) tt tt)
-    λ a. bound (coordinate_of unit y) _ (either (nat_le (unsigned_abs (fix9_of y unit)) 200000000) _ (Err SizeRefused) tt tt) λ b. tt
+    bound (coordinate_of unit x) _ (either (nat_le (unsigned_abs (fix9_of x unit)) size_limit) _ (Err SizeRefused) tt tt)
+    λ a. bound (coordinate_of unit y) _ (either (nat_le (unsigned_abs (fix9_of y unit)) size_limit) _ (Err SizeRefused) tt tt) λ b. tt
 
 all_points : (unit : FileUnit) (turn : Turn) (values : List ℤ) → MayBe (points_of unit turn values)
 all_points unit turn [] = tt
@@ -84,33 +79,21 @@ discs : (unit : FileUnit) (values : List ℤ) → MayBe (disc_of unit values)
 discs unit (e ∷ d ∷ x ∷ y ∷ more) =
     bound (paint_of e) _ (paints e) λ paint. bound (turn_of more) _ (turns more) λ turn.
     bound (size_of unit d) _ (sizes (fix9_of d unit)) λ diameter. bound (point_of unit turn x y) _ (points unit turn x y) λ centre. tt
-discs unit [] = tt
-discs unit (e ∷ []) = tt
-discs unit (e ∷ d ∷ []) = tt
-discs unit (e ∷ d ∷ x ∷ []) = tt
+discs unit _ = tt
 
 bars : (unit : FileUnit) (values : List ℤ) → MayBe (bar_of unit values)
 bars unit (e ∷ w ∷ x1 ∷ y1 ∷ x2 ∷ y2 ∷ more) =
     bound (paint_of e) _ (paints e) λ paint. bound (turn_of more) _ (turns more) λ turn.
     bound (size_of unit w) _ (sizes (fix9_of w unit)) λ width. bound (point_of unit turn x1 y1) _ (points unit turn x1 y1) λ from.
     bound (point_of unit turn x2 y2) _ (points unit turn x2 y2) λ to. tt
-bars unit [] = tt
-bars unit (e ∷ []) = tt
-bars unit (e ∷ w ∷ []) = tt
-bars unit (e ∷ w ∷ x ∷ []) = tt
-bars unit (e ∷ w ∷ x ∷ y ∷ []) = tt
-bars unit (e ∷ w ∷ x ∷ y ∷ z ∷ []) = tt
+bars unit _ = tt
 
 rects : (unit : FileUnit) (values : List ℤ) → MayBe (rect_of unit values)
 rects unit (e ∷ w ∷ h ∷ x ∷ y ∷ more) =
     bound (paint_of e) _ (paints e) λ paint. bound (turn_of more) _ (turns more) λ turn.
     bound (size_of unit w) _ (sizes (fix9_of w unit)) λ width. bound (size_of unit h) _ (sizes (fix9_of h unit)) λ height.
     bound (point_of unit turn x y) _ (points unit turn x y) λ centre. tt
-rects unit [] = tt
-rects unit (e ∷ []) = tt
-rects unit (e ∷ w ∷ []) = tt
-rects unit (e ∷ w ∷ x ∷ []) = tt
-rects unit (e ∷ w ∷ x ∷ y ∷ []) = tt
+rects unit _ = tt
 
 counts : (z : ℤ) → MayBe (count_of z)
 counts (pos n) = either ((n % billion == 0) && (nat_lt 0 n && nat_le n (5000 * billion))) _ (Err Malformed) tt tt
@@ -122,8 +105,7 @@ outlines unit (e ∷ n ∷ more) =
     either (nat_lt (length more) (2 * count + 2)) (Err Malformed) _ tt
     (bound (turn_of (drop (2 * count + 2) more)) _ (turns (drop (2 * count + 2) more)) λ turn.
     bound (points_of unit turn (take (2 * count) more)) _ (all_points unit turn (take (2 * count) more)) λ ps. tt)
-outlines unit [] = tt
-outlines unit (e ∷ []) = tt
+outlines unit _ = tt
 
 abbrev Maker : Type 0
 Maker = FileUnit → List ℤ → Result MacroPrimitive MacroFault

@@ -17,8 +17,9 @@ use Rattle.cam_objects.specs.declared.item_fault.ItemFault.{ItemFault}
 use Rattle.cam_objects.specs.declared.object.Object.{Object}
 use Rattle.cam_objects.specs.declared.object.Object.TheVariants as object
 use Rattle.cam_objects.specs.Leaves.{Meaning, Stamp, flashed, item_leaves, leaf, meaning_in, origin, placed}
-use Rattle.cam_objects.specs.Refusals.{Tells}
-use Rattle.cam_objects.specs.Soundness.{HasNumber, MeetsItem}
+use Rattle.cam_objects.specs.Soundness.{item_checks}
+use Rattle.cam_objects.proofs.SoundItems.{HasNumber}
+use Rattle.cam_refusals.specs.Checks.{answer_of, first}
 use Rattle.cam_gerber.specs.declared.running.Running.{Running}
 use Rattle.cam_gerber.specs.State.{Past}
 use Rattle.cam_gerber.specs.Homes.{Opened, home, home_by, open_blocks, open_repeat}
@@ -60,12 +61,12 @@ judged_later past r o t e =
 
 pub judged_now : (past : Past) (r : Running) (o : Object) (check : Result (Unit {0}) ItemFault) → TracksPlaces past r
     → (is_empty r.frames.blocks.items && is_some r.frames.repeat) ≡ false
-    → IsWellMade r.built.layer.apertures o → Tells (MeetsItem r.built.layer.apertures (One o)) check
+    → IsWellMade r.built.layer.apertures o → check ≡ answer_of (first (item_checks r.built.layer.apertures (One o)))
     → is_of_board check ≡ is_outside_at (home past) past o
 judged_now past r o check t e well tells =
     told_outside r.built.layer.apertures (One o) check
     (record {
-      repeated = tt;
+      repeated = refl;
       steps = tt;
       objects =
           All-cons (IsWellMade r.built.layer.apertures) o [] well (All-nil (IsWellMade r.built.layer.apertures));
@@ -130,10 +131,10 @@ pub flash_well : (old : Running) (n : ℕ) (at : Point) (turn : Turn) (dark : Bo
 flash_well old n at turn dark h a on =
     let sound = sound_past h.0 h.1 h.3 in
     record {
-      formed = tt;
+      formed = refl;
       known = subst (λ es. HasNumber es n) (sym h.2.built.entries)
           (subst (IsKnownNumber (entries_in h.0)) (sym h.2.modal.aperture ∙ a) sound.aperture);
-      drawable = tt;
-      radius = tt;
+      drawable = refl;
+      radius = refl;
       points = All-cons IsOnBoard at [] (on_board at on) (All-nil IsOnBoard);
     }

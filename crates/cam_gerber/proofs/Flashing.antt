@@ -1,6 +1,7 @@
 -- A flash joins its home.
-use Rattle.std.proofs.Common.{◌≡◌, ℕ, [], ◌∷◌, true, false, cond, Option, Some, None, refl, sym, ap, ap₂, ◌∙◌, subst}
-use Rattle.std.specs.Prelude.{is_none, not, ◌||◌}
+use Rattle.std.proofs.Common.{◌≡◌, ℕ, [], ◌∷◌, true, false, Some, None, refl, sym, ap, ◌∙◌, subst}
+use Rattle.std.specs.Prelude.{is_none}
+use Rattle.cam_refusals.specs.Checks.{first}
 use Rattle.cam_units.specs.declared.point.Point.{Point}
 use Rattle.cam_objects.specs.declared.object.Object.{Object}
 use Rattle.cam_objects.specs.declared.object.Object.TheVariants as object
@@ -17,7 +18,7 @@ use Rattle.cam_gerber.specs.Homes.{home}
 use Rattle.cam_gerber.specs.Making.{flash_of, made}
 use Rattle.cam_gerber.specs.Faults.{operated_faults, is_full, is_on_board, is_outside_at}
 use Rattle.cam_gerber.specs.Laws.{IsFaultless}
-use Rattle.cam_gerber.specs.Machinery.Tracking.{Tracks, TracksModal, TracksRegion, Keeps, IsOperated, moved_point, first_of}
+use Rattle.cam_gerber.specs.Machinery.Tracking.{Tracks, TracksModal, TracksRegion, Keeps, IsOperated, moved_point}
 use Rattle.cam_gerber.proofs.Operated.{point_same, operated_tracks, contour_stays}
 
 pub flash_same : (past : Past) (m : Modal) (n : ℕ) (operation : Operation) (at : Point) → TracksModal past m → m.aperture ≡ Some n
@@ -32,7 +33,7 @@ pub flash_tracks : (past : Past) (operation : Operation) (old kept : Running) (m
     → false ≡ is_outside_at (home past) past made_is → false ≡ is_full (home past) past made_is
     → leaves ≡ object_count (weight_in old.built.layer.apertures) made_is
     → Keeps made_is leaves old kept → IsOperated kept.modal operation at m
-    → (first_of (operated_faults Flash false past operation) ≡ None) × Tracks (Says (Operate operation) ∷ past) (record kept { modal = m })
+    → (first (operated_faults Flash false past operation) ≡ None) × Tracks (Says (Operate operation) ∷ past) (record kept { modal = m })
 flash_tracks past operation old kept m n leaves at made_is none t out flashes a at_is on is inside room count keeps done =
     let same : made_is ≡ flash_of past operation = is ∙ flash_same past old.modal n operation at t.modal a at_is in
     let some : aperture_in past ≡ Some n = sym t.modal.aperture ∙ a in
@@ -44,13 +45,7 @@ flash_tracks past operation old kept m n leaves at made_is none t out flashes a 
     let joins : made past (Says (Operate operation)) ≡ made_is ∷ [] = rw flashes (ap (λ o. o ∷ []) (sym same)) in
     let places = keeps.places past (Says (Operate operation)) none (record { frames = t.frames; built = t.built }) tt joins
     (count ∙ ap (λ es. object_count (weight_in es) made_is) t.built.entries) (sym room) in (
-      ap (λ o. cond {A = Option ℕ} (is_none o) (Some 15)
-          (cond (not (is_on_board (point_in (Says (Operate operation) ∷ past)))
-          || is_outside_at (home past) past (flash_of past operation)) (Some 23)
-          (cond (is_full (home past) past (flash_of past operation)) (Some 25) None))) some
-          ∙ ap₂ (λ b d. cond {A = Option ℕ} (not b || d) (Some 23)
-          (cond (is_full (home past) past (flash_of past operation)) (Some 25) None)) board outside
-          ∙ ap (λ b. cond {A = Option ℕ} b (Some 25) None) full,
+      rw (ap is_none some, board, outside, full) refl,
       record {
         modal = operated_tracks past old.modal m operation at t.modal
             (subst (λ (k : Modal). IsOperated k operation at m) keeps.modal done) at_is;

@@ -11,12 +11,10 @@ use Rattle.cam_units.specs.declared.point.Point.{Point}
 use Rattle.cam_objects.specs.declared.object.Object.{Object}
 use Rattle.cam_objects.specs.declared.item.Item.{Item}
 use Rattle.cam_objects.specs.declared.item.Item.TheVariants.{One, Repeat}
-use Rattle.cam_objects.specs.declared.item_fault.ItemFault.TheVariants.{Malformed, UnknownAperture, UnknownTool}
-use Rattle.cam_objects.specs.declared.item_fault.ItemFault.TheVariants.{WrongAperture, ZeroRadius, OutOfBoard, TooMuch}
 use Rattle.cam_objects.specs.Leaves.{Leaf, item_leaves, meaning_in, object_leaves, origin}
-use Rattle.cam_objects.specs.Soundness.{AreOnBoard, HasRadius, IsDrawable, IsFormed, IsKnown, IsSoundItem, points_of}
-use Rattle.cam_objects.specs.Soundness.{points_of_shape, segs_of}
+use Rattle.cam_objects.specs.Soundness.{AreOnBoard, IsSoundItem, points_of, points_of_shape, segs_of}
 use Rattle.cam_objects.specs.Weights.{block_count, item_count, object_count, object_depth, weight_in}
+use Rattle.cam_objects.proofs.SoundItems.{HasRadius, IsDrawable, IsFormed, IsKnown, sound}
 use Rattle.cam_gerber.specs.State.{Past}
 use Rattle.cam_gerber.specs.Homes.{Home, InBlock, InRepeat, InLayer, is_same_home, Opened}
 use Rattle.cam_gerber.specs.Making.{objects_of}
@@ -221,23 +219,24 @@ IsClosable es o objects = AreOnBoard (item_leaves (meaning_in es) (Repeat o.colu
 repeat_item : (es : Pairs) (o : Opened) (x : Object) (xs : List Object) (leaves : ℕ) → IsOpening o
     → IsSoundRepeated es (x ∷ xs) leaves → IsClosable es o (x ∷ xs)
     → o.columns * o.rows * block_count (weight_in es) (x ∷ xs) ≤ 4000000 → IsSoundItem es (Repeat o.columns o.rows o.i o.j (x ∷ xs))
-repeat_item es o x xs leaves opening s board light Malformed =
-    ((opening.copies, omega arith), All-weaker (IsMade es) IsFormed (λ o m. m.formed) (x ∷ xs) s.each)
-repeat_item es o x xs leaves opening s board light UnknownAperture = All-weaker (IsMade es) (IsKnown es) (λ o m. m.known) (x ∷ xs) s.each
-repeat_item es o x xs leaves opening s board light UnknownTool = tt
-repeat_item es o x xs leaves opening s board light WrongAperture =
-    All-weaker (IsMade es) (IsDrawable (meaning_in es)) (λ o m. m.drawable) (x ∷ xs) s.each
-repeat_item es o x xs leaves opening s board light ZeroRadius = All-weaker (IsMade es) HasRadius (λ o m. m.radius) (x ∷ xs) s.each
-repeat_item es o x xs leaves opening s board light OutOfBoard = record {
-  points = All-weaker (IsMade es) (λ o. All IsOnBoard (points_of o)) (λ o m. m.points) (x ∷ xs) s.each;
-  steps = (opening.steps_i, opening.steps_j);
-  leaves = board;
-}
-repeat_item es o x xs leaves opening s board light TooMuch = record {
-  segs = All-weaker (IsMade es) (λ o. length (segs_of o) ≤ 1000000) (λ o m. m.segs) (x ∷ xs) s.each;
-  objects = s.few;
-  leaves = light;
-}
+repeat_item es o x xs leaves opening s board light =
+    sound es (Repeat o.columns o.rows o.i o.j (x ∷ xs)) (record {
+      repeated = (opening.copies, omega arith);
+      formed = All-weaker (IsMade es) IsFormed (λ o m. m.formed) (x ∷ xs) s.each;
+      known = All-weaker (IsMade es) (IsKnown es) (λ o m. m.known) (x ∷ xs) s.each;
+      drawable = All-weaker (IsMade es) (IsDrawable (meaning_in es)) (λ o m. m.drawable) (x ∷ xs) s.each;
+      radii = All-weaker (IsMade es) HasRadius (λ o m. m.radius) (x ∷ xs) s.each;
+      inside = record {
+        points = All-weaker (IsMade es) (λ o. All IsOnBoard (points_of o)) (λ o m. m.points) (x ∷ xs) s.each;
+        steps = (opening.steps_i, opening.steps_j);
+        leaves = board;
+      };
+      limits = record {
+        segs = All-weaker (IsMade es) (λ o. length (segs_of o) ≤ 1000000) (λ o m. m.segs) (x ∷ xs) s.each;
+        objects = s.few;
+        leaves = light;
+      };
+    })
 
 pub settled : (es : Pairs) (items : List Item) (all : ℕ) (o : Opened) (objects : List Object) (leaves : ℕ) → IsOpening o
     → IsSoundRepeated es objects leaves → IsSoundBuilt es items all

@@ -1,66 +1,65 @@
--- The least number of a table that holds.
-use Rattle.std.proofs.Common.{◌≡◌, ℕ, zero, suc, ◌≤◌, min, [], ◌∷◌, Bool, true, false, cond, Option, Some, None, refl}
-use Rattle.std.proofs.Common.{sym, ap, ◌∙◌, arith, ◌⊎◌, inl, inr}
-use Rattle.cam_apertures.specs.Definition.{Table, Tells, IsLeast}
-use Rattle.cam_gerber.specs.Faults.{least, lower_of}
+-- The least of the checks that hold, and the numbers that may be told.
+use Rattle.std.proofs.Common.{◌≡◌, ℕ, [], ◌∷◌, true, false, Option, Some, None, refl, sym, ap, subst, ◌∙◌, arith, inl, inr}
+use Rattle.std.specs.Prelude.{MatchOption, ◌==◌}
+use Rattle.std.specs.List.{position_or_len}
+use denote.Enum.Bare.{tag_one}
+use denote.Enum.Declared.{tag_of}
+use Rattle.cam_refusals.specs.declared.refusal.Refusal.{Refusal}
+use Rattle.cam_refusals.specs.contracts.refusal.Refusal.{the_type}
+use Rattle.cam_refusals.specs.declared.refusal.Refusal.TheVariants.{BadByte}
+use Rattle.cam_refusals.specs.Checks.{Checks, IsFirst, IsLeast, NoneHolds, first, least}
+use Rattle.cam_refusals.specs.Refusals.{number_of}
+use Rattle.cam_refusals.proofs.Checks.{tells_first, tells_least}
 
--- the number of a lower fault is one of both
-abbrev IsOneOf : ℕ → ℕ → Option ℕ → Type 0
-IsOneOf n k None = n ≡ k
-IsOneOf n k (Some m) = (n ≡ k) ⊎ (n ≡ m)
+-- ---- a number is that of one refusal
 
-min_either : (a b : ℕ) → (min a b ≡ a) ⊎ (min a b ≡ b)
-min_either zero b = inl (omega arith)
-min_either (suc a) zero = inr (omega arith)
-min_either (suc a) (suc b) = elim (min_either a b) [ inl h ↦ inl (omega arith) | inr h ↦ inr (omega arith) ]
+-- the place among the variants
+abbrev place_of : ℕ → ℕ
+place_of n = position_or_len (λ m. m == n) (
+    1 ∷ 2 ∷ 3 ∷ 4 ∷ 5 ∷ 6 ∷ 7 ∷ 8 ∷ 9 ∷ 10 ∷ 11 ∷ 12 ∷ 13 ∷ 14 ∷ 15 ∷ 16 ∷ 17 ∷ 18 ∷ 19 ∷ 20 ∷ 21 ∷ 22 ∷ 23 ∷ 24 ∷ 25 ∷ 26 ∷ 28 ∷ 29
+    ∷ 30 ∷ 40 ∷ 41 ∷ 42 ∷ 43 ∷ 44 ∷ 45 ∷ 46 ∷ 47 ∷ 48 ∷ 50 ∷ 51 ∷ 60 ∷ 61 ∷ 62 ∷ 63 ∷ 64 ∷ 65 ∷ 66 ∷ 67 ∷ 68 ∷ 69 ∷ 70 ∷ 71 ∷ 72
+    ∷ 73 ∷ 74 ∷ 75 ∷ 80 ∷ 81 ∷ 82 ∷ 83 ∷ 84 ∷ 85 ∷ 90 ∷ 91 ∷ []
+    )
 
-pub least_tells : (table : Table) (n : ℕ) → least table ≡ Some n → Tells table n
-least_tells [] n h = absurd cc
-least_tells (fault ∷ table) n h =
-    (elim fault.1 as (λ b. fault.1 ≡ b → cond b (Some (lower_of fault.0 (least table))) (least table) ≡ Some n → Tells (fault ∷ table) n) [
-      | true ↦ λ is e. held (λ m k. least_tells table m k) (least table) refl is
-          (let same : lower_of fault.0 (least table) ≡ n = cc in same)
-      | false ↦ λ is e. inr (least_tells table n e)
-    ]) refl h
+place_is : (refusal : Refusal) → place_of (number_of refusal) ≡ tag_of the_type refusal
+place_is BadByte = refl
+place_is _ = refl
+
+same_refusal : (a b : Refusal) → number_of a ≡ number_of b → a ≡ b
+same_refusal a b e = tag_one the_type tt a b (sym (place_is a) ∙ ap place_of e ∙ place_is b)
+
+-- ---- the least of the checks that hold
+
+pub least_of : (checks : Checks Refusal) (refusal : Refusal) → IsLeast number_of checks refusal → least number_of checks ≡ Some refusal
+least_of checks refusal h = go (least number_of checks) refl (tells_least number_of checks)
   where
-    held : ((m : ℕ) → least table ≡ Some m → Tells table m) → (o : Option ℕ) → least table ≡ o → fault.1 ≡ true
-        → lower_of fault.0 o ≡ n → Tells (fault ∷ table) n
-    held deeper None l is e = inl (e, is)
-    held deeper (Some m) l is e =
-        elim (min_either fault.0 m) [ inl k ↦ inl (sym k ∙ e, is) | inr k ↦ inr (deeper n (l ∙ ap Some (sym k ∙ e))) ]
+    go : (o : Option Refusal) → least number_of checks ≡ o → MatchOption o (NoneHolds checks) (IsLeast number_of checks)
+        → least number_of checks ≡ Some refusal
+    go None e none = absurd (none refusal h.holds)
+    go (Some other) e is =
+        e ∙ ap Some (same_refusal other refusal (omega (arith, is.least refusal h.holds, h.least other is.holds)))
 
--- a number that is no greater is told
-pub least_below : (table : Table) (n : ℕ) → Tells table n → (m : ℕ) × (least table ≡ Some m) × (m ≤ n)
-least_below [] n h = absurd h
-least_below (fault ∷ table) n (inl here) = go (least table)
+pub least_none : (checks : Checks Refusal) → NoneHolds checks → least number_of checks ≡ None
+least_none checks none = go (least number_of checks) refl (tells_least number_of checks)
   where
-    go : (o : Option ℕ) → (m : ℕ) × (cond {A = Option ℕ} fault.1 (Some (lower_of fault.0 o)) o ≡ Some m) × (m ≤ n)
-    go None = (fault.0, rw here.1 refl, omega (arith, here.0))
-    go (Some k) = (min fault.0 k, rw here.1 refl, omega (arith, here.0))
-least_below (fault ∷ table) n (inr there) =
-    let deep = least_below table n there in
-    elim fault.1 as (λ b. (m : ℕ) × (cond {A = Option ℕ} b (Some (lower_of fault.0 (least table))) (least table) ≡ Some m) × (m ≤ n)) [
-      | true ↦ (min fault.0 deep.0, ap (λ o. Some (lower_of fault.0 o)) deep.1, omega (arith, deep.2))
-      | false ↦ deep
-    ]
+    go : (o : Option Refusal) → least number_of checks ≡ o → MatchOption o (NoneHolds checks) (IsLeast number_of checks)
+        → least number_of checks ≡ None
+    go None e h = e
+    go (Some other) e is = absurd (none other is.holds)
 
-pub least_of : (table : Table) (n : ℕ) → IsLeast (Tells table) n → least table ≡ Some n
-least_of table n h =
-    let found = least_below table n h.holds in
-    let up : n ≤ found.0 = h.least found.0 (least_tells table found.0 found.1) in
-    found.1 ∙ ap Some (omega (arith, up, found.2))
+-- no test of the checks holds
+abbrev pub ArePassed : Checks Refusal → Type 0
+ArePassed [] = Unit {0}
+ArePassed (check ∷ checks) = (check.1 ≡ false) × ArePassed checks
 
-pub least_none : (table : Table) → ((n : ℕ) → Tells table n → ⊥) → least table ≡ None
-least_none table h = go (least table) refl
-  where
-    go : (o : Option ℕ) → least table ≡ o → o ≡ None
-    go None e = refl
-    go (Some n) e = absurd (h n (least_tells table n e))
+pub passed_by : (checks : Checks Refusal) → NoneHolds checks → ArePassed checks
+passed_by [] none = tt
+passed_by ((refusal, true) ∷ checks) none = absurd (none refusal (inl (refl, refl)))
+passed_by ((refusal, false) ∷ checks) none = (refl, passed_by checks (λ other h. none other (inr h)))
 
--- a table that tells a number tells one with a row more
-pub told_more : (fault : ℕ × Bool) (table : Table) (n : ℕ) → least table ≡ Some n → (m : ℕ) × (least (fault ∷ table) ≡ Some m)
-told_more fault table n h =
-    elim fault.1 as (λ b. (m : ℕ) × (cond {A = Option ℕ} b (Some (lower_of fault.0 (least table))) (least table) ≡ Some m)) [
-      | true ↦ (lower_of fault.0 (least table), refl)
-      | false ↦ (n, h)
-    ]
+pub pass_least : (checks : Checks Refusal) → least number_of checks ≡ None → ArePassed checks
+pass_least checks e =
+    passed_by checks (subst (λ o. MatchOption o (NoneHolds checks) (IsLeast number_of checks)) e (tells_least number_of checks))
+
+pub pass_first : (checks : Checks Refusal) → first checks ≡ None → ArePassed checks
+pass_first checks e = passed_by checks (subst (λ o. MatchOption o (NoneHolds checks) (IsFirst checks)) e (tells_first checks))

@@ -12,7 +12,7 @@ pub mod Outside
 pub mod Closing
 pub mod Settling
 pub mod Expansions
-pub mod FaultTables
+pub mod LowNumbers
 pub mod Places
 pub mod LeastFaults
 pub mod GrownEntries
@@ -30,7 +30,7 @@ pub mod SoundEntries
 pub mod SoundReadings
 pub mod Computed
 pub mod SoundJoining
-pub mod Tables
+pub mod AscendingChecks
 pub mod Obedience
 pub mod FileAttributes
 pub mod Flashing

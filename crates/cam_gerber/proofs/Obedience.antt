@@ -1,6 +1,7 @@
 -- One more command: the first fault that holds is the least, and the record follows.
-use Rattle.std.proofs.Common.{◌≡◌, ℕ, Bool, None, Some, refl, sym, subst, ◌∙◌, ◌∷◌, ◌++◌}
-use Rattle.cam_apertures.specs.Definition.{Table}
+use Rattle.std.proofs.Common.{◌≡◌, Bool, None, Some, refl, sym, subst, ◌∙◌, ◌∷◌, ◌++◌}
+use Rattle.cam_refusals.specs.declared.refusal.Refusal.{Refusal}
+use Rattle.cam_refusals.specs.Checks.{Checks, first}
 use Rattle.cam_commands.specs.declared.parts.Operation.{Operation}
 use Rattle.cam_commands.specs.declared.parts.OperationCode.{OperationCode}
 use Rattle.cam_gerber.specs.State.{Past, code_of, in_region}
@@ -9,11 +10,11 @@ use Rattle.cam_gerber.proofs.Operated.{passed, told_before}
 use Rattle.std.specs.Prelude.{Result, Ok, Err}
 use Rattle.cam_commands.specs.Commands.{Command, DefineAperture, DefineMacro, Nothing, Operate}
 use Rattle.cam_gerber.specs.declared.running.Running.{Running}
-use Rattle.cam_gerber.specs.declared.stop.Stop.{Stop}
-use Rattle.cam_gerber.specs.declared.stop.Stop.TheVariants.{Memory, Fault}
+use Rattle.cam_refusals.specs.declared.stop.Stop.{Stop}
+use Rattle.cam_refusals.specs.declared.stop.Stop.TheVariants.{Memory, Fault}
 use Rattle.cam_gerber.specs.Statements.{Says, IsSaidBy}
-use Rattle.cam_gerber.specs.Machinery.Tracking.{Answers, Takes, Tracks, Obeys, first_of}
-use Rattle.cam_gerber.proofs.Tables.{IsPlain, least_of_command}
+use Rattle.cam_gerber.specs.Machinery.Tracking.{Answers, Takes, Tracks, Obeys}
+use Rattle.cam_gerber.proofs.AscendingChecks.{IsPlain, least_of_command}
 
 said : (command : Command) → IsPlain command → IsSaidBy command (Says command)
 said (DefineAperture text) h = absurd h
@@ -29,8 +30,8 @@ obeys command old new (Err Memory) plain takes = tt
 obeys command old new (Err (Fault code)) plain takes =
     λ past none t. (Says command, said command plain, least_of_command past command plain ∙ takes past none t)
 
--- what holds behind a front of a table that tells nothing holds of the whole table
-lift : (result : Result (Unit {0}) Stop) (front rest : Table) (P : Type 0) → first_of front ≡ None → Answers result rest P
+-- what is answered behind checks that tell nothing is answered with them
+lift : (result : Result (Unit {0}) Stop) (front rest : Checks Refusal) (P : Type 0) → first front ≡ None → Answers result rest P
     → Answers result (front ++ rest) P
 lift (Ok done) front rest P none h = (passed front rest none ∙ h.0, h.1)
 lift (Err Memory) front rest P none h = tt
@@ -39,17 +40,17 @@ lift (Err (Fault code)) front rest P none h = passed front rest none ∙ h
 -- an operation, by what it does
 pub operates : (past : Past) (operation : Operation) (code : OperationCode) (region : Bool) (result : Result (Unit {0}) Stop)
     (P : Type 0) → code_of operation ≡ code → in_region past ≡ region
-    → first_of (leading_faults past operation) ≡ None → Answers result (operated_faults code region past operation) P
+    → first (leading_faults past operation) ≡ None → Answers result (operated_faults code region past operation) P
     → Answers result (command_faults past (Operate operation)) P
 operates past operation code region result P c r none h =
     lift result (leading_faults past operation) (operated_faults (code_of operation) (in_region past) past operation) P none
     (subst (λ k. Answers result (operated_faults k (in_region past) past operation) P) (sym c)
     (subst (λ b. Answers result (operated_faults code b past operation) P) (sym r) h))
 
-pub leads : (past : Past) (operation : Operation) (code : ℕ) → first_of (leading_faults past operation) ≡ Some code
-    → first_of (command_faults past (Operate operation)) ≡ Some code
-leads past operation code h =
-    told_before (leading_faults past operation) (operated_faults (code_of operation) (in_region past) past operation) code h
+pub leads : (past : Past) (operation : Operation) (refusal : Refusal) → first (leading_faults past operation) ≡ Some refusal
+    → first (command_faults past (Operate operation)) ≡ Some refusal
+leads past operation refusal h =
+    told_before (leading_faults past operation) (operated_faults (code_of operation) (in_region past) past operation) refusal h
 
 -- a text that nobody reads
 pub idle : (past : Past) (r : Running) → Tracks past r → Tracks (Says Nothing ∷ past) r

@@ -1,9 +1,10 @@
 -- Blocks are opened and closed.
-use Rattle.std.proofs.Common.{◌≡◌, ℕ, List, [], ◌∷◌, length, false, cond, Option, Some, None, refl, sym, ap, ap₂, ◌∙◌, subst, Global, arith}
-use Rattle.std.specs.Prelude.{map, ◌||◌, nat_le, is_some, nat_eq}
+use Rattle.std.proofs.Common.{◌≡◌, ℕ, List, [], ◌∷◌, length, false, Option, Some, None, refl, sym, ap, ap₂, ◌∙◌, subst, Global, arith}
+use Rattle.std.specs.Prelude.{map, nat_le, is_some, nat_eq}
 use Rattle.std.specs.Map.{lookup}
 use Rattle.std.specs.Option.{option_map}
 use Rattle.std.specs.declared.collections.VecDeque.{VecDeque}
+use Rattle.cam_refusals.specs.Checks.{first}
 use Rattle.cam_objects.specs.declared.object.Object.{Object}
 use Rattle.cam_commands.specs.Commands.{OpenBlock}
 use Rattle.cam_gerber.specs.declared.frames.OpenBlock.{OpenBlock as Frame}
@@ -13,7 +14,7 @@ use Rattle.cam_gerber.specs.State.{Past, in_region}
 use Rattle.cam_gerber.specs.Homes.{open_blocks, open_repeat}
 use Rattle.cam_gerber.specs.Layers.{entries_in}
 use Rattle.cam_gerber.specs.Faults.{command_faults, is_taken, is_defined}
-use Rattle.cam_gerber.specs.Machinery.Tracking.{Tracks, HasPast, first_of, block_of}
+use Rattle.cam_gerber.specs.Machinery.Tracking.{Tracks, HasPast, block_of}
 use Rattle.cam_gerber.proofs.Pasts.{unused, stay_apart, AreFree}
 
 is_some_map : {A B : Type 0} (f : A → B) (o : Option A) → is_some (option_map f o) ≡ is_some o
@@ -29,7 +30,7 @@ pub opened_tracks : (past : Past) (old : Running) (n : ℕ) (blocks : VecDeque F
     → is_taken past n ≡ false → old.region.inside ≡ false → is_some old.frames.repeat ≡ false
     → nat_le 8 (length old.frames.blocks.items) ≡ false
     → blocks.items ≡ record { number = n; objects = []; leaves = 0 } ∷ old.frames.blocks.items
-    → (first_of (command_faults past (OpenBlock (Some n))) ≡ None)
+    → (first (command_faults past (OpenBlock (Some n))) ≡ None)
     × Tracks (Says (OpenBlock (Some n)) ∷ past) (record old { frames = record old.frames { blocks = blocks } })
 opened_tracks past old n blocks t free outside closed few written =
     let u = unused n past free in
@@ -37,10 +38,7 @@ opened_tracks past old n blocks t free outside closed few written =
     let repeat : is_some (open_repeat past) ≡ false = sym (is_some_map _ (open_repeat past)) ∙ ap is_some (sym t.frames.repeat) ∙ closed in
     let room : nat_le 8 (length (open_blocks past)) ≡ false =
     ap (nat_le 8) (sym (length_map past (open_blocks past)) ∙ ap length (sym t.frames.blocks)) ∙ few in (
-      ap (λ b. cond {A = Option ℕ} b (Some 10)
-          (cond (in_region past || is_some (open_repeat past)) (Some 22) (cond (nat_le 8 (length (open_blocks past))) (Some 25) None))) free
-          ∙ ap₂ (λ b d. cond {A = Option ℕ} (b || d) (Some 22) (cond (nat_le 8 (length (open_blocks past))) (Some 25) None)) region repeat
-          ∙ ap (λ b. cond {A = Option ℕ} b (Some 25) None) room,
+      rw (free, region, repeat, room) refl,
       record {
         modal = record {
           format = t.modal.format;

@@ -1,11 +1,13 @@
 -- One more operation: what the values in force and the contour become.
-use Rattle.std.proofs.Common.{◌≡◌, ℕ, List, [], ◌∷◌, ◌++◌, Bool, true, false, cond, Option, Some, None, refl, sym, ap, ◌∙◌, subst}
+use Rattle.std.proofs.Common.{◌≡◌, ℕ, List, [], ◌∷◌, ◌++◌, Bool, true, false, Option, Some, None, refl, sym, ap, ◌∙◌, subst}
 use Rattle.std.specs.Prelude.{unwrap_or, is_none, not}
 use Rattle.std.specs.Option.{option_or}
+use Rattle.cam_refusals.specs.declared.refusal.Refusal.{Refusal}
+use Rattle.cam_refusals.specs.declared.refusal.Refusal.TheVariants.{TooMuch}
+use Rattle.cam_refusals.specs.Checks.{Checks, first}
 use Rattle.cam_units.specs.declared.point.Point.{Point}
 use Rattle.cam_units.specs.declared.turn.Turn.{Turn}
 use Rattle.cam_shapes.specs.declared.segments.Seg.{Seg}
-use Rattle.cam_apertures.specs.Definition.{Table}
 use Rattle.cam_objects.specs.declared.object.Object.{Object}
 use Rattle.cam_objects.specs.declared.entry.Entry.{Entry}
 use Rattle.cam_objects.specs.Weights.{Weight as Weighing, object_count, object_depth, weight_in}
@@ -29,28 +31,20 @@ use Rattle.cam_gerber.specs.Making.{segment, stroke, stroke_of, number_in, made}
 use Rattle.cam_gerber.specs.Layers.{entries_in}
 use Rattle.cam_gerber.specs.Faults.{can_draw, operated_faults, plot_faults, path_faults, is_full, is_unfit, is_arc}
 use Rattle.cam_gerber.specs.Machinery.Tracking.{Tracks, TracksModal, TracksRegion, Keeps, IsOperated, mode_by}
-use Rattle.cam_gerber.specs.Machinery.Tracking.{moved_point, centre_by, path_table, stroke_along, first_of}
+use Rattle.cam_gerber.specs.Machinery.Tracking.{moved_point, centre_by, path_faults_by, stroke_along}
 use Rattle.cam_objects.specs.declared.tip.Tip.{Tip}
 
--- ---- tables
+-- ---- checks behind others
 
-pub told_before : (table rest : Table) (code : ℕ) → first_of table ≡ Some code → first_of (table ++ rest) ≡ Some code
-told_before [] rest code h = absurd cc
-told_before (fault ∷ table) rest code h =
-    elim fault.1 as (λ b. cond b (Some fault.0) (first_of table) ≡ Some code
-    → cond b (Some fault.0) (first_of (table ++ rest)) ≡ Some code) [
-      | true ↦ λ e. e
-      | false ↦ λ e. told_before table rest code e
-    ] h
+pub told_before : (checks rest : Checks Refusal) (refusal : Refusal) → first checks ≡ Some refusal → first (checks ++ rest) ≡ Some refusal
+told_before [] rest refusal h = absurd cc
+told_before ((told, true) ∷ checks) rest refusal h = h
+told_before ((told, false) ∷ checks) rest refusal h = told_before checks rest refusal h
 
-pub passed : (table rest : Table) → first_of table ≡ None → first_of (table ++ rest) ≡ first_of rest
+pub passed : (checks rest : Checks Refusal) → first checks ≡ None → first (checks ++ rest) ≡ first rest
 passed [] rest h = refl
-passed (fault ∷ table) rest h =
-    elim fault.1 as (λ b. cond b (Some fault.0) (first_of table) ≡ None
-    → cond b (Some fault.0) (first_of (table ++ rest)) ≡ first_of rest) [
-      | true ↦ λ e. absurd cc
-      | false ↦ λ e. passed table rest e
-    ] h
+passed ((told, true) ∷ checks) rest h = absurd cc
+passed ((told, false) ∷ checks) rest h = passed checks rest h
 
 -- ---- values in force
 
@@ -69,9 +63,9 @@ point_same past m operation t = rw (t.format, t.unit, t.point) refl
 pub centre_same : (past : Past) (m : Modal) (operation : Operation) → TracksModal past m → centre_by m operation ≡ centre_of past operation
 centre_same past m operation t = rw (t.format, t.unit, t.point) refl
 
-pub table_same : (past : Past) (m : Modal) (operation : Operation) → TracksModal past m
-    → path_table m operation ≡ plot_faults past operation
-table_same past m operation t =
+pub plot_same : (past : Past) (m : Modal) (operation : Operation) → TracksModal past m
+    → path_faults_by m operation ≡ plot_faults past operation
+plot_same past m operation t =
     let now = Says (Operate operation) ∷ past in
     ap (λ mode. path_faults (is_arc mode) m.arcs m.point (moved_point m operation) (centre_by m operation)) (mode_same past m operation t)
     ∙ ap (λ arcs. path_faults (is_arc (mode_in now)) arcs m.point (moved_point m operation) (centre_by m operation)) t.arcs
@@ -140,22 +134,20 @@ pub draws_along : (arc : Bool) (mode : Mode) (tip : Option Tip) (result : Bool) 
 draws_along arc mode tip result is told same = sym is ∙ told ∙ ap (λ b. can_draw b tip) same
 
 -- a stroke that may be drawn is refused for its path or its home alone
-pub stroke_table : (past : Past) (m : Modal) (entries : List (ℕ × Entry)) (n : ℕ) (operation : Operation) → TracksModal past m
+pub stroke_checks : (past : Past) (m : Modal) (entries : List (ℕ × Entry)) (n : ℕ) (operation : Operation) → TracksModal past m
     → entries ≡ entries_in past → m.aperture ≡ Some n
     → true ≡ can_draw (is_arc (mode_by m operation)) (meaning_in entries n).tip
-    → first_of (operated_faults Plot false past operation)
-    ≡ first_of (path_table m operation ++ (25, is_full (home past) past (stroke_of past operation)) ∷ [])
-stroke_table past m entries n operation t e a solid =
+    → first (operated_faults Plot false past operation)
+    ≡ first (path_faults_by m operation ++ (TooMuch, is_full (home past) past (stroke_of past operation)) ∷ [])
+stroke_checks past m entries n operation t e a solid =
     let some : aperture_in past ≡ Some n = sym t.aperture ∙ a in
     let arc = is_arc (mode_in (Says (Operate operation) ∷ past)) in
     let fit : is_unfit past arc (Some n) ≡ false =
     ap not (sym (solid ∙ ap (λ mode. can_draw (is_arc mode) (meaning_in entries n).tip) (mode_same past m operation t)
     ∙ ap (λ es. can_draw arc (meaning_in es n).tip) e)) in
-    let rest : Table = (25, is_full (home past) past (stroke_of past operation)) ∷ [] in
-    ap (λ o. cond {A = Option ℕ} (is_none o) (Some 15)
-    (cond (is_unfit past arc o) (Some 16) (first_of (plot_faults past operation ++ rest)))) some
-    ∙ ap (λ b. cond {A = Option ℕ} b (Some 16) (first_of (plot_faults past operation ++ rest))) fit
-    ∙ ap (λ table. first_of (table ++ rest)) (sym (table_same past m operation t))
+    rw (ap is_none some, ap (is_unfit past arc) some ∙ fit)
+    (ap (λ checks. first (checks ++ (TooMuch, is_full (home past) past (stroke_of past operation)) ∷ []))
+    (sym (plot_same past m operation t)))
 
 pub stroke_made : (past : Past) (operation : Operation) → in_region past ≡ false → code_of operation ≡ Plot
     → made past (Says (Operate operation)) ≡ stroke_of past operation ∷ []
@@ -171,12 +163,12 @@ pub stroke_tracks : (past : Past) (operation : Operation) (old kept : Running) (
     → Tracks past old → in_region past ≡ false → code_of operation ≡ Plot
     → old.modal.aperture ≡ Some n
     → true ≡ can_draw (is_arc (mode_by old.modal operation)) (meaning_in old.built.layer.apertures n).tip
-    → first_of (path_table old.modal operation) ≡ None
+    → first (path_faults_by old.modal operation) ≡ None
     → seg ≡ segment (mode_by old.modal operation) (moved_point old.modal operation) (centre_by old.modal operation)
     → ((object : Object) → 1 ≡ object_count (weight_in old.built.layer.apertures) object
     → 0 ≡ object_depth (weight_in old.built.layer.apertures) object → false ≡ is_full (home past) past object)
     → Keeps (stroke_along old.modal n seg) 1 old kept → IsOperated kept.modal operation (end_of seg) m
-    → (first_of (operated_faults Plot false past operation) ≡ None) × Tracks (Says (Operate operation) ∷ past) (record kept { modal = m })
+    → (first (operated_faults Plot false past operation) ≡ None) × Tracks (Says (Operate operation) ∷ past) (record kept { modal = m })
 stroke_tracks past operation old kept m n seg none t out plots a solid path seg_is full keeps done =
     let object : stroke_along old.modal n seg ≡ stroke_of past operation = ap (stroke_along old.modal n) seg_is
     ∙ stroke_same past old.modal n operation t.modal a in
@@ -190,9 +182,9 @@ stroke_tracks past operation old kept m n seg none t out plots a solid path seg_
     (counts.0 ∙ ap (object_count (weight_in old.built.layer.apertures)) (sym object)
     ∙ ap (λ es. object_count (weight_in es) (stroke_along old.modal n seg)) t.built.entries)
     (ap (is_full (home past) past) object ∙ room) in (
-      stroke_table past old.modal old.built.layer.apertures n operation t.modal t.built.entries a solid
-          ∙ passed (path_table old.modal operation) ((25, is_full (home past) past (stroke_of past operation)) ∷ []) path
-          ∙ ap (λ b. cond {A = Option ℕ} b (Some 25) None) room,
+      stroke_checks past old.modal old.built.layer.apertures n operation t.modal t.built.entries a solid
+          ∙ passed (path_faults_by old.modal operation) ((TooMuch, is_full (home past) past (stroke_of past operation)) ∷ []) path
+          ∙ rw room refl,
       record {
         modal = operated_tracks past old.modal m operation (end_of seg) t.modal
             (subst (λ (k : Modal). IsOperated k operation (end_of seg) m) keeps.modal done)
@@ -207,15 +199,15 @@ stroke_tracks past operation old kept m n seg none t out plots a solid path seg_
 -- its home is full
 pub stroke_full : (past : Past) (operation : Operation) (old : Running) (n : ℕ) → Tracks past old → old.modal.aperture ≡ Some n
     → true ≡ can_draw (is_arc (mode_by old.modal operation)) (meaning_in old.built.layer.apertures n).tip
-    → first_of (path_table old.modal operation) ≡ None
+    → first (path_faults_by old.modal operation) ≡ None
     → ((object : Object) → 1 ≡ object_count (weight_in old.built.layer.apertures) object
     → 0 ≡ object_depth (weight_in old.built.layer.apertures) object → true ≡ is_full (home past) past object)
-    → first_of (operated_faults Plot false past operation) ≡ Some 25
+    → first (operated_faults Plot false past operation) ≡ Some TooMuch
 stroke_full past operation old n t a solid path full =
     let now = Says (Operate operation) ∷ past in
     let counts = stroke_count (weight_in old.built.layer.apertures) (mode_in now) (number_in past) (point_in past) (point_in now)
     (centre_of past operation) (turn_in past) (dark_in past) in
     let room : is_full (home past) past (stroke_of past operation) ≡ true = sym (full (stroke_of past operation) counts.0 counts.1) in
-    stroke_table past old.modal old.built.layer.apertures n operation t.modal t.built.entries a solid
-    ∙ passed (path_table old.modal operation) ((25, is_full (home past) past (stroke_of past operation)) ∷ []) path
-    ∙ ap (λ b. cond {A = Option ℕ} b (Some 25) None) room
+    stroke_checks past old.modal old.built.layer.apertures n operation t.modal t.built.entries a solid
+    ∙ passed (path_faults_by old.modal operation) ((TooMuch, is_full (home past) past (stroke_of past operation)) ∷ []) path
+    ∙ rw room refl

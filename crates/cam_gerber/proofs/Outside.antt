@@ -1,8 +1,8 @@
 -- The tests of the board say what the demands say, and an item that is well made is refused for the board alone.
-use Rattle.std.proofs.Common.{◌≡◌, ℕ, List, Bool, true, false, Result, Ok, Err, refl, sym, ◌∙◌, arith}
+use Rattle.std.proofs.Common.{◌≡◌, ℕ, List, [], ◌∷◌, Bool, true, false, Result, refl, sym, ap, ◌∙◌}
 use Rattle.std.specs.Prelude.{not, nat_lt, unsigned_abs}
 use Rattle.std.specs.List.{All, list_all}
-use Rattle.std.proofs.lemmas.Bool.{and_parts, false≢true, lt-ltb, ltb-true}
+use Rattle.std.proofs.lemmas.Bool.{and_parts, lt-ltb, ltb-true}
 use Rattle.std.proofs.lemmas.List.Elements.{All-weaker}
 use Rattle.std.proofs.lemmas.List.Sums.{AllPass-from_list_all, list_all-from_AllPass}
 use Rattle.cam_units.specs.Board.{IsOnBoard}
@@ -10,12 +10,13 @@ use Rattle.cam_units.specs.declared.point.Point.{Point}
 use Rattle.cam_objects.specs.declared.entry.Entry.{Entry}
 use Rattle.cam_objects.specs.declared.item.Item.{Item}
 use Rattle.cam_objects.specs.declared.item_fault.ItemFault.{ItemFault}
-use Rattle.cam_objects.specs.declared.item_fault.ItemFault.TheVariants.{Malformed, UnknownAperture, UnknownTool}
-use Rattle.cam_objects.specs.declared.item_fault.ItemFault.TheVariants.{WrongAperture, ZeroRadius, OutOfBoard, TooMuch}
+use Rattle.cam_objects.specs.declared.item_fault.ItemFault.TheVariants.{OutOfBoard, TooMuch}
 use Rattle.cam_objects.specs.Leaves.{Leaf, item_leaves, meaning_in}
-use Rattle.cam_objects.specs.Refusals.{Tells}
-use Rattle.cam_objects.specs.Soundness.{AreOnBoard, HasRadius, IsDrawable, IsFormed, IsInside, IsKnown, MeetsItem}
+use Rattle.cam_objects.specs.Soundness.{AreOnBoard, IsInside, is_inside, is_within_limits, item_checks}
 use Rattle.cam_objects.specs.Soundness.{objects_of, points_of, points_of_shape}
+use Rattle.cam_objects.proofs.SoundItems.{HasRadius, IsDrawable, IsFormed, IsKnown, drawable, formed, known, radii, repeated}
+use Rattle.cam_objects.proofs.TestLaws.{inside_law}
+use Rattle.cam_refusals.specs.Checks.{answer_of, first}
 use Rattle.cam_gerber.specs.State.{Past}
 use Rattle.cam_gerber.specs.Layers.{entries_in}
 use Rattle.cam_gerber.specs.Faults.{are_on_board, is_on_board, is_outside}
@@ -45,18 +46,6 @@ leaves_on_board leaves h =
     (AllPass-from_list_all _ leaves h)
 
 module _ (es : List (ℕ × Entry)) (item : Item) (well : IsWellMadeItem es item) where
-  formed : MeetsItem es item Malformed
-  formed = (well.repeated, All-weaker (IsWellMade es) IsFormed (λ o w. w.formed) (objects_of item) well.objects)
-
-  known : MeetsItem es item UnknownAperture
-  known = All-weaker (IsWellMade es) (IsKnown es) (λ o w. w.known) (objects_of item) well.objects
-
-  drawable : MeetsItem es item WrongAperture
-  drawable = All-weaker (IsWellMade es) (IsDrawable (meaning_in es)) (λ o w. w.drawable) (objects_of item) well.objects
-
-  radii : MeetsItem es item ZeroRadius
-  radii = All-weaker (IsWellMade es) HasRadius (λ o w. w.radius) (objects_of item) well.objects
-
   inside : are_on_board (item_leaves (meaning_in es) item) ≡ true → IsInside es item
   inside h = record {
     points = All-weaker (IsWellMade es) (λ o. All IsOnBoard (points_of o)) (λ o w. w.points) (objects_of item) well.objects;
@@ -64,28 +53,38 @@ module _ (es : List (ℕ × Entry)) (item : Item) (well : IsWellMadeItem es item
     leaves = leaves_on_board _ h;
   }
 
-  outside_if : (on : Bool) → are_on_board (item_leaves (meaning_in es) item) ≡ on → IsInside es item → on ≡ true
-  outside_if on e h = sym e ∙ leaves_pass _ h.leaves
+  -- the test of what is inside says whether the leaves are
+  inside_is : (on within : Bool) → are_on_board (item_leaves (meaning_in es) item) ≡ on → is_inside es item ≡ within → within ≡ on
+  inside_is true true e f = refl
+  inside_is true false e f = sym f ∙ (inside_law es item).1 (inside e)
+  inside_is false true e f = sym (sym e ∙ leaves_pass _ ((inside_law es item).0 f).leaves)
+  inside_is false false e f = refl
 
-  told_by : (r : Result (Unit {0}) ItemFault) (on : Bool) → are_on_board (item_leaves (meaning_in es) item) ≡ on
-      → Tells (MeetsItem es item) r → is_of_board r ≡ not on
-  told_by (Ok done) true e h = refl
-  told_by (Ok done) false e h = absurd (false≢true (outside_if false e (h OutOfBoard)))
-  told_by (Err OutOfBoard) true e h = absurd (h.unmet (inside e))
-  told_by (Err OutOfBoard) false e h = refl
-  told_by (Err TooMuch) true e h = refl
-  told_by (Err TooMuch) false e h = absurd (false≢true (outside_if false e (h.before OutOfBoard (omega arith))))
-  told_by (Err Malformed) on e h = absurd (h.unmet formed)
-  told_by (Err UnknownAperture) on e h = absurd (h.unmet known)
-  told_by (Err UnknownTool) on e h = absurd (h.unmet tt)
-  told_by (Err WrongAperture) on e h = absurd (h.unmet drawable)
-  told_by (Err ZeroRadius) on e h = absurd (h.unmet radii)
+  -- what is told of an item that passes all before that test
+  told_by : (within few : Bool)
+      → is_of_board (answer_of (first ((OutOfBoard, not within) ∷ (TooMuch, not few) ∷ []))) ≡ not within
+  told_by true true = refl
+  told_by true false = refl
+  told_by false few = refl
 
--- a check tells the board exactly where a leaf lies outside
+  -- a check tells the board exactly where a leaf lies outside
+  told : is_of_board (answer_of (first (item_checks es item))) ≡ not (are_on_board (item_leaves (meaning_in es) item))
+  unfolding item_checks
+  told =
+      rw (
+        (formed item).1 ((repeated item).0 well.repeated, All-weaker (IsWellMade es) IsFormed (λ o w. w.formed) (objects_of item) well.objects),
+        (known es item).1 (All-weaker (IsWellMade es) (IsKnown es) (λ o w. w.known) (objects_of item) well.objects),
+        (drawable es item).1
+            (All-weaker (IsWellMade es) (IsDrawable (meaning_in es)) (λ o w. w.drawable) (objects_of item) well.objects),
+        (radii item).1 (All-weaker (IsWellMade es) HasRadius (λ o w. w.radius) (objects_of item) well.objects),
+      )
+      (told_by (is_inside es item) (is_within_limits es item))
+      ∙ ap not (inside_is (are_on_board (item_leaves (meaning_in es) item)) (is_inside es item) refl refl)
+
 pub told_outside : (es : List (ℕ × Entry)) (item : Item) (r : Result (Unit {0}) ItemFault) → IsWellMadeItem es item
-    → Tells (MeetsItem es item) r
+    → r ≡ answer_of (first (item_checks es item))
     → is_of_board r ≡ not (are_on_board (item_leaves (meaning_in es) item))
-told_outside es item r well h = told_by es item well r (are_on_board (item_leaves (meaning_in es) item)) refl h
+told_outside es item r well h = ap is_of_board h ∙ told es item well
 
 -- the same as it is said of a past
 pub outside_is : (past : Past) (stands : Item)

@@ -17,14 +17,15 @@ use Rattle.cam_gerber.specs.Homes.{home_by, home, is_same_home}
 use Rattle.cam_gerber.specs.Making.{made, made_at, objects_of, IsMaker}
 use Rattle.cam_gerber.specs.Layers.{entries_in, items_in, leaves_of, leaves_in, macros_in, item_at, closed_block}
 use Rattle.cam_gerber.specs.Layers.{defined_by, numbered_aperture}
-use Rattle.cam_gerber.specs.Faults.{least, lower_of, command_faults, is_defined, is_taken, is_taken_again, is_empty}
+use Rattle.cam_gerber.specs.Faults.{command_faults, is_defined, is_taken, is_taken_again, is_empty}
 use Rattle.cam_gerber.specs.State.{in_region, unit_in, unit_or_mm}
-use Rattle.cam_apertures.specs.Definition.{Table, Definition, definition_of, numbered}
+use Rattle.cam_apertures.specs.Definition.{Definition, definition_of, numbered}
 use Rattle.cam_numbers.specs.Numbers.{defined_number}
 use Rattle.cam_apertures.specs.declared.aperture.Aperture.{Aperture}
 use Rattle.cam_macros.specs.declared.aperture_macro.Macro.{Macro}
 use Rattle.cam_units.specs.declared.length.Unit.{Unit as FileUnit}
 use Rattle.cam_gerber.specs.Laws.{IsFaultless, KeepsHomesApart}
+use Rattle.cam_gerber.proofs.Least.{pass_least}
 use Rattle.cam_gerber.specs.Machinery.Tracking.{block_of}
 use Rattle.cam_gerber.specs.declared.frames.OpenBlock.{OpenBlock as Frame}
 
@@ -74,21 +75,6 @@ here h past says e = rw e refl
 pub home_is : (past : Past) (numbers : List ℕ) (repeat : Option Opened) → open_blocks past ≡ numbers → open_repeat past ≡ repeat
     → home past ≡ home_by numbers repeat
 home_is past numbers repeat h k = rw (h, k) refl
-
--- ---- what a command without a fault has met
-
--- no test of the table holds
-abbrev pub NoneHolds : Table → Type 0
-NoneHolds [] = Unit {0}
-NoneHolds (fault ∷ table) = (fault.1 ≡ false) × NoneHolds table
-
-pub none_holds : (table : Table) → least table ≡ None → NoneHolds table
-none_holds [] h = tt
-none_holds (fault ∷ table) h =
-    (elim fault.1 as (λ b. fault.1 ≡ b → cond b (Some (lower_of fault.0 (least table))) (least table) ≡ None → NoneHolds (fault ∷ table)) [
-      | true ↦ λ is e. absurd cc
-      | false ↦ λ is e. (is, none_holds table e)
-    ]) refl h
 
 -- ---- homes do not collide
 
@@ -160,9 +146,9 @@ repeating false empty numbers o h = inr refl
 pub stay_apart : (past : Past) → IsFaultless past → StayApart past
 stay_apart [] h = record { numbers = tt; entries = tt; repeat = inl refl }
 stay_apart (Says (OpenBlock None) ∷ older) h =
-    absurd (let met : true ≡ false = (none_holds (command_faults older (OpenBlock None)) h.0).0 in cc)
+    absurd (let met : true ≡ false = (pass_least (command_faults older (OpenBlock None)) h.0).0 in cc)
 stay_apart (Says (OpenBlock (Some n)) ∷ older) h =
-    let met = none_holds (command_faults older (OpenBlock (Some n))) h.0 in
+    let met = pass_least (command_faults older (OpenBlock (Some n))) h.0 in
     let before = stay_apart older h.1 in
     let taken = or_parts (is_defined older n) (has n (open_blocks older)) met.1.0 in
     let nested = or_parts (in_region older) (is_some (open_repeat older)) met.1.1.0 in
@@ -177,7 +163,7 @@ stay_apart (Says CloseBlock ∷ older) h =
     record { numbers = after.0; entries = after.1; repeat = outside (open_blocks older) (open_repeat older) before.repeat }
 stay_apart (Says (DefineAperture text) ∷ older) h =
     let before = stay_apart older h.1 in
-    let met = none_holds (command_faults older (DefineAperture text)) h.0 in
+    let met = pass_least (command_faults older (DefineAperture text)) h.0 in
     record {
       numbers = before.numbers;
       entries =
@@ -186,7 +172,7 @@ stay_apart (Says (DefineAperture text) ∷ older) h =
     }
 stay_apart (Says (SetRepeat repeat) ∷ older) h =
     let before = stay_apart older h.1 in
-    let met = none_holds (command_faults older (SetRepeat repeat)) h.0 in
+    let met = pass_least (command_faults older (SetRepeat repeat)) h.0 in
     record {
       numbers = before.numbers;
       entries = before.entries;

@@ -1,116 +1,95 @@
--- The places of what a file's cutting answers ascend, and lie within the file; its faults have the numbers of cutting.
-use Rattle.std.proofs.Common.{◌≡◌, ℕ, zero, suc, ◌+◌, ◌<◌, ◌≤◌, List, [], ◌∷◌, length, drop, Bool, true, false, cond}
-use Rattle.std.proofs.Common.{Result, Ok, Err, refl, arith, length-append, length-drop}
-use Rattle.std.specs.Prelude.{nat_le}
-use Rattle.std.specs.List.{prefix_len}
-use Rattle.cam_words.specs.Bytes.{is_skipped, star}
+-- What the cutting of a file answers, and where: the places of the file ascend.
+use Rattle.std.proofs.Common.{◌≡◌, ℕ, ◌+◌, ◌<◌, ◌≤◌, List, [], ◌∷◌, ◌++◌, length, map, true, false, cond, Ok, Err, refl, sym, ap, subst}
+use Rattle.std.proofs.Common.{◌∙◌, ◌⊎◌, inl, inr, arith, length-append}
+use Rattle.std.specs.List.{AllByRecursion, flat_map}
+use Rattle.std.proofs.lemmas.List.{append-nil}
+use Rattle.cam_refusals.specs.FileFaults.{AscendFrom}
+use Rattle.cam_words.specs.Bytes.{star}
 use Rattle.cam_words.specs.Heads.{is_comment}
-use Rattle.cam_words.specs.Cutting.{Command as CutCommand, WordCommand, ExtendedCommand, word_of, bytes_of_command}
-use Rattle.cam_words.specs.Reading.{Answer, reading, reading_within, answers_at, answers_by, command_at, word_at}
-use Rattle.cam_words.specs.Reading.{extended_at, command_within}
+use Rattle.cam_words.specs.Cutting.{Command, WordCommand, ExtendedCommand, IsCommand, IsPiece, Piece, Blank, Whole}
+use Rattle.cam_words.specs.Cutting.{bytes_of, bytes_of_command, word_of, words_of}
+use Rattle.cam_words.specs.Laws.{BeginsCommand, HasCutFront, HasCutting, TellsFault}
+use Rattle.cam_words.specs.Reading.{Answer, reading, told}
 use Rattle.cam_words.specs.declared.word.Kind.TheVariants.{Plain, Comment}
-use Rattle.cam_commands.specs.Syntax.{place_of, place_by}
+use Rattle.cam_words.specs.declared.word.TextFault.{TextFault}
+use Rattle.cam_words.proofs.Cuttings.{reads_its_words}
+use Rattle.cam_words.proofs.Longest.{stops_at_the_longest_front}
+use Rattle.cam_commands.specs.Syntax.{command_of, place_of, place_by}
+use Rattle.cam_gerber.specs.State.{Past}
+use Rattle.cam_gerber.specs.Reading.{is_end, places_from}
+use Rattle.cam_gerber.specs.Computing.{statement_of, told_of}
 
-abbrev pub place : Answer → ℕ
-place (Ok word) = place_of word
-place (Err fault) = fault.at
+-- the answers to a text that is cut, as those that a fault would follow
+read_whole : (text : List ℕ) (cut : HasCutting text) → reading 0 text ≡ told (words_of 0 cut.0) ++ []
+read_whole text cut = reads_its_words text cut.0 cut.1 ∙ sym (append-nil (told (words_of 0 cut.0)))
 
--- a fault of the cutting has a number under that of memory
-abbrev pub IsTrueAnswer : Answer → Type 0
-IsTrueAnswer (Ok word) = Unit {0}
-IsTrueAnswer (Err fault) = nat_le fault.code 29 ≡ true
+-- ---- what holds of the words of commands and of the faults of the cutting holds of all answers
 
--- the places ascend, from one on and below another
-abbrev pub IsWithin : ℕ → ℕ → List Answer → Type 0
-IsWithin low high [] = Unit {0}
-IsWithin low high (answer ∷ answers) = (low ≤ place answer) × (place answer < high) × IsTrueAnswer answer
-    × IsWithin (suc (place answer)) high answers
+module _ (P : Answer → Type 0) (of_word : (at : ℕ) (command : Command) → IsCommand command → P (Ok (word_of at command)))
+    (of_fault : (fault : TextFault) (text : List ℕ) → TellsFault fault.code text → P (Err fault)) where
+  all_words : (at : ℕ) (pieces : List Piece) (rest : List Answer) → AllByRecursion IsPiece pieces → AllByRecursion P rest
+      → AllByRecursion P (told (words_of at pieces) ++ rest)
+  all_words at [] rest h k = k
+  all_words at (Blank run ∷ pieces) rest h k = all_words (at + length run) pieces rest h.1 k
+  all_words at (Whole command ∷ pieces) rest h k =
+      (of_word at command h.0, all_words (at + length (bytes_of_command command)) pieces rest h.1 k)
 
-lower : (low from high : ℕ) (answers : List Answer) → low ≤ from → IsWithin from high answers → IsWithin low high answers
-lower low from high [] le h = tt
-lower low from high (answer ∷ answers) le h = (omega (arith, le, h.0), h.1, h.2, h.3)
+  pub all_answers : (text : List ℕ) → AllByRecursion P (reading 0 text)
+  all_answers text = by (stops_at_the_longest_front text) where
+    by : HasCutting text ⊎ HasCutFront text → AllByRecursion P (reading 0 text)
+    by (inl cut) = subst (AllByRecursion P) (sym (read_whole text cut)) (all_words 0 cut.0 [] cut.1.each tt)
+    by (inr cut) = subst (AllByRecursion P) (sym cut.3.read)
+        (all_words 0 cut.0 (Err cut.2 ∷ []) cut.3.cutting.each (of_fault cut.2 cut.1 cut.3.number, tt))
 
--- ---- the numbers of cutting
+-- ---- places
 
-abbrev IsCutNumber : Result CutCommand ℕ → Type 0
-IsCutNumber (Ok command) = Unit {0}
-IsCutNumber (Err code) = nat_le code 29 ≡ true
-
-record IsCut (found : Result CutCommand ℕ) : Type 0 where
-  number : IsCutNumber found
-
-cut_either : (b : Bool) (x y : Result CutCommand ℕ) → IsCut x → IsCut y → IsCut (cond b x y)
-cut_either true x y h k = h
-cut_either false x y h k = k
-
-cut_ok : (command : CutCommand) → IsCut (Ok command)
-cut_ok command = record { number = tt }
-
-cut_one : IsCut (Err 1)
-cut_one = record { number = refl }
-
-cut_two : IsCut (Err 2)
-cut_two = record { number = refl }
-
-cut_within : (inside : List ℕ) → IsCut (command_within inside)
-cut_within inside = search (cut_either, cut_ok, cut_two)
-
-cut_extended : (text : List ℕ) → IsCut (extended_at text)
-cut_extended text = search (cut_either, cut_one, cut_two, cut_within)
-
-cut_word : (text : List ℕ) → IsCut (word_at text)
-cut_word text = search (cut_either, cut_ok, cut_one, cut_two)
-
-cut : (first : ℕ) (rest : List ℕ) → IsCut (command_at first rest)
-cut first rest = search (cut_either, cut_extended, cut_word)
-
--- ---- the places
-
-place_of_command : (at : ℕ) (command : CutCommand) → place_of (word_of at command) ≡ at
+place_of_command : (at : ℕ) (command : Command) → place_of (word_of at command) ≡ at
 place_of_command at (WordCommand text) =
     elim (is_comment text) as (λ b. place_by (cond b Comment Plain) at ≡ at) [ true ↦ refl | false ↦ refl ]
 place_of_command at (ExtendedCommand text tail) = omega arith
 
-some_bytes : (command : CutCommand) → 0 < length (bytes_of_command command)
+some_bytes : (command : Command) → 0 < length (bytes_of_command command)
 some_bytes (WordCommand text) = omega (arith, length-append text (star ∷ []))
 some_bytes (ExtendedCommand text tail) = omega arith
 
--- what stands behind a place is within the file
-abbrev Fits : ℕ → ℕ → List ℕ → Type 0
-Fits high at text = 0 < length text → at + length text ≤ high
+some_behind : (text : List ℕ) → BeginsCommand text → 0 < length text
+some_behind [] h = absurd h
+some_behind (byte ∷ text) h = omega arith
 
-abbrev Ascends : ℕ → (ℕ → List ℕ → List Answer) → Type 0
-Ascends high behind = (at : ℕ) (text : List ℕ) → Fits high at text → IsWithin at high (behind at text)
+abbrev Ascend : ℕ → ℕ → List Answer → Type 0
+Ascend len low answers = (past : Past) → AscendFrom low (places_from len past (map told_of answers))
 
-by_command : (high : ℕ) (behind : ℕ → List ℕ → List Answer) (low at : ℕ) (text : List ℕ) (found : Result CutCommand ℕ) → IsCut found
-    → low ≤ at → 0 < length text → at + length text ≤ high → Ascends high behind
-    → IsWithin low high (answers_by behind at text found)
-by_command high behind low at text (Err code) cut le some fits rest = (le, omega (arith, some, fits), cut.number, tt)
-by_command high behind low at text (Ok command) cut le some fits rest =
+ascend_words : (len low at end : ℕ) (pieces : List Piece) (rest : List Answer) → low ≤ at
+    → at + length (flat_map bytes_of pieces) ≡ end → ((low : ℕ) → low ≤ end → Ascend len low rest)
+    → Ascend len low (told (words_of at pieces) ++ rest)
+ascend_words len low at end [] rest le ends behind = behind low (omega (arith, le, ends))
+ascend_words len low at end (Blank run ∷ pieces) rest le ends behind =
+    ascend_words len low (at + length run) end pieces rest (omega (arith, le))
+    (omega (arith, ends, length-append run (flat_map bytes_of pieces))) behind
+ascend_words len low at end (Whole command ∷ pieces) rest le ends behind = λ past.
     let is = place_of_command at command in
-    let size = length-drop (length (bytes_of_command command)) text in (
+    let next = at + length (bytes_of_command command) in
+    let says = statement_of (command_of (word_of at command)) in (
       omega (arith, is, le),
-      omega (arith, is, some, fits),
-      tt,
-      lower _ (at + length (bytes_of_command command)) high _ (omega (arith, is, some_bytes command))
-          (rest (at + length (bytes_of_command command)) (drop (length (bytes_of_command command)) text)
-          (λ more. omega (arith, more, size, fits))),
+      elim (is_end says)
+          as (λ b. AscendFrom (place_of (word_of at command) + 1)
+          (cond b [] (places_from len (says ∷ past) (map told_of (told (words_of next pieces) ++ rest))))) [
+            | true ↦ tt
+            | false ↦ ascend_words len (place_of (word_of at command) + 1) next end pieces rest
+                (omega (arith, is, some_bytes command))
+                (omega (arith, ends, length-append (bytes_of_command command) (flat_map bytes_of pieces))) behind (says ∷ past)
+          ],
     )
 
-ascend : (high commands : ℕ) → Ascends high (reading_within commands)
-unfolding reading_within
-ascend high zero at text fits = tt
-ascend high (suc commands) at text fits =
-    let run = prefix_len is_skipped text in
-    let size = length-drop run text in
-    begun (drop run text) (ascend high commands) (λ more. omega (arith, more, size, fits (omega (arith, more, size))))
-  where
-    begun : (rest : List ℕ) → Ascends high (reading_within commands) → Fits high (at + prefix_len is_skipped text) rest
-        → IsWithin at high (answers_at (reading_within commands) (at + prefix_len is_skipped text) rest)
-    begun [] h fit = tt
-    begun (first ∷ rest) h fit =
-        by_command high (reading_within commands) at (at + prefix_len is_skipped text) (first ∷ rest) (command_at first rest)
-        (cut first rest) (omega arith) (omega arith) (fit (omega arith)) h
-
-pub reading_within_file : (bytes : List ℕ) → IsWithin 0 (length bytes) (reading 0 bytes)
-reading_within_file bytes = ascend (length bytes) _ 0 bytes (λ some. omega arith)
+pub places_ascend : (text : List ℕ) → AscendFrom 0 (places_from (length text) [] (map told_of (reading 0 text)))
+places_ascend text = by (stops_at_the_longest_front text) [] where
+  by : HasCutting text ⊎ HasCutFront text → Ascend (length text) 0 (reading 0 text)
+  by (inl cut) = subst (Ascend (length text) 0) (sym (read_whole text cut))
+      (ascend_words (length text) 0 0 (length text) cut.0 [] (omega arith) (omega (arith, ap length cut.1.joined)) (λ low le past. (le, tt)))
+  by (inr cut) =
+      let front = flat_map bytes_of cut.0 in
+      let more = some_behind cut.1 cut.3.begins in
+      let size : length text ≡ length front + length cut.1 = ap length cut.3.joined ∙ length-append front cut.1 in
+      subst (Ascend (length text) 0) (sym cut.3.read)
+      (ascend_words (length text) 0 0 (length front) cut.0 (Err cut.2 ∷ []) (omega arith) (omega arith)
+      (λ low le past. (omega (arith, le, cut.3.place), (omega (arith, cut.3.place, size, more), tt))))

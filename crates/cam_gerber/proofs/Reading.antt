@@ -1,106 +1,143 @@
--- A reading goes on behind its front.
-use Rattle.std.proofs.Common.{◌≡◌, ℕ, List, [], ◌∷◌, ◌++◌, Bool, true, false, Option, Some, None, Result, Ok, Err, refl}
+-- A file means what is computed of it, and nothing else; a reading goes on behind its front.
+use Rattle.std.proofs.Common.{◌≡◌, ℕ, List, [], ◌∷◌, ◌++◌, map, Bool, true, false, Option, Some, None, Result, Ok, Err, refl}
 use Rattle.std.proofs.Common.{sym, ap, ap₂, ◌∙◌, subst, length}
 use Rattle.std.specs.Prelude.{◌&&◌, not}
+use Rattle.std.specs.Option.{option_map}
+use Rattle.std.specs.List.{list_all}
+use Rattle.std.proofs.lemmas.List.{map-append}
+use Rattle.cam_refusals.specs.declared.read_fault.ReadFault.{ReadFault}
+use Rattle.cam_refusals.specs.declared.refusal.Refusal.{Refusal}
+use Rattle.cam_refusals.specs.Checks.{least}
+use Rattle.cam_refusals.specs.Refusals.{number_of}
 use Rattle.cam_words.specs.Reading.{Answer, reading}
 use Rattle.cam_macros.specs.declared.part.Part.{Part}
+use Rattle.cam_macros.specs.Parsing.{parts_of}
+use Rattle.cam_macros.specs.Parsing as parsing
+use Rattle.cam_macros.specs.Reading.{pieces, first}
 use Rattle.cam_macros.proofs.OneReading.{one_reading}
+use Rattle.cam_macros.proofs.Parsed.{parsed_by_the_grammar}
 use Rattle.cam_commands.specs.Commands.{Command, DefineMacro}
 use Rattle.cam_commands.specs.Syntax.{command_of}
 use Rattle.cam_objects.specs.Contents.{Content}
-use Rattle.cam_gerber.specs.declared.read_fault.ReadFault.{ReadFault}
 use Rattle.cam_gerber.specs.Statements.{Statement, Says, NamesMacro, Uncut, IsReadAs, IsMacroOf, IsSaidBy, Told, IsTold}
 use Rattle.cam_gerber.specs.State.{Past}
 use Rattle.cam_gerber.specs.Layers.{layer_in}
-use Rattle.cam_gerber.specs.Reading.{is_end, fault_of, Gives, Leads, Means}
-use Rattle.cam_gerber.specs.Laws.{AreTold, AreEndless, AreFaultless, behind, MeansOneThing}
+use Rattle.cam_gerber.specs.Faults.{faults}
+use Rattle.cam_gerber.specs.Reading.{AreTold, Leads, Means, given, is_end}
+use Rattle.cam_gerber.specs.Computing.{MeansItsReading, lead_of, reading_of, statement_of, told_of}
+use Rattle.cam_gerber.specs.Laws.{AreEndless, AreFaultless, behind, MeansOneThing}
 
-both : (a b : Bool) → (a && b) ≡ true → (a ≡ true) × (b ≡ true)
-both true b h = (refl, h)
-both false b h = absurd cc
+-- ---- what is told is computed
 
-goes : (o : Option ReadFault) (ends : Bool) (layer : Content) (Others : Type 0) (result : Result Content ReadFault) → o ≡ None
-    → not ends ≡ true → Others → Gives o ends layer Others result
-goes None true layer Others result e h others = absurd cc
-goes None false layer Others result e h others = others
-goes (Some fault) ends layer Others result e h others = absurd cc
+read_as : (text : List ℕ) (parts : Option (List Part)) → parsing.IsReadAs text parts → IsReadAs text (first (pieces text)) parts
+read_as text (Some parts) h = h
+read_as text None h = λ parts. h (first (pieces text)) parts
 
-came : (o : Option ReadFault) (ends : Bool) (layer : Content) (Others : Type 0) (result : Result Content ReadFault) → o ≡ None
-    → not ends ≡ true → Gives o ends layer Others result → Others
-came None true layer Others result e h given = absurd cc
-came None false layer Others result e h given = given
-came (Some fault) ends layer Others result e h given = absurd cc
+pub said : (command : Command) → IsSaidBy command (statement_of command)
+said (DefineMacro text) = (refl, read_as text (parts_of text) (parsed_by_the_grammar text))
+said _ = refl
 
-pub from_behind : (len : ℕ) (past : Past) (front rest : List Answer) (told : List Told) (result : Result Content ReadFault)
-    → AreTold front told → AreEndless told → AreFaultless past told
-    → Leads len (behind past told) rest result → Leads len past (front ++ rest) result
-from_behind len past [] rest [] result are endless none leads = leads
-from_behind len past [] rest (t ∷ told) result are endless none leads = absurd are
-from_behind len past (answer ∷ front) rest [] result are endless none leads = absurd are
-from_behind len past (answer ∷ front) rest (t ∷ told) result are endless none leads =
-    let parts = both (not (is_end t.says)) _ endless in (
-      t,
-      are.0,
-      goes (fault_of past t) (is_end t.says) _ _ result none.0 parts.0
-          (from_behind len (t.says ∷ past) front rest told result are.1 parts.1 none.1 leads),
-    )
+told : (answer : Answer) → IsTold answer (told_of answer)
+told (Ok word) = (said (command_of word), refl)
+told (Err fault) = (refl, refl)
 
--- ---- a file means one thing
+pub are_told : (answers : List Answer) → AreTold answers (map told_of answers)
+are_told [] = tt
+are_told (answer ∷ answers) = (told answer, are_told answers)
 
-same_option : (text name : List ℕ) (a b : Option (List Part)) → IsReadAs text name a → IsReadAs text name b → a ≡ b
-same_option text name (Some a) (Some b) h k = ap Some (one_reading text name name a b h k).1
-same_option text name (Some a) None h k = absurd (k a h)
-same_option text name None (Some b) h k = absurd (h b k)
-same_option text name None None h k = refl
+-- ---- nothing else is told
 
-same_macro : (text : List ℕ) (a b : Statement) → IsMacroOf text a → IsMacroOf text b → a ≡ b
-same_macro text (NamesMacro m p) (NamesMacro n q) h k =
-    let same : m ≡ n = h.0 ∙ sym k.0 in
-    ap₂ (λ name parts. NamesMacro name parts) same (same_option text n p q (subst (λ name. IsReadAs text name p) same h.1) k.1)
-same_macro text (Says c) b h k = absurd h
-same_macro text (Uncut c) b h k = absurd h
-same_macro text (NamesMacro m p) (Says c) h k = absurd k
-same_macro text (NamesMacro m p) (Uncut c) h k = absurd k
+same_parts : (text name : List ℕ) (a b : Option (List Part)) → IsReadAs text name a → IsReadAs text name b → a ≡ b
+same_parts text name (Some a) (Some b) h k = ap Some (one_reading text name name a b h k).1
+same_parts text name (Some a) None h k = absurd (k a h)
+same_parts text name None (Some b) h k = absurd (h b k)
+same_parts text name None None h k = refl
 
-same_said : (command : Command) (a b : Statement) → IsSaidBy command a → IsSaidBy command b → a ≡ b
-same_said (DefineMacro text) a b h k = same_macro text a b h k
-same_said _ a b h k = h ∙ sym k
+same_macro : (text : List ℕ) (says : Statement) → IsMacroOf text says → says ≡ statement_of (DefineMacro text)
+same_macro text (Says command) h = absurd h
+same_macro text (Uncut refusal) h = absurd h
+same_macro text (NamesMacro name parts) h =
+    let read = subst (λ name. IsReadAs text name parts) h.0 h.1 in
+    ap₂ (λ name parts. NamesMacro name parts) h.0
+    (same_parts text (first (pieces text)) parts (parts_of text) read (read_as text (parts_of text) (parsed_by_the_grammar text)))
 
-pub same_told : (answer : Answer) (s t : Told) → IsTold answer s → IsTold answer t → s ≡ t
-same_told (Ok word) s t h k =
-    ap₂ (λ says at. record { says = says; at = at }) (same_said (command_of word) s.says t.says h.0 k.0) (h.1 ∙ sym k.1)
-same_told (Err fault) s t h k = ap₂ (λ says at. record { says = says; at = at }) (h.0 ∙ sym k.0) (h.1 ∙ sym k.1)
+pub same_said : (command : Command) (says : Statement) → IsSaidBy command says → says ≡ statement_of command
+same_said (DefineMacro text) says h = same_macro text says h
+same_said _ says h = h
 
-one_result : (o : Option ReadFault) (ends : Bool) (layer : Content) (A B : Type 0) (a b : Result Content ReadFault)
-    → Gives o ends layer A a → Gives o ends layer B b → (A → B → a ≡ b) → a ≡ b
-one_result (Some fault) ends layer A B a b h k more = h ∙ sym k
-one_result None true layer A B a b h k more = h ∙ sym k
-one_result None false layer A B a b h k more = more h k
+same_told : (answer : Answer) (t : Told) → IsTold answer t → t ≡ told_of answer
+same_told (Ok word) t h = ap₂ (λ says at. record { says = says; at = at }) (same_said (command_of word) t.says h.0) h.1
+same_told (Err fault) t h = ap₂ (λ says at. record { says = says; at = at }) h.0 h.1
 
-one_lead : (len : ℕ) (past : Past) (answers : List Answer) (a b : Result Content ReadFault) → Leads len past answers a
-    → Leads len past answers b → a ≡ b
-one_lead len past [] a b h k = h ∙ sym k
-one_lead len past (answer ∷ answers) a b h k =
-    let same = same_told answer k.0 h.0 k.1 h.1 in
-    let given = subst (λ (t : Told). Gives (fault_of past t) (is_end t.says) (layer_in (t.says ∷ past))
-    (Leads len (t.says ∷ past) answers b) b) same k.2 in
-    one_result (fault_of past h.0) (is_end h.0.says) (layer_in (h.0.says ∷ past)) (Leads len (h.0.says ∷ past) answers a)
-    (Leads len (h.0.says ∷ past) answers b) a b h.2 given (one_lead len (h.0.says ∷ past) answers a b)
+pub all_told : (answers : List Answer) (commands : List Told) → AreTold answers commands → commands ≡ map told_of answers
+all_told [] [] h = refl
+all_told [] (command ∷ commands) h = absurd h
+all_told (answer ∷ answers) [] h = absurd h
+all_told (answer ∷ answers) (command ∷ commands) h =
+    ap₂ (λ (c : Told) cs. c ∷ cs) (same_told answer command h.0) (all_told answers commands h.1)
+
+-- ---- what a file means is computed
+
+leads_is : (len : ℕ) (past : Past) (answers : List Answer) (result : Result Content ReadFault) → Leads len past answers result
+    → result ≡ lead_of len past answers
+leads_is len past answers result h = h.2 ∙ ap (given len past) (all_told answers h.0 h.1)
+
+leads : (len : ℕ) (past : Past) (answers : List Answer) (result : Result Content ReadFault) → result ≡ lead_of len past answers
+    → Leads len past answers result
+leads len past answers result e = (map told_of answers, are_told answers, e)
+
+pub means_its_reading : MeansItsReading
+unfolding Means reading_of
+means_its_reading bytes = leads (length bytes) [] (reading 0 bytes) (lead_of (length bytes) [] (reading 0 bytes)) refl
+
+pub reading_is : (bytes : List ℕ) (result : Result Content ReadFault) → Means bytes result → result ≡ reading_of bytes
+unfolding Means reading_of
+reading_is bytes result h = leads_is (length bytes) [] (reading 0 bytes) result h
 
 pub means_one_thing : MeansOneThing
-unfolding Means
-means_one_thing bytes a b h k = one_lead (length bytes) [] (reading 0 bytes) a b h k
+means_one_thing bytes a b h k = reading_is bytes a h ∙ sym (reading_is bytes b k)
 
-pub to_behind : (len : ℕ) (past : Past) (front rest : List Answer) (told : List Told) (result : Result Content ReadFault)
-    → AreTold front told → AreEndless told → AreFaultless past told
-    → Leads len past (front ++ rest) result → Leads len (behind past told) rest result
-to_behind len past [] rest [] result are endless none leads = leads
-to_behind len past [] rest (t ∷ told) result are endless none leads = absurd are
-to_behind len past (answer ∷ front) rest [] result are endless none leads = absurd are
-to_behind len past (answer ∷ front) rest (t ∷ told) result are endless none leads =
-    let parts = both (not (is_end t.says)) _ endless in
-    let same = same_told answer leads.0 t leads.1 are.0 in
-    let given = subst (λ (s : Told). Gives (fault_of past s) (is_end s.says) (layer_in (s.says ∷ past))
-    (Leads len (s.says ∷ past) (front ++ rest) result) result) same leads.2 in
-    to_behind len (t.says ∷ past) front rest told result are.1 parts.1 none.1
-    (came (fault_of past t) (is_end t.says) (layer_in (t.says ∷ past)) _ result none.0 parts.0 given)
+-- ---- what the first of some commands does
+
+module _ (len : ℕ) (past : Past) (command : Told) (later : List Told) where
+  pub refused : (refusal : Refusal) → least number_of (faults past command.says) ≡ Some refusal
+      → given len past (command ∷ later) ≡ Err (record { code = refusal; at = command.at })
+  refused refusal e = rw e refl
+
+  pub ends : least number_of (faults past command.says) ≡ None → is_end command.says ≡ true
+      → given len past (command ∷ later) ≡ Ok (layer_in (command.says ∷ past))
+  ends none e = rw (none, e) refl
+
+  pub goes_on : least number_of (faults past command.says) ≡ None → is_end command.says ≡ false
+      → given len past (command ∷ later) ≡ given len (command.says ∷ past) later
+  goes_on none e = rw (none, e) refl
+
+-- ---- behind a front
+
+none_told : (at : ℕ) (o : Option Refusal) → option_map {U = ReadFault} (λ refusal. record { code = refusal; at = at }) o ≡ None → o ≡ None
+none_told at None e = refl
+none_told at (Some refusal) e = absurd cc
+
+goes : (ends rest : Bool) → (not ends && rest) ≡ true → (ends ≡ false) × (rest ≡ true)
+goes true rest e = absurd cc
+goes false rest e = (refl, e)
+
+behind_front : (len : ℕ) (past : Past) (front later : List Told) → AreEndless front → AreFaultless past front
+    → given len past (front ++ later) ≡ given len (behind past front) later
+behind_front len past [] later endless none = refl
+behind_front len past (command ∷ front) later endless none =
+    let parts = goes (is_end command.says) (list_all (λ c. not (is_end c.says)) front) endless in
+    goes_on len past command (front ++ later) (none_told command.at (least number_of (faults past command.says)) none.0) parts.0
+    ∙ behind_front len (command.says ∷ past) front later parts.1 none.1
+
+module _ (len : ℕ) (past : Past) (front rest : List Answer) (commands : List Told) (are : AreTold front commands)
+    (endless : AreEndless commands) (none : AreFaultless past commands) where
+  same_lead : lead_of len past (front ++ rest) ≡ lead_of len (behind past commands) rest
+  same_lead = ap (given len past) (map-append told_of front rest ∙ ap (λ all. all ++ map told_of rest) (sym (all_told front commands are)))
+      ∙ behind_front len past commands (map told_of rest) endless none
+
+  pub to_behind : (result : Result Content ReadFault) → Leads len past (front ++ rest) result → Leads len (behind past commands) rest result
+  to_behind result h = leads len (behind past commands) rest result (leads_is len past (front ++ rest) result h ∙ same_lead)
+
+  pub from_behind : (result : Result Content ReadFault) → Leads len (behind past commands) rest result → Leads len past (front ++ rest) result
+  from_behind result h = leads len past (front ++ rest) result (leads_is len (behind past commands) rest result h ∙ sym same_lead)

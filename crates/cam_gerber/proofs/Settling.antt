@@ -1,8 +1,9 @@
 -- Another repeat is opened.
-use Rattle.std.proofs.Common.{◌≡◌, ℕ, List, [], ◌∷◌, length, min, Bool, true, false, cond, Option, Some, None, Global}
+use Rattle.std.proofs.Common.{◌≡◌, ℕ, List, [], ◌∷◌, length, min, Bool, true, false, Some, None, Global}
 use Rattle.std.proofs.Common.{refl, sym, ap, ap₂, subst, ◌∙◌, arith}
-use Rattle.std.specs.Prelude.{ℤ, map, ◌||◌, ◌&&◌, not, is_none}
+use Rattle.std.specs.Prelude.{ℤ, map, ◌||◌, ◌&&◌, not}
 use Rattle.std.specs.declared.collections.VecDeque.{VecDeque}
+use Rattle.cam_refusals.specs.Checks.{first}
 use Rattle.cam_objects.specs.declared.object.Object.{Object}
 use Rattle.cam_commands.specs.declared.parts.Repeat.{Repeat}
 use Rattle.cam_commands.specs.declared.parts.Slot.{Slot}
@@ -17,7 +18,7 @@ use Rattle.cam_gerber.specs.Statements.{Says}
 use Rattle.cam_gerber.specs.State.{Past, in_region, unit_in, unit_or_mm}
 use Rattle.cam_gerber.specs.Homes.{count_of, is_repeated, open_blocks, opened, step_of}
 use Rattle.cam_gerber.specs.Faults.{closing_faults, command_faults, has_short_steps, is_empty, is_malformed, is_short}
-use Rattle.cam_gerber.specs.Machinery.Tracking.{IsSettled, Tracks, TracksModal, TracksRegion, block_of, first_of, repeat_of}
+use Rattle.cam_gerber.specs.Machinery.Tracking.{IsSettled, Tracks, TracksModal, TracksRegion, block_of, repeat_of}
 use Rattle.cam_gerber.specs.Machinery.Closing.{opened_by, step_by}
 use Rattle.cam_gerber.proofs.UnusedRepeats.{unused_repeat}
 
@@ -42,27 +43,18 @@ pub record IsSettable (old : Running) (unit : FileUnit) (repeat : Repeat) : Type
   pub nested : (is_repeated repeat && not (is_empty old.frames.blocks.items)) ≡ false
   pub outside : old.region.inside ≡ false
 
-opening_table : (past : Past) (old : Running) (unit : FileUnit) (repeat : Repeat) (short : Bool) → Tracks past old
+pub opening_checks : (past : Past) (old : Running) (unit : FileUnit) (repeat : Repeat) (short : Bool) → Tracks past old
     → IsSettable old unit repeat
     → (is_short (step_by unit repeat.i) && is_short (step_by unit repeat.j)) ≡ short
-    → first_of (command_faults past (SetRepeat repeat)) ≡ first_of (closing_faults past short)
-opening_table past old unit repeat short t s e =
+    → first (command_faults past (SetRepeat repeat)) ≡ first (closing_faults past short)
+opening_checks past old unit repeat short t s e =
     let set : unit_in past ≡ Some unit = sym t.modal.unit ∙ s.known in
     let nested : (is_repeated repeat && not (is_empty (open_blocks past))) ≡ false =
     ap (λ b. is_repeated repeat && not b) (sym (no_blocks past old t)) ∙ s.nested in
     let out : in_region past ≡ false = sym t.region.inside ∙ s.outside in
     let steps : has_short_steps past repeat ≡ short =
     ap₂ (λ i j. is_short i && is_short j) (sym (step_same past unit repeat.i set)) (sym (step_same past unit repeat.j set)) ∙ e in
-    let told = λ (short : Bool). first_of (closing_faults past short) in
-    ap (λ b. cond {A = Option ℕ} b (Some 4)
-    (cond (is_none (unit_in past)) (Some 6)
-    (cond (is_repeated repeat && not (is_empty (open_blocks past))) (Some 21)
-    (cond (in_region past) (Some 22) (told (has_short_steps past repeat)))))) s.formed
-    ∙ ap (λ u. cond {A = Option ℕ} (is_none u) (Some 6)
-    (cond (is_repeated repeat && not (is_empty (open_blocks past))) (Some 21)
-    (cond (in_region past) (Some 22) (told (has_short_steps past repeat))))) set
-    ∙ ap₂ (λ a b. cond {A = Option ℕ} a (Some 21) (cond b (Some 22) (told (has_short_steps past repeat)))) nested out
-    ∙ ap told steps
+    rw (s.formed, set, nested, out, steps) refl
 
 -- ---- a repeat that is opened has no object yet
 
@@ -88,12 +80,12 @@ pub set_many : (past : Past) (old new : Running) (unit : FileUnit) (repeat : Rep
     → IsSettable old unit repeat
     → (is_short (step_by unit repeat.i) && is_short (step_by unit repeat.j)) ≡ true → is_repeated repeat ≡ true
     → opens ≡ opened_by unit repeat
-    → (first_of (closing_faults past true) ≡ None) × IsSettled past old new
-    → (first_of (command_faults past (SetRepeat repeat)) ≡ None)
+    → (first (closing_faults past true) ≡ None) × IsSettled past old new
+    → (first (command_faults past (SetRepeat repeat)) ≡ None)
     × Tracks (Says (SetRepeat repeat) ∷ past) (record new { frames = record new.frames { repeat = Some opens } })
 set_many past old new unit repeat opens t s short many made (none, settled) =
     let now : Past = Says (SetRepeat repeat) ∷ past in (
-      opening_table past old unit repeat true t s short ∙ none,
+      opening_checks past old unit repeat true t s short ∙ none,
       record {
         modal = subst (TracksModal now) (sym settled.modal) (record {
           format = t.modal.format;

@@ -1,24 +1,23 @@
 -- Contours of regions that operations without a fault make are sound, and end at the current point.
-use Rattle.std.proofs.Common.{◌≡◌, ◌≢◌, ◌<◌, ◌≤◌, List, [], ◌∷◌, ◌++◌, length, Bool, true, false, cond, refl, sym, ap}
+use Rattle.std.proofs.Common.{◌≡◌, ◌<◌, ◌≤◌, List, [], ◌∷◌, ◌++◌, length, Bool, true, false, cond, refl, sym, ap}
 use Rattle.std.proofs.Common.{◌∙◌, subst, arith, lit≤, length-append}
-use Rattle.std.specs.Prelude.{ℤ, ◌&&◌, not}
-use Rattle.std.specs.Ordering.{int_eq}
+use Rattle.std.specs.Prelude.{◌&&◌, not}
 use Rattle.std.specs.List.{All, flat_map}
-use Rattle.std.proofs.lemmas.Bool.{or_parts}
-use Rattle.std.proofs.lemmas.Bool.Decides.{Decides-int_eq}
+use Rattle.std.proofs.lemmas.Bool.{and_parts, or_parts}
 use Rattle.std.proofs.lemmas.List.Elements.{All-append, All-cons, All-head, All-nil, All-tail}
 use Rattle.cam_units.specs.Board.{IsOnBoard}
 use Rattle.cam_units.specs.declared.point.Point.{Point}
 use Rattle.cam_shapes.specs.declared.segments.Seg.{Seg}
 use Rattle.cam_shapes.specs.declared.segments.Seg.TheVariants.{Line, Curve}
-use Rattle.cam_objects.specs.Soundness.{HaveRadii, points_of_seg}
+use Rattle.cam_objects.specs.Soundness.{have_radii, is_apart, points_of_seg}
+use Rattle.cam_objects.proofs.SoundItems.{HaveRadii}
 use Rattle.cam_commands.specs.declared.parts.Mode.{Mode}
 use Rattle.cam_commands.specs.declared.parts.Mode.TheVariants.{Linear, Clockwise, Counterclockwise}
 use Rattle.cam_commands.specs.declared.parts.OperationCode.{OperationCode}
 use Rattle.cam_commands.specs.declared.parts.OperationCode.TheVariants.{Plot, Move, Flash}
 use Rattle.cam_gerber.specs.Making.{segment, segments_by, start_by}
 use Rattle.cam_gerber.specs.Faults.{is_arc, is_on_board, is_same_point, path_faults}
-use Rattle.cam_gerber.proofs.Pasts.{NoneHolds}
+use Rattle.cam_gerber.proofs.Least.{ArePassed}
 use Rattle.cam_gerber.proofs.JoiningParts.{told, on_board}
 
 -- ---- the path of a plot
@@ -26,29 +25,20 @@ use Rattle.cam_gerber.proofs.JoiningParts.{told, on_board}
 pub record IsPath (mode : Mode) (from to centre : Point) : Type 0 where
   pub to_on : IsOnBoard to
   pub centre_on : is_arc mode ≡ true → IsOnBoard centre
-  pub radius : is_arc mode ≡ true → from ≢ centre
+  pub radius : is_arc mode ≡ true → is_apart from centre ≡ true
 
 under : (a b : Bool) → (a && b) ≡ false → a ≡ true → b ≡ false
 under true b h e = h
 under false b h e = absurd cc
 
-itself : (z : ℤ) → int_eq z z ≡ true
-itself z = (Decides-int_eq z z).1 refl
-
-apart : (p q : Point) → is_same_point p q ≡ false → p ≢ q
-apart p q h e =
-    let here : is_same_point p p ≡ true = rw (itself p.x, itself p.y) refl in
-    let wrong : true ≡ false = sym here ∙ ap (is_same_point p) e ∙ h in
-    absurd cc
-
-pub path_of : (mode : Mode) (arcs : Bool) (from to centre : Point) → NoneHolds (path_faults (is_arc mode) arcs from to centre)
+pub path_of : (mode : Mode) (arcs : Bool) (from to centre : Point) → ArePassed (path_faults (is_arc mode) arcs from to centre)
     → IsPath mode from to centre
 path_of mode arcs from to centre pass =
     let parts = or_parts (not (is_on_board to)) (is_arc mode && not (is_on_board centre)) pass.1.1.0 in
     record {
       to_on = on_board to (told (is_on_board to) parts.0);
       centre_on = λ arc. on_board centre (told (is_on_board centre) (under (is_arc mode) (not (is_on_board centre)) parts.1 arc));
-      radius = λ arc. apart from centre (under (is_arc mode) (is_same_point from centre) pass.1.0 arc);
+      radius = λ arc. ap not (under (is_arc mode) (is_same_point from centre) pass.1.0 arc);
     }
 
 -- ---- contours
@@ -75,7 +65,9 @@ radii_behind : (here : Point) (segs : List Seg) (seg : Seg) → HaveRadii here s
     → HaveRadii here (segs ++ seg ∷ [])
 radii_behind here [] seg h k = k
 radii_behind here (Line p ∷ segs) seg h k = radii_behind p segs seg h k
-radii_behind here (Curve p centre ccw ∷ segs) seg h k = (h.0, radii_behind p segs seg h.1 k)
+radii_behind here (Curve p centre ccw ∷ segs) seg h k =
+    let both = and_parts (is_apart here centre) (have_radii p segs) h in
+    rw (both.0, radii_behind p segs seg both.1 k) refl
 
 points_behind : (segs : List Seg) (seg : Seg) → All IsOnBoard (flat_map points_of_seg segs) → All IsOnBoard (points_of_seg seg)
     → All IsOnBoard (flat_map points_of_seg (segs ++ seg ∷ []))
@@ -99,16 +91,16 @@ record IsSegment (from to : Point) (seg : Seg) : Type 0 where
   radius : HaveRadii from (seg ∷ [])
 
 segment_of : (mode : Mode) (from to centre : Point) → IsPath mode from to centre → IsSegment from to (segment mode to centre)
-segment_of Linear from to centre p = record { ends = λ q. refl; points = All-cons IsOnBoard to [] p.to_on (All-nil IsOnBoard); radius = tt }
+segment_of Linear from to centre p = record { ends = λ q. refl; points = All-cons IsOnBoard to [] p.to_on (All-nil IsOnBoard); radius = refl }
 segment_of Clockwise from to centre p = record {
   ends = λ q. refl;
   points = All-cons IsOnBoard to (centre ∷ []) p.to_on (All-cons IsOnBoard centre [] (p.centre_on refl) (All-nil IsOnBoard));
-  radius = (p.radius refl, tt);
+  radius = rw (p.radius refl) refl;
 }
 segment_of Counterclockwise from to centre p = record {
   ends = λ q. refl;
   points = All-cons IsOnBoard to (centre ∷ []) p.to_on (All-cons IsOnBoard centre [] (p.centre_on refl) (All-nil IsOnBoard));
-  radius = (p.radius refl, tt);
+  radius = rw (p.radius refl) refl;
 }
 
 -- what an operation in a region meets
@@ -138,7 +130,7 @@ turned_by Plot mode start from to centre segs s e t =
       ends = λ r. end_behind start segs (segment mode to centre) to seg.ends;
     }
 turned_by Move mode start from to centre segs s e t = record {
-  sound = record { start_on = t; segs_on = All-nil IsOnBoard; radii = tt; few = lit≤ tt };
+  sound = record { start_on = t; segs_on = All-nil IsOnBoard; radii = refl; few = lit≤ tt };
   ends = λ r. refl;
 }
 turned_by Flash mode start from to centre segs s e t = absurd t

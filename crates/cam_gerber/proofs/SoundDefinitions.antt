@@ -5,6 +5,9 @@ use Rattle.std.specs.Option.{option_and_then}
 use Rattle.std.specs.Str.{bytes_eq}
 use Rattle.std.proofs.lemmas.Int.{ints}
 use Rattle.std.proofs.lemmas.Bool.{and_parts, leb-true, ltb-false}
+use Rattle.cam_refusals.specs.declared.refusal.Refusal.{Refusal}
+use Rattle.cam_refusals.specs.declared.refusal.Refusal.TheVariants.{TemplateRefused}
+use Rattle.cam_refusals.specs.Checks.{Checks}
 use Rattle.cam_units.specs.Board.{IsSize}
 use Rattle.cam_units.specs.declared.length.Unit.{Unit as FileUnit}
 use Rattle.cam_macros.specs.declared.aperture_macro.Macro.{Macro}
@@ -13,7 +16,7 @@ use Rattle.cam_macros.specs.declared.primitive.MacroPrimitive.{MacroPrimitive}
 use Rattle.cam_macros.specs.Expansion.{expansion_of}
 use Rattle.cam_apertures.specs.declared.aperture.Aperture.{Aperture}
 use Rattle.cam_apertures.specs.declared.aperture.Aperture.TheVariants.{Prims}
-use Rattle.cam_apertures.specs.Definition.{Table, Definition, aperture_of, by_macro, circle, faults_of, has_sizes}
+use Rattle.cam_apertures.specs.Definition.{Definition, aperture_of, by_macro, circle, faults_of, has_sizes}
 use Rattle.cam_apertures.specs.Definition.{is_between, macro_faults, named, obround, painted, rect, standard_faults}
 use Rattle.cam_apertures.specs.Definition.{template_faults, values_of}
 use Rattle.cam_numbers.specs.Numbers.{defined_number, natural}
@@ -23,7 +26,7 @@ use Rattle.cam_objects.specs.declared.entry.Entry.{Entry}
 use Rattle.cam_objects.specs.Soundness.{IsSoundEntry}
 use Rattle.cam_gerber.specs.Layers.{defined_by, numbered_aperture}
 use Rattle.cam_gerber.specs.Machinery.OpenNumbers.{IsEntryNumber}
-use Rattle.cam_gerber.proofs.Pasts.{NoneHolds}
+use Rattle.cam_gerber.proofs.Least.{ArePassed}
 use Rattle.cam_gerber.proofs.JoiningParts.{told}
 
 -- ---- numbers
@@ -65,8 +68,8 @@ sides w h k e =
 abbrev IfMade : Option Aperture → Type 0
 IfMade o = IfSome o IsSoundAperture
 
-by_test : (b : Bool) (s t : Table) (a c : Option Aperture) → (NoneHolds s → IfMade a) → (NoneHolds t → IfMade c)
-    → NoneHolds (cond b s t) → IfMade (cond b a c)
+by_test : (b : Bool) (s t : Checks Refusal) (a c : Option Aperture) → (ArePassed s → IfMade a) → (ArePassed t → IfMade c)
+    → ArePassed (cond b s t) → IfMade (cond b a c)
 by_test true s t a c h k all = h all
 by_test false s t a c h k all = k all
 
@@ -81,7 +84,7 @@ of_macro None unit values = tt
 of_macro (Some m) unit values = of_made (expansion_of unit values m.parts) (λ prims e. expanded_sound unit values m.parts prims e)
 
 sound_template : (name : List ℕ) (macros : List Macro) (unit : FileUnit) (count : ℕ) (values : List ℤ)
-    → NoneHolds (template_faults name macros unit count values) → IfMade (aperture_of name macros unit values)
+    → ArePassed (template_faults name macros unit count values) → IfMade (aperture_of name macros unit values)
 sound_template name macros unit count values =
     by_test (bytes_eq name (codes "C")) (standard_faults 1 count (circle unit values)) _ (Some (circle unit values)) _
     (λ all. circles _ _ (told (has_sizes (circle unit values)) all.1.1.0))
@@ -89,8 +92,8 @@ sound_template name macros unit count values =
     (λ all. sides _ _ _ (told (has_sizes (rect unit values)) all.1.1.0))
     (by_test (bytes_eq name (codes "O")) (standard_faults 2 count (obround unit values)) _ (Some (obround unit values)) _
     (λ all. sides _ _ _ (told (has_sizes (obround unit values)) all.1.1.0))
-    (by_test (bytes_eq name (codes "P")) ((11, true) ∷ [])
-    (by_macro (named macros name) ((11, true) ∷ []) (λ m. macro_faults (expansion_of unit values m.parts))) None
+    (by_test (bytes_eq name (codes "P")) ((TemplateRefused, true) ∷ [])
+    (by_macro (named macros name) ((TemplateRefused, true) ∷ []) (λ m. macro_faults (expansion_of unit values m.parts))) None
     (by_macro (named macros name) None (λ m. painted (expansion_of unit values m.parts))) (λ all. tt)
     (λ all. of_macro (named macros name) unit values))))
 
@@ -104,7 +107,7 @@ AreDefined [] = Unit {0}
 AreDefined (e ∷ []) = IsDefinedEntry e
 AreDefined (e ∷ f ∷ entries) = ⊥
 
-pub sound_definition : (d : Option Definition) (macros : List Macro) (unit : FileUnit) → NoneHolds (faults_of d macros unit)
+pub sound_definition : (d : Option Definition) (macros : List Macro) (unit : FileUnit) → ArePassed (faults_of d macros unit)
     → AreDefined (defined_by d macros unit)
 sound_definition None macros unit all = tt
 sound_definition (Some d) macros unit all =

@@ -14,10 +14,10 @@ use Rattle.cam_gerber.specs.declared.running.Running.{Running}
 use Rattle.cam_gerber.specs.Homes.{InBlock, open_blocks}
 use Rattle.cam_gerber.specs.Making.{objects_of}
 use Rattle.cam_gerber.specs.Machinery.Tracking.{HasPast, block_of}
-use Rattle.cam_gerber.proofs.Pasts.{none_holds}
+use Rattle.cam_gerber.proofs.Least.{passed_by}
 use Rattle.cam_gerber.proofs.SoundDefinitions.{AreDefined, sound_definition}
 use Rattle.cam_gerber.proofs.SoundJoining.{block_may_join}
-use Rattle.cam_gerber.proofs.Defining.{defined_entry, faultless_definition}
+use Rattle.cam_gerber.proofs.Defining.{defined_entry}
 
 -- the innermost block
 pub closing_may_add : (old : Running) (block : Frame) (rest : List Frame) → HasPast old → old.frames.blocks.items ≡ block ∷ rest
@@ -40,5 +40,5 @@ pub definition_may_add : (es : List (ℕ × Entry)) (text : List ℕ) (macros : 
 definition_may_add es text macros unit n a d free =
     let sound = subst AreDefined (defined_entry text macros unit n a d)
     (sound_definition (definition_of text) macros unit
-    (none_holds (faults_of (definition_of text) macros unit) (faultless_definition text macros unit n a d))) in
+    (passed_by (faults_of (definition_of text) macros unit) d.faultless)) in
     record { least = sound.0.0; greatest = sound.0.1; absent = free; sound = sound.1 es }

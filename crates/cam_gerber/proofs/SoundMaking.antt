@@ -2,7 +2,7 @@
 use Rattle.std.proofs.Common.{◌≡◌, ℕ, List, [], ◌∷◌, length, Bool, true, false, Option, Some, None, refl, arith, lit≤}
 use Rattle.std.specs.Prelude.{not, is_none, unwrap_or}
 use Rattle.std.specs.List.{flat_map}
-use Rattle.std.proofs.lemmas.Bool.{leb-false, or_parts}
+use Rattle.std.proofs.lemmas.Bool.{leb-false, lt-ltb, or_parts}
 use Rattle.std.proofs.lemmas.List.Elements.{All-cons, All-nil}
 use Rattle.cam_units.specs.Board.{IsOnBoard}
 use Rattle.cam_units.specs.declared.point.Point.{Point}
@@ -12,7 +12,8 @@ use Rattle.cam_objects.specs.declared.object.Object.{Object}
 use Rattle.cam_objects.specs.declared.object.Object.TheVariants as object
 use Rattle.cam_objects.specs.declared.item.Item.TheVariants.{One}
 use Rattle.cam_objects.specs.Leaves.{meaning_in, object_leaves, origin}
-use Rattle.cam_objects.specs.Soundness.{AreOnBoard, HasNumber, points_of_seg}
+use Rattle.cam_objects.specs.Soundness.{AreOnBoard, points_of_seg}
+use Rattle.cam_objects.proofs.SoundItems.{HasNumber}
 use Rattle.cam_commands.specs.declared.parts.Mode.{Mode}
 use Rattle.cam_commands.specs.declared.parts.Mode.TheVariants.{Linear, Clockwise, Counterclockwise}
 use Rattle.cam_commands.specs.declared.parts.Operation.{Operation}
@@ -25,7 +26,7 @@ use Rattle.cam_gerber.specs.Homes.{Home, InBlock, InRepeat, InLayer, home}
 use Rattle.cam_gerber.specs.Making.{number_in, operated, region_by, region_in, segments_in, start_in, stroke, stroke_of}
 use Rattle.cam_gerber.specs.Layers.{entries_in}
 use Rattle.cam_gerber.specs.Faults.{can_draw, holds_of_one, is_arc, is_full, is_on_board, is_outside_at, is_unfit, operated_faults}
-use Rattle.cam_gerber.proofs.Pasts.{NoneHolds}
+use Rattle.cam_gerber.proofs.Least.{ArePassed}
 use Rattle.cam_gerber.proofs.StandingLeaves.{IsNoFlash, leaves_stand}
 use Rattle.cam_gerber.proofs.SoundParts.{Pairs, IsMade}
 use Rattle.cam_gerber.proofs.JoiningParts.{AreFit, IsBoundAt, on_board, told}
@@ -56,10 +57,10 @@ stroked : (es : Pairs) (mode : Mode) (n : ℕ) (from to centre : Point) (turn : 
     → IsMark es (stroke mode n from to centre turn dark)
 stroked es Linear n from to centre turn dark known wide on path = record {
   made = record {
-    formed = tt;
+    formed = refl;
     known = known;
     drawable = wide;
-    radius = tt;
+    radius = refl;
     points =
         All-cons IsOnBoard from (to ∷ []) on (All-cons IsOnBoard to [] path.to_on (All-nil IsOnBoard));
     segs = lit≤ tt;
@@ -68,7 +69,7 @@ stroked es Linear n from to centre turn dark known wide on path = record {
 }
 stroked es Clockwise n from to centre turn dark known wide on path = record {
   made = record {
-    formed = tt;
+    formed = refl;
     known = known;
     drawable = wide;
     radius = path.radius refl;
@@ -80,7 +81,7 @@ stroked es Clockwise n from to centre turn dark known wide on path = record {
 }
 stroked es Counterclockwise n from to centre turn dark known wide on path = record {
   made = record {
-    formed = tt;
+    formed = refl;
     known = known;
     drawable = wide;
     radius = path.radius refl;
@@ -124,9 +125,9 @@ fit_region past c room = by (start_in past) (segments_in past) c room
     by start (seg ∷ segs) c room = fit_mark past (object.Region (record { start = start; segs = seg ∷ segs }) (dark_in past))
         (record {
           made = record {
-            formed = omega arith;
-            known = tt;
-            drawable = tt;
+            formed = lt-ltb 0 (length (seg ∷ segs)) (omega arith);
+            known = refl;
+            drawable = refl;
             radius = c.radii;
             points = All-cons IsOnBoard start (flat_map points_of_seg (seg ∷ segs)) c.start_on c.segs_on;
             segs = c.few;
@@ -149,7 +150,7 @@ never : {A : Type 0} → false ≡ true → A
 never e = absurd cc
 
 pub done : (code : OperationCode) (region : Bool) (past : Past) (operation : Operation) → IsSoundView (view past)
-    → NoneHolds (operated_faults code region past operation) → IsDone past operation code region
+    → ArePassed (operated_faults code region past operation) → IsDone past operation code region
 done Plot false past operation s pass =
     let now = Says (Operate operation) ∷ past in
     let paths = pass.1.1 in
@@ -186,10 +187,10 @@ done Flash false past operation s pass =
     record {
       fit = record {
         made = record {
-          formed = tt;
+          formed = refl;
           known = known_number (entries_in past) (aperture_in past) pass.0 s.aperture;
-          drawable = tt;
-          radius = tt;
+          drawable = refl;
+          radius = refl;
           points = All-cons IsOnBoard to [] on (All-nil IsOnBoard);
           segs = lit≤ tt;
         };

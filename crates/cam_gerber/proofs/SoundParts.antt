@@ -11,12 +11,11 @@ use Rattle.cam_objects.specs.declared.object.Object.TheVariants.{Flash, Draw, Ar
 use Rattle.cam_objects.specs.declared.entry.Entry.{Entry}
 use Rattle.cam_objects.specs.declared.item.Item.{Item}
 use Rattle.cam_objects.specs.declared.item.Item.TheVariants.{One}
-use Rattle.cam_objects.specs.declared.item_fault.ItemFault.TheVariants.{Malformed, UnknownAperture, UnknownTool}
-use Rattle.cam_objects.specs.declared.item_fault.ItemFault.TheVariants.{WrongAperture, ZeroRadius, OutOfBoard, TooMuch}
 use Rattle.cam_objects.specs.Leaves.{meaning_in, object_leaves, origin}
-use Rattle.cam_objects.specs.Soundness.{AreOnBoard, HasRadius, IsDrawable, IsFormed, IsKnown, IsSoundBlock, IsSoundItem}
+use Rattle.cam_objects.specs.Soundness.{AreOnBoard, IsSoundBlock, IsSoundItem}
 use Rattle.cam_objects.specs.Soundness.{objects_of, points_of, segs_of}
 use Rattle.cam_objects.specs.Weights.{Weight, block_count, item_count, object_count, object_depth, weight_in}
+use Rattle.cam_objects.proofs.SoundItems.{HasRadius, IsDrawable, IsFormed, IsKnown, meets, sound}
 use Rattle.cam_gerber.proofs.GrownEntries.{block_count_same, drawable_same, known_same, sound_same, sum_same, weighs_same}
 
 abbrev pub Pairs : Type 0
@@ -38,21 +37,24 @@ pub record IsPlaced (es : Pairs) (o : Object) : Type 0 where
   pub count : object_count (weight_in es) o ≤ 4000000
 
 pub one_item : (es : Pairs) (o : Object) → IsPlaced es o → IsSoundItem es (One o)
-one_item es o p Malformed = (tt, All-cons IsFormed o [] p.made.formed (All-nil IsFormed))
-one_item es o p UnknownAperture = All-cons (IsKnown es) o [] p.made.known (All-nil (IsKnown es))
-one_item es o p UnknownTool = tt
-one_item es o p WrongAperture = All-cons (IsDrawable (meaning_in es)) o [] p.made.drawable (All-nil (IsDrawable (meaning_in es)))
-one_item es o p ZeroRadius = All-cons HasRadius o [] p.made.radius (All-nil HasRadius)
-one_item es o p OutOfBoard = record {
-  points = All-cons (λ x. All IsOnBoard (points_of x)) o [] p.made.points (All-nil (λ x. All IsOnBoard (points_of x)));
-  steps = tt;
-  leaves = p.leaves;
-}
-one_item es o p TooMuch = record {
-  segs = All-cons (λ x. length (segs_of x) ≤ 1000000) o [] p.made.segs (All-nil (λ x. length (segs_of x) ≤ 1000000));
-  objects = lit≤ tt;
-  leaves = p.count;
-}
+one_item es o p =
+    sound es (One o) (record {
+      repeated = tt;
+      formed = All-cons IsFormed o [] p.made.formed (All-nil IsFormed);
+      known = All-cons (IsKnown es) o [] p.made.known (All-nil (IsKnown es));
+      drawable = All-cons (IsDrawable (meaning_in es)) o [] p.made.drawable (All-nil (IsDrawable (meaning_in es)));
+      radii = All-cons HasRadius o [] p.made.radius (All-nil HasRadius);
+      inside = record {
+        points = All-cons (λ x. All IsOnBoard (points_of x)) o [] p.made.points (All-nil (λ x. All IsOnBoard (points_of x)));
+        steps = tt;
+        leaves = p.leaves;
+      };
+      limits = record {
+        segs = All-cons (λ x. length (segs_of x) ≤ 1000000) o [] p.made.segs (All-nil (λ x. length (segs_of x) ≤ 1000000));
+        objects = lit≤ tt;
+        leaves = p.count;
+      };
+    })
 
 -- an open block, with the count of its leaves
 pub record IsSoundOpen (es : Pairs) (objects : List Object) (leaves : ℕ) : Type 0 where
@@ -93,7 +95,7 @@ closed es objects leaves s = record {
 }
 
 known_one : (es : Pairs) (o : Object) → IsSoundItem es (One o) → IsKnown es o
-known_one es o h = All-head (IsKnown es) o [] (h UnknownAperture)
+known_one es o h = All-head (IsKnown es) o [] (meets es (One o) h).known
 
 -- ---- one entry more
 
@@ -148,6 +150,6 @@ module _ (es : Pairs) (n : ℕ) (e : Entry) (absent : lookup (nat_eq n) es ≡ N
     few = s.few;
     count = s.count
         ∙ sym (sum_same es n e absent items
-        (All-weaker (IsSoundItem es) (λ item. All (IsKnown es) (objects_of item)) (λ item h. h UnknownAperture) items s.each));
+        (All-weaker (IsSoundItem es) (λ item. All (IsKnown es) (objects_of item)) (λ item h. (meets es item h).known) items s.each));
     most = s.most;
   }

@@ -7,6 +7,8 @@ use Rattle.std.specs.List.{AllByRecursion, list_any}
 use Rattle.std.specs.Map.{lookup}
 use Rattle.std.proofs.lemmas.Bool.{and_parts, ltb-true, or_parts}
 use Rattle.std.proofs.lemmas.List.Elements.{All-nil}
+use Rattle.cam_refusals.specs.Checks.{least}
+use Rattle.cam_refusals.specs.Refusals.{number_of}
 use Rattle.cam_units.specs.Board.{IsOnBoard}
 use Rattle.cam_macros.specs.declared.aperture_macro.Macro.{Macro}
 use Rattle.cam_units.specs.declared.length.Unit.{Unit as FileUnit}
@@ -31,10 +33,11 @@ use Rattle.cam_gerber.specs.Making.{made, objects_of, region_in, segments_in, st
 use Rattle.cam_gerber.specs.Layers.{closed_block, closed_leaves, closed_repeat, defined, defined_by, entries_in}
 use Rattle.cam_gerber.specs.Layers.{items_in, leaves_in, leaves_of, macros_in, numbered_aperture}
 use Rattle.cam_gerber.specs.Faults.{faults, has_short_steps, holds_of_one, is_defined, is_empty, is_layer_full}
-use Rattle.cam_gerber.specs.Faults.{is_outside, is_short, is_taken, is_taken_again, least}
+use Rattle.cam_gerber.specs.Faults.{is_outside, is_short, is_taken, is_taken_again}
 use Rattle.cam_gerber.specs.Laws.{IsFaultless}
 use Rattle.cam_gerber.specs.Machinery.OpenNumbers.{IsEntryNumber, StatesWithin}
-use Rattle.cam_gerber.proofs.Pasts.{AreFree, none_holds, stay_apart, unused}
+use Rattle.cam_gerber.proofs.Least.{pass_least}
+use Rattle.cam_gerber.proofs.Pasts.{AreFree, stay_apart, unused}
 use Rattle.cam_gerber.proofs.UnusedRepeats.{unused_repeat}
 use Rattle.cam_gerber.proofs.SoundParts.{Pairs, IsSoundOpen, IsSoundRepeated, IsMade, closed}
 use Rattle.cam_gerber.proofs.SoundContours.{turned}
@@ -53,11 +56,11 @@ pub no_some : {A : Type 0} (o : Option A) → is_some o ≡ false → o ≡ None
 no_some None e = refl
 no_some (Some a) e = absurd cc
 
-operates : (past : Past) (operation : Operation) → Sound past → least (faults past (Says (Operate operation))) ≡ None
+operates : (past : Past) (operation : Operation) → Sound past → least number_of (faults past (Says (Operate operation))) ≡ None
     → Sound (Says (Operate operation) ∷ past)
 operates past operation s h =
     let now = Says (Operate operation) ∷ past in
-    let pass = none_holds (faults past (Says (Operate operation))) h in
+    let pass = pass_least (faults past (Says (Operate operation))) h in
     let d = done (code_of operation) (in_region past) past operation s pass.1.1.1.1 in
     let more = made past (Says (Operate operation)) in
     record {
@@ -71,9 +74,9 @@ operates past operation s h =
           (centre_of past operation) (segments_in past) s.contour d.turn;
     }
 
-ends_region : (past : Past) → Sound past → least (faults past (Says EndRegion)) ≡ None → Sound (Says EndRegion ∷ past)
+ends_region : (past : Past) → Sound past → least number_of (faults past (Says EndRegion)) ≡ None → Sound (Says EndRegion ∷ past)
 ends_region past s h =
-    let pass = none_holds (faults past (Says EndRegion)) h in
+    let pass = pass_least (faults past (Says EndRegion)) h in
     let fit = fit_region past s.contour.sound pass.1.0 in
     record {
       dictionary = s.dictionary;
@@ -83,7 +86,7 @@ ends_region past s h =
       aperture = s.aperture;
       point = s.point;
       contour = record {
-        sound = record { start_on = s.contour.sound.start_on; segs_on = All-nil IsOnBoard; radii = tt; few = lit≤ tt };
+        sound = record { start_on = s.contour.sound.start_on; segs_on = All-nil IsOnBoard; radii = refl; few = lit≤ tt };
         ends = λ r. absurd (let wrong : false ≡ true = r in cc);
       };
     }
@@ -96,14 +99,14 @@ begins_region past s = record {
   repeat = s.repeat;
   aperture = s.aperture;
   point = s.point;
-  contour = record { sound = record { start_on = s.point; segs_on = All-nil IsOnBoard; radii = tt; few = lit≤ tt }; ends = λ r. refl };
+  contour = record { sound = record { start_on = s.point; segs_on = All-nil IsOnBoard; radii = refl; few = lit≤ tt }; ends = λ r. refl };
 }
 
-selects : (past : Past) (number : Option ℕ) → Sound past → least (faults past (Says (Select number))) ≡ None
+selects : (past : Past) (number : Option ℕ) → Sound past → least number_of (faults past (Says (Select number))) ≡ None
     → Sound (Says (Select number) ∷ past)
 selects past None s h = absurd cc
 selects past (Some n) s h =
-    let pass = none_holds (faults past (Says (Select (Some n)))) h in
+    let pass = pass_least (faults past (Says (Select (Some n)))) h in
     record {
       dictionary = s.dictionary;
       built = s.built;
@@ -126,10 +129,10 @@ no_objects es objects leaves e k = subst (λ (p : List Object × ℕ). IsSoundOp
 })
 
 opens : (past : Past) (number : Option ℕ) → IfSome number IsEntryNumber → Sound past
-    → least (faults past (Says (OpenBlock number))) ≡ None → Sound (Says (OpenBlock number) ∷ past)
+    → least number_of (faults past (Says (OpenBlock number))) ≡ None → Sound (Says (OpenBlock number) ∷ past)
 opens past None within s h = absurd cc
 opens past (Some n) within s h =
-    let pass = none_holds (faults past (Says (OpenBlock (Some n)))) h in
+    let pass = pass_least (faults past (Says (OpenBlock (Some n)))) h in
     let none = unused n past pass.1.0 in
     record {
       dictionary = s.dictionary;
@@ -174,9 +177,9 @@ closes_at past (n ∷ ns) some free blocks s =
     })
     rest
 
-closes : (past : Past) → IsFaultless past → Sound past → least (faults past (Says CloseBlock)) ≡ None → Sound (Says CloseBlock ∷ past)
+closes : (past : Past) → IsFaultless past → Sound past → least number_of (faults past (Says CloseBlock)) ≡ None → Sound (Says CloseBlock ∷ past)
 closes past faultless s h =
-    let pass = none_holds (faults past (Says CloseBlock)) h in
+    let pass = pass_least (faults past (Says CloseBlock)) h in
     closes_at past (open_blocks past) (or_parts (in_region past) (is_empty (open_blocks past)) pass.0).1
     (stay_apart past faultless).entries s.blocks s
 
@@ -203,10 +206,10 @@ all_absent past (e ∷ more) h = (
   all_absent past more h.1,
 )
 
-defines_at : (past : Past) (text : List ℕ) → Sound past → least (faults past (Says (DefineAperture text))) ≡ None
+defines_at : (past : Past) (text : List ℕ) → Sound past → least number_of (faults past (Says (DefineAperture text))) ≡ None
     → Sound (Says (DefineAperture text) ∷ past)
 defines_at past text s h =
-    let pass = none_holds (faults past (Says (DefineAperture text))) h in
+    let pass = pass_least (faults past (Says (DefineAperture text))) h in
     let unit = unit_or_mm (unit_in past) in
     defines (view past) (defined past text) (sound_definition (definition_of text) (macros_in past) unit pass.1.1.1)
     (all_absent past (defined past text) (defined_free past (definition_of text) (macros_in past) unit pass.1.0)) s
@@ -243,10 +246,10 @@ short_steps : (past : Past) (repeat : Repeat) → has_short_steps past repeat �
 short_steps past repeat h = let parts = and_parts (is_short (step_of past repeat.i)) (is_short (step_of past repeat.j)) h in
     (ltb-true _ _ parts.0, ltb-true _ _ parts.1)
 
-repeats : (past : Past) (repeat : Repeat) → Sound past → least (faults past (Says (SetRepeat repeat))) ≡ None
+repeats : (past : Past) (repeat : Repeat) → Sound past → least number_of (faults past (Says (SetRepeat repeat))) ≡ None
     → Sound (Says (SetRepeat repeat) ∷ past)
 repeats past repeat s h =
-    let pass = none_holds (faults past (Says (SetRepeat repeat))) h in
+    let pass = pass_least (faults past (Says (SetRepeat repeat))) h in
     let closing = pass.1.1.1.1 in
     let none = unused_repeat past (length past) (omega arith) in
     let steps = short_steps past repeat
@@ -266,16 +269,16 @@ repeats past repeat s h =
         (record { copies = ltb-true 1 (count_of repeat.columns * count_of repeat.rows) is; steps_i = steps.0; steps_j = steps.1 }, none)
     by false is none steps = tt
 
-closes_repeat : (past : Past) → Sound past → least (faults past (Says CloseRepeat)) ≡ None → Sound (Says CloseRepeat ∷ past)
-closes_repeat past s h = let pass = none_holds (faults past (Says CloseRepeat)) h in settles_to past None true pass.1.0 pass.1.1.0 tt s
+closes_repeat : (past : Past) → Sound past → least number_of (faults past (Says CloseRepeat)) ≡ None → Sound (Says CloseRepeat ∷ past)
+closes_repeat past s h = let pass = pass_least (faults past (Says CloseRepeat)) h in settles_to past None true pass.1.0 pass.1.1.0 tt s
 
-ends : (past : Past) → Sound past → least (faults past (Says End)) ≡ None → Sound (Says End ∷ past)
-ends past s h = let pass = none_holds (faults past (Says End)) h in settles_to past None true pass.1.0 pass.1.1.0 tt s
+ends : (past : Past) → Sound past → least number_of (faults past (Says End)) ≡ None → Sound (Says End ∷ past)
+ends past s h = let pass = pass_least (faults past (Says End)) h in settles_to past None true pass.1.0 pass.1.1.0 tt s
 
 -- ---- any statement
 
 pub sound_step : (past : Past) (says : Statement) → StatesWithin says → IsFaultless past → Sound past
-    → least (faults past says) ≡ None → Sound (says ∷ past)
+    → least number_of (faults past says) ≡ None → Sound (says ∷ past)
 sound_step past (Says (DefineAperture text)) within a s h = defines_at past text s h
 sound_step past (Says (OpenBlock number)) within a s h = opens past number within s h
 sound_step past (Says CloseBlock) within a s h = closes past a s h
@@ -319,7 +322,7 @@ at_start = record {
   aperture = tt;
   point = record { x = lit< tt; y = lit< tt };
   contour = record {
-    sound = record { start_on = record { x = lit< tt; y = lit< tt }; segs_on = All-nil IsOnBoard; radii = tt; few = lit≤ tt };
+    sound = record { start_on = record { x = lit< tt; y = lit< tt }; segs_on = All-nil IsOnBoard; radii = refl; few = lit≤ tt };
     ends = λ r. refl;
   };
 }

@@ -14,7 +14,8 @@ use Rattle.cam_objects.specs.declared.entry.Entry.{Entry}
 use Rattle.cam_objects.specs.declared.item.Item.{Item}
 use Rattle.cam_objects.specs.declared.item.Item.TheVariants.{One, Repeat}
 use Rattle.cam_objects.specs.Leaves.{item_leaves, meaning_in}
-use Rattle.cam_objects.specs.Soundness.{AreOnBoard, HasNumber, IsSoundDictionary, MayAddEntry}
+use Rattle.cam_objects.specs.Soundness.{AreOnBoard, IsSoundDictionary, MayAddEntry}
+use Rattle.cam_objects.proofs.SoundItems.{HasNumber}
 use Rattle.cam_objects.specs.Weights.{block_count, weight_in}
 use Rattle.cam_gerber.specs.State.{Past, aperture_in, point_in, in_region}
 use Rattle.cam_gerber.specs.Homes.{Home, InBlock, InRepeat, InLayer, Opened, open_blocks, open_repeat, home, is_same_home}

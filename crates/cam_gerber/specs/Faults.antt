@@ -1,22 +1,30 @@
 -- The faults of a command behind its past.
-use Rattle.std.specs.Prelude.{ℕ, ◌+◌, ℤ, pos, List, [], ◌∷◌, ◌++◌, length, min, codes, Option, Some, None, Result, Ok}
+use Rattle.std.specs.Prelude.{ℕ, ◌+◌, ℤ, pos, List, [], ◌∷◌, ◌++◌, length, codes, Option, Some, None, Result, Ok}
 use Rattle.std.specs.Prelude.{Err, Bool, true, false, ◌||◌, ◌&&◌, ◌==◌, not, nat_le, nat_lt, nat_eq, is_some, is_none}
 use Rattle.std.specs.Prelude.{unsigned_abs, if◌then◌else◌}
 use Rattle.std.specs.List.{list_all, list_any}
 use Rattle.std.specs.Map.{lookup}
 use Rattle.std.specs.Ordering.{int_eq}
 use Rattle.std.specs.Str.{bytes_eq}
+use Rattle.cam_refusals.specs.declared.refusal.Refusal.{Refusal}
+use Rattle.cam_refusals.specs.declared.refusal.Refusal.TheVariants.{UnknownCommand, BadNumber, NoFormat, NoUnit}
+use Rattle.cam_refusals.specs.declared.refusal.Refusal.TheVariants.{SetAgain, FormatRefused, UnknownAperture, Redefined}
+use Rattle.cam_refusals.specs.declared.refusal.Refusal.TheVariants.{RotationRefused, ScaleRefused, NoneSelected}
+use Rattle.cam_refusals.specs.declared.refusal.Refusal.TheVariants.{WrongAperture, ArcMode, ZeroRadius, FlashInRegion}
+use Rattle.cam_refusals.specs.declared.refusal.Refusal.TheVariants.{NotInRegion, NestedRepeat, StrayBlock, OutOfBoard}
+use Rattle.cam_refusals.specs.declared.refusal.Refusal.TheVariants.{TooMuch, OldRefused, MacroFault}
+use Rattle.cam_refusals.specs.Checks.{Checks}
+use Rattle.cam_refusals.specs.Limits.{attribute_limit, board_limit, count_limit, depth_limit, leaf_limit}
 use Rattle.cam_units.specs.declared.length.Unit.{Unit as FileUnit}
 use Rattle.cam_units.specs.declared.length.Unit.TheVariants.{Mm, Inch}
 use Rattle.cam_units.specs.declared.point.Point.{Point}
 use Rattle.cam_macros.specs.Expansion.{rotation}
 use Rattle.cam_macros.specs.Reading.{is_name}
-use Rattle.cam_apertures.specs.Definition.{Table, definition_of, numbered, named, faults_of}
+use Rattle.cam_apertures.specs.Definition.{definition_of, numbered, named, faults_of}
 use Rattle.cam_objects.specs.declared.object.Object.{Object}
 use Rattle.cam_objects.specs.declared.item.Item.{Item}
 use Rattle.cam_objects.specs.declared.item.Item.TheVariants as item
 use Rattle.cam_objects.specs.Leaves.{Leaf, item_leaves, meaning_in, round_width}
-use Rattle.cam_objects.specs.Limits.{attribute_limit}
 use Rattle.cam_objects.specs.Soundness.{points_of_shape}
 use Rattle.cam_objects.specs.Weights.{object_count, object_depth, weight_in}
 use Rattle.cam_commands.specs.declared.names.FreeText.TheVariants.{FileAttribute}
@@ -31,59 +39,25 @@ use Rattle.cam_commands.specs.declared.parts.OperationCode.TheVariants.{Plot, Mo
 use Rattle.cam_commands.specs.declared.parts.Repeat.{Repeat}
 use Rattle.cam_commands.specs.Commands.{Command, SetFormat, RefusedFormat, SetUnit, DefineAperture, SetPolarity}
 use Rattle.cam_commands.specs.Commands.{SetMirror, SetRotation, SetScale, OpenBlock, CloseBlock, SetRepeat, CloseRepeat}
-use Rattle.cam_commands.specs.Commands.{KeepText, NeutralOld, RefusedOld, BeginRegion, EndRegion, Select, Operate, End, Unknown}
+use Rattle.cam_commands.specs.Commands.{KeepText, NeutralOld, RefusedOld, BeginRegion, EndRegion, Select, Operate, End}
+use Rattle.cam_commands.specs.Commands.{Unknown}
 use Rattle.cam_commands.specs.Commands.{is_style_extended}
 use Rattle.cam_commands.specs.ExtendedCommands.{is_same_format}
-use Rattle.cam_gerber.specs.FaultNumbers.{
-  unknown_command,
-  bad_number,
-  no_format,
-  no_unit,
-  set_again,
-  format_refused,
-  unknown_aperture,
-  redefined,
-  rotation_refused,
-  scale_refused,
-  none_selected,
-  wrong_aperture,
-  arc_mode,
-  zero_radius,
-  flash_in_region,
-  not_in_region,
-  nested_repeat,
-  stray_block,
-  out_of_board,
-  too_much,
-  old_refused,
-  macro_fault,
-}
 use Rattle.cam_gerber.specs.Statements.{Statement, Says, NamesMacro, Uncut}
 use Rattle.cam_gerber.specs.State.{Past, format_in, unit_in, aperture_in, mode_in, has_arcs, in_region, code_of}
 use Rattle.cam_gerber.specs.State.{code_in, point_in, centre_of, unit_or_mm}
 use Rattle.cam_gerber.specs.Attributes.{names_in}
-use Rattle.cam_gerber.specs.Homes.{Home, InBlock, InRepeat, InLayer, open_blocks, open_repeat, home, is_repeated, step_of}
+use Rattle.cam_gerber.specs.Homes.{Home, InBlock, InRepeat, InLayer, open_blocks, open_repeat, home, is_repeated}
+use Rattle.cam_gerber.specs.Homes.{step_of}
 use Rattle.cam_gerber.specs.Making.{segments_in, region_in, stroke_of, flash_of, objects_of}
 use Rattle.cam_gerber.specs.Layers.{macros_in, entries_in, items_in, closed_repeat, closed_leaves, leaves_of, leaves_in}
 use Rattle.cam_objects.specs.declared.tip.Tip.{Tip}
 
--- ---- limits
-
--- items of a layer, objects of a block or a repeat, segments of a contour
-abbrev pub count_limit : ℕ
-count_limit = 1000000
-
--- leaves of a layer, and of a block
-abbrev pub leaf_limit : ℕ
-leaf_limit = 4000000
-
--- blocks in one another, open or flashed
-abbrev pub depth_limit : ℕ
-depth_limit = 8
+-- ---- the board
 
 -- under a metre in absolute value
 abbrev pub is_short : ℤ → Bool
-is_short n = nat_lt (unsigned_abs n) 1000000000
+is_short n = nat_lt (unsigned_abs n) board_limit
 
 abbrev pub is_on_board : Point → Bool
 is_on_board p = is_short p.x && is_short p.y
@@ -182,17 +156,17 @@ abbrev pub holds_of_one : {A : Type 0} → (A → Bool) → List A → Bool
 holds_of_one test [] = false
 holds_of_one test (x ∷ xs) = test x
 
--- ---- tables: numbers, each with the test that says whether it holds
+-- ---- checks, in the order in which they are told
 
 -- a command that is no part of a region
-abbrev pub in_region_fault : Past → Table
-in_region_fault past = (stray_block, in_region past) ∷ []
+abbrev pub in_region_fault : Past → Checks Refusal
+in_region_fault past = (StrayBlock, in_region past) ∷ []
 
 -- the close of a repeat
-abbrev pub closing_faults : Past → Bool → Table
+abbrev pub closing_faults : Past → Bool → Checks Refusal
 closing_faults past short_steps =
-    (out_of_board, not short_steps || holds_of_one (is_outside past) (closed_repeat past))
-    ∷ (too_much, not (is_empty (closed_repeat past)) && is_layer_full past (closed_leaves past)) ∷ []
+    (OutOfBoard, not short_steps || holds_of_one (is_outside past) (closed_repeat past))
+    ∷ (TooMuch, not (is_empty (closed_repeat past)) && is_layer_full past (closed_leaves past)) ∷ []
 
 abbrev pub is_malformed : {A : Type 0} → Slot A → Bool
 is_malformed Omitted = false
@@ -202,15 +176,15 @@ is_malformed (Written n) = false
 abbrev pub has_short_steps : Past → Repeat → Bool
 has_short_steps past repeat = is_short (step_of past repeat.i) && is_short (step_of past repeat.j)
 
-abbrev pub repeat_faults : Past → Repeat → Table
+abbrev pub repeat_faults : Past → Repeat → Checks Refusal
 repeat_faults past repeat = (
-  bad_number,
+  BadNumber,
   is_malformed repeat.columns || is_malformed repeat.rows || is_malformed repeat.i
       || is_malformed repeat.j,
 )
-    ∷ (no_unit, is_none (unit_in past))
-    ∷ (nested_repeat, is_repeated repeat && not (is_empty (open_blocks past)))
-    ∷ (stray_block, in_region past)
+    ∷ (NoUnit, is_none (unit_in past))
+    ∷ (NestedRepeat, is_repeated repeat && not (is_empty (open_blocks past)))
+    ∷ (StrayBlock, in_region past)
     ∷ closing_faults past (has_short_steps past repeat)
 
 abbrev pub is_written : {A : Type 0} → Slot A → Bool
@@ -244,13 +218,13 @@ abbrev pub is_same_point : Point → Point → Bool
 is_same_point p q = int_eq p.x q.x && int_eq p.y q.y
 
 -- a line or an arc, in a region or not
-abbrev pub path_faults : Bool → Bool → Point → Point → Point → Table
+abbrev pub path_faults : Bool → Bool → Point → Point → Point → Checks Refusal
 path_faults arc arcs from to centre =
-    (arc_mode, arc && not arcs) ∷ (zero_radius, arc && is_same_point from centre)
-    ∷ (out_of_board, not (is_on_board to) || (arc && not (is_on_board centre))) ∷ []
+    (ArcMode, arc && not arcs) ∷ (ZeroRadius, arc && is_same_point from centre)
+    ∷ (OutOfBoard, not (is_on_board to) || (arc && not (is_on_board centre))) ∷ []
 
 -- of a plot
-abbrev pub plot_faults : Past → Operation → Table
+abbrev pub plot_faults : Past → Operation → Checks Refusal
 plot_faults past operation =
     let now = Says (Operate operation)
     ∷ past in path_faults (is_arc (mode_in now)) (has_arcs past) (point_in past) (point_in now)
@@ -263,92 +237,83 @@ is_outside_at (InRepeat before) past object = false
 is_outside_at InLayer past object = is_outside past (item.One object)
 
 -- an operation by what it does, in a region or not
-abbrev pub operated_faults : OperationCode → Bool → Past → Operation → Table
+abbrev pub operated_faults : OperationCode → Bool → Past → Operation → Checks Refusal
 operated_faults Plot false past operation =
-    (none_selected, is_none (aperture_in past))
-    ∷ (wrong_aperture, is_unfit past (is_arc (mode_in (Says (Operate operation) ∷ past))) (aperture_in past))
-    ∷ (plot_faults past operation ++ (too_much, is_full (home past) past (stroke_of past operation)) ∷ [])
+    (NoneSelected, is_none (aperture_in past))
+    ∷ (WrongAperture, is_unfit past (is_arc (mode_in (Says (Operate operation) ∷ past))) (aperture_in past))
+    ∷ (plot_faults past operation ++ (TooMuch, is_full (home past) past (stroke_of past operation)) ∷ [])
 operated_faults Plot true past operation =
-    plot_faults past operation ++ (too_much, nat_le count_limit (length (segments_in past))) ∷ []
+    plot_faults past operation ++ (TooMuch, nat_le count_limit (length (segments_in past))) ∷ []
 operated_faults Move false past operation =
-    (out_of_board, not (is_on_board (point_in (Says (Operate operation) ∷ past)))) ∷ []
+    (OutOfBoard, not (is_on_board (point_in (Says (Operate operation) ∷ past)))) ∷ []
 operated_faults Move true past operation =
-    (out_of_board, not (is_on_board (point_in (Says (Operate operation) ∷ past))))
-    ∷ (too_much, holds_of_one (is_full (home past) past) (region_in past)) ∷ []
+    (OutOfBoard, not (is_on_board (point_in (Says (Operate operation) ∷ past))))
+    ∷ (TooMuch, holds_of_one (is_full (home past) past) (region_in past)) ∷ []
 operated_faults Flash false past operation =
-    (none_selected, is_none (aperture_in past))
+    (NoneSelected, is_none (aperture_in past))
     ∷ (
-      out_of_board,
+      OutOfBoard,
       not (is_on_board (point_in (Says (Operate operation) ∷ past)))
           || is_outside_at (home past) past (flash_of past operation),
     )
-    ∷ (too_much, is_full (home past) past (flash_of past operation)) ∷ []
-operated_faults Flash true past operation = (flash_in_region, true) ∷ []
+    ∷ (TooMuch, is_full (home past) past (flash_of past operation)) ∷ []
+operated_faults Flash true past operation = (FlashInRegion, true) ∷ []
 
 -- what any operation may be refused for
-abbrev pub leading_faults : Past → Operation → Table
+abbrev pub leading_faults : Past → Operation → Checks Refusal
 leading_faults past operation =
-    (unknown_command, lacks_code past operation) ∷ (bad_number, has_malformed operation)
-    ∷ (no_format, has_coordinate operation && is_none (format_in past))
-    ∷ (no_unit, has_coordinate operation && is_none (unit_in past)) ∷ []
+    (UnknownCommand, lacks_code past operation) ∷ (BadNumber, has_malformed operation)
+    ∷ (NoFormat, has_coordinate operation && is_none (format_in past))
+    ∷ (NoUnit, has_coordinate operation && is_none (unit_in past)) ∷ []
 
-abbrev pub operation_faults : Past → Operation → Table
+abbrev pub operation_faults : Past → Operation → Checks Refusal
 operation_faults past operation =
     leading_faults past operation ++ operated_faults (code_of operation) (in_region past) past operation
 
-abbrev pub command_faults : Past → Command → Table
-command_faults past (SetFormat format) = (set_again, is_other_format (format_in past) format) ∷ in_region_fault past
-command_faults past RefusedFormat = (format_refused, true) ∷ []
+abbrev pub command_faults : Past → Command → Checks Refusal
+command_faults past (SetFormat format) = (SetAgain, is_other_format (format_in past) format) ∷ in_region_fault past
+command_faults past RefusedFormat = (FormatRefused, true) ∷ []
 command_faults past (SetUnit unit style) =
-    (set_again, is_other_unit (unit_in past) unit) ∷ (stray_block, is_style_extended style && in_region past) ∷ []
+    (SetAgain, is_other_unit (unit_in past) unit) ∷ (StrayBlock, is_style_extended style && in_region past) ∷ []
 command_faults past (DefineAperture text) =
-    (no_unit, is_none (unit_in past)) ∷ (redefined, is_taken_again past (numbered (definition_of text)))
-    ∷ (stray_block, in_region past)
+    (NoUnit, is_none (unit_in past)) ∷ (Redefined, is_taken_again past (numbered (definition_of text)))
+    ∷ (StrayBlock, in_region past)
     ∷ faults_of (definition_of text) (macros_in past) (unit_or_mm (unit_in past))
 command_faults past (SetPolarity polarity) = in_region_fault past
 command_faults past (SetMirror mirror) = in_region_fault past
 command_faults past (SetRotation angle) =
-    (bad_number, is_none angle) ∷ (rotation_refused, holds_of is_no_quarter angle) ∷ in_region_fault past
+    (BadNumber, is_none angle) ∷ (RotationRefused, holds_of is_no_quarter angle) ∷ in_region_fault past
 command_faults past (SetScale scale) =
-    (bad_number, is_none scale) ∷ (scale_refused, holds_of (λ n. not (int_eq n (pos 1000000000))) scale)
+    (BadNumber, is_none scale) ∷ (ScaleRefused, holds_of (λ n. not (int_eq n (pos 1000000000))) scale)
     ∷ in_region_fault past
 command_faults past (OpenBlock number) =
-    (bad_number, is_none number) ∷ (redefined, is_taken_again past number) ∷ (
-      stray_block,
+    (BadNumber, is_none number) ∷ (Redefined, is_taken_again past number) ∷ (
+      StrayBlock,
       in_region past
           || is_some (open_repeat past),
     )
-    ∷ (too_much, nat_le depth_limit (length (open_blocks past))) ∷ []
-command_faults past CloseBlock = (stray_block, in_region past || is_empty (open_blocks past)) ∷ []
+    ∷ (TooMuch, nat_le depth_limit (length (open_blocks past))) ∷ []
+command_faults past CloseBlock = (StrayBlock, in_region past || is_empty (open_blocks past)) ∷ []
 command_faults past (SetRepeat repeat) = repeat_faults past repeat
-command_faults past CloseRepeat = (stray_block, in_region past) ∷ closing_faults past true
+command_faults past CloseRepeat = (StrayBlock, in_region past) ∷ closing_faults past true
 command_faults past (KeepText FileAttribute text) =
-    (too_much, nat_lt attribute_limit (length (names_in (Says (KeepText FileAttribute text) ∷ past)))) ∷ []
+    (TooMuch, nat_lt attribute_limit (length (names_in (Says (KeepText FileAttribute text) ∷ past)))) ∷ []
 command_faults past NeutralOld = in_region_fault past
 command_faults past (RefusedOld style) =
-    (stray_block, is_style_extended style && in_region past) ∷ (old_refused, true) ∷ []
+    (StrayBlock, is_style_extended style && in_region past) ∷ (OldRefused, true) ∷ []
 command_faults past BeginRegion = in_region_fault past
 command_faults past EndRegion =
-    (not_in_region, not (in_region past)) ∷ (too_much, holds_of_one (is_full (home past) past) (region_in past)) ∷ []
-command_faults past (Select number) = (bad_number, is_none number) ∷ (unknown_aperture, is_undefined past number) ∷ []
+    (NotInRegion, not (in_region past)) ∷ (TooMuch, holds_of_one (is_full (home past) past) (region_in past)) ∷ []
+command_faults past (Select number) = (BadNumber, is_none number) ∷ (UnknownAperture, is_undefined past number) ∷ []
 command_faults past (Operate operation) = operation_faults past operation
-command_faults past End = (stray_block, in_region past || not (is_empty (open_blocks past))) ∷ closing_faults past true
-command_faults past Unknown = (unknown_command, true) ∷ []
+command_faults past End = (StrayBlock, in_region past || not (is_empty (open_blocks past))) ∷ closing_faults past true
+command_faults past Unknown = (UnknownCommand, true) ∷ []
 command_faults past _ = []
 
 -- the faults that a statement may have, each with its test
-abbrev pub faults : Past → Statement → Table
+abbrev pub faults : Past → Statement → Checks Refusal
 faults past (Says command) = command_faults past command
 faults past (NamesMacro name parts) =
-    (unknown_command, not (is_name name)) ∷ (redefined, is_some (named (macros_in past) name) || is_reserved name)
-    ∷ (stray_block, in_region past) ∷ (macro_fault, is_none parts) ∷ []
-faults past (Uncut code) = (code, true) ∷ []
-
-abbrev pub lower_of : ℕ → Option ℕ → ℕ
-lower_of n None = n
-lower_of n (Some m) = min n m
-
--- the least of the numbers that hold
-abbrev pub least : Table → Option ℕ
-least [] = None
-least (fault ∷ others) = if fault.1 then Some (lower_of fault.0 (least others)) else least others
+    (UnknownCommand, not (is_name name)) ∷ (Redefined, is_some (named (macros_in past) name) || is_reserved name)
+    ∷ (StrayBlock, in_region past) ∷ (MacroFault, is_none parts) ∷ []
+faults past (Uncut refusal) = (refusal, true) ∷ []

@@ -1,8 +1,8 @@
 -- Laws of what Gerber files mean.
-use Rattle.std.specs.Prelude.{◌≡◌, ◌≢◌, ◌↔◌, ◌≤◌, ◌<◌, ℕ, List, [], ◌∷◌, ◌++◌, length, Some, None, Result, Ok, Err, ◌⊎◌, true, false}
+use Rattle.std.specs.Prelude.{◌≡◌, ◌≢◌, ◌↔◌, ℕ, List, [], ◌∷◌, ◌++◌, length, Some, None, Result, Ok, Err, ◌⊎◌, true}
+use Rattle.std.specs.Prelude.{ℤ, false, not}
 use Rattle.std.specs.List.{list_all, AllByRecursion, AllPairs}
 use Rattle.cam_words.specs.Reading.{Answer, reading}
-use Rattle.cam_apertures.specs.Definition.{Table}
 use Rattle.cam_objects.specs.declared.layer.Layer.{Layer}
 use Rattle.cam_objects.specs.Soundness.{IsSound}
 use Rattle.cam_commands.specs.Commands.{SetFormat, SetUnit, SetPolarity, SetMirror, SetRotation, SetMode, Select}
@@ -12,18 +12,20 @@ use Rattle.cam_commands.specs.declared.parts.Polarity.{Polarity}
 use Rattle.cam_commands.specs.declared.parts.Mirror.{Mirror}
 use Rattle.cam_commands.specs.declared.parts.Mode.{Mode}
 use Rattle.cam_units.specs.declared.length.Unit.{Unit as FileUnit}
-use Rattle.std.specs.Prelude.{ℤ, not}
 use Rattle.cam_objects.specs.Contents.{Content, content_of}
-use Rattle.cam_gerber.specs.declared.read_fault.ReadFault.{ReadFault}
-use Rattle.cam_gerber.specs.Statements.{Says, Told, IsTold}
+use Rattle.cam_refusals.specs.declared.read_fault.ReadFault.{ReadFault}
+use Rattle.cam_refusals.specs.declared.refusal.Refusal.TheVariants.{NoMemory}
+use Rattle.cam_refusals.specs.Checks.{least}
+use Rattle.cam_refusals.specs.FileFaults.{IsFileFault, IsNotBehind}
+use Rattle.cam_refusals.specs.Refusals.{number_of}
+use Rattle.cam_gerber.specs.Statements.{Says, Told}
 use Rattle.cam_gerber.specs.State.{Past, format_in, unit_in, dark_in, is_dark, mirror_in, turn_of_mirror, rotation_in}
 use Rattle.cam_gerber.specs.State.{turn_of_angle, aperture_in, mode_in, has_arcs, in_region, code_in, point_in}
 use Rattle.cam_gerber.specs.Homes.{open_blocks, open_repeat, home}
 use Rattle.cam_gerber.specs.Making.{contour_in}
 use Rattle.cam_gerber.specs.Layers.{macros_in, layer_in}
-use Rattle.cam_gerber.specs.Faults.{faults, least, is_defined}
-use Rattle.cam_gerber.specs.FaultNumbers.{no_end}
-use Rattle.cam_gerber.specs.Reading.{is_end, fault_of, Leads, Means}
+use Rattle.cam_gerber.specs.Faults.{faults, is_defined}
+use Rattle.cam_gerber.specs.Reading.{AreTold, Leads, Means, fault_of, is_end, places_from}
 
 -- ---- what a file means
 
@@ -31,55 +33,20 @@ use Rattle.cam_gerber.specs.Reading.{is_end, fault_of, Leads, Means}
 abbrev pub MeansOneThing : Type 0
 MeansOneThing = (bytes : List ℕ) (a b : Result Content ReadFault) → Means bytes a → Means bytes b → a ≡ b
 
--- each answer tells one of these
-abbrev pub AreTold : List Answer → List Told → Type 0
-AreTold [] [] = Unit {0}
-AreTold (answer ∷ answers) (told ∷ others) = IsTold answer told × AreTold answers others
-AreTold [] (told ∷ others) = ⊥
-AreTold (answer ∷ answers) [] = ⊥
-
 -- none of them is the end
 abbrev pub AreEndless : List Told → Type 0
-AreEndless told = list_all (λ t. not (is_end t.says)) told ≡ true
+AreEndless commands = list_all (λ c. not (is_end c.says)) commands ≡ true
 
 -- the past that they make, behind another
 abbrev pub behind : Past → List Told → Past
 behind past [] = past
-behind past (told ∷ others) = behind (told.says ∷ past) others
+behind past (command ∷ later) = behind (command.says ∷ past) later
 
--- the number holds in the table
-abbrev pub Holds : ℕ → Table → Type 0
-Holds code [] = ⊥
-Holds code (fault ∷ table) = ((fault.0 ≡ code) × (fault.1 ≡ true)) ⊎ Holds code table
-
--- a fault of a command that no end stands before
-pub record IsCommandFault (bytes : List ℕ) (fault : ReadFault) : Type 0 where
-  pub before : List Answer
-  pub answer : Answer
-  pub after : List Answer
-  pub cut : reading 0 bytes ≡ before ++ (answer ∷ after)
-  pub older : List Told
-  pub are_older : AreTold before older
-  pub endless : AreEndless older
-  pub told : Told
-  pub is_told : IsTold answer told
-  pub place : fault.at ≡ told.at
-  pub number : Holds fault.code (faults (behind [] older) told.says)
-
--- no end stands in the file
-pub record IsEndFault (bytes : List ℕ) (fault : ReadFault) : Type 0 where
-  pub older : List Told
-  pub are_older : AreTold (reading 0 bytes) older
-  pub endless : AreEndless older
-  pub place : fault.at ≡ length bytes
-  pub number : fault.code ≡ no_end
-
-abbrev pub IsFault : List ℕ → ReadFault → Type 0
-IsFault bytes fault = IsCommandFault bytes fault ⊎ IsEndFault bytes fault
-
--- at a lesser place, or at the same with no greater number
-abbrev pub IsNotBehind : ReadFault → ReadFault → Type 0
-IsNotBehind f g = (f.at < g.at) ⊎ ((f.at ≡ g.at) × (f.code ≤ g.code))
+-- a fault of the file: one that holds at one of the places of its commands
+pub record IsFault (bytes : List ℕ) (fault : ReadFault) : Type 0 where
+  pub commands : List Told
+  pub are_told : AreTold (reading 0 bytes) commands
+  pub is : IsFileFault (places_from (length bytes) [] commands) fault
 
 -- the fault that is told is one of the file's, of the least place, and there of the least number
 abbrev pub TellsLeastFault : Type 0
@@ -93,7 +60,7 @@ GivesFaultlessFiles = (bytes : List ℕ) (layer : Content) (f : ReadFault) → M
 
 -- no fault of a file is one of memory
 abbrev pub IsNoMemoryFault : Type 0
-IsNoMemoryFault = (bytes : List ℕ) (f : ReadFault) → Means bytes (Err f) → f.code ≢ 30
+IsNoMemoryFault = (bytes : List ℕ) (f : ReadFault) → Means bytes (Err f) → f.code ≢ NoMemory
 
 -- a layer that a file gives is sound
 abbrev pub GivesSoundLayers : Type 0
@@ -104,7 +71,7 @@ GivesSoundLayers = (bytes : List ℕ) (layer : Layer) → Means bytes (Ok (conte
 -- no statement has a fault behind those before it
 abbrev pub AreFaultless : Past → List Told → Type 0
 AreFaultless past [] = Unit {0}
-AreFaultless past (told ∷ others) = (fault_of past told ≡ None) × AreFaultless (told.says ∷ past) others
+AreFaultless past (command ∷ later) = (fault_of past command ≡ None) × AreFaultless (command.says ∷ past) later
 
 -- a front without end and without fault leads where the rest leads behind it
 abbrev pub GoesOnBehindItsFront : Type 0
@@ -115,7 +82,7 @@ GoesOnBehindItsFront =
 
 abbrev pub IsFaultless : Past → Type 0
 IsFaultless [] = Unit {0}
-IsFaultless (says ∷ older) = (least (faults older says) ≡ None) × IsFaultless older
+IsFaultless (says ∷ older) = (least number_of (faults older says) ≡ None) × IsFaultless older
 
 -- an open block has a number of its own, and no repeat is open with it
 pub record HomesStayApart (past : Past) : Type 0 where

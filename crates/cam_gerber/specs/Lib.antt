@@ -4,7 +4,6 @@ pub mod Homes
 pub mod Making
 pub mod Attributes
 pub mod Layers
-pub mod FaultNumbers
 pub mod Faults
 pub mod Reading
 pub mod Computing

@@ -1,16 +1,17 @@
--- What a Gerber file means: its layer, or its fault of least place and there of least number.
-use Rattle.std.specs.Prelude.{◌≡◌, ℕ, List, [], ◌∷◌, length, Option, Some, None, Result, Ok, Err, ◌⊎◌, Bool, true, false}
-use Rattle.std.specs.Option.{option_map}
+-- What a Gerber file means: the fault that is told of its places or, where it has none, its layer.
+use Rattle.std.specs.Prelude.{◌≡◌, ℕ, List, [], ◌∷◌, length, Option, Some, None, Result, Ok, Err, ◌⊎◌, Bool, true}
+use Rattle.std.specs.Prelude.{false, if◌then◌else◌}
+use Rattle.cam_refusals.specs.declared.read_fault.ReadFault.{ReadFault}
+use Rattle.cam_refusals.specs.declared.refusal.Refusal.TheVariants.{NoEnd, NoMemory}
+use Rattle.cam_refusals.specs.FileFaults.{Place, told, told_at}
 use Rattle.cam_words.specs.Reading.{Answer, reading}
 use Rattle.cam_objects.specs.declared.layer.Layer.{Layer}
 use Rattle.cam_commands.specs.Commands.{Command, End}
 use Rattle.cam_objects.specs.Contents.{Content, content_of}
-use Rattle.cam_gerber.specs.declared.read_fault.ReadFault.{ReadFault}
 use Rattle.cam_gerber.specs.Statements.{Statement, Says, Told, IsTold}
 use Rattle.cam_gerber.specs.State.{Past}
 use Rattle.cam_gerber.specs.Layers.{layer_in}
-use Rattle.cam_gerber.specs.Faults.{faults, least}
-use Rattle.cam_gerber.specs.FaultNumbers.{no_end}
+use Rattle.cam_gerber.specs.Faults.{faults}
 
 abbrev pub is_end_command : Command → Bool
 is_end_command End = true
@@ -21,30 +22,57 @@ abbrev pub is_end : Statement → Bool
 is_end (Says command) = is_end_command command
 is_end _ = false
 
--- the least number of a statement's faults behind a past, told at its place
+-- ---- places
+
+-- where a command stands, and what it may be refused for behind a past
+abbrev pub place_behind : Past → Told → Place
+place_behind past command = record { at = command.at; checks = faults past command.says }
+
+-- the fault that it tells
 abbrev pub fault_of : Past → Told → Option ReadFault
-fault_of past told = option_map (λ code. record { code = code; at = told.at }) (least (faults past told.says))
+fault_of past command = told_at (place_behind past command)
 
--- a fault is told; else the end gives the layer, and any other statement what the text behind it gives
-abbrev pub Gives : Option ReadFault → Bool → Content → Type 0 → Result Content ReadFault → Type 0
-Gives (Some fault) ends layer Others result = result ≡ Err fault
-Gives None true layer Others result = result ≡ Ok layer
-Gives None false layer Others result = Others
+-- the places of the rest of a file of so many bytes, behind a past: its commands up to and with the first M02, or else
+-- its end; what stands behind M02 is not read
+abbrev pub places_from : ℕ → Past → List Told → List Place
+places_from len past [] = record { at = len; checks = (NoEnd, true) ∷ [] } ∷ []
+places_from len past (command ∷ later) =
+    place_behind past command ∷ (if is_end command.says then [] else places_from len (command.says ∷ past) later)
 
--- what the rest of a file of so many bytes gives, behind a past without a fault; what stands behind the end is not read
+-- the past that its commands make
+abbrev pub past_from : Past → List Told → Past
+past_from past [] = past
+past_from past (command ∷ later) =
+    if is_end command.says then command.says ∷ past else past_from (command.says ∷ past) later
+
+-- ---- what a file gives
+
+-- a layer, unless a fault is told
+abbrev pub layer_unless : Option ReadFault → Content → Result Content ReadFault
+layer_unless None layer = Ok layer
+layer_unless (Some fault) layer = Err fault
+
+-- what commands give that are the rest of a file of so many bytes, behind a past without a fault
+abbrev pub given : ℕ → Past → List Told → Result Content ReadFault
+given len past commands = layer_unless (told (places_from len past commands)) (layer_in (past_from past commands))
+
+-- each answer tells one of these commands
+abbrev pub AreTold : List Answer → List Told → Type 0
+AreTold [] [] = Unit {0}
+AreTold (answer ∷ answers) (command ∷ commands) = IsTold answer command × AreTold answers commands
+AreTold [] (command ∷ commands) = ⊥
+AreTold (answer ∷ answers) [] = ⊥
+
+-- what the rest of a file of so many bytes gives, behind a past without a fault
 abbrev pub Leads : ℕ → Past → List Answer → Result Content ReadFault → Type 0
-Leads len past [] result = result ≡ Err (record { code = no_end; at = len })
-Leads len past (answer ∷ answers) result =
-    (told : Told) × IsTold answer told
-    × Gives (fault_of past told) (is_end told.says) (layer_in (told.says ∷ past)) (Leads len (told.says
-    ∷ past) answers result) result
+Leads len past answers result = (commands : List Told) × AreTold answers commands × (result ≡ given len past commands)
 
 -- a file gives a layer, or a fault
 unfoldable pub Means : List ℕ → Result Content ReadFault → Type 0
 Means bytes result = Leads (length bytes) [] (reading 0 bytes) result
 
 abbrev pub no_memory : ReadFault
-no_memory = record { code = 30; at = 0 }
+no_memory = record { code = NoMemory; at = 0 }
 
 abbrev pub answer_of : Result Layer ReadFault → Result Content ReadFault
 answer_of (Ok layer) = Ok (content_of layer)

@@ -1,6 +1,7 @@
 -- What the words of a file say, the text of each macro read by its grammar.
 -- Gerber Layer Format Specification, "Overview of the commands" and "Aperture macro (AM)".
 use Rattle.std.specs.Prelude.{◌≡◌, ℕ, List, Option, Some, None, Ok, Err}
+use Rattle.cam_refusals.specs.declared.refusal.Refusal.{Refusal}
 use Rattle.cam_words.specs.Reading.{Answer}
 use Rattle.cam_macros.specs.declared.part.Part.{Part}
 use Rattle.cam_macros.specs.Reading.{pieces, first, IsReading}
@@ -12,8 +13,8 @@ pub data Statement : Type 0 where
   Says : Command → Statement
   -- AM: the name, and the parts where the text stands for a macro
   NamesMacro : List ℕ → Option (List Part) → Statement
-  -- the text cannot be cut here, for a fault of this number
-  Uncut : ℕ → Statement
+  -- the text cannot be cut here, and is refused for this
+  Uncut : Refusal → Statement
 
 -- the text stands for a macro with these parts, or for none
 abbrev pub IsReadAs : List ℕ → List ℕ → Option (List Part) → Type 0
@@ -24,7 +25,7 @@ IsReadAs text name None = (parts : List Part) → ¬ IsReading text name parts
 abbrev pub IsMacroOf : List ℕ → Statement → Type 0
 IsMacroOf text (Says command) = ⊥
 IsMacroOf text (NamesMacro name parts) = (name ≡ first (pieces text)) × IsReadAs text name parts
-IsMacroOf text (Uncut code) = ⊥
+IsMacroOf text (Uncut refusal) = ⊥
 
 -- the statement of a command
 abbrev pub IsSaidBy : Command → Statement → Type 0

@@ -2,18 +2,18 @@
 
 ghost use Rattle.std.specs.Prelude.{◌≡◌, ℕ, List, ◌++◌, ◌∷◌, [], None, OnOk, length, nat_lt};
 ghost use Rattle.cam_objects.specs.Attributes.{attribute_of, place_of, with_attribute};
-ghost use Rattle.cam_objects.specs.Limits.{attribute_limit};
+ghost use Rattle.cam_refusals.specs.Limits.{attribute_limit};
 ghost use Rattle.cam_commands.specs.Commands as command;
 ghost use Rattle.cam_commands.specs.declared.names.FreeText.TheVariants.{FileAttribute};
 ghost use Rattle.cam_gerber.specs.Attributes.{fields_of, name_of};
 ghost use Rattle.cam_gerber.specs.Machinery.Tracking.{Takes};
 
 use crate::definitions::place_of;
-use crate::faults;
 use crate::running::Running;
-use crate::stop::Stop;
 use cam_commands::FreeText;
 use cam_objects::Attribute;
+use cam_refusals::limits::ATTRIBUTE_LIMIT;
+use cam_refusals::{Refusal, Stop};
 use cam_units::Items;
 use indexmap::IndexSet;
 use std::alloc::{AllocError, Global};
@@ -117,9 +117,6 @@ impl Attributes {
     }
 }
 
-/// The greatest number of file attributes.
-const ATTRIBUTE_LIMIT: usize = 1_000;
-
 /// The name of a file attribute, and its fields, of what stands behind `TF`.
 fn split(text: &[u8]) -> (&[u8], &[u8])
     ensures name { result.0.now ≡ name_of text.now }
@@ -136,7 +133,7 @@ impl Running {
     {
         let (name, fields) = split(text);
         if self.attributes.is_full_for(name) {
-            return Err(Stop::Fault(faults::TOO_MUCH));
+            return Err(Stop::Fault(Refusal::TooMuch));
         }
         self.attributes.set(self.alloc, name, fields)?;
         Ok(())

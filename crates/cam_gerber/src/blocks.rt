@@ -8,13 +8,12 @@ ghost use Rattle.cam_gerber.specs.Laws.{IsFaultless};
 ghost use Rattle.cam_gerber.specs.State.{Past};
 ghost use Rattle.cam_gerber.specs.Machinery.Tracking.{HasPast, Takes, TracksPlaces};
 
-use crate::faults;
 use crate::frames::OpenBlock;
-use crate::homes::DEPTH_LIMIT;
 use crate::object_list::ObjectList;
 use crate::running::Running;
-use crate::stop::Stop;
 use cam_objects::Entry;
+use cam_refusals::limits::DEPTH_LIMIT;
+use cam_refusals::{Refusal, Stop};
 
 impl Running {
     /// Whether an open block has the number.
@@ -42,19 +41,19 @@ impl Running {
         ensures { Takes (command.OpenBlock number) self.old result self.new }
     {
         let Some(number) = number else {
-            return Err(Stop::Fault(faults::BAD_NUMBER));
+            return Err(Stop::Fault(Refusal::BadNumber));
         };
         if self.is_taken(number) {
-            return Err(Stop::Fault(faults::REDEFINED));
+            return Err(Stop::Fault(Refusal::Redefined));
         }
         if self.region.inside {
-            return Err(Stop::Fault(faults::STRAY_BLOCK));
+            return Err(Stop::Fault(Refusal::StrayBlock));
         }
         if self.frames.repeat.is_some() {
-            return Err(Stop::Fault(faults::STRAY_BLOCK));
+            return Err(Stop::Fault(Refusal::StrayBlock));
         }
         if self.frames.blocks.len() as u64 >= DEPTH_LIMIT {
-            return Err(Stop::Fault(faults::TOO_MUCH));
+            return Err(Stop::Fault(Refusal::TooMuch));
         }
         let objects = ObjectList::new(self.alloc);
         self.frames.blocks.push_front(OpenBlock {
@@ -71,10 +70,10 @@ impl Running {
         ensures { Takes command.CloseBlock self.old result self.new }
     {
         if self.region.inside {
-            return Err(Stop::Fault(faults::STRAY_BLOCK));
+            return Err(Stop::Fault(Refusal::StrayBlock));
         }
         let Some(block) = self.frames.blocks.pop_front() else {
-            return Err(Stop::Fault(faults::STRAY_BLOCK));
+            return Err(Stop::Fault(Refusal::StrayBlock));
         };
         let OpenBlock {
             number,

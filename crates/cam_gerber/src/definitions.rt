@@ -4,32 +4,41 @@ ghost use Rattle.std.specs.Prelude.{◌≡◌, ◌==◌, ◌≤◌, length, ◌�
 ghost use Rattle.std.specs.List.{before_first, position_or_len};
 ghost use Rattle.cam_words.specs.Heads.{packed};
 ghost use Rattle.cam_words.specs.Bytes.{is_star};
-ghost use Rattle.cam_apertures.specs.Definition.{Table, named};
+ghost use Rattle.cam_apertures.specs.Definition.{named};
+ghost use Rattle.cam_refusals.specs.Checks.{Checks, least, lower_of};
+ghost use Rattle.cam_refusals.specs.Refusals.{number_of};
+ghost use Rattle.cam_refusals.specs.declared.refusal.Refusal.{Refusal};
+ghost use Rattle.cam_refusals.specs.declared.refusal.Refusal.TheVariants.{NoUnit, Redefined, StrayBlock};
 ghost use Rattle.cam_commands.specs.Commands as command;
 ghost use Rattle.cam_gerber.specs.State.{Past, in_region, unit_in};
-ghost use Rattle.cam_gerber.specs.Faults.{is_reserved, is_taken_again, least, lower_of};
+ghost use Rattle.cam_gerber.specs.Faults.{is_reserved, is_taken_again};
 ghost use Rattle.cam_gerber.specs.Machinery.Tracking.{HasPast, Obeys, Tracks};
 
-use crate::faults;
 use crate::running::Running;
-use crate::stop::Stop;
 use cam_apertures::{AdFault, ad_number, parse_ad};
 use cam_macros::{Macro, MacroFault};
 use cam_objects::Entry;
+use cam_refusals::{Refusal, Stop};
 use cam_units::Unit;
 use cam_words::is_skipped;
 use std::alloc::{AllocError, Global};
 
 /// The lower of a fault that is told and of another one, where that holds.
-fn lower(code: u8, holds: bool, told: Option<u8>) -> Option<u8>
-    ensures { result ≡ (if holds then Some (lower_of code told) else told) }
+fn lower(fault: Refusal, holds: bool, told: Option<Refusal>) -> Option<Refusal>
+    ensures { result ≡ (if holds then Some (lower_of number_of fault told) else told) }
 {
     if !holds {
         return told;
     }
     match told {
-        None => Some(code),
-        Some(other) => Some(code.min(other)),
+        None => Some(fault),
+        Some(other) => {
+            if fault.number() <= other.number() {
+                Some(fault)
+            } else {
+                told
+            }
+        }
     }
 }
 
@@ -86,17 +95,18 @@ impl Running {
     }
 
     /// The lower of a definition's fault and of those that the commands before it make.
-    fn lowest(&self, number: Option<u32>, told: Option<u8>) -> Option<u8>
-        ensures { (past : Past) (table : Table) → Tracks past self.now → told ≡ least table → result ≡ least
-            ((6, is_none (unit_in past)) ∷ (10, is_taken_again past number) ∷ (22, in_region past) ∷ table) }
+    fn lowest(&self, number: Option<u32>, told: Option<Refusal>) -> Option<Refusal>
+        ensures { (past : Past) (checks : Checks Refusal) → Tracks past self.now → told ≡ least number_of checks
+            → result ≡ least number_of ((NoUnit, is_none (unit_in past)) ∷ (Redefined, is_taken_again past number)
+            ∷ (StrayBlock, in_region past) ∷ checks) }
     {
-        let told = lower(faults::STRAY_BLOCK, self.region.inside, told);
+        let told = lower(Refusal::StrayBlock, self.region.inside, told);
         let taken = match number {
             None => false,
             Some(number) => self.is_taken(number),
         };
-        let told = lower(faults::REDEFINED, taken, told);
-        lower(faults::NO_UNIT, self.modal.unit.is_none(), told)
+        let told = lower(Refusal::Redefined, taken, told);
+        lower(Refusal::NoUnit, self.modal.unit.is_none(), told)
     }
 
     /// AD: an aperture joins the dictionary.
@@ -110,7 +120,7 @@ impl Running {
                 AdFault::OutOfMemory => Err(Stop::Memory),
                 _ => {
                     let number = ad_number(self.alloc, text)?;
-                    let code = fault.number();
+                    let code = fault.refusal();
                     Err(Stop::Fault(self.lowest(number, Some(code)).unwrap_or(code)))
                 }
             },
@@ -137,22 +147,22 @@ impl Running {
                 MacroFault::Malformed => {
                     let text = pack(self.alloc, text)?;
                     if self.is_named(before_star(&text)) {
-                        return Err(Stop::Fault(faults::REDEFINED));
+                        return Err(Stop::Fault(Refusal::Redefined));
                     }
                     if self.region.inside {
-                        return Err(Stop::Fault(faults::STRAY_BLOCK));
+                        return Err(Stop::Fault(Refusal::StrayBlock));
                     }
-                    Err(Stop::Fault(faults::MACRO_FAULT))
+                    Err(Stop::Fault(Refusal::MacroFault))
                 }
-                MacroFault::BadName => Err(Stop::Fault(faults::UNKNOWN_COMMAND)),
+                MacroFault::BadName => Err(Stop::Fault(Refusal::UnknownCommand)),
                 _ => Err(Stop::Memory),
             },
             Ok(made) => {
                 if self.is_named(made.name.as_slice()) {
-                    return Err(Stop::Fault(faults::REDEFINED));
+                    return Err(Stop::Fault(Refusal::Redefined));
                 }
                 if self.region.inside {
-                    return Err(Stop::Fault(faults::STRAY_BLOCK));
+                    return Err(Stop::Fault(Refusal::StrayBlock));
                 }
                 self.built.macros.add(self.alloc, made)?;
                 Ok(())

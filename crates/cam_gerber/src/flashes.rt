@@ -10,13 +10,12 @@ ghost use Rattle.cam_gerber.specs.Machinery.WellMade.{IsWellMade};
 ghost use Rattle.cam_gerber.specs.Machinery.Tracking.{HasPast, Operates, Takes, TracksPlaces, Weighs};
 
 use crate::checks::is_of_board;
-use crate::faults;
 use crate::homes::Weight;
 use crate::running::Running;
 use crate::state::code_of;
-use crate::stop::Stop;
 use cam_commands::{Operation, OperationCode};
 use cam_objects::Object;
+use cam_refusals::{Refusal, Stop};
 
 impl Running {
     /// How many leaves the object has, and how deep its blocks lie.
@@ -75,10 +74,10 @@ impl Running {
         ensures { Operates code.Flash false operation.now self.old result self.new }
     {
         let Some(aperture) = self.modal.aperture else {
-            return Err(Stop::Fault(faults::NONE_SELECTED));
+            return Err(Stop::Fault(Refusal::NoneSelected));
         };
         let Some(at) = self.modal.moved_point(operation) else {
-            return Err(Stop::Fault(faults::OUT_OF_BOARD));
+            return Err(Stop::Fault(Refusal::OutOfBoard));
         };
         let object = Object::Flash {
             aperture,
@@ -87,10 +86,10 @@ impl Running {
             dark: self.modal.dark,
         };
         let Some(weight) = self.weight_inside(&object) else {
-            return Err(Stop::Fault(faults::OUT_OF_BOARD));
+            return Err(Stop::Fault(Refusal::OutOfBoard));
         };
         if self.is_full(weight) {
-            return Err(Stop::Fault(faults::TOO_MUCH));
+            return Err(Stop::Fault(Refusal::TooMuch));
         }
         self.keep(object, weight.leaves)?;
         self.modal.operated(operation, at);
@@ -122,7 +121,7 @@ impl Running {
             }
             OperationCode::Flash => {
                 if self.region.inside {
-                    Err(Stop::Fault(faults::FLASH_IN_REGION))
+                    Err(Stop::Fault(Refusal::FlashInRegion))
                 } else {
                     self.flash(operation)
                 }

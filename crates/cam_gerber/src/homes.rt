@@ -5,6 +5,7 @@ ghost use Rattle.std.specs.Prelude.{◌+◌, is_some, is_none, IsTrue, OnOk};
 ghost use Rattle.std.specs.Map.{lookup};
 ghost use Rattle.cam_objects.specs.Leaves.{meaning_in, solid_tip};
 ghost use Rattle.cam_objects.specs.declared.object.Object.{Object};
+ghost use Rattle.cam_refusals.specs.Limits.{leaf_limit};
 ghost use Rattle.cam_gerber.specs.Faults.{can_draw, is_full};
 ghost use Rattle.cam_gerber.specs.Homes.{home};
 ghost use Rattle.cam_gerber.specs.Laws.{IsFaultless};
@@ -16,23 +17,15 @@ use crate::built::Built;
 use crate::running::Running;
 use cam_apertures::Aperture;
 use cam_objects::{Entry, Item, Object};
+use cam_refusals::limits::{COUNT_LIMIT, DEPTH_LIMIT, LEAF_LIMIT};
 use std::alloc::AllocError;
-
-/// How many items a layer, and how many objects a block or a repeat may have.
-pub const COUNT_LIMIT: usize = 1_000_000;
-
-/// How many leaves a layer or a block may have.
-pub const LEAF_LIMIT: u64 = 4_000_000;
 
 /// The leaves of an open repeat are counted up to this.
 const LEAF_CAP: u64 = LEAF_LIMIT + 1;
 
-/// How many blocks may lie in one another.
-pub const DEPTH_LIMIT: u64 = 8;
-
 /// Whether there may be so many more leaves than there are.
 pub fn has_room(leaves: u64, more: u64) -> bool
-    ensures { result ≡ nat_le (leaves + more) 4000000 }
+    ensures { result ≡ nat_le (leaves + more) leaf_limit }
 {
     if leaves > LEAF_LIMIT {
         return false;

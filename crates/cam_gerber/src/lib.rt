@@ -8,6 +8,7 @@
 //!
 //! ```rust
 //! use cam_gerber::{ReadFault, read_gerber};
+//! use cam_refusals::Refusal;
 //! use cam_units::Spot;
 //!
 //! let layer = read_gerber(alloc, b"%FSLAX46Y46*%%MOMM*%%ADD10C,1*%D10*X0Y0D03*M02*")?;
@@ -16,9 +17,9 @@
 //! assert!(rt; layer.black_at(Spot { x: 1_000_000, y: 0 }));
 //! assert!(rt; !layer.black_at(Spot { x: 1_000_001, y: 0 }));
 //!
-//! // the command at fault is told by the number of the fault, and by its place in bytes
+//! // a fault is told with the place of its command, in bytes
 //! let fault = read_gerber(alloc, b"%FSLAX46Y46*%%MOMM*%%XY1*%M02*").err();
-//! assert!(rt; fault == Some(ReadFault { code: 3, at: 20 }));
+//! assert!(rt; fault == Some(ReadFault { code: Refusal::UnknownCommand, at: 20 }));
 //! ```
 #![tactic(auto)]
 
@@ -27,7 +28,6 @@ mod blocks;
 mod built;
 mod checks;
 mod definitions;
-mod faults;
 mod flashes;
 mod frames;
 mod homes;
@@ -36,20 +36,18 @@ mod modal;
 mod obeying;
 mod object_list;
 mod operations;
-mod read_fault;
 mod reader;
 mod region;
 mod repeats;
 mod running;
 mod settings;
 mod state;
-mod stop;
 
+pub use cam_refusals::ReadFault;
 pub use laws::{
     attributes_follow_the_rule, files_go_on_behind_their_front, files_mean_one_thing,
     files_mean_what_is_computed, homes_stay_apart, layers_are_sound,
     layers_come_from_faultless_files, no_fault_of_memory, same_settings_change_nothing,
     the_least_fault_is_told,
 };
-pub use read_fault::ReadFault;
 pub use reader::read_gerber;

@@ -4,10 +4,9 @@ ghost use Rattle.std.specs.Prelude.{◌≡◌};
 ghost use Rattle.cam_commands.specs.Borrowed.{shown};
 ghost use Rattle.cam_gerber.specs.Machinery.Tracking.{HasFewDecimals, HasPast, Obeys};
 
-use crate::faults;
 use crate::running::Running;
-use crate::stop::Stop;
 use cam_commands::Command;
+use cam_refusals::{Refusal, Stop};
 
 impl Running {
     /// Takes one more command; it tells the command's fault of the lowest number, or that memory was refused.
@@ -18,7 +17,7 @@ impl Running {
     {
         match command {
             Command::SetFormat(format) => self.set_format(format),
-            Command::RefusedFormat => Err(Stop::Fault(faults::FORMAT_REFUSED)),
+            Command::RefusedFormat => Err(Stop::Fault(Refusal::FormatRefused)),
             Command::SetUnit { unit, style } => self.set_unit(unit, style),
             Command::DefineAperture(text) => self.define(text),
             Command::DefineMacro(text) => self.define_macro(text),
@@ -42,7 +41,7 @@ impl Running {
             Command::Select(number) => self.select(number),
             Command::Operate(operation) => self.operate(&operation),
             Command::End => self.end(),
-            Command::Unknown => Err(Stop::Fault(faults::UNKNOWN_COMMAND)),
+            Command::Unknown => Err(Stop::Fault(Refusal::UnknownCommand)),
         }
     }
 }

@@ -6,12 +6,12 @@ ghost use Rattle.cam_commands.specs.Commands as command;
 ghost use Rattle.cam_commands.specs.declared.parts.OperationCode.TheVariants as code;
 ghost use Rattle.cam_gerber.specs.Machinery.Tracking.{EndsContour, Operates, Takes};
 
-use crate::faults;
-use crate::homes::{COUNT_LIMIT, Weight};
+use crate::homes::Weight;
 use crate::running::Running;
-use crate::stop::Stop;
 use cam_commands::Operation;
 use cam_objects::Object;
+use cam_refusals::limits::COUNT_LIMIT;
+use cam_refusals::{Refusal, Stop};
 use cam_shapes::{Contour, Seg, Segments};
 use cam_units::Point;
 use std::mem;
@@ -32,10 +32,10 @@ impl Running {
         ensures { Operates code.Plot false operation.now self.old result self.new }
     {
         let Some(aperture) = self.modal.aperture else {
-            return Err(Stop::Fault(faults::NONE_SELECTED));
+            return Err(Stop::Fault(Refusal::NoneSelected));
         };
         if !self.built.can_draw(aperture, self.modal.is_arc(operation)) {
-            return Err(Stop::Fault(faults::WRONG_APERTURE));
+            return Err(Stop::Fault(Refusal::WrongAperture));
         }
         let seg = match self.modal.path(operation) {
             Ok(seg) => seg,
@@ -43,7 +43,7 @@ impl Running {
         };
         let object = self.modal.stroke(aperture, seg);
         if self.is_full(Weight::ONE) {
-            return Err(Stop::Fault(faults::TOO_MUCH));
+            return Err(Stop::Fault(Refusal::TooMuch));
         }
         self.keep(object, 1)?;
         self.modal.operated(operation, end_of(seg));
@@ -59,7 +59,7 @@ impl Running {
             Err(code) => return Err(Stop::Fault(code)),
         };
         if self.region.segs.len() >= COUNT_LIMIT {
-            return Err(Stop::Fault(faults::TOO_MUCH));
+            return Err(Stop::Fault(Refusal::TooMuch));
         }
         self.region.segs.push(seg)?;
         self.modal.operated(operation, end_of(seg));
@@ -71,7 +71,7 @@ impl Running {
         ensures { Operates code.Move false operation.now self.old result self.new }
     {
         let Some(to) = self.modal.moved_point(operation) else {
-            return Err(Stop::Fault(faults::OUT_OF_BOARD));
+            return Err(Stop::Fault(Refusal::OutOfBoard));
         };
         self.modal.operated(operation, to);
         Ok(())
@@ -82,7 +82,7 @@ impl Running {
         ensures { Operates code.Move true operation.now self.old result self.new }
     {
         let Some(to) = self.modal.moved_point(operation) else {
-            return Err(Stop::Fault(faults::OUT_OF_BOARD));
+            return Err(Stop::Fault(Refusal::OutOfBoard));
         };
         if let Err(stop) = self.end_contour() {
             return Err(stop);
@@ -109,7 +109,7 @@ impl Running {
             dark: self.modal.dark,
         };
         if self.is_full(Weight::ONE) {
-            return Err(Stop::Fault(faults::TOO_MUCH));
+            return Err(Stop::Fault(Refusal::TooMuch));
         }
         self.keep(object, 1)?;
         Ok(())
@@ -120,7 +120,7 @@ impl Running {
         ensures { Takes command.EndRegion self.old result self.new }
     {
         if !self.region.inside {
-            return Err(Stop::Fault(faults::NOT_IN_REGION));
+            return Err(Stop::Fault(Refusal::NotInRegion));
         }
         if let Err(stop) = self.end_contour() {
             return Err(stop);

@@ -5,12 +5,10 @@ ghost use Rattle.cam_commands.specs.Borrowed.{shown};
 ghost use Rattle.cam_objects.specs.Soundness.{IsSound};
 ghost use Rattle.cam_gerber.specs.Reading.{IsReading, is_end_command};
 
-use crate::faults;
-use crate::read_fault::ReadFault;
 use crate::running::Running;
-use crate::stop::Stop;
 use cam_commands::{Command, command_of, place_of};
 use cam_objects::Layer;
+use cam_refusals::{ReadFault, Refusal, Stop};
 use cam_words::Words;
 use std::alloc::Global;
 
@@ -23,7 +21,7 @@ fn is_end(command: &Command<'_>) -> bool
 
 /// The layer of a Gerber file up to its first M02, or its first fault: that of the command which stands
 /// first, and of several at one command the one with the lowest number. Where memory is refused, the fault
-/// is number 30 at place 0. The layer is sound.
+/// is `NoMemory` at place 0. The layer is sound.
 ///
 /// (Gerber Layer Format Specification, "Syntax", "Graphics state" and "Graphics objects".)
 pub fn read_gerber(alloc: Global, bytes: &[u8]) -> Result<Layer, ReadFault>
@@ -59,7 +57,7 @@ pub fn read_gerber(alloc: Global, bytes: &[u8]) -> Result<Layer, ReadFault>
         }
     }
     Err(ReadFault {
-        code: faults::NO_END,
+        code: Refusal::NoEnd,
         at: bytes.len(),
     })
 }

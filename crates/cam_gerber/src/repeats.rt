@@ -12,14 +12,14 @@ ghost use Rattle.cam_gerber.specs.Machinery.WellMade.{IsWellMadeItem};
 
 use crate::built::Built;
 use crate::checks::is_of_board;
-use crate::faults;
 use crate::frames::OpenRepeat;
-use crate::homes::{COUNT_LIMIT, has_room};
+use crate::homes::has_room;
 use crate::object_list::ObjectList;
 use crate::running::Running;
-use crate::stop::Stop;
 use cam_commands::{Repeat, Slot};
 use cam_objects::Item;
+use cam_refusals::limits::{BOARD_LIMIT, COUNT_LIMIT};
+use cam_refusals::{Refusal, Stop};
 use cam_units::{Nm, Unit, fix9_nm};
 use std::alloc::Global;
 
@@ -53,7 +53,7 @@ fn is_malformed<T>(slot: &Slot<T>) -> bool
 fn is_short(step: Nm) -> bool
     ensures { result ≡ is_short step.0 }
 {
-    step.0.unsigned_abs() < 1_000_000_000
+    step.0.unsigned_abs() < BOARD_LIMIT
 }
 
 /// Whether there is more than one copy.
@@ -137,13 +137,13 @@ impl Built {
         ensures { Adds item leaves self.old result self.new }
     {
         if self.is_outside(&item) {
-            return Err(Stop::Fault(faults::OUT_OF_BOARD));
+            return Err(Stop::Fault(Refusal::OutOfBoard));
         }
         if self.layer.items.len() >= COUNT_LIMIT {
-            return Err(Stop::Fault(faults::TOO_MUCH));
+            return Err(Stop::Fault(Refusal::TooMuch));
         }
         if !has_room(self.leaves, leaves) {
-            return Err(Stop::Fault(faults::TOO_MUCH));
+            return Err(Stop::Fault(Refusal::TooMuch));
         }
         self.layer.items.push(item)?;
         self.leaves += leaves;
@@ -183,19 +183,19 @@ impl Running {
         ensures { Takes (command.SetRepeat repeat.now) self.old result self.new }
     {
         if has_malformed(repeat) {
-            return Err(Stop::Fault(faults::BAD_NUMBER));
+            return Err(Stop::Fault(Refusal::BadNumber));
         }
         let Some(unit) = self.modal.unit else {
-            return Err(Stop::Fault(faults::NO_UNIT));
+            return Err(Stop::Fault(Refusal::NoUnit));
         };
         if self.is_nested(repeat) {
-            return Err(Stop::Fault(faults::NESTED_REPEAT));
+            return Err(Stop::Fault(Refusal::NestedRepeat));
         }
         if self.region.inside {
-            return Err(Stop::Fault(faults::STRAY_BLOCK));
+            return Err(Stop::Fault(Refusal::StrayBlock));
         }
         if !has_short_steps(unit, repeat) {
-            return Err(Stop::Fault(faults::OUT_OF_BOARD));
+            return Err(Stop::Fault(Refusal::OutOfBoard));
         }
         if let Err(stop) = self.settle() {
             return Err(stop);
@@ -212,7 +212,7 @@ impl Running {
         ensures { Takes command.CloseRepeat self.old result self.new }
     {
         if self.region.inside {
-            return Err(Stop::Fault(faults::STRAY_BLOCK));
+            return Err(Stop::Fault(Refusal::StrayBlock));
         }
         self.settle()
     }
@@ -223,10 +223,10 @@ impl Running {
         ensures { Takes command.End self.old result self.new }
     {
         if self.region.inside {
-            return Err(Stop::Fault(faults::STRAY_BLOCK));
+            return Err(Stop::Fault(Refusal::StrayBlock));
         }
         if !self.frames.blocks.is_empty() {
-            return Err(Stop::Fault(faults::STRAY_BLOCK));
+            return Err(Stop::Fault(Refusal::StrayBlock));
         }
         self.settle()
     }

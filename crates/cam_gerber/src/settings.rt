@@ -6,10 +6,9 @@ ghost use Rattle.cam_gerber.specs.State.{Past, is_dark, turn_of_angle, turn_of_m
 ghost use Rattle.cam_gerber.specs.Faults.{is_no_quarter};
 ghost use Rattle.cam_gerber.specs.Machinery.Tracking.{Takes, Tracks};
 
-use crate::faults;
 use crate::running::Running;
-use crate::stop::Stop;
 use cam_commands::{Format, Mirror, Mode, Polarity, Style};
+use cam_refusals::{Refusal, Stop};
 use cam_units::{Turn, Unit};
 
 /// So many 10^-9 of a degree in a quarter turn.
@@ -82,11 +81,11 @@ impl Running {
     {
         if let Some(set) = self.modal.format {
             if set != format {
-                return Err(Stop::Fault(faults::SET_AGAIN));
+                return Err(Stop::Fault(Refusal::SetAgain));
             }
         }
         if self.region.inside {
-            return Err(Stop::Fault(faults::STRAY_BLOCK));
+            return Err(Stop::Fault(Refusal::StrayBlock));
         }
         self.modal.format = Some(format);
         Ok(())
@@ -98,11 +97,11 @@ impl Running {
     {
         if let Some(set) = self.modal.unit {
             if set != unit {
-                return Err(Stop::Fault(faults::SET_AGAIN));
+                return Err(Stop::Fault(Refusal::SetAgain));
             }
         }
         if style == Style::Extended && self.region.inside {
-            return Err(Stop::Fault(faults::STRAY_BLOCK));
+            return Err(Stop::Fault(Refusal::StrayBlock));
         }
         self.modal.unit = Some(unit);
         Ok(())
@@ -113,7 +112,7 @@ impl Running {
         ensures { Takes (command.SetPolarity polarity) self.old result self.new }
     {
         if self.region.inside {
-            return Err(Stop::Fault(faults::STRAY_BLOCK));
+            return Err(Stop::Fault(Refusal::StrayBlock));
         }
         self.modal.dark = is_dark(polarity);
         Ok(())
@@ -124,7 +123,7 @@ impl Running {
         ensures { Takes (command.SetMirror mirror) self.old result self.new }
     {
         if self.region.inside {
-            return Err(Stop::Fault(faults::STRAY_BLOCK));
+            return Err(Stop::Fault(Refusal::StrayBlock));
         }
         self.modal.mirror = turn_of_mirror(mirror);
         Ok(())
@@ -135,14 +134,14 @@ impl Running {
         ensures { Takes (command.SetRotation angle) self.old result self.new }
     {
         let Some(billionths) = angle else {
-            return Err(Stop::Fault(faults::BAD_NUMBER));
+            return Err(Stop::Fault(Refusal::BadNumber));
         };
         let angle = Angle { billionths };
         if angle.is_no_quarter() {
-            return Err(Stop::Fault(faults::ROTATION_REFUSED));
+            return Err(Stop::Fault(Refusal::RotationRefused));
         }
         if self.region.inside {
-            return Err(Stop::Fault(faults::STRAY_BLOCK));
+            return Err(Stop::Fault(Refusal::StrayBlock));
         }
         self.modal.rotation = angle.turn();
         Ok(())
@@ -153,13 +152,13 @@ impl Running {
         ensures { Takes (command.SetScale scale) self.old result self.new }
     {
         let Some(scale) = scale else {
-            return Err(Stop::Fault(faults::BAD_NUMBER));
+            return Err(Stop::Fault(Refusal::BadNumber));
         };
         if scale != ONE {
-            return Err(Stop::Fault(faults::SCALE_REFUSED));
+            return Err(Stop::Fault(Refusal::ScaleRefused));
         }
         if self.region.inside {
-            return Err(Stop::Fault(faults::STRAY_BLOCK));
+            return Err(Stop::Fault(Refusal::StrayBlock));
         }
         Ok(())
     }
@@ -193,7 +192,7 @@ impl Running {
         ensures { Takes command.NeutralOld self.old result self.new }
     {
         if self.region.inside {
-            return Err(Stop::Fault(faults::STRAY_BLOCK));
+            return Err(Stop::Fault(Refusal::StrayBlock));
         }
         Ok(())
     }
@@ -203,9 +202,9 @@ impl Running {
         ensures { Takes (command.RefusedOld style) self.old result self.new }
     {
         if style == Style::Extended && self.region.inside {
-            return Err(Stop::Fault(faults::STRAY_BLOCK));
+            return Err(Stop::Fault(Refusal::StrayBlock));
         }
-        Err(Stop::Fault(faults::OLD_REFUSED))
+        Err(Stop::Fault(Refusal::OldRefused))
     }
 
     /// G36: a region begins.
@@ -213,7 +212,7 @@ impl Running {
         ensures { Takes command.BeginRegion self.old result self.new }
     {
         if self.region.inside {
-            return Err(Stop::Fault(faults::STRAY_BLOCK));
+            return Err(Stop::Fault(Refusal::StrayBlock));
         }
         self.region.inside = true;
         self.region.start = self.modal.point;
@@ -226,10 +225,10 @@ impl Running {
         ensures { Takes (command.Select number) self.old result self.new }
     {
         let Some(number) = number else {
-            return Err(Stop::Fault(faults::BAD_NUMBER));
+            return Err(Stop::Fault(Refusal::BadNumber));
         };
         if !self.built.is_defined(number) {
-            return Err(Stop::Fault(faults::UNKNOWN_APERTURE));
+            return Err(Stop::Fault(Refusal::UnknownAperture));
         }
         self.modal.aperture = Some(number);
         Ok(())

@@ -9,14 +9,14 @@ ghost use Rattle.cam_gerber.specs.Faults.{is_same_point, is_written, lacks_code,
 ghost use Rattle.cam_shapes.specs.declared.segments.Seg.TheVariants.{Line, Curve};
 ghost use Rattle.cam_gerber.specs.Making.{segment};
 ghost use Rattle.cam_gerber.specs.State.{Past, code_of, decimals_of, unit_or_mm};
-ghost use Rattle.cam_gerber.specs.Machinery.Tracking.{IsJudged, IsOperated, Tells, TracksModal, centre_by, first_of};
-ghost use Rattle.cam_gerber.specs.Machinery.Tracking.{mode_by, moved, moved_point, path_table, stroke_along};
+ghost use Rattle.cam_gerber.specs.Machinery.Tracking.{IsJudged, IsOperated, StopsAtFirst, TracksModal, centre_by};
+ghost use Rattle.cam_gerber.specs.Machinery.Tracking.{mode_by, moved, moved_point, path_faults_by, stroke_along};
+ghost use Rattle.cam_refusals.specs.Checks.{first};
 
-use crate::faults;
 use crate::modal::Modal;
-use crate::stop::Stop;
 use cam_commands::{Mode, Operation, OperationCode, Slot};
 use cam_objects::Object;
+use cam_refusals::Refusal;
 use cam_shapes::Seg;
 use cam_units::{Nm, Point, Turn, Unit, coord_nm, fits_board};
 
@@ -161,24 +161,24 @@ impl Modal {
     }
 
     /// What any operation may be refused for.
-    pub fn leading_fault(&self, operation: &Operation) -> Option<u8>
+    pub fn leading_fault(&self, operation: &Operation) -> Option<Refusal>
         ensures { (past : Past) → TracksModal past self.now
-            → result ≡ first_of (leading_faults past operation.now) }
+            → result ≡ first (leading_faults past operation.now) }
     {
         if self.lacks_code(operation) {
-            return Some(faults::UNKNOWN_COMMAND);
+            return Some(Refusal::UnknownCommand);
         }
         if has_malformed(operation) {
-            return Some(faults::BAD_NUMBER);
+            return Some(Refusal::BadNumber);
         }
         if !has_coordinate(operation) {
             return None;
         }
         if self.format.is_none() {
-            return Some(faults::NO_FORMAT);
+            return Some(Refusal::NoFormat);
         }
         if self.unit.is_none() {
-            return Some(faults::NO_UNIT);
+            return Some(Refusal::NoUnit);
         }
         None
     }
@@ -200,50 +200,50 @@ impl Modal {
     }
 
     /// The line to the point of the operation.
-    fn line(&self, operation: &Operation) -> Result<Seg, u8>
+    fn line(&self, operation: &Operation) -> Result<Seg, Refusal>
         ensures ok { IfOk result (λ seg. seg ≡ Line (moved_point self.now operation.now)) }
         ensures on_board { IfOk result (λ seg. is_on_board (moved_point self.now operation.now) ≡ true) }
-        ensures faults { Tells result
+        ensures faults { StopsAtFirst result
             (path_faults false self.now.arcs self.now.point
             (moved_point self.now operation.now) (centre_by self.now operation.now)) }
     {
         match self.moved_point(operation) {
             Some(to) => Ok(Seg::Line { to }),
-            None => Err(faults::OUT_OF_BOARD),
+            None => Err(Refusal::OutOfBoard),
         }
     }
 
     /// The arc to the point of the operation.
-    fn arc(&self, operation: &Operation, ccw: bool) -> Result<Seg, u8>
+    fn arc(&self, operation: &Operation, ccw: bool) -> Result<Seg, Refusal>
         ensures ok { IfOk result (λ seg. seg
             ≡ Curve (moved_point self.now operation.now) (centre_by self.now operation.now) ccw) }
         ensures on_board { IfOk result (λ seg. is_on_board (moved_point self.now operation.now) ≡ true) }
-        ensures faults { Tells result
+        ensures faults { StopsAtFirst result
             (path_faults true self.now.arcs self.now.point
             (moved_point self.now operation.now) (centre_by self.now operation.now)) }
     {
         if !self.arcs {
-            return Err(faults::ARC_MODE);
+            return Err(Refusal::ArcMode);
         }
         let Some(centre) = self.centre(operation) else {
-            return Err(faults::OUT_OF_BOARD);
+            return Err(Refusal::OutOfBoard);
         };
         if is_same_point(self.point, centre) {
-            return Err(faults::ZERO_RADIUS);
+            return Err(Refusal::ZeroRadius);
         }
         let Some(to) = self.moved_point(operation) else {
-            return Err(faults::OUT_OF_BOARD);
+            return Err(Refusal::OutOfBoard);
         };
         Ok(Seg::Curve { to, centre, ccw })
     }
 
     /// The line or the arc that is plotted.
-    pub fn path(&self, operation: &Operation) -> Result<Seg, u8>
+    pub fn path(&self, operation: &Operation) -> Result<Seg, Refusal>
         ensures ok { IfOk result (λ seg. seg
             ≡ segment (mode_by self.now operation.now) (moved_point self.now operation.now)
             (centre_by self.now operation.now)) }
         ensures on_board { IfOk result (λ seg. is_on_board (moved_point self.now operation.now) ≡ true) }
-        ensures faults { Tells result (path_table self.now operation.now) }
+        ensures faults { StopsAtFirst result (path_faults_by self.now operation.now) }
     {
         let mode = self.mode_of(operation);
         match mode {

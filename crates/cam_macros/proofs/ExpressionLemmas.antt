@@ -6,8 +6,8 @@ use Rattle.cam_macros.specs.Postfix.{postfix, tree_of, tree_of-postfix}
 use Rattle.cam_macros.specs.Grammar.{IsExpression}
 use Rattle.cam_macros.specs.Scanning.{scanned}
 use Rattle.cam_macros.specs.Machinery.Scanning.{IsFaultOf}
-use Rattle.cam_macros.specs.Answers.{Nothing, Tells}
-use Rattle.cam_macros.proofs.FaultLemmas.{tells_also}
+use Rattle.cam_macros.specs.Answers.{IsMalformed, Nothing}
+use Rattle.cam_macros.proofs.FaultLemmas.{malformed_also}
 use Rattle.cam_macros.proofs.Machine.{expression_read}
 use Rattle.cam_macros.proofs.Soundness.{steps_found}
 
@@ -22,8 +22,8 @@ tree_is text steps e =
     subst (IsExpression text) (sym (ap tree_of found.1 ∙ tree_of-postfix found.0)) found.2
 
 pub no_expression : (fault : MacroFault) (text : List ℕ) → IsFaultOf fault (scanned text)
-    → Tells fault (Nothing (IsExpression text))
-no_expression fault text f = tells_also fault (λ none tree h. cc (expression_read text tree h)) f
+    → IsMalformed fault (Nothing (IsExpression text))
+no_expression fault text f = malformed_also fault (λ none tree h. cc (expression_read text tree h)) f
 
 -- what a text that is read, or is not, stands for
 pub ruleset kept_expressions = (steps_are, tree_is, no_expression)

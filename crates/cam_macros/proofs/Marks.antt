@@ -11,7 +11,7 @@ use Rattle.cam_macros.specs.declared.parsing.mark.Mark.{Mark}
 use Rattle.cam_macros.specs.declared.parsing.mark.Mark.TheVariants.{Numeral, Dollar, Open, Close, Plus, Minus, Times, Over}
 use Rattle.cam_macros.specs.declared.parsing.mark.Mark.TheVariants.{Other}
 use Rattle.cam_macros.specs.declared.fault.MacroFault.{MacroFault}
-use Rattle.cam_macros.proofs.FaultLemmas.{tells_also}
+use Rattle.cam_macros.proofs.FaultLemmas.{malformed_also}
 use Rattle.cam_macros.specs.Scanning.{Behind, finished, goes_on, InNumber, InVariable, is_numeric, mark_of, number_of}
 use Rattle.cam_macros.specs.Scanning.{operand_at, operator_at, Scan, scan, Status, variable_of, Wanted, with_step}
 use Rattle.cam_macros.specs.Machinery.Scanning.{IsFaultOf, number_then, prefixed, scan_behind, scan_wanted, status_of}
@@ -136,7 +136,7 @@ prefix_is s t b bs h k e = prefix_at (mark_of b) s b bs h k ∙ ap (λ o. scan_w
 -- a fault of a part is one of the whole
 pub fault_of : {A B : Type 0} (fault : MacroFault) (part : Option A) (whole : Option B) → (part ≡ None → whole ≡ None)
     → IsFaultOf fault part → IsFaultOf fault whole
-fault_of fault part whole h f = tells_also fault h f
+fault_of fault part whole h f = malformed_also fault h f
 
 pub prefix_faulty : (fault : MacroFault) (s : Scan) (b : ℕ) (bs : List ℕ) → (mark_of b ≡ Numeral → ⊥)
     → (mark_of b ≡ Dollar → ⊥) → IsFaultOf fault (prefixed (mark_of b) s) → IsFaultOf fault (scan Wanted s (b ∷ bs))

@@ -15,9 +15,9 @@ use Rattle.cam_numbers.proofs.Naturals.{natural-digits}
 use Rattle.cam_numbers.proofs.Written.{natural_found}
 use Rattle.cam_macros.specs.Grammar.{AreDigits, IsExpression}
 use Rattle.cam_macros.specs.Scanning.{variable_of}
-use Rattle.cam_macros.specs.Answers.{Nothing, Tells}
+use Rattle.cam_macros.specs.Answers.{IsMalformed, Nothing}
 use Rattle.cam_macros.specs.Reading.{AreExpressions, IsAssignment, IsPrimitive, IsPart}
-use Rattle.cam_macros.proofs.FaultLemmas.{tells_also}
+use Rattle.cam_macros.proofs.FaultLemmas.{malformed_also}
 use Rattle.cam_macros.proofs.CutLemmas.{first_piece}
 use Rattle.cam_macros.proofs.Machine.{variable_is}
 use Rattle.cam_macros.proofs.Levels.{variable_found}
@@ -86,10 +86,10 @@ no_variable behind digits text e none variable value h =
     cc
 
 pub no_value : (fault : MacroFault) (behind digits text : List ℕ) → cut_at equals behind ≡ digits ∷ cut_at equals text
-    → Tells fault (Nothing (IsExpression text))
-    → Tells fault ((variable : ℕ) → Nothing (IsAssignment (dollar ∷ behind) variable))
+    → IsMalformed fault (Nothing (IsExpression text))
+    → IsMalformed fault ((variable : ℕ) → Nothing (IsAssignment (dollar ∷ behind) variable))
 no_value fault behind digits text e f =
-    tells_also fault
+    malformed_also fault
     (λ none variable value h.
     none value (subst (λ t. IsExpression t value) (same_text behind digits text e variable value h) h.reads))
     f
@@ -150,10 +150,10 @@ no_code piece digits texts e none code fields h =
     cc
 
 pub no_fields : (fault : MacroFault) (piece digits : List ℕ) (texts : List (List ℕ))
-    → cut_at comma piece ≡ digits ∷ texts → Tells fault (Nothing (AreExpressions texts))
-    → Tells fault ((code : ℕ) → Nothing (IsPrimitive piece code))
+    → cut_at comma piece ≡ digits ∷ texts → IsMalformed fault (Nothing (AreExpressions texts))
+    → IsMalformed fault ((code : ℕ) → Nothing (IsPrimitive piece code))
 no_fields fault piece digits texts e f =
-    tells_also fault
+    malformed_also fault
     (λ none code fields h.
     let same : h.texts ≡ texts = cc (h.written) in
     none fields (subst (λ l. AreExpressions l fields) same h.reads))
@@ -169,10 +169,10 @@ dollar_no_digits behind digits texts e all =
     cc (ap (list_all is_ascii_digit) first)
 
 pub dollar_part : (fault : MacroFault) (behind : List ℕ)
-    → Tells fault ((variable : ℕ) → Nothing (IsAssignment (dollar ∷ behind) variable))
-    → Tells fault (Nothing (IsPart (dollar ∷ behind)))
+    → IsMalformed fault ((variable : ℕ) → Nothing (IsAssignment (dollar ∷ behind) variable))
+    → IsMalformed fault (Nothing (IsPart (dollar ∷ behind)))
 dollar_part fault behind f =
-    tells_also fault
+    malformed_also fault
     (λ none part. elim part as (λ p. IsPart (dollar ∷ behind) p → ⊥) [
       | Assignment variable value ↦ λ h. none variable value h
       | Primitive code fields ↦ λ h. dollar_no_digits behind h.digits h.texts h.written h.number
@@ -189,9 +189,9 @@ no_dollar [] variable value none h = cc (h.written)
 no_dollar (b ∷ piece) variable value none h = none (cc (h.written))
 
 pub other_part : (fault : MacroFault) (piece : List ℕ) → IsNoDollar piece
-    → Tells fault ((code : ℕ) → Nothing (IsPrimitive piece code)) → Tells fault (Nothing (IsPart piece))
+    → IsMalformed fault ((code : ℕ) → Nothing (IsPrimitive piece code)) → IsMalformed fault (Nothing (IsPart piece))
 other_part fault piece dollarless f =
-    tells_also fault
+    malformed_also fault
     (λ none part. elim part as (λ p. IsPart piece p → ⊥) [
       | Assignment variable value ↦ λ h. no_dollar piece variable value dollarless h
       | Primitive code fields ↦ λ h. none code fields h

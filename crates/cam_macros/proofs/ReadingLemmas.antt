@@ -8,8 +8,8 @@ use Rattle.cam_macros.specs.declared.fault.MacroFault.TheVariants.{BadName, Malf
 use Rattle.cam_macros.specs.declared.fault.MacroFault.TheVariants.{RotationRefused, SizeRefused, OutOfMemory}
 use Rattle.cam_macros.specs.Tree.{Tree}
 use Rattle.cam_macros.specs.Grammar.{IsExpression}
-use Rattle.cam_macros.specs.Answers.{Nothing, Tells}
-use Rattle.cam_macros.proofs.FaultLemmas.{tells_also}
+use Rattle.cam_macros.specs.Answers.{IsMalformed, Nothing}
+use Rattle.cam_macros.proofs.FaultLemmas.{malformed_also}
 use Rattle.cam_macros.specs.Reading.{AreExpressions, AreParts, IsPart, IsRefused, first, others, pieces, is_name}
 use Rattle.cam_macros.specs.Reading.{is_silent, spoken}
 
@@ -48,10 +48,10 @@ pub fields_end : (all : List (List ℕ)) (items : List Tree) → AreReadBefore [
 fields_end all items k = subst (AreExpressions all) (append-nil items) (k.forth [] tt)
 
 pub fields_fault : (fault : MacroFault) (text : List ℕ) (left all : List (List ℕ)) (items : List Tree)
-    → AreReadBefore (text ∷ left) all items → Tells fault (Nothing (IsExpression text))
-    → Tells fault (Nothing (AreExpressions all))
+    → AreReadBefore (text ∷ left) all items → IsMalformed fault (Nothing (IsExpression text))
+    → IsMalformed fault (Nothing (AreExpressions all))
 fields_fault fault text left all items k f =
-    tells_also fault
+    malformed_also fault
     (λ none trees h.
     let found = k.back trees h in
     let first = head_read text left found.0 found.1 in
@@ -104,11 +104,11 @@ parts_end all items k = subst (AreParts all) (append-nil items) (k.forth [] tt)
 
 pub parts_fault : (fault : MacroFault) (piece : List ℕ) (left all : List (List ℕ)) (items : List Part)
     → is_silent piece ≡ false → ArePartsBefore (spoken (piece ∷ left)) (spoken all) items
-    → Tells fault (Nothing (IsPart piece)) → Tells fault (Nothing (AreParts (spoken all)))
+    → IsMalformed fault (Nothing (IsPart piece)) → IsMalformed fault (Nothing (AreParts (spoken all)))
 parts_fault fault piece left all items e k f =
     let begun : ArePartsBefore (piece ∷ spoken left) (spoken all) items =
     subst (λ l. ArePartsBefore l (spoken all) items) (spoken_yes piece left e) k in
-    tells_also fault
+    malformed_also fault
     (λ none parts h.
     let found = begun.back parts h in
     let part = head_part piece (spoken left) found.0 found.1 in
@@ -117,7 +117,7 @@ parts_fault fault piece left all items e k f =
 
 -- a fault of the parts is one of the macro
 pub refused : (fault : MacroFault) (text name : List ℕ) (rest : List (List ℕ)) → pieces text ≡ name ∷ rest
-    → is_name name ≡ true → Tells fault (Nothing (AreParts (spoken rest))) → IsRefused text fault
+    → is_name name ≡ true → IsMalformed fault (Nothing (AreParts (spoken rest))) → IsRefused text fault
 refused OutOfMemory text name rest e named f = tt
 refused Malformed text name rest e named f = (
   ap (λ l. is_name (first l)) e

@@ -1,26 +1,19 @@
 -- What a fault of a call says: the fault that is meant, or that memory ran out.
 use Rattle.std.specs.Prelude.{◌≡◌, Result, Err, ⊤}
+use Rattle.cam_refusals.specs.Refusals.{UnlessMemory}
 use Rattle.cam_macros.specs.declared.fault.MacroFault.{MacroFault}
-use Rattle.cam_macros.specs.declared.fault.MacroFault.TheVariants.{BadName, Malformed, PrimitiveRefused}
-use Rattle.cam_macros.specs.declared.fault.MacroFault.TheVariants.{RotationRefused, SizeRefused, OutOfMemory}
+use Rattle.cam_macros.specs.declared.fault.MacroFault.TheVariants.{Malformed, OutOfMemory}
+use Rattle.cam_macros.specs.Faults.{refusal_of}
 
 -- the fault that is meant, or want of memory
 abbrev pub IsUnlessMemory : {A : Type 0} → MacroFault → Result A MacroFault → Type 0
-IsUnlessMemory OutOfMemory meant = ⊤
-IsUnlessMemory Malformed meant = meant ≡ Err Malformed
-IsUnlessMemory BadName meant = meant ≡ Err BadName
-IsUnlessMemory PrimitiveRefused meant = meant ≡ Err PrimitiveRefused
-IsUnlessMemory RotationRefused meant = meant ≡ Err RotationRefused
-IsUnlessMemory SizeRefused meant = meant ≡ Err SizeRefused
+IsUnlessMemory fault meant = UnlessMemory (refusal_of fault) (meant ≡ Err fault)
 
 -- the fault is `Malformed`, which tells that P is so, or memory ran out
-abbrev pub Tells : MacroFault → Type 0 → Type 0
-Tells Malformed P = P
-Tells OutOfMemory P = ⊤
-Tells BadName P = ⊥
-Tells PrimitiveRefused P = ⊥
-Tells RotationRefused P = ⊥
-Tells SizeRefused P = ⊥
+abbrev pub IsMalformed : MacroFault → Type 0 → Type 0
+IsMalformed Malformed P = P
+IsMalformed OutOfMemory P = ⊤
+IsMalformed _ P = ⊥
 
 -- P holds of nothing
 abbrev pub Nothing : {A : Type 0} → (A → Type 0) → Type 0

@@ -2,6 +2,7 @@
 use Rattle.std.specs.Prelude.{ℕ, zero, suc, ◌+◌, ◌*◌, ◌/◌, ◌%◌, ◌==◌, ◌||◌, ◌&&◌, nat_lt, nat_le, Bool, true, false}
 use Rattle.std.specs.Prelude.{if◌then◌else◌, ℤ, pos, negsuc, unsigned_abs, List, [], ◌∷◌, ◌++◌, length, take, drop}
 use Rattle.std.specs.Prelude.{Option, Some, None, unwrap_or, ok_or, Result, Ok, Err}
+use Rattle.cam_refusals.specs.Limits.{size_limit}
 use Rattle.cam_units.specs.declared.length.Unit.{Unit as FileUnit}
 use Rattle.cam_units.specs.declared.length.Nm.{Nm}
 use Rattle.cam_units.specs.declared.point.Point.{Point}
@@ -70,7 +71,7 @@ turn_of (_ ∷ _ ∷ _) = Err Malformed
 
 -- a diameter, side or width is from 0 to 200 mm, once rounded
 abbrev pub size : ℤ → Result Nm MacroFault
-size (pos n) = if nat_le n 200000000 then Ok (record { 0 = pos n }) else Err SizeRefused
+size (pos n) = if nat_le n size_limit then Ok (record { 0 = pos n }) else Err SizeRefused
 size (negsuc n) = Err SizeRefused
 
 abbrev pub size_of : FileUnit → ℤ → Result Nm MacroFault
@@ -78,7 +79,7 @@ size_of unit v = size (fix9_of v unit)
 
 -- a coordinate is at most 200 mm in absolute value, once rounded
 abbrev pub coordinate : ℤ → Result Nm MacroFault
-coordinate n = if nat_le (unsigned_abs n) 200000000 then Ok (record { 0 = n }) else Err SizeRefused
+coordinate n = if nat_le (unsigned_abs n) size_limit then Ok (record { 0 = n }) else Err SizeRefused
 
 abbrev pub coordinate_of : FileUnit → ℤ → Result Nm MacroFault
 coordinate_of unit v = coordinate (fix9_of v unit)

@@ -1,13 +1,14 @@
--- Refusals by their numbers.
-use Rattle.std.specs.Prelude.{ℕ}
+-- The refusals that tell faults of macros.
+use Rattle.cam_refusals.specs.declared.refusal.Refusal.{Refusal}
+use Rattle.cam_refusals.specs.declared.refusal.Refusal.TheVariants as refusal
 use Rattle.cam_macros.specs.declared.fault.MacroFault.{MacroFault}
 use Rattle.cam_macros.specs.declared.fault.MacroFault.TheVariants.{BadName, Malformed, PrimitiveRefused}
 use Rattle.cam_macros.specs.declared.fault.MacroFault.TheVariants.{RotationRefused, SizeRefused, OutOfMemory}
 
-abbrev pub number_of : MacroFault → ℕ
-number_of BadName = 3
-number_of PrimitiveRefused = 12
-number_of RotationRefused = 13
-number_of SizeRefused = 24
-number_of Malformed = 29
-number_of OutOfMemory = 30
+abbrev pub refusal_of : MacroFault → Refusal
+refusal_of BadName = refusal.UnknownCommand
+refusal_of PrimitiveRefused = refusal.PrimitiveRefused
+refusal_of RotationRefused = refusal.RotationRefused
+refusal_of SizeRefused = refusal.SizeRefused
+refusal_of Malformed = refusal.MacroFault
+refusal_of OutOfMemory = refusal.NoMemory

@@ -10,7 +10,7 @@ use Rattle.cam_macros.specs.declared.fault.MacroFault.{MacroFault}
 use Rattle.cam_macros.specs.declared.fault.MacroFault.TheVariants.{BadName}
 use Rattle.cam_words.specs.Bytes.{star}
 use Rattle.cam_words.specs.Heads.{packed}
-use Rattle.cam_macros.specs.Answers.{Nothing, Tells}
+use Rattle.cam_macros.specs.Answers.{IsMalformed, Nothing}
 use Rattle.cam_macros.specs.Bytes.{comma, dollar, equals, nought}
 use Rattle.cam_macros.specs.Tree.{Tree}
 use Rattle.cam_numbers.specs.Numbers.{value_of}
@@ -87,7 +87,7 @@ pub record IsReading (text name : List ℕ) (parts : List Part) : Type 0 where
 abbrev pub IsRefused : List ℕ → MacroFault → Type 0
 IsRefused text BadName = is_name (first (pieces text)) ≡ false
 IsRefused text fault =
-    Tells fault ((is_name (first (pieces text)) ≡ true) × ((name : List ℕ) → Nothing (IsReading text name)))
+    IsMalformed fault ((is_name (first (pieces text)) ≡ true) × ((name : List ℕ) → Nothing (IsReading text name)))
 
 -- the pieces between bytes, if any text is left
 abbrev pub pieces_between : ℕ → Option (Bor (List ℕ)) → List (List ℕ)

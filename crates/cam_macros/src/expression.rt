@@ -4,7 +4,7 @@ ghost use Rattle.std.specs.Prelude.{◌≡◌, IfOk, IfErr};
 ghost use Rattle.cam_macros.specs.Grammar.{IsExpression};
 ghost use Rattle.cam_macros.specs.Postfix.{postfix};
 ghost use Rattle.cam_macros.specs.Expansion.{worth};
-ghost use Rattle.cam_macros.specs.Answers.{IsUnlessMemory, Nothing, Tells};
+ghost use Rattle.cam_macros.specs.Answers.{IsMalformed, IsUnlessMemory, Nothing};
 ghost use Rattle.cam_macros.specs.Machinery.Variables.{looked_up};
 
 use crate::expansion::arithmetic::Fixed;
@@ -65,7 +65,7 @@ impl Expression {
     #[tactic(auto, using(crate::proofs::ExpressionLemmas::kept_expressions))]
     pub(crate) fn parse(alloc: Global, text: &[u8]) -> Result<Expression, MacroFault>
         ensures ok { IfOk result (IsExpression text.now) }
-        ensures fault { IfErr result (λ fault. Tells fault (Nothing (IsExpression text.now))) }
+        ensures fault { IfErr result (λ fault. IsMalformed fault (Nothing (IsExpression text.now))) }
     {
         let steps = steps(alloc, text)?;
         Ok(Expression { steps })

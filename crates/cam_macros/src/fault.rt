@@ -1,9 +1,11 @@
 //! What can be wrong with a macro.
 
 ghost use Rattle.std.specs.Prelude.{◌≡◌};
-ghost use Rattle.cam_macros.specs.Faults.{number_of};
+ghost use Rattle.cam_refusals.specs.Refusals.{number_of};
+ghost use Rattle.cam_macros.specs.Faults.{refusal_of};
 ghost use Rattle.cam_macros.specs.declared.fault.MacroFault.TheVariants.{OutOfMemory};
 
+use cam_refusals::Refusal;
 use std::alloc::{AllocError, AllocFailed};
 
 /// Why a macro is refused (Gerber Layer Format Specification, "Aperture macro (AM)").
@@ -25,18 +27,25 @@ pub enum MacroFault {
 }
 
 impl MacroFault {
-    /// The number by which a refusal is told: 3, 29, 12, 13, 24 or 30.
-    pub fn number(self) -> u8
-        ensures { result ≡ number_of self }
+    /// The refusal that tells it.
+    pub fn refusal(self) -> Refusal
+        ensures { result ≡ refusal_of self }
     {
         match self {
-            MacroFault::BadName => 3,
-            MacroFault::PrimitiveRefused => 12,
-            MacroFault::RotationRefused => 13,
-            MacroFault::SizeRefused => 24,
-            MacroFault::Malformed => 29,
-            MacroFault::OutOfMemory => 30,
+            MacroFault::BadName => Refusal::UnknownCommand,
+            MacroFault::PrimitiveRefused => Refusal::PrimitiveRefused,
+            MacroFault::RotationRefused => Refusal::RotationRefused,
+            MacroFault::SizeRefused => Refusal::SizeRefused,
+            MacroFault::Malformed => Refusal::MacroFault,
+            MacroFault::OutOfMemory => Refusal::NoMemory,
         }
+    }
+
+    /// The number by which it is told: 3, 29, 12, 13, 24 or 30.
+    pub fn number(self) -> u8
+        ensures { result ≡ number_of (refusal_of self) }
+    {
+        self.refusal().number()
     }
 }
 

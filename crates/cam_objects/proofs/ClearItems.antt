@@ -9,7 +9,6 @@ use Rattle.cam_objects.specs.declared.drill_item.DrillItem.{DrillItem}
 use Rattle.cam_objects.specs.declared.drill_item.DrillItem.TheVariants.{Hit, Rout}
 use Rattle.cam_objects.specs.declared.entry.Entry.{Entry}
 use Rattle.cam_objects.specs.declared.item.Item.{Item}
-use Rattle.cam_objects.specs.declared.item_fault.ItemFault.TheVariants.{OutOfBoard}
 use Rattle.cam_objects.specs.Bounds.{bounds_of, box_of_all, box_of_shape}
 use Rattle.cam_objects.specs.Drilling.{diameter_of, drill_item_leaves, leaves_with, rout_leaves, slots_from}
 use Rattle.cam_objects.specs.DrillSoundness.{IsSoundDrillContent, IsSoundDrillItem, IsSoundTool}
@@ -23,6 +22,7 @@ use Rattle.cam_objects.proofs.CopyBoxes.{all_flat}
 use Rattle.cam_objects.proofs.ItemBounds.{clear_leaves}
 use Rattle.cam_objects.proofs.MovedBounds.{item_sized}
 use Rattle.cam_objects.proofs.SizedLeaves.{meaning_sized, reach, shape_within}
+use Rattle.cam_objects.proofs.SoundItems.{meets, meets_drill}
 use Rattle.cam_objects.proofs.SoundTools.{tool_size}
 
 abbrev IsClear : Leaf → Type 0
@@ -31,7 +31,7 @@ IsClear l = IsUncrossed (box_of_shape l.shape)
 clear_item : (es : List (ℕ × Entry)) (item : Item) → IsSoundDictionary es → IsSoundItem es item
     → AreUncrossed (item_leaves (meaning_in es) item)
 clear_item es item sound good =
-    let inside : IsInside es item = good OutOfBoard in
+    let inside : IsInside es item = (meets es item good).inside in
     clear_leaves (item_leaves (meaning_in es) item) (item_sized es (λ n. meaning_sized es n sound) item) inside.leaves
 
 pub clear_items : (es : List (ℕ × Entry)) (items : List Item) → IsSoundContent es items → All AreUncrossed (item_lists es items)
@@ -74,14 +74,14 @@ clear_drilled tools (Hit tool at) sound good = by (diameter_of tools tool) refl
     by None e = subst (λ o. AreUncrossed (leaves_with o (Hit tool at))) (sym e) (All-nil IsClear)
     by (Some d) e =
         subst (λ o. AreUncrossed (leaves_with o (Hit tool at))) (sym e)
-        (clear_rout d (at ∷ []) (tool_size tools tool d sound e) (good OutOfBoard))
+        (clear_rout d (at ∷ []) (tool_size tools tool d sound e) (meets_drill tools (Hit tool at) good).inside)
 clear_drilled tools (Rout tool points) sound good = by (diameter_of tools tool) refl
   where
     by : (d : Option Nm) → diameter_of tools tool ≡ d → AreUncrossed (drill_item_leaves tools (Rout tool points))
     by None e = subst (λ o. AreUncrossed (leaves_with o (Rout tool points))) (sym e) (All-nil IsClear)
     by (Some d) e =
         subst (λ o. AreUncrossed (leaves_with o (Rout tool points))) (sym e)
-        (clear_rout d points (tool_size tools tool d sound e) (good OutOfBoard))
+        (clear_rout d points (tool_size tools tool d sound e) (meets_drill tools (Rout tool points) good).inside)
 
 pub clear_drill_items : (tools : List (ℕ × Nm)) (items : List DrillItem) → IsSoundDrillContent tools items
     → All AreUncrossed (drill_item_lists tools items)

@@ -34,22 +34,14 @@ use Rattle.std.proofs.lemmas.List.{length-append, length-map}
 use Rattle.std.proofs.lemmas.List.Elements.{All-append, All-cons, All-head, All-nil, All-tail, All-weaker}
 use Rattle.std.proofs.lemmas.List.Sums.{sum_by-append, sum_by-cons}
 use Rattle.std.proofs.lemmas.Map.{keys-set_value, lookup-set_value}
+use Rattle.cam_units.specs.Board.{IsOnBoard}
 use Rattle.cam_units.specs.declared.length.Nm.{Nm}
 use Rattle.cam_units.specs.declared.point.Point.{Point}
 use Rattle.cam_shapes.specs.Shifting.{shifted_point}
 use Rattle.cam_objects.specs.declared.drill_item.DrillItem.{DrillItem}
 use Rattle.cam_objects.specs.declared.drill_item.DrillItem.TheVariants.{Hit, Rout}
-use Rattle.cam_objects.specs.declared.item_fault.ItemFault.TheVariants.{
-  Malformed,
-  UnknownAperture,
-  UnknownTool,
-  WrongAperture,
-  ZeroRadius,
-  OutOfBoard,
-  TooMuch,
-}
 use Rattle.cam_objects.specs.Drilling.{diameter_of}
-use Rattle.cam_objects.specs.DrillSoundness.{IsSoundDrillItem, IsSoundTool, MeetsDrillItem, drill_count_from, drill_count_of, tool_of}
+use Rattle.cam_objects.specs.DrillSoundness.{IsSoundDrillItem, IsSoundTool, drill_count_from, drill_count_of, drill_points_of, tool_of}
 use Rattle.cam_objects.specs.LayerLaws.{DrillEditLaw, LayerEditLaw}
 use Rattle.cam_objects.specs.Shifting.{shifted_drill_item, shifted_item}
 use Rattle.cam_objects.specs.Soundness.{IsSoundItem}
@@ -57,6 +49,7 @@ use Rattle.cam_objects.specs.Weights.{item_count, weight_in}
 use Rattle.cam_objects.proofs.GrownDictionaries.{grow, keep_leaves}
 use Rattle.cam_objects.proofs.MovedItems.{item_count_kept, sound_kept}
 use Rattle.cam_objects.proofs.Painting.{All_left, All_right}
+use Rattle.cam_objects.proofs.SoundItems.{meets_drill, sound_drill}
 
 -- ---- lists with an element more, less or other
 
@@ -180,22 +173,20 @@ drill_count_kept by (Hit tool at) = refl
 drill_count_kept by (Rout tool points) = segments_kept by points
 
 drill_kept : (ts : List (ℕ × Nm)) (by : Point) (item : DrillItem) → IsSoundDrillItem ts item
-    → MeetsDrillItem ts (shifted_drill_item by item) OutOfBoard
+    → All IsOnBoard (drill_points_of (shifted_drill_item by item))
     → IsSoundDrillItem ts (shifted_drill_item by item)
-drill_kept ts by (Hit tool at) h inside Malformed = h Malformed
-drill_kept ts by (Hit tool at) h inside UnknownAperture = tt
-drill_kept ts by (Hit tool at) h inside UnknownTool = h UnknownTool
-drill_kept ts by (Hit tool at) h inside WrongAperture = tt
-drill_kept ts by (Hit tool at) h inside ZeroRadius = tt
-drill_kept ts by (Hit tool at) h inside OutOfBoard = inside
-drill_kept ts by (Hit tool at) h inside TooMuch = h TooMuch
-drill_kept ts by (Rout tool points) h inside Malformed = subst (λ k. suc 0 ≤ k) (sym (length-map points (shifted_point by))) (h Malformed)
-drill_kept ts by (Rout tool points) h inside UnknownAperture = tt
-drill_kept ts by (Rout tool points) h inside UnknownTool = h UnknownTool
-drill_kept ts by (Rout tool points) h inside WrongAperture = tt
-drill_kept ts by (Rout tool points) h inside ZeroRadius = tt
-drill_kept ts by (Rout tool points) h inside OutOfBoard = inside
-drill_kept ts by (Rout tool points) h inside TooMuch = subst (λ k. k ≤ 1000000) (sym (length-map points (shifted_point by))) (h TooMuch)
+drill_kept ts by (Hit tool at) h inside =
+    let m = meets_drill ts (Hit tool at) h in
+    sound_drill ts _ (record { some = m.some; known = m.known; inside = inside; few = m.few })
+drill_kept ts by (Rout tool points) h inside =
+    let m = meets_drill ts (Rout tool points) h in
+    let same = sym (length-map points (shifted_point by)) in
+    sound_drill ts _ (record {
+      some = subst (λ k. suc 0 ≤ k) same m.some;
+      known = m.known;
+      inside = inside;
+      few = subst (λ k. k ≤ 1000000) same m.few;
+    })
 
 -- another diameter of a tool takes no tool away
 known_kept : (ts : List (ℕ × Nm)) (t n : ℕ) (d : Nm) → IsSome (diameter_of ts t) → IsSome (diameter_of ts n)
@@ -212,13 +203,10 @@ known_kept ts t n d there known =
 
 item_kept : (ts : List (ℕ × Nm)) (t : ℕ) (d : Nm) (item : DrillItem) → IsSome (diameter_of ts t) → IsSoundDrillItem ts item
     → IsSoundDrillItem (set_value (nat_eq t) ts d) item
-item_kept ts t d item there h Malformed = h Malformed
-item_kept ts t d item there h UnknownAperture = tt
-item_kept ts t d item there h UnknownTool = known_kept ts t (tool_of item) d there (h UnknownTool)
-item_kept ts t d item there h WrongAperture = tt
-item_kept ts t d item there h ZeroRadius = tt
-item_kept ts t d item there h OutOfBoard = h OutOfBoard
-item_kept ts t d item there h TooMuch = h TooMuch
+item_kept ts t d item there h =
+    let m = meets_drill ts item h in
+    sound_drill (set_value (nat_eq t) ts d) item
+    (record { some = m.some; known = known_kept ts t (tool_of item) d there m.known; inside = m.inside; few = m.few })
 
 abbrev IsTool : ℕ × Nm → Type 0
 IsTool e = IsSoundTool e.0 e.1

@@ -38,15 +38,6 @@ use Rattle.cam_shapes.specs.Placing.{placed_direction}
 use Rattle.cam_objects.specs.declared.entry.Entry.{Entry}
 use Rattle.cam_objects.specs.declared.item.Item.{Item}
 use Rattle.cam_objects.specs.declared.item.Item.TheVariants.{One, Repeat}
-use Rattle.cam_objects.specs.declared.item_fault.ItemFault.TheVariants.{
-  Malformed,
-  UnknownAperture,
-  UnknownTool,
-  WrongAperture,
-  ZeroRadius,
-  OutOfBoard,
-  TooMuch,
-}
 use Rattle.cam_objects.specs.declared.object.Object.{Object}
 use Rattle.cam_objects.specs.declared.object.Object.TheVariants.{Flash, Draw, Arc, Region}
 use Rattle.cam_objects.specs.declared.placing.place.Place.{Place}
@@ -69,20 +60,10 @@ use Rattle.cam_objects.specs.Leaves.{
   stands_for,
   round_width,
 }
-use Rattle.cam_objects.specs.Soundness.{
-  AreOnBoard,
-  HasNumber,
-  IsDrawable,
-  IsInside,
-  IsKnown,
-  IsSoundContent,
-  IsSoundItem,
-  IsWithinLimits,
-  MayAddEntry,
-  objects_of,
-}
+use Rattle.cam_objects.specs.Soundness.{AreOnBoard, IsSoundContent, IsSoundItem, MayAddEntry, objects_of}
 use Rattle.cam_objects.specs.Weights.{Weight, block_count, entry_weight, item_count, no_weight, object_count, weight_in}
 use Rattle.cam_objects.proofs.KeptFacts.{sound_grows}
+use Rattle.cam_objects.proofs.SoundItems.{HasNumber, IsDrawable, IsKnown, meets, sound}
 use Rattle.cam_objects.specs.Turning.{after}
 
 abbrev Pairs : Type 0
@@ -141,16 +122,16 @@ module _ (es : Pairs) (n : ℕ) (e : Entry) (absent : lookup (nat_eq n) es ≡ N
   count_same (Region c dark) h = refl
 
   drawable_same : (o : Object) → IsKnown es o → IsDrawable (meaning_in es) o → IsDrawable (meaning_in grown) o
-  drawable_same (Flash m at t dark) h k = tt
+  drawable_same (Flash m at t dark) h k = refl
   drawable_same (Draw m from to t dark) h k = subst (λ (x : Meaning). IsSome x.tip) (sym (means_same m h)) k
   drawable_same (Arc ccw dark m from to centre) h k = subst (λ (x : Meaning). IsSome (round_width x.tip)) (sym (means_same m h)) k
-  drawable_same (Region c dark) h k = tt
+  drawable_same (Region c dark) h k = refl
 
   known_same : (o : Object) → IsKnown es o → IsKnown grown o
   known_same (Flash m at t dark) h = known_more es ((n, e) ∷ []) m h
   known_same (Draw m from to t dark) h = known_more es ((n, e) ∷ []) m h
   known_same (Arc ccw dark m from to centre) h = known_more es ((n, e) ∷ []) m h
-  known_same (Region c dark) h = tt
+  known_same (Region c dark) h = refl
 
   -- ---- lists of them, and items
 
@@ -187,27 +168,25 @@ module _ (es : Pairs) (n : ℕ) (e : Entry) (absent : lookup (nat_eq n) es ≡ N
   item_count_same (Repeat columns rows x y objects) h = ap (λ k. columns * rows * k) (block_count_same objects h)
 
   sound_same : (item : Item) → IsSoundItem es item → IsSoundItem grown item
-  sound_same item h Malformed = h Malformed
-  sound_same item h UnknownAperture = All-weaker (IsKnown es) (IsKnown grown) known_same (objects_of item) (h UnknownAperture)
-  sound_same item h UnknownTool = tt
-  sound_same item h WrongAperture = drawable_all (objects_of item) (h UnknownAperture) (h WrongAperture)
-  sound_same item h ZeroRadius = h ZeroRadius
-  sound_same item h OutOfBoard =
-      let inside : IsInside es item = h OutOfBoard in
-      record {
-        points = inside.points;
-        steps = inside.steps;
-        leaves =
-            subst AreOnBoard (sym (item_same item (h UnknownAperture))) inside.leaves;
-      }
-  sound_same item h TooMuch =
-      let limits : IsWithinLimits es item = h TooMuch in
-      record {
-        segs = limits.segs;
-        objects = limits.objects;
-        leaves =
-            subst (λ k. k ≤ 4000000) (sym (item_count_same item (h UnknownAperture))) limits.leaves;
-      }
+  sound_same item h =
+      let m = meets es item h in
+      sound grown item (record {
+        repeated = m.repeated;
+        formed = m.formed;
+        known = All-weaker (IsKnown es) (IsKnown grown) known_same (objects_of item) m.known;
+        drawable = drawable_all (objects_of item) m.known m.drawable;
+        radii = m.radii;
+        inside = record {
+          points = m.inside.points;
+          steps = m.inside.steps;
+          leaves = subst AreOnBoard (sym (item_same item m.known)) m.inside.leaves;
+        };
+        limits = record {
+          segs = m.limits.segs;
+          objects = m.limits.objects;
+          leaves = subst (λ k. k ≤ 4000000) (sym (item_count_same item m.known)) m.limits.leaves;
+        };
+      })
 
   sum_same : (items : List Item) → All IsKnownItem items
       → sum_by (item_count (weight_in grown)) items ≡ sum_by (item_count (weight_in es)) items
@@ -222,7 +201,7 @@ module _ (es : Pairs) (n : ℕ) (e : Entry) (absent : lookup (nat_eq n) es ≡ N
   leaves_same (x ∷ items) h = λ i. item_same x (All-head IsKnownItem x items h) i ++ leaves_same items (All-tail IsKnownItem x items h) i
 
   known_items : (items : List Item) → All (IsSoundItem es) items → All IsKnownItem items
-  known_items items h = All-weaker (IsSoundItem es) IsKnownItem (λ x k. k UnknownAperture) items h
+  known_items items h = All-weaker (IsSoundItem es) IsKnownItem (λ x k. (meets es x k).known) items h
 
   pub keep_leaves : (items : List Item) → IsSoundContent es items → leaves_of grown items ≡ leaves_of es items
   keep_leaves items h = leaves_same items (known_items items h.items)

@@ -2,12 +2,12 @@
 use Rattle.std.proofs.Common.{◌≡◌, ℕ, ℤ, List, sym, ap, subst, ◌∙◌}
 use Rattle.cam_objects.specs.declared.item.Item.{Item}
 use Rattle.cam_objects.specs.declared.item.Item.TheVariants.{Repeat}
-use Rattle.cam_objects.specs.declared.item_fault.ItemFault.TheVariants.{Malformed, OutOfBoard}
 use Rattle.cam_objects.specs.declared.entry.Entry.{Entry}
 use Rattle.cam_objects.specs.declared.object.Object.{Object}
 use Rattle.cam_objects.specs.declared.placing.copies.Copies.{Copies}
 use Rattle.cam_objects.specs.Machinery.Boxes.{IsBoxedRepeat, copies_of}
 use Rattle.cam_objects.specs.Soundness.{IsSoundItem}
+use Rattle.cam_objects.proofs.SoundItems.{meets}
 
 abbrev pub repeat_of : Copies → List Object → Item
 repeat_of copies objects = Repeat copies.columns copies.rows copies.i copies.j objects
@@ -23,10 +23,12 @@ repeat_again item copies columns rows i j objects again is same e =
 -- a sound one lies on the board with all its copies
 pub boxed_repeat : (es : List (ℕ × Entry)) (copies : Copies) (objects : List Object)
     → IsSoundItem es (repeat_of copies objects) → IsBoxedRepeat es copies objects
-boxed_repeat es copies objects sound = record {
-  many = (sound Malformed).0.0;
-  across = (sound OutOfBoard).steps.0;
-  up = (sound OutOfBoard).steps.1;
-  stands = (sound OutOfBoard).points;
-  board = (sound OutOfBoard).leaves;
-}
+boxed_repeat es copies objects sound =
+    let m = meets es (repeat_of copies objects) sound in
+    record {
+      many = m.repeated.0;
+      across = m.inside.steps.0;
+      up = m.inside.steps.1;
+      stands = m.inside.points;
+      board = m.inside.leaves;
+    }

@@ -35,7 +35,6 @@ use Rattle.cam_objects.specs.declared.object.Object.{Object}
 use Rattle.cam_objects.specs.declared.entry.Entry.{Entry}
 use Rattle.cam_objects.specs.declared.entry.Entry.TheVariants.{Aperture, Block}
 use Rattle.cam_objects.specs.declared.item.Item.TheVariants.{One}
-use Rattle.cam_objects.specs.declared.item_fault.ItemFault.TheVariants.{OutOfBoard}
 use Rattle.cam_objects.specs.declared.checks.facts.Facts.{Facts}
 use Rattle.cam_objects.specs.Bounds.{bounds_of}
 use Rattle.cam_objects.specs.Leaves.{Meaning, block_leaves, entry_meaning, meaning_in, no_meaning, object_leaves, origin}
@@ -50,6 +49,7 @@ use Rattle.cam_objects.proofs.Dictionaries.{meant-absent, meant-at, whole}
 use Rattle.cam_objects.proofs.Painting.{entry_may}
 use Rattle.cam_objects.proofs.BoardBoxes.{board_leaves}
 use Rattle.cam_objects.proofs.SoundLayers.{board_all, inside_leaves, keys_distinct}
+use Rattle.cam_objects.proofs.SoundItems.{meets}
 
 abbrev Pairs : Type 0
 Pairs = List (ℕ × Entry)
@@ -96,7 +96,7 @@ pub board_block : (es : Pairs) (objects : List Object) → IsSoundBlock es objec
 board_block es objects block =
     board_all (object_leaves (meaning_in es) origin) objects
     (All-weaker (λ o. IsSoundItem es (One o)) (λ o. AreOnBoard (object_leaves (meaning_in es) origin o))
-    (λ o k. inside_leaves es (One o) (k OutOfBoard)) objects block.each)
+    (λ o k. inside_leaves es (One o) (meets es (One o) k).inside) objects block.each)
 
 abbrev IsLight : Facts → Type 0
 IsLight f = (f.leaves ≤ 4000000) × (f.depth ≤ 8) × IsBoxOnBoard f.points
@@ -109,7 +109,7 @@ light es (Block objects) h =
     let means = meaning_in es in
     let leaves = board_all (object_leaves means origin) objects
     (All-weaker (λ o. IsSoundItem es (One o)) (λ o. AreOnBoard (object_leaves means origin o))
-    (λ o k. inside_leaves es (One o) (k OutOfBoard)) objects b.each) in
+    (λ o k. inside_leaves es (One o) (meets es (One o) k).inside) objects b.each) in
     (b.leaves, b.depth, (board_leaves (block_leaves means origin objects)).1 leaves)
 
 pub light_found : (es : Pairs) (fs : List Facts) (i n : ℕ) (e : Entry) (f : Facts) → IsKept es fs → slice_get es i ≡ Some (n, e)

@@ -12,7 +12,6 @@ pub mod Counting
 pub mod CoveredBoxes
 pub mod Covering
 pub mod DarkLeaves
-pub mod DemandLaws
 pub mod Dictionaries
 pub mod DrillBoxes
 pub mod EditedAttributes
@@ -45,10 +44,10 @@ pub mod Roots
 pub mod Runs
 pub mod SizedLeaves
 pub mod SoundDrilling
+pub mod SoundItems
 pub mod SoundLayers
 pub mod SoundTools
 pub mod StandingPoints
-pub mod Telling
 pub mod TestLaws
 pub mod Topmost
 pub mod Tracing

@@ -43,7 +43,6 @@ use Rattle.cam_objects.specs.declared.drill_item.DrillItem.TheVariants.{Hit, Rou
 use Rattle.cam_objects.specs.declared.entry.Entry.{Entry}
 use Rattle.cam_objects.specs.declared.item.Item.{Item}
 use Rattle.cam_objects.specs.declared.item.Item.TheVariants.{One, Repeat}
-use Rattle.cam_objects.specs.declared.item_fault.ItemFault.TheVariants.{OutOfBoard}
 use Rattle.cam_objects.specs.declared.object.Object.{Object}
 use Rattle.cam_objects.specs.Bounds.{bounds_of, box_of_all, box_of_shape, moved, widened}
 use Rattle.cam_objects.specs.Drilling.{diameter_of, drill_item_leaves, leaves_with, rout_leaves, slots_from}
@@ -61,6 +60,7 @@ use Rattle.cam_objects.proofs.PlacedBoxes.{IsPlacedWith, block_placed, boxes_of,
 use Rattle.cam_objects.proofs.PlacedJoins.{join_moved, moved_twice}
 use Rattle.cam_objects.proofs.PlacedShapes.{about_moved, point_moved, shapes_so, stroke, widened_moved}
 use Rattle.cam_objects.proofs.SizedLeaves.{IsSizedMeaning, block_sized, inner, meaning_sized, object_sized}
+use Rattle.cam_objects.proofs.SoundItems.{meets, meets_drill}
 use Rattle.cam_objects.proofs.SoundTools.{tool_size}
 
 -- ---- many boxes
@@ -171,7 +171,7 @@ module _ (es : List (ℕ × Entry)) where
   pub near_item : (item : Item) → IsSoundDictionary es → IsSoundItem es item
       → IsNearBox (bounds_of (item_leaves means item))
   near_item item sound good =
-      let inside : IsInside es item = good OutOfBoard in
+      let inside : IsInside es item = (meets es item good).inside in
       near_leaves (item_leaves means item) (item_sized (λ n. meaning_sized es n sound) item) inside.leaves
 
 -- ---- holes and routs
@@ -233,7 +233,7 @@ pub near_drill_item : (tools : List (ℕ × Nm)) (item : DrillItem) → All (λ 
     → IsSoundDrillItem tools item → IsNearBox (bounds_of (drill_item_leaves tools item))
 near_drill_item tools item sound good =
     subst (λ leaves. IsNearBox (bounds_of leaves)) (sym (tool_leaves tools item))
-    (near_with (diameter_of tools (tool_of item)) item (sized (diameter_of tools (tool_of item)) refl) (good OutOfBoard))
+    (near_with (diameter_of tools (tool_of item)) item (sized (diameter_of tools (tool_of item)) refl) (meets_drill tools item good).inside)
   where
     sized : (d : Option Nm) → diameter_of tools (tool_of item) ≡ d → IfSome d (λ d. IsSize d.0)
     sized None e = tt

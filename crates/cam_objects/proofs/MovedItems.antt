@@ -1,5 +1,5 @@
 -- an item that is moved keeps its form, its numbers, its radii and its counts
-use Rattle.std.proofs.Common.{◌≡◌, ◌≢◌, ℕ, ◌+◌, ◌*◌, ◌<◌, ◌≤◌, ℤ, ◌+ℤ◌, List, [], ◌∷◌, length, map, refl, sym, ap, subst, ◌∙◌, arith}
+use Rattle.std.proofs.Common.{◌≡◌, ℕ, ◌+◌, ◌*◌, ◌<◌, ◌≤◌, ℤ, ◌+ℤ◌, int_eq, nat_lt, true, ◌&&◌, List, [], ◌∷◌, length, map, refl, sym, ap, subst, ◌∙◌, arith}
 use Rattle.std.specs.List.{All}
 use Rattle.std.proofs.lemmas.Int.{ints}
 use Rattle.std.proofs.lemmas.List.{length-map}
@@ -12,64 +12,41 @@ use Rattle.cam_shapes.specs.declared.segments.Seg.TheVariants.{Line, Curve}
 use Rattle.cam_objects.specs.declared.entry.Entry.{Entry}
 use Rattle.cam_objects.specs.declared.item.Item.{Item}
 use Rattle.cam_objects.specs.declared.item.Item.TheVariants.{One, Repeat}
-use Rattle.cam_objects.specs.declared.item_fault.ItemFault.TheVariants.{
-  Malformed,
-  UnknownAperture,
-  UnknownTool,
-  WrongAperture,
-  ZeroRadius,
-  OutOfBoard,
-  TooMuch,
-}
 use Rattle.cam_objects.specs.declared.object.Object.{Object}
 use Rattle.cam_objects.specs.declared.object.Object.TheVariants.{Flash, Draw, Arc, Region}
 use Rattle.cam_objects.specs.Leaves.{Meaning, meaning_in}
 use Rattle.cam_objects.specs.Shifting.{shifted_item, shifted_object}
-use Rattle.cam_objects.specs.Soundness.{
-  HasRadius,
-  HaveRadii,
-  IsDrawable,
-  IsFormed,
-  IsKnown,
-  IsRepeated,
-  IsSoundItem,
-  IsWithinLimits,
-  MeetsItem,
-  objects_of,
-  segs_of,
-}
+use Rattle.cam_objects.specs.Soundness.{IsInside, IsSoundItem, have_radii, is_apart, objects_of, segs_of}
 use Rattle.cam_objects.specs.Weights.{Weight, block_count, item_count, object_count, weight_in}
+use Rattle.cam_objects.proofs.SoundItems.{HasRadius, IsDrawable, IsFormed, IsKnown, IsRepeated, meets, sound}
 
 module _ (by : Point) where
   abbrev moves : Object → Object
   moves o = shifted_object by o
 
-  sum_apart : (a b c : ℤ) → a +ℤ c ≡ b +ℤ c → a ≡ b
-  sum_apart a b c e = omega (arith, ints)
+  same_moved : (a b c : ℤ) → int_eq (a +ℤ c) (b +ℤ c) ≡ int_eq a b
+  same_moved a b c = grind (arith, ints)
 
-  points_apart : (p q : Point) → p ≢ q → shifted_point by p ≢ shifted_point by q
-  points_apart p q h e =
-      h (λ i. record {
-        x = sum_apart p.x q.x by.x (ap (λ (r : Point). r.x) e) i;
-        y = sum_apart p.y q.y by.y (ap (λ (r : Point). r.y) e) i;
-      })
+  points_apart : (p q : Point) → is_apart (shifted_point by p) (shifted_point by q) ≡ is_apart p q
+  points_apart p q = rw (same_moved p.x q.x by.x, same_moved p.y q.y by.y) refl
 
-  radii_kept : (here : Point) (segs : List Seg) → HaveRadii here segs → HaveRadii (shifted_point by here) (map (shifted_seg by) segs)
-  radii_kept here [] h = tt
-  radii_kept here (Line to ∷ segs) h = radii_kept to segs h
-  radii_kept here (Curve to centre ccw ∷ segs) h = (points_apart here centre h.0, radii_kept to segs h.1)
+  same_radii : (here : Point) (segs : List Seg)
+      → have_radii (shifted_point by here) (map (shifted_seg by) segs) ≡ have_radii here segs
+  same_radii here [] = refl
+  same_radii here (Line to ∷ segs) = same_radii to segs
+  same_radii here (Curve to centre ccw ∷ segs) = λ i. points_apart here centre i && same_radii to segs i
 
   radius_kept : (o : Object) → HasRadius o → HasRadius (moves o)
-  radius_kept (Flash n at t dark) h = tt
-  radius_kept (Draw n from to t dark) h = tt
-  radius_kept (Arc ccw dark n from to centre) h = points_apart from centre h
-  radius_kept (Region c dark) h = radii_kept c.start c.segs h
+  radius_kept (Flash n at t dark) h = refl
+  radius_kept (Draw n from to t dark) h = refl
+  radius_kept (Arc ccw dark n from to centre) h = points_apart from centre ∙ h
+  radius_kept (Region c dark) h = same_radii c.start c.segs ∙ h
 
   formed_kept : (o : Object) → IsFormed o → IsFormed (moves o)
-  formed_kept (Flash n at t dark) h = tt
-  formed_kept (Draw n from to t dark) h = tt
-  formed_kept (Arc ccw dark n from to centre) h = tt
-  formed_kept (Region c dark) h = subst (λ k. 0 < k) (sym (length-map c.segs (shifted_seg by))) h
+  formed_kept (Flash n at t dark) h = refl
+  formed_kept (Draw n from to t dark) h = refl
+  formed_kept (Arc ccw dark n from to centre) h = refl
+  formed_kept (Region c dark) h = subst (λ k. nat_lt 0 k ≡ true) (sym (length-map c.segs (shifted_seg by))) h
 
   known_kept : (es : List (ℕ × Entry)) (o : Object) → IsKnown es o → IsKnown es (moves o)
   known_kept es (Flash n at t dark) h = h
@@ -121,18 +98,20 @@ module _ (by : Point) where
   few_kept (Repeat columns rows i j objects) h = subst (λ k. k ≤ 1000000) (sym (length-map objects moves)) h
 
   -- an item that stays on the board stays sound
-  pub sound_kept : (es : List (ℕ × Entry)) (item : Item) → IsSoundItem es item → MeetsItem es (shifted_item by item) OutOfBoard
+  pub sound_kept : (es : List (ℕ × Entry)) (item : Item) → IsSoundItem es item → IsInside es (shifted_item by item)
       → IsSoundItem es (shifted_item by item)
-  sound_kept es item h inside Malformed =
-      let formed = h Malformed in (repeated_kept item formed.0, each_kept IsFormed formed_kept item formed.1)
-  sound_kept es item h inside UnknownAperture = each_kept (IsKnown es) (known_kept es) item (h UnknownAperture)
-  sound_kept es item h inside UnknownTool = tt
-  sound_kept es item h inside WrongAperture = each_kept (IsDrawable (meaning_in es)) (drawable_kept (meaning_in es)) item (h WrongAperture)
-  sound_kept es item h inside ZeroRadius = each_kept HasRadius radius_kept item (h ZeroRadius)
-  sound_kept es item h inside OutOfBoard = inside
-  sound_kept es item h inside TooMuch =
-      let limits : IsWithinLimits es item = h TooMuch in record {
-        segs = each_kept (λ o. length (segs_of o) ≤ 1000000) few_segs_kept item limits.segs;
-        objects = few_kept item limits.objects;
-        leaves = subst (λ k. k ≤ 4000000) (sym (item_count_kept (weight_in es) item)) limits.leaves;
-      }
+  sound_kept es item h inside =
+      let m = meets es item h in
+      sound es (shifted_item by item) (record {
+        repeated = repeated_kept item m.repeated;
+        formed = each_kept IsFormed formed_kept item m.formed;
+        known = each_kept (IsKnown es) (known_kept es) item m.known;
+        drawable = each_kept (IsDrawable (meaning_in es)) (drawable_kept (meaning_in es)) item m.drawable;
+        radii = each_kept HasRadius radius_kept item m.radii;
+        inside = inside;
+        limits = record {
+          segs = each_kept (λ o. length (segs_of o) ≤ 1000000) few_segs_kept item m.limits.segs;
+          objects = few_kept item m.limits.objects;
+          leaves = subst (λ k. k ≤ 4000000) (sym (item_count_kept (weight_in es) item)) m.limits.leaves;
+        };
+      })

@@ -6,9 +6,9 @@ use Rattle.std.proofs.lemmas.Bool.{eq-eqb}
 use Rattle.std.proofs.lemmas.Option.{slice_get_within}
 use Rattle.cam_objects.specs.declared.entry.Entry.{Entry}
 use Rattle.cam_objects.specs.Leaves.{Meaning, entry_meaning, meaning_in, no_meaning}
-use Rattle.cam_objects.specs.Soundness.{HasNumber}
 use Rattle.cam_objects.proofs.Dictionaries.{whole}
 use Rattle.cam_objects.proofs.Painting.{meaning-absent, meaning-at}
+use Rattle.cam_objects.proofs.SoundItems.{HasNumber}
 use Rattle.cam_objects.specs.declared.tip.Tip.{Tip}
 
 abbrev Pairs : Type 0

@@ -77,13 +77,14 @@ use Rattle.cam_objects.specs.Machinery.Boxes.{IsUncrossed, placed_bounds}
 use Rattle.cam_objects.specs.Machinery.Facts.{facts_at, points_bounds_of, points_box}
 use Rattle.cam_objects.specs.Machinery.Inside.{IsBoxOnBoard, last_copy}
 use Rattle.cam_objects.specs.Machinery.Painting.{StandsOnBoard}
-use Rattle.cam_objects.specs.Soundness.{AreOnBoard, IsDrawable, IsInside, points_of}
+use Rattle.cam_objects.specs.Soundness.{AreOnBoard, IsInside, points_of}
 use Rattle.cam_objects.specs.Turning.{after}
 use Rattle.cam_objects.proofs.BoardBoxes.{IsOrdered, board_join, board_leaves, ordered_leaf, ordered_leaves, ordered_some}
 use Rattle.cam_objects.proofs.CopyBoxes.{all_flat, repeat_box}
 use Rattle.cam_objects.proofs.PlacedBoxes.{drawn_placed, flash_placed}
 use Rattle.cam_objects.proofs.PlacedJoins.{placed_nowhere}
 use Rattle.cam_objects.proofs.PlacedShapes.{box_of_points, points_so, sweep}
+use Rattle.cam_objects.proofs.SoundItems.{IsDrawable}
 
 -- ---- one object
 

@@ -57,7 +57,6 @@ use Rattle.cam_objects.specs.declared.object.Object.TheVariants.{Draw, Arc, Regi
 use Rattle.cam_objects.specs.declared.entry.Entry.{Entry}
 use Rattle.cam_objects.specs.declared.entry.Entry.TheVariants.{Aperture, Block}
 use Rattle.cam_objects.specs.declared.item.Item.TheVariants.{One}
-use Rattle.cam_objects.specs.declared.item_fault.ItemFault.TheVariants.{OutOfBoard}
 use Rattle.cam_objects.specs.declared.placing.place.Place.{Place}
 use Rattle.cam_objects.specs.Leaves.{
   Filled,
@@ -90,6 +89,7 @@ use Rattle.cam_objects.specs.declared.tip.Tip.TheVariants.{Round, Rectangular}
 use Rattle.cam_objects.specs.Machinery.Boxes.{IsSizedTip}
 use Rattle.cam_objects.specs.Turning.{after}
 use Rattle.std.proofs.lemmas.Int.{ints}
+use Rattle.cam_objects.proofs.SoundItems.{meets}
 
 abbrev IsLeafOnBoard : Leaf → Type 0
 IsLeafOnBoard l = All IsOnBoard (points_of_shape l.shape)
@@ -127,7 +127,7 @@ pub block_stands : (es : List (ℕ × Entry)) (i n : ℕ) (objects : List Object
     → IsSoundDictionary es → All StandsOnBoard objects
 block_stands es i n objects at sound =
     let block : IsSoundBlock (take i es) objects = (entry_may es i n (Block objects) at sound).sound in
-    All-weaker (λ o. IsSoundItem (take i es) (One o)) StandsOnBoard (λ o h. item_stands (take i es) o (h OutOfBoard)) objects block.each
+    All-weaker (λ o. IsSoundItem (take i es) (One o)) StandsOnBoard (λ o h. item_stands (take i es) o (meets (take i es) (One o) h).inside) objects block.each
 
 -- a side is a size
 pub side_size : (n : ℤ) → IsSide n → IsSize n

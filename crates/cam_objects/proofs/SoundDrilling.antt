@@ -9,17 +9,9 @@ use Rattle.std.proofs.lemmas.Map.Keys.{IsDistinct-push}
 use Rattle.std.proofs.lemmas.List.Elements.{All-append, All-cons, All-nil, All-weaker}
 use Rattle.cam_units.specs.declared.length.Nm.{Nm}
 use Rattle.cam_objects.specs.declared.drill_item.DrillItem.{DrillItem}
-use Rattle.cam_objects.specs.declared.item_fault.ItemFault.TheVariants.{
-  Malformed,
-  UnknownAperture,
-  UnknownTool,
-  WrongAperture,
-  ZeroRadius,
-  OutOfBoard,
-  TooMuch,
-}
 use Rattle.cam_objects.specs.Drilling.{diameter_of}
 use Rattle.cam_objects.specs.DrillSoundness.{DrillGrowthLaw, IsSoundDrillItem, IsSoundTool, KeepsDrillLimits, tool_of}
+use Rattle.cam_objects.proofs.SoundItems.{meets_drill, sound_drill}
 
 one_more : {X : Type 0} (P : X → Type 0) (xs : List X) (x : X) → All P xs → P x → All P (xs ++ x ∷ [])
 one_more P xs x all here = All-append P xs (x ∷ []) all (All-cons P x [] here (All-nil P))
@@ -34,13 +26,10 @@ known_more (t ∷ ts) more n h = by (nat_eq n t.0) (known_more ts more n) h
     by false rest e = rest e
 
 sound_more : (tools more : List (ℕ × Nm)) (item : DrillItem) → IsSoundDrillItem tools item → IsSoundDrillItem (tools ++ more) item
-sound_more tools more item h Malformed = h Malformed
-sound_more tools more item h UnknownAperture = tt
-sound_more tools more item h UnknownTool = known_more tools more (tool_of item) (h UnknownTool)
-sound_more tools more item h WrongAperture = tt
-sound_more tools more item h ZeroRadius = tt
-sound_more tools more item h OutOfBoard = h OutOfBoard
-sound_more tools more item h TooMuch = h TooMuch
+sound_more tools more item h =
+    let m = meets_drill tools item h in
+    sound_drill (tools ++ more) item
+    (record { some = m.some; known = known_more tools more (tool_of item) m.known; inside = m.inside; few = m.few })
 
 -- a number that is new joins numbers of which none stands twice
 pub distinct_more : (tools : List (ℕ × Nm)) (tool : ℕ) (diameter : Nm) → IsDistinct nat_eq (keys_of tools) → diameter_of tools tool ≡ None

@@ -38,24 +38,22 @@ use Rattle.cam_objects.specs.declared.object.Object.TheVariants.{Flash, Draw, Ar
 use Rattle.cam_objects.specs.declared.entry.Entry.{Entry}
 use Rattle.cam_objects.specs.declared.item.Item.{Item}
 use Rattle.cam_objects.specs.declared.item.Item.TheVariants.{One, Repeat}
-use Rattle.cam_objects.specs.declared.item_fault.ItemFault.TheVariants.{Malformed, OutOfBoard, TooMuch, WrongAperture}
 use Rattle.cam_objects.specs.declared.layer.Layer.{Layer}
 use Rattle.cam_objects.specs.Leaves.{Leaf, item_leaves, leaves_of, meaning_in}
 use Rattle.cam_objects.specs.Machinery.Painting.{IsPaintableItem, IsReadyToPrint, StandsOnBoard}
 use Rattle.cam_objects.specs.Machinery.Inside.{ArePainted}
 use Rattle.cam_objects.specs.Soundness.{
   AreOnBoard,
-  IsDrawable,
   IsInside,
   HasSoundItems,
   IsSoundBlock,
   IsSoundDictionary,
   IsSoundItem,
-  IsWithinLimits,
   points_of_shape,
 }
 use Rattle.cam_objects.specs.Weights.{Weight, block_count, object_count, weight_in}
 use Rattle.cam_objects.proofs.Dictionaries.{absent_at}
+use Rattle.cam_objects.proofs.SoundItems.{IsDrawable, meets}
 
 abbrev Pairs : Type 0
 Pairs = List (ℕ × Entry)
@@ -125,15 +123,13 @@ copies_few (suc a) (suc b) c h k l =
     (factor (suc a) (suc b) 4000000 (omega arith) both, factor (suc b) (suc a) 4000000 (omega arith) (rw (mul_comm (suc b) (suc a)) both))
 
 pub paintable_item : (es : Pairs) (item : Item) → IsSoundItem es item → IsPaintableItem item
-paintable_item es (One o) h = let inside : IsInside es (One o) = h OutOfBoard in inside.points 0 o (omega arith)
+paintable_item es (One o) h = (meets es (One o) h).inside.points 0 o (omega arith)
 paintable_item es (Repeat columns rows i j objects) h =
-    let inside : IsInside es (Repeat columns rows i j objects) = h OutOfBoard in
-    let limits : IsWithinLimits es (Repeat columns rows i j objects) = h TooMuch in
-    let formed = h Malformed in
-    let few = copies_few columns rows (block_count (weight_in es) objects) formed.0.0
-    (block_some (weight_in es) objects formed.0.1) limits.leaves in (
-      record { copies = few.0; short = inside.steps.0; points = inside.points },
-      record { copies = few.1; short = inside.steps.1; points = inside.points },
+    let m = meets es (Repeat columns rows i j objects) h in
+    let few = copies_few columns rows (block_count (weight_in es) objects) m.repeated.0
+    (block_some (weight_in es) objects m.repeated.1) m.limits.leaves in (
+      record { copies = few.0; short = m.inside.steps.0; points = m.inside.points },
+      record { copies = few.1; short = m.inside.steps.1; points = m.inside.points },
     )
 
 -- ---- a sound layer may be painted
@@ -153,7 +149,7 @@ ready_layer l sound = record {
   sound = sound.entries;
   board = board_all (item_leaves (meaning_in l.apertures)) l.items.items
       (All-weaker (IsSoundItem l.apertures) (λ x. AreOnBoard (item_leaves (meaning_in l.apertures) x))
-      (λ x h. inside_leaves l.apertures x (h OutOfBoard)) l.items.items sound.items);
+      (λ x h. inside_leaves l.apertures x (meets l.apertures x h).inside) l.items.items sound.items);
 }
 
 pub paintable_items : (l : Layer) → HasSoundItems l → All IsPaintableItem l.items.items
@@ -163,6 +159,6 @@ paintable_items l sound = All-weaker (IsSoundItem l.apertures) IsPaintableItem (
 pub painted_block : (es : Pairs) (objects : List Object) → IsSoundBlock es objects → ArePainted es objects
 painted_block es objects block = record {
   stands = All-weaker (λ o. IsSoundItem es (One o)) StandsOnBoard (λ o h. paintable_item es (One o) h) objects block.each;
-  drawable =
-      All-weaker (λ o. IsSoundItem es (One o)) (IsDrawable (meaning_in es)) (λ o h. h WrongAperture 0 o (omega arith)) objects block.each;
+  drawable = All-weaker (λ o. IsSoundItem es (One o)) (IsDrawable (meaning_in es))
+      (λ o h. (meets es (One o) h).drawable 0 o (omega arith)) objects block.each;
 }

@@ -1,9 +1,9 @@
 -- The tests that compute mean what the relations say.
 use Rattle.std.proofs.Common.{◌≡◌, ◌↔◌, Bool, true, false, ◌&&◌, cond, IsTrue, ◌⊎◌, inl, inr, List, [], ◌∷◌, ◌++◌, refl, ap, sym, ◌∙◌}
-use Rattle.std.specs.Prelude.{unsigned_abs}
+use Rattle.std.specs.Prelude.{ℕ, ◌≤◌, length, nat_le, sum_by, unsigned_abs}
 use Rattle.std.specs.Bool.{Decides}
 use Rattle.std.specs.List.{All, list_all}
-use Rattle.std.proofs.lemmas.Bool.{cases_Bool, false_from_ne_true, true≢false}
+use Rattle.std.proofs.lemmas.Bool.{cases_Bool, le-leb, leb-true, false_from_ne_true, true≢false}
 use Rattle.std.proofs.lemmas.Bool.Decides.{Decides-and, Decides-by_and, Decides-like, Decides-ltb}
 use Rattle.std.proofs.lemmas.List.Elements.{All-cons, All-head, All-nil, All-tail}
 use Rattle.cam_units.specs.Board.{IsOnBoard}
@@ -13,22 +13,20 @@ use Rattle.cam_shapes.proofs.TestLaws.{is_in_arc-meaning, is_in_capsule-meaning,
 use Rattle.cam_apertures.proofs.CoverLaws.{test_law}
 use Rattle.cam_objects.specs.declared.item.Item.{Item}
 use Rattle.cam_objects.specs.declared.item.Item.TheVariants.{One, Repeat}
-use Rattle.cam_objects.specs.DrillSoundness.{drill_points_of}
+use Rattle.cam_objects.specs.DrillSoundness.{drill_count_of, keeps_drill_limits}
 use Rattle.cam_objects.specs.Image.{Covers, IsBlack, IsUncovered, relative}
 use Rattle.cam_objects.specs.Leaves.{Leaf, Stamp, Stroke, Swept, Sweep, Filled, Drilled, item_leaves, meaning_in}
-use Rattle.cam_objects.specs.Soundness.{HasShortSteps, objects_of, points_of, points_of_shape}
+use Rattle.cam_objects.specs.Soundness.{HasShortSteps, are_on_board, has_short_steps, is_inside, is_on_board, keeps_limits}
+use Rattle.cam_objects.specs.Soundness.{objects_of, points_of, points_of_shape}
+use Rattle.cam_objects.specs.Weights.{item_count, weight_in}
 use Rattle.cam_objects.specs.Tests.{
   CoverTestLaw,
-  DrillInsideTestLaw,
+  BoardTestLaw,
   InsideTestLaw,
+  LimitTestLaw,
   TestLaw,
-  are_on_board,
   covers,
-  has_short_steps,
   is_black,
-  is_drill_inside,
-  is_inside,
-  is_on_board,
   painted,
 }
 
@@ -108,7 +106,7 @@ black_law ls s = (
 )
 
 -- two tests of one meaning answer alike
-same_test : {P : Type 0} (a b : Bool) → (IsTrue a ↔ P) → (IsTrue b ↔ P) → a ≡ b
+pub same_test : {P : Type 0} (a b : Bool) → (IsTrue a ↔ P) → (IsTrue b ↔ P) → a ≡ b
 same_test true true f g = refl
 same_test true false f g = sym (g.1 (f.0 refl))
 same_test false true f g = f.1 (g.0 refl)
@@ -130,12 +128,15 @@ pub all : {X : Type 0} (p : X → Bool) (P : X → Type 0) → ((x : X) → Deci
     → Decides (list_all p xs) (All P xs)
 all p P each xs = Decides-by_and p P (list_all p) each refl (λ _ _. refl) xs
 
+pub at_most : (a b : ℕ) → Decides (nat_le a b) (a ≤ b)
+at_most a b = (leb-true a b, le-leb a b)
+
 pub on_board : (p : Point) → Decides (is_on_board p) (IsOnBoard p)
 on_board p =
     like (λ h. record { x = h.0; y = h.1 }) (λ h. (h.x, h.y))
     (both (Decides-ltb (unsigned_abs p.x) 1000000000) (Decides-ltb (unsigned_abs p.y) 1000000000))
 
-all_on_board : (ps : List Point) → Decides (are_on_board ps) (All IsOnBoard ps)
+pub all_on_board : BoardTestLaw
 all_on_board ps = all is_on_board IsOnBoard on_board ps
 
 short_steps : (item : Item) → Decides (has_short_steps item) (HasShortSteps item)
@@ -153,6 +154,13 @@ inside_law es item =
     (all (λ (l : Leaf). are_on_board (points_of_shape l.shape)) (λ (l : Leaf). All IsOnBoard (points_of_shape l.shape))
     (λ l. all_on_board (points_of_shape l.shape)) (item_leaves (meaning_in es) item))))
 
-pub drill_inside_law : DrillInsideTestLaw
-unfolding is_drill_inside
-drill_inside_law tools item = all_on_board (drill_points_of item)
+pub limit_law : LimitTestLaw
+unfolding keeps_limits keeps_drill_limits
+limit_law = record {
+  layer = λ es items.
+      like (λ h. record { few = h.0; leaves = h.1 }) (λ h. (h.few, h.leaves))
+      (both (at_most (length items) 1000000) (at_most (sum_by (item_count (weight_in es)) items) 4000000));
+  drill_layer = λ items.
+      like (λ h. record { few = h.0; leaves = h.1 }) (λ h. (h.few, h.leaves))
+      (both (at_most (length items) 1000000) (at_most (sum_by drill_count_of items) 4000000));
+}

@@ -4,7 +4,7 @@ use Rattle.std.specs.Prelude.{List, [], ◌∷◌, length, map, All}
 use Rattle.std.specs.List.{IsDistinct, position}
 use Rattle.std.specs.Str.{bytes_eq}
 use Rattle.cam_objects.specs.declared.attribute.Attribute.{Attribute}
-use Rattle.cam_objects.specs.Limits.{attribute_limit}
+use Rattle.cam_refusals.specs.Limits.{attribute_limit}
 
 -- separates a name from its fields, and those from one another
 abbrev pub comma : ℕ

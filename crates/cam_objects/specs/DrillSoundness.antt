@@ -1,26 +1,20 @@
 -- Sound drill layers (XNC Format Specification, "Drilling" and "Routing").
-use Rattle.std.specs.Prelude.{◌≡◌, ℕ, ◌<◌, ◌≤◌, pos, ◌≤ℤ◌, Bool, IsTrue, List, [], ◌∷◌, ◌++◌, length, None, is_some, nat_eq, sum_by, All}
+use Rattle.std.specs.Prelude.{◌≡◌, ℕ, ◌≤◌, nat_le, nat_lt, pos, ◌≤ℤ◌, Bool, not, ◌&&◌, List, [], ◌∷◌, ◌++◌, length}
+use Rattle.std.specs.Prelude.{None, is_some, nat_eq, sum_by, All}
 use Rattle.std.specs.List.{IsDistinct}
 use Rattle.std.specs.Map.{keys_of}
-use Rattle.cam_units.specs.Board.{IsOnBoard, size_limit}
+use Rattle.cam_refusals.specs.Checks.{Checks, first}
+use Rattle.cam_refusals.specs.Limits.{count_limit, leaf_limit, size_limit}
 use Rattle.cam_units.specs.declared.length.Nm.{Nm}
 use Rattle.cam_units.specs.declared.point.Point.{Point}
 use Rattle.cam_objects.specs.declared.drill_item.DrillItem.{DrillItem}
 use Rattle.cam_objects.specs.declared.drill_item.DrillItem.TheVariants.{Hit, Rout}
 use Rattle.cam_objects.specs.declared.drill_layer.DrillLayer.{DrillLayer}
 use Rattle.cam_objects.specs.declared.item_fault.ItemFault.{ItemFault}
-use Rattle.cam_objects.specs.declared.item_fault.ItemFault.TheVariants.{
-  Malformed,
-  UnknownAperture,
-  UnknownTool,
-  WrongAperture,
-  ZeroRadius,
-  OutOfBoard,
-  TooMuch,
-}
+use Rattle.cam_objects.specs.declared.item_fault.ItemFault.TheVariants.{Malformed, UnknownTool, OutOfBoard, TooMuch}
 use Rattle.cam_objects.specs.Drilling.{diameter_of}
-use Rattle.cam_objects.specs.Limits.{item_limit, last_tool, leaf_limit, point_limit}
-use Rattle.cam_objects.specs.Refusals.{MeetsAll}
+use Rattle.cam_objects.specs.Limits.{last_tool}
+use Rattle.cam_objects.specs.Soundness.{are_on_board}
 
 -- a tool has a number from 1 to 9,999 and a diameter from 1 nm to 200 mm
 pub record IsSoundTool (tool : ℕ) (diameter : Nm) : Type 0 where
@@ -48,21 +42,21 @@ abbrev pub drill_count_of : DrillItem → ℕ
 drill_count_of (Hit tool at) = 1
 drill_count_of (Rout tool points) = drill_count_from points
 
--- what an item's points have to meet, and its tool, known or not, for the item not to be refused so
-abbrev pub MeetsDrilling : Bool → List Point → ItemFault → Type 0
-MeetsDrilling known points Malformed = 0 < length points
-MeetsDrilling known points UnknownAperture = Unit {0}
-MeetsDrilling known points UnknownTool = IsTrue known
-MeetsDrilling known points WrongAperture = Unit {0}
-MeetsDrilling known points ZeroRadius = Unit {0}
-MeetsDrilling known points OutOfBoard = All IsOnBoard points
-MeetsDrilling known points TooMuch = length points ≤ point_limit
+-- what an item of these points, whose tool is known or not, may be refused for
+abbrev pub drilling_checks : Bool → List Point → Checks ItemFault
+drilling_checks known points =
+    (Malformed, not (nat_lt 0 (length points)))
+    ∷ (UnknownTool, not known)
+    ∷ (OutOfBoard, not (are_on_board points))
+    ∷ (TooMuch, not (nat_le (length points) count_limit)) ∷ []
 
-abbrev pub MeetsDrillItem : List (ℕ × Nm) → DrillItem → ItemFault → Type 0
-MeetsDrillItem tools item = MeetsDrilling (is_some (diameter_of tools (tool_of item))) (drill_points_of item)
+-- and beside tools
+unfoldable pub drill_item_checks : List (ℕ × Nm) → DrillItem → Checks ItemFault
+drill_item_checks tools item = drilling_checks (is_some (diameter_of tools (tool_of item))) (drill_points_of item)
 
+-- no check holds
 abbrev pub IsSoundDrillItem : List (ℕ × Nm) → DrillItem → Type 0
-IsSoundDrillItem tools item = MeetsAll (MeetsDrillItem tools item)
+IsSoundDrillItem tools item = first (drill_item_checks tools item) ≡ None
 
 -- a tool may stand behind the others where it is sound and its number is new
 pub record MayAddTool (tools : List (ℕ × Nm)) (tool : ℕ) (diameter : Nm) : Type 0 where
@@ -71,8 +65,12 @@ pub record MayAddTool (tools : List (ℕ × Nm)) (tool : ℕ) (diameter : Nm) : 
 
 -- the limits of a drill layer
 pub record KeepsDrillLimits (items : List DrillItem) : Type 0 where
-  pub few : length items ≤ item_limit
+  pub few : length items ≤ count_limit
   pub leaves : sum_by drill_count_of items ≤ leaf_limit
+
+-- whether they are kept
+unfoldable pub keeps_drill_limits : List DrillItem → Bool
+keeps_drill_limits items = nat_le (length items) count_limit && nat_le (sum_by drill_count_of items) leaf_limit
 
 -- every tool and every item is sound, no tool's number stands twice, and no limit is passed
 pub record IsSoundDrillContent (ts : List (ℕ × Nm)) (is : List DrillItem) : Type 0 where

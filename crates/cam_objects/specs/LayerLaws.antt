@@ -1,20 +1,20 @@
 -- Layers stay sound as they are edited.
-use Rattle.std.specs.Prelude.{◌≡◌, ℕ, ◌<◌, nat_eq, List, [], ◌∷◌, ◌++◌, length, slice_set, None, Some, IsSome}
+use Rattle.std.specs.Prelude.{◌≡◌, ℕ, ◌<◌, nat_eq, List, [], ◌∷◌, ◌++◌, length, slice_set, None, Some, IsSome, All}
 use Rattle.std.specs.Map.{set_value}
+use Rattle.cam_units.specs.Board.{IsOnBoard}
 use Rattle.cam_units.specs.declared.length.Nm.{Nm}
 use Rattle.cam_units.specs.declared.point.Point.{Point}
 use Rattle.cam_objects.specs.declared.attribute.Attribute.{Attribute}
 use Rattle.cam_objects.specs.declared.drill_item.DrillItem.{DrillItem}
 use Rattle.cam_objects.specs.declared.entry.Entry.{Entry}
 use Rattle.cam_objects.specs.declared.item.Item.{Item}
-use Rattle.cam_objects.specs.declared.item_fault.ItemFault.TheVariants.{OutOfBoard}
 use Rattle.cam_objects.specs.Attributes.{AreAttributes, IsAttribute, MaySet, place_of, with_attribute}
 use Rattle.cam_objects.specs.Drilling.{diameter_of}
-use Rattle.cam_objects.specs.DrillSoundness.{IsSoundDrillContent, IsSoundDrillItem, IsSoundTool, KeepsDrillLimits, MeetsDrillItem}
+use Rattle.cam_objects.specs.DrillSoundness.{IsSoundDrillContent, IsSoundDrillItem, IsSoundTool, KeepsDrillLimits, drill_points_of}
 use Rattle.cam_objects.specs.Leaves.{leaves_of}
-use Rattle.cam_objects.specs.Limits.{attribute_limit}
+use Rattle.cam_refusals.specs.Limits.{attribute_limit}
 use Rattle.cam_objects.specs.Shifting.{shifted_drill_item, shifted_item}
-use Rattle.cam_objects.specs.Soundness.{IsSoundContent, IsSoundItem, KeepsLimits, MayAddEntry, MeetsItem}
+use Rattle.cam_objects.specs.Soundness.{IsInside, IsSoundContent, IsSoundItem, KeepsLimits, MayAddEntry}
 
 -- with one entry more a layer stays sound and paints what it painted; it stays sound with one sound item more, at any
 -- place, where the limits leave room for it, without an item, with an item moved that stays on the board, with another
@@ -32,7 +32,7 @@ pub record LayerEditLaw : Type 0 where
   pub remove : (es : List (ℕ × Entry)) (before after : List Item) (item : Item)
       → IsSoundContent es (before ++ item ∷ after) → IsSoundContent es (before ++ after)
   pub move : (es : List (ℕ × Entry)) (before after : List Item) (item : Item) (by : Point)
-      → IsSoundContent es (before ++ item ∷ after) → MeetsItem es (shifted_item by item) OutOfBoard
+      → IsSoundContent es (before ++ item ∷ after) → IsInside es (shifted_item by item)
       → IsSoundContent es (before ++ shifted_item by item ∷ after)
   pub replace : (es : List (ℕ × Entry)) (before after : List Item) (item new : Item)
       → IsSoundContent es (before ++ item ∷ after) → IsSoundItem es new
@@ -68,7 +68,7 @@ pub record DrillEditLaw : Type 0 where
   pub remove : (ts : List (ℕ × Nm)) (before after : List DrillItem) (item : DrillItem)
       → IsSoundDrillContent ts (before ++ item ∷ after) → IsSoundDrillContent ts (before ++ after)
   pub move : (ts : List (ℕ × Nm)) (before after : List DrillItem) (item : DrillItem) (by : Point)
-      → IsSoundDrillContent ts (before ++ item ∷ after) → MeetsDrillItem ts (shifted_drill_item by item) OutOfBoard
+      → IsSoundDrillContent ts (before ++ item ∷ after) → All IsOnBoard (drill_points_of (shifted_drill_item by item))
       → IsSoundDrillContent ts (before ++ shifted_drill_item by item ∷ after)
   pub replace : (ts : List (ℕ × Nm)) (before after : List DrillItem) (item new : DrillItem)
       → IsSoundDrillContent ts (before ++ item ∷ after) → IsSoundDrillItem ts new

@@ -5,7 +5,6 @@ pub mod Canvases
 pub mod Cells
 pub mod Contents
 pub mod Darkness
-pub mod Demands
 pub mod DrillSoundness
 pub mod Drilling
 pub mod Enclosed
@@ -14,7 +13,6 @@ pub mod LayerLaws
 pub mod Leaves
 pub mod Limits
 pub mod Machinery
-pub mod Refusals
 pub mod Shifting
 pub mod Soundness
 pub mod Tests

@@ -1,9 +1,7 @@
--- Whether a place is black, and whether an item lies on the board, as tests that compute, for those who define pictures
--- and machines by them. Each says what a relation says (`TestLaw`, `InsideTestLaw`, `DrillInsideTestLaw`).
-use Rattle.std.specs.Prelude.{◌↔◌, ℕ, nat_lt, ℤ, unsigned_abs, Bool, true, false, ◌&&◌, if◌then◌else◌, IsTrue, List, [], ◌∷◌}
-use Rattle.std.specs.List.{list_all}
-use Rattle.cam_units.specs.Board.{board_limit}
-use Rattle.cam_units.specs.declared.length.Nm.{Nm}
+-- Whether a place is black, as a test that computes, for those who define pictures and machines by it; and laws of tests:
+-- each says what a relation says.
+use Rattle.std.specs.Prelude.{◌↔◌, ℕ, Bool, false, if◌then◌else◌, IsTrue, List, [], ◌∷◌, All}
+use Rattle.cam_units.specs.Board.{IsOnBoard}
 use Rattle.cam_units.specs.declared.point.Point.{Point}
 use Rattle.cam_units.specs.declared.point.Spot.{Spot}
 use Rattle.cam_shapes.specs.Tests.{is_in_arc, is_in_capsule, is_in_contour, is_in_disc, is_in_swept}
@@ -11,12 +9,10 @@ use Rattle.cam_apertures.specs.Tests.{is_covered}
 use Rattle.cam_objects.specs.declared.drill_item.DrillItem.{DrillItem}
 use Rattle.cam_objects.specs.declared.entry.Entry.{Entry}
 use Rattle.cam_objects.specs.declared.item.Item.{Item}
-use Rattle.cam_objects.specs.declared.item.Item.TheVariants.{One, Repeat}
-use Rattle.cam_objects.specs.declared.item_fault.ItemFault.TheVariants.{OutOfBoard}
-use Rattle.cam_objects.specs.DrillSoundness.{MeetsDrillItem, drill_points_of}
+use Rattle.cam_objects.specs.DrillSoundness.{KeepsDrillLimits, keeps_drill_limits}
 use Rattle.cam_objects.specs.Image.{Covers, IsBlack, relative}
-use Rattle.cam_objects.specs.Leaves.{Leaf, Shape, Stamp, Stroke, Swept, Sweep, Filled, Drilled, item_leaves, meaning_in}
-use Rattle.cam_objects.specs.Soundness.{IsInside, objects_of, points_of, points_of_shape}
+use Rattle.cam_objects.specs.Leaves.{Leaf, Shape, Stamp, Stroke, Swept, Sweep, Filled, Drilled}
+use Rattle.cam_objects.specs.Soundness.{IsInside, KeepsLimits, are_on_board, is_inside, keeps_limits}
 
 -- ---- places
 
@@ -47,36 +43,16 @@ TestLaw = (leaves : List Leaf) (s : Spot) → IsTrue (is_black leaves s) ↔ IsB
 
 -- ---- items
 
-abbrev pub is_on_board : Point → Bool
-is_on_board p = nat_lt (unsigned_abs p.x) board_limit && nat_lt (unsigned_abs p.y) board_limit
-
-abbrev pub are_on_board : List Point → Bool
-are_on_board points = list_all is_on_board points
-
--- a step is under a metre in absolute value
-abbrev pub is_short : ℤ → Bool
-is_short step = nat_lt (unsigned_abs step) board_limit
-
-abbrev pub has_short_steps : Item → Bool
-has_short_steps (One object) = true
-has_short_steps (Repeat columns rows i j objects) = is_short i && is_short j
-
--- every control point lies on the board, as it stands and in each leaf
-unfoldable pub is_inside : List (ℕ × Entry) → Item → Bool
-is_inside entries item =
-    list_all (λ o. are_on_board (points_of o)) (objects_of item)
-    && (has_short_steps item
-    && list_all (λ l. are_on_board (points_of_shape l.shape)) (item_leaves (meaning_in entries) item))
-
--- every point of a hole or of a rout lies on the board
-unfoldable pub is_drill_inside : DrillItem → Bool
-is_drill_inside item = are_on_board (drill_points_of item)
-
 -- the test holds exactly of the items that lie on the board
 abbrev pub InsideTestLaw : Type 0
 InsideTestLaw = (entries : List (ℕ × Entry)) (item : Item) → IsTrue (is_inside entries item) ↔ IsInside entries item
 
--- and so does that of drill items, whatever the tools are
-abbrev pub DrillInsideTestLaw : Type 0
-DrillInsideTestLaw =
-    (tools : List (ℕ × Nm)) (item : DrillItem) → IsTrue (is_drill_inside item) ↔ MeetsDrillItem tools item OutOfBoard
+-- that of points exactly of those that do
+abbrev pub BoardTestLaw : Type 0
+BoardTestLaw = (points : List Point) → IsTrue (are_on_board points) ↔ All IsOnBoard points
+
+-- and those of limits exactly where they are kept
+pub record LimitTestLaw : Type 0 where
+  pub layer : (entries : List (ℕ × Entry)) (items : List Item)
+      → IsTrue (keeps_limits entries items) ↔ KeepsLimits entries items
+  pub drill_layer : (items : List DrillItem) → IsTrue (keeps_drill_limits items) ↔ KeepsDrillLimits items

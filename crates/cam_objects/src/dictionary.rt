@@ -24,7 +24,7 @@ ghost use Rattle.std.specs.Prelude.{
 };
 ghost use Rattle.std.specs.List.{IsDistinct};
 ghost use Rattle.std.specs.Map.{keys_of, lookup};
-ghost use Rattle.cam_objects.specs.Limits.{depth_limit, leaf_limit};
+ghost use Rattle.cam_refusals.specs.Limits.{depth_limit, leaf_limit};
 ghost use Rattle.cam_objects.specs.Machinery.Parts.{HasChunks};
 ghost use Rattle.cam_objects.specs.Machinery.Boxes.{IsNearBox};
 ghost use Rattle.cam_objects.specs.Machinery.Facts.{facts_at};

@@ -2,17 +2,17 @@
 
 ghost use Rattle.std.specs.Prelude.{◌≡◌, ◌++◌, ◌∷◌, ◌↔◌, [], IfOk, IsTrue, OnErr, OnOk, sum_by};
 ghost use Rattle.cam_units.specs.Board.{IsPlace};
+ghost use Rattle.cam_refusals.specs.Checks.{answer_of, first};
 ghost use Rattle.cam_objects.specs.Drilling.{drill_leaves};
 ghost use Rattle.cam_objects.specs.DrillSoundness.{
   IsSoundDrillItem,
   IsSoundDrillLayer,
   KeepsDrillLimits,
   MayAddTool,
-  MeetsDrillItem,
   drill_count_of,
+  drill_item_checks,
 };
 ghost use Rattle.cam_objects.specs.Image.{IsBlack};
-ghost use Rattle.cam_objects.specs.Refusals.{Tells};
 ghost use Rattle.cam_objects.specs.Tests.{is_black};
 
 use crate::drill::checks::{
@@ -94,7 +94,7 @@ impl DrillLayer {
     /// Whether the item is sound beside the layer's tools, or the first of these faults: it has no
     /// point, no tool of the layer, a point outside the board, or more than 1,000,000 points.
     pub fn check_item(&self, item: &DrillItem) -> Result<(), ItemFault>
-        ensures { Tells (MeetsDrillItem self.now.tools item.now) result }
+        ensures { result ≡ answer_of (first (drill_item_checks self.now.tools item.now)) }
     {
         match item {
             DrillItem::Hit { tool, at } => check_drilling(self.tools.get(*tool).is_some(), &[*at]),

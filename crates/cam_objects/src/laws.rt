@@ -1,10 +1,9 @@
 //! Laws of layers. Each function does nothing: its contract is a law of what layers mean.
 
 ghost use Rattle.cam_objects.specs.BoxLaws.{CoverBoxLaw, RedrawLaw};
-ghost use Rattle.cam_objects.specs.Demands.{DemandLaw, FirstLaw};
 ghost use Rattle.cam_objects.specs.DrillSoundness.{DrillGrowthLaw};
 ghost use Rattle.cam_objects.specs.LayerLaws.{AttributeEditLaw, DrillEditLaw, LayerEditLaw, SettingLaw};
-ghost use Rattle.cam_objects.specs.Tests.{CoverTestLaw, DrillInsideTestLaw, InsideTestLaw, TestLaw};
+ghost use Rattle.cam_objects.specs.Tests.{BoardTestLaw, CoverTestLaw, InsideTestLaw, LimitTestLaw, TestLaw};
 ghost use Rattle.cam_objects.specs.Topmost.{TopmostLaw};
 ghost use Rattle.cam_objects.specs.Turning.{AfterLaw};
 
@@ -49,17 +48,15 @@ pub fn topmost_items_make_the_image()
     ensures { TopmostLaw }
 {}
 
-/// The tests of items that compute hold exactly of those whose control points lie on the board.
+/// The tests that compute hold exactly of the points that lie on the board, and of the items whose control points do.
 pub fn tests_tell_what_is_inside()
     ensures items { InsideTestLaw }
-    ensures drill_items { DrillInsideTestLaw }
+    ensures points { BoardTestLaw }
 {}
 
-/// The tests of demands that compute hold exactly where a demand is met, and a check of an item answers the first that
-/// is not.
-pub fn tests_tell_demands()
-    ensures demands { DemandLaw }
-    ensures first { FirstLaw }
+/// The tests that compute hold exactly where the limits of a layer are kept.
+pub fn tests_tell_limits()
+    ensures { LimitTestLaw }
 {}
 
 /// A layer stays sound with one entry more that may be added, and paints what it painted; with one sound item more

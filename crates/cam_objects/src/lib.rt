@@ -27,9 +27,10 @@
 //!
 //! What a layer means stands in `specs/`: `Leaves` and `Drilling` unfold it, `Image` says which places are black and
 //! `Canvases` how pixels are painted, `Bounds` the boxes, `Attributes` what file attributes are, `Soundness` and
-//! `DrillSoundness` which layers are sound, `Limits` the limits and `Weights` what counts towards them, `Refusals` the
-//! order in which faults are told, `Shifting` what a move makes of items. `Tests` and `Demands` have the same as tests
-//! that compute; `LayerLaws` and `BoxLaws` say what holds of edits. `specs/Machinery/` mirrors code.
+//! `DrillSoundness` what an item may be refused for, in the order in which it is told, and which layers are sound,
+//! `Weights` what counts towards the limits, `Shifting` what a move makes of items. `Tests` has the black places as a
+//! test that computes, and what such tests mean; `LayerLaws` and `BoxLaws` say what holds of edits. `specs/Machinery/`
+//! mirrors code.
 #![tactic(auto)]
 
 mod asking;
@@ -74,7 +75,7 @@ pub use item_fault::ItemFault;
 pub use laws::{
     attributes_stay_sound, covers_lie_in_their_bounds, drill_layers_stay_sound,
     edits_stay_in_their_bounds, layers_stay_sound, painting_in_order_makes_the_image,
-    tests_tell_covers, tests_tell_demands, tests_tell_what_is_inside, topmost_items_make_the_image,
+    tests_tell_covers, tests_tell_limits, tests_tell_what_is_inside, topmost_items_make_the_image,
     turns_follow_their_matrices,
 };
 pub use layer::Layer;

@@ -2,10 +2,11 @@
 use Rattle.std.proofs.Common.{◌≡◌, ◌≢◌, ◌≤◌, ◌∙◌, ap, ℕ, Bool, false, List, [], ◌∷◌, length, None, Some, Ok, Err, refl, arith}
 use Rattle.std.specs.Prelude.{slice_index}
 use Rattle.std.proofs.lemmas.Bool.{le-ltb, ne_eqb}
+use Rattle.cam_refusals.specs.Limits.{line_limit}
 use Rattle.cam_script.specs.declared.line.Line.{Line}
 use Rattle.cam_script.specs.declared.line.LineFault.{LineFault}
 use Rattle.cam_script.specs.Words.{words}
-use Rattle.cam_script.specs.Parsing.{parsed, some_line, kept, line_in, is_no_memory, line_limit}
+use Rattle.cam_script.specs.Parsing.{parsed, some_line, kept, line_in, is_no_memory}
 use Rattle.cam_script.specs.Parsing.{load_line, window_line, redraw_line, plot_line, write_line}
 use Rattle.cam_script.specs.Parsing.{delete_change, move_change, reorder_change, aperture_change, polarity_change}
 use Rattle.cam_script.specs.Parsing.{tool_change, diameter_change, drop_change}

@@ -3,6 +3,7 @@ use Rattle.std.proofs.Common.{◌≡◌, ℕ, ◌<◌, ◌≤◌, ◌^◌, Bool,
 use Rattle.std.proofs.Common.{Option, None, Some, Ok, Err, refl, ap, ◌∙◌, arith, subst, if◌then◌else◌}
 use Rattle.std.specs.Prelude.{◌&&◌, codes, decimal, All, nat_le, nat_lt}
 use Rattle.std.specs.List.{flat_map, list_all}
+use Rattle.std.proofs.lemmas.Bool.{ltb-true}
 use Rattle.std.proofs.lemmas.Bool.Decides.{nat_tests}
 use Rattle.std.proofs.lemmas.List.Elements.{All-head, All-tail}
 use Rattle.cam_units.specs.Board.{IsOnBoard}
@@ -16,10 +17,11 @@ use Rattle.cam_objects.specs.declared.object.Object.{Object}
 use Rattle.cam_objects.specs.declared.object.Object.TheVariants.{Flash, Draw, Arc, Region}
 use Rattle.cam_edits.specs.declared.edit.NewItem.{NewItem}
 use Rattle.cam_edits.specs.declared.edit.NewItem.TheVariants as new_items
+use Rattle.cam_refusals.specs.Limits.{line_limit}
 use Rattle.cam_script.specs.declared.line.LineFault.TheVariants.{Memory}
 use Rattle.cam_script.specs.Words.{is_name, is_name_byte, words}
 use Rattle.cam_script.specs.Items.{item_in, region_of}
-use Rattle.cam_script.specs.Parsing.{line_limit, parsed, said_by}
+use Rattle.cam_script.specs.Parsing.{parsed, said_by}
 use Rattle.cam_script.specs.Spelling.{IsSayable, IsSayableDrilling, WordsReadBack, drill_form, drill_item_text, drill_words, insertion, insertion_text, object_form, object_text, object_words, point_words, spaced}
 use Rattle.cam_script.proofs.Spelled.{both_hold, decimal_word, is_solid, is_word, words_spelled}
 use Rattle.cam_script.proofs.ReadBack.{
@@ -174,7 +176,7 @@ object_read (Arc ccw dark n from to centre) s =
 object_read (Region contour dark) s =
     let on = All-head IsOnBoard contour.start (flat_map points_of_seg contour.segs) s.points in
     let rest = All-tail IsOnBoard contour.start (flat_map points_of_seg contour.segs) s.points in
-    rw (polarity_reads dark, point_reads contour.start on, segs_read contour.segs rest, region_read dark contour.start contour.segs s.formed) refl
+    rw (polarity_reads dark, point_reads contour.start on, segs_read contour.segs rest, region_read dark contour.start contour.segs (ltb-true 0 (length contour.segs) s.formed)) refl
 
 -- ---- drill items
 

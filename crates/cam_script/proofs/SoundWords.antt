@@ -10,12 +10,12 @@ use Rattle.cam_units.specs.declared.length.Nm.{Nm}
 use Rattle.cam_objects.specs.Drilling.{diameter_of}
 use Rattle.cam_objects.specs.DrillSoundness.{IsSoundDrillLayer, IsSoundDrillItem, tool_of}
 use Rattle.cam_objects.specs.Limits.{last_number, last_tool}
-use Rattle.cam_objects.specs.Soundness.{IsKnown, IsSound, IsSoundItem}
+use Rattle.cam_objects.specs.Soundness.{IsSound, IsSoundItem}
+use Rattle.cam_objects.proofs.SoundItems.{IsKnown, meets, meets_drill}
 use Rattle.cam_objects.specs.declared.drill_item.DrillItem.{DrillItem}
 use Rattle.cam_objects.specs.declared.drill_layer.DrillLayer.{DrillLayer}
 use Rattle.cam_objects.specs.declared.entry.Entry.{Entry}
 use Rattle.cam_objects.specs.declared.item.Item.TheVariants.{One}
-use Rattle.cam_objects.specs.declared.item_fault.ItemFault.TheVariants.{Malformed, OutOfBoard, UnknownAperture, UnknownTool}
 use Rattle.cam_objects.specs.declared.layer.Layer.{Layer}
 use Rattle.cam_objects.specs.declared.object.Object.{Object}
 use Rattle.cam_objects.specs.declared.object.Object.TheVariants.{Flash, Draw, Arc, Region}
@@ -55,26 +55,29 @@ module _ (l : Layer) (sound : IsSound l) where
   known_below (Region contour dark) known = omega arith
 
   object_sayable : (object : Object) → IsSoundItem l.apertures (One object) → IsSayable object
-  object_sayable object meets = record {
-    number = omega (arith, known_below object (All-head (IsKnown l.apertures) object [] (meets UnknownAperture)));
-    points = (meets OutOfBoard).points 0 object (omega arith);
-    formed = (meets Malformed).1 0 object (omega arith);
-  }
+  object_sayable object h =
+      let met = meets l.apertures (One object) h in
+      record {
+        number = omega (arith, known_below object (All-head (IsKnown l.apertures) object [] met.known));
+        points = met.inside.points 0 object (omega arith);
+        formed = met.formed 0 object (omega arith);
+      }
 
 module _ (l : DrillLayer) (sound : IsSoundDrillLayer l) where
   tools_below : All (λ (t : ℕ × Nm). t.0 ≤ last_tool) l.tools
   tools_below = λ k d lt. (sound.tools k d lt).few
 
   drilling_sayable : (item : DrillItem) → IsSoundDrillItem l.tools item → IsSayableDrilling item
-  drilling_sayable item meets = record {
-    tool = omega (
-      arith,
-      found_below (tool_of item) last_tool l.tools tools_below
-          (some_told (diameter_of l.tools (tool_of item)) (meets UnknownTool)),
-    );
-    points = meets OutOfBoard;
-    formed = meets Malformed;
-  }
+  drilling_sayable item h =
+      let met = meets_drill l.tools item h in
+      record {
+        tool = omega (
+          arith,
+          found_below (tool_of item) last_tool l.tools tools_below (some_told (diameter_of l.tools (tool_of item)) met.known),
+        );
+        points = met.inside;
+        formed = met.some;
+      }
 
 pub sound_items_lem : SoundItemsCanBeSaid
 sound_items_lem = record {

@@ -1,9 +1,10 @@
--- Refusals of lines by their numbers.
-use Rattle.std.specs.Prelude.{ℕ}
+-- Refusals of lines.
+use Rattle.cam_refusals.specs.declared.refusal.Refusal.{Refusal}
+use Rattle.cam_refusals.specs.declared.refusal.Refusal.TheVariants as refusals
 use Rattle.cam_script.specs.declared.line.LineFault.{LineFault}
 use Rattle.cam_script.specs.declared.line.LineFault.TheVariants.{LineTooLong, BadLine, Memory}
 
-abbrev pub number_of : LineFault → ℕ
-number_of LineTooLong = 81
-number_of BadLine = 80
-number_of Memory = 30
+abbrev pub refusal_of : LineFault → Refusal
+refusal_of LineTooLong = refusals.LineTooLong
+refusal_of BadLine = refusals.BadLine
+refusal_of Memory = refusals.NoMemory

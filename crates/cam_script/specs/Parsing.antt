@@ -3,6 +3,7 @@ use Rattle.std.specs.Prelude.{ℕ, ◌==◌, ◌&&◌, nat_lt, slice_index, Bool
 use Rattle.std.specs.Prelude.{List, [], ◌∷◌, length, codes, Option, None, Some, Result, Ok, Err}
 use Rattle.std.specs.Option.{option_map}
 use Rattle.std.specs.Str.{bytes_eq}
+use Rattle.cam_refusals.specs.Limits.{line_limit}
 use Rattle.cam_objects.specs.Attributes.{comma}
 use Rattle.cam_edits.specs.AttributeEdits.{is_field_text, is_key}
 use Rattle.cam_edits.specs.declared.edit.Change.{Change}
@@ -18,10 +19,6 @@ use Rattle.cam_script.specs.declared.line.LineFault.TheVariants.{LineTooLong, Ba
 use Rattle.cam_script.specs.Commands.{changing}
 use Rattle.cam_script.specs.Items.{item_in, polarity_in, reads}
 use Rattle.cam_script.specs.Words.{words, is_name, is_path, count_in, length_in, tool_in}
-
--- how many bytes a line may have
-abbrev pub line_limit : ℕ
-line_limit = 65536
 
 -- the kind of file that a word names
 abbrev pub kind_in : List ℕ → Option FileKind

@@ -2,6 +2,7 @@
 use Rattle.std.specs.Prelude.{ℕ, ◌&&◌, nat_lt, Bool, true, false, if◌then◌else◌, List, [], ◌∷◌, length, codes, Option, None, Some, Result, Ok, Err}
 use Rattle.std.specs.Option.{option_map}
 use Rattle.std.specs.Str.{bytes_eq}
+use Rattle.cam_refusals.specs.Limits.{line_limit}
 use Rattle.cam_script.specs.declared.line.LineFault.{LineFault}
 use Rattle.cam_script.specs.declared.line.LineFault.TheVariants.{LineTooLong, BadLine, Memory}
 use Rattle.cam_script.specs.declared.question.Query.{Query}
@@ -9,7 +10,6 @@ use Rattle.cam_script.specs.declared.question.Query.TheVariants as queries
 use Rattle.cam_script.specs.declared.question.Question.{Question}
 use Rattle.cam_script.specs.declared.question.Question.TheVariants as questions
 use Rattle.cam_script.specs.Items.{reads, reads_point}
-use Rattle.cam_script.specs.Parsing.{line_limit}
 use Rattle.cam_script.specs.Words.{words, is_name, count_in}
 
 -- at NAME X Y, or at NAME X Y BEFORE

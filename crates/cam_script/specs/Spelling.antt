@@ -1,6 +1,6 @@
 -- The words that name an item in a line, as a line that inserts it has them; none for a repeat, which no line names.
 use Rattle.std.specs.Prelude.{◌≡◌, ℕ, ◌<◌, ◌≤◌, ◌^◌, Bool, true, false, List, [], ◌∷◌, ◌++◌, length, codes, decimal}
-use Rattle.std.specs.Prelude.{Option, Some, None, Err, Ok, All, if◌then◌else◌}
+use Rattle.std.specs.Prelude.{Option, Some, None, Err, Ok, All, IsTrue, if◌then◌else◌}
 use Rattle.std.specs.Fmt.{signed_decimal}
 use Rattle.std.specs.List.{IsAmong, flat_map}
 use Rattle.cam_units.specs.declared.point.Point.{Point}
@@ -10,7 +10,7 @@ use Rattle.cam_shapes.specs.declared.segments.Seg.{Seg}
 use Rattle.cam_shapes.specs.declared.segments.Seg.TheVariants.{Line, Curve}
 use Rattle.cam_units.specs.Board.{IsOnBoard}
 use Rattle.cam_objects.specs.DrillSoundness.{IsSoundDrillLayer, drill_points_of, tool_of}
-use Rattle.cam_objects.specs.Soundness.{IsFormed, IsSound, points_of}
+use Rattle.cam_objects.specs.Soundness.{IsSound, is_formed, points_of}
 use Rattle.cam_objects.specs.declared.drill_item.DrillItem.{DrillItem}
 use Rattle.cam_objects.specs.declared.drill_item.DrillItem.TheVariants.{Hit, Rout}
 use Rattle.cam_objects.specs.declared.drill_layer.DrillLayer.{DrillLayer}
@@ -18,13 +18,14 @@ use Rattle.cam_objects.specs.declared.layer.Layer.{Layer}
 use Rattle.cam_objects.specs.declared.item.Item.TheVariants.{One, Repeat}
 use Rattle.cam_objects.specs.declared.object.Object.{Object}
 use Rattle.cam_objects.specs.declared.object.Object.TheVariants.{Flash, Draw, Arc, Region}
+use Rattle.cam_refusals.specs.Limits.{line_limit}
 use Rattle.cam_edits.specs.declared.edit.NewItem.{NewItem}
 use Rattle.cam_edits.specs.declared.edit.NewItem.TheVariants as new_items
 use Rattle.cam_script.specs.declared.command.Command.TheVariants as commands
 use Rattle.cam_script.specs.declared.line.Line.{Line as ScriptLine}
 use Rattle.cam_script.specs.declared.line.Line.TheVariants as lines
 use Rattle.cam_script.specs.declared.line.LineFault.TheVariants.{Memory}
-use Rattle.cam_script.specs.Parsing.{line_limit, parsed}
+use Rattle.cam_script.specs.Parsing.{parsed}
 use Rattle.cam_script.specs.Words.{is_name}
 
 -- X Y
@@ -113,7 +114,7 @@ number_of (Region contour dark) = 0
 pub record IsSayable (object : Object) : Type 0 where
   pub number : number_of object < 2 ^ 32
   pub points : All IsOnBoard (points_of object)
-  pub formed : IsFormed object
+  pub formed : IsTrue (is_formed object)
 
 -- of a drill item: a tool's number below 65,536, and a point of the board or more
 pub record IsSayableDrilling (item : DrillItem) : Type 0 where

@@ -19,10 +19,10 @@ ghost use Rattle.cam_script.specs.Questions.{
 use crate::line::LineFault;
 use crate::names::{is_name, name_of};
 use crate::numbers::{place, point};
-use crate::parse::MOST_BYTES;
 use crate::pieces::is;
 use crate::question::{Query, Question};
 use crate::words::Words;
+use cam_refusals::limits::LINE_LIMIT;
 use std::alloc::Global;
 
 /// The words behind `at` and a name.
@@ -167,7 +167,7 @@ fn layer_question(alloc: Global, verb: &[u8], words: &mut Words<'_>) -> Result<Q
 pub fn parse_question(alloc: Global, line: &[u8]) -> Result<Question, LineFault>
     ensures { asked line.now (is_no_memory result) ≡ result }
 {
-    if line.len() > MOST_BYTES {
+    if line.len() > LINE_LIMIT {
         return Err(LineFault::LineTooLong);
     }
     let mut words = Words::new(line);

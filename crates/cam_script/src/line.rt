@@ -1,11 +1,13 @@
 //! What a line of a script says.
 
 ghost use Rattle.std.specs.Prelude.{◌≡◌};
-ghost use Rattle.cam_script.specs.Faults.{number_of};
+ghost use Rattle.cam_refusals.specs.Refusals.{number_of};
+ghost use Rattle.cam_script.specs.Faults.{refusal_of};
 
 use crate::command::{Command, FileKind};
 use crate::path::FilePath;
 use cam_edits::Name;
+use cam_refusals::Refusal;
 use thiserror::Error;
 
 /// A command, or one that reads or writes a file, with the file's path.
@@ -46,14 +48,21 @@ pub enum LineFault {
 }
 
 impl LineFault {
-    /// The number by which a refusal is told: 81, 80 or 30.
-    pub fn number(self) -> u8
-        ensures { result ≡ number_of self }
+    /// The refusal that it is told as.
+    pub fn refusal(self) -> Refusal
+        ensures { result ≡ refusal_of self }
     {
         match self {
-            LineFault::LineTooLong => 81,
-            LineFault::BadLine => 80,
-            LineFault::Memory => 30,
+            LineFault::LineTooLong => Refusal::LineTooLong,
+            LineFault::BadLine => Refusal::BadLine,
+            LineFault::Memory => Refusal::NoMemory,
         }
+    }
+
+    /// The number by which it is told: 81, 80 or 30.
+    pub fn number(self) -> u8
+        ensures { result ≡ number_of (refusal_of self) }
+    {
+        self.refusal().number()
     }
 }

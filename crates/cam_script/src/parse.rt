@@ -24,11 +24,9 @@ use crate::names::{is_name, is_path, name_of, path_of};
 use crate::numbers::{count, length};
 use crate::pieces::{first_byte, is};
 use crate::words::Words;
+use cam_refusals::limits::LINE_LIMIT;
 use cam_tiles::Window;
 use std::alloc::Global;
-
-/// The most bytes that a line has.
-pub(crate) const MOST_BYTES: usize = 65_536;
 
 /// The words behind `load`.
 #[tactic(auto, using(crate::proofs::Forms::no_load))]
@@ -212,7 +210,7 @@ fn line_of(alloc: Global, verb: &[u8], words: &mut Words<'_>) -> Result<Line, Li
 pub fn parse_line(alloc: Global, line: &[u8]) -> Result<Option<Line>, LineFault>
     ensures { parsed line.now (is_no_memory result) ≡ result }
 {
-    if line.len() > MOST_BYTES {
+    if line.len() > LINE_LIMIT {
         return Err(LineFault::LineTooLong);
     }
     let mut words = Words::new(line);

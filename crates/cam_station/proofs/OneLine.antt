@@ -11,9 +11,9 @@ use Rattle.cam_script.specs.declared.line.Line.{Line}
 use Rattle.cam_script.specs.declared.line.Line.TheVariants.{Command, Load, Plot, Write}
 use Rattle.cam_script.specs.declared.line.LineFault.{LineFault}
 use Rattle.cam_station.specs.Machine.{State, Outcome, MemoryGrant, Granted, fault, step}
-use Rattle.cam_script.specs.Faults.{number_of as line_code}
+use Rattle.cam_script.specs.Faults.{refusal_of as line_refusal}
 use Rattle.cam_script.specs.Parsing.{parsed, Parsed, is_no_memory}
-use Rattle.cam_station.specs.Run.{World, FilesSeen, Nothing, Get, Put, file_code, Answers, Tells}
+use Rattle.cam_station.specs.Run.{World, FilesSeen, Nothing, Get, Put, file_refusal, Answers, Tells}
 use Rattle.cam_station.specs.Run.{turn, parsed_turn, load_turn, plot_turn, put_turn, write_turn}
 use Rattle.cam_station.specs.Machinery.Lines.{HasNoBytes, TurnGives}
 
@@ -31,7 +31,7 @@ module _ (s : State) (line : List ℕ) where
   by_parsed w p state reply old new e comes =
       let P : Parsed → Type 0 = λ q. TurnGives (parsed_turn s w q) state reply old new in (w, subst P (sym e) comes)
 
-  pub line_refused : (f : LineFault) (told : Fault) (seen : FilesSeen) → told ≡ fault (line_code f)
+  pub line_refused : (f : LineFault) (told : Fault) (seen : FilesSeen) → told ≡ fault (line_refusal f)
       → parsed line (is_no_memory {T = Option Line} (Err f)) ≡ Err f
       → (x : World) × TurnGives (turn s line x) s (Some (Err told)) seen seen
   line_refused f told seen tells e =
@@ -83,7 +83,7 @@ load_gets s name kind path bytes memory state reply old new steps answers =
     (memory, Ok bytes, record { state_is = ap (λ p. p.0) steps; reply_is = ap (λ p. Some p.1) steps; answers = answers })
 
 pub load_gets_none : (s : State) (name : List ℕ) (kind : FileKind) (path : List ℕ) (why : FileFault) (told : Fault) (old new : FilesSeen)
-    → told ≡ fault (file_code why) → Answers (Get path (Err why)) old new
+    → told ≡ fault (file_refusal why) → Answers (Get path (Err why)) old new
     → (m : MemoryGrant) × (got : Result (List ℕ) FileFault) × TurnGives (load_turn s name kind path m got) s (Some (Err told)) old new
 load_gets_none s name kind path why told old new tells answers = (
   Granted,
@@ -134,7 +134,7 @@ module _ (tells : Tells) (s : State) (command : AnyCommand) (path : List ℕ) wh
 
   pub put_fails : (bytes : List ℕ) (memory : MemoryGrant) (state : State) (answer : Outcome) (why : FileFault)
       (refusal : Fault) (old new : FilesSeen)
-      → (drawn : ℕ) × (answer ≡ Ok (Bytes bytes drawn)) → step s command memory ≡ (state, answer) → refusal ≡ fault (file_code why)
+      → (drawn : ℕ) × (answer ≡ Ok (Bytes bytes drawn)) → step s command memory ≡ (state, answer) → refusal ≡ fault (file_refusal why)
       → Answers (Put path bytes (Err why)) old new → ComesTo state (Err refusal) old new
   put_fails bytes memory state answer why refusal old new told steps tells_why answers =
       let after : State × Outcome = (state, Ok (Bytes bytes told.0)) in

@@ -21,7 +21,7 @@ use Rattle.cam_station.specs.Machine.{
   with_window,
   write_at,
 }
-use Rattle.cam_station.specs.Refusals.{out_of_limits}
+use Rattle.cam_refusals.specs.declared.refusal.Refusal.TheVariants.{OutOfLimits}
 use Rattle.cam_station.specs.declared.reply.Reply.TheVariants.{Done}
 use Rattle.cam_station.specs.Calls.{Call, after_refusal, drawn_named, drawn_where, state_after, states_after}
 use Rattle.cam_station.specs.Undoing.{IsLook, IsQuiet, AreQuiet}
@@ -64,7 +64,7 @@ list_layer_keeps s None = refl
 list_layer_keeps s (Some place) = refl
 
 window_keeps : (s : State) (w : Window) (m : MemoryGrant) (b : Bool)
-    → Keeps s (if b then with_room m s (with_window s w, Ok Done) else (s, refused out_of_limits)).0
+    → Keeps s (if b then with_room m s (with_window s w, Ok Done) else (s, refused OutOfLimits)).0
 window_keeps s w m false = refl
 window_keeps s w Granted true = refl
 window_keeps s w RefusedToReader true = refl

@@ -1,7 +1,9 @@
 -- What a step comes to: a refusal or a look, where the state stays, or a change; and what a refused command leaves.
-use Rattle.std.proofs.Common.{◌≡◌, ℕ, ◌==◌, Bool, true, false, List, [], length, Option, None, Some, Result, Ok, Err}
-use Rattle.std.proofs.Common.{refl, if◌then◌else◌, nat_le}
-use Rattle.std.specs.Prelude.{IsErr, is_some}
+use Rattle.std.proofs.Common.{◌≡◌, ℕ, Bool, true, false, List, [], length, Option, None, Some, Result, Ok, Err}
+use Rattle.std.proofs.Common.{refl, sym, ap, subst, ◌∙◌, if◌then◌else◌, nat_le}
+use Rattle.std.specs.Prelude.{IsErr, OnErr, is_some}
+use Rattle.cam_refusals.specs.declared.refusal.Refusal.{Refusal}
+use Rattle.cam_refusals.specs.Refusals.{is_same}
 use Rattle.cam_tiles.specs.declared.window.Window.{Window}
 use Rattle.cam_tiles.specs.Picture.{accepts}
 use Rattle.cam_edits.specs.declared.edit.Change.TheVariants as changes
@@ -10,12 +12,12 @@ use Rattle.cam_edits.specs.declared.fault.EditFault.{EditFault}
 use Rattle.cam_edits.specs.declared.fault.EditFault.TheVariants as edits
 use Rattle.cam_edits.specs.Boards.{place_named}
 use Rattle.cam_edits.specs.Editing.{edited}
-use Rattle.cam_edits.specs.Faults.{number_of as edit_code}
+use Rattle.cam_edits.specs.Faults.{refusal_of as edit_refusal}
 use Rattle.cam_edits.specs.Sheets.{Content, Sheet, item_count}
 use Rattle.cam_edits.specs.Touches.{touch_of_edit}
 use Rattle.cam_undo.specs.declared.fault.HistoryFault.{HistoryFault}
 use Rattle.cam_undo.specs.declared.fault.HistoryFault.TheVariants as histories
-use Rattle.cam_undo.specs.Faults.{number_of as history_code}
+use Rattle.cam_undo.specs.Faults.{refusal_of as history_refusal}
 use Rattle.cam_undo.specs.Machine.{
   abort_fault,
   aborted,
@@ -36,17 +38,8 @@ use Rattle.cam_station.specs.declared.reply.Reply.{Reply}
 use Rattle.cam_station.specs.declared.reply.Reply.TheVariants.{Done, Numbers}
 use Rattle.cam_station.specs.declared.reply.Numbers.TheVariants.{One}
 use Rattle.cam_station.specs.Meanings.{fault_at, meaning_of}
-use Rattle.cam_station.specs.Refusals.{
-  file_fault,
-  group_open,
-  layer_limit,
-  memory_refused,
-  name_taken,
-  no_layer,
-  no_window,
-  out_of_limits,
-  too_many_layers,
-}
+use Rattle.cam_refusals.specs.declared.refusal.Refusal.TheVariants.{FileFault, GroupOpen, NameTaken, NoLayer, NoMemory, NoWindow, OutOfLimits, TooManyLayers}
+use Rattle.cam_station.specs.Limits.{layer_limit}
 use Rattle.cam_station.specs.TileTables.{redrawn_in}
 use Rattle.cam_station.specs.Machine.{
   State,
@@ -61,6 +54,7 @@ use Rattle.cam_station.specs.Machine.{
   fault,
   list_layer_at,
   load_read,
+  memory_of,
   moved_to,
   plot_at,
   plot_in,
@@ -90,8 +84,8 @@ use Rattle.cam_station.specs.Touches.{
 }
 use Rattle.cam_station.specs.Calls.{RefusalLaw, after_refusal, drawn_named, drawn_where}
 
--- no refusal of the station itself has the number of a file that failed
-edit_own : (f : EditFault) → (edit_code f == file_fault) ≡ false
+-- no refusal of the station itself is that of a file that failed
+edit_own : (f : EditFault) → is_same (edit_refusal f) FileFault ≡ false
 edit_own edits.NoLayer = refl
 edit_own edits.WrongKind = refl
 edit_own edits.AttributeRefused = refl
@@ -106,7 +100,7 @@ edit_own edits.OutOfBoard = refl
 edit_own edits.TooMuch = refl
 edit_own edits.Memory = refl
 
-history_own : (f : HistoryFault) → (history_code f == file_fault) ≡ false
+history_own : (f : HistoryFault) → is_same (history_refusal f) FileFault ≡ false
 history_own histories.Depth = refl
 history_own histories.GroupOpen = refl
 history_own histories.NoGroup = refl
@@ -117,7 +111,7 @@ history_own histories.Memory = refl
 -- P holds after a look, after each kind of refusal and after each kind of change, but that of a plot
 pub record AfterOthers (s : State) (P : State × Outcome → Type 0) : Type 0 where
   pub looked : (reply : Reply) → P (s, Ok reply)
-  pub refused : (f : Fault) → (f.code == file_fault) ≡ false → P (s, Err f)
+  pub refused : (f : Fault) → is_same f.code FileFault ≡ false → P (s, Err f)
   pub unread : (kind : FileKind) (file : List ℕ) (f : Fault) → meaning_of kind file ≡ Err f → P (s, Err f)
   pub loaded : (name : List ℕ) (kind : FileKind) (file : List ℕ) (c : Content) (reply : Reply)
       → meaning_of kind file ≡ Ok c → P (with_sheet s name c, Ok reply)
@@ -141,7 +135,7 @@ pub record AfterOthers (s : State) (P : State × Outcome → Type 0) : Type 0 wh
 pub record AfterEach (s : State) (P : State × Outcome → Type 0) : Type 0 where
   pub others : AfterOthers s P
   pub plotted : (w : Window) (place : ℕ) (reply : Reply) → s.window ≡ Some w → P (with_drawn s place, Ok reply)
-  pub plot_refused : (w : Window) (place : ℕ) → s.window ≡ Some w → P (with_drawn s place, refused memory_refused)
+  pub plot_refused : (w : Window) (place : ℕ) → s.window ≡ Some w → P (with_drawn s place, refused NoMemory)
 
 -- the command is no plot
 abbrev IsOther : Command → Type 0
@@ -149,9 +143,9 @@ IsOther (commands.Plot name) = ⊥
 IsOther _ = Unit {0}
 
 module _ (s : State) (P : State × Outcome → Type 0) (h : AfterOthers s P) where
-  -- a refusal with a number alone
-  without : (code : ℕ) → (code == file_fault) ≡ false → P (s, Err (fault code))
-  without code own = h.refused (fault code) own
+  -- a refusal alone
+  without : (refusal : Refusal) → is_same refusal FileFault ≡ false → P (s, Err (fault refusal))
+  without refusal own = h.refused (fault refusal) own
 
   -- whichever way a test goes
   either : (b : Bool) (p q : State × Outcome) → (b ≡ true → P p) → P q → P (if b then p else q)
@@ -162,12 +156,12 @@ module _ (s : State) (P : State × Outcome → Type 0) (h : AfterOthers s P) whe
   room : (m : MemoryGrant) (change : State × Outcome) → P change → P (with_room m s change)
   room Granted change holds = holds
   room RefusedToReader change holds = holds
-  room RefusedToStation change holds = without memory_refused refl
+  room RefusedToStation change holds = without NoMemory refl
 
   -- whether the history refuses or not
   history : (f : Option HistoryFault) (change : State × Outcome) → (f ≡ None → P change) → P (unless f s change)
   history None change holds = holds refl
-  history (Some f) change holds = without (history_code f) (history_own f)
+  history (Some f) change holds = without (history_refusal f) (history_own f)
 
   read : (name : List ℕ) (kind : FileKind) (file : List ℕ) (m : MemoryGrant) (meaning : Result Content Fault)
       → meaning_of kind file ≡ meaning → P (load_read s name m meaning)
@@ -177,37 +171,37 @@ module _ (s : State) (P : State × Outcome → Type 0) (h : AfterOthers s P) whe
   load : (name : List ℕ) (kind : FileKind) (file : List ℕ) (m : MemoryGrant)
       → P (load_read s name m (reader_answer m (meaning_of kind file)))
   load name kind file Granted = read name kind file Granted (meaning_of kind file) refl
-  load name kind file RefusedToReader = h.refused (fault_at memory_refused 0) refl
+  load name kind file RefusedToReader = h.refused (fault_at NoMemory 0) refl
   load name kind file RefusedToStation = read name kind file RefusedToStation (meaning_of kind file) refl
 
   redraw : (n : ℕ) (w : Option Window) → s.window ≡ w → P (redraw_in s n w)
-  redraw n None is = without no_window refl
+  redraw n None is = without NoWindow refl
   redraw n (Some w) is = h.drawn w n _ is
 
   write_named : (m : MemoryGrant) (place : Option ℕ) → P (write_at s m place)
-  write_named m None = without no_layer refl
+  write_named m None = without NoLayer refl
   write_named m (Some place) = room m _ (h.looked _)
 
   change : (edit : Edit) (m : MemoryGrant) (made : Result (List Sheet) EditFault)
       → edited edit s.timeline.document ≡ made → P (edit_to s m (touch_of_edit edit s.timeline.document) made)
-  change edit m (Err f) is = without (edit_code f) (edit_own f)
+  change edit m (Err f) is = without (edit_refusal f) (edit_own f)
   change edit m (Ok sheets) is = room m _ (h.changed edit sheets is)
 
   asked : (edit : Edit) (m : MemoryGrant) → P (edit_step s edit m)
   asked edit m = change edit m (edited edit s.timeline.document) refl
 
   list_named : (place : Option ℕ) → P (list_layer_at s place)
-  list_named None = without no_layer refl
+  list_named None = without NoLayer refl
   list_named (Some place) = h.looked _
 
   after_others : (c : Command) (m : MemoryGrant) → IsOther c → P (step s c m)
   after_others (commands.Load name kind file) m other =
-      either (is_some s.timeline.group) _ _ (λ _. without group_open refl)
-      (either (is_some (place_named name s.timeline.document)) _ _ (λ _. without name_taken refl)
-      (either (nat_le layer_limit (length s.timeline.document)) _ _ (λ _. without too_many_layers refl)
+      either (is_some s.timeline.group) _ _ (λ _. without GroupOpen refl)
+      (either (is_some (place_named name s.timeline.document)) _ _ (λ _. without NameTaken refl)
+      (either (nat_le layer_limit (length s.timeline.document)) _ _ (λ _. without TooManyLayers refl)
       (load name kind file m)))
   after_others (commands.SetWindow w) m other =
-      either (accepts w) _ _ (λ fits. room m _ (h.framed w fits)) (without out_of_limits refl)
+      either (accepts w) _ _ (λ fits. room m _ (h.framed w fits)) (without OutOfLimits refl)
   after_others (commands.Redraw n) m other = redraw n s.window refl
   after_others (commands.Plot name) m other = absurd other
   after_others (commands.Write name) m other = write_named m (place_named name s.timeline.document)
@@ -231,13 +225,13 @@ module _ (s : State) (P : State × Outcome → Type 0) (h : AfterOthers s P) whe
 
 module _ (s : State) (P : State × Outcome → Type 0) (h : AfterEach s P) where
   plot : (m : MemoryGrant) (place : ℕ) (w : Option Window) → s.window ≡ w → P (plot_in s m place w)
-  plot m place None is = without s P h.others no_window refl
+  plot m place None is = without s P h.others NoWindow refl
   plot Granted place (Some w) is = h.plotted w place _ is
   plot RefusedToReader place (Some w) is = h.plotted w place _ is
   plot RefusedToStation place (Some w) is = h.plot_refused w place is
 
   plot_named : (m : MemoryGrant) (place : Option ℕ) → P (plot_at s m place)
-  plot_named m None = without s P h.others no_layer refl
+  plot_named m None = without s P h.others NoLayer refl
   plot_named m (Some place) = plot m place s.window refl
 
   pub after_each : (c : Command) (m : MemoryGrant) → P (step s c m)
@@ -288,6 +282,14 @@ stays_each s =
 stays : (s : State) (c : Command) (m : MemoryGrant) → IsErr (step s c m).1 → (step s c m).0 ≡ after_refusal s c
 stays s (commands.Plot name) m e = plot_draws s name m
 stays s c m e = after_others s (Stays s) (stays_each s) c m tt e
+
+-- and so for what answers a command
+pub refused_leaves : (s : State) (c : Command) (after : State) (answer : Outcome)
+    → step s c (memory_of answer) ≡ (after, answer) → OnErr answer (after ≡ after_refusal s c)
+refused_leaves s c after (Ok reply) e = tt
+refused_leaves s c after (Err f) e =
+    sym (ap (λ (p : State × Outcome). p.0) e)
+    ∙ stays s c (memory_of {T = Reply} (Err f)) (subst (λ (p : State × Outcome). IsErr p.1) (sym e) refl)
 
 pub refusal_stays : RefusalLaw
 refusal_stays s c refused = stays s c.0 c.1 refused

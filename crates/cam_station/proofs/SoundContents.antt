@@ -6,10 +6,9 @@ use Rattle.std.proofs.lemmas.Option.{get_or_from_slice_get, slice_get_within}
 use Rattle.cam_objects.specs.Contents.{Content as GerberContent, DrillContent}
 use Rattle.cam_objects.specs.Soundness.{IsSoundItem}
 use Rattle.cam_objects.proofs.EditedAttributes.{none_set}
-use Rattle.cam_gerber.specs.declared.read_fault.ReadFault.{ReadFault as GerberFault}
+use Rattle.cam_refusals.specs.declared.read_fault.ReadFault.{ReadFault}
 use Rattle.cam_gerber.specs.Computing.{reading_of as gerber_reading}
 use Rattle.cam_gerber.proofs.Computed.{attributes_are_sound, reading_is_sound as gerber_is_sound}
-use Rattle.cam_xnc.specs.declared.read_fault.ReadFault.{ReadFault as DrillFault}
 use Rattle.cam_xnc.specs.Reading.{reading_of as drill_reading}
 use Rattle.cam_xnc.proofs.SoundReadings.{reading_is_sound as drill_is_sound}
 use Rattle.cam_script.specs.declared.command.FileKind.{FileKind}
@@ -26,12 +25,12 @@ abbrev pub IsSoundAnswer : {F : Type 0} → Result Content F → Type 0
 IsSoundAnswer (Ok c) = IsSound c
 IsSoundAnswer (Err f) = Unit {0}
 
-gerber_sound : (r : Result GerberContent GerberFault) → ((c : GerberContent) → r ≡ Ok c → IsSound (Gerber c))
+gerber_sound : (r : Result GerberContent ReadFault) → ((c : GerberContent) → r ≡ Ok c → IsSound (Gerber c))
     → IsSoundAnswer (gerber_meaning r)
 gerber_sound (Ok c) sound = sound c refl
 gerber_sound (Err f) sound = tt
 
-drill_sound : (r : Result DrillContent DrillFault) → ((c : DrillContent) → r ≡ Ok c → IsSound (Drill c))
+drill_sound : (r : Result DrillContent ReadFault) → ((c : DrillContent) → r ≡ Ok c → IsSound (Drill c))
     → IsSoundAnswer (drill_meaning r)
 drill_sound (Ok c) sound = sound c refl
 drill_sound (Err f) sound = tt

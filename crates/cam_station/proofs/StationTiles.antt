@@ -13,7 +13,7 @@ use Rattle.cam_station.specs.TileTables.{AreTables, drawn, redrawn_in, table_at}
 use Rattle.cam_station.specs.Machine.{Granted, RefusedToStation, State, Outcome}
 use Rattle.cam_station.specs.Machinery.Stations.{IsStation}
 use Rattle.cam_station.specs.Machine.{plot_at, plot_in, plot_step, refused, with_drawn}
-use Rattle.cam_station.specs.Refusals.{memory_refused}
+use Rattle.cam_refusals.specs.declared.refusal.Refusal.TheVariants.{NoMemory}
 use Rattle.cam_station.proofs.KeptTables.{drawn_stays, length-redrawn_in, redraw_stays, written_over}
 use Rattle.cam_station.proofs.TablesAt.{changed_here}
 
@@ -66,12 +66,12 @@ station_drawn depth window sheets content tables new place h e = record {
 module _ (s : State) (name : List ℕ) (place : ℕ) (named : place_named name s.timeline.document ≡ Some place)
     (framed : is_none s.window ≡ false) where
   refused_in : (window : Option Window) → is_none window ≡ false
-      → plot_in s RefusedToStation place window ≡ (with_drawn s place, refused memory_refused)
+      → plot_in s RefusedToStation place window ≡ (with_drawn s place, refused NoMemory)
   refused_in None framed = absurd cc
   refused_in (Some w) framed = refl
 
   -- without memory for the file
-  pub plot_refused : plot_step s name RefusedToStation ≡ (with_drawn s place, refused memory_refused)
+  pub plot_refused : plot_step s name RefusedToStation ≡ (with_drawn s place, refused NoMemory)
   plot_refused = ap (plot_at s RefusedToStation) named ∙ refused_in s.window framed
 
   module _ (t : Table) (there : slice_get s.tables place ≡ Some t) where

@@ -24,7 +24,9 @@ use Rattle.cam_edits.specs.Images.{image_of}
 use Rattle.cam_station.specs.Machine.{State, Outcome, MemoryGrant, Granted, RefusedToReader, RefusedToStation, fresh}
 use Rattle.cam_station.specs.Machine.{load_read, reader_answer, refused, step, with_sheet, write_at}
 use Rattle.cam_station.specs.Meanings.{drill_meaning, gerber_meaning, meaning_of}
-use Rattle.cam_station.specs.Refusals.{group_open, layer_limit, name_taken, too_many_layers}
+use Rattle.cam_refusals.specs.declared.refusal.Refusal.{Refusal}
+use Rattle.cam_refusals.specs.declared.refusal.Refusal.TheVariants.{GroupOpen, NameTaken, TooManyLayers}
+use Rattle.cam_station.specs.Limits.{layer_limit}
 use Rattle.cam_station.specs.Calls.{Call, state_after, states_after}
 use Rattle.cam_station.specs.Writes.{ExactWrite, IsWriteOf, IsWritten, WrittenIsAccepted, WrittenLoadsAgain, load_of}
 use Rattle.cam_station.specs.Writing.{kind_of, text_of}
@@ -78,10 +80,10 @@ last_named name sheets c free =
 -- a load of a file of a known meaning, in its state
 module _ (s : State) (name : List ℕ) (kind : FileKind) (file : List ℕ) (c : Content)
     (means : meaning_of kind file ≡ Ok c) where
-  passed : (test : Bool) (code : ℕ) (after : State × Outcome) (reply : Reply)
-      → (cond test (s, refused code) after).1 ≡ Ok reply → test ≡ false
-  passed true code after reply h = absurd cc
-  passed false code after reply h = refl
+  passed : (test : Bool) (refusal : Refusal) (after : State × Outcome) (reply : Reply)
+      → (cond test (s, refused refusal) after).1 ≡ Ok reply → test ≡ false
+  passed true refusal after reply h = absurd cc
+  passed false refusal after reply h = refl
 
   read_in : MemoryGrant → State × Outcome
   read_in m = load_read s name m (reader_answer m (Ok c))
@@ -108,11 +110,11 @@ module _ (s : State) (name : List ℕ) (kind : FileKind) (file : List ℕ) (c : 
       let taken : Bool = is_some (place_named name s.timeline.document) in
       let full : Bool = nat_le layer_limit (length s.timeline.document) in
       let read : State × Outcome = load_read s name m (reader_answer m (meaning_of kind file)) in
-      let fitting : State × Outcome = cond full (s, refused too_many_layers) read in
-      let named : State × Outcome = cond taken (s, refused name_taken) fitting in
-      let closed : open_group ≡ false = passed open_group group_open named reply h in
-      let free : taken ≡ false = passed taken name_taken fitting reply (rw closed at h) in
-      let few : full ≡ false = passed full too_many_layers read reply (rw (closed, free) at h) in
+      let fitting : State × Outcome = cond full (s, refused TooManyLayers) read in
+      let named : State × Outcome = cond taken (s, refused NameTaken) fitting in
+      let closed : open_group ≡ false = passed open_group GroupOpen named reply h in
+      let free : taken ≡ false = passed taken NameTaken fitting reply (rw closed at h) in
+      let few : full ≡ false = passed full TooManyLayers read reply (rw (closed, free) at h) in
       let h' : (read_in m).1 ≡ Ok reply = rw (closed, free, few, means) at h in
       record {
         free = untaken (place_named name s.timeline.document) free;

@@ -1,6 +1,6 @@
 pub mod Calls
 pub mod Documents
-pub mod Refusals
+pub mod Limits
 pub mod Meanings
 pub mod Writing
 pub mod Touches

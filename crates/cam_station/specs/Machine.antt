@@ -1,7 +1,9 @@
 -- The machine that a station is: a document with its earlier and later documents, a window, and the tiles of each layer
 -- in it; one command is one step.
-use Rattle.std.specs.Prelude.{ℕ, min, nat_le, Bool, ◌==◌, ◌&&◌, if◌then◌else◌, List}
+use Rattle.std.specs.Prelude.{ℕ, min, nat_le, Bool, ◌&&◌, if◌then◌else◌, List}
 use Rattle.std.specs.Prelude.{[], ◌∷◌, ◌++◌, length, Option, None, Some, Result, Ok, Err, is_some}
+use Rattle.cam_refusals.specs.declared.refusal.Refusal.{Refusal}
+use Rattle.cam_refusals.specs.Refusals.{is_same}
 use Rattle.cam_tiles.specs.declared.window.Window.{Window}
 use Rattle.cam_tiles.specs.Picture.{accepts}
 use Rattle.cam_tiles.specs.Tables.{Table, dirty_count, pbm_of}
@@ -11,12 +13,12 @@ use Rattle.cam_edits.specs.declared.edit.Edit.{Edit}
 use Rattle.cam_edits.specs.declared.fault.EditFault.{EditFault}
 use Rattle.cam_edits.specs.Boards.{content_at, place_named}
 use Rattle.cam_edits.specs.Editing.{edited}
-use Rattle.cam_edits.specs.Faults.{number_of as edit_code}
+use Rattle.cam_edits.specs.Faults.{refusal_of as edit_refusal}
 use Rattle.cam_edits.specs.Places.{changed}
 use Rattle.cam_edits.specs.Sheets.{Content, Sheet, entry_count, item_count, sheet}
 use Rattle.cam_edits.specs.Touches.{Touch, touch_of_edit}
 use Rattle.cam_undo.specs.declared.fault.HistoryFault.{HistoryFault}
-use Rattle.cam_undo.specs.Faults.{number_of as history_code}
+use Rattle.cam_undo.specs.Faults.{refusal_of as history_refusal}
 use Rattle.cam_undo.specs.Machine.{Timeline, abort_fault, aborted, accepted, begin_fault, begun}
 use Rattle.cam_undo.specs.Machine.{end_fault, ended, greatest_depth, redo_fault, redone, undo_fault, undone}
 use Rattle.cam_script.specs.declared.command.Command.{Command}
@@ -28,16 +30,8 @@ use Rattle.cam_station.specs.declared.reply.Reply.TheVariants.{Done, Numbers, By
 use Rattle.cam_station.specs.declared.reply.Numbers.TheVariants.{One, Two, Three}
 use Rattle.cam_station.specs.TileTables.{blanks, dirty_in, drawn, redrawn_in, table_at, touched_in, with_blank}
 use Rattle.cam_station.specs.Meanings.{fault_at, meaning_of}
-use Rattle.cam_station.specs.Refusals.{
-  group_open,
-  layer_limit,
-  memory_refused,
-  name_taken,
-  no_layer,
-  no_window,
-  out_of_limits,
-  too_many_layers,
-}
+use Rattle.cam_refusals.specs.declared.refusal.Refusal.TheVariants.{GroupOpen, NameTaken, NoLayer, NoMemory, NoWindow, OutOfLimits, TooManyLayers}
+use Rattle.cam_station.specs.Limits.{layer_limit}
 use Rattle.cam_station.specs.Touches.{
   Touches,
   aborted_touches,
@@ -93,10 +87,10 @@ moved_to s timeline touches way = record {
 abbrev pub Outcome : Type 0
 Outcome = Result Reply Fault
 
-abbrev pub fault : ℕ → Fault
+abbrev pub fault : Refusal → Fault
 fault code = record { code = code; at = None }
 
-abbrev pub refused : ℕ → Outcome
+abbrev pub refused : Refusal → Outcome
 refused code = Err (fault code)
 
 -- whether a growth was refused, and to whom
@@ -109,13 +103,13 @@ pub data MemoryGrant : Type 0 where
 abbrev pub memory_of : {T : Type 0} → Result T Fault → MemoryGrant
 memory_of (Ok given) = Granted
 memory_of (Err f) =
-    if f.code == memory_refused then (if is_some f.at then RefusedToReader else RefusedToStation) else Granted
+    if is_same f.code NoMemory then (if is_some f.at then RefusedToReader else RefusedToStation) else Granted
 
 -- a change that needs room in the station: without it the command is refused, and nothing changes
 abbrev pub with_room : MemoryGrant → State → State × Outcome → State × Outcome
 with_room Granted s change = change
 with_room RefusedToReader s change = change
-with_room RefusedToStation s change = (s, refused memory_refused)
+with_room RefusedToStation s change = (s, refused NoMemory)
 
 -- a depth that a station may have
 abbrev pub is_depth : ℕ → Bool
@@ -124,18 +118,18 @@ is_depth depth = nat_le 1 depth && nat_le depth greatest_depth
 abbrev pub made : ℕ → MemoryGrant → Result State Fault
 made depth Granted = Ok (fresh depth)
 made depth RefusedToReader = Ok (fresh depth)
-made depth RefusedToStation = Err (fault memory_refused)
+made depth RefusedToStation = Err (fault NoMemory)
 
 -- a station of this depth, or the refusal of another depth
 abbrev pub station_of : ℕ → MemoryGrant → Result State Fault
-station_of depth memory = if is_depth depth then made depth memory else Err (fault out_of_limits)
+station_of depth memory = if is_depth depth then made depth memory else Err (fault OutOfLimits)
 
 -- load ----------------------------------------------------------------------------------------
 
 -- what the reader answers to a file of this meaning
 abbrev pub reader_answer : MemoryGrant → Result Content Fault → Result Content Fault
 reader_answer Granted meaning = meaning
-reader_answer RefusedToReader meaning = Err (fault_at memory_refused 0)
+reader_answer RefusedToReader meaning = Err (fault_at NoMemory 0)
 reader_answer RefusedToStation meaning = meaning
 
 -- the sheet comes last with its tiles dirty, and no edit before it can be taken back
@@ -155,9 +149,9 @@ load_read s name memory (Ok content) =
 
 abbrev pub load_step : State → List ℕ → FileKind → List ℕ → MemoryGrant → State × Outcome
 load_step s name kind file memory =
-    if is_some s.timeline.group then (s, refused group_open)
-    else (if is_some (place_named name s.timeline.document) then (s, refused name_taken)
-    else (if nat_le layer_limit (length s.timeline.document) then (s, refused too_many_layers)
+    if is_some s.timeline.group then (s, refused GroupOpen)
+    else (if is_some (place_named name s.timeline.document) then (s, refused NameTaken)
+    else (if nat_le layer_limit (length s.timeline.document) then (s, refused TooManyLayers)
     else load_read s name memory (reader_answer memory (meaning_of kind file))))
 
 -- window, redraw and plot ---------------------------------------------------------------------
@@ -174,11 +168,11 @@ with_window s w = record {
 
 abbrev pub window_step : State → Window → MemoryGrant → State × Outcome
 window_step s w memory =
-    if accepts w then with_room memory s (with_window s w, Ok Done) else (s, refused out_of_limits)
+    if accepts w then with_room memory s (with_window s w, Ok Done) else (s, refused OutOfLimits)
 
 -- the first n dirty tiles are drawn, by layer and then by number
 abbrev pub redraw_in : State → ℕ → Option Window → State × Outcome
-redraw_in s n None = (s, refused no_window)
+redraw_in s n None = (s, refused NoWindow)
 redraw_in s n (Some w) =
     (with_tables s (redrawn_in n s.timeline.document s.tables), Ok (Numbers (One (min n (dirty_in s.tables)))))
 
@@ -191,7 +185,7 @@ with_drawn s place = with_tables s (changed (drawn (content_at s.timeline.docume
 
 -- the dirty tiles of the layer are drawn, also where there is no memory for the file
 abbrev pub plot_in : State → MemoryGrant → ℕ → Option Window → State × Outcome
-plot_in s memory place None = (s, refused no_window)
+plot_in s memory place None = (s, refused NoWindow)
 plot_in s memory place (Some w) =
     with_room memory (with_drawn s place) (
       with_drawn s place,
@@ -199,7 +193,7 @@ plot_in s memory place (Some w) =
     )
 
 abbrev pub plot_at : State → MemoryGrant → Option ℕ → State × Outcome
-plot_at s memory None = (s, refused no_layer)
+plot_at s memory None = (s, refused NoLayer)
 plot_at s memory (Some place) = plot_in s memory place s.window
 
 abbrev pub plot_step : State → List ℕ → MemoryGrant → State × Outcome
@@ -208,7 +202,7 @@ plot_step s name memory = plot_at s memory (place_named name s.timeline.document
 -- write ---------------------------------------------------------------------------------------
 
 abbrev pub write_at : State → MemoryGrant → Option ℕ → State × Outcome
-write_at s memory None = (s, refused no_layer)
+write_at s memory None = (s, refused NoLayer)
 write_at s memory (Some place) =
     with_room memory s (s, Ok (Bytes (text_of (content_at s.timeline.document place)) 0))
 
@@ -224,7 +218,7 @@ with_edit s sheets touch =
     moved_to s (accepted s.depth sheets s.timeline) (accepted_touches s.depth touch s.touches) (touch ∷ [])
 
 abbrev pub edit_to : State → MemoryGrant → Touch → Result (List Sheet) EditFault → State × Outcome
-edit_to s memory touch (Err fault) = (s, refused (edit_code fault))
+edit_to s memory touch (Err fault) = (s, refused (edit_refusal fault))
 edit_to s memory touch (Ok sheets) = with_room memory s (with_edit s sheets touch, Ok Done)
 
 abbrev pub edit_step : State → Edit → MemoryGrant → State × Outcome
@@ -236,7 +230,7 @@ edit_step s edit memory =
 -- the change of a command of the history, unless there is a fault
 abbrev pub unless : Option HistoryFault → State → State × Outcome → State × Outcome
 unless None s change = change
-unless (Some fault) s change = (s, refused (history_code fault))
+unless (Some fault) s change = (s, refused (history_refusal fault))
 
 abbrev pub begin_step : State → State × Outcome
 begin_step s =
@@ -272,7 +266,7 @@ abbrev pub list_content : Content → Outcome
 list_content c = Ok (Numbers (Two (item_count c) (entry_count c)))
 
 abbrev pub list_layer_at : State → Option ℕ → State × Outcome
-list_layer_at s None = (s, refused no_layer)
+list_layer_at s None = (s, refused NoLayer)
 list_layer_at s (Some place) = (s, list_content (content_at s.timeline.document place))
 
 abbrev pub list_layer_step : State → List ℕ → State × Outcome

@@ -1,6 +1,7 @@
 -- The text of a reply.
 use Rattle.std.specs.Prelude.{ℕ, List, [], ◌∷◌, ◌++◌, Option, None, Some, Ok, Err, codes, decimal}
 use Rattle.std.specs.List.{flat_map}
+use Rattle.cam_refusals.specs.Refusals.{number_of}
 use Rattle.cam_station.specs.declared.reply.Numbers.TheVariants.{One, Two, Three}
 use Rattle.cam_station.specs.declared.reply.Reply.{Reply}
 use Rattle.cam_station.specs.declared.reply.Reply.TheVariants.{Done, Numbers, Bytes}
@@ -25,4 +26,4 @@ line_with word numbers = word ++ flat_map (λ n. codes " " ++ decimal n) numbers
 -- `ok` or `refused` with its numbers
 abbrev pub reply_line : Outcome → List ℕ
 reply_line (Ok reply) = line_with (codes "ok") (reply_numbers reply)
-reply_line (Err fault) = line_with (codes "refused") (fault_numbers fault.code fault.at)
+reply_line (Err fault) = line_with (codes "refused") (fault_numbers (number_of fault.code) fault.at)

@@ -3,6 +3,8 @@ use Rattle.std.specs.Prelude.{◌≡◌, ℕ, ◌+◌, Bool, true, false, List, 
 use Rattle.std.specs.Prelude.{None, Some, IsSome, Result, Ok, Err, MatchResult, count_by}
 use Rattle.std.specs.List.{flat_map}
 use Rattle.std.specs.Io.KnownBytes.{Appends}
+use Rattle.cam_refusals.specs.declared.refusal.Refusal.{Refusal}
+use Rattle.cam_refusals.specs.declared.refusal.Refusal.TheVariants as refusals
 use Rattle.cam_script.specs.declared.command.FileKind.{FileKind}
 use Rattle.cam_script.specs.declared.command.Command.TheVariants as commands
 use Rattle.cam_station.specs.declared.files.FileFault.{FileFault}
@@ -13,8 +15,7 @@ use Rattle.cam_station.specs.declared.reply.Reply.TheVariants.{Bytes, Numbers}
 use Rattle.cam_station.specs.declared.running.RunFault.{RunFault}
 use Rattle.cam_station.specs.declared.running.RunFault.TheVariants.{Depth, Output, Memory as RunMemory}
 use Rattle.cam_script.specs.declared.line.Line.TheVariants.{Command, Load, Plot, Write}
-use Rattle.cam_script.specs.Faults.{number_of as line_code}
-use Rattle.cam_station.specs.Refusals.{file_fault, memory_refused}
+use Rattle.cam_script.specs.Faults.{refusal_of as line_refusal}
 use Rattle.cam_station.specs.Machine.{State, Outcome, MemoryGrant, fresh, is_depth, refused, step}
 use Rattle.cam_station.specs.Files.{ToldFiles, FailsIfAbsent, Holds, Stored, MayHaveStored, HasRisenBy, failures_of}
 use Rattle.cam_script.specs.Parsing.{Parsed, parsed}
@@ -49,20 +50,20 @@ answered after ask = record { state = after.0; ask = ask; reply = Some after.1 }
 abbrev pub passed_over : State → Turn
 passed_over s = record { state = s; ask = Nothing; reply = None }
 
--- the number that tells of a file
-abbrev pub file_code : FileFault → ℕ
-file_code Failed = file_fault
-file_code NoMemory = memory_refused
+-- the refusal that tells of a file
+abbrev pub file_refusal : FileFault → Refusal
+file_refusal Failed = refusals.FileFault
+file_refusal NoMemory = refusals.NoMemory
 
 -- a load gets its file first
 abbrev pub load_turn : State → List ℕ → FileKind → List ℕ → MemoryGrant → Result (List ℕ) FileFault → Turn
 load_turn s name kind path memory (Ok bytes) =
     answered (step s (commands.Load name kind bytes) memory) (Get path (Ok bytes))
-load_turn s name kind path memory (Err fault) = answered (s, refused (file_code fault)) (Get path (Err fault))
+load_turn s name kind path memory (Err fault) = answered (s, refused (file_refusal fault)) (Get path (Err fault))
 
 abbrev pub put_reply : Reply → Result (Unit {0}) FileFault → Outcome
 put_reply reply (Ok done) = Ok reply
-put_reply reply (Err fault) = refused (file_code fault)
+put_reply reply (Err fault) = refused (file_refusal fault)
 
 -- what a reply tells of the bytes that were put, and of how many tiles were drawn for them
 abbrev pub Tells : Type 0
@@ -86,7 +87,7 @@ abbrev pub write_turn : List ℕ → Result (Unit {0}) FileFault → State × Ou
 write_turn path put after = put_turn byte_count path put after
 
 abbrev pub parsed_turn : State → World → Parsed → Turn
-parsed_turn s w (Err fault) = answered (s, refused (line_code fault)) Nothing
+parsed_turn s w (Err fault) = answered (s, refused (line_refusal fault)) Nothing
 parsed_turn s w (Ok None) = passed_over s
 parsed_turn s w (Ok (Some (Command command))) = answered (step s command w.memory) Nothing
 parsed_turn s w (Ok (Some (Load name kind path))) = load_turn s name kind path w.memory w.got

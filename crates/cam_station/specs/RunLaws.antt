@@ -1,13 +1,14 @@
 -- Laws of runs.
-use Rattle.std.specs.Prelude.{◌≡◌, ℕ, ◌==◌, Bool, false, List, [], ◌∷◌, ◌++◌, length, drop, map}
+use Rattle.std.specs.Prelude.{◌≡◌, ℕ, Bool, false, List, [], ◌∷◌, ◌++◌, length, drop, map}
 use Rattle.std.specs.Prelude.{slice_get, Option, None, Some, Result, Ok, Err, count_by, fold}
+use Rattle.cam_refusals.specs.declared.refusal.Refusal.TheVariants as refusals
+use Rattle.cam_refusals.specs.Refusals.{is_same}
 use Rattle.cam_script.specs.declared.command.FileKind.{FileKind}
 use Rattle.cam_script.specs.declared.command.Command.TheVariants as commands
 use Rattle.cam_station.specs.declared.files.FileFault.{FileFault}
 use Rattle.cam_script.specs.declared.line.Line.TheVariants.{Command, Load, Plot, Write}
 use Rattle.cam_station.specs.declared.reply.Reply.TheVariants.{Bytes}
-use Rattle.cam_script.specs.Faults.{number_of as line_code}
-use Rattle.cam_station.specs.Refusals.{file_fault}
+use Rattle.cam_script.specs.Faults.{refusal_of as line_refusal}
 use Rattle.cam_station.specs.Machine.{State, Outcome, MemoryGrant, refused}
 use Rattle.cam_station.specs.Calls.{Call, answers_to, states_after}
 use Rattle.cam_station.specs.Files.{HasRisenBy}
@@ -23,7 +24,7 @@ use Rattle.cam_station.specs.Run.{
   Turn,
   World,
   byte_count,
-  file_code,
+  file_refusal,
   is_refusal,
   put_reply,
   refused_lines,
@@ -34,7 +35,7 @@ use Rattle.cam_station.specs.Run.{
 abbrev pub is_file_refusal : Option Outcome → Bool
 is_file_refusal None = false
 is_file_refusal (Some (Ok reply)) = false
-is_file_refusal (Some (Err fault)) = fault.code == file_fault
+is_file_refusal (Some (Err fault)) = is_same fault.code refusals.FileFault
 
 -- how many lines were refused so
 abbrev pub file_refusals : List Turn → ℕ
@@ -79,7 +80,7 @@ exchanges ts = map (λ t. (t.ask, t.reply)) ts
 -- a load is answered as its command is; where its file was not got, it gives none and is refused for the file
 abbrev pub load_exchange : List ℕ → Result (List ℕ) FileFault → Option Outcome → Exchange
 load_exchange path (Ok bytes) answer = (Get path (Ok bytes), answer)
-load_exchange path (Err fault) answer = (Get path (Err fault), Some (refused (file_code fault)))
+load_exchange path (Err fault) answer = (Get path (Err fault), Some (refused (file_refusal fault)))
 
 -- the bytes in the answer to a command are put, and the reply tells of them; where that fails the line is refused for
 -- the file
@@ -90,7 +91,7 @@ put_exchange tells path put answer = (Nothing, answer)
 
 -- the exchange of a line, by the answer to its command, where it gives one
 abbrev pub line_exchange : World → Parsed → Option Outcome → Exchange
-line_exchange w (Err fault) answer = (Nothing, Some (refused (line_code fault)))
+line_exchange w (Err fault) answer = (Nothing, Some (refused (line_refusal fault)))
 line_exchange w (Ok None) answer = (Nothing, None)
 line_exchange w (Ok (Some (Command command))) answer = (Nothing, answer)
 line_exchange w (Ok (Some (Load name kind path))) answer = load_exchange path w.got answer

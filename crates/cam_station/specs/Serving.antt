@@ -1,16 +1,13 @@
 -- One line of a script for a caller who hands the bytes of its file in and takes those that it puts: a turn of a run whose
 -- files answer so.
 use Rattle.std.specs.Prelude.{◌≡◌, ℕ, ◌<◌, ◌≤◌, List, length, Option, None, Some, Result, Ok, Err, ⊤}
+use Rattle.cam_refusals.specs.Limits.{file_limit}
 use Rattle.cam_station.specs.declared.files.FileFault.{FileFault}
 use Rattle.cam_station.specs.declared.files.FileFault.TheVariants.{Failed, Memory}
 use Rattle.cam_station.specs.declared.reply.Numbers.TheVariants.{One}
 use Rattle.cam_station.specs.declared.reply.Reply.TheVariants.{Done, Numbers, Bytes}
 use Rattle.cam_station.specs.Machine.{Outcome, State}
 use Rattle.cam_station.specs.Run.{Ask, Get, Nothing, Put, Turn}
-
--- the most bytes that a file has
-abbrev pub file_limit : ℕ
-file_limit = 268435456
 
 -- what a file gives whose bytes were handed in: them, unless they are too many or memory was refused; without them it fails
 abbrev pub IsHanded : Option (List ℕ) → Result (List ℕ) FileFault → Type 0

@@ -8,7 +8,7 @@ use Rattle.cam_station.specs.declared.reply.Reply.TheVariants.{Bytes, Numbers}
 use Rattle.cam_edits.specs.Boards.{place_named}
 use Rattle.cam_edits.specs.Sheets.{Content, item_count, sheet}
 use Rattle.cam_station.specs.Documents.{content_named, picture_named}
-use Rattle.cam_station.specs.Refusals.{layer_limit}
+use Rattle.cam_station.specs.Limits.{layer_limit}
 use Rattle.cam_station.specs.Machine.{State, MemoryGrant, Granted, fresh}
 use Rattle.cam_station.specs.Meanings.{meaning_of}
 use Rattle.cam_station.specs.Calls.{Call, answer_to, state_after, states_after}

@@ -45,7 +45,6 @@ mod files;
 mod laws;
 mod out;
 mod reading;
-mod refusals;
 mod reply;
 mod reply_line;
 mod run_laws;

@@ -55,8 +55,8 @@ pub fn say_reply<O: Out>(out: &mut O, reply: &Result<Reply, Fault>) -> bool
         Ok(Reply::Numbers(Numbers::Three(a, b, c))) => say_line(out, b"ok", &[*a, *b, *c]),
         Ok(Reply::Bytes { bytes: _, drawn }) => say_line(out, b"ok", &[*drawn]),
         Err(fault) => match fault.at {
-            None => say_line(out, b"refused", &[u64::from(fault.code)]),
-            Some(at) => say_line(out, b"refused", &[u64::from(fault.code), at as u64]),
+            None => say_line(out, b"refused", &[u64::from(fault.number())]),
+            Some(at) => say_line(out, b"refused", &[u64::from(fault.number()), at as u64]),
         },
     }
 }

@@ -9,7 +9,7 @@ ghost use Rattle.cam_station.specs.Run.{
   EndsBy,
   RunsAllLines,
   World,
-  file_code,
+  file_refusal,
   files_seen,
   load_turn,
   moment,
@@ -19,14 +19,14 @@ ghost use Rattle.cam_station.specs.Run.{
 };
 ghost use Rattle.cam_station.specs.Machinery.Lines.{HasNoBytes, IsBegun, ReplyIsUnsaid, TurnGives, TurnLeadsTo};
 
-use crate::fault::{Fault, refusal};
+use crate::fault::{Fault, without_place};
 use crate::files::{FileFault, Files};
 use crate::out::Out;
-use crate::refusals;
 use crate::reply::{Numbers, Reply};
 use crate::reply_line::say_reply;
 use crate::station::Station;
 use cam_edits::Name;
+use cam_refusals::Refusal;
 use cam_script::{Bytes, Command, FileKind, FilePath, Line, Lines, parse_line};
 use std::alloc::Global;
 use thiserror::Error;
@@ -47,11 +47,11 @@ pub enum RunFault {
 
 /// The refusal of a file.
 pub(crate) fn file_refusal(why: FileFault) -> Fault
-    ensures { result ≡ fault (file_code why) }
+    ensures { result ≡ fault (file_refusal why) }
 {
     match why {
-        FileFault::Failed => refusal(refusals::FILE_FAULT),
-        FileFault::Memory => refusal(refusals::NO_MEMORY),
+        FileFault::Failed => without_place(Refusal::FileFault),
+        FileFault::Memory => without_place(Refusal::NoMemory),
     }
 }
 
@@ -151,7 +151,7 @@ fn run_line<F: Files>(
         (files_seen (F.contents files.new) (F.failed files.new)) }
 {
     match parse_line(alloc, line) {
-        Err(fault) => Some(Err(refusal(fault.number()))),
+        Err(fault) => Some(Err(without_place(fault.refusal()))),
         Ok(None) => None,
         Ok(Some(Line::Command(command))) => Some(station.apply(command)),
         Ok(Some(Line::Load { name, kind, path })) => {
@@ -204,7 +204,7 @@ fn begin(alloc: Global, depth: u32) -> Result<Station, RunFault>
     match Station::new(alloc, depth) {
         Ok(station) => Ok(station),
         Err(fault) => {
-            if fault.code == refusals::OUT_OF_LIMITS {
+            if fault.code == Refusal::OutOfLimits {
                 Err(RunFault::Depth)
             } else {
                 Err(RunFault::Memory)

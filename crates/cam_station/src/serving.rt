@@ -8,17 +8,15 @@ ghost use Rattle.cam_station.specs.Run.{World, load_turn, plot_turn, turn, write
 ghost use Rattle.cam_station.specs.Serving.{IsHanded, IsServed, without_bytes};
 ghost use Rattle.cam_station.specs.Machinery.Answers.{bytes_in};
 
-use crate::fault::{Fault, refusal};
+use crate::fault::{Fault, without_place};
 use crate::files::FileFault;
 use crate::reply::{Numbers, Reply};
 use crate::running::file_refusal;
 use crate::station::Station;
 use cam_edits::Name;
+use cam_refusals::limits::FILE_LIMIT;
 use cam_script::{Bytes, Command, FileKind, FilePath, Line, parse_line};
 use std::alloc::Global;
-
-/// The most bytes that a file has.
-const FILE_LIMIT: usize = 268_435_456;
 
 /// What a line leaves beside the station.
 #[derive(Drop)]
@@ -147,7 +145,7 @@ pub fn apply_line(alloc: Global, station: &mut Station, line: &[u8], file: Optio
         station.new result.reply result.file }
 {
     match parse_line(alloc, line) {
-        Err(fault) => told(Err(refusal(fault.number()))),
+        Err(fault) => told(Err(without_place(fault.refusal()))),
         Ok(None) => Served {
             reply: None,
             file: None,

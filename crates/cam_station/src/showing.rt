@@ -13,16 +13,16 @@ ghost use Rattle.cam_edits.specs.Images.{image_of};
 ghost use Rattle.cam_edits.specs.Sheets.{AreSound, IsSound, content_of, sheets_of};
 ghost use Rattle.cam_station.specs.TileTables.{dirty_in, redrawn_in};
 ghost use Rattle.cam_station.specs.Machine.{fault};
-ghost use Rattle.cam_station.specs.Refusals.{memory_refused};
+ghost use Rattle.cam_refusals.specs.declared.refusal.Refusal.TheVariants.{NoMemory};
 ghost use Rattle.cam_station.specs.Writing.{text_of};
 ghost use Rattle.cam_tiles.specs.Picture.{accepts};
 ghost use Rattle.cam_tiles.specs.Sources.{unasked};
 ghost use Rattle.cam_tiles.specs.declared.window.Window.{Window};
 ghost use Rattle.cam_tiles.specs.Tables.{blank, dirty_count, redrawn};
 
-use crate::fault::{Fault, refusal};
-use crate::refusals;
+use crate::fault::{Fault, without_place};
 use cam_edits::{Board, IndexedDrillLayer, IndexedLayer, SheetContent};
+use cam_refusals::Refusal;
 use cam_tiles::{Raster, Source, Window};
 use cam_writers::{gerber_text, xnc_text};
 use std::alloc::{AllocError, Global};
@@ -31,11 +31,11 @@ use std::alloc::{AllocError, Global};
 fn blank(alloc: Global, window: Window) -> Result<Raster, Fault>
     requires { accepts window ≡ true }
     ensures made { IfOk result (λ raster. raster ≡ blank window) }
-    ensures memory { IfErr result (λ told. told ≡ fault memory_refused) }
+    ensures memory { IfErr result (λ told. told ≡ fault NoMemory) }
 {
     match Raster::new(alloc, window) {
         Ok(raster) => Ok(raster),
-        Err(_) => Err(refusal(refusals::NO_MEMORY)),
+        Err(_) => Err(without_place(Refusal::NoMemory)),
     }
 }
 
@@ -43,7 +43,7 @@ fn blank(alloc: Global, window: Window) -> Result<Raster, Fault>
 pub(crate) fn blank_in(alloc: Global, window: Option<Window>) -> Result<Option<Raster>, Fault>
     requires { (w : Window) → window ≡ Some w → accepts w ≡ true }
     ensures made { IfOk result (λ raster. raster ≡ option_map blank window) }
-    ensures memory { IfErr result (λ told. told ≡ fault memory_refused) }
+    ensures memory { IfErr result (λ told. told ≡ fault NoMemory) }
 {
     match window {
         Some(window) => Ok(Some(blank(alloc, window)?)),
@@ -55,10 +55,10 @@ pub(crate) fn blank_in(alloc: Global, window: Option<Window>) -> Result<Option<R
 pub(crate) fn blanks(alloc: Global, window: Window, count: usize) -> Result<Vec<Raster>, Fault>
     requires { accepts window ≡ true }
     ensures made { IfOk result (λ rasters. rasters.items ≡ replicate count (blank window)) }
-    ensures memory { IfErr result (λ told. told ≡ fault memory_refused) }
+    ensures memory { IfErr result (λ told. told ≡ fault NoMemory) }
 {
     let Ok(mut rasters) = Vec::with_capacity(alloc, count) else {
-        return Err(refusal(refusals::NO_MEMORY));
+        return Err(without_place(Refusal::NoMemory));
     };
     for _ in 0..count {
         rasters.push_reserved(blank(alloc, window)?);

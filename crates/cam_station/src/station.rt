@@ -24,17 +24,17 @@ ghost use Rattle.cam_station.specs.Machine.{
   write_step,
 };
 ghost use Rattle.cam_station.specs.TileTables.{tile_at};
-ghost use Rattle.cam_station.specs.Refusals.{memory_refused};
+ghost use Rattle.cam_refusals.specs.declared.refusal.Refusal.TheVariants.{NoMemory};
 ghost use Rattle.cam_station.specs.Calls.{IsRun, after_refusal};
 ghost use Rattle.cam_undo.specs.Counted.{counts_at};
 
-use crate::fault::{Fault, refusal};
+use crate::fault::{Fault, without_place};
 use crate::reading::read;
-use crate::refusals;
 use crate::reply::{Numbers, Reply};
 use crate::showing::{blank_in, blanks, draw, draw_all, text};
 use crate::touching::{touch, touch_accepted, touch_group};
 use cam_edits::{Board, BoardStep, Change, Edit, Name, Reversible, Sheet, plan};
+use cam_refusals::Refusal;
 use cam_script::{Bytes, Command, FileKind};
 use cam_tiles::{Raster, Window};
 use cam_undo::{Counts, History};
@@ -88,10 +88,10 @@ impl Station {
         ensures { station_of depth (memory_of result) ≡ result }
     {
         if depth < 1 || DEPTH < depth {
-            return Err(refusal(refusals::OUT_OF_LIMITS));
+            return Err(without_place(Refusal::OutOfLimits));
         }
         let Ok(history) = History::new(alloc, depth as usize) else {
-            return Err(refusal(refusals::NO_MEMORY));
+            return Err(without_place(Refusal::NoMemory));
         };
         Ok(Station {
             alloc,
@@ -197,13 +197,13 @@ impl Station {
         ensures { load_step self.old name kind file.now (memory_of result) ≡ (self.new, result) }
     {
         if self.history.open_group().is_some() {
-            return Err(refusal(refusals::GROUP_OPEN));
+            return Err(without_place(Refusal::GroupOpen));
         }
         if self.board.place(&name).is_some() {
-            return Err(refusal(refusals::NAME_TAKEN));
+            return Err(without_place(Refusal::NameTaken));
         }
         if LAYERS <= self.board.len() {
-            return Err(refusal(refusals::TOO_MANY_LAYERS));
+            return Err(without_place(Refusal::TooManyLayers));
         }
         let content = read(self.alloc, kind, file)?;
         let count = content.item_count() as u64;
@@ -217,11 +217,11 @@ impl Station {
         requires sound { IsSound (sheet_of sheet).content }
         ensures ok { OnOk result (self.new ≡ with_sheet self.old (sheet_of sheet).name (sheet_of sheet).content) }
         ensures err { OnErr result (self.new ≡ self.old) }
-        ensures memory { IfErr result (λ told. told ≡ fault memory_refused) }
+        ensures memory { IfErr result (λ told. told ≡ fault NoMemory) }
     {
         let raster = blank_in(self.alloc, self.window)?;
         if self.rasters.reserve(1).is_err() || self.board.add(sheet).is_err() {
-            return Err(refusal(refusals::NO_MEMORY));
+            return Err(without_place(Refusal::NoMemory));
         }
         if let Some(raster) = raster {
             self.rasters.push_reserved(raster);
@@ -235,7 +235,7 @@ impl Station {
         ensures { window_step self.old window (memory_of result) ≡ (self.new, result) }
     {
         if !window.is_accepted() {
-            return Err(refusal(refusals::OUT_OF_LIMITS));
+            return Err(without_place(Refusal::OutOfLimits));
         }
         self.rasters = blanks(self.alloc, window, self.board.len())?;
         self.window = Some(window);
@@ -247,7 +247,7 @@ impl Station {
         ensures { redraw_step self.old at_most ≡ (self.new, result) }
     {
         if self.window.is_none() {
-            return Err(refusal(refusals::NO_WINDOW));
+            return Err(without_place(Refusal::NoWindow));
         }
         let drawn = draw_all(self.alloc, &self.board, &mut self.rasters, at_most);
         Ok(Reply::Numbers(Numbers::One(u64::from(drawn))))
@@ -258,10 +258,10 @@ impl Station {
         ensures { plot_step self.old name.now (memory_of result) ≡ (self.new, result) }
     {
         let Some(place) = self.board.place(name) else {
-            return Err(refusal(refusals::NO_LAYER));
+            return Err(without_place(Refusal::NoLayer));
         };
         if self.window.is_none() {
-            return Err(refusal(refusals::NO_WINDOW));
+            return Err(without_place(Refusal::NoWindow));
         }
         let raster = &mut self.rasters[place];
         let dirty = raster.dirty();
@@ -271,7 +271,7 @@ impl Station {
                 bytes: Bytes::from_vec(bytes),
                 drawn: u64::from(drawn),
             }),
-            Err(_) => Err(refusal(refusals::NO_MEMORY)),
+            Err(_) => Err(without_place(Refusal::NoMemory)),
         }
     }
 
@@ -279,14 +279,14 @@ impl Station {
         ensures { write_step self.now name.now (memory_of result) ≡ (self.now, result) }
     {
         let Some(place) = self.board.place(name) else {
-            return Err(refusal(refusals::NO_LAYER));
+            return Err(without_place(Refusal::NoLayer));
         };
         match text(self.alloc, self.board.content(place)) {
             Ok(text) => Ok(Reply::Bytes {
                 bytes: Bytes::from_vec(text),
                 drawn: 0,
             }),
-            Err(_) => Err(refusal(refusals::NO_MEMORY)),
+            Err(_) => Err(without_place(Refusal::NoMemory)),
         }
     }
 
@@ -306,9 +306,9 @@ impl Station {
                     touch_accepted(&mut self.rasters, &self.history);
                     Ok(Reply::Done)
                 }
-                Err(_) => Err(refusal(refusals::NO_MEMORY)),
+                Err(_) => Err(without_place(Refusal::NoMemory)),
             },
-            Err(fault) => Err(refusal(fault.number())),
+            Err(fault) => Err(without_place(fault.refusal())),
         }
     }
 
@@ -317,7 +317,7 @@ impl Station {
     {
         match self.history.begin() {
             Ok(()) => Ok(Reply::Done),
-            Err(fault) => Err(refusal(fault.number())),
+            Err(fault) => Err(without_place(fault.refusal())),
         }
     }
 
@@ -326,7 +326,7 @@ impl Station {
     {
         match self.history.end() {
             Ok(()) => Ok(Reply::Done),
-            Err(fault) => Err(refusal(fault.number())),
+            Err(fault) => Err(without_place(fault.refusal())),
         }
     }
 
@@ -338,7 +338,7 @@ impl Station {
                 touch(&mut self.rasters, &steps);
                 Ok(Reply::Done)
             }
-            Err(fault) => Err(refusal(fault.number())),
+            Err(fault) => Err(without_place(fault.refusal())),
         }
     }
 
@@ -350,7 +350,7 @@ impl Station {
                 touch_group(&mut self.rasters, self.history.last_redo());
                 Ok(Reply::Done)
             }
-            Err(fault) => Err(refusal(fault.number())),
+            Err(fault) => Err(without_place(fault.refusal())),
         }
     }
 
@@ -362,7 +362,7 @@ impl Station {
                 touch_group(&mut self.rasters, self.history.last_undo());
                 Ok(Reply::Done)
             }
-            Err(fault) => Err(refusal(fault.number())),
+            Err(fault) => Err(without_place(fault.refusal())),
         }
     }
 
@@ -378,7 +378,7 @@ impl Station {
         ensures { list_layer_step self.now name.now ≡ (self.now, result) }
     {
         let Some(place) = self.board.place(name) else {
-            return Err(refusal(refusals::NO_LAYER));
+            return Err(without_place(Refusal::NoLayer));
         };
         let content = self.board.content(place);
         let items = content.item_count() as u64;

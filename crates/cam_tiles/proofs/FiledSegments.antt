@@ -5,7 +5,7 @@ use Rattle.std.specs.Int.{IsBitSet, int_max, int_min}
 use Rattle.std.specs.Int.RustNames.{unsigned_abs}
 use Rattle.std.proofs.lemmas.Bool.{false≢true}
 use Rattle.std.proofs.lemmas.Int.{clamps, ints}
-use Rattle.cam_units.specs.Board.{board_limit}
+use Rattle.cam_refusals.specs.Limits.{board_limit}
 use Rattle.cam_units.specs.declared.point.Point.{Point}
 use Rattle.cam_units.specs.declared.point.Spot.{Spot}
 use Rattle.cam_shapes.specs.declared.cap.Cap.{Cap}

@@ -7,7 +7,8 @@ use Rattle.std.proofs.lemmas.Bool.{cases_lt}
 use Rattle.std.proofs.lemmas.Int.{by_lt_z, clamps, ints, to_z-of_z}
 use Rattle.std.proofs.lemmas.Nat.{mul-le}
 use Rattle.cam_rows.proofs.Steps.{left_by_division}
-use Rattle.cam_units.specs.Board.{IsOnBoard, board_limit, place_limit}
+use Rattle.cam_refusals.specs.Limits.{board_limit}
+use Rattle.cam_units.specs.Board.{IsOnBoard, place_limit}
 use Rattle.cam_units.specs.declared.point.Point.{Point}
 use Rattle.cam_units.specs.declared.point.Spot.{Spot}
 use Rattle.cam_objects.specs.Image.{relative}

@@ -12,9 +12,9 @@ use Rattle.cam_shapes.specs.declared.segments.Seg.{Seg}
 use Rattle.cam_shapes.specs.declared.segments.Seg.TheVariants.{Line, Curve}
 use Rattle.cam_shapes.specs.Contour.{IsSoundSeg}
 use Rattle.cam_shapes.specs.Placing.{placed_contour, placed_point, placed_seg}
+use Rattle.cam_objects.proofs.SoundItems.{meets}
 use Rattle.cam_objects.specs.declared.item.Item.{Item}
 use Rattle.cam_objects.specs.declared.item.Item.TheVariants.{One}
-use Rattle.cam_objects.specs.declared.item_fault.ItemFault.TheVariants.{OutOfBoard, TooMuch}
 use Rattle.cam_objects.specs.declared.layer.Layer.{Layer}
 use Rattle.cam_objects.specs.declared.object.Object.TheVariants.{Region}
 use Rattle.cam_objects.specs.Leaves.{Filled, item_leaves, leaf, meaning_in, origin}
@@ -61,13 +61,13 @@ module _ (layer : Layer) (item : Item) (c : Contour) (dark : Bool) (is : item �
 
   region_sound : IsSoundItem layer.apertures item → IsOnBoardWhole c
   region_sound sound =
-      let whole = subst (IsSoundItem layer.apertures) is sound in
+      let whole = meets layer.apertures (One (Region c dark)) (subst (IsSoundItem layer.apertures) is sound) in
       let points : All IsOnBoard (points_of_contour c) =
-      All-head (λ o. All IsOnBoard (points_of o)) (Region c dark) [] (whole OutOfBoard).points in
+      All-head (λ o. All IsOnBoard (points_of o)) (Region c dark) [] whole.inside.points in
       record {
         start = All-head IsOnBoard c.start (flat_map points_of_seg c.segs) points;
         segs = sound_segs c.segs (All-tail IsOnBoard c.start (flat_map points_of_seg c.segs) points);
-        few = All-head (λ o. length (segs_of o) ≤ 1000000) (Region c dark) [] (whole TooMuch).segs;
+        few = All-head (λ o. length (segs_of o) ≤ 1000000) (Region c dark) [] whole.limits.segs;
       }
 
   -- where the list has it at a place

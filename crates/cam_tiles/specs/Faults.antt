@@ -1,9 +1,10 @@
--- Refusals of a raster by their numbers.
-use Rattle.std.specs.Prelude.{ℕ}
+-- Refusals of a raster.
+use Rattle.cam_refusals.specs.declared.refusal.Refusal.{Refusal}
+use Rattle.cam_refusals.specs.declared.refusal.Refusal.TheVariants as refusals
 use Rattle.cam_tiles.specs.declared.fault.RasterFault.{RasterFault}
 use Rattle.cam_tiles.specs.declared.fault.RasterFault.TheVariants.{WindowRefused, StillDirty, Memory}
 
-abbrev pub number_of : RasterFault → ℕ
-number_of WindowRefused = 50
-number_of StillDirty = 51
-number_of Memory = 30
+abbrev pub refusal_of : RasterFault → Refusal
+refusal_of WindowRefused = refusals.OutOfLimits
+refusal_of StillDirty = refusals.StillDirty
+refusal_of Memory = refusals.NoMemory

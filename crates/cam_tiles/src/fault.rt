@@ -1,9 +1,11 @@
 //! What a raster refuses.
 
 ghost use Rattle.std.specs.Prelude.{◌≡◌};
-ghost use Rattle.cam_tiles.specs.Faults.{number_of};
+ghost use Rattle.cam_refusals.specs.Refusals.{number_of};
+ghost use Rattle.cam_tiles.specs.Faults.{refusal_of};
 ghost use Rattle.cam_tiles.specs.declared.fault.RasterFault.TheVariants.{Memory};
 
+use cam_refusals::Refusal;
 use std::alloc::AllocError;
 use thiserror::Error;
 
@@ -22,15 +24,22 @@ pub enum RasterFault {
 }
 
 impl RasterFault {
-    /// The number by which a refusal is told: 50, 51 or 30.
-    pub fn number(self) -> u8
-        ensures { result ≡ number_of self }
+    /// The refusal that it is told as.
+    pub fn refusal(self) -> Refusal
+        ensures { result ≡ refusal_of self }
     {
         match self {
-            RasterFault::WindowRefused => 50,
-            RasterFault::StillDirty => 51,
-            RasterFault::Memory => 30,
+            RasterFault::WindowRefused => Refusal::OutOfLimits,
+            RasterFault::StillDirty => Refusal::StillDirty,
+            RasterFault::Memory => Refusal::NoMemory,
         }
+    }
+
+    /// The number by which it is told: 50, 51 or 30.
+    pub fn number(self) -> u8
+        ensures { result ≡ number_of (refusal_of self) }
+    {
+        self.refusal().number()
     }
 }
 

@@ -1,9 +1,11 @@
 //! What a history refuses.
 
 ghost use Rattle.std.specs.Prelude.{◌≡◌};
-ghost use Rattle.cam_undo.specs.Faults.{number_of};
+ghost use Rattle.cam_refusals.specs.Refusals.{number_of};
+ghost use Rattle.cam_undo.specs.Faults.{refusal_of};
 ghost use Rattle.cam_undo.specs.declared.fault.HistoryFault.TheVariants.{Memory};
 
+use cam_refusals::Refusal;
 use std::alloc::AllocError;
 use thiserror::Error;
 
@@ -31,18 +33,25 @@ pub enum HistoryFault {
 }
 
 impl HistoryFault {
-    /// The number by which a refusal is told: 50, 72, 73, 70, 71 or 30.
-    pub fn number(self) -> u8
-        ensures { result ≡ number_of self }
+    /// The refusal that it is told as.
+    pub fn refusal(self) -> Refusal
+        ensures { result ≡ refusal_of self }
     {
         match self {
-            HistoryFault::Depth => 50,
-            HistoryFault::GroupOpen => 72,
-            HistoryFault::NoGroup => 73,
-            HistoryFault::NothingToUndo => 70,
-            HistoryFault::NothingToRedo => 71,
-            HistoryFault::Memory => 30,
+            HistoryFault::Depth => Refusal::OutOfLimits,
+            HistoryFault::GroupOpen => Refusal::GroupOpen,
+            HistoryFault::NoGroup => Refusal::NoGroup,
+            HistoryFault::NothingToUndo => Refusal::NothingToUndo,
+            HistoryFault::NothingToRedo => Refusal::NothingToRedo,
+            HistoryFault::Memory => Refusal::NoMemory,
         }
+    }
+
+    /// The number by which it is told: 50, 72, 73, 70, 71 or 30.
+    pub fn number(self) -> u8
+        ensures { result ≡ number_of (refusal_of self) }
+    {
+        self.refusal().number()
     }
 }
 

@@ -1,20 +1,13 @@
 -- The limits of the board.
 use Rattle.std.specs.Prelude.{ℕ, ◌<◌, ℤ, pos, ◌≤ℤ◌}
 use Rattle.std.specs.Int.RustNames.{unsigned_abs}
+use Rattle.cam_refusals.specs.Limits.{board_limit, size_limit}
 use Rattle.cam_units.specs.declared.point.Point.{Point}
 use Rattle.cam_units.specs.declared.point.Spot.{Spot}
 
--- The coordinates of a point are under a metre in absolute value: in nanometres
-abbrev pub board_limit : ℕ
-board_limit = 1000000000
-
--- and, of a place, in half nanometres.
+-- the coordinates of a place are under it in absolute value: a metre, in half nanometres
 abbrev pub place_limit : ℕ
 place_limit = 2000000000
-
--- the greatest diameter, side or width, in nanometres
-abbrev pub size_limit : ℕ
-size_limit = 200000000
 
 -- a point of the board
 pub record IsOnBoard (p : Point) : Type 0 where

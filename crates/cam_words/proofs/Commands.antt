@@ -7,6 +7,8 @@ use Rattle.std.specs.List.{list_any, before_first, suffix_len, prefix_len, AllBy
 use Rattle.std.proofs.lemmas.List.{take_at, drop_at, get_or_at}
 use Rattle.std.proofs.lemmas.List.Elements.{filter-append}
 use Rattle.std.proofs.lemmas.Bool.Decides.{nat_tests}
+use Rattle.cam_refusals.specs.declared.refusal.Refusal.{Refusal}
+use Rattle.cam_refusals.specs.declared.refusal.Refusal.TheVariants.{Unterminated}
 use Rattle.cam_words.specs.Bytes.{star, percent, is_star, is_percent, is_skipped, IsSkipped, is_control}
 use Rattle.cam_words.specs.Bytes.{is_forbidden_in_code}
 use Rattle.cam_words.specs.Heads.{packed, begins_as_free_text, is_free_text, is_forbidden_in_word}
@@ -115,8 +117,8 @@ extended_at-command text tail rest allowed skipped =
     ∙ command_within-command text tail skipped
 
 -- the command at the front of a text, if the text has a byte
-abbrev pub found_at : List ℕ → Result Command ℕ
-found_at [] = Err 0
+abbrev pub found_at : List ℕ → Result Command Refusal
+found_at [] = Err Unterminated
 found_at (first ∷ rest) = command_at first rest
 
 pub found_at-command : (command : Command) (rest : List ℕ) → IsCommand command

@@ -3,6 +3,7 @@ use Rattle.std.proofs.Common.{◌≡◌, ℕ, ◌+◌, ◌<◌, List, [], ◌∷
 use Rattle.std.proofs.Common.{Some, None, Result, Ok, Err, refl, sym, ap, ◌∙◌, arith, length-append, append_assoc}
 use Rattle.std.specs.List.{prefix_len, flat_map, AllByRecursion}
 use Rattle.std.proofs.lemmas.List.{take_at, drop_at, drop-drop, append-nil, append_cancel_left}
+use Rattle.cam_refusals.specs.declared.refusal.Refusal.{Refusal}
 use Rattle.cam_words.specs.Bytes.{is_skipped, IsSkipped}
 use Rattle.cam_words.specs.Cutting.{Command, Piece, Blank, Whole, bytes_of_command, bytes_of, IsCommand, IsPiece}
 use Rattle.cam_words.specs.Cutting.{IsApart, AreApart, word_of, words_of}
@@ -81,7 +82,7 @@ reads_its_words text pieces is =
     ∙ append-nil (told (words_of 0 pieces))
 
 -- the piece at the front of a text, by whether its first byte is skipped
-piece_of : Result Command ℕ → Option Piece
+piece_of : Result Command Refusal → Option Piece
 piece_of (Ok command) = Some (Whole command)
 piece_of (Err code) = None
 

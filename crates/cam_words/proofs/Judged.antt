@@ -8,10 +8,12 @@ use Rattle.std.proofs.lemmas.List.{take-append-drop, drop_more}
 use Rattle.std.proofs.lemmas.List.Folds.{Any-from_list_any, list_any-from_Any}
 use Rattle.std.proofs.lemmas.List.Sums.{suffix_len-le-length}
 use Rattle.std.proofs.lemmas.Bool.{eqb-true}
+use Rattle.cam_refusals.specs.declared.refusal.Refusal.{Refusal}
+use Rattle.cam_refusals.specs.declared.refusal.Refusal.TheVariants.{BadByte, Unterminated}
 use Rattle.cam_words.specs.Bytes.{star, percent, is_star, is_percent, is_skipped, IsSkipped}
 use Rattle.cam_words.specs.Heads.{is_forbidden_in_word, is_forbidden_in_extended}
 use Rattle.cam_words.specs.Cutting.{Command, WordCommand, ExtendedCommand, bytes_of_command, BeginsAsWord, IsCommand}
-use Rattle.cam_words.specs.Reading.{word_at, command_within, extended_at, command_at, bad_byte, unterminated}
+use Rattle.cam_words.specs.Reading.{word_at, command_within, extended_at, command_at}
 use Rattle.cam_words.specs.Laws.{HoldsForbiddenByte, TellsFault}
 use Rattle.cam_words.proofs.Lists.{AllFail, all_map, all_both, all_front, all_fail, before_first-cons}
 use Rattle.cam_words.proofs.Lists.{before_first_fails, before_first-split, no_value, IsBefore-before_first}
@@ -72,7 +74,7 @@ holds_in_extended rest bad = inr (record {
 })
 
 -- what the reading finds at the front of a text is right
-abbrev pub IsRight : List ℕ → Result Command ℕ → Type 0
+abbrev pub IsRight : List ℕ → Result Command Refusal → Type 0
 IsRight text (Ok command) = IsCommand command × ((rest : List ℕ) × (text ≡ bytes_of_command command ++ rest))
 IsRight text (Err code) = TellsFault code text
 
@@ -113,13 +115,13 @@ word_at_is_right first rest kept other =
     (elim (list_any (is_forbidden_in_word word) word) as
     (λ bad. list_any (is_forbidden_in_word word) word ≡ bad
     → IsRight text
-    (if bad then Err bad_byte else if eqb (length word) (length text) then Err unterminated
+    (if bad then Err BadByte else if eqb (length word) (length text) then Err Unterminated
     else Ok (WordCommand word))) [
       | true ↦ λ bad. inl (refl, holds_in_word first rest other bad)
       | false ↦ λ fine.
           (elim (eqb (length word) (length text)) as
           (λ all. eqb (length word) (length text) ≡ all
-          → IsRight text (if all then Err unterminated else Ok (WordCommand word))) [
+          → IsRight text (if all then Err Unterminated else Ok (WordCommand word))) [
             | true ↦ λ all. inr (refl, λ held. not_both _ (held_in_word first rest other held) fine)
             | false ↦ λ ends. word_is_right first rest kept other fine (no_value (length text) (length word) ends)
           ]) refl
@@ -128,7 +130,7 @@ word_at_is_right first rest kept other =
 -- an extended command
 unterminated_is_right : (rest : List ℕ)
     → list_any (is_forbidden_in_extended (inside_of_front rest)) (inside_of_front rest) ≡ false
-    → IsRight (percent ∷ rest) (Err unterminated)
+    → IsRight (percent ∷ rest) (Err Unterminated)
 unterminated_is_right rest fine = inr (refl, λ held. not_both _ (held_in_extended rest held) fine)
 
 extended_is_right : (rest text tail : List ℕ)
@@ -175,9 +177,9 @@ command_within_is_right : (rest : List ℕ) (len : ℕ)
     → list_any (is_forbidden_in_extended (inside_of_front rest)) (inside_of_front rest) ≡ false
     → length (inside_of_front rest) ≢ length rest
     → IsRight (percent ∷ rest)
-    (if eqb len 0 then Err unterminated
+    (if eqb len 0 then Err Unterminated
     else if is_star (get_or (inside_of_front rest) (len - 1) 0) then Ok
-    (ExtendedCommand (take (len - 1) (inside_of_front rest)) (drop len (inside_of_front rest))) else Err unterminated)
+    (ExtendedCommand (take (len - 1) (inside_of_front rest)) (drop len (inside_of_front rest))) else Err Unterminated)
 command_within_is_right rest len is fine ends =
     let inside : List ℕ = inside_of_front rest in
     let skipped : AllByRecursion IsSkipped (drop len (inside_of_front rest)) =
@@ -186,17 +188,17 @@ command_within_is_right rest len is fine ends =
     (elim (eqb len 0) as
     (λ none. eqb len 0 ≡ none
     → IsRight (percent ∷ rest)
-    (if none then Err unterminated
+    (if none then Err Unterminated
     else if is_star (get_or (inside_of_front rest) (len - 1) 0) then Ok
     (ExtendedCommand (take (len - 1) (inside_of_front rest)) (drop len (inside_of_front rest)))
-    else Err unterminated)) [
+    else Err Unterminated)) [
       | true ↦ λ none. unterminated_is_right rest fine
       | false ↦ λ some.
           (elim (is_star (get_or (inside_of_front rest) (len - 1) 0)) as
           (λ last. is_star (get_or (inside_of_front rest) (len - 1) 0) ≡ last
           → IsRight (percent ∷ rest)
           (if last then Ok (ExtendedCommand (take (len - 1) (inside_of_front rest)) (drop len (inside_of_front rest)))
-          else Err unterminated)) [
+          else Err Unterminated)) [
             | true ↦ λ last.
                 let more : len ≢ 0 = no_value 0 len some in
                 extended_is_right rest _ _ fine ends
@@ -212,13 +214,13 @@ extended_at_is_right rest =
     (elim (list_any (is_forbidden_in_extended inside) inside) as
     (λ bad. list_any (is_forbidden_in_extended inside) inside ≡ bad
     → IsRight (percent ∷ rest)
-    (if bad then Err bad_byte else if eqb (length inside) (length rest) then Err unterminated
+    (if bad then Err BadByte else if eqb (length inside) (length rest) then Err Unterminated
     else command_within inside)) [
       | true ↦ λ bad. inl (refl, holds_in_extended rest bad)
       | false ↦ λ fine.
           (elim (eqb (length inside) (length rest)) as
           (λ all. eqb (length inside) (length rest) ≡ all
-          → IsRight (percent ∷ rest) (if all then Err unterminated else command_within inside)) [
+          → IsRight (percent ∷ rest) (if all then Err Unterminated else command_within inside)) [
             | true ↦ λ all. unterminated_is_right rest fine
             | false ↦ λ ends. command_within_is_right rest _ refl fine (no_value (length rest) (length inside) ends)
           ]) refl

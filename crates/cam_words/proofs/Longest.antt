@@ -5,6 +5,7 @@ use Rattle.std.proofs.Common.{length-drop, append_assoc}
 use Rattle.std.specs.List.{prefix_len, flat_map, AllByRecursion}
 use Rattle.std.proofs.lemmas.List.{take-append-drop, append-nil}
 use Rattle.std.proofs.lemmas.List.Sums.{prefix_len-le-length}
+use Rattle.cam_refusals.specs.declared.refusal.Refusal.{Refusal}
 use Rattle.cam_words.specs.declared.word.TextFault.{TextFault}
 use Rattle.cam_words.specs.Bytes.{is_skipped, IsSkipped}
 use Rattle.cam_words.specs.Cutting.{Command, Piece, Blank, Whole, bytes_of_command, bytes_of, IsCommand, IsPiece}
@@ -52,7 +53,7 @@ apart-with_run [] pieces first apart = apart
 apart-with_run (byte ∷ run) pieces first apart = (first (byte ∷ run), apart)
 
 -- the pieces of a front, behind which a fault is found
-record Stops (text : List ℕ) (front : List Piece) (behind : List ℕ) (code : ℕ) : Type 0 where
+record Stops (text : List ℕ) (front : List Piece) (behind : List ℕ) (code : Refusal) : Type 0 where
   joined : text ≡ flat_map bytes_of front ++ behind
   each : AllByRecursion IsPiece front
   apart : AreApart front
@@ -61,7 +62,7 @@ record Stops (text : List ℕ) (front : List Piece) (behind : List ℕ) (code : 
 
 abbrev IsCut : List ℕ → Type 0
 IsCut text = ((pieces : List Piece) × IsCutting text pieces)
-    ⊎ ((front : List Piece) × (behind : List ℕ) × (code : ℕ) × Stops text front behind code)
+    ⊎ ((front : List Piece) × (behind : List ℕ) × (code : Refusal) × Stops text front behind code)
 
 -- one command more in front
 cut_behind : (run after rest : List ℕ) (command : Command) → AllByRecursion IsSkipped run → IsCommand command
@@ -137,7 +138,7 @@ cut_within (suc limit) text below =
     (λ rest shorter. cut_within limit rest (omega (arith, length-drop (prefix_len is_skipped text) text))))
 
 -- no piece begins where a fault is found
-no_piece : (behind : List ℕ) (code : ℕ) → BeginsCommand behind → found_at behind ≡ Err code
+no_piece : (behind : List ℕ) (code : Refusal) → BeginsCommand behind → found_at behind ≡ Err code
     → (piece : Piece) (rest : List ℕ) → IsPiece piece → behind ≡ bytes_of piece ++ rest → ⊥
 no_piece [] code begins found piece rest is e = begins
 no_piece (byte ∷ bytes) code begins found (Blank []) rest is e = absurd (omega (arith, is.0))
@@ -147,7 +148,7 @@ no_piece (byte ∷ bytes) code begins found (Whole command) rest is e =
     let other : found_at (byte ∷ bytes) ≡ Ok command = ap found_at e ∙ found_at-command command rest is in
     let clash : Ok command ≡ Err code = sym other ∙ found in cc
 
-reading-fault : (at : ℕ) (behind : List ℕ) (code : ℕ) → BeginsCommand behind → found_at behind ≡ Err code
+reading-fault : (at : ℕ) (behind : List ℕ) (code : Refusal) → BeginsCommand behind → found_at behind ≡ Err code
     → reading at behind ≡ Err (record { code = code; at = at }) ∷ []
 reading-fault at [] code begins found = absurd begins
 reading-fault at (byte ∷ bytes) code begins found =
@@ -156,7 +157,7 @@ reading-fault at (byte ∷ bytes) code begins found =
     ∙ rw begins (rw here refl) in
     front ∙ ap (answers_by reading at (byte ∷ bytes)) found
 
-tells_fault : (behind : List ℕ) (code : ℕ) → BeginsCommand behind → found_at behind ≡ Err code → TellsFault code behind
+tells_fault : (behind : List ℕ) (code : Refusal) → BeginsCommand behind → found_at behind ≡ Err code → TellsFault code behind
 tells_fault [] code begins found = absurd begins
 tells_fault (byte ∷ bytes) code begins found =
     subst (IsRight (byte ∷ bytes)) found (command_at_is_right byte bytes begins)
@@ -249,7 +250,7 @@ stops_at_the_longest_front text =
           )
     ]
   where
-    stopped : (front : List Piece) (behind : List ℕ) (code : ℕ) → Stops text front behind code
+    stopped : (front : List Piece) (behind : List ℕ) (code : Refusal) → Stops text front behind code
         → IsCutUpTo text front behind (record { code = code; at = length (flat_map bytes_of front) })
     stopped front behind code stops =
         let place : 0 + length (flat_map bytes_of front) ≡ length (flat_map bytes_of front) = omega arith in

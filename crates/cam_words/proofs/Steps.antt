@@ -3,6 +3,7 @@ use Rattle.std.proofs.Common.{◌≡◌, ℕ, zero, suc, ◌+◌, ◌-◌, ◌<�
 use Rattle.std.proofs.Common.{Result, Ok, Err, refl, sym, ap, ◌∙◌, arith, length-drop, length-append}
 use Rattle.std.specs.List.{prefix_len}
 use Rattle.std.proofs.lemmas.List.{take_rest}
+use Rattle.cam_refusals.specs.declared.refusal.Refusal.{Refusal}
 use Rattle.cam_words.specs.Bytes.{star, is_skipped}
 use Rattle.cam_words.specs.Cutting.{Command, WordCommand, ExtendedCommand, bytes_of_command, FoundWord, word_of}
 use Rattle.cam_words.specs.Reading.{Answer, command_at, answers_by, answers_at, reading_within, reading}
@@ -16,7 +17,7 @@ has_a_byte (ExtendedCommand text tail) = omega arith
 abbrev Agree : (ℕ → List ℕ → List Answer) → (ℕ → List ℕ → List Answer) → ℕ → Type 0
 Agree one other len = (at : ℕ) (text : List ℕ) → length text < len → one at text ≡ other at text
 
-answers_by-agree : (one other : ℕ → List ℕ → List Answer) (at first : ℕ) (rest : List ℕ) (found : Result Command ℕ)
+answers_by-agree : (one other : ℕ → List ℕ → List Answer) (at first : ℕ) (rest : List ℕ) (found : Result Command Refusal)
     → Agree one other (suc (length rest)) → answers_by one at (first ∷ rest) found
     ≡ answers_by other at (first ∷ rest) found
 answers_by-agree one other at first rest (Err code) agree = refl
@@ -69,18 +70,18 @@ nothing_at : (at : ℕ) (text : List ℕ) → front_shown text ≡ None → answ
 nothing_at at [] e = refl
 nothing_at at (first ∷ rest) e = absurd cc
 
-fault_by : (at code : ℕ) (text : List ℕ) (found : Result Command ℕ) → shown found ≡ Err code
+fault_by : (at : ℕ) (code : Refusal) (text : List ℕ) (found : Result Command Refusal) → shown found ≡ Err code
     → answers_by reading at text found ≡ Err (record { code = code; at = at }) ∷ []
 fault_by at code text (Ok command) e = absurd cc
 fault_by at code text (Err number) e = let same : number ≡ code = cc in
-    ap (λ (n : ℕ). Err (record { code = n; at = at }) ∷ []) same
+    ap (λ (refusal : Refusal). Err (record { code = refusal; at = at }) ∷ []) same
 
-fault_at : (at code : ℕ) (text : List ℕ) → front_shown text ≡ Some (Err code)
+fault_at : (at : ℕ) (code : Refusal) (text : List ℕ) → front_shown text ≡ Some (Err code)
     → answers_at reading at text ≡ Err (record { code = code; at = at }) ∷ []
 fault_at at code [] e = absurd cc
 fault_at at code (first ∷ rest) e = fault_by at code (first ∷ rest) (command_at first rest) cc
 
-word_by : (at len : ℕ) (text : List ℕ) (word : FoundWord) (found : Result Command ℕ) → shown found ≡ Ok (word, len)
+word_by : (at len : ℕ) (text : List ℕ) (word : FoundWord) (found : Result Command Refusal) → shown found ≡ Ok (word, len)
     → answers_by reading at text found
     ≡ Ok (record { kind = word.kind; text = word.text; at = at + word.at }) ∷ reading (at + len) (drop len text)
 word_by at len text word (Err number) e = absurd cc
@@ -105,7 +106,7 @@ module _ (at skipped : ℕ) (text : List ℕ) (is : skipped ≡ prefix_len is_sk
   pub nothing_given : None ≡ front_shown (take (length text - skipped) (drop skipped text)) → reading at text ≡ []
   nothing_given e = behind_skipped ∙ nothing_at _ _ (sym e)
 
-  pub fault_given : (code : ℕ) → Some (Err code) ≡ front_shown (take (length text - skipped) (drop skipped text))
+  pub fault_given : (code : Refusal) → Some (Err code) ≡ front_shown (take (length text - skipped) (drop skipped text))
       → reading at text ≡ Err (record { code = code; at = at + skipped }) ∷ []
   fault_given code e = behind_skipped ∙ fault_at _ code _ (sym e)
 

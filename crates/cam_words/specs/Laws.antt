@@ -1,11 +1,13 @@
 -- What ties the reading of a text to its cutting.
 use Rattle.std.specs.Prelude.{◌≡◌, ◌≢◌, ◌⊎◌, ℕ, ◌≤◌, List, [], ◌∷◌, ◌++◌, length, true, false, Err, Any}
 use Rattle.std.specs.List.{flat_map, AllByRecursion}
+use Rattle.cam_refusals.specs.declared.refusal.Refusal.{Refusal}
+use Rattle.cam_refusals.specs.declared.refusal.Refusal.TheVariants.{BadByte, Unterminated}
 use Rattle.cam_words.specs.declared.word.TextFault.{TextFault}
 use Rattle.cam_words.specs.Bytes.{star, percent, is_skipped}
 use Rattle.cam_words.specs.Heads.{is_forbidden_in_word, is_forbidden_in_extended}
 use Rattle.cam_words.specs.Cutting.{Piece, bytes_of, IsPiece, IsCutting, words_of}
-use Rattle.cam_words.specs.Reading.{reading, told, bad_byte, unterminated}
+use Rattle.cam_words.specs.Reading.{reading, told}
 
 abbrev pub AtMostOneCutting : Type 0
 AtMostOneCutting =
@@ -42,9 +44,9 @@ abbrev pub HoldsForbiddenByte : List ℕ → Type 0
 HoldsForbiddenByte text = HoldsForbiddenInWord text ⊎ HoldsForbiddenInExtended text
 
 -- a bad byte is told before a missing end
-abbrev pub TellsFault : ℕ → List ℕ → Type 0
+abbrev pub TellsFault : Refusal → List ℕ → Type 0
 TellsFault code text =
-    ((code ≡ bad_byte) × HoldsForbiddenByte text) ⊎ ((code ≡ unterminated) × (¬ HoldsForbiddenByte text))
+    ((code ≡ BadByte) × HoldsForbiddenByte text) ⊎ ((code ≡ Unterminated) × (¬ HoldsForbiddenByte text))
 
 abbrev pub BeginsCommand : List ℕ → Type 0
 BeginsCommand [] = ⊥

@@ -2,6 +2,8 @@
 use Rattle.std.specs.Prelude.{◌≡◌, ◌<◌, ℕ, zero, suc, ◌+◌, ◌-◌, List, [], ◌∷◌, length, take, drop, map, Result, Ok, Err}
 use Rattle.std.specs.Prelude.{if◌then◌else◌, ◌==◌, slice_index}
 use Rattle.std.specs.List.{before_first, prefix_len, suffix_len, list_any}
+use Rattle.cam_refusals.specs.declared.refusal.Refusal.{Refusal}
+use Rattle.cam_refusals.specs.declared.refusal.Refusal.TheVariants.{BadByte, Unterminated}
 use Rattle.cam_words.specs.declared.word.Word.{Word}
 use Rattle.cam_words.specs.declared.word.TextFault.{TextFault}
 use Rattle.cam_words.specs.Bytes.{is_star, is_percent, is_skipped}
@@ -25,44 +27,36 @@ IsWithin source (Ok word) =
     (word.text ≡ take (length word.text) (drop word.at source)) × (word.at + length word.text < length source)
 IsWithin source (Err fault) = fault.at < length source
 
--- a fault's number: the command holds a byte that it may not hold
-abbrev pub bad_byte : ℕ
-bad_byte = 1
-
--- a fault's number: the command has no end
-abbrev pub unterminated : ℕ
-unterminated = 2
-
--- the word at the front of a text, or its fault's number
-abbrev pub word_at : List ℕ → Result Command ℕ
+-- the word at the front of a text, or its fault: it holds a byte that it may not hold, or has no end
+abbrev pub word_at : List ℕ → Result Command Refusal
 word_at text =
     let word = before_first is_star text in
-    if list_any (is_forbidden_in_word word) word then Err bad_byte
-    else if length word == length text then Err unterminated
+    if list_any (is_forbidden_in_word word) word then Err BadByte
+    else if length word == length text then Err Unterminated
     else Ok (WordCommand word)
 
 -- the extended command whose two `%` stand round these bytes
-abbrev pub command_within : List ℕ → Result Command ℕ
+abbrev pub command_within : List ℕ → Result Command Refusal
 command_within inside =
     let len = length inside - suffix_len is_skipped inside in
-    if len == 0 then Err unterminated
+    if len == 0 then Err Unterminated
     else if is_star (slice_index inside (len - 1)) then Ok (ExtendedCommand (take (len - 1) inside) (drop len inside))
-    else Err unterminated
+    else Err Unterminated
 
 -- the extended command at the front of a text, of which this follows its first `%`
-abbrev pub extended_at : List ℕ → Result Command ℕ
+abbrev pub extended_at : List ℕ → Result Command Refusal
 extended_at text =
     let inside = before_first is_percent text in
-    if list_any (is_forbidden_in_extended inside) inside then Err bad_byte
-    else if length inside == length text then Err unterminated
+    if list_any (is_forbidden_in_extended inside) inside then Err BadByte
+    else if length inside == length text then Err Unterminated
     else command_within inside
 
 -- the command that begins with a byte, before the others
-abbrev pub command_at : ℕ → List ℕ → Result Command ℕ
+abbrev pub command_at : ℕ → List ℕ → Result Command Refusal
 command_at first rest = if is_percent first then extended_at rest else word_at (first ∷ rest)
 
 -- what a command at a place gives, before what the text behind it gives
-abbrev pub answers_by : (ℕ → List ℕ → List Answer) → ℕ → List ℕ → Result Command ℕ → List Answer
+abbrev pub answers_by : (ℕ → List ℕ → List Answer) → ℕ → List ℕ → Result Command Refusal → List Answer
 answers_by behind at text (Err code) = Err (record { code = code; at = at }) ∷ []
 answers_by behind at text (Ok command) =
     let len = length (bytes_of_command command) in Ok (word_of at command) ∷ behind (at + len) (drop len text)

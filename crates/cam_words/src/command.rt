@@ -13,7 +13,8 @@ use crate::bytes::{
     trailing_skipped,
 };
 use crate::heads::{is_comment, is_free_text};
-use crate::word::{Kind, TextFault};
+use crate::word::Kind;
+use cam_refusals::Refusal;
 
 /// A command at the front of a text.
 #[derive(Clone, Copy)]
@@ -72,18 +73,18 @@ fn front_word(text: &[u8]) -> FrontWord<'_>
     }
 }
 
-/// The word that the text begins with, or its fault's number.
-fn word(text: &[u8]) -> Result<Command<'_>, u8>
+/// The word that the text begins with, or its fault.
+fn word(text: &[u8]) -> Result<Command<'_>, Refusal>
     ensures value { seen result ≡ shown (word_at text.now) }
     ensures inside { IfOk result (IsInside (length text.now)) }
 {
     let front = front_word(text);
     if front.is_bad {
-        return Err(TextFault::BAD_BYTE);
+        return Err(Refusal::BadByte);
     }
     let len = front.text.len();
     if len == text.len() {
-        return Err(TextFault::UNTERMINATED);
+        return Err(Refusal::Unterminated);
     }
     let kind = if front.is_comment {
         Kind::Comment
@@ -98,14 +99,14 @@ fn word(text: &[u8]) -> Result<Command<'_>, u8>
     })
 }
 
-/// The extended command whose two `%` stand round these bytes, or its fault's number.
-fn command_within(inside: &[u8]) -> Result<Command<'_>, u8>
+/// The extended command whose two `%` stand round these bytes, or its fault.
+fn command_within(inside: &[u8]) -> Result<Command<'_>, Refusal>
     ensures value { seen result ≡ shown (command_within inside.now) }
     ensures inside { IfOk result (IsInside (length inside.now + 2)) }
 {
     let len = inside.len() - trailing_skipped(inside);
     if len == 0 || inside[len - 1] != b'*' {
-        return Err(TextFault::UNTERMINATED);
+        return Err(Refusal::Unterminated);
     }
     Ok(Command {
         kind: Kind::Extended,
@@ -115,24 +116,24 @@ fn command_within(inside: &[u8]) -> Result<Command<'_>, u8>
     })
 }
 
-/// The extended command whose first `%` stands before the text, or its fault's number.
-fn extended(text: &[u8]) -> Result<Command<'_>, u8>
+/// The extended command whose first `%` stands before the text, or its fault.
+fn extended(text: &[u8]) -> Result<Command<'_>, Refusal>
     ensures value { seen result ≡ shown (extended_at text.now) }
     ensures inside { IfOk result (IsInside (length text.now + 1)) }
 {
     let len = place_of(b'%', text);
     let inside = &text[..len];
     if holds_forbidden_in_extended(inside) {
-        return Err(TextFault::BAD_BYTE);
+        return Err(Refusal::BadByte);
     }
     if len == text.len() {
-        return Err(TextFault::UNTERMINATED);
+        return Err(Refusal::Unterminated);
     }
     command_within(inside)
 }
 
-/// The command that the text begins with, or its fault's number; nothing of an empty text.
-pub fn front(text: &[u8]) -> Option<Result<Command<'_>, u8>>
+/// The command that the text begins with, or its fault; nothing of an empty text.
+pub fn front(text: &[u8]) -> Option<Result<Command<'_>, Refusal>>
     ensures value { option_map seen result ≡ front_shown text.now }
     ensures inside { IfSome result (λ found. IfOk found (IsInside (length text.now))) }
 {

@@ -13,7 +13,7 @@ pub fn reads_its_words()
 {}
 
 /// A text that has none gives the words of its longest front that has one, and then a fault at that front's end:
-/// `BAD_BYTE` where the command there holds a byte that it may not hold, else `UNTERMINATED`.
+/// `BadByte` where the command there holds a byte that it may not hold, else `Unterminated`.
 pub fn stops_at_the_longest_front()
     ensures { StopsAtTheLongestFront }
 {}

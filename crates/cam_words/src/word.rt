@@ -1,3 +1,5 @@
+use cam_refusals::Refusal;
+
 /// What a word of a Gerber text is.
 #[derive(Clone, Copy, Debug, PartialEq, Eq)]
 pub enum Kind {
@@ -23,16 +25,8 @@ pub struct Word<'a> {
 /// Why a text cannot be cut any further.
 #[derive(Clone, Copy, Debug, PartialEq, Eq)]
 pub struct TextFault {
-    /// `BAD_BYTE` or `UNTERMINATED`.
-    pub code: u8,
+    /// `BadByte`: the command holds a byte that it may not hold; or `Unterminated`: it holds none, and has no end.
+    pub code: Refusal,
     /// The place of the first byte of the command, of an extended one its `%`.
     pub at: usize,
-}
-
-impl TextFault {
-    /// The command holds a byte that it may not hold.
-    pub const BAD_BYTE: u8 = 1;
-
-    /// The command has no end, and holds no byte that it may not hold.
-    pub const UNTERMINATED: u8 = 2;
 }

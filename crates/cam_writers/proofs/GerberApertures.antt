@@ -8,6 +8,8 @@ use Rattle.std.proofs.lemmas.Bool.{and_parts}
 use Rattle.std.proofs.lemmas.Bool.Decides.{nat_tests, Decides-int_eq}
 use Rattle.std.proofs.lemmas.Fmt.{decimal_injective}
 use Rattle.std.proofs.lemmas.Int.{ints}
+use Rattle.cam_refusals.specs.Checks.{least}
+use Rattle.cam_refusals.specs.Refusals.{number_of}
 use Rattle.cam_units.specs.declared.length.Nm.{Nm}
 use Rattle.cam_units.specs.declared.length.Unit.TheVariants.{Mm}
 use Rattle.cam_units.specs.Board.{IsSize}
@@ -21,7 +23,7 @@ use Rattle.cam_apertures.specs.declared.aperture.Aperture.TheVariants.{Circle, R
 use Rattle.cam_apertures.specs.Definition.{definition_of, values_of, aperture_of, is_between, named, template_faults, faults_of}
 use Rattle.cam_apertures.specs.Soundness.{IsSide, IsSoundAperture}
 use Rattle.cam_objects.specs.declared.entry.Entry.TheVariants as entry
-use Rattle.cam_gerber.specs.Faults.{is_reserved, least}
+use Rattle.cam_gerber.specs.Faults.{is_reserved}
 use Rattle.cam_gerber.specs.Layers.{defined_by}
 use Rattle.cam_writers.specs.Lengths.{mm}
 use Rattle.cam_writers.specs.Commands.{macro_name}
@@ -112,7 +114,7 @@ two_count y z hole = by (int_eq hole.0 (pos 0))
 -- ---- faults
 
 template_faultless : (macros : List Macro) (n : ℕ) (a : Aperture) → IsSoundAperture a → IsMade macros n a
-    → least (template_faults (name_of n a) macros Mm (length (parameters_of a)) (values_for a)) ≡ None
+    → least number_of (template_faults (name_of n a) macros Mm (length (parameters_of a)) (values_for a)) ≡ None
 template_faultless macros n (Circle diameter hole) sound h =
     let count = one_count diameter.0 hole in
     rw (
@@ -151,7 +153,7 @@ template_faultless macros n (Prims prims) sound h = rw (h.1, h.2) refl
 
 -- no number of the table holds
 pub definition_faultless : (macros : List Macro) (n : ℕ) (a : Aperture) → 10 ≤ n → n ≤ 2147483647 → IsSoundAperture a
-    → IsMade macros n a → least (faults_of (definition_of (definition_text n a)) macros Mm) ≡ None
+    → IsMade macros n a → least number_of (faults_of (definition_of (definition_text n a)) macros Mm) ≡ None
 definition_faultless macros n a low high sound made =
     rw (definition_form n a high sound, defined_again n low high, parameters_again a sound)
     (template_faultless macros n a sound made)

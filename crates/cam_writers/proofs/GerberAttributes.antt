@@ -10,6 +10,7 @@ use Rattle.std.proofs.lemmas.List.{append-nil, length-append}
 use Rattle.std.proofs.lemmas.List.Elements.{All-cons, All-head, All-nil, All-tail, recursion_from_All}
 use Rattle.std.proofs.lemmas.Map.Keys.{IsDistinct-head, IsDistinct-tail}
 use Rattle.std.proofs.Math.Seq.{drop-append_seam, take-append_seam}
+use Rattle.cam_refusals.specs.declared.refusal.Refusal.TheVariants.{TooMuch}
 use Rattle.cam_units.specs.declared.length.Unit.TheVariants.{Mm}
 use Rattle.cam_units.specs.declared.turn.Turn.TheVariants.{R0}
 use Rattle.cam_words.specs.Bytes.{is_control, is_forbidden_in_code, is_star, percent}
@@ -205,7 +206,7 @@ attribute_added past front a o set lacks few =
           sets_its_attribute past (text_in a)
           ∙ ap (with_attribute (attribute_of (name_of (text_in a)) (fields_of (text_in a)))) o.attributes ∙ added;
       endless = (refl, o.endless);
-      none = (ap (λ b. cond b (Some 25) None) counted, o.none);
+      none = (ap (λ b. cond b (Some TooMuch) None) counted, o.none);
     }
 
 behind : (past : Past) (all front rest : List Attribute) → AreAttributes all → front ++ rest ≡ all → Opens past front

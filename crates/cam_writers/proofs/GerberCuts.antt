@@ -6,20 +6,23 @@ use Rattle.std.specs.Option.{option_map}
 use Rattle.std.specs.List.{flat_map, AllByRecursion}
 use Rattle.std.proofs.lemmas.List.{reverse-append, map-append}
 use Rattle.std.proofs.lemmas.List.Concat.{flat_map-append}
+use Rattle.cam_refusals.specs.Checks.{least}
+use Rattle.cam_refusals.specs.Refusals.{number_of}
 use Rattle.cam_words.specs.Cutting.{Command, WordCommand, ExtendedCommand, Piece, Blank, Whole, bytes_of_command}
 use Rattle.cam_words.specs.Cutting.{bytes_of, IsCommand, IsPiece, IsApart, AreApart, IsCutting, word_of, words_of}
 use Rattle.cam_words.specs.Reading.{Answer, reading, told}
 use Rattle.cam_words.proofs.Cuttings.{reads_its_words}
 use Rattle.cam_objects.specs.Contents.{Content}
 use Rattle.cam_commands.specs.Syntax.{command_of}
-use Rattle.cam_gerber.specs.declared.read_fault.ReadFault.{ReadFault}
+use Rattle.cam_refusals.specs.declared.read_fault.ReadFault.{ReadFault}
 use Rattle.cam_gerber.specs.Statements.{Statement}
 use Rattle.cam_gerber.specs.State.{Past}
 use Rattle.cam_gerber.specs.Layers.{layer_in}
-use Rattle.cam_gerber.specs.Faults.{faults, least}
-use Rattle.cam_gerber.specs.Reading.{is_end, fault_of}
-use Rattle.cam_gerber.specs.Computing.{statement_of, told_of, given, lead_of, reading_of}
+use Rattle.cam_gerber.specs.Faults.{faults}
+use Rattle.cam_gerber.specs.Reading.{is_end}
+use Rattle.cam_gerber.specs.Computing.{statement_of, told_of, lead_of, reading_of}
 use Rattle.cam_gerber.specs.Laws.{IsFaultless}
+use Rattle.cam_gerber.proofs.Reading.{ends, goes_on}
 use Rattle.cam_writers.specs.GerberTexts.{Commands, text_of, says, said_by}
 
 -- ---- the pieces of a text
@@ -118,15 +121,6 @@ told_by_commands commands h = ap (λ answers. map says_of (reverse answers)) (re
 abbrev pub AreEndless : Past → Type 0
 AreEndless past = AllByRecursion (λ says. is_end says ≡ false) past
 
-none_told : (past : Past) (answer : Answer) (says : Statement) → (told_of answer).says ≡ says → least (faults past says) ≡ None
-    → fault_of past (told_of answer) ≡ None
-none_told past answer says same none =
-    ap (option_map (λ (code : ℕ). record { code = code; at = (told_of answer).at })) (ap (λ s. least (faults past s)) same ∙ none)
-
-goes_on : (fault : Option ReadFault) (ends : Bool) (layer : Content) (others : Result Content ReadFault) → fault ≡ None
-    → ends ≡ false → given fault ends layer others ≡ others
-goes_on fault ends layer others none goes = rw (none, goes) refl
-
 lead_commands : (commands : Commands) (len : ℕ) (rest : List Answer) → IsFaultless (said_by commands) → AreEndless (said_by commands)
     → lead_of len [] (answers_of commands ++ rest) ≡ lead_of len (said_by commands) rest
 lead_commands [] len rest none endless = refl
@@ -137,26 +131,22 @@ lead_commands (command ∷ older) len rest none endless =
     ap (λ answers. lead_of len [] (answers ++ rest)) more.1
     ∙ ap (lead_of len []) (append_assoc (answers_of older) (answer ∷ []) rest)
     ∙ lead_commands older len (answer ∷ rest) none.1 endless.1
-    ∙ goes_on (fault_of (said_by older) (told_of answer)) (is_end (told_of answer).says) _ _
-    (none_told (said_by older) answer (says command) same none.0) (ap is_end same ∙ endless.0)
+    ∙ goes_on len (said_by older) (told_of answer) (map told_of rest)
+    (ap (λ s. least number_of (faults (said_by older) s)) same ∙ none.0) (ap is_end same ∙ endless.0)
     ∙ ap (λ s. lead_of len (s ∷ said_by older) rest) same
-
-ends_here : (fault : Option ReadFault) (ends : Bool) (layer : Content) (others : Result Content ReadFault) → fault ≡ None
-    → ends ≡ true → given fault ends layer others ≡ Ok layer
-ends_here fault ends layer others none last = rw (none, last) refl
 
 -- a text of commands without a fault, the last of which is the end, is read as the layer behind them
 pub reads_commands : (last : Command) (commands : Commands) → AllByRecursion IsCommand (last ∷ commands)
     → IsFaultless (said_by (last ∷ commands)) → AreEndless (said_by commands)
     → is_end (says last) ≡ true → reading_of (text_of (last ∷ commands)) ≡ Ok (layer_in (said_by (last ∷ commands)))
 unfolding reading_of
-reads_commands last commands cut none endless ends =
+reads_commands last commands cut none endless last_ends =
     let len = length (text_of (last ∷ commands)) in
     let more = answers_more last commands in
     let answer : Answer = Ok (word_of more.0 last) in
     let same : (told_of answer).says ≡ says last = said_anywhere more.0 last in
     ap (lead_of len []) (read_as (last ∷ commands) cut ∙ more.1)
     ∙ lead_commands commands len (answer ∷ []) none.1 endless
-    ∙ ends_here (fault_of (said_by commands) (told_of answer)) (is_end (told_of answer).says) _ _
-    (none_told (said_by commands) answer (says last) same none.0) (ap is_end same ∙ ends)
+    ∙ ends len (said_by commands) (told_of answer) [] (ap (λ s. least number_of (faults (said_by commands) s)) same ∙ none.0)
+    (ap is_end same ∙ last_ends)
     ∙ ap (λ s. Ok (layer_in (s ∷ said_by commands))) same

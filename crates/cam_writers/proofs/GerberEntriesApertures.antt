@@ -7,10 +7,14 @@ use Rattle.std.specs.Map.{lookup}
 use Rattle.std.specs.Str.{bytes_eq}
 use Rattle.std.proofs.lemmas.Bool.{false_from_ne_true, false≢true}
 use Rattle.std.proofs.lemmas.Slice.Eq.{bytes_eq-Decides}
+use Rattle.cam_refusals.specs.declared.refusal.Refusal.{Refusal}
+use Rattle.cam_refusals.specs.declared.refusal.Refusal.TheVariants.{NoUnit, Redefined, StrayBlock}
+use Rattle.cam_refusals.specs.Checks.{Checks, least}
+use Rattle.cam_refusals.specs.Refusals.{number_of}
 use Rattle.cam_macros.specs.declared.aperture_macro.Macro.{Macro}
 use Rattle.cam_apertures.specs.declared.aperture.Aperture.{Aperture as Template}
 use Rattle.cam_apertures.specs.declared.aperture.Aperture.TheVariants.{Circle, Rect, Obround, Prims}
-use Rattle.cam_apertures.specs.Definition.{Table, definition_of, faults_of, named, numbered}
+use Rattle.cam_apertures.specs.Definition.{definition_of, faults_of, named, numbered}
 use Rattle.cam_objects.specs.declared.entry.Entry.{Entry}
 use Rattle.cam_objects.specs.declared.entry.Entry.TheVariants.{Aperture, Block}
 use Rattle.cam_objects.specs.Soundness.{MayAddEntry}
@@ -19,8 +23,7 @@ use Rattle.cam_gerber.specs.Statements.{Says, NamesMacro}
 use Rattle.cam_gerber.specs.State.{Past, in_region, unit_in, unit_or_mm}
 use Rattle.cam_gerber.specs.Homes.{open_blocks, open_repeat}
 use Rattle.cam_gerber.specs.Layers.{defined, defined_by, entries_in, items_in, leaves_in, macros_in}
-use Rattle.cam_gerber.specs.Faults.{faults, is_taken_again, least}
-use Rattle.cam_gerber.specs.FaultNumbers.{no_unit, redefined, stray_block}
+use Rattle.cam_gerber.specs.Faults.{faults, is_taken_again}
 use Rattle.cam_gerber.proofs.SoundParts.{Pairs}
 use Rattle.cam_writers.specs.Commands.{macro_name}
 use Rattle.cam_writers.proofs.GerberPasts.{Stands, definition_text, parts_for, past_entry, past_macro}
@@ -107,7 +110,7 @@ module _ (past : Past) (es : Pairs) (between : Between past es []) (low : AreLow
       let says = NamesMacro (macro_name n) (Some (parts_for prims)) in
       let made : Macro = record { name = macro_name n; parts = parts_for prims } in
       let free : named (macros_of es) (macro_name n) ≡ None = unnamed es n may.greatest low may.absent in
-      let none : least (faults past says) ≡ None =
+      let none : least number_of (faults past says) ≡ None =
       rw (macro_named n may.greatest, between.macros, free, macro_unreserved n, between.stands.region) refl in
       let stands : Stands (says ∷ past) = search (none, between.stands) in
       let itself : bytes_eq (macro_name n) (macro_name n) ≡ true =
@@ -130,8 +133,8 @@ module _ (past : Past) (es : Pairs) (between : Between past es []) (low : AreLow
 
 -- ---- the definition
 
-three_none : (a b c : ℕ × Bool) (table : Table) → a.1 ≡ false → b.1 ≡ false → c.1 ≡ false → least table ≡ None
-    → least (a ∷ b ∷ c ∷ table) ≡ None
+three_none : (a b c : Refusal × Bool) (table : Checks Refusal) → a.1 ≡ false → b.1 ≡ false → c.1 ≡ false → least number_of table ≡ None
+    → least number_of (a ∷ b ∷ c ∷ table) ≡ None
 three_none a b c table ea eb ec none = rw (ea, eb, ec) none
 
 module _ (past : Past) (es : Pairs) (n : ℕ) (a : Template) (ready : IsReady past es n a)
@@ -145,12 +148,12 @@ module _ (past : Past) (es : Pairs) (n : ℕ) (a : Template) (ready : IsReady pa
       ∙ ap (is_taken_again past) (defined_again n may.least may.greatest)
       ∙ rw (ready.entries, may.absent, ready.blocks) refl
 
-  none : least (faults past (Says (DefineAperture text))) ≡ None
+  none : least number_of (faults past (Says (DefineAperture text))) ≡ None
   none =
-      three_none (no_unit, is_none (unit_in past)) (redefined, is_taken_again past (numbered (definition_of text)))
-      (stray_block, in_region past) (faults_of (definition_of text) (macros_in past) (unit_or_mm (unit_in past)))
+      three_none (NoUnit, is_none (unit_in past)) (Redefined, is_taken_again past (numbered (definition_of text)))
+      (StrayBlock, in_region past) (faults_of (definition_of text) (macros_in past) (unit_or_mm (unit_in past)))
       (ap is_none ready.stands.unit) fresh ready.stands.region
-      (ap (λ unit. least (faults_of (definition_of text) (macros_in past) (unit_or_mm unit))) ready.stands.unit
+      (ap (λ unit. least number_of (faults_of (definition_of text) (macros_in past) (unit_or_mm unit))) ready.stands.unit
       ∙ definition_faultless (macros_in past) n a may.least may.greatest may.sound ready.made)
 
   stands : Stands (Says (DefineAperture text) ∷ past)

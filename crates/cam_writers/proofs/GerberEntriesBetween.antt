@@ -10,15 +10,14 @@ use Rattle.cam_units.specs.Board.{IsOnBoard}
 use Rattle.cam_macros.specs.declared.aperture_macro.Macro.{Macro}
 use Rattle.cam_apertures.specs.declared.aperture.Aperture.{Aperture as Template}
 use Rattle.cam_apertures.specs.declared.aperture.Aperture.TheVariants.{Prims}
+use Rattle.cam_objects.proofs.SoundItems.{HasRadius, IsDrawable, IsFormed, IsKnown, meets}
 use Rattle.cam_objects.specs.declared.object.Object.{Object}
 use Rattle.cam_objects.specs.declared.entry.Entry.{Entry}
 use Rattle.cam_objects.specs.declared.entry.Entry.TheVariants.{Aperture, Block}
 use Rattle.cam_objects.specs.declared.item.Item.{Item}
 use Rattle.cam_objects.specs.declared.item.Item.TheVariants.{One}
-use Rattle.cam_objects.specs.declared.item_fault.ItemFault.TheVariants.{Malformed, UnknownAperture, WrongAperture}
-use Rattle.cam_objects.specs.declared.item_fault.ItemFault.TheVariants.{ZeroRadius, OutOfBoard, TooMuch}
 use Rattle.cam_objects.specs.Leaves.{meaning_in}
-use Rattle.cam_objects.specs.Soundness.{HasRadius, IsDrawable, IsFormed, IsInside, IsKnown, IsSoundItem, IsWithinLimits, points_of, segs_of}
+use Rattle.cam_objects.specs.Soundness.{IsSoundItem, points_of, segs_of}
 use Rattle.cam_objects.specs.Weights.{Weight, block_count, item_count, object_depth, weight_in}
 use Rattle.cam_gerber.specs.State.{Past}
 use Rattle.cam_gerber.specs.Homes.{Home, InBlock, InRepeat, InLayer, home, is_same_home, open_blocks, open_repeat}
@@ -63,21 +62,20 @@ pub record Between (past : Past) (es : Pairs) (items : List Item) : Type 0 where
 
 made_one : (es : Pairs) (o : Object) → IsSoundItem es (One o) → IsMade es o
 made_one es o sound =
-    let inside : IsInside es (One o) = sound OutOfBoard in
-    let limits : IsWithinLimits es (One o) = sound TooMuch in
+    let met = meets es (One o) sound in
     record {
-      formed = All-head IsFormed o [] (sound Malformed).1;
-      known = All-head (IsKnown es) o [] (sound UnknownAperture);
-      drawable = All-head (IsDrawable (meaning_in es)) o [] (sound WrongAperture);
-      radius = All-head HasRadius o [] (sound ZeroRadius);
-      points = All-head (λ x. All IsOnBoard (points_of x)) o [] inside.points;
-      segs = All-head (λ x. length (segs_of x) ≤ 1000000) o [] limits.segs;
+      formed = All-head IsFormed o [] met.formed;
+      known = All-head (IsKnown es) o [] met.known;
+      drawable = All-head (IsDrawable (meaning_in es)) o [] met.drawable;
+      radius = All-head HasRadius o [] met.radii;
+      points = All-head (λ x. All IsOnBoard (points_of x)) o [] met.inside.points;
+      segs = All-head (λ x. length (segs_of x) ≤ 1000000) o [] met.limits.segs;
     }
 
 placed_one : (h : Home) (es : Pairs) (o : Object) → IsSoundItem es (One o) → IsPlacedAt h es o
-placed_one (InBlock n) es o sound = let inside : IsInside es (One o) = sound OutOfBoard in inside.leaves
+placed_one (InBlock n) es o sound = (meets es (One o) sound).inside.leaves
 placed_one (InRepeat before) es o sound = tt
-placed_one InLayer es o sound = let inside : IsInside es (One o) = sound OutOfBoard in inside.leaves
+placed_one InLayer es o sound = (meets es (One o) sound).inside.leaves
 
 pub sound_one : (h : Home) (es : Pairs) (o : Object) → IsSoundItem es (One o) → IsSoundAt h es o
 sound_one h es o sound = record { made = made_one es o sound; placed = placed_one h es o sound }

@@ -5,6 +5,8 @@ use Rattle.std.specs.Prelude.{◌||◌, nat_le, nat_lt}
 use Rattle.std.specs.List.{All}
 use Rattle.std.proofs.lemmas.Bool.{le-ltb, lt-leb}
 use Rattle.std.proofs.lemmas.List.Elements.{All-weaker}
+use Rattle.cam_refusals.specs.Checks.{least}
+use Rattle.cam_refusals.specs.Refusals.{number_of}
 use Rattle.cam_objects.specs.declared.object.Object.{Object}
 use Rattle.cam_objects.specs.declared.entry.Entry.TheVariants.{Block}
 use Rattle.cam_objects.specs.declared.item.Item.TheVariants.{One}
@@ -15,7 +17,7 @@ use Rattle.cam_gerber.specs.Statements.{Says}
 use Rattle.cam_gerber.specs.State.{Past}
 use Rattle.cam_gerber.specs.Homes.{InBlock, open_blocks}
 use Rattle.cam_gerber.specs.Layers.{closed_block, entries_in}
-use Rattle.cam_gerber.specs.Faults.{faults, is_taken, least}
+use Rattle.cam_gerber.specs.Faults.{faults, is_taken}
 use Rattle.cam_gerber.proofs.Pasts.{unused}
 use Rattle.cam_gerber.proofs.SoundParts.{Pairs}
 use Rattle.cam_gerber.proofs.UnusedRepeats.{IsEmptyHome}
@@ -40,7 +42,7 @@ module _ (past : Past) (es : Pairs) (between : Between past es []) (n : ℕ) (ob
   free : is_taken past n ≡ false
   free = rw (between.entries, may.absent, between.blocks) refl
 
-  opened_none : least (faults past (Says (OpenBlock (Some n)))) ≡ None
+  opened_none : least number_of (faults past (Says (OpenBlock (Some n)))) ≡ None
   opened_none = rw (between.entries, may.absent, between.blocks, between.stands.region, between.repeat) refl
 
   opened_stands : Stands opened
@@ -79,7 +81,7 @@ module _ (past : Past) (es : Pairs) (between : Between past es []) (n : ℕ) (ob
 
   -- ---- it is closed
 
-  closed_none : least (faults inner (Says CloseBlock)) ≡ None
+  closed_none : least number_of (faults inner (Says CloseBlock)) ≡ None
   closed_none = rw (joined.stands.region, joined.blocks) refl
 
   closed_stands : Stands (Says CloseBlock ∷ inner)

@@ -6,12 +6,13 @@ use Rattle.std.specs.List.{All}
 use Rattle.std.specs.Map.{lookup}
 use Rattle.std.specs.Option.{IsSome}
 use Rattle.std.proofs.lemmas.List.Elements.{All-head, All-tail}
+use Rattle.cam_objects.proofs.SoundItems.{HasNumber, IsDrawable, IsKnown}
 use Rattle.cam_objects.specs.declared.object.Object.{Object}
 use Rattle.cam_objects.specs.declared.object.Object.TheVariants.{Flash, Draw, Arc, Region}
 use Rattle.cam_objects.specs.declared.item.Item.{Item}
 use Rattle.cam_objects.specs.declared.item.Item.TheVariants.{One}
 use Rattle.cam_objects.specs.Leaves.{item_leaves, meaning_in, object_leaves, origin, round_width}
-use Rattle.cam_objects.specs.Soundness.{AreOnBoard, HasNumber, IsDrawable, IsKnown}
+use Rattle.cam_objects.specs.Soundness.{AreOnBoard}
 use Rattle.cam_gerber.specs.State.{Past}
 use Rattle.cam_gerber.specs.Homes.{Home, InBlock, InRepeat, InLayer, home}
 use Rattle.cam_gerber.specs.Layers.{entries_in}

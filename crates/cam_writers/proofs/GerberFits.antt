@@ -15,14 +15,14 @@ use Rattle.cam_macros.specs.declared.primitive.MacroPrimitive.{MacroPrimitive}
 use Rattle.cam_apertures.specs.declared.aperture.Aperture.{Aperture as Shape}
 use Rattle.cam_apertures.specs.declared.aperture.Aperture.TheVariants.{Circle, Rect, Obround, Prims}
 use Rattle.cam_apertures.specs.Soundness.{IsSoundAperture}
+use Rattle.cam_objects.proofs.SoundItems.{HasNumber, IsKnown, meets}
 use Rattle.cam_objects.specs.declared.object.Object.{Object}
 use Rattle.cam_objects.specs.declared.object.Object.TheVariants.{Flash, Draw, Arc, Region}
 use Rattle.cam_objects.specs.declared.entry.Entry.{Entry}
 use Rattle.cam_objects.specs.declared.entry.Entry.TheVariants.{Aperture, Block}
 use Rattle.cam_objects.specs.declared.item.Item.{Item}
 use Rattle.cam_objects.specs.declared.item.Item.TheVariants.{One, Repeat}
-use Rattle.cam_objects.specs.declared.item_fault.ItemFault.TheVariants.{Malformed, UnknownAperture, OutOfBoard}
-use Rattle.cam_objects.specs.Soundness.{points_of, points_of_seg, HasNumber, IsKnown, IsSoundItem, IsSoundDictionary, MayAddEntry}
+use Rattle.cam_objects.specs.Soundness.{points_of, points_of_seg, IsSoundItem, IsSoundDictionary, MayAddEntry}
 use Rattle.cam_objects.proofs.SoundLayers.{paintable_item}
 use Rattle.cam_writers.proofs.GerberSaid.{IsFitSegment, IsFit, IsSaidMacro, IsFitEntry, IsFitItem}
 
@@ -109,8 +109,9 @@ objects_fit entries (object ∷ objects) numbers on known = (
 pub one_fits : (entries : List (ℕ × Entry)) (object : Object) → AreNumbered entries → IsSoundItem entries (One object)
     → IsFit object
 one_fits entries object numbers sound =
-    object_fits entries object numbers (All-head ArePoints object [] (sound OutOfBoard).points)
-    (All-head (IsKnown entries) object [] (sound UnknownAperture))
+    let met = meets entries (One object) sound in
+    object_fits entries object numbers (All-head ArePoints object [] met.inside.points)
+    (All-head (IsKnown entries) object [] met.known)
 
 -- ---- items
 
@@ -135,8 +136,9 @@ pub item_fits : (entries : List (ℕ × Entry)) (item : Item) → AreNumbered en
     → HasFewCopies item → IsFitItem item
 item_fits entries (One object) numbers sound few = one_fits entries object numbers sound
 item_fits entries (Repeat columns rows i j objects) numbers sound few =
-    let some = some_of_both columns rows (sound Malformed).0.0 in
-    let steps = (sound OutOfBoard).steps in (
+    let met = meets entries (Repeat columns rows i j objects) sound in
+    let some = some_of_both columns rows met.repeated.0 in
+    let steps = met.inside.steps in (
       record {
         some_columns = some.0;
         few_columns = few.0;
@@ -145,7 +147,7 @@ item_fits entries (Repeat columns rows i j objects) numbers sound few =
         across = steps.0;
         up = steps.1;
       },
-      objects_fit entries objects numbers (sound OutOfBoard).points (sound UnknownAperture),
+      objects_fit entries objects numbers met.inside.points met.known,
     )
 
 -- ---- entries

@@ -5,6 +5,8 @@ use Rattle.std.specs.Prelude.{fold}
 use Rattle.std.specs.List.{All}
 use Rattle.std.proofs.lemmas.List.Elements.{All-head, All-tail}
 use Rattle.std.proofs.lemmas.List.Sums.{sum_by_push}
+use Rattle.cam_refusals.specs.Checks.{least}
+use Rattle.cam_refusals.specs.Refusals.{number_of}
 use Rattle.cam_objects.specs.declared.attribute.Attribute.{Attribute}
 use Rattle.cam_objects.specs.declared.object.Object.{Object}
 use Rattle.cam_objects.specs.declared.item.Item.{Item}
@@ -17,7 +19,7 @@ use Rattle.cam_gerber.specs.Statements.{Says}
 use Rattle.cam_gerber.specs.State.{Past}
 use Rattle.cam_gerber.specs.Homes.{InLayer, home}
 use Rattle.cam_gerber.specs.Layers.{closed_by, entries_in, items_in, layer_in}
-use Rattle.cam_gerber.specs.Faults.{faults, is_full, least}
+use Rattle.cam_gerber.specs.Faults.{faults, is_full}
 use Rattle.cam_gerber.specs.Laws.{IsFaultless}
 use Rattle.cam_gerber.proofs.Pasts.{home_is}
 use Rattle.cam_gerber.proofs.SoundParts.{Pairs}
@@ -109,7 +111,7 @@ module _ (attributes : List Attribute) (es : Pairs) (items : List Item) (set : A
   pub past_is_faultless : IsFaultless (past_before_end attributes es items)
   past_is_faultless = all_added.stands.none
 
-  pub end_is_faultless : least (faults (past_before_end attributes es items) (Says End)) ≡ None
+  pub end_is_faultless : least number_of (faults (past_before_end attributes es items) (Says End)) ≡ None
   end_is_faultless = rw (all_added.stands.region, all_added.blocks, all_added.repeat) refl
 
   pub past_is_layer : layer_in (Says End ∷ past_before_end attributes es items)

@@ -5,14 +5,16 @@ use Rattle.std.specs.Prelude.{ℤ, pos, negsuc, ◌||◌, ◌&&◌, not, unsigne
 use Rattle.std.specs.List.{All}
 use Rattle.std.proofs.lemmas.Bool.{le-ltb, lt-leb, lt-ltb}
 use Rattle.std.proofs.lemmas.List.Sums.{sum_by_push}
+use Rattle.cam_refusals.specs.declared.refusal.Refusal.TheVariants.{OutOfBoard, StrayBlock, TooMuch}
+use Rattle.cam_refusals.specs.Checks.{least}
+use Rattle.cam_refusals.specs.Refusals.{number_of}
 use Rattle.cam_units.specs.declared.length.Unit.TheVariants.{Mm}
 use Rattle.cam_units.specs.Nearest.{fix9_of}
+use Rattle.cam_objects.proofs.SoundItems.{IsWithinLimits, Meets, meets}
 use Rattle.cam_objects.specs.declared.object.Object.{Object}
 use Rattle.cam_objects.specs.declared.item.Item.{Item}
 use Rattle.cam_objects.specs.declared.item.Item.TheVariants.{One, Repeat}
-use Rattle.cam_objects.specs.declared.item_fault.ItemFault.TheVariants.{Malformed, UnknownAperture, WrongAperture}
-use Rattle.cam_objects.specs.declared.item_fault.ItemFault.TheVariants.{ZeroRadius, OutOfBoard, TooMuch}
-use Rattle.cam_objects.specs.Soundness.{IsInside, IsSoundItem, IsWithinLimits}
+use Rattle.cam_objects.specs.Soundness.{IsInside, IsSoundItem}
 use Rattle.cam_objects.specs.Weights.{block_count, item_count, weight_in}
 use Rattle.cam_commands.specs.declared.parts.Repeat.{Repeat as Opening}
 use Rattle.cam_commands.specs.declared.parts.Slot.TheVariants.{Written}
@@ -21,8 +23,7 @@ use Rattle.cam_gerber.specs.Statements.{Says}
 use Rattle.cam_gerber.specs.State.{Past, in_region, unit_or_mm}
 use Rattle.cam_gerber.specs.Homes.{InLayer, InRepeat, Opened, home, is_repeated, open_repeat, opened as opened_by, step_of}
 use Rattle.cam_gerber.specs.Layers.{closed_by, closed_leaves, closed_repeat, copied_leaves, entries_in, items_in, leaves_in, repeat_by}
-use Rattle.cam_gerber.specs.Faults.{faults, holds_of_one, is_empty, is_layer_full, is_outside, is_short, least}
-use Rattle.cam_gerber.specs.FaultNumbers.{out_of_board, stray_block, too_much}
+use Rattle.cam_gerber.specs.Faults.{faults, holds_of_one, is_empty, is_layer_full, is_outside, is_short}
 use Rattle.cam_gerber.proofs.Pasts.{home_is}
 use Rattle.cam_gerber.proofs.SoundParts.{Pairs}
 use Rattle.cam_gerber.proofs.UnusedRepeats.{IsEmptyHome, unused_repeat}
@@ -45,8 +46,8 @@ one_repeat o (x ∷ objects) some = refl
 
 closing_none : (region full : Bool) (outside : Item → Bool) (closed : List Item) (item : Item) → region ≡ false
     → full ≡ false → closed ≡ item ∷ [] → outside item ≡ false
-    → least ((stray_block, region) ∷ (out_of_board, not true || holds_of_one outside closed)
-    ∷ (too_much, not (is_empty closed) && full) ∷ []) ≡ None
+    → least number_of ((StrayBlock, region) ∷ (OutOfBoard, not true || holds_of_one outside closed)
+    ∷ (TooMuch, not (is_empty closed) && full) ∷ []) ≡ None
 closing_none region full outside closed item a b c d = rw (a, b, c, d) refl
 
 -- the layer has room for one item more
@@ -59,11 +60,14 @@ module _ (past : Past) (es : Pairs) (items : List Item) (between : Between past 
     (objects : List Object) (sound : IsSoundItem es (Repeat columns rows i j objects)) (few : length items < 1000000)
     (light : sum_by (item_count (weight_in es)) items + columns * rows * block_count (weight_in es) objects
     ≤ 4000000) where
+  met : Meets es (Repeat columns rows i j objects)
+  met = meets es (Repeat columns rows i j objects) sound
+
   inside : IsInside es (Repeat columns rows i j objects)
-  inside = sound OutOfBoard
+  inside = met.inside
 
   limits : IsWithinLimits es (Repeat columns rows i j objects)
-  limits = sound TooMuch
+  limits = met.limits
 
   -- ---- it is opened
 
@@ -82,7 +86,7 @@ module _ (past : Past) (es : Pairs) (items : List Item) (between : Between past 
   place = record { before = length past; columns = columns; rows = rows; i = i; j = j }
 
   many : is_repeated opening ≡ true
-  many = lt-ltb 1 (columns * rows) (sound Malformed).0.0
+  many = lt-ltb 1 (columns * rows) met.repeated.0
 
   step_is : (z : ℤ) → step_of past (Written (step_of_nm z)) ≡ z
   step_is z = ap (λ unit. fix9_of (step_of_nm z) (unit_or_mm unit)) between.stands.unit ∙ step_again z
@@ -95,7 +99,7 @@ module _ (past : Past) (es : Pairs) (items : List Item) (between : Between past 
   short : (z : ℤ) → unsigned_abs z < 1000000000 → is_short (step_of past (Written (step_of_nm z))) ≡ true
   short z h = ap is_short (step_is z) ∙ lt-ltb (unsigned_abs z) 1000000000 h
 
-  opened_none : least (faults past (Says (SetRepeat opening))) ≡ None
+  opened_none : least number_of (faults past (Says (SetRepeat opening))) ≡ None
   opened_none =
       rw (
         short i inside.steps.0,
@@ -137,10 +141,10 @@ module _ (past : Past) (es : Pairs) (items : List Item) (between : Between past 
   each : All (IsSoundAt (InRepeat (length past)) es) objects
   each k d low = record {
     made = record {
-      formed = (sound Malformed).1 k d low;
-      known = sound UnknownAperture k d low;
-      drawable = sound WrongAperture k d low;
-      radius = sound ZeroRadius k d low;
+      formed = met.formed k d low;
+      known = met.known k d low;
+      drawable = met.drawable k d low;
+      radius = met.radii k d low;
       points = inside.points k d low;
       segs = limits.segs k d low;
     };
@@ -173,7 +177,7 @@ module _ (past : Past) (es : Pairs) (items : List Item) (between : Between past 
   closed_is : closed_repeat inner ≡ Repeat columns rows i j objects ∷ []
   closed_is =
       ap (closed_by inner) (joined.repeat ∙ opens) ∙ ap (repeat_by place) there.objects_are
-      ∙ one_repeat place objects (sound Malformed).0.1
+      ∙ one_repeat place objects met.repeated.1
 
   copied : closed_leaves inner ≡ columns * rows * block_count (weight_in es) objects
   copied =
@@ -185,7 +189,7 @@ module _ (past : Past) (es : Pairs) (items : List Item) (between : Between past 
       layer_room inner items (sum_by (item_count (weight_in es)) items) (closed_leaves inner) inner_items
       inner_leaves few (omega (arith, light, copied))
 
-  closed_none : least (faults inner (Says CloseRepeat)) ≡ None
+  closed_none : least number_of (faults inner (Says CloseRepeat)) ≡ None
   closed_none =
       closing_none (in_region inner) (is_layer_full inner (closed_leaves inner)) (is_outside inner)
       (closed_repeat inner) (Repeat columns rows i j objects) joined.stands.region full closed_is

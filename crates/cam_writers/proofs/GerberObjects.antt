@@ -2,12 +2,14 @@
 use Rattle.std.proofs.Common.{◌≡◌, ℕ, ◌≤◌, [], ◌∷◌, length, Bool, true, false, Some, refl, ap₂, ◌∙◌}
 use Rattle.std.specs.List.{All, flat_map}
 use Rattle.std.proofs.lemmas.List.Elements.{All-head, All-tail}
+use Rattle.std.proofs.lemmas.Bool.{ltb-true}
 use Rattle.cam_units.specs.declared.turn.Turn.{Turn}
 use Rattle.cam_units.specs.Board.{IsOnBoard}
 use Rattle.cam_shapes.specs.declared.segments.Seg.TheVariants.{Line, Curve}
+use Rattle.cam_objects.proofs.SoundItems.{HasRadius, IsFormed}
 use Rattle.cam_objects.specs.declared.object.Object.{Object}
 use Rattle.cam_objects.specs.declared.object.Object.TheVariants.{Flash, Draw, Arc, Region}
-use Rattle.cam_objects.specs.Soundness.{HasRadius, IsFormed, points_of, points_of_seg, segs_of}
+use Rattle.cam_objects.specs.Soundness.{points_of, points_of_seg, segs_of}
 use Rattle.cam_objects.specs.Turning.{after}
 use Rattle.cam_commands.specs.declared.parts.Mode.TheVariants.{Linear}
 use Rattle.cam_gerber.specs.State.{Past, turn_in}
@@ -124,5 +126,6 @@ object_joins past (Region contour dark) s may =
     let rest = flat_map points_of_seg contour.segs in
     region_made past (past_polarity dark past) contour dark set.stands set.kept set.dark
     (All-head IsOnBoard contour.start rest may.points)
-    (record { radii = may.radius; points = All-tail IsOnBoard contour.start rest may.points }) may.formed may.few
+    (record { radii = may.radius; points = All-tail IsOnBoard contour.start rest may.points })
+    (ltb-true 0 (length contour.segs) may.formed) may.few
     may.room

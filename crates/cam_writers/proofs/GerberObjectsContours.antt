@@ -3,14 +3,19 @@ use Rattle.std.proofs.Common.{◌≡◌, ℕ, ◌+◌, ◌<◌, ◌≤◌, List,
 use Rattle.std.proofs.Common.{sym, ap, ap₂, ◌∙◌, subst, arith, append-nil, append_assoc, length-append}
 use Rattle.std.specs.Prelude.{nat_le}
 use Rattle.std.specs.List.{All, flat_map}
+use Rattle.std.proofs.lemmas.Bool.{and_parts}
 use Rattle.std.proofs.lemmas.Bool.Decides.{nat_tests}
 use Rattle.std.proofs.lemmas.List.Elements.{All-head, All-tail}
+use Rattle.cam_refusals.specs.declared.refusal.Refusal.TheVariants.{TooMuch}
+use Rattle.cam_refusals.specs.Checks.{least}
+use Rattle.cam_refusals.specs.Refusals.{number_of}
 use Rattle.cam_units.specs.declared.point.Point.{Point}
 use Rattle.cam_units.specs.Board.{IsOnBoard}
 use Rattle.cam_shapes.specs.declared.contour.Contour.{Contour}
 use Rattle.cam_shapes.specs.declared.segments.Seg.{Seg}
 use Rattle.cam_shapes.specs.declared.segments.Seg.TheVariants.{Line, Curve}
-use Rattle.cam_objects.specs.Soundness.{HaveRadii, points_of_seg}
+use Rattle.cam_objects.proofs.SoundItems.{HaveRadii}
+use Rattle.cam_objects.specs.Soundness.{have_radii, is_apart, points_of_seg}
 use Rattle.cam_objects.specs.declared.object.Object.{Object}
 use Rattle.cam_objects.specs.declared.object.Object.TheVariants.{Region}
 use Rattle.cam_commands.specs.declared.parts.Mode.{Mode}
@@ -22,7 +27,7 @@ use Rattle.cam_gerber.specs.Statements.{Says}
 use Rattle.cam_gerber.specs.State.{Past, dark_in, has_arcs, in_region, mode_in, point_in, centre_of, code_of}
 use Rattle.cam_gerber.specs.Homes.{home}
 use Rattle.cam_gerber.specs.Making.{made, region_by, region_in, segment, segments_in, start_in}
-use Rattle.cam_gerber.specs.Faults.{faults, holds_of_one, is_full, least, plot_faults}
+use Rattle.cam_gerber.specs.Faults.{faults, holds_of_one, is_full, plot_faults}
 use Rattle.cam_gerber.specs.Laws.{IsFaultless}
 use Rattle.cam_writers.specs.GerberTexts.{end_of, is_same_mode}
 use Rattle.cam_writers.proofs.GerberPasts.{Stands, Joined, move_to, past_contour, past_mode, past_segment, past_segments}
@@ -64,9 +69,9 @@ begun older past from s k on =
     let before = Says BeginRegion ∷ past in
     let scaled : Scales before = record { format = s.format; unit = s.unit } in
     let there : point_in (move_to from ∷ before) ≡ from = point_after before from Omitted Omitted Move scaled in
-    let opened : least (faults past (Says BeginRegion)) ≡ None = rw s.region refl in
+    let opened : least number_of (faults past (Says BeginRegion)) ≡ None = rw s.region refl in
     let inside = on_board_after before from Omitted Omitted Move scaled on in
-    let none : least (faults before (move_to from)) ≡ None =
+    let none : least number_of (faults before (move_to from)) ≡ None =
     unrefused before from Omitted Omitted Move true scaled refl refl refl (rw inside refl) in
     record {
       scaled = record { format = s.format; unit = s.unit };
@@ -128,8 +133,8 @@ plotted older past from here segs dark seg d mode plottable few =
     let full = nat_le 1000000 (length (segments_in past)) in
     let room : full ≡ false =
     ap (λ drawn. nat_le 1000000 (length drawn)) d.drawn ∙ room_for (length segs) few in
-    let last : least (plot_faults past (plot_along here seg) ++ (25, full) ∷ []) ≡ None =
-    path_none past here seg ((25, full) ∷ []) may ∙ rw room refl in
+    let last : least number_of (plot_faults past (plot_along here seg) ++ (TooMuch, full) ∷ []) ≡ None =
+    path_none past here seg ((TooMuch, full) ∷ []) may ∙ rw room refl in
     let nothing : made past (plot_to here seg) ≡ [] = rw d.region refl in
     record {
       scaled = record { format = d.scaled.format; unit = d.scaled.unit };
@@ -157,9 +162,10 @@ first_of_all here (Line to) segs a =
 first_of_all here (Curve to centre ccw) segs a =
     let rest = flat_map points_of_seg segs in
     let there = All-head IsOnBoard to (centre ∷ rest) a.points in
-    let behind = All-tail IsOnBoard to (centre ∷ rest) a.points in (
-      (a.radii.0, there, All-head IsOnBoard centre rest behind),
-      record { radii = a.radii.1; points = All-tail IsOnBoard centre rest behind },
+    let behind = All-tail IsOnBoard to (centre ∷ rest) a.points in
+    let radii = and_parts (is_apart here centre) (have_radii to segs) a.radii in (
+      (radii.0, there, All-head IsOnBoard centre rest behind),
+      record { radii = radii.1; points = All-tail IsOnBoard centre rest behind },
     )
 
 abbrev end_from : Point → List Seg → Point
@@ -201,7 +207,7 @@ ended older past from here segs dark d some room =
     (λ i. region_by (d.start i) (d.drawn i) (d.dark i)) ∙ region_is from segs dark some in
     let full : holds_of_one (is_full (home past) past) (region_in past) ≡ false =
     ap (holds_of_one (is_full (home past) past)) made_is ∙ full_kept older past d.kept object ∙ room in
-    let none : least (faults past (Says EndRegion)) ≡ None = rw (d.region, full) refl in
+    let none : least number_of (faults past (Says EndRegion)) ≡ None = rw (d.region, full) refl in
     let stands : Stands (Says EndRegion ∷ past) = search (none, d) in
     objects_made older past (Says EndRegion) (object ∷ []) d.kept tt made_is stands
 

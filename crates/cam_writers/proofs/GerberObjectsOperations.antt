@@ -1,17 +1,19 @@
 -- What an operation of a canonical text does, and that none of its faults holds.
 use Rattle.std.proofs.Common.{◌≡◌, ◌∷◌, ◌++◌, Bool, true, false, Some, None, refl, ap, ap₂, ◌∙◌}
 use Rattle.std.specs.Prelude.{ℤ, ◌+ℤ◌, ◌-ℤ◌}
+use Rattle.cam_refusals.specs.declared.refusal.Refusal.{Refusal}
+use Rattle.cam_refusals.specs.Checks.{Checks, least}
+use Rattle.cam_refusals.specs.Refusals.{number_of}
 use Rattle.cam_units.specs.declared.length.Unit.TheVariants.{Mm}
 use Rattle.cam_units.specs.declared.point.Point.{Point}
 use Rattle.cam_units.specs.Board.{IsOnBoard}
-use Rattle.cam_apertures.specs.Definition.{Table}
 use Rattle.cam_commands.specs.declared.parts.Slot.{Slot}
 use Rattle.cam_commands.specs.declared.parts.Slot.TheVariants.{Omitted, Written}
 use Rattle.cam_commands.specs.declared.parts.Operation.{Operation}
 use Rattle.cam_commands.specs.declared.parts.OperationCode.{OperationCode}
 use Rattle.cam_commands.specs.declared.parts.OperationCode.TheVariants.{Plot, Move}
 use Rattle.cam_gerber.specs.State.{Past, format_in, unit_in, in_region, point_in, centre_of}
-use Rattle.cam_gerber.specs.Faults.{faults, is_malformed, is_on_board, leading_faults, least, operated_faults}
+use Rattle.cam_gerber.specs.Faults.{faults, is_malformed, is_on_board, leading_faults, operated_faults}
 use Rattle.cam_gerber.proofs.Paths.{on_board_test}
 use Rattle.cam_writers.proofs.GerberPasts.{Stands, operation_to, move_to}
 use Rattle.cam_writers.proofs.GerberObjectsValues.{coordinate_again, across_and_back}
@@ -50,19 +52,19 @@ centre_after past here to centre s e =
 -- ---- faults
 
 -- what any operation may be refused for
-leading_none : (past : Past) (to : Point) (across up : Slot ℤ) (code : OperationCode) (table : Table) → Scales past
+leading_none : (past : Past) (to : Point) (across up : Slot ℤ) (code : OperationCode) (table : Checks Refusal) → Scales past
     → is_malformed across ≡ false → is_malformed up ≡ false
-    → least (leading_faults past (operation to across up code) ++ table) ≡ least table
+    → least number_of (leading_faults past (operation to across up code) ++ table) ≡ least number_of table
 leading_none past to across up code table s a u = rw (a, u, s.format, s.unit) refl
 
 pub unrefused : (past : Past) (to : Point) (across up : Slot ℤ) (code : OperationCode) (region : Bool) → Scales past
     → is_malformed across ≡ false → is_malformed up ≡ false → in_region past ≡ region
-    → least (operated_faults code region past (operation to across up code)) ≡ None
-    → least (faults past (operation_to to across up code)) ≡ None
+    → least number_of (operated_faults code region past (operation to across up code)) ≡ None
+    → least number_of (faults past (operation_to to across up code)) ≡ None
 unrefused past to across up code region s a u inside none =
     let now = operation to across up code in
     leading_none past to across up code (operated_faults code (in_region past) past now) s a u
-    ∙ ap (λ b. least (operated_faults code b past now)) inside ∙ none
+    ∙ ap (λ b. least number_of (operated_faults code b past now)) inside ∙ none
 
 pub on_board_after : (past : Past) (to : Point) (across up : Slot ℤ) (code : OperationCode) → Scales past
     → IsOnBoard to → is_on_board (point_in (operation_to to across up code ∷ past)) ≡ true
@@ -70,7 +72,7 @@ on_board_after past to across up code s on =
     ap is_on_board (point_after past to across up code s) ∙ on_board_test to on
 
 pub move_unrefused : (past : Past) (to : Point) → Scales past → in_region past ≡ false → IsOnBoard to
-    → least (faults past (move_to to)) ≡ None
+    → least number_of (faults past (move_to to)) ≡ None
 move_unrefused past to s out on =
     let inside = on_board_after past to Omitted Omitted Move s on in
     unrefused past to Omitted Omitted Move false s refl refl out (rw inside refl)

@@ -1,21 +1,24 @@
 -- A line or an arc of a canonical text, outside regions and in them.
-use Rattle.std.proofs.Common.{◌≡◌, ◌≢◌, ◌∷◌, ◌++◌, Bool, true, false, None, refl, ap, ap₂, ◌∙◌}
+use Rattle.std.proofs.Common.{◌≡◌, ◌∷◌, ◌++◌, Bool, true, false, IsTrue, None, refl, ap, ap₂, ◌∙◌}
 use Rattle.std.specs.Prelude.{ℤ, ◌-ℤ◌}
+use Rattle.cam_refusals.specs.declared.refusal.Refusal.{Refusal}
+use Rattle.cam_refusals.specs.Checks.{Checks, least}
+use Rattle.cam_refusals.specs.Refusals.{number_of}
 use Rattle.cam_units.specs.declared.point.Point.{Point}
 use Rattle.cam_units.specs.Board.{IsOnBoard}
 use Rattle.cam_shapes.specs.declared.segments.Seg.{Seg}
 use Rattle.cam_shapes.specs.declared.segments.Seg.TheVariants.{Line, Curve}
-use Rattle.cam_apertures.specs.Definition.{Table}
 use Rattle.cam_commands.specs.declared.parts.Slot.{Slot}
 use Rattle.cam_commands.specs.declared.parts.Slot.TheVariants.{Omitted, Written}
 use Rattle.cam_commands.specs.declared.parts.Mode.{Mode}
 use Rattle.cam_commands.specs.declared.parts.Mode.TheVariants.{Linear}
 use Rattle.cam_commands.specs.declared.parts.Operation.{Operation}
 use Rattle.cam_commands.specs.declared.parts.OperationCode.TheVariants.{Plot}
+use Rattle.cam_objects.specs.Soundness.{is_apart}
 use Rattle.cam_gerber.specs.Statements.{Statement}
 use Rattle.cam_gerber.specs.State.{Past, has_arcs, in_region, mode_in, point_in, centre_of}
 use Rattle.cam_gerber.specs.Making.{segment}
-use Rattle.cam_gerber.specs.Faults.{faults, is_arc, is_on_board, is_same_point, least, operated_faults, path_faults, plot_faults}
+use Rattle.cam_gerber.specs.Faults.{faults, is_arc, is_on_board, is_same_point, operated_faults, path_faults, plot_faults}
 use Rattle.cam_gerber.proofs.Paths.{on_board_test}
 use Rattle.cam_writers.specs.GerberTexts.{arc_mode, end_of}
 use Rattle.cam_writers.proofs.GerberPasts.{operation_to, past_mode, past_segment}
@@ -51,7 +54,7 @@ segment_is_plot here (Curve to centre ccw) past = refl
 
 abbrev pub IsPlottable : Point → Seg → Type 0
 IsPlottable here (Line to) = IsOnBoard to
-IsPlottable here (Curve to centre ccw) = (here ≢ centre) × IsOnBoard to × IsOnBoard centre
+IsPlottable here (Curve to centre ccw) = IsTrue (is_apart here centre) × IsOnBoard to × IsOnBoard centre
 
 -- the past before a plot
 pub record MayPlot (past : Past) (here : Point) (seg : Seg) : Type 0 where
@@ -61,13 +64,13 @@ pub record MayPlot (past : Past) (here : Point) (seg : Seg) : Type 0 where
   pub point : point_in past ≡ here
   pub plottable : IsPlottable here seg
 
-line_none : (arcs : Bool) (from to centre : Point) (rest : Table) → is_on_board to ≡ true
-    → least (path_faults false arcs from to centre ++ rest) ≡ least rest
+line_none : (arcs : Bool) (from to centre : Point) (rest : Checks Refusal) → is_on_board to ≡ true
+    → least number_of (path_faults false arcs from to centre ++ rest) ≡ least number_of rest
 line_none arcs from to centre rest on = rw on refl
 
-arc_none : (arcs : Bool) (from to centre : Point) (rest : Table) → arcs ≡ true → is_same_point from centre ≡ false
+arc_none : (arcs : Bool) (from to centre : Point) (rest : Checks Refusal) → arcs ≡ true → is_same_point from centre ≡ false
     → is_on_board to ≡ true → is_on_board centre ≡ true
-    → least (path_faults true arcs from to centre ++ rest) ≡ least rest
+    → least number_of (path_faults true arcs from to centre ++ rest) ≡ least number_of rest
 arc_none arcs from to centre rest a radius on within = rw (a, radius, on, within) refl
 
 both_arcs : (ccw : Bool) → is_arc (arc_mode ccw) ≡ true
@@ -87,13 +90,13 @@ module _ (past : Past) (here : Point) where
   pub end_is : (seg : Seg) → MayPlot past here seg → point_in (plot_to here seg ∷ past) ≡ end_of seg
   end_is seg m = point_after past (end_of seg) (across_of here seg) (up_of here seg) Plot m.scaled
 
-  pub path_none : (seg : Seg) (rest : Table) → MayPlot past here seg
-      → least (plot_faults past (plot_along here seg) ++ rest) ≡ least rest
+  pub path_none : (seg : Seg) (rest : Checks Refusal) → MayPlot past here seg
+      → least number_of (plot_faults past (plot_along here seg) ++ rest) ≡ least number_of rest
   path_none (Line to) rest m =
       let now = point_in (plot_to here (Line to) ∷ past) in
       let middle = centre_of past (plot_along here (Line to)) in
       let on : is_on_board now ≡ true = ap is_on_board (end_is (Line to) m) ∙ on_board_test to m.plottable in
-      ap (λ mode. least (path_faults (is_arc mode) (has_arcs past) (point_in past) now middle ++ rest)) m.mode
+      ap (λ mode. least number_of (path_faults (is_arc mode) (has_arcs past) (point_in past) now middle ++ rest)) m.mode
       ∙ line_none (has_arcs past) (point_in past) now middle rest on
   path_none (Curve to centre ccw) rest m =
       let now = point_in (plot_to here (Curve to centre ccw) ∷ past) in
@@ -105,7 +108,7 @@ module _ (past : Past) (here : Point) where
       let radius : is_same_point (point_in past) middle ≡ false =
       ap₂ is_same_point m.point same ∙ other_point here centre m.plottable.0 in
       let curved : is_arc (mode_in past) ≡ true = ap is_arc m.mode ∙ both_arcs ccw in
-      ap (λ arc. least (path_faults arc (has_arcs past) (point_in past) now middle ++ rest)) curved
+      ap (λ arc. least number_of (path_faults arc (has_arcs past) (point_in past) now middle ++ rest)) curved
       ∙ arc_none (has_arcs past) (point_in past) now middle rest m.arcs radius on within
 
   -- the segment that is read behind a plot
@@ -126,8 +129,8 @@ module _ (past : Past) (here : Point) where
       curved false to centre = refl
 
   pub plot_unrefused : (seg : Seg) (region : Bool) → MayPlot past here seg → in_region past ≡ region
-      → least (operated_faults Plot region past (plot_along here seg)) ≡ None
-      → least (faults past (plot_to here seg)) ≡ None
+      → least number_of (operated_faults Plot region past (plot_along here seg)) ≡ None
+      → least number_of (faults past (plot_to here seg)) ≡ None
   plot_unrefused (Line to) region m inside none =
       unrefused past to Omitted Omitted Plot region m.scaled refl refl inside none
   plot_unrefused (Curve to centre ccw) region m inside none =

@@ -1,6 +1,8 @@
 -- The values in force behind the settings of an object: each setting gives its value, and leaves all else.
 use Rattle.std.proofs.Common.{◌≡◌, ℕ, [], ◌∷◌, Bool, true, false, cond, Option, Some, None, is_some, nat_eq, refl, ap, ◌∙◌}
 use Rattle.std.specs.Map.{lookup}
+use Rattle.cam_refusals.specs.Checks.{least}
+use Rattle.cam_refusals.specs.Refusals.{number_of}
 use Rattle.cam_units.specs.declared.point.Point.{Point}
 use Rattle.cam_units.specs.declared.turn.Turn.{Turn}
 use Rattle.cam_units.specs.Board.{IsOnBoard}
@@ -11,7 +13,7 @@ use Rattle.cam_commands.specs.Commands.{Command, SetPolarity, SetMirror, SetRota
 use Rattle.cam_gerber.specs.Statements.{Says}
 use Rattle.cam_gerber.specs.State.{Past, dark_in, mirror_in, rotation_in, aperture_in, mode_in, in_region, point_in}
 use Rattle.cam_gerber.specs.Making.{made}
-use Rattle.cam_gerber.specs.Faults.{command_faults, faults, is_defined, is_no_quarter, is_same_point, least}
+use Rattle.cam_gerber.specs.Faults.{command_faults, faults, is_defined, is_no_quarter, is_same_point}
 use Rattle.cam_writers.specs.Commands.{mirror_of, rotation_of}
 use Rattle.cam_writers.specs.GerberTexts.{is_same_polarity, is_same_turn, is_selected, is_same_mode}
 use Rattle.cam_writers.proofs.GerberPasts.{Stands, polarity_of, mirroring_of, angle_of, move_to, past_polarity}
@@ -41,7 +43,7 @@ setting_keeps past (SetMode mode) h = search
 setting_keeps past _ h = absurd h
 
 no_fault : (past : Past) (command : Command) → IsSetting past command → in_region past ≡ false
-    → least (command_faults past command) ≡ None
+    → least number_of (command_faults past command) ≡ None
 no_fault past (SetPolarity polarity) h out = rw out refl
 no_fault past (SetMirror mirroring) h out = rw out refl
 no_fault past (SetRotation (Some angle)) h out = rw (h, out) refl
@@ -171,7 +173,7 @@ module _ (older past : Past) (v : Values) (set : Set older past v) where
       moved : Kept older (move_to at ∷ past)
       moved = kept_on older past (move_to at ∷ past) set.kept (nothing_made past (move_to at) tt nothing)
 
-      none : least (faults past (move_to at)) ≡ None
+      none : least number_of (faults past (move_to at)) ≡ None
       none = move_unrefused past at scaled set.stands.region on
 
       there : point_in (move_to at ∷ past) ≡ at

@@ -1,12 +1,15 @@
 -- Flashes, draws and arcs of canonical texts, behind the settings that they want.
 use Rattle.std.proofs.Common.{◌≡◌, ℕ, [], ◌∷◌, ◌++◌, Bool, true, false, Option, Some, None, refl, ap, ◌∙◌}
 use Rattle.std.specs.Prelude.{◌||◌, not, is_none, unwrap_or}
+use Rattle.cam_refusals.specs.declared.refusal.Refusal.{Refusal}
+use Rattle.cam_refusals.specs.declared.refusal.Refusal.TheVariants.{NoneSelected, OutOfBoard, TooMuch, WrongAperture}
+use Rattle.cam_refusals.specs.Checks.{Checks, least}
+use Rattle.cam_refusals.specs.Refusals.{number_of}
 use Rattle.cam_units.specs.declared.point.Point.{Point}
 use Rattle.cam_units.specs.declared.turn.Turn.{Turn}
 use Rattle.cam_units.specs.Board.{IsOnBoard}
 use Rattle.cam_shapes.specs.declared.segments.Seg.{Seg}
 use Rattle.cam_shapes.specs.declared.segments.Seg.TheVariants.{Line, Curve}
-use Rattle.cam_apertures.specs.Definition.{Table}
 use Rattle.cam_objects.specs.Leaves.{meaning_in}
 use Rattle.cam_objects.specs.declared.object.Object.{Object}
 use Rattle.cam_objects.specs.declared.object.Object.TheVariants.{Flash, Draw, Arc}
@@ -17,7 +20,7 @@ use Rattle.cam_commands.specs.declared.parts.OperationCode.TheVariants.{Flash as
 use Rattle.cam_gerber.specs.State.{Past, aperture_in, dark_in, mode_in, point_in, turn_in, centre_of}
 use Rattle.cam_gerber.specs.Homes.{Home, InBlock, InRepeat, InLayer, home}
 use Rattle.cam_gerber.specs.Making.{flash_of, made, segment, stroke, stroke_of, number_in}
-use Rattle.cam_gerber.specs.Faults.{can_draw, faults, is_arc, is_full, is_on_board, is_outside, is_outside_at, is_unfit, least, plot_faults}
+use Rattle.cam_gerber.specs.Faults.{can_draw, faults, is_arc, is_full, is_on_board, is_outside, is_outside_at, is_unfit, plot_faults}
 use Rattle.cam_writers.proofs.GerberPasts.{Stands, Joined, flash_at}
 use Rattle.cam_writers.proofs.GerberObjectsPlaces.{Kept, home_kept, objects_made}
 use Rattle.cam_writers.proofs.GerberObjectsOperations.{scales, operation, on_board_after, point_after, unrefused}
@@ -47,7 +50,7 @@ module _ (older newer : Past) (k : Kept older newer) (object : Object) where
 
 flash_none : (aperture : Option ℕ) (on outside full : Bool) (n : ℕ) → aperture ≡ Some n → on ≡ true
     → outside ≡ false → full ≡ false
-    → least ((15, is_none aperture) ∷ (23, not on || outside) ∷ (25, full) ∷ []) ≡ None
+    → least number_of ((NoneSelected, is_none aperture) ∷ (OutOfBoard, not on || outside) ∷ (TooMuch, full) ∷ []) ≡ None
 flash_none aperture on outside full n a b c d = rw (a, b, c, d) refl
 
 pub flash_made : (older past : Past) (n : ℕ) (at : Point) (turn : Turn) (dark : Bool) → Stands past → Kept older past
@@ -66,7 +69,7 @@ flash_made older past n at turn dark s k aperture turned darkened on inside room
     ap (is_outside_at (home past) past) same ∙ outside_kept older past k flash ∙ inside in
     let full : is_full (home past) past made_flash ≡ false =
     ap (is_full (home past) past) same ∙ full_kept older past k flash ∙ room in
-    let none : least (faults past (flash_at at)) ≡ None =
+    let none : least number_of (faults past (flash_at at)) ≡ None =
     unrefused past at Omitted Omitted FlashCode false scaled refl refl s.region
     (flash_none (aperture_in past) (is_on_board (point_in now)) _ _ n aperture
     (on_board_after past at Omitted Omitted FlashCode scaled on) outside full) in
@@ -86,10 +89,10 @@ by_segment Linear n from to centre turn dark = refl
 by_segment Clockwise n from to centre turn dark = refl
 by_segment Counterclockwise n from to centre turn dark = refl
 
-stroke_none : (aperture : Option ℕ) (unfit : Option ℕ → Bool) (path : Table) (full : Bool) (n : ℕ)
+stroke_none : (aperture : Option ℕ) (unfit : Option ℕ → Bool) (path : Checks Refusal) (full : Bool) (n : ℕ)
     → aperture ≡ Some n → unfit (Some n) ≡ false
-    → least (path ++ (25, full) ∷ []) ≡ least ((25, full) ∷ []) → full ≡ false
-    → least ((15, is_none aperture) ∷ (16, unfit aperture) ∷ (path ++ (25, full) ∷ [])) ≡ None
+    → least number_of (path ++ (TooMuch, full) ∷ []) ≡ least number_of ((TooMuch, full) ∷ []) → full ≡ false
+    → least number_of ((NoneSelected, is_none aperture) ∷ (WrongAperture, unfit aperture) ∷ (path ++ (TooMuch, full) ∷ [])) ≡ None
 stroke_none aperture unfit path full n a b c d = rw (a, b, c, d) refl
 
 pub stroke_made : (older past : Past) (n : ℕ) (from : Point) (seg : Seg) (turn : Turn) (dark : Bool) → Stands past
@@ -112,9 +115,9 @@ stroke_made older past n from seg turn dark s k aperture turned darkened may fit
     ∙ ap (λ entries. not (can_draw (curves seg) (meaning_in entries n).tip)) k.entries ∙ fit in
     let crowded = is_full (home past) past (stroke_of past plot) in
     let full : crowded ≡ false = ap (is_full (home past) past) same ∙ full_kept older past k object ∙ room in
-    let none : least (faults past (plot_to from seg)) ≡ None =
+    let none : least number_of (faults past (plot_to from seg)) ≡ None =
     plot_unrefused past from seg false may s.region
     (stroke_none (aperture_in past) (is_unfit past arc) (plot_faults past plot) crowded n aperture still
-    (path_none past from seg ((25, crowded) ∷ []) may) full) in
+    (path_none past from seg ((TooMuch, crowded) ∷ []) may) full) in
     let stands : Stands now = search (none, s) in
     objects_made older past (plot_to from seg) (object ∷ []) k tt made_is stands

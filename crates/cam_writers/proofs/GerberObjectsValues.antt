@@ -1,5 +1,5 @@
 -- Where a setting is left out, the value in force is the same; what is set and what is written stand for one another.
-use Rattle.std.proofs.Common.{◌≡◌, ◌≢◌, ℕ, zero, suc, ◌*◌, Bool, true, false, Option, Some, None, refl, sym, ap, ◌∙◌, arith}
+use Rattle.std.proofs.Common.{◌≡◌, ℕ, zero, suc, ◌*◌, Bool, true, false, IsTrue, not, Option, Some, None, refl, sym, ap, ◌∙◌, arith}
 use Rattle.std.specs.Prelude.{ℤ, pos, negsuc, neg_ℤ, ◌+ℤ◌, ◌-ℤ◌, ◌*ℤ◌}
 use Rattle.std.specs.Ordering.{int_eq}
 use Rattle.std.proofs.lemmas.Bool.{and_parts, eqb-true}
@@ -12,6 +12,7 @@ use Rattle.cam_units.specs.declared.turn.Turn.{Turn}
 use Rattle.cam_units.specs.declared.turn.Turn.TheVariants.{R0, R90, R180, R270, M0, M90, M180, M270}
 use Rattle.cam_units.specs.Nearest.{nearest_of, rounded}
 use Rattle.cam_units.specs.Turns.{Matrix, matrix_of}
+use Rattle.cam_objects.specs.Soundness.{is_apart}
 use Rattle.cam_objects.specs.Turning.{after, has_rows, turn_of}
 use Rattle.cam_commands.specs.declared.parts.Format.{Format}
 use Rattle.cam_commands.specs.declared.parts.Mode.{Mode}
@@ -76,11 +77,11 @@ same_point p q h =
     let y : p.y ≡ q.y = (Decides-int_eq p.y q.y).0 parts.1 in
     λ i. record { x = x i; y = y i }
 
-pub other_point : (p q : Point) → p ≢ q → is_same_point p q ≡ false
-other_point p q apart = go (is_same_point p q) refl
+pub other_point : (p q : Point) → IsTrue (is_apart p q) → is_same_point p q ≡ false
+other_point p q apart = go (is_same_point p q) apart
   where
-    go : (b : Bool) → is_same_point p q ≡ b → b ≡ false
-    go true e = absurd (apart (same_point p q e))
+    go : (b : Bool) → not b ≡ true → b ≡ false
+    go true e = absurd cc
     go false e = refl
 
 -- ---- what is set

@@ -8,7 +8,7 @@ use Rattle.cam_objects.specs.Attributes.{AreAttributes}
 use Rattle.cam_objects.specs.Contents.{Content}
 use Rattle.cam_objects.specs.Soundness.{IsSoundContent, IsSoundItem}
 use Rattle.cam_commands.specs.Commands.{End}
-use Rattle.cam_gerber.specs.declared.read_fault.ReadFault.{ReadFault}
+use Rattle.cam_refusals.specs.declared.read_fault.ReadFault.{ReadFault}
 use Rattle.cam_gerber.specs.Statements.{Says}
 use Rattle.cam_gerber.specs.State.{Past}
 use Rattle.cam_gerber.specs.Layers.{layer_in}

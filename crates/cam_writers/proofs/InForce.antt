@@ -15,9 +15,9 @@ use Rattle.std.proofs.lemmas.Option.{same_Some, slice_get-get_or}
 use Rattle.cam_units.specs.declared.length.Nm.{Nm}
 use Rattle.cam_units.specs.declared.point.Point.{Point}
 use Rattle.cam_units.specs.Board.{IsOnBoard}
+use Rattle.cam_objects.proofs.SoundItems.{meets_drill}
 use Rattle.cam_objects.specs.declared.drill_item.DrillItem.{DrillItem}
 use Rattle.cam_objects.specs.declared.drill_layer.DrillLayer.{DrillLayer}
-use Rattle.cam_objects.specs.declared.item_fault.ItemFault.TheVariants.{UnknownTool}
 use Rattle.cam_objects.specs.Drilling.{diameter_of}
 use Rattle.cam_objects.specs.DrillSoundness.{IsSoundTool, IsSoundDrillItem, IsSoundDrillLayer, tool_of}
 use Rattle.cam_xnc.specs.DrillState.{tool_in, mode_in}
@@ -195,7 +195,7 @@ item_sound layer items place item sound same lt is =
 
 pub item_in_range : (layer : DrillLayer) (item : DrillItem) → IsSoundDrillLayer layer → IsSoundDrillItem layer.tools item
     → IsInRange (tool_of item)
-item_in_range layer item sound good = known_in_range layer.tools (tool_of item) sound.tools (good UnknownTool)
+item_in_range layer item sound good = known_in_range layer.tools (tool_of item) sound.tools (meets_drill layer.tools item good).known
 
 -- the end of the text
 pub ended : (tools : List (ℕ × Nm)) (items all : List DrillItem) (n : ℕ) (written : DrillText) (text : Vec ℕ)

@@ -10,7 +10,8 @@ use Rattle.cam_xnc.specs.Bytes.{is_bad, is_blank, code_of, packed}
 use Rattle.cam_xnc.specs.Syntax.{statement_of}
 use Rattle.cam_xnc.specs.Lines.{TextLine, LineFeed, bytes_of, IsLine, AreEnded, FoundLine, found_at, cut}
 use Rattle.cam_xnc.specs.DrillState.{layer_in}
-use Rattle.cam_xnc.specs.Faults.{faults, first_of}
+use Rattle.cam_refusals.specs.Checks.{first}
+use Rattle.cam_xnc.specs.Faults.{checks}
 use Rattle.cam_xnc.specs.Reading.{is_told, said, is_end, is_end_statement, through_end, told_lines, reading_of}
 use Rattle.cam_xnc.proofs.Cuttings.{one_cutting}
 use Rattle.cam_xnc.proofs.Readings.{goes_on, reading_goes_on, goes_past, ends_here}
@@ -73,7 +74,7 @@ lines_read (line ∷ older) after len plain none =
       rest.0 + length (bytes_of (fed line)),
       rest.1
           ∙ goes_past len (said_by older) line_at behind f.told f.good
-          (ap (λ (s : Statement). first_of (faults (said_by older) s)) f.says ∙ none.0) (ap is_end_statement f.says ∙ none.1)
+          (ap (λ (s : Statement). first (checks (said_by older) s)) f.says ∙ none.0) (ap is_end_statement f.says ∙ none.1)
           ∙ ap (λ (s : Statement). goes_on len (s ∷ said_by older) behind) f.says,
     )
 
@@ -82,7 +83,7 @@ end_plain = plain_line 77 (51 ∷ 48 ∷ []) refl
 
 -- a text of such lines and M30 behind them gives the layer of what they say
 pub text_read : (lines : Lines) → AllByRecursion IsPlainLine lines → IsFaultless (said_by lines)
-    → first_of (faults (said_by lines) End) ≡ None
+    → first (checks (said_by lines) End) ≡ None
     → reading_of (text_of (codes "M30" ∷ lines)) ≡ Ok (layer_in (End ∷ said_by lines))
 text_read lines plain none last =
     let text : List ℕ = text_of (codes "M30" ∷ lines) in
@@ -94,7 +95,7 @@ text_read lines plain none last =
     ∙ ap (λ (ls : List TextLine). goes_on (length text) [] (found_at 0 ls)) (cut_again (codes "M30" ∷ lines) (end_plain, plain))
     ∙ rest.1
     ∙ ends_here (length text) (said_by lines) line_at [] f.told f.good
-    (ap (λ (s : Statement). first_of (faults (said_by lines) s)) says ∙ last) (ap is_end_statement says)
+    (ap (λ (s : Statement). first (checks (said_by lines) s)) says ∙ last) (ap is_end_statement says)
     ∙ ap (λ (s : Statement). Ok (layer_in (s ∷ said_by lines))) says
 
 -- what is read of such a text

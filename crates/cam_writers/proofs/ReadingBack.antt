@@ -9,16 +9,17 @@ use Rattle.std.proofs.lemmas.List.Sums.{sum_by-append, sum_by-cons}
 use Rattle.cam_units.specs.declared.length.Nm.{Nm}
 use Rattle.cam_units.specs.declared.point.Point.{Point}
 use Rattle.cam_units.specs.Board.{IsOnBoard}
+use Rattle.cam_objects.proofs.SoundItems.{meets_drill}
 use Rattle.cam_objects.specs.declared.drill_item.DrillItem.{DrillItem}
 use Rattle.cam_objects.specs.declared.drill_item.DrillItem.TheVariants.{Hit, Rout}
-use Rattle.cam_objects.specs.declared.item_fault.ItemFault.TheVariants.{Malformed, UnknownTool, OutOfBoard, TooMuch}
 use Rattle.cam_objects.specs.Drilling.{diameter_of}
 use Rattle.cam_objects.specs.DrillSoundness.{IsSoundDrillContent, IsSoundDrillItem, KeepsDrillLimits, drill_count_from, drill_count_of}
-use Rattle.cam_xnc.specs.declared.read_fault.ReadFault.{ReadFault}
+use Rattle.cam_refusals.specs.declared.read_fault.ReadFault.{ReadFault}
 use Rattle.cam_xnc.specs.declared.statement.Statement.{Statement}
 use Rattle.cam_xnc.specs.declared.statement.Statement.TheVariants.{End}
 use Rattle.cam_xnc.specs.DrillState.{mode_in, tool_in}
-use Rattle.cam_xnc.specs.Faults.{is_drilling, faults, first_of}
+use Rattle.cam_refusals.specs.Checks.{first}
+use Rattle.cam_xnc.specs.Faults.{is_drilling, checks}
 use Rattle.cam_writers.specs.DrillTexts.{Lines, said_by, tool_line, point_line, with_tool, with_tools, opening}
 use Rattle.cam_writers.specs.DrillTexts.{is_selected, with_selected, with_hit, with_cut, with_cuts, with_rout}
 use Rattle.cam_writers.specs.DrillTexts.{with_item, lines_before_end, drill_text}
@@ -172,17 +173,19 @@ item_added : (item : DrillItem) (more : List DrillItem) (lines : Lines) (ts : Li
     → Holds lines ts is → All IsSoundPair ts → IsSoundDrillItem ts item → KeepsDrillLimits (is ++ item ∷ more)
     → Holds (with_item lines item) ts (is ++ item ∷ [])
 item_added (Hit tool at) more lines ts is h tools sound limits =
-    let set = select_by (is_selected (tool_in (said_by lines)) tool) lines ts is tool h (sound UnknownTool)
-    (known_in_range ts tool tools (sound UnknownTool)) refl in
-    let on = (one_by_one IsOnBoard (at ∷ []) (sound OutOfBoard)).0 in
+    let met = meets_drill ts (Hit tool at) sound in
+    let set = select_by (is_selected (tool_in (said_by lines)) tool) lines ts is tool h met.known
+    (known_in_range ts tool tools met.known) refl in
+    let on = (one_by_one IsOnBoard (at ∷ []) met.inside).0 in
     hit_added _ ts is tool at
     (drill_by (is_drilling (mode_in (said_by (with_selected tool lines)))) (with_selected tool lines) ts is tool set refl) on
     (room_for is more (Hit tool at) limits)
 item_added (Rout tool points) more lines ts is h tools sound limits =
-    let set = select_by (is_selected (tool_in (said_by lines)) tool) lines ts is tool h (sound UnknownTool)
-    (known_in_range ts tool tools (sound UnknownTool)) refl in
-    rout_added points (with_selected tool lines) ts is tool set (sound Malformed) (one_by_one IsOnBoard points (sound OutOfBoard))
-    (sound TooMuch) (room_for is more (Rout tool points) limits)
+    let met = meets_drill ts (Rout tool points) sound in
+    let set = select_by (is_selected (tool_in (said_by lines)) tool) lines ts is tool h met.known
+    (known_in_range ts tool tools met.known) refl in
+    rout_added points (with_selected tool lines) ts is tool set met.some (one_by_one IsOnBoard points met.inside)
+    met.few (room_for is more (Rout tool points) limits)
 
 items_added : (new is : List DrillItem) (lines : Lines) (ts : List (ℕ × Nm)) → Holds lines ts is → All IsSoundPair ts
     → AllByRecursion (IsSoundDrillItem ts) new → KeepsDrillLimits (is ++ new)
@@ -211,7 +214,7 @@ reads_back layer sound =
     let lines : Lines = lines_before_end layer.tools layer.items in
     let h = all_hold layer sound in
     let s = h.stands in
-    let last : first_of (faults (said_by lines) End) ≡ None = rw (s.part, s.raised) refl in
+    let last : first (checks (said_by lines) End) ≡ None = rw (s.part, s.raised) refl in
     text_read lines h.plain s.faultless last ∙ rw (s.tools, s.items) refl
 
 same_content : (a b : DrillContent) {r : Result DrillContent ReadFault} → r ≡ Ok a → r ≡ Ok b → a ≡ b

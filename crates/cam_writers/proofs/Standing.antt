@@ -22,14 +22,15 @@ use Rattle.cam_xnc.specs.declared.statement.Statement.TheVariants.{DrillMode, Hi
 use Rattle.cam_xnc.specs.declared.statement.Coordinate.{Coordinate}
 use Rattle.cam_xnc.specs.declared.statement.Coordinate.TheVariants.{Written}
 use Rattle.cam_xnc.specs.DrillState.{Past, part_in, unit_in, mode_in, tool_in, tools_in, items_in, points_in, length_nm}
-use Rattle.cam_xnc.specs.Faults.{faults, is_drilling, is_lowered, is_diameter, first_of}
+use Rattle.cam_refusals.specs.Checks.{first}
+use Rattle.cam_xnc.specs.Faults.{checks, is_drilling, is_lowered, is_diameter}
 use Rattle.cam_xnc.specs.Reading.{is_end_statement}
 use Rattle.cam_writers.proofs.Decimals.{scaled, scaled_again}
 
 -- no line has a fault, or ends the file
 abbrev pub IsFaultless : Past → Type 0
 IsFaultless [] = Unit {0}
-IsFaultless (says ∷ older) = (first_of (faults older says) ≡ None) × (is_end_statement says ≡ false) × IsFaultless older
+IsFaultless (says ∷ older) = (first (checks older says) ≡ None) × (is_end_statement says ≡ false) × IsFaultless older
 
 abbrev pub at_x : Point → Coordinate
 at_x p = Written (scaled p.x)

@@ -1,7 +1,6 @@
 pub mod Cuttings
 pub mod Packing
-pub mod Declaring
-pub mod FaultTables
+pub mod OrderedChecks
 pub mod Readings
 pub mod Places
 pub mod LeastFaults

@@ -1,17 +1,20 @@
 -- What an XNC file means: its drill layer, or its first fault.
-use Rattle.std.specs.Prelude.{◌≡◌, ℕ, ◌+◌, List, [], ◌∷◌, length, map, filter, reverse, Option, Some, None, Result, Ok}
-use Rattle.std.specs.Prelude.{Err, ◌⊎◌, Bool, true, false, not, if◌then◌else◌}
-use Rattle.std.specs.Option.{option_or, option_map}
+use Rattle.std.specs.Prelude.{◌≡◌, ℕ, ◌+◌, List, [], ◌∷◌, length, filter, Option, Some, None, Result, Ok, Err, ◌⊎◌}
+use Rattle.std.specs.Prelude.{Bool, true, false, not, if◌then◌else◌}
 use Rattle.std.specs.List.{list_any, prefix_len}
+use Rattle.cam_refusals.specs.declared.read_fault.ReadFault.{ReadFault}
+use Rattle.cam_refusals.specs.declared.refusal.Refusal.{Refusal}
+use Rattle.cam_refusals.specs.declared.refusal.Refusal.TheVariants.{BadByte, NoMemory}
+use Rattle.cam_refusals.specs.Checks.{Checks}
+use Rattle.cam_refusals.specs.FileFaults.{Place, told}
 use Rattle.cam_objects.specs.declared.drill_layer.DrillLayer.{DrillLayer}
-use Rattle.cam_xnc.specs.declared.read_fault.ReadFault.{ReadFault}
 use Rattle.cam_xnc.specs.declared.statement.Statement.{Statement}
 use Rattle.cam_xnc.specs.declared.statement.Statement.TheVariants.{End}
 use Rattle.cam_xnc.specs.Bytes.{is_skipped, is_bad, is_blank, code_of, packed}
 use Rattle.cam_xnc.specs.Lines.{FoundLine, lines_of}
 use Rattle.cam_xnc.specs.Syntax.{statement_of}
 use Rattle.cam_xnc.specs.DrillState.{Past, layer_in}
-use Rattle.cam_xnc.specs.Faults.{Table, bad_byte, least, faults, end_faults}
+use Rattle.cam_xnc.specs.Faults.{checks, end_checks}
 use Rattle.cam_objects.specs.Contents.{DrillContent, drill_content_of}
 
 -- the line says something: it is not blank without its comment
@@ -43,40 +46,39 @@ abbrev pub told_lines : List ℕ → List FoundLine
 told_lines bytes = through_end (filter is_told (lines_of bytes))
 
 -- what a line may be refused for after a past
-abbrev pub line_faults : Past → FoundLine → Table
-line_faults past line = (bad_byte, list_any is_bad (code_of line.text)) ∷ faults past (said line)
+abbrev pub line_checks : Past → FoundLine → Checks Refusal
+line_checks past line = (BadByte, list_any is_bad (code_of line.text)) ∷ checks past (said line)
 
--- the least number of a table that holds, told at a place
-abbrev pub fault_at : ℕ → Table → Option ReadFault
-fault_at place table = option_map (λ code. record { code = code; at = place }) (least table)
+-- the places of lines after a past, each with what may be refused there, and where none of them is M30 that of the end
+abbrev pub places_from : ℕ → Past → List FoundLine → List Place
+places_from len past [] = record { at = len; checks = end_checks past } ∷ []
+places_from len past (line ∷ lines) = record { at = place_of line; checks = line_checks past line }
+    ∷ (if is_end line then [] else places_from len (said line ∷ past) lines)
 
-abbrev pub fault_of : Past → FoundLine → Option ReadFault
-fault_of past line = fault_at (place_of line) (line_faults past line)
+-- the past behind lines
+abbrev pub past_from : Past → List FoundLine → Past
+past_from past [] = past
+past_from past (line ∷ lines) = past_from (said line ∷ past) lines
 
--- the fault of the least place among lines, the newest of which stands first
-abbrev pub first_fault : List FoundLine → Option ReadFault
-first_fault [] = None
-first_fault (line ∷ older) = option_or (first_fault older) (fault_of (map said older) line)
-
--- the fault of lines that the input ends, the newest first
-abbrev pub end_fault : List FoundLine → ℕ → Option ReadFault
-end_fault told len = if list_any is_end told then None else fault_at len (end_faults (map said told))
-
--- the layer where there is no fault
+-- the layer where no fault is told
 abbrev pub layer_unless : Option ReadFault → DrillContent → Result DrillContent ReadFault
 layer_unless None layer = Ok layer
 layer_unless (Some fault) layer = Err fault
 
--- the layer of the lines that are read of a file of so many bytes, the newest first
-abbrev pub layer_told : List FoundLine → ℕ → Result DrillContent ReadFault
-layer_told told len = layer_unless (option_or (first_fault told) (end_fault told len)) (layer_in (map said told))
+-- the layer of lines after a past, or their first fault, in a file of so many bytes
+abbrev pub reading_from : ℕ → Past → List FoundLine → Result DrillContent ReadFault
+reading_from len past lines = layer_unless (told (places_from len past lines)) (layer_in (past_from past lines))
+
+-- the places of a file
+abbrev pub places_of : List ℕ → List Place
+places_of bytes = places_from (length bytes) [] (told_lines bytes)
 
 -- the layer of a file, or its first fault
 unfoldable pub reading_of : List ℕ → Result DrillContent ReadFault
-reading_of bytes = layer_told (reverse (told_lines bytes)) (length bytes)
+reading_of bytes = reading_from (length bytes) [] (told_lines bytes)
 
 abbrev pub no_memory : ReadFault
-no_memory = record { code = 30; at = 0 }
+no_memory = record { code = NoMemory; at = 0 }
 
 abbrev pub answer_of : Result DrillLayer ReadFault → Result DrillContent ReadFault
 answer_of (Ok layer) = Ok (drill_content_of layer)

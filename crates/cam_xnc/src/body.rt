@@ -4,20 +4,20 @@ ghost use Rattle.std.specs.Prelude.{◌≡◌, ◌+◌, ◌≤◌, ◌∷◌, �
 ghost use Rattle.cam_xnc.specs.declared.statement.Statement.TheVariants as statement;
 ghost use Rattle.cam_objects.specs.DrillSoundness.{drill_count_from};
 ghost use Rattle.cam_xnc.specs.DrillState.{Past, mode_in};
-ghost use Rattle.cam_xnc.specs.Faults.{body_faults, cut_faults, drilled_faults, is_drilling, is_lowered, first_of};
-ghost use Rattle.cam_xnc.specs.Faults.{is_malformed, is_on_board, is_pointless, is_raised, is_too_much, slot_faults};
+ghost use Rattle.cam_refusals.specs.Checks.{first};
+ghost use Rattle.cam_refusals.specs.Limits.{leaf_limit};
+ghost use Rattle.cam_xnc.specs.Faults.{body_checks, cut_checks, drilled_checks, is_drilling, is_lowered};
+ghost use Rattle.cam_xnc.specs.Faults.{is_malformed, is_on_board, is_pointless, is_raised, is_too_much, slot_checks};
 ghost use Rattle.cam_xnc.specs.Machinery.Tracking.{Obeys, Tracks, moved, moved_point};
 
-use crate::faults;
 use crate::modes::Mode;
-use crate::state::{DrillState, Stop};
+use crate::state::DrillState;
 use crate::statement::{Coordinate, Statement};
 use cam_objects::{DrillItem, Points};
+use cam_refusals::limits::COUNT_LIMIT;
+use cam_refusals::{Refusal, Stop};
 use cam_units::{Nm, Point, Unit, fits_board, fix9_nm};
 use std::mem;
-
-/// How many items a layer may have, and how many points a rout.
-const ITEM_LIMIT: usize = 1_000_000;
 
 fn is_malformed(coordinate: Coordinate) -> bool
     ensures { result ≡ is_malformed coordinate }
@@ -103,75 +103,75 @@ impl DrillState {
     /// Whether the layer with one item more, of so many holes and slots, is past a limit.
     fn is_too_much(&self, more: usize) -> bool
         ensures past { (past : Past) → Tracks past self.now → result ≡ is_too_much past more }
-        ensures room { result ≡ false → self.now.leaves.count + more ≤ 4000000 }
+        ensures room { result ≡ false → self.now.leaves.count + more ≤ leaf_limit }
     {
-        if self.layer.items.len() >= ITEM_LIMIT {
+        if self.layer.items.len() >= COUNT_LIMIT {
             return true;
         }
         !self.leaves.has_room(more)
     }
 
     fn select(&mut self, number: Option<u16>) -> Result<(), Stop>
-        ensures { Obeys body_faults (statement.Select number) self.old result self.new }
+        ensures { Obeys body_checks (statement.Select number) self.old result self.new }
     {
         let Some(number) = number else {
-            return Err(Stop::Fault(faults::BAD_NUMBER));
+            return Err(Stop::Fault(Refusal::BadNumber));
         };
         if number != 0 && self.layer.tools.get(number).is_none() {
-            return Err(Stop::Fault(faults::UNKNOWN_TOOL));
+            return Err(Stop::Fault(Refusal::UnknownTool));
         }
         if is_lowered(self.mode) {
-            return Err(Stop::Fault(faults::ROUT_STATE));
+            return Err(Stop::Fault(Refusal::RoutState));
         }
         self.tool = if number == 0 { None } else { Some(number) };
         Ok(())
     }
 
     fn drill_mode(&mut self) -> Result<(), Stop>
-        ensures { Obeys body_faults statement.DrillMode self.old result self.new }
+        ensures { Obeys body_checks statement.DrillMode self.old result self.new }
     {
         if is_lowered(self.mode) {
-            return Err(Stop::Fault(faults::ROUT_STATE));
+            return Err(Stop::Fault(Refusal::RoutState));
         }
         self.mode = Mode::Drilling;
         Ok(())
     }
 
     /// The fault of a hit or a slot, by what is wrong with its coordinates and its points.
-    fn drilled_fault(&self, malformed: bool, pointless: bool, off: bool) -> Option<u8>
+    fn drilled_fault(&self, malformed: bool, pointless: bool, off: bool) -> Option<Refusal>
         ensures first { (past : Past) → Tracks past self.now
-            → result ≡ first_of (drilled_faults past malformed pointless off 1 (mode_in past)) }
-        ensures room { IfNone result (self.now.leaves.count + 1 ≤ 4000000) }
+            → result ≡ first (drilled_checks past malformed pointless off 1 (mode_in past)) }
+        ensures room { IfNone result (self.now.leaves.count + 1 ≤ leaf_limit) }
     {
         if malformed {
-            return Some(faults::BAD_NUMBER);
+            return Some(Refusal::BadNumber);
         }
         if off {
-            return Some(faults::OUT_OF_BOARD);
+            return Some(Refusal::OutOfBoard);
         }
         if !is_drilling(self.mode) {
             if self.tool.is_none() {
-                return Some(faults::NO_TOOL_SELECTED);
+                return Some(Refusal::NoToolSelected);
             }
             if pointless {
-                return Some(faults::NO_POINT);
+                return Some(Refusal::NoPoint);
             }
-            return Some(faults::ROUT_STATE);
+            return Some(Refusal::RoutState);
         }
         if self.is_too_much(1) {
-            return Some(faults::TOO_MUCH);
+            return Some(Refusal::TooMuch);
         }
         if self.tool.is_none() {
-            return Some(faults::NO_TOOL_SELECTED);
+            return Some(Refusal::NoToolSelected);
         }
         if pointless {
-            return Some(faults::NO_POINT);
+            return Some(Refusal::NoPoint);
         }
         None
     }
 
     fn hit_at(&mut self, x: Coordinate, y: Coordinate) -> Result<(), Stop>
-        ensures { Obeys body_faults (statement.HitAt x y) self.old result self.new }
+        ensures { Obeys body_checks (statement.HitAt x y) self.old result self.new }
     {
         let at = moved_point(self.unit, x, y, self.at);
         let malformed = are_malformed(x, y);
@@ -195,10 +195,10 @@ impl DrillState {
         end_y: Coordinate,
         start: Point,
         end: Point,
-    ) -> Option<u8>
+    ) -> Option<Refusal>
         ensures first { (past : Past) → Tracks past self.now
-            → result ≡ first_of (slot_faults past start_x start_y end_x end_y start end (mode_in past)) }
-        ensures room { IfNone result (self.now.leaves.count + 1 ≤ 4000000) }
+            → result ≡ first (slot_checks past start_x start_y end_x end_y start end (mode_in past)) }
+        ensures room { IfNone result (self.now.leaves.count + 1 ≤ leaf_limit) }
     {
         let malformed = are_malformed(start_x, start_y) || are_malformed(end_x, end_y);
         let pointless = are_pointless(start_x, start_y) || are_pointless(end_x, end_y);
@@ -215,7 +215,7 @@ impl DrillState {
         end_x: Coordinate,
         end_y: Coordinate,
     ) -> Result<(), Stop>
-        ensures { Obeys body_faults (statement.Slot start_x start_y end_x end_y) self.old result self.new }
+        ensures { Obeys body_checks (statement.Slot start_x start_y end_x end_y) self.old result self.new }
     {
         let start = moved_point(self.unit, start_x, start_y, self.at);
         let end = moved_point(self.unit, end_x, end_y, start);
@@ -234,20 +234,20 @@ impl DrillState {
     }
 
     fn rout_to(&mut self, x: Coordinate, y: Coordinate) -> Result<(), Stop>
-        ensures { Obeys body_faults (statement.RoutTo x y) self.old result self.new }
+        ensures { Obeys body_checks (statement.RoutTo x y) self.old result self.new }
     {
         if are_malformed(x, y) {
-            return Err(Stop::Fault(faults::BAD_NUMBER));
+            return Err(Stop::Fault(Refusal::BadNumber));
         }
         let at = moved_point(self.unit, x, y, self.at);
         if !is_on_board(at) {
-            return Err(Stop::Fault(faults::OUT_OF_BOARD));
+            return Err(Stop::Fault(Refusal::OutOfBoard));
         }
         if are_pointless(x, y) {
-            return Err(Stop::Fault(faults::NO_POINT));
+            return Err(Stop::Fault(Refusal::NoPoint));
         }
         if is_lowered(self.mode) {
-            return Err(Stop::Fault(faults::ROUT_STATE));
+            return Err(Stop::Fault(Refusal::RoutState));
         }
         self.mode = Mode::Raised;
         self.at = at;
@@ -255,13 +255,13 @@ impl DrillState {
     }
 
     fn lower(&mut self) -> Result<(), Stop>
-        ensures { Obeys body_faults statement.Lower self.old result self.new }
+        ensures { Obeys body_checks statement.Lower self.old result self.new }
     {
         if self.tool.is_none() {
-            return Err(Stop::Fault(faults::NO_TOOL_SELECTED));
+            return Err(Stop::Fault(Refusal::NoToolSelected));
         }
         if !is_raised(self.mode) {
-            return Err(Stop::Fault(faults::ROUT_STATE));
+            return Err(Stop::Fault(Refusal::RoutState));
         }
         let mut points = Vec::new(self.alloc);
         points.push(self.at)?;
@@ -271,33 +271,33 @@ impl DrillState {
     }
 
     /// The fault of a cut.
-    fn cut_fault(&self, x: Coordinate, y: Coordinate, to: Point) -> Option<u8>
+    fn cut_fault(&self, x: Coordinate, y: Coordinate, to: Point) -> Option<Refusal>
         ensures { (past : Past) → Tracks past self.now
-            → result ≡ first_of (cut_faults past x y to (mode_in past)) }
+            → result ≡ first (cut_checks past x y to (mode_in past)) }
     {
         if are_malformed(x, y) {
-            return Some(faults::BAD_NUMBER);
+            return Some(Refusal::BadNumber);
         }
         if !is_on_board(to) {
-            return Some(faults::OUT_OF_BOARD);
+            return Some(Refusal::OutOfBoard);
         }
         if !is_lowered(self.mode) {
             if are_pointless(x, y) {
-                return Some(faults::NO_POINT);
+                return Some(Refusal::NoPoint);
             }
-            return Some(faults::ROUT_STATE);
+            return Some(Refusal::RoutState);
         }
-        if self.points.len() >= ITEM_LIMIT {
-            return Some(faults::TOO_MUCH);
+        if self.points.len() >= COUNT_LIMIT {
+            return Some(Refusal::TooMuch);
         }
         if are_pointless(x, y) {
-            return Some(faults::NO_POINT);
+            return Some(Refusal::NoPoint);
         }
         None
     }
 
     fn cut_to(&mut self, x: Coordinate, y: Coordinate) -> Result<(), Stop>
-        ensures { Obeys body_faults (statement.CutTo x y) self.old result self.new }
+        ensures { Obeys body_checks (statement.CutTo x y) self.old result self.new }
     {
         let at = moved_point(self.unit, x, y, self.at);
         if let Some(code) = self.cut_fault(x, y, at) {
@@ -309,14 +309,14 @@ impl DrillState {
     }
 
     fn raise(&mut self) -> Result<(), Stop>
-        ensures { Obeys body_faults statement.Raise self.old result self.new }
+        ensures { Obeys body_checks statement.Raise self.old result self.new }
     {
         if !is_lowered(self.mode) {
-            return Err(Stop::Fault(faults::ROUT_STATE));
+            return Err(Stop::Fault(Refusal::RoutState));
         }
         let more = rout_leaves(&self.points);
         if self.is_too_much(more) {
-            return Err(Stop::Fault(faults::TOO_MUCH));
+            return Err(Stop::Fault(Refusal::TooMuch));
         }
         let tool = self.tool.unwrap_or(0);
         let points = Points::from_vec(mem::replace(&mut self.points, Vec::new(self.alloc)));
@@ -327,17 +327,17 @@ impl DrillState {
     }
 
     fn end(&mut self) -> Result<(), Stop>
-        ensures { Obeys body_faults statement.End self.old result self.new }
+        ensures { Obeys body_checks statement.End self.old result self.new }
     {
         if is_lowered(self.mode) {
-            return Err(Stop::Fault(faults::ROUT_STATE));
+            return Err(Stop::Fault(Refusal::RoutState));
         }
         Ok(())
     }
 
     /// Takes what one more line of the body says.
     pub fn obey_body(&mut self, statement: Statement) -> Result<(), Stop>
-        ensures { Obeys body_faults statement self.old result self.new }
+        ensures { Obeys body_checks statement self.old result self.new }
     {
         match statement {
             Statement::Neutral => Ok(()),
@@ -354,9 +354,9 @@ impl DrillState {
             Statement::Lower => self.lower(),
             Statement::CutTo { x, y } => self.cut_to(x, y),
             Statement::Raise => self.raise(),
-            Statement::CutArc => Err(Stop::Fault(faults::ROUT_ARC)),
+            Statement::CutArc => Err(Stop::Fault(Refusal::RoutArc)),
             Statement::End => self.end(),
-            _ => Err(Stop::Fault(faults::UNKNOWN_LINE)),
+            _ => Err(Stop::Fault(Refusal::UnknownLine)),
         }
     }
 }

@@ -1,15 +1,15 @@
 //! How many holes and slots a layer has.
 
-ghost use Rattle.std.specs.Prelude.{◌≡◌, ◌+◌, ◌≤◌, nat_le, true};
+ghost use Rattle.std.specs.Prelude.{◌≡◌, ◌+◌, ◌≤◌, nat_le};
+ghost use Rattle.cam_refusals.specs.Limits.{leaf_limit};
 
-/// How many holes and slots a layer may have.
-const LEAF_LIMIT: usize = 4_000_000;
+use cam_refusals::limits::LEAF_LIMIT;
 
 /// How many holes and slots a layer has, at most 4,000,000.
 #[derive(Drop)]
 pub struct Leaves {
     pub count: usize,
-    ghost within: { count ≤ 4000000 },
+    ghost within: { count ≤ leaf_limit },
 }
 
 impl Leaves {
@@ -22,14 +22,14 @@ impl Leaves {
 
     /// Whether there may be so many more.
     pub fn has_room(&self, more: usize) -> bool
-        ensures { result ≡ nat_le (self.now.count + more) 4000000 }
+        ensures { result ≡ nat_le (self.now.count + more) leaf_limit }
     {
-        more <= LEAF_LIMIT - self.count
+        more <= LEAF_LIMIT as usize - self.count
     }
 
     /// Counts so many more.
     pub fn add(&mut self, more: usize)
-        requires { self.old.count + more ≤ 4000000 }
+        requires { self.old.count + more ≤ leaf_limit }
         ensures { self.new.count ≡ self.old.count + more }
     {
         self.count += more;

@@ -26,7 +26,6 @@
 
 mod body;
 mod bytes;
-mod faults;
 mod header;
 mod laws;
 mod leaves;
@@ -34,15 +33,14 @@ mod line;
 mod lines;
 mod modes;
 mod numbers;
-mod read_fault;
 mod reader;
 mod state;
 mod statement;
 mod syntax;
 
+pub use cam_refusals::ReadFault;
 pub use laws::{
     layers_are_sound, layers_come_from_faultless_files, no_fault_of_memory, one_cutting_into_lines,
     slots_are_routs, the_least_fault_is_told,
 };
-pub use read_fault::ReadFault;
 pub use reader::read_xnc;

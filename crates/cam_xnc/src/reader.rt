@@ -5,13 +5,12 @@ ghost use Rattle.cam_objects.specs.DrillSoundness.{IsSoundDrillLayer};
 ghost use Rattle.cam_xnc.specs.Reading.{IsReading, is_end_statement};
 
 use crate::bytes::{code_of, holds_bad_byte, is_blank, leading_skipped};
-use crate::faults;
 use crate::lines::Lines;
-use crate::read_fault::ReadFault;
-use crate::state::{DrillState, Stop};
+use crate::state::DrillState;
 use crate::statement::Statement;
 use crate::syntax::statement_of;
 use cam_objects::DrillLayer;
+use cam_refusals::{ReadFault, Refusal, Stop};
 use std::alloc::Global;
 
 /// Whether the line is M30.
@@ -22,8 +21,9 @@ fn is_end(statement: Statement) -> bool
 }
 
 /// The drill layer of an XNC file up to its first M30, or its first fault: that of the line
-/// which stands first, and of several at one line the one with the lowest number. Where
-/// memory is refused, the fault is number 30 at place 0. The layer is sound.
+/// which stands first, and of several at one line the one with the lowest number. Its place is
+/// that of the line's first byte which is not skipped, or the file's length where the end is
+/// missing. Where memory is refused, the fault is `NoMemory` at place 0. The layer is sound.
 ///
 /// (XNC Format Specification, "Header", "Drilling" and "Routing".)
 pub fn read_xnc(alloc: Global, bytes: &[u8]) -> Result<DrillLayer, ReadFault>
@@ -40,7 +40,7 @@ pub fn read_xnc(alloc: Global, bytes: &[u8]) -> Result<DrillLayer, ReadFault>
         let at = line.at + leading_skipped(code);
         if holds_bad_byte(code) {
             return Err(ReadFault {
-                code: faults::BAD_BYTE,
+                code: Refusal::BadByte,
                 at,
             });
         }

@@ -2,45 +2,17 @@
 
 ghost use Rattle.std.specs.Prelude.{◌≡◌, ◌∷◌, [], Some, None};
 ghost use Rattle.cam_xnc.specs.DrillState.{Past};
-ghost use Rattle.cam_xnc.specs.Faults.{end_faults, faults, is_malformed, is_pointless, start_of_file_faults, first_of};
+ghost use Rattle.cam_refusals.specs.Checks.{first};
+ghost use Rattle.cam_xnc.specs.Faults.{end_checks, checks, start_of_file_checks};
 ghost use Rattle.cam_xnc.specs.Machinery.Tracking.{Obeys, Tracks, moved, moved_point};
 
-use crate::faults;
 use crate::leaves::Leaves;
 use crate::modes::{Mode, Part};
 use crate::statement::{Coordinate, Statement};
 use cam_objects::DrillLayer;
+use cam_refusals::{Refusal, Stop};
 use cam_units::{Point, Unit};
-use std::alloc::{AllocError, AllocFailed, Global};
-
-/// Why a line stops the reader: memory was refused, or a fault's number.
-#[derive(Debug, Drop)]
-pub enum Stop {
-    Memory,
-    Fault(u8),
-}
-
-impl From<AllocError> for Stop {
-    ghost use Rattle.std.specs.Prelude.{◌≡◌};
-    ghost use Rattle.cam_xnc.specs.declared.state.Stop.TheVariants.{Memory};
-
-    ghost from_gives = { λ _ stop. stop ≡ Memory };
-
-    fn from(_error: AllocError) -> Stop {
-        Stop::Memory
-    }
-}
-
-impl<T: Drop> From<AllocFailed<T>> for Stop {
-    ghost use Rattle.std.specs.Prelude.{◌≡◌};
-    ghost use Rattle.cam_xnc.specs.declared.state.Stop.TheVariants.{Memory};
-
-    ghost from_gives = { λ _ stop. stop ≡ Memory };
-
-    fn from(_error: AllocFailed<T>) -> Stop {
-        Stop::Memory
-    }
-}
+use std::alloc::Global;
 
 /// The values in force behind the lines so far, and the layer that they make.
 #[derive(Drop)]
@@ -86,21 +58,21 @@ impl DrillState {
 
     /// The first line: M48.
     fn obey_first(&mut self, statement: Statement) -> Result<(), Stop>
-        ensures { Obeys (λ past. start_of_file_faults) statement self.old result self.new }
+        ensures { Obeys (λ past. start_of_file_checks) statement self.old result self.new }
     {
         match statement {
             Statement::BeginHeader => {
                 self.part = Part::Header;
                 Ok(())
             }
-            _ => Err(Stop::Fault(faults::NO_HEADER)),
+            _ => Err(Stop::Fault(Refusal::NoHeader)),
         }
     }
 
     /// Takes what one more line says; it tells the line's fault of the lowest number, or that
     /// memory was refused.
     pub fn obey(&mut self, statement: Statement) -> Result<(), Stop>
-        ensures { Obeys faults statement self.old result self.new }
+        ensures { Obeys checks statement self.old result self.new }
     {
         match self.part {
             Part::Start => self.obey_first(statement),
@@ -110,12 +82,12 @@ impl DrillState {
     }
 
     /// The fault of an input that ends here, without M30.
-    pub fn end_fault(&self) -> u8
-        ensures { (past : Past) → Tracks past self.now → first_of (end_faults past) ≡ Some result }
+    pub fn end_fault(&self) -> Refusal
+        ensures { (past : Past) → Tracks past self.now → first (end_checks past) ≡ Some result }
     {
         match self.part {
-            Part::Start => faults::NO_HEADER,
-            Part::Header | Part::Body => faults::NO_END,
+            Part::Start => Refusal::NoHeader,
+            Part::Header | Part::Body => Refusal::DrillNoEnd,
         }
     }
 }

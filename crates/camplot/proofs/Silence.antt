@@ -1,11 +1,12 @@
 -- Whether a line has a reply does not hang on memory.
 use Rattle.std.proofs.Common.{◌≡◌, ◌∙◌, ap, refl, sym, ℕ, Bool, true, false, not, List, [], ◌∷◌, length, Result, Ok, Err, None}
 use Rattle.std.specs.Prelude.{◌==◌, nat_lt, slice_index, if◌then◌else◌}
+use Rattle.cam_refusals.specs.Limits.{line_limit}
 use Rattle.cam_script.specs.declared.line.Line.{Line}
 use Rattle.cam_script.specs.declared.line.LineFault.{LineFault}
 use Rattle.cam_script.specs.declared.line.LineFault.TheVariants.{LineTooLong}
 use Rattle.cam_script.specs.Words.{words}
-use Rattle.cam_script.specs.Parsing.{Parsed, is_no_memory, kept, line_in, line_limit, parsed, said_by, some_line}
+use Rattle.cam_script.specs.Parsing.{Parsed, is_no_memory, kept, line_in, parsed, said_by, some_line}
 use Rattle.camplot.specs.Explanations.{has_reply, is_silent}
 
 -- what says or should say something has a reply

@@ -5,7 +5,8 @@ use Rattle.std.specs.Str.Lines.{lines}
 use Rattle.cam_station.specs.Machine.{fresh, is_depth}
 use Rattle.cam_station.specs.declared.files.FileFault.{FileFault}
 use Rattle.cam_station.specs.Run.{Answers, EndsBy, FilesSeen, Get, Moment, RunsAllLines, World}
-use Rattle.camplot.specs.Disk.{AreAllOf, file_limit}
+use Rattle.cam_refusals.specs.Limits.{file_limit}
+use Rattle.camplot.specs.Disk.{AreAllOf}
 use Rattle.camplot.specs.declared.ending.Ending.{Ending}
 use Rattle.camplot.specs.declared.ending.Ending.TheVariants.{Ran, Unread, Stopped}
 

@@ -8,7 +8,7 @@ use crate::ending::Ending;
 use crate::explain::{Explained, Margin};
 use crate::options::Call;
 use crate::reading::read_all;
-use crate::system::FILE_LIMIT;
+use cam_refusals::limits::FILE_LIMIT;
 use cam_station::{FileFault, Files, Out, run};
 use std::alloc::Global;
 use std::io::{Read, Write};

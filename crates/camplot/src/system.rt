@@ -4,17 +4,15 @@
 //! to a writer is told as far as these tell it.
 
 ghost use Rattle.std.specs.Prelude.{◌≡◌, ◌≤◌, length, IfOk, IfSome};
-ghost use Rattle.camplot.specs.Disk.{file_limit};
+ghost use Rattle.cam_refusals.specs.Limits.{file_limit};
 
 use crate::reading::{fault_of, read_all, write_whole};
+use cam_refusals::limits::FILE_LIMIT;
 use cam_station::{FileFault, Files, Out};
 use std::alloc::Global;
 use std::fs;
 use std::io::Write;
 use std::rt::Files as SystemFiles;
-
-/// The longest file that is read, in bytes.
-pub const FILE_LIMIT: usize = 268_435_456;
 
 /// The bytes of the file at this path; a file of more than 268,435,456 bytes has failed.
 fn read_file<R: SystemFiles>(rt: &R, alloc: Global, path: &str) -> Result<Vec<u8>, FileFault>
@@ -76,7 +74,7 @@ impl<R> Disk<'_, R> {
 impl<'a, R: SystemFiles> Files for Disk<'a, R> {
     ghost use Rattle.std.specs.Prelude.{◌≤◌, IfErr, IfOk, None, length};
     ghost use Rattle.cam_station.specs.Files.{FailsIfAbsent, HasRisenBy, Holds, failures_of};
-    ghost use Rattle.camplot.specs.Disk.{file_limit};
+    ghost use Rattle.cam_refusals.specs.Limits.{file_limit};
 
     ghost contents = { λ _. None };
 

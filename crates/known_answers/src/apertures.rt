@@ -4,11 +4,12 @@
 mod covering;
 mod defining;
 
+use crate::tables::rows_of;
 use cam_apertures::{AdFault, Aperture, Macros, ShapeView, ad_number, parse_ad};
 use cam_macros::Macro;
 use cam_units::{Bounds, Point, Spot, Turn, Unit};
 use covering::{BOXES, NOTHING, PLACES, SOLID, Text};
-use defining::{DEFINITIONS, NUMBERS, Wanted};
+use defining::{DEFINITIONS, NUMBERS, Wanted, definition_of};
 use std::alloc::Global;
 use std::test::Fail;
 
@@ -85,6 +86,15 @@ fn gives(answer: &Result<(u32, Aperture), AdFault>, number: u32, wanted: Wanted)
     }
 }
 
+/// Whether the row's definition gives what it wants.
+fn is_right(alloc: Global, row: &[u8]) -> Result<bool, Fail> {
+    let Some(row) = definition_of(row) else {
+        return Ok(false);
+    };
+    let answer = defined(alloc, row.macro_text, row.text, row.unit)?;
+    Ok(gives(&answer, row.number, row.wanted))
+}
+
 #[test]
 fn covers(rt: HostRuntime) -> Result<(), Fail> {
     for &(text, turn, (x, y), wanted) in PLACES {
@@ -150,9 +160,10 @@ fn solid_apertures(rt: HostRuntime) -> Result<(), Fail> {
 
 #[test]
 fn definitions(rt: HostRuntime) -> Result<(), Fail> {
-    for &(macro_text, text, unit, number, wanted) in DEFINITIONS {
-        let answer = defined(rt.alloc(), macro_text, text, unit)?;
-        assert!(rt; gives(&answer, number, wanted), "{text:?}");
+    let rows = rows_of(rt.alloc(), DEFINITIONS)?;
+    assert!(rt; rows.len() == 76, "{} rows", rows.len());
+    for &row in rows.as_slice() {
+        assert!(rt; is_right(rt.alloc(), row)?, "{row:?}");
     }
     Ok(())
 }

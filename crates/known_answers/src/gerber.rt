@@ -16,8 +16,9 @@ mod several;
 mod sizes;
 
 use crate::places::{At, place};
+use crate::tables::{placed, rows_of, two_texts};
 use crate::text::{Pieces, text_of};
-use cam_gerber::{ReadFault, read_gerber};
+use cam_gerber::read_gerber;
 use cam_objects::Layer;
 use faults::FAULTS;
 use layers::LAYERS;
@@ -37,12 +38,6 @@ struct File {
     black: &'static [At],
     white: &'static [At],
 }
-
-/// A file that is none: its text, and the number and the place of its fault.
-pub type Refused = (&'static [u8], u8, usize);
-
-/// A file that is read, one that is refused, and the number and the place of its fault.
-pub type Limit = (&'static [u8], &'static [u8], u8, usize);
 
 /// A file of one flash more than a layer has.
 const FULL: Pieces = &[
@@ -86,57 +81,46 @@ fn layers_that_are_read(rt: HostRuntime) {
     }
 }
 
-/// The first file of the rows that is not refused so, and what is told of it.
-fn first_wrong(alloc: Global, rows: &[Refused]) -> Option<(&'static [u8], Option<ReadFault>)> {
-    for &(text, code, at) in rows {
-        let fault = read_gerber(alloc, text).err();
-        if fault != Some(ReadFault { code, at }) {
-            return Some((text, fault));
+/// The number and the place of the file's fault, where it has one.
+fn told(alloc: Global, text: &[u8]) -> Option<(u8, usize)> {
+    match read_gerber(alloc, text) {
+        Ok(_) => None,
+        Err(fault) => Some((fault.code.number(), fault.at)),
+    }
+}
+
+/// Whether the file of the row is refused so.
+fn is_refused(alloc: Global, row: &[u8]) -> bool {
+    match placed(row) {
+        Some((number, at, text)) => told(alloc, text) == Some((number, at)),
+        None => false,
+    }
+}
+
+#[test]
+fn files_that_are_refused(rt: HostRuntime) -> Result<(), Fail> {
+    for (table, count) in [
+        (FAULTS, 55),
+        (FORMS, 52),
+        (DEFINITIONS, 57),
+        (STATES, 48),
+        (SEVERAL, 67),
+    ] {
+        let rows = rows_of(rt.alloc(), table)?;
+        assert!(rt; rows.len() == count, "{} rows for {count}", rows.len());
+        for &row in rows.as_slice() {
+            assert!(rt; is_refused(rt.alloc(), row), "{row:?}");
         }
     }
-    None
-}
-
-#[test]
-fn faults_that_are_told(rt: HostRuntime) {
-    let wrong = first_wrong(rt.alloc(), FAULTS);
-    assert!(rt; wrong.is_none(), "{wrong:?}");
-}
-
-#[test]
-fn refused_forms(rt: HostRuntime) {
-    let wrong = first_wrong(rt.alloc(), FORMS);
-    assert!(rt; wrong.is_none(), "{wrong:?}");
-}
-
-#[test]
-fn refused_definitions(rt: HostRuntime) {
-    let wrong = first_wrong(rt.alloc(), DEFINITIONS);
-    assert!(rt; wrong.is_none(), "{wrong:?}");
-}
-
-#[test]
-fn refused_states(rt: HostRuntime) {
-    let wrong = first_wrong(rt.alloc(), STATES);
-    assert!(rt; wrong.is_none(), "{wrong:?}");
-}
-
-#[test]
-fn several_faults(rt: HostRuntime) {
-    let wrong = first_wrong(rt.alloc(), SEVERAL);
-    assert!(rt; wrong.is_none(), "{wrong:?}");
+    Ok(())
 }
 
 /// A million flashes are read, and the next one is refused at its place.
 #[test]
 fn a_flash_too_many(rt: HostRuntime) -> Result<(), Fail> {
     let text = text_of(rt.alloc(), FULL)?;
-    let fault = read_gerber(rt.alloc(), &text).err();
-    let wanted = ReadFault {
-        code: 25,
-        at: 6_000_035,
-    };
-    assert!(rt; fault == Some(wanted), "{fault:?}");
+    let fault = told(rt.alloc(), &text);
+    assert!(rt; fault == Some((25, 6_000_035)), "{fault:?}");
     Ok(())
 }
 
@@ -154,45 +138,44 @@ fn attributes(alloc: Global, count: u32) -> Result<Vec<u8>, AllocError> {
 fn an_attribute_too_many(rt: HostRuntime) -> Result<(), Fail> {
     let mut kept = attributes(rt.alloc(), 1_000)?;
     kept.extend_from_slice(b"%TF999,1*%M02*")?;
-    let fault = read_gerber(rt.alloc(), &kept).err();
+    let fault = told(rt.alloc(), &kept);
     assert!(rt; fault.is_none(), "{fault:?}");
     let refused = attributes(rt.alloc(), 1_001)?;
-    let fault = read_gerber(rt.alloc(), &refused).err();
-    let wanted = ReadFault {
-        code: 25,
-        at: 7_890,
-    };
-    assert!(rt; fault == Some(wanted), "{fault:?}");
+    let fault = told(rt.alloc(), &refused);
+    assert!(rt; fault == Some((25, 7_890)), "{fault:?}");
     Ok(())
 }
 
-/// Whether the first file of a row is read and the second refused.
-fn is_limit(alloc: Global, row: &Limit) -> bool {
-    let &(accepted, refused, code, at) = row;
-    read_gerber(alloc, accepted).is_ok()
-        && read_gerber(alloc, refused).err() == Some(ReadFault { code, at })
-}
-
-#[test]
-fn limits_of_files(rt: HostRuntime) {
-    for row in LIMITS {
-        assert!(rt; is_limit(rt.alloc(), row), "{row:?}");
+/// Whether the first file of the row is read and the second refused so.
+fn is_limit(alloc: Global, row: &[u8]) -> bool {
+    let Some((number, at, texts)) = placed(row) else {
+        return false;
+    };
+    match two_texts(texts) {
+        Some((accepted, refused)) => {
+            told(alloc, accepted).is_none() && told(alloc, refused) == Some((number, at))
+        }
+        None => false,
     }
 }
 
 #[test]
-fn sizes_in_files(rt: HostRuntime) {
-    for row in SIZES {
-        assert!(rt; is_limit(rt.alloc(), row), "{row:?}");
+fn limits_of_files(rt: HostRuntime) -> Result<(), Fail> {
+    for (table, count) in [(LIMITS, 45), (SIZES, 35)] {
+        let rows = rows_of(rt.alloc(), table)?;
+        assert!(rt; rows.len() == count, "{} rows for {count}", rows.len());
+        for &row in rows.as_slice() {
+            assert!(rt; is_limit(rt.alloc(), row), "{row:?}");
+        }
     }
+    Ok(())
 }
 
 #[test]
 fn long_gerber_files(rt: HostRuntime) -> Result<(), Fail> {
     for &(pieces, wanted) in LONG_FILES {
         let text = text_of(rt.alloc(), pieces)?;
-        let fault = read_gerber(rt.alloc(), &text).err();
-        let wanted = wanted.map(|(code, at)| ReadFault { code, at });
+        let fault = told(rt.alloc(), &text);
         assert!(rt; fault == wanted, "{pieces:?} {fault:?}");
     }
     Ok(())

@@ -2,6 +2,7 @@
 
 mod rows;
 
+use crate::tables::{numbered, rows_of};
 use crate::text::text_of;
 use cam_macros::{Macro, MacroFault, PrimShape, Prims};
 use cam_units::Unit;
@@ -21,6 +22,22 @@ fn number<T: Drop>(answer: Result<T, MacroFault>) -> u8 {
 fn expanded(alloc: Global, text: &[u8], params: &[i64]) -> Result<u8, MacroFault> {
     let made = Macro::parse(alloc, text)?;
     Ok(number(made.expand(alloc, params, Unit::Mm)))
+}
+
+/// Whether the text of the row is read so.
+fn reads(alloc: Global, row: &[u8]) -> bool {
+    match numbered(row) {
+        Some((wanted, text)) => number(Macro::parse(alloc, text)) == wanted,
+        None => false,
+    }
+}
+
+/// Whether the primitives of the row's text are made so.
+fn expands(alloc: Global, row: &[u8]) -> Result<bool, MacroFault> {
+    match numbered(row) {
+        Some((wanted, text)) => Ok(expanded(alloc, text, &[])? == wanted),
+        None => Ok(false),
+    }
 }
 
 /// Whether the primitive is of this shape.
@@ -67,8 +84,10 @@ fn is_right(alloc: Global, row: &Row) -> Result<bool, Fail> {
 #[test]
 fn readings(rt: HostRuntime) -> Result<(), Fail> {
     let alloc = rt.alloc();
-    for &(text, wanted) in TEXTS {
-        assert!(rt; number(Macro::parse(alloc, text)) == wanted, "{text:?}");
+    let rows = rows_of(alloc, TEXTS)?;
+    assert!(rt; rows.len() == 31, "{} rows", rows.len());
+    for &row in rows.as_slice() {
+        assert!(rt; reads(alloc, row), "{row:?}");
     }
     for (pieces, wanted) in LONG_TEXTS {
         let text = text_of(alloc, pieces)?;
@@ -80,8 +99,10 @@ fn readings(rt: HostRuntime) -> Result<(), Fail> {
 #[test]
 fn expansions(rt: HostRuntime) -> Result<(), Fail> {
     let alloc = rt.alloc();
-    for &(text, wanted) in EXPANSIONS {
-        assert!(rt; expanded(alloc, text, &[])? == wanted, "{text:?}");
+    let rows = rows_of(alloc, EXPANSIONS)?;
+    assert!(rt; rows.len() == 43, "{} rows", rows.len());
+    for &row in rows.as_slice() {
+        assert!(rt; expands(alloc, row)?, "{row:?}");
     }
     for &(text, params, wanted) in WITH_PARAMETERS {
         assert!(rt; expanded(alloc, text, params)? == wanted, "{text:?}");

@@ -2,10 +2,13 @@
 
 use std::test::Fail;
 
+// laid out as on the page
+#[rattlefmt::skip]
 #[test]
 fn cam_gerber(rt: HostRuntime) -> Result<(), Fail> {
     let alloc = rt.alloc();
     use cam_gerber::{ReadFault, read_gerber};
+    use cam_refusals::Refusal;
     use cam_units::Spot;
 
     let layer = read_gerber(alloc, b"%FSLAX46Y46*%%MOMM*%%ADD10C,1*%D10*X0Y0D03*M02*")?;
@@ -14,9 +17,9 @@ fn cam_gerber(rt: HostRuntime) -> Result<(), Fail> {
     assert!(rt; layer.black_at(Spot { x: 1_000_000, y: 0 }));
     assert!(rt; !layer.black_at(Spot { x: 1_000_001, y: 0 }));
 
-    // the command at fault is told by the number of the fault, and by its place in bytes
+    // a fault is told with the place of its command, in bytes
     let fault = read_gerber(alloc, b"%FSLAX46Y46*%%MOMM*%%XY1*%M02*").err();
-    assert!(rt; fault == Some(ReadFault { code: 3, at: 20 }));
+    assert!(rt; fault == Some(ReadFault { code: Refusal::UnknownCommand, at: 20 }));
     Ok(())
 }
 

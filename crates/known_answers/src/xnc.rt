@@ -4,13 +4,14 @@ pub(crate) mod files;
 mod long;
 mod refusals;
 
+use crate::tables::{numbered, placed, rows_of, two_texts};
 use crate::text::text_of;
 use cam_objects::{DrillItem, Tools};
 use cam_units::{Nm, Point};
 use cam_xnc::read_xnc;
 use files::{DrillFile, Drilled, FILES};
 use long::LONG_FILES;
-use refusals::{FAULTS, FORMS, Lines, NUMBERS, Refused, STATES};
+use refusals::{FAULTS, FORMS, NUMBERS, STATES, named};
 use std::alloc::{AllocError, Global};
 use std::test::Fail;
 
@@ -75,7 +76,7 @@ fn is_layer(alloc: Global, row: &DrillFile) -> Result<bool, Fail> {
 fn outcome(alloc: Global, text: &[u8]) -> Result<usize, (u8, usize)> {
     match read_xnc(alloc, text) {
         Ok(layer) => Ok(layer.items().len()),
-        Err(fault) => Err((fault.code, fault.at)),
+        Err(fault) => Err((fault.code.number(), fault.at)),
     }
 }
 
@@ -87,14 +88,22 @@ fn drill_layers(rt: HostRuntime) -> Result<(), Fail> {
     Ok(())
 }
 
-/// The first file of the rows that is not refused so.
-fn first_wrong(alloc: Global, rows: &[Refused]) -> Option<&'static [u8]> {
-    for &(text, code, at) in rows {
-        if outcome(alloc, text) != Err((code, at)) {
-            return Some(text);
-        }
+/// Whether the file of the row is refused so.
+fn is_refused(alloc: Global, row: &[u8]) -> bool {
+    match placed(row) {
+        Some((number, at, text)) => outcome(alloc, text) == Err((number, at)),
+        None => false,
     }
-    None
+}
+
+#[test]
+fn drill_faults(rt: HostRuntime) -> Result<(), Fail> {
+    let rows = rows_of(rt.alloc(), FAULTS)?;
+    assert!(rt; rows.len() == 12, "{} rows", rows.len());
+    for &row in rows.as_slice() {
+        assert!(rt; is_refused(rt.alloc(), row), "{row:?}");
+    }
+    Ok(())
 }
 
 /// A file with this line, and its end behind it.
@@ -106,43 +115,37 @@ fn file_with(alloc: Global, before: &[u8], line: &[u8]) -> Result<Vec<u8>, Alloc
     Ok(text)
 }
 
-/// The first line of the rows that is not refused so.
-fn first_wrong_line(alloc: Global, rows: &[Lines]) -> Result<Option<&'static [u8]>, AllocError> {
-    for &(before, code, lines) in rows {
-        for line in lines.split(|byte| *byte == b'\n') {
-            let text = file_with(alloc, before, line)?;
-            if outcome(alloc, &text) != Err((code, before.len())) {
-                return Ok(Some(line));
-            }
+/// Whether each of these lines, by itself behind what stands before it, is refused so at its place.
+fn are_refused(alloc: Global, number: u8, before: &[u8], lines: &[u8]) -> Result<bool, AllocError> {
+    for line in lines.split(|byte| *byte == b'\n') {
+        let text = file_with(alloc, before, line)?;
+        if outcome(alloc, &text) != Err((number, before.len())) {
+            return Ok(false);
         }
     }
-    Ok(None)
+    Ok(true)
+}
+
+/// Whether each line of the row is refused so.
+fn is_right(alloc: Global, row: &[u8]) -> Result<bool, AllocError> {
+    let Some((number, texts)) = numbered(row) else {
+        return Ok(false);
+    };
+    match two_texts(texts) {
+        Some((before, lines)) => are_refused(alloc, number, named(before), lines),
+        None => Ok(false),
+    }
 }
 
 #[test]
-fn drill_faults(rt: HostRuntime) {
-    let wrong = first_wrong(rt.alloc(), FAULTS);
-    assert!(rt; wrong.is_none(), "{wrong:?}");
-}
-
-#[test]
-fn drill_numbers(rt: HostRuntime) -> Result<(), Fail> {
-    let wrong = first_wrong_line(rt.alloc(), NUMBERS)?;
-    assert!(rt; wrong.is_none(), "{wrong:?}");
-    Ok(())
-}
-
-#[test]
-fn drill_forms(rt: HostRuntime) -> Result<(), Fail> {
-    let wrong = first_wrong_line(rt.alloc(), FORMS)?;
-    assert!(rt; wrong.is_none(), "{wrong:?}");
-    Ok(())
-}
-
-#[test]
-fn drill_states(rt: HostRuntime) -> Result<(), Fail> {
-    let wrong = first_wrong_line(rt.alloc(), STATES)?;
-    assert!(rt; wrong.is_none(), "{wrong:?}");
+fn drill_lines(rt: HostRuntime) -> Result<(), Fail> {
+    for (table, count) in [(NUMBERS, 20), (FORMS, 5), (STATES, 33)] {
+        let rows = rows_of(rt.alloc(), table)?;
+        assert!(rt; rows.len() == count, "{} rows for {count}", rows.len());
+        for &row in rows.as_slice() {
+            assert!(rt; is_right(rt.alloc(), row)?, "{row:?}");
+        }
+    }
     Ok(())
 }
 

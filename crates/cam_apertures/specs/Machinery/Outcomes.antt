@@ -1,6 +1,7 @@
 -- Aperture definitions by one test after the other.
 use Rattle.std.specs.Prelude.{◌≡◌, ℕ, ◌+◌, ℤ, List, length, Option, Some, None, Result, Ok, Err, nat_lt}
 use Rattle.std.specs.Prelude.{if◌then◌else◌}
+use Rattle.cam_refusals.specs.Refusals.{UnlessMemory}
 use Rattle.cam_units.specs.declared.length.Unit.{Unit as FileUnit}
 use Rattle.cam_macros.specs.declared.aperture_macro.Macro.{Macro}
 use Rattle.cam_macros.specs.declared.fault.MacroFault.{MacroFault}
@@ -10,9 +11,8 @@ use Rattle.cam_apertures.specs.declared.aperture.Aperture.{Aperture}
 use Rattle.cam_apertures.specs.declared.aperture.Aperture.TheVariants.{Prims}
 use Rattle.cam_apertures.specs.declared.fault.AdFault.{AdFault}
 use Rattle.cam_apertures.specs.declared.fault.AdFault.TheVariants.{UnknownForm, BadNumber, TemplateRefused, SizeRefused}
-use Rattle.cam_apertures.specs.Faults.{of_macro}
+use Rattle.cam_apertures.specs.Faults.{of_macro, refusal_of}
 use Rattle.cam_apertures.specs.Definition.{by_macro, by_name, circle, has_sizes, named, obround, rect, values_of, Definition}
-use Rattle.cam_apertures.specs.Definition.{IsMeant}
 use Rattle.cam_numbers.specs.Numbers.{defined_number}
 
 unfoldable pub standard_outcome : ℕ → ℕ → Aperture → Result Aperture AdFault
@@ -58,4 +58,4 @@ outcome (Some d) macros unit =
 
 -- the outcome is this fault, or memory ran out
 abbrev pub IsErr : {A : Type 0} → AdFault → Result A AdFault → Type 0
-IsErr fault meant = IsMeant fault (meant ≡ Err fault)
+IsErr fault meant = UnlessMemory (refusal_of fault) (meant ≡ Err fault)

@@ -1,5 +1,8 @@
 -- What the close of a repeat does to the layer so far.
 use Rattle.std.specs.Prelude.{◌≡◌, ℕ, ◌+◌, ℤ, pos, [], ◌∷◌, ◌++◌, length, Result, ◌||◌, not, nat_le, nat_lt}
+use Rattle.cam_refusals.specs.declared.refusal.Refusal.TheVariants.{OutOfBoard, TooMuch}
+use Rattle.cam_refusals.specs.declared.stop.Stop.{Stop}
+use Rattle.cam_refusals.specs.Limits.{count_limit, leaf_limit}
 use Rattle.cam_units.specs.declared.length.Unit.{Unit as FileUnit}
 use Rattle.cam_units.specs.Nearest.{fix9_of}
 use Rattle.cam_objects.specs.declared.item.Item.{Item}
@@ -10,9 +13,7 @@ use Rattle.cam_commands.specs.declared.parts.Repeat.{Repeat}
 use Rattle.cam_gerber.specs.declared.frames.OpenRepeat.{OpenRepeat}
 use Rattle.cam_gerber.specs.Homes.{count_of}
 use Rattle.cam_gerber.specs.declared.built.Built.{Built}
-use Rattle.cam_gerber.specs.declared.stop.Stop.{Stop}
-use Rattle.cam_gerber.specs.Faults.{are_on_board, count_limit, leaf_limit}
-use Rattle.cam_gerber.specs.FaultNumbers.{out_of_board, too_much}
+use Rattle.cam_gerber.specs.Faults.{are_on_board}
 use Rattle.cam_gerber.specs.Machinery.Tracking.{Answers}
 
 -- an item has joined the others
@@ -26,8 +27,8 @@ pub record IsAdded (item : Item) (more : ℕ) (old new : Built) : Type 0 where
 abbrev pub Adds : Item → ℕ → Built → Result (Unit {0}) Stop → Built → Type 0
 Adds item leaves old result new =
     Answers result
-    ((out_of_board, not (are_on_board (item_leaves (meaning_in old.layer.apertures) item)))
-    ∷ (too_much, nat_le count_limit (length old.layer.items.items) || nat_lt leaf_limit (old.leaves + leaves)) ∷ [])
+    ((OutOfBoard, not (are_on_board (item_leaves (meaning_in old.layer.apertures) item)))
+    ∷ (TooMuch, nat_le count_limit (length old.layer.items.items) || nat_lt leaf_limit (old.leaves + leaves)) ∷ [])
     (IsAdded item leaves old new)
 
 -- a step in nm by the unit; one that is not written is 0

@@ -16,7 +16,7 @@ OpensWithin command = Unit {0}
 abbrev pub StatesWithin : Statement → Type 0
 StatesWithin (Says command) = OpensWithin command
 StatesWithin (NamesMacro name parts) = Unit {0}
-StatesWithin (Uncut code) = Unit {0}
+StatesWithin (Uncut refusal) = Unit {0}
 
 abbrev pub AreWithin : Past → Type 0
 AreWithin past = AllByRecursion StatesWithin past

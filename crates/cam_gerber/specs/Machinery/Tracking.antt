@@ -1,10 +1,17 @@
 -- What the running record keeps of the past.
 use Rattle.std.specs.Prelude.{◌≡◌, ◌≤◌, ℕ, ℤ, pos, ◌+ℤ◌, ◌+◌, true, false, Bool, List, [], ◌∷◌, ◌++◌, map, min, Option}
-use Rattle.std.specs.Prelude.{Some, None, unwrap_or, Result, Ok, Err, if◌then◌else◌}
+use Rattle.std.specs.Prelude.{Some, None, unwrap_or, Result, Ok, Err}
 use Rattle.std.specs.Option.{option_map}
+use Rattle.std.specs.Result.{result_err}
+use Rattle.cam_refusals.specs.declared.refusal.Refusal.{Refusal}
+use Rattle.cam_refusals.specs.declared.refusal.Refusal.TheVariants.{TooMuch}
+use Rattle.cam_refusals.specs.declared.stop.Stop.{Stop}
+use Rattle.cam_refusals.specs.declared.stop.Stop.TheVariants.{Memory, Fault}
+use Rattle.cam_refusals.specs.Checks.{Checks, first, least}
+use Rattle.cam_refusals.specs.Limits.{leaf_limit}
+use Rattle.cam_refusals.specs.Refusals.{number_of}
 use Rattle.cam_units.specs.declared.length.Unit.{Unit as FileUnit}
 use Rattle.cam_units.specs.declared.point.Point.{Point}
-use Rattle.cam_apertures.specs.Definition.{Table}
 use Rattle.cam_commands.specs.declared.parts.Format.{Format}
 use Rattle.cam_commands.specs.declared.parts.Slot.{Slot}
 use Rattle.cam_commands.specs.declared.parts.Mode.{Mode}
@@ -19,7 +26,7 @@ use Rattle.cam_objects.specs.Contents.{Content}
 use Rattle.cam_objects.specs.Weights.{object_count, object_depth, weight_in}
 use Rattle.cam_gerber.specs.declared.homes.Weight.{Weight}
 use Rattle.cam_objects.specs.declared.object.Object.TheVariants.{Draw, Arc}
-use Rattle.cam_commands.specs.Commands.{Command, Operate, EndRegion, SetFormat}
+use Rattle.cam_commands.specs.Commands.{Command, Operate, SetFormat}
 use Rattle.cam_gerber.specs.declared.modal.Modal.{Modal}
 use Rattle.cam_gerber.specs.declared.region.Region.{Region}
 use Rattle.cam_gerber.specs.declared.frames.Frames.{Frames}
@@ -27,8 +34,6 @@ use Rattle.cam_gerber.specs.declared.frames.OpenBlock.{OpenBlock}
 use Rattle.cam_gerber.specs.declared.frames.OpenRepeat.{OpenRepeat}
 use Rattle.cam_gerber.specs.declared.built.Built.{Built}
 use Rattle.cam_gerber.specs.declared.running.Running.{Running}
-use Rattle.cam_gerber.specs.declared.stop.Stop.{Stop}
-use Rattle.cam_gerber.specs.declared.stop.Stop.TheVariants.{Memory, Fault}
 use Rattle.cam_gerber.specs.Statements.{Statement, Says, IsSaidBy}
 use Rattle.cam_gerber.specs.State.{Past, format_in, unit_in, dark_in, mirror_in, rotation_in, aperture_in, mode_in}
 use Rattle.cam_gerber.specs.State.{has_arcs, in_region, code_in, point_in, value_of, coordinate_nm, code_of}
@@ -36,9 +41,8 @@ use Rattle.cam_gerber.specs.Attributes.{attributes_in}
 use Rattle.cam_gerber.specs.Homes.{home, InBlock, InRepeat, Opened, open_blocks, open_repeat}
 use Rattle.cam_gerber.specs.Making.{start_in, segments_in, region_in, made, objects_of, IsMaker}
 use Rattle.cam_gerber.specs.Layers.{macros_in, entries_in, items_in, closed_repeat, closed_leaves, leaves_of, leaves_in}
-use Rattle.cam_gerber.specs.Faults.{command_faults, faults, least, closing_faults, operated_faults, path_faults, is_arc}
+use Rattle.cam_gerber.specs.Faults.{command_faults, faults, closing_faults, operated_faults, path_faults, is_arc}
 use Rattle.cam_gerber.specs.Faults.{is_on_board, is_full, holds_of_one}
-use Rattle.cam_gerber.specs.FaultNumbers.{too_much}
 use Rattle.cam_gerber.specs.Laws.{IsFaultless}
 use Rattle.cam_gerber.specs.Machinery.OpenNumbers.{AreWithin}
 
@@ -66,7 +70,7 @@ block_of past n = record { number = n; objects = objects_of (InBlock n) past; le
 
 -- the leaves of an open repeat are counted up to this
 abbrev pub leaf_cap : ℕ
-leaf_cap = 4000001
+leaf_cap = leaf_limit + 1
 
 abbrev pub repeat_of : Past → Opened → OpenRepeat
 repeat_of past o =
@@ -144,9 +148,9 @@ abbrev pub IsJudged : Option Point → Point → Type 0
 IsJudged None p = is_on_board p ≡ false
 IsJudged (Some q) p = (q ≡ p) × (is_on_board p ≡ true)
 
--- the faults of a plot's path
-abbrev pub path_table : Modal → Operation → Table
-path_table m operation =
+-- what a plot's path may be refused for
+abbrev pub path_faults_by : Modal → Operation → Checks Refusal
+path_faults_by m operation =
     path_faults (is_arc (mode_by m operation)) m.arcs m.point (moved_point m operation) (centre_by m operation)
 
 -- the stroke along a segment from the current point
@@ -154,21 +158,15 @@ abbrev pub stroke_along : Modal → ℕ → Seg → Object
 stroke_along m n (Line to) = Draw n m.point to (after m.mirror m.rotation) m.dark
 stroke_along m n (Curve to centre ccw) = Arc ccw m.dark n m.point to centre
 
--- the first number that holds: the least, where the numbers ascend
-abbrev pub first_of : Table → Option ℕ
-first_of [] = None
-first_of (fault ∷ others) = if fault.1 then Some fault.0 else first_of others
+-- an answer, or the first of the checks that hold
+abbrev pub StopsAtFirst : {A : Type 0} → Result A Refusal → Checks Refusal → Type 0
+StopsAtFirst result checks = first checks ≡ result_err result
 
--- none of the table's faults is told, or the first one
-abbrev pub Tells : {A : Type 0} → Result A ℕ → Table → Type 0
-Tells (Ok a) table = first_of table ≡ None
-Tells (Err code) table = first_of table ≡ Some code
-
--- no fault of the table and what then holds, or the first one
-abbrev pub Answers : Result (Unit {0}) Stop → Table → Type 0 → Type 0
-Answers (Ok done) table P = (first_of table ≡ None) × P
-Answers (Err Memory) table P = Unit {0}
-Answers (Err (Fault code)) table P = first_of table ≡ Some code
+-- none of the checks holds and what then does, or the first one is told
+abbrev pub Answers : Result (Unit {0}) Stop → Checks Refusal → Type 0 → Type 0
+Answers (Ok done) checks P = (first checks ≡ None) × P
+Answers (Err Memory) checks P = Unit {0}
+Answers (Err (Fault refusal)) checks P = first checks ≡ Some refusal
 
 -- one more command, refused for the first of its faults or obeyed
 abbrev pub Takes : Command → Running → Result (Unit {0}) Stop → Running → Type 0
@@ -221,18 +219,18 @@ abbrev pub EndsContour : Running → Result (Unit {0}) Stop → Running → Type
 EndsContour old result new =
     (past : Past) (says : Statement) → IsFaultless past → Tracks past old → IsMaker says
     → made past says ≡ region_in past
-    → Answers result ((too_much, holds_of_one (is_full (home past) past) (region_in past)) ∷ []) (Ended (says
+    → Answers result ((TooMuch, holds_of_one (is_full (home past) past) (region_in past)) ∷ []) (Ended (says
     ∷ past) old new)
 
 -- one more command, as what it says is read
 abbrev pub Obeys : Command → Running → Result (Unit {0}) Stop → Running → Type 0
 Obeys command old (Ok done) new =
     (past : Past) → IsFaultless past → Tracks past old
-    → (says : Statement) × IsSaidBy command says × (least (faults past says) ≡ None) × Tracks (says ∷ past) new
+    → (says : Statement) × IsSaidBy command says × (least number_of (faults past says) ≡ None) × Tracks (says ∷ past) new
 Obeys command old (Err Memory) new = Unit {0}
-Obeys command old (Err (Fault code)) new =
+Obeys command old (Err (Fault refusal)) new =
     (past : Past) → IsFaultless past → Tracks past old → (says : Statement) × IsSaidBy command says
-    × (least (faults past says) ≡ Some code)
+    × (least number_of (faults past says) ≡ Some refusal)
 
 -- the repeat is closed
 pub record IsSettled (past : Past) (old new : Running) : Type 0 where

@@ -1,5 +1,5 @@
 -- What holds of objects as they are made, whether or not their leaves lie on the board.
-use Rattle.std.specs.Prelude.{◌≡◌, ℕ, List, All, Bool, true, false, Result, Ok, Err, Some, nat_eq, slice_get}
+use Rattle.std.specs.Prelude.{◌≡◌, ℕ, List, All, Bool, true, false, IsTrue, Result, Ok, Err, Some, nat_eq, slice_get}
 use Rattle.std.specs.List.{IsDistinct}
 use Rattle.std.specs.Map.{keys_of}
 use Rattle.cam_apertures.specs.declared.aperture.Aperture.{Aperture as Template}
@@ -12,14 +12,14 @@ use Rattle.cam_objects.specs.declared.object.Object.TheVariants.{Flash, Draw, Ar
 use Rattle.cam_objects.specs.declared.item_fault.ItemFault.{ItemFault}
 use Rattle.cam_objects.specs.declared.item_fault.ItemFault.TheVariants.{OutOfBoard}
 use Rattle.cam_objects.specs.Leaves.{meaning_in}
-use Rattle.cam_objects.specs.Soundness.{HasRadius, HasShortSteps, IsDrawable, IsFormed, IsKnown, IsRepeated, objects_of, points_of}
+use Rattle.cam_objects.specs.Soundness.{HasShortSteps, has_radius, is_drawable, is_formed, is_known, is_repeated, objects_of, points_of}
 
 -- beside a dictionary
 pub record IsWellMade (entries : List (ℕ × Entry)) (object : Object) : Type 0 where
-  pub formed : IsFormed object
-  pub known : IsKnown entries object
-  pub drawable : IsDrawable (meaning_in entries) object
-  pub radius : HasRadius object
+  pub formed : IsTrue (is_formed object)
+  pub known : IsTrue (is_known entries object)
+  pub drawable : IsTrue (is_drawable (meaning_in entries) object)
+  pub radius : IsTrue (has_radius object)
   pub points : All IsOnBoard (points_of object)
 
 -- a number is that of an aperture
@@ -38,7 +38,7 @@ IsOfAperture entries (Region contour dark) = ⊥
 
 -- of an item
 pub record IsWellMadeItem (entries : List (ℕ × Entry)) (item : Item) : Type 0 where
-  pub repeated : IsRepeated item
+  pub repeated : IsTrue (is_repeated item)
   pub steps : HasShortSteps item
   pub objects : All (IsWellMade entries) (objects_of item)
 

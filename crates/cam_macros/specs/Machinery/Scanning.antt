@@ -10,7 +10,7 @@ use Rattle.cam_macros.specs.declared.parsing.mark.Mark.TheVariants.{Numeral, Dol
 use Rattle.cam_macros.specs.declared.parsing.mark.Mark.TheVariants.{Other}
 use Rattle.cam_macros.specs.declared.parsing.scanner.Level.{Level}
 use Rattle.cam_macros.specs.declared.fault.MacroFault.{MacroFault}
-use Rattle.cam_macros.specs.Answers.{Tells}
+use Rattle.cam_macros.specs.Answers.{IsMalformed}
 use Rattle.cam_macros.specs.Scanning.{Scan, Status, Wanted, Behind, charged, is_numeric, number_of, opened, scan}
 use Rattle.cam_macros.specs.Scanning.{variable_of, with_minus, with_step}
 
@@ -53,7 +53,7 @@ status_of false = Behind
 
 -- no answer, or no memory
 abbrev pub IsFaultOf : {A : Type 0} → MacroFault → Option A → Type 0
-IsFaultOf fault meant = Tells fault (meant ≡ None)
+IsFaultOf fault meant = IsMalformed fault (meant ≡ None)
 
 -- the step goes from one scan to another, or fails
 abbrev pub IsStep : {A : Type 0} → Result A MacroFault → Option Scan → Scan → Type 0

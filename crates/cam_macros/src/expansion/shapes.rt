@@ -1,6 +1,7 @@
 //! Primitives from the values of their fields.
 
 ghost use Rattle.std.specs.Prelude.{◌≡◌, ◌≤◌, length, unsigned_abs, IfOk, IfErr};
+ghost use Rattle.cam_refusals.specs.Limits.{size_limit};
 ghost use Rattle.cam_macros.specs.Answers.{IsUnlessMemory};
 ghost use Rattle.cam_macros.specs.Expansion.{paint_of, rotation, coordinate_of, turn_of, size_of, point_of};
 ghost use Rattle.cam_macros.specs.Expansion.{points_of, disc_of, bar_of, rect_of, count_of, outline_through};
@@ -10,6 +11,7 @@ ghost use Rattle.cam_macros.specs.Machinery.Values.{numbers};
 use crate::expansion::arithmetic::{BILLION, Fixed};
 use crate::fault::MacroFault;
 use crate::primitive::{MacroPrimitive, Points, PrimShape};
+use cam_refusals::limits::SIZE_LIMIT;
 use cam_units::{Nm, Point, Turn, Unit, fix9_nm};
 use std::alloc::Global;
 
@@ -18,9 +20,6 @@ const UNIT: i64 = BILLION as i64;
 
 /// 90 degrees.
 const QUARTER: u64 = 90_000_000_000;
-
-/// The greatest size or coordinate, in nm.
-const GREATEST: u64 = 200_000_000;
 
 impl Fixed {
     /// Whether the primitive paints.
@@ -60,7 +59,7 @@ impl Fixed {
         ensures { result ≡ size_of unit self.billionths }
     {
         let length = fix9_nm(self.billionths, unit);
-        if length.0 < 0 || length.0.unsigned_abs() > GREATEST {
+        if length.0 < 0 || length.0.unsigned_abs() > SIZE_LIMIT {
             return Err(MacroFault::SizeRefused);
         }
         Ok(length)
@@ -69,10 +68,10 @@ impl Fixed {
     /// A coordinate.
     fn coordinate(self, unit: Unit) -> Result<Nm, MacroFault>
         ensures value { result ≡ coordinate_of unit self.billionths }
-        ensures bound { IfOk result (λ length. unsigned_abs length.0 ≤ 200000000) }
+        ensures bound { IfOk result (λ length. unsigned_abs length.0 ≤ size_limit) }
     {
         let length = fix9_nm(self.billionths, unit);
-        if length.0.unsigned_abs() > GREATEST {
+        if length.0.unsigned_abs() > SIZE_LIMIT {
             return Err(MacroFault::SizeRefused);
         }
         Ok(length)

@@ -2,7 +2,7 @@
 
 ghost use Rattle.std.specs.Prelude.{◌≡◌, ◌∷◌, ℕ, IfOk, IfErr};
 ghost use Rattle.cam_words.specs.Bytes.{star};
-ghost use Rattle.cam_macros.specs.Answers.{Nothing, Tells};
+ghost use Rattle.cam_macros.specs.Answers.{IsMalformed, Nothing};
 ghost use Rattle.cam_macros.specs.Bytes.{comma, dollar};
 ghost use Rattle.cam_macros.specs.Reading.{AreExpressions, AreParts, IsAssignment, IsPart, IsPrimitive};
 ghost use Rattle.cam_macros.specs.Reading.{is_silent, pieces_between, spoken};
@@ -19,7 +19,7 @@ use std::alloc::Global;
 fn fields_of(alloc: Global, texts: Option<&[u8]>) -> Result<Fields, MacroFault>
     ensures ok { IfOk result (AreExpressions (pieces_between comma texts.entry)) }
     ensures fault { IfErr result (λ fault.
-        Tells fault (Nothing (AreExpressions (pieces_between comma texts.entry)))) }
+        IsMalformed fault (Nothing (AreExpressions (pieces_between comma texts.entry)))) }
 {
     let mut fields = Fields::new(alloc);
     let mut rest = texts;
@@ -37,7 +37,7 @@ impl Part {
     fn primitive(alloc: Global, piece: &[u8]) -> Result<Part, MacroFault>
         ensures ok { IfOk result (IsPart piece.now) }
         ensures fault { IfErr result (λ fault.
-            Tells fault ((code : ℕ) → Nothing (IsPrimitive piece.now code))) }
+            IsMalformed fault ((code : ℕ) → Nothing (IsPrimitive piece.now code))) }
     {
         let (digits, texts) = cut(piece, b',');
         let Some(code) = natural(digits, Blanks::Refused) else {
@@ -54,7 +54,7 @@ impl Part {
     fn assignment(alloc: Global, piece: &[u8]) -> Result<Part, MacroFault>
         ensures ok { IfOk result (IsPart (dollar ∷ piece.now)) }
         ensures fault { IfErr result (λ fault.
-            Tells fault ((variable : ℕ) → Nothing (IsAssignment (dollar ∷ piece.now) variable))) }
+            IsMalformed fault ((variable : ℕ) → Nothing (IsAssignment (dollar ∷ piece.now) variable))) }
     {
         let (digits, text) = cut(piece, b'=');
         let Some(text) = text else {
@@ -73,7 +73,7 @@ impl Part {
     /// outside the grammar.
     fn parse(alloc: Global, piece: &[u8]) -> Result<Part, MacroFault>
         ensures ok { IfOk result (IsPart piece.now) }
-        ensures fault { IfErr result (λ fault. Tells fault (Nothing (IsPart piece.now))) }
+        ensures fault { IfErr result (λ fault. IsMalformed fault (Nothing (IsPart piece.now))) }
     {
         match piece {
             [b'$', behind @ ..] => Part::assignment(alloc, behind),
@@ -86,7 +86,7 @@ impl Part {
 pub(crate) fn parts_of(alloc: Global, texts: Option<&[u8]>) -> Result<Parts, MacroFault>
     ensures ok { IfOk result (AreParts (spoken (pieces_between star texts.entry))) }
     ensures fault { IfErr result (λ fault.
-        Tells fault (Nothing (AreParts (spoken (pieces_between star texts.entry))))) }
+        IsMalformed fault (Nothing (AreParts (spoken (pieces_between star texts.entry))))) }
 {
     let mut items = Vec::new(alloc);
     let mut rest = texts;

@@ -6,7 +6,8 @@ use Rattle.cam_units.specs.declared.bounds.Bounds.TheVariants.{Empty, Closed}
 use Rattle.cam_units.specs.declared.length.Nm.{Nm}
 use Rattle.cam_units.specs.declared.point.Point.{Point}
 use Rattle.cam_units.specs.declared.point.Spot.{Spot}
-use Rattle.cam_units.specs.Board.{IsSize, board_limit}
+use Rattle.cam_refusals.specs.Limits.{board_limit}
+use Rattle.cam_units.specs.Board.{IsSize}
 use Rattle.cam_units.specs.Boxes.{has_no_place}
 use Rattle.cam_apertures.specs.Soundness.{IsSoundAperture}
 use Rattle.cam_apertures.specs.Turned.{turned_box}

@@ -11,7 +11,7 @@ use Rattle.cam_objects.specs.declared.boxes.extent.Extent.{Extent}
 use Rattle.cam_objects.specs.Bounds.{bounds_of}
 use Rattle.cam_objects.specs.Drilling.{diameter_of, hit_leaves_with}
 use Rattle.cam_objects.specs.Leaves.{meaning_in, origin}
-use Rattle.cam_objects.specs.Limits.{leaf_limit}
+use Rattle.cam_refusals.specs.Limits.{leaf_limit}
 use Rattle.cam_objects.specs.Machinery.Boxes.{IsNearBox}
 use Rattle.cam_objects.specs.Machinery.Frames.{IsFrameOf}
 use Rattle.cam_objects.specs.Weights.{weight_in}

@@ -1,5 +1,5 @@
 -- What the tests of boxes tell of the board.
-use Rattle.std.specs.Prelude.{ℕ, ◌-◌, ℤ, pos, ◌*ℤ◌, List, fold, All}
+use Rattle.std.specs.Prelude.{ℕ, ◌-◌, ℤ, pos, ◌*ℤ◌, List, fold, IsTrue, All}
 use Rattle.cam_units.specs.Board.{IsPlace}
 use Rattle.cam_units.specs.Boxes.{join_of}
 use Rattle.cam_units.specs.declared.bounds.Bounds.{Bounds}
@@ -10,7 +10,7 @@ use Rattle.cam_objects.specs.declared.entry.Entry.{Entry}
 use Rattle.cam_objects.specs.declared.object.Object.{Object}
 use Rattle.cam_objects.specs.Leaves.{meaning_in}
 use Rattle.cam_objects.specs.Machinery.Painting.{StandsOnBoard}
-use Rattle.cam_objects.specs.Soundness.{IsDrawable}
+use Rattle.cam_objects.specs.Soundness.{is_drawable}
 
 -- both corners lie on the board
 abbrev pub IsBoxOnBoard : Bounds → Type 0
@@ -28,4 +28,4 @@ last_copy columns rows i j = record { x = pos (columns - 1) *ℤ i; y = pos (row
 -- objects that stand on the board, with leaves for each
 pub record ArePainted (entries : List (ℕ × Entry)) (objects : List Object) : Type 0 where
   pub stands : All StandsOnBoard objects
-  pub drawable : All (IsDrawable (meaning_in entries)) objects
+  pub drawable : All (λ o. IsTrue (is_drawable (meaning_in entries) o)) objects

@@ -1,7 +1,8 @@
 -- What painting asks of a place and of the leaves that are painted there.
 use Rattle.std.specs.Prelude.{ℕ, ◌+◌, ◌*◌, ◌^◌, ◌<◌, ◌≤◌, ℤ, List, length, reverse, take, All}
 use Rattle.std.specs.Int.RustNames.{unsigned_abs}
-use Rattle.cam_units.specs.Board.{IsOnBoard, board_limit}
+use Rattle.cam_refusals.specs.Limits.{board_limit}
+use Rattle.cam_units.specs.Board.{IsOnBoard}
 use Rattle.cam_units.specs.declared.point.Spot.{Spot}
 use Rattle.cam_objects.specs.declared.object.Object.{Object}
 use Rattle.cam_objects.specs.declared.entry.Entry.{Entry}
@@ -10,7 +11,7 @@ use Rattle.cam_objects.specs.declared.item.Item.TheVariants.{One, Repeat}
 use Rattle.cam_objects.specs.declared.placing.place.Place.{Place}
 use Rattle.cam_objects.specs.Image.{IsUncovered}
 use Rattle.cam_objects.specs.Leaves.{Leaf, Meaning, meaning}
-use Rattle.cam_objects.specs.Limits.{leaf_limit}
+use Rattle.cam_refusals.specs.Limits.{leaf_limit}
 use Rattle.cam_objects.specs.Soundness.{AreOnBoard, IsSoundDictionary, points_of}
 
 -- what the first k entries of a dictionary mean

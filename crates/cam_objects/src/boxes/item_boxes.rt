@@ -3,7 +3,7 @@
 ghost use Rattle.std.specs.Prelude.{◌≡◌, ◌<◌, ◌≤◌, Some, length, slice_get, sum_by};
 ghost use Rattle.cam_objects.specs.Bounds.{bounds_of};
 ghost use Rattle.cam_objects.specs.Leaves.{item_leaves, meaning_in};
-ghost use Rattle.cam_objects.specs.Limits.{leaf_limit};
+ghost use Rattle.cam_refusals.specs.Limits.{leaf_limit};
 ghost use Rattle.cam_objects.specs.Machinery.Measures.{IsMeasureOf};
 ghost use Rattle.cam_objects.specs.Soundness.{HasSoundItems};
 ghost use Rattle.cam_objects.specs.Weights.{item_count, weight_in};

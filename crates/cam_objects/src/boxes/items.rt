@@ -7,9 +7,8 @@ ghost use Rattle.cam_objects.specs.Leaves.{block_leaves, item_leaves, meaning_in
 ghost use Rattle.cam_objects.specs.Machinery.Boxes.{IsBoxedRepeat, IsNearBox};
 ghost use Rattle.cam_objects.specs.Machinery.Painting.{StandsOnBoard};
 ghost use Rattle.cam_objects.specs.Shifting.{IsMove, shifted_item};
-ghost use Rattle.cam_objects.specs.Soundness.{AreOnBoard, HasSoundItems, IsSoundDictionary, IsSoundItem, MeetsItem};
+ghost use Rattle.cam_objects.specs.Soundness.{AreOnBoard, HasSoundItems, IsSoundDictionary, IsSoundItem};
 ghost use Rattle.cam_objects.specs.declared.item.Item.{Item};
-ghost use Rattle.cam_objects.specs.declared.item_fault.ItemFault.TheVariants.{OutOfBoard};
 
 use crate::boxes::extent::Extent;
 use crate::boxes::placed::moved;

@@ -5,7 +5,7 @@ ghost use Rattle.cam_units.specs.Board.{IsOnBoard};
 ghost use Rattle.cam_objects.specs.Bounds.{bounds_of};
 ghost use Rattle.cam_objects.specs.Cells.{IsReachOf};
 ghost use Rattle.cam_objects.specs.Leaves.{meaning_in, object_leaves, origin};
-ghost use Rattle.cam_objects.specs.Limits.{leaf_limit};
+ghost use Rattle.cam_refusals.specs.Limits.{leaf_limit};
 ghost use Rattle.cam_objects.specs.Machinery.Extents.{IsLastFrameIn};
 ghost use Rattle.cam_objects.specs.Machinery.Frames.{greatest_point, least_point};
 ghost use Rattle.cam_objects.specs.Soundness.{IsSoundDictionary};

@@ -2,7 +2,8 @@
 
 ghost use Rattle.std.specs.Prelude.{◌≡◌, ◌≤◌, ◌<◌, ◌-ℤ◌, ◌*ℤ◌, All, pos};
 ghost use Rattle.std.specs.Int.RustNames.{unsigned_abs};
-ghost use Rattle.cam_units.specs.Board.{IsOnBoard, IsSize, board_limit};
+ghost use Rattle.cam_refusals.specs.Limits.{board_limit};
+ghost use Rattle.cam_units.specs.Board.{IsOnBoard, IsSize};
 ghost use Rattle.cam_units.specs.Boxes.{join_of};
 ghost use Rattle.cam_shapes.specs.Arc.{IsSoundArc};
 ghost use Rattle.cam_shapes.specs.Bar.{IsSoundCapsule};

@@ -4,7 +4,7 @@ ghost use Rattle.std.specs.Prelude.{◌≡◌, ◌<◌, ◌≤◌, ℕ, List, le
 ghost use Rattle.cam_units.specs.declared.bounds.Bounds.{Bounds};
 ghost use Rattle.cam_objects.specs.Cells.{IsReachOf, box_at, drill_item_boxes, item_boxes};
 ghost use Rattle.cam_objects.specs.DrillSoundness.{drill_count_of};
-ghost use Rattle.cam_objects.specs.Limits.{leaf_limit};
+ghost use Rattle.cam_refusals.specs.Limits.{leaf_limit};
 ghost use Rattle.cam_objects.specs.Weights.{item_count, weight_in};
 
 use crate::boxes::item_boxes::ItemBoxes;

@@ -4,7 +4,7 @@ ghost use Rattle.std.specs.Prelude.{◌≡◌, ◌↔◌, IsTrue};
 ghost use Rattle.cam_objects.specs.Attributes.{IsAttribute, MaySet, attribute_of, is_attribute_byte};
 
 use crate::layer::Layer;
-use crate::limits::ATTRIBUTE_LIMIT;
+use cam_refusals::limits::ATTRIBUTE_LIMIT;
 
 impl Layer {
     /// Whether `set_attribute` may set these: `is_attribute` holds of them, and the layer has at most 1,000 file

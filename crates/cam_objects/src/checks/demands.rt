@@ -1,8 +1,9 @@
 //! What objects have to be, for a layer to take them.
 
-ghost use Rattle.std.specs.Prelude.{◌≡◌, ◌↔◌, All, IsTrue};
+ghost use Rattle.std.specs.Prelude.{◌≡◌};
+ghost use Rattle.std.specs.List.{list_all};
 ghost use Rattle.cam_objects.specs.Leaves.{meaning_in};
-ghost use Rattle.cam_objects.specs.Soundness.{HasNumber, HasRadius, HaveRadii, IsDrawable, IsFormed, IsKnown};
+ghost use Rattle.cam_objects.specs.Soundness.{has_number, has_radius, have_radii, is_drawable, is_formed, is_known};
 
 use crate::dictionary::Dictionary;
 use crate::object::Object;
@@ -12,13 +13,13 @@ use cam_units::Point;
 
 /// Whether each contour has a segment.
 pub(crate) fn are_formed(objects: &[Object]) -> bool
-    ensures { IsTrue result ↔ All IsFormed objects.now }
+    ensures { result ≡ list_all is_formed objects.now }
 {
     objects.iter().all(|object| is_formed(object))
 }
 
 fn is_formed(object: &Object) -> bool
-    ensures { IsTrue result ↔ IsFormed object.now }
+    ensures { result ≡ is_formed object.now }
 {
     match object {
         Object::Region { contour, .. } => !contour.segs.as_slice().is_empty(),
@@ -28,13 +29,13 @@ fn is_formed(object: &Object) -> bool
 
 /// Whether the dictionary has each number.
 pub(crate) fn are_known(entries: &Dictionary, objects: &[Object]) -> bool
-    ensures { IsTrue result ↔ All (IsKnown entries.now) objects.now }
+    ensures { result ≡ list_all (is_known entries.now) objects.now }
 {
     objects.iter().all(|object| is_known(entries, object))
 }
 
 fn is_known(entries: &Dictionary, object: &Object) -> bool
-    ensures { IsTrue result ↔ IsKnown entries.now object.now }
+    ensures { result ≡ is_known entries.now object.now }
 {
     match object {
         Object::Flash { aperture, .. }
@@ -46,7 +47,7 @@ fn is_known(entries: &Dictionary, object: &Object) -> bool
 
 /// Whether the dictionary has the number.
 pub(crate) fn has_number(entries: &Dictionary, number: u32) -> bool
-    ensures { IsTrue result ↔ HasNumber entries.now number }
+    ensures { result ≡ has_number entries.now number }
 {
     match entries.find(number) {
         Some(_) => true,
@@ -56,13 +57,13 @@ pub(crate) fn has_number(entries: &Dictionary, number: u32) -> bool
 
 /// Whether each draw is a stroke of a solid circle or of a solid rectangle, and each arc one of a solid circle.
 pub(crate) fn are_drawable(entries: &Dictionary, objects: &[Object]) -> bool
-    ensures { IsTrue result ↔ All (IsDrawable (meaning_in entries.now)) objects.now }
+    ensures { result ≡ list_all (is_drawable (meaning_in entries.now)) objects.now }
 {
     objects.iter().all(|object| is_drawable(entries, object))
 }
 
 fn is_drawable(entries: &Dictionary, object: &Object) -> bool
-    ensures { IsTrue result ↔ IsDrawable (meaning_in entries.now) object.now }
+    ensures { result ≡ is_drawable (meaning_in entries.now) object.now }
 {
     match object {
         Object::Draw { aperture, .. } => tip(entries, *aperture).is_some(),
@@ -83,13 +84,13 @@ fn tip(entries: &Dictionary, number: u32) -> Option<Tip>
 
 /// Whether no arc starts at its centre.
 pub(crate) fn have_radii(objects: &[Object]) -> bool
-    ensures { IsTrue result ↔ All HasRadius objects.now }
+    ensures { result ≡ list_all has_radius objects.now }
 {
     objects.iter().all(|object| has_radius(object))
 }
 
 fn has_radius(object: &Object) -> bool
-    ensures { IsTrue result ↔ HasRadius object.now }
+    ensures { result ≡ has_radius object.now }
 {
     match object {
         Object::Arc { from, centre, .. } => from != centre,
@@ -99,7 +100,7 @@ fn has_radius(object: &Object) -> bool
 }
 
 fn curves_have_radii(start: Point, segs: &[Seg]) -> bool
-    ensures { IsTrue result ↔ HaveRadii start segs.now }
+    ensures { result ≡ have_radii start segs.now }
 {
     let mut here = start;
     for seg in segs {

@@ -1,7 +1,7 @@
 //! What is kept beside an entry of a dictionary.
 
 ghost use Rattle.std.specs.Prelude.{◌≡◌, ◌+◌, ◌*◌, ◌≤◌, fold, length, max, sum_by};
-ghost use Rattle.cam_objects.specs.Limits.{depth_limit, leaf_limit};
+ghost use Rattle.cam_refusals.specs.Limits.{depth_limit, leaf_limit};
 ghost use Rattle.cam_objects.specs.Machinery.Facts.{facts_of, no_facts};
 ghost use Rattle.cam_objects.specs.Soundness.{IsSoundEntry};
 ghost use Rattle.cam_objects.specs.Weights.{block_count, block_depth, weight_in};

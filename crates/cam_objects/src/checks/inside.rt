@@ -8,7 +8,7 @@ ghost use Rattle.cam_objects.specs.Leaves.{block_leaves, meaning_in, object_leav
 ghost use Rattle.cam_objects.specs.Machinery.Facts.{points_bounds_of};
 ghost use Rattle.cam_objects.specs.Machinery.Inside.{ArePainted, IsBoxOnBoard, box_behind};
 ghost use Rattle.cam_objects.specs.Machinery.Painting.{StandsOnBoard};
-ghost use Rattle.cam_objects.specs.Soundness.{IsDrawable, IsInside, points_of, points_of_contour, points_of_seg};
+ghost use Rattle.cam_objects.specs.Soundness.{is_drawable, is_inside, points_of, points_of_contour, points_of_seg};
 ghost use Rattle.cam_objects.specs.declared.item.Item.TheVariants.{One, Repeat};
 
 use crate::boxes::placed::moved;
@@ -153,7 +153,7 @@ pub(crate) fn standing_boxes(objects: &[Object]) -> Bounds
 /// The box of the control points of what an object paints.
 pub(crate) fn painted_box(entries: &Dictionary, object: &Object) -> Bounds
     requires stands { StandsOnBoard object.now }
-    requires drawable { IsDrawable (meaning_in entries.now) object.now }
+    requires drawable { IsTrue (is_drawable (meaning_in entries.now) object.now) }
     ensures { result ≡ points_bounds_of (object_leaves (meaning_in entries.now) origin object.now) }
 {
     match object {
@@ -202,8 +202,8 @@ fn fits_place(spot: &Spot) -> bool
 
 /// Whether the object, as an item, lies on the board with all its leaves.
 pub(crate) fn is_object_inside(entries: &Dictionary, object: &Object) -> bool
-    requires { IsDrawable (meaning_in entries.now) object.now }
-    ensures { IsTrue result ↔ IsInside entries.now (One object.now) }
+    requires { IsTrue (is_drawable (meaning_in entries.now) object.now) }
+    ensures { result ≡ is_inside entries.now (One object.now) }
 {
     if !stands_on_board(object) {
         return false;
@@ -213,10 +213,10 @@ pub(crate) fn is_object_inside(entries: &Dictionary, object: &Object) -> bool
 
 /// Whether the repeat lies on the board with all its leaves, and its steps are short.
 pub(crate) fn is_repeat_inside(entries: &Dictionary, copies: &Copies, objects: &[Object]) -> bool
-    requires drawable { All (IsDrawable (meaning_in entries.now)) objects.now }
+    requires drawable { All (λ o. IsTrue (is_drawable (meaning_in entries.now) o)) objects.now }
     requires copies { 1 < copies.now.columns * copies.now.rows }
-    ensures { IsTrue result
-        ↔ IsInside entries.now (Repeat copies.now.columns copies.now.rows copies.now.i copies.now.j objects.now) }
+    ensures { result
+        ≡ is_inside entries.now (Repeat copies.now.columns copies.now.rows copies.now.i copies.now.j objects.now) }
 {
     if !stand_on_board(objects) {
         return false;

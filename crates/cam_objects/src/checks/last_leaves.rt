@@ -1,7 +1,7 @@
 //! The leaves of objects, counted one after another.
 
 ghost use Rattle.std.specs.Prelude.{◌≡◌, ◌+◌, ◌≤◌};
-ghost use Rattle.cam_objects.specs.Limits.{leaf_limit};
+ghost use Rattle.cam_refusals.specs.Limits.{leaf_limit};
 ghost use Rattle.cam_objects.specs.Machinery.Extents.{IsLastLeavesIn};
 ghost use Rattle.cam_objects.specs.Weights.{object_count, weight_in};
 

@@ -1,8 +1,16 @@
 //! The checks of a layer: whether an item or an entry may join it.
 
 ghost use Rattle.std.specs.Prelude.{◌≡◌, ◌++◌, ◌∷◌, ◌<◌, ◌↔◌, [], IsTrue, length, slice_set, sum_by};
-ghost use Rattle.cam_objects.specs.Refusals.{Tells};
-ghost use Rattle.cam_objects.specs.Soundness.{HasSoundItems, IsSoundBlock, IsSoundEntry, IsSoundItem, KeepsLimits, MayAddEntry, MeetsItem};
+ghost use Rattle.cam_refusals.specs.Checks.{answer_of, first};
+ghost use Rattle.cam_objects.specs.Soundness.{
+  HasSoundItems,
+  IsSoundBlock,
+  IsSoundEntry,
+  IsSoundItem,
+  KeepsLimits,
+  MayAddEntry,
+  item_checks,
+};
 ghost use Rattle.cam_objects.specs.Weights.{item_count, weight_in};
 ghost use Rattle.cam_objects.specs.declared.item.Item.TheVariants.{One, Repeat};
 
@@ -18,14 +26,15 @@ use crate::entry::Entry;
 use crate::item::Item;
 use crate::item_fault::ItemFault;
 use crate::layer::Layer;
-use crate::limits::{DEPTH_LIMIT, FIRST_NUMBER, LAST_NUMBER, LEAF_LIMIT, OBJECT_LIMIT};
+use crate::limits::{FIRST_NUMBER, LAST_NUMBER};
 use crate::object::Object;
 use crate::placing::copies::Copies;
+use cam_refusals::limits::{COUNT_LIMIT, DEPTH_LIMIT, LEAF_LIMIT};
 
 impl Layer {
     /// Whether the item is sound beside the layer's dictionary, or the first of its faults.
     pub fn check_item(&self, item: &Item) -> Result<(), ItemFault>
-        ensures { Tells (MeetsItem self.now.apertures item.now) result }
+        ensures { result ≡ answer_of (first (item_checks self.now.apertures item.now)) }
     {
         match item {
             Item::One(object) => self.apertures.check_object(object),
@@ -106,8 +115,9 @@ impl Layer {
 
 impl Dictionary {
     /// Whether the object is sound as an item beside these entries, or the first of its faults.
+    #[tactic(auto, unfolding(crate::specs::Soundness::item_checks))]
     pub fn check_object(&self, object: &Object) -> Result<(), ItemFault>
-        ensures { Tells (MeetsItem self.now (One object.now)) result }
+        ensures { result ≡ answer_of (first (item_checks self.now (One object.now))) }
     {
         let objects = std::slice::from_ref(object);
         if !are_formed(objects) {
@@ -133,10 +143,11 @@ impl Dictionary {
 }
 
 /// Whether the repeat is sound as an item beside the entries, or the first of its faults.
+#[tactic(auto, unfolding(crate::specs::Soundness::item_checks, crate::specs::Soundness::is_within_limits))]
 fn check_repeat(entries: &Dictionary, copies: &Copies, objects: &[Object]) -> Result<(), ItemFault>
-    ensures { Tells
-        (MeetsItem entries.now
-        (Repeat copies.now.columns copies.now.rows copies.now.i copies.now.j objects.now)) result }
+    ensures { result
+        ≡ answer_of (first (item_checks entries.now
+        (Repeat copies.now.columns copies.now.rows copies.now.i copies.now.j objects.now))) }
 {
     if copies.count() <= 1 || objects.is_empty() || !are_formed(objects) {
         return Err(ItemFault::Malformed);
@@ -173,7 +184,7 @@ fn is_sound(entries: &Dictionary, entry: &Entry) -> bool
 fn is_sound_block(entries: &Dictionary, objects: &[Object]) -> bool
     ensures { IsTrue result ↔ IsSoundBlock entries.now objects.now }
 {
-    if objects.len() > OBJECT_LIMIT {
+    if objects.len() > COUNT_LIMIT {
         return false;
     }
     objects

@@ -3,12 +3,11 @@
 ghost use Rattle.std.specs.Prelude.{◌*◌, ◌<◌, ◌↔◌, All, IsTrue, map};
 ghost use Rattle.cam_units.specs.Board.{IsOnBoard};
 ghost use Rattle.cam_shapes.specs.Shifting.{shifted_point};
-ghost use Rattle.cam_objects.specs.DrillSoundness.{IsSoundDrillItem, MeetsDrillItem};
+ghost use Rattle.cam_objects.specs.DrillSoundness.{IsSoundDrillItem, drill_points_of};
 ghost use Rattle.cam_objects.specs.Leaves.{meaning_in};
 ghost use Rattle.cam_objects.specs.Shifting.{IsMove, shifted_drill_item, shifted_item, shifted_object};
-ghost use Rattle.cam_objects.specs.Soundness.{IsDrawable, IsInside, IsSoundItem, MeetsItem};
+ghost use Rattle.cam_objects.specs.Soundness.{IsInside, IsSoundItem, is_drawable};
 ghost use Rattle.cam_objects.specs.declared.item.Item.TheVariants.{One, Repeat};
-ghost use Rattle.cam_objects.specs.declared.item_fault.ItemFault.TheVariants.{OutOfBoard};
 
 use crate::boxes::placed::moved;
 use crate::checks::inside::{
@@ -28,7 +27,7 @@ impl Layer {
     pub fn can_move(&self, item: &Item, by: Point) -> bool
         requires item { IsSoundItem self.now.apertures item.now }
         requires by { IsMove by }
-        ensures { IsTrue result ↔ MeetsItem self.now.apertures (shifted_item by item.now) OutOfBoard }
+        ensures { IsTrue result ↔ IsInside self.now.apertures (shifted_item by item.now) }
     {
         match item {
             Item::One(object) => can_move_object(&self.apertures, object, &by),
@@ -45,7 +44,7 @@ impl DrillLayer {
     pub fn can_move(&self, item: &DrillItem, by: Point) -> bool
         requires item { IsSoundDrillItem self.now.tools item.now }
         requires by { IsMove by }
-        ensures { IsTrue result ↔ MeetsDrillItem self.now.tools (shifted_drill_item by item.now) OutOfBoard }
+        ensures { IsTrue result ↔ All IsOnBoard (drill_points_of (shifted_drill_item by item.now)) }
     {
         match item {
             DrillItem::Hit { at, .. } => can_move_points(&[*at], &by),
@@ -67,7 +66,7 @@ fn can_move_points(points: &[Point], by: &Point) -> bool
 /// Whether the object, moved, lies on the board with all its leaves.
 fn can_move_object(entries: &Dictionary, object: &Object, by: &Point) -> bool
     requires object { IsInside entries.now (One object.now) }
-    requires drawable { IsDrawable (meaning_in entries.now) object.now }
+    requires drawable { IsTrue (is_drawable (meaning_in entries.now) object.now) }
     requires by { IsMove by.now }
     ensures { IsTrue result ↔ IsInside entries.now (One (shifted_object by.now object.now)) }
 {
@@ -81,7 +80,7 @@ fn can_move_object(entries: &Dictionary, object: &Object, by: &Point) -> bool
 fn can_move_repeat(entries: &Dictionary, copies: &Copies, objects: &[Object], by: &Point) -> bool
     requires repeat { IsInside entries.now
         (Repeat copies.now.columns copies.now.rows copies.now.i copies.now.j objects.now) }
-    requires drawable { All (IsDrawable (meaning_in entries.now)) objects.now }
+    requires drawable { All (λ o. IsTrue (is_drawable (meaning_in entries.now) o)) objects.now }
     requires copies { 1 < copies.now.columns * copies.now.rows }
     requires by { IsMove by.now }
     ensures { IsTrue result ↔ IsInside entries.now

@@ -6,11 +6,12 @@ ghost use Rattle.std.specs.Prelude.{
   ◌*◌,
   ◌<◌,
   ◌≤◌,
+  nat_le,
+  ◌&&◌,
   ◌++◌,
   ◌∷◌,
   ◌↔◌,
   [],
-  All,
   IfNone,
   IfSome,
   IsTrue,
@@ -18,9 +19,10 @@ ghost use Rattle.std.specs.Prelude.{
   slice_set,
   sum_by,
 };
-ghost use Rattle.cam_objects.specs.Limits.{leaf_limit, object_limit, segment_limit};
+ghost use Rattle.std.specs.List.{list_all};
+ghost use Rattle.cam_refusals.specs.Limits.{count_limit, leaf_limit};
 ghost use Rattle.cam_objects.specs.Machinery.Extents.{IsLastLeavesIn};
-ghost use Rattle.cam_objects.specs.Soundness.{IsWithinLimits, KeepsLimits, segs_of};
+ghost use Rattle.cam_objects.specs.Soundness.{KeepsLimits, has_few_segs, is_within_limits};
 ghost use Rattle.cam_objects.specs.Weights.{block_count, item_count, weight_in};
 ghost use Rattle.cam_objects.specs.declared.item.Item.TheVariants.{One, Repeat};
 
@@ -28,23 +30,24 @@ use crate::checks::facts::leaf_count;
 use crate::checks::last_leaves::LastLeaves;
 use crate::dictionary::Dictionary;
 use crate::item::Item;
-use crate::limits::{ITEM_LIMIT, LEAF_LIMIT, OBJECT_LIMIT, SEGMENT_LIMIT};
 use crate::object::Object;
+use cam_refusals::limits::{COUNT_LIMIT, LEAF_LIMIT};
 
 /// Whether the object, as an item, is within the limits.
+#[tactic(auto, unfolding(crate::specs::Soundness::is_within_limits))]
 pub(crate) fn fits_object(entries: &Dictionary, object: &Object) -> bool
-    ensures { IsTrue result ↔ IsWithinLimits entries.now (One object.now) }
+    ensures { result ≡ is_within_limits entries.now (One object.now) }
 {
     has_few_segs(object) && entries.leaf_count(object) <= LEAF_LIMIT
 }
 
 /// Whether a repeat of so many copies is within the limits.
 pub(crate) fn fits_repeat(entries: &Dictionary, copies: u64, objects: &[Object]) -> bool
-    ensures { IsTrue result ↔ (All (λ o. length (segs_of o) ≤ segment_limit) objects.now
-        × ((length objects.now ≤ object_limit)
-        × (copies * block_count (weight_in entries.now) objects.now ≤ leaf_limit))) }
+    ensures { result ≡ (list_all has_few_segs objects.now
+        && (nat_le (length objects.now) count_limit
+        && nat_le (copies * block_count (weight_in entries.now) objects.now) leaf_limit)) }
 {
-    if objects.len() > OBJECT_LIMIT {
+    if objects.len() > COUNT_LIMIT {
         return false;
     }
     objects.iter().all(has_few_segs)
@@ -53,10 +56,10 @@ pub(crate) fn fits_repeat(entries: &Dictionary, copies: u64, objects: &[Object])
 
 /// Whether the contour of a region has at most 1,000,000 segments.
 fn has_few_segs(object: &Object) -> bool
-    ensures { IsTrue result ↔ (length (segs_of object.now) ≤ segment_limit) }
+    ensures { result ≡ has_few_segs object.now }
 {
     match object {
-        Object::Region { contour, .. } => contour.segs.as_slice().len() <= SEGMENT_LIMIT,
+        Object::Region { contour, .. } => contour.segs.as_slice().len() <= COUNT_LIMIT,
         _ => true,
     }
 }
@@ -153,7 +156,7 @@ fn room_behind_items(entries: &Dictionary, items: &[Item]) -> Option<u64>
 pub(crate) fn has_room(entries: &Dictionary, items: &[Item], item: &Item) -> bool
     ensures { IsTrue result ↔ KeepsLimits entries.now (items.now ++ item.now ∷ []) }
 {
-    if items.len() >= ITEM_LIMIT {
+    if items.len() >= COUNT_LIMIT {
         return false;
     }
     match room_behind_items(entries, items) {
@@ -180,7 +183,7 @@ pub(crate) fn has_room_beside(
     requires { leaves ≡ sum_by (item_count (weight_in entries.now)) items.now }
     ensures { IsTrue result ↔ KeepsLimits entries.now (items.now ++ item.now ∷ []) }
 {
-    if ITEM_LIMIT <= items.len() {
+    if COUNT_LIMIT <= items.len() {
         return false;
     }
     if leaves > LEAF_LIMIT {

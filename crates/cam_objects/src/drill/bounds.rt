@@ -4,15 +4,9 @@ ghost use Rattle.std.specs.Prelude.{◌≡◌, ◌<◌, All, IfSome, Some, lengt
 ghost use Rattle.cam_units.specs.Board.{IsOnBoard, IsSize};
 ghost use Rattle.cam_objects.specs.Bounds.{bounds_of};
 ghost use Rattle.cam_objects.specs.Drilling.{drill_item_leaves, leaves_with, rout_leaves};
-ghost use Rattle.cam_objects.specs.DrillSoundness.{
-  IsSoundDrillItem,
-  IsSoundDrillLayer,
-  MeetsDrillItem,
-  drill_points_of,
-};
+ghost use Rattle.cam_objects.specs.DrillSoundness.{IsSoundDrillItem, IsSoundDrillLayer, drill_points_of};
 ghost use Rattle.cam_objects.specs.Shifting.{IsMove, shifted_drill_item};
 ghost use Rattle.cam_objects.specs.declared.drill_item.DrillItem.{DrillItem};
-ghost use Rattle.cam_objects.specs.declared.item_fault.ItemFault.TheVariants.{OutOfBoard};
 
 use crate::boxes::placed::moved;
 use crate::boxes::shapes::{hole_bounds, widened};

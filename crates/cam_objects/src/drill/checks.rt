@@ -1,26 +1,27 @@
 //! The checks of a drill layer.
 
 ghost use Rattle.std.specs.Prelude.{◌≡◌, ◌+◌, ◌++◌, ◌∷◌, ◌↔◌, ◌≤◌, [], All, IsTrue, sum_by};
-ghost use Rattle.cam_units.specs.Board.{IsOnBoard};
-ghost use Rattle.cam_objects.specs.DrillSoundness.{IsSoundTool, KeepsDrillLimits, MeetsDrilling, drill_count_of};
-ghost use Rattle.cam_objects.specs.Limits.{leaf_limit};
-ghost use Rattle.cam_objects.specs.Refusals.{Tells};
+ghost use Rattle.cam_refusals.specs.Checks.{answer_of, first};
+ghost use Rattle.cam_objects.specs.DrillSoundness.{IsSoundTool, KeepsDrillLimits, drill_count_of, drilling_checks};
+ghost use Rattle.cam_objects.specs.Soundness.{are_on_board};
+ghost use Rattle.cam_refusals.specs.Limits.{leaf_limit};
 
 use crate::drill_item::DrillItem;
 use crate::item_fault::ItemFault;
-use crate::limits::{ITEM_LIMIT, LAST_TOOL, LEAF_LIMIT, POINT_LIMIT, SIZE_LIMIT};
+use crate::limits::LAST_TOOL;
+use cam_refusals::limits::{COUNT_LIMIT, LEAF_LIMIT, SIZE_LIMIT};
 use cam_units::{Nm, Point, fits_board};
 
 /// Whether a tool has a number from 1 to 9,999 and a diameter from 1 to 200,000,000 nm.
 pub(crate) fn fits_tool(tool: u16, diameter: Nm) -> bool
     ensures { IsTrue result ↔ IsSoundTool tool diameter }
 {
-    1 <= tool && tool <= LAST_TOOL && 1 <= diameter.0 && diameter.0 <= SIZE_LIMIT
+    1 <= tool && tool <= LAST_TOOL && 1 <= diameter.0 && diameter.0 <= SIZE_LIMIT as i64
 }
 
 /// Whether an item of these points is sound, where its tool is known or not, or its first fault.
 pub(crate) fn check_drilling(known: bool, points: &[Point]) -> Result<(), ItemFault>
-    ensures { Tells (MeetsDrilling known points.now) result }
+    ensures { result ≡ answer_of (first (drilling_checks known points.now)) }
 {
     if points.is_empty() {
         return Err(ItemFault::Malformed);
@@ -31,7 +32,7 @@ pub(crate) fn check_drilling(known: bool, points: &[Point]) -> Result<(), ItemFa
     if !are_on_board(points) {
         return Err(ItemFault::OutOfBoard);
     }
-    if points.len() > POINT_LIMIT {
+    if points.len() > COUNT_LIMIT {
         return Err(ItemFault::TooMuch);
     }
     Ok(())
@@ -39,7 +40,7 @@ pub(crate) fn check_drilling(known: bool, points: &[Point]) -> Result<(), ItemFa
 
 /// Whether each point lies on the board.
 fn are_on_board(points: &[Point]) -> bool
-    ensures { IsTrue result ↔ All IsOnBoard points.now }
+    ensures { result ≡ are_on_board points.now }
 {
     points.iter().all(|point| fits_board(*point))
 }
@@ -58,7 +59,7 @@ pub(crate) fn fits_limits_beside(items: &[DrillItem], leaves: u64, item: &DrillI
     requires leaves { leaves ≡ sum_by drill_count_of items.now }
     ensures { IsTrue result ↔ KeepsDrillLimits (items.now ++ item.now ∷ []) }
 {
-    items.len() < ITEM_LIMIT && adds_up(leaves, item.leaf_count())
+    items.len() < COUNT_LIMIT && adds_up(leaves, item.leaf_count())
 }
 
 /// Whether so many leaves and so many more are within the limit.

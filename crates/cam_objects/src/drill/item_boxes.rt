@@ -4,7 +4,7 @@ ghost use Rattle.std.specs.Prelude.{◌≡◌, ◌<◌, ◌≤◌, Some, length,
 ghost use Rattle.cam_objects.specs.Bounds.{bounds_of};
 ghost use Rattle.cam_objects.specs.Drilling.{diameter_of, drill_item_leaves};
 ghost use Rattle.cam_objects.specs.DrillSoundness.{IsSoundDrillLayer, drill_count_of};
-ghost use Rattle.cam_objects.specs.Limits.{leaf_limit};
+ghost use Rattle.cam_refusals.specs.Limits.{leaf_limit};
 ghost use Rattle.cam_objects.specs.Machinery.Extents.{IsLastToolIn};
 ghost use Rattle.cam_objects.specs.Machinery.Measures.{IsDrillMeasureOf};
 ghost use Rattle.cam_objects.specs.declared.drill_item.DrillItem.{DrillItem};

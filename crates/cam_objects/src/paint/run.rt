@@ -2,7 +2,7 @@
 
 ghost use Rattle.std.specs.Prelude.{◌↔◌, ℕ, ◌*◌, ◌<◌, ◌≤◌, ℤ, pos, ◌+ℤ◌, ◌*ℤ◌, ◌≤ℤ◌, IsTrue};
 ghost use Rattle.std.specs.Int.RustNames.{unsigned_abs};
-ghost use Rattle.cam_units.specs.Board.{board_limit};
+ghost use Rattle.cam_refusals.specs.Limits.{board_limit};
 ghost use Rattle.cam_objects.specs.Bounds.{moved};
 ghost use Rattle.cam_objects.specs.Machinery.Runs.{IsInRun, IsWithinCount, MeetsAcross, MeetsUpright};
 

@@ -2,16 +2,16 @@
 
 ghost use Rattle.std.specs.Prelude.{◌≡◌, ◌*◌, ◌<◌, ◌-◌, ◌≤◌, ◌*ℤ◌, ◌+ℤ◌, ◌^◌, ◌↔◌, IsTrue, pos};
 ghost use Rattle.std.specs.Int.RustNames.{unsigned_abs};
-ghost use Rattle.cam_units.specs.Board.{board_limit};
+ghost use Rattle.cam_refusals.specs.Limits.{board_limit};
 ghost use Rattle.cam_units.specs.Boxes.{join_of};
 ghost use Rattle.cam_objects.specs.Bounds.{moved};
-ghost use Rattle.cam_objects.specs.Limits.{leaf_limit};
+ghost use Rattle.cam_refusals.specs.Limits.{leaf_limit};
 ghost use Rattle.cam_objects.specs.Machinery.Boxes.{IsBoxOffset, IsNearBox, copies_of};
 ghost use Rattle.cam_objects.specs.Machinery.Inside.{last_copy};
 
 use crate::boxes::placed::moved;
 use crate::item::Item;
-use crate::limits::BOARD_LIMIT;
+use cam_refusals::limits::BOARD_LIMIT;
 use cam_units::{Bounds, Point};
 
 /// How many columns and rows of copies a repeat has, and the steps from one to the next, in nm.

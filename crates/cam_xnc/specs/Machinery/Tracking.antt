@@ -1,16 +1,17 @@
 -- What the reader's running state has to do with the past.
-use Rattle.std.specs.Prelude.{◌≡◌, ℕ, ℤ, [], ◌∷◌, Option, Some, None, Result, Ok, Err, unwrap_or, if◌then◌else◌}
+use Rattle.std.specs.Prelude.{◌≡◌, ℤ, ◌∷◌, Option, Some, None, Result, Ok, Err, unwrap_or}
 use Rattle.std.specs.Option.{option_map}
+use Rattle.cam_refusals.specs.declared.refusal.Refusal.{Refusal}
+use Rattle.cam_refusals.specs.declared.stop.Stop.{Stop}
+use Rattle.cam_refusals.specs.declared.stop.Stop.TheVariants.{Memory, Fault}
+use Rattle.cam_refusals.specs.Checks.{Checks, first}
 use Rattle.cam_units.specs.declared.length.Unit.{Unit as FileUnit}
 use Rattle.cam_units.specs.declared.point.Point.{Point}
 use Rattle.cam_xnc.specs.declared.statement.Coordinate.{Coordinate}
 use Rattle.cam_xnc.specs.declared.statement.Statement.{Statement}
 use Rattle.cam_xnc.specs.declared.state.DrillState.{DrillState}
-use Rattle.cam_xnc.specs.declared.state.Stop.{Stop}
-use Rattle.cam_xnc.specs.declared.state.Stop.TheVariants.{Memory, Fault}
 use Rattle.cam_xnc.specs.DrillState.{Past, part_in, unit_in, mode_in, tool_in, point_in, points_in, tools_in, items_in}
 use Rattle.cam_xnc.specs.DrillState.{leaves_in, value_told, length_nm}
-use Rattle.cam_xnc.specs.Faults.{Table, first_of}
 
 -- the state has the values of the past
 pub record Tracks (past : Past) (s : DrillState) : Type 0 where
@@ -24,15 +25,15 @@ pub record Tracks (past : Past) (s : DrillState) : Type 0 where
   pub items : s.layer.items.items ≡ items_in past
   pub leaves : s.leaves.count ≡ leaves_in past
 
--- no fault of the table and what then holds, or the first one
-abbrev pub Answers : Result (Unit {0}) Stop → Table → Type 0 → Type 0
-Answers (Ok done) table P = (first_of table ≡ None) × P
-Answers (Err Memory) table P = Unit {0}
-Answers (Err (Fault code)) table P = first_of table ≡ Some code
+-- no check holds and what then does, or the first that holds is told
+abbrev pub Answers : Result (Unit {0}) Stop → Checks Refusal → Type 0 → Type 0
+Answers (Ok done) list P = (first list ≡ None) × P
+Answers (Err Memory) list P = Unit {0}
+Answers (Err (Fault refusal)) list P = first list ≡ Some refusal
 
--- one more line, which says this, refused for the first of these faults or obeyed
-abbrev pub Obeys : (Past → Statement → Table) → Statement → DrillState → Result (Unit {0}) Stop → DrillState → Type 0
-Obeys table says old result new = (past : Past) → Tracks past old → Answers result (table past says) (Tracks (says ∷ past) new)
+-- one more line, which says this, refused for the first of these checks that holds, or obeyed
+abbrev pub Obeys : (Past → Statement → Checks Refusal) → Statement → DrillState → Result (Unit {0}) Stop → DrillState → Type 0
+Obeys list says old result new = (past : Past) → Tracks past old → Answers result (list past says) (Tracks (says ∷ past) new)
 
 -- the coordinate that a line leaves
 abbrev pub moved : Option FileUnit → Coordinate → ℤ → ℤ

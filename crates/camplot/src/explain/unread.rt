@@ -1,6 +1,6 @@
 //! Why a file cannot be read.
 
-use crate::system::FILE_LIMIT;
+use cam_refusals::limits::FILE_LIMIT;
 use std::fs;
 use std::io::ErrorKind;
 use std::rt::Files as SystemFiles;

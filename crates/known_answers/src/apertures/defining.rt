@@ -1,5 +1,6 @@
 //! Texts behind AD, and what they define: worked out by hand.
 
+use crate::tables::{number, two_texts};
 use cam_units::Unit;
 
 /// What a definition gives: the number of its fault, or an aperture, sizes in nm.
@@ -13,229 +14,131 @@ pub enum Wanted {
     Disc(i64),
 }
 
-/// The text behind AM of the file's macro, the text behind AD, the unit, the number, and what is wanted.
-pub const DEFINITIONS: &[(&[u8], &[u8], Unit, u32, Wanted)] = &[
-    (b"", b"D10C,1", Unit::Mm, 10, Wanted::Circle(1_000_000, 0)),
-    (
-        b"",
-        b"D10C,1X0.5",
-        Unit::Mm,
-        10,
-        Wanted::Circle(1_000_000, 500_000),
-    ),
-    (b"", b"D10C,1X0", Unit::Mm, 10, Wanted::Circle(1_000_000, 0)),
-    (b"", b"D10C,0", Unit::Mm, 10, Wanted::Circle(0, 0)),
-    (
-        b"",
-        b"D10C,200",
-        Unit::Mm,
-        10,
-        Wanted::Circle(200_000_000, 0),
-    ),
-    (
-        b"",
-        b"D10C,200.0000004",
-        Unit::Mm,
-        10,
-        Wanted::Circle(200_000_000, 0),
-    ),
-    (b"", b"D10C,200.0000005", Unit::Mm, 0, Wanted::Fault(24)),
-    (b"", b"D10C,-0.0000004", Unit::Mm, 10, Wanted::Circle(0, 0)),
-    (b"", b"D10C,-0.0000005", Unit::Mm, 0, Wanted::Fault(24)),
-    (b"", b"D10C,1X-0.000001", Unit::Mm, 0, Wanted::Fault(24)),
-    (b"", b"D10C,1X200.000001", Unit::Mm, 0, Wanted::Fault(24)),
-    (
-        b"",
-        b"D10C,0.1",
-        Unit::Inch,
-        10,
-        Wanted::Circle(2_540_000, 0),
-    ),
-    (
-        b"",
-        b"D10C,7.874015748",
-        Unit::Inch,
-        10,
-        Wanted::Circle(200_000_000, 0),
-    ),
-    (b"", b"D10C,7.87401577", Unit::Inch, 0, Wanted::Fault(24)),
-    (
-        b"",
-        b"D10C,1.0000004999",
-        Unit::Mm,
-        10,
-        Wanted::Circle(1_000_000, 0),
-    ),
-    (
-        b"",
-        b"D10R,2X1X0.5",
-        Unit::Mm,
-        10,
-        Wanted::Rect(2_000_000, 1_000_000, 500_000),
-    ),
-    (
-        b"",
-        b"D10R,0.000001X1",
-        Unit::Mm,
-        10,
-        Wanted::Rect(1, 1_000_000, 0),
-    ),
-    (b"", b"D10R,0X1", Unit::Mm, 0, Wanted::Fault(24)),
-    (
-        b"",
-        b"D10R,0.0000005X1",
-        Unit::Mm,
-        10,
-        Wanted::Rect(1, 1_000_000, 0),
-    ),
-    (b"", b"D10R,0.0000004X1", Unit::Mm, 0, Wanted::Fault(24)),
-    (b"", b"D10R,1X200.000001", Unit::Mm, 0, Wanted::Fault(24)),
-    (
-        b"",
-        b"D10O,2X1",
-        Unit::Mm,
-        10,
-        Wanted::Obround(2_000_000, 1_000_000, 0),
-    ),
-    (
-        b"",
-        b"D10O,2X1X0.5",
-        Unit::Mm,
-        10,
-        Wanted::Obround(2_000_000, 1_000_000, 500_000),
-    ),
-    (
-        b"",
-        b"D2147483647C,1",
-        Unit::Mm,
-        2_147_483_647,
-        Wanted::Circle(1_000_000, 0),
-    ),
-    (b"", b"D2147483648C,1", Unit::Mm, 0, Wanted::Fault(4)),
-    (b"", b"D9C,1", Unit::Mm, 0, Wanted::Fault(4)),
-    (b"", b"D010C,1", Unit::Mm, 10, Wanted::Circle(1_000_000, 0)),
-    (b"", b"D+10C,1", Unit::Mm, 0, Wanted::Fault(4)),
-    (b"", b"DC,1", Unit::Mm, 0, Wanted::Fault(4)),
-    (b"", b"D10", Unit::Mm, 0, Wanted::Fault(3)),
-    (b"", b"D10,1", Unit::Mm, 0, Wanted::Fault(3)),
-    (b"", b"C,1", Unit::Mm, 0, Wanted::Fault(3)),
-    (b"", b"", Unit::Mm, 0, Wanted::Fault(3)),
-    (b"", b"D10C", Unit::Mm, 0, Wanted::Fault(4)),
-    (b"", b"D10C,", Unit::Mm, 0, Wanted::Fault(4)),
-    (b"", b"D10C,1X", Unit::Mm, 0, Wanted::Fault(4)),
-    (b"", b"D10C,1.2.3", Unit::Mm, 0, Wanted::Fault(4)),
-    (b"", b"D10C,.", Unit::Mm, 0, Wanted::Fault(4)),
-    (b"", b"D10C,.5", Unit::Mm, 10, Wanted::Circle(500_000, 0)),
-    (b"", b"D10C,5.", Unit::Mm, 10, Wanted::Circle(5_000_000, 0)),
-    (b"", b"D10C,999999.9", Unit::Mm, 0, Wanted::Fault(24)),
-    (b"", b"D10C,1000000", Unit::Mm, 0, Wanted::Fault(4)),
-    (b"", b"D10C,1X0.5X0.5", Unit::Mm, 0, Wanted::Fault(11)),
-    (b"", b"D10R,2", Unit::Mm, 0, Wanted::Fault(4)),
-    (b"", b"D10R,2X1X0.5X0.5", Unit::Mm, 0, Wanted::Fault(11)),
-    (b"", b"D10O,2", Unit::Mm, 0, Wanted::Fault(4)),
-    (b"", b"D10P,1X5", Unit::Mm, 0, Wanted::Fault(11)),
-    (b"", b"D10P,", Unit::Mm, 0, Wanted::Fault(4)),
-    (b"", b"D10NONE,1", Unit::Mm, 0, Wanted::Fault(11)),
-    (b"", b"D10NONE", Unit::Mm, 0, Wanted::Fault(11)),
-    (b"", b"D10NONE,1x2", Unit::Mm, 0, Wanted::Fault(3)),
-    (b"", b"D10C,abc", Unit::Mm, 0, Wanted::Fault(3)),
-    (b"", b"D10C,1,2", Unit::Mm, 0, Wanted::Fault(3)),
-    (b"", b"D5C,abc", Unit::Mm, 0, Wanted::Fault(3)),
-    (b"", b"D5C,-1", Unit::Mm, 0, Wanted::Fault(4)),
-    (b"", b"D5P,1", Unit::Mm, 0, Wanted::Fault(4)),
-    (b"", b"D10C,-1X1X1", Unit::Mm, 0, Wanted::Fault(11)),
-    (
-        b"M1*1,1,$1,0,0",
-        b"D10M1,1",
-        Unit::Mm,
-        10,
-        Wanted::Disc(1_000_000),
-    ),
-    (b"M1*1,1,$1,0,0", b"D10M1", Unit::Mm, 10, Wanted::Disc(0)),
-    (
-        b"M1*1,1,$1,0,0",
-        b"D 1 0 M 1 , 1",
-        Unit::Mm,
-        10,
-        Wanted::Disc(1_000_000),
-    ),
-    (
-        b"M1*1,1,$1,0,0",
-        b"D10M1,-1",
-        Unit::Mm,
-        0,
-        Wanted::Fault(24),
-    ),
-    (
-        b"M1*1,1,$1,0,0",
-        b"D10M1,200.000001",
-        Unit::Mm,
-        0,
-        Wanted::Fault(24),
-    ),
-    (
-        b"MU*5,1,8,0,0,1,0",
-        b"D10MU",
-        Unit::Mm,
-        0,
-        Wanted::Fault(12),
-    ),
-    (
-        b"MR*21,1,2,1,0,0,45",
-        b"D10MR",
-        Unit::Mm,
-        0,
-        Wanted::Fault(13),
-    ),
-    (
-        b"MS*1,1,$1,201,0",
-        b"D10MS,1",
-        Unit::Mm,
-        0,
-        Wanted::Fault(24),
-    ),
-    (b"MF*1,2,1,0,0", b"D10MF", Unit::Mm, 0, Wanted::Fault(29)),
-    (
-        b"ME*1,2,1,0,0*5,1",
-        b"D10ME",
-        Unit::Mm,
-        0,
-        Wanted::Fault(29),
-    ),
-    (b"MU*5,1,8,0,0,1,0", b"D5MU", Unit::Mm, 0, Wanted::Fault(4)),
-    (b"M1*1,1,$1,0,0", b"D10M1,1X", Unit::Mm, 0, Wanted::Fault(4)),
-    (
-        b"C*1,1,1,0,0",
-        b"D10C,1",
-        Unit::Mm,
-        10,
-        Wanted::Circle(1_000_000, 0),
-    ),
-    (b"P*1,1,1,0,0", b"D10P,1", Unit::Mm, 0, Wanted::Fault(11)),
-    (
-        b".abc*1,1,1,0,0",
-        b"D10.abc",
-        Unit::Mm,
-        10,
-        Wanted::Disc(1_000_000),
-    ),
-    (
-        b".5C*1,1,$1,0,0",
-        b"D10.5C,1",
-        Unit::Mm,
-        10,
-        Wanted::Disc(1_000_000),
-    ),
-    (
-        b"-$_+1*1,1,$1,0,0",
-        b"D10-$_+1,1",
-        Unit::Mm,
-        10,
-        Wanted::Disc(1_000_000),
-    ),
-    (b"", b"D10.5C,1", Unit::Mm, 0, Wanted::Fault(11)),
-    (b"", b"D-10C,1", Unit::Mm, 0, Wanted::Fault(4)),
-];
+/// A definition: the texts behind AM and AD, the unit, the number of the aperture, and what is wanted.
+#[derive(Clone, Copy)]
+pub struct Definition<'a> {
+    pub macro_text: &'a [u8],
+    pub text: &'a [u8],
+    pub unit: Unit,
+    pub number: u32,
+    pub wanted: Wanted,
+}
+
+/// What a word and three numbers of a row want.
+fn wanted_of(word: &[u8], [first, second, third]: [i64; 3]) -> Option<Wanted> {
+    match word.first() {
+        Some(b'f') => Some(Wanted::Fault(u8::try_from(first).ok()?)),
+        Some(b'c') => Some(Wanted::Circle(first, second)),
+        Some(b'r') => Some(Wanted::Rect(first, second, third)),
+        Some(b'o') => Some(Wanted::Obround(first, second, third)),
+        Some(b'd') => Some(Wanted::Disc(first)),
+        _ => None,
+    }
+}
+
+/// The definition of a row.
+pub fn definition_of(row: &[u8]) -> Option<Definition<'_>> {
+    let mut parts = row.splitn(7, |byte| *byte == b' ');
+    let unit = match parts.next()?.first() {
+        Some(b'm') => Unit::Mm,
+        Some(b'i') => Unit::Inch,
+        _ => return None,
+    };
+    let aperture = number(parts.next()?)?;
+    let word = parts.next()?;
+    let numbers = [
+        number(parts.next()?)?,
+        number(parts.next()?)?,
+        number(parts.next()?)?,
+    ];
+    let (macro_text, text) = two_texts(parts.next()?)?;
+    Some(Definition {
+        macro_text,
+        text,
+        unit,
+        number: u32::try_from(aperture).ok()?,
+        wanted: wanted_of(word, numbers)?,
+    })
+}
+
+/// The unit, the number of the aperture, what is wanted and its numbers, and the texts behind AM and AD.
+pub const DEFINITIONS: &[u8] = b"\
+mm 10 circle 1000000 0 0 !D10C,1|\
+mm 10 circle 1000000 500000 0 !D10C,1X0.5|\
+mm 10 circle 1000000 0 0 !D10C,1X0|\
+mm 10 circle 0 0 0 !D10C,0|\
+mm 10 circle 200000000 0 0 !D10C,200|\
+mm 10 circle 200000000 0 0 !D10C,200.0000004|\
+mm 0 fault 24 0 0 !D10C,200.0000005|\
+mm 10 circle 0 0 0 !D10C,-0.0000004|\
+mm 0 fault 24 0 0 !D10C,-0.0000005|\
+mm 0 fault 24 0 0 !D10C,1X-0.000001|\
+mm 0 fault 24 0 0 !D10C,1X200.000001|\
+inch 10 circle 2540000 0 0 !D10C,0.1|\
+inch 10 circle 200000000 0 0 !D10C,7.874015748|\
+inch 0 fault 24 0 0 !D10C,7.87401577|\
+mm 10 circle 1000000 0 0 !D10C,1.0000004999|\
+mm 10 rectangle 2000000 1000000 500000 !D10R,2X1X0.5|\
+mm 10 rectangle 1 1000000 0 !D10R,0.000001X1|\
+mm 0 fault 24 0 0 !D10R,0X1|\
+mm 10 rectangle 1 1000000 0 !D10R,0.0000005X1|\
+mm 0 fault 24 0 0 !D10R,0.0000004X1|\
+mm 0 fault 24 0 0 !D10R,1X200.000001|\
+mm 10 obround 2000000 1000000 0 !D10O,2X1|\
+mm 10 obround 2000000 1000000 500000 !D10O,2X1X0.5|\
+mm 2147483647 circle 1000000 0 0 !D2147483647C,1|\
+mm 0 fault 4 0 0 !D2147483648C,1|\
+mm 0 fault 4 0 0 !D9C,1|\
+mm 10 circle 1000000 0 0 !D010C,1|\
+mm 0 fault 4 0 0 !D+10C,1|\
+mm 0 fault 4 0 0 !DC,1|\
+mm 0 fault 3 0 0 !D10|\
+mm 0 fault 3 0 0 !D10,1|\
+mm 0 fault 3 0 0 !C,1|\
+mm 0 fault 3 0 0 !|\
+mm 0 fault 4 0 0 !D10C|\
+mm 0 fault 4 0 0 !D10C,|\
+mm 0 fault 4 0 0 !D10C,1X|\
+mm 0 fault 4 0 0 !D10C,1.2.3|\
+mm 0 fault 4 0 0 !D10C,.|\
+mm 10 circle 500000 0 0 !D10C,.5|\
+mm 10 circle 5000000 0 0 !D10C,5.|\
+mm 0 fault 24 0 0 !D10C,999999.9|\
+mm 0 fault 4 0 0 !D10C,1000000|\
+mm 0 fault 11 0 0 !D10C,1X0.5X0.5|\
+mm 0 fault 4 0 0 !D10R,2|\
+mm 0 fault 11 0 0 !D10R,2X1X0.5X0.5|\
+mm 0 fault 4 0 0 !D10O,2|\
+mm 0 fault 11 0 0 !D10P,1X5|\
+mm 0 fault 4 0 0 !D10P,|\
+mm 0 fault 11 0 0 !D10NONE,1|\
+mm 0 fault 11 0 0 !D10NONE|\
+mm 0 fault 3 0 0 !D10NONE,1x2|\
+mm 0 fault 3 0 0 !D10C,abc|\
+mm 0 fault 3 0 0 !D10C,1,2|\
+mm 0 fault 3 0 0 !D5C,abc|\
+mm 0 fault 4 0 0 !D5C,-1|\
+mm 0 fault 4 0 0 !D5P,1|\
+mm 0 fault 11 0 0 !D10C,-1X1X1|\
+mm 10 disc 1000000 0 0 M1*1,1,$1,0,0!D10M1,1|\
+mm 10 disc 0 0 0 M1*1,1,$1,0,0!D10M1|\
+mm 10 disc 1000000 0 0 M1*1,1,$1,0,0!D 1 0 M 1 , 1|\
+mm 0 fault 24 0 0 M1*1,1,$1,0,0!D10M1,-1|\
+mm 0 fault 24 0 0 M1*1,1,$1,0,0!D10M1,200.000001|\
+mm 0 fault 12 0 0 MU*5,1,8,0,0,1,0!D10MU|\
+mm 0 fault 13 0 0 MR*21,1,2,1,0,0,45!D10MR|\
+mm 0 fault 24 0 0 MS*1,1,$1,201,0!D10MS,1|\
+mm 0 fault 29 0 0 MF*1,2,1,0,0!D10MF|\
+mm 0 fault 29 0 0 ME*1,2,1,0,0*5,1!D10ME|\
+mm 0 fault 4 0 0 MU*5,1,8,0,0,1,0!D5MU|\
+mm 0 fault 4 0 0 M1*1,1,$1,0,0!D10M1,1X|\
+mm 10 circle 1000000 0 0 C*1,1,1,0,0!D10C,1|\
+mm 0 fault 11 0 0 P*1,1,1,0,0!D10P,1|\
+mm 10 disc 1000000 0 0 .abc*1,1,1,0,0!D10.abc|\
+mm 10 disc 1000000 0 0 .5C*1,1,$1,0,0!D10.5C,1|\
+mm 10 disc 1000000 0 0 -$_+1*1,1,$1,0,0!D10-$_+1,1|\
+mm 0 fault 11 0 0 !D10.5C,1|\
+mm 0 fault 4 0 0 !D-10C,1";
 
 /// The text behind AD, and the number that it defines.
 pub const NUMBERS: &[(&[u8], Option<u32>)] = &[

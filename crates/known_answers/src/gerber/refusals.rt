@@ -1,280 +1,183 @@
-//! Files with one fault, each with the number and the place of it: worked out by hand.
-
-use crate::gerber::Refused;
+//! Files with one fault, each behind the number and the place of it: worked out by hand.
 
 /// Forms and numbers.
-pub const FORMS: &[Refused] = &[
-    // coordinates without a code where the last operation did not draw
-    (b"%FSLAX36Y36*%%MOMM*%X0*M02*", 3, 20),
-    (b"%FSLAX36Y36*%%MOMM*%%ADD10C,0.2*%D10*X0D02*X5*M02*", 3, 43),
-    (b"%FSLAX36Y36*%%MOMM*%%ADD10C,0.2*%D10*X0D03*Y5*M02*", 3, 43),
-    (
-        b"%FSLAX36Y36*%%MOMM*%%ADD10C,0.2*%D10*X0D01*D03*G01X5*M02*",
-        3,
-        47,
-    ),
-    (b"%FSLAX36Y36*%%MOMM*%%ADD10C,0.2*%D10*I5*M02*", 3, 37),
-    (
-        b"%FSLAX36Y36*%%MOMM*%%ADD10C,0.2*%D10*G36*D01*D02*X5*G37*M02*",
-        3,
-        49,
-    ),
-    // codes, letters and orders that no command has
-    (b"%FSLAX36Y36*%%MOMM*%%ADD10C,0.2*%D10*D9*M02*", 3, 37),
-    (b"%FSLAX36Y36*%%MOMM*%%ADD10C,0.2*%D10*D0*M02*", 3, 37),
-    (b"%FSLAX36Y36*%%MOMM*%%ADD10C,0.2*%D10*M5*M02*", 3, 37),
-    (b"%FSLAX36Y36*%%MOMM*%%ADD10C,0.2*%D10*G05*M02*", 3, 37),
-    (b"%FSLAX36Y36*%%MOMM*%%ADD10C,0.2*%D10*X0Y0D10*M02*", 3, 37),
-    (b"%FSLAX36Y36*%%MOMM*%%ADD10C,0.2*%D10*D01X5*M02*", 3, 37),
-    (b"%FSLAX36Y36*%%MOMM*%%ADD10C,0.2*%D10*I5X5D01*M02*", 3, 37),
-    (b"%FSLAX36Y36*%%MOMM*%%ADD10C,0.2*%D10*x5D01*M02*", 3, 37),
-    (b"%FSLAX36Y36*%%MOMM*%%ADD10C,0.2*%D10*%LPX*%M02*", 3, 37),
-    (b"%FSLAX36Y36*%%MOMM*%%ADD10C,0.2*%D10*%LP*%M02*", 3, 37),
-    (b"%FSLAX36Y36*%%MOMM*%%ADD10C,0.2*%D10*%LMXX*%M02*", 3, 37),
-    (b"%FSLAX36Y36*%%MOMM*%%ADD10C,0.2*%D10*%SRY2X2*%M02*", 3, 37),
-    (b"%FSLAX36Y36*%%MOMM*%%ADD10C,0.2*%D10*%ABX*%M02*", 3, 37),
-    (b"%FSLAX36Y36*%%MOMM*%%ADD10C,0.2*%D10*%*%M02*", 3, 37),
-    (
-        b"%FSLAX36Y36*%%MOMM*%%ADD10C,0.2*%D10*%LPD*LPC*%M02*",
-        3,
-        37,
-    ),
-    (b"%FSLAX36Y36*%%MOMM*%%AM1*1,1,1,0,0*%M02*", 3, 20),
-    // numbers outside their grammar
-    (b"%FSLAX36Y36*%%MOMM*%%ADD10C,0.2*%D10*X1.5D02*M02*", 4, 37),
-    (b"%FSLAX36Y36*%%MOMM*%%ADD10C,0.2*%D10*X+-1D02*M02*", 4, 37),
-    (b"%FSLAX36Y36*%%MOMM*%%ADD10C,0.2*%D10*XD02*M02*", 4, 37),
-    (b"%FSLAX36Y36*%%MOMM*%%ADD10C,0.2*%D10*X0D01*X*M02*", 4, 43),
-    (b"%FSLAX36Y36*%%MOMM*%%ADD10C,0.2*%D10*X5J-D01*M02*", 4, 37),
-    (b"%FSLAX36Y36*%%MOMM*%%LR*%M02*", 4, 20),
-    (b"%FSLAX36Y36*%%MOMM*%%LS*%M02*", 4, 20),
-    (b"%FSLAX36Y36*%%MOMM*%%LR9-0*%M02*", 4, 20),
-    (b"%FSLAX36Y36*%%MOMM*%%SRY0*%M02*", 4, 20),
-    (b"%FSLAX36Y36*%%MOMM*%%SRX2.0*%M02*", 4, 20),
-    (b"%FSLAX36Y36*%%MOMM*%%SRX2J*%M02*", 4, 20),
-    (b"%FSLAX36Y36*%%MOMM*%%SRX+2*%M02*", 4, 20),
-    (b"%FSLAX36Y36*%%MOMM*%%ABD*%%AB*%M02*", 4, 20),
-    (b"%FSLAX36Y36*%%MOMM*%%ADD10O,1X*%M02*", 4, 20),
-    (b"%FSLAX36Y36*%%MOMM*%G54D2147483648*M02*", 4, 20),
-    // old forms that are not neutral, and old codes
-    (b"%FSLAX36Y36*%%MOMM*%G55*M02*", 28, 20),
-    (b"%FSLAX36Y36*%%MOMM*%M00*M02*", 28, 20),
-    (b"%FSLAX36Y36*%%MOMM*%M01*M02*", 28, 20),
-    (b"%FSLAX36Y36*%%MOMM*%%IPNEG*%M02*", 28, 20),
-    (b"%FSLAX36Y36*%%MOMM*%%IR90*%M02*", 28, 20),
-    (b"%FSLAX36Y36*%%MOMM*%%IR+0*%M02*", 28, 20),
-    (b"%FSLAX36Y36*%%MOMM*%%ASAYBX*%M02*", 28, 20),
-    (b"%FSLAX36Y36*%%MOMM*%%MIA1B0*%M02*", 28, 20),
-    (b"%FSLAX36Y36*%%MOMM*%%MIB1*%M02*", 28, 20),
-    (b"%FSLAX36Y36*%%MOMM*%%MI*%M02*", 28, 20),
-    (b"%FSLAX36Y36*%%MOMM*%%OFA0B0.1*%M02*", 28, 20),
-    (b"%FSLAX36Y36*%%MOMM*%%OFA-0*%M02*", 28, 20),
-    (b"%FSLAX36Y36*%%MOMM*%%SFA2B1*%M02*", 28, 20),
-    (b"%FSLAX36Y36*%%MOMM*%%SFA0B1*%M02*", 28, 20),
-    (b"%FSLAX36Y36*%%MOMM*%G36*G91*M02*", 28, 24),
-];
+pub const FORMS: &[u8] = b"\
+# coordinates without a code where the last operation did not draw|\
+3 20 %FSLAX36Y36*%%MOMM*%X0*M02*|\
+3 43 %FSLAX36Y36*%%MOMM*%%ADD10C,0.2*%D10*X0D02*X5*M02*|\
+3 43 %FSLAX36Y36*%%MOMM*%%ADD10C,0.2*%D10*X0D03*Y5*M02*|\
+3 47 %FSLAX36Y36*%%MOMM*%%ADD10C,0.2*%D10*X0D01*D03*G01X5*M02*|\
+3 37 %FSLAX36Y36*%%MOMM*%%ADD10C,0.2*%D10*I5*M02*|\
+3 49 %FSLAX36Y36*%%MOMM*%%ADD10C,0.2*%D10*G36*D01*D02*X5*G37*M02*|\
+# codes, letters and orders that no command has|\
+3 37 %FSLAX36Y36*%%MOMM*%%ADD10C,0.2*%D10*D9*M02*|\
+3 37 %FSLAX36Y36*%%MOMM*%%ADD10C,0.2*%D10*D0*M02*|\
+3 37 %FSLAX36Y36*%%MOMM*%%ADD10C,0.2*%D10*M5*M02*|\
+3 37 %FSLAX36Y36*%%MOMM*%%ADD10C,0.2*%D10*G05*M02*|\
+3 37 %FSLAX36Y36*%%MOMM*%%ADD10C,0.2*%D10*X0Y0D10*M02*|\
+3 37 %FSLAX36Y36*%%MOMM*%%ADD10C,0.2*%D10*D01X5*M02*|\
+3 37 %FSLAX36Y36*%%MOMM*%%ADD10C,0.2*%D10*I5X5D01*M02*|\
+3 37 %FSLAX36Y36*%%MOMM*%%ADD10C,0.2*%D10*x5D01*M02*|\
+3 37 %FSLAX36Y36*%%MOMM*%%ADD10C,0.2*%D10*%LPX*%M02*|\
+3 37 %FSLAX36Y36*%%MOMM*%%ADD10C,0.2*%D10*%LP*%M02*|\
+3 37 %FSLAX36Y36*%%MOMM*%%ADD10C,0.2*%D10*%LMXX*%M02*|\
+3 37 %FSLAX36Y36*%%MOMM*%%ADD10C,0.2*%D10*%SRY2X2*%M02*|\
+3 37 %FSLAX36Y36*%%MOMM*%%ADD10C,0.2*%D10*%ABX*%M02*|\
+3 37 %FSLAX36Y36*%%MOMM*%%ADD10C,0.2*%D10*%*%M02*|\
+3 37 %FSLAX36Y36*%%MOMM*%%ADD10C,0.2*%D10*%LPD*LPC*%M02*|\
+3 20 %FSLAX36Y36*%%MOMM*%%AM1*1,1,1,0,0*%M02*|\
+# numbers outside their grammar|\
+4 37 %FSLAX36Y36*%%MOMM*%%ADD10C,0.2*%D10*X1.5D02*M02*|\
+4 37 %FSLAX36Y36*%%MOMM*%%ADD10C,0.2*%D10*X+-1D02*M02*|\
+4 37 %FSLAX36Y36*%%MOMM*%%ADD10C,0.2*%D10*XD02*M02*|\
+4 43 %FSLAX36Y36*%%MOMM*%%ADD10C,0.2*%D10*X0D01*X*M02*|\
+4 37 %FSLAX36Y36*%%MOMM*%%ADD10C,0.2*%D10*X5J-D01*M02*|\
+4 20 %FSLAX36Y36*%%MOMM*%%LR*%M02*|\
+4 20 %FSLAX36Y36*%%MOMM*%%LS*%M02*|\
+4 20 %FSLAX36Y36*%%MOMM*%%LR9-0*%M02*|\
+4 20 %FSLAX36Y36*%%MOMM*%%SRY0*%M02*|\
+4 20 %FSLAX36Y36*%%MOMM*%%SRX2.0*%M02*|\
+4 20 %FSLAX36Y36*%%MOMM*%%SRX2J*%M02*|\
+4 20 %FSLAX36Y36*%%MOMM*%%SRX+2*%M02*|\
+4 20 %FSLAX36Y36*%%MOMM*%%ABD*%%AB*%M02*|\
+4 20 %FSLAX36Y36*%%MOMM*%%ADD10O,1X*%M02*|\
+4 20 %FSLAX36Y36*%%MOMM*%G54D2147483648*M02*|\
+# old forms that are not neutral, and old codes|\
+28 20 %FSLAX36Y36*%%MOMM*%G55*M02*|\
+28 20 %FSLAX36Y36*%%MOMM*%M00*M02*|\
+28 20 %FSLAX36Y36*%%MOMM*%M01*M02*|\
+28 20 %FSLAX36Y36*%%MOMM*%%IPNEG*%M02*|\
+28 20 %FSLAX36Y36*%%MOMM*%%IR90*%M02*|\
+28 20 %FSLAX36Y36*%%MOMM*%%IR+0*%M02*|\
+28 20 %FSLAX36Y36*%%MOMM*%%ASAYBX*%M02*|\
+28 20 %FSLAX36Y36*%%MOMM*%%MIA1B0*%M02*|\
+28 20 %FSLAX36Y36*%%MOMM*%%MIB1*%M02*|\
+28 20 %FSLAX36Y36*%%MOMM*%%MI*%M02*|\
+28 20 %FSLAX36Y36*%%MOMM*%%OFA0B0.1*%M02*|\
+28 20 %FSLAX36Y36*%%MOMM*%%OFA-0*%M02*|\
+28 20 %FSLAX36Y36*%%MOMM*%%SFA2B1*%M02*|\
+28 20 %FSLAX36Y36*%%MOMM*%%SFA0B1*%M02*|\
+28 24 %FSLAX36Y36*%%MOMM*%G36*G91*M02*";
 
 /// What is set and defined.
-pub const DEFINITIONS: &[Refused] = &[
-    // coordinates before the format, I and J among them, and before the unit
-    (b"%MOMM*%X0D02*M02*", 5, 7),
-    (b"%MOMM*%J0D02*M02*", 5, 7),
-    (b"%MOMM*%G36*Y0D01*M02*", 5, 11),
-    (b"%FSLAX36Y36*%Y0D02*M02*", 6, 13),
-    (b"%FSLAX36Y36*%I0D02*M02*", 6, 13),
-    (b"%FSLAX36Y36*%G36*X0D01*M02*", 6, 17),
-    (b"%SRX1Y1*%M02*", 6, 0),
-    (b"%SRJ0*%M02*", 6, 0),
-    (b"%ADD10R,1X1*%M02*", 6, 0),
-    // formats and units that are set again, and those that are none
-    (b"%FSLAX36Y36*%%MOMM*%G70*M02*", 7, 20),
-    (b"G70*%MOMM*%M02*", 7, 4),
-    (b"%MOIN*%G71*M02*", 7, 7),
-    (b"%FSLAX36Y36*%%MOMM*%%FSLAX35Y35*%M02*", 7, 20),
-    (b"%FSLAX36Y36*%%MOMM*%%FSLAX26Y26*%M02*", 7, 20),
-    (b"%FSLAX36Y46*%M02*", 8, 0),
-    (b"%FSDAX36Y36*%M02*", 8, 0),
-    (b"%FSLIX36Y36*%M02*", 8, 0),
-    (b"%FSLAY36X36*%M02*", 8, 0),
-    (b"%FSLAXY*%M02*", 8, 0),
-    (b"%FS*%M02*", 8, 0),
-    (b"%MO*%M02*", 8, 0),
-    (b"%FSLAX36Y36*%%MOMM*%%FSLAX77Y77*%M02*", 8, 20),
-    (b"%FSLAX36Y36*%%MOMM*%%MOCM*%M02*", 8, 20),
-    // numbers of apertures that are not defined yet, though a block of that number is open
-    (b"%FSLAX36Y36*%%MOMM*%G54D10*M02*", 9, 20),
-    (b"%FSLAX36Y36*%%MOMM*%%ADD10C,0.2*%D10*D11*M02*", 9, 37),
-    (b"%FSLAX36Y36*%%MOMM*%%ABD10*%D10*M02*", 9, 28),
-    (b"%FSLAX36Y36*%%MOMM*%%ABD10*%%ABD11*%%AB*%D10*M02*", 9, 41),
-    // numbers that are defined, or that an open block defines, and names of macros and templates
-    (b"%FSLAX36Y36*%%MOMM*%%ABD10*%%ADD10C,1*%M02*", 10, 28),
-    (b"%FSLAX36Y36*%%MOMM*%%ABD10*%%ABD10*%M02*", 10, 28),
-    (
-        b"%FSLAX36Y36*%%MOMM*%%ABD10*%%ABD11*%%ADD10C,1*%M02*",
-        10,
-        36,
-    ),
-    (b"%FSLAX36Y36*%%MOMM*%%ABD10*%%AB*%%ADD10C,1*%M02*", 10, 33),
-    (b"%FSLAX36Y36*%%MOMM*%%ADD10C,0.2*%D10*%ABD10*%M02*", 10, 37),
-    (
-        b"%FSLAX36Y36*%%MOMM*%%ABD11*%%ADD10C,1*%%AB*%%ADD10C,1*%M02*",
-        10,
-        44,
-    ),
-    (
-        b"%FSLAX36Y36*%%MOMM*%%AMA*1,1,1,0,0*%%AMA*1,1,1,0,0*%M02*",
-        10,
-        36,
-    ),
-    (
-        b"%FSLAX36Y36*%%MOMM*%%AMA*5,1*%%AMA*1,1,1,0,0*%M02*",
-        10,
-        30,
-    ),
-    (b"%FSLAX36Y36*%%MOMM*%%AMC*1,1,1,0,0*%M02*", 10, 20),
-    (b"%FSLAX36Y36*%%MOMM*%%AMR*1,1,1,0,0*%M02*", 10, 20),
-    (b"%FSLAX36Y36*%%MOMM*%%AMO*1,1,1,0,0*%M02*", 10, 20),
-    (b"%FSLAX36Y36*%%MOMM*%%AMP*1,1,1,0,0*%M02*", 10, 20),
-    // names that no macro has yet, and parameters past the hole
-    (b"%FSLAX36Y36*%%MOMM*%%ADD10A*%%AMA*1,1,1,0,0*%M02*", 11, 20),
-    (b"%FSLAX36Y36*%%MOMM*%%AMA*1,1,1,0,0*%%ADD10a*%M02*", 11, 36),
-    (b"%FSLAX36Y36*%%MOMM*%%ADD10.5C,1*%M02*", 11, 20),
-    (b"%FSLAX36Y36*%%MOMM*%%ADD-10C,1*%M02*", 4, 20),
-    (b"%FSLAX36Y36*%%MOMM*%%ADD10C,1X0.5X0.5*%M02*", 11, 20),
-    (b"%FSLAX36Y36*%%MOMM*%%ADD10R,1X1X1X1*%M02*", 11, 20),
-    (b"%FSLAX36Y36*%%MOMM*%%ADD10O,1X1X1X0*%M02*", 11, 20),
-    // macros, at the aperture that uses them
-    (
-        b"%FSLAX36Y36*%%MOMM*%%AMA*6,0,0,5,.5,.5,2,.1,6,0*%%ADD10A*%M02*",
-        12,
-        49,
-    ),
-    (
-        b"%FSLAX36Y36*%%MOMM*%%AMA*7,0,0,3,2,1,0*%%ADD10A*%M02*",
-        12,
-        40,
-    ),
-    (
-        b"%FSLAX36Y36*%%MOMM*%%AMA*22,1,1,1,0,0,0*%%ADD10A*%M02*",
-        12,
-        41,
-    ),
-    (
-        b"%FSLAX36Y36*%%MOMM*%%AMA*1,1,1,0,0,45*%%ADD10A*%M02*",
-        13,
-        39,
-    ),
-    (
-        b"%FSLAX36Y36*%%MOMM*%%AMA*1,1,-1,0,0*%%ADD10A*%M02*",
-        24,
-        37,
-    ),
-    (b"%FSLAX36Y36*%%MOMM*%%AMA*1,2,1,0,0*%%ADD10A*%M02*", 29, 36),
-    (
-        b"%FSLAX36Y36*%%MOMM*%%AMA*1,1,1/$1,0,0*%%ADD10A*%M02*",
-        29,
-        39,
-    ),
-    // and at the macro, where its text is outside the grammar
-    (b"%FSLAX36Y36*%%MOMM*%%AMA*1,1,1,0,0,*%M02*", 29, 20),
-    (b"%FSLAX36Y36*%%MOMM*%%AMA*hello*%M02*", 29, 20),
-    (b"%FSLAX36Y36*%%MOMM*%%AMA*$0=1*%M02*", 29, 20),
-    (b"%FSLAX36Y36*%%MOMM*%%AMA*1,1,1000000,0,0*%M02*", 29, 20),
-];
+pub const DEFINITIONS: &[u8] = b"\
+# coordinates before the format, I and J among them, and before the unit|\
+5 7 %MOMM*%X0D02*M02*|\
+5 7 %MOMM*%J0D02*M02*|\
+5 11 %MOMM*%G36*Y0D01*M02*|\
+6 13 %FSLAX36Y36*%Y0D02*M02*|\
+6 13 %FSLAX36Y36*%I0D02*M02*|\
+6 17 %FSLAX36Y36*%G36*X0D01*M02*|\
+6 0 %SRX1Y1*%M02*|\
+6 0 %SRJ0*%M02*|\
+6 0 %ADD10R,1X1*%M02*|\
+# formats and units that are set again, and those that are none|\
+7 20 %FSLAX36Y36*%%MOMM*%G70*M02*|\
+7 4 G70*%MOMM*%M02*|\
+7 7 %MOIN*%G71*M02*|\
+7 20 %FSLAX36Y36*%%MOMM*%%FSLAX35Y35*%M02*|\
+7 20 %FSLAX36Y36*%%MOMM*%%FSLAX26Y26*%M02*|\
+8 0 %FSLAX36Y46*%M02*|\
+8 0 %FSDAX36Y36*%M02*|\
+8 0 %FSLIX36Y36*%M02*|\
+8 0 %FSLAY36X36*%M02*|\
+8 0 %FSLAXY*%M02*|\
+8 0 %FS*%M02*|\
+8 0 %MO*%M02*|\
+8 20 %FSLAX36Y36*%%MOMM*%%FSLAX77Y77*%M02*|\
+8 20 %FSLAX36Y36*%%MOMM*%%MOCM*%M02*|\
+# numbers of apertures that are not defined yet, though a block of that number is open|\
+9 20 %FSLAX36Y36*%%MOMM*%G54D10*M02*|\
+9 37 %FSLAX36Y36*%%MOMM*%%ADD10C,0.2*%D10*D11*M02*|\
+9 28 %FSLAX36Y36*%%MOMM*%%ABD10*%D10*M02*|\
+9 41 %FSLAX36Y36*%%MOMM*%%ABD10*%%ABD11*%%AB*%D10*M02*|\
+# numbers that are defined, or that an open block defines, and names of macros and templates|\
+10 28 %FSLAX36Y36*%%MOMM*%%ABD10*%%ADD10C,1*%M02*|\
+10 28 %FSLAX36Y36*%%MOMM*%%ABD10*%%ABD10*%M02*|\
+10 36 %FSLAX36Y36*%%MOMM*%%ABD10*%%ABD11*%%ADD10C,1*%M02*|\
+10 33 %FSLAX36Y36*%%MOMM*%%ABD10*%%AB*%%ADD10C,1*%M02*|\
+10 37 %FSLAX36Y36*%%MOMM*%%ADD10C,0.2*%D10*%ABD10*%M02*|\
+10 44 %FSLAX36Y36*%%MOMM*%%ABD11*%%ADD10C,1*%%AB*%%ADD10C,1*%M02*|\
+10 36 %FSLAX36Y36*%%MOMM*%%AMA*1,1,1,0,0*%%AMA*1,1,1,0,0*%M02*|\
+10 30 %FSLAX36Y36*%%MOMM*%%AMA*5,1*%%AMA*1,1,1,0,0*%M02*|\
+10 20 %FSLAX36Y36*%%MOMM*%%AMC*1,1,1,0,0*%M02*|\
+10 20 %FSLAX36Y36*%%MOMM*%%AMR*1,1,1,0,0*%M02*|\
+10 20 %FSLAX36Y36*%%MOMM*%%AMO*1,1,1,0,0*%M02*|\
+10 20 %FSLAX36Y36*%%MOMM*%%AMP*1,1,1,0,0*%M02*|\
+# names that no macro has yet, and parameters past the hole|\
+11 20 %FSLAX36Y36*%%MOMM*%%ADD10A*%%AMA*1,1,1,0,0*%M02*|\
+11 36 %FSLAX36Y36*%%MOMM*%%AMA*1,1,1,0,0*%%ADD10a*%M02*|\
+11 20 %FSLAX36Y36*%%MOMM*%%ADD10.5C,1*%M02*|\
+4 20 %FSLAX36Y36*%%MOMM*%%ADD-10C,1*%M02*|\
+11 20 %FSLAX36Y36*%%MOMM*%%ADD10C,1X0.5X0.5*%M02*|\
+11 20 %FSLAX36Y36*%%MOMM*%%ADD10R,1X1X1X1*%M02*|\
+11 20 %FSLAX36Y36*%%MOMM*%%ADD10O,1X1X1X0*%M02*|\
+# macros, at the aperture that uses them|\
+12 49 %FSLAX36Y36*%%MOMM*%%AMA*6,0,0,5,.5,.5,2,.1,6,0*%%ADD10A*%M02*|\
+12 40 %FSLAX36Y36*%%MOMM*%%AMA*7,0,0,3,2,1,0*%%ADD10A*%M02*|\
+12 41 %FSLAX36Y36*%%MOMM*%%AMA*22,1,1,1,0,0,0*%%ADD10A*%M02*|\
+13 39 %FSLAX36Y36*%%MOMM*%%AMA*1,1,1,0,0,45*%%ADD10A*%M02*|\
+24 37 %FSLAX36Y36*%%MOMM*%%AMA*1,1,-1,0,0*%%ADD10A*%M02*|\
+29 36 %FSLAX36Y36*%%MOMM*%%AMA*1,2,1,0,0*%%ADD10A*%M02*|\
+29 39 %FSLAX36Y36*%%MOMM*%%AMA*1,1,1/$1,0,0*%%ADD10A*%M02*|\
+# and at the macro, where its text is outside the grammar|\
+29 20 %FSLAX36Y36*%%MOMM*%%AMA*1,1,1,0,0,*%M02*|\
+29 20 %FSLAX36Y36*%%MOMM*%%AMA*hello*%M02*|\
+29 20 %FSLAX36Y36*%%MOMM*%%AMA*$0=1*%M02*|\
+29 20 %FSLAX36Y36*%%MOMM*%%AMA*1,1,1000000,0,0*%M02*";
 
 /// What does not go with what stands before it.
-pub const STATES: &[Refused] = &[
-    // no aperture, in a block too
-    (b"%FSLAX36Y36*%%MOMM*%D03*M02*", 15, 20),
-    (b"%FSLAX36Y36*%%MOMM*%D01*M02*", 15, 20),
-    (b"%FSLAX36Y36*%%MOMM*%%ADD10C,1*%X5D01*M02*", 15, 31),
-    (b"%FSLAX36Y36*%%MOMM*%%ABD10*%D03*%AB*%M02*", 15, 28),
-    (b"%FSLAX36Y36*%%MOMM*%%SRX2*%D01*M02*", 15, 27),
-    // draws and arcs with anything but a solid circle and, for a draw, a solid rectangle
-    (b"%FSLAX36Y36*%%MOMM*%%ADD10C,1X0.5*%D10*X5D01*M02*", 16, 39),
-    (
-        b"%FSLAX36Y36*%%MOMM*%%ADD10R,2X1X0.5*%D10*X5D01*M02*",
-        16,
-        41,
-    ),
-    (b"%FSLAX36Y36*%%MOMM*%%ADD10O,2X1*%D10*X5D01*M02*", 16, 37),
-    (
-        b"%FSLAX36Y36*%%MOMM*%%AMA*1,1,1,0,0*%%ADD10A*%D10*X5D01*M02*",
-        16,
-        49,
-    ),
-    (b"%FSLAX36Y36*%%MOMM*%%ABD10*%%AB*%D10*X5D01*M02*", 16, 37),
-    (
-        b"%FSLAX36Y36*%%MOMM*%%ADD10R,1X1*%D10*G75*G03X5I5D01*M02*",
-        16,
-        41,
-    ),
-    // arcs without G75 and arcs of radius 0, in regions too
-    (
-        b"%FSLAX36Y36*%%MOMM*%%ADD10C,0.2*%D10*G75*G74*G03*X5I5D01*M02*",
-        17,
-        49,
-    ),
-    (
-        b"%FSLAX36Y36*%%MOMM*%%ADD10C,0.2*%D10*G02X5I5D01*M02*",
-        17,
-        37,
-    ),
-    (b"%FSLAX36Y36*%%MOMM*%G36*G03*X5I5D01*M02*", 17, 28),
-    (
-        b"%FSLAX36Y36*%%MOMM*%G75*G36*X5D02*G74*G02X0I-5D01*M02*",
-        17,
-        38,
-    ),
-    (
-        b"%FSLAX36Y36*%%MOMM*%%ADD10C,0.2*%D10*G75*G03X5D01*M02*",
-        18,
-        41,
-    ),
-    (
-        b"%FSLAX36Y36*%%MOMM*%%ADD10C,0.2*%D10*G75*X5D02*G02*X0I0J0D01*M02*",
-        18,
-        51,
-    ),
-    (
-        b"%FSLAX36Y36*%%MOMM*%%ADD10C,0.2*%D10*G75*G03*X0Y5I5D01*X5*M02*",
-        18,
-        55,
-    ),
-    (b"%FSLAX36Y36*%%MOMM*%G75*G36*G02X5D01*M02*", 18, 28),
-    // astray in regions, blocks and repeats
-    (b"%FSLAX36Y36*%%MOMM*%%ADD10C,0.2*%D10*G36*D03*M02*", 19, 41),
-    (b"%FSLAX36Y36*%%MOMM*%%ABD10*%G36*X5D01*X0D03*M02*", 19, 38),
-    (b"%FSLAX36Y36*%%MOMM*%G36*G37*G37*M02*", 20, 28),
-    (b"%FSLAX36Y36*%%MOMM*%%ABD10*%G37*M02*", 20, 28),
-    (b"%FSLAX36Y36*%%MOMM*%%ABD10*%%SRX1Y2*%M02*", 21, 28),
-    (
-        b"%FSLAX36Y36*%%MOMM*%%ABD10*%%ABD11*%%AB*%%SRX2*%M02*",
-        21,
-        41,
-    ),
-    (b"%FSLAX36Y36*%%MOMM*%%SRX2*%%ABD10*%M02*", 22, 27),
-    (b"%FSLAX36Y36*%%MOMM*%%SRX2*%%AB*%M02*", 22, 27),
-    (b"%FSLAX36Y36*%%MOMM*%%ABD10*%%AB*%%AB*%M02*", 22, 33),
-    (b"%FSLAX36Y36*%%MOMM*%%ABD10*%G36*%AB*%M02*", 22, 32),
-    (b"%FSLAX36Y36*%%MOMM*%G36*G36*M02*", 22, 24),
-    (b"%FSLAX36Y36*%%MOMM*%G36*D01*M02*", 22, 28),
-    (b"%FSLAX36Y36*%%MOMM*%%SRX2*%G36*M02*", 22, 31),
-    (b"%FSLAX36Y36*%%MOMM*%%ABD10*%%ABD11*%%AB*%M02*", 22, 41),
-    (b"%FSLAX36Y36*%%MOMM*%%ABD10*%G36*G37*M02*", 22, 36),
-    // extended commands in a region
-    (b"%FSLAX36Y36*%%MOMM*%G36*%LPD*%G37*M02*", 22, 24),
-    (b"%FSLAX36Y36*%%MOMM*%G36*%LMN*%G37*M02*", 22, 24),
-    (b"%FSLAX36Y36*%%MOMM*%G36*%LR0*%G37*M02*", 22, 24),
-    (b"%FSLAX36Y36*%%MOMM*%G36*%LS1*%G37*M02*", 22, 24),
-    (b"%FSLAX36Y36*%%MOMM*%G36*%SR*%G37*M02*", 22, 24),
-    (b"%FSLAX36Y36*%%MOMM*%G36*%SRX1*%G37*M02*", 22, 24),
-    (b"%FSLAX36Y36*%%MOMM*%G36*%SRX2*%G37*M02*", 22, 24),
-    (b"%FSLAX36Y36*%%MOMM*%G36*%MOMM*%G37*M02*", 22, 24),
-    (b"%FSLAX36Y36*%%MOMM*%G36*%FSLAX36Y36*%G37*M02*", 22, 24),
-    (b"%FSLAX36Y36*%%MOMM*%G36*%IPPOS*%G37*M02*", 22, 24),
-    (b"%FSLAX36Y36*%%MOMM*%G36*%ABD11*%G37*M02*", 22, 24),
-    (b"%FSLAX36Y36*%%MOMM*%G36*%AB*%G37*M02*", 22, 24),
-    (b"%FSLAX36Y36*%%MOMM*%G36*%ADD11C,1*%G37*M02*", 22, 24),
-    (b"%FSLAX36Y36*%%MOMM*%G36*%AMA*1,1,1,0,0*%G37*M02*", 22, 24),
-];
+pub const STATES: &[u8] = b"\
+# no aperture, in a block too|\
+15 20 %FSLAX36Y36*%%MOMM*%D03*M02*|\
+15 20 %FSLAX36Y36*%%MOMM*%D01*M02*|\
+15 31 %FSLAX36Y36*%%MOMM*%%ADD10C,1*%X5D01*M02*|\
+15 28 %FSLAX36Y36*%%MOMM*%%ABD10*%D03*%AB*%M02*|\
+15 27 %FSLAX36Y36*%%MOMM*%%SRX2*%D01*M02*|\
+# draws and arcs with anything but a solid circle and, for a draw, a solid rectangle|\
+16 39 %FSLAX36Y36*%%MOMM*%%ADD10C,1X0.5*%D10*X5D01*M02*|\
+16 41 %FSLAX36Y36*%%MOMM*%%ADD10R,2X1X0.5*%D10*X5D01*M02*|\
+16 37 %FSLAX36Y36*%%MOMM*%%ADD10O,2X1*%D10*X5D01*M02*|\
+16 49 %FSLAX36Y36*%%MOMM*%%AMA*1,1,1,0,0*%%ADD10A*%D10*X5D01*M02*|\
+16 37 %FSLAX36Y36*%%MOMM*%%ABD10*%%AB*%D10*X5D01*M02*|\
+16 41 %FSLAX36Y36*%%MOMM*%%ADD10R,1X1*%D10*G75*G03X5I5D01*M02*|\
+# arcs without G75 and arcs of radius 0, in regions too|\
+17 49 %FSLAX36Y36*%%MOMM*%%ADD10C,0.2*%D10*G75*G74*G03*X5I5D01*M02*|\
+17 37 %FSLAX36Y36*%%MOMM*%%ADD10C,0.2*%D10*G02X5I5D01*M02*|\
+17 28 %FSLAX36Y36*%%MOMM*%G36*G03*X5I5D01*M02*|\
+17 38 %FSLAX36Y36*%%MOMM*%G75*G36*X5D02*G74*G02X0I-5D01*M02*|\
+18 41 %FSLAX36Y36*%%MOMM*%%ADD10C,0.2*%D10*G75*G03X5D01*M02*|\
+18 51 %FSLAX36Y36*%%MOMM*%%ADD10C,0.2*%D10*G75*X5D02*G02*X0I0J0D01*M02*|\
+18 55 %FSLAX36Y36*%%MOMM*%%ADD10C,0.2*%D10*G75*G03*X0Y5I5D01*X5*M02*|\
+18 28 %FSLAX36Y36*%%MOMM*%G75*G36*G02X5D01*M02*|\
+# astray in regions, blocks and repeats|\
+19 41 %FSLAX36Y36*%%MOMM*%%ADD10C,0.2*%D10*G36*D03*M02*|\
+19 38 %FSLAX36Y36*%%MOMM*%%ABD10*%G36*X5D01*X0D03*M02*|\
+20 28 %FSLAX36Y36*%%MOMM*%G36*G37*G37*M02*|\
+20 28 %FSLAX36Y36*%%MOMM*%%ABD10*%G37*M02*|\
+21 28 %FSLAX36Y36*%%MOMM*%%ABD10*%%SRX1Y2*%M02*|\
+21 41 %FSLAX36Y36*%%MOMM*%%ABD10*%%ABD11*%%AB*%%SRX2*%M02*|\
+22 27 %FSLAX36Y36*%%MOMM*%%SRX2*%%ABD10*%M02*|\
+22 27 %FSLAX36Y36*%%MOMM*%%SRX2*%%AB*%M02*|\
+22 33 %FSLAX36Y36*%%MOMM*%%ABD10*%%AB*%%AB*%M02*|\
+22 32 %FSLAX36Y36*%%MOMM*%%ABD10*%G36*%AB*%M02*|\
+22 24 %FSLAX36Y36*%%MOMM*%G36*G36*M02*|\
+22 28 %FSLAX36Y36*%%MOMM*%G36*D01*M02*|\
+22 31 %FSLAX36Y36*%%MOMM*%%SRX2*%G36*M02*|\
+22 41 %FSLAX36Y36*%%MOMM*%%ABD10*%%ABD11*%%AB*%M02*|\
+22 36 %FSLAX36Y36*%%MOMM*%%ABD10*%G36*G37*M02*|\
+# extended commands in a region|\
+22 24 %FSLAX36Y36*%%MOMM*%G36*%LPD*%G37*M02*|\
+22 24 %FSLAX36Y36*%%MOMM*%G36*%LMN*%G37*M02*|\
+22 24 %FSLAX36Y36*%%MOMM*%G36*%LR0*%G37*M02*|\
+22 24 %FSLAX36Y36*%%MOMM*%G36*%LS1*%G37*M02*|\
+22 24 %FSLAX36Y36*%%MOMM*%G36*%SR*%G37*M02*|\
+22 24 %FSLAX36Y36*%%MOMM*%G36*%SRX1*%G37*M02*|\
+22 24 %FSLAX36Y36*%%MOMM*%G36*%SRX2*%G37*M02*|\
+22 24 %FSLAX36Y36*%%MOMM*%G36*%MOMM*%G37*M02*|\
+22 24 %FSLAX36Y36*%%MOMM*%G36*%FSLAX36Y36*%G37*M02*|\
+22 24 %FSLAX36Y36*%%MOMM*%G36*%IPPOS*%G37*M02*|\
+22 24 %FSLAX36Y36*%%MOMM*%G36*%ABD11*%G37*M02*|\
+22 24 %FSLAX36Y36*%%MOMM*%G36*%AB*%G37*M02*|\
+22 24 %FSLAX36Y36*%%MOMM*%G36*%ADD11C,1*%G37*M02*|\
+22 24 %FSLAX36Y36*%%MOMM*%G36*%AMA*1,1,1,0,0*%G37*M02*";

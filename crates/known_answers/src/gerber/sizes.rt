@@ -1,202 +1,47 @@
 //! The last number that is accepted and the first that is refused: worked out by hand.
 
-use crate::gerber::Limit;
-
 /// The limits of sizes, numbers and digits.
-pub const SIZES: &[Limit] = &[
-    // sizes, also of what is rounded
-    (
-        b"%FSLAX36Y36*%%MOMM*%%ADD10C,0*%M02*",
-        b"%FSLAX36Y36*%%MOMM*%%ADD10C,-0.000001*%M02*",
-        24,
-        20,
-    ),
-    (
-        b"%FSLAX36Y36*%%MOMM*%%ADD10C,-0.0000004*%M02*",
-        b"%FSLAX36Y36*%%MOMM*%%ADD10C,-0.0000005*%M02*",
-        24,
-        20,
-    ),
-    (
-        b"%FSLAX36Y36*%%MOMM*%%ADD10C,200.0000004*%M02*",
-        b"%FSLAX36Y36*%%MOMM*%%ADD10C,200.0000005*%M02*",
-        24,
-        20,
-    ),
-    (
-        b"%FSLAX36Y36*%%MOMM*%%ADD10C,1X200*%M02*",
-        b"%FSLAX36Y36*%%MOMM*%%ADD10C,1X200.000001*%M02*",
-        24,
-        20,
-    ),
-    (
-        b"%FSLAX36Y36*%%MOMM*%%ADD10C,1X0*%M02*",
-        b"%FSLAX36Y36*%%MOMM*%%ADD10C,1X-0.000001*%M02*",
-        24,
-        20,
-    ),
-    (
-        b"%FSLAX36Y36*%%MOMM*%%ADD10R,0.0000005X1*%M02*",
-        b"%FSLAX36Y36*%%MOMM*%%ADD10R,0.0000004X1*%M02*",
-        24,
-        20,
-    ),
-    (
-        b"%FSLAX36Y36*%%MOMM*%%ADD10R,1X200*%M02*",
-        b"%FSLAX36Y36*%%MOMM*%%ADD10R,1X200.000001*%M02*",
-        24,
-        20,
-    ),
-    (
-        b"%FSLAX36Y36*%%MOMM*%%ADD10R,1X1X200*%M02*",
-        b"%FSLAX36Y36*%%MOMM*%%ADD10R,1X1X200.000001*%M02*",
-        24,
-        20,
-    ),
-    (
-        b"%FSLAX36Y36*%%MOMM*%%ADD10O,200X1*%M02*",
-        b"%FSLAX36Y36*%%MOMM*%%ADD10O,200.000001X1*%M02*",
-        24,
-        20,
-    ),
-    (
-        b"%FSLAX36Y36*%%MOMM*%%ADD10O,1X0.000001*%M02*",
-        b"%FSLAX36Y36*%%MOMM*%%ADD10O,1X0*%M02*",
-        24,
-        20,
-    ),
-    (
-        b"%FSLAX36Y36*%%MOMM*%%ADD10O,1X1X0*%M02*",
-        b"%FSLAX36Y36*%%MOMM*%%ADD10O,1X1X-0.000001*%M02*",
-        24,
-        20,
-    ),
-    (
-        b"%MOIN*%%ADD10C,7.874015748*%M02*",
-        b"%MOIN*%%ADD10C,7.874015770*%M02*",
-        24,
-        7,
-    ),
-    // sizes and offsets of macros, and points of outlines
-    (
-        b"%FSLAX36Y36*%%MOMM*%%AMA*1,1,200.0000004,0,0*%%ADD10A*%M02*",
-        b"%FSLAX36Y36*%%MOMM*%%AMA*1,1,200.0000005,0,0*%%ADD10A*%M02*",
-        24,
-        46,
-    ),
-    (
-        b"%FSLAX36Y36*%%MOMM*%%AMA*1,1,1,-200,0*%%ADD10A*%M02*",
-        b"%FSLAX36Y36*%%MOMM*%%AMA*1,1,1,-200.000001,0*%%ADD10A*%M02*",
-        24,
-        46,
-    ),
-    (
-        b"%FSLAX36Y36*%%MOMM*%%AMA*21,1,1,1,0,200*%%ADD10A*%M02*",
-        b"%FSLAX36Y36*%%MOMM*%%AMA*21,1,1,1,0,200.000001*%%ADD10A*%M02*",
-        24,
-        48,
-    ),
-    (
-        b"%FSLAX36Y36*%%MOMM*%%AMA*20,1,0,0,0,1,1*%%ADD10A*%M02*",
-        b"%FSLAX36Y36*%%MOMM*%%AMA*20,1,-0.000001,0,0,1,1*%%ADD10A*%M02*",
-        24,
-        49,
-    ),
-    (
-        b"%FSLAX36Y36*%%MOMM*%%AMA*4,1,1,0,0,0,0*%%ADD10A*%M02*",
-        b"%FSLAX36Y36*%%MOMM*%%AMA*4,1,0,0,0,0,0*%%ADD10A*%M02*",
-        29,
-        40,
-    ),
-    // numbers of apertures
-    (
-        b"%FSLAX36Y36*%%MOMM*%%ADD10C,1*%M02*",
-        b"%FSLAX36Y36*%%MOMM*%%ADD9C,1*%M02*",
-        4,
-        20,
-    ),
-    (
-        b"%FSLAX36Y36*%%MOMM*%%ADD2147483647C,1*%M02*",
-        b"%FSLAX36Y36*%%MOMM*%%ADD2147483648C,1*%M02*",
-        4,
-        20,
-    ),
-    (
-        b"%FSLAX36Y36*%%MOMM*%%ABD10*%%AB*%M02*",
-        b"%FSLAX36Y36*%%MOMM*%%ABD9*%%AB*%M02*",
-        4,
-        20,
-    ),
-    (
-        b"%FSLAX36Y36*%%MOMM*%%ABD2147483647*%%AB*%M02*",
-        b"%FSLAX36Y36*%%MOMM*%%ABD2147483648*%%AB*%M02*",
-        4,
-        20,
-    ),
-    (
-        b"%FSLAX36Y36*%%MOMM*%%ADD2147483647C,1*%D2147483647*M02*",
-        b"%FSLAX36Y36*%%MOMM*%%ADD2147483647C,1*%D2147483648*M02*",
-        4,
-        39,
-    ),
-    // digits of coordinates
-    (
-        b"%FSLAX36Y36*%%MOMM*%X000000000000005D02*M02*",
-        b"%FSLAX36Y36*%%MOMM*%X0000000000000005D02*M02*",
-        4,
-        20,
-    ),
-    (
-        b"%FSLAX36Y36*%%MOMM*%Y-000000000000005D02*M02*",
-        b"%FSLAX36Y36*%%MOMM*%Y-0000000000000005D02*M02*",
-        4,
-        20,
-    ),
-    (
-        b"%FSLAX36Y36*%%MOMM*%I999999999999999D02*M02*",
-        b"%FSLAX36Y36*%%MOMM*%I1000000000000000D02*M02*",
-        4,
-        20,
-    ),
-    (
-        b"%FSLAX36Y36*%%MOMM*%J+000000000000005D02*M02*",
-        b"%FSLAX36Y36*%%MOMM*%J+0000000000000005D02*M02*",
-        4,
-        20,
-    ),
-    // digits of the format, angles and scales
-    (b"%FSLAX11Y11*%M02*", b"%FSLAX01Y01*%M02*", 8, 0),
-    (b"%FSLAX11Y11*%M02*", b"%FSLAX10Y10*%M02*", 8, 0),
-    (b"%FSLAX66Y66*%M02*", b"%FSLAX67Y67*%M02*", 8, 0),
-    (b"%FSLAX66Y66*%M02*", b"%FSLAX76Y76*%M02*", 8, 0),
-    (
-        b"%FSLAX36Y36*%%MOMM*%%LR999990*%M02*",
-        b"%FSLAX36Y36*%%MOMM*%%LR1000080*%M02*",
-        4,
-        20,
-    ),
-    (
-        b"%FSLAX36Y36*%%MOMM*%%LR-999990.*%M02*",
-        b"%FSLAX36Y36*%%MOMM*%%LR-1000080*%M02*",
-        4,
-        20,
-    ),
-    (
-        b"%FSLAX36Y36*%%MOMM*%%LR90.0000000009*%M02*",
-        b"%FSLAX36Y36*%%MOMM*%%LR90.000000001*%M02*",
-        13,
-        20,
-    ),
-    (
-        b"%FSLAX36Y36*%%MOMM*%%LS1.0000000009*%M02*",
-        b"%FSLAX36Y36*%%MOMM*%%LS1.000000001*%M02*",
-        14,
-        20,
-    ),
-    (
-        b"%FSLAX36Y36*%%MOMM*%%LS01.*%M02*",
-        b"%FSLAX36Y36*%%MOMM*%%LS0.999999999*%M02*",
-        14,
-        20,
-    ),
-];
+pub const SIZES: &[u8] = b"\
+# sizes, also of what is rounded|\
+24 20 %FSLAX36Y36*%%MOMM*%%ADD10C,0*%M02*!%FSLAX36Y36*%%MOMM*%%ADD10C,-0.000001*%M02*|\
+24 20 %FSLAX36Y36*%%MOMM*%%ADD10C,-0.0000004*%M02*!%FSLAX36Y36*%%MOMM*%%ADD10C,-0.0000005*%M02*|\
+24 20 %FSLAX36Y36*%%MOMM*%%ADD10C,200.0000004*%M02*!%FSLAX36Y36*%%MOMM*%%ADD10C,200.0000005*%M02*|\
+24 20 %FSLAX36Y36*%%MOMM*%%ADD10C,1X200*%M02*!%FSLAX36Y36*%%MOMM*%%ADD10C,1X200.000001*%M02*|\
+24 20 %FSLAX36Y36*%%MOMM*%%ADD10C,1X0*%M02*!%FSLAX36Y36*%%MOMM*%%ADD10C,1X-0.000001*%M02*|\
+24 20 %FSLAX36Y36*%%MOMM*%%ADD10R,0.0000005X1*%M02*!%FSLAX36Y36*%%MOMM*%%ADD10R,0.0000004X1*%M02*|\
+24 20 %FSLAX36Y36*%%MOMM*%%ADD10R,1X200*%M02*!%FSLAX36Y36*%%MOMM*%%ADD10R,1X200.000001*%M02*|\
+24 20 %FSLAX36Y36*%%MOMM*%%ADD10R,1X1X200*%M02*!%FSLAX36Y36*%%MOMM*%%ADD10R,1X1X200.000001*%M02*|\
+24 20 %FSLAX36Y36*%%MOMM*%%ADD10O,200X1*%M02*!%FSLAX36Y36*%%MOMM*%%ADD10O,200.000001X1*%M02*|\
+24 20 %FSLAX36Y36*%%MOMM*%%ADD10O,1X0.000001*%M02*!%FSLAX36Y36*%%MOMM*%%ADD10O,1X0*%M02*|\
+24 20 %FSLAX36Y36*%%MOMM*%%ADD10O,1X1X0*%M02*!%FSLAX36Y36*%%MOMM*%%ADD10O,1X1X-0.000001*%M02*|\
+24 7 %MOIN*%%ADD10C,7.874015748*%M02*!%MOIN*%%ADD10C,7.874015770*%M02*|\
+# sizes and offsets of macros, and points of outlines|\
+24 46 %FSLAX36Y36*%%MOMM*%%AMA*1,1,200.0000004,0,0*%%ADD10A*%M02*!\
+%FSLAX36Y36*%%MOMM*%%AMA*1,1,200.0000005,0,0*%%ADD10A*%M02*|\
+24 46 %FSLAX36Y36*%%MOMM*%%AMA*1,1,1,-200,0*%%ADD10A*%M02*!%FSLAX36Y36*%%MOMM*%%AMA*1,1,1,-200.000001,0*%%ADD10A*%M02*|\
+24 48 %FSLAX36Y36*%%MOMM*%%AMA*21,1,1,1,0,200*%%ADD10A*%M02*!\
+%FSLAX36Y36*%%MOMM*%%AMA*21,1,1,1,0,200.000001*%%ADD10A*%M02*|\
+24 49 %FSLAX36Y36*%%MOMM*%%AMA*20,1,0,0,0,1,1*%%ADD10A*%M02*!\
+%FSLAX36Y36*%%MOMM*%%AMA*20,1,-0.000001,0,0,1,1*%%ADD10A*%M02*|\
+29 40 %FSLAX36Y36*%%MOMM*%%AMA*4,1,1,0,0,0,0*%%ADD10A*%M02*!%FSLAX36Y36*%%MOMM*%%AMA*4,1,0,0,0,0,0*%%ADD10A*%M02*|\
+# numbers of apertures|\
+4 20 %FSLAX36Y36*%%MOMM*%%ADD10C,1*%M02*!%FSLAX36Y36*%%MOMM*%%ADD9C,1*%M02*|\
+4 20 %FSLAX36Y36*%%MOMM*%%ADD2147483647C,1*%M02*!%FSLAX36Y36*%%MOMM*%%ADD2147483648C,1*%M02*|\
+4 20 %FSLAX36Y36*%%MOMM*%%ABD10*%%AB*%M02*!%FSLAX36Y36*%%MOMM*%%ABD9*%%AB*%M02*|\
+4 20 %FSLAX36Y36*%%MOMM*%%ABD2147483647*%%AB*%M02*!%FSLAX36Y36*%%MOMM*%%ABD2147483648*%%AB*%M02*|\
+4 39 %FSLAX36Y36*%%MOMM*%%ADD2147483647C,1*%D2147483647*M02*!%FSLAX36Y36*%%MOMM*%%ADD2147483647C,1*%D2147483648*M02*|\
+# digits of coordinates|\
+4 20 %FSLAX36Y36*%%MOMM*%X000000000000005D02*M02*!%FSLAX36Y36*%%MOMM*%X0000000000000005D02*M02*|\
+4 20 %FSLAX36Y36*%%MOMM*%Y-000000000000005D02*M02*!%FSLAX36Y36*%%MOMM*%Y-0000000000000005D02*M02*|\
+4 20 %FSLAX36Y36*%%MOMM*%I999999999999999D02*M02*!%FSLAX36Y36*%%MOMM*%I1000000000000000D02*M02*|\
+4 20 %FSLAX36Y36*%%MOMM*%J+000000000000005D02*M02*!%FSLAX36Y36*%%MOMM*%J+0000000000000005D02*M02*|\
+# digits of the format, angles and scales|\
+8 0 %FSLAX11Y11*%M02*!%FSLAX01Y01*%M02*|\
+8 0 %FSLAX11Y11*%M02*!%FSLAX10Y10*%M02*|\
+8 0 %FSLAX66Y66*%M02*!%FSLAX67Y67*%M02*|\
+8 0 %FSLAX66Y66*%M02*!%FSLAX76Y76*%M02*|\
+4 20 %FSLAX36Y36*%%MOMM*%%LR999990*%M02*!%FSLAX36Y36*%%MOMM*%%LR1000080*%M02*|\
+4 20 %FSLAX36Y36*%%MOMM*%%LR-999990.*%M02*!%FSLAX36Y36*%%MOMM*%%LR-1000080*%M02*|\
+13 20 %FSLAX36Y36*%%MOMM*%%LR90.0000000009*%M02*!%FSLAX36Y36*%%MOMM*%%LR90.000000001*%M02*|\
+14 20 %FSLAX36Y36*%%MOMM*%%LS1.0000000009*%M02*!%FSLAX36Y36*%%MOMM*%%LS1.000000001*%M02*|\
+14 20 %FSLAX36Y36*%%MOMM*%%LS01.*%M02*!%FSLAX36Y36*%%MOMM*%%LS0.999999999*%M02*";

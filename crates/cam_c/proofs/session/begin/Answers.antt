@@ -2,4 +2,5 @@ use Rattle.cam_c.proofs.Unopened.{unopened}
 use Rattle.cam_c.proofs.session.begin.Goals as goal
 
 pub returns-in-Ok-clause-err : goal.returns-in-Ok-clause-err
-returns-in-Ok-clause-err c = unopened c.args.depth c.in-Ok.station (rw c.in-Ok.is at c.new.ensures)
+returns-in-Ok-clause-err c =
+    rw (c.from.ensures, c.number.ensures) (unopened c.args.depth c.in-Ok.station (rw c.in-Ok.is at c.new.ensures))

@@ -1,12 +1,13 @@
 use Rattle.std.proofs.Common.{◌≡◌, ◌∙◌, Some, slice_get, ap, subst, sym, arith}
 use Rattle.cam_objects.specs.DrillSoundness.{IsSoundDrillItem}
+use Rattle.cam_objects.proofs.SoundItems.{none_told}
 use Rattle.cam_edits.proofs.KeptDrilling.{few_holes}
 use Rattle.cam_edits.proofs.Refusals.{read_at}
 use Rattle.cam_edits.proofs.drill_mending.leaves_come.Goals as goal
 
 pub returns-in-Ok-clause-few : goal.returns-in-Ok-clause-few
 returns-in-Ok-clause-few c =
-    omega (arith, few_holes c.args.layer.now.tools c.in-Some-get.item.now c.in-Ok.ensures, c.leaf_count.ensures)
+    omega (arith, few_holes c.args.layer.now.tools c.in-Some-get.item.now (none_told _ _ c.in-Ok.ensures), c.leaf_count.ensures)
 
 pub returns-in-Ok-clause-sound : goal.returns-in-Ok-clause-sound
 returns-in-Ok-clause-sound c = λ k item told to here.
@@ -19,4 +20,4 @@ returns-in-Ok-clause-sound c = λ k item told to here.
     let place : c.in-Some.place ≡ k = cc in
     let found : Some x ≡ Some item = sym there ∙ ap (slice_get layer.items.items) place ∙ here in
     let same : x ≡ item = cc in
-    subst (IsSoundDrillItem layer.tools) same c.in-Ok.ensures
+    subst (IsSoundDrillItem layer.tools) same (none_told _ _ c.in-Ok.ensures)

@@ -1,15 +1,14 @@
 use Rattle.std.proofs.Common.{◌≡◌, ◌∙◌, Some, slice_get, ap, subst, sym, arith}
-use Rattle.cam_objects.specs.Soundness.{IsSoundItem, IsWithinLimits}
-use Rattle.cam_objects.specs.declared.item_fault.ItemFault.TheVariants.{TooMuch}
+use Rattle.cam_objects.specs.Soundness.{IsSoundItem}
+use Rattle.cam_objects.proofs.SoundItems.{meets, none_told}
 use Rattle.cam_edits.proofs.Refusals.{read_at}
 use Rattle.cam_edits.proofs.mending.leaves_come.Goals as goal
 
 pub returns-in-Ok-clause-few : goal.returns-in-Ok-clause-few
 returns-in-Ok-clause-few c =
     let layer = c.args.layer.now in
-    let sound : IsSoundItem layer.apertures c.in-Some-get.item.now = c.in-Ok.ensures in
-    let limits : IsWithinLimits layer.apertures c.in-Some-get.item.now = sound TooMuch in
-    omega (arith, limits.leaves, c.item_leaf_count.ensures)
+    let m = meets layer.apertures c.in-Some-get.item.now (none_told _ _ c.in-Ok.ensures) in
+    omega (arith, m.limits.leaves, c.item_leaf_count.ensures)
 
 pub returns-in-Ok-clause-sound : goal.returns-in-Ok-clause-sound
 returns-in-Ok-clause-sound c = λ k item told to here.
@@ -22,4 +21,4 @@ returns-in-Ok-clause-sound c = λ k item told to here.
     let place : c.in-Some.place ≡ k = cc in
     let found : Some x ≡ Some item = sym there ∙ ap (slice_get layer.items.items) place ∙ here in
     let same : x ≡ item = cc in
-    subst (IsSoundItem layer.apertures) same c.in-Ok.ensures
+    subst (IsSoundItem layer.apertures) same (none_told _ _ c.in-Ok.ensures)

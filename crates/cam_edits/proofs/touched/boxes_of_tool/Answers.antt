@@ -1,9 +1,9 @@
 use Rattle.std.proofs.Common.{◌≡◌, ◌∙◌, ℕ, ◌+◌, ◌-◌, ◌<◌, ◌++◌, ◌∷◌, [], ap, length, refl, arith}
 use Rattle.std.proofs.lemmas.List.{length-map}
-use Rattle.cam_objects.specs.declared.item_fault.ItemFault.TheVariants.{OutOfBoard}
 use Rattle.cam_objects.specs.Contents.{drill_content_of}
 use Rattle.cam_objects.specs.DrillSoundness.{tool_of}
 use Rattle.cam_edits.specs.declared.drill_step.DrillStep.TheVariants.{Diameter}
+use Rattle.cam_objects.proofs.SoundItems.{meets_drill}
 use Rattle.cam_edits.proofs.ItemTools.{boxes_past, tool_at}
 use Rattle.cam_edits.proofs.TouchedDrillBoxes.{boxes_of_all, diameter_boxes, diameter_size, has_tool}
 use Rattle.cam_edits.proofs.TouchedDrillBoxes.{item_of_tool, sound_read}
@@ -24,8 +24,9 @@ loop-place-init c =
 pub bounds-requires-clause-points : goal.bounds-requires-clause-points
 bounds-requires-clause-points c =
     let items = c.args.layer.now.items.items in
-    sound_read c.args.layer.now.tools items items c.loop-place.place c.index-item.result.now c.requires.sound.items refl
-    (omega (arith, c.loop-place-test.true, c.len.ensures, c.args.layer.now.items.ok.0)) c.index-item.ensures OutOfBoard
+    (meets_drill c.args.layer.now.tools c.index-item.result.now
+    (sound_read c.args.layer.now.tools items items c.loop-place.place c.index-item.result.now c.requires.sound.items refl
+    (omega (arith, c.loop-place-test.true, c.len.ensures, c.args.layer.now.items.ok.0)) c.index-item.ensures)).inside
 
 pub bounds-requires-clause-diameter : goal.bounds-requires-clause-diameter
 bounds-requires-clause-diameter c =

@@ -1,6 +1,6 @@
 use Rattle.std.proofs.Common.{◌∷◌, sym, ap, subst, ◌∙◌, inl}
 use Rattle.std.specs.Prelude.{Ok, Err}
-use Rattle.cam_gerber.specs.declared.stop.Stop.TheVariants.{Fault}
+use Rattle.cam_refusals.specs.declared.stop.Stop.TheVariants.{Fault}
 use Rattle.cam_words.specs.Reading.{answer_of}
 use Rattle.cam_commands.specs.Syntax.{command_of}
 use Rattle.cam_commands.specs.Borrowed.{found, shown}
@@ -16,7 +16,7 @@ loop-answer-init c = starts c.args.bytes.now c.new-running.result c.new-words.re
 
 pub returns-in-Err-clause-reads : goal.returns-in-Err-clause-reads
 returns-in-Err-clause-reads c =
-    uncut c.args.bytes.now c.loop-answer.running c.loop-answer.words c.next.new.self c.in-Err.fault c.loop-answer.invariant
+    uncut c.args.bytes.now c.loop-answer.running c.loop-answer.words c.loop-answer.invariant c.next.new.self c.in-Err.fault
     (c.in-Some.ensures.some ∙ ap (λ answer. answer_of answer ∷ c.next.new.self) c.in-Err.is)
 
 pub obey-requires-clause-short : goal.obey-requires-clause-short
@@ -35,33 +35,32 @@ returns-in-Err-Fault-clause-reads c =
     c.obey.ensures)) in
     rw c.in-Err-Fault.code-is
     (subst (λ at. IsReading c.args.bytes.now (Err (record { code = c.in-Err-Fault.code; at = at }))) (sym c.place_of.ensures)
-    (refused c.args.bytes.now c.loop-answer.running c.obey.new.self c.loop-answer.words c.next.new.self
-    (found c.in-Ok.word) c.in-Err-Fault.code c.loop-answer.invariant
-    (c.in-Some.ensures.some ∙ ap (λ answer. answer_of answer ∷ c.next.new.self) c.in-Ok.is) told))
+    (refused c.args.bytes.now c.loop-answer.running c.loop-answer.words c.loop-answer.invariant c.obey.new.self c.next.new.self
+    (found c.in-Ok.word) (c.in-Some.ensures.some ∙ ap (λ answer. answer_of answer ∷ c.next.new.self) c.in-Ok.is)
+    c.in-Err-Fault.code told))
 
 pub returns-then-ends-clause-reads : goal.returns-then-ends-clause-reads
 returns-then-ends-clause-reads c = inl (
-    ended c.args.bytes.now c.loop-answer.running c.obey.new.self c.loop-answer.words c.next.new.self
-    (found c.in-Ok.word) c.into_layer.result c.loop-answer.invariant
-    (c.in-Some.ensures.some ∙ ap (λ answer. answer_of answer ∷ c.next.new.self) c.in-Ok.is)
+    ended c.args.bytes.now c.loop-answer.running c.loop-answer.words c.loop-answer.invariant c.obey.new.self c.next.new.self
+    (found c.in-Ok.word) (c.in-Some.ensures.some ∙ ap (λ answer. answer_of answer ∷ c.next.new.self) c.in-Ok.is)
     (subst (λ k. Obeys k c.loop-answer.running (Ok tt) c.obey.new.self) c.command_of-command.ensures c.in-Ok-obey.ensures)
+    c.into_layer.result
     (ap is_end_command (sym c.command_of-command.ensures) ∙ sym c.is_end-ends.ensures ∙ c.if-ends.true) c.into_layer.ensures
     )
 
 pub returns-then-ends-clause-sound : goal.returns-then-ends-clause-sound
 returns-then-ends-clause-sound c = reading_is_sound c.args.bytes.now c.into_layer.result (
-    ended c.args.bytes.now c.loop-answer.running c.obey.new.self c.loop-answer.words c.next.new.self
-    (found c.in-Ok.word) c.into_layer.result c.loop-answer.invariant
-    (c.in-Some.ensures.some ∙ ap (λ answer. answer_of answer ∷ c.next.new.self) c.in-Ok.is)
+    ended c.args.bytes.now c.loop-answer.running c.loop-answer.words c.loop-answer.invariant c.obey.new.self c.next.new.self
+    (found c.in-Ok.word) (c.in-Some.ensures.some ∙ ap (λ answer. answer_of answer ∷ c.next.new.self) c.in-Ok.is)
     (subst (λ k. Obeys k c.loop-answer.running (Ok tt) c.obey.new.self) c.command_of-command.ensures c.in-Ok-obey.ensures)
+    c.into_layer.result
     (ap is_end_command (sym c.command_of-command.ensures) ∙ sym c.is_end-ends.ensures ∙ c.if-ends.true) c.into_layer.ensures
     )
 
 pub loop-answer-preserved : goal.loop-answer-preserved
 loop-answer-preserved c =
-    goes_on c.args.bytes.now c.loop-answer.running c.obey.new.self c.loop-answer.words c.next.new.self
-    (found c.in-Ok.word) c.loop-answer.invariant
-    (c.in-Some.ensures.some ∙ ap (λ answer. answer_of answer ∷ c.next.new.self) c.in-Ok.is)
+    goes_on c.args.bytes.now c.loop-answer.running c.loop-answer.words c.loop-answer.invariant c.obey.new.self c.next.new.self
+    (found c.in-Ok.word) (c.in-Some.ensures.some ∙ ap (λ answer. answer_of answer ∷ c.next.new.self) c.in-Ok.is)
     (subst (λ k. Obeys k c.loop-answer.running (Ok tt) c.obey.new.self) c.command_of-command.ensures c.in-Ok-obey.ensures)
     (ap is_end_command (sym c.command_of-command.ensures) ∙ sym c.is_end-ends.ensures ∙ c.if-ends.false)
 

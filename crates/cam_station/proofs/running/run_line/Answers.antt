@@ -6,9 +6,9 @@ use Rattle.cam_station.proofs.running.run_line.Goals as goal
 
 pub returns-in-Err : goal.returns-in-Err
 returns-in-Err g c =
-    one.line_refused c.args.station.now c.args.line.now c.in-Err.fault c.refusal.result
+    one.line_refused c.args.station.now c.args.line.now c.in-Err.fault c.without_place.result
     (files_seen (g.F.Files.contents c.args.files.now) (g.F.Files.failed c.args.files.now))
-    (c.refusal.ensures ∙ ap fault c.number.ensures) c.in-Err.ensures
+    (c.without_place.ensures ∙ ap fault c.refusal.ensures) c.in-Err.ensures
 
 pub returns-in-Ok-None : goal.returns-in-Ok-None
 returns-in-Ok-None g c =

@@ -6,9 +6,9 @@ use Rattle.cam_station.proofs.serving.apply_line.Goals as goal
 
 pub returns-in-Err : goal.returns-in-Err
 returns-in-Err c =
-    served.line_refused (option_copied c.args.file) c.args.station.now c.args.line.now c.in-Err.fault c.refusal.result
+    served.line_refused (option_copied c.args.file) c.args.station.now c.args.line.now c.in-Err.fault c.without_place.result
     c.told.result.reply c.told.result.file
-    (c.refusal.ensures ∙ ap fault c.number.ensures) c.told.ensures.reply c.told.ensures.file c.in-Err.ensures
+    (c.without_place.ensures ∙ ap fault c.refusal.ensures) c.told.ensures.reply c.told.ensures.file c.in-Err.ensures
 
 pub returns-in-Ok-None : goal.returns-in-Ok-None
 returns-in-Ok-None c =

@@ -1,5 +1,5 @@
 use Rattle.std.proofs.Common.{◌∙◌, ap}
-use Rattle.cam_objects.specs.declared.item_fault.ItemFault.TheVariants.{OutOfBoard}
+use Rattle.cam_objects.proofs.SoundItems.{meets_drill}
 use Rattle.cam_xnc.specs.Reading.{reading_of}
 use Rattle.cam_writers.proofs.InForce.{item_sound, item_in_range, ended}
 use Rattle.cam_writers.proofs.ReadingBack.{reads_back}
@@ -14,8 +14,9 @@ write_item-requires-clause-tool c =
 
 pub write_item-requires-clause-points : goal.write_item-requires-clause-points
 write_item-requires-clause-points c =
-    item_sound c.args.layer.now c.deref-item-items.result.now c.loop-item.item-index c.item-item.result c.requires
-    c.deref-item-items.ensures.value c.loop-item-test.true c.item-item.is OutOfBoard
+    (meets_drill c.args.layer.now.tools _
+    (item_sound c.args.layer.now c.deref-item-items.result.now c.loop-item.item-index c.item-item.result c.requires
+    c.deref-item-items.ensures.value c.loop-item-test.true c.item-item.is)).inside
 
 pub returns-clause-text : goal.returns-clause-text
 returns-clause-text c =

@@ -1,4 +1,4 @@
-use Rattle.std.proofs.Common.{◌≡◌, ◌<◌, length, Some, sym, ap, subst, ◌∙◌, arith}
+use Rattle.std.proofs.Common.{◌≡◌, length, Some, sym, ap, subst, ◌∙◌, arith}
 use Rattle.std.specs.Prelude.{slice_get}
 use Rattle.cam_objects.specs.declared.drill_item.DrillItem.{DrillItem}
 use Rattle.cam_objects.specs.declared.drill_layer.DrillLayer.{DrillLayer}

@@ -2,7 +2,8 @@ use Rattle.std.proofs.Common.{◌≡◌, IfOk, None, subst, sym}
 use Rattle.cam_objects.specs.Contents.{content_of}
 use Rattle.cam_objects.specs.Soundness.{HasSoundItems}
 use Rattle.cam_objects.specs.declared.layer.Layer.{Layer}
-use Rattle.cam_edits.specs.Editing.{first_refusal, meets_step}
+use Rattle.cam_refusals.specs.Checks.{first}
+use Rattle.cam_edits.specs.Editing.{step_checks}
 use Rattle.cam_edits.specs.Touched.{touched}
 use Rattle.cam_edits.proofs.indexed.IndexedLayer.touched.Goals as goal
 
@@ -11,7 +12,7 @@ touched-requires-clause-sound c = subst HasSoundItems (sym c.layer.ensures) c.re
 
 pub touched-requires-clause-accepted : goal.touched-requires-clause-accepted
 touched-requires-clause-accepted c =
-    subst (λ (l : Layer). first_refusal (meets_step (content_of l) c.args.step.now) ≡ None) (sym c.layer.ensures)
+    subst (λ (l : Layer). first (step_checks (content_of l) c.args.step.now) ≡ None) (sym c.layer.ensures)
     c.requires.accepted
 
 pub returns : goal.returns

@@ -1,15 +1,16 @@
-use Rattle.std.proofs.Common.{◌≡◌, ◌∷◌, sym, ap, refl, ◌∙◌, None, Some}
+use Rattle.std.proofs.Common.{◌≡◌, ◌∷◌, sym, ap, refl, subst, ◌∙◌, None, Some}
+use Rattle.cam_refusals.specs.Checks.{IsLeast}
+use Rattle.cam_refusals.specs.Refusals.{number_of}
 use Rattle.cam_words.specs.Heads.{packed}
 use Rattle.cam_apertures.specs.Definition.{definition_of, faults_of}
 use Rattle.cam_commands.specs.Commands.{DefineAperture}
 use Rattle.cam_gerber.specs.Statements.{Says}
 use Rattle.cam_gerber.specs.Layers.{macros_in}
 use Rattle.cam_gerber.specs.State.{unit_in, unit_or_mm}
-use Rattle.cam_apertures.specs.Faults.{number_of}
-use Rattle.cam_gerber.specs.Faults.{least}
 use Rattle.cam_gerber.proofs.Defining.{meant, definition_faults, some_fault, new_number, defined_tracks}
 use Rattle.cam_gerber.proofs.Defining.{same_macros}
-use Rattle.cam_gerber.proofs.Defining.{defined_number_is, faultless_definition, faulty_definition}
+use Rattle.cam_gerber.proofs.Defining.{defined_number_is, faultless_definition}
+use Rattle.cam_gerber.proofs.Least.{least_of}
 use Rattle.cam_gerber.proofs.SoundEntries.{definition_may_add}
 use Rattle.cam_gerber.proofs.running.Running.define.Goals as goal
 
@@ -22,7 +23,7 @@ returns-in-Some c = λ past none t.
       refl,
       sym (definition_faults past c.args.text.now c.args.self.now.built.macros c.unwrap_or-unit.result
           (Some c.in-Ok.number) None c.lowest-in-Ok.result macros unit (sym (defined_number_is _ _ _ _ _ c.in-Ok.ensures.ok))
-          (λ table e. c.lowest-in-Ok.ensures past table same e) (sym (faultless_definition _ _ _ _ _ c.in-Ok.ensures.ok))) ∙ c.in-Some.is,
+          (λ checks e. c.lowest-in-Ok.ensures past checks same e) (sym (faultless_definition _ _ _ _ _ c.in-Ok.ensures.ok))) ∙ c.in-Some.is,
     )
 
 pub push-requires : goal.push-requires
@@ -48,7 +49,7 @@ returns-in_ok-push-in-Ok c = λ past none t.
       refl,
       sym (definition_faults past c.args.text.now c.args.self.now.built.macros c.unwrap_or-unit.result
           (Some c.in-Ok.number) None c.lowest-in-Ok.result macros unit (sym (defined_number_is _ _ _ _ _ c.in-Ok.ensures.ok))
-          (λ table e. c.lowest-in-Ok.ensures past table same e) (sym (faultless_definition _ _ _ _ _ c.in-Ok.ensures.ok)))
+          (λ checks e. c.lowest-in-Ok.ensures past checks same e) (sym (faultless_definition _ _ _ _ _ c.in-Ok.ensures.ok)))
           ∙ c.in_default-lowest.is,
       same_macros (Says (DefineAperture (packed c.args.text.now)) ∷ past) _ c.parse_ad.new.macros
           c.parse_ad.ensures.macros
@@ -62,15 +63,14 @@ returns-in_ok-number-in_default c = λ past none t.
     let macros : c.args.self.now.built.macros ≡ macros_in past = t.built.macros in
     let same = same_macros past c.args.self.now c.parse_ad.new.macros c.parse_ad.ensures.macros t in
     let unit : c.unwrap_or-unit.result ≡ unit_or_mm (unit_in past) = c.unwrap_or-unit.ensures ∙ ap unit_or_mm t.modal.unit in
-    let own : least (faults_of (definition_of c.args.text.now) c.args.self.now.built.macros c.unwrap_or-unit.result)
-    ≡ Some c.number-code.result =
-    faulty_definition c.args.text.now c.args.self.now.built.macros c.unwrap_or-unit.result (number_of c.in-Err.fault)
-    (meant c.in-Err.fault _ (λ e. c.in_default.not-OutOfMemory e) c.in-Err.ensures.fault) ∙ ap Some (sym c.number-code.ensures) in
+    let checks = faults_of (definition_of c.args.text.now) c.args.self.now.built.macros c.unwrap_or-unit.result in
+    let is : IsLeast number_of checks c.refusal-code.result =
+    subst (IsLeast number_of checks) (sym c.refusal-code.ensures)
+    (meant c.in-Err.fault _ (λ e. c.in_default.not-OutOfMemory e) c.in-Err.ensures.fault) in
+    let own = least_of checks c.refusal-code.result is in
     let told = definition_faults past c.args.text.now c.args.self.now.built.macros c.unwrap_or-unit.result
-    c.in_ok-number-in_default.number (Some c.number-code.result) c.lowest.result macros unit c.in_ok-number-in_default.ensures
-    (λ table e. c.lowest.ensures past table same e) (sym own) in
-    let some = some_fault past c.in_ok-number-in_default.number
-    (faults_of (definition_of c.args.text.now) c.args.self.now.built.macros c.unwrap_or-unit.result) c.lowest.result
-    c.number-code.result own
-    (c.lowest.ensures past (faults_of (definition_of c.args.text.now) c.args.self.now.built.macros c.unwrap_or-unit.result) same (sym own)) in
+    c.in_ok-number-in_default.number (Some c.refusal-code.result) c.lowest.result macros unit c.in_ok-number-in_default.ensures
+    (λ checks e. c.lowest.ensures past checks same e) (sym own) in
+    let some = some_fault past c.in_ok-number-in_default.number checks c.lowest.result c.refusal-code.result is
+    (c.lowest.ensures past checks same (sym own)) in
     (Says (DefineAperture (packed c.args.text.now)), refl, sym told ∙ some ∙ ap Some (sym c.unwrap_or.ensures))

@@ -1,7 +1,8 @@
 use Rattle.std.proofs.Common.{refl, sym, subst}
 use Rattle.std.specs.Prelude.{Ok, Err}
+use Rattle.cam_refusals.specs.declared.refusal.Refusal.TheVariants.{FormatRefused, UnknownCommand}
 use Rattle.cam_commands.specs.Commands as command
-use Rattle.cam_gerber.specs.declared.stop.Stop.TheVariants.{Fault}
+use Rattle.cam_refusals.specs.declared.stop.Stop.TheVariants.{Fault}
 use Rattle.cam_commands.specs.Borrowed.{shown}
 use Rattle.cam_gerber.specs.Machinery.Tracking.{Obeys}
 use Rattle.cam_gerber.proofs.Obedience.{idle, obeys}
@@ -98,13 +99,13 @@ returns-in-End c =
 
 pub returns-in-RefusedFormat : goal.returns-in-RefusedFormat
 returns-in-RefusedFormat c =
-    subst (λ k. Obeys (shown k) c.args.self.now (Err (Fault 8)) c.args.self.now) (sym c.in-RefusedFormat.is)
-    (obeys command.RefusedFormat c.args.self.now c.args.self.now (Err (Fault 8)) tt (λ past none t. refl))
+    subst (λ k. Obeys (shown k) c.args.self.now (Err (Fault FormatRefused)) c.args.self.now) (sym c.in-RefusedFormat.is)
+    (obeys command.RefusedFormat c.args.self.now c.args.self.now (Err (Fault FormatRefused)) tt (λ past none t. refl))
 
 pub returns-in-Unknown : goal.returns-in-Unknown
 returns-in-Unknown c =
-    subst (λ k. Obeys (shown k) c.args.self.now (Err (Fault 3)) c.args.self.now) (sym c.in-Unknown.is)
-    (obeys command.Unknown c.args.self.now c.args.self.now (Err (Fault 3)) tt (λ past none t. refl))
+    subst (λ k. Obeys (shown k) c.args.self.now (Err (Fault UnknownCommand)) c.args.self.now) (sym c.in-Unknown.is)
+    (obeys command.Unknown c.args.self.now c.args.self.now (Err (Fault UnknownCommand)) tt (λ past none t. refl))
 
 pub returns-in-KeepText : goal.returns-in-KeepText
 returns-in-KeepText c =

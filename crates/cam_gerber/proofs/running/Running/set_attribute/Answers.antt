@@ -1,4 +1,4 @@
-use Rattle.std.proofs.Common.{◌≡◌, ℕ, List, ◌∷◌, Bool, cond, Option, None, Some, length, ap, ap₂, sym, ◌∙◌}
+use Rattle.std.proofs.Common.{◌≡◌, ℕ, List, ◌∷◌, length, refl, ap, ap₂, sym, ◌∙◌}
 use Rattle.std.specs.Prelude.{nat_lt}
 use Rattle.cam_objects.specs.Attributes.{attribute_of, with_attribute}
 use Rattle.cam_commands.specs.declared.names.FreeText.TheVariants.{FileAttribute}
@@ -16,7 +16,7 @@ returns-then-is_full_for c = λ past none t.
     sym (names_counted past text old t.attributes)
     ∙ ap (λ (n : List ℕ). nat_lt 1000 (length (with_attribute (attribute_of n (fields_of text)) old))) (sym c.split.ensures.name)
     ∙ sym (c.is_full_for.ensures (fields_of text)) in
-    ap (λ (b : Bool). cond {A = Option ℕ} b (Some 25) None) (counted ∙ c.if-is_full_for.true)
+    rw (counted ∙ c.if-is_full_for.true) refl
 
 pub returns : goal.returns
 returns c = λ past none t.
@@ -26,7 +26,7 @@ returns c = λ past none t.
     sym (names_counted past text old t.attributes)
     ∙ ap (λ (n : List ℕ). nat_lt 1000 (length (with_attribute (attribute_of n (fields_of text)) old))) (sym c.split.ensures.name)
     ∙ sym (c.is_full_for.ensures (fields_of text)) in (
-      ap (λ (b : Bool). cond {A = Option ℕ} b (Some 25) None) (counted ∙ c.if-is_full_for.false),
+      rw (counted ∙ c.if-is_full_for.false) refl,
       set_tracks past text c.args.self.now c.set.new.self t
           (c.in_ok-set.ensures
           ∙ ap₂ (λ (n f : List ℕ). with_attribute (attribute_of n f) old) c.split.ensures.name c.split.ensures.fields),

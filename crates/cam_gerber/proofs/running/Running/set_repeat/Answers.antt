@@ -1,6 +1,19 @@
-use Rattle.std.proofs.Common.{sym, ◌∙◌}
-use Rattle.cam_gerber.proofs.Settling.{set_many}
+use Rattle.std.proofs.Common.{true, sym, ◌∙◌}
+use Rattle.cam_gerber.proofs.Contours.{refused_alike}
+use Rattle.cam_gerber.proofs.Settling.{opening_checks, set_many}
 use Rattle.cam_gerber.proofs.running.Running.set_repeat.Goals as goal
+
+pub returns-in-Err : goal.returns-in-Err
+returns-in-Err c = λ past none t.
+    refused_alike c.in-Err.stop _ _ _ _
+    (sym (opening_checks past c.args.self.now c.in-Some.unit c.args.repeat.now true t
+    (record {
+      formed = sym c.has_malformed.ensures ∙ c.if-has_malformed.false;
+      known = c.in-Some.is;
+      nested = sym c.is_nested.ensures ∙ c.if-is_nested.false;
+      outside = c.if-self.false;
+    }) (sym c.has_short_steps.ensures ∙ c.if-not-has_short_steps.false)))
+    (c.in-Err.ensures past none t)
 
 pub returns-then-is_repeated : goal.returns-then-is_repeated
 returns-then-is_repeated c = λ past none t.

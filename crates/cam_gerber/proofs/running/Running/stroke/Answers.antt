@@ -1,21 +1,22 @@
 use Rattle.std.proofs.Common.{◌∷◌, [], sym, ap, subst, ◌∙◌}
+use Rattle.cam_refusals.specs.declared.refusal.Refusal.TheVariants.{TooMuch}
 use Rattle.cam_shapes.specs.Contour.{end_of}
 use Rattle.cam_gerber.specs.Faults.{is_full, is_on_board}
 use Rattle.cam_gerber.specs.Homes.{home}
 use Rattle.cam_gerber.specs.Making.{stroke_of}
-use Rattle.cam_gerber.specs.Machinery.Tracking.{Keeps, IsOperated, path_table, mode_by, moved_point, centre_by}
-use Rattle.cam_gerber.proofs.Operated.{stroke_table, told_before, end_same, stroke_full, stroke_tracks, draws_along}
+use Rattle.cam_gerber.specs.Machinery.Tracking.{Keeps, IsOperated, path_faults_by, mode_by, moved_point, centre_by}
+use Rattle.cam_gerber.proofs.Operated.{stroke_checks, told_before, end_same, stroke_full, stroke_tracks, draws_along}
 use Rattle.cam_objects.specs.Leaves.{meaning_in}
 use Rattle.cam_gerber.proofs.running.Running.stroke.Goals as goal
 
 pub returns-in-Err : goal.returns-in-Err
 returns-in-Err c = λ past none t out plots.
-    stroke_table past c.args.self.now.modal c.args.self.now.built.layer.apertures c.in-Some.aperture c.args.operation.now t.modal
+    stroke_checks past c.args.self.now.modal c.args.self.now.built.layer.apertures c.in-Some.aperture c.args.operation.now t.modal
     t.built.entries c.in-Some.is (draws_along c.is_arc.result (mode_by c.args.self.now.modal c.args.operation.now)
     (meaning_in c.args.self.now.built.layer.apertures c.in-Some.aperture).tip c.can_draw.result c.if-not-can_draw.false c.can_draw.ensures
     c.is_arc.ensures)
-    ∙ told_before (path_table c.args.self.now.modal c.args.operation.now)
-    ((25, is_full (home past) past (stroke_of past c.args.operation.now)) ∷ []) _ c.in-Err.ensures.faults
+    ∙ told_before (path_faults_by c.args.self.now.modal c.args.operation.now)
+    ((TooMuch, is_full (home past) past (stroke_of past c.args.operation.now)) ∷ []) _ c.in-Err.ensures.faults
 
 pub returns-then-is_full : goal.returns-then-is_full
 returns-then-is_full c = λ past none t out plots.

@@ -3,7 +3,7 @@ use Rattle.std.specs.List.{All}
 use Rattle.cam_units.specs.Board.{IsOnBoard}
 use Rattle.cam_units.specs.declared.point.Point.{Point}
 use Rattle.cam_objects.specs.declared.drill_item.DrillItem.{DrillItem}
-use Rattle.cam_objects.specs.declared.item_fault.ItemFault.TheVariants.{OutOfBoard}
+use Rattle.cam_objects.proofs.SoundItems.{meets_drill}
 use Rattle.cam_objects.specs.Bounds.{bounds_of}
 use Rattle.cam_objects.specs.Drilling.{diameter_of, drill_item_leaves, leaves_with}
 use Rattle.cam_objects.specs.DrillSoundness.{drill_points_of}
@@ -13,7 +13,7 @@ use Rattle.cam_objects.proofs.SoundTools.{tool_size}
 use Rattle.cam_objects.proofs.drill.painting.paint_item.Goals as goal
 
 pub bounds-requires-clause-points : goal.bounds-requires-clause-points
-bounds-requires-clause-points g c = c.requires.item OutOfBoard
+bounds-requires-clause-points g c = (meets_drill c.args.tools.now c.args.item.now c.requires.item).inside
 
 pub bounds-requires-clause-diameter : goal.bounds-requires-clause-diameter
 bounds-requires-clause-diameter g c =
@@ -31,7 +31,7 @@ returns-then-misses g c =
 
 pub paint_hole-requires : goal.paint_hole-requires
 paint_hole-requires g c = record {
-  centre = subst (λ (item : DrillItem). All IsOnBoard (drill_points_of item)) c.in-Hit.is (c.requires.item OutOfBoard)
+  centre = subst (λ (item : DrillItem). All IsOnBoard (drill_points_of item)) c.in-Hit.is (meets_drill c.args.tools.now c.args.item.now c.requires.item).inside
       0 c.in-Hit.at (omega arith);
   diameter = tool_size c.args.tools.now c.tool.result c.in-Some.diameter c.requires.tools (sym c.in-Some.ensures);
 }
@@ -39,7 +39,7 @@ paint_hole-requires g c = record {
 pub paint_rout-requires-clause-points : goal.paint_rout-requires-clause-points
 paint_rout-requires-clause-points g c =
     subst (λ (ps : List Point). All IsOnBoard ps) (sym c.as_slice.ensures)
-    (subst (λ (item : DrillItem). All IsOnBoard (drill_points_of item)) c.in-Rout.is (c.requires.item OutOfBoard))
+    (subst (λ (item : DrillItem). All IsOnBoard (drill_points_of item)) c.in-Rout.is (meets_drill c.args.tools.now c.args.item.now c.requires.item).inside)
 
 pub paint_rout-requires-clause-diameter : goal.paint_rout-requires-clause-diameter
 paint_rout-requires-clause-diameter g c =

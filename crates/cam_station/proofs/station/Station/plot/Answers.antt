@@ -5,7 +5,7 @@ use Rattle.cam_tiles.specs.Tables.{dirty_count, pbm_of}
 use Rattle.cam_station.specs.declared.reply.Reply.TheVariants.{Bytes}
 use Rattle.cam_station.specs.TileTables.{drawn}
 use Rattle.cam_station.specs.Machine.{Granted, RefusedToStation, plot_step, refused}
-use Rattle.cam_station.specs.Refusals.{memory_refused}
+use Rattle.cam_refusals.specs.declared.refusal.Refusal.TheVariants.{NoMemory}
 use Rattle.cam_station.proofs.StationMoves.{seen}
 use Rattle.cam_station.proofs.StationTiles.{layer_drawn, plot_made, plot_refused, station_drawn, table_there}
 use Rattle.cam_station.proofs.station.Station.plot.Goals as goal
@@ -51,9 +51,9 @@ returns c =
           ∙ ap (λ tables. (seen i.window i.history sheets tables, Ok (Bytes w.from_vec.result w.from.result))) (sym tables)))
           )
       | in-Err w ↦ (
-          rw (w.result-is, w.refusal-in-Err.ensures)
+          rw (w.result-is, w.without_place-in-Err.ensures)
           (ap (λ s. plot_step s name RefusedToStation) (sym c.self.view_is)
           ∙ (plot_refused s name place (sym c.in-Some.ensures.value) (search rules)
-          ∙ ap (λ tables. (seen i.window i.history sheets tables, refused memory_refused)) (sym tables)))
+          ∙ ap (λ tables. (seen i.window i.history sheets tables, refused NoMemory)) (sym tables)))
           )
     ]

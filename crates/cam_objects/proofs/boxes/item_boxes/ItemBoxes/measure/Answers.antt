@@ -1,12 +1,12 @@
 use Rattle.std.proofs.Common.{◌≡◌, ℕ, ◌+◌, ◌<◌, length, get_or, refl, ap, sym, subst, ◌∙◌, arith}
 use Rattle.cam_objects.specs.declared.item.Item.{Item}
 use Rattle.cam_objects.specs.declared.item.Item.TheVariants.{One}
-use Rattle.cam_objects.specs.declared.item_fault.ItemFault.TheVariants.{OutOfBoard}
 use Rattle.cam_objects.specs.declared.layer.Layer.{Layer}
 use Rattle.cam_objects.specs.declared.object.Object.{Object}
 use Rattle.cam_objects.specs.Machinery.Painting.{StandsOnBoard}
 use Rattle.cam_objects.specs.Soundness.{HasSoundItems, IsInside, IsSoundItem}
 use Rattle.cam_objects.proofs.KeptBoxes.{measured}
+use Rattle.cam_objects.proofs.SoundItems.{meets}
 use Rattle.cam_objects.proofs.boxes.item_boxes.ItemBoxes.measure.Goals as goal
 
 -- the points of an object that is listed lie on the board
@@ -16,7 +16,7 @@ stands layer shown place x o sound is within here one =
     let es = layer.apertures in
     let listed = sound.items place x (subst (λ (l : Layer). place < length l.items.items) (sym is) within) in
     let item : IsSoundItem es (One o) = subst (IsSoundItem es) (sym here ∙ one) listed in
-    let inside : IsInside es (One o) = item OutOfBoard in
+    let inside : IsInside es (One o) = (meets es (One o) item).inside in
     inside.points 0 o (omega arith)
 
 pub flash-reach-requires-clause-at : goal.flash-reach-requires-clause-at

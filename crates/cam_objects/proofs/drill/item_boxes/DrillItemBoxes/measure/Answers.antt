@@ -1,7 +1,7 @@
 use Rattle.std.proofs.Common.{◌<◌, length, refl, sym, subst, ◌∙◌, arith}
 use Rattle.cam_objects.specs.declared.drill_item.DrillItem.TheVariants.{Hit}
 use Rattle.cam_objects.specs.declared.drill_layer.DrillLayer.{DrillLayer}
-use Rattle.cam_objects.specs.declared.item_fault.ItemFault.TheVariants.{OutOfBoard}
+use Rattle.cam_objects.proofs.SoundItems.{meets_drill}
 use Rattle.cam_objects.specs.DrillSoundness.{IsSoundDrillItem}
 use Rattle.cam_objects.proofs.KeptBoxes.{drill_measured}
 use Rattle.cam_objects.proofs.drill.item_boxes.DrillItemBoxes.measure.Goals as goal
@@ -15,7 +15,7 @@ hit-reach-requires-clause-at c =
     let sound : IsSoundDrillItem layer.tools (Hit c.in-Hit.tool at) =
     subst (IsSoundDrillItem layer.tools) (sym c.index.ensures ∙ c.in-Hit.is)
     (c.self.invariant.0.items c.args.place c.index.result.now within) in
-    (sound OutOfBoard) 0 at (omega arith)
+    (meets_drill layer.tools (Hit c.in-Hit.tool at) sound).inside 0 at (omega arith)
 
 pub returns-in-Hit-clause-value : goal.returns-in-Hit-clause-value
 returns-in-Hit-clause-value c = λ item at.

@@ -5,7 +5,7 @@ use Rattle.cam_units.specs.Board.{IsSize}
 use Rattle.cam_units.specs.declared.length.Nm.{Nm}
 use Rattle.cam_objects.specs.declared.drill_item.DrillItem.{DrillItem}
 use Rattle.cam_objects.specs.declared.drill_layer.DrillLayer.{DrillLayer}
-use Rattle.cam_objects.specs.declared.item_fault.ItemFault.TheVariants.{OutOfBoard}
+use Rattle.cam_objects.proofs.SoundItems.{meets_drill}
 use Rattle.cam_objects.specs.Bounds.{bounds_of}
 use Rattle.cam_objects.specs.Drilling.{diameter_of, drill_item_leaves, leaves_with}
 use Rattle.cam_objects.specs.DrillSoundness.{IsSoundDrillItem}
@@ -20,7 +20,7 @@ bounds_with-requires-clause-points c =
     let sound : IsSoundDrillItem layer.tools c.index-item.result.now =
     subst (IsSoundDrillItem layer.tools) (sym c.index-item.ensures)
     (c.self.invariant.0.items c.args.place c.index-item.result.now within) in
-    sound OutOfBoard
+    (meets_drill layer.tools c.index-item.result.now sound).inside
 
 pub bounds_with-requires-clause-diameter : goal.bounds_with-requires-clause-diameter
 bounds_with-requires-clause-diameter c =

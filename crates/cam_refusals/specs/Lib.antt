@@ -1,0 +1,4 @@
+pub mod Checks
+pub mod FileFaults
+pub mod Limits
+pub mod Refusals
