@@ -73,7 +73,10 @@ impl Canvas for Pixel {
     }
 
     fn paint(&mut self, print: Print<'_>) {
-        if !self.is_decided() && is_covered(&print.figure, self.spot) {
+        if self.is_decided() {
+            return;
+        }
+        if is_covered(&print.figure, self.spot) {
             self.ink = Some(print.dark);
         }
     }

@@ -124,7 +124,10 @@ fn paint_repeat<C: Canvas>(
     let first = block_bounds(entries, objects);
     let whole = canvas.bounds();
     let rows = copies.rows_over(first, whole);
-    if rows.is_empty() || is_done_in(canvas, copies.bounds(first)) {
+    if rows.is_empty() {
+        return;
+    }
+    if is_done_in(canvas, copies.bounds(first)) {
         return;
     }
     let columns = copies.columns_over(first, whole);
