@@ -1,9 +1,10 @@
 -- the last leaf that covers a place, in lists that are joined
-use Rattle.std.proofs.Common.{◌≡◌, ◌↔◌, Bool, true, false, cond, inl, inr, List, [], ◌∷◌, ◌++◌, Option, None, Some, IsSome, refl, ap, sym, subst, ◌∙◌}
+use Rattle.std.proofs.Common.{◌≡◌, ◌↔◌, Bool, true, false, cond, IsTrue, inl, inr, List, [], ◌∷◌, ◌++◌, Option, None, Some, IsSome, refl, ap, sym, subst, ◌∙◌}
 use Rattle.std.specs.Option.{option_or, unwrap_or}
 use Rattle.std.proofs.lemmas.Bool.{false_from_ne_true, false≢true, true≢false}
 use Rattle.std.proofs.lemmas.List.Elements.{All-cons, All-head, All-nil, All-tail}
 use Rattle.cam_units.specs.declared.point.Spot.{Spot}
+use Rattle.cam_objects.specs.Canvases.{Paints}
 use Rattle.cam_objects.specs.Image.{Covers, IsUncovered}
 use Rattle.cam_objects.specs.Leaves.{Leaf}
 use Rattle.cam_objects.specs.Tests.{LastInkLaw, covers, is_black, last_ink, painted}
@@ -93,3 +94,20 @@ painted_last ink (l ∷ ls) s =
 pub last_law : LastInkLaw
 unfolding is_black
 last_law ls s = painted_last false ls s
+
+-- ---- a pixel alone
+
+abbrev IsPainted : (Spot × Option Bool) → List Leaf → (Spot × Option Bool) → Type 0
+IsPainted old ls new = Paints {V = Spot × Option Bool} (λ _ _ _. Unit {0}) (λ p _ _. p.0) (λ p _ _. p.1) old ls new
+
+-- it has the ink of the last leaf that covers it
+pub inked : (ls : List Leaf) (old new : Spot × Option Bool) (s : Spot) → old ≡ (s, None) → IsPainted old ls new → new.1 ≡ last_ink ls s
+inked ls old new s is paints =
+    paints.inks 0 0 tt ∙ ap (λ (p : Spot × Option Bool). option_or p.1 (last_ink ls p.0)) is
+
+-- and is decided exactly where there is one
+pub told_covered : (ls : List Leaf) (old new : Spot × Option Bool) (s : Spot) (told : Bool) → old ≡ (s, None) → IsPainted old ls new
+    → (IsTrue told ↔ IsSome new.1) → IsTrue told ↔ IsCoveredBy ls s
+told_covered ls old new s told is paints tells =
+    let covered = subst (λ o. IsSome o ↔ IsCoveredBy ls s) (sym (inked ls old new s is paints)) (some_covers ls s) in
+    (λ on. covered.0 (tells.0 on), λ any. tells.1 (covered.1 any))

@@ -10,6 +10,7 @@ use Rattle.std.proofs.Common.{
   ◌<◌,
   ◌≤◌,
   Bool,
+  true,
   Option,
   ℤ,
   List,
@@ -34,7 +35,7 @@ use Rattle.cam_units.specs.declared.point.Point.{Point}
 use Rattle.cam_units.specs.declared.point.Spot.{Spot}
 use Rattle.cam_objects.specs.Canvases.{Paints}
 use Rattle.cam_objects.specs.declared.object.Object.{Object}
-use Rattle.cam_objects.specs.Drilling.{slots_from}
+use Rattle.cam_objects.specs.Drilling.{rout_leaves, slots_from}
 use Rattle.cam_objects.specs.Leaves.{Leaf, Meaning, Stroke, leaf, repeat_leaves}
 use Rattle.cam_objects.specs.Machinery.Slots.{slots_of}
 use Rattle.cam_objects.proofs.Canvases.{paints_beneath, paints_next, paints_nothing}
@@ -53,6 +54,12 @@ slots_before d ps i j x one h =
     ap (slots_of d) (drop_more ps i x (omega arith) ∙ (λ k. get_or ps i x ∷ drop (one k) ps))
     ∙ ap (slots_from d (get_or ps i x)) behind
     ∙ ap (λ qs. slot d (get_or ps i x) (get_or ps j x) ∷ slots_of d qs) (sym behind)
+
+-- a rout of more points, or of none, is slots
+rout_of_slots : (d : Nm) (ps : List Point) → (length ps ≡ 1 → ⊥) → slots_of d ps ≡ rout_leaves d ps
+rout_of_slots d [] many = refl
+rout_of_slots d (p ∷ []) many = absurd (many (omega arith))
+rout_of_slots d (p ∷ q ∷ ps) many = refl
 
 -- behind the last point but one there is none
 few_slots : (d : Nm) (ps : List Point) → length ps ≤ 1 → slots_of d ps ≡ []
@@ -91,6 +98,12 @@ module _ {V : Type 0} (has : V → ℕ → ℕ → Type 0) (place : V → ℕ �
   paints_slot u v w d ps i j x one h later here =
       subst (λ ls. Paints has place ink u ls w) (sym (slots_before d ps i j x one h))
       (paints_beneath has place ink u v w (slot d (get_or ps i x) (get_or ps j x) ∷ []) (slots_of d (drop j ps)) later here)
+
+  -- all of them, of more points than one
+  pub paints_rout : (u v : V) (d : Nm) (ps : List Point) (i : ℕ) → i ≡ 0 → (length ps ≡ 1 → ⊥)
+      → Paints has place ink u (slots_of d (drop i ps)) v → Paints has place ink u (rout_leaves d ps) v
+  paints_rout u v d ps i first many slots =
+      subst (λ ls. Paints has place ink u ls v) (ap (λ k. slots_of d (drop k ps)) first ∙ rout_of_slots d ps many) slots
 
   -- the copy at i, beneath those behind it
   pub paints_copy : (u v w : V) (f : ℕ → List Leaf) (n i j : ℕ) → i + 1 ≡ j → j ≤ n

@@ -85,7 +85,7 @@ module _ {V : Type 0} (has : V → ℕ → ℕ → Type 0) (place : V → ℕ �
       let behind = flat_map f (drop k (range_with_len 0 n)) in
       let unseen : IsUnseen has place u (flat_map f front) =
       subst (λ ks. IsUnseen has place u (flat_map f ks)) (sym (take-range k n 0 few))
-      (pieces_unseen has place u f 0 k (λ i from below. off i below)) in
+      (pieces_unseen has place u f 0 k (λ i from below. off i (omega (arith, below)))) in
       subst (λ ls. Paints has place ink u ls v) (sym (flat_split f (range_with_len 0 n) k))
       (paints_beneath has place ink u v v (flat_map f front) behind later
       (paints_off has place ink v (flat_map f front) (still_unseen u v behind (flat_map f front) later unseen)))

@@ -1,6 +1,6 @@
 use Rattle.std.proofs.Common.{◌-◌, arith}
 use Rattle.cam_objects.proofs.Canvases.{sound_print}
-use Rattle.cam_objects.proofs.PaintedLists.{paints_no_slot, paints_slot}
+use Rattle.cam_objects.proofs.PaintedLists.{paints_no_slot, paints_rout, paints_slot}
 use Rattle.cam_objects.proofs.drill.painting.paint_rout.Goals as goal
 
 pub loop-k-init : goal.loop-k-init
@@ -24,4 +24,7 @@ loop-k-preserved g c =
     (c.loop-k.k - 1 - 1) (c.loop-k.k - 1) _ (omega arith) (omega arith) c.loop-k.invariant c.paint_leaf.ensures
 
 pub returns : goal.returns
-returns g c = ?
+returns g c =
+    let canvas = g.C.Canvas in
+    paints_rout canvas.has canvas.place canvas.ink c.args.canvas.now c.loop-k.canvas c.args.diameter c.args.points.now (c.loop-k.k - 1)
+    (omega arith) c.if-points-eq1.false c.loop-k.invariant

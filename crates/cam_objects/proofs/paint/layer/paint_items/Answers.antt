@@ -10,9 +10,6 @@ loop-k-init g c =
     let canvas = g.C.Canvas in
     paints_last canvas.has canvas.place canvas.ink (item_leaves (meaning_in c.args.entries.now)) c.args.items.now c.args.canvas.now
 
-pub paint_item-requires-clause-item : goal.paint_item-requires-clause-item
-paint_item-requires-clause-item g c = ?
-
 pub paint_item-requires-clause-ready : goal.paint_item-requires-clause-ready
 paint_item-requires-clause-ready g c =
     ready_piece c.args.entries.now (item_leaves (meaning_in c.args.entries.now)) c.args.items.now
