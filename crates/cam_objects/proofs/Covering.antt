@@ -22,7 +22,7 @@ pub uncovered_from_bare : (ls : List Leaf) (s : Spot) → (IsCoveredBy ls s → 
 uncovered_from_bare ls s bare =
     λ k d below on. bare (k, get_or ls k d, below, get_or_default ls k (get_or ls k d) d below, on)
 
-covered_later : (s : Spot) (l : Leaf) (ls : List Leaf) → IsCoveredBy ls s → IsCoveredBy (l ∷ ls) s
+pub covered_later : (s : Spot) (l : Leaf) (ls : List Leaf) → IsCoveredBy ls s → IsCoveredBy (l ∷ ls) s
 covered_later s l ls any = (suc any.0, any.1, omega (arith, any.2), any.3, any.4)
 
 one_at : (l x : Leaf) (k : ℕ) (s : Spot) → k < 1 → get_or (l ∷ []) k x ≡ x → Covers x.shape s → Covers l.shape s
@@ -31,17 +31,6 @@ one_at l x (suc k) s within is on = absurd (omega arith)
 
 pub one_covers : (l : Leaf) (s : Spot) → IsCoveredBy (l ∷ []) s → Covers l.shape s
 one_covers l s any = one_at l any.1 any.0 s any.2 any.3 any.4
-
--- some leaf covers the place, or none does
-pub covered_or : (ls : List Leaf) (s : Spot) → IsCoveredBy ls s ⊎ IsUncovered ls s
-covered_or [] s = inr (All-nil (IsOff s))
-covered_or (l ∷ ls) s = elim (cases_Bool (covers l.shape s)) [
-  | inl on ↦ inl (0, l, omega arith, refl, (cover_law l.shape s).0 on)
-  | inr off ↦ elim (covered_or ls s) [
-    | inl any ↦ inl (covered_later s l ls any)
-    | inr rest ↦ inr (All-cons (IsOff s) l ls (λ on. true≢false (sym ((cover_law l.shape s).1 on) ∙ off)) rest)
-  ]
-]
 
 -- what holds of what each element paints holds of the list at its place
 pub at_place : {X : Type 0} (f : X → List Leaf) (xs : List X) (k : ℕ) (P : List Leaf → Type 0) → k < length xs

@@ -44,15 +44,6 @@ painted_before s a b dark h off = record {
   polarity = h.polarity;
 }
 
--- ---- one element after another
-
-pub front_more : {X : Type 0} (f : X → List Leaf) (xs : List X) (i : ℕ) (x : X) → i < length xs → x ≡ get_or xs i x
-    → flat_map f (take (i + 1) xs) ≡ flat_map f (take i xs) ++ f x
-front_more f xs i x h e =
-    ap (λ ys. flat_map f ys) (take_more xs i x h)
-    ∙ flat_map-append f (take i xs) (get_or xs i x ∷ [])
-    ∙ ap (λ ys. flat_map f (take i xs) ++ ys) (append-nil (f (get_or xs i x)) ∙ ap f (sym e))
-
 clash : (s : Spot) (l : Leaf) (b a : List Leaf) → Covers l.shape s → IsUncovered (b ++ l ∷ a) s → ⊥
 clash s l [] a on off = All-head (IsOff s) l a off on
 clash s l (x ∷ b) a on off = clash s l b a on (All-tail (IsOff s) x (b ++ l ∷ a) off)

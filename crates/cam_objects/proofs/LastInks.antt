@@ -1,7 +1,7 @@
 -- the last leaf that covers a place, in lists that are joined
-use Rattle.std.proofs.Common.{◌≡◌, ◌↔◌, Bool, true, false, cond, IsTrue, inl, inr, List, [], ◌∷◌, ◌++◌, Option, None, Some, IsSome, refl, ap, sym, subst, ◌∙◌}
+use Rattle.std.proofs.Common.{◌≡◌, ◌↔◌, ◌<◌, Bool, true, false, cond, IsTrue, ◌⊎◌, inl, inr, List, [], ◌∷◌, ◌++◌, Option, None, Some, IsSome, is_some, refl, ap, sym, subst, ◌∙◌, arith}
 use Rattle.std.specs.Option.{option_or, unwrap_or}
-use Rattle.std.proofs.lemmas.Bool.{false_from_ne_true, false≢true, true≢false}
+use Rattle.std.proofs.lemmas.Bool.{cases_Bool, false_from_ne_true, false≢true, true≢false}
 use Rattle.std.proofs.lemmas.List.Elements.{All-cons, All-head, All-nil, All-tail}
 use Rattle.cam_units.specs.declared.point.Spot.{Spot}
 use Rattle.cam_objects.specs.Canvases.{Paints}
@@ -9,7 +9,7 @@ use Rattle.cam_objects.specs.Image.{Covers, IsUncovered}
 use Rattle.cam_objects.specs.Leaves.{Leaf}
 use Rattle.cam_objects.specs.Tests.{LastInkLaw, covers, is_black, last_ink, painted}
 use Rattle.cam_objects.specs.Topmost.{IsCoveredBy}
-use Rattle.cam_objects.proofs.Covering.{bare_from_uncovered, covered_or}
+use Rattle.cam_objects.proofs.Covering.{bare_from_uncovered, covered_later}
 use Rattle.cam_objects.proofs.TestLaws.{cover_law}
 
 -- ---- inks of which the first one counts
@@ -48,35 +48,40 @@ none_from_uncovered (l ∷ ls) s off =
     ap (λ o. option_or o (ink_of l s)) (none_from_uncovered ls s (All-tail (IsOff s) l ls off))
     ∙ ap (λ b. cond b (Some l.dark) None) here
 
+pub or_uncovered : (o : Option Bool) (ls : List Leaf) (s : Spot) → IsUncovered ls s → option_or o (last_ink ls s) ≡ o
+or_uncovered o ls s off = ap (option_or o) (none_from_uncovered ls s off) ∙ or_none o
+
 some_later : (a b : Option Bool) → IsSome a → IsSome (option_or a b)
 some_later None b some = absurd (false≢true some)
 some_later (Some dark) b some = refl
 
-some_here : (a : Option Bool) (dark : Bool) → IsSome (option_or a (Some dark))
-some_here None dark = refl
-some_here (Some d) dark = refl
+some_here : (a : Option Bool) (on dark : Bool) → on ≡ true → IsSome (option_or a (cond on (Some dark) None))
+some_here None on dark here = ap (λ b. is_some (cond b (Some dark) None)) here
+some_here (Some d) on dark here = refl
 
-uncovered_from_none : (ls : List Leaf) (s : Spot) → (IsSome (last_ink ls s) → ⊥) → IsUncovered ls s
-uncovered_from_none [] s none = All-nil (IsOff s)
-uncovered_from_none (l ∷ ls) s none =
-    All-cons (IsOff s) l ls
-    (λ on. none (subst (λ b. IsSome (option_or (last_ink ls s) (cond b (Some l.dark) None))) (sym ((cover_law l.shape s).1 on))
-    (some_here (last_ink ls s) l.dark)))
-    (uncovered_from_none ls s (λ some. none (some_later (last_ink ls s) (ink_of l s) some)))
+-- there is one, or no leaf covers the place
+pub last_or : (ls : List Leaf) (s : Spot) → (IsSome (last_ink ls s) × IsCoveredBy ls s) ⊎ IsUncovered ls s
+last_or [] s = inr (All-nil (IsOff s))
+last_or (l ∷ ls) s = elim (last_or ls s) [
+  | inl later ↦ inl (some_later (last_ink ls s) (ink_of l s) later.0, covered_later s l ls later.1)
+  | inr rest ↦ elim (cases_Bool (covers l.shape s)) [
+    | inl on ↦ inl (
+      some_here (last_ink ls s) (covers l.shape s) l.dark on,
+      (0, l, omega arith, refl, (cover_law l.shape s).0 on),
+    )
+    | inr off ↦ inr (All-cons (IsOff s) l ls (λ on. true≢false (sym ((cover_law l.shape s).1 on) ∙ off)) rest)
+  ]
+]
 
-some_or : (o : Option Bool) → ((IsSome o → ⊥) → ⊥) → IsSome o
-some_or None h = absurd (h (λ some. false≢true some))
-some_or (Some dark) h = refl
-
--- there is one exactly where some leaf covers the place
+-- exactly where some leaf covers it
 pub some_covers : (ls : List Leaf) (s : Spot) → IsSome (last_ink ls s) ↔ IsCoveredBy ls s
-some_covers ls s = (
-  (λ some. elim (covered_or ls s) [
-    | inl any ↦ any
-    | inr off ↦ absurd (false≢true (subst (λ o. IsSome o) (none_from_uncovered ls s off) some))
-  ]),
-  (λ any. some_or (last_ink ls s) (λ none. bare_from_uncovered ls s (uncovered_from_none ls s none) any)),
-)
+some_covers ls s = elim (last_or ls s) [
+  | inl both ↦ (λ some. both.1, λ any. both.0)
+  | inr off ↦ (
+    (λ some. absurd (false≢true (subst (λ o. IsSome o) (none_from_uncovered ls s off) some))),
+    (λ any. absurd (bare_from_uncovered ls s off any)),
+  )
+]
 
 -- ---- painting in order
 

@@ -14,9 +14,10 @@ use Rattle.cam_objects.specs.Drilling.{drill_item_leaves}
 use Rattle.cam_objects.specs.Image.{Covers, IsBlack, IsPainted, IsUncovered}
 use Rattle.cam_objects.specs.Leaves.{Leaf, item_leaves, meaning_in}
 use Rattle.cam_objects.specs.Topmost.{IsBlackByTopmost, IsCoveredBy, IsTopmost, TopmostLaw, leaves_at}
-use Rattle.cam_objects.proofs.Covering.{bare_from_uncovered, covered_or, uncovered_from_bare}
+use Rattle.cam_objects.proofs.Covering.{bare_from_uncovered, uncovered_from_bare}
 use Rattle.cam_objects.proofs.CoveredBoxes.{outside_box}
 use Rattle.cam_objects.proofs.Inking.{painted_after, painted_before, painted_covered, uncovered_append, uncovered_nil}
+use Rattle.cam_objects.proofs.LastInks.{last_or}
 use Rattle.cam_objects.proofs.Painting.{All_left, All_right}
 use Rattle.cam_objects.proofs.Redraws.{split}
 
@@ -93,8 +94,8 @@ module _ {X : Type 0} (paints : X → List Leaf) where
       (k : ℕ) × (IsTopmost lists s (length lists) k × IsPainted (leaves_at lists k) s true)
 
   covered_by_last : (ls : List Leaf) (s : Spot) → IsPainted ls s true → IsCoveredBy ls s
-  covered_by_last ls s h = elim (covered_or ls s) [
-    | inl any ↦ any
+  covered_by_last ls s h = elim (last_or ls s) [
+    | inl both ↦ both.1
     | inr off ↦ absurd (painted_covered s ls true h off)
   ]
 
