@@ -1,16 +1,11 @@
 -- leaves that cover a place
-use Rattle.std.proofs.Common.{◌≡◌, ◌↔◌, ℕ, zero, suc, ◌<◌, Bool, true, false, cond, IsTrue, nat_eq, ◌⊎◌, inl, inr, List, [], ◌∷◌, length, map, get_or, Some, refl, ap, sym, subst, ◌∙◌, arith}
+use Rattle.std.proofs.Common.{◌≡◌, ℕ, zero, suc, ◌<◌, List, [], ◌∷◌, length, map, get_or, Some, refl, sym, subst, arith}
 use Rattle.std.specs.Prelude.{slice_get}
-use Rattle.std.proofs.lemmas.Bool.{cases_Bool, false≢true, true≢false}
 use Rattle.std.proofs.lemmas.List.{get_or_default}
-use Rattle.std.proofs.lemmas.List.Elements.{All-cons, All-nil}
 use Rattle.cam_units.specs.declared.point.Spot.{Spot}
-use Rattle.cam_objects.specs.Canvases.{Paints}
 use Rattle.cam_objects.specs.Image.{Covers, IsUncovered}
 use Rattle.cam_objects.specs.Leaves.{Leaf}
-use Rattle.cam_objects.specs.Tests.{covers, painted}
 use Rattle.cam_objects.specs.Topmost.{IsCoveredBy}
-use Rattle.cam_objects.proofs.TestLaws.{cover_law, painted_off}
 
 abbrev IsOff : Spot → Leaf → Type 0
 IsOff s l = Covers l.shape s → ⊥
