@@ -102,16 +102,16 @@ last_law ls s = painted_last false ls s
 
 -- ---- a pixel alone
 
-abbrev IsPainted : (Spot × Option Bool) → List Leaf → (Spot × Option Bool) → Type 0
-IsPainted old ls new = Paints {V = Spot × Option Bool} (λ _ _ _. Unit {0}) (λ p _ _. p.0) (λ p _ _. p.1) old ls new
+abbrev PaintsPixel : (Spot × Option Bool) → List Leaf → (Spot × Option Bool) → Type 0
+PaintsPixel old ls new = Paints {V = Spot × Option Bool} (λ _ _ _. Unit {0}) (λ p _ _. p.0) (λ p _ _. p.1) old ls new
 
 -- it has the ink of the last leaf that covers it
-pub inked : (ls : List Leaf) (old new : Spot × Option Bool) (s : Spot) → old ≡ (s, None) → IsPainted old ls new → new.1 ≡ last_ink ls s
+pub inked : (ls : List Leaf) (old new : Spot × Option Bool) (s : Spot) → old ≡ (s, None) → PaintsPixel old ls new → new.1 ≡ last_ink ls s
 inked ls old new s is paints =
     paints.inks 0 0 tt ∙ ap (λ (p : Spot × Option Bool). option_or p.1 (last_ink ls p.0)) is
 
 -- and is decided exactly where there is one
-pub told_covered : (ls : List Leaf) (old new : Spot × Option Bool) (s : Spot) (told : Bool) → old ≡ (s, None) → IsPainted old ls new
+pub told_covered : (ls : List Leaf) (old new : Spot × Option Bool) (s : Spot) (told : Bool) → old ≡ (s, None) → PaintsPixel old ls new
     → (IsTrue told ↔ IsSome new.1) → IsTrue told ↔ IsCoveredBy ls s
 told_covered ls old new s told is paints tells =
     let covered = subst (λ o. IsSome o ↔ IsCoveredBy ls s) (sym (inked ls old new s is paints)) (some_covers ls s) in

@@ -97,7 +97,7 @@ paint_parts-loop-k-init g t c =
     let means = meaning_before c.args.upto c.args.entries.now in
     subst (λ (os : List Object). Paints canvas.has canvas.place canvas.ink c.args.canvas.now (block_leaves means c.args.place.now os)
     c.paint_block.new.canvas)
-    c.behind_parts-behind.ensures c.paint_block.ensures
+    {y = drop (length c.args.boxes.now * c.args.size) c.args.objects.now} c.behind_parts-behind.ensures c.paint_block.ensures
 
 pub paint_parts-paint_part-requires : goal.paint_parts-paint_part-requires
 paint_parts-paint_part-requires g t c κs within =
