@@ -15,7 +15,7 @@ use Rattle.cam_objects.specs.Tests.{last_ink}
 use Rattle.cam_objects.specs.Topmost.{IsCoveredBy}
 use Rattle.cam_objects.proofs.CoveredBoxes.{covered_box, inside_box}
 use Rattle.cam_objects.proofs.Covering.{one_covers}
-use Rattle.cam_objects.proofs.LastInks.{last_ink-append, last_or, or_again, or_decided, or_none, or_uncovered}
+use Rattle.cam_objects.proofs.LastInks.{covered_by, decided_or, last_ink-append, or_again, or_decided, or_none, or_uncovered}
 
 -- a print whose box is that of its shape
 pub sound_print : (p : Print) → IsSoundFigure p.figure → p.bounds ≡ box_of_shape (shape_of p.figure) → IsSoundPrint p
@@ -52,8 +52,9 @@ module _ {V : Type 0} (has : V → ℕ → ℕ → Type 0) (place : V → ℕ �
   paints_decided v leaves b held decided =
       paints_idly v leaves (λ column row h.
       let s = place v column row in
-      elim (last_or leaves s) [
-        | inl both ↦ or_decided (ink v column row) (last_ink leaves s) (decided column row h (held s both.1))
+      elim (decided_or leaves s) [
+        | inl told ↦ or_decided (ink v column row) (last_ink leaves s)
+            (decided column row h (held s (covered_by leaves s told.0 told.1.1)))
         | inr off ↦ or_uncovered (ink v column row) leaves s off
       ])
 

@@ -29,22 +29,3 @@ painted_after s a b dark h = record {
   uncovered = h.uncovered;
   polarity = h.polarity;
 }
-
--- nor do leaves behind them that leave it as it is
-pub painted_before : (s : Spot) (a b : List Leaf) (dark : Bool) → IsPainted a s dark → IsUncovered b s → IsPainted (a ++ b) s dark
-painted_before s a b dark h off = record {
-  before = h.before;
-  last = h.last;
-  after = h.after ++ b;
-  split = ap (λ ls. ls ++ b) h.split ∙ append_assoc h.before (h.last ∷ h.after) b;
-  covered = h.covered;
-  uncovered = uncovered_append s h.after b h.uncovered off;
-  polarity = h.polarity;
-}
-
-clash : (s : Spot) (l : Leaf) (b a : List Leaf) → Covers l.shape s → IsUncovered (b ++ l ∷ a) s → ⊥
-clash s l [] a on off = All-head (IsOff s) l a off on
-clash s l (x ∷ b) a on off = clash s l b a on (All-tail (IsOff s) x (b ++ l ∷ a) off)
-
-pub painted_covered : (s : Spot) (ls : List Leaf) (d : Bool) → IsPainted ls s d → IsUncovered ls s → ⊥
-painted_covered s ls d h off = clash s h.last h.before h.after h.covered (subst (λ xs. IsUncovered xs s) h.split off)

@@ -5,7 +5,7 @@ use Rattle.cam_units.specs.declared.point.Spot.{Spot}
 use Rattle.cam_objects.specs.Canvases.{leaf_of, shape_of}
 use Rattle.cam_objects.specs.Tests.{covers}
 use Rattle.cam_objects.proofs.LastInks.{ink_of, or_decided, or_none}
-use Rattle.cam_objects.proofs.TestLaws.{cover_law}
+use Rattle.cam_objects.proofs.Covering.{cover_law}
 use Rattle.cam_objects.proofs.image.PixelCanvas.paint.Goals as goal
 
 pub returns-then-is_decided : goal.returns-then-is_decided
