@@ -107,7 +107,7 @@ paint_parts-paint_part-requires g t c κs within =
     let objects = c.args.objects.now in
     let p = c.args.place.now in
     let means = meaning_before c.args.upto es in
-    let same : part_at size k objects ≡ c.part_at-part.result.now = sym c.part_at-part.ensures in
+    let same : part_at size k objects ≡ c.part_at-part.result.now = sym {b = part_at size k objects} c.part_at-part.ensures in
     let below : k < length c.args.boxes.now = omega arith in (
       omega (arith, c.decreases),
       (
@@ -152,7 +152,7 @@ paint_parts-paint_block-requires g t c κs within =
     let n = length c.args.boxes.now * c.args.size in
     let objects = c.args.objects.now in
     let p = c.args.place.now in
-    let same : drop n objects ≡ c.behind_parts-behind.result.now = sym c.behind_parts-behind.ensures in (
+    let same : drop n objects ≡ c.behind_parts-behind.result.now = sym {b = drop n objects} c.behind_parts-behind.ensures in (
       omega (arith, c.decreases),
       (
         within,
