@@ -1,5 +1,5 @@
 -- the last leaf that covers a place, in lists that are joined
-use Rattle.std.proofs.Common.{◌≡◌, ◌↔◌, ◌<◌, Bool, true, false, cond, IsTrue, ◌⊎◌, inl, inr, List, [], ◌∷◌, ◌++◌, length, Option, None, Some, IsSome, is_some, refl, ap, sym, subst, ◌∙◌, arith}
+use Rattle.std.proofs.Common.{◌≡◌, ◌↔◌, Bool, true, false, cond, IsTrue, ◌⊎◌, inl, inr, List, [], ◌∷◌, ◌++◌, length, Option, None, Some, IsSome, is_some, refl, ap, sym, subst, ◌∙◌, arith}
 use Rattle.std.specs.Option.{option_or, unwrap_or}
 use Rattle.std.proofs.lemmas.Bool.{cases_Bool, false_from_ne_true, false≢true, true≢false}
 use Rattle.std.proofs.Math.Seq.{get_or-append_seam}
@@ -89,11 +89,11 @@ last_paints ls s d = (
     | inr off ↦ absurd (false≢true (ap (λ o. is_some o) (sym (none_from_uncovered ls s off) ∙ e)))
   ]),
   (λ h.
-  ap (λ all. last_ink all s) h.split
-  ∙ last_ink-append h.before (h.last ∷ h.after) s
-  ∙ ap (λ o. option_or (option_or o (ink_of h.last s)) (last_ink h.before s)) (none_from_uncovered h.after s h.uncovered)
-  ∙ ap (λ b. option_or (cond b (Some h.last.dark) None) (last_ink h.before s)) ((cover_law h.last.shape s).1 h.covered)
-  ∙ ap Some h.polarity),
+      ap (λ all. last_ink all s) h.split
+      ∙ last_ink-append h.before (h.last ∷ h.after) s
+      ∙ ap (λ o. option_or (option_or o (ink_of h.last s)) (last_ink h.before s)) (none_from_uncovered h.after s h.uncovered)
+      ∙ ap (λ b. option_or (cond b (Some h.last.dark) None) (last_ink h.before s)) ((cover_law h.last.shape s).1 h.covered)
+      ∙ ap Some h.polarity),
 )
 
 pub painted_covered : (s : Spot) (ls : List Leaf) (d : Bool) → IsPainted ls s d → IsUncovered ls s → ⊥
