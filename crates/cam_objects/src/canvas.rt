@@ -68,9 +68,17 @@ pub trait Canvas {
         ensures { Paints has place ink self.old (leaf_of print.entry ∷ []) self.new };
 }
 
+/// Whether the box meets no place of the canvas's own box, so that no pixel has its place in it. For a single leaf this is
+/// enough: what is decided the canvas finds as it paints.
+pub(crate) fn misses<C: Canvas>(canvas: &C, bounds: Bounds) -> bool
+    ensures { IsTrue result → IsDecidedIn C.has C.place C.ink canvas.now bounds }
+{
+    !bounds.meets(canvas.bounds())
+}
+
 /// Whether nothing in the box is left to paint: no pixel has its place there, or all that do are decided.
 pub(crate) fn is_done_in<C: Canvas>(canvas: &C, bounds: Bounds) -> bool
     ensures { IsTrue result → IsDecidedIn C.has C.place C.ink canvas.now bounds }
 {
-    !bounds.meets(canvas.bounds()) || canvas.is_decided_in(bounds)
+    misses(canvas, bounds) || canvas.is_decided_in(bounds)
 }

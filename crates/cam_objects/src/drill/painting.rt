@@ -10,7 +10,7 @@ ghost use Rattle.cam_objects.specs.DrillSoundness.{IsSoundDrillItem, IsSoundDril
 ghost use Rattle.cam_objects.specs.declared.drill_item.DrillItem.{DrillItem};
 
 use crate::boxes::shapes::stroke_bounds;
-use crate::canvas::{Canvas, Figure, Print, is_done_in};
+use crate::canvas::{Canvas, Figure, Print, misses};
 use crate::drill_item::DrillItem;
 use crate::drill_layer::DrillLayer;
 use crate::paint::prints::{paint_hole, paint_leaf};
@@ -49,7 +49,7 @@ fn paint_rout<C: Canvas>(points: &[Point], diameter: Nm, canvas: &mut C)
     }
 }
 
-/// Paints what an item drills or routs, if something is left to paint in its box.
+/// Paints what an item drills or routs, if its box meets the canvas, and, of a rout, if something is left to paint there.
 fn paint_item<C: Canvas>(tools: &Tools, item: &DrillItem, canvas: &mut C)
     requires tools { All (λ (e : ℕ × Nm). IsSoundTool e.0 e.1) tools.now }
     requires item { IsSoundDrillItem tools.now item.now }
@@ -58,7 +58,8 @@ fn paint_item<C: Canvas>(tools: &Tools, item: &DrillItem, canvas: &mut C)
     let Some(diameter) = tools.get(item.tool()) else {
         return;
     };
-    if is_done_in(canvas, item.bounds(diameter)) {
+    let bounds = item.bounds(diameter);
+    if misses(canvas, bounds) {
         return;
     }
     match item {
@@ -69,7 +70,12 @@ fn paint_item<C: Canvas>(tools: &Tools, item: &DrillItem, canvas: &mut C)
             },
             canvas,
         ),
-        DrillItem::Rout { points, .. } => paint_rout(points.as_slice(), diameter, canvas),
+        DrillItem::Rout { points, .. } => {
+            if canvas.is_decided_in(bounds) {
+                return;
+            }
+            paint_rout(points.as_slice(), diameter, canvas);
+        }
     }
 }
 

@@ -10,7 +10,7 @@ ghost use Rattle.cam_objects.specs.Machinery.Painting.{IsPrintable, StandsOnBoar
 ghost use Rattle.cam_objects.specs.Soundness.{IsSoundDictionary};
 
 use crate::boxes::parts::{CHUNK_SIZE, behind_parts, part_at};
-use crate::canvas::{Canvas, Figure, Print, is_done_in};
+use crate::canvas::{Canvas, Figure, Print, is_done_in, misses};
 use crate::dictionary::Dictionary;
 use crate::entry::Entry;
 use crate::object::Object;
@@ -20,7 +20,8 @@ use crate::tip::{Tip, round_width};
 use cam_shapes::Arc;
 use cam_units::Bounds;
 
-/// Paints what a flash of the number paints at a place, if something is left to paint in its box.
+/// Paints what a flash of the number paints at a place, if its box meets the canvas, and, of a block, if something is left
+/// to paint there.
 #[cycle(paint)]
 fn paint_flash<C: Canvas>(
     entries: &Dictionary,
@@ -40,7 +41,7 @@ fn paint_flash<C: Canvas>(
         return;
     }
     let bounds = place.bounds(facts.bounds);
-    if is_done_in(canvas, bounds) {
+    if misses(canvas, bounds) {
         return;
     }
     match entry {
@@ -54,6 +55,9 @@ fn paint_flash<C: Canvas>(
             bounds,
         }),
         Entry::Block(objects) => {
+            if canvas.is_decided_in(bounds) {
+                return;
+            }
             let objects = objects.as_slice();
             let chunks = entries.chunks(at);
             paint_parts(entries, at, objects, CHUNK_SIZE, chunks, place, canvas);

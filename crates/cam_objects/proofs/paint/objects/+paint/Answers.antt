@@ -197,8 +197,8 @@ paint_flash-returns-then-upto-at g t c =
 pub paint_flash-bounds-bounds-requires-clause-offset : goal.paint_flash-bounds-bounds-requires-clause-offset
 paint_flash-bounds-bounds-requires-clause-offset g t c = reach_box c.args.upto c.args.place.now c.requires.reach
 
-pub paint_flash-returns-then-is_done_in : goal.paint_flash-returns-then-is_done_in
-paint_flash-returns-then-is_done_in g t c =
+pub paint_flash-returns-then-misses : goal.paint_flash-returns-then-misses
+paint_flash-returns-then-misses g t c =
     let canvas = g.C.Canvas in
     let v = c.args.canvas.now in
     let es = c.args.entries.now in
@@ -207,7 +207,19 @@ paint_flash-returns-then-is_done_in g t c =
     c.in-Some.ensures.found (omega (arith, c.if-upto-at.false)) c.requires.within in
     let box = flash_box es c.args.number p c.in-Some.found.2.now c.bounds-bounds.result c.in-Some.ensures.value c.bounds-bounds.ensures in
     paints_boxed canvas.has canvas.place canvas.ink v (flash_leaves c.args.upto es c.args.number p) c.bounds-bounds.result
-    (box ∙ ap (λ (m : Meaning). bounds_of (m.flash p)) (sym among)) (c.is_done_in.ensures c.if-is_done_in.true)
+    (box ∙ ap (λ (m : Meaning). bounds_of (m.flash p)) (sym among)) (c.misses.ensures c.if-misses.true)
+
+pub paint_flash-returns-then-is_decided_in : goal.paint_flash-returns-then-is_decided_in
+paint_flash-returns-then-is_decided_in g t c =
+    let canvas = g.C.Canvas in
+    let v = c.args.canvas.now in
+    let es = c.args.entries.now in
+    let p = c.args.place.now in
+    let among = meaning_among es c.in-Some.found.0 c.args.upto c.args.number c.in-Some.found.1.now c.find_with_facts.ensures.distinct
+    c.in-Some.ensures.found (omega (arith, c.if-upto-at.false)) c.requires.within in
+    let box = flash_box es c.args.number p c.in-Some.found.2.now c.bounds-bounds.result c.in-Some.ensures.value c.bounds-bounds.ensures in
+    paints_boxed canvas.has canvas.place canvas.ink v (flash_leaves c.args.upto es c.args.number p) c.bounds-bounds.result
+    (box ∙ ap (λ (m : Meaning). bounds_of (m.flash p)) (sym among)) (c.is_decided_in.ensures c.if-is_decided_in.true)
 
 pub paint_flash-paint-requires : goal.paint_flash-paint-requires
 paint_flash-paint-requires g t c =
@@ -265,8 +277,8 @@ paint_flash-returns-in-Aperture g t c =
     (omega (arith, c.if-upto-at.false)) c.requires.within))
     c.paint.ensures
 
-pub paint_flash-returns-in-Block : goal.paint_flash-returns-in-Block
-paint_flash-returns-in-Block g t c =
+pub paint_flash-returns-else-is_decided_in : goal.paint_flash-returns-else-is_decided_in
+paint_flash-returns-else-is_decided_in g t c =
     let canvas = g.C.Canvas in
     let es = c.args.entries.now in
     let i = c.in-Some.found.0 in
