@@ -1,4 +1,4 @@
-//! Single leaves, painted on a canvas where their boxes meet it.
+//! Single leaves, painted on a canvas, but for those whose boxes miss it.
 
 ghost use Rattle.std.specs.Prelude.{◌≡◌, ◌∷◌, [], Some, true};
 ghost use Rattle.cam_units.specs.Board.{IsOnBoard, IsSize};
