@@ -15,6 +15,7 @@ pub mod GridLemmas
 pub mod Indexed
 pub mod Joined
 pub mod JoinedMarks
+pub mod JoinedWords
 pub mod LevelRows
 pub mod MarkedTiles
 pub mod MaskWords

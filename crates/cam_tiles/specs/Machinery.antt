@@ -14,3 +14,4 @@ pub mod Shown
 pub mod Spans
 pub mod Swaths
 pub mod Turning
+pub mod Words

@@ -11,3 +11,4 @@ pub(crate) mod shapes;
 pub(crate) mod solid;
 pub(crate) mod swath;
 pub(crate) mod turning;
+pub(crate) mod words;
