@@ -11,6 +11,7 @@ use Rattle.cam_shapes.specs.declared.segments.Seg.{Seg}
 use Rattle.cam_shapes.specs.declared.segments.Seg.TheVariants.{Curve}
 use Rattle.cam_shapes.specs.declared.cap.Cap.{Cap}
 use Rattle.cam_shapes.specs.Cap.{is_in_cap}
+use Rattle.cam_shapes.specs.Contour.{IsInContour}
 use Rattle.cam_shapes.specs.Edge.{crosses_ray, edge, is_above}
 use Rattle.cam_shapes.specs.Sides.{changes_side, differ}
 use Rattle.cam_rows.specs.Marks.{AreSpread, TurnsRows, is_set, is_turned, turns_past}
@@ -27,6 +28,7 @@ use Rattle.cam_tiles.specs.Machinery.Turning.{AreWide, MarksCentres, TurnsCentre
 use Rattle.cam_tiles.specs.Tiles.{centre_in}
 use Rattle.cam_tiles.proofs.ChangedParities.{from_even, not_turned, true_or_not, turned_like, turned_twice}
 use Rattle.cam_tiles.proofs.RunColumns.{below_top, further_down, top_of}
+use Rattle.cam_tiles.proofs.TurnedContours.{Turning, inside_turned, turns_side}
 
 pub still_wide : (columns : ℕ) (old new : List ℕ) → length new ≡ length old → AreWide columns old
     → AreWide columns new
@@ -58,6 +60,20 @@ module _ (g : Grid) (columns : ℕ) where
   pub turns_nothing : (P : Spot → Type 0) (old : List ℕ)
       → ((column row : ℕ) → row < g.rows → P (centre_in g column row) → ⊥) → TurnsCentres g columns P old old
   turns_nothing P old none = record { each = λ column row near within. not_turned _ _ (none column row within) }
+
+  -- where a test says so
+  abbrev pub TurnsSo : (Spot → Bool) → List ℕ → List ℕ → Type 0
+  TurnsSo test = TurnsCentres g columns (λ s. IsTrue (test s))
+
+  pub turning : Turning TurnsSo
+  turning = record {
+    none = λ old. turns_nothing (λ s. IsTrue false) old (λ column row within held. false≢true held);
+    twice = turns_twice;
+  }
+
+  pub marked_inside : (c : Contour) (old new : List ℕ) → TurnsSo (turns_side c) old new
+      → TurnsCentres g columns (λ s. IsInContour s c) old new
+  marked_inside c old new h = turns_like _ _ old new (λ s. inside_turned s c) h
 
   -- ---- segments
 

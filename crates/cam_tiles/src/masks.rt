@@ -6,6 +6,7 @@ pub(crate) mod filing;
 pub(crate) mod heights;
 pub(crate) mod join;
 pub(crate) mod mask;
+pub(crate) mod placed;
 pub(crate) mod runs;
 pub(crate) mod shapes;
 pub(crate) mod solid;

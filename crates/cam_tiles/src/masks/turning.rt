@@ -122,7 +122,7 @@ fn turn_place(marks: &mut [u64], grid: &Grid, columns: u32, contour: &Contour, p
 }
 
 /// Counts what a segment from a point changes.
-fn turn_segment(marks: &mut [u64], grid: &Grid, columns: u32, here: Point, seg: Seg)
+pub(crate) fn turn_segment(marks: &mut [u64], grid: &Grid, columns: u32, here: Point, seg: Seg)
     requires grid { IsField grid.now columns }
     requires wide { AreWide columns marks.old }
     requires here { IsOnBoard here }
@@ -159,7 +159,7 @@ fn levels_in(grid: &Grid) -> Levels
 }
 
 /// Counts an edge: in each row that it crosses by one mark, where it does not lie left of all columns.
-fn turn_edge(marks: &mut [u64], grid: &Grid, columns: u32, from: Point, to: Point)
+pub(crate) fn turn_edge(marks: &mut [u64], grid: &Grid, columns: u32, from: Point, to: Point)
     requires grid { IsField grid.now columns }
     requires wide { AreWide columns marks.old }
     requires from { IsOnBoard from }
