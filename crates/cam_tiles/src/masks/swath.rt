@@ -52,8 +52,8 @@ use std::marker::Model;
 /// The place of the first column of a row of tiles, and how far it is from one tile to the next, in half nm.
 #[derive(Clone, Copy)]
 pub(crate) struct Pitch {
-    left: i64,
-    stride: i64,
+    pub(crate) left: i64,
+    pub(crate) stride: i64,
 }
 
 /// Masks of the dirty tiles of a row of tiles, from the left, which are painted at once: each leaf on those masks
@@ -348,7 +348,7 @@ impl Canvas for Swath {
 impl Pitch {
     /// The tile of the row, of so many, that a place is in; left of them the first, and right of them their number.
     #[tactic(auto, using(crate::proofs::SwathLayouts::up_to_tile))]
-    fn tile_at(self, x: i64, tiles: usize) -> usize
+    pub(crate) fn tile_at(self, x: i64, tiles: usize) -> usize
         requires { pos 1 ≤ℤ self.stride }
         ensures within { result ≤ tiles }
         ensures after { self.left ≤ℤ x → (self.left +ℤ pos result *ℤ self.stride) ≤ℤ x }
