@@ -14,6 +14,7 @@ pub mod GridBoxes
 pub mod GridLemmas
 pub mod Indexed
 pub mod Joined
+pub mod JoinedCentres
 pub mod JoinedMarks
 pub mod JoinedWords
 pub mod LevelRows
@@ -33,6 +34,7 @@ pub mod RowsInOrder
 pub mod RowsOfTiles
 pub mod RunColumns
 pub mod SameFiles
+pub mod SeenParts
 pub mod SeenRows
 pub mod ShapeHeights
 pub mod ShapeRows

@@ -231,7 +231,8 @@ fn turned_bounds(points: &[Point], turn: Turn) -> Bounds
 /// The box of a point.
 fn point_bounds(point: Point) -> Bounds
     requires { IsMacroPoint point }
-    ensures { result ≡ box_of_point point }
+    ensures value { result ≡ box_of_point point }
+    ensures small { IsSmallBox result }
 {
     let place = Spot {
         x: 2 * point.x,
