@@ -3,9 +3,10 @@ use Rattle.std.proofs.Common.{◌≡◌, ◌↔◌, ℕ, ◌+◌, ◌-◌, ◌*�
 use Rattle.std.proofs.Common.{get_or-set_other, get_or-set_same, ap, inl, inr, arith}
 use Rattle.std.specs.Int.{IsBitSet}
 use Rattle.std.proofs.lemmas.Bool.{cases_eq, cases_lt, eq-eqb, eqb-true}
+use Rattle.std.proofs.lemmas.List.{get_or_past}
 use Rattle.cam_rows.specs.Marks.{is_marked, is_set}
 use Rattle.cam_rows.specs.Runs.{IsInRun}
-use Rattle.cam_rows.proofs.SetBits.{set_is_one}
+use Rattle.cam_rows.proofs.SetBits.{none_set, set_is_one}
 use Rattle.cam_apertures.proofs.Painting.{round, through}
 use Rattle.cam_tiles.specs.declared.masks.join.Join.{Join}
 use Rattle.cam_tiles.specs.declared.masks.join.Join.TheVariants.{Add, Clear}
@@ -29,6 +30,15 @@ bit_told word i = (
   (λ told. (set_is_one word i).1 (eqb-true _ 1 told)),
   (λ set. eq-eqb _ 1 ((set_is_one word i).0 set)),
 )
+
+-- no bit is set in words of 0
+pub none_marked : (words : List ℕ) → ((k : ℕ) → k < length words → slice_index words k ≡ 0) → (row column : ℕ)
+    → IsTrue (is_marked words row column) → ⊥
+none_marked words none row column on =
+    let k = 64 * (column / 64) + row in
+    let zero : slice_index words k ≡ 0 =
+    elim (cases_lt k (length words)) [ inl inside ↦ none k inside | inr past ↦ get_or_past words k 0 past ] in
+    none_set (slice_index words k) (column % 64) zero ((bit_told (slice_index words k) (column % 64)).0 on)
 
 -- ---- columns
 
