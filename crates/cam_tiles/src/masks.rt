@@ -5,6 +5,7 @@ pub(crate) mod figures;
 pub(crate) mod filing;
 pub(crate) mod heights;
 pub(crate) mod join;
+pub(crate) mod marked;
 pub(crate) mod mask;
 pub(crate) mod placed;
 pub(crate) mod runs;
