@@ -1,15 +1,17 @@
 -- Masks side by side that are filled by marks: those of the tiles from the first of them to the last one.
-use Rattle.std.proofs.Common.{◌≡◌, ◌↔◌, ℕ, ◌+◌, ◌-◌, ◌*◌, ◌/◌, ◌<◌, ◌≤◌, IsTrue, List, length, get_or, min}
+use Rattle.std.proofs.Common.{◌≡◌, ◌↔◌, ℕ, ◌+◌, ◌-◌, ◌*◌, ◌/◌, ◌<◌, ◌≤◌, Bool, IsTrue, List, [], ◌∷◌, length, get_or, min}
 use Rattle.std.proofs.Common.{sym, ap, subst, ◌∙◌, arith}
 use Rattle.std.proofs.lemmas.List.{get_or_default, get_or_past}
 use Rattle.cam_units.specs.Board.{IsPlace}
 use Rattle.cam_units.specs.declared.point.Spot.{Spot}
+use Rattle.cam_objects.specs.Image.{Covers}
+use Rattle.cam_objects.specs.Leaves.{Shape, leaf}
 use Rattle.cam_rows.specs.Marks.{is_marked}
 use Rattle.cam_tiles.specs.declared.grid.Grid.{Grid}
 use Rattle.cam_tiles.specs.Machinery.Masks.{Marking}
 use Rattle.cam_tiles.specs.Machinery.Runs.{IsWideGrid}
-use Rattle.cam_tiles.specs.Machinery.Swaths.{HasMask, StandInRow, grid_at, no_mask}
-use Rattle.cam_tiles.specs.Machinery.Turning.{AreMarkedAt, MarksCentres}
+use Rattle.cam_tiles.specs.Machinery.Swaths.{ArePaintedIn, HasMask, StandInRow, grid_at, no_mask}
+use Rattle.cam_tiles.specs.Machinery.Turning.{AreMarkedAt, HasTile, MarksCentres}
 use Rattle.cam_tiles.specs.Tiles.{IsGrid, centre_in}
 
 -- what is read of masks from one number to another: the tiles of the first and the last, the column that these end at,
@@ -67,30 +69,34 @@ module _ (g : Grid) (columns : ℕ) (tiles before : List ℕ) (masks : List Mark
           (omega (arith, below, (stand.each first inside).rows)));
     }
 
-    -- what is marked from there on is so in each of the masks up to the last one
-    pub marked_there : (IsHeld : Spot → Type 0) (marks : List ℕ) → 64 * length before ≤ length marks
-        → MarksCentres (grid_at masks first) (right - 64 * tile first) IsHeld marks
-        → (k : ℕ) → first ≤ k → k ≤ last → AreMarkedAt (tile k - tile first) (grid_at masks k) IsHeld marks
-    marked_there IsHeld marks room told k after until =
-        let there_is : k < length masks = omega (arith, until, within) in
-        let at = stand.each k there_is in
-        let from = in_order first k after there_is in
-        let to = in_order k last until within in
-        let all = get_or_past before (length before) (length masks) (omega arith) in
-        let in_row = (stand.order k (length before) there_is).0 (omega (arith, all, there_is)) in
-        record {
-          near = omega (arith, at.near);
-          room = omega (arith, room, in_row);
-          each = λ i row there.
-              let column = 64 * (tile k - tile first) + i in
-              let same : 64 * tile first + column ≡ 64 * tile k + i = omega (arith, from) in
-              let place : centre_in (grid_at masks first) column row ≡ centre_in (grid_at masks k) i row =
-              further column row ∙ ap (λ j. centre_in g j row) same ∙ sym (at.centres i row) in
-              let near : column < right - 64 * tile first =
-              omega (arith, there.0, from, to, is, stand.narrow k there_is, stand.within k there_is) in
-              subst (λ (s : Spot). IsTrue (is_marked marks row column) ↔ IsHeld s) place
-              (told column row near (omega (arith, there.1, at.rows, (stand.each first inside).rows)));
-        }
+    module _ (k : ℕ) (after : first ≤ k) (until : k ≤ last) where
+      there_is : k < length masks
+      there_is = omega (arith, until, within)
+
+      -- there are words of each tile up to the last one
+      pub tile_there : (marks : List ℕ) → 64 * length before ≤ length marks → HasTile marks (tile k - tile first)
+      tile_there marks room =
+          let at = stand.each k there_is in
+          let all = get_or_past before (length before) (length masks) (omega arith) in
+          let in_row = (stand.order k (length before) there_is).0 (omega (arith, all, there_is)) in
+          record { near = omega (arith, at.near); room = omega (arith, room, in_row); }
+
+      -- what is marked from there on is so in its mask
+      pub marked_there : (IsHeld : Spot → Type 0) (marks : List ℕ)
+          → MarksCentres (grid_at masks first) (right - 64 * tile first) IsHeld marks
+          → AreMarkedAt (tile k - tile first) (grid_at masks k) IsHeld marks
+      marked_there IsHeld marks told = λ i row there.
+          let at = stand.each k there_is in
+          let from = in_order first k after there_is in
+          let to = in_order k last until within in
+          let column = 64 * (tile k - tile first) + i in
+          let same : 64 * tile first + column ≡ 64 * tile k + i = omega (arith, from) in
+          let place : centre_in (grid_at masks first) column row ≡ centre_in (grid_at masks k) i row =
+          further column row ∙ ap (λ j. centre_in g j row) same ∙ sym (at.centres i row) in
+          let near : column < right - 64 * tile first =
+          omega (arith, there.0, from, to, is, stand.narrow k there_is, stand.within k there_is) in
+          subst (λ (s : Spot). IsTrue (is_marked marks row column) ↔ IsHeld s) place
+          (told column row near (omega (arith, there.1, at.rows, (stand.each first inside).rows)))
 
   -- the same, by what is read of them
   module _ (first end left last right : ℕ) (h : Grid) (d : Marking)
@@ -128,16 +134,36 @@ module _ (g : Grid) (columns : ℕ) (tiles before : List ℕ) (masks : List Mark
     pub wide_read : IsWideGrid h (right - 64 * left)
     wide_read = rw (same_left, same_grid) (wide_from first (end - 1) right no_later under grid_there same_right)
 
-    pub filed_read : (IsFiled : Grid → Type 0) → ((k : ℕ) → HasMask masks k → IsFiled (grid_at masks k)) → IsFiled h
-    filed_read IsFiled filed =
-        subst IsFiled (sym same_grid) (filed first (grid_there.columns.0, grid_there.rows.0))
+    pub ready_read : (IsReady : Grid → Type 0) → ((k : ℕ) → HasMask masks k → IsReady (grid_at masks k)) → IsReady h
+    ready_read IsReady ready =
+        subst IsReady (sym same_grid) (ready first (grid_there.columns.0, grid_there.rows.0))
 
-    pub left_of_all : (k : ℕ) → first ≤ k → k < end → left ≤ tile k
-    left_of_all k after until = omega (arith, same_left, in_order first k after (omega (arith, until, read.few)))
+    module _ (k : ℕ) (after : first ≤ k) (until : k < end) where
+      pub left_of_all : left ≤ tile k
+      left_of_all = omega (arith, same_left, in_order first k after (omega (arith, until, read.few)))
 
-    pub marked_read : (IsHeld : Spot → Type 0) (marks : List ℕ) → 64 * length before ≤ length marks
-        → MarksCentres h (right - 64 * left) IsHeld marks
-        → (k : ℕ) → first ≤ k → k < end → AreMarkedAt (tile k - left) (grid_at masks k) IsHeld marks
-    marked_read IsHeld marks room told k after until =
-        rw same_left (marked_there first (end - 1) right no_later under grid_there same_right IsHeld marks room
-        (rw (same_left, same_grid) at told) k after (omega (arith, until)))
+      pub tile_read : (marks : List ℕ) → 64 * length before ≤ length marks → HasTile marks (tile k - left)
+      tile_read marks room =
+          rw same_left (tile_there first (end - 1) right no_later under grid_there same_right k after (omega (arith, until))
+          marks room)
+
+      pub marked_read : (IsHeld : Spot → Type 0) (marks : List ℕ) → MarksCentres h (right - 64 * left) IsHeld marks
+          → AreMarkedAt (tile k - left) (grid_at masks k) IsHeld marks
+      marked_read IsHeld marks told =
+          rw same_left (marked_there first (end - 1) right no_later under grid_there same_right k after
+          (omega (arith, until)) IsHeld marks (rw (same_left, same_grid) at told))
+
+    -- masks that were lent are painted by the marks that were lent
+    pub painted_by : (shape : Shape) (dark : Bool) (own words marks : List ℕ) (lent new : List Marking) → own ≡ tiles
+        → lent ≡ masks → words ≡ marks → MarksCentres h (right - 64 * left) (Covers shape) marks
+        → (((k : ℕ) → first ≤ k → k < end → AreMarkedAt (get_or own k 0 - left) (grid_at lent k) (Covers shape) words)
+        → ArePaintedIn first end (leaf shape dark ∷ []) lent new)
+        → ArePaintedIn first end (leaf shape dark ∷ []) masks new
+    painted_by shape dark own words marks lent new is_own is_lent is_words told painted =
+        let IsThere : List ℕ → List Marking → List ℕ → ℕ → Type 0 =
+        λ ts ms ws k. AreMarkedAt (get_or ts k 0 - left) (grid_at ms k) (Covers shape) ws in
+        subst (λ (ms : List Marking). ArePaintedIn first end (leaf shape dark ∷ []) ms new) is_lent
+        (painted (λ k after until.
+        subst (λ ts. IsThere ts lent words k) (sym is_own)
+        (subst (λ (ms : List Marking). IsThere tiles ms words k) (sym is_lent)
+        (subst (λ ws. IsThere tiles masks ws k) (sym is_words) (marked_read k after until (Covers shape) marks told)))))

@@ -188,7 +188,7 @@ module _ (g : Grid) (columns : ℕ) where
       (none_odd (turns_past marks row) (length marks / 64 - (column / 64 + 1)) (column / 64 + 1)
       (λ j _. blank (64 * j + row) 0))
 
-  pub spread_inside : (P : Spot → Type 0) (blank turned spread : List ℕ)
+  spread_inside : (P : Spot → Type 0) (blank turned spread : List ℕ)
       → ((k : ℕ) → k < length blank → slice_index blank k ≡ 0) → g.rows ≤ 64 → columns ≤ length turned
       → TurnsCentres g columns P blank turned → AreSpread turned spread → MarksCentres g columns P spread
   spread_inside P blank turned spread none few room h told column row near within =
@@ -197,11 +197,14 @@ module _ (g : Grid) (columns : ℕ) where
       from_even _ _ _ _ ((λ t. sym same ∙ t), (λ t. same ∙ t)) (λ t. false≢true (sym even ∙ t))
       (h.each column row near within)
 
-  -- words behind them change none of them
-  pub marks_before : (P : Spot → Type 0) (part rest : List ℕ) → g.rows ≤ 64 → AreWide columns part
-      → MarksCentres g columns P part → MarksCentres g columns P (part ++ rest)
-  marks_before P part rest few wide told column row near within =
+  -- what is turned in words that were 0 is marked once that is spread; words behind them change none of it
+  pub marks_before : (P : Spot → Type 0) (n : ℕ) (blank turned spread rest : List ℕ) → g.rows ≤ 64
+      → columns ≤ 64 * n → length blank ≡ 64 * n → ((k : ℕ) → k < length blank → slice_index blank k ≡ 0)
+      → length turned ≡ length blank → length spread ≡ length turned → TurnsCentres g columns P blank turned
+      → AreSpread turned spread → MarksCentres g columns P (spread ++ rest)
+  marks_before P n blank turned spread rest few enough size none as_long as_long_still h told column row near within =
       let k = 64 * (column / 64) + row in
-      let same : slice_index (part ++ rest) k ≡ slice_index part k =
-      get_or_append_left part rest 0 k (omega (arith, near, within, few, wide.room, wide.tiles)) in
-      rw same (told column row near within)
+      let same : slice_index (spread ++ rest) k ≡ slice_index spread k =
+      get_or_append_left spread rest 0 k (omega (arith, near, within, few, enough, size, as_long, as_long_still)) in
+      rw same (spread_inside P blank turned spread none few (omega (arith, enough, size, as_long)) h told column row near
+      within)

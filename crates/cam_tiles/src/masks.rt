@@ -6,6 +6,7 @@ pub(crate) mod filing;
 pub(crate) mod heights;
 pub(crate) mod join;
 pub(crate) mod macros;
+pub(crate) mod marked;
 pub(crate) mod mask;
 pub(crate) mod placed;
 pub(crate) mod runs;

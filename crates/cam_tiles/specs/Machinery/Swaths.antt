@@ -128,5 +128,6 @@ pub record IsSwath (s : Inside) : Type 0 where
   pub laid : IsLaidOut s.pitch s.bounds s.before.items (length s.masks.items) (grid_at s.masks.items)
   pub stand : StandInRow s.corner s.columns s.tiles.items s.before.items (length s.masks.items) (grid_at s.masks.items)
   pub room : 64 * length s.before.items ≤ length s.marks.items
+  pub spare : 64 * length s.before.items ≤ length s.spare.items
   pub known : length s.masks.items ≤ length s.solid.items
   pub solid : AreSolid s.solid.items s.masks.items

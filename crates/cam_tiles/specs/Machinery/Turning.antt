@@ -35,8 +35,11 @@ MarksCentres g columns IsHeld marks =
     → IsTrue (is_marked marks row column) ↔ IsHeld (centre_in g column row)
 
 -- the same in the rows of a grid from a tile on
-pub record AreMarkedAt (tile : ℕ) (g : Grid) (IsHeld : Spot → Type 0) (marks : List ℕ) : Type 0 where
+abbrev pub AreMarkedAt : ℕ → Grid → (Spot → Type 0) → List ℕ → Type 0
+AreMarkedAt tile g IsHeld marks =
+    (i row : ℕ) → IsIn g i row → IsTrue (is_marked marks row (64 * tile + i)) ↔ IsHeld (centre_in g i row)
+
+-- there are words of a tile
+pub record HasTile (marks : List ℕ) (tile : ℕ) : Type 0 where
   pub near : 64 * tile < most_columns
   pub room : 64 * tile + 64 ≤ length marks
-  pub each : (i row : ℕ) → IsIn g i row
-      → IsTrue (is_marked marks row (64 * tile + i)) ↔ IsHeld (centre_in g i row)

@@ -38,9 +38,10 @@ use crate::masks::figure_runs::FigureRuns;
 use crate::masks::figures::{Placed, paint_each, paint_figures, placed_of};
 use crate::masks::filing::FiledSegment;
 use crate::masks::heights::Heights;
+use crate::masks::marked::{MarkShape, fill_marked};
 use crate::masks::mask::{Mask, masks_before};
 use crate::masks::solid::{are_black_in, are_solid, follow};
-use crate::masks::turning::{fill_marked, mark_inside};
+use crate::masks::turning::FiledContour;
 use crate::painter::Tile;
 use crate::shown::Region;
 use crate::window::Window;
@@ -75,8 +76,9 @@ pub(crate) struct Swath {
     runs: FigureRuns,
     /// For each mask, how many of its rows from the top are known to be black all along.
     solid: Vec<u32>,
-    /// Room for the marks of a region: 64 words for each tile of the row.
+    /// Room for the marks of a shape: 64 words for each tile of the row, and as many spare ones.
     marks: Vec<u64>,
+    spare: Vec<u64>,
 }
 
 /// A grid of one centre, at (0, 0).
@@ -114,6 +116,7 @@ impl Swath {
             runs: FigureRuns::none(),
             solid: Vec::new(alloc),
             marks: Vec::new(alloc),
+            spare: Vec::new(alloc),
         }
     }
 
@@ -140,6 +143,7 @@ impl Swath {
         self.masks.reserve(tiles.len())?;
         self.solid.resize(tiles.len(), 0)?;
         self.marks.resize(64 * tiles.len(), 0)?;
+        self.spare.resize(64 * tiles.len(), 0)?;
         let corner = window.grid(first);
         self.pitch = Pitch {
             left: corner.x,
@@ -193,7 +197,11 @@ impl Swath {
         let first = self.first_reached(left);
         let end = self.end_reached(right);
         if first < end && !self.is_hidden(first, end, region.dark) {
-            self.fill_together(first, end, region, filed);
+            let contour = FiledContour {
+                contour: region.contour,
+                filed,
+            };
+            self.fill_together(first, end, &contour, region.dark);
         }
     }
 
@@ -231,34 +239,19 @@ impl Swath {
         are_black_in(&self.masks, &low, &high)
     }
 
-    /// Joins the masks from one number to another with the inside of a region: each segment is counted once for all of
-    /// them, by marks in the rows of the tiles from the first of them to the last.
-    fn fill_together(
-        &mut self,
-        first: usize,
-        end: usize,
-        region: Region<'_>,
-        filed: &[FiledSegment],
-    )
+    /// Paints what a shape covers on the masks from one number to another: it is marked once for all of them, in the rows
+    /// of the tiles from the first of them to the last.
+    fn fill_together<M: MarkShape>(&mut self, first: usize, end: usize, shape: &M, dark: bool)
         requires some { first < end }
         requires end { end ≤ length self.old }
-        requires contour { IsOnBoardWhole region.contour.now }
-        requires filed { (k : ℕ) → HasMask self.old k
-            → AreFiled region.contour.now (levels_of (grid_at self.old k)) filed.now }
-        ensures { ArePaintedIn first end (leaf (Filled region.entry.contour.now) region.entry.dark ∷ [])
-            self.old self.new }
+        requires ready { (k : ℕ) → HasMask self.old k → M.is_ready shape.now (grid_at self.old k) }
+        ensures { ArePaintedIn first end (leaf (M.shape shape.now) dark ∷ []) self.old self.new }
     {
         let left = self.tiles[first];
         let right = self.columns.min(64 * (self.tiles[end - 1] + 1));
         let grid = self.masks[first].grid();
-        mark_inside(
-            &mut self.marks,
-            &grid,
-            right - 64 * left,
-            region.contour,
-            filed,
-        );
-        follow(&mut self.solid, first, end, region.dark);
+        shape.mark(&mut self.marks, &mut self.spare, &grid, right - 64 * left);
+        follow(&mut self.solid, first, end, dark);
         fill_marked(
             &mut self.masks,
             first,
@@ -266,7 +259,7 @@ impl Swath {
             &self.tiles,
             left,
             &self.marks,
-            region,
+            dark,
         );
     }
 

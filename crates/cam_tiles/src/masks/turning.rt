@@ -1,7 +1,7 @@
 //! The insides of contours in the rows of a tile, or of tiles side by side: each segment is counted once for all of them,
 //! by marks that turn over the columns left of them.
 
-ghost use Rattle.std.specs.Prelude.{◌≡◌, ◌≢◌, ◌↔◌, ◌+◌, ◌-◌, ◌*◌, ◌/◌, ◌<◌, ◌≤◌, ℕ, IsTrue, length, slice_index, ◌∷◌, []};
+ghost use Rattle.std.specs.Prelude.{◌≡◌, ◌≢◌, ◌↔◌, ◌-◌, ◌<◌, ◌≤◌, ℕ, IsTrue, length};
 ghost use Rattle.std.specs.Int.{IsBitSet};
 ghost use Rattle.cam_units.specs.Board.{IsOnBoard};
 ghost use Rattle.cam_units.specs.declared.point.Spot.{Spot};
@@ -9,23 +9,20 @@ ghost use Rattle.cam_shapes.specs.Cap.{IsSoundCap, is_in_cap};
 ghost use Rattle.cam_shapes.specs.Contour.{IsInContour, IsSoundSeg};
 ghost use Rattle.cam_shapes.specs.Edge.{crosses_ray, edge, is_above};
 ghost use Rattle.cam_shapes.specs.Sides.{changes_side};
-ghost use Rattle.cam_objects.specs.Leaves.{Filled, leaf};
+ghost use Rattle.cam_objects.specs.Leaves.{Filled};
 ghost use Rattle.cam_rows.specs.Marks.{is_turned};
 ghost use Rattle.cam_tiles.specs.Machinery.Filing.{AreFiled, IsOnBoardWhole, changes_at};
 ghost use Rattle.cam_tiles.specs.Machinery.Levels.{AreLevels, IsOnRow, levels_of};
 ghost use Rattle.cam_tiles.specs.Machinery.Masks.{turned_over};
 ghost use Rattle.cam_tiles.specs.Machinery.Runs.{IsWideGrid};
-ghost use Rattle.cam_tiles.specs.Machinery.Swaths.{ArePaintedIn, grid_at};
-ghost use Rattle.cam_tiles.specs.Machinery.Turning.{AreMarkedAt, AreWide, IsField, MarksCentres, TurnsCentres};
+ghost use Rattle.cam_tiles.specs.Machinery.Turning.{AreWide, IsField, TurnsCentres};
 ghost use Rattle.cam_tiles.specs.Tiles.{centre_in};
 
 use crate::grid::Grid;
 use crate::levels::Levels;
 use crate::masks::filing::{FiledSegment, corner_at, crossed_heights, segment_at};
 use crate::masks::heights::HasHeights;
-use crate::masks::join::Join;
-use crate::masks::mask::Mask;
-use crate::shown::Region;
+use crate::masks::marked::MarkShape;
 use crate::span::Span;
 use cam_rows::{Centres, cap_runs, edge_runs, mark_end, mark_ends, mark_runs, spread_marks};
 use cam_shapes::{Cap, Contour, Seg};
@@ -42,26 +39,25 @@ impl Grid {
     }
 }
 
-/// Marks the inside of a contour that is filed for the rows of a grid, and as many columns from its left on: the words of
-/// the tiles that these take up.
-pub(crate) fn mark_inside(
-    marks: &mut [u64],
-    grid: &Grid,
-    columns: u32,
-    contour: &Contour,
-    filed: &[FiledSegment],
-)
-    requires grid { IsWideGrid grid.now columns }
-    requires room { 64 * ((columns + 63) / 64) ≤ length marks.old }
-    requires contour { IsOnBoardWhole contour.now }
-    requires filed { AreFiled contour.now (levels_of grid.now) filed.now }
-    ensures { MarksCentres grid.now columns (λ s. IsInContour s contour.now) marks.new }
-{
-    let words = 64 * columns.div_ceil(64) as usize;
-    let marks = &mut marks[..words];
-    marks.fill(0);
-    turn_filed(marks, grid, columns, contour, filed);
-    spread_marks(marks);
+/// A contour with those of its segments that are filed for some rows.
+#[derive(Clone, Copy)]
+pub(crate) struct FiledContour<'a> {
+    pub(crate) contour: &'a Contour,
+    pub(crate) filed: &'a [FiledSegment],
+}
+
+impl<'a> MarkShape for FiledContour<'a> {
+    ghost is_ready = { λ c g. IsOnBoardWhole c.contour.now × AreFiled c.contour.now (levels_of g) c.filed.now };
+
+    ghost shape = { λ c. Filled c.contour.now };
+
+    fn mark(&self, marks: &mut [u64], _: &mut [u64], grid: &Grid, columns: u32) {
+        let words = 64 * columns.div_ceil(64) as usize;
+        let marks = &mut marks[..words];
+        marks.fill(0);
+        turn_filed(marks, grid, columns, self.contour, self.filed);
+        spread_marks(marks);
+    }
 }
 
 /// Counts the segments of a contour that are filed. Those that lie right of all columns turn over whole rows, and those
@@ -258,29 +254,4 @@ fn turn_reached(
     };
     cap_runs(cap, &top, firsts, ends);
     mark_runs(marks, band.first, firsts, ends);
-}
-
-/// Joins the masks from one number to another with the inside of a region, by its marks in the row of tiles of which
-/// each mask is one: they begin at the tile of a number.
-pub(crate) fn fill_marked(
-    masks: &mut [Mask],
-    first: usize,
-    end: usize,
-    tiles: &[u32],
-    from: u32,
-    marks: &[u64],
-    region: Region<'_>,
-)
-    requires end { end ≤ length masks.old }
-    requires tiles { end ≤ length tiles.now }
-    requires from { (k : ℕ) → first ≤ k → k < end → from ≤ slice_index tiles.now k }
-    requires marked { (k : ℕ) → first ≤ k → k < end → AreMarkedAt (slice_index tiles.now k - from)
-        (grid_at masks.old k) (λ s. IsInContour s region.contour.now) marks.now }
-    ensures { ArePaintedIn first end (leaf (Filled region.entry.contour.now) region.entry.dark ∷ [])
-        masks.old masks.new }
-{
-    let how = Join::inked(region.dark);
-    for k in first..end {
-        masks[k].join_tile(marks, tiles[k] - from, how);
-    }
 }

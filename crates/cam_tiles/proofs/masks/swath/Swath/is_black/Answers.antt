@@ -13,6 +13,7 @@ invariant_of-self c =
       laid = c.self.invariant.laid;
       stand = c.self.invariant.stand;
       room = c.self.invariant.room;
+      spare = c.self.invariant.spare;
       known = omega (arith, c.self.invariant.known, ap length rows, c.are_solid.auto.solid, c.deref_mut.ensures.len);
       solid = subst (λ known. AreSolid known s.masks.items) (sym rows)
           (subst (AreSolid c.are_solid.new.solid) c.deref.ensures.value c.are_solid.ensures.rows);

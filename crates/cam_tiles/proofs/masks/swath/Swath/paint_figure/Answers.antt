@@ -60,6 +60,7 @@ invariant_of-self c =
       laid = kept.0;
       stand = kept.1;
       room = c.self.invariant.room;
+      spare = c.self.invariant.spare;
       known = omega (arith, c.self.invariant.known, part.size, ap length rows, c.follow.auto.solid, c.deref_mut.ensures.len);
       solid = solid_back s.solid.items c.deref_mut.result.now c.follow.new.solid _ s.masks.items _
           c.deref_mut.ensures.value rows

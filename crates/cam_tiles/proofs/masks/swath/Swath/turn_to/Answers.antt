@@ -29,6 +29,7 @@ invariant_of-self-2 c =
           (ap pitch_of c.grid-corner.ensures.value));
       stand = c.put_blanks-self-inside.ensures.stand c.grid-corner.result c.grid-corner.ensures.value;
       room = omega (arith, c.put_blanks-self-inside.ensures.each, c.in_ok-resize-2.ensures.len);
+      spare = omega (arith, c.put_blanks-self-inside.ensures.each, c.in_ok-resize-3.ensures.len);
       known = omega (
         arith,
         ap length c.put_blanks-self-inside.ensures.grids,
