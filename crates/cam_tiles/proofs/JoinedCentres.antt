@@ -1,7 +1,7 @@
 -- Centres in the rows of tiles that are joined: those of an outline, by marks, in a part of the tiles.
-use Rattle.std.proofs.Common.{◌≡◌, ◌↔◌, ℕ, ◌+◌, ◌-◌, ◌*◌, ◌/◌, ◌%◌, ◌<◌, ◌≤◌, IsTrue, List, length, slice_index, min}
+use Rattle.std.proofs.Common.{◌≡◌, ◌↔◌, ℕ, ◌+◌, ◌-◌, ◌*◌, ◌/◌, ◌%◌, ◌<◌, ◌≤◌, IsTrue, List, ◌++◌, length, slice_index, min}
 use Rattle.std.proofs.Common.{ap, subst, rules, arith}
-use Rattle.std.proofs.lemmas.List.{places}
+use Rattle.std.proofs.lemmas.List.{get_or_append_left, places}
 use borrow.Rule.Slice.PartMut.{mid_of, put_mid}
 use Rattle.cam_units.specs.declared.point.Point.{Point}
 use Rattle.cam_units.specs.declared.point.Spot.{Spot}
@@ -10,6 +10,7 @@ use Rattle.cam_rows.specs.Marks.{is_marked, is_set}
 use Rattle.cam_tiles.specs.declared.grid.Grid.{Grid}
 use Rattle.cam_tiles.specs.declared.masks.join.Join.{Join}
 use Rattle.cam_tiles.specs.Machinery.Masks.{joined}
+use Rattle.cam_tiles.specs.Machinery.Turning.{AreWide, MarksCentres}
 use Rattle.cam_tiles.specs.Machinery.Words.{JoinsCentres, JoinsColumns, part_seen}
 use Rattle.cam_tiles.specs.Tiles.{centre_in}
 use Rattle.cam_tiles.proofs.Joined.{joined_like, same}
@@ -35,6 +36,15 @@ pub none_joined : (g : Grid) (columns : ℕ) (how : Join) (P : Spot → Type 0) 
 none_joined g columns how P old none = record {
   each = λ column row near below. joined_none how _ (P (centre_in g column row)) (none column row near below);
 }
+
+-- words behind those of some columns change none of them
+pub marks_kept : (g : Grid) (columns : ℕ) (P : Spot → Type 0) (part rest : List ℕ) → g.rows ≤ 64 → AreWide columns part
+    → MarksCentres g columns P part → MarksCentres g columns P (part ++ rest)
+marks_kept g columns P part rest few wide told column row near within =
+    let k = 64 * (column / 64) + row in
+    let same : slice_index (part ++ rest) k ≡ slice_index part k =
+    get_or_append_left part rest 0 k (omega (arith, near, within, few, wide.room, wide.tiles)) in
+    rw same (told column row near within)
 
 -- ---- the words of a part of the tiles
 

@@ -188,7 +188,7 @@ module _ (g : Grid) (columns : ℕ) where
       (none_odd (turns_past marks row) (length marks / 64 - (column / 64 + 1)) (column / 64 + 1)
       (λ j _. blank (64 * j + row) 0))
 
-  spread_inside : (P : Spot → Type 0) (blank turned spread : List ℕ)
+  pub spread_inside : (P : Spot → Type 0) (blank turned spread : List ℕ)
       → ((k : ℕ) → k < length blank → slice_index blank k ≡ 0) → g.rows ≤ 64 → columns ≤ length turned
       → TurnsCentres g columns P blank turned → AreSpread turned spread → MarksCentres g columns P spread
   spread_inside P blank turned spread none few room h told column row near within =

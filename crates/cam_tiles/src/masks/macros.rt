@@ -1,29 +1,31 @@
 //! Macros in the rows of tiles side by side: each primitive is gone through once for all of them.
 
-ghost use Rattle.std.specs.Prelude.{◌≡◌, ◌<◌, ◌≤◌, ◌+◌, ◌*◌, ◌/◌, ℕ, All, length, map};
+ghost use Rattle.std.specs.Prelude.{◌≡◌, ◌<◌, ◌≤◌, ◌+◌, ◌*◌, ◌/◌, ℕ, All, length};
 ghost use Rattle.cam_units.specs.Board.{IsOnBoard, IsPlace};
 ghost use Rattle.cam_units.specs.declared.point.Spot.{Spot};
 ghost use Rattle.cam_units.specs.Boxes.{Holds};
 ghost use Rattle.cam_shapes.specs.Contour.{IsInContour};
 ghost use Rattle.cam_shapes.specs.Outline.{outline_of};
 ghost use Rattle.cam_shapes.specs.Placing.{placed_contour};
-ghost use Rattle.cam_apertures.specs.Cover.{IsInShape, IsPainted};
+ghost use Rattle.cam_apertures.specs.Cover.{IsInShape};
+ghost use Rattle.cam_apertures.specs.declared.aperture.Aperture.TheVariants.{Prims};
 ghost use Rattle.cam_apertures.specs.Machinery.Boxes.{IsSmallBox};
 ghost use Rattle.cam_apertures.specs.Primitives.{IsMacroPoint, IsSoundOutline, IsSoundPrim, box_of_point};
-ghost use Rattle.cam_apertures.specs.Turned.{turned_prim, turned_shape};
+ghost use Rattle.cam_apertures.specs.Turned.{turned_shape};
 ghost use Rattle.cam_apertures.specs.Views.{primitive_of, shape_of};
 ghost use Rattle.cam_objects.specs.Image.{relative};
-ghost use Rattle.cam_objects.specs.Leaves.{origin};
+ghost use Rattle.cam_objects.specs.Leaves.{Stamp, origin};
 ghost use Rattle.cam_rows.specs.Runs.{most_columns};
 ghost use Rattle.cam_tiles.specs.Machinery.Masks.{inked};
 ghost use Rattle.cam_tiles.specs.Machinery.Runs.{IsWideGrid};
-ghost use Rattle.cam_tiles.specs.Machinery.Turning.{AreWide, IsField, MarksCentres};
+ghost use Rattle.cam_tiles.specs.Machinery.Turning.{AreWide, IsField};
 ghost use Rattle.cam_tiles.specs.Machinery.Words.{AreReached, JoinsCentres, part_seen};
 ghost use Rattle.cam_tiles.specs.Tiles.{IsGrid, centre_in};
 
 use crate::grid::Grid;
 use crate::masks::heights::{HasHeights, Heights};
 use crate::masks::join::Join;
+use crate::masks::marked::MarkShape;
 use crate::masks::placed::turn_outline;
 use crate::masks::runs::Runs;
 use crate::masks::swath::Pitch;
@@ -53,41 +55,34 @@ impl Grid {
     }
 }
 
-/// Marks what primitives paint, once they are turned, at a point, in the rows of a grid, and as many columns from its left
-/// on: the words of the tiles that these take up. A later primitive takes back what it clears. There is room for the marks
-/// of an outline, and for the runs of a shape.
-pub(crate) fn mark_primitives(
-    own: &mut [u64],
-    marks: &mut [u64],
-    runs: &mut Runs,
-    grid: &Grid,
-    columns: u32,
-    prims: &Primitives,
-    turn: Turn,
-    at: Point,
-)
-    requires grid { IsWideGrid grid.now columns }
-    requires room { 64 * ((columns + 63) / 64) ≤ length own.old }
-    requires marks { 64 * ((columns + 63) / 64) ≤ length marks.old }
-    requires prims { All IsSoundPrim prims.now }
-    requires at { IsOnBoard at }
-    ensures { MarksCentres grid.now columns
-        (λ s. IsPainted (map (turned_prim turn) prims.now) (relative at s)) own.new }
-{
-    let words = 64 * columns.div_ceil(64) as usize;
-    let own = &mut own[..words];
-    own.fill(0);
-    for place in 0..prims.len() {
-        let primitive = prims.at(place);
-        join_primitive(own, marks, runs, grid, columns, primitive, turn, at);
+/// The primitives of a macro, mirrored and turned about the flash point, which comes to lie at a point.
+#[derive(Clone, Copy)]
+pub(crate) struct PlacedMacro<'a> {
+    pub(crate) prims: &'a Primitives,
+    pub(crate) turn: Turn,
+    pub(crate) at: Point,
+}
+
+impl<'a> MarkShape for PlacedMacro<'a> {
+    ghost is_ready = { λ m g. All IsSoundPrim m.prims.now × IsOnBoard m.at };
+
+    ghost shape = { λ m. Stamp (Prims m.prims.now) m.turn m.at };
+
+    fn mark(&self, marks: &mut [u64], spare: &mut [u64], grid: &Grid, columns: u32) {
+        let words = 64 * columns.div_ceil(64) as usize;
+        let marks = &mut marks[..words];
+        marks.fill(0);
+        for place in 0..self.prims.len() {
+            let primitive = self.prims.at(place);
+            join_primitive(marks, spare, grid, columns, primitive, self.turn, self.at);
+        }
     }
 }
 
 /// Adds what a primitive paints, or clears what it takes back.
 fn join_primitive(
-    own: &mut [u64],
     marks: &mut [u64],
-    runs: &mut Runs,
+    spare: &mut [u64],
     grid: &Grid,
     columns: u32,
     primitive: PrimitiveView<'_>,
@@ -95,12 +90,12 @@ fn join_primitive(
     at: Point,
 )
     requires grid { IsWideGrid grid.now columns }
-    requires wide { AreWide columns own.old }
-    requires marks { 64 * ((columns + 63) / 64) ≤ length marks.old }
+    requires wide { AreWide columns marks.old }
+    requires spare { 64 * ((columns + 63) / 64) ≤ length spare.old }
     requires primitive { IsSoundPrim (primitive_of primitive) }
     requires at { IsOnBoard at }
     ensures { JoinsCentres grid.now columns (inked primitive.entry.paint)
-        (λ s. IsInShape (turned_shape turn (shape_of primitive.entry.shape)) (relative at s)) own.old own.new }
+        (λ s. IsInShape (turned_shape turn (shape_of primitive.entry.shape)) (relative at s)) marks.old marks.new }
 {
     let how = Join::inked(primitive.paint);
     match primitive.shape {
@@ -109,7 +104,7 @@ fn join_primitive(
                 centre: turn.apply(centre),
                 diameter,
             };
-            join_shape(own, runs, grid, columns, &disc, at, how);
+            join_shape(marks, grid, columns, &disc, at, how);
         }
         ShapeView::Bar { from, to, width } => {
             let bar = Bar {
@@ -117,7 +112,7 @@ fn join_primitive(
                 to: turn.apply(to),
                 width,
             };
-            join_shape(own, runs, grid, columns, &bar, at, how);
+            join_shape(marks, grid, columns, &bar, at, how);
         }
         ShapeView::Rect {
             centre,
@@ -129,18 +124,17 @@ fn join_primitive(
                 width: turned_width(turn, width, height),
                 height: turned_height(turn, width, height),
             };
-            join_shape(own, runs, grid, columns, &rectangle, at, how);
+            join_shape(marks, grid, columns, &rectangle, at, how);
         }
         ShapeView::Outline { points } => {
-            join_outline(own, marks, grid, columns, points, turn, at, how);
+            join_outline(marks, spare, grid, columns, points, turn, at, how);
         }
     }
 }
 
 /// Joins the columns with those of a shape, which stands at a point as it does about (0, 0), by its runs.
 fn join_shape<S: HasHeights>(
-    own: &mut [u64],
-    runs: &mut Runs,
+    marks: &mut [u64],
     grid: &Grid,
     columns: u32,
     shape: &S,
@@ -148,20 +142,21 @@ fn join_shape<S: HasHeights>(
     how: Join,
 )
     requires grid { IsWideGrid grid.now columns }
-    requires wide { AreWide columns own.old }
+    requires wide { AreWide columns marks.old }
     requires sound { S.is_sound shape.now }
     requires at { IsOnBoard at }
-    ensures { JoinsCentres grid.now columns how (λ s. S.holds shape.now (relative at s)) own.old own.new }
+    ensures { JoinsCentres grid.now columns how (λ s. S.holds shape.now (relative at s)) marks.old marks.new }
 {
+    let mut runs = Runs::none();
     runs.find(shape, at, grid, columns);
-    join_wide(own, columns, runs, how);
+    join_wide(marks, columns, &runs, how);
 }
 
 /// Joins the columns with the inside of an outline that is turned about (0, 0), at a point: in the tiles alone that its box
 /// reaches.
 fn join_outline(
-    own: &mut [u64],
     marks: &mut [u64],
+    spare: &mut [u64],
     grid: &Grid,
     columns: u32,
     points: &[Point],
@@ -170,13 +165,13 @@ fn join_outline(
     how: Join,
 )
     requires grid { IsWideGrid grid.now columns }
-    requires wide { AreWide columns own.old }
-    requires marks { 64 * ((columns + 63) / 64) ≤ length marks.old }
+    requires wide { AreWide columns marks.old }
+    requires spare { 64 * ((columns + 63) / 64) ≤ length spare.old }
     requires points { IsSoundOutline points.now }
     requires at { IsOnBoard at }
     ensures { JoinsCentres grid.now columns how
         (λ s. IsInContour (relative at s) (placed_contour turn origin.offset (outline_of points.now)))
-        own.old own.new }
+        marks.old marks.new }
 {
     let bounds = turned_bounds(points, turn);
     let tiles = reached_tiles(grid, columns, bounds, at);
@@ -185,16 +180,16 @@ fn join_outline(
     }
     let first = 64 * tiles.first;
     let end = 64 * tiles.end;
-    let own = &mut own[first as usize..end as usize];
-    let marks = &mut marks[..(end - first) as usize];
+    let marks = &mut marks[first as usize..end as usize];
+    let spare = &mut spare[..(end - first) as usize];
     let part = grid.part_seen(tiles.first, at);
-    join_inside(own, marks, &part, columns.min(end) - first, points, turn, how);
+    join_inside(marks, spare, &part, columns.min(end) - first, points, turn, how);
 }
 
 /// Joins the columns with the inside of an outline that is turned about (0, 0), by marks of as many tiles.
 fn join_inside(
-    own: &mut [u64],
     marks: &mut [u64],
+    spare: &mut [u64],
     grid: &Grid,
     columns: u32,
     points: &[Point],
@@ -202,16 +197,16 @@ fn join_inside(
     how: Join,
 )
     requires grid { IsField grid.now columns }
-    requires wide { AreWide columns own.old }
-    requires same { length marks.old ≡ length own.old }
+    requires wide { AreWide columns marks.old }
+    requires same { length spare.old ≡ length marks.old }
     requires points { IsSoundOutline points.now }
     ensures { JoinsCentres grid.now columns how
-        (λ s. IsInContour s (placed_contour turn origin.offset (outline_of points.now))) own.old own.new }
+        (λ s. IsInContour s (placed_contour turn origin.offset (outline_of points.now))) marks.old marks.new }
 {
-    marks.fill(0);
-    turn_outline(marks, grid, columns, points, turn);
-    spread_marks(marks);
-    join_words(own, marks, how);
+    spare.fill(0);
+    turn_outline(spare, grid, columns, points, turn);
+    spread_marks(spare);
+    join_words(marks, spare, how);
 }
 
 /// The box of an outline that is turned about (0, 0).

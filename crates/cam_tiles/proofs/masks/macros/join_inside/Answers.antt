@@ -24,8 +24,8 @@ returns c =
     let blank = c.fill.new.self in
     let turned = c.turn_outline.new.marks in
     let spread = c.spread_marks.new.marks in
-    columns_joined grid columns (length c.args.own.now) c.args.how (λ row column. IsTrue (is_marked spread row column))
-    IsHeld c.args.own.now c.join_words.new.words c.requires.grid.rows c.requires.wide.room
+    columns_joined grid columns (length c.args.marks.now) c.args.how (λ row column. IsTrue (is_marked spread row column))
+    IsHeld c.args.marks.now c.join_words.new.words c.requires.grid.rows c.requires.wide.room
     (spread_inside grid columns IsHeld blank turned spread
     (λ k within. c.fill.ensures.clones k 0 (rw c.fill.ensures.len at within) refl) c.requires.grid.rows
     (omega (arith, c.requires.wide.room, c.requires.same, c.turn_outline.auto.marks, c.fill.ensures.len))

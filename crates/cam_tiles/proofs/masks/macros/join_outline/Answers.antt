@@ -16,7 +16,7 @@ pub returns-then-tiles : goal.returns-then-tiles
 returns-then-tiles c =
     none_joined c.args.grid.now c.args.columns c.args.how
     (λ s. IsInContour (relative c.args.at s) (placed_contour c.args.turn origin.offset (outline_of c.args.points.now)))
-    c.args.own.now
+    c.args.marks.now
     (λ column row near below held.
     let on = c.reached_tiles-tiles.ensures.each column row near below (c.turned_bounds-bounds.ensures.held _ held) in
     omega (arith, on.0, on.1, c.if-tiles.true))
@@ -38,12 +38,12 @@ returns c =
     let tiles = c.reached_tiles-tiles.result in
     let IsHeld : Spot → Type 0 =
     λ s. IsInContour s (placed_contour c.args.turn origin.offset (outline_of c.args.points.now)) in
-    let long : 64 * tiles.end ≤ length c.args.own.now =
+    let long : 64 * tiles.end ≤ length c.args.marks.now =
     omega (arith, c.reached_tiles-tiles.ensures.end, c.requires.wide.room, c.requires.wide.tiles) in
-    part_joined c.args.grid.now c.args.columns c.args.how c.args.at tiles.first tiles.end c.min.result IsHeld c.args.own.now
-    c.join_inside.new.own c.if-tiles.false long c.requires.grid.grid.rows.1
-    (c.join_inside.auto.own
-    ∙ part_length (64 * tiles.first) (64 * tiles.end) c.args.own.now (omega (arith, c.if-tiles.false)) long)
+    part_joined c.args.grid.now c.args.columns c.args.how c.args.at tiles.first tiles.end c.min.result IsHeld c.args.marks.now
+    c.join_inside.new.marks c.if-tiles.false long c.requires.grid.grid.rows.1
+    (c.join_inside.auto.marks
+    ∙ part_length (64 * tiles.first) (64 * tiles.end) c.args.marks.now (omega (arith, c.if-tiles.false)) long)
     c.min.ensures
     (λ column row near below held.
     c.reached_tiles-tiles.ensures.each column row near below (c.turned_bounds-bounds.ensures.held _ held))

@@ -12,8 +12,8 @@ returns-in-Outline c =
     let primitive = c.args.primitive in
     let points = c.in-Outline.points.now in
     subst
-    (λ (P : Spot → Type 0). JoinsCentres c.args.grid.now c.args.columns (inked primitive.paint) P c.args.own.now
-    c.join_outline.new.own)
+    (λ (P : Spot → Type 0). JoinsCentres c.args.grid.now c.args.columns (inked primitive.paint) P c.args.marks.now
+    c.join_outline.new.marks)
     (λ i s. outline_places c.args.turn (shape_of primitive.shape) points points (relative c.args.at s)
     (ap shape_of c.in-Outline.is) refl i)
     (rw c.inked-how.ensures at c.join_outline.ensures)
