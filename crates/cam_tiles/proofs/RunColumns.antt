@@ -151,29 +151,6 @@ tells_whole g columns at h IsHeld r heights told = record {
       );
 }
 
--- the rows of a grid itself
-pub own_grid : (g : Grid) → IsGrid g → IsWideGrid g g.cols
-own_grid g grid = record {
-  grid = grid;
-  count = (grid.columns.0, omega (arith, grid.columns.1));
-  centres = grid.centres;
-}
-
--- marks that are joined with the runs of a shape in the rows of their own grid
-pub joins_runs : (how : Join) (IsHeld : Spot → Type 0) (g : Grid) (r : Runs) (old new : Marking) → g ≡ old.grid
-    → Tells g g.cols IsHeld r → new.grid ≡ old.grid
-    → ((i row : ℕ) → IsIn old.grid i row
-    → IsMarked new i row ↔ joined how (IsMarked old i row) (HasColumn r row (0 + i)))
-    → Joins how IsHeld old new
-joins_runs how IsHeld g r old new is told grid marks =
-    let here = subst (λ (o : Grid). Tells o o.cols IsHeld r) is told in
-    record {
-      grid = grid;
-      marks = λ i row inside.
-          joined_like how _ _ _ _ _ ((λ a. a), (λ a. a)) (here.each i row inside.0 inside.1)
-          (rw (zero-add i) at (marks i row inside));
-    }
-
 -- ---- rows that go on to the right
 
 abbrev pub top_of : Grid → ℕ → ℕ → Centres

@@ -52,13 +52,13 @@ impl Canvas for Mask {
     }
 
     fn paint(&mut self, print: Print<'_>) {
-        self.paint_leaf(print, false);
+        self.paint_leaf(print);
     }
 }
 
 impl Mask {
-    /// Paints a leaf. The primitives of a macro are found row by row, or, where it is to be quick, by their runs.
-    pub(crate) fn paint_leaf(&mut self, print: Print<'_>, quick: bool)
+    /// Paints a leaf.
+    pub(crate) fn paint_leaf(&mut self, print: Print<'_>)
         requires { IsSoundPrint print }
         ensures { PaintsMask self.old (leaf_of print.entry ∷ []) self.new }
     {
@@ -75,7 +75,7 @@ impl Mask {
         }
         let how = Join::inked(print.dark);
         match print.figure {
-            Figure::Stamp { aperture, turn, at } => self.stamp(aperture, turn, at, how, quick),
+            Figure::Stamp { aperture, turn, at } => self.stamp(aperture, turn, at, how),
             Figure::Filled {
                 contour,
                 turn,

@@ -146,6 +146,6 @@ pub(crate) fn paint_each(masks: &mut [Mask], first: usize, end: usize, print: Pr
     ensures { ArePaintedIn first end (leaf_of print.entry ∷ []) masks.old masks.new }
 {
     for k in first..end {
-        masks[k].paint_leaf(print, true);
+        masks[k].paint_leaf(print);
     }
 }
