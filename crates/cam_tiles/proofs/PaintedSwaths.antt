@@ -1,5 +1,5 @@
 -- Swaths: leaves that are painted on masks side by side, and what is kept of these.
-use Rattle.std.proofs.Common.{◌≡◌, ◌↔◌, ◌⊎◌, ℕ, ◌+◌, ◌*◌, ◌/◌, ◌%◌, ◌<◌, ◌≤◌, ℤ, ◌≤ℤ◌, ◌<ℤ◌, Bool, true, List, length, map, set, get_or}
+use Rattle.std.proofs.Common.{◌≡◌, ◌↔◌, ◌⊎◌, ℕ, ◌+◌, ◌*◌, ◌/◌, ◌%◌, ◌<◌, ◌≤◌, ℤ, ◌≤ℤ◌, ◌<ℤ◌, Bool, true, List, [], ◌∷◌, length, map, set, get_or}
 use Rattle.std.proofs.Common.{refl, sym, ap, subst, ◌∙◌, inl, inr, arith}
 use Rattle.std.specs.List.{All}
 use Rattle.std.proofs.lemmas.Bool.{cases_lt}
@@ -10,7 +10,8 @@ use Rattle.cam_units.specs.Boxes.{Holds}
 use Rattle.cam_units.specs.declared.bounds.Bounds.{Bounds}
 use Rattle.cam_units.specs.declared.point.Spot.{Spot}
 use Rattle.cam_objects.specs.Bounds.{bounds_of}
-use Rattle.cam_objects.specs.Leaves.{Leaf}
+use Rattle.cam_objects.specs.Image.{Covers}
+use Rattle.cam_objects.specs.Leaves.{Leaf, Shape, leaf}
 use Rattle.cam_objects.specs.Tests.{is_black, painted}
 use Rattle.cam_objects.proofs.Canvases.{paints_missed}
 use Rattle.cam_tiles.specs.declared.grid.Grid.{Grid}
@@ -27,7 +28,7 @@ use Rattle.cam_tiles.specs.Tiles.{IsGrid, centre_in, grid_of, tile_rows}
 use Rattle.cam_tiles.proofs.DrawnTiles.{dirty}
 use Rattle.cam_tiles.proofs.GridLemmas.{on_board}
 use Rattle.cam_tiles.proofs.MaskWords.{rows_of_marks}
-use Rattle.cam_tiles.proofs.PaintedMasks.{clear_if_unmarked}
+use Rattle.cam_tiles.proofs.PaintedMasks.{clear_if_unmarked, passed_by}
 use Rattle.cam_tiles.proofs.PaintedTiles.{ink_of_image, marks_of_ink, painted_grid, same_grid, same_levels}
 use Rattle.cam_tiles.proofs.SwathLayouts.{levels_are, mask_there}
 use Rattle.cam_tiles.proofs.TilesInOrder.{all_grids, length-dirty_grids}
@@ -160,6 +161,17 @@ one_more_painted first i leaves old now new d m so_far begun within is painted =
         | inr late ↦ elsewhere k (λ same. omega arith) ∙ so_far.others k (inr (omega arith))
       ];
     }
+
+-- a leaf that covers no centre leaves them as they are
+pub none_covered : (first end : ℕ) (shape : Shape) (dark : Bool) (masks : List Marking)
+    → ((k column row : ℕ) → IsIn (grid_at masks k) column row → Covers shape (centre_in (grid_at masks k) column row)
+    → ⊥)
+    → ArePaintedIn first end (leaf shape dark ∷ []) masks masks
+none_covered first end shape dark masks off = record {
+  size = refl;
+  each = λ k after until. passed_by (mask_at masks k) shape dark (off k);
+  others = λ k apart. refl;
+}
 
 -- the next of them is as it was
 pub untouched : (first i : ℕ) (leaves : List Leaf) (old now : List Marking) (d : Marking)

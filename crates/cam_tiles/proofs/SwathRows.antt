@@ -12,7 +12,9 @@ use Rattle.cam_tiles.specs.declared.grid.Grid.{Grid}
 use Rattle.cam_tiles.specs.declared.levels.Levels.{Levels}
 use Rattle.cam_tiles.specs.declared.masks.figure_runs.FigureRuns.{FigureRuns}
 use Rattle.cam_tiles.specs.declared.window.Window.{Window}
-use Rattle.cam_tiles.specs.Machinery.Masks.{IsIn, Marking}
+use Rattle.cam_tiles.specs.declared.masks.heights.Heights.{Heights}
+use Rattle.cam_tiles.specs.Machinery.Levels.{IsOnRow, levels_of}
+use Rattle.cam_tiles.specs.Machinery.Masks.{IsIn, IsWithin, Marking}
 use Rattle.cam_tiles.specs.Machinery.Runs.{IsWideGrid, StandsAt}
 use Rattle.cam_tiles.specs.Machinery.Figures.{AllFit, HasPart, IsToldAt, TellsFigure}
 use Rattle.cam_tiles.specs.Machinery.Swaths.{StandInRow, grid_at, no_mask}
@@ -242,3 +244,16 @@ module _ (g : Grid) (columns : ℕ) (tiles before : List ℕ) (masks : List Mark
             | inr over ↦ omega (arith, on.1, over)
           ]
         ]
+
+  -- where none of these rows lies between two heights, the masks hold no place that does
+  pub no_row_there : (IsHeld : Spot → Type 0) (heights : Heights) (first end : ℕ) → end ≤ first
+      → ((row : ℕ) (s : Spot) → IsOnRow (levels_of g) row s → ((first ≤ row) × (row < end)) ↔ IsWithin heights s)
+      → ((s : Spot) → IsHeld s → IsWithin heights s) → (k column row : ℕ) → IsIn (grid_at masks k) column row
+      → IsHeld (centre_in (grid_at masks k) column row) → ⊥
+  no_row_there IsHeld heights first end empty rows lies k column row there held =
+      let at = stand.each k (mask_there masks k column row there) in
+      let s = centre_in (grid_at masks k) column row in
+      let on : IsOnRow (levels_of g) row s =
+      (omega (arith, there.1, at.rows), ap (λ (t : Spot). t.y) (at.centres column row)) in
+      let band = (rows row s on).1 (lies s held) in
+      omega (arith, band.0, band.1, empty)

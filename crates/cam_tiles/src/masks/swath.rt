@@ -5,13 +5,14 @@ ghost use Rattle.std.specs.Prelude.{pos, vec_capacity, ◌+ℤ◌, ◌*ℤ◌, �
 ghost use Rattle.cam_units.specs.Boxes.{Holds};
 ghost use Rattle.cam_units.specs.declared.point.Spot.{Spot};
 ghost use Rattle.cam_objects.specs.Bounds.{bounds_of};
-ghost use Rattle.cam_objects.specs.Canvases.{IsSoundPrint, leaf_of};
+ghost use Rattle.cam_objects.specs.Canvases.{IsSoundPrint, leaf_of, shape_of};
+ghost use Rattle.cam_objects.specs.Image.{Covers};
 ghost use Rattle.cam_objects.specs.Leaves.{Filled, Shape, leaf};
 ghost use Rattle.cam_tiles.specs.declared.grid.Grid.{Grid};
 ghost use Rattle.cam_tiles.specs.Machinery.Filing.{AreFiled, IsOnBoardWhole};
 ghost use Rattle.cam_tiles.specs.Machinery.Levels.{levels_of};
 ghost use Rattle.cam_tiles.specs.Machinery.Masks.{IsBlank, IsIn};
-ghost use Rattle.cam_tiles.specs.Machinery.Figures.{IsPlacedFor};
+ghost use Rattle.cam_tiles.specs.Machinery.Figures.{IsComposed, IsPlacedFor, LiesWithin};
 ghost use Rattle.cam_tiles.specs.declared.masks.swath.Pitch.{Pitch};
 ghost use Rattle.cam_tiles.specs.Machinery.Swaths.{
   AreDrawn,
@@ -40,12 +41,14 @@ use crate::masks::filing::FiledSegment;
 use crate::masks::heights::Heights;
 use crate::masks::marked::{MarkShape, fill_marked};
 use crate::masks::mask::{Mask, masks_before};
+use crate::masks::placed::PlacedContour;
 use crate::masks::solid::{are_black_in, are_solid, follow};
 use crate::masks::turning::FiledContour;
 use crate::painter::Tile;
 use crate::shown::Region;
 use crate::window::Window;
-use cam_objects::{Canvas, Print};
+use cam_objects::{Canvas, Figure, Print};
+use cam_shapes::Placing;
 use cam_units::{Bounds, Spot};
 use std::alloc::{AllocError, Global};
 use std::marker::Model;
@@ -279,6 +282,36 @@ impl Swath {
         paint_figures(&mut self.masks, first, end, &self.tiles, &self.runs, print);
     }
 
+    /// Paints a contour or a macro, which lies between two heights, on the masks from one number to another.
+    fn paint_composed(&mut self, first: usize, end: usize, heights: Heights, print: Print<'_>)
+        requires some { first < end }
+        requires end { end ≤ length self.old }
+        requires print { IsSoundPrint print }
+        requires composed { IsComposed print.figure }
+        requires heights { LiesWithin heights (Covers (shape_of print.figure)) }
+        ensures { ArePaintedIn first end (leaf_of print.entry ∷ []) self.old self.new }
+    {
+        let band = self.corner.levels().band(heights);
+        if band.end <= band.first {
+            return;
+        }
+        match print.figure {
+            Figure::Filled {
+                contour,
+                turn,
+                offset,
+            } => {
+                let placing = Placing { turn, offset };
+                let contour = PlacedContour { contour, placing };
+                self.fill_together(first, end, &contour, print.dark);
+            }
+            _ => {
+                follow(&mut self.solid, first, end, print.dark);
+                paint_each(&mut self.masks, first, end, print);
+            }
+        }
+    }
+
     /// The number of the first mask that may have a centre at a place across or right of it, in half nm.
     fn first_reached(&self, x: i64) -> usize
         ensures { (k column row : ℕ) → k < result → IsIn (grid_at self.now k) column row
@@ -320,6 +353,9 @@ impl Canvas for Swath {
         };
         let first = self.first_reached(low.x);
         let end = self.end_reached(high.x);
+        if end <= first {
+            return;
+        }
         if self.is_hidden(first, end, print.dark) {
             return;
         }
@@ -327,14 +363,10 @@ impl Canvas for Swath {
             low: low.y,
             high: high.y,
         };
-        if first < end
-            && let Some(placed) = placed_of(&print.figure, heights)
-        {
-            self.paint_figure(&placed, print);
-            return;
+        match placed_of(&print.figure, heights) {
+            Some(placed) => self.paint_figure(&placed, print),
+            None => self.paint_composed(first, end, heights, print),
         }
-        follow(&mut self.solid, first, end, print.dark);
-        paint_each(&mut self.masks, first, end, print);
     }
 }
 
