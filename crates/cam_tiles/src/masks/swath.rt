@@ -1,7 +1,7 @@
 //! The tiles of a row of tiles that are drawn at once, as masks side by side.
 
 ghost use Rattle.std.specs.Prelude.{◌≡◌, ◌+◌, ◌<◌, ◌≤◌, ◌⊎◌, ℕ, ◌∷◌, [], OnOk, count_by, is_none, length, map};
-ghost use Rattle.std.specs.Prelude.{pos, vec_capacity, ◌+ℤ◌, ◌*ℤ◌, ◌≤ℤ◌, ◌<ℤ◌, ℤ, Bool, IsTrue, true};
+ghost use Rattle.std.specs.Prelude.{pos, ◌+ℤ◌, ◌*ℤ◌, ◌≤ℤ◌, ◌<ℤ◌, ℤ, Bool, IsTrue, true};
 ghost use Rattle.cam_units.specs.Boxes.{Holds};
 ghost use Rattle.cam_units.specs.declared.point.Spot.{Spot};
 ghost use Rattle.cam_objects.specs.Bounds.{bounds_of};
@@ -13,28 +13,25 @@ ghost use Rattle.cam_tiles.specs.Machinery.Filing.{AreFiled, IsOnBoardWhole};
 ghost use Rattle.cam_tiles.specs.Machinery.Levels.{levels_of};
 ghost use Rattle.cam_tiles.specs.Machinery.Masks.{IsBlank, IsIn};
 ghost use Rattle.cam_tiles.specs.Machinery.Figures.{IsComposed, IsPlacedFor, LiesWithin};
-ghost use Rattle.cam_tiles.specs.declared.masks.swath.Pitch.{Pitch};
 ghost use Rattle.cam_tiles.specs.Machinery.Swaths.{
   AreDrawn,
   ArePaintedIn,
   HasMask,
   IsInSwath,
-  IsLaidOut,
   IsRowOfTiles,
   PaintsSwath,
-  StandInRow,
   dirty_grids,
   grid_at,
   ink_in,
   mask_at,
-  pitch_of,
   place_in,
 };
 ghost use Rattle.cam_tiles.specs.Picture.{accepts};
 ghost use Rattle.cam_tiles.specs.Tables.{all_drawn_from};
-ghost use Rattle.cam_tiles.specs.Tiles.{across, centre_in, grid_of, tile_rows};
+ghost use Rattle.cam_tiles.specs.Tiles.{centre_in, grid_of, tile_rows};
 
 use crate::grid::Grid;
+use crate::masks::blanks::put_blanks;
 use crate::masks::figure_runs::FigureRuns;
 use crate::masks::figures::{Placed, paint_each, paint_figures, placed_of};
 use crate::masks::filing::FiledSegment;
@@ -385,43 +382,4 @@ impl Pitch {
         let tile = x.abs_diff(self.left) / self.stride.unsigned_abs();
         tile.min(tiles as u64) as usize
     }
-}
-
-/// Puts down a blank mask for each dirty one of tiles that stand in a row of tiles, and which of the tiles it is; and for
-/// each of them, how many masks are of tiles before it. Answers a box that holds the centres of all masks, in half nm.
-fn put_blanks(
-    window: &Window,
-    first: u32,
-    tiles: &[Tile],
-    before: &mut Vec<u32>,
-    own: &mut Vec<u32>,
-    masks: &mut Vec<Mask>,
-) -> Bounds
-    requires accepted { accepts window.now ≡ true }
-    requires row { IsRowOfTiles window.now first tiles.now }
-    requires none_before { before.old.items ≡ [] }
-    requires no_own { own.old.items ≡ [] }
-    requires no_masks { masks.old.items ≡ [] }
-    requires room_before { length tiles.now ≤ vec_capacity before.old }
-    requires room_own { length tiles.now ≤ vec_capacity own.old }
-    requires room { length tiles.now ≤ vec_capacity masks.old }
-    ensures grids { map (λ m. m.grid) masks.new.items ≡ dirty_grids (grid_of window.now) first tiles.now }
-    ensures blank { (k : ℕ) → IsBlank (mask_at masks.new.items k) }
-    ensures laid { (pitch : Pitch) → pitch ≡ pitch_of (grid_of window.now first)
-        → IsLaidOut pitch result before.new.items (length masks.new.items) (grid_at masks.new.items) }
-    ensures stand { (corner : Grid) → corner ≡ grid_of window.now first → StandInRow corner window.now.width
-        own.new.items before.new.items (length masks.new.items) (grid_at masks.new.items) }
-    ensures each { length before.new.items ≡ length tiles.now }
-{
-    let mut bounds = Bounds::Empty;
-    for (tile, drawn) in tiles.iter().enumerate() {
-        before.push_reserved(masks.len() as u32);
-        if drawn.is_none() {
-            let mask = Mask::blank(window.grid(first + tile as u32));
-            bounds = bounds.joined(mask.grid_bounds());
-            own.push_reserved(tile as u32);
-            masks.push_reserved(mask);
-        }
-    }
-    bounds
 }

@@ -4,7 +4,7 @@ use Rattle.cam_tiles.specs.declared.masks.swath.Pitch.{Pitch}
 use Rattle.cam_tiles.specs.Machinery.Masks.{IsBlank, Marking}
 use Rattle.cam_tiles.specs.Machinery.Swaths.{IsLaidOut, StandInRow, dirty_grids, grid_at, mask_at, pitch_of}
 use Rattle.cam_tiles.specs.Tiles.{grid_of}
-use Rattle.cam_tiles.proofs.masks.swath.put_blanks.Given as goal
+use Rattle.cam_tiles.proofs.masks.blanks.put_blanks.Given as goal
 
 abbrev pub invariant-loop-tile : goal.invariant-loop-tile
 invariant-loop-tile l = record {

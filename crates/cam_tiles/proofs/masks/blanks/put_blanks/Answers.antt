@@ -17,8 +17,8 @@ use Rattle.cam_tiles.proofs.SwathRows.{next_mask_stands, next_tile_stands, stand
 use Rattle.cam_tiles.proofs.SwathRows.{wide_row}
 use Rattle.cam_tiles.proofs.TileCounts.{few_across, few_tiles}
 use Rattle.cam_tiles.proofs.TilesInOrder.{grids_clean, grids_dirty, read_clean, read_dirty}
-use Rattle.cam_tiles.proofs.masks.swath.put_blanks.Goals.{then-is_none, else-is_none}
-use Rattle.cam_tiles.proofs.masks.swath.put_blanks.Goals as goal
+use Rattle.cam_tiles.proofs.masks.blanks.put_blanks.Goals.{then-is_none, else-is_none}
+use Rattle.cam_tiles.proofs.masks.blanks.put_blanks.Goals as goal
 
 one_longer : (xs more : List ℕ) (n : ℕ) → more ≡ xs ++ n ∷ [] → length more ≡ length xs + 1
 one_longer xs more n is = ap length is ∙ length_push xs n
