@@ -49,6 +49,7 @@ pub(crate) fn draw(
 
 /// Draws dirty ones of the tiles of a window from a number on, row by row of them: all where there is an allocator and
 /// memory, and the first tile begins a row.
+#[tactic(auto, using(crate::proofs::TileCounts::some_across))]
 fn draw_quickly(
     alloc: Option<Global>,
     shown: &Shown<'_>,
@@ -158,6 +159,7 @@ fn draw_row_last_first(
 }
 
 /// The box of the centres of the dirty ones of the tiles of a window from a number on, in half nm.
+#[tactic(auto, using(crate::proofs::TileCounts::few_tiles))]
 fn box_of_dirty(window: &Window, first: u32, tiles: &[Tile]) -> Bounds
     requires accepted { accepts window.now ≡ true }
     requires within { first + length tiles.now ≤ tiles_of window.now }
@@ -226,6 +228,7 @@ fn draw_row(
 }
 
 /// Draws the dirty ones of the tiles of a window from a number on, tile by tile.
+#[tactic(auto, using(crate::proofs::TileCounts::few_tiles))]
 fn draw_left(shown: &Shown<'_>, window: &Window, first: u32, tiles: &mut [Tile])
     requires ready { IsReady shown.now }
     requires accepted { accepts window.now ≡ true }

@@ -18,6 +18,9 @@ here c =
     (omega (arith, c.loop-row-test.true, c.div_ceil-row-end.ensures))
     (omega (arith, c.min-end.ensures, c.loop-row.auto.tiles))
 
+pub overflow_add-first : goal.overflow_add-first
+overflow_add-first c = let few = (here (goal.at.overflow_add-first c).After-min-end).few in omega (arith, few)
+
 pub overflow_cast-start : goal.overflow_cast-start
 overflow_cast-start c = let few = (here (goal.at.overflow_cast-start c).After-min-end).few in omega (arith, few)
 

@@ -4,16 +4,9 @@ use Rattle.cam_objects.specs.Tests.{is_black}
 use Rattle.cam_tiles.specs.Machinery.Shown.{leaves_of}
 use Rattle.cam_tiles.specs.Tables.{Tile, all_drawn_from}
 use Rattle.cam_tiles.specs.Tiles.{grid_of, tile_rows}
-use Rattle.cam_tiles.proofs.TileCounts.{few_tiles}
 use Rattle.cam_tiles.proofs.TilesInOrder.{all_done, drawn_on, next_clean, next_dirty, none_yet, read_clean, read_dirty}
 use Rattle.cam_tiles.proofs.drawing.draw_left.Goals.{then-is_none, else-is_none}
 use Rattle.cam_tiles.proofs.drawing.draw_left.Goals as goal
-
-pub overflow_cast-k : goal.overflow_cast-k
-overflow_cast-k c = omega (arith, few_tiles c.args.window.now c.requires.accepted, c.requires.within)
-
-pub overflow_add-first : goal.overflow_add-first
-overflow_add-first c = omega (arith, few_tiles c.args.window.now c.requires.accepted, c.requires.within)
 
 pub loop-k-init : goal.loop-k-init
 loop-k-init c =

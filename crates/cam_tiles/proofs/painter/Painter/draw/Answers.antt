@@ -3,17 +3,10 @@ use Rattle.std.proofs.lemmas.List.{drop_all, get_or_default}
 use Rattle.cam_tiles.specs.Tables.{Tile, all_drawn_from}
 use Rattle.cam_tiles.specs.Tiles.{grid_of, tile_rows}
 use Rattle.cam_tiles.proofs.DrawnTiles.{dirty}
-use Rattle.cam_tiles.proofs.TileCounts.{few_tiles}
 use Rattle.cam_tiles.proofs.TilesInOrder.{all_done, drawn_on, next_clean, next_dirty, none_yet, read_clean, read_dirty}
 use Rattle.cam_tiles.proofs.TilesInOrder.{dirty_past_clean, dirty_past_dirty}
 use Rattle.cam_tiles.proofs.painter.Painter.draw.Goals.{then-is_none, else-is_none}
 use Rattle.cam_tiles.proofs.painter.Painter.draw.Goals as goal
-
-pub overflow_cast-k : goal.overflow_cast-k
-overflow_cast-k g c = omega (arith, few_tiles c.args.window.now c.requires.accepted, c.requires.within)
-
-pub overflow_add-first : goal.overflow_add-first
-overflow_add-first g c = omega (arith, few_tiles c.args.window.now c.requires.accepted, c.requires.within)
 
 pub tile-rows-requires-clause-room : goal.tile-rows-requires-clause-room
 tile-rows-requires-clause-room g c =
