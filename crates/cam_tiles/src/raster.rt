@@ -111,6 +111,7 @@ impl Raster {
     }
 
     /// Makes dirty the tiles that hold a pixel centre in the box, or on its edge.
+    #[tactic(auto, using(crate::proofs::TileCounts::some_across, crate::proofs::TileCounts::few_tiles))]
     pub fn touch(&mut self, bounds: Bounds)
         ensures { self.new ≡ touched bounds self.old }
     {
@@ -198,6 +199,7 @@ fn end_of_first(tiles: &[Tile], from: usize, count: u32) -> usize
 }
 
 /// Has the painter draw the dirty ones of the tiles before a number, where none before `start` is dirty.
+#[tactic(auto, using(crate::proofs::TileCounts::few_tiles, crate::proofs::TilesInOrder::dirty_between))]
 fn draw_between<P: Painter>(
     tiles: &mut [Tile],
     start: usize,
