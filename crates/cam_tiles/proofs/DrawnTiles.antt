@@ -47,6 +47,15 @@ module _ (draw : ℕ → List ℕ) where
         dirty_after_dirty tiles,
       )
 
+  pub take-drawn_from : (k n end : ℕ) (tiles : List Tile)
+      → take end (drawn_from draw k n tiles) ≡ drawn_from draw k n (take end tiles)
+  take-drawn_from k n zero tiles = refl
+  take-drawn_from k n (suc end) [] = refl
+  take-drawn_from k n (suc end) (Some rows ∷ tiles) = ap (λ rest. Some rows ∷ rest) (take-drawn_from (k + 1) n end tiles)
+  take-drawn_from k zero (suc end) (None ∷ tiles) = refl
+  take-drawn_from k (suc n) (suc end) (None ∷ tiles) =
+      ap (λ rest. Some (draw k) ∷ rest) (take-drawn_from (k + 1) n end tiles)
+
   -- no more are drawn than are dirty
   pub drawn_as_many : (k n m : ℕ) (tiles : List Tile) → m ≡ min n (dirty tiles)
       → drawn_from draw k n tiles ≡ drawn_from draw k m tiles
@@ -122,16 +131,17 @@ redraw_law = record {
   count = λ image n t. dirty-drawn_from (λ i. tile_rows image (grid_of t.window i)) 0 n t.tiles;
 }
 
--- what a redraw leaves, where m tiles are drawn of those that were there
-pub record IsRedrawn (image : Spot → Bool) (n m : ℕ) (t : Table) (drawn : List Tile) : Type 0 where
+-- what a redraw leaves, where m tiles are drawn of those that were there, all those before the end of the drawn ones
+pub record IsRedrawn (image : Spot → Bool) (n m end : ℕ) (t : Table) (drawn : List Tile) : Type 0 where
   pub as_many : drawn ≡ drawn_from (λ k. tile_rows image (grid_of t.window k)) 0 n t.tiles
   pub size : length drawn ≡ length t.tiles
   pub left : dirty drawn ≡ dirty t.tiles - m
+  pub clean : dirty (take end drawn) ≡ 0
 
 pub redrawn_is : (image : Spot → Bool) (n m end all : ℕ) (t : Table) (lent before drawn : List Tile) → m ≡ min n all
     → all ≡ dirty t.tiles → lent ≡ t.tiles → before ≡ t.tiles → dirty (take end lent) ≡ m
     → drawn ≡ drawn_from (λ k. tile_rows image (grid_of t.window k)) 0 (dirty (take end before)) before
-    → IsRedrawn image n m t drawn
+    → IsRedrawn image n m end t drawn
 redrawn_is image n m end all t lent before drawn few counted same was many is =
     let draw : ℕ → List ℕ = λ k. tile_rows image (grid_of t.window k) in
     let now : drawn ≡ drawn_from draw 0 m t.tiles =
@@ -141,4 +151,7 @@ redrawn_is image n m end all t lent before drawn few counted same was many is =
       as_many = now ∙ sym (drawn_as_many draw 0 n m t.tiles (few ∙ ap (min n) counted));
       size = ap length now ∙ length-drawn_from draw 0 m t.tiles;
       left = ap dirty now ∙ dirty-drawn_from draw 0 m t.tiles;
+      clean = ap (λ tiles. dirty (take end tiles)) now ∙ ap dirty (take-drawn_from draw 0 m end t.tiles)
+          ∙ dirty-drawn_from draw 0 m (take end t.tiles)
+          ∙ omega (arith, ap (λ tiles. dirty (take end tiles)) (sym same), many);
     }

@@ -1,16 +1,18 @@
 -- Dirty tiles that are drawn one after another.
 use Rattle.std.proofs.Common.{◌≡◌, ℕ, suc, ◌+◌, ◌-◌, ◌<◌, ◌≤◌, List, [], ◌∷◌, ◌++◌, length, take, drop, set, get_or, length-drop}
-use Rattle.std.proofs.Common.{Some, None, Bool, true, false, not, is_some, refl, sym, ap, subst, ◌∙◌, append_assoc, arith}
+use Rattle.std.proofs.Common.{Some, None, Bool, true, false, not, is_none, is_some, cond, refl, sym, ap, subst, ◌∙◌, append_assoc, arith}
 use Rattle.std.specs.List.{All}
 use Rattle.std.proofs.lemmas.Bool.{false≢true, true≢false}
 use Rattle.std.proofs.lemmas.List.{append-nil, drop_all, drop_more, drop-drop, drop-set-lt, get_or-drop, length-take-le, take-append-drop, take_all}
 use Rattle.std.proofs.lemmas.List.{take_more, take_more_set}
 use Rattle.std.proofs.lemmas.List.Elements.{All-cons, All-nil}
-use borrow.Rule.Slice.PartMut.{mid_of}
+use Rattle.std.proofs.lemmas.List.Sums.{sum_by-append}
+use Rattle.std.proofs.Math.Seq.{take-add}
+use borrow.Rule.Slice.PartMut.{Post-is, mid_of, put_mid}
 use Rattle.cam_tiles.specs.declared.grid.Grid.{Grid}
 use Rattle.cam_tiles.specs.Machinery.Swaths.{dirty_grids}
-use Rattle.cam_tiles.specs.Tables.{Tile, all_drawn_from}
-use Rattle.cam_tiles.proofs.DrawnTiles.{dirty, dirty_after_clean, dirty_after_dirty}
+use Rattle.cam_tiles.specs.Tables.{Tile, all_drawn_from, drawn_from}
+use Rattle.cam_tiles.proofs.DrawnTiles.{dirty, dirty_after_clean, dirty_after_dirty, drawn_to}
 
 -- what a test tells of a tile
 pub read_dirty : (tile : Tile) (b : Bool) → is_some tile ≡ not b → b ≡ true → tile ≡ None
@@ -204,3 +206,36 @@ split first end tiles order within =
     sym (take-append-drop (end - first) (drop first tiles))
     ∙ ap (λ rest. take (end - first) (drop first tiles) ++ rest)
     (drop-drop (end - first) first tiles ∙ ap (λ n. drop n tiles) there)
+
+-- the tiles before one that are dirty, where none before another is
+module _ (start end : ℕ) (tiles : List Tile) (order : start ≤ end) (within : end ≤ length tiles)
+    (clean : dirty (take start tiles) ≡ 0) where
+  in_two : take end tiles ≡ take start tiles ++ mid_of start (end - start) tiles
+  in_two =
+      let there : end ≡ start + (end - start) = omega arith in
+      ap (λ n. take n tiles) there ∙ take-add start (end - start) tiles
+
+  pub dirty_between : dirty (mid_of start (end - start) tiles) ≡ dirty (take end tiles)
+  dirty_between =
+      omega (
+        arith,
+        clean,
+        ap dirty in_two,
+        sum_by-append (λ tile. cond (is_none tile) 1 0) (take start tiles) (mid_of start (end - start) tiles),
+      )
+
+  pub drawn_between : (draw : ℕ → List ℕ) (part : List Tile)
+      → part ≡ all_drawn_from draw start (mid_of start (end - start) tiles)
+      → put_mid start (end - start) tiles part ≡ drawn_from draw 0 (dirty (take end tiles)) tiles
+  drawn_between draw part is =
+      let front : List Tile = take start tiles in
+      let mid : List Tile = mid_of start (end - start) tiles in
+      let drawn : all_drawn_from draw 0 (take end tiles) ≡ front ++ part =
+      ap (all_drawn_from draw 0) in_two
+      ∙ drawn_append draw 0 start front mid (omega (arith, length-take-le start tiles (omega arith)))
+      ∙ ap (λ those. those ++ all_drawn_from draw start mid) (all_clean draw 0 front clean)
+      ∙ ap (λ those. front ++ those) (sym is) in
+      ap (λ rest. front ++ (part ++ rest)) (Post-is start end tiles order)
+      ∙ sym (append_assoc front part (drop end tiles))
+      ∙ ap (λ those. those ++ drop end tiles) (sym drawn)
+      ∙ sym (drawn_to draw 0 (dirty (take end tiles)) end tiles refl)

@@ -9,6 +9,6 @@ use Rattle.cam_tiles.proofs.drawing.draw_rows.Given as goal
 abbrev pub invariant-loop-row : goal.invariant-loop-row
 invariant-loop-row l =
     let draw : ℕ → List ℕ = λ k. tile_rows (is_black (leaves_of l.shown)) (grid_of l.window k) in record {
-      drawn : IsPartlyDrawn draw 0 l.fn.tiles l.tiles;
+      drawn : IsPartlyDrawn draw l.first l.fn.tiles l.tiles;
       index : IsIndexOf (leaves_by_item l.shown) l.window l.index;
     }
