@@ -1,18 +1,21 @@
--- leaves that are painted on canvases, one list after another
-use Rattle.std.proofs.Common.{◌≡◌, ◌↔◌, ℕ, ◌+◌, ◌<◌, Bool, List, [], ◌∷◌, ◌++◌, length, take, get_or, refl, sym, ap, subst, ◌∙◌}
+-- leaves that are painted on canvases, one list beneath another
+use Rattle.std.proofs.Common.{◌≡◌, ◌↔◌, ℕ, ◌+◌, ◌<◌, Bool, List, [], ◌∷◌, ◌++◌, length, drop, get_or, Option, inl, inr, refl, sym, ap, subst, ◌∙◌, arith}
 use Rattle.std.specs.List.{flat_map}
+use Rattle.std.specs.Option.{option_or}
+use Rattle.std.proofs.lemmas.List.{drop_more, drop_all}
 use Rattle.cam_units.specs.Boxes.{Holds}
 use Rattle.cam_units.specs.declared.bounds.Bounds.{Bounds}
 use Rattle.cam_units.specs.declared.point.Spot.{Spot}
 use Rattle.cam_objects.specs.declared.canvas.Print.{Print}
 use Rattle.cam_objects.specs.Bounds.{bounds_of, box_of_shape}
-use Rattle.cam_objects.specs.Canvases.{IsSoundFigure, IsSoundPrint, Paints, shape_of}
+use Rattle.cam_objects.specs.Canvases.{IsDecidedIn, IsSoundFigure, IsSoundPrint, Paints, shape_of}
 use Rattle.cam_objects.specs.Image.{Covers, IsUncovered}
 use Rattle.cam_objects.specs.Leaves.{Leaf}
-use Rattle.cam_objects.specs.Tests.{painted}
-use Rattle.cam_objects.proofs.CoveredBoxes.{covered_box, outside_box}
-use Rattle.cam_objects.proofs.Inking.{front_more, uncovered_cons, uncovered_nil}
-use Rattle.cam_objects.proofs.TestLaws.{painted_off, painted-append}
+use Rattle.cam_objects.specs.Tests.{last_ink}
+use Rattle.cam_objects.specs.Topmost.{IsCoveredBy}
+use Rattle.cam_objects.proofs.CoveredBoxes.{covered_box, inside_box}
+use Rattle.cam_objects.proofs.Covering.{covered_or, one_covers}
+use Rattle.cam_objects.proofs.LastInks.{last_ink-append, none_from_uncovered, or_again, or_decided, or_none}
 
 -- a print whose box is that of its shape
 pub sound_print : (p : Print) → IsSoundFigure p.figure → p.bounds ≡ box_of_shape (shape_of p.figure) → IsSoundPrint p
@@ -23,13 +26,52 @@ sound_print p figure box =
 same : (P : Type 0) → P ↔ P
 same P = (λ h. h, λ h. h)
 
-module _ {V : Type 0} (has : V → ℕ → ℕ → Type 0) (place : V → ℕ → ℕ → Spot) (ink : V → ℕ → ℕ → Bool) where
-  pub paints_nothing : (v : V) → Paints has place ink v [] v
-  paints_nothing v = record { pixels = λ column row. same (has v column row); places = refl; inks = λ column row h. refl }
+module _ {V : Type 0} (has : V → ℕ → ℕ → Type 0) (place : V → ℕ → ℕ → Spot) (ink : V → ℕ → ℕ → Option Bool) where
+  -- leaves that decide no pixel
+  paints_idly : (v : V) (leaves : List Leaf)
+      → ((column row : ℕ) → has v column row → option_or (ink v column row) (last_ink leaves (place v column row)) ≡ ink v column row)
+      → Paints has place ink v leaves v
+  paints_idly v leaves idle = record {
+    pixels = λ column row. same (has v column row);
+    places = refl;
+    inks = λ column row h. sym (idle column row h);
+  }
 
-  pub paints_more : (u v w : V) (a b : List Leaf) → Paints has place ink u a v → Paints has place ink v b w
+  pub paints_nothing : (v : V) → Paints has place ink v [] v
+  paints_nothing v = paints_idly v [] (λ column row h. or_none (ink v column row))
+
+  -- as those that cover no pixel's place
+  pub paints_off : (v : V) (leaves : List Leaf)
+      → ((column row : ℕ) → has v column row → IsUncovered leaves (place v column row)) → Paints has place ink v leaves v
+  paints_off v leaves off =
+      paints_idly v leaves (λ column row h.
+      ap (option_or (ink v column row)) (none_from_uncovered leaves (place v column row) (off column row h))
+      ∙ or_none (ink v column row))
+
+  -- and those that cover decided ones alone
+  pub paints_decided : (v : V) (leaves : List Leaf) (b : Bounds) → ((s : Spot) → IsCoveredBy leaves s → Holds b s)
+      → IsDecidedIn has place ink v b → Paints has place ink v leaves v
+  paints_decided v leaves b held decided =
+      paints_idly v leaves (λ column row h.
+      let s = place v column row in
+      elim (covered_or leaves s) [
+        | inl any ↦ or_decided (ink v column row) (last_ink leaves s) (decided column row h (held s any))
+        | inr off ↦ ap (option_or (ink v column row)) (none_from_uncovered leaves s off) ∙ or_none (ink v column row)
+      ])
+
+  pub paints_boxed : (v : V) (leaves : List Leaf) (b : Bounds) → b ≡ bounds_of leaves → IsDecidedIn has place ink v b
+      → Paints has place ink v leaves v
+  paints_boxed v leaves b e decided =
+      paints_decided v leaves b (λ s any. subst (λ c. Holds c s) (sym e) (inside_box leaves s any)) decided
+
+  -- a leaf alone
+  pub paints_one : (v : V) (l : Leaf) (b : Bounds) → ((s : Spot) → Covers l.shape s → Holds b s) → IsDecidedIn has place ink v b
+      → Paints has place ink v (l ∷ []) v
+  paints_one v l b held decided = paints_decided v (l ∷ []) b (λ s any. held s (one_covers l s any)) decided
+
+  pub paints_beneath : (u v w : V) (a b : List Leaf) → Paints has place ink u b v → Paints has place ink v a w
       → Paints has place ink u (a ++ b) w
-  paints_more u v w a b first next = record {
+  paints_beneath u v w a b first next = record {
     pixels = λ column row. (
       (λ h. (first.pixels column row).0 ((next.pixels column row).0 h)),
       (λ h. (next.pixels column row).1 ((first.pixels column row).1 h)),
@@ -37,40 +79,24 @@ module _ {V : Type 0} (has : V → ℕ → ℕ → Type 0) (place : V → ℕ �
     places = next.places ∙ first.places;
     inks = λ column row h.
         let there : has v column row = (first.pixels column row).1 h in
+        let s = place u column row in
         next.inks column row there
-        ∙ ap (λ (f : ℕ → ℕ → Spot). painted (ink v column row) b (f column row)) first.places
-        ∙ ap (λ i. painted i b (place u column row)) (first.inks column row h)
-        ∙ sym (painted-append (ink u column row) a b (place u column row));
+        ∙ ap (λ (f : ℕ → ℕ → Spot). option_or (ink v column row) (last_ink a (f column row))) first.places
+        ∙ ap (λ i. option_or i (last_ink a s)) (first.inks column row h)
+        ∙ or_again (ink u column row) (last_ink b s) (last_ink a s)
+        ∙ ap (option_or (ink u column row)) (sym (last_ink-append a b s));
   }
 
-  -- what covers no pixel's place changes nothing
-  pub paints_off : (v : V) (leaves : List Leaf)
-      → ((column row : ℕ) → has v column row → IsUncovered leaves (place v column row)) → Paints has place ink v leaves v
-  paints_off v leaves off = record {
-    pixels = λ column row. same (has v column row);
-    places = refl;
-    inks = λ column row h. sym (painted_off (ink v column row) leaves (place v column row) (off column row h));
-  }
+  -- the leaves of elements, from the last one on: none yet
+  pub paints_last : {X : Type 0} (f : X → List Leaf) (xs : List X) (v : V) → Paints has place ink v (flat_map f (drop (length xs) xs)) v
+  paints_last f xs v =
+      subst (λ ys. Paints has place ink v (flat_map f ys) v) (sym (drop_all (length xs) xs (omega arith))) (paints_nothing v)
 
-  -- nor does what has its box outside of them
-  pub paints_missed : (v : V) (leaves : List Leaf) (b : Bounds) → b ≡ bounds_of leaves
-      → ((column row : ℕ) → has v column row → Holds b (place v column row) → ⊥) → Paints has place ink v leaves v
-  paints_missed v leaves b e missed =
-      paints_off v leaves (λ column row h.
-      outside_box leaves (place v column row)
-      (λ held. missed column row h (subst (λ c. Holds c (place v column row)) (sym e) held)))
-
-  -- a leaf alone
-  pub paints_outside : (v : V) (l : Leaf) (b : Bounds) → ((s : Spot) → Covers l.shape s → Holds b s)
-      → ((column row : ℕ) → has v column row → Holds b (place v column row) → ⊥) → Paints has place ink v (l ∷ []) v
-  paints_outside v l b held missed =
-      paints_off v (l ∷ [])
-      (λ column row h. let s = place v column row in uncovered_cons s l [] (λ on. missed column row h (held s on)) (uncovered_nil s))
-
-  -- the leaves of elements, one element after another
-  pub paints_next : {X : Type 0} (f : X → List Leaf) (xs : List X) (i : ℕ) (x : X) (u v w : V) → i < length xs → x ≡ get_or xs i x
-      → Paints has place ink u (flat_map f (take i xs)) v → Paints has place ink v (f x) w
-      → Paints has place ink u (flat_map f (take (i + 1) xs)) w
-  paints_next f xs i x u v w h e first next =
-      subst (λ ls. Paints has place ink u ls w) (sym (front_more f xs i x h e))
-      (paints_more u v w (flat_map f (take i xs)) (f x) first next)
+  -- and the next one
+  pub paints_next : {X : Type 0} (f : X → List Leaf) (xs : List X) (i j : ℕ) (x : X) (u v w : V) → i + 1 ≡ j → i < length xs
+      → x ≡ get_or xs i x → Paints has place ink u (flat_map f (drop j xs)) v → Paints has place ink v (f x) w
+      → Paints has place ink u (flat_map f (drop i xs)) w
+  paints_next f xs i j x u v w one h e later here =
+      subst (λ ls. Paints has place ink u ls w)
+      (sym (ap (flat_map f) (drop_more xs i x h) ∙ (λ k. f (sym e k) ++ flat_map f (drop (one k) xs))))
+      (paints_beneath u v w (f x) (flat_map f (drop j xs)) later here)

@@ -56,6 +56,7 @@ use Rattle.cam_apertures.proofs.ShapeBoxes.{bar_box, disc_box, join_found, recta
 use Rattle.cam_objects.specs.Bounds.{bounds_of, box_of_all, box_of_cap, box_of_contour, box_of_shape, circle_square, moved, root, widened}
 use Rattle.cam_objects.specs.Image.{Covers, IsUncovered, relative}
 use Rattle.cam_objects.specs.Leaves.{Leaf, Shape, Stamp, Stroke, Swept as SweptLeaf, Sweep, Filled, Drilled}
+use Rattle.cam_objects.specs.Topmost.{IsCoveredBy}
 use Rattle.cam_objects.proofs.BoxLimits.{IsBoxWithin, within_about, within_join, within_less, within_point}
 use Rattle.cam_objects.proofs.CopyBoxes.{unmapped}
 use Rattle.cam_objects.proofs.DrillBoxes.{widened_join}
@@ -237,6 +238,11 @@ covered_box (SweptLeaf r) s h = in_swept r s h
 covered_box (Sweep a) s h = in_sweep a s h
 covered_box (Filled c) s h = in_contour c s h
 covered_box (Drilled d) s h = disc_box d.centre s d.diameter h
+
+pub inside_box : (leaves : List Leaf) (s : Spot) → IsCoveredBy leaves s → Holds (bounds_of leaves) s
+inside_box leaves s any =
+    join_found (λ l. box_of_shape l.shape) Empty leaves any.0 any.1 s any.2
+    (subst (λ (l : Leaf). Holds (box_of_shape l.shape) s) (sym any.3) (covered_box any.1.shape s any.4))
 
 pub outside_box : (leaves : List Leaf) (s : Spot) → (Holds (bounds_of leaves) s → ⊥) → IsUncovered leaves s
 outside_box leaves s h = λ k d below on.

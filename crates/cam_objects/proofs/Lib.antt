@@ -11,7 +11,6 @@ pub mod CopyBoxes
 pub mod Counting
 pub mod CoveredBoxes
 pub mod Covering
-pub mod DarkLeaves
 pub mod Dictionaries
 pub mod DrillBoxes
 pub mod EditedAttributes
@@ -26,6 +25,7 @@ pub mod ItemCopies
 pub mod KeptBoxes
 pub mod KeptFacts
 pub mod LastFrames
+pub mod LastInks
 pub mod MovedBounds
 pub mod MovedBoxes
 pub mod MovedItems

@@ -1,4 +1,4 @@
--- what lists ask for, painted on a canvas one element after another
+-- what lists ask for, painted on a canvas one element beneath another
 use Rattle.std.proofs.Common.{
   ◌≡◌,
   ℕ,
@@ -6,58 +6,66 @@ use Rattle.std.proofs.Common.{
   suc,
   ◌+◌,
   ◌*◌,
+  ◌-◌,
   ◌<◌,
+  ◌≤◌,
   Bool,
   true,
+  Option,
   ℤ,
   List,
   [],
   ◌∷◌,
-  ◌++◌,
   length,
-  take,
+  drop,
   get_or,
   refl,
   sym,
   ap,
   subst,
   ◌∙◌,
-  add-one,
   arith,
 }
 use Rattle.std.specs.List.{flat_map, range_with_len}
 use Rattle.std.proofs.Math.Nat.{mul-pos}
+use Rattle.std.proofs.lemmas.List.{drop_more, length-drop}
 use Rattle.std.proofs.lemmas.List.FromFn.{length-range_with_len}
 use Rattle.cam_units.specs.declared.length.Nm.{Nm}
 use Rattle.cam_units.specs.declared.point.Point.{Point}
 use Rattle.cam_units.specs.declared.point.Spot.{Spot}
 use Rattle.cam_objects.specs.Canvases.{Paints}
 use Rattle.cam_objects.specs.declared.object.Object.{Object}
+use Rattle.cam_objects.specs.Drilling.{rout_leaves, slots_from}
 use Rattle.cam_objects.specs.Leaves.{Leaf, Meaning, Stroke, leaf, repeat_leaves}
 use Rattle.cam_objects.specs.Machinery.Slots.{slots_of}
-use Rattle.cam_objects.proofs.Canvases.{paints_more, paints_next}
-use Rattle.cam_objects.proofs.Painting.{at_range, take-range}
+use Rattle.cam_objects.proofs.Canvases.{paints_beneath, paints_next, paints_nothing}
+use Rattle.cam_objects.proofs.Painting.{at_range}
 
 -- ---- the slots of a rout
 
 abbrev slot : Nm → Point → Point → Leaf
 slot d p q = leaf (Stroke (record { from = p; to = q; width = d })) true
 
-slots_more : (d : Nm) (ps : List Point) (i : ℕ) (x : Point) → suc i < length ps
-    → slots_of d (take (suc (suc i)) ps)
-    ≡ slots_of d (take (suc i) ps) ++ slot d (get_or ps i x) (get_or ps (suc i) x) ∷ []
-slots_more d [] i x h = absurd (omega arith)
-slots_more d (p ∷ []) i x h = absurd (omega arith)
-slots_more d (p ∷ q ∷ ps) zero x h = refl
-slots_more d (p ∷ q ∷ ps) (suc i) x h = ap (λ ls. slot d p q ∷ ls) (slots_more d (q ∷ ps) i x (omega arith))
+-- one slot more in front, from a point to the next
+slots_before : (d : Nm) (ps : List Point) (i j : ℕ) (x : Point) → i + 1 ≡ j → j < length ps
+    → slots_of d (drop i ps) ≡ slot d (get_or ps i x) (get_or ps j x) ∷ slots_of d (drop j ps)
+slots_before d ps i j x one h =
+    let behind = drop_more ps j x h in
+    ap (slots_of d) (drop_more ps i x (omega arith) ∙ (λ k. get_or ps i x ∷ drop (one k) ps))
+    ∙ ap (slots_from d (get_or ps i x)) behind
+    ∙ ap (λ qs. slot d (get_or ps i x) (get_or ps j x) ∷ slots_of d qs) (sym behind)
 
--- one point more, and the slot that leads to it
-slots_next : (d : Nm) (ps : List Point) (i j : ℕ) (x : Point) → i + 1 ≡ j → j < length ps
-    → slots_of d (take (j + 1) ps) ≡ slots_of d (take j ps) ++ slot d (get_or ps i x) (get_or ps j x) ∷ []
-slots_next d ps i j x one h =
-    ap (λ k. slots_of d (take k ps)) (add-one j)
-    ∙ subst (λ k. slots_of d (take (suc k) ps) ≡ slots_of d (take k ps) ++ slot d (get_or ps i x) (get_or ps k x) ∷ [])
-    (sym (add-one i) ∙ one) (slots_more d ps i x (omega arith))
+-- a rout of more points, or of none, is slots
+rout_of_slots : (d : Nm) (ps : List Point) → (length ps ≡ 1 → ⊥) → slots_of d ps ≡ rout_leaves d ps
+rout_of_slots d [] many = refl
+rout_of_slots d (p ∷ []) many = absurd (many (omega arith))
+rout_of_slots d (p ∷ q ∷ ps) many = refl
+
+-- behind the last point but one there is none
+few_slots : (d : Nm) (ps : List Point) → length ps ≤ 1 → slots_of d ps ≡ []
+few_slots d [] few = refl
+few_slots d (p ∷ []) few = refl
+few_slots d (p ∷ q ∷ ps) few = absurd (omega arith)
 
 -- ---- copies
 
@@ -73,25 +81,34 @@ no_copies means (suc columns) zero i j objects none = no_columns (range_with_len
 no_copies means (suc columns) (suc rows) i j objects none =
     absurd (omega (arith, none, mul-pos {m = suc columns} {n = suc rows} (omega arith) (omega arith)))
 
--- ---- on a canvas
+-- ---- on a canvas, from the last one on
 
-module _ {V : Type 0} (has : V → ℕ → ℕ → Type 0) (place : V → ℕ → ℕ → Spot) (ink : V → ℕ → ℕ → Bool) where
+module _ {V : Type 0} (has : V → ℕ → ℕ → Type 0) (place : V → ℕ → ℕ → Spot) (ink : V → ℕ → ℕ → Option Bool) where
+  -- the slots behind the last point
+  pub paints_no_slot : (v : V) (d : Nm) (ps : List Point) → Paints has place ink v (slots_of d (drop (length ps - 1) ps)) v
+  paints_no_slot v d ps =
+      subst (λ ls. Paints has place ink v ls v)
+      (sym (few_slots d (drop (length ps - 1) ps) (omega (arith, length-drop (length ps - 1) ps)))) (paints_nothing has place ink v)
+
   -- the slot from the point at i to the next
   pub paints_slot : (u v w : V) (d : Nm) (ps : List Point) (i j : ℕ) (x : Point) → i + 1 ≡ j → j < length ps
-      → Paints has place ink u (slots_of d (take j ps)) v
+      → Paints has place ink u (slots_of d (drop j ps)) v
       → Paints has place ink v (slot d (get_or ps i x) (get_or ps j x) ∷ []) w
-      → Paints has place ink u (slots_of d (take (j + 1) ps)) w
-  paints_slot u v w d ps i j x one h first next =
-      let one_more = slot d (get_or ps i x) (get_or ps j x) ∷ [] in
-      subst (λ ls. Paints has place ink u ls w) (sym (slots_next d ps i j x one h))
-      (paints_more has place ink u v w (slots_of d (take j ps)) one_more first next)
+      → Paints has place ink u (slots_of d (drop i ps)) w
+  paints_slot u v w d ps i j x one h later here =
+      subst (λ ls. Paints has place ink u ls w) (sym (slots_before d ps i j x one h))
+      (paints_beneath has place ink u v w (slot d (get_or ps i x) (get_or ps j x) ∷ []) (slots_of d (drop j ps)) later here)
 
-  -- the copy at i, behind those before it
-  pub paints_copy : (u v w : V) (f : ℕ → List Leaf) (i : ℕ) → Paints has place ink u (flat_map f (range_with_len 0 i)) v
-      → Paints has place ink v (f i) w → Paints has place ink u (flat_map f (range_with_len 0 (i + 1))) w
-  paints_copy u v w f i first next =
-      let copies = range_with_len 0 (i + 1) in
-      let many = length-range_with_len 0 (i + 1) in
-      subst (λ ks. Paints has place ink u (flat_map f ks) w) (take-range (i + 1) (i + 1) 0 (omega arith))
-      (paints_next has place ink f copies i i u v w (omega arith) (at_range i (i + 1) (omega arith))
-      (subst (λ ks. Paints has place ink u (flat_map f ks) v) (sym (take-range i (i + 1) 0 (omega arith))) first) next)
+  -- all of them, of more points than one
+  pub paints_rout : (u v : V) (d : Nm) (ps : List Point) (i : ℕ) → i ≡ 0 → (length ps ≡ 1 → ⊥)
+      → Paints has place ink u (slots_of d (drop i ps)) v → Paints has place ink u (rout_leaves d ps) v
+  paints_rout u v d ps i first many slots =
+      subst (λ ls. Paints has place ink u ls v) (ap (λ k. slots_of d (drop k ps)) first ∙ rout_of_slots d ps many) slots
+
+  -- the copy at i, beneath those behind it
+  pub paints_copy : (u v w : V) (f : ℕ → List Leaf) (n i j : ℕ) → i + 1 ≡ j → j ≤ n
+      → Paints has place ink u (flat_map f (drop j (range_with_len 0 n))) v → Paints has place ink v (f i) w
+      → Paints has place ink u (flat_map f (drop i (range_with_len 0 n))) w
+  paints_copy u v w f n i j one within later here =
+      paints_next has place ink f (range_with_len 0 n) i j i u v w one (omega (arith, length-range_with_len 0 n))
+      (at_range i n (omega arith)) later here

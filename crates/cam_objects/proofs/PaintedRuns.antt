@@ -1,5 +1,5 @@
 -- repeats of which a run of columns and a run of rows alone are painted
-use Rattle.std.proofs.Common.{◌≡◌, ℕ, zero, suc, ◌+◌, ◌-◌, ◌<◌, ◌≤◌, Bool, ℤ, pos, ◌*ℤ◌, ◌↔◌, List, reverse, ap, sym, subst, ◌∙◌, arith}
+use Rattle.std.proofs.Common.{◌≡◌, ℕ, zero, suc, ◌+◌, ◌-◌, ◌<◌, ◌≤◌, Bool, Option, ℤ, pos, ◌*ℤ◌, ◌↔◌, List, reverse, drop, take, ap, sym, subst, ◌∙◌, arith}
 use Rattle.std.specs.List.{flat_map, range_with_len}
 use Rattle.std.proofs.lemmas.Int.{ints}
 use Rattle.std.proofs.lemmas.List.Elements.{All-append, All-nil}
@@ -18,10 +18,11 @@ use Rattle.cam_objects.specs.Image.{Covers, IsUncovered}
 use Rattle.cam_objects.specs.Leaves.{Leaf, block_leaves, column_leaves, meaning_in, origin, shifted}
 use Rattle.cam_objects.specs.Machinery.Painting.{IsUnseen}
 use Rattle.cam_objects.specs.Machinery.Runs.{IsInRun, MeetsAcross, MeetsUpright}
-use Rattle.cam_objects.proofs.Canvases.{paints_nothing, paints_off}
+use Rattle.cam_objects.proofs.Canvases.{paints_beneath, paints_off}
 use Rattle.cam_objects.proofs.CopyBoxes.{copy_box}
 use Rattle.cam_objects.proofs.CoveredBoxes.{outside_box}
-use Rattle.cam_objects.proofs.PaintedLists.{paints_copy}
+use Rattle.cam_objects.proofs.Painting.{take-range}
+use Rattle.cam_objects.proofs.Parts.{flat_split}
 use Rattle.cam_objects.proofs.PlacedShapes.{shapes_so}
 
 -- ---- boxes with a common place
@@ -40,6 +41,14 @@ meets_upright (Closed low high) (Closed low' high') s h k =
 
 -- ---- lists of which a part is seen
 
+drop-range : (k d a b n : ℕ) → k + d ≡ n → a + k ≡ b → drop k (range_with_len a n) ≡ range_with_len b d
+drop-range zero d a b n all at =
+    let first : a ≡ b = omega arith in
+    let many : n ≡ d = omega arith in
+    λ i. range_with_len (first i) (many i)
+drop-range (suc k) d a b zero all at = absurd (omega arith)
+drop-range (suc k) d a b (suc n) all at = drop-range k d (a + 1) b n (omega arith) (omega arith)
+
 module _ {V : Type 0} (has : V → ℕ → ℕ → Type 0) (place : V → ℕ → ℕ → Spot) where
   -- the pieces in a part of a range
   pub pieces_unseen : (v : V) (f : ℕ → List Leaf) (a n : ℕ)
@@ -51,7 +60,7 @@ module _ {V : Type 0} (has : V → ℕ → ℕ → Type 0) (place : V → ℕ �
       (off a (omega arith) (omega arith) column row h)
       (pieces_unseen v f (a + 1) n (λ k from below. off k (omega arith) (omega arith)) column row h)
 
-module _ {V : Type 0} (has : V → ℕ → ℕ → Type 0) (place : V → ℕ → ℕ → Spot) (ink : V → ℕ → ℕ → Bool) where
+module _ {V : Type 0} (has : V → ℕ → ℕ → Type 0) (place : V → ℕ → ℕ → Spot) (ink : V → ℕ → ℕ → Option Bool) where
   -- painting moves no pixel
   pub still_unseen : (u v : V) (done leaves : List Leaf) → Paints has place ink u done v → IsUnseen has place u leaves
       → IsUnseen has place v leaves
@@ -59,31 +68,27 @@ module _ {V : Type 0} (has : V → ℕ → ℕ → Type 0) (place : V → ℕ �
       subst (λ (f : ℕ → ℕ → Spot). IsUncovered leaves (f column row)) (sym painted.places)
       (off column row ((painted.pixels column row).0 h))
 
-  paints_behind : (u v : V) (f : ℕ → List Leaf) (k d n : ℕ) → k + d ≡ n
-      → Paints has place ink u (flat_map f (range_with_len 0 k)) v
-      → ((i : ℕ) → k ≤ i → i < n → IsUnseen has place u (f i))
-      → Paints has place ink u (flat_map f (range_with_len 0 n)) v
-  paints_behind u v f k zero n all first off =
-      let same : k ≡ n = omega arith in
-      subst (λ j. Paints has place ink u (flat_map f (range_with_len 0 j)) v) same first
-  paints_behind u v f k (suc d) n all first off =
-      let here = still_unseen u v (flat_map f (range_with_len 0 k)) (f k) first (off k (omega arith) (omega arith)) in
-      paints_behind u v f (k + 1) d n (omega arith)
-      (paints_copy has place ink u v v f k first (paints_off has place ink v (f k) here))
-      (λ i from below. off i (omega arith) below)
+  -- none from the k-th piece on is seen
+  pub paints_end : (v : V) (f : ℕ → List Leaf) (k n : ℕ) → k ≤ n → ((i : ℕ) → k ≤ i → i < n → IsUnseen has place v (f i))
+      → Paints has place ink v (flat_map f (drop k (range_with_len 0 n))) v
+  paints_end v f k n few off =
+      subst (λ ks. Paints has place ink v (flat_map f ks) v) (sym (drop-range k (n - k) 0 k n (omega arith) (omega arith)))
+      (paints_off has place ink v (flat_map f (range_with_len k (n - k)))
+      (pieces_unseen has place v f k (n - k) (λ i from below. off i from (omega arith))))
 
-  -- behind the first k pieces no other is seen
-  pub paints_rest : (u v : V) (f : ℕ → List Leaf) (k n : ℕ) → k ≤ n
-      → Paints has place ink u (flat_map f (range_with_len 0 k)) v
-      → ((i : ℕ) → k ≤ i → i < n → IsUnseen has place u (f i))
+  -- nor is one before it
+  pub paints_start : (u v : V) (f : ℕ → List Leaf) (k n : ℕ) → k ≤ n
+      → Paints has place ink u (flat_map f (drop k (range_with_len 0 n))) v → ((i : ℕ) → i < k → IsUnseen has place u (f i))
       → Paints has place ink u (flat_map f (range_with_len 0 n)) v
-  paints_rest u v f k n few first off = paints_behind u v f k (n - k) n (omega arith) first off
-
-  -- none of the first n is seen
-  pub paints_none : (u : V) (f : ℕ → List Leaf) (n : ℕ) → ((i : ℕ) → i < n → IsUnseen has place u (f i))
-      → Paints has place ink u (flat_map f (range_with_len 0 n)) u
-  paints_none u f n off =
-      paints_rest u u f 0 n (omega arith) (paints_nothing has place ink u) (λ i from below. off i below)
+  paints_start u v f k n few later off =
+      let front = take k (range_with_len 0 n) in
+      let behind = flat_map f (drop k (range_with_len 0 n)) in
+      let unseen : IsUnseen has place u (flat_map f front) =
+      subst (λ ks. IsUnseen has place u (flat_map f ks)) (sym (take-range k n 0 few))
+      (pieces_unseen has place u f 0 k (λ i from below. off i (omega (arith, below)))) in
+      subst (λ ls. Paints has place ink u ls v) (sym (flat_split f (range_with_len 0 n) k))
+      (paints_beneath has place ink u v v (flat_map f front) behind later
+      (paints_off has place ink v (flat_map f front) (still_unseen u v behind (flat_map f front) later unseen)))
 
 -- ---- the copies of a repeat
 

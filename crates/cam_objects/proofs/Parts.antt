@@ -1,8 +1,8 @@
 -- chunks of a block are parts of its objects, and are kept beside a dictionary that grows
-use Rattle.std.proofs.Common.{◌≡◌, ℕ, ◌+◌, ◌*◌, ◌≤◌, List, [], ◌∷◌, ◌++◌, length, take, drop, get_or, reverse, sym, ap, subst, ◌∙◌, arith, inl, inr, take-add}
+use Rattle.std.proofs.Common.{◌≡◌, ℕ, ◌+◌, ◌*◌, ◌≤◌, List, [], ◌∷◌, ◌++◌, length, take, drop, get_or, reverse, sym, ap, subst, ◌∙◌, arith, inl, inr}
 use Rattle.std.specs.List.{All, flat_map}
 use Rattle.std.proofs.lemmas.Bool.{cases_lt}
-use Rattle.std.proofs.lemmas.List.{get_or_append_left, length-append, take-append-drop, take-append-le}
+use Rattle.std.proofs.lemmas.List.{drop-drop, get_or_append_left, length-append, take-append-drop, take-append-le}
 use Rattle.std.proofs.lemmas.List.Concat.{flat_map-append}
 use Rattle.std.proofs.Math.Seq.{get_or-append_seam}
 use Rattle.cam_units.specs.declared.bounds.Bounds.{Bounds}
@@ -37,9 +37,9 @@ module _ {X Y : Type 0} (f : X → List Y) where
   pub flat_split : (xs : List X) (a : ℕ) → flat_map f xs ≡ flat_map f (take a xs) ++ flat_map f (drop a xs)
   flat_split xs a = ap (flat_map f) (sym (take-append-drop a xs)) ∙ flat_map-append f (take a xs) (drop a xs)
 
-  pub flat_more : (xs : List X) (a n m : ℕ) → m ≡ a + n → flat_map f (take m xs) ≡ flat_map f (take a xs) ++ flat_map f (take n (drop a xs))
-  flat_more xs a n m e =
-      ap (λ k. flat_map f (take k xs)) e ∙ ap (flat_map f) (take-add a n xs) ∙ flat_map-append f (take a xs) (take n (drop a xs))
+  pub flat_before : (xs : List X) (a n m : ℕ) → a + n ≡ m → flat_map f (drop a xs) ≡ flat_map f (take n (drop a xs)) ++ flat_map f (drop m xs)
+  flat_before xs a n m e =
+      flat_split (drop a xs) n ∙ ap (λ ys. flat_map f (take n (drop a xs)) ++ flat_map f ys) (drop-drop n a xs ∙ ap (λ k. drop k xs) e)
 
   pub flat_behind : (P : Y → Type 0) (xs : List X) (a : ℕ) → All P (flat_map f xs) → All P (flat_map f (drop a xs))
   flat_behind P xs a h = All_right P (flat_map f (take a xs)) (flat_map f (drop a xs)) (subst (All P) (flat_split xs a) h)

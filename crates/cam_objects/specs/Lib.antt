@@ -4,7 +4,6 @@ pub mod BoxLaws
 pub mod Canvases
 pub mod Cells
 pub mod Contents
-pub mod Darkness
 pub mod DrillSoundness
 pub mod Drilling
 pub mod Enclosed

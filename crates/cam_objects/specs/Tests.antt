@@ -1,6 +1,7 @@
 -- Whether a place is black, as a test that computes, for those who define pictures and machines by it; and laws of tests:
 -- each says what a relation says.
-use Rattle.std.specs.Prelude.{◌↔◌, ℕ, Bool, false, if◌then◌else◌, IsTrue, List, [], ◌∷◌, All}
+use Rattle.std.specs.Prelude.{◌≡◌, ◌↔◌, ℕ, Bool, false, if◌then◌else◌, IsTrue, List, [], ◌∷◌, Option, None, Some, unwrap_or, All}
+use Rattle.std.specs.Option.{option_or}
 use Rattle.cam_units.specs.Board.{IsOnBoard}
 use Rattle.cam_units.specs.declared.point.Point.{Point}
 use Rattle.cam_units.specs.declared.point.Spot.{Spot}
@@ -33,6 +34,11 @@ painted ink (l ∷ leaves) s = painted (if covers l.shape s then l.dark else ink
 unfoldable pub is_black : List Leaf → Spot → Bool
 is_black leaves s = painted false leaves s
 
+-- the polarity of the last leaf that covers a place; none where no leaf does
+abbrev pub last_ink : List Leaf → Spot → Option Bool
+last_ink [] s = None
+last_ink (l ∷ leaves) s = option_or (last_ink leaves s) (if covers l.shape s then Some l.dark else None)
+
 -- the test of a shape holds exactly of the places that it covers
 abbrev pub CoverTestLaw : Type 0
 CoverTestLaw = (shape : Shape) (s : Spot) → IsTrue (covers shape s) ↔ Covers shape s
@@ -40,6 +46,10 @@ CoverTestLaw = (shape : Shape) (s : Spot) → IsTrue (covers shape s) ↔ Covers
 -- painting in order makes exactly those places black of which the last leaf that covers them is dark
 abbrev pub TestLaw : Type 0
 TestLaw = (leaves : List Leaf) (s : Spot) → IsTrue (is_black leaves s) ↔ IsBlack leaves s
+
+-- and so does looking for that leaf
+abbrev pub LastInkLaw : Type 0
+LastInkLaw = (leaves : List Leaf) (s : Spot) → is_black leaves s ≡ unwrap_or (last_ink leaves s) false
 
 -- ---- items
 

@@ -4,6 +4,5 @@ pub(crate) mod asked;
 pub(crate) mod drill_layer;
 pub(crate) mod enclosed;
 pub(crate) mod layer;
-pub(crate) mod probe;
 pub(crate) mod topmost;
 pub(crate) mod whole;

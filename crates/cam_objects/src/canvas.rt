@@ -1,9 +1,9 @@
 //! What layers are painted on.
 
-ghost use Rattle.std.specs.Prelude.{ℕ, Bool, IsTrue, ◌∷◌, []};
+ghost use Rattle.std.specs.Prelude.{ℕ, Bool, Option, IsTrue, ◌∷◌, []};
 ghost use Rattle.cam_units.specs.Boxes.{Holds};
 ghost use Rattle.cam_units.specs.declared.point.Spot.{Spot};
-ghost use Rattle.cam_objects.specs.Canvases.{IsSoundPrint, Paints, leaf_of};
+ghost use Rattle.cam_objects.specs.Canvases.{IsDecidedIn, IsSoundPrint, Paints, leaf_of};
 
 use cam_apertures::Aperture;
 use cam_shapes::{Arc, Capsule, Contour, Disc, Swept};
@@ -42,7 +42,8 @@ pub struct Print<'a> {
     pub bounds: Bounds,
 }
 
-/// Pixels in columns and rows, each with a place, in half nm, and an ink, which leaves are painted on.
+/// Pixels in columns and rows, each with a place, in half nm, which leaves are painted on from the last one on: what a
+/// leaf covers is decided, and no later one changes it.
 pub trait Canvas {
     /// Whether there is a pixel in a column and a row.
     ghost has: { Self → ℕ → ℕ → Type 0 };
@@ -50,23 +51,26 @@ pub trait Canvas {
     /// Its place.
     ghost place: { Self → ℕ → ℕ → Spot };
 
-    /// Its ink: whether it is dark.
-    ghost ink: { Self → ℕ → ℕ → Bool };
+    /// Its ink, once it is decided: whether it is dark.
+    ghost ink: { Self → ℕ → ℕ → Option Bool };
 
     /// A box that holds the places of all pixels, in half nm.
     fn bounds(&self) -> Bounds
         ensures { (column row : ℕ) → has self.now column row → Holds result (place self.now column row) };
 
-    /// Paints a leaf: each pixel whose place it covers takes its polarity.
+    /// Whether each pixel that has its place in a box, in half nm, is known to be decided.
+    fn is_decided_in(&self, bounds: Bounds) -> bool
+        ensures { IsTrue result → IsDecidedIn has place ink self.now bounds };
+
+    /// Paints a leaf beneath those before: each undecided pixel whose place it covers takes its polarity.
     fn paint(&mut self, print: Print<'_>)
         requires { IsSoundPrint print }
         ensures { Paints has place ink self.old (leaf_of print.entry ∷ []) self.new };
 }
 
-/// Whether the box meets no place of the canvas's own box, so that no pixel has its place in it.
-pub(crate) fn misses<C: Canvas>(canvas: &C, bounds: Bounds) -> bool
-    ensures { IsTrue result
-        → (column row : ℕ) → C.has canvas.now column row → Holds bounds (C.place canvas.now column row) → ⊥ }
+/// Whether nothing in the box is left to paint: no pixel has its place there, or all that do are decided.
+pub(crate) fn is_done_in<C: Canvas>(canvas: &C, bounds: Bounds) -> bool
+    ensures { IsTrue result → IsDecidedIn C.has C.place C.ink canvas.now bounds }
 {
-    !bounds.meets(canvas.bounds())
+    !bounds.meets(canvas.bounds()) || canvas.is_decided_in(bounds)
 }

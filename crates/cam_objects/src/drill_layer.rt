@@ -137,7 +137,7 @@ impl DrillLayer {
         ensures image { IsTrue result ↔ IsBlack (drill_leaves self.now.tools self.now.items.items) spot }
         ensures test { result ≡ is_black (drill_leaves self.now.tools self.now.items.items) spot }
     {
-        let mut pixel = Pixel::clear_at(spot);
+        let mut pixel = Pixel::at(spot);
         self.paint(&mut pixel);
         pixel.is_dark()
     }

@@ -1,6 +1,6 @@
 //! Which places of a layer are black: the layer is painted on a canvas of one pixel.
 
-ghost use Rattle.std.specs.Prelude.{◌≡◌, ◌↔◌, Bool, IsTrue, false};
+ghost use Rattle.std.specs.Prelude.{◌≡◌, ◌↔◌, IsSome, IsTrue, None, false, unwrap_or};
 ghost use Rattle.cam_units.specs.Board.{IsInReach, IsOnBoard, IsPlace};
 ghost use Rattle.cam_units.specs.Boxes.{Holds};
 ghost use Rattle.cam_objects.specs.Canvases.{IsSoundFigure, shape_of};
@@ -11,39 +11,46 @@ use cam_shapes::{in_arc, in_capsule, in_contour, in_disc, in_swept};
 use cam_units::{Bounds, Point, Spot};
 use std::marker::Model;
 
-/// A pixel at a place, in half nm, with its ink.
+/// A pixel at a place, in half nm, with its ink, once it is decided.
 #[derive(Drop)]
 pub(crate) struct Pixel {
     spot: Spot,
-    dark: bool,
+    ink: Option<bool>,
 }
 
 impl Model for Pixel {
-    ghost use Rattle.std.specs.Prelude.{Bool};
+    ghost use Rattle.std.specs.Prelude.{Bool, Option};
     ghost use Rattle.cam_units.specs.Board.{IsPlace};
     ghost use Rattle.cam_units.specs.declared.point.Spot.{Spot};
 
-    ghost Value = { Spot × Bool };
+    ghost Value = { Spot × Option Bool };
 
-    ghost view = { λ p. (p.spot, p.dark) };
+    ghost view = { λ p. (p.spot, p.ink) };
 
     ghost invariant = { λ p. IsPlace p.spot };
 }
 
 impl Pixel {
-    /// A clear pixel.
-    pub(crate) fn clear_at(spot: Spot) -> Pixel
+    /// A pixel that is not decided.
+    pub(crate) fn at(spot: Spot) -> Pixel
         requires { IsPlace spot }
-        ensures { result ≡ (spot, false) }
+        ensures { result ≡ (spot, None) }
     {
-        Pixel { spot, dark: false }
+        Pixel { spot, ink: None }
+    }
+
+    /// Whether it is decided.
+    pub(crate) fn is_decided(&self) -> bool
+        ensures { IsTrue result ↔ IsSome self.now.1 }
+    {
+        self.ink.is_some()
     }
 
     /// Whether it is dark.
     pub(crate) fn is_dark(&self) -> bool
-        ensures { result ≡ self.now.1 }
+        ensures { result ≡ unwrap_or self.now.1 false }
     {
-        self.dark
+        self.ink.unwrap_or(false)
     }
 }
 
@@ -61,15 +68,22 @@ impl Canvas for Pixel {
         }
     }
 
+    fn is_decided_in(&self, _bounds: Bounds) -> bool {
+        self.is_decided()
+    }
+
     fn paint(&mut self, print: Print<'_>) {
+        if self.is_decided() {
+            return;
+        }
         if is_covered(&print.figure, self.spot) {
-            self.dark = print.dark;
+            self.ink = Some(print.dark);
         }
     }
 }
 
 /// Whether a figure covers a place, in half nm.
-pub(crate) fn is_covered(figure: &Figure<'_>, spot: Spot) -> bool
+fn is_covered(figure: &Figure<'_>, spot: Spot) -> bool
     requires figure { IsSoundFigure figure.now }
     requires spot { IsPlace spot }
     ensures { IsTrue result ↔ Covers (shape_of figure.now) spot }

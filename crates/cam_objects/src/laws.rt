@@ -3,7 +3,7 @@
 ghost use Rattle.cam_objects.specs.BoxLaws.{CoverBoxLaw, RedrawLaw};
 ghost use Rattle.cam_objects.specs.DrillSoundness.{DrillGrowthLaw};
 ghost use Rattle.cam_objects.specs.LayerLaws.{AttributeEditLaw, DrillEditLaw, LayerEditLaw, SettingLaw};
-ghost use Rattle.cam_objects.specs.Tests.{BoardTestLaw, CoverTestLaw, InsideTestLaw, LimitTestLaw, TestLaw};
+ghost use Rattle.cam_objects.specs.Tests.{BoardTestLaw, CoverTestLaw, InsideTestLaw, LastInkLaw, LimitTestLaw, TestLaw};
 ghost use Rattle.cam_objects.specs.Topmost.{TopmostLaw};
 ghost use Rattle.cam_objects.specs.Turning.{AfterLaw};
 
@@ -40,6 +40,11 @@ pub fn tests_tell_covers()
 /// the last leaf that covers them is dark.
 pub fn painting_in_order_makes_the_image()
     ensures { TestLaw }
+{}
+
+/// So does looking for the last leaf that covers a place: the place is black exactly where there is one, and it is dark.
+pub fn last_leaves_make_the_image()
+    ensures { LastInkLaw }
 {}
 
 /// A place is black exactly where some item covers it and, of the topmost one that does, the last leaf that covers the

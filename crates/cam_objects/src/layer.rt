@@ -145,7 +145,7 @@ impl Layer {
         ensures image { IsTrue result ↔ IsBlack (leaves_of self.now.apertures self.now.items.items) spot }
         ensures test { result ≡ is_black (leaves_of self.now.apertures self.now.items.items) spot }
     {
-        let mut pixel = Pixel::clear_at(spot);
+        let mut pixel = Pixel::at(spot);
         self.paint(&mut pixel);
         pixel.is_dark()
     }

@@ -18,7 +18,7 @@
 //! }
 //! layer.black_at(spot)                                 whether a place is black
 //! layer.item_bounds(0)                                 the box of what the first item paints
-//! layer.paint(&mut canvas);                            each pixel of a `Canvas` becomes dark or clear
+//! layer.paint(&mut canvas);                            each pixel of a `Canvas` that is covered becomes dark or clear
 //! ```
 //!
 //! Beside the types that layers list, `checks` tells what keeps a layer sound, `image` which places are black,
@@ -74,7 +74,7 @@ pub use item::Item;
 pub use item_fault::ItemFault;
 pub use laws::{
     attributes_stay_sound, covers_lie_in_their_bounds, drill_layers_stay_sound,
-    edits_stay_in_their_bounds, layers_stay_sound, painting_in_order_makes_the_image,
+    edits_stay_in_their_bounds, last_leaves_make_the_image, layers_stay_sound, painting_in_order_makes_the_image,
     tests_tell_covers, tests_tell_limits, tests_tell_what_is_inside, topmost_items_make_the_image,
     turns_follow_their_matrices,
 };

@@ -1,6 +1,5 @@
-//! Layers, painted on a canvas.
+//! Layers, painted on a canvas from the last leaf on.
 
-pub(crate) mod dark;
 pub(crate) mod layer;
 pub(crate) mod objects;
 pub(crate) mod prints;

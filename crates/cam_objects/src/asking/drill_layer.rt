@@ -10,11 +10,11 @@ ghost use Rattle.cam_objects.specs.Enclosed.{FindsEnclosed};
 ghost use Rattle.cam_objects.specs.Topmost.{IsCoveredBy, PointsAt, drill_item_lists, leaves_at};
 
 use crate::asking::enclosed::next_enclosed;
-use crate::asking::probe::Probe;
 use crate::asking::topmost::topmost;
 use crate::asking::whole::whole_box;
 use crate::cells::kept::ItemCells;
 use crate::drill_layer::DrillLayer;
+use crate::image::Pixel;
 use cam_units::{Bounds, Spot};
 
 impl DrillLayer {
@@ -27,9 +27,9 @@ impl DrillLayer {
         ensures { IsTrue result
             ↔ IsCoveredBy (leaves_at (drill_item_lists self.now.tools self.now.items.items) place) at }
     {
-        let mut probe = Probe::at(at);
-        self.paint_item(place, &mut probe);
-        probe.is_touched()
+        let mut pixel = Pixel::at(at);
+        self.paint_item(place, &mut pixel);
+        pixel.is_decided()
     }
 
     /// The place of the topmost item at a place, in half nm, among those before one: the last of them of which a hole or a

@@ -10,10 +10,10 @@ ghost use Rattle.cam_objects.specs.Soundness.{HasSoundItems};
 ghost use Rattle.cam_objects.specs.Topmost.{IsCoveredBy, PointsAt, item_lists, leaves_at};
 
 use crate::asking::enclosed::next_enclosed;
-use crate::asking::probe::Probe;
 use crate::asking::topmost::topmost;
 use crate::asking::whole::whole_box;
 use crate::cells::kept::ItemCells;
+use crate::image::Pixel;
 use crate::layer::Layer;
 use cam_units::{Bounds, Spot};
 
@@ -27,9 +27,9 @@ impl Layer {
         ensures { IsTrue result
             ↔ IsCoveredBy (leaves_at (item_lists self.now.apertures self.now.items.items) place) at }
     {
-        let mut probe = Probe::at(at);
-        self.paint_item(place, &mut probe);
-        probe.is_touched()
+        let mut pixel = Pixel::at(at);
+        self.paint_item(place, &mut pixel);
+        pixel.is_decided()
     }
 
     /// The place of the topmost item at a place, in half nm, among those before one: the last of them of which some leaf

@@ -1,4 +1,4 @@
-//! Drill layers, painted on a canvas, item by item.
+//! Drill layers, painted on a canvas, item by item from the last one on.
 
 ghost use Rattle.std.specs.Prelude.{◌<◌, ◌≡◌, ℕ, All, Some, length, slice_get};
 ghost use Rattle.cam_units.specs.Board.{IsOnBoard, IsSize};
@@ -10,7 +10,7 @@ ghost use Rattle.cam_objects.specs.DrillSoundness.{IsSoundDrillItem, IsSoundDril
 ghost use Rattle.cam_objects.specs.declared.drill_item.DrillItem.{DrillItem};
 
 use crate::boxes::shapes::stroke_bounds;
-use crate::canvas::{Canvas, Figure, Print, misses};
+use crate::canvas::{Canvas, Figure, Print, is_done_in};
 use crate::drill_item::DrillItem;
 use crate::drill_layer::DrillLayer;
 use crate::paint::prints::{paint_hole, paint_leaf};
@@ -18,7 +18,7 @@ use crate::tools::Tools;
 use cam_shapes::{Capsule, Disc};
 use cam_units::{Nm, Point};
 
-/// Routs from each point to the next; one point is a hole.
+/// Routs from each point to the next, the last slot first; one point is a hole.
 fn paint_rout<C: Canvas>(points: &[Point], diameter: Nm, canvas: &mut C)
     requires points { All IsOnBoard points.now }
     requires diameter { IsSize diameter.0 }
@@ -34,7 +34,7 @@ fn paint_rout<C: Canvas>(points: &[Point], diameter: Nm, canvas: &mut C)
         );
         return;
     }
-    for k in 1..points.len() {
+    for k in (1..points.len()).rev() {
         let slot = Capsule {
             from: points[k - 1],
             to: points[k],
@@ -49,7 +49,7 @@ fn paint_rout<C: Canvas>(points: &[Point], diameter: Nm, canvas: &mut C)
     }
 }
 
-/// Paints what an item drills or routs, if its box meets the canvas.
+/// Paints what an item drills or routs, if something is left to paint in its box.
 fn paint_item<C: Canvas>(tools: &Tools, item: &DrillItem, canvas: &mut C)
     requires tools { All (λ (e : ℕ × Nm). IsSoundTool e.0 e.1) tools.now }
     requires item { IsSoundDrillItem tools.now item.now }
@@ -58,7 +58,7 @@ fn paint_item<C: Canvas>(tools: &Tools, item: &DrillItem, canvas: &mut C)
     let Some(diameter) = tools.get(item.tool()) else {
         return;
     };
-    if misses(canvas, item.bounds(diameter)) {
+    if is_done_in(canvas, item.bounds(diameter)) {
         return;
     }
     match item {
@@ -73,20 +73,20 @@ fn paint_item<C: Canvas>(tools: &Tools, item: &DrillItem, canvas: &mut C)
     }
 }
 
-/// Paints items in order.
+/// Paints items, from the last one on.
 fn paint_items<C: Canvas>(tools: &Tools, items: &[DrillItem], canvas: &mut C)
     requires tools { All (λ (e : ℕ × Nm). IsSoundTool e.0 e.1) tools.now }
     requires items { All (IsSoundDrillItem tools.now) items.now }
     ensures { Paints C.has C.place C.ink canvas.old (drill_leaves tools.now items.now) canvas.new }
 {
-    for item in items {
-        paint_item(tools, item, canvas);
+    for k in (0..items.len()).rev() {
+        paint_item(tools, &items[k], canvas);
     }
 }
 
 impl DrillLayer {
-    /// Paints a sound drill layer on a canvas: its holes and slots in order, all dark. What has its box outside of the
-    /// canvas is passed over.
+    /// Paints a sound drill layer on a canvas, from the last hole or slot on, all dark. What has nothing left to paint in
+    /// its box is passed over.
     pub fn paint<C: Canvas>(&self, canvas: &mut C)
         requires { IsSoundDrillLayer self.now }
         ensures { Paints C.has C.place C.ink canvas.old (drill_content_leaves (drill_content_of self.now)) canvas.new }
@@ -94,7 +94,7 @@ impl DrillLayer {
         paint_items(&self.tools, &self.items, canvas);
     }
 
-    /// Paints the item at a place of the list, counted from 0.
+    /// Paints the item at a place of the list, counted from 0, from its last slot on.
     pub fn paint_item<C: Canvas>(&self, place: usize, canvas: &mut C)
         requires sound { IsSoundDrillLayer self.now }
         requires within { place < length self.now.items.items }

@@ -1,7 +1,8 @@
-//! Layers, painted on a canvas, item by item.
+//! Layers, painted on a canvas, item by item from the last one on.
 
 ghost use Rattle.std.specs.Prelude.{ℕ, ◌<◌, ◌^◌, ◌≡◌, ◌*ℤ◌, pos, All, Some, length, slice_get};
 ghost use Rattle.std.specs.Int.RustNames.{unsigned_abs};
+ghost use Rattle.cam_objects.specs.Bounds.{bounds_of};
 ghost use Rattle.cam_objects.specs.Canvases.{Paints};
 ghost use Rattle.cam_objects.specs.Contents.{content_leaves, content_of};
 ghost use Rattle.cam_objects.specs.Leaves.{
@@ -10,9 +11,11 @@ ghost use Rattle.cam_objects.specs.Leaves.{
   item_leaves,
   leaves_of,
   meaning_in,
+  origin,
   repeat_leaves,
   shifted,
 };
+ghost use Rattle.cam_objects.specs.Machinery.Boxes.{IsNearBox};
 ghost use Rattle.cam_objects.specs.Machinery.Parts.{ArePartsOf};
 ghost use Rattle.cam_objects.specs.Machinery.Painting.{
   IsCopied,
@@ -27,7 +30,8 @@ ghost use Rattle.cam_objects.specs.declared.item.Item.{Item};
 
 use crate::boxes::items::block_bounds;
 use crate::boxes::parts::Parts;
-use crate::canvas::Canvas;
+use crate::boxes::placed::moved;
+use crate::canvas::{Canvas, is_done_in};
 use crate::dictionary::Dictionary;
 use crate::item::Item;
 use crate::layer::Layer;
@@ -36,17 +40,20 @@ use crate::paint::objects::{paint_object, paint_parts};
 use crate::paint::run::Run;
 use crate::placing::copies::Copies;
 use crate::placing::place::Place;
-use cam_units::Point;
+use cam_units::{Bounds, Point};
 
-/// Paints a copy of objects, moved by so many nm.
+/// Paints a copy of objects with a box, moved by so many nm, if something is left to paint in its box there.
 fn paint_copy<C: Canvas>(
     entries: &Dictionary,
     objects: &[Object],
+    first: Bounds,
     parts: &Parts,
     by: Point,
     canvas: &mut C,
 )
     requires objects { All StandsOnBoard objects.now }
+    requires first { first ≡ bounds_of (block_leaves (meaning_in entries.now) origin objects.now) }
+    requires near { IsNearBox first }
     requires parts { ArePartsOf entries.now objects.now parts.now }
     requires across { unsigned_abs by.x < 2 ^ 53 }
     requires up { unsigned_abs by.y < 2 ^ 53 }
@@ -55,22 +62,28 @@ fn paint_copy<C: Canvas>(
     ensures { Paints C.has C.place C.ink canvas.old
         (block_leaves (meaning_in entries.now) (shifted by.x by.y) objects.now) canvas.new }
 {
+    if is_done_in(canvas, moved(first, by)) {
+        return;
+    }
     let place = Place::shifted(by);
     let upto = entries.len();
     let boxes = parts.as_slice();
     paint_parts(entries, upto, objects, parts.size, boxes, &place, canvas);
 }
 
-/// Paints one column of a repeat: the copies in a run of its rows, where no other covers a pixel.
+/// Paints one column of a repeat, from its last row on: the copies in a run of its rows, where no other covers a pixel.
 fn paint_column<C: Canvas>(
     entries: &Dictionary,
     copies: &Copies,
     objects: &[Object],
+    first: Bounds,
     parts: &Parts,
     column: u32,
     seen: Run,
     canvas: &mut C,
 )
+    requires first { first ≡ bounds_of (block_leaves (meaning_in entries.now) origin objects.now) }
+    requires near { IsNearBox first }
     requires parts { ArePartsOf entries.now objects.now parts.now }
     requires across { IsCopied copies.now.columns copies.now.i objects.now }
     requires up { IsCopied copies.now.rows copies.now.j objects.now }
@@ -84,13 +97,14 @@ fn paint_column<C: Canvas>(
     ensures { Paints C.has C.place C.ink canvas.old (column_leaves (meaning_in entries.now)
         (pos column *ℤ copies.now.i) copies.now.rows copies.now.j objects.now) canvas.new }
 {
-    for r in seen.first..seen.end {
+    for r in (seen.first..seen.end).rev() {
         let by = copies.offset(column, r);
-        paint_copy(entries, objects, parts, by, canvas);
+        paint_copy(entries, objects, first, parts, by, canvas);
     }
 }
 
-/// Paints a repeat, column by column: the copies whose boxes meet that of the canvas.
+/// Paints a repeat, from the last column on, if something is left to paint in its box: the copies whose boxes meet that of
+/// the canvas.
 fn paint_repeat<C: Canvas>(
     entries: &Dictionary,
     copies: &Copies,
@@ -113,10 +127,13 @@ fn paint_repeat<C: Canvas>(
     if rows.is_empty() {
         return;
     }
+    if is_done_in(canvas, copies.bounds(first)) {
+        return;
+    }
     let columns = copies.columns_over(first, whole);
     let parts = Parts::of(entries, objects);
-    for c in columns.first..columns.end {
-        paint_column(entries, copies, objects, &parts, c, rows, canvas);
+    for c in (columns.first..columns.end).rev() {
+        paint_column(entries, copies, objects, first, &parts, c, rows, canvas);
     }
 }
 
@@ -137,19 +154,19 @@ fn paint_item<C: Canvas>(entries: &Dictionary, item: &Item, canvas: &mut C)
     }
 }
 
-/// Paints items in order.
+/// Paints items, from the last one on.
 fn paint_items<C: Canvas>(entries: &Dictionary, items: &[Item], canvas: &mut C)
     requires items { All IsPaintableItem items.now }
     requires ready { IsReadyToPrint entries.now (leaves_of entries.now items.now) }
     ensures { Paints C.has C.place C.ink canvas.old (leaves_of entries.now items.now) canvas.new }
 {
-    for item in items {
-        paint_item(entries, item, canvas);
+    for k in (0..items.len()).rev() {
+        paint_item(entries, &items[k], canvas);
     }
 }
 
 impl Layer {
-    /// Paints a sound layer on a canvas: its leaves in order. What has its box outside of the canvas is passed over.
+    /// Paints a sound layer on a canvas, from the last leaf on. What has nothing left to paint in its box is passed over.
     pub fn paint<C: Canvas>(&self, canvas: &mut C)
         requires { HasSoundItems self.now }
         ensures { Paints C.has C.place C.ink canvas.old (content_leaves (content_of self.now)) canvas.new }
@@ -157,7 +174,7 @@ impl Layer {
         paint_items(&self.apertures, &self.items, canvas);
     }
 
-    /// Paints the item at a place of the list, counted from 0.
+    /// Paints the item at a place of the list, counted from 0, from its last leaf on.
     pub fn paint_item<C: Canvas>(&self, place: usize, canvas: &mut C)
         requires sound { HasSoundItems self.now }
         requires within { place < length self.now.items.items }

@@ -1,4 +1,4 @@
-//! Objects, painted on a canvas in order. Nothing is unfolded.
+//! Objects, painted on a canvas from the last one on. Nothing is unfolded.
 
 ghost use Rattle.std.specs.Prelude.{◌≡◌, ◌+◌, ◌≤◌, All, IfSome, length, take};
 ghost use Rattle.cam_objects.specs.Bounds.{bounds_of};
@@ -10,7 +10,7 @@ ghost use Rattle.cam_objects.specs.Machinery.Painting.{IsPrintable, StandsOnBoar
 ghost use Rattle.cam_objects.specs.Soundness.{IsSoundDictionary};
 
 use crate::boxes::parts::{CHUNK_SIZE, behind_parts, part_at};
-use crate::canvas::{Canvas, Figure, Print, misses};
+use crate::canvas::{Canvas, Figure, Print, is_done_in};
 use crate::dictionary::Dictionary;
 use crate::entry::Entry;
 use crate::object::Object;
@@ -20,7 +20,7 @@ use crate::tip::{Tip, round_width};
 use cam_shapes::Arc;
 use cam_units::Bounds;
 
-/// Paints what a flash of the number paints at a place, if its box meets the canvas.
+/// Paints what a flash of the number paints at a place, if something is left to paint in its box.
 #[cycle(paint)]
 fn paint_flash<C: Canvas>(
     entries: &Dictionary,
@@ -40,7 +40,7 @@ fn paint_flash<C: Canvas>(
         return;
     }
     let bounds = place.bounds(facts.bounds);
-    if misses(canvas, bounds) {
+    if is_done_in(canvas, bounds) {
         return;
     }
     match entry {
@@ -61,7 +61,7 @@ fn paint_flash<C: Canvas>(
     }
 }
 
-/// Paints objects at a place, in order, but for the parts of so many whose boxes miss the canvas there.
+/// Paints objects at a place, from the last one on, but for the parts of so many in whose boxes nothing is left to paint.
 #[cycle(paint)]
 pub(crate) fn paint_parts<C: Canvas>(
     entries: &Dictionary,
@@ -79,15 +79,15 @@ pub(crate) fn paint_parts<C: Canvas>(
     ensures { Paints C.has C.place C.ink canvas.old
         (block_leaves (meaning_before upto entries.now) place.now objects.now) canvas.new }
 {
-    for k in 0..boxes.len() {
+    let behind = behind_parts(objects, size, boxes.len());
+    paint_block(entries, upto, behind, place, canvas);
+    for k in (0..boxes.len()).rev() {
         let part = part_at(objects, size, k);
         paint_part(entries, upto, part, boxes[k], place, canvas);
     }
-    let behind = behind_parts(objects, size, boxes.len());
-    paint_block(entries, upto, behind, place, canvas);
 }
 
-/// Paints objects at a place, in order, if their box there meets the canvas.
+/// Paints objects at a place, from the last one on, if something is left to paint in their box there.
 #[cycle(paint)]
 fn paint_part<C: Canvas>(
     entries: &Dictionary,
@@ -106,13 +106,13 @@ fn paint_part<C: Canvas>(
         (block_leaves (meaning_before upto entries.now) place.now objects.now) canvas.new }
 {
     let there = place.bounds(bounds);
-    if misses(canvas, there) {
+    if is_done_in(canvas, there) {
         return;
     }
     paint_block(entries, upto, objects, place, canvas);
 }
 
-/// Paints the objects of a block at a place, in order.
+/// Paints the objects of a block at a place, from the last one on.
 #[cycle(paint)]
 fn paint_block<C: Canvas>(
     entries: &Dictionary,
@@ -127,8 +127,8 @@ fn paint_block<C: Canvas>(
     ensures { Paints C.has C.place C.ink canvas.old
         (block_leaves (meaning_before upto entries.now) place.now objects.now) canvas.new }
 {
-    for object in objects {
-        paint_object(entries, upto, object, place, canvas);
+    for k in (0..objects.len()).rev() {
+        paint_object(entries, upto, &objects[k], place, canvas);
     }
 }
 

@@ -1,4 +1,4 @@
-//! Single leaves, painted on a canvas where their boxes meet it.
+//! Single leaves, painted on a canvas, but for those in whose boxes nothing is left to paint.
 
 ghost use Rattle.std.specs.Prelude.{◌≡◌, ◌∷◌, [], Some, true};
 ghost use Rattle.cam_units.specs.Board.{IsOnBoard, IsSize};
@@ -11,18 +11,18 @@ ghost use Rattle.cam_objects.specs.Machinery.Boxes.{IsSizedTip};
 ghost use Rattle.cam_objects.specs.Turning.{after};
 
 use crate::boxes::shapes::{contour_bounds, drawn_bounds, hole_bounds, sweep_bounds};
-use crate::canvas::{Canvas, Figure, Print, misses};
+use crate::canvas::{Canvas, Figure, Print, is_done_in};
 use crate::placing::place::Place;
 use crate::tip::Tip;
 use cam_shapes::{Arc, Capsule, Contour, Disc, Swept};
 use cam_units::{Point, Turn};
 
-/// Paints a leaf, if its box meets the canvas.
+/// Paints a leaf, if something is left to paint in its box.
 pub(crate) fn paint_leaf<C: Canvas>(print: Print<'_>, canvas: &mut C)
     requires { IsSoundPrint print }
     ensures { Paints C.has C.place C.ink canvas.old (leaf_of print.entry ∷ []) canvas.new }
 {
-    if misses(canvas, print.bounds) {
+    if is_done_in(canvas, print.bounds) {
         return;
     }
     canvas.paint(print);

@@ -7,7 +7,7 @@ use Rattle.cam_objects.proofs.SoundItems.{meets_drill}
 use Rattle.cam_objects.specs.Bounds.{bounds_of}
 use Rattle.cam_objects.specs.Drilling.{diameter_of, drill_item_leaves, leaves_with}
 use Rattle.cam_objects.specs.DrillSoundness.{drill_points_of}
-use Rattle.cam_objects.proofs.Canvases.{paints_missed}
+use Rattle.cam_objects.proofs.Canvases.{paints_boxed}
 use Rattle.cam_objects.proofs.MovedBounds.{tool_leaves}
 use Rattle.cam_objects.proofs.SoundTools.{tool_size}
 use Rattle.cam_objects.proofs.drill.painting.paint_item.Goals as goal
@@ -19,15 +19,15 @@ pub bounds-requires-clause-diameter : goal.bounds-requires-clause-diameter
 bounds-requires-clause-diameter g c =
     tool_size c.args.tools.now c.tool.result c.in-Some.diameter c.requires.tools (sym c.in-Some.ensures)
 
-pub returns-then-misses : goal.returns-then-misses
-returns-then-misses g c =
+pub returns-then-is_done_in : goal.returns-then-is_done_in
+returns-then-is_done_in g c =
     let canvas = g.C.Canvas in
     let tools = c.args.tools.now in
     let item = c.args.item.now in
     let diameter = c.in-Some.ensures ∙ ap (diameter_of tools) c.tool.ensures in
-    paints_missed canvas.has canvas.place canvas.ink c.args.canvas.now (drill_item_leaves tools item) c.bounds.result
+    paints_boxed canvas.has canvas.place canvas.ink c.args.canvas.now (drill_item_leaves tools item) c.bounds.result
     (c.bounds.ensures ∙ ap (λ d. bounds_of (leaves_with d item)) diameter ∙ sym (ap bounds_of (tool_leaves tools item)))
-    (c.misses.ensures c.if-misses.true)
+    (c.is_done_in.ensures c.if-is_done_in.true)
 
 pub paint_hole-requires : goal.paint_hole-requires
 paint_hole-requires g c = record {

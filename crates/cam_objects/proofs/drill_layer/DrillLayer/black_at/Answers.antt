@@ -1,18 +1,17 @@
-use Rattle.std.proofs.Common.{◌↔◌, Bool, IsTrue, ap, sym, subst, ◌∙◌}
-use Rattle.cam_units.specs.declared.point.Spot.{Spot}
+use Rattle.std.proofs.Common.{◌↔◌, false, IsTrue, ap, sym, subst, ◌∙◌}
+use Rattle.std.specs.Option.{unwrap_or}
 use Rattle.cam_objects.specs.Image.{IsBlack}
 use Rattle.cam_objects.specs.Drilling.{drill_leaves}
-use Rattle.cam_objects.specs.Tests.{is_black, painted}
+use Rattle.cam_objects.proofs.LastInks.{inked, last_law}
 use Rattle.cam_objects.proofs.TestLaws.{black_law}
 use Rattle.cam_objects.proofs.drill_layer.DrillLayer.black_at.Goals as goal
 
 pub returns-clause-test : goal.returns-clause-test
-unfolding is_black
 returns-clause-test c =
+    let leaves = drill_leaves c.args.self.now.tools c.args.self.now.items.items in
     c.is_dark.ensures
-    ∙ c.paint.ensures.inks 0 0 tt
-    ∙ ap (λ (p : Spot × Bool). painted p.1 (drill_leaves c.args.self.now.tools c.args.self.now.items.items) p.0)
-    c.clear_at-pixel.ensures
+    ∙ ap (λ o. unwrap_or o false) (inked leaves c.at-pixel.result c.paint.new.canvas c.args.spot c.at-pixel.ensures c.paint.ensures)
+    ∙ sym (last_law leaves c.args.spot)
 
 pub returns-clause-image : goal.returns-clause-image
 returns-clause-image c =

@@ -1,6 +1,21 @@
-use Rattle.cam_objects.specs.Leaves.{block_leaves}
+use Rattle.std.proofs.Common.{ap, reverse, sym, ◌∙◌}
+use Rattle.cam_objects.specs.Bounds.{box_of_shape, moved}
+use Rattle.cam_objects.specs.Leaves.{block_leaves, meaning_in, shifted}
+use Rattle.cam_objects.proofs.Canvases.{paints_boxed}
+use Rattle.cam_objects.proofs.CopyBoxes.{copy_box}
 use Rattle.cam_objects.proofs.Painting.{paintable_whole}
+use Rattle.cam_objects.proofs.PlacedShapes.{shapes_so}
 use Rattle.cam_objects.proofs.paint.layer.paint_copy.Goals as goal
+
+pub returns-then-is_done_in : goal.returns-then-is_done_in
+returns-then-is_done_in g c =
+    let canvas = g.C.Canvas in
+    let a = c.args in
+    let box = c.moved.ensures ∙ ap (moved a.by) c.requires.first
+    ∙ sym (copy_box box_of_shape shapes_so (reverse a.entries.now) a.objects.now a.by.x a.by.y) in
+    paints_boxed canvas.has canvas.place canvas.ink a.canvas.now
+    (block_leaves (meaning_in a.entries.now) (shifted a.by.x a.by.y) a.objects.now) c.moved.result box
+    (c.is_done_in.ensures c.if-is_done_in.true)
 
 pub paint_parts-requires-clause-ready : goal.paint_parts-requires-clause-ready
 paint_parts-requires-clause-ready g c =

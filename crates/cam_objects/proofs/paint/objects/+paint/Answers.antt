@@ -1,6 +1,5 @@
-use Rattle.std.proofs.Common.{◌≡◌, ℕ, ◌+◌, ◌*◌, ◌<◌, List, length, take, drop, slice_get, get_or, Some, sym, ap, subst, ◌∙◌, arith}
+use Rattle.std.proofs.Common.{◌≡◌, ℕ, ◌+◌, ◌-◌, ◌*◌, ◌<◌, List, length, take, drop, slice_get, get_or, Some, sym, ap, subst, ◌∙◌, arith}
 use Rattle.std.specs.List.{All}
-use Rattle.std.proofs.lemmas.List.{take_all}
 use Rattle.cam_units.specs.declared.bounds.Bounds.TheVariants.{Empty}
 use Rattle.cam_objects.specs.declared.object.Object.{Object}
 use Rattle.cam_objects.specs.declared.entry.Entry.{Entry}
@@ -12,8 +11,8 @@ use Rattle.cam_objects.specs.Leaves.{Leaf, Meaning, block_leaves, meaning_in, ob
 use Rattle.cam_objects.specs.Machinery.Parts.{ArePartBoxes, part_at}
 use Rattle.cam_objects.specs.Machinery.Painting.{HasReach, IsPrintable, StandsOnBoard, flash_leaves, meaning_before}
 use Rattle.cam_objects.specs.Soundness.{AreOnBoard}
-use Rattle.cam_objects.proofs.Parts.{all_behind, all_part, flat_more, flat_split, part_box, printable_behind, printable_part}
-use Rattle.cam_objects.proofs.Canvases.{paints_missed, paints_more, paints_next, paints_nothing, sound_print}
+use Rattle.cam_objects.proofs.Parts.{all_behind, all_part, flat_before, part_box, printable_behind, printable_part}
+use Rattle.cam_objects.proofs.Canvases.{paints_beneath, paints_boxed, paints_last, paints_next, paints_nothing, sound_print}
 use Rattle.cam_objects.proofs.ItemBounds.{flash_box, meaning_among}
 use Rattle.cam_objects.proofs.Painting.{
   aperture_sound,
@@ -34,58 +33,60 @@ use Rattle.cam_objects.proofs.paint.objects.+paint.Goals as goal
 
 -- ---- a block
 
-pub paint_block-loop-object-init : goal.paint_block-loop-object-init
-paint_block-loop-object-init g t c =
-    let canvas = g.C.Canvas in paints_nothing canvas.has canvas.place canvas.ink c.args.canvas.now
+pub paint_block-loop-k-init : goal.paint_block-loop-k-init
+paint_block-loop-k-init g t c =
+    let canvas = g.C.Canvas in
+    let f : Object → List Leaf = object_leaves (meaning_before c.args.upto c.args.entries.now) c.args.place.now in
+    paints_last canvas.has canvas.place canvas.ink f c.args.objects.now c.args.canvas.now
 
 pub paint_block-paint_object-requires : goal.paint_block-paint_object-requires
 paint_block-paint_object-requires g t c κs within =
-    let i = c.loop-object.object-index in
+    let i = c.loop-k.k - 1 in
     let objects = c.args.objects.now in
-    let x = c.object-item.result in
-    let below = c.loop-object-test.true in (
+    let x = c.index-objects-k.result in
+    let below : i < length objects = omega arith in (
       omega (arith, c.decreases),
       (
         within,
         (
-          stands_at objects i x below c.object-item.is c.requires.objects,
+          stands_at objects i x below c.index-objects-k.is c.requires.objects,
           paintable_object c.args.entries.now c.args.upto
-              (c.args.upto + 1) i objects x c.args.place.now below c.object-item.is c.requires.ready,
+              (c.args.upto + 1) i objects x c.args.place.now below c.index-objects-k.is c.requires.ready,
         ),
       ),
     )
 
-pub paint_block-loop-object-preserved : goal.paint_block-loop-object-preserved
-paint_block-loop-object-preserved g t c =
+pub paint_block-loop-k-preserved : goal.paint_block-loop-k-preserved
+paint_block-loop-k-preserved g t c =
     let canvas = g.C.Canvas in
     let f : Object → List Leaf = object_leaves (meaning_before c.args.upto c.args.entries.now) c.args.place.now in
-    paints_next canvas.has canvas.place canvas.ink f c.args.objects.now c.loop-object.object-index c.object-item.result
-    c.args.canvas.now c.loop-object.canvas c.paint_object.new.canvas
-    c.loop-object-test.true c.object-item.is c.loop-object.invariant c.paint_object.ensures
+    paints_next canvas.has canvas.place canvas.ink f c.args.objects.now (c.loop-k.k - 1) c.loop-k.k c.index-objects-k.result
+    c.args.canvas.now c.loop-k.canvas c.paint_object.new.canvas
+    (omega arith) (omega arith) c.index-objects-k.is c.loop-k.invariant c.paint_object.ensures
 
 pub paint_block-returns : goal.paint_block-returns
 paint_block-returns g t c =
     let canvas = g.C.Canvas in
     let means = meaning_before c.args.upto c.args.entries.now in
-    let all = take_all c.loop-object.object-index c.args.objects.now (omega (arith, c.loop-object-test.false)) in
-    subst (λ (os : List Object). Paints canvas.has canvas.place canvas.ink c.args.canvas.now
-    (block_leaves means c.args.place.now os) c.loop-object.canvas)
-    all c.loop-object.invariant
+    let first : c.loop-k.k ≡ 0 = omega arith in
+    subst (λ k. Paints canvas.has canvas.place canvas.ink c.args.canvas.now
+    (block_leaves means c.args.place.now (drop k c.args.objects.now)) c.loop-k.canvas)
+    first c.loop-k.invariant
 
 -- ---- parts
 
 pub paint_part-bounds-there-requires-clause-offset : goal.paint_part-bounds-there-requires-clause-offset
 paint_part-bounds-there-requires-clause-offset g t c = reach_box (c.args.upto + 1) c.args.place.now c.requires.ready.reach
 
-pub paint_part-returns-then-misses : goal.paint_part-returns-then-misses
-paint_part-returns-then-misses g t c =
+pub paint_part-returns-then-is_done_in : goal.paint_part-returns-then-is_done_in
+paint_part-returns-then-is_done_in g t c =
     let canvas = g.C.Canvas in
     let es = take c.args.upto c.args.entries.now in
     let p = c.args.place.now in
-    paints_missed canvas.has canvas.place canvas.ink c.args.canvas.now (block_leaves (meaning_in es) p c.args.objects.now)
+    paints_boxed canvas.has canvas.place canvas.ink c.args.canvas.now (block_leaves (meaning_in es) p c.args.objects.now)
     c.bounds-there.result
     (part_box es c.args.objects.now p c.args.bounds c.bounds-there.result c.requires.bounds c.bounds-there.ensures)
-    (c.misses.ensures c.if-misses.true)
+    (c.is_done_in.ensures c.if-is_done_in.true)
 
 pub paint_part-paint_block-requires : goal.paint_part-paint_block-requires
 paint_part-paint_block-requires g t c κs within = (omega (arith, c.decreases), (within, (c.requires.objects, c.requires.ready)))
@@ -93,21 +94,21 @@ paint_part-paint_block-requires g t c κs within = (omega (arith, c.decreases), 
 pub paint_parts-loop-k-init : goal.paint_parts-loop-k-init
 paint_parts-loop-k-init g t c =
     let canvas = g.C.Canvas in
-    let none : 0 ≡ 0 * c.args.size = omega arith in
-    subst (λ (n : ℕ). Paints canvas.has canvas.place canvas.ink c.args.canvas.now
-    (block_leaves (meaning_before c.args.upto c.args.entries.now) c.args.place.now (take n c.args.objects.now)) c.args.canvas.now)
-    none (paints_nothing canvas.has canvas.place canvas.ink c.args.canvas.now)
+    let means = meaning_before c.args.upto c.args.entries.now in
+    subst (λ (os : List Object). Paints canvas.has canvas.place canvas.ink c.args.canvas.now (block_leaves means c.args.place.now os)
+    c.paint_block.new.canvas)
+    c.behind_parts-behind.ensures c.paint_block.ensures
 
 pub paint_parts-paint_part-requires : goal.paint_parts-paint_part-requires
 paint_parts-paint_part-requires g t c κs within =
     let es = c.args.entries.now in
-    let k = c.loop-k.k in
+    let k = c.loop-k.k - 1 in
     let size = c.args.size in
     let objects = c.args.objects.now in
     let p = c.args.place.now in
     let means = meaning_before c.args.upto es in
     let same : part_at size k objects ≡ c.part_at-part.result.now = sym c.part_at-part.ensures in
-    let below : k < length c.args.boxes.now = c.loop-k-test.true in (
+    let below : k < length c.args.boxes.now = omega arith in (
       omega (arith, c.decreases),
       (
         within,
@@ -131,14 +132,16 @@ paint_parts-loop-k-preserved g t c =
     let canvas = g.C.Canvas in
     let means = meaning_before c.args.upto c.args.entries.now in
     let p = c.args.place.now in
-    let k = c.loop-k.k in
+    let k = c.loop-k.k - 1 in
     let size = c.args.size in
     let objects = c.args.objects.now in
     let f : Object → List Leaf = object_leaves means p in
+    let more : k * size + size ≡ (k + 1) * size = omega arith in
+    let next = more ∙ ap (λ n. n * size) (omega arith) in
     subst (λ (leaves : List Leaf). Paints canvas.has canvas.place canvas.ink c.args.canvas.now leaves c.paint_part.new.canvas)
-    (sym (flat_more f objects (k * size) size ((k + 1) * size) (omega arith)))
-    (paints_more canvas.has canvas.place canvas.ink c.args.canvas.now c.loop-k.canvas c.paint_part.new.canvas
-    (block_leaves means p (take (k * size) objects)) (block_leaves means p (part_at size k objects)) c.loop-k.invariant
+    (sym (flat_before f objects (k * size) size (c.loop-k.k * size) next))
+    (paints_beneath canvas.has canvas.place canvas.ink c.args.canvas.now c.loop-k.canvas c.paint_part.new.canvas
+    (block_leaves means p (part_at size k objects)) (block_leaves means p (drop (c.loop-k.k * size) objects)) c.loop-k.invariant
     (subst (λ (os : List Object). Paints canvas.has canvas.place canvas.ink c.loop-k.canvas (block_leaves means p os)
     c.paint_part.new.canvas)
     c.part_at-part.ensures c.paint_part.ensures))
@@ -165,20 +168,12 @@ pub paint_parts-returns : goal.paint_parts-returns
 paint_parts-returns g t c =
     let canvas = g.C.Canvas in
     let means = meaning_before c.args.upto c.args.entries.now in
-    let p = c.args.place.now in
-    let n = length c.args.boxes.now * c.args.size in
-    let objects = c.args.objects.now in
-    let f : Object → List Leaf = object_leaves means p in
-    let last : c.loop-k.k * c.args.size ≡ n = ap (λ m. m * c.args.size) (omega (arith, c.loop-k-test.false)) in
-    subst (λ (leaves : List Leaf). Paints canvas.has canvas.place canvas.ink c.args.canvas.now leaves c.paint_block.new.canvas)
-    (sym (flat_split f objects n))
-    (paints_more canvas.has canvas.place canvas.ink c.args.canvas.now c.loop-k.canvas c.paint_block.new.canvas
-    (block_leaves means p (take n objects)) (block_leaves means p (drop n objects))
-    (subst (λ (m : ℕ). Paints canvas.has canvas.place canvas.ink c.args.canvas.now (block_leaves means p (take m objects)) c.loop-k.canvas)
-    last c.loop-k.invariant)
-    (subst (λ (os : List Object). Paints canvas.has canvas.place canvas.ink c.loop-k.canvas (block_leaves means p os)
-    c.paint_block.new.canvas)
-    c.behind_parts-behind.ensures c.paint_block.ensures))
+    let zero : c.loop-k.k ≡ 0 = omega arith in
+    let none : 0 * c.args.size ≡ 0 = omega arith in
+    let first = ap (λ k. k * c.args.size) zero ∙ none in
+    subst (λ n. Paints canvas.has canvas.place canvas.ink c.args.canvas.now
+    (block_leaves means c.args.place.now (drop n c.args.objects.now)) c.loop-k.canvas)
+    first c.loop-k.invariant
 
 -- ---- a flash
 
@@ -202,8 +197,8 @@ paint_flash-returns-then-upto-at g t c =
 pub paint_flash-bounds-bounds-requires-clause-offset : goal.paint_flash-bounds-bounds-requires-clause-offset
 paint_flash-bounds-bounds-requires-clause-offset g t c = reach_box c.args.upto c.args.place.now c.requires.reach
 
-pub paint_flash-returns-then-misses : goal.paint_flash-returns-then-misses
-paint_flash-returns-then-misses g t c =
+pub paint_flash-returns-then-is_done_in : goal.paint_flash-returns-then-is_done_in
+paint_flash-returns-then-is_done_in g t c =
     let canvas = g.C.Canvas in
     let v = c.args.canvas.now in
     let es = c.args.entries.now in
@@ -211,8 +206,8 @@ paint_flash-returns-then-misses g t c =
     let among = meaning_among es c.in-Some.found.0 c.args.upto c.args.number c.in-Some.found.1.now c.find_with_facts.ensures.distinct
     c.in-Some.ensures.found (omega (arith, c.if-upto-at.false)) c.requires.within in
     let box = flash_box es c.args.number p c.in-Some.found.2.now c.bounds-bounds.result c.in-Some.ensures.value c.bounds-bounds.ensures in
-    paints_missed canvas.has canvas.place canvas.ink v (flash_leaves c.args.upto es c.args.number p) c.bounds-bounds.result
-    (box ∙ ap (λ (m : Meaning). bounds_of (m.flash p)) (sym among)) (c.misses.ensures c.if-misses.true)
+    paints_boxed canvas.has canvas.place canvas.ink v (flash_leaves c.args.upto es c.args.number p) c.bounds-bounds.result
+    (box ∙ ap (λ (m : Meaning). bounds_of (m.flash p)) (sym among)) (c.is_done_in.ensures c.if-is_done_in.true)
 
 pub paint_flash-paint-requires : goal.paint_flash-paint-requires
 paint_flash-paint-requires g t c =

@@ -1,4 +1,4 @@
-use Rattle.std.proofs.Common.{◌+◌, ◌*◌, take}
+use Rattle.std.proofs.Common.{◌+◌, ◌*◌, drop}
 use Rattle.cam_objects.specs.Canvases.{Paints}
 use Rattle.cam_objects.specs.Leaves.{block_leaves}
 use Rattle.cam_objects.specs.Machinery.Painting.{meaning_before}
@@ -19,16 +19,16 @@ decreases-paint_part g l = 5 * l.upto + 3
 abbrev pub decreases-paint_parts : goal.decreases-paint_parts
 decreases-paint_parts g l = 5 * l.upto + 4
 
--- the objects before this part are painted
+-- the objects behind this part are painted
 abbrev pub invariant-paint_parts-loop-k : goal.invariant-paint_parts-loop-k
 invariant-paint_parts-loop-k g l =
     let canvas = g.C.Canvas in
     Paints canvas.has canvas.place canvas.ink l.fn.canvas
-    (block_leaves (meaning_before l.upto l.entries) l.place (take (l.k * l.size) l.objects)) l.canvas
+    (block_leaves (meaning_before l.upto l.entries) l.place (drop (l.k * l.size) l.objects)) l.canvas
 
--- the objects before this one are painted
-abbrev pub invariant-paint_block-loop-object : goal.invariant-paint_block-loop-object
-invariant-paint_block-loop-object g l =
+-- the objects from this one on are painted
+abbrev pub invariant-paint_block-loop-k : goal.invariant-paint_block-loop-k
+invariant-paint_block-loop-k g l =
     let canvas = g.C.Canvas in
     Paints canvas.has canvas.place canvas.ink l.fn.canvas
-    (block_leaves (meaning_before l.upto l.entries) l.place (take l.object-index l.objects)) l.canvas
+    (block_leaves (meaning_before l.upto l.entries) l.place (drop l.k l.objects)) l.canvas
