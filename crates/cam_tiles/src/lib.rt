@@ -39,6 +39,7 @@ mod drawing;
 mod fault;
 mod grid;
 mod index;
+mod lattice;
 mod laws;
 mod levels;
 mod masks;

@@ -50,26 +50,6 @@ impl<'a> Boxes<'a> {
     }
 }
 
-/// A region: the inside of a contour, dark or clear.
-#[derive(Clone, Copy)]
-pub(crate) struct Region<'a> {
-    pub(crate) contour: &'a Contour,
-    pub(crate) dark: bool,
-}
-
-/// The region that an item is, if it is one alone.
-fn region_in(item: &Item) -> Option<Region<'_>>
-    ensures { IfSome result (λ region. item.now ≡ Item.One (Object.Region region.contour.now region.dark)) }
-{
-    match item {
-        Item::One(Object::Region { contour, dark }) => Some(Region {
-            contour,
-            dark: *dark,
-        }),
-        _ => None,
-    }
-}
-
 /// The place behind the last item before an end that may have a place in common with a box, or 0: by the cells of the
 /// items, where there are any.
 fn near_end(cells: Option<&ItemCells>, end: usize, near: Bounds) -> usize
@@ -140,46 +120,7 @@ impl<'a> Shown<'a> {
         }
     }
 
-    /// The region at a place of the list, counted from 0, if the item there is one alone.
-    pub(crate) fn region(&self, place: usize) -> Option<Region<'_>>
-        requires ready { IsReady self.now }
-        requires within { place < length (leaves_by_item self.now) }
-        ensures leaves { IfSome result (λ region. slice_index_or (leaves_by_item self.now) place []
-            ≡ leaf (Filled region.contour.now) region.dark ∷ []) }
-        ensures contour { IfSome result (λ region. IsOnBoardWhole region.contour.now) }
-    {
-        match self {
-            Shown::Gerber { layer, .. } => region_in(&layer.items[place]),
-            Shown::Drill { .. } => None,
-        }
-    }
-
-    /// How many segments may be filed of the item at a place of the list, counted from 0.
-    pub(crate) fn room_to_file(&self, place: usize) -> usize
-        requires ready { IsReady self.now }
-        requires within { place < length (leaves_by_item self.now) }
-        ensures { result ≤ 1000001 }
-    {
-        match self.region(place) {
-            Some(region) => region.contour.segs.as_slice().len() + 1,
-            None => 0,
-        }
-    }
-
-    /// Whether all that the item at a place of the list paints is dark; of repeats and of flashes of blocks it is not
-    /// known.
-    pub(crate) fn is_dark(&self, place: usize) -> bool
-        requires { place < length (leaves_by_item self.now) }
-        ensures { IsTrue result → AreDark (slice_index_or (leaves_by_item self.now) place []) }
-    {
-        match self {
-            Shown::Gerber { layer, .. } => layer.is_dark(place),
-            // what is drilled or routed is dark
-            Shown::Drill { .. } => true,
-        }
-    }
-
-    /// Paints all items, in order.
+    /// Paints all items, from the last one on.
     pub(crate) fn paint<C: Canvas>(&self, canvas: &mut C)
         requires { IsReady self.now }
         ensures { Paints C.has C.place C.ink canvas.old (leaves_of self.now) canvas.new }
@@ -190,7 +131,7 @@ impl<'a> Shown<'a> {
         }
     }
 
-    /// Paints the item at a place of the list, counted from 0.
+    /// Paints the item at a place of the list, counted from 0, from its last leaf on.
     pub(crate) fn paint_item<C: Canvas>(&self, place: usize, canvas: &mut C)
         requires ready { IsReady self.now }
         requires within { place < length (leaves_by_item self.now) }

@@ -95,10 +95,10 @@ pub record AreMarksOf (g : Grid) (IsHeld : Spot → Type 0) (m : Marking) : Type
   pub grid : m.grid ≡ g
   pub marks : (column row : ℕ) → IsIn g column row → IsMarked m column row ↔ IsHeld (centre_in g column row)
 
--- leaves painted on a mask, in order
-abbrev pub PaintsMask : Marking → List Leaf → Marking → Type 0
-PaintsMask old leaves new =
-    Paints (λ (m : Marking). IsIn m.grid) (λ (m : Marking). centre_in m.grid) ink_of old leaves new
+-- a tile that is painted: the masks of what is decided and of what is dark have one grid, and what is dark is decided
+pub record ArePainted (p : Inside) : Type 0 where
+  pub same : p.dark.grid ≡ p.decided.grid
+  pub dark : (column row : ℕ) → IsIn p.decided.grid column row → IsMarked p.dark column row → IsMarked p.decided column row
 
 -- a height between two, or at one of them
 abbrev pub IsWithin : Heights → Spot → Type 0

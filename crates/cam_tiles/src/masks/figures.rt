@@ -118,34 +118,3 @@ fn hole(diameter: Nm) -> Hole
         diameter,
     })
 }
-
-/// Paints a figure on the masks from one number to another, by its runs in the row of tiles of which each mask is one.
-pub(crate) fn paint_figures(
-    masks: &mut [Mask],
-    first: usize,
-    end: usize,
-    tiles: &[u32],
-    runs: &FigureRuns,
-    print: Print<'_>,
-)
-    requires end { end ≤ length masks.old }
-    requires tiles { end ≤ length tiles.now }
-    requires told { (k : ℕ) → first ≤ k → k < end
-        → IsToldAt (64 * slice_index tiles.now k) (grid_at masks.old k) (Covers (shape_of print.figure)) runs.now }
-    ensures { ArePaintedIn first end (leaf_of print.entry ∷ []) masks.old masks.new }
-{
-    for k in first..end {
-        masks[k].paint_figure(runs, 64 * tiles[k], print);
-    }
-}
-
-/// Paints a leaf on the masks from one number to another, on each of them alone.
-pub(crate) fn paint_each(masks: &mut [Mask], first: usize, end: usize, print: Print<'_>)
-    requires end { end ≤ length masks.old }
-    requires print { IsSoundPrint print }
-    ensures { ArePaintedIn first end (leaf_of print.entry ∷ []) masks.old masks.new }
-{
-    for k in first..end {
-        masks[k].paint_leaf(print);
-    }
-}

@@ -23,12 +23,12 @@ ghost use Rattle.cam_tiles.specs.Machinery.Words.{AreReached, JoinsCentres, part
 ghost use Rattle.cam_tiles.specs.Tiles.{IsGrid, centre_in};
 
 use crate::grid::Grid;
+use crate::lattice::Lattice;
 use crate::masks::heights::{HasHeights, Heights};
 use crate::masks::join::Join;
 use crate::masks::marked::MarkShape;
 use crate::masks::placed::turn_outline;
 use crate::masks::runs::Runs;
-use crate::masks::swath::Pitch;
 use crate::masks::words::{join_wide, join_words};
 use crate::span::Span;
 use cam_apertures::{PrimitiveView, Primitives, ShapeView, turned_height, turned_width};
@@ -64,7 +64,7 @@ pub(crate) struct PlacedMacro<'a> {
 }
 
 impl<'a> MarkShape for PlacedMacro<'a> {
-    ghost is_ready = { λ m g. All IsSoundPrim m.prims.now × IsOnBoard m.at };
+    ghost is_sound = { λ m. All IsSoundPrim m.prims.now × IsOnBoard m.at };
 
     ghost shape = { λ m. Stamp (Prims m.prims.now) m.turn m.at };
 
@@ -258,15 +258,18 @@ fn reached_tiles(grid: &Grid, columns: u32, bounds: Bounds, at: Point) -> Span
     if rows.end <= rows.first {
         return Span::NONE;
     }
-    let pitch = Pitch {
-        left: grid.x,
-        stride: grid.step,
+    let centres = Lattice {
+        first: grid.x,
+        step: grid.step,
+        count: columns,
     };
-    let left = (low.x + 2 * at.x).max(grid.x);
-    let first = pitch.tile_at(left, columns as usize);
-    let last = pitch.tile_at(high.x + 2 * at.x, columns as usize);
-    Span {
-        first: first as u32 / 64,
-        end: (last as u32 + 1).min(columns).div_ceil(64),
+    let reached = centres.between(low.x + 2 * at.x, high.x + 2 * at.x);
+    if reached.end <= reached.first {
+        return Span::NONE;
     }
+    Span {
+        first: reached.first / 64,
+        end: reached.end.div_ceil(64),
+    }
+}
 }

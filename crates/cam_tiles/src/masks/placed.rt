@@ -11,7 +11,7 @@ ghost use Rattle.cam_objects.specs.Leaves.{Filled, origin};
 ghost use Rattle.cam_tiles.specs.Machinery.Turning.{AreWide, IsField, TurnsCentres};
 
 use crate::grid::Grid;
-use crate::masks::filing::end_of;
+use crate::masks::segments::end_of;
 use crate::masks::marked::MarkShape;
 use crate::masks::mask::ORIGIN;
 use crate::masks::turning::{turn_edge, turn_segment};
@@ -27,7 +27,7 @@ pub(crate) struct PlacedContour<'a> {
 }
 
 impl<'a> MarkShape for PlacedContour<'a> {
-    ghost is_ready = { λ c g. IsPlaceable c.placing.turn c.placing.offset c.contour.now };
+    ghost is_sound = { λ c. IsPlaceable c.placing.turn c.placing.offset c.contour.now };
 
     ghost shape = { λ c. Filled (placed_contour c.placing.turn c.placing.offset c.contour.now) };
 

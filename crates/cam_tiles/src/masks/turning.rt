@@ -20,102 +20,12 @@ ghost use Rattle.cam_tiles.specs.Tiles.{centre_in};
 
 use crate::grid::Grid;
 use crate::levels::Levels;
-use crate::masks::filing::{FiledSegment, corner_at, crossed_heights, segment_at};
 use crate::masks::heights::HasHeights;
-use crate::masks::marked::MarkShape;
+use crate::masks::segments::crossed_heights;
 use crate::span::Span;
 use cam_rows::{Centres, cap_runs, edge_runs, mark_end, mark_ends, mark_runs, spread_marks};
 use cam_shapes::{Cap, Contour, Seg};
 use cam_units::Point;
-
-impl Grid {
-    /// The x of the last one of so many columns from the left on, in half nm.
-    #[tactic(auto, using(crate::proofs::CountedMarks::last_fits, crate::proofs::CountedMarks::last_kept))]
-    fn last_x(&self, columns: u32) -> i64
-        requires { IsWideGrid self.now columns }
-        ensures { result ≡ (centre_in self.now (columns - 1) 0).x }
-    {
-        self.x + i64::from(columns - 1) * self.step
-    }
-}
-
-/// A contour with those of its segments that are filed for some rows.
-#[derive(Clone, Copy)]
-pub(crate) struct FiledContour<'a> {
-    pub(crate) contour: &'a Contour,
-    pub(crate) filed: &'a [FiledSegment],
-}
-
-impl<'a> MarkShape for FiledContour<'a> {
-    ghost is_ready = { λ c g. IsOnBoardWhole c.contour.now × AreFiled c.contour.now (levels_of g) c.filed.now };
-
-    ghost shape = { λ c. Filled c.contour.now };
-
-    fn mark(&self, marks: &mut [u64], _: &mut [u64], grid: &Grid, columns: u32) {
-        let words = 64 * columns.div_ceil(64) as usize;
-        let marks = &mut marks[..words];
-        marks.fill(0);
-        turn_filed(marks, grid, columns, self.contour, self.filed);
-        spread_marks(marks);
-    }
-}
-
-/// Counts the segments of a contour that are filed. Those that lie right of all columns turn over whole rows, and those
-/// left of them change nothing: the others are marked.
-fn turn_filed(
-    marks: &mut [u64],
-    grid: &Grid,
-    columns: u32,
-    contour: &Contour,
-    filed: &[FiledSegment],
-)
-    requires grid { IsWideGrid grid.now columns }
-    requires wide { AreWide columns marks.old }
-    requires contour { IsOnBoardWhole contour.now }
-    requires filed { AreFiled contour.now (levels_of grid.now) filed.now }
-    ensures { TurnsCentres grid.now columns (λ s. IsInContour s contour.now) marks.old marks.new }
-{
-    let first = grid.x;
-    let last = grid.last_x(columns);
-    let mut whole = 0;
-    for segment in filed {
-        if last < segment.left {
-            whole ^= segment.rows;
-        } else if first < segment.right {
-            turn_place(marks, grid, columns, contour, segment.place);
-        }
-    }
-    turn_whole(marks, grid.rows, columns, whole);
-}
-
-/// Turns over all columns in some of the first rows: bit k of `whole` for row k from the top.
-fn turn_whole(marks: &mut [u64], rows: u32, columns: u32, whole: u64)
-    requires rows { rows ≤ 64 }
-    requires wide { AreWide columns marks.old }
-    ensures { (column row : ℕ) → column < columns → row < rows → IsTrue (is_turned marks.new row column)
-        ↔ turned_over (IsTrue (is_turned marks.old row column)) (IsBitSet whole row) }
-{
-    if whole == 0 {
-        return;
-    }
-    for row in 0..rows {
-        let end = if (whole >> row) & 1 == 1 { columns } else { 0 };
-        mark_end(marks, row, end);
-    }
-}
-
-/// Counts the segment at a place of a contour, or the line that closes it.
-fn turn_place(marks: &mut [u64], grid: &Grid, columns: u32, contour: &Contour, place: u32)
-    requires grid { IsField grid.now columns }
-    requires wide { AreWide columns marks.old }
-    requires contour { IsOnBoardWhole contour.now }
-    requires place { place ≤ length contour.now.segs }
-    ensures { TurnsCentres grid.now columns (λ s. IsTrue (changes_at contour.now s place)) marks.old marks.new }
-{
-    let here = corner_at(contour, place);
-    let seg = segment_at(contour, place);
-    turn_segment(marks, grid, columns, here, seg);
-}
 
 /// Counts what a segment from a point changes.
 pub(crate) fn turn_segment(marks: &mut [u64], grid: &Grid, columns: u32, here: Point, seg: Seg)
