@@ -35,12 +35,12 @@ use std::marker::Model;
 
 /// A tile that is painted: its centres that are decided, and those of them that are dark.
 #[derive(Drop)]
-pub(crate) struct Painted {
+pub(crate) struct PlainTile {
     decided: Mask,
     dark: Mask,
 }
 
-impl Model for Painted {
+impl Model for PlainTile {
     ghost use Rattle.cam_tiles.specs.Machinery.Masks.{ArePainted, Marking};
 
     ghost Value = { Marking × Marking };
@@ -56,26 +56,26 @@ pub(crate) fn tile_of(shown: &Shown<'_>, grid: Grid) -> [u64; 64]
     requires grid { IsGrid grid }
     ensures { result ≡ tile_rows (is_black (leaves_of shown.now)) grid }
 {
-    let mut tile = Painted::nothing(grid);
+    let mut tile = PlainTile::nothing(grid);
     shown.paint(&mut tile);
     tile.dark.rows()
 }
 
-impl Painted {
+impl PlainTile {
     /// A tile of which nothing is decided.
-    fn nothing(grid: Grid) -> Painted
+    fn nothing(grid: Grid) -> PlainTile
         requires { IsGrid grid }
         ensures decided { result.0.grid ≡ grid × IsBlank result.0 }
         ensures dark { result.1.grid ≡ grid × IsBlank result.1 }
     {
-        Painted {
+        PlainTile {
             decided: Mask::blank(grid),
             dark: Mask::blank(grid),
         }
     }
 }
 
-impl Canvas for Painted {
+impl Canvas for PlainTile {
     ghost has = { λ p. IsIn p.0.grid };
 
     ghost place = { λ p. centre_in p.0.grid };

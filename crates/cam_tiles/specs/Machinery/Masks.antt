@@ -5,13 +5,12 @@ use Rattle.cam_units.specs.Boxes.{Holds}
 use Rattle.cam_units.specs.declared.bounds.Bounds.{Bounds}
 use Rattle.cam_units.specs.declared.point.Point.{Point}
 use Rattle.cam_units.specs.declared.point.Spot.{Spot}
-use Rattle.cam_objects.specs.Canvases.{Paints}
-use Rattle.cam_objects.specs.Leaves.{Leaf}
 use Rattle.cam_tiles.specs.declared.grid.Grid.{Grid}
 use Rattle.cam_tiles.specs.declared.masks.heights.Heights.{Heights}
 use Rattle.cam_tiles.specs.declared.masks.join.Join.{Join}
 use Rattle.cam_tiles.specs.declared.masks.join.Join.TheVariants.{Add, Clear}
 use Rattle.cam_tiles.specs.declared.masks.mask.Mask.TheInside.{Inside}
+use Rattle.cam_tiles.specs.declared.plain.PlainTile.TheInside.{Inside as TileInside}
 use Rattle.cam_tiles.specs.Tiles.{IsGrid, centre_in}
 
 pub record Marking : Type 0 where
@@ -96,7 +95,7 @@ pub record AreMarksOf (g : Grid) (IsHeld : Spot → Type 0) (m : Marking) : Type
   pub marks : (column row : ℕ) → IsIn g column row → IsMarked m column row ↔ IsHeld (centre_in g column row)
 
 -- a tile that is painted: the masks of what is decided and of what is dark have one grid, and what is dark is decided
-pub record ArePainted (p : Inside) : Type 0 where
+pub record ArePainted (p : TileInside) : Type 0 where
   pub same : p.dark.grid ≡ p.decided.grid
   pub dark : (column row : ℕ) → IsIn p.decided.grid column row → IsMarked p.dark column row → IsMarked p.decided column row
 
