@@ -168,7 +168,7 @@ impl Inks {
     /// The rows of a tile from the top: bit i of each is set where column i is decided as dark.
     pub(crate) fn rows(&self, tile: usize) -> [u64; 64]
         requires { tile < self.now.tiles }
-        ensures { (row i : ℕ) → row < 64 → i < 64 → is_set (slice_index result row) i
+        ensures each { (row i : ℕ) → row < 64 → i < 64 → is_set (slice_index result row) i
             ≡ (is_marked self.now.decided row (64 * tile + i) && is_marked self.now.dark row (64 * tile + i)) }
         ensures size { length result ≡ 64 }
     {

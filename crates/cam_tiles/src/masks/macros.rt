@@ -272,4 +272,3 @@ fn reached_tiles(grid: &Grid, columns: u32, bounds: Bounds, at: Point) -> Span
         end: reached.end.div_ceil(64),
     }
 }
-}
