@@ -14,8 +14,8 @@ use Rattle.cam_objects.specs.Leaves.{Leaf}
 use Rattle.cam_objects.specs.Tests.{last_ink}
 use Rattle.cam_objects.specs.Topmost.{IsCoveredBy}
 use Rattle.cam_objects.proofs.CoveredBoxes.{covered_box, inside_box}
-use Rattle.cam_objects.proofs.Covering.{covered_or, one_covers}
-use Rattle.cam_objects.proofs.LastInks.{last_ink-append, none_from_uncovered, or_again, or_decided, or_none}
+use Rattle.cam_objects.proofs.Covering.{one_covers}
+use Rattle.cam_objects.proofs.LastInks.{covered_by, decided_or, last_ink-append, or_again, or_decided, or_none, or_uncovered}
 
 -- a print whose box is that of its shape
 pub sound_print : (p : Print) → IsSoundFigure p.figure → p.bounds ≡ box_of_shape (shape_of p.figure) → IsSoundPrint p
@@ -44,9 +44,7 @@ module _ {V : Type 0} (has : V → ℕ → ℕ → Type 0) (place : V → ℕ �
   pub paints_off : (v : V) (leaves : List Leaf)
       → ((column row : ℕ) → has v column row → IsUncovered leaves (place v column row)) → Paints has place ink v leaves v
   paints_off v leaves off =
-      paints_idly v leaves (λ column row h.
-      ap (option_or (ink v column row)) (none_from_uncovered leaves (place v column row) (off column row h))
-      ∙ or_none (ink v column row))
+      paints_idly v leaves (λ column row h. or_uncovered (ink v column row) leaves (place v column row) (off column row h))
 
   -- and those that cover decided ones alone
   pub paints_decided : (v : V) (leaves : List Leaf) (b : Bounds) → ((s : Spot) → IsCoveredBy leaves s → Holds b s)
@@ -54,9 +52,10 @@ module _ {V : Type 0} (has : V → ℕ → ℕ → Type 0) (place : V → ℕ �
   paints_decided v leaves b held decided =
       paints_idly v leaves (λ column row h.
       let s = place v column row in
-      elim (covered_or leaves s) [
-        | inl any ↦ or_decided (ink v column row) (last_ink leaves s) (decided column row h (held s any))
-        | inr off ↦ ap (option_or (ink v column row)) (none_from_uncovered leaves s off) ∙ or_none (ink v column row)
+      elim (decided_or leaves s) [
+        | inl told ↦ or_decided (ink v column row) (last_ink leaves s)
+            (decided column row h (held s (covered_by leaves s told.0 told.1.1)))
+        | inr off ↦ or_uncovered (ink v column row) leaves s off
       ])
 
   pub paints_boxed : (v : V) (leaves : List Leaf) (b : Bounds) → b ≡ bounds_of leaves → IsDecidedIn has place ink v b

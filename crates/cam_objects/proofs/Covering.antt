@@ -1,19 +1,23 @@
 -- leaves that cover a place
-use Rattle.std.proofs.Common.{◌≡◌, ◌↔◌, ℕ, zero, suc, ◌<◌, Bool, true, false, cond, IsTrue, nat_eq, ◌⊎◌, inl, inr, List, [], ◌∷◌, length, map, get_or, Some, refl, ap, sym, subst, ◌∙◌, arith}
+use Rattle.std.proofs.Common.{◌≡◌, ℕ, zero, suc, ◌<◌, List, [], ◌∷◌, length, map, get_or, Some, refl, sym, subst, arith}
 use Rattle.std.specs.Prelude.{slice_get}
-use Rattle.std.proofs.lemmas.Bool.{cases_Bool, false≢true, true≢false}
 use Rattle.std.proofs.lemmas.List.{get_or_default}
-use Rattle.std.proofs.lemmas.List.Elements.{All-cons, All-nil}
 use Rattle.cam_units.specs.declared.point.Spot.{Spot}
-use Rattle.cam_objects.specs.Canvases.{Paints}
-use Rattle.cam_objects.specs.Image.{Covers, IsUncovered}
-use Rattle.cam_objects.specs.Leaves.{Leaf}
-use Rattle.cam_objects.specs.Tests.{covers, painted}
+use Rattle.cam_shapes.proofs.TestLaws.{is_in_arc-meaning, is_in_capsule-meaning, is_in_contour-meaning, is_in_disc-meaning, is_in_swept-meaning}
+use Rattle.cam_apertures.proofs.CoverLaws.{test_law}
+use Rattle.cam_objects.specs.Image.{Covers, IsUncovered, relative}
+use Rattle.cam_objects.specs.Leaves.{Leaf, Stamp, Stroke, Swept, Sweep, Filled, Drilled}
+use Rattle.cam_objects.specs.Tests.{CoverTestLaw, covers}
 use Rattle.cam_objects.specs.Topmost.{IsCoveredBy}
-use Rattle.cam_objects.proofs.TestLaws.{cover_law, painted_off}
 
-abbrev IsOff : Spot → Leaf → Type 0
-IsOff s l = Covers l.shape s → ⊥
+pub cover_law : CoverTestLaw
+unfolding covers
+cover_law (Stamp aperture turn at) s = test_law aperture turn (relative at s)
+cover_law (Stroke capsule) s = is_in_capsule-meaning s capsule
+cover_law (Swept swept) s = is_in_swept-meaning s swept
+cover_law (Sweep arc) s = is_in_arc-meaning s arc
+cover_law (Filled contour) s = is_in_contour-meaning s contour
+cover_law (Drilled disc) s = is_in_disc-meaning s disc
 
 pub bare_from_uncovered : (ls : List Leaf) (s : Spot) → IsUncovered ls s → IsCoveredBy ls s → ⊥
 bare_from_uncovered ls s off any = off any.0 any.1 any.2 (subst (λ (l : Leaf). Covers l.shape s) (sym any.3) any.4)
@@ -22,26 +26,12 @@ pub uncovered_from_bare : (ls : List Leaf) (s : Spot) → (IsCoveredBy ls s → 
 uncovered_from_bare ls s bare =
     λ k d below on. bare (k, get_or ls k d, below, get_or_default ls k (get_or ls k d) d below, on)
 
-covered_later : (s : Spot) (l : Leaf) (ls : List Leaf) → IsCoveredBy ls s → IsCoveredBy (l ∷ ls) s
-covered_later s l ls any = (suc any.0, any.1, omega (arith, any.2), any.3, any.4)
-
 one_at : (l x : Leaf) (k : ℕ) (s : Spot) → k < 1 → get_or (l ∷ []) k x ≡ x → Covers x.shape s → Covers l.shape s
 one_at l x zero s within is on = subst (λ (y : Leaf). Covers y.shape s) (sym is) on
 one_at l x (suc k) s within is on = absurd (omega arith)
 
 pub one_covers : (l : Leaf) (s : Spot) → IsCoveredBy (l ∷ []) s → Covers l.shape s
 one_covers l s any = one_at l any.1 any.0 s any.2 any.3 any.4
-
--- some leaf covers the place, or none does
-pub covered_or : (ls : List Leaf) (s : Spot) → IsCoveredBy ls s ⊎ IsUncovered ls s
-covered_or [] s = inr (All-nil (IsOff s))
-covered_or (l ∷ ls) s = elim (cases_Bool (covers l.shape s)) [
-  | inl on ↦ inl (0, l, omega arith, refl, (cover_law l.shape s).0 on)
-  | inr off ↦ elim (covered_or ls s) [
-    | inl any ↦ inl (covered_later s l ls any)
-    | inr rest ↦ inr (All-cons (IsOff s) l ls (λ on. true≢false (sym ((cover_law l.shape s).1 on) ∙ off)) rest)
-  ]
-]
 
 -- what holds of what each element paints holds of the list at its place
 pub at_place : {X : Type 0} (f : X → List Leaf) (xs : List X) (k : ℕ) (P : List Leaf → Type 0) → k < length xs

@@ -1,8 +1,6 @@
 -- the last leaf that covers a place, in lists that are joined
-use Rattle.std.proofs.Common.{◌≡◌, ℕ, ◌+◌, ◌<◌, Bool, List, [], ◌∷◌, ◌++◌, length, take, get_or, sym, ap, subst, ◌∙◌}
-use Rattle.std.specs.List.{flat_map}
-use Rattle.std.proofs.lemmas.List.{take_more, append-nil, append_assoc}
-use Rattle.std.proofs.lemmas.List.Concat.{flat_map-append}
+use Rattle.std.proofs.Common.{Bool, List, [], ◌∷◌, ◌++◌, sym, ap, subst, ◌∙◌}
+use Rattle.std.proofs.lemmas.List.{append_assoc}
 use Rattle.std.proofs.lemmas.List.Elements.{All-append, All-cons, All-head, All-nil, All-tail}
 use Rattle.cam_units.specs.declared.point.Spot.{Spot}
 use Rattle.cam_objects.specs.Leaves.{Leaf}
@@ -31,31 +29,3 @@ painted_after s a b dark h = record {
   uncovered = h.uncovered;
   polarity = h.polarity;
 }
-
--- nor do leaves behind them that leave it as it is
-pub painted_before : (s : Spot) (a b : List Leaf) (dark : Bool) → IsPainted a s dark → IsUncovered b s → IsPainted (a ++ b) s dark
-painted_before s a b dark h off = record {
-  before = h.before;
-  last = h.last;
-  after = h.after ++ b;
-  split = ap (λ ls. ls ++ b) h.split ∙ append_assoc h.before (h.last ∷ h.after) b;
-  covered = h.covered;
-  uncovered = uncovered_append s h.after b h.uncovered off;
-  polarity = h.polarity;
-}
-
--- ---- one element after another
-
-pub front_more : {X : Type 0} (f : X → List Leaf) (xs : List X) (i : ℕ) (x : X) → i < length xs → x ≡ get_or xs i x
-    → flat_map f (take (i + 1) xs) ≡ flat_map f (take i xs) ++ f x
-front_more f xs i x h e =
-    ap (λ ys. flat_map f ys) (take_more xs i x h)
-    ∙ flat_map-append f (take i xs) (get_or xs i x ∷ [])
-    ∙ ap (λ ys. flat_map f (take i xs) ++ ys) (append-nil (f (get_or xs i x)) ∙ ap f (sym e))
-
-clash : (s : Spot) (l : Leaf) (b a : List Leaf) → Covers l.shape s → IsUncovered (b ++ l ∷ a) s → ⊥
-clash s l [] a on off = All-head (IsOff s) l a off on
-clash s l (x ∷ b) a on off = clash s l b a on (All-tail (IsOff s) x (b ++ l ∷ a) off)
-
-pub painted_covered : (s : Spot) (ls : List Leaf) (d : Bool) → IsPainted ls s d → IsUncovered ls s → ⊥
-painted_covered s ls d h off = clash s h.last h.before h.after h.covered (subst (λ xs. IsUncovered xs s) h.split off)

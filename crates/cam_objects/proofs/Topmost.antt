@@ -14,11 +14,11 @@ use Rattle.cam_objects.specs.Drilling.{drill_item_leaves}
 use Rattle.cam_objects.specs.Image.{Covers, IsBlack, IsPainted, IsUncovered}
 use Rattle.cam_objects.specs.Leaves.{Leaf, item_leaves, meaning_in}
 use Rattle.cam_objects.specs.Topmost.{IsBlackByTopmost, IsCoveredBy, IsTopmost, TopmostLaw, leaves_at}
-use Rattle.cam_objects.proofs.Covering.{bare_from_uncovered, covered_or, uncovered_from_bare}
+use Rattle.cam_objects.proofs.Covering.{bare_from_uncovered, uncovered_from_bare}
 use Rattle.cam_objects.proofs.CoveredBoxes.{outside_box}
-use Rattle.cam_objects.proofs.Inking.{painted_after, painted_before, painted_covered, uncovered_append, uncovered_nil}
+use Rattle.cam_objects.proofs.Inking.{painted_after, uncovered_append, uncovered_nil}
+use Rattle.cam_objects.proofs.LastInks.{covered_by, painted_before, painted_covered, painted_split}
 use Rattle.cam_objects.proofs.Painting.{All_left, All_right}
-use Rattle.cam_objects.proofs.Redraws.{split}
 
 -- ---- from the last item down
 
@@ -92,12 +92,6 @@ module _ {X : Type 0} (paints : X → List Leaf) where
       let lists = map paints items in
       (k : ℕ) × (IsTopmost lists s (length lists) k × IsPainted (leaves_at lists k) s true)
 
-  covered_by_last : (ls : List Leaf) (s : Spot) → IsPainted ls s true → IsCoveredBy ls s
-  covered_by_last ls s h = elim (covered_or ls s) [
-    | inl any ↦ any
-    | inr off ↦ absurd (painted_covered s ls true h off)
-  ]
-
   topmost_later : (x : X) (items : List X) (s : Spot) → BlackByTopmost items s → BlackByTopmost (x ∷ items) s
   topmost_later x items s h = (
     suc h.0,
@@ -120,7 +114,7 @@ module _ {X : Type 0} (paints : X → List Leaf) where
   topmost_first : (x : X) (items : List X) (s : Spot) → IsPainted (paints x) s true → IsUncovered (flat_map paints items) s
       → BlackByTopmost (x ∷ items) s
   topmost_first x items s painted off =
-      (0, (record { under = omega arith; listed = omega arith; covered = covered_by_last (paints x) s painted; others = over }, painted))
+      (0, (record { under = omega arith; listed = omega arith; covered = covered_by (paints x) s true painted; others = over }, painted))
     where
       over : (j : ℕ) → 0 < j → j < length (map paints (x ∷ items)) → j < length (map paints (x ∷ items))
           → IsCoveredBy (leaves_at (map paints (x ∷ items)) j) s → ⊥
@@ -129,7 +123,7 @@ module _ {X : Type 0} (paints : X → List Leaf) where
 
   to_topmost : (items : List X) (s : Spot) → IsBlack (flat_map paints items) s → BlackByTopmost items s
   to_topmost [] s h = absurd (painted_covered s [] true h (uncovered_nil s))
-  to_topmost (x ∷ items) s h = elim (split s (paints x) (flat_map paints items) true h) [
+  to_topmost (x ∷ items) s h = elim (painted_split s (paints x) (flat_map paints items) true h) [
     | inl later ↦ topmost_later x items s (to_topmost items s later)
     | inr first ↦ topmost_first x items s first.1 first.0
   ]

@@ -74,9 +74,9 @@ pub use item::Item;
 pub use item_fault::ItemFault;
 pub use laws::{
     attributes_stay_sound, covers_lie_in_their_bounds, drill_layers_stay_sound,
-    edits_stay_in_their_bounds, last_leaves_make_the_image, layers_stay_sound, painting_in_order_makes_the_image,
-    tests_tell_covers, tests_tell_limits, tests_tell_what_is_inside, topmost_items_make_the_image,
-    turns_follow_their_matrices,
+    edits_stay_in_their_bounds, last_leaves_make_the_image, layers_stay_sound,
+    painting_in_order_makes_the_image, tests_tell_covers, tests_tell_limits,
+    tests_tell_what_is_inside, topmost_items_make_the_image, turns_follow_their_matrices,
 };
 pub use layer::Layer;
 pub use object::{Object, Objects};

@@ -1,4 +1,4 @@
-use Rattle.cam_objects.proofs.TestLaws.{cover_law}
+use Rattle.cam_objects.proofs.Covering.{cover_law}
 use Rattle.cam_objects.proofs.laws.tests_tell_covers.Goals as goal
 
 pub returns : goal.returns

@@ -1,11 +1,14 @@
-use Rattle.std.proofs.Common.{◌≡◌, Bool, true, false, cond, ℕ, Option, None, Some, IsSome, refl, ap, sym, subst, ◌∙◌}
+use Rattle.std.proofs.Common.{◌≡◌, Bool, true, cond, ℕ, List, [], ◌∷◌, Option, None, Some, IsSome, refl, ap, sym, subst, ◌∙◌}
 use Rattle.std.specs.Option.{option_or}
-use Rattle.std.proofs.lemmas.Bool.{false_from_ne_true, false≢true}
+use Rattle.std.proofs.lemmas.Bool.{false≢true}
 use Rattle.cam_units.specs.declared.point.Spot.{Spot}
 use Rattle.cam_objects.specs.Canvases.{leaf_of, shape_of}
+use Rattle.cam_objects.specs.Image.{IsUncovered}
 use Rattle.cam_objects.specs.Tests.{covers}
-use Rattle.cam_objects.proofs.LastInks.{ink_of, or_decided, or_none}
-use Rattle.cam_objects.proofs.TestLaws.{cover_law}
+use Rattle.cam_objects.proofs.Canvases.{paints_off}
+use Rattle.cam_objects.proofs.Inking.{uncovered_cons, uncovered_nil}
+use Rattle.cam_objects.proofs.LastInks.{ink_of, or_decided}
+use Rattle.cam_objects.proofs.Covering.{cover_law}
 use Rattle.cam_objects.proofs.image.PixelCanvas.paint.Goals as goal
 
 pub returns-then-is_decided : goal.returns-then-is_decided
@@ -39,16 +42,9 @@ returns-then-is_covered c =
 
 pub returns-else-is_covered : goal.returns-else-is_covered
 returns-else-is_covered c =
-    let shape = shape_of c.args.print.figure in
-    let old = c.args.self.now in
-    let off : covers shape c.self.inside.spot ≡ false =
-    false_from_ne_true (covers shape c.self.inside.spot)
-    (λ on. false≢true (sym c.if-is_covered.false ∙ c.is_covered.ensures.1 ((cover_law shape c.self.inside.spot).0 on))) in
-    let there : covers shape old.0 ≡ false =
-    subst (λ (p : Spot × Option Bool). covers shape p.0 ≡ false) c.self.view_is off in
-    record {
-      pixels = λ column row. (λ h. h, λ h. h);
-      places = refl;
-      inks = λ column row h.
-          sym (ap (λ b. option_or old.1 (cond b (Some c.args.print.dark) None)) there ∙ or_none old.1);
-    }
+    let l = leaf_of c.args.print in
+    let s = c.self.inside.spot in
+    let off : IsUncovered (l ∷ []) s =
+    uncovered_cons s l [] (λ on. false≢true (sym c.if-is_covered.false ∙ c.is_covered.ensures.1 on)) (uncovered_nil s) in
+    paints_off {V = Spot × Option Bool} (λ _ _ _. Unit {0}) (λ p _ _. p.0) (λ p _ _. p.1) c.args.self.now (l ∷ [])
+    (λ column row h. subst (λ (p : Spot × Option Bool). IsUncovered (l ∷ []) p.0) c.self.view_is off)

@@ -97,7 +97,7 @@ paint_parts-loop-k-init g t c =
     let means = meaning_before c.args.upto c.args.entries.now in
     subst (λ (os : List Object). Paints canvas.has canvas.place canvas.ink c.args.canvas.now (block_leaves means c.args.place.now os)
     c.paint_block.new.canvas)
-    c.behind_parts-behind.ensures c.paint_block.ensures
+    {y = drop (length c.args.boxes.now * c.args.size) c.args.objects.now} c.behind_parts-behind.ensures c.paint_block.ensures
 
 pub paint_parts-paint_part-requires : goal.paint_parts-paint_part-requires
 paint_parts-paint_part-requires g t c κs within =
@@ -107,7 +107,7 @@ paint_parts-paint_part-requires g t c κs within =
     let objects = c.args.objects.now in
     let p = c.args.place.now in
     let means = meaning_before c.args.upto es in
-    let same : part_at size k objects ≡ c.part_at-part.result.now = sym c.part_at-part.ensures in
+    let same : part_at size k objects ≡ c.part_at-part.result.now = sym {b = part_at size k objects} c.part_at-part.ensures in
     let below : k < length c.args.boxes.now = omega arith in (
       omega (arith, c.decreases),
       (
@@ -152,7 +152,7 @@ paint_parts-paint_block-requires g t c κs within =
     let n = length c.args.boxes.now * c.args.size in
     let objects = c.args.objects.now in
     let p = c.args.place.now in
-    let same : drop n objects ≡ c.behind_parts-behind.result.now = sym c.behind_parts-behind.ensures in (
+    let same : drop n objects ≡ c.behind_parts-behind.result.now = sym {b = drop n objects} c.behind_parts-behind.ensures in (
       omega (arith, c.decreases),
       (
         within,
