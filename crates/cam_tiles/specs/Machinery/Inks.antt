@@ -38,10 +38,10 @@ abbrev pub is_open : List Tile → ℕ → ℕ → ℕ → ℕ → Bool
 is_open tiles columns rows row column =
     nat_lt row rows && (nat_lt column columns && is_none (slice_index_or tiles (column / 64) (Some [])))
 
-pub record AreOpen (tiles : List Tile) (columns rows : ℕ) (k : Inked) : Type 0 where
-  pub tiles : k.tiles ≡ length tiles
+pub record AreOpen (old : List Tile) (columns rows : ℕ) (k : Inked) : Type 0 where
+  pub tiles : k.tiles ≡ length old
   pub each : (row column : ℕ) → row < 64 → column < 64 * k.tiles
-      → ink_at k row column ≡ (if is_open tiles columns rows row column then None else Some false)
+      → ink_at k row column ≡ (if is_open old columns rows row column then None else Some false)
 
 -- ---- what is kept
 
