@@ -22,7 +22,6 @@ pub mod MarkedTiles
 pub mod MaskWords
 pub mod PaintedLists
 pub mod PaintedMasks
-pub mod PaintedSwaths
 pub mod PaintedTiles
 pub mod PartlyDrawn
 pub mod PbmLemmas
@@ -44,8 +43,7 @@ pub mod SolidMasks
 pub mod SpanLemmas
 pub mod Stamps
 pub mod StepLemmas
-pub mod SwathLayouts
-pub mod SwathRows
+pub mod SwathInks
 pub mod TableFacts
 pub mod TablePixels
 pub mod TakenRuns

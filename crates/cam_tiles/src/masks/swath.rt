@@ -1,11 +1,15 @@
 //! Tiles of a row of tiles that are painted at once, from the last leaf on.
 
-ghost use Rattle.std.specs.Prelude.{◌≡◌, ◌+◌, ◌*◌, ◌/◌, ◌<◌, ◌≤◌, ◌∷◌, ℕ, [], Bool, IsTrue, OnOk, None, Some, false, length};
+ghost use Rattle.std.specs.Prelude.{◌≡◌, ◌↔◌, ◌⊎◌, ◌≤ℤ◌, ◌+◌, ◌*◌, ◌/◌, ◌<◌, ◌≤◌, ◌∷◌, ℕ, [], Bool, IsTrue, OnOk, None, Some, false, length};
 ghost use Rattle.std.specs.Prelude.{if◌then◌else◌, is_none, slice_index_or, unwrap_or, true};
+ghost use Rattle.cam_units.specs.Boxes.{Holds};
 ghost use Rattle.cam_units.specs.declared.point.Spot.{Spot};
 ghost use Rattle.cam_objects.specs.Canvases.{IsDecidedIn, IsSoundPrint, leaf_of};
+ghost use Rattle.cam_objects.specs.Image.{Covers};
 ghost use Rattle.cam_objects.specs.Leaves.{leaf};
 ghost use Rattle.cam_tiles.specs.Machinery.Figures.{IsPlacedFor};
+ghost use Rattle.cam_tiles.specs.Machinery.Inks.{IsDoneTile};
+ghost use Rattle.cam_tiles.specs.Machinery.Runs.{IsWideGrid};
 ghost use Rattle.cam_tiles.specs.Machinery.Swaths.{
   AreReachedBy,
   IsDoneSwath,
@@ -20,7 +24,7 @@ ghost use Rattle.cam_tiles.specs.Machinery.Swaths.{
 };
 ghost use Rattle.cam_tiles.specs.Picture.{accepts};
 ghost use Rattle.cam_tiles.specs.Tables.{all_drawn_from};
-ghost use Rattle.cam_tiles.specs.Tiles.{grid_of, tile_rows};
+ghost use Rattle.cam_tiles.specs.Tiles.{centre_in, grid_of, tile_rows};
 
 use crate::grid::Grid;
 use crate::lattice::Lattice;
