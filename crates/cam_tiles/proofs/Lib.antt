@@ -13,6 +13,7 @@ pub mod Flashes
 pub mod GridBoxes
 pub mod GridLemmas
 pub mod Indexed
+pub mod InkWords
 pub mod Joined
 pub mod JoinedCentres
 pub mod JoinedMarks

@@ -5,7 +5,7 @@ ghost use Rattle.cam_objects.specs.Image.{Covers};
 ghost use Rattle.cam_objects.specs.Leaves.{Shape, leaf};
 ghost use Rattle.cam_tiles.specs.declared.grid.Grid.{Grid};
 ghost use Rattle.cam_tiles.specs.Machinery.Runs.{IsWideGrid};
-ghost use Rattle.cam_tiles.specs.Machinery.Swaths.{ArePaintedIn, grid_at};
+
 ghost use Rattle.cam_tiles.specs.Machinery.Turning.{AreMarkedAt, HasTile, MarksCentres};
 
 use crate::grid::Grid;

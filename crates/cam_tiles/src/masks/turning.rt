@@ -11,7 +11,6 @@ ghost use Rattle.cam_shapes.specs.Edge.{crosses_ray, edge, is_above};
 ghost use Rattle.cam_shapes.specs.Sides.{changes_side};
 ghost use Rattle.cam_objects.specs.Leaves.{Filled};
 ghost use Rattle.cam_rows.specs.Marks.{is_turned};
-ghost use Rattle.cam_tiles.specs.Machinery.Filing.{AreFiled, IsOnBoardWhole, changes_at};
 ghost use Rattle.cam_tiles.specs.Machinery.Levels.{AreLevels, IsOnRow, levels_of};
 ghost use Rattle.cam_tiles.specs.Machinery.Masks.{turned_over};
 ghost use Rattle.cam_tiles.specs.Machinery.Runs.{IsWideGrid};
