@@ -51,17 +51,17 @@ tiles_taken_up w first columns tiles h row are =
     let from = left_within w first limits.width.0 in
     omega (arith, row.fits, row.some, are, from)
 
-module _ (tiles : List Tile) (columns rows : ℕ) (k : Inked) (open : AreOpen tiles columns rows k) where
+module _ (tiles : List Tile) (columns rows : ℕ) (k : Inked) (now : AreOpen tiles columns rows k) where
   -- the dirty ones are not decided
   pub dirty_open : (row column : ℕ) → row < rows → column < columns → rows ≤ 64 → columns ≤ 64 * length tiles
       → ink_at k row column ≡ cond (is_none (get_or tiles (column / 64) None)) None (Some false)
   dirty_open row column below near low wide =
-      let inside : column < 64 * k.tiles = omega (arith, open.tiles) in
+      let inside : column < 64 * k.tiles = omega (arith, now.tiles) in
       let here : is_open tiles columns rows row column ≡ is_none (get_or tiles (column / 64) None) =
       ap (λ b. b && (nat_lt column columns && is_none (get_or tiles (column / 64) (Some [])))) (lt-ltb row rows below)
       ∙ ap (λ b. b && is_none (get_or tiles (column / 64) (Some []))) (lt-ltb column columns near)
       ∙ ap is_none (get_or_default tiles (column / 64) (Some []) None (omega arith)) in
-      open.each row column (omega arith) inside ∙ ap (λ b. cond b None (Some false)) here
+      now.each row column (omega arith) inside ∙ ap (λ b. cond b None (Some false)) here
 
   -- and what is past the columns and rows is clear
   pub clear_past_open : (g : Grid) → g.rows ≡ rows → IsClearPast g columns k
@@ -74,7 +74,7 @@ module _ (tiles : List Tile) (columns rows : ℕ) (k : Inked) (open : AreOpen ti
         ]
         | inr past ↦ ap (λ b. b && (nat_lt column columns && rest)) (le-ltb row rows past)
       ] in
-      open.each row column low within ∙ ap (λ b. cond b None (Some false)) shut
+      now.each row column low within ∙ ap (λ b. cond b None (Some false)) shut
 
 -- ---- the tiles that are drawn
 

@@ -46,18 +46,18 @@ invariant_of-self-2 c =
     let columns = c.min-columns.result in
     let are = columns_are (goal.at.invariant_of-self-2 c).After-min-columns in
     let limits = accepted w c.requires.accepted in
-    let open = c.in_ok-turn_to.ensures.open in
+    let now = c.in_ok-turn_to.ensures.open in
     let wide = subst (λ (g : Grid). IsWideGrid g columns) (sym c.grid-grid.ensures.value)
         (row_is_wide w c.args.first columns tiles c.requires.accepted c.requires.row are) in
     record {
       grid = c.grid-grid.ensures.grid;
       wide = λ some. wide;
       few = wide.count.1;
-      tiles = open.tiles ∙ tiles_taken_up w c.args.first columns tiles c.requires.accepted c.requires.row are;
-      marks = omega (arith, open.tiles, c.in_ok-resize.ensures.len);
-      spare = omega (arith, open.tiles, c.in_ok-resize-2.ensures.len);
+      tiles = now.tiles ∙ tiles_taken_up w c.args.first columns tiles c.requires.accepted c.requires.row are;
+      marks = omega (arith, now.tiles, c.in_ok-resize.ensures.len);
+      spare = omega (arith, now.tiles, c.in_ok-resize-2.ensures.len);
       held = c.wide_bounds-self-inside.ensures;
-      outside = clear_past_open tiles columns c.grid-grid.result.rows c.turn_to.new.self open c.grid-grid.result refl;
+      outside = clear_past_open tiles columns c.grid-grid.result.rows c.turn_to.new.self now c.grid-grid.result refl;
     }
 
 pub returns-clause-open : goal.returns-clause-open
