@@ -1,4 +1,3 @@
-pub mod Blackened
 pub mod Bytes
 pub mod ChangedParities
 pub mod CircleBounds
@@ -17,6 +16,7 @@ pub mod Joined
 pub mod JoinedCentres
 pub mod JoinedMarks
 pub mod JoinedWords
+pub mod LastFound
 pub mod LevelRows
 pub mod MarkedTiles
 pub mod MaskWords
