@@ -2,6 +2,7 @@ pub mod Bytes
 pub mod ChangedParities
 pub mod CircleBounds
 pub mod CountedMarks
+pub mod DrawnSwaths
 pub mod DrawnTiles
 pub mod EdgeSpans
 pub mod Fields
