@@ -108,7 +108,7 @@ module _ (w : Window) (first : ℕ) (tiles : List Tile) (row_of : IsRowOfTiles w
     pub drawn_dirty : ((column row : ℕ) → IsInSwath s column row
         → ink_in s column row ≡ (if is_none (get_or tiles (column / 64) None) then None else Some false))
         → ShowsDirty (is_black leaves) (grid_of w) first new tiles
-    drawn_dirty open =
+    drawn_dirty undecided =
         let place : (column row : ℕ) → place_in new column row ≡ place_in s column row =
         λ column row. ap (λ (f : ℕ → ℕ → Spot). f column row) h.places in
         record {
@@ -126,7 +126,7 @@ module _ (w : Window) (first : ℕ) (tiles : List Tile) (row_of : IsRowOfTiles w
               let was = (h.pixels column row).0 there in
               let at = place_in s column row in
               let none : ink_in s column row ≡ None =
-              open column row was
+              undecided column row was
               ∙ ap (λ (tile : Tile). if is_none tile then None else Some false) (still_dirty tiles (column / 64) dirty) in
               ap (λ (ink : Option Bool). unwrap_or ink false)
               (h.inks column row was ∙ ap (λ (ink : Option Bool). option_or ink (last_ink leaves at)) none)

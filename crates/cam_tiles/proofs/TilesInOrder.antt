@@ -19,10 +19,6 @@ pub read_clean : (tile : Tile) (b : Bool) → is_some tile ≡ not b → b ≡ f
 read_clean (Some rows) b e f = (rows, refl)
 read_clean None b e f = absurd (false≢true (e ∙ ap not f))
 
-pub not_dirty : (tile : Tile) → is_some tile ≡ true → is_none tile ≡ false
-not_dirty None there = absurd (false≢true there)
-not_dirty (Some rows) there = refl
-
 module _ (draw : ℕ → List ℕ) where
   -- the tiles from number k of a list on are drawn, whose first one has the number `first`
   abbrev pub drawn_on : ℕ → ℕ → List Tile → List Tile
