@@ -13,10 +13,12 @@ pub mod Flashes
 pub mod GridBoxes
 pub mod GridLemmas
 pub mod Indexed
+pub mod InkWords
 pub mod Joined
 pub mod JoinedCentres
 pub mod JoinedMarks
 pub mod JoinedWords
+pub mod Lattices
 pub mod LevelRows
 pub mod MarkedTiles
 pub mod MaskWords
