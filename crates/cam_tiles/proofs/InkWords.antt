@@ -1,15 +1,16 @@
 -- Words of which some bits are decided, and what becomes of these.
 use Rattle.std.proofs.Common.{◌≡◌, ◌≢◌, ◌⊎◌, ℕ, zero, suc, ◌+◌, ◌-◌, ◌^◌, ◌<◌, ◌≤◌, ◌==◌, ◌&&◌, ◌||◌, not, min, max, Bool, true, false}
 use Rattle.std.proofs.Common.{Option, Some, None, if◌then◌else◌, List, length, slice_index, slice_set, bit_and, bit_or, refl, ap, ◌∙◌, arith}
-use Rattle.std.proofs.Common.{get_or-set_other, get_or-set_same, inl, inr}
+use Rattle.std.proofs.Common.{get_or-set_other, get_or-set_same, inl, inr, sym, take, drop, ◌*◌, ◌/◌, ◌%◌}
 use Rattle.std.proofs.Math.ListN.{length-set}
 use Rattle.std.specs.Int.{bit_at, bit_not, w64}
 use Rattle.std.specs.Option.{option_or}
 use Rattle.std.proofs.lemmas.Bool.{cases_eq}
 use Rattle.std.proofs.lemmas.Nat.{and_le_l}
 use Rattle.std.proofs.lemmas.Nat.Bits.{bit_at-lt, bit_at-zero, bit_at_and, bit_at_not, bit_at_ones, bit_at_or}
-use Rattle.cam_rows.specs.Marks.{is_set}
-use Rattle.cam_tiles.specs.Machinery.Inks.{given, ink_of}
+use Rattle.std.proofs.lemmas.List.{get_or-drop, get_or-take}
+use Rattle.cam_rows.specs.Marks.{is_marked, is_set}
+use Rattle.cam_tiles.specs.Machinery.Inks.{AreKnown, given, ink_of}
 
 -- ---- bits
 
@@ -102,3 +103,35 @@ next_taken ink bits old_decided old_dark k decided dark word other all before in
       let apart : j ≢ k = omega (arith, late) in
       get_or-set_other dark k j other 0 apart ∙ before.later_dark j (omega (arith, late));
 }
+
+-- ---- the words of a tile
+
+pub tile_part : (words : List ℕ) (tile row : ℕ) → row < 64
+    → slice_index (take (64 * tile + 64 - 64 * tile) (drop (64 * tile) words)) row ≡ slice_index words (64 * tile + row)
+tile_part words tile row low =
+    get_or-take (64 * tile + 64 - 64 * tile) (drop (64 * tile) words) row 0 (omega arith)
+    ∙ get_or-drop (64 * tile) words row 0
+
+pub marked_at : (words : List ℕ) (tile row i : ℕ) → i < 64
+    → is_marked words row (64 * tile + i) ≡ is_set (slice_index words (64 * tile + row)) i
+marked_at words tile row i small =
+    let own : (64 * tile + i) / 64 ≡ tile = omega arith in
+    let column : (64 * tile + i) % 64 ≡ i = omega arith in
+    rw (own, column) refl
+
+-- rows of a tile that are decided all along, by its own words
+pub known_of : (words : List ℕ) (tile rows : ℕ) → rows ≤ 64 → AreKnown words tile rows → (row i : ℕ) → row < rows → i < 64
+    → is_set (slice_index (take (64 * tile + 64 - 64 * tile) (drop (64 * tile) words)) row) i ≡ true
+known_of words tile rows few known row i low small =
+    let own : (64 * tile + i) / 64 ≡ tile = omega arith in
+    ap (λ w. is_set w i) (tile_part words tile row (omega (arith, low, few)))
+    ∙ sym (marked_at words tile row i small) ∙ known row (64 * tile + i) low own
+
+pub known_by : (words : List ℕ) (tile rows : ℕ) → rows ≤ 64
+    → ((row i : ℕ) → row < rows → i < 64
+    → is_set (slice_index (take (64 * tile + 64 - 64 * tile) (drop (64 * tile) words)) row) i ≡ true)
+    → AreKnown words tile rows
+known_by words tile rows few all row column low here =
+    let small : column % 64 < 64 = omega arith in
+    rw here (ap (λ w. is_set w (column % 64)) (sym (tile_part words tile row (omega (arith, low, few))))
+    ∙ all row (column % 64) low small)

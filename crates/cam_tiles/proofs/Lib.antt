@@ -53,6 +53,7 @@ pub mod TablePixels
 pub mod TakenRuns
 pub mod TileCounts
 pub mod TileRowLemmas
+pub mod TakenInks
 pub mod TilesInOrder
 pub mod TouchedTiles
 pub mod TurnedBands

@@ -21,7 +21,7 @@ there c =
 pub loop-tile-preserved : goal.loop-tile-preserved
 loop-tile-preserved c = record {
   same = c.is_done.ensures.kept ∙ c.loop-tile.invariant.same;
-  few = there c;
+  few = let inside = there c in omega arith;
   done = λ tile early. elim (cases_eq tile c.loop-tile.tile) [
     | inl is ↦
         subst (λ t. IsDoneTile c.args.self.now t) (sym is)
