@@ -1,14 +1,10 @@
 pub mod Blackened
 pub mod Bytes
 pub mod ChangedParities
-pub mod CircleBounds
-pub mod CountedMarks
 pub mod DrawnTiles
 pub mod EdgeSpans
 pub mod Fields
 pub mod FigureColumns
-pub mod FiledContours
-pub mod FiledSegments
 pub mod Flashes
 pub mod GridBoxes
 pub mod GridLemmas
@@ -41,7 +37,6 @@ pub mod SeenRows
 pub mod ShapeHeights
 pub mod ShapeRows
 pub mod ShownItems
-pub mod ShownRegions
 pub mod SolidMasks
 pub mod SpanLemmas
 pub mod Stamps

@@ -41,7 +41,8 @@ pub(crate) struct PlainTile {
 }
 
 impl Model for PlainTile {
-    ghost use Rattle.cam_tiles.specs.Machinery.Masks.{ArePainted, Marking};
+    ghost use Rattle.cam_tiles.specs.Machinery.Masks.{Marking};
+    ghost use Rattle.cam_tiles.specs.Machinery.Plain.{ArePainted};
 
     ghost Value = { Marking × Marking };
 

@@ -10,7 +10,6 @@ use Rattle.cam_tiles.specs.declared.masks.heights.Heights.{Heights}
 use Rattle.cam_tiles.specs.declared.masks.join.Join.{Join}
 use Rattle.cam_tiles.specs.declared.masks.join.Join.TheVariants.{Add, Clear}
 use Rattle.cam_tiles.specs.declared.masks.mask.Mask.TheInside.{Inside}
-use Rattle.cam_tiles.specs.declared.plain.PlainTile.TheInside.{Inside as TileInside}
 use Rattle.cam_tiles.specs.Tiles.{IsGrid, centre_in}
 
 pub record Marking : Type 0 where
@@ -93,11 +92,6 @@ pub record TurnsBy (other old new : Marking) : Type 0 where
 pub record AreMarksOf (g : Grid) (IsHeld : Spot → Type 0) (m : Marking) : Type 0 where
   pub grid : m.grid ≡ g
   pub marks : (column row : ℕ) → IsIn g column row → IsMarked m column row ↔ IsHeld (centre_in g column row)
-
--- a tile that is painted: the masks of what is decided and of what is dark have one grid, and what is dark is decided
-pub record ArePainted (p : TileInside) : Type 0 where
-  pub same : p.dark.grid ≡ p.decided.grid
-  pub dark : (column row : ℕ) → IsIn p.decided.grid column row → IsMarked p.dark column row → IsMarked p.decided column row
 
 -- a height between two, or at one of them
 abbrev pub IsWithin : Heights → Spot → Type 0

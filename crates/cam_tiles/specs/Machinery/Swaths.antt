@@ -1,6 +1,6 @@
 -- Swaths: tiles of a row of tiles, side by side, which are painted at once, from the last leaf on.
 use Rattle.std.specs.Prelude.{◌≡◌, ◌↔◌, ℕ, ◌+◌, ◌-◌, ◌*◌, ◌/◌, ◌%◌, ◌<◌, ◌≤◌, min, Bool, false, List, length, slice_index_or}
-use Rattle.std.specs.Prelude.{Option, None, Some, IsSome, unwrap_or, [], ⊥}
+use Rattle.std.specs.Prelude.{Option, None, Some, IsSome, unwrap_or, []}
 use Rattle.cam_units.specs.Boxes.{Holds}
 use Rattle.cam_units.specs.declared.bounds.Bounds.TheVariants.{Closed}
 use Rattle.cam_units.specs.declared.point.Spot.{Spot}

@@ -12,7 +12,6 @@ ghost use Rattle.cam_rows.specs.Runs.{most_columns};
 ghost use Rattle.cam_tiles.specs.Machinery.Masks.{HoldsCentres, IsBlank, IsIn, IsMarked, IsMask, IsWithin};
 ghost use Rattle.cam_tiles.specs.Machinery.Masks.{Merges, TurnsBy, ink_of, joined};
 ghost use Rattle.cam_tiles.specs.Machinery.Runs.{Fits, HasColumn};
-ghost use Rattle.cam_tiles.specs.Machinery.Swaths.{IsSolid};
 ghost use Rattle.cam_tiles.specs.Tiles.{IsGrid, centre_in};
 
 use crate::grid::Grid;
