@@ -18,6 +18,7 @@ pub mod Lattices
 pub mod LevelRows
 pub mod MarkedTiles
 pub mod MaskWords
+pub mod OpenedWords
 pub mod PaintedLists
 pub mod PaintedMasks
 pub mod PaintedSwaths

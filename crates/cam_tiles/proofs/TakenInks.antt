@@ -1,15 +1,16 @@
 -- Inks of which some words take a polarity.
 use Rattle.std.proofs.Common.{◌≡◌, ◌⊎◌, ℕ, ◌+◌, ◌-◌, ◌*◌, ◌/◌, ◌%◌, ◌<◌, ◌≤◌, Bool, true, false, Option, Some, None, if◌then◌else◌}
-use Rattle.std.proofs.Common.{List, length, slice_index, drop, take, refl, ap, sym, subst, ◌∙◌, inl, inr, arith, ◌&&◌, nat_le, nat_lt}
+use Rattle.std.proofs.Common.{List, length, slice_index, drop, take, refl, ap, sym, subst, ◌∙◌, inl, inr, arith, rules, ◌&&◌, nat_le, nat_lt}
 use Rattle.std.specs.Option.{option_or}
 use Rattle.std.proofs.lemmas.Bool.{cases_lt, false≢true, le-leb, le-ltb, lt-leb, lt-ltb}
-use Rattle.std.proofs.lemmas.List.{get_or-drop, get_or-take}
+use Rattle.std.proofs.lemmas.List.{get_or-drop, get_or-take, places, with_items_is}
+use Rattle.std.specs.Vec.{with_items}
 use borrow.Rule.Slice.PartMut.{mid_of, put_mid}
 use Rattle.cam_rows.specs.Marks.{is_marked, is_set}
 use Rattle.cam_tiles.specs.declared.masks.inks.Inks.TheInside.{Inside}
 use Rattle.cam_tiles.specs.Machinery.Inks.{AreKnown, Inked, IsInked, Takes, given, ink_of, inked_of}
 use Rattle.cam_tiles.proofs.JoinedCentres.{before_part, behind_part, in_part, of_part}
-use Rattle.cam_tiles.proofs.TurnedBands.{by_band}
+use Rattle.cam_tiles.proofs.TurnedBands.{by_band, part_length}
 
 -- the words from one to another take a polarity where bits say so, and all else stays
 pub record TakesWords (from to : ℕ) (bits : ℕ → ℕ) (ink : Bool) (old new : Inked) : Type 0 where
@@ -27,35 +28,6 @@ no_words from to bits ink k none = record {
   decided = λ w apart. refl;
   dark = λ w apart. refl;
 }
-
--- a part of the words that was written
-pub part_taken : (from to : ℕ) (bits decided dark words others : List ℕ) (ink : Bool) (old new : Inked) → from < to
-    → words ≡ old.decided → others ≡ old.dark → to ≤ length words → to ≤ length others
-    → length decided ≡ to - from → length dark ≡ to - from → new.tiles ≡ old.tiles
-    → new.decided ≡ put_mid from (to - from) words decided → new.dark ≡ put_mid from (to - from) others dark
-    → ((k i : ℕ) → k < to - from → i < 64
-    → ink_of (slice_index decided k) (slice_index dark k) i
-    ≡ option_or (ink_of (slice_index (mid_of from (to - from) words) k) (slice_index (mid_of from (to - from) others) k) i)
-    (given (is_set (slice_index bits k) i) ink))
-    → TakesWords from to (λ k. slice_index bits (k - from)) ink old new
-part_taken from to bits decided dark words others ink old new some was was_dark long long_dark size size_dark tiles is is_dark told =
-    record {
-      tiles = tiles;
-      each = λ k i after until small.
-          rw (is, is_dark, ← was, ← was_dark, in_part from to words decided some long size k after until,
-          in_part from to others dark some long_dark size_dark k after until,
-          ← of_part from to words decided some long size k after until,
-          ← of_part from to others dark some long_dark size_dark k after until)
-          (told (k - from) i (omega (arith, after, until)) small);
-      decided = λ k apart. rw (is, ← was) (elim apart [
-        | inl early ↦ before_part from to words decided some long size k early
-        | inr late ↦ behind_part from to words decided some long size k late
-      ]);
-      dark = λ k apart. rw (is_dark, ← was_dark) (elim apart [
-        | inl early ↦ before_part from to others dark some long_dark size_dark k early
-        | inr late ↦ behind_part from to others dark some long_dark size_dark k late
-      ]);
-    }
 
 -- what is decided stays so
 kept_set : (d k e n : Bool) (other : Option Bool)
@@ -102,7 +74,7 @@ module _ (from to : ℕ) (bits : ℕ → ℕ) (ink : Bool) (old new : Inked) (ta
   }
 
 -- what is kept holds on
-pub inked_kept : (from to : ℕ) (bits : ℕ → ℕ) (ink : Bool) (s n : Inside) → IsInked s
+inked_kept : (from to : ℕ) (bits : ℕ → ℕ) (ink : Bool) (s n : Inside) → IsInked s
     → TakesWords from to bits ink (inked_of s) (inked_of n) → n.known.items ≡ s.known.items → n.done ≡ s.done
     → length n.decided.items ≡ length s.decided.items → length n.dark.items ≡ length s.dark.items → IsInked n
 inked_kept from to bits ink s n was taken known done size size_dark = record {
@@ -119,15 +91,100 @@ inked_kept from to bits ink s n was taken known done size size_dark = record {
       known_kept from to bits ink (inked_of s) (inked_of n) taken tile 64 (was.done tile (rw done at before));
 }
 
+-- ---- a part of the words that was written
+
+-- the words from one to another take a polarity where bits say so
+pub record AreWritten (s : Inside) (from to : ℕ) (bits decided dark words others : List ℕ) (ink : Bool) : Type 0 where
+  pub some : from < to
+  pub within : to ≤ 64 * s.tiles
+  pub lent : words ≡ s.decided.items
+  pub lent_dark : others ≡ s.dark.items
+  pub size : length decided ≡ length (mid_of from (to - from) words)
+  pub size_dark : length dark ≡ length (mid_of from (to - from) words)
+  pub full : length words ≡ s.decided.len
+  pub full_dark : length others ≡ s.dark.len
+  pub each : (k i : ℕ) → k < length (mid_of from (to - from) words) → i < 64
+      → ink_of (slice_index decided k) (slice_index dark k) i
+      ≡ option_or (ink_of (slice_index (mid_of from (to - from) words) k) (slice_index (mid_of from (to - from) others) k) i)
+      (given (is_set (slice_index bits k) i) ink)
+
+-- the words that were written are as many
+written_size : (from to : ℕ) (old part : List ℕ) → from < to → to ≤ length old → length part ≡ to - from
+    → length (put_mid from (to - from) old part) ≡ length old
+written_size from to old part some long size = search (rules, places)
+
+module _ (s : Inside) (from to : ℕ) (bits decided dark words others : List ℕ) (ink : Bool)
+    (w : AreWritten s from to bits decided dark words others ink) (was : IsInked s) where
+  abbrev pub written : Inside
+  written = record {
+    tiles = s.tiles;
+    decided = with_items s.decided (put_mid from (to - from) words decided);
+    dark = with_items s.dark (put_mid from (to - from) others dark);
+    known = s.known;
+    done = s.done;
+  }
+
+  long : to ≤ length words
+  long = omega (arith, w.within, was.decided, ap length w.lent)
+
+  long_dark : to ≤ length others
+  long_dark = omega (arith, w.within, was.dark, ap length w.lent_dark)
+
+  part : length (mid_of from (to - from) words) ≡ to - from
+  part = part_length from to words w.some long
+
+  size : length decided ≡ to - from
+  size = w.size ∙ part
+
+  size_dark : length dark ≡ to - from
+  size_dark = w.size_dark ∙ part
+
+  now : written.decided.items ≡ put_mid from (to - from) words decided
+  now = with_items_is s.decided _ (written_size from to words decided w.some long size ∙ w.full)
+
+  now_dark : written.dark.items ≡ put_mid from (to - from) others dark
+  now_dark = with_items_is s.dark _ (written_size from to others dark w.some long_dark size_dark ∙ w.full_dark)
+
+  pub words_taken : TakesWords from to (λ k. slice_index bits (k - from)) ink (inked_of s) (inked_of written)
+  words_taken = record {
+    tiles = refl;
+    each = λ k i after until small.
+        rw (now, now_dark, ← w.lent, ← w.lent_dark, in_part from to words decided w.some long size k after until,
+        in_part from to others dark w.some long_dark size_dark k after until,
+        ← of_part from to words decided w.some long size k after until,
+        ← of_part from to others dark w.some long_dark size_dark k after until)
+        (w.each (k - from) i (omega (arith, part, after, until)) small);
+    decided = λ k apart. rw (now, ← w.lent) (elim apart [
+      | inl early ↦ before_part from to words decided w.some long size k early
+      | inr late ↦ behind_part from to words decided w.some long size k late
+    ]);
+    dark = λ k apart. rw (now_dark, ← w.lent_dark) (elim apart [
+      | inl early ↦ before_part from to others dark w.some long_dark size_dark k early
+      | inr late ↦ behind_part from to others dark w.some long_dark size_dark k late
+    ]);
+  }
+
+  pub still_inked : IsInked written
+  still_inked =
+      inked_kept from to _ ink s written was words_taken refl refl
+      (ap length now ∙ written_size from to words decided w.some long size ∙ ap length w.lent)
+      (ap length now_dark ∙ written_size from to others dark w.some long_dark size_dark ∙ ap length w.lent_dark)
+
 -- ---- a tile, and tiles by marks
 
-pub takes_rows : (tile first end : ℕ) (bits : List ℕ) (ink : Bool) (old new : Inked) → end ≤ 64
+none_past : (a b c : Bool) → b ≡ false → ((a && b) && c) ≡ false
+none_past true b c none = rw none refl
+none_past false b c none = refl
+
+pub takes_rows : (tile first end : ℕ) (bits : List ℕ) (ink : Bool) (old new seen : Inked) → end ≤ 64 → old ≡ seen
     → TakesWords (64 * tile + first) (64 * tile + end)
     (λ k. slice_index (take (end - first) (drop first bits)) (k - (64 * tile + first))) ink old new
     → Takes tile (tile + 1)
-    (λ row column. nat_le first row && nat_lt row end && is_set (slice_index bits row) (column % 64)) ink old new
-takes_rows tile first end bits ink old new few taken =
-    takes_tiles (64 * tile + first) (64 * tile + end) _ ink old new taken tile (tile + 1) _
+    (λ row column. nat_le first row && nat_lt row end && is_set (slice_index bits row) (column % 64)) ink seen new
+takes_rows tile first end bits ink old new seen few is taken =
+    subst (λ (k : Inked). Takes tile (tile + 1)
+    (λ row column. nat_le first row && nat_lt row end && is_set (slice_index bits row) (column % 64)) ink k new) is
+    (takes_tiles (64 * tile + first) (64 * tile + end) _ ink old new taken tile (tile + 1) _
     (λ row column low after until.
     let k = 64 * (column / 64) + row in
     let here : k ≡ 64 * tile + row = omega (arith, after, until) in
@@ -138,8 +195,20 @@ takes_rows tile first end bits ink old new few taken =
     get_or-take (end - first) (drop first bits) (k - (64 * tile + first)) 0 (omega (arith, here, from, to))
     ∙ get_or-drop first bits (k - (64 * tile + first)) 0 ∙ ap (slice_index bits) (omega (arith, here, from)) in
     inl (omega (arith, here, from), omega (arith, here, to), rw (le-leb first row from, lt-ltb row end to, part) refl))
-    (λ late. inr (inr (omega (arith, here, late)), rest first row end late)))
-    (omega arith) (omega (arith, few))
-  where
-    rest : (first row end : ℕ) → end ≤ row → (nat_le first row && nat_lt row end && false) ≡ false
-    rest first row end late = rw (le-ltb row end late) refl
+    (λ late. inr (inr (omega (arith, here, late)), none_past (nat_le first row) (nat_lt row end) _ (le-ltb row end late))))
+    (omega arith) (omega (arith, few)))
+
+pub takes_marks : (first end : ℕ) (marks : List ℕ) (ink : Bool) (old new seen : Inked) → first ≤ end → old ≡ seen
+    → TakesWords (64 * first) (64 * end) (λ k. slice_index (take (64 * (end - first)) marks) (k - 64 * first)) ink old new
+    → Takes first end (λ row column. is_marked marks row (column - 64 * first)) ink seen new
+takes_marks first end marks ink old new seen some is taken =
+    subst (λ (k : Inked). Takes first end (λ row column. is_marked marks row (column - 64 * first)) ink k new) is
+    (takes_tiles (64 * first) (64 * end) _ ink old new taken first end _
+    (λ row column low after until.
+    let k = 64 * (column / 64) + row in
+    let place : 64 * ((column - 64 * first) / 64) + row ≡ k - 64 * first = omega (arith, after) in
+    let bit : (column - 64 * first) % 64 ≡ column % 64 = omega (arith, after) in
+    let part : slice_index (take (64 * (end - first)) marks) (k - 64 * first) ≡ slice_index marks (k - 64 * first) =
+    get_or-take (64 * (end - first)) marks (k - 64 * first) 0 (omega (arith, after, until, low)) in
+    inl (omega (arith, after), omega (arith, until, low), rw (place, bit, part) refl))
+    (omega arith) (omega arith))

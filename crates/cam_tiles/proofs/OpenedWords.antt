@@ -1,0 +1,75 @@
+-- Words that are opened: those of the dirty ones of tiles.
+use Rattle.std.proofs.Common.{◌≡◌, ◌≢◌, ◌↔◌, ◌⊎◌, ℕ, ◌+◌, ◌-◌, ◌*◌, ◌/◌, ◌%◌, ◌^◌, ◌<◌, ◌≤◌, ◌&&◌, not, Bool, true, false, if◌then◌else◌}
+use Rattle.std.proofs.Common.{List, length, nat_lt, slice_index, slice_set, bit_and, refl, ap, sym, ◌∙◌, inl, inr, arith}
+use Rattle.std.proofs.Common.{get_or-set_other, get_or-set_same}
+use Rattle.std.proofs.Math.ListN.{length-set}
+use Rattle.std.specs.Int.{IsBitSet}
+use Rattle.std.proofs.lemmas.Bool.{cases_eq, cases_lt, le-ltb, lt-ltb}
+use Rattle.cam_rows.specs.Marks.{is_set}
+use Rattle.cam_rows.specs.Runs.{IsInRun}
+use Rattle.cam_tiles.proofs.InkWords.{set_in_both, set_in_rest}
+use Rattle.cam_tiles.proofs.JoinedWords.{bit_told}
+
+-- the first of so many columns are opened in as many rows of a tile, and all else stays
+pub record AreOpened (tile columns rows : ℕ) (old new : List ℕ) : Type 0 where
+  pub size : length new ≡ length old
+  pub done : (row i : ℕ) → row < rows → i < 64 → is_set (slice_index new (64 * tile + row)) i
+      ≡ (if nat_lt (64 * tile + i) columns then false else is_set (slice_index old (64 * tile + row)) i)
+  pub others : (k : ℕ) → (k < 64 * tile) ⊎ (64 * tile + rows ≤ k) → slice_index new k ≡ slice_index old k
+
+pub none_opened : (tile columns : ℕ) (words : List ℕ) → AreOpened tile columns 0 words words
+none_opened tile columns words = record {
+  size = refl;
+  done = λ row i early small. absurd (omega (arith, early));
+  others = λ k apart. refl;
+}
+
+false_by : (b : Bool) → (b ≡ true → ⊥) → b ≡ false
+false_by true none = absurd (none refl)
+false_by false none = refl
+
+run_set : (bits column columns i : ℕ) → (IsBitSet bits i ↔ ((i < 64) × IsInRun 0 columns (column + i))) → i < 64
+    → is_set bits i ≡ nat_lt (column + i) columns
+run_set bits column columns i run small = elim (cases_lt (column + i) columns) [
+  | inl before ↦
+      (bit_told bits i).1 (run.1 (small, (omega arith, before))) ∙ sym (lt-ltb (column + i) columns before)
+  | inr behind ↦
+      false_by _ (λ on. omega (arith, behind, (run.0 ((bit_told bits i).0 on)).1.1))
+      ∙ sym (le-ltb (column + i) columns behind)
+]
+
+cleared : (was open : Bool) → (was && not open) ≡ (if open then false else was)
+cleared true true = refl
+cleared true false = refl
+cleared false true = refl
+cleared false false = refl
+
+pub next_opened : (tile columns row bits column k : ℕ) (old new : List ℕ) → AreOpened tile columns row old new → row < 64
+    → column ≡ 64 * tile → k ≡ 64 * tile + row → bits < 2 ^ 64 → 64 * tile + 64 ≤ length old
+    → ((i : ℕ) → i < 64 → IsBitSet bits i ↔ ((i < 64) × IsInRun 0 columns (column + i)))
+    → AreOpened tile columns (row + 1) old (slice_set new k (bit_and (slice_index new k) (2 ^ 64 - 1 - bits)))
+next_opened tile columns row bits column k old new before low left is fits room run = record {
+  size = length-set new k _ ∙ before.size;
+  done = λ r i early small. elim (cases_eq r row) [
+    | inl same ↦
+        let place : 64 * tile + r ≡ k = omega (arith, same, is) in
+        rw (place, get_or-set_same new k _ 0 (omega (arith, is, low, room, before.size)),
+        ← before.others k (inr (omega (arith, is))), ← left)
+        (set_in_both (slice_index new k) (2 ^ 64 - 1 - bits) i
+        ∙ ap (λ b. is_set (slice_index new k) i && b)
+        (set_in_rest bits i fits small ∙ ap not (run_set bits column columns i (run i small) small))
+        ∙ cleared (is_set (slice_index new k) i) (nat_lt (column + i) columns))
+    | inr apart ↦
+        rw (get_or-set_other new k (64 * tile + r) _ 0 (omega (arith, apart, is)))
+        (before.done r i (omega (arith, early, apart)) small)
+  ];
+  others = λ w either.
+      let apart : w ≢ k = elim either [
+        | inl early ↦ omega (arith, is, early)
+        | inr late ↦ omega (arith, is, late)
+      ] in
+      get_or-set_other new k w _ 0 apart ∙ before.others w (elim either [
+        | inl early ↦ inl early
+        | inr late ↦ inr (omega (arith, late))
+      ]);
+}
