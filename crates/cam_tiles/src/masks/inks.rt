@@ -151,7 +151,7 @@ impl Inks {
     /// Gives a polarity to what is not decided of the tiles from one on and before another, where marks say so: they begin
     /// at the first of these tiles.
     pub(crate) fn take_marked(&mut self, first: usize, end: usize, marks: &[u64], dark: bool)
-        requires some { first ≤ end }
+        requires some { first < end }
         requires end { end ≤ self.old.tiles }
         requires room { 64 * (end - first) ≤ length marks.now }
         ensures { Takes first end (λ row column. is_marked marks.now row (column - 64 * first)) dark self.old self.new }
