@@ -3,7 +3,7 @@ use Rattle.std.proofs.Common.{◌≡◌, ◌≢◌, ◌⊎◌, ℕ, zero, suc, �
 use Rattle.std.proofs.Common.{Option, Some, None, if◌then◌else◌, List, length, slice_index, slice_set, bit_and, bit_or, refl, ap, ◌∙◌, arith}
 use Rattle.std.proofs.Common.{get_or-set_other, get_or-set_same, inl, inr, sym, take, drop, ◌*◌, ◌/◌, ◌%◌}
 use Rattle.std.proofs.Math.ListN.{length-set}
-use Rattle.std.specs.Int.{bit_at, bit_not, w64}
+use Rattle.std.specs.Int.{IsBitSet, bit_at, bit_not, w64}
 use Rattle.std.specs.Option.{option_or}
 use Rattle.std.proofs.lemmas.Bool.{cases_eq}
 use Rattle.std.proofs.lemmas.Nat.{and_le_l}
@@ -11,6 +11,7 @@ use Rattle.std.proofs.lemmas.Nat.Bits.{bit_at-lt, bit_at-zero, bit_at_and, bit_a
 use Rattle.std.proofs.lemmas.List.{get_or-drop, get_or-take}
 use Rattle.cam_rows.specs.Marks.{is_marked, is_set}
 use Rattle.cam_tiles.specs.Machinery.Inks.{AreKnown, given, ink_of}
+use Rattle.cam_tiles.proofs.JoinedWords.{bit_told}
 
 -- ---- bits
 
@@ -44,6 +45,16 @@ set_in_all i small = ap (λ n. n == 1) (bit_at_ones 64 i small)
 
 pub set_in_none : (i : ℕ) → is_set 0 i ≡ false
 set_in_none i = ap (λ n. n == 1) (bit_at-zero i)
+
+-- a word that has all of some bits has each of them
+right_of_both : (a b : Bool) → b ≡ true → (a && b) ≡ b → a ≡ true
+right_of_both true b on same = refl
+right_of_both false b on same = same ∙ on
+
+pub set_by_bits : (word bits i : ℕ) → bit_and word bits ≡ bits → IsBitSet bits i → is_set word i ≡ true
+set_by_bits word bits i all on =
+    right_of_both (is_set word i) (is_set bits i) ((bit_told bits i).1 on)
+    (sym (set_in_both word bits i) ∙ ap (λ w. is_set w i) all)
 
 -- ---- a word
 

@@ -1,16 +1,17 @@
 -- Words that are opened: those of the dirty ones of tiles.
 use Rattle.std.proofs.Common.{◌≡◌, ◌≢◌, ◌↔◌, ◌⊎◌, ℕ, ◌+◌, ◌-◌, ◌*◌, ◌/◌, ◌%◌, ◌^◌, ◌<◌, ◌≤◌, ◌&&◌, not, Bool, true, false, if◌then◌else◌}
 use Rattle.std.proofs.Common.{List, length, nat_lt, slice_index, slice_set, bit_and, refl, ap, sym, ◌∙◌, inl, inr, arith}
-use Rattle.std.proofs.Common.{get_or-set_other, get_or-set_same, Option, Some, None, []}
+use Rattle.std.proofs.Common.{get_or-set_other, get_or-set_same, Option, Some, None, [], replicate}
 use Rattle.std.specs.Prelude.{is_none, slice_index_or}
 use Rattle.std.proofs.Math.ListN.{length-set}
 use Rattle.std.specs.Int.{IsBitSet}
 use Rattle.std.proofs.lemmas.Bool.{cases_eq, cases_lt, le-ltb, lt-ltb}
+use Rattle.std.proofs.lemmas.List.{get_or-replicate, get_or_past, length-replicate}
 use Rattle.cam_rows.specs.Marks.{is_marked, is_set}
 use Rattle.cam_rows.specs.Runs.{IsInRun}
 use Rattle.cam_tiles.specs.Machinery.Inks.{AreOpen, Inked, is_open}
 use Rattle.cam_tiles.specs.Tables.{Tile}
-use Rattle.cam_tiles.proofs.InkWords.{set_in_both, set_in_none, set_in_rest}
+use Rattle.cam_tiles.proofs.InkWords.{set_in_all, set_in_both, set_in_none, set_in_rest}
 use Rattle.cam_tiles.proofs.JoinedWords.{bit_told}
 
 -- the first of so many columns are opened in as many rows of a tile, and all else stays
@@ -158,3 +159,16 @@ all_open columns rows tiles k is set none = record {
       rw (set row column low (rw is at inside), none (64 * (column / 64) + row), set_in_none (column % 64))
       (told (is_open tiles columns rows row column));
 }
+
+-- ---- words that are all the same
+
+pub zeros : (count k : ℕ) → slice_index (replicate count 0) k ≡ 0
+zeros count k = elim (cases_lt k count) [
+  | inl within ↦ get_or-replicate count k 0 0 within
+  | inr past ↦ get_or_past (replicate count 0) k 0 (omega (arith, length-replicate {A = ℕ}, past))
+]
+
+pub all_set : (count row column : ℕ) → 64 * (column / 64) + row < count
+    → is_marked (replicate count (2 ^ 64 - 1)) row column ≡ true
+all_set count row column within =
+    rw (get_or-replicate count (64 * (column / 64) + row) (2 ^ 64 - 1) 0 within) (set_in_all (column % 64) (omega arith))
