@@ -1,9 +1,8 @@
 -- Words of which some bits are decided, and what becomes of these.
-use Rattle.std.proofs.Common.{◌≡◌, ◌≢◌, ◌⊎◌, ℕ, zero, suc, ◌+◌, ◌-◌, ◌^◌, ◌<◌, ◌≤◌, ◌==◌, ◌&&◌, ◌||◌, not, min, max, Bool, true, false}
-use Rattle.std.proofs.Common.{Option, Some, None, if◌then◌else◌, List, length, slice_index, slice_set, bit_and, bit_or, refl, ap, ◌∙◌, arith}
+use Rattle.std.proofs.Common.{◌≡◌, ◌≢◌, ℕ, zero, suc, ◌+◌, ◌-◌, ◌^◌, ◌<◌, ◌≤◌, ◌==◌, ◌&&◌, ◌||◌, not, min, max, Bool, true, false}
+use Rattle.std.proofs.Common.{Some, None, if◌then◌else◌, List, length, slice_index, slice_set, bit_and, bit_or, refl, ap, ◌∙◌, arith}
 use Rattle.std.proofs.Common.{get_or-set_other, get_or-set_same, inl, inr, sym, take, drop, ◌*◌, ◌/◌, ◌%◌}
-use Rattle.std.proofs.Math.ListN.{length-set}
-use Rattle.std.specs.Int.{IsBitSet, bit_at, bit_not, w64}
+use Rattle.std.specs.Int.{IsBitSet, w64}
 use Rattle.std.specs.Option.{option_or}
 use Rattle.std.proofs.lemmas.Bool.{cases_eq}
 use Rattle.std.proofs.lemmas.Nat.{and_le_l}

@@ -1,7 +1,7 @@
 -- Words that are opened: those of the dirty ones of tiles.
 use Rattle.std.proofs.Common.{◌≡◌, ◌≢◌, ◌↔◌, ◌⊎◌, ℕ, ◌+◌, ◌-◌, ◌*◌, ◌/◌, ◌%◌, ◌^◌, ◌<◌, ◌≤◌, ◌&&◌, not, Bool, true, false, if◌then◌else◌}
 use Rattle.std.proofs.Common.{List, length, nat_lt, slice_index, slice_set, bit_and, refl, ap, sym, ◌∙◌, inl, inr, arith}
-use Rattle.std.proofs.Common.{get_or-set_other, get_or-set_same, Option, Some, None, [], replicate}
+use Rattle.std.proofs.Common.{get_or-set_other, get_or-set_same, Some, None, [], replicate}
 use Rattle.std.specs.Prelude.{is_none, slice_index_or}
 use Rattle.std.proofs.Math.ListN.{length-set}
 use Rattle.std.specs.Int.{IsBitSet}

@@ -1,4 +1,4 @@
-use Rattle.std.proofs.Common.{◌≡◌, ap, ◌∙◌, inl, inr, slice_index, arith}
+use Rattle.std.proofs.Common.{ap, ◌∙◌, inl, inr, slice_index, arith}
 use Rattle.std.proofs.lemmas.Bool.{cases_eq}
 use Rattle.cam_rows.specs.Marks.{is_set}
 use Rattle.cam_tiles.proofs.InkWords.{set_in_all}

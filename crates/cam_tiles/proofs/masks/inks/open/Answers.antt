@@ -1,4 +1,4 @@
-use Rattle.std.proofs.Common.{refl, arith}
+use Rattle.std.proofs.Common.{arith}
 use Rattle.cam_tiles.proofs.OpenedWords.{next_opened, none_opened}
 use Rattle.cam_tiles.proofs.masks.inks.open.Goals as goal
 

@@ -1,4 +1,3 @@
-use Rattle.std.proofs.Common.{◌≡◌, ◌⊎◌, ◌+◌, ◌*◌, ◌<◌, ◌≤◌, ℕ, false, if◌then◌else◌, length, nat_lt, slice_index}
 use Rattle.cam_tiles.proofs.OpenedWords.{AreOpened}
 use Rattle.cam_tiles.proofs.masks.inks.open.Given as goal
 

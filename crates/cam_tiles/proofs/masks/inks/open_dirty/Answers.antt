@@ -1,4 +1,4 @@
-use Rattle.std.proofs.Common.{◌≡◌, ◌+◌, None, Some, [], not, ap, sym, subst, ◌∙◌, arith}
+use Rattle.std.proofs.Common.{◌≡◌, ◌+◌, None, Some, [], not, ap, sym, subst, ◌∙◌}
 use Rattle.std.specs.Prelude.{is_none, slice_index_or}
 use Rattle.std.proofs.lemmas.List.{get_or_default}
 use Rattle.cam_tiles.proofs.OpenedWords.{AreOpenBefore, next_closed, next_open, none_before}

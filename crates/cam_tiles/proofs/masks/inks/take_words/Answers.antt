@@ -1,4 +1,4 @@
-use Rattle.std.proofs.Common.{◌≡◌, ◌<◌, ℕ, sym, ap, subst, ◌∙◌, arith}
+use Rattle.std.proofs.Common.{◌≡◌, ◌<◌, ℕ, sym, ap, ◌∙◌, arith}
 use Rattle.cam_rows.specs.Marks.{is_set}
 use Rattle.cam_tiles.proofs.InkWords.{next_taken, set_in_all, set_in_none}
 use Rattle.cam_tiles.proofs.masks.inks.take_words.Goals.{then-ink, else-ink}

@@ -1,4 +1,4 @@
-use Rattle.std.proofs.Common.{◌≡◌, ◌+◌, ◌-◌, ◌<◌, ◌≤◌, ℕ, refl, sym, ap, subst, ◌∙◌, inl, inr, arith}
+use Rattle.std.proofs.Common.{◌≡◌, ◌+◌, ◌-◌, ◌<◌, ◌≤◌, refl, sym, ap, subst, ◌∙◌, inl, inr, arith}
 use Rattle.std.proofs.lemmas.Bool.{cases_eq, eqb-true}
 use Rattle.cam_tiles.specs.Machinery.Inks.{Inked, IsDoneTile, inked_of}
 use Rattle.cam_tiles.proofs.masks.inks.Inks.is_all_done.Goals.{then-loop-tile-test+else-is_done, else-loop-tile-test}

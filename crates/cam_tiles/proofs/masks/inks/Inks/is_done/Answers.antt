@@ -1,9 +1,8 @@
-use Rattle.std.proofs.Common.{◌≡◌, ◌<◌, ◌≤◌, ◌*◌, ◌+◌, ◌-◌, ℕ, List, drop, set, take, slice_index, true, refl, sym, ap, subst, ◌∙◌, inl, inr, arith}
+use Rattle.std.proofs.Common.{◌<◌, set, slice_index, sym, ap, subst, ◌∙◌, inl, inr, arith}
 use Rattle.std.proofs.Common.{get_or-set_other, get_or-set_same, length}
 use Rattle.std.proofs.Math.ListN.{length-set}
 use Rattle.std.proofs.lemmas.Bool.{cases_eq, eqb-true}
 use Rattle.std.proofs.lemmas.List.{get_or_read}
-use Rattle.cam_rows.specs.Marks.{is_set}
 use Rattle.cam_tiles.specs.Machinery.Inks.{AreKnown, Inked}
 use Rattle.cam_tiles.proofs.InkWords.{known_by, known_of}
 use Rattle.cam_tiles.proofs.masks.inks.Inks.is_done.Goals as goal

@@ -1,4 +1,4 @@
-use Rattle.std.proofs.Common.{◌≡◌, ◌<◌, ◌≤◌, ◌&&◌, ◌+◌, ◌*◌, ◌/◌, ◌%◌, ℕ, get_or-set_other, get_or-set_same, refl, sym, ap, subst, ◌∙◌, inl, inr, slice_index, arith}
+use Rattle.std.proofs.Common.{◌≡◌, ◌&&◌, ◌+◌, ◌*◌, ◌/◌, ◌%◌, get_or-set_other, get_or-set_same, subst, ◌∙◌, inl, inr, slice_index, arith}
 use Rattle.std.proofs.Math.ListN.{length-set}
 use Rattle.std.proofs.lemmas.Bool.{cases_eq}
 use Rattle.cam_rows.specs.Marks.{is_set}

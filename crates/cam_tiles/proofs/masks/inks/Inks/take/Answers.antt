@@ -1,4 +1,4 @@
-use Rattle.std.proofs.Common.{◌≡◌, ◌*◌, ◌+◌, ◌-◌, drop, take, ap, refl, arith}
+use Rattle.std.proofs.Common.{◌*◌, ◌+◌, ◌-◌, drop, take, ap, refl, arith}
 use Rattle.cam_tiles.specs.Machinery.Inks.{Inked}
 use Rattle.cam_tiles.proofs.TakenInks.{AreWritten, no_words, still_inked, takes_rows, words_taken}
 use Rattle.cam_tiles.proofs.masks.inks.Inks.take.Goals as goal

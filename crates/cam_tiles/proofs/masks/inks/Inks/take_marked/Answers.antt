@@ -1,4 +1,4 @@
-use Rattle.std.proofs.Common.{◌≡◌, ◌*◌, ◌-◌, take, ap, arith}
+use Rattle.std.proofs.Common.{◌*◌, ◌-◌, take, ap, arith}
 use Rattle.cam_tiles.specs.Machinery.Inks.{Inked}
 use Rattle.cam_tiles.proofs.TakenInks.{AreWritten, still_inked, takes_marks, words_taken}
 use Rattle.cam_tiles.proofs.masks.inks.Inks.take_marked.Goals as goal

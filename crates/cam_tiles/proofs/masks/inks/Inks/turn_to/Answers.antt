@@ -1,6 +1,5 @@
-use Rattle.std.proofs.Common.{◌≡◌, ◌+◌, ◌*◌, ◌/◌, ◌%◌, ◌<◌, ◌^◌, ◌-◌, ℕ, slice_index, true, refl, ap, sym, subst, ◌∙◌, inl, inr, arith, length}
+use Rattle.std.proofs.Common.{◌*◌, refl, ◌∙◌, arith, length}
 use Rattle.std.proofs.lemmas.List.{with_items_is}
-use Rattle.cam_rows.specs.Marks.{is_marked, is_set}
 use Rattle.cam_tiles.proofs.OpenedWords.{all_open, all_set, zeros}
 use Rattle.cam_tiles.proofs.masks.inks.Inks.turn_to.Goals as goal
 
