@@ -1,6 +1,6 @@
 //! Macros in the rows of tiles side by side: each primitive is gone through once for all of them.
 
-ghost use Rattle.std.specs.Prelude.{◌≡◌, ◌<◌, ◌≤◌, ◌+◌, ◌*◌, ◌/◌, ℕ, All, length};
+ghost use Rattle.std.specs.Prelude.{◌≡◌, ◌<◌, ◌≤◌, ◌+◌, ◌*◌, ◌/◌, All, length};
 ghost use Rattle.cam_units.specs.Board.{IsOnBoard, IsPlace};
 ghost use Rattle.cam_units.specs.declared.point.Spot.{Spot};
 ghost use Rattle.cam_units.specs.Boxes.{Holds};
