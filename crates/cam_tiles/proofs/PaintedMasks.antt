@@ -1,19 +1,12 @@
--- Marks as ink: a tile of decided and of dark marks, on which a leaf is painted beneath those before.
-use Rattle.std.proofs.Common.{◌≡◌, ◌↔◌, ◌⊎◌, ℕ, Bool, true, false, not, ◌&&◌, ◌||◌, cond, IsTrue, inl, inr, slice_index}
-use Rattle.std.proofs.Common.{Option, None, Some, refl, sym, ap, subst, ◌∙◌}
-use Rattle.std.specs.Option.{option_or}
+-- Marks as inks, also of masks that are merged.
+use Rattle.std.proofs.Common.{◌≡◌, ◌↔◌, ◌⊎◌, ℕ, Bool, true, false, not, ◌&&◌, ◌||◌, IsTrue, inl, inr, slice_index}
+use Rattle.std.proofs.Common.{refl, sym}
 use Rattle.std.proofs.lemmas.Bool.{eq-eqb, eqb-true, false_from_ne_true, false≢true}
 use Rattle.cam_rows.proofs.SetBits.{set_is_one}
 use Rattle.cam_apertures.proofs.Painting.{through}
-use Rattle.cam_objects.specs.Image.{Covers}
-use Rattle.cam_objects.specs.Leaves.{Shape}
-use Rattle.cam_objects.specs.Tests.{covers}
-use Rattle.cam_objects.proofs.Covering.{cover_law}
-use Rattle.cam_tiles.specs.declared.grid.Grid.{Grid}
 use Rattle.cam_tiles.specs.declared.masks.join.Join.{Join}
 use Rattle.cam_tiles.specs.declared.masks.join.Join.TheVariants.{Add, Clear}
-use Rattle.cam_tiles.specs.Machinery.Masks.{AreMarksOf, IsIn, IsMarked, Marking, Merges, ink_of, joined}
-use Rattle.cam_tiles.specs.Tiles.{centre_in}
+use Rattle.cam_tiles.specs.Machinery.Masks.{IsIn, IsMarked, Marking, Merges, ink_of, joined}
 use Rattle.cam_tiles.proofs.Joined.{joined_like}
 
 pub dark_if_marked : (m : Marking) (column row : ℕ) → IsMarked m column row → ink_of m column row ≡ true
@@ -27,7 +20,7 @@ clear_if_unmarked m column row h = false_from_ne_true _ (λ dark. h (marked_if_d
 
 -- ---- tests that say the same
 
-same_test : (a b : Bool) → IsTrue a ↔ IsTrue b → a ≡ b
+pub same_test : (a b : Bool) → IsTrue a ↔ IsTrue b → a ≡ b
 same_test true b h = sym (h.0 refl)
 same_test false b h = sym (false_from_ne_true b (λ t. false≢true (h.1 t)))
 
@@ -43,29 +36,22 @@ cleared false b c h = false_from_ne_true c (λ t. false≢true (h.0 t).0)
 
 -- ---- inks that are merged
 
-lit : (m : Marking) (column row : ℕ) → IsMarked m column row ↔ IsTrue (ink_of m column row)
-lit m column row = (dark_if_marked m column row, marked_if_dark m column row)
+pub dark_is_marked : (m : Marking) (column row : ℕ) → IsTrue (ink_of m column row) ↔ IsMarked m column row
+dark_is_marked m column row = (marked_if_dark m column row, dark_if_marked m column row)
 
-merged : (how : Join) (other old new : Marking) (column row : ℕ)
-    → IsMarked new column row ↔ joined how (IsMarked old column row) (IsMarked other column row)
-    → IsTrue (ink_of new column row) ↔ joined how (IsTrue (ink_of old column row)) (IsTrue (ink_of other column row))
-merged how other old new column row told =
-    let is = lit new column row in
-    joined_like how _ _ _ _ _ (lit old column row) (lit other column row) (through (is.1, is.0) told)
+marked_is_dark : (m : Marking) (column row : ℕ) → IsMarked m column row ↔ IsTrue (ink_of m column row)
+marked_is_dark m column row = (dark_if_marked m column row, marked_if_dark m column row)
 
--- a leaf on a pixel that is decided or not, and dark or not: what it covers is new where nothing was decided
-dark_leaf : (d k on : Bool) → (IsTrue k → IsTrue d)
-    → cond (d || (on && not d)) (Some (k || (on && not d))) None ≡ option_or (cond d (Some k) None) (cond on (Some true) None)
-dark_leaf true true on within = refl
-dark_leaf true false true within = refl
-dark_leaf true false false within = refl
-dark_leaf false true on within = absurd (false≢true (within refl))
-dark_leaf false false true within = refl
-dark_leaf false false false within = refl
+module _ (other old new : Marking) (column row : ℕ) (there : IsIn old.grid column row) where
+  merged : (how : Join) → Merges how other old new
+      → IsTrue (ink_of new column row) ↔ joined how (IsTrue (ink_of old column row)) (IsTrue (ink_of other column row))
+  merged how h =
+      joined_like how _ _ _ _ _ (marked_is_dark old column row) (marked_is_dark other column row)
+      (through (dark_is_marked new column row) (h.marks column row there))
 
-clear_leaf : (d k on : Bool) → (IsTrue k → IsTrue d)
-    → cond (d || (on && not d)) (Some k) None ≡ option_or (cond d (Some k) None) (cond on (Some false) None)
-clear_leaf true k on within = refl
-clear_leaf false true on within = absurd (false≢true (within refl))
-clear_leaf false false true within = refl
-clear_leaf false false false within = refl
+  pub added_ink : Merges Add other old new → ink_of new column row ≡ (ink_of old column row || ink_of other column row)
+  added_ink h = added (ink_of old column row) (ink_of other column row) (ink_of new column row) (merged Add h)
+
+  pub cleared_ink : Merges Clear other old new
+      → ink_of new column row ≡ (ink_of old column row && not (ink_of other column row))
+  cleared_ink h = cleared (ink_of old column row) (ink_of other column row) (ink_of new column row) (merged Clear h)

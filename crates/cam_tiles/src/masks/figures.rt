@@ -6,7 +6,6 @@ ghost use Rattle.cam_apertures.specs.Soundness.{IsSoundAperture};
 ghost use Rattle.cam_objects.specs.Canvases.{IsSoundFigure, IsSoundPrint, leaf_of, shape_of};
 ghost use Rattle.cam_objects.specs.Image.{Covers};
 ghost use Rattle.cam_tiles.specs.Machinery.Figures.{IsComposed, IsFlashOf, IsMacro, IsPlacedFor, IsToldAt, LiesWithin};
-ghost use Rattle.cam_tiles.specs.Machinery.Swaths.{ArePaintedIn, grid_at};
 
 use crate::masks::figure_runs::FigureRuns;
 use crate::masks::heights::Heights;

@@ -43,7 +43,7 @@ returns c = λ on.
     dark_if_marked m column row
     (subst (λ (n : Marking). IsBitSet (slice_index n.rows row) column) (sym c.self.view_is)
     (c.loop-row.invariant column row rows.0 (omega (arith, rows.1, c.loop-row-test.false)) set)) in
-    subst
+    rw c.in-Closed.is (subst
     (λ (n : Marking). (column row : ℕ) → IsIn n.grid column row
     → IsBetween c.in-Closed.low c.in-Closed.high (centre_in n.grid column row) → ink_of n column row ≡ true)
-    c.self.view_is black
+    c.self.view_is black)
