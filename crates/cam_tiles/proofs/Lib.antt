@@ -27,6 +27,7 @@ pub mod PartlyDrawn
 pub mod PbmLemmas
 pub mod PictureLemmas
 pub mod Pictures
+pub mod PlainTiles
 pub mod PlotLemmas
 pub mod RowLists
 pub mod RowsInOrder
