@@ -50,17 +50,17 @@ marks_kept g columns P part rest few wide told column row near within =
 
 module _ (first end : ℕ) (old part : List ℕ) (some : first < end) (long : end ≤ length old)
     (size : length part ≡ end - first) where
-  before_part : (k : ℕ) → k < first → slice_index (put_mid first (end - first) old part) k ≡ slice_index old k
+  pub before_part : (k : ℕ) → k < first → slice_index (put_mid first (end - first) old part) k ≡ slice_index old k
   before_part k early = search (rules, places)
 
-  behind_part : (k : ℕ) → end ≤ k → slice_index (put_mid first (end - first) old part) k ≡ slice_index old k
+  pub behind_part : (k : ℕ) → end ≤ k → slice_index (put_mid first (end - first) old part) k ≡ slice_index old k
   behind_part k late = search (rules, places)
 
-  in_part : (k : ℕ) → first ≤ k → k < end
+  pub in_part : (k : ℕ) → first ≤ k → k < end
       → slice_index (put_mid first (end - first) old part) k ≡ slice_index part (k - first)
   in_part k after until = search (rules, places)
 
-  of_part : (k : ℕ) → first ≤ k → k < end → slice_index (mid_of first (end - first) old) (k - first) ≡ slice_index old k
+  pub of_part : (k : ℕ) → first ≤ k → k < end → slice_index (mid_of first (end - first) old) (k - first) ≡ slice_index old k
   of_part k after until = search (rules, places)
 
 module _ (g : Grid) (columns : ℕ) (how : Join) (at : Point) (tile end past : ℕ) (P : Spot → Type 0)

@@ -9,13 +9,16 @@ pub mod Flashes
 pub mod GridBoxes
 pub mod GridLemmas
 pub mod Indexed
+pub mod InkWords
 pub mod Joined
 pub mod JoinedCentres
 pub mod JoinedMarks
 pub mod JoinedWords
+pub mod Lattices
 pub mod LevelRows
 pub mod MarkedTiles
 pub mod MaskWords
+pub mod OpenedWords
 pub mod PaintedLists
 pub mod PaintedMasks
 pub mod PaintedSwaths
@@ -24,6 +27,7 @@ pub mod PartlyDrawn
 pub mod PbmLemmas
 pub mod PictureLemmas
 pub mod Pictures
+pub mod PlainTiles
 pub mod PlotLemmas
 pub mod RowLists
 pub mod RowsInOrder
@@ -46,6 +50,7 @@ pub mod TablePixels
 pub mod TakenRuns
 pub mod TileCounts
 pub mod TileRowLemmas
+pub mod TakenInks
 pub mod TilesInOrder
 pub mod TouchedTiles
 pub mod TurnedBands

@@ -8,7 +8,7 @@ use Rattle.cam_tiles.specs.Tiles.{centre_in}
 use Rattle.cam_tiles.proofs.Joined.{same}
 use Rattle.cam_tiles.proofs.JoinedMarks.{next_row_at}
 use Rattle.cam_tiles.proofs.ShapeRows.{all_shown, row_shown, still_blank}
-use Rattle.cam_tiles.proofs.masks.mask.Mask.of.Goals as goal
+use Rattle.cam_tiles.proofs.masks.mask.Mask.of_shape.Goals as goal
 
 pub loop-row-preserved : goal.loop-row-preserved
 loop-row-preserved c =

@@ -4,7 +4,7 @@ use Rattle.cam_tiles.specs.Machinery.Masks.{HoldsCentres}
 use Rattle.cam_tiles.specs.Machinery.Plain.{IsInShape}
 use Rattle.cam_tiles.specs.Tiles.{centre_in}
 use Rattle.cam_tiles.proofs.JoinedMarks.{AreJoinedAt}
-use Rattle.cam_tiles.proofs.masks.mask.Mask.of.Given as goal
+use Rattle.cam_tiles.proofs.masks.mask.Mask.of_shape.Given as goal
 
 -- the rows so far are those of the shape
 abbrev pub invariant-loop-row : goal.invariant-loop-row
