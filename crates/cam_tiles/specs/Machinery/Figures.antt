@@ -1,4 +1,4 @@
--- Figures whose runs are known, and these runs in the rows of masks side by side.
+-- Figures whose runs are known, and these runs in the rows of tiles side by side.
 use Rattle.std.specs.Prelude.{◌↔◌, ◌⊎◌, ℕ, ◌<◌}
 use Rattle.cam_units.specs.Board.{IsOnBoard}
 use Rattle.cam_units.specs.declared.point.Spot.{Spot}

@@ -1,4 +1,4 @@
-use Rattle.std.proofs.Common.{◌≡◌, rules, subst, FitsSigned, w64, arith}
+use Rattle.std.proofs.Common.{rules, subst, FitsSigned, w64, arith}
 use Rattle.std.proofs.lemmas.Int.{to_z-of_z}
 use Rattle.cam_units.specs.Boxes.{Holds, IsBetween}
 use Rattle.cam_units.specs.declared.bounds.Bounds.{Bounds}

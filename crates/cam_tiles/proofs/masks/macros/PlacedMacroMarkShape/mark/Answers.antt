@@ -1,4 +1,4 @@
-use Rattle.std.proofs.Common.{◌≡◌, ◌*◌, length, drop, map, take, refl, sym, rules, arith}
+use Rattle.std.proofs.Common.{◌≡◌, ◌*◌, length, drop, map, refl, sym, rules, arith}
 use Rattle.std.proofs.lemmas.List.{places, take_all}
 use Rattle.std.proofs.lemmas.Option.{get_or_from_slice_get}
 use Rattle.cam_units.specs.declared.point.Spot.{Spot}
