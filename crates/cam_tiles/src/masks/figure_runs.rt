@@ -1,23 +1,20 @@
-//! The runs of a figure in the rows of masks side by side, and how they are joined with a mask.
+//! The runs of a figure in the rows of tiles side by side.
 
-ghost use Rattle.std.specs.Prelude.{◌≡◌, ◌↔◌, ◌⊎◌, ◌+◌, ◌<◌, ◌≤◌, ℕ, IsTrue, ◌∷◌, []};
+ghost use Rattle.std.specs.Int.{IsBitSet};
+ghost use Rattle.std.specs.Prelude.{◌↔◌, ◌+◌, ◌<◌, ◌≤◌, ℕ, slice_index};
 ghost use Rattle.cam_shapes.specs.Arc.{IsInArc, IsSoundArc};
 ghost use Rattle.cam_shapes.specs.Bar.{IsInCapsule, IsSoundCapsule};
 ghost use Rattle.cam_shapes.specs.Disc.{IsInHole, IsSoundDisc};
 ghost use Rattle.cam_shapes.specs.Swept.{IsInSwept, IsSoundSwept};
 ghost use Rattle.cam_units.specs.Board.{IsOnBoard};
-ghost use Rattle.cam_objects.specs.Canvases.{leaf_of, shape_of};
-ghost use Rattle.cam_objects.specs.Image.{Covers, relative};
-ghost use Rattle.cam_rows.specs.Runs.{IsInRun, most_columns};
-ghost use Rattle.cam_tiles.specs.Machinery.Masks.{IsIn, IsMarked, PaintsMask, inked, joined};
-ghost use Rattle.cam_tiles.specs.Machinery.Runs.{HasColumn, IsClear, IsWideGrid};
+ghost use Rattle.cam_objects.specs.Image.{relative};
+ghost use Rattle.cam_rows.specs.Runs.{IsInRun};
+ghost use Rattle.cam_tiles.specs.Machinery.Runs.{IsClear, IsWideGrid};
 ghost use Rattle.cam_tiles.specs.Machinery.Figures.{
   AllFit,
-  HasBody,
   HasPart,
   IsInFigure,
   IsSoundPlaced,
-  IsToldAt,
   LiesWithin,
   TellsFigure,
 };
@@ -25,11 +22,8 @@ ghost use Rattle.cam_tiles.specs.Machinery.Figures.{
 use crate::grid::Grid;
 use crate::masks::figures::{Placed, RunFigure};
 use crate::masks::heights::{HasHeights, Heights};
-use crate::masks::join::Join;
-use crate::masks::mask::Mask;
 use crate::masks::runs::Runs;
 use crate::span::Span;
-use cam_objects::Print;
 use cam_rows::{Beyond, Hole, Hollow, Outer, ring_of};
 use cam_shapes::{Arc, Bar, Capsule, Disc, Swept};
 use cam_units::Point;
@@ -203,8 +197,7 @@ impl FigureRuns {
 
     /// Rows outside of which it holds nothing.
     fn rows(&self) -> Span
-        ensures each { (rows row column : ℕ) → AllFit rows self.now → HasPart self.now row column
-            → (result.first ≤ row) × (row < result.end) }
+        ensures each { (row column : ℕ) → HasPart self.now row column → (result.first ≤ row) × (row < result.end) }
         ensures few { (rows : ℕ) → AllFit rows self.now → result.end ≤ rows }
     {
         let discs = self.start.band.joined(self.end.band);

@@ -1,6 +1,7 @@
-//! Runs of columns in the rows of masks side by side.
+//! Runs of columns in the rows of tiles side by side.
 
-ghost use Rattle.std.specs.Prelude.{◌≡◌, ◌↔◌, ◌⊎◌, ◌<◌, ◌≤◌, ℕ, IsTrue, length, slice_index};
+ghost use Rattle.std.specs.Int.{IsBitSet};
+ghost use Rattle.std.specs.Prelude.{◌≡◌, ◌↔◌, ◌⊎◌, ◌+◌, ◌<◌, ◌≤◌, ℕ, length, slice_index};
 ghost use Rattle.cam_units.specs.Board.{IsOnBoard};
 ghost use Rattle.cam_objects.specs.Image.{relative};
 ghost use Rattle.cam_rows.specs.Rows.{centre_at, row_below};
@@ -85,7 +86,12 @@ impl Runs {
         if row < self.band.first || self.band.end <= row {
             return 0;
         }
-        run_row(self.firsts[row as usize], self.ends[row as usize], column, 64)
+        run_row(
+            self.firsts[row as usize],
+            self.ends[row as usize],
+            column,
+            64,
+        )
     }
 
     /// Turns to those of a shape, which stands at a point as it does about (0, 0), in the rows of a grid, and as many
