@@ -16,7 +16,6 @@ pub mod JoinedMarks
 pub mod JoinedWords
 pub mod Lattices
 pub mod LevelRows
-pub mod MarkedTiles
 pub mod MaskWords
 pub mod OpenedWords
 pub mod PaintedLists
@@ -39,7 +38,6 @@ pub mod SeenRows
 pub mod ShapeHeights
 pub mod ShapeRows
 pub mod ShownItems
-pub mod SolidMasks
 pub mod SpanLemmas
 pub mod Stamps
 pub mod StepLemmas
@@ -47,10 +45,10 @@ pub mod SwathLayouts
 pub mod SwathRows
 pub mod TableFacts
 pub mod TablePixels
+pub mod TakenInks
 pub mod TakenRuns
 pub mod TileCounts
 pub mod TileRowLemmas
-pub mod TakenInks
 pub mod TilesInOrder
 pub mod TouchedTiles
 pub mod TurnedBands
