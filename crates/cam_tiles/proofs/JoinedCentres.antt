@@ -102,5 +102,5 @@ module _ (g : Grid) (columns : ℕ) (how : Join) (at : Point) (tile end past : �
           ← of_part (64 * tile) (64 * end) old new (omega (arith, some)) long size k from inside,
         ) (rw (there, bit) at here))
         (λ late. kept column row (λ on. omega (arith, (held column row near below on).1, late))
-        (behind_part (64 * tile) (64 * end) old new (omega (arith, some)) long size k (omega (arith, late)))) ;
+        (behind_part (64 * tile) (64 * end) old new (omega (arith, some)) long size k (omega (arith, late))));
   }
