@@ -17,7 +17,6 @@ pub mod JoinedWords
 pub mod LastFound
 pub mod Lattices
 pub mod LevelRows
-pub mod MarkedTiles
 pub mod MaskWords
 pub mod OpenedWords
 pub mod PaintedLists
@@ -40,7 +39,6 @@ pub mod SeenRows
 pub mod ShapeHeights
 pub mod ShapeRows
 pub mod ShownItems
-pub mod SolidMasks
 pub mod SpanLemmas
 pub mod Stamps
 pub mod StepLemmas
