@@ -21,7 +21,6 @@ pub mod MaskWords
 pub mod OpenedWords
 pub mod PaintedLists
 pub mod PaintedMasks
-pub mod PaintedSwaths
 pub mod PaintedTiles
 pub mod PartlyDrawn
 pub mod PbmLemmas
@@ -42,8 +41,7 @@ pub mod ShownItems
 pub mod SpanLemmas
 pub mod Stamps
 pub mod StepLemmas
-pub mod SwathLayouts
-pub mod SwathRows
+pub mod SwathInks
 pub mod TableFacts
 pub mod TablePixels
 pub mod TakenInks
