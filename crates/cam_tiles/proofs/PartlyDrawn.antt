@@ -41,10 +41,6 @@ module _ (draw : ℕ → List ℕ) where
       let there : first + 1 + k ≡ first + suc k = omega arith in
       get_or-all_drawn_from (first + 1) tiles k (omega arith) ∙ ap (λ n. drawn (draw n) (get_or tiles k None)) there
 
-  -- none of them
-  pub none_partly_drawn : (first : ℕ) (tiles : List Tile) → IsPartlyDrawn draw first tiles tiles
-  none_partly_drawn first tiles = record { size = refl; each = λ k within. inl refl }
-
   -- all of them
   pub all_partly_drawn : (first : ℕ) (old new : List Tile) → new ≡ all_drawn_from draw first old
       → IsPartlyDrawn draw first old new

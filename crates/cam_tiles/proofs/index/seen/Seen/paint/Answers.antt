@@ -1,4 +1,4 @@
-use Rattle.std.proofs.Common.{rules, ◌≡◌, ◌+◌, ◌/◌, ◌<◌, ◌≤◌, ℕ, ◌≤ℤ◌, List, Some, Option, IfNone, IfSome, FitsSigned, w64}
+use Rattle.std.proofs.Common.{rules, ◌≡◌, ◌+◌, ◌/◌, ◌≤◌, ℕ, List, Some, Option, IfNone, IfSome, FitsSigned, w64}
 use Rattle.std.proofs.Common.{take, length, sym, subst, ◌∙◌, arith}
 use Rattle.std.specs.Prelude.{slice_get}
 use Rattle.std.proofs.lemmas.Bool.{false≢true}
