@@ -1,14 +1,10 @@
-pub mod Blackened
 pub mod Bytes
 pub mod ChangedParities
-pub mod CircleBounds
-pub mod CountedMarks
+pub mod DrawnSwaths
 pub mod DrawnTiles
 pub mod EdgeSpans
 pub mod Fields
 pub mod FigureColumns
-pub mod FiledContours
-pub mod FiledSegments
 pub mod Flashes
 pub mod GridBoxes
 pub mod GridLemmas
@@ -18,9 +14,11 @@ pub mod Joined
 pub mod JoinedCentres
 pub mod JoinedMarks
 pub mod JoinedWords
+pub mod LastFound
+pub mod Lattices
 pub mod LevelRows
-pub mod MarkedTiles
 pub mod MaskWords
+pub mod OpenedWords
 pub mod PaintedLists
 pub mod PaintedMasks
 pub mod PaintedTiles
@@ -28,6 +26,7 @@ pub mod PartlyDrawn
 pub mod PbmLemmas
 pub mod PictureLemmas
 pub mod Pictures
+pub mod PlainTiles
 pub mod PlotLemmas
 pub mod RowLists
 pub mod RowsInOrder
@@ -39,8 +38,6 @@ pub mod SeenRows
 pub mod ShapeHeights
 pub mod ShapeRows
 pub mod ShownItems
-pub mod ShownRegions
-pub mod SolidMasks
 pub mod SpanLemmas
 pub mod Stamps
 pub mod StepLemmas
@@ -49,6 +46,7 @@ pub mod SwathInks
 pub mod SwathTiles
 pub mod TableFacts
 pub mod TablePixels
+pub mod TakenInks
 pub mod TakenRuns
 pub mod TileCounts
 pub mod TileRowLemmas

@@ -4,7 +4,7 @@ use Rattle.std.proofs.Common.{refl, sym, ap, subst, ◌∙◌, inl, inr, arith, 
 use Rattle.std.proofs.lemmas.Bool.{cases_lt}
 use Rattle.std.proofs.lemmas.List.{ext_get_or, get_or-append_right, get_or-drop, get_or-take, get_or_append_left, length-take-le}
 use borrow.Rule.Slice.PartMut.{mid_of, put_mid, same_len_mid}
-use Rattle.cam_tiles.specs.Machinery.Blackened.{IsKeptOrDrawn, IsPartlyDrawn}
+use Rattle.cam_tiles.specs.Machinery.Drawn.{IsKeptOrDrawn, IsPartlyDrawn}
 use Rattle.cam_tiles.specs.Tables.{Tile, all_drawn_from}
 use Rattle.cam_tiles.proofs.TilesInOrder.{length-all_drawn_from, middle_length}
 
@@ -40,10 +40,6 @@ module _ (draw : ℕ → List ℕ) where
   get_or-all_drawn_from first (None ∷ tiles) (suc k) within =
       let there : first + 1 + k ≡ first + suc k = omega arith in
       get_or-all_drawn_from (first + 1) tiles k (omega arith) ∙ ap (λ n. drawn (draw n) (get_or tiles k None)) there
-
-  -- none of them
-  pub none_partly_drawn : (first : ℕ) (tiles : List Tile) → IsPartlyDrawn draw first tiles tiles
-  none_partly_drawn first tiles = record { size = refl; each = λ k within. inl refl }
 
   -- all of them
   pub all_partly_drawn : (first : ℕ) (old new : List Tile) → new ≡ all_drawn_from draw first old

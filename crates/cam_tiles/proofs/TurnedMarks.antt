@@ -21,7 +21,6 @@ use Rattle.cam_rows.specs.Runs.{AreEnds, AreRuns, IsInRun}
 use Rattle.cam_rows.proofs.MarkedColumns.{none_odd}
 use Rattle.cam_tiles.specs.declared.grid.Grid.{Grid}
 use Rattle.cam_tiles.specs.declared.masks.heights.Heights.{Heights}
-use Rattle.cam_tiles.specs.Machinery.Filing.{changes_at, corner_of, segment_of}
 use Rattle.cam_tiles.specs.Machinery.Levels.{IsOnRow, height, levels_of}
 use Rattle.cam_tiles.specs.Machinery.Masks.{IsWithin}
 use Rattle.cam_tiles.specs.Machinery.Turning.{AreWide, MarksCentres, TurnsCentres}
@@ -76,16 +75,6 @@ module _ (g : Grid) (columns : ℕ) where
   marked_inside c old new h = turns_like _ _ old new (λ s. inside_turned s c) h
 
   -- ---- segments
-
-  pub turned_at : (c : Contour) (k : ℕ) (here : Point) (seg : Seg) (old new : List ℕ) → here ≡ corner_of c k
-      → seg ≡ segment_of c k → TurnsCentres g columns (λ s. IsTrue (changes_side s here seg)) old new
-      → TurnsCentres g columns (λ s. IsTrue (changes_at c s k)) old new
-  turned_at c k here seg old new e f =
-      turns_like (λ s. IsTrue (changes_side s here seg)) (λ s. IsTrue (changes_at c s k)) old new
-      (λ s.
-      let same : changes_side s here seg ≡ changes_at c s k =
-      ap (λ p. changes_side s p seg) e ∙ ap (changes_side s (corner_of c k)) f in
-      ((λ t. sym same ∙ t), (λ t. same ∙ t)))
 
   pub curve_counted : (here to centre : Point) (ccw : Bool) (seg : Seg) (old between new : List ℕ)
       → seg ≡ Curve to centre ccw

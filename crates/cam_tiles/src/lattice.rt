@@ -20,7 +20,7 @@ impl Lattice {
         ensures each { (n : ℕ) → n < self.now.count → (n < result) ↔ ((pos n *ℤ self.now.step) ≤ℤ pos distance) }
         ensures few { result ≤ self.now.count }
     {
-        let steps = distance / self.step.unsigned_abs();
+        let steps = distance / self.step as u64;
         if steps >= u64::from(self.count) {
             return self.count;
         }

@@ -19,6 +19,7 @@ ghost use Rattle.cam_objects.specs.Canvases.{IsSoundFigure, IsSoundPrint, shape_
 ghost use Rattle.cam_objects.specs.Image.{Covers};
 ghost use Rattle.cam_objects.specs.Tests.{is_black};
 ghost use Rattle.cam_tiles.specs.Machinery.Figures.{LiesWithin};
+ghost use Rattle.cam_tiles.specs.declared.masks.join.Join.TheVariants.{Add};
 ghost use Rattle.cam_tiles.specs.Machinery.Masks.{AreMarksOf, IsBlank, IsIn, Joins};
 ghost use Rattle.cam_tiles.specs.Machinery.Shown.{IsReady, leaves_of};
 ghost use Rattle.cam_tiles.specs.Tiles.{IsGrid, centre_in, tile_rows};

@@ -1,6 +1,6 @@
 -- What is known of the pixels of tiles side by side that are painted from the last leaf on: which are decided, and which of
 -- these are dark.
-use Rattle.std.specs.Prelude.{◌≡◌, ◌⊎◌, ℕ, ◌+◌, ◌*◌, ◌/◌, ◌<◌, ◌≤◌, Bool, true, false, if◌then◌else◌, List, [], length, slice_index}
+use Rattle.std.specs.Prelude.{◌≡◌, ◌⊎◌, ℕ, ◌*◌, ◌/◌, ◌<◌, ◌≤◌, Bool, true, false, if◌then◌else◌, List, [], length, slice_index}
 use Rattle.std.specs.Prelude.{Option, None, Some, ◌&&◌, nat_lt, is_none, slice_index_or}
 use Rattle.std.specs.Option.{option_or}
 use Rattle.cam_rows.specs.Marks.{is_marked, is_set}

@@ -1,7 +1,7 @@
 //! What is known of the pixels of tiles side by side that are painted from the last leaf on: of the leaves that cover a
 //! pixel the first that comes decides it.
 
-ghost use Rattle.std.specs.Prelude.{◌≡◌, ◌+◌, ◌-◌, ◌*◌, ◌%◌, ◌<◌, ◌≤◌, ◌&&◌, not, ℕ, IsTrue, IfErr, OnOk, true, false};
+ghost use Rattle.std.specs.Prelude.{◌≡◌, ◌+◌, ◌-◌, ◌*◌, ◌%◌, ◌<◌, ◌≤◌, ◌⊎◌, ◌&&◌, not, ℕ, IsTrue, IfErr, OnOk, true, false};
 ghost use Rattle.std.specs.Prelude.{if◌then◌else◌, length, nat_le, nat_lt, replicate, slice_index};
 ghost use Rattle.std.specs.Option.{option_or};
 ghost use Rattle.cam_rows.specs.Marks.{is_marked, is_set};
@@ -52,7 +52,12 @@ impl Inks {
 
     /// Turns to tiles: those that are dirty are not decided in so many of the columns and rows, and all else is, as clear.
     /// Memory is asked for where it has not been yet.
-    pub(crate) fn turn_to(&mut self, tiles: &[Tile], columns: u32, rows: u32) -> Result<(), AllocError>
+    pub(crate) fn turn_to(
+        &mut self,
+        tiles: &[Tile],
+        columns: u32,
+        rows: u32,
+    ) -> Result<(), AllocError>
         requires few { length tiles.now ≤ 512 }
         requires rows { rows ≤ 64 }
         ensures open { OnOk result (AreOpen tiles.now columns rows self.new) }
@@ -151,7 +156,7 @@ impl Inks {
     /// Gives a polarity to what is not decided of the tiles from one on and before another, where marks say so: they begin
     /// at the first of these tiles.
     pub(crate) fn take_marked(&mut self, first: usize, end: usize, marks: &[u64], dark: bool)
-        requires some { first ≤ end }
+        requires some { first < end }
         requires end { end ≤ self.old.tiles }
         requires room { 64 * (end - first) ≤ length marks.now }
         ensures { Takes first end (λ row column. is_marked marks.now row (column - 64 * first)) dark self.old self.new }
@@ -213,11 +218,11 @@ fn open(decided: &mut [u64], tile: usize, columns: u32, rows: u32)
     requires few { tile < 512 }
     requires rows { rows ≤ 64 }
     ensures size { length decided.new ≡ length decided.old }
-    ensures words { (k : ℕ) → k < 64 * tile → slice_index decided.new k ≡ slice_index decided.old k }
-    ensures behind { (k : ℕ) → 64 * tile + 64 ≤ k → slice_index decided.new k ≡ slice_index decided.old k }
-    ensures each { (row i : ℕ) → row < 64 → i < 64 → is_marked decided.new row (64 * tile + i)
+    ensures each { (row i : ℕ) → row < 64 → i < 64 → is_set (slice_index decided.new (64 * tile + row)) i
         ≡ (if nat_lt row rows && nat_lt (64 * tile + i) columns then false
-        else is_marked decided.old row (64 * tile + i)) }
+        else is_set (slice_index decided.old (64 * tile + row)) i) }
+    ensures others { (k : ℕ) → (k < 64 * tile) ⊎ (64 * tile + 64 ≤ k)
+        → slice_index decided.new k ≡ slice_index decided.old k }
 {
     let first = 64 * tile;
     let bits = run_row(0, columns, first as u32, 64);

@@ -1,16 +1,12 @@
 //! Shapes whose centres are marked in the rows of tiles side by side.
 
-ghost use Rattle.std.specs.Prelude.{◌≡◌, ◌+◌, ◌-◌, ◌*◌, ◌/◌, ◌<◌, ◌≤◌, ◌∷◌, ℕ, [], length, slice_index};
+ghost use Rattle.std.specs.Prelude.{◌+◌, ◌*◌, ◌/◌, ◌≤◌, length};
 ghost use Rattle.cam_objects.specs.Image.{Covers};
-ghost use Rattle.cam_objects.specs.Leaves.{Shape, leaf};
-ghost use Rattle.cam_tiles.specs.declared.grid.Grid.{Grid};
+ghost use Rattle.cam_objects.specs.Leaves.{Shape};
 ghost use Rattle.cam_tiles.specs.Machinery.Runs.{IsWideGrid};
-
-ghost use Rattle.cam_tiles.specs.Machinery.Turning.{AreMarkedAt, HasTile, MarksCentres};
+ghost use Rattle.cam_tiles.specs.Machinery.Turning.{MarksCentres};
 
 use crate::grid::Grid;
-use crate::masks::join::Join;
-use crate::masks::mask::Mask;
 
 /// A shape whose centres are marked in the rows of tiles side by side, all of them at once.
 pub(crate) trait MarkShape {

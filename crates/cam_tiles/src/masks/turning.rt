@@ -2,28 +2,22 @@
 //! by marks that turn over the columns left of them.
 
 ghost use Rattle.std.specs.Prelude.{◌≡◌, ◌≢◌, ◌↔◌, ◌-◌, ◌<◌, ◌≤◌, ℕ, IsTrue, length};
-ghost use Rattle.std.specs.Int.{IsBitSet};
 ghost use Rattle.cam_units.specs.Board.{IsOnBoard};
 ghost use Rattle.cam_units.specs.declared.point.Spot.{Spot};
 ghost use Rattle.cam_shapes.specs.Cap.{IsSoundCap, is_in_cap};
-ghost use Rattle.cam_shapes.specs.Contour.{IsInContour, IsSoundSeg};
+ghost use Rattle.cam_shapes.specs.Contour.{IsSoundSeg};
 ghost use Rattle.cam_shapes.specs.Edge.{crosses_ray, edge, is_above};
 ghost use Rattle.cam_shapes.specs.Sides.{changes_side};
-ghost use Rattle.cam_objects.specs.Leaves.{Filled};
-ghost use Rattle.cam_rows.specs.Marks.{is_turned};
 ghost use Rattle.cam_tiles.specs.Machinery.Levels.{AreLevels, IsOnRow, levels_of};
-ghost use Rattle.cam_tiles.specs.Machinery.Masks.{turned_over};
-ghost use Rattle.cam_tiles.specs.Machinery.Runs.{IsWideGrid};
 ghost use Rattle.cam_tiles.specs.Machinery.Turning.{AreWide, IsField, TurnsCentres};
-ghost use Rattle.cam_tiles.specs.Tiles.{centre_in};
 
 use crate::grid::Grid;
 use crate::levels::Levels;
 use crate::masks::heights::HasHeights;
 use crate::masks::segments::crossed_heights;
 use crate::span::Span;
-use cam_rows::{Centres, cap_runs, edge_runs, mark_end, mark_ends, mark_runs, spread_marks};
-use cam_shapes::{Cap, Contour, Seg};
+use cam_rows::{Centres, cap_runs, edge_runs, mark_ends, mark_runs};
+use cam_shapes::{Cap, Seg};
 use cam_units::Point;
 
 /// Counts what a segment from a point changes.
