@@ -126,6 +126,7 @@ impl Raster {
 
     /// Draws dirty tiles, those of least number first: `at_most` of them, or all where there are fewer. Answers how
     /// many, and asks the painter once for each.
+    #[tactic(auto, using(crate::proofs::TileCounts::some_across))]
     pub fn redraw<P: Painter>(&mut self, painter: &mut P, at_most: u32) -> u32
         requires room { P.count painter.old + min at_most (dirty_count self.old) < 2 ^ 64 }
         ensures drawn { result ≡ min at_most (dirty_count self.old) }
