@@ -198,15 +198,6 @@ pub middle_length : (first end : ℕ) (tiles : List Tile) → first ≤ end → 
 middle_length first end tiles order within =
     length-take-le (end - first) (drop first tiles) (omega (arith, length-drop first tiles))
 
--- a list of tiles from one number on, before another and from there on
-pub split : (first end : ℕ) (tiles : List Tile) → first ≤ end → end ≤ length tiles
-    → drop first tiles ≡ mid_of first (end - first) tiles ++ drop end tiles
-split first end tiles order within =
-    let there : first + (end - first) ≡ end = omega arith in
-    sym (take-append-drop (end - first) (drop first tiles))
-    ∙ ap (λ rest. take (end - first) (drop first tiles) ++ rest)
-    (drop-drop (end - first) first tiles ∙ ap (λ n. drop n tiles) there)
-
 -- the tiles before one that are dirty, where none before another is
 module _ (start end : ℕ) (tiles : List Tile) (order : start ≤ end) (within : end ≤ length tiles)
     (clean : dirty (take start tiles) ≡ 0) where
