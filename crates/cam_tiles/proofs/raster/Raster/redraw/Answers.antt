@@ -26,13 +26,13 @@ invariant_of-self g c =
     × (dirty (take c.if-self-eq0.self (with_items raster.tiles c.draw_between.new.tiles).items) ≡ 0) =
     elim c.if-self-eq0.branch [
       | then-self-eq0 w ↦ (
-          omega (arith, w.self-is, w.len-self-inside.ensures, c.deref_mut.ensures.len, ap length was, told.size, ap length items),
-          clean_first _ c.if-self-eq0.self (sym counted ∙ w.if-self-eq0.true),
-        )
+        omega (arith, w.self-is, w.len-self-inside.ensures, c.deref_mut.ensures.len, ap length was, told.size, ap length items),
+        clean_first _ c.if-self-eq0.self (sym counted ∙ w.if-self-eq0.true),
+      )
       | else-self-eq0 w ↦ (
-          omega (arith, w.self-is, c.end_of_first-end.ensures.within, ap length c.deref-2.ensures.value, told.size, ap length items),
-          ap dirty (ap (take c.if-self-eq0.self) items ∙ ap (λ n. take n c.draw_between.new.tiles) w.self-is) ∙ told.clean,
-        )
+        omega (arith, w.self-is, c.end_of_first-end.ensures.within, ap length c.deref-2.ensures.value, told.size, ap length items),
+        ap dirty (ap (take c.if-self-eq0.self) items ∙ ap (λ n. take n c.draw_between.new.tiles) w.self-is) ∙ told.clean,
+      )
     ] in
     record {
       table = record {
