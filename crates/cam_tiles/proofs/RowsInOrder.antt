@@ -1,5 +1,5 @@
 -- Rows of tiles, one after another, in a list of tiles from the left end of a row on.
-use Rattle.std.proofs.Common.{◌≡◌, ◌+◌, ◌-◌, ◌*◌, ◌/◌, ◌%◌, ◌<◌, ◌≤◌, ℕ, inl, inr, true, List, length, min, ap, sym, subst, ◌∙◌, arith}
+use Rattle.std.proofs.Common.{◌≡◌, ◌+◌, ◌-◌, ◌*◌, ◌/◌, ◌%◌, ◌<◌, ◌≤◌, ℕ, inl, inr, true, List, length, min, ap, ◌∙◌, arith}
 use Rattle.std.proofs.lemmas.Bool.{cases_lt}
 use Rattle.std.proofs.Math.Nat.{add-mul-mod_self_right}
 use Rattle.std.proofs.lemmas.Nat.{mul-le}
@@ -54,5 +54,5 @@ row_there w first tiles size row wide end accepted is left same few under last =
         fits = omega (arith, long, is, last);
         within = omega (arith, long, few, last);
       };
-      drawn = λ draw part. part_partly_drawn draw first start end tiles part order within;
+      drawn = λ draw part. part_partly_drawn draw first start (end - start) tiles part (omega (arith, order, within));
     }

@@ -3,7 +3,7 @@ use Rattle.std.proofs.Common.{◌≡◌, ℕ, suc, ◌+◌, ◌-◌, ◌<◌, �
 use Rattle.std.proofs.Common.{Some, None, Bool, true, false, not, is_none, is_some, cond, refl, sym, ap, subst, ◌∙◌, append_assoc, arith}
 use Rattle.std.specs.List.{All}
 use Rattle.std.proofs.lemmas.Bool.{false≢true, true≢false}
-use Rattle.std.proofs.lemmas.List.{append-nil, drop_all, drop_more, drop-drop, drop-set-lt, get_or-drop, length-take-le, take-append-drop, take_all}
+use Rattle.std.proofs.lemmas.List.{append-nil, drop_all, drop_more, drop-drop, drop-set-lt, get_or-drop, length-take-le, take_all}
 use Rattle.std.proofs.lemmas.List.{take_more, take_more_set}
 use Rattle.std.proofs.lemmas.List.Elements.{All-cons, All-nil}
 use Rattle.std.proofs.lemmas.List.Sums.{sum_by-append}
@@ -197,15 +197,6 @@ pub middle_length : (first end : ℕ) (tiles : List Tile) → first ≤ end → 
     → length (mid_of first (end - first) tiles) ≡ end - first
 middle_length first end tiles order within =
     length-take-le (end - first) (drop first tiles) (omega (arith, length-drop first tiles))
-
--- a list of tiles from one number on, before another and from there on
-pub split : (first end : ℕ) (tiles : List Tile) → first ≤ end → end ≤ length tiles
-    → drop first tiles ≡ mid_of first (end - first) tiles ++ drop end tiles
-split first end tiles order within =
-    let there : first + (end - first) ≡ end = omega arith in
-    sym (take-append-drop (end - first) (drop first tiles))
-    ∙ ap (λ rest. take (end - first) (drop first tiles) ++ rest)
-    (drop-drop (end - first) first tiles ∙ ap (λ n. drop n tiles) there)
 
 -- the tiles before one that are dirty, where none before another is
 module _ (start end : ℕ) (tiles : List Tile) (order : start ≤ end) (within : end ≤ length tiles)
