@@ -16,7 +16,6 @@ pub mod JoinedMarks
 pub mod JoinedWords
 pub mod Lattices
 pub mod LevelRows
-pub mod MarkedTiles
 pub mod MaskWords
 pub mod OpenedWords
 pub mod PaintedLists
