@@ -77,8 +77,14 @@ word_taken decided dark bits ink i fits small near =
     let less : new < 2 ^ 64 = omega (arith, and_le_l bits (2 ^ 64 - 1 - decided), small) in
     let now : is_set new i ≡ (is_set bits i && not (is_set decided i)) =
     set_in_both bits (2 ^ 64 - 1 - decided) i ∙ ap (λ b. is_set bits i && b) (set_in_rest decided i fits near) in
-    rw (set_in_either decided new i, set_in_either (bit_and dark (2 ^ 64 - 1 - new)) (bit_and new ink) i,
-    set_in_both dark (2 ^ 64 - 1 - new) i, set_in_both new ink i, set_in_rest new i less near, now)
+    rw (
+      set_in_either decided new i,
+      set_in_either (bit_and dark (2 ^ 64 - 1 - new)) (bit_and new ink) i,
+      set_in_both dark (2 ^ 64 - 1 - new) i,
+      set_in_both new ink i,
+      set_in_rest new i less near,
+      now,
+    )
     (taken (is_set decided i) (is_set dark i) (is_set bits i) (is_set ink i))
 
 -- ---- words side by side
@@ -100,8 +106,14 @@ pub next_taken : (ink : Bool) (bits old_decided old_dark : List ℕ) (k : ℕ) (
 next_taken ink bits old_decided old_dark k decided dark word other all before inside within here inked = record {
   done = λ j i early small. elim (cases_eq j k) [
     | inl same ↦
-        rw (same, get_or-set_same decided k word 0 inside, get_or-set_same dark k other 0 within,
-        ← before.later k (omega arith), ← before.later_dark k (omega arith), ← inked i small) (here i small)
+        rw (
+          same,
+          get_or-set_same decided k word 0 inside,
+          get_or-set_same dark k other 0 within,
+          ← before.later k (omega arith),
+          ← before.later_dark k (omega arith),
+          ← inked i small,
+        ) (here i small)
     | inr apart ↦
         rw (get_or-set_other decided k j word 0 apart, get_or-set_other dark k j other 0 apart)
         (before.done j i (omega (arith, early, apart)) small)

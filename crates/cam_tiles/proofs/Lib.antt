@@ -38,7 +38,6 @@ pub mod SeenRows
 pub mod ShapeHeights
 pub mod ShapeRows
 pub mod ShownItems
-pub mod SolidMasks
 pub mod SpanLemmas
 pub mod Stamps
 pub mod StepLemmas
@@ -46,10 +45,10 @@ pub mod SwathLayouts
 pub mod SwathRows
 pub mod TableFacts
 pub mod TablePixels
+pub mod TakenInks
 pub mod TakenRuns
 pub mod TileCounts
 pub mod TileRowLemmas
-pub mod TakenInks
 pub mod TilesInOrder
 pub mod TouchedTiles
 pub mod TurnedBands

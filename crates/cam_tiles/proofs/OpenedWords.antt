@@ -57,8 +57,12 @@ next_opened tile columns row bits column k old new before low left is fits room 
   done = λ r i early small. elim (cases_eq r row) [
     | inl same ↦
         let place : 64 * tile + r ≡ k = omega (arith, same, is) in
-        rw (place, get_or-set_same new k _ 0 (omega (arith, is, low, room, before.size)),
-        ← before.others k (inr (omega (arith, is))), ← left)
+        rw (
+          place,
+          get_or-set_same new k _ 0 (omega (arith, is, low, room, before.size)),
+          ← before.others k (inr (omega (arith, is))),
+          ← left,
+        )
         (set_in_both (slice_index new k) (2 ^ 64 - 1 - bits) i
         ∙ ap (λ b. is_set (slice_index new k) i && b)
         (set_in_rest bits i fits small ∙ ap not (run_set bits column columns i (run i small) small))

@@ -149,10 +149,16 @@ module _ (s : Inside) (from to : ℕ) (bits decided dark words others : List ℕ
   words_taken = record {
     tiles = refl;
     each = λ k i after until small.
-        rw (now, now_dark, ← w.lent, ← w.lent_dark, in_part from to words decided w.some long size k after until,
-        in_part from to others dark w.some long_dark size_dark k after until,
-        ← of_part from to words decided w.some long size k after until,
-        ← of_part from to others dark w.some long_dark size_dark k after until)
+        rw (
+          now,
+          now_dark,
+          ← w.lent,
+          ← w.lent_dark,
+          in_part from to words decided w.some long size k after until,
+          in_part from to others dark w.some long_dark size_dark k after until,
+          ← of_part from to words decided w.some long size k after until,
+          ← of_part from to others dark w.some long_dark size_dark k after until,
+        )
         (w.each (k - from) i (omega (arith, part, after, until)) small);
     decided = λ k apart. rw (now, ← w.lent) (elim apart [
       | inl early ↦ before_part from to words decided w.some long size k early

@@ -52,7 +52,12 @@ impl Inks {
 
     /// Turns to tiles: those that are dirty are not decided in so many of the columns and rows, and all else is, as clear.
     /// Memory is asked for where it has not been yet.
-    pub(crate) fn turn_to(&mut self, tiles: &[Tile], columns: u32, rows: u32) -> Result<(), AllocError>
+    pub(crate) fn turn_to(
+        &mut self,
+        tiles: &[Tile],
+        columns: u32,
+        rows: u32,
+    ) -> Result<(), AllocError>
         requires few { length tiles.now ≤ 512 }
         requires rows { rows ≤ 64 }
         ensures open { OnOk result (AreOpen tiles.now columns rows self.new) }

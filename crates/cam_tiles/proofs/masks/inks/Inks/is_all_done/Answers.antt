@@ -41,9 +41,9 @@ loop-tile-smaller c =
 -- it is seen as it was
 same_view : (c : goal.After-self-1) → inked_of c.self-2.inside ≡ c.args.self.now
 same_view c = c.self-2.view_is ∙ elim c.loop-tile-test.branch [
-    | then-loop-tile-test+else-is_done w ↦ w.self-is ∙ w.is_done.ensures.kept ∙ c.loop-tile.invariant.same
-    | else-loop-tile-test w ↦ w.self-is ∙ c.loop-tile.invariant.same
-  ]
+  | then-loop-tile-test+else-is_done w ↦ w.self-is ∙ w.is_done.ensures.kept ∙ c.loop-tile.invariant.same
+  | else-loop-tile-test w ↦ w.self-is ∙ c.loop-tile.invariant.same
+]
 
 pub invariant_of-self : goal.invariant_of-self
 invariant_of-self c =

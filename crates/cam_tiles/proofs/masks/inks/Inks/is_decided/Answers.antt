@@ -14,8 +14,16 @@ loop-row-preserved c = λ row column after until from to here. elim (cases_eq ro
       let i = column % 64 in
       let place : 64 * tile + i ≡ column = omega (arith, here) in
       let small : i < 64 = omega arith in
-      let within : 64 * tile + c.loop-row.row < length s.decided.items = omega (arith, place, to, c.requires.columns,
-      ap (λ (k : Inked). k.tiles) c.self.view_is, c.self.invariant.decided, c.loop-row-test.true, c.requires.rows) in
+      let within : 64 * tile + c.loop-row.row < length s.decided.items = omega (
+        arith,
+        place,
+        to,
+        c.requires.columns,
+        ap (λ (k : Inked). k.tiles) c.self.view_is,
+        c.self.invariant.decided,
+        c.loop-row-test.true,
+        c.requires.rows,
+      ) in
       let read = get_or_read s.decided.items _ _ within c.index-in-loop-row.ensures 0 in
       let bit = (c.run_row-bits.ensures i small).1 (small, (omega (arith, place, from), omega (arith, place, to))) in
       subst (λ (k : Inked). is_marked k.decided row column ≡ true) c.self.view_is (rw (here, same)

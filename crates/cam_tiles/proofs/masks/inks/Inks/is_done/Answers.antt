@@ -22,7 +22,7 @@ known_rows-requires-clause-rows c =
     let known = c.self.invariant.known tile inside in
     let same = get_or_read s.known.items _ _ (omega (arith, inside, c.self.invariant.each)) c.index.ensures 0 in
     λ row i low. rw c.deref.ensures.value
-        (known_of s.decided.items tile (slice_index s.known.items tile) known.0 known.1 row i (omega (arith, low, same)))
+    (known_of s.decided.items tile (slice_index s.known.items tile) known.0 known.1 row i (omega (arith, low, same)))
 
 -- the rows that are known now
 now_known : (c : goal.After-row_known-2-1) → AreKnown c.self.inside.decided.items c.args.tile c.known_rows.result

@@ -29,7 +29,11 @@ returns-clause-each c = λ row i low small.
     let own : (64 * tile + i) / 64 ≡ tile = omega arith in
     let column : (64 * tile + i) % 64 ≡ i = omega arith in
     rw (own, column) (subst (λ (k : Inked). is_set (slice_index c.loop-row.rows row) i
-        ≡ (is_set (slice_index k.decided (64 * tile + row)) i && is_set (slice_index k.dark (64 * tile + row)) i)) c.self.view_is
-    (rw (← tile_part s.decided.items tile row low, ← tile_part s.dark.items tile row low,
-    ← c.deref.ensures.value, ← c.deref-2.ensures.value)
+    ≡ (is_set (slice_index k.decided (64 * tile + row)) i && is_set (slice_index k.dark (64 * tile + row)) i)) c.self.view_is
+    (rw (
+      ← tile_part s.decided.items tile row low,
+      ← tile_part s.dark.items tile row low,
+      ← c.deref.ensures.value,
+      ← c.deref-2.ensures.value,
+    )
     (c.loop-row.invariant.done row i (omega (arith, low, c.loop-row-test.false)) small)))
