@@ -1,6 +1,6 @@
 -- Edges by their ends: the heights that they cross, and places of which both ends lie on one side.
 use Rattle.std.proofs.Common.{◌≡◌, ◌≢◌, ◌↔◌, ℤ, pos, ◌-ℤ◌, ◌*ℤ◌, ◌≤ℤ◌, ◌<◌}
-use Rattle.std.proofs.Common.{Bool, true, false, IsTrue, if◌then◌else◌, refl, sym, ap, ◌∙◌, arith}
+use Rattle.std.proofs.Common.{Bool, true, false, IsTrue, if◌then◌else◌, sym, ap, ◌∙◌, arith}
 use Rattle.std.specs.Int.{int_max, int_min}
 use Rattle.std.specs.Int.RustNames.{int_lt, unsigned_abs}
 use Rattle.std.proofs.lemmas.Bool.{false≢true}

@@ -25,7 +25,7 @@ use Rattle.cam_tiles.specs.declared.masks.figure_runs.FigureRuns.{FigureRuns}
 use Rattle.cam_tiles.specs.declared.span.Span.{Span}
 use Rattle.cam_tiles.specs.Machinery.Masks.{IsWithin}
 use Rattle.cam_tiles.specs.Machinery.Runs.{Fits, HasColumn, IsClear, Tells}
-use Rattle.cam_tiles.specs.Machinery.Figures.{AllFit, HasPart, TellsFigure}
+use Rattle.cam_tiles.specs.Machinery.Figures.{HasPart, TellsFigure}
 use Rattle.cam_tiles.specs.Tiles.{centre_in}
 use Rattle.cam_tiles.proofs.RunColumns.{tells_nothing}
 

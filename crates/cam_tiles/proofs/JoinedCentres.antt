@@ -1,12 +1,12 @@
 -- Centres in the rows of tiles that are joined: those of an outline, by marks, in a part of the tiles.
 use Rattle.std.proofs.Common.{◌≡◌, ◌↔◌, ℕ, ◌+◌, ◌-◌, ◌*◌, ◌/◌, ◌%◌, ◌<◌, ◌≤◌, IsTrue, List, ◌++◌, length, slice_index, min}
-use Rattle.std.proofs.Common.{ap, subst, rules, arith}
+use Rattle.std.proofs.Common.{rules, arith}
 use Rattle.std.proofs.lemmas.List.{get_or_append_left, places}
 use borrow.Rule.Slice.PartMut.{mid_of, put_mid}
 use Rattle.cam_units.specs.declared.point.Point.{Point}
 use Rattle.cam_units.specs.declared.point.Spot.{Spot}
 use Rattle.cam_objects.specs.Image.{relative}
-use Rattle.cam_rows.specs.Marks.{is_marked, is_set}
+use Rattle.cam_rows.specs.Marks.{is_marked}
 use Rattle.cam_tiles.specs.declared.grid.Grid.{Grid}
 use Rattle.cam_tiles.specs.declared.masks.join.Join.{Join}
 use Rattle.cam_tiles.specs.Machinery.Masks.{joined}
@@ -50,17 +50,17 @@ marks_kept g columns P part rest few wide told column row near within =
 
 module _ (first end : ℕ) (old part : List ℕ) (some : first < end) (long : end ≤ length old)
     (size : length part ≡ end - first) where
-  before_part : (k : ℕ) → k < first → slice_index (put_mid first (end - first) old part) k ≡ slice_index old k
+  pub before_part : (k : ℕ) → k < first → slice_index (put_mid first (end - first) old part) k ≡ slice_index old k
   before_part k early = search (rules, places)
 
-  behind_part : (k : ℕ) → end ≤ k → slice_index (put_mid first (end - first) old part) k ≡ slice_index old k
+  pub behind_part : (k : ℕ) → end ≤ k → slice_index (put_mid first (end - first) old part) k ≡ slice_index old k
   behind_part k late = search (rules, places)
 
-  in_part : (k : ℕ) → first ≤ k → k < end
+  pub in_part : (k : ℕ) → first ≤ k → k < end
       → slice_index (put_mid first (end - first) old part) k ≡ slice_index part (k - first)
   in_part k after until = search (rules, places)
 
-  of_part : (k : ℕ) → first ≤ k → k < end → slice_index (mid_of first (end - first) old) (k - first) ≡ slice_index old k
+  pub of_part : (k : ℕ) → first ≤ k → k < end → slice_index (mid_of first (end - first) old) (k - first) ≡ slice_index old k
   of_part k after until = search (rules, places)
 
 module _ (g : Grid) (columns : ℕ) (how : Join) (at : Point) (tile end past : ℕ) (P : Spot → Type 0)
@@ -102,5 +102,5 @@ module _ (g : Grid) (columns : ℕ) (how : Join) (at : Point) (tile end past : �
           ← of_part (64 * tile) (64 * end) old new (omega (arith, some)) long size k from inside,
         ) (rw (there, bit) at here))
         (λ late. kept column row (λ on. omega (arith, (held column row near below on).1, late))
-        (behind_part (64 * tile) (64 * end) old new (omega (arith, some)) long size k (omega (arith, late)))) ;
+        (behind_part (64 * tile) (64 * end) old new (omega (arith, some)) long size k (omega (arith, late))));
   }

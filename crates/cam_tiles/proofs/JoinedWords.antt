@@ -1,6 +1,6 @@
 -- Words of tiles side by side that are joined, one after another.
 use Rattle.std.proofs.Common.{◌≡◌, ◌↔◌, ℕ, ◌+◌, ◌-◌, ◌*◌, ◌/◌, ◌%◌, ◌<◌, ◌≤◌, ◌⊎◌, IsTrue, List, length, slice_index, slice_set, min}
-use Rattle.std.proofs.Common.{get_or-set_other, get_or-set_same, ap, inl, inr, arith}
+use Rattle.std.proofs.Common.{get_or-set_other, get_or-set_same, inl, inr, arith}
 use Rattle.std.specs.Int.{IsBitSet}
 use Rattle.std.proofs.lemmas.Bool.{cases_eq, cases_lt, eq-eqb, eqb-true}
 use Rattle.std.proofs.lemmas.List.{get_or_past}

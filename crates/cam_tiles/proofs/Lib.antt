@@ -9,13 +9,15 @@ pub mod Flashes
 pub mod GridBoxes
 pub mod GridLemmas
 pub mod Indexed
+pub mod InkWords
 pub mod Joined
 pub mod JoinedCentres
 pub mod JoinedMarks
 pub mod JoinedWords
+pub mod Lattices
 pub mod LevelRows
-pub mod MarkedTiles
 pub mod MaskWords
+pub mod OpenedWords
 pub mod PaintedLists
 pub mod PaintedMasks
 pub mod PaintedSwaths
@@ -36,7 +38,6 @@ pub mod SeenRows
 pub mod ShapeHeights
 pub mod ShapeRows
 pub mod ShownItems
-pub mod SolidMasks
 pub mod SpanLemmas
 pub mod Stamps
 pub mod StepLemmas
@@ -44,6 +45,7 @@ pub mod SwathLayouts
 pub mod SwathRows
 pub mod TableFacts
 pub mod TablePixels
+pub mod TakenInks
 pub mod TakenRuns
 pub mod TileCounts
 pub mod TileRowLemmas

@@ -1,6 +1,6 @@
 -- Columns of runs, by the bits of masks.
 use Rattle.std.proofs.Common.{◌≡◌, ◌↔◌, ℕ, ◌+◌, ◌-◌, ◌<◌, ◌≤◌, ℤ, pos, ◌+ℤ◌, ◌-ℤ◌, ◌*ℤ◌, ◌≤ℤ◌}
-use Rattle.std.proofs.Common.{List, length, slice_index, inl, inr, subst, zero-add, arith}
+use Rattle.std.proofs.Common.{List, length, slice_index, inl, inr, arith}
 use Rattle.std.proofs.lemmas.Bool.{cases_lt}
 use borrow.Rule.Slice.PartMut.{put_mid}
 use Rattle.cam_units.specs.Board.{IsOnBoard}
@@ -14,24 +14,13 @@ use Rattle.cam_rows.specs.Rows.{centre_at, row_below}
 use Rattle.cam_rows.specs.Runs.{AreWideRows, IsInRun}
 use Rattle.cam_tiles.specs.declared.grid.Grid.{Grid}
 use Rattle.cam_tiles.specs.declared.masks.heights.Heights.{Heights}
-use Rattle.cam_tiles.specs.declared.masks.join.Join.{Join}
 use Rattle.cam_tiles.specs.declared.masks.runs.Runs.{Runs}
 use Rattle.cam_tiles.specs.Machinery.Levels.{height, levels_of}
-use Rattle.cam_tiles.specs.Machinery.Masks.{IsIn, IsMarked, IsWithin, Joins, Marking, joined}
-use Rattle.cam_tiles.specs.Machinery.Runs.{Fits, HasColumn, IsClear, IsWideGrid, Tells}
-use Rattle.cam_tiles.specs.Tiles.{IsGrid, centre_in}
-use Rattle.cam_tiles.proofs.Joined.{joined_like}
+use Rattle.cam_tiles.specs.Machinery.Masks.{IsWithin}
+use Rattle.cam_tiles.specs.Machinery.Runs.{Fits, IsClear, IsWideGrid, Tells}
+use Rattle.cam_tiles.specs.Tiles.{centre_in}
 use Rattle.cam_tiles.proofs.SeenRows.{in_reach}
 use Rattle.cam_tiles.proofs.TurnedBands.{below_seen, part_at}
-
--- a row of the band
-pub in_band : (r : Runs) (row column : ℕ) (B P : Type 0) → r.band.first ≤ row → row < r.band.end
-    → B ↔ (P × IsInRun (slice_index r.firsts row) (slice_index r.ends row) column)
-    → B ↔ (P × HasColumn r row column)
-in_band r row column B P after until told = (
-  (λ b. let both = told.0 b in (both.0, (after, until, both.1))),
-  (λ both. told.1 (both.0, both.1.2)),
-)
 
 -- ---- runs in the rows of a grid
 

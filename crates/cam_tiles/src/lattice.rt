@@ -1,6 +1,6 @@
 //! Places at equal distances in a line.
 
-ghost use Rattle.std.specs.Prelude.{◌≡◌, ◌↔◌, ◌<◌, ◌≤◌, ℕ, pos, ◌+ℤ◌, ◌*ℤ◌, ◌≤ℤ◌, ◌<ℤ◌};
+ghost use Rattle.std.specs.Prelude.{◌≡◌, ◌↔◌, ◌<◌, ◌≤◌, ℕ, pos, ◌+ℤ◌, ◌*ℤ◌, ◌≤ℤ◌};
 ghost use Rattle.cam_tiles.specs.Machinery.Lattices.{place_at};
 
 use crate::span::Span;
@@ -14,16 +14,13 @@ pub(crate) struct Lattice {
 }
 
 impl Lattice {
-    /// How many of them are less than a place.
-    fn before(&self, place: i64) -> u32
+    /// How many of them lie so far from the first one at most.
+    fn within(&self, distance: u64) -> u32
         requires { pos 1 ≤ℤ self.now.step }
-        ensures each { (n : ℕ) → n < self.now.count → (n < result) ↔ (place_at self.now n <ℤ place) }
+        ensures each { (n : ℕ) → n < self.now.count → (n < result) ↔ ((pos n *ℤ self.now.step) ≤ℤ pos distance) }
         ensures few { result ≤ self.now.count }
     {
-        if place <= self.first {
-            return 0;
-        }
-        let steps = (place.abs_diff(self.first) - 1) / self.step.unsigned_abs();
+        let steps = distance / self.step as u64;
         if steps >= u64::from(self.count) {
             return self.count;
         }
@@ -37,15 +34,16 @@ impl Lattice {
             ↔ ((low ≤ℤ place_at self.now n) × (place_at self.now n ≤ℤ high)) }
         ensures few { result.end ≤ self.now.count }
     {
-        if high == i64::MAX {
-            return Span {
-                first: self.before(low),
-                end: self.count,
-            };
+        if high < self.first {
+            return Span::NONE;
+        }
+        let end = self.within(high.abs_diff(self.first));
+        if low <= self.first {
+            return Span { first: 0, end };
         }
         Span {
-            first: self.before(low),
-            end: self.before(high + 1),
+            first: self.within(low.abs_diff(self.first) - 1),
+            end,
         }
     }
 }

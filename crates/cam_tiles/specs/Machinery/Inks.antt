@@ -1,9 +1,9 @@
 -- What is known of the pixels of tiles side by side that are painted from the last leaf on: which are decided, and which of
 -- these are dark.
-use Rattle.std.specs.Prelude.{◌≡◌, ◌⊎◌, ℕ, ◌+◌, ◌*◌, ◌/◌, ◌<◌, ◌≤◌, Bool, true, false, if◌then◌else◌, List, [], length, slice_index}
+use Rattle.std.specs.Prelude.{◌≡◌, ◌⊎◌, ℕ, ◌*◌, ◌/◌, ◌<◌, ◌≤◌, Bool, true, false, if◌then◌else◌, List, [], length, slice_index}
 use Rattle.std.specs.Prelude.{Option, None, Some, ◌&&◌, nat_lt, is_none, slice_index_or}
 use Rattle.std.specs.Option.{option_or}
-use Rattle.cam_rows.specs.Marks.{is_marked}
+use Rattle.cam_rows.specs.Marks.{is_marked, is_set}
 use Rattle.cam_tiles.specs.declared.masks.inks.Inks.TheInside.{Inside}
 use Rattle.cam_tiles.specs.Tables.{Tile}
 
@@ -16,6 +16,10 @@ pub record Inked : Type 0 where
 -- the ink of a column in a row, once it is decided
 abbrev pub ink_at : Inked → ℕ → ℕ → Option Bool
 ink_at k row column = if is_marked k.decided row column then Some (is_marked k.dark row column) else None
+
+-- the ink of a bit of two words
+abbrev pub ink_of : ℕ → ℕ → ℕ → Option Bool
+ink_of decided dark i = if is_set decided i then Some (is_set dark i) else None
 
 -- the polarity of a leaf, where it covers a place
 abbrev pub given : Bool → Bool → Option Bool
@@ -38,10 +42,10 @@ abbrev pub is_open : List Tile → ℕ → ℕ → ℕ → ℕ → Bool
 is_open tiles columns rows row column =
     nat_lt row rows && (nat_lt column columns && is_none (slice_index_or tiles (column / 64) (Some [])))
 
-pub record AreOpen (old : List Tile) (columns rows : ℕ) (k : Inked) : Type 0 where
-  pub tiles : k.tiles ≡ length old
+pub record AreOpen (those : List Tile) (columns rows : ℕ) (k : Inked) : Type 0 where
+  pub tiles : k.tiles ≡ length those
   pub each : (row column : ℕ) → row < 64 → column < 64 * k.tiles
-      → ink_at k row column ≡ (if is_open old columns rows row column then None else Some false)
+      → ink_at k row column ≡ (if is_open those columns rows row column then None else Some false)
 
 -- ---- what is kept
 

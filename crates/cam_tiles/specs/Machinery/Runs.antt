@@ -1,4 +1,4 @@
--- Runs of columns in the rows of masks side by side.
+-- Runs of columns in the rows of tiles side by side.
 use Rattle.std.specs.Prelude.{◌≡◌, ◌↔◌, ℕ, ◌+◌, ◌<◌, ◌≤◌, slice_index}
 use Rattle.cam_units.specs.Board.{IsPlace}
 use Rattle.cam_units.specs.declared.point.Spot.{Spot}

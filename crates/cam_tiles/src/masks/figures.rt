@@ -1,17 +1,16 @@
-//! Figures, painted on masks side by side: strokes and flashes by their runs.
+//! Strokes and flashes, as figures whose runs are known.
 
-ghost use Rattle.std.specs.Prelude.{◌≡◌, ◌*◌, ◌<◌, ◌≤◌, ℕ, MatchOption, ◌∷◌, [], length, slice_index};
+ghost use Rattle.std.specs.Prelude.{◌≡◌, MatchOption};
 ghost use Rattle.cam_apertures.specs.Cover.{disc};
 ghost use Rattle.cam_apertures.specs.Soundness.{IsSoundAperture};
-ghost use Rattle.cam_objects.specs.Canvases.{IsSoundFigure, IsSoundPrint, leaf_of, shape_of};
+ghost use Rattle.cam_objects.specs.Canvases.{IsSoundFigure, shape_of};
 ghost use Rattle.cam_objects.specs.Image.{Covers};
-ghost use Rattle.cam_tiles.specs.Machinery.Figures.{IsComposed, IsFlashOf, IsMacro, IsPlacedFor, IsToldAt, LiesWithin};
+ghost use Rattle.cam_tiles.specs.Machinery.Figures.{IsComposed, IsFlashOf, IsMacro, IsPlacedFor, LiesWithin};
 
-use crate::masks::figure_runs::FigureRuns;
 use crate::masks::heights::Heights;
-use crate::masks::mask::{Mask, ORIGIN};
+use crate::masks::mask::ORIGIN;
 use cam_apertures::{Aperture, turned_height, turned_width};
-use cam_objects::{Figure, Print};
+use cam_objects::Figure;
 use cam_rows::Hole;
 use cam_shapes::{Arc, Capsule, Disc, Obround, Rectangle, Swept};
 use cam_units::{Nm, Point, Turn};

@@ -1,10 +1,11 @@
 //! What is known of the pixels of tiles side by side that are painted from the last leaf on: of the leaves that cover a
 //! pixel the first that comes decides it.
 
-ghost use Rattle.std.specs.Prelude.{◌≡◌, ◌+◌, ◌-◌, ◌*◌, ◌%◌, ◌<◌, ◌≤◌, ◌&&◌, ◌||◌, not, ℕ, IsTrue, IfErr, OnOk, true, false};
-ghost use Rattle.std.specs.Prelude.{if◌then◌else◌, length, nat_le, nat_lt, slice_index};
+ghost use Rattle.std.specs.Prelude.{◌≡◌, ◌+◌, ◌-◌, ◌*◌, ◌%◌, ◌<◌, ◌≤◌, ◌⊎◌, ◌&&◌, not, ℕ, IsTrue, IfErr, OnOk, true, false};
+ghost use Rattle.std.specs.Prelude.{if◌then◌else◌, length, nat_le, nat_lt, replicate, slice_index};
+ghost use Rattle.std.specs.Option.{option_or};
 ghost use Rattle.cam_rows.specs.Marks.{is_marked, is_set};
-ghost use Rattle.cam_tiles.specs.Machinery.Inks.{AreOpen, IsDoneTile, Takes};
+ghost use Rattle.cam_tiles.specs.Machinery.Inks.{AreOpen, IsDoneTile, Takes, given, ink_of, is_open};
 
 use crate::painter::Tile;
 use crate::span::Span;
@@ -51,27 +52,23 @@ impl Inks {
 
     /// Turns to tiles: those that are dirty are not decided in so many of the columns and rows, and all else is, as clear.
     /// Memory is asked for where it has not been yet.
-    pub(crate) fn turn_to(&mut self, tiles: &[Tile], columns: u32, rows: u32) -> Result<(), AllocError>
+    pub(crate) fn turn_to(
+        &mut self,
+        tiles: &[Tile],
+        columns: u32,
+        rows: u32,
+    ) -> Result<(), AllocError>
         requires few { length tiles.now ≤ 512 }
         requires rows { rows ≤ 64 }
         ensures open { OnOk result (AreOpen tiles.now columns rows self.new) }
         ensures none { IfErr result (λ _. self.new.tiles ≡ 0) }
     {
         self.clear();
-        let words = 64 * tiles.len();
-        grow(&mut self.decided, words)?;
-        grow(&mut self.dark, words)?;
-        if self.known.len() < tiles.len() {
-            self.known.resize(tiles.len(), 0)?;
-        }
-        self.decided[..words].fill(u64::MAX);
-        self.dark[..words].fill(0);
-        self.known[..tiles.len()].fill(0);
-        for tile in 0..tiles.len() {
-            if tiles[tile].is_none() {
-                open(&mut self.decided, tile, columns, rows);
-            }
-        }
+        refill(&mut self.decided, 64 * tiles.len(), u64::MAX)?;
+        refill(&mut self.dark, 64 * tiles.len(), 0)?;
+        self.known.clear();
+        self.known.resize(tiles.len(), 0)?;
+        open_dirty(&mut self.decided, tiles, columns, rows);
         self.tiles = tiles.len();
         Ok(())
     }
@@ -107,10 +104,12 @@ impl Inks {
         ensures kept { self.new ≡ self.old }
         ensures done { IsTrue result → (tile : ℕ) → tile < self.old.tiles → IsDoneTile self.old tile }
     {
-        while self.done < self.tiles && self.is_done(self.done) {
-            self.done += 1;
+        let mut tile = self.done;
+        while tile < self.tiles && self.is_done(tile) {
+            tile += 1;
         }
-        self.done == self.tiles
+        self.done = tile;
+        tile == self.tiles
     }
 
     /// Whether all columns of a span are decided in some rows.
@@ -142,27 +141,32 @@ impl Inks {
         ensures { Takes tile (tile + 1) (λ row column. nat_le rows.first row && nat_lt row rows.end
             && is_set (slice_index bits.now row) (column % 64)) dark self.old self.new }
     {
-        let first = 64 * tile;
-        let ink = if dark { u64::MAX } else { 0 };
-        for row in rows.first as usize..rows.end as usize {
-            let k = first + row;
-            take_word(&mut self.decided[k], &mut self.dark[k], bits[row], ink);
+        if rows.end <= rows.first {
+            return;
         }
+        let (low, high) = (rows.first as usize, rows.end as usize);
+        take_words(
+            &mut self.decided[64 * tile + low..64 * tile + high],
+            &mut self.dark[64 * tile + low..64 * tile + high],
+            &bits[low..high],
+            dark,
+        );
     }
 
     /// Gives a polarity to what is not decided of the tiles from one on and before another, where marks say so: they begin
     /// at the first of these tiles.
     pub(crate) fn take_marked(&mut self, first: usize, end: usize, marks: &[u64], dark: bool)
-        requires some { first ≤ end }
+        requires some { first < end }
         requires end { end ≤ self.old.tiles }
         requires room { 64 * (end - first) ≤ length marks.now }
         ensures { Takes first end (λ row column. is_marked marks.now row (column - 64 * first)) dark self.old self.new }
     {
-        let ink = if dark { u64::MAX } else { 0 };
-        for place in 0..64 * (end - first) {
-            let k = 64 * first + place;
-            take_word(&mut self.decided[k], &mut self.dark[k], marks[place], ink);
-        }
+        take_words(
+            &mut self.decided[64 * first..64 * end],
+            &mut self.dark[64 * first..64 * end],
+            &marks[..64 * (end - first)],
+            dark,
+        );
     }
 
     /// The rows of a tile from the top: bit i of each is set where column i is decided as dark.
@@ -172,36 +176,53 @@ impl Inks {
             ≡ (is_marked self.now.decided row (64 * tile + i) && is_marked self.now.dark row (64 * tile + i)) }
         ensures size { length result ≡ 64 }
     {
+        let decided = &self.decided[64 * tile..64 * tile + 64];
+        let dark = &self.dark[64 * tile..64 * tile + 64];
         let mut rows = [0; 64];
-        let first = 64 * tile;
         for row in 0..64 {
-            rows[row] = self.decided[first + row] & self.dark[first + row];
+            rows[row] = decided[row] & dark[row];
         }
         rows
     }
 }
 
-/// Makes them so many words at least.
-fn grow(words: &mut Vec<u64>, count: usize) -> Result<(), AllocError>
-    ensures { OnOk result (count ≤ length words.new.items) }
+/// Turns to so many words that are the same.
+fn refill(words: &mut Vec<u64>, count: usize, word: u64) -> Result<(), AllocError>
+    ensures { OnOk result (words.new.items ≡ replicate count word) }
 {
-    if words.len() < count {
-        words.resize(count, 0)?;
+    words.clear();
+    words.resize(count, word)
+}
+
+/// Opens those of tiles that are dirty, in so many of their columns and rows, where all is decided.
+fn open_dirty(decided: &mut [u64], tiles: &[Tile], columns: u32, rows: u32)
+    requires size { length decided.old ≡ 64 * length tiles.now }
+    requires few { length tiles.now ≤ 512 }
+    requires rows { rows ≤ 64 }
+    requires all { (row column : ℕ) → row < 64 → column < 64 * length tiles.now
+        → is_marked decided.old row column ≡ true }
+    ensures size { length decided.new ≡ length decided.old }
+    ensures each { (row column : ℕ) → row < 64 → column < 64 * length tiles.now
+        → is_marked decided.new row column ≡ not (is_open tiles.now columns rows row column) }
+{
+    for tile in 0..tiles.len() {
+        if tiles[tile].is_none() {
+            open(decided, tile, columns, rows);
+        }
     }
-    Ok(())
 }
 
 /// Opens the first of so many columns, in as many rows, where they are in a tile: they are not decided.
 fn open(decided: &mut [u64], tile: usize, columns: u32, rows: u32)
     requires tile { 64 * tile + 64 ≤ length decided.old }
-    requires few { length decided.old ≤ 32768 }
+    requires few { tile < 512 }
     requires rows { rows ≤ 64 }
     ensures size { length decided.new ≡ length decided.old }
-    ensures words { (k : ℕ) → k < 64 * tile → slice_index decided.new k ≡ slice_index decided.old k }
-    ensures behind { (k : ℕ) → 64 * tile + 64 ≤ k → slice_index decided.new k ≡ slice_index decided.old k }
-    ensures each { (row i : ℕ) → row < 64 → i < 64 → is_marked decided.new row (64 * tile + i)
+    ensures each { (row i : ℕ) → row < 64 → i < 64 → is_set (slice_index decided.new (64 * tile + row)) i
         ≡ (if nat_lt row rows && nat_lt (64 * tile + i) columns then false
-        else is_marked decided.old row (64 * tile + i)) }
+        else is_set (slice_index decided.old (64 * tile + row)) i) }
+    ensures others { (k : ℕ) → (k < 64 * tile) ⊎ (64 * tile + 64 ≤ k)
+        → slice_index decided.new k ≡ slice_index decided.old k }
 {
     let first = 64 * tile;
     let bits = run_row(0, columns, first as u32, 64);
@@ -226,14 +247,31 @@ fn known_rows(words: &[u64], known: u32) -> u32
     64
 }
 
+/// Gives a polarity to the bits of words that are not decided yet.
+fn take_words(decided: &mut [u64], dark: &mut [u64], bits: &[u64], ink: bool)
+    requires dark { length dark.old ≡ length decided.old }
+    requires bits { length bits.now ≡ length decided.old }
+    ensures decided { length decided.new ≡ length decided.old }
+    ensures dark { length dark.new ≡ length decided.old }
+    ensures each { (k i : ℕ) → k < length decided.old → i < 64
+        → ink_of (slice_index decided.new k) (slice_index dark.new k) i
+        ≡ option_or (ink_of (slice_index decided.old k) (slice_index dark.old k) i)
+        (given (is_set (slice_index bits.now k) i) ink) }
+{
+    let ink = if ink { u64::MAX } else { 0 };
+    for k in 0..decided.len() {
+        take_word(&mut decided[k], &mut dark[k], bits[k], ink);
+    }
+}
+
 /// Decides the bits of a word that are not decided yet; they are dark where the ink has them too.
 #[inline]
 fn take_word(decided: &mut u64, dark: &mut u64, bits: u64, ink: u64)
-    ensures decided { (i : ℕ) → i < 64 → is_set decided.new i ≡ (is_set decided.old i || is_set bits i) }
-    ensures dark { (i : ℕ) → i < 64 → is_set dark.new i
-        ≡ (is_set dark.old i || (not (is_set decided.old i) && (is_set bits i && is_set ink i))) }
+    ensures { (i : ℕ) → i < 64 → ink_of decided.new dark.new i
+        ≡ option_or (ink_of decided.old dark.old i) (given (is_set bits i) (is_set ink i)) }
 {
-    let new = bits & !*decided;
-    *decided |= new;
-    *dark |= new & ink;
+    let was = *decided;
+    let new = bits & !was;
+    *decided = was | new;
+    *dark = (*dark & !new) | (new & ink);
 }

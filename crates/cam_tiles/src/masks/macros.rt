@@ -1,6 +1,6 @@
 //! Macros in the rows of tiles side by side: each primitive is gone through once for all of them.
 
-ghost use Rattle.std.specs.Prelude.{◌≡◌, ◌<◌, ◌≤◌, ◌+◌, ◌*◌, ◌/◌, ℕ, All, length};
+ghost use Rattle.std.specs.Prelude.{◌≡◌, ◌<◌, ◌≤◌, ◌+◌, ◌*◌, ◌/◌, All, length};
 ghost use Rattle.cam_units.specs.Board.{IsOnBoard, IsPlace};
 ghost use Rattle.cam_units.specs.declared.point.Spot.{Spot};
 ghost use Rattle.cam_units.specs.Boxes.{Holds};
@@ -183,7 +183,15 @@ fn join_outline(
     let marks = &mut marks[first as usize..end as usize];
     let spare = &mut spare[..(end - first) as usize];
     let part = grid.part_seen(tiles.first, at);
-    join_inside(marks, spare, &part, columns.min(end) - first, points, turn, how);
+    join_inside(
+        marks,
+        spare,
+        &part,
+        columns.min(end) - first,
+        points,
+        turn,
+        how,
+    );
 }
 
 /// Joins the columns with the inside of an outline that is turned about (0, 0), by marks of as many tiles.

@@ -11,9 +11,9 @@ ghost use Rattle.cam_objects.specs.Leaves.{Filled, origin};
 ghost use Rattle.cam_tiles.specs.Machinery.Turning.{AreWide, IsField, TurnsCentres};
 
 use crate::grid::Grid;
-use crate::masks::segments::end_of;
 use crate::masks::marked::MarkShape;
 use crate::masks::mask::ORIGIN;
+use crate::masks::segments::end_of;
 use crate::masks::turning::{turn_edge, turn_segment};
 use cam_rows::spread_marks;
 use cam_shapes::{Contour, Placing};
@@ -41,13 +41,7 @@ impl<'a> MarkShape for PlacedContour<'a> {
 }
 
 /// Counts a contour that is placed: its segments one after another, and the line that closes it.
-fn turn_contour(
-    marks: &mut [u64],
-    grid: &Grid,
-    columns: u32,
-    contour: &Contour,
-    placing: Placing,
-)
+fn turn_contour(marks: &mut [u64], grid: &Grid, columns: u32, contour: &Contour, placing: Placing)
     requires grid { IsField grid.now columns }
     requires wide { AreWide columns marks.old }
     requires contour { IsPlaceable placing.turn placing.offset contour.now }

@@ -86,7 +86,12 @@ impl Runs {
         if row < self.band.first || self.band.end <= row {
             return 0;
         }
-        run_row(self.firsts[row as usize], self.ends[row as usize], column, 64)
+        run_row(
+            self.firsts[row as usize],
+            self.ends[row as usize],
+            column,
+            64,
+        )
     }
 
     /// Turns to those of a shape, which stands at a point as it does about (0, 0), in the rows of a grid, and as many

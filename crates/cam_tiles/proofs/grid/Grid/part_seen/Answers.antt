@@ -6,12 +6,12 @@ pub overflow_sub-result : goal.overflow_sub-result
 overflow_sub-result c =
     let g = c.args.self.now in
     let fits : FitsSigned w64 g.step = search rules in
-    part_x_fits g c.args.tile c.args.at c.from.result c.requires.grid c.requires.tile c.requires.there c.requires.at fits
-    c.from.ensures
+    part_x_fits g c.args.tile c.from.result c.requires.grid c.requires.tile c.requires.there fits c.from.ensures c.args.at
+    c.requires.at
 
 pub returns : goal.returns
 returns c =
     let g = c.args.self.now in
     let fits : FitsSigned w64 g.step = search rules in
-    part_kept g c.args.tile c.args.at c.from.result c.requires.grid c.requires.tile c.requires.there c.requires.at fits
-    c.from.ensures
+    part_kept g c.args.tile c.from.result c.requires.grid c.requires.tile c.requires.there fits c.from.ensures c.args.at
+    c.requires.at

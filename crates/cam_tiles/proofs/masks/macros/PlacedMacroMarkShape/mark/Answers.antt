@@ -1,4 +1,4 @@
-use Rattle.std.proofs.Common.{◌≡◌, ◌*◌, length, drop, map, take, refl, sym, rules, arith}
+use Rattle.std.proofs.Common.{◌≡◌, ◌*◌, length, drop, map, refl, sym, rules, arith}
 use Rattle.std.proofs.lemmas.List.{places, take_all}
 use Rattle.std.proofs.lemmas.Option.{get_or_from_slice_get}
 use Rattle.cam_units.specs.declared.point.Spot.{Spot}
@@ -24,7 +24,7 @@ loop-place-init c =
       wide = record { room = omega (arith, size, c.div_ceil.ensures); tiles = omega (arith, size) };
       marked = λ column row near below. (
         (λ on. absurd
-        (none_marked blank (λ k within. c.fill.ensures.clones k 0 (rw c.fill.ensures.len at within) refl) row column on)),
+            (none_marked blank (λ k within. c.fill.ensures.clones k 0 (rw c.fill.ensures.len at within) refl) row column on)),
         (λ painted. absurd (none_painted (relative c.args.self.now.at (centre_in c.args.grid.now column row)) painted)),
       );
     }
