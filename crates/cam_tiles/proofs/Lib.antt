@@ -1,6 +1,6 @@
-pub mod Blackened
 pub mod Bytes
 pub mod ChangedParities
+pub mod DrawnSwaths
 pub mod DrawnTiles
 pub mod EdgeSpans
 pub mod Fields
@@ -14,13 +14,13 @@ pub mod Joined
 pub mod JoinedCentres
 pub mod JoinedMarks
 pub mod JoinedWords
+pub mod LastFound
 pub mod Lattices
 pub mod LevelRows
 pub mod MaskWords
 pub mod OpenedWords
 pub mod PaintedLists
 pub mod PaintedMasks
-pub mod PaintedSwaths
 pub mod PaintedTiles
 pub mod PartlyDrawn
 pub mod PbmLemmas
@@ -41,8 +41,7 @@ pub mod ShownItems
 pub mod SpanLemmas
 pub mod Stamps
 pub mod StepLemmas
-pub mod SwathLayouts
-pub mod SwathRows
+pub mod SwathInks
 pub mod TableFacts
 pub mod TablePixels
 pub mod TakenInks

@@ -5,7 +5,7 @@ use Rattle.std.proofs.Math.Nat.{add-mul-mod_self_right}
 use Rattle.std.proofs.lemmas.Nat.{mul-le}
 use borrow.Rule.Slice.PartMut.{mid_of, put_mid}
 use Rattle.cam_tiles.specs.declared.window.Window.{Window}
-use Rattle.cam_tiles.specs.Machinery.Blackened.{IsPartlyDrawn}
+use Rattle.cam_tiles.specs.Machinery.Drawn.{IsPartlyDrawn}
 use Rattle.cam_tiles.specs.Machinery.Swaths.{IsRowOfTiles}
 use Rattle.cam_tiles.specs.Picture.{accepts}
 use Rattle.cam_tiles.specs.Tables.{Tile}
@@ -50,8 +50,10 @@ row_there w first tiles size row wide end accepted is left same few under last =
       few = omega (arith, begun, few, few_tiles w accepted);
       row = record {
         some = omega (arith, long, begun, last);
-        left = ap (λ n. (first + row * n) % across w) is ∙ add-mul-mod_self_right first row (across w) ∙ left;
-        fits = omega (arith, long, is, last);
+        fits =
+            let begins_row : (first + start) % across w ≡ 0 =
+            ap (λ n. (first + row * n) % across w) is ∙ add-mul-mod_self_right first row (across w) ∙ left in
+            omega (arith, long, is, last, begins_row);
         within = omega (arith, long, few, last);
       };
       drawn = λ draw part. part_partly_drawn draw first start (end - start) tiles part (omega (arith, order, within));

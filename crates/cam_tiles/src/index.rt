@@ -4,8 +4,7 @@ pub(crate) mod items;
 mod row_lists;
 pub(crate) mod seen;
 
-ghost use Rattle.std.specs.Prelude.{◌≡◌, ◌↔◌, ◌<◌, ◌≤◌, ◌≤ℤ◌, ℕ, [], All, IfNone, IfOk, IfSome, IsTrue, length};
-ghost use Rattle.std.specs.Prelude.{slice_index_or, true};
+ghost use Rattle.std.specs.Prelude.{◌≡◌, ◌↔◌, ◌<◌, ◌≤◌, ◌≤ℤ◌, ℕ, All, IfNone, IfOk, IfSome, IsTrue, length, true};
 ghost use Rattle.cam_units.specs.Boxes.{Holds};
 ghost use Rattle.cam_units.specs.declared.point.Spot.{Spot};
 ghost use Rattle.cam_tiles.specs.Machinery.Indexes.{AreSeenBy, IsBoxed, IsBoxOf, IsIndexOf, IsSeen, numbered_leaves};

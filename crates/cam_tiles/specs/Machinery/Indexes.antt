@@ -1,5 +1,5 @@
 -- Indexes of many lists of leaves: which of the lists paint the places in each row of tiles of a box.
-use Rattle.std.specs.Prelude.{◌≡◌, ℕ, ◌+◌, ◌-◌, ◌*◌, ◌<◌, ◌≤◌, min, pos, ◌*ℤ◌, ◌≤ℤ◌, Bool, true, List, [], length, filter, All}
+use Rattle.std.specs.Prelude.{◌≡◌, ℕ, ◌+◌, ◌-◌, ◌*◌, ◌<◌, ◌≤◌, min, pos, ◌*ℤ◌, ◌≤ℤ◌, true, List, [], length, filter, All}
 use Rattle.std.specs.Prelude.{drop, reverse, take}
 use Rattle.std.specs.List.{flat_map, slice_index_or}
 use Rattle.cam_units.specs.Boxes.{Holds}

@@ -1,15 +1,17 @@
 -- Swaths: tiles of a row of tiles, side by side, which are painted at once, from the last leaf on.
 use Rattle.std.specs.Prelude.{◌≡◌, ◌↔◌, ℕ, ◌+◌, ◌-◌, ◌*◌, ◌/◌, ◌%◌, ◌<◌, ◌≤◌, min, Bool, false, List, length, slice_index_or}
-use Rattle.std.specs.Prelude.{Option, None, Some, IsSome, unwrap_or, []}
+use Rattle.std.specs.Prelude.{Option, None, Some, IsSome, IsTrue, ◌⊎◌, unwrap_or, []}
 use Rattle.cam_units.specs.Boxes.{Holds}
 use Rattle.cam_units.specs.declared.bounds.Bounds.TheVariants.{Closed}
 use Rattle.cam_units.specs.declared.point.Spot.{Spot}
 use Rattle.cam_objects.specs.Canvases.{Paints}
 use Rattle.cam_objects.specs.Leaves.{Leaf}
 use Rattle.cam_tiles.specs.declared.grid.Grid.{Grid}
+use Rattle.cam_tiles.specs.declared.masks.figure_runs.FigureRuns.{FigureRuns}
 use Rattle.cam_tiles.specs.declared.masks.swath.Swath.TheInside.{Inside}
 use Rattle.cam_tiles.specs.declared.span.Span.{Span}
 use Rattle.cam_tiles.specs.declared.window.Window.{Window}
+use Rattle.cam_tiles.specs.Machinery.Figures.{HasPart}
 use Rattle.cam_tiles.specs.Machinery.Inks.{Inked, ink_at}
 use Rattle.cam_tiles.specs.Machinery.Levels.{levels_of}
 use Rattle.cam_tiles.specs.Machinery.Masks.{IsIn}
@@ -42,6 +44,12 @@ IsDoneSwath s = (column row : ℕ) → IsInSwath s column row → IsSome (ink_in
 
 abbrev pub tiles_in : Swathed → ℕ
 tiles_in s = (s.columns + 63) / 64
+
+-- a test holds of the columns that a figure has by its runs, of those that are not decided
+abbrev pub AreRunsOf : (ℕ → ℕ → Bool) → FigureRuns → Inked → Type 0
+AreRunsOf holds runs k =
+    (row column : ℕ) → row < 64 → column < 64 * k.tiles
+    → IsSome (ink_at k row column) ⊎ (IsTrue (holds row column) ↔ HasPart runs row column)
 
 -- tiles outside of which a box holds no centre
 pub record AreReachedBy (low high : Spot) (s : Swathed) (tiles : Span) : Type 0 where

@@ -1,6 +1,6 @@
 //! The items of a layer for a redraw: looked for as they are needed, or all of them by the rows of tiles that they reach.
 
-ghost use Rattle.std.specs.Prelude.{◌≡◌, ◌<◌, OnOk, true};
+ghost use Rattle.std.specs.Prelude.{◌≡◌, ◌<◌, IfOk, OnOk, true};
 ghost use Rattle.cam_tiles.specs.Machinery.Indexes.{AreItemsOf};
 ghost use Rattle.cam_tiles.specs.Machinery.Shown.{IsReady, leaves_by_item, leaves_of};
 ghost use Rattle.cam_tiles.specs.Machinery.Swaths.{HasRowOf, PaintsSwath};

@@ -1,7 +1,6 @@
 //! The items of a layer that may be seen in a box, looked for from the last one on.
 
-ghost use Rattle.std.specs.Prelude.{◌≡◌, ◌==◌, ◌<◌, ◌≤◌, ◌⊎◌, ℕ, [], IfNone, IfOk, IfSome, IsTrue, OnOk, Some, length};
-ghost use Rattle.std.specs.Prelude.{slice_get, slice_index_or, true};
+ghost use Rattle.std.specs.Prelude.{◌≡◌, ◌<◌, ◌≤◌, ◌⊎◌, IfNone, IfOk, IfSome, OnOk, Some, length, slice_get, true};
 ghost use Rattle.cam_tiles.specs.Machinery.Indexes.{AreSeenBy, IsBegunBy};
 ghost use Rattle.cam_tiles.specs.Machinery.Shown.{IsReady, leaves_by_item, leaves_of, lists_of};
 ghost use Rattle.cam_tiles.specs.Machinery.Swaths.{HasRowOf, PaintsSwath};

@@ -1,13 +1,18 @@
 //! Tiles of a row of tiles that are painted at once, from the last leaf on.
 
-ghost use Rattle.std.specs.Prelude.{◌≡◌, ◌+◌, ◌*◌, ◌/◌, ◌<◌, ◌≤◌, ◌∷◌, ℕ, [], Bool, IsTrue, OnOk, None, Some, false, length};
+ghost use Rattle.std.specs.Prelude.{◌≡◌, ◌↔◌, ◌⊎◌, ◌≤ℤ◌, ◌+◌, ◌*◌, ◌/◌, ◌<◌, ◌≤◌, ◌∷◌, ℕ, [], Bool, IsTrue, OnOk, None, Some, false, length};
 ghost use Rattle.std.specs.Prelude.{if◌then◌else◌, is_none, slice_index_or, unwrap_or, true};
+ghost use Rattle.cam_units.specs.Boxes.{Holds};
 ghost use Rattle.cam_units.specs.declared.point.Spot.{Spot};
 ghost use Rattle.cam_objects.specs.Canvases.{IsDecidedIn, IsSoundPrint, leaf_of};
+ghost use Rattle.cam_objects.specs.Image.{Covers};
 ghost use Rattle.cam_objects.specs.Leaves.{leaf};
-ghost use Rattle.cam_tiles.specs.Machinery.Figures.{IsPlacedFor};
+ghost use Rattle.cam_tiles.specs.Machinery.Figures.{AllFit, IsPlacedFor};
+ghost use Rattle.cam_tiles.specs.Machinery.Inks.{IsDoneTile, Takes};
+ghost use Rattle.cam_tiles.specs.Machinery.Runs.{IsWideGrid};
 ghost use Rattle.cam_tiles.specs.Machinery.Swaths.{
   AreReachedBy,
+  AreRunsOf,
   IsDoneSwath,
   IsInSwath,
   IsRowOfTiles,
@@ -20,7 +25,7 @@ ghost use Rattle.cam_tiles.specs.Machinery.Swaths.{
 };
 ghost use Rattle.cam_tiles.specs.Picture.{accepts};
 ghost use Rattle.cam_tiles.specs.Tables.{all_drawn_from};
-ghost use Rattle.cam_tiles.specs.Tiles.{grid_of, tile_rows};
+ghost use Rattle.cam_tiles.specs.Tiles.{centre_in, grid_of, tile_rows};
 
 use crate::grid::Grid;
 use crate::lattice::Lattice;
@@ -175,25 +180,6 @@ impl Swath {
         }
     }
 
-    /// Those of some tiles between which all lie that are not done.
-    fn open_among(&mut self, tiles: Span) -> Span
-        requires { tiles.end ≤ tiles_in self.old }
-        ensures kept { self.new ≡ self.old }
-        ensures done { (tile : ℕ) → tiles.first ≤ tile → tile < tiles.end → (tile < result.first) ⊎ (result.end ≤ tile)
-            → IsDoneTile self.old.inks tile }
-        ensures within { (tiles.first ≤ result.first) × (result.end ≤ tiles.end) }
-    {
-        let mut first = tiles.first;
-        let mut end = tiles.end;
-        while first < end && self.inks.is_done(first as usize) {
-            first += 1;
-        }
-        while first < end && self.inks.is_done(end as usize - 1) {
-            end -= 1;
-        }
-        Span { first, end }
-    }
-
     /// Paints what a shape covers in some tiles outside of which it covers nothing: it is marked once for all of them.
     fn paint_marked<M: MarkShape>(&mut self, tiles: Span, shape: &M, dark: bool)
         requires sound { M.is_sound shape.now }
@@ -202,7 +188,7 @@ impl Swath {
             → (tiles.first ≤ column / 64) × (column / 64 < tiles.end) }
         ensures { PaintsSwath self.old (leaf (M.shape shape.now) dark ∷ []) self.new }
     {
-        let tiles = self.open_among(tiles);
+        let tiles = open_among(&mut self.inks, tiles);
         if tiles.end <= tiles.first {
             return;
         }
@@ -221,13 +207,11 @@ impl Swath {
     {
         self.runs.find(placed, &self.grid, self.columns);
         let columns = self.runs.columns();
-        let mut bits = [0; 64];
-        for tile in columns.first / 64..columns.end.min(self.columns).div_ceil(64) {
-            if !self.inks.is_done(tile as usize) {
-                let rows = self.runs.find_bits(64 * tile, &mut bits);
-                self.inks.take(tile as usize, rows, &bits, print.dark);
-            }
-        }
+        let tiles = Span {
+            first: columns.first / 64,
+            end: columns.end.min(self.columns).div_ceil(64),
+        };
+        take_runs(&mut self.inks, &self.runs, tiles, print.dark);
     }
 }
 
@@ -278,6 +262,42 @@ impl Canvas for Swath {
                 self.paint_marked(tiles, &PlacedContour { contour, placing }, print.dark);
             }
             _ => {}
+        }
+    }
+}
+
+/// Those of some tiles between which all lie that are not done.
+fn open_among(inks: &mut Inks, tiles: Span) -> Span
+    requires { tiles.end ≤ inks.old.tiles }
+    ensures kept { inks.new ≡ inks.old }
+    ensures done { (tile : ℕ) → tiles.first ≤ tile → tile < tiles.end → (tile < result.first) ⊎ (result.end ≤ tile)
+        → IsDoneTile inks.old tile }
+    ensures within { (tiles.first ≤ result.first) × (result.end ≤ tiles.end) }
+{
+    let mut first = tiles.first;
+    let mut end = tiles.end;
+    while first < end && inks.is_done(first as usize) {
+        first += 1;
+    }
+    while first < end && inks.is_done(end as usize - 1) {
+        end -= 1;
+    }
+    Span { first, end }
+}
+
+/// Gives a polarity to what is not decided of some tiles, where a figure has columns by its runs.
+fn take_runs(inks: &mut Inks, runs: &FigureRuns, tiles: Span, dark: bool)
+    requires fit { AllFit 64 runs.now }
+    requires few { inks.old.tiles ≤ 512 }
+    requires tiles { tiles.end ≤ inks.old.tiles }
+    ensures { (holds : ℕ → ℕ → Bool) → AreRunsOf holds runs.now inks.old
+        → Takes tiles.first tiles.end holds dark inks.old inks.new }
+{
+    let mut bits = [0; 64];
+    for tile in tiles.first..tiles.end {
+        if !inks.is_done(tile as usize) {
+            let rows = runs.find_bits(64 * tile, &mut bits);
+            inks.take(tile as usize, rows, &bits, dark);
         }
     }
 }

@@ -1,44 +1,38 @@
-use Rattle.std.proofs.Common.{◌*ℤ◌, pos, rules, is_none, length, FitsSigned, w64, ap, arith}
-use Rattle.std.proofs.lemmas.List.{length-map}
-use Rattle.std.proofs.lemmas.List.Sums.{count_by-le-length}
-use Rattle.std.proofs.lemmas.Int.{ints, to_z-of_z}
-use Rattle.cam_tiles.specs.declared.grid.Grid.{Grid}
-use Rattle.cam_tiles.specs.Machinery.Swaths.{pitch_of}
-use Rattle.cam_tiles.specs.declared.masks.mask.Mask.{Mask}
-use Rattle.cam_tiles.specs.Tiles.{grid_of}
-use Rattle.cam_tiles.proofs.TilesInOrder.{length-dirty_grids}
-use Rattle.cam_tiles.proofs.WindowLemmas.{accepted}
-use Rattle.cam_tiles.proofs.SolidMasks.{all_zero, none_solid}
+use Rattle.std.proofs.Common.{rules, ◌≡◌, ◌↔◌, ◌⊎◌, ◌≤ℤ◌, ◌+◌, ◌*◌, ◌/◌, ◌<◌, ◌≤◌, ◌∷◌, ℕ, [], Bool, IsTrue, OnOk, None, Some, false, length, if◌then◌else◌, is_none, slice_index_or, unwrap_or, true, ◌-◌, ◌%◌, nat_eq, nat_lt, List, ◌++◌, slice_set, bit_and, bit_or, Fits, w8, w32, w64, Bor, MutBor}
+use Rattle.cam_units.specs.Boxes.{Holds}
+use Rattle.cam_units.specs.declared.point.Spot.{Spot}
+use Rattle.cam_objects.specs.Canvases.{IsDecidedIn, IsSoundPrint, leaf_of}
+use Rattle.cam_objects.specs.Image.{Covers}
+use Rattle.cam_objects.specs.Leaves.{leaf}
+use Rattle.cam_tiles.specs.Machinery.Figures.{IsPlacedFor}
+use Rattle.cam_tiles.specs.Machinery.Inks.{IsDoneTile}
+use Rattle.cam_tiles.specs.Machinery.Runs.{IsWideGrid}
+use Rattle.cam_tiles.specs.Machinery.Swaths.{AreReachedBy, IsDoneSwath, IsInSwath, IsRowOfTiles, PaintsSwath, ShowsDirty, columns_of, ink_in, place_in, tiles_in}
+use Rattle.cam_tiles.specs.Picture.{accepts}
+use Rattle.cam_tiles.specs.Tables.{all_drawn_from}
+use Rattle.cam_tiles.specs.Tiles.{centre_in, grid_of, tile_rows}
 use Rattle.cam_tiles.proofs.masks.swath.Swath.turn_to.Goals as goal
 
-pub overflow_mul-self : goal.overflow_mul-self
-overflow_mul-self c =
-    let limits = accepted c.args.window.now c.requires.accepted in
-    let step = ap (λ (g : Grid). g.step) c.grid-corner.ensures.value in
-    omega (arith, ints, step, limits.pitch)
+-- src/masks/swath.rt:116:20
+pub overflow_mul-left : goal.overflow_mul-left
+overflow_mul-left c = ?
 
+-- src/masks/swath.rt:117:49
+pub overflow_mul-tiles : goal.overflow_mul-tiles
+overflow_mul-tiles c = ?
+
+-- src/masks/swath.rt:120:9
+pub turn_to-requires-clause-few : goal.turn_to-requires-clause-few
+turn_to-requires-clause-few c = ?
+
+-- src/masks/swath.rt:123:23
+pub wide_bounds-self-inside-requires : goal.wide_bounds-self-inside-requires
+wide_bounds-self-inside-requires c = ?
+
+-- src/masks/swath.rt:100:5
 pub invariant_of-self-2 : goal.invariant_of-self-2
-invariant_of-self-2 c =
-    let limits = accepted c.args.window.now c.requires.accepted in
-    let step = ap (λ (g : Grid). g.step) c.grid-corner.ensures.value in
-    let short : FitsSigned w64 c.grid-corner.result.step = search rules in
-    let long : FitsSigned w64 (pos 64 *ℤ c.grid-corner.result.step) = omega (arith, ints, step, limits.pitch) in
-    let left : FitsSigned w64 c.grid-corner.result.x = search rules in
-    record {
-      laid = simp to_z-of_z (c.put_blanks-self-inside.ensures.laid (pitch_of c.grid-corner.result)
-          (ap pitch_of c.grid-corner.ensures.value));
-      stand = c.put_blanks-self-inside.ensures.stand c.grid-corner.result c.grid-corner.ensures.value;
-      room = omega (arith, c.put_blanks-self-inside.ensures.each, c.in_ok-resize-2.ensures.len);
-      spare = omega (arith, c.put_blanks-self-inside.ensures.each, c.in_ok-resize-3.ensures.len);
-      known = omega (
-        arith,
-        ap length c.put_blanks-self-inside.ensures.grids,
-        length-map {A = Mask} c.put_blanks-self-inside.new.masks.items (λ m. m.grid),
-        length-dirty_grids (grid_of c.args.window.now) c.args.first c.args.tiles.now,
-        count_by-le-length is_none c.args.tiles.now,
-        c.in_ok-resize.ensures.len,
-      );
-      solid = none_solid c.resize.new.self.items c.put_blanks-self-inside.new.masks.items
-          (all_zero c.clear-4.new.self.items c.resize.new.self.items _ _ c.clear-4.ensures.items
-          c.in_ok-resize.ensures.items);
-    }
+invariant_of-self-2 c = ?
+
+-- src/masks/swath.rt:100:5
+pub returns-clause-open : goal.returns-clause-open
+returns-clause-open c = ?
