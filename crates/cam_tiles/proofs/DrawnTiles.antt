@@ -1,9 +1,10 @@
 -- Redraws: the dirty tiles of least number are drawn, and the others kept.
-use Rattle.std.proofs.Common.{◌≡◌, ℕ, zero, suc, ◌+◌, ◌-◌, ◌<◌, min, Bool, nat_lt, if◌then◌else◌}
+use Rattle.std.proofs.Common.{◌≡◌, ℕ, zero, suc, ◌+◌, ◌-◌, ◌<◌, ◌≤◌, min, Bool, nat_lt, if◌then◌else◌}
 use Rattle.std.proofs.Common.{List, [], ◌∷◌, ◌++◌, length, take, drop, count_by, cond, slice_get, Some, None}
 use Rattle.std.proofs.Common.{is_none, is_some, option_and_then, refl, sym, ap, ◌∙◌, inl, inr, arith}
 use Rattle.std.proofs.lemmas.Bool.{cases_lt, le-ltb, lt-ltb}
-use Rattle.std.proofs.lemmas.List.Sums.{sum_by-cons}
+use Rattle.std.proofs.lemmas.List.{take-take}
+use Rattle.std.proofs.lemmas.List.Sums.{sum_by-cons, sum_by-take-le}
 use Rattle.cam_units.specs.declared.point.Spot.{Spot}
 use Rattle.cam_tiles.specs.Tables.{Table, Tile, all_drawn_from, drawn_from}
 use Rattle.cam_tiles.specs.TileLaws.{RedrawLaw}
@@ -18,6 +19,14 @@ dirty_after_clean rows tiles = omega (arith, sum_by-cons (λ tile. cond (is_none
 
 pub dirty_after_dirty : (tiles : List Tile) → dirty (None ∷ tiles) ≡ 1 + dirty tiles
 dirty_after_dirty tiles = sum_by-cons (λ tile. cond (is_none tile) 1 0) None tiles
+
+-- of tiles of which none is dirty, none of the first is
+pub clean_first : (tiles : List Tile) (n : ℕ) → dirty tiles ≡ 0 → dirty (take n tiles) ≡ 0
+clean_first tiles n clean = omega (arith, sum_by-take-le (λ tile. cond (is_none tile) 1 0) tiles n, clean)
+
+pub clean_before : (tiles : List Tile) (n m : ℕ) → m ≤ n → dirty (take n tiles) ≡ 0 → dirty (take m tiles) ≡ 0
+clean_before tiles n m few clean =
+    sym (ap dirty (take-take m n tiles few)) ∙ clean_first (take n tiles) m clean
 
 module _ (draw : ℕ → List ℕ) where
   -- where none is to be drawn, all are kept

@@ -41,7 +41,9 @@ pub mod ShownItems
 pub mod SpanLemmas
 pub mod Stamps
 pub mod StepLemmas
+pub mod SwathBoxes
 pub mod SwathInks
+pub mod SwathTiles
 pub mod TableFacts
 pub mod TablePixels
 pub mod TakenInks

@@ -1,12 +1,12 @@
 -- Dirty tiles of which some are drawn: drawing the others is drawing all.
 use Rattle.std.proofs.Common.{◌≡◌, ℕ, zero, suc, ◌+◌, ◌-◌, ◌<◌, ◌≤◌, List, [], ◌∷◌, ◌++◌, length, take, drop, get_or, Some, None}
-use Rattle.std.proofs.Common.{refl, sym, ap, subst, ◌∙◌, inl, inr, arith, unwrap_or}
+use Rattle.std.proofs.Common.{refl, sym, ap, subst, ◌∙◌, inl, inr, arith, length-append, unwrap_or}
 use Rattle.std.proofs.lemmas.Bool.{cases_lt}
-use Rattle.std.proofs.lemmas.List.{ext_get_or, get_or-append_right, get_or-drop, get_or-take, get_or_append_left, length-take-le}
-use borrow.Rule.Slice.PartMut.{mid_of, put_mid, same_len_mid}
+use Rattle.std.proofs.lemmas.List.{ext_get_or, get_or-append_right, get_or_append_left, length-take-le}
+use borrow.Rule.Slice.PartMut.{mid_of, put_mid, put_same}
 use Rattle.cam_tiles.specs.Machinery.Drawn.{IsKeptOrDrawn, IsPartlyDrawn}
 use Rattle.cam_tiles.specs.Tables.{Tile, all_drawn_from}
-use Rattle.cam_tiles.proofs.TilesInOrder.{length-all_drawn_from, middle_length}
+use Rattle.cam_tiles.proofs.TilesInOrder.{length-all_drawn_from}
 
 -- a tile once it is drawn where it was dirty
 abbrev drawn : List ℕ → Tile → Tile
@@ -41,6 +41,10 @@ module _ (draw : ℕ → List ℕ) where
       let there : first + 1 + k ≡ first + suc k = omega arith in
       get_or-all_drawn_from (first + 1) tiles k (omega arith) ∙ ap (λ n. drawn (draw n) (get_or tiles k None)) there
 
+  -- none of them
+  none_partly_drawn : (first : ℕ) (tiles : List Tile) → IsPartlyDrawn draw first tiles tiles
+  none_partly_drawn first tiles = record { size = refl; each = λ k within. inl refl }
+
   -- all of them
   pub all_partly_drawn : (first : ℕ) (old new : List Tile) → new ≡ all_drawn_from draw first old
       → IsPartlyDrawn draw first old new
@@ -73,56 +77,33 @@ module _ (draw : ℕ → List ℕ) where
       ∙ drawn_alike (draw (first + k)) (get_or old k None) (get_or new k None) (h.each k was)
       ∙ sym (get_or-all_drawn_from first old k was))
 
+  -- lists one behind another
+  appended : (first next : ℕ) (a b c d : List Tile) → next ≡ first + length a → IsPartlyDrawn draw first a c
+      → IsPartlyDrawn draw next b d → IsPartlyDrawn draw first (a ++ b) (c ++ d)
+  appended first next a b c d at h more = record {
+    size = omega (arith, length-append c d, length-append a b, h.size, more.size);
+    each = λ k within. elim (cases_lt k (length a)) [
+      | inl before ↦
+          rw (get_or_append_left a b None k before, get_or_append_left c d None k (omega (arith, before, h.size)))
+          (h.each k before)
+      | inr behind ↦
+          (let there : next + (k - length a) ≡ first + k = omega (arith, at, behind) in
+          rw (get_or-append_right a b (length a) k None refl behind, get_or-append_right c d (length a) k None h.size behind)
+          (subst (λ n. IsKeptOrDrawn (draw n) (get_or b (k - length a) None) (get_or d (k - length a) None)) there
+          (more.each (k - length a) (omega (arith, within, behind, length-append a b)))))
+    ];
+  }
+
   -- some of those between two others
-  module _ (first start end : ℕ) (tiles part : List Tile) (order : start ≤ end) (within : end ≤ length tiles)
-      (h : IsPartlyDrawn draw (first + start) (mid_of start (end - start) tiles) part) where
-    front : length (take start tiles) ≡ start
-    front = length-take-le start tiles (omega arith)
-
-    part_size : length part ≡ end - start
-    part_size = h.size ∙ middle_length start end tiles order within
-
-    before_part : (k : ℕ) → k < start → get_or (put_mid start (end - start) tiles part) k None ≡ get_or tiles k None
-    before_part k under =
-        get_or_append_left (take start tiles) _ None k (omega (arith, front)) ∙ get_or-take start tiles k None under
-
-    from_part : (k : ℕ) → start ≤ k
-        → get_or (put_mid start (end - start) tiles part) k None
-        ≡ get_or (part ++ drop (end - start) (drop start tiles)) (k - start) None
-    from_part k from = get_or-append_right (take start tiles) _ start k None front from
-
-    behind_part : (k : ℕ) → end ≤ k → get_or (put_mid start (end - start) tiles part) k None ≡ get_or tiles k None
-    behind_part k past =
-        let there : start + (end - start + (k - start - (end - start))) ≡ k = omega arith in
-        from_part k (omega arith)
-        ∙ get_or-append_right part _ (end - start) (k - start) None part_size (omega arith)
-        ∙ get_or-drop (end - start) (drop start tiles) _ None ∙ get_or-drop start tiles _ None
-        ∙ ap (λ n. get_or tiles n None) there
-
-    in_part : (k : ℕ) → start ≤ k → k < end
-        → IsKeptOrDrawn (draw (first + k)) (get_or tiles k None) (get_or (put_mid start (end - start) tiles part) k None)
-    in_part k from under =
-        let j : ℕ = k - start in
-        let there : start + j ≡ k = omega arith in
-        let same : first + start + j ≡ first + k = omega arith in
-        let here : j < end - start = omega arith in
-        let was : get_or (mid_of start (end - start) tiles) j None ≡ get_or tiles k None =
-        get_or-take (end - start) (drop start tiles) j None here ∙ get_or-drop start tiles j None
-        ∙ ap (λ n. get_or tiles n None) there in
-        let is : get_or (put_mid start (end - start) tiles part) k None ≡ get_or part j None =
-        from_part k from ∙ get_or_append_left part _ None j (omega (arith, here, part_size)) in
-        rw (sym was, is) (subst (λ n. IsKeptOrDrawn (draw n) (get_or (mid_of start (end - start) tiles) j None)
-        (get_or part j None)) same
-        (h.each j (omega (arith, here, middle_length start end tiles order within))))
-
-    pub part_partly_drawn : IsPartlyDrawn draw first tiles (put_mid start (end - start) tiles part)
-    part_partly_drawn = record {
-      size = same_len_mid start (end - start) tiles part h.size;
-      each = λ k there. elim (cases_lt k start) [
-        | inl before ↦ inl (before_part k before)
-        | inr from ↦ elim (cases_lt k end) [
-          | inl under ↦ in_part k from under
-          | inr past ↦ inl (behind_part k past)
-        ]
-      ];
-    }
+  pub part_partly_drawn : (first start n : ℕ) (tiles part : List Tile) → start ≤ length tiles
+      → IsPartlyDrawn draw (first + start) (mid_of start n tiles) part
+      → IsPartlyDrawn draw first tiles (put_mid start n tiles part)
+  part_partly_drawn first start n tiles part within h =
+      let front : List Tile = take start tiles in
+      let mid : List Tile = mid_of start n tiles in
+      let rest : List Tile = drop n (drop start tiles) in
+      subst (λ (old : List Tile). IsPartlyDrawn draw first old (put_mid start n tiles part)) (put_same start n tiles)
+      (appended first (first + start) front (mid ++ rest) front (part ++ rest)
+      (omega (arith, length-take-le start tiles within)) (none_partly_drawn first front)
+      (appended (first + start) (first + start + length mid) mid rest part rest refl h
+      (none_partly_drawn (first + start + length mid) rest)))

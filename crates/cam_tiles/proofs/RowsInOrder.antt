@@ -56,5 +56,5 @@ row_there w first tiles size row wide end accepted is left same few under last =
             omega (arith, long, is, last, begins_row);
         within = omega (arith, long, few, last);
       };
-      drawn = λ draw part. part_partly_drawn draw first start end tiles part order within;
+      drawn = λ draw part. part_partly_drawn draw first start (end - start) tiles part (omega (arith, order, within));
     }

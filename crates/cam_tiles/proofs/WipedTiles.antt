@@ -1,14 +1,13 @@
 -- Wiping: tiles run by run, and those of a box.
 use Rattle.std.proofs.Common.{◌≡◌, ℕ, zero, suc, ◌+◌, ◌-◌, ◌*◌, ◌/◌, ◌%◌, ◌<◌, ◌≤◌}
 use Rattle.std.proofs.Common.{Bool, true, false, ◌&&◌, ◌||◌, nat_le, nat_lt, cond}
-use Rattle.std.proofs.Common.{List, [], ◌∷◌, length, length-take, take, get_or, is_none, inl, inr, refl, sym, ap, ◌∙◌, arith}
+use Rattle.std.proofs.Common.{List, [], ◌∷◌, length, length-take, take, get_or, inl, inr, refl, sym, ap, ◌∙◌, arith}
 use Rattle.std.specs.List.{list_any, range_with_len}
 use Rattle.std.specs.Prelude.{None}
 use Rattle.std.proofs.Math.Nat.{mul-le-mul_right, mod-lt}
 use Rattle.std.proofs.lemmas.Bool.{cases_order, or_from}
 use Rattle.std.proofs.lemmas.Bool.Decides.{nat_tests}
-use Rattle.std.proofs.lemmas.List.{ext_get_or, get_or-take, take-take}
-use Rattle.std.proofs.lemmas.List.Sums.{sum_by-take-le}
+use Rattle.std.proofs.lemmas.List.{ext_get_or, get_or-take}
 use Rattle.std.proofs.lemmas.Nat.{div_below}
 use Rattle.cam_units.specs.declared.bounds.Bounds.TheVariants.{Empty, Closed}
 use Rattle.cam_units.specs.declared.point.Spot.{Spot}
@@ -19,7 +18,7 @@ use Rattle.cam_tiles.specs.Machinery.Spans.{has_pixel, is_between, is_in_span}
 use Rattle.cam_tiles.specs.Tables.{IsTable, Table, Tile}
 use Rattle.cam_tiles.specs.Tiles.{across, columns, down, left, rows, tiles_of, top}
 use Rattle.cam_tiles.specs.Touched.{touched, touches, wiped_from}
-use Rattle.cam_tiles.proofs.DrawnTiles.{dirty}
+use Rattle.cam_tiles.proofs.DrawnTiles.{clean_before, dirty}
 use Rattle.cam_tiles.proofs.TileCounts.{some_across}
 
 -- whether a tile is in one of the rows from start on, and before end, in the columns of a span
@@ -179,10 +178,4 @@ still_clean old new n m size few clean same =
     (λ k within.
     let under : k < m = omega (arith, within, length-take m new) in
     get_or-take m new k None under ∙ same k under ∙ sym (get_or-take m old k None under)) in
-    omega (
-      arith,
-      ap dirty kept,
-      ap dirty (take-take m n old few),
-      sum_by-take-le (λ tile. cond (is_none tile) 1 0) (take n old) m,
-      clean,
-    )
+    ap dirty kept ∙ clean_before old n m few clean

@@ -62,6 +62,7 @@ fn draw_quickly(
     let Some(alloc) = alloc else {
         return;
     };
+    // a swath begins at the left end of a row of tiles
     if first % window.across() != 0 {
         return;
     }

@@ -1,7 +1,7 @@
 //! Rasters: the tiles of a window, each drawn or dirty.
 
 ghost use Rattle.std.specs.Prelude.{◌≡◌, ◌+◌, ◌<◌, ◌≤◌, ◌^◌, IfErr, IfNone, IfOk, IfSome, None, OnOk, Some, true};
-ghost use Rattle.std.specs.Prelude.{count_by, is_none, is_some, length, min, take};
+ghost use Rattle.std.specs.Prelude.{count_by, is_none, is_some, length, min, slice_index_or, take};
 ghost use Rattle.cam_tiles.specs.Picture.{accepts};
 ghost use Rattle.cam_tiles.specs.Tables.{
   IsRefusal,
@@ -126,6 +126,7 @@ impl Raster {
 
     /// Draws dirty tiles, those of least number first: `at_most` of them, or all where there are fewer. Answers how
     /// many, and asks the painter once for each.
+    #[tactic(auto, using(crate::proofs::TileCounts::some_across))]
     pub fn redraw<P: Painter>(&mut self, painter: &mut P, at_most: u32) -> u32
         requires room { P.count painter.old + min at_most (dirty_count self.old) < 2 ^ 64 }
         ensures drawn { result ≡ min at_most (dirty_count self.old) }
@@ -168,6 +169,7 @@ fn first_dirty(tiles: &[Tile], from: usize) -> usize
     requires clean { count_by is_none (take from tiles.now) ≡ 0 }
     ensures within { result ≤ length tiles.now }
     ensures clean { count_by is_none (take result tiles.now) ≡ 0 }
+    ensures dirty { slice_index_or tiles.now result None ≡ None }
 {
     for k in from..tiles.len() {
         if tiles[k].is_none() {

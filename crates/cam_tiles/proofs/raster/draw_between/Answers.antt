@@ -1,6 +1,4 @@
-use Rattle.std.proofs.Common.{arith}
-use Rattle.cam_tiles.proofs.TileCounts.{few_tiles}
-use Rattle.cam_tiles.proofs.TilesInOrder.{dirty_between, drawn_between}
+use Rattle.cam_tiles.proofs.TilesInOrder.{drawn_between}
 use Rattle.cam_tiles.proofs.raster.draw_between.Goals as goal
 
 pub returns-clause-tiles : goal.returns-clause-tiles

@@ -1,22 +1,31 @@
-use Rattle.std.proofs.Common.{rules, ◌≡◌, ◌↔◌, ◌⊎◌, ◌≤ℤ◌, ◌+◌, ◌*◌, ◌/◌, ◌<◌, ◌≤◌, ◌∷◌, ℕ, [], Bool, IsTrue, OnOk, None, Some, false, length, if◌then◌else◌, is_none, slice_index_or, unwrap_or, true, ◌-◌, ◌%◌, nat_eq, nat_lt, List, ◌++◌, slice_set, bit_and, bit_or, Fits, w8, w32, w64, Bor, MutBor, ℤ, pos, ◌+ℤ◌, ◌-ℤ◌, ◌*ℤ◌, ◌<ℤ◌, FitsSigned, to_z, of_z}
-use Rattle.cam_units.specs.Boxes.{Holds}
-use Rattle.cam_units.specs.declared.point.Spot.{Spot}
-use Rattle.cam_objects.specs.Canvases.{IsDecidedIn, IsSoundPrint, leaf_of}
-use Rattle.cam_objects.specs.Image.{Covers}
-use Rattle.cam_objects.specs.Leaves.{leaf}
-use Rattle.cam_tiles.specs.Machinery.Figures.{IsPlacedFor}
-use Rattle.cam_tiles.specs.Machinery.Inks.{IsDoneTile}
-use Rattle.cam_tiles.specs.Machinery.Runs.{IsWideGrid}
-use Rattle.cam_tiles.specs.Machinery.Swaths.{AreReachedBy, IsDoneSwath, IsInSwath, IsRowOfTiles, PaintsSwath, ShowsDirty, columns_of, ink_in, place_in, tiles_in}
-use Rattle.cam_tiles.specs.Picture.{accepts}
-use Rattle.cam_tiles.specs.Tables.{all_drawn_from}
-use Rattle.cam_tiles.specs.Tiles.{centre_in, grid_of, tile_rows}
+use Rattle.std.proofs.Common.{◌-◌, ◌≡◌, FitsSigned, w64, ap, ◌∙◌, arith, rules}
+use Rattle.std.proofs.lemmas.Int.{to_z-of_z}
+use Rattle.cam_tiles.specs.declared.levels.Levels.{Levels}
+use Rattle.cam_tiles.specs.Machinery.Levels.{height, levels_of}
+use Rattle.cam_tiles.proofs.StepLemmas.{first_y, long_near}
+use Rattle.cam_tiles.proofs.SwathBoxes.{between_corners, last_fits, last_kept, last_way_fits}
 use Rattle.cam_tiles.proofs.masks.swath.wide_bounds.Goals as goal
 
--- src/masks/swath.rt:295:16
-pub overflow_add-last : goal.overflow_add-last
-overflow_add-last c = ?
+pub overflow_mul-last : goal.overflow_mul-last
+overflow_mul-last c =
+    let g = c.args.grid.now in
+    let fits : FitsSigned w64 g.step = search rules in
+    last_way_fits g c.args.columns c.requires fits c.from.result c.from.ensures
 
--- src/masks/swath.rt:290:1
+pub overflow_add-last : goal.overflow_add-last
+overflow_add-last c =
+    let g = c.args.grid.now in
+    let fits : FitsSigned w64 g.step = search rules in
+    last_fits g c.args.columns c.requires fits c.from.result c.from.ensures
+
 pub returns : goal.returns
-returns c = ?
+returns c column row near below =
+    let g = c.args.grid.now in
+    let wide = c.requires in
+    let fits : FitsSigned w64 g.step = search rules in
+    let x_fits : FitsSigned w64 g.x = search rules in
+    let y_fits : FitsSigned w64 g.y = search rules in
+    let bottom = c.bottom.ensures ∙ ap (λ (l : Levels). height l (l.rows - 1)) c.levels.ensures.value in
+    between_corners g c.args.columns wide column row near below _ _ _ _
+    (to_z-of_z w64 g.x x_fits) (to_z-of_z w64 g.y y_fits) (last_kept g c.args.columns wide fits c.from.result c.from.ensures)
+    (long_near _ _ bottom (wide.centres 0 (g.rows - 1) wide.count.0 (omega (arith, wide.grid.rows))).y)

@@ -5,7 +5,7 @@ use Rattle.std.proofs.lemmas.List.Sums.{count_by-le-length}
 use Rattle.cam_tiles.specs.Machinery.Kept.{table_of}
 use Rattle.cam_tiles.specs.Machinery.Spans.{is_in_span}
 use Rattle.cam_tiles.specs.Touched.{touched}
-use Rattle.cam_tiles.proofs.TileCounts.{few_tiles, some_across}
+use Rattle.cam_tiles.proofs.TileCounts.{few_tiles}
 use Rattle.cam_tiles.proofs.DrawnTiles.{dirty}
 use Rattle.cam_tiles.proofs.WipedTiles.{still_clean, touched_empty, touched_spans}
 use Rattle.cam_tiles.proofs.raster.Raster.touch.Goals as goal

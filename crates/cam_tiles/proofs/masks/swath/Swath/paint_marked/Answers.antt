@@ -9,7 +9,8 @@ use Rattle.cam_tiles.specs.Machinery.Inks.{Inked, Takes}
 use Rattle.cam_tiles.specs.Machinery.Swaths.{IsInSwath, IsSwath, PaintsSwath, Swathed, place_in}
 use Rattle.cam_tiles.specs.Machinery.Turning.{MarksCentres}
 use Rattle.cam_tiles.proofs.SwathInks.{clear_past_stays, covered, fewer_columns, missed_done, paints_taken, takes_marks, takes_nothing}
-use Rattle.cam_tiles.proofs.masks.swath.Swath.paint_marked.Goals.{Over, After-take_marked, Then-tiles}
+use Rattle.cam_tiles.proofs.masks.swath.Swath.paint_marked.Given.{Over}
+use Rattle.cam_tiles.proofs.masks.swath.Swath.paint_marked.Goals.{After-take_marked}
 use Rattle.cam_tiles.proofs.masks.swath.Swath.paint_marked.Goals as goal
 
 pub returns-then-tiles : goal.returns-then-tiles
@@ -96,7 +97,7 @@ invariant_of-self-2 g c =
       wide = inv.wide;
       few = inv.few;
       tiles = takes.tiles ∙ inv.tiles;
-      marks = omega (arith, inv.marks, takes.tiles, ap length marks, c.mark.auto.marks, c.deref_mut.ensures.value, ap length c.deref_mut.ensures.value);
+      marks = omega (arith, inv.marks, takes.tiles, ap length marks, c.mark.auto.marks, ap length c.deref_mut.ensures.value);
       spare = omega (arith, inv.spare, takes.tiles, ap length spare, c.mark.auto.spare, ap length c.deref_mut-2.ensures.value);
       held = inv.held;
       outside = clear_past_stays shape s.grid s.columns c.args.dark _ _ s.inks c.take_marked.new.self takes inv.outside;

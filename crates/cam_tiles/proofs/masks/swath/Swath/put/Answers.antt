@@ -1,26 +1,59 @@
-use Rattle.std.proofs.Common.{rules, ◌≡◌, ◌↔◌, ◌⊎◌, ◌≤ℤ◌, ◌+◌, ◌*◌, ◌/◌, ◌<◌, ◌≤◌, ◌∷◌, ℕ, [], Bool, IsTrue, OnOk, None, Some, false, length, if◌then◌else◌, is_none, slice_index_or, unwrap_or, true, ◌-◌, ◌%◌, nat_eq, nat_lt, List, ◌++◌, slice_set, bit_and, bit_or, Fits, w8, w32, w64, Bor, MutBor}
-use Rattle.cam_units.specs.Boxes.{Holds}
-use Rattle.cam_units.specs.declared.point.Spot.{Spot}
-use Rattle.cam_objects.specs.Canvases.{IsDecidedIn, IsSoundPrint, leaf_of}
-use Rattle.cam_objects.specs.Image.{Covers}
-use Rattle.cam_objects.specs.Leaves.{leaf}
-use Rattle.cam_tiles.specs.Machinery.Figures.{IsPlacedFor}
-use Rattle.cam_tiles.specs.Machinery.Inks.{IsDoneTile}
-use Rattle.cam_tiles.specs.Machinery.Runs.{IsWideGrid}
-use Rattle.cam_tiles.specs.Machinery.Swaths.{AreReachedBy, IsDoneSwath, IsInSwath, IsRowOfTiles, PaintsSwath, ShowsDirty, columns_of, ink_in, place_in, tiles_in}
-use Rattle.cam_tiles.specs.Picture.{accepts}
-use Rattle.cam_tiles.specs.Tables.{all_drawn_from}
-use Rattle.cam_tiles.specs.Tiles.{centre_in, grid_of, tile_rows}
+use Rattle.std.proofs.Common.{◌≡◌, ℕ, ◌+◌, ◌*◌, ◌/◌, ◌<◌, ◌≤◌, List, [], length, get_or, set, None, Some, refl, sym, ap, subst, ◌∙◌, arith}
+use Rattle.std.proofs.lemmas.List.{get_or-set_other, get_or_default}
+use Rattle.cam_tiles.specs.Machinery.Inks.{Inked}
+use Rattle.cam_tiles.specs.Machinery.Swaths.{Swathed}
+use Rattle.cam_tiles.specs.Tables.{Tile, all_drawn_from}
+use Rattle.cam_tiles.specs.Tiles.{tile_rows}
+use Rattle.cam_tiles.proofs.SwathInks.{IsClearPast}
+use Rattle.cam_tiles.proofs.SwathTiles.{rows_drawn}
+use Rattle.cam_tiles.proofs.TilesInOrder.{all_done, drawn_on, next_clean, next_dirty, none_yet, read_clean, read_dirty}
+use Rattle.cam_tiles.proofs.masks.swath.Swath.put.Goals.{then-is_none, else-is_none}
 use Rattle.cam_tiles.proofs.masks.swath.Swath.put.Goals as goal
 
--- src/masks/swath.rt:134:9
 pub loop-k-init : goal.loop-k-init
-loop-k-init c = ?
+loop-k-init c = record {
+  drawn = λ image grid first shows. none_yet (λ k. tile_rows image (grid k)) first c.args.tiles.now;
+  rest = λ j after. refl;
+}
 
--- src/masks/swath.rt:134:9
 pub loop-k-preserved : goal.loop-k-preserved
-loop-k-preserved c = ?
+loop-k-preserved c =
+    let s = c.args.self.now in
+    let old = c.args.tiles.now in
+    let now = c.loop-k.tiles in
+    let k = c.loop-k.k in
+    let so_far = c.loop-k.invariant in
+    let within : k < length now = omega (arith, c.loop-k.auto.tiles, c.loop-k-test.true) in
+    elim c.if-is_none.branch [
+      | then-is_none w ↦
+          (let read = read_dirty (get_or now k None) c.is_none.result c.is_none.ensures w.if-is_none.true in
+          let was : get_or old k (Some []) ≡ None =
+          sym (so_far.rest k (omega arith)) ∙ get_or_default now k (Some []) None within ∙ read in
+          record {
+            drawn = λ image grid first shows.
+                let rows = rows_drawn image s k (grid (first + k)) ? ? ?
+                    (shows.pixels k) (shows.places k) (λ column row there here.
+                    shows.inks column row there (ap (λ j. get_or old j (Some [])) here ∙ was))
+                    w.rows.result w.rows.ensures.size ? ? in
+                so_far.drawn image grid first shows
+                ∙ next_dirty (λ k. tile_rows image (grid k)) first k now w.rows.result within read rows
+                ∙ ap (drawn_on (λ k. tile_rows image (grid k)) first (k + 1)) (sym w.tiles-is);
+            rest = λ j after. ap (λ (ts : List Tile). get_or ts j (Some [])) w.tiles-is
+                ∙ get_or-set_other now k j (Some w.rows.result) (Some []) (λ same. omega arith)
+                ∙ so_far.rest j (omega arith);
+          })
+      | else-is_none w ↦
+          (let found = read_clean (get_or now k None) c.is_none.result c.is_none.ensures w.if-is_none.false in
+          let read = get_or_default now k (Some found.0) None within ∙ found.1 in
+          record {
+            drawn = λ image grid first shows. so_far.drawn image grid first shows
+                ∙ next_clean (λ k. tile_rows image (grid k)) first k now found.0 within read
+                ∙ ap (drawn_on (λ k. tile_rows image (grid k)) first (k + 1)) (sym w.tiles-is);
+            rest = λ j after. ap (λ (ts : List Tile). get_or ts j (Some [])) w.tiles-is ∙ so_far.rest j (omega arith);
+          })
+    ]
 
--- src/masks/swath.rt:128:5
 pub returns : goal.returns
-returns c = ?
+returns c = λ image grid first shows.
+    sym (c.loop-k.invariant.drawn image grid first shows
+    ∙ all_done (λ k. tile_rows image (grid k)) first c.loop-k.k c.loop-k.tiles (omega (arith, c.loop-k.auto.tiles, c.loop-k-test.false)))

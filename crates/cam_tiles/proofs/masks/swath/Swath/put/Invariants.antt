@@ -1,17 +1,16 @@
-use Rattle.std.proofs.Common.{◌≡◌, ◌↔◌, ◌⊎◌, ◌≤ℤ◌, ◌+◌, ◌*◌, ◌/◌, ◌<◌, ◌≤◌, ◌∷◌, ℕ, [], Bool, IsTrue, OnOk, None, Some, false, length, if◌then◌else◌, is_none, slice_index_or, unwrap_or, true, ◌-◌}
-use Rattle.cam_units.specs.Boxes.{Holds}
+use Rattle.std.proofs.Common.{◌≡◌, ◌≤◌, ℕ, Bool, [], Some, get_or}
 use Rattle.cam_units.specs.declared.point.Spot.{Spot}
-use Rattle.cam_objects.specs.Canvases.{IsDecidedIn, IsSoundPrint, leaf_of}
-use Rattle.cam_objects.specs.Image.{Covers}
-use Rattle.cam_objects.specs.Leaves.{leaf}
-use Rattle.cam_tiles.specs.Machinery.Figures.{IsPlacedFor}
-use Rattle.cam_tiles.specs.Machinery.Inks.{IsDoneTile}
-use Rattle.cam_tiles.specs.Machinery.Runs.{IsWideGrid}
-use Rattle.cam_tiles.specs.Machinery.Swaths.{AreReachedBy, IsDoneSwath, IsInSwath, IsRowOfTiles, PaintsSwath, ShowsDirty, columns_of, ink_in, place_in, tiles_in}
-use Rattle.cam_tiles.specs.Picture.{accepts}
+use Rattle.cam_tiles.specs.declared.grid.Grid.{Grid}
+use Rattle.cam_tiles.specs.Machinery.Swaths.{ShowsDirty}
 use Rattle.cam_tiles.specs.Tables.{all_drawn_from}
-use Rattle.cam_tiles.specs.Tiles.{centre_in, grid_of, tile_rows}
+use Rattle.cam_tiles.specs.Tiles.{tile_rows}
+use Rattle.cam_tiles.proofs.TilesInOrder.{drawn_on}
 use Rattle.cam_tiles.proofs.masks.swath.Swath.put.Given as goal
 
 abbrev pub invariant-loop-k : goal.invariant-loop-k
-invariant-loop-k l = ?
+invariant-loop-k l = record {
+  drawn : (image : Spot → Bool) (grid : ℕ → Grid) (first : ℕ) → ShowsDirty image grid first l.fn.self l.fn.tiles
+      → all_drawn_from (λ k. tile_rows image (grid k)) first l.fn.tiles
+      ≡ drawn_on (λ k. tile_rows image (grid k)) first l.k l.tiles;
+  rest : (j : ℕ) → l.k ≤ j → get_or l.tiles j (Some []) ≡ get_or l.fn.tiles j (Some []);
+}

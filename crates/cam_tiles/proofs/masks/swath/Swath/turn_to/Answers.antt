@@ -1,38 +1,66 @@
-use Rattle.std.proofs.Common.{rules, ◌≡◌, ◌↔◌, ◌⊎◌, ◌≤ℤ◌, ◌+◌, ◌*◌, ◌/◌, ◌<◌, ◌≤◌, ◌∷◌, ℕ, [], Bool, IsTrue, OnOk, None, Some, false, length, if◌then◌else◌, is_none, slice_index_or, unwrap_or, true, ◌-◌, ◌%◌, nat_eq, nat_lt, List, ◌++◌, slice_set, bit_and, bit_or, Fits, w8, w32, w64, Bor, MutBor}
-use Rattle.cam_units.specs.Boxes.{Holds}
-use Rattle.cam_units.specs.declared.point.Spot.{Spot}
-use Rattle.cam_objects.specs.Canvases.{IsDecidedIn, IsSoundPrint, leaf_of}
-use Rattle.cam_objects.specs.Image.{Covers}
-use Rattle.cam_objects.specs.Leaves.{leaf}
-use Rattle.cam_tiles.specs.Machinery.Figures.{IsPlacedFor}
-use Rattle.cam_tiles.specs.Machinery.Inks.{IsDoneTile}
+use Rattle.std.proofs.Common.{◌≡◌, ℕ, ◌+◌, ◌*◌, ◌/◌, ◌%◌, ◌<◌, ◌≤◌, true, length, min, refl, sym, ap, subst, ◌∙◌, arith}
+use Rattle.cam_tiles.specs.declared.grid.Grid.{Grid}
 use Rattle.cam_tiles.specs.Machinery.Runs.{IsWideGrid}
-use Rattle.cam_tiles.specs.Machinery.Swaths.{AreReachedBy, IsDoneSwath, IsInSwath, IsRowOfTiles, PaintsSwath, ShowsDirty, columns_of, ink_in, place_in, tiles_in}
-use Rattle.cam_tiles.specs.Picture.{accepts}
-use Rattle.cam_tiles.specs.Tables.{all_drawn_from}
-use Rattle.cam_tiles.specs.Tiles.{centre_in, grid_of, tile_rows}
+use Rattle.cam_tiles.specs.Machinery.Swaths.{columns_of}
+use Rattle.cam_tiles.specs.Tiles.{across, grid_of, left}
+use Rattle.cam_tiles.proofs.GridLemmas.{left_within}
+use Rattle.cam_tiles.proofs.SwathTiles.{clear_past_open, dirty_open, row_is_wide, tiles_taken_up}
+use Rattle.cam_tiles.proofs.TileCounts.{few_across}
+use Rattle.cam_tiles.proofs.WindowLemmas.{accepted}
+use Rattle.cam_tiles.proofs.masks.swath.Swath.turn_to.Goals.{After-min-columns}
 use Rattle.cam_tiles.proofs.masks.swath.Swath.turn_to.Goals as goal
 
--- src/masks/swath.rt:116:20
 pub overflow_mul-left : goal.overflow_mul-left
-overflow_mul-left c = ?
+overflow_mul-left c =
+    let w = c.args.window.now in
+    let limits = accepted w c.requires.accepted in
+    let from = left_within w c.args.first limits.width.0 in
+    omega (arith, ap (λ n. 64 * (c.args.first % n)) c.across.ensures, from, limits.width.1)
 
--- src/masks/swath.rt:117:49
 pub overflow_mul-tiles : goal.overflow_mul-tiles
-overflow_mul-tiles c = ?
+overflow_mul-tiles c =
+    let few = few_across c.args.window.now c.requires.accepted in
+    omega (arith, few, c.requires.row.fits)
 
--- src/masks/swath.rt:120:9
 pub turn_to-requires-clause-few : goal.turn_to-requires-clause-few
-turn_to-requires-clause-few c = ?
+turn_to-requires-clause-few c =
+    let few = few_across c.args.window.now c.requires.accepted in
+    omega (arith, few, c.requires.row.fits)
 
--- src/masks/swath.rt:123:23
+-- the columns
+columns_are : (c : After-min-columns) → c.min-columns.result ≡ columns_of c.args.window.now c.args.first (length c.args.tiles.now)
+columns_are c = ?
+
 pub wide_bounds-self-inside-requires : goal.wide_bounds-self-inside-requires
-wide_bounds-self-inside-requires c = ?
+wide_bounds-self-inside-requires c =
+    let w = c.args.window.now in
+    let first = c.args.first in
+    subst (λ (g : Grid). IsWideGrid g c.min-columns.result) (sym c.grid-grid.ensures.value)
+    (row_is_wide w first c.min-columns.result c.args.tiles.now c.requires.accepted c.requires.row
+    (columns_are (goal.at.wide_bounds-self-inside-requires c).After-min-columns))
 
--- src/masks/swath.rt:100:5
 pub invariant_of-self-2 : goal.invariant_of-self-2
-invariant_of-self-2 c = ?
+invariant_of-self-2 c =
+    let w = c.args.window.now in
+    let tiles = c.args.tiles.now in
+    let columns = c.min-columns.result in
+    let are = columns_are (goal.at.invariant_of-self-2 c).After-min-columns in
+    let limits = accepted w c.requires.accepted in
+    let now = c.in_ok-turn_to.ensures.open in
+    let wide = subst (λ (g : Grid). IsWideGrid g columns) (sym c.grid-grid.ensures.value)
+        (row_is_wide w c.args.first columns tiles c.requires.accepted c.requires.row are) in
+    record {
+      grid = c.grid-grid.ensures.grid;
+      wide = λ some. wide;
+      few = wide.count.1;
+      tiles = now.tiles ∙ tiles_taken_up w c.args.first columns tiles c.requires.accepted c.requires.row are;
+      marks = omega (arith, now.tiles, c.in_ok-resize.ensures.len);
+      spare = omega (arith, now.tiles, c.in_ok-resize-2.ensures.len);
+      held = c.wide_bounds-self-inside.ensures;
+      outside = clear_past_open tiles columns c.grid-grid.result.rows c.turn_to.new.self now c.grid-grid.result refl;
+    }
 
--- src/masks/swath.rt:100:5
 pub returns-clause-open : goal.returns-clause-open
-returns-clause-open c = ?
+returns-clause-open c = λ column row inside.
+    dirty_open c.args.tiles.now c.min-columns.result c.grid-grid.result.rows c.turn_to.new.self c.in_ok-turn_to.ensures.open
+    row column inside.1 inside.0 c.grid-grid.ensures.grid.rows.1 (omega (arith, c.min-columns.ensures))

@@ -1,18 +1,26 @@
-use Rattle.std.proofs.Common.{rules, ◌≡◌, ◌↔◌, ◌⊎◌, ◌≤ℤ◌, ◌+◌, ◌*◌, ◌/◌, ◌<◌, ◌≤◌, ◌∷◌, ℕ, [], Bool, IsTrue, OnOk, None, Some, false, length, if◌then◌else◌, is_none, slice_index_or, unwrap_or, true, ◌-◌, ◌%◌, nat_eq, nat_lt, List, ◌++◌, slice_set, bit_and, bit_or, Fits, w8, w32, w64, Bor, MutBor, ℤ, pos, ◌+ℤ◌, ◌-ℤ◌, ◌*ℤ◌, ◌<ℤ◌, FitsSigned, to_z, of_z}
+use Rattle.std.proofs.Common.{◌≡◌, ℕ, ◌<◌, ◌≤◌, true, IsTrue, IsSome, sym, ap, subst, ◌∙◌, refl, FitsSigned, w64, rules, arith}
+use Rattle.std.proofs.lemmas.Int.{to_z-of_z}
 use Rattle.cam_units.specs.Boxes.{Holds}
-use Rattle.cam_units.specs.declared.point.Spot.{Spot}
-use Rattle.cam_objects.specs.Canvases.{IsDecidedIn, IsSoundPrint, leaf_of}
-use Rattle.cam_objects.specs.Image.{Covers}
-use Rattle.cam_objects.specs.Leaves.{leaf}
-use Rattle.cam_tiles.specs.Machinery.Figures.{IsPlacedFor}
-use Rattle.cam_tiles.specs.Machinery.Inks.{IsDoneTile}
-use Rattle.cam_tiles.specs.Machinery.Runs.{IsWideGrid}
-use Rattle.cam_tiles.specs.Machinery.Swaths.{AreReachedBy, IsDoneSwath, IsInSwath, IsRowOfTiles, PaintsSwath, ShowsDirty, columns_of, ink_in, place_in, tiles_in}
-use Rattle.cam_tiles.specs.Picture.{accepts}
-use Rattle.cam_tiles.specs.Tables.{all_drawn_from}
-use Rattle.cam_tiles.specs.Tiles.{centre_in, grid_of, tile_rows}
+use Rattle.cam_units.specs.declared.bounds.Bounds.{Bounds}
+use Rattle.cam_tiles.specs.declared.levels.Levels.{Levels}
+use Rattle.cam_tiles.specs.Machinery.Levels.{IsOnRow, levels_of}
+use Rattle.cam_tiles.specs.Machinery.Swaths.{Swathed, ink_in, place_in}
+use Rattle.cam_tiles.proofs.SwathInks.{some_ink}
 use Rattle.cam_tiles.proofs.masks.swath.SwathCanvas.is_decided_in.Goals as goal
 
--- src/masks/swath.rt:249:5
 pub returns : goal.returns
-returns c = ?
+returns c told column row inside holds =
+    let at = place_in c.args.self.now column row in
+    let held = subst (λ (b : Bounds). Holds b at) c.in-Closed.is holds in
+    let levels = c.levels.ensures.value ∙ ap (λ (v : Swathed). levels_of v.grid) c.self.view_is in
+    let on = subst (λ (l : Levels). IsOnRow l row at) (sym levels) (inside.1, refl) in
+    let low : FitsSigned w64 c.in-Closed.low.y = search rules in
+    let high : FitsSigned w64 c.in-Closed.high.y = search rules in
+    let left : FitsSigned w64 c.in-Closed.low.x = search rules in
+    let right : FitsSigned w64 c.in-Closed.high.x = search rules in
+    let rows = simp to_z-of_z at c.band-rows.ensures.rows in
+    let columns = simp to_z-of_z at c.columns_between.ensures.each in
+    let below = (rows row at on).1 (held.below, held.above) in
+    let near = (columns column inside.0).1 (held.left, held.right) in
+    subst (λ (v : Swathed). IsSome (ink_in v column row)) c.self.view_is
+    (some_ink _ _ (c.is_decided.ensures told row column below.0 below.1 near.0 near.1))
