@@ -4,7 +4,7 @@ use Rattle.std.proofs.Common.{refl, sym, ap, subst, ◌∙◌, inl, inr, arith, 
 use Rattle.std.proofs.lemmas.Bool.{cases_lt}
 use Rattle.std.proofs.lemmas.List.{ext_get_or, get_or-append_right, get_or_append_left, length-take-le}
 use borrow.Rule.Slice.PartMut.{mid_of, put_mid, put_same}
-use Rattle.cam_tiles.specs.Machinery.Blackened.{IsKeptOrDrawn, IsPartlyDrawn}
+use Rattle.cam_tiles.specs.Machinery.Drawn.{IsKeptOrDrawn, IsPartlyDrawn}
 use Rattle.cam_tiles.specs.Tables.{Tile, all_drawn_from}
 use Rattle.cam_tiles.proofs.TilesInOrder.{length-all_drawn_from}
 
