@@ -2,6 +2,7 @@ use Rattle.std.proofs.Common.{◌≡◌, ◌⊎◌, ℕ, ◌/◌, ◌<◌, ◌�
 use Rattle.cam_units.specs.Boxes.{Holds}
 use Rattle.cam_units.specs.declared.bounds.Bounds.{Bounds}
 use Rattle.cam_apertures.specs.declared.aperture.Aperture.{Aperture}
+use Rattle.cam_apertures.specs.declared.aperture.Aperture.TheVariants.{Prims}
 use Rattle.cam_objects.specs.declared.canvas.Figure.{Figure}
 use Rattle.cam_objects.specs.Canvases.{leaf_of, shape_of}
 use Rattle.cam_objects.specs.Image.{Covers}
@@ -45,9 +46,10 @@ pub paint_marked-requires-clause-within : goal.paint_marked-requires-clause-with
 paint_marked-requires-clause-within c column row there on =
     let at = place_in c.args.self.now column row in
     let m = c.in-Stamp-Prims-default-default in
+    let is : m.aperture.now ≡ Prims m.prims = simp m.is at m.aperture-is in
     within (goal.at.paint_marked-requires-clause-within c).After-div_ceil column row there
     (subst (λ (f : Figure). Covers (shape_of f) at) (sym m.is)
-    (subst (λ (a : Aperture). Covers (Stamp a m.turn m.at) at) (sym m.aperture-is) on))
+    (subst (λ (a : Aperture). Covers (Stamp a m.turn m.at) at) (sym is) on))
 
 pub paint_marked-requires-in-Filled-clause-within : goal.paint_marked-requires-in-Filled-clause-within
 paint_marked-requires-in-Filled-clause-within c column row there on =
