@@ -134,7 +134,7 @@ tile_part words tile row low =
     get_or-take (64 * tile + 64 - 64 * tile) (drop (64 * tile) words) row 0 (omega arith)
     ∙ get_or-drop (64 * tile) words row 0
 
-pub marked_at : (words : List ℕ) (tile row i : ℕ) → i < 64
+marked_at : (words : List ℕ) (tile row i : ℕ) → i < 64
     → is_marked words row (64 * tile + i) ≡ is_set (slice_index words (64 * tile + row)) i
 marked_at words tile row i small =
     let own : (64 * tile + i) / 64 ≡ tile = omega arith in

@@ -51,7 +51,7 @@ module _ (from to : ℕ) (bits : ℕ → ℕ) (ink : Bool) (old new : Inked) (ta
       (λ after until. kept_set _ _ _ _ _ (taken.each k (column % 64) after until (omega arith)) was)
       (λ late. stays (inr late))
 
-  pub takes_tiles : (first end : ℕ) (holds : ℕ → ℕ → Bool)
+  takes_tiles : (first end : ℕ) (holds : ℕ → ℕ → Bool)
       → ((row column : ℕ) → row < 64 → 64 * first ≤ column → column < 64 * end
       → (let k = 64 * (column / 64) + row in
       ((from ≤ k) × (k < to) × (holds row column ≡ is_set (bits k) (column % 64)))

@@ -81,13 +81,6 @@ impl Inks {
         self.done = 0;
     }
 
-    /// How many tiles there are.
-    pub(crate) fn tiles(&self) -> usize
-        ensures { result ≡ self.now.tiles }
-    {
-        self.tiles
-    }
-
     /// Whether all of a tile is decided.
     pub(crate) fn is_done(&mut self, tile: usize) -> bool
         requires { tile < self.old.tiles }
