@@ -25,5 +25,5 @@ draw_swath-requires-clause-row c =
 
 pub returns-clause-tiles : goal.returns-clause-tiles
 returns-clause-tiles c =
-    part_partly_drawn _ c.args.first c.dirty_among-dirty.result.first c.dirty_among-dirty.result.end c.args.tiles.now
-    c.draw_swath.new.tiles (omega (arith, c.if-dirty.false)) c.dirty_among-dirty.ensures.end c.draw_swath.ensures.tiles
+    part_partly_drawn _ c.args.first c.dirty_among-dirty.result.first _ c.args.tiles.now c.draw_swath.new.tiles
+    (omega (arith, c.if-dirty.false, c.dirty_among-dirty.ensures.end)) c.draw_swath.ensures.tiles
