@@ -13,8 +13,7 @@ pub(crate) mod shapes;
 pub(crate) mod stamps;
 
 ghost use Rattle.std.specs.Int.{bit_at};
-ghost use Rattle.std.specs.Prelude.{◌≡◌, ◌==◌, IsTrue, None, Some, if◌then◌else◌, slice_index};
-ghost use Rattle.cam_units.specs.Boxes.{Holds};
+ghost use Rattle.std.specs.Prelude.{◌≡◌, ◌==◌, None, Some, if◌then◌else◌, slice_index};
 ghost use Rattle.cam_objects.specs.Canvases.{IsSoundFigure, IsSoundPrint, shape_of};
 ghost use Rattle.cam_objects.specs.Image.{Covers};
 ghost use Rattle.cam_objects.specs.Tests.{is_black};

@@ -1,27 +1,21 @@
 //! A mask, and how it gains and loses marks.
 
-ghost use Rattle.std.specs.Prelude.{◌≡◌, ◌↔◌, ◌+◌, ◌*◌, ◌<◌, ◌≤◌, ℕ, IsTrue, length, slice_index_or, true};
-ghost use Rattle.std.specs.Int.{IsBitSet};
+ghost use Rattle.std.specs.Prelude.{◌≡◌, ◌↔◌, ◌<◌, ◌≤◌, ℕ, IsTrue, true};
 ghost use Rattle.cam_units.specs.Board.{IsOnBoard};
 ghost use Rattle.cam_units.specs.Boxes.{Holds};
-ghost use Rattle.cam_units.specs.declared.bounds.Bounds.TheVariants.{Closed};
 ghost use Rattle.cam_objects.specs.Image.{relative};
-ghost use Rattle.cam_rows.specs.Marks.{is_marked};
 ghost use Rattle.cam_rows.specs.Rows.{IsRow, centre_at};
-ghost use Rattle.cam_rows.specs.Runs.{most_columns};
-ghost use Rattle.cam_tiles.specs.Machinery.Masks.{HoldsCentres, IsBlank, IsIn, IsMarked, IsMask, IsWithin};
-ghost use Rattle.cam_tiles.specs.Machinery.Masks.{Merges, TurnsBy, ink_of, joined};
-ghost use Rattle.cam_tiles.specs.Machinery.Runs.{Fits, HasColumn};
+ghost use Rattle.cam_tiles.specs.Machinery.Masks.{HoldsCentres, IsBlank, IsIn, IsMask, IsWithin};
+ghost use Rattle.cam_tiles.specs.Machinery.Masks.{Merges, TurnsBy, ink_of};
 ghost use Rattle.cam_tiles.specs.Tiles.{IsGrid, centre_in};
 
 use crate::grid::Grid;
 use crate::levels::Levels;
 use crate::masks::heights::Heights;
 use crate::masks::join::{Join, told_by_type};
-use crate::masks::runs::Runs;
 use crate::span::Span;
 use cam_rows::{Centres, run_row, xor_rows};
-use cam_units::{Bounds, Point, Spot};
+use cam_units::{Bounds, Point};
 use std::marker::Model;
 
 /// The origin, from which places are seen as they are.

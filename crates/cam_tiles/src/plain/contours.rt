@@ -1,6 +1,6 @@
 //! Contours that are placed, and outlines of macros, by the rows of their edges and caps.
 
-ghost use Rattle.std.specs.Prelude.{◌≡◌, All, IsTrue, map};
+ghost use Rattle.std.specs.Prelude.{All, IsTrue, map};
 ghost use Rattle.cam_units.specs.Board.{IsOnBoard};
 ghost use Rattle.cam_shapes.specs.Contour.{IsInContour, IsSoundSeg};
 ghost use Rattle.cam_shapes.specs.Edge.{crosses_ray, edge};
