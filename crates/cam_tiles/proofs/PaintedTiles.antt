@@ -5,8 +5,6 @@ use Rattle.cam_units.specs.declared.point.Spot.{Spot}
 use Rattle.cam_units.proofs.Ring.{equal}
 use Rattle.cam_units.proofs.Ring.Polynomial.{Atom, Product}
 use Rattle.cam_tiles.specs.declared.grid.Grid.{Grid}
-use Rattle.cam_tiles.specs.declared.levels.Levels.{Levels}
-use Rattle.cam_tiles.specs.Machinery.Levels.{levels_of}
 use Rattle.cam_tiles.specs.Machinery.Masks.{IsIn}
 use Rattle.cam_tiles.specs.Tiles.{centre_in}
 use Rattle.cam_tiles.proofs.StepLemmas.{no_step, no_step_down}
@@ -37,12 +35,6 @@ module _ (g f : Grid) (some : IsIn g 0 0) (down : (row : ℕ) → IsIn f 0 row �
 
   same_step : f.step ≡ g.step
   same_step = next_is f.x g.x f.step g.step same_x (ap (λ (s : Spot). s.x) next)
-
-  pub same_levels : levels_of f ≡ levels_of g
-  same_levels =
-      let of : ℤ → ℤ → ℕ → Levels = λ y s r. record { top = y; step = s; rows = r } in
-      ap (λ y. of y f.step f.rows) same_y ∙ ap (λ s. of g.y s f.rows) same_step
-      ∙ ap (λ r. of g.y g.step r) same_rows
 
   pub same_grid : ((column : ℕ) → IsIn f column 0 ↔ IsIn g column 0) → f ≡ g
   same_grid across =

@@ -138,9 +138,9 @@ module _ (holds : ℕ → ℕ → Bool) (dark : Bool) (runs : FigureRuns) where
     in_bits_told : (row column : ℕ) → IsTrue (in_bits rows bits row column) ↔ IsInBits row (column % 64)
     in_bits_told row column = (
       (λ on.
-      let one = and_parts _ _ on in
-      let two = and_parts _ _ one.0 in
-      (leb-true _ _ two.0, ltb-true _ _ two.1, (bit_told _ _).0 one.1)),
+          let one = and_parts _ _ on in
+          let two = and_parts _ _ one.0 in
+          (leb-true _ _ two.0, ltb-true _ _ two.1, (bit_told _ _).0 one.1)),
       (λ h. and_from _ _ (and_from _ _ (le-leb _ _ h.0) (lt-ltb _ _ h.1)) ((bit_told _ _).1 h.2)),
     )
 
@@ -252,38 +252,38 @@ module _ (shape : Shape) (g : Grid) (columns : ℕ) where
       ]
 
   module _ (dark : Bool) (first end : ℕ) (old new : Inked) (takes : Takes first end (covered shape g) dark old new)
-      where
-    -- a leaf is painted where it is taken in each tile of which it covers what is not decided
-    pub paints_taken : g.rows ≤ 64 → columns ≤ 64 * old.tiles
-        → ((column row : ℕ) → column < columns → row < g.rows → (column < 64 * first) ⊎ (64 * end ≤ column)
-        → IsSome (ink_at old row column) ⊎ (Covers shape (centre_in g column row) → ⊥))
-        → PaintsSwath (record { grid = g; columns = columns; inks = old }) (leaf shape dark ∷ [])
-        (record { grid = g; columns = columns; inks = new })
-    paints_taken rows wide missed = record {
-      pixels = λ column row. ((λ h. h), (λ h. h));
-      places = refl;
-      inks = λ column row there.
-          let low : row < 64 = omega (arith, there.1, rows) in
-          let within : column < 64 * old.tiles = omega (arith, there.0, wide) in
-          let ink : Option Bool = ink_at old row column in
-          let test : Option Bool = given (covered shape g row column) dark in
-          let off : (column < 64 * first) ⊎ (64 * end ≤ column) → ink_at new row column ≡ option_or ink test =
-          λ apart. takes.others row column low within apart ∙ elim (missed column row there.0 there.1 apart) [
-            | inl some ↦ sym (or_decided ink test some)
-            | inr off ↦ sym (ap (λ b. option_or ink (given b dark)) (not_covered row column off) ∙ or_none ink)
-          ] in
-          elim (cases_lt column (64 * first)) [
-            | inl front ↦ off (inl front)
-            | inr after ↦ elim (cases_lt column (64 * end)) [
-              | inl until ↦ takes.each row column low within after until
-              | inr past ↦ off (inr past)
-            ]
-          ];
-    }
+    where
+      -- a leaf is painted where it is taken in each tile of which it covers what is not decided
+      pub paints_taken : g.rows ≤ 64 → columns ≤ 64 * old.tiles
+          → ((column row : ℕ) → column < columns → row < g.rows → (column < 64 * first) ⊎ (64 * end ≤ column)
+          → IsSome (ink_at old row column) ⊎ (Covers shape (centre_in g column row) → ⊥))
+          → PaintsSwath (record { grid = g; columns = columns; inks = old }) (leaf shape dark ∷ [])
+          (record { grid = g; columns = columns; inks = new })
+      paints_taken rows wide missed = record {
+        pixels = λ column row. ((λ h. h), (λ h. h));
+        places = refl;
+        inks = λ column row there.
+            let low : row < 64 = omega (arith, there.1, rows) in
+            let within : column < 64 * old.tiles = omega (arith, there.0, wide) in
+            let ink : Option Bool = ink_at old row column in
+            let test : Option Bool = given (covered shape g row column) dark in
+            let off : (column < 64 * first) ⊎ (64 * end ≤ column) → ink_at new row column ≡ option_or ink test =
+            λ apart. takes.others row column low within apart ∙ elim (missed column row there.0 there.1 apart) [
+              | inl some ↦ sym (or_decided ink test some)
+              | inr off ↦ sym (ap (λ b. option_or ink (given b dark)) (not_covered row column off) ∙ or_none ink)
+            ] in
+            elim (cases_lt column (64 * first)) [
+              | inl front ↦ off (inl front)
+              | inr after ↦ elim (cases_lt column (64 * end)) [
+                | inl until ↦ takes.each row column low within after until
+                | inr past ↦ off (inr past)
+              ]
+            ];
+      }
 
-    -- and what is past the swath stays clear
-    pub clear_past_stays : IsClearPast g columns old → IsClearPast g columns new
-    clear_past_stays clear row column low within out =
-        let there : column < 64 * old.tiles = omega (arith, within, takes.tiles) in
-        let was = clear row column low there out in
-        takes_decided (covered shape g) dark first end old new takes row column low there (some_if _ false was) ∙ was
+      -- and what is past the swath stays clear
+      pub clear_past_stays : IsClearPast g columns old → IsClearPast g columns new
+      clear_past_stays clear row column low within out =
+          let there : column < 64 * old.tiles = omega (arith, within, takes.tiles) in
+          let was = clear row column low there out in
+          takes_decided (covered shape g) dark first end old new takes row column low there (some_if _ false was) ∙ was

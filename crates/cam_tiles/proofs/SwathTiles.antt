@@ -1,6 +1,6 @@
 -- Swaths: the tiles that they turn to, and what is drawn of them.
-use Rattle.std.proofs.Common.{◌≡◌, ◌↔◌, ℕ, zero, suc, nat_eq, ◌+◌, ◌-◌, ◌*◌, ◌/◌, ◌%◌, ◌^◌, ◌<◌, ◌≤◌, min, Bool, true, false, ◌&&◌, nat_lt, cond, IsTrue}
-use Rattle.std.proofs.Common.{List, [], length, get_or, Option, None, Some, is_none, refl, sym, ap, subst, ◌∙◌, inl, inr, arith}
+use Rattle.std.proofs.Common.{◌≡◌, ◌↔◌, ℕ, zero, suc, nat_eq, ◌+◌, ◌-◌, ◌*◌, ◌/◌, ◌^◌, ◌<◌, ◌≤◌, Bool, true, false, ◌&&◌, nat_lt, cond}
+use Rattle.std.proofs.Common.{List, [], length, get_or, None, Some, is_none, refl, sym, ap, subst, ◌∙◌, inl, inr, arith}
 use Rattle.std.specs.Int.{bit_at}
 use Rattle.std.specs.Option.{unwrap_or}
 use Rattle.std.proofs.Math.Bool.{and-false}
@@ -20,7 +20,7 @@ use Rattle.cam_tiles.specs.Machinery.Swaths.{IsInSwath, IsRowOfTiles, Swathed, c
 use Rattle.cam_tiles.specs.Pbm.{bit_of}
 use Rattle.cam_tiles.specs.Picture.{accepts}
 use Rattle.cam_tiles.specs.Tables.{Tile}
-use Rattle.cam_tiles.specs.Tiles.{across, centre_in, grid_of, is_black_in, left, tile_rows, tiles_of, top, word}
+use Rattle.cam_tiles.specs.Tiles.{centre_in, grid_of, is_black_in, left, tile_rows, top, word}
 use Rattle.cam_tiles.proofs.GridLemmas.{centre_in_grid, on_board, left_within}
 use Rattle.cam_tiles.proofs.SwathInks.{IsClearPast}
 use Rattle.cam_tiles.proofs.TileRowLemmas.{clear_past, get_or-tile_rows, length-tile_rows, shown_within}

@@ -1,28 +1,16 @@
 //! Tiles of a row of tiles that are painted at once, from the last leaf on.
 
 ghost use Rattle.std.specs.Prelude.{◌≡◌, ◌↔◌, ◌⊎◌, ◌≤ℤ◌, ◌+◌, ◌*◌, ◌/◌, ◌<◌, ◌≤◌, ◌∷◌, ℕ, [], Bool, IsTrue, OnOk, None, Some, false, length};
-ghost use Rattle.std.specs.Prelude.{if◌then◌else◌, is_none, slice_index_or, unwrap_or, true};
+ghost use Rattle.std.specs.Prelude.{if◌then◌else◌, is_none, slice_index_or, true};
 ghost use Rattle.cam_units.specs.Boxes.{Holds};
 ghost use Rattle.cam_units.specs.declared.point.Spot.{Spot};
-ghost use Rattle.cam_objects.specs.Canvases.{IsDecidedIn, IsSoundPrint, leaf_of};
+ghost use Rattle.cam_objects.specs.Canvases.{leaf_of};
 ghost use Rattle.cam_objects.specs.Image.{Covers};
 ghost use Rattle.cam_objects.specs.Leaves.{leaf};
 ghost use Rattle.cam_tiles.specs.Machinery.Figures.{AllFit, IsPlacedFor};
 ghost use Rattle.cam_tiles.specs.Machinery.Inks.{IsDoneTile, Takes};
 ghost use Rattle.cam_tiles.specs.Machinery.Runs.{IsWideGrid};
-ghost use Rattle.cam_tiles.specs.Machinery.Swaths.{
-  AreReachedBy,
-  AreRunsOf,
-  IsDoneSwath,
-  IsInSwath,
-  IsRowOfTiles,
-  PaintsSwath,
-  ShowsDirty,
-  columns_of,
-  ink_in,
-  place_in,
-  tiles_in,
-};
+ghost use Rattle.cam_tiles.specs.Machinery.Swaths.{AreReachedBy, AreRunsOf, IsDoneSwath, IsInSwath, IsRowOfTiles, PaintsSwath, ShowsDirty, columns_of, ink_in, place_in, tiles_in};
 ghost use Rattle.cam_tiles.specs.Picture.{accepts};
 ghost use Rattle.cam_tiles.specs.Tables.{all_drawn_from};
 ghost use Rattle.cam_tiles.specs.Tiles.{centre_in, grid_of, tile_rows};
@@ -248,10 +236,18 @@ impl Canvas for Swath {
             end: columns.end.div_ceil(64),
         };
         match print.figure {
-            Figure::Stamp { aperture: Aperture::Prims(prims), turn, at } => {
+            Figure::Stamp {
+                aperture: Aperture::Prims(prims),
+                turn,
+                at,
+            } => {
                 self.paint_marked(tiles, &PlacedMacro { prims, turn, at }, print.dark);
             }
-            Figure::Filled { contour, turn, offset } => {
+            Figure::Filled {
+                contour,
+                turn,
+                offset,
+            } => {
                 let placing = Placing { turn, offset };
                 self.paint_marked(tiles, &PlacedContour { contour, placing }, print.dark);
             }
@@ -308,9 +304,6 @@ fn wide_bounds(grid: &Grid, columns: u32) -> Bounds
             x: grid.x,
             y: grid.levels().bottom(),
         },
-        high: Spot {
-            x: last,
-            y: grid.y,
-        },
+        high: Spot { x: last, y: grid.y },
     }
 }

@@ -1,4 +1,4 @@
-use Rattle.std.proofs.Common.{◌≡◌, ℕ, ◌+◌, ◌*◌, ◌<◌, ◌≤◌, Bool, refl, sym, ap, subst, ◌∙◌, inl, inr, arith}
+use Rattle.std.proofs.Common.{◌≡◌, ℕ, ◌+◌, refl, sym, ap, subst, ◌∙◌, inl, inr, arith}
 use Rattle.std.proofs.lemmas.Bool.{cases_lt}
 use Rattle.cam_tiles.specs.Machinery.Inks.{Inked, Takes}
 use Rattle.cam_tiles.proofs.SwathInks.{done_tile, in_bits, runs_of_later, takes_bits, takes_empty, takes_more, takes_nothing}

@@ -1,8 +1,8 @@
-use Rattle.std.proofs.Common.{◌-◌, ◌≡◌, FitsSigned, w64, ap, ◌∙◌, arith, rules}
+use Rattle.std.proofs.Common.{◌-◌, FitsSigned, w64, ap, ◌∙◌, arith, rules}
 use Rattle.std.proofs.lemmas.Int.{to_z-of_z}
 use Rattle.cam_tiles.specs.declared.levels.Levels.{Levels}
-use Rattle.cam_tiles.specs.Machinery.Levels.{height, levels_of}
-use Rattle.cam_tiles.proofs.StepLemmas.{first_y, long_near}
+use Rattle.cam_tiles.specs.Machinery.Levels.{height}
+use Rattle.cam_tiles.proofs.StepLemmas.{long_near}
 use Rattle.cam_tiles.proofs.SwathBoxes.{between_corners, last_fits, last_kept, last_way_fits}
 use Rattle.cam_tiles.proofs.masks.swath.wide_bounds.Goals as goal
 

@@ -1,4 +1,4 @@
-use Rattle.std.proofs.Common.{◌↔◌, ℕ, ◌<◌, ◌≤◌, ◌≤ℤ◌, subst, FitsSigned, w64, rules, arith}
+use Rattle.std.proofs.Common.{◌↔◌, ℕ, ◌<◌, ◌≤◌, ◌≤ℤ◌, subst, FitsSigned, w64, rules}
 use Rattle.std.proofs.lemmas.Int.{to_z-of_z}
 use Rattle.cam_tiles.specs.Machinery.Swaths.{Swathed, place_in}
 use Rattle.cam_tiles.proofs.masks.swath.Swath.columns_between.Goals as goal

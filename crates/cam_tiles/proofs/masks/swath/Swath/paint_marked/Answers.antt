@@ -1,10 +1,9 @@
-use Rattle.std.proofs.Common.{◌≡◌, ◌⊎◌, ℕ, ◌+◌, ◌-◌, ◌*◌, ◌/◌, ◌<◌, ◌≤◌, min, length, [], ◌∷◌, sym, ap, subst, ◌∙◌, inl, inr, arith}
+use Rattle.std.proofs.Common.{ℕ, ◌-◌, ◌*◌, ◌/◌, ◌<◌, ◌≤◌, min, length, [], ◌∷◌, sym, ap, subst, ◌∙◌, inl, inr, arith}
 use Rattle.std.proofs.lemmas.Bool.{cases_lt}
 use Rattle.std.proofs.lemmas.List.{with_items_is}
 use Rattle.cam_objects.specs.Image.{Covers}
 use Rattle.cam_objects.specs.Leaves.{leaf}
 use Rattle.cam_rows.specs.Marks.{is_marked}
-use Rattle.cam_tiles.specs.declared.masks.swath.Swath.TheInside.{Inside}
 use Rattle.cam_tiles.specs.Machinery.Inks.{Inked, Takes}
 use Rattle.cam_tiles.specs.Machinery.Swaths.{IsInSwath, IsSwath, PaintsSwath, Swathed, place_in}
 use Rattle.cam_tiles.specs.Machinery.Turning.{MarksCentres}
@@ -21,15 +20,15 @@ returns-then-tiles g c =
     let end = c.open_among-tiles.result.end in
     let inv = c.self.invariant in
     let within = subst
-        (λ (v : Swathed). (column row : ℕ) → IsInSwath v column row → Covers shape (place_in v column row)
-        → (c.args.tiles.first ≤ column / 64) × (column / 64 < c.args.tiles.end)) (sym c.self.view_is) c.requires.within in
+    (λ (v : Swathed). (column row : ℕ) → IsInSwath v column row → Covers shape (place_in v column row)
+    → (c.args.tiles.first ≤ column / 64) × (column / 64 < c.args.tiles.end)) (sym c.self.view_is) c.requires.within in
     let still = paints_taken shape s.grid s.columns c.args.dark 0 0 s.inks s.inks
-        (takes_nothing (covered shape s.grid) c.args.dark 0 0 s.inks (λ row column low after until. absurd (omega arith)))
-        inv.grid.rows.1 (omega (arith, inv.tiles))
-        (λ column row near below apart.
-        missed_done shape s.grid s.columns s.inks first end c.args.tiles.first c.args.tiles.end inv.grid.rows.1
-        (λ column row near below. within column row (near, below)) c.open_among-tiles.ensures.done column row near below
-        (elim (cases_lt (column / 64) first) [ | inl early ↦ inl early | inr late ↦ inr (omega (arith, c.if-tiles.true)) ])) in
+    (takes_nothing (covered shape s.grid) c.args.dark 0 0 s.inks (λ row column low after until. absurd (omega arith)))
+    inv.grid.rows.1 (omega (arith, inv.tiles))
+    (λ column row near below apart.
+    missed_done shape s.grid s.columns s.inks first end c.args.tiles.first c.args.tiles.end inv.grid.rows.1
+    (λ column row near below. within column row (near, below)) c.open_among-tiles.ensures.done column row near below
+    (elim (cases_lt (column / 64) first) [ inl early ↦ inl early | inr late ↦ inr (omega (arith, c.if-tiles.true)) ])) in
     subst (λ (v : Swathed). PaintsSwath v (leaf shape c.args.dark ∷ []) (record { grid = s.grid; columns = s.columns; inks = c.open_among-tiles.new.inks }))
     c.self.view_is
     (subst (λ (k : Inked). PaintsSwath (record { grid = s.grid; columns = s.columns; inks = s.inks }) (leaf shape c.args.dark ∷ [])
@@ -76,9 +75,9 @@ taken g c =
     let after = with_items_is s.marks c.mark.new.marks (c.mark.auto.marks ∙ c.deref_mut.ensures.len) in
     let marks = c.deref.result.now in
     let told = subst (λ ms. MarksCentres c.from_tile-part.result (min s.columns (64 * end) - 64 * first) (Covers shape) ms)
-        (sym (c.deref.ensures.value ∙ after))
-        (subst (λ n. MarksCentres c.from_tile-part.result (n - 64 * first) (Covers shape) c.mark.new.marks) c.min.ensures
-        c.mark.ensures) in
+    (sym (c.deref.ensures.value ∙ after))
+    (subst (λ n. MarksCentres c.from_tile-part.result (n - 64 * first) (Covers shape) c.mark.new.marks) c.min.ensures
+    c.mark.ensures) in
     takes_marks shape s.grid s.columns c.args.dark first end c.from_tile-part.result marks s.inks c.take_marked.new.self
     c.from_tile-part.ensures.stands told c.self.invariant.outside
     (subst (λ (k : Inked). Takes first end (λ row column. is_marked marks row (column - 64 * first)) c.args.dark k c.take_marked.new.self)
@@ -111,8 +110,8 @@ returns g c =
     let first = c.open_among-tiles.result.first in
     let end = c.open_among-tiles.result.end in
     let within = subst
-        (λ (v : Swathed). (column row : ℕ) → IsInSwath v column row → Covers shape (place_in v column row)
-        → (c.args.tiles.first ≤ column / 64) × (column / 64 < c.args.tiles.end)) (sym c.self.view_is) c.requires.within in
+    (λ (v : Swathed). (column row : ℕ) → IsInSwath v column row → Covers shape (place_in v column row)
+    → (c.args.tiles.first ≤ column / 64) × (column / 64 < c.args.tiles.end)) (sym c.self.view_is) c.requires.within in
     subst (λ (v : Swathed). PaintsSwath v (leaf shape c.args.dark ∷ []) (record { grid = s.grid; columns = s.columns; inks = c.take_marked.new.self }))
     c.self.view_is
     (paints_taken shape s.grid s.columns c.args.dark first end s.inks c.take_marked.new.self (taken g c)
@@ -120,4 +119,4 @@ returns g c =
     (λ column row near below apart.
     missed_done shape s.grid s.columns s.inks first end c.args.tiles.first c.args.tiles.end inv.grid.rows.1
     (λ column row near below. within column row (near, below)) c.open_among-tiles.ensures.done column row near below
-    (elim apart [ | inl early ↦ inl (omega arith) | inr late ↦ inr (omega arith) ])))
+    (elim apart [ inl early ↦ inl (omega arith) | inr late ↦ inr (omega arith) ])))

@@ -1,8 +1,8 @@
-use Rattle.std.proofs.Common.{◌≡◌, ℕ, ◌+◌, ◌*◌, ◌/◌, ◌^◌, ◌<◌, ◌≤◌, ◌&&◌, List, [], length, get_or, set, None, Some, refl, sym, ap, subst, ◌∙◌, arith, rules}
+use Rattle.std.proofs.Common.{◌≡◌, ℕ, ◌+◌, ◌*◌, ◌/◌, ◌^◌, ◌<◌, ◌≤◌, ◌&&◌, List, [], length, get_or, None, Some, refl, sym, ap, subst, ◌∙◌, arith, rules}
 use Rattle.std.proofs.lemmas.List.{get_or-set_other, get_or_default}
 use Rattle.cam_rows.specs.Marks.{is_marked, is_set}
 use Rattle.cam_tiles.specs.Machinery.Swaths.{Swathed}
-use Rattle.cam_tiles.specs.Tables.{Tile, all_drawn_from}
+use Rattle.cam_tiles.specs.Tables.{Tile}
 use Rattle.cam_tiles.specs.Tiles.{tile_rows}
 use Rattle.cam_tiles.proofs.SwathInks.{IsClearPast}
 use Rattle.cam_tiles.proofs.SwathTiles.{rows_drawn}
@@ -38,12 +38,12 @@ loop-k-preserved c =
                 let there : k < length old = c.loop-k-test.true in
                 let fits : (row : ℕ) → get_or w.rows.result row 0 < 2 ^ 64 = search rules in
                 let rows = rows_drawn image s k (grid (first + k)) low clear inside
-                    (λ column row. shows.pixels k column row there) (λ column row. shows.places k column row there)
-                    (λ column row there here. shows.inks column row there (ap (λ j. get_or old j (Some [])) here ∙ was))
-                    w.rows.result w.rows.ensures.size fits
-                    (subst (λ (v : Swathed). (row i : ℕ) → row < 64 → i < 64 → is_set (get_or w.rows.result row 0) i
-                    ≡ (is_marked v.inks.decided row (64 * k + i) && is_marked v.inks.dark row (64 * k + i)))
-                    c.self.view_is w.rows.ensures.each) in
+                (λ column row. shows.pixels k column row there) (λ column row. shows.places k column row there)
+                (λ column row there here. shows.inks column row there (ap (λ j. get_or old j (Some [])) here ∙ was))
+                w.rows.result w.rows.ensures.size fits
+                (subst (λ (v : Swathed). (row i : ℕ) → row < 64 → i < 64 → is_set (get_or w.rows.result row 0) i
+                ≡ (is_marked v.inks.decided row (64 * k + i) && is_marked v.inks.dark row (64 * k + i)))
+                c.self.view_is w.rows.ensures.each) in
                 so_far.drawn image grid first shows
                 ∙ next_dirty (λ k. tile_rows image (grid k)) first k now w.rows.result within read rows
                 ∙ ap (drawn_on (λ k. tile_rows image (grid k)) first (k + 1)) (sym w.tiles-is);

@@ -1,8 +1,8 @@
-use Rattle.std.proofs.Common.{◌≡◌, ℕ, ◌+◌, ◌-◌, ◌*◌, ◌/◌, ◌%◌, ◌<◌, ◌≤◌, true, length, min, refl, sym, ap, subst, ◌∙◌, arith}
+use Rattle.std.proofs.Common.{◌≡◌, ◌-◌, ◌*◌, ◌%◌, length, min, refl, sym, ap, subst, ◌∙◌, arith}
 use Rattle.cam_tiles.specs.declared.grid.Grid.{Grid}
 use Rattle.cam_tiles.specs.Machinery.Runs.{IsWideGrid}
 use Rattle.cam_tiles.specs.Machinery.Swaths.{columns_of}
-use Rattle.cam_tiles.specs.Tiles.{across, grid_of, left}
+use Rattle.cam_tiles.specs.Tiles.{across}
 use Rattle.cam_tiles.proofs.GridLemmas.{left_within}
 use Rattle.cam_tiles.proofs.SwathTiles.{clear_past_open, dirty_open, row_is_wide, tiles_taken_up}
 use Rattle.cam_tiles.proofs.TileCounts.{few_across}
@@ -50,7 +50,7 @@ invariant_of-self-2 c =
     let limits = accepted w c.requires.accepted in
     let now = c.in_ok-turn_to.ensures.open in
     let wide = subst (λ (g : Grid). IsWideGrid g columns) (sym c.grid-grid.ensures.value)
-        (row_is_wide w c.args.first columns tiles c.requires.accepted c.requires.row are) in
+    (row_is_wide w c.args.first columns tiles c.requires.accepted c.requires.row are) in
     record {
       grid = c.grid-grid.ensures.grid;
       wide = λ some. wide;

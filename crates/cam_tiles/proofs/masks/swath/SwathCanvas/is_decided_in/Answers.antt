@@ -1,5 +1,4 @@
-use Rattle.std.proofs.Common.{IsSome, subst, FitsSigned, w64, rules, arith}
-use Rattle.std.proofs.lemmas.Int.{to_z-of_z}
+use Rattle.std.proofs.Common.{IsSome, subst}
 use Rattle.cam_units.specs.Boxes.{Holds}
 use Rattle.cam_units.specs.declared.bounds.Bounds.{Bounds}
 use Rattle.cam_tiles.specs.Machinery.Swaths.{Swathed, ink_in, place_in}
