@@ -1,9 +1,10 @@
 -- Redraws: the dirty tiles of least number are drawn, and the others kept.
-use Rattle.std.proofs.Common.{◌≡◌, ℕ, zero, suc, ◌+◌, ◌-◌, ◌<◌, min, Bool, nat_lt, if◌then◌else◌}
+use Rattle.std.proofs.Common.{◌≡◌, ℕ, zero, suc, ◌+◌, ◌-◌, ◌<◌, ◌≤◌, min, Bool, nat_lt, if◌then◌else◌}
 use Rattle.std.proofs.Common.{List, [], ◌∷◌, ◌++◌, length, take, drop, count_by, cond, slice_get, Some, None}
 use Rattle.std.proofs.Common.{is_none, is_some, option_and_then, refl, sym, ap, ◌∙◌, inl, inr, arith}
 use Rattle.std.proofs.lemmas.Bool.{cases_lt, le-ltb, lt-ltb}
-use Rattle.std.proofs.lemmas.List.Sums.{sum_by-cons}
+use Rattle.std.proofs.lemmas.List.{take-take}
+use Rattle.std.proofs.lemmas.List.Sums.{sum_by-cons, sum_by-take-le}
 use Rattle.cam_units.specs.declared.point.Spot.{Spot}
 use Rattle.cam_tiles.specs.Tables.{Table, Tile, all_drawn_from, drawn_from}
 use Rattle.cam_tiles.specs.TileLaws.{RedrawLaw}
@@ -18,6 +19,14 @@ dirty_after_clean rows tiles = omega (arith, sum_by-cons (λ tile. cond (is_none
 
 pub dirty_after_dirty : (tiles : List Tile) → dirty (None ∷ tiles) ≡ 1 + dirty tiles
 dirty_after_dirty tiles = sum_by-cons (λ tile. cond (is_none tile) 1 0) None tiles
+
+-- of tiles of which none is dirty, none of the first is
+pub clean_first : (tiles : List Tile) (n : ℕ) → dirty tiles ≡ 0 → dirty (take n tiles) ≡ 0
+clean_first tiles n clean = omega (arith, sum_by-take-le (λ tile. cond (is_none tile) 1 0) tiles n, clean)
+
+pub clean_before : (tiles : List Tile) (n m : ℕ) → m ≤ n → dirty (take n tiles) ≡ 0 → dirty (take m tiles) ≡ 0
+clean_before tiles n m few clean =
+    sym (ap dirty (take-take m n tiles few)) ∙ clean_first (take n tiles) m clean
 
 module _ (draw : ℕ → List ℕ) where
   -- where none is to be drawn, all are kept
@@ -46,6 +55,15 @@ module _ (draw : ℕ → List ℕ) where
         dirty-drawn_from (k + 1) n tiles,
         dirty_after_dirty tiles,
       )
+
+  pub take-drawn_from : (k n end : ℕ) (tiles : List Tile)
+      → take end (drawn_from draw k n tiles) ≡ drawn_from draw k n (take end tiles)
+  take-drawn_from k n zero tiles = refl
+  take-drawn_from k n (suc end) [] = refl
+  take-drawn_from k n (suc end) (Some rows ∷ tiles) = ap (λ rest. Some rows ∷ rest) (take-drawn_from (k + 1) n end tiles)
+  take-drawn_from k zero (suc end) (None ∷ tiles) = refl
+  take-drawn_from k (suc n) (suc end) (None ∷ tiles) =
+      ap (λ rest. Some (draw k) ∷ rest) (take-drawn_from (k + 1) n end tiles)
 
   -- no more are drawn than are dirty
   pub drawn_as_many : (k n m : ℕ) (tiles : List Tile) → m ≡ min n (dirty tiles)
@@ -122,16 +140,17 @@ redraw_law = record {
   count = λ image n t. dirty-drawn_from (λ i. tile_rows image (grid_of t.window i)) 0 n t.tiles;
 }
 
--- what a redraw leaves, where m tiles are drawn of those that were there
-pub record IsRedrawn (image : Spot → Bool) (n m : ℕ) (t : Table) (drawn : List Tile) : Type 0 where
+-- what a redraw leaves, where m tiles are drawn of those that were there, all those before the end of the drawn ones
+pub record IsRedrawn (image : Spot → Bool) (n m end : ℕ) (t : Table) (drawn : List Tile) : Type 0 where
   pub as_many : drawn ≡ drawn_from (λ k. tile_rows image (grid_of t.window k)) 0 n t.tiles
   pub size : length drawn ≡ length t.tiles
   pub left : dirty drawn ≡ dirty t.tiles - m
+  pub clean : dirty (take end drawn) ≡ 0
 
 pub redrawn_is : (image : Spot → Bool) (n m end all : ℕ) (t : Table) (lent before drawn : List Tile) → m ≡ min n all
     → all ≡ dirty t.tiles → lent ≡ t.tiles → before ≡ t.tiles → dirty (take end lent) ≡ m
     → drawn ≡ drawn_from (λ k. tile_rows image (grid_of t.window k)) 0 (dirty (take end before)) before
-    → IsRedrawn image n m t drawn
+    → IsRedrawn image n m end t drawn
 redrawn_is image n m end all t lent before drawn few counted same was many is =
     let draw : ℕ → List ℕ = λ k. tile_rows image (grid_of t.window k) in
     let now : drawn ≡ drawn_from draw 0 m t.tiles =
@@ -141,4 +160,7 @@ redrawn_is image n m end all t lent before drawn few counted same was many is =
       as_many = now ∙ sym (drawn_as_many draw 0 n m t.tiles (few ∙ ap (min n) counted));
       size = ap length now ∙ length-drawn_from draw 0 m t.tiles;
       left = ap dirty now ∙ dirty-drawn_from draw 0 m t.tiles;
+      clean = ap (λ tiles. dirty (take end tiles)) now ∙ ap dirty (take-drawn_from draw 0 m end t.tiles)
+          ∙ dirty-drawn_from draw 0 m (take end t.tiles)
+          ∙ omega (arith, ap (λ tiles. dirty (take end tiles)) (sym same), many);
     }

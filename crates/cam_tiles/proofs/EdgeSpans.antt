@@ -1,18 +1,19 @@
 -- Edges by their ends: the heights that they cross, and places of which both ends lie on one side.
-use Rattle.std.proofs.Common.{◌≡◌, ◌≢◌, ◌↔◌, ℤ, pos, ◌-ℤ◌, ◌*ℤ◌, ◌≤ℤ◌, ◌<ℤ◌}
-use Rattle.std.proofs.Common.{Bool, true, false, IsTrue, if◌then◌else◌, refl, sym, ◌∙◌, arith}
+use Rattle.std.proofs.Common.{◌≡◌, ◌≢◌, ◌↔◌, ℤ, pos, ◌-ℤ◌, ◌*ℤ◌, ◌≤ℤ◌, ◌<◌}
+use Rattle.std.proofs.Common.{Bool, true, false, IsTrue, if◌then◌else◌, sym, ap, ◌∙◌, arith}
 use Rattle.std.specs.Int.{int_max, int_min}
-use Rattle.std.specs.Int.RustNames.{int_lt}
+use Rattle.std.specs.Int.RustNames.{int_lt, unsigned_abs}
 use Rattle.std.proofs.lemmas.Bool.{false≢true}
 use Rattle.std.proofs.lemmas.Int.{by_lt_z, clamps, ints}
+use Rattle.cam_refusals.specs.Limits.{board_limit}
 use Rattle.cam_units.specs.declared.point.Point.{Point}
 use Rattle.cam_units.specs.declared.point.Spot.{Spot}
 use Rattle.cam_shapes.specs.Edge.{crosses_ray, edge, is_above, is_left, is_right}
-use Rattle.cam_shapes.specs.Sides.{differ}
-use Rattle.cam_shapes.proofs.Boxes.{tells_left, tells_right}
+use Rattle.cam_shapes.proofs.Boxes.{tells_right}
 use Rattle.cam_shapes.proofs.Crossings.{not_under, under}
 use Rattle.cam_tiles.specs.declared.masks.heights.Heights.{Heights}
 use Rattle.cam_tiles.specs.Machinery.Masks.{IsWithin}
+use Rattle.cam_tiles.proofs.GridLemmas.{long}
 
 -- a number that only one of two others exceeds lies between them
 apart_between : (y a b low high : ℤ) → low ≡ int_min a b → high ≡ int_max a b -ℤ pos 1
@@ -65,18 +66,28 @@ met_apart s p q met =
 
 -- ---- places on one side of both ends
 
-differ_where_other : (a b : Bool) → a ≢ b → differ a b ≡ true
-differ_where_other true true other = absurd (other refl)
-differ_where_other true false other = refl
-differ_where_other false true other = refl
-differ_where_other false false other = absurd (other refl)
-
--- a ray from the left of both ends meets an edge that crosses its height
-pub met_left : (s : Spot) (p q : Point) → s.x <ℤ (pos 2 *ℤ p.x) → s.x <ℤ (pos 2 *ℤ q.x)
-    → is_above p s ≢ is_above q s → IsTrue (crosses_ray s (edge p q))
-met_left s p q a b apart = tells_left s p q a b ∙ differ_where_other (is_above p s) (is_above q s) apart
-
 -- a ray from the right of both ends, or from below one, meets nothing
 pub missed_right : (s : Spot) (p q : Point) → (pos 2 *ℤ p.x) ≤ℤ s.x → (pos 2 *ℤ q.x) ≤ℤ s.x
     → IsTrue (crosses_ray s (edge p q)) → ⊥
 missed_right s p q a b met = false≢true (sym (tells_right s p q a b) ∙ met)
+
+-- both ends, by the one that is further to the right
+pub after_ends : (x a b right : ℤ) → right ≡ pos 2 *ℤ int_max a b → right ≤ℤ x → ((pos 2 *ℤ a) ≤ℤ x) × ((pos 2 *ℤ b) ≤ℤ x)
+after_ends x a b right e h = (omega (arith, ints, clamps), omega (arith, ints, clamps))
+
+-- which the code computes with 64 bits
+kept : (m : ℤ) → unsigned_abs m < board_limit → long m ≡ m
+kept m short = omega (arith, ints)
+
+most_short : (a b m : ℤ) → m ≡ int_max a b → unsigned_abs a < board_limit → unsigned_abs b < board_limit
+    → unsigned_abs m < board_limit
+most_short a b m e f g = omega (arith, ints, clamps)
+
+twice_kept : (m : ℤ) → unsigned_abs m < board_limit → long (pos 2 *ℤ long m) ≡ pos 2 *ℤ m
+twice_kept m short = omega (arith, ints)
+
+pub most_kept : (a b m : ℤ) → unsigned_abs a < board_limit → unsigned_abs b < board_limit
+    → m ≡ int_max (long a) (long b) → long (pos 2 *ℤ long m) ≡ pos 2 *ℤ int_max a b
+most_kept a b m near near_too e =
+    let is = e ∙ ap (λ z. int_max z (long b)) (kept a near) ∙ ap (λ z. int_max a z) (kept b near_too) in
+    twice_kept m (most_short a b m is near near_too) ∙ ap (λ z. pos 2 *ℤ z) is

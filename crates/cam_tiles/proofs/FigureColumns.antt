@@ -1,6 +1,10 @@
 -- Figures by their runs.
-use Rattle.std.proofs.Common.{◌≡◌, ◌↔◌, ◌⊎◌, ℕ, ◌+◌, ◌<◌, ◌≤◌, ℤ, pos, ◌-ℤ◌, ◌*ℤ◌, true, false, inl, inr, Bool, arith}
+use Rattle.std.proofs.Common.{◌≡◌, ◌↔◌, ◌⊎◌, ℕ, ◌+◌, ◌^◌, ◌<◌, ◌≤◌, ℤ, pos, ◌-ℤ◌, ◌*ℤ◌, inl, inr, arith}
+use Rattle.std.proofs.Common.{List, length, slice_index, slice_set, bit_and, bit_or, get_or-set_other, get_or-set_same}
+use Rattle.std.specs.Int.{IsBitSet, bit_not, w64}
+use Rattle.std.proofs.lemmas.Bool.{cases_eq}
 use Rattle.std.proofs.lemmas.Int.{ints}
+use Rattle.std.proofs.lemmas.Nat.{or_lt}
 use Rattle.cam_units.specs.declared.length.Nm.{Nm}
 use Rattle.cam_units.specs.declared.point.Point.{Point}
 use Rattle.cam_units.specs.declared.point.Spot.{Spot}
@@ -12,18 +16,17 @@ use Rattle.cam_shapes.specs.declared.capsule.Capsule.{Capsule}
 use Rattle.cam_rows.specs.ArcRuns.{IsBeyond, IsHollow, IsOuter, start_of as first_of, end_of as last_of}
 use Rattle.cam_rows.specs.Runs.{IsInRun}
 use Rattle.cam_rows.proofs.ArcRuns.{arc_is_its_runs}
+use Rattle.cam_rows.proofs.SetBits.{set_in_or, set_in_rest}
 use Rattle.cam_rows.proofs.CapsuleParts.{bar_of, end_of, in_capsule, start_of}
 use Rattle.cam_tiles.specs.declared.grid.Grid.{Grid}
 use Rattle.cam_tiles.specs.declared.masks.heights.Heights.{Heights}
-use Rattle.cam_tiles.specs.declared.masks.join.Join.{Join}
-use Rattle.cam_tiles.specs.declared.masks.join.Join.TheVariants.{Add, Clear}
 use Rattle.cam_tiles.specs.declared.masks.runs.Runs.{Runs}
 use Rattle.cam_tiles.specs.declared.masks.figure_runs.FigureRuns.{FigureRuns}
-use Rattle.cam_tiles.specs.Machinery.Masks.{IsIn, IsMarked, IsWithin, Joins, Marking, inked, joined}
+use Rattle.cam_tiles.specs.declared.span.Span.{Span}
+use Rattle.cam_tiles.specs.Machinery.Masks.{IsWithin}
 use Rattle.cam_tiles.specs.Machinery.Runs.{Fits, HasColumn, IsClear, Tells}
-use Rattle.cam_tiles.specs.Machinery.Figures.{AllFit, HasPart, IsToldAt, TellsFigure}
+use Rattle.cam_tiles.specs.Machinery.Figures.{HasPart, TellsFigure}
 use Rattle.cam_tiles.specs.Tiles.{centre_in}
-use Rattle.cam_tiles.proofs.Joined.{joined_like}
 use Rattle.cam_tiles.proofs.RunColumns.{tells_nothing}
 
 -- ---- discs as strokes of no length
@@ -141,48 +144,51 @@ tells_like g columns P Q s same told = record {
       ((λ on. there.1 (here.0 on)), (λ held. here.1 (there.0 held)));
 }
 
--- marks that are joined with the runs of a figure, in whose rows a mask stands
-pub joins_figure : (column : ℕ) (how : Join) (IsHeld : Spot → Type 0) (r : FigureRuns) (old new : Marking)
-    → IsToldAt column old.grid IsHeld r → new.grid ≡ old.grid
-    → ((i row : ℕ) → IsIn old.grid i row
-    → IsMarked new i row ↔ joined how (IsMarked old i row) (HasPart r row (column + i)))
-    → Joins how IsHeld old new
-joins_figure column how IsHeld r old new told grid marks = record {
-  grid = grid;
-  marks = λ i row inside.
-      joined_like how _ _ _ _ _ ((λ a. a), (λ a. a)) (told.each i row inside) (marks i row inside);
-}
-
--- all parts lie between two columns
-pub parts_spanned : (s : FigureRuns) (rows from to disc_from disc_to row column : ℕ) → AllFit rows s
-    → ((k : ℕ) → ((s.start.columns.first ≤ k) × (k < s.start.columns.end))
-    ⊎ ((s.end.columns.first ≤ k) × (k < s.end.columns.end)) → (disc_from ≤ k) × (k < disc_to))
-    → ((k : ℕ) → ((s.body.columns.first ≤ k) × (k < s.body.columns.end)) ⊎ ((disc_from ≤ k) × (k < disc_to))
-    → (from ≤ k) × (k < to))
-    → HasPart s row column → IsInRun from to column
-parts_spanned s rows from to disc_from disc_to row column fit discs all part = elim part [
+-- all parts lie between two numbers, where each lies in a span of its own
+pub part_between : (s : FigureRuns) (body start end discs all : Span) (row column k : ℕ)
+    → (HasColumn s.body row column → IsInRun body.first body.end k)
+    → (HasColumn s.start row column → IsInRun start.first start.end k)
+    → (HasColumn s.end row column → IsInRun end.first end.end k)
+    → (IsInRun start.first start.end k ⊎ IsInRun end.first end.end k → IsInRun discs.first discs.end k)
+    → (IsInRun body.first body.end k ⊎ IsInRun discs.first discs.end k → IsInRun all.first all.end k)
+    → HasPart s row column → IsInRun all.first all.end k
+part_between s body start end discs all row column k in_body in_start in_end of_discs of_all part = elim part [
   | inl before ↦ elim before [
-    | inl on ↦ all column (inl (fit.body.spanned row column on.0))
-    | inr on ↦ all column (inr (discs column (inl (fit.start.spanned row column on))))
+    | inl on ↦ of_all (inl (in_body on.0))
+    | inr on ↦ of_all (inr (of_discs (inl (in_start on))))
   ]
-  | inr on ↦ all column (inr (discs column (inr (fit.end.spanned row column on))))
+  | inr on ↦ of_all (inr (of_discs (inr (in_end on))))
 ]
 
--- three parts are joined as one
-pub joined_parts : (dark : Bool) (A B C D New One Two : Type 0) → One ↔ joined (inked dark) A B
-    → Two ↔ joined (inked dark) One C → New ↔ joined (inked dark) Two D
-    → New ↔ joined (inked dark) A ((B ⊎ C) ⊎ D)
-joined_parts true A B C D New One Two first second third = grind arith
-joined_parts false A B C D New One Two first second third = grind arith
+-- ---- words of bits
 
--- a body from which something is taken, composed on a mask that was blank
-pub composed : (Blank B H Y One Two Three : Type 0) → (Blank → ⊥) → One ↔ joined Add Blank B
-    → Two ↔ joined Clear One H → Three ↔ joined Clear Two Y → Three ↔ (B × (H → ⊥) × (Y → ⊥))
-composed Blank B H Y One Two Three none first second third = grind arith
+parts_in_word : (All Left Discs Out B H Y S E Body Hollow Beyond Start End : Type 0) → All ↔ (Left ⊎ Discs)
+    → Left ↔ (B × (Out → ⊥)) → Out ↔ (H ⊎ Y) → Discs ↔ (S ⊎ E) → B ↔ Body → H ↔ Hollow → Y ↔ Beyond → S ↔ Start
+    → E ↔ End → All ↔ (((Body × (Hollow → ⊥) × (Beyond → ⊥)) ⊎ Start) ⊎ End)
+parts_in_word All Left Discs Out B H Y S E Body Hollow Beyond Start End all left out discs b h y s e = grind arith
 
--- a body from which nothing is taken
-pub nothing_taken : (how : Join) (New Was B H Y : Type 0) → (H ⊎ Y → ⊥) → New ↔ joined how Was B
-    → New ↔ joined how Was (B × (H → ⊥) × (Y → ⊥))
-nothing_taken how New Was B H Y none told =
-    joined_like how New Was Was B (B × (H → ⊥) × (Y → ⊥)) ((λ a. a), (λ a. a))
-    ((λ on. (on, (λ x. none (inl x)), (λ x. none (inr x)))), (λ on. on.0)) told
+-- the bits of a figure's parts, put together
+pub part_in_word : (s : FigureRuns) (row column i body hollow beyond start end : ℕ) → hollow < 2 ^ 64 → beyond < 2 ^ 64
+    → i < 64 → IsBitSet body i ↔ HasColumn s.body row column → IsBitSet hollow i ↔ HasColumn s.hollow row column
+    → IsBitSet beyond i ↔ HasColumn s.beyond row column → IsBitSet start i ↔ HasColumn s.start row column
+    → IsBitSet end i ↔ HasColumn s.end row column
+    → IsBitSet (bit_or (bit_and body (bit_not w64 (bit_or hollow beyond))) (bit_or start end)) i ↔ HasPart s row column
+part_in_word s row column i body hollow beyond start end fits fits_beyond within b h y first last =
+    parts_in_word _ _ _ _ _ _ _ _ _ _ _ _ _ _
+    (set_in_or (bit_and body (bit_not w64 (bit_or hollow beyond))) (bit_or start end) i)
+    (set_in_rest body (bit_or hollow beyond) i (or_lt 64 hollow beyond fits fits_beyond) within) (set_in_or hollow beyond i)
+    (set_in_or start end i) b h y first last
+
+-- the columns of a figure from one on are the bits of words, in some rows
+abbrev pub AreBits : FigureRuns → ℕ → ℕ → ℕ → List ℕ → Type 0
+AreBits s column first end bits =
+    (row i : ℕ) → first ≤ row → row < end → i < 64 → IsBitSet (slice_index bits row) i ↔ HasPart s row (column + i)
+
+pub one_more_row : (s : FigureRuns) (column first row : ℕ) (bits : List ℕ) (word : ℕ)
+    → AreBits s column first row bits → row < length bits
+    → ((i : ℕ) → i < 64 → IsBitSet word i ↔ HasPart s row (column + i))
+    → AreBits s column first (row + 1) (slice_set bits row word)
+one_more_row s column first row bits word before small here r i after early within = elim (cases_eq r row) [
+  | inl e ↦ rw (e, get_or-set_same bits row word 0 small) (here i within)
+  | inr apart ↦ rw (get_or-set_other bits row r word 0 apart) (before r i after (omega (arith, early, apart)) within)
+]

@@ -3,6 +3,7 @@ use Rattle.std.proofs.Common.{◌≡◌, ℕ, zero, suc, ◌+◌, ◌<◌, ◌�
 use Rattle.std.proofs.Common.{◌-◌, List, [], ◌∷◌, ◌++◌, length, get_or, drop, filter}
 use Rattle.std.proofs.Common.{refl, sym, ap, subst, ◌∙◌, arith}
 use Rattle.std.specs.List.{All, flat_map}
+use Rattle.std.specs.Option.{option_or}
 use Rattle.std.proofs.lemmas.Bool.{cases_Bool, false≢true}
 use Rattle.std.proofs.lemmas.Int.{ints}
 use Rattle.std.proofs.lemmas.List.{drop_more, length-drop, length_push, reverse-append}
@@ -14,9 +15,9 @@ use Rattle.cam_units.specs.declared.point.Spot.{Spot}
 use Rattle.cam_objects.specs.Bounds.{bounds_of}
 use Rattle.cam_objects.specs.Image.{IsUncovered}
 use Rattle.cam_objects.specs.Leaves.{Leaf}
-use Rattle.cam_objects.specs.Tests.{painted}
+use Rattle.cam_objects.specs.Tests.{last_ink}
 use Rattle.cam_objects.proofs.CoveredBoxes.{outside_box}
-use Rattle.cam_objects.proofs.TestLaws.{painted_off, painted-append}
+use Rattle.cam_objects.proofs.LastInks.{last_ink-append, or_uncovered}
 use Rattle.cam_tiles.specs.declared.index.Boxed.{Boxed}
 use Rattle.cam_tiles.specs.declared.window.Window.{Window}
 use Rattle.cam_tiles.specs.Machinery.Indexes.{AreSeenFrom, IsBoxOf, IsBoxed, IsSeen, PaintAlike, all_from, last_leaves}
@@ -36,20 +37,19 @@ joined lists = flat_map (λ those. those) lists
 
 module _ (Seen : Spot → Type 0) where
   alike_are : (a b c d : List Leaf) → c ≡ a → d ≡ b → PaintAlike Seen a b → PaintAlike Seen c d
-  alike_are a b c d e f h ink s seen =
-      ap (λ those. painted ink those s) e ∙ h ink s seen ∙ ap (λ those. painted ink those s) (sym f)
+  alike_are a b c d e f h s seen = ap (λ those. last_ink those s) e ∙ h s seen ∙ ap (λ those. last_ink those s) (sym f)
 
   -- the same leaves before them
   alike_before : (a b before : List Leaf) → PaintAlike Seen a b → PaintAlike Seen (before ++ a) (before ++ b)
-  alike_before a b before h ink s seen =
-      painted-append ink before a s ∙ h (painted ink before s) s seen ∙ sym (painted-append ink before b s)
+  alike_before a b before h s seen =
+      last_ink-append before a s
+      ∙ ap (λ ink. option_or ink (last_ink before s)) (h s seen) ∙ sym (last_ink-append before b s)
 
   -- leaves that are not seen
   alike_unseen : (a b before : List Leaf) → ((s : Spot) → Seen s → IsUncovered before s)
       → PaintAlike Seen a b → PaintAlike Seen a (before ++ b)
-  alike_unseen a b before unseen h ink s seen =
-      h ink s seen
-      ∙ sym (painted-append ink before b s ∙ ap (λ i. painted i b s) (painted_off ink before s (unseen s seen)))
+  alike_unseen a b before unseen h s seen =
+      h s seen ∙ sym (last_ink-append before b s ∙ or_uncovered (last_ink b s) before s (unseen s seen))
 
 -- ---- the boxes that are seen, found from the last on
 

@@ -1,16 +1,13 @@
 -- Marks that are joined, row after row: with those of a shape, or with what is held in a column and a row.
-use Rattle.std.proofs.Common.{◌≡◌, ◌≢◌, ◌↔◌, ℕ, ◌+◌, ◌-◌, ◌*◌, ◌/◌, ◌%◌, ◌^◌, ◌<◌, ◌≤◌, ◌⊎◌, List, slice_index, slice_set}
-use Rattle.std.proofs.Common.{IsTrue, bit_and, get_or-set_other, get_or-set_same, inl, inr, ◌∙◌, arith}
+use Rattle.std.proofs.Common.{◌≡◌, ◌≢◌, ◌↔◌, ℕ, ◌+◌, ◌^◌, ◌<◌, ◌≤◌, ◌⊎◌, List, slice_index, slice_set}
+use Rattle.std.proofs.Common.{get_or-set_other, get_or-set_same, inl, inr, ◌∙◌, arith}
 use Rattle.std.proofs.Math.ListN.{length-set}
 use Rattle.std.specs.Int.{IsBitSet}
-use Rattle.std.proofs.lemmas.Bool.{cases_eq, cases_lt, eq-eqb, eqb-true}
-use Rattle.cam_rows.specs.Marks.{is_marked}
-use Rattle.cam_rows.proofs.SetBits.{set_in_and, set_is_one}
+use Rattle.std.proofs.lemmas.Bool.{cases_eq}
 use Rattle.cam_apertures.proofs.Painting.{through}
 use Rattle.cam_tiles.specs.declared.masks.join.Join.{Join}
 use Rattle.cam_tiles.specs.declared.masks.join.Join.TheVariants.{Add, Clear}
 use Rattle.cam_tiles.specs.Machinery.Masks.{IsIn, IsMarked, IsMask, Marking, joined}
-use Rattle.cam_tiles.proofs.WordBits.{set_in_low}
 
 -- ---- one mark
 
@@ -95,59 +92,3 @@ module _ (how : Join) (IsHeld : ℕ → ℕ → Type 0) (old new : Marking) (fir
       | inr late ↦ (let apart : k ≢ row = omega arith in other k apart ∙ before.kept k (inr (omega arith)))
     ];
   }
-
--- one row more, in which nothing is held: it stays
-pub same_row_at : (how : Join) (IsHeld : ℕ → ℕ → Type 0) (old new : Marking) (first row : ℕ)
-    → AreJoinedAt how IsHeld old new first row → ((i : ℕ) → IsIn old.grid i row → IsHeld i row → ⊥)
-    → AreJoinedAt how IsHeld old new first (row + 1)
-same_row_at how IsHeld old new first row before none = record {
-  mask = before.mask;
-  grid = before.grid;
-  marks = λ i k inside after until. elim (cases_eq k row) [
-    | inl e ↦
-        rw (e, before.kept row (inr (omega arith)))
-        (joined_none how (IsMarked old i row) (IsHeld i row) (none i (rw e at inside)))
-    | inr apart ↦ before.marks i k inside after (omega (arith, apart, until))
-  ];
-  kept = λ k outside. elim outside [
-    | inl early ↦ before.kept k (inl early)
-    | inr late ↦ before.kept k (inr (omega arith))
-  ];
-}
-
--- all rows, where nothing is held in the others
-pub all_joined_at : (how : Join) (IsHeld : ℕ → ℕ → Type 0) (old new : Marking) (first end : ℕ)
-    → AreJoinedAt how IsHeld old new first end
-    → ((column row : ℕ) → IsIn old.grid column row → (row < first) ⊎ (end ≤ row) → IsHeld column row → ⊥)
-    → (column row : ℕ) → IsIn old.grid column row
-    → IsMarked new column row ↔ joined how (IsMarked old column row) (IsHeld column row)
-all_joined_at how IsHeld old new first end rows none =
-    let stays : (column row : ℕ) → IsIn old.grid column row → (row < first) ⊎ (end ≤ row)
-    → IsMarked new column row ↔ joined how (IsMarked old column row) (IsHeld column row) =
-    λ column row inside outside. rw (rows.kept row outside)
-    (joined_none how (IsMarked old column row) (IsHeld column row) (none column row inside outside)) in
-    λ column row inside. elim (cases_lt row first) [
-      | inl early ↦ stays column row inside (inl early)
-      | inr after ↦ elim (cases_lt row end) [
-        | inl until ↦ rows.marks column row inside after until
-        | inr late ↦ stays column row inside (inr late)
-      ]
-    ]
-
--- ---- the words of a tile
-
--- a word of a tile, cut to some columns
-pub tile_word : (marks : List ℕ) (tile row columns slim i word : ℕ) → columns ≤ 64 → columns ≡ slim → i < 64
-    → word ≡ bit_and (slice_index marks (64 * tile + row)) ((2 ^ 64 - 1) / 2 ^ (64 - columns))
-    → IsBitSet word i ↔ ((i < slim) × IsTrue (is_marked marks row (64 * tile + i)))
-tile_word marks tile row columns slim i word few same near is =
-    let own : (64 * tile + i) / 64 ≡ tile = omega arith in
-    let column : (64 * tile + i) % 64 ≡ i = omega arith in
-    let here = slice_index marks (64 * tile + row) in
-    let both = set_in_and here ((2 ^ 64 - 1) / 2 ^ (64 - columns)) i in
-    let low = set_in_low columns i few in
-    let narrow : (i < columns) ↔ (i < slim) = ((λ h. omega (arith, h, same)), (λ h. omega (arith, h, same))) in
-    rw (is, own, column) (
-      (λ set. (narrow.0 (low.0 (both.0 set).1), eq-eqb _ 1 ((set_is_one here i).0 (both.0 set).0))),
-      (λ on. both.1 ((set_is_one here i).1 (eqb-true _ 1 on.1), low.1 (narrow.1 on.0))),
-    )

@@ -10,13 +10,10 @@ use Rattle.cam_rows.proofs.Steps.{left_by_division}
 use Rattle.cam_refusals.specs.Limits.{board_limit}
 use Rattle.cam_units.specs.Board.{IsOnBoard, place_limit}
 use Rattle.cam_units.specs.declared.point.Point.{Point}
-use Rattle.cam_units.specs.declared.point.Spot.{Spot}
 use Rattle.cam_objects.specs.Image.{relative}
 use Rattle.cam_tiles.specs.declared.grid.Grid.{Grid}
 use Rattle.cam_tiles.specs.declared.levels.Levels.{Levels}
-use Rattle.cam_tiles.specs.declared.masks.heights.Heights.{Heights}
 use Rattle.cam_tiles.specs.Machinery.Levels.{AreLevels, IsLevels, IsOnRow, height, levels_of}
-use Rattle.cam_tiles.specs.Machinery.Masks.{IsWithin}
 use Rattle.cam_tiles.specs.Tiles.{IsGrid, centre_in}
 use Rattle.cam_tiles.proofs.GridLemmas.{long}
 use Rattle.cam_tiles.proofs.SeenRows.{seen_kept}
@@ -110,9 +107,6 @@ down_kept : (y z d : ℤ) → z ≡ d → unsigned_abs y < 4000000000 → unsign
     → FitsSigned w64 (long y -ℤ z) × (long (long y -ℤ z) ≡ y -ℤ d)
 down_kept y z d e short below = rw e (omega (arith, ints), omega (arith, ints))
 
-up_to : (a b c : ℤ) → a ≤ℤ b → b ≤ℤ c → a ≤ℤ c
-up_to a b c h k = omega (arith, ints)
-
 module _ (l : Levels) (levels : AreLevels l) where
   pub top_short : unsigned_abs l.top < 4000000000
   top_short =
@@ -131,13 +125,6 @@ module _ (l : Levels) (levels : AreLevels l) where
 
     pub over_bottom : height l (l.rows - 1) ≤ℤ height l row
     over_bottom = omega (arith, ints, last_farthest)
-
-    -- heights at which the row is are those that the rows reach
-    pub rows_reached : (s : Spot) → s.y ≡ height l row → (h : Heights) → IsWithin h s
-        → (h.low ≤ℤ l.top) × (height l (l.rows - 1) ≤ℤ h.high)
-    rows_reached s on h within =
-        let above = up_to h.low s.y l.top within.0 (rw on below_top) in
-        (above, up_to (height l (l.rows - 1)) s.y h.high (rw on over_bottom) within.1)
 
     -- so many steps, and the height below them
     module _ (fits : FitsSigned w64 l.step) (n : ℤ) (is_row : n ≡ pos row) where

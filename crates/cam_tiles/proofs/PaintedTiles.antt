@@ -1,19 +1,12 @@
--- The tile of a painted mask: where the mask was blank, its rows are those of the leaves' image.
-use Rattle.std.proofs.Common.{◌≡◌, ◌↔◌, ℕ, ◌-◌, ◌<◌, Bool, false, IsTrue, List, sym, ap, subst, ◌∙◌}
-use Rattle.std.proofs.Common.{ℤ, pos, ◌+ℤ◌, ◌*ℤ◌, arith}
+-- Grids that have the same centres.
+use Rattle.std.proofs.Common.{◌≡◌, ◌↔◌, ℕ, ◌-◌, ◌<◌, sym, ap, ◌∙◌, ℤ, pos, ◌+ℤ◌, ◌*ℤ◌, arith}
 use Rattle.std.proofs.lemmas.Int.{ints}
 use Rattle.cam_units.specs.declared.point.Spot.{Spot}
 use Rattle.cam_units.proofs.Ring.{equal}
 use Rattle.cam_units.proofs.Ring.Polynomial.{Atom, Product}
-use Rattle.cam_objects.specs.Leaves.{Leaf}
-use Rattle.cam_objects.specs.Tests.{is_black, painted}
 use Rattle.cam_tiles.specs.declared.grid.Grid.{Grid}
-use Rattle.cam_tiles.specs.declared.levels.Levels.{Levels}
-use Rattle.cam_tiles.specs.Machinery.Levels.{levels_of}
-use Rattle.cam_tiles.specs.Machinery.Masks.{IsBlank, IsIn, IsMarked, IsMask, Marking, PaintsMask, ink_of}
-use Rattle.cam_tiles.specs.Tiles.{IsGrid, centre_in, tile_rows}
-use Rattle.cam_tiles.proofs.MaskWords.{rows_of_marks}
-use Rattle.cam_tiles.proofs.PaintedMasks.{clear_if_unmarked, dark_if_marked, marked_if_dark}
+use Rattle.cam_tiles.specs.Machinery.Masks.{IsIn}
+use Rattle.cam_tiles.specs.Tiles.{centre_in}
 use Rattle.cam_tiles.proofs.StepLemmas.{no_step, no_step_down}
 
 one_step : (s : ℤ) → pos 1 *ℤ s ≡ s
@@ -43,12 +36,6 @@ module _ (g f : Grid) (some : IsIn g 0 0) (down : (row : ℕ) → IsIn f 0 row �
   same_step : f.step ≡ g.step
   same_step = next_is f.x g.x f.step g.step same_x (ap (λ (s : Spot). s.x) next)
 
-  pub same_levels : levels_of f ≡ levels_of g
-  same_levels =
-      let of : ℤ → ℤ → ℕ → Levels = λ y s r. record { top = y; step = s; rows = r } in
-      ap (λ y. of y f.step f.rows) same_y ∙ ap (λ s. of g.y s f.rows) same_step
-      ∙ ap (λ r. of g.y g.step r) same_rows
-
   pub same_grid : ((column : ℕ) → IsIn f column 0 ↔ IsIn g column 0) → f ≡ g
   same_grid across =
       let more : f.cols - 1 < g.cols =
@@ -62,43 +49,3 @@ module _ (g f : Grid) (some : IsIn g 0 0) (down : (row : ℕ) → IsIn f 0 row �
       ∙ ap (λ s. of g.x g.y s f.cols f.rows) same_step
       ∙ ap (λ c. of g.x g.y g.step c f.rows) same_columns
       ∙ ap (λ r. of g.x g.y g.step g.cols r) same_rows
-
--- painting keeps the grid
-pub painted_grid : (leaves : List Leaf) (old new : Marking) → IsGrid old.grid → PaintsMask old leaves new
-    → new.grid ≡ old.grid
-painted_grid leaves old new grid h =
-    same_grid old.grid new.grid (grid.columns.0, grid.rows.0) (λ row. h.pixels 0 row)
-    (ap (λ (place : ℕ → ℕ → Spot). place 0 0) h.places) (ap (λ (place : ℕ → ℕ → Spot). place 1 0) h.places)
-    (λ column. h.pixels column 0)
-
--- a dark pixel is marked
-pub marks_of_ink : (m : Marking) (column row : ℕ) (black : Bool) → ink_of m column row ≡ black
-    → IsMarked m column row ↔ IsTrue black
-marks_of_ink m column row black ink =
-    ((λ h. sym ink ∙ dark_if_marked m column row h), (λ h. marked_if_dark m column row (ink ∙ h)))
-
--- the ink on a blank mask is the image
-pub ink_of_image : (leaves : List Leaf) (ink : Bool) (s : Spot) → ink ≡ false → painted ink leaves s ≡ is_black leaves s
-unfolding is_black
-ink_of_image leaves ink s clear = ap (λ b. painted b leaves s) clear
-
-rows_over : (leaves : List Leaf) (blank new : Marking) → IsGrid blank.grid → IsMask new → IsBlank blank
-    → PaintsMask blank leaves new
-    → new.rows ≡ tile_rows (is_black leaves) blank.grid
-rows_over leaves blank new grid mask none h =
-    let g = blank.grid in
-    rows_of_marks (is_black leaves) g new mask (painted_grid leaves blank new grid h)
-    (λ column row there. marks_of_ink new column row (is_black leaves (centre_in g column row))
-    (h.inks column row there
-    ∙ ink_of_image leaves (ink_of blank column row) (centre_in g column row)
-    (clear_if_unmarked blank column row (none column row there))))
-
-pub painted_rows : (leaves : List Leaf) (g : Grid) (blank new mask : Marking)
-    → IsGrid g → blank.grid ≡ g → IsBlank blank
-    → PaintsMask blank leaves new
-    → mask ≡ new → IsMask mask → mask.rows ≡ tile_rows (is_black leaves) g
-painted_rows leaves g blank new mask sound is_grid none h is_new whole =
-    let grid : IsGrid blank.grid = subst IsGrid (sym is_grid) sound in
-    ap (λ (m : Marking). m.rows) is_new
-    ∙ rows_over leaves blank new grid (subst IsMask is_new whole) none h
-    ∙ ap (λ of. tile_rows (is_black leaves) of) is_grid

@@ -1,61 +1,109 @@
 -- Dirty tiles of which some are drawn: drawing the others is drawing all.
-use Rattle.std.proofs.Common.{◌≡◌, ℕ, ◌+◌, ◌-◌, ◌≤◌, List, [], ◌∷◌, ◌++◌, length, take, drop, Some, None, sym, ap, ◌∙◌, refl}
-use Rattle.std.proofs.Common.{append_assoc, length-append, arith}
-use Rattle.std.proofs.lemmas.List.{length-take-le, take-append-drop}
-use Rattle.std.proofs.lemmas.Slice.{drop-put_mid, take-put_mid}
-use borrow.Rule.Slice.PartMut.{mid_of, put_mid}
-use Rattle.cam_tiles.specs.Machinery.Blackened.{IsPartlyDrawn}
+use Rattle.std.proofs.Common.{◌≡◌, ℕ, zero, suc, ◌+◌, ◌-◌, ◌<◌, ◌≤◌, List, [], ◌∷◌, ◌++◌, length, take, drop, get_or, Some, None}
+use Rattle.std.proofs.Common.{refl, sym, ap, subst, ◌∙◌, inl, inr, arith, length-append, unwrap_or}
+use Rattle.std.proofs.lemmas.Bool.{cases_lt}
+use Rattle.std.proofs.lemmas.List.{ext_get_or, get_or-append_right, get_or_append_left, length-take-le}
+use borrow.Rule.Slice.PartMut.{mid_of, put_mid, put_same}
+use Rattle.cam_tiles.specs.Machinery.Drawn.{IsKeptOrDrawn, IsPartlyDrawn}
 use Rattle.cam_tiles.specs.Tables.{Tile, all_drawn_from}
-use Rattle.cam_tiles.proofs.TilesInOrder.{drawn_append, length-all_drawn_from, middle_length, split}
+use Rattle.cam_tiles.proofs.TilesInOrder.{length-all_drawn_from}
+
+-- a tile once it is drawn where it was dirty
+abbrev drawn : List ℕ → Tile → Tile
+drawn rows tile = Some (unwrap_or tile rows)
+
+kept_or_drawn : (rows : List ℕ) (old new : Tile) → new ≡ drawn rows old → IsKeptOrDrawn rows old new
+kept_or_drawn rows None new is = inr (refl, is)
+kept_or_drawn rows (Some kept) new is = inl is
+
+drawn_alike : (rows : List ℕ) (old new : Tile) → IsKeptOrDrawn rows old new → drawn rows new ≡ drawn rows old
+drawn_alike rows old new (inl same) = ap (drawn rows) same
+drawn_alike rows old new (inr was) = ap (drawn rows) was.1 ∙ sym (ap (drawn rows) was.0)
+
+kept_or_drawn_again : (rows : List ℕ) (old now new : Tile) → IsKeptOrDrawn rows old now → IsKeptOrDrawn rows now new
+    → IsKeptOrDrawn rows old new
+kept_or_drawn_again rows old now new (inl same) (inl same') = inl (same' ∙ same)
+kept_or_drawn_again rows old now new (inl same) (inr was) = inr (sym same ∙ was.0, was.1)
+kept_or_drawn_again rows old now new (inr was) (inl same) = inr (was.0, same ∙ was.1)
+kept_or_drawn_again rows old now new (inr was) (inr was') = inr (was.0, was'.1)
 
 module _ (draw : ℕ → List ℕ) where
-  drawn_again : (k : ℕ) (tiles : List Tile)
-      → all_drawn_from draw k (all_drawn_from draw k tiles) ≡ all_drawn_from draw k tiles
-  drawn_again k [] = refl
-  drawn_again k (Some rows ∷ tiles) = ap (λ rest. Some rows ∷ rest) (drawn_again (k + 1) tiles)
-  drawn_again k (None ∷ tiles) = ap (λ rest. Some (draw k) ∷ rest) (drawn_again (k + 1) tiles)
+  get_or-all_drawn_from : (first : ℕ) (tiles : List Tile) (k : ℕ) → k < length tiles
+      → get_or (all_drawn_from draw first tiles) k None ≡ drawn (draw (first + k)) (get_or tiles k None)
+  get_or-all_drawn_from first [] k within = absurd (omega arith)
+  get_or-all_drawn_from first (Some rows ∷ tiles) zero within = refl
+  get_or-all_drawn_from first (None ∷ tiles) zero within =
+      let here : first ≡ first + 0 = omega arith in ap (λ n. Some (draw n)) here
+  get_or-all_drawn_from first (Some rows ∷ tiles) (suc k) within =
+      let there : first + 1 + k ≡ first + suc k = omega arith in
+      get_or-all_drawn_from (first + 1) tiles k (omega arith) ∙ ap (λ n. drawn (draw n) (get_or tiles k None)) there
+  get_or-all_drawn_from first (None ∷ tiles) (suc k) within =
+      let there : first + 1 + k ≡ first + suc k = omega arith in
+      get_or-all_drawn_from (first + 1) tiles k (omega arith) ∙ ap (λ n. drawn (draw n) (get_or tiles k None)) there
+
+  -- none of them
+  none_partly_drawn : (first : ℕ) (tiles : List Tile) → IsPartlyDrawn draw first tiles tiles
+  none_partly_drawn first tiles = record { size = refl; each = λ k within. inl refl }
 
   -- all of them
-  pub all_partly_drawn : (k : ℕ) (old new : List Tile) → new ≡ all_drawn_from draw k old → IsPartlyDrawn draw k old new
-  all_partly_drawn k old new is = ap (all_drawn_from draw k) is ∙ drawn_again k old
+  pub all_partly_drawn : (first : ℕ) (old new : List Tile) → new ≡ all_drawn_from draw first old
+      → IsPartlyDrawn draw first old new
+  all_partly_drawn first old new is = record {
+    size = ap length is ∙ length-all_drawn_from draw first old;
+    each = λ k within.
+        kept_or_drawn (draw (first + k)) (get_or old k None) (get_or new k None)
+        (ap (λ tiles. get_or tiles k None) is ∙ get_or-all_drawn_from first old k within);
+  }
 
-  pub partly_size : (k : ℕ) (old new : List Tile) → IsPartlyDrawn draw k old new → length new ≡ length old
-  partly_size k old new h =
-      sym (length-all_drawn_from draw k new) ∙ ap length h ∙ length-all_drawn_from draw k old
+  -- some, and then some of the others
+  pub drawn_further : (first : ℕ) (old now new : List Tile) → IsPartlyDrawn draw first old now
+      → IsPartlyDrawn draw first now new → IsPartlyDrawn draw first old new
+  drawn_further first old now new h more = record {
+    size = more.size ∙ h.size;
+    each = λ k within.
+        kept_or_drawn_again (draw (first + k)) (get_or old k None) (get_or now k None) (get_or new k None)
+        (h.each k within) (more.each k (omega (arith, within, h.size)));
+  }
 
-  -- a row of tiles in a list of them
-  module _ (first end : ℕ) (tiles part : List Tile) (order : first ≤ end) (within : end ≤ length tiles)
-      (h : IsPartlyDrawn draw first (mid_of first (end - first) tiles) part) where
-    part_size : length part ≡ end - first
-    part_size =
-        partly_size first (mid_of first (end - first) tiles) part h ∙ middle_length first end tiles order within
+  pub drawn_in_the_end : (first : ℕ) (old new : List Tile) → IsPartlyDrawn draw first old new
+      → all_drawn_from draw first new ≡ all_drawn_from draw first old
+  drawn_in_the_end first old new h =
+      ext_get_or None (all_drawn_from draw first new) (all_drawn_from draw first old)
+      (length-all_drawn_from draw first new ∙ h.size ∙ sym (length-all_drawn_from draw first old))
+      (λ k within.
+      let there : k < length new = omega (arith, within, length-all_drawn_from draw first new) in
+      let was : k < length old = omega (arith, there, h.size) in
+      get_or-all_drawn_from first new k there
+      ∙ drawn_alike (draw (first + k)) (get_or old k None) (get_or new k None) (h.each k was)
+      ∙ sym (get_or-all_drawn_from first old k was))
 
-    -- three parts, one behind another
-    drawn_parts : (mid : List Tile) → length mid ≡ end - first
-        → all_drawn_from draw 0 ((take first tiles ++ mid) ++ drop end tiles)
-        ≡ (all_drawn_from draw 0 (take first tiles) ++ all_drawn_from draw first mid)
-        ++ all_drawn_from draw end (drop end tiles)
-    drawn_parts mid size =
-        let front : length (take first tiles) ≡ first = length-take-le first tiles (omega arith) in
-        drawn_append draw 0 end (take first tiles ++ mid) (drop end tiles)
-        (omega (arith, length-append (take first tiles) mid, front, size))
-        ∙ ap (λ those. those ++ all_drawn_from draw end (drop end tiles))
-        (drawn_append draw 0 first (take first tiles) mid (omega (arith, front)))
+  -- lists one behind another
+  appended : (first next : ℕ) (a b c d : List Tile) → next ≡ first + length a → IsPartlyDrawn draw first a c
+      → IsPartlyDrawn draw next b d → IsPartlyDrawn draw first (a ++ b) (c ++ d)
+  appended first next a b c d at h more = record {
+    size = omega (arith, length-append c d, length-append a b, h.size, more.size);
+    each = λ k within. elim (cases_lt k (length a)) [
+      | inl before ↦
+          rw (get_or_append_left a b None k before, get_or_append_left c d None k (omega (arith, before, h.size)))
+          (h.each k before)
+      | inr behind ↦
+          (let there : next + (k - length a) ≡ first + k = omega (arith, at, behind) in
+          rw (get_or-append_right a b (length a) k None refl behind, get_or-append_right c d (length a) k None h.size behind)
+          (subst (λ n. IsKeptOrDrawn (draw n) (get_or b (k - length a) None) (get_or d (k - length a) None)) there
+          (more.each (k - length a) (omega (arith, within, behind, length-append a b)))))
+    ];
+  }
 
-    pub row_partly_drawn : IsPartlyDrawn draw 0 tiles (put_mid first (end - first) tiles part)
-    row_partly_drawn =
-        let now = put_mid first (end - first) tiles part in
-        let mid = mid_of first (end - first) tiles in
-        let new : now ≡ (take first tiles ++ part) ++ drop end tiles =
-        sym (take-append-drop end now)
-        ∙ ap (λ front. front ++ drop end now)
-        (take-put_mid first (end - first) tiles part end (omega (arith, part_size)) (omega arith))
-        ∙ ap (λ rest. (take first tiles ++ part) ++ rest)
-        (drop-put_mid first (end - first) tiles part end (omega arith) (omega arith) part_size) in
-        let old : tiles ≡ (take first tiles ++ mid) ++ drop end tiles =
-        sym (take-append-drop first tiles)
-        ∙ ap (λ rest. take first tiles ++ rest) (split first end tiles order within)
-        ∙ sym (append_assoc (take first tiles) mid (drop end tiles)) in
-        ap (all_drawn_from draw 0) new ∙ drawn_parts part part_size
-        ∙ ap (λ those. (all_drawn_from draw 0 (take first tiles) ++ those) ++ all_drawn_from draw end (drop end tiles)) h
-        ∙ sym (ap (all_drawn_from draw 0) old ∙ drawn_parts mid (middle_length first end tiles order within))
+  -- some of those between two others
+  pub part_partly_drawn : (first start n : ℕ) (tiles part : List Tile) → start ≤ length tiles
+      → IsPartlyDrawn draw (first + start) (mid_of start n tiles) part
+      → IsPartlyDrawn draw first tiles (put_mid start n tiles part)
+  part_partly_drawn first start n tiles part within h =
+      let front : List Tile = take start tiles in
+      let mid : List Tile = mid_of start n tiles in
+      let rest : List Tile = drop n (drop start tiles) in
+      subst (λ (old : List Tile). IsPartlyDrawn draw first old (put_mid start n tiles part)) (put_same start n tiles)
+      (appended first (first + start) front (mid ++ rest) front (part ++ rest)
+      (omega (arith, length-take-le start tiles within)) (none_partly_drawn first front)
+      (appended (first + start) (first + start + length mid) mid rest part rest refl h
+      (none_partly_drawn (first + start + length mid) rest)))

@@ -1,6 +1,6 @@
 -- Columns of runs, by the bits of masks.
 use Rattle.std.proofs.Common.{◌≡◌, ◌↔◌, ℕ, ◌+◌, ◌-◌, ◌<◌, ◌≤◌, ℤ, pos, ◌+ℤ◌, ◌-ℤ◌, ◌*ℤ◌, ◌≤ℤ◌}
-use Rattle.std.proofs.Common.{List, length, slice_index, inl, inr, subst, zero-add, arith}
+use Rattle.std.proofs.Common.{List, length, slice_index, inl, inr, arith}
 use Rattle.std.proofs.lemmas.Bool.{cases_lt}
 use borrow.Rule.Slice.PartMut.{put_mid}
 use Rattle.cam_units.specs.Board.{IsOnBoard}
@@ -14,24 +14,13 @@ use Rattle.cam_rows.specs.Rows.{centre_at, row_below}
 use Rattle.cam_rows.specs.Runs.{AreWideRows, IsInRun}
 use Rattle.cam_tiles.specs.declared.grid.Grid.{Grid}
 use Rattle.cam_tiles.specs.declared.masks.heights.Heights.{Heights}
-use Rattle.cam_tiles.specs.declared.masks.join.Join.{Join}
 use Rattle.cam_tiles.specs.declared.masks.runs.Runs.{Runs}
 use Rattle.cam_tiles.specs.Machinery.Levels.{height, levels_of}
-use Rattle.cam_tiles.specs.Machinery.Masks.{IsIn, IsMarked, IsWithin, Joins, Marking, joined}
-use Rattle.cam_tiles.specs.Machinery.Runs.{Fits, HasColumn, IsClear, IsWideGrid, Tells}
-use Rattle.cam_tiles.specs.Tiles.{IsGrid, centre_in}
-use Rattle.cam_tiles.proofs.Joined.{joined_like}
+use Rattle.cam_tiles.specs.Machinery.Masks.{IsWithin}
+use Rattle.cam_tiles.specs.Machinery.Runs.{Fits, IsClear, IsWideGrid, Tells}
+use Rattle.cam_tiles.specs.Tiles.{centre_in}
 use Rattle.cam_tiles.proofs.SeenRows.{in_reach}
 use Rattle.cam_tiles.proofs.TurnedBands.{below_seen, part_at}
-
--- a row of the band
-pub in_band : (r : Runs) (row column : ℕ) (B P : Type 0) → r.band.first ≤ row → row < r.band.end
-    → B ↔ (P × IsInRun (slice_index r.firsts row) (slice_index r.ends row) column)
-    → B ↔ (P × HasColumn r row column)
-in_band r row column B P after until told = (
-  (λ b. let both = told.0 b in (both.0, (after, until, both.1))),
-  (λ both. told.1 (both.0, both.1.2)),
-)
 
 -- ---- runs in the rows of a grid
 
@@ -39,7 +28,6 @@ pub without_rows : (rows : ℕ) (r : Runs) → IsClear r → Fits rows r
 without_rows rows r clear = record {
   low = omega (arith, clear.low);
   spanned = λ row column on. absurd (clear.none row column on);
-  shared = λ row column after until on. absurd (omega (arith, clear.low, until));
 }
 
 -- runs that hold nothing
@@ -78,7 +66,7 @@ wide_below g columns n at top first centres wide board count step within k below
 }
 
 pub tells_band : (g : Grid) (columns first end : ℕ) (at : Point) (h : Heights) (IsHeld : Spot → Type 0) (top : Centres)
-    (clear clear_ends firsts ends : List ℕ) (from until late early : ℕ)
+    (clear clear_ends firsts ends : List ℕ) (from until : ℕ)
     → ((i : ℕ) → centre_at top i ≡ relative at (centre_in g i first)) → top.n ≡ columns → first < end
     → end ≤ g.rows → g.rows ≤ 64 → length clear ≡ 64 → length clear_ends ≡ 64 → length firsts ≡ end - first
     → length ends ≡ end - first → IsBand g at h first end
@@ -86,17 +74,14 @@ pub tells_band : (g : Grid) (columns first end : ℕ) (at : Point) (h : Heights)
     → IsInRun (slice_index firsts k) (slice_index ends k) i ↔ IsHeld (centre_at (row_below top k) i))
     → ((k column : ℕ) → k < length firsts → IsInRun (slice_index firsts k) (slice_index ends k) column
     → IsInRun from until column)
-    → ((k column : ℕ) → k < length firsts → IsInRun late early column
-    → IsInRun (slice_index firsts k) (slice_index ends k) column)
     → Tells g columns (λ s. IsHeld (relative at s) × IsWithin h (relative at s)) (record {
       band = record { first = first; end = end };
       firsts = put_mid first (end - first) clear firsts;
       ends = put_mid first (end - first) clear_ends ends;
       columns = record { first = from; end = until };
-      common = record { first = late; end = early };
     })
-tells_band g columns first end at h IsHeld top clear clear_ends firsts ends from to late early centres count some low few
-    whole whole_ends firsts_size ends_size rows told spanned shared =
+tells_band g columns first end at h IsHeld top clear clear_ends firsts ends from to centres count some low few whole
+    whole_ends firsts_size ends_size rows told spanned =
     let long : end ≤ length clear = omega (arith, whole, low, few) in
     let long_ends : end ≤ length clear_ends = omega (arith, whole_ends, low, few) in
     record {
@@ -108,14 +93,6 @@ tells_band g columns first end at h IsHeld top clear clear_ends firsts ends from
               part_at first end clear_ends ends some long_ends ends_size row on.0 on.1,
             ) at on.2 in
             spanned (row - first) column (omega (arith, firsts_size, on.0, on.1)) here;
-        shared = λ row column after before on. (
-          after,
-          before,
-          rw (
-            part_at first end clear firsts some long firsts_size row after before,
-            part_at first end clear_ends ends some long_ends ends_size row after before,
-          ) (shared (row - first) column (omega (arith, firsts_size, after, before)) on),
-        );
       };
       each = λ column row near within.
           let s = relative at (centre_in g column row) in
@@ -151,29 +128,6 @@ tells_whole g columns at h IsHeld r heights told = record {
       );
 }
 
--- the rows of a grid itself
-pub own_grid : (g : Grid) → IsGrid g → IsWideGrid g g.cols
-own_grid g grid = record {
-  grid = grid;
-  count = (grid.columns.0, omega (arith, grid.columns.1));
-  centres = grid.centres;
-}
-
--- marks that are joined with the runs of a shape in the rows of their own grid
-pub joins_runs : (how : Join) (IsHeld : Spot → Type 0) (g : Grid) (r : Runs) (old new : Marking) → g ≡ old.grid
-    → Tells g g.cols IsHeld r → new.grid ≡ old.grid
-    → ((i row : ℕ) → IsIn old.grid i row
-    → IsMarked new i row ↔ joined how (IsMarked old i row) (HasColumn r row (0 + i)))
-    → Joins how IsHeld old new
-joins_runs how IsHeld g r old new is told grid marks =
-    let here = subst (λ (o : Grid). Tells o o.cols IsHeld r) is told in
-    record {
-      grid = grid;
-      marks = λ i row inside.
-          joined_like how _ _ _ _ _ ((λ a. a), (λ a. a)) (here.each i row inside.0 inside.1)
-          (rw (zero-add i) at (marks i row inside));
-    }
-
 -- ---- rows that go on to the right
 
 abbrev pub top_of : Grid → ℕ → ℕ → Centres
@@ -199,22 +153,6 @@ module _ (g : Grid) (columns first : ℕ) where
 abbrev pub AreSpanned : List ℕ → List ℕ → ℕ → ℕ → ℕ → Type 0
 AreSpanned firsts ends end from to =
     (k column : ℕ) → k < end → IsInRun (slice_index firsts k) (slice_index ends k) column → IsInRun from to column
-
--- columns are in all runs of the rows above an end
-abbrev pub AreShared : List ℕ → List ℕ → ℕ → ℕ → ℕ → Type 0
-AreShared firsts ends end from to =
-    (k column : ℕ) → k < end → IsInRun from to column → IsInRun (slice_index firsts k) (slice_index ends k) column
-
-pub one_more_shared : (firsts ends : List ℕ) (end from to first last : ℕ) → AreShared firsts ends end from to
-    → from ≤ first → last ≤ to → slice_index firsts end ≤ first → last ≤ slice_index ends end
-    → AreShared firsts ends (end + 1) first last
-one_more_shared firsts ends end from to first last before left right here_left here_right k column early on =
-    elim (cases_lt k end) [
-      | inl above ↦ before k column above (omega (arith, on.0, left), omega (arith, on.1, right))
-      | inr below ↦
-          let same : k ≡ end = omega arith in
-          rw same (omega (arith, on.0, here_left), omega (arith, on.1, here_right))
-    ]
 
 pub one_more_spanned : (firsts ends : List ℕ) (end from to first last : ℕ) → AreSpanned firsts ends end from to
     → first ≤ from → to ≤ last

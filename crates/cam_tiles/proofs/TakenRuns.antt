@@ -11,7 +11,6 @@ use Rattle.cam_tiles.specs.Machinery.Runs.{Fits, HasColumn}
 pub record AreTaken (old other new : Runs) (columns : Span) (end : ℕ) : Type 0 where
   pub band : new.band ≡ old.band
   pub columns_are : new.columns ≡ columns
-  pub common : new.common ≡ old.common
   pub sound : (row column : ℕ) → HasColumn new row column → HasColumn old row column ⊎ HasColumn other row column
   pub kept : (row column : ℕ) → HasColumn old row column → HasColumn new row column
   pub taken : (row column : ℕ) → row < end → HasColumn other row column → HasColumn new row column
@@ -56,7 +55,6 @@ module _ (old other now : Runs) (columns : Span) (row first end : ℕ) (before :
   one_more_taken = record {
     band = before.band;
     columns_are = before.columns_are;
-    common = before.common;
     sound = held;
     kept = λ r column was. grown r column (before.kept r column was);
     taken = λ r column early has. elim (cases_lt r row) [
@@ -82,6 +80,4 @@ taken_fit old other new columns end rows taken wide fit fit_other = record {
     | inl mine ↦ inl (fit.spanned row column mine)
     | inr theirs ↦ inr (fit_other.spanned row column theirs)
   ]));
-  shared = λ row column after until on.
-      taken.kept row column (fit.shared row column (rw taken.band at after) (rw taken.band at until) (rw taken.common at on));
 }

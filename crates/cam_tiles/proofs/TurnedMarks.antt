@@ -11,6 +11,7 @@ use Rattle.cam_shapes.specs.declared.segments.Seg.{Seg}
 use Rattle.cam_shapes.specs.declared.segments.Seg.TheVariants.{Curve}
 use Rattle.cam_shapes.specs.declared.cap.Cap.{Cap}
 use Rattle.cam_shapes.specs.Cap.{is_in_cap}
+use Rattle.cam_shapes.specs.Contour.{IsInContour}
 use Rattle.cam_shapes.specs.Edge.{crosses_ray, edge, is_above}
 use Rattle.cam_shapes.specs.Sides.{changes_side, differ}
 use Rattle.cam_rows.specs.Marks.{AreSpread, TurnsRows, is_set, is_turned, turns_past}
@@ -20,13 +21,13 @@ use Rattle.cam_rows.specs.Runs.{AreEnds, AreRuns, IsInRun}
 use Rattle.cam_rows.proofs.MarkedColumns.{none_odd}
 use Rattle.cam_tiles.specs.declared.grid.Grid.{Grid}
 use Rattle.cam_tiles.specs.declared.masks.heights.Heights.{Heights}
-use Rattle.cam_tiles.specs.Machinery.Filing.{changes_at, corner_of, segment_of}
 use Rattle.cam_tiles.specs.Machinery.Levels.{IsOnRow, height, levels_of}
 use Rattle.cam_tiles.specs.Machinery.Masks.{IsWithin}
 use Rattle.cam_tiles.specs.Machinery.Turning.{AreWide, MarksCentres, TurnsCentres}
 use Rattle.cam_tiles.specs.Tiles.{centre_in}
 use Rattle.cam_tiles.proofs.ChangedParities.{from_even, not_turned, true_or_not, turned_like, turned_twice}
 use Rattle.cam_tiles.proofs.RunColumns.{below_top, further_down, top_of}
+use Rattle.cam_tiles.proofs.TurnedContours.{Turning, inside_turned, turns_side}
 
 pub still_wide : (columns : ℕ) (old new : List ℕ) → length new ≡ length old → AreWide columns old
     → AreWide columns new
@@ -59,17 +60,21 @@ module _ (g : Grid) (columns : ℕ) where
       → ((column row : ℕ) → row < g.rows → P (centre_in g column row) → ⊥) → TurnsCentres g columns P old old
   turns_nothing P old none = record { each = λ column row near within. not_turned _ _ (none column row within) }
 
-  -- ---- segments
+  -- where a test says so
+  abbrev pub TurnsSo : (Spot → Bool) → List ℕ → List ℕ → Type 0
+  TurnsSo test = TurnsCentres g columns (λ s. IsTrue (test s))
 
-  pub turned_at : (c : Contour) (k : ℕ) (here : Point) (seg : Seg) (old new : List ℕ) → here ≡ corner_of c k
-      → seg ≡ segment_of c k → TurnsCentres g columns (λ s. IsTrue (changes_side s here seg)) old new
-      → TurnsCentres g columns (λ s. IsTrue (changes_at c s k)) old new
-  turned_at c k here seg old new e f =
-      turns_like (λ s. IsTrue (changes_side s here seg)) (λ s. IsTrue (changes_at c s k)) old new
-      (λ s.
-      let same : changes_side s here seg ≡ changes_at c s k =
-      ap (λ p. changes_side s p seg) e ∙ ap (changes_side s (corner_of c k)) f in
-      ((λ t. sym same ∙ t), (λ t. same ∙ t)))
+  pub turning : Turning TurnsSo
+  turning = record {
+    none = λ old. turns_nothing (λ s. IsTrue false) old (λ column row within held. false≢true held);
+    twice = turns_twice;
+  }
+
+  pub marked_inside : (c : Contour) (old new : List ℕ) → TurnsSo (turns_side c) old new
+      → TurnsCentres g columns (λ s. IsInContour s c) old new
+  marked_inside c old new h = turns_like _ _ old new (λ s. inside_turned s c) h
+
+  -- ---- segments
 
   pub curve_counted : (here to centre : Point) (ccw : Bool) (seg : Seg) (old between new : List ℕ)
       → seg ≡ Curve to centre ccw
@@ -181,11 +186,14 @@ module _ (g : Grid) (columns : ℕ) where
       from_even _ _ _ _ ((λ t. sym same ∙ t), (λ t. same ∙ t)) (λ t. false≢true (sym even ∙ t))
       (h.each column row near within)
 
-  -- words behind them change none of them
-  pub marks_before : (P : Spot → Type 0) (part rest : List ℕ) → g.rows ≤ 64 → AreWide columns part
-      → MarksCentres g columns P part → MarksCentres g columns P (part ++ rest)
-  marks_before P part rest few wide told column row near within =
+  -- what is turned in words that were 0 is marked once that is spread; words behind them change none of it
+  pub marks_before : (P : Spot → Type 0) (n : ℕ) (blank turned spread rest : List ℕ) → g.rows ≤ 64
+      → columns ≤ 64 * n → length blank ≡ 64 * n → ((k : ℕ) → k < length blank → slice_index blank k ≡ 0)
+      → length turned ≡ length blank → length spread ≡ length turned → TurnsCentres g columns P blank turned
+      → AreSpread turned spread → MarksCentres g columns P (spread ++ rest)
+  marks_before P n blank turned spread rest few enough size none as_long as_long_still h told column row near within =
       let k = 64 * (column / 64) + row in
-      let same : slice_index (part ++ rest) k ≡ slice_index part k =
-      get_or_append_left part rest 0 k (omega (arith, near, within, few, wide.room, wide.tiles)) in
-      rw same (told column row near within)
+      let same : slice_index (spread ++ rest) k ≡ slice_index spread k =
+      get_or_append_left spread rest 0 k (omega (arith, near, within, few, enough, size, as_long, as_long_still)) in
+      rw same (spread_inside P blank turned spread none few (omega (arith, enough, size, as_long)) h told column row near
+      within)

@@ -1,7 +1,12 @@
 -- Masks that are turned over at the places of shapes.
-use Rattle.std.proofs.Common.{◌≡◌, ◌↔◌, ℕ, Bool, IsTrue, refl, subst, sym, ◌∙◌}
+use Rattle.std.proofs.Common.{◌≡◌, ◌↔◌, ℕ, Bool, false, IsTrue, refl, subst, sym, ◌∙◌}
+use Rattle.std.proofs.lemmas.Bool.{false≢true}
+use Rattle.cam_units.specs.declared.point.Point.{Point}
 use Rattle.cam_units.specs.declared.point.Spot.{Spot}
+use Rattle.cam_shapes.specs.declared.contour.Contour.{Contour}
+use Rattle.cam_shapes.specs.Contour.{IsInContour}
 use Rattle.cam_shapes.specs.Sides.{differ}
+use Rattle.cam_objects.specs.Image.{relative}
 use Rattle.cam_tiles.specs.declared.grid.Grid.{Grid}
 use Rattle.cam_tiles.specs.Machinery.Masks.{AreMarksOf, IsBlank, IsIn, IsMarked, Joins, Marking, Merges, Turns, TurnsBy}
 use Rattle.cam_tiles.specs.Machinery.Masks.{turned_over}
@@ -9,6 +14,7 @@ use Rattle.cam_tiles.specs.declared.masks.join.Join.{Join}
 use Rattle.cam_tiles.specs.Tiles.{centre_in}
 use Rattle.cam_tiles.proofs.ChangedParities.{from_even, not_turned, turned_like, turned_twice}
 use Rattle.cam_tiles.proofs.Joined.{Shows, joined_like, same, set_or_not}
+use Rattle.cam_tiles.proofs.TurnedContours.{Turning, inside_turned, turns_side}
 
 pub turns_like : (P Q : Spot → Type 0) (old new : Marking) → ((s : Spot) → P s ↔ Q s) → Turns P old new
     → Turns Q old new
@@ -36,6 +42,21 @@ turns_twice f g old between new h k = record {
       (subst (λ (o : Grid). (i j : ℕ) → IsIn o i j
       → IsMarked new i j ↔ turned_over (IsMarked between i j) (IsTrue (g (centre_in o i j)))) h.grid k.marks column row there);
 }
+
+module _ (at : Point) where
+  -- where a test of places says so, as they are seen from a point
+  abbrev pub TurnsSo : (Spot → Bool) → Marking → Marking → Type 0
+  TurnsSo test = Turns (λ s. IsTrue (test (relative at s)))
+
+  pub turning : Turning TurnsSo
+  turning = record {
+    none = λ m. turns_nothing (λ s. IsTrue false) m (λ column row there held. false≢true held);
+    twice = λ f g. turns_twice (λ s. f (relative at s)) (λ s. g (relative at s));
+  }
+
+  pub turned_inside : (c : Contour) (old new : Marking) → TurnsSo (turns_side c) old new
+      → Turns (λ s. IsInContour (relative at s) c) old new
+  turned_inside c old new h = turns_like _ _ old new (λ s. inside_turned (relative at s) c) h
 
 -- a blank mask that is turned shows the shape
 pub shows_turned : (P : Spot → Type 0) (blank new : Marking) → IsBlank blank → Turns P blank new → Shows P new

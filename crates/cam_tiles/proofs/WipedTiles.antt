@@ -1,13 +1,13 @@
 -- Wiping: tiles run by run, and those of a box.
 use Rattle.std.proofs.Common.{◌≡◌, ℕ, zero, suc, ◌+◌, ◌-◌, ◌*◌, ◌/◌, ◌%◌, ◌<◌, ◌≤◌}
 use Rattle.std.proofs.Common.{Bool, true, false, ◌&&◌, ◌||◌, nat_le, nat_lt, cond}
-use Rattle.std.proofs.Common.{List, [], ◌∷◌, length, get_or, inl, inr, refl, sym, ap, ◌∙◌, arith}
+use Rattle.std.proofs.Common.{List, [], ◌∷◌, length, length-take, take, get_or, inl, inr, refl, sym, ap, ◌∙◌, arith}
 use Rattle.std.specs.List.{list_any, range_with_len}
 use Rattle.std.specs.Prelude.{None}
 use Rattle.std.proofs.Math.Nat.{mul-le-mul_right, mod-lt}
 use Rattle.std.proofs.lemmas.Bool.{cases_order, or_from}
 use Rattle.std.proofs.lemmas.Bool.Decides.{nat_tests}
-use Rattle.std.proofs.lemmas.List.{ext_get_or}
+use Rattle.std.proofs.lemmas.List.{ext_get_or, get_or-take}
 use Rattle.std.proofs.lemmas.Nat.{div_below}
 use Rattle.cam_units.specs.declared.bounds.Bounds.TheVariants.{Empty, Closed}
 use Rattle.cam_units.specs.declared.point.Spot.{Spot}
@@ -18,6 +18,7 @@ use Rattle.cam_tiles.specs.Machinery.Spans.{has_pixel, is_between, is_in_span}
 use Rattle.cam_tiles.specs.Tables.{IsTable, Table, Tile}
 use Rattle.cam_tiles.specs.Tiles.{across, columns, down, left, rows, tiles_of, top}
 use Rattle.cam_tiles.specs.Touched.{touched, touches, wiped_from}
+use Rattle.cam_tiles.proofs.DrawnTiles.{clean_before, dirty}
 use Rattle.cam_tiles.proofs.TileCounts.{some_across}
 
 -- whether a tile is in one of the rows from start on, and before end, in the columns of a span
@@ -167,3 +168,14 @@ touched_spans t low high in_columns in_rows wide wiped sound by_column by_row sa
     (sym (touches_spans w low high in_columns in_rows k sound.accepted inside by_column by_row))
     ∙ ap (λ n. cond (touches w (Closed low high) n) None (get_or t.tiles k None)) (sym this)
     ∙ sym (get_or-wiped_from (touches w (Closed low high)) 0 t.tiles k)))
+
+-- tiles that were clean still are where they stay
+pub still_clean : (old new : List Tile) (n m : ℕ) → length new ≡ length old → m ≤ n → dirty (take n old) ≡ 0
+    → ((k : ℕ) → k < m → get_or new k None ≡ get_or old k None) → dirty (take m new) ≡ 0
+still_clean old new n m size few clean same =
+    let kept : take m new ≡ take m old =
+    ext_get_or None (take m new) (take m old) (omega (arith, length-take m new, length-take m old, size))
+    (λ k within.
+    let under : k < m = omega (arith, within, length-take m new) in
+    get_or-take m new k None under ∙ same k under ∙ sym (get_or-take m old k None under)) in
+    ap dirty kept ∙ clean_before old n m few clean

@@ -1,7 +1,7 @@
--- The lowest bits of a word, and one of them.
-use Rattle.std.proofs.Common.{◌≡◌, ℕ, ◌-◌, ◌/◌, ◌^◌, ◌<◌, ◌≤◌, ◌↔◌, arith, bit_and}
+-- The lowest bits of a word.
+use Rattle.std.proofs.Common.{◌≡◌, ℕ, ◌-◌, ◌/◌, ◌^◌, ◌<◌, ◌≤◌, ◌↔◌, arith}
 use Rattle.std.specs.Int.{IsBitSet}
-use Rattle.std.proofs.lemmas.Nat.Bits.{bit_at-lt, bit_at_ones, bit_at_ones_above, ones_shr, shr_and_one}
+use Rattle.std.proofs.lemmas.Nat.Bits.{bit_at-lt, bit_at_ones, bit_at_ones_above, ones_shr}
 use Rattle.cam_rows.proofs.SetBits.{set_is_one}
 
 set_in_ones : (count i : ℕ) → IsBitSet (2 ^ count - 1) i ↔ (i < count)
@@ -12,7 +12,3 @@ pub set_in_low : (count i : ℕ) → count ≤ 64 → IsBitSet ((2 ^ 64 - 1) / 2
 set_in_low count i few =
     let rest : 64 - (64 - count) ≡ count = omega arith in
     rw (ones_shr 64 (64 - count) (omega arith), rest) (set_in_ones count i)
-
--- the bit of a row, as the code tests it
-pub row_told : (rows row : ℕ) → (bit_and (rows / 2 ^ row) 1 ≡ 1) ↔ IsBitSet rows row
-row_told rows row = rw (shr_and_one rows row) ((set_is_one rows row).1, (set_is_one rows row).0)

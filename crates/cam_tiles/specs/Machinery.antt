@@ -1,10 +1,11 @@
 -- Words of the contracts of inner functions: they mirror the code. A reader who trusts the definitions beside this
 -- folder has read all that the theorems mean.
-pub mod Blackened
+pub mod Drawn
 pub mod Figures
-pub mod Filing
 pub mod Indexes
+pub mod Inks
 pub mod Kept
+pub mod Lattices
 pub mod Levels
 pub mod Masks
 pub mod Plain
@@ -14,3 +15,4 @@ pub mod Shown
 pub mod Spans
 pub mod Swaths
 pub mod Turning
+pub mod Words

@@ -1,8 +1,9 @@
 //! The pixel centres of a tile.
 
-ghost use Rattle.std.specs.Prelude.{◌≡◌, ◌<◌, ℕ};
+ghost use Rattle.std.specs.Prelude.{◌≡◌, ◌-◌, ◌*◌, ◌<◌, ℕ};
 ghost use Rattle.cam_units.specs.Board.{IsPlace};
 ghost use Rattle.cam_units.specs.Boxes.{Holds};
+ghost use Rattle.cam_tiles.specs.Machinery.Runs.{IsWideGrid, StandsAt};
 ghost use Rattle.cam_tiles.specs.Tiles.{IsGrid, centre_in};
 
 use cam_units::{Bounds, Spot};
@@ -19,6 +20,20 @@ pub struct Grid {
 }
 
 impl Grid {
+    /// The grid from a tile on, where its rows go on to the right in so many columns.
+    pub(crate) fn from_tile(&self, tile: u32, columns: u32) -> Grid
+        requires grid { IsWideGrid self.now columns }
+        requires tile { 64 * tile < columns }
+        ensures stands { StandsAt self.now (64 * tile) result }
+        ensures wide { IsWideGrid result (columns - 64 * tile) }
+    {
+        Grid {
+            x: self.x + i64::from(64 * tile) * self.step,
+            cols: (columns - 64 * tile).min(64),
+            ..*self
+        }
+    }
+
     /// The box of the centres, in half nm.
     pub(crate) fn bounds(&self) -> Bounds
         requires { IsGrid self.now }

@@ -1,24 +1,21 @@
 //! What of a layer a redraw may show: the items that may be seen in a box, and which of them reach each row of tiles.
 
+pub(crate) mod items;
 mod row_lists;
 pub(crate) mod seen;
 
-ghost use Rattle.std.specs.Prelude.{◌≡◌, ◌↔◌, ◌<◌, ◌≤◌, ◌≤ℤ◌, ℕ, [], All, IfNone, IfOk, IfSome, IsTrue, length};
-ghost use Rattle.std.specs.Prelude.{slice_index_or, true};
+ghost use Rattle.std.specs.Prelude.{◌≡◌, ◌↔◌, ◌<◌, ◌≤◌, ◌≤ℤ◌, ℕ, All, IfNone, IfOk, IfSome, IsTrue, length, true};
 ghost use Rattle.cam_units.specs.Boxes.{Holds};
 ghost use Rattle.cam_units.specs.declared.point.Spot.{Spot};
 ghost use Rattle.cam_tiles.specs.Machinery.Indexes.{AreSeenBy, IsBoxed, IsBoxOf, IsIndexOf, IsSeen, numbered_leaves};
-ghost use Rattle.cam_tiles.specs.Machinery.Levels.{IsLevels, levels_of};
 ghost use Rattle.cam_tiles.specs.Machinery.RowLists.{reaches};
 ghost use Rattle.cam_tiles.specs.Machinery.Shown.{IsReady, leaves_by_item, leaves_of};
-ghost use Rattle.cam_tiles.specs.Machinery.Swaths.{HasLevels, PaintsSwath};
+ghost use Rattle.cam_tiles.specs.Machinery.Swaths.{HasRowOf, IsInSwath, PaintsSwath, place_in};
 ghost use Rattle.cam_tiles.specs.Picture.{accepts};
-ghost use Rattle.cam_tiles.specs.Tiles.{grid_of, tiles_of};
+ghost use Rattle.cam_tiles.specs.Tiles.{tiles_of};
 
 use crate::index::row_lists::RowLists;
 use crate::index::seen::Seen;
-use crate::levels::Levels;
-use crate::masks::filing::{FiledSegment, file_contour};
 use crate::masks::swath::Swath;
 use crate::shown::Shown;
 use crate::span::Span;
@@ -45,8 +42,6 @@ pub(crate) struct Index {
     within: Bounds,
     boxed: Vec<Boxed>,
     rows: RowLists,
-    /// Room for the segments of the region that is painted.
-    segments: Vec<FiledSegment>,
 }
 
 impl Boxed {
@@ -115,30 +110,26 @@ impl Index {
         let Seen {
             within,
             mut boxed,
-            room,
             ..
         } = seen;
         boxed.reverse();
         let rows = RowLists::new(alloc, &boxed, window.height.div_ceil(64))?;
-        let segments = Vec::with_capacity(alloc, room)?;
         Ok(Index {
             within,
             boxed,
             rows,
-            segments,
         })
     }
 
-    /// Paints all items, in order, on masks in the row of tiles of a tile: where they lie in the box of the index,
-    /// those items alone that reach the row, since the others leave the masks as they are.
-    pub(crate) fn paint(&mut self, shown: &Shown<'_>, window: &Window, tile: u32, swath: &mut Swath)
+    /// Paints all items, from the last one on, on tiles of the row of tiles of a tile: where they lie in the box of the index,
+    /// those items alone that reach the row, since the others leave the tiles as they are; and none once all is decided.
+    pub(crate) fn paint(&self, shown: &Shown<'_>, window: &Window, tile: u32, swath: &mut Swath)
         requires ready { IsReady shown.now }
         requires accepted { accepts window.now ≡ true }
-        requires index { IsIndexOf (leaves_by_item shown.now) window.now self.old }
+        requires index { IsIndexOf (leaves_by_item shown.now) window.now self.now }
         requires tile { tile < tiles_of window.now }
-        requires rows { HasLevels (levels_of (grid_of window.now tile)) swath.old }
-        ensures index { IsIndexOf (leaves_by_item shown.now) window.now self.new }
-        ensures painted { PaintsSwath swath.old (leaves_of shown.now) swath.new }
+        requires rows { HasRowOf window.now tile swath.old }
+        ensures { PaintsSwath swath.old (leaves_of shown.now) swath.new }
     {
         let Bounds::Closed { low, high } = swath.bounds() else {
             return;
@@ -147,68 +138,35 @@ impl Index {
             shown.paint(swath);
             return;
         }
-        let levels = window.grid(tile).levels();
         let numbers = self.rows.list(tile / window.across());
-        paint_all(
-            numbers,
-            &self.boxed,
-            levels,
-            shown,
-            &mut self.segments,
-            swath,
-        );
+        paint_all(numbers, &self.boxed, shown, low.x, high.x, swath);
     }
 }
 
-/// Paints the items of some numbers, in order, on masks of tiles whose rows have some heights.
+/// Paints the items of some numbers, from the last one on, on tiles whose centres lie between two places across; none once
+/// all is decided.
 fn paint_all(
     numbers: &[u32],
     boxed: &[Boxed],
-    levels: Levels,
     shown: &Shown<'_>,
-    segments: &mut Vec<FiledSegment>,
+    left: i64,
+    right: i64,
     swath: &mut Swath,
 )
     requires numbers { All (λ k. k < length boxed.now) numbers.now }
     requires boxed { All (IsBoxed (leaves_by_item shown.now)) boxed.now }
     requires ready { IsReady shown.now }
-    requires levels { IsLevels levels }
-    requires rows { HasLevels levels swath.old }
+    requires sides { (column row : ℕ) → IsInSwath swath.old column row
+        → (left ≤ℤ (place_in swath.old column row).x) × ((place_in swath.old column row).x ≤ℤ right) }
     ensures { PaintsSwath swath.old (numbered_leaves (leaves_by_item shown.now) boxed.now numbers.now) swath.new }
 {
-    let Bounds::Closed { low, high } = swath.bounds() else {
-        return;
-    };
-    for number in numbers {
-        let item = &boxed[*number as usize];
-        if item.reaches(low.x, high.x) {
-            paint_item(item, levels, shown, segments, swath);
+    for k in (0..numbers.len()).rev() {
+        if swath.is_done() {
+            return;
         }
-    }
-}
-
-/// Paints an item on masks of tiles whose rows have some heights: of a region alone, the segments that cross them.
-fn paint_item(
-    item: &Boxed,
-    levels: Levels,
-    shown: &Shown<'_>,
-    segments: &mut Vec<FiledSegment>,
-    swath: &mut Swath,
-)
-    requires boxed { IsBoxed (leaves_by_item shown.now) item.now }
-    requires ready { IsReady shown.now }
-    requires levels { IsLevels levels }
-    requires rows { HasLevels levels swath.old }
-    ensures { PaintsSwath swath.old (slice_index_or (leaves_by_item shown.now) item.now.place []) swath.new }
-{
-    let place = item.place as usize;
-    segments.clear();
-    if let Some(region) = shown.region(place)
-        && region.contour.segs.as_slice().len() < segments.capacity()
-    {
-        file_contour(region.contour, levels, segments);
-        swath.fill_filed(region, segments, item.left, item.right);
-    } else {
-        shown.paint_item(place, swath);
+        let item = &boxed[numbers[k] as usize];
+        if item.reaches(left, right) {
+            shown.paint_item(item.place as usize, swath);
+        }
     }
 }

@@ -6,8 +6,8 @@
 //! reaches, [`Raster::redraw`] has a [`Painter`] draw as many of them as it may. A [`Source`] paints a layer of either
 //! kind: a pixel is black exactly where the layer is black at the pixel's centre.
 //!
-//! A reader starts with `src/plain.rt`: how one tile is drawn, leaf by leaf and row by row. `src/drawing.rt` draws the
-//! dirty tiles of a row of tiles at once, by the runs of shapes in all of them; the tiles are the same.
+//! A reader starts with `src/plain.rt`: how one tile is drawn, from the last leaf on and row by row. `src/drawing.rt` draws
+//! the dirty tiles of a row of tiles at once, by the runs of shapes in all of them; the tiles are the same.
 //!
 //! What a picture is stands in `specs/Picture.antt`, its file in `specs/Pbm.antt`, tiles in `specs/Tiles.antt`, what is
 //! kept of them in `specs/Tables.antt`, and what boxes touch in `specs/Touched.antt`. The laws in `specs/TileLaws.antt`
@@ -39,6 +39,7 @@ mod drawing;
 mod fault;
 mod grid;
 mod index;
+mod lattice;
 mod laws;
 mod levels;
 mod masks;

@@ -2,12 +2,16 @@
 
 pub(crate) mod figure_runs;
 pub(crate) mod figures;
-pub(crate) mod filing;
 pub(crate) mod heights;
+pub(crate) mod inks;
 pub(crate) mod join;
+pub(crate) mod macros;
+pub(crate) mod marked;
 pub(crate) mod mask;
+pub(crate) mod placed;
 pub(crate) mod runs;
+pub(crate) mod segments;
 pub(crate) mod shapes;
-pub(crate) mod solid;
 pub(crate) mod swath;
 pub(crate) mod turning;
+pub(crate) mod words;

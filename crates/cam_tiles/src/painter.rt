@@ -31,21 +31,23 @@ pub trait Painter {
         ensures kept { picture self.new ≡ picture self.old }
         ensures asked { count self.new ≡ count self.old + 1 };
 
-    /// Draws the dirty ones of the first tiles of a window: a bit of a row is set where the picture is black at the
-    /// centre of its pixel, and bits and rows past the window are 0. The others stay. It asks [`tile`](Painter::tile)
-    /// once for each, that of least number first; a painter may have a way of its own to the same tiles.
-    fn draw(&mut self, window: &Window, tiles: &mut [Tile])
+    /// Draws the dirty ones of the tiles of a window from a number on: a bit of a row is set where the picture is black at
+    /// the centre of its pixel, and bits and rows past the window are 0. The others stay. It asks
+    /// [`tile`](Painter::tile) once for each, that of least number first; a painter may have a way of its own to the same
+    /// tiles.
+    #[tactic(auto, using(crate::proofs::TileCounts::few_tiles))]
+    fn draw(&mut self, window: &Window, first: u32, tiles: &mut [Tile])
         requires accepted { accepts window.now ≡ true }
-        requires within { length tiles.old ≤ tiles_of window.now }
+        requires within { first + length tiles.old ≤ tiles_of window.now }
         requires room { count self.old + count_by is_none tiles.old < 2 ^ 64 }
         ensures tiles { tiles.new
-            ≡ all_drawn_from (λ k. tile_rows (picture self.old) (grid_of window.now k)) 0 tiles.old }
+            ≡ all_drawn_from (λ k. tile_rows (picture self.old) (grid_of window.now k)) first tiles.old }
         ensures kept { picture self.new ≡ picture self.old }
         ensures asked { count self.new ≡ count self.old + count_by is_none tiles.old }
     {
         for k in 0..tiles.len() {
             if tiles[k].is_none() {
-                let rows = self.tile(window.grid(k as u32));
+                let rows = self.tile(window.grid(first + k as u32));
                 tiles[k] = Some(rows);
             }
         }

@@ -1,7 +1,7 @@
 //! Rasters: the tiles of a window, each drawn or dirty.
 
 ghost use Rattle.std.specs.Prelude.{◌≡◌, ◌+◌, ◌<◌, ◌≤◌, ◌^◌, IfErr, IfNone, IfOk, IfSome, None, OnOk, Some, true};
-ghost use Rattle.std.specs.Prelude.{count_by, is_none, is_some, length, min, take};
+ghost use Rattle.std.specs.Prelude.{count_by, is_none, is_some, length, min, slice_index_or, take};
 ghost use Rattle.cam_tiles.specs.Picture.{accepts};
 ghost use Rattle.cam_tiles.specs.Tables.{
   IsRefusal,
@@ -21,7 +21,7 @@ ghost use Rattle.cam_tiles.specs.Touched.{touched};
 use crate::fault::RasterFault;
 use crate::painter::{Painter, Tile};
 use crate::pbm::bitmap;
-use crate::touch::wipe;
+use crate::touch::{first_in, wipe};
 use crate::window::Window;
 use cam_units::Bounds;
 use std::alloc::{AllocError, Global};
@@ -34,6 +34,8 @@ pub struct Raster {
     window: Window,
     across: u32,
     dirty: u32,
+    /// So many of the first tiles are clean, if not more: a redraw begins behind them.
+    clean: usize,
     tiles: Vec<Tile>,
 }
 
@@ -64,6 +66,7 @@ impl Raster {
             window,
             across: window.across(),
             dirty,
+            clean: 0,
             tiles,
         })
     }
@@ -108,6 +111,7 @@ impl Raster {
     }
 
     /// Makes dirty the tiles that hold a pixel centre in the box, or on its edge.
+    #[tactic(auto, using(crate::proofs::TileCounts::some_across, crate::proofs::TileCounts::few_tiles))]
     pub fn touch(&mut self, bounds: Bounds)
         ensures { self.new ≡ touched bounds self.old }
     {
@@ -117,10 +121,12 @@ impl Raster {
         let columns = self.window.columns_between(&low, &high);
         let rows = self.window.rows_between(&low, &high);
         self.dirty += wipe(&mut self.tiles, self.across, columns, rows);
+        self.clean = first_in(self.across, columns, rows, self.clean);
     }
 
     /// Draws dirty tiles, those of least number first: `at_most` of them, or all where there are fewer. Answers how
     /// many, and asks the painter once for each.
+    #[tactic(auto, using(crate::proofs::TileCounts::some_across))]
     pub fn redraw<P: Painter>(&mut self, painter: &mut P, at_most: u32) -> u32
         requires room { P.count painter.old + min at_most (dirty_count self.old) < 2 ^ 64 }
         ensures drawn { result ≡ min at_most (dirty_count self.old) }
@@ -129,9 +135,17 @@ impl Raster {
         ensures asked { P.count painter.new ≡ P.count painter.old + result }
     {
         let drawn = at_most.min(self.dirty);
-        let end = end_of_first(&self.tiles, drawn);
-        draw_first(&mut self.tiles, end, &self.window, painter);
+        let first = first_dirty(&self.tiles, self.clean);
+        let end = end_of_first(&self.tiles, first, drawn);
+        // a painter draws rows of tiles from their left end on
+        let start = first - first % self.across as usize;
+        draw_between(&mut self.tiles, start, end, &self.window, painter);
         self.dirty -= drawn;
+        self.clean = if self.dirty == 0 {
+            self.tiles.len()
+        } else {
+            end
+        };
         drawn
     }
 
@@ -149,14 +163,33 @@ impl Raster {
     }
 }
 
-/// The number behind the first `count` dirty tiles: no other is dirty before it.
-fn end_of_first(tiles: &[Tile], count: u32) -> usize
-    requires { count ≤ count_by is_none tiles.now }
+/// The first dirty tile, where none before a number is dirty; the number of all tiles where none is.
+fn first_dirty(tiles: &[Tile], from: usize) -> usize
+    requires within { from ≤ length tiles.now }
+    requires clean { count_by is_none (take from tiles.now) ≡ 0 }
+    ensures within { result ≤ length tiles.now }
+    ensures clean { count_by is_none (take result tiles.now) ≡ 0 }
+    ensures dirty { slice_index_or tiles.now result None ≡ None }
+{
+    for k in from..tiles.len() {
+        if tiles[k].is_none() {
+            return k;
+        }
+    }
+    tiles.len()
+}
+
+/// The number behind the first `count` dirty tiles, where none before `from` is dirty: no other is dirty before it.
+fn end_of_first(tiles: &[Tile], from: usize, count: u32) -> usize
+    requires within { from ≤ length tiles.now }
+    requires clean { count_by is_none (take from tiles.now) ≡ 0 }
+    requires count { count ≤ count_by is_none tiles.now }
+    ensures order { from ≤ result }
     ensures within { result ≤ length tiles.now }
     ensures first { count_by is_none (take result tiles.now) ≡ count }
 {
     let mut left = count;
-    for k in 0..tiles.len() {
+    for k in from..tiles.len() {
         if left == 0 {
             return k;
         }
@@ -167,10 +200,19 @@ fn end_of_first(tiles: &[Tile], count: u32) -> usize
     tiles.len()
 }
 
-/// Has the painter draw the dirty ones of the tiles before a number.
-fn draw_first<P: Painter>(tiles: &mut [Tile], end: usize, window: &Window, painter: &mut P)
+/// Has the painter draw the dirty ones of the tiles before a number, where none before `start` is dirty.
+#[tactic(auto, using(crate::proofs::TileCounts::few_tiles, crate::proofs::TilesInOrder::dirty_between))]
+fn draw_between<P: Painter>(
+    tiles: &mut [Tile],
+    start: usize,
+    end: usize,
+    window: &Window,
+    painter: &mut P,
+)
     requires accepted { accepts window.now ≡ true }
     requires full { length tiles.old ≡ tiles_of window.now }
+    requires order { start ≤ end }
+    requires clean { count_by is_none (take start tiles.old) ≡ 0 }
     requires within { end ≤ length tiles.old }
     requires room { P.count painter.old + count_by is_none (take end tiles.old) < 2 ^ 64 }
     ensures tiles { tiles.new ≡ drawn_from (λ k. tile_rows (P.picture painter.old) (grid_of window.now k)) 0
@@ -178,6 +220,6 @@ fn draw_first<P: Painter>(tiles: &mut [Tile], end: usize, window: &Window, paint
     ensures kept { P.picture painter.new ≡ P.picture painter.old }
     ensures asked { P.count painter.new ≡ P.count painter.old + count_by is_none (take end tiles.old) }
 {
-    let first = &mut tiles[..end];
-    painter.draw(window, first);
+    let part = &mut tiles[start..end];
+    painter.draw(window, start as u32, part);
 }

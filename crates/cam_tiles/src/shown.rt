@@ -1,14 +1,11 @@
 //! Layers of either kind, and how they are painted, item by item.
 
-ghost use Rattle.std.specs.Prelude.{◌≡◌, ◌<◌, ◌≤◌, ℕ, [], ◌∷◌, IfSome, IsTrue, List, length, slice_index_or};
+ghost use Rattle.std.specs.Prelude.{◌≡◌, ◌<◌, ◌≤◌, ℕ, [], IfSome, List, length, slice_index_or};
 ghost use Rattle.cam_units.specs.Boxes.{HaveCommonPlace};
 ghost use Rattle.cam_units.specs.declared.bounds.Bounds.{Bounds};
 ghost use Rattle.cam_objects.specs.Bounds.{bounds_of};
 ghost use Rattle.cam_objects.specs.Canvases.{Paints};
 ghost use Rattle.cam_objects.specs.Cells.{AreCellsOf, box_at};
-ghost use Rattle.cam_objects.specs.Darkness.{AreDark};
-ghost use Rattle.cam_objects.specs.Leaves.{Filled, leaf};
-ghost use Rattle.cam_tiles.specs.Machinery.Filing.{IsOnBoardWhole};
 ghost use Rattle.cam_tiles.specs.Machinery.Shown.{IsReady, leaves_by_item, leaves_of, lists_of};
 
 use cam_objects::{
@@ -47,26 +44,6 @@ impl<'a> Boxes<'a> {
             Boxes::Gerber(boxes) => boxes.read(place),
             Boxes::Drill(boxes) => boxes.read(place),
         }
-    }
-}
-
-/// A region: the inside of a contour, dark or clear.
-#[derive(Clone, Copy)]
-pub(crate) struct Region<'a> {
-    pub(crate) contour: &'a Contour,
-    pub(crate) dark: bool,
-}
-
-/// The region that an item is, if it is one alone.
-fn region_in(item: &Item) -> Option<Region<'_>>
-    ensures { IfSome result (λ region. item.now ≡ Item.One (Object.Region region.contour.now region.dark)) }
-{
-    match item {
-        Item::One(Object::Region { contour, dark }) => Some(Region {
-            contour,
-            dark: *dark,
-        }),
-        _ => None,
     }
 }
 
@@ -140,46 +117,7 @@ impl<'a> Shown<'a> {
         }
     }
 
-    /// The region at a place of the list, counted from 0, if the item there is one alone.
-    pub(crate) fn region(&self, place: usize) -> Option<Region<'_>>
-        requires ready { IsReady self.now }
-        requires within { place < length (leaves_by_item self.now) }
-        ensures leaves { IfSome result (λ region. slice_index_or (leaves_by_item self.now) place []
-            ≡ leaf (Filled region.contour.now) region.dark ∷ []) }
-        ensures contour { IfSome result (λ region. IsOnBoardWhole region.contour.now) }
-    {
-        match self {
-            Shown::Gerber { layer, .. } => region_in(&layer.items[place]),
-            Shown::Drill { .. } => None,
-        }
-    }
-
-    /// How many segments may be filed of the item at a place of the list, counted from 0.
-    pub(crate) fn room_to_file(&self, place: usize) -> usize
-        requires ready { IsReady self.now }
-        requires within { place < length (leaves_by_item self.now) }
-        ensures { result ≤ 1000001 }
-    {
-        match self.region(place) {
-            Some(region) => region.contour.segs.as_slice().len() + 1,
-            None => 0,
-        }
-    }
-
-    /// Whether all that the item at a place of the list paints is dark; of repeats and of flashes of blocks it is not
-    /// known.
-    pub(crate) fn is_dark(&self, place: usize) -> bool
-        requires { place < length (leaves_by_item self.now) }
-        ensures { IsTrue result → AreDark (slice_index_or (leaves_by_item self.now) place []) }
-    {
-        match self {
-            Shown::Gerber { layer, .. } => layer.is_dark(place),
-            // what is drilled or routed is dark
-            Shown::Drill { .. } => true,
-        }
-    }
-
-    /// Paints all items, in order.
+    /// Paints all items, from the last one on.
     pub(crate) fn paint<C: Canvas>(&self, canvas: &mut C)
         requires { IsReady self.now }
         ensures { Paints C.has C.place C.ink canvas.old (leaves_of self.now) canvas.new }
@@ -190,7 +128,7 @@ impl<'a> Shown<'a> {
         }
     }
 
-    /// Paints the item at a place of the list, counted from 0.
+    /// Paints the item at a place of the list, counted from 0, from its last leaf on.
     pub(crate) fn paint_item<C: Canvas>(&self, place: usize, canvas: &mut C)
         requires ready { IsReady self.now }
         requires within { place < length (leaves_by_item self.now) }

@@ -107,10 +107,10 @@ impl<'a> Painter for Source<'a> {
         tile_of(&self.shown, grid)
     }
 
-    fn draw(&mut self, window: &Window, tiles: &mut [Tile]) {
+    fn draw(&mut self, window: &Window, first: u32, tiles: &mut [Tile]) {
         let dirty = dirty_in(tiles);
         if dirty > 0 {
-            draw(self.alloc, &self.shown, window, tiles);
+            draw(self.alloc, &self.shown, window, first, tiles);
         }
         self.asked += dirty as u64;
     }

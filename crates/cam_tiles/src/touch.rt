@@ -1,7 +1,7 @@
 //! Which tiles a box touches, by division, and their wiping.
 
 ghost use Rattle.std.specs.Prelude.{◌≡◌, ℕ, ◌+◌, ◌-◌, ◌*◌, ◌/◌, ◌%◌, ◌^◌, ◌<◌, ◌≤◌, ◌↔◌, pos, ◌*ℤ◌, ◌≤ℤ◌};
-ghost use Rattle.std.specs.Prelude.{◌&&◌, nat_le, nat_lt, if◌then◌else◌, true};
+ghost use Rattle.std.specs.Prelude.{◌&&◌, nat_le, nat_lt, if◌then◌else◌, false, true};
 ghost use Rattle.std.specs.Prelude.{None, count_by, is_none, length, slice_index_or};
 ghost use Rattle.cam_tiles.specs.Picture.{accepts, middle};
 ghost use Rattle.cam_tiles.specs.Machinery.Spans.{has_pixel, is_between, is_in_span};
@@ -165,4 +165,17 @@ pub(crate) fn wipe(tiles: &mut [Tile], across: u32, columns: Span, rows: Span) -
         wiped += wipe_row(tiles, across as usize * row as usize, columns);
     }
     wiped
+}
+
+/// The first of the tiles that stand in both spans, where `across` of them stand side by side; but at most `most`.
+pub(crate) fn first_in(across: u32, columns: Span, rows: Span, most: usize) -> usize
+    requires { 0 < across }
+    ensures few { result ≤ most }
+    ensures none { (k : ℕ) → k < result
+        → (is_in_span columns (k % across) && is_in_span rows (k / across)) ≡ false }
+{
+    if columns.end <= columns.first || rows.end <= rows.first {
+        return most;
+    }
+    most.min(across as usize * rows.first as usize + columns.first as usize)
 }

@@ -1,5 +1,5 @@
--- Figures whose runs are known, and these runs in the rows of masks side by side.
-use Rattle.std.specs.Prelude.{◌↔◌, ◌⊎◌, ℕ, ◌+◌, ◌<◌}
+-- Figures whose runs are known, and these runs in the rows of tiles side by side.
+use Rattle.std.specs.Prelude.{◌↔◌, ◌⊎◌, ℕ, ◌<◌}
 use Rattle.cam_units.specs.Board.{IsOnBoard}
 use Rattle.cam_units.specs.declared.point.Spot.{Spot}
 use Rattle.cam_units.specs.declared.turn.Turn.{Turn}
@@ -15,14 +15,13 @@ use Rattle.cam_objects.specs.declared.canvas.Figure.{Figure}
 use Rattle.cam_objects.specs.declared.canvas.Figure.TheVariants.{Stamp, Filled}
 use Rattle.cam_objects.specs.Canvases.{shape_of}
 use Rattle.cam_objects.specs.Image.{Covers, relative}
-use Rattle.cam_rows.specs.Runs.{most_columns}
 use Rattle.cam_tiles.specs.declared.grid.Grid.{Grid}
 use Rattle.cam_tiles.specs.declared.masks.figure_runs.FigureRuns.{FigureRuns}
 use Rattle.cam_tiles.specs.declared.masks.heights.Heights.{Heights}
 use Rattle.cam_tiles.specs.declared.masks.figures.Placed.{Placed}
 use Rattle.cam_tiles.specs.declared.masks.figures.RunFigure.{RunFigure}
 use Rattle.cam_tiles.specs.declared.masks.figures.RunFigure.TheVariants.{Straight, Round, Swept, Disc, Rectangle, Obround}
-use Rattle.cam_tiles.specs.Machinery.Masks.{IsIn, IsWithin}
+use Rattle.cam_tiles.specs.Machinery.Masks.{IsWithin}
 use Rattle.cam_tiles.specs.Machinery.Runs.{Fits, HasColumn}
 use Rattle.cam_tiles.specs.Tiles.{centre_in}
 
@@ -83,12 +82,6 @@ pub record TellsFigure (g : Grid) (columns : ℕ) (IsHeld : Spot → Type 0) (s 
   pub fit : AllFit g.rows s
   pub each : (column row : ℕ) → column < columns → row < g.rows
       → HasPart s row column ↔ IsHeld (centre_in g column row)
-
--- the same in the rows of a grid from a column on
-pub record IsToldAt (column : ℕ) (g : Grid) (IsHeld : Spot → Type 0) (s : FigureRuns) : Type 0 where
-  pub near : column < most_columns
-  pub fit : AllFit g.rows s
-  pub each : (i row : ℕ) → IsIn g i row → HasPart s row (column + i) ↔ IsHeld (centre_in g i row)
 
 -- a figure is one whose runs are known
 pub record IsPlacedFor (f : Figure) (p : Placed) : Type 0 where

@@ -1,5 +1,5 @@
 -- Indexes of many lists of leaves: which of the lists paint the places in each row of tiles of a box.
-use Rattle.std.specs.Prelude.{◌≡◌, ℕ, ◌+◌, ◌-◌, ◌*◌, ◌<◌, ◌≤◌, min, pos, ◌*ℤ◌, ◌≤ℤ◌, Bool, true, List, [], length, filter, All}
+use Rattle.std.specs.Prelude.{◌≡◌, ℕ, ◌+◌, ◌-◌, ◌*◌, ◌<◌, ◌≤◌, min, pos, ◌*ℤ◌, ◌≤ℤ◌, true, List, [], length, filter, All}
 use Rattle.std.specs.Prelude.{drop, reverse, take}
 use Rattle.std.specs.List.{flat_map, slice_index_or}
 use Rattle.cam_units.specs.Boxes.{Holds}
@@ -7,9 +7,11 @@ use Rattle.cam_units.specs.declared.bounds.Bounds.{Bounds}
 use Rattle.cam_units.specs.declared.point.Spot.{Spot}
 use Rattle.cam_objects.specs.Bounds.{bounds_of}
 use Rattle.cam_objects.specs.Leaves.{Leaf}
-use Rattle.cam_objects.specs.Tests.{painted}
+use Rattle.cam_objects.specs.Tests.{last_ink}
 use Rattle.cam_tiles.specs.declared.index.Boxed.{Boxed}
 use Rattle.cam_tiles.specs.declared.index.Index.{Index}
+use Rattle.cam_tiles.specs.declared.index.items.Items.{Items}
+use Rattle.cam_tiles.specs.declared.index.items.Items.TheVariants.{AsNeeded, Indexed}
 use Rattle.cam_tiles.specs.declared.index.seen.Seen.{Seen}
 use Rattle.cam_tiles.specs.declared.levels.Levels.{Levels}
 use Rattle.cam_tiles.specs.declared.window.Window.{Window}
@@ -18,9 +20,9 @@ use Rattle.cam_tiles.specs.Machinery.RowLists.{AreListed, no_box, reaches}
 use Rattle.cam_tiles.specs.Picture.{middle}
 use Rattle.cam_tiles.specs.Tiles.{down}
 
--- leaves that give the same ink to each place that is seen
+-- leaves of which the last one that covers a place has the same polarity, at each place that is seen
 abbrev pub PaintAlike : (Spot → Type 0) → List Leaf → List Leaf → Type 0
-PaintAlike IsSeen a b = (ink : Bool) (s : Spot) → IsSeen s → painted ink a s ≡ painted ink b s
+PaintAlike IsSeen a b = (s : Spot) → IsSeen s → last_ink a s ≡ last_ink b s
 
 -- the heights of the rows of pixels in a row of tiles
 abbrev pub row_levels : Window → ℕ → Levels
@@ -95,3 +97,8 @@ pub record IsIndexOf (lists : List (List Leaf)) (w : Window) (i : Index) : Type 
   pub enough : (row : ℕ)
       → PaintAlike (IsSeen w i.within row) (row_leaves lists row i.boxed.items) (flat_map (λ those. those) lists)
   pub listed : AreListed i.boxed.items (down w) i.rows.starts.items i.rows.numbers.items
+
+-- either of both
+abbrev pub AreItemsOf : List (List Leaf) → Window → Items → Type 0
+AreItemsOf lists w (AsNeeded seen) = AreSeenBy lists w seen
+AreItemsOf lists w (Indexed index) = IsIndexOf lists w index

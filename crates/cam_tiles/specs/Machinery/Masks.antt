@@ -5,8 +5,6 @@ use Rattle.cam_units.specs.Boxes.{Holds}
 use Rattle.cam_units.specs.declared.bounds.Bounds.{Bounds}
 use Rattle.cam_units.specs.declared.point.Point.{Point}
 use Rattle.cam_units.specs.declared.point.Spot.{Spot}
-use Rattle.cam_objects.specs.Canvases.{Paints}
-use Rattle.cam_objects.specs.Leaves.{Leaf}
 use Rattle.cam_tiles.specs.declared.grid.Grid.{Grid}
 use Rattle.cam_tiles.specs.declared.masks.heights.Heights.{Heights}
 use Rattle.cam_tiles.specs.declared.masks.join.Join.{Join}
@@ -94,11 +92,6 @@ pub record TurnsBy (other old new : Marking) : Type 0 where
 pub record AreMarksOf (g : Grid) (IsHeld : Spot → Type 0) (m : Marking) : Type 0 where
   pub grid : m.grid ≡ g
   pub marks : (column row : ℕ) → IsIn g column row → IsMarked m column row ↔ IsHeld (centre_in g column row)
-
--- leaves painted on a mask, in order
-abbrev pub PaintsMask : Marking → List Leaf → Marking → Type 0
-PaintsMask old leaves new =
-    Paints (λ (m : Marking). IsIn m.grid) (λ (m : Marking). centre_in m.grid) ink_of old leaves new
 
 -- a height between two, or at one of them
 abbrev pub IsWithin : Heights → Spot → Type 0

@@ -1,5 +1,5 @@
 -- Shapes by their rows.
-use Rattle.std.specs.Prelude.{IsTrue}
+use Rattle.std.specs.Prelude.{◌≡◌, ℕ, IsTrue}
 use Rattle.cam_units.specs.Board.{IsOnBoard}
 use Rattle.cam_units.specs.declared.point.Spot.{Spot}
 use Rattle.cam_shapes.specs.Arc.{IsInArc, IsSoundArc}
@@ -9,9 +9,11 @@ use Rattle.cam_shapes.specs.Cap.{IsSoundCap, is_in_cap}
 use Rattle.cam_shapes.specs.Disc.{IsInDisc, IsInHole, IsSoundDisc}
 use Rattle.cam_shapes.specs.Edge.{crosses_ray, edge}
 use Rattle.cam_shapes.specs.Swept.{IsInSwept, IsSoundSwept}
+use Rattle.cam_tiles.specs.declared.plain.PlainTile.TheInside.{Inside as TileInside}
 use Rattle.cam_tiles.specs.declared.plain.shapes.RowShape.{RowShape}
 use Rattle.cam_tiles.specs.declared.plain.shapes.RowShape.TheVariants.{Arc, Bar, Cap, Capsule, Disc, Edge, Hole, Obround}
 use Rattle.cam_tiles.specs.declared.plain.shapes.RowShape.TheVariants.{Rectangle, Swept}
+use Rattle.cam_tiles.specs.Machinery.Masks.{IsIn, IsMarked}
 
 -- the places that it holds; those of an edge or a cap are the ones that it counts for
 abbrev pub IsInShape : RowShape → Spot → Type 0
@@ -37,3 +39,8 @@ IsSoundShape (Arc a) = IsSoundArc a
 IsSoundShape (Swept w) = IsSoundSwept w
 IsSoundShape (Edge from to) = IsOnBoard from × IsOnBoard to
 IsSoundShape (Cap c) = IsSoundCap c
+
+-- a tile that is painted: the masks of what is decided and of what is dark have one grid, and what is dark is decided
+pub record ArePainted (p : TileInside) : Type 0 where
+  pub same : p.dark.grid ≡ p.decided.grid
+  pub dark : (column row : ℕ) → IsIn p.decided.grid column row → IsMarked p.dark column row → IsMarked p.decided column row

@@ -1,4 +1,4 @@
--- Runs of columns in the rows of masks side by side.
+-- Runs of columns in the rows of tiles side by side.
 use Rattle.std.specs.Prelude.{◌≡◌, ◌↔◌, ℕ, ◌+◌, ◌<◌, ◌≤◌, slice_index}
 use Rattle.cam_units.specs.Board.{IsPlace}
 use Rattle.cam_units.specs.declared.point.Spot.{Spot}
@@ -12,13 +12,10 @@ abbrev pub HasColumn : Runs → ℕ → ℕ → Type 0
 HasColumn r row column =
     (r.band.first ≤ row) × (row < r.band.end) × IsInRun (slice_index r.firsts row) (slice_index r.ends row) column
 
--- the band is one of so many rows, all runs lie between two columns, and columns that are common to all of them are in
--- each
+-- the band is one of so many rows, and all runs lie between two columns
 pub record Fits (rows : ℕ) (r : Runs) : Type 0 where
   pub low : r.band.end ≤ rows
   pub spanned : (row column : ℕ) → HasColumn r row column → IsInRun r.columns.first r.columns.end column
-  pub shared : (row column : ℕ) → r.band.first ≤ row → row < r.band.end
-      → IsInRun r.common.first r.common.end column → HasColumn r row column
 
 -- no column is in a run, and no row in the band
 pub record IsClear (r : Runs) : Type 0 where

@@ -1,12 +1,12 @@
 -- Contours in the rows of a tile, or of tiles side by side, by marks that each turn over the columns left of them.
-use Rattle.std.specs.Prelude.{◌≡◌, ◌↔◌, ℕ, ◌+◌, ◌*◌, ◌%◌, ◌<◌, ◌≤◌, IsTrue, List, length, pos, ◌≤ℤ◌}
+use Rattle.std.specs.Prelude.{◌≡◌, ◌↔◌, ℕ, ◌%◌, ◌<◌, ◌≤◌, IsTrue, List, length, pos, ◌≤ℤ◌}
 use Rattle.cam_units.specs.Board.{IsInReach}
 use Rattle.cam_units.specs.declared.point.Spot.{Spot}
 use Rattle.cam_rows.specs.Marks.{is_marked, is_turned}
 use Rattle.cam_rows.specs.Runs.{most_columns}
 use Rattle.cam_tiles.specs.declared.grid.Grid.{Grid}
 use Rattle.cam_tiles.specs.Machinery.Levels.{AreLevels, levels_of}
-use Rattle.cam_tiles.specs.Machinery.Masks.{IsIn, turned_over}
+use Rattle.cam_tiles.specs.Machinery.Masks.{turned_over}
 use Rattle.cam_tiles.specs.Tiles.{centre_in}
 
 -- whole tiles of marks, for so many columns at least
@@ -33,10 +33,3 @@ abbrev pub MarksCentres : Grid → ℕ → (Spot → Type 0) → List ℕ → Ty
 MarksCentres g columns IsHeld marks =
     (column row : ℕ) → column < columns → row < g.rows
     → IsTrue (is_marked marks row column) ↔ IsHeld (centre_in g column row)
-
--- the same in the rows of a grid from a tile on
-pub record AreMarkedAt (tile : ℕ) (g : Grid) (IsHeld : Spot → Type 0) (marks : List ℕ) : Type 0 where
-  pub near : 64 * tile < most_columns
-  pub room : 64 * tile + 64 ≤ length marks
-  pub each : (i row : ℕ) → IsIn g i row
-      → IsTrue (is_marked marks row (64 * tile + i)) ↔ IsHeld (centre_in g i row)

@@ -1,15 +1,11 @@
 //! The items of a layer that may be seen in a box, looked for from the last one on.
 
-ghost use Rattle.std.specs.Prelude.{◌≡◌, ◌==◌, ◌<◌, ◌≤◌, ◌⊎◌, ℕ, [], IfNone, IfOk, IfSome, IsTrue, OnOk, Some, length};
-ghost use Rattle.std.specs.Prelude.{slice_get, slice_index_or, true};
-ghost use Rattle.cam_objects.specs.Darkness.{AreDark};
+ghost use Rattle.std.specs.Prelude.{◌≡◌, ◌<◌, ◌≤◌, ◌⊎◌, IfNone, IfOk, IfSome, OnOk, Some, length, slice_get, true};
 ghost use Rattle.cam_tiles.specs.Machinery.Indexes.{AreSeenBy, IsBegunBy};
-ghost use Rattle.cam_tiles.specs.Machinery.Levels.{levels_of};
-ghost use Rattle.cam_tiles.specs.Machinery.Masks.{IsBlank};
 ghost use Rattle.cam_tiles.specs.Machinery.Shown.{IsReady, leaves_by_item, leaves_of, lists_of};
-ghost use Rattle.cam_tiles.specs.Machinery.Swaths.{HasLevels, PaintsSwath, mask_at};
+ghost use Rattle.cam_tiles.specs.Machinery.Swaths.{HasRowOf, PaintsSwath};
 ghost use Rattle.cam_tiles.specs.Picture.{accepts};
-ghost use Rattle.cam_tiles.specs.Tiles.{grid_of, tiles_of};
+ghost use Rattle.cam_tiles.specs.Tiles.{tiles_of};
 ghost use Rattle.cam_tiles.specs.declared.window.Window.{Window};
 
 use crate::index::Boxed;
@@ -28,30 +24,10 @@ pub(crate) struct Seen {
     pub(super) boxed: Vec<Boxed>,
     /// How many items stand before those that were looked at.
     pub(super) left: usize,
-    /// Room for the segments of a region among them.
-    pub(super) room: usize,
 }
-
-/// How many items that may be seen are painted at most, the last one first.
-const LAST_ITEMS: usize = 4_096;
 
 /// How many more are looked for at a time.
 const STEP: usize = 64;
-
-/// Paints a dark item on masks, unless they are black wherever its box is.
-fn paint_dark_item(shown: &Shown<'_>, boxes: &mut Boxes<'_>, place: usize, swath: &mut Swath)
-    requires ready { IsReady shown.now }
-    requires within { place < length (leaves_by_item shown.now) }
-    requires dark { AreDark (slice_index_or (leaves_by_item shown.now) place []) }
-    requires lists { lists_of boxes.old ≡ leaves_by_item shown.now }
-    ensures painted { PaintsSwath swath.old (slice_index_or (leaves_by_item shown.now) place []) swath.new }
-    ensures lists { lists_of boxes.new ≡ leaves_by_item shown.now }
-{
-    if swath.is_black_in(boxes.read(place)) {
-        return;
-    }
-    shown.paint_item(place, swath);
-}
 
 impl Seen {
     /// No item was looked at yet.
@@ -64,15 +40,7 @@ impl Seen {
             within,
             boxed,
             left: shown.len(),
-            room: 0,
         })
-    }
-
-    /// Whether all items were looked at.
-    pub(crate) fn is_complete(&self) -> bool
-        ensures { result ≡ (self.now.left == 0) }
-    {
-        self.left == 0
     }
 
     /// Looks at the next item that may be near, if there is one.
@@ -100,7 +68,6 @@ impl Seen {
         let bounds = boxes.read(self.left);
         if let Some(item) = Boxed::seen(self.left as u32, bounds, window, self.within) {
             self.boxed.push(item)?;
-            self.room = shown.room_to_file(self.left).max(self.room);
         }
         Ok(())
     }
@@ -138,7 +105,7 @@ impl Seen {
         requires ready { IsReady shown.now }
         requires accepted { accepts window.now ≡ true }
         requires seen { AreSeenBy (leaves_by_item shown.now) window.now self.old }
-        requires few { number < 4096 }
+        requires few { number < 1000000 }
         ensures seen { OnOk result (AreSeenBy (leaves_by_item shown.now) window.now self.new) }
         ensures begun { OnOk result (IsBegunBy self.old self.new) }
         ensures there { IfOk result (λ found. IfSome found (λ item. slice_get self.new.boxed.items number ≡ Some item)) }
@@ -151,48 +118,42 @@ impl Seen {
         Ok(self.boxed.get(number).copied())
     }
 
-    /// Paints items on blank masks in the row of tiles of a tile, the last one first, and answers whether that is as if
-    /// all were painted in order: dark ones may come in any order, and where the masks are black all over, those before
-    /// change nothing. It stops at an item of which it is not known that it is dark, and where the items are too many.
-    pub(crate) fn paint_last_first(
+    /// Paints all items, from the last one on, on tiles of the row of tiles of a tile: those alone that may be seen there, as
+    /// long as something is not decided. They are looked for as they are needed.
+    pub(crate) fn paint(
         &mut self,
         shown: &Shown<'_>,
         window: &Window,
         tile: u32,
         swath: &mut Swath,
-    ) -> Result<bool, AllocError>
+    ) -> Result<(), AllocError>
         requires ready { IsReady shown.now }
         requires accepted { accepts window.now ≡ true }
         requires seen { AreSeenBy (leaves_by_item shown.now) window.now self.old }
         requires tile { tile < tiles_of window.now }
-        requires rows { HasLevels (levels_of (grid_of window.now tile)) swath.old }
-        requires blank { (k : ℕ) → IsBlank (mask_at swath.old k) }
+        requires rows { HasRowOf window.now tile swath.old }
         ensures seen { OnOk result (AreSeenBy (leaves_by_item shown.now) window.now self.new) }
-        ensures painted { IfOk result (λ black. IsTrue black → PaintsSwath swath.old (leaves_of shown.now) swath.new) }
+        ensures painted { OnOk result (PaintsSwath swath.old (leaves_of shown.now) swath.new) }
     {
         let Bounds::Closed { low, high } = swath.bounds() else {
-            return Ok(false);
+            return Ok(());
         };
         if !has_place(self.within, low) || !has_place(self.within, high) {
-            return Ok(false);
+            shown.paint(swath);
+            return Ok(());
         }
         let row = tile / window.across();
-        let mut boxes = shown.boxes();
-        for number in 0..LAST_ITEMS {
+        for number in 0..shown.len() {
+            if swath.is_done() {
+                return Ok(());
+            }
             let Some(item) = self.numbered(shown, window, number)? else {
-                return Ok(true);
+                return Ok(());
             };
             if item.is_in_row(row) && item.reaches(low.x, high.x) {
-                let place = item.place as usize;
-                if !shown.is_dark(place) {
-                    return Ok(false);
-                }
-                paint_dark_item(shown, &mut boxes, place, swath);
-                if swath.is_black() {
-                    return Ok(true);
-                }
+                shown.paint_item(item.place as usize, swath);
             }
         }
-        Ok(false)
+        Ok(())
     }
 }

@@ -1,23 +1,20 @@
-//! The runs of a figure in the rows of masks side by side, and how they are joined with a mask.
+//! The runs of a figure in the rows of tiles side by side.
 
-ghost use Rattle.std.specs.Prelude.{◌≡◌, ◌↔◌, ◌⊎◌, ◌+◌, ◌<◌, ◌≤◌, ℕ, IsTrue, ◌∷◌, []};
+ghost use Rattle.std.specs.Int.{IsBitSet};
+ghost use Rattle.std.specs.Prelude.{◌↔◌, ◌+◌, ◌<◌, ◌≤◌, ℕ, slice_index};
 ghost use Rattle.cam_shapes.specs.Arc.{IsInArc, IsSoundArc};
 ghost use Rattle.cam_shapes.specs.Bar.{IsInCapsule, IsSoundCapsule};
 ghost use Rattle.cam_shapes.specs.Disc.{IsInHole, IsSoundDisc};
 ghost use Rattle.cam_shapes.specs.Swept.{IsInSwept, IsSoundSwept};
 ghost use Rattle.cam_units.specs.Board.{IsOnBoard};
-ghost use Rattle.cam_objects.specs.Canvases.{leaf_of, shape_of};
-ghost use Rattle.cam_objects.specs.Image.{Covers, relative};
-ghost use Rattle.cam_rows.specs.Runs.{IsInRun, most_columns};
-ghost use Rattle.cam_tiles.specs.Machinery.Masks.{IsIn, IsMarked, PaintsMask, inked, joined};
-ghost use Rattle.cam_tiles.specs.Machinery.Runs.{HasColumn, IsClear, IsWideGrid};
+ghost use Rattle.cam_objects.specs.Image.{relative};
+ghost use Rattle.cam_rows.specs.Runs.{IsInRun};
+ghost use Rattle.cam_tiles.specs.Machinery.Runs.{IsClear, IsWideGrid};
 ghost use Rattle.cam_tiles.specs.Machinery.Figures.{
   AllFit,
-  HasBody,
   HasPart,
   IsInFigure,
   IsSoundPlaced,
-  IsToldAt,
   LiesWithin,
   TellsFigure,
 };
@@ -25,11 +22,8 @@ ghost use Rattle.cam_tiles.specs.Machinery.Figures.{
 use crate::grid::Grid;
 use crate::masks::figures::{Placed, RunFigure};
 use crate::masks::heights::{HasHeights, Heights};
-use crate::masks::join::Join;
-use crate::masks::mask::Mask;
 use crate::masks::runs::Runs;
 use crate::span::Span;
-use cam_objects::Print;
 use cam_rows::{Beyond, Hole, Hollow, Outer, ring_of};
 use cam_shapes::{Arc, Bar, Capsule, Disc, Swept};
 use cam_units::Point;
@@ -201,59 +195,38 @@ impl FigureRuns {
         self.body.columns.joined(discs)
     }
 
-    /// Whether nothing is taken out of the body in the columns from a first one on and before an end.
-    fn is_whole_between(&self, first: u32, end: u32) -> bool
-        ensures { IsTrue result → (rows row column : ℕ) → AllFit rows self.now → first ≤ column → column < end
-            → HasColumn self.now.hollow row column ⊎ HasColumn self.now.beyond row column → ⊥ }
+    /// Rows outside of which it holds nothing.
+    fn rows(&self) -> Span
+        ensures each { (row column : ℕ) → HasPart self.now row column → (result.first ≤ row) × (row < result.end) }
+        ensures few { (rows : ℕ) → AllFit rows self.now → result.end ≤ rows }
     {
-        if !self.hollow.misses(first, end) {
-            return false;
+        let discs = self.start.band.joined(self.end.band);
+        self.body.band.joined(discs)
+    }
+
+    /// The columns that it holds of a row, among 64 of them from one on, as bits.
+    #[inline]
+    fn word(&self, row: u32, column: u32) -> u64
+        requires { row < 64 }
+        ensures { (i : ℕ) → i < 64 → IsBitSet result i ↔ HasPart self.now row (column + i) }
+    {
+        let out = self.hollow.word(row, column) | self.beyond.word(row, column);
+        let discs = self.start.word(row, column) | self.end.word(row, column);
+        (self.body.word(row, column) & !out) | discs
+    }
+
+    /// Finds the same in each row, and answers outside of which rows there is nothing.
+    pub(crate) fn find_bits(&self, column: u32, bits: &mut [u64; 64]) -> Span
+        requires { AllFit 64 self.now }
+        ensures rows { result.end ≤ 64 }
+        ensures each { (row i : ℕ) → i < 64
+            → ((result.first ≤ row) × (row < result.end) × IsBitSet (slice_index bits.new row) i)
+            ↔ HasPart self.now row (column + i) }
+    {
+        let rows = self.rows();
+        for row in rows.first..rows.end {
+            bits[row as usize] = self.word(row, column);
         }
-        self.beyond.misses(first, end)
-    }
-}
-
-impl Mask {
-    /// Joins the marks with the body of a figure, by its runs in rows of which the grid begins at a column. One that
-    /// something is taken out of in the columns of the grid is composed in a mask of its own.
-    fn join_body(&mut self, runs: &FigureRuns, column: u32, how: Join)
-        requires near { column < most_columns }
-        requires fit { AllFit self.old.grid.rows runs.now }
-        ensures grid { self.new.grid ≡ self.old.grid }
-        ensures marks { (i row : ℕ) → IsIn self.old.grid i row → IsMarked self.new i row
-            ↔ joined how (IsMarked self.old i row) (HasBody runs.now row (column + i)) }
-    {
-        let grid = self.grid();
-        if runs.is_whole_between(column, column + grid.cols) {
-            self.join_runs(&runs.body, column, how);
-            return;
-        }
-        let mut own = Mask::blank(grid);
-        own.join_runs(&runs.body, column, Join::Add);
-        own.join_runs(&runs.hollow, column, Join::Clear);
-        own.join_runs(&runs.beyond, column, Join::Clear);
-        self.merge(&own, how);
-    }
-
-    /// Joins the marks with a figure.
-    fn join_figure(&mut self, runs: &FigureRuns, column: u32, dark: bool)
-        requires near { column < most_columns }
-        requires fit { AllFit self.old.grid.rows runs.now }
-        ensures grid { self.new.grid ≡ self.old.grid }
-        ensures marks { (i row : ℕ) → IsIn self.old.grid i row → IsMarked self.new i row
-            ↔ joined (inked dark) (IsMarked self.old i row) (HasPart runs.now row (column + i)) }
-    {
-        let how = Join::inked(dark);
-        self.join_body(runs, column, how);
-        self.join_runs(&runs.start, column, how);
-        self.join_runs(&runs.end, column, how);
-    }
-
-    /// Paints a figure, by its runs in rows of which the grid begins at a column.
-    pub(crate) fn paint_figure(&mut self, runs: &FigureRuns, column: u32, print: Print<'_>)
-        requires { IsToldAt column self.old.grid (Covers (shape_of print.figure)) runs.now }
-        ensures { PaintsMask self.old (leaf_of print.entry ∷ []) self.new }
-    {
-        self.join_figure(runs, column, print.dark);
+        rows
     }
 }

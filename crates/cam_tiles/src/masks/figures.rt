@@ -1,18 +1,16 @@
-//! Figures, painted on masks side by side: strokes and flashes by their runs.
+//! Strokes and flashes, as figures whose runs are known.
 
-ghost use Rattle.std.specs.Prelude.{◌≡◌, ◌*◌, ◌<◌, ◌≤◌, ℕ, MatchOption, ◌∷◌, [], length, slice_index};
+ghost use Rattle.std.specs.Prelude.{◌≡◌, MatchOption};
 ghost use Rattle.cam_apertures.specs.Cover.{disc};
 ghost use Rattle.cam_apertures.specs.Soundness.{IsSoundAperture};
-ghost use Rattle.cam_objects.specs.Canvases.{IsSoundFigure, IsSoundPrint, leaf_of, shape_of};
+ghost use Rattle.cam_objects.specs.Canvases.{IsSoundFigure, shape_of};
 ghost use Rattle.cam_objects.specs.Image.{Covers};
-ghost use Rattle.cam_tiles.specs.Machinery.Figures.{IsComposed, IsFlashOf, IsMacro, IsPlacedFor, IsToldAt, LiesWithin};
-ghost use Rattle.cam_tiles.specs.Machinery.Swaths.{ArePaintedIn, grid_at};
+ghost use Rattle.cam_tiles.specs.Machinery.Figures.{IsComposed, IsFlashOf, IsMacro, IsPlacedFor, LiesWithin};
 
-use crate::masks::figure_runs::FigureRuns;
 use crate::masks::heights::Heights;
-use crate::masks::mask::{Mask, ORIGIN};
+use crate::masks::mask::ORIGIN;
 use cam_apertures::{Aperture, turned_height, turned_width};
-use cam_objects::{Figure, Print};
+use cam_objects::Figure;
 use cam_rows::Hole;
 use cam_shapes::{Arc, Capsule, Disc, Obround, Rectangle, Swept};
 use cam_units::{Nm, Point, Turn};
@@ -117,35 +115,4 @@ fn hole(diameter: Nm) -> Hole
         centre: ORIGIN,
         diameter,
     })
-}
-
-/// Paints a figure on the masks from one number to another, by its runs in the row of tiles of which each mask is one.
-pub(crate) fn paint_figures(
-    masks: &mut [Mask],
-    first: usize,
-    end: usize,
-    tiles: &[u32],
-    runs: &FigureRuns,
-    print: Print<'_>,
-)
-    requires end { end ≤ length masks.old }
-    requires tiles { end ≤ length tiles.now }
-    requires told { (k : ℕ) → first ≤ k → k < end
-        → IsToldAt (64 * slice_index tiles.now k) (grid_at masks.old k) (Covers (shape_of print.figure)) runs.now }
-    ensures { ArePaintedIn first end (leaf_of print.entry ∷ []) masks.old masks.new }
-{
-    for k in first..end {
-        masks[k].paint_figure(runs, 64 * tiles[k], print);
-    }
-}
-
-/// Paints a leaf on the masks from one number to another, on each of them alone.
-pub(crate) fn paint_each(masks: &mut [Mask], first: usize, end: usize, print: Print<'_>)
-    requires end { end ≤ length masks.old }
-    requires print { IsSoundPrint print }
-    ensures { ArePaintedIn first end (leaf_of print.entry ∷ []) masks.old masks.new }
-{
-    for k in first..end {
-        masks[k].paint_leaf(print, true);
-    }
 }

@@ -1,28 +1,21 @@
 //! A mask, and how it gains and loses marks.
 
-ghost use Rattle.std.specs.Prelude.{◌≡◌, ◌↔◌, ◌+◌, ◌*◌, ◌<◌, ◌≤◌, ℕ, IsTrue, length, slice_index_or, true};
-ghost use Rattle.std.specs.Int.{IsBitSet};
+ghost use Rattle.std.specs.Prelude.{◌≡◌, ◌↔◌, ◌<◌, ◌≤◌, ℕ, IsTrue, true};
 ghost use Rattle.cam_units.specs.Board.{IsOnBoard};
 ghost use Rattle.cam_units.specs.Boxes.{Holds};
-ghost use Rattle.cam_units.specs.declared.bounds.Bounds.TheVariants.{Closed};
 ghost use Rattle.cam_objects.specs.Image.{relative};
-ghost use Rattle.cam_rows.specs.Marks.{is_marked};
 ghost use Rattle.cam_rows.specs.Rows.{IsRow, centre_at};
-ghost use Rattle.cam_rows.specs.Runs.{most_columns};
-ghost use Rattle.cam_tiles.specs.Machinery.Masks.{HoldsCentres, IsBlank, IsIn, IsMarked, IsMask, IsWithin};
-ghost use Rattle.cam_tiles.specs.Machinery.Masks.{Merges, TurnsBy, ink_of, joined};
-ghost use Rattle.cam_tiles.specs.Machinery.Runs.{Fits, HasColumn};
-ghost use Rattle.cam_tiles.specs.Machinery.Swaths.{IsSolid};
+ghost use Rattle.cam_tiles.specs.Machinery.Masks.{HoldsCentres, IsBlank, IsIn, IsMask, IsWithin};
+ghost use Rattle.cam_tiles.specs.Machinery.Masks.{Merges, TurnsBy, ink_of};
 ghost use Rattle.cam_tiles.specs.Tiles.{IsGrid, centre_in};
 
 use crate::grid::Grid;
 use crate::levels::Levels;
 use crate::masks::heights::Heights;
 use crate::masks::join::{Join, told_by_type};
-use crate::masks::runs::Runs;
 use crate::span::Span;
 use cam_rows::{Centres, run_row, xor_rows};
-use cam_units::{Bounds, Point, Spot};
+use cam_units::{Bounds, Point};
 use std::marker::Model;
 
 /// The origin, from which places are seen as they are.
@@ -122,34 +115,14 @@ impl Mask {
         self.rows
     }
 
-    /// Whether all centres of a row are marked.
-    #[inline]
-    #[tactic(auto, using(crate::proofs::WordBits::set_in_low, crate::proofs::PaintedMasks::dark_if_marked))]
-    fn is_solid_in(&self, row: u32) -> bool
-        requires { row < self.now.grid.rows }
-        ensures { IsTrue result → (column : ℕ) → IsIn self.now.grid column row → ink_of self.now column row ≡ true }
-    {
-        self.rows[row as usize] == u64::MAX >> (64 - self.grid.cols)
-    }
-
-    /// How many rows from the top are black all along, where so many are known to be.
-    pub(crate) fn solid_rows(&self, known: u32) -> u32
-        requires { IsSolid known self.now }
-        ensures { IsSolid result self.now }
-    {
-        for row in known..self.grid.rows {
-            if !self.is_solid_in(row) {
-                return row;
-            }
-        }
-        self.grid.rows
-    }
-
     /// Whether all centres in a box are marked.
-    pub(crate) fn is_black_in(&self, low: &Spot, high: &Spot) -> bool
+    pub(crate) fn is_marked_in(&self, bounds: Bounds) -> bool
         ensures { IsTrue result → (column row : ℕ) → IsIn self.now.grid column row
-            → Holds (Closed low.now high.now) (centre_in self.now.grid column row) → ink_of self.now column row ≡ true }
+            → Holds bounds (centre_in self.now.grid column row) → ink_of self.now column row ≡ true }
     {
+        let Bounds::Closed { low, high } = bounds else {
+            return true;
+        };
         let columns = self.grid.columns_between(low.x, high.x);
         let run = run_row(columns.first, columns.end, 0, self.grid.cols);
         let rows = self.grid.levels().band(Heights {
@@ -162,102 +135,6 @@ impl Mask {
             }
         }
         true
-    }
-
-    /// Joins the marks with runs of columns, in rows of which the grid begins at a column. Where all runs have the same
-    /// columns of the grid, as inside a rectangle, the rows are joined with the same marks; of a long slanted stroke
-    /// most runs do not reach the grid, and are passed over.
-    pub(crate) fn join_runs(&mut self, runs: &Runs, column: u32, how: Join)
-        requires near { column < most_columns }
-        requires fits { Fits self.old.grid.rows runs.now }
-        ensures grid { self.new.grid ≡ self.old.grid }
-        ensures marks { (i row : ℕ) → IsIn self.old.grid i row
-            → IsMarked self.new i row ↔ joined how (IsMarked self.old i row) (HasColumn runs.now row (column + i)) }
-    {
-        let columns = self.grid.cols;
-        if runs.columns.end <= column {
-            return;
-        }
-        let past = column + columns;
-        if past <= runs.columns.first {
-            return;
-        }
-        let first = runs.columns.first.max(column);
-        let end = runs.columns.end.min(past);
-        if runs.common.first <= first && end <= runs.common.end {
-            self.join_band(runs.band, run_row(first, end, column, columns), how);
-            return;
-        }
-        let band = runs.rows_between(column, past);
-        self.join_rows(runs, band, column, how);
-    }
-
-    /// Joins the marks in the rows of a band with runs of columns: by a loop for each way to join.
-    fn join_rows(&mut self, runs: &Runs, band: Span, column: u32, how: Join)
-        requires near { column < most_columns }
-        requires band { band.end ≤ self.old.grid.rows }
-        ensures grid { self.new.grid ≡ self.old.grid }
-        ensures marks { (i row : ℕ) → IsIn self.old.grid i row → IsMarked self.new i row
-            ↔ joined how (IsMarked self.old i row) (HasColumn (record runs.now { band = band }) row (column + i)) }
-    {
-        match how {
-            Join::Add => self.join_each_row(runs, band, column, Join::Add),
-            Join::Clear => self.join_each_row(runs, band, column, Join::Clear),
-        }
-    }
-
-    /// The same, compiled for each way to join.
-    #[inline(always)]
-    fn join_each_row(&mut self, runs: &Runs, band: Span, column: u32, how: Join)
-        requires near { column < most_columns }
-        requires band { band.end ≤ self.old.grid.rows }
-        ensures grid { self.new.grid ≡ self.old.grid }
-        ensures marks { (i row : ℕ) → IsIn self.old.grid i row → IsMarked self.new i row
-            ↔ joined how (IsMarked self.old i row) (HasColumn (record runs.now { band = band }) row (column + i)) }
-    {
-        let past = column + self.grid.cols;
-        for row in band.first..band.end {
-            let k = row as usize;
-            let first = runs.firsts[k].max(column);
-            let end = runs.ends[k].min(past);
-            if first < end {
-                let marks = Span {
-                    first: first - column,
-                    end: end - column,
-                };
-                self.rows[k] = how.join_row(self.rows[k], marks.bits());
-            }
-        }
-    }
-
-    /// Joins the marks in the rows of a band with the same ones in each.
-    fn join_band(&mut self, band: Span, marks: u64, how: Join)
-        requires end { band.end ≤ self.old.grid.rows }
-        requires inside { (i : ℕ) → i < 64 → IsBitSet marks i → i < self.old.grid.cols }
-        ensures grid { self.new.grid ≡ self.old.grid }
-        ensures marks { (i row : ℕ) → IsIn self.old.grid i row → IsMarked self.new i row
-            ↔ joined how (IsMarked self.old i row) ((band.first ≤ row) × (row < band.end) × IsBitSet marks i) }
-    {
-        for row in band.first..band.end {
-            let k = row as usize;
-            self.rows[k] = how.join_row(self.rows[k], marks);
-        }
-    }
-
-    /// Joins the marks with those of a tile of a row of tiles: it has 64 words, one for each of its rows.
-    pub(crate) fn join_tile(&mut self, marks: &[u64], tile: u32, how: Join)
-        requires near { 64 * tile < most_columns }
-        requires room { 64 * tile + 64 ≤ length marks.now }
-        ensures grid { self.new.grid ≡ self.old.grid }
-        ensures marks { (i row : ℕ) → IsIn self.old.grid i row → IsMarked self.new i row
-            ↔ joined how (IsMarked self.old i row) (IsTrue (is_marked marks.now row (64 * tile + i))) }
-    {
-        let first = 64 * tile as usize;
-        let columns = u64::MAX >> (64 - self.grid.cols);
-        for row in 0..self.grid.rows as usize {
-            let word = marks[first + row] & columns;
-            self.rows[row] = how.join_row(self.rows[row], word);
-        }
     }
 
     /// Joins the marks with those of another mask of the same grid.
@@ -275,16 +152,5 @@ impl Mask {
     {
         xor_rows(&mut self.rows, &other.rows);
         told_by_type(&self.rows);
-    }
-}
-
-/// How many of some masks are of tiles before one, by what is kept of these; all of them behind the last one.
-pub(crate) fn masks_before(before: &[u32], tile: usize, masks: &[Mask]) -> usize
-    ensures { result ≡ slice_index_or before.now tile (length masks.now) }
-{
-    if tile < before.len() {
-        before[tile] as usize
-    } else {
-        masks.len()
     }
 }

@@ -1,6 +1,7 @@
-//! Runs of columns in the rows of masks side by side.
+//! Runs of columns in the rows of tiles side by side.
 
-ghost use Rattle.std.specs.Prelude.{◌≡◌, ◌↔◌, ◌⊎◌, ◌<◌, ◌≤◌, ℕ, IsTrue, length, slice_index};
+ghost use Rattle.std.specs.Int.{IsBitSet};
+ghost use Rattle.std.specs.Prelude.{◌≡◌, ◌↔◌, ◌⊎◌, ◌+◌, ◌<◌, ◌≤◌, ℕ, length, slice_index};
 ghost use Rattle.cam_units.specs.Board.{IsOnBoard};
 ghost use Rattle.cam_objects.specs.Image.{relative};
 ghost use Rattle.cam_rows.specs.Rows.{centre_at, row_below};
@@ -11,7 +12,7 @@ ghost use Rattle.cam_tiles.specs.Machinery.Runs.{Fits, HasColumn, IsClear, IsWid
 use crate::grid::Grid;
 use crate::masks::heights::{HasHeights, Heights};
 use crate::span::Span;
-use cam_rows::{Centres, RunShape};
+use cam_rows::{Centres, RunShape, run_row};
 use cam_units::Point;
 
 /// For each row of a band the run of the columns that a shape holds, from the first one on and before an end; none in
@@ -23,8 +24,6 @@ pub(crate) struct Runs {
     pub(crate) ends: [u32; 64],
     /// Columns between which all of them lie.
     pub(crate) columns: Span,
-    /// Columns that lie in all of them.
-    pub(crate) common: Span,
 }
 
 impl Runs {
@@ -35,7 +34,6 @@ impl Runs {
             firsts: [0; 64],
             ends: [0; 64],
             columns: Span::NONE,
-            common: Span::NONE,
         }
     }
 
@@ -45,7 +43,6 @@ impl Runs {
     {
         self.band = Span::NONE;
         self.columns = Span::NONE;
-        self.common = Span::NONE;
     }
 
     /// Takes in the runs of another, row after row, as long as each is one run with that of its row here. Once it has
@@ -80,48 +77,21 @@ impl Runs {
         other.clear();
     }
 
-    /// Whether no run reaches the columns from a first one on and before an end.
-    pub(crate) fn misses(&self, first: u32, end: u32) -> bool
-        ensures { IsTrue result → (rows row column : ℕ) → Fits rows self.now → HasColumn self.now row column
-            → first ≤ column → column < end → ⊥ }
-    {
-        if self.columns.end <= first {
-            return true;
-        }
-        end <= self.columns.first
-    }
-
-    /// Rows of the band outside of which no run reaches the columns from a first one on and before an end.
-    pub(crate) fn rows_between(&self, first: u32, end: u32) -> Span
-        requires few { self.now.band.end ≤ 64 }
-        ensures within { (self.now.band.first ≤ result.first) × (result.end ≤ self.now.band.end) }
-        ensures others { (row column : ℕ) → HasColumn self.now row column → first ≤ column → column < end
-            → (result.first ≤ row) × (row < result.end) }
-    {
-        let mut top = self.band.first;
-        let mut bottom = self.band.end;
-        while top < bottom && self.misses_in(top, first, end) {
-            top += 1;
-        }
-        while top < bottom && self.misses_in(bottom - 1, first, end) {
-            bottom -= 1;
-        }
-        Span {
-            first: top,
-            end: bottom,
-        }
-    }
-
-    /// Whether the run of a row does not reach the columns from a first one on and before an end.
+    /// The columns of the run of a row, among 64 of them from one on, as bits.
     #[inline]
-    fn misses_in(&self, row: u32, first: u32, end: u32) -> bool
+    pub(crate) fn word(&self, row: u32, column: u32) -> u64
         requires { row < 64 }
-        ensures { IsTrue result → (column : ℕ) → HasColumn self.now row column → first ≤ column → column < end → ⊥ }
+        ensures { (i : ℕ) → i < 64 → IsBitSet result i ↔ HasColumn self.now row (column + i) }
     {
-        if self.ends[row as usize] <= first {
-            return true;
+        if row < self.band.first || self.band.end <= row {
+            return 0;
         }
-        end <= self.firsts[row as usize]
+        run_row(
+            self.firsts[row as usize],
+            self.ends[row as usize],
+            column,
+            64,
+        )
     }
 
     /// Turns to those of a shape, which stands at a point as it does about (0, 0), in the rows of a grid, and as many
@@ -161,7 +131,6 @@ impl Runs {
         let ends = &mut self.ends[band.first as usize..band.end as usize];
         find_anew(shape, &top, firsts, ends);
         self.columns = columns_between(firsts, ends);
-        self.common = columns_in_all(firsts, ends);
         self.band = band;
     }
 }
@@ -194,21 +163,6 @@ fn columns_between(firsts: &[u32], ends: &[u32]) -> Span
             first = first.min(firsts[k]);
             end = end.max(ends[k]);
         }
-    }
-    Span { first, end }
-}
-
-/// Columns that lie in all of some runs.
-fn columns_in_all(firsts: &[u32], ends: &[u32]) -> Span
-    requires { length ends.now ≡ length firsts.now }
-    ensures { (k column : ℕ) → k < length firsts.now → IsInRun result.first result.end column
-        → IsInRun (slice_index firsts.now k) (slice_index ends.now k) column }
-{
-    let mut first = 0u32;
-    let mut end = u32::MAX;
-    for k in 0..firsts.len() {
-        first = first.max(firsts[k]);
-        end = end.min(ends[k]);
     }
     Span { first, end }
 }

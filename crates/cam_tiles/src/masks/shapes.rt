@@ -1,18 +1,12 @@
-//! The heights of the shapes whose runs are known, and how they are joined with a mask.
+//! The heights of the shapes whose runs are known.
 
 ghost use Rattle.std.specs.Prelude.{◌^◌, ◌<◌, ◌≤ℤ◌, ◌<ℤ◌, pos};
 ghost use Rattle.std.specs.Int.RustNames.{unsigned_abs};
 ghost use Rattle.cam_units.specs.Board.{IsOnBoard, IsSize};
 ghost use Rattle.cam_shapes.specs.Plane.{dot, square, way};
-ghost use Rattle.cam_objects.specs.Image.{relative};
-ghost use Rattle.cam_tiles.specs.Machinery.Masks.{AreAbout, AreAlong, Joins};
-ghost use Rattle.cam_tiles.specs.Machinery.Plain.{IsInShape, IsSoundShape};
+ghost use Rattle.cam_tiles.specs.Machinery.Masks.{AreAbout, AreAlong};
 
 use crate::masks::heights::{HasHeights, Heights};
-use crate::masks::join::Join;
-use crate::masks::mask::Mask;
-use crate::masks::runs::Runs;
-use crate::plain::shapes::RowShape;
 use cam_rows::{Hole, squared_distance};
 use cam_shapes::{Bar, Cap, Disc, Obround, Rectangle, Swept};
 use cam_units::{Nm, Point, isqrt};
@@ -93,33 +87,4 @@ pub(crate) fn past_circle(centre: Point, from: Point) -> Nm
     ensures short { result.0 ≤ℤ pos (2 ^ 34) }
 {
     Nm(isqrt(squared_distance(&centre, &from)) as i64 + 1)
-}
-
-impl Mask {
-    /// Joins the marks with those of a shape, which stands at a point as it does about (0, 0): row by row, or, where it is
-    /// to be quick, by its runs if these are known.
-    pub(crate) fn join_shape(&mut self, shape: &RowShape, at: Point, how: Join, quick: bool)
-        requires sound { IsSoundShape shape.now }
-        requires at { IsOnBoard at }
-        ensures { Joins how (λ s. IsInShape shape.now (relative at s)) self.old self.new }
-    {
-        match shape {
-            RowShape::Disc(disc) if quick => self.join_by_runs(disc, at, how),
-            RowShape::Rectangle(rectangle) if quick => self.join_by_runs(rectangle, at, how),
-            RowShape::Bar(bar) if quick => self.join_by_runs(bar, at, how),
-            _ => self.join(shape, at, how),
-        }
-    }
-
-    /// The same, by its runs.
-    fn join_by_runs<S: HasHeights>(&mut self, shape: &S, at: Point, how: Join)
-        requires sound { S.is_sound shape.now }
-        requires at { IsOnBoard at }
-        ensures { Joins how (λ s. S.holds shape.now (relative at s)) self.old self.new }
-    {
-        let grid = self.grid();
-        let mut runs = Runs::none();
-        runs.find(shape, at, &grid, grid.cols);
-        self.join_runs(&runs, 0, how);
-    }
 }

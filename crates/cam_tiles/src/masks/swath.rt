@@ -1,82 +1,54 @@
-//! The tiles of a row of tiles that are drawn at once, as masks side by side.
+//! Tiles of a row of tiles that are painted at once, from the last leaf on.
 
-ghost use Rattle.std.specs.Prelude.{◌≡◌, ◌+◌, ◌<◌, ◌≤◌, ◌⊎◌, ℕ, ◌∷◌, [], OnOk, count_by, is_none, length, map};
-ghost use Rattle.std.specs.Prelude.{pos, vec_capacity, ◌+ℤ◌, ◌*ℤ◌, ◌≤ℤ◌, ◌<ℤ◌, ℤ, Bool, IsTrue, true};
+ghost use Rattle.std.specs.Prelude.{◌≡◌, ◌↔◌, ◌⊎◌, ◌≤ℤ◌, ◌+◌, ◌*◌, ◌/◌, ◌<◌, ◌≤◌, ◌∷◌, ℕ, [], Bool, IsTrue, OnOk, None, Some, false, length};
+ghost use Rattle.std.specs.Prelude.{if◌then◌else◌, is_none, slice_index_or, true};
 ghost use Rattle.cam_units.specs.Boxes.{Holds};
 ghost use Rattle.cam_units.specs.declared.point.Spot.{Spot};
-ghost use Rattle.cam_objects.specs.Bounds.{bounds_of};
-ghost use Rattle.cam_objects.specs.Canvases.{IsSoundPrint, leaf_of};
-ghost use Rattle.cam_objects.specs.Leaves.{Filled, Shape, leaf};
-ghost use Rattle.cam_tiles.specs.declared.grid.Grid.{Grid};
-ghost use Rattle.cam_tiles.specs.Machinery.Filing.{AreFiled, IsOnBoardWhole};
-ghost use Rattle.cam_tiles.specs.Machinery.Levels.{levels_of};
-ghost use Rattle.cam_tiles.specs.Machinery.Masks.{IsBlank, IsIn};
-ghost use Rattle.cam_tiles.specs.Machinery.Figures.{IsPlacedFor};
-ghost use Rattle.cam_tiles.specs.declared.masks.swath.Pitch.{Pitch};
-ghost use Rattle.cam_tiles.specs.Machinery.Swaths.{
-  AreDrawn,
-  ArePaintedIn,
-  HasMask,
-  IsInSwath,
-  IsLaidOut,
-  IsRowOfTiles,
-  PaintsSwath,
-  StandInRow,
-  dirty_grids,
-  grid_at,
-  ink_in,
-  mask_at,
-  pitch_of,
-  place_in,
-};
+ghost use Rattle.cam_objects.specs.Canvases.{leaf_of};
+ghost use Rattle.cam_objects.specs.Image.{Covers};
+ghost use Rattle.cam_objects.specs.Leaves.{leaf};
+ghost use Rattle.cam_tiles.specs.Machinery.Figures.{AllFit, IsPlacedFor};
+ghost use Rattle.cam_tiles.specs.Machinery.Inks.{IsDoneTile, Takes};
+ghost use Rattle.cam_tiles.specs.Machinery.Runs.{IsWideGrid};
+ghost use Rattle.cam_tiles.specs.Machinery.Swaths.{AreReachedBy, AreRunsOf, IsDoneSwath, IsInSwath, IsRowOfTiles, PaintsSwath, ShowsDirty, columns_of, ink_in, place_in, tiles_in};
 ghost use Rattle.cam_tiles.specs.Picture.{accepts};
 ghost use Rattle.cam_tiles.specs.Tables.{all_drawn_from};
-ghost use Rattle.cam_tiles.specs.Tiles.{across, centre_in, grid_of, tile_rows};
+ghost use Rattle.cam_tiles.specs.Tiles.{centre_in, grid_of, tile_rows};
 
 use crate::grid::Grid;
+use crate::lattice::Lattice;
 use crate::masks::figure_runs::FigureRuns;
-use crate::masks::figures::{Placed, paint_each, paint_figures, placed_of};
-use crate::masks::filing::FiledSegment;
+use crate::masks::figures::{Placed, placed_of};
 use crate::masks::heights::Heights;
-use crate::masks::mask::{Mask, masks_before};
-use crate::masks::solid::{are_black_in, are_solid, follow};
-use crate::masks::turning::{fill_marked, mark_inside};
+use crate::masks::inks::Inks;
+use crate::masks::macros::PlacedMacro;
+use crate::masks::marked::MarkShape;
+use crate::masks::placed::PlacedContour;
 use crate::painter::Tile;
-use crate::shown::Region;
+use crate::span::Span;
 use crate::window::Window;
-use cam_objects::{Canvas, Print};
+use cam_apertures::Aperture;
+use cam_objects::{Canvas, Figure, Print};
+use cam_shapes::Placing;
 use cam_units::{Bounds, Spot};
 use std::alloc::{AllocError, Global};
 use std::marker::Model;
 
-/// The place of the first column of a row of tiles, and how far it is from one tile to the next, in half nm.
-#[derive(Clone, Copy)]
-pub(crate) struct Pitch {
-    left: i64,
-    stride: i64,
-}
-
-/// Masks of the dirty tiles of a row of tiles, from the left, which are painted at once: each leaf on those masks
-/// alone that its box may reach, and one whose runs are known on those alone that these reach.
+/// Tiles of a row of tiles, side by side, which are painted at once: each leaf is gone through once for all of them, and
+/// goes to those tiles alone that its box reaches and in which something is not decided.
 #[derive(Drop)]
 pub(crate) struct Swath {
-    pitch: Pitch,
-    /// The grid of the first tile of the row, and how many columns the row has.
-    corner: Grid,
+    /// The grid of the first tile, whose rows go on to the right, and how many columns there are.
+    grid: Grid,
     columns: u32,
-    /// A box that holds the centres of all masks.
+    /// A box that holds all centres, in half nm.
     bounds: Bounds,
-    /// For each tile of the row, how many masks are of tiles before it.
-    before: Vec<u32>,
-    /// For each mask, how many tiles of the row are before its own.
-    tiles: Vec<u32>,
-    masks: Vec<Mask>,
+    inks: Inks,
     /// The runs of the figure that was painted last.
     runs: FigureRuns,
-    /// For each mask, how many of its rows from the top are known to be black all along.
-    solid: Vec<u32>,
-    /// Room for the marks of a region: 64 words for each tile of the row.
+    /// Room for the marks of a shape: 64 words for each tile, and as many spare ones.
     marks: Vec<u64>,
+    spare: Vec<u64>,
 }
 
 /// A grid of one centre, at (0, 0).
@@ -89,36 +61,31 @@ const ONE_CENTRE: Grid = Grid {
 };
 
 impl Model for Swath {
-    ghost use Rattle.std.specs.Prelude.{List};
-    ghost use Rattle.cam_tiles.specs.Machinery.Masks.{Marking};
-    ghost use Rattle.cam_tiles.specs.Machinery.Swaths.{IsSwath};
+    ghost use Rattle.cam_tiles.specs.Machinery.Swaths.{IsSwath, Swathed, swathed_of};
 
-    ghost Value = { List Marking };
+    ghost Value = { Swathed };
 
-    ghost view = { λ s. s.masks.items };
+    ghost view = { swathed_of };
 
     ghost invariant = { IsSwath };
 }
 
 impl Swath {
-    /// Without a mask.
+    /// Without a tile.
     pub(crate) fn new(alloc: Global) -> Swath {
         Swath {
-            pitch: Pitch { left: 0, stride: 1 },
-            corner: ONE_CENTRE,
-            columns: 1,
+            grid: ONE_CENTRE,
+            columns: 0,
             bounds: Bounds::Empty,
-            before: Vec::new(alloc),
-            tiles: Vec::new(alloc),
-            masks: Vec::new(alloc),
+            inks: Inks::new(alloc),
             runs: FigureRuns::none(),
-            solid: Vec::new(alloc),
             marks: Vec::new(alloc),
+            spare: Vec::new(alloc),
         }
     }
 
-    /// Turns to the dirty ones of tiles that stand in a row of tiles from its left end on; the first of them has a
-    /// number. Their masks are blank. Memory is asked for where it has not been yet.
+    /// Turns to tiles that stand in a row of tiles, side by side; the first of them has a number. The pixels of the dirty
+    /// ones are not decided. Memory is asked for where it has not been yet.
     pub(crate) fn turn_to(
         &mut self,
         window: &Window,
@@ -127,185 +94,105 @@ impl Swath {
     ) -> Result<(), AllocError>
         requires accepted { accepts window.now ≡ true }
         requires row { IsRowOfTiles window.now first tiles.now }
-        ensures grids { OnOk result
-            (map (λ m. m.grid) self.new ≡ dirty_grids (grid_of window.now) first tiles.now) }
-        ensures blank { OnOk result ((k : ℕ) → IsBlank (mask_at self.new k)) }
+        ensures grid { OnOk result (self.new.grid ≡ grid_of window.now first) }
+        ensures columns { OnOk result (self.new.columns ≡ columns_of window.now first (length tiles.now)) }
+        ensures open { OnOk result ((column row : ℕ) → IsInSwath self.new column row → ink_in self.new column row
+            ≡ (if is_none (slice_index_or tiles.now (column / 64) None) then None else Some false)) }
     {
-        self.before.clear();
-        self.tiles.clear();
-        self.masks.clear();
-        self.solid.clear();
-        self.before.reserve(tiles.len())?;
-        self.tiles.reserve(tiles.len())?;
-        self.masks.reserve(tiles.len())?;
-        self.solid.resize(tiles.len(), 0)?;
+        self.columns = 0;
+        self.inks.clear();
+        let grid = window.grid(first);
+        let left = 64 * (first % window.across());
+        let columns = (window.width - left).min(64 * tiles.len() as u32);
         self.marks.resize(64 * tiles.len(), 0)?;
-        let corner = window.grid(first);
-        self.pitch = Pitch {
-            left: corner.x,
-            stride: 64 * corner.step,
-        };
-        self.corner = corner;
-        self.columns = window.width;
-        self.bounds = put_blanks(
-            window,
-            first,
-            tiles,
-            &mut self.before,
-            &mut self.tiles,
-            &mut self.masks,
-        );
+        self.spare.resize(64 * tiles.len(), 0)?;
+        self.inks.turn_to(tiles, columns, grid.rows)?;
+        self.grid = grid;
+        self.columns = columns;
+        self.bounds = wide_bounds(&grid, columns);
         Ok(())
     }
 
-    /// Draws the dirty ones of tiles: each takes up the rows of the next mask.
+    /// Draws the dirty ones of the tiles.
     pub(crate) fn put(&self, tiles: &mut [Tile])
-        requires { count_by is_none tiles.old ≤ length self.now }
+        requires { length tiles.old ≡ tiles_in self.now }
         ensures { (image : Spot → Bool) (grid : ℕ → Grid) (first : ℕ)
-            → AreDrawn image (dirty_grids grid first tiles.old) self.now
+            → ShowsDirty image grid first self.now tiles.old
             → tiles.new ≡ all_drawn_from (λ k. tile_rows image (grid k)) first tiles.old }
     {
-        let mut next = 0;
         for k in 0..tiles.len() {
             if tiles[k].is_none() {
-                tiles[k] = Some(self.masks[next].rows());
-                next += 1;
+                tiles[k] = Some(self.inks.rows(k));
             }
         }
     }
 
-    /// Joins the masks with the inside of a region whose segments are filed for their rows; it lies between two places
-    /// across, in half nm.
-    pub(crate) fn fill_filed(
-        &mut self,
-        region: Region<'_>,
-        filed: &[FiledSegment],
-        left: i64,
-        right: i64,
-    )
-        requires contour { IsOnBoardWhole region.contour.now }
-        requires filed { (k : ℕ) → HasMask self.old k
-            → AreFiled region.contour.now (levels_of (grid_at self.old k)) filed.now }
-        requires sides { (s : Spot) → Holds (bounds_of (leaf (Filled region.contour.now) region.dark ∷ [])) s
-            → (left ≤ℤ s.x) × (s.x ≤ℤ right) }
-        ensures { PaintsSwath self.old (leaf (Filled region.entry.contour.now) region.entry.dark ∷ []) self.new }
-    {
-        let first = self.first_reached(left);
-        let end = self.end_reached(right);
-        if first < end && !self.is_hidden(first, end, region.dark) {
-            self.fill_together(first, end, region, filed);
-        }
-    }
-
-    /// Whether a leaf changes no mask from one number to another: a dark one, where all of them are black all over.
-    #[tactic(auto, using(crate::proofs::SolidMasks::solid_part))]
-    fn is_hidden(&mut self, first: usize, end: usize, dark: bool) -> bool
-        requires { end ≤ length self.old }
+    /// Whether all of it is decided.
+    pub(crate) fn is_done(&mut self) -> bool
         ensures kept { self.new ≡ self.old }
-        ensures hidden { IsTrue result
-            → (shape : Shape) → ArePaintedIn first end (leaf shape dark ∷ []) self.old self.old }
+        ensures done { IsTrue result → IsDoneSwath self.old }
     {
-        if !dark {
-            return false;
-        }
-        are_solid(&self.masks, first, end, &mut self.solid)
+        self.inks.is_all_done()
     }
 
-    /// Whether all masks are black all over.
-    pub(crate) fn is_black(&mut self) -> bool
-        ensures kept { self.new ≡ self.old }
-        ensures black { IsTrue result
-            → (column row : ℕ) → IsInSwath self.old column row → ink_in self.old column row ≡ true }
+    /// The columns whose centres lie between two places across, in half nm.
+    fn columns_between(&self, left: i64, right: i64) -> Span
+        ensures each { (column : ℕ) → column < self.now.columns
+            → ((result.first ≤ column) × (column < result.end))
+            ↔ ((left ≤ℤ (place_in self.now column 0).x) × ((place_in self.now column 0).x ≤ℤ right)) }
+        ensures few { result.end ≤ self.now.columns }
     {
-        are_solid(&self.masks, 0, self.masks.len(), &mut self.solid)
-    }
-
-    /// Whether all centres in a box are black.
-    pub(crate) fn is_black_in(&self, bounds: Bounds) -> bool
-        ensures { IsTrue result → (column row : ℕ) → IsInSwath self.now column row
-            → Holds bounds (place_in self.now column row) → ink_in self.now column row ≡ true }
-    {
-        let Bounds::Closed { low, high } = bounds else {
-            return true;
+        let centres = Lattice {
+            first: self.grid.x,
+            step: self.grid.step,
+            count: self.columns,
         };
-        are_black_in(&self.masks, &low, &high)
+        centres.between(left, right)
     }
 
-    /// Joins the masks from one number to another with the inside of a region: each segment is counted once for all of
-    /// them, by marks in the rows of the tiles from the first of them to the last.
-    fn fill_together(
-        &mut self,
-        first: usize,
-        end: usize,
-        region: Region<'_>,
-        filed: &[FiledSegment],
-    )
-        requires some { first < end }
-        requires end { end ≤ length self.old }
-        requires contour { IsOnBoardWhole region.contour.now }
-        requires filed { (k : ℕ) → HasMask self.old k
-            → AreFiled region.contour.now (levels_of (grid_at self.old k)) filed.now }
-        ensures { ArePaintedIn first end (leaf (Filled region.entry.contour.now) region.entry.dark ∷ [])
-            self.old self.new }
+    /// The columns and the rows of the centres that a box holds.
+    fn reached(&self, low: Spot, high: Spot) -> (Span, Span)
+        ensures { AreReachedBy low high self.now result.0 result.1 }
     {
-        let left = self.tiles[first];
-        let right = self.columns.min(64 * (self.tiles[end - 1] + 1));
-        let grid = self.masks[first].grid();
-        mark_inside(
-            &mut self.marks,
-            &grid,
-            right - 64 * left,
-            region.contour,
-            filed,
-        );
-        follow(&mut self.solid, first, end, region.dark);
-        fill_marked(
-            &mut self.masks,
-            first,
-            end,
-            &self.tiles,
-            left,
-            &self.marks,
-            region,
-        );
+        let rows = self.grid.levels().band(Heights {
+            low: low.y,
+            high: high.y,
+        });
+        (self.columns_between(low.x, high.x), rows)
     }
 
-    /// Paints a stroke or a flash: its runs are found once for the row of tiles, and drawn on those masks alone that
-    /// they reach.
+    /// Paints what a shape covers in some tiles outside of which it covers nothing: it is marked once for all of them.
+    fn paint_marked<M: MarkShape>(&mut self, tiles: Span, shape: &M, dark: bool)
+        requires sound { M.is_sound shape.now }
+        requires tiles { tiles.end ≤ tiles_in self.old }
+        requires within { (column row : ℕ) → IsInSwath self.old column row → Covers (M.shape shape.now) (place_in self.old column row)
+            → (tiles.first ≤ column / 64) × (column / 64 < tiles.end) }
+        ensures { PaintsSwath self.old (leaf (M.shape shape.now) dark ∷ []) self.new }
+    {
+        let tiles = open_among(&mut self.inks, tiles);
+        if tiles.end <= tiles.first {
+            return;
+        }
+        let columns = self.columns.min(64 * tiles.end) - 64 * tiles.first;
+        let part = self.grid.from_tile(tiles.first, self.columns);
+        shape.mark(&mut self.marks, &mut self.spare, &part, columns);
+        let (first, end) = (tiles.first as usize, tiles.end as usize);
+        self.inks.take_marked(first, end, &self.marks, dark);
+    }
+
+    /// Paints a stroke or a flash by its runs, in the tiles that these reach.
     fn paint_figure(&mut self, placed: &Placed, print: Print<'_>)
-        requires { IsPlacedFor print.figure placed.now }
+        requires some { 0 < self.old.columns }
+        requires figure { IsPlacedFor print.figure placed.now }
         ensures { PaintsSwath self.old (leaf_of print.entry ∷ []) self.new }
     {
-        self.runs.find(placed, &self.corner, self.columns);
+        self.runs.find(placed, &self.grid, self.columns);
         let columns = self.runs.columns();
-        let first_tile = columns.first as usize / 64;
-        let end_tile = columns.end.div_ceil(64) as usize;
-        let first = masks_before(&self.before, first_tile, &self.masks);
-        let end = masks_before(&self.before, end_tile, &self.masks);
-        follow(&mut self.solid, first, end, print.dark);
-        paint_figures(&mut self.masks, first, end, &self.tiles, &self.runs, print);
-    }
-
-    /// The number of the first mask that may have a centre at a place across or right of it, in half nm.
-    fn first_reached(&self, x: i64) -> usize
-        ensures { (k column row : ℕ) → k < result → IsIn (grid_at self.now k) column row
-            → (centre_in (grid_at self.now k) column row).x <ℤ x }
-    {
-        if x < self.pitch.left {
-            return 0;
-        }
-        let tile = self.pitch.tile_at(x, self.before.len());
-        masks_before(&self.before, tile, &self.masks)
-    }
-
-    /// The number behind the last mask that may have a centre at a place across or left of it, in half nm.
-    fn end_reached(&self, x: i64) -> usize
-        ensures within { result ≤ length self.now }
-        ensures apart { (k column row : ℕ) → result ≤ k → IsIn (grid_at self.now k) column row
-            → x <ℤ (centre_in (grid_at self.now k) column row).x }
-    {
-        let tile = self.pitch.tile_at(x, self.before.len());
-        masks_before(&self.before, tile + 1, &self.masks)
+        let tiles = Span {
+            first: columns.first / 64,
+            end: columns.end.min(self.columns).div_ceil(64),
+        };
+        take_runs(&mut self.inks, &self.runs, tiles, print.dark);
     }
 }
 
@@ -316,87 +203,107 @@ impl Canvas for Swath {
 
     ghost ink = { ink_in };
 
-    #[tactic(auto, using(crate::proofs::SwathLayouts::swath_held))]
     fn bounds(&self) -> Bounds {
         self.bounds
+    }
+
+    fn is_decided_in(&self, bounds: Bounds) -> bool {
+        let Bounds::Closed { low, high } = bounds else {
+            return true;
+        };
+        let (columns, rows) = self.reached(low, high);
+        self.inks.is_decided(columns, rows)
     }
 
     fn paint(&mut self, print: Print<'_>) {
         let Bounds::Closed { low, high } = print.bounds else {
             return;
         };
-        let first = self.first_reached(low.x);
-        let end = self.end_reached(high.x);
-        if self.is_hidden(first, end, print.dark) {
+        let (columns, rows) = self.reached(low, high);
+        if columns.end <= columns.first || self.inks.is_decided(columns, rows) {
             return;
         }
         let heights = Heights {
             low: low.y,
             high: high.y,
         };
-        if first < end
-            && let Some(placed) = placed_of(&print.figure, heights)
-        {
+        if let Some(placed) = placed_of(&print.figure, heights) {
             self.paint_figure(&placed, print);
             return;
         }
-        follow(&mut self.solid, first, end, print.dark);
-        paint_each(&mut self.masks, first, end, print);
-    }
-}
-
-impl Pitch {
-    /// The tile of the row, of so many, that a place is in; left of them the first, and right of them their number.
-    #[tactic(auto, using(crate::proofs::SwathLayouts::up_to_tile))]
-    fn tile_at(self, x: i64, tiles: usize) -> usize
-        requires { pos 1 ≤ℤ self.stride }
-        ensures within { result ≤ tiles }
-        ensures after { self.left ≤ℤ x → (self.left +ℤ pos result *ℤ self.stride) ≤ℤ x }
-        ensures before { result < tiles → x <ℤ (self.left +ℤ pos (result + 1) *ℤ self.stride) }
-    {
-        if x < self.left {
-            return 0;
+        let tiles = Span {
+            first: columns.first / 64,
+            end: columns.end.div_ceil(64),
+        };
+        match print.figure {
+            Figure::Stamp {
+                aperture: Aperture::Prims(prims),
+                turn,
+                at,
+            } => {
+                self.paint_marked(tiles, &PlacedMacro { prims, turn, at }, print.dark);
+            }
+            Figure::Filled {
+                contour,
+                turn,
+                offset,
+            } => {
+                let placing = Placing { turn, offset };
+                self.paint_marked(tiles, &PlacedContour { contour, placing }, print.dark);
+            }
+            _ => {}
         }
-        let tile = x.abs_diff(self.left) / self.stride.unsigned_abs();
-        tile.min(tiles as u64) as usize
     }
 }
 
-/// Puts down a blank mask for each dirty one of tiles that stand in a row of tiles, and which of the tiles it is; and for
-/// each of them, how many masks are of tiles before it. Answers a box that holds the centres of all masks, in half nm.
-fn put_blanks(
-    window: &Window,
-    first: u32,
-    tiles: &[Tile],
-    before: &mut Vec<u32>,
-    own: &mut Vec<u32>,
-    masks: &mut Vec<Mask>,
-) -> Bounds
-    requires accepted { accepts window.now ≡ true }
-    requires row { IsRowOfTiles window.now first tiles.now }
-    requires none_before { before.old.items ≡ [] }
-    requires no_own { own.old.items ≡ [] }
-    requires no_masks { masks.old.items ≡ [] }
-    requires room_before { length tiles.now ≤ vec_capacity before.old }
-    requires room_own { length tiles.now ≤ vec_capacity own.old }
-    requires room { length tiles.now ≤ vec_capacity masks.old }
-    ensures grids { map (λ m. m.grid) masks.new.items ≡ dirty_grids (grid_of window.now) first tiles.now }
-    ensures blank { (k : ℕ) → IsBlank (mask_at masks.new.items k) }
-    ensures laid { (pitch : Pitch) → pitch ≡ pitch_of (grid_of window.now first)
-        → IsLaidOut pitch result before.new.items (length masks.new.items) (grid_at masks.new.items) }
-    ensures stand { (corner : Grid) → corner ≡ grid_of window.now first → StandInRow corner window.now.width
-        own.new.items before.new.items (length masks.new.items) (grid_at masks.new.items) }
-    ensures each { length before.new.items ≡ length tiles.now }
+/// Those of some tiles between which all lie that are not done.
+fn open_among(inks: &mut Inks, tiles: Span) -> Span
+    requires { tiles.end ≤ inks.old.tiles }
+    ensures kept { inks.new ≡ inks.old }
+    ensures done { (tile : ℕ) → tiles.first ≤ tile → tile < tiles.end → (tile < result.first) ⊎ (result.end ≤ tile)
+        → IsDoneTile inks.old tile }
+    ensures within { (tiles.first ≤ result.first) × (result.end ≤ tiles.end) }
 {
-    let mut bounds = Bounds::Empty;
-    for (tile, drawn) in tiles.iter().enumerate() {
-        before.push_reserved(masks.len() as u32);
-        if drawn.is_none() {
-            let mask = Mask::blank(window.grid(first + tile as u32));
-            bounds = bounds.joined(mask.grid_bounds());
-            own.push_reserved(tile as u32);
-            masks.push_reserved(mask);
+    let mut first = tiles.first;
+    let mut end = tiles.end;
+    while first < end && inks.is_done(first as usize) {
+        first += 1;
+    }
+    while first < end && inks.is_done(end as usize - 1) {
+        end -= 1;
+    }
+    Span { first, end }
+}
+
+/// Gives a polarity to what is not decided of some tiles, where a figure has columns by its runs.
+fn take_runs(inks: &mut Inks, runs: &FigureRuns, tiles: Span, dark: bool)
+    requires fit { AllFit 64 runs.now }
+    requires few { inks.old.tiles ≤ 512 }
+    requires tiles { tiles.end ≤ inks.old.tiles }
+    ensures { (holds : ℕ → ℕ → Bool) → AreRunsOf holds runs.now inks.old
+        → Takes tiles.first tiles.end holds dark inks.old inks.new }
+{
+    let mut bits = [0; 64];
+    for tile in tiles.first..tiles.end {
+        if !inks.is_done(tile as usize) {
+            let rows = runs.find_bits(64 * tile, &mut bits);
+            inks.take(tile as usize, rows, &bits, dark);
         }
     }
-    bounds
+}
+
+/// A box that holds the centres in the rows of a grid, in as many columns from its left on, in half nm.
+fn wide_bounds(grid: &Grid, columns: u32) -> Bounds
+    requires { IsWideGrid grid.now columns }
+    ensures { (column row : ℕ) → column < columns → row < grid.now.rows
+        → Holds result (centre_in grid.now column row) }
+{
+    let last = grid.x + i64::from(columns - 1) * grid.step;
+    Bounds::Closed {
+        low: Spot {
+            x: grid.x,
+            y: grid.levels().bottom(),
+        },
+        high: Spot { x: last, y: grid.y },
+    }
 }

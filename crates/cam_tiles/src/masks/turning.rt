@@ -1,128 +1,27 @@
 //! The insides of contours in the rows of a tile, or of tiles side by side: each segment is counted once for all of them,
 //! by marks that turn over the columns left of them.
 
-ghost use Rattle.std.specs.Prelude.{◌≡◌, ◌≢◌, ◌↔◌, ◌+◌, ◌-◌, ◌*◌, ◌/◌, ◌<◌, ◌≤◌, ℕ, IsTrue, length, slice_index, ◌∷◌, []};
-ghost use Rattle.std.specs.Int.{IsBitSet};
+ghost use Rattle.std.specs.Prelude.{◌≡◌, ◌≢◌, ◌↔◌, ◌-◌, ◌<◌, ◌≤◌, ℕ, IsTrue, length};
 ghost use Rattle.cam_units.specs.Board.{IsOnBoard};
 ghost use Rattle.cam_units.specs.declared.point.Spot.{Spot};
 ghost use Rattle.cam_shapes.specs.Cap.{IsSoundCap, is_in_cap};
-ghost use Rattle.cam_shapes.specs.Contour.{IsInContour, IsSoundSeg};
+ghost use Rattle.cam_shapes.specs.Contour.{IsSoundSeg};
 ghost use Rattle.cam_shapes.specs.Edge.{crosses_ray, edge, is_above};
 ghost use Rattle.cam_shapes.specs.Sides.{changes_side};
-ghost use Rattle.cam_objects.specs.Leaves.{Filled, leaf};
-ghost use Rattle.cam_rows.specs.Marks.{is_turned};
-ghost use Rattle.cam_tiles.specs.Machinery.Filing.{AreFiled, IsOnBoardWhole, changes_at};
 ghost use Rattle.cam_tiles.specs.Machinery.Levels.{AreLevels, IsOnRow, levels_of};
-ghost use Rattle.cam_tiles.specs.Machinery.Masks.{turned_over};
-ghost use Rattle.cam_tiles.specs.Machinery.Runs.{IsWideGrid};
-ghost use Rattle.cam_tiles.specs.Machinery.Swaths.{ArePaintedIn, grid_at};
-ghost use Rattle.cam_tiles.specs.Machinery.Turning.{AreMarkedAt, AreWide, IsField, MarksCentres, TurnsCentres};
-ghost use Rattle.cam_tiles.specs.Tiles.{centre_in};
+ghost use Rattle.cam_tiles.specs.Machinery.Turning.{AreWide, IsField, TurnsCentres};
 
 use crate::grid::Grid;
 use crate::levels::Levels;
-use crate::masks::filing::{FiledSegment, corner_at, crossed_heights, segment_at};
 use crate::masks::heights::HasHeights;
-use crate::masks::join::Join;
-use crate::masks::mask::Mask;
-use crate::shown::Region;
+use crate::masks::segments::crossed_heights;
 use crate::span::Span;
-use cam_rows::{Centres, cap_runs, edge_runs, mark_end, mark_ends, mark_runs, spread_marks};
-use cam_shapes::{Cap, Contour, Seg};
+use cam_rows::{Centres, cap_runs, edge_runs, mark_ends, mark_runs};
+use cam_shapes::{Cap, Seg};
 use cam_units::Point;
 
-impl Grid {
-    /// The x of the last one of so many columns from the left on, in half nm.
-    #[tactic(auto, using(crate::proofs::CountedMarks::last_fits, crate::proofs::CountedMarks::last_kept))]
-    fn last_x(&self, columns: u32) -> i64
-        requires { IsWideGrid self.now columns }
-        ensures { result ≡ (centre_in self.now (columns - 1) 0).x }
-    {
-        self.x + i64::from(columns - 1) * self.step
-    }
-}
-
-/// Marks the inside of a contour that is filed for the rows of a grid, and as many columns from its left on: the words of
-/// the tiles that these take up.
-pub(crate) fn mark_inside(
-    marks: &mut [u64],
-    grid: &Grid,
-    columns: u32,
-    contour: &Contour,
-    filed: &[FiledSegment],
-)
-    requires grid { IsWideGrid grid.now columns }
-    requires room { 64 * ((columns + 63) / 64) ≤ length marks.old }
-    requires contour { IsOnBoardWhole contour.now }
-    requires filed { AreFiled contour.now (levels_of grid.now) filed.now }
-    ensures { MarksCentres grid.now columns (λ s. IsInContour s contour.now) marks.new }
-{
-    let words = 64 * columns.div_ceil(64) as usize;
-    let marks = &mut marks[..words];
-    marks.fill(0);
-    turn_filed(marks, grid, columns, contour, filed);
-    spread_marks(marks);
-}
-
-/// Counts the segments of a contour that are filed. Those that lie right of all columns turn over whole rows, and those
-/// left of them change nothing: the others are marked.
-fn turn_filed(
-    marks: &mut [u64],
-    grid: &Grid,
-    columns: u32,
-    contour: &Contour,
-    filed: &[FiledSegment],
-)
-    requires grid { IsWideGrid grid.now columns }
-    requires wide { AreWide columns marks.old }
-    requires contour { IsOnBoardWhole contour.now }
-    requires filed { AreFiled contour.now (levels_of grid.now) filed.now }
-    ensures { TurnsCentres grid.now columns (λ s. IsInContour s contour.now) marks.old marks.new }
-{
-    let first = grid.x;
-    let last = grid.last_x(columns);
-    let mut whole = 0;
-    for segment in filed {
-        if last < segment.left {
-            whole ^= segment.rows;
-        } else if first < segment.right {
-            turn_place(marks, grid, columns, contour, segment.place);
-        }
-    }
-    turn_whole(marks, grid.rows, columns, whole);
-}
-
-/// Turns over all columns in some of the first rows: bit k of `whole` for row k from the top.
-fn turn_whole(marks: &mut [u64], rows: u32, columns: u32, whole: u64)
-    requires rows { rows ≤ 64 }
-    requires wide { AreWide columns marks.old }
-    ensures { (column row : ℕ) → column < columns → row < rows → IsTrue (is_turned marks.new row column)
-        ↔ turned_over (IsTrue (is_turned marks.old row column)) (IsBitSet whole row) }
-{
-    if whole == 0 {
-        return;
-    }
-    for row in 0..rows {
-        let end = if (whole >> row) & 1 == 1 { columns } else { 0 };
-        mark_end(marks, row, end);
-    }
-}
-
-/// Counts the segment at a place of a contour, or the line that closes it.
-fn turn_place(marks: &mut [u64], grid: &Grid, columns: u32, contour: &Contour, place: u32)
-    requires grid { IsField grid.now columns }
-    requires wide { AreWide columns marks.old }
-    requires contour { IsOnBoardWhole contour.now }
-    requires place { place ≤ length contour.now.segs }
-    ensures { TurnsCentres grid.now columns (λ s. IsTrue (changes_at contour.now s place)) marks.old marks.new }
-{
-    let here = corner_at(contour, place);
-    let seg = segment_at(contour, place);
-    turn_segment(marks, grid, columns, here, seg);
-}
-
 /// Counts what a segment from a point changes.
-fn turn_segment(marks: &mut [u64], grid: &Grid, columns: u32, here: Point, seg: Seg)
+pub(crate) fn turn_segment(marks: &mut [u64], grid: &Grid, columns: u32, here: Point, seg: Seg)
     requires grid { IsField grid.now columns }
     requires wide { AreWide columns marks.old }
     requires here { IsOnBoard here }
@@ -159,7 +58,7 @@ fn levels_in(grid: &Grid) -> Levels
 }
 
 /// Counts an edge: in each row that it crosses by one mark, where it does not lie left of all columns.
-fn turn_edge(marks: &mut [u64], grid: &Grid, columns: u32, from: Point, to: Point)
+pub(crate) fn turn_edge(marks: &mut [u64], grid: &Grid, columns: u32, from: Point, to: Point)
     requires grid { IsField grid.now columns }
     requires wide { AreWide columns marks.old }
     requires from { IsOnBoard from }
@@ -258,29 +157,4 @@ fn turn_reached(
     };
     cap_runs(cap, &top, firsts, ends);
     mark_runs(marks, band.first, firsts, ends);
-}
-
-/// Joins the masks from one number to another with the inside of a region, by its marks in the row of tiles of which
-/// each mask is one: they begin at the tile of a number.
-pub(crate) fn fill_marked(
-    masks: &mut [Mask],
-    first: usize,
-    end: usize,
-    tiles: &[u32],
-    from: u32,
-    marks: &[u64],
-    region: Region<'_>,
-)
-    requires end { end ≤ length masks.old }
-    requires tiles { end ≤ length tiles.now }
-    requires from { (k : ℕ) → first ≤ k → k < end → from ≤ slice_index tiles.now k }
-    requires marked { (k : ℕ) → first ≤ k → k < end → AreMarkedAt (slice_index tiles.now k - from)
-        (grid_at masks.old k) (λ s. IsInContour s region.contour.now) marks.now }
-    ensures { ArePaintedIn first end (leaf (Filled region.entry.contour.now) region.entry.dark ∷ [])
-        masks.old masks.new }
-{
-    let how = Join::inked(region.dark);
-    for k in first..end {
-        masks[k].join_tile(marks, tiles[k] - from, how);
-    }
 }

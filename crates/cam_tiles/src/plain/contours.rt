@@ -1,6 +1,6 @@
 //! Contours that are placed, and outlines of macros, by the rows of their edges and caps.
 
-ghost use Rattle.std.specs.Prelude.{◌≡◌, All, IsTrue, map};
+ghost use Rattle.std.specs.Prelude.{All, IsTrue, map};
 ghost use Rattle.cam_units.specs.Board.{IsOnBoard};
 ghost use Rattle.cam_shapes.specs.Contour.{IsInContour, IsSoundSeg};
 ghost use Rattle.cam_shapes.specs.Edge.{crosses_ray, edge};
@@ -11,7 +11,7 @@ ghost use Rattle.cam_objects.specs.Image.{relative};
 ghost use Rattle.cam_objects.specs.Leaves.{origin};
 ghost use Rattle.cam_tiles.specs.Machinery.Masks.{Joins, Turns};
 
-use crate::masks::filing::{crossed_heights, end_of};
+use crate::masks::segments::{crossed_heights, end_of};
 use crate::masks::join::Join;
 use crate::masks::mask::{Mask, ORIGIN};
 use crate::plain::shapes::RowShape;

@@ -1,33 +1,22 @@
 //! Strokes and flashes by their rows.
 
-ghost use Rattle.std.specs.Prelude.{◌∷◌, []};
 ghost use Rattle.cam_units.specs.Board.{IsOnBoard};
 ghost use Rattle.cam_shapes.specs.Disc.{IsInHole, IsSoundDisc};
-ghost use Rattle.cam_objects.specs.Canvases.{leaf_of};
 ghost use Rattle.cam_objects.specs.Image.{relative};
-ghost use Rattle.cam_tiles.specs.Machinery.Figures.{IsInFigure, IsPlacedFor, IsSoundPlaced};
-ghost use Rattle.cam_tiles.specs.Machinery.Masks.{Joins, PaintsMask};
+ghost use Rattle.cam_tiles.specs.Machinery.Figures.{IsInFigure, IsSoundPlaced};
+ghost use Rattle.cam_tiles.specs.Machinery.Masks.{Joins};
 ghost use Rattle.cam_tiles.specs.Machinery.Plain.{IsInShape, IsSoundShape};
 
 use crate::masks::figures::{Placed, RunFigure};
 use crate::masks::join::Join;
 use crate::masks::mask::Mask;
 use crate::plain::shapes::RowShape;
-use cam_objects::Print;
 use cam_rows::Hole;
 use cam_units::Point;
 
 impl Mask {
-    /// Paints a stroke or a flash.
-    pub(crate) fn paint_placed(&mut self, placed: &Placed, print: Print<'_>)
-        requires { IsPlacedFor print.figure placed.now }
-        ensures { PaintsMask self.old (leaf_of print.entry ∷ []) self.new }
-    {
-        self.join_placed(placed, Join::inked(print.dark));
-    }
-
     /// Joins the marks with those of a stroke or a flash.
-    fn join_placed(&mut self, placed: &Placed, how: Join)
+    pub(crate) fn join_placed(&mut self, placed: &Placed, how: Join)
         requires { IsSoundPlaced placed.now }
         ensures { Joins how (λ s. IsInFigure placed.now.figure (relative placed.now.at s)) self.old self.new }
     {

@@ -56,7 +56,7 @@ impl RowShape {
 
 impl Mask {
     /// The marks of a shape, which stands at a point as it does about (0, 0): row by row.
-    fn of(grid: Grid, shape: &RowShape, at: Point) -> Mask
+    fn of_shape(grid: Grid, shape: &RowShape, at: Point) -> Mask
         requires grid { IsGrid grid }
         requires sound { IsSoundShape shape.now }
         requires at { IsOnBoard at }
@@ -75,7 +75,7 @@ impl Mask {
         requires at { IsOnBoard at }
         ensures { Joins how (λ s. IsInShape shape.now (relative at s)) self.old self.new }
     {
-        let marks = Mask::of(self.grid(), shape, at);
+        let marks = Mask::of_shape(self.grid(), shape, at);
         self.merge(&marks, how);
     }
 
@@ -85,7 +85,7 @@ impl Mask {
         requires at { IsOnBoard at }
         ensures { Turns (λ s. IsInShape shape.now (relative at s)) self.old self.new }
     {
-        let marks = Mask::of(self.grid(), shape, at);
+        let marks = Mask::of_shape(self.grid(), shape, at);
         self.turn_by(&marks);
     }
 }

@@ -20,27 +20,20 @@ use cam_units::{Point, Turn};
 
 impl Mask {
     /// Joins the marks with what the aperture of a macro covers, mirrored and turned, at a point.
-    pub(crate) fn stamp(
-        &mut self,
-        aperture: &Aperture,
-        turn: Turn,
-        at: Point,
-        how: Join,
-        quick: bool,
-    )
+    pub(crate) fn stamp(&mut self, aperture: &Aperture, turn: Turn, at: Point, how: Join)
         requires aperture { IsSoundAperture aperture.now }
         requires composed { IsMacro aperture.now }
         requires at { IsOnBoard at }
         ensures { Joins how (λ s. IsCovered aperture.now turn (relative at s)) self.old self.new }
     {
         if let Aperture::Prims(prims) = aperture {
-            self.primitives(prims, turn, at, how, quick);
+            self.primitives(prims, turn, at, how);
         }
     }
 
     /// Joins the marks with what primitives paint, once they are turned: they are composed in a mask of their own, where
     /// a later one takes back what it clears.
-    fn primitives(&mut self, prims: &Primitives, turn: Turn, at: Point, how: Join, quick: bool)
+    fn primitives(&mut self, prims: &Primitives, turn: Turn, at: Point, how: Join)
         requires prims { All IsSoundPrim prims.now }
         requires at { IsOnBoard at }
         ensures { Joins how (λ s. IsPainted (map (turned_prim turn) prims.now) (relative at s)) self.old self.new }
@@ -48,13 +41,13 @@ impl Mask {
         let mut own = Mask::blank(self.grid());
         for place in 0..prims.len() {
             let primitive = prims.at(place);
-            own.primitive(primitive, turn, at, quick);
+            own.primitive(primitive, turn, at);
         }
         self.merge(&own, how);
     }
 
     /// Adds what a primitive paints, or clears what it takes back.
-    fn primitive(&mut self, primitive: PrimitiveView<'_>, turn: Turn, at: Point, quick: bool)
+    fn primitive(&mut self, primitive: PrimitiveView<'_>, turn: Turn, at: Point)
         requires primitive { IsSoundPrim (primitive_of primitive) }
         requires at { IsOnBoard at }
         ensures { Joins (inked primitive.entry.paint)
@@ -67,7 +60,7 @@ impl Mask {
                     centre: turn.apply(centre),
                     diameter,
                 };
-                self.join_shape(&RowShape::Disc(disc), at, how, quick);
+                self.join(&RowShape::Disc(disc), at, how);
             }
             ShapeView::Bar { from, to, width } => {
                 let bar = Bar {
@@ -75,7 +68,7 @@ impl Mask {
                     to: turn.apply(to),
                     width,
                 };
-                self.join_shape(&RowShape::Bar(bar), at, how, quick);
+                self.join(&RowShape::Bar(bar), at, how);
             }
             ShapeView::Rect {
                 centre,
@@ -87,7 +80,7 @@ impl Mask {
                     width: turned_width(turn, width, height),
                     height: turned_height(turn, width, height),
                 };
-                self.join_shape(&RowShape::Rectangle(rectangle), at, how, quick);
+                self.join(&RowShape::Rectangle(rectangle), at, how);
             }
             ShapeView::Outline { points } => self.fill_outline(points, turn, at, how),
         }

@@ -9,4 +9,4 @@ use Rattle.cam_tiles.proofs.drawing.draw_left.Given as goal
 abbrev pub invariant-loop-k : goal.invariant-loop-k
 invariant-loop-k l =
     let draw : ℕ → List ℕ = λ k. tile_rows (is_black (leaves_of l.shown)) (grid_of l.window k) in
-    all_drawn_from draw 0 l.fn.tiles ≡ drawn_on draw 0 l.k l.tiles
+    all_drawn_from draw l.first l.fn.tiles ≡ drawn_on draw l.first l.k l.tiles

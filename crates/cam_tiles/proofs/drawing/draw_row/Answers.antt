@@ -1,25 +1,29 @@
-use Rattle.cam_objects.specs.Tests.{is_black}
-use Rattle.cam_tiles.specs.Machinery.Shown.{leaves_of}
-use Rattle.cam_tiles.specs.Tiles.{grid_of, tile_rows}
-use Rattle.cam_tiles.proofs.PartlyDrawn.{all_partly_drawn}
-use Rattle.cam_tiles.proofs.PaintedSwaths.{row_drawn, row_levels, row_masks}
+use Rattle.std.proofs.Common.{arith}
+use Rattle.cam_tiles.proofs.DrawnSwaths.{part_of_row}
+use Rattle.cam_tiles.proofs.PartlyDrawn.{part_partly_drawn}
+use Rattle.cam_tiles.proofs.TileCounts.{few_across, few_tiles}
 use Rattle.cam_tiles.proofs.drawing.draw_row.Goals as goal
 
-pub paint-requires-clause-rows : goal.paint-requires-clause-rows
-paint-requires-clause-rows c =
-    row_levels c.args.window.now c.args.first c.args.tiles.now c.requires.accepted c.requires.row c.turn_to.new.self
-    c.in_ok-turn_to.ensures.grids
+pub dirty_among-dirty-requires : goal.dirty_among-dirty-requires
+dirty_among-dirty-requires c =
+    omega (arith, c.requires.row.fits, few_across c.args.window.now c.requires.accepted)
 
-pub put-requires : goal.put-requires
-put-requires c =
-    row_masks c.args.window.now c.args.first c.args.tiles.now c.requires.accepted c.requires.row c.turn_to.new.self
-    c.in_ok-turn_to.ensures.grids (leaves_of c.args.shown.now) c.paint.new.swath c.paint.ensures.painted
+pub overflow_add-first : goal.overflow_add-first
+overflow_add-first c =
+    omega (
+      arith,
+      c.if-dirty.false,
+      c.dirty_among-dirty.ensures.end,
+      c.requires.row.within,
+      few_tiles c.args.window.now c.requires.accepted,
+    )
+
+pub draw_swath-requires-clause-row : goal.draw_swath-requires-clause-row
+draw_swath-requires-clause-row c =
+    part_of_row c.args.window.now c.args.first c.args.tiles.now c.requires.row c.dirty_among-dirty.result.first
+    c.dirty_among-dirty.result.end (omega (arith, c.if-dirty.false)) c.dirty_among-dirty.ensures.end
 
 pub returns-clause-tiles : goal.returns-clause-tiles
 returns-clause-tiles c =
-    let w = c.args.window.now in
-    let leaves = leaves_of c.args.shown.now in
-    all_partly_drawn (λ k. tile_rows (is_black leaves) (grid_of w k)) c.args.first c.args.tiles.now c.put.new.tiles
-    (c.put.ensures (is_black leaves) (grid_of w) c.args.first
-    (row_drawn w c.args.first c.args.tiles.now c.requires.accepted c.requires.row c.turn_to.new.self
-    c.in_ok-turn_to.ensures.grids leaves c.paint.new.swath c.paint.ensures.painted c.in_ok-turn_to.ensures.blank))
+    part_partly_drawn _ c.args.first c.dirty_among-dirty.result.first _ c.args.tiles.now c.draw_swath.new.tiles
+    (omega (arith, c.if-dirty.false, c.dirty_among-dirty.ensures.end)) c.draw_swath.ensures.tiles

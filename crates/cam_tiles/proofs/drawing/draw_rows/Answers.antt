@@ -1,4 +1,5 @@
-use Rattle.std.proofs.Common.{◌*◌, ℕ, length, ◌∙◌, arith}
+use Rattle.std.proofs.Common.{◌*◌, ℕ, length, arith}
+use Rattle.cam_tiles.proofs.PartlyDrawn.{drawn_further}
 use Rattle.cam_tiles.proofs.RowsInOrder.{IsRowThere, row_there}
 use Rattle.cam_tiles.proofs.TileCounts.{some_across}
 use Rattle.cam_tiles.proofs.drawing.draw_rows.Goals.{After-min-end}
@@ -8,28 +9,32 @@ pub div_ceil-row-end-requires : goal.div_ceil-row-end-requires
 div_ceil-row-end-requires c =
     omega (arith, c.across-across.ensures, some_across c.args.window.now c.requires.accepted)
 
-here : (c : After-min-end)
-    → IsRowThere c.args.window.now c.loop-row.tiles (c.loop-row.row * c.across-across.result) c.min-end.result
+here : (c : After-min-end) → IsRowThere c.args.window.now c.args.first c.loop-row.tiles
+    (c.loop-row.row * c.across-across.result) c.min-end.result
 here c =
     let size : ℕ = length c.args.tiles.now in
-    row_there c.args.window.now c.loop-row.tiles size c.loop-row.row c.across-across.result c.min-end.result
-    c.requires.accepted c.across-across.ensures c.loop-row.auto.tiles c.requires.within
+    row_there c.args.window.now c.args.first c.loop-row.tiles size c.loop-row.row c.across-across.result c.min-end.result
+    c.requires.accepted c.across-across.ensures c.requires.left c.loop-row.auto.tiles c.requires.within
     (omega (arith, c.loop-row-test.true, c.div_ceil-row-end.ensures))
     (omega (arith, c.min-end.ensures, c.loop-row.auto.tiles))
 
-pub overflow_cast-first : goal.overflow_cast-first
-overflow_cast-first c = let few = (here (goal.at.overflow_cast-first c).After-min-end).few in omega arith
+pub overflow_add-first : goal.overflow_add-first
+overflow_add-first c = let few = (here (goal.at.overflow_add-first c).After-min-end).few in omega (arith, few)
+
+pub overflow_cast-start : goal.overflow_cast-start
+overflow_cast-start c = let few = (here (goal.at.overflow_cast-start c).After-min-end).few in omega (arith, few)
 
 pub draw_row-requires-clause-row : goal.draw_row-requires-clause-row
 draw_row-requires-clause-row c = (here (goal.at.draw_row-requires-clause-row c).After-min-end).row
 
 pub returns-in_err-draw_row : goal.returns-in_err-draw_row
 returns-in_err-draw_row c =
-    (here (goal.at.returns-in_err-draw_row c).After-min-end).drawn _ _ c.draw_row.ensures.tiles ∙ c.loop-row.invariant.drawn
+    drawn_further _ c.args.first _ _ _ c.loop-row.invariant.drawn
+    ((here (goal.at.returns-in_err-draw_row c).After-min-end).drawn _ _ c.draw_row.ensures.tiles)
 
 pub loop-row-preserved : goal.loop-row-preserved
 loop-row-preserved c = record {
-  drawn = (here (goal.at.loop-row-preserved c).After-min-end).drawn _ _ c.draw_row.ensures.tiles
-      ∙ c.loop-row.invariant.drawn;
-  index = c.draw_row.ensures.index;
+  drawn = drawn_further _ c.args.first _ _ _ c.loop-row.invariant.drawn
+      ((here (goal.at.loop-row-preserved c).After-min-end).drawn _ _ c.draw_row.ensures.tiles);
+  items = c.in_ok-draw_row.ensures.items;
 }

@@ -1,11 +1,14 @@
-use Rattle.std.proofs.Common.{◌∙◌}
+use Rattle.std.proofs.Common.{subst, sym, ◌∙◌}
 use Rattle.cam_tiles.specs.Machinery.Shown.{leaves_of}
-use Rattle.cam_tiles.proofs.PaintedTiles.{painted_rows}
+use Rattle.cam_tiles.proofs.PlainTiles.{PaintsTile, Tile, dark_rows}
 use Rattle.cam_tiles.proofs.plain.tile_of.Goals as goal
 
 pub returns : goal.returns
 returns c =
+    let leaves = leaves_of c.args.shown.now in
+    let p = c.nothing-tile.result in
+    let q : Tile = (c.tile.inside.decided, c.tile.inside.dark) in
+    let painted = subst (λ (new : Tile). PaintsTile p leaves new) (sym c.tile.view_is) c.paint.ensures in
     c.rows.ensures.rows
-    ∙ painted_rows (leaves_of c.args.shown.now) c.args.grid c.blank-mask.result c.paint.new.canvas c.paint.new.canvas
-    c.requires.grid c.blank-mask.ensures.grid c.blank-mask.ensures.marks c.paint.ensures (λ i. c.paint.new.canvas)
-    c.rows.ensures.mask
+    ∙ dark_rows leaves c.args.grid p q c.requires.grid c.nothing-tile.ensures.decided.0 c.nothing-tile.ensures.decided.1
+    painted c.tile.invariant.same c.tile.invariant.dark c.rows.ensures.mask

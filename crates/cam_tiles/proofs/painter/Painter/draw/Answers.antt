@@ -3,14 +3,10 @@ use Rattle.std.proofs.lemmas.List.{drop_all, get_or_default}
 use Rattle.cam_tiles.specs.Tables.{Tile, all_drawn_from}
 use Rattle.cam_tiles.specs.Tiles.{grid_of, tile_rows}
 use Rattle.cam_tiles.proofs.DrawnTiles.{dirty}
-use Rattle.cam_tiles.proofs.TileCounts.{few_tiles}
 use Rattle.cam_tiles.proofs.TilesInOrder.{all_done, drawn_on, next_clean, next_dirty, none_yet, read_clean, read_dirty}
 use Rattle.cam_tiles.proofs.TilesInOrder.{dirty_past_clean, dirty_past_dirty}
 use Rattle.cam_tiles.proofs.painter.Painter.draw.Goals.{then-is_none, else-is_none}
 use Rattle.cam_tiles.proofs.painter.Painter.draw.Goals as goal
-
-pub overflow_cast-k : goal.overflow_cast-k
-overflow_cast-k g c = omega (arith, few_tiles c.args.window.now c.requires.accepted, c.requires.within)
 
 pub tile-rows-requires-clause-room : goal.tile-rows-requires-clause-room
 tile-rows-requires-clause-room g c =
@@ -21,7 +17,7 @@ tile-rows-requires-clause-room g c =
 
 pub loop-k-init : goal.loop-k-init
 loop-k-init g c = record {
-  drawn = none_yet (λ k. tile_rows (g.Self.Painter.picture c.args.self.now) (grid_of c.args.window.now k)) 0 c.args.tiles.now;
+  drawn = none_yet (λ k. tile_rows (g.Self.Painter.picture c.args.self.now) (grid_of c.args.window.now k)) c.args.first c.args.tiles.now;
   kept = refl;
   asked = refl;
 }
@@ -32,20 +28,20 @@ loop-k-preserved g c =
     let k = c.loop-k.k in
     let now = c.loop-k.tiles in
     let inv = c.loop-k.invariant in
-    let all = all_drawn_from draw 0 c.args.tiles.now in
+    let first = c.args.first in
+    let all = all_drawn_from draw first c.args.tiles.now in
     let total = g.Self.Painter.count c.args.self.now + dirty c.args.tiles.now in
     let within : k < length now = omega arith in
-    let at : k ≡ 0 + k = omega arith in
     elim c.if-is_none.branch [
       | then-is_none w ↦
           (let read = read_dirty (get_or now k None) c.is_none.result c.is_none.ensures w.if-is_none.true in
           let told = w.tile-rows.ensures in
-          let rows : w.tile-rows.result ≡ draw (0 + k) =
+          let rows : w.tile-rows.result ≡ draw (first + k) =
           told.rows ∙ ap (λ picture. tile_rows picture w.grid.result) inv.kept
-          ∙ ap (tile_rows (g.Self.Painter.picture c.args.self.now)) w.grid.ensures.value ∙ ap draw at in
+          ∙ ap (tile_rows (g.Self.Painter.picture c.args.self.now)) w.grid.ensures.value in
           record {
-            drawn = subst (λ (tiles : List Tile). all ≡ drawn_on draw 0 (k + 1) tiles) (sym w.tiles-is)
-                (inv.drawn ∙ next_dirty draw 0 k now w.tile-rows.result within read rows);
+            drawn = subst (λ (tiles : List Tile). all ≡ drawn_on draw first (k + 1) tiles) (sym w.tiles-is)
+                (inv.drawn ∙ next_dirty draw first k now w.tile-rows.result within read rows);
             kept = ap g.Self.Painter.picture w.self-is ∙ told.kept ∙ inv.kept;
             asked = ap (λ tiles. g.Self.Painter.count c.if-is_none.self + dirty (drop (k + 1) tiles)) w.tiles-is
                 ∙ omega (arith, ap g.Self.Painter.count w.self-is, told.asked, dirty_past_dirty k now w.tile-rows.result within read, inv.asked);
@@ -54,8 +50,8 @@ loop-k-preserved g c =
           (let found = read_clean (get_or now k None) c.is_none.result c.is_none.ensures w.if-is_none.false in
           let read = get_or_default now k (Some found.0) None within ∙ found.1 in
           record {
-            drawn = subst (λ (tiles : List Tile). all ≡ drawn_on draw 0 (k + 1) tiles) (sym w.tiles-is)
-                (inv.drawn ∙ next_clean draw 0 k now found.0 within read);
+            drawn = subst (λ (tiles : List Tile). all ≡ drawn_on draw first (k + 1) tiles) (sym w.tiles-is)
+                (inv.drawn ∙ next_clean draw first k now found.0 within read);
             kept = ap g.Self.Painter.picture w.self-is ∙ inv.kept;
             asked = ap (λ tiles. g.Self.Painter.count c.if-is_none.self + dirty (drop (k + 1) tiles)) w.tiles-is
                 ∙ omega (arith, ap g.Self.Painter.count w.self-is, dirty_past_clean k now found.0 within read, inv.asked);
@@ -65,7 +61,7 @@ loop-k-preserved g c =
 pub returns-clause-tiles : goal.returns-clause-tiles
 returns-clause-tiles g c =
     let draw : ℕ → List ℕ = λ k. tile_rows (g.Self.Painter.picture c.args.self.now) (grid_of c.args.window.now k) in
-    sym (c.loop-k.invariant.drawn ∙ all_done draw 0 c.loop-k.k c.loop-k.tiles (omega arith))
+    sym (c.loop-k.invariant.drawn ∙ all_done draw c.args.first c.loop-k.k c.loop-k.tiles (omega arith))
 
 pub returns-clause-asked : goal.returns-clause-asked
 returns-clause-asked g c =

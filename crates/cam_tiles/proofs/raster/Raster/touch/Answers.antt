@@ -1,27 +1,18 @@
-use Rattle.std.proofs.Common.{◌≡◌, ◌%◌, ◌/◌, ◌&&◌, ℕ, Bool, cond, count_by, get_or, length, sym, ap, ◌∙◌, arith}
+use Rattle.std.proofs.Common.{◌≡◌, ◌%◌, ◌/◌, ◌&&◌, ℕ, Bool, cond, count_by, get_or, length, take, sym, ap, ◌∙◌, arith}
 use Rattle.std.specs.Prelude.{None, is_none}
 use Rattle.std.proofs.lemmas.List.{with_items_is}
 use Rattle.std.proofs.lemmas.List.Sums.{count_by-le-length}
 use Rattle.cam_tiles.specs.Machinery.Kept.{table_of}
 use Rattle.cam_tiles.specs.Machinery.Spans.{is_in_span}
 use Rattle.cam_tiles.specs.Touched.{touched}
-use Rattle.cam_tiles.proofs.TileCounts.{few_tiles, some_across}
-use Rattle.cam_tiles.proofs.WipedTiles.{touched_empty, touched_spans}
+use Rattle.cam_tiles.proofs.TileCounts.{few_tiles}
+use Rattle.cam_tiles.proofs.DrawnTiles.{dirty}
+use Rattle.cam_tiles.proofs.WipedTiles.{still_clean, touched_empty, touched_spans}
 use Rattle.cam_tiles.proofs.raster.Raster.touch.Goals as goal
 
 pub returns-in_default : goal.returns-in_default
 returns-in_default c =
     sym (touched_empty c.args.self.now) ∙ ap (λ box. touched box c.args.self.now) (sym c.in_default.is)
-
-pub wipe-requires-clause-wide : goal.wipe-requires-clause-wide
-wipe-requires-clause-wide c =
-    let kept = c.self.invariant in omega (arith, kept.wide, some_across c.self.inside.window kept.table.accepted)
-
-pub wipe-requires-clause-few : goal.wipe-requires-clause-few
-wipe-requires-clause-few c =
-    let kept = c.self.invariant in
-    let few = few_tiles c.self.inside.window kept.table.accepted in
-    omega (arith, ap length c.deref_mut.ensures.value, kept.table.full, few)
 
 pub overflow_add-self : goal.overflow_add-self
 overflow_add-self c =
@@ -38,6 +29,29 @@ overflow_add-self c =
       kept.table.full,
       few_tiles c.self.inside.window kept.table.accepted,
     )
+
+pub invariant_of-self : goal.invariant_of-self
+invariant_of-self c =
+    let kept = c.self.invariant in
+    let first = c.first_in-self-inside in
+    let was = c.deref_mut.result.now in
+    let full : length c.wipe.new.tiles ≡ length was = omega arith in
+    let now = with_items_is c.self.inside.tiles c.wipe.new.tiles (full ∙ c.deref_mut.ensures.len) in
+    let size = ap length now ∙ full ∙ ap length c.deref_mut.ensures.value in
+    record {
+      table = record {
+        accepted = kept.table.accepted;
+        full = size ∙ kept.table.full;
+      };
+      wide = kept.wide;
+      counted = omega (arith, kept.counted, c.wipe.ensures.count, ap dirty now, ap dirty c.deref_mut.ensures.value);
+      few = omega (arith, first.ensures.few, kept.few, size);
+      clean = ap (λ tiles. dirty (take first.result tiles)) now
+          ∙ still_clean was c.wipe.new.tiles c.self.inside.clean first.result full first.ensures.few
+          (ap (λ tiles. dirty (take c.self.inside.clean tiles)) c.deref_mut.ensures.value ∙ kept.clean)
+          (λ k before. c.wipe.ensures.each k
+          ∙ ap (λ b. cond b None (get_or was k None)) (first.ensures.none k before));
+    }
 
 pub returns : goal.returns
 returns c =

@@ -12,8 +12,8 @@ returns-clause-tiles c =
     let tiles = c.args.tiles.now in
     elim c.if-dirty-gt0.branch [
       | then-dirty-gt0 w ↦ w.tiles-is ∙ w.draw.ensures
-          ∙ ap (λ (p : Painted). all_drawn_from (λ k. tile_rows (picture_of p) (grid k)) 0 tiles) c.self.view_is
+          ∙ ap (λ (p : Painted). all_drawn_from (λ k. tile_rows (picture_of p) (grid k)) c.args.first tiles) c.self.view_is
       | else-dirty-gt0 w ↦ w.tiles-is
-          ∙ sym (all_clean (λ k. tile_rows (picture_of c.args.self.now) (grid k)) 0 tiles
+          ∙ sym (all_clean (λ k. tile_rows (picture_of c.args.self.now) (grid k)) c.args.first tiles
           (omega (arith, c.dirty_in-dirty.ensures, w.if-dirty-gt0.false)))
     ]

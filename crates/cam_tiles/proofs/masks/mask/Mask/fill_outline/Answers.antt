@@ -7,7 +7,7 @@ use Rattle.cam_objects.specs.Image.{relative}
 use Rattle.cam_objects.specs.Leaves.{origin}
 use Rattle.cam_tiles.proofs.Joined.{merges_shown}
 use Rattle.cam_tiles.proofs.TurnedContours.{outline_turned}
-use Rattle.cam_tiles.proofs.TurnedMasks.{shows_turned}
+use Rattle.cam_tiles.proofs.TurnedMasks.{TurnsSo, shows_turned, turned_inside, turning}
 use Rattle.cam_tiles.proofs.masks.mask.Mask.fill_outline.Goals as goal
 
 pub merge-requires : goal.merge-requires
@@ -21,6 +21,8 @@ returns c =
     merges_shown c.args.how P inside c.args.self.now c.merge.new.self
     (c.turn_outline.ensures.grid ∙ c.blank-inside.ensures.grid ∙ c.grid.ensures.value)
     (shows_turned P c.blank-inside.result inside c.blank-inside.ensures.marks
-    (outline_turned c.args.at c.args.turn _ c.args.points.now _ c.point-start.result c.in-len1-up.len_at_least
-    c.point-start.ensures c.turn_outline.ensures))
+    (turned_inside c.args.at (placed_contour c.args.turn origin.offset (outline_of c.args.points.now))
+    c.blank-inside.result inside
+    (outline_turned (TurnsSo c.args.at) (turning c.args.at) c.args.turn _ c.args.points.now _ c.point-start.result
+    c.in-len1-up.len_at_least c.point-start.ensures c.turn_outline.ensures)))
     c.merge.ensures

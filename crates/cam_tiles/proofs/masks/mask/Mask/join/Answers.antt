@@ -5,9 +5,9 @@ use Rattle.cam_tiles.proofs.TurnedMasks.{marks_joined}
 use Rattle.cam_tiles.proofs.masks.mask.Mask.join.Goals as goal
 
 pub merge-requires : goal.merge-requires
-merge-requires c = c.of-marks.ensures.grid ∙ c.grid.ensures.value
+merge-requires c = c.of_shape-marks.ensures.grid ∙ c.grid.ensures.value
 
 pub returns : goal.returns
 returns c =
-    marks_joined (λ s. IsInShape c.args.shape.now (relative c.args.at s)) c.grid.result c.of-marks.result
-    c.args.self.now c.merge.new.self c.grid.ensures.value c.of-marks.ensures c.args.how c.merge.ensures
+    marks_joined (λ s. IsInShape c.args.shape.now (relative c.args.at s)) c.grid.result c.of_shape-marks.result
+    c.args.self.now c.merge.new.self c.grid.ensures.value c.of_shape-marks.ensures c.args.how c.merge.ensures

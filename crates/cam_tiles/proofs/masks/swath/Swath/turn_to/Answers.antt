@@ -1,43 +1,68 @@
-use Rattle.std.proofs.Common.{◌*ℤ◌, pos, rules, is_none, length, FitsSigned, w64, ap, arith}
-use Rattle.std.proofs.lemmas.List.{length-map}
-use Rattle.std.proofs.lemmas.List.Sums.{count_by-le-length}
-use Rattle.std.proofs.lemmas.Int.{ints, to_z-of_z}
+use Rattle.std.proofs.Common.{◌≡◌, ◌-◌, ◌*◌, ◌%◌, length, min, refl, sym, ap, subst, ◌∙◌, arith}
 use Rattle.cam_tiles.specs.declared.grid.Grid.{Grid}
-use Rattle.cam_tiles.specs.Machinery.Swaths.{pitch_of}
-use Rattle.cam_tiles.specs.declared.masks.mask.Mask.{Mask}
-use Rattle.cam_tiles.specs.Tiles.{grid_of}
-use Rattle.cam_tiles.proofs.TilesInOrder.{length-dirty_grids}
+use Rattle.cam_tiles.specs.Machinery.Runs.{IsWideGrid}
+use Rattle.cam_tiles.specs.Machinery.Swaths.{columns_of}
+use Rattle.cam_tiles.specs.Tiles.{across}
+use Rattle.cam_tiles.proofs.GridLemmas.{left_within}
+use Rattle.cam_tiles.proofs.SwathTiles.{clear_past_open, dirty_open, row_is_wide, tiles_taken_up}
+use Rattle.cam_tiles.proofs.TileCounts.{few_across}
 use Rattle.cam_tiles.proofs.WindowLemmas.{accepted}
-use Rattle.cam_tiles.proofs.SolidMasks.{all_zero, none_solid}
+use Rattle.cam_tiles.proofs.masks.swath.Swath.turn_to.Goals.{After-min-columns}
 use Rattle.cam_tiles.proofs.masks.swath.Swath.turn_to.Goals as goal
 
-pub overflow_mul-self : goal.overflow_mul-self
-overflow_mul-self c =
-    let limits = accepted c.args.window.now c.requires.accepted in
-    let step = ap (λ (g : Grid). g.step) c.grid-corner.ensures.value in
-    omega (arith, ints, step, limits.pitch)
+pub overflow_mul-left : goal.overflow_mul-left
+overflow_mul-left c =
+    let w = c.args.window.now in
+    let limits = accepted w c.requires.accepted in
+    let from = left_within w c.args.first limits.width.0 in
+    omega (arith, ap (λ n. 64 * (c.args.first % n)) c.across.ensures, from, limits.width.1)
+
+pub overflow_mul-tiles : goal.overflow_mul-tiles
+overflow_mul-tiles c =
+    let few = few_across c.args.window.now c.requires.accepted in
+    omega (arith, few, c.requires.row.fits)
+
+pub turn_to-requires-clause-few : goal.turn_to-requires-clause-few
+turn_to-requires-clause-few c =
+    let few = few_across c.args.window.now c.requires.accepted in
+    omega (arith, few, c.requires.row.fits)
+
+-- the columns
+columns_are : (c : After-min-columns) → c.min-columns.result ≡ columns_of c.args.window.now c.args.first (length c.args.tiles.now)
+columns_are c =
+    c.min-columns.ensures
+    ∙ ap (λ n. min (c.args.window.now.width - 64 * (c.args.first % n)) (64 * length c.args.tiles.now)) c.across.ensures
+
+pub wide_bounds-self-inside-requires : goal.wide_bounds-self-inside-requires
+wide_bounds-self-inside-requires c =
+    let w = c.args.window.now in
+    let first = c.args.first in
+    subst (λ (g : Grid). IsWideGrid g c.min-columns.result) (sym c.grid-grid.ensures.value)
+    (row_is_wide w first c.min-columns.result c.args.tiles.now c.requires.accepted c.requires.row
+    (columns_are (goal.at.wide_bounds-self-inside-requires c).After-min-columns))
 
 pub invariant_of-self-2 : goal.invariant_of-self-2
 invariant_of-self-2 c =
-    let limits = accepted c.args.window.now c.requires.accepted in
-    let step = ap (λ (g : Grid). g.step) c.grid-corner.ensures.value in
-    let short : FitsSigned w64 c.grid-corner.result.step = search rules in
-    let long : FitsSigned w64 (pos 64 *ℤ c.grid-corner.result.step) = omega (arith, ints, step, limits.pitch) in
-    let left : FitsSigned w64 c.grid-corner.result.x = search rules in
+    let w = c.args.window.now in
+    let tiles = c.args.tiles.now in
+    let columns = c.min-columns.result in
+    let are = columns_are (goal.at.invariant_of-self-2 c).After-min-columns in
+    let limits = accepted w c.requires.accepted in
+    let now = c.in_ok-turn_to.ensures.open in
+    let wide = subst (λ (g : Grid). IsWideGrid g columns) (sym c.grid-grid.ensures.value)
+    (row_is_wide w c.args.first columns tiles c.requires.accepted c.requires.row are) in
     record {
-      laid = simp to_z-of_z (c.put_blanks-self-inside.ensures.laid (pitch_of c.grid-corner.result)
-          (ap pitch_of c.grid-corner.ensures.value));
-      stand = c.put_blanks-self-inside.ensures.stand c.grid-corner.result c.grid-corner.ensures.value;
-      room = omega (arith, c.put_blanks-self-inside.ensures.each, c.in_ok-resize-2.ensures.len);
-      known = omega (
-        arith,
-        ap length c.put_blanks-self-inside.ensures.grids,
-        length-map {A = Mask} c.put_blanks-self-inside.new.masks.items (λ m. m.grid),
-        length-dirty_grids (grid_of c.args.window.now) c.args.first c.args.tiles.now,
-        count_by-le-length is_none c.args.tiles.now,
-        c.in_ok-resize.ensures.len,
-      );
-      solid = none_solid c.resize.new.self.items c.put_blanks-self-inside.new.masks.items
-          (all_zero c.clear-4.new.self.items c.resize.new.self.items _ _ c.clear-4.ensures.items
-          c.in_ok-resize.ensures.items);
+      grid = c.grid-grid.ensures.grid;
+      wide = λ some. wide;
+      few = wide.count.1;
+      tiles = now.tiles ∙ tiles_taken_up w c.args.first columns tiles c.requires.accepted c.requires.row are;
+      marks = omega (arith, now.tiles, c.in_ok-resize.ensures.len);
+      spare = omega (arith, now.tiles, c.in_ok-resize-2.ensures.len);
+      held = c.wide_bounds-self-inside.ensures;
+      outside = clear_past_open tiles columns c.grid-grid.result.rows c.turn_to.new.self now c.grid-grid.result refl;
     }
+
+pub returns-clause-open : goal.returns-clause-open
+returns-clause-open c = λ column row inside.
+    dirty_open c.args.tiles.now c.min-columns.result c.grid-grid.result.rows c.turn_to.new.self c.in_ok-turn_to.ensures.open
+    row column inside.1 inside.0 c.grid-grid.ensures.grid.rows.1 (omega (arith, c.min-columns.ensures))

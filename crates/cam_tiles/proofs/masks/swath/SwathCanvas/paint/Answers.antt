@@ -1,90 +1,63 @@
-use Rattle.std.proofs.Common.{ℕ, List, [], ◌∷◌, ◌<◌, ◌≤◌, ◌⊎◌, ◌≤ℤ◌, length, ap, sym, subst, ◌∙◌, rules, arith, FitsSigned, w64}
-use Rattle.std.proofs.lemmas.Int.{to_z-of_z}
-use Rattle.std.proofs.lemmas.List.{with_items_is}
+use Rattle.std.proofs.Common.{◌≡◌, ℕ, ◌/◌, ◌<◌, ◌≤◌, [], ◌∷◌, IsSome, sym, subst, arith}
 use Rattle.cam_units.specs.Boxes.{Holds}
 use Rattle.cam_units.specs.declared.bounds.Bounds.{Bounds}
-use Rattle.cam_units.specs.declared.point.Spot.{Spot}
+use Rattle.cam_apertures.specs.declared.aperture.Aperture.{Aperture}
+use Rattle.cam_apertures.specs.declared.aperture.Aperture.TheVariants.{Prims}
+use Rattle.cam_objects.specs.declared.canvas.Figure.{Figure}
 use Rattle.cam_objects.specs.Canvases.{leaf_of, shape_of}
-use Rattle.cam_objects.proofs.Canvases.{paints_outside}
-use Rattle.cam_tiles.specs.Machinery.Masks.{IsIn, Marking, PaintsMask, ink_of}
-use Rattle.cam_tiles.specs.Machinery.Swaths.{IsInSwath, PaintsSwath, ink_in, mask_at, place_in}
-use Rattle.cam_tiles.specs.Tiles.{centre_in}
-use Rattle.cam_tiles.proofs.PaintedSwaths.{part_kept, part_painted, passed_over, put_back}
-use Rattle.cam_tiles.proofs.SolidMasks.{solid_back}
-use Rattle.cam_tiles.proofs.masks.swath.SwathCanvas.paint.Goals.{After-end_reached-end}
+use Rattle.cam_objects.specs.Image.{Covers}
+use Rattle.cam_objects.specs.Leaves.{Stamp, leaf}
+use Rattle.cam_objects.proofs.Canvases.{paints_one}
+use Rattle.cam_tiles.specs.Machinery.Swaths.{IsInSwath, PaintsSwath, Swathed, ink_in, place_in}
+use Rattle.cam_tiles.proofs.SwathInks.{some_ink}
+use Rattle.cam_tiles.proofs.masks.swath.SwathCanvas.paint.Goals.{After-div_ceil, then-columns-via-then-columns, then-columns-via-else-columns+then-is_decided}
 use Rattle.cam_tiles.proofs.masks.swath.SwathCanvas.paint.Goals as goal
 
 pub returns-in_default : goal.returns-in_default
 returns-in_default c =
-    paints_outside IsInSwath place_in ink_in c.args.self.now (leaf_of c.args.print) c.args.print.bounds c.requires.held
-    (λ column row there held.
-    subst (λ (b : Bounds). Holds b (place_in c.args.self.now column row)) c.in_default.is held)
+    paints_one IsInSwath place_in ink_in c.args.self.now (leaf_of c.args.print) c.args.print.bounds c.requires.held
+    (λ column row there holds.
+    absurd (subst (λ (b : Bounds). Holds b (place_in c.args.self.now column row)) c.in_default.is holds))
 
-pub invariant_of-self : goal.invariant_of-self
-invariant_of-self c =
-    let s = c.self.inside in
-    let leaves = leaf_of c.args.print ∷ [] in
-    let new = c.paint_each.new.masks in
-    let after = with_items_is s.masks new (c.paint_each.ensures.size ∙ c.deref_mut-2.ensures.len) in
-    let rows = with_items_is s.solid c.follow.new.solid (c.follow.auto.solid ∙ c.deref_mut.ensures.len) in
-    let part =
-    put_back c.first_reached-first.result c.end_reached-end.result leaves s.masks.items c.deref_mut-2.result.now new _
-    c.deref_mut-2.ensures.value after c.paint_each.ensures in
-    let kept =
-    part_kept c.first_reached-first.result c.end_reached-end.result leaves s.masks.items _ part s.pitch s.bounds s.corner
-    s.columns s.tiles.items s.before.items
-    (subst (λ (ms : List Marking). c.end_reached-end.result ≤ length ms)
-    (sym (c.self.view_is ∙ c.is_hidden.ensures.kept)) c.end_reached-end.ensures.within)
-    c.self.invariant.laid c.self.invariant.stand in
-    record {
-      laid = kept.0;
-      stand = kept.1;
-      room = c.self.invariant.room;
-      known = omega (arith, c.self.invariant.known, part.size, ap length rows, c.follow.auto.solid, c.deref_mut.ensures.len);
-      solid = solid_back s.solid.items c.deref_mut.result.now c.follow.new.solid _ s.masks.items _
-          c.deref_mut.ensures.value rows
-          (λ known. c.follow.ensures (shape_of c.args.print.figure) s.masks.items _ known part)
-          c.self.invariant.solid;
-    }
+pub returns-then-columns : goal.returns-then-columns
+returns-then-columns c =
+    let now = c.args.self.now in
+    paints_one IsInSwath place_in ink_in now (leaf_of c.args.print) c.args.print.bounds c.requires.held
+    (λ column row there holds.
+    let held = subst (λ (b : Bounds). Holds b (place_in now column row)) c.in-Closed.is holds in
+    let here = c.reached.ensures.each column row there held in
+    elim c.then-columns.branch [
+      | then-columns-via-then-columns w ↦ absurd (omega (arith, w.if-columns.true, here.0))
+      | then-columns-via-else-columns+then-is_decided w ↦ subst (λ (v : Swathed). IsSome (ink_in v column row)) c.self.view_is
+          (some_ink _ _ (w.is_decided.ensures w.if-is_decided.true row column here.1.0 here.1.1 here.0.0 here.0.1))
+    ])
 
--- the masks that its box does not reach
-missed : (c : After-end_reached-end) → (k : ℕ) → (k < c.first_reached-first.result) ⊎ (c.end_reached-end.result ≤ k)
-    → PaintsMask (mask_at c.args.self.now k) (leaf_of c.args.print ∷ []) (mask_at c.args.self.now k)
-missed c k apart =
-    let old = c.args.self.now in
-    let sides : (t : Spot) → Holds c.args.print.bounds t → (c.in-Closed.low.x ≤ℤ t.x) × (t.x ≤ℤ c.in-Closed.high.x) =
-    λ t held. let between = subst (λ (b : Bounds). Holds b t) c.in-Closed.is held in (between.left, between.right) in
-    let least : FitsSigned w64 c.in-Closed.low.x = search rules in
-    let greatest : FitsSigned w64 c.in-Closed.high.x = search rules in
-    let before = simp to_z-of_z at c.first_reached-first.ensures in
-    let behind = simp to_z-of_z at c.end_reached-end.ensures.apart in
-    paints_outside (λ (m : Marking). IsIn m.grid) (λ (m : Marking). centre_in m.grid) ink_of (mask_at old k)
-    (leaf_of c.args.print) c.args.print.bounds c.requires.held
-    (passed_over c.first_reached-first.result c.end_reached-end.result old c.in-Closed.low.x c.in-Closed.high.x before
-    behind (λ (t : Spot). Holds c.args.print.bounds t) sides k apart)
+-- all that a leaf covers lies in the tiles of the columns that its box reaches
+within : (c : After-div_ceil) (column row : ℕ) → IsInSwath c.args.self.now column row
+    → Covers (shape_of c.args.print.figure) (place_in c.args.self.now column row)
+    → (c.reached.result.0.first / 64 ≤ column / 64) × (column / 64 < c.div_ceil.result)
+within c column row there on =
+    let at = place_in c.args.self.now column row in
+    let held = subst (λ (b : Bounds). Holds b at) c.in-Closed.is (c.requires.held at on) in
+    let here = c.reached.ensures.each column row there held in
+    (omega (arith, here.0), omega (arith, here.0, c.div_ceil.ensures))
 
-pub returns-2 : goal.returns-2
-returns-2 c =
-    let s = c.self.inside in
-    let old = c.args.self.now in
-    let first = c.first_reached-first.result in
-    let end = c.end_reached-end.result in
-    let leaves = leaf_of c.args.print ∷ [] in
-    let new = c.paint_each.new.masks in
-    let after = with_items_is s.masks new (c.paint_each.ensures.size ∙ c.deref_mut-2.ensures.len) in
-    let part =
-    put_back first end leaves old c.deref_mut-2.result.now new _ (c.deref_mut-2.ensures.value ∙ c.self.view_is ∙ c.is_hidden.ensures.kept) after
-    c.paint_each.ensures in
-    part_painted first end leaves old _ part
-    (missed (goal.at.returns-2 c).After-end_reached-end)
+pub paint_marked-requires-clause-within : goal.paint_marked-requires-clause-within
+paint_marked-requires-clause-within c column row there on =
+    let at = place_in c.args.self.now column row in
+    let m = c.in-Stamp-Prims-default-default in
+    let is : m.aperture.now ≡ Prims m.prims = simp m.is at m.aperture-is in
+    within (goal.at.paint_marked-requires-clause-within c).After-div_ceil column row there
+    (subst (λ (f : Figure). Covers (shape_of f) at) (sym m.is)
+    (subst (λ (a : Aperture). Covers (Stamp a m.turn m.at) at) (sym is) on))
 
-pub returns-then-is_hidden : goal.returns-then-is_hidden
-returns-then-is_hidden c =
-    let old = c.args.self.now in
-    let first = c.first_reached-first.result in
-    let end = c.end_reached-end.result in
-    let leaves = leaf_of c.args.print ∷ [] in
-    subst (PaintsSwath old leaves) (sym c.is_hidden.ensures.kept)
-    (part_painted first end leaves old old
-    (c.is_hidden.ensures.hidden c.if-is_hidden.true (shape_of c.args.print.figure))
-    (missed (goal.at.returns-then-is_hidden c).After-end_reached-end))
+pub paint_marked-requires-in-Filled-clause-within : goal.paint_marked-requires-in-Filled-clause-within
+paint_marked-requires-in-Filled-clause-within c column row there on =
+    within (goal.at.paint_marked-requires-in-Filled-clause-within c).After-div_ceil column row there
+    (subst (λ (f : Figure). Covers (shape_of f) (place_in c.args.self.now column row)) (sym c.in-Filled.is) on)
+
+pub returns-in-Filled : goal.returns-in-Filled
+returns-in-Filled c =
+    subst
+    (λ (f : Figure). PaintsSwath c.args.self.now (leaf (shape_of f) c.args.print.dark ∷ []) c.paint_marked-in-Filled.new.self)
+    (sym c.in-Filled.is) c.paint_marked-in-Filled.ensures

@@ -1,0 +1,140 @@
+-- The plain tile: what it gains of a leaf, and the rows that are dark once all leaves are painted.
+use Rattle.std.proofs.Common.{◌≡◌, ℕ, Bool, true, false, not, ◌&&◌, ◌||◌, cond, IsTrue, List, [], ◌∷◌}
+use Rattle.std.proofs.Common.{Option, None, Some, refl, sym, ap, subst, ◌∙◌}
+use Rattle.std.specs.Option.{option_or, unwrap_or}
+use Rattle.std.proofs.lemmas.Bool.{false≢true}
+use Rattle.cam_units.specs.declared.point.Spot.{Spot}
+use Rattle.cam_apertures.proofs.Painting.{through}
+use Rattle.cam_objects.specs.Canvases.{Paints}
+use Rattle.cam_objects.specs.Image.{Covers}
+use Rattle.cam_objects.specs.Leaves.{Leaf, Shape, leaf}
+use Rattle.cam_objects.specs.Tests.{covers, is_black, last_ink}
+use Rattle.cam_objects.proofs.Covering.{cover_law}
+use Rattle.cam_objects.proofs.LastInks.{last_law}
+use Rattle.cam_tiles.specs.declared.grid.Grid.{Grid}
+use Rattle.cam_tiles.specs.declared.masks.join.Join.TheVariants.{Add, Clear}
+use Rattle.cam_tiles.specs.Machinery.Masks.{AreMarksOf, IsBlank, IsIn, IsMarked, IsMask, Marking, Merges, ink_of}
+use Rattle.cam_tiles.specs.Tiles.{IsGrid, centre_in, tile_rows}
+use Rattle.cam_tiles.proofs.MaskWords.{rows_of_marks}
+use Rattle.cam_tiles.proofs.PaintedMasks.{added_ink, clear_if_unmarked, cleared_ink, dark_if_marked, dark_is_marked, marked_if_dark, same_test}
+use Rattle.cam_tiles.proofs.PaintedTiles.{same_grid}
+
+abbrev pub Tile : Type 0
+Tile = Marking × Marking
+
+abbrev pub tile_ink : Tile → ℕ → ℕ → Option Bool
+tile_ink p column row = cond (ink_of p.0 column row) (Some (ink_of p.1 column row)) None
+
+abbrev pub PaintsTile : Tile → List Leaf → Tile → Type 0
+PaintsTile = Paints {V = Tile} (λ p. IsIn p.0.grid) (λ p. centre_in p.0.grid) tile_ink
+
+-- what is dark is decided
+abbrev pub IsKept : Tile → Type 0
+IsKept p = (column row : ℕ) → IsIn p.0.grid column row → IsMarked p.1 column row → IsMarked p.0 column row
+
+kept : (p : Tile) → IsKept p → (column row : ℕ) → IsIn p.0.grid column row
+    → IsTrue (ink_of p.1 column row) → IsTrue (ink_of p.0 column row)
+kept p dark column row there h = dark_if_marked p.0 column row (dark column row there (marked_if_dark p.1 column row h))
+
+-- ---- a leaf
+
+-- on a pixel that is decided or not, and dark or not: what a leaf covers is new where nothing was decided
+dark_leaf : (d k on : Bool) → (IsTrue k → IsTrue d)
+    → cond (d || (on && not d)) (Some (k || (on && not d))) None ≡ option_or (cond d (Some k) None) (cond on (Some true) None)
+dark_leaf true true on within = refl
+dark_leaf true false true within = refl
+dark_leaf true false false within = refl
+dark_leaf false true on within = absurd (false≢true (within refl))
+dark_leaf false false true within = refl
+dark_leaf false false false within = refl
+
+clear_leaf : (d k on : Bool) → (IsTrue k → IsTrue d)
+    → cond (d || (on && not d)) (Some k) None ≡ option_or (cond d (Some k) None) (cond on (Some false) None)
+clear_leaf true k on within = refl
+clear_leaf false true on within = absurd (false≢true (within refl))
+clear_leaf false false true within = refl
+clear_leaf false false false within = refl
+
+-- the marks of a leaf, and those of them that are new
+module _ (p : Tile) (shape : Shape) (marks new decided : Marking) (dark : IsKept p)
+    (covered : AreMarksOf p.0.grid (Covers shape) marks) (rest : Merges Clear p.0 marks new)
+    (more : Merges Add new p.0 decided) where
+  new_ink : (column row : ℕ) → IsIn p.0.grid column row
+      → ink_of new column row ≡ (covers shape (centre_in p.0.grid column row) && not (ink_of p.0 column row))
+  new_ink column row there =
+      let s = centre_in p.0.grid column row in
+      let law = cover_law shape s in
+      cleared_ink p.0 marks new column row (subst (λ (g : Grid). IsIn g column row) (sym covered.grid) there) rest
+      ∙ ap (λ on. on && not (ink_of p.0 column row))
+      (same_test (ink_of marks column row) (covers shape s)
+      (through (dark_is_marked marks column row) (through (covered.marks column row there) (law.1, law.0))))
+
+  decided_ink : (column row : ℕ) → IsIn p.0.grid column row → ink_of decided column row
+      ≡ (ink_of p.0 column row || (covers shape (centre_in p.0.grid column row) && not (ink_of p.0 column row)))
+  decided_ink column row there =
+      added_ink new p.0 decided column row there more ∙ ap (λ on. ink_of p.0 column row || on) (new_ink column row there)
+
+  module _ (is_dark : Bool) (after : Marking)
+      (inks : (column row : ℕ) → IsIn p.0.grid column row
+      → tile_ink (decided, after) column row ≡ option_or (tile_ink p column row)
+      (cond (covers shape (centre_in p.0.grid column row)) (Some is_dark) None)) where
+    painted : PaintsTile p (leaf shape is_dark ∷ []) (decided, after)
+    painted = record {
+      pixels = λ column row. (
+        (λ there. subst (λ (g : Grid). IsIn g column row) more.grid there),
+        (λ there. subst (λ (g : Grid). IsIn g column row) (sym more.grid) there),
+      );
+      places = ap (λ (g : Grid). centre_in g) more.grid;
+      inks = inks;
+    }
+
+  pub dark_painted : (after : Marking) → p.1.grid ≡ p.0.grid → Merges Add new p.1 after
+      → PaintsTile p (leaf shape true ∷ []) (decided, after)
+  dark_painted after same gains =
+      painted true after (λ column row there.
+      let on = covers shape (centre_in p.0.grid column row) in
+      let d = ink_of p.0 column row in
+      let k = ink_of p.1 column row in
+      let there_too = subst (λ (g : Grid). IsIn g column row) (sym same) there in
+      ap (λ b. cond b (Some (ink_of after column row)) None) (decided_ink column row there)
+      ∙ ap (λ b. cond (d || (on && not d)) (Some b) None)
+      (added_ink new p.1 after column row there_too gains ∙ ap (λ b. k || b) (new_ink column row there))
+      ∙ dark_leaf d k on (kept p dark column row there))
+
+  pub clear_painted : PaintsTile p (leaf shape false ∷ []) (decided, p.1)
+  clear_painted =
+      painted false p.1 (λ column row there.
+      ap (λ b. cond b (Some (ink_of p.1 column row)) None) (decided_ink column row there)
+      ∙ clear_leaf (ink_of p.0 column row) (ink_of p.1 column row) (covers shape (centre_in p.0.grid column row))
+      (kept p dark column row there))
+
+-- ---- all leaves
+
+dark_told : (d k black : Bool) (ink : Option Bool) → (IsTrue k → IsTrue d) → cond d (Some k) None ≡ ink
+    → black ≡ unwrap_or ink false → k ≡ black
+dark_told true k black ink within is law = ap (λ o. unwrap_or o false) is ∙ sym law
+dark_told false true black ink within is law = absurd (false≢true (within refl))
+dark_told false false black ink within is law = ap (λ o. unwrap_or o false) is ∙ sym law
+
+module _ (leaves : List Leaf) (g : Grid) (p q : Tile) (grid : IsGrid g) (is : p.0.grid ≡ g) (none : IsBlank p.0)
+    (h : PaintsTile p leaves q) where
+  same_there : q.0.grid ≡ g
+  same_there =
+      let sound : IsGrid p.0.grid = subst IsGrid (sym is) grid in
+      same_grid p.0.grid q.0.grid (sound.columns.0, sound.rows.0) (λ row. h.pixels 0 row)
+      (ap (λ (place : ℕ → ℕ → Spot). place 0 0) h.places) (ap (λ (place : ℕ → ℕ → Spot). place 1 0) h.places)
+      (λ column. h.pixels column 0) ∙ is
+
+  -- the dark marks of a tile that was blank are the rows of the leaves' image
+  pub dark_rows : q.1.grid ≡ q.0.grid → IsKept q → IsMask q.1 → q.1.rows ≡ tile_rows (is_black leaves) g
+  dark_rows same dark mask =
+      rows_of_marks (is_black leaves) g q.1 mask (same ∙ same_there) (λ column row there.
+      let s = centre_in g column row in
+      let old = subst (λ (o : Grid). IsIn o column row) (sym is) there in
+      let inked = h.inks column row old
+      ∙ ap (λ b. option_or (cond b (Some (ink_of p.1 column row)) None) (last_ink leaves (centre_in p.0.grid column row)))
+      (clear_if_unmarked p.0 column row (none column row old))
+      ∙ ap (λ (o : Grid). last_ink leaves (centre_in o column row)) is in
+      let told = dark_told (ink_of q.0 column row) (ink_of q.1 column row) (is_black leaves s) (last_ink leaves s)
+      (kept q dark column row (subst (λ (o : Grid). IsIn o column row) (sym same_there) there)) inked (last_law leaves s) in
+      ((λ marked. sym told ∙ dark_if_marked q.1 column row marked), (λ black. marked_if_dark q.1 column row (told ∙ black))))

@@ -1,9 +1,0 @@
-use Rattle.std.proofs.Common.{arith}
-use Rattle.std.proofs.lemmas.Int.{clamps, ints}
-use Rattle.cam_tiles.proofs.EdgeSpans.{between_ends}
-use Rattle.cam_tiles.proofs.masks.filing.crossed_heights.Goals as goal
-
-pub returns : goal.returns
-returns c =
-    between_ends c.args.from c.args.to _ (omega (arith, ints, clamps, c.min.ensures.value))
-    (omega (arith, ints, clamps, c.max.ensures.value))

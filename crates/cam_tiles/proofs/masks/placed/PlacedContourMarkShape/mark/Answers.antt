@@ -1,0 +1,20 @@
+use Rattle.std.proofs.Common.{◌*◌, drop, refl, rules, arith}
+use Rattle.std.proofs.lemmas.List.{places}
+use Rattle.cam_shapes.specs.Contour.{IsInContour}
+use Rattle.cam_shapes.specs.Placing.{placed_contour}
+use Rattle.cam_tiles.proofs.Fields.{field_of_wide}
+use Rattle.cam_tiles.proofs.TurnedMarks.{marks_before}
+use Rattle.cam_tiles.proofs.masks.placed.PlacedContourMarkShape.mark.Goals as goal
+
+pub turn_contour-requires-clause-grid : goal.turn_contour-requires-clause-grid
+turn_contour-requires-clause-grid c = field_of_wide c.args.grid.now c.args.columns c.requires.grid
+
+pub returns : goal.returns
+returns c =
+    let placing = c.args.self.now.placing in
+    marks_before c.args.grid.now c.args.columns
+    (λ s. IsInContour s (placed_contour placing.turn placing.offset c.args.self.now.contour.now)) c.div_ceil.result
+    c.fill.new.self c.turn_contour.new.marks c.spread_marks.new.marks
+    (drop (64 * c.div_ceil.result) c.args.marks.now) c.requires.grid.grid.rows.1 (omega (arith, c.div_ceil.ensures))
+    (search (rules, places)) (λ k within. c.fill.ensures.clones k 0 (rw c.fill.ensures.len at within) refl)
+    c.turn_contour.auto.marks c.spread_marks.auto.marks c.turn_contour.ensures c.spread_marks.ensures

@@ -1,0 +1,44 @@
+use Rattle.std.proofs.Common.{subst, sym}
+use Rattle.cam_units.specs.Board.{IsOnBoard}
+use Rattle.cam_shapes.specs.Placing.{placed_contour}
+use Rattle.cam_shapes.proofs.Places.{offset_short}
+use Rattle.cam_tiles.proofs.TurnedContours.{contour_turned, none_turned, placed, segment_turned, sound_end}
+use Rattle.cam_tiles.proofs.TurnedMarks.{TurnsSo, marked_inside, still_wide, turning}
+use Rattle.cam_tiles.proofs.masks.placed.turn_contour.Goals as goal
+
+pub point-start-requires-clause-offset : goal.point-start-requires-clause-offset
+point-start-requires-clause-offset c =
+    offset_short c.args.placing.turn c.args.placing.offset c.args.contour.now.start c.requires.contour.start
+
+pub seg-seg-requires-clause-offset : goal.seg-seg-requires-clause-offset
+seg-seg-requires-clause-offset c =
+    offset_short c.args.placing.turn c.args.placing.offset c.args.contour.now.start c.requires.contour.start
+
+pub loop-seg-init : goal.loop-seg-init
+loop-seg-init c = record {
+  on_board = subst IsOnBoard (sym c.point-start.ensures) c.requires.contour.start.there;
+  wide = c.requires.wide;
+  turned = none_turned (TurnsSo c.args.grid.now c.args.columns) (turning c.args.grid.now c.args.columns)
+      c.point-start.result (placed c.args.placing.turn c.args.placing.offset c.as_slice-seg-items.result.now)
+      c.args.marks.now;
+}
+
+pub loop-seg-preserved : goal.loop-seg-preserved
+loop-seg-preserved c = record {
+  on_board = subst IsOnBoard (sym c.end_of-here.ensures) (sound_end c.seg-seg.result c.seg-seg.ensures.sound);
+  wide = still_wide c.args.columns c.loop-seg.marks c.turn_segment.new.marks c.turn_segment.auto.marks
+      c.loop-seg.invariant.wide;
+  turned = segment_turned (TurnsSo c.args.grid.now c.args.columns) (turning c.args.grid.now c.args.columns)
+      c.args.placing.turn c.args.placing.offset c.point-start.result c.loop-seg.here c.end_of-here.result
+      c.seg-seg.result c.as_slice-seg-items.result.now c.loop-seg.seg-index _ c.loop-seg-test.true
+      c.seg-seg.ensures.value c.end_of-here.ensures c.loop-seg.invariant.turned c.turn_segment.ensures;
+}
+
+pub returns : goal.returns
+returns c =
+    marked_inside c.args.grid.now c.args.columns
+    (placed_contour c.args.placing.turn c.args.placing.offset c.args.contour.now) c.args.marks.now c.turn_edge.new.marks
+    (contour_turned (TurnsSo c.args.grid.now c.args.columns) (turning c.args.grid.now c.args.columns)
+    c.args.placing.turn c.args.placing.offset c.args.contour.now c.point-start.result c.loop-seg.here
+    c.as_slice-seg-items.result.now c.loop-seg.seg-index c.loop-seg-test.false c.point-start.ensures
+    c.as_slice-seg-items.ensures c.loop-seg.invariant.turned c.turn_edge.ensures)

@@ -1,0 +1,18 @@
+use Rattle.std.proofs.Common.{List, drop}
+use Rattle.cam_units.specs.Board.{IsOnBoard}
+use Rattle.cam_shapes.specs.declared.segments.Seg.{Seg}
+use Rattle.cam_tiles.specs.Machinery.Turning.{AreWide}
+use Rattle.cam_tiles.proofs.TurnedContours.{TurnsBut, placed}
+use Rattle.cam_tiles.proofs.TurnedMarks.{TurnsSo}
+use Rattle.cam_tiles.proofs.masks.placed.turn_contour.Given as goal
+
+-- the marks are turned over by all segments but those that are left
+abbrev pub invariant-loop-seg : goal.invariant-loop-seg
+invariant-loop-seg l =
+    let segs : List Seg → List Seg = placed l.placing.turn l.placing.offset in
+    record {
+      on_board : IsOnBoard l.here;
+      wide : AreWide l.columns l.marks;
+      turned : TurnsBut (TurnsSo l.grid l.columns) l.start l.here (segs (drop l.seg-index l.seg-items))
+          (segs l.seg-items) l.fn.marks l.marks;
+    }

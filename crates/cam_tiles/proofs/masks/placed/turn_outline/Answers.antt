@@ -1,0 +1,13 @@
+use Rattle.cam_shapes.specs.Outline.{outline_of}
+use Rattle.cam_shapes.specs.Placing.{placed_contour}
+use Rattle.cam_objects.specs.Leaves.{origin}
+use Rattle.cam_tiles.proofs.TurnedContours.{outline_turned}
+use Rattle.cam_tiles.proofs.TurnedMarks.{TurnsSo, marked_inside, turning}
+use Rattle.cam_tiles.proofs.masks.placed.turn_outline.Goals as goal
+
+pub returns : goal.returns
+returns c =
+    marked_inside c.args.grid.now c.args.columns (placed_contour c.args.turn origin.offset (outline_of c.args.points.now))
+    c.args.marks.now c.turn_lines.new.marks
+    (outline_turned (TurnsSo c.args.grid.now c.args.columns) (turning c.args.grid.now c.args.columns) c.args.turn _
+    c.args.points.now _ c.point-start.result c.in-len1-up.len_at_least c.point-start.ensures c.turn_lines.ensures)

@@ -1,0 +1,67 @@
+-- What is known of the pixels of tiles side by side that are painted from the last leaf on: which are decided, and which of
+-- these are dark.
+use Rattle.std.specs.Prelude.{◌≡◌, ◌⊎◌, ℕ, ◌*◌, ◌/◌, ◌<◌, ◌≤◌, Bool, true, false, if◌then◌else◌, List, [], length, slice_index}
+use Rattle.std.specs.Prelude.{Option, None, Some, ◌&&◌, nat_lt, is_none, slice_index_or}
+use Rattle.std.specs.Option.{option_or}
+use Rattle.cam_rows.specs.Marks.{is_marked, is_set}
+use Rattle.cam_tiles.specs.declared.masks.inks.Inks.TheInside.{Inside}
+use Rattle.cam_tiles.specs.Tables.{Tile}
+
+-- so many tiles, with two words for each row of a tile, as marks have one
+pub record Inked : Type 0 where
+  pub tiles : ℕ
+  pub decided : List ℕ
+  pub dark : List ℕ
+
+-- the ink of a column in a row, once it is decided
+abbrev pub ink_at : Inked → ℕ → ℕ → Option Bool
+ink_at k row column = if is_marked k.decided row column then Some (is_marked k.dark row column) else None
+
+-- the ink of a bit of two words
+abbrev pub ink_of : ℕ → ℕ → ℕ → Option Bool
+ink_of decided dark i = if is_set decided i then Some (is_set dark i) else None
+
+-- the polarity of a leaf, where it covers a place
+abbrev pub given : Bool → Bool → Option Bool
+given is_covered dark = if is_covered then Some dark else None
+
+-- each column of a tile is decided
+abbrev pub IsDoneTile : Inked → ℕ → Type 0
+IsDoneTile k tile = (row column : ℕ) → row < 64 → column / 64 ≡ tile → is_marked k.decided row column ≡ true
+
+-- In tiles from one to another, what is not decided takes a polarity where a test of rows and columns holds; all else stays.
+pub record Takes (first end : ℕ) (holds : ℕ → ℕ → Bool) (dark : Bool) (old new : Inked) : Type 0 where
+  pub tiles : new.tiles ≡ old.tiles
+  pub each : (row column : ℕ) → row < 64 → column < 64 * old.tiles → 64 * first ≤ column → column < 64 * end
+      → ink_at new row column ≡ option_or (ink_at old row column) (given (holds row column) dark)
+  pub others : (row column : ℕ) → row < 64 → column < 64 * old.tiles → (column < 64 * first) ⊎ (64 * end ≤ column)
+      → ink_at new row column ≡ ink_at old row column
+
+-- what is undecided at first: the dirty ones of tiles, in so many columns and rows
+abbrev pub is_open : List Tile → ℕ → ℕ → ℕ → ℕ → Bool
+is_open tiles columns rows row column =
+    nat_lt row rows && (nat_lt column columns && is_none (slice_index_or tiles (column / 64) (Some [])))
+
+pub record AreOpen (those : List Tile) (columns rows : ℕ) (k : Inked) : Type 0 where
+  pub tiles : k.tiles ≡ length those
+  pub each : (row column : ℕ) → row < 64 → column < 64 * k.tiles
+      → ink_at k row column ≡ (if is_open those columns rows row column then None else Some false)
+
+-- ---- what is kept
+
+abbrev pub inked_of : Inside → Inked
+inked_of s = record { tiles = s.tiles; decided = s.decided.items; dark = s.dark.items }
+
+-- so many rows of a tile from the top are decided all along
+abbrev pub AreKnown : List ℕ → ℕ → ℕ → Type 0
+AreKnown decided tile rows = (row column : ℕ) → row < rows → column / 64 ≡ tile → is_marked decided row column ≡ true
+
+pub record IsInked (s : Inside) : Type 0 where
+  pub few : s.tiles ≤ 512
+  pub decided : 64 * s.tiles ≤ length s.decided.items
+  pub dark : 64 * s.tiles ≤ length s.dark.items
+  pub each : s.tiles ≤ length s.known.items
+  pub known : (tile : ℕ) → tile < s.tiles
+      → (slice_index s.known.items tile ≤ 64) × AreKnown s.decided.items tile (slice_index s.known.items tile)
+  pub first : s.done ≤ s.tiles
+  pub done : (tile : ℕ) → tile < s.done → AreKnown s.decided.items tile 64

@@ -1,0 +1,282 @@
+//! Macros in the rows of tiles side by side: each primitive is gone through once for all of them.
+
+ghost use Rattle.std.specs.Prelude.{◌≡◌, ◌<◌, ◌≤◌, ◌+◌, ◌*◌, ◌/◌, All, length};
+ghost use Rattle.cam_units.specs.Board.{IsOnBoard, IsPlace};
+ghost use Rattle.cam_units.specs.declared.point.Spot.{Spot};
+ghost use Rattle.cam_units.specs.Boxes.{Holds};
+ghost use Rattle.cam_shapes.specs.Contour.{IsInContour};
+ghost use Rattle.cam_shapes.specs.Outline.{outline_of};
+ghost use Rattle.cam_shapes.specs.Placing.{placed_contour};
+ghost use Rattle.cam_apertures.specs.Cover.{IsInShape};
+ghost use Rattle.cam_apertures.specs.declared.aperture.Aperture.TheVariants.{Prims};
+ghost use Rattle.cam_apertures.specs.Machinery.Boxes.{IsSmallBox};
+ghost use Rattle.cam_apertures.specs.Primitives.{IsMacroPoint, IsSoundOutline, IsSoundPrim, box_of_point};
+ghost use Rattle.cam_apertures.specs.Turned.{turned_shape};
+ghost use Rattle.cam_apertures.specs.Views.{primitive_of, shape_of};
+ghost use Rattle.cam_objects.specs.Image.{relative};
+ghost use Rattle.cam_objects.specs.Leaves.{Stamp, origin};
+ghost use Rattle.cam_rows.specs.Runs.{most_columns};
+ghost use Rattle.cam_tiles.specs.Machinery.Masks.{inked};
+ghost use Rattle.cam_tiles.specs.Machinery.Runs.{IsWideGrid};
+ghost use Rattle.cam_tiles.specs.Machinery.Turning.{AreWide, IsField};
+ghost use Rattle.cam_tiles.specs.Machinery.Words.{AreReached, JoinsCentres, part_seen};
+ghost use Rattle.cam_tiles.specs.Tiles.{IsGrid, centre_in};
+
+use crate::grid::Grid;
+use crate::lattice::Lattice;
+use crate::masks::heights::{HasHeights, Heights};
+use crate::masks::join::Join;
+use crate::masks::marked::MarkShape;
+use crate::masks::placed::turn_outline;
+use crate::masks::runs::Runs;
+use crate::masks::words::{join_wide, join_words};
+use crate::span::Span;
+use cam_apertures::{PrimitiveView, Primitives, ShapeView, turned_height, turned_width};
+use cam_rows::spread_marks;
+use cam_shapes::{Bar, Disc, Rectangle};
+use cam_units::{Bounds, Point, Spot, Turn};
+
+impl Grid {
+    /// The grid from a tile of the row on, as it is seen from a point.
+    fn part_seen(&self, tile: u32, at: Point) -> Grid
+        requires grid { IsGrid self.now }
+        requires tile { 64 * tile < most_columns }
+        requires there { IsPlace (centre_in self.now (64 * tile) 0) }
+        requires at { IsOnBoard at }
+        ensures { result ≡ part_seen self.now tile at }
+    {
+        Grid {
+            x: self.x + i64::from(64 * tile) * self.step - 2 * at.x,
+            y: self.y - 2 * at.y,
+            step: self.step,
+            cols: self.cols,
+            rows: self.rows,
+        }
+    }
+}
+
+/// The primitives of a macro, mirrored and turned about the flash point, which comes to lie at a point.
+#[derive(Clone, Copy)]
+pub(crate) struct PlacedMacro<'a> {
+    pub(crate) prims: &'a Primitives,
+    pub(crate) turn: Turn,
+    pub(crate) at: Point,
+}
+
+impl<'a> MarkShape for PlacedMacro<'a> {
+    ghost is_sound = { λ m. All IsSoundPrim m.prims.now × IsOnBoard m.at };
+
+    ghost shape = { λ m. Stamp (Prims m.prims.now) m.turn m.at };
+
+    fn mark(&self, marks: &mut [u64], spare: &mut [u64], grid: &Grid, columns: u32) {
+        let words = 64 * columns.div_ceil(64) as usize;
+        let marks = &mut marks[..words];
+        marks.fill(0);
+        for place in 0..self.prims.len() {
+            let primitive = self.prims.at(place);
+            join_primitive(marks, spare, grid, columns, primitive, self.turn, self.at);
+        }
+    }
+}
+
+/// Adds what a primitive paints, or clears what it takes back.
+fn join_primitive(
+    marks: &mut [u64],
+    spare: &mut [u64],
+    grid: &Grid,
+    columns: u32,
+    primitive: PrimitiveView<'_>,
+    turn: Turn,
+    at: Point,
+)
+    requires grid { IsWideGrid grid.now columns }
+    requires wide { AreWide columns marks.old }
+    requires spare { 64 * ((columns + 63) / 64) ≤ length spare.old }
+    requires primitive { IsSoundPrim (primitive_of primitive) }
+    requires at { IsOnBoard at }
+    ensures { JoinsCentres grid.now columns (inked primitive.entry.paint)
+        (λ s. IsInShape (turned_shape turn (shape_of primitive.entry.shape)) (relative at s)) marks.old marks.new }
+{
+    let how = Join::inked(primitive.paint);
+    match primitive.shape {
+        ShapeView::Disc { centre, diameter } => {
+            let disc = Disc {
+                centre: turn.apply(centre),
+                diameter,
+            };
+            join_shape(marks, grid, columns, &disc, at, how);
+        }
+        ShapeView::Bar { from, to, width } => {
+            let bar = Bar {
+                from: turn.apply(from),
+                to: turn.apply(to),
+                width,
+            };
+            join_shape(marks, grid, columns, &bar, at, how);
+        }
+        ShapeView::Rect {
+            centre,
+            width,
+            height,
+        } => {
+            let rectangle = Rectangle {
+                centre: turn.apply(centre),
+                width: turned_width(turn, width, height),
+                height: turned_height(turn, width, height),
+            };
+            join_shape(marks, grid, columns, &rectangle, at, how);
+        }
+        ShapeView::Outline { points } => {
+            join_outline(marks, spare, grid, columns, points, turn, at, how);
+        }
+    }
+}
+
+/// Joins the columns with those of a shape, which stands at a point as it does about (0, 0), by its runs.
+fn join_shape<S: HasHeights>(
+    marks: &mut [u64],
+    grid: &Grid,
+    columns: u32,
+    shape: &S,
+    at: Point,
+    how: Join,
+)
+    requires grid { IsWideGrid grid.now columns }
+    requires wide { AreWide columns marks.old }
+    requires sound { S.is_sound shape.now }
+    requires at { IsOnBoard at }
+    ensures { JoinsCentres grid.now columns how (λ s. S.holds shape.now (relative at s)) marks.old marks.new }
+{
+    let mut runs = Runs::none();
+    runs.find(shape, at, grid, columns);
+    join_wide(marks, columns, &runs, how);
+}
+
+/// Joins the columns with the inside of an outline that is turned about (0, 0), at a point: in the tiles alone that its box
+/// reaches.
+fn join_outline(
+    marks: &mut [u64],
+    spare: &mut [u64],
+    grid: &Grid,
+    columns: u32,
+    points: &[Point],
+    turn: Turn,
+    at: Point,
+    how: Join,
+)
+    requires grid { IsWideGrid grid.now columns }
+    requires wide { AreWide columns marks.old }
+    requires spare { 64 * ((columns + 63) / 64) ≤ length spare.old }
+    requires points { IsSoundOutline points.now }
+    requires at { IsOnBoard at }
+    ensures { JoinsCentres grid.now columns how
+        (λ s. IsInContour (relative at s) (placed_contour turn origin.offset (outline_of points.now)))
+        marks.old marks.new }
+{
+    let bounds = turned_bounds(points, turn);
+    let tiles = reached_tiles(grid, columns, bounds, at);
+    if tiles.end <= tiles.first {
+        return;
+    }
+    let first = 64 * tiles.first;
+    let end = 64 * tiles.end;
+    let marks = &mut marks[first as usize..end as usize];
+    let spare = &mut spare[..(end - first) as usize];
+    let part = grid.part_seen(tiles.first, at);
+    join_inside(
+        marks,
+        spare,
+        &part,
+        columns.min(end) - first,
+        points,
+        turn,
+        how,
+    );
+}
+
+/// Joins the columns with the inside of an outline that is turned about (0, 0), by marks of as many tiles.
+fn join_inside(
+    marks: &mut [u64],
+    spare: &mut [u64],
+    grid: &Grid,
+    columns: u32,
+    points: &[Point],
+    turn: Turn,
+    how: Join,
+)
+    requires grid { IsField grid.now columns }
+    requires wide { AreWide columns marks.old }
+    requires same { length spare.old ≡ length marks.old }
+    requires points { IsSoundOutline points.now }
+    ensures { JoinsCentres grid.now columns how
+        (λ s. IsInContour s (placed_contour turn origin.offset (outline_of points.now))) marks.old marks.new }
+{
+    spare.fill(0);
+    turn_outline(spare, grid, columns, points, turn);
+    spread_marks(spare);
+    join_words(marks, spare, how);
+}
+
+/// The box of an outline that is turned about (0, 0).
+fn turned_bounds(points: &[Point], turn: Turn) -> Bounds
+    requires points { IsSoundOutline points.now }
+    ensures held { (s : Spot) → IsInContour s (placed_contour turn origin.offset (outline_of points.now))
+        → Holds result s }
+    ensures small { IsSmallBox result }
+{
+    let mut bounds = Bounds::Empty;
+    for point in points {
+        bounds = bounds.joined(point_bounds(turn.apply(*point)));
+    }
+    bounds
+}
+
+/// The box of a point.
+fn point_bounds(point: Point) -> Bounds
+    requires { IsMacroPoint point }
+    ensures value { result ≡ box_of_point point }
+    ensures small { IsSmallBox result }
+{
+    let place = Spot {
+        x: 2 * point.x,
+        y: 2 * point.y,
+    };
+    Bounds::Closed {
+        low: place,
+        high: place,
+    }
+}
+
+/// The tiles of a row of tiles whose centres a box may hold, as they are seen from a point; none where it holds none in
+/// any of the rows.
+fn reached_tiles(grid: &Grid, columns: u32, bounds: Bounds, at: Point) -> Span
+    requires grid { IsWideGrid grid.now columns }
+    requires bounds { IsSmallBox bounds }
+    requires at { IsOnBoard at }
+    ensures { AreReached grid.now columns bounds at result }
+{
+    let Bounds::Closed { low, high } = bounds else {
+        return Span::NONE;
+    };
+    let heights = Heights {
+        low: low.y,
+        high: high.y,
+    };
+    let rows = grid.band(heights, at);
+    if rows.end <= rows.first {
+        return Span::NONE;
+    }
+    let centres = Lattice {
+        first: grid.x,
+        step: grid.step,
+        count: columns,
+    };
+    let reached = centres.between(low.x + 2 * at.x, high.x + 2 * at.x);
+    if reached.end <= reached.first {
+        return Span::NONE;
+    }
+    Span {
+        first: reached.first / 64,
+        end: reached.end.div_ceil(64),
+    }
+}

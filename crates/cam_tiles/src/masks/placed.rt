@@ -1,0 +1,110 @@
+//! The insides of contours that are placed, and of outlines of macros, in the rows of tiles side by side: each segment is
+//! placed and counted once for all of them.
+
+ghost use Rattle.std.specs.Prelude.{All, IsTrue, map};
+ghost use Rattle.cam_units.specs.Board.{IsOnBoard};
+ghost use Rattle.cam_shapes.specs.Contour.{IsInContour};
+ghost use Rattle.cam_shapes.specs.Outline.{lines_to, outline_of};
+ghost use Rattle.cam_shapes.specs.Placing.{IsOffset, IsPlaceable, IsPlaceablePoint, placed_contour, placed_seg};
+ghost use Rattle.cam_shapes.specs.Sides.{change_side};
+ghost use Rattle.cam_objects.specs.Leaves.{Filled, origin};
+ghost use Rattle.cam_tiles.specs.Machinery.Turning.{AreWide, IsField, TurnsCentres};
+
+use crate::grid::Grid;
+use crate::masks::marked::MarkShape;
+use crate::masks::mask::ORIGIN;
+use crate::masks::segments::end_of;
+use crate::masks::turning::{turn_edge, turn_segment};
+use cam_rows::spread_marks;
+use cam_shapes::{Contour, Placing};
+use cam_units::{Point, Turn};
+
+/// A contour that is turned about (0, 0) and then moved.
+#[derive(Clone, Copy)]
+pub(crate) struct PlacedContour<'a> {
+    pub(crate) contour: &'a Contour,
+    pub(crate) placing: Placing,
+}
+
+impl<'a> MarkShape for PlacedContour<'a> {
+    ghost is_sound = { λ c. IsPlaceable c.placing.turn c.placing.offset c.contour.now };
+
+    ghost shape = { λ c. Filled (placed_contour c.placing.turn c.placing.offset c.contour.now) };
+
+    fn mark(&self, marks: &mut [u64], _: &mut [u64], grid: &Grid, columns: u32) {
+        let words = 64 * columns.div_ceil(64) as usize;
+        let marks = &mut marks[..words];
+        marks.fill(0);
+        turn_contour(marks, grid, columns, self.contour, self.placing);
+        spread_marks(marks);
+    }
+}
+
+/// Counts a contour that is placed: its segments one after another, and the line that closes it.
+fn turn_contour(marks: &mut [u64], grid: &Grid, columns: u32, contour: &Contour, placing: Placing)
+    requires grid { IsField grid.now columns }
+    requires wide { AreWide columns marks.old }
+    requires contour { IsPlaceable placing.turn placing.offset contour.now }
+    ensures { TurnsCentres grid.now columns
+        (λ s. IsInContour s (placed_contour placing.turn placing.offset contour.now)) marks.old marks.new }
+{
+    let start = placing.point(contour.start);
+    let mut here = start;
+    for seg in contour.segs.as_slice() {
+        let seg = placing.seg(*seg);
+        turn_segment(marks, grid, columns, here, seg);
+        here = end_of(seg);
+    }
+    turn_edge(marks, grid, columns, here, start);
+}
+
+/// Counts the polygon through points that are turned about (0, 0), in the rows of a grid that may be seen from a point.
+pub(crate) fn turn_outline(
+    marks: &mut [u64],
+    grid: &Grid,
+    columns: u32,
+    points: &[Point],
+    turn: Turn,
+)
+    requires grid { IsField grid.now columns }
+    requires wide { AreWide columns marks.old }
+    requires points { All (IsPlaceablePoint turn origin.offset) points.now }
+    ensures { TurnsCentres grid.now columns
+        (λ s. IsInContour s (placed_contour turn origin.offset (outline_of points.now))) marks.old marks.new }
+{
+    let [first, others @ ..] = points else {
+        return;
+    };
+    let placing = Placing {
+        turn,
+        offset: ORIGIN,
+    };
+    let start = placing.point(*first);
+    turn_lines(marks, grid, columns, start, others, placing);
+}
+
+/// Counts the edges of the closed polygon from a point, which is placed, through others.
+fn turn_lines(
+    marks: &mut [u64],
+    grid: &Grid,
+    columns: u32,
+    first: Point,
+    others: &[Point],
+    placing: Placing,
+)
+    requires grid { IsField grid.now columns }
+    requires wide { AreWide columns marks.old }
+    requires first { IsOnBoard first }
+    requires offset { IsOffset placing.offset }
+    requires others { All (IsPlaceablePoint placing.turn placing.offset) others.now }
+    ensures { TurnsCentres grid.now columns (λ s. IsTrue (change_side s first first
+        (map (placed_seg placing.turn placing.offset) (lines_to others.now)))) marks.old marks.new }
+{
+    let mut here = first;
+    for point in others {
+        let next = placing.point(*point);
+        turn_edge(marks, grid, columns, here, next);
+        here = next;
+    }
+    turn_edge(marks, grid, columns, here, first);
+}
