@@ -123,6 +123,7 @@ module _ (image : Spot → Bool) (s : Swathed) (tile : ℕ) (g : Grid) (tall : s
       same_from_bits_below 64 (get_or rows row 0) (word (is_black_in image g row) 64) (fit row)
       (word-lt (is_black_in image g row) 64) (λ i near.
       bit_from (bit_at (get_or rows row 0) i) (is_black_in image g row i) (bit_at-lt (get_or rows row 0) i)
-      (told row i low near ∙ dark_of _ _ ∙ black_there row i low near)
+      (told row i low near ∙ dark_of (is_marked s.inks.decided row (64 * tile + i)) (is_marked s.inks.dark row (64 * tile + i))
+      ∙ black_there row i low near)
       ∙ sym (bit_at-word (is_black_in image g row) 64 i near))
       ∙ sym (get_or-tile_rows image g row low))

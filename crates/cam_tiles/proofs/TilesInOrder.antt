@@ -1,16 +1,12 @@
 -- Dirty tiles that are drawn one after another.
 use Rattle.std.proofs.Common.{◌≡◌, ℕ, suc, ◌+◌, ◌-◌, ◌<◌, ◌≤◌, List, [], ◌∷◌, ◌++◌, length, take, drop, set, get_or, length-drop}
-use Rattle.std.proofs.Common.{Some, None, Bool, true, false, not, is_none, is_some, cond, refl, sym, ap, subst, ◌∙◌, append_assoc, arith}
-use Rattle.std.specs.List.{All}
+use Rattle.std.proofs.Common.{Some, None, Bool, true, false, not, is_none, is_some, cond, refl, sym, ap, ◌∙◌, append_assoc, arith}
 use Rattle.std.proofs.lemmas.Bool.{false≢true, true≢false}
 use Rattle.std.proofs.lemmas.List.{append-nil, drop_all, drop_more, drop-set-lt, length-take-le, take_all}
 use Rattle.std.proofs.lemmas.List.{take_more, take_more_set}
-use Rattle.std.proofs.lemmas.List.Elements.{All-cons, All-nil}
 use Rattle.std.proofs.lemmas.List.Sums.{sum_by-append}
 use Rattle.std.proofs.Math.Seq.{take-add}
 use borrow.Rule.Slice.PartMut.{Post-is, mid_of, put_mid}
-use Rattle.cam_tiles.specs.declared.grid.Grid.{Grid}
-use Rattle.cam_tiles.specs.Machinery.Swaths.{dirty_grids}
 use Rattle.cam_tiles.specs.Tables.{Tile, all_drawn_from, drawn_from}
 use Rattle.cam_tiles.proofs.DrawnTiles.{dirty, dirty_after_clean, dirty_after_dirty, drawn_to}
 
@@ -102,96 +98,6 @@ dirty_past_dirty k tiles rows within read =
     ap dirty (drop_more tiles k None within ∙ ap (λ t. t ∷ drop (k + 1) tiles) read)
     ∙ dirty_after_dirty (drop (k + 1) tiles)
     ∙ ap (λ rest. 1 + dirty rest) (sym (drop-set-lt (k + 1) tiles k (Some rows) (omega arith)))
-
-module _ (grid : ℕ → Grid) where
-  -- there are as many grids as dirty tiles
-  pub length-dirty_grids : (k : ℕ) (tiles : List Tile) → length (dirty_grids grid k tiles) ≡ dirty tiles
-  length-dirty_grids k [] = refl
-  length-dirty_grids k (Some rows ∷ tiles) =
-      length-dirty_grids (k + 1) tiles ∙ sym (dirty_after_clean rows tiles)
-  length-dirty_grids k (None ∷ tiles) = omega (arith, length-dirty_grids (k + 1) tiles, dirty_after_dirty tiles)
-
-  pub all_grids : (P : Grid → Type 0) (k : ℕ) (tiles : List Tile) → ((t : ℕ) → t < length tiles → P (grid (k + t)))
-      → All P (dirty_grids grid k tiles)
-  all_grids P k [] h = All-nil P
-  all_grids P k (Some rows ∷ tiles) h =
-      all_grids P (k + 1) tiles (λ t within.
-      let same : k + suc t ≡ k + 1 + t = omega arith in subst (λ n. P (grid n)) same (h (suc t) (omega arith)))
-  all_grids P k (None ∷ tiles) h =
-      let here : k + 0 ≡ k = omega arith in
-      All-cons P (grid k) (dirty_grids grid (k + 1) tiles) (subst (λ n. P (grid n)) here (h 0 (omega arith)))
-      (all_grids P (k + 1) tiles (λ t within.
-      let same : k + suc t ≡ k + 1 + t = omega arith in subst (λ n. P (grid n)) same (h (suc t) (omega arith))))
-
--- the grids of tiles that are looked at one after another
-module _ (grid : ℕ → Grid) (first k : ℕ) (tiles : List Tile) (before all : List Grid) (within : k < length tiles)
-    (so_far : before ++ dirty_grids grid (first + k) (drop k tiles) ≡ all) where
-  pub grids_clean : (rows : List ℕ) → get_or tiles k (Some rows) ≡ Some rows
-      → before ++ dirty_grids grid (first + (k + 1)) (drop (k + 1) tiles) ≡ all
-  grids_clean rows read =
-      let same : first + (k + 1) ≡ first + k + 1 = omega arith in
-      ap (λ n. before ++ dirty_grids grid n (drop (k + 1) tiles)) same
-      ∙ ap (λ those. before ++ dirty_grids grid (first + k) those)
-      (sym (drop_more tiles k (Some rows) within ∙ ap (λ t. t ∷ drop (k + 1) tiles) read))
-      ∙ so_far
-
-  pub grids_dirty : (g : Grid) → get_or tiles k None ≡ None → g ≡ grid (first + k)
-      → (before ++ g ∷ []) ++ dirty_grids grid (first + (k + 1)) (drop (k + 1) tiles) ≡ all
-  grids_dirty g read is =
-      let same : first + (k + 1) ≡ first + k + 1 = omega arith in
-      append_assoc before (g ∷ []) (dirty_grids grid (first + (k + 1)) (drop (k + 1) tiles))
-      ∙ ap (λ n. before ++ g ∷ dirty_grids grid n (drop (k + 1) tiles)) same
-      ∙ ap (λ h. before ++ h ∷ dirty_grids grid (first + k + 1) (drop (k + 1) tiles)) is
-      ∙ ap (λ those. before ++ dirty_grids grid (first + k) those)
-      (sym (drop_more tiles k None within ∙ ap (λ t. t ∷ drop (k + 1) tiles) read))
-      ∙ so_far
-
--- so many of the tiles are drawn, and so many of the grids of dirty tiles were taken for them
-pub record IsPutTo (draw : ℕ → List ℕ) (grid : ℕ → Grid) (first k next : ℕ) (old now : List Tile) : Type 0 where
-  pub drawn : all_drawn_from draw first old ≡ drawn_on draw first k now
-  pub rest : drop next (dirty_grids grid first old) ≡ dirty_grids grid (first + k) (drop k now)
-
-module _ (draw : ℕ → List ℕ) (grid : ℕ → Grid) (first : ℕ) (old : List Tile) where
-  module _ (k next : ℕ) (now : List Tile) (so_far : IsPutTo draw grid first k next old now) (within : k < length now)
-    where
-      pub put_clean : (rows : List ℕ) → get_or now k (Some rows) ≡ Some rows
-          → IsPutTo draw grid first (k + 1) next old now
-      put_clean rows read = record {
-        drawn = so_far.drawn ∙ next_clean draw first k now rows within read;
-        rest =
-            let same : first + k + 1 ≡ first + (k + 1) = omega arith in
-            so_far.rest
-            ∙ ap (dirty_grids grid (first + k)) (drop_more now k (Some rows) within ∙ ap (λ t. t ∷ drop (k + 1) now) read)
-            ∙ ap (λ n. dirty_grids grid n (drop (k + 1) now)) same;
-      }
-
-      -- the grids that are left
-      grids_left : get_or now k None ≡ None → drop next (dirty_grids grid first old)
-          ≡ grid (first + k) ∷ dirty_grids grid (first + (k + 1)) (drop (k + 1) now)
-      grids_left read =
-          let same : first + k + 1 ≡ first + (k + 1) = omega arith in
-          so_far.rest
-          ∙ ap (dirty_grids grid (first + k)) (drop_more now k None within ∙ ap (λ t. t ∷ drop (k + 1) now) read)
-          ∙ ap (λ n. grid (first + k) ∷ dirty_grids grid n (drop (k + 1) now)) same
-
-      pub next_within : get_or now k None ≡ None → next < length (dirty_grids grid first old)
-      next_within read =
-          omega (arith, ap length (grids_left read), length-drop next (dirty_grids grid first old))
-
-      pub next_grid : get_or now k None ≡ None → (d : Grid) → get_or (dirty_grids grid first old) next d ≡ grid (first + k)
-      next_grid read d =
-          let there : next + 0 ≡ next = omega arith in
-          ap (λ n. get_or (dirty_grids grid first old) n d) (sym there)
-          ∙ sym (get_or-drop next (dirty_grids grid first old) 0 d) ∙ ap (λ gs. get_or gs 0 d) (grids_left read)
-
-      pub put_dirty : (rows : List ℕ) → get_or now k None ≡ None → rows ≡ draw (first + k)
-          → IsPutTo draw grid first (k + 1) (next + 1) old (set now k (Some rows))
-      put_dirty rows read is = record {
-        drawn = so_far.drawn ∙ next_dirty draw first k now rows within read is;
-        rest =
-            sym (drop-drop 1 next (dirty_grids grid first old)) ∙ ap (drop 1) (grids_left read)
-            ∙ ap (dirty_grids grid (first + (k + 1))) (sym (drop-set-lt (k + 1) now k (Some rows) (omega arith)));
-      }
 
 pub middle_length : (first end : ℕ) (tiles : List Tile) → first ≤ end → end ≤ length tiles
     → length (mid_of first (end - first) tiles) ≡ end - first

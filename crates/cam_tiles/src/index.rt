@@ -108,7 +108,9 @@ impl Index {
         ensures { IfOk result (λ index. IsIndexOf (leaves_by_item shown.now) window.now index) }
     {
         let Seen {
-            within, mut boxed, ..
+            within,
+            mut boxed,
+            ..
         } = seen;
         boxed.reverse();
         let rows = RowLists::new(alloc, &boxed, window.height.div_ceil(64))?;

@@ -51,11 +51,12 @@ AreRunsOf holds runs k =
     (row column : ℕ) → row < 64 → column < 64 * k.tiles
     → IsSome (ink_at k row column) ⊎ (IsTrue (holds row column) ↔ HasPart runs row column)
 
--- tiles outside of which a box holds no centre
-pub record AreReachedBy (low high : Spot) (s : Swathed) (tiles : Span) : Type 0 where
-  pub end : tiles.end ≤ tiles_in s
+-- the columns and the rows of the centres that a box holds
+pub record AreReachedBy (low high : Spot) (s : Swathed) (columns rows : Span) : Type 0 where
+  pub left_of : columns.end ≤ s.columns
+  pub above : rows.end ≤ s.grid.rows
   pub each : (column row : ℕ) → IsInSwath s column row → Holds (Closed low high) (place_in s column row)
-      → (tiles.first ≤ column / 64) × (column / 64 < tiles.end)
+      → ((columns.first ≤ column) × (column < columns.end)) × ((rows.first ≤ row) × (row < rows.end))
 
 -- ---- the tiles of a row of tiles
 

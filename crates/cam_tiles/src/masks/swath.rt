@@ -162,22 +162,15 @@ impl Swath {
         centres.between(left, right)
     }
 
-    /// The tiles in which a box may hold a centre; none where it holds none in any of the rows.
-    fn reached(&self, low: Spot, high: Spot) -> Span
-        ensures { AreReachedBy low high self.now result }
+    /// The columns and the rows of the centres that a box holds.
+    fn reached(&self, low: Spot, high: Spot) -> (Span, Span)
+        ensures { AreReachedBy low high self.now result.0 result.1 }
     {
         let rows = self.grid.levels().band(Heights {
             low: low.y,
             high: high.y,
         });
-        let columns = self.columns_between(low.x, high.x);
-        if rows.end <= rows.first || columns.end <= columns.first {
-            return Span::NONE;
-        }
-        Span {
-            first: columns.first / 64,
-            end: columns.end.div_ceil(64),
-        }
+        (self.columns_between(low.x, high.x), rows)
     }
 
     /// Paints what a shape covers in some tiles outside of which it covers nothing: it is marked once for all of them.
@@ -230,19 +223,16 @@ impl Canvas for Swath {
         let Bounds::Closed { low, high } = bounds else {
             return true;
         };
-        let rows = self.grid.levels().band(Heights {
-            low: low.y,
-            high: high.y,
-        });
-        self.inks.is_decided(self.columns_between(low.x, high.x), rows)
+        let (columns, rows) = self.reached(low, high);
+        self.inks.is_decided(columns, rows)
     }
 
     fn paint(&mut self, print: Print<'_>) {
         let Bounds::Closed { low, high } = print.bounds else {
             return;
         };
-        let tiles = self.reached(low, high);
-        if tiles.end <= tiles.first {
+        let (columns, rows) = self.reached(low, high);
+        if columns.end <= columns.first || self.inks.is_decided(columns, rows) {
             return;
         }
         let heights = Heights {
@@ -253,6 +243,10 @@ impl Canvas for Swath {
             self.paint_figure(&placed, print);
             return;
         }
+        let tiles = Span {
+            first: columns.first / 64,
+            end: columns.end.div_ceil(64),
+        };
         match print.figure {
             Figure::Stamp { aperture: Aperture::Prims(prims), turn, at } => {
                 self.paint_marked(tiles, &PlacedMacro { prims, turn, at }, print.dark);

@@ -1,4 +1,4 @@
-use Rattle.std.proofs.Common.{◌≡◌, ℕ, ◌+◌, ◌*◌, ◌/◌, ◌%◌, ◌<◌, ◌≤◌, true, length, min, refl, sym, ap, subst, ◌∙◌, arith}
+use Rattle.std.proofs.Common.{◌≡◌, ℕ, ◌+◌, ◌-◌, ◌*◌, ◌/◌, ◌%◌, ◌<◌, ◌≤◌, true, length, min, refl, sym, ap, subst, ◌∙◌, arith}
 use Rattle.cam_tiles.specs.declared.grid.Grid.{Grid}
 use Rattle.cam_tiles.specs.Machinery.Runs.{IsWideGrid}
 use Rattle.cam_tiles.specs.Machinery.Swaths.{columns_of}
@@ -29,7 +29,9 @@ turn_to-requires-clause-few c =
 
 -- the columns
 columns_are : (c : After-min-columns) → c.min-columns.result ≡ columns_of c.args.window.now c.args.first (length c.args.tiles.now)
-columns_are c = ?
+columns_are c =
+    c.min-columns.ensures
+    ∙ ap (λ n. min (c.args.window.now.width - 64 * (c.args.first % n)) (64 * length c.args.tiles.now)) c.across.ensures
 
 pub wide_bounds-self-inside-requires : goal.wide_bounds-self-inside-requires
 wide_bounds-self-inside-requires c =
