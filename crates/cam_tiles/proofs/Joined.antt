@@ -24,6 +24,11 @@ pub joined_like : (how : Join) (New Was Be Held Other : Type 0) → Was ↔ Be �
 joined_like Add New Was Be Held Other w e h = grind arith
 joined_like Clear New Was Be Held Other w e h = grind arith
 
+-- where the shape holds nothing, a mark stays
+pub joined_none : (how : Join) (P Q : Type 0) → (Q → ⊥) → P ↔ joined how P Q
+joined_none Add P Q none = grind (arith, none)
+joined_none Clear P Q none = grind (arith, none)
+
 pub same : {A : Type 0} → A ↔ A
 same = ((λ a. a), (λ a. a))
 

@@ -13,8 +13,7 @@ use Rattle.cam_tiles.specs.Machinery.Masks.{joined}
 use Rattle.cam_tiles.specs.Machinery.Turning.{AreWide, MarksCentres}
 use Rattle.cam_tiles.specs.Machinery.Words.{JoinsCentres, JoinsColumns, part_seen}
 use Rattle.cam_tiles.specs.Tiles.{centre_in}
-use Rattle.cam_tiles.proofs.Joined.{joined_like, same}
-use Rattle.cam_tiles.proofs.JoinedMarks.{joined_none}
+use Rattle.cam_tiles.proofs.Joined.{joined_like, joined_none, same}
 use Rattle.cam_tiles.proofs.SeenParts.{part_centre}
 use Rattle.cam_tiles.proofs.TurnedBands.{by_band}
 

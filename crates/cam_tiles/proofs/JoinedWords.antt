@@ -14,8 +14,7 @@ use Rattle.cam_tiles.specs.declared.masks.runs.Runs.{Runs}
 use Rattle.cam_tiles.specs.Machinery.Masks.{joined}
 use Rattle.cam_tiles.specs.Machinery.Runs.{HasColumn}
 use Rattle.cam_tiles.specs.Machinery.Words.{JoinsColumns}
-use Rattle.cam_tiles.proofs.Joined.{joined_like}
-use Rattle.cam_tiles.proofs.JoinedMarks.{joined_none}
+use Rattle.cam_tiles.proofs.Joined.{joined_like, joined_none}
 
 -- ---- one mark
 

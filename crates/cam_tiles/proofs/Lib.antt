@@ -12,7 +12,6 @@ pub mod Indexed
 pub mod InkWords
 pub mod Joined
 pub mod JoinedCentres
-pub mod JoinedMarks
 pub mod JoinedWords
 pub mod LastFound
 pub mod Lattices
@@ -21,7 +20,6 @@ pub mod MaskWords
 pub mod OpenedWords
 pub mod PaintedLists
 pub mod PaintedMasks
-pub mod PaintedTiles
 pub mod PartlyDrawn
 pub mod PbmLemmas
 pub mod PictureLemmas

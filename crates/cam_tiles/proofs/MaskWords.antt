@@ -24,20 +24,18 @@ neither : (P : Type 0) (b : Bool) → (P → ⊥) → b ≡ false → P ↔ IsTr
 neither P b unmarked clear = (λ h. absurd (unmarked h), λ black. absurd (false≢true (sym clear ∙ black)))
 
 -- a place of a tile is marked where the image is black within the grid, and nowhere else
-place_told : (image : Spot → Bool) (m : Marking) (row i : ℕ) → IsMask m → row < 64 → i < 64
-    → (IsIn m.grid i row → IsMarked m i row ↔ IsTrue (image (centre_in m.grid i row)))
-    → IsMarked m i row ↔ IsTrue (is_black_in image m.grid row i)
-place_told image m row i mask low near marks =
-    let g = m.grid in
+place_told : (image : Spot → Bool) (g : Grid) (m : Marking) (row i : ℕ) → (IsMarked m i row → IsIn g i row)
+    → (IsIn g i row → IsMarked m i row ↔ IsTrue (image (centre_in g i row)))
+    → IsMarked m i row ↔ IsTrue (is_black_in image g row i)
+place_told image g m row i within marks =
     let b = is_black_in image g row i in
     elim (cases_lt row g.rows) [
       | inl below ↦ elim (cases_lt i g.cols) [
         | inl inside ↦ subst (λ shown. IsMarked m i row ↔ IsTrue shown) (shown_within image g row i below inside)
             (marks (inside, below))
-        | inr past ↦ neither (IsMarked m i row) b (λ marked. omega (arith, mask.inside i row near low marked))
-            (clear_past image g row i past)
+        | inr past ↦ neither (IsMarked m i row) b (λ marked. omega (arith, past, (within marked).0)) (clear_past image g row i past)
       ]
-      | inr past ↦ neither (IsMarked m i row) b (λ marked. omega (arith, mask.inside i row near low marked))
+      | inr past ↦ neither (IsMarked m i row) b (λ marked. omega (arith, past, (within marked).1))
           (ap (λ shown. shown && (nat_lt i g.cols && image (centre_in g i row))) (le-ltb row g.rows past))
     ]
 
@@ -49,12 +47,13 @@ row_told bit row fits set =
     bit_told (bit i) row i (set i near) ∙ sym (bit_at-word bit 64 i near))
 
 -- the rows of a mask that marks the centres where an image is black
-pub rows_of_marks : (image : Spot → Bool) (g : Grid) (m : Marking) → IsMask m → m.grid ≡ g
+pub rows_of_marks : (image : Spot → Bool) (g : Grid) (m : Marking) → IsMask m
+    → ((column row : ℕ) → IsIn m.grid column row → IsIn g column row)
     → ((column row : ℕ) → IsIn g column row → IsMarked m column row ↔ IsTrue (image (centre_in g column row)))
     → m.rows ≡ tile_rows image g
-rows_of_marks image g m mask of_grid marks =
-    same_number_lists m.rows (tile_rows image g) (mask.whole ∙ sym (length-tile_rows image g)) (λ row within.
-    let low : row < 64 = omega (arith, mask.whole) in
-    row_told (is_black_in image m.grid row) (get_or m.rows row 0) (mask.fit row) (λ i near.
-    place_told image m row i mask low near (λ inside. rw of_grid (marks i row (rw (← of_grid) inside))))
-    ∙ rw of_grid (sym (get_or-tile_rows image g row low)))
+rows_of_marks image g m mask within marks =
+    same_number_lists m.rows (tile_rows image g) (mask.whole ∙ sym (length-tile_rows image g)) (λ row below.
+    let low : row < 64 = omega (arith, below, mask.whole) in
+    row_told (is_black_in image g row) (get_or m.rows row 0) (mask.fit row) (λ i near.
+    place_told image g m row i (λ marked. within i row (mask.inside i row near low marked)) (marks i row))
+    ∙ sym (get_or-tile_rows image g row low))

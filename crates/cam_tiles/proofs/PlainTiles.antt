@@ -3,7 +3,6 @@ use Rattle.std.proofs.Common.{◌≡◌, ℕ, Bool, true, false, not, ◌&&◌, 
 use Rattle.std.proofs.Common.{Option, None, Some, refl, sym, ap, subst, ◌∙◌}
 use Rattle.std.specs.Option.{option_or, unwrap_or}
 use Rattle.std.proofs.lemmas.Bool.{false≢true}
-use Rattle.cam_units.specs.declared.point.Spot.{Spot}
 use Rattle.cam_apertures.proofs.Painting.{through}
 use Rattle.cam_objects.specs.Canvases.{Paints}
 use Rattle.cam_objects.specs.Image.{Covers}
@@ -14,10 +13,9 @@ use Rattle.cam_objects.proofs.LastInks.{last_law}
 use Rattle.cam_tiles.specs.declared.grid.Grid.{Grid}
 use Rattle.cam_tiles.specs.declared.masks.join.Join.TheVariants.{Add, Clear}
 use Rattle.cam_tiles.specs.Machinery.Masks.{AreMarksOf, IsBlank, IsIn, IsMarked, IsMask, Marking, Merges, ink_of}
-use Rattle.cam_tiles.specs.Tiles.{IsGrid, centre_in, tile_rows}
+use Rattle.cam_tiles.specs.Tiles.{centre_in, tile_rows}
 use Rattle.cam_tiles.proofs.MaskWords.{rows_of_marks}
 use Rattle.cam_tiles.proofs.PaintedMasks.{added_ink, clear_if_unmarked, cleared_ink, dark_if_marked, dark_is_marked, marked_if_dark, same_test}
-use Rattle.cam_tiles.proofs.PaintedTiles.{same_grid}
 
 abbrev pub Tile : Type 0
 Tile = Marking × Marking
@@ -116,25 +114,20 @@ dark_told true k black ink within is law = ap (λ o. unwrap_or o false) is ∙ s
 dark_told false true black ink within is law = absurd (false≢true (within refl))
 dark_told false false black ink within is law = ap (λ o. unwrap_or o false) is ∙ sym law
 
-module _ (leaves : List Leaf) (g : Grid) (p q : Tile) (grid : IsGrid g) (is : p.0.grid ≡ g) (none : IsBlank p.0)
-    (h : PaintsTile p leaves q) where
-  same_there : q.0.grid ≡ g
-  same_there =
-      let sound : IsGrid p.0.grid = subst IsGrid (sym is) grid in
-      same_grid p.0.grid q.0.grid (sound.columns.0, sound.rows.0) (λ row. h.pixels 0 row)
-      (ap (λ (place : ℕ → ℕ → Spot). place 0 0) h.places) (ap (λ (place : ℕ → ℕ → Spot). place 1 0) h.places)
-      (λ column. h.pixels column 0) ∙ is
-
-  -- the dark marks of a tile that was blank are the rows of the leaves' image
-  pub dark_rows : q.1.grid ≡ q.0.grid → IsKept q → IsMask q.1 → q.1.rows ≡ tile_rows (is_black leaves) g
-  dark_rows same dark mask =
-      rows_of_marks (is_black leaves) g q.1 mask (same ∙ same_there) (λ column row there.
-      let s = centre_in g column row in
-      let old = subst (λ (o : Grid). IsIn o column row) (sym is) there in
-      let inked = h.inks column row old
-      ∙ ap (λ b. option_or (cond b (Some (ink_of p.1 column row)) None) (last_ink leaves (centre_in p.0.grid column row)))
-      (clear_if_unmarked p.0 column row (none column row old))
-      ∙ ap (λ (o : Grid). last_ink leaves (centre_in o column row)) is in
-      let told = dark_told (ink_of q.0 column row) (ink_of q.1 column row) (is_black leaves s) (last_ink leaves s)
-      (kept q dark column row (subst (λ (o : Grid). IsIn o column row) (sym same_there) there)) inked (last_law leaves s) in
-      ((λ marked. sym told ∙ dark_if_marked q.1 column row marked), (λ black. marked_if_dark q.1 column row (told ∙ black))))
+-- the dark marks of a tile that was blank are the rows of the leaves' image
+pub dark_rows : (leaves : List Leaf) (g : Grid) (p q : Tile) → p.0.grid ≡ g → IsBlank p.0 → PaintsTile p leaves q
+    → q.1.grid ≡ q.0.grid → IsKept q → IsMask q.1 → q.1.rows ≡ tile_rows (is_black leaves) g
+dark_rows leaves g p q is none h same dark mask =
+    let old = λ (column row : ℕ) (there : IsIn g column row). subst (λ (o : Grid). IsIn o column row) (sym is) there in
+    rows_of_marks (is_black leaves) g q.1 mask
+    (λ column row there. subst (λ (o : Grid). IsIn o column row) is
+    ((h.pixels column row).0 (subst (λ (o : Grid). IsIn o column row) same there)))
+    (λ column row there.
+    let s = centre_in g column row in
+    let inked = h.inks column row (old column row there)
+    ∙ ap (λ b. option_or (cond b (Some (ink_of p.1 column row)) None) (last_ink leaves (centre_in p.0.grid column row)))
+    (clear_if_unmarked p.0 column row (none column row (old column row there)))
+    ∙ ap (λ (o : Grid). last_ink leaves (centre_in o column row)) is in
+    let told = dark_told (ink_of q.0 column row) (ink_of q.1 column row) (is_black leaves s) (last_ink leaves s)
+    (kept q dark column row ((h.pixels column row).1 (old column row there))) inked (last_law leaves s) in
+    ((λ marked. sym told ∙ dark_if_marked q.1 column row marked), (λ black. marked_if_dark q.1 column row (told ∙ black))))

@@ -1,42 +1,62 @@
 -- Masks of shapes, row by row.
-use Rattle.std.proofs.Common.{◌≡◌, ◌↔◌, ◌⊎◌, ℕ, ◌<◌, ◌≤◌, sym, subst, inl, inr, arith}
+use Rattle.std.proofs.Common.{◌≡◌, ◌≢◌, ◌↔◌, ℕ, ◌+◌, ◌^◌, ◌<◌, ◌≤◌, List, slice_index, slice_set}
+use Rattle.std.proofs.Common.{get_or-set_other, get_or-set_same, inl, inr, ◌∙◌, arith}
+use Rattle.std.proofs.Math.ListN.{length-set}
 use Rattle.std.specs.Int.{IsBitSet}
+use Rattle.std.proofs.lemmas.Bool.{cases_eq}
 use Rattle.cam_units.specs.declared.point.Spot.{Spot}
-use Rattle.cam_rows.specs.declared.centres.Centres.{Centres}
-use Rattle.cam_rows.specs.Rows.{centre_at}
 use Rattle.cam_tiles.specs.declared.grid.Grid.{Grid}
-use Rattle.cam_tiles.specs.declared.masks.join.Join.TheVariants.{Add}
-use Rattle.cam_tiles.specs.Machinery.Masks.{AreMarksOf, IsBlank, IsIn, IsMarked, Marking}
+use Rattle.cam_tiles.specs.Machinery.Masks.{AreMarksOf, IsIn, IsMarked, IsMask, Marking}
 use Rattle.cam_tiles.specs.Tiles.{centre_in}
-use Rattle.cam_tiles.proofs.JoinedMarks.{AreJoinedAt}
 
--- the word of a row that was blank
-pub row_shown : (word i : ℕ) (cs : Centres) (P : Spot → Type 0) (s : Spot) (Was : Type 0) (cols : ℕ)
-    → IsBitSet word i ↔ ((i < cs.n) × P (centre_at cs i)) → cs.n ≡ cols → centre_at cs i ≡ s → (Was → ⊥)
-    → IsBitSet word i ↔ (Was ⊎ ((i < cols) × P s))
-row_shown word i cs P s Was cols told count at none =
-    rw (← count, ← at) (
-      (λ set. inr (told.0 set)),
-      (λ on. elim on [ inl was ↦ absurd (none was) | inr held ↦ told.1 held ]),
-    )
+-- the rows before one are those of a shape
+pub record AreShownTo (g : Grid) (IsHeld : Spot → Type 0) (row : ℕ) (m : Marking) : Type 0 where
+  pub mask : IsMask m
+  pub grid : m.grid ≡ g
+  pub marks : (i k : ℕ) → IsIn g i k → k < row → IsMarked m i k ↔ IsHeld (centre_in g i k)
 
-module _ (IsHeld : ℕ → ℕ → Type 0) (old new : Marking) (row : ℕ) (blank : IsBlank old)
-    (before : AreJoinedAt Add IsHeld old new 0 row) where
-  -- a row that is not joined yet
-  pub still_blank : (i : ℕ) → i < 64 → row < 64 → IsMarked new i row → ⊥
-  still_blank i near low set =
-      let there = subst (λ (g : Grid). IsIn g i row) before.grid (before.mask.inside i row near low set) in
-      blank i row there (rw (before.kept row (inr (omega arith))) at set)
+module _ (g : Grid) (IsHeld : Spot → Type 0) (m : Marking) where
+  pub none_shown : IsMask m → m.grid ≡ g → AreShownTo g IsHeld 0 m
+  none_shown mask is = record { mask = mask; grid = is; marks = λ i k there before. absurd (omega (arith, before)) }
 
-  -- when all rows are joined
-  pub all_shown : (g : Grid) (P : Spot → Type 0) → old.grid ≡ g → g.rows ≤ row
-      → ((i k : ℕ) → IsHeld i k ↔ P (centre_in g i k)) → AreMarksOf g P new
-  all_shown g P is all alike = record {
-    grid = rw (before.grid) is;
-    marks = λ i k there.
-        let inside = subst (λ (o : Grid). IsIn o i k) (sym is) there in
-        let told = before.marks i k inside (omega arith) (omega (arith, there.1, all)) in (
-          (λ set. elim (told.0 set) [ inl was ↦ absurd (blank i k inside was) | inr held ↦ (alike i k).0 held ]),
-          (λ held. told.1 (inr ((alike i k).1 held))),
-        );
-  }
+  pub all_shown : (row : ℕ) → AreShownTo g IsHeld row m → g.rows ≤ row → AreMarksOf g IsHeld m
+  all_shown row h all = record { grid = h.grid; marks = λ i k there. h.marks i k there (omega (arith, there.1, all)) }
+
+  -- one row more
+  module _ (row word : ℕ) (before : AreShownTo g IsHeld row m) (below : row < g.rows) (fits : word < 2 ^ 64)
+      (here : (i : ℕ) → i < 64 → IsBitSet word i ↔ ((i < g.cols) × IsHeld (centre_in g i row))) where
+    abbrev pub rows : List ℕ
+    rows = slice_set m.rows row word
+
+    within : row < m.grid.rows
+    within = rw before.grid below
+
+    this : (k : ℕ) → k ≡ row → slice_index rows k ≡ word
+    this k e = rw e (get_or-set_same m.rows row word 0 (omega (arith, within, before.mask.grid.rows, before.mask.whole)))
+
+    other : (k : ℕ) → k ≢ row → slice_index rows k ≡ slice_index m.rows k
+    other k apart = get_or-set_other m.rows row k word 0 apart
+
+    pub next_shown : AreShownTo g IsHeld (row + 1) (record { grid = m.grid; rows = rows })
+    next_shown = record {
+      grid = before.grid;
+      mask = record {
+        grid = before.mask.grid;
+        whole = length-set m.rows row word ∙ before.mask.whole;
+        fit = λ k. elim (cases_eq k row) [
+          | inl e ↦ rw (this k e) fits
+          | inr apart ↦ rw (other k apart) (before.mask.fit k)
+        ];
+        inside = λ i k near low set. elim (cases_eq k row) [
+          | inl e ↦ rw (e, before.grid) (((here i near).0 (rw (this k e) at set)).0, below)
+          | inr apart ↦ before.mask.inside i k near low (rw (other k apart) at set)
+        ];
+      };
+      marks = λ i k there until. elim (cases_eq k row) [
+        | inl e ↦
+            (let inside : i < m.grid.cols = rw before.grid there.0 in
+            let near : i < 64 = omega (arith, inside, before.mask.grid.columns) in
+            rw (this k e, e) ((λ set. ((here i near).0 set).1), (λ held. (here i near).1 (there.0, held))))
+        | inr apart ↦ rw (other k apart) (before.marks i k there (omega (arith, apart, until)))
+      ];
+    }

@@ -66,14 +66,6 @@ shows_turned P blank new none h = record {
       (λ column row there. from_even _ _ _ _ same (none column row there) (h.marks column row there));
 }
 
-pub joins_like : (how : Join) (P Q : Spot → Type 0) (old new : Marking) → ((s : Spot) → P s ↔ Q s) → Joins how P old new
-    → Joins how Q old new
-joins_like how P Q old new alike h = record {
-  grid = h.grid;
-  marks = λ column row there.
-      joined_like how _ _ _ _ _ same (alike (centre_in old.grid column row)) (h.marks column row there);
-}
-
 -- ---- masks of shapes
 
 module _ (P : Spot → Type 0) (g : Grid) (own old new : Marking) (is : g ≡ old.grid) (marks : AreMarksOf g P own) where

@@ -11,9 +11,9 @@ ghost use Rattle.cam_objects.specs.Image.{relative};
 ghost use Rattle.cam_objects.specs.Leaves.{origin};
 ghost use Rattle.cam_tiles.specs.Machinery.Masks.{Joins, Turns};
 
-use crate::masks::segments::{crossed_heights, end_of};
 use crate::masks::join::Join;
 use crate::masks::mask::{Mask, ORIGIN};
+use crate::masks::segments::{crossed_heights, end_of};
 use crate::plain::shapes::RowShape;
 use cam_shapes::{Cap, Contour, Placing, Seg};
 use cam_units::{Point, Turn};

@@ -10,5 +10,5 @@ returns c =
     let q : Tile = (c.tile.inside.decided, c.tile.inside.dark) in
     let painted = subst (λ (new : Tile). PaintsTile p leaves new) (sym c.tile.view_is) c.paint.ensures in
     c.rows.ensures.rows
-    ∙ dark_rows leaves c.args.grid p q c.requires.grid c.nothing-tile.ensures.decided.0 c.nothing-tile.ensures.decided.1
+    ∙ dark_rows leaves c.args.grid p q c.nothing-tile.ensures.decided.0 c.nothing-tile.ensures.decided.1
     painted c.tile.invariant.same c.tile.invariant.dark c.rows.ensures.mask
