@@ -142,20 +142,3 @@ module _ (g : Grid) (tile : ℕ) (at : Point) where
         (wide.centres (64 * tile + i) row (omega (arith, near, within)) below));
     levels = are_heights_seen g at wide.grid board;
   }
-
--- ---- the columns that a box reaches
-
-pub moved_fits : (x away : ℤ) → unsigned_abs x ≤ 600000000 → unsigned_abs away < board_limit
-    → FitsSigned w64 (long x +ℤ long (pos 2 *ℤ long away))
-moved_fits x away near short = omega (arith, ints)
-
-pub moved_kept : (x away : ℤ) → unsigned_abs x ≤ 600000000 → unsigned_abs away < board_limit
-    → long (long x +ℤ long (pos 2 *ℤ long away)) ≡ x +ℤ pos 2 *ℤ away
-moved_kept x away near short = omega (arith, ints)
-
--- a column whose centre lies in a box, as it is seen from a point, lies between the box's sides where these are seen from
--- (0, 0)
-pub column_between : (g : Grid) (low high : Spot) (at : Point) (column row : ℕ)
-    → IsBetween low high (relative at (centre_in g column row))
-    → ((low.x +ℤ pos 2 *ℤ at.x) ≤ℤ (centre_in g column row).x) × ((centre_in g column row).x ≤ℤ (high.x +ℤ pos 2 *ℤ at.x))
-column_between g low high at column row held = (omega (arith, ints, held.left), omega (arith, ints, held.right))

@@ -9,7 +9,6 @@ ghost use Rattle.cam_shapes.specs.Outline.{outline_of};
 ghost use Rattle.cam_shapes.specs.Placing.{placed_contour};
 ghost use Rattle.cam_apertures.specs.Cover.{IsInShape};
 ghost use Rattle.cam_apertures.specs.declared.aperture.Aperture.TheVariants.{Prims};
-ghost use Rattle.cam_apertures.specs.Machinery.Boxes.{IsSmallBox};
 ghost use Rattle.cam_apertures.specs.Primitives.{IsMacroPoint, IsSoundOutline, IsSoundPrim, box_of_point};
 ghost use Rattle.cam_apertures.specs.Turned.{turned_shape};
 ghost use Rattle.cam_apertures.specs.Views.{primitive_of, shape_of};
@@ -220,9 +219,8 @@ fn join_inside(
 /// The box of an outline that is turned about (0, 0).
 fn turned_bounds(points: &[Point], turn: Turn) -> Bounds
     requires points { IsSoundOutline points.now }
-    ensures held { (s : Spot) → IsInContour s (placed_contour turn origin.offset (outline_of points.now))
+    ensures { (s : Spot) → IsInContour s (placed_contour turn origin.offset (outline_of points.now))
         → Holds result s }
-    ensures small { IsSmallBox result }
 {
     let mut bounds = Bounds::Empty;
     for point in points {
@@ -234,8 +232,7 @@ fn turned_bounds(points: &[Point], turn: Turn) -> Bounds
 /// The box of a point.
 fn point_bounds(point: Point) -> Bounds
     requires { IsMacroPoint point }
-    ensures value { result ≡ box_of_point point }
-    ensures small { IsSmallBox result }
+    ensures { result ≡ box_of_point point }
 {
     let place = Spot {
         x: 2 * point.x,
@@ -251,7 +248,6 @@ fn point_bounds(point: Point) -> Bounds
 /// any of the rows.
 fn reached_tiles(grid: &Grid, columns: u32, bounds: Bounds, at: Point) -> Span
     requires grid { IsWideGrid grid.now columns }
-    requires bounds { IsSmallBox bounds }
     requires at { IsOnBoard at }
     ensures { AreReached grid.now columns bounds at result }
 {
@@ -266,12 +262,13 @@ fn reached_tiles(grid: &Grid, columns: u32, bounds: Bounds, at: Point) -> Span
     if rows.end <= rows.first {
         return Span::NONE;
     }
+    let seen = grid.row_from(rows.first, at);
     let centres = Lattice {
-        first: grid.x,
-        step: grid.step,
+        first: seen.x,
+        step: seen.step,
         count: columns,
     };
-    let reached = centres.between(low.x + 2 * at.x, high.x + 2 * at.x);
+    let reached = centres.between(low.x, high.x);
     if reached.end <= reached.first {
         return Span::NONE;
     }

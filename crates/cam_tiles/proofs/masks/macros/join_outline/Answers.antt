@@ -18,7 +18,7 @@ returns-then-tiles c =
     (λ s. IsInContour (relative c.args.at s) (placed_contour c.args.turn origin.offset (outline_of c.args.points.now)))
     c.args.marks.now
     (λ column row near below held.
-    let on = c.reached_tiles-tiles.ensures.each column row near below (c.turned_bounds-bounds.ensures.held _ held) in
+    let on = c.reached_tiles-tiles.ensures.each column row near below (c.turned_bounds-bounds.ensures _ held) in
     omega (arith, on.0, on.1, c.if-tiles.true))
 
 pub part_seen-part-requires-clause-there : goal.part_seen-part-requires-clause-there
@@ -46,5 +46,5 @@ returns c =
     ∙ part_length (64 * tiles.first) (64 * tiles.end) c.args.marks.now (omega (arith, c.if-tiles.false)) long)
     c.min.ensures
     (λ column row near below held.
-    c.reached_tiles-tiles.ensures.each column row near below (c.turned_bounds-bounds.ensures.held _ held))
+    c.reached_tiles-tiles.ensures.each column row near below (c.turned_bounds-bounds.ensures _ held))
     (rw c.part_seen-part.ensures at c.join_inside.ensures)

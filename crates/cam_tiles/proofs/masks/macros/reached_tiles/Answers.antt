@@ -1,10 +1,10 @@
-use Rattle.std.proofs.Common.{rules, subst, FitsSigned, w64, arith}
+use Rattle.std.proofs.Common.{rules, subst, sym, ap, FitsSigned, w64, arith, ◌≤ℤ◌}
 use Rattle.std.proofs.lemmas.Int.{to_z-of_z}
 use Rattle.cam_units.specs.Boxes.{Holds, IsBetween}
 use Rattle.cam_units.specs.declared.bounds.Bounds.{Bounds}
+use Rattle.cam_units.specs.declared.point.Spot.{Spot}
 use Rattle.cam_objects.specs.Image.{relative}
 use Rattle.cam_tiles.specs.Tiles.{centre_in}
-use Rattle.cam_tiles.proofs.SeenParts.{column_between, moved_fits, moved_kept}
 use Rattle.cam_tiles.proofs.masks.macros.reached_tiles.Goals as goal
 
 pub returns-then-rows : goal.returns-then-rows
@@ -22,31 +22,24 @@ returns-then-rows c =
           absurd (omega (arith, on.0, on.1, c.if-rows.true));
     }
 
-pub overflow_add-low : goal.overflow_add-low
-overflow_add-low c =
-    moved_fits c.in-Closed.low.x c.args.at.x (rw c.in-Closed.is at c.requires.bounds).0.x c.requires.at.x
-
-pub overflow_add-high : goal.overflow_add-high
-overflow_add-high c =
-    moved_fits c.in-Closed.high.x c.args.at.x (rw c.in-Closed.is at c.requires.bounds).1.x c.requires.at.x
-
 pub returns-then-reached : goal.returns-then-reached
 returns-then-reached c =
     let g = c.args.grid.now in
     let low = c.in-Closed.low in
     let high = c.in-Closed.high in
     let at = c.args.at in
-    let first : FitsSigned w64 g.x = search rules in
-    let step : FitsSigned w64 g.step = search rules in
-    let left = moved_kept low.x at.x (rw c.in-Closed.is at c.requires.bounds).0.x c.requires.at.x in
-    let right = moved_kept high.x at.x (rw c.in-Closed.is at c.requires.bounds).1.x c.requires.at.x in
-    let told = simp (left, right, to_z-of_z) at c.between-reached.ensures.each in
+    let left : FitsSigned w64 low.x = search rules in
+    let right : FitsSigned w64 high.x = search rules in
+    let first : FitsSigned w64 c.row_from-seen.result.x = search rules in
+    let step : FitsSigned w64 c.row_from-seen.result.step = search rules in
+    let told = simp to_z-of_z at c.between-reached.ensures.each in
     record {
       end = omega arith;
       each = λ column row near below held.
           let between : IsBetween low high (relative at (centre_in g column row)) =
           subst (λ (b : Bounds). Holds b (relative at (centre_in g column row))) c.in-Closed.is held in
-          let on = (told column near).1 (column_between g low high at column row between) in
+          let there = ap (λ (s : Spot). s.x) (c.row_from-seen.ensures.centres column) in
+          let on = (told column near).1 (subst (λ x. (low.x ≤ℤ x) × (x ≤ℤ high.x)) (sym there) (between.left, between.right)) in
           absurd (omega (arith, on.0, on.1, c.if-reached.true));
     }
 
@@ -56,16 +49,17 @@ returns c =
     let low = c.in-Closed.low in
     let high = c.in-Closed.high in
     let at = c.args.at in
-    let first : FitsSigned w64 g.x = search rules in
-    let step : FitsSigned w64 g.step = search rules in
-    let left = moved_kept low.x at.x (rw c.in-Closed.is at c.requires.bounds).0.x c.requires.at.x in
-    let right = moved_kept high.x at.x (rw c.in-Closed.is at c.requires.bounds).1.x c.requires.at.x in
-    let told = simp (left, right, to_z-of_z) at c.between-reached.ensures.each in
+    let left : FitsSigned w64 low.x = search rules in
+    let right : FitsSigned w64 high.x = search rules in
+    let first : FitsSigned w64 c.row_from-seen.result.x = search rules in
+    let step : FitsSigned w64 c.row_from-seen.result.step = search rules in
+    let told = simp to_z-of_z at c.between-reached.ensures.each in
     record {
       end = omega (arith, c.div_ceil.ensures, c.between-reached.ensures.few);
       each = λ column row near below held.
           let between : IsBetween low high (relative at (centre_in g column row)) =
           subst (λ (b : Bounds). Holds b (relative at (centre_in g column row))) c.in-Closed.is held in
-          let on = (told column near).1 (column_between g low high at column row between) in
+          let there = ap (λ (s : Spot). s.x) (c.row_from-seen.ensures.centres column) in
+          let on = (told column near).1 (subst (λ x. (low.x ≤ℤ x) × (x ≤ℤ high.x)) (sym there) (between.left, between.right)) in
           (omega (arith, on.0), omega (arith, on.1, c.div_ceil.ensures));
     }

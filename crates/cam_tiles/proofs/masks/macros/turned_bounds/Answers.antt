@@ -7,7 +7,7 @@ use Rattle.cam_units.specs.Boxes.{Holds, join_of}
 use Rattle.cam_macros.specs.declared.primitive.PrimShape.TheVariants.{Outline}
 use Rattle.cam_apertures.specs.Primitives.{IsMacroPoint, box_of_point, box_of_shape}
 use Rattle.cam_apertures.specs.Turned.{turned_point}
-use Rattle.cam_apertures.proofs.Corners.{one_more, small_joined}
+use Rattle.cam_apertures.proofs.Corners.{one_more}
 use Rattle.cam_apertures.proofs.Outlines.{near_turned, outline_places}
 use Rattle.cam_apertures.proofs.ShapeBoxes.{outline_box}
 use Rattle.cam_tiles.proofs.masks.macros.turned_bounds.Goals as goal
@@ -19,21 +19,18 @@ point_bounds-requires c =
 
 pub loop-point-preserved : goal.loop-point-preserved
 loop-point-preserved c =
-    let here = c.loop-point in record {
-      box = one_more (λ p. box_of_point (turned_point c.args.turn p)) c.args.points.now here.point-index _ here.bounds
-          c.point_bounds.result c.joined-bounds.result c.loop-point-test.true here.invariant.box
-          (c.point_bounds.ensures.value ∙ ap box_of_point c.apply.ensures.value) c.joined-bounds.ensures.value;
-      small = small_joined here.bounds c.point_bounds.result c.joined-bounds.result c.joined-bounds.ensures.value
-          here.invariant.small c.point_bounds.ensures.small;
-    }
+    let here = c.loop-point in
+    one_more (λ p. box_of_point (turned_point c.args.turn p)) c.args.points.now here.point-index _ here.bounds
+    c.point_bounds.result c.joined-bounds.result c.loop-point-test.true here.invariant
+    (c.point_bounds.ensures ∙ ap box_of_point c.apply.ensures.value) c.joined-bounds.ensures.value
 
-pub returns-clause-held : goal.returns-clause-held
-returns-clause-held c = λ s inside.
+pub returns : goal.returns
+returns c = λ s inside.
     let t = c.args.turn in
     let points = c.args.points.now in
     let all = take_all c.loop-point.point-index points c.loop-point-test.false in
     let box : c.loop-point.bounds ≡ box_of_shape (Outline (map (turned_point t) points)) =
-    rw all at c.loop-point.invariant.box
+    rw all at c.loop-point.invariant
     ∙ sym (fold-map (λ box p. join_of box (box_of_point p)) (turned_point t) Empty points) in
     subst (λ (b : Bounds). Holds b s) (sym box)
     (outline_box (map (turned_point t) points) s
