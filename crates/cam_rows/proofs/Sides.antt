@@ -17,38 +17,39 @@ beyond_on start step room i j order beyond =
     omega (arith, beyond, mul-le near near far far farther farther)
 
 -- the column before the next one
-pub last_is : (s : ChordSide) (last : ℕ) → IsSide s → 0 < s.inside → last ≡ s.next - s.step
+pub last_is : (reach : ℕ) (s : ChordSide) (last : ℕ) → IsSide reach s → 0 < s.inside → last ≡ s.next - s.step
     → last ≡ distance_at s (s.inside - 1)
-last_is s last side some is =
+last_is reach s last side some is =
     let inside : s.inside ≡ (s.inside - 1) + 1 = omega arith in
     let next : s.next ≡ distance_at s ((s.inside - 1) + 1) = rw inside at side.next in
     omega (arith, next, is)
 
-pub last_short : (s : ChordSide) → IsSide s → 0 < s.inside → s.next - s.step < 2 ^ 32
-last_short s side some =
+pub last_near : (reach : ℕ) (s : ChordSide) → IsSide reach s → 0 < s.inside → s.next - s.step < reach
+last_near reach s side some =
     let within = side.within in
-    omega (arith, last_is s (s.next - s.step) side some (omega arith), side.near (s.inside - 1) (omega arith))
+    let is : s.next - s.step ≡ distance_at s (s.inside - 1) = last_is reach s (s.next - s.step) side some (omega arith) in
+    rw is (side.near (s.inside - 1) (omega arith))
 
 -- where a walk outwards ends
-pub reached_outwards : (s : ChordSide) (room : ℕ) → IsSide s → AreNear s room
+pub reached_outwards : (reach : ℕ) (s : ChordSide) (room : ℕ) → IsSide reach s → AreNear s room
     → (s.inside < s.columns → IsBeyond s.next room) → HasReached s room
-reached_outwards s room side near stops = record {
+reached_outwards reach s room side near stops = record {
   near = near;
   beyond = λ j from within.
       beyond_on s.start s.step room s.inside j from (rw side.next at (stops (omega arith)));
 }
 
 -- where a walk inwards ends
-pub reached_inwards : (s : ChordSide) (room : ℕ) → IsSide s → AreBeyond s room
+pub reached_inwards : (reach : ℕ) (s : ChordSide) (room : ℕ) → IsSide reach s → AreBeyond s room
     → (0 < s.inside → IsBeyond (distance_at s (s.inside - 1)) room → ⊥) → HasReached s room
-reached_inwards s room side beyond stops = record {
+reached_inwards reach s room side beyond stops = record {
   near = λ j before here.
       stops (omega arith) (beyond_on s.start s.step room j (s.inside - 1) (omega arith) here);
   beyond = beyond;
 }
 
 -- and a step of it
-pub beyond_from : (s : ChordSide) (room : ℕ) → IsSide s → 0 < s.inside
+pub beyond_from : (reach : ℕ) (s : ChordSide) (room : ℕ) → IsSide reach s → 0 < s.inside
     → IsBeyond (distance_at s (s.inside - 1)) room
     → (j : ℕ) → s.inside - 1 ≤ j → IsBeyond (distance_at s j) room
-beyond_from s room side some last j from = beyond_on s.start s.step room (s.inside - 1) j from last
+beyond_from reach s room side some last j from = beyond_on s.start s.step room (s.inside - 1) j from last

@@ -5,7 +5,7 @@ use Rattle.cam_rows.proofs.chord.side.ChordSide.narrow.Goals as goal
 use Rattle.cam_rows.proofs.chord.side.ChordSide.narrow.Goals.{then-loop-self-test+else-is_last_beyond, else-loop-self-test}
 
 pub loop-self-preserved : goal.loop-self-preserved
-loop-self-preserved c =
+loop-self-preserved g c =
     let s = c.loop-self.self in
     let side = c.loop-self.invariant.side in
     let same = c.loop-self.invariant.same in
@@ -16,18 +16,19 @@ loop-self-preserved c =
         some = side.some;
         step = side.step;
         within = omega arith;
-        next = last_is s _ side (omega (arith, some)) (omega arith);
+        next = last_is _ s _ side (omega (arith, some)) (omega arith);
         near = side.near;
+        far = side.far;
       };
       beyond = λ j from _.
-          beyond_from s c.args.room side (omega (arith, some)) (c.is_last_beyond.ensures.0 c.if-is_last_beyond.true) j
+          beyond_from _ s c.args.room side (omega (arith, some)) (c.is_last_beyond.ensures.0 c.if-is_last_beyond.true) j
           from;
       same = record { start = same.start; step = same.step; columns = same.columns };
     }
 
 pub returns-clause-reached : goal.returns-clause-reached
-returns-clause-reached c =
-    let reached = reached_inwards c.loop-self.self c.args.room c.loop-self.invariant.side c.loop-self.invariant.beyond
+returns-clause-reached g c =
+    let reached = reached_inwards _ c.loop-self.self c.args.room c.loop-self.invariant.side c.loop-self.invariant.beyond
     (λ some. elim c.loop-self-test.branch [
       | then-loop-self-test+else-is_last_beyond w ↦ (λ here. absurd (false≢true (w.if-is_last_beyond.ensures.1 here)))
       | else-loop-self-test w ↦ absurd (omega (arith, some, w.loop-self-test.false))
