@@ -14,19 +14,6 @@ run_by R S P Q told same = (
   (λ both. told.1 (both.0, same.1 both.1)),
 )
 
--- what is in both of two runs
-pub joint_run : (first end start stop new_first new_end i : ℕ) (P : Type 0) → new_first ≡ max first start
-    → new_end ≡ min end stop → IsInRun start stop i ↔ P → IsInRun new_first new_end i ↔ (IsInRun first end i × P)
-joint_run first end start stop new_first new_end i P is_first is_end told = (
-  (λ run. (
-    (omega (arith, run.0, is_first), omega (arith, run.1, is_end)),
-    told.0 (omega (arith, run.0, is_first), omega (arith, run.1, is_end)),
-  )),
-  (λ both.
-      let other = told.1 both.1 in
-      (omega (arith, both.0.0, other.0, is_first), omega (arith, both.0.1, other.1, is_end))),
-)
-
 -- with their lengths
 pub record AreNarrowedAbove (columns : ℕ) (firsts ends : List ℕ) (IsHeld : ℕ → ℕ → Type 0) (end : ℕ)
     (new_firsts new_ends : List ℕ) : Type 0 where

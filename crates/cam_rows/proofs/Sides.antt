@@ -4,10 +4,6 @@ use Rattle.std.proofs.lemmas.Nat.{mul-le, mul-lt}
 use Rattle.cam_rows.specs.declared.chord.side.ChordSide.{ChordSide}
 use Rattle.cam_rows.specs.Machinery.Chords.{AreBeyond, AreNear, HasReached, IsBeyond, IsSide, distance_at}
 
--- the square of a distance fits
-pub square_fits : (n : ℕ) → n < 2 ^ 32 → Fits w64 (n * n)
-square_fits n short = let small = mul-lt n n (2 ^ 32) (2 ^ 32) short short in omega arith
-
 -- what lies farther out than a column beyond the chord is beyond it too
 pub beyond_on : (start step room i j : ℕ) → i ≤ j → IsBeyond (start + i * step) room → IsBeyond (start + j * step) room
 beyond_on start step room i j order beyond =

@@ -18,6 +18,7 @@ use side::{ChordSide, squared};
 
 /// What distances and heights are less than where 64 bits hold their squares, and what all are less than.
 pub(crate) const NEAR: u64 = 1 << 32;
+
 pub(crate) const FAR: u64 = 1 << 34;
 
 /// The columns of rows, one below another, in chords of a circle: from each row to the next its ends are found by a few
@@ -134,7 +135,10 @@ pub(crate) fn is_nearby(point: &Point, bound: u128, top: &Centres, rows: usize) 
 {
     let columns = top.offsets_from(point);
     let rightmost = columns.at(top.n - 1);
-    if bound > u128::from(u64::MAX) || columns.first.unsigned_abs() >= NEAR || rightmost.unsigned_abs() >= NEAR {
+    if bound > u128::from(u64::MAX)
+        || columns.first.unsigned_abs() >= NEAR
+        || rightmost.unsigned_abs() >= NEAR
+    {
         return false;
     }
     let highest = top.rise_below(0, point);

@@ -54,7 +54,13 @@ fn circle_runs(cap: &Cap, top: &Centres, firsts: &mut [u32], ends: &mut [u32])
 
 /// The runs of a cap's circle, by walks from each row to the next.
 #[tactic(auto, using(crate::proofs::WideRows::top_is_wide, crate::proofs::WideRows::all_found, crate::proofs::WideRows::no_run))]
-fn rows_of<const REACH: u64>(cap: &Cap, radius: u128, top: &Centres, firsts: &mut [u32], ends: &mut [u32])
+fn rows_of<const REACH: u64>(
+    cap: &Cap,
+    radius: u128,
+    top: &Centres,
+    firsts: &mut [u32],
+    ends: &mut [u32],
+)
     requires cap { IsSoundCap cap.now }
     requires radius { pos radius ≡ dot (way cap.now.centre cap.now.from) (way cap.now.centre cap.now.from) }
     requires some { 0 < length firsts.old }
