@@ -1,7 +1,7 @@
 -- Caps by rows: how ties are decided, which centres of a row are in the circle, and where a chord leads.
-use Rattle.std.proofs.Common.{◌≡◌, ◌↔◌, ◌⊎◌, ℕ, ◌+◌, ◌-◌, ◌*◌, ◌<◌, ◌≤◌, ℤ, pos, ◌+ℤ◌, ◌-ℤ◌, ◌*ℤ◌, ◌≤ℤ◌, ◌<ℤ◌}
+use Rattle.std.proofs.Common.{◌≡◌, ◌↔◌, ◌⊎◌, ℕ, ◌+◌, ◌-◌, ◌<◌, ◌≤◌, ℤ, pos, ◌+ℤ◌, ◌-ℤ◌, ◌*ℤ◌, ◌≤ℤ◌, ◌<ℤ◌}
 use Rattle.std.proofs.Common.{inl, inr, Bool, true, false, IsTrue, ap, sym, ◌∙◌, arith}
-use Rattle.std.specs.Int.RustNames.{int_lt, unsigned_abs}
+use Rattle.std.specs.Int.RustNames.{int_lt}
 use Rattle.std.specs.Ordering.{int_eq}
 use Rattle.std.proofs.lemmas.Int.{ints, by_lt_z}
 use Rattle.std.proofs.lemmas.Bool.{cases_Bool, false≢true}
@@ -11,7 +11,6 @@ use Rattle.cam_shapes.specs.Cap.{is_in_circle, is_less}
 use Rattle.cam_shapes.specs.Plane.{dot, square}
 use Rattle.cam_shapes.proofs.Crossings.{less_is, not_under, under}
 use Rattle.cam_shapes.proofs.Widths.{square_is}
-use Rattle.cam_rows.proofs.Circling.{below_root}
 use Rattle.cam_rows.specs.Machinery.Chords.{IsInChord}
 use Rattle.cam_rows.specs.Machinery.Ties.{is_inside_chord, leads_down_or_right}
 

@@ -1,17 +1,16 @@
 -- Rows whose centres lie near a point, by their first and last centres.
-use Rattle.std.proofs.Common.{◌≡◌, ℕ, ◌+◌, ◌-◌, ◌*◌, ◌^◌, ◌<◌, ◌≤◌, ℤ, pos, ◌+ℤ◌, ◌-ℤ◌, ◌*ℤ◌, ◌≤ℤ◌, ◌<ℤ◌}
-use Rattle.std.proofs.Common.{FitsSigned, w64, refl, arith}
+use Rattle.std.proofs.Common.{◌≡◌, ℕ, ◌-◌, ◌*◌, ◌^◌, ◌<◌, ◌≤◌, ℤ, pos, ◌+ℤ◌, ◌-ℤ◌, ◌*ℤ◌, ◌≤ℤ◌}
+use Rattle.std.proofs.Common.{refl, arith}
 use Rattle.std.specs.Int.RustNames.{unsigned_abs}
 use Rattle.std.proofs.lemmas.Int.{ints}
 use Rattle.std.proofs.lemmas.Nat.{mul-le}
 use Rattle.cam_units.specs.Board.{IsOnBoard}
 use Rattle.cam_units.specs.declared.point.Point.{Point}
-use Rattle.cam_shapes.specs.Plane.{seen_from, square}
+use Rattle.cam_shapes.specs.Plane.{square}
 use Rattle.cam_shapes.proofs.Widths.{narrow}
 use Rattle.cam_rows.specs.declared.centres.Centres.{Centres}
 use Rattle.cam_rows.specs.declared.offsets.Offsets.{Offsets}
 use Rattle.cam_rows.specs.Machinery.Chords.{AreOffsetsFrom, AreWithin, offset}
-use Rattle.cam_rows.specs.Rows.{first_of, row_below}
 use Rattle.cam_rows.specs.Runs.{AreWideRows, IsWideRow}
 use Rattle.cam_rows.proofs.Circling.{square_of}
 use Rattle.cam_rows.proofs.Columns.{goes_right}

@@ -1,4 +1,4 @@
-use Rattle.std.proofs.Common.{◌≡◌, ◌-◌, pos, ◌-ℤ◌, ◌*ℤ◌, ◌<◌, ◌+◌, ◌^◌, arith}
+use Rattle.std.proofs.Common.{◌≡◌, ◌-◌, pos, ◌-ℤ◌, ◌*ℤ◌, ◌<◌, ◌^◌, arith}
 use Rattle.std.proofs.lemmas.Bool.{ltb-true}
 use Rattle.std.proofs.lemmas.Int.{ints}
 use Rattle.std.specs.Int.RustNames.{unsigned_abs}

@@ -1,4 +1,4 @@
-use Rattle.std.proofs.Common.{◌<◌, ◌+◌, length, IsTrue, sym, arith}
+use Rattle.std.proofs.Common.{length, IsTrue, sym, arith}
 use Rattle.cam_shapes.specs.Cap.{is_in_circle}
 use Rattle.cam_shapes.specs.Plane.{seen_from, way}
 use Rattle.cam_rows.specs.Rows.{centre_at, row_below}

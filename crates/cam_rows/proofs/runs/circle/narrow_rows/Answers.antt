@@ -1,4 +1,4 @@
-use Rattle.std.proofs.Common.{◌<◌, ◌+◌, length, arith}
+use Rattle.std.proofs.Common.{◌<◌, length, arith}
 use Rattle.cam_rows.specs.Machinery.Narrowing.{IsNearer}
 use Rattle.cam_rows.specs.Rows.{centre_at, row_below}
 use Rattle.cam_rows.proofs.NarrowedRuns.{all_runs, next_run, no_runs, run_by}
