@@ -1,11 +1,8 @@
 -- Crossings of falling numbers, as 64 bits compute them.
-use Rattle.std.proofs.Common.{◌≡◌, ℕ, ◌/◌, ◌%◌, ◌^◌, ◌<◌, ◌≤◌, ◌↔◌, IsTrue, Bool, true, ℤ, pos, negsuc, ◌+ℤ◌, ◌-ℤ◌}
-use Rattle.std.proofs.Common.{FitsSigned, refl, ◌∙◌, to_z, w64, arith}
-use Rattle.std.specs.Int.{w128}
+use Rattle.std.proofs.Common.{◌≡◌, ◌^◌, ◌≤◌, ℤ, pos, ◌+ℤ◌, ◌-ℤ◌}
+use Rattle.std.proofs.Common.{FitsSigned, refl, ◌∙◌, w64, arith}
 use Rattle.std.specs.Int.RustNames.{unsigned_abs}
 use Rattle.std.proofs.lemmas.Int.{ints}
-use Rattle.std.proofs.lemmas.Nat.{mul-le}
-use Rattle.cam_units.proofs.Ring.{Atom, Difference, Product, Sum, equal}
 use Rattle.cam_shapes.proofs.Widths.{narrow, wide}
 use Rattle.cam_rows.specs.declared.slope.Steps.{Steps}
 use Rattle.cam_rows.specs.Machinery.Slopes.{AreStepsOf, IsDivisor, IsRest, IsShortDivisor, IsTopOf, whole}

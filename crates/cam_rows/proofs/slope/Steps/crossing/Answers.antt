@@ -1,4 +1,3 @@
-use Rattle.std.proofs.Common.{◌∙◌}
 use Rattle.cam_rows.proofs.ShortSlopes.{divided_top}
 use Rattle.cam_rows.proofs.slope.Steps.crossing.Goals as goal
 
