@@ -1,6 +1,6 @@
 -- The columns on both sides of a circle's middle, by how far they lie to the right of it.
 use Rattle.std.proofs.Common.{◌≡◌, ℕ, ◌+◌, ◌-◌, ◌*◌, ◌^◌, ◌<◌, ◌≤◌, ℤ, pos, ◌+ℤ◌, ◌-ℤ◌, ◌*ℤ◌, ◌<ℤ◌}
-use Rattle.std.proofs.Common.{◌↔◌, refl, arith}
+use Rattle.std.proofs.Common.{◌↔◌, min, refl, arith}
 use Rattle.std.specs.Int.RustNames.{unsigned_abs}
 use Rattle.std.proofs.lemmas.Int.{by_lt_z, ints}
 use Rattle.cam_units.specs.declared.point.Point.{Point}
@@ -53,8 +53,8 @@ module _ (reach : ℕ) (row : Centres) (p : Point) (o : Offsets) (m pitch left r
     (far : reach ≤ 2 ^ 34) (near : (i : ℕ) → i < row.n → unsigned_abs (seen_from p (centre_at row i)).x < reach)
     (offsets : AreOffsetsFrom row p o) (is_pitch : pitch ≡ unsigned_abs o.step) (small : pitch < 2 ^ 63) (is_middle : x ≡ pos 2 *ℤ p.x)
     (is_left : (i : ℕ) → i < row.n → (i < m) ↔ ((centre_at row i).x <ℤ x)) (few : m ≤ row.n)
-    (is_left_start : 0 < m → left ≡ unsigned_abs (place_at o (m - 1)))
-    (is_right_start : m < row.n → right ≡ unsigned_abs (place_at o m)) where
+    (is_left_start : left ≡ unsigned_abs (place_at o (m - 1)))
+    (is_right_start : right ≡ unsigned_abs (place_at o (min m (row.n - 1)))) where
   is_step : o.step ≡ pos pitch
   is_step = omega (arith, ints, offsets.step, wide.step)
 
@@ -70,13 +70,14 @@ module _ (reach : ℕ) (row : Centres) (p : Point) (o : Offsets) (m pitch left r
       omega (arith, ints, less, seen i, is_middle)
 
   from_left : 0 < m → pos left ≡ pos 0 -ℤ place_at o (m - 1)
-  from_left some = omega (arith, ints, left_of_middle (m - 1) (omega (arith, some)), is_left_start some)
+  from_left some = omega (arith, ints, left_of_middle (m - 1) (omega (arith, some)), is_left_start)
 
   from_right : m < row.n → pos right ≡ place_at o m
   from_right some = by_lt_z (place_at o m) (pos 0)
       (λ less.
       let before = (is_left m some).1 (omega (arith, ints, less, seen m, is_middle)) in absurd (omega (arith, before)))
-      (λ least. omega (arith, ints, least, is_right_start some))
+      (λ least.
+      let first : min m (row.n - 1) ≡ m = omega (arith, some) in omega (arith, ints, least, rw first at is_right_start))
 
   left_near : (j : ℕ) → j < m → left + j * pitch < reach
   left_near j before =
@@ -90,12 +91,19 @@ module _ (reach : ℕ) (row : Centres) (p : Point) (o : Offsets) (m pitch left r
       (from_right (omega (arith, before))) in
       omega (arith, ints, at, near_place (m + j) (omega (arith, before)))
 
-  side_of : (s : ChordSide) (start columns : ℕ) → ((j : ℕ) → j < columns → start + j * pitch < reach)
+  left_within : left < reach
+  left_within = rw is_left_start (near_place (m - 1) (omega (arith, few, wide.count.0)))
+
+  right_within : right < reach
+  right_within = rw is_right_start (near_place (min m (row.n - 1)) (omega (arith, wide.count.0)))
+
+  side_of : (s : ChordSide) (start columns : ℕ) → start < reach → ((j : ℕ) → j < columns → start + j * pitch < reach)
       → s ≡ record { start = start; step = pitch; columns = columns; inside = 0; next = start; room = 0 }
       → IsSide reach s × HasReached s s.room
-  side_of s start columns short is = rw is (
+  side_of s start columns within short is = rw is (
     record {
       some = omega (arith, ints, is_step, offsets.step, wide.step);
+      start = within;
       step = small;
       within = omega arith;
       next = omega arith;
@@ -112,8 +120,8 @@ module _ (reach : ℕ) (row : Centres) (p : Point) (o : Offsets) (m pitch left r
   chord_of s t is_s is_t =
       let short_right : (j : ℕ) → j < o.count - m → right + j * pitch < reach =
       λ j before. right_near j (omega (arith, before, offsets.count)) in
-      let left_side = side_of s left m left_near is_s in
-      let right_side = side_of t right (o.count - m) short_right is_t in
+      let left_side = side_of s left m left_within left_near is_s in
+      let right_side = side_of t right (o.count - m) right_within short_right is_t in
       rw (is_s, is_t) (record {
         few = omega (arith, offsets.count, wide.count.1);
         columns = omega (arith, offsets.count, few);

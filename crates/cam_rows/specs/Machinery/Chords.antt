@@ -42,6 +42,7 @@ IsBeyond distance room = room ≤ distance * distance
 -- the next one after those in the chord is known, and all of them lie within a reach, of which 128 bits hold the square
 pub record IsSide (reach : ℕ) (s : ChordSide) : Type 0 where
   pub some : 1 ≤ s.step
+  pub start : s.start < reach
   pub step : s.step < 2 ^ 63
   pub within : s.inside ≤ s.columns
   pub next : s.next ≡ distance_at s s.inside

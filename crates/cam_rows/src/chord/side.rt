@@ -83,7 +83,9 @@ impl ChordSide {
         ensures room { self.new.room ≡ room }
         ensures same { IsSameSide self.old self.new }
     {
-        while self.inside < self.columns && !is_beyond::<REACH>(self.next, room) {
+        // by places, which the compiler does not count: it would test many columns at once, and a walk is short
+        let end = self.start + u64::from(self.columns) * self.step;
+        while self.next < end && !is_beyond::<REACH>(self.next, room) {
             self.inside += 1;
             self.next += self.step;
         }
@@ -100,7 +102,7 @@ impl ChordSide {
         ensures room { self.new.room ≡ room }
         ensures same { IsSameSide self.old self.new }
     {
-        while self.inside > 0 && self.is_last_beyond::<REACH>(room) {
+        while self.next > self.start && self.is_last_beyond::<REACH>(room) {
             self.inside -= 1;
             self.next -= self.step;
         }

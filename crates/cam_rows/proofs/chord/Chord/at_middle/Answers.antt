@@ -1,4 +1,4 @@
-use Rattle.std.proofs.Common.{◌≡◌, ◌-◌, ◌<◌, arith}
+use Rattle.std.proofs.Common.{◌≡◌, ◌-◌, min, arith}
 use Rattle.std.specs.Int.RustNames.{unsigned_abs}
 use Rattle.std.proofs.lemmas.Int.{ints}
 use Rattle.cam_rows.proofs.Middles.{chord_of, place_at}
@@ -6,22 +6,22 @@ use Rattle.cam_rows.proofs.chord.Chord.at_middle.Given.{Over}
 use Rattle.cam_rows.proofs.chord.Chord.at_middle.Goals as goal
 use Rattle.cam_rows.proofs.chord.Chord.at_middle.Goals.{After-new-2}
 
-left : (g : Over) (c : After-new-2 g) → 0 < c.count_left_of-middle.result
-    → c.unsigned_abs.result ≡ unsigned_abs (place_at c.offsets_from-offsets.result (c.count_left_of-middle.result - 1))
-left g c some =
+left : (g : Over) (c : After-new-2 g) → c.unsigned_abs.result
+    ≡ unsigned_abs (place_at c.offsets_from-offsets.result (c.count_left_of-middle.result - 1))
+left g c =
     let told = c.offsets_from-offsets.ensures in
     let at = rw c.saturating_sub.ensures at c.at-last_left.ensures in
     let short = (told.wide.short (c.count_left_of-middle.result - 1)
-    (omega (arith, some, told.each.count, c.count_left_of-middle.ensures.few))).1 in
+    (omega (arith, told.each.count, c.count_left_of-middle.ensures.few, c.requires.row.count.0))).1 in
     omega (arith, ints, at, short, c.unsigned_abs.ensures.value)
 
-right : (g : Over) (c : After-new-2 g) → c.count_left_of-middle.result < c.args.top.now.n
-    → c.unsigned_abs-2.result ≡ unsigned_abs (place_at c.offsets_from-offsets.result c.count_left_of-middle.result)
-right g c some =
+right : (g : Over) (c : After-new-2 g) → c.unsigned_abs-2.result
+    ≡ unsigned_abs (place_at c.offsets_from-offsets.result (min c.count_left_of-middle.result (c.args.top.now.n - 1)))
+right g c =
     let told = c.offsets_from-offsets.ensures in
-    let least : c.min.result ≡ c.count_left_of-middle.result = omega (arith, c.min.ensures, told.each.count, some) in
-    let at = rw least at c.at-first_right.ensures in
-    let short = (told.wide.short c.count_left_of-middle.result (omega (arith, some, told.each.count))).1 in
+    let at = rw (c.min.ensures, told.each.count) at c.at-first_right.ensures in
+    let short = (told.wide.short (min c.count_left_of-middle.result (c.args.top.now.n - 1))
+    (omega (arith, told.each.count, c.requires.row.count.0))).1 in
     omega (arith, ints, at, short, c.unsigned_abs-2.ensures.value)
 
 pub returns-clause-chord : goal.returns-clause-chord
