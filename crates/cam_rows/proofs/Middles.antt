@@ -3,6 +3,7 @@ use Rattle.std.proofs.Common.{◌≡◌, ℕ, ◌+◌, ◌-◌, ◌*◌, ◌^◌
 use Rattle.std.proofs.Common.{◌↔◌, min, refl, arith}
 use Rattle.std.specs.Int.RustNames.{unsigned_abs}
 use Rattle.std.proofs.lemmas.Int.{by_lt_z, ints}
+use Rattle.std.proofs.lemmas.Nat.{mul-le}
 use Rattle.cam_units.specs.declared.point.Point.{Point}
 use Rattle.cam_shapes.specs.Plane.{seen_from}
 use Rattle.cam_rows.specs.declared.centres.Centres.{Centres}
@@ -109,6 +110,7 @@ module _ (reach : ℕ) (row : Centres) (p : Point) (o : Offsets) (m pitch left r
       next = omega arith;
       near = short;
       far = far;
+      fits = omega (arith, within, mul-le 1 1 reach reach (omega (arith, within)) (omega (arith, within)));
     },
     record { near = λ j inside. absurd (omega (arith, inside)); beyond = λ j from within. omega arith },
   )

@@ -58,6 +58,8 @@ impl Chord {
     #[inline]
     pub(crate) fn walk<const REACH: u64>(&mut self, to_left: u128, to_right: u128) -> Run
         requires chord { IsChord REACH self.old }
+        requires left { to_left < REACH * REACH }
+        requires right { to_right < REACH * REACH }
         ensures chord { IsChord REACH self.new }
         ensures same { self.new.offsets ≡ self.old.offsets }
         ensures each { (i : ℕ) → i < self.old.offsets.count → IsInRun result.first result.end i
@@ -74,6 +76,7 @@ impl Chord {
     /// Goes to about a chord the square of whose half is so, where it is long: by a root, so that the walk is short.
     pub(crate) fn leap<const REACH: u64>(&mut self, room: u128)
         requires chord { IsChord REACH self.old }
+        requires fits { room < REACH * REACH }
         ensures chord { IsChord REACH self.new }
         ensures same { self.new.offsets ≡ self.old.offsets }
     {
@@ -87,10 +90,11 @@ impl Chord {
     }
 
     /// The part of a run that lies in the chord of another row: the columns whose distance to the side has a square less
-    /// than `room`. To an empty run nothing is walked.
+    /// than `room`. To an empty run, or a chord without a place, nothing is walked.
     #[inline]
     pub(crate) fn part<const REACH: u64>(&mut self, room: u128, run: Run) -> Run
         requires chord { IsChord REACH self.old }
+        requires fits { room < REACH * REACH }
         ensures chord { IsChord REACH self.new }
         ensures same { self.new.offsets ≡ self.old.offsets }
         ensures each { (i : ℕ) → i < self.old.offsets.count → IsInRun result.first result.end i
@@ -100,6 +104,9 @@ impl Chord {
     {
         if run.end <= run.first {
             return run;
+        }
+        if room == 0 {
+            return Run { first: 0, end: 0 };
         }
         let chord = self.walk::<REACH>(room, room);
         Run {
@@ -115,7 +122,8 @@ impl Chord {
 pub(crate) fn room_at<const REACH: u64>(bound: u128, height: i64) -> u128
     requires bound { bound < REACH * REACH }
     requires height { unsigned_abs height < REACH }
-    ensures { result ≡ bound - unsigned_abs height * unsigned_abs height }
+    ensures room { result ≡ bound - unsigned_abs height * unsigned_abs height }
+    ensures fits { result < REACH * REACH }
 {
     let height = height.unsigned_abs();
     if REACH > NEAR {

@@ -48,6 +48,7 @@ pub record IsSide (reach : ℕ) (s : ChordSide) : Type 0 where
   pub next : s.next ≡ distance_at s s.inside
   pub near : (j : ℕ) → j < s.columns → distance_at s j < reach
   pub far : reach ≤ 2 ^ 34
+  pub fits : s.room < reach * reach
 
 -- those that are taken to be in the chord are
 abbrev pub AreNear : ChordSide → ℕ → Type 0

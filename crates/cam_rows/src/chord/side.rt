@@ -40,13 +40,14 @@ impl ChordSide {
     pub(super) fn walk<const REACH: u64>(&mut self, room: u128) -> u32
         requires side { IsSide REACH self.old }
         requires reached { HasReached self.old self.old.room }
+        requires fits { room < REACH * REACH }
         ensures side { IsSide REACH self.new }
         ensures reached { HasReached self.new self.new.room }
         ensures room { self.new.room ≡ room }
         ensures same { IsSameSide self.old self.new }
         ensures inside { result ≡ self.new.inside }
     {
-        if room < self.room {
+        if is_less::<REACH>(room, self.room) {
             self.narrow::<REACH>(room);
         } else {
             self.widen::<REACH>(room);
@@ -58,6 +59,7 @@ impl ChordSide {
     /// guess is right.
     pub(super) fn leap<const REACH: u64>(&mut self, half: u64, room: u128)
         requires side { IsSide REACH self.old }
+        requires fits { room < REACH * REACH }
         ensures side { IsSide REACH self.new }
         ensures reached { HasReached self.new self.new.room }
         ensures same { IsSameSide self.old self.new }
@@ -78,6 +80,7 @@ impl ChordSide {
     fn widen<const REACH: u64>(&mut self, room: u128)
         requires side { IsSide REACH self.old }
         requires near { AreNear self.old room }
+        requires fits { room < REACH * REACH }
         ensures side { IsSide REACH self.new }
         ensures reached { HasReached self.new self.new.room }
         ensures room { self.new.room ≡ room }
@@ -97,6 +100,7 @@ impl ChordSide {
     fn narrow<const REACH: u64>(&mut self, room: u128)
         requires side { IsSide REACH self.old }
         requires beyond { AreBeyond self.old room }
+        requires fits { room < REACH * REACH }
         ensures side { IsSide REACH self.new }
         ensures reached { HasReached self.new self.new.room }
         ensures room { self.new.room ≡ room }
@@ -115,6 +119,7 @@ impl ChordSide {
     fn is_last_beyond<const REACH: u64>(&self, room: u128) -> bool
         requires side { IsSide REACH self.now }
         requires some { 0 < self.now.inside }
+        requires fits { room < REACH * REACH }
         ensures { IsTrue result ↔ IsBeyond (distance_at self.now (self.now.inside - 1)) room }
     {
         is_beyond::<REACH>(self.next - self.step, room)
@@ -124,14 +129,27 @@ impl ChordSide {
 /// Whether a distance is past half a chord, where the square of the half is so: in 64 bits, but for what is far.
 #[inline]
 fn is_beyond<const REACH: u64>(distance: u64, room: u128) -> bool
-    requires { distance < REACH }
+    requires near { distance < REACH }
+    requires fits { room < REACH * REACH }
     ensures { IsTrue result ↔ IsBeyond distance room }
 {
     if REACH > NEAR {
         return squared(distance) >= room;
     }
-    // a longer chord than 64 bits hold has all that is not far
-    distance * distance >= room.min(u128::from(u64::MAX)) as u64
+    distance * distance >= room as u64
+}
+
+/// Whether one square is less than another: in 64 bits, but for those of what is far.
+#[inline]
+fn is_less<const REACH: u64>(square: u128, other: u128) -> bool
+    requires fits { square < REACH * REACH }
+    requires other { other < REACH * REACH }
+    ensures { IsTrue result ↔ (square < other) }
+{
+    if REACH > NEAR {
+        return square < other;
+    }
+    (square as u64) < other as u64
 }
 
 /// The square of a distance, by a multiplication in 64 bits where it fits them.

@@ -38,7 +38,8 @@ pub(super) fn run_at<const REACH: u64>(chord: &mut Chord, radius: u128, height: 
 #[inline]
 fn right_room(to_left: u128, is_below: bool) -> u128
     requires { 0 < to_left }
-    ensures { (x : ℤ) → pos 0 ≤ℤ x
+    ensures fits { result ≤ to_left }
+    ensures each { (x : ℤ) → pos 0 ≤ℤ x
         → IsTrue (is_inside_chord x (to_left - 1) is_below) ↔ (square x <ℤ pos result) }
 {
     if to_left == 1 && is_below {

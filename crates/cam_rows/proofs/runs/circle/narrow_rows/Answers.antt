@@ -58,7 +58,7 @@ loop-k-preserved g c =
           (λ i small.
           run_by _ _ _ _ (rw inv.offsets.count at (part.ensures.each i) small)
           (near_column top point c.loop-k.chord.offsets k i _ c.room_at-room.result
-          c.args.bound inv.offsets (height_square _ _ height) c.room_at-room.ensures))
+          c.args.bound inv.offsets (height_square _ _ height) c.room_at-room.ensures.room))
           part.ensures.within;
     }
 

@@ -22,6 +22,7 @@ loop-self-preserved g c =
         within = omega arith;
         next = last_is _ s _ side (omega (arith, some)) (omega arith);
         start = side.start;
+        fits = side.fits;
         near = side.near;
         far = side.far;
       };

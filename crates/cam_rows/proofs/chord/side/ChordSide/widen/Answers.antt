@@ -11,8 +11,8 @@ pub overflow_add-end : goal.overflow_add-end
 overflow_add-end g c =
     let fits = end_fits g.row.REACH c.args.self.now c.requires.side in rw c.from.ensures (omega (arith, fits))
 
-pub is_beyond-requires : goal.is_beyond-requires
-is_beyond-requires g c =
+pub is_beyond-requires-clause-near : goal.is_beyond-requires-clause-near
+is_beyond-requires-clause-near g c =
     let s = c.loop-self.self in
     let side = c.loop-self.invariant.side in
     let some = (before_end g.row.REACH _ c.args.self.now s side c.loop-self.invariant.same c.from.ensures).0
