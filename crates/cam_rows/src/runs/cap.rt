@@ -72,8 +72,10 @@ fn rows_of<const REACH: u64>(
 {
     let mut chord = Chord::at_middle::<REACH>(&cap.centre, top);
     chord.leap::<REACH>(room_at::<REACH>(radius + 1, top.rise_below(0, &cap.centre)));
+    // copies, which no write to a row can change
+    let (middle, highest) = (cap.centre, *top);
     for k in 0..firsts.len() {
-        let run = run_at::<REACH>(&mut chord, radius, top.rise_below(k, &cap.centre));
+        let run = run_at::<REACH>(&mut chord, radius, highest.rise_below(k, &middle));
         firsts[k] = run.first;
         ends[k] = run.end;
     }

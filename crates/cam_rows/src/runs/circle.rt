@@ -57,8 +57,10 @@ fn narrow_rows<const REACH: u64>(
 {
     let mut chord = Chord::at_middle::<REACH>(point, top);
     chord.leap::<REACH>(room_at::<REACH>(bound, top.rise_below(0, point)));
+    // copies, which no write to a row can change
+    let (middle, highest) = (*point, *top);
     for k in 0..firsts.len() {
-        let room = room_at::<REACH>(bound, top.rise_below(k, point));
+        let room = room_at::<REACH>(bound, highest.rise_below(k, &middle));
         let run = Run {
             first: firsts[k],
             end: ends[k],
