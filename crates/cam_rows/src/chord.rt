@@ -16,9 +16,10 @@ use crate::runs::Run;
 use cam_units::{Point, isqrt};
 use side::{ChordSide, squared};
 
-/// What distances and heights are less than where 64 bits hold their squares, and what all are less than.
+/// What distances and heights are less than, where 64 bits hold their squares.
 pub(crate) const NEAR: u64 = 1 << 32;
 
+/// What all of them are less than.
 pub(crate) const FAR: u64 = 1 << 34;
 
 /// The columns of rows, one below another, in chords of a circle: from each row to the next its ends are found by a few

@@ -115,7 +115,6 @@ impl ChordSide {
 
     /// Whether the last column of the chord lies beyond another one.
     #[inline]
-    #[tactic(auto, using(crate::proofs::Sides::last_near))]
     fn is_last_beyond<const REACH: u64>(&self, room: u128) -> bool
         requires side { IsSide REACH self.now }
         requires some { 0 < self.now.inside }

@@ -53,7 +53,6 @@ fn circle_runs(cap: &Cap, top: &Centres, firsts: &mut [u32], ends: &mut [u32])
 }
 
 /// The runs of a cap's circle, by walks from each row to the next.
-#[tactic(auto, using(crate::proofs::WideRows::top_is_wide, crate::proofs::WideRows::all_found, crate::proofs::WideRows::no_run))]
 fn rows_of<const REACH: u64>(
     cap: &Cap,
     radius: u128,

@@ -39,7 +39,6 @@ pub(crate) fn narrow_to_circle(
 }
 
 /// Narrows the runs of rows to a circle, by walks from each row to the next.
-#[tactic(auto, using(crate::proofs::WideRows::top_is_wide))]
 fn narrow_rows<const REACH: u64>(
     point: &Point,
     bound: u128,
