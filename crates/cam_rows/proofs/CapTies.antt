@@ -1,7 +1,7 @@
 -- Caps by rows: how ties are decided, which centres of a row are in the circle, and where a chord leads.
-use Rattle.std.proofs.Common.{◌≡◌, ◌↔◌, ◌⊎◌, ℕ, ◌+◌, ◌-◌, ◌*◌, ◌<◌, ◌≤◌, ℤ, pos, ◌+ℤ◌, ◌-ℤ◌, ◌*ℤ◌, ◌≤ℤ◌, ◌<ℤ◌}
+use Rattle.std.proofs.Common.{◌≡◌, ◌↔◌, ◌⊎◌, ℕ, ◌+◌, ◌-◌, ◌<◌, ◌≤◌, ℤ, pos, ◌+ℤ◌, ◌-ℤ◌, ◌*ℤ◌, ◌≤ℤ◌, ◌<ℤ◌}
 use Rattle.std.proofs.Common.{inl, inr, Bool, true, false, IsTrue, ap, sym, ◌∙◌, arith}
-use Rattle.std.specs.Int.RustNames.{int_lt, unsigned_abs}
+use Rattle.std.specs.Int.RustNames.{int_lt}
 use Rattle.std.specs.Ordering.{int_eq}
 use Rattle.std.proofs.lemmas.Int.{ints, by_lt_z}
 use Rattle.std.proofs.lemmas.Bool.{cases_Bool, false≢true}
@@ -11,7 +11,6 @@ use Rattle.cam_shapes.specs.Cap.{is_in_circle, is_less}
 use Rattle.cam_shapes.specs.Plane.{dot, square}
 use Rattle.cam_shapes.proofs.Crossings.{less_is, not_under, under}
 use Rattle.cam_shapes.proofs.Widths.{square_is}
-use Rattle.cam_rows.proofs.Circling.{below_root}
 use Rattle.cam_rows.specs.Machinery.Chords.{IsInChord}
 use Rattle.cam_rows.specs.Machinery.Ties.{is_inside_chord, leads_down_or_right}
 
@@ -97,30 +96,6 @@ circle_chord u v room to_right is_below circle right =
           (λ h. inl (h, (left h).0 (circle.0 inside)))
           (λ h. inr (h, (right h).0 (circle.0 inside)))),
       (λ on. circle.1 (elim on [ inl both ↦ (left both.0).1 both.1 | inr both ↦ (right both.0).1 both.1 ])),
-    )
-
--- and by how far they reach
-pub circle_strip : (u v : Vector) (place middle left right reach : ℤ) (room root : ℕ) (is_below : Bool)
-    → IsTrue (is_in_circle u v) ↔ IsTrue (is_inside_chord v.x room is_below)
-    → (pos 0 ≤ℤ v.x → IsTrue (is_inside_chord v.x room is_below) ↔ (v.x ≤ℤ reach))
-    → root * root ≤ room → room < (root + 1) * (root + 1) → v.x ≡ place -ℤ middle → left ≡ middle -ℤ pos root
-    → right ≡ middle +ℤ reach → pos 0 ≤ℤ (reach +ℤ pos 1)
-    → IsTrue (is_in_circle u v) ↔ ((left ≤ℤ place) × (place ≤ℤ right))
-circle_strip u v place middle left right reach room root is_below circle to_right least greatest is_place is_left is_right
-    some =
-    let to_left = inside_left v.x room is_below in
-    let rooted = below_root (unsigned_abs v.x) room root least greatest in
-    let wide = square_is v.x in (
-      (λ inside. by_lt_z v.x (pos 0)
-          (λ h.
-          let near = rooted.0 (omega (arith, ints, (to_left h).0 (circle.0 inside), wide)) in
-          (omega (arith, ints, near, is_place, is_left), omega (arith, ints, h, is_place, is_right, some)))
-          (λ h.
-          let near = (to_right h).0 (circle.0 inside) in
-          (omega (arith, ints, h, is_place, is_left), omega (arith, ints, near, is_place, is_right)))),
-      (λ between. circle.1 (by_lt_z v.x (pos 0)
-          (λ h. (to_left h).1 (omega (arith, ints, rooted.1 (omega (arith, ints, h, between.0, is_place, is_left)), wide)))
-          (λ h. (to_right h).1 (omega (arith, ints, between.1, is_place, is_right))))),
     )
 
 -- a row above or below the circle

@@ -29,11 +29,11 @@ on_side inside j distance room x is near beyond =
     )
 
 -- the columns of the run are those in the chord
-pub in_walk : (c : Chord) (l r : ChordSide) (to_left to_right i : ℕ) → IsChord c → IsSameSide c.left l
+pub in_walk : (reach : ℕ) (c : Chord) (l r : ChordSide) (to_left to_right i : ℕ) → IsChord reach c → IsSameSide c.left l
     → IsSameSide c.right r → HasReached l l.room → HasReached r r.room → l.room ≡ to_left → r.room ≡ to_right
-    → IsSide l → IsSide r → i < c.offsets.count
+    → IsSide reach l → IsSide reach r → i < c.offsets.count
     → IsInRun (c.left.columns - l.inside) (c.left.columns + r.inside) i ↔ IsInChord (place_of c i) to_left to_right
-in_walk c l r to_left to_right i chord left right left_reached right_reached is_left is_right left_side right_side within =
+in_walk reach c l r to_left to_right i chord left right left_reached right_reached is_left is_right left_side right_side within =
     elim (cases_lt i c.left.columns) [
       | inl before ↦
           let at = chord.before i before in

@@ -26,7 +26,6 @@ pub mod PartRuns
 pub mod Quarters
 pub mod Quotients
 pub mod Rings
-pub mod RootRuns
 pub mod RowBytes
 pub mod RowsBelow
 pub mod SetBits

@@ -1,5 +1,5 @@
 -- Runs of rows, narrowed from the top row on.
-use Rattle.std.proofs.Common.{◌≡◌, ℕ, ◌+◌, ◌<◌, ◌≤◌, ◌≢◌, ◌↔◌, List, length, max, min, slice_index, slice_set}
+use Rattle.std.proofs.Common.{◌≡◌, ℕ, ◌+◌, ◌<◌, ◌≤◌, ◌≢◌, ◌↔◌, List, length, slice_index, slice_set}
 use Rattle.std.proofs.Common.{get_or-set_other, get_or-set_same, inl, inr, refl, sym, ◌∙◌, arith}
 use Rattle.std.proofs.Math.ListN.{length-set}
 use Rattle.std.proofs.lemmas.Bool.{cases_eq, cases_lt}
@@ -12,19 +12,6 @@ pub run_by : (R S P Q : Type 0) → R ↔ (S × P) → P ↔ Q → R ↔ (S × Q
 run_by R S P Q told same = (
   (λ r. let both = told.0 r in (both.0, same.0 both.1)),
   (λ both. told.1 (both.0, same.1 both.1)),
-)
-
--- what is in both of two runs
-pub joint_run : (first end start stop new_first new_end i : ℕ) (P : Type 0) → new_first ≡ max first start
-    → new_end ≡ min end stop → IsInRun start stop i ↔ P → IsInRun new_first new_end i ↔ (IsInRun first end i × P)
-joint_run first end start stop new_first new_end i P is_first is_end told = (
-  (λ run. (
-    (omega (arith, run.0, is_first), omega (arith, run.1, is_end)),
-    told.0 (omega (arith, run.0, is_first), omega (arith, run.1, is_end)),
-  )),
-  (λ both.
-      let other = told.1 both.1 in
-      (omega (arith, both.0.0, other.0, is_first), omega (arith, both.0.1, other.1, is_end))),
 )
 
 -- with their lengths

@@ -116,11 +116,11 @@ next_product q d =
 rest_within : (n p d : ℤ) → p ≤ℤ n → n <ℤ (p +ℤ d) → IsRest (n -ℤ p) d
 rest_within n p d least greatest = (omega (arith, ints), omega (arith, ints))
 
-product_bound : (n p d : ℤ) → unsigned_abs n ≤ 2 ^ 100 → IsDivisor d → p ≤ℤ n → n <ℤ (p +ℤ d)
-    → unsigned_abs p ≤ 2 ^ 101
+product_bound : (n p d : ℤ) → unsigned_abs n ≤ 2 ^ 101 → IsDivisor d → p ≤ℤ n → n <ℤ (p +ℤ d)
+    → unsigned_abs p ≤ 2 ^ 102
 product_bound n p d short h least greatest = omega (arith, ints, h.0, h.1)
 
-pub kept_number : (z : ℤ) → unsigned_abs z ≤ 2 ^ 101 → wide z ≡ z
+pub kept_number : (z : ℤ) → unsigned_abs z ≤ 2 ^ 102 → wide z ≡ z
 kept_number z h = omega (arith, ints)
 
 pub kept_fitting : (z : ℤ) → FitsSigned w128 z → wide z ≡ z
@@ -129,13 +129,13 @@ kept_fitting z h = omega (arith, ints)
 pub kept_divisor : (d : ℤ) → IsDivisor d → wide d ≡ d
 kept_divisor d h = omega (arith, ints, h.0, h.1)
 
-kept_difference : (n p : ℤ) → unsigned_abs n ≤ 2 ^ 100 → unsigned_abs p ≤ 2 ^ 101 → wide (wide n -ℤ wide p) ≡ n -ℤ p
+kept_difference : (n p : ℤ) → unsigned_abs n ≤ 2 ^ 101 → unsigned_abs p ≤ 2 ^ 102 → wide (wide n -ℤ wide p) ≡ n -ℤ p
 kept_difference n p h k = omega (arith, ints)
 
-difference_fits : (n p : ℤ) → unsigned_abs n ≤ 2 ^ 100 → unsigned_abs p ≤ 2 ^ 101 → FitsSigned w128 (wide n -ℤ wide p)
+difference_fits : (n p : ℤ) → unsigned_abs n ≤ 2 ^ 101 → unsigned_abs p ≤ 2 ^ 102 → FitsSigned w128 (wide n -ℤ wide p)
 difference_fits n p h k = omega (arith, ints)
 
-pub floor_of : (q n d : ℤ) → unsigned_abs n ≤ 2 ^ 100 → IsDivisor d → (q *ℤ wide d) ≤ℤ wide n
+pub floor_of : (q n d : ℤ) → unsigned_abs n ≤ 2 ^ 101 → IsDivisor d → (q *ℤ wide d) ≤ℤ wide n
     → wide n <ℤ ((q +ℤ pos 1) *ℤ wide d) → IsFloor q n d
 floor_of q n d short h least greatest =
     let same = kept_divisor d h in
@@ -145,28 +145,28 @@ floor_of q n d short h least greatest =
 below_next : (q n d : ℤ) → IsFloor q n d → n <ℤ (q *ℤ d +ℤ d)
 below_next q n d at = rw (← next_product q d) at.greatest
 
-product_short : (q n d : ℤ) → unsigned_abs n ≤ 2 ^ 100 → IsDivisor d → IsFloor q n d → unsigned_abs (q *ℤ d) ≤ 2 ^ 101
+product_short : (q n d : ℤ) → unsigned_abs n ≤ 2 ^ 101 → IsDivisor d → IsFloor q n d → unsigned_abs (q *ℤ d) ≤ 2 ^ 102
 product_short q n d short h at = product_bound n (q *ℤ d) d short h at.least (below_next q n d at)
 
-rest_is : (q n d : ℤ) → unsigned_abs n ≤ 2 ^ 100 → IsDivisor d → FitsSigned w128 q → IsFloor q n d
+rest_is : (q n d : ℤ) → unsigned_abs n ≤ 2 ^ 101 → IsDivisor d → FitsSigned w128 q → IsFloor q n d
     → wide (wide n -ℤ wide (wide q *ℤ wide d)) ≡ n -ℤ q *ℤ d
 rest_is q n d short h fits at =
     rw (kept_fitting q fits, kept_divisor d h)
     (kept_difference n (q *ℤ d) short (product_short q n d short h at))
 
-pub product_fits : (q n d : ℤ) → unsigned_abs n ≤ 2 ^ 100 → IsDivisor d → FitsSigned w128 q → IsFloor q n d
+pub product_fits : (q n d : ℤ) → unsigned_abs n ≤ 2 ^ 101 → IsDivisor d → FitsSigned w128 q → IsFloor q n d
     → FitsSigned w128 (wide q *ℤ wide d)
 product_fits q n d short h fits at =
     let bound = product_short q n d short h at in
     rw (kept_fitting q fits, kept_divisor d h) (fits_signed_from_abs w128 (q *ℤ d) (omega arith))
 
-pub rest_fits : (q n d : ℤ) → unsigned_abs n ≤ 2 ^ 100 → IsDivisor d → FitsSigned w128 q → IsFloor q n d
+pub rest_fits : (q n d : ℤ) → unsigned_abs n ≤ 2 ^ 101 → IsDivisor d → FitsSigned w128 q → IsFloor q n d
     → FitsSigned w128 (wide n -ℤ wide (wide q *ℤ wide d))
 rest_fits q n d short h fits at =
     rw (kept_fitting q fits, kept_divisor d h)
     (difference_fits n (q *ℤ d) short (product_short q n d short h at))
 
-pub whole_again : (q n d : ℤ) → unsigned_abs n ≤ 2 ^ 100 → IsDivisor d → FitsSigned w128 q → IsFloor q n d
+pub whole_again : (q n d : ℤ) → unsigned_abs n ≤ 2 ^ 101 → IsDivisor d → FitsSigned w128 q → IsFloor q n d
     → whole (wide q) d (wide (wide n -ℤ wide (wide q *ℤ wide d))) ≡ n
 whole_again q n d short h fits at =
     rw (rest_is q n d short h fits at, kept_fitting q fits) (equal
@@ -174,21 +174,21 @@ whole_again q n d short h fits at =
     (Atom n)
     (omega arith))
 
-pub is_rest : (q n d : ℤ) → unsigned_abs n ≤ 2 ^ 100 → IsDivisor d → FitsSigned w128 q → IsFloor q n d
+pub is_rest : (q n d : ℤ) → unsigned_abs n ≤ 2 ^ 101 → IsDivisor d → FitsSigned w128 q → IsFloor q n d
     → IsRest (wide (wide n -ℤ wide (wide q *ℤ wide d))) d
 is_rest q n d short h fits at =
     rw (rest_is q n d short h fits at) (rest_within n (q *ℤ d) d at.least (below_next q n d at))
 
 -- a quotient by 1 or more is no longer than the number
-natural_part : (a b : ℕ) (r : ℤ) → 0 < b → pos 0 ≤ℤ r → unsigned_abs (pos a *ℤ pos b +ℤ r) ≤ 2 ^ 100 → a ≤ 2 ^ 101
+natural_part : (a b : ℕ) (r : ℤ) → 0 < b → pos 0 ≤ℤ r → unsigned_abs (pos a *ℤ pos b +ℤ r) ≤ 2 ^ 101 → a ≤ 2 ^ 102
 natural_part a b r some up short = omega (arith, ints, mul-le a 1 a b (omega arith) some)
 
-negative_part : (a b : ℕ) (r : ℤ) → 0 < b → r <ℤ pos b → unsigned_abs (negsuc a *ℤ pos b +ℤ r) ≤ 2 ^ 100
-    → suc a ≤ 2 ^ 101
+negative_part : (a b : ℕ) (r : ℤ) → 0 < b → r <ℤ pos b → unsigned_abs (negsuc a *ℤ pos b +ℤ r) ≤ 2 ^ 101
+    → suc a ≤ 2 ^ 102
 negative_part a b r some below short = omega (arith, ints, mul-le a 1 a b (omega arith) some)
 
-pub short_part : (q d r : ℤ) → IsDivisor d → IsRest r d → unsigned_abs (whole q d r) ≤ 2 ^ 100
-    → unsigned_abs q ≤ 2 ^ 101
+pub short_part : (q d r : ℤ) → IsDivisor d → IsRest r d → unsigned_abs (whole q d r) ≤ 2 ^ 101
+    → unsigned_abs q ≤ 2 ^ 102
 short_part (pos a) (pos b) r h rest short = natural_part a b r (divisor_some b h) rest.0 short
 short_part (negsuc a) (pos b) r h rest short = negative_part a b r (divisor_some b h) rest.1 short
 short_part q (negsuc b) r h rest short = absurd (omega (arith, ints, h.0))

@@ -1,12 +1,10 @@
 -- The columns on one side of a circle's middle, counted outwards.
-use Rattle.std.proofs.Common.{◌≡◌, ℕ, ◌+◌, ◌-◌, ◌*◌, ◌^◌, ◌<◌, ◌≤◌, Fits, w64, arith}
-use Rattle.std.proofs.lemmas.Nat.{mul-le, mul-lt}
+use Rattle.std.proofs.Common.{◌≡◌, ℕ, ◌+◌, ◌-◌, ◌*◌, ◌<◌, ◌≤◌, arith}
+use Rattle.std.proofs.Common.{◌^◌, ◌↔◌, inl, inr, refl}
+use Rattle.std.proofs.lemmas.Bool.{cases_lt}
+use Rattle.std.proofs.lemmas.Nat.{mul-le}
 use Rattle.cam_rows.specs.declared.chord.side.ChordSide.{ChordSide}
-use Rattle.cam_rows.specs.Machinery.Chords.{AreBeyond, AreNear, HasReached, IsBeyond, IsSide, distance_at}
-
--- the square of a distance fits
-pub square_fits : (n : ℕ) → n < 2 ^ 32 → Fits w64 (n * n)
-square_fits n short = let small = mul-lt n n (2 ^ 32) (2 ^ 32) short short in omega arith
+use Rattle.cam_rows.specs.Machinery.Chords.{AreBeyond, AreNear, HasReached, IsBeyond, IsSameSide, IsSide, distance_at}
 
 -- what lies farther out than a column beyond the chord is beyond it too
 pub beyond_on : (start step room i j : ℕ) → i ≤ j → IsBeyond (start + i * step) room → IsBeyond (start + j * step) room
@@ -17,38 +15,78 @@ beyond_on start step room i j order beyond =
     omega (arith, beyond, mul-le near near far far farther farther)
 
 -- the column before the next one
-pub last_is : (s : ChordSide) (last : ℕ) → IsSide s → 0 < s.inside → last ≡ s.next - s.step
+pub last_is : (reach : ℕ) (s : ChordSide) (last : ℕ) → IsSide reach s → 0 < s.inside → last ≡ s.next - s.step
     → last ≡ distance_at s (s.inside - 1)
-last_is s last side some is =
+last_is reach s last side some is =
     let inside : s.inside ≡ (s.inside - 1) + 1 = omega arith in
     let next : s.next ≡ distance_at s ((s.inside - 1) + 1) = rw inside at side.next in
     omega (arith, next, is)
 
-pub last_short : (s : ChordSide) → IsSide s → 0 < s.inside → s.next - s.step < 2 ^ 32
-last_short s side some =
+pub last_near : (reach : ℕ) (s : ChordSide) → IsSide reach s → 0 < s.inside → s.next - s.step < reach
+last_near reach s side some =
     let within = side.within in
-    omega (arith, last_is s (s.next - s.step) side some (omega arith), side.near (s.inside - 1) (omega arith))
+    let is : s.next - s.step ≡ distance_at s (s.inside - 1) = last_is reach s (s.next - s.step) side some (omega arith) in
+    rw is (side.near (s.inside - 1) (omega arith))
+
+-- by places: the one behind the last column, and the next one
+pub end_fits : (reach : ℕ) (s : ChordSide) → IsSide reach s → s.start + s.columns * s.step < 2 ^ 64
+end_fits reach s side = elim (cases_lt 0 s.columns) [
+  | inl some ↦
+      let last : s.columns ≡ (s.columns - 1) + 1 = omega arith in
+      let near = side.near (s.columns - 1) (omega (arith, some)) in
+      rw last (omega (arith, near, side.far, side.step))
+  | inr none ↦
+      let no : s.columns ≡ 0 = omega (arith, none) in
+      rw no (omega (arith, side.start, side.far))
+]
+
+pub before_end : (reach columns : ℕ) (s t : ChordSide) → IsSide reach t → IsSameSide s t → columns ≡ s.columns
+    → (t.next < s.start + columns * s.step) ↔ (t.inside < t.columns)
+before_end reach columns s t side same is =
+    let end : s.start + columns * s.step ≡ t.start + t.columns * t.step =
+    rw (same.start, same.columns, same.step, is) refl in
+    rw end (
+      (λ before. elim (cases_lt t.inside t.columns) [
+        | inl h ↦ h
+        | inr h ↦ absurd (omega (arith, before, side.next, mul-le t.columns t.step t.inside t.step h (omega arith)))
+      ]),
+      (λ h.
+          let farther = mul-le (t.inside + 1) t.step t.columns t.step (omega (arith, h)) (omega arith) in
+          omega (arith, side.next, side.some, farther)),
+    )
+
+pub past_start : (reach : ℕ) (s : ChordSide) → IsSide reach s → (s.start < s.next) ↔ (0 < s.inside)
+past_start reach s side = (
+  (λ past. elim (cases_lt 0 s.inside) [
+    | inl h ↦ h
+    | inr h ↦
+        let no : s.inside ≡ 0 = omega (arith, h) in
+        let next : s.next ≡ s.start + 0 * s.step = rw no at side.next in
+        absurd (omega (arith, past, next))
+  ]),
+  (λ h. omega (arith, side.next, side.some, mul-le 1 s.step s.inside s.step (omega (arith, h)) (omega arith))),
+)
 
 -- where a walk outwards ends
-pub reached_outwards : (s : ChordSide) (room : ℕ) → IsSide s → AreNear s room
+pub reached_outwards : (reach : ℕ) (s : ChordSide) (room : ℕ) → IsSide reach s → AreNear s room
     → (s.inside < s.columns → IsBeyond s.next room) → HasReached s room
-reached_outwards s room side near stops = record {
+reached_outwards reach s room side near stops = record {
   near = near;
   beyond = λ j from within.
       beyond_on s.start s.step room s.inside j from (rw side.next at (stops (omega arith)));
 }
 
 -- where a walk inwards ends
-pub reached_inwards : (s : ChordSide) (room : ℕ) → IsSide s → AreBeyond s room
+pub reached_inwards : (reach : ℕ) (s : ChordSide) (room : ℕ) → IsSide reach s → AreBeyond s room
     → (0 < s.inside → IsBeyond (distance_at s (s.inside - 1)) room → ⊥) → HasReached s room
-reached_inwards s room side beyond stops = record {
+reached_inwards reach s room side beyond stops = record {
   near = λ j before here.
       stops (omega arith) (beyond_on s.start s.step room j (s.inside - 1) (omega arith) here);
   beyond = beyond;
 }
 
 -- and a step of it
-pub beyond_from : (s : ChordSide) (room : ℕ) → IsSide s → 0 < s.inside
+pub beyond_from : (reach : ℕ) (s : ChordSide) (room : ℕ) → IsSide reach s → 0 < s.inside
     → IsBeyond (distance_at s (s.inside - 1)) room
     → (j : ℕ) → s.inside - 1 ≤ j → IsBeyond (distance_at s j) room
-beyond_from s room side some last j from = beyond_on s.start s.step room (s.inside - 1) j from last
+beyond_from reach s room side some last j from = beyond_on s.start s.step room (s.inside - 1) j from last

@@ -16,7 +16,7 @@ pub record IsPassed (n d q r : ℤ) : Type 0 where
   pub is_whole : whole (wide q) (wide d) (wide r) ≡ n
   pub is_rest : IsRest (wide r) (wide d)
 
-pub passed : (n d q r : ℤ) → IsDivisor d → unsigned_abs n ≤ 2 ^ 100 → IsDivided n d q r → IsPassed n d q r
+pub passed : (n d q r : ℤ) → IsDivisor d → unsigned_abs n ≤ 2 ^ 101 → IsDivided n d q r → IsPassed n d q r
 passed n d q r h short parts =
     let same = kept_divisor d h in
     let told : whole q d r ≡ n = rw (same, kept_number n (omega arith)) at parts.is_whole in

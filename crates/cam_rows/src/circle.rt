@@ -1,11 +1,9 @@
 //! Circles: how far places lie from their centres.
 
-ghost use Rattle.std.specs.Prelude.{◌≡◌, ◌+◌, ◌*◌, ◌^◌, ◌<◌, ◌≤◌, pos, ◌-ℤ◌, ◌*ℤ◌};
+ghost use Rattle.std.specs.Prelude.{◌≡◌, ◌+◌, ◌*◌, ◌^◌, ◌<◌, ◌≤◌, pos};
 ghost use Rattle.cam_units.specs.Board.{IsOnBoard};
-ghost use Rattle.cam_shapes.specs.Plane.{dot, square, way};
-ghost use Rattle.cam_rows.specs.Rows.{IsRow};
+ghost use Rattle.cam_shapes.specs.Plane.{dot, way};
 
-use crate::centres::Centres;
 use crate::way::Way;
 use cam_units::{Point, isqrt};
 
@@ -18,18 +16,6 @@ pub(crate) fn half_chord(room: u128) -> u64
     ensures short { result < 2 ^ 34 }
 {
     isqrt(room)
-}
-
-/// The square of how far the row lies above or under a point.
-#[tactic(auto, using(crate::proofs::Circling::square_of))]
-pub(crate) fn squared_height(point: &Point, centres: &Centres) -> u128
-    requires point { IsOnBoard point.now }
-    requires row { IsRow centres.now }
-    ensures value { pos result ≡ square (centres.now.y -ℤ pos 2 *ℤ point.now.y) }
-    ensures bound { result < 2 ^ 66 }
-{
-    let height = u128::from(centres.height_over(point));
-    height * height
 }
 
 /// The square of the distance of two points, in half nanometres.

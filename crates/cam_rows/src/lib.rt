@@ -12,9 +12,10 @@
 //! without a chord of its inner circle and without what a wider sweep leaves out.
 //!
 //! Where the line of a half plane crosses the rows moves by a quotient and a remainder from each to the next, and the
-//! ends of a chord are found by a walk from those of the row above, outwards or inwards from the circle's middle, in 64
-//! bits: with no root and no division for a row. Where the products of a line may not fit 64 bits, about half a metre from
-//! it, each row takes a division, and rows more than two metres from a circle's middle take a root each.
+//! ends of a chord are found by a walk from those of the row above, outwards or inwards from the circle's middle: with no
+//! root and no division for a row. Squares of up to two metres are taken in 64 bits, and greater ones, by the same walk,
+//! in 128. A line's top row is divided in 128 bits, and the others follow in 64; only where pixels are narrower than 16
+//! nanometres or wider than a quarter of a metre, or the rows are more than a million, may each row take a division.
 //!
 //! The bits of a row are those of its run. A capsule is a bar and the discs about its ends.
 //!

@@ -80,7 +80,7 @@ pub(crate) fn columns_up_to(number: i128, divisor: i128, columns: u32) -> u32
 
 /// The greatest whole number that is at most the quotient, and what is left of the number.
 fn floor_division(number: i128, divisor: i128) -> (i128, i128)
-    requires number { unsigned_abs number ≤ 2 ^ 100 }
+    requires number { unsigned_abs number ≤ 2 ^ 101 }
     requires divisor { IsDivisor divisor }
     ensures whole { whole result.0 divisor result.1 ≡ number }
     ensures rest { IsRest result.1 divisor }

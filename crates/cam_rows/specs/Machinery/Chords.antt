@@ -39,13 +39,16 @@ distance_at s j = s.start + j * s.step
 abbrev pub IsBeyond : ℕ → ℕ → Type 0
 IsBeyond distance room = room ≤ distance * distance
 
--- the next one after those in the chord is known, and the squares of the distances of all of them fit 64 bits
-pub record IsSide (s : ChordSide) : Type 0 where
+-- the next one after those in the chord is known, and all of them lie within a reach, of which 128 bits hold the square
+pub record IsSide (reach : ℕ) (s : ChordSide) : Type 0 where
   pub some : 1 ≤ s.step
-  pub step : s.step < 2 ^ 32
+  pub start : s.start < reach
+  pub step : s.step < 2 ^ 63
   pub within : s.inside ≤ s.columns
   pub next : s.next ≡ distance_at s s.inside
-  pub near : (j : ℕ) → j < s.columns → distance_at s j < 2 ^ 32
+  pub near : (j : ℕ) → j < s.columns → distance_at s j < reach
+  pub far : reach ≤ 2 ^ 34
+  pub fits : s.room < reach * reach
 
 -- those that are taken to be in the chord are
 abbrev pub AreNear : ChordSide → ℕ → Type 0
@@ -77,11 +80,11 @@ abbrev pub place_of : Chord → ℕ → ℤ
 place_of c i = offset c.offsets.first c.offsets.step i
 
 -- its sides have the columns to the left and to the right of the middle, and have reached the ends of a chord
-pub record IsChord (c : Chord) : Type 0 where
+pub record IsChord (reach : ℕ) (c : Chord) : Type 0 where
   pub few : c.offsets.count ≤ most_columns
   pub columns : c.left.columns + c.right.columns ≡ c.offsets.count
-  pub left : IsSide c.left
-  pub right : IsSide c.right
+  pub left : IsSide reach c.left
+  pub right : IsSide reach c.right
   pub left_reached : HasReached c.left c.left.room
   pub right_reached : HasReached c.right c.right.room
   pub before : (i : ℕ) → i < c.left.columns
@@ -89,9 +92,10 @@ pub record IsChord (c : Chord) : Type 0 where
   pub after : (i : ℕ) → c.left.columns ≤ i → i < c.offsets.count
       → place_of c i ≡ pos (distance_at c.right (i - c.left.columns))
 
--- the centres of so many rows lie so near to a point that the squares of their distances to the side fit 64 bits, and
--- those of their heights
-pub record AreNearby (p : Point) (top : Centres) (n : ℕ) : Type 0 where
-  pub step : top.step <ℤ pos (2 ^ 32)
-  pub columns : (i : ℕ) → i < top.n → unsigned_abs (seen_from p (centre_at top i)).x < 2 ^ 32
-  pub rows : (k : ℕ) → k < n → unsigned_abs (seen_from p (first_of (row_below top k))).y < 2 ^ 32
+-- the centres of so many rows lie within a reach of a point, to the side and up or down, and a bound is less than its
+-- square
+pub record AreWithin (reach : ℕ) (p : Point) (most : ℕ) (top : Centres) (n : ℕ) : Type 0 where
+  pub columns : (i : ℕ) → i < top.n → unsigned_abs (seen_from p (centre_at top i)).x < reach
+  pub rows : (k : ℕ) → k < n → unsigned_abs (seen_from p (first_of (row_below top k))).y < reach
+  pub bound : most < reach * reach
+  pub far : reach ≤ 2 ^ 34

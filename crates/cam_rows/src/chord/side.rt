@@ -1,34 +1,29 @@
 //! The columns on one side of a circle's middle.
 
-ghost use Rattle.std.specs.Prelude.{◌≡◌, ◌↔◌, ℕ, ◌+◌, ◌-◌, ◌*◌, ◌^◌, ◌<◌, ◌≤◌, IsTrue};
+ghost use Rattle.std.specs.Prelude.{◌≡◌, ◌↔◌, ℕ, ◌-◌, ◌*◌, ◌<◌, IsTrue};
 ghost use Rattle.cam_rows.specs.Machinery.Chords.{AreBeyond, AreNear, HasReached, IsBeyond, IsSameSide, IsSide};
 ghost use Rattle.cam_rows.specs.Machinery.Chords.{distance_at};
+
+use super::NEAR;
 
 /// The columns on one side of a circle's middle, counted outwards: how far the nearest one lies from the middle, the
 /// distance of neighbours, and how many they are. Those that lie in the chord of a row are the first ones of them, up to
 /// the next one; their distances have squares less than `room`.
 #[derive(Clone, Copy)]
 pub(super) struct ChordSide {
-    start: u64,
+    pub(super) start: u64,
     pub(super) step: u64,
     pub(super) columns: u32,
     inside: u32,
     next: u64,
-    room: u64,
+    room: u128,
 }
 
 impl ChordSide {
     /// A side none of whose columns is in the chord yet.
     #[inline]
     pub(super) fn new(start: u64, step: u64, columns: u32) -> ChordSide
-        requires some { 1 ≤ step }
-        requires short { step < 2 ^ 32 }
-        requires near { (j : ℕ) → j < columns → start + j * step < 2 ^ 32 }
-        ensures side { IsSide result }
-        ensures reached { HasReached result result.room }
-        ensures start { result.start ≡ start }
-        ensures step { result.step ≡ step }
-        ensures columns { result.columns ≡ columns }
+        ensures { result ≡ record { start = start; step = step; columns = columns; inside = 0; next = start; room = 0 } }
     {
         ChordSide {
             start,
@@ -42,28 +37,30 @@ impl ChordSide {
 
     /// Goes to the chord of another row: it tells how many columns lie in that.
     #[inline]
-    pub(super) fn walk(&mut self, room: u64) -> u32
-        requires side { IsSide self.old }
+    pub(super) fn walk<const REACH: u64>(&mut self, room: u128) -> u32
+        requires side { IsSide REACH self.old }
         requires reached { HasReached self.old self.old.room }
-        ensures side { IsSide self.new }
+        requires fits { room < REACH * REACH }
+        ensures side { IsSide REACH self.new }
         ensures reached { HasReached self.new self.new.room }
         ensures room { self.new.room ≡ room }
         ensures same { IsSameSide self.old self.new }
         ensures inside { result ≡ self.new.inside }
     {
-        if room < self.room {
-            self.narrow(room);
+        if is_less::<REACH>(room, self.room) {
+            self.narrow::<REACH>(room);
         } else {
-            self.widen(room);
+            self.widen::<REACH>(room);
         }
         self.inside
     }
 
     /// Goes to a chord of which about half the length is known: to that at once, and from there column by column. Any
     /// guess is right.
-    pub(super) fn leap(&mut self, half: u64, room: u64)
-        requires side { IsSide self.old }
-        ensures side { IsSide self.new }
+    pub(super) fn leap<const REACH: u64>(&mut self, half: u64, room: u128)
+        requires side { IsSide REACH self.old }
+        requires fits { room < REACH * REACH }
+        ensures side { IsSide REACH self.new }
         ensures reached { HasReached self.new self.new.room }
         ensures same { IsSameSide self.old self.new }
     {
@@ -71,24 +68,27 @@ impl ChordSide {
         let inside = (half.saturating_sub(self.start) / self.step).min(columns) as u32;
         self.inside = inside;
         self.next = self.start + u64::from(inside) * self.step;
-        if inside > 0 && self.is_last_beyond(room) {
-            self.narrow(room);
+        if inside > 0 && self.is_last_beyond::<REACH>(room) {
+            self.narrow::<REACH>(room);
         } else {
-            self.widen(room);
+            self.widen::<REACH>(room);
         }
     }
 
     /// Goes outwards to a longer chord.
     #[inline]
-    fn widen(&mut self, room: u64)
-        requires side { IsSide self.old }
+    fn widen<const REACH: u64>(&mut self, room: u128)
+        requires side { IsSide REACH self.old }
         requires near { AreNear self.old room }
-        ensures side { IsSide self.new }
+        requires fits { room < REACH * REACH }
+        ensures side { IsSide REACH self.new }
         ensures reached { HasReached self.new self.new.room }
         ensures room { self.new.room ≡ room }
         ensures same { IsSameSide self.old self.new }
     {
-        while self.inside < self.columns && self.next * self.next < room {
+        // by places, which the compiler does not count: it would test many columns at once, and a walk is short
+        let end = self.start + u64::from(self.columns) * self.step;
+        while self.next < end && !is_beyond::<REACH>(self.next, room) {
             self.inside += 1;
             self.next += self.step;
         }
@@ -97,15 +97,16 @@ impl ChordSide {
 
     /// Goes inwards to a shorter chord.
     #[inline]
-    fn narrow(&mut self, room: u64)
-        requires side { IsSide self.old }
+    fn narrow<const REACH: u64>(&mut self, room: u128)
+        requires side { IsSide REACH self.old }
         requires beyond { AreBeyond self.old room }
-        ensures side { IsSide self.new }
+        requires fits { room < REACH * REACH }
+        ensures side { IsSide REACH self.new }
         ensures reached { HasReached self.new self.new.room }
         ensures room { self.new.room ≡ room }
         ensures same { IsSameSide self.old self.new }
     {
-        while self.inside > 0 && self.is_last_beyond(room) {
+        while self.next > self.start && self.is_last_beyond::<REACH>(room) {
             self.inside -= 1;
             self.next -= self.step;
         }
@@ -114,13 +115,49 @@ impl ChordSide {
 
     /// Whether the last column of the chord lies beyond another one.
     #[inline]
-    #[tactic(auto, using(crate::proofs::Sides::last_short, crate::proofs::Sides::square_fits))]
-    fn is_last_beyond(&self, room: u64) -> bool
-        requires side { IsSide self.now }
+    fn is_last_beyond<const REACH: u64>(&self, room: u128) -> bool
+        requires side { IsSide REACH self.now }
         requires some { 0 < self.now.inside }
+        requires fits { room < REACH * REACH }
         ensures { IsTrue result ↔ IsBeyond (distance_at self.now (self.now.inside - 1)) room }
     {
-        let last = self.next - self.step;
-        last * last >= room
+        is_beyond::<REACH>(self.next - self.step, room)
     }
+}
+
+/// Whether a distance is past half a chord, where the square of the half is so: in 64 bits, but for what is far.
+#[inline]
+fn is_beyond<const REACH: u64>(distance: u64, room: u128) -> bool
+    requires near { distance < REACH }
+    requires fits { room < REACH * REACH }
+    ensures { IsTrue result ↔ IsBeyond distance room }
+{
+    if REACH > NEAR {
+        return squared(distance) >= room;
+    }
+    distance * distance >= room as u64
+}
+
+/// Whether one square is less than another: in 64 bits, but for those of what is far.
+#[inline]
+fn is_less<const REACH: u64>(square: u128, other: u128) -> bool
+    requires fits { square < REACH * REACH }
+    requires other { other < REACH * REACH }
+    ensures { IsTrue result ↔ (square < other) }
+{
+    if REACH > NEAR {
+        return square < other;
+    }
+    (square as u64) < other as u64
+}
+
+/// The square of a distance, by a multiplication in 64 bits where it fits them.
+#[inline]
+pub(super) fn squared(distance: u64) -> u128
+    ensures { result ≡ distance * distance }
+{
+    if distance < NEAR {
+        return u128::from(distance * distance);
+    }
+    u128::from(distance) * u128::from(distance)
 }

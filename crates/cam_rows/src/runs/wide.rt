@@ -1,13 +1,13 @@
 //! Wide rows: up to 32,768 centres side by side.
 
-ghost use Rattle.std.specs.Prelude.{◌≡◌, ◌↔◌, ◌^◌, ◌<◌, ◌≤◌, ℕ, ◌≤ℤ◌, ◌<ℤ◌};
+ghost use Rattle.std.specs.Prelude.{◌≡◌, ◌↔◌, ◌+◌, ◌^◌, ◌<◌, ◌≤◌, ℕ, ◌≤ℤ◌, ◌<ℤ◌};
 ghost use Rattle.std.specs.Int.RustNames.{unsigned_abs};
 ghost use Rattle.cam_units.specs.Board.{IsOnBoard};
 ghost use Rattle.cam_shapes.specs.Plane.{seen_from};
 ghost use Rattle.cam_rows.specs.Machinery.Chords.{AreOffsetsFrom, AreWideOffsets};
 ghost use Rattle.cam_rows.specs.Machinery.Narrowing.{leftmost};
 ghost use Rattle.cam_rows.specs.Rows.{IsRow, centre_at, first_of, row_below};
-ghost use Rattle.cam_rows.specs.Runs.{IsInRun, IsWideRow};
+ghost use Rattle.cam_rows.specs.Runs.{AreWideRows, IsInRun, IsWideRow};
 
 use super::{Run, Strip};
 use crate::centres::Centres;
@@ -60,14 +60,15 @@ impl Centres {
         }
     }
 
-    /// How far its centres lie over a point.
+    /// How far the centres of the row that lies so many steps lower lie over a point.
     #[inline]
-    pub(crate) fn rise_over(&self, point: &Point) -> i64
-        requires row { IsWideRow self.now }
+    #[tactic(auto, using(crate::proofs::WideRows::top_is_wide))]
+    pub(crate) fn rise_below(&self, steps: usize, point: &Point) -> i64
+        requires rows { AreWideRows self.now (steps + 1) }
         requires point { IsOnBoard point.now }
-        ensures { result ≡ (seen_from point.now (first_of self.now)).y }
+        ensures { result ≡ (seen_from point.now (first_of (row_below self.now steps))).y }
     {
-        self.y - 2 * point.y
+        self.wide_below(steps).y - 2 * point.y
     }
 
     /// How many of the centres lie left of the vertical at `x`. It divides only where some do, and some do not.

@@ -1,70 +1,53 @@
-//! Where falling numbers cross 0 in the top row, and how that moves, in 64 bits.
+//! Where falling numbers cross 0 in the top row, and how that moves, by a division of 128 bits for each.
 
 ghost use Rattle.std.specs.Prelude.{◌≡◌, ◌^◌, ◌≤◌, ◌↔◌, IfSome, IsTrue};
 ghost use Rattle.std.specs.Int.RustNames.{unsigned_abs};
-ghost use Rattle.cam_rows.specs.Machinery.Slopes.{AreSteps, AreStepsOf, IsRest, IsShortDivisor, IsTopOf, whole};
+ghost use Rattle.cam_rows.specs.Machinery.Slopes.{AreSteps, AreStepsOf, IsTopOf};
 
-use super::{Crossing, Steps};
+use super::{Crossing, Steps, floor_division};
 
-/// The greatest size of a number and of a divisor in 64 bits: so many columns and 2^20 steps fit as well.
+/// The greatest size of a divisor and of a quotient in 64 bits: so many columns and 2^20 steps fit as well.
 const LONGEST: i64 = 1 << 61;
 
 /// The most columns that are stepped over from a row to the next.
-const LONGEST_STEP: u64 = 1 << 40;
+const LONGEST_STEP: u128 = 1 << 40;
 
 impl Steps {
     /// The steps of numbers that fall by a divisor from each centre to the next, and change from each row to the next;
     /// none where they may not fit 64 bits.
     pub(crate) fn of(change: i128, divisor: i128) -> Option<Steps>
+        requires { unsigned_abs change ≤ 2 ^ 100 }
         ensures { IfSome result (λ t. AreStepsOf t change divisor) }
     {
-        if divisor <= 0 || !is_short(divisor) || !is_short(change) {
+        if divisor <= 0 || !is_short(divisor) {
             return None;
         }
-        let divisor = divisor as i64;
-        let (columns, rest) = short_division(change as i64, divisor);
+        let (columns, rest) = floor_division(change, divisor);
         if columns.unsigned_abs() > LONGEST_STEP {
             return None;
         }
         Some(Steps {
-            columns,
-            rest,
-            divisor,
+            columns: columns as i64,
+            rest: rest as i64,
+            divisor: divisor as i64,
         })
     }
 
     /// The crossing of the row that has this number at its leftmost centre; none where it may not fit 64 bits.
     pub(crate) fn crossing(&self, number: i128) -> Option<Crossing>
-        requires { AreSteps self.now }
+        requires steps { AreSteps self.now }
+        requires number { unsigned_abs number ≤ 2 ^ 101 }
         ensures { IfSome result (λ c. IsTopOf c self.now number) }
     {
-        if !is_short(number) {
+        let (last, rest) = floor_division(number, i128::from(self.divisor));
+        if !is_short(last) {
             return None;
         }
-        let (last, rest) = short_division(number as i64, self.divisor);
         Some(Crossing {
-            columns: last + 1,
-            rest: rest - self.divisor,
+            columns: last as i64 + 1,
+            rest: rest as i64 - self.divisor,
         })
     }
-}
-
-/// The greatest whole number that is at most the quotient, and what is left of the number.
-#[inline]
-fn short_division(number: i64, divisor: i64) -> (i64, i64)
-    requires number { unsigned_abs number ≤ 2 ^ 61 }
-    requires divisor { IsShortDivisor divisor }
-    ensures whole { whole result.0 divisor result.1 ≡ number }
-    ensures rest { IsRest result.1 divisor }
-    ensures short { unsigned_abs result.0 ≤ 2 ^ 61 }
-{
-    let size = if number < 0 { -1 - number } else { number } as u64;
-    let quotient = (size / divisor as u64) as i64;
-    let rest = (size % divisor as u64) as i64;
-    if number < 0 {
-        return (-1 - quotient, divisor - 1 - rest);
-    }
-    (quotient, rest)
 }
 
 /// Whether a number is at most the greatest one.

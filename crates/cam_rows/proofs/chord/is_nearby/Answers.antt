@@ -1,27 +1,31 @@
-use Rattle.std.proofs.Common.{◌≡◌, ◌-◌, pos, ◌-ℤ◌, ◌*ℤ◌, arith}
+use Rattle.std.proofs.Common.{◌≡◌, ◌-◌, pos, ◌-ℤ◌, ◌*ℤ◌, ◌<◌, ◌^◌, arith}
+use Rattle.std.proofs.lemmas.Bool.{ltb-true}
 use Rattle.std.proofs.lemmas.Int.{ints}
+use Rattle.std.specs.Int.RustNames.{unsigned_abs}
 use Rattle.cam_rows.proofs.NearRows.{near_rows}
 use Rattle.cam_rows.proofs.WideRows.{top_is_wide}
 use Rattle.cam_rows.proofs.chord.is_nearby.Goals as goal
 
-pub wide_below-requires-clause-top : goal.wide_below-requires-clause-top
-wide_below-requires-clause-top c = top_is_wide c.args.top.now c.args.rows c.requires.some c.requires.rows
+pub rise_below-lowest-requires-clause-rows : goal.rise_below-lowest-requires-clause-rows
+rise_below-lowest-requires-clause-rows c = λ k within. c.requires.rows k (omega (arith, within, c.requires.some))
 
-pub wide_below-requires-clause-row : goal.wide_below-requires-clause-row
-wide_below-requires-clause-row c = c.requires.rows (c.args.rows - 1) (omega (arith, c.requires.some))
-
-pub rise_over-lowest-requires-clause-row : goal.rise_over-lowest-requires-clause-row
-rise_over-lowest-requires-clause-row c =
-    rw c.wide_below.ensures (c.requires.rows (c.args.rows - 1) (omega (arith, c.requires.some)))
-
-pub returns-then-lowest : goal.returns-then-lowest
-returns-then-lowest c = λ high.
+pub returns-then-unsigned_abs-lt-NEAR : goal.returns-then-unsigned_abs-lt-NEAR
+returns-then-unsigned_abs-lt-NEAR c = λ low.
     let top = c.args.top.now in
     let wide = top_is_wide top c.args.rows c.requires.some c.requires.rows in
-    let lowest : c.rise_over-lowest.result
-    ≡ (top.y -ℤ pos (c.args.rows - 1) *ℤ top.step) -ℤ pos 2 *ℤ c.args.point.now.y =
-    rw c.wide_below.ensures at c.rise_over-lowest.ensures in
-    near_rows c.args.point.now top c.args.rows c.offsets_from-columns.result wide c.offsets_from-columns.ensures.each
-    (omega (arith, ints)) (omega (arith, ints)) (omega (arith, ints, c.at-rightmost.ensures))
-    (omega (arith, ints, lowest, c.if-lowest.true))
-    (omega (arith, ints, c.rise_over-highest.ensures, high))
+    let told = c.offsets_from-columns.ensures in
+    let high : c.rise_below-highest.result
+    ≡ (top.y -ℤ pos 0 *ℤ top.step) -ℤ pos 2 *ℤ c.args.point.now.y = c.rise_below-highest.ensures in
+    let lowest : c.rise_below-lowest.result
+    ≡ (top.y -ℤ pos (c.args.rows - 1) *ℤ top.step) -ℤ pos 2 *ℤ c.args.point.now.y = c.rise_below-lowest.ensures in
+    let short = told.wide.short 0 (omega (arith, told.each.count, wide.count.0)) in
+    let far = told.wide.short (top.n - 1) (omega (arith, told.each.count, wide.count.0)) in
+    let down : unsigned_abs c.rise_below-lowest.result < 2 ^ 32 =
+    omega (arith, ints, c.unsigned_abs-then-unsigned_abs-lt-NEAR.ensures.value, ltb-true _ _ low) in
+    let up : unsigned_abs c.rise_below-highest.result < 2 ^ 32 =
+    omega (arith, ints, c.unsigned_abs-2.ensures.value, c.if-unsigned_abs-lt-NEAR.true) in
+    near_rows c.args.point.now top c.args.rows c.args.bound c.offsets_from-columns.result wide told.each
+    (omega (arith, c.from.ensures, c.if-bound-from.false))
+    (omega (arith, ints, short.0, c.unsigned_abs.ensures.value, c.if-unsigned_abs-ge-NEAR.false))
+    (omega (arith, ints, far.1, c.at-rightmost.ensures, c.unsigned_abs-else-unsigned_abs-ge-NEAR.ensures.value, c.if-unsigned_abs-ge-NEAR-2.false))
+    (rw lowest at down) (rw high at up)

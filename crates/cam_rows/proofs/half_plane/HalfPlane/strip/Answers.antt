@@ -1,5 +1,5 @@
 use Rattle.std.proofs.Common.{pos, inl, inr, arith}
-use Rattle.std.proofs.lemmas.Int.{by_lt_z}
+use Rattle.std.proofs.lemmas.Int.{by_lt_z, ints}
 use Rattle.cam_rows.specs.Machinery.Slopes.{falling}
 use Rattle.cam_rows.proofs.HalfPlanes.{fell, kept_high, kept_low}
 use Rattle.cam_rows.proofs.Strips.{strip_within}
@@ -28,3 +28,11 @@ returns c =
           (λ falls. inl (f.ensures.falls falls, e.ensures.falls falls))
           (λ rises. inr (f.ensures.rises rises, e.ensures.rises rises)));
     }
+
+pub crossing-requires-clause-number : goal.crossing-requires-clause-number
+crossing-requires-clause-number c =
+    omega (arith, ints, c.falling-falling.ensures.first, c.excess.ensures.few, c.requires.reach)
+
+pub crossing-requires-2-clause-number : goal.crossing-requires-2-clause-number
+crossing-requires-2-clause-number c =
+    omega (arith, ints, c.falling-falling.ensures.first, c.excess.ensures.few, c.requires.reach)

@@ -1,35 +1,42 @@
 use Rattle.std.proofs.Common.{arith}
 use Rattle.std.proofs.lemmas.Bool.{false≢true}
-use Rattle.cam_rows.proofs.Sides.{beyond_from, last_is, reached_inwards}
+use Rattle.cam_rows.proofs.Sides.{beyond_from, last_is, past_start, reached_inwards}
 use Rattle.cam_rows.proofs.chord.side.ChordSide.narrow.Goals as goal
 use Rattle.cam_rows.proofs.chord.side.ChordSide.narrow.Goals.{then-loop-self-test+else-is_last_beyond, else-loop-self-test}
 
+pub is_last_beyond-requires-clause-some : goal.is_last_beyond-requires-clause-some
+is_last_beyond-requires-clause-some g c =
+    (past_start g.row.REACH c.loop-self.self c.loop-self.invariant.side).0 c.loop-self-test.true
+
 pub loop-self-preserved : goal.loop-self-preserved
-loop-self-preserved c =
+loop-self-preserved g c =
     let s = c.loop-self.self in
     let side = c.loop-self.invariant.side in
     let same = c.loop-self.invariant.same in
     let within = side.within in
-    let some = c.loop-self-test.true in
+    let some = (past_start g.row.REACH s side).0 c.loop-self-test.true in
     record {
       side = record {
         some = side.some;
         step = side.step;
         within = omega arith;
-        next = last_is s _ side (omega (arith, some)) (omega arith);
+        next = last_is _ s _ side (omega (arith, some)) (omega arith);
+        start = side.start;
+        fits = side.fits;
         near = side.near;
+        far = side.far;
       };
       beyond = λ j from _.
-          beyond_from s c.args.room side (omega (arith, some)) (c.is_last_beyond.ensures.0 c.if-is_last_beyond.true) j
+          beyond_from _ s c.args.room side (omega (arith, some)) (c.is_last_beyond.ensures.0 c.if-is_last_beyond.true) j
           from;
       same = record { start = same.start; step = same.step; columns = same.columns };
     }
 
 pub returns-clause-reached : goal.returns-clause-reached
-returns-clause-reached c =
-    let reached = reached_inwards c.loop-self.self c.args.room c.loop-self.invariant.side c.loop-self.invariant.beyond
+returns-clause-reached g c =
+    let reached = reached_inwards _ c.loop-self.self c.args.room c.loop-self.invariant.side c.loop-self.invariant.beyond
     (λ some. elim c.loop-self-test.branch [
       | then-loop-self-test+else-is_last_beyond w ↦ (λ here. absurd (false≢true (w.if-is_last_beyond.ensures.1 here)))
-      | else-loop-self-test w ↦ absurd (omega (arith, some, w.loop-self-test.false))
+      | else-loop-self-test w ↦ absurd (omega (arith, (past_start g.row.REACH c.loop-self.self c.loop-self.invariant.side).1 some, w.loop-self-test.false))
     ]) in
     record { near = reached.near; beyond = reached.beyond }

@@ -2,11 +2,11 @@ use Rattle.cam_rows.specs.Machinery.Chords.{AreBeyond, IsSameSide, IsSide}
 use Rattle.cam_rows.proofs.chord.side.ChordSide.narrow.Given as goal
 
 abbrev pub invariant-loop-self : goal.invariant-loop-self
-invariant-loop-self l = record {
-  side : IsSide l.self;
+invariant-loop-self g l = record {
+  side : IsSide g.row.REACH l.self;
   beyond : AreBeyond l.self l.room;
   same : IsSameSide l.fn.self l.self;
 }
 
 abbrev pub decreases-loop-self : goal.decreases-loop-self
-decreases-loop-self l = l.self.inside
+decreases-loop-self g l = l.self.inside

@@ -1,9 +1,0 @@
-use Rattle.cam_rows.specs.Machinery.Narrowing.{IsNearer}
-use Rattle.cam_rows.specs.Rows.{centre_at, row_below}
-use Rattle.cam_rows.proofs.NarrowedRuns.{AreNarrowedAbove}
-use Rattle.cam_rows.proofs.runs.circle.narrow_by_roots.Given as goal
-
-abbrev pub invariant-loop-k : goal.invariant-loop-k
-invariant-loop-k l =
-    AreNarrowedAbove l.top.n l.initial.firsts l.initial.ends
-    (λ k i. IsNearer l.point l.bound (centre_at (row_below l.top k) i)) l.k l.firsts l.ends
