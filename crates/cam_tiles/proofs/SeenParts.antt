@@ -1,13 +1,10 @@
 -- Parts of a row of tiles as they are seen from a point, as code of 64 bits computes them.
-use Rattle.std.proofs.Common.{◌≡◌, ℕ, ◌+◌, ◌-◌, ◌*◌, ◌<◌, ◌≤◌, ℤ, pos, ◌+ℤ◌, ◌-ℤ◌, ◌*ℤ◌, ◌≤ℤ◌, min, refl, subst, sym}
+use Rattle.std.proofs.Common.{◌≡◌, ℕ, ◌+◌, ◌-◌, ◌*◌, ◌<◌, ◌≤◌, ℤ, pos, ◌+ℤ◌, ◌-ℤ◌, ◌*ℤ◌, min, refl, subst, sym}
 use Rattle.std.proofs.Common.{FitsSigned, w64, arith}
 use Rattle.std.specs.Int.RustNames.{unsigned_abs}
 use Rattle.std.proofs.lemmas.Int.{ints, to_z-of_z}
-use Rattle.cam_refusals.specs.Limits.{board_limit}
 use Rattle.cam_units.specs.Board.{IsInReach, IsOnBoard, IsPlace}
-use Rattle.cam_units.specs.Boxes.{IsBetween}
 use Rattle.cam_units.specs.declared.point.Point.{Point}
-use Rattle.cam_units.specs.declared.point.Spot.{Spot}
 use Rattle.cam_units.proofs.Ring.{equal}
 use Rattle.cam_units.proofs.Ring.Polynomial.{Atom, Difference, Product, Sum}
 use Rattle.cam_objects.specs.Image.{relative}
