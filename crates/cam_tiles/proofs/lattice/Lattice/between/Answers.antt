@@ -1,2 +1,0 @@
-use Rattle.std.proofs.Common.{◌≡◌, arith}
-use Rattle.cam_tiles.proofs.lattice.Lattice.between.Goals as goal

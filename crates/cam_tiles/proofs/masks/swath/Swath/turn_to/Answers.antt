@@ -2,7 +2,6 @@ use Rattle.std.proofs.Common.{◌≡◌, ◌-◌, ◌*◌, ◌%◌, length, min,
 use Rattle.cam_tiles.specs.declared.grid.Grid.{Grid}
 use Rattle.cam_tiles.specs.Machinery.Runs.{IsWideGrid}
 use Rattle.cam_tiles.specs.Machinery.Swaths.{columns_of}
-use Rattle.cam_tiles.specs.Tiles.{across}
 use Rattle.cam_tiles.proofs.GridLemmas.{left_within}
 use Rattle.cam_tiles.proofs.SwathTiles.{clear_past_open, dirty_open, row_is_wide, tiles_taken_up}
 use Rattle.cam_tiles.proofs.TileCounts.{few_across}
