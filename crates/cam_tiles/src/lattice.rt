@@ -1,6 +1,6 @@
 //! Places at equal distances in a line.
 
-ghost use Rattle.std.specs.Prelude.{◌≡◌, ◌↔◌, ◌<◌, ◌≤◌, ℕ, pos, ◌+ℤ◌, ◌*ℤ◌, ◌≤ℤ◌};
+ghost use Rattle.std.specs.Prelude.{◌↔◌, ◌<◌, ◌≤◌, ℕ, pos, ◌*ℤ◌, ◌≤ℤ◌};
 ghost use Rattle.cam_tiles.specs.Machinery.Lattices.{place_at};
 
 use crate::span::Span;

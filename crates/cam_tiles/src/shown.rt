@@ -8,9 +8,7 @@ ghost use Rattle.cam_objects.specs.Canvases.{Paints};
 ghost use Rattle.cam_objects.specs.Cells.{AreCellsOf, box_at};
 ghost use Rattle.cam_tiles.specs.Machinery.Shown.{IsReady, leaves_by_item, leaves_of, lists_of};
 
-use cam_objects::{
-    Canvas, Contour, DrillItemBoxes, DrillLayer, Item, ItemBoxes, ItemCells, Layer, Object,
-};
+use cam_objects::{Canvas, DrillItemBoxes, DrillLayer, ItemBoxes, ItemCells, Layer};
 use cam_units::Bounds;
 
 /// A layer of either kind, and perhaps the cells of its items.
