@@ -1,18 +1,20 @@
 -- What the segments of a contour turn over, one after the other: a mask, or marks in the rows of tiles.
-use Rattle.std.proofs.Common.{◌≡◌, ◌↔◌, ◌≤◌, ◌<◌, ℕ, ◌+◌, ◌-◌, Bool, true, false, IsTrue, List, [], ◌∷◌, length, map}
+use Rattle.std.proofs.Common.{◌≡◌, ◌↔◌, ◌≤◌, ◌<◌, ℕ, ◌+◌, ◌-◌, ℤ, pos, Bool, true, false, IsTrue, List, [], ◌∷◌, length, map}
 use Rattle.std.proofs.Common.{take, drop, get_or, refl, sym, ap, subst, ◌∙◌, arith}
+use Rattle.std.proofs.lemmas.Int.{ints}
 use Rattle.std.proofs.lemmas.List.{at_drop_all, at_drop_more, take_all}
 use Rattle.cam_units.specs.Board.{IsOnBoard}
 use Rattle.cam_units.specs.declared.point.Point.{Point}
 use Rattle.cam_units.specs.declared.point.Spot.{Spot}
 use Rattle.cam_units.specs.declared.turn.Turn.{Turn}
+use Rattle.cam_units.specs.declared.turn.Turn.TheVariants.{R0}
 use Rattle.cam_shapes.specs.declared.segments.Seg.{Seg}
 use Rattle.cam_shapes.specs.declared.segments.Seg.TheVariants.{Curve, Line}
 use Rattle.cam_shapes.specs.declared.contour.Contour.{Contour}
 use Rattle.cam_shapes.specs.Edge.{crosses_ray, edge}
 use Rattle.cam_shapes.specs.Contour.{IsInContour, IsSoundSeg, end_of}
 use Rattle.cam_shapes.specs.Outline.{lines_to, outline_of}
-use Rattle.cam_shapes.specs.Placing.{placed_contour, placed_point, placed_seg}
+use Rattle.cam_shapes.specs.Placing.{IsPlaceableSeg, placed_contour, placed_point, placed_seg}
 use Rattle.cam_shapes.specs.Sides.{change_side, changes_side, differ}
 use Rattle.cam_shapes.proofs.Parity.{sides_are_parity}
 
@@ -35,6 +37,26 @@ differ_same false = refl
 pub sound_end : (seg : Seg) → IsSoundSeg seg → IsOnBoard (end_of seg)
 sound_end (Line to) sound = sound
 sound_end (Curve to centre ccw) sound = sound.0
+
+-- no turn, and an offset of (0, 0)
+module _ (o : Point) (no_x : o.x ≡ pos 0) (no_y : o.y ≡ pos 0) where
+  kept_point : (p : Point) → placed_point R0 o p ≡ p
+  kept_point p =
+      let q = placed_point R0 o p in
+      let is_x : q.x ≡ p.x = omega (arith, ints, no_x) in
+      let is_y : q.y ≡ p.y = omega (arith, ints, no_y) in
+      let point : ℤ → ℤ → Point = λ x y. record { x = x; y = y } in
+      ap (λ x. point x q.y) is_x ∙ ap (point p.x) is_y
+
+  pub kept_seg : (seg : Seg) → placed_seg R0 o seg ≡ seg
+  kept_seg (Line to) = ap Line (kept_point to)
+  kept_seg (Curve to centre ccw) =
+      ap (λ p. Curve p (placed_point R0 o centre) ccw) (kept_point to) ∙ ap (λ p. Curve to p ccw) (kept_point centre)
+
+-- the points of a segment that is placed on the board
+pub sound_here : (t : Turn) (o : Point) (seg : Seg) → IsPlaceableSeg t o seg → IsSoundSeg seg
+sound_here t o (Line to) h = h.here
+sound_here t o (Curve to centre ccw) h = (h.0.here, h.1.here)
 
 -- whether a contour's segments, all together, change the side of a place
 abbrev pub turns_side : Contour → Spot → Bool

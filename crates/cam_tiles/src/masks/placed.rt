@@ -1,11 +1,12 @@
 //! The insides of contours that are placed, and of outlines of macros, in the rows of tiles side by side: each segment is
 //! placed and counted once for all of them.
 
-ghost use Rattle.std.specs.Prelude.{All, IsTrue, map};
+ghost use Rattle.std.specs.Prelude.{◌≡◌, All, IsTrue, map};
 ghost use Rattle.cam_units.specs.Board.{IsOnBoard};
-ghost use Rattle.cam_shapes.specs.Contour.{IsInContour};
+ghost use Rattle.cam_shapes.specs.declared.segments.Seg.{Seg};
+ghost use Rattle.cam_shapes.specs.Contour.{IsInContour, IsSoundSeg};
 ghost use Rattle.cam_shapes.specs.Outline.{lines_to, outline_of};
-ghost use Rattle.cam_shapes.specs.Placing.{IsOffset, IsPlaceable, IsPlaceablePoint, placed_contour, placed_seg};
+ghost use Rattle.cam_shapes.specs.Placing.{IsOffset, IsPlaceable, IsPlaceablePoint, IsPlaceableSeg, placed_contour, placed_seg};
 ghost use Rattle.cam_shapes.specs.Sides.{change_side};
 ghost use Rattle.cam_objects.specs.Leaves.{Filled, origin};
 ghost use Rattle.cam_tiles.specs.Machinery.Turning.{AreWide, IsField, TurnsCentres};
@@ -14,9 +15,9 @@ use crate::grid::Grid;
 use crate::masks::marked::MarkShape;
 use crate::masks::mask::ORIGIN;
 use crate::masks::segments::end_of;
-use crate::masks::turning::{turn_edge, turn_segment};
+use crate::masks::turning::{row_heights, turn_edge, turn_near};
 use cam_rows::spread_marks;
-use cam_shapes::{Contour, Placing};
+use cam_shapes::{Contour, Placing, Seg};
 use cam_units::{Point, Turn};
 
 /// A contour that is turned about (0, 0) and then moved.
@@ -49,13 +50,37 @@ fn turn_contour(marks: &mut [u64], grid: &Grid, columns: u32, contour: &Contour,
         (λ s. IsInContour s (placed_contour placing.turn placing.offset contour.now)) marks.old marks.new }
 {
     let start = placing.point(contour.start);
+    let stays = keeps_segs(placing);
+    let rows = row_heights(grid);
     let mut here = start;
     for seg in contour.segs.as_slice() {
-        let seg = placing.seg(*seg);
-        turn_segment(marks, grid, columns, here, seg);
+        let seg = placed(placing, stays, *seg);
+        turn_near(marks, grid, columns, rows, here, seg);
         here = end_of(seg);
     }
     turn_edge(marks, grid, columns, here, start);
+}
+
+/// Whether all segments are placed where they are.
+fn keeps_segs(placing: Placing) -> bool
+    ensures { IsTrue result → (seg : Seg) → placed_seg placing.turn placing.offset seg ≡ seg }
+{
+    match placing.turn {
+        Turn::R0 => placing.offset.x == 0 && placing.offset.y == 0,
+        _ => false,
+    }
+}
+
+/// The segment, placed; without a call where all of them stay where they are.
+#[inline]
+fn placed(placing: Placing, stays: bool, seg: Seg) -> Seg
+    requires offset { IsOffset placing.offset }
+    requires seg { IsPlaceableSeg placing.turn placing.offset seg }
+    requires stays { IsTrue stays → (seg : Seg) → placed_seg placing.turn placing.offset seg ≡ seg }
+    ensures value { result ≡ placed_seg placing.turn placing.offset seg }
+    ensures sound { IsSoundSeg result }
+{
+    if stays { seg } else { placing.seg(seg) }
 }
 
 /// Counts the polygon through points that are turned about (0, 0), in the rows of a grid that may be seen from a point.
@@ -100,10 +125,11 @@ fn turn_lines(
     ensures { TurnsCentres grid.now columns (λ s. IsTrue (change_side s first first
         (map (placed_seg placing.turn placing.offset) (lines_to others.now)))) marks.old marks.new }
 {
+    let rows = row_heights(grid);
     let mut here = first;
     for point in others {
         let next = placing.point(*point);
-        turn_edge(marks, grid, columns, here, next);
+        turn_near(marks, grid, columns, rows, here, Seg::Line { to: next });
         here = next;
     }
     turn_edge(marks, grid, columns, here, first);

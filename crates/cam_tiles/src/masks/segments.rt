@@ -12,6 +12,7 @@ use cam_shapes::Seg;
 use cam_units::Point;
 
 /// The heights of the rays to the right that an edge may cross: from its lower end on, up to below its higher one.
+#[inline]
 pub(crate) fn crossed_heights(from: Point, to: Point) -> Heights
     requires from { IsOnBoard from }
     requires to { IsOnBoard to }

@@ -9,19 +9,72 @@ ghost use Rattle.cam_shapes.specs.Contour.{IsSoundSeg};
 ghost use Rattle.cam_shapes.specs.Edge.{crosses_ray, edge, is_above};
 ghost use Rattle.cam_shapes.specs.Sides.{changes_side};
 ghost use Rattle.cam_tiles.specs.Machinery.Levels.{AreLevels, IsOnRow, levels_of};
+ghost use Rattle.cam_tiles.specs.Machinery.Masks.{IsWithin};
 ghost use Rattle.cam_tiles.specs.Machinery.Turning.{AreWide, IsField, TurnsCentres};
+ghost use Rattle.cam_tiles.specs.Tiles.{centre_in};
 
 use crate::grid::Grid;
 use crate::levels::Levels;
-use crate::masks::heights::HasHeights;
+use crate::masks::heights::{HasHeights, Heights};
 use crate::masks::segments::crossed_heights;
 use crate::span::Span;
 use cam_rows::{Centres, cap_runs, edge_runs, mark_ends, mark_runs};
 use cam_shapes::{Cap, Seg};
 use cam_units::Point;
 
+/// The heights of all rows of a grid, by which lines are passed over that lie above or below them.
+#[inline]
+pub(crate) fn row_heights(grid: &Grid) -> Heights
+    requires { AreLevels (levels_of grid.now) }
+    ensures { (column row : ℕ) → row < grid.now.rows → IsWithin result (centre_in grid.now column row) }
+{
+    Heights {
+        low: levels_in(grid).bottom(),
+        high: grid.y,
+    }
+}
+
+/// Whether a segment from a point is a line that crosses no ray at some heights.
+#[inline]
+fn is_beyond(rows: Heights, here: Point, seg: Seg) -> bool
+    requires here { IsOnBoard here }
+    requires seg { IsSoundSeg seg }
+    ensures { IsTrue result → (s : Spot) → IsWithin rows s → IsTrue (changes_side s here seg) → ⊥ }
+{
+    match seg {
+        Seg::Line { to } => {
+            let crossed = crossed_heights(here, to);
+            crossed.high < rows.low || rows.high < crossed.low
+        }
+        Seg::Curve { .. } => false,
+    }
+}
+
+/// Counts what a segment from a point changes: most lines of a long contour are passed over by their heights alone.
+#[inline]
+pub(crate) fn turn_near(
+    marks: &mut [u64],
+    grid: &Grid,
+    columns: u32,
+    rows: Heights,
+    here: Point,
+    seg: Seg,
+)
+    requires grid { IsField grid.now columns }
+    requires wide { AreWide columns marks.old }
+    requires rows { (column row : ℕ) → row < grid.now.rows → IsWithin rows (centre_in grid.now column row) }
+    requires here { IsOnBoard here }
+    requires seg { IsSoundSeg seg }
+    ensures { TurnsCentres grid.now columns (λ s. IsTrue (changes_side s here seg)) marks.old marks.new }
+{
+    if is_beyond(rows, here, seg) {
+        return;
+    }
+    turn_segment(marks, grid, columns, here, seg);
+}
+
 /// Counts what a segment from a point changes.
-pub(crate) fn turn_segment(marks: &mut [u64], grid: &Grid, columns: u32, here: Point, seg: Seg)
+fn turn_segment(marks: &mut [u64], grid: &Grid, columns: u32, here: Point, seg: Seg)
     requires grid { IsField grid.now columns }
     requires wide { AreWide columns marks.old }
     requires here { IsOnBoard here }

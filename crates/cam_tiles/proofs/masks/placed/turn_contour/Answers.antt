@@ -10,8 +10,8 @@ pub point-start-requires-clause-offset : goal.point-start-requires-clause-offset
 point-start-requires-clause-offset c =
     offset_short c.args.placing.turn c.args.placing.offset c.args.contour.now.start c.requires.contour.start
 
-pub seg-seg-requires-clause-offset : goal.seg-seg-requires-clause-offset
-seg-seg-requires-clause-offset c =
+pub placed-seg-requires-clause-offset : goal.placed-seg-requires-clause-offset
+placed-seg-requires-clause-offset c =
     offset_short c.args.placing.turn c.args.placing.offset c.args.contour.now.start c.requires.contour.start
 
 pub loop-seg-init : goal.loop-seg-init
@@ -25,13 +25,13 @@ loop-seg-init c = record {
 
 pub loop-seg-preserved : goal.loop-seg-preserved
 loop-seg-preserved c = record {
-  on_board = subst IsOnBoard (sym c.end_of-here.ensures) (sound_end c.seg-seg.result c.seg-seg.ensures.sound);
-  wide = still_wide c.args.columns c.loop-seg.marks c.turn_segment.new.marks c.turn_segment.auto.marks
+  on_board = subst IsOnBoard (sym c.end_of-here.ensures) (sound_end c.placed-seg.result c.placed-seg.ensures.sound);
+  wide = still_wide c.args.columns c.loop-seg.marks c.turn_near.new.marks c.turn_near.auto.marks
       c.loop-seg.invariant.wide;
   turned = segment_turned (TurnsSo c.args.grid.now c.args.columns) (turning c.args.grid.now c.args.columns)
       c.args.placing.turn c.args.placing.offset c.point-start.result c.loop-seg.here c.end_of-here.result
-      c.seg-seg.result c.as_slice-seg-items.result.now c.loop-seg.seg-index _ c.loop-seg-test.true
-      c.seg-seg.ensures.value c.end_of-here.ensures c.loop-seg.invariant.turned c.turn_segment.ensures;
+      c.placed-seg.result c.as_slice-seg-items.result.now c.loop-seg.seg-index _ c.loop-seg-test.true
+      c.placed-seg.ensures.value c.end_of-here.ensures c.loop-seg.invariant.turned c.turn_near.ensures;
 }
 
 pub returns : goal.returns

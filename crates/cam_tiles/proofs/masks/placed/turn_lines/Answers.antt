@@ -16,12 +16,12 @@ pub loop-point-preserved : goal.loop-point-preserved
 loop-point-preserved c = record {
   on_board = subst IsOnBoard (sym c.point-next.ensures)
       (c.requires.others c.loop-point.point-index _ c.loop-point-test.true).there;
-  wide = still_wide c.args.columns c.loop-point.marks c.turn_edge.new.marks c.turn_edge.auto.marks
+  wide = still_wide c.args.columns c.loop-point.marks c.turn_near.new.marks c.turn_near.auto.marks
       c.loop-point.invariant.wide;
   turned = point_turned (TurnsSo c.args.grid.now c.args.columns) (turning c.args.grid.now c.args.columns)
       c.args.placing.turn c.args.placing.offset c.args.first
       c.loop-point.here c.point-next.result c.args.others.now c.loop-point.point-index _ c.loop-point-test.true
-      c.point-next.ensures c.loop-point.invariant.turned c.turn_edge.ensures;
+      c.point-next.ensures c.loop-point.invariant.turned c.turn_near.ensures;
 }
 
 pub returns : goal.returns
@@ -29,4 +29,4 @@ returns c =
     lines_turned (TurnsSo c.args.grid.now c.args.columns) (turning c.args.grid.now c.args.columns)
     c.args.placing.turn c.args.placing.offset c.args.first
     c.loop-point.here c.args.others.now c.loop-point.point-index c.loop-point-test.false
-    c.loop-point.invariant.turned c.turn_edge-2.ensures
+    c.loop-point.invariant.turned c.turn_edge.ensures
