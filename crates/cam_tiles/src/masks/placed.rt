@@ -15,7 +15,7 @@ use crate::grid::Grid;
 use crate::masks::marked::MarkShape;
 use crate::masks::mask::ORIGIN;
 use crate::masks::segments::end_of;
-use crate::masks::turning::{row_heights, turn_edge, turn_near};
+use crate::masks::turning::{row_heights, turn_edge, turn_line, turn_segment};
 use cam_rows::spread_marks;
 use cam_shapes::{Contour, Placing, Seg};
 use cam_units::{Point, Turn};
@@ -55,7 +55,7 @@ fn turn_contour(marks: &mut [u64], grid: &Grid, columns: u32, contour: &Contour,
     let mut here = start;
     for seg in contour.segs.as_slice() {
         let seg = placed(placing, stays, *seg);
-        turn_near(marks, grid, columns, rows, here, seg);
+        turn_segment(marks, grid, columns, rows, here, seg);
         here = end_of(seg);
     }
     turn_edge(marks, grid, columns, here, start);
@@ -129,7 +129,7 @@ fn turn_lines(
     let mut here = first;
     for point in others {
         let next = placing.point(*point);
-        turn_near(marks, grid, columns, rows, here, Seg::Line { to: next });
+        turn_line(marks, grid, columns, rows, here, next);
         here = next;
     }
     turn_edge(marks, grid, columns, here, first);

@@ -34,25 +34,9 @@ pub(crate) fn row_heights(grid: &Grid) -> Heights
     }
 }
 
-/// Whether a segment from a point is a line that crosses no ray at some heights.
+/// Counts what a segment from a point changes.
 #[inline]
-fn is_beyond(rows: Heights, here: Point, seg: Seg) -> bool
-    requires here { IsOnBoard here }
-    requires seg { IsSoundSeg seg }
-    ensures { IsTrue result → (s : Spot) → IsWithin rows s → IsTrue (changes_side s here seg) → ⊥ }
-{
-    match seg {
-        Seg::Line { to } => {
-            let crossed = crossed_heights(here, to);
-            crossed.high < rows.low || rows.high < crossed.low
-        }
-        Seg::Curve { .. } => false,
-    }
-}
-
-/// Counts what a segment from a point changes: most lines of a long contour are passed over by their heights alone.
-#[inline]
-pub(crate) fn turn_near(
+pub(crate) fn turn_segment(
     marks: &mut [u64],
     grid: &Grid,
     columns: u32,
@@ -67,22 +51,8 @@ pub(crate) fn turn_near(
     requires seg { IsSoundSeg seg }
     ensures { TurnsCentres grid.now columns (λ s. IsTrue (changes_side s here seg)) marks.old marks.new }
 {
-    if is_beyond(rows, here, seg) {
-        return;
-    }
-    turn_segment(marks, grid, columns, here, seg);
-}
-
-/// Counts what a segment from a point changes.
-fn turn_segment(marks: &mut [u64], grid: &Grid, columns: u32, here: Point, seg: Seg)
-    requires grid { IsField grid.now columns }
-    requires wide { AreWide columns marks.old }
-    requires here { IsOnBoard here }
-    requires seg { IsSoundSeg seg }
-    ensures { TurnsCentres grid.now columns (λ s. IsTrue (changes_side s here seg)) marks.old marks.new }
-{
     match seg {
-        Seg::Line { to } => turn_edge(marks, grid, columns, here, to),
+        Seg::Line { to } => turn_line(marks, grid, columns, rows, here, to),
         Seg::Curve { to, centre, ccw } => {
             let cap = Cap {
                 from: here,
@@ -90,10 +60,44 @@ fn turn_segment(marks: &mut [u64], grid: &Grid, columns: u32, here: Point, seg: 
                 centre,
                 ccw,
             };
-            turn_edge(marks, grid, columns, here, to);
+            turn_line(marks, grid, columns, rows, here, to);
             turn_cap(marks, grid, columns, &cap);
         }
     }
+}
+
+/// Whether a line crosses no ray at some heights.
+#[inline]
+fn is_beyond(rows: Heights, from: Point, to: Point) -> bool
+    requires from { IsOnBoard from }
+    requires to { IsOnBoard to }
+    ensures { IsTrue result → (s : Spot) → IsWithin rows s → IsTrue (crosses_ray s (edge from to)) → ⊥ }
+{
+    let crossed = crossed_heights(from, to);
+    crossed.high < rows.low || rows.high < crossed.low
+}
+
+/// Counts a line: most of a long contour are passed over by their heights alone.
+#[inline]
+pub(crate) fn turn_line(
+    marks: &mut [u64],
+    grid: &Grid,
+    columns: u32,
+    rows: Heights,
+    from: Point,
+    to: Point,
+)
+    requires grid { IsField grid.now columns }
+    requires wide { AreWide columns marks.old }
+    requires rows { (column row : ℕ) → row < grid.now.rows → IsWithin rows (centre_in grid.now column row) }
+    requires from { IsOnBoard from }
+    requires to { IsOnBoard to }
+    ensures { TurnsCentres grid.now columns (λ s. IsTrue (crosses_ray s (edge from to))) marks.old marks.new }
+{
+    if is_beyond(rows, from, to) {
+        return;
+    }
+    turn_edge(marks, grid, columns, from, to);
 }
 
 /// The heights of the rows of a grid, which may be seen from a point.

@@ -26,12 +26,12 @@ loop-seg-init c = record {
 pub loop-seg-preserved : goal.loop-seg-preserved
 loop-seg-preserved c = record {
   on_board = subst IsOnBoard (sym c.end_of-here.ensures) (sound_end c.placed-seg.result c.placed-seg.ensures.sound);
-  wide = still_wide c.args.columns c.loop-seg.marks c.turn_near.new.marks c.turn_near.auto.marks
+  wide = still_wide c.args.columns c.loop-seg.marks c.turn_segment.new.marks c.turn_segment.auto.marks
       c.loop-seg.invariant.wide;
   turned = segment_turned (TurnsSo c.args.grid.now c.args.columns) (turning c.args.grid.now c.args.columns)
       c.args.placing.turn c.args.placing.offset c.point-start.result c.loop-seg.here c.end_of-here.result
       c.placed-seg.result c.as_slice-seg-items.result.now c.loop-seg.seg-index _ c.loop-seg-test.true
-      c.placed-seg.ensures.value c.end_of-here.ensures c.loop-seg.invariant.turned c.turn_near.ensures;
+      c.placed-seg.ensures.value c.end_of-here.ensures c.loop-seg.invariant.turned c.turn_segment.ensures;
 }
 
 pub returns : goal.returns

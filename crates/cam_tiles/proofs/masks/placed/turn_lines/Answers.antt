@@ -16,12 +16,12 @@ pub loop-point-preserved : goal.loop-point-preserved
 loop-point-preserved c = record {
   on_board = subst IsOnBoard (sym c.point-next.ensures)
       (c.requires.others c.loop-point.point-index _ c.loop-point-test.true).there;
-  wide = still_wide c.args.columns c.loop-point.marks c.turn_near.new.marks c.turn_near.auto.marks
+  wide = still_wide c.args.columns c.loop-point.marks c.turn_line.new.marks c.turn_line.auto.marks
       c.loop-point.invariant.wide;
   turned = point_turned (TurnsSo c.args.grid.now c.args.columns) (turning c.args.grid.now c.args.columns)
       c.args.placing.turn c.args.placing.offset c.args.first
       c.loop-point.here c.point-next.result c.args.others.now c.loop-point.point-index _ c.loop-point-test.true
-      c.point-next.ensures c.loop-point.invariant.turned c.turn_near.ensures;
+      c.point-next.ensures c.loop-point.invariant.turned c.turn_line.ensures;
 }
 
 pub returns : goal.returns

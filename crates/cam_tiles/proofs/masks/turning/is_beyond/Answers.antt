@@ -8,7 +8,7 @@ returns-then-crossed-rows c = λ told s within met.
     let high : FitsSigned w64 c.crossed_heights-crossed.result.high = search rules in
     let low : FitsSigned w64 c.args.rows.low = search rules in
     let crossed =
-    (c.crossed_heights-crossed.ensures s).1 (met_apart s c.args.here c.in-Line.to (rw c.in-Line.is at met)) in
+    (c.crossed_heights-crossed.ensures s).1 (met_apart s c.args.from c.args.to met) in
     omega (arith, ints, high, low, told, within.0, crossed.1)
 
 pub returns-else-crossed-rows : goal.returns-else-crossed-rows
@@ -16,5 +16,5 @@ returns-else-crossed-rows c = λ told s within met.
     let low : FitsSigned w64 c.crossed_heights-crossed.result.low = search rules in
     let high : FitsSigned w64 c.args.rows.high = search rules in
     let crossed =
-    (c.crossed_heights-crossed.ensures s).1 (met_apart s c.args.here c.in-Line.to (rw c.in-Line.is at met)) in
+    (c.crossed_heights-crossed.ensures s).1 (met_apart s c.args.from c.args.to met) in
     omega (arith, ints, high, low, told, within.1, crossed.0)
