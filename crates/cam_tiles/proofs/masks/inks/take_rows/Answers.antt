@@ -1,6 +1,6 @@
 use Rattle.std.proofs.Common.{◌+◌, length, slice_index, inr, arith}
 use Rattle.cam_tiles.specs.Machinery.Inks.{in_row, in_runs, words_of}
-use Rattle.cam_tiles.proofs.RunInks.{above_told, in_above, known_stays, next_row, runs_told, takes_both}
+use Rattle.cam_tiles.proofs.RunInks.{above_told, in_above, next_row, runs_told, takes_both}
 use Rattle.cam_tiles.proofs.SwathInks.{same_test, takes_like}
 use Rattle.cam_tiles.proofs.masks.inks.take_rows.Goals as goal
 

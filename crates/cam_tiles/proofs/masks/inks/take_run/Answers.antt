@@ -1,4 +1,4 @@
-use Rattle.std.proofs.Common.{◌≡◌, ◌+◌, ◌*◌, ◌/◌, ◌<◌, ℕ, length, min, refl, sym, ap, subst, ◌∙◌, arith}
+use Rattle.std.proofs.Common.{◌≡◌, ◌+◌, ◌*◌, ◌<◌, ℕ, length, min, sym, ap, ◌∙◌, arith}
 use Rattle.cam_rows.specs.Marks.{is_set}
 use Rattle.cam_tiles.specs.Machinery.Inks.{Takes, in_row, words_of}
 use Rattle.cam_tiles.proofs.InkWords.{set_in_all, set_in_none}

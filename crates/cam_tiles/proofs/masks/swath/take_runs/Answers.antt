@@ -22,7 +22,7 @@ returns c = λ holds are.
           let run = runs_told s.body row column in
           let held = body_told s row column in
           inr (same_test (in_runs s.body row column) (in_body s row column) (
-            (λ on. held.1 (run.0 on, c.is_whole.ensures w.if-is_whole.true row column)),
+            (λ on. let out = c.is_whole.ensures w.if-is_whole.true row column in held.1 (run.0 on, out.0, out.1)),
             (λ on. run.1 (held.0 on).0),
           ))))
       | else-is_whole w ↦

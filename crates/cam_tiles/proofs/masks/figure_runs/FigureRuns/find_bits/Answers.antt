@@ -1,4 +1,4 @@
-use Rattle.std.proofs.Common.{◌+◌, arith}
+use Rattle.std.proofs.Common.{arith}
 use Rattle.cam_tiles.proofs.FigureColumns.{one_more_row}
 use Rattle.cam_tiles.proofs.masks.figure_runs.FigureRuns.find_bits.Goals as goal
 
