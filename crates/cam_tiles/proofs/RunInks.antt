@@ -1,6 +1,6 @@
 -- Inks that are taken by runs.
 use Rattle.std.proofs.Common.{◌≡◌, ◌↔◌, ◌⊎◌, ℕ, ◌+◌, ◌*◌, ◌/◌, ◌%◌, ◌<◌, ◌≤◌, min, Bool, true, false, ◌&&◌, ◌||◌, ◌==◌, not, nat_le, nat_lt}
-use Rattle.std.proofs.Common.{List, length, slice_index, slice_set, Option, Some, None, IsSome, IsTrue, refl, sym, ap, subst, ◌∙◌, inl, inr, arith}
+use Rattle.std.proofs.Common.{List, length, slice_index, slice_set, Option, Some, None, IsSome, IsTrue, refl, sym, ap, ◌∙◌, inl, inr, arith}
 use Rattle.std.proofs.Common.{get_or-set_other, get_or-set_same}
 use Rattle.std.specs.Int.{IsBitSet}
 use Rattle.std.specs.Option.{option_or}
@@ -14,7 +14,7 @@ use Rattle.cam_tiles.specs.Machinery.Figures.{HasBody, HasPart}
 use Rattle.cam_tiles.specs.Machinery.Inks.{AreKnown, Inked, Takes, given, in_body, in_row, in_runs, ink_at, ink_of, words_of}
 use Rattle.cam_tiles.specs.Machinery.Runs.{HasColumn}
 use Rattle.cam_tiles.proofs.JoinedWords.{bit_told}
-use Rattle.cam_tiles.proofs.SwathInks.{same_test, some_ink}
+use Rattle.cam_tiles.proofs.SwathInks.{same_test}
 use Rattle.cam_tiles.proofs.TakenInks.{kept_set}
 
 -- ---- tests
