@@ -14,7 +14,6 @@ use Rattle.cam_shapes.specs.Disc.{IsInDisc}
 use Rattle.cam_shapes.specs.declared.arc.Arc.{Arc}
 use Rattle.cam_shapes.specs.declared.capsule.Capsule.{Capsule}
 use Rattle.cam_rows.specs.ArcRuns.{IsBeyond, IsHollow, IsOuter, start_of as first_of, end_of as last_of}
-use Rattle.cam_rows.specs.Runs.{IsInRun}
 use Rattle.cam_rows.proofs.ArcRuns.{arc_is_its_runs}
 use Rattle.cam_rows.proofs.SetBits.{set_in_or, set_in_rest}
 use Rattle.cam_rows.proofs.CapsuleParts.{bar_of, end_of, in_capsule, start_of}
@@ -22,10 +21,9 @@ use Rattle.cam_tiles.specs.declared.grid.Grid.{Grid}
 use Rattle.cam_tiles.specs.declared.masks.heights.Heights.{Heights}
 use Rattle.cam_tiles.specs.declared.masks.runs.Runs.{Runs}
 use Rattle.cam_tiles.specs.declared.masks.figure_runs.FigureRuns.{FigureRuns}
-use Rattle.cam_tiles.specs.declared.span.Span.{Span}
 use Rattle.cam_tiles.specs.Machinery.Masks.{IsWithin}
 use Rattle.cam_tiles.specs.Machinery.Runs.{Fits, HasColumn, IsClear, Tells}
-use Rattle.cam_tiles.specs.Machinery.Figures.{HasPart, TellsFigure}
+use Rattle.cam_tiles.specs.Machinery.Figures.{HasBody, TellsFigure}
 use Rattle.cam_tiles.specs.Tiles.{centre_in}
 use Rattle.cam_tiles.proofs.RunColumns.{tells_nothing}
 
@@ -144,49 +142,30 @@ tells_like g columns P Q s same told = record {
       ((λ on. there.1 (here.0 on)), (λ held. here.1 (there.0 held)));
 }
 
--- all parts lie between two numbers, where each lies in a span of its own
-pub part_between : (s : FigureRuns) (body start end discs all : Span) (row column k : ℕ)
-    → (HasColumn s.body row column → IsInRun body.first body.end k)
-    → (HasColumn s.start row column → IsInRun start.first start.end k)
-    → (HasColumn s.end row column → IsInRun end.first end.end k)
-    → (IsInRun start.first start.end k ⊎ IsInRun end.first end.end k → IsInRun discs.first discs.end k)
-    → (IsInRun body.first body.end k ⊎ IsInRun discs.first discs.end k → IsInRun all.first all.end k)
-    → HasPart s row column → IsInRun all.first all.end k
-part_between s body start end discs all row column k in_body in_start in_end of_discs of_all part = elim part [
-  | inl before ↦ elim before [
-    | inl on ↦ of_all (inl (in_body on.0))
-    | inr on ↦ of_all (inr (of_discs (inl (in_start on))))
-  ]
-  | inr on ↦ of_all (inr (of_discs (inr (in_end on))))
-]
-
 -- ---- words of bits
 
-parts_in_word : (All Left Discs Out B H Y S E Body Hollow Beyond Start End : Type 0) → All ↔ (Left ⊎ Discs)
-    → Left ↔ (B × (Out → ⊥)) → Out ↔ (H ⊎ Y) → Discs ↔ (S ⊎ E) → B ↔ Body → H ↔ Hollow → Y ↔ Beyond → S ↔ Start
-    → E ↔ End → All ↔ (((Body × (Hollow → ⊥) × (Beyond → ⊥)) ⊎ Start) ⊎ End)
-parts_in_word All Left Discs Out B H Y S E Body Hollow Beyond Start End all left out discs b h y s e = grind arith
+parts_in_word : (All Out B H Y Body Hollow Beyond : Type 0) → All ↔ (B × (Out → ⊥)) → Out ↔ (H ⊎ Y) → B ↔ Body
+    → H ↔ Hollow → Y ↔ Beyond → All ↔ (Body × (Hollow → ⊥) × (Beyond → ⊥))
+parts_in_word All Out B H Y Body Hollow Beyond all out b h y = grind arith
 
--- the bits of a figure's parts, put together
-pub part_in_word : (s : FigureRuns) (row column i body hollow beyond start end : ℕ) → hollow < 2 ^ 64 → beyond < 2 ^ 64
-    → i < 64 → IsBitSet body i ↔ HasColumn s.body row column → IsBitSet hollow i ↔ HasColumn s.hollow row column
-    → IsBitSet beyond i ↔ HasColumn s.beyond row column → IsBitSet start i ↔ HasColumn s.start row column
-    → IsBitSet end i ↔ HasColumn s.end row column
-    → IsBitSet (bit_or (bit_and body (bit_not w64 (bit_or hollow beyond))) (bit_or start end)) i ↔ HasPart s row column
-part_in_word s row column i body hollow beyond start end fits fits_beyond within b h y first last =
-    parts_in_word _ _ _ _ _ _ _ _ _ _ _ _ _ _
-    (set_in_or (bit_and body (bit_not w64 (bit_or hollow beyond))) (bit_or start end) i)
+-- the bits of a figure's body, without those that are taken out of it
+pub body_in_word : (s : FigureRuns) (row column i body hollow beyond : ℕ) → hollow < 2 ^ 64 → beyond < 2 ^ 64 → i < 64
+    → IsBitSet body i ↔ HasColumn s.body row column → IsBitSet hollow i ↔ HasColumn s.hollow row column
+    → IsBitSet beyond i ↔ HasColumn s.beyond row column
+    → IsBitSet (bit_and body (bit_not w64 (bit_or hollow beyond))) i ↔ HasBody s row column
+body_in_word s row column i body hollow beyond fits fits_beyond within b h y =
+    parts_in_word _ _ _ _ _ _ _ _
     (set_in_rest body (bit_or hollow beyond) i (or_lt 64 hollow beyond fits fits_beyond) within) (set_in_or hollow beyond i)
-    (set_in_or start end i) b h y first last
+    b h y
 
--- the columns of a figure from one on are the bits of words, in some rows
+-- the columns of a body from one on are the bits of words, in some rows
 abbrev pub AreBits : FigureRuns → ℕ → ℕ → ℕ → List ℕ → Type 0
 AreBits s column first end bits =
-    (row i : ℕ) → first ≤ row → row < end → i < 64 → IsBitSet (slice_index bits row) i ↔ HasPart s row (column + i)
+    (row i : ℕ) → first ≤ row → row < end → i < 64 → IsBitSet (slice_index bits row) i ↔ HasBody s row (column + i)
 
 pub one_more_row : (s : FigureRuns) (column first row : ℕ) (bits : List ℕ) (word : ℕ)
     → AreBits s column first row bits → row < length bits
-    → ((i : ℕ) → i < 64 → IsBitSet word i ↔ HasPart s row (column + i))
+    → ((i : ℕ) → i < 64 → IsBitSet word i ↔ HasBody s row (column + i))
     → AreBits s column first (row + 1) (slice_set bits row word)
 one_more_row s column first row bits word before small here r i after early within = elim (cases_eq r row) [
   | inl e ↦ rw (e, get_or-set_same bits row word 0 small) (here i within)

@@ -30,6 +30,7 @@ pub mod RowLists
 pub mod RowsInOrder
 pub mod RowsOfTiles
 pub mod RunColumns
+pub mod RunInks
 pub mod SameFiles
 pub mod SeenParts
 pub mod SeenRows

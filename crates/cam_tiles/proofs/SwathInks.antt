@@ -120,44 +120,33 @@ abbrev pub in_bits : Span → List ℕ → ℕ → ℕ → Bool
 in_bits rows bits row column =
     nat_le rows.first row && nat_lt row rows.end && is_set (get_or bits row 0) (column % 64)
 
-module _ (holds : ℕ → ℕ → Bool) (dark : Bool) (runs : FigureRuns) where
-  pub runs_of_later : (first end : ℕ) (old now : Inked) → Takes first end holds dark old now → AreRunsOf holds runs old
-      → AreRunsOf holds runs now
-  runs_of_later first end old now takes are row column low within =
-      let there : column < 64 * old.tiles = omega (arith, within, takes.tiles) in
-      elim (are row column low there) [
-        | inl some ↦ inl (subst (λ o. IsSome o)
-            (sym (takes_decided holds dark first end old now takes row column low there some)) some)
-        | inr told ↦ inr told
-      ]
+module _ (tile : ℕ) (rows : Span) (bits : List ℕ) where
+  abbrev IsInBits : ℕ → ℕ → Type 0
+  IsInBits row i = (rows.first ≤ row) × (row < rows.end) × IsBitSet (get_or bits row 0) i
 
-  module _ (tile : ℕ) (rows : Span) (bits : List ℕ) (now new : Inked) where
-    abbrev IsInBits : ℕ → ℕ → Type 0
-    IsInBits row i = (rows.first ≤ row) × (row < rows.end) × IsBitSet (get_or bits row 0) i
+  in_bits_told : (row column : ℕ) → IsTrue (in_bits rows bits row column) ↔ IsInBits row (column % 64)
+  in_bits_told row column = (
+    (λ on.
+        let one = and_parts _ _ on in
+        let two = and_parts _ _ one.0 in
+        (leb-true _ _ two.0, ltb-true _ _ two.1, (bit_told _ _).0 one.1)),
+    (λ h. and_from _ _ (and_from _ _ (le-leb _ _ h.0) (lt-ltb _ _ h.1)) ((bit_told _ _).1 h.2)),
+  )
 
-    in_bits_told : (row column : ℕ) → IsTrue (in_bits rows bits row column) ↔ IsInBits row (column % 64)
-    in_bits_told row column = (
-      (λ on.
-          let one = and_parts _ _ on in
-          let two = and_parts _ _ one.0 in
-          (leb-true _ _ two.0, ltb-true _ _ two.1, (bit_told _ _).0 one.1)),
-      (λ h. and_from _ _ (and_from _ _ (le-leb _ _ h.0) (lt-ltb _ _ h.1)) ((bit_told _ _).1 h.2)),
-    )
-
-    pub takes_bits : ((row i : ℕ) → i < 64 → IsInBits row i ↔ HasPart runs row (64 * tile + i))
-        → AreRunsOf holds runs now → Takes tile (tile + 1) (in_bits rows bits) dark now new → Takes tile (tile + 1) holds dark now new
-    takes_bits told are takes =
-        takes_like (in_bits rows bits) dark tile (tile + 1) now new takes holds (λ row column low within after until.
-        let same : 64 * tile + column % 64 ≡ column = omega arith in
-        let here = told row (column % 64) (omega arith) in
-        let in_word = in_bits_told row column in
-        elim (are row column low within) [
-          | inl some ↦ inl some
-          | inr held ↦ inr (same_test _ _ (
-            (λ on. held.1 (subst (HasPart runs row) same (here.0 (in_word.0 on)))),
-            (λ on. in_word.1 (here.1 (subst (HasPart runs row) (sym same) (held.0 on)))),
-          ))
-        ])
+  pub takes_bits : (dark : Bool) (holds : ℕ → ℕ → Bool) (IsHeld : ℕ → ℕ → Type 0) (now new : Inked)
+      → ((row i : ℕ) → i < 64 → IsInBits row i ↔ IsHeld row (64 * tile + i))
+      → ((row column : ℕ) → IsTrue (holds row column) ↔ IsHeld row column)
+      → Takes tile (tile + 1) (in_bits rows bits) dark now new → Takes tile (tile + 1) holds dark now new
+  takes_bits dark holds IsHeld now new told are takes =
+      takes_like (in_bits rows bits) dark tile (tile + 1) now new takes holds (λ row column low within after until.
+      let same : 64 * tile + column % 64 ≡ column = omega arith in
+      let here = told row (column % 64) (omega arith) in
+      let in_word = in_bits_told row column in
+      let held = are row column in
+      inr (same_test _ _ (
+        (λ on. held.1 (subst (IsHeld row) same (here.0 (in_word.0 on)))),
+        (λ on. in_word.1 (here.1 (subst (IsHeld row) (sym same) (held.0 on)))),
+      )))
 
 -- ---- a leaf
 

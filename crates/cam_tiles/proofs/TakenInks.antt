@@ -30,7 +30,7 @@ no_words from to bits ink k none = record {
 }
 
 -- what is decided stays so
-kept_set : (d k e n : Bool) (other : Option Bool)
+pub kept_set : (d k e n : Bool) (other : Option Bool)
     → (if e then Some n else None) ≡ option_or (if d then Some k else None) other → d ≡ true → e ≡ true
 kept_set d k true n other told is = refl
 kept_set true k false n other told is = cc

@@ -46,9 +46,8 @@ impl Span {
 
     /// Those between which all of it and of another lie.
     pub(crate) fn joined(self, other: Span) -> Span
-        ensures each { (k : ℕ) → ((self.first ≤ k) × (k < self.end)) ⊎ ((other.first ≤ k) × (k < other.end))
+        ensures { (k : ℕ) → ((self.first ≤ k) × (k < self.end)) ⊎ ((other.first ≤ k) × (k < other.end))
             → (result.first ≤ k) × (k < result.end) }
-        ensures few { (n : ℕ) → self.end ≤ n → other.end ≤ n → result.end ≤ n }
     {
         if self.end <= self.first {
             return other;

@@ -1,10 +1,12 @@
 -- What is known of the pixels of tiles side by side that are painted from the last leaf on: which are decided, and which of
 -- these are dark.
 use Rattle.std.specs.Prelude.{◌≡◌, ◌⊎◌, ℕ, ◌*◌, ◌/◌, ◌<◌, ◌≤◌, Bool, true, false, if◌then◌else◌, List, [], length, slice_index}
-use Rattle.std.specs.Prelude.{Option, None, Some, ◌&&◌, nat_lt, is_none, slice_index_or}
+use Rattle.std.specs.Prelude.{Option, None, Some, ◌&&◌, ◌||◌, ◌==◌, not, nat_le, nat_lt, is_none, slice_index_or}
 use Rattle.std.specs.Option.{option_or}
 use Rattle.cam_rows.specs.Marks.{is_marked, is_set}
+use Rattle.cam_tiles.specs.declared.masks.figure_runs.FigureRuns.{FigureRuns}
 use Rattle.cam_tiles.specs.declared.masks.inks.Inks.TheInside.{Inside}
+use Rattle.cam_tiles.specs.declared.masks.runs.Runs.{Runs}
 use Rattle.cam_tiles.specs.Tables.{Tile}
 
 -- so many tiles, with two words for each row of a tile, as marks have one
@@ -36,6 +38,24 @@ pub record Takes (first end : ℕ) (holds : ℕ → ℕ → Bool) (dark : Bool) 
       → ink_at new row column ≡ option_or (ink_at old row column) (given (holds row column) dark)
   pub others : (row column : ℕ) → row < 64 → column < 64 * old.tiles → (column < 64 * first) ⊎ (64 * end ≤ column)
       → ink_at new row column ≡ ink_at old row column
+
+-- whether a column of a row is in a run of one row
+abbrev pub in_row : ℕ → ℕ → ℕ → ℕ → ℕ → Bool
+in_row of first end row column = row == of && (nat_le first column && nat_lt column end)
+
+-- whether it is in the run of its row
+abbrev pub in_runs : Runs → ℕ → ℕ → Bool
+in_runs r row column =
+    (nat_le r.band.first row && nat_lt row r.band.end)
+    && (nat_le (slice_index r.firsts row) column && nat_lt column (slice_index r.ends row))
+
+-- whether it is in the run of a figure's body, and in none that is taken out of it
+abbrev pub in_body : FigureRuns → ℕ → ℕ → Bool
+in_body s row column = in_runs s.body row column && not (in_runs s.hollow row column || in_runs s.beyond row column)
+
+-- so many tiles by their words
+abbrev pub words_of : ℕ → List ℕ → List ℕ → Inked
+words_of tiles decided dark = record { tiles = tiles; decided = decided; dark = dark }
 
 -- what is undecided at first: the dirty ones of tiles, in so many columns and rows
 abbrev pub is_open : List Tile → ℕ → ℕ → ℕ → ℕ → Bool

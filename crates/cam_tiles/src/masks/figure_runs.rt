@@ -1,18 +1,16 @@
 //! The runs of a figure in the rows of tiles side by side.
 
 ghost use Rattle.std.specs.Int.{IsBitSet};
-ghost use Rattle.std.specs.Prelude.{◌↔◌, ◌+◌, ◌<◌, ◌≤◌, ℕ, slice_index};
+ghost use Rattle.std.specs.Prelude.{◌↔◌, ◌+◌, ◌<◌, ◌≤◌, ℕ, IsTrue, slice_index};
 ghost use Rattle.cam_shapes.specs.Arc.{IsInArc, IsSoundArc};
 ghost use Rattle.cam_shapes.specs.Bar.{IsInCapsule, IsSoundCapsule};
 ghost use Rattle.cam_shapes.specs.Disc.{IsInHole, IsSoundDisc};
 ghost use Rattle.cam_shapes.specs.Swept.{IsInSwept, IsSoundSwept};
 ghost use Rattle.cam_units.specs.Board.{IsOnBoard};
 ghost use Rattle.cam_objects.specs.Image.{relative};
-ghost use Rattle.cam_rows.specs.Runs.{IsInRun};
-ghost use Rattle.cam_tiles.specs.Machinery.Runs.{IsClear, IsWideGrid};
+ghost use Rattle.cam_tiles.specs.Machinery.Runs.{HasColumn, IsClear, IsWideGrid};
 ghost use Rattle.cam_tiles.specs.Machinery.Figures.{
-  AllFit,
-  HasPart,
+  HasBody,
   IsInFigure,
   IsSoundPlaced,
   LiesWithin,
@@ -186,44 +184,34 @@ impl FigureRuns {
         self.hollow.find(hole, at, grid, columns);
     }
 
-    /// Columns between which the whole figure lies.
-    pub(crate) fn columns(&self) -> Span
-        ensures { (rows row column : ℕ) → AllFit rows self.now → HasPart self.now row column
-            → IsInRun result.first result.end column }
+    /// Whether nothing is taken out of the body.
+    pub(crate) fn is_whole(&self) -> bool
+        ensures { IsTrue result → (row column : ℕ) → (HasColumn self.now.hollow row column → ⊥)
+            × (HasColumn self.now.beyond row column → ⊥) }
     {
-        let discs = self.start.columns.joined(self.end.columns);
-        self.body.columns.joined(discs)
+        self.hollow.band.end <= self.hollow.band.first
+            && self.beyond.band.end <= self.beyond.band.first
     }
 
-    /// Rows outside of which it holds nothing.
-    fn rows(&self) -> Span
-        ensures each { (row column : ℕ) → HasPart self.now row column → (result.first ≤ row) × (row < result.end) }
-        ensures few { (rows : ℕ) → AllFit rows self.now → result.end ≤ rows }
-    {
-        let discs = self.start.band.joined(self.end.band);
-        self.body.band.joined(discs)
-    }
-
-    /// The columns that it holds of a row, among 64 of them from one on, as bits.
+    /// The columns that its body holds of a row, among 64 of them from one on, as bits.
     #[inline]
     fn word(&self, row: u32, column: u32) -> u64
         requires { row < 64 }
-        ensures { (i : ℕ) → i < 64 → IsBitSet result i ↔ HasPart self.now row (column + i) }
+        ensures { (i : ℕ) → i < 64 → IsBitSet result i ↔ HasBody self.now row (column + i) }
     {
         let out = self.hollow.word(row, column) | self.beyond.word(row, column);
-        let discs = self.start.word(row, column) | self.end.word(row, column);
-        (self.body.word(row, column) & !out) | discs
+        self.body.word(row, column) & !out
     }
 
     /// Finds the same in each row, and answers outside of which rows there is nothing.
     pub(crate) fn find_bits(&self, column: u32, bits: &mut [u64; 64]) -> Span
-        requires { AllFit 64 self.now }
+        requires { self.now.body.band.end ≤ 64 }
         ensures rows { result.end ≤ 64 }
         ensures each { (row i : ℕ) → i < 64
             → ((result.first ≤ row) × (row < result.end) × IsBitSet (slice_index bits.new row) i)
-            ↔ HasPart self.now row (column + i) }
+            ↔ HasBody self.now row (column + i) }
     {
-        let rows = self.rows();
+        let rows = self.body.band;
         for row in rows.first..rows.end {
             bits[row as usize] = self.word(row, column);
         }

@@ -5,8 +5,9 @@ ghost use Rattle.std.specs.Prelude.{◌≡◌, ◌+◌, ◌-◌, ◌*◌, ◌%�
 ghost use Rattle.std.specs.Prelude.{if◌then◌else◌, length, nat_le, nat_lt, replicate, slice_index};
 ghost use Rattle.std.specs.Option.{option_or};
 ghost use Rattle.cam_rows.specs.Marks.{is_marked, is_set};
-ghost use Rattle.cam_tiles.specs.Machinery.Inks.{AreOpen, IsDoneTile, Takes, given, ink_of, is_open};
+ghost use Rattle.cam_tiles.specs.Machinery.Inks.{AreKnown, AreOpen, IsDoneTile, Takes, given, in_row, in_runs, ink_of, is_open, words_of};
 
+use crate::masks::runs::Runs;
 use crate::painter::Tile;
 use crate::span::Span;
 use cam_rows::run_row;
@@ -162,6 +163,15 @@ impl Inks {
         );
     }
 
+    /// Gives a polarity to what is not decided of the columns that are in runs.
+    pub(crate) fn take_each(&mut self, runs: &Runs, dark: bool)
+        requires { runs.now.band.end ≤ 64 }
+        ensures { Takes 0 self.old.tiles (in_runs runs.now) dark self.old self.new }
+    {
+        let known = &self.known[..self.tiles];
+        take_rows(&mut self.decided, &mut self.dark, known, runs, dark);
+    }
+
     /// The rows of a tile from the top: bit i of each is set where column i is decided as dark.
     pub(crate) fn rows(&self, tile: usize) -> [u64; 64]
         requires { tile < self.now.tiles }
@@ -254,6 +264,56 @@ fn take_words(decided: &mut [u64], dark: &mut [u64], bits: &[u64], ink: bool)
     let ink = if ink { u64::MAX } else { 0 };
     for k in 0..decided.len() {
         take_word(&mut decided[k], &mut dark[k], bits[k], ink);
+    }
+}
+
+/// Gives a polarity to what is not decided of the columns that are in runs, in so many tiles as there are numbers of rows
+/// that are known to be decided.
+#[inline]
+fn take_rows(decided: &mut [u64], dark: &mut [u64], known: &[u32], runs: &Runs, ink: bool)
+    requires few { length known.now ≤ 512 }
+    requires decided { 64 * length known.now ≤ length decided.old }
+    requires dark { 64 * length known.now ≤ length dark.old }
+    requires rows { runs.now.band.end ≤ 64 }
+    requires known { (tile : ℕ) → tile < length known.now → 64 ≤ slice_index known.now tile
+        → AreKnown decided.old tile 64 }
+    ensures { Takes 0 (length known.now) (in_runs runs.now) ink (words_of (length known.now) decided.old dark.old)
+        (words_of (length known.now) decided.new dark.new) }
+{
+    for row in runs.band.first..runs.band.end {
+        let k = row as usize;
+        take_run(decided, dark, known, row, runs.firsts[k], runs.ends[k], ink);
+    }
+}
+
+/// The same of the run of one row: those of a tile at once, but for tiles that are known to be decided.
+#[inline]
+fn take_run(
+    decided: &mut [u64],
+    dark: &mut [u64],
+    known: &[u32],
+    row: u32,
+    first: u32,
+    end: u32,
+    ink: bool,
+)
+    requires few { length known.now ≤ 512 }
+    requires decided { 64 * length known.now ≤ length decided.old }
+    requires dark { 64 * length known.now ≤ length dark.old }
+    requires row { row < 64 }
+    requires known { (tile : ℕ) → tile < length known.now → 64 ≤ slice_index known.now tile
+        → AreKnown decided.old tile 64 }
+    ensures { Takes 0 (length known.now) (in_row row first end) ink (words_of (length known.now) decided.old dark.old)
+        (words_of (length known.now) decided.new dark.new) }
+{
+    let ink = if ink { u64::MAX } else { 0 };
+    let tiles = known.len() as u32;
+    for tile in first / 64..end.div_ceil(64).min(tiles) {
+        if known[tile as usize] < 64 {
+            let bits = run_row(first, end, 64 * tile, 64);
+            let k = (64 * tile + row) as usize;
+            take_word(&mut decided[k], &mut dark[k], bits, ink);
+        }
     }
 }
 

@@ -28,7 +28,7 @@ returns-in_default-clause-columns c = λ row column. (
 pub returns-in_default-clause-fits : goal.returns-in_default-clause-fits
 returns-in_default-clause-fits c = λ rows fit fit_other. (
   taken_fit c.args.self.now c.args.other.now c.loop-row.self c.joined-self.result c.loop-row.row rows
-      c.loop-row.invariant c.joined-self.ensures.each fit fit_other,
+      c.loop-row.invariant c.joined-self.ensures fit fit_other,
   fit_other,
 )
 
@@ -48,6 +48,6 @@ returns-clause-columns c = λ row column. (
 pub returns-clause-fits : goal.returns-clause-fits
 returns-clause-fits c = λ rows fit fit_other. (
   taken_fit c.args.self.now c.args.other.now c.loop-row.self c.joined-self.result c.loop-row.row rows
-      c.loop-row.invariant c.joined-self.ensures.each fit fit_other,
+      c.loop-row.invariant c.joined-self.ensures fit fit_other,
   without_rows rows c.clear.new.self c.clear.ensures,
 )

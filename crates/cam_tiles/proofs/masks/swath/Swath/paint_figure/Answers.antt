@@ -1,4 +1,4 @@
-use Rattle.std.proofs.Common.{◌↔◌, ℕ, ◌/◌, ◌<◌, [], ◌∷◌, subst, ◌∙◌, inl, inr, arith}
+use Rattle.std.proofs.Common.{◌↔◌, ℕ, ◌<◌, [], ◌∷◌, subst, ◌∙◌, inl, inr, arith}
 use Rattle.cam_objects.specs.Canvases.{leaf_of, shape_of}
 use Rattle.cam_objects.specs.Image.{Covers}
 use Rattle.cam_tiles.specs.Machinery.Figures.{HasPart}
@@ -19,7 +19,7 @@ told c column row near below =
 
 -- what is taken
 taken : (c : After-take_runs)
-    → Takes (c.columns-columns.result.first / 64) c.div_ceil.result
+    → Takes 0 c.self.inside.inks.tiles
     (covered (shape_of c.args.print.figure) c.self.inside.grid) c.args.print.dark c.self.inside.inks c.take_runs.new.inks
 taken c =
     let s = c.self.inside in
@@ -51,12 +51,7 @@ returns c =
     subst
     (λ (v : Swathed). PaintsSwath v (leaf_of c.args.print ∷ []) (record { grid = s.grid; columns = s.columns; inks = c.take_runs.new.inks }))
     c.self.view_is
-    (paints_taken (shape_of c.args.print.figure) s.grid s.columns c.args.print.dark (c.columns-columns.result.first / 64)
-    c.div_ceil.result s.inks c.take_runs.new.inks (taken c) inv.grid.rows.1 (omega (arith, inv.tiles))
+    (paints_taken (shape_of c.args.print.figure) s.grid s.columns c.args.print.dark 0 s.inks.tiles s.inks c.take_runs.new.inks
+    (taken c) inv.grid.rows.1 (omega (arith, inv.tiles))
     (λ column row near below apart.
-    inr (λ held.
-    let spanned = c.columns-columns.ensures s.grid.rows row column c.find.ensures.fit ((told c column row near below).1 held) in
-    elim apart [
-      | inl early ↦ omega (arith, spanned)
-      | inr late ↦ omega (arith, spanned, c.min.ensures, c.div_ceil.ensures)
-    ])))
+    absurd (elim apart [ inl early ↦ omega (arith, early) | inr late ↦ omega (arith, late, near, inv.tiles) ])))

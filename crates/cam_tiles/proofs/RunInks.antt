@@ -1,0 +1,278 @@
+-- Inks that are taken by runs.
+use Rattle.std.proofs.Common.{◌≡◌, ◌↔◌, ◌⊎◌, ℕ, ◌+◌, ◌*◌, ◌/◌, ◌%◌, ◌<◌, ◌≤◌, min, Bool, true, false, ◌&&◌, ◌||◌, ◌==◌, not, nat_le, nat_lt}
+use Rattle.std.proofs.Common.{List, length, slice_index, slice_set, Option, Some, None, IsSome, IsTrue, refl, sym, ap, ◌∙◌, inl, inr, arith}
+use Rattle.std.proofs.Common.{get_or-set_other, get_or-set_same}
+use Rattle.std.specs.Int.{IsBitSet}
+use Rattle.std.specs.Option.{option_or}
+use Rattle.std.proofs.lemmas.Bool.{and_from, and_parts, cases_Bool, cases_eq, cases_lt, eq-eqb, eqb-true, false≢true, le-leb, leb-true, lt-ltb, ltb-true}
+use Rattle.cam_objects.proofs.LastInks.{or_decided, or_none}
+use Rattle.cam_rows.specs.Marks.{is_set}
+use Rattle.cam_rows.specs.Runs.{IsInRun}
+use Rattle.cam_tiles.specs.declared.masks.figure_runs.FigureRuns.{FigureRuns}
+use Rattle.cam_tiles.specs.declared.masks.runs.Runs.{Runs}
+use Rattle.cam_tiles.specs.Machinery.Figures.{HasBody, HasPart}
+use Rattle.cam_tiles.specs.Machinery.Inks.{AreKnown, Inked, Takes, given, in_body, in_row, in_runs, ink_at, ink_of, words_of}
+use Rattle.cam_tiles.specs.Machinery.Runs.{HasColumn}
+use Rattle.cam_tiles.proofs.JoinedWords.{bit_told}
+use Rattle.cam_tiles.proofs.SwathInks.{same_test}
+use Rattle.cam_tiles.proofs.TakenInks.{kept_set}
+
+-- ---- tests
+
+pub span_told : (first end k : ℕ) → IsTrue (nat_le first k && nat_lt k end) ↔ IsInRun first end k
+span_told first end k = (
+  (λ on. let h = and_parts _ _ on in (leb-true _ _ h.0, ltb-true _ _ h.1)),
+  (λ h. and_from _ _ (le-leb _ _ h.0) (lt-ltb _ _ h.1)),
+)
+
+pub row_told : (of first end row column : ℕ) → IsTrue (in_row of first end row column) ↔ ((row ≡ of) × IsInRun first end column)
+row_told of first end row column = (
+  (λ on. let h = and_parts _ _ on in (eqb-true _ _ h.0, (span_told first end column).0 h.1)),
+  (λ h. and_from _ _ (eq-eqb _ _ h.0) ((span_told first end column).1 h.1)),
+)
+
+pub runs_told : (r : Runs) (row column : ℕ) → IsTrue (in_runs r row column) ↔ HasColumn r row column
+runs_told r row column = (
+  (λ on.
+      let h = and_parts _ _ on in
+      let band = (span_told _ _ _).0 h.0 in
+      (band.0, band.1, (span_told _ _ _).0 h.1)),
+  (λ h. and_from _ _ ((span_told _ _ _).1 (h.0, h.1)) ((span_told _ _ _).1 h.2)),
+)
+
+pub or_told : (a b : Bool) → IsTrue (a || b) ↔ (IsTrue a ⊎ IsTrue b)
+or_told true b = ((λ on. inl refl), (λ either. refl))
+or_told false b = ((λ on. inr on), (λ either. elim either [ inl off ↦ absurd (false≢true off) | inr on ↦ on ]))
+
+rest_told : (a b c : Bool) → IsTrue (a && not (b || c)) ↔ (IsTrue a × (IsTrue b → ⊥) × (IsTrue c → ⊥))
+rest_told true false false = ((λ on. (refl, (λ h. false≢true h), (λ h. false≢true h))), (λ h. refl))
+rest_told true true c = ((λ off. absurd (false≢true off)), (λ h. absurd (h.1 refl)))
+rest_told true false true = ((λ off. absurd (false≢true off)), (λ h. absurd (h.2 refl)))
+rest_told false b c = ((λ off. absurd (false≢true off)), (λ h. h.0))
+
+rest_like : (T A B C P Q R : Type 0) → T ↔ (A × (B → ⊥) × (C → ⊥)) → A ↔ P → B ↔ Q → C ↔ R → T ↔ (P × (Q → ⊥) × (R → ⊥))
+rest_like T A B C P Q R law a b c = grind arith
+
+pub body_told : (s : FigureRuns) (row column : ℕ) → IsTrue (in_body s row column) ↔ HasBody s row column
+body_told s row column =
+    rest_like _ _ _ _ _ _ _ (rest_told (in_runs s.body row column) (in_runs s.hollow row column) (in_runs s.beyond row column))
+    (runs_told s.body row column) (runs_told s.hollow row column) (runs_told s.beyond row column)
+
+-- whether a column is in a figure by its runs
+abbrev pub in_part : FigureRuns → ℕ → ℕ → Bool
+in_part s row column = (in_body s row column || in_runs s.start row column) || in_runs s.end row column
+
+part_like : (W T B S E Body Start End : Type 0) → W ↔ (T ⊎ E) → T ↔ (B ⊎ S) → B ↔ Body → S ↔ Start → E ↔ End
+    → W ↔ ((Body ⊎ Start) ⊎ End)
+part_like W T B S E Body Start End whole two body start end = grind arith
+
+pub part_told : (s : FigureRuns) (row column : ℕ) → IsTrue (in_part s row column) ↔ HasPart s row column
+part_told s row column =
+    part_like _ _ _ _ _ _ _ _
+    (or_told (in_body s row column || in_runs s.start row column) (in_runs s.end row column))
+    (or_told (in_body s row column) (in_runs s.start row column)) (body_told s row column) (runs_told s.start row column)
+    (runs_told s.end row column)
+
+-- ---- what is taken of all tiles
+
+twice : (o : Option Bool) (p q ink : Bool) → option_or (option_or o (given p ink)) (given q ink) ≡ option_or o (given (p || q) ink)
+twice (Some b) p q ink = refl
+twice None true q ink = refl
+twice None false q ink = refl
+
+module _ (ink : Bool) where
+  -- by one test, and then by another
+  pub takes_both : (n : ℕ) (P Q R : ℕ → ℕ → Bool) (old now new : Inked) → Takes 0 n P ink old now → Takes 0 n Q ink now new
+      → ((row column : ℕ) → row < 64 → column < 64 * n
+      → IsTrue (R row column) ↔ (IsTrue (P row column) ⊎ IsTrue (Q row column)))
+      → Takes 0 n R ink old new
+  takes_both n P Q R old now new first next either = record {
+    tiles = next.tiles ∙ first.tiles;
+    each = λ row column low within after until.
+        let p : Bool = P row column in
+        let q : Bool = Q row column in
+        let told = either row column low until in
+        let law = or_told p q in
+        let o : Option Bool = ink_at old row column in
+        let same : (p || q) ≡ R row column =
+        same_test (p || q) (R row column) ((λ on. told.1 (law.0 on)), (λ on. law.1 (told.0 on))) in
+        next.each row column low (omega (arith, within, first.tiles)) after until
+        ∙ ap (λ k. option_or k (given q ink)) (first.each row column low within after until)
+        ∙ twice o p q ink ∙ ap (λ b. option_or o (given b ink)) same;
+    others = λ row column low within apart.
+        next.others row column low (omega (arith, within, first.tiles)) apart ∙ first.others row column low within apart;
+  }
+
+  not_given : (o : Option Bool) (b : Bool) → (IsTrue b → ⊥) → o ≡ option_or o (given b ink)
+  not_given o b off = sym (ap (λ k. option_or o (given k ink)) (same_test b false (
+    (λ on. absurd (off on)),
+    (λ off. absurd (false≢true off)),
+  )) ∙ or_none o)
+
+  -- nothing, where all is decided of which a test holds
+  pub takes_done : (first end : ℕ) (P : ℕ → ℕ → Bool) (k : Inked)
+      → ((row column : ℕ) → row < 64 → column < 64 * end → IsTrue (P row column) → IsSome (ink_at k row column))
+      → Takes first end P ink k k
+  takes_done first end P k done = record {
+    tiles = refl;
+    each = λ row column low within after until.
+        let o : Option Bool = ink_at k row column in
+        elim (cases_Bool (P row column)) [
+          | inl on ↦ sym (or_decided o (given (P row column) ink) (done row column low until on))
+          | inr off ↦ not_given o (P row column) (λ on. false≢true (sym off ∙ on))
+        ];
+    others = λ row column low within apart. refl;
+  }
+
+  -- some tiles, outside of which a test does not hold
+  pub takes_all : (first end : ℕ) (P : ℕ → ℕ → Bool) (old new : Inked)
+      → ((row column : ℕ) → column < 64 * old.tiles → IsTrue (P row column) → (64 * first ≤ column) × (column < 64 * end))
+      → Takes first end P ink old new → Takes 0 old.tiles P ink old new
+  takes_all first end P old new lies takes = record {
+    tiles = takes.tiles;
+    each = λ row column low within after until.
+        let o : Option Bool = ink_at old row column in
+        let off : (column < 64 * first) ⊎ (64 * end ≤ column) → ink_at new row column ≡ option_or o (given (P row column) ink) =
+        λ apart. takes.others row column low within apart ∙ not_given o (P row column) (λ on.
+        let there = lies row column within on in
+        elim apart [ inl early ↦ omega (arith, early, there.0) | inr late ↦ omega (arith, late, there.1) ]) in
+        elim (cases_lt column (64 * first)) [
+          | inl early ↦ off (inl early)
+          | inr from ↦ elim (cases_lt column (64 * end)) [
+            | inl to ↦ takes.each row column low within from to
+            | inr late ↦ off (inr late)
+          ]
+        ];
+    others = λ row column low within apart.
+        elim apart [ inl early ↦ absurd (omega (arith, early)) | inr late ↦ absurd (omega (arith, within, late)) ];
+  }
+
+  -- what is decided stays so
+  pub known_stays : (P : ℕ → ℕ → Bool) (old new : Inked) (tile rows : ℕ) → Takes 0 old.tiles P ink old new → tile < old.tiles
+      → rows ≤ 64 → AreKnown old.decided tile rows → AreKnown new.decided tile rows
+  known_stays P old new tile rows takes inside few known row column low here =
+      kept_set _ _ _ _ _ (takes.each row column (omega (arith, low, few)) (omega (arith, inside, here)) (omega arith)
+      (omega (arith, inside, here))) (known row column low here)
+
+  -- a word of a tile
+  pub takes_word : (n tile row bits : ℕ) (P : ℕ → ℕ → Bool) (decided dark : List ℕ) (word other all : ℕ) → row < 64
+      → 64 * tile + row < length decided → 64 * tile + row < length dark
+      → ((r column : ℕ) → IsTrue (P r column) ↔ ((r ≡ row) × (column / 64 ≡ tile) × IsBitSet bits (column % 64)))
+      → ((i : ℕ) → i < 64 → ink_of word other i
+      ≡ option_or (ink_of (slice_index decided (64 * tile + row)) (slice_index dark (64 * tile + row)) i)
+      (given (is_set bits i) (is_set all i)))
+      → ((i : ℕ) → i < 64 → is_set all i ≡ ink)
+      → Takes 0 n P ink (words_of n decided dark)
+      (words_of n (slice_set decided (64 * tile + row) word) (slice_set dark (64 * tile + row) other))
+  takes_word n tile row bits P decided dark word other all small within within_dark told here inked = record {
+    tiles = refl;
+    each = λ r column low inside after until.
+        let k = 64 * tile + row in
+        let at = 64 * (column / 64) + r in
+        let i = column % 64 in
+        let law = told r column in
+        elim (cases_eq at k) [
+          | inl e ↦
+              let own : r ≡ row = omega (arith, e, low, small) in
+              let there : column / 64 ≡ tile = omega (arith, e, low, small) in
+              let bit = bit_told bits i in
+              let same : is_set bits i ≡ P r column = same_test (is_set bits i) (P r column) (
+                (λ on. law.1 (own, there, bit.0 on)),
+                (λ on. bit.1 (law.0 on).2),
+              ) in
+              rw (e, get_or-set_same decided k word 0 within, get_or-set_same dark k other 0 within_dark, ← same, ← inked i (omega arith))
+              (here i (omega arith))
+          | inr apart ↦
+              rw (get_or-set_other decided k at word 0 apart, get_or-set_other dark k at other 0 apart)
+              (not_given (ink_of (slice_index decided at) (slice_index dark at) i) (P r column)
+              (λ on. let h = law.0 on in apart (omega (arith, h.0, h.1))))
+        ];
+    others = λ r column low inside apart.
+        elim apart [ inl early ↦ absurd (omega (arith, early)) | inr late ↦ absurd (omega (arith, inside, late)) ];
+  }
+
+-- ---- the run of a row
+
+-- its columns in one tile
+abbrev pub in_tile : ℕ → ℕ → ℕ → ℕ → ℕ → ℕ → Bool
+in_tile of first end tile row column = in_row of first end row column && column / 64 == tile
+
+pub tile_told : (of first end tile row column : ℕ)
+    → IsTrue (in_tile of first end tile row column) ↔ ((row ≡ of) × IsInRun first end column × (column / 64 ≡ tile))
+tile_told of first end tile row column = let law = row_told of first end row column in (
+  (λ on. let h = and_parts _ _ on in let r = law.0 h.0 in (r.0, r.1, eqb-true _ _ h.1)),
+  (λ h. and_from _ _ (law.1 (h.0, h.1)) (eq-eqb _ _ h.2)),
+)
+
+-- those before a tile, and those in it
+pub next_tile : (of first end tile row column : ℕ) → first / 64 ≤ tile
+    → IsTrue (in_row of first (min end (64 * (tile + 1))) row column)
+    ↔ (IsTrue (in_row of first (min end (64 * tile)) row column) ⊎ IsTrue (in_tile of first end tile row column))
+next_tile of first end tile row column after =
+    let all = row_told of first (min end (64 * (tile + 1))) row column in
+    let before = row_told of first (min end (64 * tile)) row column in
+    let here = tile_told of first end tile row column in (
+      (λ on.
+          let h = all.0 on in
+          elim (cases_lt column (64 * tile)) [
+            | inl early ↦ inl (before.1 (h.0, (h.1.0, omega (arith, h.1.1, early))))
+            | inr late ↦ inr (here.1 (h.0, (h.1.0, omega (arith, h.1.1)), omega (arith, h.1.1, late)))
+          ]),
+      (λ either. elim either [
+        | inl on ↦ let h = before.0 on in all.1 (h.0, (h.1.0, omega (arith, h.1.1)))
+        | inr on ↦ let h = here.0 on in all.1 (h.0, (h.1.0, omega (arith, h.1.1, h.2)))
+      ]),
+    )
+
+-- those in it by bits
+pub tile_bits : (of first end tile bits row column : ℕ)
+    → ((i : ℕ) → i < 64 → IsBitSet bits i ↔ ((i < 64) × IsInRun first end (64 * tile + i)))
+    → IsTrue (in_tile of first end tile row column)
+    ↔ ((row ≡ of) × (column / 64 ≡ tile) × IsBitSet bits (column % 64))
+tile_bits of first end tile bits row column set =
+    let here = tile_told of first end tile row column in
+    let small : column % 64 < 64 = omega arith in
+    let bit = set (column % 64) small in (
+      (λ on.
+          let h = here.0 on in
+          (h.0, h.2, bit.1 (small, (omega (arith, h.1.0, h.2), omega (arith, h.1.1, h.2))))),
+      (λ h.
+          let run = (bit.0 h.2).1 in
+          here.1 (h.0, (omega (arith, run.0, h.1), omega (arith, run.1, h.1)), h.1)),
+    )
+
+-- ---- rows
+
+-- those above one
+abbrev pub in_above : Runs → ℕ → ℕ → ℕ → Bool
+in_above r end row column = nat_lt row end && in_runs r row column
+
+pub above_told : (r : Runs) (end row column : ℕ) → IsTrue (in_above r end row column) ↔ ((row < end) × HasColumn r row column)
+above_told r end row column = let law = runs_told r row column in (
+  (λ on. let h = and_parts _ _ on in (ltb-true _ _ h.0, law.0 h.1)),
+  (λ h. and_from _ _ (lt-ltb _ _ h.0) (law.1 h.1)),
+)
+
+pub next_row : (r : Runs) (k row column : ℕ) → r.band.first ≤ k → k < r.band.end
+    → IsTrue (in_above r (k + 1) row column)
+    ↔ (IsTrue (in_above r k row column) ⊎ IsTrue (in_row k (slice_index r.firsts k) (slice_index r.ends k) row column))
+next_row r k row column after until =
+    let all = above_told r (k + 1) row column in
+    let before = above_told r k row column in
+    let here = row_told k (slice_index r.firsts k) (slice_index r.ends k) row column in (
+      (λ on.
+          let h = all.0 on in
+          elim (cases_eq row k) [
+            | inl e ↦
+                let run : IsInRun (slice_index r.firsts k) (slice_index r.ends k) column = rw e at h.1.2 in
+                inr (here.1 (e, run))
+            | inr apart ↦ inl (before.1 (omega (arith, h.0, apart), h.1))
+          ]),
+      (λ either. elim either [
+        | inl on ↦ let h = before.0 on in all.1 (omega (arith, h.0), h.1)
+        | inr on ↦
+            let h = here.0 on in
+            let own : HasColumn r row column = rw h.0 (after, until, h.1) in
+            all.1 (omega (arith, h.0), own)
+      ]),
+    )
