@@ -14,7 +14,7 @@ use Rattle.cam_shapes.specs.declared.contour.Contour.{Contour}
 use Rattle.cam_shapes.specs.Edge.{crosses_ray, edge}
 use Rattle.cam_shapes.specs.Contour.{IsInContour, IsSoundSeg, end_of}
 use Rattle.cam_shapes.specs.Outline.{lines_to, outline_of}
-use Rattle.cam_shapes.specs.Placing.{IsPlaceableSeg, placed_contour, placed_point, placed_seg}
+use Rattle.cam_shapes.specs.Placing.{placed_contour, placed_point, placed_seg}
 use Rattle.cam_shapes.specs.Sides.{change_side, changes_side, differ}
 use Rattle.cam_shapes.proofs.Parity.{sides_are_parity}
 
@@ -52,11 +52,6 @@ module _ (o : Point) (no_x : o.x ≡ pos 0) (no_y : o.y ≡ pos 0) where
   kept_seg (Line to) = ap Line (kept_point to)
   kept_seg (Curve to centre ccw) =
       ap (λ p. Curve p (placed_point R0 o centre) ccw) (kept_point to) ∙ ap (λ p. Curve to p ccw) (kept_point centre)
-
--- the points of a segment that is placed on the board
-pub sound_here : (t : Turn) (o : Point) (seg : Seg) → IsPlaceableSeg t o seg → IsSoundSeg seg
-sound_here t o (Line to) h = h.here
-sound_here t o (Curve to centre ccw) h = (h.0.here, h.1.here)
 
 -- whether a contour's segments, all together, change the side of a place
 abbrev pub turns_side : Contour → Spot → Bool

@@ -1,17 +1,20 @@
 //! The insides of contours that are placed, and of outlines of macros, in the rows of tiles side by side: each segment is
 //! placed and counted once for all of them.
 
-ghost use Rattle.std.specs.Prelude.{◌≡◌, All, IsTrue, map};
+ghost use Rattle.std.specs.Prelude.{◌≡◌, ◌<◌, ℕ, All, IsTrue, map};
 ghost use Rattle.cam_units.specs.Board.{IsOnBoard};
 ghost use Rattle.cam_shapes.specs.declared.segments.Seg.{Seg};
-ghost use Rattle.cam_shapes.specs.Contour.{IsInContour, IsSoundSeg};
+ghost use Rattle.cam_shapes.specs.Contour.{IsInContour, end_of};
 ghost use Rattle.cam_shapes.specs.Outline.{lines_to, outline_of};
 ghost use Rattle.cam_shapes.specs.Placing.{IsOffset, IsPlaceable, IsPlaceablePoint, IsPlaceableSeg, placed_contour, placed_seg};
-ghost use Rattle.cam_shapes.specs.Sides.{change_side};
+ghost use Rattle.cam_shapes.specs.Sides.{change_side, changes_side};
 ghost use Rattle.cam_objects.specs.Leaves.{Filled, origin};
+ghost use Rattle.cam_tiles.specs.Machinery.Masks.{IsWithin};
 ghost use Rattle.cam_tiles.specs.Machinery.Turning.{AreWide, IsField, TurnsCentres};
+ghost use Rattle.cam_tiles.specs.Tiles.{centre_in};
 
 use crate::grid::Grid;
+use crate::masks::heights::Heights;
 use crate::masks::marked::MarkShape;
 use crate::masks::mask::ORIGIN;
 use crate::masks::segments::end_of;
@@ -54,9 +57,7 @@ fn turn_contour(marks: &mut [u64], grid: &Grid, columns: u32, contour: &Contour,
     let rows = row_heights(grid);
     let mut here = start;
     for seg in contour.segs.as_slice() {
-        let seg = placed(placing, stays, *seg);
-        turn_segment(marks, grid, columns, rows, here, seg);
-        here = end_of(seg);
+        here = turn_placed(marks, grid, columns, rows, placing, stays, here, seg);
     }
     turn_edge(marks, grid, columns, here, start);
 }
@@ -71,16 +72,39 @@ fn keeps_segs(placing: Placing) -> bool
     }
 }
 
-/// The segment, placed; without a call where all of them stay where they are.
+/// Counts what a segment changes once it is placed, and tells where it ends; a line that stays is neither placed nor copied.
 #[inline]
-fn placed(placing: Placing, stays: bool, seg: Seg) -> Seg
+fn turn_placed(
+    marks: &mut [u64],
+    grid: &Grid,
+    columns: u32,
+    rows: Heights,
+    placing: Placing,
+    stays: bool,
+    here: Point,
+    seg: &Seg,
+) -> Point
+    requires grid { IsField grid.now columns }
+    requires wide { AreWide columns marks.old }
+    requires rows { (column row : ℕ) → row < grid.now.rows → IsWithin rows (centre_in grid.now column row) }
+    requires here { IsOnBoard here }
     requires offset { IsOffset placing.offset }
-    requires seg { IsPlaceableSeg placing.turn placing.offset seg }
+    requires seg { IsPlaceableSeg placing.turn placing.offset seg.now }
     requires stays { IsTrue stays → (seg : Seg) → placed_seg placing.turn placing.offset seg ≡ seg }
-    ensures value { result ≡ placed_seg placing.turn placing.offset seg }
-    ensures sound { IsSoundSeg result }
+    ensures end { result ≡ end_of (placed_seg placing.turn placing.offset seg.now) }
+    ensures board { IsOnBoard result }
+    ensures turned { TurnsCentres grid.now columns
+        (λ s. IsTrue (changes_side s here (placed_seg placing.turn placing.offset seg.now))) marks.old marks.new }
 {
-    if stays { seg } else { placing.seg(seg) }
+    if stays {
+        if let Seg::Line { to } = seg {
+            turn_line(marks, grid, columns, rows, here, *to);
+            return *to;
+        }
+    }
+    let seg = placing.seg(*seg);
+    turn_segment(marks, grid, columns, rows, here, seg);
+    end_of(seg)
 }
 
 /// Counts the polygon through points that are turned about (0, 0), in the rows of a grid that may be seen from a point.

@@ -1,8 +1,8 @@
-use Rattle.std.proofs.Common.{subst, sym}
+use Rattle.std.proofs.Common.{refl, subst, sym}
 use Rattle.cam_units.specs.Board.{IsOnBoard}
 use Rattle.cam_shapes.specs.Placing.{placed_contour}
 use Rattle.cam_shapes.proofs.Places.{offset_short}
-use Rattle.cam_tiles.proofs.TurnedContours.{contour_turned, none_turned, placed, segment_turned, sound_end}
+use Rattle.cam_tiles.proofs.TurnedContours.{contour_turned, none_turned, placed, segment_turned}
 use Rattle.cam_tiles.proofs.TurnedMarks.{TurnsSo, marked_inside, still_wide, turning}
 use Rattle.cam_tiles.proofs.masks.placed.turn_contour.Goals as goal
 
@@ -10,8 +10,8 @@ pub point-start-requires-clause-offset : goal.point-start-requires-clause-offset
 point-start-requires-clause-offset c =
     offset_short c.args.placing.turn c.args.placing.offset c.args.contour.now.start c.requires.contour.start
 
-pub placed-seg-requires-clause-offset : goal.placed-seg-requires-clause-offset
-placed-seg-requires-clause-offset c =
+pub turn_placed-here-requires-clause-offset : goal.turn_placed-here-requires-clause-offset
+turn_placed-here-requires-clause-offset c =
     offset_short c.args.placing.turn c.args.placing.offset c.args.contour.now.start c.requires.contour.start
 
 pub loop-seg-init : goal.loop-seg-init
@@ -25,13 +25,13 @@ loop-seg-init c = record {
 
 pub loop-seg-preserved : goal.loop-seg-preserved
 loop-seg-preserved c = record {
-  on_board = subst IsOnBoard (sym c.end_of-here.ensures) (sound_end c.placed-seg.result c.placed-seg.ensures.sound);
-  wide = still_wide c.args.columns c.loop-seg.marks c.turn_segment.new.marks c.turn_segment.auto.marks
+  on_board = c.turn_placed-here.ensures.board;
+  wide = still_wide c.args.columns c.loop-seg.marks c.turn_placed-here.new.marks c.turn_placed-here.auto.marks
       c.loop-seg.invariant.wide;
   turned = segment_turned (TurnsSo c.args.grid.now c.args.columns) (turning c.args.grid.now c.args.columns)
-      c.args.placing.turn c.args.placing.offset c.point-start.result c.loop-seg.here c.end_of-here.result
-      c.placed-seg.result c.as_slice-seg-items.result.now c.loop-seg.seg-index _ c.loop-seg-test.true
-      c.placed-seg.ensures.value c.end_of-here.ensures c.loop-seg.invariant.turned c.turn_segment.ensures;
+      c.args.placing.turn c.args.placing.offset c.point-start.result c.loop-seg.here c.turn_placed-here.result
+      _ c.as_slice-seg-items.result.now c.loop-seg.seg-index _ c.loop-seg-test.true
+      refl c.turn_placed-here.ensures.end c.loop-seg.invariant.turned c.turn_placed-here.ensures.turned;
 }
 
 pub returns : goal.returns
