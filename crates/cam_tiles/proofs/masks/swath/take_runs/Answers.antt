@@ -1,6 +1,6 @@
-use Rattle.std.proofs.Common.{Bool, ℕ, ◌||◌, subst, inl, inr, arith}
+use Rattle.std.proofs.Common.{Bool, ℕ, ◌||◌, subst, inl, inr}
 use Rattle.cam_tiles.specs.Machinery.Inks.{Takes, in_body, in_runs}
-use Rattle.cam_tiles.proofs.RunInks.{body_told, in_part, or_told, part_told, runs_told, takes_all, takes_both}
+use Rattle.cam_tiles.proofs.RunInks.{body_told, in_part, or_told, part_told, runs_told, takes_both}
 use Rattle.cam_tiles.proofs.SwathInks.{same_test, takes_like}
 use Rattle.cam_tiles.proofs.masks.swath.take_runs.Goals.{then-is_whole, else-is_whole}
 use Rattle.cam_tiles.proofs.masks.swath.take_runs.Goals as goal
@@ -27,10 +27,7 @@ returns c = λ holds are.
           ))))
       | else-is_whole w ↦
           rw w.inks-is
-          (takes_all dark _ _ (in_body s) old w.take_body.new.inks (λ row column within on.
-          let there = c.requires.fit.body.spanned row column ((body_told s row column).0 on).0 in
-          (omega (arith, there.0), omega (arith, there.1, within, w.min.ensures, w.div_ceil.ensures, c.requires.tiles)))
-          w.take_body.ensures)
+          w.take_body.ensures
     ] in
     let two : ℕ → ℕ → Bool = λ row column. in_body s row column || in_runs s.start row column in
     let start : Takes 0 n two dark old later =
