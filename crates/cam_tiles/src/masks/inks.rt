@@ -94,6 +94,15 @@ impl Inks {
         self.known[tile] == 64
     }
 
+    /// Looks anew at a tile, if there is such a one, how much of it is decided.
+    pub(crate) fn look(&mut self, tile: u32)
+        ensures { self.new ≡ self.old }
+    {
+        if (tile as usize) < self.tiles {
+            self.is_done(tile as usize);
+        }
+    }
+
     /// Whether all of all tiles is decided.
     pub(crate) fn is_all_done(&mut self) -> bool
         ensures kept { self.new ≡ self.old }

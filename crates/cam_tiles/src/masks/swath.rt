@@ -276,6 +276,8 @@ fn take_runs(inks: &mut Inks, runs: &FigureRuns, dark: bool)
     ensures { (holds : ℕ → ℕ → Bool) → AreRunsOf holds runs.now inks.old
         → Takes 0 inks.old.tiles holds dark inks.old inks.new }
 {
+    inks.look(runs.body.columns.first / 64);
+    inks.look(runs.body.columns.end / 64);
     if runs.is_whole() {
         inks.take_each(&runs.body, dark);
     } else {
