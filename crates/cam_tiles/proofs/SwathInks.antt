@@ -1,26 +1,23 @@
 -- Swaths: a leaf that is painted on the inks of tiles side by side.
-use Rattle.std.proofs.Common.{◌≡◌, ◌↔◌, ◌⊎◌, ℕ, ◌+◌, ◌-◌, ◌*◌, ◌/◌, ◌%◌, ◌<◌, ◌≤◌, min, Bool, true, false, ◌&&◌, nat_le, nat_lt, cond, IsTrue}
-use Rattle.std.proofs.Common.{List, [], ◌∷◌, get_or, Option, None, Some, IsSome, refl, sym, ap, subst, ◌∙◌, inl, inr, arith}
-use Rattle.std.specs.Int.{IsBitSet}
+use Rattle.std.proofs.Common.{◌≡◌, ◌↔◌, ◌⊎◌, ℕ, ◌+◌, ◌-◌, ◌*◌, ◌/◌, ◌<◌, ◌≤◌, min, Bool, true, false, cond, IsTrue}
+use Rattle.std.proofs.Common.{List, [], ◌∷◌, Option, None, Some, IsSome, refl, sym, ap, subst, ◌∙◌, inl, inr, arith}
 use Rattle.std.specs.Option.{option_or}
-use Rattle.std.proofs.lemmas.Bool.{and_from, and_parts, cases_Bool, cases_lt, false≢true, le-leb, leb-true, lt-ltb, ltb-true}
+use Rattle.std.proofs.lemmas.Bool.{cases_Bool, cases_lt, false≢true}
 use Rattle.cam_units.specs.declared.point.Spot.{Spot}
 use Rattle.cam_objects.specs.Image.{Covers}
 use Rattle.cam_objects.specs.Leaves.{Shape, leaf}
 use Rattle.cam_objects.specs.Tests.{covers}
 use Rattle.cam_objects.proofs.Covering.{cover_law}
 use Rattle.cam_objects.proofs.LastInks.{or_decided, or_none}
-use Rattle.cam_rows.specs.Marks.{is_marked, is_set}
+use Rattle.cam_rows.specs.Marks.{is_marked}
 use Rattle.cam_tiles.specs.declared.grid.Grid.{Grid}
 use Rattle.cam_tiles.specs.declared.masks.figure_runs.FigureRuns.{FigureRuns}
-use Rattle.cam_tiles.specs.declared.span.Span.{Span}
 use Rattle.cam_tiles.specs.Machinery.Figures.{HasPart}
 use Rattle.cam_tiles.specs.Machinery.Inks.{Inked, IsDoneTile, Takes, given, ink_at}
 use Rattle.cam_tiles.specs.Machinery.Runs.{IsWideGrid, StandsAt}
 use Rattle.cam_tiles.specs.Machinery.Swaths.{AreRunsOf, PaintsSwath}
 use Rattle.cam_tiles.specs.Machinery.Turning.{MarksCentres}
 use Rattle.cam_tiles.specs.Tiles.{centre_in}
-use Rattle.cam_tiles.proofs.JoinedWords.{bit_told}
 
 -- tests that hold alike
 pub same_test : (a b : Bool) → IsTrue a ↔ IsTrue b → a ≡ b

@@ -1,9 +1,8 @@
 -- Inks of which some words take a polarity.
 use Rattle.std.proofs.Common.{◌≡◌, ◌⊎◌, ℕ, ◌+◌, ◌-◌, ◌*◌, ◌/◌, ◌%◌, ◌<◌, ◌≤◌, Bool, true, false, Option, Some, None, if◌then◌else◌}
-use Rattle.std.proofs.Common.{List, length, slice_index, drop, take, refl, ap, sym, subst, ◌∙◌, inl, inr, arith, rules, ◌&&◌, nat_le, nat_lt}
+use Rattle.std.proofs.Common.{List, length, slice_index, take, refl, ap, sym, subst, ◌∙◌, inl, inr, arith, rules}
 use Rattle.std.specs.Option.{option_or}
-use Rattle.std.proofs.lemmas.Bool.{le-leb, le-ltb, lt-leb, lt-ltb}
-use Rattle.std.proofs.lemmas.List.{get_or-drop, get_or-take, places, with_items_is}
+use Rattle.std.proofs.lemmas.List.{get_or-take, places, with_items_is}
 use Rattle.std.specs.Vec.{with_items}
 use borrow.Rule.Slice.PartMut.{mid_of, put_mid}
 use Rattle.cam_rows.specs.Marks.{is_marked, is_set}

@@ -1,6 +1,6 @@
 use Rattle.std.proofs.Common.{ℕ, Bool, ◌+◌, ◌||◌, length, inr, arith}
 use Rattle.cam_tiles.specs.declared.span.Span.{Span}
-use Rattle.cam_tiles.specs.Machinery.Inks.{Inked, Takes, in_body, in_row, words_of}
+use Rattle.cam_tiles.specs.Machinery.Inks.{Inked, in_body, in_row, words_of}
 use Rattle.cam_tiles.proofs.RunInks.{body_above_told, body_told, in_body_above, next_body, takes_both, takes_either}
 use Rattle.cam_tiles.proofs.SwathInks.{same_test, takes_like}
 use Rattle.cam_tiles.proofs.masks.inks.take_pieces.Goals as goal
