@@ -276,6 +276,7 @@ fn take_runs(inks: &mut Inks, runs: &FigureRuns, dark: bool)
     ensures { (holds : ℕ → ℕ → Bool) → AreRunsOf holds runs.now inks.old
         → Takes 0 inks.old.tiles holds dark inks.old inks.new }
 {
+    // Rows go by what is known of a tile: it is brought up to date where a leaf ends, for less than each tile would cost.
     inks.look(runs.body.columns.first / 64);
     inks.look(runs.body.columns.end / 64);
     if runs.is_whole() {
