@@ -1,10 +1,6 @@
 -- Figures by their runs.
-use Rattle.std.proofs.Common.{◌≡◌, ◌↔◌, ◌⊎◌, ℕ, ◌+◌, ◌^◌, ◌<◌, ◌≤◌, ℤ, pos, ◌-ℤ◌, ◌*ℤ◌, inl, inr, arith}
-use Rattle.std.proofs.Common.{List, length, slice_index, slice_set, bit_and, bit_or, get_or-set_other, get_or-set_same}
-use Rattle.std.specs.Int.{IsBitSet, bit_not, w64}
-use Rattle.std.proofs.lemmas.Bool.{cases_eq}
+use Rattle.std.proofs.Common.{◌≡◌, ◌↔◌, ◌⊎◌, ℕ, ℤ, pos, ◌-ℤ◌, ◌*ℤ◌, inl, inr, arith}
 use Rattle.std.proofs.lemmas.Int.{ints}
-use Rattle.std.proofs.lemmas.Nat.{or_lt}
 use Rattle.cam_units.specs.declared.length.Nm.{Nm}
 use Rattle.cam_units.specs.declared.point.Point.{Point}
 use Rattle.cam_units.specs.declared.point.Spot.{Spot}
@@ -15,7 +11,6 @@ use Rattle.cam_shapes.specs.declared.arc.Arc.{Arc}
 use Rattle.cam_shapes.specs.declared.capsule.Capsule.{Capsule}
 use Rattle.cam_rows.specs.ArcRuns.{IsBeyond, IsHollow, IsOuter, start_of as first_of, end_of as last_of}
 use Rattle.cam_rows.proofs.ArcRuns.{arc_is_its_runs}
-use Rattle.cam_rows.proofs.SetBits.{set_in_or, set_in_rest}
 use Rattle.cam_rows.proofs.CapsuleParts.{bar_of, end_of, in_capsule, start_of}
 use Rattle.cam_tiles.specs.declared.grid.Grid.{Grid}
 use Rattle.cam_tiles.specs.declared.masks.heights.Heights.{Heights}
@@ -23,7 +18,7 @@ use Rattle.cam_tiles.specs.declared.masks.runs.Runs.{Runs}
 use Rattle.cam_tiles.specs.declared.masks.figure_runs.FigureRuns.{FigureRuns}
 use Rattle.cam_tiles.specs.Machinery.Masks.{IsWithin}
 use Rattle.cam_tiles.specs.Machinery.Runs.{Fits, HasColumn, IsClear, Tells}
-use Rattle.cam_tiles.specs.Machinery.Figures.{HasBody, TellsFigure}
+use Rattle.cam_tiles.specs.Machinery.Figures.{TellsFigure}
 use Rattle.cam_tiles.specs.Tiles.{centre_in}
 use Rattle.cam_tiles.proofs.RunColumns.{tells_nothing}
 
@@ -141,33 +136,3 @@ tells_like g columns P Q s same told = record {
       let there = same (centre_in g column row) in
       ((λ on. there.1 (here.0 on)), (λ held. here.1 (there.0 held)));
 }
-
--- ---- words of bits
-
-parts_in_word : (All Out B H Y Body Hollow Beyond : Type 0) → All ↔ (B × (Out → ⊥)) → Out ↔ (H ⊎ Y) → B ↔ Body
-    → H ↔ Hollow → Y ↔ Beyond → All ↔ (Body × (Hollow → ⊥) × (Beyond → ⊥))
-parts_in_word All Out B H Y Body Hollow Beyond all out b h y = grind arith
-
--- the bits of a figure's body, without those that are taken out of it
-pub body_in_word : (s : FigureRuns) (row column i body hollow beyond : ℕ) → hollow < 2 ^ 64 → beyond < 2 ^ 64 → i < 64
-    → IsBitSet body i ↔ HasColumn s.body row column → IsBitSet hollow i ↔ HasColumn s.hollow row column
-    → IsBitSet beyond i ↔ HasColumn s.beyond row column
-    → IsBitSet (bit_and body (bit_not w64 (bit_or hollow beyond))) i ↔ HasBody s row column
-body_in_word s row column i body hollow beyond fits fits_beyond within b h y =
-    parts_in_word _ _ _ _ _ _ _ _
-    (set_in_rest body (bit_or hollow beyond) i (or_lt 64 hollow beyond fits fits_beyond) within) (set_in_or hollow beyond i)
-    b h y
-
--- the columns of a body from one on are the bits of words, in some rows
-abbrev pub AreBits : FigureRuns → ℕ → ℕ → ℕ → List ℕ → Type 0
-AreBits s column first end bits =
-    (row i : ℕ) → first ≤ row → row < end → i < 64 → IsBitSet (slice_index bits row) i ↔ HasBody s row (column + i)
-
-pub one_more_row : (s : FigureRuns) (column first row : ℕ) (bits : List ℕ) (word : ℕ)
-    → AreBits s column first row bits → row < length bits
-    → ((i : ℕ) → i < 64 → IsBitSet word i ↔ HasBody s row (column + i))
-    → AreBits s column first (row + 1) (slice_set bits row word)
-one_more_row s column first row bits word before small here r i after early within = elim (cases_eq r row) [
-  | inl e ↦ rw (e, get_or-set_same bits row word 0 small) (here i within)
-  | inr apart ↦ rw (get_or-set_other bits row r word 0 apart) (before r i after (omega (arith, early, apart)) within)
-]

@@ -1,6 +1,6 @@
 -- Inks that are taken by runs.
 use Rattle.std.proofs.Common.{◌≡◌, ◌↔◌, ◌⊎◌, ℕ, ◌+◌, ◌*◌, ◌/◌, ◌%◌, ◌<◌, ◌≤◌, min, Bool, true, false, ◌&&◌, ◌||◌, ◌==◌, not, nat_le, nat_lt}
-use Rattle.std.proofs.Common.{List, length, slice_index, slice_set, Option, Some, None, IsSome, IsTrue, refl, sym, ap, ◌∙◌, inl, inr, arith}
+use Rattle.std.proofs.Common.{List, length, slice_index, slice_set, Option, Some, None, IsSome, IsTrue, refl, sym, ap, subst, ◌∙◌, inl, inr, arith}
 use Rattle.std.proofs.Common.{get_or-set_other, get_or-set_same}
 use Rattle.std.specs.Int.{IsBitSet}
 use Rattle.std.specs.Option.{option_or}
@@ -10,6 +10,7 @@ use Rattle.cam_rows.specs.Marks.{is_set}
 use Rattle.cam_rows.specs.Runs.{IsInRun}
 use Rattle.cam_tiles.specs.declared.masks.figure_runs.FigureRuns.{FigureRuns}
 use Rattle.cam_tiles.specs.declared.masks.runs.Runs.{Runs}
+use Rattle.cam_tiles.specs.declared.span.Span.{Span}
 use Rattle.cam_tiles.specs.Machinery.Figures.{HasBody, HasPart}
 use Rattle.cam_tiles.specs.Machinery.Inks.{AreKnown, Inked, Takes, given, in_body, in_row, in_runs, ink_at, ink_of, words_of}
 use Rattle.cam_tiles.specs.Machinery.Runs.{HasColumn}
@@ -103,6 +104,13 @@ module _ (ink : Bool) where
         next.others row column low (omega (arith, within, first.tiles)) apart ∙ first.others row column low within apart;
   }
 
+  -- by either
+  pub takes_either : (n : ℕ) (P Q : ℕ → ℕ → Bool) (old now new : Inked) → Takes 0 n P ink old now → Takes 0 n Q ink now new
+      → Takes 0 n (λ row column. P row column || Q row column) ink old new
+  takes_either n P Q old now new first next =
+      takes_both n P Q (λ row column. P row column || Q row column) old now new first next
+      (λ row column low within. or_told (P row column) (Q row column))
+
   not_given : (o : Option Bool) (b : Bool) → (IsTrue b → ⊥) → o ≡ option_or o (given b ink)
   not_given o b off = sym (ap (λ k. option_or o (given k ink)) (same_test b false (
     (λ on. absurd (off on)),
@@ -122,29 +130,6 @@ module _ (ink : Bool) where
           | inr off ↦ not_given o (P row column) (λ on. false≢true (sym off ∙ on))
         ];
     others = λ row column low within apart. refl;
-  }
-
-  -- some tiles, outside of which a test does not hold
-  pub takes_all : (first end : ℕ) (P : ℕ → ℕ → Bool) (old new : Inked)
-      → ((row column : ℕ) → column < 64 * old.tiles → IsTrue (P row column) → (64 * first ≤ column) × (column < 64 * end))
-      → Takes first end P ink old new → Takes 0 old.tiles P ink old new
-  takes_all first end P old new lies takes = record {
-    tiles = takes.tiles;
-    each = λ row column low within after until.
-        let o : Option Bool = ink_at old row column in
-        let off : (column < 64 * first) ⊎ (64 * end ≤ column) → ink_at new row column ≡ option_or o (given (P row column) ink) =
-        λ apart. takes.others row column low within apart ∙ not_given o (P row column) (λ on.
-        let there = lies row column within on in
-        elim apart [ inl early ↦ omega (arith, early, there.0) | inr late ↦ omega (arith, late, there.1) ]) in
-        elim (cases_lt column (64 * first)) [
-          | inl early ↦ off (inl early)
-          | inr from ↦ elim (cases_lt column (64 * end)) [
-            | inl to ↦ takes.each row column low within from to
-            | inr late ↦ off (inr late)
-          ]
-        ];
-    others = λ row column low within apart.
-        elim apart [ inl early ↦ absurd (omega (arith, early)) | inr late ↦ absurd (omega (arith, within, late)) ];
   }
 
   -- what is decided stays so
@@ -274,5 +259,70 @@ next_row r k row column after until =
             let h = here.0 on in
             let own : HasColumn r row column = rw h.0 (after, until, h.1) in
             all.1 (omega (arith, h.0), own)
+      ]),
+    )
+
+-- ---- rows of a body
+
+-- those above one
+abbrev pub in_body_above : FigureRuns → ℕ → ℕ → ℕ → Bool
+in_body_above s end row column = nat_lt row end && in_body s row column
+
+pub body_above_told : (s : FigureRuns) (end row column : ℕ)
+    → IsTrue (in_body_above s end row column) ↔ ((row < end) × HasBody s row column)
+body_above_told s end row column = let law = body_told s row column in (
+  (λ on. let h = and_parts _ _ on in (ltb-true _ _ h.0, law.0 h.1)),
+  (λ h. and_from _ _ (lt-ltb _ _ h.0) (law.1 h.1)),
+)
+
+-- those above one, and the four runs of this
+pub next_body : (s : FigureRuns) (k : ℕ) (a b c d : Span)
+    → ((column : ℕ) → ((IsInRun a.first a.end column ⊎ IsInRun b.first b.end column)
+    ⊎ (IsInRun c.first c.end column ⊎ IsInRun d.first d.end column)) ↔ HasBody s k column)
+    → (row column : ℕ) → IsTrue (in_body_above s (k + 1) row column)
+    ↔ (IsTrue (((in_body_above s k row column || in_row k a.first a.end row column)
+    || in_row k b.first b.end row column) || in_row k c.first c.end row column)
+    ⊎ IsTrue (in_row k d.first d.end row column))
+next_body s k a b c d told row column =
+    let all = body_above_told s (k + 1) row column in
+    let before = body_above_told s k row column in
+    let in_a = row_told k a.first a.end row column in
+    let in_b = row_told k b.first b.end row column in
+    let in_c = row_told k c.first c.end row column in
+    let in_d = row_told k d.first d.end row column in
+    let one = or_told (in_body_above s k row column) (in_row k a.first a.end row column) in
+    let two = or_told (in_body_above s k row column || in_row k a.first a.end row column)
+    (in_row k b.first b.end row column) in
+    let three = or_told ((in_body_above s k row column || in_row k a.first a.end row column)
+    || in_row k b.first b.end row column) (in_row k c.first c.end row column) in
+    let own : row ≡ k → HasBody s k column → IsTrue (in_body_above s (k + 1) row column) = λ e has.
+    all.1 (omega (arith, e), subst (λ r. HasBody s r column) (sym e) has) in (
+      (λ on.
+          let h = all.0 on in
+          elim (cases_eq row k) [
+            | inl e ↦ elim ((told column).1 (subst (λ r. HasBody s r column) e h.1)) [
+              | inl front ↦ elim front [
+                | inl x ↦ inl (three.1 (inl (two.1 (inl (one.1 (inr (in_a.1 (e, x))))))))
+                | inr x ↦ inl (three.1 (inl (two.1 (inr (in_b.1 (e, x))))))
+              ]
+              | inr back ↦ elim back [
+                | inl x ↦ inl (three.1 (inr (in_c.1 (e, x))))
+                | inr x ↦ inr (in_d.1 (e, x))
+              ]
+            ]
+            | inr apart ↦ inl (three.1 (inl (two.1 (inl (one.1 (inl (before.1 (omega (arith, h.0, apart), h.1))))))))
+          ]),
+      (λ either. elim either [
+        | inl abc ↦ elim (three.0 abc) [
+          | inl ab ↦ elim (two.0 ab) [
+            | inl pa ↦ elim (one.0 pa) [
+              | inl p ↦ let h = before.0 p in all.1 (omega (arith, h.0), h.1)
+              | inr x ↦ let h = in_a.0 x in own h.0 ((told column).0 (inl (inl h.1)))
+            ]
+            | inr x ↦ let h = in_b.0 x in own h.0 ((told column).0 (inl (inr h.1)))
+          ]
+          | inr x ↦ let h = in_c.0 x in own h.0 ((told column).0 (inr (inl h.1)))
+        ]
+        | inr x ↦ let h = in_d.0 x in own h.0 ((told column).0 (inr (inr h.1)))
       ]),
     )

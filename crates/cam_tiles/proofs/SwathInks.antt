@@ -1,26 +1,23 @@
 -- Swaths: a leaf that is painted on the inks of tiles side by side.
-use Rattle.std.proofs.Common.{◌≡◌, ◌↔◌, ◌⊎◌, ℕ, ◌+◌, ◌-◌, ◌*◌, ◌/◌, ◌%◌, ◌<◌, ◌≤◌, min, Bool, true, false, ◌&&◌, nat_le, nat_lt, cond, IsTrue}
-use Rattle.std.proofs.Common.{List, [], ◌∷◌, get_or, Option, None, Some, IsSome, refl, sym, ap, subst, ◌∙◌, inl, inr, arith}
-use Rattle.std.specs.Int.{IsBitSet}
+use Rattle.std.proofs.Common.{◌≡◌, ◌↔◌, ◌⊎◌, ℕ, ◌+◌, ◌-◌, ◌*◌, ◌/◌, ◌<◌, ◌≤◌, min, Bool, true, false, cond, IsTrue}
+use Rattle.std.proofs.Common.{List, [], ◌∷◌, Option, None, Some, IsSome, refl, sym, ap, subst, ◌∙◌, inl, inr, arith}
 use Rattle.std.specs.Option.{option_or}
-use Rattle.std.proofs.lemmas.Bool.{and_from, and_parts, cases_Bool, cases_lt, false≢true, le-leb, leb-true, lt-ltb, ltb-true}
+use Rattle.std.proofs.lemmas.Bool.{cases_Bool, cases_lt, false≢true}
 use Rattle.cam_units.specs.declared.point.Spot.{Spot}
 use Rattle.cam_objects.specs.Image.{Covers}
 use Rattle.cam_objects.specs.Leaves.{Shape, leaf}
 use Rattle.cam_objects.specs.Tests.{covers}
 use Rattle.cam_objects.proofs.Covering.{cover_law}
 use Rattle.cam_objects.proofs.LastInks.{or_decided, or_none}
-use Rattle.cam_rows.specs.Marks.{is_marked, is_set}
+use Rattle.cam_rows.specs.Marks.{is_marked}
 use Rattle.cam_tiles.specs.declared.grid.Grid.{Grid}
 use Rattle.cam_tiles.specs.declared.masks.figure_runs.FigureRuns.{FigureRuns}
-use Rattle.cam_tiles.specs.declared.span.Span.{Span}
 use Rattle.cam_tiles.specs.Machinery.Figures.{HasPart}
 use Rattle.cam_tiles.specs.Machinery.Inks.{Inked, IsDoneTile, Takes, given, ink_at}
 use Rattle.cam_tiles.specs.Machinery.Runs.{IsWideGrid, StandsAt}
 use Rattle.cam_tiles.specs.Machinery.Swaths.{AreRunsOf, PaintsSwath}
 use Rattle.cam_tiles.specs.Machinery.Turning.{MarksCentres}
 use Rattle.cam_tiles.specs.Tiles.{centre_in}
-use Rattle.cam_tiles.proofs.JoinedWords.{bit_told}
 
 -- tests that hold alike
 pub same_test : (a b : Bool) → IsTrue a ↔ IsTrue b → a ≡ b
@@ -35,7 +32,7 @@ pub some_ink : (decided dark : Bool) → decided ≡ true → IsSome (cond decid
 some_ink true dark on = refl
 some_ink false dark on = absurd (false≢true on)
 
-pub done_tile : (k : Inked) (tile row column : ℕ) → IsDoneTile k tile → row < 64 → column / 64 ≡ tile
+done_tile : (k : Inked) (tile row column : ℕ) → IsDoneTile k tile → row < 64 → column / 64 ≡ tile
     → IsSome (ink_at k row column)
 done_tile k tile row column done low there = some_ink _ _ (done row column low there)
 
@@ -50,38 +47,6 @@ module _ (holds : ℕ → ℕ → Bool) (dark : Bool) where
         sym (or_decided (ink_at k row column) (given (holds row column) dark) (decided row column low after until));
     others = λ row column low within apart. refl;
   }
-
-  -- nor is it of no tiles
-  pub takes_empty : (first end : ℕ) (old new : Inked) → end ≤ first → Takes first first holds dark old new
-      → Takes first end holds dark old new
-  takes_empty first end old new none takes = record {
-    tiles = takes.tiles;
-    each = λ row column low within after until. absurd (omega arith);
-    others = λ row column low within apart. takes.others row column low within (cases_lt column (64 * first));
-  }
-
-  module _ (first mid end : ℕ) (old now new : Inked) (before : Takes first mid holds dark old now)
-      (next : Takes mid end holds dark now new) where
-    -- tiles after others
-    pub takes_more : first ≤ mid → mid ≤ end → Takes first end holds dark old new
-    takes_more order more = record {
-      tiles = next.tiles ∙ before.tiles;
-      each = λ row column low within after until.
-          let there : column < 64 * now.tiles = omega (arith, within, before.tiles) in
-          elim (cases_lt column (64 * mid)) [
-            | inl early ↦ next.others row column low there (inl early) ∙ before.each row column low within after early
-            | inr late ↦ next.each row column low there late until
-                ∙ ap (λ o. option_or o (given (holds row column) dark)) (before.others row column low within (inr late))
-          ];
-      others = λ row column low within apart.
-          let there : column < 64 * now.tiles = omega (arith, within, before.tiles) in
-          elim apart [
-            | inl front ↦ next.others row column low there (inl (omega arith))
-                ∙ before.others row column low within (inl front)
-            | inr past ↦ next.others row column low there (inr past)
-                ∙ before.others row column low within (inr (omega arith))
-          ];
-    }
 
   module _ (first end : ℕ) (old new : Inked) (takes : Takes first end holds dark old new) where
     -- what is decided stays
@@ -112,41 +77,6 @@ module _ (holds : ℕ → ℕ → Bool) (dark : Bool) where
       ];
       others = takes.others;
     }
-
--- ---- a figure by its runs
-
--- the test of a word for each of some rows
-abbrev pub in_bits : Span → List ℕ → ℕ → ℕ → Bool
-in_bits rows bits row column =
-    nat_le rows.first row && nat_lt row rows.end && is_set (get_or bits row 0) (column % 64)
-
-module _ (tile : ℕ) (rows : Span) (bits : List ℕ) where
-  abbrev IsInBits : ℕ → ℕ → Type 0
-  IsInBits row i = (rows.first ≤ row) × (row < rows.end) × IsBitSet (get_or bits row 0) i
-
-  in_bits_told : (row column : ℕ) → IsTrue (in_bits rows bits row column) ↔ IsInBits row (column % 64)
-  in_bits_told row column = (
-    (λ on.
-        let one = and_parts _ _ on in
-        let two = and_parts _ _ one.0 in
-        (leb-true _ _ two.0, ltb-true _ _ two.1, (bit_told _ _).0 one.1)),
-    (λ h. and_from _ _ (and_from _ _ (le-leb _ _ h.0) (lt-ltb _ _ h.1)) ((bit_told _ _).1 h.2)),
-  )
-
-  pub takes_bits : (dark : Bool) (holds : ℕ → ℕ → Bool) (IsHeld : ℕ → ℕ → Type 0) (now new : Inked)
-      → ((row i : ℕ) → i < 64 → IsInBits row i ↔ IsHeld row (64 * tile + i))
-      → ((row column : ℕ) → IsTrue (holds row column) ↔ IsHeld row column)
-      → Takes tile (tile + 1) (in_bits rows bits) dark now new → Takes tile (tile + 1) holds dark now new
-  takes_bits dark holds IsHeld now new told are takes =
-      takes_like (in_bits rows bits) dark tile (tile + 1) now new takes holds (λ row column low within after until.
-      let same : 64 * tile + column % 64 ≡ column = omega arith in
-      let here = told row (column % 64) (omega arith) in
-      let in_word = in_bits_told row column in
-      let held = are row column in
-      inr (same_test _ _ (
-        (λ on. held.1 (subst (IsHeld row) same (here.0 (in_word.0 on)))),
-        (λ on. in_word.1 (here.1 (subst (IsHeld row) (sym same) (held.0 on)))),
-      )))
 
 -- ---- a leaf
 

@@ -1,9 +1,8 @@
 -- Inks of which some words take a polarity.
 use Rattle.std.proofs.Common.{◌≡◌, ◌⊎◌, ℕ, ◌+◌, ◌-◌, ◌*◌, ◌/◌, ◌%◌, ◌<◌, ◌≤◌, Bool, true, false, Option, Some, None, if◌then◌else◌}
-use Rattle.std.proofs.Common.{List, length, slice_index, drop, take, refl, ap, sym, subst, ◌∙◌, inl, inr, arith, rules, ◌&&◌, nat_le, nat_lt}
+use Rattle.std.proofs.Common.{List, length, slice_index, take, refl, ap, sym, subst, ◌∙◌, inl, inr, arith, rules}
 use Rattle.std.specs.Option.{option_or}
-use Rattle.std.proofs.lemmas.Bool.{le-leb, le-ltb, lt-leb, lt-ltb}
-use Rattle.std.proofs.lemmas.List.{get_or-drop, get_or-take, places, with_items_is}
+use Rattle.std.proofs.lemmas.List.{get_or-take, places, with_items_is}
 use Rattle.std.specs.Vec.{with_items}
 use borrow.Rule.Slice.PartMut.{mid_of, put_mid}
 use Rattle.cam_rows.specs.Marks.{is_marked, is_set}
@@ -20,14 +19,6 @@ pub record TakesWords (from to : ℕ) (bits : ℕ → ℕ) (ink : Bool) (old new
       ≡ option_or (ink_of (slice_index old.decided k) (slice_index old.dark k) i) (given (is_set (bits k) i) ink)
   pub decided : (k : ℕ) → (k < from) ⊎ (to ≤ k) → slice_index new.decided k ≡ slice_index old.decided k
   pub dark : (k : ℕ) → (k < from) ⊎ (to ≤ k) → slice_index new.dark k ≡ slice_index old.dark k
-
-pub no_words : (from to : ℕ) (bits : ℕ → ℕ) (ink : Bool) (k : Inked) → to ≤ from → TakesWords from to bits ink k k
-no_words from to bits ink k none = record {
-  tiles = refl;
-  each = λ w i after until small. absurd (omega (arith, none, after, until));
-  decided = λ w apart. refl;
-  dark = λ w apart. refl;
-}
 
 -- what is decided stays so
 pub kept_set : (d k e n : Bool) (other : Option Bool)
@@ -176,33 +167,7 @@ module _ (s : Inside) (from to : ℕ) (bits decided dark words others : List ℕ
       (ap length now ∙ written_size from to words decided w.some long size ∙ ap length w.lent)
       (ap length now_dark ∙ written_size from to others dark w.some long_dark size_dark ∙ ap length w.lent_dark)
 
--- ---- a tile, and tiles by marks
-
-none_past : (a b c : Bool) → b ≡ false → ((a && b) && c) ≡ false
-none_past true b c none = rw none refl
-none_past false b c none = refl
-
-pub takes_rows : (tile first end : ℕ) (bits : List ℕ) (ink : Bool) (old new seen : Inked) → end ≤ 64 → old ≡ seen
-    → TakesWords (64 * tile + first) (64 * tile + end)
-    (λ k. slice_index (take (end - first) (drop first bits)) (k - (64 * tile + first))) ink old new
-    → Takes tile (tile + 1)
-    (λ row column. nat_le first row && nat_lt row end && is_set (slice_index bits row) (column % 64)) ink seen new
-takes_rows tile first end bits ink old new seen few is taken =
-    subst (λ (k : Inked). Takes tile (tile + 1)
-    (λ row column. nat_le first row && nat_lt row end && is_set (slice_index bits row) (column % 64)) ink k new) is
-    (takes_tiles (64 * tile + first) (64 * tile + end) _ ink old new taken tile (tile + 1) _
-    (λ row column low after until.
-    let k = 64 * (column / 64) + row in
-    let here : k ≡ 64 * tile + row = omega (arith, after, until) in
-    by_band first end row
-    (λ early. inr (inl (omega (arith, here, early)), rw (lt-leb first row early) refl))
-    (λ from to.
-    let part : slice_index (take (end - first) (drop first bits)) (k - (64 * tile + first)) ≡ slice_index bits row =
-    get_or-take (end - first) (drop first bits) (k - (64 * tile + first)) 0 (omega (arith, here, from, to))
-    ∙ get_or-drop first bits (k - (64 * tile + first)) 0 ∙ ap (slice_index bits) (omega (arith, here, from)) in
-    inl (omega (arith, here, from), omega (arith, here, to), rw (le-leb first row from, lt-ltb row end to, part) refl))
-    (λ late. inr (inr (omega (arith, here, late)), none_past (nat_le first row) (nat_lt row end) _ (le-ltb row end late))))
-    (omega arith) (omega (arith, few)))
+-- ---- tiles by marks
 
 pub takes_marks : (first end : ℕ) (marks : List ℕ) (ink : Bool) (old new seen : Inked) → first ≤ end → old ≡ seen
     → TakesWords (64 * first) (64 * end) (λ k. slice_index (take (64 * (end - first)) marks) (k - 64 * first)) ink old new

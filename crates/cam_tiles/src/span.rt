@@ -44,6 +44,26 @@ impl Span {
         })
     }
 
+    /// Those of it that are not in another: what is before this, and what is behind.
+    #[inline]
+    pub(crate) fn without(self, out: Span) -> (Span, Span)
+        ensures { (k : ℕ) → (((result.0.first ≤ k) × (k < result.0.end)) ⊎ ((result.1.first ≤ k) × (k < result.1.end)))
+            ↔ (((self.first ≤ k) × (k < self.end)) × (((out.first ≤ k) × (k < out.end)) → ⊥)) }
+    {
+        if out.end <= out.first {
+            return (self, Span::NONE);
+        }
+        let before = Span {
+            first: self.first,
+            end: self.end.min(out.first),
+        };
+        let behind = Span {
+            first: self.first.max(out.end),
+            end: self.end,
+        };
+        (before, behind)
+    }
+
     /// Those between which all of it and of another lie.
     pub(crate) fn joined(self, other: Span) -> Span
         ensures { (k : ℕ) → ((self.first ≤ k) × (k < self.end)) ⊎ ((other.first ≤ k) × (k < other.end))

@@ -1,13 +1,13 @@
 //! The runs of a figure in the rows of tiles side by side.
 
-ghost use Rattle.std.specs.Int.{IsBitSet};
-ghost use Rattle.std.specs.Prelude.{◌↔◌, ◌+◌, ◌<◌, ◌≤◌, ℕ, IsTrue, slice_index};
+ghost use Rattle.std.specs.Prelude.{◌↔◌, ◌⊎◌, ◌<◌, ℕ, IsTrue};
 ghost use Rattle.cam_shapes.specs.Arc.{IsInArc, IsSoundArc};
 ghost use Rattle.cam_shapes.specs.Bar.{IsInCapsule, IsSoundCapsule};
 ghost use Rattle.cam_shapes.specs.Disc.{IsInHole, IsSoundDisc};
 ghost use Rattle.cam_shapes.specs.Swept.{IsInSwept, IsSoundSwept};
 ghost use Rattle.cam_units.specs.Board.{IsOnBoard};
 ghost use Rattle.cam_objects.specs.Image.{relative};
+ghost use Rattle.cam_rows.specs.Runs.{IsInRun};
 ghost use Rattle.cam_tiles.specs.Machinery.Runs.{HasColumn, IsClear, IsWideGrid};
 ghost use Rattle.cam_tiles.specs.Machinery.Figures.{
   HasBody,
@@ -193,28 +193,17 @@ impl FigureRuns {
             && self.beyond.band.end <= self.beyond.band.first
     }
 
-    /// The columns that its body holds of a row, among 64 of them from one on, as bits.
+    /// The columns that its body holds of a row: four runs, of which some may have none.
     #[inline]
-    fn word(&self, row: u32, column: u32) -> u64
+    pub(crate) fn pieces(&self, row: u32) -> ((Span, Span), (Span, Span))
         requires { row < 64 }
-        ensures { (i : ℕ) → i < 64 → IsBitSet result i ↔ HasBody self.now row (column + i) }
+        ensures { (k : ℕ)
+            → ((IsInRun result.0.0.first result.0.0.end k ⊎ IsInRun result.0.1.first result.0.1.end k)
+            ⊎ (IsInRun result.1.0.first result.1.0.end k ⊎ IsInRun result.1.1.first result.1.1.end k))
+            ↔ HasBody self.now row k }
     {
-        let out = self.hollow.word(row, column) | self.beyond.word(row, column);
-        self.body.word(row, column) & !out
-    }
-
-    /// Finds the same in each row, and answers outside of which rows there is nothing.
-    pub(crate) fn find_bits(&self, column: u32, bits: &mut [u64; 64]) -> Span
-        requires { self.now.body.band.end ≤ 64 }
-        ensures rows { result.end ≤ 64 }
-        ensures each { (row i : ℕ) → i < 64
-            → ((result.first ≤ row) × (row < result.end) × IsBitSet (slice_index bits.new row) i)
-            ↔ HasBody self.now row (column + i) }
-    {
-        let rows = self.body.band;
-        for row in rows.first..rows.end {
-            bits[row as usize] = self.word(row, column);
-        }
-        rows
+        let (before, behind) = self.body.run(row).without(self.hollow.run(row));
+        let beyond = self.beyond.run(row);
+        (before.without(beyond), behind.without(beyond))
     }
 }

@@ -1,12 +1,13 @@
 //! What is known of the pixels of tiles side by side that are painted from the last leaf on: of the leaves that cover a
 //! pixel the first that comes decides it.
 
-ghost use Rattle.std.specs.Prelude.{◌≡◌, ◌+◌, ◌-◌, ◌*◌, ◌%◌, ◌<◌, ◌≤◌, ◌⊎◌, ◌&&◌, not, ℕ, IsTrue, IfErr, OnOk, true, false};
-ghost use Rattle.std.specs.Prelude.{if◌then◌else◌, length, nat_le, nat_lt, replicate, slice_index};
+ghost use Rattle.std.specs.Prelude.{◌≡◌, ◌+◌, ◌-◌, ◌*◌, ◌<◌, ◌≤◌, ◌⊎◌, ◌&&◌, not, ℕ, IsTrue, IfErr, OnOk, true, false};
+ghost use Rattle.std.specs.Prelude.{if◌then◌else◌, length, nat_lt, replicate, slice_index};
 ghost use Rattle.std.specs.Option.{option_or};
 ghost use Rattle.cam_rows.specs.Marks.{is_marked, is_set};
-ghost use Rattle.cam_tiles.specs.Machinery.Inks.{AreKnown, AreOpen, IsDoneTile, Takes, given, in_row, in_runs, ink_of, is_open, words_of};
+ghost use Rattle.cam_tiles.specs.Machinery.Inks.{AreKnown, AreOpen, IsDoneTile, Takes, given, in_body, in_row, in_runs, ink_of, is_open, words_of};
 
+use crate::masks::figure_runs::FigureRuns;
 use crate::masks::runs::Runs;
 use crate::painter::Tile;
 use crate::span::Span;
@@ -93,6 +94,15 @@ impl Inks {
         self.known[tile] == 64
     }
 
+    /// Looks anew at a tile, if there is such a one, how much of it is decided.
+    pub(crate) fn look(&mut self, tile: u32)
+        ensures { self.new ≡ self.old }
+    {
+        if (tile as usize) < self.tiles {
+            self.is_done(tile as usize);
+        }
+    }
+
     /// Whether all of all tiles is decided.
     pub(crate) fn is_all_done(&mut self) -> bool
         ensures kept { self.new ≡ self.old }
@@ -128,25 +138,6 @@ impl Inks {
         true
     }
 
-    /// Gives a polarity to what is not decided of a tile, where bits say so, in some of its rows: a word for each row.
-    pub(crate) fn take(&mut self, tile: usize, rows: Span, bits: &[u64; 64], dark: bool)
-        requires tile { tile < self.old.tiles }
-        requires rows { rows.end ≤ 64 }
-        ensures { Takes tile (tile + 1) (λ row column. nat_le rows.first row && nat_lt row rows.end
-            && is_set (slice_index bits.now row) (column % 64)) dark self.old self.new }
-    {
-        if rows.end <= rows.first {
-            return;
-        }
-        let (low, high) = (rows.first as usize, rows.end as usize);
-        take_words(
-            &mut self.decided[64 * tile + low..64 * tile + high],
-            &mut self.dark[64 * tile + low..64 * tile + high],
-            &bits[low..high],
-            dark,
-        );
-    }
-
     /// Gives a polarity to what is not decided of the tiles from one on and before another, where marks say so: they begin
     /// at the first of these tiles.
     pub(crate) fn take_marked(&mut self, first: usize, end: usize, marks: &[u64], dark: bool)
@@ -170,6 +161,15 @@ impl Inks {
     {
         let known = &self.known[..self.tiles];
         take_rows(&mut self.decided, &mut self.dark, known, runs, dark);
+    }
+
+    /// The same of the columns of a figure's body, without what is taken out of this.
+    pub(crate) fn take_body(&mut self, runs: &FigureRuns, dark: bool)
+        requires { runs.now.body.band.end ≤ 64 }
+        ensures { Takes 0 self.old.tiles (in_body runs.now) dark self.old self.new }
+    {
+        let known = &self.known[..self.tiles];
+        take_pieces(&mut self.decided, &mut self.dark, known, runs, dark);
     }
 
     /// The rows of a tile from the top: bit i of each is set where column i is decided as dark.
@@ -283,6 +283,27 @@ fn take_rows(decided: &mut [u64], dark: &mut [u64], known: &[u32], runs: &Runs, 
     for row in runs.band.first..runs.band.end {
         let k = row as usize;
         take_run(decided, dark, known, row, runs.firsts[k], runs.ends[k], ink);
+    }
+}
+
+/// The same of a figure's body, without what is taken out of this.
+#[inline]
+fn take_pieces(decided: &mut [u64], dark: &mut [u64], known: &[u32], runs: &FigureRuns, ink: bool)
+    requires few { length known.now ≤ 512 }
+    requires decided { 64 * length known.now ≤ length decided.old }
+    requires dark { 64 * length known.now ≤ length dark.old }
+    requires rows { runs.now.body.band.end ≤ 64 }
+    requires known { (tile : ℕ) → tile < length known.now → 64 ≤ slice_index known.now tile
+        → AreKnown decided.old tile 64 }
+    ensures { Takes 0 (length known.now) (in_body runs.now) ink (words_of (length known.now) decided.old dark.old)
+        (words_of (length known.now) decided.new dark.new) }
+{
+    for row in runs.body.band.first..runs.body.band.end {
+        let ((a, b), (c, d)) = runs.pieces(row);
+        take_run(decided, dark, known, row, a.first, a.end, ink);
+        take_run(decided, dark, known, row, b.first, b.end, ink);
+        take_run(decided, dark, known, row, c.first, c.end, ink);
+        take_run(decided, dark, known, row, d.first, d.end, ink);
     }
 }
 

@@ -1,6 +1,5 @@
 //! Runs of columns in the rows of tiles side by side.
 
-ghost use Rattle.std.specs.Int.{IsBitSet};
 ghost use Rattle.std.specs.Prelude.{◌≡◌, ◌↔◌, ◌⊎◌, ◌+◌, ◌<◌, ◌≤◌, ℕ, length, slice_index};
 ghost use Rattle.cam_units.specs.Board.{IsOnBoard};
 ghost use Rattle.cam_objects.specs.Image.{relative};
@@ -12,7 +11,7 @@ ghost use Rattle.cam_tiles.specs.Machinery.Runs.{Fits, HasColumn, IsClear, IsWid
 use crate::grid::Grid;
 use crate::masks::heights::{HasHeights, Heights};
 use crate::span::Span;
-use cam_rows::{Centres, RunShape, run_row};
+use cam_rows::{Centres, RunShape};
 use cam_units::Point;
 
 /// For each row of a band the run of the columns that a shape holds, from the first one on and before an end; none in
@@ -77,21 +76,19 @@ impl Runs {
         other.clear();
     }
 
-    /// The columns of the run of a row, among 64 of them from one on, as bits.
+    /// The run of a row.
     #[inline]
-    pub(crate) fn word(&self, row: u32, column: u32) -> u64
+    pub(crate) fn run(&self, row: u32) -> Span
         requires { row < 64 }
-        ensures { (i : ℕ) → i < 64 → IsBitSet result i ↔ HasColumn self.now row (column + i) }
+        ensures { (column : ℕ) → IsInRun result.first result.end column ↔ HasColumn self.now row column }
     {
         if row < self.band.first || self.band.end <= row {
-            return 0;
+            return Span::NONE;
         }
-        run_row(
-            self.firsts[row as usize],
-            self.ends[row as usize],
-            column,
-            64,
-        )
+        Span {
+            first: self.firsts[row as usize],
+            end: self.ends[row as usize],
+        }
     }
 
     /// Turns to those of a shape, which stands at a point as it does about (0, 0), in the rows of a grid, and as many

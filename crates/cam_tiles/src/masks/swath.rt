@@ -8,7 +8,7 @@ ghost use Rattle.cam_objects.specs.Canvases.{leaf_of};
 ghost use Rattle.cam_objects.specs.Image.{Covers};
 ghost use Rattle.cam_objects.specs.Leaves.{leaf};
 ghost use Rattle.cam_tiles.specs.Machinery.Figures.{AllFit, IsPlacedFor};
-ghost use Rattle.cam_tiles.specs.Machinery.Inks.{IsDoneTile, Takes, in_body};
+ghost use Rattle.cam_tiles.specs.Machinery.Inks.{IsDoneTile, Takes};
 ghost use Rattle.cam_tiles.specs.Machinery.Runs.{IsWideGrid};
 ghost use Rattle.cam_tiles.specs.Machinery.Swaths.{AreReachedBy, AreRunsOf, IsDoneSwath, IsInSwath, IsRowOfTiles, PaintsSwath, ShowsDirty, columns_of, ink_in, place_in, tiles_in};
 ghost use Rattle.cam_tiles.specs.Picture.{accepts};
@@ -187,7 +187,7 @@ impl Swath {
         ensures { PaintsSwath self.old (leaf_of print.entry ∷ []) self.new }
     {
         self.runs.find(placed, &self.grid, self.columns);
-        take_runs(&mut self.inks, &self.runs, self.columns, print.dark);
+        take_runs(&mut self.inks, &self.runs, print.dark);
     }
 }
 
@@ -270,41 +270,22 @@ fn open_among(inks: &mut Inks, tiles: Span) -> Span
     Span { first, end }
 }
 
-/// Gives a polarity to what is not decided, where a figure has columns by its runs. So many columns are in the tiles.
-fn take_runs(inks: &mut Inks, runs: &FigureRuns, columns: u32, dark: bool)
+/// Gives a polarity to what is not decided, where a figure has columns by its runs.
+fn take_runs(inks: &mut Inks, runs: &FigureRuns, dark: bool)
     requires fit { AllFit 64 runs.now }
-    requires few { inks.old.tiles ≤ 512 }
-    requires tiles { inks.old.tiles ≡ (columns + 63) / 64 }
     ensures { (holds : ℕ → ℕ → Bool) → AreRunsOf holds runs.now inks.old
         → Takes 0 inks.old.tiles holds dark inks.old inks.new }
 {
+    // Rows go by what is known of a tile: it is brought up to date where a leaf ends, for less than each tile would cost.
+    inks.look(runs.body.columns.first / 64);
+    inks.look(runs.body.columns.end / 64);
     if runs.is_whole() {
         inks.take_each(&runs.body, dark);
     } else {
-        let tiles = Span {
-            first: runs.body.columns.first / 64,
-            end: runs.body.columns.end.min(columns).div_ceil(64),
-        };
-        take_body(inks, runs, tiles, dark);
+        inks.take_body(runs, dark);
     }
     inks.take_each(&runs.start, dark);
     inks.take_each(&runs.end, dark);
-}
-
-/// The same of its body, in some tiles.
-fn take_body(inks: &mut Inks, runs: &FigureRuns, tiles: Span, dark: bool)
-    requires fit { runs.now.body.band.end ≤ 64 }
-    requires few { inks.old.tiles ≤ 512 }
-    requires tiles { tiles.end ≤ inks.old.tiles }
-    ensures { Takes tiles.first tiles.end (in_body runs.now) dark inks.old inks.new }
-{
-    let mut bits = [0; 64];
-    for tile in tiles.first..tiles.end {
-        if !inks.is_done(tile as usize) {
-            let rows = runs.find_bits(64 * tile, &mut bits);
-            inks.take(tile as usize, rows, &bits, dark);
-        }
-    }
 }
 
 /// A box that holds the centres in the rows of a grid, in as many columns from its left on, in half nm.

@@ -1,6 +1,7 @@
-use Rattle.std.proofs.Common.{Bool, ℕ, ◌||◌, subst, inl, inr, arith}
-use Rattle.cam_tiles.specs.Machinery.Inks.{Takes, in_body, in_runs}
-use Rattle.cam_tiles.proofs.RunInks.{body_told, in_part, or_told, part_told, runs_told, takes_all, takes_both}
+use Rattle.std.proofs.Common.{◌≡◌, Bool, ℕ, ◌||◌, subst, sym, ◌∙◌, inl, inr}
+use Rattle.cam_tiles.specs.Machinery.Inks.{Inked, Takes, in_body, in_runs}
+use Rattle.cam_tiles.specs.Machinery.Swaths.{AreRunsOf}
+use Rattle.cam_tiles.proofs.RunInks.{body_told, in_part, or_told, part_told, runs_told, takes_both}
 use Rattle.cam_tiles.proofs.SwathInks.{same_test, takes_like}
 use Rattle.cam_tiles.proofs.masks.swath.take_runs.Goals.{then-is_whole, else-is_whole}
 use Rattle.cam_tiles.proofs.masks.swath.take_runs.Goals as goal
@@ -9,7 +10,8 @@ pub returns : goal.returns
 returns c = λ holds are.
     let s = c.args.runs.now in
     let dark = c.args.dark in
-    let old = c.args.inks.now in
+    let old = c.look-2.new.self in
+    let same : old ≡ c.args.inks.now = c.look-2.ensures ∙ c.look.ensures in
     let mid = c.if-is_whole.inks in
     let later = c.take_each-2.new.self in
     let new = c.take_each-3.new.self in
@@ -27,10 +29,7 @@ returns c = λ holds are.
           ))))
       | else-is_whole w ↦
           rw w.inks-is
-          (takes_all dark _ _ (in_body s) old w.take_body.new.inks (λ row column within on.
-          let there = c.requires.fit.body.spanned row column ((body_told s row column).0 on).0 in
-          (omega (arith, there.0), omega (arith, there.1, within, w.min.ensures, w.div_ceil.ensures, c.requires.tiles)))
-          w.take_body.ensures)
+          w.take_body.ensures
     ] in
     let two : ℕ → ℕ → Bool = λ row column. in_body s row column || in_runs s.start row column in
     let start : Takes 0 n two dark old later =
@@ -41,8 +40,9 @@ returns c = λ holds are.
     takes_both dark n two (in_runs s.end) (in_part s) old later new start
     (subst (λ t. Takes 0 t (in_runs s.end) dark later new) start.tiles c.take_each-3.ensures)
     (λ row column low within. or_told (two row column) (in_runs s.end row column)) in
-    takes_like (in_part s) dark 0 n old new all holds (λ row column low within after until.
-    elim (are row column low within) [
+    subst (λ (k : Inked). Takes 0 k.tiles holds dark k new) same
+    (takes_like (in_part s) dark 0 n old new all holds (λ row column low within after until.
+    elim (subst (AreRunsOf holds s) (sym same) are row column low within) [
       | inl some ↦ inl some
       | inr held ↦
           let part = part_told s row column in
@@ -50,4 +50,4 @@ returns c = λ holds are.
             (λ on. held.1 (part.0 on)),
             (λ on. part.1 (held.0 on)),
           ))
-    ])
+    ]))
