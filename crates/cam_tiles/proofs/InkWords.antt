@@ -2,11 +2,11 @@
 use Rattle.std.proofs.Common.{◌≡◌, ◌≢◌, ℕ, zero, suc, ◌+◌, ◌-◌, ◌^◌, ◌<◌, ◌≤◌, ◌==◌, ◌&&◌, ◌||◌, not, min, max, Bool, true, false}
 use Rattle.std.proofs.Common.{Some, None, if◌then◌else◌, List, length, slice_index, slice_set, bit_and, bit_or, refl, ap, ◌∙◌, arith}
 use Rattle.std.proofs.Common.{get_or-set_other, get_or-set_same, inl, inr, sym, take, drop, ◌*◌, ◌/◌, ◌%◌}
-use Rattle.std.specs.Int.{IsBitSet, w64}
+use Rattle.std.specs.Int.{IsBitSet, bit_at, w64}
 use Rattle.std.specs.Option.{option_or}
-use Rattle.std.proofs.lemmas.Bool.{cases_eq}
-use Rattle.std.proofs.lemmas.Nat.{and_le_l}
-use Rattle.std.proofs.lemmas.Nat.Bits.{bit_at-lt, bit_at-zero, bit_at_and, bit_at_not, bit_at_ones, bit_at_or}
+use Rattle.std.proofs.lemmas.Bool.{cases_eq, eq-eqb, eqb-true}
+use Rattle.std.proofs.lemmas.Nat.{and_le_l, and_le_r}
+use Rattle.std.proofs.lemmas.Nat.Bits.{bit_at-lt, bit_at-zero, bit_at_and, bit_at_not, bit_at_ones, bit_at_or, same_from_bits_below}
 use Rattle.std.proofs.lemmas.List.{get_or-drop, get_or-take}
 use Rattle.cam_rows.specs.Marks.{is_marked, is_set}
 use Rattle.cam_tiles.specs.Machinery.Inks.{AreKnown, given, ink_of}
@@ -54,6 +54,26 @@ pub set_by_bits : (word bits i : ℕ) → bit_and word bits ≡ bits → IsBitSe
 set_by_bits word bits i all on =
     right_of_both (is_set word i) (is_set bits i) ((bit_told bits i).1 on)
     (sym (set_in_both word bits i) ∙ ap (λ w. is_set w i) all)
+
+-- and one that has each of them has all
+least_of : (x y : ℕ) → y < 2 → (y ≡ 1 → x ≡ 1) → min x y ≡ y
+least_of x zero small on = omega arith
+least_of x (suc zero) small on = omega (arith, on refl)
+least_of x (suc (suc y)) small on = absurd (omega (arith, small))
+
+pub bits_by_set : (word bits : ℕ) → word < 2 ^ 64 → bits < 2 ^ 64
+    → ((i : ℕ) → i < 64 → IsBitSet bits i → is_set word i ≡ true) → bit_and word bits ≡ bits
+bits_by_set word bits fits small all =
+    same_from_bits_below 64 (bit_and word bits) bits (omega (arith, and_le_r word bits, small)) small (λ i near.
+    bit_at_and word bits i
+    ∙ least_of (bit_at word i) (bit_at bits i) (bit_at-lt bits i)
+    (λ on. eqb-true _ _ (all i near ((bit_told bits i).0 (eq-eqb _ _ on)))))
+
+-- a word whose bits are all set is the greatest
+pub all_set_is_most : (word : ℕ) → word < 2 ^ 64 → ((i : ℕ) → i < 64 → is_set word i ≡ true) → word ≡ 2 ^ 64 - 1
+all_set_is_most word fits all =
+    same_from_bits_below 64 word (2 ^ 64 - 1) fits (omega arith)
+    (λ i near. eqb-true _ _ (all i near) ∙ sym (bit_at_ones 64 i near))
 
 -- ---- a word
 
@@ -134,7 +154,7 @@ tile_part words tile row low =
     get_or-take (64 * tile + 64 - 64 * tile) (drop (64 * tile) words) row 0 (omega arith)
     ∙ get_or-drop (64 * tile) words row 0
 
-marked_at : (words : List ℕ) (tile row i : ℕ) → i < 64
+pub marked_at : (words : List ℕ) (tile row i : ℕ) → i < 64
     → is_marked words row (64 * tile + i) ≡ is_set (slice_index words (64 * tile + row)) i
 marked_at words tile row i small =
     let own : (64 * tile + i) / 64 ≡ tile = omega arith in

@@ -1,7 +1,6 @@
 -- Columns of runs, by the bits of masks.
 use Rattle.std.proofs.Common.{◌≡◌, ◌↔◌, ℕ, ◌+◌, ◌-◌, ◌<◌, ◌≤◌, ℤ, pos, ◌+ℤ◌, ◌-ℤ◌, ◌*ℤ◌, ◌≤ℤ◌}
-use Rattle.std.proofs.Common.{List, length, slice_index, inl, inr, arith}
-use Rattle.std.proofs.lemmas.Bool.{cases_lt}
+use Rattle.std.proofs.Common.{List, length, slice_index, arith}
 use borrow.Rule.Slice.PartMut.{put_mid}
 use Rattle.cam_units.specs.Board.{IsOnBoard}
 use Rattle.cam_units.specs.declared.point.Point.{Point}
@@ -25,10 +24,7 @@ use Rattle.cam_tiles.proofs.TurnedBands.{below_seen, part_at}
 -- ---- runs in the rows of a grid
 
 pub without_rows : (rows : ℕ) (r : Runs) → IsClear r → Fits rows r
-without_rows rows r clear = record {
-  low = omega (arith, clear.low);
-  spanned = λ row column on. absurd (clear.none row column on);
-}
+without_rows rows r clear = omega (arith, clear.low)
 
 -- runs that hold nothing
 pub tells_nothing : (g : Grid) (columns : ℕ) (r : Runs) → IsClear r → Tells g columns (λ s. ⊥) r
@@ -66,34 +62,23 @@ wide_below g columns n at top first centres wide board count step within k below
 }
 
 pub tells_band : (g : Grid) (columns first end : ℕ) (at : Point) (h : Heights) (IsHeld : Spot → Type 0) (top : Centres)
-    (clear clear_ends firsts ends : List ℕ) (from until : ℕ)
+    (clear clear_ends firsts ends : List ℕ)
     → ((i : ℕ) → centre_at top i ≡ relative at (centre_in g i first)) → top.n ≡ columns → first < end
     → end ≤ g.rows → g.rows ≤ 64 → length clear ≡ 64 → length clear_ends ≡ 64 → length firsts ≡ end - first
     → length ends ≡ end - first → IsBand g at h first end
     → ((k i : ℕ) → k < length firsts → i < top.n
     → IsInRun (slice_index firsts k) (slice_index ends k) i ↔ IsHeld (centre_at (row_below top k) i))
-    → ((k column : ℕ) → k < length firsts → IsInRun (slice_index firsts k) (slice_index ends k) column
-    → IsInRun from until column)
     → Tells g columns (λ s. IsHeld (relative at s) × IsWithin h (relative at s)) (record {
       band = record { first = first; end = end };
       firsts = put_mid first (end - first) clear firsts;
       ends = put_mid first (end - first) clear_ends ends;
-      columns = record { first = from; end = until };
     })
-tells_band g columns first end at h IsHeld top clear clear_ends firsts ends from to centres count some low few whole
-    whole_ends firsts_size ends_size rows told spanned =
+tells_band g columns first end at h IsHeld top clear clear_ends firsts ends centres count some low few whole
+    whole_ends firsts_size ends_size rows told =
     let long : end ≤ length clear = omega (arith, whole, low, few) in
     let long_ends : end ≤ length clear_ends = omega (arith, whole_ends, low, few) in
     record {
-      fits = record {
-        low = low;
-        spanned = λ row column on.
-            let here = rw (
-              part_at first end clear firsts some long firsts_size row on.0 on.1,
-              part_at first end clear_ends ends some long_ends ends_size row on.0 on.1,
-            ) at on.2 in
-            spanned (row - first) column (omega (arith, firsts_size, on.0, on.1)) here;
-      };
+      fits = low;
       each = λ column row near within.
           let s = relative at (centre_in g column row) in
           let inside = rows row within in
@@ -146,22 +131,3 @@ module _ (g : Grid) (columns first : ℕ) where
     x = g.x +ℤ pos i *ℤ g.step;
     y = further_down g.y g.step first k j;
   }
-
--- ---- spans
-
--- all runs of the rows above an end lie between two columns
-abbrev pub AreSpanned : List ℕ → List ℕ → ℕ → ℕ → ℕ → Type 0
-AreSpanned firsts ends end from to =
-    (k column : ℕ) → k < end → IsInRun (slice_index firsts k) (slice_index ends k) column → IsInRun from to column
-
-pub one_more_spanned : (firsts ends : List ℕ) (end from to first last : ℕ) → AreSpanned firsts ends end from to
-    → first ≤ from → to ≤ last
-    → ((column : ℕ) → IsInRun (slice_index firsts end) (slice_index ends end) column → IsInRun first last column)
-    → AreSpanned firsts ends (end + 1) first last
-one_more_spanned firsts ends end from to first last before wider_left wider_right here k column early on =
-    elim (cases_lt k end) [
-      | inl above ↦
-          let was = before k column above on in
-          (omega (arith, was.0, wider_left), omega (arith, was.1, wider_right))
-      | inr below ↦ let same : k ≡ end = omega arith in here column (rw same at on)
-    ]

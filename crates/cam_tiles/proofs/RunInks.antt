@@ -1,5 +1,5 @@
 -- Inks that are taken by runs.
-use Rattle.std.proofs.Common.{◌≡◌, ◌↔◌, ◌⊎◌, ℕ, ◌+◌, ◌*◌, ◌/◌, ◌%◌, ◌<◌, ◌≤◌, min, Bool, true, false, ◌&&◌, ◌||◌, ◌==◌, not, nat_le, nat_lt}
+use Rattle.std.proofs.Common.{◌≡◌, ◌↔◌, ◌⊎◌, ℕ, ◌+◌, ◌*◌, ◌/◌, ◌%◌, ◌<◌, ◌≤◌, Bool, true, false, ◌&&◌, ◌||◌, not, nat_le, nat_lt}
 use Rattle.std.proofs.Common.{List, length, slice_index, slice_set, Option, Some, None, IsSome, IsTrue, refl, sym, ap, subst, ◌∙◌, inl, inr, arith}
 use Rattle.std.proofs.Common.{get_or-set_other, get_or-set_same}
 use Rattle.std.specs.Int.{IsBitSet}
@@ -12,7 +12,7 @@ use Rattle.cam_tiles.specs.declared.masks.figure_runs.FigureRuns.{FigureRuns}
 use Rattle.cam_tiles.specs.declared.masks.runs.Runs.{Runs}
 use Rattle.cam_tiles.specs.declared.span.Span.{Span}
 use Rattle.cam_tiles.specs.Machinery.Figures.{HasBody, HasPart}
-use Rattle.cam_tiles.specs.Machinery.Inks.{AreKnown, Inked, Takes, given, in_body, in_row, in_runs, ink_at, ink_of, words_of}
+use Rattle.cam_tiles.specs.Machinery.Inks.{AreKnown, AreNext, Inked, Takes, given, in_body, in_row, in_runs, ink_at, ink_of, words_of}
 use Rattle.cam_tiles.specs.Machinery.Runs.{HasColumn}
 use Rattle.cam_tiles.proofs.JoinedWords.{bit_told}
 use Rattle.cam_tiles.proofs.SwathInks.{same_test}
@@ -132,12 +132,32 @@ module _ (ink : Bool) where
     others = λ row column low within apart. refl;
   }
 
+  -- by a test that is the same there
+  pub takes_same : (n : ℕ) (P Q : ℕ → ℕ → Bool) (old new : Inked) → Takes 0 n P ink old new
+      → ((row column : ℕ) → row < 64 → column < 64 * n → IsTrue (P row column) ↔ IsTrue (Q row column)) → Takes 0 n Q ink old new
+  takes_same n P Q old new takes same = record {
+    tiles = takes.tiles;
+    each = λ row column low within after until.
+        takes.each row column low within after until
+        ∙ ap (λ b. option_or (ink_at old row column) (given b ink)) (same_test (P row column) (Q row column) (same row column low until));
+    others = takes.others;
+  }
+
   -- what is decided stays so
   pub known_stays : (P : ℕ → ℕ → Bool) (old new : Inked) (tile rows : ℕ) → Takes 0 old.tiles P ink old new → tile < old.tiles
       → rows ≤ 64 → AreKnown old.decided tile rows → AreKnown new.decided tile rows
   known_stays P old new tile rows takes inside few known row column low here =
       kept_set _ _ _ _ _ (takes.each row column (omega (arith, low, few)) (omega (arith, inside, here)) (omega arith)
       (omega (arith, inside, here))) (known row column low here)
+
+  pub next_stays : (P : ℕ → ℕ → Bool) (old new : Inked) (next : List ℕ) → Takes 0 old.tiles P ink old new
+      → AreNext old.tiles next old.decided → AreNext old.tiles next new.decided
+  next_stays P old new next takes known = record {
+    within = known.within;
+    known = λ tile other inside after until.
+        known_stays P old new other 64 takes (omega (arith, until, known.within tile inside)) (omega arith)
+        (known.known tile other inside after until);
+  }
 
   -- a word of a tile
   pub takes_word : (n tile row bits : ℕ) (P : ℕ → ℕ → Bool) (decided dark : List ℕ) (word other all : ℕ) → row < 64
@@ -178,53 +198,53 @@ module _ (ink : Bool) where
 
 -- ---- the run of a row
 
--- its columns in one tile
-abbrev pub in_tile : ℕ → ℕ → ℕ → ℕ → ℕ → ℕ → Bool
-in_tile of first end tile row column = in_row of first end row column && column / 64 == tile
+module _ (of row column : ℕ) where
+  -- its columns before one, and those from that on
+  pub two_parts : (first between end : ℕ) → first ≤ between → between ≤ end
+      → IsTrue (in_row of first end row column)
+      ↔ (IsTrue (in_row of first between row column) ⊎ IsTrue (in_row of between end row column))
+  two_parts first between end after until =
+      let all = row_told of first end row column in
+      let before = row_told of first between row column in
+      let behind = row_told of between end row column in (
+        (λ on.
+            let h = all.0 on in
+            elim (cases_lt column between) [
+              | inl early ↦ inl (before.1 (h.0, (h.1.0, early)))
+              | inr late ↦ inr (behind.1 (h.0, (late, h.1.1)))
+            ]),
+        (λ either. elim either [
+          | inl on ↦ let h = before.0 on in all.1 (h.0, (h.1.0, omega (arith, h.1.1, until)))
+          | inr on ↦ let h = behind.0 on in all.1 (h.0, (omega (arith, h.1.0, after), h.1.1))
+        ]),
+      )
 
-pub tile_told : (of first end tile row column : ℕ)
-    → IsTrue (in_tile of first end tile row column) ↔ ((row ≡ of) × IsInRun first end column × (column / 64 ≡ tile))
-tile_told of first end tile row column = let law = row_told of first end row column in (
-  (λ on. let h = and_parts _ _ on in let r = law.0 h.0 in (r.0, r.1, eqb-true _ _ h.1)),
-  (λ h. and_from _ _ (law.1 (h.0, h.1)) (eq-eqb _ _ h.2)),
-)
+  -- those of another that has the same
+  pub same_columns : (first end from to : ℕ) → ((first ≤ column) × (column < end)) ↔ ((from ≤ column) × (column < to))
+      → IsTrue (in_row of first end row column) ↔ IsTrue (in_row of from to row column)
+  same_columns first end from to same =
+      let one = row_told of first end row column in
+      let other = row_told of from to row column in (
+        (λ on. let h = one.0 on in other.1 (h.0, same.0 h.1)),
+        (λ on. let h = other.0 on in one.1 (h.0, same.1 h.1)),
+      )
 
--- those before a tile, and those in it
-pub next_tile : (of first end tile row column : ℕ) → first / 64 ≤ tile
-    → IsTrue (in_row of first (min end (64 * (tile + 1))) row column)
-    ↔ (IsTrue (in_row of first (min end (64 * tile)) row column) ⊎ IsTrue (in_tile of first end tile row column))
-next_tile of first end tile row column after =
-    let all = row_told of first (min end (64 * (tile + 1))) row column in
-    let before = row_told of first (min end (64 * tile)) row column in
-    let here = tile_told of first end tile row column in (
-      (λ on.
-          let h = all.0 on in
-          elim (cases_lt column (64 * tile)) [
-            | inl early ↦ inl (before.1 (h.0, (h.1.0, omega (arith, h.1.1, early))))
-            | inr late ↦ inr (here.1 (h.0, (h.1.0, omega (arith, h.1.1)), omega (arith, h.1.1, late)))
-          ]),
-      (λ either. elim either [
-        | inl on ↦ let h = before.0 on in all.1 (h.0, (h.1.0, omega (arith, h.1.1)))
-        | inr on ↦ let h = here.0 on in all.1 (h.0, (h.1.0, omega (arith, h.1.1, h.2)))
-      ]),
-    )
-
--- those in it by bits
-pub tile_bits : (of first end tile bits row column : ℕ)
-    → ((i : ℕ) → i < 64 → IsBitSet bits i ↔ ((i < 64) × IsInRun first end (64 * tile + i)))
-    → IsTrue (in_tile of first end tile row column)
-    ↔ ((row ≡ of) × (column / 64 ≡ tile) × IsBitSet bits (column % 64))
-tile_bits of first end tile bits row column set =
-    let here = tile_told of first end tile row column in
-    let small : column % 64 < 64 = omega arith in
-    let bit = set (column % 64) small in (
-      (λ on.
-          let h = here.0 on in
-          (h.0, h.2, bit.1 (small, (omega (arith, h.1.0, h.2), omega (arith, h.1.1, h.2))))),
-      (λ h.
-          let run = (bit.0 h.2).1 in
-          here.1 (h.0, (omega (arith, run.0, h.1), omega (arith, run.1, h.1)), h.1)),
-    )
+  -- its columns of one tile by bits
+  pub part_bits : (tile first end bits : ℕ) → end ≤ 64
+      → ((k : ℕ) → k < 64 → IsBitSet bits k ↔ ((first ≤ k) × (k < end)))
+      → IsTrue (in_row of (64 * tile + first) (64 * tile + end) row column)
+      ↔ ((row ≡ of) × (column / 64 ≡ tile) × IsBitSet bits (column % 64))
+  part_bits tile first end bits few set =
+      let law = row_told of (64 * tile + first) (64 * tile + end) row column in
+      let bit = set (column % 64) (omega arith) in (
+        (λ on.
+            let h = law.0 on in
+            let there : column / 64 ≡ tile = omega (arith, h.1.0, h.1.1, few) in
+            (h.0, there, bit.1 (omega (arith, h.1.0, there), omega (arith, h.1.1, there)))),
+        (λ h.
+            let run = bit.0 h.2 in
+            law.1 (h.0, (omega (arith, run.0, h.1), omega (arith, run.1, h.1)))),
+      )
 
 -- ---- rows
 

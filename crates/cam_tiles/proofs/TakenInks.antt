@@ -66,9 +66,9 @@ module _ (from to : ℕ) (bits : ℕ → ℕ) (ink : Bool) (old new : Inked) (ta
 
 -- what is kept holds on
 inked_kept : (from to : ℕ) (bits : ℕ → ℕ) (ink : Bool) (s n : Inside) → IsInked s
-    → TakesWords from to bits ink (inked_of s) (inked_of n) → n.known.items ≡ s.known.items → n.done ≡ s.done
+    → TakesWords from to bits ink (inked_of s) (inked_of n) → n.known.items ≡ s.known.items → n.next ≡ s.next
     → length n.decided.items ≡ length s.decided.items → length n.dark.items ≡ length s.dark.items → IsInked n
-inked_kept from to bits ink s n was taken known done size size_dark = record {
+inked_kept from to bits ink s n was taken known next size size_dark = record {
   few = rw taken.tiles was.few;
   decided = rw (taken.tiles, size) was.decided;
   dark = rw (taken.tiles, size_dark) was.dark;
@@ -77,9 +77,12 @@ inked_kept from to bits ink s n was taken known done size size_dark = record {
     (was.known tile (rw taken.tiles at inside)).0,
     known_kept from to bits ink (inked_of s) (inked_of n) taken tile _ (was.known tile (rw taken.tiles at inside)).1,
   );
-  first = rw (taken.tiles, done) was.first;
-  done = λ tile before.
-      known_kept from to bits ink (inked_of s) (inked_of n) taken tile 64 (was.done tile (rw done at before));
+  pointed = rw (taken.tiles, next) was.pointed;
+  next = rw (taken.tiles, next) (record {
+    within = was.next.within;
+    known = λ tile other inside after until.
+        known_kept from to bits ink (inked_of s) (inked_of n) taken other 64 (was.next.known tile other inside after until);
+  });
 }
 
 -- ---- a part of the words that was written
@@ -112,7 +115,7 @@ module _ (s : Inside) (from to : ℕ) (bits decided dark words others : List ℕ
     decided = with_items s.decided (put_mid from (to - from) words decided);
     dark = with_items s.dark (put_mid from (to - from) others dark);
     known = s.known;
-    done = s.done;
+    next = s.next;
   }
 
   long : to ≤ length words

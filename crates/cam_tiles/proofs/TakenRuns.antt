@@ -4,18 +4,16 @@ use Rattle.std.proofs.Common.{get_or-set_other, get_or-set_same, inl, inr, arith
 use Rattle.std.proofs.lemmas.Bool.{cases_eq, cases_lt}
 use Rattle.cam_rows.specs.Runs.{IsInRun}
 use Rattle.cam_tiles.specs.declared.masks.runs.Runs.{Runs}
-use Rattle.cam_tiles.specs.declared.span.Span.{Span}
 use Rattle.cam_tiles.specs.Machinery.Runs.{Fits, HasColumn}
 
 -- those of another are taken in, in the rows above an end
-pub record AreTaken (old other new : Runs) (columns : Span) (end : ℕ) : Type 0 where
+pub record AreTaken (old other new : Runs) (end : ℕ) : Type 0 where
   pub band : new.band ≡ old.band
-  pub columns_are : new.columns ≡ columns
   pub sound : (row column : ℕ) → HasColumn new row column → HasColumn old row column ⊎ HasColumn other row column
   pub kept : (row column : ℕ) → HasColumn old row column → HasColumn new row column
   pub taken : (row column : ℕ) → row < end → HasColumn other row column → HasColumn new row column
 
-module _ (old other now : Runs) (columns : Span) (row first end : ℕ) (before : AreTaken old other now columns row)
+module _ (old other now : Runs) (row first end : ℕ) (before : AreTaken old other now row)
     (small : row < length now.firsts) (small_end : row < length now.ends) (after : old.band.first ≤ row)
     (until : row < old.band.end) (within : (other.band.first ≤ row) × (row < other.band.end))
     (united : (k : ℕ) → IsInRun first end k
@@ -51,10 +49,9 @@ module _ (old other now : Runs) (columns : Span) (row first end : ℕ) (before :
     | inr apart ↦ before.sound r column (on.0, on.1, rw (apart_first r apart, apart_end r apart) at on.2)
   ]
 
-  pub one_more_taken : AreTaken old other next columns (row + 1)
+  pub one_more_taken : AreTaken old other next (row + 1)
   one_more_taken = record {
     band = before.band;
-    columns_are = before.columns_are;
     sound = held;
     kept = λ r column was. grown r column (before.kept r column was);
     taken = λ r column early has. elim (cases_lt r row) [
@@ -69,15 +66,6 @@ module _ (old other now : Runs) (columns : Span) (row first end : ℕ) (before :
     ];
   }
 
--- all runs lie between the columns of both
-pub taken_fit : (old other new : Runs) (columns : Span) (end rows : ℕ) → AreTaken old other new columns end
-    → ((k : ℕ) → IsInRun old.columns.first old.columns.end k ⊎ IsInRun other.columns.first other.columns.end k
-    → IsInRun columns.first columns.end k)
-    → Fits rows old → Fits rows other → Fits rows new
-taken_fit old other new columns end rows taken wide fit fit_other = record {
-  low = rw taken.band fit.low;
-  spanned = λ row column on. rw taken.columns_are (wide column (elim (taken.sound row column on) [
-    | inl mine ↦ inl (fit.spanned row column mine)
-    | inr theirs ↦ inr (fit_other.spanned row column theirs)
-  ]));
-}
+-- the band is as it was
+pub taken_fit : (old other new : Runs) (end rows : ℕ) → AreTaken old other new end → Fits rows old → Fits rows new
+taken_fit old other new end rows taken fit = rw taken.band fit

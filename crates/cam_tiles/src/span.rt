@@ -63,21 +63,4 @@ impl Span {
         };
         (before, behind)
     }
-
-    /// Those between which all of it and of another lie.
-    pub(crate) fn joined(self, other: Span) -> Span
-        ensures { (k : ℕ) → ((self.first ≤ k) × (k < self.end)) ⊎ ((other.first ≤ k) × (k < other.end))
-            → (result.first ≤ k) × (k < result.end) }
-    {
-        if self.end <= self.first {
-            return other;
-        }
-        if other.end <= other.first {
-            return self;
-        }
-        Span {
-            first: self.first.min(other.first),
-            end: self.end.max(other.end),
-        }
-    }
 }

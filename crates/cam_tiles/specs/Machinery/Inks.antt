@@ -27,6 +27,10 @@ ink_of decided dark i = if is_set decided i then Some (is_set dark i) else None
 abbrev pub given : Bool → Bool → Option Bool
 given is_covered dark = if is_covered then Some dark else None
 
+-- a word whose bits are all of a polarity
+abbrev pub IsInk : Bool → ℕ → Type 0
+IsInk dark word = (i : ℕ) → i < 64 → is_set word i ≡ dark
+
 -- each column of a tile is decided
 abbrev pub IsDoneTile : Inked → ℕ → Type 0
 IsDoneTile k tile = (row column : ℕ) → row < 64 → column / 64 ≡ tile → is_marked k.decided row column ≡ true
@@ -76,6 +80,11 @@ inked_of s = record { tiles = s.tiles; decided = s.decided.items; dark = s.dark.
 abbrev pub AreKnown : List ℕ → ℕ → ℕ → Type 0
 AreKnown decided tile rows = (row column : ℕ) → row < rows → column / 64 ≡ tile → is_marked decided row column ≡ true
 
+-- for each tile the number of one before which all tiles from it on are decided
+pub record AreNext (tiles : ℕ) (next decided : List ℕ) : Type 0 where
+  pub within : (tile : ℕ) → tile < tiles → slice_index next tile ≤ tiles
+  pub known : (tile other : ℕ) → tile < tiles → tile ≤ other → other < slice_index next tile → AreKnown decided other 64
+
 pub record IsInked (s : Inside) : Type 0 where
   pub few : s.tiles ≤ 512
   pub decided : 64 * s.tiles ≤ length s.decided.items
@@ -83,5 +92,5 @@ pub record IsInked (s : Inside) : Type 0 where
   pub each : s.tiles ≤ length s.known.items
   pub known : (tile : ℕ) → tile < s.tiles
       → (slice_index s.known.items tile ≤ 64) × AreKnown s.decided.items tile (slice_index s.known.items tile)
-  pub first : s.done ≤ s.tiles
-  pub done : (tile : ℕ) → tile < s.done → AreKnown s.decided.items tile 64
+  pub pointed : s.tiles ≤ length s.next.items
+  pub next : AreNext s.tiles s.next.items s.decided.items

@@ -12,10 +12,9 @@ abbrev pub HasColumn : Runs → ℕ → ℕ → Type 0
 HasColumn r row column =
     (r.band.first ≤ row) × (row < r.band.end) × IsInRun (slice_index r.firsts row) (slice_index r.ends row) column
 
--- the band is one of so many rows, and all runs lie between two columns
-pub record Fits (rows : ℕ) (r : Runs) : Type 0 where
-  pub low : r.band.end ≤ rows
-  pub spanned : (row column : ℕ) → HasColumn r row column → IsInRun r.columns.first r.columns.end column
+-- the band is one of so many rows
+abbrev pub Fits : ℕ → Runs → Type 0
+Fits rows r = r.band.end ≤ rows
 
 -- no column is in a run, and no row in the band
 pub record IsClear (r : Runs) : Type 0 where

@@ -1,11 +1,13 @@
 //! What is known of the pixels of tiles side by side that are painted from the last leaf on: of the leaves that cover a
 //! pixel the first that comes decides it.
 
-ghost use Rattle.std.specs.Prelude.{◌≡◌, ◌+◌, ◌-◌, ◌*◌, ◌<◌, ◌≤◌, ◌⊎◌, ◌&&◌, not, ℕ, IsTrue, IfErr, OnOk, true, false};
+mod taking;
+
+ghost use Rattle.std.specs.Prelude.{◌≡◌, ◌↔◌, ◌+◌, ◌-◌, ◌*◌, ◌<◌, ◌≤◌, ◌⊎◌, ◌&&◌, not, ℕ, IsTrue, IfErr, OnOk, true, false};
 ghost use Rattle.std.specs.Prelude.{if◌then◌else◌, length, nat_lt, replicate, slice_index};
-ghost use Rattle.std.specs.Option.{option_or};
+ghost use Rattle.std.specs.Int.{IsBitSet};
 ghost use Rattle.cam_rows.specs.Marks.{is_marked, is_set};
-ghost use Rattle.cam_tiles.specs.Machinery.Inks.{AreKnown, AreOpen, IsDoneTile, Takes, given, in_body, in_row, in_runs, ink_of, is_open, words_of};
+ghost use Rattle.cam_tiles.specs.Machinery.Inks.{AreOpen, IsDoneTile, Takes, in_body, in_runs, is_open};
 
 use crate::masks::figure_runs::FigureRuns;
 use crate::masks::runs::Runs;
@@ -14,6 +16,7 @@ use crate::span::Span;
 use cam_rows::run_row;
 use std::alloc::{AllocError, Global};
 use std::marker::Model;
+use taking::{take_pieces, take_rows, take_words};
 
 /// For each pixel of tiles side by side whether it is decided, and whether it is dark then: each tile has 64 words of either
 /// kind, one for each of its rows from the top, and its columns are their bits.
@@ -24,8 +27,8 @@ pub(crate) struct Inks {
     dark: Vec<u64>,
     /// For each tile, how many of its rows from the top are known to be decided all along.
     known: Vec<u32>,
-    /// So many of the first tiles are known to be decided.
-    done: usize,
+    /// For each tile the number of one before which all tiles from it on are known to be decided.
+    next: Vec<u32>,
 }
 
 impl Model for Inks {
@@ -48,7 +51,7 @@ impl Inks {
             decided: Vec::new(alloc),
             dark: Vec::new(alloc),
             known: Vec::new(alloc),
-            done: 0,
+            next: Vec::new(alloc),
         }
     }
 
@@ -68,8 +71,8 @@ impl Inks {
         self.clear();
         refill(&mut self.decided, 64 * tiles.len(), u64::MAX)?;
         refill(&mut self.dark, 64 * tiles.len(), 0)?;
-        self.known.clear();
-        self.known.resize(tiles.len(), 0)?;
+        refill(&mut self.known, tiles.len(), 0)?;
+        refill(&mut self.next, tiles.len(), 0)?;
         open_dirty(&mut self.decided, tiles, columns, rows);
         self.tiles = tiles.len();
         Ok(())
@@ -80,59 +83,114 @@ impl Inks {
         ensures { self.new.tiles ≡ 0 }
     {
         self.tiles = 0;
-        self.done = 0;
+    }
+
+    /// The tile itself where it is not decided all over, and else one behind it, before which all from it on are.
+    fn past_done(&mut self, tile: u32) -> u32
+        requires { tile < self.old.tiles }
+        ensures kept { self.new ≡ self.old }
+        ensures within { (tile ≤ result) × (result ≤ self.old.tiles) }
+        ensures done { (other : ℕ) → tile ≤ other → other < result → IsDoneTile self.old other }
+        ensures open { result ≡ tile → IsDoneTile self.old tile → ⊥ }
+    {
+        let k = tile as usize;
+        if self.next[k] > tile {
+            return self.next[k];
+        }
+        let known = known_rows(&self.decided[64 * k..64 * k + 64], self.known[k]);
+        self.known[k] = known;
+        if known < 64 {
+            return tile;
+        }
+        self.next[k] = tile + 1;
+        tile + 1
     }
 
     /// Whether all of a tile is decided.
-    pub(crate) fn is_done(&mut self, tile: usize) -> bool
+    pub(crate) fn is_done(&mut self, tile: u32) -> bool
         requires { tile < self.old.tiles }
         ensures kept { self.new ≡ self.old }
-        ensures done { IsTrue result → IsDoneTile self.old tile }
+        ensures done { IsTrue result ↔ IsDoneTile self.old tile }
     {
-        let words = &self.decided[64 * tile..64 * tile + 64];
-        self.known[tile] = known_rows(words, self.known[tile]);
-        self.known[tile] == 64
+        self.past_done(tile) > tile
     }
 
-    /// Looks anew at a tile, if there is such a one, how much of it is decided.
-    pub(crate) fn look(&mut self, tile: u32)
-        ensures { self.new ≡ self.old }
+    /// The first tile from one on that is not decided all over, or the number of all where there is none.
+    fn find_open(&mut self, from: u32) -> u32
+        requires { from ≤ self.old.tiles }
+        ensures kept { self.new ≡ self.old }
+        ensures within { (from ≤ result) × (result ≤ self.old.tiles) }
+        ensures done { (tile : ℕ) → from ≤ tile → tile < result → IsDoneTile self.old tile }
+        ensures open { result < self.old.tiles → IsDoneTile self.old result → ⊥ }
     {
-        if (tile as usize) < self.tiles {
-            self.is_done(tile as usize);
+        let mut tile = from;
+        while (tile as usize) < self.tiles {
+            let next = self.past_done(tile);
+            if next == tile {
+                return tile;
+            }
+            tile = next;
         }
+        tile
+    }
+
+    /// The same, and those before it are passed over at once from then on.
+    pub(crate) fn first_open(&mut self, from: u32) -> u32
+        requires { from ≤ self.old.tiles }
+        ensures kept { self.new ≡ self.old }
+        ensures within { (from ≤ result) × (result ≤ self.old.tiles) }
+        ensures done { (tile : ℕ) → from ≤ tile → tile < result → IsDoneTile self.old tile }
+        ensures open { result < self.old.tiles → IsDoneTile self.old result → ⊥ }
+    {
+        let open = self.find_open(from);
+        if from < open {
+            self.next[from as usize] = open;
+        }
+        open
     }
 
     /// Whether all of all tiles is decided.
     pub(crate) fn is_all_done(&mut self) -> bool
         ensures kept { self.new ≡ self.old }
-        ensures done { IsTrue result → (tile : ℕ) → tile < self.old.tiles → IsDoneTile self.old tile }
+        ensures done { IsTrue result ↔ ((tile : ℕ) → tile < self.old.tiles → IsDoneTile self.old tile) }
     {
-        let mut tile = self.done;
-        while tile < self.tiles && self.is_done(tile) {
-            tile += 1;
+        self.first_open(0) as usize == self.tiles
+    }
+
+    /// Looks anew at those of many tiles that are not known to be decided, so that later ones pass over them; of a few, each
+    /// is looked at where it is needed.
+    pub(crate) fn look(&mut self, tiles: Span)
+        ensures { self.new ≡ self.old }
+    {
+        if tiles.end <= tiles.first.saturating_add(2) {
+            return;
         }
-        self.done = tile;
-        tile == self.tiles
+        let end = tiles.end.min(self.tiles as u32);
+        let mut tile = tiles.first;
+        while tile < end {
+            tile = self.first_open(tile) + 1;
+        }
     }
 
     /// Whether all columns of a span are decided in some rows.
     pub(crate) fn is_decided(&self, columns: Span, rows: Span) -> bool
         requires columns { columns.end ≤ 64 * self.now.tiles }
         requires rows { rows.end ≤ 64 }
-        ensures { IsTrue result → (row column : ℕ) → rows.first ≤ row → row < rows.end → columns.first ≤ column
-            → column < columns.end → is_marked self.now.decided row column ≡ true }
+        ensures { IsTrue result ↔ ((row column : ℕ) → rows.first ≤ row → row < rows.end → columns.first ≤ column
+            → column < columns.end → is_marked self.now.decided row column ≡ true) }
     {
-        if columns.end <= columns.first {
-            return true;
-        }
-        for tile in columns.first / 64..columns.end.div_ceil(64) {
-            let bits = run_row(columns.first, columns.end, 64 * tile, 64);
-            let first = 64 * tile as usize;
-            for row in rows.first.max(self.known[tile as usize])..rows.end {
-                if self.decided[first + row as usize] & bits != bits {
+        let end = columns.end.div_ceil(64);
+        let mut tile = columns.first / 64;
+        while tile < end {
+            let open = self.next[tile as usize];
+            if open > tile {
+                tile = open;
+            } else {
+                let bits = run_row(columns.first, columns.end, 64 * tile, 64);
+                if !are_set(&self.decided, tile, rows, bits) {
                     return false;
                 }
+                tile += 1;
             }
         }
         true
@@ -159,8 +217,8 @@ impl Inks {
         requires { runs.now.band.end ≤ 64 }
         ensures { Takes 0 self.old.tiles (in_runs runs.now) dark self.old self.new }
     {
-        let known = &self.known[..self.tiles];
-        take_rows(&mut self.decided, &mut self.dark, known, runs, dark);
+        let next = &self.next[..self.tiles];
+        take_rows(&mut self.decided, &mut self.dark, next, runs, dark);
     }
 
     /// The same of the columns of a figure's body, without what is taken out of this.
@@ -168,8 +226,8 @@ impl Inks {
         requires { runs.now.body.band.end ≤ 64 }
         ensures { Takes 0 self.old.tiles (in_body runs.now) dark self.old self.new }
     {
-        let known = &self.known[..self.tiles];
-        take_pieces(&mut self.decided, &mut self.dark, known, runs, dark);
+        let next = &self.next[..self.tiles];
+        take_pieces(&mut self.decided, &mut self.dark, next, runs, dark);
     }
 
     /// The rows of a tile from the top: bit i of each is set where column i is decided as dark.
@@ -189,12 +247,12 @@ impl Inks {
     }
 }
 
-/// Turns to so many words that are the same.
-fn refill(words: &mut Vec<u64>, count: usize, word: u64) -> Result<(), AllocError>
-    ensures { OnOk result (words.new.items ≡ replicate count word) }
+/// Turns to so many numbers that are the same.
+fn refill<T: Copy>(numbers: &mut Vec<T>, count: usize, number: T) -> Result<(), AllocError>
+    ensures { OnOk result (numbers.new.items ≡ replicate count number) }
 {
-    words.clear();
-    words.resize(count, word)
+    numbers.clear();
+    numbers.resize(count, number)
 }
 
 /// Opens those of tiles that are dirty, in so many of their columns and rows, where all is decided.
@@ -241,6 +299,7 @@ fn known_rows(words: &[u64], known: u32) -> u32
     requires rows { (row i : ℕ) → row < known → i < 64 → is_set (slice_index words.now row) i ≡ true }
     ensures few { result ≤ 64 }
     ensures rows { (row i : ℕ) → row < result → i < 64 → is_set (slice_index words.now row) i ≡ true }
+    ensures open { result < 64 → ((i : ℕ) → i < 64 → is_set (slice_index words.now result) i ≡ true) → ⊥ }
 {
     for row in known..64 {
         if words[row as usize] != u64::MAX {
@@ -250,102 +309,18 @@ fn known_rows(words: &[u64], known: u32) -> u32
     64
 }
 
-/// Gives a polarity to the bits of words that are not decided yet.
-fn take_words(decided: &mut [u64], dark: &mut [u64], bits: &[u64], ink: bool)
-    requires dark { length dark.old ≡ length decided.old }
-    requires bits { length bits.now ≡ length decided.old }
-    ensures decided { length decided.new ≡ length decided.old }
-    ensures dark { length dark.new ≡ length decided.old }
-    ensures each { (k i : ℕ) → k < length decided.old → i < 64
-        → ink_of (slice_index decided.new k) (slice_index dark.new k) i
-        ≡ option_or (ink_of (slice_index decided.old k) (slice_index dark.old k) i)
-        (given (is_set (slice_index bits.now k) i) ink) }
+/// Whether some bits are set in rows of a tile.
+fn are_set(words: &[u64], tile: u32, rows: Span, bits: u64) -> bool
+    requires tile { tile < 512 }
+    requires rows { rows.end ≤ 64 }
+    requires within { 64 * tile + rows.end ≤ length words.now }
+    ensures { IsTrue result ↔ ((row i : ℕ) → rows.first ≤ row → row < rows.end → i < 64 → IsBitSet bits i
+        → is_set (slice_index words.now (64 * tile + row)) i ≡ true) }
 {
-    let ink = if ink { u64::MAX } else { 0 };
-    for k in 0..decided.len() {
-        take_word(&mut decided[k], &mut dark[k], bits[k], ink);
-    }
-}
-
-/// Gives a polarity to what is not decided of the columns that are in runs, in so many tiles as there are numbers of rows
-/// that are known to be decided.
-#[inline]
-fn take_rows(decided: &mut [u64], dark: &mut [u64], known: &[u32], runs: &Runs, ink: bool)
-    requires few { length known.now ≤ 512 }
-    requires decided { 64 * length known.now ≤ length decided.old }
-    requires dark { 64 * length known.now ≤ length dark.old }
-    requires rows { runs.now.band.end ≤ 64 }
-    requires known { (tile : ℕ) → tile < length known.now → 64 ≤ slice_index known.now tile
-        → AreKnown decided.old tile 64 }
-    ensures { Takes 0 (length known.now) (in_runs runs.now) ink (words_of (length known.now) decided.old dark.old)
-        (words_of (length known.now) decided.new dark.new) }
-{
-    for row in runs.band.first..runs.band.end {
-        let k = row as usize;
-        take_run(decided, dark, known, row, runs.firsts[k], runs.ends[k], ink);
-    }
-}
-
-/// The same of a figure's body, without what is taken out of this.
-#[inline]
-fn take_pieces(decided: &mut [u64], dark: &mut [u64], known: &[u32], runs: &FigureRuns, ink: bool)
-    requires few { length known.now ≤ 512 }
-    requires decided { 64 * length known.now ≤ length decided.old }
-    requires dark { 64 * length known.now ≤ length dark.old }
-    requires rows { runs.now.body.band.end ≤ 64 }
-    requires known { (tile : ℕ) → tile < length known.now → 64 ≤ slice_index known.now tile
-        → AreKnown decided.old tile 64 }
-    ensures { Takes 0 (length known.now) (in_body runs.now) ink (words_of (length known.now) decided.old dark.old)
-        (words_of (length known.now) decided.new dark.new) }
-{
-    for row in runs.body.band.first..runs.body.band.end {
-        let ((a, b), (c, d)) = runs.pieces(row);
-        take_run(decided, dark, known, row, a.first, a.end, ink);
-        take_run(decided, dark, known, row, b.first, b.end, ink);
-        take_run(decided, dark, known, row, c.first, c.end, ink);
-        take_run(decided, dark, known, row, d.first, d.end, ink);
-    }
-}
-
-/// The same of the run of one row: those of a tile at once, but for tiles that are known to be decided.
-#[inline]
-fn take_run(
-    decided: &mut [u64],
-    dark: &mut [u64],
-    known: &[u32],
-    row: u32,
-    first: u32,
-    end: u32,
-    ink: bool,
-)
-    requires few { length known.now ≤ 512 }
-    requires decided { 64 * length known.now ≤ length decided.old }
-    requires dark { 64 * length known.now ≤ length dark.old }
-    requires row { row < 64 }
-    requires known { (tile : ℕ) → tile < length known.now → 64 ≤ slice_index known.now tile
-        → AreKnown decided.old tile 64 }
-    ensures { Takes 0 (length known.now) (in_row row first end) ink (words_of (length known.now) decided.old dark.old)
-        (words_of (length known.now) decided.new dark.new) }
-{
-    let ink = if ink { u64::MAX } else { 0 };
-    let tiles = known.len() as u32;
-    for tile in first / 64..end.div_ceil(64).min(tiles) {
-        if known[tile as usize] < 64 {
-            let bits = run_row(first, end, 64 * tile, 64);
-            let k = (64 * tile + row) as usize;
-            take_word(&mut decided[k], &mut dark[k], bits, ink);
+    for row in rows.first..rows.end {
+        if words[(64 * tile + row) as usize] & bits != bits {
+            return false;
         }
     }
-}
-
-/// Decides the bits of a word that are not decided yet; they are dark where the ink has them too.
-#[inline]
-fn take_word(decided: &mut u64, dark: &mut u64, bits: u64, ink: u64)
-    ensures { (i : ℕ) → i < 64 → ink_of decided.new dark.new i
-        ≡ option_or (ink_of decided.old dark.old i) (given (is_set bits i) (is_set ink i)) }
-{
-    let was = *decided;
-    let new = bits & !was;
-    *decided = was | new;
-    *dark = (*dark & !new) | (new & ink);
+    true
 }

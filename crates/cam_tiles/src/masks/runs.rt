@@ -1,6 +1,6 @@
 //! Runs of columns in the rows of tiles side by side.
 
-ghost use Rattle.std.specs.Prelude.{◌≡◌, ◌↔◌, ◌⊎◌, ◌+◌, ◌<◌, ◌≤◌, ℕ, length, slice_index};
+ghost use Rattle.std.specs.Prelude.{◌≡◌, ◌↔◌, ◌⊎◌, ◌<◌, ◌≤◌, ℕ, length, slice_index};
 ghost use Rattle.cam_units.specs.Board.{IsOnBoard};
 ghost use Rattle.cam_objects.specs.Image.{relative};
 ghost use Rattle.cam_rows.specs.Rows.{centre_at, row_below};
@@ -21,8 +21,6 @@ pub(crate) struct Runs {
     pub(crate) band: Span,
     pub(crate) firsts: [u32; 64],
     pub(crate) ends: [u32; 64],
-    /// Columns between which all of them lie.
-    pub(crate) columns: Span,
 }
 
 impl Runs {
@@ -32,7 +30,6 @@ impl Runs {
             band: Span::NONE,
             firsts: [0; 64],
             ends: [0; 64],
-            columns: Span::NONE,
         }
     }
 
@@ -41,7 +38,6 @@ impl Runs {
         ensures { IsClear self.new }
     {
         self.band = Span::NONE;
-        self.columns = Span::NONE;
     }
 
     /// Takes in the runs of another, row after row, as long as each is one run with that of its row here. Once it has
@@ -56,7 +52,6 @@ impl Runs {
         if other.band.first < self.band.first || self.band.end < other.band.end {
             return;
         }
-        self.columns = self.columns.joined(other.columns);
         for row in other.band.first..other.band.end {
             let k = row as usize;
             let here = Span {
@@ -127,7 +122,6 @@ impl Runs {
         let firsts = &mut self.firsts[band.first as usize..band.end as usize];
         let ends = &mut self.ends[band.first as usize..band.end as usize];
         find_anew(shape, &top, firsts, ends);
-        self.columns = columns_between(firsts, ends);
         self.band = band;
     }
 }
@@ -144,22 +138,4 @@ fn find_anew<S: RunShape>(shape: &S, top: &Centres, firsts: &mut [u32], ends: &m
     firsts.fill(0);
     ends.fill(top.n);
     shape.find(top, firsts, ends);
-}
-
-/// Columns between which all of some runs lie.
-fn columns_between(firsts: &[u32], ends: &[u32]) -> Span
-    requires { length ends.now ≡ length firsts.now }
-    ensures { (k column : ℕ) → k < length firsts.now
-        → IsInRun (slice_index firsts.now k) (slice_index ends.now k) column
-        → IsInRun result.first result.end column }
-{
-    let mut first = u32::MAX;
-    let mut end = 0u32;
-    for k in 0..firsts.len() {
-        if firsts[k] < ends[k] {
-            first = first.min(firsts[k]);
-            end = end.max(ends[k]);
-        }
-    }
-    Span { first, end }
 }

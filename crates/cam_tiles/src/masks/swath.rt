@@ -180,14 +180,14 @@ impl Swath {
         self.inks.take_marked(first, end, &self.marks, dark);
     }
 
-    /// Paints a stroke or a flash by its runs, in the tiles that these reach.
-    fn paint_figure(&mut self, placed: &Placed, print: Print<'_>)
+    /// Paints a stroke or a flash by its runs, and looks anew at tiles that it reaches where they are many.
+    fn paint_figure(&mut self, tiles: Span, placed: &Placed, print: Print<'_>)
         requires some { 0 < self.old.columns }
         requires figure { IsPlacedFor print.figure placed.now }
         ensures { PaintsSwath self.old (leaf_of print.entry ∷ []) self.new }
     {
         self.runs.find(placed, &self.grid, self.columns);
-        take_runs(&mut self.inks, &self.runs, print.dark);
+        take_runs(&mut self.inks, tiles, &self.runs, print.dark);
     }
 }
 
@@ -222,14 +222,14 @@ impl Canvas for Swath {
             low: low.y,
             high: high.y,
         };
-        if let Some(placed) = placed_of(&print.figure, heights) {
-            self.paint_figure(&placed, print);
-            return;
-        }
         let tiles = Span {
             first: columns.first / 64,
             end: columns.end.div_ceil(64),
         };
+        if let Some(placed) = placed_of(&print.figure, heights) {
+            self.paint_figure(tiles, &placed, print);
+            return;
+        }
         match print.figure {
             Figure::Stamp {
                 aperture: Aperture::Prims(prims),
@@ -259,26 +259,23 @@ fn open_among(inks: &mut Inks, tiles: Span) -> Span
         → IsDoneTile inks.old tile }
     ensures within { (tiles.first ≤ result.first) × (result.end ≤ tiles.end) }
 {
-    let mut first = tiles.first;
-    let mut end = tiles.end;
-    while first < end && inks.is_done(first as usize) {
-        first += 1;
+    if tiles.end <= tiles.first {
+        return tiles;
     }
-    while first < end && inks.is_done(end as usize - 1) {
+    let first = inks.first_open(tiles.first).min(tiles.end);
+    let mut end = tiles.end;
+    while first < end && inks.is_done(end - 1) {
         end -= 1;
     }
     Span { first, end }
 }
 
-/// Gives a polarity to what is not decided, where a figure has columns by its runs.
-fn take_runs(inks: &mut Inks, runs: &FigureRuns, dark: bool)
+/// Gives a polarity to what is not decided, where a figure that reaches some tiles has columns by its runs.
+fn take_runs(inks: &mut Inks, tiles: Span, runs: &FigureRuns, dark: bool)
     requires fit { AllFit 64 runs.now }
     ensures { (holds : ℕ → ℕ → Bool) → AreRunsOf holds runs.now inks.old
         → Takes 0 inks.old.tiles holds dark inks.old inks.new }
 {
-    // Rows go by what is known of a tile: it is brought up to date where a leaf ends, for less than each tile would cost.
-    inks.look(runs.body.columns.first / 64);
-    inks.look(runs.body.columns.end / 64);
     if runs.is_whole() {
         inks.take_each(&runs.body, dark);
     } else {
@@ -286,6 +283,7 @@ fn take_runs(inks: &mut Inks, runs: &FigureRuns, dark: bool)
     }
     inks.take_each(&runs.start, dark);
     inks.take_each(&runs.end, dark);
+    inks.look(tiles);
 }
 
 /// A box that holds the centres in the rows of a grid, in as many columns from its left on, in half nm.

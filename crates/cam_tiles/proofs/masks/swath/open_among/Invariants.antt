@@ -2,16 +2,6 @@ use Rattle.std.proofs.Common.{◌-◌, ◌≡◌, ◌<◌, ◌≤◌, ℕ}
 use Rattle.cam_tiles.specs.Machinery.Inks.{IsDoneTile}
 use Rattle.cam_tiles.proofs.masks.swath.open_among.Given as goal
 
-abbrev pub invariant-loop-first : goal.invariant-loop-first
-invariant-loop-first l = record {
-  kept : l.inks ≡ l.fn.inks;
-  low : l.fn.tiles.first ≤ l.first;
-  done : (tile : ℕ) → l.fn.tiles.first ≤ tile → tile < l.first → IsDoneTile l.fn.inks tile;
-}
-
-abbrev pub decreases-loop-first : goal.decreases-loop-first
-decreases-loop-first l = l.end - l.first
-
 abbrev pub invariant-loop-end : goal.invariant-loop-end
 invariant-loop-end l = record {
   kept : l.inks ≡ l.fn.inks;

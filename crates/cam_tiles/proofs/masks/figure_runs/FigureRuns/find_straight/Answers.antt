@@ -21,10 +21,10 @@ returns-then-eq c =
     c.find.ensures none.hollow none.beyond none.start none.end)
 
 pub take_in-requires : goal.take_in-requires
-take_in-requires c = omega (arith, c.find-2.ensures.fits.low, c.requires.grid.grid.rows)
+take_in-requires c = omega (arith, c.find-2.ensures.fits, c.requires.grid.grid.rows)
 
 pub take_in-requires-2 : goal.take_in-requires-2
-take_in-requires-2 c = omega (arith, c.find-3.ensures.fits.low, c.requires.grid.grid.rows)
+take_in-requires-2 c = omega (arith, c.find-3.ensures.fits, c.requires.grid.grid.rows)
 
 pub returns : goal.returns
 returns c =

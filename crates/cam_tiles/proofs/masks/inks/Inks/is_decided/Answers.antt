@@ -1,32 +1,35 @@
-use Rattle.std.proofs.Common.{◌≡◌, ◌+◌, ◌*◌, ◌%◌, ◌<◌, length, true, ap, sym, subst, ◌∙◌, inl, inr, arith}
-use Rattle.std.proofs.lemmas.Bool.{cases_eq}
-use Rattle.std.proofs.lemmas.List.{get_or_read}
-use Rattle.cam_rows.specs.Marks.{is_marked, is_set}
+use Rattle.std.proofs.Common.{◌≡◌, ◌+◌, ◌*◌, ◌/◌, ◌%◌, ◌<◌, true, sym, subst, ◌∙◌, inl, inr, arith}
+use Rattle.std.proofs.lemmas.Bool.{cases_lt, false≢true}
+use Rattle.cam_rows.specs.Marks.{is_marked}
 use Rattle.cam_tiles.specs.Machinery.Inks.{Inked}
-use Rattle.cam_tiles.proofs.InkWords.{set_by_bits}
+use Rattle.cam_tiles.proofs.InkWords.{marked_at}
 use Rattle.cam_tiles.proofs.masks.inks.Inks.is_decided.Goals as goal
 
-pub loop-row-preserved : goal.loop-row-preserved
-loop-row-preserved c = λ row column after until from to here. elim (cases_eq row c.loop-row.row) [
-  | inl same ↦
+pub returns-then-not-are_set : goal.returns-then-not-are_set
+returns-then-not-are_set c = (
+  (λ off. absurd (false≢true off)),
+  (λ all.
       let s = c.self.inside in
       let tile = c.loop-tile.tile in
+      absurd (false≢true (sym c.if-not-are_set.true ∙ c.are_set.ensures.1 (λ row i after until small on.
+      let run = ((c.run_row-bits.ensures i small).0 on).1 in
+      let held = all row (64 * tile + i) after until run.0 run.1 in
+      rw c.deref.ensures.value (sym (marked_at s.decided.items tile row i small)
+      ∙ subst (λ (k : Inked). is_marked k.decided row (64 * tile + i) ≡ true) (sym c.self.view_is) held))))),
+)
+
+pub loop-tile-preserved : goal.loop-tile-preserved
+loop-tile-preserved c = λ row column after until from to near. elim (cases_lt (column / 64) c.loop-tile.tile) [
+  | inl before ↦ c.loop-tile.invariant row column after until from to before
+  | inr late ↦
+      (let s = c.self.inside in
+      let tile = c.loop-tile.tile in
       let i = column % 64 in
-      let place : 64 * tile + i ≡ column = omega (arith, here) in
+      let there : column / 64 ≡ tile = omega (arith, late, near) in
+      let place : 64 * tile + i ≡ column = omega (arith, there) in
       let small : i < 64 = omega arith in
-      let within : 64 * tile + c.loop-row.row < length s.decided.items = omega (
-        arith,
-        place,
-        to,
-        c.requires.columns,
-        ap (λ (k : Inked). k.tiles) c.self.view_is,
-        c.self.invariant.decided,
-        c.loop-row-test.true,
-        c.requires.rows,
-      ) in
-      let read = get_or_read s.decided.items _ _ within c.index-in-loop-row.ensures 0 in
       let bit = (c.run_row-bits.ensures i small).1 (small, (omega (arith, place, from), omega (arith, place, to))) in
-      subst (λ (k : Inked). is_marked k.decided row column ≡ true) c.self.view_is (rw (here, same)
-      (ap (λ w. is_set w i) (sym read) ∙ set_by_bits _ c.run_row-bits.result i c.if-index-bits.false bit))
-  | inr apart ↦ c.loop-row.invariant row column after (omega (arith, until, apart)) from to here
+      let held = c.are_set.ensures.0 c.if-not-are_set.false row i after until small bit in
+      subst (λ (k : Inked). is_marked k.decided row column ≡ true) c.self.view_is
+      (rw there (rw c.deref.ensures.value at held)))
 ]

@@ -1,4 +1,4 @@
-use Rattle.std.proofs.Common.{◌≡◌, ◌/◌, ◌<◌, ◌≤◌, ℕ, true}
+use Rattle.std.proofs.Common.{◌≡◌, ◌-◌, ◌/◌, ◌<◌, ◌≤◌, ℕ, true}
 use Rattle.cam_rows.specs.Marks.{is_marked}
 use Rattle.cam_tiles.proofs.masks.inks.Inks.is_decided.Given as goal
 
@@ -7,7 +7,5 @@ invariant-loop-tile l =
     (row column : ℕ) → l.rows.first ≤ row → row < l.rows.end → l.columns.first ≤ column → column < l.columns.end
     → column / 64 < l.tile → is_marked l.fn.self.decided row column ≡ true
 
-abbrev pub invariant-loop-row : goal.invariant-loop-row
-invariant-loop-row l =
-    (row column : ℕ) → l.rows.first ≤ row → row < l.row → l.columns.first ≤ column → column < l.columns.end
-    → column / 64 ≡ l.tile → is_marked l.fn.self.decided row column ≡ true
+abbrev pub decreases-loop-tile : goal.decreases-loop-tile
+decreases-loop-tile l = l.end - l.tile

@@ -10,7 +10,7 @@ open_dirty-requires-clause-all c = λ row column low inside.
 pub returns-clause-open : goal.returns-clause-open
 returns-clause-open c =
     let words = c.open_dirty.new.decided in
-    let now = with_items_is c.refill.new.words words (c.open_dirty.ensures.size ∙ c.deref_mut.ensures.len) in
+    let now = with_items_is c.refill.new.numbers words (c.open_dirty.ensures.size ∙ c.deref_mut.ensures.len) in
     all_open c.args.columns c.args.rows c.args.tiles.now _ refl
     (λ row column low inside. rw now (c.open_dirty.ensures.each row column low inside))
     (λ w. rw c.in_ok-refill-2.ensures (zeros (64 * length c.args.tiles.now) w))

@@ -30,8 +30,6 @@ returns g c =
     let size_ends = part_length band.first band.end old.ends (omega (arith, c.if-band.false))
     (omega (arith, low, wide.grid.rows)) in
     tells_band grid c.args.columns band.first band.end c.args.at c.args.heights (g.S.RunShape.holds c.args.shape.now) _
-    old.firsts old.ends c.find_anew.new.firsts c.find_anew.new.ends c.columns_between-self.result.first
-    c.columns_between-self.result.end
-    c.row_from-top.ensures.centres refl (omega (arith, c.if-band.false)) low wide.grid.rows.1 (omega arith) (omega arith)
+    old.firsts old.ends c.find_anew.new.firsts c.find_anew.new.ends c.row_from-top.ensures.centres refl (omega (arith, c.if-band.false)) low wide.grid.rows.1 (omega arith) (omega arith)
     (omega (arith, c.find_anew.auto.firsts, size)) (omega (arith, c.find_anew.auto.ends, size_ends))
-    c.band-band.ensures.rows c.find_anew.ensures c.columns_between-self.ensures
+    c.band-band.ensures.rows c.find_anew.ensures

@@ -6,7 +6,6 @@ use Rattle.cam_tiles.proofs.masks.runs.Runs.take_in.Goals as goal
 pub loop-row-init : goal.loop-row-init
 loop-row-init c = record {
   band = refl;
-  columns_are = refl;
   sound = λ row column on. inl on;
   kept = λ row column on. on;
   taken = λ row column early has. absurd (omega (arith, early, has.0));
@@ -15,7 +14,7 @@ loop-row-init c = record {
 pub loop-row-preserved : goal.loop-row-preserved
 loop-row-preserved c =
     let here = c.loop-row in
-    one_more_taken c.args.self.now c.args.other.now here.self c.joined-self.result here.row c.in-Some.run'.first
+    one_more_taken c.args.self.now c.args.other.now here.self here.row c.in-Some.run'.first
     c.in-Some.run'.end here.invariant (omega arith) (omega arith) (omega arith) (omega arith)
     (omega arith, omega arith) c.in-Some.ensures
 
@@ -27,8 +26,7 @@ returns-in_default-clause-columns c = λ row column. (
 
 pub returns-in_default-clause-fits : goal.returns-in_default-clause-fits
 returns-in_default-clause-fits c = λ rows fit fit_other. (
-  taken_fit c.args.self.now c.args.other.now c.loop-row.self c.joined-self.result c.loop-row.row rows
-      c.loop-row.invariant c.joined-self.ensures fit fit_other,
+  taken_fit c.args.self.now c.args.other.now c.loop-row.self c.loop-row.row rows c.loop-row.invariant fit,
   fit_other,
 )
 
@@ -47,7 +45,6 @@ returns-clause-columns c = λ row column. (
 
 pub returns-clause-fits : goal.returns-clause-fits
 returns-clause-fits c = λ rows fit fit_other. (
-  taken_fit c.args.self.now c.args.other.now c.loop-row.self c.joined-self.result c.loop-row.row rows
-      c.loop-row.invariant c.joined-self.ensures fit fit_other,
+  taken_fit c.args.self.now c.args.other.now c.loop-row.self c.loop-row.row rows c.loop-row.invariant fit,
   without_rows rows c.clear.new.self c.clear.ensures,
 )

@@ -10,4 +10,4 @@ returns c told column row inside holds =
     let held = subst (λ (b : Bounds). Holds b (place_in c.args.self.now column row)) c.in-Closed.is holds in
     let here = c.reached.ensures.each column row inside held in
     subst (λ (v : Swathed). IsSome (ink_in v column row)) c.self.view_is
-    (some_ink _ _ (c.is_decided.ensures told row column here.1.0 here.1.1 here.0.0 here.0.1))
+    (some_ink _ _ (c.is_decided.ensures.0 told row column here.1.0 here.1.1 here.0.0 here.0.1))

@@ -29,7 +29,7 @@ returns-then-columns c =
     elim c.then-columns.branch [
       | then-columns-via-then-columns w ↦ absurd (omega (arith, w.if-columns.true, here.0))
       | then-columns-via-else-columns+then-is_decided w ↦ subst (λ (v : Swathed). IsSome (ink_in v column row)) c.self.view_is
-          (some_ink _ _ (w.is_decided.ensures w.if-is_decided.true row column here.1.0 here.1.1 here.0.0 here.0.1))
+          (some_ink _ _ (w.is_decided.ensures.0 w.if-is_decided.true row column here.1.0 here.1.1 here.0.0 here.0.1))
     ])
 
 -- all that a leaf covers lies in the tiles of the columns that its box reaches

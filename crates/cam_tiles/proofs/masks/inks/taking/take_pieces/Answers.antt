@@ -3,11 +3,11 @@ use Rattle.cam_tiles.specs.declared.span.Span.{Span}
 use Rattle.cam_tiles.specs.Machinery.Inks.{Inked, in_body, in_row, words_of}
 use Rattle.cam_tiles.proofs.RunInks.{body_above_told, body_told, in_body_above, next_body, takes_both, takes_either}
 use Rattle.cam_tiles.proofs.SwathInks.{same_test, takes_like}
-use Rattle.cam_tiles.proofs.masks.inks.take_pieces.Goals as goal
+use Rattle.cam_tiles.proofs.masks.inks.taking.take_pieces.Goals as goal
 
 pub loop-row-preserved : goal.loop-row-preserved
 loop-row-preserved c =
-    let n = length c.args.known.now in
+    let n = length c.args.next.now in
     let runs = c.args.runs.now in
     let ink = c.args.ink in
     let k = c.loop-row.row in
@@ -35,7 +35,7 @@ loop-row-preserved c =
 
 pub returns : goal.returns
 returns c =
-    let n = length c.args.known.now in
+    let n = length c.args.next.now in
     let runs = c.args.runs.now in
     let k = c.loop-row.row in
     takes_like (in_body_above runs k) c.args.ink 0 n (words_of n c.args.decided.now c.args.dark.now)

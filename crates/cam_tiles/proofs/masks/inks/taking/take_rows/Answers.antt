@@ -2,11 +2,11 @@ use Rattle.std.proofs.Common.{◌+◌, length, slice_index, inr, arith}
 use Rattle.cam_tiles.specs.Machinery.Inks.{in_row, in_runs, words_of}
 use Rattle.cam_tiles.proofs.RunInks.{above_told, in_above, next_row, runs_told, takes_both}
 use Rattle.cam_tiles.proofs.SwathInks.{same_test, takes_like}
-use Rattle.cam_tiles.proofs.masks.inks.take_rows.Goals as goal
+use Rattle.cam_tiles.proofs.masks.inks.taking.take_rows.Goals as goal
 
 pub loop-row-preserved : goal.loop-row-preserved
 loop-row-preserved c =
-    let n = length c.args.known.now in
+    let n = length c.args.next.now in
     let runs = c.args.runs.now in
     let k = c.loop-row.row in
     takes_both c.args.ink n (in_above runs k) (in_row k (slice_index runs.firsts k) (slice_index runs.ends k)) (in_above runs (k + 1))
@@ -15,7 +15,7 @@ loop-row-preserved c =
 
 pub returns : goal.returns
 returns c =
-    let n = length c.args.known.now in
+    let n = length c.args.next.now in
     let runs = c.args.runs.now in
     let k = c.loop-row.row in
     takes_like (in_above runs k) c.args.ink 0 n (words_of n c.args.decided.now c.args.dark.now)

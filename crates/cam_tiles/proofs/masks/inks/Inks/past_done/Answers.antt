@@ -1,0 +1,103 @@
+use Rattle.std.proofs.Common.{◌≡◌, ◌+◌, ◌<◌, ap, sym, subst, ◌∙◌, inl, inr, slice_index, arith}
+use Rattle.std.proofs.Common.{get_or-set_other, get_or-set_same}
+use Rattle.std.proofs.Math.ListN.{length-set}
+use Rattle.std.proofs.lemmas.Bool.{cases_eq}
+use Rattle.std.proofs.lemmas.List.{get_or_read}
+use Rattle.cam_tiles.specs.Machinery.Inks.{AreKnown, Inked, IsDoneTile}
+use Rattle.cam_tiles.proofs.InkWords.{known_by, known_of}
+use Rattle.cam_tiles.proofs.masks.inks.Inks.past_done.Goals as goal
+
+pub known_rows-known-requires-clause-rows : goal.known_rows-known-requires-clause-rows
+known_rows-known-requires-clause-rows c =
+    let s = c.self.inside in
+    let tile = c.args.tile in
+    let inside : tile < s.tiles = omega (arith, ap (λ (k : Inked). k.tiles) c.self.view_is, c.requires) in
+    let known = c.self.invariant.known tile inside in
+    let same = get_or_read s.known.items _ _ (omega (arith, inside, c.self.invariant.each)) c.index-2.ensures 0 in
+    λ row i low. rw c.deref.ensures.value
+    (known_of s.decided.items tile (slice_index s.known.items tile) known.0 known.1 row i (omega (arith, low, same)))
+
+pub invariant_of-self : goal.invariant_of-self
+invariant_of-self c =
+    let s = c.self.inside in
+    let was = c.self.invariant in
+    let tile = c.args.tile in
+    let rows = c.known_rows-known.result in
+    let known : AreKnown s.decided.items tile rows =
+    known_by s.decided.items tile rows c.known_rows-known.ensures.few (rw c.deref.ensures.value at c.known_rows-known.ensures.rows) in
+    let inside : tile < s.tiles = omega (arith, ap (λ (k : Inked). k.tiles) c.self.view_is, c.requires) in
+    record {
+      few = was.few;
+      decided = was.decided;
+      dark = was.dark;
+      each = rw length-set was.each;
+      known = λ t within. elim (cases_eq t tile) [
+        | inl same ↦
+            rw (same, get_or-set_same s.known.items tile rows 0 (omega (arith, inside, was.each)))
+            (c.known_rows-known.ensures.few, known)
+        | inr apart ↦ rw (get_or-set_other s.known.items tile t rows 0 apart) (was.known t within)
+      ];
+      pointed = was.pointed;
+      next = was.next;
+    }
+
+pub returns-then-known-lt64-clause-open : goal.returns-then-known-lt64-clause-open
+returns-then-known-lt64-clause-open c = λ same done.
+    let s = c.self.inside in
+    let all : IsDoneTile (record { tiles = s.tiles; decided = s.decided.items; dark = s.dark.items }) c.args.tile =
+    subst (λ (k : Inked). IsDoneTile k c.args.tile) (sym c.self.view_is) done in
+    c.known_rows-known.ensures.open c.if-known-lt64.true
+    (λ i small. rw c.deref.ensures.value (known_of s.decided.items c.args.tile 64 (omega arith) all c.known_rows-known.result i
+    c.if-known-lt64.true small))
+
+pub invariant_of-self-2 : goal.invariant_of-self-2
+invariant_of-self-2 c =
+    let s = c.self.inside in
+    let was = c.self.invariant in
+    let tile = c.args.tile in
+    let rows = c.known_rows-known.result in
+    let inside : tile < s.tiles = omega (arith, ap (λ (k : Inked). k.tiles) c.self.view_is, c.requires) in
+    let known : AreKnown s.decided.items tile rows =
+    known_by s.decided.items tile rows c.known_rows-known.ensures.few (rw c.deref.ensures.value at c.known_rows-known.ensures.rows) in
+    let full : rows ≡ 64 = omega (arith, c.known_rows-known.ensures.few, c.if-known-lt64.false) in
+    let all : AreKnown s.decided.items tile 64 = subst (AreKnown s.decided.items tile) full known in
+    let own = get_or-set_same s.next.items tile (tile + 1) 0 (omega (arith, inside, was.pointed)) in
+    record {
+      few = was.few;
+      decided = was.decided;
+      dark = was.dark;
+      each = rw length-set was.each;
+      known = λ t within. elim (cases_eq t tile) [
+        | inl same ↦
+            rw (same, get_or-set_same s.known.items tile rows 0 (omega (arith, inside, was.each)))
+            (c.known_rows-known.ensures.few, known)
+        | inr apart ↦ rw (get_or-set_other s.known.items tile t rows 0 apart) (was.known t within)
+      ];
+      pointed = rw length-set was.pointed;
+      next = record {
+        within = λ t within. elim (cases_eq t tile) [
+          | inl same ↦ rw (same, own) (omega (arith, inside))
+          | inr apart ↦ rw (get_or-set_other s.next.items tile t (tile + 1) 0 apart) (was.next.within t within)
+        ];
+        known = λ t other within after until. elim (cases_eq t tile) [
+          | inl same ↦
+              (let last : other < tile + 1 = rw (same, own) at until in
+              let this : other ≡ tile = omega (arith, last, after, same) in
+              rw this all)
+          | inr apart ↦
+              was.next.known t other within after (rw (get_or-set_other s.next.items tile t (tile + 1) 0 apart) at until)
+        ];
+      };
+    }
+
+pub returns-clause-done : goal.returns-clause-done
+returns-clause-done c = λ other after until row column low there.
+    let s = c.self.inside in
+    let tile = c.args.tile in
+    let rows = c.known_rows-known.result in
+    let known : AreKnown s.decided.items tile rows =
+    known_by s.decided.items tile rows c.known_rows-known.ensures.few (rw c.deref.ensures.value at c.known_rows-known.ensures.rows) in
+    let full : rows ≡ 64 = omega (arith, c.known_rows-known.ensures.few, c.if-known-lt64.false) in
+    let all : AreKnown s.decided.items tile 64 = subst (AreKnown s.decided.items tile) full known in
+    let this : other ≡ tile = omega (arith, after, until) in
+    subst (λ (k : Inked). IsDoneTile k tile) c.self.view_is all row column low (there ∙ this)
