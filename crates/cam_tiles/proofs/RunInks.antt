@@ -198,6 +198,12 @@ module _ (ink : Bool) where
 
 -- ---- the run of a row
 
+pub turned : {T A B : Type 0} → T ↔ (A ⊎ B) → T ↔ (B ⊎ A)
+turned law = (
+  (λ on. elim (law.0 on) [ inl a ↦ inr a | inr b ↦ inl b ]),
+  (λ either. elim either [ inl b ↦ law.1 (inr b) | inr a ↦ law.1 (inl a) ]),
+)
+
 module _ (of row column : ℕ) where
   -- its columns before one, and those from that on
   pub two_parts : (first between end : ℕ) → first ≤ between → between ≤ end

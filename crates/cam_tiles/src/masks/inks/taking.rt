@@ -1,6 +1,6 @@
 //! How words of inks are decided: those of marks, and the columns of runs.
 
-ghost use Rattle.std.specs.Prelude.{◌≡◌, ◌+◌, ◌*◌, ◌<◌, ◌≤◌, ℕ, Bool, length, slice_index};
+ghost use Rattle.std.specs.Prelude.{◌≡◌, ◌+◌, ◌-◌, ◌*◌, ◌/◌, ◌<◌, ◌≤◌, ℕ, Bool, length, slice_index};
 ghost use Rattle.std.specs.Option.{option_or};
 ghost use Rattle.cam_rows.specs.Marks.{is_set};
 ghost use Rattle.cam_tiles.specs.Machinery.Inks.{AreNext, IsInk, Takes, given, in_body, in_row, in_runs, ink_of, words_of};
@@ -64,7 +64,7 @@ pub(super) fn take_pieces(decided: &mut [u64], dark: &mut [u64], next: &[u32], r
     }
 }
 
-/// The same of the run of one row: a part of its first tile and of its last one, and all of those between.
+/// The same of the run of one row, which mostly lies in one tile.
 #[inline]
 fn take_run(
     decided: &mut [u64],
@@ -88,15 +88,39 @@ fn take_run(
         return;
     }
     let ink = ink_word(ink);
-    let (from, last) = (first / 64, (end - 1) / 64);
-    let (left, right) = (first % 64, (end - 1) % 64 + 1);
-    if from == last {
-        take_part(decided, dark, row, from, left, right, ink);
-        return;
+    if first / 64 == (end - 1) / 64 {
+        take_part(decided, dark, row, first / 64, first % 64, (end - 1) % 64 + 1, ink);
+    } else {
+        take_long(decided, dark, next, row, first, end, ink);
     }
-    take_part(decided, dark, row, from, left, 64, ink);
+}
+
+/// The same of a run that lies in several tiles: a part of the first and of the last one, and all of those between.
+#[inline(never)]
+fn take_long(
+    decided: &mut [u64],
+    dark: &mut [u64],
+    next: &[u32],
+    row: u32,
+    first: u32,
+    end: u32,
+    ink: u64,
+)
+    requires few { length next.now ≤ 512 }
+    requires some { 0 < end }
+    requires several { first / 64 < (end - 1) / 64 }
+    requires within { end ≤ 64 * length next.now }
+    requires decided { 64 * length next.now ≤ length decided.old }
+    requires dark { 64 * length next.now ≤ length dark.old }
+    requires row { row < 64 }
+    requires known { AreNext (length next.now) next.now decided.old }
+    ensures { (polarity : Bool) → IsInk polarity ink → Takes 0 (length next.now) (in_row row first end) polarity
+        (words_of (length next.now) decided.old dark.old) (words_of (length next.now) decided.new dark.new) }
+{
+    let (from, last) = (first / 64, (end - 1) / 64);
     take_whole(decided, dark, next, row, from + 1, last, ink);
-    take_part(decided, dark, row, last, 0, right, ink);
+    take_part(decided, dark, row, from, first % 64, 64, ink);
+    take_part(decided, dark, row, last, 0, (end - 1) % 64 + 1, ink);
 }
 
 /// The same of all of the tiles from one on and before another, but for those that are known to be decided.
