@@ -17,7 +17,7 @@ use Rattle.cam_tiles.specs.declared.masks.heights.Heights.{Heights}
 use Rattle.cam_tiles.specs.declared.masks.runs.Runs.{Runs}
 use Rattle.cam_tiles.specs.declared.masks.figure_runs.FigureRuns.{FigureRuns}
 use Rattle.cam_tiles.specs.Machinery.Masks.{IsWithin}
-use Rattle.cam_tiles.specs.Machinery.Runs.{Fits, HasColumn, IsClear, Tells}
+use Rattle.cam_tiles.specs.Machinery.Runs.{Finds, Fits, HasColumn, IsClear, Tells}
 use Rattle.cam_tiles.specs.Machinery.Figures.{TellsFigure}
 use Rattle.cam_tiles.specs.Tiles.{centre_in}
 use Rattle.cam_tiles.proofs.RunColumns.{tells_nothing}
@@ -116,16 +116,27 @@ tells_united g columns IsHeld r longer body start end no_hollow no_beyond told f
       (second row column) (told.each column row near within);
 }
 
-round_parts : (A O H Y S E W : Type 0) → A ↔ ((O × (H → ⊥) × (Y → ⊥)) ⊎ S ⊎ E) → (A → W)
-    → A ↔ ((((O × W) × ((H × W) → ⊥) × ((Y × W) → ⊥)) ⊎ S) ⊎ E)
-round_parts A O H Y S E W law high = grind arith
+round_parts : (A O H Y S E W Body Hollow Beyond Start End : Type 0) → A ↔ ((O × (H → ⊥) × (Y → ⊥)) ⊎ S ⊎ E) → (A → W)
+    → Body ↔ (O × W) → (Hollow → H) → (Body → H → Hollow) → (Beyond → Y) → (Body → Y → Beyond) → Start ↔ S → End ↔ E
+    → (((Body × (Hollow → ⊥) × (Beyond → ⊥)) ⊎ Start) ⊎ End) ↔ A
+round_parts A O H Y S E W Body Hollow Beyond Start End law high body in_hollow hollow in_beyond beyond start end = grind arith
 
--- what is taken out of an arc's body is so between the heights of its stroke
-pub round_law : (a : Arc) (h : Heights) → ((t : Spot) → IsInArc t a → IsWithin h t) → (t : Spot)
-    → IsInArc t a
-    ↔ ((((IsOuter a t × IsWithin h t) × ((IsHollow a t × IsWithin h t) → ⊥) × ((IsBeyond a t × IsWithin h t) → ⊥))
-    ⊎ IsInDisc t (first_of a)) ⊎ IsInDisc t (last_of a))
-round_law a h heights t = round_parts _ _ _ _ _ _ _ (arc_is_its_runs t a) (heights t)
+-- an arc that lies between two heights: what is taken out of its body is found where that is
+pub tells_round : (g : Grid) (columns : ℕ) (a : Arc) (h : Heights) (seen : Spot → Spot) (body hollow beyond start end : Runs)
+    → ((t : Spot) → IsInArc t a → IsWithin h t)
+    → Tells g columns (λ s. IsOuter a (seen s) × IsWithin h (seen s)) body
+    → Finds g columns (λ s. IsHollow a (seen s)) body hollow → Finds g columns (λ s. IsBeyond a (seen s)) body beyond
+    → Tells g columns (λ s. IsInDisc (seen s) (first_of a)) start → Tells g columns (λ s. IsInDisc (seen s) (last_of a)) end
+    → TellsFigure g columns (λ s. IsInArc (seen s) a)
+    (record { body = body; hollow = hollow; beyond = beyond; start = start; end = end })
+tells_round g columns a h seen body hollow beyond start end high b y x s e = record {
+  fit = record { body = b.fits; hollow = y.fits; beyond = x.fits; start = s.fits; end = e.fits };
+  each = λ column row near within.
+      let t = seen (centre_in g column row) in
+      round_parts _ _ _ _ _ _ _ _ _ _ _ _ (arc_is_its_runs t a) (high t) (b.each column row near within)
+      (y.held column row near within) (y.all column row near within) (x.held column row near within)
+      (x.all column row near within) (s.each column row near within) (e.each column row near within);
+}
 
 pub tells_like : (g : Grid) (columns : ℕ) (P Q : Spot → Type 0) (s : FigureRuns) → ((t : Spot) → Q t ↔ P t)
     → TellsFigure g columns P s → TellsFigure g columns Q s

@@ -1,7 +1,8 @@
 -- Columns of runs, by the bits of masks.
+use Rattle.std.proofs.Common.{ap, sym, subst, ◌∙◌}
 use Rattle.std.proofs.Common.{◌≡◌, ◌↔◌, ℕ, ◌+◌, ◌-◌, ◌<◌, ◌≤◌, ℤ, pos, ◌+ℤ◌, ◌-ℤ◌, ◌*ℤ◌, ◌≤ℤ◌}
 use Rattle.std.proofs.Common.{List, length, slice_index, arith}
-use borrow.Rule.Slice.PartMut.{put_mid}
+use borrow.Rule.Slice.PartMut.{mid_of, put_mid}
 use Rattle.cam_units.specs.Board.{IsOnBoard}
 use Rattle.cam_units.specs.declared.point.Point.{Point}
 use Rattle.cam_units.specs.declared.point.Spot.{Spot}
@@ -10,16 +11,17 @@ use Rattle.cam_units.proofs.Ring.Polynomial.{Atom, Difference, Product}
 use Rattle.cam_objects.specs.Image.{relative}
 use Rattle.cam_rows.specs.declared.centres.Centres.{Centres}
 use Rattle.cam_rows.specs.Rows.{centre_at, row_below}
-use Rattle.cam_rows.specs.Runs.{AreWideRows, IsInRun}
+use Rattle.cam_rows.specs.Runs.{AreFound, AreWideRows, IsInRun}
 use Rattle.cam_tiles.specs.declared.grid.Grid.{Grid}
 use Rattle.cam_tiles.specs.declared.masks.heights.Heights.{Heights}
 use Rattle.cam_tiles.specs.declared.masks.runs.Runs.{Runs}
 use Rattle.cam_tiles.specs.Machinery.Levels.{height, levels_of}
 use Rattle.cam_tiles.specs.Machinery.Masks.{IsWithin}
-use Rattle.cam_tiles.specs.Machinery.Runs.{Fits, IsClear, IsWideGrid, Tells}
+use Rattle.cam_tiles.specs.Machinery.Runs.{Finds, Fits, IsClear, IsWideGrid, Tells}
 use Rattle.cam_tiles.specs.Tiles.{centre_in}
+use Rattle.cam_tiles.proofs.JoinedCentres.{of_part}
 use Rattle.cam_tiles.proofs.SeenRows.{in_reach}
-use Rattle.cam_tiles.proofs.TurnedBands.{below_seen, part_at}
+use Rattle.cam_tiles.proofs.TurnedBands.{below_seen, part_at, part_length}
 
 -- ---- runs in the rows of a grid
 
@@ -97,6 +99,52 @@ tells_band g columns first end at h IsHeld top clear clear_ends firsts ends cent
                 let band = inside.1 held.1 in
                 (band.0, band.1, (here band.0 band.1).1 held.0)),
           );
+    }
+
+-- those of a shape where other runs are
+pub finds_band : (g : Grid) (columns : ℕ) (at : Point) (IsHeld : Spot → Type 0) (others : Runs) (top : Centres)
+    (firsts ends : List ℕ)
+    → (let first = others.band.first in
+    let end = others.band.end in
+    ((i : ℕ) → centre_at top i ≡ relative at (centre_in g i first)) → top.n ≡ columns → first < end
+    → end ≤ g.rows → g.rows ≤ 64 → length others.firsts ≡ 64 → length others.ends ≡ 64 → length firsts ≡ end - first
+    → length ends ≡ end - first
+    → AreFound (mid_of first (end - first) others.firsts) (mid_of first (end - first) others.ends) top IsHeld firsts ends
+    → Finds g columns (λ s. IsHeld (relative at s)) others (record {
+      band = others.band;
+      firsts = put_mid first (end - first) others.firsts firsts;
+      ends = put_mid first (end - first) others.ends ends;
+    }))
+finds_band g columns at IsHeld others top firsts ends centres count some low few whole whole_ends firsts_size ends_size found =
+    let first = others.band.first in
+    let end = others.band.end in
+    let long : end ≤ length others.firsts = omega (arith, whole, low, few) in
+    let long_ends : end ≤ length others.ends = omega (arith, whole_ends, low, few) in
+    let size = part_length first end others.firsts some long in
+    let place : (row : ℕ) → first ≤ row → row < end → (column : ℕ)
+    → centre_at (row_below top (row - first)) column ≡ relative at (centre_in g column row) = λ row after until column.
+    let same : first + (row - first) ≡ row = omega (arith, after) in
+    below_seen g at top first centres (row - first) column ∙ ap (λ k. relative at (centre_in g column k)) same in
+    record {
+      fits = low;
+      held = λ column row near within on.
+          let here = rw (
+            part_at first end others.firsts firsts some long firsts_size row on.0 on.1,
+            part_at first end others.ends ends some long_ends ends_size row on.0 on.1,
+          ) at on.2 in
+          subst IsHeld (place row on.0 on.1 column)
+          (found.held (row - first) column (omega (arith, size, on.0, on.1)) (rw count near) here);
+      all = λ column row near within on held.
+          let was = rw (
+            ← of_part first end others.firsts firsts some long firsts_size row on.0 on.1,
+            ← of_part first end others.ends ends some long_ends ends_size row on.0 on.1,
+          ) at on.2 in
+          let here = found.all (row - first) column (omega (arith, size, on.0, on.1)) (rw count near) was
+          (subst IsHeld (sym (place row on.0 on.1 column)) held) in
+          (on.0, on.1, rw (
+            part_at first end others.firsts firsts some long firsts_size row on.0 on.1,
+            part_at first end others.ends ends some long_ends ends_size row on.0 on.1,
+          ) here);
     }
 
 -- a shape that lies between the heights

@@ -33,6 +33,13 @@ pub record Tells (g : Grid) (columns : ℕ) (IsHeld : Spot → Type 0) (r : Runs
   pub each : (column row : ℕ) → column < columns → row < g.rows
       → HasColumn r row column ↔ IsHeld (centre_in g column row)
 
+-- of the columns of other runs those that a shape holds, and no column that it does not hold
+pub record Finds (g : Grid) (columns : ℕ) (IsHeld : Spot → Type 0) (others r : Runs) : Type 0 where
+  pub fits : Fits g.rows r
+  pub held : (column row : ℕ) → column < columns → row < g.rows → HasColumn r row column → IsHeld (centre_in g column row)
+  pub all : (column row : ℕ) → column < columns → row < g.rows → HasColumn others row column
+      → IsHeld (centre_in g column row) → HasColumn r row column
+
 -- another grid has the same rows, and begins at a column of the first one
 pub record StandsAt (g : Grid) (column : ℕ) (other : Grid) : Type 0 where
   pub near : column < most_columns

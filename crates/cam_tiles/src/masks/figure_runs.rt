@@ -119,7 +119,8 @@ impl FigureRuns {
         self.body.take_in(&mut self.end);
     }
 
-    /// Turns to those of an arc, which lies between two heights: its circles are found between these alone.
+    /// Turns to those of an arc, which lies between two heights: its outer circle is found between these alone, and what is
+    /// taken out of that where it is.
     fn find_round(&mut self, arc: &Arc, heights: Heights, at: Point, grid: &Grid, columns: u32)
         requires sound { IsSoundArc arc.now }
         requires heights { LiesWithin heights (λ s. IsInArc s arc.now) }
@@ -133,10 +134,10 @@ impl FigureRuns {
         self.body.find_between(&outer, heights, at, grid, columns);
         let hollow = Hollow { arc, ring };
         self.hollow
-            .find_between(&hollow, heights, at, grid, columns);
+            .find_among(&self.body, &hollow, at, grid, columns);
         let beyond = Beyond(arc);
         self.beyond
-            .find_between(&beyond, heights, at, grid, columns);
+            .find_among(&self.body, &beyond, at, grid, columns);
         let start = Disc {
             centre: arc.from,
             diameter: arc.width,

@@ -6,7 +6,7 @@ ghost use Rattle.cam_objects.specs.Image.{relative};
 ghost use Rattle.cam_rows.specs.Rows.{centre_at, row_below};
 ghost use Rattle.cam_rows.specs.Runs.{AreWideRows, IsInRun};
 ghost use Rattle.cam_tiles.specs.Machinery.Masks.{IsWithin};
-ghost use Rattle.cam_tiles.specs.Machinery.Runs.{Fits, HasColumn, IsClear, IsWideGrid, Tells};
+ghost use Rattle.cam_tiles.specs.Machinery.Runs.{Finds, Fits, HasColumn, IsClear, IsWideGrid, Tells};
 
 use crate::grid::Grid;
 use crate::masks::heights::{HasHeights, Heights};
@@ -123,6 +123,33 @@ impl Runs {
         let ends = &mut self.ends[band.first as usize..band.end as usize];
         find_anew(shape, &top, firsts, ends);
         self.band = band;
+    }
+
+    /// Turns to those of a shape where other runs are: in what these do not have it is not looked for.
+    pub(crate) fn find_among<S: RunShape>(
+        &mut self,
+        others: &Runs,
+        shape: &S,
+        at: Point,
+        grid: &Grid,
+        columns: u32,
+    )
+        requires fits { Fits grid.now.rows others.now }
+        requires sound { S.is_sound shape.now }
+        requires at { IsOnBoard at }
+        requires grid { IsWideGrid grid.now columns }
+        ensures { Finds grid.now columns (λ s. S.holds shape.now (relative at s)) others.now self.new }
+    {
+        *self = *others;
+        let band = others.band;
+        if band.end <= band.first {
+            return;
+        }
+        let mut top = grid.row_from(band.first, at);
+        top.n = columns;
+        let firsts = &mut self.firsts[band.first as usize..band.end as usize];
+        let ends = &mut self.ends[band.first as usize..band.end as usize];
+        shape.find(&top, firsts, ends);
     }
 }
 
