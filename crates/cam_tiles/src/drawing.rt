@@ -1,6 +1,6 @@
 //! The quick way to draw the dirty tiles of a window: row of tiles by row of tiles. It may stop where memory is refused.
 
-ghost use Rattle.std.specs.Prelude.{◌≡◌, ◌⊎◌, ℕ, ◌+◌, ◌%◌, ◌<◌, ◌≤◌, None, OnOk, false, count_by, is_none, length, slice_index_or, true};
+ghost use Rattle.std.specs.Prelude.{◌≡◌, ◌⊎◌, ℕ, ◌+◌, ◌-◌, ◌%◌, ◌<◌, ◌≤◌, None, OnOk, false, count_by, is_none, length, slice_index_or, true};
 ghost use Rattle.cam_objects.specs.Tests.{is_black};
 ghost use Rattle.cam_tiles.specs.Machinery.Drawn.{IsPartlyDrawn};
 ghost use Rattle.cam_tiles.specs.Machinery.Indexes.{AreItemsOf};
@@ -169,6 +169,8 @@ fn dirty_among(tiles: &[Tile]) -> Span
     ensures end { result.end ≤ length tiles.now }
     ensures others { (k : ℕ) → k < length tiles.now → (k < result.first) ⊎ (result.end ≤ k)
         → is_none (slice_index_or tiles.now k None) ≡ false }
+    ensures first { result.first < result.end → is_none (slice_index_or tiles.now result.first None) ≡ true }
+    ensures last { result.first < result.end → is_none (slice_index_or tiles.now (result.end - 1) None) ≡ true }
 {
     let mut first = 0;
     let mut end = tiles.len();

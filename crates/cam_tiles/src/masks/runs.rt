@@ -141,14 +141,14 @@ impl Runs {
         ensures { Finds grid.now columns (λ s. S.holds shape.now (relative at s)) others.now self.new }
     {
         *self = *others;
-        let band = others.band;
-        if band.end <= band.first {
+        let Span { first, end } = others.band;
+        if end <= first {
             return;
         }
-        let mut top = grid.row_from(band.first, at);
+        let mut top = grid.row_from(first, at);
         top.n = columns;
-        let firsts = &mut self.firsts[band.first as usize..band.end as usize];
-        let ends = &mut self.ends[band.first as usize..band.end as usize];
+        let firsts = &mut self.firsts[first as usize..end as usize];
+        let ends = &mut self.ends[first as usize..end as usize];
         shape.find(&top, firsts, ends);
     }
 }

@@ -8,11 +8,11 @@ find-requires-clause-rows g c =
     let grid = c.args.grid.now in
     let others = c.args.others.now in
     let band = others.band in
-    let size = part_length band.first band.end others.firsts (omega (arith, c.if-band.false))
+    let size = part_length band.first band.end others.firsts (omega (arith, c.if-end-first.false))
     (omega (arith, c.requires.fits, c.requires.grid.grid.rows)) in
     rw size (wide_below grid c.args.columns (band.end - band.first) c.args.at _ band.first c.row_from-top.ensures.centres
     c.requires.grid c.requires.at refl c.row_from-top.ensures.row.step
-    (omega (arith, c.requires.fits, c.if-band.false)))
+    (omega (arith, c.requires.fits, c.if-end-first.false)))
 
 pub returns : goal.returns
 returns g c =
@@ -20,7 +20,7 @@ returns g c =
     let others = c.args.others.now in
     let band = others.band in
     let wide = c.requires.grid in
-    let some = c.if-band.false in
+    let some = c.if-end-first.false in
     let size = part_length band.first band.end others.firsts (omega (arith, some))
     (omega (arith, c.requires.fits, wide.grid.rows)) in
     let size_ends = part_length band.first band.end others.ends (omega (arith, some))
