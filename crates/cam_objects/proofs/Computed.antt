@@ -40,6 +40,12 @@ module _ (a b m : ℤ) (h : unsigned_abs a < 1000000000) (k : unsigned_abs b < 1
     pub min_near : unsigned_abs m < 1000000000
     min_near = subst (λ (z : ℤ). unsigned_abs z < 1000000000) (sym least) least_near
 
+    pub min_kept : to_z w64 (of_z w64 m) ≡ int_min a b
+    min_kept = kept m (omega (arith, min_near)) ∙ least
+
+    pub min_kept_near : unsigned_abs (to_z w64 (of_z w64 m)) < 1000000000
+    min_kept_near = subst (λ (z : ℤ). unsigned_abs z < 1000000000) (sym min_kept) least_near
+
     pub twice_min : to_z w64 (of_z w64 (pos 2 *ℤ to_z w64 (of_z w64 m))) ≡ int_min (pos 2 *ℤ a) (pos 2 *ℤ b)
     twice_min = twice m min_near ∙ ap (λ (z : ℤ). pos 2 *ℤ z) least ∙ least_twice
 
@@ -50,6 +56,12 @@ module _ (a b m : ℤ) (h : unsigned_abs a < 1000000000) (k : unsigned_abs b < 1
 
     pub max_near : unsigned_abs m < 1000000000
     max_near = subst (λ (z : ℤ). unsigned_abs z < 1000000000) (sym greatest) greatest_near
+
+    pub max_kept : to_z w64 (of_z w64 m) ≡ int_max a b
+    max_kept = kept m (omega (arith, max_near)) ∙ greatest
+
+    pub max_kept_near : unsigned_abs (to_z w64 (of_z w64 m)) < 1000000000
+    max_kept_near = subst (λ (z : ℤ). unsigned_abs z < 1000000000) (sym max_kept) greatest_near
 
     pub twice_max : to_z w64 (of_z w64 (pos 2 *ℤ to_z w64 (of_z w64 m))) ≡ int_max (pos 2 *ℤ a) (pos 2 *ℤ b)
     twice_max = twice m max_near ∙ ap (λ (z : ℤ). pos 2 *ℤ z) greatest ∙ greatest_twice

@@ -58,6 +58,20 @@ impl DrillItem {
     }
 }
 
+/// The same items in memory of their own, in order.
+pub(crate) fn copies_of_items(
+    items: &[DrillItem],
+    alloc: Global,
+) -> Result<Vec<DrillItem>, AllocError>
+    ensures { IfOk result (λ copies. copies.items ≡ items.now) }
+{
+    let mut copies = Vec::with_capacity(alloc, items.len())?;
+    for item in items {
+        copies.push(item.try_clone(alloc)?)?;
+    }
+    Ok(copies)
+}
+
 /// How many segments a rout of the points has, or one for the hole at its only point.
 fn segment_count(points: &[Point]) -> usize
     ensures { result ≡ drill_count_from points.now }

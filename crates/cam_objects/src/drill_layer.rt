@@ -18,7 +18,7 @@ ghost use Rattle.cam_objects.specs.Tests.{is_black};
 use crate::drill::checks::{
     check_drilling, fits_limits, fits_limits_beside, fits_tool, leaf_count,
 };
-use crate::drill_item::DrillItem;
+use crate::drill_item::{DrillItem, copies_of_items};
 use crate::image::Pixel;
 use crate::item_fault::ItemFault;
 use crate::tools::Tools;
@@ -149,10 +149,7 @@ impl DrillLayer {
     {
         let alloc = *self.items.allocator();
         let tools = self.tools.try_clone()?;
-        let mut items = Vec::with_capacity(alloc, self.items.len())?;
-        for item in &self.items {
-            items.push(item.try_clone(alloc)?)?;
-        }
+        let items = copies_of_items(&self.items, alloc)?;
         Ok(DrillLayer { tools, items })
     }
 }

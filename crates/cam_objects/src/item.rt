@@ -55,3 +55,14 @@ impl Item {
         }
     }
 }
+
+/// The same items in memory of their own, in order.
+pub(crate) fn copies_of_items(items: &[Item], alloc: Global) -> Result<Vec<Item>, AllocError>
+    ensures { IfOk result (λ copies. copies.items ≡ items.now) }
+{
+    let mut copies = Vec::with_capacity(alloc, items.len())?;
+    for item in items {
+        copies.push(item.try_clone(alloc)?)?;
+    }
+    Ok(copies)
+}

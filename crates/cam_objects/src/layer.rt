@@ -12,7 +12,7 @@ use crate::attribute::{Attribute, copies_of};
 use crate::dictionary::Dictionary;
 use crate::entry::Entry;
 use crate::image::Pixel;
-use crate::item::Item;
+use crate::item::{Item, copies_of_items};
 use cam_units::{Items, Spot};
 use std::alloc::{AllocError, Global};
 
@@ -125,10 +125,7 @@ impl Layer {
         let alloc = *self.items.allocator();
         let attributes = copies_of(&self.attributes, alloc)?;
         let apertures = self.apertures.try_clone(alloc)?;
-        let mut items = Vec::with_capacity(alloc, self.items.len())?;
-        for item in &self.items {
-            items.push(item.try_clone(alloc)?)?;
-        }
+        let items = copies_of_items(&self.items, alloc)?;
         Ok(Layer {
             attributes,
             apertures,
