@@ -1,6 +1,6 @@
 //! What layers are painted on.
 
-ghost use Rattle.std.specs.Prelude.{ℕ, Bool, Option, IsTrue, ◌∷◌, []};
+ghost use Rattle.std.specs.Prelude.{◌↔◌, ℕ, Bool, Option, IsTrue, ◌∷◌, []};
 ghost use Rattle.cam_units.specs.Boxes.{Holds};
 ghost use Rattle.cam_units.specs.declared.point.Spot.{Spot};
 ghost use Rattle.cam_objects.specs.Canvases.{IsDecidedIn, IsSoundPrint, Paints, leaf_of};
@@ -58,9 +58,9 @@ pub trait Canvas {
     fn bounds(&self) -> Bounds
         ensures { (column row : ℕ) → has self.now column row → Holds result (place self.now column row) };
 
-    /// Whether each pixel that has its place in a box, in half nm, is known to be decided.
+    /// Whether each pixel that has its place in a box, in half nm, is decided.
     fn is_decided_in(&self, bounds: Bounds) -> bool
-        ensures { IsTrue result → IsDecidedIn has place ink self.now bounds };
+        ensures { IsTrue result ↔ IsDecidedIn has place ink self.now bounds };
 
     /// Paints a leaf beneath those before: each undecided pixel whose place it covers takes its polarity.
     fn paint(&mut self, print: Print<'_>)
@@ -78,7 +78,7 @@ pub(crate) fn misses<C: Canvas>(canvas: &C, bounds: Bounds) -> bool
 
 /// Whether nothing in the box is left to paint: no pixel has its place there, or all that do are decided.
 pub(crate) fn is_done_in<C: Canvas>(canvas: &C, bounds: Bounds) -> bool
-    ensures { IsTrue result → IsDecidedIn C.has C.place C.ink canvas.now bounds }
+    ensures { IsTrue result ↔ IsDecidedIn C.has C.place C.ink canvas.now bounds }
 {
     misses(canvas, bounds) || canvas.is_decided_in(bounds)
 }

@@ -7,6 +7,7 @@ ghost use Rattle.cam_objects.specs.Canvases.{IsSoundFigure, shape_of};
 ghost use Rattle.cam_objects.specs.Image.{Covers, relative as relative_to};
 
 use crate::canvas::{Canvas, Figure, Print};
+use cam_apertures::has_place;
 use cam_shapes::{in_arc, in_capsule, in_contour, in_disc, in_swept};
 use cam_units::{Bounds, Point, Spot};
 use std::marker::Model;
@@ -68,8 +69,8 @@ impl Canvas for Pixel {
         }
     }
 
-    fn is_decided_in(&self, _bounds: Bounds) -> bool {
-        self.is_decided()
+    fn is_decided_in(&self, bounds: Bounds) -> bool {
+        !has_place(bounds, self.spot) || self.is_decided()
     }
 
     fn paint(&mut self, print: Print<'_>) {

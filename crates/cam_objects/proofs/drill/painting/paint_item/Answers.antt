@@ -37,7 +37,7 @@ returns-then-is_decided_in g c =
     let diameter = c.in-Some.ensures ∙ ap (diameter_of tools) c.tool.ensures in
     paints_boxed canvas.has canvas.place canvas.ink c.args.canvas.now (drill_item_leaves tools item) c.bounds-bounds.result
     (c.bounds-bounds.ensures ∙ ap (λ d. bounds_of (leaves_with d item)) diameter ∙ sym (ap bounds_of (tool_leaves tools item)))
-    (c.is_decided_in.ensures c.if-is_decided_in.true)
+    (c.is_decided_in.ensures.0 c.if-is_decided_in.true)
 
 pub paint_hole-requires : goal.paint_hole-requires
 paint_hole-requires g c = record {

@@ -15,7 +15,7 @@ returns-then-is_done_in g c =
     ∙ sym (copy_box box_of_shape shapes_so (reverse a.entries.now) a.objects.now a.by.x a.by.y) in
     paints_boxed canvas.has canvas.place canvas.ink a.canvas.now
     (block_leaves (meaning_in a.entries.now) (shifted a.by.x a.by.y) a.objects.now) c.moved.result box
-    (c.is_done_in.ensures c.if-is_done_in.true)
+    (c.is_done_in.ensures.0 c.if-is_done_in.true)
 
 pub paint_parts-requires-clause-ready : goal.paint_parts-requires-clause-ready
 paint_parts-requires-clause-ready g c =

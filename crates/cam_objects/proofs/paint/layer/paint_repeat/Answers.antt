@@ -58,7 +58,7 @@ returns-then-is_done_in g c =
     some c.block_bounds-first.ensures.value c.bounds.ensures in
     paints_boxed canvas.has canvas.place canvas.ink a.canvas.now
     (repeat_leaves (meaning_in es) p.columns p.rows p.i p.j a.objects.now) c.bounds.result box
-    (c.is_done_in.ensures c.if-is_done_in.true)
+    (c.is_done_in.ensures.0 c.if-is_done_in.true)
 
 pub loop-c-init : goal.loop-c-init
 loop-c-init g c =

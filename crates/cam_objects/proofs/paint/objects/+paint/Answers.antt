@@ -86,7 +86,7 @@ paint_part-returns-then-is_done_in g t c =
     paints_boxed canvas.has canvas.place canvas.ink c.args.canvas.now (block_leaves (meaning_in es) p c.args.objects.now)
     c.bounds-there.result
     (part_box es c.args.objects.now p c.args.bounds c.bounds-there.result c.requires.bounds c.bounds-there.ensures)
-    (c.is_done_in.ensures c.if-is_done_in.true)
+    (c.is_done_in.ensures.0 c.if-is_done_in.true)
 
 pub paint_part-paint_block-requires : goal.paint_part-paint_block-requires
 paint_part-paint_block-requires g t c κs within = (omega (arith, c.decreases), (within, (c.requires.objects, c.requires.ready)))
@@ -219,7 +219,7 @@ paint_flash-returns-then-is_decided_in g t c =
     c.in-Some.ensures.found (omega (arith, c.if-upto-at.false)) c.requires.within in
     let box = flash_box es c.args.number p c.in-Some.found.2.now c.bounds-bounds.result c.in-Some.ensures.value c.bounds-bounds.ensures in
     paints_boxed canvas.has canvas.place canvas.ink v (flash_leaves c.args.upto es c.args.number p) c.bounds-bounds.result
-    (box ∙ ap (λ (m : Meaning). bounds_of (m.flash p)) (sym among)) (c.is_decided_in.ensures c.if-is_decided_in.true)
+    (box ∙ ap (λ (m : Meaning). bounds_of (m.flash p)) (sym among)) (c.is_decided_in.ensures.0 c.if-is_decided_in.true)
 
 pub paint_flash-paint-requires : goal.paint_flash-paint-requires
 paint_flash-paint-requires g t c =
