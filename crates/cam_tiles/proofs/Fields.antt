@@ -11,7 +11,8 @@ use Rattle.cam_tiles.specs.Machinery.Levels.{height, levels_of}
 use Rattle.cam_tiles.specs.Machinery.Runs.{IsWideGrid}
 use Rattle.cam_tiles.specs.Machinery.Turning.{IsField}
 use Rattle.cam_tiles.specs.Tiles.{centre_in}
-use Rattle.cam_tiles.proofs.LevelRows.{down_some, in_reach, of_grid}
+use Rattle.cam_tiles.proofs.Lattices.{some_steps}
+use Rattle.cam_tiles.proofs.LevelRows.{of_grid}
 use Rattle.cam_tiles.proofs.RunColumns.{below_top}
 
 near_reach : (s : Spot) → IsPlace s → IsInReach s
@@ -24,7 +25,7 @@ field_of_wide g columns wide = record {
   count = wide.count;
   step = wide.grid.step;
   centres = λ column row near within. near_reach (centre_in g column row) (wide.centres column row near within);
-  levels = in_reach (levels_of g) (of_grid g wide.grid);
+  levels = of_grid g wide.grid;
 }
 
 -- ---- rows one below another
@@ -42,7 +43,7 @@ field_rows g columns first x y step n m is_x is_y is_step field within size k fe
 
 -- how far a column lies right of the first
 pub columns_far : (g : Grid) (column : ℕ) → pos 1 ≤ℤ g.step → pos 0 ≤ℤ (pos column *ℤ g.step)
-columns_far g column step = down_some g.step (unsigned_abs g.step) column (omega (arith, ints, step))
+columns_far g column step = some_steps g.step column step
 
 pub up_right : (first far end : ℤ) → pos 0 ≤ℤ far → end ≤ℤ first → end ≤ℤ (first +ℤ far)
 up_right first far end some h = omega (arith, ints)

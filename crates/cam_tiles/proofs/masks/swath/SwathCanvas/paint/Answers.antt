@@ -25,7 +25,7 @@ returns-then-columns c =
     paints_one IsInSwath place_in ink_in now (leaf_of c.args.print) c.args.print.bounds c.requires.held
     (λ column row there holds.
     let held = subst (λ (b : Bounds). Holds b (place_in now column row)) c.in-Closed.is holds in
-    let here = c.reached.ensures.each column row there held in
+    let here = (c.reached.ensures.each column row there.0 there.1).0 held in
     elim c.then-columns.branch [
       | then-columns-via-then-columns w ↦ absurd (omega (arith, w.if-columns.true, here.0))
       | then-columns-via-else-columns+then-is_decided w ↦ subst (λ (v : Swathed). IsSome (ink_in v column row)) c.self.view_is
@@ -39,7 +39,7 @@ within : (c : After-div_ceil) (column row : ℕ) → IsInSwath c.args.self.now c
 within c column row there on =
     let at = place_in c.args.self.now column row in
     let held = subst (λ (b : Bounds). Holds b at) c.in-Closed.is (c.requires.held at on) in
-    let here = c.reached.ensures.each column row there held in
+    let here = (c.reached.ensures.each column row there.0 there.1).0 held in
     (omega (arith, here.0), omega (arith, here.0, c.div_ceil.ensures))
 
 pub paint_marked-requires-clause-within : goal.paint_marked-requires-clause-within
