@@ -11,7 +11,6 @@ use Rattle.cam_tiles.specs.Machinery.Levels.{height, levels_of}
 use Rattle.cam_tiles.specs.Machinery.Runs.{IsWideGrid}
 use Rattle.cam_tiles.specs.Machinery.Turning.{IsField}
 use Rattle.cam_tiles.specs.Tiles.{centre_in}
-use Rattle.cam_tiles.proofs.Lattices.{some_steps}
 use Rattle.cam_tiles.proofs.LevelRows.{of_grid}
 use Rattle.cam_tiles.proofs.RunColumns.{below_top}
 
@@ -41,9 +40,6 @@ field_rows g columns first x y step n m is_x is_y is_step field within size k fe
           (field.centres i (first + k) inside (omega (arith, within, size, few)));
     })
 
--- how far a column lies right of the first
-pub columns_far : (g : Grid) (column : ℕ) → pos 1 ≤ℤ g.step → pos 0 ≤ℤ (pos column *ℤ g.step)
-columns_far g column step = some_steps g.step column step
-
+-- a column lies right of the first
 pub up_right : (first far end : ℤ) → pos 0 ≤ℤ far → end ≤ℤ first → end ≤ℤ (first +ℤ far)
 up_right first far end some h = omega (arith, ints)

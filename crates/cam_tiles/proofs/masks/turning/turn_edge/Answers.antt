@@ -5,8 +5,9 @@ use Rattle.cam_shapes.proofs.Widths.{at_most_is}
 use Rattle.cam_apertures.proofs.Painting.{through}
 use Rattle.cam_tiles.specs.Tiles.{centre_in}
 use Rattle.cam_tiles.proofs.EdgeSpans.{after_ends, met_apart, missed_right, most_kept}
-use Rattle.cam_tiles.proofs.Fields.{columns_far, up_right}
+use Rattle.cam_tiles.proofs.Fields.{up_right}
 use Rattle.cam_tiles.proofs.GridLemmas.{long}
+use Rattle.cam_tiles.proofs.Lattices.{some_steps}
 use Rattle.cam_tiles.proofs.TurnedMarks.{no_rows, turns_nothing}
 use Rattle.cam_tiles.proofs.masks.turning.turn_edge.Goals as goal
 
@@ -36,5 +37,5 @@ returns-then-max-grid c =
     turns_nothing g c.args.columns (λ s. IsTrue (crosses_ray s (edge p q))) c.args.marks.now (λ column row within met.
     let ends = after_ends (g.x +ℤ pos column *ℤ g.step) p.x q.x _
     (most_kept p.x q.x c.max.result c.requires.from.x c.requires.to.x c.max.ensures.value)
-    (up_right g.x (pos column *ℤ g.step) _ (columns_far g column c.requires.grid.step) reach) in
+    (up_right g.x (pos column *ℤ g.step) _ (some_steps g.step column c.requires.grid.step) reach) in
     missed_right (centre_in g column row) p q ends.0 ends.1 met)
