@@ -7,11 +7,12 @@ use Rattle.std.proofs.lemmas.Bool.Decides.{same_from_decides, Decides-and, Decid
 use Rattle.std.proofs.lemmas.Int.{ints}
 use Rattle.std.proofs.lemmas.List.Folds.{Any-from_list_any, list_any_at}
 use Rattle.std.proofs.lemmas.List.FromFn.{get_or-range_with_len, length-range_with_len}
+use Rattle.cam_tiles.specs.declared.lattice.Lattice.{Lattice}
 use Rattle.cam_tiles.specs.declared.levels.Levels.{Levels}
 use Rattle.cam_tiles.specs.declared.span.Span.{Span}
 use Rattle.cam_tiles.specs.declared.window.Window.{Window}
-use Rattle.cam_tiles.specs.Machinery.Lattices.{IsLattice}
-use Rattle.cam_tiles.specs.Machinery.Levels.{AreLevels, IsOnRow}
+use Rattle.cam_tiles.specs.Machinery.Lattices.{IsLattice, place_at}
+use Rattle.cam_tiles.specs.Machinery.Levels.{AreLevels, IsOnRow, height}
 use Rattle.cam_tiles.specs.Machinery.Spans.{HasPixelOf, has_pixel, is_between, is_in_span}
 use Rattle.cam_tiles.specs.Picture.{IsAccepted, centre_of, middle}
 use Rattle.cam_tiles.proofs.GridLemmas.{back, further}
@@ -68,33 +69,44 @@ tiles_between place low high span tiles pixels tile few between are =
 
 -- ---- pixels of a window
 
-module _ (w : Window) (limits : IsAccepted w) where
-  pub column_is : (n : ℕ) → middle w.x w.pitch 0 +ℤ pos n *ℤ (pos 2 *ℤ w.pitch) ≡ middle w.x w.pitch n
-  column_is n = further w.x w.pitch 0 n ∙ ap (middle w.x w.pitch) (omega arith)
+module _ (w : Window) (limits : IsAccepted w) (step : ℤ) (is_step : step ≡ pos 2 *ℤ w.pitch) where
+  steps : pos 1 ≤ℤ step
+  steps = rw is_step (omega (arith, ints, limits.pitch))
 
-  row_is : (n : ℕ) → n < w.height
-      → middle w.y w.pitch (w.height - 1 - 0) -ℤ pos n *ℤ (pos 2 *ℤ w.pitch) ≡ middle w.y w.pitch (w.height - 1 - n)
-  row_is n within =
-      ap (λ k. middle w.y w.pitch k -ℤ pos n *ℤ (pos 2 *ℤ w.pitch)) (omega arith)
-      ∙ back w.y w.pitch (w.height - 1 - n) n
+  module _ (first : ℤ) (is_first : first ≡ (centre_of w 0 0).x) where
+    abbrev pub columns_now : Lattice
+    columns_now = record { first = first; step = step; count = w.width }
 
-  pub window_columns : IsLattice (record { first = middle w.x w.pitch 0; step = pos 2 *ℤ w.pitch; count = w.width })
-  window_columns = record {
-    step = omega (arith, ints, limits.pitch);
-    places = λ n within.
-        rw (column_is n) (omega (arith, (limits.centres n 0 within limits.height.0).x));
-  }
+    column_is : (n : ℕ) → place_at columns_now n ≡ middle w.x w.pitch n
+    column_is n = rw (is_first, is_step) (further w.x w.pitch 0 n ∙ ap (middle w.x w.pitch) (omega arith))
 
-  abbrev pub window_rows : Levels
-  window_rows = record { top = middle w.y w.pitch (w.height - 1 - 0); step = pos 2 *ℤ w.pitch; rows = w.height }
+    pub are_columns : IsLattice columns_now
+    are_columns = record {
+      step = steps;
+      places = λ n within. rw (column_is n) (omega (arith, (limits.centres n 0 within limits.height.0).x));
+    }
 
-  pub are_window_rows : AreLevels window_rows
-  are_window_rows = record {
-    step = omega (arith, ints, limits.pitch);
-    rows = limits.height;
-    heights = λ n within.
-        rw (row_is n within) (omega (arith, (limits.centres 0 n limits.width.0 within).y));
-  }
+    pub column_between : (A : Type 0) (low high from to : ℤ) (n : ℕ) → from ≡ low → to ≡ high
+        → A ↔ ((from ≤ℤ place_at columns_now n) × (place_at columns_now n ≤ℤ to))
+        → A ↔ ((low ≤ℤ middle w.x w.pitch n) × (middle w.x w.pitch n ≤ℤ high))
+    column_between A low high from to n is_low is_high h =
+        rw (← is_low, ← is_high, ← column_is n) h
 
-  pub on_window_row : (n : ℕ) → n < w.height → IsOnRow window_rows n (centre_of w 0 n)
-  on_window_row n within = (within, sym (row_is n within))
+  module _ (top : ℤ) (is_top : top ≡ (centre_of w 0 0).y) where
+    abbrev pub rows_now : Levels
+    rows_now = record { top = top; step = step; rows = w.height }
+
+    row_is : (n : ℕ) → n < w.height → height rows_now n ≡ middle w.y w.pitch (w.height - 1 - n)
+    row_is n within =
+        rw (is_top, is_step)
+        (ap (λ k. middle w.y w.pitch k -ℤ pos n *ℤ (pos 2 *ℤ w.pitch)) (omega arith) ∙ back w.y w.pitch (w.height - 1 - n) n)
+
+    pub are_rows : AreLevels rows_now
+    are_rows = record {
+      step = steps;
+      rows = limits.height;
+      heights = λ n within. rw (row_is n within) (omega (arith, (limits.centres 0 n limits.width.0 within).y));
+    }
+
+    pub on_row : (n : ℕ) → n < w.height → IsOnRow rows_now n (centre_of w 0 n)
+    on_row n within = (within, sym (row_is n within))
