@@ -22,8 +22,7 @@ use Rattle.cam_tiles.specs.Machinery.Masks.{IsWithin}
 use Rattle.cam_tiles.specs.Tiles.{IsGrid, centre_in}
 use Rattle.cam_tiles.proofs.GridLemmas.{long}
 use Rattle.cam_tiles.proofs.Lattices.{further, some_steps}
-use Rattle.cam_tiles.proofs.SeenRows.{seen_kept}
-use Rattle.cam_tiles.proofs.StepLemmas.{first_x, first_y, no_step_down, way_kept}
+use Rattle.cam_tiles.proofs.StepLemmas.{no_step_down}
 
 -- ---- the heights themselves
 
@@ -60,38 +59,22 @@ way_near y at d near short = omega (arith, ints)
 seen_first : (y at d : ℤ) → y -ℤ d -ℤ pos 2 *ℤ at ≡ y -ℤ pos 2 *ℤ at -ℤ d
 seen_first y at d = omega (arith, ints)
 
-pub are_heights_seen : (g : Grid) (at : Point) → IsGrid g → IsOnBoard at
-    → AreLevels (record { top = g.y -ℤ pos 2 *ℤ at.y; step = g.step; rows = g.rows })
-are_heights_seen g at grid board = record {
-  step = grid.step;
-  rows = (grid.rows.0, omega (arith, grid.rows));
-  heights = λ row within.
-      way_near g.y at.y (pos row *ℤ g.step) (grid.centres 0 row grid.columns.0 within).y board.y;
-}
+-- the same heights, as they are seen from a point
+module _ (g : Grid) (at : Point) (top step : ℤ) (is_top : top ≡ g.y -ℤ pos 2 *ℤ at.y) (is_step : step ≡ g.step) where
+  abbrev seen : Levels
+  seen = record { top = top; step = step; rows = g.rows }
 
-module _ (g : Grid) (at : Point) (grid : IsGrid g) (board : IsOnBoard at) (fits : FitsSigned w64 g.step) where
-  -- as the code computes them
-  abbrev pub seen_now : Levels
-  seen_now = record {
-    top = long (long g.y -ℤ long (pos 2 *ℤ long at.y));
-    step = long g.step;
-    rows = g.rows;
-  }
+  pub are_seen : IsGrid g → IsOnBoard at → AreLevels seen
+  are_seen grid board =
+      rw (is_top, is_step) (record {
+        step = grid.step;
+        rows = (grid.rows.0, omega (arith, grid.rows));
+        heights = λ row within.
+            way_near g.y at.y (pos row *ℤ g.step) (grid.centres 0 row grid.columns.0 within).y board.y;
+      })
 
-  seen_is : seen_now ≡ record { top = g.y -ℤ pos 2 *ℤ at.y; step = g.step; rows = g.rows }
-  seen_is =
-      let levels : ℤ → ℤ → Levels = λ y step. record { top = y; step = step; rows = g.rows } in
-      ap (λ y. levels y (long g.step))
-      (seen_kept (long g.y) g.y at.y (omega (arith, ints, first_y g grid)) (first_y g grid) board.y)
-      ∙ ap (levels (g.y -ℤ pos 2 *ℤ at.y)) (to_z-of_z w64 g.step fits)
-
-  pub are_seen : AreLevels seen_now
-  are_seen = subst AreLevels (sym seen_is) (are_heights_seen g at grid board)
-
-  pub seen_on_row : (row : ℕ) → row < g.rows → IsOnRow seen_now row (relative at (centre_in g 0 row))
-  seen_on_row row within =
-      let IsSeen : Levels → Type 0 = λ l. IsOnRow l row (relative at (centre_in g 0 row)) in
-      subst IsSeen (sym seen_is) (within, seen_first g.y at.y (pos row *ℤ g.step))
+  pub on_seen_row : (row : ℕ) → row < g.rows → IsOnRow seen row (relative at (centre_in g 0 row))
+  on_seen_row row within = (within, rw (is_top, is_step) (seen_first g.y at.y (pos row *ℤ g.step)))
 
 -- ---- the mirrored heights, which are places in order
 

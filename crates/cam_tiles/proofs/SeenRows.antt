@@ -14,7 +14,7 @@ use Rattle.cam_tiles.specs.Machinery.Lattices.{IsLattice}
 use Rattle.cam_tiles.specs.Machinery.Runs.{IsWideGrid}
 use Rattle.cam_tiles.specs.Tiles.{IsGrid, centre_in}
 use Rattle.cam_tiles.proofs.GridLemmas.{long}
-use Rattle.cam_tiles.proofs.StepLemmas.{first_x, y_kept}
+use Rattle.cam_tiles.proofs.StepLemmas.{first_x, first_y, y_kept}
 use Rattle.cam_tiles.proofs.WindowLemmas.{IsNear}
 
 -- a height or a width, as it is seen from another
@@ -37,12 +37,17 @@ in_reach p s board place = record {
   y = omega (arith, ints, board.y, place.y);
 }
 
--- ---- columns
+-- ---- the first centre, and columns
 
 pub first_seen : (g : Grid) (at : Point) → IsGrid g → IsOnBoard at
     → long (long g.x -ℤ long (pos 2 *ℤ long at.x)) ≡ g.x -ℤ pos 2 *ℤ at.x
 first_seen g at grid board =
     seen_kept (long g.x) g.x at.x (omega (arith, ints, first_x g grid)) (first_x g grid) board.x
+
+pub top_seen : (g : Grid) (at : Point) → IsGrid g → IsOnBoard at
+    → long (long g.y -ℤ long (pos 2 *ℤ long at.y)) ≡ g.y -ℤ pos 2 *ℤ at.y
+top_seen g at grid board =
+    seen_kept (long g.y) g.y at.y (omega (arith, ints, first_y g grid)) (first_y g grid) board.y
 
 module _ (g : Grid) (at : Point) (first step : ℤ) (is_first : first ≡ g.x -ℤ pos 2 *ℤ at.x) (is_step : step ≡ g.step) where
   pub column_seen : (n : ℕ) → first +ℤ pos n *ℤ step ≡ (relative at (centre_in g n 0)).x

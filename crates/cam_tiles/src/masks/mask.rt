@@ -79,7 +79,6 @@ impl Grid {
     }
 
     /// The rows whose centres lie, as they are seen from a point, between two heights.
-    #[tactic(auto, using(crate::proofs::LevelRows::seen_on_row, crate::proofs::LevelRows::are_seen, cam_rows::proofs::Gaps::twice_fits))]
     pub(crate) fn band(&self, heights: Heights, at: Point) -> Span
         requires grid { IsGrid self.now }
         requires at { IsOnBoard at }
