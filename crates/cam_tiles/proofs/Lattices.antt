@@ -61,16 +61,7 @@ between_counts n first end x start low high before after is_before early until =
           )
     ]
 
--- ---- columns of a grid
-
-pub of_columns : (g : Grid) (count : ℕ) → IsGrid g → ((column : ℕ) → column < count → IsPlace (centre_in g column 0))
-    → IsLattice (record { first = g.x; step = g.step; count = count })
-of_columns g count grid places = record {
-  step = grid.step;
-  places = λ column within. let near = (places column within).x in omega (arith, near);
-}
-
--- those that a box reaches
+-- the columns and the rows that a box reaches
 pub reached : (low high : Spot) (g : Grid) (count : ℕ) (columns rows : Span) → columns.end ≤ count → rows.end ≤ g.rows
     → ((column : ℕ) → column < count → ((columns.first ≤ column) × (column < columns.end))
     ↔ ((low.x ≤ℤ (centre_in g column 0).x) × ((centre_in g column 0).x ≤ℤ high.x)))

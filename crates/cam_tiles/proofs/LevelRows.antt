@@ -30,7 +30,7 @@ module _ (l : Levels) (levels : AreLevels l) where
   pub top_short : unsigned_abs l.top < 4000000000
   top_short =
       let IsShort : ℤ → Type 0 = λ y. unsigned_abs y < 4000000000 in
-      subst IsShort (no_step_down l.top l.step) (levels.heights 0 levels.rows.0)
+      subst IsShort (no_step_down l.top l.step) (levels.heights 0 levels.some)
 
   module _ (row : ℕ) (within : row < l.rows) where
     pub below_top : height l row ≤ℤ l.top
@@ -48,7 +48,7 @@ module _ (l : Levels) (levels : AreLevels l) where
 pub of_grid : (g : Grid) → IsGrid g → AreLevels (levels_of g)
 of_grid g grid = record {
   step = grid.step;
-  rows = (grid.rows.0, omega (arith, grid.rows));
+  some = grid.rows.0;
   heights = λ row within. let near = (grid.centres 0 row grid.columns.0 within).y in omega (arith, near);
 }
 
@@ -68,7 +68,7 @@ module _ (g : Grid) (at : Point) (top step : ℤ) (is_top : top ≡ g.y -ℤ pos
   are_seen grid board =
       rw (is_top, is_step) (record {
         step = grid.step;
-        rows = (grid.rows.0, omega (arith, grid.rows));
+        some = grid.rows.0;
         heights = λ row within.
             way_near g.y at.y (pos row *ℤ g.step) (grid.centres 0 row grid.columns.0 within).y board.y;
       })

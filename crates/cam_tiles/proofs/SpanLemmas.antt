@@ -104,7 +104,7 @@ module _ (w : Window) (limits : IsAccepted w) (step : ℤ) (is_step : step ≡ p
     pub are_rows : AreLevels rows_now
     are_rows = record {
       step = steps;
-      rows = limits.height;
+      some = limits.height.0;
       heights = λ n within. rw (row_is n within) (omega (arith, (limits.centres 0 n limits.width.0 within).y));
     }
 

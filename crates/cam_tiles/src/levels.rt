@@ -1,4 +1,4 @@
-//! The heights of the rows of a tile.
+//! The heights of rows of pixel centres, in a tile or in a window.
 
 ghost use Rattle.std.specs.Prelude.{◌≡◌, ◌↔◌, ℕ, ◌-◌, ◌<◌, ◌≤◌, pos, ◌-ℤ◌};
 ghost use Rattle.cam_units.specs.declared.point.Spot.{Spot};
@@ -11,7 +11,7 @@ use crate::masks::heights::Heights;
 use crate::span::Span;
 
 /// Rows of centres, one below another: the height of the top one and how far they are apart, in half nm, and how many
-/// they are, from 1 to 64.
+/// they are.
 #[derive(Clone, Copy)]
 pub(crate) struct Levels {
     pub(crate) top: i64,
@@ -35,7 +35,8 @@ impl Grid {
     }
 }
 
-/// A height mirrored, so that rows, which go down, are places in order. Other than by `-height` each height has one.
+/// A height mirrored, so that rows, which go down, are places in order. It is mirrored at minus one half, since the least
+/// number of 64 bits has none at 0.
 #[inline]
 fn mirrored(height: i64) -> i64
     ensures { result ≡ pos 0 -ℤ pos 1 -ℤ height }

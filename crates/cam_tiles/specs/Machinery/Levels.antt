@@ -1,10 +1,9 @@
 -- Rows of centres by their heights, one below another.
-use Rattle.std.specs.Prelude.{◌≡◌, ℕ, ◌<◌, ◌≤◌, ℤ, pos, ◌-ℤ◌, ◌*ℤ◌, ◌≤ℤ◌}
+use Rattle.std.specs.Prelude.{◌≡◌, ℕ, ◌<◌, ℤ, pos, ◌-ℤ◌, ◌*ℤ◌, ◌≤ℤ◌}
 use Rattle.std.specs.Int.RustNames.{unsigned_abs}
 use Rattle.cam_units.specs.declared.point.Spot.{Spot}
 use Rattle.cam_tiles.specs.declared.grid.Grid.{Grid}
 use Rattle.cam_tiles.specs.declared.levels.Levels.{Levels}
-use Rattle.cam_tiles.specs.Picture.{longest_side}
 
 -- the height of a row, which is counted from the top
 abbrev pub height : Levels → ℕ → ℤ
@@ -14,10 +13,10 @@ height l row = l.top -ℤ pos row *ℤ l.step
 abbrev pub levels_of : Grid → Levels
 levels_of g = record { top = g.y; step = g.step; rows = g.rows }
 
--- rows of a window, each below the one before it, which may be seen from a point of the board
+-- rows of which each lies below the one before it, and which may be seen from a point of the board
 pub record AreLevels (l : Levels) : Type 0 where
   pub step : pos 1 ≤ℤ l.step
-  pub rows : (1 ≤ l.rows) × (l.rows ≤ longest_side)
+  pub some : 0 < l.rows
   pub heights : (row : ℕ) → row < l.rows → unsigned_abs (height l row) < 4000000000
 
 -- a place in one of the rows
