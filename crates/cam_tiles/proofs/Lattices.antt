@@ -5,13 +5,12 @@ use Rattle.std.proofs.Math.Nat.{le-div_iff_mul-le}
 use Rattle.std.proofs.lemmas.Bool.{cases_lt}
 use Rattle.std.proofs.lemmas.Int.{by_lt_z, clamps, ints}
 use Rattle.std.proofs.lemmas.Nat.{mul-le}
-use Rattle.cam_units.specs.Board.{IsPlace}
 use Rattle.cam_units.specs.declared.point.Spot.{Spot}
 use Rattle.cam_tiles.specs.declared.grid.Grid.{Grid}
 use Rattle.cam_tiles.specs.declared.lattice.Lattice.{Lattice}
 use Rattle.cam_tiles.specs.declared.span.Span.{Span}
-use Rattle.cam_tiles.specs.Machinery.Lattices.{AreReachedBy, IsLattice, place_at}
-use Rattle.cam_tiles.specs.Tiles.{IsGrid, centre_in}
+use Rattle.cam_tiles.specs.Machinery.Lattices.{AreReachedBy, place_at}
+use Rattle.cam_tiles.specs.Tiles.{centre_in}
 
 -- so many steps lead on, and no fewer do further
 pub some_steps : (step : ℤ) (n : ℕ) → pos 1 ≤ℤ step → pos 0 ≤ℤ (pos n *ℤ step)

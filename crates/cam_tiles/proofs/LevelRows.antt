@@ -1,12 +1,8 @@
 -- Rows of centres by their heights, as code of 64 bits computes them, and those that lie between two heights.
-use Rattle.std.proofs.Common.{◌≡◌, ◌↔◌, ℕ, ◌-◌, ◌<◌, ◌≤◌, ℤ, pos, ◌+ℤ◌, ◌-ℤ◌, ◌*ℤ◌, ◌≤ℤ◌, ◌<ℤ◌}
-use Rattle.std.proofs.Common.{subst, sym, ap, ◌∙◌, inl, inr, FitsSigned, w64, arith}
-use Rattle.std.specs.Int.{div_ceil, int_max, int_min}
+use Rattle.std.proofs.Common.{◌≡◌, ◌↔◌, ℕ, ◌-◌, ◌<◌, ℤ, pos, ◌+ℤ◌, ◌-ℤ◌, ◌*ℤ◌, ◌≤ℤ◌}
+use Rattle.std.proofs.Common.{subst, arith}
 use Rattle.std.specs.Int.RustNames.{unsigned_abs}
-use Rattle.std.proofs.lemmas.Bool.{cases_lt}
-use Rattle.std.proofs.lemmas.Int.{by_lt_z, clamps, ints, to_z-of_z}
-use Rattle.std.proofs.lemmas.Nat.{mul-le}
-use Rattle.cam_rows.proofs.Steps.{left_by_division}
+use Rattle.std.proofs.lemmas.Int.{ints}
 use Rattle.cam_refusals.specs.Limits.{board_limit}
 use Rattle.cam_units.specs.Board.{IsOnBoard, place_limit}
 use Rattle.cam_units.specs.declared.point.Point.{Point}
@@ -20,7 +16,6 @@ use Rattle.cam_tiles.specs.Machinery.Lattices.{IsLattice, place_at}
 use Rattle.cam_tiles.specs.Machinery.Levels.{AreLevels, IsOnRow, height, levels_of}
 use Rattle.cam_tiles.specs.Machinery.Masks.{IsWithin}
 use Rattle.cam_tiles.specs.Tiles.{IsGrid, centre_in}
-use Rattle.cam_tiles.proofs.GridLemmas.{long}
 use Rattle.cam_tiles.proofs.Lattices.{further, some_steps}
 use Rattle.cam_tiles.proofs.StepLemmas.{no_step_down}
 

@@ -261,5 +261,7 @@ fn reached_tiles(grid: &Grid, columns: u32, bounds: Bounds, at: Point) -> Span
     if rows.end <= rows.first {
         return Span::NONE;
     }
-    grid.columns_from(columns, at).between(low.x, high.x).tiles()
+    grid.columns_from(columns, at)
+        .between(low.x, high.x)
+        .tiles()
 }

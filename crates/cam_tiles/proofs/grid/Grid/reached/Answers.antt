@@ -1,4 +1,4 @@
-use Rattle.std.proofs.Common.{FitsSigned, w64, refl, rules, ap}
+use Rattle.std.proofs.Common.{FitsSigned, w64, refl, rules}
 use Rattle.std.proofs.lemmas.Int.{to_z-of_z}
 use Rattle.cam_tiles.specs.Tiles.{centre_in}
 use Rattle.cam_tiles.proofs.Lattices.{reached}

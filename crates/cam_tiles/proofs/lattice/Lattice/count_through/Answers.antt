@@ -1,4 +1,4 @@
-use Rattle.std.proofs.Common.{◌≡◌, ◌+◌, ◌<◌, ◌-◌, ◌/◌, pos, FitsSigned, w64, of_z, to_z, arith, rules}
+use Rattle.std.proofs.Common.{◌+◌, ◌<◌, ◌-◌, ◌/◌, FitsSigned, w64, of_z, to_z, arith, rules}
 use Rattle.std.proofs.Math.IntN.{nat_abs}
 use Rattle.std.proofs.lemmas.Int.{ints}
 use Rattle.cam_tiles.proofs.Lattices.{counted, few_counted, further}

@@ -1,4 +1,4 @@
-use Rattle.std.proofs.Common.{◌≡◌, FitsSigned, w64, to_z, of_z, pos, ◌-ℤ◌, rules, arith}
+use Rattle.std.proofs.Common.{FitsSigned, w64, rules, arith}
 use Rattle.std.proofs.lemmas.Int.{ints, to_z-of_z}
 use Rattle.cam_apertures.proofs.Painting.{through}
 use Rattle.cam_tiles.proofs.LevelRows.{are_places, between_heights}

@@ -1,4 +1,4 @@
-use Rattle.std.proofs.Common.{◌≡◌, FitsSigned, w64, pos, ◌*ℤ◌, ap, ◌∙◌, rules}
+use Rattle.std.proofs.Common.{FitsSigned, w64, ap, ◌∙◌, rules}
 use Rattle.std.proofs.lemmas.Int.{to_z-of_z}
 use Rattle.cam_units.specs.declared.point.Spot.{Spot}
 use Rattle.cam_tiles.specs.Picture.{middle}

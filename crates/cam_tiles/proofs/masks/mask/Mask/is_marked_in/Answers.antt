@@ -1,4 +1,4 @@
-use Rattle.std.proofs.Common.{◌<◌, ◌≤◌, ◌≡◌, ℕ, inl, inr, refl, slice_index, subst, sym, arith}
+use Rattle.std.proofs.Common.{◌≡◌, ℕ, inl, inr, refl, slice_index, subst, sym, arith}
 use Rattle.std.specs.Int.{IsBitSet}
 use Rattle.std.proofs.lemmas.Bool.{cases_lt, false≢true}
 use Rattle.cam_rows.proofs.SetBits.{set_in_and}
@@ -35,8 +35,11 @@ returns-then-self-row c =
     λ all. c.if-self-row.true (row_marked m low high c.reached.result.0 c.reached.result.1 c.run_row-run.result
     c.self.invariant.mask.grid.columns.1 c.run_row-run.type_inv c.reached.ensures c.run_row-run.ensures all c.loop-row.row
     c.loop-row.auto.row c.loop-row-test.true) in
-    rw c.in-Closed.is ((λ told. absurd (false≢true told)), (λ all.
-    absurd (missed (subst (AllMarked low high) (sym c.self.view_is) all))))
+    rw c.in-Closed.is (
+      (λ told. absurd (false≢true told)),
+      (λ all.
+          absurd (missed (subst (AllMarked low high) (sym c.self.view_is) all))),
+    )
 
 pub returns : goal.returns
 returns c =
