@@ -1,7 +1,6 @@
 -- Rows of columns whose centres are places of the board, or as they are seen from a point of it.
-use Rattle.std.proofs.Common.{◌≡◌, ℕ, ◌+◌, ◌≤◌, ℤ, pos, ◌+ℤ◌, ◌*ℤ◌, ◌≤ℤ◌}
+use Rattle.std.proofs.Common.{◌≡◌, ℕ, ◌+◌, ◌≤◌, ℤ, pos, ◌+ℤ◌, ◌≤ℤ◌}
 use Rattle.std.proofs.Common.{arith}
-use Rattle.std.specs.Int.RustNames.{unsigned_abs}
 use Rattle.std.proofs.lemmas.Int.{ints}
 use Rattle.cam_units.specs.Board.{IsInReach, IsPlace}
 use Rattle.cam_units.specs.declared.point.Spot.{Spot}
@@ -11,7 +10,7 @@ use Rattle.cam_tiles.specs.Machinery.Levels.{height, levels_of}
 use Rattle.cam_tiles.specs.Machinery.Runs.{IsWideGrid}
 use Rattle.cam_tiles.specs.Machinery.Turning.{IsField}
 use Rattle.cam_tiles.specs.Tiles.{centre_in}
-use Rattle.cam_tiles.proofs.LevelRows.{down_some, in_reach, of_grid}
+use Rattle.cam_tiles.proofs.LevelRows.{of_grid}
 use Rattle.cam_tiles.proofs.RunColumns.{below_top}
 
 near_reach : (s : Spot) → IsPlace s → IsInReach s
@@ -24,7 +23,7 @@ field_of_wide g columns wide = record {
   count = wide.count;
   step = wide.grid.step;
   centres = λ column row near within. near_reach (centre_in g column row) (wide.centres column row near within);
-  levels = in_reach (levels_of g) (of_grid g wide.grid);
+  levels = of_grid g wide.grid;
 }
 
 -- ---- rows one below another
@@ -40,9 +39,6 @@ field_rows g columns first x y step n m is_x is_y is_step field within size k fe
           (field.centres i (first + k) inside (omega (arith, within, size, few)));
     })
 
--- how far a column lies right of the first
-pub columns_far : (g : Grid) (column : ℕ) → pos 1 ≤ℤ g.step → pos 0 ≤ℤ (pos column *ℤ g.step)
-columns_far g column step = down_some g.step (unsigned_abs g.step) column (omega (arith, ints, step))
-
+-- a column lies right of the first
 pub up_right : (first far end : ℤ) → pos 0 ≤ℤ far → end ≤ℤ first → end ≤ℤ (first +ℤ far)
 up_right first far end some h = omega (arith, ints)

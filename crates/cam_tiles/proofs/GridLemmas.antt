@@ -77,7 +77,7 @@ long z = to_z w64 (of_z w64 z)
 pub twice_fits : (pitch : ℤ) → pos 1 ≤ℤ pitch → pitch ≤ℤ pos coarsest_pitch → FitsSigned w64 (pos 2 *ℤ long pitch)
 twice_fits pitch some most = omega (arith, ints)
 
-twice_kept : (pitch : ℤ) → pos 1 ≤ℤ pitch → pitch ≤ℤ pos coarsest_pitch → long (pos 2 *ℤ long pitch) ≡ pos 2 *ℤ pitch
+pub twice_kept : (pitch : ℤ) → pos 1 ≤ℤ pitch → pitch ≤ℤ pos coarsest_pitch → long (pos 2 *ℤ long pitch) ≡ pos 2 *ℤ pitch
 twice_kept pitch some most = omega (arith, ints)
 
 -- the grid of a tile as the code computes it

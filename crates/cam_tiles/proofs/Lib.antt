@@ -16,6 +16,7 @@ pub mod JoinedWords
 pub mod LastFound
 pub mod Lattices
 pub mod LevelRows
+pub mod MarkedBoxes
 pub mod MaskWords
 pub mod OpenedWords
 pub mod PaintedLists

@@ -14,7 +14,7 @@ use Rattle.cam_tiles.specs.Machinery.Turning.{IsField}
 use Rattle.cam_tiles.specs.Machinery.Words.{part_seen}
 use Rattle.cam_tiles.specs.Tiles.{IsGrid, centre_in}
 use Rattle.cam_tiles.proofs.GridLemmas.{long}
-use Rattle.cam_tiles.proofs.LevelRows.{are_heights_seen}
+use Rattle.cam_tiles.proofs.LevelRows.{are_seen}
 use Rattle.cam_tiles.proofs.SeenRows.{in_reach, seen_fits, seen_kept}
 use Rattle.cam_tiles.proofs.StepLemmas.{first_x, first_y, fits_near, fits_short, long_near, right_is, way_kept, way_right}
 
@@ -137,5 +137,5 @@ module _ (g : Grid) (tile : ℕ) (at : Point) where
         subst IsInReach (sym (part_centre i row))
         (in_reach at (centre_in g (64 * tile + i) row) board
         (wide.centres (64 * tile + i) row (omega (arith, near, within)) below));
-    levels = are_heights_seen g at wide.grid board;
+    levels = are_seen g at _ _ refl refl wide.grid board;
   }

@@ -10,9 +10,11 @@ use Rattle.cam_objects.specs.Image.{relative}
 use Rattle.cam_rows.specs.declared.centres.Centres.{Centres}
 use Rattle.cam_rows.specs.Rows.{centre_at}
 use Rattle.cam_tiles.specs.declared.grid.Grid.{Grid}
+use Rattle.cam_tiles.specs.Machinery.Lattices.{IsLattice}
+use Rattle.cam_tiles.specs.Machinery.Runs.{IsWideGrid}
 use Rattle.cam_tiles.specs.Tiles.{IsGrid, centre_in}
 use Rattle.cam_tiles.proofs.GridLemmas.{long}
-use Rattle.cam_tiles.proofs.StepLemmas.{first_x, y_kept}
+use Rattle.cam_tiles.proofs.StepLemmas.{first_x, first_y, y_kept}
 use Rattle.cam_tiles.proofs.WindowLemmas.{IsNear}
 
 -- a height or a width, as it is seen from another
@@ -35,6 +37,33 @@ in_reach p s board place = record {
   y = omega (arith, ints, board.y, place.y);
 }
 
+-- ---- the first centre, and columns
+
+pub first_seen : (g : Grid) (at : Point) → IsGrid g → IsOnBoard at
+    → long (long g.x -ℤ long (pos 2 *ℤ long at.x)) ≡ g.x -ℤ pos 2 *ℤ at.x
+first_seen g at grid board =
+    seen_kept (long g.x) g.x at.x (omega (arith, ints, first_x g grid)) (first_x g grid) board.x
+
+pub top_seen : (g : Grid) (at : Point) → IsGrid g → IsOnBoard at
+    → long (long g.y -ℤ long (pos 2 *ℤ long at.y)) ≡ g.y -ℤ pos 2 *ℤ at.y
+top_seen g at grid board =
+    seen_kept (long g.y) g.y at.y (omega (arith, ints, first_y g grid)) (first_y g grid) board.y
+
+module _ (g : Grid) (at : Point) (first step : ℤ) (is_first : first ≡ g.x -ℤ pos 2 *ℤ at.x) (is_step : step ≡ g.step) where
+  pub column_seen : (n : ℕ) → first +ℤ pos n *ℤ step ≡ (relative at (centre_in g n 0)).x
+  column_seen n = rw (is_first, is_step) (step_seen g.x at.x g.step n)
+
+  pub are_columns_seen : (columns : ℕ) → IsWideGrid g columns → IsOnBoard at
+      → IsLattice (record { first = first; step = step; count = columns })
+  are_columns_seen columns wide board = record {
+    step = rw is_step wide.grid.step;
+    places = λ n within.
+        let near = (in_reach at (centre_in g n 0) board (wide.centres n 0 within wide.grid.rows.0)).x in
+        rw (column_seen n) (omega (arith, near));
+  }
+
+-- ---- rows
+
 module _ (g : Grid) (row : ℕ) (at : Point) (n : ℤ) (grid : IsGrid g) (below : row < g.rows) (board : IsOnBoard at)
     (fits : FitsSigned w64 g.step) (is_row : n ≡ pos row) where
   abbrev y_now : ℤ
@@ -50,8 +79,7 @@ module _ (g : Grid) (row : ℕ) (at : Point) (n : ℤ) (grid : IsGrid g) (below 
   seen_y_fits = seen_fits y_now (centre_in g 0 row).y at.y y_is place.y board.y
 
   x_seen : long (long g.x -ℤ long (pos 2 *ℤ long at.x)) ≡ g.x -ℤ pos 2 *ℤ at.x
-  x_seen =
-      seen_kept (long g.x) g.x at.x (omega (arith, ints, first_x g grid)) (first_x g grid) board.x
+  x_seen = first_seen g at grid board
 
   y_seen : long (y_now -ℤ long (pos 2 *ℤ long at.y)) ≡ (centre_in g 0 row).y -ℤ pos 2 *ℤ at.y
   y_seen = seen_kept y_now (centre_in g 0 row).y at.y y_is place.y board.y

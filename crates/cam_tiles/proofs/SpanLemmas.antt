@@ -1,16 +1,21 @@
--- Spans of tiles: which tiles have a pixel in a range, and how a range of places is seen from the first centre.
-use Rattle.std.proofs.Common.{◌≡◌, ℕ, ◌+◌, ◌-◌, ◌*◌, ◌/◌, ◌<◌, ◌≤◌, min, ◌↔◌, ℤ, pos, negsuc, ◌+ℤ◌, ◌-ℤ◌, ◌*ℤ◌, ◌≤ℤ◌}
-use Rattle.std.proofs.Common.{Bool, true, ◌&&◌, nat_le, nat_lt, Decides, inl, inr, sym, ap, ◌∙◌, arith}
-use Rattle.std.specs.Int.{div_ceil}
+-- Spans of tiles: which tiles have a pixel that passes a test.
+use Rattle.std.proofs.Common.{◌≡◌, ℕ, ◌+◌, ◌-◌, ◌*◌, ◌<◌, ◌≤◌, min, ◌↔◌, ℤ, pos, ◌-ℤ◌, ◌*ℤ◌, ◌≤ℤ◌}
+use Rattle.std.proofs.Common.{Bool, true, Decides, sym, ap, ◌∙◌, arith}
 use Rattle.std.specs.List.{list_any, range_with_len}
-use Rattle.std.proofs.lemmas.Bool.{cases_lt, and_parts, and_from, leb-true, ltb-true, le-leb, lt-ltb}
+use Rattle.std.proofs.lemmas.Bool.{leb-true, ltb-true, le-leb, lt-ltb}
 use Rattle.std.proofs.lemmas.Bool.Decides.{same_from_decides, Decides-and, Decides-like}
 use Rattle.std.proofs.lemmas.Int.{ints}
-use Rattle.std.proofs.Math.Nat.{le-div_iff_mul-le}
 use Rattle.std.proofs.lemmas.List.Folds.{Any-from_list_any, list_any_at}
 use Rattle.std.proofs.lemmas.List.FromFn.{get_or-range_with_len, length-range_with_len}
-use Rattle.cam_tiles.specs.Picture.{middle}
-use Rattle.cam_tiles.specs.Machinery.Spans.{has_pixel, is_between}
+use Rattle.cam_tiles.specs.declared.lattice.Lattice.{Lattice}
+use Rattle.cam_tiles.specs.declared.levels.Levels.{Levels}
+use Rattle.cam_tiles.specs.declared.span.Span.{Span}
+use Rattle.cam_tiles.specs.declared.window.Window.{Window}
+use Rattle.cam_tiles.specs.Machinery.Lattices.{IsLattice, place_at}
+use Rattle.cam_tiles.specs.Machinery.Levels.{AreLevels, IsOnRow, height}
+use Rattle.cam_tiles.specs.Machinery.Spans.{HasPixelOf, has_pixel, is_between, is_in_span}
+use Rattle.cam_tiles.specs.Picture.{IsAccepted, centre_of, middle}
+use Rattle.cam_tiles.proofs.GridLemmas.{back, further}
 use Rattle.cam_tiles.proofs.WindowLemmas.{le_of, from_le}
 
 -- a number of a range that passes
@@ -40,136 +45,68 @@ has_pixel-decides : (p : ℕ → Bool) (pixels tile : ℕ) → Decides (has_pixe
 unfolding has_pixel
 has_pixel-decides p pixels tile = any_in_range p (64 * tile) (min 64 (pixels - 64 * tile))
 
--- tests that agree at each pixel
-pub has_pixel-same : (p q : ℕ → Bool) (pixels tile : ℕ) → ((n : ℕ) → n < pixels → p n ≡ q n)
-    → has_pixel p pixels tile ≡ has_pixel q pixels tile
-has_pixel-same p q pixels tile agree =
-    same_from_decides _ _ (has_pixel-decides p pixels tile)
-    (Decides-like _
-    (λ h. (h.0, (h.1.0, (h.1.1.0, agree h.0 (omega (arith, h.1.1.0)) ∙ h.1.1.1))))
-    (λ h. (h.0, (h.1.0, (h.1.1.0, sym (agree h.0 (omega (arith, h.1.1.0))) ∙ h.1.1.1))))
-    (has_pixel-decides q pixels tile))
-
--- the pixels from first on, and before end, pass
-abbrev pub PassBetween : (ℕ → Bool) → ℕ → ℕ → ℕ → Type 0
-PassBetween p first end pixels = (n : ℕ) → n < pixels → Decides (p n) ((first ≤ n) × (n < end))
-
-first_of_tile : (p : ℕ → Bool) (first end pixels tile : ℕ) → first < end → end ≤ pixels
-    → PassBetween p first end pixels → first / 64 ≤ tile → 64 * tile < end → PassesOf p pixels tile
-first_of_tile p first end pixels tile some few pass low high = elim (cases_lt first (64 * tile)) [
-  | inl before ↦ (
-    64 * tile,
-    (omega arith, (omega arith, (pass (64 * tile) (omega arith)).1 (omega arith, omega arith))),
-  )
-  | inr after ↦ (first, (omega arith, (omega arith, (pass first (omega arith)).1 (omega arith, omega arith))))
-]
-
-pub tiles_between : (p : ℕ → Bool) (first end last pixels tile : ℕ) → last ≡ div_ceil end 64 → first < end
-    → end ≤ pixels → PassBetween p first end pixels
-    → (nat_le (first / 64) tile && nat_lt tile last) ≡ has_pixel p pixels tile
-tiles_between p first end last pixels tile is_last some few pass =
-    same_from_decides _ _ (
-      (λ e.
-          let both = and_parts _ _ e in
-          let high : tile < last = ltb-true _ _ both.1 in
-          first_of_tile p first end pixels tile some few pass (leb-true _ _ both.0) (omega (arith, is_last))),
-      (λ h.
-          let within = (pass h.0 (omega (arith, h.1.1.0))).0 h.1.1.1 in
-          and_from _ _ (le-leb (first / 64) tile (omega (arith, h.1.1.0, within.0)))
-          (lt-ltb tile last (omega (arith, h.1.0, within.1, is_last)))),
-    )
-    (has_pixel-decides p pixels tile)
-
-pub no_tile_between : (p : ℕ → Bool) (first end pixels tile : ℕ) → end ≤ first → PassBetween p first end pixels
-    → (nat_le 0 tile && nat_lt tile 0) ≡ has_pixel p pixels tile
-no_tile_between p first end pixels tile none pass =
-    same_from_decides _ _ (
-      (λ e. let high : tile < 0 = ltb-true _ _ (and_parts _ _ e).1 in absurd (omega arith)),
-      (λ h.
-          let within = (pass h.0 (omega (arith, h.1.1.0))).0 h.1.1.1 in
-          absurd (omega (arith, within.0, within.1))),
-    )
-    (has_pixel-decides p pixels tile)
-
 Decides-between : (low high n : ℤ) → Decides (is_between low high n) ((low ≤ℤ n) × (n ≤ℤ high))
 Decides-between low high n = Decides-and _ _ (le_of low n, from_le low n) (le_of n high, from_le n high)
 
--- a range by how many stand before it, and how many before its end
-pub between_counts : (low high n : ℤ) (A B : Type 0) → (low ≤ℤ n) ↔ A → (n ≤ℤ high) ↔ B
-    → Decides (is_between low high n) (A × B)
-between_counts low high n A B left right =
-    Decides-like _ (λ h. (left.0 h.0, right.0 h.1)) (λ h. (left.1 h.0, right.1 h.1)) (Decides-between low high n)
-
--- how many steps end at a place or before it, by division
-pub steps_up_to : (n step divisor place : ℕ) (high : ℤ) → 0 < step → divisor ≡ step → high ≡ pos place
-    → (pos (n * step) ≤ℤ high) ↔ (n < place / divisor + 1)
-steps_up_to n step divisor place high some same is_place =
-    let by_division = le-div_iff_mul-le {k = step} {x = n} {y = place} some in
-    let quotient : place / divisor ≡ place / step = ap (λ d. place / d) same in (
-      (λ h. omega (arith, quotient, by_division.1 (omega (arith, ints, is_place)))),
-      (λ h. let within = by_division.0 (omega (arith, quotient)) in omega (arith, ints, is_place, within)),
-    )
-
--- the middles from the first one on, by steps
-middle_after : (edge : ℤ) (p n : ℕ) → middle edge (pos p) n ≡ middle edge (pos p) 0 +ℤ pos (n * (2 * p))
-middle_after edge p n = omega (arith, ints)
-
--- and from the last one back
-middle_before : (edge : ℤ) (p m n : ℕ) → middle edge (pos p) m ≡ middle edge (pos p) (m + n) -ℤ pos (n * (2 * p))
-middle_before edge p m n = omega (arith, ints)
-
--- a range seen from the first centre, to the right
-pub seen_right : (low high from to first : ℤ) (n : ℕ) → from ≡ low -ℤ first → to ≡ high -ℤ first
-    → is_between from to (pos n) ≡ is_between low high (first +ℤ pos n)
-seen_right low high from to first n is_from is_to =
+-- the tiles of those pixels whose places lie between two others
+pub tiles_between : (place : ℕ → ℤ) (low high : ℤ) (span tiles : Span) (pixels tile : ℕ) → span.end ≤ pixels
+    → ((n : ℕ) → n < pixels → ((span.first ≤ n) × (n < span.end)) ↔ ((low ≤ℤ place n) × (place n ≤ℤ high)))
+    → ((tiles.first ≤ tile) × (tile < tiles.end)) ↔ HasPixelOf span tile
+    → is_in_span tiles tile ≡ has_pixel (λ n. is_between low high (place n)) pixels tile
+tiles_between place low high span tiles pixels tile few between are =
     same_from_decides _ _
-    (Decides-like _ (λ h. (omega (arith, ints, is_from, h.0), omega (arith, ints, is_to, h.1)))
-    (λ h. (omega (arith, ints, is_from, h.0), omega (arith, ints, is_to, h.1))) (Decides-between from to (pos n)))
-    (Decides-between low high (first +ℤ pos n))
+    (Decides-like _ (λ on.
+    let h = are.0 on in
+    let within : h.0 < pixels = omega (arith, few, h.1.1.0) in
+    let passes = (Decides-between low high (place h.0)).1 ((between h.0 within).0 (h.1.0, h.1.1.0)) in
+    (h.0, (omega (arith, h.1.1.1), (omega (arith, within, h.1.1.1), passes))))
+    (λ h.
+    let passes = (Decides-between low high (place h.0)).0 h.1.1.1 in
+    let on = (between h.0 (omega (arith, h.1.1.0))).1 passes in
+    are.1 (h.0, (on.0, (on.1, omega (arith, h.1.0, h.1.1.0)))))
+    (Decides-and _ _ (leb-true _ _, le-leb _ _) (ltb-true _ _, lt-ltb _ _)))
+    (has_pixel-decides _ pixels tile)
 
--- and downwards
-pub seen_down : (low high from to first : ℤ) (n : ℕ) → from ≡ first -ℤ high → to ≡ first -ℤ low
-    → is_between from to (pos n) ≡ is_between low high (first -ℤ pos n)
-seen_down low high from to first n is_from is_to =
-    same_from_decides _ _
-    (Decides-like _ (λ h. (omega (arith, ints, is_to, h.1), omega (arith, ints, is_from, h.0)))
-    (λ h. (omega (arith, ints, is_from, h.1), omega (arith, ints, is_to, h.0))) (Decides-between from to (pos n)))
-    (Decides-between low high (first -ℤ pos n))
+-- ---- pixels of a window
 
--- the middles of pixels by the distance of neighbours
-pub middle_right : (edge pitch : ℤ) (step n : ℕ) → pos step ≡ pos 2 *ℤ pitch
-    → middle edge pitch n ≡ middle edge pitch 0 +ℤ pos (n * step)
-middle_right edge (pos p) step n same =
-    let twice : 2 * p ≡ step = omega (arith, ints, same) in
-    middle_after edge p n ∙ ap (λ d. middle edge (pos p) 0 +ℤ pos (n * d)) twice
-middle_right edge (negsuc p) step n same = absurd (omega (arith, ints, same))
+module _ (w : Window) (limits : IsAccepted w) (step : ℤ) (is_step : step ≡ pos 2 *ℤ w.pitch) where
+  steps : pos 1 ≤ℤ step
+  steps = rw is_step (omega (arith, ints, limits.pitch))
 
-pub middle_down : (edge pitch : ℤ) (step count n : ℕ) → pos step ≡ pos 2 *ℤ pitch → n < count
-    → middle edge pitch (count - 1 - n) ≡ middle edge pitch (count - 1 - 0) -ℤ pos (n * step)
-middle_down edge (pos p) step count n same within =
-    let twice : 2 * p ≡ step = omega (arith, ints, same) in
-    let whole : count - 1 - n + n ≡ count - 1 - 0 = omega arith in
-    middle_before edge p (count - 1 - n) n
-    ∙ ap (λ m. middle edge (pos p) m -ℤ pos (n * (2 * p))) whole
-    ∙ ap (λ d. middle edge (pos p) (count - 1 - 0) -ℤ pos (n * d)) twice
-middle_down edge (negsuc p) step count n same within = absurd (omega (arith, ints, same))
+  module _ (first : ℤ) (is_first : first ≡ (centre_of w 0 0).x) where
+    abbrev pub columns_now : Lattice
+    columns_now = record { first = first; step = step; count = w.width }
 
--- the tiles of a range in their window
-pub columns_by_steps : (edge pitch low high from to first : ℤ) (step pixels tile : ℕ) → pos step ≡ pos 2 *ℤ pitch
-    → first ≡ middle edge pitch 0 → from ≡ low -ℤ first → to ≡ high -ℤ first
-    → has_pixel (λ n. is_between from to (pos (n * step))) pixels tile
-    ≡ has_pixel (λ n. is_between low high (middle edge pitch n)) pixels tile
-columns_by_steps edge pitch low high from to first step pixels tile same is_first is_from is_to =
-    has_pixel-same _ _ pixels tile (λ n within.
-    seen_right low high from to first (n * step) is_from is_to
-    ∙ ap (is_between low high) (ap (λ z. z +ℤ pos (n * step)) is_first ∙ sym (middle_right edge pitch step n same)))
+    column_is : (n : ℕ) → place_at columns_now n ≡ middle w.x w.pitch n
+    column_is n = rw (is_first, is_step) (further w.x w.pitch 0 n ∙ ap (middle w.x w.pitch) (omega arith))
 
-pub rows_by_steps : (edge pitch low high from to first : ℤ) (step pixels tile : ℕ) → pos step ≡ pos 2 *ℤ pitch
-    → first ≡ middle edge pitch (pixels - 1 - 0) → from ≡ first -ℤ high → to ≡ first -ℤ low
-    → has_pixel (λ n. is_between from to (pos (n * step))) pixels tile
-    ≡ has_pixel (λ n. is_between low high (middle edge pitch (pixels - 1 - n))) pixels tile
-rows_by_steps edge pitch low high from to first step pixels tile same is_first is_from is_to =
-    has_pixel-same _ _ pixels tile (λ n within.
-    seen_down low high from to first (n * step) is_from is_to
-    ∙ ap (is_between low high)
-    (ap (λ z. z -ℤ pos (n * step)) is_first ∙ sym (middle_down edge pitch step pixels n same within)))
+    pub are_columns : IsLattice columns_now
+    are_columns = record {
+      step = steps;
+      places = λ n within. rw (column_is n) (omega (arith, (limits.centres n 0 within limits.height.0).x));
+    }
+
+    pub column_between : (A : Type 0) (low high from to : ℤ) (n : ℕ) → from ≡ low → to ≡ high
+        → A ↔ ((from ≤ℤ place_at columns_now n) × (place_at columns_now n ≤ℤ to))
+        → A ↔ ((low ≤ℤ middle w.x w.pitch n) × (middle w.x w.pitch n ≤ℤ high))
+    column_between A low high from to n is_low is_high h =
+        rw (← is_low, ← is_high, ← column_is n) h
+
+  module _ (top : ℤ) (is_top : top ≡ (centre_of w 0 0).y) where
+    abbrev pub rows_now : Levels
+    rows_now = record { top = top; step = step; rows = w.height }
+
+    row_is : (n : ℕ) → n < w.height → height rows_now n ≡ middle w.y w.pitch (w.height - 1 - n)
+    row_is n within =
+        rw (is_top, is_step)
+        (ap (λ k. middle w.y w.pitch k -ℤ pos n *ℤ (pos 2 *ℤ w.pitch)) (omega arith) ∙ back w.y w.pitch (w.height - 1 - n) n)
+
+    pub are_rows : AreLevels rows_now
+    are_rows = record {
+      step = steps;
+      some = limits.height.0;
+      heights = λ n within. rw (row_is n within) (omega (arith, (limits.centres 0 n limits.width.0 within).y));
+    }
+
+    pub on_row : (n : ℕ) → n < w.height → IsOnRow rows_now n (centre_of w 0 n)
+    on_row n within = (within, sym (row_is n within))

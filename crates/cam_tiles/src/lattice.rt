@@ -1,9 +1,14 @@
-//! Places at equal distances in a line.
+//! Places at equal distances in a line, as the columns of a grid, and those that lie between two bounds.
 
-ghost use Rattle.std.specs.Prelude.{◌↔◌, ◌<◌, ◌≤◌, ℕ, pos, ◌*ℤ◌, ◌≤ℤ◌};
-ghost use Rattle.cam_tiles.specs.Machinery.Lattices.{place_at};
+ghost use Rattle.std.specs.Prelude.{◌≡◌, ◌↔◌, ◌-◌, ◌<◌, ◌≤◌, ℕ, ◌≤ℤ◌};
+ghost use Rattle.cam_units.specs.Board.{IsPlace};
+ghost use Rattle.cam_tiles.specs.Machinery.Lattices.{AreReachedBy, IsLattice, place_at};
+ghost use Rattle.cam_tiles.specs.Tiles.{IsGrid, centre_in};
 
+use crate::grid::Grid;
+use crate::masks::heights::Heights;
 use crate::span::Span;
+use cam_units::Spot;
 
 /// So many places in a line: the first of them, and how far each is from the one before it, in half nm.
 #[derive(Clone, Copy)]
@@ -13,37 +18,70 @@ pub(crate) struct Lattice {
     pub(crate) count: u32,
 }
 
-impl Lattice {
-    /// How many of them lie so far from the first one at most.
-    fn within(&self, distance: u64) -> u32
-        requires { pos 1 ≤ℤ self.now.step }
-        ensures each { (n : ℕ) → n < self.now.count → (n < result) ↔ ((pos n *ℤ self.now.step) ≤ℤ pos distance) }
-        ensures few { result ≤ self.now.count }
+impl Grid {
+    /// The columns and the rows of the centres that a box holds, where the rows go on to the right in so many columns.
+    #[inline]
+    pub(crate) fn reached(&self, columns: u32, low: Spot, high: Spot) -> (Span, Span)
+        requires grid { IsGrid self.now }
+        requires centres { (column : ℕ) → column < columns → IsPlace (centre_in self.now column 0) }
+        ensures { AreReachedBy low high self.now columns result.0 result.1 }
     {
-        let steps = distance / self.step as u64;
-        if steps >= u64::from(self.count) {
-            return self.count;
-        }
-        steps as u32 + 1
+        let across = Lattice {
+            first: self.x,
+            step: self.step,
+            count: columns,
+        };
+        let heights = Heights {
+            low: low.y,
+            high: high.y,
+        };
+        (across.between(low.x, high.x), self.levels().band(heights))
     }
+}
 
+impl Lattice {
     /// Those from one place to another, both included.
+    #[inline]
     pub(crate) fn between(&self, low: i64, high: i64) -> Span
-        requires { pos 1 ≤ℤ self.now.step }
+        requires { IsLattice self.now }
         ensures each { (n : ℕ) → n < self.now.count → ((result.first ≤ n) × (n < result.end))
             ↔ ((low ≤ℤ place_at self.now n) × (place_at self.now n ≤ℤ high)) }
         ensures few { result.end ≤ self.now.count }
     {
-        if high < self.first {
+        if self.count == 0 {
             return Span::NONE;
         }
-        let end = self.within(high.abs_diff(self.first));
-        if low <= self.first {
-            return Span { first: 0, end };
-        }
+        // those before `low` are those up to the half nanometre before it
         Span {
-            first: self.within(low.abs_diff(self.first) - 1),
-            end,
+            first: self.count_through(low.max(self.first) - 1),
+            end: self.count_through(high),
         }
+    }
+
+    /// How many of them lie up to a place: by a division, if it has some of them on both sides.
+    #[inline]
+    fn count_through(&self, place: i64) -> u32
+        requires lattice { IsLattice self.now }
+        requires some { 0 < self.now.count }
+        ensures each { (n : ℕ) → n < self.now.count → (n < result) ↔ (place_at self.now n ≤ℤ place) }
+        ensures few { result ≤ self.now.count }
+    {
+        if place < self.first {
+            return 0;
+        }
+        if self.last() <= place {
+            return self.count;
+        }
+        (place.abs_diff(self.first) / self.step as u64) as u32 + 1
+    }
+
+    /// The last of them.
+    #[inline]
+    fn last(&self) -> i64
+        requires lattice { IsLattice self.now }
+        requires some { 0 < self.now.count }
+        ensures { result ≡ place_at self.now (self.now.count - 1) }
+    {
+        self.first + i64::from(self.count - 1) * self.step
     }
 }

@@ -1,7 +1,8 @@
 //! Numbers side by side: of rows, of columns, of tiles.
 
-ghost use Rattle.std.specs.Prelude.{◌↔◌, ◌⊎◌, ◌<◌, ◌≤◌, ℕ, IfSome};
+ghost use Rattle.std.specs.Prelude.{◌↔◌, ◌⊎◌, ◌+◌, ◌/◌, ◌<◌, ◌≤◌, ℕ, IfSome};
 ghost use Rattle.std.specs.Int.{IsBitSet};
+ghost use Rattle.cam_tiles.specs.Machinery.Spans.{HasPixelOf};
 
 /// Those from `first` on, and before `end`; none where `end` is not past `first`.
 #[derive(Clone, Copy)]
@@ -21,6 +22,22 @@ impl Span {
         ensures { (k : ℕ) → k < 64 → IsBitSet result k ↔ ((self.first ≤ k) × (k < self.end)) }
     {
         (u64::MAX >> (64 - self.end)) & (u64::MAX << self.first)
+    }
+
+    /// The tiles that have pixels of it, where its numbers are pixels.
+    #[inline]
+    pub(crate) fn tiles(self) -> Span
+        ensures each { (tile : ℕ) → ((result.first ≤ tile) × (tile < result.end)) ↔ HasPixelOf self tile }
+        ensures ordered { result.first ≤ result.end }
+        ensures few { result.end ≤ (self.end + 63) / 64 }
+    {
+        if self.end <= self.first {
+            return Span::NONE;
+        }
+        Span {
+            first: self.first / 64,
+            end: self.end.div_ceil(64),
+        }
     }
 
     /// Those of it and of another, where they are side by side.

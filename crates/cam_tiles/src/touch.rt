@@ -1,91 +1,21 @@
 //! Which tiles a box touches, by division, and their wiping.
 
-ghost use Rattle.std.specs.Prelude.{◌≡◌, ℕ, ◌+◌, ◌-◌, ◌*◌, ◌/◌, ◌%◌, ◌^◌, ◌<◌, ◌≤◌, ◌↔◌, pos, ◌*ℤ◌, ◌≤ℤ◌};
+ghost use Rattle.std.specs.Prelude.{◌≡◌, ℕ, ◌+◌, ◌-◌, ◌*◌, ◌/◌, ◌%◌, ◌^◌, ◌<◌, ◌≤◌};
 ghost use Rattle.std.specs.Prelude.{◌&&◌, nat_le, nat_lt, if◌then◌else◌, false, true};
 ghost use Rattle.std.specs.Prelude.{None, count_by, is_none, length, slice_index_or};
 ghost use Rattle.cam_tiles.specs.Picture.{accepts, middle};
 ghost use Rattle.cam_tiles.specs.Machinery.Spans.{has_pixel, is_between, is_in_span};
 ghost use Rattle.cam_tiles.specs.Tiles.{across, down};
 
+use crate::lattice::Lattice;
+use crate::levels::Levels;
+use crate::masks::heights::Heights;
 use crate::painter::Tile;
 use crate::span::Span;
 use crate::window::Window;
 use cam_units::Spot;
 
-/// Pixel centres in a line, the first at 0 and then one at each `step`, and the ends of a closed range of that line;
-/// all in half nm.
-#[derive(Clone, Copy)]
-struct Line {
-    low: i128,
-    high: i128,
-    step: u32,
-    pixels: u32,
-}
-
-impl Line {
-    /// How many of its pixels have their centres before the range.
-    fn count_before(&self) -> u32
-        requires { 0 < self.now.step }
-        ensures each { (n : ℕ) → n < self.now.pixels → (self.now.low ≤ℤ pos (n * self.now.step)) ↔ (result ≤ n) }
-        ensures few { result ≤ self.now.pixels }
-    {
-        if self.low <= 0 {
-            return 0;
-        }
-        let steps = (self.low as u128).div_ceil(u128::from(self.step));
-        if steps >= u128::from(self.pixels) {
-            return self.pixels;
-        }
-        steps as u32
-    }
-
-    /// How many of its pixels have their centres before the end of the range, or on it.
-    #[tactic(auto, using(crate::proofs::SpanLemmas::steps_up_to))]
-    fn count_through(&self) -> u32
-        requires { 0 < self.now.step }
-        ensures each { (n : ℕ) → n < self.now.pixels → (pos (n * self.now.step) ≤ℤ self.now.high) ↔ (n < result) }
-        ensures few { result ≤ self.now.pixels }
-    {
-        if self.high < 0 {
-            return 0;
-        }
-        let steps = self.high as u128 / u128::from(self.step);
-        if steps >= u128::from(self.pixels) {
-            return self.pixels;
-        }
-        steps as u32 + 1
-    }
-
-    /// The tiles with a pixel whose centre is in the range.
-    fn span(&self) -> Span
-        requires { 0 < self.now.step }
-        ensures each { (tile : ℕ) → 64 * tile < self.now.pixels → is_in_span result tile
-            ≡ has_pixel (λ n. is_between self.now.low self.now.high (pos (n * self.now.step))) self.now.pixels tile }
-        ensures ordered { result.first ≤ result.end }
-        ensures few { result.end ≤ (self.now.pixels + 63) / 64 }
-    {
-        let first = self.count_before();
-        let end = self.count_through();
-        if end <= first {
-            return Span::NONE;
-        }
-        Span {
-            first: first / 64,
-            end: end.div_ceil(64),
-        }
-    }
-}
-
 impl Window {
-    /// The distance of neighbouring pixel centres, in half nm.
-    fn step(&self) -> u32
-        requires { accepts self.now ≡ true }
-        ensures distance { pos result ≡ pos 2 *ℤ self.now.pitch }
-        ensures some { 0 < result }
-    {
-        2 * self.pitch as u32
-    }
-
     /// The columns of tiles with a pixel centre that is neither left nor right of the box between two corners.
     pub(crate) fn columns_between(&self, low: &Spot, high: &Spot) -> Span
         requires { accepts self.now ≡ true }
@@ -95,14 +25,12 @@ impl Window {
         ensures ordered { result.first ≤ result.end }
         ensures few { result.end ≤ across self.now }
     {
-        let first = i128::from(self.centre(0, 0).x);
-        let line = Line {
-            low: i128::from(low.x) - first,
-            high: i128::from(high.x) - first,
-            step: self.step(),
-            pixels: self.width,
+        let places = Lattice {
+            first: self.centre(0, 0).x,
+            step: 2 * self.pitch,
+            count: self.width,
         };
-        line.span()
+        places.between(low.x, high.x).tiles()
     }
 
     /// The rows of tiles with a pixel centre that is neither above nor below the box between two corners.
@@ -115,14 +43,16 @@ impl Window {
         ensures ordered { result.first ≤ result.end }
         ensures few { result.end ≤ down self.now }
     {
-        let first = i128::from(self.centre(0, 0).y);
-        let line = Line {
-            low: first - i128::from(high.y),
-            high: first - i128::from(low.y),
-            step: self.step(),
-            pixels: self.height,
+        let levels = Levels {
+            top: self.centre(0, 0).y,
+            step: 2 * self.pitch,
+            rows: self.height,
         };
-        line.span()
+        let heights = Heights {
+            low: low.y,
+            high: high.y,
+        };
+        levels.band(heights).tiles()
     }
 }
 

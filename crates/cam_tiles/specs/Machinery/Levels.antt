@@ -1,7 +1,6 @@
 -- Rows of centres by their heights, one below another.
-use Rattle.std.specs.Prelude.{◌≡◌, ℕ, ◌<◌, ◌≤◌, ℤ, pos, ◌-ℤ◌, ◌*ℤ◌, ◌≤ℤ◌}
+use Rattle.std.specs.Prelude.{◌≡◌, ℕ, ◌<◌, ℤ, pos, ◌-ℤ◌, ◌*ℤ◌, ◌≤ℤ◌}
 use Rattle.std.specs.Int.RustNames.{unsigned_abs}
-use Rattle.cam_units.specs.Board.{place_limit}
 use Rattle.cam_units.specs.declared.point.Spot.{Spot}
 use Rattle.cam_tiles.specs.declared.grid.Grid.{Grid}
 use Rattle.cam_tiles.specs.declared.levels.Levels.{Levels}
@@ -14,16 +13,10 @@ height l row = l.top -ℤ pos row *ℤ l.step
 abbrev pub levels_of : Grid → Levels
 levels_of g = record { top = g.y; step = g.step; rows = g.rows }
 
--- from 1 to 64 rows, each below the one before it, all of them on the board
-pub record IsLevels (l : Levels) : Type 0 where
-  pub step : pos 1 ≤ℤ l.step
-  pub rows : (1 ≤ l.rows) × (l.rows ≤ 64)
-  pub heights : (row : ℕ) → row < l.rows → unsigned_abs (height l row) < place_limit
-
--- the same, of rows that may be seen from a point of the board
+-- rows of which each lies below the one before it, and which may be seen from a point of the board
 pub record AreLevels (l : Levels) : Type 0 where
   pub step : pos 1 ≤ℤ l.step
-  pub rows : (1 ≤ l.rows) × (l.rows ≤ 64)
+  pub some : 0 < l.rows
   pub heights : (row : ℕ) → row < l.rows → unsigned_abs (height l row) < 4000000000
 
 -- a place in one of the rows

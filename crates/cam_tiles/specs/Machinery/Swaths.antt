@@ -2,14 +2,12 @@
 use Rattle.std.specs.Prelude.{◌≡◌, ◌↔◌, ℕ, ◌+◌, ◌-◌, ◌*◌, ◌/◌, ◌%◌, ◌<◌, ◌≤◌, min, Bool, false, List, length, slice_index_or}
 use Rattle.std.specs.Prelude.{Option, None, Some, IsSome, IsTrue, ◌⊎◌, unwrap_or, []}
 use Rattle.cam_units.specs.Boxes.{Holds}
-use Rattle.cam_units.specs.declared.bounds.Bounds.TheVariants.{Closed}
 use Rattle.cam_units.specs.declared.point.Spot.{Spot}
 use Rattle.cam_objects.specs.Canvases.{Paints}
 use Rattle.cam_objects.specs.Leaves.{Leaf}
 use Rattle.cam_tiles.specs.declared.grid.Grid.{Grid}
 use Rattle.cam_tiles.specs.declared.masks.figure_runs.FigureRuns.{FigureRuns}
 use Rattle.cam_tiles.specs.declared.masks.swath.Swath.TheInside.{Inside}
-use Rattle.cam_tiles.specs.declared.span.Span.{Span}
 use Rattle.cam_tiles.specs.declared.window.Window.{Window}
 use Rattle.cam_tiles.specs.Machinery.Figures.{HasPart}
 use Rattle.cam_tiles.specs.Machinery.Inks.{Inked, ink_at}
@@ -50,13 +48,6 @@ abbrev pub AreRunsOf : (ℕ → ℕ → Bool) → FigureRuns → Inked → Type 
 AreRunsOf holds runs k =
     (row column : ℕ) → row < 64 → column < 64 * k.tiles
     → IsSome (ink_at k row column) ⊎ (IsTrue (holds row column) ↔ HasPart runs row column)
-
--- the columns and the rows of the centres that a box holds
-pub record AreReachedBy (low high : Spot) (s : Swathed) (columns rows : Span) : Type 0 where
-  pub left_of : columns.end ≤ s.columns
-  pub above : rows.end ≤ s.grid.rows
-  pub each : (column row : ℕ) → IsInSwath s column row → Holds (Closed low high) (place_in s column row)
-      → ((columns.first ≤ column) × (column < columns.end)) × ((rows.first ≤ row) × (row < rows.end))
 
 -- ---- the tiles of a row of tiles
 

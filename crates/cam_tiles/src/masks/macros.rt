@@ -22,7 +22,6 @@ ghost use Rattle.cam_tiles.specs.Machinery.Words.{AreReached, JoinsCentres, part
 ghost use Rattle.cam_tiles.specs.Tiles.{IsGrid, centre_in};
 
 use crate::grid::Grid;
-use crate::lattice::Lattice;
 use crate::masks::heights::{HasHeights, Heights};
 use crate::masks::join::Join;
 use crate::masks::marked::MarkShape;
@@ -262,18 +261,7 @@ fn reached_tiles(grid: &Grid, columns: u32, bounds: Bounds, at: Point) -> Span
     if rows.end <= rows.first {
         return Span::NONE;
     }
-    let seen = grid.row_from(rows.first, at);
-    let centres = Lattice {
-        first: seen.x,
-        step: seen.step,
-        count: columns,
-    };
-    let reached = centres.between(low.x, high.x);
-    if reached.end <= reached.first {
-        return Span::NONE;
-    }
-    Span {
-        first: reached.first / 64,
-        end: reached.end.div_ceil(64),
-    }
+    grid.columns_from(columns, at)
+        .between(low.x, high.x)
+        .tiles()
 }

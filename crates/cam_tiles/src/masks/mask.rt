@@ -5,11 +5,14 @@ ghost use Rattle.cam_units.specs.Board.{IsOnBoard};
 ghost use Rattle.cam_units.specs.Boxes.{Holds};
 ghost use Rattle.cam_objects.specs.Image.{relative};
 ghost use Rattle.cam_rows.specs.Rows.{IsRow, centre_at};
+ghost use Rattle.cam_tiles.specs.Machinery.Lattices.{IsLattice, place_at};
 ghost use Rattle.cam_tiles.specs.Machinery.Masks.{HoldsCentres, IsBlank, IsIn, IsMask, IsWithin};
 ghost use Rattle.cam_tiles.specs.Machinery.Masks.{Merges, TurnsBy, ink_of};
+ghost use Rattle.cam_tiles.specs.Machinery.Runs.{IsWideGrid};
 ghost use Rattle.cam_tiles.specs.Tiles.{IsGrid, centre_in};
 
 use crate::grid::Grid;
+use crate::lattice::Lattice;
 use crate::levels::Levels;
 use crate::masks::heights::Heights;
 use crate::masks::join::{Join, told_by_type};
@@ -59,9 +62,23 @@ impl Grid {
         }
     }
 
-    /// The rows whose centres lie, as they are seen from a point, between two heights: by a division for each, where
-    /// there are any.
-    #[tactic(auto, using(crate::proofs::LevelRows::seen_on_row, crate::proofs::LevelRows::are_seen, cam_rows::proofs::Gaps::twice_fits))]
+    /// The places across of so many columns, which may go on to the right past its own, as they are seen from a point.
+    #[inline]
+    pub(crate) fn columns_from(&self, count: u32, at: Point) -> Lattice
+        requires grid { IsWideGrid self.now count }
+        requires at { IsOnBoard at }
+        ensures lattice { IsLattice result }
+        ensures count { result.count ≡ count }
+        ensures places { (n : ℕ) → place_at result n ≡ (relative at (centre_in self.now n 0)).x }
+    {
+        Lattice {
+            first: self.x - 2 * at.x,
+            step: self.step,
+            count,
+        }
+    }
+
+    /// The rows whose centres lie, as they are seen from a point, between two heights.
     pub(crate) fn band(&self, heights: Heights, at: Point) -> Span
         requires grid { IsGrid self.now }
         requires at { IsOnBoard at }
@@ -117,18 +134,14 @@ impl Mask {
 
     /// Whether all centres in a box are marked.
     pub(crate) fn is_marked_in(&self, bounds: Bounds) -> bool
-        ensures { IsTrue result → (column row : ℕ) → IsIn self.now.grid column row
-            → Holds bounds (centre_in self.now.grid column row) → ink_of self.now column row ≡ true }
+        ensures { IsTrue result ↔ ((column row : ℕ) → IsIn self.now.grid column row
+            → Holds bounds (centre_in self.now.grid column row) → ink_of self.now column row ≡ true) }
     {
         let Bounds::Closed { low, high } = bounds else {
             return true;
         };
-        let columns = self.grid.columns_between(low.x, high.x);
+        let (columns, rows) = self.grid.reached(self.grid.cols, low, high);
         let run = run_row(columns.first, columns.end, 0, self.grid.cols);
-        let rows = self.grid.levels().band(Heights {
-            low: low.y,
-            high: high.y,
-        });
         for row in rows.first..rows.end {
             if self.rows[row as usize] & run != run {
                 return false;

@@ -1,6 +1,6 @@
 //! Tiles of a row of tiles that are painted at once, from the last leaf on.
 
-ghost use Rattle.std.specs.Prelude.{◌≡◌, ◌↔◌, ◌⊎◌, ◌≤ℤ◌, ◌+◌, ◌*◌, ◌/◌, ◌<◌, ◌≤◌, ◌∷◌, ℕ, [], Bool, IsTrue, OnOk, None, Some, false, length};
+ghost use Rattle.std.specs.Prelude.{◌≡◌, ◌⊎◌, ◌+◌, ◌*◌, ◌/◌, ◌<◌, ◌≤◌, ◌∷◌, ℕ, [], Bool, IsTrue, OnOk, None, Some, false, length};
 ghost use Rattle.std.specs.Prelude.{if◌then◌else◌, is_none, slice_index_or, true};
 ghost use Rattle.cam_units.specs.Boxes.{Holds};
 ghost use Rattle.cam_units.specs.declared.point.Spot.{Spot};
@@ -9,14 +9,14 @@ ghost use Rattle.cam_objects.specs.Image.{Covers};
 ghost use Rattle.cam_objects.specs.Leaves.{leaf};
 ghost use Rattle.cam_tiles.specs.Machinery.Figures.{AllFit, IsPlacedFor};
 ghost use Rattle.cam_tiles.specs.Machinery.Inks.{IsDoneTile, Takes};
+ghost use Rattle.cam_tiles.specs.Machinery.Lattices.{AreReachedBy};
 ghost use Rattle.cam_tiles.specs.Machinery.Runs.{IsWideGrid};
-ghost use Rattle.cam_tiles.specs.Machinery.Swaths.{AreReachedBy, AreRunsOf, IsDoneSwath, IsInSwath, IsRowOfTiles, PaintsSwath, ShowsDirty, columns_of, ink_in, place_in, tiles_in};
+ghost use Rattle.cam_tiles.specs.Machinery.Swaths.{AreRunsOf, IsDoneSwath, IsInSwath, IsRowOfTiles, PaintsSwath, ShowsDirty, columns_of, ink_in, place_in, tiles_in};
 ghost use Rattle.cam_tiles.specs.Picture.{accepts};
 ghost use Rattle.cam_tiles.specs.Tables.{all_drawn_from};
 ghost use Rattle.cam_tiles.specs.Tiles.{centre_in, grid_of, tile_rows};
 
 use crate::grid::Grid;
-use crate::lattice::Lattice;
 use crate::masks::figure_runs::FigureRuns;
 use crate::masks::figures::{Placed, placed_of};
 use crate::masks::heights::Heights;
@@ -135,30 +135,11 @@ impl Swath {
         self.inks.is_all_done()
     }
 
-    /// The columns whose centres lie between two places across, in half nm.
-    fn columns_between(&self, left: i64, right: i64) -> Span
-        ensures each { (column : ℕ) → column < self.now.columns
-            → ((result.first ≤ column) × (column < result.end))
-            ↔ ((left ≤ℤ (place_in self.now column 0).x) × ((place_in self.now column 0).x ≤ℤ right)) }
-        ensures few { result.end ≤ self.now.columns }
-    {
-        let centres = Lattice {
-            first: self.grid.x,
-            step: self.grid.step,
-            count: self.columns,
-        };
-        centres.between(left, right)
-    }
-
     /// The columns and the rows of the centres that a box holds.
     fn reached(&self, low: Spot, high: Spot) -> (Span, Span)
-        ensures { AreReachedBy low high self.now result.0 result.1 }
+        ensures { AreReachedBy low high self.now.grid self.now.columns result.0 result.1 }
     {
-        let rows = self.grid.levels().band(Heights {
-            low: low.y,
-            high: high.y,
-        });
-        (self.columns_between(low.x, high.x), rows)
+        self.grid.reached(self.columns, low, high)
     }
 
     /// Paints what a shape covers in some tiles outside of which it covers nothing: it is marked once for all of them.
@@ -222,10 +203,7 @@ impl Canvas for Swath {
             low: low.y,
             high: high.y,
         };
-        let tiles = Span {
-            first: columns.first / 64,
-            end: columns.end.div_ceil(64),
-        };
+        let tiles = columns.tiles();
         if let Some(placed) = placed_of(&print.figure, heights) {
             self.paint_figure(tiles, &placed, print);
             return;

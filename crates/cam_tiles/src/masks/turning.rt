@@ -14,7 +14,6 @@ ghost use Rattle.cam_tiles.specs.Machinery.Turning.{AreWide, IsField, TurnsCentr
 ghost use Rattle.cam_tiles.specs.Tiles.{centre_in};
 
 use crate::grid::Grid;
-use crate::levels::Levels;
 use crate::masks::heights::{HasHeights, Heights};
 use crate::masks::segments::crossed_heights;
 use crate::span::Span;
@@ -29,7 +28,7 @@ pub(crate) fn row_heights(grid: &Grid) -> Heights
     ensures { (column row : ℕ) → row < grid.now.rows → IsWithin result (centre_in grid.now column row) }
 {
     Heights {
-        low: levels_in(grid).bottom(),
+        low: grid.levels().bottom(),
         high: grid.y,
     }
 }
@@ -100,20 +99,6 @@ pub(crate) fn turn_line(
     turn_edge(marks, grid, columns, from, to);
 }
 
-/// The heights of the rows of a grid, which may be seen from a point.
-#[inline]
-fn levels_in(grid: &Grid) -> Levels
-    requires { AreLevels (levels_of grid.now) }
-    ensures value { result ≡ levels_of grid.now }
-    ensures levels { AreLevels result }
-{
-    Levels {
-        top: grid.y,
-        step: grid.step,
-        rows: grid.rows,
-    }
-}
-
 /// Counts an edge: in each row that it crosses by one mark, where it does not lie left of all columns.
 pub(crate) fn turn_edge(marks: &mut [u64], grid: &Grid, columns: u32, from: Point, to: Point)
     requires grid { IsField grid.now columns }
@@ -125,8 +110,7 @@ pub(crate) fn turn_edge(marks: &mut [u64], grid: &Grid, columns: u32, from: Poin
     if 2 * from.x.max(to.x) <= grid.x {
         return;
     }
-    let levels = levels_in(grid);
-    let band = levels.band(crossed_heights(from, to));
+    let band = grid.levels().band(crossed_heights(from, to));
     if band.end <= band.first {
         return;
     }
@@ -158,7 +142,7 @@ fn turn_crossed(
 {
     let top = Centres {
         x: grid.x,
-        y: levels_in(grid).height(band.first),
+        y: grid.levels().height(band.first),
         step: grid.step,
         n: columns,
     };
@@ -173,8 +157,7 @@ fn turn_cap(marks: &mut [u64], grid: &Grid, columns: u32, cap: &Cap)
     requires cap { IsSoundCap cap.now }
     ensures { TurnsCentres grid.now columns (λ s. IsTrue (is_in_cap s cap.now)) marks.old marks.new }
 {
-    let levels = levels_in(grid);
-    let band = levels.band(cap.heights());
+    let band = grid.levels().band(cap.heights());
     if band.end <= band.first {
         return;
     }
@@ -208,7 +191,7 @@ fn turn_reached(
 {
     let top = Centres {
         x: grid.x,
-        y: levels_in(grid).height(band.first),
+        y: grid.levels().height(band.first),
         step: grid.step,
         n: columns,
     };

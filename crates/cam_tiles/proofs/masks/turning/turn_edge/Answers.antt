@@ -5,8 +5,9 @@ use Rattle.cam_shapes.proofs.Widths.{at_most_is}
 use Rattle.cam_apertures.proofs.Painting.{through}
 use Rattle.cam_tiles.specs.Tiles.{centre_in}
 use Rattle.cam_tiles.proofs.EdgeSpans.{after_ends, met_apart, missed_right, most_kept}
-use Rattle.cam_tiles.proofs.Fields.{columns_far, up_right}
+use Rattle.cam_tiles.proofs.Fields.{up_right}
 use Rattle.cam_tiles.proofs.GridLemmas.{long}
+use Rattle.cam_tiles.proofs.Lattices.{some_steps}
 use Rattle.cam_tiles.proofs.TurnedMarks.{no_rows, turns_nothing}
 use Rattle.cam_tiles.proofs.masks.turning.turn_edge.Goals as goal
 
@@ -14,15 +15,15 @@ pub returns-then-band : goal.returns-then-band
 returns-then-band c =
     no_rows c.args.grid.now c.args.columns c.band-band.result.first c.band-band.result.end c.crossed_heights.result
     (λ s. IsTrue (crosses_ray s (edge c.args.from c.args.to))) c.args.marks.now c.if-band.true
-    (rw c.levels_in-levels.ensures.value at c.band-band.ensures.rows)
+    (rw c.levels.ensures.value at c.band-band.ensures.rows)
     (λ s met. (c.crossed_heights.ensures s).1 (met_apart s c.args.from c.args.to met))
 
 pub turn_crossed-requires-clause-rows : goal.turn_crossed-requires-clause-rows
 turn_crossed-requires-clause-rows c = λ row s on.
-    through ((rw c.levels_in-levels.ensures.value at c.band-band.ensures.rows) row s on) (c.crossed_heights.ensures s)
+    through ((rw c.levels.ensures.value at c.band-band.ensures.rows) row s on) (c.crossed_heights.ensures s)
 
 pub turn_crossed-requires-clause-low : goal.turn_crossed-requires-clause-low
-turn_crossed-requires-clause-low c = rw c.levels_in-levels.ensures.value at c.band-band.ensures.end
+turn_crossed-requires-clause-low c = rw c.levels.ensures.value at c.band-band.ensures.end
 
 -- no ray meets an edge left of all columns
 pub returns-then-max-grid : goal.returns-then-max-grid
@@ -36,5 +37,5 @@ returns-then-max-grid c =
     turns_nothing g c.args.columns (λ s. IsTrue (crosses_ray s (edge p q))) c.args.marks.now (λ column row within met.
     let ends = after_ends (g.x +ℤ pos column *ℤ g.step) p.x q.x _
     (most_kept p.x q.x c.max.result c.requires.from.x c.requires.to.x c.max.ensures.value)
-    (up_right g.x (pos column *ℤ g.step) _ (columns_far g column c.requires.grid.step) reach) in
+    (up_right g.x (pos column *ℤ g.step) _ (some_steps g.step column c.requires.grid.step) reach) in
     missed_right (centre_in g column row) p q ends.0 ends.1 met)

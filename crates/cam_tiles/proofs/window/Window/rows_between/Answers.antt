@@ -1,7 +1,9 @@
-use Rattle.std.proofs.Common.{ap, ◌∙◌, FitsSigned, w64, rules, arith}
-use Rattle.std.proofs.lemmas.Int.{ints}
+use Rattle.std.proofs.Common.{◌-◌, FitsSigned, w64, ap, ◌∙◌, rules}
+use Rattle.std.proofs.lemmas.Int.{to_z-of_z}
 use Rattle.cam_units.specs.declared.point.Spot.{Spot}
-use Rattle.cam_tiles.proofs.SpanLemmas.{rows_by_steps}
+use Rattle.cam_tiles.specs.Picture.{centre_of, middle}
+use Rattle.cam_tiles.proofs.GridLemmas.{twice_fits, twice_kept}
+use Rattle.cam_tiles.proofs.SpanLemmas.{are_rows, on_row, tiles_between}
 use Rattle.cam_tiles.proofs.WindowLemmas.{accepted}
 use Rattle.cam_tiles.proofs.window.Window.rows_between.Goals as goal
 
@@ -11,17 +13,27 @@ centre-requires-clause-column c = (accepted c.args.self.now c.requires).width.0
 pub centre-requires-clause-row : goal.centre-requires-clause-row
 centre-requires-clause-row c = (accepted c.args.self.now c.requires).height.0
 
+pub overflow_mul-levels : goal.overflow_mul-levels
+overflow_mul-levels c =
+    let pitch = (accepted c.args.self.now c.requires).pitch in twice_fits c.args.self.now.pitch pitch.0 pitch.1
+
+pub band-requires : goal.band-requires
+band-requires c =
+    let w = c.args.self.now in
+    let limits = accepted w c.requires in
+    let fits : FitsSigned w64 c.centre.result.y = search rules in
+    are_rows w limits _ (twice_kept w.pitch limits.pitch.0 limits.pitch.1) _
+    (to_z-of_z w64 _ fits ∙ ap (λ (s : Spot). s.y) c.centre.ensures.value)
+
 pub returns-clause-each : goal.returns-clause-each
 returns-clause-each c = λ tile within.
     let w = c.args.self.now in
-    let low = c.args.low.now.y in
-    let high = c.args.high.now.y in
-    let low_fits : FitsSigned w64 low = search rules in
-    let high_fits : FitsSigned w64 high = search rules in
-    let near = c.centre.ensures.place.y in
-    let first = ap (λ (s : Spot). s.y) c.centre.ensures.value in
-    c.span.ensures.each tile (omega (arith, within))
-    ∙ rows_by_steps w.y w.pitch low high _ _ c.centre.result.y c.step.result w.height tile
-    c.step.ensures.distance first
-    (omega (arith, ints, near, low_fits, high_fits, c.from-first.ensures, c.from.ensures, c.from-2.ensures))
-    (omega (arith, ints, near, low_fits, high_fits, c.from-first.ensures, c.from.ensures, c.from-2.ensures))
+    let limits = accepted w c.requires in
+    let fits : FitsSigned w64 c.centre.result.y = search rules in
+    let low : FitsSigned w64 c.args.low.now.y = search rules in
+    let high : FitsSigned w64 c.args.high.now.y = search rules in
+    tiles_between (λ n. middle w.y w.pitch (w.height - 1 - n)) c.args.low.now.y c.args.high.now.y c.band.result
+    c.tiles.result w.height tile c.band.ensures.end (λ n near.
+    let on = on_row w limits _ (twice_kept w.pitch limits.pitch.0 limits.pitch.1) _
+    (to_z-of_z w64 _ fits ∙ ap (λ (s : Spot). s.y) c.centre.ensures.value) n near in
+    simp to_z-of_z at (c.band.ensures.rows n (centre_of w 0 n) on)) (c.tiles.ensures.each tile)

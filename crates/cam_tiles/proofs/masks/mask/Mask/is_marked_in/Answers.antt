@@ -1,14 +1,9 @@
-use Rattle.std.proofs.Common.{◌≡◌, ◌<◌, ℕ, inl, inr, refl, rules, slice_index, subst, sym, true, arith, FitsSigned, w64}
+use Rattle.std.proofs.Common.{◌≡◌, ℕ, inl, inr, refl, slice_index, subst, sym, arith}
 use Rattle.std.specs.Int.{IsBitSet}
-use Rattle.std.proofs.lemmas.Bool.{cases_lt}
-use Rattle.std.proofs.lemmas.Int.{to_z-of_z}
-use Rattle.cam_units.specs.Boxes.{IsBetween}
+use Rattle.std.proofs.lemmas.Bool.{cases_lt, false≢true}
 use Rattle.cam_rows.proofs.SetBits.{set_in_and}
-use Rattle.cam_tiles.specs.declared.levels.Levels.{Levels}
-use Rattle.cam_tiles.specs.Machinery.Levels.{IsOnRow}
-use Rattle.cam_tiles.specs.Machinery.Masks.{IsIn, Marking, ink_of}
-use Rattle.cam_tiles.specs.Tiles.{centre_in}
-use Rattle.cam_tiles.proofs.PaintedMasks.{dark_if_marked}
+use Rattle.cam_tiles.specs.Machinery.Masks.{Marking, marking_of}
+use Rattle.cam_tiles.proofs.MarkedBoxes.{AllMarked, all_marked, row_marked}
 use Rattle.cam_tiles.proofs.masks.mask.Mask.is_marked_in.Goals as goal
 
 pub loop-row-preserved : goal.loop-row-preserved
@@ -23,27 +18,37 @@ loop-row-preserved c = λ column row from until set.
           (subst (λ (k : ℕ). IsBitSet (slice_index c.self.inside.rows k) column) (sym same) here.0))
     ]
 
+pub returns-in_default : goal.returns-in_default
+returns-in_default c = rw c.in_default.is ((λ _ column row there held. absurd held), (λ _. refl))
+
+pub reached-requires-clause-centres : goal.reached-requires-clause-centres
+reached-requires-clause-centres c = λ column near.
+    let grid = c.self.invariant.mask.grid in grid.centres column 0 near grid.rows.0
+
+-- a row in which some centre of the box is not marked
+pub returns-then-self-row : goal.returns-then-self-row
+returns-then-self-row c =
+    let low = c.in-Closed.low in
+    let high = c.in-Closed.high in
+    let m = marking_of c.self.inside in
+    let missed : AllMarked low high m → ⊥ =
+    λ all. c.if-self-row.true (row_marked m low high c.reached.result.0 c.reached.result.1 c.run_row-run.result
+    c.self.invariant.mask.grid.columns.1 c.run_row-run.type_inv c.reached.ensures c.run_row-run.ensures all c.loop-row.row
+    c.loop-row.auto.row c.loop-row-test.true) in
+    rw c.in-Closed.is (
+      (λ told. absurd (false≢true told)),
+      (λ all.
+          absurd (missed (subst (AllMarked low high) (sym c.self.view_is) all))),
+    )
+
 pub returns : goal.returns
-returns c = λ on.
-    let m : Marking = record { grid = c.self.inside.grid; rows = c.self.inside.rows } in
-    let black : (column row : ℕ) → IsIn m.grid column row
-    → IsBetween c.in-Closed.low c.in-Closed.high (centre_in m.grid column row) → ink_of m column row ≡ true =
-    λ column row there inside.
-    let s = centre_in m.grid column row in
-    let low_x : FitsSigned w64 c.in-Closed.low.x = search rules in
-    let high_x : FitsSigned w64 c.in-Closed.high.x = search rules in
-    let low_y : FitsSigned w64 c.in-Closed.low.y = search rules in
-    let high_y : FitsSigned w64 c.in-Closed.high.y = search rules in
-    let is_on : IsOnRow c.levels.result row s =
-    subst (λ (l : Levels). IsOnRow l row s) (sym c.levels.ensures.value) (there.1, refl) in
-    let rows = (simp to_z-of_z at (c.band-rows.ensures.rows row s is_on)).1 (inside.below, inside.above) in
-    let columns = (simp to_z-of_z at c.columns_between-columns.ensures) column there.0 inside.left inside.right in
-    let narrow : column < 64 = omega (arith, there.0, c.self.invariant.mask.grid.columns.1) in
-    let set = (c.run_row-run.ensures column narrow).1 (there.0, (omega (arith, columns.0), omega (arith, columns.1))) in
-    dark_if_marked m column row
-    (subst (λ (n : Marking). IsBitSet (slice_index n.rows row) column) (sym c.self.view_is)
-    (c.loop-row.invariant column row rows.0 (omega (arith, rows.1, c.loop-row-test.false)) set)) in
-    rw c.in-Closed.is (subst
-    (λ (n : Marking). (column row : ℕ) → IsIn n.grid column row
-    → IsBetween c.in-Closed.low c.in-Closed.high (centre_in n.grid column row) → ink_of n column row ≡ true)
-    c.self.view_is black)
+returns c =
+    let low = c.in-Closed.low in
+    let high = c.in-Closed.high in
+    let m = marking_of c.self.inside in
+    let all : AllMarked low high m =
+    all_marked m low high c.reached.result.0 c.reached.result.1 c.run_row-run.result c.self.invariant.mask.grid.columns.1
+    c.run_row-run.type_inv c.reached.ensures c.run_row-run.ensures (λ column row from until set.
+    subst (λ (n : Marking). IsBitSet (slice_index n.rows row) column) (sym c.self.view_is)
+    (c.loop-row.invariant column row from (omega (arith, until, c.loop-row-test.false)) set)) in
+    rw c.in-Closed.is ((λ _. subst (AllMarked low high) c.self.view_is all), (λ _. refl))

@@ -8,6 +8,6 @@ use Rattle.cam_tiles.proofs.masks.swath.SwathCanvas.is_decided_in.Goals as goal
 pub returns : goal.returns
 returns c told column row inside holds =
     let held = subst (λ (b : Bounds). Holds b (place_in c.args.self.now column row)) c.in-Closed.is holds in
-    let here = c.reached.ensures.each column row inside held in
+    let here = (c.reached.ensures.each column row inside.0 inside.1).0 held in
     subst (λ (v : Swathed). IsSome (ink_in v column row)) c.self.view_is
     (some_ink _ _ (c.is_decided.ensures.0 told row column here.1.0 here.1.1 here.0.0 here.0.1))

@@ -1,4 +1,4 @@
-use Rattle.std.proofs.Common.{◌≡◌, ℕ, ◌/◌, ◌<◌, ◌≤◌, [], ◌∷◌, IsSome, sym, subst, arith}
+use Rattle.std.proofs.Common.{◌≡◌, ℕ, ◌/◌, ◌<◌, ◌≤◌, [], ◌∷◌, IsSome, refl, sym, subst, arith}
 use Rattle.cam_units.specs.Boxes.{Holds}
 use Rattle.cam_units.specs.declared.bounds.Bounds.{Bounds}
 use Rattle.cam_apertures.specs.declared.aperture.Aperture.{Aperture}
@@ -10,7 +10,7 @@ use Rattle.cam_objects.specs.Leaves.{Stamp, leaf}
 use Rattle.cam_objects.proofs.Canvases.{paints_one}
 use Rattle.cam_tiles.specs.Machinery.Swaths.{IsInSwath, PaintsSwath, Swathed, ink_in, place_in}
 use Rattle.cam_tiles.proofs.SwathInks.{some_ink}
-use Rattle.cam_tiles.proofs.masks.swath.SwathCanvas.paint.Goals.{After-div_ceil, then-columns-via-then-columns, then-columns-via-else-columns+then-is_decided}
+use Rattle.cam_tiles.proofs.masks.swath.SwathCanvas.paint.Goals.{After-tiles-tiles, then-columns-via-then-columns, then-columns-via-else-columns+then-is_decided}
 use Rattle.cam_tiles.proofs.masks.swath.SwathCanvas.paint.Goals as goal
 
 pub returns-in_default : goal.returns-in_default
@@ -25,7 +25,7 @@ returns-then-columns c =
     paints_one IsInSwath place_in ink_in now (leaf_of c.args.print) c.args.print.bounds c.requires.held
     (λ column row there holds.
     let held = subst (λ (b : Bounds). Holds b (place_in now column row)) c.in-Closed.is holds in
-    let here = c.reached.ensures.each column row there held in
+    let here = (c.reached.ensures.each column row there.0 there.1).0 held in
     elim c.then-columns.branch [
       | then-columns-via-then-columns w ↦ absurd (omega (arith, w.if-columns.true, here.0))
       | then-columns-via-else-columns+then-is_decided w ↦ subst (λ (v : Swathed). IsSome (ink_in v column row)) c.self.view_is
@@ -33,27 +33,27 @@ returns-then-columns c =
     ])
 
 -- all that a leaf covers lies in the tiles of the columns that its box reaches
-within : (c : After-div_ceil) (column row : ℕ) → IsInSwath c.args.self.now column row
+within : (c : After-tiles-tiles) (column row : ℕ) → IsInSwath c.args.self.now column row
     → Covers (shape_of c.args.print.figure) (place_in c.args.self.now column row)
-    → (c.reached.result.0.first / 64 ≤ column / 64) × (column / 64 < c.div_ceil.result)
+    → (c.tiles-tiles.result.first ≤ column / 64) × (column / 64 < c.tiles-tiles.result.end)
 within c column row there on =
     let at = place_in c.args.self.now column row in
     let held = subst (λ (b : Bounds). Holds b at) c.in-Closed.is (c.requires.held at on) in
-    let here = c.reached.ensures.each column row there held in
-    (omega (arith, here.0), omega (arith, here.0, c.div_ceil.ensures))
+    let here = (c.reached.ensures.each column row there.0 there.1).0 held in
+    (c.tiles-tiles.ensures.each (column / 64)).1 (column, (here.0.0, (here.0.1, refl)))
 
 pub paint_marked-requires-clause-within : goal.paint_marked-requires-clause-within
 paint_marked-requires-clause-within c column row there on =
     let at = place_in c.args.self.now column row in
     let m = c.in-Stamp-Prims-default-default in
     let is : m.aperture.now ≡ Prims m.prims = simp m.is at m.aperture-is in
-    within (goal.at.paint_marked-requires-clause-within c).After-div_ceil column row there
+    within (goal.at.paint_marked-requires-clause-within c).After-tiles-tiles column row there
     (subst (λ (f : Figure). Covers (shape_of f) at) (sym m.is)
     (subst (λ (a : Aperture). Covers (Stamp a m.turn m.at) at) (sym is) on))
 
 pub paint_marked-requires-in-Filled-clause-within : goal.paint_marked-requires-in-Filled-clause-within
 paint_marked-requires-in-Filled-clause-within c column row there on =
-    within (goal.at.paint_marked-requires-in-Filled-clause-within c).After-div_ceil column row there
+    within (goal.at.paint_marked-requires-in-Filled-clause-within c).After-tiles-tiles column row there
     (subst (λ (f : Figure). Covers (shape_of f) (place_in c.args.self.now column row)) (sym c.in-Filled.is) on)
 
 pub returns-in-Filled : goal.returns-in-Filled
