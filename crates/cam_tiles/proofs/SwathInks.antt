@@ -32,6 +32,10 @@ pub some_ink : (decided dark : Bool) → decided ≡ true → IsSome (cond decid
 some_ink true dark on = refl
 some_ink false dark on = absurd (false≢true on)
 
+pub ink_decided : (decided dark : Bool) → IsSome (cond decided (Some dark) None) → decided ≡ true
+ink_decided true dark some = refl
+ink_decided false dark none = absurd none
+
 done_tile : (k : Inked) (tile row column : ℕ) → IsDoneTile k tile → row < 64 → column / 64 ≡ tile
     → IsSome (ink_at k row column)
 done_tile k tile row column done low there = some_ink _ _ (done row column low there)
