@@ -1,5 +1,7 @@
+pub mod BareBoxes
 pub mod Bytes
 pub mod ChangedParities
+pub mod ContourParts
 pub mod DrawnSwaths
 pub mod DrawnTiles
 pub mod EdgeSpans
