@@ -1,5 +1,5 @@
 -- Parts of contours: what their segments change, one part after another, and at which heights.
-use Rattle.std.proofs.Common.{◌≡◌, ℕ, ◌+◌, ◌-◌, ◌<◌, ◌≤◌, min, Bool, true, false, IsTrue, ◌⊎◌, inl, inr, cond}
+use Rattle.std.proofs.Common.{◌≡◌, ℕ, suc, ◌+◌, ◌-◌, ◌<◌, ◌≤◌, min, Bool, true, false, IsTrue, ◌⊎◌, inl, inr, cond}
 use Rattle.std.proofs.Common.{List, [], ◌∷◌, ◌++◌, length, take, drop, get_or, map, filter, Option, None, Some}
 use Rattle.std.proofs.Common.{refl, sym, ap, subst, ◌∙◌, arith}
 use Rattle.std.specs.List.{All, flat_map}
@@ -48,7 +48,7 @@ ends_on_board here (seg ∷ segs) on sound =
 before_last : (x y : Seg) (segs : List Seg) (o : Option Seg)
     → slice_get (x ∷ y ∷ segs) (length (x ∷ y ∷ segs) - 1) ≡ o → slice_get (y ∷ segs) (length (y ∷ segs) - 1) ≡ o
 before_last x y segs o h =
-    let e : length (x ∷ y ∷ segs) - 1 ≡ length (y ∷ segs) - 1 + 1 = omega arith in
+    let e : length (x ∷ y ∷ segs) - 1 ≡ suc (length (y ∷ segs) - 1) = omega arith in
     ap (λ (k : ℕ). slice_get (x ∷ y ∷ segs) k) (sym e) ∙ h
 
 pub end_is : (here : Point) (segs : List Seg) (seg : Seg) → slice_get segs (length segs - 1) ≡ Some seg
@@ -57,17 +57,10 @@ end_is here [] seg h = absurd cc
 end_is here (x ∷ []) seg h = let same : x ≡ seg = cc in ap end_of (sym same)
 end_is here (x ∷ y ∷ segs) seg h = end_is (end_of x) (y ∷ segs) seg (before_last x y segs (Some seg) h)
 
-no_last : (segs : List Seg) → slice_get segs (length segs - 1) ≡ None → segs ≡ []
-no_last [] h = refl
-no_last (x ∷ []) h = absurd cc
-no_last (x ∷ y ∷ segs) h = let none = no_last (y ∷ segs) (before_last x y segs None h) in absurd cc
-
-pub end_of_none : (here : Point) (segs : List Seg) → slice_get segs (length segs - 1) ≡ None → here ≡ end_from here segs
-end_of_none here segs h = ap (end_from here) (sym (no_last segs h))
-
-pub end_more : (here : Point) (segs : List Seg) (k : ℕ) (d : Seg) → k < length segs
-    → end_from here (drop k segs) ≡ end_from (end_of (get_or segs k d)) (drop (k + 1) segs)
-end_more here segs k d more = ap (end_from here) (drop_more segs k d more)
+pub end_more : (here there : Point) (segs : List Seg) (k : ℕ) (d : Seg) → k < length segs → there ≡ end_of (get_or segs k d)
+    → end_from there (drop (k + 1) segs) ≡ end_from here (drop k segs)
+end_more here there segs k d more is =
+    ap (λ (p : Point). end_from p (drop (k + 1) segs)) is ∙ ap (end_from here) (sym (drop_more segs k d more))
 
 pub end_all : (here : Point) (segs : List Seg) (k : ℕ) → length segs ≤ k → end_from here (drop k segs) ≡ here
 end_all here segs k all = ap (end_from here) (drop_all k segs all)

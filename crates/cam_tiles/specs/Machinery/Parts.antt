@@ -1,5 +1,5 @@
 -- Contours by parts: so many segments one after another, and the heights between which these change the side of a place.
-use Rattle.std.specs.Prelude.{◌≡◌, ◌×◌, min, Bool, false, IsTrue, List, [], ◌∷◌, All, drop, length, take}
+use Rattle.std.specs.Prelude.{◌≡◌, min, Bool, false, IsTrue, List, [], ◌∷◌, All, drop, length, take}
 use Rattle.std.specs.List.{slice_index_or}
 use Rattle.cam_units.specs.Board.{IsOnBoard}
 use Rattle.cam_units.specs.declared.point.Point.{Point}
@@ -49,7 +49,7 @@ AreHeightsOf here segs (h ∷ heights) =
 -- a contour on the board, and the heights of its parts
 pub record IsParted (c : Contour) (heights : List Heights) : Type 0 where
   pub sound : IsSoundContour c
-  pub heights : AreHeightsOf c.start c.segs heights
+  pub each : AreHeightsOf c.start c.segs heights
 
 -- where the leaves at a place of the lists are one contour, the heights of its parts are known
 abbrev pub IsPartsOf : List (List Leaf) → ContourParts → Type 0

@@ -6,5 +6,5 @@ use Rattle.cam_tiles.proofs.index.contour_parts.part_heights.Given as goal
 abbrev pub invariant-loop-seg : goal.invariant-loop-seg
 invariant-loop-seg l = record {
   on_board : IsOnBoard l.here;
-  within : ChangeWithinBut l.heights l.from l.here (drop l.seg-index l.part) l.part;
+  within : ChangeWithinBut l.heights l.fn.from l.here (drop l.seg-index l.part) l.part;
 }

@@ -11,7 +11,7 @@ abbrev pub invariant-loop-seg : goal.invariant-loop-seg
 invariant-loop-seg l = record {
   on_board : IsOnBoard l.here;
   wide : AreWide l.columns l.marks;
-  end : end_from l.here (drop l.seg-index l.part) ≡ end_from l.from l.part;
-  turned : TurnsPartBut (TurnsSo l.grid l.columns) (turning l.grid l.columns) l.from l.here (drop l.seg-index l.part) l.part
+  end : end_from l.here (drop l.seg-index l.part) ≡ end_from l.fn.from l.part;
+  turned : TurnsPartBut (TurnsSo l.grid l.columns) (turning l.grid l.columns) l.fn.from l.here (drop l.seg-index l.part) l.part
       l.fn.marks l.marks;
 }
