@@ -39,6 +39,7 @@ pub mod SeenRows
 pub mod ShapeHeights
 pub mod ShapeRows
 pub mod ShownItems
+pub mod ShownRegions
 pub mod SpanLemmas
 pub mod Stamps
 pub mod StepLemmas

@@ -53,6 +53,19 @@ module _ (o : Point) (no_x : o.x ≡ pos 0) (no_y : o.y ≡ pos 0) where
   kept_seg (Curve to centre ccw) =
       ap (λ p. Curve p (placed_point R0 o centre) ccw) (kept_point to) ∙ ap (λ p. Curve to p ccw) (kept_point centre)
 
+  abbrev placed_segs : List Seg → List Seg
+  placed_segs segs = map (placed_seg R0 o) segs
+
+  kept_segs : (segs : List Seg) → placed_segs segs ≡ segs
+  kept_segs [] = refl
+  kept_segs (seg ∷ segs) =
+      ap (λ (x : Seg). x ∷ placed_segs segs) (kept_seg seg) ∙ ap (λ (xs : List Seg). seg ∷ xs) (kept_segs segs)
+
+  pub kept_contour : (c : Contour) → placed_contour R0 o c ≡ c
+  kept_contour c =
+      ap (λ (p : Point). record { start = p; segs = placed_segs c.segs }) (kept_point c.start)
+      ∙ ap (λ (segs : List Seg). record { start = c.start; segs = segs }) (kept_segs c.segs)
+
 -- whether a contour's segments, all together, change the side of a place
 abbrev pub turns_side : Contour → Spot → Bool
 turns_side c s = change_side s c.start c.start c.segs

@@ -7,6 +7,8 @@ ghost use Rattle.cam_objects.specs.Bounds.{bounds_of};
 ghost use Rattle.cam_objects.specs.Canvases.{Paints};
 ghost use Rattle.cam_objects.specs.Cells.{AreCellsOf, box_at};
 ghost use Rattle.cam_objects.specs.Leaves.{Filled, leaf};
+ghost use Rattle.cam_objects.specs.declared.item.Item.TheVariants.{One};
+ghost use Rattle.cam_objects.specs.declared.object.Object.TheVariants.{Region};
 ghost use Rattle.cam_tiles.specs.Machinery.Parts.{IsSoundContour};
 ghost use Rattle.cam_tiles.specs.Machinery.Shown.{IsReady, leaves_by_item, leaves_of, lists_of};
 
@@ -68,6 +70,16 @@ fn near_count(cells: Option<&ItemCells>, count: usize, near: Bounds) -> usize
     match cells {
         Some(cells) => cells.near_count(count, near),
         None => count,
+    }
+}
+
+/// The contour and the polarity of an item that is one region.
+fn region_of(item: &Item) -> Option<(&Contour, bool)>
+    ensures { IfSome result (λ region. item.now ≡ One (Region region.0.now region.1)) }
+{
+    match item {
+        Item::One(Object::Region { contour, dark }) => Some((contour, *dark)),
+        _ => None,
     }
 }
 
@@ -150,10 +162,7 @@ impl<'a> Shown<'a> {
             ≡ leaf (Filled region.0.now) region.1 ∷ []) }
     {
         match self {
-            Shown::Gerber { layer, .. } => match &layer.items[place] {
-                Item::One(Object::Region { contour, dark }) => Some((contour, *dark)),
-                _ => None,
-            },
+            Shown::Gerber { layer, .. } => region_of(&layer.items[place]),
             Shown::Drill { .. } => None,
         }
     }

@@ -1,6 +1,6 @@
 //! The heights of long contours, by their parts: found once for all rows of tiles that the contours reach.
 
-ghost use Rattle.std.specs.Prelude.{◌≡◌, ◌≤◌, All, IfOk, IsTrue, length, map};
+ghost use Rattle.std.specs.Prelude.{◌≡◌, ◌≤◌, All, IfOk, IfSome, IsTrue, length, map};
 ghost use Rattle.cam_units.specs.Board.{IsOnBoard};
 ghost use Rattle.cam_units.specs.declared.point.Spot.{Spot};
 ghost use Rattle.cam_shapes.specs.Contour.{IsSoundSeg};
@@ -86,7 +86,30 @@ fn segment_heights(from: Point, seg: Seg) -> Heights
 /// How many segments a contour has at least to be gone through by its parts.
 const LONG_CONTOUR: usize = 2 * PART_SIZE;
 
-/// The parts of the long contours among items that reach two rows of tiles or more; each such item is told their number.
+/// The parts of the contour of an item that is a region with a long one, if it reaches two rows of tiles or more.
+fn parts_of(
+    alloc: Global,
+    shown: &Shown<'_>,
+    item: &Boxed,
+) -> Result<Option<ContourParts>, AllocError>
+    requires ready { IsReady shown.now }
+    requires item { IsBoxed (leaves_by_item shown.now) item.now }
+    ensures { IfOk result (λ found. IfSome found (IsPartsOf (leaves_by_item shown.now))) }
+{
+    if item.rows.end.saturating_sub(item.rows.first) < 2 {
+        return Ok(None);
+    }
+    let Some((contour, _)) = shown.region(item.place as usize) else {
+        return Ok(None);
+    };
+    if contour.segs.as_slice().len() < LONG_CONTOUR {
+        return Ok(None);
+    }
+    let parts = ContourParts::of(alloc, item.place, contour)?;
+    Ok(Some(parts))
+}
+
+/// The parts of the long contours among items; each item that has one is told its number.
 pub(super) fn contours_of(
     alloc: Global,
     shown: &Shown<'_>,
@@ -100,18 +123,10 @@ pub(super) fn contours_of(
 {
     let mut contours = Vec::new(alloc);
     for k in 0..boxed.len() {
-        let item = boxed[k];
-        if item.rows.end.saturating_sub(item.rows.first) < 2 {
-            continue;
+        if let Some(parts) = parts_of(alloc, shown, &boxed[k])? {
+            boxed[k].contour = contours.len() as u32;
+            contours.push(parts)?;
         }
-        let Some((contour, _)) = shown.region(item.place as usize) else {
-            continue;
-        };
-        if contour.segs.as_slice().len() < LONG_CONTOUR {
-            continue;
-        }
-        boxed[k].contour = contours.len() as u32;
-        contours.push(ContourParts::of(alloc, item.place, contour)?)?;
     }
     Ok(contours)
 }
