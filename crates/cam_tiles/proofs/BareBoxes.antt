@@ -1,9 +1,10 @@
 -- Boxes that differ in the numbers of their contours alone.
-use Rattle.std.proofs.Common.{◌≡◌, ℕ, ◌<◌, ◌≤◌, List, [], ◌∷◌, ◌++◌, length, get_or, map, refl, sym, ap, subst, ◌∙◌, inl, inr, arith}
+use Rattle.std.proofs.Common.{◌≡◌, ℕ, ◌<◌, ◌≤◌, List, [], ◌∷◌, ◌++◌, length, get_or, map, reverse, refl, sym, ap, subst, ◌∙◌, inl, inr, arith}
 use Rattle.std.specs.List.{All}
 use Rattle.std.proofs.Math.ListN.{get_or-map}
 use Rattle.std.proofs.lemmas.Bool.{cases_Bool}
-use Rattle.std.proofs.lemmas.List.{length-map}
+use Rattle.std.proofs.lemmas.List.{length-map, reverse-append}
+use Rattle.std.proofs.lemmas.List.Elements.{All-head, All-nil, All-push, All-tail}
 use Rattle.cam_objects.specs.Leaves.{Leaf}
 use Rattle.cam_tiles.specs.declared.index.Boxed.{Boxed}
 use Rattle.cam_tiles.specs.Machinery.Indexes.{IsBoxed, row_leaves}
@@ -32,9 +33,6 @@ module _ (xs ys : List Boxed) (alike : map bare xs ≡ map bare ys) where
   pub kept_ends : (rows : ℕ) → All (λ b. b.rows.end ≤ rows) ys → All (λ b. b.rows.end ≤ rows) xs
   kept_ends rows = kept_all (λ b. b.rows.end ≤ rows) (λ b h. h) (λ b h. h)
 
-  pub kept_length : length xs ≡ length ys
-  kept_length = same_length
-
 bare_leaves : (lists : List (List Leaf)) (row : ℕ) (boxed : List Boxed)
     → row_leaves lists row (map bare boxed) ≡ row_leaves lists row boxed
 bare_leaves lists row [] = refl
@@ -48,3 +46,11 @@ pub kept_leaves : (xs ys : List Boxed) → map bare xs ≡ map bare ys → (list
 kept_leaves xs ys alike lists row =
     sym (bare_leaves lists row ys) ∙ ap (λ (those : List Boxed). row_leaves lists row those) (sym alike)
     ∙ bare_leaves lists row xs
+
+-- ---- boxes from the last one on
+
+pub all_back : {X : Type 0} (P : X → Type 0) (xs : List X) → All P xs → All P (reverse xs)
+all_back P [] all = All-nil P
+all_back P (x ∷ xs) all =
+    subst (All P) (sym (reverse-append (x ∷ []) xs))
+    (All-push P (reverse xs) x (all_back P xs (All-tail P x xs all)) (All-head P x xs all))

@@ -2,7 +2,6 @@ use Rattle.std.proofs.Common.{◌≡◌, ◌≤◌, List, length, map, reverse, 
 use Rattle.std.specs.List.{All, flat_map}
 use Rattle.std.specs.Vec.{with_items}
 use Rattle.std.proofs.lemmas.List.{with_items_is}
-use Rattle.std.proofs.lemmas.List.Elements.{All-reverse}
 use Rattle.cam_objects.specs.Leaves.{Leaf}
 use Rattle.cam_tiles.specs.declared.index.Boxed.{Boxed}
 use Rattle.cam_tiles.specs.Machinery.Indexes.{IsBoxed, IsSeen, PaintAlike, all_from, last_leaves, row_leaves}
@@ -10,7 +9,7 @@ use Rattle.cam_tiles.specs.Machinery.Parts.{bare}
 use Rattle.cam_tiles.specs.Machinery.RowLists.{AreListed}
 use Rattle.cam_tiles.specs.Machinery.Shown.{leaves_by_item}
 use Rattle.cam_tiles.specs.Tiles.{down}
-use Rattle.cam_tiles.proofs.BareBoxes.{kept_boxed, kept_ends, kept_leaves, kept_length}
+use Rattle.cam_tiles.proofs.BareBoxes.{all_back, kept_boxed, kept_ends, kept_leaves}
 use Rattle.cam_tiles.proofs.TileCounts.{few_down}
 use Rattle.cam_tiles.proofs.index.Index.of.Goals.{After-div_ceil}
 use Rattle.cam_tiles.proofs.index.Index.of.Goals as goal
@@ -22,6 +21,9 @@ alike c = c.contours_of.ensures.kept ∙ ap (map bare) (c.deref_mut.ensures.valu
 items_are : (c : After-div_ceil) → (with_items c.reverse.new.self c.contours_of.new.boxed).items ≡ c.contours_of.new.boxed
 items_are c = with_items_is c.reverse.new.self c.contours_of.new.boxed (c.contours_of.auto.boxed ∙ c.deref_mut.ensures.len)
 
+rows_are : (c : After-div_ceil) → c.div_ceil.result ≡ down c.args.window.now
+rows_are c = omega (arith, c.div_ceil.ensures)
+
 pub new-requires-clause-rows : goal.new-requires-clause-rows
 new-requires-clause-rows c = omega (arith, c.div_ceil.ensures, few_down c.args.window.now c.requires.accepted)
 
@@ -30,10 +32,10 @@ new-requires-clause-within c =
     let at_hand = (goal.at.new-requires-clause-within c).After-div_ceil in
     let rows = c.div_ceil.result in
     let those = reverse c.args.seen.boxed.items in
-    let ends = All-reverse (λ b. b.rows.end ≤ down c.args.window.now) c.args.seen.boxed.items c.requires.seen.ends in
+    let ends = all_back (λ b. b.rows.end ≤ down c.args.window.now) c.args.seen.boxed.items c.requires.seen.ends in
     subst (All (λ b. b.rows.end ≤ rows)) (sym (c.deref.ensures.value ∙ items_are at_hand))
     (kept_ends c.contours_of.new.boxed those (alike at_hand) rows
-    (subst (λ n. All (λ b. b.rows.end ≤ n) those) (sym c.div_ceil.ensures) ends))
+    (subst (λ n. All (λ b. b.rows.end ≤ n) those) (sym (rows_are at_hand)) ends))
 
 pub returns : goal.returns
 returns c =
@@ -48,14 +50,14 @@ returns c =
     let rows = c.in_ok-rows.rows in
     record {
       boxed = subst (All (IsBoxed lists)) same
-          (kept_boxed new those (alike at_hand) lists (All-reverse (IsBoxed lists) boxed c.requires.seen.each));
+          (kept_boxed new those (alike at_hand) lists (all_back (IsBoxed lists) boxed c.requires.seen.each));
       enough = λ row.
           let enough = subst (λ n. PaintAlike (IsSeen w within row) (last_leaves lists row boxed) (all_from lists n))
           c.requires.all (c.requires.seen.enough row) in
           subst (λ (leaves : List Leaf). PaintAlike (IsSeen w within row) leaves (flat_map (λ l. l) lists))
           (kept_leaves new those (alike at_hand) lists row ∙ ap (row_leaves lists row) same) enough;
       listed = subst (λ n. AreListed (with_items c.reverse.new.self new).items n rows.starts.items rows.numbers.items)
-          c.div_ceil.ensures
+          (rows_are at_hand)
           (subst (λ (those : List Boxed). AreListed those c.div_ceil.result rows.starts.items rows.numbers.items)
           c.deref.ensures.value c.in_ok-rows.ensures);
       contours = c.in_ok-contours.ensures.parts;
