@@ -213,6 +213,7 @@ fn parted<'a>(
         ≡ leaf (Filled region.0.contour.now) region.1 ∷ []) }
 {
     let parts = contours.get(item.contour as usize)?;
+    // By the place the parts are known to be the item's, whatever its number is.
     if parts.place != item.place {
         return None;
     }

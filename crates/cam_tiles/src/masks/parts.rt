@@ -76,6 +76,7 @@ fn turn_parts(marks: &mut [u64], grid: &Grid, columns: u32, contour: &Contour, h
         here = turn_met(marks, grid, columns, rows, *part_heights, here, part);
         rest = behind;
     }
+    // The parts are all there is: were something left behind them, it would be counted as well.
     let end = turn_part(marks, grid, columns, rows, here, rest);
     turn_edge(marks, grid, columns, end, contour.start);
 }

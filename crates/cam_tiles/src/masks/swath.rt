@@ -198,10 +198,7 @@ impl Swath {
         if columns.end <= columns.first {
             return;
         }
-        let tiles = Span {
-            first: columns.first / 64,
-            end: columns.end.div_ceil(64),
-        };
+        let tiles = tiles_with(columns);
         self.paint_marked(tiles, contour, dark);
     }
 
@@ -251,10 +248,7 @@ impl Canvas for Swath {
             self.paint_figure(&placed, print);
             return;
         }
-        let tiles = Span {
-            first: columns.first / 64,
-            end: columns.end.div_ceil(64),
-        };
+        let tiles = tiles_with(columns);
         match print.figure {
             Figure::Stamp {
                 aperture: Aperture::Prims(prims),
@@ -273,6 +267,18 @@ impl Canvas for Swath {
             }
             _ => {}
         }
+    }
+}
+
+/// The tiles in which columns lie.
+fn tiles_with(columns: Span) -> Span
+    ensures each { (column : ℕ) → columns.first ≤ column → column < columns.end
+        → (result.first ≤ column / 64) × (column / 64 < result.end) }
+    ensures end { result.end ≡ (columns.end + 63) / 64 }
+{
+    Span {
+        first: columns.first / 64,
+        end: columns.end.div_ceil(64),
     }
 }
 

@@ -25,4 +25,4 @@ paint_marked-requires-clause-within c column row there on =
     let right : FitsSigned w64 c.args.right = search rules in
     let reached = simp to_z-of_z at c.columns_between-columns.ensures.each in
     let within = (reached column there.0).1 (c.requires.sides (place_in c.args.self.now column row) on) in
-    (omega (arith, within.0), omega (arith, within.1, c.div_ceil.ensures))
+    c.tiles_with-tiles.ensures.each column within.0 within.1

@@ -10,7 +10,7 @@ use Rattle.cam_objects.specs.Leaves.{Stamp, leaf}
 use Rattle.cam_objects.proofs.Canvases.{paints_one}
 use Rattle.cam_tiles.specs.Machinery.Swaths.{IsInSwath, PaintsSwath, Swathed, ink_in, place_in}
 use Rattle.cam_tiles.proofs.SwathInks.{some_ink}
-use Rattle.cam_tiles.proofs.masks.swath.SwathCanvas.paint.Goals.{After-div_ceil, then-columns-via-then-columns, then-columns-via-else-columns+then-is_decided}
+use Rattle.cam_tiles.proofs.masks.swath.SwathCanvas.paint.Goals.{After-tiles_with-tiles, then-columns-via-then-columns, then-columns-via-else-columns+then-is_decided}
 use Rattle.cam_tiles.proofs.masks.swath.SwathCanvas.paint.Goals as goal
 
 pub returns-in_default : goal.returns-in_default
@@ -33,27 +33,27 @@ returns-then-columns c =
     ])
 
 -- all that a leaf covers lies in the tiles of the columns that its box reaches
-within : (c : After-div_ceil) (column row : ℕ) → IsInSwath c.args.self.now column row
+within : (c : After-tiles_with-tiles) (column row : ℕ) → IsInSwath c.args.self.now column row
     → Covers (shape_of c.args.print.figure) (place_in c.args.self.now column row)
-    → (c.reached.result.0.first / 64 ≤ column / 64) × (column / 64 < c.div_ceil.result)
+    → (c.tiles_with-tiles.result.first ≤ column / 64) × (column / 64 < c.tiles_with-tiles.result.end)
 within c column row there on =
     let at = place_in c.args.self.now column row in
     let held = subst (λ (b : Bounds). Holds b at) c.in-Closed.is (c.requires.held at on) in
     let here = c.reached.ensures.each column row there held in
-    (omega (arith, here.0), omega (arith, here.0, c.div_ceil.ensures))
+    c.tiles_with-tiles.ensures.each column here.0.0 here.0.1
 
 pub paint_marked-requires-clause-within : goal.paint_marked-requires-clause-within
 paint_marked-requires-clause-within c column row there on =
     let at = place_in c.args.self.now column row in
     let m = c.in-Stamp-Prims-default-default in
     let is : m.aperture.now ≡ Prims m.prims = simp m.is at m.aperture-is in
-    within (goal.at.paint_marked-requires-clause-within c).After-div_ceil column row there
+    within (goal.at.paint_marked-requires-clause-within c).After-tiles_with-tiles column row there
     (subst (λ (f : Figure). Covers (shape_of f) at) (sym m.is)
     (subst (λ (a : Aperture). Covers (Stamp a m.turn m.at) at) (sym is) on))
 
 pub paint_marked-requires-in-Filled-clause-within : goal.paint_marked-requires-in-Filled-clause-within
 paint_marked-requires-in-Filled-clause-within c column row there on =
-    within (goal.at.paint_marked-requires-in-Filled-clause-within c).After-div_ceil column row there
+    within (goal.at.paint_marked-requires-in-Filled-clause-within c).After-tiles_with-tiles column row there
     (subst (λ (f : Figure). Covers (shape_of f) (place_in c.args.self.now column row)) (sym c.in-Filled.is) on)
 
 pub returns-in-Filled : goal.returns-in-Filled
