@@ -1,5 +1,5 @@
 -- items that are one region: their leaves, and their contours
-use Rattle.std.proofs.Common.{◌≡◌, ℕ, ◌<◌, Bool, List, [], ◌∷◌, length, map, get_or, refl, ap, subst, ◌∙◌, arith}
+use Rattle.std.proofs.Common.{◌≡◌, ℕ, ◌<◌, Bool, List, [], ◌∷◌, length, map, get_or, refl, ap, subst, ◌∙◌}
 use Rattle.std.specs.List.{All, flat_map}
 use Rattle.std.proofs.lemmas.List.{get_or-map}
 use Rattle.std.proofs.lemmas.List.Elements.{All-cons, All-get_or, All-head, All-nil, All-tail}
@@ -11,11 +11,10 @@ use Rattle.cam_shapes.specs.Contour.{IsSoundSeg}
 use Rattle.cam_objects.specs.declared.entry.Entry.{Entry}
 use Rattle.cam_objects.specs.declared.item.Item.{Item}
 use Rattle.cam_objects.specs.declared.item.Item.TheVariants.{One}
-use Rattle.cam_objects.specs.declared.layer.Layer.{Layer}
 use Rattle.cam_objects.specs.declared.object.Object.{Object}
 use Rattle.cam_objects.specs.declared.object.Object.TheVariants.{Region}
 use Rattle.cam_objects.specs.Leaves.{Filled, item_leaves, leaf, meaning_in, origin}
-use Rattle.cam_objects.specs.Soundness.{HasSoundItems, IsSoundItem, points_of, points_of_contour, points_of_seg}
+use Rattle.cam_objects.specs.Soundness.{IsSoundItem, points_of, points_of_contour, points_of_seg}
 use Rattle.cam_objects.proofs.SoundItems.{meets}
 use Rattle.cam_tiles.specs.Machinery.Parts.{IsSoundContour}
 use Rattle.cam_tiles.proofs.TurnedContours.{kept_contour}

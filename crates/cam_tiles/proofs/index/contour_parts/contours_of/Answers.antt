@@ -1,10 +1,8 @@
-use Rattle.std.proofs.Common.{◌≡◌, ◌<◌, length, map, refl, sym, ap, subst, ◌∙◌, IfSome, arith}
+use Rattle.std.proofs.Common.{length, map, refl, sym, ap, subst, ◌∙◌, IfSome, arith}
 use Rattle.std.specs.List.{All}
 use Rattle.std.proofs.Math.Seq.{map-set_same}
 use Rattle.std.proofs.lemmas.List.{length_push}
 use Rattle.std.proofs.lemmas.List.Elements.{All-push}
-use Rattle.cam_tiles.specs.declared.index.Boxed.{Boxed}
-use Rattle.cam_tiles.specs.declared.index.contour_parts.ContourParts.{ContourParts}
 use Rattle.cam_tiles.specs.Machinery.Parts.{IsPartsOf, bare}
 use Rattle.cam_tiles.specs.Machinery.RowLists.{no_box}
 use Rattle.cam_tiles.specs.Machinery.Shown.{leaves_by_item}

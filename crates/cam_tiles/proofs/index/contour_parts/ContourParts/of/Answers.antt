@@ -1,11 +1,10 @@
-use Rattle.std.proofs.Common.{◌≡◌, ◌++◌, ◌∷◌, ◌<◌, [], List, length, sym, ap, subst, ◌∙◌, arith}
+use Rattle.std.proofs.Common.{◌≡◌, ◌<◌, List, length, sym, ap, subst, ◌∙◌, arith}
 use Rattle.std.specs.List.{All}
 use Rattle.std.proofs.lemmas.Bool.Decides.{nat_tests}
 use Rattle.cam_units.specs.Board.{IsOnBoard}
 use Rattle.cam_units.specs.declared.point.Point.{Point}
 use Rattle.cam_shapes.specs.declared.segments.Seg.{Seg}
 use Rattle.cam_shapes.specs.Contour.{IsSoundSeg}
-use Rattle.cam_tiles.specs.declared.masks.heights.Heights.{Heights}
 use Rattle.cam_tiles.specs.Machinery.Parts.{ChangeWithin, behind_part, end_from, first_part}
 use Rattle.cam_tiles.proofs.ContourParts.{AreFoundBut, all_found, ends_on_board, fewer_behind, one_found, sound_behind, sound_first}
 use Rattle.cam_tiles.proofs.index.contour_parts.ContourParts.of.Goals as goal
