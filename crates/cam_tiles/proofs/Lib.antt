@@ -1,5 +1,7 @@
+pub mod BareBoxes
 pub mod Bytes
 pub mod ChangedParities
+pub mod ContourParts
 pub mod DrawnSwaths
 pub mod DrawnTiles
 pub mod EdgeSpans
@@ -38,6 +40,7 @@ pub mod SeenRows
 pub mod ShapeHeights
 pub mod ShapeRows
 pub mod ShownItems
+pub mod ShownRegions
 pub mod SpanLemmas
 pub mod Stamps
 pub mod StepLemmas

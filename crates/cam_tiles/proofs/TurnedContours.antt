@@ -18,7 +18,7 @@ use Rattle.cam_shapes.specs.Placing.{placed_contour, placed_point, placed_seg}
 use Rattle.cam_shapes.specs.Sides.{change_side, changes_side, differ}
 use Rattle.cam_shapes.proofs.Parity.{sides_are_parity}
 
-differ_false : (b : Bool) → b ≡ differ b false
+pub differ_false : (b : Bool) → b ≡ differ b false
 differ_false true = refl
 differ_false false = refl
 
@@ -29,7 +29,7 @@ cancelled true false true = refl
 cancelled true false false = refl
 cancelled false next all = sym (differ_false (differ next all))
 
-differ_same : (b : Bool) → differ b b ≡ false
+pub differ_same : (b : Bool) → differ b b ≡ false
 differ_same true = refl
 differ_same false = refl
 
@@ -52,6 +52,19 @@ module _ (o : Point) (no_x : o.x ≡ pos 0) (no_y : o.y ≡ pos 0) where
   kept_seg (Line to) = ap Line (kept_point to)
   kept_seg (Curve to centre ccw) =
       ap (λ p. Curve p (placed_point R0 o centre) ccw) (kept_point to) ∙ ap (λ p. Curve to p ccw) (kept_point centre)
+
+  abbrev placed_segs : List Seg → List Seg
+  placed_segs segs = map (placed_seg R0 o) segs
+
+  kept_segs : (segs : List Seg) → placed_segs segs ≡ segs
+  kept_segs [] = refl
+  kept_segs (seg ∷ segs) =
+      ap (λ (x : Seg). x ∷ placed_segs segs) (kept_seg seg) ∙ ap (λ (xs : List Seg). seg ∷ xs) (kept_segs segs)
+
+  pub kept_contour : (c : Contour) → placed_contour R0 o c ≡ c
+  kept_contour c =
+      ap (λ (p : Point). record { start = p; segs = placed_segs c.segs }) (kept_point c.start)
+      ∙ ap (λ (segs : List Seg). record { start = c.start; segs = segs }) (kept_segs c.segs)
 
 -- whether a contour's segments, all together, change the side of a place
 abbrev pub turns_side : Contour → Spot → Bool
@@ -80,11 +93,11 @@ abbrev pub lines : Turn → Point → List Point → List Seg
 lines t o points = placed t o (lines_to points)
 
 module _ {M : Type 0} (Turned : (Spot → Bool) → M → M → Type 0) (law : Turning Turned) where
-  turned_so : {old new : M} (f g : Spot → Bool) → ((s : Spot) → f s ≡ g s) → Turned f old new → Turned g old new
+  pub turned_so : {old new : M} (f g : Spot → Bool) → ((s : Spot) → f s ≡ g s) → Turned f old new → Turned g old new
   turned_so {old = old} {new = new} f g same h = subst (λ (test : Spot → Bool). Turned test old new) (λ i s. same s i) h
 
   -- one more turns it: what all of them turn but those that are left
-  turned_on : {old between new : M} (left change next all : Spot → Bool)
+  pub turned_on : {old between new : M} (left change next all : Spot → Bool)
       → ((s : Spot) → left s ≡ differ (change s) (next s))
       → Turned (λ s. differ (left s) (all s)) old between → Turned change between new
       → Turned (λ s. differ (next s) (all s)) old new
@@ -111,7 +124,7 @@ module _ {M : Type 0} (Turned : (Spot → Bool) → M → M → Type 0) (law : T
         ∙ ap (λ p. differ (changes_side s here seg) (change_side s start p rest)) (sym f))
 
     -- where none is left, the line that closes them
-    last_turned : {old between new : M} (here : Point) (left all : List Seg) → left ≡ []
+    pub last_turned : {old between new : M} (here : Point) (left all : List Seg) → left ≡ []
         → TurnsBut Turned start here left all old between → Turned (λ s. crosses_ray s (edge here start)) between new
         → Turned (λ s. change_side s start start all) old new
     last_turned here left all e =

@@ -8,6 +8,7 @@ pub mod Kept
 pub mod Lattices
 pub mod Levels
 pub mod Masks
+pub mod Parts
 pub mod Plain
 pub mod RowLists
 pub mod Runs

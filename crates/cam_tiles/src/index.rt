@@ -1,21 +1,26 @@
 //! What of a layer a redraw may show: the items that may be seen in a box, and which of them reach each row of tiles.
 
+pub(crate) mod contour_parts;
 pub(crate) mod items;
 mod row_lists;
 pub(crate) mod seen;
 
-ghost use Rattle.std.specs.Prelude.{◌≡◌, ◌↔◌, ◌<◌, ◌≤◌, ◌≤ℤ◌, ℕ, All, IfNone, IfOk, IfSome, IsTrue, length, true};
+ghost use Rattle.std.specs.Prelude.{◌≡◌, ◌↔◌, ◌<◌, ◌≤◌, ◌≤ℤ◌, ◌∷◌, ℕ, [], All, IfNone, IfOk, IfSome, IsTrue, length, slice_index_or, true};
 ghost use Rattle.cam_units.specs.Boxes.{Holds};
 ghost use Rattle.cam_units.specs.declared.point.Spot.{Spot};
+ghost use Rattle.cam_objects.specs.Leaves.{Filled, leaf};
 ghost use Rattle.cam_tiles.specs.Machinery.Indexes.{AreSeenBy, IsBoxed, IsBoxOf, IsIndexOf, IsSeen, numbered_leaves};
+ghost use Rattle.cam_tiles.specs.Machinery.Parts.{IsParted, IsPartsOf};
 ghost use Rattle.cam_tiles.specs.Machinery.RowLists.{reaches};
 ghost use Rattle.cam_tiles.specs.Machinery.Shown.{IsReady, leaves_by_item, leaves_of};
 ghost use Rattle.cam_tiles.specs.Machinery.Swaths.{HasRowOf, IsInSwath, PaintsSwath, place_in};
 ghost use Rattle.cam_tiles.specs.Picture.{accepts};
 ghost use Rattle.cam_tiles.specs.Tiles.{tiles_of};
 
+use crate::index::contour_parts::{ContourParts, contours_of};
 use crate::index::row_lists::RowLists;
 use crate::index::seen::Seen;
+use crate::masks::parts::PartedContour;
 use crate::masks::swath::Swath;
 use crate::shown::Shown;
 use crate::span::Span;
@@ -24,17 +29,24 @@ use cam_apertures::has_place;
 use cam_objects::Canvas;
 use cam_units::Bounds;
 use std::alloc::{AllocError, Global};
+use std::mem::size_of;
 
-/// An item that may be seen: its place in the list, the rows of tiles that its box reaches, and the sides of the box, in
-/// half nm.
+/// An item that may be seen: its place in the list, the rows of tiles that its box reaches, the number of its contour among
+/// those whose parts are known, and the sides of the box, in half nm.
 // In this order of the fields it has 32 bytes: those of a row of tiles are gone through each time that it is painted.
 #[derive(Clone, Copy)]
 pub(crate) struct Boxed {
     place: u32,
     rows: Span,
+    contour: u32,
     left: i64,
     right: i64,
 }
+
+const _: () = prove!(size_of::<Boxed>() == 32);
+
+/// Where an item has no contour whose parts are known.
+const NO_CONTOUR: u32 = u32::MAX;
 
 /// The items that may be seen in a box, in their order, and for each row of tiles of a window those that reach it.
 #[derive(Drop)]
@@ -42,6 +54,7 @@ pub(crate) struct Index {
     within: Bounds,
     boxed: Vec<Boxed>,
     rows: RowLists,
+    contours: Vec<ContourParts>,
 }
 
 impl Boxed {
@@ -71,6 +84,7 @@ impl Boxed {
         Some(Boxed {
             place,
             rows,
+            contour: NO_CONTOUR,
             left: low.x,
             right: high.x,
         })
@@ -113,11 +127,13 @@ impl Index {
             ..
         } = seen;
         boxed.reverse();
+        let contours = contours_of(alloc, shown, &mut boxed)?;
         let rows = RowLists::new(alloc, &boxed, window.height.div_ceil(64))?;
         Ok(Index {
             within,
             boxed,
             rows,
+            contours,
         })
     }
 
@@ -139,7 +155,16 @@ impl Index {
             return;
         }
         let numbers = self.rows.list(tile / window.across());
-        paint_all(numbers, &self.boxed, shown, low.x, high.x, swath);
+        let (left, right) = (low.x, high.x);
+        paint_all(
+            numbers,
+            &self.boxed,
+            &self.contours,
+            shown,
+            left,
+            right,
+            swath,
+        );
     }
 }
 
@@ -148,6 +173,7 @@ impl Index {
 fn paint_all(
     numbers: &[u32],
     boxed: &[Boxed],
+    contours: &[ContourParts],
     shown: &Shown<'_>,
     left: i64,
     right: i64,
@@ -155,6 +181,7 @@ fn paint_all(
 )
     requires numbers { All (λ k. k < length boxed.now) numbers.now }
     requires boxed { All (IsBoxed (leaves_by_item shown.now)) boxed.now }
+    requires contours { All (IsPartsOf (leaves_by_item shown.now)) contours.now }
     requires ready { IsReady shown.now }
     requires sides { (column row : ℕ) → IsInSwath swath.old column row
         → (left ≤ℤ (place_in swath.old column row).x) × ((place_in swath.old column row).x ≤ℤ right) }
@@ -166,7 +193,45 @@ fn paint_all(
         }
         let item = &boxed[numbers[k] as usize];
         if item.reaches(left, right) {
-            shown.paint_item(item.place as usize, swath);
+            paint_item(item, contours, shown, swath);
         }
+    }
+}
+
+/// The contour of an item that is a region of which the parts are known, and its polarity.
+#[inline]
+fn parted<'a>(
+    item: &Boxed,
+    contours: &'a [ContourParts],
+    shown: &'a Shown<'_>,
+) -> Option<(PartedContour<'a>, bool)>
+    requires item { IsBoxed (leaves_by_item shown.now) item.now }
+    requires contours { All (IsPartsOf (leaves_by_item shown.now)) contours.now }
+    requires ready { IsReady shown.now }
+    ensures parted { IfSome result (λ region. IsParted region.0.contour.now region.0.heights.now) }
+    ensures leaves { IfSome result (λ region. slice_index_or (leaves_by_item shown.now) item.now.place []
+        ≡ leaf (Filled region.0.contour.now) region.1 ∷ []) }
+{
+    let parts = contours.get(item.contour as usize)?;
+    // By the place the parts are known to be the item's, whatever its number is.
+    if parts.place != item.place {
+        return None;
+    }
+    let (contour, dark) = shown.region(item.place as usize)?;
+    let heights = parts.heights.as_slice();
+    Some((PartedContour { contour, heights }, dark))
+}
+
+/// Paints an item, from its last leaf on: a region by the parts of its contour, where they are known.
+#[inline]
+fn paint_item(item: &Boxed, contours: &[ContourParts], shown: &Shown<'_>, swath: &mut Swath)
+    requires item { IsBoxed (leaves_by_item shown.now) item.now }
+    requires contours { All (IsPartsOf (leaves_by_item shown.now)) contours.now }
+    requires ready { IsReady shown.now }
+    ensures { PaintsSwath swath.old (slice_index_or (leaves_by_item shown.now) item.now.place []) swath.new }
+{
+    match parted(item, contours, shown) {
+        Some((contour, dark)) => swath.paint_contour(&contour, item.left, item.right, dark),
+        None => shown.paint_item(item.place as usize, swath),
     }
 }

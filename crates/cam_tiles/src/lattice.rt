@@ -19,6 +19,24 @@ pub(crate) struct Lattice {
 }
 
 impl Grid {
+    /// The columns whose centres lie from one place across to another, both included, where the rows go on to the right in so
+    /// many columns.
+    #[inline]
+    pub(crate) fn columns_between(&self, columns: u32, left: i64, right: i64) -> Span
+        requires grid { IsGrid self.now }
+        requires centres { (column : ℕ) → column < columns → IsPlace (centre_in self.now column 0) }
+        ensures each { (column : ℕ) → column < columns → ((result.first ≤ column) × (column < result.end))
+            ↔ ((left ≤ℤ (centre_in self.now column 0).x) × ((centre_in self.now column 0).x ≤ℤ right)) }
+        ensures few { result.end ≤ columns }
+    {
+        let across = Lattice {
+            first: self.x,
+            step: self.step,
+            count: columns,
+        };
+        across.between(left, right)
+    }
+
     /// The columns and the rows of the centres that a box holds, where the rows go on to the right in so many columns.
     #[inline]
     pub(crate) fn reached(&self, columns: u32, low: Spot, high: Spot) -> (Span, Span)
@@ -26,16 +44,12 @@ impl Grid {
         requires centres { (column : ℕ) → column < columns → IsPlace (centre_in self.now column 0) }
         ensures { AreReachedBy low high self.now columns result.0 result.1 }
     {
-        let across = Lattice {
-            first: self.x,
-            step: self.step,
-            count: columns,
-        };
+        let across = self.columns_between(columns, low.x, high.x);
         let heights = Heights {
             low: low.y,
             high: high.y,
         };
-        (across.between(low.x, high.x), self.levels().band(heights))
+        (across, self.levels().band(heights))
     }
 }
 

@@ -8,6 +8,7 @@ pub(crate) mod join;
 pub(crate) mod macros;
 pub(crate) mod marked;
 pub(crate) mod mask;
+pub(crate) mod parts;
 pub(crate) mod placed;
 pub(crate) mod runs;
 pub(crate) mod segments;

@@ -1,14 +1,19 @@
 //! Layers of either kind, and how they are painted, item by item.
 
-ghost use Rattle.std.specs.Prelude.{◌≡◌, ◌<◌, ◌≤◌, ℕ, [], IfSome, List, length, slice_index_or};
+ghost use Rattle.std.specs.Prelude.{◌≡◌, ◌<◌, ◌≤◌, ◌∷◌, ℕ, [], IfSome, List, length, slice_index_or};
 ghost use Rattle.cam_units.specs.Boxes.{HaveCommonPlace};
 ghost use Rattle.cam_units.specs.declared.bounds.Bounds.{Bounds};
 ghost use Rattle.cam_objects.specs.Bounds.{bounds_of};
 ghost use Rattle.cam_objects.specs.Canvases.{Paints};
 ghost use Rattle.cam_objects.specs.Cells.{AreCellsOf, box_at};
+ghost use Rattle.cam_objects.specs.Leaves.{Filled, leaf};
+ghost use Rattle.cam_objects.specs.declared.item.Item.TheVariants.{One};
+ghost use Rattle.cam_objects.specs.declared.object.Object.TheVariants.{Region};
+ghost use Rattle.cam_tiles.specs.Machinery.Parts.{IsSoundContour};
 ghost use Rattle.cam_tiles.specs.Machinery.Shown.{IsReady, leaves_by_item, leaves_of, lists_of};
 
-use cam_objects::{Canvas, DrillItemBoxes, DrillLayer, ItemBoxes, ItemCells, Layer};
+use cam_objects::{Canvas, DrillItemBoxes, DrillLayer, Item, ItemBoxes, ItemCells, Layer, Object};
+use cam_shapes::Contour;
 use cam_units::Bounds;
 
 /// A layer of either kind, and perhaps the cells of its items.
@@ -65,6 +70,16 @@ fn near_count(cells: Option<&ItemCells>, count: usize, near: Bounds) -> usize
     match cells {
         Some(cells) => cells.near_count(count, near),
         None => count,
+    }
+}
+
+/// The contour and the polarity of an item that is one region.
+fn region_of(item: &Item) -> Option<(&Contour, bool)>
+    ensures { IfSome result (λ region. item.now ≡ One (Region region.0.now region.1)) }
+{
+    match item {
+        Item::One(Object::Region { contour, dark }) => Some((contour, *dark)),
+        _ => None,
     }
 }
 
@@ -135,6 +150,20 @@ impl<'a> Shown<'a> {
         match self {
             Shown::Gerber { layer, .. } => layer.paint_item(place, canvas),
             Shown::Drill { layer, .. } => layer.paint_item(place, canvas),
+        }
+    }
+
+    /// The contour and the polarity of the item at a place of the list, counted from 0, if it is one region.
+    pub(crate) fn region(&self, place: usize) -> Option<(&Contour, bool)>
+        requires ready { IsReady self.now }
+        requires within { place < length (leaves_by_item self.now) }
+        ensures sound { IfSome result (λ region. IsSoundContour region.0.now) }
+        ensures leaves { IfSome result (λ region. slice_index_or (leaves_by_item self.now) place []
+            ≡ leaf (Filled region.0.now) region.1 ∷ []) }
+    {
+        match self {
+            Shown::Gerber { layer, .. } => region_of(&layer.items[place]),
+            Shown::Drill { .. } => None,
         }
     }
 }

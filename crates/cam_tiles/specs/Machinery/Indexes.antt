@@ -16,6 +16,7 @@ use Rattle.cam_tiles.specs.declared.index.seen.Seen.{Seen}
 use Rattle.cam_tiles.specs.declared.levels.Levels.{Levels}
 use Rattle.cam_tiles.specs.declared.window.Window.{Window}
 use Rattle.cam_tiles.specs.Machinery.Levels.{IsOnRow}
+use Rattle.cam_tiles.specs.Machinery.Parts.{IsPartsOf}
 use Rattle.cam_tiles.specs.Machinery.RowLists.{AreListed, no_box, reaches}
 use Rattle.cam_tiles.specs.Picture.{middle}
 use Rattle.cam_tiles.specs.Tiles.{down}
@@ -90,13 +91,14 @@ pub record IsBegunBy (old new : Seen) : Type 0 where
 
 -- ---- once all were looked at
 
--- In each row of tiles of a box, painting the lists whose boxes reach the row is painting all lists, in order; and each
--- row has the numbers of these.
+-- In each row of tiles of a box, painting the lists whose boxes reach the row is painting all lists, in order; each row
+-- has the numbers of these; and the heights of contours are those of their parts.
 pub record IsIndexOf (lists : List (List Leaf)) (w : Window) (i : Index) : Type 0 where
   pub boxed : All (IsBoxed lists) i.boxed.items
   pub enough : (row : ℕ)
       → PaintAlike (IsSeen w i.within row) (row_leaves lists row i.boxed.items) (flat_map (λ those. those) lists)
   pub listed : AreListed i.boxed.items (down w) i.rows.starts.items i.rows.numbers.items
+  pub contours : All (IsPartsOf lists) i.contours.items
 
 -- either of both
 abbrev pub AreItemsOf : List (List Leaf) → Window → Items → Type 0

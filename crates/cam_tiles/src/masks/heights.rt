@@ -1,5 +1,6 @@
 //! Heights between which shapes lie.
 
+ghost use Rattle.std.specs.Prelude.{◌⊎◌, IsTrue};
 ghost use Rattle.cam_units.specs.declared.point.Spot.{Spot};
 ghost use Rattle.cam_tiles.specs.Machinery.Masks.{IsWithin};
 
@@ -10,6 +11,33 @@ use cam_rows::RunShape;
 pub(crate) struct Heights {
     pub(crate) low: i64,
     pub(crate) high: i64,
+}
+
+impl Heights {
+    /// None.
+    pub(crate) const NONE: Heights = Heights {
+        low: i64::MAX,
+        high: i64::MIN,
+    };
+
+    /// Its own heights and those of others, with all between.
+    #[inline]
+    pub(crate) fn joined(self, others: Heights) -> Heights
+        ensures { (s : Spot) → IsWithin self s ⊎ IsWithin others s → IsWithin result s }
+    {
+        Heights {
+            low: self.low.min(others.low),
+            high: self.high.max(others.high),
+        }
+    }
+
+    /// Whether it has no height in common with others.
+    #[inline]
+    pub(crate) fn are_apart(self, others: Heights) -> bool
+        ensures { IsTrue result → (s : Spot) → IsWithin self s → IsWithin others s → ⊥ }
+    {
+        self.high < others.low || others.high < self.low
+    }
 }
 
 /// A shape whose heights are known, and whose runs are.

@@ -6,10 +6,11 @@ ghost use Rattle.cam_units.specs.Boxes.{Holds};
 ghost use Rattle.cam_units.specs.declared.point.Spot.{Spot};
 ghost use Rattle.cam_objects.specs.Canvases.{leaf_of};
 ghost use Rattle.cam_objects.specs.Image.{Covers};
-ghost use Rattle.cam_objects.specs.Leaves.{leaf};
+ghost use Rattle.cam_objects.specs.Leaves.{Filled, leaf};
 ghost use Rattle.cam_tiles.specs.Machinery.Figures.{AllFit, IsPlacedFor};
 ghost use Rattle.cam_tiles.specs.Machinery.Inks.{IsDoneTile, Takes};
 ghost use Rattle.cam_tiles.specs.Machinery.Lattices.{AreReachedBy};
+ghost use Rattle.cam_tiles.specs.Machinery.Parts.{IsParted};
 ghost use Rattle.cam_tiles.specs.Machinery.Runs.{IsWideGrid};
 ghost use Rattle.cam_tiles.specs.Machinery.Swaths.{AreRunsOf, IsDoneSwath, IsInSwath, IsRowOfTiles, PaintsSwath, ShowsDirty, columns_of, ink_in, place_in, tiles_in};
 ghost use Rattle.cam_tiles.specs.Picture.{accepts};
@@ -23,6 +24,7 @@ use crate::masks::heights::Heights;
 use crate::masks::inks::Inks;
 use crate::masks::macros::PlacedMacro;
 use crate::masks::marked::MarkShape;
+use crate::masks::parts::PartedContour;
 use crate::masks::placed::PlacedContour;
 use crate::painter::Tile;
 use crate::span::Span;
@@ -135,6 +137,16 @@ impl Swath {
         self.inks.is_all_done()
     }
 
+    /// The columns whose centres lie from one place across to another, both included, in half nm.
+    fn columns_between(&self, left: i64, right: i64) -> Span
+        ensures each { (column : ℕ) → column < self.now.columns
+            → ((result.first ≤ column) × (column < result.end))
+            ↔ ((left ≤ℤ (place_in self.now column 0).x) × ((place_in self.now column 0).x ≤ℤ right)) }
+        ensures few { result.end ≤ self.now.columns }
+    {
+        self.grid.columns_between(self.columns, left, right)
+    }
+
     /// The columns and the rows of the centres that a box holds.
     fn reached(&self, low: Spot, high: Spot) -> (Span, Span)
         ensures { AreReachedBy low high self.now.grid self.now.columns result.0 result.1 }
@@ -159,6 +171,25 @@ impl Swath {
         shape.mark(&mut self.marks, &mut self.spare, &part, columns);
         let (first, end) = (tiles.first as usize, tiles.end as usize);
         self.inks.take_marked(first, end, &self.marks, dark);
+    }
+
+    /// Paints the inside of a contour that lies between two places across, in half nm, by its parts.
+    pub(crate) fn paint_contour(
+        &mut self,
+        contour: &PartedContour<'_>,
+        left: i64,
+        right: i64,
+        dark: bool,
+    )
+        requires parted { IsParted contour.now.contour.now contour.now.heights.now }
+        requires sides { (s : Spot) → Covers (Filled contour.now.contour.now) s → (left ≤ℤ s.x) × (s.x ≤ℤ right) }
+        ensures { PaintsSwath self.old (leaf (Filled contour.now.contour.now) dark ∷ []) self.new }
+    {
+        let columns = self.columns_between(left, right);
+        if columns.end <= columns.first {
+            return;
+        }
+        self.paint_marked(columns.tiles(), contour, dark);
     }
 
     /// Paints a stroke or a flash by its runs, and looks anew at tiles that it reaches where they are many.

@@ -72,8 +72,7 @@ fn is_beyond(rows: Heights, from: Point, to: Point) -> bool
     requires to { IsOnBoard to }
     ensures { IsTrue result → (s : Spot) → IsWithin rows s → IsTrue (crosses_ray s (edge from to)) → ⊥ }
 {
-    let crossed = crossed_heights(from, to);
-    crossed.high < rows.low || rows.high < crossed.low
+    crossed_heights(from, to).are_apart(rows)
 }
 
 /// Counts a line: most of a long contour are passed over by their heights alone.

@@ -36,7 +36,7 @@ loop-k-preserved-then-reaches c =
     let within : i < length numbers = omega arith in
     let k : ℕ = get_or numbers i 0 in
     next_numbered (leaves_by_item c.args.shown.now) c.args.boxed.now numbers i c.loop-k.k k c.args.swath.now
-    c.is_done.new.self c.paint_item.new.canvas (omega arith) within (get_or_default numbers i 0 k within)
+    c.is_done.new.self c.paint_item.new.swath (omega arith) within (get_or_default numbers i 0 k within)
     (so_far (goal.at.loop-k-preserved-then-reaches c).After-is_done) c.paint_item.ensures
 
 pub loop-k-preserved : goal.loop-k-preserved

@@ -11,9 +11,7 @@ returns c =
     let right : FitsSigned w64 c.args.high.x = search rules in
     let low : FitsSigned w64 c.args.low.y = search rules in
     let high : FitsSigned w64 c.args.high.y = search rules in
-    let x : FitsSigned w64 g.x = search rules in
-    let step : FitsSigned w64 g.step = search rules in
     let rows = simp to_z-of_z at (rw c.levels.ensures.value at c.band.ensures.rows) in
-    reached c.args.low c.args.high g c.args.columns _ _ c.between.ensures.few
-    (rw c.levels.ensures.value at c.band.ensures.end) (simp to_z-of_z at c.between.ensures.each)
+    reached c.args.low c.args.high g c.args.columns _ _ c.columns_between-across.ensures.few
+    (rw c.levels.ensures.value at c.band.ensures.end) (simp to_z-of_z at c.columns_between-across.ensures.each)
     (λ row below. rows row (centre_in g 0 row) (below, refl))
