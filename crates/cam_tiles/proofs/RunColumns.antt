@@ -140,11 +140,14 @@ finds_band g columns at IsHeld others top firsts ends centres count some low few
             ← of_part first end others.ends ends some long_ends ends_size row on.0 on.1,
           ) at on.2 in
           let here = found.all (row - first) column (omega (arith, size, on.0, on.1)) (rw count near) was
-          (subst IsHeld (sym (place row on.0 on.1 column)) held) in
-          (on.0, on.1, rw (
-            part_at first end others.firsts firsts some long firsts_size row on.0 on.1,
-            part_at first end others.ends ends some long_ends ends_size row on.0 on.1,
-          ) here);
+          (subst IsHeld (sym (place row on.0 on.1 column)) held) in (
+            on.0,
+            on.1,
+            rw (
+              part_at first end others.firsts firsts some long firsts_size row on.0 on.1,
+              part_at first end others.ends ends some long_ends ends_size row on.0 on.1,
+            ) here,
+          );
     }
 
 -- a shape that lies between the heights

@@ -34,7 +34,7 @@ some_ink false dark on = absurd (false≢true on)
 
 pub ink_decided : (decided dark : Bool) → IsSome (cond decided (Some dark) None) → decided ≡ true
 ink_decided true dark some = refl
-ink_decided false dark none = absurd none
+ink_decided false dark none = none
 
 done_tile : (k : Inked) (tile row column : ℕ) → IsDoneTile k tile → row < 64 → column / 64 ≡ tile
     → IsSome (ink_at k row column)

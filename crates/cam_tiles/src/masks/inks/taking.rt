@@ -46,7 +46,13 @@ pub(super) fn take_rows(decided: &mut [u64], dark: &mut [u64], next: &[u32], run
 
 /// The same of a figure's body, without what is taken out of this.
 #[inline]
-pub(super) fn take_pieces(decided: &mut [u64], dark: &mut [u64], next: &[u32], runs: &FigureRuns, ink: bool)
+pub(super) fn take_pieces(
+    decided: &mut [u64],
+    dark: &mut [u64],
+    next: &[u32],
+    runs: &FigureRuns,
+    ink: bool,
+)
     requires few { length next.now ≤ 512 }
     requires decided { 64 * length next.now ≤ length decided.old }
     requires dark { 64 * length next.now ≤ length dark.old }
@@ -89,7 +95,15 @@ fn take_run(
     }
     let ink = ink_word(ink);
     if first / 64 == (end - 1) / 64 {
-        take_part(decided, dark, row, first / 64, first % 64, (end - 1) % 64 + 1, ink);
+        take_part(
+            decided,
+            dark,
+            row,
+            first / 64,
+            first % 64,
+            (end - 1) % 64 + 1,
+            ink,
+        );
     } else {
         take_long(decided, dark, next, row, first, end, ink);
     }

@@ -1,4 +1,4 @@
-use Rattle.std.proofs.Common.{IsSome, subst, sym, arith}
+use Rattle.std.proofs.Common.{◌<◌, IsSome, subst, sym, arith}
 use Rattle.cam_units.specs.Boxes.{Holds}
 use Rattle.cam_units.specs.declared.bounds.Bounds.{Bounds}
 use Rattle.cam_tiles.specs.Machinery.Swaths.{Swathed, ink_in, place_in}
@@ -13,8 +13,8 @@ returns c = (
       subst (λ (v : Swathed). IsSome (ink_in v column row)) c.self.view_is
       (some_ink _ _ (c.is_decided.ensures.0 told row column here.1.0 here.1.1 here.0.0 here.0.1))),
   (λ all. c.is_decided.ensures.1 (λ row column after until from to.
-      let near = omega (arith, to, c.reached.ensures.left_of) in
-      let below = omega (arith, until, c.reached.ensures.above) in
+      let near : column < c.args.self.now.columns = omega (arith, to, c.reached.ensures.left_of) in
+      let below : row < c.args.self.now.grid.rows = omega (arith, until, c.reached.ensures.above) in
       let held = (c.reached.ensures.each column row near below).1 ((from, to), (after, until)) in
       let some = all column row (near, below)
       (subst (λ (b : Bounds). Holds b (place_in c.args.self.now column row)) (sym c.in-Closed.is) held) in
