@@ -1,4 +1,4 @@
-use Rattle.std.proofs.Common.{◌≡◌, ◌+◌, ◌-◌, ◌*◌, ◌/◌, ◌%◌, ◌<◌, ◌≤◌, ℕ, length, arith}
+use Rattle.std.proofs.Common.{◌+◌, ◌-◌, ◌*◌, ◌/◌, ◌%◌, length, arith}
 use Rattle.cam_tiles.specs.Machinery.Inks.{Inked, Takes, in_row, words_of}
 use Rattle.cam_tiles.proofs.RunInks.{same_columns, takes_both, takes_same, turned, two_parts}
 use Rattle.cam_tiles.proofs.masks.inks.taking.take_long.Goals as goal
