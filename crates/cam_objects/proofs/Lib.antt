@@ -30,11 +30,11 @@ pub mod MovedBounds
 pub mod MovedBoxes
 pub mod MovedItems
 pub mod Numbers
+pub mod ObjectCells
 pub mod PaintedBoxes
 pub mod PaintedLists
 pub mod PaintedRuns
 pub mod Painting
-pub mod Parts
 pub mod Placed
 pub mod PlacedBoxes
 pub mod PlacedJoins
@@ -42,6 +42,7 @@ pub mod PlacedShapes
 pub mod Redraws
 pub mod Roots
 pub mod Runs
+pub mod SeenBoxes
 pub mod SizedLeaves
 pub mod SoundDrilling
 pub mod SoundItems

@@ -22,7 +22,7 @@ use Rattle.cam_objects.proofs.Canvases.{paints_beneath, paints_off}
 use Rattle.cam_objects.proofs.CopyBoxes.{copy_box}
 use Rattle.cam_objects.proofs.CoveredBoxes.{outside_box}
 use Rattle.cam_objects.proofs.Painting.{take-range}
-use Rattle.cam_objects.proofs.Parts.{flat_split}
+use Rattle.cam_objects.proofs.ObjectCells.{flat_split}
 use Rattle.cam_objects.proofs.PlacedShapes.{shapes_so}
 
 -- ---- boxes with a common place

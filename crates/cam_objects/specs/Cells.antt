@@ -1,5 +1,5 @@
 -- The boxes of items, in half nm, and the cells of the board that they reach.
-use Rattle.std.specs.Prelude.{ℕ, ◌+◌, ◌*◌, ◌<◌, ℤ, pos, ◌+ℤ◌, ◌<ℤ◌, ◌≤ℤ◌, List, length, map}
+use Rattle.std.specs.Prelude.{◌≡◌, ℕ, ◌+◌, ◌*◌, ◌<◌, ℤ, pos, ◌+ℤ◌, ◌<ℤ◌, ◌≤ℤ◌, List, length, map}
 use Rattle.std.specs.List.{slice_index_or}
 use Rattle.cam_units.specs.declared.bounds.Bounds.{Bounds}
 use Rattle.cam_units.specs.declared.bounds.Bounds.TheVariants.{Empty, Closed}
@@ -9,13 +9,19 @@ use Rattle.cam_objects.specs.declared.cells.reach.Reach.{Reach}
 use Rattle.cam_objects.specs.declared.drill_item.DrillItem.{DrillItem}
 use Rattle.cam_objects.specs.declared.entry.Entry.{Entry}
 use Rattle.cam_objects.specs.declared.item.Item.{Item}
+use Rattle.cam_objects.specs.declared.item.Item.TheVariants.{One, Repeat}
+use Rattle.cam_objects.specs.declared.object.Object.{Object}
 use Rattle.cam_objects.specs.Bounds.{bounds_of}
 use Rattle.cam_objects.specs.Drilling.{drill_item_leaves}
-use Rattle.cam_objects.specs.Leaves.{item_leaves, meaning_in}
+use Rattle.cam_objects.specs.Leaves.{block_leaves, item_leaves, meaning_in, object_leaves, origin}
 
 -- the box of what each item paints
 abbrev pub item_boxes : List (ℕ × Entry) → List Item → List Bounds
 item_boxes entries items = map (λ item. bounds_of (item_leaves (meaning_in entries) item)) items
+
+-- the box of what each object of a block or of a repeat paints, as it stands
+abbrev pub object_boxes : List (ℕ × Entry) → List Object → List Bounds
+object_boxes entries objects = map (λ object. bounds_of (object_leaves (meaning_in entries) origin object)) objects
 
 -- the box of what each item of a drill layer drills or routs
 abbrev pub drill_item_boxes : List (ℕ × Nm) → List DrillItem → List Bounds
@@ -67,9 +73,21 @@ pub record Reaches : Type 0 where
   pub right : List ℕ
   pub top : List ℕ
 
+-- the box of the first copy of a repeat, and what its objects reach
+pub record FirstCopied : Type 0 where
+  pub bounds : Bounds
+  pub reaches : Reaches
+
 -- what the items reach, one after another from the first on; nothing is known of those behind
 pub record AreCellsOf (boxes : List Bounds) (reaches : Reaches) : Type 0 where
   pub left : AreBeside (IsSide left_of) Empty boxes reaches.left
   pub bottom : AreBeside (IsSide bottom_of) Empty boxes reaches.bottom
   pub right : AreBeside (IsSide right_of) Empty boxes reaches.right
   pub top : AreBeside (IsSide top_of) Empty boxes reaches.top
+
+-- what is known of the first copy of an item that is a repeat
+abbrev pub IsFirstCopyOf : List (ℕ × Entry) → Item → FirstCopied → Type 0
+IsFirstCopyOf entries (One object) first = Unit {0}
+IsFirstCopyOf entries (Repeat columns rows i j objects) first =
+    (first.bounds ≡ bounds_of (block_leaves (meaning_in entries) origin objects))
+    × AreCellsOf (object_boxes entries objects) first.reaches

@@ -1,7 +1,7 @@
 -- Words of the contracts of inner functions: they mirror the code. A reader who trusts the definitions beside this folder has read all
 -- that the theorems mean.
 pub mod Asked
-pub mod Parts
+pub mod ObjectCells
 pub mod Slots
 pub mod Painting
 pub mod Facts

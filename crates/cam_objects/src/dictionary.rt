@@ -25,19 +25,19 @@ ghost use Rattle.std.specs.Prelude.{
 ghost use Rattle.std.specs.List.{IsDistinct};
 ghost use Rattle.std.specs.Map.{keys_of, lookup};
 ghost use Rattle.cam_refusals.specs.Limits.{depth_limit, leaf_limit};
-ghost use Rattle.cam_objects.specs.Machinery.Parts.{HasChunks};
 ghost use Rattle.cam_objects.specs.Machinery.Boxes.{IsNearBox};
 ghost use Rattle.cam_objects.specs.Machinery.Facts.{facts_at};
 ghost use Rattle.cam_objects.specs.Machinery.Inside.{IsBoxOnBoard};
+ghost use Rattle.cam_objects.specs.Machinery.ObjectCells.{HasCells};
 ghost use Rattle.cam_objects.specs.Soundness.{IsSoundDictionary, MayAddEntry};
 ghost use Rattle.cam_objects.specs.Weights.{object_count, object_depth, weight_in};
 ghost use Rattle.cam_objects.specs.declared.entry.Entry.{Entry};
 
-use crate::boxes::parts::chunks_of;
+use crate::boxes::object_boxes::entry_cells;
+use crate::cells::kept::ItemCells;
 use crate::checks::facts::{Facts, NO_FACTS};
 use crate::entry::Entry;
 use crate::object::Object;
-use cam_units::{Bounds, Items};
 use indexmap::IndexMap;
 use std::alloc::{AllocError, Global};
 use std::marker::Model;
@@ -48,7 +48,7 @@ use std::marker::Model;
 pub struct Dictionary {
     map: IndexMap<u32, Entry>,
     facts: Vec<Facts>,
-    chunks: Vec<Items<Bounds>>,
+    cells: Vec<ItemCells>,
     alloc: Global,
 }
 
@@ -58,12 +58,12 @@ impl Model for Dictionary {
 
     ghost Value = { List (ℕ × Entry) };
 
-    ghost use Rattle.cam_objects.specs.Machinery.Parts.{AreChunksKept};
     ghost use Rattle.cam_objects.specs.Machinery.Facts.{IsKept};
+    ghost use Rattle.cam_objects.specs.Machinery.ObjectCells.{AreCellsKept};
 
     ghost view = { λ d. d.map.entries };
 
-    ghost invariant = { λ d. IsKept d.map.entries d.facts.items × AreChunksKept d.map.entries d.chunks.items };
+    ghost invariant = { λ d. IsKept d.map.entries d.facts.items × AreCellsKept d.map.entries d.cells.items };
 }
 
 impl Dictionary {
@@ -74,7 +74,7 @@ impl Dictionary {
         Dictionary {
             map: IndexMap::new(alloc),
             facts: Vec::new(alloc),
-            chunks: Vec::new(alloc),
+            cells: Vec::new(alloc),
             alloc,
         }
     }
@@ -86,7 +86,7 @@ impl Dictionary {
         let Dictionary {
             map,
             facts: _,
-            chunks: _,
+            cells: _,
             alloc: _,
         } = self;
         map
@@ -190,13 +190,13 @@ impl Dictionary {
         }
     }
 
-    /// The boxes of the chunks of the block at a place in the order, counted from 0.
-    pub(crate) fn chunks(&self, place: usize) -> &[Bounds]
+    /// The cells of the objects of the block at a place in the order, counted from 0.
+    pub(crate) fn cells(&self, place: usize) -> &ItemCells
         requires { place < length self.now }
         ensures { (number : ℕ) (entry : Entry) → slice_get self.now place ≡ Some (number, entry)
-            → HasChunks (take place self.now) entry result.now }
+            → HasCells (take place self.now) entry result.now }
     {
-        self.chunks[place].as_slice()
+        &self.cells[place]
     }
 
     /// Adds an entry behind the others; refused for want of memory alone.
@@ -206,12 +206,12 @@ impl Dictionary {
         ensures err { OnErr result (self.new ≡ self.old) }
     {
         let facts = Facts::of(self, &entry);
-        let chunks = chunks_of(self.alloc, self, &entry);
+        let cells = entry_cells(self.alloc, self, &entry);
         self.facts.reserve(1)?;
-        self.chunks.reserve(1)?;
+        self.cells.reserve(1)?;
         self.map.insert(number, entry)?;
         self.facts.push_reserved(facts);
-        self.chunks.push_reserved(chunks);
+        self.cells.push_reserved(cells);
         Ok(())
     }
 

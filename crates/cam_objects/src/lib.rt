@@ -58,11 +58,12 @@ mod tip;
 mod tools;
 
 pub use attribute::Attribute;
+pub use boxes::first_copy::FirstCopy;
 pub use boxes::item_boxes::ItemBoxes;
 pub use cam_shapes::{Contour, Seg, Segments};
 pub use canvas::{Canvas, Figure, Print};
 pub use cells::item_list::BoxedItems;
-pub use cells::kept::ItemCells;
+pub use cells::kept::{ItemCells, near_end};
 pub use cells::numbers::ItemNumbers;
 pub use checks::attributes::is_attribute;
 pub use dictionary::Dictionary;

@@ -1,11 +1,13 @@
 -- Boxes that are placed: of what is painted at a place, from the box of the same at the origin.
-use Rattle.std.specs.Prelude.{◌≡◌, ℕ, ◌*◌, ◌^◌, ◌<◌, IsTrue, ℤ, pos, ◌+ℤ◌, ◌-ℤ◌, ◌*ℤ◌, ◌≤ℤ◌, List, All, ⊤}
+use Rattle.std.specs.Prelude.{◌≡◌, ℕ, ◌*◌, ◌^◌, ◌<◌, ◌≤◌, IsTrue, ℤ, pos, ◌+ℤ◌, ◌-ℤ◌, ◌*ℤ◌, ◌≤ℤ◌, List, All, ⊤}
 use Rattle.std.specs.Int.RustNames.{unsigned_abs}
 use Rattle.cam_units.specs.declared.bounds.Bounds.{Bounds}
 use Rattle.cam_units.specs.declared.bounds.Bounds.TheVariants.{Empty, Closed}
 use Rattle.cam_units.specs.declared.length.Nm.{Nm}
 use Rattle.cam_units.specs.declared.point.Point.{Point}
 use Rattle.cam_units.specs.declared.point.Spot.{Spot}
+use Rattle.cam_units.specs.declared.turn.Turn.{Turn}
+use Rattle.cam_units.specs.declared.turn.Turn.TheVariants.{R0, R90, R180, R270, M0, M90, M180, M270}
 use Rattle.cam_refusals.specs.Limits.{board_limit}
 use Rattle.cam_units.specs.Board.{IsSize}
 use Rattle.cam_units.specs.Boxes.{has_no_place}
@@ -44,6 +46,24 @@ pub record IsBoxOffset (o : Point) : Type 0 where
 
 abbrev pub moved_spot : Point → Spot → Spot
 moved_spot by s = record { x = s.x +ℤ pos 2 *ℤ by.x; y = s.y +ℤ pos 2 *ℤ by.y }
+
+-- the turn that takes another one back
+abbrev pub turned_back : Turn → Turn
+turned_back R0 = R0
+turned_back R90 = R270
+turned_back R180 = R180
+turned_back R270 = R90
+turned_back M0 = M0
+turned_back M90 = M90
+turned_back M180 = M180
+turned_back M270 = M270
+
+-- What was at most a coordinate once it was moved by so many nm was at most another one before, and likewise at least: of
+-- what was near, in half nm.
+pub record IsBackFrom (at by back : ℤ) : Type 0 where
+  pub most : (x : ℤ) → unsigned_abs x < 2 ^ 33 → (x +ℤ pos 2 *ℤ by) ≤ℤ at → x ≤ℤ back
+  pub least : (x : ℤ) → unsigned_abs x < 2 ^ 33 → at ≤ℤ (x +ℤ pos 2 *ℤ by) → back ≤ℤ x
+  pub near : unsigned_abs back ≤ 2 ^ 33
 
 -- where no place lies between its corners, it has none
 abbrev pub IsUncrossed : Bounds → Type 0

@@ -9,21 +9,8 @@ ghost use Rattle.cam_objects.specs.Cells.{AreCellsOf, box_at};
 ghost use Rattle.cam_objects.specs.Topmost.{PointsAt};
 
 use crate::asking::asked::AskedItems;
-use crate::cells::kept::ItemCells;
+use crate::cells::kept::{ItemCells, near_end};
 use cam_units::{Bounds, Spot};
-
-/// The place behind the last item before an end that may have a place in common with a box, or 0: by the cells of the
-/// items, where there are any.
-fn near_end(cells: Option<&ItemCells>, end: usize, near: Bounds) -> usize
-    ensures within { result ≤ end }
-    ensures apart { (boxes : List Bounds) → IfSome cells.entry (λ kept. AreCellsOf boxes kept.now) → (k : ℕ) → result ≤ k
-        → k < end → k < length boxes → ¬ HaveCommonPlace (box_at boxes k) near }
-{
-    match cells {
-        Some(cells) => cells.near_end(end, near),
-        None => end,
-    }
-}
 
 /// The topmost of the items before one, at a place, in half nm: from the last one down, but for those whose cells lie
 /// elsewhere. Takes no memory.

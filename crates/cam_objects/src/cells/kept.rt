@@ -1,6 +1,6 @@
 //! The cells that the items of a list reach.
 
-ghost use Rattle.std.specs.Prelude.{◌≡◌, ◌<◌, ◌≤◌, ℕ, IfOk, List, insert, length, remove, slice_set, sum};
+ghost use Rattle.std.specs.Prelude.{◌≡◌, ◌<◌, ◌≤◌, ℕ, IfNone, IfOk, IfSome, List, insert, length, remove, slice_set, sum};
 ghost use Rattle.cam_units.specs.declared.bounds.Bounds.{Bounds};
 ghost use Rattle.cam_units.specs.Boxes.{HaveCommonPlace};
 ghost use Rattle.cam_objects.specs.Cells.{AreCellsOf, box_at};
@@ -72,7 +72,7 @@ fn read_all<B: BoxedItems>(
 
 impl ItemCells {
     /// Of no items.
-    fn none(alloc: Global) -> ItemCells
+    pub(crate) fn none(alloc: Global) -> ItemCells
         ensures { (boxes : List Bounds) → AreCellsOf boxes result }
     {
         ItemCells {
@@ -211,5 +211,18 @@ impl ItemCells {
         ensures { result ≤ count }
     {
         count.saturating_sub(self.sides().far_count(Reach::of(near)))
+    }
+}
+
+/// As `ItemCells::near_end`, where the cells of the items are known; else the end.
+pub fn near_end(cells: Option<&ItemCells>, end: usize, near: Bounds) -> usize
+    ensures within { result ≤ end }
+    ensures unknown { IfNone cells.entry (result ≡ end) }
+    ensures apart { (boxes : List Bounds) → IfSome cells.entry (λ kept. AreCellsOf boxes kept.now) → (k : ℕ) → result ≤ k
+        → k < end → k < length boxes → ¬ HaveCommonPlace (box_at boxes k) near }
+{
+    match cells {
+        Some(cells) => cells.near_end(end, near),
+        None => end,
     }
 }

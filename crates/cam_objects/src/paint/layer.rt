@@ -1,9 +1,10 @@
 //! Layers, painted on a canvas, item by item from the last one on.
 
-ghost use Rattle.std.specs.Prelude.{ℕ, ◌<◌, ◌^◌, ◌≡◌, ◌*ℤ◌, pos, All, Some, length, slice_get};
+ghost use Rattle.std.specs.Prelude.{ℕ, ◌<◌, ◌^◌, ◌≡◌, ◌*◌, ◌*ℤ◌, pos, All, IfSome, Some, length, slice_get};
 ghost use Rattle.std.specs.Int.RustNames.{unsigned_abs};
 ghost use Rattle.cam_objects.specs.Bounds.{bounds_of};
 ghost use Rattle.cam_objects.specs.Canvases.{Paints};
+ghost use Rattle.cam_objects.specs.Cells.{IsFirstCopyOf};
 ghost use Rattle.cam_objects.specs.Contents.{content_leaves, content_of};
 ghost use Rattle.cam_objects.specs.Leaves.{
   block_leaves,
@@ -16,7 +17,7 @@ ghost use Rattle.cam_objects.specs.Leaves.{
   shifted,
 };
 ghost use Rattle.cam_objects.specs.Machinery.Boxes.{IsNearBox};
-ghost use Rattle.cam_objects.specs.Machinery.Parts.{ArePartsOf};
+ghost use Rattle.cam_objects.specs.Machinery.ObjectCells.{AreObjectCells};
 ghost use Rattle.cam_objects.specs.Machinery.Painting.{
   IsCopied,
   IsPaintableItem,
@@ -28,15 +29,16 @@ ghost use Rattle.cam_objects.specs.Machinery.Runs.{IsInRun, IsWithinCount};
 ghost use Rattle.cam_objects.specs.Soundness.{HasSoundItems};
 ghost use Rattle.cam_objects.specs.declared.item.Item.{Item};
 
+use crate::boxes::first_copy::FirstCopy;
 use crate::boxes::items::block_bounds;
-use crate::boxes::parts::Parts;
 use crate::boxes::placed::moved;
 use crate::canvas::{Canvas, is_done_in};
+use crate::cells::kept::ItemCells;
 use crate::dictionary::Dictionary;
 use crate::item::Item;
 use crate::layer::Layer;
 use crate::object::Object;
-use crate::paint::objects::{paint_object, paint_parts};
+use crate::paint::objects::{paint_block, paint_object};
 use crate::paint::run::Run;
 use crate::placing::copies::Copies;
 use crate::placing::place::Place;
@@ -47,14 +49,14 @@ fn paint_copy<C: Canvas>(
     entries: &Dictionary,
     objects: &[Object],
     first: Bounds,
-    parts: &Parts,
+    cells: Option<&ItemCells>,
     by: Point,
     canvas: &mut C,
 )
     requires objects { All StandsOnBoard objects.now }
     requires first { first ≡ bounds_of (block_leaves (meaning_in entries.now) origin objects.now) }
     requires near { IsNearBox first }
-    requires parts { ArePartsOf entries.now objects.now parts.now }
+    requires cells { IfSome cells (λ kept. AreObjectCells entries.now objects.now kept.now) }
     requires across { unsigned_abs by.x < 2 ^ 53 }
     requires up { unsigned_abs by.y < 2 ^ 53 }
     requires ready { IsReadyToPrint entries.now
@@ -66,9 +68,7 @@ fn paint_copy<C: Canvas>(
         return;
     }
     let place = Place::shifted(by);
-    let upto = entries.len();
-    let boxes = parts.as_slice();
-    paint_parts(entries, upto, objects, parts.size, boxes, &place, canvas);
+    paint_block(entries, entries.len(), objects, cells, &place, canvas);
 }
 
 /// Paints one column of a repeat, from its last row on: the copies in a run of its rows, where no other covers a pixel.
@@ -77,14 +77,14 @@ fn paint_column<C: Canvas>(
     copies: &Copies,
     objects: &[Object],
     first: Bounds,
-    parts: &Parts,
+    cells: Option<&ItemCells>,
     column: u32,
     seen: Run,
     canvas: &mut C,
 )
     requires first { first ≡ bounds_of (block_leaves (meaning_in entries.now) origin objects.now) }
     requires near { IsNearBox first }
-    requires parts { ArePartsOf entries.now objects.now parts.now }
+    requires cells { IfSome cells (λ kept. AreObjectCells entries.now objects.now kept.now) }
     requires across { IsCopied copies.now.columns copies.now.i objects.now }
     requires up { IsCopied copies.now.rows copies.now.j objects.now }
     requires column { column < copies.now.columns }
@@ -99,12 +99,46 @@ fn paint_column<C: Canvas>(
 {
     for r in (seen.first..seen.end).rev() {
         let by = copies.offset(column, r);
-        paint_copy(entries, objects, first, parts, by, canvas);
+        paint_copy(entries, objects, first, cells, by, canvas);
     }
 }
 
-/// Paints a repeat, from the last column on, if something is left to paint in its box: the copies whose boxes meet that of
-/// the canvas.
+/// Paints a repeat of which the first copy has a box, from the last column on, if something is left to paint in the box of all:
+/// the copies whose boxes meet that of the canvas.
+fn paint_copies<C: Canvas>(
+    entries: &Dictionary,
+    copies: &Copies,
+    objects: &[Object],
+    first: Bounds,
+    cells: Option<&ItemCells>,
+    canvas: &mut C,
+)
+    requires some { 0 < copies.now.columns * copies.now.rows }
+    requires first { first ≡ bounds_of (block_leaves (meaning_in entries.now) origin objects.now) }
+    requires near { IsNearBox first }
+    requires cells { IfSome cells (λ kept. AreObjectCells entries.now objects.now kept.now) }
+    requires across { IsCopied copies.now.columns copies.now.i objects.now }
+    requires up { IsCopied copies.now.rows copies.now.j objects.now }
+    requires ready { IsReadyToPrint entries.now (repeat_leaves (meaning_in entries.now)
+        copies.now.columns copies.now.rows copies.now.i copies.now.j objects.now) }
+    ensures { Paints C.has C.place C.ink canvas.old (repeat_leaves (meaning_in entries.now)
+        copies.now.columns copies.now.rows copies.now.i copies.now.j objects.now) canvas.new }
+{
+    let whole = canvas.bounds();
+    let rows = copies.rows_over(first, whole);
+    if rows.is_empty() {
+        return;
+    }
+    if is_done_in(canvas, copies.bounds(first)) {
+        return;
+    }
+    let columns = copies.columns_over(first, whole);
+    for c in (columns.first..columns.end).rev() {
+        paint_column(entries, copies, objects, first, cells, c, rows, canvas);
+    }
+}
+
+/// Paints a repeat, from the last column on.
 fn paint_repeat<C: Canvas>(
     entries: &Dictionary,
     copies: &Copies,
@@ -118,22 +152,9 @@ fn paint_repeat<C: Canvas>(
     ensures { Paints C.has C.place C.ink canvas.old (repeat_leaves (meaning_in entries.now)
         copies.now.columns copies.now.rows copies.now.i copies.now.j objects.now) canvas.new }
 {
-    if copies.count() == 0 {
-        return;
-    }
-    let first = block_bounds(entries, objects);
-    let whole = canvas.bounds();
-    let rows = copies.rows_over(first, whole);
-    if rows.is_empty() {
-        return;
-    }
-    if is_done_in(canvas, copies.bounds(first)) {
-        return;
-    }
-    let columns = copies.columns_over(first, whole);
-    let parts = Parts::of(entries, objects);
-    for c in (columns.first..columns.end).rev() {
-        paint_column(entries, copies, objects, first, &parts, c, rows, canvas);
+    if copies.count() > 0 {
+        let first = block_bounds(entries, objects);
+        paint_copies(entries, copies, objects, first, None, canvas);
     }
 }
 
@@ -152,6 +173,25 @@ fn paint_item<C: Canvas>(entries: &Dictionary, item: &Item, canvas: &mut C)
             paint_repeat(entries, &copies, objects.as_slice(), canvas);
         }
     }
+}
+
+/// Paints an item of which the first copy is known, if it is a repeat.
+fn paint_known<C: Canvas>(entries: &Dictionary, item: &Item, first: &FirstCopy, canvas: &mut C)
+    requires item { IsPaintableItem item.now }
+    requires ready { IsReadyToPrint entries.now (item_leaves (meaning_in entries.now) item.now) }
+    requires first { IsFirstCopyOf entries.now item.now first.now }
+    ensures { Paints C.has C.place C.ink canvas.old (item_leaves (meaning_in entries.now) item.now) canvas.new }
+{
+    if let Item::Repeat { objects, .. } = item {
+        let copies = item.copies();
+        if copies.count() > 0 {
+            let cells = Some(&first.cells);
+            let objects = objects.as_slice();
+            paint_copies(entries, &copies, objects, first.bounds, cells, canvas);
+            return;
+        }
+    }
+    paint_item(entries, item, canvas);
 }
 
 /// Paints items, from the last one on.
@@ -182,5 +222,16 @@ impl Layer {
             → Paints C.has C.place C.ink canvas.old (item_leaves (meaning_in self.now.apertures) item) canvas.new }
     {
         paint_item(&self.apertures, &self.items[place], canvas);
+    }
+    /// Paints the item at a place of the list, counted from 0, from its last leaf on: a repeat by its first copy.
+    pub fn paint_repeat<C: Canvas>(&self, place: usize, first: &FirstCopy, canvas: &mut C)
+        requires sound { HasSoundItems self.now }
+        requires within { place < length self.now.items.items }
+        requires first { (item : Item) → slice_get self.now.items.items place ≡ Some item
+            → IsFirstCopyOf self.now.apertures item first.now }
+        ensures { (item : Item) → slice_get self.now.items.items place ≡ Some item
+            → Paints C.has C.place C.ink canvas.old (item_leaves (meaning_in self.now.apertures) item) canvas.new }
+    {
+        paint_known(&self.apertures, &self.items[place], first, canvas);
     }
 }

@@ -1,16 +1,15 @@
 //! Objects, painted on a canvas from the last one on. Nothing is unfolded.
 
 ghost use Rattle.std.specs.Prelude.{◌≡◌, ◌+◌, ◌≤◌, All, IfSome, length, take};
-ghost use Rattle.cam_objects.specs.Bounds.{bounds_of};
 ghost use Rattle.cam_objects.specs.Canvases.{Paints};
-ghost use Rattle.cam_objects.specs.Leaves.{block_leaves, object_leaves, origin};
-ghost use Rattle.cam_objects.specs.Machinery.Parts.{ArePartBoxes};
-ghost use Rattle.cam_objects.specs.Machinery.Boxes.{IsNearBox, IsSizedTip};
+ghost use Rattle.cam_objects.specs.Leaves.{block_leaves, object_leaves};
+ghost use Rattle.cam_objects.specs.Machinery.Boxes.{IsSizedTip};
+ghost use Rattle.cam_objects.specs.Machinery.ObjectCells.{AreObjectCells};
 ghost use Rattle.cam_objects.specs.Machinery.Painting.{IsPrintable, StandsOnBoard, flash_leaves, meaning_before};
 ghost use Rattle.cam_objects.specs.Soundness.{IsSoundDictionary};
 
-use crate::boxes::parts::{CHUNK_SIZE, behind_parts, part_at};
-use crate::canvas::{Canvas, Figure, Print, is_done_in, misses};
+use crate::canvas::{Canvas, Figure, Print, misses};
+use crate::cells::kept::{ItemCells, near_end};
 use crate::dictionary::Dictionary;
 use crate::entry::Entry;
 use crate::object::Object;
@@ -18,7 +17,6 @@ use crate::paint::prints::{paint_region, paint_stroke, paint_sweep};
 use crate::placing::place::Place;
 use crate::tip::{Tip, round_width};
 use cam_shapes::Arc;
-use cam_units::Bounds;
 
 /// Paints what a flash of the number paints at a place, if its box meets the canvas, and, of a block, if something is left
 /// to paint there.
@@ -58,81 +56,36 @@ fn paint_flash<C: Canvas>(
             if canvas.is_decided_in(bounds) {
                 return;
             }
-            let objects = objects.as_slice();
-            let chunks = entries.chunks(at);
-            paint_parts(entries, at, objects, CHUNK_SIZE, chunks, place, canvas);
+            let cells = Some(entries.cells(at));
+            paint_block(entries, at, objects.as_slice(), cells, place, canvas);
         }
     }
 }
 
-/// Paints objects at a place, from the last one on, but for the parts of so many in whose boxes nothing is left to paint.
+/// Paints the objects of a block at a place, from the last one on: where their cells are known, those alone whose boxes may
+/// meet that of the canvas.
 #[cycle(paint)]
-pub(crate) fn paint_parts<C: Canvas>(
+pub(crate) fn paint_block<C: Canvas>(
     entries: &Dictionary,
     upto: usize,
     objects: &[Object],
-    size: usize,
-    boxes: &[Bounds],
+    cells: Option<&ItemCells>,
     place: &Place,
     canvas: &mut C,
 )
     requires objects { All StandsOnBoard objects.now }
-    requires boxes { ArePartBoxes size (take upto entries.now) objects.now boxes.now }
+    requires cells { IfSome cells (λ kept. AreObjectCells (take upto entries.now) objects.now kept.now) }
     requires ready { IsPrintable entries.now upto (upto + 1) place.now
         (block_leaves (meaning_before upto entries.now) place.now objects.now) }
     ensures { Paints C.has C.place C.ink canvas.old
         (block_leaves (meaning_before upto entries.now) place.now objects.now) canvas.new }
 {
-    let behind = behind_parts(objects, size, boxes.len());
-    paint_block(entries, upto, behind, place, canvas);
-    for k in (0..boxes.len()).rev() {
-        let part = part_at(objects, size, k);
-        paint_part(entries, upto, part, boxes[k], place, canvas);
-    }
-}
-
-/// Paints objects at a place, from the last one on, if something is left to paint in their box there.
-#[cycle(paint)]
-fn paint_part<C: Canvas>(
-    entries: &Dictionary,
-    upto: usize,
-    objects: &[Object],
-    bounds: Bounds,
-    place: &Place,
-    canvas: &mut C,
-)
-    requires objects { All StandsOnBoard objects.now }
-    requires bounds { bounds ≡ bounds_of (block_leaves (meaning_before upto entries.now) origin objects.now) }
-    requires near { IsNearBox bounds }
-    requires ready { IsPrintable entries.now upto (upto + 1) place.now
-        (block_leaves (meaning_before upto entries.now) place.now objects.now) }
-    ensures { Paints C.has C.place C.ink canvas.old
-        (block_leaves (meaning_before upto entries.now) place.now objects.now) canvas.new }
-{
-    let there = place.bounds(bounds);
-    if is_done_in(canvas, there) {
-        return;
-    }
-    paint_block(entries, upto, objects, place, canvas);
-}
-
-/// Paints the objects of a block at a place, from the last one on.
-#[cycle(paint)]
-fn paint_block<C: Canvas>(
-    entries: &Dictionary,
-    upto: usize,
-    objects: &[Object],
-    place: &Place,
-    canvas: &mut C,
-)
-    requires objects { All StandsOnBoard objects.now }
-    requires ready { IsPrintable entries.now upto (upto + 1) place.now
-        (block_leaves (meaning_before upto entries.now) place.now objects.now) }
-    ensures { Paints C.has C.place C.ink canvas.old
-        (block_leaves (meaning_before upto entries.now) place.now objects.now) canvas.new }
-{
-    for k in (0..objects.len()).rev() {
+    let near = place.seen(canvas.bounds());
+    let mut end = near_end(cells, objects.len(), near);
+    while end > 0 {
+        let k = end - 1;
         paint_object(entries, upto, &objects[k], place, canvas);
+        end = near_end(cells, k, near);
     }
 }
 

@@ -17,8 +17,8 @@ returns-then-is_done_in g c =
     (block_leaves (meaning_in a.entries.now) (shifted a.by.x a.by.y) a.objects.now) c.moved.result box
     (c.is_done_in.ensures.0 c.if-is_done_in.true)
 
-pub paint_parts-requires-clause-ready : goal.paint_parts-requires-clause-ready
-paint_parts-requires-clause-ready g c =
-    paintable_whole c.args.entries.now c.len-upto.result c.args.by.x c.args.by.y c.shifted-place.result
-    (λ means p. block_leaves means p c.args.objects.now) c.len-upto.ensures.value c.shifted-place.ensures
+pub paint_block-requires-clause-ready : goal.paint_block-requires-clause-ready
+paint_block-requires-clause-ready g c =
+    paintable_whole c.args.entries.now c.len.result c.args.by.x c.args.by.y c.shifted-place.result
+    (λ means p. block_leaves means p c.args.objects.now) c.len.ensures.value c.shifted-place.ensures
     c.requires.across c.requires.up c.requires.ready

@@ -1,4 +1,4 @@
-use Rattle.std.proofs.Common.{◌≡◌, ℕ, ◌+◌, ◌-◌, ◌*◌, ◌<◌, List, length, take, drop, slice_get, get_or, Some, sym, ap, subst, ◌∙◌, arith}
+use Rattle.std.proofs.Common.{◌≡◌, ℕ, ◌+◌, ◌-◌, ◌*◌, ◌<◌, ◌≤◌, List, length, take, drop, slice_get, get_or, Some, sym, ap, subst, ◌∙◌, arith}
 use Rattle.std.specs.List.{All}
 use Rattle.cam_units.specs.declared.bounds.Bounds.TheVariants.{Empty}
 use Rattle.cam_objects.specs.declared.object.Object.{Object}
@@ -8,10 +8,11 @@ use Rattle.cam_objects.specs.declared.placing.place.Place.{Place}
 use Rattle.cam_objects.specs.Bounds.{bounds_of}
 use Rattle.cam_objects.specs.Canvases.{Paints}
 use Rattle.cam_objects.specs.Leaves.{Leaf, Meaning, block_leaves, meaning_in, object_leaves, origin, round_width}
-use Rattle.cam_objects.specs.Machinery.Parts.{ArePartBoxes, part_at}
+use Rattle.cam_objects.specs.Machinery.ObjectCells.{AreObjectCells}
 use Rattle.cam_objects.specs.Machinery.Painting.{HasReach, IsPrintable, StandsOnBoard, flash_leaves, meaning_before}
 use Rattle.cam_objects.specs.Soundness.{AreOnBoard}
-use Rattle.cam_objects.proofs.Parts.{all_behind, all_part, flat_before, part_box, printable_behind, printable_part}
+use Rattle.cam_objects.proofs.ObjectCells.{paints_past, unseen_between}
+use Rattle.cam_objects.proofs.PaintedRuns.{still_unseen}
 use Rattle.cam_objects.proofs.Canvases.{paints_beneath, paints_boxed, paints_last, paints_next, paints_nothing, sound_print}
 use Rattle.cam_objects.proofs.ItemBounds.{flash_box, meaning_among}
 use Rattle.cam_objects.proofs.Painting.{
@@ -33,18 +34,35 @@ use Rattle.cam_objects.proofs.paint.objects.+paint.Goals as goal
 
 -- ---- a block
 
-pub paint_block-loop-k-init : goal.paint_block-loop-k-init
-paint_block-loop-k-init g t c =
+pub paint_block-seen-near-requires : goal.paint_block-seen-near-requires
+paint_block-seen-near-requires g t c = reach_box (c.args.upto + 1) c.args.place.now c.requires.ready.reach
+
+pub paint_block-loop-end-init : goal.paint_block-loop-end-init
+paint_block-loop-end-init g t c =
     let canvas = g.C.Canvas in
-    let f : Object → List Leaf = object_leaves (meaning_before c.args.upto c.args.entries.now) c.args.place.now in
-    paints_last canvas.has canvas.place canvas.ink f c.args.objects.now c.args.canvas.now
+    let es = take c.args.upto c.args.entries.now in
+    let p = c.args.place.now in
+    let objects = c.args.objects.now in
+    let v = c.args.canvas.now in
+    let f : Object → List Leaf = object_leaves (meaning_in es) p in
+    let first = c.near_end-end.result in
+    let within : first ≤ length objects = c.near_end-end.ensures.within in
+    record {
+      listed = within;
+      painted = paints_past canvas.has canvas.place canvas.ink f objects (length objects - first) first (length objects) v v
+          (omega (arith, within)) (omega arith)
+          (unseen_between canvas.has canvas.place v es objects c.args.cells (λ r. r.now) first (length objects) p c.bounds.result
+          c.seen-near.result (omega arith) c.requires.cells c.bounds.ensures c.seen-near.ensures c.near_end-end.ensures.unknown
+          c.near_end-end.ensures.apart)
+          (paints_last canvas.has canvas.place canvas.ink f objects v);
+    }
 
 pub paint_block-paint_object-requires : goal.paint_block-paint_object-requires
 paint_block-paint_object-requires g t c κs within =
-    let i = c.loop-k.k - 1 in
+    let i = c.loop-end.end - 1 in
     let objects = c.args.objects.now in
     let x = c.index-objects-k.result in
-    let below : i < length objects = omega arith in (
+    let below : i < length objects = omega (arith, c.loop-end.invariant.listed) in (
       omega (arith, c.decreases),
       (
         within,
@@ -56,124 +74,39 @@ paint_block-paint_object-requires g t c κs within =
       ),
     )
 
-pub paint_block-loop-k-preserved : goal.paint_block-loop-k-preserved
-paint_block-loop-k-preserved g t c =
+pub paint_block-loop-end-preserved : goal.paint_block-loop-end-preserved
+paint_block-loop-end-preserved g t c =
     let canvas = g.C.Canvas in
-    let f : Object → List Leaf = object_leaves (meaning_before c.args.upto c.args.entries.now) c.args.place.now in
-    paints_next canvas.has canvas.place canvas.ink f c.args.objects.now (c.loop-k.k - 1) c.loop-k.k c.index-objects-k.result
-    c.args.canvas.now c.loop-k.canvas c.paint_object.new.canvas
-    (omega arith) (omega arith) c.index-objects-k.is c.loop-k.invariant c.paint_object.ensures
+    let es = take c.args.upto c.args.entries.now in
+    let p = c.args.place.now in
+    let objects = c.args.objects.now in
+    let u = c.args.canvas.now in
+    let v = c.paint_object.new.canvas in
+    let f : Object → List Leaf = object_leaves (meaning_in es) p in
+    let k = c.loop-end.end - 1 in
+    let first = c.near_end-end-in-loop-end.result in
+    let within : first ≤ k = c.near_end-end-in-loop-end.ensures.within in
+    let listed : k < length objects = omega (arith, c.loop-end.invariant.listed) in
+    let later = paints_next canvas.has canvas.place canvas.ink f objects k c.loop-end.end c.index-objects-k.result u c.loop-end.canvas v
+    (omega arith) listed c.index-objects-k.is c.loop-end.invariant.painted c.paint_object.ensures in
+    record {
+      listed = omega (arith, within, listed);
+      painted = paints_past canvas.has canvas.place canvas.ink f objects (k - first) first k u v (omega (arith, within)) (omega (arith, listed))
+          (λ j o from below. still_unseen canvas.has canvas.place canvas.ink u v _ (f (get_or objects j o)) later
+          (unseen_between canvas.has canvas.place u es objects c.args.cells (λ r. r.now) first k p c.bounds.result
+          c.seen-near.result (omega (arith, listed)) c.requires.cells c.bounds.ensures c.seen-near.ensures
+          c.near_end-end-in-loop-end.ensures.unknown c.near_end-end-in-loop-end.ensures.apart j o from below))
+          later;
+    }
 
 pub paint_block-returns : goal.paint_block-returns
 paint_block-returns g t c =
     let canvas = g.C.Canvas in
     let means = meaning_before c.args.upto c.args.entries.now in
-    let first : c.loop-k.k ≡ 0 = omega arith in
+    let first : c.loop-end.end ≡ 0 = omega arith in
     subst (λ k. Paints canvas.has canvas.place canvas.ink c.args.canvas.now
-    (block_leaves means c.args.place.now (drop k c.args.objects.now)) c.loop-k.canvas)
-    first c.loop-k.invariant
-
--- ---- parts
-
-pub paint_part-bounds-there-requires-clause-offset : goal.paint_part-bounds-there-requires-clause-offset
-paint_part-bounds-there-requires-clause-offset g t c = reach_box (c.args.upto + 1) c.args.place.now c.requires.ready.reach
-
-pub paint_part-returns-then-is_done_in : goal.paint_part-returns-then-is_done_in
-paint_part-returns-then-is_done_in g t c =
-    let canvas = g.C.Canvas in
-    let es = take c.args.upto c.args.entries.now in
-    let p = c.args.place.now in
-    paints_boxed canvas.has canvas.place canvas.ink c.args.canvas.now (block_leaves (meaning_in es) p c.args.objects.now)
-    c.bounds-there.result
-    (part_box es c.args.objects.now p c.args.bounds c.bounds-there.result c.requires.bounds c.bounds-there.ensures)
-    (c.is_done_in.ensures.0 c.if-is_done_in.true)
-
-pub paint_part-paint_block-requires : goal.paint_part-paint_block-requires
-paint_part-paint_block-requires g t c κs within = (omega (arith, c.decreases), (within, (c.requires.objects, c.requires.ready)))
-
-pub paint_parts-loop-k-init : goal.paint_parts-loop-k-init
-paint_parts-loop-k-init g t c =
-    let canvas = g.C.Canvas in
-    let means = meaning_before c.args.upto c.args.entries.now in
-    subst (λ (os : List Object). Paints canvas.has canvas.place canvas.ink c.args.canvas.now (block_leaves means c.args.place.now os)
-    c.paint_block.new.canvas)
-    {y = drop (length c.args.boxes.now * c.args.size) c.args.objects.now} c.behind_parts-behind.ensures c.paint_block.ensures
-
-pub paint_parts-paint_part-requires : goal.paint_parts-paint_part-requires
-paint_parts-paint_part-requires g t c κs within =
-    let es = c.args.entries.now in
-    let k = c.loop-k.k - 1 in
-    let size = c.args.size in
-    let objects = c.args.objects.now in
-    let p = c.args.place.now in
-    let means = meaning_before c.args.upto es in
-    let same : part_at size k objects ≡ c.part_at-part.result.now = sym {b = part_at size k objects} c.part_at-part.ensures in
-    let below : k < length c.args.boxes.now = omega arith in (
-      omega (arith, c.decreases),
-      (
-        within,
-        (
-          subst (λ (os : List Object). All StandsOnBoard os) same (all_part StandsOnBoard objects (k * size) size c.requires.objects),
-          (
-            subst (λ (os : List Object). get_or c.args.boxes.now k Empty ≡ bounds_of (block_leaves means origin os)) same
-                (c.requires.boxes.each k Empty below),
-            (
-              c.requires.boxes.near k Empty below,
-              subst (λ (os : List Object). IsPrintable es c.args.upto (c.args.upto + 1) p (block_leaves means p os)) same
-                  (printable_part es c.args.upto (c.args.upto + 1) size k objects p c.requires.ready),
-            ),
-          ),
-        ),
-      ),
-    )
-
-pub paint_parts-loop-k-preserved : goal.paint_parts-loop-k-preserved
-paint_parts-loop-k-preserved g t c =
-    let canvas = g.C.Canvas in
-    let means = meaning_before c.args.upto c.args.entries.now in
-    let p = c.args.place.now in
-    let k = c.loop-k.k - 1 in
-    let size = c.args.size in
-    let objects = c.args.objects.now in
-    let f : Object → List Leaf = object_leaves means p in
-    let more : k * size + size ≡ (k + 1) * size = omega arith in
-    let next = more ∙ ap (λ n. n * size) (omega arith) in
-    subst (λ (leaves : List Leaf). Paints canvas.has canvas.place canvas.ink c.args.canvas.now leaves c.paint_part.new.canvas)
-    (sym (flat_before f objects (k * size) size (c.loop-k.k * size) next))
-    (paints_beneath canvas.has canvas.place canvas.ink c.args.canvas.now c.loop-k.canvas c.paint_part.new.canvas
-    (block_leaves means p (part_at size k objects)) (block_leaves means p (drop (c.loop-k.k * size) objects)) c.loop-k.invariant
-    (subst (λ (os : List Object). Paints canvas.has canvas.place canvas.ink c.loop-k.canvas (block_leaves means p os)
-    c.paint_part.new.canvas)
-    c.part_at-part.ensures c.paint_part.ensures))
-
-pub paint_parts-paint_block-requires : goal.paint_parts-paint_block-requires
-paint_parts-paint_block-requires g t c κs within =
-    let es = c.args.entries.now in
-    let n = length c.args.boxes.now * c.args.size in
-    let objects = c.args.objects.now in
-    let p = c.args.place.now in
-    let same : drop n objects ≡ c.behind_parts-behind.result.now = sym {b = drop n objects} c.behind_parts-behind.ensures in (
-      omega (arith, c.decreases),
-      (
-        within,
-        (
-          subst (λ (os : List Object). All StandsOnBoard os) same (all_behind StandsOnBoard objects n c.requires.objects),
-          subst (λ (os : List Object). IsPrintable es c.args.upto (c.args.upto + 1) p (block_leaves (meaning_before c.args.upto es) p os)) same
-              (printable_behind es c.args.upto (c.args.upto + 1) n objects p c.requires.ready),
-        ),
-      ),
-    )
-
-pub paint_parts-returns : goal.paint_parts-returns
-paint_parts-returns g t c =
-    let canvas = g.C.Canvas in
-    let means = meaning_before c.args.upto c.args.entries.now in
-    let zero : c.loop-k.k ≡ 0 = omega arith in
-    let none : 0 * c.args.size ≡ 0 = omega arith in
-    let first = ap (λ k. k * c.args.size) zero ∙ none in
-    subst (λ n. Paints canvas.has canvas.place canvas.ink c.args.canvas.now
-    (block_leaves means c.args.place.now (drop n c.args.objects.now)) c.loop-k.canvas)
-    first c.loop-k.invariant
+    (block_leaves means c.args.place.now (drop k c.args.objects.now)) c.loop-end.canvas)
+    first c.loop-end.invariant.painted
 
 -- ---- a flash
 
@@ -239,14 +172,14 @@ paint_flash-paint-requires g t c =
     )
     (box ∙ ap (λ (m : Meaning). bounds_of (m.flash p)) (sym among ∙ means))
 
-pub paint_flash-paint_parts-requires : goal.paint_flash-paint_parts-requires
-paint_flash-paint_parts-requires g t c κs within =
+pub paint_flash-paint_block-requires : goal.paint_flash-paint_block-requires
+paint_flash-paint_block-requires g t c κs within =
     let es = c.args.entries.now in
     let i = c.in-Some.found.0 in
     let below : i < c.args.upto = omega (arith, c.if-upto-at.false) in
     let at : slice_get es i ≡ Some (c.args.number, Block c.in-Block.objects) =
     c.in-Some.ensures.found ∙ ap (λ (e : Entry). Some (c.args.number, e)) c.in-Block.is in
-    let same : c.in-Block.objects ≡ c.as_slice-objects.result.now = sym c.as_slice-objects.ensures in (
+    let same : c.in-Block.objects ≡ c.as_slice.result.now = sym c.as_slice.ensures in (
       omega (arith, c.decreases, below),
       (
         within,
@@ -254,8 +187,8 @@ paint_flash-paint_parts-requires g t c κs within =
           subst (λ (os : List Object). (k : ℕ) (d : Object) → k < length os → StandsOnBoard (get_or os k d)) same
               (block_stands es i c.args.number c.in-Block.objects at c.requires.sound),
           (
-            subst (λ (os : List Object). ArePartBoxes 512 (take i es) os c.chunks-chunks.result.now) same
-                (c.chunks-chunks.ensures c.args.number (Block c.in-Block.objects) at),
+            subst (λ (os : List Object). AreObjectCells (take i es) os c.cells.result.now) same
+                (c.cells.ensures c.args.number (Block c.in-Block.objects) at),
             subst (λ (os : List Object). IsPrintable es i (i + 1) c.args.place.now (block_leaves (meaning_before i es) c.args.place.now os))
                 same
                 (paintable_block es c.args.upto i c.args.number c.in-Block.objects c.args.place.now c.find_with_facts.ensures.distinct
@@ -284,12 +217,12 @@ paint_flash-returns-else-is_decided_in g t c =
     let i = c.in-Some.found.0 in
     let at : slice_get es i ≡ Some (c.args.number, Block c.in-Block.objects) =
     c.in-Some.ensures.found ∙ ap (λ (e : Entry). Some (c.args.number, e)) c.in-Block.is in
-    subst (λ (m : Meaning). Paints canvas.has canvas.place canvas.ink c.args.canvas.now (m.flash c.args.place.now) c.paint_parts.new.canvas)
+    subst (λ (m : Meaning). Paints canvas.has canvas.place canvas.ink c.args.canvas.now (m.flash c.args.place.now) c.paint_block.new.canvas)
     (sym (meaning-at es i c.args.upto c.args.number (Block c.in-Block.objects) c.find_with_facts.ensures.distinct at
     (omega (arith, c.if-upto-at.false)) c.requires.within))
     (subst (λ (os : List Object). Paints canvas.has canvas.place canvas.ink c.args.canvas.now
-    (block_leaves (meaning_before i es) c.args.place.now os) c.paint_parts.new.canvas)
-    c.as_slice-objects.ensures c.paint_parts.ensures)
+    (block_leaves (meaning_before i es) c.args.place.now os) c.paint_block.new.canvas)
+    c.as_slice.ensures c.paint_block.ensures)
 
 -- ---- an object
 

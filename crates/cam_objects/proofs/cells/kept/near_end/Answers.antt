@@ -1,6 +1,6 @@
 use Rattle.std.proofs.Common.{IfSome, subst}
 use Rattle.cam_objects.specs.Cells.{AreCellsOf}
-use Rattle.cam_objects.proofs.asking.topmost.near_end.Goals as goal
+use Rattle.cam_objects.proofs.cells.kept.near_end.Goals as goal
 
 pub returns-in-Some-clause-apart : goal.returns-in-Some-clause-apart
 returns-in-Some-clause-apart c = λ boxes kept.

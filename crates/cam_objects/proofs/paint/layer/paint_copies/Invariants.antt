@@ -2,7 +2,7 @@ use Rattle.std.proofs.Common.{pos, ◌*ℤ◌, drop}
 use Rattle.std.specs.List.{flat_map, range_with_len}
 use Rattle.cam_objects.specs.Canvases.{Paints}
 use Rattle.cam_objects.specs.Leaves.{column_leaves, meaning_in}
-use Rattle.cam_objects.proofs.paint.layer.paint_repeat.Given as goal
+use Rattle.cam_objects.proofs.paint.layer.paint_copies.Given as goal
 
 -- the columns from this one on are painted
 abbrev pub invariant-loop-c : goal.invariant-loop-c

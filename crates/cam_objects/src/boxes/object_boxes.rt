@@ -1,0 +1,113 @@
+//! The boxes of the objects of a block or of a repeat, one after another, and the cells that they reach.
+
+ghost use Rattle.std.specs.Prelude.{◌≡◌, ◌<◌, ◌≤◌, Some, length, slice_get};
+ghost use Rattle.cam_refusals.specs.Limits.{leaf_limit};
+ghost use Rattle.cam_objects.specs.Bounds.{bounds_of};
+ghost use Rattle.cam_objects.specs.Cells.{IsReachOf};
+ghost use Rattle.cam_objects.specs.Leaves.{meaning_in, object_leaves, origin};
+ghost use Rattle.cam_objects.specs.Machinery.ObjectCells.{AreMeasurable, AreObjectCells, HasCells};
+ghost use Rattle.cam_objects.specs.Soundness.{IsSoundEntry};
+ghost use Rattle.cam_objects.specs.Weights.{block_count, object_count, weight_in};
+ghost use Rattle.cam_objects.specs.declared.object.Object.{Object};
+
+use crate::boxes::extent::Extent;
+use crate::cells::kept::ItemCells;
+use crate::cells::reach::{Measure, Reach};
+use crate::checks::facts::leaf_count;
+use crate::dictionary::Dictionary;
+use crate::entry::Entry;
+use crate::object::Object;
+use std::alloc::Global;
+use std::marker::Model;
+
+/// Reads the boxes of objects: an aperture that the object read before named is not looked up again.
+#[derive(Drop)]
+pub(crate) struct ObjectBoxes<'a> {
+    entries: &'a Dictionary,
+    objects: &'a [Object],
+    last: Extent,
+}
+
+impl<'a> Model for ObjectBoxes<'a> {
+    ghost use Rattle.std.specs.Prelude.{ℕ, List};
+    ghost use Rattle.cam_objects.specs.declared.entry.Entry.{Entry};
+    ghost use Rattle.cam_objects.specs.declared.object.Object.{Object};
+
+    ghost Value = { List (ℕ × Entry) × List Object };
+
+    ghost use Rattle.cam_objects.specs.Machinery.Extents.{IsExtentIn};
+    ghost use Rattle.cam_objects.specs.Machinery.ObjectCells.{AreMeasurable};
+
+    ghost view = { λ r. (r.entries.now, r.objects.now) };
+
+    ghost invariant = { λ r. AreMeasurable r.entries.now r.objects.now × IsExtentIn r.entries.now r.last };
+}
+
+impl<'a> ObjectBoxes<'a> {
+    /// Of the objects of a block or of a repeat.
+    fn of(entries: &'a Dictionary, objects: &'a [Object]) -> ObjectBoxes<'a>
+        requires { AreMeasurable entries.now objects.now }
+        ensures { result ≡ (entries.now, objects.now) }
+    {
+        ObjectBoxes {
+            entries,
+            objects,
+            last: Extent::none(entries),
+        }
+    }
+
+    /// How many objects there are.
+    pub(crate) fn len(&self) -> usize
+        ensures value { result ≡ length self.now.1 }
+        ensures few { block_count (weight_in self.now.0) self.now.1 ≤ leaf_limit }
+    {
+        self.objects.len()
+    }
+
+    /// How many leaves they have.
+    pub(crate) fn leaves(&self) -> u64
+        ensures { result ≡ block_count (weight_in self.now.0) self.now.1 }
+    {
+        leaf_count(self.entries, self.objects)
+    }
+
+    /// The cells that the box of the object at a place reaches, counted from 0, and how many leaves it has.
+    #[inline]
+    pub(crate) fn measure(&mut self, place: usize) -> Measure
+        requires { place < length self.old.1 }
+        ensures reach { (object : Object) → slice_get self.old.1 place ≡ Some object
+            → IsReachOf (bounds_of (object_leaves (meaning_in self.old.0) origin object)) result.reach }
+        ensures leaves { (object : Object) → slice_get self.old.1 place ≡ Some object
+            → result.leaves ≡ object_count (weight_in self.old.0) object }
+        ensures list { self.new ≡ self.old }
+    {
+        let entries = self.entries;
+        let object = &self.objects[place];
+        Measure {
+            reach: Reach::of(self.last.object_bounds(entries, object)),
+            leaves: entries.leaf_count(object),
+        }
+    }
+}
+
+/// The cells of objects; where memory is refused, those of none of them.
+pub(crate) fn object_cells(alloc: Global, entries: &Dictionary, objects: &[Object]) -> ItemCells
+    requires { AreMeasurable entries.now objects.now }
+    ensures { AreObjectCells entries.now objects.now result }
+{
+    let mut boxes = ObjectBoxes::of(entries, objects);
+    let (cells, _) = ItemCells::of(alloc, &mut boxes);
+    cells
+}
+
+/// The cells of the objects of an entry that joins these.
+pub(crate) fn entry_cells(alloc: Global, entries: &Dictionary, entry: &Entry) -> ItemCells
+    requires { IsSoundEntry entries.now entry.now }
+    ensures { HasCells entries.now entry.now result }
+{
+    entries.soundness();
+    match entry {
+        Entry::Aperture(_) => ItemCells::none(alloc),
+        Entry::Block(objects) => object_cells(alloc, entries, objects.as_slice()),
+    }
+}
