@@ -24,53 +24,5 @@ row_below w tile wide accepted there is =
     subst (λ n. tile / n < down w) (sym is)
     (div_below tile (across w) (down w) (some_across w accepted) (omega (arith, there)))
 
--- the list of the row that the tile is in
-listed : (c : After-across) → let i = c.args.self.now in let row : ℕ = c.args.tile / c.across.result in
-    HasList i.rows.starts.items i.rows.numbers.items row
-    × (list_of i.rows.starts.items i.rows.numbers.items row ≡ numbers_from row 0 i.boxed.items)
-listed c =
-    c.requires.index.listed (c.args.tile / c.across.result)
-    (row_below c.args.window.now c.args.tile c.across.result c.requires.accepted c.requires.tile c.across.ensures)
-
-pub list-numbers-requires : goal.list-numbers-requires
-list-numbers-requires c = (listed (goal.at.list-numbers-requires c).After-across).0
-
-pub paint_all-requires-clause-numbers : goal.paint_all-requires-clause-numbers
-paint_all-requires-clause-numbers c =
-    let boxed = c.deref.result.now in
-    subst (All (λ k. k < length boxed))
-    (sym (c.list-numbers.ensures ∙ (listed (goal.at.paint_all-requires-clause-numbers c).After-across).1))
-    (numbers_below (c.args.tile / c.across.result) (length boxed) 0 c.args.self.now.boxed.items
-    (omega (arith, ap length c.deref.ensures.value)))
-
-pub paint_all-requires-clause-sides : goal.paint_all-requires-clause-sides
-paint_all-requires-clause-sides c = λ column row there.
-    let least : FitsSigned w64 c.in-Closed.low.x = search rules in
-    let greatest : FitsSigned w64 c.in-Closed.high.x = search rules in
-    let between : IsBetween c.in-Closed.low c.in-Closed.high (place_in c.args.swath.now column row) =
-    subst (λ b. Holds b (place_in c.args.swath.now column row)) c.in-Closed.is (c.bounds.ensures column row there) in
-    simp to_z-of_z (between.left, between.right)
-
-pub returns : goal.returns
-returns c =
-    let shown = c.args.shown.now in
-    let lists = leaves_by_item shown in
-    let w = c.args.window.now in
-    let i = c.args.self.now in
-    let wide = c.across.result in
-    let row : ℕ = c.args.tile / wide in
-    let boxed = i.boxed.items in
-    let old = c.args.swath.now in
-    let new = c.paint_all.new.swath in
-    let numbers = c.list-numbers.result.now in
-    let leaves =
-    ap (λ (those : List Boxed). numbered_leaves lists those numbers) c.deref.ensures.value
-    ∙ ap (numbered_leaves lists boxed) (c.list-numbers.ensures ∙ (listed (goal.at.returns c).After-across).1)
-    ∙ numbered lists row boxed in
-    subst (λ (leaves : List Leaf). PaintsSwath old leaves new) (leaves_are shown)
-    (painted_alike (IsSeen w i.within row) old new (row_leaves lists row boxed) (flat_map (λ those. those) lists)
-    (c.requires.index.enough row)
-    (seen_there w i.within c.bounds.result c.in-Closed.low c.in-Closed.high c.args.tile wide old c.in-Closed.is
-    (c.has_place.ensures.0 c.if-not-has_place.false)
-    (c.has_place-else-not-has_place.ensures.0 c.if-not-has_place-2.false) c.bounds.ensures c.requires.rows c.across.ensures)
-    (subst (λ (leaves : List Leaf). PaintsSwath old leaves new) leaves c.paint_all.ensures))
+pub go_to-requires : goal.go_to-requires
+go_to-requires c = ?
