@@ -7,7 +7,7 @@ use Rattle.cam_objects.specs.Leaves.{Leaf}
 use Rattle.cam_tiles.specs.declared.index.Boxed.{Boxed}
 use Rattle.cam_tiles.specs.declared.window.Window.{Window}
 use Rattle.cam_tiles.specs.Machinery.Indexes.{IsSeen, numbered_leaves, row_leaves}
-use Rattle.cam_tiles.specs.Machinery.RowLists.{HasList, list_of, numbers_from}
+use Rattle.cam_tiles.specs.Machinery.RowLists.{AreListed, numbers_from}
 use Rattle.cam_tiles.specs.Machinery.Shown.{leaves_by_item}
 use Rattle.cam_tiles.specs.Machinery.Swaths.{PaintsSwath, place_in}
 use Rattle.cam_tiles.specs.Picture.{accepts}
@@ -25,4 +25,54 @@ row_below w tile wide accepted there is =
     (div_below tile (across w) (down w) (some_across w accepted) (omega (arith, there)))
 
 pub go_to-requires : goal.go_to-requires
-go_to-requires c = ?
+go_to-requires c =
+    let i = c.args.self.now in
+    let row : ℕ = c.args.tile / c.across.result in
+    let below : row < down c.args.window.now =
+    row_below c.args.window.now c.args.tile c.across.result c.requires.accepted c.requires.tile c.across.ensures in
+    record {
+      listed = subst (λ (those : List Boxed). AreListed those i.rows) (sym c.deref.ensures.value) c.requires.index.listed;
+      there = omega (arith, below, c.requires.index.rows);
+    }
+
+pub paint_all-requires-clause-numbers : goal.paint_all-requires-clause-numbers
+paint_all-requires-clause-numbers c =
+    let row : ℕ = c.args.tile / c.across.result in
+    let boxed = c.args.self.now.boxed.items in
+    let size = length c.deref-2.result.now in
+    subst (All (λ k. k < size))
+    (sym (c.list-numbers.ensures ∙ c.in_ok-go_to.ensures.reaching ∙ ap (numbers_from row 0) c.deref.ensures.value))
+    (numbers_below row size 0 boxed (omega (arith, ap length c.deref-2.ensures.value)))
+
+pub paint_all-requires-clause-sides : goal.paint_all-requires-clause-sides
+paint_all-requires-clause-sides c = λ column row there.
+    let least : FitsSigned w64 c.in-Closed.low.x = search rules in
+    let greatest : FitsSigned w64 c.in-Closed.high.x = search rules in
+    let between : IsBetween c.in-Closed.low c.in-Closed.high (place_in c.args.swath.now column row) =
+    subst (λ b. Holds b (place_in c.args.swath.now column row)) c.in-Closed.is (c.bounds.ensures column row there) in
+    simp to_z-of_z (between.left, between.right)
+
+pub returns-clause-painted : goal.returns-clause-painted
+returns-clause-painted c =
+    let shown = c.args.shown.now in
+    let lists = leaves_by_item shown in
+    let w = c.args.window.now in
+    let i = c.args.self.now in
+    let wide = c.across.result in
+    let row : ℕ = c.args.tile / wide in
+    let boxed = i.boxed.items in
+    let old = c.args.swath.now in
+    let new = c.paint_all.new.swath in
+    let numbers = c.list-numbers.result.now in
+    let leaves =
+    ap (λ (those : List Boxed). numbered_leaves lists those numbers) c.deref-2.ensures.value
+    ∙ ap (numbered_leaves lists boxed)
+    (c.list-numbers.ensures ∙ c.in_ok-go_to.ensures.reaching ∙ ap (numbers_from row 0) c.deref.ensures.value)
+    ∙ numbered lists row boxed in
+    subst (λ (leaves : List Leaf). PaintsSwath old leaves new) (leaves_are shown)
+    (painted_alike (IsSeen w i.within row) old new (row_leaves lists row boxed) (flat_map (λ those. those) lists)
+    (c.requires.index.enough row)
+    (seen_there w i.within c.bounds.result c.in-Closed.low c.in-Closed.high c.args.tile wide old c.in-Closed.is
+    (c.has_place.ensures.0 c.if-not-has_place.false)
+    (c.has_place-else-not-has_place.ensures.0 c.if-not-has_place-2.false) c.bounds.ensures c.requires.rows c.across.ensures)
+    (subst (λ (leaves : List Leaf). PaintsSwath old leaves new) leaves c.paint_all.ensures))
