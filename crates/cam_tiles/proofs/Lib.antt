@@ -20,6 +20,7 @@ pub mod Lattices
 pub mod LevelRows
 pub mod MarkedBoxes
 pub mod MaskWords
+pub mod MergedRows
 pub mod OpenedWords
 pub mod PaintedLists
 pub mod PaintedMasks

@@ -5,7 +5,7 @@ pub(crate) mod items;
 mod row_lists;
 pub(crate) mod seen;
 
-ghost use Rattle.std.specs.Prelude.{◌≡◌, ◌↔◌, ◌<◌, ◌≤◌, ◌≤ℤ◌, ◌∷◌, ℕ, [], All, IfNone, IfOk, IfSome, IsTrue, length, slice_index_or, true};
+ghost use Rattle.std.specs.Prelude.{◌≡◌, ◌↔◌, ◌<◌, ◌≤◌, ◌≤ℤ◌, ◌∷◌, ℕ, [], All, IfNone, IfOk, IfSome, IsTrue, OnOk, length, slice_index_or, true};
 ghost use Rattle.cam_units.specs.Boxes.{Holds};
 ghost use Rattle.cam_units.specs.declared.point.Spot.{Spot};
 ghost use Rattle.cam_objects.specs.Leaves.{Filled, leaf};
@@ -48,7 +48,7 @@ const _: () = prove!(size_of::<Boxed>() == 32);
 /// Where an item has no contour whose parts are known.
 const NO_CONTOUR: u32 = u32::MAX;
 
-/// The items that may be seen in a box, in their order, and for each row of tiles of a window those that reach it.
+/// The items that may be seen in a box, in their order, and row of tiles by row of tiles of a window those that reach it.
 #[derive(Drop)]
 pub(crate) struct Index {
     within: Bounds,
@@ -139,22 +139,30 @@ impl Index {
 
     /// Paints all items, from the last one on, on tiles of the row of tiles of a tile: where they lie in the box of the index,
     /// those items alone that reach the row, since the others leave the tiles as they are; and none once all is decided.
-    pub(crate) fn paint(&self, shown: &Shown<'_>, window: &Window, tile: u32, swath: &mut Swath)
+    pub(crate) fn paint(
+        &mut self,
+        shown: &Shown<'_>,
+        window: &Window,
+        tile: u32,
+        swath: &mut Swath,
+    ) -> Result<(), AllocError>
         requires ready { IsReady shown.now }
         requires accepted { accepts window.now ≡ true }
-        requires index { IsIndexOf (leaves_by_item shown.now) window.now self.now }
+        requires index { IsIndexOf (leaves_by_item shown.now) window.now self.old }
         requires tile { tile < tiles_of window.now }
         requires rows { HasRowOf window.now tile swath.old }
-        ensures { PaintsSwath swath.old (leaves_of shown.now) swath.new }
+        ensures index { OnOk result (IsIndexOf (leaves_by_item shown.now) window.now self.new) }
+        ensures painted { OnOk result (PaintsSwath swath.old (leaves_of shown.now) swath.new) }
     {
         let Bounds::Closed { low, high } = swath.bounds() else {
-            return;
+            return Ok(());
         };
         if !has_place(self.within, low) || !has_place(self.within, high) {
             shown.paint(swath);
-            return;
+            return Ok(());
         }
-        let numbers = self.rows.list(tile / window.across());
+        self.rows.go_to(&self.boxed, tile / window.across())?;
+        let numbers = self.rows.list();
         let (left, right) = (low.x, high.x);
         paint_all(
             numbers,
@@ -165,6 +173,7 @@ impl Index {
             right,
             swath,
         );
+        Ok(())
     }
 }
 

@@ -91,13 +91,14 @@ pub record IsBegunBy (old new : Seen) : Type 0 where
 
 -- ---- once all were looked at
 
--- In each row of tiles of a box, painting the lists whose boxes reach the row is painting all lists, in order; each row
--- has the numbers of these; and the heights of contours are those of their parts.
+-- In each row of tiles of a box, painting the lists whose boxes reach the row is painting all lists, in order; the numbers
+-- of these are listed row by row; and the heights of contours are those of their parts.
 pub record IsIndexOf (lists : List (List Leaf)) (w : Window) (i : Index) : Type 0 where
   pub boxed : All (IsBoxed lists) i.boxed.items
   pub enough : (row : ℕ)
       → PaintAlike (IsSeen w i.within row) (row_leaves lists row i.boxed.items) (flat_map (λ those. those) lists)
-  pub listed : AreListed i.boxed.items (down w) i.rows.starts.items i.rows.numbers.items
+  pub rows : length i.rows.starts.items ≡ down w + 1
+  pub listed : AreListed i.boxed.items i.rows
   pub contours : All (IsPartsOf lists) i.contours.items
 
 -- either of both

@@ -63,10 +63,7 @@ impl Items {
     {
         match self {
             Items::AsNeeded(seen) => seen.paint(shown, window, tile, swath),
-            Items::Indexed(index) => {
-                index.paint(shown, window, tile, swath);
-                Ok(())
-            }
+            Items::Indexed(index) => index.paint(shown, window, tile, swath),
         }
     }
 }

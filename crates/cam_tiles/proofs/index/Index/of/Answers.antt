@@ -56,9 +56,7 @@ returns c =
           c.requires.all (c.requires.seen.enough row) in
           subst (λ (leaves : List Leaf). PaintAlike (IsSeen w within row) leaves (flat_map (λ l. l) lists))
           (kept_leaves new those (alike at_hand) lists row ∙ ap (row_leaves lists row) same) enough;
-      listed = subst (λ n. AreListed (with_items c.reverse.new.self new).items n rows.starts.items rows.numbers.items)
-          (rows_are at_hand)
-          (subst (λ (those : List Boxed). AreListed those c.div_ceil.result rows.starts.items rows.numbers.items)
-          c.deref.ensures.value c.in_ok-rows.ensures);
+      rows = omega (arith, c.in_ok-rows.ensures.rows, rows_are at_hand);
+      listed = subst (λ (those : List Boxed). AreListed those rows) c.deref.ensures.value c.in_ok-rows.ensures.listed;
       contours = c.in_ok-contours.ensures.parts;
     }

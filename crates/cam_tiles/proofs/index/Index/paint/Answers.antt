@@ -7,7 +7,7 @@ use Rattle.cam_objects.specs.Leaves.{Leaf}
 use Rattle.cam_tiles.specs.declared.index.Boxed.{Boxed}
 use Rattle.cam_tiles.specs.declared.window.Window.{Window}
 use Rattle.cam_tiles.specs.Machinery.Indexes.{IsSeen, numbered_leaves, row_leaves}
-use Rattle.cam_tiles.specs.Machinery.RowLists.{HasList, list_of, numbers_from}
+use Rattle.cam_tiles.specs.Machinery.RowLists.{AreListed, numbers_from}
 use Rattle.cam_tiles.specs.Machinery.Shown.{leaves_by_item}
 use Rattle.cam_tiles.specs.Machinery.Swaths.{PaintsSwath, place_in}
 use Rattle.cam_tiles.specs.Picture.{accepts}
@@ -24,24 +24,25 @@ row_below w tile wide accepted there is =
     subst (λ n. tile / n < down w) (sym is)
     (div_below tile (across w) (down w) (some_across w accepted) (omega (arith, there)))
 
--- the list of the row that the tile is in
-listed : (c : After-across) → let i = c.args.self.now in let row : ℕ = c.args.tile / c.across.result in
-    HasList i.rows.starts.items i.rows.numbers.items row
-    × (list_of i.rows.starts.items i.rows.numbers.items row ≡ numbers_from row 0 i.boxed.items)
-listed c =
-    c.requires.index.listed (c.args.tile / c.across.result)
-    (row_below c.args.window.now c.args.tile c.across.result c.requires.accepted c.requires.tile c.across.ensures)
-
-pub list-numbers-requires : goal.list-numbers-requires
-list-numbers-requires c = (listed (goal.at.list-numbers-requires c).After-across).0
+pub go_to-requires : goal.go_to-requires
+go_to-requires c =
+    let i = c.args.self.now in
+    let row : ℕ = c.args.tile / c.across.result in
+    let below : row < down c.args.window.now =
+    row_below c.args.window.now c.args.tile c.across.result c.requires.accepted c.requires.tile c.across.ensures in
+    record {
+      listed = subst (λ (those : List Boxed). AreListed those i.rows) (sym c.deref.ensures.value) c.requires.index.listed;
+      there = omega (arith, below, c.requires.index.rows);
+    }
 
 pub paint_all-requires-clause-numbers : goal.paint_all-requires-clause-numbers
 paint_all-requires-clause-numbers c =
-    let boxed = c.deref.result.now in
-    subst (All (λ k. k < length boxed))
-    (sym (c.list-numbers.ensures ∙ (listed (goal.at.paint_all-requires-clause-numbers c).After-across).1))
-    (numbers_below (c.args.tile / c.across.result) (length boxed) 0 c.args.self.now.boxed.items
-    (omega (arith, ap length c.deref.ensures.value)))
+    let row : ℕ = c.args.tile / c.across.result in
+    let boxed = c.args.self.now.boxed.items in
+    let size = length c.deref-2.result.now in
+    subst (All (λ k. k < size))
+    (sym (c.list-numbers.ensures ∙ c.in_ok-go_to.ensures.reaching ∙ ap (numbers_from row 0) c.deref.ensures.value))
+    (numbers_below row size 0 boxed (omega (arith, ap length c.deref-2.ensures.value)))
 
 pub paint_all-requires-clause-sides : goal.paint_all-requires-clause-sides
 paint_all-requires-clause-sides c = λ column row there.
@@ -51,8 +52,8 @@ paint_all-requires-clause-sides c = λ column row there.
     subst (λ b. Holds b (place_in c.args.swath.now column row)) c.in-Closed.is (c.bounds.ensures column row there) in
     simp to_z-of_z (between.left, between.right)
 
-pub returns : goal.returns
-returns c =
+pub returns-clause-painted : goal.returns-clause-painted
+returns-clause-painted c =
     let shown = c.args.shown.now in
     let lists = leaves_by_item shown in
     let w = c.args.window.now in
@@ -64,8 +65,9 @@ returns c =
     let new = c.paint_all.new.swath in
     let numbers = c.list-numbers.result.now in
     let leaves =
-    ap (λ (those : List Boxed). numbered_leaves lists those numbers) c.deref.ensures.value
-    ∙ ap (numbered_leaves lists boxed) (c.list-numbers.ensures ∙ (listed (goal.at.returns c).After-across).1)
+    ap (λ (those : List Boxed). numbered_leaves lists those numbers) c.deref-2.ensures.value
+    ∙ ap (numbered_leaves lists boxed)
+    (c.list-numbers.ensures ∙ c.in_ok-go_to.ensures.reaching ∙ ap (numbers_from row 0) c.deref.ensures.value)
     ∙ numbered lists row boxed in
     subst (λ (leaves : List Leaf). PaintsSwath old leaves new) (leaves_are shown)
     (painted_alike (IsSeen w i.within row) old new (row_leaves lists row boxed) (flat_map (λ those. those) lists)
