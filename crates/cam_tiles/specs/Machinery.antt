@@ -5,6 +5,7 @@ pub mod Figures
 pub mod Indexes
 pub mod Inks
 pub mod Kept
+pub mod Known
 pub mod Lattices
 pub mod Levels
 pub mod Masks

@@ -10,11 +10,15 @@ ghost use Rattle.cam_objects.specs.Leaves.{Filled, leaf};
 ghost use Rattle.cam_objects.specs.declared.item.Item.TheVariants.{One};
 ghost use Rattle.cam_objects.specs.declared.object.Object.TheVariants.{Region};
 ghost use Rattle.cam_tiles.specs.Machinery.Parts.{IsSoundContour};
-ghost use Rattle.cam_tiles.specs.Machinery.Shown.{IsReady, leaves_by_item, leaves_of, lists_of};
+ghost use Rattle.cam_tiles.specs.Machinery.Shown.{IsCopyIn, IsReady, leaves_by_item, leaves_of, lists_of};
 
-use cam_objects::{Canvas, DrillItemBoxes, DrillLayer, Item, ItemBoxes, ItemCells, Layer, Object};
+use cam_objects::{
+    Canvas, DrillItemBoxes, DrillLayer, FirstCopy, Item, ItemBoxes, ItemCells, Layer, Object,
+    near_end,
+};
 use cam_shapes::Contour;
 use cam_units::Bounds;
+use std::alloc::Global;
 
 /// A layer of either kind, and perhaps the cells of its items.
 #[derive(Clone, Copy)]
@@ -47,19 +51,6 @@ impl<'a> Boxes<'a> {
             Boxes::Gerber(boxes) => boxes.read(place),
             Boxes::Drill(boxes) => boxes.read(place),
         }
-    }
-}
-
-/// The place behind the last item before an end that may have a place in common with a box, or 0: by the cells of the
-/// items, where there are any.
-fn near_end(cells: Option<&ItemCells>, end: usize, near: Bounds) -> usize
-    ensures within { result ≤ end }
-    ensures apart { (boxes : List Bounds) → IfSome cells.entry (λ kept. AreCellsOf boxes kept.now) → (k : ℕ) → result ≤ k
-        → k < end → k < length boxes → ¬ HaveCommonPlace (box_at boxes k) near }
-{
-    match cells {
-        Some(cells) => cells.near_end(end, near),
-        None => end,
     }
 }
 
@@ -149,6 +140,31 @@ impl<'a> Shown<'a> {
     {
         match self {
             Shown::Gerber { layer, .. } => layer.paint_item(place, canvas),
+            Shown::Drill { layer, .. } => layer.paint_item(place, canvas),
+        }
+    }
+
+    /// The first copy of the item at a place of the list, counted from 0, if it is a repeat of many objects.
+    pub(crate) fn first_copy(&self, alloc: Global, place: usize) -> Option<FirstCopy>
+        requires ready { IsReady self.now }
+        requires within { place < length (leaves_by_item self.now) }
+        ensures { IfSome result (IsCopyIn self.now place) }
+    {
+        match self {
+            Shown::Gerber { layer, .. } => layer.first_copy(alloc, place),
+            Shown::Drill { .. } => None,
+        }
+    }
+
+    /// Paints the item at a place of the list, counted from 0, from its last leaf on: a repeat by its first copy.
+    pub(crate) fn paint_repeat<C: Canvas>(&self, place: usize, first: &FirstCopy, canvas: &mut C)
+        requires ready { IsReady self.now }
+        requires within { place < length (leaves_by_item self.now) }
+        requires first { IsCopyIn self.now place first.now }
+        ensures { Paints C.has C.place C.ink canvas.old (slice_index_or (leaves_by_item self.now) place []) canvas.new }
+    {
+        match self {
+            Shown::Gerber { layer, .. } => layer.paint_repeat(place, first, canvas),
             Shown::Drill { layer, .. } => layer.paint_item(place, canvas),
         }
     }

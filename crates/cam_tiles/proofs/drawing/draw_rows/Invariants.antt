@@ -10,5 +10,5 @@ abbrev pub invariant-loop-row : goal.invariant-loop-row
 invariant-loop-row l =
     let draw : ℕ → List ℕ = λ k. tile_rows (is_black (leaves_of l.shown)) (grid_of l.window k) in record {
       drawn : IsPartlyDrawn draw l.first l.fn.tiles l.tiles;
-      items : AreItemsOf (leaves_by_item l.shown) l.window l.items;
+      items : AreItemsOf l.shown l.window l.items;
     }
