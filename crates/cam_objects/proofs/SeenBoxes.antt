@@ -1,5 +1,5 @@
 -- what has a place in common with a box where it is painted has one with the box as it is seen from there
-use Rattle.std.proofs.Common.{◌≡◌, ◌^◌, ◌<◌, ℤ, pos, negsuc, neg_ℤ, w64, ◌+ℤ◌, ◌-ℤ◌, ◌*ℤ◌, ◌≤ℤ◌, arith}
+use Rattle.std.proofs.Common.{◌≡◌, ◌^◌, ◌<◌, ℤ, pos, negsuc, neg_ℤ, w64, ◌-ℤ◌, ◌*ℤ◌, ◌≤ℤ◌, arith}
 use Rattle.std.specs.Int.RustNames.{unsigned_abs}
 use Rattle.std.proofs.lemmas.Int.{clamps, ints}
 use Rattle.std.specs.Int.{int_max, int_min, saturate_signed}
@@ -118,9 +118,12 @@ common_back p (Closed a b) low high low' high' near left bottom right top common
     let close = near_turned p.turn s (near_place a b (before p.turn s) near.0 near.1 here) in
     let seen = common.1.1 in (
       before p.turn s,
-      (here, lies_in p.turn low' high' s (between low' high' s
-      (left.least s.x close.x (omega (arith, ints, seen.left)))
-      (right.most s.x close.x (omega (arith, ints, seen.right)))
-      (bottom.least s.y close.y (omega (arith, ints, seen.below)))
-      (top.most s.y close.y (omega (arith, ints, seen.above))))),
+      (
+        here,
+        lies_in p.turn low' high' s (between low' high' s
+            (left.least s.x close.x (omega (arith, ints, seen.left)))
+            (right.most s.x close.x (omega (arith, ints, seen.right)))
+            (bottom.least s.y close.y (omega (arith, ints, seen.below)))
+            (top.most s.y close.y (omega (arith, ints, seen.above)))),
+      ),
     )

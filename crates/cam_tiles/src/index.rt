@@ -167,15 +167,7 @@ impl Index {
         self.rows.go_to(&self.boxed, tile / window.across())?;
         let numbers = self.rows.list();
         let (left, right) = (low.x, high.x);
-        paint_all(
-            numbers,
-            &self.boxed,
-            &self.known,
-            shown,
-            left,
-            right,
-            swath,
-        );
+        paint_all(numbers, &self.boxed, &self.known, shown, left, right, swath);
         Ok(())
     }
 }
@@ -234,12 +226,7 @@ fn parted<'a>(
 
 /// Paints an item of which something is known, from its last leaf on.
 #[inline(never)]
-fn paint_known<'a>(
-    item: &Boxed,
-    known: &'a Known,
-    shown: &'a Shown<'_>,
-    swath: &mut Swath,
-)
+fn paint_known<'a>(item: &Boxed, known: &'a Known, shown: &'a Shown<'_>, swath: &mut Swath)
     requires item { IsBoxed (leaves_by_item shown.now) item.now }
     requires known { IsKnownIn shown.now known.now }
     requires ready { IsReady shown.now }

@@ -21,11 +21,7 @@ pub(crate) enum Known {
 }
 
 /// What is known of an item that reaches two rows of tiles or more, if it is much work in each of them.
-fn known_of(
-    alloc: Global,
-    shown: &Shown<'_>,
-    item: &Boxed,
-) -> Result<Option<Known>, AllocError>
+fn known_of(alloc: Global, shown: &Shown<'_>, item: &Boxed) -> Result<Option<Known>, AllocError>
     requires ready { IsReady shown.now }
     requires item { IsBoxed (leaves_by_item shown.now) item.now }
     ensures { IfOk result (λ found. IfSome found (IsKnownIn shown.now)) }

@@ -1,9 +1,8 @@
-use Rattle.std.proofs.Common.{◌≡◌, ◌-◌, ◌*◌, ◌<◌, ◌≤◌, pos, ◌*ℤ◌, List, refl, sym, subst, arith}
-use Rattle.cam_objects.specs.Canvases.{Paints}
-use Rattle.cam_objects.specs.Leaves.{Leaf, block_leaves, column_leaves, meaning_in, repeat_leaves, shifted}
-use Rattle.cam_objects.proofs.Canvases.{paints_boxed, paints_nothing}
+use Rattle.std.proofs.Common.{◌-◌, ◌<◌, ◌≤◌, pos, ◌*ℤ◌, refl, arith}
+use Rattle.cam_objects.specs.Leaves.{block_leaves, column_leaves, meaning_in, repeat_leaves, shifted}
+use Rattle.cam_objects.proofs.Canvases.{paints_boxed}
 use Rattle.cam_objects.proofs.ItemBounds.{bounded_repeat, first_on_board}
-use Rattle.cam_objects.proofs.PaintedLists.{no_copies, paints_copy}
+use Rattle.cam_objects.proofs.PaintedLists.{paints_copy}
 use Rattle.cam_objects.proofs.PaintedRuns.{column_unseen, paints_end, paints_start, pieces_unseen, row_unseen, still_unseen}
 use Rattle.cam_objects.proofs.Painting.{ready_copy}
 use Rattle.cam_objects.proofs.paint.layer.paint_copies.Goals as goal

@@ -1,11 +1,9 @@
-use Rattle.std.proofs.Common.{◌≡◌, ◌-◌, ◌*◌, ◌<◌, ◌≤◌, pos, ◌*ℤ◌, List, refl, sym, subst, arith}
+use Rattle.std.proofs.Common.{◌≡◌, ◌*◌, List, sym, subst, arith}
 use Rattle.cam_objects.specs.Canvases.{Paints}
-use Rattle.cam_objects.specs.Leaves.{Leaf, block_leaves, column_leaves, meaning_in, repeat_leaves, shifted}
-use Rattle.cam_objects.proofs.Canvases.{paints_boxed, paints_nothing}
-use Rattle.cam_objects.proofs.ItemBounds.{bounded_repeat, first_on_board}
-use Rattle.cam_objects.proofs.PaintedLists.{no_copies, paints_copy}
-use Rattle.cam_objects.proofs.PaintedRuns.{column_unseen, paints_end, paints_start, pieces_unseen, row_unseen, still_unseen}
-use Rattle.cam_objects.proofs.Painting.{ready_copy}
+use Rattle.cam_objects.specs.Leaves.{Leaf, meaning_in}
+use Rattle.cam_objects.proofs.Canvases.{paints_nothing}
+use Rattle.cam_objects.proofs.ItemBounds.{first_on_board}
+use Rattle.cam_objects.proofs.PaintedLists.{no_copies}
 use Rattle.cam_objects.proofs.paint.layer.paint_repeat.Goals as goal
 
 pub returns-else-count-gt0 : goal.returns-else-count-gt0
@@ -23,4 +21,3 @@ block_bounds-first-requires-clause-board g c =
     let p = c.args.copies.now in
     first_on_board (meaning_in c.args.entries.now) p.columns p.rows p.i p.j c.args.objects.now
     (omega arith) c.requires.ready.board
-

@@ -1,19 +1,17 @@
-use Rattle.std.proofs.Common.{◌≡◌, ℕ, ◌+◌, ◌-◌, ◌*◌, ◌<◌, ◌≤◌, List, length, take, drop, slice_get, get_or, Some, sym, ap, subst, ◌∙◌, arith}
-use Rattle.std.specs.List.{All}
-use Rattle.cam_units.specs.declared.bounds.Bounds.TheVariants.{Empty}
+use Rattle.std.proofs.Common.{◌≡◌, ℕ, ◌+◌, ◌-◌, ◌<◌, ◌≤◌, List, length, take, drop, slice_get, get_or, Some, sym, ap, subst, ◌∙◌, arith}
 use Rattle.cam_objects.specs.declared.object.Object.{Object}
 use Rattle.cam_objects.specs.declared.entry.Entry.{Entry}
 use Rattle.cam_objects.specs.declared.entry.Entry.TheVariants.{Aperture, Block}
 use Rattle.cam_objects.specs.declared.placing.place.Place.{Place}
 use Rattle.cam_objects.specs.Bounds.{bounds_of}
 use Rattle.cam_objects.specs.Canvases.{Paints}
-use Rattle.cam_objects.specs.Leaves.{Leaf, Meaning, block_leaves, meaning_in, object_leaves, origin, round_width}
+use Rattle.cam_objects.specs.Leaves.{Leaf, Meaning, block_leaves, meaning_in, object_leaves, round_width}
 use Rattle.cam_objects.specs.Machinery.ObjectCells.{AreObjectCells}
 use Rattle.cam_objects.specs.Machinery.Painting.{HasReach, IsPrintable, StandsOnBoard, flash_leaves, meaning_before}
 use Rattle.cam_objects.specs.Soundness.{AreOnBoard}
 use Rattle.cam_objects.proofs.ObjectCells.{paints_past, unseen_between}
 use Rattle.cam_objects.proofs.PaintedRuns.{still_unseen}
-use Rattle.cam_objects.proofs.Canvases.{paints_beneath, paints_boxed, paints_last, paints_next, paints_nothing, sound_print}
+use Rattle.cam_objects.proofs.Canvases.{paints_boxed, paints_last, paints_next, paints_nothing, sound_print}
 use Rattle.cam_objects.proofs.ItemBounds.{flash_box, meaning_among}
 use Rattle.cam_objects.proofs.Painting.{
   aperture_sound,

@@ -1,4 +1,4 @@
-use Rattle.std.proofs.Common.{ap, sym, subst, rules, ◌≡◌, ◌∙◌, FitsSigned, w64}
+use Rattle.std.proofs.Common.{ap, sym, subst, rules, ◌∙◌, FitsSigned, w64}
 use Rattle.std.proofs.lemmas.Int.{to_z-of_z}
 use Rattle.cam_units.specs.Boxes.{HaveCommonPlace}
 use Rattle.cam_units.specs.declared.bounds.Bounds.{Bounds}
@@ -6,7 +6,7 @@ use Rattle.cam_units.specs.declared.bounds.Bounds.TheVariants.{Closed}
 use Rattle.cam_units.specs.declared.point.Spot.{Spot}
 use Rattle.cam_units.specs.declared.turn.Turn.{Turn}
 use Rattle.cam_apertures.specs.Turned.{turned_box}
-use Rattle.cam_objects.specs.Machinery.Boxes.{IsBackFrom, placed_bounds}
+use Rattle.cam_objects.specs.Machinery.Boxes.{placed_bounds}
 use Rattle.cam_objects.proofs.SeenBoxes.{common_back}
 use Rattle.cam_objects.proofs.placing.place.Place.seen.Goals as goal
 
