@@ -1,14 +1,17 @@
 -- what a draw covers lies near its line, and what that makes of boxes
-use Rattle.std.proofs.Common.{◌≡◌, ℕ, ◌+◌, ◌*◌, ◌≤◌, ℤ, pos, negsuc, ◌+ℤ◌, ◌-ℤ◌, ◌*ℤ◌, ◌≤ℤ◌, ◌<ℤ◌, inl, inr, ap, sym, subst, ◌∙◌, arith}
+use Rattle.std.proofs.Common.{◌≡◌, ℕ, ◌+◌, ◌*◌, ◌≤◌, ℤ, pos, negsuc, ◌+ℤ◌, ◌-ℤ◌, ◌*ℤ◌, ◌≤ℤ◌, ◌<ℤ◌, inl, inr, Bool, List, [], get_or, slice_get, Option, Some, refl, ap, sym, subst, ◌∙◌, arith}
 use Rattle.std.specs.Int.RustNames.{unsigned_abs}
 use Rattle.std.proofs.lemmas.Int.{ints}
-use Rattle.std.proofs.lemmas.Nat.{mul-le}
+use Rattle.std.proofs.lemmas.List.Elements.{All-cons, All-nil}
+use Rattle.std.proofs.lemmas.Option.{get_or_from_slice_get}
 use Rattle.cam_units.specs.Boxes.{Holds, IsBetween}
 use Rattle.cam_units.specs.declared.bounds.Bounds.{Bounds}
 use Rattle.cam_units.specs.declared.bounds.Bounds.TheVariants.{Closed}
 use Rattle.cam_units.specs.declared.length.Nm.{Nm}
 use Rattle.cam_units.specs.declared.point.Point.{Point}
 use Rattle.cam_units.specs.declared.point.Spot.{Spot}
+use Rattle.cam_units.specs.declared.turn.Turn.{Turn}
+use Rattle.cam_units.specs.declared.turn.Turn.TheVariants.{R0}
 use Rattle.cam_units.proofs.Ring.{Atom, Difference, Product, equal}
 use Rattle.cam_shapes.specs.Bar.{IsInCapsule, IsNearLine, IsNearSegment}
 use Rattle.cam_shapes.specs.Plane.{cross, place_of, seen_from, square, way}
@@ -20,11 +23,21 @@ use Rattle.cam_shapes.proofs.Reaches.{leg, other_leg}
 use Rattle.cam_shapes.proofs.Strokes.{dot_is, natural_or_not, squares_order}
 use Rattle.cam_shapes.proofs.SweptLaws.{at_finish, at_start, cross_from_end}
 use Rattle.cam_shapes.proofs.Widths.{square_is}
-use Rattle.cam_objects.specs.Image.{Covers, relative}
-use Rattle.cam_objects.specs.Leaves.{drawn}
+use Rattle.cam_objects.specs.Image.{Covers, IsUncovered, relative}
+use Rattle.cam_objects.specs.Leaves.{Leaf, Shape, draw_leaves, drawn, item_leaves, leaf, meaning_in, object_leaves, origin, placed, polarity_in, turned_tip}
 use Rattle.cam_objects.specs.Machinery.Lines.{IsLeft, crossed, reach_of}
+use Rattle.cam_objects.specs.Machinery.Extents.{IsExtentIn}
+use Rattle.cam_objects.specs.Turning.{after}
+use Rattle.cam_objects.specs.declared.boxes.extent.Extent.{Extent}
+use Rattle.cam_objects.specs.declared.entry.Entry.{Entry}
+use Rattle.cam_objects.specs.declared.item.Item.{Item}
+use Rattle.cam_objects.specs.declared.item.Item.TheVariants.{One}
+use Rattle.cam_objects.specs.declared.layer.Layer.{Layer}
+use Rattle.cam_objects.specs.declared.object.Object.{Object}
+use Rattle.cam_objects.specs.declared.object.Object.TheVariants.{Draw}
 use Rattle.cam_objects.specs.declared.tip.Tip.{Tip}
-use Rattle.cam_objects.specs.declared.tip.Tip.TheVariants.{Round}
+use Rattle.cam_objects.specs.declared.tip.Tip.TheVariants.{Round, Rectangular}
+use Rattle.cam_objects.proofs.TurnedTips.{turned_after}
 
 -- ---- round strokes: those of a square as wide cover more
 
@@ -210,3 +223,42 @@ round_missed tip w from to within low high round box far s held on =
     let inside : IsInCapsule s (record { from = from; to = to; width = w }) =
     subst (λ (t : Tip). Covers (drawn t from to) s) round on in
     far s (subst (λ (b : Bounds). Holds b s) box held) (near_capsule s (record { from = from; to = to; width = w }) inside)
+
+-- where a layer's own draws stand
+unturned : (tip : Tip) → turned_tip R0 tip ≡ tip
+unturned (Round w) = refl
+unturned (Rectangular w h) = refl
+
+unmoved : (p : Point) → placed origin p ≡ p
+unmoved p =
+    let x : (placed origin p).x ≡ p.x = omega (arith, ints) in
+    let y : (placed origin p).y ≡ p.y = omega (arith, ints) in
+    λ i. record { x = x i; y = y i }
+
+pub draw_missed : (es : List (ℕ × Entry)) (e : Extent) → IsExtentIn es e → (n : ℕ) → e.number ≡ n → (from to : Point) (t : Turn)
+    (dark : Bool) (tip turned : Tip) → e.tip ≡ Some tip → turned ≡ turned_tip t tip → (s : Spot)
+    → (Covers (drawn turned from to) s → ⊥)
+    → IsUncovered (object_leaves (meaning_in es) origin (Draw n from to t dark)) s
+draw_missed es e extent n number from to t dark tip turned some is s off =
+    let there = placed origin in
+    let d = polarity_in origin.dark dark in
+    let stands : drawn turned from to ≡ drawn (turned_tip (after t R0) tip) (there from) (there to) =
+    λ i. drawn ((is ∙ sym (turned_after t R0 tip ∙ unturned (turned_tip t tip))) i) (sym (unmoved from) i) (sym (unmoved to) i) in
+    subst (λ (o : Option Tip). IsUncovered (draw_leaves o (after t R0) (there from) (there to) d) s)
+    (sym some ∙ extent.tip ∙ ap (λ k. (meaning_in es k).tip) number)
+    (All-cons (λ (l : Leaf). Covers l.shape s → ⊥)
+    (leaf (drawn (turned_tip (after t R0) tip) (there from) (there to)) d) []
+    (subst (λ (shape : Shape). Covers shape s → ⊥) stands off) (All-nil (λ (l : Leaf). Covers l.shape s → ⊥)))
+
+-- the item read is that of the layer shown
+pub item_missed : (layer shown : Layer) (place : ℕ) (x item : Item) (o : Object) (s : Spot) → layer ≡ shown
+    → x ≡ get_or layer.items.items place x → slice_get shown.items.items place ≡ Some item → x ≡ One o
+    → IsUncovered (object_leaves (meaning_in layer.apertures) origin o) s
+    → IsUncovered (item_leaves (meaning_in shown.apertures) item) s
+item_missed layer shown place x item o s is here at one off =
+    subst (λ (z : Item). IsUncovered (item_leaves (meaning_in shown.apertures) z) s)
+    (sym one
+    ∙ here
+    ∙ ap (λ (l : Layer). get_or l.items.items place x) is
+    ∙ get_or_from_slice_get shown.items.items place item x at)
+    (subst (λ (l : Layer). IsUncovered (object_leaves (meaning_in l.apertures) origin o) s) is off)

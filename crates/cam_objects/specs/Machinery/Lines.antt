@@ -1,11 +1,9 @@
 -- Draws and boxes that lie beyond their lines, in half nm.
 use Rattle.std.specs.Prelude.{ℤ, pos, ◌+ℤ◌, ◌-ℤ◌, ◌*ℤ◌, ◌<ℤ◌}
 use Rattle.std.specs.Int.RustNames.{unsigned_abs}
-use Rattle.cam_units.specs.Boxes.{IsBetween}
 use Rattle.cam_units.specs.declared.point.Point.{Point}
 use Rattle.cam_units.specs.declared.point.Spot.{Spot}
 use Rattle.cam_shapes.specs.Plane.{place_of}
-use Rattle.cam_shapes.specs.Swept.{IsNearWay}
 use Rattle.cam_objects.specs.Image.{relative}
 
 -- the cross product of two ways: positive where the second leads left of the first

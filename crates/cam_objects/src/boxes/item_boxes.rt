@@ -106,13 +106,16 @@ impl<'a> ItemBoxes<'a> {
         ensures layer { self.new ≡ self.old }
     {
         let layer = self.layer;
-        let Item::One(Object::Draw {
+        let Item::One(object) = &layer.items[place] else {
+            return false;
+        };
+        let Object::Draw {
             aperture,
             from,
             to,
             turn,
             ..
-        }) = &layer.items[place]
+        } = object
         else {
             return false;
         };

@@ -77,14 +77,7 @@ fn rightmost(way: Spot, low: Spot, high: Spot) -> Spot
 }
 
 /// Whether a box lies left of the line from one point to another, beyond all that a rectangle passes on its way there.
-fn lies_left(
-    low: Spot,
-    high: Spot,
-    from: Point,
-    to: Point,
-    width: Nm,
-    height: Nm,
-) -> bool
+fn lies_left(low: Spot, high: Spot, from: Point, to: Point, width: Nm, height: Nm) -> bool
     requires low { IsPlace low }
     requires high { IsPlace high }
     requires from { IsOnBoard from }
@@ -100,14 +93,7 @@ fn lies_left(
 
 /// Whether a box lies on one side of the line between two points, beyond all that a rectangle passes on its way from one to
 /// the other.
-fn lies_beyond(
-    low: Spot,
-    high: Spot,
-    from: Point,
-    to: Point,
-    width: Nm,
-    height: Nm,
-) -> bool
+fn lies_beyond(low: Spot, high: Spot, from: Point, to: Point, width: Nm, height: Nm) -> bool
     requires low { IsPlace low }
     requires high { IsPlace high }
     requires from { IsOnBoard from }

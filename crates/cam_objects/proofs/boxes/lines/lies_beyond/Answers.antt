@@ -1,4 +1,3 @@
-use Rattle.std.proofs.Common.{arith}
 use Rattle.cam_objects.proofs.BesideLines.{left_far, right_far}
 use Rattle.cam_objects.proofs.boxes.lines.lies_beyond.Goals as goal
 
