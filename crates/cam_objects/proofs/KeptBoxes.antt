@@ -16,12 +16,17 @@ use Rattle.cam_objects.specs.declared.cells.reach.Reach.{Reach}
 use Rattle.cam_objects.specs.declared.drill_item.DrillItem.{DrillItem}
 use Rattle.cam_objects.specs.declared.drill_layer.DrillLayer.{DrillLayer}
 use Rattle.cam_objects.specs.declared.item.Item.{Item}
+use Rattle.cam_objects.specs.declared.item.Item.TheVariants.{One}
+use Rattle.cam_objects.specs.declared.object.Object.{Object}
 use Rattle.cam_objects.specs.declared.layer.Layer.{Layer}
 use Rattle.cam_objects.specs.declared.cells.sides.Sides.{Sides}
 use Rattle.cam_objects.specs.Bounds.{bounds_of}
 use Rattle.cam_objects.specs.Leaves.{item_leaves, meaning_in}
 use Rattle.cam_objects.specs.Cells.{AreBeside, AreCellsOf, IsCell, IsReachOf, IsSide, Reaches, bottom_of, box_at, left_of, right_of, top_of}
 use Rattle.cam_objects.specs.Machinery.Measures.{IsDrillMeasureOf, IsMeasureOf}
+use Rattle.cam_objects.specs.Machinery.Painting.{StandsOnBoard}
+use Rattle.cam_objects.specs.Soundness.{HasSoundItems, IsInside, IsSoundItem}
+use Rattle.cam_objects.proofs.SoundItems.{meets}
 use Rattle.cam_objects.specs.Machinery.Sides.{AreSidesOf, HasSides, MeetsAt}
 
 -- what is read of an item is so in a list of that of each
@@ -43,6 +48,16 @@ read_box layer shown place x item b is here at box =
     (here
     ∙ ap (λ (l : Layer). get_or l.items.items place x) is
     ∙ get_or_from_slice_get shown.items.items place item x at)
+
+-- the points of an object that is listed lie on the board
+pub listed_stands : (layer shown : Layer) (place : ℕ) (x : Item) (o : Object) → HasSoundItems layer → layer ≡ shown
+    → place < length shown.items.items → x ≡ get_or layer.items.items place x → x ≡ One o → StandsOnBoard o
+listed_stands layer shown place x o sound is within here one =
+    let es = layer.apertures in
+    let listed = sound.items place x (subst (λ (l : Layer). place < length l.items.items) (sym is) within) in
+    let item : IsSoundItem es (One o) = subst (IsSoundItem es) (sym here ∙ one) listed in
+    let inside : IsInside es (One o) = (meets es (One o) item).inside in
+    inside.points 0 o (omega arith)
 
 -- and so is what is read of it
 pub measured : (layer shown : Layer) (place : ℕ) (x y item : Item) (m : Measure) → layer ≡ shown

@@ -1,3 +1,4 @@
+pub mod BesideLines
 pub mod BoardBoxes
 pub mod BoardLeaves
 pub mod BoxJoins

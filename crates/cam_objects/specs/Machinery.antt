@@ -13,3 +13,4 @@ pub mod Extents
 pub mod Frames
 pub mod Measures
 pub mod Sides
+pub mod Lines

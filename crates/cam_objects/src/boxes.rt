@@ -5,6 +5,7 @@ pub(crate) mod first_copy;
 pub(crate) mod item_boxes;
 pub(crate) mod items;
 pub(crate) mod last_frame;
+pub(crate) mod lines;
 pub(crate) mod object_boxes;
 pub(crate) mod placed;
 pub(crate) mod shapes;

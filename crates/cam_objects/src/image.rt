@@ -104,7 +104,7 @@ fn is_covered(figure: &Figure<'_>, spot: Spot) -> bool
 }
 
 /// A place as it is seen from a point, in half nm.
-fn relative(point: Point, spot: Spot) -> Spot
+pub(crate) fn relative(point: Point, spot: Spot) -> Spot
     requires point { IsOnBoard point }
     requires spot { IsPlace spot }
     ensures value { result ≡ relative_to point spot }

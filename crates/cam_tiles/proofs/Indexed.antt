@@ -71,15 +71,19 @@ module _ (lists : List (List Leaf)) (w : Window) (within : Bounds) where
     one_more here = ap joined (drop_more lists n [] here)
 
     -- a list that is not seen in a row
-    passed : (row : ℕ) → ((s : Spot) → IsSeen w within row s → Holds (bounds_of (at lists n)) s → ⊥)
+    passed : (row : ℕ) → ((s : Spot) → IsSeen w within row s → IsUncovered (at lists n) s)
         → PaintAlike (IsSeen w within row) (last_leaves lists row boxed) (all_from lists n)
     passed row unseen =
         let behind = all_from lists (n + 1) in
         let leaves = last_leaves lists row boxed in
         alike_are (IsSeen w within row) leaves (at lists n ++ behind) leaves _ refl
         (one_more (omega (arith, so_far.few)))
-        (alike_unseen (IsSeen w within row) leaves behind (at lists n)
-        (λ s seen. outside_box (at lists n) s (unseen s seen)) (so_far.enough row))
+        (alike_unseen (IsSeen w within row) leaves behind (at lists n) unseen (so_far.enough row))
+
+    -- since no place of its box is
+    boxed_away : (row : ℕ) → ((s : Spot) → IsSeen w within row s → Holds (bounds_of (at lists n)) s → ⊥)
+        → PaintAlike (IsSeen w within row) (last_leaves lists row boxed) (all_from lists n)
+    boxed_away row unseen = passed row (λ s seen. outside_box (at lists n) s (unseen s seen))
 
     -- and one that is listed for it
     entered : (row : ℕ) (b : Boxed) → b.place ≡ n → reaches row b ≡ true
@@ -112,7 +116,7 @@ module _ (lists : List (List Leaf)) (w : Window) (within : Bounds) where
                 alike_are (IsSeen w within row) (last_leaves lists row boxed) (all_from lists n) _ _
                 (last_leaves-push lists row boxed b
                 ∙ ap (λ t. cond t (at lists b.place ++ last_leaves lists row boxed) (last_leaves lists row boxed)) missed)
-                refl (passed row (λ s seen held. false≢true (sym missed ∙ box.rows row s seen held)))
+                refl (boxed_away row (λ s seen held. false≢true (sym missed ∙ box.rows row s seen held)))
           ];
           few = omega (arith, length_push boxed b, so_far.few);
         })
@@ -123,7 +127,16 @@ module _ (lists : List (List Leaf)) (w : Window) (within : Bounds) where
     next_missed unseen = record {
       each = so_far.each;
       ends = so_far.ends;
-      enough = λ row. passed row (unseen row);
+      enough = λ row. boxed_away row (unseen row);
+      few = omega (arith, so_far.few);
+    }
+
+    -- a list that covers no place of the box
+    pub next_uncovered : ((s : Spot) → Holds within s → IsUncovered (at lists n) s) → AreSeenFrom lists w within n boxed
+    next_uncovered off = record {
+      each = so_far.each;
+      ends = so_far.ends;
+      enough = λ row. passed row (λ s seen. off s seen.0);
       few = omega (arith, so_far.few);
     }
 

@@ -1,11 +1,13 @@
 //! Layers of either kind, and how they are painted, item by item.
 
-ghost use Rattle.std.specs.Prelude.{◌≡◌, ◌<◌, ◌≤◌, ◌∷◌, ℕ, [], IfSome, List, length, slice_index_or};
-ghost use Rattle.cam_units.specs.Boxes.{HaveCommonPlace};
+ghost use Rattle.std.specs.Prelude.{◌≡◌, ◌<◌, ◌≤◌, ◌∷◌, ℕ, [], IfSome, IsTrue, List, length, slice_index_or};
+ghost use Rattle.cam_units.specs.Boxes.{HaveCommonPlace, Holds};
 ghost use Rattle.cam_units.specs.declared.bounds.Bounds.{Bounds};
+ghost use Rattle.cam_units.specs.declared.point.Spot.{Spot};
 ghost use Rattle.cam_objects.specs.Bounds.{bounds_of};
 ghost use Rattle.cam_objects.specs.Canvases.{Paints};
 ghost use Rattle.cam_objects.specs.Cells.{AreCellsOf, box_at};
+ghost use Rattle.cam_objects.specs.Image.{IsUncovered};
 ghost use Rattle.cam_objects.specs.Leaves.{Filled, leaf};
 ghost use Rattle.cam_objects.specs.declared.item.Item.TheVariants.{One};
 ghost use Rattle.cam_objects.specs.declared.object.Object.TheVariants.{Region};
@@ -50,6 +52,20 @@ impl<'a> Boxes<'a> {
         match self {
             Boxes::Gerber(boxes) => boxes.read(place),
             Boxes::Drill(boxes) => boxes.read(place),
+        }
+    }
+
+    /// Whether the item at a place of the list, counted from 0, is a draw of which one sees by its line alone that it covers
+    /// no place of a box, in half nm.
+    pub(crate) fn line_misses(&mut self, place: usize, within: Bounds) -> bool
+        requires { place < length (lists_of self.old) }
+        ensures off { IsTrue result → (s : Spot) → Holds within s
+            → IsUncovered (slice_index_or (lists_of self.old) place []) s }
+        ensures lists { lists_of self.new ≡ lists_of self.old }
+    {
+        match self {
+            Boxes::Gerber(boxes) => boxes.line_misses(place, within),
+            Boxes::Drill(_) => false,
         }
     }
 }

@@ -1,14 +1,18 @@
 //! How far flashes and strokes of an aperture reach.
 
-ghost use Rattle.std.specs.Prelude.{◌≡◌, Bool, Some};
+ghost use Rattle.std.specs.Prelude.{◌≡◌, Bool, IsTrue, Some};
 ghost use Rattle.cam_units.specs.Board.{IsOnBoard};
+ghost use Rattle.cam_units.specs.Boxes.{Holds};
+ghost use Rattle.cam_units.specs.declared.point.Spot.{Spot};
 ghost use Rattle.cam_objects.specs.Bounds.{bounds_of};
+ghost use Rattle.cam_objects.specs.Image.{IsUncovered};
 ghost use Rattle.cam_objects.specs.Leaves.{arc_leaves, draw_leaves, meaning_in, object_leaves, origin};
 ghost use Rattle.cam_objects.specs.Machinery.Extents.{IsExtentIn};
 ghost use Rattle.cam_objects.specs.Machinery.Painting.{StandsOnBoard};
 ghost use Rattle.cam_objects.specs.Soundness.{IsSoundDictionary};
 ghost use Rattle.cam_objects.specs.declared.object.Object.TheVariants.{Draw, Flash};
 
+use crate::boxes::lines::line_misses;
 use crate::boxes::shapes::{contour_bounds, drawn_bounds, sweep_bounds};
 use crate::dictionary::Dictionary;
 use crate::object::Object;
@@ -126,6 +130,32 @@ impl Extent {
         match self.tip {
             Some(tip) => drawn_bounds(from, to, &tip.turned(turn)),
             None => Bounds::Empty,
+        }
+    }
+
+    /// Whether one sees by its line alone that a draw covers no place of a box, in half nm: all of the box lies beyond it,
+    /// on one side. It becomes the extent of the aperture that it is drawn with.
+    pub(crate) fn line_misses(
+        &mut self,
+        entries: &Dictionary,
+        aperture: u32,
+        from: &Point,
+        to: &Point,
+        turn: Turn,
+        within: Bounds,
+    ) -> bool
+        requires extent { IsExtentIn entries.now self.old }
+        requires sound { IsSoundDictionary entries.now }
+        requires from { IsOnBoard from.now }
+        requires to { IsOnBoard to.now }
+        ensures off { IsTrue result → (dark : Bool) (s : Spot) → Holds within s → IsUncovered
+            (object_leaves (meaning_in entries.now) origin (Draw aperture from.now to.now turn dark)) s }
+        ensures extent { IsExtentIn entries.now self.new }
+    {
+        self.go_to(entries, aperture);
+        match self.tip {
+            Some(tip) => line_misses(from, to, &tip.turned(turn), within),
+            None => false,
         }
     }
 

@@ -1,7 +1,10 @@
 //! The boxes of the items of a layer, one after another.
 
-ghost use Rattle.std.specs.Prelude.{◌≡◌, ◌<◌, ◌≤◌, Some, length, slice_get, sum_by};
+ghost use Rattle.std.specs.Prelude.{◌≡◌, ◌<◌, ◌≤◌, IsTrue, Some, length, slice_get, sum_by};
+ghost use Rattle.cam_units.specs.Boxes.{Holds};
+ghost use Rattle.cam_units.specs.declared.point.Spot.{Spot};
 ghost use Rattle.cam_objects.specs.Bounds.{bounds_of};
+ghost use Rattle.cam_objects.specs.Image.{IsUncovered};
 ghost use Rattle.cam_objects.specs.Leaves.{item_leaves, meaning_in};
 ghost use Rattle.cam_refusals.specs.Limits.{leaf_limit};
 ghost use Rattle.cam_objects.specs.Machinery.Measures.{IsMeasureOf};
@@ -92,6 +95,32 @@ impl<'a> ItemBoxes<'a> {
             Item::One(object) => self.last.object_bounds(&layer.apertures, object),
             Item::Repeat { .. } => layer.bounds_of(item),
         }
+    }
+
+    /// Whether the item at a place of the list is a draw of which one sees by its line alone that it covers no place of a
+    /// box, in half nm: all of the box lies beyond the line, on one side. Takes no memory.
+    pub fn line_misses(&mut self, place: usize, within: Bounds) -> bool
+        requires { place < length self.old.items.items }
+        ensures off { IsTrue result → (item : Item) → slice_get self.old.items.items place ≡ Some item
+            → (s : Spot) → Holds within s → IsUncovered (item_leaves (meaning_in self.old.apertures) item) s }
+        ensures layer { self.new ≡ self.old }
+    {
+        let layer = self.layer;
+        let Item::One(object) = &layer.items[place] else {
+            return false;
+        };
+        let Object::Draw {
+            aperture,
+            from,
+            to,
+            turn,
+            ..
+        } = object
+        else {
+            return false;
+        };
+        self.last
+            .line_misses(&layer.apertures, *aperture, from, to, *turn, within)
     }
 
     /// The cells that it reaches and its leaves, of an item that is no flash and no draw.

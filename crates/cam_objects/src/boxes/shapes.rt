@@ -22,7 +22,7 @@ use cam_shapes::{Arc, Capsule, Contour, Disc, Seg, Swept};
 use cam_units::{Bounds, Nm, Point, Spot, isqrt};
 
 /// The place of a point.
-fn place(point: &Point) -> Spot
+pub(super) fn place(point: &Point) -> Spot
     requires { IsOnBoard point.now }
     ensures { result ≡ place_of point.now }
 {

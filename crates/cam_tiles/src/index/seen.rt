@@ -1,6 +1,7 @@
 //! The items of a layer that may be seen in a box, looked for from the last one on.
 
-ghost use Rattle.std.specs.Prelude.{◌≡◌, ◌<◌, ◌≤◌, ◌⊎◌, IfNone, IfOk, IfSome, OnOk, Some, length, slice_get, true};
+ghost use Rattle.std.specs.Prelude.{◌≡◌, ◌<◌, ◌≤◌, ◌⊎◌, IfNone, IfOk, IfSome, IsTrue, OnOk, Some, length, slice_get, true};
+ghost use Rattle.cam_units.specs.Boxes.{IsWithin};
 ghost use Rattle.cam_tiles.specs.Machinery.Indexes.{AreSeenBy, IsBegunBy};
 ghost use Rattle.cam_tiles.specs.Machinery.Shown.{IsReady, leaves_by_item, leaves_of, lists_of};
 ghost use Rattle.cam_tiles.specs.Machinery.Swaths.{HasRowOf, PaintsSwath};
@@ -29,6 +30,16 @@ pub(crate) struct Seen {
 /// How many more are looked for at a time.
 const STEP: usize = 64;
 
+/// Whether each place of a box is one of another.
+fn is_within(bounds: Bounds, other: Bounds) -> bool
+    ensures { IsTrue result → IsWithin bounds other }
+{
+    match bounds {
+        Bounds::Empty => true,
+        Bounds::Closed { low, high } => has_place(other, low) && has_place(other, high),
+    }
+}
+
 impl Seen {
     /// No item was looked at yet.
     pub(crate) fn new(alloc: Global, shown: &Shown<'_>, within: Bounds) -> Result<Seen, AllocError>
@@ -43,7 +54,8 @@ impl Seen {
         })
     }
 
-    /// Looks at the next item that may be near, if there is one.
+    /// Looks at the next item that may be near, if there is one. A draw whose line misses the box is passed over: so are
+    /// nearly all of many slanted ones, whose boxes reach far beyond what they cover.
     fn look_at_next(
         &mut self,
         shown: &Shown<'_>,
@@ -66,9 +78,14 @@ impl Seen {
         }
         self.left -= 1;
         let bounds = boxes.read(self.left);
-        if let Some(item) = Boxed::seen(self.left as u32, bounds, window, self.within) {
-            self.boxed.push(item)?;
+        let Some(item) = Boxed::seen(self.left as u32, bounds, window, self.within) else {
+            return Ok(());
+        };
+        // An item whose box lies within the other is near it.
+        if !is_within(bounds, self.within) && boxes.line_misses(self.left, self.within) {
+            return Ok(());
         }
+        self.boxed.push(item)?;
         Ok(())
     }
 

@@ -1,42 +1,27 @@
-use Rattle.std.proofs.Common.{◌≡◌, ℕ, ◌+◌, ◌<◌, length, get_or, refl, ap, sym, subst, ◌∙◌, arith}
-use Rattle.cam_objects.specs.declared.item.Item.{Item}
+use Rattle.std.proofs.Common.{ℕ, ◌+◌, refl, ap, subst, arith}
 use Rattle.cam_objects.specs.declared.item.Item.TheVariants.{One}
-use Rattle.cam_objects.specs.declared.layer.Layer.{Layer}
-use Rattle.cam_objects.specs.declared.object.Object.{Object}
 use Rattle.cam_objects.specs.Machinery.Painting.{StandsOnBoard}
-use Rattle.cam_objects.specs.Soundness.{HasSoundItems, IsInside, IsSoundItem}
-use Rattle.cam_objects.proofs.KeptBoxes.{measured}
-use Rattle.cam_objects.proofs.SoundItems.{meets}
+use Rattle.cam_objects.proofs.KeptBoxes.{listed_stands, measured}
 use Rattle.cam_objects.proofs.boxes.item_boxes.ItemBoxes.measure.Goals as goal
-
--- the points of an object that is listed lie on the board
-stands : (layer shown : Layer) (place : ℕ) (x : Item) (o : Object) → HasSoundItems layer → layer ≡ shown
-    → place < length shown.items.items → x ≡ get_or layer.items.items place x → x ≡ One o → StandsOnBoard o
-stands layer shown place x o sound is within here one =
-    let es = layer.apertures in
-    let listed = sound.items place x (subst (λ (l : Layer). place < length l.items.items) (sym is) within) in
-    let item : IsSoundItem es (One o) = subst (IsSoundItem es) (sym here ∙ one) listed in
-    let inside : IsInside es (One o) = (meets es (One o) item).inside in
-    inside.points 0 o (omega arith)
 
 pub flash-reach-requires-clause-at : goal.flash-reach-requires-clause-at
 flash-reach-requires-clause-at c =
     let o = c.in-One.object in
-    let on = stands c.self.inside.layer.now c.args.self.now c.args.place c.index.result.now o c.self.invariant.0 c.self.view_is
+    let on = listed_stands c.self.inside.layer.now c.args.self.now c.args.place c.index.result.now o c.self.invariant.0 c.self.view_is
     c.requires c.index.ensures c.in-One.is in
     (subst StandsOnBoard c.in-Flash.is on) 0 c.in-Flash.at (omega arith)
 
 pub draw-reach-requires-clause-from : goal.draw-reach-requires-clause-from
 draw-reach-requires-clause-from c =
     let o = c.in-One.object in
-    let on = stands c.self.inside.layer.now c.args.self.now c.args.place c.index.result.now o c.self.invariant.0 c.self.view_is
+    let on = listed_stands c.self.inside.layer.now c.args.self.now c.args.place c.index.result.now o c.self.invariant.0 c.self.view_is
     c.requires c.index.ensures c.in-One.is in
     (subst StandsOnBoard c.in-Draw.is on) 0 c.in-Draw.from (omega arith)
 
 pub draw-reach-requires-clause-to : goal.draw-reach-requires-clause-to
 draw-reach-requires-clause-to c =
     let o = c.in-One.object in
-    let on = stands c.self.inside.layer.now c.args.self.now c.args.place c.index.result.now o c.self.invariant.0 c.self.view_is
+    let on = listed_stands c.self.inside.layer.now c.args.self.now c.args.place c.index.result.now o c.self.invariant.0 c.self.view_is
     c.requires c.index.ensures c.in-One.is in
     (subst StandsOnBoard c.in-Draw.is on) 1 c.in-Draw.from (omega arith)
 

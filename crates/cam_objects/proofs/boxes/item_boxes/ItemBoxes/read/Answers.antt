@@ -1,25 +1,14 @@
-use Rattle.std.proofs.Common.{◌<◌, length, ap, sym, subst, ◌∙◌, arith}
+use Rattle.std.proofs.Common.{ap, sym, ◌∙◌}
 use Rattle.cam_objects.specs.declared.item.Item.{Item}
-use Rattle.cam_objects.specs.declared.item.Item.TheVariants.{One}
-use Rattle.cam_objects.specs.declared.layer.Layer.{Layer}
 use Rattle.cam_objects.specs.Bounds.{bounds_of}
 use Rattle.cam_objects.specs.Leaves.{item_leaves, meaning_in}
-use Rattle.cam_objects.specs.Soundness.{IsInside, IsSoundItem}
-use Rattle.cam_objects.proofs.KeptBoxes.{read_box}
-use Rattle.cam_objects.proofs.SoundItems.{meets}
+use Rattle.cam_objects.proofs.KeptBoxes.{listed_stands, read_box}
 use Rattle.cam_objects.proofs.boxes.item_boxes.ItemBoxes.read.Goals as goal
 
 pub object_bounds-requires-clause-stands : goal.object_bounds-requires-clause-stands
 object_bounds-requires-clause-stands c =
-    let layer = c.self.inside.layer.now in
-    let es = layer.apertures in
-    let within : c.args.place < length layer.items.items =
-    subst (λ (l : Layer). c.args.place < length l.items.items) (sym c.self.view_is) c.requires in
-    let listed = c.self.invariant.0.items c.args.place c.index-item.result.now within in
-    let sound : IsSoundItem es (One c.in-One.object) =
-    subst (IsSoundItem es) (sym c.index-item.ensures ∙ c.in-One.is) listed in
-    let inside : IsInside es (One c.in-One.object) = (meets es (One c.in-One.object) sound).inside in
-    inside.points 0 c.in-One.object (omega arith)
+    listed_stands c.self.inside.layer.now c.args.self.now c.args.place c.index-item.result.now c.in-One.object
+    c.self.invariant.0 c.self.view_is c.requires c.index-item.ensures c.in-One.is
 
 pub returns-in-One-clause-value : goal.returns-in-One-clause-value
 returns-in-One-clause-value c = λ item at.

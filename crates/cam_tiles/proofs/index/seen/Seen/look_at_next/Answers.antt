@@ -2,10 +2,11 @@ use Rattle.std.proofs.Common.{◌≡◌, ◌+◌, ◌-◌, ℕ, List, [], get_or
 use Rattle.cam_units.specs.Boxes.{Holds}
 use Rattle.cam_units.specs.declared.bounds.Bounds.{Bounds}
 use Rattle.cam_objects.specs.Bounds.{bounds_of}
+use Rattle.cam_objects.specs.Image.{IsUncovered}
 use Rattle.cam_objects.specs.Leaves.{Leaf}
 use Rattle.cam_tiles.specs.Machinery.Indexes.{AreSeenFrom, IsBoxOf}
 use Rattle.cam_tiles.specs.Machinery.Shown.{leaves_by_item}
-use Rattle.cam_tiles.proofs.Indexed.{next_missed, next_seen, seen_back}
+use Rattle.cam_tiles.proofs.Indexed.{next_missed, next_seen, next_uncovered, seen_back}
 use Rattle.cam_tiles.proofs.index.seen.Seen.look_at_next.Goals.{After-read-bounds}
 use Rattle.cam_tiles.proofs.index.seen.Seen.look_at_next.Goals as goal
 
@@ -28,13 +29,13 @@ so_far c =
     subst (λ k. AreSeenFrom (leaves_by_item c.args.shown.now) c.args.window.now c.args.self.now.within k boxed) last
     (seen_back _ _ _ boxed c.args.self.now.left near.result near.ensures.within near.ensures.apart c.requires.seen)
 
-pub returns-in_ok-push-clause-seen : goal.returns-in_ok-push-clause-seen
-returns-in_ok-push-clause-seen c =
+pub returns-clause-seen : goal.returns-clause-seen
+returns-clause-seen c =
     let w = c.args.window.now in
     let within = c.args.self.now.within in
     let n : ℕ = c.near_end-self.result - 1 in
     next_seen (leaves_by_item c.args.shown.now) w within n c.args.self.now.boxed.items
-    (so_far (goal.at.returns-in_ok-push-clause-seen c).After-read-bounds) c.push.new.self.items c.in-Some.item c.in_ok-push.ensures.items
+    (so_far (goal.at.returns-clause-seen c).After-read-bounds) c.push.new.self.items c.in-Some.item c.in_ok-push.ensures.items
     c.in-Some.ensures.place
     (subst (λ box. IsBoxOf w within box c.in-Some.item) (is_box n c.read-bounds.ensures.value c.requires.lists)
     c.in-Some.ensures.some)
@@ -47,3 +48,12 @@ returns-in_default-clause-seen c =
     (λ row s seen held.
     c.in_default.ensures.none row s seen
     (subst (λ box. Holds box s) (sym (is_box n c.read-bounds.ensures.value c.requires.lists)) held))
+
+pub returns-then-line_misses-clause-seen : goal.returns-then-line_misses-clause-seen
+returns-then-line_misses-clause-seen c =
+    let n : ℕ = c.near_end-self.result - 1 in
+    next_uncovered (leaves_by_item c.args.shown.now) c.args.window.now c.args.self.now.within n c.args.self.now.boxed.items
+    (so_far (goal.at.returns-then-line_misses-clause-seen c).After-read-bounds)
+    (λ s held.
+    subst (λ (these : List (List Leaf)). IsUncovered (get_or these n []) s)
+    (c.read-bounds.ensures.lists ∙ c.requires.lists) (c.line_misses.ensures.off c.if-line_misses.true s held))
