@@ -78,14 +78,13 @@ impl Seen {
         }
         self.left -= 1;
         let bounds = boxes.read(self.left);
-        let Some(item) = Boxed::seen(self.left as u32, bounds, window, self.within) else {
-            return Ok(());
-        };
         // An item whose box lies within the other is near it.
         if !is_within(bounds, self.within) && boxes.line_misses(self.left, self.within) {
             return Ok(());
         }
-        self.boxed.push(item)?;
+        if let Some(item) = Boxed::seen(self.left as u32, bounds, window, self.within) {
+            self.boxed.push(item)?;
+        }
         Ok(())
     }
 

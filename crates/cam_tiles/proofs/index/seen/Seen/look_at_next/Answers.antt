@@ -29,13 +29,13 @@ so_far c =
     subst (λ k. AreSeenFrom (leaves_by_item c.args.shown.now) c.args.window.now c.args.self.now.within k boxed) last
     (seen_back _ _ _ boxed c.args.self.now.left near.result near.ensures.within near.ensures.apart c.requires.seen)
 
-pub returns-clause-seen : goal.returns-clause-seen
-returns-clause-seen c =
+pub returns-in_ok-push-clause-seen : goal.returns-in_ok-push-clause-seen
+returns-in_ok-push-clause-seen c =
     let w = c.args.window.now in
     let within = c.args.self.now.within in
     let n : ℕ = c.near_end-self.result - 1 in
     next_seen (leaves_by_item c.args.shown.now) w within n c.args.self.now.boxed.items
-    (so_far (goal.at.returns-clause-seen c).After-read-bounds) c.push.new.self.items c.in-Some.item c.in_ok-push.ensures.items
+    (so_far (goal.at.returns-in_ok-push-clause-seen c).After-read-bounds) c.push.new.self.items c.in-Some.item c.in_ok-push.ensures.items
     c.in-Some.ensures.place
     (subst (λ box. IsBoxOf w within box c.in-Some.item) (is_box n c.read-bounds.ensures.value c.requires.lists)
     c.in-Some.ensures.some)
