@@ -5,7 +5,8 @@
 //! - [`limits`]: the greatest counts and lengths.
 //!
 //! `specs/Checks` says what is told where several faults hold: the first of a list of checks, or the one of least
-//! number; `specs/FileFaults` what is told of a file with faults at several places. What may be refused, and in which order, is said by the crates above, as such lists.
+//! number; `specs/FileFaults` what is told of a file with faults at several places. What may be refused, and in which
+//! order, is said by the crates above, as such lists.
 #![tactic(auto)]
 
 mod laws;
