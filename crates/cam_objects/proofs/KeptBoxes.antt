@@ -1,16 +1,18 @@
 -- the cells that items reach, read and followed
-use Rattle.std.proofs.Common.{◌≡◌, ℕ, ◌+◌, ◌-◌, ◌<◌, ◌≤◌, ◌⊎◌, ℤ, ◌≤ℤ◌, inl, inr, List, [], ◌∷◌, length, map, get_or}
+use Rattle.std.proofs.Common.{◌≡◌, ℕ, ◌+◌, ◌-◌, ◌<◌, ◌≤◌, ◌⊎◌, ℤ, ◌≤ℤ◌, inl, inr, List, [], ◌∷◌, ◌++◌, length, map, get_or}
 use Rattle.std.proofs.Common.{slice_get, slice_set, take, insert, remove, Some, refl, sym, ap, subst, ◌∙◌, arith}
 use Rattle.std.proofs.lemmas.Bool.{cases_eq, cases_lt}
 use Rattle.std.proofs.lemmas.Int.{ints}
-use Rattle.std.proofs.lemmas.List.{get_or-map, get_or-set_same, get_or-set_other, get_or-take}
-use Rattle.std.proofs.lemmas.List.{length-set, length-take}
+use Rattle.std.proofs.lemmas.List.{get_or-map, get_or-set_same, get_or-set_other, get_or-take, get_or_append_left}
+use Rattle.std.proofs.lemmas.List.{length-append, length-set, length-take, take_more}
 use Rattle.std.proofs.lemmas.List.Edits.{get_or-insert_above, get_or-insert_at, get_or-insert_below, get_or-remove_above}
 use Rattle.std.proofs.lemmas.List.Edits.{get_or-remove_below, length-insert, length-remove}
 use Rattle.std.proofs.lemmas.Option.{get_or_from_slice_get, slice_get-get_or}
+use Rattle.std.proofs.Math.Seq.{get_or-append_seam, set-append_seam}
 use Rattle.cam_units.specs.Boxes.{HaveCommonPlace}
 use Rattle.cam_units.specs.declared.bounds.Bounds.{Bounds}
 use Rattle.cam_units.specs.declared.bounds.Bounds.TheVariants.{Empty, Closed}
+use Rattle.cam_units.specs.declared.point.Spot.{Spot}
 use Rattle.cam_objects.specs.declared.cells.reach.Measure.{Measure}
 use Rattle.cam_objects.specs.declared.cells.reach.Reach.{Reach}
 use Rattle.cam_objects.specs.declared.drill_item.DrillItem.{DrillItem}
@@ -136,6 +138,22 @@ far_item boxes reaches sides near s k kept same known told listed apart common =
 module _ {X : Type 0} (R : X → ℕ → Type 0) (d : X) where
   pub beside_none : (xs : List X) → AreBeside R d xs []
   beside_none xs = record { each = λ k listed known. absurd (omega arith) }
+
+  pub beside_nothing : (ys : List ℕ) → AreBeside R d [] ys
+  beside_nothing ys = record { each = λ k listed known. absurd (omega arith) }
+
+  -- one more of which any number will do
+  beside_more : (xs : List X) (ys : List ℕ) → ((v : ℕ) → R d v) → AreBeside R d xs ys → AreBeside R d (xs ++ d ∷ []) ys
+  beside_more xs ys any kept = record {
+    each = λ k listed known.
+        let Held = λ (x : X). R x (get_or ys k 0) in
+        elim (cases_lt k (length xs)) [
+          | inl below ↦ subst Held (sym (get_or_append_left xs (d ∷ []) d k below)) (kept.each k below known)
+          | inr past ↦
+              (let last : k ≡ length xs = omega (arith, past, listed, length-append xs (d ∷ [])) in
+              subst Held (sym (ap (λ j. get_or (xs ++ d ∷ []) j d) last ∙ get_or-append_seam xs d [] d)) (any (get_or ys k 0)))
+        ];
+  }
 
   -- the first so many are beside the others
   abbrev pub AreBesideBelow : ℕ → List X → List ℕ → Type 0
@@ -297,3 +315,35 @@ module _ {X : Type 0} (R : X → ℕ → Type 0) (d : X) where
               (omega (arith, length-remove old from known, known')) here))
         ]
       ]
+
+-- ---- items that are read one after another
+
+pub none_read : (cells : Reaches) → AreCellsOf [] cells
+none_read cells = record {
+  left = beside_nothing (IsSide left_of) Empty cells.left;
+  bottom = beside_nothing (IsSide bottom_of) Empty cells.bottom;
+  right = beside_nothing (IsSide right_of) Empty cells.right;
+  top = beside_nothing (IsSide top_of) Empty cells.top;
+}
+
+-- any cells are those of an empty box behind the others
+pub one_read : (boxes : List Bounds) (place : ℕ) (old new : Reaches) → place < length boxes → AreCellsOf (take place boxes) old
+    → ((before : List Bounds) → AreCellsOf before old → place < length before
+    → AreCellsOf (slice_set before place (box_at boxes place)) new)
+    → AreCellsOf (take (place + 1) boxes) new
+one_read boxes place old new within known one =
+    let front = take place boxes in
+    let full : length front ≡ place = omega (arith, length-take place boxes, within) in
+    let side = λ (f : Spot → Spot → ℤ). beside_more (IsSide f) Empty front in
+    let more : AreCellsOf (front ++ Empty ∷ []) old =
+    record {
+      left = side left_of old.left (λ v. tt) known.left;
+      bottom = side bottom_of old.bottom (λ v. tt) known.bottom;
+      right = side right_of old.right (λ v. tt) known.right;
+      top = side top_of old.top (λ v. tt) known.top;
+    } in
+    let b = box_at boxes place in
+    subst (λ (those : List Bounds). AreCellsOf those new)
+    (ap (λ k. slice_set (front ++ Empty ∷ []) k b) (sym full) ∙ set-append_seam front Empty [] b
+    ∙ sym (take_more boxes place Empty within))
+    (one (front ++ Empty ∷ []) more (omega (arith, full, length-append front (Empty ∷ []))))

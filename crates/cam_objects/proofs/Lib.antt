@@ -24,6 +24,7 @@ pub mod Inking
 pub mod ItemBounds
 pub mod ItemCopies
 pub mod KeptBoxes
+pub mod KeptCopies
 pub mod KeptFacts
 pub mod LastFrames
 pub mod LastInks

@@ -11,6 +11,8 @@ use Rattle.cam_units.specs.declared.bounds.Bounds.{Bounds}
 use Rattle.cam_units.specs.declared.bounds.Bounds.TheVariants.{Empty}
 use Rattle.cam_units.specs.declared.point.Spot.{Spot}
 use Rattle.cam_objects.specs.declared.entry.Entry.{Entry}
+use Rattle.cam_objects.specs.declared.item.Item.{Item}
+use Rattle.cam_objects.specs.declared.layer.Layer.{Layer}
 use Rattle.cam_objects.specs.declared.object.Object.{Object}
 use Rattle.cam_objects.specs.declared.placing.place.Place.{Place}
 use Rattle.cam_objects.specs.Bounds.{bounds_of, box_of_shape}
@@ -28,7 +30,7 @@ use Rattle.cam_objects.proofs.Painting.{All_left, All_right}
 use Rattle.cam_objects.proofs.PlacedBoxes.{object_box_placed}
 use Rattle.cam_objects.proofs.PlacedShapes.{shapes_so}
 use Rattle.cam_objects.proofs.SizedLeaves.{meaning_sized, object_sized}
-use Rattle.cam_objects.specs.Soundness.{AreOnBoard, IsSoundDictionary, IsSoundItem, points_of_shape}
+use Rattle.cam_objects.specs.Soundness.{AreOnBoard, HasSoundItems, IsSoundDictionary, IsSoundItem, points_of_shape}
 use Rattle.cam_objects.specs.Weights.{block_count, weight_in}
 use Rattle.cam_objects.specs.declared.item.Item.TheVariants.{Repeat}
 use Rattle.cam_objects.proofs.SoundItems.{meets}
@@ -97,6 +99,15 @@ measurable es columns rows i j objects sound item =
       few = m.limits.objects;
       leaves = omega (arith, m.limits.leaves, mul-le 1 count (columns * rows) count (omega (arith, some)) (omega arith));
     }
+
+-- those of an item at a place of a sound layer that is a repeat
+pub listed_measurable : (layer : Layer) (place : ℕ) (x : Item) (columns rows : ℕ) (i j : ℤ) (objects slice : List Object)
+    → HasSoundItems layer → place < length layer.items.items → x ≡ get_or layer.items.items place x
+    → x ≡ Repeat columns rows i j objects → slice ≡ objects → AreMeasurable layer.apertures slice
+listed_measurable layer place x columns rows i j objects slice sound within here is same =
+    subst (λ (os : List Object). AreMeasurable layer.apertures os) (sym same)
+    (measurable layer.apertures columns rows i j objects sound.entries
+    (subst (IsSoundItem layer.apertures) (sym here ∙ is) (sound.items place x within)))
 
 -- one whose box has no place in common with what a canvas shows, seen from the place where it is painted
 object_unseen : {V : Type 0} (has : V → ℕ → ℕ → Type 0) (place : V → ℕ → ℕ → Spot) (v : V) (es : List (ℕ × Entry))

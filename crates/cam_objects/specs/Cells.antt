@@ -1,5 +1,5 @@
 -- The boxes of items, in half nm, and the cells of the board that they reach.
-use Rattle.std.specs.Prelude.{◌≡◌, ℕ, ◌+◌, ◌*◌, ◌<◌, ℤ, pos, ◌+ℤ◌, ◌<ℤ◌, ◌≤ℤ◌, List, length, map}
+use Rattle.std.specs.Prelude.{◌≡◌, ℕ, ◌+◌, ◌*◌, ◌<◌, ℤ, pos, ◌+ℤ◌, ◌<ℤ◌, ◌≤ℤ◌, All, List, Some, length, map, slice_get}
 use Rattle.std.specs.List.{slice_index_or}
 use Rattle.cam_units.specs.declared.bounds.Bounds.{Bounds}
 use Rattle.cam_units.specs.declared.bounds.Bounds.TheVariants.{Empty, Closed}
@@ -73,8 +73,9 @@ pub record Reaches : Type 0 where
   pub right : List ℕ
   pub top : List ℕ
 
--- the box of the first copy of a repeat, and what its objects reach
+-- the place of a repeat in a list, the box of its first copy, and what the objects of that reach
 pub record FirstCopied : Type 0 where
+  pub place : ℕ
   pub bounds : Bounds
   pub reaches : Reaches
 
@@ -91,3 +92,8 @@ IsFirstCopyOf entries (One object) first = Unit {0}
 IsFirstCopyOf entries (Repeat columns rows i j objects) first =
     (first.bounds ≡ bounds_of (block_leaves (meaning_in entries) origin objects))
     × AreCellsOf (object_boxes entries objects) first.reaches
+
+-- each is that of the item at its place, where there is one
+abbrev pub AreFirstCopiesOf : List (ℕ × Entry) → List Item → List FirstCopied → Type 0
+AreFirstCopiesOf entries items copies =
+    All (λ first. (item : Item) → slice_get items first.place ≡ Some item → IsFirstCopyOf entries item first) copies

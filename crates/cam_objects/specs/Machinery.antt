@@ -10,6 +10,7 @@ pub mod Tracing
 pub mod Inside
 pub mod Runs
 pub mod Extents
+pub mod FirstCopies
 pub mod Frames
 pub mod Measures
 pub mod Sides

@@ -4,7 +4,6 @@ pub(crate) mod attributes;
 pub(crate) mod demands;
 pub(crate) mod facts;
 pub(crate) mod inside;
-pub(crate) mod last_leaves;
 pub(crate) mod layer;
 pub(crate) mod moving;
 pub(crate) mod room;

@@ -49,8 +49,13 @@ pub struct Dictionary {
     map: IndexMap<u32, Entry>,
     facts: Vec<Facts>,
     cells: Vec<ItemCells>,
+    /// Of small numbers where each stands in the order; of one that is none, some other place.
+    places: Vec<usize>,
     alloc: Global,
 }
+
+/// From which number on places are not kept. Nearly all boards have smaller ones alone.
+const KEPT_PLACES: u32 = 4_096;
 
 impl Model for Dictionary {
     ghost use Rattle.std.specs.Prelude.{List, ℕ};
@@ -66,6 +71,19 @@ impl Model for Dictionary {
     ghost invariant = { λ d. IsKept d.map.entries d.facts.items × AreCellsKept d.map.entries d.cells.items };
 }
 
+/// Keeps where a small number stands, if there is memory for it.
+fn keep_place(places: &mut Vec<usize>, number: u32, place: usize)
+    ensures { number < length places.new.items → slice_get places.new.items number ≡ Some place }
+{
+    let at = number as usize;
+    if number < KEPT_PLACES && places.len() <= at && places.resize(at + 1, 0).is_err() {
+        return;
+    }
+    if let Some(kept) = places.get_mut(at) {
+        *kept = place;
+    }
+}
+
 impl Dictionary {
     /// No entry.
     pub fn new(alloc: Global) -> Dictionary
@@ -75,6 +93,7 @@ impl Dictionary {
             map: IndexMap::new(alloc),
             facts: Vec::new(alloc),
             cells: Vec::new(alloc),
+            places: Vec::new(alloc),
             alloc,
         }
     }
@@ -87,6 +106,7 @@ impl Dictionary {
             map,
             facts: _,
             cells: _,
+            places: _,
             alloc: _,
         } = self;
         map
@@ -120,9 +140,40 @@ impl Dictionary {
         ensures absent { IfNone result (lookup (nat_eq number) self.now ≡ None) }
         ensures distinct { IsDistinct nat_eq (keys_of self.now) }
     {
+        // Each item asks several times, and a hash takes much longer.
+        match self.find_by_place(number) {
+            Some(found) => Some(found),
+            None => self.find_by_hash(number),
+        }
+    }
+
+    /// The same.
+    fn find_by_hash(&self, number: u32) -> Option<(usize, &Entry)>
+        ensures found { IfSome result (λ r. slice_get self.now r.0 ≡ Some (number, r.1.now)) }
+        ensures absent { IfNone result (lookup (nat_eq number) self.now ≡ None) }
+        ensures distinct { IsDistinct nat_eq (keys_of self.now) }
+    {
         match self.map.get_full(&number) {
             Some((place, _, entry)) => Some((place, entry)),
             None => None,
+        }
+    }
+
+    /// The same of a number whose place is kept.
+    #[inline]
+    fn find_by_place(&self, number: u32) -> Option<(usize, &Entry)>
+        ensures found { IfSome result (λ r. slice_get self.now r.0 ≡ Some (number, r.1.now)) }
+        ensures distinct { IfSome result (λ r. IsDistinct nat_eq (keys_of self.now)) }
+    {
+        let place = *self.places.get(number as usize)?;
+        if place >= self.map.len() {
+            return None;
+        }
+        let (listed, entry) = self.map.get_index(place)?;
+        if *listed == number {
+            Some((place, entry))
+        } else {
+            None
         }
     }
 
@@ -209,9 +260,11 @@ impl Dictionary {
         let cells = entry_cells(self.alloc, self, &entry);
         self.facts.reserve(1)?;
         self.cells.reserve(1)?;
+        let place = self.map.len();
         self.map.insert(number, entry)?;
         self.facts.push_reserved(facts);
         self.cells.push_reserved(cells);
+        keep_place(&mut self.places, number, place);
         Ok(())
     }
 

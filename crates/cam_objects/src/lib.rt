@@ -58,6 +58,7 @@ mod tip;
 mod tools;
 
 pub use attribute::Attribute;
+pub use boxes::first_copies::FirstCopies;
 pub use boxes::first_copy::FirstCopy;
 pub use boxes::item_boxes::ItemBoxes;
 pub use cam_shapes::{Contour, Seg, Segments};

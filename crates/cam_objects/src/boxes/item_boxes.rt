@@ -1,9 +1,10 @@
 //! The boxes of the items of a layer, one after another.
 
-ghost use Rattle.std.specs.Prelude.{◌≡◌, ◌<◌, ◌≤◌, IsTrue, Some, length, slice_get, sum_by};
+ghost use Rattle.std.specs.Prelude.{◌≡◌, ◌<◌, ◌≤◌, IfSome, IsTrue, Some, length, slice_get, sum_by};
 ghost use Rattle.cam_units.specs.Boxes.{Holds};
 ghost use Rattle.cam_units.specs.declared.point.Spot.{Spot};
 ghost use Rattle.cam_objects.specs.Bounds.{bounds_of};
+ghost use Rattle.cam_objects.specs.Cells.{AreFirstCopiesOf};
 ghost use Rattle.cam_objects.specs.Image.{IsUncovered};
 ghost use Rattle.cam_objects.specs.Leaves.{item_leaves, meaning_in};
 ghost use Rattle.cam_refusals.specs.Limits.{leaf_limit};
@@ -13,6 +14,7 @@ ghost use Rattle.cam_objects.specs.Weights.{item_count, weight_in};
 ghost use Rattle.cam_objects.specs.declared.item.Item.{Item};
 
 use crate::boxes::extent::Extent;
+use crate::boxes::first_copies::FirstCopies;
 use crate::boxes::last_frame::LastFrame;
 use crate::cells::reach::{Measure, Reach};
 use crate::item::Item;
@@ -21,10 +23,12 @@ use crate::object::Object;
 use cam_units::{Bounds, Turn};
 use std::marker::Model;
 
-/// Reads the boxes of the items of a layer: an aperture that the item read before named is not looked up again.
+/// Reads the boxes of the items of a layer: an aperture that the item read before named is not looked up again, and the
+/// objects of a repeat are not gone through where its first copy is known.
 #[derive(Drop)]
 pub struct ItemBoxes<'a> {
     layer: &'a Layer,
+    copies: Option<&'a FirstCopies>,
     last: Extent,
     frame: LastFrame,
 }
@@ -34,13 +38,11 @@ impl<'a> Model for ItemBoxes<'a> {
 
     ghost Value = { Layer };
 
-    ghost use Rattle.cam_objects.specs.Machinery.Extents.{IsExtentIn, IsLastFrameIn};
-    ghost use Rattle.cam_objects.specs.Soundness.{HasSoundItems};
+    ghost use Rattle.cam_objects.specs.Machinery.Extents.{AreBoxesKept};
 
     ghost view = { λ r. r.layer.now };
 
-    ghost invariant = { λ r. HasSoundItems r.layer.now
-        × (IsExtentIn r.layer.now.apertures r.last × IsLastFrameIn r.layer.now.apertures r.frame) };
+    ghost invariant = { AreBoxesKept };
 }
 
 impl Layer {
@@ -49,8 +51,19 @@ impl Layer {
         requires { HasSoundItems self.now }
         ensures { result ≡ self.now }
     {
+        self.boxes_by(None)
+    }
+
+    /// Reads the boxes of the items of a sound layer, those of repeats by their first copies where they are known.
+    pub fn boxes_by<'a>(&'a self, copies: Option<&'a FirstCopies>) -> ItemBoxes<'a>
+        requires sound { HasSoundItems self.now }
+        requires copies { IfSome copies
+            (λ known. AreFirstCopiesOf self.now.apertures self.now.items.items known.now) }
+        ensures { result ≡ self.now }
+    {
         ItemBoxes {
             layer: self,
+            copies,
             last: Extent::none(&self.apertures),
             frame: LastFrame::of(&self.apertures, 0, Turn::R0),
         }
@@ -93,7 +106,7 @@ impl<'a> ItemBoxes<'a> {
         let item = &layer.items[place];
         match item {
             Item::One(object) => self.last.object_bounds(&layer.apertures, object),
-            Item::Repeat { .. } => layer.bounds_of(item),
+            Item::Repeat { .. } => layer.bounds_by(self.copies, place),
         }
     }
 
@@ -139,7 +152,7 @@ impl<'a> ItemBoxes<'a> {
     }
 
     /// The cells that the box of the item at a place of the list reaches, and how many leaves it has. Takes no memory.
-    // Flashes and draws have a way of their own: of most items nothing is written to memory but the cells.
+    // Of most items nothing is written to memory but the cells.
     #[inline(always)]
     pub(crate) fn measure(&mut self, place: usize) -> Measure
         requires { place < length self.old.items.items }
@@ -149,32 +162,8 @@ impl<'a> ItemBoxes<'a> {
     {
         let layer = self.layer;
         if let Item::One(object) = &layer.items[place] {
-            match object {
-                Object::Flash {
-                    aperture,
-                    at,
-                    turn,
-                    ..
-                } => {
-                    let reach = self.frame.flash(&layer.apertures, *aperture, *at, *turn);
-                    return Measure {
-                        reach,
-                        leaves: 1 + self.frame.leaves,
-                    };
-                }
-                Object::Draw {
-                    aperture,
-                    from,
-                    to,
-                    turn,
-                    ..
-                } => {
-                    let reach = self
-                        .frame
-                        .draw(&layer.apertures, *aperture, from, to, *turn);
-                    return Measure { reach, leaves: 1 };
-                }
-                _ => {}
+            if let Some(measure) = self.frame.measure(&layer.apertures, object) {
+                return measure;
             }
         }
         self.other_measure(place)

@@ -1,7 +1,8 @@
 //! Boxes of what objects and items paint, in half nm: a flash of a block costs one box.
 
-ghost use Rattle.std.specs.Prelude.{◌≡◌, ◌*◌, ◌<◌, All, IsTrue, Some, length, slice_get};
+ghost use Rattle.std.specs.Prelude.{◌≡◌, ◌*◌, ◌<◌, All, IfSome, IsTrue, Some, length, slice_get};
 ghost use Rattle.cam_objects.specs.Bounds.{bounds_of};
+ghost use Rattle.cam_objects.specs.Cells.{AreFirstCopiesOf, IsFirstCopyOf};
 ghost use Rattle.cam_objects.specs.Image.{IsUncovered};
 ghost use Rattle.cam_objects.specs.Leaves.{block_leaves, item_leaves, meaning_in, origin, repeat_leaves};
 ghost use Rattle.cam_objects.specs.Machinery.Boxes.{IsBoxedRepeat, IsNearBox};
@@ -11,6 +12,8 @@ ghost use Rattle.cam_objects.specs.Soundness.{AreOnBoard, HasSoundItems, IsSound
 ghost use Rattle.cam_objects.specs.declared.item.Item.{Item};
 
 use crate::boxes::extent::Extent;
+use crate::boxes::first_copies::FirstCopies;
+use crate::boxes::first_copy::FirstCopy;
 use crate::boxes::placed::moved;
 use crate::dictionary::Dictionary;
 use crate::item::Item;
@@ -86,5 +89,39 @@ impl Layer {
             → result ≡ bounds_of (item_leaves (meaning_in self.now.apertures) item) }
     {
         self.bounds_of(&self.items[place])
+    }
+
+    /// The box of the item at a place of the list, counted from 0, of which the first copy is known, if it is a repeat.
+    fn copied_bounds(&self, place: usize, first: &FirstCopy) -> Bounds
+        requires sound { HasSoundItems self.now }
+        requires within { place < length self.now.items.items }
+        requires first { (item : Item) → slice_get self.now.items.items place ≡ Some item
+            → IsFirstCopyOf self.now.apertures item first.now }
+        ensures { (item : Item) → slice_get self.now.items.items place ≡ Some item
+            → result ≡ bounds_of (item_leaves (meaning_in self.now.apertures) item) }
+    {
+        let item = &self.items[place];
+        match item {
+            Item::One(_) => self.bounds_of(item),
+            Item::Repeat { .. } => item.copies().bounds(first.bounds),
+        }
+    }
+
+    /// The box of the item at a place of the list, counted from 0: by its first copy, where that is known.
+    pub(crate) fn bounds_by(&self, copies: Option<&FirstCopies>, place: usize) -> Bounds
+        requires sound { HasSoundItems self.now }
+        requires within { place < length self.now.items.items }
+        requires copies { IfSome copies
+            (λ known. AreFirstCopiesOf self.now.apertures self.now.items.items known.now) }
+        ensures { (item : Item) → slice_get self.now.items.items place ≡ Some item
+            → result ≡ bounds_of (item_leaves (meaning_in self.now.apertures) item) }
+    {
+        let Some(copies) = copies else {
+            return self.item_bounds(place);
+        };
+        match copies.at(place) {
+            Some(first) => self.copied_bounds(place, first),
+            None => self.item_bounds(place),
+        }
     }
 }

@@ -1,6 +1,6 @@
 //! The cells of flashes and draws of an aperture, many in a row.
 
-ghost use Rattle.std.specs.Prelude.{◌≡◌, ◌≤◌, Bool};
+ghost use Rattle.std.specs.Prelude.{◌≡◌, ◌≤◌, Bool, IfSome};
 ghost use Rattle.cam_units.specs.Board.{IsOnBoard};
 ghost use Rattle.cam_objects.specs.Bounds.{bounds_of};
 ghost use Rattle.cam_objects.specs.Cells.{IsReachOf};
@@ -8,13 +8,17 @@ ghost use Rattle.cam_objects.specs.Leaves.{meaning_in, object_leaves, origin};
 ghost use Rattle.cam_refusals.specs.Limits.{leaf_limit};
 ghost use Rattle.cam_objects.specs.Machinery.Extents.{IsLastFrameIn};
 ghost use Rattle.cam_objects.specs.Machinery.Frames.{greatest_point, least_point};
+ghost use Rattle.cam_objects.specs.Machinery.Measures.{IsMeasureOf};
+ghost use Rattle.cam_objects.specs.Machinery.Painting.{StandsOnBoard};
 ghost use Rattle.cam_objects.specs.Soundness.{IsSoundDictionary};
 ghost use Rattle.cam_objects.specs.Weights.{weight_in};
+ghost use Rattle.cam_objects.specs.declared.item.Item.TheVariants.{One};
 ghost use Rattle.cam_objects.specs.declared.object.Object.TheVariants.{Draw, Flash};
 
 use crate::cells::frame::Frame;
-use crate::cells::reach::Reach;
+use crate::cells::reach::{Measure, Reach};
 use crate::dictionary::Dictionary;
+use crate::object::Object;
 use cam_apertures::turned;
 use cam_units::{Point, Turn};
 
@@ -88,13 +92,7 @@ impl LastFrame {
 
     /// The cells that a flash reaches.
     #[inline(always)]
-    pub(crate) fn flash(
-        &mut self,
-        entries: &Dictionary,
-        aperture: u32,
-        at: Point,
-        turn: Turn,
-    ) -> Reach
+    fn flash(&mut self, entries: &Dictionary, aperture: u32, at: Point, turn: Turn) -> Reach
         requires last { IsLastFrameIn entries.now self.old }
         requires at { IsOnBoard at }
         ensures value { (dark : Bool) → IsReachOf
@@ -109,7 +107,7 @@ impl LastFrame {
 
     /// The cells that a draw reaches: what it draws with is as large as a flash of it.
     #[inline(always)]
-    pub(crate) fn draw(
+    fn draw(
         &mut self,
         entries: &Dictionary,
         aperture: u32,
@@ -127,5 +125,39 @@ impl LastFrame {
     {
         self.go_to(entries, aperture, turn);
         self.frame.reach(least(from, to), greatest(from, to))
+    }
+
+    /// The cells that a flash or a draw reaches, and its leaves; of another object nothing.
+    #[inline(always)]
+    pub(crate) fn measure(&mut self, entries: &Dictionary, object: &Object) -> Option<Measure>
+        requires last { IsLastFrameIn entries.now self.old }
+        requires sound { IsSoundDictionary entries.now }
+        requires stands { StandsOnBoard object.now }
+        ensures value { IfSome result (IsMeasureOf entries.now (One object.now)) }
+        ensures last { IsLastFrameIn entries.now self.new }
+    {
+        match object {
+            Object::Flash {
+                aperture,
+                at,
+                turn,
+                ..
+            } => {
+                let reach = self.flash(entries, *aperture, *at, *turn);
+                let leaves = 1 + self.leaves;
+                Some(Measure { reach, leaves })
+            }
+            Object::Draw {
+                aperture,
+                from,
+                to,
+                turn,
+                ..
+            } => {
+                let reach = self.draw(entries, *aperture, from, to, *turn);
+                Some(Measure { reach, leaves: 1 })
+            }
+            _ => None,
+        }
     }
 }

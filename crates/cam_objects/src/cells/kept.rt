@@ -116,6 +116,16 @@ impl ItemCells {
         }
     }
 
+    /// Reads all items of a list anew, as far as there is room for their cells. Takes no memory.
+    pub(crate) fn read_again<B: BoxedItems>(&mut self, items: &mut B)
+        ensures cells { AreCellsOf (B.boxes items.old) self.new }
+        ensures list { B.boxes items.new ≡ B.boxes items.old }
+    {
+        for place in 0..items.count() {
+            self.renew(items, place);
+        }
+    }
+
     /// Makes room for so many items more; where memory for it is refused, those behind an item that comes will be read
     /// as they are.
     pub fn reserve(&mut self, items: usize)

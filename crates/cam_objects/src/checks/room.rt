@@ -21,13 +21,11 @@ ghost use Rattle.std.specs.Prelude.{
 };
 ghost use Rattle.std.specs.List.{list_all};
 ghost use Rattle.cam_refusals.specs.Limits.{count_limit, leaf_limit};
-ghost use Rattle.cam_objects.specs.Machinery.Extents.{IsLastLeavesIn};
 ghost use Rattle.cam_objects.specs.Soundness.{KeepsLimits, has_few_segs, is_within_limits};
 ghost use Rattle.cam_objects.specs.Weights.{block_count, item_count, weight_in};
 ghost use Rattle.cam_objects.specs.declared.item.Item.TheVariants.{One, Repeat};
 
 use crate::checks::facts::leaf_count;
-use crate::checks::last_leaves::LastLeaves;
 use crate::dictionary::Dictionary;
 use crate::item::Item;
 use crate::object::Object;
@@ -116,35 +114,14 @@ fn room_behind_item(entries: &Dictionary, item: &Item, room: u64) -> Option<u64>
     }
 }
 
-/// The same of the next of many items: a flash of the aperture that the one before named is counted without a look at
-/// the dictionary.
-fn room_behind_next(
-    entries: &Dictionary,
-    last: &mut LastLeaves,
-    item: &Item,
-    room: u64,
-) -> Option<u64>
-    requires last { IsLastLeavesIn entries.now last.old }
-    requires room { room ≤ leaf_limit }
-    ensures fits { IfSome result (λ left. left + item_count (weight_in entries.now) item.now ≡ room) }
-    ensures past { IfNone result (room < item_count (weight_in entries.now) item.now) }
-    ensures last { IsLastLeavesIn entries.now last.new }
-{
-    match item {
-        Item::One(object) => room.checked_sub(last.count(entries, object)),
-        Item::Repeat { .. } => room_behind_item(entries, item, room),
-    }
-}
-
 /// The room for leaves that is left behind the items of a layer, if there is room for them.
 fn room_behind_items(entries: &Dictionary, items: &[Item]) -> Option<u64>
     ensures fits { IfSome result (λ left. left + sum_by (item_count (weight_in entries.now)) items.now ≡ leaf_limit) }
     ensures past { IfNone result (leaf_limit < sum_by (item_count (weight_in entries.now)) items.now) }
 {
     let mut room = LEAF_LIMIT;
-    let mut last = LastLeaves::of(entries, 0);
     for item in items {
-        match room_behind_next(entries, &mut last, item, room) {
+        match room_behind_item(entries, item, room) {
             Some(left) => room = left,
             None => return None,
         }

@@ -223,6 +223,7 @@ impl Layer {
     {
         paint_item(&self.apertures, &self.items[place], canvas);
     }
+
     /// Paints the item at a place of the list, counted from 0, from its last leaf on: a repeat by its first copy.
     pub fn paint_repeat<C: Canvas>(&self, place: usize, first: &FirstCopy, canvas: &mut C)
         requires sound { HasSoundItems self.now }

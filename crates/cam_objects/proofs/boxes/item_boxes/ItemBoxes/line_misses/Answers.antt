@@ -10,13 +10,13 @@ use Rattle.cam_objects.proofs.boxes.item_boxes.ItemBoxes.line_misses.Goals as go
 pub line_misses-requires-clause-from : goal.line_misses-requires-clause-from
 line_misses-requires-clause-from c =
     let on = listed_stands c.self.inside.layer.now c.args.self.now c.args.place c.index.result.now c.in-One.object
-    c.self.invariant.0 c.self.view_is c.requires c.index.ensures c.in-One.is in
+    c.self.invariant.sound c.self.view_is c.requires c.index.ensures c.in-One.is in
     (subst StandsOnBoard c.in-Draw.is on) 0 c.in-Draw.from (omega arith)
 
 pub line_misses-requires-clause-to : goal.line_misses-requires-clause-to
 line_misses-requires-clause-to c =
     let on = listed_stands c.self.inside.layer.now c.args.self.now c.args.place c.index.result.now c.in-One.object
-    c.self.invariant.0 c.self.view_is c.requires c.index.ensures c.in-One.is in
+    c.self.invariant.sound c.self.view_is c.requires c.index.ensures c.in-One.is in
     (subst StandsOnBoard c.in-Draw.is on) 1 c.in-Draw.from (omega arith)
 
 pub returns-clause-off : goal.returns-clause-off

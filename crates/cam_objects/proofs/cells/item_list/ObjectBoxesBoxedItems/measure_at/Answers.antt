@@ -14,10 +14,10 @@ pub returns-clause-reach : goal.returns-clause-reach
 returns-clause-reach c =
     let p = c.args.self.now in
     read_at (λ (o : Object). bounds_of (object_leaves (meaning_in p.0) origin o)) (λ b. IsReachOf b c.measure.result.reach) Empty p.1 c.args.place
-    (omega (arith, c.requires, length-map {B = Bounds} p.1)) c.measure.ensures.reach
+    (omega (arith, c.requires, length-map {B = Bounds} p.1)) (λ object at. (c.measure.ensures.value object at).reach)
 
 pub returns-clause-leaves : goal.returns-clause-leaves
 returns-clause-leaves c =
     let p = c.args.self.now in
     read_at (object_count (weight_in p.0)) (λ (n : ℕ). c.measure.result.leaves ≡ n) 0 p.1 c.args.place
-    (omega (arith, c.requires, length-map {B = Bounds} p.1)) c.measure.ensures.leaves
+    (omega (arith, c.requires, length-map {B = Bounds} p.1)) (λ object at. (c.measure.ensures.value object at).leaves)
