@@ -16,8 +16,6 @@ pub mod FoundRuns
 pub mod Gaps
 pub mod HalfPlanes
 pub mod JoinedLanes
-pub mod MarkedColumns
-pub mod MarkedRows
 pub mod Middles
 pub mod NarrowedRuns
 pub mod NearRows

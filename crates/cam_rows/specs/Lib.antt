@@ -1,6 +1,5 @@
 pub mod ArcRuns
 pub mod Lanes
 pub mod Machinery
-pub mod Marks
 pub mod Rows
 pub mod Runs

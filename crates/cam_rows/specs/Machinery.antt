@@ -7,6 +7,5 @@ pub mod Linear
 pub mod Narrowing
 pub mod Quarters
 pub mod Slopes
-pub mod Spreading
 pub mod Ties
 pub mod Ways

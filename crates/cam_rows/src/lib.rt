@@ -29,12 +29,10 @@
 //! - [`ring_of`], [`outer_runs`], [`beyond_runs`]: an arc in such rows.
 //! - [`RunShape`]: all of these shapes alike; [`Hole`] stands for a hole, [`Outer`], [`Hollow`] and [`Beyond`] for the
 //!   parts of an arc.
-//! - [`mark_end`], [`mark_ends`], [`mark_runs`], [`spread_marks`]: marks in rows of tiles side by side, of which each turns
-//!   over all columns left of it, and the columns that all of them together turn over.
 //! - [`or_rows`], [`clear_rows`], [`xor_rows`]: the 64 rows of a tile; [`pbm_bytes`]: a row in a file.
 //!
 //! What a row is stands in `specs/Rows.antt`, what a run is in `specs/Runs.antt`, the runs of an arc in
-//! `specs/ArcRuns.antt`, rows joined lane by lane in `specs/Lanes.antt`, what a mark turns over in `specs/Marks.antt`.
+//! `specs/ArcRuns.antt`, rows joined lane by lane in `specs/Lanes.antt`.
 #![tactic(auto)]
 
 mod arc;
@@ -53,7 +51,6 @@ mod hole;
 mod lanes;
 mod laws;
 mod linear;
-mod marks;
 mod obround;
 mod offsets;
 mod rect;
@@ -77,7 +74,6 @@ pub use edge::edge_row;
 pub use hole::{Hole, hole_row};
 pub use lanes::{clear_rows, or_rows, pbm_bytes, xor_rows};
 pub use laws::arc_is_its_runs;
-pub use marks::{mark_end, mark_ends, mark_runs, spread_marks};
 pub use obround::obround_row;
 pub use rect::rect_row;
 pub use ring::{Ring, ring_of};

@@ -1,4 +1,4 @@
--- Boxes that differ in the numbers of what is known of them alone.
+-- Boxes that differ in the numbers of their contours alone.
 use Rattle.std.proofs.Common.{◌≡◌, ℕ, ◌≤◌, List, [], ◌∷◌, ◌++◌, length, get_or, map, reverse, refl, sym, ap, subst, ◌∙◌, inl, inr, arith}
 use Rattle.std.specs.List.{All}
 use Rattle.std.proofs.Math.ListN.{get_or-map}
@@ -20,7 +20,7 @@ module _ (xs ys : List Boxed) (alike : map bare xs ≡ map bare ys) where
   bare_at k d =
       sym (get_or-map bare ys k d) ∙ ap (λ (those : List Boxed). get_or those k (bare d)) (sym alike) ∙ get_or-map bare xs k d
 
-  -- what is so of a box is so of it without that number, and the other way round
+  -- what is so of a box is so of it without its contour, and the other way round
   kept_all : (P : Boxed → Type 0) → ((b : Boxed) → P b → P (bare b)) → ((b : Boxed) → P (bare b) → P b) → All P ys → All P xs
   kept_all P to from all k d within =
       from (get_or xs k d) (subst P (bare_at k d) (to (get_or ys k d) (all k d (omega (arith, within, same_length)))))

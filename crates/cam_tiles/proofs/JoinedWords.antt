@@ -4,7 +4,7 @@ use Rattle.std.proofs.Common.{get_or-set_other, get_or-set_same, inl, inr, arith
 use Rattle.std.specs.Int.{IsBitSet}
 use Rattle.std.proofs.lemmas.Bool.{cases_eq, cases_lt, eq-eqb, eqb-true}
 use Rattle.std.proofs.lemmas.List.{get_or_past}
-use Rattle.cam_rows.specs.Marks.{is_marked, is_set}
+use Rattle.cam_tiles.specs.Machinery.Marks.{is_marked, is_set}
 use Rattle.cam_rows.specs.Runs.{IsInRun}
 use Rattle.cam_rows.proofs.SetBits.{none_set, set_is_one}
 use Rattle.cam_apertures.proofs.Painting.{round, through}

@@ -19,6 +19,8 @@ pub mod LastFound
 pub mod Lattices
 pub mod LevelRows
 pub mod MarkedBoxes
+pub mod MarkedColumns
+pub mod MarkedRows
 pub mod MaskWords
 pub mod MergedRows
 pub mod OpenedWords

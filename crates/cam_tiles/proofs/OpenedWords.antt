@@ -7,7 +7,7 @@ use Rattle.std.proofs.Math.ListN.{length-set}
 use Rattle.std.specs.Int.{IsBitSet}
 use Rattle.std.proofs.lemmas.Bool.{cases_eq, cases_lt, le-ltb, lt-ltb}
 use Rattle.std.proofs.lemmas.List.{get_or-replicate, get_or_past, length-replicate}
-use Rattle.cam_rows.specs.Marks.{is_marked, is_set}
+use Rattle.cam_tiles.specs.Machinery.Marks.{is_marked, is_set}
 use Rattle.cam_rows.specs.Runs.{IsInRun}
 use Rattle.cam_tiles.specs.Machinery.Inks.{AreOpen, Inked, is_open}
 use Rattle.cam_tiles.specs.Tables.{Tile}

@@ -6,7 +6,7 @@ use Rattle.std.specs.Int.{IsBitSet}
 use Rattle.std.specs.Option.{option_or}
 use Rattle.std.proofs.lemmas.Bool.{and_from, and_parts, cases_Bool, cases_eq, cases_lt, eq-eqb, eqb-true, false≢true, le-leb, leb-true, lt-ltb, ltb-true}
 use Rattle.cam_objects.proofs.LastInks.{or_decided, or_none}
-use Rattle.cam_rows.specs.Marks.{is_set}
+use Rattle.cam_tiles.specs.Machinery.Marks.{is_set}
 use Rattle.cam_rows.specs.Runs.{IsInRun}
 use Rattle.cam_tiles.specs.declared.masks.figure_runs.FigureRuns.{FigureRuns}
 use Rattle.cam_tiles.specs.declared.masks.runs.Runs.{Runs}
@@ -301,54 +301,77 @@ body_above_told s end row column = let law = body_told s row column in (
   (λ h. and_from _ _ (lt-ltb _ _ h.0) (law.1 h.1)),
 )
 
--- those above one, and the four runs of this
-pub next_body : (s : FigureRuns) (k : ℕ) (a b c d : Span)
-    → ((column : ℕ) → ((IsInRun a.first a.end column ⊎ IsInRun b.first b.end column)
-    ⊎ (IsInRun c.first c.end column ⊎ IsInRun d.first d.end column)) ↔ HasBody s k column)
-    → (row column : ℕ) → IsTrue (in_body_above s (k + 1) row column)
-    ↔ (IsTrue (((in_body_above s k row column || in_row k a.first a.end row column)
-    || in_row k b.first b.end row column) || in_row k c.first c.end row column)
-    ⊎ IsTrue (in_row k d.first d.end row column))
-next_body s k a b c d told row column =
-    let all = body_above_told s (k + 1) row column in
-    let before = body_above_told s k row column in
-    let in_a = row_told k a.first a.end row column in
-    let in_b = row_told k b.first b.end row column in
-    let in_c = row_told k c.first c.end row column in
-    let in_d = row_told k d.first d.end row column in
-    let one = or_told (in_body_above s k row column) (in_row k a.first a.end row column) in
-    let two = or_told (in_body_above s k row column || in_row k a.first a.end row column)
-    (in_row k b.first b.end row column) in
-    let three = or_told ((in_body_above s k row column || in_row k a.first a.end row column)
-    || in_row k b.first b.end row column) (in_row k c.first c.end row column) in
-    let own : row ≡ k → HasBody s k column → IsTrue (in_body_above s (k + 1) row column) = λ e has.
-    all.1 (omega (arith, e), subst (λ r. HasBody s r column) (sym e) has) in (
-      (λ on.
-          let h = all.0 on in
-          elim (cases_eq row k) [
-            | inl e ↦ elim ((told column).1 (subst (λ r. HasBody s r column) e h.1)) [
-              | inl front ↦ elim front [
-                | inl x ↦ inl (three.1 (inl (two.1 (inl (one.1 (inr (in_a.1 (e, x))))))))
-                | inr x ↦ inl (three.1 (inl (two.1 (inr (in_b.1 (e, x))))))
-              ]
-              | inr back ↦ elim back [
-                | inl x ↦ inl (three.1 (inr (in_c.1 (e, x))))
-                | inr x ↦ inr (in_d.1 (e, x))
-              ]
-            ]
-            | inr apart ↦ inl (three.1 (inl (two.1 (inl (one.1 (inl (before.1 (omega (arith, h.0, apart), h.1))))))))
-          ]),
-      (λ either. elim either [
-        | inl abc ↦ elim (three.0 abc) [
-          | inl ab ↦ elim (two.0 ab) [
-            | inl pa ↦ elim (one.0 pa) [
-              | inl p ↦ let h = before.0 p in all.1 (omega (arith, h.0), h.1)
-              | inr x ↦ let h = in_a.0 x in own h.0 ((told column).0 (inl (inl h.1)))
-            ]
-            | inr x ↦ let h = in_b.0 x in own h.0 ((told column).0 (inl (inr h.1)))
-          ]
-          | inr x ↦ let h = in_c.0 x in own h.0 ((told column).0 (inr (inl h.1)))
-        ]
-        | inr x ↦ let h = in_d.0 x in own h.0 ((told column).0 (inr (inr h.1)))
-      ]),
-    )
+module _ (ink : Bool) (n : ℕ) where
+  -- all of them, once those above the end of its band are taken
+  pub takes_body : (s : FigureRuns) (k : ℕ) (old new : Inked) → Takes 0 n (in_body_above s k) ink old new → s.body.band.end ≤ k
+      → Takes 0 n (in_body s) ink old new
+  takes_body s k old new takes late =
+      takes_same ink n (in_body_above s k) (in_body s) old new takes (λ row column low within.
+      let above = body_above_told s k row column in
+      let all = body_told s row column in (
+        (λ on. all.1 (above.0 on).1),
+        (λ on. let h = all.0 on in above.1 (omega (arith, h.0.1, late), h)),
+      ))
+
+-- In one row what is not decided takes a polarity where columns are of a kind.
+pub record TakesRow (ink : Bool) (n of : ℕ) (IsHeld : ℕ → Type 0) (old new : Inked) : Type 0 where
+  pub holds : ℕ → ℕ → Bool
+  pub takes : Takes 0 n holds ink old new
+  pub told : (row column : ℕ) → IsTrue (holds row column) ↔ ((row ≡ of) × IsHeld column)
+
+either_like : (T P Q E A B : Type 0) → T ↔ (P ⊎ Q) → P ↔ (E × A) → Q ↔ (E × B) → T ↔ (E × (A ⊎ B))
+either_like T P Q E A B whole first second = grind arith
+
+module _ (ink : Bool) (n of : ℕ) where
+  -- of one kind, and then of another
+  pub takes_joined : (A B : ℕ → Type 0) (old now new : Inked) → TakesRow ink n of A old now → TakesRow ink n of B now new
+      → TakesRow ink n of (λ column. A column ⊎ B column) old new
+  takes_joined A B old now new first next =
+      let P : ℕ → ℕ → Bool = first.holds in
+      let Q : ℕ → ℕ → Bool = next.holds in
+      record {
+        holds = λ row column. P row column || Q row column;
+        takes = takes_either ink n P Q old now new first.takes next.takes;
+        told = λ row column.
+            either_like _ _ _ _ _ _ (or_told (P row column) (Q row column)) (first.told row column) (next.told row column);
+      }
+
+  takes_run : (a : Span) (old new : Inked) → Takes 0 n (in_row of a.first a.end) ink old new
+      → TakesRow ink n of (IsInRun a.first a.end) old new
+  takes_run a old new takes = record {
+    holds = in_row of a.first a.end;
+    takes = takes;
+    told = row_told of a.first a.end;
+  }
+
+  -- in two runs
+  pub takes_two : (a b : Span) (old now new : Inked) → Takes 0 n (in_row of a.first a.end) ink old now
+      → Takes 0 n (in_row of b.first b.end) ink now new
+      → TakesRow ink n of (λ column. IsInRun a.first a.end column ⊎ IsInRun b.first b.end column) old new
+  takes_two a b old now new first next =
+      takes_joined (IsInRun a.first a.end) (IsInRun b.first b.end) old now new (takes_run a old now first)
+      (takes_run b now new next)
+
+  -- those above it, and then its own
+  pub takes_next : (s : FigureRuns) (A : ℕ → Type 0) (old now new : Inked) → Takes 0 n (in_body_above s of) ink old now
+      → TakesRow ink n of A now new → ((column : ℕ) → A column ↔ HasBody s of column)
+      → Takes 0 n (in_body_above s (of + 1)) ink old new
+  takes_next s A old now new before here same =
+      takes_both ink n (in_body_above s of) here.holds (in_body_above s (of + 1)) old now new before here.takes
+      (λ row column low within.
+      let all = body_above_told s (of + 1) row column in
+      let above = body_above_told s of row column in
+      let own = here.told row column in (
+        (λ on.
+            let h = all.0 on in
+            elim (cases_eq row of) [
+              | inl e ↦ inr (own.1 (e, (same column).1 (subst (λ r. HasBody s r column) e h.1)))
+              | inr apart ↦ inl (above.1 (omega (arith, h.0, apart), h.1))
+            ]),
+        (λ either. elim either [
+          | inl on ↦ let h = above.0 on in all.1 (omega (arith, h.0), h.1)
+          | inr on ↦
+              let h = own.0 on in
+              all.1 (omega (arith, h.0), subst (λ r. HasBody s r column) (sym h.0) ((same column).0 h.1))
+        ]),
+      ))

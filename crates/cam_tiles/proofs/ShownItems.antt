@@ -23,7 +23,7 @@ at_place f (x ∷ xs) (suc k) P within holds = at_place f xs k P (omega arith) h
 
 -- all leaves are those of the items, one after another
 pub leaves_are : (shown : Shown) → flat_map (λ leaves. leaves) (leaves_by_item shown) ≡ leaves_of shown
-leaves_are (Gerber layer cells) =
+leaves_are (Gerber layer cells copies) =
     flat_map-map (λ leaves. leaves) (item_leaves (meaning_in layer.now.apertures)) layer.now.items.items
 leaves_are (Drill layer cells) =
     flat_map-map (λ leaves. leaves) (drill_item_leaves layer.now.tools) layer.now.items.items

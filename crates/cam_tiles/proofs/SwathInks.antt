@@ -9,7 +9,7 @@ use Rattle.cam_objects.specs.Leaves.{Shape, leaf}
 use Rattle.cam_objects.specs.Tests.{covers}
 use Rattle.cam_objects.proofs.Covering.{cover_law}
 use Rattle.cam_objects.proofs.LastInks.{or_decided, or_none}
-use Rattle.cam_rows.specs.Marks.{is_marked}
+use Rattle.cam_tiles.specs.Machinery.Marks.{is_marked}
 use Rattle.cam_tiles.specs.declared.grid.Grid.{Grid}
 use Rattle.cam_tiles.specs.declared.masks.figure_runs.FigureRuns.{FigureRuns}
 use Rattle.cam_tiles.specs.Machinery.Figures.{HasPart}

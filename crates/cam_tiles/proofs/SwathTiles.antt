@@ -10,7 +10,7 @@ use Rattle.std.proofs.lemmas.List.{get_or_default}
 use Rattle.std.proofs.lemmas.Nat.Bits.{bit_at-lt, same_from_bits_below}
 use Rattle.cam_units.specs.Board.{IsPlace}
 use Rattle.cam_units.specs.declared.point.Spot.{Spot}
-use Rattle.cam_rows.specs.Marks.{is_marked, is_set}
+use Rattle.cam_tiles.specs.Machinery.Marks.{is_marked, is_set}
 use Rattle.cam_tiles.specs.declared.grid.Grid.{Grid}
 use Rattle.cam_tiles.specs.declared.window.Window.{Window}
 use Rattle.cam_tiles.specs.Machinery.Inks.{AreOpen, Inked, ink_at, is_open}

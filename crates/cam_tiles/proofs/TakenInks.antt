@@ -5,7 +5,7 @@ use Rattle.std.specs.Option.{option_or}
 use Rattle.std.proofs.lemmas.List.{get_or-take, places, with_items_is}
 use Rattle.std.specs.Vec.{with_items}
 use borrow.Rule.Slice.PartMut.{mid_of, put_mid}
-use Rattle.cam_rows.specs.Marks.{is_marked, is_set}
+use Rattle.cam_tiles.specs.Machinery.Marks.{is_marked, is_set}
 use Rattle.cam_tiles.specs.declared.masks.inks.Inks.TheInside.{Inside}
 use Rattle.cam_tiles.specs.Machinery.Inks.{AreKnown, Inked, IsInked, Takes, given, ink_of, inked_of}
 use Rattle.cam_tiles.proofs.JoinedCentres.{before_part, behind_part, in_part, of_part}

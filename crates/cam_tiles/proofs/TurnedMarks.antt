@@ -14,11 +14,11 @@ use Rattle.cam_shapes.specs.Cap.{is_in_cap}
 use Rattle.cam_shapes.specs.Contour.{IsInContour}
 use Rattle.cam_shapes.specs.Edge.{crosses_ray, edge, is_above}
 use Rattle.cam_shapes.specs.Sides.{changes_side, differ}
-use Rattle.cam_rows.specs.Marks.{AreSpread, TurnsRows, is_set, is_turned, turns_past}
+use Rattle.cam_tiles.specs.Machinery.Marks.{AreSpread, TurnsRows, is_set, is_turned, turns_past}
 use Rattle.cam_rows.specs.declared.centres.Centres.{Centres}
 use Rattle.cam_rows.specs.Rows.{first_of, row_below}
 use Rattle.cam_rows.specs.Runs.{AreEnds, AreRuns, IsInRun}
-use Rattle.cam_rows.proofs.MarkedColumns.{none_odd}
+use Rattle.cam_tiles.proofs.MarkedColumns.{none_odd}
 use Rattle.cam_tiles.specs.declared.grid.Grid.{Grid}
 use Rattle.cam_tiles.specs.declared.masks.heights.Heights.{Heights}
 use Rattle.cam_tiles.specs.Machinery.Levels.{IsOnRow, height, levels_of}

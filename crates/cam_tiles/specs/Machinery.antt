@@ -5,9 +5,9 @@ pub mod Figures
 pub mod Indexes
 pub mod Inks
 pub mod Kept
-pub mod Known
 pub mod Lattices
 pub mod Levels
+pub mod Marks
 pub mod Masks
 pub mod Parts
 pub mod Plain
@@ -15,6 +15,7 @@ pub mod RowLists
 pub mod Runs
 pub mod Shown
 pub mod Spans
+pub mod Spreading
 pub mod Swaths
 pub mod Turning
 pub mod Words

@@ -120,7 +120,7 @@ fn draw_rows(
     tiles: &mut [Tile],
 ) -> Result<(), AllocError>
     requires ready { IsReady shown.now }
-    requires items { AreItemsOf shown.now window.now items.old }
+    requires items { AreItemsOf (leaves_by_item shown.now) window.now items.old }
     requires accepted { accepts window.now ≡ true }
     requires left { first % across window.now ≡ 0 }
     requires within { first + length tiles.old ≤ tiles_of window.now }
@@ -148,10 +148,10 @@ fn draw_row(
     tiles: &mut [Tile],
 ) -> Result<(), AllocError>
     requires ready { IsReady shown.now }
-    requires items { AreItemsOf shown.now window.now items.old }
+    requires items { AreItemsOf (leaves_by_item shown.now) window.now items.old }
     requires accepted { accepts window.now ≡ true }
     requires row { IsRowOfTiles window.now first tiles.old }
-    ensures items { OnOk result (AreItemsOf shown.now window.now items.new) }
+    ensures items { OnOk result (AreItemsOf (leaves_by_item shown.now) window.now items.new) }
     ensures tiles { IsPartlyDrawn (λ k. tile_rows (is_black (leaves_of shown.now)) (grid_of window.now k)) first
         tiles.old tiles.new }
 {
@@ -196,10 +196,10 @@ fn draw_swath(
     tiles: &mut [Tile],
 ) -> Result<(), AllocError>
     requires ready { IsReady shown.now }
-    requires items { AreItemsOf shown.now window.now items.old }
+    requires items { AreItemsOf (leaves_by_item shown.now) window.now items.old }
     requires accepted { accepts window.now ≡ true }
     requires row { IsRowOfTiles window.now first tiles.old }
-    ensures items { OnOk result (AreItemsOf shown.now window.now items.new) }
+    ensures items { OnOk result (AreItemsOf (leaves_by_item shown.now) window.now items.new) }
     ensures tiles { IsPartlyDrawn (λ k. tile_rows (is_black (leaves_of shown.now)) (grid_of window.now k)) first
         tiles.old tiles.new }
 {

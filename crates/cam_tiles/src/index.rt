@@ -2,7 +2,6 @@
 
 pub(crate) mod contour_parts;
 pub(crate) mod items;
-pub(crate) mod known;
 mod row_lists;
 pub(crate) mod seen;
 
@@ -11,7 +10,6 @@ ghost use Rattle.cam_units.specs.Boxes.{Holds};
 ghost use Rattle.cam_units.specs.declared.point.Spot.{Spot};
 ghost use Rattle.cam_objects.specs.Leaves.{Filled, leaf};
 ghost use Rattle.cam_tiles.specs.Machinery.Indexes.{AreSeenBy, IsBoxed, IsBoxOf, IsIndexOf, IsSeen, numbered_leaves};
-ghost use Rattle.cam_tiles.specs.Machinery.Known.{IsKnownIn};
 ghost use Rattle.cam_tiles.specs.Machinery.Parts.{IsParted, IsPartsOf};
 ghost use Rattle.cam_tiles.specs.Machinery.RowLists.{reaches};
 ghost use Rattle.cam_tiles.specs.Machinery.Shown.{IsReady, leaves_by_item, leaves_of};
@@ -19,8 +17,7 @@ ghost use Rattle.cam_tiles.specs.Machinery.Swaths.{HasRowOf, IsInSwath, PaintsSw
 ghost use Rattle.cam_tiles.specs.Picture.{accepts};
 ghost use Rattle.cam_tiles.specs.Tiles.{tiles_of};
 
-use crate::index::contour_parts::ContourParts;
-use crate::index::known::{Known, known_among};
+use crate::index::contour_parts::{ContourParts, contours_of};
 use crate::index::row_lists::RowLists;
 use crate::index::seen::Seen;
 use crate::masks::parts::PartedContour;
@@ -34,22 +31,22 @@ use cam_units::Bounds;
 use std::alloc::{AllocError, Global};
 use std::mem::size_of;
 
-/// An item that may be seen: its place in the list, the rows of tiles that its box reaches, the number of what is known of
-/// it, and the sides of the box, in half nm.
+/// An item that may be seen: its place in the list, the rows of tiles that its box reaches, the number of its contour among
+/// those whose parts are known, and the sides of the box, in half nm.
 // In this order of the fields it has 32 bytes: those of a row of tiles are gone through each time that it is painted.
 #[derive(Clone, Copy)]
 pub(crate) struct Boxed {
     place: u32,
     rows: Span,
-    known: u32,
+    contour: u32,
     left: i64,
     right: i64,
 }
 
 const _: () = prove!(size_of::<Boxed>() == 32);
 
-/// The number of what is known of an item of which nothing is.
-const NOTHING_KNOWN: u32 = u32::MAX;
+/// Where an item has no contour whose parts are known.
+const NO_CONTOUR: u32 = u32::MAX;
 
 /// The items that may be seen in a box, in their order, and row of tiles by row of tiles of a window those that reach it.
 #[derive(Drop)]
@@ -57,7 +54,7 @@ pub(crate) struct Index {
     within: Bounds,
     boxed: Vec<Boxed>,
     rows: RowLists,
-    known: Vec<Known>,
+    contours: Vec<ContourParts>,
 }
 
 impl Boxed {
@@ -87,7 +84,7 @@ impl Boxed {
         Some(Boxed {
             place,
             rows,
-            known: NOTHING_KNOWN,
+            contour: NO_CONTOUR,
             left: low.x,
             right: high.x,
         })
@@ -122,7 +119,7 @@ impl Index {
         requires accepted { accepts window.now ≡ true }
         requires seen { AreSeenBy (leaves_by_item shown.now) window.now seen }
         requires all { seen.left ≡ 0 }
-        ensures { IfOk result (λ index. IsIndexOf shown.now window.now index) }
+        ensures { IfOk result (λ index. IsIndexOf (leaves_by_item shown.now) window.now index) }
     {
         let Seen {
             within,
@@ -130,13 +127,13 @@ impl Index {
             ..
         } = seen;
         boxed.reverse();
-        let known = known_among(alloc, shown, &mut boxed)?;
+        let contours = contours_of(alloc, shown, &mut boxed)?;
         let rows = RowLists::new(alloc, &boxed, window.height.div_ceil(64))?;
         Ok(Index {
             within,
             boxed,
             rows,
-            known,
+            contours,
         })
     }
 
@@ -151,10 +148,10 @@ impl Index {
     ) -> Result<(), AllocError>
         requires ready { IsReady shown.now }
         requires accepted { accepts window.now ≡ true }
-        requires index { IsIndexOf shown.now window.now self.old }
+        requires index { IsIndexOf (leaves_by_item shown.now) window.now self.old }
         requires tile { tile < tiles_of window.now }
         requires rows { HasRowOf window.now tile swath.old }
-        ensures index { OnOk result (IsIndexOf shown.now window.now self.new) }
+        ensures index { OnOk result (IsIndexOf (leaves_by_item shown.now) window.now self.new) }
         ensures painted { OnOk result (PaintsSwath swath.old (leaves_of shown.now) swath.new) }
     {
         let Bounds::Closed { low, high } = swath.bounds() else {
@@ -167,7 +164,15 @@ impl Index {
         self.rows.go_to(&self.boxed, tile / window.across())?;
         let numbers = self.rows.list();
         let (left, right) = (low.x, high.x);
-        paint_all(numbers, &self.boxed, &self.known, shown, left, right, swath);
+        paint_all(
+            numbers,
+            &self.boxed,
+            &self.contours,
+            shown,
+            left,
+            right,
+            swath,
+        );
         Ok(())
     }
 }
@@ -177,7 +182,7 @@ impl Index {
 fn paint_all(
     numbers: &[u32],
     boxed: &[Boxed],
-    known: &[Known],
+    contours: &[ContourParts],
     shown: &Shown<'_>,
     left: i64,
     right: i64,
@@ -185,7 +190,7 @@ fn paint_all(
 )
     requires numbers { All (λ k. k < length boxed.now) numbers.now }
     requires boxed { All (IsBoxed (leaves_by_item shown.now)) boxed.now }
-    requires known { All (IsKnownIn shown.now) known.now }
+    requires contours { All (IsPartsOf (leaves_by_item shown.now)) contours.now }
     requires ready { IsReady shown.now }
     requires sides { (column row : ℕ) → IsInSwath swath.old column row
         → (left ≤ℤ (place_in swath.old column row).x) × ((place_in swath.old column row).x ≤ℤ right) }
@@ -197,24 +202,26 @@ fn paint_all(
         }
         let item = &boxed[numbers[k] as usize];
         if item.reaches(left, right) {
-            paint_item(item, known, shown, swath);
+            paint_item(item, contours, shown, swath);
         }
     }
 }
 
 /// The contour of an item that is a region of which the parts are known, and its polarity.
+#[inline]
 fn parted<'a>(
     item: &Boxed,
-    parts: &'a ContourParts,
+    contours: &'a [ContourParts],
     shown: &'a Shown<'_>,
 ) -> Option<(PartedContour<'a>, bool)>
     requires item { IsBoxed (leaves_by_item shown.now) item.now }
-    requires parts { IsPartsOf (leaves_by_item shown.now) parts.now }
+    requires contours { All (IsPartsOf (leaves_by_item shown.now)) contours.now }
     requires ready { IsReady shown.now }
     ensures parted { IfSome result (λ region. IsParted region.0.contour.now region.0.heights.now) }
     ensures leaves { IfSome result (λ region. slice_index_or (leaves_by_item shown.now) item.now.place []
         ≡ leaf (Filled region.0.contour.now) region.1 ∷ []) }
 {
+    let parts = contours.get(item.contour as usize)?;
     // By the place the parts are known to be the item's, whatever its number is.
     if parts.place != item.place {
         return None;
@@ -224,41 +231,16 @@ fn parted<'a>(
     Some((PartedContour { contour, heights }, dark))
 }
 
-/// Paints an item of which something is known, from its last leaf on.
-#[inline(never)]
-fn paint_known<'a>(item: &Boxed, known: &'a Known, shown: &'a Shown<'_>, swath: &mut Swath)
-    requires item { IsBoxed (leaves_by_item shown.now) item.now }
-    requires known { IsKnownIn shown.now known.now }
-    requires ready { IsReady shown.now }
-    ensures { PaintsSwath swath.old (slice_index_or (leaves_by_item shown.now) item.now.place []) swath.new }
-{
-    match known {
-        Known::Contour(parts) => {
-            if let Some((contour, dark)) = parted(item, parts, shown) {
-                swath.paint_contour(&contour, item.left, item.right, dark);
-                return;
-            }
-        }
-        Known::Repeat { place, first } => {
-            if *place == item.place {
-                shown.paint_repeat(*place as usize, first, swath);
-                return;
-            }
-        }
-    }
-    shown.paint_item(item.place as usize, swath);
-}
-
-/// Paints an item, from its last leaf on: by what is known of it, if something is.
+/// Paints an item, from its last leaf on: a region by the parts of its contour, where they are known.
 #[inline]
-fn paint_item(item: &Boxed, known: &[Known], shown: &Shown<'_>, swath: &mut Swath)
+fn paint_item(item: &Boxed, contours: &[ContourParts], shown: &Shown<'_>, swath: &mut Swath)
     requires item { IsBoxed (leaves_by_item shown.now) item.now }
-    requires known { All (IsKnownIn shown.now) known.now }
+    requires contours { All (IsPartsOf (leaves_by_item shown.now)) contours.now }
     requires ready { IsReady shown.now }
     ensures { PaintsSwath swath.old (slice_index_or (leaves_by_item shown.now) item.now.place []) swath.new }
 {
-    match known.get(item.known as usize) {
-        Some(known) => paint_known(item, known, shown, swath),
+    match parted(item, contours, shown) {
+        Some((contour, dark)) => swath.paint_contour(&contour, item.left, item.right, dark),
         None => shown.paint_item(item.place as usize, swath),
     }
 }

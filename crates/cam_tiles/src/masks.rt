@@ -7,6 +7,7 @@ pub(crate) mod inks;
 pub(crate) mod join;
 pub(crate) mod macros;
 pub(crate) mod marked;
+pub(crate) mod marks;
 pub(crate) mod mask;
 pub(crate) mod parts;
 pub(crate) mod placed;

@@ -1,33 +1,35 @@
 //! Layers of either kind, and how they are painted, item by item.
 
-ghost use Rattle.std.specs.Prelude.{◌≡◌, ◌<◌, ◌≤◌, ◌∷◌, ℕ, [], IfSome, IsTrue, List, length, slice_index_or};
+ghost use Rattle.std.specs.Prelude.{◌≡◌, ◌<◌, ◌≤◌, ◌∷◌, ℕ, [], IfSome, IsTrue, List, Some, length, slice_get, slice_index_or};
 ghost use Rattle.cam_units.specs.Boxes.{HaveCommonPlace, Holds};
 ghost use Rattle.cam_units.specs.declared.bounds.Bounds.{Bounds};
 ghost use Rattle.cam_units.specs.declared.point.Spot.{Spot};
 ghost use Rattle.cam_objects.specs.Bounds.{bounds_of};
 ghost use Rattle.cam_objects.specs.Canvases.{Paints};
-ghost use Rattle.cam_objects.specs.Cells.{AreCellsOf, box_at};
+ghost use Rattle.cam_objects.specs.Cells.{AreCellsOf, AreFirstCopiesOf, box_at};
 ghost use Rattle.cam_objects.specs.Image.{IsUncovered};
-ghost use Rattle.cam_objects.specs.Leaves.{Filled, leaf};
+ghost use Rattle.cam_objects.specs.Leaves.{Filled, item_leaves, leaf, meaning_in};
+ghost use Rattle.cam_objects.specs.Soundness.{HasSoundItems};
+ghost use Rattle.cam_objects.specs.declared.item.Item.{Item};
 ghost use Rattle.cam_objects.specs.declared.item.Item.TheVariants.{One};
 ghost use Rattle.cam_objects.specs.declared.object.Object.TheVariants.{Region};
 ghost use Rattle.cam_tiles.specs.Machinery.Parts.{IsSoundContour};
-ghost use Rattle.cam_tiles.specs.Machinery.Shown.{IsCopyIn, IsReady, leaves_by_item, leaves_of, lists_of};
+ghost use Rattle.cam_tiles.specs.Machinery.Shown.{IsReady, leaves_by_item, leaves_of, lists_of};
 
 use cam_objects::{
-    Canvas, DrillItemBoxes, DrillLayer, FirstCopy, Item, ItemBoxes, ItemCells, Layer, Object,
+    Canvas, DrillItemBoxes, DrillLayer, FirstCopies, Item, ItemBoxes, ItemCells, Layer, Object,
     near_end,
 };
 use cam_shapes::Contour;
 use cam_units::Bounds;
-use std::alloc::Global;
 
-/// A layer of either kind, and perhaps the cells of its items.
+/// A layer of either kind, and perhaps the cells of its items and the first copies of its repeats.
 #[derive(Clone, Copy)]
 pub(crate) enum Shown<'a> {
     Gerber {
         layer: &'a Layer,
         cells: Option<&'a ItemCells>,
+        copies: Option<&'a FirstCopies>,
     },
     Drill {
         layer: &'a DrillLayer,
@@ -90,6 +92,25 @@ fn region_of(item: &Item) -> Option<(&Contour, bool)>
     }
 }
 
+/// Paints the item at a place of the list of a layer, from its last leaf on: a repeat by its first copy, where that is
+/// known.
+fn paint_item<C: Canvas>(layer: &Layer, copies: Option<&FirstCopies>, place: usize, canvas: &mut C)
+    requires sound { HasSoundItems layer.now }
+    requires within { place < length layer.now.items.items }
+    requires copies { IfSome copies
+        (λ known. AreFirstCopiesOf layer.now.apertures layer.now.items.items known.now) }
+    ensures { (item : Item) → slice_get layer.now.items.items place ≡ Some item
+        → Paints C.has C.place C.ink canvas.old (item_leaves (meaning_in layer.now.apertures) item) canvas.new }
+{
+    if let Some(copies) = copies {
+        if let Some(first) = copies.at(place) {
+            layer.paint_repeat(place, first, canvas);
+            return;
+        }
+    }
+    layer.paint_item(place, canvas);
+}
+
 impl<'a> Shown<'a> {
     /// How many items it has.
     pub(crate) fn len(&self) -> usize
@@ -121,7 +142,7 @@ impl<'a> Shown<'a> {
         ensures { result ≤ length (leaves_by_item self.now) }
     {
         match self {
-            Shown::Gerber { layer, cells } => near_count(*cells, layer.items.len(), near),
+            Shown::Gerber { layer, cells, .. } => near_count(*cells, layer.items.len(), near),
             Shown::Drill { layer, cells } => near_count(*cells, layer.items.len(), near),
         }
     }
@@ -132,7 +153,7 @@ impl<'a> Shown<'a> {
         ensures { lists_of result ≡ leaves_by_item self.now }
     {
         match self {
-            Shown::Gerber { layer, .. } => Boxes::Gerber(layer.boxes()),
+            Shown::Gerber { layer, copies, .. } => Boxes::Gerber(layer.boxes_by(*copies)),
             Shown::Drill { layer, .. } => Boxes::Drill(layer.boxes()),
         }
     }
@@ -148,39 +169,15 @@ impl<'a> Shown<'a> {
         }
     }
 
-    /// Paints the item at a place of the list, counted from 0, from its last leaf on.
+    /// Paints the item at a place of the list, counted from 0, from its last leaf on: a repeat by its first copy, where
+    /// that is known.
     pub(crate) fn paint_item<C: Canvas>(&self, place: usize, canvas: &mut C)
         requires ready { IsReady self.now }
         requires within { place < length (leaves_by_item self.now) }
         ensures { Paints C.has C.place C.ink canvas.old (slice_index_or (leaves_by_item self.now) place []) canvas.new }
     {
         match self {
-            Shown::Gerber { layer, .. } => layer.paint_item(place, canvas),
-            Shown::Drill { layer, .. } => layer.paint_item(place, canvas),
-        }
-    }
-
-    /// The first copy of the item at a place of the list, counted from 0, if it is a repeat of many objects.
-    pub(crate) fn first_copy(&self, alloc: Global, place: usize) -> Option<FirstCopy>
-        requires ready { IsReady self.now }
-        requires within { place < length (leaves_by_item self.now) }
-        ensures { IfSome result (IsCopyIn self.now place) }
-    {
-        match self {
-            Shown::Gerber { layer, .. } => layer.first_copy(alloc, place),
-            Shown::Drill { .. } => None,
-        }
-    }
-
-    /// Paints the item at a place of the list, counted from 0, from its last leaf on: a repeat by its first copy.
-    pub(crate) fn paint_repeat<C: Canvas>(&self, place: usize, first: &FirstCopy, canvas: &mut C)
-        requires ready { IsReady self.now }
-        requires within { place < length (leaves_by_item self.now) }
-        requires first { IsCopyIn self.now place first.now }
-        ensures { Paints C.has C.place C.ink canvas.old (slice_index_or (leaves_by_item self.now) place []) canvas.new }
-    {
-        match self {
-            Shown::Gerber { layer, .. } => layer.paint_repeat(place, first, canvas),
+            Shown::Gerber { layer, copies, .. } => paint_item(layer, *copies, place, canvas),
             Shown::Drill { layer, .. } => layer.paint_item(place, canvas),
         }
     }

@@ -1,7 +1,7 @@
 //! Layers as painters.
 
 ghost use Rattle.std.specs.Prelude.{◌≡◌, ◌+◌, count_by, is_none};
-ghost use Rattle.cam_objects.specs.Cells.{AreCellsOf, drill_item_boxes, item_boxes};
+ghost use Rattle.cam_objects.specs.Cells.{AreCellsOf, AreFirstCopiesOf, drill_item_boxes, item_boxes};
 ghost use Rattle.cam_objects.specs.Contents.{content_leaves, content_of, drill_content_leaves, drill_content_of};
 ghost use Rattle.cam_objects.specs.DrillSoundness.{IsSoundDrillLayer};
 ghost use Rattle.cam_objects.specs.Soundness.{HasSoundItems};
@@ -14,7 +14,7 @@ use crate::painter::{Painter, Tile};
 use crate::plain::tile_of;
 use crate::shown::Shown;
 use crate::window::Window;
-use cam_objects::{DrillLayer, ItemCells, Layer};
+use cam_objects::{DrillLayer, FirstCopies, ItemCells, Layer};
 use std::alloc::Global;
 use std::marker::Model;
 
@@ -49,18 +49,33 @@ impl<'a> Source<'a> {
         requires { HasSoundItems layer.now }
         ensures { result ≡ unasked (content_leaves (content_of layer.now)) }
     {
-        Source::of(Shown::Gerber { layer, cells: None }, None)
+        let shown = Shown::Gerber {
+            layer,
+            cells: None,
+            copies: None,
+        };
+        Source::of(shown, None)
     }
 
-    /// Paints a sound layer of whose items the cells are known: those whose boxes the tiles do not meet are passed over.
-    /// No tile was asked for.
-    pub fn gerber_by_cells(alloc: Global, layer: &'a Layer, cells: &'a ItemCells) -> Source<'a>
+    /// Paints a sound layer of whose items the cells are known, and of whose repeats the first copies: items and objects of
+    /// repeats whose boxes the tiles do not meet are passed over. No tile was asked for.
+    pub fn gerber_by_cells(
+        alloc: Global,
+        layer: &'a Layer,
+        cells: &'a ItemCells,
+        copies: &'a FirstCopies,
+    ) -> Source<'a>
         requires sound { HasSoundItems layer.now }
         requires cells { AreCellsOf (item_boxes layer.now.apertures layer.now.items.items) cells.now }
+        requires copies { AreFirstCopiesOf layer.now.apertures layer.now.items.items copies.now }
         ensures { result ≡ unasked (content_leaves (content_of layer.now)) }
     {
-        let cells = Some(cells);
-        Source::of(Shown::Gerber { layer, cells }, Some(alloc))
+        let shown = Shown::Gerber {
+            layer,
+            cells: Some(cells),
+            copies: Some(copies),
+        };
+        Source::of(shown, Some(alloc))
     }
 
     /// Paints a sound drill layer. No tile was asked for.

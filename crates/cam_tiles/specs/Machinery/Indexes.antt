@@ -16,10 +16,8 @@ use Rattle.cam_tiles.specs.declared.index.seen.Seen.{Seen}
 use Rattle.cam_tiles.specs.declared.levels.Levels.{Levels}
 use Rattle.cam_tiles.specs.declared.window.Window.{Window}
 use Rattle.cam_tiles.specs.Machinery.Levels.{IsOnRow}
-use Rattle.cam_tiles.specs.Machinery.Known.{IsKnownIn}
+use Rattle.cam_tiles.specs.Machinery.Parts.{IsPartsOf}
 use Rattle.cam_tiles.specs.Machinery.RowLists.{AreListed, no_box, reaches}
-use Rattle.cam_tiles.specs.Machinery.Shown.{leaves_by_item}
-use Rattle.cam_tiles.specs.declared.shown.Shown.{Shown}
 use Rattle.cam_tiles.specs.Picture.{middle}
 use Rattle.cam_tiles.specs.Tiles.{down}
 
@@ -94,17 +92,16 @@ pub record IsBegunBy (old new : Seen) : Type 0 where
 -- ---- once all were looked at
 
 -- In each row of tiles of a box, painting the lists whose boxes reach the row is painting all lists, in order; the numbers
--- of these are listed row by row; and what is known of items is so.
-pub record IsIndexOf (shown : Shown) (w : Window) (i : Index) : Type 0 where
-  pub boxed : All (IsBoxed (leaves_by_item shown)) i.boxed.items
+-- of these are listed row by row; and the heights of contours are those of their parts.
+pub record IsIndexOf (lists : List (List Leaf)) (w : Window) (i : Index) : Type 0 where
+  pub boxed : All (IsBoxed lists) i.boxed.items
   pub enough : (row : ℕ)
-      → PaintAlike (IsSeen w i.within row) (row_leaves (leaves_by_item shown) row i.boxed.items)
-      (flat_map (λ those. those) (leaves_by_item shown))
+      → PaintAlike (IsSeen w i.within row) (row_leaves lists row i.boxed.items) (flat_map (λ those. those) lists)
   pub rows : length i.rows.starts.items ≡ down w + 1
   pub listed : AreListed i.boxed.items i.rows
-  pub known : All (IsKnownIn shown) i.known.items
+  pub contours : All (IsPartsOf lists) i.contours.items
 
 -- either of both
-abbrev pub AreItemsOf : Shown → Window → Items → Type 0
-AreItemsOf shown w (AsNeeded seen) = AreSeenBy (leaves_by_item shown) w seen
-AreItemsOf shown w (Indexed index) = IsIndexOf shown w index
+abbrev pub AreItemsOf : List (List Leaf) → Window → Items → Type 0
+AreItemsOf lists w (AsNeeded seen) = AreSeenBy lists w seen
+AreItemsOf lists w (Indexed index) = IsIndexOf lists w index

@@ -3,7 +3,7 @@
 use Rattle.std.specs.Prelude.{◌≡◌, ◌⊎◌, ℕ, ◌*◌, ◌/◌, ◌<◌, ◌≤◌, Bool, true, false, if◌then◌else◌, List, [], length, slice_index}
 use Rattle.std.specs.Prelude.{Option, None, Some, ◌&&◌, ◌||◌, ◌==◌, not, nat_le, nat_lt, is_none, slice_index_or}
 use Rattle.std.specs.Option.{option_or}
-use Rattle.cam_rows.specs.Marks.{is_marked, is_set}
+use Rattle.cam_tiles.specs.Machinery.Marks.{is_marked, is_set}
 use Rattle.cam_tiles.specs.declared.masks.figure_runs.FigureRuns.{FigureRuns}
 use Rattle.cam_tiles.specs.declared.masks.inks.Inks.TheInside.{Inside}
 use Rattle.cam_tiles.specs.declared.masks.runs.Runs.{Runs}

@@ -57,6 +57,6 @@ IsPartsOf lists parts =
     (c : Contour) (dark : Bool) → slice_index_or lists parts.place [] ≡ leaf (Filled c) dark ∷ []
     → AreHeightsOf c.start c.segs parts.heights.items
 
--- a box by itself, without the number of what is known of it
+-- a box by itself, without the number of its contour
 abbrev pub bare : Boxed → Boxed
-bare b = record b { known = 0 }
+bare b = record b { contour = 0 }

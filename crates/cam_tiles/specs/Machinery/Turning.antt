@@ -2,7 +2,7 @@
 use Rattle.std.specs.Prelude.{◌≡◌, ◌↔◌, ℕ, ◌%◌, ◌<◌, ◌≤◌, IsTrue, List, length, pos, ◌≤ℤ◌}
 use Rattle.cam_units.specs.Board.{IsInReach}
 use Rattle.cam_units.specs.declared.point.Spot.{Spot}
-use Rattle.cam_rows.specs.Marks.{is_marked, is_turned}
+use Rattle.cam_tiles.specs.Machinery.Marks.{is_marked, is_turned}
 use Rattle.cam_rows.specs.Runs.{most_columns}
 use Rattle.cam_tiles.specs.declared.grid.Grid.{Grid}
 use Rattle.cam_tiles.specs.Machinery.Levels.{AreLevels, levels_of}

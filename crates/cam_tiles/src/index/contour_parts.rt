@@ -1,14 +1,16 @@
 //! The heights of long contours, by their parts: found once for all rows of tiles that the contours reach.
 
-ghost use Rattle.std.specs.Prelude.{◌≡◌, ◌<◌, All, IfOk, IfSome, IsTrue, length};
+ghost use Rattle.std.specs.Prelude.{◌≡◌, ◌≤◌, All, IfOk, IfSome, IsTrue, length, map};
 ghost use Rattle.cam_units.specs.Board.{IsOnBoard};
 ghost use Rattle.cam_units.specs.declared.point.Spot.{Spot};
 ghost use Rattle.cam_shapes.specs.Contour.{IsSoundSeg};
 ghost use Rattle.cam_shapes.specs.Sides.{changes_side};
+ghost use Rattle.cam_tiles.specs.Machinery.Indexes.{IsBoxed};
 ghost use Rattle.cam_tiles.specs.Machinery.Masks.{IsWithin};
-ghost use Rattle.cam_tiles.specs.Machinery.Parts.{AreHeightsOf, ChangeWithin, IsPartsOf, IsSoundContour};
+ghost use Rattle.cam_tiles.specs.Machinery.Parts.{AreHeightsOf, ChangeWithin, IsPartsOf, IsSoundContour, bare};
 ghost use Rattle.cam_tiles.specs.Machinery.Shown.{IsReady, leaves_by_item};
 
+use crate::index::Boxed;
 use crate::masks::heights::{HasHeights, Heights};
 use crate::masks::parts::{PART_SIZE, end_from, split_part};
 use crate::masks::segments::{crossed_heights, end_of};
@@ -84,22 +86,47 @@ fn segment_heights(from: Point, seg: Seg) -> Heights
 /// How many segments a contour has at least to be gone through by its parts.
 const LONG_CONTOUR: usize = 2 * PART_SIZE;
 
-/// The parts of the contour of an item that is a region with a long one.
-pub(super) fn parts_of(
+/// The parts of the contour of an item that is a region with a long one, if it reaches two rows of tiles or more.
+fn parts_of(
     alloc: Global,
     shown: &Shown<'_>,
-    place: u32,
+    item: &Boxed,
 ) -> Result<Option<ContourParts>, AllocError>
     requires ready { IsReady shown.now }
-    requires within { place < length (leaves_by_item shown.now) }
+    requires item { IsBoxed (leaves_by_item shown.now) item.now }
     ensures { IfOk result (λ found. IfSome found (IsPartsOf (leaves_by_item shown.now))) }
 {
-    let Some((contour, _)) = shown.region(place as usize) else {
+    if item.rows.end.saturating_sub(item.rows.first) < 2 {
+        return Ok(None);
+    }
+    let Some((contour, _)) = shown.region(item.place as usize) else {
         return Ok(None);
     };
     if contour.segs.as_slice().len() < LONG_CONTOUR {
         return Ok(None);
     }
-    let parts = ContourParts::of(alloc, place, contour)?;
+    let parts = ContourParts::of(alloc, item.place, contour)?;
     Ok(Some(parts))
+}
+
+/// The parts of the long contours among items; each item that has one is told its number.
+pub(super) fn contours_of(
+    alloc: Global,
+    shown: &Shown<'_>,
+    boxed: &mut [Boxed],
+) -> Result<Vec<ContourParts>, AllocError>
+    requires ready { IsReady shown.now }
+    requires few { length boxed.old ≤ 1000000 }
+    requires boxed { All (IsBoxed (leaves_by_item shown.now)) boxed.old }
+    ensures parts { IfOk result (λ contours. All (IsPartsOf (leaves_by_item shown.now)) contours.items) }
+    ensures kept { map bare boxed.new ≡ map bare boxed.old }
+{
+    let mut contours = Vec::new(alloc);
+    for k in 0..boxed.len() {
+        if let Some(parts) = parts_of(alloc, shown, &boxed[k])? {
+            boxed[k].contour = contours.len() as u32;
+            contours.push(parts)?;
+        }
+    }
+    Ok(contours)
 }

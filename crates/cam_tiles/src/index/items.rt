@@ -34,7 +34,7 @@ impl Items {
     ) -> Result<Items, AllocError>
         requires ready { IsReady shown.now }
         requires accepted { accepts window.now ≡ true }
-        ensures { IfOk result (λ items. AreItemsOf shown.now window.now items) }
+        ensures { IfOk result (λ items. AreItemsOf (leaves_by_item shown.now) window.now items) }
     {
         let mut seen = Seen::new(alloc, shown, within)?;
         if is_few {
@@ -55,10 +55,10 @@ impl Items {
     ) -> Result<(), AllocError>
         requires ready { IsReady shown.now }
         requires accepted { accepts window.now ≡ true }
-        requires items { AreItemsOf shown.now window.now self.old }
+        requires items { AreItemsOf (leaves_by_item shown.now) window.now self.old }
         requires tile { tile < tiles_of window.now }
         requires rows { HasRowOf window.now tile swath.old }
-        ensures items { OnOk result (AreItemsOf shown.now window.now self.new) }
+        ensures items { OnOk result (AreItemsOf (leaves_by_item shown.now) window.now self.new) }
         ensures painted { OnOk result (PaintsSwath swath.old (leaves_of shown.now) swath.new) }
     {
         match self {

@@ -194,6 +194,23 @@ impl FigureRuns {
             && self.beyond.band.end <= self.beyond.band.first
     }
 
+    /// Whether nothing is taken out of the body but the hollow, as it is of flashes with a hole.
+    pub(crate) fn leaves_nothing_out(&self) -> bool
+        ensures { IsTrue result → (row column : ℕ) → HasColumn self.now.beyond row column → ⊥ }
+    {
+        self.beyond.band.end <= self.beyond.band.first
+    }
+
+    /// The columns of a row that its body has without the hollow: two runs, of which some may have none.
+    #[inline]
+    pub(crate) fn halves(&self, row: u32) -> (Span, Span)
+        requires { row < 64 }
+        ensures { (k : ℕ) → (IsInRun result.0.first result.0.end k ⊎ IsInRun result.1.first result.1.end k)
+            ↔ (HasColumn self.now.body row k × (HasColumn self.now.hollow row k → ⊥)) }
+    {
+        self.body.run(row).without(self.hollow.run(row))
+    }
+
     /// The columns that its body holds of a row: four runs, of which some may have none.
     #[inline]
     pub(crate) fn pieces(&self, row: u32) -> ((Span, Span), (Span, Span))
@@ -203,7 +220,7 @@ impl FigureRuns {
             ⊎ (IsInRun result.1.0.first result.1.0.end k ⊎ IsInRun result.1.1.first result.1.1.end k))
             ↔ HasBody self.now row k }
     {
-        let (before, behind) = self.body.run(row).without(self.hollow.run(row));
+        let (before, behind) = self.halves(row);
         let beyond = self.beyond.run(row);
         (before.without(beyond), behind.without(beyond))
     }

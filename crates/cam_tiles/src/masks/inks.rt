@@ -6,7 +6,7 @@ mod taking;
 ghost use Rattle.std.specs.Prelude.{◌≡◌, ◌↔◌, ◌+◌, ◌-◌, ◌*◌, ◌<◌, ◌≤◌, ◌⊎◌, ◌&&◌, not, ℕ, IsTrue, IfErr, OnOk, true, false};
 ghost use Rattle.std.specs.Prelude.{if◌then◌else◌, length, nat_lt, replicate, slice_index};
 ghost use Rattle.std.specs.Int.{IsBitSet};
-ghost use Rattle.cam_rows.specs.Marks.{is_marked, is_set};
+ghost use Rattle.cam_tiles.specs.Machinery.Marks.{is_marked, is_set};
 ghost use Rattle.cam_tiles.specs.Machinery.Inks.{AreOpen, IsDoneTile, Takes, in_body, in_runs, is_open};
 
 use crate::masks::figure_runs::FigureRuns;
@@ -16,7 +16,7 @@ use crate::span::Span;
 use cam_rows::run_row;
 use std::alloc::{AllocError, Global};
 use std::marker::Model;
-use taking::{take_pieces, take_rows, take_words};
+use taking::{take_halves, take_pieces, take_rows, take_words};
 
 /// For each pixel of tiles side by side whether it is decided, and whether it is dark then: each tile has 64 words of either
 /// kind, one for each of its rows from the top, and its columns are their bits.
@@ -227,7 +227,11 @@ impl Inks {
         ensures { Takes 0 self.old.tiles (in_body runs.now) dark self.old self.new }
     {
         let next = &self.next[..self.tiles];
-        take_pieces(&mut self.decided, &mut self.dark, next, runs, dark);
+        if runs.leaves_nothing_out() {
+            take_halves(&mut self.decided, &mut self.dark, next, runs, dark);
+        } else {
+            take_pieces(&mut self.decided, &mut self.dark, next, runs, dark);
+        }
     }
 
     /// The rows of a tile from the top: bit i of each is set where column i is decided as dark.

@@ -25,12 +25,12 @@ use crate::grid::Grid;
 use crate::masks::heights::{HasHeights, Heights};
 use crate::masks::join::Join;
 use crate::masks::marked::MarkShape;
+use crate::masks::marks::spread_marks;
 use crate::masks::placed::turn_outline;
 use crate::masks::runs::Runs;
 use crate::masks::words::{join_wide, join_words};
 use crate::span::Span;
 use cam_apertures::{PrimitiveView, Primitives, ShapeView, turned_height, turned_width};
-use cam_rows::spread_marks;
 use cam_shapes::{Bar, Disc, Rectangle};
 use cam_units::{Bounds, Point, Spot, Turn};
 

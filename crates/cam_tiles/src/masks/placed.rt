@@ -16,10 +16,10 @@ ghost use Rattle.cam_tiles.specs.Tiles.{centre_in};
 use crate::grid::Grid;
 use crate::masks::heights::Heights;
 use crate::masks::marked::MarkShape;
+use crate::masks::marks::spread_marks;
 use crate::masks::mask::ORIGIN;
 use crate::masks::segments::end_of;
 use crate::masks::turning::{row_heights, turn_edge, turn_line, turn_segment};
-use cam_rows::spread_marks;
 use cam_shapes::{Contour, Placing, Seg};
 use cam_units::{Point, Turn};
 

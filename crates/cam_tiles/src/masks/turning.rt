@@ -15,9 +15,10 @@ ghost use Rattle.cam_tiles.specs.Tiles.{centre_in};
 
 use crate::grid::Grid;
 use crate::masks::heights::{HasHeights, Heights};
+use crate::masks::marks::{mark_ends, mark_runs};
 use crate::masks::segments::crossed_heights;
 use crate::span::Span;
-use cam_rows::{Centres, cap_runs, edge_runs, mark_ends, mark_runs};
+use cam_rows::{Centres, cap_runs, edge_runs};
 use cam_shapes::{Cap, Seg};
 use cam_units::Point;
 

@@ -2,7 +2,7 @@
 //! and its columns are their bits.
 
 ghost use Rattle.std.specs.Prelude.{◌≡◌, ◌<◌, ◌≤◌, IsTrue, length};
-ghost use Rattle.cam_rows.specs.Marks.{is_marked};
+ghost use Rattle.cam_tiles.specs.Machinery.Marks.{is_marked};
 ghost use Rattle.cam_rows.specs.Runs.{IsInRun};
 ghost use Rattle.cam_tiles.specs.Machinery.Runs.{HasColumn};
 ghost use Rattle.cam_tiles.specs.Machinery.Turning.{AreWide};

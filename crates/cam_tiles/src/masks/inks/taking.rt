@@ -2,8 +2,9 @@
 
 ghost use Rattle.std.specs.Prelude.{◌≡◌, ◌+◌, ◌-◌, ◌*◌, ◌/◌, ◌<◌, ◌≤◌, ℕ, Bool, length, slice_index};
 ghost use Rattle.std.specs.Option.{option_or};
-ghost use Rattle.cam_rows.specs.Marks.{is_set};
+ghost use Rattle.cam_tiles.specs.Machinery.Marks.{is_set};
 ghost use Rattle.cam_tiles.specs.Machinery.Inks.{AreNext, IsInk, Takes, given, in_body, in_row, in_runs, ink_of, words_of};
+ghost use Rattle.cam_tiles.specs.Machinery.Runs.{HasColumn};
 
 use crate::masks::figure_runs::FigureRuns;
 use crate::masks::runs::Runs;
@@ -67,6 +68,31 @@ pub(super) fn take_pieces(
         take_run(decided, dark, next, row, b.first, b.end, ink);
         take_run(decided, dark, next, row, c.first, c.end, ink);
         take_run(decided, dark, next, row, d.first, d.end, ink);
+    }
+}
+
+/// The same of a body of which nothing is taken out but the hollow: two runs a row are all.
+#[inline]
+pub(super) fn take_halves(
+    decided: &mut [u64],
+    dark: &mut [u64],
+    next: &[u32],
+    runs: &FigureRuns,
+    ink: bool,
+)
+    requires few { length next.now ≤ 512 }
+    requires decided { 64 * length next.now ≤ length decided.old }
+    requires dark { 64 * length next.now ≤ length dark.old }
+    requires rows { runs.now.body.band.end ≤ 64 }
+    requires known { AreNext (length next.now) next.now decided.old }
+    requires beyond { (row column : ℕ) → HasColumn runs.now.beyond row column → ⊥ }
+    ensures { Takes 0 (length next.now) (in_body runs.now) ink (words_of (length next.now) decided.old dark.old)
+        (words_of (length next.now) decided.new dark.new) }
+{
+    for row in runs.body.band.first..runs.body.band.end {
+        let (before, behind) = runs.halves(row);
+        take_run(decided, dark, next, row, before.first, before.end, ink);
+        take_run(decided, dark, next, row, behind.first, behind.end, ink);
     }
 }
 

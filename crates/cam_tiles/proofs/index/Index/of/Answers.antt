@@ -14,12 +14,12 @@ use Rattle.cam_tiles.proofs.TileCounts.{few_down}
 use Rattle.cam_tiles.proofs.index.Index.of.Goals.{After-div_ceil}
 use Rattle.cam_tiles.proofs.index.Index.of.Goals as goal
 
--- the boxes in order, but for the numbers of what is known of them
-alike : (c : After-div_ceil) → map bare c.known_among.new.boxed ≡ map bare (reverse c.args.seen.boxed.items)
-alike c = c.known_among.ensures.kept ∙ ap (map bare) (c.deref_mut.ensures.value ∙ c.reverse.ensures.items)
+-- the boxes in order, but for the numbers of their contours
+alike : (c : After-div_ceil) → map bare c.contours_of.new.boxed ≡ map bare (reverse c.args.seen.boxed.items)
+alike c = c.contours_of.ensures.kept ∙ ap (map bare) (c.deref_mut.ensures.value ∙ c.reverse.ensures.items)
 
-items_are : (c : After-div_ceil) → (with_items c.reverse.new.self c.known_among.new.boxed).items ≡ c.known_among.new.boxed
-items_are c = with_items_is c.reverse.new.self c.known_among.new.boxed (c.known_among.auto.boxed ∙ c.deref_mut.ensures.len)
+items_are : (c : After-div_ceil) → (with_items c.reverse.new.self c.contours_of.new.boxed).items ≡ c.contours_of.new.boxed
+items_are c = with_items_is c.reverse.new.self c.contours_of.new.boxed (c.contours_of.auto.boxed ∙ c.deref_mut.ensures.len)
 
 rows_are : (c : After-div_ceil) → c.div_ceil.result ≡ down c.args.window.now
 rows_are c = omega (arith, c.div_ceil.ensures)
@@ -34,7 +34,7 @@ new-requires-clause-within c =
     let those = reverse c.args.seen.boxed.items in
     let ends = all_back (λ b. b.rows.end ≤ down c.args.window.now) c.args.seen.boxed.items c.requires.seen.ends in
     subst (All (λ b. b.rows.end ≤ rows)) (sym (c.deref.ensures.value ∙ items_are at_hand))
-    (kept_ends c.known_among.new.boxed those (alike at_hand) rows
+    (kept_ends c.contours_of.new.boxed those (alike at_hand) rows
     (subst (λ n. All (λ b. b.rows.end ≤ n) those) (sym (rows_are at_hand)) ends))
 
 pub returns : goal.returns
@@ -45,7 +45,7 @@ returns c =
     let within = c.args.seen.within in
     let boxed = c.args.seen.boxed.items in
     let those = reverse boxed in
-    let new = c.known_among.new.boxed in
+    let new = c.contours_of.new.boxed in
     let same = sym (items_are at_hand) in
     let rows = c.in_ok-rows.rows in
     record {
@@ -58,5 +58,5 @@ returns c =
           (kept_leaves new those (alike at_hand) lists row ∙ ap (row_leaves lists row) same) enough;
       rows = omega (arith, c.in_ok-rows.ensures.rows, rows_are at_hand);
       listed = subst (λ (those : List Boxed). AreListed those rows) c.deref.ensures.value c.in_ok-rows.ensures.listed;
-      known = c.in_ok-known.ensures.known;
+      contours = c.in_ok-contours.ensures.parts;
     }

@@ -1,6 +1,6 @@
 use Rattle.std.proofs.Common.{◌≡◌, ◌+◌, ◌*◌, ◌<◌, ◌≤◌, ℕ, true, slice_index}
 use Rattle.std.specs.Int.{IsBitSet}
-use Rattle.cam_rows.specs.Marks.{is_set}
+use Rattle.cam_tiles.specs.Machinery.Marks.{is_set}
 use Rattle.cam_tiles.proofs.masks.inks.are_set.Given as goal
 
 abbrev pub invariant-loop-row : goal.invariant-loop-row

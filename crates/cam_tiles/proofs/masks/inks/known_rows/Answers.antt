@@ -1,6 +1,6 @@
 use Rattle.std.proofs.Common.{ap, ◌∙◌, inl, inr, slice_index, arith}
 use Rattle.std.proofs.lemmas.Bool.{cases_eq}
-use Rattle.cam_rows.specs.Marks.{is_set}
+use Rattle.cam_tiles.specs.Machinery.Marks.{is_set}
 use Rattle.cam_tiles.proofs.InkWords.{all_set_is_most, set_in_all}
 use Rattle.cam_tiles.proofs.masks.inks.known_rows.Goals as goal
 

@@ -6,7 +6,7 @@ use Rattle.cam_shapes.specs.Placing.{placed_contour}
 use Rattle.cam_macros.specs.declared.primitive.PrimShape.TheVariants.{Outline}
 use Rattle.cam_apertures.proofs.Outlines.{outline_placeable}
 use Rattle.cam_objects.specs.Leaves.{origin}
-use Rattle.cam_rows.specs.Marks.{is_marked}
+use Rattle.cam_tiles.specs.Machinery.Marks.{is_marked}
 use Rattle.cam_tiles.proofs.JoinedCentres.{columns_joined}
 use Rattle.cam_tiles.proofs.TurnedMarks.{spread_inside}
 use Rattle.cam_tiles.proofs.masks.macros.join_inside.Goals as goal

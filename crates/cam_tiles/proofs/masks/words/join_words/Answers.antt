@@ -1,6 +1,6 @@
 use Rattle.std.proofs.Common.{◌≡◌, ◌+◌, ◌*◌, ◌/◌, ◌%◌, ◌<◌, IsTrue, length, slice_index, arith}
 use Rattle.std.specs.Int.{IsBitSet}
-use Rattle.cam_rows.specs.Marks.{is_marked}
+use Rattle.cam_tiles.specs.Machinery.Marks.{is_marked}
 use Rattle.cam_tiles.proofs.JoinedWords.{joins_more, next_word, word_joined}
 use Rattle.cam_tiles.proofs.masks.words.join_words.Goals as goal
 

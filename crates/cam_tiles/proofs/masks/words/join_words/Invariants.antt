@@ -1,5 +1,5 @@
 use Rattle.std.proofs.Common.{◌+◌, ◌*◌, ◌/◌, ◌<◌, IsTrue, length}
-use Rattle.cam_rows.specs.Marks.{is_marked}
+use Rattle.cam_tiles.specs.Machinery.Marks.{is_marked}
 use Rattle.cam_tiles.specs.Machinery.Words.{JoinsColumns}
 use Rattle.cam_tiles.proofs.masks.words.join_words.Given as goal
 

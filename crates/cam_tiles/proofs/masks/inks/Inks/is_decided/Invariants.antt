@@ -1,5 +1,5 @@
 use Rattle.std.proofs.Common.{◌≡◌, ◌-◌, ◌/◌, ◌<◌, ◌≤◌, ℕ, true}
-use Rattle.cam_rows.specs.Marks.{is_marked}
+use Rattle.cam_tiles.specs.Machinery.Marks.{is_marked}
 use Rattle.cam_tiles.proofs.masks.inks.Inks.is_decided.Given as goal
 
 abbrev pub invariant-loop-tile : goal.invariant-loop-tile

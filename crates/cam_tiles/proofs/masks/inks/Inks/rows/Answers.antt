@@ -1,7 +1,7 @@
 use Rattle.std.proofs.Common.{◌≡◌, ◌&&◌, ◌+◌, ◌*◌, ◌/◌, ◌%◌, get_or-set_other, get_or-set_same, subst, ◌∙◌, inl, inr, slice_index, arith}
 use Rattle.std.proofs.Math.ListN.{length-set}
 use Rattle.std.proofs.lemmas.Bool.{cases_eq}
-use Rattle.cam_rows.specs.Marks.{is_set}
+use Rattle.cam_tiles.specs.Machinery.Marks.{is_set}
 use Rattle.cam_tiles.specs.Machinery.Inks.{Inked}
 use Rattle.cam_tiles.proofs.InkWords.{set_in_both, tile_part}
 use Rattle.cam_tiles.proofs.masks.inks.Inks.rows.Goals as goal

@@ -1,5 +1,5 @@
 use Rattle.std.proofs.Common.{◌≡◌, ◌&&◌, ℕ, ◌<◌, length, slice_index}
-use Rattle.cam_rows.specs.Marks.{is_set}
+use Rattle.cam_tiles.specs.Machinery.Marks.{is_set}
 use Rattle.cam_tiles.proofs.masks.inks.Inks.rows.Given as goal
 
 abbrev pub invariant-loop-row : goal.invariant-loop-row

@@ -3,7 +3,7 @@ use Rattle.std.proofs.lemmas.Bool.{cases_lt}
 use Rattle.std.proofs.lemmas.List.{with_items_is}
 use Rattle.cam_objects.specs.Image.{Covers}
 use Rattle.cam_objects.specs.Leaves.{leaf}
-use Rattle.cam_rows.specs.Marks.{is_marked}
+use Rattle.cam_tiles.specs.Machinery.Marks.{is_marked}
 use Rattle.cam_tiles.specs.Machinery.Inks.{Inked, Takes}
 use Rattle.cam_tiles.specs.Machinery.Swaths.{IsInSwath, IsSwath, PaintsSwath, Swathed, place_in}
 use Rattle.cam_tiles.specs.Machinery.Turning.{MarksCentres}

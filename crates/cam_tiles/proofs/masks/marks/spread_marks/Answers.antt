@@ -1,6 +1,6 @@
 use Rattle.std.proofs.Common.{arith}
-use Rattle.cam_rows.proofs.MarkedColumns.{next_tile}
-use Rattle.cam_rows.proofs.marks.spread_marks.Goals as goal
+use Rattle.cam_tiles.proofs.MarkedColumns.{next_tile}
+use Rattle.cam_tiles.proofs.masks.marks.spread_marks.Goals as goal
 
 pub loop-passed-preserved : goal.loop-passed-preserved
 loop-passed-preserved c =

@@ -4,7 +4,7 @@ use Rattle.cam_units.specs.Boxes.{Holds}
 use Rattle.cam_objects.specs.Bounds.{bounds_of}
 use Rattle.cam_objects.specs.Leaves.{Filled, Leaf, leaf}
 use Rattle.cam_objects.proofs.CoveredBoxes.{inside_box}
-use Rattle.cam_tiles.proofs.index.paint_known.Goals as goal
+use Rattle.cam_tiles.proofs.index.paint_item.Goals as goal
 
 pub paint_contour-requires-clause-sides : goal.paint_contour-requires-clause-sides
 paint_contour-requires-clause-sides c = λ s on.

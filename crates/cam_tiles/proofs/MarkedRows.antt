@@ -2,7 +2,7 @@
 use Rattle.std.proofs.Common.{◌≡◌, ◌↔◌, ◌⊎◌, ℕ, ◌+◌, ◌-◌, ◌<◌, ◌≤◌, Bool, true, false, IsTrue, List, length}
 use Rattle.std.proofs.Common.{inl, inr, subst, arith, refl, ◌∙◌}
 use Rattle.std.proofs.lemmas.Bool.{cases_eq, cases_lt}
-use Rattle.cam_rows.specs.Marks.{TurnsRow, TurnsRows, is_turned}
+use Rattle.cam_tiles.specs.Machinery.Marks.{TurnsRow, TurnsRows, is_turned}
 use Rattle.cam_rows.specs.Runs.{IsInRun}
 
 -- exactly one of two facts

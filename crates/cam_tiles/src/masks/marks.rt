@@ -3,14 +3,14 @@
 
 ghost use Rattle.std.specs.Prelude.{◌≡◌, ◌+◌, ◌*◌, ◌%◌, ◌<◌, ◌≤◌, ℕ, length, slice_index};
 ghost use Rattle.cam_rows.specs.Runs.{IsInRun};
-ghost use Rattle.cam_rows.specs.Machinery.Spreading.{AreRowsSpread};
-ghost use Rattle.cam_rows.specs.Marks.{AreSpread, TurnsRow, TurnsRows, is_set};
+ghost use Rattle.cam_tiles.specs.Machinery.Spreading.{AreRowsSpread};
+ghost use Rattle.cam_tiles.specs.Machinery.Marks.{AreSpread, TurnsRow, TurnsRows, is_set};
 
 /// Turns over the columns of a row before an end, by one mark. A tile has 64 words, one for each of its rows from the
 /// top, and its columns are their bits.
 #[inline]
 #[tactic(auto, using(crate::proofs::MarkedColumns::turns_before, crate::proofs::MarkedColumns::turns_none))]
-pub fn mark_end(marks: &mut [u64], row: u32, end: u32)
+fn mark_end(marks: &mut [u64], row: u32, end: u32)
     requires row { row < 64 }
     requires end { end ≤ length marks.old }
     requires tiles { length marks.old % 64 ≡ 0 }
@@ -27,7 +27,7 @@ pub fn mark_end(marks: &mut [u64], row: u32, end: u32)
 /// Turns over the columns before an end in each of rows one below another, from one on: by one mark in each, as
 /// [`mark_end`] does.
 #[tactic(auto, using(crate::proofs::MarkedRows::next_turned, crate::proofs::MarkedRows::all_turned, crate::proofs::MarkedRows::none_turned))]
-pub fn mark_ends(marks: &mut [u64], first: u32, ends: &[u32])
+pub(crate) fn mark_ends(marks: &mut [u64], first: u32, ends: &[u32])
     requires rows { first + length ends.now ≤ 64 }
     requires ends { (k : ℕ) → k < length ends.now → slice_index ends.now k ≤ length marks.old }
     requires tiles { length marks.old % 64 ≡ 0 }
@@ -41,7 +41,7 @@ pub fn mark_ends(marks: &mut [u64], first: u32, ends: &[u32])
 /// Turns over the columns of a run in each of rows one below another, from one on: from its first column on and before
 /// its end, by two marks; a run whose end is not behind its first column has none.
 #[tactic(auto, using(crate::proofs::MarkedRows::next_turned, crate::proofs::MarkedRows::all_turned, crate::proofs::MarkedRows::none_turned))]
-pub fn mark_runs(marks: &mut [u64], first: u32, firsts: &[u32], ends: &[u32])
+pub(crate) fn mark_runs(marks: &mut [u64], first: u32, firsts: &[u32], ends: &[u32])
     requires rows { first + length firsts.now ≤ 64 }
     requires same { length ends.now ≡ length firsts.now }
     requires ends { (k : ℕ) → k < length firsts.now → slice_index ends.now k ≤ length marks.old }
@@ -72,7 +72,7 @@ fn mark_run(marks: &mut [u64], row: u32, first: u32, end: u32)
 /// Marks each column that some marks turn over, and no other: each tile is turned over where the first column of the one
 /// right of it is. Each word is gone through once.
 #[tactic(auto, using(crate::proofs::MarkedColumns::all_spread, crate::proofs::MarkedColumns::last_tile))]
-pub fn spread_marks(marks: &mut [u64])
+pub(crate) fn spread_marks(marks: &mut [u64])
     requires { length marks.old % 64 ≡ 0 }
     ensures { AreSpread marks.old marks.new }
 {

@@ -1,7 +1,7 @@
 -- Marks that are spread, tile by tile.
 use Rattle.std.specs.Prelude.{◌≡◌, ◌⊎◌, ℕ, ◌+◌, ◌*◌, ◌<◌, ◌≤◌, List, slice_index}
 use Rattle.cam_shapes.specs.Sides.{differ}
-use Rattle.cam_rows.specs.Marks.{is_set, turns_past}
+use Rattle.cam_tiles.specs.Machinery.Marks.{is_set, turns_past}
 
 -- in the first rows of a tile the columns are turned over where the tile right of it says so, and all other words are
 -- as they were

@@ -9,8 +9,8 @@ use Rattle.std.proofs.lemmas.Bool.{cases_eq, cases_lt}
 use Rattle.std.proofs.lemmas.Nat.{shr-shr}
 use Rattle.std.proofs.lemmas.Nat.Bits.{bit_at-lt, bit_at-zero, bit_at_lowest, bit_at_ones, bit_at_ones_above, bit_at_xor}
 use Rattle.cam_shapes.specs.Sides.{differ}
-use Rattle.cam_rows.specs.Machinery.Spreading.{AreRowsSpread}
-use Rattle.cam_rows.specs.Marks.{AreSpread, TurnsRow, is_marked, is_odd, is_set, is_turned, turns_past}
+use Rattle.cam_tiles.specs.Machinery.Spreading.{AreRowsSpread}
+use Rattle.cam_tiles.specs.Machinery.Marks.{AreSpread, TurnsRow, is_marked, is_odd, is_set, is_turned, turns_past}
 
 -- ---- exactly one of two
 
