@@ -1,16 +1,17 @@
 //! Layers beside which it is kept what their items reach.
 
 ghost use Rattle.std.specs.Prelude.{◌≡◌, ◌+◌, ◌≤◌, ◌∷◌, ◌++◌, [], IfSome, List, OnOk, length, vec_capacity};
-ghost use Rattle.cam_objects.specs.Cells.{AreCellsOf, item_boxes};
+ghost use Rattle.cam_objects.specs.Cells.{AreCellsOf, AreFirstCopiesOf, item_boxes};
 ghost use Rattle.cam_objects.specs.Contents.{content_of};
 ghost use Rattle.cam_objects.specs.Soundness.{HasSoundItems};
 ghost use Rattle.cam_edits.specs.Steps.{HasRoom, IsFit, after_step, inverse_step};
 
+use crate::copies::{follow, mend_copies};
 use crate::mending::{leaves_at, mended};
 use crate::reversible::Reversible;
 use crate::shift::Shift;
 use crate::step::Step;
-use cam_objects::{ItemCells, Layer};
+use cam_objects::{FirstCopies, ItemCells, Layer};
 use std::alloc::{AllocError, Global};
 use std::marker::Model;
 
@@ -21,11 +22,13 @@ pub(crate) struct Kept {
     pub leaves: u64,
 }
 
-/// A layer, with the cells that its items reach and the number of its leaves: an edit reads what it touches alone.
+/// A layer, with the cells that its items reach, the number of its leaves and the first copies of its repeats: an edit
+/// reads what it touches alone.
 #[derive(Drop)]
 pub struct IndexedLayer {
     layer: Layer,
     kept: Option<Kept>,
+    copies: FirstCopies,
 }
 
 impl Model for IndexedLayer {
@@ -42,15 +45,18 @@ impl Model for IndexedLayer {
 impl IndexedLayer {
     ghost use Rattle.cam_edits.specs.Machinery.Shifts.{leaves_in};
 
-    /// Of a sound layer. Where memory for the cells is refused, it is not known what its items reach.
+    /// Of a sound layer. Where memory for the cells is refused, it is not known what its items reach; nor what the objects
+    /// of its repeats reach, where it is refused for these.
     pub fn new(alloc: Global, layer: Layer) -> IndexedLayer
         requires { HasSoundItems layer }
         ensures { result ≡ layer }
     {
         let (cells, leaves) = ItemCells::of(alloc, &mut layer.boxes());
+        let copies = first_copies(alloc, &layer, leaves);
         IndexedLayer {
             layer,
             kept: Some(Kept { cells, leaves }),
+            copies,
         }
     }
 
@@ -70,6 +76,13 @@ impl IndexedLayer {
             Some(kept) => Some(&kept.cells),
             None => None,
         }
+    }
+
+    /// The first copies of its repeats of many objects, as far as they are known.
+    pub fn first_copies(&self) -> &FirstCopies
+        ensures { AreFirstCopiesOf self.now.apertures self.now.items.items result.now }
+    {
+        &self.copies
     }
 
     /// How many leaves it has.
@@ -96,7 +109,7 @@ impl IndexedLayer {
         self.layer.attributes.reserve(attributes)
     }
 
-    /// Plays a step. The answer leads back. Takes no memory.
+    /// Plays a step. The answer leads back. Takes no memory: the first copy of a repeat that comes is not known.
     pub(crate) fn play(&mut self, step: Step) -> Step
         requires fits { IsFit step (content_of self.old) }
         requires room { HasRoom (step ∷ []) self.old }
@@ -104,14 +117,34 @@ impl IndexedLayer {
         ensures answer { result ≡ inverse_step step (content_of self.old) }
         ensures room { (rest : List Step) → HasRoom (rest ++ step ∷ []) self.old → HasRoom rest self.new }
     {
-        let Some(kept) = self.kept.take() else {
-            return step.play(&mut self.layer);
-        };
         let shift = Shift::of(&step);
+        let Some(kept) = self.kept.take() else {
+            let answer = step.play(&mut self.layer);
+            follow(&mut self.copies, &self.layer, shift);
+            return answer;
+        };
         let gone = leaves_at(&self.layer, shift.from);
         let answer = step.play(&mut self.layer);
         self.kept = mended(kept, shift, gone, &self.layer);
+        if self.kept.is_some() {
+            mend_copies(&mut self.copies, &self.layer, shift);
+        } else {
+            follow(&mut self.copies, &self.layer, shift);
+        }
         answer
+    }
+}
+
+/// The first copies of the repeats of a sound layer with so many leaves.
+fn first_copies(alloc: Global, layer: &Layer, leaves: u64) -> FirstCopies
+    requires { HasSoundItems layer.now }
+    ensures { AreFirstCopiesOf layer.now.apertures layer.now.items.items result }
+{
+    // Where no item has two leaves there is no repeat to look for.
+    if leaves > layer.items.len() as u64 {
+        layer.first_copies(alloc)
+    } else {
+        FirstCopies::none(alloc)
     }
 }
 

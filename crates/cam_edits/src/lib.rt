@@ -12,6 +12,7 @@ mod attribute_judging;
 mod board;
 mod board_step;
 mod carrying;
+mod copies;
 mod drill_judging;
 mod drill_mending;
 mod drill_step;

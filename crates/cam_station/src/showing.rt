@@ -93,13 +93,15 @@ pub(crate) fn draw(alloc: Global, content: &SheetContent, raster: &mut Raster, a
     raster.redraw(&mut source, at_most)
 }
 
-/// Paints a sound layer: by the cells that its items reach, where they are known.
+/// Paints a sound layer: by the cells that its items reach, where they are known, and by the first copies of its repeats.
 fn painter(alloc: Global, layer: &IndexedLayer) -> Source<'_>
     requires { HasSoundItems layer.now }
     ensures { result ≡ unasked (content_leaves (gerber_content_of layer.now)) }
 {
     match layer.cells() {
-        Some(cells) => Source::gerber_by_cells(alloc, layer.layer(), cells),
+        Some(cells) => {
+            Source::gerber_by_cells(alloc, layer.layer(), cells, layer.first_copies())
+        }
         None => Source::gerber(layer.layer()),
     }
 }

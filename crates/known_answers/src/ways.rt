@@ -72,7 +72,7 @@ fn layer_agrees(alloc: Global, file: &[u8]) -> Result<bool, RasterFault> {
     plain.redraw(&mut Source::gerber(layer.layer()), u32::MAX);
     let mut quick = Raster::new(alloc, WINDOW)?;
     quick.redraw(
-        &mut Source::gerber_by_cells(alloc, layer.layer(), cells),
+        &mut Source::gerber_by_cells(alloc, layer.layer(), cells, layer.first_copies()),
         u32::MAX,
     );
     Ok(are_same(&plain, &quick))

@@ -4,13 +4,14 @@ use Rattle.std.specs.Prelude.{insert, remove, slice_index}
 use Rattle.std.specs.Map.{set_value}
 use Rattle.cam_units.specs.declared.bounds.Bounds.{Bounds}
 use Rattle.cam_units.specs.declared.length.Nm.{Nm}
-use Rattle.cam_objects.specs.Cells.{AreBeside, AreCellsOf, Reaches, box_at, drill_item_boxes, item_boxes}
+use Rattle.cam_objects.specs.Cells.{AreBeside, AreCellsOf, AreFirstCopiesOf, FirstCopied, Reaches, box_at, drill_item_boxes, item_boxes}
 use Rattle.cam_objects.specs.DrillSoundness.{IsSoundDrillLayer, drill_count_of, tool_of}
 use Rattle.cam_objects.specs.Drilling.{diameter_of}
 use Rattle.cam_objects.specs.Soundness.{HasSoundItems}
 use Rattle.cam_objects.specs.Weights.{item_count, weight_in}
 use Rattle.cam_objects.specs.declared.drill_item.DrillItem.{DrillItem}
 use Rattle.cam_objects.specs.declared.drill_layer.DrillLayer.{DrillLayer}
+use Rattle.cam_objects.specs.declared.item.Item.{Item}
 use Rattle.cam_objects.specs.declared.layer.Layer.{Layer}
 use Rattle.cam_edits.specs.declared.indexed.IndexedLayer.TheInside.{Inside}
 use Rattle.cam_edits.specs.declared.indexed.Kept.{Kept}
@@ -67,8 +68,15 @@ leaves_at layer place = count_at (item_count (weight_in layer.apertures)) layer.
 abbrev pub IsKeptOf : Layer → Kept → Type 0
 IsKeptOf layer = IsKept (HasSoundItems layer) (leaves_in layer) (item_boxes layer.apertures layer.items.items)
 
-abbrev pub IsIndexed : Inside → Type 0
-IsIndexed c = (kept : Kept) → c.kept ≡ Some kept → IsKeptOf c.layer kept
+pub record IsIndexed (c : Inside) : Type 0 where
+  pub kept : (kept : Kept) → c.kept ≡ Some kept → IsKeptOf c.layer kept
+  pub copies : AreFirstCopiesOf c.layer.apertures c.layer.items.items c.copies
+
+-- they were the first copies of the repeats among items from which a shift leads to those of this layer
+pub record WereFirstCopies (shift : Shift) (layer : Layer) (copies : List FirstCopied) : Type 0 where
+  pub before : List Item
+  pub known : AreFirstCopiesOf layer.apertures before copies
+  pub edit : IsEdited shift.from shift.to before layer.items.items
 
 -- it was kept of a layer from whose items a shift leads to those of this one, which has the same dictionary
 pub record WasKept (kept : Kept) (shift : Shift) (gone : ℕ) (layer : Layer) : Type 0 where

@@ -1,0 +1,35 @@
+//! The first copies of the repeats of a layer, which follow its items.
+
+ghost use Rattle.std.specs.Prelude.{◌≡◌};
+ghost use Rattle.cam_objects.specs.Cells.{AreFirstCopiesOf};
+ghost use Rattle.cam_objects.specs.Soundness.{HasSoundItems};
+ghost use Rattle.cam_edits.specs.Machinery.Shifts.{WereFirstCopies};
+
+use crate::shift::Shift;
+use cam_objects::{FirstCopies, Layer};
+
+/// Lets them follow items that shifted with a step. What comes to a place is not known. Takes no memory.
+pub(crate) fn follow(copies: &mut FirstCopies, layer: &Layer, shift: Shift)
+    requires { WereFirstCopies shift layer.now copies.old }
+    ensures { AreFirstCopiesOf layer.now.apertures layer.now.items.items copies.new }
+{
+    if let Some(from) = shift.from {
+        copies.remove(from);
+    }
+    if let Some(to) = shift.to {
+        copies.insert(to);
+    }
+}
+
+/// Lets those of a sound layer follow items that shifted with a step: that of an item that changed at its place is read
+/// anew. Takes no memory.
+pub(crate) fn mend_copies(copies: &mut FirstCopies, layer: &Layer, shift: Shift)
+    requires sound { HasSoundItems layer.now }
+    requires was { WereFirstCopies shift layer.now copies.old }
+    ensures { AreFirstCopiesOf layer.now.apertures layer.now.items.items copies.new }
+{
+    match (shift.from, shift.to) {
+        (Some(from), Some(to)) if from == to => copies.renew(layer, to),
+        _ => follow(copies, layer, shift),
+    }
+}
