@@ -1,9 +1,11 @@
 -- what a draw covers lies near its line, and what that makes of boxes
-use Rattle.std.proofs.Common.{◌≡◌, ℕ, ◌+◌, ◌*◌, ◌≤◌, ℤ, pos, negsuc, ◌+ℤ◌, ◌-ℤ◌, ◌*ℤ◌, ◌≤ℤ◌, ◌<ℤ◌, inl, inr, Bool, List, [], get_or, slice_get, Option, Some, refl, ap, sym, subst, ◌∙◌, arith}
+use Rattle.std.proofs.Common.{◌≡◌, ℕ, ◌+◌, ◌*◌, ◌<◌, ◌≤◌, ℤ, pos, negsuc, ◌+ℤ◌, ◌-ℤ◌, ◌*ℤ◌, ◌≤ℤ◌, ◌<ℤ◌, inl, inr, Bool, List, [], get_or, slice_get, Option, Some, refl, ap, sym, subst, ◌∙◌, arith}
 use Rattle.std.specs.Int.RustNames.{unsigned_abs}
 use Rattle.std.proofs.lemmas.Int.{ints}
 use Rattle.std.proofs.lemmas.List.Elements.{All-cons, All-nil}
 use Rattle.std.proofs.lemmas.Option.{get_or_from_slice_get}
+use Rattle.cam_refusals.specs.Limits.{board_limit}
+use Rattle.cam_units.specs.Board.{IsOnBoard, IsPlace, place_limit}
 use Rattle.cam_units.specs.Boxes.{Holds, IsBetween}
 use Rattle.cam_units.specs.declared.bounds.Bounds.{Bounds}
 use Rattle.cam_units.specs.declared.bounds.Bounds.TheVariants.{Closed}
@@ -152,6 +154,13 @@ near_above a e u d high none is h = times_down a (u -ℤ d) (e -ℤ d) none (ome
 
 pub near_below : (a e u d low : ℤ) → pos 0 ≤ℤ a → e ≡ low → low ≤ℤ u → (a *ℤ (e -ℤ d)) ≤ℤ (a *ℤ (u -ℤ d))
 near_below a e u d low some is h = times_up a (e -ℤ d) (u -ℤ d) some (omega (arith, ints))
+
+twice_near : (x : ℤ) → unsigned_abs x < board_limit → unsigned_abs (pos 2 *ℤ x) < place_limit
+twice_near x h = omega (arith, ints)
+
+pub place_on_board : (p : Point) (s : Spot) → s ≡ place_of p → IsOnBoard p → IsPlace s
+place_on_board p s is board =
+    subst IsPlace (sym is) (record { x = twice_near p.x board.x; y = twice_near p.y board.y })
 
 -- ---- beyond a line, on either side
 

@@ -2,6 +2,7 @@
 
 ghost use Rattle.std.specs.Prelude.{◌≡◌, IfOk};
 
+use crate::copying::Copied;
 use cam_units::Items;
 use std::alloc::{AllocError, Global};
 
@@ -24,16 +25,8 @@ impl Attribute {
     }
 }
 
-/// The same attributes in memory of their own, in order.
-pub(crate) fn copies_of(
-    attributes: &[Attribute],
-    alloc: Global,
-) -> Result<Vec<Attribute>, AllocError>
-    ensures { IfOk result (λ copies. copies.items ≡ attributes.now) }
-{
-    let mut copies = Vec::with_capacity(alloc, attributes.len())?;
-    for attribute in attributes {
-        copies.push(attribute.try_clone(alloc)?)?;
+impl Copied for Attribute {
+    fn copied(&self, alloc: Global) -> Result<Attribute, AllocError> {
+        self.try_clone(alloc)
     }
-    Ok(copies)
 }

@@ -21,9 +21,12 @@ ghost use Rattle.std.specs.Prelude.{
   nat_eq,
   slice_get,
   take,
+  vec_capacity,
+  vec_len,
 };
 ghost use Rattle.std.specs.List.{IsDistinct};
 ghost use Rattle.std.specs.Map.{keys_of, lookup};
+ghost use Rattle.indexmap.specs.IndexMap.{spare};
 ghost use Rattle.cam_refusals.specs.Limits.{depth_limit, leaf_limit};
 ghost use Rattle.cam_objects.specs.Machinery.Boxes.{IsNearBox};
 ghost use Rattle.cam_objects.specs.Machinery.Facts.{facts_at};
@@ -82,6 +85,33 @@ fn keep_place(places: &mut Vec<usize>, number: u32, place: usize)
     if let Some(kept) = places.get_mut(at) {
         *kept = place;
     }
+}
+
+/// Makes room for one entry more and what is kept of it.
+fn make_room(
+    map: &mut IndexMap<u32, Entry>,
+    facts: &mut Vec<Facts>,
+    cells: &mut Vec<ItemCells>,
+) -> Result<(), AllocError>
+    ensures entries { map.new.entries ≡ map.old.entries }
+    ensures facts { facts.new.items ≡ facts.old.items }
+    ensures cells { cells.new.items ≡ cells.old.items }
+    ensures map_room { OnOk result (0 < spare map.new) }
+    ensures facts_room { OnOk result (vec_len facts.new < vec_capacity facts.new) }
+    ensures cells_room { OnOk result (vec_len cells.new < vec_capacity cells.new) }
+{
+    map.reserve(1)?;
+    facts.reserve(1)?;
+    cells.reserve(1)
+}
+
+/// Adds an entry of a new number behind the others, where there is room for it.
+fn insert_new(map: &mut IndexMap<u32, Entry>, number: u32, entry: Entry)
+    requires room { 0 < spare map.old }
+    requires absent { lookup (nat_eq number) map.old.entries ≡ None }
+    ensures { map.new.entries ≡ map.old.entries ++ (number, entry) ∷ [] }
+{
+    map.insert(number, entry).unwrap();
 }
 
 impl Dictionary {
@@ -256,15 +286,29 @@ impl Dictionary {
         ensures ok { OnOk result (self.new ≡ self.old ++ (number, entry) ∷ []) }
         ensures err { OnErr result (self.new ≡ self.old) }
     {
+        make_room(&mut self.map, &mut self.facts, &mut self.cells)?;
         let facts = Facts::of(self, &entry);
         let cells = entry_cells(self.alloc, self, &entry);
-        self.facts.reserve(1)?;
-        self.cells.reserve(1)?;
         let place = self.map.len();
-        self.map.insert(number, entry)?;
+        insert_new(&mut self.map, number, entry);
         self.facts.push_reserved(facts);
         self.cells.push_reserved(cells);
         keep_place(&mut self.places, number, place);
+        Ok(())
+    }
+
+    /// Adds copies of the entries of another one to none.
+    fn add_copies(&mut self, others: &Dictionary, alloc: Global) -> Result<(), AllocError>
+        requires { self.old ≡ [] }
+        ensures { OnOk result (self.new ≡ others.now) }
+    {
+        others.soundness();
+        for place in 0..others.len() {
+            match others.at(place) {
+                Some((number, entry)) => self.push(number, entry.try_clone(alloc)?)?,
+                None => return Ok(()),
+            }
+        }
         Ok(())
     }
 
@@ -272,14 +316,8 @@ impl Dictionary {
     pub fn try_clone(&self, alloc: Global) -> Result<Dictionary, AllocError>
         ensures { IfOk result (λ d. d ≡ self.now) }
     {
-        self.soundness();
         let mut copy = Dictionary::new(alloc);
-        for place in 0..self.len() {
-            match self.at(place) {
-                Some((number, entry)) => copy.push(number, entry.try_clone(alloc)?)?,
-                None => return Ok(copy),
-            }
-        }
+        copy.add_copies(self, alloc)?;
         Ok(copy)
     }
 }

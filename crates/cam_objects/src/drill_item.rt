@@ -3,6 +3,7 @@
 ghost use Rattle.std.specs.Prelude.{◌≡◌, IfOk};
 ghost use Rattle.cam_objects.specs.DrillSoundness.{drill_count_from, drill_count_of, tool_of};
 
+use crate::copying::Copied;
 use crate::points::Points;
 use cam_units::Point;
 use std::alloc::{AllocError, Global};
@@ -58,18 +59,10 @@ impl DrillItem {
     }
 }
 
-/// The same items in memory of their own, in order.
-pub(crate) fn copies_of_items(
-    items: &[DrillItem],
-    alloc: Global,
-) -> Result<Vec<DrillItem>, AllocError>
-    ensures { IfOk result (λ copies. copies.items ≡ items.now) }
-{
-    let mut copies = Vec::with_capacity(alloc, items.len())?;
-    for item in items {
-        copies.push(item.try_clone(alloc)?)?;
+impl Copied for DrillItem {
+    fn copied(&self, alloc: Global) -> Result<DrillItem, AllocError> {
+        self.try_clone(alloc)
     }
-    Ok(copies)
 }
 
 /// How many segments a rout of the points has, or one for the hole at its only point.

@@ -15,10 +15,11 @@ ghost use Rattle.cam_objects.specs.DrillSoundness.{
 ghost use Rattle.cam_objects.specs.Image.{IsBlack};
 ghost use Rattle.cam_objects.specs.Tests.{is_black};
 
+use crate::copying::copies_of;
 use crate::drill::checks::{
     check_drilling, fits_limits, fits_limits_beside, fits_tool, leaf_count,
 };
-use crate::drill_item::{DrillItem, copies_of_items};
+use crate::drill_item::DrillItem;
 use crate::image::Pixel;
 use crate::item_fault::ItemFault;
 use crate::tools::Tools;
@@ -148,8 +149,8 @@ impl DrillLayer {
         ensures items { IfOk result (λ copy. copy.items.items ≡ self.now.items.items) }
     {
         let alloc = *self.items.allocator();
+        let items = copies_of(&self.items, alloc)?;
         let tools = self.tools.try_clone()?;
-        let items = copies_of_items(&self.items, alloc)?;
         Ok(DrillLayer { tools, items })
     }
 }

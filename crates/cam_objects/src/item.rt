@@ -2,6 +2,7 @@
 
 ghost use Rattle.std.specs.Prelude.{◌≡◌, IfOk};
 
+use crate::copying::Copied;
 use crate::object::{Object, Objects};
 use std::alloc::{AllocError, Global};
 use std::mem::size_of;
@@ -56,13 +57,8 @@ impl Item {
     }
 }
 
-/// The same items in memory of their own, in order.
-pub(crate) fn copies_of_items(items: &[Item], alloc: Global) -> Result<Vec<Item>, AllocError>
-    ensures { IfOk result (λ copies. copies.items ≡ items.now) }
-{
-    let mut copies = Vec::with_capacity(alloc, items.len())?;
-    for item in items {
-        copies.push(item.try_clone(alloc)?)?;
+impl Copied for Item {
+    fn copied(&self, alloc: Global) -> Result<Item, AllocError> {
+        self.try_clone(alloc)
     }
-    Ok(copies)
 }

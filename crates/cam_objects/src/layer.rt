@@ -8,11 +8,12 @@ ghost use Rattle.cam_objects.specs.Leaves.{leaves_of};
 ghost use Rattle.cam_objects.specs.Soundness.{HasSoundItems, IsSoundItem, KeepsLimits, MayAddEntry};
 ghost use Rattle.cam_objects.specs.Tests.{is_black};
 
-use crate::attribute::{Attribute, copies_of};
+use crate::attribute::Attribute;
+use crate::copying::copies_of;
 use crate::dictionary::Dictionary;
 use crate::entry::Entry;
 use crate::image::Pixel;
-use crate::item::{Item, copies_of_items};
+use crate::item::Item;
 use cam_units::{Items, Spot};
 use std::alloc::{AllocError, Global};
 
@@ -124,8 +125,8 @@ impl Layer {
     {
         let alloc = *self.items.allocator();
         let attributes = copies_of(&self.attributes, alloc)?;
+        let items = copies_of(&self.items, alloc)?;
         let apertures = self.apertures.try_clone(alloc)?;
-        let items = copies_of_items(&self.items, alloc)?;
         Ok(Layer {
             attributes,
             apertures,

@@ -4,6 +4,7 @@ ghost use Rattle.std.specs.Prelude.{◌≡◌, All, IfOk, map};
 ghost use Rattle.cam_shapes.specs.Shifting.{IsShiftable};
 ghost use Rattle.cam_objects.specs.Shifting.{IsShiftableObject, shifted_object};
 
+use crate::copying::{Copied, copies_of};
 use cam_shapes::Contour;
 use cam_units::{Point, Turn};
 use std::alloc::{AllocError, Global};
@@ -102,6 +103,12 @@ impl Object {
     }
 }
 
+impl Copied for Object {
+    fn copied(&self, alloc: Global) -> Result<Object, AllocError> {
+        self.try_clone(alloc)
+    }
+}
+
 /// The objects of a block or of a repeat, in order.
 #[derive(Debug, Drop)]
 pub struct Objects {
@@ -144,10 +151,7 @@ impl Objects {
     pub fn try_clone(&self, alloc: Global) -> Result<Objects, AllocError>
         ensures { IfOk result (λ o. o ≡ self.now) }
     {
-        let mut objects = Vec::with_capacity(alloc, self.objects.len())?;
-        for object in self.objects.as_slice() {
-            objects.push(object.try_clone(alloc)?)?;
-        }
+        let objects = copies_of(self.as_slice(), alloc)?;
         Ok(Objects { objects })
     }
 

@@ -8,7 +8,7 @@ use cam_apertures::{Aperture, turned_height, turned_width};
 use cam_units::{Nm, Turn};
 
 /// What strokes are drawn with; sizes are in nm.
-#[derive(Clone, Copy, Debug)]
+#[derive(Clone, Copy)]
 pub(crate) enum Tip {
     /// A round tool, as a solid circle is one.
     Round(Nm),

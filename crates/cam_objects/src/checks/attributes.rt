@@ -1,7 +1,7 @@
 //! The checks of file attributes: whether one may be set.
 
-ghost use Rattle.std.specs.Prelude.{◌≡◌, ◌↔◌, IsTrue};
-ghost use Rattle.cam_objects.specs.Attributes.{IsAttribute, MaySet, attribute_of, is_attribute_byte};
+ghost use Rattle.std.specs.Prelude.{◌≡◌, ◌≢◌, ◌↔◌, All, IsTrue};
+ghost use Rattle.cam_objects.specs.Attributes.{AreFields, IsAttribute, MaySet, attribute_of, comma, is_attribute_byte};
 
 use crate::layer::Layer;
 use cam_refusals::limits::ATTRIBUTE_LIMIT;
@@ -27,15 +27,29 @@ impl Layer {
 pub fn is_attribute(name: &[u8], fields: &[u8]) -> bool
     ensures { IsTrue result ↔ IsAttribute (attribute_of name.now fields.now) }
 {
-    if !name
-        .iter()
+    is_name(name) && is_text(fields) && are_apart(fields)
+}
+
+/// Whether these characters may be the name of a file attribute.
+fn is_name(name: &[u8]) -> bool
+    ensures { IsTrue result
+        ↔ (All (λ byte. IsTrue (is_attribute_byte byte)) name.now × All (λ byte. byte ≢ comma) name.now) }
+{
+    name.iter()
         .all(|byte| is_attribute_byte(*byte) && *byte != b',')
-    {
-        return false;
-    }
-    if !fields.iter().all(|byte| is_attribute_byte(*byte)) {
-        return false;
-    }
+}
+
+/// Whether a file attribute may have these characters.
+fn is_text(text: &[u8]) -> bool
+    ensures { IsTrue result ↔ All (λ byte. IsTrue (is_attribute_byte byte)) text.now }
+{
+    text.iter().all(|byte| is_attribute_byte(*byte))
+}
+
+/// Whether fields begin with a comma or are empty.
+fn are_apart(fields: &[u8]) -> bool
+    ensures { IsTrue result ↔ AreFields fields.now }
+{
     match fields {
         [] => true,
         [first, ..] => *first == b',',

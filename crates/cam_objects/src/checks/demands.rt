@@ -15,7 +15,7 @@ use cam_units::Point;
 pub(crate) fn are_formed(objects: &[Object]) -> bool
     ensures { result ≡ list_all is_formed objects.now }
 {
-    objects.iter().all(|object| is_formed(object))
+    objects.iter().all(is_formed)
 }
 
 fn is_formed(object: &Object) -> bool
@@ -86,7 +86,7 @@ fn tip(entries: &Dictionary, number: u32) -> Option<Tip>
 pub(crate) fn have_radii(objects: &[Object]) -> bool
     ensures { result ≡ list_all has_radius objects.now }
 {
-    objects.iter().all(|object| has_radius(object))
+    objects.iter().all(has_radius)
 }
 
 fn has_radius(object: &Object) -> bool

@@ -41,7 +41,7 @@ fn stands_on_board(object: &Object) -> bool
 fn stand_on_board(objects: &[Object]) -> bool
     ensures { IsTrue result ↔ All StandsOnBoard objects.now }
 {
-    objects.iter().all(|object| stands_on_board(object))
+    objects.iter().all(stands_on_board)
 }
 
 /// Whether the points of a contour lie on the board.

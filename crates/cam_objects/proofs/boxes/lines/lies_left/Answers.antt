@@ -3,8 +3,11 @@ use Rattle.std.specs.Int.RustNames.{unsigned_abs}
 use Rattle.std.proofs.lemmas.Int.{ints}
 use Rattle.cam_shapes.proofs.Widths.{passed_less}
 use Rattle.cam_objects.specs.Machinery.Lines.{crossed}
-use Rattle.cam_objects.proofs.BesideLines.{left_of}
+use Rattle.cam_objects.proofs.BesideLines.{left_of, place_on_board}
 use Rattle.cam_objects.proofs.boxes.lines.lies_left.Goals as goal
+
+pub relative-way-requires-clause-spot : goal.relative-way-requires-clause-spot
+relative-way-requires-clause-spot c = place_on_board c.args.to c.place.result c.place.ensures c.requires.to
 
 pub returns : goal.returns
 returns c = λ less s inside.

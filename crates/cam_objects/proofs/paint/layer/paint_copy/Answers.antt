@@ -1,6 +1,10 @@
-use Rattle.std.proofs.Common.{ap, reverse, sym, ◌∙◌}
+use Rattle.std.proofs.Common.{ℕ, List, ap, reverse, sym, subst, ◌∙◌, arith}
+use Rattle.std.proofs.lemmas.List.{take_all}
+use Rattle.std.specs.Option.{IfSome}
 use Rattle.cam_objects.specs.Bounds.{box_of_shape, moved}
 use Rattle.cam_objects.specs.Leaves.{block_leaves, meaning_in, shifted}
+use Rattle.cam_objects.specs.Machinery.ObjectCells.{AreObjectCells}
+use Rattle.cam_objects.specs.declared.entry.Entry.{Entry}
 use Rattle.cam_objects.proofs.Canvases.{paints_boxed}
 use Rattle.cam_objects.proofs.CopyBoxes.{copy_box}
 use Rattle.cam_objects.proofs.Painting.{paintable_whole}
@@ -16,6 +20,15 @@ returns-then-is_done_in g c =
     paints_boxed canvas.has canvas.place canvas.ink a.canvas.now
     (block_leaves (meaning_in a.entries.now) (shifted a.by.x a.by.y) a.objects.now) c.moved.result box
     (c.is_done_in.ensures.0 c.if-is_done_in.true)
+
+pub moved-requires-clause-by : goal.moved-requires-clause-by
+moved-requires-clause-by g c = record { x = omega (arith, c.requires.across); y = omega (arith, c.requires.up) }
+
+pub paint_block-requires-clause-cells : goal.paint_block-requires-clause-cells
+paint_block-requires-clause-cells g c =
+    let a = c.args in
+    subst (λ (es : List (ℕ × Entry)). IfSome a.cells (λ kept. AreObjectCells es a.objects.now kept.now))
+    (sym (take_all c.len.result a.entries.now (omega (arith, c.len.ensures.value)))) c.requires.cells
 
 pub paint_block-requires-clause-ready : goal.paint_block-requires-clause-ready
 paint_block-requires-clause-ready g c =
