@@ -59,6 +59,10 @@ module _ {A : Type 0} (name : List ℕ) where
   pub new_key : (keys : List (Vec ℕ A)) (xs : List Attribute) → AreNamesOf xs keys → place_of name xs ≡ None → list_any is_key keys ≡ false
   new_key keys xs h none = absent keys xs h (lacks name xs none)
 
+-- at the place of a name stands the attribute that has it
+pub named_at : (name : List ℕ) (xs : List Attribute) (k : ℕ) (a : Attribute) → place_of name xs ≡ Some k → (get_or xs k a).name ≡ name
+named_at name xs k a e = (bytes_eq-Decides (get_or xs k a).name name).0 (position-Some (has_name name) xs k a e).1
+
 same_names : (a : Attribute) (xs : List Attribute) (k : ℕ) → k < length xs → (get_or xs k a).name ≡ a.name
     → names_of (set xs k a) ≡ names_of xs
 same_names a [] k low e = absurd (omega arith)
@@ -67,9 +71,7 @@ same_names a (x ∷ xs) (suc k) low e = ap (λ ns. x.name ∷ ns) (same_names a 
 
 -- an attribute in the place of the one that has its name
 pub kept_names : (a : Attribute) (xs : List Attribute) (k : ℕ) → place_of a.name xs ≡ Some k → names_of (set xs k a) ≡ names_of xs
-kept_names a xs k e =
-    let at = position-Some (has_name a.name) xs k a e in
-    same_names a xs k at.0 ((bytes_eq-Decides (get_or xs k a).name a.name).0 at.1)
+kept_names a xs k e = same_names a xs k (position-Some (has_name a.name) xs k a e).0 (named_at a.name xs k a e)
 
 -- one more of another name
 pub grown : {A : Type 0} (xs ys : List Attribute) (keys more : List (Vec ℕ A)) (a : Attribute) (key : Vec ℕ A) → AreNamesOf xs keys

@@ -11,10 +11,9 @@ use Rattle.cam_words.specs.Reading.{Answer, reading}
 use Rattle.cam_words.specs.declared.word.TextFault.{TextFault}
 use Rattle.cam_objects.specs.declared.entry.Entry.{Entry}
 use Rattle.cam_objects.specs.declared.item.Item.{Item}
-use Rattle.cam_objects.specs.declared.layer.Layer.{Layer}
 use Rattle.cam_commands.specs.Commands.{Command, DefineMacro}
 use Rattle.cam_commands.specs.Syntax.{command_of, place_of}
-use Rattle.cam_objects.specs.Contents.{Content, content_of}
+use Rattle.cam_objects.specs.Contents.{Content}
 use Rattle.cam_gerber.specs.declared.running.Running.{Running}
 use Rattle.cam_gerber.specs.Statements.{Statement}
 use Rattle.cam_gerber.specs.State.{Past}
@@ -89,11 +88,10 @@ module _ (bytes : List ℕ) (running : Running) (rest : List Answer) (l : LeadsO
           subst (λ s. (least number_of (faults l.past s) ≡ None) × Tracks (s ∷ l.past) new)
           (same_said (command_of word) said.0 said.1) (said.2, said.3)
 
-      pub ended : (layer : Layer) → is_end_command (command_of word) ≡ true → content_of layer ≡ content_in new
-          → Means bytes (Ok (content_of layer))
-      ended layer ends is = means (Ok word ∷ after) _ e
+      pub ended : is_end_command (command_of word) ≡ true → Means bytes (Ok (content_in new))
+      ended ends = means (Ok word ∷ after) _ e
           (reading.ends (length bytes) l.past (told_of (Ok word)) (map told_of after) obeyed.0 (end_same (command_of word) ∙ ends)
-          ∙ ap Ok (sym (is ∙ content_is (says ∷ l.past) new obeyed.1)))
+          ∙ ap Ok (sym (content_is (says ∷ l.past) new obeyed.1)))
 
       pub goes_on : is_end_command (command_of word) ≡ false → LeadsOn bytes new after
       goes_on goes = record {

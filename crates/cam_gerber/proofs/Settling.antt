@@ -1,7 +1,8 @@
 -- Another repeat is opened.
-use Rattle.std.proofs.Common.{◌≡◌, ℕ, List, [], ◌∷◌, length, min, Bool, true, false, Some, None, Global}
+use Rattle.std.proofs.Common.{◌≡◌, ℕ, List, [], ◌∷◌, length, min, Bool, true, false, Option, Some, None, Global}
 use Rattle.std.proofs.Common.{refl, sym, ap, ap₂, subst, ◌∙◌, arith}
 use Rattle.std.specs.Prelude.{ℤ, map, ◌||◌, ◌&&◌, not}
+use Rattle.std.specs.Option.{option_map}
 use Rattle.std.specs.declared.collections.VecDeque.{VecDeque}
 use Rattle.cam_refusals.specs.Checks.{first}
 use Rattle.cam_objects.specs.declared.object.Object.{Object}
@@ -16,7 +17,7 @@ use Rattle.cam_gerber.specs.declared.frames.OpenRepeat.{OpenRepeat}
 use Rattle.cam_gerber.specs.declared.running.Running.{Running}
 use Rattle.cam_gerber.specs.Statements.{Says}
 use Rattle.cam_gerber.specs.State.{Past, in_region, unit_in, unit_or_mm}
-use Rattle.cam_gerber.specs.Homes.{count_of, is_repeated, open_blocks, opened, step_of}
+use Rattle.cam_gerber.specs.Homes.{count_of, is_repeated, open_blocks, open_repeat, opened, step_of}
 use Rattle.cam_gerber.specs.Faults.{closing_faults, command_faults, has_short_steps, is_empty, is_malformed, is_short}
 use Rattle.cam_gerber.specs.Machinery.Tracking.{IsSettled, Tracks, TracksModal, TracksRegion, block_of, repeat_of}
 use Rattle.cam_gerber.specs.Machinery.Closing.{opened_by, step_by}
@@ -76,6 +77,47 @@ opened_same past unit repeat e =
     })
     (sym none.objects) (sym none.leaves)
 
+-- what is open behind the close of the one before
+set_tracks : (past : Past) (old new : Running) (repeat : Repeat) (opens : Option OpenRepeat) → Tracks past old → IsSettled past old new
+    → opens ≡ option_map (repeat_of (Says (SetRepeat repeat) ∷ past)) (open_repeat (Says (SetRepeat repeat) ∷ past))
+    → Tracks (Says (SetRepeat repeat) ∷ past) (record new { frames = record new.frames { repeat = opens } })
+set_tracks past old new repeat opens t settled is =
+    let now : Past = Says (SetRepeat repeat) ∷ past in
+    record {
+      modal = subst (TracksModal now) (sym settled.modal) (record {
+        format = t.modal.format;
+        unit = t.modal.unit;
+        dark = t.modal.dark;
+        mirror = t.modal.mirror;
+        rotation = t.modal.rotation;
+        aperture = t.modal.aperture;
+        mode = t.modal.mode;
+        arcs = t.modal.arcs;
+        code = t.modal.code;
+        point = t.modal.point;
+      });
+      region = subst (TracksRegion now) (sym settled.region)
+          (record { inside = t.region.inside; start = t.region.start; segs = t.region.segs });
+      frames = record {
+        blocks = ap (λ (blocks : VecDeque OpenBlock Global). blocks.items) settled.blocks ∙ t.frames.blocks;
+        repeat = is;
+      };
+      built = record {
+        entries = settled.entries ∙ t.built.entries;
+        items = settled.items;
+        macros = settled.macros ∙ t.built.macros;
+        leaves = settled.leaves;
+      };
+      attributes = settled.attributes ∙ t.attributes;
+    }
+
+pub set_one : (past : Past) (old new : Running) (unit : FileUnit) (repeat : Repeat) → Tracks past old → IsSettable old unit repeat
+    → (is_short (step_by unit repeat.i) && is_short (step_by unit repeat.j)) ≡ true → is_repeated repeat ≡ false
+    → (first (closing_faults past true) ≡ None) × IsSettled past old new
+    → (first (command_faults past (SetRepeat repeat)) ≡ None) × Tracks (Says (SetRepeat repeat) ∷ past) new
+set_one past old new unit repeat t s short one (none, settled) =
+    (opening_checks past old unit repeat true t s short ∙ none, set_tracks past old new repeat new.frames.repeat t settled (settled.repeat ∙ rw one refl))
+
 pub set_many : (past : Past) (old new : Running) (unit : FileUnit) (repeat : Repeat) (opens : OpenRepeat) → Tracks past old
     → IsSettable old unit repeat
     → (is_short (step_by unit repeat.i) && is_short (step_by unit repeat.j)) ≡ true → is_repeated repeat ≡ true
@@ -83,34 +125,8 @@ pub set_many : (past : Past) (old new : Running) (unit : FileUnit) (repeat : Rep
     → (first (closing_faults past true) ≡ None) × IsSettled past old new
     → (first (command_faults past (SetRepeat repeat)) ≡ None)
     × Tracks (Says (SetRepeat repeat) ∷ past) (record new { frames = record new.frames { repeat = Some opens } })
-set_many past old new unit repeat opens t s short many made (none, settled) =
-    let now : Past = Says (SetRepeat repeat) ∷ past in (
-      opening_checks past old unit repeat true t s short ∙ none,
-      record {
-        modal = subst (TracksModal now) (sym settled.modal) (record {
-          format = t.modal.format;
-          unit = t.modal.unit;
-          dark = t.modal.dark;
-          mirror = t.modal.mirror;
-          rotation = t.modal.rotation;
-          aperture = t.modal.aperture;
-          mode = t.modal.mode;
-          arcs = t.modal.arcs;
-          code = t.modal.code;
-          point = t.modal.point;
-        });
-        region = subst (TracksRegion now) (sym settled.region)
-            (record { inside = t.region.inside; start = t.region.start; segs = t.region.segs });
-        frames = record {
-          blocks = ap (λ (blocks : VecDeque OpenBlock Global). blocks.items) settled.blocks ∙ t.frames.blocks;
-          repeat = ap Some (made ∙ opened_same past unit repeat (sym t.modal.unit ∙ s.known)) ∙ rw many refl;
-        };
-        built = record {
-          entries = settled.entries ∙ t.built.entries;
-          items = settled.items;
-          macros = settled.macros ∙ t.built.macros;
-          leaves = settled.leaves;
-        };
-        attributes = settled.attributes ∙ t.attributes;
-      },
-    )
+set_many past old new unit repeat opens t s short many made (none, settled) = (
+  opening_checks past old unit repeat true t s short ∙ none,
+  set_tracks past old new repeat (Some opens) t settled
+      (ap Some (made ∙ opened_same past unit repeat (sym t.modal.unit ∙ s.known)) ∙ rw many refl),
+)

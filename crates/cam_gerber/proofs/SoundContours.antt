@@ -1,6 +1,6 @@
 -- Contours of regions that operations without a fault make are sound, and end at the current point.
 use Rattle.std.proofs.Common.{◌≡◌, ◌<◌, ◌≤◌, List, [], ◌∷◌, ◌++◌, length, Bool, true, false, cond, refl, sym, ap}
-use Rattle.std.proofs.Common.{◌∙◌, subst, arith, lit≤, length-append}
+use Rattle.std.proofs.Common.{subst, arith, lit≤, length-append}
 use Rattle.std.specs.Prelude.{◌&&◌, not}
 use Rattle.std.specs.List.{All, flat_map}
 use Rattle.std.proofs.lemmas.Bool.{and_parts, or_parts}

@@ -1,6 +1,6 @@
 //! The file attributes so far.
 
-ghost use Rattle.std.specs.Prelude.{◌≡◌, ℕ, List, ◌++◌, ◌∷◌, [], None, OnOk, length, nat_lt};
+ghost use Rattle.std.specs.Prelude.{◌≡◌, ℕ, List, ◌++◌, ◌∷◌, [], None, OnErr, OnOk, length, nat_lt};
 ghost use Rattle.cam_objects.specs.Attributes.{attribute_of, place_of, with_attribute};
 ghost use Rattle.cam_refusals.specs.Limits.{attribute_limit};
 ghost use Rattle.cam_commands.specs.Commands as command;
@@ -79,31 +79,26 @@ impl Attributes {
     pub fn set(&mut self, alloc: Global, name: &[u8], fields: &[u8]) -> Result<(), AllocError>
         ensures { OnOk result (self.new ≡ with_attribute (attribute_of name.now fields.now) self.old) }
     {
-        let attribute = Attribute {
-            name: Items::from_vec(Vec::from_slice(alloc, name)?),
-            fields: Items::from_vec(Vec::from_slice(alloc, fields)?),
-        };
         match self.place(name) {
             Some(place) => {
-                self.list[place] = attribute;
+                self.list[place].fields = Items::from_vec(Vec::from_slice(alloc, fields)?);
                 Ok(())
             }
-            None => self.push(alloc, attribute),
+            None => self.push(alloc, name, fields),
         }
     }
 
     /// Adds an attribute of another name behind the others.
-    fn push(&mut self, alloc: Global, attribute: Attribute) -> Result<(), AllocError>
-        requires { place_of attribute.name self.old ≡ None }
-        ensures { OnOk result (self.new ≡ self.old ++ attribute ∷ []) }
+    fn push(&mut self, alloc: Global, name: &[u8], fields: &[u8]) -> Result<(), AllocError>
+        requires { place_of name.now self.old ≡ None }
+        ensures { OnOk result (self.new ≡ self.old ++ attribute_of name.now fields.now ∷ []) }
     {
-        let name = attribute.name.try_clone(alloc)?.into_vec();
-        self.list.push(attribute)?;
-        match self.names.insert(name) {
-            Ok(_) => Ok(()),
-            Err(_) => {
-                self.list.pop();
-                Err(AllocError)
+        self.names.insert(Vec::from_slice(alloc, name)?)?;
+        match add(alloc, name, fields, &mut self.list) {
+            Ok(()) => Ok(()),
+            Err(error) => {
+                self.names.truncate(self.list.len());
+                Err(error)
             }
         }
     }
@@ -115,6 +110,22 @@ impl Attributes {
         let Attributes { list, .. } = self;
         list
     }
+}
+
+/// Adds an attribute to the list, or leaves the list as it is.
+fn add(
+    alloc: Global,
+    name: &[u8],
+    fields: &[u8],
+    list: &mut Vec<Attribute>,
+) -> Result<(), AllocError>
+    ensures ok { OnOk result (list.new.items ≡ list.old.items ++ attribute_of name.now fields.now ∷ []) }
+    ensures err { OnErr result (list.new.items ≡ list.old.items) }
+{
+    let name = Items::from_vec(Vec::from_slice(alloc, name)?);
+    let fields = Items::from_vec(Vec::from_slice(alloc, fields)?);
+    list.push(Attribute { name, fields })?;
+    Ok(())
 }
 
 /// The name of a file attribute, and its fields, of what stands behind `TF`.

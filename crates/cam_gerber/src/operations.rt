@@ -41,10 +41,10 @@ impl Running {
             Ok(seg) => seg,
             Err(code) => return Err(Stop::Fault(code)),
         };
-        let object = self.modal.stroke(aperture, seg);
         if self.is_full(Weight::ONE) {
             return Err(Stop::Fault(Refusal::TooMuch));
         }
+        let object = self.modal.stroke(aperture, seg);
         self.keep(object, 1)?;
         self.modal.operated(operation, end_of(seg));
         Ok(())
@@ -99,6 +99,9 @@ impl Running {
         if self.region.segs.is_empty() {
             return Ok(());
         }
+        if self.is_full(Weight::ONE) {
+            return Err(Stop::Fault(Refusal::TooMuch));
+        }
         let segs = mem::replace(&mut self.region.segs, Vec::new(self.alloc));
         let contour = Contour {
             start: self.region.start,
@@ -108,9 +111,6 @@ impl Running {
             contour,
             dark: self.modal.dark,
         };
-        if self.is_full(Weight::ONE) {
-            return Err(Stop::Fault(Refusal::TooMuch));
-        }
         self.keep(object, 1)?;
         Ok(())
     }

@@ -5,6 +5,7 @@ use Rattle.std.specs.Option.{option_map}
 use Rattle.std.specs.Result.{result_err}
 use Rattle.cam_refusals.specs.declared.refusal.Refusal.{Refusal}
 use Rattle.cam_refusals.specs.declared.refusal.Refusal.TheVariants.{TooMuch}
+use Rattle.cam_refusals.specs.declared.read_fault.ReadFault.{ReadFault}
 use Rattle.cam_refusals.specs.declared.stop.Stop.{Stop}
 use Rattle.cam_refusals.specs.declared.stop.Stop.TheVariants.{Memory, Fault}
 use Rattle.cam_refusals.specs.Checks.{Checks, first, least}
@@ -43,6 +44,7 @@ use Rattle.cam_gerber.specs.Making.{start_in, segments_in, region_in, made, obje
 use Rattle.cam_gerber.specs.Layers.{macros_in, entries_in, items_in, closed_repeat, closed_leaves, leaves_of, leaves_in}
 use Rattle.cam_gerber.specs.Faults.{command_faults, faults, closing_faults, operated_faults, path_faults, is_arc}
 use Rattle.cam_gerber.specs.Faults.{is_on_board, is_full, holds_of_one}
+use Rattle.cam_gerber.specs.Reading.{IsReading, Means}
 use Rattle.cam_gerber.specs.Laws.{IsFaultless}
 use Rattle.cam_gerber.specs.Machinery.OpenNumbers.{AreWithin}
 
@@ -231,6 +233,11 @@ Obeys command old (Err Memory) new = Unit {0}
 Obeys command old (Err (Fault refusal)) new =
     (past : Past) → IsFaultless past → Tracks past old → (says : Statement) × IsSaidBy command says
     × (least number_of (faults past says) ≡ Some refusal)
+
+-- the commands of a file were obeyed up to its first M02, or what is told is its first fault, but where memory was refused
+abbrev pub Reads : List ℕ → Result (Unit {0}) ReadFault → Running → Type 0
+Reads bytes (Ok done) new = Means bytes (Ok (content_in new))
+Reads bytes (Err fault) new = IsReading bytes (Err fault)
 
 -- the repeat is closed
 pub record IsSettled (past : Past) (old new : Running) : Type 0 where

@@ -1,69 +1,9 @@
-use Rattle.std.proofs.Common.{◌∷◌, sym, ap, subst, ◌∙◌, inl}
-use Rattle.std.specs.Prelude.{Ok, Err}
-use Rattle.cam_refusals.specs.declared.stop.Stop.TheVariants.{Fault}
-use Rattle.cam_words.specs.Reading.{answer_of}
-use Rattle.cam_commands.specs.Syntax.{command_of}
-use Rattle.cam_commands.specs.Borrowed.{found, shown}
-use Rattle.cam_gerber.specs.Reading.{IsReading, is_end_command}
-use Rattle.cam_gerber.specs.Machinery.Tracking.{HasFewDecimals, Obeys}
-use Rattle.cam_gerber.proofs.OpenNumbers.{short_format}
+use Rattle.std.proofs.Common.{Ok, inl, subst, sym}
+use Rattle.cam_gerber.specs.Reading.{Means}
 use Rattle.cam_gerber.proofs.SoundReadings.{reading_is_sound}
-use Rattle.cam_gerber.proofs.Leading.{ended, goes_on, refused, starts, uncut, unended}
 use Rattle.cam_gerber.proofs.reader.read_gerber.Goals as goal
 
-pub loop-answer-init : goal.loop-answer-init
-loop-answer-init c = starts c.args.bytes.now c.new-running.result c.new-words.result c.new-running.ensures c.new-words.ensures.reading
-
-pub returns-in-Err-clause-reads : goal.returns-in-Err-clause-reads
-returns-in-Err-clause-reads c =
-    uncut c.args.bytes.now c.loop-answer.running c.loop-answer.words c.loop-answer.invariant c.next.new.self c.in-Err.fault
-    (c.in-Some.ensures.some ∙ ap (λ answer. answer_of answer ∷ c.next.new.self) c.in-Err.is)
-
-pub obey-requires-clause-short : goal.obey-requires-clause-short
-obey-requires-clause-short c = subst HasFewDecimals (sym c.command_of-command.ensures) (short_format (found c.in-Ok.word))
-
-pub obey-requires-clause-past : goal.obey-requires-clause-past
-obey-requires-clause-past c =
-    (c.loop-answer.invariant.past, c.loop-answer.invariant.none, c.loop-answer.invariant.tracks, c.loop-answer.invariant.opens)
-
-pub returns-in-Err-Fault-clause-reads : goal.returns-in-Err-Fault-clause-reads
-returns-in-Err-Fault-clause-reads c =
-    let told : Obeys (command_of (found c.in-Ok.word)) c.loop-answer.running (Err (Fault c.in-Err-Fault.code)) c.obey.new.self =
-    subst (λ k. Obeys k c.loop-answer.running (Err (Fault c.in-Err-Fault.code)) c.obey.new.self) c.command_of-command.ensures
-    (subst (λ stop. Obeys (shown c.command_of-command.result) c.loop-answer.running (Err stop) c.obey.new.self) c.in-Err-Fault.field-0-is
-    (subst (λ result. Obeys (shown c.command_of-command.result) c.loop-answer.running result c.obey.new.self) c.in-Err-Fault.is
-    c.obey.ensures)) in
-    rw c.in-Err-Fault.code-is
-    (subst (λ at. IsReading c.args.bytes.now (Err (record { code = c.in-Err-Fault.code; at = at }))) (sym c.place_of.ensures)
-    (refused c.args.bytes.now c.loop-answer.running c.loop-answer.words c.loop-answer.invariant c.obey.new.self c.next.new.self
-    (found c.in-Ok.word) (c.in-Some.ensures.some ∙ ap (λ answer. answer_of answer ∷ c.next.new.self) c.in-Ok.is)
-    c.in-Err-Fault.code told))
-
-pub returns-then-ends-clause-reads : goal.returns-then-ends-clause-reads
-returns-then-ends-clause-reads c = inl (
-    ended c.args.bytes.now c.loop-answer.running c.loop-answer.words c.loop-answer.invariant c.obey.new.self c.next.new.self
-    (found c.in-Ok.word) (c.in-Some.ensures.some ∙ ap (λ answer. answer_of answer ∷ c.next.new.self) c.in-Ok.is)
-    (subst (λ k. Obeys k c.loop-answer.running (Ok tt) c.obey.new.self) c.command_of-command.ensures c.in-Ok-obey.ensures)
-    c.into_layer.result
-    (ap is_end_command (sym c.command_of-command.ensures) ∙ sym c.is_end-ends.ensures ∙ c.if-ends.true) c.into_layer.ensures
-    )
-
-pub returns-then-ends-clause-sound : goal.returns-then-ends-clause-sound
-returns-then-ends-clause-sound c = reading_is_sound c.args.bytes.now c.into_layer.result (
-    ended c.args.bytes.now c.loop-answer.running c.loop-answer.words c.loop-answer.invariant c.obey.new.self c.next.new.self
-    (found c.in-Ok.word) (c.in-Some.ensures.some ∙ ap (λ answer. answer_of answer ∷ c.next.new.self) c.in-Ok.is)
-    (subst (λ k. Obeys k c.loop-answer.running (Ok tt) c.obey.new.self) c.command_of-command.ensures c.in-Ok-obey.ensures)
-    c.into_layer.result
-    (ap is_end_command (sym c.command_of-command.ensures) ∙ sym c.is_end-ends.ensures ∙ c.if-ends.true) c.into_layer.ensures
-    )
-
-pub loop-answer-preserved : goal.loop-answer-preserved
-loop-answer-preserved c =
-    goes_on c.args.bytes.now c.loop-answer.running c.loop-answer.words c.loop-answer.invariant c.obey.new.self c.next.new.self
-    (found c.in-Ok.word) (c.in-Some.ensures.some ∙ ap (λ answer. answer_of answer ∷ c.next.new.self) c.in-Ok.is)
-    (subst (λ k. Obeys k c.loop-answer.running (Ok tt) c.obey.new.self) c.command_of-command.ensures c.in-Ok-obey.ensures)
-    (ap is_end_command (sym c.command_of-command.ensures) ∙ sym c.is_end-ends.ensures ∙ c.if-ends.false)
-
-pub returns-clause-reads : goal.returns-clause-reads
-returns-clause-reads c =
-    unended c.args.bytes.now c.loop-answer.running c.loop-answer.words c.loop-answer.invariant c.in_default.ensures.none.0
+pub returns : goal.returns
+returns c =
+    let means = subst (λ content. Means c.args.bytes.now (Ok content)) (sym c.into_layer-layer.ensures) c.in_ok-read.ensures in
+    record { reads = inl means; sound = reading_is_sound c.args.bytes.now c.into_layer-layer.result means }

@@ -1,34 +1,34 @@
-use Rattle.std.proofs.Common.{◌≡◌, [], ◌∷◌, ◌++◌, List, Some, OnOk, ap, ap₂, sym, subst, ◌∙◌}
+use Rattle.std.proofs.Common.{◌≡◌, List, Some, OnOk, ap, ap₂, sym, subst, ◌∙◌}
 use Rattle.cam_objects.specs.declared.attribute.Attribute.{Attribute}
 use Rattle.cam_objects.specs.Attributes.{attribute_of, place_of, with_attribute}
 use Rattle.cam_objects.proofs.EditedAttributes.{added_last, kept_place}
-use Rattle.cam_gerber.proofs.KeptAttributes.{kept_names}
+use Rattle.cam_gerber.proofs.KeptAttributes.{kept_names, named_at}
 use Rattle.cam_gerber.proofs.attributes.Attributes.set.Goals as goal
+
+at : (c : goal.After-drop-index_mut) → place_of c.args.name.now c.self.inside.list.items ≡ Some c.in-Some.place
+at c = ap (place_of c.args.name.now) c.self.view_is ∙ sym c.place.ensures ∙ c.in-Some.is
+
+named : (c : goal.After-drop-index_mut) → c.index_mut.result.now.name ≡ c.args.name.now
+named c =
+    ap (λ (a : Attribute). a.name) c.index_mut.ensures.value
+    ∙ named_at c.args.name.now c.self.inside.list.items c.in-Some.place _ (at c)
 
 pub invariant_of-self : goal.invariant_of-self
 invariant_of-self c =
-    let name : c.from_vec.result ≡ c.args.name.now = c.from_vec.ensures ∙ c.in_ok-from_slice.ensures.items in
     let list = c.self.inside.list.items in
-    let at : place_of c.from_vec.result list ≡ Some c.in-Some.place =
-    ap₂ place_of name c.self.view_is ∙ sym c.place.ensures ∙ c.in-Some.is in
-    c.self.invariant ∙ sym (kept_names (attribute_of c.from_vec.result c.from_vec-2.result) list c.in-Some.place at)
+    c.self.invariant
+    ∙ sym (kept_names (attribute_of c.index_mut.result.now.name c.from_vec.result) list c.in-Some.place
+    (ap (λ name. place_of name list) (named c) ∙ at c))
 
-pub returns-in-Some : goal.returns-in-Some
-returns-in-Some c =
-    let name : c.from_vec.result ≡ c.args.name.now = c.from_vec.ensures ∙ c.in_ok-from_slice.ensures.items in
-    let fields : c.from_vec-2.result ≡ c.args.fields.now = c.from_vec-2.ensures ∙ c.in_ok-from_slice-2.ensures.items in
+pub returns-in_ok-from_slice-in-Some : goal.returns-in_ok-from_slice-in-Some
+returns-in_ok-from_slice-in-Some c =
     let list = c.self.inside.list.items in
-    let at : place_of c.from_vec.result list ≡ Some c.in-Some.place =
-    ap₂ place_of name c.self.view_is ∙ sym c.place.ensures ∙ c.in-Some.is in
-    sym (kept_place (attribute_of c.from_vec.result c.from_vec-2.result) list c.in-Some.place at)
-    ∙ ap₂ with_attribute (ap₂ attribute_of name fields) c.self.view_is
+    sym (kept_place (attribute_of c.index_mut.result.now.name c.from_vec.result) list c.in-Some.place
+    (ap (λ name. place_of name list) (named c) ∙ at c))
+    ∙ ap₂ with_attribute (ap₂ attribute_of (named c) (c.from_vec.ensures ∙ c.in_ok-from_slice-in-Some.ensures.items)) c.self.view_is
 
 pub returns-in-None : goal.returns-in-None
 returns-in-None c =
-    let name : c.from_vec.result ≡ c.args.name.now = c.from_vec.ensures ∙ c.in_ok-from_slice.ensures.items in
-    let fields : c.from_vec-2.result ≡ c.args.fields.now = c.from_vec-2.ensures ∙ c.in_ok-from_slice-2.ensures.items in
-    let old = c.args.self.now in
-    subst (λ (l : List Attribute). OnOk c.push.result (c.push.new.self ≡ l))
-    (ap (λ (a : Attribute). old ++ a ∷ []) (ap₂ attribute_of name fields)
-    ∙ sym (added_last (attribute_of c.args.name.now c.args.fields.now) old (sym c.place.ensures ∙ c.in-None.is)))
+    subst (λ (list : List Attribute). OnOk c.push.result (c.push.new.self ≡ list))
+    (sym (added_last (attribute_of c.args.name.now c.args.fields.now) c.args.self.now (sym c.place.ensures ∙ c.in-None.is)))
     c.push.ensures

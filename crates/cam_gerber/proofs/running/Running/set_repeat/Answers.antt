@@ -1,6 +1,6 @@
 use Rattle.std.proofs.Common.{true, sym, ◌∙◌}
 use Rattle.cam_gerber.proofs.Contours.{refused_alike}
-use Rattle.cam_gerber.proofs.Settling.{opening_checks, set_many}
+use Rattle.cam_gerber.proofs.Settling.{opening_checks, set_many, set_one}
 use Rattle.cam_gerber.proofs.running.Running.set_repeat.Goals as goal
 
 pub returns-in-Err : goal.returns-in-Err
@@ -25,3 +25,14 @@ returns-then-is_repeated c = λ past none t.
       outside = c.if-self.false;
     }) (sym c.has_short_steps.ensures ∙ c.if-not-has_short_steps.false)
     (sym c.is_repeated.ensures ∙ c.if-is_repeated.true) c.new.ensures (c.in_default-settle.ensures past none t)
+
+pub returns-else-is_repeated : goal.returns-else-is_repeated
+returns-else-is_repeated c = λ past none t.
+    set_one past c.args.self.now c.settle.new.self c.in-Some.unit c.args.repeat.now t
+    (record {
+      formed = sym c.has_malformed.ensures ∙ c.if-has_malformed.false;
+      known = c.in-Some.is;
+      nested = sym c.is_nested.ensures ∙ c.if-is_nested.false;
+      outside = c.if-self.false;
+    }) (sym c.has_short_steps.ensures ∙ c.if-not-has_short_steps.false)
+    (sym c.is_repeated.ensures ∙ c.if-is_repeated.false) (c.in_default-settle.ensures past none t)
