@@ -1,6 +1,6 @@
 -- what is kept of a drill layer whose items shift with a step, or one of whose tools gets another diameter
-use Rattle.std.proofs.Common.{◌≡◌, ℕ, ◌+◌, ◌≤◌, List, [], ◌∷◌, length, Some, nat_eq, slice_get, sum_by, ap, sym, subst, ◌∙◌, arith}
-use Rattle.std.specs.Prelude.{IsTrue}
+use Rattle.std.proofs.Common.{◌≡◌, ℕ, ◌+◌, ◌≤◌, List, [], ◌∷◌, length, Option, None, Some, nat_eq, slice_get, sum_by, ap, sym, subst, ◌∙◌, arith}
+use Rattle.std.specs.Prelude.{IfNone, IfSome, IsTrue}
 use Rattle.std.specs.Map.{set_value}
 use Rattle.cam_units.specs.declared.bounds.Bounds.{Bounds}
 use Rattle.cam_units.specs.declared.length.Nm.{Nm}
@@ -19,9 +19,10 @@ use Rattle.cam_edits.specs.declared.indexed.Kept.{Kept}
 use Rattle.cam_edits.specs.declared.drill_step.DrillStep.{DrillStep}
 use Rattle.cam_edits.specs.declared.drill_step.DrillStep.TheVariants.{Diameter}
 use Rattle.cam_edits.specs.declared.shift.Shift.{Shift}
-use Rattle.cam_edits.specs.DrillSteps.{IsDrillFit, after_drill_step}
+use Rattle.cam_edits.specs.DrillSteps.{IsDrillFit, after_drill_step, tools_after}
 use Rattle.cam_edits.specs.Editing.{is_tool_size}
-use Rattle.cam_edits.specs.Machinery.Shifts.{IsKeptOfDrill, IsShift, WasKeptUnsized, WereCells, drill_leaves_at, drill_leaves_in}
+use Rattle.cam_edits.specs.Machinery.Shifts.{IsKeptOfDrill, IsShift, WasKeptBefore, WasKeptUnsized, WereCells}
+use Rattle.cam_edits.specs.Machinery.Shifts.{drill_leaves_at, drill_leaves_in}
 use Rattle.cam_objects.proofs.SoundItems.{meets_drill}
 use Rattle.cam_edits.proofs.ShiftedItems.{shifted_all, were_cells}
 use Rattle.cam_edits.proofs.SoundDrillEdits.{sized_tool}
@@ -76,7 +77,7 @@ kept_alike l m kept tools items known = record {
 }
 
 -- a step that gives a tool another diameter
-pub unsized : (before layer : DrillLayer) (kept : Kept) (step : DrillStep) (t : ℕ) (d : Nm) → IsKeptOfDrill before kept
+unsized : (before layer : DrillLayer) (kept : Kept) (step : DrillStep) (t : ℕ) (d : Nm) → IsKeptOfDrill before kept
     → IsDrillFit step (drill_content_of before)
     → drill_content_of layer ≡ after_drill_step step (drill_content_of before) → step ≡ Diameter t d
     → WasKeptUnsized kept t d layer
@@ -88,6 +89,23 @@ unsized before layer kept step t d known fits content is =
       tools = ap (λ (c : DrillContent). c.tools) changed;
       items = ap (λ (c : DrillContent). c.items) changed;
     }
+
+-- a step, by whether it gives a tool another diameter
+pub kept_before : (before layer : DrillLayer) (kept : Kept) (step : DrillStep) (size : Option (ℕ × Nm)) (shift : Shift)
+    (gone : ℕ) → IsKeptOfDrill before kept → IsDrillFit step (drill_content_of before)
+    → drill_content_of layer ≡ after_drill_step step (drill_content_of before)
+    → IfSome size (λ s. step ≡ Diameter s.0 s.1) → IfNone size ((tools : List (ℕ × Nm)) → tools_after step tools ≡ tools)
+    → IsShift shift before.items.items layer.items.items → gone ≡ drill_leaves_at before shift.from
+    → WasKeptBefore size shift gone layer kept
+kept_before before layer kept step None shift gone known fits content given keeps shifted left = record {
+  before = before;
+  known = known;
+  tools = sym (ap (λ (c : DrillContent). c.tools) content ∙ keeps before.tools);
+  shifted = shifted;
+  left = left;
+}
+kept_before before layer kept step (Some size) shift gone known fits content given keeps shifted left =
+    unsized before layer kept step size.0 size.1 known fits content given
 
 -- it keeps a layer sound
 pub sized_sound : (kept : Kept) (t : ℕ) (d : Nm) (layer : DrillLayer) → WasKeptUnsized kept t d layer

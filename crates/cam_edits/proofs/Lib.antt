@@ -1,6 +1,7 @@
 pub mod Rotations
 pub mod BoardSheets
 pub mod BoardRoom
+pub mod RoomLeft
 pub mod Names
 pub mod Refusals
 pub mod ItemMoves

@@ -2,7 +2,8 @@
 use Rattle.std.proofs.Common.{◌≡◌, ℕ, zero, suc, ◌+◌, ◌-◌, ◌<◌, ◌≤◌, inl, inr, List, [], ◌∷◌, length, map, get_or, Option, None, Some}
 use Rattle.std.proofs.Common.{insert, remove, slice_get, slice_set, sum_by, refl, sym, ap, subst, ◌∙◌, arith}
 use Rattle.std.specs.List.{All}
-use Rattle.std.proofs.lemmas.Bool.{cases_eq, cases_lt}
+use Rattle.std.specs.Prelude.{IsTrue, is_some}
+use Rattle.std.proofs.lemmas.Bool.{cases_eq, cases_lt, false≢true}
 use Rattle.std.proofs.lemmas.List.{get_or-set_other, length-map, length-set}
 use Rattle.std.proofs.lemmas.List.Edits.{get_or-insert_above, get_or-insert_below, get_or-remove_above, get_or-remove_below}
 use Rattle.std.proofs.lemmas.List.Edits.{length-insert, length-remove}
@@ -25,6 +26,10 @@ use Rattle.cam_edits.specs.Machinery.Shifts.{leaves_in}
 
 abbrev pub made : Option ℕ → Option ℕ → Shift
 made from to = record { from = from; to = to }
+
+pub found_some : {X : Type 0} (o : Option X) → IsTrue (is_some o) → (x : X) × (o ≡ Some x)
+found_some None is = absurd (false≢true is)
+found_some (Some x) is = (x, refl)
 
 module _ {X : Type 0} where
   alike : (xs ys : List X) (i j : ℕ) (d : X) → i < length xs → j < length ys → get_or xs i d ≡ get_or ys j d
@@ -259,6 +264,13 @@ module _ {X : Type 0} where
             subst P (get_or_from_slice_get xs stood.was x x there)
             (before stood.was x (slice_get_within xs stood.was x there)))
       ]
+
+-- the edit of a shift whose places are known
+pub cells_edited : (shift : Shift) (cells : Reaches) (after : List Bounds) (was : WereCells shift cells after)
+    (from to : Option ℕ) → shift.from ≡ from → shift.to ≡ to → IsEdited from to was.before after
+cells_edited shift cells after was from to left came =
+    subst (λ o. IsEdited from o was.before after) came
+    (subst (λ o. IsEdited o shift.to was.before after) left was.edit)
 
 pub shifted_leaves : (before layer : Layer) (shift : Shift) (leaves gone come : ℕ)
     → before.apertures ≡ layer.apertures → IsShift shift before.items.items layer.items.items

@@ -1,6 +1,6 @@
-//! Elements that are carried to another place of their list.
+//! Elements that come to a place of their list, or are carried to another one.
 
-ghost use Rattle.std.specs.Prelude.{◌≡◌, ◌<◌, length};
+ghost use Rattle.std.specs.Prelude.{◌≡◌, ◌<◌, ◌≤◌, insert, length, vec_capacity};
 ghost use Rattle.cam_edits.specs.Places.{reordered};
 
 /// Takes the element at place `k` out and puts it at place `m`: those between the two move by one place, and no others.
@@ -14,4 +14,15 @@ pub(crate) fn carry<T>(elements: &mut [T], k: usize, m: usize)
     } else {
         elements[m..k + 1].rotate_right(1);
     }
+}
+
+/// Puts an element at place `k`, those from there on one place further. Takes no memory.
+#[inline]
+pub(crate) fn put<T: Drop>(elements: &mut Vec<T>, k: usize, element: T)
+    requires place { k ≤ length elements.old.items }
+    requires room { length elements.old.items < vec_capacity elements.old }
+    ensures items { elements.new.items ≡ insert elements.old.items k element }
+    ensures room { vec_capacity elements.old ≤ vec_capacity elements.new }
+{
+    elements.insert(k, element).unwrap();
 }

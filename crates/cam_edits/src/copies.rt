@@ -1,6 +1,6 @@
 //! The first copies of the repeats of a layer, which follow its items.
 
-ghost use Rattle.std.specs.Prelude.{◌≡◌};
+ghost use Rattle.std.specs.Prelude.{◌≡◌, IsTrue};
 ghost use Rattle.cam_objects.specs.Cells.{AreFirstCopiesOf};
 ghost use Rattle.cam_objects.specs.Soundness.{HasSoundItems};
 ghost use Rattle.cam_edits.specs.Machinery.Shifts.{WereFirstCopies};
@@ -9,7 +9,7 @@ use crate::shift::Shift;
 use cam_objects::{FirstCopies, Layer};
 
 /// Lets them follow items that shifted with a step. What comes to a place is not known. Takes no memory.
-pub(crate) fn follow(copies: &mut FirstCopies, layer: &Layer, shift: Shift)
+fn follow(copies: &mut FirstCopies, layer: &Layer, shift: Shift)
     requires { WereFirstCopies shift layer.now copies.old }
     ensures { AreFirstCopiesOf layer.now.apertures layer.now.items.items copies.new }
 {
@@ -21,15 +21,15 @@ pub(crate) fn follow(copies: &mut FirstCopies, layer: &Layer, shift: Shift)
     }
 }
 
-/// Lets those of a sound layer follow items that shifted with a step: that of an item that changed at its place is read
+/// The same, where it may be known that the layer is sound: then that of an item that changed at its place is read
 /// anew. Takes no memory.
-pub(crate) fn mend_copies(copies: &mut FirstCopies, layer: &Layer, shift: Shift)
-    requires sound { HasSoundItems layer.now }
+pub(crate) fn mend_copies(copies: &mut FirstCopies, layer: &Layer, shift: Shift, sound: bool)
+    requires sound { IsTrue sound → HasSoundItems layer.now }
     requires was { WereFirstCopies shift layer.now copies.old }
     ensures { AreFirstCopiesOf layer.now.apertures layer.now.items.items copies.new }
 {
     match (shift.from, shift.to) {
-        (Some(from), Some(to)) if from == to => copies.renew(layer, to),
+        (Some(from), Some(to)) if sound && from == to => copies.renew(layer, to),
         _ => follow(copies, layer, shift),
     }
 }

@@ -17,7 +17,7 @@ ghost use Rattle.cam_edits.specs.DrillSteps.{
 ghost use Rattle.cam_edits.specs.declared.drill_step.DrillStep.TheVariants.{Diameter};
 ghost use Rattle.cam_objects.specs.Contents.{DrillContent, drill_content_of};
 
-use crate::carrying::carry;
+use crate::carrying::{carry, put};
 use crate::moving::{can_move_drill_item, way};
 use crate::reversible::Reversible;
 use cam_objects::{DrillItem, DrillLayer};
@@ -90,7 +90,7 @@ impl Reversible for DrillStep {
     fn play(self, layer: &mut DrillLayer) -> DrillStep {
         match self {
             DrillStep::Insert { k, item } => {
-                layer.items.insert(k, item).unwrap();
+                put(&mut layer.items, k, item);
                 DrillStep::Delete { k }
             }
             DrillStep::Delete { k } => DrillStep::Insert {

@@ -6,8 +6,8 @@ ghost use Rattle.cam_objects.specs.Contents.{content_of};
 ghost use Rattle.cam_objects.specs.Soundness.{HasSoundItems};
 ghost use Rattle.cam_edits.specs.Steps.{HasRoom, IsFit, after_step, inverse_step};
 
-use crate::copies::{follow, mend_copies};
-use crate::mending::{leaves_at, mended};
+use crate::copies::mend_copies;
+use crate::mending::{leaves_at, mend_kept};
 use crate::reversible::Reversible;
 use crate::shift::Shift;
 use crate::step::Step;
@@ -118,19 +118,10 @@ impl IndexedLayer {
         ensures room { (rest : List Step) → HasRoom (rest ++ step ∷ []) self.old → HasRoom rest self.new }
     {
         let shift = Shift::of(&step);
-        let Some(kept) = self.kept.take() else {
-            let answer = step.play(&mut self.layer);
-            follow(&mut self.copies, &self.layer, shift);
-            return answer;
-        };
-        let gone = leaves_at(&self.layer, shift.from);
+        let gone = leaves_at(&self.layer, shift.from, self.kept.is_some());
         let answer = step.play(&mut self.layer);
-        self.kept = mended(kept, shift, gone, &self.layer);
-        if self.kept.is_some() {
-            mend_copies(&mut self.copies, &self.layer, shift);
-        } else {
-            follow(&mut self.copies, &self.layer, shift);
-        }
+        mend_kept(&mut self.kept, shift, gone, &self.layer);
+        mend_copies(&mut self.copies, &self.layer, shift, self.kept.is_some());
         answer
     }
 }

@@ -6,7 +6,7 @@ ghost use Rattle.cam_objects.specs.Contents.{drill_content_of};
 ghost use Rattle.cam_objects.specs.DrillSoundness.{IsSoundDrillLayer};
 ghost use Rattle.cam_edits.specs.DrillSteps.{HasDrillRoom, IsDrillFit, after_drill_step, inverse_drill_step};
 
-use crate::drill_mending::{leaves_at, mended, resized};
+use crate::drill_mending::{leaves_at, mend_kept};
 use crate::drill_step::DrillStep;
 use crate::indexed::{Kept, reserve_cells};
 use crate::item_tools::{follow, tools_of};
@@ -111,18 +111,10 @@ impl IndexedDrillLayer {
     {
         let size = step.size();
         let shift = Shift::of_drill(&step);
-        let Some(kept) = self.kept.take() else {
-            let answer = step.play(&mut self.layer);
-            follow(&mut self.tools, &self.layer, shift);
-            return answer;
-        };
         let gone = leaves_at(&self.layer, shift.from);
         let answer = step.play(&mut self.layer);
         follow(&mut self.tools, &self.layer, shift);
-        self.kept = match size {
-            Some((t, d)) => resized(kept, t, d, &self.tools, &self.layer),
-            None => mended(kept, shift, gone, &self.layer),
-        };
+        mend_kept(&mut self.kept, size, shift, gone, &self.tools, &self.layer);
         answer
     }
 }

@@ -1,11 +1,12 @@
 //! What is kept beside a layer, mended after a step.
 
-ghost use Rattle.std.specs.Prelude.{◌≡◌, ◌≤◌, ℕ, IfSome, IsSome, Some, slice_get};
-ghost use Rattle.cam_objects.specs.Cells.{AreCellsOf};
+ghost use Rattle.std.specs.Prelude.{◌≡◌, ◌≤◌, IfSome, IsSome, IsTrue, MatchOption, None, Some};
+ghost use Rattle.cam_objects.specs.Cells.{AreCellsOf, item_boxes};
 ghost use Rattle.cam_refusals.specs.Limits.{leaf_limit};
 ghost use Rattle.cam_objects.specs.Soundness.{HasSoundItems, IsSoundItem};
 ghost use Rattle.cam_objects.specs.declared.item.Item.{Item};
-ghost use Rattle.cam_edits.specs.Machinery.Shifts.{IsKeptOf, WasKept, WereCells, leaves_at};
+ghost use Rattle.cam_edits.specs.declared.indexed.Kept.{Kept};
+ghost use Rattle.cam_edits.specs.Machinery.Shifts.{IsKeptOf, WasKept, WereCells, leaves_at, there};
 
 use crate::indexed::Kept;
 use crate::shift::Shift;
@@ -38,16 +39,27 @@ pub(crate) fn mend<B: BoxedItems>(cells: &mut ItemCells, items: &mut B, shift: S
     }
 }
 
-/// How many leaves the item at a place of a sound layer has; none where there is no item.
-pub(crate) fn leaves_at(layer: &Layer, place: Option<usize>) -> u64
-    requires { HasSoundItems layer.now }
-    ensures value { result ≡ leaves_at layer.now place }
-    ensures few { result ≤ leaf_limit }
+/// The item at a place.
+#[inline]
+pub(crate) fn item_at<T>(items: &[T], place: Option<usize>) -> Option<&T>
+    ensures { MatchOption result (there items.now place ≡ None) (λ item. there items.now place ≡ Some item.now) }
 {
-    let Some(place) = place else {
+    match place {
+        Some(place) => items.get(place),
+        None => None,
+    }
+}
+
+/// How many leaves the item at a place of a layer has, where the layer is known to be sound; none where there is no
+/// item.
+pub(crate) fn leaves_at(layer: &Layer, place: Option<usize>, sound: bool) -> u64
+    requires { IsTrue sound → HasSoundItems layer.now }
+    ensures { IsTrue sound → result ≡ leaves_at layer.now place }
+{
+    if !sound {
         return 0;
-    };
-    match layer.items.get(place) {
+    }
+    match item_at(&layer.items, place) {
         Some(item) => layer.item_leaf_count(item),
         None => 0,
     }
@@ -57,13 +69,10 @@ pub(crate) fn leaves_at(layer: &Layer, place: Option<usize>) -> u64
 fn leaves_come(layer: &Layer, place: Option<usize>) -> Option<u64>
     ensures value { IfSome result (λ leaves. leaves ≡ leaves_at layer.now place) }
     ensures few { IfSome result (λ leaves. leaves ≤ leaf_limit) }
-    ensures sound { (k : ℕ) (item : Item) → IsSome result → place ≡ Some k → slice_get layer.now.items.items k ≡ Some item
+    ensures sound { (item : Item) → IsSome result → there layer.now.items.items place ≡ Some item
         → IsSoundItem layer.now.apertures item }
 {
-    let Some(place) = place else {
-        return Some(0);
-    };
-    let Some(item) = layer.items.get(place) else {
+    let Some(item) = item_at(&layer.items, place) else {
         return Some(0);
     };
     match layer.check_item(item) {
@@ -72,19 +81,49 @@ fn leaves_come(layer: &Layer, place: Option<usize>) -> Option<u64>
     }
 }
 
-/// What is kept after a step with which items shifted and so many leaves left their place; nothing where the step made
-/// the layer unsound.
-pub(crate) fn mended(kept: Kept, shift: Shift, gone: u64, layer: &Layer) -> Option<Kept>
-    requires was { WasKept kept shift gone layer.now }
-    requires few { gone ≤ leaf_limit }
-    ensures { IfSome result (λ kept. IsKeptOf layer.now kept) }
+/// Lets the cells of a sound layer follow items that shifted with a step. Takes no memory.
+fn mend_cells(cells: &mut ItemCells, layer: &Layer, shift: Shift)
+    requires sound { HasSoundItems layer.now }
+    requires was { WereCells shift cells.old (item_boxes layer.now.apertures layer.now.items.items) }
+    ensures { AreCellsOf (item_boxes layer.now.apertures layer.now.items.items) cells.new }
 {
-    let come = leaves_come(layer, shift.to)?;
-    let Kept { mut cells, leaves } = kept;
-    let leaves = leaves + come - gone;
+    mend(cells, &mut layer.boxes(), shift);
+}
+
+/// Lets what is kept follow a step with which items shifted and so many leaves left their place; false where the step
+/// made the layer unsound.
+fn mended(kept: &mut Kept, shift: Shift, gone: u64, layer: &Layer) -> bool
+    requires { WasKept kept.old shift gone layer.now }
+    ensures { IsTrue result → IsKeptOf layer.now kept.new }
+{
+    let Some(come) = leaves_come(layer, shift.to) else {
+        return false;
+    };
+    let leaves = kept.leaves + come - gone;
     if leaves > LEAF_LIMIT || layer.items.len() > COUNT_LIMIT {
-        return None;
+        return false;
     }
-    mend(&mut cells, &mut layer.boxes(), shift);
-    Some(Kept { cells, leaves })
+    kept.leaves = leaves;
+    mend_cells(&mut kept.cells, layer, shift);
+    true
+}
+
+/// Nothing is kept any more.
+pub(crate) fn forget(known: &mut Option<Kept>)
+    ensures { known.new ≡ None }
+{
+    *known = None;
+}
+
+/// Lets what is kept, if anything is, follow such a step: it is given up where the step made the layer unsound.
+pub(crate) fn mend_kept(known: &mut Option<Kept>, shift: Shift, gone: u64, layer: &Layer)
+    requires { (kept : Kept) → known.old ≡ Some kept → WasKept kept shift gone layer.now }
+    ensures { (kept : Kept) → known.new ≡ Some kept → IsKeptOf layer.now kept }
+{
+    let Some(kept) = known else {
+        return;
+    };
+    if !mended(kept, shift, gone, layer) {
+        forget(known);
+    }
 }

@@ -21,7 +21,7 @@ ghost use Rattle.cam_edits.specs.Steps.{
   with_polarity,
 };
 
-use crate::carrying::carry;
+use crate::carrying::{carry, put};
 use crate::moving::{can_move_item, way};
 use crate::reversible::Reversible;
 use cam_objects::{Attribute, Item, Layer, Object};
@@ -105,7 +105,7 @@ impl Reversible for Step {
     fn play(self, layer: &mut Layer) -> Step {
         match self {
             Step::Insert { k, item } => {
-                layer.items.insert(k, item).unwrap();
+                put(&mut layer.items, k, item);
                 Step::Delete { k }
             }
             Step::Delete { k } => Step::Insert {
@@ -133,7 +133,7 @@ impl Reversible for Step {
                 Step::Polarity { k, dark }
             }
             Step::PutAttribute { k, attribute } => {
-                layer.attributes.insert(k, attribute).unwrap();
+                put(&mut layer.attributes, k, attribute);
                 Step::TakeAttribute { k }
             }
             Step::TakeAttribute { k } => Step::PutAttribute {

@@ -22,10 +22,14 @@ abbrev pub count_of : {X : Type 0} → (X → ℕ) → Option X → ℕ
 count_of f None = 0
 count_of f (Some x) = f x
 
--- what the element at a place counts, where there is one
+-- the element at a place, where there is one
+abbrev pub there : {X : Type 0} → List X → Option ℕ → Option X
+there xs None = None
+there xs (Some k) = slice_get xs k
+
+-- what it counts
 abbrev pub count_at : {X : Type 0} → (X → ℕ) → List X → Option ℕ → ℕ
-count_at f xs None = 0
-count_at f xs (Some k) = count_of f (slice_get xs k)
+count_at f xs place = count_of f (there xs place)
 
 -- the element at a place stood somewhere
 pub record StoodBefore {X : Type 0} (before after : List X) (k : ℕ) : Type 0 where
@@ -149,3 +153,8 @@ pub record WasKeptUnsized (kept : Kept) (t : ℕ) (d : Nm) (layer : DrillLayer) 
   pub there : IsSome (diameter_of before.tools t)
   pub tools : layer.tools ≡ set_value (nat_eq t) before.tools d
   pub items : layer.items.items ≡ before.items.items
+
+-- it was kept of a drill layer before a step that led to this one and gave a tool a size, or with which items shifted
+abbrev pub WasKeptBefore : Option (ℕ × Nm) → Shift → ℕ → DrillLayer → Kept → Type 0
+WasKeptBefore None shift gone layer kept = WasKeptOfDrill kept shift gone layer
+WasKeptBefore (Some size) shift gone layer kept = WasKeptUnsized kept size.0 size.1 layer

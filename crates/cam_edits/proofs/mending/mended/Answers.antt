@@ -1,40 +1,34 @@
-use Rattle.std.proofs.Common.{List, ap, refl, subst, sym, arith}
-use Rattle.cam_units.specs.declared.bounds.Bounds.{Bounds}
-use Rattle.cam_objects.specs.Cells.{AreCellsOf}
-use Rattle.cam_objects.specs.declared.layer.Layer.{Layer}
-use Rattle.cam_edits.specs.Machinery.Shifts.{WereCells}
-use Rattle.cam_edits.proofs.ShiftedItems.{boxes_of, layer_cells, shifted_leaves, shifted_sound}
+use Rattle.std.proofs.Common.{◌∙◌, ap, refl, arith}
+use Rattle.cam_edits.proofs.ShiftedItems.{layer_cells, shifted_leaves, shifted_sound}
+use Rattle.cam_edits.specs.Machinery.Shifts.{there}
 use Rattle.cam_edits.proofs.mending.mended.Goals as goal
 
-pub boxes-requires : goal.boxes-requires
-boxes-requires c =
-    let was = c.requires.was in
+pub mend_cells-requires-clause-sound : goal.mend_cells-requires-clause-sound
+mend_cells-requires-clause-sound c =
+    let was = c.requires in
     let layer = c.args.layer.now in
-    let come = c.in_ok-come.ensures in
-    let all = shifted_leaves was.before layer c.args.shift c.args.kept.leaves c.args.gone c.in_ok-come.come was.entries
+    let come = c.in-Some.ensures in
+    let all = shifted_leaves was.before layer c.args.shift c.args.kept.now.leaves c.args.gone c.in-Some.come was.entries
     was.shifted was.known.leaves was.left come.value in
-    shifted_sound was.before layer c.args.shift c.args.kept.leaves c.args.gone c.in_ok-come.come was.entries was.shifted
-    was.known.sound all (omega (arith, layer.items.ok.0)) (omega arith) (λ k item to here. come.sound k item refl to here)
+    shifted_sound was.before layer c.args.shift c.args.kept.now.leaves c.args.gone c.in-Some.come was.entries was.shifted
+    was.known.sound all (omega (arith, layer.items.ok.0)) (omega arith) (λ k item to here. come.sound item refl (ap (there layer.items.items) to ∙ here))
 
-pub mend-requires : goal.mend-requires
-mend-requires c =
-    let was = c.requires.was in
-    let cells = c.args.kept.cells in
-    subst (λ (l : Layer). WereCells c.args.shift cells (boxes_of l)) (sym c.boxes.ensures)
-    (layer_cells was.before c.args.layer.now c.args.shift cells was.entries was.shifted was.known.cells)
+pub mend_cells-requires-clause-was : goal.mend_cells-requires-clause-was
+mend_cells-requires-clause-was c =
+    let was = c.requires in
+    layer_cells was.before c.args.layer.now c.args.shift c.args.kept.now.cells was.entries was.shifted was.known.cells
 
 pub returns : goal.returns
-returns c =
-    let was = c.requires.was in
+returns c = λ _.
+    let was = c.requires in
     let layer = c.args.layer.now in
-    let come = c.in_ok-come.ensures in
-    let all = shifted_leaves was.before layer c.args.shift c.args.kept.leaves c.args.gone c.in_ok-come.come was.entries
+    let come = c.in-Some.ensures in
+    let all = shifted_leaves was.before layer c.args.shift c.args.kept.now.leaves c.args.gone c.in-Some.come was.entries
     was.shifted was.known.leaves was.left come.value in
     record {
-      sound = shifted_sound was.before layer c.args.shift c.args.kept.leaves c.args.gone c.in_ok-come.come was.entries
+      sound = shifted_sound was.before layer c.args.shift c.args.kept.now.leaves c.args.gone c.in-Some.come was.entries
           was.shifted was.known.sound all (omega (arith, layer.items.ok.0)) (omega arith)
-          (λ k item to here. come.sound k item refl to here);
+          (λ k item to here. come.sound item refl (ap (there layer.items.items) to ∙ here));
       leaves = omega (arith, all);
-      cells = subst (λ (those : List Bounds). AreCellsOf those c.mend.new.cells) (ap boxes_of c.boxes.ensures)
-          c.mend.ensures;
+      cells = c.mend_cells.ensures;
     }

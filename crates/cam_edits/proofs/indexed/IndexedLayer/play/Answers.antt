@@ -1,23 +1,63 @@
-use Rattle.std.proofs.Common.{◌∙◌, ap, subst, sym}
+use Rattle.std.proofs.Common.{◌∙◌, ◌∷◌, ◌++◌, [], ap, subst, sym}
+use Rattle.std.specs.Prelude.{is_some}
+use Rattle.cam_objects.specs.Cells.{AreFirstCopiesOf}
 use Rattle.cam_objects.specs.Contents.{Content, content_of}
 use Rattle.cam_objects.specs.declared.layer.Layer.{Layer}
 use Rattle.cam_edits.specs.Machinery.Shifts.{IsShift}
-use Rattle.cam_edits.specs.Steps.{IsFit}
+use Rattle.cam_edits.specs.Steps.{HasRoom, IsFit, after_step, inverse_step}
+use Rattle.cam_edits.proofs.ShiftedItems.{found_some}
 use Rattle.cam_edits.proofs.indexed.IndexedLayer.play.Goals as goal
 
 pub leaves_at-gone-requires : goal.leaves_at-gone-requires
-leaves_at-gone-requires c = (c.self.invariant.kept c.in-Some.kept (sym c.take.ensures.value ∙ c.in-Some.is)).sound
+leaves_at-gone-requires c = λ is.
+    let k = found_some c.self.inside.kept (sym c.is_some.ensures ∙ is) in (c.self.invariant.kept k.0 k.1).sound
 
-pub mended-requires-clause-was : goal.mended-requires-clause-was
-mended-requires-clause-was c =
+pub play-answer-requires-clause-fits : goal.play-answer-requires-clause-fits
+play-answer-requires-clause-fits c =
+    subst (λ (l : Layer). IsFit c.args.step (content_of l)) (sym c.self.view_is) c.requires.fits
+
+pub mend_kept-requires : goal.mend_kept-requires
+mend_kept-requires c = λ kept is.
     let before = c.self.inside.layer in
-    let content = c.play-answer-2.ensures.content in
+    let content = c.play-answer.ensures.content in
     let fits = subst (λ (l : Layer). IsFit c.args.step (content_of l)) (sym c.self.view_is) c.requires.fits in
     record {
       before = before;
-      known = c.self.invariant.kept c.in-Some.kept (sym c.take.ensures.value ∙ c.in-Some.is);
+      known = c.self.invariant.kept kept is;
       entries = sym (ap (λ (x : Content). x.entries) content);
       shifted = subst (IsShift c.of-shift.result before.items.items) (sym (ap (λ (x : Content). x.items) content))
           (c.of-shift.ensures (content_of before) fits);
-      left = c.leaves_at-gone.ensures.value;
+      left = c.leaves_at-gone.ensures (c.is_some.ensures ∙ ap is_some is);
     }
+
+pub mend_copies-requires-clause-sound : goal.mend_copies-requires-clause-sound
+mend_copies-requires-clause-sound c = λ is.
+    let k = found_some c.mend_kept.new.known (sym c.is_some-2.ensures ∙ is) in (c.mend_kept.ensures k.0 k.1).sound
+
+pub mend_copies-requires-clause-was : goal.mend_copies-requires-clause-was
+mend_copies-requires-clause-was c =
+    let before = c.self.inside.layer in
+    let content = c.play-answer.ensures.content in
+    let fits = subst (λ (l : Layer). IsFit c.args.step (content_of l)) (sym c.self.view_is) c.requires.fits in
+    record {
+      before = before.items.items;
+      known = subst (λ es. AreFirstCopiesOf es before.items.items c.self.inside.copies)
+          (sym (ap (λ (x : Content). x.entries) content)) c.self.invariant.copies;
+      edit = (subst (IsShift c.of-shift.result before.items.items) (sym (ap (λ (x : Content). x.items) content))
+          (c.of-shift.ensures (content_of before) fits)).edit;
+    }
+
+pub invariant_of-self : goal.invariant_of-self
+invariant_of-self c = record { kept = c.mend_kept.ensures; copies = c.mend_copies.ensures }
+
+pub returns-clause-content : goal.returns-clause-content
+returns-clause-content c =
+    c.play-answer.ensures.content ∙ ap (λ (l : Layer). after_step c.args.step (content_of l)) c.self.view_is
+
+pub returns-clause-answer : goal.returns-clause-answer
+returns-clause-answer c =
+    c.play-answer.ensures.answer ∙ ap (λ (l : Layer). inverse_step c.args.step (content_of l)) c.self.view_is
+
+pub returns-clause-room : goal.returns-clause-room
+returns-clause-room c = λ rest room.
+    c.play-answer.ensures.room rest (subst (HasRoom (rest ++ c.args.step ∷ [])) (sym c.self.view_is) room)

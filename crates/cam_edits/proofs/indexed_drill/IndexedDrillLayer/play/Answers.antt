@@ -1,36 +1,15 @@
-use Rattle.std.proofs.Common.{◌∙◌, ap, subst, sym}
+use Rattle.std.proofs.Common.{◌∙◌, ◌∷◌, ◌++◌, [], ap, subst, sym}
 use Rattle.cam_objects.specs.Contents.{DrillContent, drill_content_of}
 use Rattle.cam_objects.specs.declared.drill_layer.DrillLayer.{DrillLayer}
-use Rattle.cam_edits.specs.DrillSteps.{IsDrillFit}
+use Rattle.cam_edits.specs.DrillSteps.{HasDrillRoom, IsDrillFit, after_drill_step, inverse_drill_step}
 use Rattle.cam_edits.specs.Machinery.Shifts.{IsShift}
 use Rattle.cam_edits.proofs.ItemTools.{were_tools}
-use Rattle.cam_edits.proofs.KeptDrilling.{unsized}
+use Rattle.cam_edits.proofs.KeptDrilling.{kept_before}
 use Rattle.cam_edits.proofs.indexed_drill.IndexedDrillLayer.play.Goals as goal
 
-pub leaves_at-gone-requires : goal.leaves_at-gone-requires
-leaves_at-gone-requires c = (c.self.invariant.kept c.in-Some.kept (sym c.take.ensures.value ∙ c.in-Some.is)).sound
-
-pub resized-requires-clause-was : goal.resized-requires-clause-was
-resized-requires-clause-was c =
-    let before = c.self.inside.layer in
-    let fits = subst (λ (l : DrillLayer). IsDrillFit c.args.step (drill_content_of l)) (sym c.self.view_is) c.requires.fits in
-    let size = c.in-Some-size.ensures.given in
-    unsized before c.play-answer-2.new.layer c.in-Some.kept c.args.step c.in-Some-size.t c.in-Some-size.d
-    (c.self.invariant.kept c.in-Some.kept (sym c.take.ensures.value ∙ c.in-Some.is)) fits c.play-answer-2.ensures.content size
-
-pub mended-requires-clause-was : goal.mended-requires-clause-was
-mended-requires-clause-was c =
-    let before = c.self.inside.layer in
-    let content = c.play-answer-2.ensures.content in
-    let fits = subst (λ (l : DrillLayer). IsDrillFit c.args.step (drill_content_of l)) (sym c.self.view_is) c.requires.fits in
-    record {
-      before = before;
-      known = c.self.invariant.kept c.in-Some.kept (sym c.take.ensures.value ∙ c.in-Some.is);
-      tools = sym (ap (λ (x : DrillContent). x.tools) content ∙ c.in-None.ensures.kept before.tools);
-      shifted = subst (IsShift c.of_drill-shift.result before.items.items) (sym (ap (λ (x : DrillContent). x.items) content))
-          (c.of_drill-shift.ensures (drill_content_of before) fits);
-      left = c.leaves_at-gone.ensures.value;
-    }
+pub play-answer-requires-clause-fits : goal.play-answer-requires-clause-fits
+play-answer-requires-clause-fits c =
+    subst (λ (l : DrillLayer). IsDrillFit c.args.step (drill_content_of l)) (sym c.self.view_is) c.requires.fits
 
 pub follow-requires : goal.follow-requires
 follow-requires c =
@@ -41,11 +20,33 @@ follow-requires c =
     (sym (ap (λ (x : DrillContent). x.items) c.play-answer.ensures.content))
     (c.of_drill-shift.ensures (drill_content_of before) fits)) c.self.invariant.tools
 
-pub follow-requires-2 : goal.follow-requires-2
-follow-requires-2 c =
+pub mend_kept-requires-clause-was : goal.mend_kept-requires-clause-was
+mend_kept-requires-clause-was c = λ kept is.
     let before = c.self.inside.layer in
+    let content = c.play-answer.ensures.content in
     let fits = subst (λ (l : DrillLayer). IsDrillFit c.args.step (drill_content_of l)) (sym c.self.view_is) c.requires.fits in
-    were_tools c.of_drill-shift.result before.items.items c.play-answer-2.new.layer.items.items c.self.inside.tools
-    (subst (IsShift c.of_drill-shift.result before.items.items)
-    (sym (ap (λ (x : DrillContent). x.items) c.play-answer-2.ensures.content))
-    (c.of_drill-shift.ensures (drill_content_of before) fits)) c.self.invariant.tools
+    kept_before before c.play-answer.new.layer kept c.args.step c.size-size.result c.of_drill-shift.result
+    c.leaves_at-gone.result (c.self.invariant.kept kept is) fits content c.size-size.ensures.given c.size-size.ensures.kept
+    (subst (IsShift c.of_drill-shift.result before.items.items) (sym (ap (λ (x : DrillContent). x.items) content))
+    (c.of_drill-shift.ensures (drill_content_of before) fits))
+    c.leaves_at-gone.ensures
+
+pub mend_kept-requires-clause-known : goal.mend_kept-requires-clause-known
+mend_kept-requires-clause-known c = c.follow.ensures
+
+pub invariant_of-self : goal.invariant_of-self
+invariant_of-self c = record { kept = c.mend_kept.ensures; tools = c.follow.ensures }
+
+pub returns-clause-content : goal.returns-clause-content
+returns-clause-content c =
+    c.play-answer.ensures.content
+    ∙ ap (λ (l : DrillLayer). after_drill_step c.args.step (drill_content_of l)) c.self.view_is
+
+pub returns-clause-answer : goal.returns-clause-answer
+returns-clause-answer c =
+    c.play-answer.ensures.answer
+    ∙ ap (λ (l : DrillLayer). inverse_drill_step c.args.step (drill_content_of l)) c.self.view_is
+
+pub returns-clause-room : goal.returns-clause-room
+returns-clause-room c = λ rest room.
+    c.play-answer.ensures.room rest (subst (HasDrillRoom (rest ++ c.args.step ∷ [])) (sym c.self.view_is) room)
