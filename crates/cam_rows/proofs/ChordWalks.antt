@@ -30,19 +30,18 @@ on_side inside j distance room x is near beyond =
 
 -- the columns of the run are those in the chord
 pub in_walk : (reach : ℕ) (c : Chord) (l r : ChordSide) (to_left to_right i : ℕ) → IsChord reach c → IsSameSide c.left l
-    → IsSameSide c.right r → HasReached l l.room → HasReached r r.room → l.room ≡ to_left → r.room ≡ to_right
-    → IsSide reach l → IsSide reach r → i < c.offsets.count
+    → IsSameSide c.right r → HasReached l to_left → HasReached r to_right → IsSide reach l → IsSide reach r → i < c.offsets.count
     → IsInRun (c.left.columns - l.inside) (c.left.columns + r.inside) i ↔ IsInChord (place_of c i) to_left to_right
-in_walk reach c l r to_left to_right i chord left right left_reached right_reached is_left is_right left_side right_side within =
+in_walk reach c l r to_left to_right i chord left right left_reached right_reached left_side right_side within =
     elim (cases_lt i c.left.columns) [
       | inl before ↦
           let at = chord.before i before in
           let j = c.left.columns - 1 - i in
           let distance = distance_at c.left j in
           let few : j < l.columns = omega (arith, left.columns) in
-          let near = rw (left.start, left.step, is_left) at (left_reached.near j) in
+          let near = rw (left.start, left.step) at (left_reached.near j) in
           let beyond : l.inside ≤ j → IsBeyond distance to_left =
-          λ h. rw (left.start, left.step, is_left) at (left_reached.beyond j h few) in
+          λ h. rw (left.start, left.step) at (left_reached.beyond j h few) in
           let told = on_side l.inside j distance to_left (place_of c i) (omega (arith, ints, at.0)) near beyond in (
             (λ run. inl (at.1, told.0 (omega (arith, run.0, left_side.within, left.columns)))),
             (λ inside. elim inside [
@@ -56,9 +55,9 @@ in_walk reach c l r to_left to_right i chord left right left_reached right_reach
           let j = i - c.left.columns in
           let distance = distance_at c.right j in
           let few : j < r.columns = omega (arith, right.columns, chord.columns) in
-          let near = rw (right.start, right.step, is_right) at (right_reached.near j) in
+          let near = rw (right.start, right.step) at (right_reached.near j) in
           let beyond : r.inside ≤ j → IsBeyond distance to_right =
-          λ h. rw (right.start, right.step, is_right) at (right_reached.beyond j h few) in
+          λ h. rw (right.start, right.step) at (right_reached.beyond j h few) in
           let told = on_side r.inside j distance to_right (place_of c i) (omega (arith, ints, at)) near beyond in (
             (λ run. inr (omega (arith, ints, at), told.0 (omega (arith, run.1)))),
             (λ inside. elim inside [

@@ -9,6 +9,7 @@ pub mod ChordWalks
 pub mod Chords
 pub mod Circling
 pub mod Columns
+pub mod Corners
 pub mod CountedRuns
 pub mod EdgeSides
 pub mod FarPlaces
@@ -16,6 +17,7 @@ pub mod FoundRuns
 pub mod Gaps
 pub mod HalfPlanes
 pub mod JoinedLanes
+pub mod LevelSteps
 pub mod Middles
 pub mod NarrowedRuns
 pub mod NearRows

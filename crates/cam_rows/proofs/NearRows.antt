@@ -1,11 +1,13 @@
 -- Rows whose centres lie near a point, by their first and last centres.
-use Rattle.std.proofs.Common.{◌≡◌, ℕ, ◌-◌, ◌*◌, ◌^◌, ◌<◌, ◌≤◌, ℤ, pos, ◌+ℤ◌, ◌-ℤ◌, ◌*ℤ◌, ◌≤ℤ◌}
-use Rattle.std.proofs.Common.{refl, arith}
+use Rattle.std.proofs.Common.{◌≡◌, ℕ, ◌+◌, ◌-◌, ◌*◌, ◌%◌, ◌^◌, ◌<◌, ◌≤◌, ℤ, pos, ◌+ℤ◌, ◌-ℤ◌, ◌*ℤ◌, ◌≤ℤ◌}
+use Rattle.std.proofs.Common.{FitsSigned, ap, of_z, refl, sym, to_z, w64, ◌∙◌, arith}
+use Rattle.std.specs.Int.{int_wrap}
 use Rattle.std.specs.Int.RustNames.{unsigned_abs}
-use Rattle.std.proofs.lemmas.Int.{ints}
+use Rattle.std.proofs.lemmas.Int.{int_wrap_fits, ints, wrapping_sub_onto}
 use Rattle.std.proofs.lemmas.Nat.{mul-le}
 use Rattle.cam_units.specs.Board.{IsOnBoard}
 use Rattle.cam_units.specs.declared.point.Point.{Point}
+use Rattle.cam_units.proofs.Ring.{Atom, Difference, Product, Sum, equal}
 use Rattle.cam_shapes.specs.Plane.{square}
 use Rattle.cam_shapes.proofs.Widths.{narrow}
 use Rattle.cam_rows.specs.declared.centres.Centres.{Centres}
@@ -64,3 +66,28 @@ height_within reach h y far near is = rw (height_passed reach h y far near is) n
 -- and its square
 pub height_square : (h y : ℤ) → h ≡ y → pos (unsigned_abs h * unsigned_abs h) ≡ square y
 height_square h y is = rw is (square_of _ y refl)
+
+-- the height of the next row, as 64 bits step to it
+next_bits : (bits : ℕ) (h step next : ℤ) → bits < 2 ^ 64 → to_z w64 bits ≡ h → next ≡ h -ℤ step
+    → unsigned_abs h < 2 ^ 34 → unsigned_abs next < 2 ^ 34
+    → to_z w64 ((bits + (2 ^ 64 - of_z w64 step)) % 2 ^ 64) ≡ next
+next_bits bits h step next fits is e near near_next =
+    let short : FitsSigned w64 step = omega (arith, ints) in
+    let less : FitsSigned w64 (h -ℤ step) = omega (arith, ints) in
+    wrapping_sub_onto w64 bits step fits short ∙ ap (λ z. int_wrap w64 (z -ℤ step)) is ∙ int_wrap_fits w64 (h -ℤ step) less
+    ∙ sym e
+
+pub next_height : (reach bits k : ℕ) (y step away : ℤ) → bits < 2 ^ 64 → reach ≤ 2 ^ 34
+    → to_z w64 bits ≡ y -ℤ pos k *ℤ step -ℤ pos 2 *ℤ away
+    → unsigned_abs (y -ℤ pos k *ℤ step -ℤ pos 2 *ℤ away) < reach
+    → unsigned_abs (y -ℤ pos (k + 1) *ℤ step -ℤ pos 2 *ℤ away) < reach
+    → to_z w64 ((bits + (2 ^ 64 - of_z w64 step)) % 2 ^ 64) ≡ y -ℤ pos (k + 1) *ℤ step -ℤ pos 2 *ℤ away
+next_height reach bits k y step away fits far is near near_next =
+    let next : pos (k + 1) ≡ pos k +ℤ pos 1 = omega (arith, ints) in
+    let other = Product (Atom (pos 2)) (Atom away) in
+    let below : y -ℤ pos (k + 1) *ℤ step -ℤ pos 2 *ℤ away ≡ (y -ℤ pos k *ℤ step -ℤ pos 2 *ℤ away) -ℤ step =
+    rw next (equal
+    (Difference (Difference (Atom y) (Product (Sum (Atom (pos k)) (Atom (pos 1))) (Atom step))) other)
+    (Difference (Difference (Difference (Atom y) (Product (Atom (pos k)) (Atom step))) other) (Atom step))
+    (omega arith)) in
+    next_bits bits (y -ℤ pos k *ℤ step -ℤ pos 2 *ℤ away) step _ fits is below (omega (arith, near, far)) (omega (arith, near_next, far))

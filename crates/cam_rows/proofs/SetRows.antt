@@ -84,6 +84,21 @@ ends_counted columns n ends new Cut IsHeld size all same cut = record {
   ];
 }
 
+-- the same number of columns in all rows
+pub all_same_counted : (columns n count : ℕ) (new : List ℕ) (IsHeld : ℕ → ℕ → Type 0)
+    → ((k : ℕ) → k < n → slice_index new k ≡ count)
+    → ((k i : ℕ) → k < n → (i < count) ↔ ((i < columns) × IsHeld k i)) → AreCounted columns IsHeld n new
+all_same_counted columns n count new IsHeld all told = record {
+  each = λ k i within small.
+      let here = told k i within in
+      rw (all k within) ((λ on. (here.0 on).1), (λ held. here.1 (small, held)));
+  within = λ k within. elim (cases_lt columns (slice_index new k)) [
+    | inl more ↦
+        let both = (told k columns within).0 (omega (arith, more, all k within)) in absurd (omega (arith, both.0))
+    | inr most ↦ most
+  ];
+}
+
 -- ends of runs from the leftmost column on, of the columns that are held
 pub all_counted : (columns n : ℕ) (old new : List ℕ) (IsHeld : ℕ → ℕ → Type 0) (row : ℕ) → n ≤ row
     → AreSetAbove (λ k end. (i : ℕ) → (i < end) ↔ ((i < columns) × IsHeld k i)) old row new

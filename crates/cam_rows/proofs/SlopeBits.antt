@@ -1,5 +1,5 @@
 -- How many columns there are up to the last number that is not negative, where they fall.
-use Rattle.std.proofs.Common.{◌≡◌, ℕ, suc, zero, ◌+◌, ◌≤◌, ◌<◌, ◌↔◌, ℤ, pos, negsuc, ◌+ℤ◌, ◌-ℤ◌, ◌*ℤ◌, ◌≤ℤ◌, ◌<ℤ◌, ap, subst, sym, ◌∙◌, inl, inr, max, arith}
+use Rattle.std.proofs.Common.{◌≡◌, ℕ, suc, zero, ◌+◌, ◌≤◌, ◌<◌, ◌↔◌, ℤ, pos, negsuc, ◌+ℤ◌, ◌-ℤ◌, ◌*ℤ◌, ◌≤ℤ◌, ◌<ℤ◌, ap, subst, sym, ◌∙◌, ◌⊎◌, inl, inr, max, min, arith}
 use Rattle.std.proofs.lemmas.Bool.{cases_lt}
 use Rattle.std.proofs.lemmas.Int.{by_lt_z, ints}
 use Rattle.std.proofs.lemmas.Nat.{mul-le}
@@ -7,7 +7,7 @@ use Rattle.cam_units.proofs.Ring.{Atom, Difference, Product, Sum, equal}
 use Rattle.cam_rows.specs.declared.slope.Crossing.{Crossing}
 use Rattle.cam_rows.specs.declared.slope.Steps.{Steps}
 use Rattle.cam_rows.specs.Machinery.Narrowing.{IsUp}
-use Rattle.cam_rows.specs.Machinery.Slopes.{AreSteps, IsCrossing, IsRest, Sloped}
+use Rattle.cam_rows.specs.Machinery.Slopes.{AreSteps, IsCrossing, IsRest, IsRestAfter, Sloped}
 use Rattle.cam_rows.specs.Machinery.Slopes.{falling, lacking, lowered, number_on, whole}
 use Rattle.cam_rows.proofs.SlopeParts.{next_whole}
 use Rattle.cam_rows.proofs.Slopes.{lowered_more}
@@ -53,6 +53,59 @@ pub crossing_tells : (c : Crossing) (t : Steps) (bound i : ℕ) → AreSteps t �
     → (pos i <ℤ c.columns) ↔ (pos 0 ≤ℤ number_on (falling c t) i)
 crossing_tells c t bound i steps here =
     up_to_last c.columns t.divisor c.rest i steps.divisor.0 here.low here.high
+
+-- ---- a crossing that lies in one column in some rows
+
+-- so many steps lead no further than more of them do
+steps_within : (step : ℤ) (k last : ℕ) → k ≤ last
+    → ((pos 0 ≤ℤ (pos k *ℤ step)) × ((pos k *ℤ step) ≤ℤ (pos last *ℤ step)))
+    ⊎ (((pos last *ℤ step) ≤ℤ (pos k *ℤ step)) × ((pos k *ℤ step) ≤ℤ pos 0))
+steps_within (pos n) k last within =
+    inl (omega (arith, ints), omega (arith, ints, mul-le k n last n within (omega arith)))
+steps_within (negsuc n) k last within =
+    inr (omega (arith, ints, mul-le k (suc n) last (suc n) within (omega arith)), omega (arith, ints))
+
+lower_whole : (e d r change : ℤ) (k : ℕ) → whole e d (r +ℤ pos k *ℤ change) ≡ whole e d r +ℤ pos k *ℤ change
+lower_whole e d r change k =
+    equal
+    (Sum (Product (Atom e) (Atom d)) (Sum (Atom r) (Product (Atom (pos k)) (Atom change))))
+    (Sum (Sum (Product (Atom e) (Atom d)) (Atom r)) (Product (Atom (pos k)) (Atom change)))
+    (omega arith)
+
+rest_between : (r d change : ℤ) (k last : ℕ) → k ≤ last → (pos 0 -ℤ d) ≤ℤ r → r <ℤ pos 0
+    → (pos 0 -ℤ d) ≤ℤ (r +ℤ pos last *ℤ change) → (r +ℤ pos last *ℤ change) <ℤ pos 0
+    → ((pos 0 -ℤ d) ≤ℤ (r +ℤ pos k *ℤ change)) × ((r +ℤ pos k *ℤ change) <ℤ pos 0)
+rest_between r d change k last within low high last_low last_high = elim (steps_within change k last within) [
+  | inl on ↦ (omega (arith, ints, on.0, low), omega (arith, ints, on.1, last_high))
+  | inr back ↦ (omega (arith, ints, back.0, last_low), omega (arith, ints, back.1, high))
+]
+
+pub stays_tells : (c : Crossing) (t : Steps) (bound k last i : ℕ) → AreSteps t → IsCrossing t bound c → k ≤ last
+    → IsRestAfter last c t → (pos i <ℤ c.columns) ↔ IsUp (falling c t) k i
+stays_tells c t bound k last i steps here within stays =
+    let change = whole t.columns t.divisor t.rest in
+    let rest = rest_between c.rest t.divisor change k last within here.low here.high stays.0 stays.1 in
+    subst (λ (z : ℤ). (pos i <ℤ c.columns) ↔ (pos 0 ≤ℤ (z +ℤ pos i *ℤ (pos 0 -ℤ t.divisor))))
+    (lower_whole c.columns t.divisor c.rest change k)
+    (up_to_last c.columns t.divisor (c.rest +ℤ pos k *ℤ change) i steps.divisor.0 rest.0 rest.1)
+
+-- so many of the columns in each of these rows
+pub stays_counted : (c : Crossing) (t : Steps) (bound k last columns count i : ℕ) → AreSteps t → IsCrossing t bound c → k ≤ last
+    → IsRestAfter last c t → (i < count) ↔ ((i < columns) × (pos i <ℤ c.columns))
+    → (i < count) ↔ ((i < columns) × IsUp (falling c t) k i)
+stays_counted c t bound k last columns count i steps here within stays told =
+    let same = stays_tells c t bound k last i steps here within stays in (
+      (λ on. let both = told.0 on in (both.0, same.0 both.1)),
+      (λ both. told.1 (both.0, same.1 both.1)),
+    )
+
+-- ends that are cut to one number of columns
+pub end_cut_to : (end new columns most i : ℕ) (Early IsHeld : Type 0) → new ≡ min end columns → end ≤ most
+    → (i < columns) ↔ ((i < most) × Early) → Early ↔ IsHeld → (i < new) ↔ ((i < end) × IsHeld)
+end_cut_to end new columns most i Early IsHeld is all before same = (
+  (λ on. (omega (arith, is, on), same.0 (before.0 (omega (arith, is, on))).1)),
+  (λ both. let less = before.1 (omega (arith, both.0, all), same.1 both.1) in omega (arith, is, both.0, less)),
+)
 
 -- by a quotient that is rounded down
 pub quotient_tells : (q d r n : ℤ) (i : ℕ) → pos 1 ≤ℤ d → IsRest r d → whole q d r ≡ n

@@ -6,7 +6,7 @@ ghost use Rattle.std.specs.Prelude.{◌≡◌, ◌↔◌, ◌-◌, ◌*◌, ◌<
 ghost use Rattle.std.specs.Int.RustNames.{unsigned_abs};
 ghost use Rattle.cam_units.specs.Board.{IsOnBoard};
 ghost use Rattle.cam_shapes.specs.Plane.{seen_from, square};
-ghost use Rattle.cam_rows.specs.Machinery.Chords.{AreOffsetsFrom, AreWithin, IsChord, IsInChord, offset};
+ghost use Rattle.cam_rows.specs.Machinery.Chords.{AreOffsetsFrom, AreOnSides, AreWithin, IsChord, IsInChord, offset};
 ghost use Rattle.cam_rows.specs.Rows.{centre_at};
 ghost use Rattle.cam_rows.specs.Runs.{AreWideRows, IsInRun, IsWideRow};
 
@@ -23,7 +23,8 @@ pub(crate) const NEAR: u64 = 1 << 32;
 pub(crate) const FAR: u64 = 1 << 34;
 
 /// The columns of rows, one below another, in chords of a circle: from each row to the next its ends are found by a few
-/// steps to the left and to the right of the circle's middle. What is near is found in 64 bits.
+/// steps to the left and to the right of the circle's middle. What is near is found in 64 bits. Where all columns lie on
+/// one side, as of a circle that is larger than the board, the other one is not walked.
 #[derive(Clone, Copy)]
 pub(crate) struct Chord {
     offsets: Offsets,
@@ -54,14 +55,35 @@ impl Chord {
         }
     }
 
+    /// Whether none of its columns lies left of the middle.
+    pub(crate) fn has_none_left(&self) -> bool
+        ensures { IsTrue result ↔ (self.now.left.columns ≡ 0) }
+    {
+        self.left.columns == 0
+    }
+
+    /// Whether none of them lies right of it.
+    pub(crate) fn has_none_right(&self) -> bool
+        ensures { IsTrue result ↔ (self.now.right.columns ≡ 0) }
+    {
+        self.right.columns == 0
+    }
+
     /// Goes to the chord of another row, where the squares of its halves are `to_left` and `to_right`: the run of the
     /// columns in that.
     #[inline]
-    pub(crate) fn walk<const REACH: u64>(&mut self, to_left: u128, to_right: u128) -> Run
+    pub(crate) fn walk<const REACH: u64, const LEFT: bool, const RIGHT: bool>(
+        &mut self,
+        to_left: u128,
+        to_right: u128,
+    ) -> Run
         requires chord { IsChord REACH self.old }
+        requires sides { AreOnSides LEFT RIGHT self.old }
         requires left { to_left < REACH * REACH }
         requires right { to_right < REACH * REACH }
         ensures chord { IsChord REACH self.new }
+        ensures left { self.new.left.columns ≡ self.old.left.columns }
+        ensures right { self.new.right.columns ≡ self.old.right.columns }
         ensures same { self.new.offsets ≡ self.old.offsets }
         ensures each { (i : ℕ) → i < self.old.offsets.count → IsInRun result.first result.end i
             ↔ IsInChord (offset self.old.offsets.first self.old.offsets.step i) to_left to_right }
@@ -69,8 +91,8 @@ impl Chord {
     {
         let middle = self.left.columns;
         Run {
-            first: middle - self.left.walk::<REACH>(to_left),
-            end: middle + self.right.walk::<REACH>(to_right),
+            first: middle - self.left.walk::<REACH, LEFT>(to_left),
+            end: middle + self.right.walk::<REACH, RIGHT>(to_right),
         }
     }
 
@@ -79,6 +101,8 @@ impl Chord {
         requires chord { IsChord REACH self.old }
         requires fits { room < REACH * REACH }
         ensures chord { IsChord REACH self.new }
+        ensures left { self.new.left.columns ≡ self.old.left.columns }
+        ensures right { self.new.right.columns ≡ self.old.right.columns }
         ensures same { self.new.offsets ≡ self.old.offsets }
     {
         let step = self.right.step;
@@ -93,10 +117,17 @@ impl Chord {
     /// The part of a run that lies in the chord of another row: the columns whose distance to the side has a square less
     /// than `room`. To an empty run, or a chord without a place, nothing is walked.
     #[inline]
-    pub(crate) fn part<const REACH: u64>(&mut self, room: u128, run: Run) -> Run
+    pub(crate) fn part<const REACH: u64, const LEFT: bool, const RIGHT: bool>(
+        &mut self,
+        room: u128,
+        run: Run,
+    ) -> Run
         requires chord { IsChord REACH self.old }
+        requires sides { AreOnSides LEFT RIGHT self.old }
         requires fits { room < REACH * REACH }
         ensures chord { IsChord REACH self.new }
+        ensures left { self.new.left.columns ≡ self.old.left.columns }
+        ensures right { self.new.right.columns ≡ self.old.right.columns }
         ensures same { self.new.offsets ≡ self.old.offsets }
         ensures each { (i : ℕ) → i < self.old.offsets.count → IsInRun result.first result.end i
             ↔ (IsInRun run.first run.end i
@@ -109,7 +140,7 @@ impl Chord {
         if room == 0 {
             return Run { first: 0, end: 0 };
         }
-        let chord = self.walk::<REACH>(room, room);
+        let chord = self.walk::<REACH, LEFT, RIGHT>(room, room);
         Run {
             first: run.first.max(chord.first),
             end: run.end.min(chord.end),

@@ -4,9 +4,9 @@
 mod cutting;
 mod dividing;
 
-ghost use Rattle.std.specs.Prelude.{◌≡◌, ◌/◌, ◌+◌, ◌^◌, ◌<◌, ◌≤◌, ◌↔◌, ℕ, pos, ◌-ℤ◌, ◌+ℤ◌, ◌*ℤ◌, ◌≤ℤ◌, ◌<ℤ◌};
+ghost use Rattle.std.specs.Prelude.{◌≡◌, ◌/◌, ◌+◌, ◌-◌, IsTrue, ◌^◌, ◌<◌, ◌≤◌, ◌↔◌, ℕ, pos, ◌-ℤ◌, ◌+ℤ◌, ◌*ℤ◌, ◌≤ℤ◌, ◌<ℤ◌};
 ghost use Rattle.std.specs.Int.RustNames.{unsigned_abs};
-ghost use Rattle.cam_rows.specs.Machinery.Slopes.{AreSteps, IsCrossing, IsDivisor, IsRest, whole};
+ghost use Rattle.cam_rows.specs.Machinery.Slopes.{AreSteps, IsCrossing, IsDivisor, IsRest, IsRestAfter, whole};
 ghost use Rattle.cam_rows.specs.Runs.{most_columns};
 
 pub(crate) use cutting::{count_both, cut_ends, cut_firsts};
@@ -35,6 +35,19 @@ impl Crossing {
         ensures { (i : ℕ) → (i < result) ↔ ((i < end) × (pos i <ℤ self.columns)) }
     {
         self.columns.max(0).min(i64::from(end)) as u32
+    }
+
+    /// Whether it lies in the same column in so many rows, this one the first of them.
+    pub(crate) fn stays(self, steps: &Steps, rows: usize) -> bool
+        requires steps { AreSteps steps.now }
+        requires here { IsCrossing steps.now (2 ^ 61 + 1) self }
+        requires some { 0 < rows }
+        requires few { rows ≤ 2 ^ 20 }
+        ensures { IsTrue result ↔ IsRestAfter (rows - 1) self steps.now }
+    {
+        let change = i128::from(steps.columns) * i128::from(steps.divisor) + i128::from(steps.rest);
+        let last = i128::from(self.rest) + (rows - 1) as i128 * change;
+        -i128::from(steps.divisor) <= last && last < 0
     }
 
     /// The crossing of the next row.

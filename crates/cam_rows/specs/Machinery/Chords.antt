@@ -1,5 +1,5 @@
 -- Chords of circles, by how far the centres of a row lie to the right of the circle's middle.
-use Rattle.std.specs.Prelude.{◌≡◌, ℕ, ◌+◌, ◌-◌, ◌*◌, ℤ, pos, ◌+ℤ◌, ◌-ℤ◌, ◌*ℤ◌, ◌≤ℤ◌, ◌<ℤ◌, ◌^◌, ◌<◌, ◌≤◌, ◌⊎◌}
+use Rattle.std.specs.Prelude.{Bool, false, ◌≡◌, ℕ, ◌+◌, ◌-◌, ◌*◌, ℤ, pos, ◌+ℤ◌, ◌-ℤ◌, ◌*ℤ◌, ◌≤ℤ◌, ◌<ℤ◌, ◌^◌, ◌<◌, ◌≤◌, ◌⊎◌}
 use Rattle.std.specs.Int.RustNames.{unsigned_abs}
 use Rattle.cam_units.specs.declared.point.Point.{Point}
 use Rattle.cam_shapes.specs.Plane.{seen_from, square}
@@ -91,6 +91,11 @@ pub record IsChord (reach : ℕ) (c : Chord) : Type 0 where
       → (place_of c i ≡ pos 0 -ℤ pos (distance_at c.left (c.left.columns - 1 - i))) × (place_of c i <ℤ pos 0)
   pub after : (i : ℕ) → c.left.columns ≤ i → i < c.offsets.count
       → place_of c i ≡ pos (distance_at c.right (i - c.left.columns))
+
+-- its columns lie to the left of the middle, or to the right, only where that is said
+pub record AreOnSides (left right : Bool) (c : Chord) : Type 0 where
+  pub none_left : left ≡ false → c.left.columns ≡ 0
+  pub none_right : right ≡ false → c.right.columns ≡ 0
 
 -- the centres of so many rows lie within a reach of a point, to the side and up or down, and a bound is less than its
 -- square

@@ -58,6 +58,12 @@ pub record IsCrossing (t : Steps) (bound : ℕ) (c : Crossing) : Type 0 where
   pub high : c.rest <ℤ pos 0
   pub near : unsigned_abs c.columns ≤ bound
 
+-- so many rows lower it lies in the same column: what the remainder lacks is at most the divisor there too
+abbrev pub IsRestAfter : ℕ → Crossing → Steps → Type 0
+IsRestAfter k c t =
+    ((pos 0 -ℤ t.divisor) ≤ℤ (c.rest +ℤ pos k *ℤ whole t.columns t.divisor t.rest))
+    × ((c.rest +ℤ pos k *ℤ whole t.columns t.divisor t.rest) <ℤ pos 0)
+
 -- the steps of numbers that fall by a divisor from each centre to the next, and change from each row to the next
 pub record AreStepsOf (t : Steps) (change fall : ℤ) : Type 0 where
   pub steps : AreSteps t

@@ -1,6 +1,6 @@
 //! The columns on one side of a circle's middle.
 
-ghost use Rattle.std.specs.Prelude.{◌≡◌, ◌↔◌, ℕ, ◌-◌, ◌*◌, ◌<◌, IsTrue};
+ghost use Rattle.std.specs.Prelude.{◌≡◌, ◌↔◌, ℕ, ◌-◌, ◌*◌, ◌<◌, IsTrue, false};
 ghost use Rattle.cam_rows.specs.Machinery.Chords.{AreBeyond, AreNear, HasReached, IsBeyond, IsSameSide, IsSide};
 ghost use Rattle.cam_rows.specs.Machinery.Chords.{distance_at};
 
@@ -35,18 +35,22 @@ impl ChordSide {
         }
     }
 
-    /// Goes to the chord of another row: it tells how many columns lie in that.
+    /// Goes to the chord of another row: it tells how many columns lie in that. A side that has none stays as it is.
     #[inline]
-    pub(super) fn walk<const REACH: u64>(&mut self, room: u128) -> u32
+    pub(super) fn walk<const REACH: u64, const HAS_COLUMNS: bool>(&mut self, room: u128) -> u32
         requires side { IsSide REACH self.old }
         requires reached { HasReached self.old self.old.room }
         requires fits { room < REACH * REACH }
+        requires columns { HAS_COLUMNS ≡ false → self.old.columns ≡ 0 }
         ensures side { IsSide REACH self.new }
         ensures reached { HasReached self.new self.new.room }
-        ensures room { self.new.room ≡ room }
+        ensures there { HasReached self.new room }
         ensures same { IsSameSide self.old self.new }
         ensures inside { result ≡ self.new.inside }
     {
+        if !HAS_COLUMNS {
+            return 0;
+        }
         if is_less::<REACH>(room, self.room) {
             self.narrow::<REACH>(room);
         } else {

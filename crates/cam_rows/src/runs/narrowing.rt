@@ -1,6 +1,6 @@
 //! Runs of wide rows, narrowed to half planes.
 
-ghost use Rattle.std.specs.Prelude.{◌≡◌, ◌↔◌, ◌+◌, ◌^◌, ◌<◌, ◌≤◌, ℕ, IfSome, length, pos, ◌≤ℤ◌, ◌<ℤ◌};
+ghost use Rattle.std.specs.Prelude.{◌≡◌, ◌↔◌, ◌+◌, ◌^◌, ◌<◌, ◌≤◌, ℕ, IfSome, IsTrue, length, pos, ◌*ℤ◌, ◌≤ℤ◌, ◌<ℤ◌};
 ghost use Rattle.std.specs.Int.RustNames.{unsigned_abs};
 ghost use Rattle.cam_units.specs.Board.{IsOnBoard};
 ghost use Rattle.cam_rows.specs.Machinery.HalfPlanes.{IsCrossingIn, IsLeft, IsShortIn, numbers_of};
@@ -52,11 +52,29 @@ impl HalfPlane {
         ensures { AreNarrowed columns firsts.old ends.old (IsUp (numbers_of self.now)) (length firsts.old)
             firsts.new ends.new }
     {
+        // the ends of a wide arc lie in few rows of tiles, and elsewhere its sweep holds all columns
+        if self.holds_all(columns, firsts.len()) {
+            return;
+        }
         match self.crossing(firsts.len()) {
             Some((top, steps)) if self.row.step < 0 => cut_ends(top, &steps, ends),
             Some((top, steps)) => cut_firsts(top, &steps, columns, firsts),
             None => self.narrow_each(columns, firsts, ends),
         }
+    }
+
+    /// Whether it holds so many columns of as many rows, all of them: the least of their numbers is one in a corner.
+    fn holds_all(&self, columns: u32, rows: usize) -> bool
+        requires short { IsShortIn rows self.now }
+        requires few { columns ≤ most_columns }
+        ensures { IsTrue result ↔ ((k i : ℕ) → k < rows → i < columns → IsUp (numbers_of self.now) k i) }
+    {
+        if columns == 0 || rows == 0 {
+            return true;
+        }
+        let row = least_of(self.down, rows);
+        let column = least_of(self.row.step, columns as usize);
+        self.number_below(row) + column as i128 * self.row.step >= 0
     }
 
     /// The ends of runs of wide rows, one below another from the top one, that begin at the leftmost column, where its
@@ -186,4 +204,13 @@ impl HalfPlane {
     {
         self.row.first + steps as i128 * self.down
     }
+}
+
+/// Which of so many numbers is the least, where each is a step more than the one before it.
+fn least_of(step: i128, count: usize) -> usize
+    requires some { 0 < count }
+    ensures within { result < count }
+    ensures least { (k : ℕ) → k < count → (pos result *ℤ step) ≤ℤ (pos k *ℤ step) }
+{
+    if step < 0 { count - 1 } else { 0 }
 }

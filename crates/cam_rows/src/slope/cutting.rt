@@ -1,22 +1,40 @@
 //! Runs of wide rows, one below another, cut where falling numbers cross 0.
 
-ghost use Rattle.std.specs.Prelude.{◌≡◌, ◌+◌, ◌^◌, ◌≤◌, length};
+ghost use Rattle.std.specs.Prelude.{◌≡◌, ◌+◌, ◌^◌, ◌<◌, ◌≤◌, ℕ, length, min, slice_index};
 ghost use Rattle.cam_rows.specs.Machinery.Narrowing.{AreCounted, AreEndsCut, AreFirstsCut, IsUp};
 ghost use Rattle.cam_rows.specs.Machinery.Slopes.{AreSteps, IsCrossing, falling};
 
 use super::{Crossing, Steps};
 
-/// Cuts the ends of runs to the columns at which the numbers are not negative.
+/// Cuts the ends of runs to the columns at which the numbers are not negative: those of a steep line mostly to one number
+/// of columns.
 pub(crate) fn cut_ends(top: Crossing, steps: &Steps, ends: &mut [u32])
     requires steps { AreSteps steps.now }
     requires top { IsCrossing steps.now (2 ^ 61 + 1) top }
     requires rows { length ends.old ≤ 2 ^ 20 }
     ensures { AreEndsCut (IsUp (falling top steps.now)) ends.old ends.new }
 {
+    if ends.is_empty() {
+        return;
+    }
+    if top.stays(steps, ends.len()) {
+        cut_all(ends, top.columns_before(u32::MAX));
+        return;
+    }
     let mut crossing = top;
     for k in 0..ends.len() {
         ends[k] = crossing.columns_before(ends[k]);
         crossing = crossing.below(steps);
+    }
+}
+
+/// Cuts all ends to one number of columns.
+fn cut_all(ends: &mut [u32], columns: u32)
+    ensures size { length ends.new ≡ length ends.old }
+    ensures each { (k : ℕ) → k < length ends.old → slice_index ends.new k ≡ min (slice_index ends.old k) columns }
+{
+    for k in 0..ends.len() {
+        ends[k] = ends[k].min(columns);
     }
 }
 
@@ -51,6 +69,14 @@ pub(crate) fn count_both(
     ensures firsts { AreCounted columns (IsUp (falling low steps.now)) (length firsts.old) firsts.new }
     ensures ends { AreCounted columns (IsUp (falling high steps.now)) (length firsts.old) ends.new }
 {
+    if firsts.is_empty() {
+        return;
+    }
+    if low.stays(steps, firsts.len()) && high.stays(steps, firsts.len()) {
+        firsts.fill(low.columns_before(columns));
+        ends.fill(high.columns_before(columns));
+        return;
+    }
     let mut first = low;
     let mut end = high;
     for k in 0..firsts.len() {

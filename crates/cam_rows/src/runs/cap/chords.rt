@@ -30,7 +30,7 @@ pub(super) fn run_at<const REACH: u64>(chord: &mut Chord, radius: u128, height: 
     if to_left == 0 {
         return Run { first: 0, end: 0 };
     }
-    chord.walk::<REACH>(to_left, right_room(to_left, height < 0))
+    chord.walk::<REACH, true, true>(to_left, right_room(to_left, height < 0))
 }
 
 /// What the squares of the places inside a chord are less than, from its middle to the right, where those to the left are

@@ -7,4 +7,4 @@ returns-clause-each g c = λ i within.
     let right = c.walk-2.ensures in
     rw (left.inside, right.inside)
     (in_walk _ c.args.self.now c.walk.new.self c.walk-2.new.self c.args.to_left c.args.to_right i c.requires.chord
-    left.same right.same left.reached right.reached left.room right.room left.side right.side within)
+    left.same right.same left.there right.there left.side right.side within)

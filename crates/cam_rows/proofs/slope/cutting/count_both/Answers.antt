@@ -1,8 +1,8 @@
-use Rattle.std.proofs.Common.{sym, length, arith}
+use Rattle.std.proofs.Common.{◌-◌, sym, refl, length, arith}
 use Rattle.cam_rows.specs.Machinery.Narrowing.{IsUp}
 use Rattle.cam_rows.specs.Machinery.Slopes.{falling}
-use Rattle.cam_rows.proofs.SetRows.{all_counted, next_set, none_set}
-use Rattle.cam_rows.proofs.SlopeBits.{end_cut, falling_below, nearer}
+use Rattle.cam_rows.proofs.SetRows.{all_counted, all_same_counted, next_set, none_set}
+use Rattle.cam_rows.proofs.SlopeBits.{end_cut, falling_below, nearer, stays_counted}
 use Rattle.cam_rows.proofs.Slopes.{lowered_none}
 use Rattle.cam_rows.proofs.slope.cutting.count_both.Goals as goal
 
@@ -28,12 +28,29 @@ loop-k-preserved c =
       near_high = nearer steps c.below-end.result _ _ (omega arith) (c.below-end.ensures.near _ was.near_high);
       firsts =
           next_set _ c.args.firsts.now c.loop-k.firsts k _ (omega arith) was.firsts
-          (end_cut c.args.low c.loop-k.first steps k _ c.requires.steps was.near_low was.low _ _ c.columns_before.ensures);
+          (end_cut c.args.low c.loop-k.first steps k _ c.requires.steps was.near_low was.low _ _ c.columns_before-in-loop-k.ensures);
       ends =
           next_set _ c.args.ends.now c.loop-k.ends k _ (omega (arith, c.requires.ends)) was.ends
           (end_cut c.args.high c.loop-k.end steps k _ c.requires.steps was.near_high was.high _ _
-          c.columns_before-in-loop-k.ensures);
+          c.columns_before-in-loop-k-2.ensures);
     }
+
+pub returns-then-stays-2-clause-firsts : goal.returns-then-stays-2-clause-firsts
+returns-then-stays-2-clause-firsts c =
+    let rows = length c.args.firsts.now in
+    all_same_counted c.args.columns rows c.columns_before.result c.fill.new.self (IsUp (falling c.args.low c.args.steps.now))
+    (λ k within. c.fill.ensures.clones k 0 (omega (arith, within, c.fill.ensures.len)) refl)
+    (λ k i within. stays_counted c.args.low c.args.steps.now _ k (rows - 1) c.args.columns c.columns_before.result i
+    c.requires.steps c.requires.low (omega (arith, within)) (c.stays.ensures.0 c.if-stays.true) (c.columns_before.ensures i))
+
+pub returns-then-stays-2-clause-ends : goal.returns-then-stays-2-clause-ends
+returns-then-stays-2-clause-ends c =
+    let rows = length c.args.firsts.now in
+    let count = c.columns_before-then-stays-2 in
+    all_same_counted c.args.columns rows count.result c.fill-then-stays-2.new.self (IsUp (falling c.args.high c.args.steps.now))
+    (λ k within. c.fill-then-stays-2.ensures.clones k 0 (omega (arith, within, c.fill-then-stays-2.ensures.len, c.requires.ends)) refl)
+    (λ k i within. stays_counted c.args.high c.args.steps.now _ k (rows - 1) c.args.columns count.result i
+    c.requires.steps c.requires.high (omega (arith, within)) (c.stays-then-stays.ensures.0 c.if-stays-2.true) (count.ensures i))
 
 pub returns-clause-firsts : goal.returns-clause-firsts
 returns-clause-firsts c =

@@ -1,6 +1,6 @@
-use Rattle.std.proofs.Common.{sym, arith}
+use Rattle.std.proofs.Common.{◌-◌, ◌^◌, length, ◌<◌, slice_index, sym, arith, rules}
 use Rattle.cam_rows.proofs.SetRows.{next_set, none_set}
-use Rattle.cam_rows.proofs.SlopeBits.{end_cut, falling_below, nearer}
+use Rattle.cam_rows.proofs.SlopeBits.{end_cut, end_cut_to, falling_below, nearer, stays_tells}
 use Rattle.cam_rows.proofs.Slopes.{lowered_none}
 use Rattle.cam_rows.proofs.slope.cutting.cut_ends.Goals as goal
 
@@ -21,8 +21,18 @@ loop-k-preserved c =
       cut =
           next_set _ ends c.loop-k.ends c.loop-k.k _ (omega arith) was.cut
           (end_cut top c.loop-k.crossing steps c.loop-k.k _ c.requires.steps was.here was.lowered _ _
-          (rw (was.cut.same c.loop-k.k (omega arith)) at c.columns_before.ensures));
+          (rw (was.cut.same c.loop-k.k (omega arith)) at c.columns_before-in-loop-k.ensures));
     }
+
+pub returns-then-stays : goal.returns-then-stays
+returns-then-stays c = λ k i within.
+    let top = c.args.top in
+    let ends = c.args.ends.now in
+    let last = length ends - 1 in
+    let short : slice_index ends k < 2 ^ 32 = search rules in
+    end_cut_to (slice_index ends k) (slice_index c.cut_all.new.ends k) c.columns_before.result (2 ^ 32 - 1) i _ _
+    (c.cut_all.ensures.each k within) (omega (arith, short)) (c.columns_before.ensures i)
+    (stays_tells top c.args.steps.now _ k last i c.requires.steps c.requires.top (omega (arith, within)) (c.stays.ensures.0 c.if-stays.true))
 
 pub returns : goal.returns
 returns c = λ k i within. c.loop-k.invariant.cut.above k (omega (arith, within, c.loop-k-test.false)) i

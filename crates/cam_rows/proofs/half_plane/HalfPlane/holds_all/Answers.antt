@@ -1,0 +1,18 @@
+use Rattle.std.proofs.Common.{arith}
+use Rattle.cam_rows.specs.Machinery.HalfPlanes.{numbers_of}
+use Rattle.cam_rows.proofs.Corners.{least_number, least_test}
+use Rattle.cam_rows.proofs.half_plane.HalfPlane.holds_all.Goals as goal
+
+pub returns : goal.returns
+returns c =
+    let numbers = numbers_of c.args.self.now in
+    let row = c.least_of-row in
+    let column = c.least_of-column in
+    let told = least_test numbers row.result column.result c.number_below.result c.number_below.ensures
+    (c.requires.short.rows row.result row.ensures.within) c.requires.short.row.step
+    (omega (arith, column.ensures.within, c.requires.few)) in (
+      (λ up k i below within.
+          least_number numbers row.result column.result k i c.requires.short.down c.requires.short.row.step
+          (row.ensures.least k below) (column.ensures.least i within) (told.0 up)),
+      (λ held. told.1 (held row.result column.result row.ensures.within column.ensures.within)),
+    )
