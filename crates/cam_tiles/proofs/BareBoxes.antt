@@ -27,8 +27,8 @@ module _ (xs ys : List Boxed) (alike : map bare xs ≡ map bare ys) where
 
   pub kept_boxed : (lists : List (List Leaf)) → All (IsBoxed lists) ys → All (IsBoxed lists) xs
   kept_boxed lists =
-      kept_all (IsBoxed lists) (λ b h. record { within = h.within; sides = h.sides })
-      (λ b h. record { within = h.within; sides = h.sides })
+      kept_all (IsBoxed lists) (λ b h. record { within = h.within; corners = h.corners })
+      (λ b h. record { within = h.within; corners = h.corners })
 
   pub kept_ends : (rows : ℕ) → All (λ b. b.rows.end ≤ rows) ys → All (λ b. b.rows.end ≤ rows) xs
   kept_ends rows = kept_all (λ b. b.rows.end ≤ rows) (λ b h. h) (λ b h. h)

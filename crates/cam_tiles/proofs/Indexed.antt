@@ -1,5 +1,5 @@
 -- painting by an index: leaves that are seen nowhere may be left out
-use Rattle.std.proofs.Common.{◌≡◌, ℕ, zero, suc, ◌+◌, ◌<◌, ◌≤◌, ◌≤ℤ◌, inl, inr, true, cond}
+use Rattle.std.proofs.Common.{◌≡◌, ℕ, zero, suc, ◌+◌, ◌<◌, ◌≤◌, inl, inr, true, cond}
 use Rattle.std.proofs.Common.{◌-◌, List, [], ◌∷◌, ◌++◌, length, get_or, drop, filter}
 use Rattle.std.proofs.Common.{refl, sym, ap, subst, ◌∙◌, arith}
 use Rattle.std.specs.List.{All, flat_map}
@@ -106,8 +106,8 @@ module _ (lists : List (List Leaf)) (w : Window) (within : Bounds) where
           each = All-push (IsBoxed lists) boxed b so_far.each
               (record {
                 within = omega (arith, place, so_far.few);
-                sides = subst (λ k. (s : Spot) → Holds (bounds_of (at lists k)) s → (b.left ≤ℤ s.x) × (s.x ≤ℤ b.right))
-                    (sym place) box.sides;
+                corners = subst (λ k. (s : Spot) → Holds (bounds_of (at lists k)) s → IsBetween b.low b.high s) (sym place)
+                    box.corners;
               });
           ends = All-push (λ (b : Boxed). b.rows.end ≤ down w) boxed b so_far.ends box.ends;
           enough = λ row. elim (cases_Bool (reaches row b)) [

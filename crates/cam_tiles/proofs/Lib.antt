@@ -17,6 +17,7 @@ pub mod JoinedCentres
 pub mod JoinedWords
 pub mod LastFound
 pub mod Lattices
+pub mod LentInks
 pub mod LevelRows
 pub mod MarkedBoxes
 pub mod MarkedColumns

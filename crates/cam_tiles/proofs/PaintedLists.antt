@@ -11,10 +11,11 @@ use Rattle.cam_units.specs.declared.bounds.Bounds.{Bounds}
 use Rattle.cam_units.specs.declared.bounds.Bounds.TheVariants.{Closed}
 use Rattle.cam_units.specs.declared.point.Spot.{Spot}
 use Rattle.cam_objects.specs.Bounds.{bounds_of}
+use Rattle.cam_objects.specs.Canvases.{IsDecidedIn}
 use Rattle.cam_objects.specs.Leaves.{Leaf}
 use Rattle.cam_objects.specs.Tests.{last_ink}
-use Rattle.cam_objects.proofs.Canvases.{paints_beneath, paints_last, paints_next, paints_off}
-use Rattle.cam_objects.proofs.CoveredBoxes.{outside_box}
+use Rattle.cam_objects.proofs.Canvases.{paints_beneath, paints_decided, paints_last, paints_next, paints_off}
+use Rattle.cam_objects.proofs.CoveredBoxes.{inside_box, outside_box}
 use Rattle.cam_objects.proofs.LastInks.{or_decided}
 use Rattle.cam_tiles.specs.declared.index.Boxed.{Boxed}
 use Rattle.cam_tiles.specs.declared.levels.Levels.{Levels}
@@ -75,7 +76,7 @@ module _ (lists : List (List Leaf)) (b : Boxed) (left right : ℤ) (old now : Sw
   pub beside_painted : IsBoxed lists b
       → ((column row : ℕ) → IsInSwath old column row
       → (left ≤ℤ (place_in old column row).x) × ((place_in old column row).x ≤ℤ right))
-      → ((b.left ≤ℤ right) × (left ≤ℤ b.right) → ⊥) → PaintsSwath now (at lists b.place) now
+      → ((b.low.x ≤ℤ right) × (left ≤ℤ b.high.x) → ⊥) → PaintsSwath now (at lists b.place) now
   beside_painted boxes between apart =
       paints_off IsInSwath place_in ink_in now (at lists b.place) (λ column row there.
       let place : place_in now column row ≡ place_in old column row =
@@ -83,9 +84,16 @@ module _ (lists : List (List Leaf)) (b : Boxed) (left right : ℤ) (old now : Sw
       let inside = between column row ((h.pixels column row).0 there) in
       outside_box (at lists b.place) (place_in now column row)
       (λ found.
-      let sides = boxes.sides (place_in old column row)
+      let corners = boxes.corners (place_in old column row)
       (subst (λ (s : Spot). Holds (bounds_of (at lists b.place)) s) place found) in
-      apart (omega (arith, ints, sides.0, inside.1), omega (arith, ints, sides.1, inside.0))))
+      apart (omega (arith, ints, corners.left, inside.1), omega (arith, ints, corners.right, inside.0))))
+
+-- and an item of whose box all is decided
+pub decided_painted : (lists : List (List Leaf)) (b : Boxed) (now : Swathed) → IsBoxed lists b
+    → IsDecidedIn IsInSwath place_in ink_in now (Closed b.low b.high) → PaintsSwath now (at lists b.place) now
+decided_painted lists b now boxes decided =
+    paints_decided IsInSwath place_in ink_in now (at lists b.place) (Closed b.low b.high)
+    (λ s any. boxes.corners s (inside_box (at lists b.place) s any)) decided
 
 -- ---- the items that have some numbers
 

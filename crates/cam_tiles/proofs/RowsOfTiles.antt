@@ -1,5 +1,5 @@
 -- rows of tiles: which of them boxes reach
-use Rattle.std.proofs.Common.{◌≡◌, ◌↔◌, ℕ, ◌+◌, ◌-◌, ◌*◌, ◌<◌, ◌≤◌, min, pos, ◌-ℤ◌, ◌*ℤ◌, ◌≤ℤ◌, true}
+use Rattle.std.proofs.Common.{◌≡◌, ℕ, ◌+◌, ◌-◌, ◌*◌, ◌<◌, ◌≤◌, min, pos, ◌-ℤ◌, ◌*ℤ◌, ◌≤ℤ◌, true}
 use Rattle.std.proofs.Common.{sym, ap, subst, ◌∙◌, arith}
 use Rattle.std.proofs.lemmas.Bool.{and_from}
 use Rattle.std.proofs.lemmas.Bool.Decides.{nat_tests}
@@ -39,10 +39,9 @@ row_reached w low high rows are row s on below above =
 pub no_row : (rows : Span) (row : ℕ) → rows.end ≤ rows.first → is_in_span rows row ≡ true → ⊥
 no_row rows row none reached = grind (arith, nat_tests)
 
--- and of those that are seen, the rows of what they are clipped to
-pub row_seen : (w : Window) (within box clip : Bounds) (low high : Spot) (rows : Span) → clip ≡ Closed low high
-    → ((s : Spot) → Holds clip s ↔ (Holds box s × Holds within s)) → AreRows w low high rows
-    → (row : ℕ) (s : Spot) → IsSeen w within row s → Holds box s → is_in_span rows row ≡ true
-row_seen w within box clip low high rows is places are row s seen held =
-    let between : IsBetween low high s = subst (λ b. Holds b s) is ((places s).1 (held, seen.0)) in
+-- as they are seen there
+pub row_seen : (w : Window) (within : Bounds) (low high : Spot) (rows : Span) → within ≡ Closed low high
+    → AreRows w low high rows → (row : ℕ) (s : Spot) → IsSeen w within row s → is_in_span rows row ≡ true
+row_seen w within low high rows is are row s seen =
+    let between : IsBetween low high s = subst (λ b. Holds b s) is seen.0 in
     row_reached w low high rows are row s seen.1 between.below between.above

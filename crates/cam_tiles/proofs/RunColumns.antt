@@ -17,7 +17,7 @@ use Rattle.cam_tiles.specs.declared.masks.heights.Heights.{Heights}
 use Rattle.cam_tiles.specs.declared.masks.runs.Runs.{Runs}
 use Rattle.cam_tiles.specs.Machinery.Levels.{height, levels_of}
 use Rattle.cam_tiles.specs.Machinery.Masks.{IsWithin}
-use Rattle.cam_tiles.specs.Machinery.Runs.{Finds, Fits, IsClear, IsWideGrid, Tells}
+use Rattle.cam_tiles.specs.Machinery.Runs.{Finds, Fits, HasColumn, IsClear, IsWideGrid, Tells}
 use Rattle.cam_tiles.specs.Tiles.{centre_in}
 use Rattle.cam_tiles.proofs.JoinedCentres.{of_part}
 use Rattle.cam_tiles.proofs.SeenRows.{in_reach}
@@ -101,6 +101,13 @@ tells_band g columns first end at h IsHeld top clear clear_ends firsts ends cent
           );
     }
 
+-- other runs, but for those of the band
+abbrev pub in_band_of : Runs → List ℕ → List ℕ → Runs
+in_band_of r firsts ends =
+    let first = r.band.first in
+    let size = r.band.end - first in
+    record { band = r.band; firsts = put_mid first size r.firsts firsts; ends = put_mid first size r.ends ends }
+
 -- those of a shape where other runs are
 pub finds_band : (g : Grid) (columns : ℕ) (at : Point) (IsHeld : Spot → Type 0) (others : Runs) (top : Centres)
     (firsts ends : List ℕ)
@@ -110,11 +117,7 @@ pub finds_band : (g : Grid) (columns : ℕ) (at : Point) (IsHeld : Spot → Type
     → end ≤ g.rows → g.rows ≤ 64 → length others.firsts ≡ 64 → length others.ends ≡ 64 → length firsts ≡ end - first
     → length ends ≡ end - first
     → AreFound (mid_of first (end - first) others.firsts) (mid_of first (end - first) others.ends) top IsHeld firsts ends
-    → Finds g columns (λ s. IsHeld (relative at s)) others (record {
-      band = others.band;
-      firsts = put_mid first (end - first) others.firsts firsts;
-      ends = put_mid first (end - first) others.ends ends;
-    }))
+    → Finds g columns (λ s. IsHeld (relative at s)) others (in_band_of others firsts ends))
 finds_band g columns at IsHeld others top firsts ends centres count some low few whole whole_ends firsts_size ends_size found =
     let first = others.band.first in
     let end = others.band.end in
@@ -149,6 +152,35 @@ finds_band g columns at IsHeld others top firsts ends centres count some low few
             ) here,
           );
     }
+
+-- and where none of them has a column
+no_columns : (others : Runs) (firsts ends : List ℕ) (row column : ℕ) → others.band.first < others.band.end
+    → others.band.end ≤ length others.firsts → others.band.end ≤ length others.ends
+    → length firsts ≡ others.band.end - others.band.first → length ends ≡ others.band.end - others.band.first
+    → ((k : ℕ) → k < length firsts → slice_index ends k ≤ slice_index firsts k)
+    → HasColumn (in_band_of others firsts ends) row column → ⊥
+no_columns others firsts ends row column some long long_ends firsts_size ends_size none on =
+    let first = others.band.first in
+    let end = others.band.end in
+    let here = rw (
+      part_at first end others.firsts firsts some long firsts_size row on.0 on.1,
+      part_at first end others.ends ends some long_ends ends_size row on.0 on.1,
+    ) at on.2 in
+    omega (arith, none (row - first) (omega (arith, firsts_size, on.0, on.1)), here.0, here.1)
+
+pub finds_none : (g : Grid) (columns : ℕ) (IsHeld : Spot → Type 0) (others : Runs) (firsts ends : List ℕ)
+    → others.band.first < others.band.end → others.band.end ≤ length others.firsts → others.band.end ≤ length others.ends
+    → length firsts ≡ others.band.end - others.band.first → length ends ≡ others.band.end - others.band.first
+    → Finds g columns IsHeld others (in_band_of others firsts ends)
+    → ((k : ℕ) → k < length firsts → slice_index ends k ≤ slice_index firsts k)
+    → (r : Runs) → IsClear r → Finds g columns IsHeld others r
+finds_none g columns IsHeld others firsts ends some long long_ends firsts_size ends_size finds none r clear = record {
+  fits = without_rows g.rows r clear;
+  held = λ column row _ _ on. absurd (clear.none row column on);
+  all = λ column row near within on held.
+      absurd (no_columns others firsts ends row column some long long_ends firsts_size ends_size none
+      (finds.all column row near within on held));
+}
 
 -- a shape that lies between the heights
 pub tells_whole : (g : Grid) (columns : ℕ) (at : Point) (h : Heights) (IsHeld : Spot → Type 0) (r : Runs)

@@ -39,6 +39,17 @@ in_reach p s board place = record {
 
 -- ---- the first centre, and columns
 
+pub twice_fits : (away : ℤ) → unsigned_abs away < board_limit → FitsSigned w64 (pos 2 *ℤ long away)
+twice_fits away near = omega (arith, ints)
+
+pub first_fits : (g : Grid) (at : Point) → IsGrid g → IsOnBoard at → FitsSigned w64 (long g.x -ℤ long (pos 2 *ℤ long at.x))
+first_fits g at grid board =
+    seen_fits (long g.x) g.x at.x (omega (arith, ints, first_x g grid)) (first_x g grid) board.x
+
+pub top_fits : (g : Grid) (at : Point) → IsGrid g → IsOnBoard at → FitsSigned w64 (long g.y -ℤ long (pos 2 *ℤ long at.y))
+top_fits g at grid board =
+    seen_fits (long g.y) g.y at.y (omega (arith, ints, first_y g grid)) (first_y g grid) board.y
+
 pub first_seen : (g : Grid) (at : Point) → IsGrid g → IsOnBoard at
     → long (long g.x -ℤ long (pos 2 *ℤ long at.x)) ≡ g.x -ℤ pos 2 *ℤ at.x
 first_seen g at grid board =

@@ -1,5 +1,5 @@
 -- Steps over a grid, as code of 64 bits computes them.
-use Rattle.std.proofs.Common.{◌≡◌, ℕ, ◌<◌, ℤ, pos, ◌+ℤ◌, ◌-ℤ◌, ◌*ℤ◌}
+use Rattle.std.proofs.Common.{◌≡◌, ℕ, ◌^◌, ◌<◌, ℤ, pos, ◌+ℤ◌, ◌-ℤ◌, ◌*ℤ◌}
 use Rattle.std.proofs.Common.{ap, subst, ◌∙◌, FitsSigned, w64, arith}
 use Rattle.std.specs.Int.RustNames.{unsigned_abs}
 use Rattle.std.proofs.lemmas.Int.{ints, to_z-of_z}
@@ -20,7 +20,7 @@ way_down : (y d : ℤ) → IsNear y → IsNear (y -ℤ d) → unsigned_abs d < 4
 way_down y d here there = omega (arith, ints)
 
 -- so many steps
-pub way_kept : (n s : ℤ) (k : ℕ) → n ≡ pos k → k < 1000000 → FitsSigned w64 s → long n *ℤ long s ≡ pos k *ℤ s
+pub way_kept : (n s : ℤ) (k : ℕ) → n ≡ pos k → k < 2 ^ 32 → FitsSigned w64 s → long n *ℤ long s ≡ pos k *ℤ s
 way_kept n s k e few fits =
     ap (λ z. long z *ℤ long s) e ∙ ap (λ z. z *ℤ long s) (to_z-of_z w64 (pos k) (omega (arith, ints)))
     ∙ ap (λ z. pos k *ℤ z) (to_z-of_z w64 s fits)

@@ -1,6 +1,7 @@
 -- What the segments of a contour turn over, one after the other: a mask, or marks in the rows of tiles.
-use Rattle.std.proofs.Common.{◌≡◌, ◌↔◌, ◌≤◌, ◌<◌, ℕ, ◌+◌, ◌-◌, ℤ, pos, Bool, true, false, IsTrue, List, [], ◌∷◌, length, map}
+use Rattle.std.proofs.Common.{◌≡◌, ◌↔◌, ◌≤◌, ◌<◌, ℕ, ◌+◌, ◌-◌, ℤ, pos, Bool, true, false, if◌then◌else◌, IsTrue, List, [], ◌∷◌, length, map}
 use Rattle.std.proofs.Common.{take, drop, get_or, refl, sym, ap, subst, ◌∙◌, arith}
+use Rattle.std.proofs.lemmas.Bool.{false≢true}
 use Rattle.std.proofs.lemmas.Int.{ints}
 use Rattle.std.proofs.lemmas.List.{at_drop_all, at_drop_more, take_all}
 use Rattle.cam_units.specs.Board.{IsOnBoard}
@@ -11,7 +12,7 @@ use Rattle.cam_units.specs.declared.turn.Turn.TheVariants.{R0}
 use Rattle.cam_shapes.specs.declared.segments.Seg.{Seg}
 use Rattle.cam_shapes.specs.declared.segments.Seg.TheVariants.{Curve, Line}
 use Rattle.cam_shapes.specs.declared.contour.Contour.{Contour}
-use Rattle.cam_shapes.specs.Edge.{crosses_ray, edge}
+use Rattle.cam_shapes.specs.Edge.{crosses_ray, edge, is_above, is_left, is_right}
 use Rattle.cam_shapes.specs.Contour.{IsInContour, IsSoundSeg, end_of}
 use Rattle.cam_shapes.specs.Outline.{lines_to, outline_of}
 use Rattle.cam_shapes.specs.Placing.{placed_contour, placed_point, placed_seg}
@@ -72,6 +73,23 @@ turns_side c s = change_side s c.start c.start c.segs
 
 pub inside_turned : (s : Spot) (c : Contour) → IsTrue (turns_side c s) ↔ IsInContour s c
 inside_turned s c = sides_are_parity s c _ refl
+
+-- an outline of no point has no inside
+twice_above : (b left right : Bool) → (if b then (if b then false else right) else (if b then left else false)) ≡ false
+twice_above true left right = refl
+twice_above false left right = refl
+
+none_crossed : (t : Turn) (o : Point) (points : List Point) (s : Spot) → length points < 1
+    → turns_side (placed_contour t o (outline_of points)) s ≡ false
+none_crossed t o [] s none =
+    let start = placed_point t o (record { x = pos 0; y = pos 0 }) in
+    twice_above (is_above start s) (is_left s (edge start start)) (is_right s (edge start start))
+none_crossed t o (p ∷ ps) s none = absurd (omega arith)
+
+pub no_outline : (t : Turn) (o : Point) (points : List Point) (s : Spot) → length points < 1
+    → IsInContour s (placed_contour t o (outline_of points)) → ⊥
+no_outline t o points s none inside =
+    false≢true (sym (none_crossed t o points s none) ∙ (inside_turned s (placed_contour t o (outline_of points))).1 inside)
 
 -- what is turned over where a test says so: twice where two tests differ
 pub record Turning {M : Type 0} (Turned : (Spot → Bool) → M → M → Type 0) : Type 0 where
@@ -176,6 +194,13 @@ module _ {M : Type 0} (Turned : (Spot → Bool) → M → M → Type 0) (law : T
         → Turned (λ s. change_side s start start (lines t o points)) old new
     lines_turned start here points k all =
         last_turned start here (lines t o (drop k points)) (lines t o points) (at_drop_all (lines t o) points k all)
+
+    -- an outline of no point turns nothing
+    pub empty_turned : (points : List Point) (old : M) → length points < 1
+        → Turned (turns_side (placed_contour t o (outline_of points))) old old
+    empty_turned points old none =
+        turned_so (λ s. false) (turns_side (placed_contour t o (outline_of points)))
+        (λ s. sym (none_crossed t o points s none)) (law.none old)
 
     -- an outline is the lines from its first point through the others
     pub outline_turned : {old new : M} (points : List Point) (d start : Point) → 1 ≤ length points

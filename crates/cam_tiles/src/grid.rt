@@ -54,7 +54,6 @@ impl Grid {
     }
 
     /// The centre in a column and a row, which are counted from the upper left one.
-    #[tactic(auto, using(crate::proofs::StepLemmas::right_way_fits, crate::proofs::StepLemmas::down_way_fits))]
     pub(crate) fn centre(&self, column: u32, row: u32) -> Spot
         requires grid { IsGrid self.now }
         requires column { column < self.now.cols }

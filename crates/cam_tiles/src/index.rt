@@ -5,13 +5,13 @@ pub(crate) mod items;
 mod row_lists;
 pub(crate) mod seen;
 
-ghost use Rattle.std.specs.Prelude.{◌≡◌, ◌↔◌, ◌<◌, ◌≤◌, ◌≤ℤ◌, ◌∷◌, ℕ, [], All, IfNone, IfOk, IfSome, IsTrue, OnOk, length, slice_index_or, true};
+ghost use Rattle.std.specs.Prelude.{◌≡◌, ◌↔◌, ◌+◌, ◌<◌, ◌≤◌, ◌≤ℤ◌, ◌∷◌, ℕ, [], All, IfNone, IfOk, IfSome, IsTrue, OnOk, length, map, slice_index_or, true};
 ghost use Rattle.cam_units.specs.Boxes.{Holds};
 ghost use Rattle.cam_units.specs.declared.point.Spot.{Spot};
 ghost use Rattle.cam_objects.specs.Leaves.{Filled, leaf};
 ghost use Rattle.cam_tiles.specs.Machinery.Indexes.{AreSeenBy, IsBoxed, IsBoxOf, IsIndexOf, IsSeen, numbered_leaves};
-ghost use Rattle.cam_tiles.specs.Machinery.Parts.{IsParted, IsPartsOf};
-ghost use Rattle.cam_tiles.specs.Machinery.RowLists.{reaches};
+ghost use Rattle.cam_tiles.specs.Machinery.Parts.{IsParted, IsPartsOf, bare};
+ghost use Rattle.cam_tiles.specs.Machinery.RowLists.{AreListed, reaches};
 ghost use Rattle.cam_tiles.specs.Machinery.Shown.{IsReady, leaves_by_item, leaves_of};
 ghost use Rattle.cam_tiles.specs.Machinery.Swaths.{HasRowOf, IsInSwath, PaintsSwath, place_in};
 ghost use Rattle.cam_tiles.specs.Picture.{accepts};
@@ -27,23 +27,23 @@ use crate::span::Span;
 use crate::window::Window;
 use cam_apertures::has_place;
 use cam_objects::Canvas;
-use cam_units::Bounds;
+use cam_units::{Bounds, Spot};
 use std::alloc::{AllocError, Global};
 use std::mem::size_of;
 
 /// An item that may be seen: its place in the list, the rows of tiles that its box reaches, the number of its contour among
-/// those whose parts are known, and the sides of the box, in half nm.
-// In this order of the fields it has 32 bytes: those of a row of tiles are gone through each time that it is painted.
+/// those whose parts are known, and the corners of the box, in half nm.
+// In this order of the fields it has 48 bytes: those of a row of tiles are gone through each time that it is painted.
 #[derive(Clone, Copy)]
 pub(crate) struct Boxed {
     place: u32,
     rows: Span,
     contour: u32,
-    left: i64,
-    right: i64,
+    low: Spot,
+    high: Spot,
 }
 
-const _: () = prove!(size_of::<Boxed>() == 32);
+const _: () = prove!(size_of::<Boxed>() == 48);
 
 /// Where an item has no contour whose parts are known.
 const NO_CONTOUR: u32 = u32::MAX;
@@ -58,19 +58,19 @@ pub(crate) struct Index {
 }
 
 impl Boxed {
-    /// The item at a place, if some row of tiles of a window has a place of its box within another box: it reaches
-    /// these rows alone.
-    fn seen(place: u32, bounds: Bounds, window: &Window, within: Bounds) -> Option<Boxed>
+    /// The item at a place, if some row of tiles of a window has a place of its box in a part of this: it reaches the rows
+    /// of the part alone.
+    fn seen(place: u32, bounds: Bounds, part: Bounds, window: &Window) -> Option<Boxed>
         requires { accepts window.now ≡ true }
         ensures place { IfSome result (λ b. b.place ≡ place) }
-        ensures some { IfSome result (IsBoxOf window.now within bounds) }
+        ensures some { IfSome result (IsBoxOf window.now part bounds) }
         ensures none { IfNone result
-            ((row : ℕ) (s : Spot) → IsSeen window.now within row s → ¬ Holds bounds s) }
+            ((row : ℕ) (s : Spot) → IsSeen window.now part row s → ¬ Holds bounds s) }
     {
         let Bounds::Closed {
             low: bottom,
             high: top,
-        } = bounds.clipped(within)
+        } = part
         else {
             return None;
         };
@@ -85,8 +85,8 @@ impl Boxed {
             place,
             rows,
             contour: NO_CONTOUR,
-            left: low.x,
-            right: high.x,
+            low,
+            high,
         })
     }
 
@@ -101,9 +101,9 @@ impl Boxed {
     /// Whether its box has a place from the first column of a tile to the last.
     #[inline]
     fn reaches(&self, first: i64, last: i64) -> bool
-        ensures { IsTrue result ↔ ((self.now.left ≤ℤ last) × (first ≤ℤ self.now.right)) }
+        ensures { IsTrue result ↔ ((self.now.low.x ≤ℤ last) × (first ≤ℤ self.now.high.x)) }
     {
-        self.left <= last && first <= self.right
+        self.low.x <= last && first <= self.high.x
     }
 }
 
@@ -127,8 +127,8 @@ impl Index {
             ..
         } = seen;
         boxed.reverse();
-        let contours = contours_of(alloc, shown, &mut boxed)?;
-        let rows = RowLists::new(alloc, &boxed, window.height.div_ceil(64))?;
+        let count = window.height.div_ceil(64);
+        let (contours, rows) = parts_and_rows(alloc, shown, &mut boxed, count)?;
         Ok(Index {
             within,
             boxed,
@@ -175,6 +175,28 @@ impl Index {
         );
         Ok(())
     }
+}
+
+/// The parts of the long contours among items, and the lists of those that reach each of so many rows of tiles.
+fn parts_and_rows(
+    alloc: Global,
+    shown: &Shown<'_>,
+    boxed: &mut [Boxed],
+    rows: u32,
+) -> Result<(Vec<ContourParts>, RowLists), AllocError>
+    requires ready { IsReady shown.now }
+    requires few { length boxed.old ≤ 1000000 }
+    requires boxed { All (IsBoxed (leaves_by_item shown.now)) boxed.old }
+    requires rows { rows ≤ 512 }
+    requires within { All (λ b. b.rows.end ≤ rows) boxed.old }
+    ensures kept { map bare boxed.new ≡ map bare boxed.old }
+    ensures parts { IfOk result (λ found. All (IsPartsOf (leaves_by_item shown.now)) found.0.items) }
+    ensures listed { IfOk result (λ found. AreListed boxed.new found.1) }
+    ensures rows { IfOk result (λ found. length found.1.starts.items ≡ rows + 1) }
+{
+    let contours = contours_of(alloc, shown, boxed)?;
+    let lists = RowLists::new(alloc, boxed, rows)?;
+    Ok((contours, lists))
 }
 
 /// Paints the items of some numbers, from the last one on, on tiles whose centres lie between two places across; none once
@@ -240,7 +262,7 @@ fn paint_item(item: &Boxed, contours: &[ContourParts], shown: &Shown<'_>, swath:
     ensures { PaintsSwath swath.old (slice_index_or (leaves_by_item shown.now) item.now.place []) swath.new }
 {
     match parted(item, contours, shown) {
-        Some((contour, dark)) => swath.paint_contour(&contour, item.left, item.right, dark),
+        Some((contour, dark)) => swath.paint_contour(&contour, item.low.x, item.high.x, dark),
         None => shown.paint_item(item.place as usize, swath),
     }
 }

@@ -1,8 +1,8 @@
 -- Indexes of many lists of leaves: which of the lists paint the places in each row of tiles of a box.
-use Rattle.std.specs.Prelude.{◌≡◌, ℕ, ◌+◌, ◌-◌, ◌*◌, ◌<◌, ◌≤◌, min, pos, ◌*ℤ◌, ◌≤ℤ◌, true, List, [], length, filter, All}
+use Rattle.std.specs.Prelude.{◌≡◌, ℕ, ◌+◌, ◌-◌, ◌*◌, ◌<◌, ◌≤◌, min, pos, ◌*ℤ◌, true, List, [], length, filter, All}
 use Rattle.std.specs.Prelude.{drop, reverse, take}
 use Rattle.std.specs.List.{flat_map, slice_index_or}
-use Rattle.cam_units.specs.Boxes.{Holds}
+use Rattle.cam_units.specs.Boxes.{Holds, IsBetween}
 use Rattle.cam_units.specs.declared.bounds.Bounds.{Bounds}
 use Rattle.cam_units.specs.declared.point.Spot.{Spot}
 use Rattle.cam_objects.specs.Bounds.{bounds_of}
@@ -41,17 +41,16 @@ IsOnLevels levels s = (row : ℕ) × IsOnRow levels row s
 abbrev pub IsSeen : Window → Bounds → ℕ → Spot → Type 0
 IsSeen w within row s = Holds within s × IsOnLevels (row_levels w row) s
 
--- the sides of a box, and the rows of tiles in which some place of it is seen
+-- the corners of a box, and the rows of tiles in which some place of it is seen
 pub record IsBoxOf (w : Window) (within box : Bounds) (b : Boxed) : Type 0 where
-  pub sides : (s : Spot) → Holds box s → (b.left ≤ℤ s.x) × (s.x ≤ℤ b.right)
+  pub corners : (s : Spot) → Holds box s → IsBetween b.low b.high s
   pub rows : (row : ℕ) (s : Spot) → IsSeen w within row s → Holds box s → reaches row b ≡ true
   pub ends : b.rows.end ≤ down w
 
--- the leaves at a place of the lists lie between the sides
+-- the leaves at a place of the lists lie between the corners
 pub record IsBoxed (lists : List (List Leaf)) (b : Boxed) : Type 0 where
   pub within : b.place < length lists
-  pub sides : (s : Spot) → Holds (bounds_of (slice_index_or lists b.place [])) s
-      → (b.left ≤ℤ s.x) × (s.x ≤ℤ b.right)
+  pub corners : (s : Spot) → Holds (bounds_of (slice_index_or lists b.place [])) s → IsBetween b.low b.high s
 
 -- the lists whose boxes reach a row, one after another
 abbrev pub row_leaves : List (List Leaf) → ℕ → List Boxed → List Leaf

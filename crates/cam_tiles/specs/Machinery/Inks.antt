@@ -7,6 +7,7 @@ use Rattle.cam_tiles.specs.Machinery.Marks.{is_marked, is_set}
 use Rattle.cam_tiles.specs.declared.masks.figure_runs.FigureRuns.{FigureRuns}
 use Rattle.cam_tiles.specs.declared.masks.inks.Inks.TheInside.{Inside}
 use Rattle.cam_tiles.specs.declared.masks.runs.Runs.{Runs}
+use Rattle.cam_tiles.specs.declared.span.Span.{Span}
 use Rattle.cam_tiles.specs.Tables.{Tile}
 
 -- so many tiles, with two words for each row of a tile, as marks have one
@@ -46,6 +47,11 @@ pub record Takes (first end : ℕ) (holds : ℕ → ℕ → Bool) (dark : Bool) 
 -- whether a column of a row is in a run of one row
 abbrev pub in_row : ℕ → ℕ → ℕ → ℕ → ℕ → Bool
 in_row of first end row column = row == of && (nat_le first column && nat_lt column end)
+
+-- whether it is one of some columns, and its row one of some rows
+abbrev pub in_box : Span → ℕ → ℕ → ℕ → ℕ → Bool
+in_box rows first end row column =
+    (nat_le rows.first row && nat_lt row rows.end) && (nat_le first column && nat_lt column end)
 
 -- whether it is in the run of its row
 abbrev pub in_runs : Runs → ℕ → ℕ → Bool

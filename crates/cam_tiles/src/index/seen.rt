@@ -1,7 +1,8 @@
 //! The items of a layer that may be seen in a box, looked for from the last one on.
 
-ghost use Rattle.std.specs.Prelude.{◌≡◌, ◌<◌, ◌≤◌, ◌⊎◌, IfNone, IfOk, IfSome, IsTrue, OnOk, Some, length, slice_get, true};
-ghost use Rattle.cam_units.specs.Boxes.{IsWithin};
+ghost use Rattle.std.specs.Prelude.{◌≡◌, ℕ, ◌<◌, ◌≤◌, ◌⊎◌, [], IfNone, IfOk, IfSome, IsTrue, OnOk, Some, length, slice_get, slice_index_or, true};
+ghost use Rattle.cam_units.specs.Boxes.{HaveCommonPlace};
+ghost use Rattle.cam_objects.specs.Bounds.{bounds_of};
 ghost use Rattle.cam_tiles.specs.Machinery.Indexes.{AreSeenBy, IsBegunBy};
 ghost use Rattle.cam_tiles.specs.Machinery.Shown.{IsReady, leaves_by_item, leaves_of, lists_of};
 ghost use Rattle.cam_tiles.specs.Machinery.Swaths.{HasRowOf, PaintsSwath};
@@ -25,20 +26,12 @@ pub(crate) struct Seen {
     pub(super) boxed: Vec<Boxed>,
     /// How many items stand before those that were looked at.
     pub(super) left: usize,
+    /// Whether what was looked at last is near and stands right before what was looked at before it.
+    pub(super) is_crowd: bool,
 }
 
 /// How many more are looked for at a time.
 const STEP: usize = 64;
-
-/// Whether each place of a box is one of another.
-fn is_within(bounds: Bounds, other: Bounds) -> bool
-    ensures { IsTrue result → IsWithin bounds other }
-{
-    match bounds {
-        Bounds::Empty => true,
-        Bounds::Closed { low, high } => has_place(other, low) && has_place(other, high),
-    }
-}
 
 impl Seen {
     /// No item was looked at yet.
@@ -51,7 +44,22 @@ impl Seen {
             within,
             boxed,
             left: shown.len(),
+            is_crowd: false,
         })
+    }
+
+    /// The place behind the next item that may be near, or 0: those from there on are not. In a crowd most are near, so
+    /// the next one is taken to be, and is not looked for.
+    fn next_end(&self, shown: &Shown<'_>) -> usize
+        requires { IsReady shown.now }
+        ensures within { result ≤ self.now.left }
+        ensures apart { (k : ℕ) → result ≤ k → k < self.now.left → k < length (leaves_by_item shown.now)
+            → ¬ HaveCommonPlace (bounds_of (slice_index_or (leaves_by_item shown.now) k [])) self.now.within }
+    {
+        if self.is_crowd {
+            return self.left;
+        }
+        shown.near_end(self.left, self.within)
     }
 
     /// Looks at the next item that may be near, if there is one. A draw whose line misses the box is passed over: so are
@@ -72,17 +80,21 @@ impl Seen {
         ensures onward { OnOk result (self.new.left < self.old.left) }
         ensures lists { lists_of boxes.new ≡ leaves_by_item shown.now }
     {
-        self.left = shown.near_end(self.left, self.within);
+        let end = self.next_end(shown);
+        self.is_crowd = end == self.left;
+        self.left = end;
         if self.left == 0 {
             return Ok(());
         }
         self.left -= 1;
         let bounds = boxes.read(self.left);
-        // An item whose box lies within the other is near it.
-        if !is_within(bounds, self.within) && boxes.line_misses(self.left, self.within) {
+        let part = bounds.clipped(self.within);
+        self.is_crowd &= !part.is_empty();
+        // an item whose box lies within the other is near it
+        if part != bounds && boxes.line_misses(self.left, self.within) {
             return Ok(());
         }
-        if let Some(item) = Boxed::seen(self.left as u32, bounds, window, self.within) {
+        if let Some(item) = Boxed::seen(self.left as u32, bounds, part, window) {
             self.boxed.push(item)?;
         }
         Ok(())
@@ -134,8 +146,8 @@ impl Seen {
         Ok(self.boxed.get(number).copied())
     }
 
-    /// Paints all items, from the last one on, on tiles of the row of tiles of a tile: those alone that may be seen there, as
-    /// long as something is not decided. They are looked for as they are needed.
+    /// Paints all items, from the last one on, on tiles of the row of tiles of a tile: those alone in whose box something may
+    /// be seen there that is not decided. They are looked for as they are needed, until all is decided.
     pub(crate) fn paint(
         &mut self,
         shown: &Shown<'_>,
@@ -160,14 +172,20 @@ impl Seen {
         }
         let row = tile / window.across();
         for number in 0..shown.len() {
-            if swath.is_done() {
-                return Ok(());
-            }
             let Some(item) = self.numbered(shown, window, number)? else {
                 return Ok(());
             };
-            if item.is_in_row(row) && item.reaches(low.x, high.x) {
-                shown.paint_item(item.place as usize, swath);
+            // in a crowd most lie where all is decided: by its box such an item is passed over before it is looked up
+            let bounds = Bounds::Closed {
+                low: item.low,
+                high: item.high,
+            };
+            if !item.is_in_row(row) || swath.is_decided_in(bounds) {
+                continue;
+            }
+            shown.paint_item(item.place as usize, swath);
+            if swath.is_done() {
+                return Ok(());
             }
         }
         Ok(())

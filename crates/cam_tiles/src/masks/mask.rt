@@ -45,7 +45,6 @@ impl Model for Mask {
 
 impl Grid {
     /// The centres of a row, which is counted from the top, as they are seen from a point.
-    #[tactic(auto, using(crate::proofs::StepLemmas::down_way_fits, crate::proofs::StepLemmas::y_fits, crate::proofs::SeenRows::seen_y_fits))]
     pub(crate) fn row_from(&self, row: u32, at: Point) -> Centres
         requires grid { IsGrid self.now }
         requires row { row < self.now.rows }

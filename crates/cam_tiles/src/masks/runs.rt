@@ -1,6 +1,6 @@
 //! Runs of columns in the rows of tiles side by side.
 
-ghost use Rattle.std.specs.Prelude.{◌≡◌, ◌↔◌, ◌⊎◌, ◌<◌, ◌≤◌, ℕ, length, slice_index};
+ghost use Rattle.std.specs.Prelude.{◌≡◌, ◌↔◌, ◌⊎◌, ◌<◌, ◌≤◌, ℕ, IsTrue, length, slice_index};
 ghost use Rattle.cam_units.specs.Board.{IsOnBoard};
 ghost use Rattle.cam_objects.specs.Image.{relative};
 ghost use Rattle.cam_rows.specs.Rows.{centre_at, row_below};
@@ -69,6 +69,33 @@ impl Runs {
             self.ends[k] = run.end;
         }
         other.clear();
+    }
+
+    /// Whether all rows have the same run, as those of a box.
+    pub(crate) fn is_box(&self) -> bool
+        requires { self.now.band.end ≤ 64 }
+        ensures { IsTrue result ↔ ((row : ℕ) → self.now.band.first ≤ row → row < self.now.band.end
+            → (slice_index self.now.firsts row ≡ slice_index self.now.firsts self.now.band.first)
+            × (slice_index self.now.ends row ≡ slice_index self.now.ends self.now.band.first)) }
+    {
+        for row in self.band.first..self.band.end {
+            if !self.are_alike(self.band.first, row) {
+                return false;
+            }
+        }
+        true
+    }
+
+    /// Whether two rows have the same run.
+    #[inline]
+    fn are_alike(&self, row: u32, other: u32) -> bool
+        requires row { row < 64 }
+        requires other { other < 64 }
+        ensures { IsTrue result ↔ ((slice_index self.now.firsts other ≡ slice_index self.now.firsts row)
+            × (slice_index self.now.ends other ≡ slice_index self.now.ends row)) }
+    {
+        let (row, other) = (row as usize, other as usize);
+        self.firsts[other] == self.firsts[row] && self.ends[other] == self.ends[row]
     }
 
     /// The run of a row.
@@ -150,7 +177,18 @@ impl Runs {
         let firsts = &mut self.firsts[first as usize..end as usize];
         let ends = &mut self.ends[first as usize..end as usize];
         shape.find(&top, firsts, ends);
+        if are_empty(firsts, ends) {
+            self.clear();
+        }
     }
+}
+
+/// Whether no run has a column.
+fn are_empty(firsts: &[u32], ends: &[u32]) -> bool
+    requires { length ends.now ≡ length firsts.now }
+    ensures { IsTrue result ↔ ((k : ℕ) → k < length firsts.now → slice_index ends.now k ≤ slice_index firsts.now k) }
+{
+    firsts.iter().zip(ends).all(|(first, end)| *end <= *first)
 }
 
 /// Finds the runs of a shape in wide rows, one below another from the top one, whatever they were.

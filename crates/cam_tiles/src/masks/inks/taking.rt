@@ -3,7 +3,7 @@
 ghost use Rattle.std.specs.Prelude.{◌≡◌, ◌+◌, ◌-◌, ◌*◌, ◌/◌, ◌<◌, ◌≤◌, ℕ, Bool, length, slice_index};
 ghost use Rattle.std.specs.Option.{option_or};
 ghost use Rattle.cam_tiles.specs.Machinery.Marks.{is_set};
-ghost use Rattle.cam_tiles.specs.Machinery.Inks.{AreNext, IsInk, Takes, given, in_body, in_row, in_runs, ink_of, words_of};
+ghost use Rattle.cam_tiles.specs.Machinery.Inks.{AreNext, IsInk, Takes, given, in_body, in_box, in_row, in_runs, ink_of, words_of};
 ghost use Rattle.cam_tiles.specs.Machinery.Runs.{HasColumn};
 
 use crate::masks::figure_runs::FigureRuns;
@@ -39,9 +39,84 @@ pub(super) fn take_rows(decided: &mut [u64], dark: &mut [u64], next: &[u32], run
     ensures { Takes 0 (length next.now) (in_runs runs.now) ink (words_of (length next.now) decided.old dark.old)
         (words_of (length next.now) decided.new dark.new) }
 {
-    for row in runs.band.first..runs.band.end {
+    let Span { first, end } = runs.band;
+    if end <= first {
+        return;
+    }
+    if runs.is_box() {
+        let k = first as usize;
+        let columns = Span {
+            first: runs.firsts[k],
+            end: runs.ends[k],
+        };
+        take_box(decided, dark, next, runs.band, columns, ink);
+        return;
+    }
+    for row in first..end {
         let k = row as usize;
         take_run(decided, dark, next, row, runs.firsts[k], runs.ends[k], ink);
+    }
+}
+
+/// The same of columns that are the same in all of some rows: tile after tile, whose words of these rows stand side by
+/// side.
+fn take_box(
+    decided: &mut [u64],
+    dark: &mut [u64],
+    next: &[u32],
+    rows: Span,
+    columns: Span,
+    ink: bool,
+)
+    requires few { length next.now ≤ 512 }
+    requires decided { 64 * length next.now ≤ length decided.old }
+    requires dark { 64 * length next.now ≤ length dark.old }
+    requires rows { rows.end ≤ 64 }
+    requires known { AreNext (length next.now) next.now decided.old }
+    ensures { Takes 0 (length next.now) (in_box rows columns.first columns.end) ink
+        (words_of (length next.now) decided.old dark.old) (words_of (length next.now) decided.new dark.new) }
+{
+    let end = columns.end.min(64 * next.len() as u32);
+    if end <= columns.first {
+        return;
+    }
+    let ink = ink_word(ink);
+    let mut tile = columns.first / 64;
+    while 64 * tile < end {
+        let open = next[tile as usize];
+        if open > tile {
+            tile = open;
+        } else {
+            let first = columns.first.max(64 * tile) - 64 * tile;
+            let until = end.min(64 * tile + 64) - 64 * tile;
+            take_part_of_rows(decided, dark, rows, tile, first, until, ink);
+            tile += 1;
+        }
+    }
+}
+
+/// The same of some columns of a tile, which are counted from its left, in all of some rows.
+fn take_part_of_rows(
+    decided: &mut [u64],
+    dark: &mut [u64],
+    rows: Span,
+    tile: u32,
+    first: u32,
+    end: u32,
+    ink: u64,
+)
+    requires some { first < end }
+    requires end { end ≤ 64 }
+    requires rows { rows.end ≤ 64 }
+    requires few { tile < 512 }
+    requires decided { 64 * tile + 64 ≤ length decided.old }
+    requires dark { 64 * tile + 64 ≤ length dark.old }
+    ensures { (tiles : ℕ) (polarity : Bool) → IsInk polarity ink
+        → Takes 0 tiles (in_box rows (64 * tile + first) (64 * tile + end)) polarity
+        (words_of tiles decided.old dark.old) (words_of tiles decided.new dark.new) }
+{
+    for row in rows.first..rows.end {
+        take_part(decided, dark, row, tile, first, end, ink);
     }
 }
 

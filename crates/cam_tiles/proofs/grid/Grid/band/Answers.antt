@@ -3,7 +3,7 @@ use Rattle.std.proofs.lemmas.Int.{to_z-of_z}
 use Rattle.cam_objects.specs.Image.{relative}
 use Rattle.cam_tiles.specs.Tiles.{centre_in}
 use Rattle.cam_tiles.proofs.LevelRows.{are_seen, on_seen_row}
-use Rattle.cam_tiles.proofs.SeenRows.{top_seen}
+use Rattle.cam_tiles.proofs.SeenRows.{top_fits, top_seen, twice_fits}
 use Rattle.cam_tiles.proofs.grid.Grid.band.Goals as goal
 
 pub band-requires : goal.band-requires
@@ -19,3 +19,11 @@ returns-clause-rows c = λ row within.
     let fits : FitsSigned w64 g.step = search rules in
     c.band.ensures.rows row (relative c.args.at (centre_in g 0 row))
     (on_seen_row g c.args.at _ _ (top_seen g c.args.at c.requires.grid c.requires.at) (to_z-of_z w64 g.step fits) row within)
+
+pub overflow_mul-levels : goal.overflow_mul-levels
+overflow_mul-levels c =
+    twice_fits c.args.at.y c.requires.at.y
+
+pub overflow_sub-levels : goal.overflow_sub-levels
+overflow_sub-levels c =
+    top_fits c.args.self.now c.args.at c.requires.grid c.requires.at

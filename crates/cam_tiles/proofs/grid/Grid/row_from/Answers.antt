@@ -1,7 +1,7 @@
 use Rattle.std.proofs.Common.{rules, FitsSigned, w64, arith}
 use Rattle.std.proofs.lemmas.Int.{ints}
-use Rattle.cam_tiles.proofs.SeenRows.{row_reaches, row_seen, seen_y_fits}
-use Rattle.cam_tiles.proofs.StepLemmas.{y_fits}
+use Rattle.cam_tiles.proofs.SeenRows.{first_fits, twice_fits, row_reaches, row_seen, seen_y_fits}
+use Rattle.cam_tiles.proofs.StepLemmas.{down_way_fits, y_fits}
 use Rattle.cam_tiles.proofs.grid.Grid.row_from.Goals as goal
 
 pub overflow_sub-result-2 : goal.overflow_sub-result-2
@@ -33,3 +33,21 @@ returns-clause-row c =
       step = omega (arith, ints, fits, c.requires.grid.step);
       centres = reaches;
     }
+
+pub overflow_mul-result : goal.overflow_mul-result
+overflow_mul-result c =
+    twice_fits c.args.at.x c.requires.at.x
+
+pub overflow_sub-result : goal.overflow_sub-result
+overflow_sub-result c =
+    first_fits c.args.self.now c.args.at c.requires.grid c.requires.at
+
+pub overflow_mul-result-2 : goal.overflow_mul-result-2
+overflow_mul-result-2 c =
+    let g = c.args.self.now in
+    let fits : FitsSigned w64 g.step = search rules in
+    down_way_fits g 0 c.args.row c.requires.grid c.requires.grid.columns.0 c.requires.row fits c.from.result c.from.ensures
+
+pub overflow_mul-result-3 : goal.overflow_mul-result-3
+overflow_mul-result-3 c =
+    twice_fits c.args.at.y c.requires.at.y

@@ -16,14 +16,14 @@ is_box k told same = told ∙ ap (λ (these : List (List Leaf)). bounds_of (get_
 
 pub returns-then-self-eq0-clause-seen : goal.returns-then-self-eq0-clause-seen
 returns-then-self-eq0-clause-seen c =
-    let near = c.near_end-self in
+    let near = c.next_end-end in
     seen_back (leaves_by_item c.args.shown.now) c.args.window.now c.args.self.now.within c.args.self.now.boxed.items
     c.args.self.now.left near.result near.ensures.within near.ensures.apart c.requires.seen
 
 so_far : (c : After-read-bounds) → AreSeenFrom (leaves_by_item c.args.shown.now) c.args.window.now c.args.self.now.within
-    (c.near_end-self.result - 1 + 1) c.args.self.now.boxed.items
+    (c.next_end-end.result - 1 + 1) c.args.self.now.boxed.items
 so_far c =
-    let near = c.near_end-self in
+    let near = c.next_end-end in
     let boxed = c.args.self.now.boxed.items in
     let last : near.result ≡ near.result - 1 + 1 = omega (arith, c.if-self-eq0.false) in
     subst (λ k. AreSeenFrom (leaves_by_item c.args.shown.now) c.args.window.now c.args.self.now.within k boxed) last
@@ -33,25 +33,30 @@ pub returns-in_ok-push-clause-seen : goal.returns-in_ok-push-clause-seen
 returns-in_ok-push-clause-seen c =
     let w = c.args.window.now in
     let within = c.args.self.now.within in
-    let n : ℕ = c.near_end-self.result - 1 in
+    let n : ℕ = c.next_end-end.result - 1 in
+    let box = c.in-Some.ensures.some in
     next_seen (leaves_by_item c.args.shown.now) w within n c.args.self.now.boxed.items
     (so_far (goal.at.returns-in_ok-push-clause-seen c).After-read-bounds) c.push.new.self.items c.in-Some.item c.in_ok-push.ensures.items
     c.in-Some.ensures.place
     (subst (λ box. IsBoxOf w within box c.in-Some.item) (is_box n c.read-bounds.ensures.value c.requires.lists)
-    c.in-Some.ensures.some)
+    (record {
+      corners = box.corners;
+      rows = λ row s seen held. box.rows row s ((c.clipped-part.ensures.places s).1 (held, seen.0), seen.1) held;
+      ends = box.ends;
+    }))
 
 pub returns-in_default-clause-seen : goal.returns-in_default-clause-seen
 returns-in_default-clause-seen c =
-    let n : ℕ = c.near_end-self.result - 1 in
+    let n : ℕ = c.next_end-end.result - 1 in
     next_missed (leaves_by_item c.args.shown.now) c.args.window.now c.args.self.now.within n c.args.self.now.boxed.items
     (so_far (goal.at.returns-in_default-clause-seen c).After-read-bounds)
-    (λ row s seen held.
-    c.in_default.ensures.none row s seen
-    (subst (λ box. Holds box s) (sym (is_box n c.read-bounds.ensures.value c.requires.lists)) held))
+    (λ row s seen inside.
+    let held = subst (λ box. Holds box s) (sym (is_box n c.read-bounds.ensures.value c.requires.lists)) inside in
+    c.in_default.ensures.none row s ((c.clipped-part.ensures.places s).1 (held, seen.0), seen.1) held)
 
 pub returns-then-line_misses-clause-seen : goal.returns-then-line_misses-clause-seen
 returns-then-line_misses-clause-seen c =
-    let n : ℕ = c.near_end-self.result - 1 in
+    let n : ℕ = c.next_end-end.result - 1 in
     next_uncovered (leaves_by_item c.args.shown.now) c.args.window.now c.args.self.now.within n c.args.self.now.boxed.items
     (so_far (goal.at.returns-then-line_misses-clause-seen c).After-read-bounds)
     (λ s held.

@@ -1,5 +1,5 @@
 use Rattle.std.proofs.Common.{length}
-use Rattle.cam_tiles.proofs.RunInks.{takes_joined, takes_next, takes_body, takes_two}
+use Rattle.cam_tiles.proofs.RunInks.{takes_joined, takes_next, takes_body, takes_two, next_stays}
 use Rattle.cam_tiles.proofs.masks.inks.taking.take_pieces.Goals as goal
 
 pub loop-row-preserved : goal.loop-row-preserved
@@ -16,3 +16,24 @@ loop-row-preserved c =
 pub returns : goal.returns
 returns c =
     takes_body c.args.ink (length c.args.next.now) c.args.runs.now c.loop-row.row _ _ c.loop-row.invariant c.loop-row-test.false
+
+pub take_run-requires-clause-known : goal.take_run-requires-clause-known
+take_run-requires-clause-known c = next_stays c.args.ink _ _ _ _ c.loop-row.invariant c.requires.known
+
+pub take_run-requires-in-loop-row-clause-known : goal.take_run-requires-in-loop-row-clause-known
+take_run-requires-in-loop-row-clause-known c =
+    let before = next_stays c.args.ink _ _ _ _ c.loop-row.invariant c.requires.known in
+    next_stays c.args.ink _ _ _ _ c.take_run.ensures before
+
+pub take_run-requires-in-loop-row-2-clause-known : goal.take_run-requires-in-loop-row-2-clause-known
+take_run-requires-in-loop-row-2-clause-known c =
+    let before = next_stays c.args.ink _ _ _ _ c.loop-row.invariant c.requires.known in
+    let before = next_stays c.args.ink _ _ _ _ c.take_run.ensures before in
+    next_stays c.args.ink _ _ _ _ c.take_run-in-loop-row.ensures before
+
+pub take_run-requires-in-loop-row-3-clause-known : goal.take_run-requires-in-loop-row-3-clause-known
+take_run-requires-in-loop-row-3-clause-known c =
+    let before = next_stays c.args.ink _ _ _ _ c.loop-row.invariant c.requires.known in
+    let before = next_stays c.args.ink _ _ _ _ c.take_run.ensures before in
+    let before = next_stays c.args.ink _ _ _ _ c.take_run-in-loop-row.ensures before in
+    next_stays c.args.ink _ _ _ _ c.take_run-in-loop-row-2.ensures before
