@@ -13,24 +13,24 @@ use Rattle.cam_rows.specs.Runs.{AreEnds}
 
 -- ---- the columns that a half plane holds
 
-pub counted_ends : (ends : List ℕ) (n : ℕ) (top left : Centres) (P Q : Spot → Type 0) (h : HalfPlane)
-    → left ≡ leftmost top → IsHalfPlaneOf left P h → ((s : Spot) → P s ↔ Q s) → length ends ≡ n
-    → AreCounted top.n (IsUp (numbers_of h)) n ends → AreEnds ends top Q
-counted_ends ends n top left P Q h is half same size counted =
+pub counted_ends : (end : ℕ → ℕ) (n : ℕ) (top left : Centres) (P Q : Spot → Type 0) (h : HalfPlane)
+    → left ≡ leftmost top → IsHalfPlaneOf left P h → ((s : Spot) → P s ↔ Q s)
+    → AreCounted top.n (IsUp (numbers_of h)) n end → AreEnds end n top Q
+counted_ends end n top left P Q h is half same counted =
     let told : (k i : ℕ) → IsUp (numbers_of h) k i ↔ P (centre_at (row_below top k) i) = rw is at half.tells in
     record {
       each = λ k i within small.
-          let here = counted.each k i (omega (arith, within, size)) small in (
+          let here = counted.each k i within small in (
             (λ on. (same _).0 ((told k i).0 (here.0 on))),
             (λ held. here.1 ((told k i).1 ((same _).1 held))),
           );
-      within = λ k within. counted.within k (omega (arith, within, size));
+      within = counted.within;
     }
 
-pub ends_like : (ends : List ℕ) (top : Centres) (P Q : Spot → Type 0)
-    → ((k i : ℕ) → k < length ends → P (centre_at (row_below top k) i) ↔ Q (centre_at (row_below top k) i))
-    → AreEnds ends top P → AreEnds ends top Q
-ends_like ends top P Q same told = record {
+pub ends_like : (end : ℕ → ℕ) (n : ℕ) (top : Centres) (P Q : Spot → Type 0)
+    → ((k i : ℕ) → k < n → P (centre_at (row_below top k) i) ↔ Q (centre_at (row_below top k) i))
+    → AreEnds end n top P → AreEnds end n top Q
+ends_like end n top P Q same told = record {
   each = λ k i within small.
       let here = told.each k i within small in
       let alike = same k i within in

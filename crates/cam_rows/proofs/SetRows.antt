@@ -66,43 +66,29 @@ module _ (columns : ℕ) (firsts ends new : List ℕ) (Cut IsHeld : ℕ → ℕ 
     same_ends = λ _ _. refl;
   }
 
--- runs from the leftmost column on, of all columns before they are cut
-pub ends_counted : (columns n : ℕ) (ends new : List ℕ) (Cut IsHeld : ℕ → ℕ → Type 0) → length ends ≡ n
-    → ((k : ℕ) → k < n → slice_index ends k ≡ columns) → ((k i : ℕ) → IsHeld k i ↔ Cut k i) → AreEndsCut Cut ends new
-    → AreCounted columns IsHeld n new
-ends_counted columns n ends new Cut IsHeld size all same cut = record {
-  each = λ k i within small.
-      let here = cut k i (omega (arith, within, size)) in
-      let whole = all k within in (
-        (λ on. (same k i).1 (here.0 on).1),
-        (λ held. here.1 (omega (arith, whole, small), (same k i).0 held)),
-      );
-  within = λ k within. elim (cases_lt columns (slice_index new k)) [
-    | inl more ↦
-        let both = (cut k columns (omega (arith, within, size))).0 more in absurd (omega (arith, both.0, all k within))
+-- the same number of columns in all rows
+pub same_counted : (columns n count : ℕ) (IsHeld : ℕ → ℕ → Type 0)
+    → ((k i : ℕ) → k < n → (i < count) ↔ ((i < columns) × IsHeld k i)) → AreCounted columns IsHeld n (λ _. count)
+same_counted columns n count IsHeld told = record {
+  each = λ k i within small. let here = told k i within in ((λ on. (here.0 on).1), (λ held. here.1 (small, held)));
+  within = λ k within. elim (cases_lt columns count) [
+    | inl more ↦ let both = (told k columns within).0 more in absurd (omega (arith, both.0))
     | inr most ↦ most
   ];
 }
 
--- the same number of columns in all rows
-pub all_same_counted : (columns n count : ℕ) (new : List ℕ) (IsHeld : ℕ → ℕ → Type 0)
-    → ((k : ℕ) → k < n → slice_index new k ≡ count)
-    → ((k i : ℕ) → k < n → (i < count) ↔ ((i < columns) × IsHeld k i)) → AreCounted columns IsHeld n new
-all_same_counted columns n count new IsHeld all told = record {
-  each = λ k i within small.
-      let here = told k i within in
-      rw (all k within) ((λ on. (here.0 on).1), (λ held. here.1 (small, held)));
-  within = λ k within. elim (cases_lt columns (slice_index new k)) [
-    | inl more ↦
-        let both = (told k columns within).0 (omega (arith, more, all k within)) in absurd (omega (arith, both.0))
-    | inr most ↦ most
-  ];
+-- and written for each row
+pub counted_alike : (columns n : ℕ) (IsHeld : ℕ → ℕ → Type 0) (end same : ℕ → ℕ)
+    → ((k : ℕ) → k < n → same k ≡ end k) → AreCounted columns IsHeld n end → AreCounted columns IsHeld n same
+counted_alike columns n IsHeld end same alike counted = record {
+  each = λ k i within small. rw (alike k within) (counted.each k i within small);
+  within = λ k within. rw (alike k within) (counted.within k within);
 }
 
 -- ends of runs from the leftmost column on, of the columns that are held
 pub all_counted : (columns n : ℕ) (old new : List ℕ) (IsHeld : ℕ → ℕ → Type 0) (row : ℕ) → n ≤ row
     → AreSetAbove (λ k end. (i : ℕ) → (i < end) ↔ ((i < columns) × IsHeld k i)) old row new
-    → AreCounted columns IsHeld n new
+    → AreCounted columns IsHeld n (λ k. slice_index new k)
 all_counted columns n old new IsHeld row all set = record {
   each = λ k i within small.
       let here = set.above k (omega arith) i in ((λ on. (here.0 on).1), (λ held. here.1 (small, held)));

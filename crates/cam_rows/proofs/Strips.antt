@@ -1,5 +1,5 @@
 -- Strips along lines, by where they begin and end in each row.
-use Rattle.std.proofs.Common.{◌≡◌, ◌↔◌, ◌⊎◌, ℕ, ◌<◌, ℤ, pos, negsuc, ◌+ℤ◌, ◌-ℤ◌, ◌≤ℤ◌, List, length}
+use Rattle.std.proofs.Common.{◌≡◌, ◌↔◌, ◌⊎◌, ℕ, ◌<◌, ℤ, pos, negsuc, ◌+ℤ◌, ◌-ℤ◌, ◌≤ℤ◌, List, None, length}
 use Rattle.std.proofs.Common.{slice_index, inl, inr, ap, refl, ◌∙◌, arith}
 use Rattle.std.proofs.lemmas.Bool.{cases_lt}
 use Rattle.std.proofs.lemmas.Int.{by_lt_z, ints}
@@ -13,7 +13,7 @@ use Rattle.cam_rows.specs.Machinery.HalfPlanes.{IsStripIn, numbers_of}
 use Rattle.cam_rows.specs.Machinery.Narrowing.{AreCounted, IsUp, leftmost}
 use Rattle.cam_rows.specs.Machinery.Slopes.{Sloped, falling, lacking, lowered, number_on}
 use Rattle.cam_rows.specs.Rows.{centre_at, row_below}
-use Rattle.cam_rows.specs.Runs.{AreRuns}
+use Rattle.cam_rows.specs.Runs.{AreRuns, end_in}
 use Rattle.cam_rows.proofs.HalfPlanes.{raised_number}
 use Rattle.cam_rows.proofs.SlopeBits.{lacking_sloped}
 
@@ -75,8 +75,8 @@ module _ (h f : HalfPlane) (low high : Sloped) (reach e : ℤ)
 pub strip_runs : (firsts ends : List ℕ) (n : ℕ) (top left : Centres) (h : HalfPlane) (low high : Crossing) (t : Steps)
     (reach : ℤ) (number : Spot → ℤ) → left ≡ leftmost top
     → ((k i : ℕ) → number_on (lowered k (numbers_of h)) i ≡ number (centre_at (row_below left k) i))
-    → IsStripIn n low high t reach h → length firsts ≡ n → AreCounted top.n (IsUp (falling low t)) n firsts
-    → AreCounted top.n (IsUp (falling high t)) n ends → AreRuns firsts ends top (λ s. IsWithinReach (number s) reach)
+    → IsStripIn n low high t reach h → length firsts ≡ n → AreCounted top.n (IsUp (falling low t)) n (end_in None firsts)
+    → AreCounted top.n (IsUp (falling high t)) n (end_in None ends) → AreRuns firsts ends top (λ s. IsWithinReach (number s) reach)
 strip_runs firsts ends n top left h low high t reach number is numbers strip size starts stops =
     let told : (k i : ℕ) → number_on (lowered k (numbers_of h)) i ≡ number (centre_at (row_below top k) i) =
     rw is at numbers in

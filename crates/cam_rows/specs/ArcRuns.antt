@@ -39,6 +39,10 @@ IsInHalf s e v = IsInSweep s e v ⊎ (cross s e <ℤ pos 0)
 abbrev pub IsLeftOut : Vector → Vector → Vector → Type 0
 IsLeftOut s e v = (cross s e <ℤ pos 0) × (cross s v <ℤ pos 0) × (cross v e <ℤ pos 0)
 
+-- the sweep counterclockwise from s to e is more than a half turn
+abbrev pub IsPastHalf : Vector → Vector → Type 0
+IsPastHalf s e = cross s e <ℤ pos 0
+
 -- a clockwise sweep is the counterclockwise one from its end to its start
 abbrev pub by_turn : (Vector → Vector → Vector → Type 0) → Bool → Vector → Vector → Vector → Type 0
 by_turn P true s e v = P s e v
@@ -47,6 +51,10 @@ by_turn P false s e v = P e s v
 -- the same of an arc's sweep and a place
 abbrev pub in_turn : (Vector → Vector → Vector → Type 0) → Arc → Spot → Type 0
 in_turn P a s = by_turn P a.ccw (way a.centre a.from) (way a.centre a.to) (seen_from a.centre s)
+
+-- an arc's sweep is more than a half turn
+abbrev pub IsWideArc : Arc → Type 0
+IsWideArc a = by_turn (λ s e _. IsPastHalf s e) a.ccw (way a.centre a.from) (way a.centre a.to) (way a.centre a.to)
 
 -- nearer to the centre than the outer circle, or on it, and in the sweep, where that is at most a half turn; nowhere
 -- where the width is 0

@@ -87,6 +87,7 @@ impl Chord {
         ensures same { self.new.offsets ≡ self.old.offsets }
         ensures each { (i : ℕ) → i < self.old.offsets.count → IsInRun result.first result.end i
             ↔ IsInChord (offset self.old.offsets.first self.old.offsets.step i) to_left to_right }
+        ensures middle { (result.first ≤ self.old.left.columns) × (self.old.left.columns ≤ result.end) }
         ensures within { result.end ≤ self.old.offsets.count }
     {
         let middle = self.left.columns;
@@ -115,7 +116,7 @@ impl Chord {
     }
 
     /// The part of a run that lies in the chord of another row: the columns whose distance to the side has a square less
-    /// than `room`. To an empty run, or a chord without a place, nothing is walked.
+    /// than `room`. A run whose columns lie on one side is cut at one end; to an empty one on both sides nothing is walked.
     #[inline]
     pub(crate) fn part<const REACH: u64, const LEFT: bool, const RIGHT: bool>(
         &mut self,
@@ -134,17 +135,25 @@ impl Chord {
             × (square (offset self.old.offsets.first self.old.offsets.step i) <ℤ pos room)) }
         ensures within { result.end ≤ run.end }
     {
-        if run.end <= run.first {
+        if LEFT && RIGHT && run.end <= run.first {
             return run;
         }
-        if room == 0 {
-            return Run { first: 0, end: 0 };
-        }
         let chord = self.walk::<REACH, LEFT, RIGHT>(room, room);
-        Run {
-            first: run.first.max(chord.first),
-            end: run.end.min(chord.end),
+        let first = run.first.max(chord.first);
+        let end = run.end.min(chord.end);
+        if !LEFT {
+            return Run {
+                first: run.first,
+                end,
+            };
         }
+        if !RIGHT {
+            return Run {
+                first,
+                end: run.end,
+            };
+        }
+        Run { first, end }
     }
 }
 

@@ -25,8 +25,8 @@ pub fn edge_row(from: Point, to: Point, centres: Centres) -> u64
         return 0;
     }
     let mut ends = [0];
-    edge_runs(from, to, &centres, &mut ends);
-    run_row(0, ends[0], 0, centres.n)
+    let end = edge_runs(from, to, &centres, &mut ends).unwrap_or(ends[0]);
+    run_row(0, end, 0, centres.n)
 }
 
 /// Whether the point is higher than the centres.

@@ -26,7 +26,7 @@
 //! - [`bar_runs`], [`rect_runs`], [`obround_runs`], [`swept_runs`]: the same in rows of up to 32,768
 //!   centres, a run of columns for each row; [`run_row`]: the bits of a part of it. [`cap_runs`] and
 //!   [`edge_runs`] are those of parts of a region: a run of an edge begins at the leftmost column.
-//! - [`ring_of`], [`outer_runs`], [`beyond_runs`]: an arc in such rows.
+//! - [`ring_of`], [`outer_runs`], [`beyond_runs`]: an arc in such rows; [`is_wide_arc`]: whether the last one has any.
 //! - [`RunShape`]: all of these shapes alike; [`Hole`] stands for a hole, [`Outer`], [`Hollow`] and [`Beyond`] for the
 //!   parts of an arc.
 //! - [`or_rows`], [`clear_rows`], [`xor_rows`]: the 64 rows of a tile; [`pbm_bytes`]: a row in a file.
@@ -78,7 +78,7 @@ pub use obround::obround_row;
 pub use rect::rect_row;
 pub use ring::{Ring, ring_of};
 pub use run_shape::RunShape;
-pub use runs::arc::{beyond_runs, outer_runs};
+pub use runs::arc::{beyond_runs, is_wide_arc, outer_runs};
 pub use runs::bar::bar_runs;
 pub use runs::cap::cap_runs;
 pub use runs::edge::edge_runs;

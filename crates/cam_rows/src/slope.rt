@@ -9,7 +9,7 @@ ghost use Rattle.std.specs.Int.RustNames.{unsigned_abs};
 ghost use Rattle.cam_rows.specs.Machinery.Slopes.{AreSteps, IsCrossing, IsDivisor, IsRest, IsRestAfter, whole};
 ghost use Rattle.cam_rows.specs.Runs.{most_columns};
 
-pub(crate) use cutting::{count_both, cut_ends, cut_firsts};
+pub(crate) use cutting::{count_both, count_ends, cut_ends, cut_firsts};
 
 /// How many columns of a row there are up to the last number that is not negative: the number left of the first column
 /// is `columns` times the divisor less what the remainder, which is negative, lacks.

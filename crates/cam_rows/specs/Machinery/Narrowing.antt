@@ -35,9 +35,9 @@ pub record AreNarrowed (columns : ℕ) (firsts ends : List ℕ) (IsHeld : ℕ �
 
 -- in so many rows from the top one on, the ends of runs from the left: of so many columns those lie before them that are
 -- held there
-pub record AreCounted (columns : ℕ) (IsHeld : ℕ → ℕ → Type 0) (end : ℕ) (ends : List ℕ) : Type 0 where
-  pub each : (k i : ℕ) → k < end → i < columns → (i < slice_index ends k) ↔ IsHeld k i
-  pub within : (k : ℕ) → k < end → slice_index ends k ≤ columns
+pub record AreCounted (columns : ℕ) (IsHeld : ℕ → ℕ → Type 0) (rows : ℕ) (end : ℕ → ℕ) : Type 0 where
+  pub each : (k i : ℕ) → k < rows → i < columns → (i < end k) ↔ IsHeld k i
+  pub within : (k : ℕ) → k < rows → end k ≤ columns
 
 -- of the columns before the ends of runs those stay that are held
 abbrev pub AreEndsCut : (ℕ → ℕ → Type 0) → List ℕ → List ℕ → Type 0

@@ -1,10 +1,10 @@
 //! Runs of arcs.
 
-ghost use Rattle.std.specs.Prelude.{◌≡◌, ◌<◌, length};
+ghost use Rattle.std.specs.Prelude.{◌≡◌, ◌↔◌, ◌<◌, IsTrue, length};
 ghost use Rattle.cam_units.specs.Board.{IsOnBoard};
 ghost use Rattle.cam_shapes.specs.Arc.{IsSoundArc};
 ghost use Rattle.cam_shapes.specs.Plane.{seen_from, way};
-ghost use Rattle.cam_rows.specs.ArcRuns.{IsBeyond, IsInHalf, IsLeftOut, IsOuter, IsRingOf, in_turn};
+ghost use Rattle.cam_rows.specs.ArcRuns.{IsBeyond, IsInHalf, IsLeftOut, IsOuter, IsRingOf, IsWideArc, in_turn};
 ghost use Rattle.cam_rows.specs.Runs.{AreRuns, AreWideRows};
 
 use super::circle::narrow_to_circle;
@@ -58,6 +58,17 @@ pub fn beyond_runs(arc: &Arc, top: &Centres, firsts: &mut [u32], ends: &mut [u32
     } else {
         left_out_runs(&arc.centre, &arc.to, &arc.from, top, firsts, ends);
     }
+}
+
+/// Whether an arc's sweep is more than a half turn: then it leaves out what [`beyond_runs`] finds, and else nothing.
+pub fn is_wide_arc(arc: &Arc) -> bool
+    requires { IsSoundArc arc.now }
+    ensures { IsTrue result ↔ IsWideArc arc.now }
+{
+    if arc.ccw {
+        return cross_product(&arc.centre, &arc.from, &arc.to) < 0;
+    }
+    cross_product(&arc.centre, &arc.to, &arc.from) < 0
 }
 
 /// The runs of an arc's sweep, where that is at most a half turn, and else of all columns.

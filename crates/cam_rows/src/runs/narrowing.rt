@@ -1,6 +1,6 @@
 //! Runs of wide rows, narrowed to half planes.
 
-ghost use Rattle.std.specs.Prelude.{◌≡◌, ◌↔◌, ◌+◌, ◌^◌, ◌<◌, ◌≤◌, ℕ, IfSome, IsTrue, length, pos, ◌*ℤ◌, ◌≤ℤ◌, ◌<ℤ◌};
+ghost use Rattle.std.specs.Prelude.{◌≡◌, ◌↔◌, ◌+◌, ◌^◌, ◌<◌, ◌≤◌, ℕ, IfSome, IsTrue, None, length, pos, ◌*ℤ◌, ◌≤ℤ◌, ◌<ℤ◌};
 ghost use Rattle.std.specs.Int.RustNames.{unsigned_abs};
 ghost use Rattle.cam_units.specs.Board.{IsOnBoard};
 ghost use Rattle.cam_rows.specs.Machinery.HalfPlanes.{IsCrossingIn, IsLeft, IsShortIn, numbers_of};
@@ -8,13 +8,13 @@ ghost use Rattle.cam_rows.specs.Machinery.Linear.{IsShortLinear};
 ghost use Rattle.cam_rows.specs.Machinery.Narrowing.{AreCounted, AreNarrowed, IsUp};
 ghost use Rattle.cam_rows.specs.Machinery.Slopes.{lacking, lowered};
 ghost use Rattle.cam_rows.specs.Rows.{centre_at, row_below};
-ghost use Rattle.cam_rows.specs.Runs.{AreWideRows, IsInRun, most_columns};
+ghost use Rattle.cam_rows.specs.Runs.{AreWideRows, IsInRun, end_in, most_columns};
 
 use super::Run;
 use crate::centres::Centres;
 use crate::half_plane::HalfPlane;
 use crate::linear::Linear;
-use crate::slope::{Crossing, Steps, columns_up_to, cut_ends, cut_firsts};
+use crate::slope::{Crossing, Steps, columns_up_to, count_ends, cut_ends, cut_firsts};
 use cam_units::Point;
 
 /// The most rows whose crossings are stepped through in 64 bits.
@@ -78,20 +78,19 @@ impl HalfPlane {
     }
 
     /// The ends of runs of wide rows, one below another from the top one, that begin at the leftmost column, where its
-    /// numbers fall from each column to the next.
-    pub(crate) fn count_columns(&self, columns: u32, ends: &mut [u32])
+    /// numbers fall from each column to the next: one for all rows, where it answers that, and else written for each.
+    pub(crate) fn count_columns(&self, columns: u32, ends: &mut [u32]) -> Option<u32>
         requires short { IsShortIn (length ends.old) self.now }
         requires falls { self.now.row.step <ℤ pos 0 }
         requires few { columns ≤ most_columns }
-        ensures { AreCounted columns (IsUp (numbers_of self.now)) (length ends.old) ends.new }
+        requires some { 0 < length ends.old }
+        ensures { AreCounted columns (IsUp (numbers_of self.now)) (length ends.old) (end_in result ends.new) }
     {
-        match self.crossing(ends.len()) {
-            Some((top, steps)) => {
-                ends.fill(columns);
-                cut_ends(top, &steps, ends);
-            }
-            None => self.count_each(columns, ends),
+        if let Some((top, steps)) = self.crossing(ends.len()) {
+            return count_ends(top, &steps, columns, ends);
         }
+        self.count_each(columns, ends);
+        None
     }
 
     /// Where its numbers cross 0 in the top row, and how that moves from each row to the next: the numbers themselves
@@ -161,7 +160,7 @@ impl HalfPlane {
         requires short { IsShortIn (length ends.old) self.now }
         requires falls { self.now.row.step <ℤ pos 0 }
         requires few { columns ≤ most_columns }
-        ensures { AreCounted columns (IsUp (numbers_of self.now)) (length ends.old) ends.new }
+        ensures { AreCounted columns (IsUp (numbers_of self.now)) (length ends.old) (end_in None ends.new) }
     {
         for k in 0..ends.len() {
             ends[k] = columns_up_to(self.number_below(k), -self.row.step, columns);

@@ -1,11 +1,17 @@
-use Rattle.std.proofs.Common.{◌≡◌, IsTrue, subst, sym, arith}
+use Rattle.std.proofs.Common.{◌≡◌, ℕ, IsTrue, List, None, Option, Some, slice_index, refl, subst, sym, ◌∙◌, arith}
+use Rattle.std.specs.Option.{unwrap_or}
 use Rattle.cam_shapes.specs.Edge.{crosses_ray, edge}
 use Rattle.cam_rows.specs.Rows.{row_below}
-use Rattle.cam_rows.specs.Runs.{IsWideRow}
+use Rattle.cam_rows.specs.Runs.{IsWideRow, end_in}
 use Rattle.cam_rows.proofs.OneRow.{marks_run}
 use Rattle.cam_rows.proofs.Slopes.{top_row}
 use Rattle.cam_rows.proofs.Steps.{wide_row}
 use Rattle.cam_rows.proofs.edge.edge_row.Goals as goal
+
+-- the end of the one row
+end_is : (one : Option ℕ) (ends : List ℕ) → end_in one ends 0 ≡ unwrap_or one (slice_index ends 0)
+end_is None ends = refl
+end_is (Some end) ends = refl
 
 pub edge_runs-requires-clause-rows : goal.edge_runs-requires-clause-rows
 edge_runs-requires-clause-rows c k within =
@@ -19,4 +25,5 @@ returns c =
     c.run_row.ensures
     (λ i small.
     let here = c.edge_runs.ensures.each 0 i (omega arith) small in
-    ((λ on. here.0 on.1), (λ held. (omega arith, here.1 held))))
+    let same = c.unwrap_or-end.ensures ∙ sym (end_is c.edge_runs.result c.edge_runs.new.ends) in
+    ((λ on. here.0 (omega (arith, on.1, same))), (λ held. (omega arith, omega (arith, here.1 held, same)))))

@@ -1,7 +1,8 @@
-use Rattle.std.proofs.Common.{◌≡◌, IsTrue, pos, ◌<ℤ◌, sym, ◌∙◌, arith, rules}
+use Rattle.std.proofs.Common.{◌≡◌, IsTrue, pos, ◌<ℤ◌, length, sym, ◌∙◌, arith, rules}
 use Rattle.cam_shapes.specs.Edge.{crosses_ray, edge, is_above}
 use Rattle.cam_shapes.specs.Plane.{cross, seen_from, way}
 use Rattle.cam_rows.specs.Rows.{first_of}
+use Rattle.cam_rows.specs.Runs.{end_in}
 use Rattle.cam_rows.proofs.CountedRuns.{ends_like}
 use Rattle.cam_rows.proofs.EdgeSides.{falls_through, falls_to, rises_through, rises_to}
 use Rattle.cam_rows.proofs.runs.edge.edge_runs.Goals as goal
@@ -27,25 +28,24 @@ pub returns-then-is_above : goal.returns-then-is_above
 returns-then-is_above c =
     let p = c.args.from in
     let q = c.args.to in
-    let size = c.runs_left.auto.ends in
-    ends_like c.runs_left.new.ends c.args.top.now (λ s. pos 0 <ℤ cross (way q p) (seen_from q s))
+    ends_like (end_in c.runs_left.result c.runs_left.new.ends) (length c.args.ends.now) c.args.top.now (λ s. pos 0 <ℤ cross (way q p) (seen_from q s))
     (λ s. IsTrue (crosses_ray s (edge p q)))
     (λ k i within.
-    falls_through p q c.args.top.now k i (c.requires.rows k (omega (arith, within, size))).step
+    falls_through p q c.args.top.now k i (c.requires.rows k within).step
     (sym (told (goal.at.returns-then-is_above c).After-is_above) ∙ c.if-is_above.true)
-    (c.requires.crossed k (omega (arith, within, size))))
+    (c.requires.crossed k within))
     c.runs_left.ensures
 
 pub returns-else-is_above : goal.returns-else-is_above
 returns-else-is_above c =
     let p = c.args.from in
     let q = c.args.to in
-    let size = c.runs_left-else-is_above.auto.ends in
-    ends_like c.runs_left-else-is_above.new.ends c.args.top.now (λ s. pos 0 <ℤ cross (way p q) (seen_from p s))
+    let left = c.runs_left-else-is_above in
+    ends_like (end_in left.result left.new.ends) (length c.args.ends.now) c.args.top.now (λ s. pos 0 <ℤ cross (way p q) (seen_from p s))
     (λ s. IsTrue (crosses_ray s (edge p q)))
     (λ k i within.
-    rises_through p q c.args.top.now k i (c.requires.rows k (omega (arith, within, size))).step
+    rises_through p q c.args.top.now k i (c.requires.rows k within).step
     (sym (told (goal.at.returns-else-is_above c).After-is_above) ∙ c.if-is_above.false)
-    (c.requires.crossed 0 (omega (arith, within, size)))
-    (c.requires.crossed k (omega (arith, within, size))))
-    c.runs_left-else-is_above.ensures
+    (c.requires.crossed 0 (omega (arith, within)))
+    (c.requires.crossed k within))
+    left.ensures

@@ -1,6 +1,7 @@
 use Rattle.std.proofs.Common.{◌↔◌, ℤ, pos, negsuc, ◌+ℤ◌, ◌≤ℤ◌, ◌<ℤ◌, length, arith, refl}
 use Rattle.std.proofs.lemmas.Int.{ints}
 use Rattle.cam_shapes.specs.Plane.{cross, seen_from, way}
+use Rattle.cam_rows.specs.Runs.{end_in}
 use Rattle.cam_rows.proofs.CountedRuns.{counted_ends}
 use Rattle.cam_rows.proofs.WideRows.{leftmost_rows}
 use Rattle.cam_rows.proofs.runs.edge.runs_left.Goals as goal
@@ -19,7 +20,7 @@ pub returns : goal.returns
 returns c =
     let from = c.args.from.now in
     let to = c.args.to.now in
-    counted_ends c.count_columns.new.ends (length c.args.ends.now) c.args.top.now c.leftmost.result
+    counted_ends (end_in c.count_columns.result c.count_columns.new.ends) (length c.args.ends.now) c.args.top.now c.leftmost.result
     (λ s. pos 0 ≤ℤ (cross (way from to) (seen_from from s) +ℤ negsuc 0))
     (λ s. pos 0 <ℤ cross (way from to) (seen_from from s)) c.left.result c.leftmost.ensures.value c.left.ensures.holds
-    (λ s. less_natural (cross (way from to) (seen_from from s))) c.count_columns.auto.ends c.count_columns.ensures
+    (λ s. less_natural (cross (way from to) (seen_from from s))) c.count_columns.ensures

@@ -1,7 +1,7 @@
-use Rattle.std.proofs.Common.{◌-◌, sym, refl, length, arith}
+use Rattle.std.proofs.Common.{◌-◌, sym, refl, length, slice_index, arith}
 use Rattle.cam_rows.specs.Machinery.Narrowing.{IsUp}
 use Rattle.cam_rows.specs.Machinery.Slopes.{falling}
-use Rattle.cam_rows.proofs.SetRows.{all_counted, all_same_counted, next_set, none_set}
+use Rattle.cam_rows.proofs.SetRows.{all_counted, counted_alike, next_set, none_set, same_counted}
 use Rattle.cam_rows.proofs.SlopeBits.{end_cut, falling_below, nearer, stays_counted}
 use Rattle.cam_rows.proofs.Slopes.{lowered_none}
 use Rattle.cam_rows.proofs.slope.cutting.count_both.Goals as goal
@@ -38,19 +38,25 @@ loop-k-preserved c =
 pub returns-then-stays-2-clause-firsts : goal.returns-then-stays-2-clause-firsts
 returns-then-stays-2-clause-firsts c =
     let rows = length c.args.firsts.now in
-    all_same_counted c.args.columns rows c.columns_before.result c.fill.new.self (IsUp (falling c.args.low c.args.steps.now))
+    let count = c.columns_before in
+    let held = IsUp (falling c.args.low c.args.steps.now) in
+    counted_alike c.args.columns rows held (λ _. count.result) (λ k. slice_index c.fill.new.self k)
     (λ k within. c.fill.ensures.clones k 0 (omega (arith, within, c.fill.ensures.len)) refl)
-    (λ k i within. stays_counted c.args.low c.args.steps.now _ k (rows - 1) c.args.columns c.columns_before.result i
-    c.requires.steps c.requires.low (omega (arith, within)) (c.stays.ensures.0 c.if-stays.true) (c.columns_before.ensures i))
+    (same_counted c.args.columns rows count.result held
+    (λ k i within. stays_counted c.args.low c.args.steps.now _ k (rows - 1) c.args.columns count.result i
+    c.requires.steps c.requires.low (omega (arith, within)) (c.stays.ensures.0 c.if-stays.true) (count.ensures i)))
 
 pub returns-then-stays-2-clause-ends : goal.returns-then-stays-2-clause-ends
 returns-then-stays-2-clause-ends c =
     let rows = length c.args.firsts.now in
     let count = c.columns_before-then-stays-2 in
-    all_same_counted c.args.columns rows count.result c.fill-then-stays-2.new.self (IsUp (falling c.args.high c.args.steps.now))
-    (λ k within. c.fill-then-stays-2.ensures.clones k 0 (omega (arith, within, c.fill-then-stays-2.ensures.len, c.requires.ends)) refl)
+    let fill = c.fill-then-stays-2 in
+    let held = IsUp (falling c.args.high c.args.steps.now) in
+    counted_alike c.args.columns rows held (λ _. count.result) (λ k. slice_index fill.new.self k)
+    (λ k within. fill.ensures.clones k 0 (omega (arith, within, fill.ensures.len, c.requires.ends)) refl)
+    (same_counted c.args.columns rows count.result held
     (λ k i within. stays_counted c.args.high c.args.steps.now _ k (rows - 1) c.args.columns count.result i
-    c.requires.steps c.requires.high (omega (arith, within)) (c.stays-then-stays.ensures.0 c.if-stays-2.true) (count.ensures i))
+    c.requires.steps c.requires.high (omega (arith, within)) (c.stays-then-stays.ensures.0 c.if-stays-2.true) (count.ensures i)))
 
 pub returns-clause-firsts : goal.returns-clause-firsts
 returns-clause-firsts c =
