@@ -138,6 +138,23 @@ tells_round g columns a h seen body hollow beyond start end high b y x s e = rec
       (x.all column row near within) (s.each column row near within) (e.each column row near within);
 }
 
+left_parts : (Body Hollow Beyond Start End Left Rest T : Type 0) → (Left × (Rest → ⊥)) ↔ (Body × (Hollow → ⊥))
+    → (((Body × (Hollow → ⊥) × (Beyond → ⊥)) ⊎ Start) ⊎ End) ↔ T
+    → (((Left × (Rest → ⊥) × (Beyond → ⊥)) ⊎ Start) ⊎ End) ↔ T
+left_parts Body Hollow Beyond Start End Left Rest T same told = grind arith
+
+-- what is hollow is taken out of the body
+pub tells_left : (g : Grid) (columns : ℕ) (IsHeld : Spot → Type 0) (r : FigureRuns) (body hollow : Runs)
+    → Fits g.rows body → Fits g.rows hollow
+    → ((row column : ℕ) → (HasColumn body row column × (HasColumn hollow row column → ⊥))
+    ↔ (HasColumn r.body row column × (HasColumn r.hollow row column → ⊥)))
+    → TellsFigure g columns IsHeld r → TellsFigure g columns IsHeld (record r { body = body; hollow = hollow })
+tells_left g columns IsHeld r body hollow fit fit_hollow same told = record {
+  fit = record { body = fit; hollow = fit_hollow; beyond = told.fit.beyond; start = told.fit.start; end = told.fit.end };
+  each = λ column row near within.
+      left_parts _ _ _ _ _ _ _ _ (same row column) (told.each column row near within);
+}
+
 pub tells_like : (g : Grid) (columns : ℕ) (P Q : Spot → Type 0) (s : FigureRuns) → ((t : Spot) → Q t ↔ P t)
     → TellsFigure g columns P s → TellsFigure g columns Q s
 tells_like g columns P Q s same told = record {

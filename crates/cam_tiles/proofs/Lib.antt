@@ -33,6 +33,7 @@ pub mod PictureLemmas
 pub mod Pictures
 pub mod PlainTiles
 pub mod PlotLemmas
+pub mod RestOfRuns
 pub mod RowLists
 pub mod RowsInOrder
 pub mod RowsOfTiles

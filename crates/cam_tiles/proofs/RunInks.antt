@@ -13,7 +13,7 @@ use Rattle.cam_tiles.specs.declared.masks.runs.Runs.{Runs}
 use Rattle.cam_tiles.specs.declared.span.Span.{Span}
 use Rattle.cam_tiles.specs.Machinery.Figures.{HasBody, HasPart}
 use Rattle.cam_tiles.specs.Machinery.Inks.{AreKnown, AreNext, Inked, Takes, given, in_body, in_box, in_row, in_runs, ink_at, ink_of, words_of}
-use Rattle.cam_tiles.specs.Machinery.Runs.{HasColumn}
+use Rattle.cam_tiles.specs.Machinery.Runs.{AreAlike, HasColumn}
 use Rattle.cam_tiles.proofs.JoinedWords.{bit_told}
 use Rattle.cam_tiles.proofs.SwathInks.{same_test}
 use Rattle.cam_tiles.proofs.TakenInks.{kept_set}
@@ -288,6 +288,17 @@ next_row r k row column after until =
       ]),
     )
 
+-- all of them, above the end of the band
+pub takes_all : (ink : Bool) (n : ℕ) (r : Runs) (k : ℕ) (old new : Inked) → r.band.end ≤ k
+    → Takes 0 n (in_above r k) ink old new → Takes 0 n (in_runs r) ink old new
+takes_all ink n r k old new past takes =
+    takes_same ink n (in_above r k) (in_runs r) old new takes (λ row column low within.
+    let above = above_told r k row column in
+    let all = runs_told r row column in (
+      (λ on. all.1 (above.0 on).1),
+      (λ on. let h = all.0 on in above.1 (omega (arith, h.1, past), h)),
+    ))
+
 -- ---- columns that are the same in some rows
 
 pub box_told : (rows : Span) (first end row column : ℕ)
@@ -360,10 +371,42 @@ same_box rows first end from to row column same =
       (λ on. let h = other.0 on in one.1 (h.0, same.1 h.1)),
     )
 
--- runs that are the same in all rows of their band
-pub box_runs : (r : Runs) (row column : ℕ)
-    → ((k : ℕ) → r.band.first ≤ k → k < r.band.end
-    → (slice_index r.firsts k ≡ slice_index r.firsts r.band.first) × (slice_index r.ends k ≡ slice_index r.ends r.band.first))
+-- rows from one up to another that have the same run
+pub next_box : (r : Runs) (k until row column : ℕ) → r.band.first ≤ k → k < until → until ≤ r.band.end
+    → ((other : ℕ) → k ≤ other → other < until → AreAlike r k other)
+    → IsTrue (in_above r until row column)
+    ↔ (IsTrue (in_above r k row column)
+    ⊎ IsTrue (in_box (record { first = k; end = until }) (slice_index r.firsts k) (slice_index r.ends k) row column))
+next_box r k until row column after onward within same =
+    let all = above_told r until row column in
+    let before = above_told r k row column in
+    let box = box_told (record { first = k; end = until }) (slice_index r.firsts k) (slice_index r.ends k) row column in (
+      (λ on.
+          let h = all.0 on in
+          elim (cases_lt row k) [
+            | inl less ↦ inl (before.1 (less, h.1))
+            | inr most ↦
+                let alike = same row most h.0 in
+                inr (box.1 ((most, h.0), (omega (arith, alike.0, h.1.2.0), omega (arith, alike.1, h.1.2.1))))
+          ]),
+      (λ either. elim either [
+        | inl on ↦ let h = before.0 on in all.1 (omega (arith, h.0, onward), h.1)
+        | inr on ↦
+            let h = box.0 on in
+            let alike = same row h.0.0 h.0.1 in
+            all.1 (
+              h.0.1,
+              (
+                omega (arith, after, h.0.0),
+                omega (arith, within, h.0.1),
+                (omega (arith, alike.0, h.1.0), omega (arith, alike.1, h.1.1)),
+              ),
+            )
+      ]),
+    )
+
+-- a band of rows that all have the same run
+pub box_runs : (r : Runs) (row column : ℕ) → ((k : ℕ) → r.band.first ≤ k → k < r.band.end → AreAlike r r.band.first k)
     → IsTrue (in_box r.band (slice_index r.firsts r.band.first) (slice_index r.ends r.band.first) row column)
     ↔ IsTrue (in_runs r row column)
 box_runs r row column same =

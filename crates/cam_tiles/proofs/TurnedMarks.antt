@@ -120,15 +120,15 @@ module _ (g : Grid) (columns : ℕ) where
         let band = rows row (centre_in g column row) (within, refl) held in
         (band.0, omega (arith, band.1, size, some))
 
-    pub ends_turned : (ends : List ℕ) → length ends ≡ end - first
-        → AreEnds ends (record { x = x; y = y; step = step; n = columns }) P
-        → TurnsRows first (length ends) (λ k column. column < slice_index ends k) old new
+    pub ends_turned : (n : ℕ) (last : ℕ → ℕ) → n ≡ end - first
+        → AreEnds last n (record { x = x; y = y; step = step; n = columns }) P
+        → TurnsRows first n (λ k column. column < last k) old new
         → TurnsCentres g columns P old new
-    ends_turned ends size told turned =
+    ends_turned n last size told turned =
         let each = rw (is_x, is_y, is_step) at told.each in
-        rows_turned first (length ends) P (λ k column. column < slice_index ends k) old new few room
+        rows_turned first n P (λ k column. column < last k) old new few room
         (λ k i under near. rw (below_top g columns first k i) at (each k i under near))
-        (in_rows (length ends) size) turned
+        (in_rows n size) turned
 
     pub runs_turned : (firsts ends : List ℕ) → length firsts ≡ end - first
         → AreRuns firsts ends (record { x = x; y = y; step = step; n = columns }) P

@@ -22,7 +22,7 @@ use crate::masks::figures::{Placed, RunFigure};
 use crate::masks::heights::{HasHeights, Heights};
 use crate::masks::runs::Runs;
 use crate::span::Span;
-use cam_rows::{Beyond, Hole, Hollow, Outer, ring_of};
+use cam_rows::{Hole, Hollow, Outer, ring_of};
 use cam_shapes::{Arc, Bar, Capsule, Disc, Swept};
 use cam_units::Point;
 
@@ -34,7 +34,7 @@ pub(crate) struct FigureRuns {
     /// arc what its outer circle and its sweep hold; of a rectangle's stroke all of it; of a flash the shape without its
     /// hole.
     pub(crate) body: Runs,
-    /// Of an arc what its inner circle holds; of a flash its hole.
+    /// Of an arc what its inner circle holds, where that is not taken out of the body; of a flash its hole.
     pub(crate) hollow: Runs,
     /// Of an arc what its sweep leaves out.
     pub(crate) beyond: Runs,
@@ -135,9 +135,7 @@ impl FigureRuns {
         let hollow = Hollow { arc, ring };
         self.hollow
             .find_among(&self.body, &hollow, at, grid, columns);
-        let beyond = Beyond(arc);
-        self.beyond
-            .find_among(&self.body, &beyond, at, grid, columns);
+        self.beyond.find_beyond(&self.body, arc, at, grid, columns);
         let start = Disc {
             centre: arc.from,
             diameter: arc.width,
@@ -148,6 +146,7 @@ impl FigureRuns {
             diameter: arc.width,
         };
         self.end.find(&end, at, grid, columns);
+        self.body.take_out(&mut self.hollow);
     }
 
     /// Turns to those of a stroke of a rectangle, which is all body.

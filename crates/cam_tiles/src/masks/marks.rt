@@ -1,7 +1,7 @@
 //! Marks in rows of tiles side by side: each turns over the columns left of it, and its own. Those of its tile it turns over
 //! at once, and by its first column it tells the tiles left of it, so that no word is gone through bit by bit.
 
-ghost use Rattle.std.specs.Prelude.{◌≡◌, ◌↔◌, ◌+◌, ◌*◌, ◌%◌, ◌<◌, ◌≤◌, ℕ, IsTrue, length, slice_index};
+ghost use Rattle.std.specs.Prelude.{◌≡◌, ◌↔◌, ◌+◌, ◌*◌, ◌%◌, ◌<◌, ◌≤◌, ℕ, length, slice_index};
 ghost use Rattle.cam_rows.specs.Runs.{IsInRun};
 ghost use Rattle.cam_tiles.specs.Machinery.Spreading.{AreRowsSpread};
 ghost use Rattle.cam_tiles.specs.Machinery.Marks.{AreSpread, TurnsRow, TurnsRows, is_set};
@@ -33,13 +33,6 @@ pub(crate) fn mark_ends(marks: &mut [u64], first: u32, ends: &[u32])
     requires tiles { length marks.old % 64 ≡ 0 }
     ensures { TurnsRows first (length ends.now) (λ k column. column < slice_index ends.now k) marks.old marks.new }
 {
-    if ends.is_empty() {
-        return;
-    }
-    if are_all(ends, ends[0]) {
-        mark_column(marks, first, ends.len(), ends[0]);
-        return;
-    }
     for k in 0..ends.len() {
         mark_end(marks, first + k as u32, ends[k]);
     }
@@ -47,7 +40,7 @@ pub(crate) fn mark_ends(marks: &mut [u64], first: u32, ends: &[u32])
 
 /// The same where all of so many rows have one end, as of an edge that is steep: by words side by side.
 #[tactic(auto, using(crate::proofs::MarkedRows::next_turned, crate::proofs::MarkedRows::all_turned, crate::proofs::MarkedRows::none_turned))]
-fn mark_column(marks: &mut [u64], first: u32, rows: usize, end: u32)
+pub(crate) fn mark_column(marks: &mut [u64], first: u32, rows: usize, end: u32)
     requires rows { first + rows ≤ 64 }
     requires end { end ≤ length marks.old }
     requires tiles { length marks.old % 64 ≡ 0 }
@@ -56,13 +49,6 @@ fn mark_column(marks: &mut [u64], first: u32, rows: usize, end: u32)
     for k in 0..rows {
         mark_end(marks, first + k as u32, end);
     }
-}
-
-/// Whether all of some numbers are one.
-fn are_all(numbers: &[u32], number: u32) -> bool
-    ensures { IsTrue result ↔ ((k : ℕ) → k < length numbers.now → slice_index numbers.now k ≡ number) }
-{
-    numbers.iter().all(|other| *other == number)
 }
 
 /// Turns over the columns of a run in each of rows one below another, from one on: from its first column on and before

@@ -3,15 +3,18 @@
 ghost use Rattle.std.specs.Prelude.{◌≡◌, ◌↔◌, ◌⊎◌, ◌<◌, ◌≤◌, ℕ, IsTrue, length, slice_index};
 ghost use Rattle.cam_units.specs.Board.{IsOnBoard};
 ghost use Rattle.cam_objects.specs.Image.{relative};
+ghost use Rattle.cam_shapes.specs.Arc.{IsSoundArc};
+ghost use Rattle.cam_rows.specs.ArcRuns.{IsBeyond};
 ghost use Rattle.cam_rows.specs.Rows.{centre_at, row_below};
 ghost use Rattle.cam_rows.specs.Runs.{AreWideRows, IsInRun};
 ghost use Rattle.cam_tiles.specs.Machinery.Masks.{IsWithin};
-ghost use Rattle.cam_tiles.specs.Machinery.Runs.{Finds, Fits, HasColumn, IsClear, IsWideGrid, Tells};
+ghost use Rattle.cam_tiles.specs.Machinery.Runs.{AreAlike, Finds, Fits, HasColumn, IsClear, IsWideGrid, Tells};
 
 use crate::grid::Grid;
 use crate::masks::heights::{HasHeights, Heights};
 use crate::span::Span;
-use cam_rows::{Centres, RunShape};
+use cam_rows::{Beyond, Centres, RunShape, is_wide_arc};
+use cam_shapes::Arc;
 use cam_units::Point;
 
 /// For each row of a band the run of the columns that a shape holds, from the first one on and before an end; none in
@@ -71,19 +74,43 @@ impl Runs {
         other.clear();
     }
 
-    /// Whether all rows have the same run, as those of a box.
-    pub(crate) fn is_box(&self) -> bool
-        requires { self.now.band.end ≤ 64 }
-        ensures { IsTrue result ↔ ((row : ℕ) → self.now.band.first ≤ row → row < self.now.band.end
-            → (slice_index self.now.firsts row ≡ slice_index self.now.firsts self.now.band.first)
-            × (slice_index self.now.ends row ≡ slice_index self.now.ends self.now.band.first)) }
+    /// Takes the runs of another out, row after row, as long as each begins no later than that of its row here, or ends no
+    /// earlier, so that one run is left. Once all of them are taken out, the other has none.
+    pub(crate) fn take_out(&mut self, other: &mut Runs)
+        requires few { other.old.band.end ≤ 64 }
+        ensures columns { (row column : ℕ)
+            → (HasColumn self.new row column × (HasColumn other.new row column → ⊥))
+            ↔ (HasColumn self.old row column × (HasColumn other.old row column → ⊥)) }
+        ensures fits { (rows : ℕ) → Fits rows self.old → Fits rows other.old
+            → Fits rows self.new × Fits rows other.new }
     {
-        for row in self.band.first..self.band.end {
-            if !self.are_alike(self.band.first, row) {
-                return false;
+        for row in other.band.first..other.band.end {
+            let k = row as usize;
+            if other.firsts[k] <= self.firsts[k] {
+                self.firsts[k] = self.firsts[k].max(other.ends[k]);
+            } else if self.ends[k] <= other.ends[k] {
+                self.ends[k] = self.ends[k].min(other.firsts[k]);
+            } else {
+                return;
             }
         }
-        true
+        other.clear();
+    }
+
+    /// The first row behind one that has another run, or the end of the band: the rows up to there are those of a box.
+    pub(crate) fn alike_until(&self, row: u32) -> u32
+        requires row { row < self.now.band.end }
+        requires few { self.now.band.end ≤ 64 }
+        ensures within { (row < result) × (result ≤ self.now.band.end) }
+        ensures alike { (other : ℕ) → row ≤ other → other < result → AreAlike self.now row other }
+        ensures apart { result < self.now.band.end → AreAlike self.now row result → ⊥ }
+    {
+        for other in row + 1..self.band.end {
+            if !self.are_alike(row, other) {
+                return other;
+            }
+        }
+        self.band.end
     }
 
     /// Whether two rows have the same run.
@@ -91,8 +118,7 @@ impl Runs {
     fn are_alike(&self, row: u32, other: u32) -> bool
         requires row { row < 64 }
         requires other { other < 64 }
-        ensures { IsTrue result ↔ ((slice_index self.now.firsts other ≡ slice_index self.now.firsts row)
-            × (slice_index self.now.ends other ≡ slice_index self.now.ends row)) }
+        ensures { IsTrue result ↔ AreAlike self.now row other }
     {
         let (row, other) = (row as usize, other as usize);
         self.firsts[other] == self.firsts[row] && self.ends[other] == self.ends[row]
@@ -107,6 +133,16 @@ impl Runs {
         if row < self.band.first || self.band.end <= row {
             return Span::NONE;
         }
+        self.columns(row)
+    }
+
+    /// The run of a row of the band.
+    #[inline]
+    pub(crate) fn columns(&self, row: u32) -> Span
+        requires { row < 64 }
+        ensures first { result.first ≡ slice_index self.now.firsts row }
+        ensures end { result.end ≡ slice_index self.now.ends row }
+    {
         Span {
             first: self.firsts[row as usize],
             end: self.ends[row as usize],
@@ -180,6 +216,28 @@ impl Runs {
         if are_empty(firsts, ends) {
             self.clear();
         }
+    }
+
+    /// Turns to those of what an arc's sweep leaves out, where other runs are.
+    pub(crate) fn find_beyond(
+        &mut self,
+        others: &Runs,
+        arc: Arc,
+        at: Point,
+        grid: &Grid,
+        columns: u32,
+    )
+        requires fits { Fits grid.now.rows others.now }
+        requires sound { IsSoundArc arc }
+        requires at { IsOnBoard at }
+        requires grid { IsWideGrid grid.now columns }
+        ensures { Finds grid.now columns (λ s. IsBeyond arc (relative at s)) others.now self.new }
+    {
+        if !is_wide_arc(&arc) {
+            self.clear();
+            return;
+        }
+        self.find_among(others, &Beyond(arc), at, grid, columns);
     }
 }
 

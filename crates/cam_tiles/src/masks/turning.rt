@@ -15,7 +15,7 @@ ghost use Rattle.cam_tiles.specs.Tiles.{centre_in};
 
 use crate::grid::Grid;
 use crate::masks::heights::{HasHeights, Heights};
-use crate::masks::marks::{mark_ends, mark_runs};
+use crate::masks::marks::{mark_column, mark_ends, mark_runs};
 use crate::masks::segments::crossed_heights;
 use crate::span::Span;
 use cam_rows::{Centres, cap_runs, edge_runs};
@@ -146,8 +146,10 @@ fn turn_crossed(
         step: grid.step,
         n: columns,
     };
-    edge_runs(from, to, &top, ends);
-    mark_ends(marks, band.first, ends);
+    match edge_runs(from, to, &top, ends) {
+        Some(end) => mark_column(marks, band.first, ends.len(), end),
+        None => mark_ends(marks, band.first, ends),
+    }
 }
 
 /// Counts a cap: in each row that it may reach by its run.

@@ -4,11 +4,14 @@ ghost use Rattle.std.specs.Prelude.{◌≡◌, ◌+◌, ◌-◌, ◌*◌, ◌/�
 ghost use Rattle.std.specs.Option.{option_or};
 ghost use Rattle.cam_tiles.specs.Machinery.Marks.{is_set};
 ghost use Rattle.cam_tiles.specs.Machinery.Inks.{AreNext, IsInk, Takes, given, in_body, in_box, in_row, in_runs, ink_of, words_of};
-ghost use Rattle.cam_tiles.specs.Machinery.Runs.{HasColumn};
+ghost use Rattle.cam_tiles.specs.Machinery.Runs.{HasColumn, IsBoxUntil};
 
 use crate::masks::figure_runs::FigureRuns;
 use crate::masks::runs::Runs;
 use crate::span::Span;
+
+/// Of fewer rows that have the same run, each is taken by itself.
+const FEW_ROWS: u32 = 6;
 
 /// Gives a polarity to the bits of words that are not decided yet.
 pub(super) fn take_words(decided: &mut [u64], dark: &mut [u64], bits: &[u64], ink: bool)
@@ -43,19 +46,60 @@ pub(super) fn take_rows(decided: &mut [u64], dark: &mut [u64], next: &[u32], run
     if end <= first {
         return;
     }
-    if runs.is_box() {
-        let k = first as usize;
-        let columns = Span {
-            first: runs.firsts[k],
-            end: runs.ends[k],
-        };
-        take_box(decided, dark, next, runs.band, columns, ink);
+    let until = runs.alike_until(first);
+    if until == end {
+        take_box(decided, dark, next, runs.band, runs.columns(first), ink);
+        return;
+    }
+    // a shape with a box of few rows on top is mostly not steep, and then row by row is quicker
+    if until - first >= FEW_ROWS {
+        take_boxes(decided, dark, next, runs, until, ink);
         return;
     }
     for row in first..end {
         let k = row as usize;
         take_run(decided, dark, next, row, runs.firsts[k], runs.ends[k], ink);
     }
+}
+
+/// The same by boxes of rows that have the same run, as those of what is steep have: the first box goes up to a row that
+/// is known.
+fn take_boxes(
+    decided: &mut [u64],
+    dark: &mut [u64],
+    next: &[u32],
+    runs: &Runs,
+    until: u32,
+    ink: bool,
+)
+    requires few { length next.now ≤ 512 }
+    requires decided { 64 * length next.now ≤ length decided.old }
+    requires dark { 64 * length next.now ≤ length dark.old }
+    requires rows { runs.now.band.end ≤ 64 }
+    requires known { AreNext (length next.now) next.now decided.old }
+    requires first { IsBoxUntil runs.now runs.now.band.first until }
+    ensures { Takes 0 (length next.now) (in_runs runs.now) ink (words_of (length next.now) decided.old dark.old)
+        (words_of (length next.now) decided.new dark.new) }
+{
+    let mut first = runs.band.first;
+    let mut end = until;
+    while first < runs.band.end {
+        let rows = Span { first, end };
+        take_box(decided, dark, next, rows, runs.columns(first), ink);
+        first = end;
+        end = box_end(runs, first);
+    }
+}
+
+/// Where the rows from one on end that have its run; it is the row itself at the end of all.
+fn box_end(runs: &Runs, row: u32) -> u32
+    requires { runs.now.band.end ≤ 64 }
+    ensures { IsBoxUntil runs.now row result }
+{
+    if runs.band.end <= row {
+        return row;
+    }
+    runs.alike_until(row)
 }
 
 /// The same of columns that are the same in all of some rows: tile after tile, whose words of these rows stand side by

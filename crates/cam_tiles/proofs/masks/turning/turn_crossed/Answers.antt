@@ -1,4 +1,4 @@
-use Rattle.std.proofs.Common.{◌-◌, IsTrue, rules, arith, ◌∙◌}
+use Rattle.std.proofs.Common.{◌-◌, IsTrue, length, slice_index, rules, arith}
 use Rattle.cam_shapes.specs.Edge.{crosses_ray, edge}
 use Rattle.cam_tiles.proofs.EdgeSpans.{met_apart}
 use Rattle.cam_tiles.proofs.Fields.{field_rows}
@@ -16,10 +16,19 @@ edge_runs-requires-clause-crossed c =
     top_crossed c.args.grid.now c.args.columns c.args.band.first c.args.band.end c.args.from c.args.to
     c.args.grid.now.x _ _ (search rules) (search rules) c.requires.low c.requires.rows _ c.requires.size
 
-pub returns : goal.returns
-returns c =
+pub returns-in-Some : goal.returns-in-Some
+returns-in-Some c =
+    ends_turned c.args.grid.now c.args.columns c.args.band.first c.args.band.end
+    (λ s. IsTrue (crosses_ray s (edge c.args.from c.args.to))) _ _ _ c.args.marks.now c.mark_column.new.marks
+    (search rules) (search rules) (search rules) c.requires.some c.requires.grid.rows c.requires.wide.room
+    (λ row s on met. (c.requires.rows row s on).1 (met_apart s c.args.from c.args.to met)) (length c.args.ends.now)
+    (λ _. c.in-Some.end) c.requires.size c.in-Some.ensures (rw c.edge_runs.auto.ends at c.mark_column.ensures)
+
+pub returns-in-None : goal.returns-in-None
+returns-in-None c =
     ends_turned c.args.grid.now c.args.columns c.args.band.first c.args.band.end
     (λ s. IsTrue (crosses_ray s (edge c.args.from c.args.to))) _ _ _ c.args.marks.now c.mark_ends.new.marks
     (search rules) (search rules) (search rules) c.requires.some c.requires.grid.rows c.requires.wide.room
-    (λ row s on met. (c.requires.rows row s on).1 (met_apart s c.args.from c.args.to met)) c.edge_runs.new.ends
-    (c.edge_runs.auto.ends ∙ c.requires.size) c.edge_runs.ensures c.mark_ends.ensures
+    (λ row s on met. (c.requires.rows row s on).1 (met_apart s c.args.from c.args.to met)) (length c.args.ends.now)
+    (λ k. slice_index c.edge_runs.new.ends k) c.requires.size c.in-None.ensures
+    (rw c.edge_runs.auto.ends at c.mark_ends.ensures)

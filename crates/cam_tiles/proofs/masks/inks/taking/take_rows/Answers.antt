@@ -1,7 +1,6 @@
-use Rattle.std.proofs.Common.{◌+◌, length, slice_index, inr, arith}
-use Rattle.cam_tiles.specs.Machinery.Inks.{in_row, in_runs, words_of}
-use Rattle.cam_tiles.proofs.RunInks.{above_told, in_above, next_row, runs_told, takes_both}
-use Rattle.cam_tiles.proofs.SwathInks.{same_test, takes_like}
+use Rattle.std.proofs.Common.{◌+◌, length, slice_index, arith}
+use Rattle.cam_tiles.specs.Machinery.Inks.{in_box, in_row, in_runs, words_of}
+use Rattle.cam_tiles.proofs.RunInks.{box_runs, in_above, next_row, takes_all, takes_both, takes_same}
 use Rattle.cam_tiles.proofs.masks.inks.taking.take_rows.Goals as goal
 
 pub loop-row-preserved : goal.loop-row-preserved
@@ -13,16 +12,17 @@ loop-row-preserved c =
     (words_of n c.args.decided.now c.args.dark.now) (words_of n c.loop-row.decided c.loop-row.dark) _ c.loop-row.invariant
     c.take_run.ensures (λ row column low within. next_row runs k row column c.loop-row.auto.row c.loop-row-test.true)
 
-pub returns : goal.returns
-returns c =
+pub returns-then-until-end : goal.returns-then-until-end
+returns-then-until-end c =
     let n = length c.args.next.now in
     let runs = c.args.runs.now in
-    let k = c.loop-row.row in
-    takes_like (in_above runs k) c.args.ink 0 n (words_of n c.args.decided.now c.args.dark.now)
-    (words_of n c.loop-row.decided c.loop-row.dark) c.loop-row.invariant (in_runs runs) (λ row column low within after until.
-    let above = above_told runs k row column in
-    let all = runs_told runs row column in
-    inr (same_test (in_above runs k row column) (in_runs runs row column) (
-      (λ on. all.1 (above.0 on).1),
-      (λ on. let h = all.0 on in above.1 (omega (arith, h.1, c.loop-row-test.false), h)),
-    )))
+    let first = runs.band.first in
+    takes_same c.args.ink n (in_box runs.band (slice_index runs.firsts first) (slice_index runs.ends first)) (in_runs runs) _ _
+    (rw (c.columns.ensures.first, c.columns.ensures.end) at c.take_box.ensures)
+    (λ row column low within. box_runs runs row column
+    (λ k after before. c.alike_until-until.ensures.alike k after (omega (arith, before, c.if-until-end.true))))
+
+pub returns : goal.returns
+returns c =
+    takes_all c.args.ink (length c.args.next.now) c.args.runs.now c.loop-row.row _ _ (omega (arith, c.loop-row-test.false))
+    c.loop-row.invariant
