@@ -116,7 +116,8 @@ impl Chord {
     }
 
     /// The part of a run that lies in the chord of another row: the columns whose distance to the side has a square less
-    /// than `room`. A run whose columns lie on one side is cut at one end; to an empty one on both sides nothing is walked.
+    /// than `room`. If all columns lie on one side of the middle, one end of the run is cut; if they lie on both, nothing is
+    /// walked to for an empty run.
     #[inline]
     pub(crate) fn part<const REACH: u64, const LEFT: bool, const RIGHT: bool>(
         &mut self,

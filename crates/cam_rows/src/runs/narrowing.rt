@@ -78,7 +78,7 @@ impl HalfPlane {
     }
 
     /// The ends of runs of wide rows, one below another from the top one, that begin at the leftmost column, where its
-    /// numbers fall from each column to the next: one for all rows, where it answers that, and else written for each.
+    /// numbers fall from each column to the next: it answers one end for all rows, or writes one for each.
     pub(crate) fn count_columns(&self, columns: u32, ends: &mut [u32]) -> Option<u32>
         requires short { IsShortIn (length ends.old) self.now }
         requires falls { self.now.row.step <ℤ pos 0 }
