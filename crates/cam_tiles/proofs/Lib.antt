@@ -1,4 +1,5 @@
 pub mod BareBoxes
+pub mod BoxInks
 pub mod Bytes
 pub mod ChangedParities
 pub mod ContourParts

@@ -1,5 +1,5 @@
 -- Inks that are taken by runs.
-use Rattle.std.proofs.Common.{max, min, ◌≡◌, ◌↔◌, ◌⊎◌, ℕ, ◌+◌, ◌*◌, ◌/◌, ◌%◌, ◌<◌, ◌≤◌, Bool, true, false, ◌&&◌, ◌||◌, not, nat_le, nat_lt}
+use Rattle.std.proofs.Common.{◌≡◌, ◌↔◌, ◌⊎◌, ℕ, ◌+◌, ◌*◌, ◌/◌, ◌%◌, ◌<◌, ◌≤◌, Bool, true, false, ◌&&◌, ◌||◌, not, nat_le, nat_lt}
 use Rattle.std.proofs.Common.{List, length, slice_index, slice_set, Option, Some, None, IsSome, IsTrue, refl, sym, ap, subst, ◌∙◌, inl, inr, arith}
 use Rattle.std.proofs.Common.{get_or-set_other, get_or-set_same}
 use Rattle.std.specs.Int.{IsBitSet}
@@ -12,8 +12,8 @@ use Rattle.cam_tiles.specs.declared.masks.figure_runs.FigureRuns.{FigureRuns}
 use Rattle.cam_tiles.specs.declared.masks.runs.Runs.{Runs}
 use Rattle.cam_tiles.specs.declared.span.Span.{Span}
 use Rattle.cam_tiles.specs.Machinery.Figures.{HasBody, HasPart}
-use Rattle.cam_tiles.specs.Machinery.Inks.{AreKnown, AreNext, Inked, Takes, given, in_body, in_box, in_row, in_runs, ink_at, ink_of, words_of}
-use Rattle.cam_tiles.specs.Machinery.Runs.{AreAlike, HasColumn}
+use Rattle.cam_tiles.specs.Machinery.Inks.{AreKnown, AreNext, Inked, Takes, given, in_body, in_row, in_runs, ink_at, ink_of, words_of}
+use Rattle.cam_tiles.specs.Machinery.Runs.{HasColumn}
 use Rattle.cam_tiles.proofs.JoinedWords.{bit_told}
 use Rattle.cam_tiles.proofs.SwathInks.{same_test}
 use Rattle.cam_tiles.proofs.TakenInks.{kept_set}
@@ -298,129 +298,6 @@ takes_all ink n r k old new past takes =
       (λ on. all.1 (above.0 on).1),
       (λ on. let h = all.0 on in above.1 (omega (arith, h.1, past), h)),
     ))
-
--- ---- columns that are the same in some rows
-
-pub box_told : (rows : Span) (first end row column : ℕ)
-    → IsTrue (in_box rows first end row column) ↔ (IsInRun rows.first rows.end row × IsInRun first end column)
-box_told rows first end row column = (
-  (λ on. let h = and_parts _ _ on in ((span_told _ _ _).0 h.0, (span_told _ _ _).0 h.1)),
-  (λ h. and_from _ _ ((span_told _ _ _).1 h.0) ((span_told _ _ _).1 h.1)),
-)
-
--- those above one
-abbrev pub in_box_above : Span → ℕ → ℕ → ℕ → ℕ → ℕ → Bool
-in_box_above rows k first end row column = nat_lt row k && in_box rows first end row column
-
-pub box_above_told : (rows : Span) (k first end row column : ℕ)
-    → IsTrue (in_box_above rows k first end row column)
-    ↔ ((row < k) × IsInRun rows.first rows.end row × IsInRun first end column)
-box_above_told rows k first end row column = let law = box_told rows first end row column in (
-  (λ on. let h = and_parts _ _ on in let both = law.0 h.1 in (ltb-true _ _ h.0, both.0, both.1)),
-  (λ h. and_from _ _ (lt-ltb _ _ h.0) (law.1 (h.1, h.2))),
-)
-
-pub next_box_row : (rows : Span) (k first end row column : ℕ) → rows.first ≤ k → k < rows.end
-    → IsTrue (in_box_above rows (k + 1) first end row column)
-    ↔ (IsTrue (in_box_above rows k first end row column) ⊎ IsTrue (in_row k first end row column))
-next_box_row rows k first end row column after until =
-    let all = box_above_told rows (k + 1) first end row column in
-    let before = box_above_told rows k first end row column in
-    let here = row_told k first end row column in (
-      (λ on.
-          let h = all.0 on in
-          elim (cases_eq row k) [
-            | inl e ↦ inr (here.1 (e, h.2))
-            | inr apart ↦ inl (before.1 (omega (arith, h.0, apart), h.1, h.2))
-          ]),
-      (λ either. elim either [
-        | inl on ↦ let h = before.0 on in all.1 (omega (arith, h.0), h.1, h.2)
-        | inr on ↦
-            let h = here.0 on in all.1 (omega (arith, h.0), (omega (arith, h.0, after), omega (arith, h.0, until)), h.1)
-      ]),
-    )
-
--- its columns before a tile, and those from that on and before another one
-pub box_past : (rows : Span) (first end tile to row column : ℕ) → tile ≤ to
-    → IsTrue (in_box rows first (min end (64 * to)) row column)
-    ↔ (IsTrue (in_box rows first (min end (64 * tile)) row column)
-    ⊎ IsTrue (in_box rows (max first (64 * tile)) (min end (64 * to)) row column))
-box_past rows first end tile to row column order =
-    let all = box_told rows first (min end (64 * to)) row column in
-    let before = box_told rows first (min end (64 * tile)) row column in
-    let behind = box_told rows (max first (64 * tile)) (min end (64 * to)) row column in (
-      (λ on.
-          let h = all.0 on in
-          elim (cases_lt column (64 * tile)) [
-            | inl early ↦ inl (before.1 (h.0, (h.1.0, omega (arith, h.1.1, early))))
-            | inr late ↦ inr (behind.1 (h.0, (omega (arith, h.1.0, late), h.1.1)))
-          ]),
-      (λ either. elim either [
-        | inl on ↦ let h = before.0 on in all.1 (h.0, (h.1.0, omega (arith, h.1.1, order)))
-        | inr on ↦ let h = behind.0 on in all.1 (h.0, (omega (arith, h.1.0), h.1.1))
-      ]),
-    )
-
--- the same columns by other numbers
-pub same_box : (rows : Span) (first end from to row column : ℕ) → IsInRun first end column ↔ IsInRun from to column
-    → IsTrue (in_box rows first end row column) ↔ IsTrue (in_box rows from to row column)
-same_box rows first end from to row column same =
-    let one = box_told rows first end row column in
-    let other = box_told rows from to row column in (
-      (λ on. let h = one.0 on in other.1 (h.0, same.0 h.1)),
-      (λ on. let h = other.0 on in one.1 (h.0, same.1 h.1)),
-    )
-
--- rows from one up to another that have the same run
-pub next_box : (r : Runs) (k until row column : ℕ) → r.band.first ≤ k → k < until → until ≤ r.band.end
-    → ((other : ℕ) → k ≤ other → other < until → AreAlike r k other)
-    → IsTrue (in_above r until row column)
-    ↔ (IsTrue (in_above r k row column)
-    ⊎ IsTrue (in_box (record { first = k; end = until }) (slice_index r.firsts k) (slice_index r.ends k) row column))
-next_box r k until row column after onward within same =
-    let all = above_told r until row column in
-    let before = above_told r k row column in
-    let box = box_told (record { first = k; end = until }) (slice_index r.firsts k) (slice_index r.ends k) row column in (
-      (λ on.
-          let h = all.0 on in
-          elim (cases_lt row k) [
-            | inl less ↦ inl (before.1 (less, h.1))
-            | inr most ↦
-                let alike = same row most h.0 in
-                inr (box.1 ((most, h.0), (omega (arith, alike.0, h.1.2.0), omega (arith, alike.1, h.1.2.1))))
-          ]),
-      (λ either. elim either [
-        | inl on ↦ let h = before.0 on in all.1 (omega (arith, h.0, onward), h.1)
-        | inr on ↦
-            let h = box.0 on in
-            let alike = same row h.0.0 h.0.1 in
-            all.1 (
-              h.0.1,
-              (
-                omega (arith, after, h.0.0),
-                omega (arith, within, h.0.1),
-                (omega (arith, alike.0, h.1.0), omega (arith, alike.1, h.1.1)),
-              ),
-            )
-      ]),
-    )
-
--- a band of rows that all have the same run
-pub box_runs : (r : Runs) (row column : ℕ) → ((k : ℕ) → r.band.first ≤ k → k < r.band.end → AreAlike r r.band.first k)
-    → IsTrue (in_box r.band (slice_index r.firsts r.band.first) (slice_index r.ends r.band.first) row column)
-    ↔ IsTrue (in_runs r row column)
-box_runs r row column same =
-    let box = box_told r.band (slice_index r.firsts r.band.first) (slice_index r.ends r.band.first) row column in
-    let all = runs_told r row column in (
-      (λ on.
-          let h = box.0 on in
-          let alike = same row h.0.0 h.0.1 in
-          all.1 (h.0.0, h.0.1, (omega (arith, alike.0, h.1.0), omega (arith, alike.1, h.1.1)))),
-      (λ on.
-          let h = all.0 on in
-          let alike = same row h.0 h.1 in
-          box.1 ((h.0, h.1), (omega (arith, alike.0, h.2.0), omega (arith, alike.1, h.2.1)))),
-    )
 
 -- ---- rows of a body
 

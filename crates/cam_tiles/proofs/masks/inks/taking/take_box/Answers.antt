@@ -1,6 +1,7 @@
 use Rattle.std.proofs.Common.{◌+◌, ◌*◌, ◌/◌, ◌<◌, length, max, min, slice_index, refl, arith}
 use Rattle.cam_tiles.specs.Machinery.Inks.{Inked, Takes, in_box, words_of}
-use Rattle.cam_tiles.proofs.RunInks.{box_past, box_told, known_stays, same_box, takes_both, takes_done, takes_same}
+use Rattle.cam_tiles.proofs.BoxInks.{box_past, box_told, same_box}
+use Rattle.cam_tiles.proofs.RunInks.{known_stays, takes_both, takes_done, takes_same}
 use Rattle.cam_tiles.proofs.SwathInks.{some_ink}
 use Rattle.cam_tiles.proofs.masks.inks.taking.take_box.Goals as goal
 

@@ -1,6 +1,7 @@
 use Rattle.std.proofs.Common.{length, slice_index, arith}
 use Rattle.cam_tiles.specs.Machinery.Inks.{in_box, words_of}
-use Rattle.cam_tiles.proofs.RunInks.{above_told, in_above, next_box, next_stays, takes_all, takes_both, takes_done}
+use Rattle.cam_tiles.proofs.BoxInks.{next_box}
+use Rattle.cam_tiles.proofs.RunInks.{above_told, in_above, next_stays, takes_all, takes_both, takes_done}
 use Rattle.cam_tiles.proofs.masks.inks.taking.take_boxes.Goals as goal
 
 pub loop-first-init : goal.loop-first-init

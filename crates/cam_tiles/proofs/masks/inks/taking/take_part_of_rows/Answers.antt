@@ -1,6 +1,7 @@
 use Rattle.std.proofs.Common.{◌+◌, ◌*◌, arith}
 use Rattle.cam_tiles.specs.Machinery.Inks.{in_box, in_row, words_of}
-use Rattle.cam_tiles.proofs.RunInks.{box_above_told, box_told, in_box_above, next_box_row, takes_both, takes_done, takes_same}
+use Rattle.cam_tiles.proofs.BoxInks.{box_above_told, box_told, in_box_above, next_box_row}
+use Rattle.cam_tiles.proofs.RunInks.{takes_both, takes_done, takes_same}
 use Rattle.cam_tiles.proofs.masks.inks.taking.take_part_of_rows.Goals as goal
 
 pub loop-row-init : goal.loop-row-init

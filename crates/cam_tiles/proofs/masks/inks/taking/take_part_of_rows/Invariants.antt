@@ -1,6 +1,6 @@
 use Rattle.std.proofs.Common.{ℕ, ◌+◌, ◌*◌, Bool}
 use Rattle.cam_tiles.specs.Machinery.Inks.{IsInk, Takes, words_of}
-use Rattle.cam_tiles.proofs.RunInks.{in_box_above}
+use Rattle.cam_tiles.proofs.BoxInks.{in_box_above}
 use Rattle.cam_tiles.proofs.masks.inks.taking.take_part_of_rows.Given as goal
 
 abbrev pub invariant-loop-row : goal.invariant-loop-row

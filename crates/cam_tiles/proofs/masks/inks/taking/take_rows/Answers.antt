@@ -1,6 +1,7 @@
 use Rattle.std.proofs.Common.{◌+◌, length, slice_index, arith}
 use Rattle.cam_tiles.specs.Machinery.Inks.{in_box, in_row, in_runs, words_of}
-use Rattle.cam_tiles.proofs.RunInks.{box_runs, in_above, next_row, takes_all, takes_both, takes_same}
+use Rattle.cam_tiles.proofs.BoxInks.{box_runs}
+use Rattle.cam_tiles.proofs.RunInks.{in_above, next_row, takes_all, takes_both, takes_same}
 use Rattle.cam_tiles.proofs.masks.inks.taking.take_rows.Goals as goal
 
 pub loop-row-preserved : goal.loop-row-preserved
