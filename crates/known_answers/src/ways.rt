@@ -1,5 +1,9 @@
 //! Tiles by both ways: one by one, and row of tiles by row of tiles. Each word is the same.
 
+ghost use Rattle.std.specs.Prelude.{◌≡◌};
+ghost use Rattle.cam_objects.specs.DrillSoundness.{IsSoundDrillLayer};
+ghost use Rattle.cam_objects.specs.Soundness.{HasSoundItems};
+
 use cam_edits::{IndexedDrillLayer, IndexedLayer};
 use cam_gerber::read_gerber;
 use cam_tiles::{Raster, RasterFault, Source, Window};
@@ -59,52 +63,81 @@ fn are_same(plain: &Raster, quick: &Raster) -> bool {
     black
 }
 
-/// Whether the tiles of a Gerber file are the same by both ways.
-fn layer_agrees(alloc: Global, file: &[u8]) -> Result<bool, RasterFault> {
-    let Ok(layer) = read_gerber(alloc, file) else {
-        return Ok(false);
-    };
-    let layer = IndexedLayer::new(alloc, layer);
-    let Some(cells) = layer.cells() else {
-        return Ok(false);
-    };
-    let mut plain = Raster::new(alloc, WINDOW)?;
-    plain.redraw(&mut Source::gerber(layer.layer()), u32::MAX);
-    let mut quick = Raster::new(alloc, WINDOW)?;
-    quick.redraw(
-        &mut Source::gerber_by_cells(alloc, layer.layer(), cells, layer.first_copies()),
-        u32::MAX,
-    );
-    Ok(are_same(&plain, &quick))
+/// What a source that was asked for no tile draws in the window.
+fn drawn(alloc: Global, source: &mut Source<'_>) -> Result<Raster, RasterFault>
+    requires { source.old.asked ≡ 0 }
+{
+    let mut raster = Raster::new(alloc, WINDOW)?;
+    raster.redraw(source, u32::MAX);
+    Ok(raster)
 }
 
-/// Whether the tiles of a drill file are the same by both ways.
-fn drill_agrees(alloc: Global, file: &[u8]) -> Result<bool, RasterFault> {
-    let Ok(layer) = read_xnc(alloc, file) else {
+/// Whether two sources that were asked for no tile draw the same ones.
+fn draw_alike(
+    alloc: Global,
+    plain: &mut Source<'_>,
+    quick: &mut Source<'_>,
+) -> Result<bool, RasterFault>
+    requires plain { plain.old.asked ≡ 0 }
+    requires quick { quick.old.asked ≡ 0 }
+{
+    Ok(are_same(&drawn(alloc, plain)?, &drawn(alloc, quick)?))
+}
+
+/// Whether the tiles of a sound Gerber layer are the same by both ways.
+fn layer_agrees(alloc: Global, indexed: &IndexedLayer) -> Result<bool, RasterFault>
+    requires { HasSoundItems indexed.now }
+{
+    let Some(cells) = indexed.cells() else {
         return Ok(false);
     };
-    let layer = IndexedDrillLayer::new(alloc, layer);
-    let Some(cells) = layer.cells() else {
+    let layer = indexed.layer();
+    draw_alike(
+        alloc,
+        &mut Source::gerber(layer),
+        &mut Source::gerber_by_cells(alloc, layer, cells, indexed.first_copies()),
+    )
+}
+
+/// The same of a Gerber file.
+fn file_agrees(alloc: Global, file: &[u8]) -> Result<bool, RasterFault> {
+    match read_gerber(alloc, file) {
+        Ok(layer) => layer_agrees(alloc, &IndexedLayer::new(alloc, layer)),
+        Err(_) => Ok(false),
+    }
+}
+
+/// Whether the tiles of a sound drill layer are the same by both ways.
+fn drill_layer_agrees(alloc: Global, indexed: &IndexedDrillLayer) -> Result<bool, RasterFault>
+    requires { IsSoundDrillLayer indexed.now }
+{
+    let Some(cells) = indexed.cells() else {
         return Ok(false);
     };
-    let mut plain = Raster::new(alloc, WINDOW)?;
-    plain.redraw(&mut Source::drill(layer.layer()), u32::MAX);
-    let mut quick = Raster::new(alloc, WINDOW)?;
-    quick.redraw(
-        &mut Source::drill_by_cells(alloc, layer.layer(), cells),
-        u32::MAX,
-    );
-    Ok(are_same(&plain, &quick))
+    let layer = indexed.layer();
+    draw_alike(
+        alloc,
+        &mut Source::drill(layer),
+        &mut Source::drill_by_cells(alloc, layer, cells),
+    )
+}
+
+/// The same of a drill file.
+fn drill_file_agrees(alloc: Global, file: &[u8]) -> Result<bool, RasterFault> {
+    match read_xnc(alloc, file) {
+        Ok(layer) => drill_layer_agrees(alloc, &IndexedDrillLayer::new(alloc, layer)),
+        Err(_) => Ok(false),
+    }
 }
 
 #[test]
 fn both_ways(rt: HostRuntime) -> Result<(), Fail> {
     for (place, file) in LAYERS.iter().enumerate() {
-        assert!(rt; layer_agrees(rt.alloc(), file) == Ok(true), "layer {place}");
+        assert!(rt; file_agrees(rt.alloc(), file) == Ok(true), "layer {place}");
     }
     for (place, file) in DRILLS.iter().enumerate() {
         assert!(rt;
-            drill_agrees(rt.alloc(), file) == Ok(true),
+            drill_file_agrees(rt.alloc(), file) == Ok(true),
             "drill layer {place}"
         );
     }
