@@ -27,6 +27,7 @@ pub mod Quarters
 pub mod Quotients
 pub mod Rings
 pub mod RowBytes
+pub mod RowNumbers
 pub mod RowsBelow
 pub mod SetBits
 pub mod SetRows

@@ -11,7 +11,6 @@ use crate::way::{across, along};
 use cam_units::Point;
 
 /// The cross product of two points as they are seen from a third.
-#[tactic(auto, using(crate::proofs::Sweeps::first_number, crate::proofs::Sweeps::seen_alone))]
 pub(crate) fn cross_product(centre: &Point, start: &Point, end: &Point) -> i128
     requires centre { IsOnBoard centre.now }
     requires start { IsOnBoard start.now }

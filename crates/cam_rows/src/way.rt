@@ -76,7 +76,6 @@ impl Way {
     }
 
     /// How much more the dot product is at the next centre.
-    #[tactic(auto, using(crate::proofs::WayProducts::step_fits, crate::proofs::WayProducts::step_product, crate::proofs::WayProducts::step_short))]
     fn dot_step(&self, centres: &Centres) -> i128
         requires { IsShortWay self.now }
         ensures value { result ≡ self.now.x *ℤ centres.now.step }

@@ -106,7 +106,6 @@ impl Centres {
     }
 
     /// The run of the columns in a strip.
-    #[tactic(auto, using(crate::proofs::Steps::columns_in_strip))]
     pub(crate) fn columns_in(&self, strip: &Strip) -> Run
         requires row { IsWideRow self.now }
         requires left { unsigned_abs strip.now.left < 2 ^ 61 }

@@ -90,3 +90,15 @@ returns c =
       (λ held. sides.0 (held.0.1, held.1)),
       (λ half. let both = sides.1 half in ((omega arith, both.0), both.1)),
     )) two
+
+pub narrow_left-requires-clause-some : goal.narrow_left-requires-clause-some
+narrow_left-requires-clause-some c = rw c.fill.ensures.len c.requires.some
+
+pub narrow_left-requires-clause-rows : goal.narrow_left-requires-clause-rows
+narrow_left-requires-clause-rows c = rw c.fill.ensures.len c.requires.rows
+
+pub narrow_left-requires-2-clause-some : goal.narrow_left-requires-2-clause-some
+narrow_left-requires-2-clause-some c = rw (c.narrow_left.auto.firsts, c.fill.ensures.len) c.requires.some
+
+pub narrow_left-requires-2-clause-rows : goal.narrow_left-requires-2-clause-rows
+narrow_left-requires-2-clause-rows c = rw (c.narrow_left.auto.firsts, c.fill.ensures.len) c.requires.rows

@@ -4,6 +4,18 @@ use Rattle.cam_rows.specs.Machinery.Slopes.{IsShortDivisor}
 use Rattle.cam_rows.proofs.ShortSlopes.{divided_steps}
 use Rattle.cam_rows.proofs.slope.Steps.of.Goals as goal
 
+pub overflow_cast-result : goal.overflow_cast-result
+overflow_cast-result c =
+    omega (arith, ints, c.unsigned_abs.ensures.value, c.if-unsigned_abs-gt-LONGEST_STEP.false)
+
+pub overflow_cast-result-2 : goal.overflow_cast-result-2
+overflow_cast-result-2 c =
+    let left = c.floor_division-columns.ensures.rest in
+    omega (arith, ints, left.0, left.1, c.is_short.ensures.0 c.if-not-is_short.false)
+
+pub overflow_cast-result-3 : goal.overflow_cast-result-3
+overflow_cast-result-3 c = omega (arith, ints, c.is_short.ensures.0 c.if-not-is_short.false)
+
 pub returns : goal.returns
 returns c =
     let columns = c.floor_division-columns in
