@@ -1,6 +1,8 @@
 pub mod Rotations
 pub mod BoardSheets
 pub mod BoardRoom
+pub mod ReadItems
+pub mod LedBack
 pub mod RoomLeft
 pub mod Names
 pub mod Refusals

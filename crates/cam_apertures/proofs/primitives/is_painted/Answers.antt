@@ -1,6 +1,7 @@
-use Rattle.std.proofs.Common.{◌≡◌, ◌-◌, arith, get_or, sym}
+use Rattle.std.proofs.Common.{◌≡◌, ◌-◌, arith, get_or, subst, sym}
 use Rattle.std.proofs.lemmas.Option.{get_or_from_slice_get}
 use Rattle.cam_macros.specs.declared.primitive.MacroPrimitive.{MacroPrimitive}
+use Rattle.cam_apertures.specs.Primitives.{IsSoundPrim}
 use Rattle.cam_apertures.specs.Views.{primitive_of}
 use Rattle.cam_apertures.proofs.Painting.{decides_at, none_at, not_false, passes_at, round, through}
 use Rattle.cam_apertures.proofs.primitives.is_painted.Goals as goal
@@ -37,3 +38,15 @@ loop-place-preserved c =
 
 pub returns : goal.returns
 returns c = none_at c.args.turn c.args.prims.now c.loop-place.place c.args.spot (omega arith) c.loop-place.invariant.same
+
+pub at-prim-requires : goal.at-prim-requires
+at-prim-requires c = omega (arith, c.loop-place.invariant.here)
+
+pub holds-requires-clause-shape : goal.holds-requires-clause-shape
+holds-requires-clause-shape c =
+    let n = c.loop-place.place in
+    let at = (goal.at.holds-requires-clause-shape c).After-at-prim in
+    subst IsSoundPrim (sym (is_there at)) (c.requires.prims (n - 1) (seen at) (omega (arith, c.loop-place.invariant.here)))
+
+pub holds-requires-clause-spot : goal.holds-requires-clause-spot
+holds-requires-clause-spot c = c.requires.spot

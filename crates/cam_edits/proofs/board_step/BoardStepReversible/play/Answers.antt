@@ -1,6 +1,6 @@
-use Rattle.std.proofs.Common.{ap, sym, ◌∙◌}
+use Rattle.std.proofs.Common.{ap, arith, sym, ◌∙◌}
 use Rattle.cam_edits.proofs.BoardRoom.{drill_room_here, room_for_rest, room_here}
-use Rattle.cam_edits.proofs.BoardSheets.{content_is, sheet_at, sheets_changed, told_there}
+use Rattle.cam_edits.proofs.BoardSheets.{content_is, sheet_at, sheet_place_within, sheets_changed, told_there}
 use Rattle.cam_edits.specs.declared.board_step.BoardStep.TheVariants as steps
 use Rattle.cam_edits.specs.declared.drill_step.DrillStep.{DrillStep}
 use Rattle.cam_edits.specs.declared.step.Step.{Step}
@@ -81,3 +81,35 @@ returns-in-Drill-clause-room c = λ rest room.
     (drill_room_here k rest c.in-Drill.boxes step s.content c.play_drill_on.new.content fit
     c.play_drill_on.ensures.content c.play_drill_on.ensures.room)
     (rw c.in-Drill.is at room)
+
+pub index_mut-requires : goal.index_mut-requires
+index_mut-requires c =
+    let fits = rw c.in-Gerber.is at c.requires.fits in
+    let place = sheet_place_within (λ (t : Sheet). IsFitOn c.in-Gerber.step t.content) c.args.board.now.sheets.items c.in-Gerber.sheet fits in
+    omega (arith, place, c.args.board.now.sheets.ok.0)
+
+pub play_on-requires-clause-fits : goal.play_on-requires-clause-fits
+play_on-requires-clause-fits c =
+    let step = c.in-Gerber.step in
+    let xs = c.args.board.now.sheets.items in
+    let k = c.in-Gerber.sheet in
+    let s = c.index_mut.result.now in
+    let fits = rw c.in-Gerber.is at c.requires.fits in
+    let e = sheet_at (λ (t : Sheet). IsFitOn step t.content) xs k s fits c.index_mut.ensures.value in
+    told_there xs k s e (λ (t : Sheet). IsFitOn step t.content) fits
+
+pub index_mut-requires-in-Drill : goal.index_mut-requires-in-Drill
+index_mut-requires-in-Drill c =
+    let fits = rw c.in-Drill.is at c.requires.fits in
+    let place = sheet_place_within (λ (t : Sheet). IsDrillFitOn c.in-Drill.step t.content) c.args.board.now.sheets.items c.in-Drill.sheet fits in
+    omega (arith, place, c.args.board.now.sheets.ok.0)
+
+pub play_drill_on-requires-clause-fits : goal.play_drill_on-requires-clause-fits
+play_drill_on-requires-clause-fits c =
+    let step = c.in-Drill.step in
+    let xs = c.args.board.now.sheets.items in
+    let k = c.in-Drill.sheet in
+    let s = c.index_mut-in-Drill.result.now in
+    let fits = rw c.in-Drill.is at c.requires.fits in
+    let e = sheet_at (λ (t : Sheet). IsDrillFitOn step t.content) xs k s fits c.index_mut-in-Drill.ensures.value in
+    told_there xs k s e (λ (t : Sheet). IsDrillFitOn step t.content) fits
