@@ -1,5 +1,6 @@
 -- The tables of a station that a layer joins.
-use Rattle.std.proofs.Common.{◌≡◌, ℕ, List, [], ◌∷◌, ◌++◌, length, Option, None, Some, refl, ap, sym, subst, option_map, length-append}
+use Rattle.std.proofs.Common.{◌≡◌, ℕ, List, [], ◌∷◌, ◌++◌, length, Option, None, Some, refl, sym, subst, option_map, length-append, append-nil}
+use Rattle.std.specs.Prelude.{option_to_list}
 use Rattle.cam_tiles.specs.declared.window.Window.{Window}
 use Rattle.cam_tiles.specs.Tables.{Table, blank}
 use Rattle.cam_edits.specs.Sheets.{Sheet}
@@ -8,15 +9,10 @@ use Rattle.cam_station.specs.Machinery.Stations.{IsStation}
 use Rattle.cam_station.proofs.KeptTables.{blank_joins}
 
 -- a table of the window in force comes last, where one is
-pub blank_put : (window : Option Window) (r : Table) (tables : List Table) → Some r ≡ option_map blank window
-    → tables ++ r ∷ [] ≡ with_blank window tables
-blank_put None r tables e = absurd cc
-blank_put (Some w) r tables e = let same : r ≡ blank w = cc in ap (λ (t : Table). tables ++ t ∷ []) same
-
-pub no_blank : (window : Option Window) (tables : List Table) → None ≡ option_map blank window
-    → tables ≡ with_blank window tables
-no_blank None tables e = refl
-no_blank (Some w) tables e = absurd cc
+pub blank_put : (window : Option Window) (raster : Option Table) (tables : List Table) → raster ≡ option_map blank window
+    → tables ++ option_to_list raster ≡ with_blank window tables
+blank_put None raster tables e = rw e (append-nil tables)
+blank_put (Some w) raster tables e = rw e refl
 
 pub is_station : (depth : ℕ) (window : Option Window) (sheets : List Sheet) (s : Sheet) (tables : List Table)
     → IsStation depth window sheets tables → IsStation depth window (sheets ++ s ∷ []) (with_blank window tables)

@@ -1,6 +1,7 @@
 //! What layers are drawn and written as.
 
-ghost use Rattle.std.specs.Prelude.{◌≡◌, ◌≤◌, length, min, option_map, replicate, true, IfErr, IfOk, Some};
+ghost use Rattle.std.specs.Prelude.{◌≡◌, ◌++◌, ◌<◌, ◌≤◌, length, min, replicate, true, vec_capacity, vec_len};
+ghost use Rattle.std.specs.Prelude.{IfErr, IfOk, OnOk, Some, option_map, option_to_list};
 ghost use Rattle.cam_objects.specs.Contents.{
   content_leaves,
   content_of as gerber_content_of,
@@ -40,7 +41,7 @@ fn blank(alloc: Global, window: Window) -> Result<Raster, Fault>
 }
 
 /// A raster of the window in force, if one is.
-pub(crate) fn blank_in(alloc: Global, window: Option<Window>) -> Result<Option<Raster>, Fault>
+fn blank_in(alloc: Global, window: Option<Window>) -> Result<Option<Raster>, Fault>
     requires { (w : Window) → window ≡ Some w → accepts w ≡ true }
     ensures made { IfOk result (λ raster. raster ≡ option_map blank window) }
     ensures memory { IfErr result (λ told. told ≡ fault NoMemory) }
@@ -48,6 +49,34 @@ pub(crate) fn blank_in(alloc: Global, window: Option<Window>) -> Result<Option<R
     match window {
         Some(window) => Ok(Some(blank(alloc, window)?)),
         None => Ok(None),
+    }
+}
+
+/// A raster of the window in force, if one is, and room for it behind those that there are; 30 where memory was refused.
+pub(crate) fn blank_behind(
+    alloc: Global,
+    window: Option<Window>,
+    rasters: &mut Vec<Raster>,
+) -> Result<Option<Raster>, Fault>
+    requires { (w : Window) → window ≡ Some w → accepts w ≡ true }
+    ensures made { IfOk result (λ raster. raster ≡ option_map blank window) }
+    ensures room { OnOk result (vec_len rasters.new < vec_capacity rasters.new) }
+    ensures kept { rasters.new.items ≡ rasters.old.items }
+    ensures memory { IfErr result (λ told. told ≡ fault NoMemory) }
+{
+    if rasters.reserve(1).is_err() {
+        return Err(without_place(Refusal::NoMemory));
+    }
+    blank_in(alloc, window)
+}
+
+/// Puts a raster, if there is one, behind those that there are; there is room for it.
+pub(crate) fn put_behind(rasters: &mut Vec<Raster>, raster: Option<Raster>)
+    requires { vec_len rasters.old < vec_capacity rasters.old }
+    ensures { rasters.new.items ≡ rasters.old.items ++ option_to_list raster }
+{
+    if let Some(raster) = raster {
+        rasters.push_reserved(raster);
     }
 }
 

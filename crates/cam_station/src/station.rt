@@ -31,7 +31,7 @@ ghost use Rattle.cam_undo.specs.Counted.{counts_at};
 use crate::fault::{Fault, without_place};
 use crate::reading::read;
 use crate::reply::{Numbers, Reply};
-use crate::showing::{blank_in, blanks, draw, draw_all, text};
+use crate::showing::{blank_behind, blanks, draw, draw_all, put_behind, text};
 use crate::touching::{touch, touch_accepted, touch_group};
 use cam_edits::{Board, BoardStep, Change, Edit, Name, Reversible, Sheet, plan};
 use cam_refusals::Refusal;
@@ -115,6 +115,13 @@ impl Station {
     pub fn apply(&mut self, command: Command) -> Result<Reply, Fault>
         ensures step { step self.old command (memory_of result) ≡ (self.new, result) }
         ensures refused { OnErr result (self.new ≡ after_refusal self.old command) }
+    {
+        self.step(command)
+    }
+
+    /// One step of the machine.
+    fn step(&mut self, command: Command) -> Result<Reply, Fault>
+        ensures { step self.old command (memory_of result) ≡ (self.new, result) }
     {
         match command {
             Command::Load { name, kind, file } => self.load(name, kind, &file),
@@ -219,13 +226,11 @@ impl Station {
         ensures err { OnErr result (self.new ≡ self.old) }
         ensures memory { IfErr result (λ told. told ≡ fault NoMemory) }
     {
-        let raster = blank_in(self.alloc, self.window)?;
-        if self.rasters.reserve(1).is_err() || self.board.add(sheet).is_err() {
+        let raster = blank_behind(self.alloc, self.window, &mut self.rasters)?;
+        if self.board.add(sheet).is_err() {
             return Err(without_place(Refusal::NoMemory));
         }
-        if let Some(raster) = raster {
-            self.rasters.push_reserved(raster);
-        }
+        put_behind(&mut self.rasters, raster);
         self.history.clear();
         Ok(())
     }
