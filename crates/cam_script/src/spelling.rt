@@ -137,6 +137,23 @@ fn push_points(text: &mut Vec<u8>, points: &[Point]) -> Result<(), AllocError>
     Ok(())
 }
 
+/// Writes the word of a form at the text's end, and a number.
+fn push_form(text: &mut Vec<u8>, form: &[u8], number: u64) -> Result<(), AllocError>
+    ensures { OnOk result (text.new.items ≡ text.old.items ++ (form.now ++ 32 ∷ decimal number)) }
+{
+    text.extend_from_slice(form)?;
+    push_number(text, number)
+}
+
+/// Writes the words of two points.
+fn push_ends(text: &mut Vec<u8>, from: Point, to: Point) -> Result<(), AllocError>
+    ensures { OnOk result (text.new.items ≡ text.old.items
+        ++ (spaced (point_words from) ++ spaced (point_words to))) }
+{
+    push_point(text, from)?;
+    push_point(text, to)
+}
+
 /// Writes the words of a contour: its start and its segments.
 fn push_contour(text: &mut Vec<u8>, contour: &Contour) -> Result<(), AllocError>
     ensures { OnOk result (text.new.items ≡ text.old.items
@@ -158,8 +175,7 @@ pub fn push_object_words(text: &mut Vec<u8>, object: &Object) -> Result<(), Allo
             turn,
             dark,
         } => {
-            text.extend_from_slice(b"flash")?;
-            push_number(text, u64::from(*aperture))?;
+            push_form(text, b"flash", u64::from(*aperture))?;
             push_point(text, *at)?;
             push_setting(text, *turn, *dark)
         }
@@ -170,10 +186,8 @@ pub fn push_object_words(text: &mut Vec<u8>, object: &Object) -> Result<(), Allo
             turn,
             dark,
         } => {
-            text.extend_from_slice(b"draw")?;
-            push_number(text, u64::from(*aperture))?;
-            push_point(text, *from)?;
-            push_point(text, *to)?;
+            push_form(text, b"draw", u64::from(*aperture))?;
+            push_ends(text, *from, *to)?;
             push_setting(text, *turn, *dark)
         }
         Object::Arc {
@@ -184,10 +198,8 @@ pub fn push_object_words(text: &mut Vec<u8>, object: &Object) -> Result<(), Allo
             to,
             centre,
         } => {
-            text.extend_from_slice(b"arc")?;
-            push_number(text, u64::from(*aperture))?;
-            push_point(text, *from)?;
-            push_point(text, *to)?;
+            push_form(text, b"arc", u64::from(*aperture))?;
+            push_ends(text, *from, *to)?;
             push_point(text, *centre)?;
             push_sense(text, *ccw, *dark)
         }
@@ -206,13 +218,11 @@ pub fn push_drill_item_words(text: &mut Vec<u8>, item: &DrillItem) -> Result<(),
 {
     match item {
         DrillItem::Hit { tool, at } => {
-            text.extend_from_slice(b"hit")?;
-            push_number(text, u64::from(*tool))?;
+            push_form(text, b"hit", u64::from(*tool))?;
             push_point(text, *at)
         }
         DrillItem::Rout { tool, points } => {
-            text.extend_from_slice(b"rout")?;
-            push_number(text, u64::from(*tool))?;
+            push_form(text, b"rout", u64::from(*tool))?;
             push_points(text, points.as_slice())
         }
     }

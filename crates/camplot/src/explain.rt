@@ -15,7 +15,7 @@ mod unread;
 use crate::reading::write_whole;
 use crate::system::read_again;
 use advice::{name, remedy};
-use cam_script::{Line, parse_line};
+use cam_script::{FilePath, Line, parse_line};
 use cam_station::Out;
 use heard::{Heard, Refusal};
 use place::{column_at, line_at};
@@ -80,6 +80,14 @@ fn place_in_file<R: SystemFiles>(
     }
 }
 
+/// The path of the file that a line loads, if it is a load.
+fn loaded(alloc: Global, line: &[u8]) -> Option<FilePath> {
+    match parse_line(alloc, line) {
+        Ok(Some(Line::Load { path, .. })) => Some(path),
+        _ => None,
+    }
+}
+
 /// The script's lines, and what is heard of the replies to them.
 #[derive(Drop)]
 struct Notes<'a, R, W> {
@@ -91,19 +99,24 @@ struct Notes<'a, R, W> {
 }
 
 impl<R: SystemFiles, W: Write> Notes<'_, R, W> {
-    /// What is told of the file of a refused load: the place, or why it cannot be read.
-    fn file(&self, line: &[u8], refusal: Refusal) -> Result<String, AllocError> {
-        let Ok(Some(Line::Load { path, .. })) = parse_line(self.alloc, line) else {
-            return Ok(String::new(self.alloc));
-        };
+    /// What is told of a file whose load was refused: the place, or why it cannot be read.
+    fn file_at(&self, path: &str, refusal: Refusal) -> Result<String, AllocError> {
         if let Some(at) = refusal.at {
-            return place_in_file(self.margin.rt, self.alloc, path.as_str(), at);
+            return place_in_file(self.margin.rt, self.alloc, path, at);
         }
         if refusal.code == FILE_FAULT {
-            let why = why_unread(self.margin.rt, path.as_str());
+            let why = why_unread(self.margin.rt, path);
             return format!(in self.alloc; " ({why})");
         }
         Ok(String::new(self.alloc))
+    }
+
+    /// The same of the file that a refused line loads, if it is a load.
+    fn file(&self, line: &[u8], refusal: Refusal) -> Result<String, AllocError> {
+        match loaded(self.alloc, line) {
+            Some(path) => self.file_at(path.as_str(), refusal),
+            None => Ok(String::new(self.alloc)),
+        }
     }
 
     /// Writes the line about a refused line. A margin that fails is let be.
