@@ -5,14 +5,15 @@ use crate::tables::boards::DISC;
 use cam_station::{Bytes, Change, Command, Edit, FileKind, Name, Station};
 use cam_units::Items;
 use std::alloc::{AllocError, Global};
+use std::process::Abort;
 use std::test::Fail;
 
-/// A layer has at most 1,000 attributes; the name of one that is there takes other fields all the same.
-#[test]
-fn one_attribute_too_many(rt: HostRuntime) -> Result<(), Fail> {
-    let alloc = rt.alloc();
-    let mut script = Vec::new(alloc);
-    let mut replies = Vec::new(alloc);
+/// A script that sets a thousand attributes and one more, and what it says.
+fn set_too_many(
+    alloc: Global,
+    script: &mut Vec<u8>,
+    replies: &mut Vec<u8>,
+) -> Result<(), AllocError> {
     script.extend_from_slice(b"load top gerber e.gbr\n")?;
     replies.extend_from_slice(b"ok 0\n")?;
     for number in 0..1_000u32 {
@@ -22,8 +23,16 @@ fn one_attribute_too_many(rt: HostRuntime) -> Result<(), Fail> {
     script.extend_from_slice(
         b"setattr top .More 1\nsetattr top .N7 1\ndropattr top .N0\nsetattr top .More 1\nsetattr top .Most\nlist\n",
     )?;
-    replies.extend_from_slice(b"refused 69\nok\nok\nok\nrefused 69\nok 1 100 0\n")?;
-    says(&rt, alloc, 100, script.as_slice(), replies.as_slice())
+    replies.extend_from_slice(b"refused 69\nok\nok\nok\nrefused 69\nok 1 100 0\n")
+}
+
+/// A layer has at most 1,000 attributes; the name of one that is there takes other fields all the same.
+#[test]
+fn one_attribute_too_many(rt: HostRuntime) -> Result<(), Fail> {
+    let mut script = Vec::new(rt.alloc());
+    let mut replies = Vec::new(rt.alloc());
+    set_too_many(rt.alloc(), &mut script, &mut replies)?;
+    says(&rt, rt.alloc(), 100, script.as_slice(), replies.as_slice())
 }
 
 fn name(alloc: Global) -> Result<Name, AllocError> {
@@ -32,6 +41,17 @@ fn name(alloc: Global) -> Result<Name, AllocError> {
 
 fn bytes(alloc: Global, text: &[u8]) -> Result<Items<u8>, AllocError> {
     Ok(Items::from_vec(Vec::from_slice(alloc, text)?))
+}
+
+/// Loads a layer of one disc.
+fn load(station: &mut Station, alloc: Global) -> Result<(), Fail> {
+    let load = Command::Load {
+        name: name(alloc)?,
+        kind: FileKind::Gerber,
+        file: Bytes::from_vec(Vec::from_slice(alloc, DISC)?),
+    };
+    station.apply(load)?;
+    Ok(())
 }
 
 /// The number of the refusal, or 0.
@@ -44,6 +64,36 @@ fn changed(station: &mut Station, alloc: Global, change: Change) -> Result<u8, A
         Ok(_) => Ok(0),
         Err(fault) => Ok(fault.code.number()),
     }
+}
+
+/// What it comes to when the key takes the fields.
+fn set(station: &mut Station, alloc: Global, key: &[u8], fields: &[u8]) -> Result<u8, AllocError> {
+    let change = Change::SetAttribute {
+        key: bytes(alloc, key)?,
+        fields: bytes(alloc, fields)?,
+    };
+    changed(station, alloc, change)
+}
+
+/// What it comes to when the key is dropped.
+fn dropped(station: &mut Station, alloc: Global, key: &[u8]) -> Result<u8, AllocError> {
+    let change = Change::DropAttribute {
+        key: bytes(alloc, key)?,
+    };
+    changed(station, alloc, change)
+}
+
+/// What it comes to when a key of so many bytes takes as many bytes of text behind a comma.
+fn set_long(
+    station: &mut Station,
+    alloc: Global,
+    key: usize,
+    text: usize,
+) -> Result<u8, AllocError> {
+    let mut fields = vec![in alloc; b'x'; text]?;
+    fields.insert(0, b',')?;
+    let key = vec![in alloc; b'k'; key]?;
+    set(station, alloc, key.as_slice(), fields.as_slice())
 }
 
 /// Keys and fields, and what it comes to when they are set, and when the key is dropped.
@@ -63,27 +113,32 @@ const WRITTEN: &[(&[u8], &[u8], u8, u8)] = &[
     (b".Part%", b"", 75, 75),
 ];
 
+/// Sets and drops them in a station, and compares what it comes to.
+fn are_answered(rt: &impl Abort, alloc: Global, station: &mut Station) -> Result<(), Fail> {
+    load(station, alloc)?;
+    for &(key, fields, if_set, if_dropped) in WRITTEN {
+        assert!(rt; set(station, alloc, key, fields)? == if_set);
+        assert!(rt; dropped(station, alloc, key)? == if_dropped);
+    }
+    Ok(())
+}
+
 /// Keys and fields that are not written as they may be are refused, and nothing is set.
 #[test]
 fn keys_and_fields(rt: HostRuntime) -> Result<(), Fail> {
-    let alloc = rt.alloc();
-    let mut station = Station::new(alloc, 1)?;
-    let load = Command::Load {
-        name: name(alloc)?,
-        kind: FileKind::Gerber,
-        file: Bytes::from_vec(Vec::from_slice(alloc, DISC)?),
-    };
-    assert!(rt; station.apply(load).is_ok());
-    for &(key, fields, set, dropped) in WRITTEN {
-        let change = Change::SetAttribute {
-            key: bytes(alloc, key)?,
-            fields: bytes(alloc, fields)?,
-        };
-        assert!(rt; changed(&mut station, alloc, change)? == set);
-        let change = Change::DropAttribute {
-            key: bytes(alloc, key)?,
-        };
-        assert!(rt; changed(&mut station, alloc, change)? == dropped);
+    let mut station = Station::new(rt.alloc(), 1)?;
+    are_answered(&rt, rt.alloc(), &mut station)
+}
+
+/// Sets long ones in a station, and compares what it comes to.
+fn long_ones_are_answered(
+    rt: &impl Abort,
+    alloc: Global,
+    station: &mut Station,
+) -> Result<(), Fail> {
+    load(station, alloc)?;
+    for (key, text, code) in [(255, 4_096, 0), (256, 4_096, 75), (255, 4_097, 75)] {
+        assert!(rt; set_long(station, alloc, key, text)? == code);
     }
     Ok(())
 }
@@ -91,22 +146,6 @@ fn keys_and_fields(rt: HostRuntime) -> Result<(), Fail> {
 /// The longest key and the longest fields, and such as are a byte longer.
 #[test]
 fn long_keys_and_fields(rt: HostRuntime) -> Result<(), Fail> {
-    let alloc = rt.alloc();
-    let mut station = Station::new(alloc, 1)?;
-    let load = Command::Load {
-        name: name(alloc)?,
-        kind: FileKind::Gerber,
-        file: Bytes::from_vec(Vec::from_slice(alloc, DISC)?),
-    };
-    assert!(rt; station.apply(load).is_ok());
-    for (key, text, code) in [(255, 4_096, 0), (256, 4_096, 75), (255, 4_097, 75)] {
-        let mut fields = vec![in alloc; b'x'; text]?;
-        fields.insert(0, b',')?;
-        let change = Change::SetAttribute {
-            key: Items::from_vec(vec![in alloc; b'k'; key]?),
-            fields: Items::from_vec(fields),
-        };
-        assert!(rt; changed(&mut station, alloc, change)? == code);
-    }
-    Ok(())
+    let mut station = Station::new(rt.alloc(), 1)?;
+    long_ones_are_answered(&rt, rt.alloc(), &mut station)
 }

@@ -245,19 +245,31 @@ fn told(alloc: Global, script: &Script, failed: Option<Call>) -> Result<Vec<u8>,
     Ok(told)
 }
 
-/// Runs a script over files of which a get or a put fails, and compares what it says, and what it leaves where none of
-/// its last puts failed.
-fn runs(
+/// Runs a script over the files and compares what it says; how many of its lines are refused.
+fn says_so(
     rt: &impl Abort,
     alloc: Global,
     script: &Script,
-    mut files: MemoryFiles,
+    files: &mut MemoryFiles,
+    failed: Option<Call>,
+) -> Result<u64, Fail> {
+    let told = told(alloc, script, failed)?;
+    let mut out = MemoryOut::new(alloc);
+    let refused = run(alloc, script.depth, script.text, files, &mut out)?;
+    assert_eq!(rt; out.said.as_slice(), told.as_slice(), "{failed:?}");
+    Ok(refused)
+}
+
+/// Runs a script over files of which a get or a put fails, and compares what it says, and what it leaves where none of
+/// its last puts failed.
+fn runs_over(
+    rt: &impl Abort,
+    alloc: Global,
+    script: &Script,
+    files: &mut MemoryFiles,
     failed: Option<Call>,
 ) -> Result<(), Fail> {
-    let mut out = MemoryOut::new(alloc);
-    let refused = run(alloc, script.depth, script.text, &mut files, &mut out)?;
-    let told = told(alloc, script, failed)?;
-    assert_eq!(rt; out.said.as_slice(), told.as_slice(), "{failed:?}");
+    let refused = says_so(rt, alloc, script, files, failed)?;
     let failures = files.failures();
     assert!(rt;
         failures == script.absent.saturating_add(u64::from(failed.is_some())),
@@ -273,6 +285,18 @@ fn runs(
     Ok(())
 }
 
+/// The same over files of which the get and the put of these numbers fail.
+fn runs(
+    rt: &impl Abort,
+    alloc: Global,
+    script: &Script,
+    (get, put): (usize, usize),
+    failed: Option<Call>,
+) -> Result<(), Fail> {
+    let mut files = files(alloc, get, put)?;
+    runs_over(rt, alloc, script, &mut files, failed)
+}
+
 /// Each get fails in turn, then none.
 #[test]
 fn each_get(rt: HostRuntime) -> Result<(), Fail> {
@@ -281,11 +305,10 @@ fn each_get(rt: HostRuntime) -> Result<(), Fail> {
         for (k, call) in script.gets.iter().enumerate() {
             // Where there is no file, the failure is counted all the same.
             if reply_at(script, call.0) != b"refused 82\n".as_slice() {
-                let files = files(alloc, k.saturating_add(1), 0)?;
-                runs(&rt, alloc, script, files, Some(*call))?;
+                runs(&rt, alloc, script, (k.saturating_add(1), 0), Some(*call))?;
             }
         }
-        let none = files(alloc, script.gets.len().saturating_add(1), 0)?;
+        let none = (script.gets.len().saturating_add(1), 0);
         runs(&rt, alloc, script, none, None)?;
     }
     Ok(())
@@ -297,10 +320,9 @@ fn each_put(rt: HostRuntime) -> Result<(), Fail> {
     let alloc = rt.alloc();
     for &script in SCRIPTS {
         for (k, call) in script.puts.iter().enumerate() {
-            let files = files(alloc, 0, k.saturating_add(1))?;
-            runs(&rt, alloc, script, files, Some(*call))?;
+            runs(&rt, alloc, script, (0, k.saturating_add(1)), Some(*call))?;
         }
-        let none = files(alloc, 0, script.puts.len().saturating_add(1))?;
+        let none = (0, script.puts.len().saturating_add(1));
         runs(&rt, alloc, script, none, None)?;
     }
     Ok(())
@@ -317,34 +339,48 @@ fn says(alloc: Global, script: &Script, say: usize) -> Result<(Option<u64>, Memo
     }
 }
 
+/// The same, and how many bytes are said, which begin what is told where no say fails.
+fn says_first(
+    rt: &impl Abort,
+    alloc: Global,
+    script: &Script,
+    say: usize,
+    told: &[u8],
+) -> Result<(Option<u64>, usize), Fail> {
+    let (refused, out) = says(alloc, script, say)?;
+    assert!(rt; told.starts_with(out.said.as_slice()), "say {say}");
+    assert!(rt; out.failures() == u64::from(refused.is_none()), "say {say}");
+    Ok((refused, out.said.len()))
+}
+
+/// Fails each say in turn, and compares what is said; how many lines are refused where none fails.
+fn ended(
+    rt: &impl Abort,
+    alloc: Global,
+    script: &Script,
+    told: &[u8],
+) -> Result<Option<u64>, Fail> {
+    let mut before = 0;
+    // A say has at least one byte.
+    for number in 0..told.len().saturating_add(1) {
+        let say = number.saturating_add(1);
+        let (refused, said) = says_first(rt, alloc, script, say, told)?;
+        if refused.is_some() {
+            assert!(rt; said == told.len(), "say {say}");
+            return Ok(refused);
+        }
+        assert!(rt; say == 1 || before < said, "say {say}");
+        before = said;
+    }
+    Ok(None)
+}
+
 /// Each say fails in turn, and ends the run: what was said before it is said, and nothing more. Then none fails.
 #[test]
 fn each_say(rt: HostRuntime) -> Result<(), Fail> {
-    let alloc = rt.alloc();
     for &script in SCRIPTS {
-        let told = told(alloc, script, None)?;
-        let mut before = 0;
-        let mut ended = None;
-        // A say has at least one byte.
-        for number in 0..told.len().saturating_add(1) {
-            let say = number.saturating_add(1);
-            let (refused, out) = says(alloc, script, say)?;
-            assert!(rt;
-                told.as_slice().starts_with(out.said.as_slice()),
-                "say {say}"
-            );
-            if refused.is_some() {
-                assert!(rt;
-                    out.failures() == 0 && out.said.len() == told.len(),
-                    "say {say}"
-                );
-                ended = refused;
-                break;
-            }
-            assert!(rt; out.failures() == 1, "say {say}");
-            assert!(rt; say == 1 || before < out.said.len(), "say {say}");
-            before = out.said.len();
-        }
+        let told = told(rt.alloc(), script, None)?;
+        let ended = ended(&rt, rt.alloc(), script, told.as_slice())?;
         assert!(rt; ended == Some(script.refused), "{ended:?}");
     }
     Ok(())

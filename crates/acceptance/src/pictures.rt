@@ -1,11 +1,11 @@
 //! Pictures of several tiles, too long to write down.
 
 use crate::files::MemoryFiles;
-use crate::out::MemoryOut;
 use crate::player::held;
+use crate::specials::says_over;
 use crate::tables::boards::DISC;
 use crate::tables::tiles::SPECK;
-use cam_station::{Files, run};
+use cam_station::Files;
 use std::alloc::{AllocError, Global};
 use std::process::Abort;
 use std::test::Fail;
@@ -71,19 +71,24 @@ plot top moved\nundo\nredraw 100\nredraw 100\nbegin\ndelete top 0\nredraw 100\na
 load b gerber a.gbr\nredraw 100\nbegin\ndelete top 0\ndelete b 0\nend\nredraw 100\nundo\nredraw 100\n\
 plot b other\n";
 
+/// What its lines say.
+const REPLIES: &[u8] =
+    b"ok 1\nok\nok 16\nok\nok 1\nok 1\nok\nok 2\nok 0\nok\nok\nok 1\nok\nok 1\nrefused 70\n\
+ok 1 0 0\nok 1\nok 16\nok\nok\nok\nok\nok 2\nok\nok 2\nok 0\n";
+
+/// Draws the tiles over the files, and compares what is said and plotted.
+fn draws_tiles(rt: &impl Abort, alloc: Global, files: &mut MemoryFiles) -> Result<(), Fail> {
+    let refused = says_over(rt, alloc, files, 100, TILES, REPLIES)?;
+    assert!(rt; refused == 1);
+    shows(rt, alloc, files, "moved", 224, 27)?;
+    shows(rt, alloc, files, "back", 32, 219)?;
+    shows(rt, alloc, files, "other", 32, 219)
+}
+
 #[test]
 fn tiles_of_a_moved_flash(rt: HostRuntime) -> Result<(), Fail> {
     let mut files = held(rt.alloc(), &[("a.gbr", SPECK)])?;
-    let mut out = MemoryOut::failing(rt.alloc(), 0);
-    let refused = run(rt.alloc(), 100, TILES, &mut files, &mut out)?;
-    let replies =
-        b"ok 1\nok\nok 16\nok\nok 1\nok 1\nok\nok 2\nok 0\nok\nok\nok 1\nok\nok 1\nrefused 70\n\
-ok 1 0 0\nok 1\nok 16\nok\nok\nok\nok\nok 2\nok\nok 2\nok 0\n";
-    assert_eq!(rt; out.said.as_slice(), replies.as_slice());
-    assert!(rt; refused == 1);
-    shows(&rt, rt.alloc(), &files, "moved", 224, 27)?;
-    shows(&rt, rt.alloc(), &files, "back", 32, 219)?;
-    shows(&rt, rt.alloc(), &files, "other", 32, 219)
+    draws_tiles(&rt, rt.alloc(), &mut files)
 }
 
 /// The second put fails; what was drawn for it is kept, and the same line is accepted.
@@ -91,14 +96,14 @@ ok 1 0 0\nok 1\nok 16\nok\nok\nok\nok\nok 2\nok\nok 2\nok 0\n";
 fn a_plot_that_fails(rt: HostRuntime) -> Result<(), Fail> {
     let mut files = MemoryFiles::failing(rt.alloc(), 0, 2);
     files.put("a.gbr", DISC)?;
-    let mut out = MemoryOut::failing(rt.alloc(), 0);
-    let script =
-        b"load top gerber a.gbr\nwindow -1000000 -1000000 500000 4 4\nplot top p\nplot top p\n";
-    let refused = run(rt.alloc(), 100, script, &mut files, &mut out)?;
-    assert_eq!(rt;
-        out.said.as_slice(),
-        b"ok 1\nok\nrefused 82\nok 0\n".as_slice()
-    );
+    let refused = says_over(
+        &rt,
+        rt.alloc(),
+        &mut files,
+        100,
+        b"load top gerber a.gbr\nwindow -1000000 -1000000 500000 4 4\nplot top p\nplot top p\n",
+        b"ok 1\nok\nrefused 82\nok 0\n",
+    )?;
     assert!(rt; refused == 1 && files.failures() == 1);
     let wanted = b"P4\n4 4\n\x00\x60\x60\x00".as_slice();
     let file = files.held.get("p").map(|it| it.as_slice() == wanted);

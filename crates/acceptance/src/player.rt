@@ -48,15 +48,25 @@ fn are_left(files: &MemoryFiles, row: &Row) -> bool {
     files.held.len() == row.files.len().saturating_add(row.written.len())
 }
 
+/// Runs the row's script over its files and compares what comes of it.
+fn play_over(
+    rt: &impl Abort,
+    alloc: Global,
+    row: &Row,
+    files: &mut MemoryFiles,
+) -> Result<(), Fail> {
+    let mut out = MemoryOut::new(alloc);
+    let refused = run(alloc, row.depth, row.script, files, &mut out)?;
+    assert_eq!(rt; out.said.as_slice(), row.replies, "{}", row.name);
+    assert!(rt; refused == row.refused, "{}", row.name);
+    assert!(rt; are_left(files, row), "{}", row.name);
+    Ok(())
+}
+
 /// Runs the row's script and compares what comes of it.
 fn play(rt: &impl Abort, alloc: Global, row: &Row) -> Result<(), Fail> {
     let mut files = held(alloc, row.files)?;
-    let mut out = MemoryOut::failing(alloc, 0);
-    let refused = run(alloc, row.depth, row.script, &mut files, &mut out)?;
-    assert_eq!(rt; out.said.as_slice(), row.replies, "{}", row.name);
-    assert!(rt; refused == row.refused, "{}", row.name);
-    assert!(rt; are_left(&files, row), "{}", row.name);
-    Ok(())
+    play_over(rt, alloc, row, &mut files)
 }
 
 /// Whole Gerber files, and pictures of their layers.

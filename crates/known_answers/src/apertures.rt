@@ -1,6 +1,8 @@
 //! Apertures (Gerber Layer Format Specification, "Standard apertures", "Aperture macro (AM)", "Aperture definition
 //! (AD)").
 
+ghost use Rattle.std.specs.Prelude.{◌≡◌, []};
+
 mod covering;
 mod defining;
 
@@ -13,6 +15,16 @@ use defining::{DEFINITIONS, NUMBERS, Wanted, definition_of};
 use std::alloc::Global;
 use std::test::Fail;
 
+/// Adds the first macro, that of the text, or none where it is empty.
+fn add_macro(alloc: Global, macros: &mut Macros, text: &[u8]) -> Result<(), Fail>
+    requires { macros.old ≡ [] }
+{
+    if !text.is_empty() {
+        macros.add(alloc, Macro::parse(alloc, text)?)?;
+    }
+    Ok(())
+}
+
 /// What the text behind AD reads in a file with this macro, or with none where its text is empty.
 fn defined(
     alloc: Global,
@@ -21,9 +33,7 @@ fn defined(
     unit: Unit,
 ) -> Result<Result<(u32, Aperture), AdFault>, Fail> {
     let mut macros = Macros::new(alloc);
-    if !macro_text.is_empty() {
-        macros.add(alloc, Macro::parse(alloc, macro_text)?)?;
-    }
+    add_macro(alloc, &mut macros, macro_text)?;
     Ok(parse_ad(alloc, text, &mut macros, unit))
 }
 
@@ -95,19 +105,24 @@ fn is_right(alloc: Global, row: &[u8]) -> Result<bool, Fail> {
     Ok(gives(&answer, row.number, row.wanted))
 }
 
+/// Whether the aperture that a text defines covers the place once it is turned, if it is sound.
+fn covered(alloc: Global, text: Text, turn: Turn, at: (i32, i32)) -> Result<Option<bool>, Fail> {
+    let aperture = aperture_of(alloc, text)?;
+    if !aperture.is_sound() {
+        return Ok(None);
+    }
+    let spot = Spot {
+        x: i64::from(at.0),
+        y: i64::from(at.1),
+    };
+    Ok(Some(aperture.covers(spot, turn)))
+}
+
 #[test]
 fn covers(rt: HostRuntime) -> Result<(), Fail> {
-    for &(text, turn, (x, y), wanted) in PLACES {
-        let aperture = aperture_of(rt.alloc(), text)?;
-        assert!(rt; aperture.is_sound());
-        let spot = Spot {
-            x: i64::from(x),
-            y: i64::from(y),
-        };
-        assert!(rt;
-            aperture.covers(spot, turn) == wanted,
-            "{text:?} {turn:?} at ({x}, {y})"
-        );
+    for &(text, turn, at, wanted) in PLACES {
+        let found = covered(rt.alloc(), text, turn, at)?;
+        assert!(rt; found == Some(wanted), "{text:?} {turn:?} at {at:?}");
     }
     Ok(())
 }

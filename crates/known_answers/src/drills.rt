@@ -1,6 +1,6 @@
 //! Drill layers and their images (XNC Format Specification, "Drilling" and "Routing").
 
-ghost use Rattle.std.specs.Prelude.{IfOk, IfSome};
+ghost use Rattle.std.specs.Prelude.{IfOk, IfSome, OnOk};
 ghost use Rattle.cam_objects.specs.Cells.{AreCellsOf, drill_item_boxes};
 ghost use Rattle.cam_objects.specs.DrillSoundness.{IsSoundDrillLayer};
 
@@ -9,7 +9,7 @@ mod rows;
 use crate::places::{At, box_of, place};
 use crate::xnc::files::Drilled;
 use cam_objects::{DrillItem, DrillLayer, ItemCells, ItemFault, Points, drill_layers_stay_sound};
-use cam_units::{Bounds, Nm, Point};
+use cam_units::{Nm, Point};
 use rows::{
     Boxed, DRILL_BOXES, DRILL_ITEMS, DRILL_POINTED, DRILLINGS, Drilling, KITS, Kit, LONG_ROUTS,
     Pointed,
@@ -58,65 +58,84 @@ fn no_drills(alloc: Global) -> DrillLayer
     DrillLayer::new(alloc)
 }
 
-/// The layer with the tool behind the others; `None` where it may not be added.
-fn with_tool(
-    mut layer: DrillLayer,
-    tool: u16,
-    diameter: Nm,
-) -> Result<Option<DrillLayer>, AllocError>
-    requires { IsSoundDrillLayer layer }
-    ensures { IfOk result (λ made. IfSome made IsSoundDrillLayer) }
+/// Puts the tool behind the others, and tells whether it may be added.
+fn add_tool(layer: &mut DrillLayer, tool: u16, diameter: Nm) -> Result<bool, AllocError>
+    requires { IsSoundDrillLayer layer.old }
+    ensures { OnOk result (IsSoundDrillLayer layer.new) }
 {
     drill_layers_stay_sound();
     if !layer.check_tool(tool, diameter) {
-        return Ok(None);
+        return Ok(false);
     }
     layer.add_tool(tool, diameter)?;
-    Ok(Some(layer))
+    Ok(true)
 }
 
-/// A layer of these tools; `None` where one may not be added.
-fn kit_of(alloc: Global, tools: Kit) -> Result<Option<DrillLayer>, AllocError>
-    ensures { IfOk result (λ made. IfSome made IsSoundDrillLayer) }
+/// Puts the tools behind the others, and tells whether each may be added.
+fn add_tools(layer: &mut DrillLayer, tools: Kit) -> Result<bool, AllocError>
+    requires { IsSoundDrillLayer layer.old }
+    ensures { OnOk result (IsSoundDrillLayer layer.new) }
 {
-    let mut layer = no_drills(alloc);
     for &(tool, diameter) in tools {
-        let Some(longer) = with_tool(layer, tool, Nm(diameter))? else {
-            return Ok(None);
-        };
-        layer = longer;
+        if !add_tool(layer, tool, Nm(diameter))? {
+            return Ok(false);
+        }
     }
-    Ok(Some(layer))
+    Ok(true)
 }
 
-/// The layer with the item behind the others; `None` where it is refused.
-fn with_item(mut layer: DrillLayer, item: DrillItem) -> Result<Option<DrillLayer>, AllocError>
-    requires { IsSoundDrillLayer layer }
-    ensures { IfOk result (λ made. IfSome made IsSoundDrillLayer) }
+/// Puts the item behind the others, and tells whether it is accepted.
+fn add_item(layer: &mut DrillLayer, item: DrillItem) -> Result<bool, AllocError>
+    requires { IsSoundDrillLayer layer.old }
+    ensures { OnOk result (IsSoundDrillLayer layer.new) }
 {
     drill_layers_stay_sound();
     if layer.check_item(&item).is_err() {
-        return Ok(None);
+        return Ok(false);
     }
     if !layer.has_room(&item) {
-        return Ok(None);
+        return Ok(false);
     }
     layer.push(item)?;
-    Ok(Some(layer))
+    Ok(true)
+}
+
+/// Puts the items behind the others, and tells whether each is accepted.
+fn add_items(alloc: Global, layer: &mut DrillLayer, items: &[Drilled]) -> Result<bool, AllocError>
+    requires { IsSoundDrillLayer layer.old }
+    ensures { OnOk result (IsSoundDrillLayer layer.new) }
+{
+    for drilled in items {
+        if !add_item(layer, item_of(alloc, drilled)?)? {
+            return Ok(false);
+        }
+    }
+    Ok(true)
+}
+
+/// Puts tools and items behind the others, and tells whether each is accepted.
+fn fill(
+    alloc: Global,
+    layer: &mut DrillLayer,
+    tools: Kit,
+    items: &[Drilled],
+) -> Result<bool, AllocError>
+    requires { IsSoundDrillLayer layer.old }
+    ensures { OnOk result (IsSoundDrillLayer layer.new) }
+{
+    if !add_tools(layer, tools)? {
+        return Ok(false);
+    }
+    add_items(alloc, layer, items)
 }
 
 /// The layer of these tools and items; `None` where one of them is refused.
 fn layer_of(alloc: Global, tools: Kit, items: &[Drilled]) -> Result<Option<DrillLayer>, AllocError>
     ensures { IfOk result (λ made. IfSome made IsSoundDrillLayer) }
 {
-    let Some(mut layer) = kit_of(alloc, tools)? else {
+    let mut layer = no_drills(alloc);
+    if !fill(alloc, &mut layer, tools, items)? {
         return Ok(None);
-    };
-    for drilled in items {
-        let Some(longer) = with_item(layer, item_of(alloc, drilled)?)? else {
-            return Ok(None);
-        };
-        layer = longer;
     }
     Ok(Some(layer))
 }
@@ -136,36 +155,47 @@ fn are(layer: &DrillLayer, places: &[At], black: bool) -> bool
     true
 }
 
-/// Whether the layer is made, and it and a copy show the row's places.
-fn shows(alloc: Global, row: &Drilling) -> Result<bool, AllocError> {
-    let Some(layer) = layer_of(alloc, row.tools, row.items)? else {
-        return Ok(false);
-    };
-    let copy = layer.try_copy()?;
-    Ok(
-        are(&layer, row.black, true)
-            && are(&layer, row.white, false)
-            && are(&copy, row.black, true)
-            && are(&copy, row.white, false),
-    )
-}
-
-/// Whether the item has the wanted box, as it stands and as the first one of the layer.
-fn has_box(layer: &DrillLayer, item: &DrillItem, wanted: Bounds) -> bool
+/// Whether the layer shows the row's places.
+fn has_places(layer: &DrillLayer, row: &Drilling) -> bool
     requires { IsSoundDrillLayer layer.now }
 {
-    if layer.check_item(item).is_err() || layer.items.is_empty() {
-        return false;
+    are(layer, row.black, true) && are(layer, row.white, false)
+}
+
+/// Whether the layer and a copy show the row's places.
+fn keeps_places(layer: &DrillLayer, row: &Drilling) -> Result<bool, AllocError>
+    requires { IsSoundDrillLayer layer.now }
+{
+    let copy = layer.try_copy()?;
+    Ok(has_places(layer, row) && has_places(&copy, row))
+}
+
+/// Whether the layer is made, and it and a copy show the row's places.
+fn shows(alloc: Global, row: &Drilling) -> Result<bool, AllocError> {
+    match layer_of(alloc, row.tools, row.items)? {
+        Some(layer) => keeps_places(&layer, row),
+        None => Ok(false),
     }
-    layer.bounds_of(item) == wanted && layer.item_bounds(0) == wanted
+}
+
+/// Whether the row's item has its box, as it stands and as the first one of the layer.
+fn has_box(alloc: Global, layer: &DrillLayer, row: &Boxed) -> Result<bool, AllocError>
+    requires { IsSoundDrillLayer layer.now }
+{
+    let item = item_of(alloc, &row.1)?;
+    if layer.check_item(&item).is_err() || layer.items.is_empty() {
+        return Ok(false);
+    }
+    let wanted = box_of(row.2);
+    Ok(layer.bounds_of(&item) == wanted && layer.item_bounds(0) == wanted)
 }
 
 /// Whether the item has the wanted box, as it stands and as the only one of a layer.
 fn is_bounded(alloc: Global, row: &Boxed) -> Result<bool, AllocError> {
-    let Some(layer) = layer_of(alloc, row.0, slice::from_ref(&row.1))? else {
-        return Ok(false);
-    };
-    Ok(has_box(&layer, &item_of(alloc, &row.1)?, box_of(row.2)))
+    match layer_of(alloc, row.0, slice::from_ref(&row.1))? {
+        Some(layer) => has_box(alloc, &layer, row),
+        None => Ok(false),
+    }
 }
 
 /// Whether all that is asked is answered as the row has it, by the cells of the items where they are known.
@@ -190,13 +220,20 @@ fn answers(layer: &DrillLayer, cells: Option<&ItemCells>, row: &Pointed) -> bool
     layer.bounds() == box_of(row.whole)
 }
 
+/// Whether all that is asked is answered so, with the cells of the items and without.
+fn answers_by_both(alloc: Global, layer: &DrillLayer, row: &Pointed) -> bool
+    requires { IsSoundDrillLayer layer.now }
+{
+    let (cells, _) = ItemCells::of(alloc, &mut layer.boxes());
+    answers(layer, None, row) && answers(layer, Some(&cells), row)
+}
+
 /// Whether the layer is made, and all that is asked of it is answered so.
 fn is_pointed(alloc: Global, row: &Pointed) -> Result<bool, AllocError> {
-    let Some(layer) = layer_of(alloc, row.tools, row.items)? else {
-        return Ok(false);
-    };
-    let (cells, _) = ItemCells::of(alloc, &mut layer.boxes());
-    Ok(answers(&layer, None, row) && answers(&layer, Some(&cells), row))
+    match layer_of(alloc, row.tools, row.items)? {
+        Some(layer) => Ok(answers_by_both(alloc, &layer, row)),
+        None => Ok(false),
+    }
 }
 
 #[test]
@@ -225,7 +262,7 @@ fn drillings(rt: HostRuntime) -> Result<(), Fail> {
 
 /// What the check of an item says beside the tools 1 and 2; `None` where they are refused.
 fn verdict(alloc: Global, item: &DrillItem) -> Result<Option<Result<(), ItemFault>>, AllocError> {
-    match kit_of(alloc, &[(1, 5), (2, 5)])? {
+    match layer_of(alloc, &[(1, 5), (2, 5)], &[])? {
         Some(layer) => Ok(Some(layer.check_item(item))),
         None => Ok(None),
     }

@@ -7,6 +7,7 @@ mod sheet;
 
 use cam_undo::{Counts, History, HistoryFault};
 use sheet::{Put, Sheet};
+use std::alloc::Global;
 use std::test::Fail;
 
 #[derive(Clone, Copy)]
@@ -153,31 +154,39 @@ fn obey(history: &mut History<Put>, doc: &mut Sheet, call: Call) -> Option<Histo
     }
 }
 
+/// The number of the first row that is not as its call leaves it.
+fn first_wrong(history: &mut History<Put>, doc: &mut Sheet, rows: &[Row]) -> Option<u32>
+    requires { IsTied ghosts history.old doc.old }
+{
+    for &(step, fault, number, (past, future, group)) in rows {
+        let told = obey(history, doc, step);
+        let counts = Counts {
+            past,
+            future,
+            group,
+        };
+        if told != fault || doc.number != number || history.counts() != counts {
+            return Some(number);
+        }
+    }
+    None
+}
+
+/// The same of a new history of this depth.
+fn first_wrong_at(alloc: Global, depth: usize, rows: &[Row]) -> Result<Option<u32>, HistoryFault> {
+    let mut history = History::new(alloc, depth)?;
+    Ok(first_wrong(&mut history, &mut Sheet { number: 0 }, rows))
+}
+
 #[test]
 fn histories(rt: HostRuntime) -> Result<(), Fail> {
     for &(depth, rows) in RUNS {
-        let made: Result<History<Put>, HistoryFault> = History::new(rt.alloc(), depth);
-        let Some(rows) = rows else {
-            assert!(rt; matches!(made, Err(HistoryFault::Depth)), "depth {depth}");
-            continue;
+        let (rows, wanted) = match rows {
+            Some(rows) => (rows, Ok(None)),
+            None => (&[] as &[Row], Err(HistoryFault::Depth)),
         };
-        let Ok(mut history) = made else {
-            assert!(rt; false, "no history of depth {depth}");
-            continue;
-        };
-        let mut doc = Sheet { number: 0 };
-        for &(step, fault, number, (past, future, group)) in rows {
-            let told = obey(&mut history, &mut doc, step);
-            let counts = Counts {
-                past,
-                future,
-                group,
-            };
-            assert!(rt;
-                told == fault && doc.number == number && history.counts() == counts,
-                "depth {depth}: the number {number}"
-            );
-        }
+        let wrong = first_wrong_at(rt.alloc(), depth, rows);
+        assert!(rt; wrong == wanted, "depth {depth}: the number {wrong:?}");
     }
     Ok(())
 }
@@ -192,6 +201,28 @@ fn sum_of(steps: Option<&[Put]>) -> Option<(usize, u64)> {
     Some((steps.len(), sum))
 }
 
+/// The sums of the last group, of the one that was undone, and of the open one.
+fn kept(history: &History<Put>) -> [Option<(usize, u64)>; 3] {
+    [
+        sum_of(history.last_undo()),
+        sum_of(history.last_redo()),
+        sum_of(history.open_group()),
+    ]
+}
+
+/// Whether the history obeys the calls.
+fn accepts(history: &mut History<Put>, doc: &mut Sheet, calls: &[Call]) -> bool
+    requires { IsTied ghosts history.old doc.old }
+    ensures { IsTied ghosts history.new doc.new }
+{
+    for &call in calls {
+        if obey(history, doc, call).is_some() {
+            return false;
+        }
+    }
+    true
+}
+
 #[test]
 fn kept_steps(rt: HostRuntime) -> Result<(), Fail> {
     let Ok(mut history) = History::new(rt.alloc(), 2) else {
@@ -199,20 +230,11 @@ fn kept_steps(rt: HostRuntime) -> Result<(), Fail> {
         return Ok(());
     };
     let mut doc = Sheet { number: 3 };
-    let made = obey(&mut history, &mut doc, Call::Put(4));
-    let taken = obey(&mut history, &mut doc, Call::Undo);
-    assert!(rt; made.is_none() && taken.is_none());
-    assert!(rt;
-        sum_of(history.last_undo()).is_none() && sum_of(history.last_redo()) == Some((1, 4))
-    );
-    assert!(rt; sum_of(history.open_group()).is_none());
-    let again = obey(&mut history, &mut doc, Call::Redo);
-    let begun = obey(&mut history, &mut doc, Call::Begin);
-    let put = obey(&mut history, &mut doc, Call::Put(5));
-    let more = obey(&mut history, &mut doc, Call::Put(6));
-    assert!(rt; again.is_none() && begun.is_none() && put.is_none() && more.is_none());
-    assert!(rt;
-        sum_of(history.open_group()) == Some((2, 9)) && sum_of(history.last_undo()) == Some((1, 3))
-    );
+    let before = [Call::Put(4), Call::Undo];
+    assert!(rt; accepts(&mut history, &mut doc, &before));
+    assert!(rt; kept(&history) == [None, Some((1, 4)), None]);
+    let behind = [Call::Redo, Call::Begin, Call::Put(5), Call::Put(6)];
+    assert!(rt; accepts(&mut history, &mut doc, &behind));
+    assert!(rt; kept(&history) == [Some((1, 3)), None, Some((2, 9))]);
     Ok(())
 }

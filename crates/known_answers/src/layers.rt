@@ -60,18 +60,27 @@ fn are(layer: &Layer, places: &[At], black: bool) -> bool
     true
 }
 
+/// Whether the layer shows the row's places.
+fn has_places(layer: &Layer, row: &Picture) -> bool
+    requires { IsSound layer.now }
+{
+    are(layer, row.black, true) && are(layer, row.white, false)
+}
+
+/// Whether the layer and a copy show the row's places.
+fn keeps_places(layer: &Layer, row: &Picture) -> Result<bool, AllocError>
+    requires { IsSound layer.now }
+{
+    let copy = layer.try_copy()?;
+    Ok(has_places(layer, row) && has_places(&copy, row))
+}
+
 /// Whether the layer is made, and it and a copy show the row's places.
 fn shows(alloc: Global, row: &Picture) -> Result<bool, AllocError> {
-    let Some(layer) = layer(alloc, row.entries, row.items)? else {
-        return Ok(false);
-    };
-    let copy = layer.try_copy()?;
-    Ok(
-        are(&layer, row.black, true)
-            && are(&layer, row.white, false)
-            && are(&copy, row.black, true)
-            && are(&copy, row.white, false),
-    )
+    match layer(alloc, row.entries, row.items)? {
+        Some(layer) => keeps_places(&layer, row),
+        None => Ok(false),
+    }
 }
 
 /// The box of these sides, and the empty one of none.
@@ -111,70 +120,86 @@ fn are_enclosed(layer: &Layer, rows: &[Enclosed]) -> bool
     true
 }
 
+/// Whether all that is asked of the layer is answered so.
+fn answers(alloc: Global, layer: &Layer, row: &Pointed) -> bool
+    requires { IsSound layer.now }
+{
+    let (cells, _) = ItemCells::of(alloc, &mut layer.boxes());
+    are_found(layer, None, row.found)
+        && are_found(layer, Some(&cells), row.found)
+        && are_enclosed(layer, row.enclosed)
+        && layer.bounds() == box_or_empty(row.whole)
+}
+
 /// Whether the layer is made, and all that is asked of it is answered so.
 fn is_pointed(alloc: Global, row: &Pointed) -> Result<bool, AllocError> {
-    let Some(layer) = layer(alloc, row.entries, row.items)? else {
-        return Ok(false);
-    };
-    let (cells, _) = ItemCells::of(alloc, &mut layer.boxes());
-    Ok(
-        are_found(&layer, None, row.found)
-            && are_found(&layer, Some(&cells), row.found)
-            && are_enclosed(&layer, row.enclosed)
-            && layer.bounds() == box_or_empty(row.whole),
-    )
+    match layer(alloc, row.entries, row.items)? {
+        Some(layer) => Ok(answers(alloc, &layer, row)),
+        None => Ok(false),
+    }
 }
 
 /// What the check of an item says beside these entries; `None` where they are refused.
 fn verdict(alloc: Global, row: &Checked) -> Result<Option<Result<(), ItemFault>>, AllocError> {
-    let Some(layer) = dictionary(alloc, row.0)? else {
-        return Ok(None);
-    };
     let item = item(alloc, &row.1)?;
-    Ok(Some(layer.check_item(&item)))
+    match dictionary(alloc, row.0)? {
+        Some(layer) => Ok(Some(layer.check_item(&item))),
+        None => Ok(None),
+    }
 }
 
 /// Whether the entry may be added beside these; `None` where they are refused.
 fn may_add(alloc: Global, row: &Added) -> Result<Option<bool>, AllocError> {
-    let Some(layer) = dictionary(alloc, row.0)? else {
-        return Ok(None);
-    };
     let entry = entry(alloc, &row.2)?;
-    Ok(Some(layer.check_entry(row.1, &entry)))
+    match dictionary(alloc, row.0)? {
+        Some(layer) => Ok(Some(layer.check_entry(row.1, &entry))),
+        None => Ok(None),
+    }
 }
 
 /// Whether the layer of these items has room for one more; `None` where they are refused.
 fn has_room(alloc: Global, row: &Filled) -> Result<Option<bool>, AllocError> {
-    let Some(layer) = layer(alloc, row.0, row.1)? else {
-        return Ok(None);
-    };
     let item = item(alloc, &row.2)?;
-    Ok(Some(layer.has_room(&item)))
+    match layer(alloc, row.0, row.1)? {
+        Some(layer) => Ok(Some(layer.has_room(&item))),
+        None => Ok(None),
+    }
 }
 
-/// Whether the item has the wanted box, as it stands and as the only one of a layer.
-fn is_bounded(alloc: Global, row: &Boxed) -> Result<bool, AllocError> {
-    let wanted = box_or_empty(row.2);
-    let Some(layer) = layer(alloc, row.0, slice::from_ref(&row.1))? else {
-        return Ok(false);
-    };
+/// Whether the row's item has its box, as it stands and as the first one of the layer.
+fn has_box(alloc: Global, layer: &Layer, row: &Boxed) -> Result<bool, AllocError>
+    requires { IsSound layer.now }
+{
     let item = item(alloc, &row.1)?;
     if layer.check_item(&item).is_err() || layer.items.is_empty() {
         return Ok(false);
     }
+    let wanted = box_or_empty(row.2);
     Ok(layer.bounds_of(&item) == wanted && layer.item_bounds(0) == wanted)
 }
 
-/// Whether there is room behind so many items; `None` where the entries are refused.
-fn has_room_behind(alloc: Global, count: u32) -> Result<Option<bool>, AllocError> {
-    let Some(mut layer) = dictionary(alloc, BASE)? else {
-        return Ok(None);
-    };
+/// Whether the item has the wanted box, as it stands and as the only one of a layer.
+fn is_bounded(alloc: Global, row: &Boxed) -> Result<bool, AllocError> {
+    match layer(alloc, row.0, slice::from_ref(&row.1))? {
+        Some(layer) => has_box(alloc, &layer, row),
+        None => Ok(false),
+    }
+}
+
+/// Whether the layer has room for a dot behind so many more.
+fn has_room_behind(alloc: Global, layer: &mut Layer, count: u32) -> Result<bool, AllocError> {
     for _ in 0..count {
         layer.items.push(item(alloc, &DOT)?)?;
     }
-    let item = item(alloc, &DOT)?;
-    Ok(Some(layer.has_room(&item)))
+    Ok(layer.has_room(&item(alloc, &DOT)?))
+}
+
+/// Whether there is room behind so many items; `None` where the entries are refused.
+fn has_room_for_dots(alloc: Global, count: u32) -> Result<Option<bool>, AllocError> {
+    match dictionary(alloc, BASE)? {
+        Some(mut layer) => Ok(Some(has_room_behind(alloc, &mut layer, count)?)),
+        None => Ok(None),
+    }
 }
 
 /// The place in the table of the first row that is not shown so.
@@ -266,7 +291,7 @@ fn room_checks(rt: HostRuntime) -> Result<(), Fail> {
 fn item_counts(rt: HostRuntime) -> Result<(), Fail> {
     for &(count, wanted) in COUNTS {
         assert!(rt;
-            has_room_behind(rt.alloc(), count)? == Some(wanted),
+            has_room_for_dots(rt.alloc(), count)? == Some(wanted),
             "{count}"
         );
     }

@@ -73,12 +73,17 @@ fn are(prims: &Prims, wanted: &[(bool, Shape)]) -> bool {
     prims.len() == wanted.len()
 }
 
+/// Whether these and a copy are the wanted primitives.
+fn keep(prims: &Prims, wanted: &[(bool, Shape)]) -> Result<bool, Fail> {
+    let copy = prims.clone()?;
+    Ok(are(prims, wanted) && are(&copy, wanted))
+}
+
 /// Whether the text, and a copy of its primitives, are what the row wants.
 fn is_right(alloc: Global, row: &Row) -> Result<bool, Fail> {
     let made = Macro::parse(alloc, row.text)?;
     let prims = made.expand(alloc, row.params, row.unit)?;
-    let copy = prims.clone()?;
-    Ok(are(&prims, row.wanted) && are(&copy, row.wanted))
+    keep(&prims, row.wanted)
 }
 
 #[test]

@@ -1,6 +1,9 @@
 //! Layers: a copy, and the image of two flashes.
 
+ghost use Rattle.cam_objects.specs.Soundness.{IsSound};
+
 use cam_gerber::read_gerber;
+use cam_objects::Layer;
 use cam_units::Spot;
 use std::alloc::{AllocError, Global};
 use std::test::Fail;
@@ -18,18 +21,27 @@ const PLACES: &[(i16, i16, bool)] = &[
     (10_000, -1_001, false),
 ];
 
-/// Whether the layer is black at a place, and how many entries and items its copy has; `None` where the file is no
-/// layer.
-fn shown(alloc: Global, x: i16, y: i16) -> Result<Option<(bool, usize, usize)>, AllocError> {
-    let Ok(layer) = read_gerber(alloc, DISCS) else {
-        return Ok(None);
-    };
+/// Whether a layer is black at a place, and how many entries and items its copy has.
+type Shown = (bool, usize, usize);
+
+/// What the sound layer shows.
+fn shown_by(layer: &Layer, x: i16, y: i16) -> Result<Option<Shown>, AllocError>
+    requires { IsSound layer.now }
+{
     let copy = layer.try_copy()?;
     let black = layer.black_at(Spot {
         x: i64::from(x),
         y: i64::from(y),
     });
     Ok(Some((black, copy.entries().len(), copy.items().len())))
+}
+
+/// What the layer of the file shows; `None` where the file is no layer.
+fn shown(alloc: Global, x: i16, y: i16) -> Result<Option<Shown>, AllocError> {
+    match read_gerber(alloc, DISCS) {
+        Ok(layer) => shown_by(&layer, x, y),
+        Err(_) => Ok(None),
+    }
 }
 
 #[test]

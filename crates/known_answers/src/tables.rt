@@ -20,32 +20,37 @@ pub(crate) fn rows_of(
     Ok(rows)
 }
 
-/// The whole number that the word writes.
-pub(crate) fn number(word: &[u8]) -> Option<i64> {
-    str::from_utf8(word).ok()?.parse().ok()
+/// The texts before and behind the first of these bytes.
+fn cut(text: &[u8], mark: u8) -> Option<(&[u8], &[u8])> {
+    let mut parts = text.splitn(2, |byte| *byte == mark);
+    Some((parts.next()?, parts.next()?))
 }
 
-/// A number of one byte, and the text behind it.
-pub(crate) fn numbered(row: &[u8]) -> Option<(u8, &[u8])> {
-    let mut parts = row.splitn(2, |byte| *byte == b' ');
-    let number = str::from_utf8(parts.next()?).ok()?.parse().ok()?;
-    let text = parts.next()?;
-    Some((number, text))
-}
-
-/// A number of one byte, a place, and the text behind them.
-pub(crate) fn placed(row: &[u8]) -> Option<(u8, usize, &[u8])> {
-    let (number, rest) = numbered(row)?;
-    let mut parts = rest.splitn(2, |byte| *byte == b' ');
-    let place = str::from_utf8(parts.next()?).ok()?.parse().ok()?;
-    let text = parts.next()?;
-    Some((number, place, text))
+/// A word, and the text behind it.
+pub(crate) fn word(row: &[u8]) -> Option<(&[u8], &[u8])> {
+    cut(row, b' ')
 }
 
 /// The texts before and behind the `!`.
 pub(crate) fn two_texts(text: &[u8]) -> Option<(&[u8], &[u8])> {
-    let mut parts = text.splitn(2, |byte| *byte == b'!');
-    let first = parts.next()?;
-    let second = parts.next()?;
-    Some((first, second))
+    cut(text, b'!')
+}
+
+/// A whole number, and the text behind it.
+pub(crate) fn number(row: &[u8]) -> Option<(i64, &[u8])> {
+    let (word, text) = word(row)?;
+    Some((str::from_utf8(word).ok()?.parse().ok()?, text))
+}
+
+/// A number of one byte, and the text behind it.
+pub(crate) fn numbered(row: &[u8]) -> Option<(u8, &[u8])> {
+    let (number, text) = number(row)?;
+    Some((u8::try_from(number).ok()?, text))
+}
+
+/// A number of one byte, a place, and the text behind them.
+pub(crate) fn placed(row: &[u8]) -> Option<(u8, usize, &[u8])> {
+    let (fault, rest) = numbered(row)?;
+    let (place, text) = number(rest)?;
+    Some((fault, usize::try_from(place).ok()?, text))
 }

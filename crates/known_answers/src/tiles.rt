@@ -1,6 +1,8 @@
 //! Tiles and pictures, by hand: a pixel is black where its centre lies in a flash (netpbm's pbm(5), "P4"), and a box
 //! touches the tiles that hold a pixel centre in it or on its edge.
 
+ghost use Rattle.std.specs.Prelude.{◌≡◌};
+
 use cam_gerber::read_gerber;
 use cam_tiles::{Painter, Raster, RasterFault, Source, Window};
 use cam_units::{Bounds, Spot};
@@ -57,25 +59,41 @@ fn raster(alloc: Global, pitch: i64, width: u32, height: u32) -> Result<Raster, 
     Raster::new(alloc, window)
 }
 
-/// The tiles and the picture of the discs in a window of these sides; all but one tile are drawn first, and no file
-/// comes of them.
-fn picture(alloc: Global, width: u32, height: u32) -> Result<(u32, Vec<u8>), RasterFault> {
-    let mut raster = raster(alloc, 2, width, height)?;
-    let Ok(layer) = read_gerber(alloc, DISCS) else {
-        return Err(RasterFault::Memory);
-    };
-    let mut source = Source::gerber(&layer);
+/// The tiles of the raster and the picture of a source that was asked for none; all but one tile are drawn first, and
+/// no file comes of them.
+fn drawn(raster: &mut Raster, source: &mut Source<'_>) -> Result<(u32, Vec<u8>), RasterFault>
+    requires { source.old.asked ≡ 0 }
+{
     let tiles = raster.dirty();
-    raster.redraw(&mut source, tiles.saturating_sub(1));
+    raster.redraw(source, tiles.saturating_sub(1));
     if !matches!(raster.to_pbm(), Err(RasterFault::StillDirty)) {
         return Err(RasterFault::StillDirty);
     }
-    raster.redraw(&mut source, u32::MAX);
-    let file = raster.to_pbm()?;
+    raster.redraw(source, u32::MAX);
     if source.asked() != u64::from(tiles) {
         return Err(RasterFault::StillDirty);
     }
-    Ok((tiles, file))
+    Ok((tiles, raster.to_pbm()?))
+}
+
+/// The tiles and the picture of the discs in a window of these sides.
+fn picture(alloc: Global, width: u32, height: u32) -> Result<(u32, Vec<u8>), RasterFault> {
+    let mut raster = raster(alloc, 2, width, height)?;
+    match read_gerber(alloc, DISCS) {
+        Ok(layer) => drawn(&mut raster, &mut Source::gerber(&layer)),
+        Err(_) => Err(RasterFault::Memory),
+    }
+}
+
+/// Draws the discs in so many tiles of the raster.
+fn redraw_discs(alloc: Global, raster: &mut Raster, at_most: u32) -> Result<(), RasterFault> {
+    match read_gerber(alloc, DISCS) {
+        Ok(layer) => {
+            raster.redraw(&mut Source::gerber(&layer), at_most);
+            Ok(())
+        }
+        Err(_) => Err(RasterFault::Memory),
+    }
 }
 
 #[test]
@@ -91,20 +109,22 @@ fn pictures(rt: HostRuntime) -> Result<(), Fail> {
     Ok(())
 }
 
+/// Whether these of the raster's six tiles are dirty, and no other.
+fn are_dirty(raster: &Raster, wanted: &[u32]) -> bool {
+    for tile in 0..6 {
+        if raster.is_clean(tile) == wanted.contains(&tile) {
+            return false;
+        }
+    }
+    raster.dirty() as usize == wanted.len()
+}
+
 /// Whether a box touches these tiles of a clean raster, and no other.
 fn touches(alloc: Global, bounds: Bounds, wanted: &[u32]) -> Result<bool, RasterFault> {
     let mut raster = raster(alloc, 5, 130, 70)?;
-    let Ok(layer) = read_gerber(alloc, DISCS) else {
-        return Err(RasterFault::Memory);
-    };
-    raster.redraw(&mut Source::gerber(&layer), u32::MAX);
+    redraw_discs(alloc, &mut raster, u32::MAX)?;
     raster.touch(bounds);
-    for tile in 0..6 {
-        if raster.is_clean(tile) == wanted.contains(&tile) {
-            return Ok(false);
-        }
-    }
-    Ok(raster.dirty() as usize == wanted.len())
+    Ok(are_dirty(&raster, wanted))
 }
 
 #[test]
@@ -134,10 +154,7 @@ const PIXELS: &[(u32, u32, Option<bool>)] = &[
 /// What is known of the pixel, with the first tile drawn.
 fn pixel(alloc: Global, column: u32, row: u32) -> Result<Option<bool>, RasterFault> {
     let mut raster = raster(alloc, 2, 65, 1)?;
-    let Ok(layer) = read_gerber(alloc, DISCS) else {
-        return Err(RasterFault::Memory);
-    };
-    raster.redraw(&mut Source::gerber(&layer), 1);
+    redraw_discs(alloc, &mut raster, 1)?;
     Ok(raster.pixel(column, row))
 }
 

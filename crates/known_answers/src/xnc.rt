@@ -6,7 +6,7 @@ mod refusals;
 
 use crate::tables::{numbered, placed, rows_of, two_texts};
 use crate::text::text_of;
-use cam_objects::{DrillItem, Tools};
+use cam_objects::{DrillItem, DrillLayer, Tools};
 use cam_units::{Nm, Point};
 use cam_xnc::read_xnc;
 use files::{DrillFile, Drilled, FILES};
@@ -58,18 +58,23 @@ fn are_items(items: &[DrillItem], wanted: &[Drilled]) -> bool {
     items.len() == wanted.len()
 }
 
+/// Whether the layer has the wanted tools and items.
+fn is_wanted(layer: &DrillLayer, row: &DrillFile) -> bool {
+    are_tools(layer.tools(), row.tools) && are_items(layer.items(), row.items)
+}
+
+/// Whether the layer and a copy have them.
+fn keeps_wanted(layer: &DrillLayer, row: &DrillFile) -> Result<bool, Fail> {
+    let copy = layer.try_copy()?;
+    Ok(is_wanted(layer, row) && is_wanted(&copy, row))
+}
+
 /// Whether the file, and a copy of its layer, have the wanted tools and items.
 fn is_layer(alloc: Global, row: &DrillFile) -> Result<bool, Fail> {
-    let Ok(layer) = read_xnc(alloc, row.text) else {
-        return Ok(false);
-    };
-    let copy = layer.try_copy()?;
-    Ok(
-        are_tools(layer.tools(), row.tools)
-            && are_items(layer.items(), row.items)
-            && are_tools(copy.tools(), row.tools)
-            && are_items(copy.items(), row.items),
-    )
+    match read_xnc(alloc, row.text) {
+        Ok(layer) => keeps_wanted(&layer, row),
+        Err(_) => Ok(false),
+    }
 }
 
 /// How many items the drill layer of the file has, or the number and the place of its fault.

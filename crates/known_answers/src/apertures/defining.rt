@@ -1,6 +1,6 @@
 //! Texts behind AD, and what they define: worked out by hand.
 
-use crate::tables::{number, two_texts};
+use crate::tables::{number, two_texts, word};
 use cam_units::Unit;
 
 /// What a definition gives: the number of its fault, or an aperture, sizes in nm.
@@ -36,28 +36,42 @@ fn wanted_of(word: &[u8], [first, second, third]: [i64; 3]) -> Option<Wanted> {
     }
 }
 
+/// The unit that the word names.
+fn unit_of(word: &[u8]) -> Option<Unit> {
+    match word.first() {
+        Some(b'm') => Some(Unit::Mm),
+        Some(b'i') => Some(Unit::Inch),
+        _ => None,
+    }
+}
+
+/// Three numbers, and the text behind them.
+fn three_numbers(row: &[u8]) -> Option<([i64; 3], &[u8])> {
+    let (first, rest) = number(row)?;
+    let (second, rest) = number(rest)?;
+    let (third, text) = number(rest)?;
+    Some(([first, second, third], text))
+}
+
+/// What a word and the numbers behind it want, and the text behind them.
+fn wanted_by(row: &[u8]) -> Option<(Wanted, &[u8])> {
+    let (word, rest) = word(row)?;
+    let (numbers, text) = three_numbers(rest)?;
+    Some((wanted_of(word, numbers)?, text))
+}
+
 /// The definition of a row.
 pub fn definition_of(row: &[u8]) -> Option<Definition<'_>> {
-    let mut parts = row.splitn(7, |byte| *byte == b' ');
-    let unit = match parts.next()?.first() {
-        Some(b'm') => Unit::Mm,
-        Some(b'i') => Unit::Inch,
-        _ => return None,
-    };
-    let aperture = number(parts.next()?)?;
-    let word = parts.next()?;
-    let numbers = [
-        number(parts.next()?)?,
-        number(parts.next()?)?,
-        number(parts.next()?)?,
-    ];
-    let (macro_text, text) = two_texts(parts.next()?)?;
+    let (unit, rest) = word(row)?;
+    let (aperture, rest) = number(rest)?;
+    let (wanted, texts) = wanted_by(rest)?;
+    let (macro_text, text) = two_texts(texts)?;
     Some(Definition {
         macro_text,
         text,
-        unit,
+        unit: unit_of(unit)?,
         number: u32::try_from(aperture).ok()?,
-        wanted: wanted_of(word, numbers)?,
+        wanted,
     })
 }
 

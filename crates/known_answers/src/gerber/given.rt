@@ -40,6 +40,26 @@ fn is_item(alloc: Global, found: &Item, listed: &Listed) -> Result<bool, AllocEr
     Ok(format!(in alloc; "{found:?}")? == format!(in alloc; "{wanted:?}")?)
 }
 
+/// Whether the dictionary has these entries, and no other.
+fn are_entries(alloc: Global, found: &Dictionary, entries: Entries) -> Result<bool, AllocError> {
+    for (place, (number, entered)) in entries.iter().enumerate() {
+        if !is_entry(alloc, found, place, *number, entered)? {
+            return Ok(false);
+        }
+    }
+    Ok(found.len() == entries.len())
+}
+
+/// Whether these are the listed items.
+fn are_items(alloc: Global, items: &[Item], wanted: &[Listed]) -> Result<bool, AllocError> {
+    for (found, listed) in items.iter().zip(wanted) {
+        if !is_item(alloc, found, listed)? {
+            return Ok(false);
+        }
+    }
+    Ok(items.len() == wanted.len())
+}
+
 /// Whether the layer has these entries and items, and no other.
 fn is_given(
     alloc: Global,
@@ -47,17 +67,7 @@ fn is_given(
     entries: Entries,
     items: &[Listed],
 ) -> Result<bool, AllocError> {
-    for (place, (number, entered)) in entries.iter().enumerate() {
-        if !is_entry(alloc, layer.entries(), place, *number, entered)? {
-            return Ok(false);
-        }
-    }
-    for (found, listed) in layer.items().iter().zip(items) {
-        if !is_item(alloc, found, listed)? {
-            return Ok(false);
-        }
-    }
-    Ok(layer.entries().len() == entries.len() && layer.items().len() == items.len())
+    Ok(are_entries(alloc, layer.entries(), entries)? && are_items(alloc, layer.items(), items)?)
 }
 
 #[test]

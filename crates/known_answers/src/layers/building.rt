@@ -1,6 +1,6 @@
 //! Layers, made of rows.
 
-ghost use Rattle.std.specs.Prelude.{IfOk, IfSome};
+ghost use Rattle.std.specs.Prelude.{IfOk, IfSome, OnOk};
 ghost use Rattle.cam_objects.specs.Soundness.{IsSound};
 
 use crate::layers::rows::{Drawn, Entered, Entries, Listed, Side};
@@ -171,47 +171,75 @@ fn no_layer(alloc: Global) -> Layer
     Layer::new(alloc)
 }
 
-/// The layer with the entry behind the others; `None` where it may not be added.
-fn with_entry(mut layer: Layer, number: u32, entry: Entry) -> Result<Option<Layer>, AllocError>
-    requires { IsSound layer }
-    ensures { IfOk result (λ made. IfSome made IsSound) }
+/// Puts the entry behind the others, and tells whether it may be added.
+fn add_entry(layer: &mut Layer, number: u32, entry: Entry) -> Result<bool, AllocError>
+    requires { IsSound layer.old }
+    ensures { OnOk result (IsSound layer.new) }
 {
     layers_stay_sound();
     if !layer.check_entry(number, &entry) {
-        return Ok(None);
+        return Ok(false);
     }
     layer.add_entry(number, entry)?;
-    Ok(Some(layer))
+    Ok(true)
 }
 
-/// A layer of these entries, without an item; `None` where one may not be added.
-pub(crate) fn dictionary(alloc: Global, entries: Entries) -> Result<Option<Layer>, AllocError>
-    ensures { IfOk result (λ made. IfSome made IsSound) }
+/// Puts the entries behind the others, and tells whether each may be added.
+fn add_entries(alloc: Global, layer: &mut Layer, entries: Entries) -> Result<bool, AllocError>
+    requires { IsSound layer.old }
+    ensures { OnOk result (IsSound layer.new) }
 {
-    let mut layer = no_layer(alloc);
     for (number, entered) in entries {
-        let Some(longer) = with_entry(layer, *number, entry(alloc, entered)?)? else {
-            return Ok(None);
-        };
-        layer = longer;
+        if !add_entry(layer, *number, entry(alloc, entered)?)? {
+            return Ok(false);
+        }
     }
-    Ok(Some(layer))
+    Ok(true)
 }
 
-/// The layer with the item behind the others; `None` where it is refused.
-fn with_item(mut layer: Layer, item: Item) -> Result<Option<Layer>, AllocError>
-    requires { IsSound layer }
-    ensures { IfOk result (λ made. IfSome made IsSound) }
+/// Puts the item behind the others, and tells whether it is accepted.
+fn add_item(layer: &mut Layer, item: Item) -> Result<bool, AllocError>
+    requires { IsSound layer.old }
+    ensures { OnOk result (IsSound layer.new) }
 {
     layers_stay_sound();
     if layer.check_item(&item).is_err() {
-        return Ok(None);
+        return Ok(false);
     }
     if !layer.has_room(&item) {
-        return Ok(None);
+        return Ok(false);
     }
     layer.push(item)?;
-    Ok(Some(layer))
+    Ok(true)
+}
+
+/// Puts the items behind the others, and tells whether each is accepted.
+fn add_items(alloc: Global, layer: &mut Layer, items: &[Listed]) -> Result<bool, AllocError>
+    requires { IsSound layer.old }
+    ensures { OnOk result (IsSound layer.new) }
+{
+    for listed in items {
+        if !add_item(layer, item(alloc, listed)?)? {
+            return Ok(false);
+        }
+    }
+    Ok(true)
+}
+
+/// Puts entries and items behind the others, and tells whether each is accepted.
+fn fill(
+    alloc: Global,
+    layer: &mut Layer,
+    entries: Entries,
+    items: &[Listed],
+) -> Result<bool, AllocError>
+    requires { IsSound layer.old }
+    ensures { OnOk result (IsSound layer.new) }
+{
+    if !add_entries(alloc, layer, entries)? {
+        return Ok(false);
+    }
+    add_items(alloc, layer, items)
 }
 
 /// The layer of these entries and items; `None` where one of them is refused.
@@ -222,14 +250,16 @@ pub(crate) fn layer(
 ) -> Result<Option<Layer>, AllocError>
     ensures { IfOk result (λ made. IfSome made IsSound) }
 {
-    let Some(mut layer) = dictionary(alloc, entries)? else {
+    let mut layer = no_layer(alloc);
+    if !fill(alloc, &mut layer, entries, items)? {
         return Ok(None);
-    };
-    for listed in items {
-        let Some(longer) = with_item(layer, item(alloc, listed)?)? else {
-            return Ok(None);
-        };
-        layer = longer;
     }
     Ok(Some(layer))
+}
+
+/// A layer of these entries, without an item; `None` where one may not be added.
+pub(crate) fn dictionary(alloc: Global, entries: Entries) -> Result<Option<Layer>, AllocError>
+    ensures { IfOk result (λ made. IfSome made IsSound) }
+{
+    layer(alloc, entries, &[])
 }

@@ -1,10 +1,10 @@
 use Rattle.std.proofs.Common.{rules, ◌≡◌, ◌++◌, ◌∷◌, []}
 use Rattle.cam_objects.specs.Soundness.{IsSoundItem, KeepsLimits}
-use Rattle.known_answers.proofs.layers.building.with_item.Goals as goal
+use Rattle.known_answers.proofs.layers.building.add_item.Goals as goal
 
 pub returns : goal.returns
 returns c =
-    let l = c.args.layer in
+    let l = c.args.layer.now in
     let m = c.push.new.self in
     let sound : IsSoundItem l.apertures c.args.item = search rules in
     let room : KeepsLimits l.apertures (l.items.items ++ c.args.item ∷ []) = search rules in

@@ -1,10 +1,10 @@
 use Rattle.std.proofs.Common.{rules, ◌≡◌, ◌++◌, ◌∷◌, []}
 use Rattle.cam_objects.specs.Soundness.{MayAddEntry}
-use Rattle.known_answers.proofs.layers.building.with_entry.Goals as goal
+use Rattle.known_answers.proofs.layers.building.add_entry.Goals as goal
 
 pub returns : goal.returns
 returns c =
-    let l = c.args.layer in
+    let l = c.args.layer.now in
     let m = c.add_entry.new.self in
     let may : MayAddEntry l.apertures c.args.number c.args.entry = search rules in
     let grown = c.layers_stay_sound.ensures.add_entry l.apertures l.items.items c.args.number c.args.entry c.requires.content may in

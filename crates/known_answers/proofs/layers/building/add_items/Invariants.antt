@@ -1,5 +1,5 @@
 use Rattle.cam_objects.specs.Soundness.{IsSound}
-use Rattle.known_answers.proofs.layers.building.layer.Given as goal
+use Rattle.known_answers.proofs.layers.building.add_items.Given as goal
 
 abbrev pub invariant-loop-listed : goal.invariant-loop-listed
 invariant-loop-listed l = IsSound l.layer
