@@ -72,16 +72,6 @@ impl<'a> Boxes<'a> {
     }
 }
 
-/// About how many of so many items may have a place in common with a box.
-fn near_count(cells: Option<&ItemCells>, count: usize, near: Bounds) -> usize
-    ensures { result ≤ count }
-{
-    match cells {
-        Some(cells) => cells.near_count(count, near),
-        None => count,
-    }
-}
-
 /// The contour and the polarity of an item that is one region.
 fn region_of(item: &Item) -> Option<(&Contour, bool)>
     ensures { IfSome result (λ region. item.now ≡ One (Region region.0.now region.1)) }
@@ -134,16 +124,6 @@ impl<'a> Shown<'a> {
         match self {
             Shown::Gerber { cells, .. } => near_end(*cells, end, near),
             Shown::Drill { cells, .. } => near_end(*cells, end, near),
-        }
-    }
-
-    /// About how many items may have a place in common with a box.
-    pub(crate) fn near_count(&self, near: Bounds) -> usize
-        ensures { result ≤ length (leaves_by_item self.now) }
-    {
-        match self {
-            Shown::Gerber { layer, cells, .. } => near_count(*cells, layer.items.len(), near),
-            Shown::Drill { layer, cells } => near_count(*cells, layer.items.len(), near),
         }
     }
 

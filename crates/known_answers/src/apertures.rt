@@ -10,7 +10,7 @@ use crate::tables::rows_of;
 use cam_apertures::{AdFault, Aperture, Macros, ShapeView, ad_number, parse_ad};
 use cam_macros::Macro;
 use cam_units::{Bounds, Point, Spot, Turn, Unit};
-use covering::{BOXES, NOTHING, PLACES, SOLID, Text};
+use covering::{BOXES, NOTHING, PLACES, Place, SOLID, Text};
 use defining::{DEFINITIONS, NUMBERS, Wanted, definition_of};
 use std::alloc::Global;
 use std::test::Fail;
@@ -105,60 +105,53 @@ fn is_right(alloc: Global, row: &[u8]) -> Result<bool, Fail> {
     Ok(gives(&answer, row.number, row.wanted))
 }
 
-/// Whether the aperture that a text defines covers the place once it is turned, if it is sound.
-fn covered(alloc: Global, text: Text, turn: Turn, at: (i32, i32)) -> Result<Option<bool>, Fail> {
-    let aperture = aperture_of(alloc, text)?;
-    if !aperture.is_sound() {
-        return Ok(None);
-    }
+/// Whether the aperture is sound, and covers the place once it is turned exactly if that is wanted.
+fn covers_as(aperture: &Aperture, turn: Turn, at: (i32, i32), wanted: bool) -> bool {
     let spot = Spot {
         x: i64::from(at.0),
         y: i64::from(at.1),
     };
-    Ok(Some(aperture.covers(spot, turn)))
+    aperture.is_sound() && aperture.covers(spot, turn) == wanted
+}
+
+/// Whether the aperture of the row's text covers its place as it wants.
+fn is_covered(alloc: Global, &(text, turn, at, wanted): &Place) -> Result<bool, Fail> {
+    let aperture = aperture_of(alloc, text)?;
+    Ok(covers_as(&aperture, turn, at, wanted))
 }
 
 #[test]
 fn covers(rt: HostRuntime) -> Result<(), Fail> {
-    for &(text, turn, at, wanted) in PLACES {
-        let found = covered(rt.alloc(), text, turn, at)?;
-        assert!(rt; found == Some(wanted), "{text:?} {turn:?} at {at:?}");
+    for (place, row) in PLACES.iter().enumerate() {
+        assert!(rt; is_covered(rt.alloc(), row)?, "{place}");
     }
     Ok(())
 }
 
-/// The box of the aperture that a text defines, once it is turned, if the aperture is sound.
-fn box_of(alloc: Global, text: Text, turn: Turn) -> Result<Option<Bounds>, Fail> {
-    let aperture = aperture_of(alloc, text)?;
-    if !aperture.is_sound() {
-        return Ok(None);
-    }
-    Ok(Some(aperture.bounds(turn)))
+/// Whether the aperture is sound, and has this box once it is turned.
+fn is_boxed(aperture: &Aperture, turn: Turn, wanted: Bounds) -> bool {
+    aperture.is_sound() && aperture.bounds(turn) == wanted
 }
 
-/// The box of its copy.
-fn box_of_copy(alloc: Global, text: Text, turn: Turn) -> Result<Option<Bounds>, Fail> {
+/// Whether the aperture that a text defines, and its copy, have this box once they are turned.
+fn has_box(alloc: Global, text: Text, turn: Turn, wanted: Bounds) -> Result<bool, Fail> {
     let aperture = aperture_of(alloc, text)?;
     let copy = aperture.clone()?;
-    if !copy.is_sound() {
-        return Ok(None);
-    }
-    Ok(Some(copy.bounds(turn)))
+    Ok(is_boxed(&aperture, turn, wanted) && is_boxed(&copy, turn, wanted))
 }
 
 #[test]
 fn boxes(rt: HostRuntime) -> Result<(), Fail> {
-    for &(text, turn, [left, below, right, above]) in BOXES {
-        let wanted = Some(Bounds::Closed {
+    for (place, &(text, turn, [left, below, right, above])) in BOXES.iter().enumerate() {
+        let wanted = Bounds::Closed {
             low: Spot { x: left, y: below },
             high: Spot { x: right, y: above },
-        });
-        let found = box_of(rt.alloc(), text, turn)?;
-        assert!(rt; found == wanted, "{text:?} {turn:?}");
-        let copied = box_of_copy(rt.alloc(), text, turn)?;
-        assert!(rt; copied == wanted, "a copy of {text:?} {turn:?}");
-        let nothing = box_of(rt.alloc(), NOTHING, turn)?;
-        assert!(rt; nothing == Some(Bounds::Empty), "{turn:?}");
+        };
+        let is_right = has_box(rt.alloc(), text, turn, wanted)?;
+        assert!(rt;
+            is_right && has_box(rt.alloc(), NOTHING, turn, Bounds::Empty)?,
+            "{place}"
+        );
     }
     Ok(())
 }

@@ -3,11 +3,11 @@
 mod rows;
 
 use crate::tables::{numbered, rows_of};
-use crate::text::text_of;
+use crate::text::{Pieces, text_of};
 use cam_macros::{Macro, MacroFault, PrimShape, Prims};
 use cam_units::Unit;
 use rows::{EXPANSIONS, LONG_OUTLINES, LONG_TEXTS, PRIMITIVES, Row, Shape, TEXTS, WITH_PARAMETERS};
-use std::alloc::Global;
+use std::alloc::{AllocError, Global};
 use std::test::Fail;
 
 /// The number of a fault, 0 for none.
@@ -38,6 +38,18 @@ fn expands(alloc: Global, row: &[u8]) -> Result<bool, MacroFault> {
         Some((wanted, text)) => Ok(expanded(alloc, text, &[])? == wanted),
         None => Ok(false),
     }
+}
+
+/// Whether the text of these pieces is read so.
+fn reads_long(alloc: Global, pieces: Pieces, wanted: u8) -> Result<bool, AllocError> {
+    let text = text_of(alloc, pieces)?;
+    Ok(number(Macro::parse(alloc, &text)) == wanted)
+}
+
+/// Whether the primitives of the text of these pieces are made so.
+fn expands_long(alloc: Global, pieces: Pieces, wanted: u8) -> Result<bool, Fail> {
+    let text = text_of(alloc, pieces)?;
+    Ok(expanded(alloc, &text, &[])? == wanted)
 }
 
 /// Whether the primitive is of this shape.
@@ -94,9 +106,13 @@ fn readings(rt: HostRuntime) -> Result<(), Fail> {
     for &row in rows.as_slice() {
         assert!(rt; reads(alloc, row), "{row:?}");
     }
-    for (pieces, wanted) in LONG_TEXTS {
-        let text = text_of(alloc, pieces)?;
-        assert!(rt; number(Macro::parse(alloc, &text)) == *wanted, "{pieces:?}");
+    Ok(())
+}
+
+#[test]
+fn long_readings(rt: HostRuntime) -> Result<(), Fail> {
+    for &(pieces, wanted) in LONG_TEXTS {
+        assert!(rt; reads_long(rt.alloc(), pieces, wanted)?, "{pieces:?}");
     }
     Ok(())
 }
@@ -109,12 +125,21 @@ fn expansions(rt: HostRuntime) -> Result<(), Fail> {
     for &row in rows.as_slice() {
         assert!(rt; expands(alloc, row)?, "{row:?}");
     }
+    Ok(())
+}
+
+#[test]
+fn expansions_with_parameters(rt: HostRuntime) -> Result<(), Fail> {
     for &(text, params, wanted) in WITH_PARAMETERS {
-        assert!(rt; expanded(alloc, text, params)? == wanted, "{text:?}");
+        assert!(rt; expanded(rt.alloc(), text, params)? == wanted, "{text:?}");
     }
-    for (pieces, wanted) in LONG_OUTLINES {
-        let text = text_of(alloc, pieces)?;
-        assert!(rt; expanded(alloc, &text, &[])? == *wanted, "{pieces:?}");
+    Ok(())
+}
+
+#[test]
+fn long_expansions(rt: HostRuntime) -> Result<(), Fail> {
+    for &(pieces, wanted) in LONG_OUTLINES {
+        assert!(rt; expands_long(rt.alloc(), pieces, wanted)?, "{pieces:?}");
     }
     Ok(())
 }

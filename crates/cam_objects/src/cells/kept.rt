@@ -215,13 +215,6 @@ impl ItemCells {
     {
         self.sides().end_of_meeting(end, Reach::of(near))
     }
-
-    /// About how many of so many items may have a place in common with a box, in half nm.
-    pub fn near_count(&self, count: usize, near: Bounds) -> usize
-        ensures { result ≤ count }
-    {
-        count.saturating_sub(self.sides().far_count(Reach::of(near)))
-    }
 }
 
 /// As `ItemCells::near_end`, where the cells of the items are known; else the end.

@@ -17,9 +17,6 @@ pub(crate) struct Sides<'a> {
 /// How many items are tested at once.
 const CHUNK_SIZE: usize = 64;
 
-/// About how many items of a long list are tested to tell how many are far.
-const SAMPLES: usize = 1_024;
-
 impl<'a> Sides<'a> {
     /// How many items have all four.
     fn len(self) -> usize
@@ -90,22 +87,5 @@ impl<'a> Sides<'a> {
             }
         }
         self.end_of_last(0, end - chunks * CHUNK_SIZE, reach)
-    }
-
-    /// About how many items reach none of these cells: by one of each 64, and of a long list by fewer.
-    pub(crate) fn far_count(self, reach: Reach) -> usize
-        ensures { HasSides self.entry result }
-    {
-        let count = self.len();
-        let step = (count / SAMPLES).max(CHUNK_SIZE);
-        let mut place = 0;
-        let mut far = 0;
-        while count - place >= step {
-            if !self.meets(place, reach) {
-                far += step;
-            }
-            place += step;
-        }
-        far
     }
 }

@@ -36,7 +36,7 @@ impl Items {
         requires accepted { accepts window.now ≡ true }
         ensures { IfOk result (λ items. AreItemsOf (leaves_by_item shown.now) window.now items) }
     {
-        let mut seen = Seen::new(alloc, shown, within)?;
+        let mut seen = Seen::new(alloc, shown, within);
         if is_few {
             return Ok(Items::AsNeeded(seen));
         }

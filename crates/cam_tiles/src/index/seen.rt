@@ -35,17 +35,16 @@ const STEP: usize = 64;
 
 impl Seen {
     /// No item was looked at yet.
-    pub(crate) fn new(alloc: Global, shown: &Shown<'_>, within: Bounds) -> Result<Seen, AllocError>
+    pub(crate) fn new(alloc: Global, shown: &Shown<'_>, within: Bounds) -> Seen
         requires { IsReady shown.now }
-        ensures { (w : Window) → IfOk result (λ seen. AreSeenBy (leaves_by_item shown.now) w seen) }
+        ensures { (w : Window) → AreSeenBy (leaves_by_item shown.now) w result }
     {
-        let boxed = Vec::with_capacity(alloc, shown.near_count(within))?;
-        Ok(Seen {
+        Seen {
             within,
-            boxed,
+            boxed: Vec::new(alloc),
             left: shown.len(),
             is_crowd: false,
-        })
+        }
     }
 
     /// The place behind the next item that may be near, or 0: those from there on are not. In a crowd most are near, so

@@ -40,7 +40,9 @@ const SLANTING_BAR: Text = (b"M*20,1,1,0,0,3,4", b"D10M");
 pub const NOTHING: Text = (b"M*0 no primitive", b"D10M");
 
 /// An aperture, a turn, a place in half nm from the flash point, and whether it is covered there.
-pub const PLACES: &[(Text, Turn, (i32, i32), bool)] = &[
+pub(crate) type Place = (Text, Turn, (i32, i32), bool);
+
+pub const PLACES: &[Place] = &[
     (CIRCLE, Turn::R0, (1_000_000, 0), true),
     (CIRCLE, Turn::R0, (1_000_001, 0), false),
     (CIRCLE, Turn::M90, (600_000, 800_000), true),

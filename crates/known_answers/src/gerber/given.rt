@@ -70,15 +70,19 @@ fn is_given(
     Ok(are_entries(alloc, layer.entries(), entries)? && are_items(alloc, layer.items(), items)?)
 }
 
+/// Whether the file gives its layer.
+fn gives(alloc: Global, &(text, entries, items): &Given) -> Result<bool, AllocError> {
+    match read_gerber(alloc, text) {
+        Ok(layer) => is_given(alloc, &layer, entries, items),
+        Err(_) => Ok(false),
+    }
+}
+
 #[test]
 fn layers_of_files(rt: HostRuntime) -> Result<(), Fail> {
     for table in [OPERATIONS, CONTOURS, BLOCKS, REPEATS] {
-        for &(text, entries, items) in table {
-            let is_right = match read_gerber(rt.alloc(), text) {
-                Ok(layer) => is_given(rt.alloc(), &layer, entries, items)?,
-                Err(_) => false,
-            };
-            assert!(rt; is_right, "{text:?}");
+        for file in table {
+            assert!(rt; gives(rt.alloc(), file)?, "{:?}", file.0);
         }
     }
     Ok(())
