@@ -7,12 +7,11 @@ ghost use Rattle.cam_objects.specs.DrillSoundness.{IsSoundDrillLayer};
 mod rows;
 
 use crate::places::{At, box_of, place};
-use crate::xnc::files::Drilled;
 use cam_objects::{DrillItem, DrillLayer, ItemCells, ItemFault, Points, drill_layers_stay_sound};
 use cam_units::{Nm, Point};
 use rows::{
-    Boxed, DRILL_BOXES, DRILL_ITEMS, DRILL_POINTED, DRILLINGS, Drilling, KITS, Kit, LONG_ROUTS,
-    Pointed,
+    Boxed, DRILL_BOXES, DRILL_ITEMS, DRILL_POINTED, DRILLINGS, Drilled, Drilling, KITS, Kit,
+    LONG_ROUTS, Pointed,
 };
 use std::alloc::{AllocError, Global};
 use std::slice;

@@ -2,16 +2,11 @@
 
 ghost use Rattle.cam_objects.specs.Soundness.{IsSound};
 
-mod blocks;
-mod contours;
 mod faults;
-mod given;
 mod layers;
 mod limits;
 mod long;
-mod operations;
 mod refusals;
-mod repeats;
 mod several;
 mod sizes;
 

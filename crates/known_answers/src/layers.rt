@@ -5,7 +5,6 @@ ghost use Rattle.std.specs.Prelude.{IfSome};
 ghost use Rattle.cam_objects.specs.Cells.{AreCellsOf, item_boxes};
 ghost use Rattle.cam_objects.specs.Soundness.{IsSound};
 
-mod blocks;
 mod boxes;
 pub(crate) mod building;
 mod dictionaries;
@@ -13,14 +12,9 @@ mod forms;
 mod limits;
 mod pointing;
 mod reaches;
-mod rectangles;
-mod regions;
-mod repeats;
 pub(crate) mod rows;
-mod strokes;
 
 use crate::places::{At, box_of, place};
-use blocks::BLOCKS;
 use boxes::BOXES;
 use building::{dictionary, entry, item, layer};
 use cam_objects::{ItemCells, ItemFault, Layer};
@@ -30,58 +24,16 @@ use forms::FORMS;
 use limits::{ENTRIES, ROOMS};
 use pointing::POINTED;
 use reaches::REACHES;
-use rectangles::RECTANGLES;
-use regions::REGIONS;
-use repeats::REPEATS;
-use rows::{Added, Boxed, Checked, Drawn, Enclosed, Filled, Found, Listed, Picture, Pointed};
+use rows::{Added, Boxed, Checked, Drawn, Enclosed, Filled, Found, Listed, Pointed};
 use std::alloc::{AllocError, Global};
 use std::slice;
 use std::test::Fail;
-use strokes::STROKES;
 
 /// A flash.
 const DOT: Listed = Listed::One(Drawn::Flash(10, (0, 0), Turn::R0, true));
 
 /// A number of items, and whether there is room behind them.
 const COUNTS: &[(u32, bool)] = &[(0, true), (999_999, true), (1_000_000, false)];
-
-/// Whether the places are all black, or all white.
-fn are(layer: &Layer, places: &[At], black: bool) -> bool
-    requires { IsSound layer.now }
-{
-    for at in places {
-        let Some(spot) = place(*at) else {
-            return false;
-        };
-        if layer.black_at(spot) != black {
-            return false;
-        }
-    }
-    true
-}
-
-/// Whether the layer shows the row's places.
-fn has_places(layer: &Layer, row: &Picture) -> bool
-    requires { IsSound layer.now }
-{
-    are(layer, row.black, true) && are(layer, row.white, false)
-}
-
-/// Whether the layer and a copy show the row's places.
-fn keeps_places(layer: &Layer, row: &Picture) -> Result<bool, AllocError>
-    requires { IsSound layer.now }
-{
-    let copy = layer.try_copy()?;
-    Ok(has_places(layer, row) && has_places(&copy, row))
-}
-
-/// Whether the layer is made, and it and a copy show the row's places.
-fn shows(alloc: Global, row: &Picture) -> Result<bool, AllocError> {
-    match layer(alloc, row.entries, row.items)? {
-        Some(layer) => keeps_places(&layer, row),
-        None => Ok(false),
-    }
-}
 
 /// The box of these sides, and the empty one of none.
 fn box_or_empty(sides: Option<[i64; 4]>) -> Bounds {
@@ -202,16 +154,6 @@ fn has_room_for_dots(alloc: Global, count: u32) -> Result<Option<bool>, AllocErr
     }
 }
 
-/// The place in the table of the first row that is not shown so.
-fn first_wrong(alloc: Global, rows: &[Picture]) -> Result<Option<usize>, AllocError> {
-    for (place, row) in rows.iter().enumerate() {
-        if !shows(alloc, row)? {
-            return Ok(Some(place));
-        }
-    }
-    Ok(None)
-}
-
 /// The place in the table of the first item that is not checked so.
 fn first_misjudged(alloc: Global, rows: &[Checked]) -> Result<Option<usize>, AllocError> {
     for (place, row) in rows.iter().enumerate() {
@@ -220,41 +162,6 @@ fn first_misjudged(alloc: Global, rows: &[Checked]) -> Result<Option<usize>, All
         }
     }
     Ok(None)
-}
-
-#[test]
-fn stroke_pictures(rt: HostRuntime) -> Result<(), Fail> {
-    let wrong = first_wrong(rt.alloc(), STROKES)?;
-    assert!(rt; wrong.is_none(), "{wrong:?}");
-    Ok(())
-}
-
-#[test]
-fn rectangle_pictures(rt: HostRuntime) -> Result<(), Fail> {
-    let wrong = first_wrong(rt.alloc(), RECTANGLES)?;
-    assert!(rt; wrong.is_none(), "{wrong:?}");
-    Ok(())
-}
-
-#[test]
-fn region_pictures(rt: HostRuntime) -> Result<(), Fail> {
-    let wrong = first_wrong(rt.alloc(), REGIONS)?;
-    assert!(rt; wrong.is_none(), "{wrong:?}");
-    Ok(())
-}
-
-#[test]
-fn block_pictures(rt: HostRuntime) -> Result<(), Fail> {
-    let wrong = first_wrong(rt.alloc(), BLOCKS)?;
-    assert!(rt; wrong.is_none(), "{wrong:?}");
-    Ok(())
-}
-
-#[test]
-fn repeat_pictures(rt: HostRuntime) -> Result<(), Fail> {
-    let wrong = first_wrong(rt.alloc(), REPEATS)?;
-    assert!(rt; wrong.is_none(), "{wrong:?}");
-    Ok(())
 }
 
 #[test]

@@ -3,6 +3,7 @@
 ghost use Rattle.std.specs.Prelude.{IfSome};
 ghost use Rattle.cam_units.specs.Board.{IsPlace};
 
+use crate::tables::{cut, number_in};
 use cam_units::{Bounds, Spot};
 
 /// A point in nm or a place in half nm, as rows write it.
@@ -20,6 +21,14 @@ pub(crate) fn place(at: At) -> Option<Spot>
         return None;
     }
     Some(Spot { x, y })
+}
+
+/// The place `x,y`, where it lies on the board.
+pub(crate) fn place_in(text: &[u8]) -> Option<Spot>
+    ensures { IfSome result IsPlace }
+{
+    let (x, y) = cut(text, b',')?;
+    place((number_in(x)?, number_in(y)?))
 }
 
 /// The box of these sides in half nm: left, below, right, above.

@@ -21,7 +21,7 @@ pub(crate) fn rows_of(
 }
 
 /// The texts before and behind the first of these bytes.
-fn cut(text: &[u8], mark: u8) -> Option<(&[u8], &[u8])> {
+pub(crate) fn cut(text: &[u8], mark: u8) -> Option<(&[u8], &[u8])> {
     let mut parts = text.splitn(2, |byte| *byte == mark);
     Some((parts.next()?, parts.next()?))
 }
@@ -36,10 +36,15 @@ pub(crate) fn two_texts(text: &[u8]) -> Option<(&[u8], &[u8])> {
     cut(text, b'!')
 }
 
+/// The whole number that the word is.
+pub(crate) fn number_in(word: &[u8]) -> Option<i64> {
+    str::from_utf8(word).ok()?.parse().ok()
+}
+
 /// A whole number, and the text behind it.
 pub(crate) fn number(row: &[u8]) -> Option<(i64, &[u8])> {
     let (word, text) = word(row)?;
-    Some((str::from_utf8(word).ok()?.parse().ok()?, text))
+    Some((number_in(word)?, text))
 }
 
 /// A number of one byte, and the text behind it.

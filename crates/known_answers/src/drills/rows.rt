@@ -1,10 +1,15 @@
 //! Drill layers: images and boxes by an independent program, refusals by hand.
 
 use crate::places::At;
-use crate::xnc::files::Drilled;
 use Drilled::{Hit, Rout};
 use ItemFault::{Malformed, OutOfBoard, UnknownTool};
 use cam_objects::ItemFault;
+
+/// A hole or a slot: its tool, and its point or points in nm.
+pub enum Drilled {
+    Hit(u16, (i64, i64)),
+    Rout(u16, &'static [(i64, i64)]),
+}
 
 /// The numbers of tools and their diameters in nm.
 pub type Kit = &'static [(u16, i64)];

@@ -47,14 +47,6 @@ pub enum Listed {
 
 pub type Entries = &'static [(u32, Entered)];
 
-/// A layer, and places that are black and that are white.
-pub struct Picture {
-    pub entries: Entries,
-    pub items: &'static [Listed],
-    pub black: &'static [At],
-    pub white: &'static [At],
-}
-
 /// Entries, an item, and its box in half nm: left, below, right, above; `None` where it is empty.
 pub type Boxed = (Entries, Listed, Option<[i64; 4]>);
 
