@@ -9,7 +9,7 @@ BLOCK = re.compile(r"^(?:unsafe )?impl(?:<.*?>)? (?:(?P<of>\S+) for )?&?(?:'\w+ 
 TRAIT = re.compile(r"^(?:pub(?:\([a-z]+\))? )?trait (?P<type>\w+)")
 CONSTANT = re.compile(r"^ *(?:pub(?:\([a-z]+\))? )?(?:const|static) (\w+)\s*:")
 TACTIC = re.compile(r"#\[tactic\([^\]]*\]")
-# What is of use without its proof, or has one with others.
+# Functions that keep their bodies: under a condition, of a cycle with one proof, exported, computed, over raw pointers.
 KEEPS_BODY = re.compile(r"#\[(?:cfg|cycle|test|unsafe)\b|\b(?:const|unsafe) fn ")
 # The proof of a function whose body is `unreachable!()`, with a hole for its only goal.
 HOLE = """use Rattle.{}.proofs.{}.Goals as goal
