@@ -1,5 +1,5 @@
-//! Layers and their images (Gerber Layer Format Specification, "Graphics objects", "Region statement", "Block Aperture
-//! (AB)" and "Step and Repeat (SR)").
+//! Layers: what they refuse and have room for, the boxes of items, and what lies at a place (Gerber Layer Format
+//! Specification, "Graphics objects", "Block Aperture (AB)" and "Step and Repeat (SR)").
 
 ghost use Rattle.std.specs.Prelude.{IfSome};
 ghost use Rattle.cam_objects.specs.Cells.{AreCellsOf, item_boxes};

@@ -1,4 +1,5 @@
-//! What flashes, draws and arcs give, and in what state: Gerber files, and the canonical texts of their layers, worked out by hand.
+//! What flashes, draws and arcs give, and in what state: Gerber files, and the canonical texts of their layers, worked out
+//! by hand.
 
 use super::layers::Written;
 
