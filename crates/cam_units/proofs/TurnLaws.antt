@@ -30,6 +30,10 @@ product_assoc l m n =
     (entry l.yx l.yy m.xx m.xy m.yx m.yy n.xx n.yx)
     (entry l.yx l.yy m.xx m.xy m.yx m.yy n.xy n.yy)
 
+-- a step after others
+pub one_more : (m n s q r : Matrix) → r ≡ product m q → q ≡ product n s → r ≡ product (product m n) s
+one_more m n s q r last before = last ∙ ap (product m) before ∙ sym (product_assoc m n s)
+
 pub same_point : (p q : Point) → p.x ≡ q.x → p.y ≡ q.y → p ≡ q
 same_point p q e f = λ i. record { x = e i; y = f i }
 
