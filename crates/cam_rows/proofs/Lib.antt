@@ -21,6 +21,7 @@ pub mod LevelSteps
 pub mod Middles
 pub mod NarrowedRuns
 pub mod NearRows
+pub mod NextCrossings
 pub mod OneRow
 pub mod PartRuns
 pub mod Quarters

@@ -12,10 +12,6 @@ use Rattle.cam_rows.proofs.SlopeParts.{next_whole}
 pub kept_fitting : (z : ℤ) → FitsSigned w64 z → narrow z ≡ z
 kept_fitting z h = omega (arith, ints)
 
-pub kept_less : (r t d : ℤ) → unsigned_abs r ≤ 2 ^ 61 → unsigned_abs t ≤ 2 ^ 61 → unsigned_abs d ≤ 2 ^ 61
-    → narrow (narrow (narrow r +ℤ narrow t) -ℤ narrow d) ≡ r +ℤ t -ℤ d
-kept_less r t d h k m = omega (arith, ints)
-
 kept_next : (q : ℤ) → unsigned_abs q ≤ 2 ^ 61 → narrow (narrow (wide q) +ℤ pos 1) ≡ q +ℤ pos 1
 kept_next q h = omega (arith, ints)
 

@@ -61,13 +61,15 @@ impl Crossing {
         ensures near { (bound : ℕ) → IsCrossing steps.now bound self → IsCrossing steps.now (bound + 2 ^ 41) result }
     {
         let columns = self.columns + steps.columns;
+        // two sums of which one is chosen: a jump about a subtraction would be guessed wrong in many rows
         let rest = self.rest + steps.rest;
-        if rest < 0 {
+        let past = self.rest - (steps.divisor - steps.rest);
+        if past < -steps.divisor {
             return Crossing { columns, rest };
         }
         Crossing {
             columns: columns + 1,
-            rest: rest - steps.divisor,
+            rest: past,
         }
     }
 }

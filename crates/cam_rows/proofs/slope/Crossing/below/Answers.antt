@@ -1,25 +1,45 @@
-use Rattle.std.proofs.Common.{◌≡◌, pos, ◌+ℤ◌, ◌-ℤ◌, ◌∙◌, arith}
+use Rattle.std.proofs.Common.{pos, ◌+ℤ◌, ◌<ℤ◌, ◌≤ℤ◌, ◌∙◌, arith}
 use Rattle.std.proofs.lemmas.Int.{ints}
-use Rattle.cam_shapes.proofs.Widths.{narrow}
-use Rattle.cam_rows.proofs.ShortSlopes.{kept_less}
+use Rattle.cam_rows.proofs.NextCrossings.{columns_kept, minus_kept, near_below, near_past, next_kept, past_kept, rest_kept}
 use Rattle.cam_rows.proofs.SlopeParts.{few_whole, next_whole}
 use Rattle.cam_rows.proofs.slope.Crossing.below.Goals as goal
 
-pub returns-then-rest-lt0-clause-lowered : goal.returns-then-rest-lt0-clause-lowered
-returns-then-rest-lt0-clause-lowered c =
+pub returns-then-past-steps-clause-lowered : goal.returns-then-past-steps-clause-lowered
+returns-then-past-steps-clause-lowered c =
     let s = c.args.self in
     let t = c.args.steps.now in
-    let columns : narrow (narrow s.columns +ℤ narrow t.columns) ≡ s.columns +ℤ t.columns = omega (arith, ints) in
-    let rest : narrow (narrow s.rest +ℤ narrow t.rest) ≡ s.rest +ℤ t.rest = omega (arith, ints) in
+    let columns = columns_kept s.columns t.columns c.requires.here.near c.requires.steps.columns in
+    let rest = rest_kept s.rest t.rest t.divisor c.requires.here.low c.requires.here.high c.requires.steps.divisor c.requires.steps.rest in
     rw (columns, rest) (few_whole s.columns s.rest t.divisor t.columns t.rest)
+
+pub returns-then-past-steps-clause-near : goal.returns-then-past-steps-clause-near
+returns-then-past-steps-clause-near c bound here =
+    let s = c.args.self in
+    let t = c.args.steps.now in
+    let short = c.requires.steps.divisor in
+    let columns = columns_kept s.columns t.columns c.requires.here.near c.requires.steps.columns in
+    let rest = rest_kept s.rest t.rest t.divisor here.low here.high short c.requires.steps.rest in
+    let past = past_kept s.rest t.rest t.divisor here.low here.high short c.requires.steps.rest in
+    let minus = minus_kept t.divisor short in
+    let less : (s.rest +ℤ t.rest) <ℤ pos 0 = omega (arith, ints, past, minus, c.if-past-steps.true) in
+    rw (columns, rest) (near_below t s bound c.requires.steps here less)
 
 pub returns-clause-lowered : goal.returns-clause-lowered
 returns-clause-lowered c =
     let s = c.args.self in
     let t = c.args.steps.now in
-    let columns : narrow (narrow (narrow s.columns +ℤ narrow t.columns) +ℤ pos 1)
-    ≡ s.columns +ℤ t.columns +ℤ pos 1 = omega (arith, ints) in
-    let rest : narrow (narrow (narrow s.rest +ℤ narrow t.rest) -ℤ narrow t.divisor)
-    ≡ s.rest +ℤ t.rest -ℤ t.divisor = kept_less s.rest t.rest t.divisor (omega (arith, ints)) (omega (arith, ints)) (omega (arith, ints)) in
+    let columns = next_kept s.columns t.columns c.requires.here.near c.requires.steps.columns in
+    let rest = past_kept s.rest t.rest t.divisor c.requires.here.low c.requires.here.high c.requires.steps.divisor c.requires.steps.rest in
     rw (columns, rest) (next_whole (s.columns +ℤ t.columns) (s.rest +ℤ t.rest) t.divisor
     ∙ few_whole s.columns s.rest t.divisor t.columns t.rest)
+
+pub returns-clause-near : goal.returns-clause-near
+returns-clause-near c bound here =
+    let s = c.args.self in
+    let t = c.args.steps.now in
+    let short = c.requires.steps.divisor in
+    let columns = next_kept s.columns t.columns c.requires.here.near c.requires.steps.columns in
+    let past = past_kept s.rest t.rest t.divisor here.low here.high short c.requires.steps.rest in
+    let minus = minus_kept t.divisor short in
+    let more : pos 0 ≤ℤ (s.rest +ℤ t.rest) = omega (arith, ints, past, minus, c.if-past-steps.false) in
+    rw (columns, past) (near_past t s bound c.requires.steps here more)
