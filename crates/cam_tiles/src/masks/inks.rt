@@ -157,14 +157,16 @@ impl Inks {
         self.first_open(0) as usize == self.tiles
     }
 
-    /// Looks anew at those of many tiles that are not known to be decided, so that later ones pass over them; of a few, each
-    /// is looked at where it is needed.
-    pub(crate) fn look(&mut self, tiles: Span)
+    /// Looks anew at those of the tiles of runs that are not known to be decided, so that later ones pass over them; where
+    /// their box reaches few tiles, each is looked at where it is needed.
+    pub(crate) fn look(&mut self, reached: Span, runs: &Runs)
+        requires { runs.now.band.end ≤ 64 }
         ensures { self.new ≡ self.old }
     {
-        if tiles.end <= tiles.first.saturating_add(2) {
+        if reached.end <= reached.first.saturating_add(2) {
             return;
         }
+        let tiles = runs.tiles();
         let end = tiles.end.min(self.tiles as u32);
         let mut tile = tiles.first;
         while tile < end {
@@ -187,7 +189,11 @@ impl Inks {
                 tile = open;
             } else {
                 let bits = run_row(columns.first, columns.end, 64 * tile, 64);
-                if !are_set(&self.decided, tile, rows, bits) {
+                let open_rows = Span {
+                    first: rows.first.max(self.known[tile as usize]),
+                    end: rows.end,
+                };
+                if !are_set(&self.decided, tile, open_rows, bits) {
                     return false;
                 }
                 tile += 1;

@@ -1,6 +1,6 @@
 //! Runs of columns in the rows of tiles side by side.
 
-ghost use Rattle.std.specs.Prelude.{◌≡◌, ◌↔◌, ◌⊎◌, ◌<◌, ◌≤◌, ℕ, IsTrue, length, slice_index};
+ghost use Rattle.std.specs.Prelude.{◌≡◌, ◌↔◌, ◌⊎◌, ◌/◌, ◌<◌, ◌≤◌, ℕ, IsTrue, length, slice_index};
 ghost use Rattle.cam_units.specs.Board.{IsOnBoard};
 ghost use Rattle.cam_objects.specs.Image.{relative};
 ghost use Rattle.cam_shapes.specs.Arc.{IsSoundArc};
@@ -122,6 +122,24 @@ impl Runs {
     {
         let (row, other) = (row as usize, other as usize);
         self.firsts[other] == self.firsts[row] && self.ends[other] == self.ends[row]
+    }
+
+    /// The tiles in which its columns lie: of a slanted draw, few of those that its box reaches.
+    pub(crate) fn tiles(&self) -> Span
+        requires { self.now.band.end ≤ 64 }
+        ensures { (row column : ℕ) → HasColumn self.now row column
+            → (result.first ≤ column / 64) × (column / 64 < result.end) }
+    {
+        let mut columns = Span {
+            first: u32::MAX,
+            end: 0,
+        };
+        for row in self.band.first..self.band.end {
+            let run = self.columns(row);
+            columns.first = columns.first.min(run.first);
+            columns.end = columns.end.max(run.end);
+        }
+        columns.tiles()
     }
 
     /// The run of a row.

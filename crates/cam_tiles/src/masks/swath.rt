@@ -292,7 +292,7 @@ fn take_runs(inks: &mut Inks, tiles: Span, runs: &FigureRuns, dark: bool)
     }
     inks.take_each(&runs.start, dark);
     inks.take_each(&runs.end, dark);
-    inks.look(tiles);
+    inks.look(tiles, &runs.body);
 }
 
 /// A box that holds the centres in the rows of a grid, in as many columns from its left on, in half nm.
