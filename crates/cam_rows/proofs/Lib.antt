@@ -24,6 +24,7 @@ pub mod NearRows
 pub mod NextCrossings
 pub mod OneRow
 pub mod PartRuns
+pub mod PassedOn
 pub mod Quarters
 pub mod Quotients
 pub mod Rings

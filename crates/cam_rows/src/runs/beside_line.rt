@@ -17,7 +17,6 @@ use cam_units::Point;
 
 /// The runs of the places near the line through two points, in wide rows, one below another from the top one: those at
 /// which the cross product with the way is at most `reach` from 0.
-#[tactic(auto, using(crate::proofs::Quotients::kept_number, crate::proofs::WideRows::top_is_wide))]
 pub(super) fn runs_beside(
     from: &Point,
     to: &Point,

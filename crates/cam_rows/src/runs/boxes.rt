@@ -13,7 +13,7 @@ use cam_units::{Point, Spot};
 
 /// The runs of a box in wide rows, one below another from the top one, by its left lower and right upper corners: the
 /// same run in each row that crosses it, by two divisions for all of them.
-#[tactic(auto, using(crate::proofs::WideRows::top_is_wide, crate::proofs::WideRows::no_run))]
+#[tactic(auto, using(crate::proofs::WideRows::no_run))]
 pub(crate) fn box_runs(low: &Spot, high: &Spot, top: &Centres, firsts: &mut [u32], ends: &mut [u32])
     requires left { unsigned_abs low.now.x < 2 ^ 61 }
     requires right { unsigned_abs high.now.x < 2 ^ 61 }

@@ -36,7 +36,6 @@ pub fn edge_runs(from: Point, to: Point, top: &Centres, ends: &mut [u32]) -> Opt
 }
 
 /// The runs of the columns strictly left of the line from a point to a higher one, in the same way.
-#[tactic(auto, using(crate::proofs::CountedRuns::falls_right, crate::proofs::WideRows::top_is_wide))]
 fn runs_left(from: &Point, to: &Point, top: &Centres, ends: &mut [u32]) -> Option<u32>
     requires from { IsOnBoard from.now }
     requires to { IsOnBoard to.now }

@@ -2,6 +2,7 @@ use Rattle.std.proofs.Common.{length, arith}
 use Rattle.std.proofs.lemmas.Int.{ints}
 use Rattle.cam_units.specs.Boxes.{IsBetween as IsInBox}
 use Rattle.cam_rows.specs.Rows.{centre_at, row_below}
+use Rattle.cam_rows.proofs.PassedOn.{no_rows, runs_of_none, some_rows}
 use Rattle.cam_rows.proofs.WideRows.{all_found, in_box_run, one_more_run, top_is_wide}
 use Rattle.cam_rows.proofs.runs.boxes.box_runs.Goals as goal
 
@@ -32,3 +33,13 @@ pub returns : goal.returns
 returns c =
     all_found c.loop-k.firsts c.loop-k.ends c.args.top.now (λ s. IsInBox c.args.low.now c.args.high.now s) c.loop-k.k
     (omega (arith, c.loop-k-test.false)) c.loop-k.invariant
+
+pub returns-then-is_empty : goal.returns-then-is_empty
+returns-then-is_empty c =
+    runs_of_none c.args.firsts.now c.args.ends.now c.args.top.now _
+    (no_rows _ _ c.is_empty.ensures c.if-is_empty.true)
+
+pub columns_in-all-requires-clause-row : goal.columns_in-all-requires-clause-row
+columns_in-all-requires-clause-row c =
+    top_is_wide c.args.top.now (length c.args.firsts.now) (some_rows _ _ c.is_empty.ensures c.if-is_empty.false)
+    c.requires.rows

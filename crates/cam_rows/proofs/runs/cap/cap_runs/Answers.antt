@@ -2,7 +2,8 @@ use Rattle.std.proofs.Common.{IsTrue, length, sym, ◌∙◌}
 use Rattle.cam_shapes.specs.Cap.{is_in_cap, is_in_circle, is_on_side}
 use Rattle.cam_shapes.specs.Plane.{seen_from, way}
 use Rattle.cam_rows.proofs.CapRows.{all_of_circle, part_of_circle}
-use Rattle.cam_rows.proofs.WideRows.{leftmost_rows, runs_like, half_narrowed, runs_kept}
+use Rattle.cam_rows.proofs.PassedOn.{no_rows, runs_of_none, some_rows}
+use Rattle.cam_rows.proofs.WideRows.{leftmost_rows, runs_like, half_narrowed, runs_kept, top_is_wide}
 use Rattle.cam_rows.proofs.runs.cap.cap_runs.Goals as goal
 
 pub narrow-requires-clause-short : goal.narrow-requires-clause-short
@@ -31,3 +32,24 @@ returns c =
     c.circle_runs.ensures
     (half_narrowed _ _ _ _ _ top c.leftmost.result (λ s. IsTrue (is_on_side s cap)) c.side.result c.leftmost.ensures.value
     c.side.ensures c.narrow.ensures) c.narrow.auto.firsts)
+
+pub returns-then-is_empty : goal.returns-then-is_empty
+returns-then-is_empty c =
+    runs_of_none c.args.firsts.now c.args.ends.now c.args.top.now _
+    (no_rows _ _ c.is_empty.ensures c.if-is_empty.true)
+
+pub circle_runs-requires-clause-some : goal.circle_runs-requires-clause-some
+circle_runs-requires-clause-some c = some_rows _ _ c.is_empty.ensures c.if-is_empty.false
+
+pub leftmost-requires : goal.leftmost-requires
+leftmost-requires c =
+    top_is_wide c.args.top.now (length c.args.firsts.now) (some_rows _ _ c.is_empty.ensures c.if-is_empty.false)
+    c.requires.rows
+
+pub narrow-requires-clause-few : goal.narrow-requires-clause-few
+narrow-requires-clause-few c =
+    (top_is_wide c.args.top.now (length c.args.firsts.now) (some_rows _ _ c.is_empty.ensures c.if-is_empty.false)
+    c.requires.rows).count.1
+
+pub narrow-requires-clause-ends : goal.narrow-requires-clause-ends
+narrow-requires-clause-ends c = rw (c.circle_runs.auto.ends, c.circle_runs.auto.firsts) c.requires.ends

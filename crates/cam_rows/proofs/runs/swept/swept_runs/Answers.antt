@@ -1,32 +1,35 @@
-use Rattle.std.proofs.Common.{◌≡◌, ◌<ℤ◌, pos, to_z, of_z, inl, inr, ◌∙◌, arith}
-use Rattle.std.specs.Int.{w64, w128}
-use Rattle.std.proofs.lemmas.Int.{ints}
+use Rattle.std.proofs.Common.{◌≡◌, ◌<ℤ◌, pos, inl, inr, sym, refl, ◌∙◌, arith}
 use Rattle.cam_units.specs.Boxes.{IsBetween as IsInBox}
 use Rattle.cam_shapes.specs.Swept.{IsAlongAxis, IsInSwept, high_corner, low_corner}
 use Rattle.cam_shapes.proofs.SweptLaws.{axis}
 use Rattle.cam_rows.specs.Machinery.HalfPlanes.{IsLeft}
 use Rattle.cam_rows.specs.Runs.{AreRuns}
 use Rattle.cam_rows.proofs.BesideWays.{near_line}
+use Rattle.cam_shapes.proofs.Widths.{wide as wide_number}
+use Rattle.cam_rows.proofs.PassedOn.{kept_reach, kept_size, no_rows, none_by_bits, passed_reach, passed_size}
+use Rattle.cam_rows.proofs.PassedOn.{runs_of_none, same_by_bits, some_by_bits, some_rows}
 use Rattle.cam_rows.proofs.SweptRows.{in_box_and_near}
-use Rattle.cam_rows.proofs.WideRows.{runs_like, runs_kept}
+use Rattle.cam_rows.proofs.WideRows.{empty_runs, runs_like, runs_kept}
 use Rattle.cam_rows.proofs.runs.swept.swept_runs.Goals as goal
 use Rattle.cam_rows.proofs.runs.swept.swept_runs.Goals.{After-box_runs}
 use Rattle.cam_rows.proofs.runs.swept.swept_runs.Goals.{then-from-to-via-else-from-to+then-from-to-2}
 use Rattle.cam_rows.proofs.runs.swept.swept_runs.Goals.{then-from-to-via-then-from-to}
+use Rattle.cam_rows.proofs.runs.swept.swept_runs.Goals.{then-width-eq0-via-then-width-eq0}
+use Rattle.cam_rows.proofs.runs.swept.swept_runs.Goals.{then-width-eq0-via-else-width-eq0+then-height-eq0}
 
 wide : (c : After-box_runs) → pos 0 <ℤ c.args.swept.now.width.0
-wide c = omega (arith, ints, c.requires.swept.width, c.if-width-eq0.false)
+wide c = some_by_bits c.args.swept.now.width.0 c.requires.swept.width c.if-width-eq0.false
 
 high : (c : After-box_runs) → pos 0 <ℤ c.args.swept.now.height.0
-high c = omega (arith, ints, c.requires.swept.height, c.if-height-eq0.false)
+high c = some_by_bits c.args.swept.now.height.0 c.requires.swept.height c.if-height-eq0.false
 
 boxed : (c : After-box_runs) → AreRuns c.box_runs.new.firsts c.box_runs.new.ends c.args.top.now
     (λ s. IsInBox (low_corner c.args.swept.now) (high_corner c.args.swept.now) s)
 boxed c =
     let r = c.args.swept.now in
     let told = c.widened_ends.ensures in
-    let wide : to_z w64 (of_z w64 r.width.0) ≡ r.width.0 = omega (arith, ints, c.requires.swept.width) in
-    let high : to_z w64 (of_z w64 r.height.0) ≡ r.height.0 = omega (arith, ints, c.requires.swept.height) in
+    let wide = kept_size r.width.0 c.requires.swept.width in
+    let high = kept_size r.height.0 c.requires.swept.height in
     let left = rw wide at told.left in
     let below = rw high at told.below in
     let right = rw wide at told.right in
@@ -40,9 +43,10 @@ returns-then-from-to c =
     let at = (goal.at.returns-then-from-to c).After-box_runs in
     let r = c.args.swept.now in
     let along : IsAlongAxis r = elim c.then-from-to.branch [
-      | then-from-to-via-then-from-to w ↦ inl (omega (arith, ints, c.requires.swept.from, c.requires.swept.to))
+      | then-from-to-via-then-from-to w ↦
+          inl (same_by_bits r.from.x r.to.x c.requires.swept.from.x c.requires.swept.to.x w.if-from-to.true)
       | then-from-to-via-else-from-to+then-from-to-2 w ↦
-          inr (omega (arith, ints, c.requires.swept.from, c.requires.swept.to))
+          inr (same_by_bits r.from.y r.to.y c.requires.swept.from.y c.requires.swept.to.y w.if-from-to-2.true)
     ] in
     runs_like c.box_runs.new.firsts c.box_runs.new.ends c.args.top.now
     (λ s. IsInBox (low_corner r) (high_corner r) s) (λ s. IsInSwept s r)
@@ -55,8 +59,8 @@ returns c =
     let top = c.args.top.now in
     let first = c.narrow_left.new in
     let second = c.narrow_left-2.new in
-    let reach = to_z w128 (of_z w128 c.corner_reach-reach.result) in
-    let kept : reach ≡ c.corner_reach-reach.result = omega (arith, ints, c.corner_reach-reach.ensures.bound) in
+    let reach = wide_number c.corner_reach-reach.result in
+    let kept = kept_reach c.corner_reach-reach.result c.corner_reach-reach.ensures.bound in
     let one = runs_kept c.box_runs.new.firsts c.box_runs.new.ends first.firsts first.ends top
     (λ s. IsInBox (low_corner r) (high_corner r) s) (IsLeft r.from r.to reach) (boxed at) c.narrow_left.ensures
     c.narrow_left.auto.firsts in
@@ -72,3 +76,60 @@ returns c =
           let sides = near.0 parts.1 in
           ((parts.0, sides.0), sides.1)),
     )) two
+
+pub returns-then-is_empty : goal.returns-then-is_empty
+returns-then-is_empty c =
+    runs_of_none c.args.firsts.now c.args.ends.now c.args.top.now _
+    (no_rows _ _ c.is_empty.ensures c.if-is_empty.true)
+
+pub returns-then-width-eq0 : goal.returns-then-width-eq0
+returns-then-width-eq0 c =
+    let fill = c.fill-then-width-eq0 in
+    empty_runs c.fill.new.self fill.new.self c.args.top.now (λ s. IsInSwept s c.args.swept.now)
+    (λ k within. fill.ensures.clones k 0 (omega (arith, within, c.fill.ensures.len, c.requires.ends)) refl)
+    (λ s inside. elim c.then-width-eq0.branch [
+      | then-width-eq0-via-then-width-eq0 w ↦ none_by_bits _ c.requires.swept.width w.if-width-eq0.true inside.wide
+      | then-width-eq0-via-else-width-eq0+then-height-eq0 w ↦
+          none_by_bits _ c.requires.swept.height w.if-height-eq0.true inside.high
+    ])
+
+pub widened_ends-requires-clause-across : goal.widened_ends-requires-clause-across
+widened_ends-requires-clause-across c = passed_size c.args.swept.now.width.0 c.requires.swept.width
+
+pub widened_ends-requires-clause-along : goal.widened_ends-requires-clause-along
+widened_ends-requires-clause-along c = passed_size c.args.swept.now.height.0 c.requires.swept.height
+
+pub narrow_left-requires-clause-reach : goal.narrow_left-requires-clause-reach
+narrow_left-requires-clause-reach c = passed_reach c.corner_reach-reach.result c.corner_reach-reach.ensures.bound
+
+pub narrow_left-requires-clause-some : goal.narrow_left-requires-clause-some
+narrow_left-requires-clause-some c = rw c.box_runs.auto.firsts (some_rows _ _ c.is_empty.ensures c.if-is_empty.false)
+
+pub narrow_left-requires-clause-rows : goal.narrow_left-requires-clause-rows
+narrow_left-requires-clause-rows c = rw c.box_runs.auto.firsts c.requires.rows
+
+pub narrow_left-requires-clause-ends : goal.narrow_left-requires-clause-ends
+narrow_left-requires-clause-ends c = c.box_runs.auto.ends ∙ c.requires.ends ∙ sym c.box_runs.auto.firsts
+
+pub narrow_left-requires-2-clause-reach : goal.narrow_left-requires-2-clause-reach
+narrow_left-requires-2-clause-reach c = passed_reach c.corner_reach-reach.result c.corner_reach-reach.ensures.bound
+
+pub narrow_left-requires-2-clause-some : goal.narrow_left-requires-2-clause-some
+narrow_left-requires-2-clause-some c =
+    rw (c.narrow_left.auto.firsts, c.box_runs.auto.firsts) (some_rows _ _ c.is_empty.ensures c.if-is_empty.false)
+
+pub narrow_left-requires-2-clause-rows : goal.narrow_left-requires-2-clause-rows
+narrow_left-requires-2-clause-rows c = rw (c.narrow_left.auto.firsts, c.box_runs.auto.firsts) c.requires.rows
+
+pub narrow_left-requires-2-clause-ends : goal.narrow_left-requires-2-clause-ends
+narrow_left-requires-2-clause-ends c =
+    rw (c.narrow_left.auto.ends, c.narrow_left.auto.firsts, c.box_runs.auto.ends, c.box_runs.auto.firsts) c.requires.ends
+
+pub box_runs-requires-clause-left : goal.box_runs-requires-clause-left
+box_runs-requires-clause-left c = c.widened_ends.ensures.low_bound
+
+pub box_runs-requires-clause-right : goal.box_runs-requires-clause-right
+box_runs-requires-clause-right c = c.widened_ends.ensures.high_bound
+
+pub box_runs-requires-clause-rows : goal.box_runs-requires-clause-rows
+box_runs-requires-clause-rows c = c.requires.rows

@@ -1,7 +1,7 @@
 use Rattle.std.proofs.Common.{◌≡◌, ◌<◌, ◌^◌, pos, ◌+ℤ◌, ◌-ℤ◌, ◌*ℤ◌}
 use Rattle.std.specs.Int.RustNames.{unsigned_abs}
 use Rattle.cam_shapes.proofs.Widths.{wide}
-use Rattle.cam_rows.proofs.Gaps.{gap_fits}
+use Rattle.cam_rows.proofs.Gaps.{gap_fits, twice_fits}
 use Rattle.cam_rows.proofs.WayProducts.{first_x, first_y, gap_product, gap_product_fits, gaps_short, kept_sum, sum_fits}
 use Rattle.cam_rows.proofs.way.Way.first_dot.Goals as goal
 use Rattle.cam_rows.proofs.way.Way.first_dot.Goals.{After-from-4}
@@ -26,6 +26,16 @@ short c =
     c.args.self.now.y c.args.centres.now.y c.args.from.now.y
     c.requires.short.x (first_x c.args.centres.now c.requires.row) c.requires.from.x
     c.requires.short.y (first_y c.args.centres.now c.requires.row) c.requires.from.y
+
+pub overflow_mul-x : goal.overflow_mul-x
+overflow_mul-x c = twice_fits c.args.from.now.x c.requires.from.x
+
+pub overflow_sub-x : goal.overflow_sub-x
+overflow_sub-x c =
+    gap_fits c.args.centres.now.x c.args.from.now.x (first_x c.args.centres.now c.requires.row) c.requires.from.x
+
+pub overflow_mul-y : goal.overflow_mul-y
+overflow_mul-y c = twice_fits c.args.from.now.y c.requires.from.y
 
 pub overflow_sub-y : goal.overflow_sub-y
 overflow_sub-y c =
