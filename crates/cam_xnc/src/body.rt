@@ -207,7 +207,6 @@ impl DrillState {
     }
 
     /// A slot. Its end keeps from its start what it leaves out.
-    #[tactic(auto, using(crate::proofs::Slots::moved_twice))]
     fn slot(
         &mut self,
         start_x: Coordinate,

@@ -1,7 +1,7 @@
 //! Parts of a file, and modes of its body.
 
 /// The part of a file that a line stands in.
-#[derive(Clone, Copy, Debug, PartialEq, Eq)]
+#[derive(Clone, Copy)]
 pub enum Part {
     /// Before M48.
     Start,
@@ -10,7 +10,7 @@ pub enum Part {
 }
 
 /// What coordinates mean, and whether the tool is lowered.
-#[derive(Clone, Copy, Debug, PartialEq, Eq)]
+#[derive(Clone, Copy)]
 pub enum Mode {
     /// Coordinates are hits.
     Drilling,

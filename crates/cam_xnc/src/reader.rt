@@ -1,8 +1,10 @@
 //! Reads drill layers.
 
-ghost use Rattle.std.specs.Prelude.{◌≡◌, IfOk};
+ghost use Rattle.std.specs.Prelude.{◌≡◌, ◌⊎◌, [], Ok, Err, IfOk, IfErr};
 ghost use Rattle.cam_objects.specs.DrillSoundness.{IsSoundDrillLayer};
-ghost use Rattle.cam_xnc.specs.Reading.{IsReading, is_end_statement};
+ghost use Rattle.cam_xnc.specs.DrillState.{Past, layer_in};
+ghost use Rattle.cam_xnc.specs.Machinery.Tracking.{Tracks};
+ghost use Rattle.cam_xnc.specs.Reading.{IsReading, is_end_statement, no_memory, reading_of};
 
 use crate::bytes::{code_of, holds_bad_byte, is_blank, leading_skipped};
 use crate::lines::Lines;
@@ -20,6 +22,47 @@ fn is_end(statement: Statement) -> bool
     matches!(statement, Statement::End)
 }
 
+impl DrillState {
+    /// Obeys the lines of a file up to its first M30, or tells its first fault. Where memory is refused, the fault is
+    /// `NoMemory` at place 0.
+    fn read(&mut self, bytes: &[u8]) -> Result<(), ReadFault>
+        requires { Tracks [] self.old }
+        ensures ends { IfOk result (λ done. (past : Past)
+            × Tracks past self.new × (reading_of bytes.now ≡ Ok (layer_in past))) }
+        ensures fault { IfErr result (λ fault. (reading_of bytes.now ≡ Err fault) ⊎ (fault ≡ no_memory)) }
+    {
+        let mut lines = Lines::new(bytes);
+        while let Some(line) = lines.next() {
+            let code = code_of(line.text);
+            if is_blank(code) {
+                continue;
+            }
+            let at = line.at + leading_skipped(code);
+            if holds_bad_byte(code) {
+                return Err(ReadFault {
+                    code: Refusal::BadByte,
+                    at,
+                });
+            }
+            let Ok(statement) = statement_of(self.alloc, code) else {
+                return Err(ReadFault::NO_MEMORY);
+            };
+            match self.obey(statement) {
+                Ok(()) => {}
+                Err(Stop::Memory) => return Err(ReadFault::NO_MEMORY),
+                Err(Stop::Fault(code)) => return Err(ReadFault { code, at }),
+            }
+            if is_end(statement) {
+                return Ok(());
+            }
+        }
+        Err(ReadFault {
+            code: self.end_fault(),
+            at: bytes.len(),
+        })
+    }
+}
+
 /// The drill layer of an XNC file up to its first M30, or its first fault: that of the line
 /// which stands first, and of several at one line the one with the lowest number. Its place is
 /// that of the line's first byte which is not skipped, or the file's length where the end is
@@ -31,33 +74,9 @@ pub fn read_xnc(alloc: Global, bytes: &[u8]) -> Result<DrillLayer, ReadFault>
     ensures sound { IfOk result IsSoundDrillLayer }
 {
     let mut state = DrillState::new(alloc);
-    let mut lines = Lines::new(bytes);
-    while let Some(line) = lines.next() {
-        let code = code_of(line.text);
-        if is_blank(code) {
-            continue;
-        }
-        let at = line.at + leading_skipped(code);
-        if holds_bad_byte(code) {
-            return Err(ReadFault {
-                code: Refusal::BadByte,
-                at,
-            });
-        }
-        let Ok(statement) = statement_of(alloc, code) else {
-            return Err(ReadFault::NO_MEMORY);
-        };
-        match state.obey(statement) {
-            Ok(()) => {}
-            Err(Stop::Memory) => return Err(ReadFault::NO_MEMORY),
-            Err(Stop::Fault(code)) => return Err(ReadFault { code, at }),
-        }
-        if is_end(statement) {
-            return Ok(state.into_layer());
-        }
-    }
-    Err(ReadFault {
-        code: state.end_fault(),
-        at: bytes.len(),
-    })
+    let read = state.read(bytes);
+    // Before the `?`: a record that an early return drops whole makes the proof dear.
+    let layer = state.into_layer();
+    read?;
+    Ok(layer)
 }

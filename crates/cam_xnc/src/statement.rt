@@ -3,7 +3,7 @@
 use cam_units::Unit;
 
 /// The X or the Y of a line (XNC Format Specification, "Coordinates").
-#[derive(Clone, Copy, Debug, PartialEq, Eq)]
+#[derive(Clone, Copy)]
 pub enum Coordinate {
     /// Not written: it keeps its last value.
     Omitted,
@@ -17,7 +17,7 @@ pub enum Coordinate {
 
 /// What a line of a file says, its comment and its skipped bytes left out. A number that does
 /// not fit its grammar is `None`.
-#[derive(Clone, Copy, Debug, PartialEq, Eq)]
+#[derive(Clone, Copy)]
 pub enum Statement {
     /// `M48`: the header begins.
     BeginHeader,

@@ -1,58 +1,14 @@
-use Rattle.std.proofs.Common.{◌≡◌, [], ◌∷◌, refl, sym, ap, ◌∙◌, inl, Ok}
+use Rattle.std.proofs.Common.{◌≡◌, Ok, ap, inl, sym, ◌∙◌}
 use Rattle.cam_objects.specs.Contents.{drill_content_of}
-use Rattle.cam_xnc.specs.Bytes.{packed}
 use Rattle.cam_xnc.specs.DrillState.{layer_in}
-use Rattle.cam_xnc.specs.Machinery.Cutters.{found}
-use Rattle.cam_xnc.specs.Reading.{reading_of}
-use Rattle.cam_xnc.specs.Syntax.{statement_of}
-use Rattle.cam_xnc.proofs.Readings.{reading_goes_on, takes, layer_is}
+use Rattle.cam_xnc.proofs.Readings.{layer_is}
 use Rattle.cam_xnc.proofs.SoundReadings.{reading_is_sound}
 use Rattle.cam_xnc.proofs.reader.read_xnc.Goals as goal
 
-pub loop-line-init : goal.loop-line-init
-loop-line-init c = ([], c.new-state.ensures, rw c.new-lines.ensures (reading_goes_on c.args.bytes.now))
-
-pub returns-then-holds_bad_byte-clause-reads : goal.returns-then-holds_bad_byte-clause-reads
-returns-then-holds_bad_byte-clause-reads c =
-    let code = c.code_of-code.result.now in
-    let bad = sym c.holds_bad_byte.ensures ∙ c.if-holds_bad_byte.true in
-    inl (sym (takes c.args.bytes.now c.loop-line.invariant.0 (found c.in-Some.line) _ c.next.new.self code c.leading_skipped.result
-    (statement_of (packed code)) c.loop-line.invariant.2 c.in-Some.ensures.some c.code_of-code.ensures.value
-    (sym c.is_blank.ensures ∙ c.if-is_blank.false) c.leading_skipped.ensures.value refl ∙ rw bad refl))
-
-pub returns-in-Err-Fault-clause-reads : goal.returns-in-Err-Fault-clause-reads
-returns-in-Err-Fault-clause-reads c =
-    let past = c.loop-line.invariant.0 in
-    let good = sym c.holds_bad_byte.ensures ∙ c.if-holds_bad_byte.false in
-    let fault = rw c.in-Err-Fault.field-0-is at (c.in-Err-Fault.ensures past c.loop-line.invariant.1) in
-    rw c.in-Err-Fault.code-is
-    (inl (sym (takes c.args.bytes.now past (found c.in-Some.line) _ c.next.new.self c.code_of-code.result.now
-    c.leading_skipped.result c.in-Ok.statement c.loop-line.invariant.2 c.in-Some.ensures.some c.code_of-code.ensures.value
-    (sym c.is_blank.ensures ∙ c.if-is_blank.false) c.leading_skipped.ensures.value c.in-Ok.ensures ∙ rw (good, fault) refl)))
-
-pub returns-then-is_end-clause-sound : goal.returns-then-is_end-clause-sound
-returns-then-is_end-clause-sound c =
-    let past = c.loop-line.invariant.0 in
-    let good = sym c.holds_bad_byte.ensures ∙ c.if-holds_bad_byte.false in
-    let obeyed = c.in-Ok-obey.ensures past c.loop-line.invariant.1 in
-    let end = sym c.is_end.ensures ∙ c.if-is_end.true in
-    let read : reading_of c.args.bytes.now ≡ Ok (layer_in (c.in-Ok.statement ∷ past)) =
-    takes c.args.bytes.now past (found c.in-Some.line) _ c.next.new.self c.code_of-code.result.now c.leading_skipped.result
-    c.in-Ok.statement c.loop-line.invariant.2 c.in-Some.ensures.some c.code_of-code.ensures.value
-    (sym c.is_blank.ensures ∙ c.if-is_blank.false) c.leading_skipped.ensures.value c.in-Ok.ensures ∙ rw (good, obeyed.0, end) refl in
-    let layer : drill_content_of c.into_layer.result ≡ layer_in (c.in-Ok.statement ∷ past) =
-    ap drill_content_of c.into_layer.ensures ∙ layer_is _ c.obey.new.self obeyed.1 in
-    reading_is_sound c.args.bytes.now (drill_content_of c.into_layer.result) (read ∙ ap Ok (sym layer))
-
-pub loop-line-preserved : goal.loop-line-preserved
-loop-line-preserved c =
-    let past = c.loop-line.invariant.0 in
-    let good = sym c.holds_bad_byte.ensures ∙ c.if-holds_bad_byte.false in
-    let obeyed = c.in-Ok-obey.ensures past c.loop-line.invariant.1 in
-    let more = sym c.is_end.ensures ∙ c.if-is_end.false in (
-      c.in-Ok.statement ∷ past,
-      obeyed.1,
-      takes c.args.bytes.now past (found c.in-Some.line) _ c.next.new.self c.code_of-code.result.now c.leading_skipped.result
-          c.in-Ok.statement c.loop-line.invariant.2 c.in-Some.ensures.some c.code_of-code.ensures.value
-          (sym c.is_blank.ensures ∙ c.if-is_blank.false) c.leading_skipped.ensures.value c.in-Ok.ensures ∙ rw (good, obeyed.0, more) refl,
-    )
+pub returns : goal.returns
+returns c =
+    let ends = c.in_ok-read.ensures.ends in
+    let layer : drill_content_of c.into_layer-layer.result ≡ layer_in ends.0 =
+    ap drill_content_of c.into_layer-layer.ensures ∙ layer_is ends.0 c.read-read.new.self ends.1 in
+    let read = ends.2 ∙ ap Ok (sym layer) in
+    record { reads = inl (sym read); sound = reading_is_sound c.args.bytes.now (drill_content_of c.into_layer-layer.result) read }
