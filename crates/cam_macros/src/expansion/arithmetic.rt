@@ -97,7 +97,6 @@ impl Operands {
         }
     }
 
-    #[tactic(auto, using(crate::proofs::QuotientLemmas::quotient_back, crate::proofs::QuotientLemmas::quotient_forth))]
     fn quotient(self) -> Option<Wide>
         ensures { option_map (λ value. value.billionths) result ≡ quotient self.left.billionths self.right.billionths }
     {

@@ -192,7 +192,6 @@ fn turned_rect(turn: Turn, centre: Point, width: Nm, height: Nm) -> PrimShape
 }
 
 /// An outline: exposure, n, n + 1 points [, rotation].
-#[tactic(auto, using(crate::proofs::FieldLemmas::outline_short))]
 pub(crate) fn outline(
     alloc: Global,
     unit: Unit,
@@ -217,7 +216,6 @@ struct Corners {
 }
 
 /// The outline of so many points and one more, behind which a rotation may stand.
-#[tactic(auto, using(crate::proofs::OutlineLemmas::outline_few, crate::proofs::OutlineLemmas::outline_long))]
 fn outline_through(
     alloc: Global,
     unit: Unit,

@@ -1,4 +1,5 @@
 use Rattle.std.proofs.Common.{sym, ◌∙◌, arith}
+use Rattle.std.proofs.lemmas.Grind.{common_steps}
 use Rattle.std.proofs.lemmas.Result.{err_from_is_err_and}
 use Rattle.cam_macros.specs.Machinery.Variables.{looked_up}
 use Rattle.cam_macros.proofs.ExpansionLemmas.{part_next, part_fault}
@@ -21,3 +22,6 @@ returns-in_err-expand-clause-fault c =
     c.loop-part.prims.items c.in_err-expand.field-0.0 _ (omega arith) c.part-item.is
     c.loop-part.invariant
     c.in_err-expand.ensures.fault)
+
+pub returns-clause-ok : goal.returns-clause-ok
+returns-clause-ok c = grind (arith, common_steps)
