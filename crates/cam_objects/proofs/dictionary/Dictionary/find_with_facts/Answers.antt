@@ -25,3 +25,9 @@ returns-in-Some c =
       absent = tt;
       distinct = c.in-Some.ensures.distinct;
     }
+
+pub returns-in-None-clause-absent : goal.returns-in-None-clause-absent
+returns-in-None-clause-absent c = c.in-None.ensures.absent
+
+pub returns-in-None-clause-distinct : goal.returns-in-None-clause-distinct
+returns-in-None-clause-distinct c = c.in-None.ensures.distinct

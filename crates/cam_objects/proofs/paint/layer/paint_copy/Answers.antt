@@ -2,12 +2,15 @@ use Rattle.std.proofs.Common.{ℕ, List, ap, reverse, sym, subst, ◌∙◌, ari
 use Rattle.std.proofs.lemmas.List.{take_all}
 use Rattle.std.specs.Option.{IfSome}
 use Rattle.cam_objects.specs.Bounds.{box_of_shape, moved}
-use Rattle.cam_objects.specs.Leaves.{block_leaves, meaning_in, shifted}
+use Rattle.cam_objects.specs.Canvases.{Paints}
+use Rattle.cam_objects.specs.Leaves.{Meaning, block_leaves, meaning_in, shifted}
+use Rattle.cam_objects.specs.Machinery.Painting.{meaning_before}
 use Rattle.cam_objects.specs.Machinery.ObjectCells.{AreObjectCells}
 use Rattle.cam_objects.specs.declared.entry.Entry.{Entry}
+use Rattle.cam_objects.specs.declared.placing.place.Place.{Place}
 use Rattle.cam_objects.proofs.Canvases.{paints_boxed}
 use Rattle.cam_objects.proofs.CopyBoxes.{copy_box}
-use Rattle.cam_objects.proofs.Painting.{paintable_whole}
+use Rattle.cam_objects.proofs.Painting.{meaning_whole, paintable_whole}
 use Rattle.cam_objects.proofs.PlacedShapes.{shapes_so}
 use Rattle.cam_objects.proofs.paint.layer.paint_copy.Goals as goal
 
@@ -35,3 +38,20 @@ paint_block-requires-clause-ready g c =
     paintable_whole c.args.entries.now c.len.result c.args.by.x c.args.by.y c.shifted-place.result
     (λ means p. block_leaves means p c.args.objects.now) c.len.ensures.value c.shifted-place.ensures
     c.requires.across c.requires.up c.requires.ready
+
+pub moved-requires-clause-bounds : goal.moved-requires-clause-bounds
+moved-requires-clause-bounds g c = c.requires.near
+
+pub paint_block-requires-clause-objects : goal.paint_block-requires-clause-objects
+paint_block-requires-clause-objects g c = c.requires.objects
+
+pub returns : goal.returns
+returns g c =
+    let canvas = g.C.Canvas in
+    let a = c.args in
+    subst (λ (means : ℕ → Meaning). Paints canvas.has canvas.place canvas.ink a.canvas.now
+    (block_leaves means (shifted a.by.x a.by.y) a.objects.now) c.paint_block.new.canvas)
+    (meaning_whole a.entries.now c.len.result c.len.ensures.value)
+    (subst (λ (p : Place). Paints canvas.has canvas.place canvas.ink a.canvas.now
+    (block_leaves (meaning_before c.len.result a.entries.now) p a.objects.now) c.paint_block.new.canvas)
+    c.shifted-place.ensures c.paint_block.ensures)
