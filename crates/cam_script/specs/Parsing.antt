@@ -40,8 +40,7 @@ abbrev pub window_line : List (List ℕ) → Option Line
 window_line (x ∷ y ∷ pitch ∷ width ∷ height ∷ []) =
     reads length_in x (λ x. reads length_in y (λ y. reads length_in pitch (λ pitch.
     reads count_in width (λ width. reads count_in height (λ height.
-    Some (lines.Command (commands.SetWindow
-    (record { x = x; y = y; pitch = pitch; width = width; height = height }))))))))
+    Some (lines.Command (commands.SetWindow x y pitch width height)))))))
 window_line _ = None
 
 -- redraw N
@@ -143,9 +142,18 @@ edit_line change (name ∷ words) =
 -- ---- lines
 
 -- a command that is its word alone
-abbrev pub bare_line : Command → List (List ℕ) → Option Line
-bare_line command [] = Some (lines.Command command)
-bare_line command (word ∷ more) = None
+abbrev pub bare_command : List ℕ → Option Command
+bare_command verb =
+    if bytes_eq verb (codes "begin") then Some commands.Begin
+    else if bytes_eq verb (codes "end") then Some commands.End
+    else if bytes_eq verb (codes "abort") then Some commands.Abort
+    else if bytes_eq verb (codes "undo") then Some commands.Undo
+    else if bytes_eq verb (codes "redo") then Some commands.Redo
+    else None
+
+abbrev pub bare_line : List ℕ → List (List ℕ) → Option Line
+bare_line verb [] = option_map (λ command. lines.Command command) (bare_command verb)
+bare_line verb (word ∷ more) = None
 
 -- list, or list NAME
 abbrev pub list_line : List (List ℕ) → Option Line
@@ -161,13 +169,8 @@ other_line verb rest =
     else if bytes_eq verb (codes "redraw") then redraw_line rest
     else if bytes_eq verb (codes "plot") then plot_line rest
     else if bytes_eq verb (codes "write") then write_line rest
-    else if bytes_eq verb (codes "begin") then bare_line commands.Begin rest
-    else if bytes_eq verb (codes "end") then bare_line commands.End rest
-    else if bytes_eq verb (codes "abort") then bare_line commands.Abort rest
-    else if bytes_eq verb (codes "undo") then bare_line commands.Undo rest
-    else if bytes_eq verb (codes "redo") then bare_line commands.Redo rest
     else if bytes_eq verb (codes "list") then list_line rest
-    else None
+    else bare_line verb rest
 
 abbrev pub line_by : Option (List (List ℕ) → Option Change) → List ℕ → List (List ℕ) → Option Line
 line_by None verb rest = other_line verb rest
@@ -181,7 +184,7 @@ Parsed = Result (Option Line) LineFault
 
 -- a line that holds a name takes memory for it
 abbrev pub names_a_layer : Line → Bool
-names_a_layer (lines.Command (commands.SetWindow window)) = false
+names_a_layer (lines.Command (commands.SetWindow x y pitch width height)) = false
 names_a_layer (lines.Command (commands.Redraw n)) = false
 names_a_layer (lines.Command commands.Begin) = false
 names_a_layer (lines.Command commands.End) = false

@@ -2,7 +2,6 @@
 
 use crate::bytes::Bytes;
 use cam_edits::{Change, Edit, Name, NewItem};
-use cam_tiles::Window;
 use cam_units::{Items, Nm};
 
 /// What a file is written in.
@@ -22,8 +21,14 @@ pub enum Command {
         kind: FileKind,
         file: Bytes,
     },
-    /// Sets what plots show.
-    SetWindow(Window),
+    /// Sets what plots show: the lower left corner and the pitch in nm, the sides in pixels.
+    SetWindow {
+        x: i64,
+        y: i64,
+        pitch: i64,
+        width: u32,
+        height: u32,
+    },
     /// Draws at most so many tiles of 64 by 64 pixels.
     Redraw {
         at_most: u32,

@@ -2,6 +2,7 @@
 
 ghost use Rattle.std.specs.Prelude.{◌≡◌, false};
 ghost use Rattle.cam_script.specs.Parsing.{
+  bare_command,
   bare_line,
   is_no_memory,
   kept,
@@ -25,7 +26,6 @@ use crate::numbers::{count, length};
 use crate::pieces::{first_byte, is};
 use crate::words::Words;
 use cam_refusals::limits::LINE_LIMIT;
-use cam_tiles::Window;
 use std::alloc::Global;
 
 /// The words behind `load`.
@@ -61,13 +61,13 @@ fn window(words: &mut Words<'_>) -> Option<Line>
     let pitch = length(pitch)?;
     let width = count(width)?;
     let height = count(height)?;
-    Some(Line::Command(Command::SetWindow(Window {
+    Some(Line::Command(Command::SetWindow {
         x,
         y,
         pitch,
         width,
         height,
-    })))
+    }))
 }
 
 /// The words behind `redraw`.
@@ -135,14 +135,36 @@ fn list(alloc: Global, words: &mut Words<'_>) -> Result<Line, LineFault>
     Ok(Line::Command(Command::ListLayer { name }))
 }
 
-/// The line of a command that is its word alone.
-fn bare(command: Command, words: &mut Words<'_>) -> Option<Line>
-    ensures { result ≡ bare_line command words.old }
+/// The command that is its word alone.
+fn bare_command(verb: &[u8]) -> Option<Command>
+    ensures { result ≡ bare_command verb.now }
+{
+    if is(verb, b"begin") {
+        return Some(Command::Begin);
+    }
+    if is(verb, b"end") {
+        return Some(Command::End);
+    }
+    if is(verb, b"abort") {
+        return Some(Command::Abort);
+    }
+    if is(verb, b"undo") {
+        return Some(Command::Undo);
+    }
+    if is(verb, b"redo") {
+        return Some(Command::Redo);
+    }
+    None
+}
+
+/// The line of such a command, behind which no word stands.
+fn bare(verb: &[u8], words: &mut Words<'_>) -> Option<Line>
+    ensures { result ≡ bare_line verb.now words.old }
 {
     if words.next().is_some() {
         return None;
     }
-    Some(Line::Command(command))
+    bare_command(verb).map(Line::Command)
 }
 
 /// A line that takes no memory.
@@ -171,25 +193,10 @@ fn other(alloc: Global, verb: &[u8], words: &mut Words<'_>) -> Result<Line, Line
     if is(verb, b"write") {
         return write(alloc, words);
     }
-    if is(verb, b"begin") {
-        return plain(bare(Command::Begin, words));
-    }
-    if is(verb, b"end") {
-        return plain(bare(Command::End, words));
-    }
-    if is(verb, b"abort") {
-        return plain(bare(Command::Abort, words));
-    }
-    if is(verb, b"undo") {
-        return plain(bare(Command::Undo, words));
-    }
-    if is(verb, b"redo") {
-        return plain(bare(Command::Redo, words));
-    }
     if is(verb, b"list") {
         return list(alloc, words);
     }
-    Err(LineFault::BadLine)
+    plain(bare(verb, words))
 }
 
 /// The line of a first word and those behind it.

@@ -20,6 +20,7 @@ use Rattle.cam_station.specs.Machine.{
   with_room,
   with_window,
   write_at,
+  window_of,
 }
 use Rattle.cam_refusals.specs.declared.refusal.Refusal.TheVariants.{OutOfLimits}
 use Rattle.cam_station.specs.declared.reply.Reply.TheVariants.{Done}
@@ -71,7 +72,9 @@ window_keeps s w RefusedToReader true = refl
 window_keeps s w RefusedToStation true = refl
 
 look_keeps : (s : State) (c : Command) (m : MemoryGrant) → IsLook c → Keeps s (step s c m).0
-look_keeps s (commands.SetWindow w) m h = window_keeps s w m (accepts w)
+look_keeps s (commands.SetWindow x y pitch width height) m h =
+    let w : Window = window_of x y pitch width height in
+    window_keeps s w m (accepts w)
 look_keeps s (commands.Redraw n) m h = redraw_keeps s n s.window
 look_keeps s (commands.Plot name) m h = ap documents_of (plot_draws s name m) ∙ named_keeps s name
 look_keeps s (commands.Write name) m h = write_keeps s m (place_named name s.timeline.document)

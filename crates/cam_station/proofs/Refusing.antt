@@ -71,6 +71,7 @@ use Rattle.cam_station.specs.Machine.{
   with_tables,
   with_window,
   write_at,
+  window_of,
 }
 use Rattle.cam_station.specs.Touches.{
   aborted_touches,
@@ -200,7 +201,8 @@ module _ (s : State) (P : State × Outcome → Type 0) (h : AfterOthers s P) whe
       (either (is_some (place_named name s.timeline.document)) _ _ (λ _. without NameTaken refl)
       (either (nat_le layer_limit (length s.timeline.document)) _ _ (λ _. without TooManyLayers refl)
       (load name kind file m)))
-  after_others (commands.SetWindow w) m other =
+  after_others (commands.SetWindow x y pitch width height) m other =
+      let w : Window = window_of x y pitch width height in
       either (accepts w) _ _ (λ fits. room m _ (h.framed w fits)) (without OutOfLimits refl)
   after_others (commands.Redraw n) m other = redraw n s.window refl
   after_others (commands.Plot name) m other = absurd other

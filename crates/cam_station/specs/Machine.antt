@@ -1,6 +1,6 @@
 -- The machine that a station is: a document with its earlier and later documents, a window, and the tiles of each layer
 -- in it; one command is one step.
-use Rattle.std.specs.Prelude.{ℕ, min, nat_le, Bool, ◌&&◌, if◌then◌else◌, List}
+use Rattle.std.specs.Prelude.{ℕ, ℤ, min, nat_le, Bool, ◌&&◌, if◌then◌else◌, List}
 use Rattle.std.specs.Prelude.{[], ◌∷◌, ◌++◌, length, Option, None, Some, Result, Ok, Err, is_some}
 use Rattle.cam_refusals.specs.declared.refusal.Refusal.{Refusal}
 use Rattle.cam_refusals.specs.Refusals.{is_same}
@@ -276,10 +276,15 @@ list_layer_step s name = list_layer_at s (place_named name s.timeline.document)
 abbrev pub edit_of : List ℕ → Change → Edit
 edit_of name change = record { name = name; change = change }
 
+-- the window that a command asks for: the lower left corner and the pitch in nm, the sides in pixels
+abbrev pub window_of : ℤ → ℤ → ℤ → ℕ → ℕ → Window
+window_of x y pitch width height = record { x = x; y = y; pitch = pitch; width = width; height = height }
+
 -- one command: the state after it, and its answer
 abbrev pub step : State → Command → MemoryGrant → State × Outcome
 step s (commands.Load name kind file) memory = load_step s name kind file memory
-step s (commands.SetWindow w) memory = window_step s w memory
+step s (commands.SetWindow x y pitch width height) memory =
+    window_step s (window_of x y pitch width height) memory
 step s (commands.Redraw n) memory = redraw_step s n
 step s (commands.Plot name) memory = plot_step s name memory
 step s (commands.Write name) memory = write_step s name memory

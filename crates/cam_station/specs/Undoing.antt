@@ -17,7 +17,7 @@ IsEdit command = (edit : Edit) × (command ≡ edit_command edit)
 
 -- the command only looks: it draws tiles, sets the window that they are seen in, writes or counts
 abbrev pub IsLook : Command → Type 0
-IsLook (commands.SetWindow w) = Unit {0}
+IsLook (commands.SetWindow x y pitch width height) = Unit {0}
 IsLook (commands.Redraw n) = Unit {0}
 IsLook (commands.Plot name) = Unit {0}
 IsLook (commands.Write name) = Unit {0}

@@ -125,7 +125,19 @@ impl Station {
     {
         match command {
             Command::Load { name, kind, file } => self.load(name, kind, &file),
-            Command::SetWindow(window) => self.set_window(window),
+            Command::SetWindow {
+                x,
+                y,
+                pitch,
+                width,
+                height,
+            } => self.set_window(Window {
+                x,
+                y,
+                pitch,
+                width,
+                height,
+            }),
             Command::Redraw { at_most } => self.redraw(at_most),
             Command::Plot { name } => self.plot(&name),
             Command::Write { name } => self.write(&name),
@@ -226,8 +238,16 @@ impl Station {
         ensures err { OnErr result (self.new ≡ self.old) }
         ensures memory { IfErr result (λ told. told ≡ fault NoMemory) }
     {
-        let raster = blank_behind(self.alloc, self.window, &mut self.rasters)?;
+        let raster = match blank_behind(self.alloc, self.window, &mut self.rasters) {
+            Ok(raster) => raster,
+            Err(fault) => {
+                // one call, where this way out would take the sheet apart field by field
+                drop(sheet);
+                return Err(fault);
+            }
+        };
         if self.board.add(sheet).is_err() {
+            drop(raster);
             return Err(without_place(Refusal::NoMemory));
         }
         put_behind(&mut self.rasters, raster);

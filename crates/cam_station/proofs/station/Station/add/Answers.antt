@@ -19,8 +19,8 @@ invariant_of-self-2 c =
     let added : sheets_of c.add.new.self ≡ old ++ s ∷ [] = search rules in
     let tables : c.put_behind.new.rasters.items ≡ with_blank i.window i.rasters.items =
     c.put_behind.ensures
-    ∙ (ap (λ (before : List Table). before ++ option_to_list c.in_ok-raster.raster) c.blank_behind.ensures.kept
-    ∙ blank_put i.window c.in_ok-raster.raster i.rasters.items c.in_ok-raster.ensures.made) in
+    ∙ (ap (λ (before : List Table). before ++ option_to_list c.in-Ok.raster) c.blank_behind.ensures.kept
+    ∙ blank_put i.window c.in-Ok.raster i.rasters.items c.in-Ok.ensures.made) in
     let depth : c.clear.new.self.depth ≡ i.history.depth = ap (λ (h : Kept BoardStep). h.depth) c.clear.ensures.kept in
     let station = is_station i.history.depth i.window old s i.rasters.items c.self.invariant.0 in
     let sound = sound_load old s.name s.content c.self.invariant.2.document c.requires.sound in (
