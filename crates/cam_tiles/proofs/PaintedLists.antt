@@ -41,6 +41,15 @@ done_beneath u v a b h done =
           sym (or_decided (ink_in v column row) (last_ink a (place_in v column row)) (done column row there));
     })
 
+-- a swath without a pixel stays as it is
+pub painted_nowhere : (s : Swathed) (leaves : List Leaf) → ((column row : ℕ) → IsInSwath s column row → ⊥)
+    → PaintsSwath s leaves s
+painted_nowhere s leaves none = record {
+  pixels = λ column row. (λ there. there, λ there. there);
+  places = refl;
+  inks = λ column row there. absurd (none column row there);
+}
+
 -- leaves that paint alike at all places
 pub painted_alike : (IsSeen : Spot → Type 0) (old new : Swathed) (a b : List Leaf) → PaintAlike IsSeen a b
     → ((column row : ℕ) → IsInSwath old column row → IsSeen (place_in old column row))

@@ -15,7 +15,7 @@ use Rattle.cam_tiles.proofs.TileCounts.{few_tiles, some_across}
 use Rattle.cam_tiles.proofs.TilesInOrder.{middle_length}
 
 -- each row of tiles begins before the last tile
-begins : (row size across : ℕ) → 0 < across → row < size / across + min 1 (size % across) → row * across < size
+pub begins : (row size across : ℕ) → 0 < across → row < size / across + min 1 (size % across) → row * across < size
 begins row size across some under = elim (cases_lt row (size / across)) [
   | inl below ↦
       (let more : (row + 1) * across ≤ (size / across) * across =

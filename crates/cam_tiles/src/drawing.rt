@@ -93,7 +93,6 @@ fn draw_seen(
 }
 
 /// The box of the centres of the dirty ones of the tiles of a window from a number on, in half nm.
-#[tactic(auto, using(crate::proofs::TileCounts::few_tiles))]
 fn box_of_dirty(window: &Window, first: u32, tiles: &[Tile]) -> Bounds
     requires accepted { accepts window.now ≡ true }
     requires within { first + length tiles.now ≤ tiles_of window.now }
@@ -210,7 +209,6 @@ fn draw_swath(
 }
 
 /// Draws the dirty ones of the tiles of a window from a number on, tile by tile.
-#[tactic(auto, using(crate::proofs::TileCounts::few_tiles))]
 fn draw_left(shown: &Shown<'_>, window: &Window, first: u32, tiles: &mut [Tile])
     requires ready { IsReady shown.now }
     requires accepted { accepts window.now ≡ true }

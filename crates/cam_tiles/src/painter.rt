@@ -35,7 +35,6 @@ pub trait Painter {
     /// the centre of its pixel, and bits and rows past the window are 0. The others stay. It asks
     /// [`tile`](Painter::tile) once for each, that of least number first; a painter may have a way of its own to the same
     /// tiles.
-    #[tactic(auto, using(crate::proofs::TileCounts::few_tiles))]
     fn draw(&mut self, window: &Window, first: u32, tiles: &mut [Tile])
         requires accepted { accepts window.now ≡ true }
         requires within { first + length tiles.old ≤ tiles_of window.now }

@@ -1,7 +1,7 @@
 //! Raw PBM files (netpbm's pbm(5), "P4").
 
 ghost use Rattle.std.specs.Int.{IsBitSet};
-ghost use Rattle.std.specs.Prelude.{◌≡◌, ℕ, ◌+◌, ◌*◌, ◌++◌, ◌<◌, ◌↔◌, slice_index, IsTrue, IfOk, OnOk};
+ghost use Rattle.std.specs.Prelude.{◌≡◌, ℕ, ◌+◌, ◌*◌, ◌++◌, ◌<◌, ◌↔◌, ◌∷◌, [], codes, slice_index, IsTrue, IfOk, OnOk};
 ghost use Rattle.cam_tiles.specs.Pbm.{byte_of, header, padded, row_of};
 ghost use Rattle.cam_tiles.specs.Tables.{IsTable, is_pixel_black, pbm_of};
 ghost use Rattle.cam_tiles.specs.Tiles.{across};
@@ -22,12 +22,20 @@ fn push_header(alloc: Global, file: &mut Vec<u8>, window: &Window) -> Result<(),
     ensures { OnOk result (file.new.items
         ≡ file.old.items ++ header window.now.width window.now.height) }
 {
-    file.extend_from_slice(b"P4\n")?;
     let width = window.width.to_string(alloc)?;
-    file.extend_from_slice(width.as_bytes())?;
-    file.push(b' ')?;
     let height = window.height.to_string(alloc)?;
-    file.extend_from_slice(height.as_bytes())?;
+    push_sides(file, width.as_bytes(), height.as_bytes())
+}
+
+/// Writes a header whose sides are given by their digits.
+fn push_sides(file: &mut Vec<u8>, width: &[u8], height: &[u8]) -> Result<(), AllocError>
+    ensures { OnOk result (file.new.items
+        ≡ file.old.items ++ codes "P4" ++ (10 ∷ []) ++ width.now ++ codes " " ++ height.now ++ (10 ∷ [])) }
+{
+    file.extend_from_slice(b"P4\n")?;
+    file.extend_from_slice(width)?;
+    file.push(b' ')?;
+    file.extend_from_slice(height)?;
     file.push(b'\n')?;
     Ok(())
 }

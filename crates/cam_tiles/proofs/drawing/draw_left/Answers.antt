@@ -4,6 +4,7 @@ use Rattle.cam_objects.specs.Tests.{is_black}
 use Rattle.cam_tiles.specs.Machinery.Shown.{leaves_of}
 use Rattle.cam_tiles.specs.Tables.{Tile, all_drawn_from}
 use Rattle.cam_tiles.specs.Tiles.{grid_of, tile_rows}
+use Rattle.cam_tiles.proofs.TileCounts.{few_tiles}
 use Rattle.cam_tiles.proofs.TilesInOrder.{all_done, drawn_on, next_clean, next_dirty, none_yet, read_clean, read_dirty}
 use Rattle.cam_tiles.proofs.drawing.draw_left.Goals.{then-is_none, else-is_none}
 use Rattle.cam_tiles.proofs.drawing.draw_left.Goals as goal
@@ -39,3 +40,13 @@ pub returns : goal.returns
 returns c =
     let draw : ℕ → List ℕ = λ k. tile_rows (is_black (leaves_of c.args.shown.now)) (grid_of c.args.window.now k) in
     sym (c.loop-k.invariant ∙ all_done draw c.args.first c.loop-k.k c.loop-k.tiles (omega arith))
+
+pub overflow_cast-k : goal.overflow_cast-k
+overflow_cast-k c =
+    let few = few_tiles c.args.window.now c.requires.accepted in
+    omega (arith, few, c.requires.within, c.loop-k-test.true, c.loop-k.auto.tiles)
+
+pub overflow_add-first : goal.overflow_add-first
+overflow_add-first c =
+    let few = few_tiles c.args.window.now c.requires.accepted in
+    omega (arith, few, c.requires.within, c.loop-k-test.true, c.loop-k.auto.tiles)

@@ -1,8 +1,8 @@
-use Rattle.std.proofs.Common.{◌*◌, ℕ, length, arith}
+use Rattle.std.proofs.Common.{◌+◌, ◌*◌, ◌<◌, ℕ, length, arith}
 use Rattle.cam_tiles.proofs.PartlyDrawn.{drawn_further}
-use Rattle.cam_tiles.proofs.RowsInOrder.{IsRowThere, row_there}
-use Rattle.cam_tiles.proofs.TileCounts.{some_across}
-use Rattle.cam_tiles.proofs.drawing.draw_rows.Goals.{After-min-end}
+use Rattle.cam_tiles.proofs.RowsInOrder.{IsRowThere, begins, row_there}
+use Rattle.cam_tiles.proofs.TileCounts.{few_across, few_tiles, some_across}
+use Rattle.cam_tiles.proofs.drawing.draw_rows.Goals.{After-min-end, In-loop-row}
 use Rattle.cam_tiles.proofs.drawing.draw_rows.Goals as goal
 
 pub div_ceil-row-end-requires : goal.div_ceil-row-end-requires
@@ -38,3 +38,29 @@ loop-row-preserved c = record {
       ((here (goal.at.loop-row-preserved c).After-min-end).drawn _ _ c.draw_row.ensures.tiles);
   items = c.in_ok-draw_row.ensures.items;
 }
+
+-- a row of tiles, even the last one, ends within the numbers
+begun : (c : In-loop-row) → c.loop-row.row * c.across-across.result + c.across-across.result < 4294967296
+begun c =
+    let w = c.args.window.now in
+    let wide = c.across-across.result in
+    let some : 0 < wide = omega (arith, c.across-across.ensures, some_across w c.requires.accepted) in
+    let before = begins c.loop-row.row (length c.args.tiles.now) wide some
+    (omega (arith, c.loop-row-test.true, c.div_ceil-row-end.ensures)) in
+    omega (
+      arith,
+      before,
+      c.across-across.ensures,
+      few_across w c.requires.accepted,
+      few_tiles w c.requires.accepted,
+      c.requires.within,
+    )
+
+pub overflow_mul-start : goal.overflow_mul-start
+overflow_mul-start c = omega (arith, begun c)
+
+pub overflow_add-start : goal.overflow_add-start
+overflow_add-start c = omega (arith, begun c)
+
+pub offset_bounds-tiles-start : goal.offset_bounds-tiles-start
+offset_bounds-tiles-start c = let few = (here c).few in omega (arith, few)

@@ -1,4 +1,5 @@
 use Rattle.std.proofs.Common.{◌≡◌, ◌/◌, ◌<◌, ℕ, true, List, length, sym, ap, subst, ◌∙◌, arith, rules, FitsSigned, w64}
+use Rattle.std.proofs.Common.{Global, Vec}
 use Rattle.std.specs.List.{All, flat_map}
 use Rattle.std.proofs.lemmas.Int.{to_z-of_z}
 use Rattle.std.proofs.lemmas.Nat.{div_below}
@@ -6,17 +7,17 @@ use Rattle.cam_units.specs.Boxes.{Holds, IsBetween}
 use Rattle.cam_objects.specs.Leaves.{Leaf}
 use Rattle.cam_tiles.specs.declared.index.Boxed.{Boxed}
 use Rattle.cam_tiles.specs.declared.window.Window.{Window}
-use Rattle.cam_tiles.specs.Machinery.Indexes.{IsSeen, numbered_leaves, row_leaves}
+use Rattle.cam_tiles.specs.Machinery.Indexes.{IsBoxed, IsSeen, numbered_leaves, row_leaves}
+use Rattle.cam_tiles.specs.Machinery.Parts.{IsPartsOf}
 use Rattle.cam_tiles.specs.Machinery.RowLists.{AreListed, numbers_from}
-use Rattle.cam_tiles.specs.Machinery.Shown.{leaves_by_item}
+use Rattle.cam_tiles.specs.Machinery.Shown.{leaves_by_item, leaves_of}
 use Rattle.cam_tiles.specs.Machinery.Swaths.{PaintsSwath, place_in}
 use Rattle.cam_tiles.specs.Picture.{accepts}
 use Rattle.cam_tiles.specs.Tiles.{across, down, tiles_of}
 use Rattle.cam_tiles.proofs.Indexed.{numbered, numbers_below}
-use Rattle.cam_tiles.proofs.PaintedLists.{painted_alike, seen_there}
+use Rattle.cam_tiles.proofs.PaintedLists.{painted_alike, painted_nowhere, seen_there}
 use Rattle.cam_tiles.proofs.ShownItems.{leaves_are}
 use Rattle.cam_tiles.proofs.TileCounts.{some_across}
-use Rattle.cam_tiles.proofs.index.Index.paint.Goals.{After-across}
 use Rattle.cam_tiles.proofs.index.Index.paint.Goals as goal
 
 row_below : (w : Window) (tile wide : ℕ) → accepts w ≡ true → tile < tiles_of w → wide ≡ across w → tile / wide < down w
@@ -76,3 +77,25 @@ returns-clause-painted c =
     (c.has_place.ensures.0 c.if-not-has_place.false)
     (c.has_place-else-not-has_place.ensures.0 c.if-not-has_place-2.false) c.bounds.ensures c.requires.rows c.across.ensures)
     (subst (λ (leaves : List Leaf). PaintsSwath old leaves new) leaves c.paint_all.ensures))
+
+pub paint_all-requires-clause-boxed : goal.paint_all-requires-clause-boxed
+paint_all-requires-clause-boxed c =
+    subst (All (IsBoxed (leaves_by_item c.args.shown.now))) (sym c.deref-2.ensures.value) c.requires.index.boxed
+
+pub paint_all-requires-clause-contours : goal.paint_all-requires-clause-contours
+paint_all-requires-clause-contours c =
+    subst (All (IsPartsOf (leaves_by_item c.args.shown.now))) (sym c.deref-3.ensures.value) c.requires.index.contours
+
+pub returns-in_default-clause-painted : goal.returns-in_default-clause-painted
+returns-in_default-clause-painted c = painted_nowhere c.args.swath.now (leaves_of c.args.shown.now) c.in_default.ensures
+
+pub returns-clause-index : goal.returns-clause-index
+returns-clause-index c =
+    let index = c.requires.index in
+    record {
+      boxed = index.boxed;
+      enough = index.enough;
+      rows = ap (λ (starts : Vec ℕ Global). length starts.items) c.in_ok-go_to.ensures.rows ∙ index.rows;
+      listed = subst (λ those. AreListed those c.go_to.new.self) c.deref.ensures.value c.in_ok-go_to.ensures.listed;
+      contours = index.contours;
+    }

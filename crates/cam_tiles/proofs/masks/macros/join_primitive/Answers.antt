@@ -17,3 +17,18 @@ returns-in-Outline c =
     (λ i s. outline_places c.args.turn (shape_of primitive.shape) points points (relative c.args.at s)
     (ap shape_of c.in-Outline.is) refl i)
     (rw c.inked-how.ensures at c.join_outline.ensures)
+
+pub returns-in-Rect : goal.returns-in-Rect
+returns-in-Rect c =
+    rw c.in-Rect.is
+    (rw (c.inked-how.ensures, c.apply-in-Rect.ensures.value, c.turned_width.ensures, c.turned_height.ensures)
+    at c.join_shape-in-Rect.ensures)
+
+pub returns-in-Bar : goal.returns-in-Bar
+returns-in-Bar c =
+    rw c.in-Bar.is
+    (rw (c.inked-how.ensures, c.apply-in-Bar.ensures.value, c.apply-in-Bar-2.ensures.value) at c.join_shape-in-Bar.ensures)
+
+pub returns-in-Disc : goal.returns-in-Disc
+returns-in-Disc c =
+    rw c.in-Disc.is (rw (c.inked-how.ensures, c.apply.ensures.value) at c.join_shape.ensures)

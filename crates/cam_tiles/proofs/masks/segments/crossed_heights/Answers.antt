@@ -7,3 +7,12 @@ pub returns : goal.returns
 returns c =
     between_ends c.args.from c.args.to _ (omega (arith, ints, clamps, c.min.ensures.value))
     (omega (arith, ints, clamps, c.max.ensures.value))
+
+pub overflow_mul-result : goal.overflow_mul-result
+overflow_mul-result c = omega (arith, ints, clamps, c.min.ensures.value)
+
+pub overflow_mul-result-2 : goal.overflow_mul-result-2
+overflow_mul-result-2 c = omega (arith, ints, clamps, c.max.ensures.value)
+
+pub overflow_sub-result : goal.overflow_sub-result
+overflow_sub-result c = omega (arith, ints, clamps, c.max.ensures.value)

@@ -32,3 +32,11 @@ returns-in-None c =
     (λ row s on met. (c.requires.rows row s on).1 (met_apart s c.args.from c.args.to met)) (length c.args.ends.now)
     (λ k. slice_index c.edge_runs.new.ends k) c.requires.size c.in-None.ensures
     (rw c.edge_runs.auto.ends at c.mark_ends.ensures)
+
+pub mark_column-requires-clause-end : goal.mark_column-requires-clause-end
+mark_column-requires-clause-end c =
+    omega (arith, c.in-Some.ensures.within 0 (omega (arith, c.requires.size, c.requires.some)), c.requires.wide.room)
+
+pub mark_ends-requires-clause-ends : goal.mark_ends-requires-clause-ends
+mark_ends-requires-clause-ends c = λ k there.
+    omega (arith, c.in-None.ensures.within k (rw c.edge_runs.auto.ends at there), c.requires.wide.room)

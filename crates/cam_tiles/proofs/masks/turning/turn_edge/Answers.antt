@@ -1,5 +1,5 @@
-use Rattle.std.proofs.Common.{IsTrue, pos, ◌+ℤ◌, ◌*ℤ◌, ◌≤ℤ◌, FitsSigned, w64, rules}
-use Rattle.std.proofs.lemmas.Int.{to_z-of_z}
+use Rattle.std.proofs.Common.{IsTrue, pos, ◌+ℤ◌, ◌*ℤ◌, ◌≤ℤ◌, FitsSigned, w64, arith, rules}
+use Rattle.std.proofs.lemmas.Int.{clamps, ints, to_z-of_z}
 use Rattle.cam_shapes.specs.Edge.{crosses_ray, edge}
 use Rattle.cam_shapes.proofs.Widths.{at_most_is}
 use Rattle.cam_apertures.proofs.Painting.{through}
@@ -39,3 +39,18 @@ returns-then-max-grid c =
     (most_kept p.x q.x c.max.result c.requires.from.x c.requires.to.x c.max.ensures.value)
     (up_right g.x (pos column *ℤ g.step) _ (some_steps g.step column c.requires.grid.step) reach) in
     missed_right (centre_in g column row) p q ends.0 ends.1 met)
+
+pub levels-requires : goal.levels-requires
+levels-requires c = c.requires.grid.levels
+
+pub band-band-requires : goal.band-band-requires
+band-band-requires c = c.levels.ensures.levels
+
+pub turn_crossed-requires-clause-grid : goal.turn_crossed-requires-clause-grid
+turn_crossed-requires-clause-grid c = c.requires.grid
+
+pub overflow_mul-max : goal.overflow_mul-max
+overflow_mul-max c = omega (arith, ints, clamps, c.max.ensures.value)
+
+pub slice_bounds-ends-end : goal.slice_bounds-ends-end
+slice_bounds-ends-end c = omega (arith, rw c.levels.ensures.value at c.band-band.ensures.end, c.requires.grid.rows)

@@ -3,6 +3,7 @@ use Rattle.std.proofs.lemmas.List.{drop_all, get_or_default}
 use Rattle.cam_tiles.specs.Tables.{Tile, all_drawn_from}
 use Rattle.cam_tiles.specs.Tiles.{grid_of, tile_rows}
 use Rattle.cam_tiles.proofs.DrawnTiles.{dirty}
+use Rattle.cam_tiles.proofs.TileCounts.{few_tiles}
 use Rattle.cam_tiles.proofs.TilesInOrder.{all_done, drawn_on, next_clean, next_dirty, none_yet, read_clean, read_dirty}
 use Rattle.cam_tiles.proofs.TilesInOrder.{dirty_past_clean, dirty_past_dirty}
 use Rattle.cam_tiles.proofs.painter.Painter.draw.Goals.{then-is_none, else-is_none}
@@ -67,3 +68,13 @@ pub returns-clause-asked : goal.returns-clause-asked
 returns-clause-asked g c =
     let rest : drop c.loop-k.k c.loop-k.tiles ≡ [] = drop_all c.loop-k.k c.loop-k.tiles (omega arith) in
     omega (arith, ap dirty rest, c.loop-k.invariant.asked)
+
+pub overflow_cast-k : goal.overflow_cast-k
+overflow_cast-k g c =
+    let few = few_tiles c.args.window.now c.requires.accepted in
+    omega (arith, few, c.requires.within, c.loop-k-test.true, c.loop-k.auto.tiles)
+
+pub overflow_add-first : goal.overflow_add-first
+overflow_add-first g c =
+    let few = few_tiles c.args.window.now c.requires.accepted in
+    omega (arith, few, c.requires.within, c.loop-k-test.true, c.loop-k.auto.tiles)

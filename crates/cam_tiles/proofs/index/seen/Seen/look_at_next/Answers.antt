@@ -1,13 +1,19 @@
-use Rattle.std.proofs.Common.{◌≡◌, ◌+◌, ◌-◌, ℕ, List, [], get_or, sym, ap, subst, ◌∙◌, arith}
+use Rattle.std.proofs.Common.{◌≡◌, ◌+◌, ◌-◌, ◌≤◌, ℕ, List, [], ◌∷◌, length, take, get_or, refl, sym, ap, subst, ◌∙◌, arith}
+use Rattle.std.proofs.lemmas.List.{length-map}
+use Rattle.std.proofs.Math.Seq.{take-append_seam, take-length}
 use Rattle.cam_units.specs.Boxes.{Holds}
 use Rattle.cam_units.specs.declared.bounds.Bounds.{Bounds}
 use Rattle.cam_objects.specs.Bounds.{bounds_of}
 use Rattle.cam_objects.specs.Image.{IsUncovered}
-use Rattle.cam_objects.specs.Leaves.{Leaf}
+use Rattle.cam_objects.specs.Drilling.{drill_item_leaves}
+use Rattle.cam_objects.specs.Leaves.{Leaf, item_leaves, meaning_in}
+use Rattle.cam_tiles.specs.declared.shown.Shown.{Shown}
+use Rattle.cam_tiles.specs.declared.shown.Shown.TheVariants.{Gerber, Drill}
 use Rattle.cam_tiles.specs.Machinery.Indexes.{AreSeenFrom, IsBoxOf}
-use Rattle.cam_tiles.specs.Machinery.Shown.{leaves_by_item}
+use Rattle.cam_tiles.specs.Machinery.Shown.{IsReady, leaves_by_item, lists_of}
 use Rattle.cam_tiles.proofs.Indexed.{next_missed, next_seen, next_uncovered, seen_back}
-use Rattle.cam_tiles.proofs.index.seen.Seen.look_at_next.Goals.{After-read-bounds}
+use Rattle.cam_tiles.proofs.index.seen.Seen.look_at_next.Goals.{After-read-bounds, After-seen}
+use Rattle.cam_tiles.proofs.index.seen.Seen.look_at_next.Goals.{else-ne-via-else-ne, else-ne-via-then-ne+else-line_misses}
 use Rattle.cam_tiles.proofs.index.seen.Seen.look_at_next.Goals as goal
 
 is_box : {box : Bounds} {read lists : List (List Leaf)} (k : ℕ) → box ≡ bounds_of (get_or read k []) → read ≡ lists
@@ -62,3 +68,42 @@ returns-then-line_misses-clause-seen c =
     (λ s held.
     subst (λ (these : List (List Leaf)). IsUncovered (get_or these n []) s)
     (c.read-bounds.ensures.lists ∙ c.requires.lists) (c.line_misses.ensures.off c.if-line_misses.true s held))
+
+few_items : (shown : Shown) → IsReady shown → length (leaves_by_item shown) ≤ 1000000
+few_items (Gerber layer cells copies) ready =
+    omega (arith, length-map layer.now.items.items (item_leaves (meaning_in layer.now.apertures)), ready.0.limits.few)
+few_items (Drill layer cells) ready =
+    omega (arith, length-map layer.now.items.items (drill_item_leaves layer.now.tools), ready.0.limits.few)
+
+pub overflow_cast-self : goal.overflow_cast-self
+overflow_cast-self c =
+    omega (arith, few_items c.args.shown.now c.requires.ready, c.requires.seen.few, c.next_end-end.ensures.within)
+
+pub returns-in_ok-push-clause-begun : goal.returns-in_ok-push-clause-begun
+returns-in_ok-push-clause-begun c =
+    let boxed = c.args.self.now.boxed.items in
+    record {
+      within = refl;
+      boxed = ap (take (length boxed)) c.in_ok-push.ensures.items ∙ take-append_seam boxed (c.in-Some.item ∷ []);
+    }
+
+pub returns-in_default-clause-begun : goal.returns-in_default-clause-begun
+returns-in_default-clause-begun c = record { within = refl; boxed = take-length c.args.self.now.boxed.items }
+
+pub returns-then-line_misses-clause-begun : goal.returns-then-line_misses-clause-begun
+returns-then-line_misses-clause-begun c = record { within = refl; boxed = take-length c.args.self.now.boxed.items }
+
+-- what reads the boxes stays that of the same lists
+same_lists : (c : After-seen) → lists_of c.else-ne.boxes ≡ leaves_by_item c.args.shown.now
+same_lists c =
+    let read = c.read-bounds.ensures.lists ∙ c.requires.lists in
+    elim c.else-ne.branch [
+      | else-ne-via-then-ne+else-line_misses w ↦ ap lists_of w.boxes-is ∙ w.line_misses.ensures.lists ∙ read
+      | else-ne-via-else-ne w ↦ ap lists_of w.boxes-is ∙ read
+    ]
+
+pub returns-in_ok-push-clause-lists : goal.returns-in_ok-push-clause-lists
+returns-in_ok-push-clause-lists c = same_lists (goal.at.returns-in_ok-push-clause-lists c).After-seen
+
+pub returns-in_err-push-clause-lists : goal.returns-in_err-push-clause-lists
+returns-in_err-push-clause-lists c = same_lists (goal.at.returns-in_err-push-clause-lists c).After-seen

@@ -6,12 +6,12 @@ use Rattle.cam_units.specs.declared.bounds.Bounds.{Bounds}
 use Rattle.cam_objects.specs.Leaves.{Leaf}
 use Rattle.cam_tiles.specs.declared.index.Boxed.{Boxed}
 use Rattle.cam_tiles.specs.Machinery.Indexes.{IsBoxed, IsSeen, last_leaves}
-use Rattle.cam_tiles.specs.Machinery.Shown.{leaves_by_item}
+use Rattle.cam_tiles.specs.Machinery.Shown.{leaves_by_item, leaves_of}
 use Rattle.cam_tiles.specs.Machinery.Swaths.{IsInSwath, PaintsSwath, Swathed, place_in}
 use Rattle.cam_tiles.specs.Machinery.RowLists.{reaches}
 use Rattle.cam_tiles.proofs.Indexed.{at}
 use Rattle.cam_tiles.proofs.LastFound.{all_decided, all_found, kept_last, one_boxed, one_in_row, one_off_row}
-use Rattle.cam_tiles.proofs.PaintedLists.{decided_painted, painted_beneath, seen_there}
+use Rattle.cam_tiles.proofs.PaintedLists.{decided_painted, painted_beneath, painted_nowhere, seen_there}
 use Rattle.cam_tiles.proofs.ShownItems.{leaves_are}
 use Rattle.cam_tiles.proofs.index.seen.Seen.paint.Goals.{After-across, After-is_in_row}
 use Rattle.cam_tiles.proofs.index.seen.Seen.paint.Goals.{then-not-is_in_row-via-then-not-is_in_row, then-not-is_in_row-via-else-not-is_in_row+then-is_decided_in}
@@ -27,6 +27,9 @@ seen_here c within same =
     (seen_there c.args.window.now c.args.self.now.within c.bounds.result c.in-Closed.low c.in-Closed.high c.args.tile
     c.across.result c.args.swath.now c.in-Closed.is (c.has_place.ensures.0 c.if-not-has_place.false)
     (c.has_place-else-not-has_place.ensures.0 c.if-not-has_place-2.false) c.bounds.ensures c.requires.rows c.across.ensures)
+
+pub returns-in_default-clause-painted : goal.returns-in_default-clause-painted
+returns-in_default-clause-painted c = painted_nowhere c.args.swath.now (leaves_of c.args.shown.now) c.in_default.ensures
 
 pub returns-in_default-2-clause-painted : goal.returns-in_default-2-clause-painted
 returns-in_default-2-clause-painted c =

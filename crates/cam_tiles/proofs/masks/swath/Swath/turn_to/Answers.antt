@@ -1,7 +1,9 @@
 use Rattle.std.proofs.Common.{◌≡◌, ◌-◌, ◌*◌, ◌%◌, length, min, refl, sym, ap, subst, ◌∙◌, arith}
 use Rattle.cam_tiles.specs.declared.grid.Grid.{Grid}
+use Rattle.cam_tiles.specs.declared.masks.swath.Swath.TheInside.{Inside}
 use Rattle.cam_tiles.specs.Machinery.Runs.{IsWideGrid}
-use Rattle.cam_tiles.specs.Machinery.Swaths.{columns_of}
+use Rattle.cam_tiles.specs.Machinery.Swaths.{IsSwath, columns_of}
+use Rattle.cam_tiles.specs.Tiles.{IsGrid}
 use Rattle.cam_tiles.proofs.GridLemmas.{left_within}
 use Rattle.cam_tiles.proofs.SwathTiles.{clear_past_open, dirty_open, row_is_wide, tiles_taken_up}
 use Rattle.cam_tiles.proofs.TileCounts.{few_across}
@@ -65,3 +67,25 @@ pub returns-clause-open : goal.returns-clause-open
 returns-clause-open c = λ column row inside.
     dirty_open c.args.tiles.now c.min-columns.result c.grid-grid.result.rows c.turn_to.new.self c.in_ok-turn_to.ensures.open
     row column inside.1 inside.0 c.grid-grid.ensures.grid.rows.1 (omega (arith, c.min-columns.ensures))
+
+-- without a column or a tile it is one, whatever else it holds
+no_columns : (s : Inside) → IsGrid s.grid → s.columns ≡ 0 → s.inks.tiles ≡ 0 → IsSwath s
+no_columns s grid columns tiles = record {
+  grid = grid;
+  wide = λ some. absurd (omega (arith, some, columns));
+  few = omega (arith, columns);
+  tiles = omega (arith, columns, tiles);
+  marks = omega (arith, tiles);
+  spare = omega (arith, tiles);
+  held = λ column row inside below. absurd (omega (arith, inside, columns));
+  outside = λ row column below there out. absurd (omega (arith, there, tiles));
+}
+
+pub invariant_of-self : goal.invariant_of-self
+invariant_of-self c = no_columns _ c.self.invariant.grid refl c.clear.ensures
+
+pub invariant_of-self-in_err-resize-2 : goal.invariant_of-self-in_err-resize-2
+invariant_of-self-in_err-resize-2 c = no_columns _ c.self.invariant.grid refl c.clear.ensures
+
+pub invariant_of-self-in_err-turn_to : goal.invariant_of-self-in_err-turn_to
+invariant_of-self-in_err-turn_to c = no_columns _ c.self.invariant.grid refl c.in_err-turn_to.ensures.none

@@ -1,0 +1,11 @@
+use Rattle.std.proofs.Common.{sym, subst}
+use Rattle.cam_objects.specs.Canvases.{shape_of}
+use Rattle.cam_objects.specs.Image.{Covers}
+use Rattle.cam_objects.specs.declared.canvas.Figure.{Figure}
+use Rattle.cam_tiles.specs.declared.masks.join.Join.TheVariants.{Add}
+use Rattle.cam_tiles.specs.Machinery.Masks.{Joins}
+use Rattle.cam_tiles.proofs.masks.mask.Mask.add.Goals as goal
+
+pub returns-in-Filled : goal.returns-in-Filled
+returns-in-Filled c =
+    subst (λ (f : Figure). Joins Add (Covers (shape_of f)) c.args.self.now c.fill.new.self) (sym c.in-Filled.is) c.fill.ensures
