@@ -1,15 +1,19 @@
 -- Caps lie in squares.
 use Rattle.std.proofs.Common.{◌≡◌, ℕ, ◌+◌, ◌*◌, ◌≤◌, ℤ, pos, ◌≤ℤ◌, ◌<ℤ◌, inl, inr, Bool, true, false, ◌&&◌, refl, arith}
+use Rattle.std.proofs.Common.{◌<◌, ◌^◌, of_z, ap, sym, ◌∙◌}
+use Rattle.std.specs.Int.{w128}
+use lib.Signed.{lt_z}
 use Rattle.std.specs.Int.RustNames.{unsigned_abs}
 use Rattle.std.specs.Ordering.{int_eq}
 use Rattle.std.proofs.lemmas.Int.{ints}
-use Rattle.std.proofs.lemmas.Bool.{cases_Bool, false≢true}
+use Rattle.std.proofs.lemmas.Bool.{cases_Bool, false_from_ne_true, false≢true}
 use Rattle.std.proofs.lemmas.Bool.Decides.{Decides-int_eq}
 use Rattle.cam_shapes.specs.declared.vector.Vector.{Vector}
 use Rattle.cam_shapes.specs.Plane.{dot, seen_from, way, IsBetween}
 use Rattle.cam_shapes.specs.Cap.{is_in_circle, is_less, CapSquareLaw}
 use Rattle.cam_shapes.proofs.Crossings.{less_is}
 use Rattle.cam_shapes.proofs.Strokes.{dot_is, squares_order}
+use Rattle.cam_shapes.proofs.Widths.{kept, wide}
 
 first_of_both : (a b : Bool) → (a && b) ≡ true → a ≡ true
 first_of_both true b e = refl
@@ -44,3 +48,11 @@ cap_square s c m room inside =
     let u = way c.centre c.from in
     within_square v u m
     (less_by_tie (dot v v) (dot u u) _ (first_of_both (is_in_circle u v) _ inside)) room
+
+-- two squares of lengths that differ, as 128 bits compare them
+pub passed_unlike : (a b u v : ℤ) (tie : Bool) → unsigned_abs a < 2 ^ 67 → unsigned_abs b < 2 ^ 67 → a ≡ u → b ≡ v
+    → (of_z w128 a ≡ of_z w128 b → ⊥) → lt_z (wide a) (wide b) ≡ is_less u v tie
+passed_unlike a b u v tie p q e f unlike =
+    let other : int_eq u v ≡ false =
+    false_from_ne_true (int_eq u v) (λ t. unlike (ap (of_z w128) (e ∙ (Decides-int_eq u v).0 t ∙ sym f))) in
+    rw (kept a p, kept b q, e, f, other) refl

@@ -1,13 +1,19 @@
 -- Sweeps, and distances from a circle.
 use Rattle.std.proofs.Common.{◌≡◌, ◌↔◌, ◌<◌, ◌^◌, Bool, IsTrue, ℤ, pos, ◌+ℤ◌, ◌-ℤ◌, ◌*ℤ◌, ◌≤ℤ◌, ◌<ℤ◌, inl, inr, ◌∙◌}
-use Rattle.std.proofs.Common.{arith}
+use Rattle.std.proofs.Common.{◌⊎◌, ◌&&◌, false, to_z, of_z, refl, ap, sym, arith}
+use Rattle.std.specs.Int.{w128}
+use Rattle.std.specs.Ordering.{int_eq}
+use Rattle.std.proofs.lemmas.Bool.{eqb-true, false≢true}
+use Rattle.std.proofs.lemmas.Bool.Decides.{Decides-and, Decides-int_eq}
+use lib.Dec.{eqb}
+use lib.Signed.{lt_z}
 use Rattle.std.proofs.lemmas.Int.{ints}
 use Rattle.std.specs.Int.RustNames.{unsigned_abs}
 use Rattle.cam_units.proofs.Ring.{Polynomial, Atom, Sum, Difference, Product, equal}
 use Rattle.cam_shapes.specs.declared.vector.Vector.{Vector}
 use Rattle.cam_shapes.specs.Plane.{cross, square}
-use Rattle.cam_shapes.specs.Arc.{IsBetweenCircles, IsNarrow}
-use Rattle.cam_shapes.proofs.Widths.{passed_square, wide}
+use Rattle.cam_shapes.specs.Arc.{IsBetweenCircles, IsInSweep, IsNarrow}
+use Rattle.cam_shapes.proofs.Widths.{kept, less_is, passed_less, passed_square, wide}
 
 apart : {z : ℤ} → pos 0 <ℤ z → z <ℤ pos 0 → ⊥
 apart p n = omega (arith, ints)
@@ -53,3 +59,36 @@ passed_circle b x m p q r h k e f told =
     through
     (passed_square b x m (p -ℤ q -ℤ square r) (pos 4 *ℤ square r *ℤ q) h k e (f ∙ times_four (square r) q) told)
     (same_inequality p q (square r))
+
+-- a cross product r and a dot product d that were passed on in 128 bits: where r is 0, d tells whether the sweep is narrow
+module _ (r u : ℤ) (short : unsigned_abs r < 2 ^ 67) (is : r ≡ u) where
+  pub narrow_by_dot : (d v : ℤ) → unsigned_abs d < 2 ^ 67 → d ≡ v → of_z w128 r ≡ 0
+      → IsTrue (lt_z (wide d) (pos 0)) ↔ ((pos 0 <ℤ u) ⊎ ((u ≡ pos 0) × (v <ℤ pos 0)))
+  narrow_by_dot d v p e none =
+      let level : u ≡ pos 0 = sym is ∙ sym (kept r short) ∙ ap (to_z w128) none in
+      let less = passed_less d (pos 0) v (pos 0) p (omega arith) e refl in (
+        (λ told. inr (level, less.0 told)),
+        (λ narrow. elim narrow [ inl h ↦ absurd (omega (arith, ints, level)) | inr h ↦ less.1 h.1 ]),
+      )
+
+  pub not_narrow : (v : ℤ) → (of_z w128 r ≡ 0 → ⊥) → lt_z (pos 0) (wide r) ≡ false
+      → IsTrue (eqb (of_z w128 r) 0) ↔ ((pos 0 <ℤ u) ⊎ ((u ≡ pos 0) × (v <ℤ pos 0)))
+  not_narrow v some right = (
+    (λ told. absurd (some (eqb-true (of_z w128 r) 0 told))),
+    (λ narrow. elim narrow [
+      | inl h ↦ absurd (false≢true (sym right ∙ (less_is (pos 0) (wide r)).1 (rw (kept r short, is) h)))
+      | inr h ↦ absurd (some (ap (of_z w128) (is ∙ h.0)))
+    ]),
+  )
+
+-- the sweep from s to e where it is narrow
+pub in_narrow : (s e v : Vector) (b : Bool) → false ≡ (int_eq s.x e.x && int_eq s.y e.y) → IsNarrow s e
+    → (IsTrue b ↔ (pos 0 ≤ℤ cross s v) × (pos 0 ≤ℤ cross v e)) → IsTrue b ↔ IsInSweep s e v
+in_narrow s e v b unlike narrow told = (
+  (λ t. inr (inl (narrow, (told.0 t).0, (told.0 t).1))),
+  (λ sweep. elim sweep [
+    | inl same ↦ absurd (false≢true (unlike ∙ (Decides-and (int_eq s.x e.x) _ (Decides-int_eq s.x e.x) (Decides-int_eq s.y e.y)).1
+        (ap (λ w. w.x) same, ap (λ w. w.y) same)))
+    | inr rest ↦ elim rest [ inl h ↦ told.1 (h.1, h.2) | inr h ↦ absurd (narrow_not_wide s e h.0 narrow) ]
+  ]),
+)

@@ -1,12 +1,15 @@
 -- Strokes of rectangles: what the test computes.
 use Rattle.std.proofs.Common.{◌≡◌, ℕ, ◌+◌, ◌*◌, ◌<◌, ◌^◌, ℤ, pos, ◌+ℤ◌, ◌-ℤ◌, ◌*ℤ◌, Fits, FitsSigned, w64, subst, sym, ◌∙◌, arith}
+use Rattle.std.proofs.Common.{◌≤ℤ◌, ◌↔◌, IsTrue}
 use Rattle.std.specs.Int.{int_max, int_min}
 use Rattle.std.specs.Int.RustNames.{unsigned_abs}
 use Rattle.std.proofs.lemmas.Int.{clamps, ints}
 use Rattle.std.proofs.lemmas.Nat.{mul-lt}
+use Rattle.std.proofs.lemmas.Bool.{le-leb, leb-true}
+use lib.Dec.{leb}
 use Rattle.cam_units.specs.declared.point.Spot.{Spot}
 use Rattle.cam_units.specs.Board.{IsSize}
-use Rattle.cam_shapes.proofs.Widths.{narrow}
+use Rattle.cam_shapes.proofs.Widths.{kept, narrow, wide}
 
 pub same_spot : (p q : Spot) → p.x ≡ q.x → p.y ≡ q.y → p ≡ q
 same_spot p q e f = λ i. record { x = e i; y = f i }
@@ -71,6 +74,17 @@ short_side m w e size = omega (arith, ints, size.0, size.1)
 pub short_leg : (m : ℕ) (z : ℤ) → m ≡ unsigned_abs (narrow z) → unsigned_abs z < 2 ^ 33 → m < 2 ^ 33
 short_leg m z e h = omega (arith, ints)
 
+pub part_fits : (m n : ℕ) → m < 2 ^ 28 → n < 2 ^ 33 → Fits w64 (m * n)
+part_fits m n a b = omega (arith, mul-lt m n (2 ^ 28) (2 ^ 33) a b)
+
 pub reach_fits : (m n p q : ℕ) → m < 2 ^ 28 → n < 2 ^ 33 → p < 2 ^ 28 → q < 2 ^ 33 → Fits w64 (m * n + p * q)
 reach_fits m n p q a b c d =
     omega (arith, mul-lt m n (2 ^ 28) (2 ^ 33) a b, mul-lt p q (2 ^ 28) (2 ^ 33) c d)
+
+-- a cross product against the reach of a corner, as 128 bits compare them
+at_most_number : (m n : ℕ) → IsTrue (leb m n) ↔ pos m ≤ℤ pos n
+at_most_number m n = ((λ h. omega (arith, ints, leb-true m n h)), (λ h. le-leb m n (omega (arith, ints))))
+
+pub passed_reach : (m n k : ℕ) (r z w : ℤ) → unsigned_abs r < 2 ^ 67 → m ≡ unsigned_abs (wide r) → r ≡ z → n ≡ k → pos k ≡ w
+    → IsTrue (leb m n) ↔ pos (unsigned_abs z) ≤ℤ w
+passed_reach m n k r z w h e f g is = rw (e, kept r h, f, g, sym is) (at_most_number (unsigned_abs z) k)

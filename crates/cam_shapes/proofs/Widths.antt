@@ -1,9 +1,9 @@
 -- Products of short numbers, as 128 bits compute them.
-use Rattle.std.proofs.Common.{◌*◌, ◌≡◌, ◌^◌, ◌<◌, ◌≤◌, ◌↔◌, IsTrue, Bool, ℤ, pos, negsuc, ◌≤ℤ◌, ◌<ℤ◌, refl, ◌+ℤ◌, ◌-ℤ◌}
+use Rattle.std.proofs.Common.{ℕ, ◌*◌, ◌≡◌, ◌^◌, ◌<◌, ◌≤◌, ◌↔◌, IsTrue, Bool, ℤ, pos, negsuc, ◌≤ℤ◌, ◌<ℤ◌, refl, ◌+ℤ◌, ◌-ℤ◌}
 use Rattle.std.proofs.Common.{◌*ℤ◌, FitsSigned, to_z, of_z, w64, arith, ◌∙◌}
 use Rattle.std.specs.Int.{w128}
 use lib.Signed.{le_z, lt_z}
-use Rattle.std.proofs.lemmas.Int.{ints, unsigned_abs-mul, fits_signed_from_abs}
+use Rattle.std.proofs.lemmas.Int.{ints, unsigned_abs-mul, fits_signed_from_abs, to_z-of_z}
 use Rattle.std.proofs.lemmas.Nat.{mul-le, mul-lt}
 use Rattle.std.specs.Int.RustNames.{unsigned_abs}
 use Rattle.cam_units.specs.Board.{IsSize}
@@ -20,7 +20,7 @@ narrow z = to_z w64 (of_z w64 z)
 kept_narrow : (z : ℤ) → unsigned_abs z < 2 ^ 33 → narrow z ≡ z
 kept_narrow z h = omega (arith, ints)
 
-kept_wide : (z : ℤ) → unsigned_abs z < 2 ^ 126 → wide z ≡ z
+pub kept_wide : (z : ℤ) → unsigned_abs z < 2 ^ 126 → wide z ≡ z
 kept_wide z h = omega (arith, ints)
 
 -- a square against a bound, where both were passed on in 128 bits
@@ -36,6 +36,14 @@ square_is (negsuc n) = refl
 pub long_root : (z m : ℤ) → unsigned_abs m < 2 ^ 126 → 2 ^ 63 ≤ unsigned_abs z → square z ≤ℤ m → ⊥
 long_root z m small long h =
     omega (arith, ints, square_is z, mul-le (2 ^ 63) (2 ^ 63) (unsigned_abs z) (unsigned_abs z) long long)
+
+-- a root below 2^63 is itself in 128 bits, and its square is below 2^126
+pub short_root : (z : ℤ) (n : ℕ) → FitsSigned w128 z → n ≡ unsigned_abs (wide z) → n < 2 ^ 63
+    → (wide z ≡ z) × (unsigned_abs (square z) < 2 ^ 126)
+short_root z n whole e h =
+    let same : wide z ≡ z = to_z-of_z w128 z whole in
+    let short : unsigned_abs z < 2 ^ 63 = rw (e, same) at h in
+    (same, omega (arith, unsigned_abs-mul z z, mul-lt (unsigned_abs z) (unsigned_abs z) (2 ^ 63) (2 ^ 63) short short))
 
 pub short_product : (a b : ℤ) → unsigned_abs a < 2 ^ 33 → unsigned_abs b < 2 ^ 33 → unsigned_abs (a *ℤ b) < 2 ^ 66
 short_product a b p q =
@@ -165,6 +173,9 @@ passed_less a b u v p q e f = rw (kept a p, kept b q, e, f) (less_is u v)
 -- a sum of two products against a third, as 128 bits compare it
 kept_sum : (a b : ℤ) → unsigned_abs a < 2 ^ 67 → unsigned_abs b < 2 ^ 67 → wide (wide a +ℤ wide b) ≡ a +ℤ b
 kept_sum a b p q = omega (arith, ints)
+
+pub sum_fits : (a b : ℤ) → unsigned_abs a < 2 ^ 67 → unsigned_abs b < 2 ^ 67 → FitsSigned w128 (wide a +ℤ wide b)
+sum_fits a b p q = rw (kept a p, kept b q) (fits_signed_from_abs w128 (a +ℤ b) (omega (arith, ints)))
 
 pub passed_sum : (a b c u v w : ℤ) → unsigned_abs a < 2 ^ 67 → unsigned_abs b < 2 ^ 67 → unsigned_abs c < 2 ^ 67
     → a ≡ u → b ≡ v → c ≡ w → IsTrue (le_z (wide (wide a +ℤ wide b)) (wide c)) ↔ (u +ℤ v) ≤ℤ w

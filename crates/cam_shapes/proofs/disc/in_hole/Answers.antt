@@ -1,4 +1,5 @@
-use Rattle.std.proofs.Common.{◌∙◌, ap}
+use Rattle.std.proofs.Common.{◌∙◌, ap, sym}
+use Rattle.std.proofs.lemmas.Bool.{false≢true}
 use Rattle.cam_shapes.specs.Plane.{dot, seen_from, square}
 use Rattle.cam_shapes.proofs.Widths.{passed_less, short_square}
 use Rattle.cam_shapes.proofs.disc.in_hole.Goals as goal
@@ -12,3 +13,9 @@ returns-then-is_positive c =
       (λ told. record { some = c.is_positive.ensures.0 c.if-is_positive.true; near = less.0 told }),
       (λ inside. less.1 inside.near),
     )
+
+pub returns-else-is_positive : goal.returns-else-is_positive
+returns-else-is_positive c = (
+  (λ told. absurd (false≢true (sym c.if-is_positive.false ∙ told))),
+  (λ inside. c.is_positive.ensures.1 inside.some),
+)

@@ -1,0 +1,7 @@
+use Rattle.cam_shapes.proofs.Caps.{passed_unlike}
+use Rattle.cam_shapes.proofs.cap.is_in_circle.Goals as goal
+
+pub returns-then-place-circle : goal.returns-then-place-circle
+returns-then-place-circle c =
+    passed_unlike c.dot-place.result c.dot-circle.result _ _ _ c.dot-place.ensures.bound c.dot-circle.ensures.bound
+    c.dot-place.ensures.value c.dot-circle.ensures.value c.if-place-circle.true
