@@ -30,6 +30,7 @@ pub mod SoundContents
 pub mod SoundMoves
 pub mod SoundSteps
 pub mod StationMoves
+pub mod StationRefusals
 pub mod StationTiles
 pub mod StepFacts
 pub mod TablesAt

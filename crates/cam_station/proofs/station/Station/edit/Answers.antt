@@ -8,6 +8,7 @@ use Rattle.cam_station.specs.Machinery.Touching.{last_accepted, touches_of}
 use Rattle.cam_station.proofs.LayerCounts.{accepted_count}
 use Rattle.cam_station.proofs.StationMoves.{edit_made, station_touched, touched_over}
 use Rattle.cam_station.proofs.Tied.{sound_edit}
+use Rattle.cam_station.proofs.StationRefusals.{edit_refused}
 use Rattle.cam_station.proofs.station.Station.edit.Goals as goal
 
 pub invariant_of-self : goal.invariant_of-self
@@ -34,3 +35,8 @@ returns-in-Ok-accept c =
     i.rasters.items _ c.args.edit c.in-Ok.step c.self.invariant.0.least c.in-Ok.ensures.planned
     c.in-Ok-accept.ensures.kept c.accept.ensures.depth c.in-Ok-accept.ensures.accepted touched in
     ap (λ s. edit_step s c.args.edit Granted) (sym c.self.view_is) ∙ made
+
+pub returns-in-Err : goal.returns-in-Err
+returns-in-Err c =
+    rw (c.without_place-in-Err.ensures, c.refusal.ensures, sym c.self.view_is)
+    (edit_refused _ _ _ c.in-Err.fault c.in-Err.ensures.refused)

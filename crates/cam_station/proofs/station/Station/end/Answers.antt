@@ -1,7 +1,8 @@
-use Rattle.std.proofs.Common.{rules, ap, sym, ◌∙◌}
+use Rattle.std.proofs.Common.{ap, sym, ◌∙◌}
 use Rattle.cam_edits.specs.Sheets.{sheets_of}
 use Rattle.cam_station.specs.Machine.{end_step}
 use Rattle.cam_station.proofs.StationMoves.{end_made}
+use Rattle.cam_station.proofs.StationRefusals.{end_refused}
 use Rattle.cam_station.proofs.station.Station.end.Goals as goal
 use Rattle.cam_station.proofs.station.Station.end.Goals.{in-Ok, in-Err}
 
@@ -15,5 +16,9 @@ returns c =
           (e.allowed i.board) e.kept (e.ended i.board) in
           rw w.result-is (ap end_step (sym c.self.view_is) ∙ made)
           )
-      | in-Err w ↦ search rules
+      | in-Err w ↦ (
+          let e = w.in-Err.ensures in
+          rw (w.result-is, w.without_place.ensures, w.refusal.ensures, e.refused)
+          (ap end_step (sym c.self.view_is) ∙ end_refused _ _ _ w.in-Err.fault (e.fault i.board))
+          )
     ]

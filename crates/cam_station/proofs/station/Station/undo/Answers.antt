@@ -2,10 +2,12 @@ use Rattle.std.proofs.Common.{rules, ap, sym, ◌∙◌, length}
 use Rattle.cam_station.specs.Machinery.Touching.{group_touches}
 use Rattle.cam_edits.specs.Sheets.{sheets_of}
 use Rattle.std.specs.Option.{option_copied}
-use Rattle.cam_station.specs.Machine.{Granted, undo_step}
+use Rattle.cam_undo.specs.Faults.{refusal_of}
+use Rattle.cam_station.specs.Machine.{Granted, memory_of, refused, undo_step}
 use Rattle.cam_station.proofs.LayerCounts.{undone_count}
 use Rattle.cam_station.proofs.SoundMoves.{sound_undo}
 use Rattle.cam_station.proofs.StationMoves.{undo_made, station_touched, touched_over, undone_depth}
+use Rattle.cam_station.proofs.StationRefusals.{history_refused}
 use Rattle.cam_station.proofs.station.Station.undo.Goals as goal
 
 pub returns-in-Ok : goal.returns-in-Ok
@@ -29,3 +31,10 @@ invariant_of-self c =
       c.undo.ensures.tied,
       rw c.in-Ok.ensures.undone (sound_undo _ c.in-Ok.ensures.allowed c.self.invariant.2),
     )
+
+pub returns-in-Err : goal.returns-in-Err
+returns-in-Err c =
+    let e = c.in-Err.ensures in
+    rw (c.without_place.ensures, c.refusal.ensures, e.refused.0, e.refused.1)
+    (ap (λ s. undo_step s (memory_of (refused (refusal_of c.in-Err.fault)))) (sym c.self.view_is)
+    ∙ history_refused _ _ _ c.in-Err.fault e.fault)
