@@ -210,6 +210,11 @@ const MOVED_AND_CLEARED: &[u8] =
 /// All scripts.
 const SCRIPTS: &[&Script] = &[REFUSALS, HISTORY, OLDEST, IN_TURN];
 
+/// The same, from a function of their own: the proof of each function that names a constant has all of its texts.
+fn scripts() -> &'static [&'static Script] {
+    SCRIPTS
+}
+
 /// The files, of which the get and the put of these numbers fail, counted from 1 once the files are there.
 fn files(alloc: Global, get: usize, put: usize) -> Result<MemoryFiles, Fail> {
     let put = match put {
@@ -301,7 +306,7 @@ fn runs(
 #[test]
 fn each_get(rt: HostRuntime) -> Result<(), Fail> {
     let alloc = rt.alloc();
-    for &script in SCRIPTS {
+    for &script in scripts() {
         for (k, call) in script.gets.iter().enumerate() {
             // Where there is no file, the failure is counted all the same.
             if reply_at(script, call.0) != b"refused 82\n".as_slice() {
@@ -318,7 +323,7 @@ fn each_get(rt: HostRuntime) -> Result<(), Fail> {
 #[test]
 fn each_put(rt: HostRuntime) -> Result<(), Fail> {
     let alloc = rt.alloc();
-    for &script in SCRIPTS {
+    for &script in scripts() {
         for (k, call) in script.puts.iter().enumerate() {
             runs(&rt, alloc, script, (0, k.saturating_add(1)), Some(*call))?;
         }
@@ -378,7 +383,7 @@ fn ended(
 /// Each say fails in turn, and ends the run: what was said before it is said, and nothing more. Then none fails.
 #[test]
 fn each_say(rt: HostRuntime) -> Result<(), Fail> {
-    for &script in SCRIPTS {
+    for &script in scripts() {
         let told = told(rt.alloc(), script, None)?;
         let ended = ended(&rt, rt.alloc(), script, told.as_slice())?;
         assert!(rt; ended == Some(script.refused), "{ended:?}");

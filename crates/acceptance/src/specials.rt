@@ -167,14 +167,18 @@ fn an_output_that_fails(rt: HostRuntime) -> Result<(), Fail> {
     Ok(())
 }
 
+/// How many answers two commands get that come as a list.
+fn answers_to_two(alloc: Global, station: &mut Station) -> Result<usize, Fail> {
+    let mut commands = VecDeque::new(alloc);
+    commands.push_back(Command::Redo)?;
+    commands.push_back(Command::ListAll)?;
+    Ok(station.apply_all(commands)?.len())
+}
+
 /// Commands that come as a list are each answered.
 #[test]
 fn a_list_of_commands(rt: HostRuntime) -> Result<(), Fail> {
     let mut station = Station::new(rt.alloc(), 1)?;
-    let mut commands = VecDeque::new(rt.alloc());
-    commands.push_back(Command::Redo)?;
-    commands.push_back(Command::ListAll)?;
-    let answers = station.apply_all(commands)?;
-    assert!(rt; answers.len() == 2);
+    assert!(rt; answers_to_two(rt.alloc(), &mut station)? == 2);
     Ok(())
 }

@@ -8,7 +8,7 @@
 //! bytes of its file in.
 //!
 //! ```rust
-//! use cam_station::{Bytes, Command, FileKind, Line, Name, Reply, Station, parse_line};
+//! use cam_station::{Bytes, Command, FileKind, Name, Station};
 //!
 //! let mut station = Station::new(alloc, 100)?;
 //! let file = b"%FSLAX46Y46*%%MOMM*%%ADD10C,1*%D10*X0Y0D03*M02*";
@@ -17,8 +17,13 @@
 //!     kind: FileKind::Gerber,
 //!     file: Bytes::from_vec(Vec::from_slice(alloc, file)?),
 //! })?;
+//! ```
 //!
-//! // lines of a script that no file goes with
+//! A line of a script that no file goes with is a command by itself:
+//!
+//! ```rust
+//! use cam_station::{Line, parse_line};
+//!
 //! let lines: [&[u8]; 3] = [
 //!     b"window -750000 -750000 500000 3 3",
 //!     b"move top 0 500000 0",
@@ -29,6 +34,12 @@
 //!         station.apply(command)?;
 //!     }
 //! }
+//! ```
+//!
+//! The answer to a plot is the file of the picture, and how many tiles were drawn for it:
+//!
+//! ```rust
+//! use cam_station::Reply;
 //!
 //! let name = Name::from_string(String::from_str(alloc, "top")?);
 //! let Reply::Bytes { bytes, drawn } = station.apply(Command::Plot { name })? else {
