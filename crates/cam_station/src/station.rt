@@ -2,27 +2,10 @@
 
 ghost use Rattle.std.specs.Prelude.{◌≡◌, IfErr, IfNone, IfOk, IfSome, None, Ok, OnErr, OnOk, Some};
 ghost use Rattle.cam_edits.specs.Sheets.{AreSound, IsSound, sheet_of, sheets_of};
-ghost use Rattle.cam_station.specs.Machine.{
-  abort_step,
-  begin_step,
-  edit_of,
-  edit_step,
-  end_step,
-  fault,
-  list_layer_step,
-  list_step,
-  load_step,
-  memory_of,
-  plot_step,
-  redo_step,
-  redraw_step,
-  station_of,
-  step,
-  undo_step,
-  window_step,
-  with_sheet,
-  write_step,
-};
+ghost use Rattle.cam_station.specs.Machine.{abort_step, begin_step, edit_of, edit_step, end_step, fault};
+ghost use Rattle.cam_station.specs.Machine.{list_layer_step, list_step, load_step, memory_of, plot_step};
+ghost use Rattle.cam_station.specs.Machine.{redo_step, redraw_step, station_of, step, undo_step, window_step};
+ghost use Rattle.cam_station.specs.Machine.{with_sheet, write_step};
 ghost use Rattle.cam_station.specs.TileTables.{tile_at};
 ghost use Rattle.cam_refusals.specs.declared.refusal.Refusal.TheVariants.{NoMemory};
 ghost use Rattle.cam_station.specs.Calls.{IsRun, after_refusal};
