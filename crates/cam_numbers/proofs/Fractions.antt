@@ -21,9 +21,6 @@ one_more n = omega arith
 more_one : (n : ℕ) → suc n + 1 ≡ suc (n + 1)
 more_one n = omega arith
 
-first_one : 0 + 1 ≡ suc 0
-first_one = refl
-
 unpointed : (byte : ℕ) → is_blank byte ≡ true → is_point byte ≡ false
 unpointed byte e = grind (arith, nat_tests)
 

@@ -1,5 +1,5 @@
 -- Runs without the bytes that are passed over.
-use Rattle.std.proofs.Common.{◌≡◌, ℕ, ◌+◌, ◌<◌, ◌≤◌, List, [], ◌∷◌, length, drop, get_or, true, false, cond, not, refl, sym, ap, ◌∙◌}
+use Rattle.std.proofs.Common.{◌≡◌, ℕ, ◌+◌, ◌<◌, ◌≤◌, List, [], ◌∷◌, length, drop, get_or, true, false, cond, not, refl, ap, ◌∙◌}
 use Rattle.std.proofs.lemmas.List.{drop_more, at_drop_all}
 use Rattle.cam_numbers.specs.declared.blanks.Blanks.{Blanks}
 use Rattle.cam_numbers.specs.declared.blanks.Blanks.TheVariants.{Refused, Skipped}
@@ -18,14 +18,6 @@ kept_of_more Skipped byte run =
       | true ↦ refl
       | false ↦ refl
     ]
-
--- a byte that is passed over
-pub kept_behind_passed : (blanks : Blanks) (run : List ℕ) (i : ℕ) → i < length run → passes blanks (get_or run i 0) ≡ true
-    → kept blanks (drop (i + 1) run) ≡ kept blanks (drop i run)
-kept_behind_passed blanks run i h e =
-    let more : kept blanks (get_or run i 0 ∷ drop (i + 1) run) ≡ kept blanks (drop (i + 1) run) =
-    kept_of_more blanks (get_or run i 0) (drop (i + 1) run) ∙ rw e refl in
-    sym more ∙ ap (kept blanks) (sym (drop_more run i 0 h))
 
 -- a byte that is not
 pub kept_at : (blanks : Blanks) (run : List ℕ) (i : ℕ) → i < length run → passes blanks (get_or run i 0) ≡ false
