@@ -14,18 +14,6 @@ beyond_on start step room i j order beyond =
     let farther : near ≤ far = omega (arith, mul-le i step j step order (omega arith)) in
     omega (arith, beyond, mul-le near near far far farther farther)
 
--- a side that has no column has reached the end of each chord
-pub none_reached : (reach room : ℕ) (s : ChordSide) → IsSide reach s → s.columns ≡ 0
-    → HasReached s room × (0 ≡ s.inside)
-none_reached reach room s side none =
-    let within = side.within in (
-      record {
-        near = λ j inside. absurd (omega (arith, inside, within, none));
-        beyond = λ j from before. absurd (omega (arith, before, none));
-      },
-      omega (arith, within, none),
-    )
-
 -- the column before the next one
 pub last_is : (reach : ℕ) (s : ChordSide) (last : ℕ) → IsSide reach s → 0 < s.inside → last ≡ s.next - s.step
     → last ≡ distance_at s (s.inside - 1)
