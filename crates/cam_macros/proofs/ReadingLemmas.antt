@@ -1,6 +1,6 @@
 -- Fields and parts, one at a time.
 use Rattle.std.proofs.Common.{◌≡◌, ℕ, suc, true, false, cond, not, List, [], ◌∷◌, ◌++◌, length, Option, Some, None}
-use Rattle.std.proofs.Common.{ap, sym, subst, ◌∙◌, append_assoc, append-nil}
+use Rattle.std.proofs.Common.{ap, subst, ◌∙◌, append-nil}
 use Rattle.std.specs.Borrow.{Bor}
 use Rattle.cam_macros.specs.declared.part.Part.{Part}
 use Rattle.cam_macros.specs.declared.fault.MacroFault.{MacroFault}
@@ -23,9 +23,6 @@ pub record AreReadBefore (left all : List (List ℕ)) (items : List Tree) : Type
   pub forth : (more : List Tree) → AreExpressions left more → AreExpressions all (items ++ more)
   pub back : (trees : List Tree) → AreExpressions all trees → (more : List Tree) × AreExpressions left more
 
-pub fields_start : (all : List (List ℕ)) → AreReadBefore all all []
-fields_start all = record { forth = λ more h. h; back = λ trees h. (trees, h) }
-
 pub tail_read : (text : List ℕ) (left : List (List ℕ)) (more : List Tree) → AreExpressions (text ∷ left) more
     → (rest : List Tree) × AreExpressions left rest
 tail_read text left [] h = absurd h
@@ -35,14 +32,6 @@ pub head_read : (text : List ℕ) (left : List (List ℕ)) (more : List Tree) �
     → (tree : Tree) × IsExpression text tree
 head_read text left [] h = absurd h
 head_read text left (tree ∷ more) h = (tree, h.0)
-
-pub fields_next : (text : List ℕ) (left all : List (List ℕ)) (items : List Tree) (tree : Tree)
-    → AreReadBefore (text ∷ left) all items → IsExpression text tree → AreReadBefore left all (items ++ tree ∷ [])
-fields_next text left all items tree k e = record {
-  forth = λ more h. subst (AreExpressions all) (sym (append_assoc items (tree ∷ []) more))
-      (k.forth (tree ∷ more) (e, h));
-  back = λ trees h. let found = k.back trees h in tail_read text left found.0 found.1;
-}
 
 pub fields_end : (all : List (List ℕ)) (items : List Tree) → AreReadBefore [] all items → AreExpressions all items
 fields_end all items k = subst (AreExpressions all) (append-nil items) (k.forth [] tt)
@@ -63,9 +52,6 @@ pub record ArePartsBefore (left all : List (List ℕ)) (items : List Part) : Typ
   pub forth : (more : List Part) → AreParts left more → AreParts all (items ++ more)
   pub back : (parts : List Part) → AreParts all parts → (more : List Part) × AreParts left more
 
-pub parts_start : (all : List (List ℕ)) → ArePartsBefore all all []
-parts_start all = record { forth = λ more h. h; back = λ parts h. (parts, h) }
-
 pub tail_part : (piece : List ℕ) (left : List (List ℕ)) (more : List Part) → AreParts (piece ∷ left) more
     → (rest : List Part) × AreParts left rest
 tail_part piece left [] h = absurd h
@@ -79,25 +65,6 @@ head_part piece left (part ∷ more) h = (part, h.0)
 spoken_yes : (piece : List ℕ) (left : List (List ℕ)) → is_silent piece ≡ false
     → spoken (piece ∷ left) ≡ piece ∷ spoken left
 spoken_yes piece left e = ap (λ v. cond (not v) (piece ∷ spoken left) (spoken left)) e
-
-spoken_no : (piece : List ℕ) (left : List (List ℕ)) → is_silent piece ≡ true → spoken (piece ∷ left) ≡ spoken left
-spoken_no piece left e = ap (λ v. cond (not v) (piece ∷ spoken left) (spoken left)) e
-
-pub parts_skip : (piece : List ℕ) (left all : List (List ℕ)) (items : List Part) → is_silent piece ≡ true
-    → ArePartsBefore (spoken (piece ∷ left)) all items → ArePartsBefore (spoken left) all items
-parts_skip piece left all items e k = subst (λ l. ArePartsBefore l all items) (spoken_no piece left e) k
-
-pub parts_next : (piece : List ℕ) (left all : List (List ℕ)) (items : List Part) (part : Part)
-    → is_silent piece ≡ false → ArePartsBefore (spoken (piece ∷ left)) all items → IsPart piece part
-    → ArePartsBefore (spoken left) all (items ++ part ∷ [])
-parts_next piece left all items part e k p =
-    let first : ArePartsBefore (piece ∷ spoken left) all items =
-    subst (λ l. ArePartsBefore l all items) (spoken_yes piece left e) k in
-    record {
-      forth = λ more h. subst (AreParts all) (sym (append_assoc items (part ∷ []) more))
-          (first.forth (part ∷ more) (p, h));
-      back = λ parts h. let found = first.back parts h in tail_part piece (spoken left) found.0 found.1;
-    }
 
 pub parts_end : (all : List (List ℕ)) (items : List Part) → ArePartsBefore [] all items → AreParts all items
 parts_end all items k = subst (AreParts all) (append-nil items) (k.forth [] tt)
