@@ -10,7 +10,7 @@ use Rattle.std.specs.Str.{bytes_eq}
 use Rattle.cam_refusals.specs.declared.refusal.Refusal.{Refusal}
 use Rattle.cam_refusals.specs.declared.refusal.Refusal.TheVariants.{BadNumber, SizeRefused, TemplateRefused}
 use Rattle.cam_refusals.specs.declared.refusal.Refusal.TheVariants.{UnknownCommand}
-use Rattle.cam_refusals.specs.Checks.{Checks, Holds, IsLeast, NoneHolds}
+use Rattle.cam_refusals.specs.Checks.{Checks, IsLeast, NoneHolds}
 use Rattle.cam_refusals.specs.Limits.{size_limit}
 use Rattle.cam_refusals.specs.Refusals.{UnlessMemory, number_of}
 use Rattle.cam_units.specs.declared.length.Nm.{Nm}
@@ -174,10 +174,6 @@ faults_of None macros unit = (UnknownCommand, true) ∷ []
 faults_of (Some d) macros unit =
     (BadNumber, is_none (defined_number d.number)) ∷ (BadNumber, is_none (values_of d.parameters))
     ∷ template_faults d.name macros unit (length d.parameters) (unwrap_or (values_of d.parameters) [])
-
--- the text has the fault
-abbrev pub IsAdFault : List ℕ → List Macro → FileUnit → Refusal → Type 0
-IsAdFault text macros unit = Holds (faults_of (definition_of text) macros unit)
 
 -- the text has no fault, and defines an aperture of this number
 pub record IsDefined (text : List ℕ) (macros : List Macro) (unit : FileUnit) (number : ℕ) (aperture : Aperture)
