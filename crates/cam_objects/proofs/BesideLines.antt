@@ -140,9 +140,6 @@ times_down a u v none h =
 pub less_apart : (u v p q : ℤ) → u ≤ℤ v → q ≤ℤ p → (u -ℤ p) ≤ℤ (v -ℤ q)
 less_apart u v p q h k = omega (arith, ints)
 
-pub seen_order : (u v p : ℤ) → u ≤ℤ v → (u -ℤ pos 2 *ℤ p) ≤ℤ (v -ℤ pos 2 *ℤ p)
-seen_order u v p h = omega (arith, ints)
-
 pub far_below : (a e u d low : ℤ) → a ≤ℤ pos 0 → e ≡ low → low ≤ℤ u → (a *ℤ (u -ℤ d)) ≤ℤ (a *ℤ (e -ℤ d))
 far_below a e u d low none is h = times_down a (e -ℤ d) (u -ℤ d) none (omega (arith, ints))
 

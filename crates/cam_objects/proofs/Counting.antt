@@ -1,8 +1,7 @@
 -- what lists of objects and of items count
-use Rattle.std.proofs.Common.{◌≡◌, ◌+◌, IfNone, IfSome, Option, None, Some, is_some, nat_le, sym, ℕ, zero, suc, ◌*◌, ◌<◌, ◌≤◌, List, [], ◌∷◌, length, arith}
+use Rattle.std.proofs.Common.{ℕ, zero, suc, ◌*◌, ◌<◌, ◌≤◌, List, [], ◌∷◌, length, arith}
 use Rattle.std.proofs.Math.Nat.{mul-le-mul_left, mul_comm}
 use Rattle.std.proofs.lemmas.List.Sums.{sum_by-cons}
-use Rattle.std.proofs.lemmas.Bool.{false_from_ne_true, le-leb, leb-true}
 use Rattle.cam_objects.specs.declared.object.Object.{Object}
 use Rattle.cam_objects.specs.Weights.{Weight, block_count, object_count}
 use Rattle.cam_objects.proofs.SoundLayers.{count_some}
@@ -23,9 +22,3 @@ pub past_room : (w : ℕ → Weight) (objects : List Object) (copies room : ℕ)
     → room < copies * block_count w objects
 past_room w objects copies room some low many =
     omega (arith, at_least copies (block_count w objects) some, many_counted w objects)
-
--- room is left where there is enough
-pub room_told : (o : Option ℕ) (all room : ℕ) → IfSome o (λ left. left + all ≡ room) → IfNone o (room < all)
-    → is_some o ≡ nat_le all room
-room_told None all room fits past = sym (false_from_ne_true (nat_le all room) (λ e. let h = leb-true all room e in omega arith))
-room_told (Some left) all room fits past = sym (le-leb all room (omega arith))

@@ -137,14 +137,6 @@ module _ {M : Type 0} (nothing : M) (means : (ℕ → M) → Entry → M) where
   pub meant-absent : (es : Pairs) (k n : ℕ) → lookup (nat_eq n) es ≡ None → k ≤ length es → meant k es n ≡ nothing
   meant-absent es k n h within = nowhere es k n (n, Block []) within (λ j b. absent_at es n j (n, Block []) h (omega arith))
 
--- the number of an entry stands nowhere before it
-lookup_none : (es : Pairs) (n : ℕ) (d : ℕ × Entry) → ((j : ℕ) → j < length es → nat_eq (get_or es j d).0 n ≡ false)
-    → lookup (nat_eq n) es ≡ None
-lookup_none [] n d others = refl
-lookup_none (e ∷ es) n d others =
-    ap (λ b. cond b (Some e.1) (lookup (nat_eq n) es)) (flip e.0 n (others zero (omega arith)))
-    ∙ lookup_none es n d (λ j b. others (suc j) (omega arith))
-
 pub take_pair : (es : Pairs) (k n : ℕ) (e : Entry) → slice_get es k ≡ Some (n, e) → take (k + 1) es ≡ take k es ++ (n, e) ∷ []
 take_pair es k n e at =
     take_more es k (n, e) (slice_get_within es k (n, e) at)

@@ -25,7 +25,7 @@ use Rattle.cam_objects.specs.declared.cells.sides.Sides.{Sides}
 use Rattle.cam_objects.specs.Bounds.{bounds_of}
 use Rattle.cam_objects.specs.Leaves.{item_leaves, meaning_in}
 use Rattle.cam_objects.specs.Cells.{AreBeside, AreCellsOf, IsCell, IsReachOf, IsSide, Reaches, bottom_of, box_at, left_of, right_of, top_of}
-use Rattle.cam_objects.specs.Machinery.Measures.{IsDrillMeasureOf, IsMeasureOf}
+use Rattle.cam_objects.specs.Machinery.Measures.{IsDrillMeasureOf}
 use Rattle.cam_objects.specs.Machinery.Painting.{StandsOnBoard}
 use Rattle.cam_objects.specs.Soundness.{HasSoundItems, IsInside, IsSoundItem}
 use Rattle.cam_objects.proofs.SoundItems.{meets}
@@ -60,18 +60,6 @@ listed_stands layer shown place x o sound is within here one =
     let item : IsSoundItem es (One o) = subst (IsSoundItem es) (sym here ∙ one) listed in
     let inside : IsInside es (One o) = (meets es (One o) item).inside in
     inside.points 0 o (omega arith)
-
--- and so is what is read of it
-pub measured : (layer shown : Layer) (place : ℕ) (x y item : Item) (m : Measure) → layer ≡ shown
-    → x ≡ get_or layer.items.items place x → slice_get shown.items.items place ≡ Some item → x ≡ y
-    → IsMeasureOf layer.apertures y m → IsMeasureOf shown.apertures item m
-measured layer shown place x y item m is here at same known =
-    subst (λ (z : Item). IsMeasureOf shown.apertures z m)
-    (sym same
-    ∙ here
-    ∙ ap (λ (l : Layer). get_or l.items.items place x) is
-    ∙ get_or_from_slice_get shown.items.items place item x at)
-    (subst (λ (l : Layer). IsMeasureOf l.apertures y m) is known)
 
 pub drill_measured : (layer shown : DrillLayer) (place : ℕ) (x y item : DrillItem) (m : Measure) → layer ≡ shown
     → x ≡ get_or layer.items.items place x → slice_get shown.items.items place ≡ Some item → x ≡ y

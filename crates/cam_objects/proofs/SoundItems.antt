@@ -1,6 +1,6 @@
 -- What a sound item meets, and what a check tells of another.
 use Rattle.std.proofs.Common.{◌≡◌, ℕ, ◌*◌, ◌<◌, ◌≤◌, nat_lt, Bool, true, false, not, cond, IsTrue, List}
-use Rattle.std.proofs.Common.{length, Option, None, Some, Ok, Err, is_some, refl}
+use Rattle.std.proofs.Common.{length, Option, None, Some, Ok, is_some, refl}
 use Rattle.std.specs.Bool.{Decides}
 use Rattle.std.specs.List.{All, list_all}
 use Rattle.std.proofs.lemmas.Bool.Decides.{Decides-ltb}
@@ -128,11 +128,6 @@ passed fault false later e = absurd cc
 pub none_told : {F : Type 0} (o : Option F) (done : Unit) → Ok done ≡ answer_of o → o ≡ None
 none_told None done e = refl
 none_told (Some fault) done e = absurd cc
-
--- and where they tell one
-pub some_told : {F : Type 0} (o : Option F) (fault : F) → Err fault ≡ answer_of o → o ≡ Some fault
-some_told None fault e = absurd cc
-some_told (Some other) fault e = cc
 
 module _ (es : List (ℕ × Entry)) (item : Item) where
   pub meets : IsSoundItem es item → Meets es item
