@@ -1,9 +1,8 @@
 -- What is computed of a file is what its reader answers; its layers are sound, and the numbers of its faults under that of
 -- memory.
-use Rattle.std.proofs.Common.{◌≡◌, ◌≢◌, ◌≤◌, ℕ, List, Result, Ok, Err, subst, inl, inr}
+use Rattle.std.proofs.Common.{◌≡◌, ◌≤◌, ℕ, List, Result, Ok, Err, subst, inl, inr}
 use Rattle.std.specs.Prelude.{◌⊎◌}
 use Rattle.cam_refusals.specs.declared.read_fault.ReadFault.{ReadFault}
-use Rattle.cam_refusals.specs.declared.refusal.Refusal.TheVariants.{NoMemory}
 use Rattle.cam_refusals.specs.Refusals.{number_of}
 use Rattle.cam_objects.specs.declared.layer.Layer.{Layer}
 use Rattle.cam_objects.specs.Attributes.{AreAttributes}
@@ -33,9 +32,6 @@ reading_is_sound bytes layer e = content_is_sound bytes layer (means bytes (Ok l
 
 pub attributes_are_sound : (bytes : List ℕ) (layer : Content) → reading_of bytes ≡ Ok layer → AreAttributes layer.attributes
 attributes_are_sound bytes layer e = sound.attributes_are_sound bytes layer (means bytes (Ok layer) e)
-
-pub no_fault_is_memory : (bytes : List ℕ) (f : ReadFault) → reading_of bytes ≡ Err f → f.code ≢ NoMemory
-no_fault_is_memory bytes f e = least.no_fault_is_memory bytes f (means bytes (Err f) e)
 
 pub fault_number : (bytes : List ℕ) (f : ReadFault) → reading_of bytes ≡ Err f → number_of f.code ≤ 29
 fault_number bytes f e = faults_are_numbered bytes f (means bytes (Err f) e)
