@@ -100,9 +100,6 @@ pub record IsWritableRepeat (columns rows : ℕ) (i j : ℤ) : Type 0 where
 abbrev repeat_text : ℕ → ℕ → ℤ → ℤ → List ℕ
 repeat_text columns rows i j = 88 ∷ (decimal columns ++ 89 ∷ (decimal rows ++ 73 ∷ (mm i ++ 74 ∷ mm j)))
 
-letter_stops : (letter : ℕ) (rest : List ℕ) → is_numeric letter ≡ false → Stops (letter ∷ rest)
-letter_stops letter rest e = e
-
 repeat_begun : (columns rows : ℕ) (i j : ℤ) → IsWritableRepeat columns rows i j
     → statement_of (repeat_command (repeat_text columns rows i j)) ≡ opening_of columns rows i j
 unfolding repeat_command is_numeric

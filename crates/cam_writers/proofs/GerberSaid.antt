@@ -264,40 +264,6 @@ all_told attributes entries items set fit each =
 
 -- ---- said and found apart
 
-pub object_said : (commands : Commands) (object : Object) → IsFit object
-    → said_by (with_object commands object) ≡ past_object (said_by commands) object
-object_said commands object fit = (object_told commands commands (said_by commands) object fit (itself commands)).said
-
-pub object_found : (commands : Commands) (object : Object) → IsFit object → AreCommands commands
-    → AreCommands (with_object commands object)
-object_found commands object fit = (object_told commands commands (said_by commands) object fit (itself commands)).found
-
-pub objects_said : (commands : Commands) (objects : List Object) → AllByRecursion IsFit objects
-    → said_by (with_objects commands objects) ≡ past_objects (said_by commands) objects
-objects_said commands objects fit =
-    (objects_told commands objects commands (said_by commands) fit (itself commands)).said
-
-pub objects_found : (commands : Commands) (objects : List Object) → AllByRecursion IsFit objects → AreCommands commands
-    → AreCommands (with_objects commands objects)
-objects_found commands objects fit =
-    (objects_told commands objects commands (said_by commands) fit (itself commands)).found
-
-pub entry_said : (commands : Commands) (e : ℕ × Entry) → IsFitEntry e
-    → said_by (with_entry commands e) ≡ past_entry (said_by commands) e
-entry_said commands e fit = (entry_told commands commands (said_by commands) e fit (itself commands)).said
-
-pub entry_found : (commands : Commands) (e : ℕ × Entry) → IsFitEntry e → AreCommands commands
-    → AreCommands (with_entry commands e)
-entry_found commands e fit = (entry_told commands commands (said_by commands) e fit (itself commands)).found
-
-pub item_said : (commands : Commands) (item : Item) → IsFitItem item
-    → said_by (with_item commands item) ≡ past_item (said_by commands) item
-item_said commands item fit = (item_told commands commands (said_by commands) item fit (itself commands)).said
-
-pub item_found : (commands : Commands) (item : Item) → IsFitItem item → AreCommands commands
-    → AreCommands (with_item commands item)
-item_found commands item fit = (item_told commands commands (said_by commands) item fit (itself commands)).found
-
 pub all_said : (attributes : List Attribute) (entries : List (ℕ × Entry)) (items : List Item) → All IsAttribute attributes
     → AllByRecursion IsFitEntry entries → AllByRecursion IsFitItem items
     → said_by (commands_before_end attributes entries items) ≡ past_before_end attributes entries items
