@@ -148,6 +148,3 @@ module _ (c : Content) (key : List ℕ) where
     pub dropped : (k : ℕ) → Some k ≡ attribute_place key c.attributes → Ok (TakeAttribute k) ≡ judged_change c (DropAttribute key)
     unfolding step_checks
     dropped k at = sym (by_place (Some k) at)
-
-pub fits_there : (c : Content) (key : List ℕ) (k : ℕ) → Some k ≡ attribute_place key c.attributes → k < length c.attributes
-fits_there c key k at = within key c.attributes k (sym at)
