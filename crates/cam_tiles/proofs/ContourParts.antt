@@ -4,7 +4,6 @@ use Rattle.std.proofs.Common.{List, [], ◌∷◌, ◌++◌, length, drop, get_o
 use Rattle.std.proofs.Common.{refl, sym, ap, subst, ◌∙◌, arith}
 use Rattle.std.specs.List.{All}
 use Rattle.std.specs.Prelude.{slice_get}
-use Rattle.std.proofs.lemmas.Bool.{false≢true}
 use Rattle.std.proofs.lemmas.List.{append-nil, append_assoc, drop_all, drop_more, length-drop, take-append-drop}
 use Rattle.std.proofs.lemmas.List.Elements.{All-drop, All-head, All-tail, All-take}
 use Rattle.cam_units.specs.Board.{IsOnBoard}
@@ -191,10 +190,3 @@ next_within h next joined from here there part k d more is own either so_far s c
             | inr later ↦ inr (subst (λ (p : Point). IsTrue (change_sides s p (drop (k + 1) part))) (sym is) later)
           ])
     ]
-
-pub all_within : (h : Heights) (from here : Point) (part : List Seg) (k : ℕ) → length part ≤ k
-    → ChangeWithinBut h from here (drop k part) part → ChangeWithin h from part
-all_within h from here part k all so_far s changes = elim (so_far s changes) [
-  | inl within ↦ within
-  | inr left ↦ absurd (false≢true (sym (none_changes s here part k all) ∙ left))
-]

@@ -27,9 +27,6 @@ one_of_own new true false P Q R h k none same = grind arith
 one_of_own new false true P Q R h k none same = grind arith
 one_of_own new false false P Q R h k none same = grind arith
 
-one_alike : (New Was P Q : Type 0) → New ↔ IsOne Was P → P ↔ Q → New ↔ IsOne Was Q
-one_alike New Was P Q told same = grind arith
-
 pub record AreRowsTurned (first rows : ℕ) (IsHeld : ℕ → ℕ → Type 0) (old new : List ℕ) : Type 0 where
   pub size : length new ≡ length old
   pub turned : TurnsRows first rows IsHeld old new
@@ -68,17 +65,6 @@ module _ (first : ℕ) (IsHeld : ℕ → ℕ → Type 0) where
   pub all_turned : (k n : ℕ) (old new : List ℕ) → k ≡ n → AreRowsTurned first k IsHeld old new
       → TurnsRows first n IsHeld old new
   all_turned k n old new e so_far = subst (λ (m : ℕ). TurnsRows first m IsHeld old new) e so_far.turned
-
--- what is held in each row, told in other words
-pub turned_alike : (first rows : ℕ) (IsHeld IsAlso : ℕ → ℕ → Type 0) (old new : List ℕ)
-    → ((k c : ℕ) → k < rows → IsHeld k c ↔ IsAlso k c) → TurnsRows first rows IsHeld old new
-    → TurnsRows first rows IsAlso old new
-turned_alike first rows IsHeld IsAlso old new same turned r c small within =
-    let here = turned r c small within in
-    one_alike _ _ _ _ here (
-      (λ held. (held.0, held.1, (same (r - first) c (omega (arith, held.0, held.1))).0 held.2)),
-      (λ held. (held.0, held.1, (same (r - first) c (omega (arith, held.0, held.1))).1 held.2)),
-    )
 
 -- ---- runs
 
