@@ -1,6 +1,6 @@
 -- A line of an insertion is read as the insertion.
 use Rattle.std.proofs.Common.{◌≡◌, ℕ, ◌<◌, ◌≤◌, ◌^◌, Bool, true, false, List, [], ◌∷◌, ◌++◌, length}
-use Rattle.std.proofs.Common.{Option, None, Some, Ok, Err, refl, ap, ◌∙◌, arith, subst, if◌then◌else◌}
+use Rattle.std.proofs.Common.{Option, Some, Ok, Err, refl, ap, ◌∙◌, arith, subst, if◌then◌else◌}
 use Rattle.std.specs.Prelude.{◌&&◌, codes, decimal, All, nat_le, nat_lt}
 use Rattle.std.specs.List.{flat_map, list_all}
 use Rattle.std.proofs.lemmas.Bool.{ltb-true}
@@ -203,9 +203,6 @@ drill_read (Rout tool (p ∷ points)) s = rw (tool_reads tool s.tool, points_rea
 
 same_words : (a b : List ℕ) → ◌≡◌ {A = Option (List ℕ)} (Some a) (Some b) → a ≡ b
 same_words a b e = cc
-
-no_words : (a : List ℕ) → ◌≡◌ {A = Option (List ℕ)} None (Some a) → ⊥
-no_words a e = cc
 
 pub words_read_back_lem : WordsReadBack
 words_read_back_lem name k (new_items.Gerber (One object)) words no_memory named small said are short =

@@ -61,13 +61,6 @@ no_numeral_text most digits no_text =
     sym (closed (is_filled digits) (all_ascii_digits digits) (nat_le (digits_value 10 digits) most) (digits_value 10 digits)
     (λ filled all few. no_text (IsUtf8-from_ascii digits (digits_ascii digits all))))
 
-pub no_numeral_plus : (most : ℕ) (digits : List ℕ) → get_or digits 0 0 ≡ 43 → None ≡ numeral_to most digits
-no_numeral_plus most [] e = refl
-no_numeral_plus most (c ∷ cs) e =
-    sym (closed (is_filled (c ∷ cs)) (all_ascii_digits (c ∷ cs)) (nat_le (digits_value 10 (c ∷ cs)) most) (digits_value 10 (c ∷ cs))
-    (λ filled all few. let digit : is_ascii_digit c ≡ true = (both (is_ascii_digit c) (all_ascii_digits cs) all).0 in
-    grind (arith, nat_tests)))
-
 pub no_numeral_parsed : {E : Type 0} → (most : ℕ) (digits text : List ℕ) (e : E) → text ≡ digits → get_or digits 0 0 ≢ 43 → most < 2 ^ 64
     → ParsesUnsigned 64 10 text (Err e) → None ≡ numeral_to most digits
 no_numeral_parsed {E} most digits text e same no_plus small parses =
