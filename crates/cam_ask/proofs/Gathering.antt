@@ -1,51 +1,18 @@
 -- Places that are told, one after the other.
-use Rattle.std.proofs.Common.{◌≡◌, ◌∙◌, ap, sym, subst, refl, ℕ, ◌+◌, ◌<◌, ◌≤◌, ◌^◌, List, [], ◌∷◌, ◌++◌, length, append_assoc, append-nil, arith}
-use Rattle.std.specs.Prelude.{None, Some}
+use Rattle.std.proofs.Common.{◌≡◌, ◌∙◌, ap, sym, subst, ℕ, ◌+◌, ◌<◌, ◌≤◌, ◌^◌, List, [], ◌∷◌, ◌++◌, length, append_assoc, append-nil, arith}
 use Rattle.std.specs.List.{flat_map}
 use Rattle.std.proofs.lemmas.List.{length-map}
 use Rattle.std.proofs.lemmas.List.Concat.{flat_map-append}
-use Rattle.cam_units.specs.Board.{IsPlace}
 use Rattle.cam_units.specs.declared.bounds.Bounds.{Bounds}
-use Rattle.cam_units.specs.declared.point.Spot.{Spot}
 use Rattle.cam_objects.specs.Bounds.{bounds_of}
 use Rattle.cam_objects.specs.Drilling.{drill_item_leaves}
 use Rattle.cam_objects.specs.Enclosed.{AreNoneEnclosed, IsFirstEnclosed}
 use Rattle.cam_objects.specs.Leaves.{item_leaves, meaning_in}
 use Rattle.cam_refusals.specs.Limits.{count_limit}
-use Rattle.cam_objects.specs.Topmost.{PointsAt}
-use Rattle.cam_edits.specs.Asking.{sheet_boxes, sheet_lists}
+use Rattle.cam_edits.specs.Asking.{sheet_boxes}
 use Rattle.cam_edits.specs.Sheets.{Content, Drill, Gerber, IsSound}
-use Rattle.cam_ask.specs.Telling.{AreEnclosed, IsEnclosedTold, IsTopmostTold}
+use Rattle.cam_ask.specs.Telling.{AreEnclosed, IsEnclosedTold}
 use Rattle.cam_ask.specs.Texts.{place_line}
-
--- ---- the topmost item
-
--- nothing is told off the board
-pub off_board : (c : Content) (s : Spot) (before : ℕ) (text : List ℕ) → ¬ IsPlace s → text ≡ [] → IsTopmostTold c s before text
-off_board c s before text off e = record {
-  place = None;
-  topmost = λ on. absurd (off on);
-  elsewhere = λ _. refl;
-  text_is = e;
-}
-
-pub bare_place : (c : Content) (s : Spot) (before : ℕ) (text : List ℕ) → IsPlace s → PointsAt (sheet_lists c) s before None → text ≡ []
-    → IsTopmostTold c s before text
-bare_place c s before text on bare e = record {
-  place = None;
-  topmost = λ _. bare;
-  elsewhere = λ off. absurd (off on);
-  text_is = e;
-}
-
-pub topmost_told : (c : Content) (s : Spot) (before k : ℕ) (text : List ℕ) → IsPlace s → PointsAt (sheet_lists c) s before (Some k)
-    → text ≡ place_line k → IsTopmostTold c s before text
-topmost_told c s before k text on points e = record {
-  place = Some k;
-  topmost = λ _. points;
-  elsewhere = λ off. absurd (off on);
-  text_is = e ∙ sym (append-nil (place_line k));
-}
 
 -- ---- the items in a box
 
@@ -54,9 +21,6 @@ pub record IsGathered (boxes : List Bounds) (outer : Bounds) (from : ℕ) (text 
   pub places : List ℕ
   pub text_is : text ≡ flat_map place_line places
   pub onward : (more : List ℕ) → AreEnclosed boxes outer from more → AreEnclosed boxes outer 0 (places ++ more)
-
-pub gathered_none : (boxes : List Bounds) (outer : Bounds) (text : List ℕ) → text ≡ [] → IsGathered boxes outer 0 text
-gathered_none boxes outer text e = record { places = []; text_is = e; onward = λ more h. h }
 
 pub gathered_more : (boxes : List Bounds) (outer : Bounds) (from k next : ℕ) (old text : List ℕ) → IsGathered boxes outer from old
     → IsFirstEnclosed boxes outer from k → next ≡ k + 1 → text ≡ old ++ place_line k → IsGathered boxes outer next text
