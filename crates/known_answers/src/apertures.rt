@@ -6,17 +6,17 @@ ghost use Rattle.std.specs.Prelude.{◌≡◌, []};
 mod covering;
 mod defining;
 
-use crate::tables::rows_of;
+use crate::tables::{each_in, each_row};
 use cam_apertures::{AdFault, Aperture, Macros, ShapeView, ad_number, parse_ad};
-use cam_macros::Macro;
+use cam_macros::{Macro, MacroFault};
 use cam_units::{Bounds, Point, Spot, Turn, Unit};
-use covering::{BOXES, NOTHING, PLACES, Place, SOLID, Text};
+use covering::{BOXES, Boxed, NOTHING, PLACES, Place, SOLID, Solid, Text};
 use defining::{DEFINITIONS, NUMBERS, Wanted, definition_of};
-use std::alloc::Global;
+use std::alloc::{AllocError, Global};
 use std::test::Fail;
 
 /// Adds the first macro, that of the text, or none where it is empty.
-fn add_macro(alloc: Global, macros: &mut Macros, text: &[u8]) -> Result<(), Fail>
+fn add_macro(alloc: Global, macros: &mut Macros, text: &[u8]) -> Result<(), MacroFault>
     requires { macros.old ≡ [] }
 {
     if !text.is_empty() {
@@ -31,16 +31,18 @@ fn defined(
     macro_text: &[u8],
     text: &[u8],
     unit: Unit,
-) -> Result<Result<(u32, Aperture), AdFault>, Fail> {
+) -> Result<Result<(u32, Aperture), AdFault>, MacroFault> {
     let mut macros = Macros::new(alloc);
     add_macro(alloc, &mut macros, macro_text)?;
     Ok(parse_ad(alloc, text, &mut macros, unit))
 }
 
-/// The aperture of the texts, in millimetres.
-fn aperture_of(alloc: Global, text: Text) -> Result<Aperture, Fail> {
-    let (_, aperture) = defined(alloc, text.0, text.1, Unit::Mm)??;
-    Ok(aperture)
+/// The aperture of the texts, in millimetres, if they define one.
+fn aperture_of(alloc: Global, text: Text) -> Result<Option<Aperture>, MacroFault> {
+    match defined(alloc, text.0, text.1, Unit::Mm)? {
+        Ok((_, aperture)) => Ok(Some(aperture)),
+        Err(_) => Ok(None),
+    }
 }
 
 /// Whether the aperture is one dark disc of this diameter, in nm, about the flash point.
@@ -97,7 +99,7 @@ fn gives(answer: &Result<(u32, Aperture), AdFault>, number: u32, wanted: Wanted)
 }
 
 /// Whether the row's definition gives what it wants.
-fn is_right(alloc: Global, row: &[u8]) -> Result<bool, Fail> {
+fn is_right(alloc: Global, row: &[u8]) -> Result<bool, MacroFault> {
     let Some(row) = definition_of(row) else {
         return Ok(false);
     };
@@ -115,17 +117,11 @@ fn covers_as(aperture: &Aperture, turn: Turn, at: (i32, i32), wanted: bool) -> b
 }
 
 /// Whether the aperture of the row's text covers its place as it wants.
-fn is_covered(alloc: Global, &(text, turn, at, wanted): &Place) -> Result<bool, Fail> {
-    let aperture = aperture_of(alloc, text)?;
-    Ok(covers_as(&aperture, turn, at, wanted))
-}
-
-#[test]
-fn covers(rt: HostRuntime) -> Result<(), Fail> {
-    for (place, row) in PLACES.iter().enumerate() {
-        assert!(rt; is_covered(rt.alloc(), row)?, "{place}");
+fn is_covered(alloc: Global, &(text, turn, at, wanted): &Place) -> Result<bool, MacroFault> {
+    match aperture_of(alloc, text)? {
+        Some(aperture) => Ok(covers_as(&aperture, turn, at, wanted)),
+        None => Ok(false),
     }
-    Ok(())
 }
 
 /// Whether the aperture is sound, and has this box once it is turned.
@@ -133,53 +129,52 @@ fn is_boxed(aperture: &Aperture, turn: Turn, wanted: Bounds) -> bool {
     aperture.is_sound() && aperture.bounds(turn) == wanted
 }
 
-/// Whether the aperture that a text defines, and its copy, have this box once they are turned.
-fn has_box(alloc: Global, text: Text, turn: Turn, wanted: Bounds) -> Result<bool, Fail> {
-    let aperture = aperture_of(alloc, text)?;
+/// Whether the aperture and its copy have this box once they are turned.
+fn keeps_box(aperture: &Aperture, turn: Turn, wanted: Bounds) -> Result<bool, AllocError> {
     let copy = aperture.clone()?;
-    Ok(is_boxed(&aperture, turn, wanted) && is_boxed(&copy, turn, wanted))
+    Ok(is_boxed(aperture, turn, wanted) && is_boxed(&copy, turn, wanted))
 }
 
-#[test]
-fn boxes(rt: HostRuntime) -> Result<(), Fail> {
-    for (place, &(text, turn, [left, below, right, above])) in BOXES.iter().enumerate() {
-        let wanted = Bounds::Closed {
-            low: Spot { x: left, y: below },
-            high: Spot { x: right, y: above },
-        };
-        let is_right = has_box(rt.alloc(), text, turn, wanted)?;
-        assert!(rt;
-            is_right && has_box(rt.alloc(), NOTHING, turn, Bounds::Empty)?,
-            "{place}"
-        );
+/// The same of the aperture that a text defines.
+fn has_box(alloc: Global, text: Text, turn: Turn, wanted: Bounds) -> Result<bool, MacroFault> {
+    match aperture_of(alloc, text)? {
+        Some(aperture) => Ok(keeps_box(&aperture, turn, wanted)?),
+        None => Ok(false),
     }
-    Ok(())
 }
 
-#[test]
-fn solid_apertures(rt: HostRuntime) -> Result<(), Fail> {
-    for &(text, circle, rectangle) in SOLID {
-        let aperture = aperture_of(rt.alloc(), text)?;
-        assert!(rt; aperture.is_solid_circle() == circle, "{text:?}");
-        assert!(rt; aperture.is_solid_rect() == rectangle, "{text:?}");
+/// The same of the row's box; the box of an aperture without a primitive is empty.
+fn is_in_box(alloc: Global, row: &Boxed) -> Result<bool, MacroFault> {
+    let &(text, turn, [left, below, right, above]) = row;
+    let wanted = Bounds::Closed {
+        low: Spot { x: left, y: below },
+        high: Spot { x: right, y: above },
+    };
+    Ok(has_box(alloc, text, turn, wanted)? && has_box(alloc, NOTHING, turn, Bounds::Empty)?)
+}
+
+/// Whether the aperture is a circle without a hole, or a rectangle without one, as the row wants.
+fn is_solid(alloc: Global, &(text, circle, rectangle): &Solid) -> Result<bool, MacroFault> {
+    match aperture_of(alloc, text)? {
+        Some(it) => Ok(it.is_solid_circle() == circle && it.is_solid_rect() == rectangle),
+        None => Ok(false),
     }
-    Ok(())
+}
+
+/// Whether the text defines this number.
+fn is_number(alloc: Global, &(text, wanted): &(&[u8], Option<u32>)) -> Result<bool, AllocError> {
+    Ok(ad_number(alloc, text)? == wanted)
 }
 
 #[test]
 fn definitions(rt: HostRuntime) -> Result<(), Fail> {
-    let rows = rows_of(rt.alloc(), DEFINITIONS)?;
-    assert!(rt; rows.len() == 76, "{} rows", rows.len());
-    for &row in rows.as_slice() {
-        assert!(rt; is_right(rt.alloc(), row)?, "{row:?}");
-    }
-    Ok(())
+    each_row(rt.alloc(), &[(DEFINITIONS, 76)], is_right)?;
+    each_in(rt.alloc(), NUMBERS, is_number)
 }
 
 #[test]
-fn numbers_of_definitions(rt: HostRuntime) -> Result<(), Fail> {
-    for &(text, wanted) in NUMBERS {
-        assert!(rt; ad_number(rt.alloc(), text)? == wanted, "{text:?}");
-    }
-    Ok(())
+fn covers_and_boxes(rt: HostRuntime) -> Result<(), Fail> {
+    each_in(rt.alloc(), PLACES, is_covered)?;
+    each_in(rt.alloc(), BOXES, is_in_box)?;
+    each_in(rt.alloc(), SOLID, is_solid)
 }

@@ -4,10 +4,11 @@ mod extended;
 mod fields;
 mod words;
 
+use crate::tables::{each, each_in};
 use cam_commands::{Command, Operation, Repeat, command_of, place_of};
 use cam_words::Words;
 use extended::{EXTENDED, FREE};
-use fields::{OPERATIONS, REPEATS};
+use fields::{OPERATIONS, Operated, REPEATS, Repeated};
 use std::alloc::{AllocError, Global};
 use std::test::Fail;
 use words::{Said, WORDS};
@@ -51,80 +52,60 @@ fn wrong_word(
     Ok(None)
 }
 
-/// The first text of the rows with such a word, and the place of the word.
-fn first_wrong(
-    alloc: Global,
-    rows: &[Said],
-    is_extended: bool,
-) -> Result<Option<(&'static [u8], usize)>, AllocError> {
-    for &(command, text) in rows {
-        if let Some(at) = wrong_word(alloc, text, &command, is_extended)? {
-            return Ok(Some((text, at)));
-        }
+/// Whether each word of the row's text says its command, and is no extended command.
+fn is_said(alloc: Global, (command, text): &Said) -> Result<bool, AllocError> {
+    Ok(wrong_word(alloc, text, command, false)?.is_none())
+}
+
+/// The same where each is an extended command.
+fn is_said_as_extended(alloc: Global, (command, text): &Said) -> Result<bool, AllocError> {
+    Ok(wrong_word(alloc, text, command, true)?.is_none())
+}
+
+#[test]
+fn commands(rt: HostRuntime) -> Result<(), Fail> {
+    each_in(rt.alloc(), WORDS, is_said)?;
+    each_in(rt.alloc(), EXTENDED, is_said_as_extended)?;
+    each_in(rt.alloc(), FREE, is_said)
+}
+
+/// Whether the text is this operation.
+fn is_operation(alloc: Global, row: &Operated) -> Result<bool, AllocError> {
+    let &(text, mode, [x, y, i, j], code) = row;
+    let wanted = Command::Operate(Operation {
+        mode,
+        x,
+        y,
+        i,
+        j,
+        code,
+    });
+    Ok(wrong_word(alloc, text, &wanted, false)?.is_none())
+}
+
+/// Whether the text opens this repeat.
+fn is_repeat(alloc: Global, row: &Repeated) -> Result<bool, AllocError> {
+    let &(text, [columns, rows], [i, j]) = row;
+    let wanted = Command::SetRepeat(Repeat {
+        columns,
+        rows,
+        i,
+        j,
+    });
+    Ok(wrong_word(alloc, text, &wanted, true)?.is_none())
+}
+
+/// Whether the first command of the text begins there.
+fn begins_at(&(text, wanted): &(&[u8], usize)) -> bool {
+    match Words::new(text).next() {
+        Some(Ok(word)) => place_of(word) == wanted,
+        _ => false,
     }
-    Ok(None)
-}
-
-#[test]
-fn words_say_commands(rt: HostRuntime) -> Result<(), Fail> {
-    let wrong = first_wrong(rt.alloc(), WORDS, false)?;
-    assert!(rt; wrong.is_none(), "{wrong:?}");
-    Ok(())
-}
-
-#[test]
-fn extended_commands(rt: HostRuntime) -> Result<(), Fail> {
-    let wrong = first_wrong(rt.alloc(), EXTENDED, true)?;
-    assert!(rt; wrong.is_none(), "{wrong:?}");
-    Ok(())
-}
-
-#[test]
-fn free_texts(rt: HostRuntime) -> Result<(), Fail> {
-    let wrong = first_wrong(rt.alloc(), FREE, false)?;
-    assert!(rt; wrong.is_none(), "{wrong:?}");
-    Ok(())
 }
 
 #[test]
 fn operations(rt: HostRuntime) -> Result<(), Fail> {
-    for &(text, mode, [x, y, i, j], code) in OPERATIONS {
-        let wanted = Command::Operate(Operation {
-            mode,
-            x,
-            y,
-            i,
-            j,
-            code,
-        });
-        let wrong = wrong_word(rt.alloc(), text, &wanted, false)?;
-        assert!(rt; wrong.is_none(), "{text:?}");
-    }
-    Ok(())
-}
-
-#[test]
-fn repeats(rt: HostRuntime) -> Result<(), Fail> {
-    for &(text, [columns, rows], [i, j]) in REPEATS {
-        let wanted = Command::SetRepeat(Repeat {
-            columns,
-            rows,
-            i,
-            j,
-        });
-        let wrong = wrong_word(rt.alloc(), text, &wanted, true)?;
-        assert!(rt; wrong.is_none(), "{text:?}");
-    }
-    Ok(())
-}
-
-#[test]
-fn starts(rt: HostRuntime) {
-    for &(text, wanted) in STARTS {
-        let found = match Words::new(text).next() {
-            Some(Ok(word)) => Some(place_of(word)),
-            _ => None,
-        };
-        assert!(rt; found == Some(wanted), "{text:?}");
-    }
+    each_in(rt.alloc(), OPERATIONS, is_operation)?;
+    each_in(rt.alloc(), REPEATS, is_repeat)?;
+    each(STARTS, begins_at)
 }

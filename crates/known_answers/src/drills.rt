@@ -7,11 +7,12 @@ ghost use Rattle.cam_objects.specs.DrillSoundness.{IsSoundDrillLayer};
 mod rows;
 
 use crate::places::{At, box_of, place};
+use crate::tables::each_in;
 use cam_objects::{DrillItem, DrillLayer, ItemCells, ItemFault, Points, drill_layers_stay_sound};
 use cam_units::{Nm, Point};
 use rows::{
-    Boxed, DRILL_BOXES, DRILL_ITEMS, DRILL_POINTED, DRILLINGS, Drilled, Drilling, KITS, Kit,
-    LONG_ROUTS, Pointed,
+    Boxed, Checked, DRILL_BOXES, DRILL_ITEMS, DRILL_POINTED, DRILLINGS, Drilled, Drilling, KITS,
+    Kit, LONG_ROUTS, LongRout, Offered, Pointed,
 };
 use std::alloc::{AllocError, Global};
 use std::slice;
@@ -235,30 +236,6 @@ fn is_pointed(alloc: Global, row: &Pointed) -> Result<bool, AllocError> {
     }
 }
 
-#[test]
-fn pointed_drillings(rt: HostRuntime) -> Result<(), Fail> {
-    for (place, row) in DRILL_POINTED.iter().enumerate() {
-        assert!(rt; is_pointed(rt.alloc(), row)?, "{place}");
-    }
-    Ok(())
-}
-
-#[test]
-fn drill_boxes(rt: HostRuntime) -> Result<(), Fail> {
-    for row in DRILL_BOXES {
-        assert!(rt; is_bounded(rt.alloc(), row)?, "{:?}", row.2);
-    }
-    Ok(())
-}
-
-#[test]
-fn drillings(rt: HostRuntime) -> Result<(), Fail> {
-    for (place, row) in DRILLINGS.iter().enumerate() {
-        assert!(rt; shows(rt.alloc(), row)?, "{place}");
-    }
-    Ok(())
-}
-
 /// What the check of an item says beside the tools 1 and 2; `None` where they are refused.
 fn verdict(alloc: Global, item: &DrillItem) -> Result<Option<Result<(), ItemFault>>, AllocError> {
     match layer_of(alloc, &[(1, 5), (2, 5)], &[])? {
@@ -267,34 +244,34 @@ fn verdict(alloc: Global, item: &DrillItem) -> Result<Option<Result<(), ItemFaul
     }
 }
 
+/// Whether the item is accepted, or refused so.
+fn is_checked(alloc: Global, (drilled, wanted): &Checked) -> Result<bool, AllocError> {
+    Ok(verdict(alloc, &item_of(alloc, drilled)?)? == Some(*wanted))
+}
+
+/// The same of a long rout.
+fn is_rout_checked(alloc: Global, &(times, wanted): &LongRout) -> Result<bool, AllocError> {
+    Ok(verdict(alloc, &long_rout(alloc, times)?)? == Some(wanted))
+}
+
+/// Whether the tool may be added beside tool 5, as the row wants.
+fn is_tool_checked(alloc: Global, &(tool, diameter, wanted): &Offered) -> Result<bool, AllocError> {
+    match layer_of(alloc, &[(5, 5)], &[])? {
+        Some(layer) => Ok(layer.check_tool(tool, Nm(diameter)) == wanted),
+        None => Ok(false),
+    }
+}
+
 #[test]
 fn drill_checks(rt: HostRuntime) -> Result<(), Fail> {
-    for (place, (drilled, wanted)) in DRILL_ITEMS.iter().enumerate() {
-        let found = verdict(rt.alloc(), &item_of(rt.alloc(), drilled)?)?;
-        assert!(rt; found == Some(*wanted), "{place}");
-    }
-    Ok(())
+    each_in(rt.alloc(), DRILL_ITEMS, is_checked)?;
+    each_in(rt.alloc(), LONG_ROUTS, is_rout_checked)?;
+    each_in(rt.alloc(), KITS, is_tool_checked)
 }
 
 #[test]
-fn checks_of_long_routs(rt: HostRuntime) -> Result<(), Fail> {
-    for &(times, wanted) in LONG_ROUTS {
-        let found = verdict(rt.alloc(), &long_rout(rt.alloc(), times)?)?;
-        assert!(rt; found == Some(wanted), "{times}");
-    }
-    Ok(())
-}
-
-#[test]
-fn tool_checks(rt: HostRuntime) -> Result<(), Fail> {
-    let mut layer = DrillLayer::new(rt.alloc());
-    assert!(rt; layer.check_tool(5, Nm(5)));
-    layer.add_tool(5, Nm(5))?;
-    for &(tool, diameter, wanted) in KITS {
-        assert!(rt;
-            layer.check_tool(tool, Nm(diameter)) == wanted,
-            "{tool} {diameter}"
-        );
-    }
-    Ok(())
+fn drillings(rt: HostRuntime) -> Result<(), Fail> {
+    each_in(rt.alloc(), DRILL_POINTED, is_pointed)?;
+    each_in(rt.alloc(), DRILL_BOXES, is_bounded)?;
+    each_in(rt.alloc(), DRILLINGS, shows)
 }

@@ -11,14 +11,14 @@ mod several;
 mod sizes;
 
 use crate::places::{At, place};
-use crate::tables::{placed, rows_of, two_texts};
-use crate::text::{Pieces, text_of};
-use cam_gerber::read_gerber;
+use crate::tables::{each_in, each_row, placed, two_texts};
+use crate::text::text_of;
+use cam_gerber::{ReadFault, read_gerber};
 use cam_objects::Layer;
 use faults::FAULTS;
 use layers::LAYERS;
 use limits::LIMITS;
-use long::LONG_FILES;
+use long::{LONG_FILES, LongFile};
 use refusals::{DEFINITIONS, FORMS, STATES};
 use several::SEVERAL;
 use sizes::SIZES;
@@ -33,13 +33,6 @@ struct File {
     black: &'static [At],
     white: &'static [At],
 }
-
-/// A file of one flash more than a layer has.
-const FULL: Pieces = &[
-    (b"%FSLAX36Y36*%%MOMM*%%ADD10C,1*%D10*", 1),
-    (b"X0D03*", 1_000_001),
-    (b"M02*", 1),
-];
 
 /// Whether the places are all black, or all white.
 fn are(layer: &Layer, places: &[At], black: bool) -> bool
@@ -57,23 +50,14 @@ fn are(layer: &Layer, places: &[At], black: bool) -> bool
 }
 
 /// Whether the file is a layer of so many entries and items that shows these places.
-fn is_layer(alloc: Global, file: &File) -> bool {
-    match read_gerber(alloc, file.text) {
-        Ok(layer) => {
-            layer.entries().len() == file.entries
-                && layer.items().len() == file.items
-                && are(&layer, file.black, true)
-                && are(&layer, file.white, false)
-        }
-        Err(_) => false,
-    }
-}
-
-#[test]
-fn layers_that_are_read(rt: HostRuntime) {
-    for file in LAYERS {
-        assert!(rt; is_layer(rt.alloc(), file), "{:?}", file.text);
-    }
+fn is_layer(alloc: Global, file: &File) -> Result<bool, ReadFault> {
+    let layer = read_gerber(alloc, file.text)?;
+    Ok(
+        layer.entries().len() == file.entries
+            && layer.items().len() == file.items
+            && are(&layer, file.black, true)
+            && are(&layer, file.white, false),
+    )
 }
 
 /// The number and the place of the file's fault, where it has one.
@@ -85,38 +69,11 @@ fn told(alloc: Global, text: &[u8]) -> Option<(u8, usize)> {
 }
 
 /// Whether the file of the row is refused so.
-fn is_refused(alloc: Global, row: &[u8]) -> bool {
+fn is_refused(alloc: Global, row: &[u8]) -> Result<bool, AllocError> {
     match placed(row) {
-        Some((number, at, text)) => told(alloc, text) == Some((number, at)),
-        None => false,
+        Some((number, at, text)) => Ok(told(alloc, text) == Some((number, at))),
+        None => Ok(false),
     }
-}
-
-#[test]
-fn files_that_are_refused(rt: HostRuntime) -> Result<(), Fail> {
-    for (table, count) in [
-        (FAULTS, 55),
-        (FORMS, 52),
-        (DEFINITIONS, 57),
-        (STATES, 48),
-        (SEVERAL, 67),
-    ] {
-        let rows = rows_of(rt.alloc(), table)?;
-        assert!(rt; rows.len() == count, "{} rows for {count}", rows.len());
-        for &row in rows.as_slice() {
-            assert!(rt; is_refused(rt.alloc(), row), "{row:?}");
-        }
-    }
-    Ok(())
-}
-
-/// A million flashes are read, and the next one is refused at its place.
-#[test]
-fn a_flash_too_many(rt: HostRuntime) -> Result<(), Fail> {
-    let text = text_of(rt.alloc(), FULL)?;
-    let fault = told(rt.alloc(), &text);
-    assert!(rt; fault == Some((25, 6_000_035)), "{fault:?}");
-    Ok(())
 }
 
 /// The text of so many file attributes, each of another name.
@@ -142,36 +99,46 @@ fn an_attribute_too_many(rt: HostRuntime) -> Result<(), Fail> {
 }
 
 /// Whether the first file of the row is read and the second refused so.
-fn is_limit(alloc: Global, row: &[u8]) -> bool {
+fn is_limit(alloc: Global, row: &[u8]) -> Result<bool, AllocError> {
     let Some((number, at, texts)) = placed(row) else {
-        return false;
+        return Ok(false);
     };
     match two_texts(texts) {
-        Some((accepted, refused)) => {
-            told(alloc, accepted).is_none() && told(alloc, refused) == Some((number, at))
-        }
-        None => false,
+        Some((accepted, refused)) => Ok(
+            told(alloc, accepted).is_none() && told(alloc, refused) == Some((number, at)),
+        ),
+        None => Ok(false),
     }
+}
+
+/// Whether the long file is read, or refused so.
+fn is_told(alloc: Global, &(pieces, wanted): &LongFile) -> Result<bool, AllocError> {
+    let text = text_of(alloc, pieces)?;
+    Ok(told(alloc, &text) == wanted)
+}
+
+#[test]
+fn files(rt: HostRuntime) -> Result<(), Fail> {
+    each_in(rt.alloc(), LAYERS, is_layer)?;
+    each_row(
+        rt.alloc(),
+        &[
+            (FAULTS, 55),
+            (FORMS, 52),
+            (DEFINITIONS, 57),
+            (STATES, 48),
+            (SEVERAL, 67),
+        ],
+        is_refused,
+    )
 }
 
 #[test]
 fn limits_of_files(rt: HostRuntime) -> Result<(), Fail> {
-    for (table, count) in [(LIMITS, 45), (SIZES, 35)] {
-        let rows = rows_of(rt.alloc(), table)?;
-        assert!(rt; rows.len() == count, "{} rows for {count}", rows.len());
-        for &row in rows.as_slice() {
-            assert!(rt; is_limit(rt.alloc(), row), "{row:?}");
-        }
-    }
-    Ok(())
+    each_row(rt.alloc(), &[(LIMITS, 45), (SIZES, 35)], is_limit)
 }
 
 #[test]
 fn long_gerber_files(rt: HostRuntime) -> Result<(), Fail> {
-    for &(pieces, wanted) in LONG_FILES {
-        let text = text_of(rt.alloc(), pieces)?;
-        let fault = told(rt.alloc(), &text);
-        assert!(rt; fault == wanted, "{pieces:?} {fault:?}");
-    }
-    Ok(())
+    each_in(rt.alloc(), LONG_FILES, is_told)
 }

@@ -5,9 +5,10 @@ ghost use Rattle.known_answers.specs.contracts.history.sheet.PutReversible.TheIm
 
 mod sheet;
 
+use crate::tables::each_in;
 use cam_undo::{Counts, History, HistoryFault};
 use sheet::{Put, Sheet};
-use std::alloc::Global;
+use std::alloc::{AllocError, Global};
 use std::test::Fail;
 
 #[derive(Clone, Copy)]
@@ -126,7 +127,9 @@ const DEPTH_2: &[Row] = &[
 ];
 
 /// A depth and its run; a depth past the limits has none.
-const RUNS: &[(usize, Option<&[Row]>)] = &[
+type Run = (usize, Option<&'static [Row]>);
+
+const RUNS: &[Run] = &[
     (0, None),
     (1, Some(DEPTH_1)),
     (2, Some(DEPTH_2)),
@@ -178,17 +181,17 @@ fn first_wrong_at(alloc: Global, depth: usize, rows: &[Row]) -> Result<Option<u3
     Ok(first_wrong(&mut history, &mut Sheet { number: 0 }, rows))
 }
 
+/// Whether a history of this depth plays the run.
+fn plays(alloc: Global, &(depth, rows): &Run) -> Result<bool, AllocError> {
+    match rows {
+        Some(rows) => Ok(first_wrong_at(alloc, depth, rows) == Ok(None)),
+        None => Ok(first_wrong_at(alloc, depth, &[]) == Err(HistoryFault::Depth)),
+    }
+}
+
 #[test]
 fn histories(rt: HostRuntime) -> Result<(), Fail> {
-    for &(depth, rows) in RUNS {
-        let (rows, wanted) = match rows {
-            Some(rows) => (rows, Ok(None)),
-            None => (&[] as &[Row], Err(HistoryFault::Depth)),
-        };
-        let wrong = first_wrong_at(rt.alloc(), depth, rows);
-        assert!(rt; wrong == wanted, "depth {depth}: the number {wrong:?}");
-    }
-    Ok(())
+    each_in(rt.alloc(), RUNS, plays)
 }
 
 /// The numbers of a group's steps, added up, and how many there are.

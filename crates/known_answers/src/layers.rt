@@ -14,10 +14,11 @@ mod pointing;
 mod reaches;
 pub(crate) mod rows;
 
-use crate::places::{At, box_of, place};
+use crate::places::{box_of, place};
+use crate::tables::each_in;
 use boxes::BOXES;
 use building::{dictionary, entry, item, layer};
-use cam_objects::{ItemCells, ItemFault, Layer};
+use cam_objects::{ItemCells, Layer};
 use cam_units::{Bounds, Turn};
 use dictionaries::BASE;
 use forms::FORMS;
@@ -91,30 +92,30 @@ fn is_pointed(alloc: Global, row: &Pointed) -> Result<bool, AllocError> {
     }
 }
 
-/// What the check of an item says beside these entries; `None` where they are refused.
-fn verdict(alloc: Global, row: &Checked) -> Result<Option<Result<(), ItemFault>>, AllocError> {
+/// Whether the row's item is accepted beside its entries, or refused so.
+fn is_checked(alloc: Global, row: &Checked) -> Result<bool, AllocError> {
     let item = item(alloc, &row.1)?;
     match dictionary(alloc, row.0)? {
-        Some(layer) => Ok(Some(layer.check_item(&item))),
-        None => Ok(None),
+        Some(layer) => Ok(layer.check_item(&item) == row.2),
+        None => Ok(false),
     }
 }
 
-/// Whether the entry may be added beside these; `None` where they are refused.
-fn may_add(alloc: Global, row: &Added) -> Result<Option<bool>, AllocError> {
+/// Whether the row's entry may be added beside the others, as it wants.
+fn is_added(alloc: Global, row: &Added) -> Result<bool, AllocError> {
     let entry = entry(alloc, &row.2)?;
     match dictionary(alloc, row.0)? {
-        Some(layer) => Ok(Some(layer.check_entry(row.1, &entry))),
-        None => Ok(None),
+        Some(layer) => Ok(layer.check_entry(row.1, &entry) == row.3),
+        None => Ok(false),
     }
 }
 
-/// Whether the layer of these items has room for one more; `None` where they are refused.
-fn has_room(alloc: Global, row: &Filled) -> Result<Option<bool>, AllocError> {
+/// Whether the layer of the row's items has room for one more, as it wants.
+fn is_filled(alloc: Global, row: &Filled) -> Result<bool, AllocError> {
     let item = item(alloc, &row.2)?;
     match layer(alloc, row.0, row.1)? {
-        Some(layer) => Ok(Some(layer.has_room(&item))),
-        None => Ok(None),
+        Some(layer) => Ok(layer.has_room(&item) == row.3),
+        None => Ok(false),
     }
 }
 
@@ -146,77 +147,37 @@ fn has_room_behind(alloc: Global, layer: &mut Layer, count: u32) -> Result<bool,
     Ok(layer.has_room(&item(alloc, &DOT)?))
 }
 
-/// Whether there is room behind so many items; `None` where the entries are refused.
-fn has_room_for_dots(alloc: Global, count: u32) -> Result<Option<bool>, AllocError> {
+/// The same of a layer with so many dots.
+fn is_counted(alloc: Global, &(count, wanted): &(u32, bool)) -> Result<bool, AllocError> {
     match dictionary(alloc, BASE)? {
-        Some(mut layer) => Ok(Some(has_room_behind(alloc, &mut layer, count)?)),
-        None => Ok(None),
+        Some(mut layer) => Ok(has_room_behind(alloc, &mut layer, count)? == wanted),
+        None => Ok(false),
     }
 }
 
-/// The place in the table of the first item that is not checked so.
-fn first_misjudged(alloc: Global, rows: &[Checked]) -> Result<Option<usize>, AllocError> {
-    for (place, row) in rows.iter().enumerate() {
-        if verdict(alloc, row)? != Some(row.2) {
-            return Ok(Some(place));
-        }
-    }
-    Ok(None)
+#[test]
+fn checks_of_forms(rt: HostRuntime) -> Result<(), Fail> {
+    each_in(rt.alloc(), FORMS, is_checked)
 }
 
 #[test]
-fn form_checks(rt: HostRuntime) -> Result<(), Fail> {
-    let wrong = first_misjudged(rt.alloc(), FORMS)?;
-    assert!(rt; wrong.is_none(), "{wrong:?}");
-    Ok(())
+fn checks_of_reaches(rt: HostRuntime) -> Result<(), Fail> {
+    each_in(rt.alloc(), REACHES, is_checked)
 }
 
 #[test]
-fn reach_checks(rt: HostRuntime) -> Result<(), Fail> {
-    let wrong = first_misjudged(rt.alloc(), REACHES)?;
-    assert!(rt; wrong.is_none(), "{wrong:?}");
-    Ok(())
+fn checks_of_entries(rt: HostRuntime) -> Result<(), Fail> {
+    each_in(rt.alloc(), ENTRIES, is_added)
 }
 
 #[test]
-fn entry_checks(rt: HostRuntime) -> Result<(), Fail> {
-    for (place, row) in ENTRIES.iter().enumerate() {
-        assert!(rt; may_add(rt.alloc(), row)? == Some(row.3), "{place}");
-    }
-    Ok(())
+fn rooms(rt: HostRuntime) -> Result<(), Fail> {
+    each_in(rt.alloc(), ROOMS, is_filled)?;
+    each_in(rt.alloc(), COUNTS, is_counted)
 }
 
 #[test]
-fn room_checks(rt: HostRuntime) -> Result<(), Fail> {
-    for (place, row) in ROOMS.iter().enumerate() {
-        assert!(rt; has_room(rt.alloc(), row)? == Some(row.3), "{place}");
-    }
-    Ok(())
-}
-
-#[test]
-fn item_counts(rt: HostRuntime) -> Result<(), Fail> {
-    for &(count, wanted) in COUNTS {
-        assert!(rt;
-            has_room_for_dots(rt.alloc(), count)? == Some(wanted),
-            "{count}"
-        );
-    }
-    Ok(())
-}
-
-#[test]
-fn item_boxes(rt: HostRuntime) -> Result<(), Fail> {
-    for (place, row) in BOXES.iter().enumerate() {
-        assert!(rt; is_bounded(rt.alloc(), row)?, "{place}");
-    }
-    Ok(())
-}
-
-#[test]
-fn pointed_items(rt: HostRuntime) -> Result<(), Fail> {
-    for (place, row) in POINTED.iter().enumerate() {
-        assert!(rt; is_pointed(rt.alloc(), row)?, "{place}");
-    }
-    Ok(())
+fn items(rt: HostRuntime) -> Result<(), Fail> {
+    each_in(rt.alloc(), BOXES, is_bounded)?;
+    each_in(rt.alloc(), POINTED, is_pointed)
 }

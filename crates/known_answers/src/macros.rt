@@ -2,7 +2,7 @@
 
 mod rows;
 
-use crate::tables::{numbered, rows_of};
+use crate::tables::{each_in, each_row, numbered};
 use crate::text::{Pieces, text_of};
 use cam_macros::{Macro, MacroFault, PrimShape, Prims};
 use cam_units::Unit;
@@ -25,10 +25,10 @@ fn expanded(alloc: Global, text: &[u8], params: &[i64]) -> Result<u8, MacroFault
 }
 
 /// Whether the text of the row is read so.
-fn reads(alloc: Global, row: &[u8]) -> bool {
+fn reads(alloc: Global, row: &[u8]) -> Result<bool, AllocError> {
     match numbered(row) {
-        Some((wanted, text)) => number(Macro::parse(alloc, text)) == wanted,
-        None => false,
+        Some((wanted, text)) => Ok(number(Macro::parse(alloc, text)) == wanted),
+        None => Ok(false),
     }
 }
 
@@ -40,14 +40,22 @@ fn expands(alloc: Global, row: &[u8]) -> Result<bool, MacroFault> {
     }
 }
 
-/// Whether the text of these pieces is read so.
-fn reads_long(alloc: Global, pieces: Pieces, wanted: u8) -> Result<bool, AllocError> {
+/// The same of the text of these pieces.
+fn reads_long(alloc: Global, &(pieces, wanted): &(Pieces, u8)) -> Result<bool, AllocError> {
     let text = text_of(alloc, pieces)?;
     Ok(number(Macro::parse(alloc, &text)) == wanted)
 }
 
-/// Whether the primitives of the text of these pieces are made so.
-fn expands_long(alloc: Global, pieces: Pieces, wanted: u8) -> Result<bool, Fail> {
+/// Whether the primitives of the text with these parameters are made so.
+fn expands_with(
+    alloc: Global,
+    &(text, params, wanted): &(&[u8], &[i64], u8),
+) -> Result<bool, MacroFault> {
+    Ok(expanded(alloc, text, params)? == wanted)
+}
+
+/// The same of the text of these pieces, without parameters.
+fn expands_long(alloc: Global, &(pieces, wanted): &(Pieces, u8)) -> Result<bool, MacroFault> {
     let text = text_of(alloc, pieces)?;
     Ok(expanded(alloc, &text, &[])? == wanted)
 }
@@ -86,68 +94,28 @@ fn are(prims: &Prims, wanted: &[(bool, Shape)]) -> bool {
 }
 
 /// Whether these and a copy are the wanted primitives.
-fn keep(prims: &Prims, wanted: &[(bool, Shape)]) -> Result<bool, Fail> {
+fn keep(prims: &Prims, wanted: &[(bool, Shape)]) -> Result<bool, AllocError> {
     let copy = prims.clone()?;
     Ok(are(prims, wanted) && are(&copy, wanted))
 }
 
 /// Whether the text, and a copy of its primitives, are what the row wants.
-fn is_right(alloc: Global, row: &Row) -> Result<bool, Fail> {
+fn is_right(alloc: Global, row: &Row) -> Result<bool, MacroFault> {
     let made = Macro::parse(alloc, row.text)?;
     let prims = made.expand(alloc, row.params, row.unit)?;
-    keep(&prims, row.wanted)
+    Ok(keep(&prims, row.wanted)?)
 }
 
 #[test]
 fn readings(rt: HostRuntime) -> Result<(), Fail> {
-    let alloc = rt.alloc();
-    let rows = rows_of(alloc, TEXTS)?;
-    assert!(rt; rows.len() == 31, "{} rows", rows.len());
-    for &row in rows.as_slice() {
-        assert!(rt; reads(alloc, row), "{row:?}");
-    }
-    Ok(())
-}
-
-#[test]
-fn long_readings(rt: HostRuntime) -> Result<(), Fail> {
-    for &(pieces, wanted) in LONG_TEXTS {
-        assert!(rt; reads_long(rt.alloc(), pieces, wanted)?, "{pieces:?}");
-    }
-    Ok(())
+    each_row(rt.alloc(), &[(TEXTS, 31)], reads)?;
+    each_in(rt.alloc(), LONG_TEXTS, reads_long)
 }
 
 #[test]
 fn expansions(rt: HostRuntime) -> Result<(), Fail> {
-    let alloc = rt.alloc();
-    let rows = rows_of(alloc, EXPANSIONS)?;
-    assert!(rt; rows.len() == 43, "{} rows", rows.len());
-    for &row in rows.as_slice() {
-        assert!(rt; expands(alloc, row)?, "{row:?}");
-    }
-    Ok(())
-}
-
-#[test]
-fn expansions_with_parameters(rt: HostRuntime) -> Result<(), Fail> {
-    for &(text, params, wanted) in WITH_PARAMETERS {
-        assert!(rt; expanded(rt.alloc(), text, params)? == wanted, "{text:?}");
-    }
-    Ok(())
-}
-
-#[test]
-fn long_expansions(rt: HostRuntime) -> Result<(), Fail> {
-    for &(pieces, wanted) in LONG_OUTLINES {
-        assert!(rt; expands_long(rt.alloc(), pieces, wanted)?, "{pieces:?}");
-    }
-    Ok(())
-}
-
-#[test]
-fn primitives(rt: HostRuntime) -> Result<(), Fail> {
-    for row in PRIMITIVES {
-        assert!(rt; is_right(rt.alloc(), row)?, "{:?}", row.text);
-    }
-    Ok(())
+    each_row(rt.alloc(), &[(EXPANSIONS, 43)], expands)?;
+    each_in(rt.alloc(), WITH_PARAMETERS, expands_with)?;
+    each_in(rt.alloc(), LONG_OUTLINES, expands_long)?;
+    each_in(rt.alloc(), PRIMITIVES, is_right)
 }

@@ -2,6 +2,7 @@
 
 ghost use Rattle.cam_objects.specs.Soundness.{IsSound};
 
+use crate::tables::each_in;
 use cam_gerber::read_gerber;
 use cam_objects::Layer;
 use cam_units::Spot;
@@ -12,7 +13,9 @@ use std::test::Fail;
 const DISCS: &[u8] = b"%FSLAX66Y66*%%MOMM*%%ADD10C,0.001*%D10*X0Y0D03*X5000D03*M02*";
 
 /// Places in half nm, and whether they are black.
-const PLACES: &[(i16, i16, bool)] = &[
+type Place = (i16, i16, bool);
+
+const PLACES: &[Place] = &[
     (0, 0, true),
     (1_000, 0, true),
     (1_001, 0, false),
@@ -21,34 +24,28 @@ const PLACES: &[(i16, i16, bool)] = &[
     (10_000, -1_001, false),
 ];
 
-/// Whether a layer is black at a place, and how many entries and items its copy has.
-type Shown = (bool, usize, usize);
-
-/// What the sound layer shows.
-fn shown_by(layer: &Layer, x: i16, y: i16) -> Result<Option<Shown>, AllocError>
+/// Whether the layer shows the place so, and its copy has an entry and two items.
+fn shows(layer: &Layer, place: &Place) -> Result<bool, AllocError>
     requires { IsSound layer.now }
 {
+    let &(x, y, black) = place;
     let copy = layer.try_copy()?;
-    let black = layer.black_at(Spot {
+    let spot = Spot {
         x: i64::from(x),
         y: i64::from(y),
-    });
-    Ok(Some((black, copy.entries().len(), copy.items().len())))
+    };
+    Ok(layer.black_at(spot) == black && copy.entries().len() == 1 && copy.items().len() == 2)
 }
 
-/// What the layer of the file shows; `None` where the file is no layer.
-fn shown(alloc: Global, x: i16, y: i16) -> Result<Option<Shown>, AllocError> {
+/// The same of the layer of the file.
+fn file_shows(alloc: Global, place: &Place) -> Result<bool, AllocError> {
     match read_gerber(alloc, DISCS) {
-        Ok(layer) => shown_by(&layer, x, y),
-        Err(_) => Ok(None),
+        Ok(layer) => shows(&layer, place),
+        Err(_) => Ok(false),
     }
 }
 
 #[test]
 fn layers(rt: HostRuntime) -> Result<(), Fail> {
-    for &(x, y, black) in PLACES {
-        let found = shown(rt.alloc(), x, y)?;
-        assert!(rt; found == Some((black, 1, 2)), "{x}, {y}");
-    }
-    Ok(())
+    each_in(rt.alloc(), PLACES, file_shows)
 }

@@ -10,7 +10,7 @@ mod repeats;
 mod strokes;
 
 use crate::places::place_in;
-use crate::tables::{rows_of, two_texts};
+use crate::tables::{each_row, two_texts};
 use blocks::BLOCKS;
 use cam_gerber::read_gerber;
 use cam_objects::Layer;
@@ -83,18 +83,15 @@ fn shows(alloc: Global, row: &[u8]) -> Result<bool, AllocError> {
 
 #[test]
 fn pictures(rt: HostRuntime) -> Result<(), Fail> {
-    for (table, count) in [
-        (STROKES, 17),
-        (RECTANGLES, 10),
-        (REGIONS, 22),
-        (BLOCKS, 11),
-        (REPEATS, 5),
-    ] {
-        let rows = rows_of(rt.alloc(), table)?;
-        assert!(rt; rows.len() == count, "{} rows for {count}", rows.len());
-        for &row in rows.as_slice() {
-            assert!(rt; shows(rt.alloc(), row)?, "{row:?}");
-        }
-    }
-    Ok(())
+    each_row(
+        rt.alloc(),
+        &[
+            (STROKES, 17),
+            (RECTANGLES, 10),
+            (REGIONS, 22),
+            (BLOCKS, 11),
+            (REPEATS, 5),
+        ],
+        shows,
+    )
 }

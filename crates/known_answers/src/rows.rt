@@ -12,6 +12,7 @@ mod small;
 
 use crate::places::At;
 use crate::shapes::{FAR, Shape, holds, reach, within};
+use crate::tables::each;
 use across::{ACROSS, EDGES};
 use cam_rows::{
     Centres, arc_row, bar_row, cap_row, capsule_row, disc_row, edge_row, hole_row, obround_row,
@@ -21,6 +22,7 @@ use cam_shapes::{Arc, Bar, Cap, Capsule, Disc, Obround, Rectangle, Swept};
 use cam_units::{Nm, Point, Spot, fits_board, fits_size};
 use flashes::{FLASH_EDGES, FLASHES};
 use small::{CORNERS, MIDDLE};
+use std::test::Fail;
 
 /// Four shapes about the origin, in nm.
 pub enum Figure {
@@ -244,38 +246,27 @@ fn first_wrong(sheet: &Sheet) -> Option<(Shape, Centres)> {
     None
 }
 
-#[test]
-fn small_figures(rt: HostRuntime) {
-    let wrong = first_wrong(&MIDDLE);
-    assert!(rt; wrong.is_none(), "{wrong:?}");
+/// Whether the shapes of the sheet have the rows that the point tests give.
+fn is_right(sheet: &&Sheet) -> bool {
+    first_wrong(sheet).is_none()
 }
 
 #[test]
-fn small_figures_at_corners(rt: HostRuntime) {
-    let wrong = first_wrong(&CORNERS);
-    assert!(rt; wrong.is_none(), "{wrong:?}");
+fn small_figures() -> Result<(), Fail> {
+    each(&[&MIDDLE], is_right)
 }
 
 #[test]
-fn wide_flashes(rt: HostRuntime) {
-    let wrong = first_wrong(&FLASHES);
-    assert!(rt; wrong.is_none(), "{wrong:?}");
+fn small_figures_at_corners() -> Result<(), Fail> {
+    each(&[&CORNERS], is_right)
 }
 
 #[test]
-fn edges_of_wide_flashes(rt: HostRuntime) {
-    let wrong = first_wrong(&FLASH_EDGES);
-    assert!(rt; wrong.is_none(), "{wrong:?}");
+fn wide_flashes() -> Result<(), Fail> {
+    each(&[&FLASHES, &FLASH_EDGES], is_right)
 }
 
 #[test]
-fn figures_across_the_board(rt: HostRuntime) {
-    let wrong = first_wrong(&ACROSS);
-    assert!(rt; wrong.is_none(), "{wrong:?}");
-}
-
-#[test]
-fn edges_across_the_board(rt: HostRuntime) {
-    let wrong = first_wrong(&EDGES);
-    assert!(rt; wrong.is_none(), "{wrong:?}");
+fn figures_across_the_board() -> Result<(), Fail> {
+    each(&[&ACROSS, &EDGES], is_right)
 }

@@ -5,6 +5,7 @@ ghost use Rattle.cam_units.specs.Board.{IsInReach};
 
 mod strokes;
 
+use crate::tables::{each, each_in};
 use cam_shapes::{
     Arc, Bar, Cap, Capsule, Contour, Disc, Obround, Rectangle, Seg, Segments, Swept, fits_contour,
     in_arc, in_bar, in_cap, in_capsule, in_contour, in_disc, in_edge, in_hole, in_obround, in_rect,
@@ -356,38 +357,30 @@ fn contour_of(alloc: Global, placed: &Placed) -> Result<Contour, AllocError> {
     contour.try_clone(alloc)
 }
 
-#[test]
-fn shapes(rt: HostRuntime) {
-    for (shape, places) in SHAPES {
-        for &(x, y, wanted) in *places {
-            assert!(rt; holds(shape, x, y) == Some(wanted), "({x}, {y})");
-        }
-    }
+/// Whether the shape holds the places that are wanted, and no other of these.
+fn holds_places((shape, places): &(Shape, &[Wanted])) -> bool {
+    places
+        .iter()
+        .all(|&(x, y, wanted)| holds(shape, x, y) == Some(wanted))
+}
+
+/// The same of the stroke of a rectangle.
+fn sweeps((stroke, places): &(Swept, &[Wanted])) -> bool {
+    holds_places(&(Shape::Swept(*stroke), *places))
+}
+
+/// The same of a contour.
+fn encloses_places(
+    alloc: Global,
+    (placed, places): &(Placed, &[Wanted]),
+) -> Result<bool, AllocError> {
+    let contour = contour_of(alloc, placed)?;
+    Ok(places.iter().all(|&(x, y, wanted)| encloses(&contour, placed, x, y) == Some(wanted)))
 }
 
 #[test]
-fn strokes_of_rectangles(rt: HostRuntime) {
-    for (stroke, places) in STROKES {
-        let shape = Shape::Swept(*stroke);
-        for &(x, y, wanted) in *places {
-            assert!(rt;
-                holds(&shape, x, y) == Some(wanted),
-                "{stroke:?} at ({x}, {y})"
-            );
-        }
-    }
-}
-
-#[test]
-fn contours(rt: HostRuntime) -> Result<(), Fail> {
-    for (placed, places) in CONTOURS {
-        let contour = contour_of(rt.alloc(), placed)?;
-        for &(x, y, wanted) in *places {
-            assert!(rt;
-                encloses(&contour, placed, x, y) == Some(wanted),
-                "({x}, {y})"
-            );
-        }
-    }
-    Ok(())
+fn shapes(rt: HostRuntime) -> Result<(), Fail> {
+    each(SHAPES, holds_places)?;
+    each(STROKES, sweeps)?;
+    each_in(rt.alloc(), CONTOURS, encloses_places)
 }

@@ -3,6 +3,7 @@
 
 ghost use Rattle.std.specs.Prelude.{◌≡◌};
 
+use crate::tables::each_in;
 use cam_gerber::read_gerber;
 use cam_tiles::{Painter, Raster, RasterFault, Source, Window};
 use cam_units::{Bounds, Spot};
@@ -11,7 +12,9 @@ use std::test::Fail;
 
 /// The sides in pixels of a window from the origin, of 2 nm a pixel, its tiles, and the picture in it of two discs
 /// of 2 nm at (1, 1) and (17, 3); or why there is none.
-const ROWS: &[(u32, u32, Result<(u32, &[u8]), RasterFault>)] = &[
+type Row = (u32, u32, Result<(u32, &'static [u8]), RasterFault>);
+
+const ROWS: &[Row] = &[
     (9, 2, Ok((1, b"P4\n9 2\n\x00\x80\x80\x00"))),
     (65, 1, Ok((2, b"P4\n65 1\n\x80\0\0\0\0\0\0\0\0"))),
     (0, 1, Err(RasterFault::WindowRefused)),
@@ -20,7 +23,9 @@ const ROWS: &[(u32, u32, Result<(u32, &[u8]), RasterFault>)] = &[
 
 /// The low and the high corner of a box in half nm, and the tiles that it touches in a window of 130 by 70 pixels of
 /// 5 nm from the origin.
-const BOXES: &[((i64, i64), (i64, i64), &[u32])] = &[
+type Touched = ((i64, i64), (i64, i64), &'static [u32]);
+
+const BOXES: &[Touched] = &[
     ((0, 0), (4, 4), &[]),
     ((0, 0), (5, 5), &[3]),
     ((5, 5), (5, 5), &[3]),
@@ -96,17 +101,13 @@ fn redraw_discs(alloc: Global, raster: &mut Raster, at_most: u32) -> Result<(), 
     }
 }
 
-#[test]
-fn pictures(rt: HostRuntime) -> Result<(), Fail> {
-    for &(width, height, wanted) in ROWS {
-        let found = picture(rt.alloc(), width, height);
-        let found = match &found {
-            Ok((tiles, file)) => Ok((*tiles, file.as_slice())),
-            Err(fault) => Err(*fault),
-        };
-        assert!(rt; found == wanted, "{width} by {height}");
+/// Whether the row's picture is drawn, or refused so.
+fn is_drawn(alloc: Global, &(width, height, wanted): &Row) -> Result<bool, RasterFault> {
+    match (picture(alloc, width, height), wanted) {
+        (Ok((tiles, file)), Ok((count, text))) => Ok(tiles == count && file.as_slice() == text),
+        (Err(fault), Err(reason)) => Ok(fault == reason),
+        _ => Ok(false),
     }
-    Ok(())
 }
 
 /// Whether these of the raster's six tiles are dirty, and no other.
@@ -119,30 +120,22 @@ fn are_dirty(raster: &Raster, wanted: &[u32]) -> bool {
     raster.dirty() as usize == wanted.len()
 }
 
-/// Whether a box touches these tiles of a clean raster, and no other.
-fn touches(alloc: Global, bounds: Bounds, wanted: &[u32]) -> Result<bool, RasterFault> {
+/// Whether the row's box touches these tiles of a clean raster, and no other.
+fn touches(alloc: Global, row: &Touched) -> Result<bool, RasterFault> {
+    let &((left, bottom), (right, top), wanted) = row;
     let mut raster = raster(alloc, 5, 130, 70)?;
     redraw_discs(alloc, &mut raster, u32::MAX)?;
-    raster.touch(bounds);
+    raster.touch(Bounds::Closed {
+        low: Spot { x: left, y: bottom },
+        high: Spot { x: right, y: top },
+    });
     Ok(are_dirty(&raster, wanted))
 }
 
-#[test]
-fn boxes(rt: HostRuntime) -> Result<(), Fail> {
-    for &((left, bottom), (right, top), wanted) in BOXES {
-        let low = Spot { x: left, y: bottom };
-        let high = Spot { x: right, y: top };
-        let told = touches(rt.alloc(), Bounds::Closed { low, high }, wanted);
-        assert!(rt;
-            told == Ok(true),
-            "from ({left}, {bottom}) to ({right}, {top})"
-        );
-    }
-    Ok(())
-}
+/// A pixel of the window of 65 by 1 of which the second tile is dirty.
+type Pixel = (u32, u32, Option<bool>);
 
-/// Pixels of the window of 65 by 1 of which the second tile is dirty.
-const PIXELS: &[(u32, u32, Option<bool>)] = &[
+const PIXELS: &[Pixel] = &[
     (0, 0, Some(true)),
     (1, 0, Some(false)),
     (63, 0, Some(false)),
@@ -151,18 +144,16 @@ const PIXELS: &[(u32, u32, Option<bool>)] = &[
     (0, 1, None),
 ];
 
-/// What is known of the pixel, with the first tile drawn.
-fn pixel(alloc: Global, column: u32, row: u32) -> Result<Option<bool>, RasterFault> {
+/// Whether so much is known of the pixel, with the first tile drawn.
+fn is_known(alloc: Global, &(column, row, wanted): &Pixel) -> Result<bool, RasterFault> {
     let mut raster = raster(alloc, 2, 65, 1)?;
     redraw_discs(alloc, &mut raster, 1)?;
-    Ok(raster.pixel(column, row))
+    Ok(raster.pixel(column, row) == wanted)
 }
 
 #[test]
-fn pixels(rt: HostRuntime) -> Result<(), Fail> {
-    for &(column, row, wanted) in PIXELS {
-        let found = pixel(rt.alloc(), column, row);
-        assert!(rt; found == Ok(wanted), "column {column}, row {row}");
-    }
-    Ok(())
+fn tiles(rt: HostRuntime) -> Result<(), Fail> {
+    each_in(rt.alloc(), ROWS, is_drawn)?;
+    each_in(rt.alloc(), BOXES, touches)?;
+    each_in(rt.alloc(), PIXELS, is_known)
 }

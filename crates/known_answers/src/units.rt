@@ -1,6 +1,8 @@
 //! Lengths, points, turns and boxes. An inch is 25.4 mm.
 
+use crate::tables::each;
 use cam_units::{Bounds, Nm, Point, Spot, Turn, Unit, coord_nm, fix9_nm, isqrt};
+use std::test::Fail;
 
 /// A coordinate, its decimals and its unit, and its length in nm.
 const COORDINATES: &[(i64, u32, Unit, Option<i64>)] = &[
@@ -93,40 +95,27 @@ const BOXES: &[(Bounds, Bounds, Bounds, Bounds)] = &[
 ];
 
 #[test]
-fn lengths(rt: HostRuntime) {
-    for &(n, decimals, unit, wanted) in COORDINATES {
-        assert!(rt; decimals <= 6);
-        assert!(rt; coord_nm(n, decimals, unit) == wanted.map(Nm), "{n}");
-    }
-    for &(n, unit, wanted) in FIXED {
-        assert!(rt; fix9_nm(n, unit).0 == wanted, "{n}");
-    }
-    for &(n, wanted) in ROOTS {
-        assert!(rt; isqrt(n) == wanted, "{n}");
-    }
+fn lengths() -> Result<(), Fail> {
+    each(COORDINATES, |&(n, decimals, unit, wanted)| {
+        decimals <= 6 && coord_nm(n, decimals, unit) == wanted.map(Nm)
+    })?;
+    each(FIXED, |&(n, unit, wanted)| fix9_nm(n, unit).0 == wanted)?;
+    each(ROOTS, |&(n, wanted)| isqrt(n) == wanted)
 }
 
 #[test]
-fn turns(rt: HostRuntime) {
-    for &(turn, x, y) in TURNS {
-        assert!(rt;
-            turn.apply(Point { x: 2, y: 1 }) == Point { x, y },
-            "{turn:?}"
-        );
-    }
-    for &(first, next, both) in PRODUCTS {
-        assert!(rt; first.then(next) == both, "{first:?} and {next:?}");
-    }
+fn turns() -> Result<(), Fail> {
+    each(TURNS, |&(turn, x, y)| {
+        turn.apply(Point { x: 2, y: 1 }) == Point { x, y }
+    })?;
+    each(PRODUCTS, |&(first, next, both)| first.then(next) == both)
 }
 
 #[test]
-fn boxes(rt: HostRuntime) {
-    for (left, right, joined, clipped) in BOXES {
-        assert!(rt; left.joined(*right) == *joined, "{left:?} and {right:?}");
-        assert!(rt; left.clipped(*right) == *clipped, "{left:?} and {right:?}");
-        assert!(rt;
-            left.meets(*right) != clipped.is_empty(),
-            "{left:?} and {right:?}"
-        );
-    }
+fn boxes() -> Result<(), Fail> {
+    each(BOXES, |(left, right, joined, clipped)| {
+        left.joined(*right) == *joined
+            && left.clipped(*right) == *clipped
+            && left.meets(*right) != clipped.is_empty()
+    })
 }

@@ -4,6 +4,7 @@ ghost use Rattle.std.specs.Prelude.{◌≡◌};
 ghost use Rattle.cam_objects.specs.DrillSoundness.{IsSoundDrillLayer};
 ghost use Rattle.cam_objects.specs.Soundness.{HasSoundItems};
 
+use crate::tables::each_in;
 use cam_edits::{IndexedDrillLayer, IndexedLayer};
 use cam_gerber::read_gerber;
 use cam_tiles::{Raster, RasterFault, Source, Window};
@@ -100,7 +101,7 @@ fn layer_agrees(alloc: Global, indexed: &IndexedLayer) -> Result<bool, RasterFau
 }
 
 /// The same of a Gerber file.
-fn file_agrees(alloc: Global, file: &[u8]) -> Result<bool, RasterFault> {
+fn file_agrees(alloc: Global, file: &&[u8]) -> Result<bool, RasterFault> {
     match read_gerber(alloc, file) {
         Ok(layer) => layer_agrees(alloc, &IndexedLayer::new(alloc, layer)),
         Err(_) => Ok(false),
@@ -123,7 +124,7 @@ fn drill_layer_agrees(alloc: Global, indexed: &IndexedDrillLayer) -> Result<bool
 }
 
 /// The same of a drill file.
-fn drill_file_agrees(alloc: Global, file: &[u8]) -> Result<bool, RasterFault> {
+fn drill_file_agrees(alloc: Global, file: &&[u8]) -> Result<bool, RasterFault> {
     match read_xnc(alloc, file) {
         Ok(layer) => drill_layer_agrees(alloc, &IndexedDrillLayer::new(alloc, layer)),
         Err(_) => Ok(false),
@@ -132,14 +133,6 @@ fn drill_file_agrees(alloc: Global, file: &[u8]) -> Result<bool, RasterFault> {
 
 #[test]
 fn both_ways(rt: HostRuntime) -> Result<(), Fail> {
-    for (place, file) in LAYERS.iter().enumerate() {
-        assert!(rt; file_agrees(rt.alloc(), file) == Ok(true), "layer {place}");
-    }
-    for (place, file) in DRILLS.iter().enumerate() {
-        assert!(rt;
-            drill_file_agrees(rt.alloc(), file) == Ok(true),
-            "drill layer {place}"
-        );
-    }
-    Ok(())
+    each_in(rt.alloc(), LAYERS, file_agrees)?;
+    each_in(rt.alloc(), DRILLS, drill_file_agrees)
 }

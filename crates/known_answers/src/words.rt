@@ -1,6 +1,8 @@
 //! Texts and what they are cut into (Gerber Layer Format Specification, "Syntax").
 
+use crate::tables::each;
 use cam_words::{Kind, Word, Words};
+use std::test::Fail;
 
 /// A text, its words in order, and the number and the place of the fault behind them, where there is one.
 struct Row {
@@ -87,8 +89,6 @@ fn is_right(row: &Row) -> bool {
 }
 
 #[test]
-fn cuttings(rt: HostRuntime) {
-    for row in ROWS {
-        assert!(rt; is_right(row), "{:?}", row.text);
-    }
+fn cuttings() -> Result<(), Fail> {
+    each(ROWS, is_right)
 }

@@ -10,6 +10,7 @@ mod layers;
 mod operations;
 mod repeats;
 
+use crate::tables::each_in;
 use blocks::BLOCKS;
 use cam_gerber::read_gerber;
 use cam_objects::DrillLayer;
@@ -17,7 +18,7 @@ use cam_writers::{gerber_text, xnc_text};
 use cam_xnc::read_xnc;
 use contours::CONTOURS;
 use drills::DRILLS;
-use layers::LAYERS;
+use layers::{LAYERS, Written};
 use operations::OPERATIONS;
 use repeats::REPEATS;
 use std::alloc::{AllocError, Global};
@@ -60,21 +61,22 @@ fn is_layer_written(alloc: Global, file: &[u8], text: &[u8]) -> bool {
     }
 }
 
-#[test]
-fn gerber_texts(rt: HostRuntime) {
-    for table in [LAYERS, OPERATIONS, CONTOURS, BLOCKS, REPEATS] {
-        for &(file, text) in table {
-            assert!(rt; is_layer_written(rt.alloc(), file, text), "{file:?}");
-            assert!(rt; is_layer_written(rt.alloc(), text, text), "{text:?}");
-        }
-    }
+/// Whether the text is written of the file, and of itself.
+fn is_written(alloc: Global, &(file, text): &Written) -> Result<bool, AllocError> {
+    Ok(is_layer_written(alloc, file, text) && is_layer_written(alloc, text, text))
+}
+
+/// The same of a drill file.
+fn is_drill_written(alloc: Global, &(file, text): &Written) -> Result<bool, AllocError> {
+    Ok(are_drills_written(alloc, file, text)? && are_drills_written(alloc, text, text)?)
 }
 
 #[test]
-fn drill_texts(rt: HostRuntime) -> Result<(), Fail> {
-    for &(file, text) in DRILLS {
-        assert!(rt; are_drills_written(rt.alloc(), file, text)?, "{file:?}");
-        assert!(rt; are_drills_written(rt.alloc(), text, text)?, "{text:?}");
-    }
-    Ok(())
+fn texts(rt: HostRuntime) -> Result<(), Fail> {
+    each_in(rt.alloc(), LAYERS, is_written)?;
+    each_in(rt.alloc(), OPERATIONS, is_written)?;
+    each_in(rt.alloc(), CONTOURS, is_written)?;
+    each_in(rt.alloc(), BLOCKS, is_written)?;
+    each_in(rt.alloc(), REPEATS, is_written)?;
+    each_in(rt.alloc(), DRILLS, is_drill_written)
 }

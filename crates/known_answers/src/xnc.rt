@@ -3,10 +3,10 @@
 mod long;
 mod refusals;
 
-use crate::tables::{numbered, placed, rows_of, two_texts};
+use crate::tables::{each_in, each_row, numbered, placed, two_texts};
 use crate::text::text_of;
 use cam_xnc::read_xnc;
-use long::LONG_FILES;
+use long::{LONG_FILES, LongFile};
 use refusals::{FAULTS, FORMS, NUMBERS, STATES, named};
 use std::alloc::{AllocError, Global};
 use std::test::Fail;
@@ -20,21 +20,11 @@ fn outcome(alloc: Global, text: &[u8]) -> Result<usize, (u8, usize)> {
 }
 
 /// Whether the file of the row is refused so.
-fn is_refused(alloc: Global, row: &[u8]) -> bool {
+fn is_refused(alloc: Global, row: &[u8]) -> Result<bool, AllocError> {
     match placed(row) {
-        Some((number, at, text)) => outcome(alloc, text) == Err((number, at)),
-        None => false,
+        Some((number, at, text)) => Ok(outcome(alloc, text) == Err((number, at))),
+        None => Ok(false),
     }
-}
-
-#[test]
-fn drill_faults(rt: HostRuntime) -> Result<(), Fail> {
-    let rows = rows_of(rt.alloc(), FAULTS)?;
-    assert!(rt; rows.len() == 12, "{} rows", rows.len());
-    for &row in rows.as_slice() {
-        assert!(rt; is_refused(rt.alloc(), row), "{row:?}");
-    }
-    Ok(())
 }
 
 /// A file with this line, and its end behind it.
@@ -68,23 +58,23 @@ fn is_right(alloc: Global, row: &[u8]) -> Result<bool, AllocError> {
     }
 }
 
+/// Whether the long file has so many items, or is refused so.
+fn comes_out(alloc: Global, (pieces, wanted): &LongFile) -> Result<bool, AllocError> {
+    let text = text_of(alloc, pieces)?;
+    Ok(outcome(alloc, &text) == *wanted)
+}
+
 #[test]
-fn drill_lines(rt: HostRuntime) -> Result<(), Fail> {
-    for (table, count) in [(NUMBERS, 20), (FORMS, 5), (STATES, 33)] {
-        let rows = rows_of(rt.alloc(), table)?;
-        assert!(rt; rows.len() == count, "{} rows for {count}", rows.len());
-        for &row in rows.as_slice() {
-            assert!(rt; is_right(rt.alloc(), row)?, "{row:?}");
-        }
-    }
-    Ok(())
+fn drill_files(rt: HostRuntime) -> Result<(), Fail> {
+    each_row(rt.alloc(), &[(FAULTS, 12)], is_refused)?;
+    each_row(
+        rt.alloc(),
+        &[(NUMBERS, 20), (FORMS, 5), (STATES, 33)],
+        is_right,
+    )
 }
 
 #[test]
 fn long_files(rt: HostRuntime) -> Result<(), Fail> {
-    for (pieces, wanted) in LONG_FILES {
-        let text = text_of(rt.alloc(), pieces)?;
-        assert!(rt; outcome(rt.alloc(), &text) == *wanted, "{wanted:?}");
-    }
-    Ok(())
+    each_in(rt.alloc(), LONG_FILES, comes_out)
 }

@@ -150,7 +150,9 @@ pub const PLACES: &[Place] = &[
 ];
 
 /// An aperture, a turn, and its box in half nm from the flash point: left, below, right, above.
-pub const BOXES: &[(Text, Turn, [i64; 4])] = &[
+pub(crate) type Boxed = (Text, Turn, [i64; 4]);
+
+pub const BOXES: &[Boxed] = &[
     (
         CIRCLE_WITH_HOLE,
         Turn::R0,
@@ -324,7 +326,9 @@ pub const BOXES: &[(Text, Turn, [i64; 4])] = &[
 ];
 
 /// An aperture, whether it is a circle without a hole, and whether a rectangle without one.
-pub const SOLID: &[(Text, bool, bool)] = &[
+pub(crate) type Solid = (Text, bool, bool);
+
+pub const SOLID: &[Solid] = &[
     (CIRCLE, true, false),
     (CIRCLE_OF_NO_SIZE, true, false),
     (CIRCLE_WITH_HOLE, false, false),

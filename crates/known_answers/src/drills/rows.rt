@@ -170,8 +170,10 @@ pub const DRILL_BOXES: &[Boxed] = &[
     ),
 ];
 
-/// Items beside the tools 1 and 2, and why they are refused.
-pub const DRILL_ITEMS: &[(Drilled, Result<(), ItemFault>)] = &[
+/// An item beside the tools 1 and 2, and why it is refused.
+pub type Checked = (Drilled, Result<(), ItemFault>);
+
+pub const DRILL_ITEMS: &[Checked] = &[
     // sound items
     (Hit(1, (999_999_999, -999_999_999)), Ok(())),
     (Rout(1, &[(0, 0)]), Ok(())),
@@ -194,14 +196,15 @@ pub const DRILL_ITEMS: &[(Drilled, Result<(), ItemFault>)] = &[
     (Rout(1, &[(-1_000_000_000, 0), (0, 0)]), Err(OutOfBoard)),
 ];
 
-/// Routs of so many points, and whether they are refused.
-pub const LONG_ROUTS: &[(u32, Result<(), ItemFault>)] = &[
-    (1_000_000, Ok(())),
-    (1_000_001, Err(ItemFault::TooMuch)),
-];
+/// A rout of so many points, and whether it is refused.
+pub type LongRout = (u32, Result<(), ItemFault>);
+
+pub const LONG_ROUTS: &[LongRout] = &[(1_000_000, Ok(())), (1_000_001, Err(ItemFault::TooMuch))];
 
 /// A tool and its diameter, and whether it may be added beside tool 5.
-pub const KITS: &[(u16, i64, bool)] = &[
+pub type Offered = (u16, i64, bool);
+
+pub const KITS: &[Offered] = &[
     (1, 1, true),
     (0, 1, false),
     (9_999, 1, true),

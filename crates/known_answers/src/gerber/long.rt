@@ -3,7 +3,18 @@
 use crate::text::Pieces;
 
 /// A long file, and the number and the place of its fault where it has one.
-pub const LONG_FILES: &[(Pieces, Option<(u8, usize)>)] = &[
+pub type LongFile = (Pieces, Option<(u8, usize)>);
+
+pub const LONG_FILES: &[LongFile] = &[
+    // a million flashes are read, and the next one is refused at its place
+    (
+        &[
+            (b"%FSLAX36Y36*%%MOMM*%%ADD10C,1*%D10*", 1),
+            (b"X0D03*", 1_000_001),
+            (b"M02*", 1),
+        ],
+        Some((25, 6_000_035)),
+    ),
     // blocks in blocks: 1, 64 * 2 = 128, 31 * 129 = 3,999 and 1,000 * 4,000 = 4,000,000 leaves
     (
         &[

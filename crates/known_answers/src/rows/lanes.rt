@@ -1,6 +1,8 @@
 //! Rows joined lane by lane, and the bytes of a row in a file (netpbm's pbm(5), "P4").
 
+use crate::tables::each;
 use cam_rows::{clear_rows, or_rows, pbm_bytes, xor_rows};
+use std::test::Fail;
 
 /// The rows of a lane, and what becomes of the first one: with the second one's bits, without them, and with them
 /// turned over.
@@ -23,9 +25,8 @@ const BYTES: &[(u64, [u8; 8])] = &[
     (u64::MAX >> 3, [255, 255, 255, 255, 255, 255, 255, 0xf8]),
 ];
 
-/// The table's rows, lane by lane, over and over.
-#[test]
-fn lanes(rt: HostRuntime) {
+/// Whether each lane of rows that have the table over and over is joined so.
+fn are_joined() -> bool {
     let mut rows = [0; 64];
     let mut other = [0; 64];
     for lane in 0..64 {
@@ -37,13 +38,15 @@ fn lanes(rt: HostRuntime) {
     xor_rows(&mut turned, &other);
     for lane in 0..64 {
         let found = [joined[lane], cleared[lane], turned[lane]];
-        assert!(rt; found == LANES[lane % LANES.len()].2, "lane {lane}");
+        if found != LANES[lane % LANES.len()].2 {
+            return false;
+        }
     }
+    true
 }
 
 #[test]
-fn bytes(rt: HostRuntime) {
-    for &(row, wanted) in BYTES {
-        assert!(rt; pbm_bytes(row) == wanted, "{row:#x}");
-    }
+fn lanes(rt: HostRuntime) -> Result<(), Fail> {
+    assert!(rt; are_joined());
+    each(BYTES, |&(row, wanted)| pbm_bytes(row) == wanted)
 }

@@ -3,7 +3,9 @@
 use crate::text::Pieces;
 
 /// A long file, and how many items its drill layer has, or the number and the place of its fault.
-pub const LONG_FILES: &[(Pieces, Result<usize, (u8, usize)>)] = &[
+pub type LongFile = (Pieces, Result<usize, (u8, usize)>);
+
+pub const LONG_FILES: &[LongFile] = &[
     // hits
     (
         &[
