@@ -153,7 +153,7 @@ fn is_in_box(alloc: Global, row: &Boxed) -> Result<bool, MacroFault> {
     Ok(has_box(alloc, text, turn, wanted)? && has_box(alloc, NOTHING, turn, Bounds::Empty)?)
 }
 
-/// Whether the aperture is a circle without a hole, or a rectangle without one, as the row wants.
+/// Whether the aperture is a circle without a hole, or a rectangle without one, or neither, as the row has it.
 fn is_solid(alloc: Global, &(text, circle, rectangle): &Solid) -> Result<bool, MacroFault> {
     match aperture_of(alloc, text)? {
         Some(it) => Ok(it.is_solid_circle() == circle && it.is_solid_rect() == rectangle),

@@ -254,7 +254,7 @@ fn is_rout_checked(alloc: Global, &(times, wanted): &LongRout) -> Result<bool, A
     Ok(verdict(alloc, &long_rout(alloc, times)?)? == Some(wanted))
 }
 
-/// Whether the tool may be added beside tool 5, as the row wants.
+/// Whether the tool may be added beside tool 5, or is refused, as the row has it.
 fn is_tool_checked(alloc: Global, &(tool, diameter, wanted): &Offered) -> Result<bool, AllocError> {
     match layer_of(alloc, &[(5, 5)], &[])? {
         Some(layer) => Ok(layer.check_tool(tool, Nm(diameter)) == wanted),

@@ -101,7 +101,7 @@ fn is_checked(alloc: Global, row: &Checked) -> Result<bool, AllocError> {
     }
 }
 
-/// Whether the row's entry may be added beside the others, as it wants.
+/// Whether the row's entry may be added beside the others, or is refused, as the row has it.
 fn is_added(alloc: Global, row: &Added) -> Result<bool, AllocError> {
     let entry = entry(alloc, &row.2)?;
     match dictionary(alloc, row.0)? {
@@ -110,7 +110,7 @@ fn is_added(alloc: Global, row: &Added) -> Result<bool, AllocError> {
     }
 }
 
-/// Whether the layer of the row's items has room for one more, as it wants.
+/// Whether the layer of the row's items has room for one more, or has none, as the row has it.
 fn is_filled(alloc: Global, row: &Filled) -> Result<bool, AllocError> {
     let item = item(alloc, &row.2)?;
     match layer(alloc, row.0, row.1)? {

@@ -12,7 +12,7 @@ use std::test::Fail;
 /// A disc of a micrometre at the origin, and one 5 micrometres to its right.
 const DISCS: &[u8] = b"%FSLAX66Y66*%%MOMM*%%ADD10C,0.001*%D10*X0Y0D03*X5000D03*M02*";
 
-/// Places in half nm, and whether they are black.
+/// A place in half nm, and whether it is black.
 type Place = (i16, i16, bool);
 
 const PLACES: &[Place] = &[

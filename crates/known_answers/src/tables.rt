@@ -1,7 +1,8 @@
-//! Tables that are one text each. A line ends before a `|`, or with the text; one that begins with `#` is a note, and
-//! each other is a row: numbers and words, each with a space behind it, and a text, or two with a `!` between them.
+//! Plays tables: lists of rows, and tables that are one text each.
 //!
-//! One text is a small term, and a list of as many rows a great one, which each proof about it carries.
+//! In such a text a line ends before a `|`, or with the text; one that begins with `#` is a note, and each other is a
+//! row: numbers and words, each with a space behind it, and a text, or two with a `!` between them. One text is a small
+//! term, and a list of as many rows a great one, which each proof about it carries.
 
 use std::alloc::{AllocError, Global};
 use std::fmt::Debug;
@@ -61,7 +62,7 @@ pub(crate) fn each<T, F: FnMut(&T) -> bool>(rows: &[T], mut is_right: F) -> Resu
     Ok(())
 }
 
-/// The same where it takes memory to tell.
+/// The same with a check that needs memory.
 pub(crate) fn each_in<T, E: Debug + Drop, F: FnMut(Global, &T) -> Result<bool, E>>(
     alloc: Global,
     rows: &[T],
