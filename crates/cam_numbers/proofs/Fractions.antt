@@ -10,7 +10,7 @@ use Rattle.cam_numbers.specs.declared.blanks.Blanks.{Blanks}
 use Rattle.cam_numbers.specs.declared.blanks.Blanks.TheVariants.{Refused, Skipped}
 use Rattle.cam_numbers.specs.declared.whole.Digits.{Digits}
 use Rattle.cam_numbers.specs.declared.decimals.Decimals.{Decimals}
-use Rattle.cam_numbers.specs.Blanks.{is_blank, kept}
+use Rattle.cam_numbers.specs.Blanks.{is_blank_byte, without_blanks}
 use Rattle.cam_numbers.specs.Numbers.{is_point, unsigned_decimal, are_digits, value_of, billionths}
 use Rattle.cam_numbers.specs.Machinery.Counting.{digits_of, decimals_of}
 use Rattle.cam_numbers.proofs.Counting.{said, not_said, told, not_told}
@@ -21,34 +21,34 @@ one_more n = omega arith
 more_one : (n : ℕ) → suc n + 1 ≡ suc (n + 1)
 more_one n = omega arith
 
-unpointed : (byte : ℕ) → is_blank byte ≡ true → is_point byte ≡ false
+unpointed : (byte : ℕ) → is_blank_byte byte ≡ true → is_point byte ≡ false
 unpointed byte e = grind (arith, nat_tests)
 
-skipped_before : (run : List ℕ) → kept Skipped (take (position_or_len is_point run) run) ≡ before_first is_point (kept Skipped run)
+skipped_before : (run : List ℕ) → without_blanks Skipped (take (position_or_len is_point run) run) ≡ before_first is_point (without_blanks Skipped run)
 skipped_before [] = refl
 skipped_before (byte ∷ run) =
-    (elim (is_blank byte) as (λ s. is_blank byte ≡ s → kept Skipped (take (position_or_len is_point (byte ∷ run)) (byte ∷ run))
-    ≡ before_first is_point (kept Skipped (byte ∷ run))) [
+    (elim (is_blank_byte byte) as (λ s. is_blank_byte byte ≡ s → without_blanks Skipped (take (position_or_len is_point (byte ∷ run)) (byte ∷ run))
+    ≡ before_first is_point (without_blanks Skipped (byte ∷ run))) [
       | true ↦ λ e. rw (unpointed byte e, one_more (position_or_len is_point run), e) (skipped_before run)
       | false ↦ λ e.
-          (elim (is_point byte) as (λ p. is_point byte ≡ p → kept Skipped (take (position_or_len is_point (byte ∷ run)) (byte ∷ run))
-          ≡ before_first is_point (kept Skipped (byte ∷ run))) [
+          (elim (is_point byte) as (λ p. is_point byte ≡ p → without_blanks Skipped (take (position_or_len is_point (byte ∷ run)) (byte ∷ run))
+          ≡ before_first is_point (without_blanks Skipped (byte ∷ run))) [
             | true ↦ λ p. rw (p, e, p) refl
-            | false ↦ λ p. rw (p, one_more (position_or_len is_point run), e, p, one_more (position_or_len is_point (kept Skipped run)))
+            | false ↦ λ p. rw (p, one_more (position_or_len is_point run), e, p, one_more (position_or_len is_point (without_blanks Skipped run)))
                 (ap (λ rest. byte ∷ rest) (skipped_before run))
           ]) refl
     ]) refl
 
-skipped_after : (run : List ℕ) → kept Skipped (drop (position_or_len is_point run + 1) run) ≡ after_first is_point (kept Skipped run)
+skipped_after : (run : List ℕ) → without_blanks Skipped (drop (position_or_len is_point run + 1) run) ≡ after_first is_point (without_blanks Skipped run)
 skipped_after [] = refl
 skipped_after (byte ∷ run) =
-    (elim (is_blank byte) as (λ s. is_blank byte ≡ s → kept Skipped (drop (position_or_len is_point (byte ∷ run) + 1) (byte ∷ run))
-    ≡ after_first is_point (kept Skipped (byte ∷ run))) [
+    (elim (is_blank_byte byte) as (λ s. is_blank_byte byte ≡ s → without_blanks Skipped (drop (position_or_len is_point (byte ∷ run) + 1) (byte ∷ run))
+    ≡ after_first is_point (without_blanks Skipped (byte ∷ run))) [
       | true ↦ λ e. rw (unpointed byte e, one_more (position_or_len is_point run), more_one (position_or_len is_point run), e)
           (skipped_after run)
       | false ↦ λ e.
-          (elim (is_point byte) as (λ p. is_point byte ≡ p → kept Skipped (drop (position_or_len is_point (byte ∷ run) + 1) (byte ∷ run))
-          ≡ after_first is_point (kept Skipped (byte ∷ run))) [
+          (elim (is_point byte) as (λ p. is_point byte ≡ p → without_blanks Skipped (drop (position_or_len is_point (byte ∷ run) + 1) (byte ∷ run))
+          ≡ after_first is_point (without_blanks Skipped (byte ∷ run))) [
             | true ↦ λ p. rw (p, e, p) refl
             | false ↦ λ p.
                 rw (
@@ -57,40 +57,40 @@ skipped_after (byte ∷ run) =
                   more_one (position_or_len is_point run),
                   e,
                   p,
-                  one_more (position_or_len is_point (kept Skipped run)),
-                  more_one (position_or_len is_point (kept Skipped run)),
+                  one_more (position_or_len is_point (without_blanks Skipped run)),
+                  more_one (position_or_len is_point (without_blanks Skipped run)),
                 )
                 (skipped_after run)
           ]) refl
     ]) refl
 
-kept_before : (blanks : Blanks) (run : List ℕ) → kept blanks (take (position_or_len is_point run) run)
-    ≡ before_first is_point (kept blanks run)
+kept_before : (blanks : Blanks) (run : List ℕ) → without_blanks blanks (take (position_or_len is_point run) run)
+    ≡ before_first is_point (without_blanks blanks run)
 kept_before Refused run = refl
 kept_before Skipped run = skipped_before run
 
-kept_after : (blanks : Blanks) (run : List ℕ) → kept blanks (drop (position_or_len is_point run + 1) run)
-    ≡ after_first is_point (kept blanks run)
+kept_after : (blanks : Blanks) (run : List ℕ) → without_blanks blanks (drop (position_or_len is_point run + 1) run)
+    ≡ after_first is_point (without_blanks blanks run)
 kept_after Refused run = refl
 kept_after Skipped run = skipped_after run
 
 -- a run and the place of its point
 module _ (blanks : Blanks) (run : List ℕ) (n : ℕ) (is : n ≡ position_or_len is_point run) where
-  pub part_before : kept blanks (take n run) ≡ before_first is_point (kept blanks run)
-  part_before = ap (λ (k : ℕ). kept blanks (take k run)) is ∙ kept_before blanks run
+  pub part_before : without_blanks blanks (take n run) ≡ before_first is_point (without_blanks blanks run)
+  part_before = ap (λ (k : ℕ). without_blanks blanks (take k run)) is ∙ kept_before blanks run
 
-  part_from : kept blanks (drop (n + 1) run) ≡ after_first is_point (kept blanks run)
-  part_from = ap (λ (k : ℕ). kept blanks (drop (k + 1) run)) is ∙ kept_after blanks run
+  part_from : without_blanks blanks (drop (n + 1) run) ≡ after_first is_point (without_blanks blanks run)
+  part_from = ap (λ (k : ℕ). without_blanks blanks (drop (k + 1) run)) is ∙ kept_after blanks run
 
-  pub part_after : kept blanks (take (length run - (n + 1)) (drop (n + 1) run)) ≡ after_first is_point (kept blanks run)
-  part_after = ap (kept blanks) (take_rest run (n + 1)) ∙ part_from
+  pub part_after : without_blanks blanks (take (length run - (n + 1)) (drop (n + 1) run)) ≡ after_first is_point (without_blanks blanks run)
+  part_after = ap (without_blanks blanks) (take_rest run (n + 1)) ∙ part_from
 
   -- without a point
-  pub whole_before : n ≡ length run → kept blanks run ≡ before_first is_point (kept blanks run)
-  whole_before all = ap (kept blanks) (sym (take_all n run (omega (arith, all)))) ∙ part_before
+  pub whole_before : n ≡ length run → without_blanks blanks run ≡ before_first is_point (without_blanks blanks run)
+  whole_before all = ap (without_blanks blanks) (sym (take_all n run (omega (arith, all)))) ∙ part_before
 
-  pub nothing_after : n ≡ length run → kept blanks [] ≡ after_first is_point (kept blanks run)
-  nothing_after all = ap (kept blanks) (sym (drop_all (n + 1) run (omega (arith, all)))) ∙ part_from
+  pub nothing_after : n ≡ length run → without_blanks blanks [] ≡ after_first is_point (without_blanks blanks run)
+  nothing_after all = ap (without_blanks blanks) (sym (drop_all (n + 1) run (omega (arith, all)))) ∙ part_from
 
 -- a decimal of these two parts
 abbrev pub made_of : List ℕ → List ℕ → Option ℕ

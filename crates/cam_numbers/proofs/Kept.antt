@@ -3,30 +3,30 @@ use Rattle.std.proofs.Common.{◌≡◌, ℕ, ◌+◌, ◌<◌, ◌≤◌, List,
 use Rattle.std.proofs.lemmas.List.{drop_more, at_drop_all}
 use Rattle.cam_numbers.specs.declared.blanks.Blanks.{Blanks}
 use Rattle.cam_numbers.specs.declared.blanks.Blanks.TheVariants.{Refused, Skipped}
-use Rattle.cam_numbers.specs.Blanks.{is_blank, passes, kept}
+use Rattle.cam_numbers.specs.Blanks.{is_blank_byte, passes, without_blanks}
 
-kept_of_none : (blanks : Blanks) → kept blanks [] ≡ []
+kept_of_none : (blanks : Blanks) → without_blanks blanks [] ≡ []
 kept_of_none Refused = refl
 kept_of_none Skipped = refl
 
 kept_of_more : (blanks : Blanks) (byte : ℕ) (run : List ℕ)
-    → kept blanks (byte ∷ run) ≡ cond (passes blanks byte) (kept blanks run) (byte ∷ kept blanks run)
+    → without_blanks blanks (byte ∷ run) ≡ cond (passes blanks byte) (without_blanks blanks run) (byte ∷ without_blanks blanks run)
 kept_of_more Refused byte run = refl
 kept_of_more Skipped byte run =
-    elim (is_blank byte) as
-    (λ b. cond (not b) (byte ∷ kept Skipped run) (kept Skipped run) ≡ cond b (kept Skipped run) (byte ∷ kept Skipped run)) [
+    elim (is_blank_byte byte) as
+    (λ b. cond (not b) (byte ∷ without_blanks Skipped run) (without_blanks Skipped run) ≡ cond b (without_blanks Skipped run) (byte ∷ without_blanks Skipped run)) [
       | true ↦ refl
       | false ↦ refl
     ]
 
 -- a byte that is not
 pub kept_at : (blanks : Blanks) (run : List ℕ) (i : ℕ) → i < length run → passes blanks (get_or run i 0) ≡ false
-    → kept blanks (drop i run) ≡ get_or run i 0 ∷ kept blanks (drop (i + 1) run)
+    → without_blanks blanks (drop i run) ≡ get_or run i 0 ∷ without_blanks blanks (drop (i + 1) run)
 kept_at blanks run i h e =
-    let more : kept blanks (get_or run i 0 ∷ drop (i + 1) run) ≡ get_or run i 0 ∷ kept blanks (drop (i + 1) run) =
+    let more : without_blanks blanks (get_or run i 0 ∷ drop (i + 1) run) ≡ get_or run i 0 ∷ without_blanks blanks (drop (i + 1) run) =
     kept_of_more blanks (get_or run i 0) (drop (i + 1) run) ∙ rw e refl in
-    ap (kept blanks) (drop_more run i 0 h) ∙ more
+    ap (without_blanks blanks) (drop_more run i 0 h) ∙ more
 
 -- behind the last byte
-pub kept_at_end : (blanks : Blanks) (run : List ℕ) (i : ℕ) → length run ≤ i → kept blanks (drop i run) ≡ []
-kept_at_end blanks run i h = at_drop_all (kept blanks) run i h ∙ kept_of_none blanks
+pub kept_at_end : (blanks : Blanks) (run : List ℕ) (i : ℕ) → length run ≤ i → without_blanks blanks (drop i run) ≡ []
+kept_at_end blanks run i h = at_drop_all (without_blanks blanks) run i h ∙ kept_of_none blanks

@@ -12,7 +12,7 @@ use Rattle.std.proofs.lemmas.Int.Digits.{digits_value_more}
 use Rattle.std.proofs.lemmas.List.Folds.{list_all_more}
 use Rattle.cam_numbers.specs.declared.blanks.Blanks.TheVariants.{Skipped}
 use Rattle.cam_numbers.specs.declared.whole.Digits.{Digits}
-use Rattle.cam_numbers.specs.Blanks.{is_blank, kept}
+use Rattle.cam_numbers.specs.Blanks.{is_blank_byte, without_blanks}
 use Rattle.cam_numbers.specs.Numbers.{are_digits, integer, is_numeric, is_sign, natural_within, value_of, with_sign}
 use Rattle.cam_numbers.specs.Machinery.TextFronts.{IsDigitsFront, IsIntegerFront}
 use Rattle.cam_numbers.proofs.Counting.{digit_is, short_value}
@@ -33,23 +33,16 @@ more_value text i below digit =
 pub few_digits : (text : List ℕ) (i : ℕ) → are_digits (take i text) ≡ true → i ≤ 15 → value_of (take i text) < 10 ^ 15
 few_digits text i all few = short_value (take i text) 15 all (omega (arith, length-take i text))
 
--- digits and a letter
-in_run : ℕ → Bool
-in_run byte = is_numeric byte || is_blank byte
-
-digit_in_run : (byte : ℕ) → is_ascii_digit byte ≡ true → (is_numeric byte || is_blank byte) ≡ true
+digit_in_run : (byte : ℕ) → is_ascii_digit byte ≡ true → (is_numeric byte || is_blank_byte byte) ≡ true
 unfolding is_numeric
 digit_in_run byte h = rw h refl
 
-letter_ends_run : (byte : ℕ) → 65 ≤ byte → (is_numeric byte || is_blank byte) ≡ false
+letter_ends_run : (byte : ℕ) → 65 ≤ byte → (is_numeric byte || is_blank_byte byte) ≡ false
 unfolding is_numeric
 letter_ends_run byte h = grind (arith, nat_tests)
 
-one_more : (n : ℕ) → 1 + n ≡ suc n
-one_more n = omega arith
-
 pub run_of_digits : (text : List ℕ) (n : ℕ) → n < length text → are_digits (take n text) ≡ true → 65 ≤ get_or text n 0
-    → n ≡ prefix_len (λ byte. is_numeric byte || is_blank byte) text
+    → n ≡ prefix_len (λ byte. is_numeric byte || is_blank_byte byte) text
 run_of_digits [] n below all letter = absurd (omega arith)
 run_of_digits (byte ∷ text) zero below all letter = rw (letter_ends_run byte letter) refl
 run_of_digits (byte ∷ text) (suc n) below all letter =
@@ -58,10 +51,10 @@ run_of_digits (byte ∷ text) (suc n) below all letter =
     rw (digit_in_run byte both.0) (omega (arith, rest))
 
 -- digits hold no blank
-digit_is_kept : (byte : ℕ) → is_ascii_digit byte ≡ true → is_blank byte ≡ false
+digit_is_kept : (byte : ℕ) → is_ascii_digit byte ≡ true → is_blank_byte byte ≡ false
 digit_is_kept byte h = grind (arith, nat_tests)
 
-kept_digits : (run : List ℕ) → are_digits run ≡ true → kept Skipped run ≡ run
+kept_digits : (run : List ℕ) → are_digits run ≡ true → without_blanks Skipped run ≡ run
 kept_digits [] all = refl
 kept_digits (byte ∷ run) all =
     let both = and_parts (is_ascii_digit byte) (are_digits run) all in

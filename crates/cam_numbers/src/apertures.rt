@@ -1,7 +1,7 @@
 //! The numbers of apertures.
 
 ghost use Rattle.std.specs.Prelude.{◌≡◌};
-ghost use Rattle.cam_numbers.specs.Blanks.{kept};
+ghost use Rattle.cam_numbers.specs.Blanks.{without_blanks};
 ghost use Rattle.cam_numbers.specs.Numbers.{within_numbers, defined_number};
 
 use crate::blanks::Blanks;
@@ -23,7 +23,7 @@ pub fn within_numbers(n: u64) -> Option<u32>
 
 /// The number that a definition gives an aperture: 10 to 2,147,483,647.
 pub fn defined_number(run: &[u8], blanks: Blanks) -> Option<u32>
-    ensures { result ≡ defined_number (kept blanks run.now) }
+    ensures { result ≡ defined_number (without_blanks blanks run.now) }
 {
     let number = natural(run, blanks)?;
     if number < 10 {

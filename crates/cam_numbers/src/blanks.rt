@@ -1,7 +1,7 @@
 //! Bytes of a number that do not count.
 
 ghost use Rattle.std.specs.Prelude.{◌≡◌, [], ◌∷◌, MatchOption};
-ghost use Rattle.cam_numbers.specs.Blanks.{passes, kept};
+ghost use Rattle.cam_numbers.specs.Blanks.{passes, without_blanks};
 
 /// What is made of line ends, spaces and tabs among the bytes of a number.
 #[derive(Clone, Copy, PartialEq, Eq)]
@@ -28,8 +28,8 @@ impl Blanks {
 /// The first byte that counts, and what stands behind it.
 pub(crate) fn first_kept(run: &[u8], blanks: Blanks) -> Option<(u8, &[u8])>
     ensures { MatchOption result
-        (kept blanks run.now ≡ [])
-        (λ first. kept blanks run.now ≡ first.0 ∷ kept blanks first.1.now) }
+        (without_blanks blanks run.now ≡ [])
+        (λ first. without_blanks blanks run.now ≡ first.0 ∷ without_blanks blanks first.1.now) }
 {
     for (place, byte) in run.iter().enumerate() {
         if !blanks.passes(*byte) {

@@ -2,7 +2,7 @@
 
 ghost use Rattle.std.specs.Prelude.{◌≡◌, ◌≤◌, ◌<◌, ◌^◌, length, IfSome};
 ghost use Rattle.std.specs.List.{before_first, after_first, position_or_len};
-ghost use Rattle.cam_numbers.specs.Blanks.{kept};
+ghost use Rattle.cam_numbers.specs.Blanks.{without_blanks};
 ghost use Rattle.cam_numbers.specs.Numbers.{is_point, unsigned_decimal, decimal};
 ghost use Rattle.cam_numbers.specs.Machinery.Counting.{decimals_of};
 
@@ -18,7 +18,7 @@ struct Decimals {
 
 /// `None` where the run holds anything but digits.
 fn decimals_of(run: &[u8], blanks: Blanks) -> Option<Decimals>
-    ensures value { result ≡ decimals_of (kept blanks run.now) }
+    ensures value { result ≡ decimals_of (without_blanks blanks run.now) }
     ensures bound { IfSome result (λ decimals. decimals.value < 10 ^ 9) }
 {
     let mut count = 0;
@@ -48,8 +48,8 @@ fn point_place(run: &[u8]) -> usize
 
 /// What stands before the first point of a run, and what behind it.
 fn split_at_point(run: &[u8], blanks: Blanks) -> (&[u8], &[u8])
-    ensures whole { kept blanks result.0.now ≡ before_first is_point (kept blanks run.now) }
-    ensures decimals { kept blanks result.1.now ≡ after_first is_point (kept blanks run.now) }
+    ensures whole { without_blanks blanks result.0.now ≡ before_first is_point (without_blanks blanks run.now) }
+    ensures decimals { without_blanks blanks result.1.now ≡ after_first is_point (without_blanks blanks run.now) }
 {
     let place = point_place(run);
     if place == run.len() {
@@ -61,7 +61,7 @@ fn split_at_point(run: &[u8], blanks: Blanks) -> (&[u8], &[u8])
 /// A decimal without a sign, in 10^-9 of a unit: digits with an optional point, at least one digit, below 10^6.
 /// Digits past the ninth decimal are dropped.
 pub fn unsigned_decimal(run: &[u8], blanks: Blanks) -> Option<u64>
-    ensures value { result ≡ unsigned_decimal (kept blanks run.now) }
+    ensures value { result ≡ unsigned_decimal (without_blanks blanks run.now) }
     ensures bound { IfSome result (λ n. n < 10 ^ 15) }
 {
     let (whole, decimals) = split_at_point(run, blanks);
@@ -78,7 +78,7 @@ pub fn unsigned_decimal(run: &[u8], blanks: Blanks) -> Option<u64>
 
 /// A decimal in 10^-9 of a unit: an optional sign, and behind it a decimal without one. Below 10^6 in absolute value.
 pub fn decimal(run: &[u8], blanks: Blanks) -> Option<i64>
-    ensures { result ≡ decimal (kept blanks run.now) }
+    ensures { result ≡ decimal (without_blanks blanks run.now) }
 {
     let signed = read_sign(run, blanks);
     let size = unsigned_decimal(signed.size, blanks)?;

@@ -2,7 +2,7 @@
 
 ghost use Rattle.std.specs.Prelude.{◌≡◌, ◌≤◌, ◌<◌, ◌^◌, ◌||◌, length, take, true, Some, IfSome};
 ghost use Rattle.std.specs.List.{prefix_len};
-ghost use Rattle.cam_numbers.specs.Blanks.{is_blank, kept};
+ghost use Rattle.cam_numbers.specs.Blanks.{is_blank_byte, without_blanks};
 ghost use Rattle.cam_numbers.specs.Numbers.{are_digits, integer, is_numeric, value_of};
 ghost use Rattle.cam_numbers.specs.Machinery.TextFronts.{IsDigitsFront, IsIntegerFront};
 ghost use Rattle.cam_numbers.specs.declared.blanks.Blanks.TheVariants.{Skipped};
@@ -56,7 +56,8 @@ fn digits_before_letter(text: &[u8]) -> Option<Digits>
     Some(digits)
 }
 
-/// The same, also behind a minus. Nearly all coordinates of files are written so.
+/// The coordinate of 1 to 15 digits that a text begins with, or of a minus and these, where a letter follows the last
+/// of them. Nearly all coordinates of files are written so.
 fn plain_integer(text: &[u8]) -> Option<Leading>
     ensures { IfSome result (IsIntegerFront text.now) }
 {
@@ -79,9 +80,9 @@ fn plain_integer(text: &[u8]) -> Option<Leading>
 
 /// How many bytes at the front of a text a number may hold, blanks among them, and the coordinate that they write.
 pub fn leading_integer(text: &[u8]) -> Leading
-    ensures len { result.len ≡ prefix_len (λ byte. is_numeric byte || is_blank byte) text.now }
+    ensures len { result.len ≡ prefix_len (λ byte. is_numeric byte || is_blank_byte byte) text.now }
     ensures within { result.len ≤ length text.now }
-    ensures value { result.value ≡ integer (kept Skipped (take result.len text.now)) }
+    ensures value { result.value ≡ integer (without_blanks Skipped (take result.len text.now)) }
 {
     if let Some(found) = plain_integer(text) {
         return found;

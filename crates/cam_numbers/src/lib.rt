@@ -12,6 +12,19 @@
 //!
 //! Each gives the value or `None`, and takes no memory. A caller says by [`Blanks`] whether line ends, spaces
 //! and tabs may stand among the digits. `specs/Numbers.antt` says what every run stands for.
+//!
+//! ```rust
+//! use cam_numbers::{Blanks, decimal, integer, leading_integer};
+//!
+//! // a decimal is in 10^-9 of a unit, and exact
+//! assert!(rt; decimal(b"-0.25", Blanks::Refused) == Some(-250_000_000));
+//! // line ends, spaces and tabs may stand among the digits of a Gerber file
+//! assert!(rt; integer(b"12 00", Blanks::Skipped) == Some(1_200));
+//! assert!(rt; integer(b"12 00", Blanks::Refused) == None);
+//! // the coordinate that a text begins with
+//! let leading = leading_integer(b"1500D01");
+//! assert!(rt; leading.len == 4 && leading.value == Some(1_500));
+//! ```
 #![tactic(auto)]
 
 mod apertures;

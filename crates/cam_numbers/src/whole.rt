@@ -1,7 +1,7 @@
 //! Whole numbers.
 
 ghost use Rattle.std.specs.Prelude.{◌≡◌, ◌≤◌, ◌<◌, ◌^◌, min, IfSome, option_map};
-ghost use Rattle.cam_numbers.specs.Blanks.{kept};
+ghost use Rattle.cam_numbers.specs.Blanks.{without_blanks};
 ghost use Rattle.cam_numbers.specs.Numbers.{value_limit, natural, natural_within, integer, is_negative, behind_sign};
 ghost use Rattle.cam_numbers.specs.Numbers.{with_sign};
 ghost use Rattle.cam_numbers.specs.Machinery.Counting.{digits_of};
@@ -23,7 +23,7 @@ pub(crate) struct Digits {
 
 /// `None` where the run holds anything but digits.
 pub(crate) fn digits_of(run: &[u8], blanks: Blanks) -> Option<Digits>
-    ensures { result ≡ digits_of (kept blanks run.now) }
+    ensures { result ≡ digits_of (without_blanks blanks run.now) }
 {
     let mut count = 0;
     let mut value = 0;
@@ -42,7 +42,7 @@ pub(crate) fn digits_of(run: &[u8], blanks: Blanks) -> Option<Digits>
 
 /// The value of a run of digits, at most 10^15; `None` where it is empty or holds anything else.
 pub fn natural(run: &[u8], blanks: Blanks) -> Option<u64>
-    ensures { result ≡ option_map (min value_limit) (natural (kept blanks run.now)) }
+    ensures { result ≡ option_map (min value_limit) (natural (without_blanks blanks run.now)) }
 {
     let digits = digits_of(run, blanks)?;
     if digits.count == 0 {
@@ -54,7 +54,7 @@ pub fn natural(run: &[u8], blanks: Blanks) -> Option<u64>
 /// The value of 1 to so many digits.
 pub fn natural_within(most: usize, run: &[u8], blanks: Blanks) -> Option<u64>
     requires { most ≤ 15 }
-    ensures value { result ≡ natural_within most (kept blanks run.now) }
+    ensures value { result ≡ natural_within most (without_blanks blanks run.now) }
     ensures bound { IfSome result (λ n. n < 10 ^ most) }
 {
     let digits = digits_of(run, blanks)?;
@@ -75,8 +75,8 @@ pub(crate) struct Signed<'a> {
 }
 
 pub(crate) fn read_sign(run: &[u8], blanks: Blanks) -> Signed<'_>
-    ensures sign { result.is_negative ≡ is_negative (kept blanks run.now) }
-    ensures size { kept blanks result.size.now ≡ behind_sign (kept blanks run.now) }
+    ensures sign { result.is_negative ≡ is_negative (without_blanks blanks run.now) }
+    ensures size { without_blanks blanks result.size.now ≡ behind_sign (without_blanks blanks run.now) }
 {
     match first_kept(run, blanks) {
         Some((b'-', size)) => Signed {
@@ -107,7 +107,7 @@ pub(crate) fn with_sign(is_negative: bool, size: u64) -> i64
 
 /// A coordinate: an optional sign and 1 to 15 digits.
 pub fn integer(run: &[u8], blanks: Blanks) -> Option<i64>
-    ensures { result ≡ integer (kept blanks run.now) }
+    ensures { result ≡ integer (without_blanks blanks run.now) }
 {
     let signed = read_sign(run, blanks);
     let size = natural_within(COORDINATE_DIGITS, signed.size, blanks)?;

@@ -4,12 +4,9 @@ use Rattle.std.proofs.Common.{inl, inr}
 use Rattle.std.specs.Prelude.{nat_le, ◌&&◌, MatchOption}
 use Rattle.std.specs.List.{list_all}
 use Rattle.std.proofs.lemmas.Bool.{and_parts, leb-true, leb-false, le-leb, false≢true}
-use Rattle.cam_refusals.specs.Checks.{Checks, Holds, IsFirst, IsLeast, NoneHolds, first, least, lower_of}
+use Rattle.cam_refusals.specs.Checks.{Checks, Holds, IsFirst, IsLeast, NoneHolds, first_holding, least, lower_of}
 
 module _ {F : Type 0} where
-  pub holds_here : (check : F × Bool) (later : Checks F) → check.1 ≡ true → Holds (check ∷ later) check.0
-  holds_here check later e = inl (refl, e)
-
   -- what each of the faults has, one that holds has
   pub each_has : (P : F → Bool) (checks : Checks F) (fault : F) → list_all (λ c. P c.0) checks ≡ true → Holds checks fault
       → P fault ≡ true
@@ -19,10 +16,10 @@ module _ {F : Type 0} where
 
   -- ---- the first
 
-  pub tells_first : (checks : Checks F) → MatchOption (first checks) (NoneHolds checks) (IsFirst checks)
+  pub tells_first : (checks : Checks F) → MatchOption (first_holding checks) (NoneHolds checks) (IsFirst checks)
   tells_first [] = λ fault h. h
   tells_first ((fault, true) ∷ later) = record { before = []; after = later; stands = refl; none = refl }
-  tells_first ((fault, false) ∷ later) = elim (first later) as (λ o. MatchOption o (NoneHolds later) (IsFirst later)
+  tells_first ((fault, false) ∷ later) = elim (first_holding later) as (λ o. MatchOption o (NoneHolds later) (IsFirst later)
       → MatchOption o (NoneHolds ((fault, false) ∷ later)) (IsFirst ((fault, false) ∷ later))) [
         | None ↦ λ none other h. elim h [ inl here ↦ false≢true here.1 | inr there ↦ none other there ]
         | Some told ↦ λ is. record {
@@ -95,7 +92,7 @@ module _ {F : Type 0} where
         ]
 
     -- there the least that holds is the first
-    pub least_is_first : (low : ℕ) (checks : Checks F) → is_ascending low checks ≡ true → least number checks ≡ first checks
+    pub least_is_first : (low : ℕ) (checks : Checks F) → is_ascending low checks ≡ true → least number checks ≡ first_holding checks
     least_is_first low [] up = refl
     least_is_first low ((fault, false) ∷ later) up =
         least_is_first (number fault) later (and_parts (nat_le low (number fault)) (is_ascending (number fault) later) up).1

@@ -5,7 +5,7 @@ use Rattle.std.specs.Prelude.{MatchOption}
 use Rattle.cam_refusals.specs.declared.read_fault.ReadFault.{ReadFault}
 use Rattle.cam_refusals.specs.declared.refusal.Refusal.{Refusal}
 use Rattle.cam_refusals.specs.Checks.{IsLeast, NoneHolds, least}
-use Rattle.cam_refusals.specs.FileFaults.{AscendFrom, IsFileFault, IsLeastFault, Place, TellsLeastFault, told}
+use Rattle.cam_refusals.specs.FileFaults.{AscendFrom, IsFileFault, IsLeastFault, Place, TellsLeastFault, first_told}
 use Rattle.cam_refusals.specs.Refusals.{number_of}
 use Rattle.cam_refusals.proofs.Checks.{tells_least}
 
@@ -13,7 +13,7 @@ abbrev NoFault : List Place → Type 0
 NoFault places = (fault : ReadFault) → IsFileFault places fault → ⊥
 
 abbrev Tells : List Place → Option ReadFault → Type 0
-Tells places told = MatchOption told (NoFault places) (IsLeastFault places)
+Tells places first_told = MatchOption first_told (NoFault places) (IsLeastFault places)
 
 -- places that ascend from one place on ascend from any before it
 pub ascend_lower : (low from : ℕ) (places : List Place) → low ≤ from → AscendFrom from places → AscendFrom low places
@@ -46,12 +46,12 @@ module _ (place : Place) (later : List Place) (up : AscendFrom (place.at + 1) la
   }
 
   by_first : (o : Option Refusal) → MatchOption o (NoneHolds place.checks) (IsLeast number_of place.checks)
-      → Tells later (told later)
-      → Tells (place ∷ later) (option_or (option_map (λ refusal. record { code = refusal; at = place.at }) o) (told later))
-  by_first None none rest = later_alone none (told later) rest
+      → Tells later (first_told later)
+      → Tells (place ∷ later) (option_or (option_map (λ refusal. record { code = refusal; at = place.at }) o) (first_told later))
+  by_first None none rest = later_alone none (first_told later) rest
   by_first (Some refusal) here rest = told_here refusal here
 
-tells : (low : ℕ) (places : List Place) → AscendFrom low places → Tells places (told places)
+tells : (low : ℕ) (places : List Place) → AscendFrom low places → Tells places (first_told places)
 tells low [] up = λ fault h. h
 tells low (place ∷ later) up =
     by_first place later up.1 (least number_of place.checks) (tells_least number_of place.checks) (tells (place.at + 1) later up.1)

@@ -8,9 +8,9 @@ abbrev pub Checks : Type 0 → Type 0
 Checks F = List (F × Bool)
 
 -- the first fault that holds
-abbrev pub first : {F : Type 0} → Checks F → Option F
-first [] = None
-first (check ∷ later) = if check.1 then Some check.0 else first later
+abbrev pub first_holding : {F : Type 0} → Checks F → Option F
+first_holding [] = None
+first_holding (check ∷ later) = if check.1 then Some check.0 else first_holding later
 
 -- of two faults the one of lesser number, of two with one number the former
 abbrev pub lower_of : {F : Type 0} → (F → ℕ) → F → Option F → F
@@ -54,7 +54,7 @@ pub record IsLeast {F : Type 0} (number : F → ℕ) (checks : Checks F) (fault 
 
 module _ (F : Type 0) where
   abbrev pub TellsFirst : Type 0
-  TellsFirst = (checks : Checks F) → MatchOption (first checks) (NoneHolds checks) (IsFirst checks)
+  TellsFirst = (checks : Checks F) → MatchOption (first_holding checks) (NoneHolds checks) (IsFirst checks)
 
   abbrev pub TellsLeast : (F → ℕ) → Type 0
   TellsLeast number = (checks : Checks F) → MatchOption (least number checks) (NoneHolds checks) (IsLeast number checks)

@@ -5,6 +5,11 @@ use Rattle.cam_refusals.specs.declared.read_fault.ReadFault.{ReadFault}
 use Rattle.cam_refusals.specs.declared.refusal.Refusal.{Refusal}
 use Rattle.cam_refusals.specs.Checks.{Checks, Holds, least}
 use Rattle.cam_refusals.specs.Refusals.{number_of}
+use Rattle.cam_refusals.specs.declared.refusal.Refusal.TheVariants.{NoMemory}
+
+-- want of memory is told at the start of the file
+abbrev pub no_memory : ReadFault
+no_memory = record { code = NoMemory; at = 0 }
 
 -- a place of a file, in bytes from its start, and what may be refused there
 pub record Place : Type 0 where
@@ -22,9 +27,9 @@ abbrev pub told_at : Place → Option ReadFault
 told_at place = option_map (λ refusal. record { code = refusal; at = place.at }) (least number_of place.checks)
 
 -- what a file tells: what the first place with a fault does
-abbrev pub told : List Place → Option ReadFault
-told [] = None
-told (place ∷ later) = option_or (told_at place) (told later)
+abbrev pub first_told : List Place → Option ReadFault
+first_told [] = None
+first_told (place ∷ later) = option_or (told_at place) (first_told later)
 
 -- at a lesser place, or at the same with no greater number
 abbrev pub IsNotBehind : ReadFault → ReadFault → Type 0
@@ -43,4 +48,4 @@ AscendFrom low (place ∷ later) = (low ≤ place.at) × AscendFrom (place.at + 
 -- the least fault is told, or the file has none
 abbrev pub TellsLeastFault : Type 0
 TellsLeastFault = (places : List Place) → AscendFrom 0 places
-    → MatchOption (told places) ((fault : ReadFault) → ¬ IsFileFault places fault) (IsLeastFault places)
+    → MatchOption (first_told places) ((fault : ReadFault) → ¬ IsFileFault places fault) (IsLeastFault places)

@@ -7,6 +7,15 @@
 //! `specs/Checks` says what is told where several faults hold: the first of a list of checks, or the one of least
 //! number; `specs/FileFaults` what is told of a file with faults at several places. What may be refused, and in which
 //! order, is said by the crates above, as such lists.
+//!
+//! ```rust
+//! use cam_refusals::{ReadFault, Refusal};
+//!
+//! // a command that no file may have, at the byte 20 of a file
+//! let fault = ReadFault { code: Refusal::UnknownCommand, at: 20 };
+//! // a script is replied `refused 3 20`
+//! assert!(rt; fault.code.number() == 3);
+//! ```
 #![tactic(auto)]
 
 mod laws;

@@ -17,7 +17,7 @@ use Rattle.cam_shapes.proofs.Strokes.{dot_is}
 use Rattle.cam_shapes.proofs.Widths.{square_is}
 use Rattle.cam_rows.specs.Machinery.HalfPlanes.{IsLeft}
 use Rattle.cam_rows.specs.declared.ring.Ring.{Ring}
-use Rattle.cam_rows.specs.ArcRuns.{ArcRunsLaw, IsBetween, IsHollow, IsInHalf, IsInRing, IsLeftOut, IsRingOf}
+use Rattle.cam_rows.specs.ArcRuns.{ArcRunsLaw, IsRingSquare, IsHollow, IsInHalf, IsInRing, IsLeftOut, IsRingOf}
 use Rattle.cam_rows.specs.ArcRuns.{by_turn, distance_of, radius_of}
 use Rattle.cam_rows.specs.Machinery.Narrowing.{IsNearer}
 use Rattle.cam_rows.proofs.BesideWays.{from_the_right}
@@ -56,7 +56,7 @@ near_or_far p q r =
 
 -- the circles of an arc, by the square of its radius
 module _ (r : Ring) (a : Arc) (q : ℕ) (ring : IsRingOf r a) (is : radius_of a ≡ pos q) where
-  middle : IsBetween r q
+  middle : IsRingSquare r q
   middle = (ring.near q).0 (rw is (near_itself q a.width.0))
 
   within_outer : (p : ℕ)

@@ -9,7 +9,7 @@ use Rattle.cam_shapes.proofs.Widths.{square_is}
 use Rattle.cam_rows.specs.declared.chord.Chord.{Chord}
 use Rattle.cam_rows.specs.declared.chord.side.ChordSide.{ChordSide}
 use Rattle.cam_rows.specs.Machinery.Chords.{HasReached, IsBeyond, IsChord, IsInChord, IsSameSide, IsSide, distance_at}
-use Rattle.cam_rows.specs.Machinery.Chords.{place_of}
+use Rattle.cam_rows.specs.Machinery.Chords.{column_offset}
 use Rattle.cam_rows.specs.Runs.{IsInRun}
 
 -- a column is one of those that a side has reached where its distance is not past the chord
@@ -31,7 +31,7 @@ on_side inside j distance room x is near beyond =
 -- the columns of the run are those in the chord
 pub in_walk : (reach : ℕ) (c : Chord) (l r : ChordSide) (to_left to_right i : ℕ) → IsChord reach c → IsSameSide c.left l
     → IsSameSide c.right r → HasReached l to_left → HasReached r to_right → IsSide reach l → IsSide reach r → i < c.offsets.count
-    → IsInRun (c.left.columns - l.inside) (c.left.columns + r.inside) i ↔ IsInChord (place_of c i) to_left to_right
+    → IsInRun (c.left.columns - l.inside) (c.left.columns + r.inside) i ↔ IsInChord (column_offset c i) to_left to_right
 in_walk reach c l r to_left to_right i chord left right left_reached right_reached left_side right_side within =
     elim (cases_lt i c.left.columns) [
       | inl before ↦
@@ -42,7 +42,7 @@ in_walk reach c l r to_left to_right i chord left right left_reached right_reach
           let near = rw (left.start, left.step) at (left_reached.near j) in
           let beyond : l.inside ≤ j → IsBeyond distance to_left =
           λ h. rw (left.start, left.step) at (left_reached.beyond j h few) in
-          let told = on_side l.inside j distance to_left (place_of c i) (omega (arith, ints, at.0)) near beyond in (
+          let told = on_side l.inside j distance to_left (column_offset c i) (omega (arith, ints, at.0)) near beyond in (
             (λ run. inl (at.1, told.0 (omega (arith, run.0, left_side.within, left.columns)))),
             (λ inside. elim inside [
               | inl less ↦
@@ -58,7 +58,7 @@ in_walk reach c l r to_left to_right i chord left right left_reached right_reach
           let near = rw (right.start, right.step) at (right_reached.near j) in
           let beyond : r.inside ≤ j → IsBeyond distance to_right =
           λ h. rw (right.start, right.step) at (right_reached.beyond j h few) in
-          let told = on_side r.inside j distance to_right (place_of c i) (omega (arith, ints, at)) near beyond in (
+          let told = on_side r.inside j distance to_right (column_offset c i) (omega (arith, ints, at)) near beyond in (
             (λ run. inr (omega (arith, ints, at), told.0 (omega (arith, run.1)))),
             (λ inside. elim inside [
               | inl other ↦ absurd (omega (arith, ints, at, other.0))

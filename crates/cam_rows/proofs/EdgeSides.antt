@@ -10,7 +10,7 @@ use Rattle.cam_shapes.specs.Edge.{crosses_ray, edge, is_above}
 use Rattle.cam_shapes.specs.Plane.{cross, seen_from, way}
 use Rattle.cam_shapes.proofs.Crossings.{less_is, under}
 use Rattle.cam_rows.specs.declared.centres.Centres.{Centres}
-use Rattle.cam_rows.specs.Rows.{centre_at, first_of, row_below}
+use Rattle.cam_rows.specs.Rows.{centre_at, first_centre, row_below}
 use Rattle.cam_rows.proofs.Slopes.{top_row}
 
 -- a place left of the one is right of the other
@@ -49,8 +49,8 @@ no_higher : (step : ℤ) (k : ℕ) → pos 1 ≤ℤ step → pos 0 ≤ℤ (pos k
 no_higher (pos n) k up = omega (arith, ints)
 no_higher (negsuc n) k up = absurd (omega (arith, ints))
 
-above_lower : (p : Point) (c : Centres) (k : ℕ) → pos 1 ≤ℤ c.step → is_above p (first_of c) ≡ true
-    → is_above p (first_of (row_below c k)) ≡ true
+above_lower : (p : Point) (c : Centres) (k : ℕ) → pos 1 ≤ℤ c.step → is_above p (first_centre c) ≡ true
+    → is_above p (first_centre (row_below c k)) ≡ true
 above_lower p c k up above =
     let high = (less_is c.y (pos 2 *ℤ p.y)).0 above in
     under (c.y -ℤ pos k *ℤ c.step) (pos 2 *ℤ p.y) (omega (arith, ints, high, no_higher c.step k up))
@@ -64,31 +64,31 @@ other_above a b e apart = elim (cases_Bool b) [ inl other ↦ other | inr same �
 
 -- exactly one end of the edge is above the row
 abbrev IsCrossed : Point → Point → Centres → Type 0
-IsCrossed p q c = is_above p (first_of c) ≢ is_above q (first_of c)
+IsCrossed p q c = is_above p (first_centre c) ≢ is_above q (first_centre c)
 
 pub only_crossed : (p q : Point) (c : Centres) (k : ℕ) → k < 1 → IsCrossed p q c → IsCrossed p q (row_below c k)
 only_crossed p q c k within crossed =
     let top : k ≡ 0 = omega arith in rw top (subst (IsCrossed p q) (sym (top_row c)) crossed)
 
 -- an edge whose start is above the top row falls through each row that it crosses, and another rises
-pub falls_through : (p q : Point) (c : Centres) (k i : ℕ) → pos 1 ≤ℤ c.step → is_above p (first_of c) ≡ true
+pub falls_through : (p q : Point) (c : Centres) (k i : ℕ) → pos 1 ≤ℤ c.step → is_above p (first_centre c) ≡ true
     → IsCrossed p q (row_below c k)
     → (pos 0 <ℤ cross (way q p) (seen_from q (centre_at (row_below c k) i)))
     ↔ IsTrue (crosses_ray (centre_at (row_below c k) i) (edge p q))
 falls_through p q c k i up above crossed =
     let here = above_lower p c k up above in
     left_of_reverse (centre_at (row_below c k) i) p q here
-    (other_below (is_above p (first_of (row_below c k))) (is_above q (first_of (row_below c k))) here crossed)
+    (other_below (is_above p (first_centre (row_below c k))) (is_above q (first_centre (row_below c k))) here crossed)
 
-pub rises_through : (p q : Point) (c : Centres) (k i : ℕ) → pos 1 ≤ℤ c.step → is_above p (first_of c) ≡ false
+pub rises_through : (p q : Point) (c : Centres) (k i : ℕ) → pos 1 ≤ℤ c.step → is_above p (first_centre c) ≡ false
     → IsCrossed p q (row_below c 0) → IsCrossed p q (row_below c k)
     → (pos 0 <ℤ cross (way p q) (seen_from p (centre_at (row_below c k) i)))
     ↔ IsTrue (crosses_ray (centre_at (row_below c k) i) (edge p q))
 rises_through p q c k i up below top crossed =
-    let there = other_above (is_above p (first_of c)) (is_above q (first_of c)) below (subst (IsCrossed p q) (top_row c) top) in
+    let there = other_above (is_above p (first_centre c)) (is_above q (first_centre c)) below (subst (IsCrossed p q) (top_row c) top) in
     let here = above_lower q c k up there in
     left_of_edge (centre_at (row_below c k) i) p q
-    (other_below (is_above q (first_of (row_below c k))) (is_above p (first_of (row_below c k))) here (λ e. crossed (sym e)))
+    (other_below (is_above q (first_centre (row_below c k))) (is_above p (first_centre (row_below c k))) here (λ e. crossed (sym e)))
     here
 
 -- of a row between the ends, the higher one is above it
@@ -99,12 +99,12 @@ lower_end p q s above below =
     (λ less. absurd (false≢true (sym below ∙ (less_is s.y (pos 2 *ℤ q.y)).1 less)))
     (λ most. omega (arith, ints, high, most))
 
-pub falls_to : (p q : Point) (c : Centres) → is_above p (first_of c) ≡ true → IsCrossed p q (row_below c 0) → q.y <ℤ p.y
+pub falls_to : (p q : Point) (c : Centres) → is_above p (first_centre c) ≡ true → IsCrossed p q (row_below c 0) → q.y <ℤ p.y
 falls_to p q c above crossed =
-    lower_end p q (first_of c) above
-    (other_below (is_above p (first_of c)) (is_above q (first_of c)) above (subst (IsCrossed p q) (top_row c) crossed))
+    lower_end p q (first_centre c) above
+    (other_below (is_above p (first_centre c)) (is_above q (first_centre c)) above (subst (IsCrossed p q) (top_row c) crossed))
 
-pub rises_to : (p q : Point) (c : Centres) → is_above p (first_of c) ≡ false → IsCrossed p q (row_below c 0) → p.y <ℤ q.y
+pub rises_to : (p q : Point) (c : Centres) → is_above p (first_centre c) ≡ false → IsCrossed p q (row_below c 0) → p.y <ℤ q.y
 rises_to p q c below crossed =
-    lower_end q p (first_of c)
-    (other_above (is_above p (first_of c)) (is_above q (first_of c)) below (subst (IsCrossed p q) (top_row c) crossed)) below
+    lower_end q p (first_centre c)
+    (other_above (is_above p (first_centre c)) (is_above q (first_centre c)) below (subst (IsCrossed p q) (top_row c) crossed)) below

@@ -15,7 +15,7 @@ use Rattle.cam_shapes.proofs.Strokes.{squares_order}
 use Rattle.cam_shapes.proofs.Widths.{square_is}
 use Rattle.cam_rows.specs.declared.centres.Centres.{Centres}
 use Rattle.cam_rows.specs.Machinery.Beside.{IsFar, IsFarOrAhead, IsInside}
-use Rattle.cam_rows.specs.Rows.{centre_at, first_of, row_below}
+use Rattle.cam_rows.specs.Rows.{centre_at, first_centre, row_below}
 use Rattle.cam_rows.specs.Runs.{IsInRun}
 use Rattle.cam_rows.proofs.BesideWays.{IsAhead, from_the_right}
 
@@ -205,13 +205,13 @@ decided p q w s not_near =
     ]))))
 
 pub far_by_row : (p q : Point) (w : ℤ) (top : Centres) (k i first end : ℕ)
-    → IsInRun first end k ↔ (IsFar p q w (first_of (row_below top k)) → ⊥) → (IsInRun first end k → ⊥)
+    → IsInRun first end k ↔ (IsFar p q w (first_centre (row_below top k)) → ⊥) → (IsInRun first end k → ⊥)
     → IsFarOrAhead p q w (centre_at (row_below top k) i)
 far_by_row p q w top k i first end told off =
     inl (decided p q w (centre_at (row_below top k) i) (λ near. off (told.1 near)))
 
 pub ahead_by_row : (p q : Point) (w : ℤ) (top : Centres) (k i first end : ℕ) (B : Type 0)
-    → IsInRun first end k ↔ (IsFar p q w (first_of (row_below top k)) → ⊥) → IsInRun first end k
+    → IsInRun first end k ↔ (IsFar p q w (first_centre (row_below top k)) → ⊥) → IsInRun first end k
     → B ↔ IsAhead p q (centre_at (row_below top k) i) → B ↔ IsFarOrAhead p q w (centre_at (row_below top k) i)
 ahead_by_row p q w top k i first end B told on ahead = (
   (λ up. inr (ahead.0 up)),

@@ -24,9 +24,6 @@ short_steps : (n : ℕ) (z : ℤ) → n < 2 ^ 20 → unsigned_abs z ≤ 2 ^ 102 
 short_steps n z few short =
     omega (arith, ints, unsigned_abs-mul (pos n) z, mul-le n (unsigned_abs z) (2 ^ 20) (2 ^ 102) (omega (arith, few)) short)
 
-short_sum : (a b : ℤ) → unsigned_abs a ≤ 2 ^ 122 → unsigned_abs b ≤ 2 ^ 101 → unsigned_abs (a +ℤ b) ≤ 2 ^ 123
-short_sum a b p q = omega (arith, ints)
-
 module _ (c : Crossing) (t : Steps) (n : ℕ) (steps : AreSteps t) (here : IsCrossing t (2 ^ 61 + 1) c) (few : n < 2 ^ 20) where
   divisor_short : unsigned_abs t.divisor ≤ 2 ^ 61
   divisor_short = omega (arith, ints, steps.divisor.0, steps.divisor.1)

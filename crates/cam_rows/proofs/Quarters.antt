@@ -9,7 +9,7 @@ use Rattle.cam_units.specs.declared.point.Spot.{Spot}
 use Rattle.cam_shapes.specs.declared.obround.Obround.{Obround}
 use Rattle.cam_shapes.specs.declared.vector.Vector.{Vector}
 use Rattle.cam_shapes.specs.Box.{IsAlong, IsInObround, IsRounded, from_left_end, from_right_end, swapped}
-use Rattle.cam_shapes.specs.Plane.{IsWithin, seen_from}
+use Rattle.cam_shapes.specs.Plane.{IsNoLonger, seen_from}
 use Rattle.cam_shapes.proofs.Strokes.{dot_is, squares_order}
 use Rattle.cam_rows.specs.Machinery.Quarters.{IsInQuarter, past}
 use Rattle.cam_rows.proofs.Circling.{below_root}
@@ -19,12 +19,12 @@ abbrev IsNearStretch : ℕ → ℕ → ℕ → ℕ → Type 0
 IsNearStretch x y n r = past n x * past n x + y * y ≤ r * r
 
 within_is : (v : Vector) (r x y : ℕ) → unsigned_abs v.x ≡ x → unsigned_abs v.y ≡ y
-    → IsWithin v (pos r) ↔ (x * x + y * y ≤ r * r)
+    → IsNoLonger v (pos r) ↔ (x * x + y * y ≤ r * r)
 within_is v r x y e f =
     let squares = rw (e, f) at (dot_is v) in
     ((λ h. omega (arith, ints, h, squares)), (λ h. omega (arith, ints, h, squares)))
 
-within_by : (v : Vector) (r x y : ℕ) → x ≤ unsigned_abs v.x → unsigned_abs v.y ≡ y → IsWithin v (pos r)
+within_by : (v : Vector) (r x y : ℕ) → x ≤ unsigned_abs v.x → unsigned_abs v.y ≡ y → IsNoLonger v (pos r)
     → x * x + y * y ≤ r * r
 within_by v r x y least f near =
     let most = (within_is v r (unsigned_abs v.x) y (omega arith) f).0 near in

@@ -192,6 +192,3 @@ pub short_part : (q d r : ℤ) → IsDivisor d → IsRest r d → unsigned_abs (
 short_part (pos a) (pos b) r h rest short = natural_part a b r (divisor_some b h) rest.0 short
 short_part (negsuc a) (pos b) r h rest short = negative_part a b r (divisor_some b h) rest.1 short
 short_part q (negsuc b) r h rest short = absurd (omega (arith, ints, h.0))
-
-pub kept_rest : (r d : ℤ) → IsDivisor d → IsRest r d → wide r ≡ r
-kept_rest r d h rest = omega (arith, ints, h.1, rest.0, rest.1)

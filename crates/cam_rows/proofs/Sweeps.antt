@@ -15,13 +15,13 @@ use Rattle.cam_shapes.proofs.Widths.{wide}
 use Rattle.cam_rows.specs.declared.centres.Centres.{Centres}
 use Rattle.cam_rows.specs.declared.linear.Linear.{Linear}
 use Rattle.cam_rows.specs.Machinery.Linear.{number_at}
-use Rattle.cam_rows.specs.Rows.{centre_at, first_of}
+use Rattle.cam_rows.specs.Rows.{centre_at, first_centre}
 
 pub no_steps : (x step : ℤ) → x +ℤ pos 0 *ℤ step ≡ x
 no_steps x step = equal (Sum (Atom x) (Product (Atom (pos 0)) (Atom step))) (Atom x) (omega arith)
 
 -- the only centre of a row, at a point
-pub seen_alone : (o p : Point) (c : Centres) → first_of c ≡ place_of p → seen_from o (centre_at c 0) ≡ way o p
+pub seen_alone : (o p : Point) (c : Centres) → first_centre c ≡ place_of p → seen_from o (centre_at c 0) ≡ way o p
 seen_alone o p c e =
     same_vector (seen_from o (centre_at c 0)) (way o p)
     (ap (λ x. x -ℤ pos 2 *ℤ o.x) (no_steps c.x c.step ∙ ap (λ s. s.x) e))

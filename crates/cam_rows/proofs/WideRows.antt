@@ -5,7 +5,7 @@ use Rattle.std.proofs.Common.{get_or-set_other, get_or-set_same, inl, inr, refl,
 use Rattle.std.proofs.lemmas.Bool.{cases_lt}
 use Rattle.std.proofs.lemmas.Int.{ints}
 use Rattle.cam_units.specs.Board.{IsOnBoard}
-use Rattle.cam_units.specs.Boxes.{IsBetween as IsInBox}
+use Rattle.cam_units.specs.Boxes.{IsInBox}
 use Rattle.cam_units.specs.declared.point.Point.{Point}
 use Rattle.cam_units.specs.declared.point.Spot.{Spot}
 use Rattle.cam_shapes.specs.declared.rectangle.Rectangle.{Rectangle}
@@ -16,7 +16,7 @@ use Rattle.cam_rows.specs.declared.offsets.Offsets.{Offsets}
 use Rattle.cam_rows.specs.Machinery.Chords.{AreOffsetsFrom, AreWideOffsets, offset}
 use Rattle.cam_rows.specs.Machinery.HalfPlanes.{AreRows, IsHalfPlaneOf, numbers_of}
 use Rattle.cam_rows.specs.Machinery.Narrowing.{AreNarrowed, IsInRow, IsNearer, IsUp, leftmost}
-use Rattle.cam_rows.specs.Rows.{IsRow, centre_at, first_of, row_below}
+use Rattle.cam_rows.specs.Rows.{IsRow, centre_at, first_centre, row_below}
 use Rattle.cam_rows.specs.Runs.{AreRuns, AreWideRows, IsInRun, IsWideRow}
 use Rattle.cam_rows.proofs.Chords.{seen_in_chord}
 use Rattle.cam_rows.proofs.Columns.{offset_is, offset_short}
@@ -172,7 +172,7 @@ in_no_run first end i P none off = ((λ on. absurd (omega (arith, on.1, none))),
 
 -- a column of a row that lies so high, by its distance to the side
 pub near_column : (top : Centres) (p : Point) (o : Offsets) (k i height room bound : ℕ) → AreOffsetsFrom top p o
-    → pos height ≡ square (seen_from p (first_of (row_below top k))).y → room ≡ bound - height
+    → pos height ≡ square (seen_from p (first_centre (row_below top k))).y → room ≡ bound - height
     → (square (offset o.first o.step i) <ℤ pos room) ↔ IsNearer p bound (centre_at (row_below top k) i)
 near_column top p o k i height room bound columns e is =
     rw (is, columns.each i) (seen_in_chord (seen_from p (centre_at (row_below top k) i)) height bound e)

@@ -18,12 +18,12 @@ abbrev pub radius_of : Arc → ℤ
 radius_of a = dot (way a.centre a.from) (way a.centre a.from)
 
 -- the square of a distance, from the inner circle on and up to the outer one
-abbrev pub IsBetween : Ring → ℕ → Type 0
-IsBetween r p = (r.inner ≤ p) × (p < r.outer)
+abbrev pub IsRingSquare : Ring → ℕ → Type 0
+IsRingSquare r p = (r.inner ≤ p) × (p < r.outer)
 
 -- the squares of distances from the centre at which places are near the arc's circle
 pub record IsRingOf (r : Ring) (a : Arc) : Type 0 where
-  pub near : (p : ℕ) → IsNearCircle (pos p) (radius_of a) a.width.0 ↔ IsBetween r p
+  pub near : (p : ℕ) → IsNearCircle (pos p) (radius_of a) a.width.0 ↔ IsRingSquare r p
   pub inner : r.inner < 2 ^ 68
   pub outer : r.outer < 2 ^ 68
 
@@ -73,14 +73,14 @@ abbrev pub IsBeyond : Arc → Spot → Type 0
 IsBeyond a s = in_turn IsLeftOut a s
 
 -- the discs about its ends
-abbrev pub start_of : Arc → Disc
-start_of a = record { centre = a.from; diameter = a.width }
+abbrev pub start_disc : Arc → Disc
+start_disc a = record { centre = a.from; diameter = a.width }
 
-abbrev pub end_of : Arc → Disc
-end_of a = record { centre = a.to; diameter = a.width }
+abbrev pub end_disc : Arc → Disc
+end_disc a = record { centre = a.to; diameter = a.width }
 
 abbrev pub ArcRunsLaw : Type 0
 ArcRunsLaw =
     (s : Spot) (a : Arc)
     → IsInArc s a
-    ↔ ((IsOuter a s × (IsHollow a s → ⊥) × (IsBeyond a s → ⊥)) ⊎ IsInDisc s (start_of a) ⊎ IsInDisc s (end_of a))
+    ↔ ((IsOuter a s × (IsHollow a s → ⊥) × (IsBeyond a s → ⊥)) ⊎ IsInDisc s (start_disc a) ⊎ IsInDisc s (end_disc a))

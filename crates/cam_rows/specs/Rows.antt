@@ -10,8 +10,8 @@ abbrev pub centre_at : Centres → ℕ → Spot
 centre_at c i = record { x = c.x +ℤ pos i *ℤ c.step; y = c.y }
 
 -- the leftmost one
-abbrev pub first_of : Centres → Spot
-first_of c = record { x = c.x; y = c.y }
+abbrev pub first_centre : Centres → Spot
+first_centre c = record { x = c.x; y = c.y }
 
 -- from 1 to 64 centres, each right of the one before it, all of them places of the board, or as they are seen from a
 -- point of it

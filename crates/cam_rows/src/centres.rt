@@ -4,7 +4,7 @@ ghost use Rattle.std.specs.Prelude.{◌≡◌};
 ghost use Rattle.std.specs.Int.RustNames.{unsigned_abs};
 ghost use Rattle.cam_units.specs.Board.{IsOnBoard};
 ghost use Rattle.cam_shapes.specs.Plane.{seen_from};
-ghost use Rattle.cam_rows.specs.Rows.{IsRow, first_of, row_below};
+ghost use Rattle.cam_rows.specs.Rows.{IsRow, first_centre, row_below};
 
 use cam_units::Point;
 
@@ -23,7 +23,7 @@ impl Centres {
     pub(crate) fn height_over(&self, point: &Point) -> u64
         requires row { IsRow self.now }
         requires point { IsOnBoard point.now }
-        ensures { result ≡ unsigned_abs (seen_from point.now (first_of self.now)).y }
+        ensures { result ≡ unsigned_abs (seen_from point.now (first_centre self.now)).y }
     {
         (self.y - 2 * point.y).unsigned_abs()
     }

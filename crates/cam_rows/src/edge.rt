@@ -3,7 +3,7 @@
 ghost use Rattle.std.specs.Prelude.{◌≡◌, IsTrue};
 ghost use Rattle.cam_units.specs.Board.{IsOnBoard};
 ghost use Rattle.cam_shapes.specs.Edge.{crosses_ray, edge, is_above};
-ghost use Rattle.cam_rows.specs.Rows.{IsRow, Marks, first_of};
+ghost use Rattle.cam_rows.specs.Rows.{IsRow, Marks, first_centre};
 
 use crate::centres::Centres;
 use crate::runs::edge::edge_runs;
@@ -32,7 +32,7 @@ pub fn edge_row(from: Point, to: Point, centres: Centres) -> u64
 /// Whether the point is higher than the centres.
 pub(crate) fn is_above(point: &Point, centres: &Centres) -> bool
     requires { IsOnBoard point.now }
-    ensures { result ≡ is_above point.now (first_of centres.now) }
+    ensures { result ≡ is_above point.now (first_centre centres.now) }
 {
     centres.y < 2 * point.y
 }

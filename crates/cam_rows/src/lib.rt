@@ -33,6 +33,21 @@
 //!
 //! What a row is stands in `specs/Rows.antt`, what a run is in `specs/Runs.antt`, the runs of an arc in
 //! `specs/ArcRuns.antt`, rows joined lane by lane in `specs/Lanes.antt`.
+//!
+//! ```rust
+//! use cam_rows::{Centres, disc_row, pbm_bytes};
+//! use cam_shapes::Disc;
+//! use cam_units::{Nm, Point};
+//!
+//! // eight centres half a millimetre apart, in half nm, from -1.75 mm to 1.75 mm
+//! let centres = Centres { x: -3_500_000, y: 0, step: 1_000_000, n: 8 };
+//! // a disc of 2 mm at (0.5 mm, 0) covers those from -0.25 mm to 1.25 mm; bit 0 is the leftmost
+//! let disc = Disc { centre: Point { x: 500_000, y: 0 }, diameter: Nm(2_000_000) };
+//! let row = disc_row(disc, centres);
+//! assert!(rt; row == 0b0111_1000);
+//! // in a PBM file the leftmost pixel is the highest bit
+//! assert!(rt; pbm_bytes(row)[0] == 0b0001_1110);
+//! ```
 #![tactic(auto)]
 
 mod arc;

@@ -4,7 +4,7 @@ ghost use Rattle.std.specs.Prelude.{◌≡◌, ◌^◌, ◌<◌};
 ghost use Rattle.std.specs.Int.RustNames.{unsigned_abs};
 ghost use Rattle.cam_units.specs.Board.{IsOnBoard};
 ghost use Rattle.cam_shapes.specs.Plane.{cross, dot, place_of, way};
-ghost use Rattle.cam_rows.specs.Rows.{IsRow, first_of};
+ghost use Rattle.cam_rows.specs.Rows.{IsRow, first_centre};
 
 use crate::centres::Centres;
 use crate::way::{across, along};
@@ -36,7 +36,7 @@ pub(crate) fn dot_product(centre: &Point, start: &Point, end: &Point) -> i128
 /// The row of one centre, at a point.
 fn alone(point: &Point) -> Centres
     requires { IsOnBoard point.now }
-    ensures first { first_of result ≡ place_of point.now }
+    ensures first { first_centre result ≡ place_of point.now }
     ensures row { IsRow result }
 {
     Centres {

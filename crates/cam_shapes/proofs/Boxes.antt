@@ -6,7 +6,7 @@ use Rattle.std.proofs.Common.{◌||◌}
 use Rattle.std.specs.List.{list_any}
 use Rattle.std.proofs.lemmas.Bool.{cases_Bool, false≢true}
 use Rattle.std.proofs.lemmas.List.Folds.{Any-from_list_any}
-use Rattle.cam_units.specs.Boxes.{IsBetween}
+use Rattle.cam_units.specs.Boxes.{IsInBox}
 use Rattle.cam_shapes.specs.Cap.{is_in_cap}
 use Rattle.std.proofs.lemmas.Int.{ints, by_lt_z}
 use Rattle.std.proofs.Math.IntN.{*ℤ_comm}
@@ -252,10 +252,10 @@ even_and_odd m n e f = omega arith
 
 -- where an even number of edges cross the ray, a cap holds the place
 in_some_cap : (s : Spot) (P : Point → Type 0) (g : Point → Bool) → Tells s P g → (low high : Spot) (c : Contour)
-    → ((p : Point) → IsBetween low high (place_of p) → P p) → HasPointsIn low high c → IsInContour s c
+    → ((p : Point) → IsInBox low high (place_of p) → P p) → HasPointsIn low high c → IsInContour s c
     → Any (λ cap. is_in_cap s cap ≡ true) (caps_of c)
 in_some_cap s P g tells low high c apart points inside =
-    let ends = All-weaker (λ seg. IsBetween low high (place_of (end_of seg))) (λ seg. P (end_of seg))
+    let ends = All-weaker (λ seg. IsInBox low high (place_of (end_of seg))) (λ seg. P (end_of seg))
     (λ seg. apart (end_of seg)) c.segs points.ends in
     some_counted (is_in_cap s) (caps_of c)
     (even_and_odd (count_by (crosses_ray s) (edges_of c)) (count_by (is_in_cap s) (caps_of c))

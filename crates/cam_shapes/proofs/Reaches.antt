@@ -6,18 +6,18 @@ use Rattle.std.proofs.lemmas.Nat.{mul-le}
 use Rattle.cam_units.proofs.Ring.{Polynomial, Atom, Sum, Difference, Product, equal}
 use Rattle.cam_shapes.specs.declared.vector.Vector.{Vector}
 use Rattle.cam_shapes.specs.Bar.{IsBeside}
-use Rattle.cam_shapes.specs.Plane.{IsWithin, cross, dot, square}
+use Rattle.cam_shapes.specs.Plane.{IsNoLonger, cross, dot, square}
 use Rattle.cam_shapes.proofs.Crossings.{product_above}
 use Rattle.cam_shapes.proofs.Strokes.{squares_order}
 use Rattle.cam_shapes.proofs.Widths.{square_is}
 
 -- a way of at most d leads at most d along each axis
-pub leg : (v : Vector) (d : ℤ) → IsWithin v d → unsigned_abs v.x ≤ unsigned_abs d
+pub leg : (v : Vector) (d : ℤ) → IsNoLonger v d → unsigned_abs v.x ≤ unsigned_abs d
 leg v d h =
     squares_order (unsigned_abs v.x) (unsigned_abs d)
     (omega (arith, ints, h, square_is v.x, square_is v.y, square_is d))
 
-pub other_leg : (v : Vector) (d : ℤ) → IsWithin v d → unsigned_abs v.y ≤ unsigned_abs d
+pub other_leg : (v : Vector) (d : ℤ) → IsNoLonger v d → unsigned_abs v.y ≤ unsigned_abs d
 other_leg v d h =
     squares_order (unsigned_abs v.y) (unsigned_abs d)
     (omega (arith, ints, h, square_is v.x, square_is v.y, square_is d))

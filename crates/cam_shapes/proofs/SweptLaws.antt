@@ -6,7 +6,7 @@ use Rattle.std.proofs.lemmas.Int.{clamps, ints, unsigned_abs-mul}
 use Rattle.std.proofs.lemmas.Nat.{mul-le}
 use Rattle.cam_units.specs.declared.point.Point.{Point}
 use Rattle.cam_units.specs.declared.point.Spot.{Spot}
-use Rattle.cam_units.specs.Boxes.{IsBetween as IsInBox}
+use Rattle.cam_units.specs.Boxes.{IsInBox}
 use Rattle.cam_units.proofs.Ring.{Polynomial, Atom, Difference, Product, equal}
 use Rattle.cam_shapes.specs.declared.vector.Vector.{Vector}
 use Rattle.cam_shapes.specs.declared.swept.Swept.{Swept}

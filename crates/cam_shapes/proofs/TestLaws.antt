@@ -6,7 +6,7 @@ use Rattle.std.specs.Ordering.{int_eq}
 use Rattle.std.specs.Bool.{Decides}
 use Rattle.std.proofs.lemmas.Bool.Decides.{Decides-and, Decides-eqb, Decides-int_eq, Decides-like, Decides-or}
 use Rattle.cam_units.specs.declared.point.Spot.{Spot}
-use Rattle.cam_units.specs.Boxes.{IsBetween as IsInBox}
+use Rattle.cam_units.specs.Boxes.{IsInBox}
 use Rattle.cam_shapes.specs.declared.vector.Vector.{Vector}
 use Rattle.cam_shapes.specs.declared.disc.Disc.{Disc}
 use Rattle.cam_shapes.specs.declared.rectangle.Rectangle.{Rectangle}
@@ -16,7 +16,7 @@ use Rattle.cam_shapes.specs.declared.capsule.Capsule.{Capsule}
 use Rattle.cam_shapes.specs.declared.arc.Arc.{Arc}
 use Rattle.cam_shapes.specs.declared.swept.Swept.{Swept}
 use Rattle.cam_shapes.specs.declared.contour.Contour.{Contour}
-use Rattle.cam_shapes.specs.Plane.{cross, dot, seen_from, square, way, IsBetween, IsWithin}
+use Rattle.cam_shapes.specs.Plane.{cross, dot, seen_from, square, way, IsBetween, IsNoLonger}
 use Rattle.cam_shapes.specs.Disc.{IsInDisc, IsInHole}
 use Rattle.cam_shapes.specs.Box.{from_left_end, from_right_end, swapped, IsAlong, IsInObround, IsInRectangle, IsRounded}
 use Rattle.cam_shapes.specs.Bar.{IsBeside, IsBetweenEnds, IsInBar, IsInCapsule, IsNearSegment}
@@ -43,7 +43,7 @@ either {P} {Q} {x} {y} d k = Decides-or x y d k
 like : {P Q : Type 0} {x : Bool} → (P → Q) → (Q → P) → Decides x P → Decides x Q
 like {P} {Q} {x} f g d = Decides-like x f g d
 
-within : (v : Vector) (r : ℤ) → Decides (is_within v r) (IsWithin v r)
+within : (v : Vector) (r : ℤ) → Decides (is_within v r) (IsNoLonger v r)
 unfolding is_within
 within v r = at_most_is (dot v v) (square r)
 

@@ -4,7 +4,7 @@ use Rattle.cam_units.specs.declared.point.Spot.{Spot}
 use Rattle.cam_units.specs.Board.{IsOnBoard, IsSize}
 use Rattle.cam_shapes.specs.declared.vector.Vector.{Vector}
 use Rattle.cam_shapes.specs.declared.arc.Arc.{Arc}
-use Rattle.cam_shapes.specs.Plane.{cross, dot, seen_from, square, way, IsBetween, IsWithin}
+use Rattle.cam_shapes.specs.Plane.{cross, dot, seen_from, square, way, IsBetween, IsNoLonger}
 
 -- the limits of an arc
 pub record IsSoundArc (a : Arc) : Type 0 where
@@ -50,8 +50,8 @@ IsOnArc s e v a = IsSwept a.ccw s e v × IsNearCircle (dot v v) (dot s s) a.widt
 -- in a disc about an end, or in the sweep and near the circle through the start
 abbrev pub IsNearArc : Spot → Arc → Type 0
 IsNearArc s a =
-    IsWithin (seen_from a.from s) a.width.0
-    ⊎ IsWithin (seen_from a.to s) a.width.0
+    IsNoLonger (seen_from a.from s) a.width.0
+    ⊎ IsNoLonger (seen_from a.to s) a.width.0
     ⊎ IsOnArc (way a.centre a.from) (way a.centre a.to) (seen_from a.centre s) a
 
 -- the stroke of a round tool of radius w half nanometres, where w is the width in nanometres
@@ -72,8 +72,8 @@ ArcSquareLaw =
     → dot (way a.centre a.from) (way a.centre a.from) <ℤ pos (m * m)
     → IsInArc s a
     → IsBetween (seen_from a.centre s) (pos m +ℤ a.width.0) (pos m +ℤ a.width.0)
-    ⊎ IsWithin (seen_from a.from s) a.width.0
-    ⊎ IsWithin (seen_from a.to s) a.width.0
+    ⊎ IsNoLonger (seen_from a.from s) a.width.0
+    ⊎ IsNoLonger (seen_from a.to s) a.width.0
 
 -- of a place at m from the centre, and a circle of radius n, both whole: it is at most r from
 -- the circle exactly where m and n differ by at most r

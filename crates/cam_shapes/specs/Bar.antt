@@ -5,7 +5,7 @@ use Rattle.cam_units.specs.Board.{IsOnBoard, IsSize}
 use Rattle.cam_shapes.specs.declared.vector.Vector.{Vector}
 use Rattle.cam_shapes.specs.declared.bar.Bar.{Bar}
 use Rattle.cam_shapes.specs.declared.capsule.Capsule.{Capsule}
-use Rattle.cam_shapes.specs.Plane.{cross, dot, seen_from, square, way, IsWithin}
+use Rattle.cam_shapes.specs.Plane.{cross, dot, seen_from, square, way, IsNoLonger}
 
 -- the limits of a bar
 pub record IsSoundBar (b : Bar) : Type 0 where
@@ -43,8 +43,8 @@ pub record IsInBar (s : Spot) (b : Bar) : Type 0 where
 -- in a disc about an end, or between the ends
 abbrev pub IsNearSegment : Spot → Capsule → Type 0
 IsNearSegment s c =
-    IsWithin (seen_from c.from s) c.width.0
-    ⊎ IsWithin (seen_from c.to s) c.width.0
+    IsNoLonger (seen_from c.from s) c.width.0
+    ⊎ IsNoLonger (seen_from c.to s) c.width.0
     ⊎ IsBeside (way c.from c.to) (seen_from c.from s) c.width.0
 
 -- the stroke of a round tool along a straight line (Gerber Layer Format Specification,

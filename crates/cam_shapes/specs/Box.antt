@@ -6,7 +6,7 @@ use Rattle.cam_units.specs.Board.{IsOnBoard, IsSize}
 use Rattle.cam_shapes.specs.declared.vector.Vector.{Vector}
 use Rattle.cam_shapes.specs.declared.rectangle.Rectangle.{Rectangle}
 use Rattle.cam_shapes.specs.declared.obround.Obround.{Obround}
-use Rattle.cam_shapes.specs.Plane.{seen_from, IsWithin, IsBetween}
+use Rattle.cam_shapes.specs.Plane.{seen_from, IsNoLonger, IsBetween}
 
 -- the limits of a rectangle
 pub record IsSoundRectangle (r : Rectangle) : Type 0 where
@@ -40,7 +40,7 @@ swapped v = record { x = v.y; y = v.x }
 -- a rectangle that reaches n to the left and to the right, with a disc of radius r about the middle
 -- of each end
 abbrev pub IsAlong : Vector → ℤ → ℤ → Type 0
-IsAlong v n r = IsBetween v n r ⊎ IsWithin (from_left_end v n) r ⊎ IsWithin (from_right_end v n) r
+IsAlong v n r = IsBetween v n r ⊎ IsNoLonger (from_left_end v n) r ⊎ IsNoLonger (from_right_end v n) r
 
 -- the ends lie to the left and to the right of a wide obround, and above and below a high one
 abbrev pub IsRounded : Vector → ℤ → ℤ → Type 0

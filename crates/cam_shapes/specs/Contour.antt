@@ -1,7 +1,7 @@
 -- Contours (Gerber Layer Format Specification, "Region statement": contours).
 use Rattle.std.specs.Prelude.{◌≡◌, ◌+◌, ◌%◌, ◌⊎◌, IsTrue, List, [], ◌∷◌, All, Any, count_by}
 use Rattle.cam_units.specs.Board.{IsOnBoard}
-use Rattle.cam_units.specs.Boxes.{IsBetween}
+use Rattle.cam_units.specs.Boxes.{IsInBox}
 use Rattle.cam_units.specs.declared.point.Point.{Point}
 use Rattle.cam_units.specs.declared.point.Spot.{Spot}
 use Rattle.cam_shapes.specs.declared.segments.Seg.{Seg}
@@ -47,8 +47,8 @@ IsInContour s c = (count_by (crosses_ray s) (edges_of c) + count_by (is_in_cap s
 
 -- each point where a segment starts or ends lies in the box
 pub record HasPointsIn (low high : Spot) (c : Contour) : Type 0 where
-  pub start : IsBetween low high (place_of c.start)
-  pub ends : All (λ seg. IsBetween low high (place_of (end_of seg))) c.segs
+  pub start : IsInBox low high (place_of c.start)
+  pub ends : All (λ seg. IsInBox low high (place_of (end_of seg))) c.segs
 
 -- a place in a contour lies in each box of the contour's points, or in a cap
 abbrev pub ContourBoxLaw : Type 0
@@ -56,4 +56,4 @@ ContourBoxLaw =
     (s : Spot) (c : Contour) (low high : Spot)
     → HasPointsIn low high c
     → IsInContour s c
-    → IsBetween low high s ⊎ Any (λ cap. IsTrue (is_in_cap s cap)) (caps_of c)
+    → IsInBox low high s ⊎ Any (λ cap. IsTrue (is_in_cap s cap)) (caps_of c)

@@ -38,8 +38,8 @@ pub record IsShort (v : Vector) : Type 0 where
   pub y : unsigned_abs v.y < 2 ^ 33
 
 -- a way that is at most r long
-abbrev pub IsWithin : Vector → ℤ → Type 0
-IsWithin v r = dot v v ≤ℤ square r
+abbrev pub IsNoLonger : Vector → ℤ → Type 0
+IsNoLonger v r = dot v v ≤ℤ square r
 
 -- a way that leads at most w to the left or right, and at most h up or down
 pub record IsBetween (v : Vector) (w h : ℤ) : Type 0 where

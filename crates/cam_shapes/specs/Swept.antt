@@ -5,7 +5,7 @@ use Rattle.std.specs.Int.RustNames.{unsigned_abs}
 use Rattle.cam_units.specs.declared.point.Point.{Point}
 use Rattle.cam_units.specs.declared.point.Spot.{Spot}
 use Rattle.cam_units.specs.Board.{IsOnBoard, IsSize}
-use Rattle.cam_units.specs.Boxes.{greatest_of, least_of, IsBetween as IsInBox}
+use Rattle.cam_units.specs.Boxes.{greatest_of, least_of, IsInBox}
 use Rattle.cam_shapes.specs.declared.vector.Vector.{Vector}
 use Rattle.cam_shapes.specs.declared.rectangle.Rectangle.{Rectangle}
 use Rattle.cam_shapes.specs.declared.swept.Swept.{Swept}

@@ -15,6 +15,18 @@
 //! - [`Placing`]: where the points and segments of a contour come to lie, once it is turned and moved.
 //!
 //! A shape with a diameter, side or width of 0 covers nothing. No test takes memory.
+//!
+//! ```rust
+//! use cam_shapes::{Disc, in_disc, in_hole};
+//! use cam_units::{Nm, Point, Spot};
+//!
+//! // a disc of 1 mm at (1 mm, 0)
+//! let disc = Disc { centre: Point { x: 1_000_000, y: 0 }, diameter: Nm(1_000_000) };
+//! // places are in half nm; its edge belongs to a disc, and to no hole
+//! let edge = Spot { x: 3_000_000, y: 0 };
+//! assert!(rt; in_disc(edge, disc) && !in_hole(edge, disc));
+//! assert!(rt; !in_disc(Spot { x: 3_000_001, y: 0 }, disc));
+//! ```
 #![tactic(auto)]
 
 mod arc;

@@ -2,7 +2,7 @@
 
 ghost use Rattle.std.specs.Prelude.{◌≡◌, ◌≤ℤ◌, ◌↔◌, IsTrue, pos};
 ghost use Rattle.cam_units.specs.Board.{IsInReach, IsSize};
-ghost use Rattle.cam_units.specs.Boxes.{IsBetween as IsInBox};
+ghost use Rattle.cam_units.specs.Boxes.{IsInBox};
 ghost use Rattle.cam_shapes.specs.Plane.{IsShort};
 ghost use Rattle.cam_shapes.specs.Swept.{
   IsInSwept,

@@ -3,7 +3,7 @@
 ghost use Rattle.std.specs.Prelude.{◌≡◌, ◌^◌, ◌<◌, ◌↔◌, IsTrue};
 ghost use Rattle.std.specs.Int.RustNames.{unsigned_abs};
 ghost use Rattle.cam_units.specs.Board.{IsInReach, IsOnBoard, IsSize};
-ghost use Rattle.cam_shapes.specs.Plane.{IsBetween, IsSeen, IsShort, IsWithin, cross, dot, seen_from, way};
+ghost use Rattle.cam_shapes.specs.Plane.{IsBetween, IsSeen, IsShort, IsNoLonger, cross, dot, seen_from, way};
 
 use crate::size::squared;
 use cam_units::{Nm, Point, Spot};
@@ -67,7 +67,7 @@ impl Vector {
     pub fn is_within(self, radius: Nm) -> bool
         requires short { IsShort self }
         requires radius { IsSize radius.0 }
-        ensures { IsTrue result ↔ IsWithin self radius.0 }
+        ensures { IsTrue result ↔ IsNoLonger self radius.0 }
     {
         self.dot(self) <= squared(radius)
     }

@@ -7,7 +7,7 @@ use Rattle.std.proofs.lemmas.Int.{ints, clamps}
 use Rattle.cam_units.specs.declared.point.Spot.{Spot}
 use Rattle.cam_units.specs.declared.bounds.Bounds.{Bounds}
 use Rattle.cam_units.specs.declared.bounds.Bounds.TheVariants.{Empty, Closed}
-use Rattle.cam_units.specs.Boxes.{IsBetween, Holds, HaveCommonPlace, IsWithin, IsLeastAround, least_of, greatest_of}
+use Rattle.cam_units.specs.Boxes.{IsInBox, Holds, HaveCommonPlace, IsWithin, IsLeastAround, least_of, greatest_of}
 use Rattle.cam_units.specs.Boxes.{has_no_place, box_between, clip_of, span_of, join_of}
 
 -- the least and the greatest of two numbers
@@ -26,8 +26,8 @@ min_le a b = (omega (arith, ints, clamps), omega (arith, ints, clamps))
 after : {a b c : ℤ} → a ≤ℤ b → b ≤ℤ c → a ≤ℤ c
 after h k = omega (arith, ints)
 
-between_clip : (low high low' high' s : Spot) → IsBetween (greatest_of low low') (least_of high high') s
-    ↔ (IsBetween low high s × IsBetween low' high' s)
+between_clip : (low high low' high' s : Spot) → IsInBox (greatest_of low low') (least_of high high') s
+    ↔ (IsInBox low high s × IsInBox low' high' s)
 between_clip low high low' high' s = (
   (λ h. (
     record {
@@ -58,10 +58,10 @@ crossed x y x' y' sx sy e a b c d = grind (arith, ints)
 through : {A B C : Type 0} → (A ↔ B) → (B ↔ C) → A ↔ C
 through f g = ((λ a. g.0 (f.0 a)), (λ c. f.1 (g.1 c)))
 
-between_places : (low high s : Spot) → Holds (box_between low high) s ↔ IsBetween low high s
+between_places : (low high s : Spot) → Holds (box_between low high) s ↔ IsInBox low high s
 between_places low high s = by (has_no_place (Closed low high)) refl
   where
-    by : (v : Bool) → has_no_place (Closed low high) ≡ v → Holds (box_between low high) s ↔ IsBetween low high s
+    by : (v : Bool) → has_no_place (Closed low high) ≡ v → Holds (box_between low high) s ↔ IsInBox low high s
     by true e = rw e (
       (λ h. absurd h),
       (λ k. crossed low.x low.y high.x high.y s.x s.y e k.left k.right k.below k.above),
@@ -82,7 +82,7 @@ uncrossed x y x' y' e = (grind (arith, ints), grind (arith, ints))
 same : (z : ℤ) → z ≤ℤ z
 same z = omega (arith, ints)
 
-corners : (low high : Spot) → has_no_place (Closed low high) ≡ false → IsBetween low high low × IsBetween low high high
+corners : (low high : Spot) → has_no_place (Closed low high) ≡ false → IsInBox low high low × IsInBox low high high
 corners low high e =
     let order = uncrossed low.x low.y high.x high.y e in (
       record { left = same low.x; right = order.0; below = same low.y; above = order.1 },

@@ -1,7 +1,7 @@
 -- Equations and orders between polynomials over ℤ. A polynomial is read as a difference of two
 -- polynomials over ℕ, its gains and its losses, which `omega` multiplies out.
-use Rattle.std.proofs.Common.{◌≡◌, ℕ, ◌+◌, ◌*◌, ◌≤◌, ℤ, ◌+ℤ◌, ◌-ℤ◌, ◌*ℤ◌, ◌≤ℤ◌, ap, arith}
-use borrow.Author.Differences.{up, down, sum_is_lem, neg_is, product_is, same_in, at_most_in}
+use Rattle.std.proofs.Common.{◌≡◌, ℕ, ◌+◌, ◌*◌, ℤ, ◌+ℤ◌, ◌-ℤ◌, ◌*ℤ◌, ap, arith}
+use borrow.Author.Differences.{up, down, sum_is_lem, neg_is, product_is, same_in}
 use lib.IntN.{neg_ℤ}
 
 pub data Polynomial : Type 0 where
@@ -49,7 +49,3 @@ balance (Product a b) =
 -- an equation of polynomials: prove its premise by `omega arith`
 pub equal : (s t : Polynomial) → gains s + losses t ≡ gains t + losses s → value_of s ≡ value_of t
 equal s t e = same_in (value_of s) (value_of t) (omega (arith, balance s, balance t))
-
--- an order of polynomials, likewise
-pub at_most : (s t : Polynomial) → gains s + losses t ≤ gains t + losses s → value_of s ≤ℤ value_of t
-at_most s t h = at_most_in (value_of s) (value_of t) (omega (arith, balance s, balance t))

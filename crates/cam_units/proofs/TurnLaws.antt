@@ -2,7 +2,7 @@
 use Rattle.std.proofs.Common.{◌≡◌, zero, suc, ℤ, pos, negsuc, ◌+ℤ◌, ◌*ℤ◌, refl, ap, sym, ◌∙◌, arith}
 use Rattle.std.proofs.lemmas.Int.{ints}
 use Rattle.cam_units.specs.declared.point.Point.{Point}
-use Rattle.cam_units.specs.Turns.{Matrix, applied, matrix_of, next_quarter, product, rows}
+use Rattle.cam_units.specs.Turns.{Matrix, applied, matrix_of, next_quarter, product, matrix_rows}
 use Rattle.cam_units.specs.Turns.{AssociativeLaw, InverseLaw, QuartersLaw, ThenLaw}
 use Rattle.cam_units.specs.declared.turn.Turn.{Turn}
 use Rattle.cam_units.specs.declared.turn.Turn.TheVariants.{R0, R90, R180, R270, M0, M90, M180, M270}
@@ -19,7 +19,7 @@ entry a b c d e f g h =
     (omega arith)
 
 same_rows : (xx xy yx yy xx' xy' yx' yy' : ℤ) → xx ≡ xx' → xy ≡ xy' → yx ≡ yx' → yy ≡ yy'
-    → rows xx xy yx yy ≡ rows xx' xy' yx' yy'
+    → matrix_rows xx xy yx yy ≡ matrix_rows xx' xy' yx' yy'
 same_rows xx xy yx yy xx' xy' yx' yy' a b c d = λ i. record { xx = a i; xy = b i; yx = c i; yy = d i }
 
 pub product_assoc : AssociativeLaw

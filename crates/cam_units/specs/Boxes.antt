@@ -7,7 +7,7 @@ use Rattle.cam_units.specs.declared.bounds.Bounds.{Bounds}
 use Rattle.cam_units.specs.declared.bounds.Bounds.TheVariants.{Empty, Closed}
 
 -- the place lies in the box or on its edge
-pub record IsBetween (low high s : Spot) : Type 0 where
+pub record IsInBox (low high s : Spot) : Type 0 where
   pub left : low.x ≤ℤ s.x
   pub right : s.x ≤ℤ high.x
   pub below : low.y ≤ℤ s.y
@@ -15,7 +15,7 @@ pub record IsBetween (low high s : Spot) : Type 0 where
 
 abbrev pub Holds : Bounds → Spot → Type 0
 Holds Empty s = ⊥
-Holds (Closed low high) s = IsBetween low high s
+Holds (Closed low high) s = IsInBox low high s
 
 -- each place of the one is a place of the other
 abbrev pub IsWithin : Bounds → Bounds → Type 0

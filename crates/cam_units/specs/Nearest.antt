@@ -1,6 +1,6 @@
 -- Lengths to the nearest nanometre, ties away from zero (Gerber Layer Format Specification, "Unit (MO)" and
 -- "Format Specification (FS)": one inch is 25.4 mm, and a coordinate has the decimals that FS tells).
-use Rattle.std.specs.Prelude.{◌≡◌, ℕ, suc, ◌+◌, ◌*◌, ◌/◌, ◌^◌, ◌<◌, ◌≤◌, ℤ, pos, negsuc, neg_ℤ, ◌-ℤ◌, ◌*ℤ◌}
+use Rattle.std.specs.Prelude.{◌≡◌, Option, unwrap_or, ℕ, suc, ◌+◌, ◌*◌, ◌/◌, ◌^◌, ◌<◌, ◌≤◌, ℤ, pos, negsuc, neg_ℤ, ◌-ℤ◌, ◌*ℤ◌}
 use Rattle.std.specs.Int.RustNames.{unsigned_abs}
 use Rattle.cam_units.specs.declared.length.Unit.{Unit as FileUnit}
 use Rattle.cam_units.specs.declared.length.Unit.TheVariants.{Mm, Inch}
@@ -28,6 +28,10 @@ abbrev pub NearestLaw : Type 0
 NearestLaw =
     (a : ℤ) (b : ℕ) → 0 < b
     → IsNearest a b (nearest_of a b) × ((m : ℤ) → IsNearest a b m → m ≡ nearest_of a b)
+
+-- before a file tells its unit, lengths are as in mm
+abbrev pub unit_or_mm : Option FileUnit → FileUnit
+unit_or_mm unit = unwrap_or unit Mm
 
 -- the nanometres in a unit, which a coordinate without decimals counts
 abbrev pub nm_per_unit : FileUnit → ℕ

@@ -13,27 +13,27 @@ pub record Matrix : Type 0 where
   pub yx : ℤ
   pub yy : ℤ
 
-abbrev pub rows : ℤ → ℤ → ℤ → ℤ → Matrix
-rows xx xy yx yy = record { xx = xx; xy = xy; yx = yx; yy = yy }
+abbrev pub matrix_rows : ℤ → ℤ → ℤ → ℤ → Matrix
+matrix_rows xx xy yx yy = record { xx = xx; xy = xy; yx = yx; yy = yy }
 
 -- minus one
 abbrev pub minus : ℤ
 minus = negsuc 0
 
 abbrev pub matrix_of : Turn → Matrix
-matrix_of R0 = rows (pos 1) (pos 0) (pos 0) (pos 1)
-matrix_of R90 = rows (pos 0) minus (pos 1) (pos 0)
-matrix_of R180 = rows minus (pos 0) (pos 0) minus
-matrix_of R270 = rows (pos 0) (pos 1) minus (pos 0)
-matrix_of M0 = rows minus (pos 0) (pos 0) (pos 1)
-matrix_of M90 = rows (pos 0) minus minus (pos 0)
-matrix_of M180 = rows (pos 1) (pos 0) (pos 0) minus
-matrix_of M270 = rows (pos 0) (pos 1) (pos 1) (pos 0)
+matrix_of R0 = matrix_rows (pos 1) (pos 0) (pos 0) (pos 1)
+matrix_of R90 = matrix_rows (pos 0) minus (pos 1) (pos 0)
+matrix_of R180 = matrix_rows minus (pos 0) (pos 0) minus
+matrix_of R270 = matrix_rows (pos 0) (pos 1) minus (pos 0)
+matrix_of M0 = matrix_rows minus (pos 0) (pos 0) (pos 1)
+matrix_of M90 = matrix_rows (pos 0) minus minus (pos 0)
+matrix_of M180 = matrix_rows (pos 1) (pos 0) (pos 0) minus
+matrix_of M270 = matrix_rows (pos 0) (pos 1) (pos 1) (pos 0)
 
 -- first n, then m
 abbrev pub product : Matrix → Matrix → Matrix
 product m n =
-    rows
+    matrix_rows
     (m.xx *ℤ n.xx +ℤ m.xy *ℤ n.yx) (m.xx *ℤ n.xy +ℤ m.xy *ℤ n.yy)
     (m.yx *ℤ n.xx +ℤ m.yy *ℤ n.yx) (m.yx *ℤ n.xy +ℤ m.yy *ℤ n.yy)
 

@@ -2,6 +2,17 @@
 //!
 //! Points are in nanometres (nm), tested places in half nanometres (hn): a point
 //! `(x, y)` is the place `(2x, 2y)`, and a diameter of `d` nm is a radius of `d` hn.
+//!
+//! ```rust
+//! use cam_units::{Nm, Point, Turn, Unit, coord_nm};
+//!
+//! // 1.5 inches, written with four decimals
+//! assert!(rt; coord_nm(15_000, 4, Unit::Inch) == Some(Nm(38_100_000)));
+//! // mirrored from left to right, and then turned counterclockwise by 90 degrees
+//! let turn = Turn::M0.then(Turn::R90);
+//! assert!(rt; turn == Turn::M90);
+//! assert!(rt; turn.apply(Point { x: 2, y: 1 }) == Point { x: -1, y: -2 });
+//! ```
 #![tactic(auto)]
 
 mod board;

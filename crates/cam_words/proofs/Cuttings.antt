@@ -7,7 +7,7 @@ use Rattle.cam_refusals.specs.declared.refusal.Refusal.{Refusal}
 use Rattle.cam_words.specs.Bytes.{is_skipped, IsSkipped}
 use Rattle.cam_words.specs.Cutting.{Command, Piece, Blank, Whole, bytes_of_command, bytes_of, IsCommand, IsPiece}
 use Rattle.cam_words.specs.Cutting.{IsApart, AreApart, word_of, words_of}
-use Rattle.cam_words.specs.Reading.{Answer, told, answers_at, answers_by, reading}
+use Rattle.cam_words.specs.Reading.{WordAnswer, words_told, answers_at, answers_by, reading}
 use Rattle.cam_words.specs.Laws.{AtMostOneCutting, ReadsItsWords}
 use Rattle.cam_words.proofs.Steps.{reading_is, reading-nil, has_a_byte}
 use Rattle.cam_words.proofs.Commands.{found_at, found_at-command, unskipped_front}
@@ -54,7 +54,7 @@ reading-command at command text is =
 -- pieces before a text
 pub reading-pieces : (at : ℕ) (pieces : List Piece) (text : List ℕ) → AllByRecursion IsPiece pieces
     → reading at (flat_map bytes_of pieces ++ text)
-    ≡ told (words_of at pieces) ++ reading (at + length (flat_map bytes_of pieces)) text
+    ≡ words_told (words_of at pieces) ++ reading (at + length (flat_map bytes_of pieces)) text
 reading-pieces at [] text each = let here : at ≡ at + 0 = omega arith in ap (λ (place : ℕ). reading place text) here
 reading-pieces at (Blank run ∷ pieces) text each =
     let behind : List ℕ = flat_map bytes_of pieces in
@@ -63,7 +63,7 @@ reading-pieces at (Blank run ∷ pieces) text each =
     ap (reading at) (append_assoc run (flat_map bytes_of pieces) text)
     ∙ reading-blank at run (flat_map bytes_of pieces ++ text) each.0.1
     ∙ reading-pieces (at + length run) pieces text each.1
-    ∙ ap (λ (n : ℕ). told (words_of (at + length run) pieces) ++ reading n text) place
+    ∙ ap (λ (n : ℕ). words_told (words_of (at + length run) pieces) ++ reading n text) place
 reading-pieces at (Whole command ∷ pieces) text each =
     let len : ℕ = length (bytes_of_command command) in
     let place : at + length (bytes_of_command command) + length (flat_map bytes_of pieces)
@@ -71,15 +71,15 @@ reading-pieces at (Whole command ∷ pieces) text each =
     omega (arith, length-append (bytes_of_command command) (flat_map bytes_of pieces)) in
     ap (reading at) (append_assoc (bytes_of_command command) (flat_map bytes_of pieces) text)
     ∙ reading-command at command (flat_map bytes_of pieces ++ text) each.0
-    ∙ ap (λ (answers : List Answer). Ok (word_of at command) ∷ answers)
+    ∙ ap (λ (answers : List WordAnswer). Ok (word_of at command) ∷ answers)
     (reading-pieces (at + length (bytes_of_command command)) pieces text each.1
-    ∙ ap (λ (n : ℕ). told (words_of (at + length (bytes_of_command command)) pieces) ++ reading n text) place)
+    ∙ ap (λ (n : ℕ). words_told (words_of (at + length (bytes_of_command command)) pieces) ++ reading n text) place)
 
 pub reads_its_words : ReadsItsWords
 reads_its_words text pieces is =
     ap (reading 0) (is.joined ∙ sym (append-nil (flat_map bytes_of pieces))) ∙ reading-pieces 0 pieces [] is.each
-    ∙ ap (λ (answers : List Answer). told (words_of 0 pieces) ++ answers) (reading-nil _)
-    ∙ append-nil (told (words_of 0 pieces))
+    ∙ ap (λ (answers : List WordAnswer). words_told (words_of 0 pieces) ++ answers) (reading-nil _)
+    ∙ append-nil (words_told (words_of 0 pieces))
 
 -- the piece at the front of a text, by whether its first byte is skipped
 piece_of : Result Command Refusal → Option Piece

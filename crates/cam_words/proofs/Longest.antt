@@ -10,7 +10,7 @@ use Rattle.cam_words.specs.declared.word.TextFault.{TextFault}
 use Rattle.cam_words.specs.Bytes.{is_skipped, IsSkipped}
 use Rattle.cam_words.specs.Cutting.{Command, Piece, Blank, Whole, bytes_of_command, bytes_of, IsCommand, IsPiece}
 use Rattle.cam_words.specs.Cutting.{IsApart, AreApart, IsCutting, FoundWord, words_of}
-use Rattle.cam_words.specs.Reading.{Answer, told, command_at, answers_at, answers_by, reading}
+use Rattle.cam_words.specs.Reading.{WordAnswer, words_told, command_at, answers_at, answers_by, reading}
 use Rattle.cam_words.specs.Laws.{BeginsCommand, TellsFault, IsCutUpTo, StopsAtTheLongestFront}
 use Rattle.cam_words.proofs.Fronts.{begins_unskipped}
 use Rattle.cam_words.proofs.Steps.{reading_is, has_a_byte}
@@ -163,13 +163,13 @@ tells_fault (byte ∷ bytes) code begins found =
     subst (IsRight (byte ∷ bytes)) found (command_at_is_right byte bytes begins)
 
 -- where the first fault among the answers stands, or a place given for none
-fault_place : ℕ → List Answer → ℕ
+fault_place : ℕ → List WordAnswer → ℕ
 fault_place none [] = none
 fault_place none (Ok word ∷ answers) = fault_place none answers
 fault_place none (Err fault ∷ answers) = fault.at
 
-fault_place-told : (none : ℕ) (words : List FoundWord) (answers : List Answer)
-    → fault_place none (told words ++ answers) ≡ fault_place none answers
+fault_place-told : (none : ℕ) (words : List FoundWord) (answers : List WordAnswer)
+    → fault_place none (words_told words ++ answers) ≡ fault_place none answers
 unfolding fault_place
 fault_place-told none [] answers = refl
 fault_place-told none (word ∷ words) answers = fault_place-told none words answers
@@ -216,7 +216,7 @@ places_within none (suc limit) at text below within =
 
 -- no pieces go on behind the place of the fault
 longest_front : (text : List ℕ) (front pieces : List Piece) (rest : List ℕ) (fault : TextFault)
-    → reading 0 text ≡ told (words_of 0 front) ++ Err fault ∷ [] → AllByRecursion IsPiece pieces
+    → reading 0 text ≡ words_told (words_of 0 front) ++ Err fault ∷ [] → AllByRecursion IsPiece pieces
     → text ≡ flat_map bytes_of pieces ++ rest
     → length (flat_map bytes_of pieces) ≤ fault.at
 unfolding fault_place
@@ -255,10 +255,10 @@ stops_at_the_longest_front text =
     stopped front behind code stops =
         let place : 0 + length (flat_map bytes_of front) ≡ length (flat_map bytes_of front) = omega arith in
         let read : reading 0 text
-        ≡ told (words_of 0 front) ++ Err (record { code = code; at = length (flat_map bytes_of front) }) ∷ [] =
+        ≡ words_told (words_of 0 front) ++ Err (record { code = code; at = length (flat_map bytes_of front) }) ∷ [] =
         ap (reading 0) stops.joined ∙ reading-pieces 0 front behind stops.each
-        ∙ ap (λ (n : ℕ). told (words_of 0 front) ++ reading n behind) place
-        ∙ ap (λ (answers : List Answer). told (words_of 0 front) ++ answers)
+        ∙ ap (λ (n : ℕ). words_told (words_of 0 front) ++ reading n behind) place
+        ∙ ap (λ (answers : List WordAnswer). words_told (words_of 0 front) ++ answers)
         (reading-fault (length (flat_map bytes_of front)) behind code stops.begins stops.found) in
         record {
           joined = stops.joined;

@@ -7,14 +7,14 @@ use Rattle.std.proofs.lemmas.List.Sums.{prefix_len-le-length}
 use Rattle.cam_words.specs.Bytes.{star, percent, is_skipped}
 use Rattle.cam_words.specs.Cutting.{Command, WordCommand, ExtendedCommand, bytes_of_command, word_of}
 use Rattle.cam_words.specs.Reading.{command_at, answers_at, answers_by, reading}
-use Rattle.cam_words.specs.Reading.{IsWithin}
+use Rattle.cam_words.specs.Reading.{IsSliceOf}
 use Rattle.cam_words.proofs.Fronts.{begins_unskipped}
 use Rattle.cam_words.proofs.Steps.{reading_is, has_a_byte}
 use Rattle.cam_words.proofs.Judged.{IsRight, command_at_is_right}
 
 -- the word of a command that stands at a place of the source
 word_is_within : (source : List ℕ) (at : ℕ) (command : Command) (rest : List ℕ)
-    → drop at source ≡ bytes_of_command command ++ rest → at < length source → IsWithin source (Ok (word_of at command))
+    → drop at source ≡ bytes_of_command command ++ rest → at < length source → IsSliceOf source (Ok (word_of at command))
 word_is_within source at (WordCommand text) rest e inside =
     let bytes = e ∙ append_assoc text (star ∷ []) rest in
     let long = ap length bytes in
@@ -35,17 +35,17 @@ word_is_within source at (ExtendedCommand text tail) rest e inside =
 
 abbrev LiesWithin : List ℕ → ℕ → Type 0
 LiesWithin source len = (at : ℕ) (text : List ℕ) → length text < len → text ≡ drop at source
-    → at + length text ≡ length source → AllByRecursion (IsWithin source) (reading at text)
+    → at + length text ≡ length source → AllByRecursion (IsSliceOf source) (reading at text)
 
 answers_are_within : (source : List ℕ) (at : ℕ) (text : List ℕ)
     → ((byte : ℕ) (rest : List ℕ) → text ≡ byte ∷ rest → is_skipped byte ≡ false) → text ≡ drop at source
     → at + length text ≡ length source → LiesWithin source (length text)
-    → AllByRecursion (IsWithin source) (answers_at reading at text)
+    → AllByRecursion (IsSliceOf source) (answers_at reading at text)
 answers_are_within source at [] kept e ends behind = tt
 answers_are_within source at (byte ∷ bytes) kept e ends behind =
     (elim (command_at byte bytes) as
     (λ found. IsRight (byte ∷ bytes) found
-    → AllByRecursion (IsWithin source) (answers_by reading at (byte ∷ bytes) found)) [
+    → AllByRecursion (IsSliceOf source) (answers_by reading at (byte ∷ bytes) found)) [
       | Ok command ↦ λ is.
           let some = has_a_byte command in
           let long : length (byte ∷ bytes) ≡ length (bytes_of_command command ++ is.1.0) = ap length is.1.1 in
@@ -61,17 +61,17 @@ answers_are_within source at (byte ∷ bytes) kept e ends behind =
     ]) (command_at_is_right byte bytes (kept byte bytes refl))
 
 lies_within : (source : List ℕ) (limit at : ℕ) (text : List ℕ) → length text < limit → text ≡ drop at source
-    → at + length text ≡ length source → AllByRecursion (IsWithin source) (reading at text)
+    → at + length text ≡ length source → AllByRecursion (IsSliceOf source) (reading at text)
 lies_within source zero at text below e ends = absurd (omega arith)
 lies_within source (suc limit) at text below e ends =
     let n : ℕ = prefix_len is_skipped text in
     let short = prefix_len-le-length is_skipped text in
     let left = length-drop (prefix_len is_skipped text) text in
-    subst (AllByRecursion (IsWithin source)) (sym (reading_is at text))
+    subst (AllByRecursion (IsSliceOf source)) (sym (reading_is at text))
     (answers_are_within source (at + prefix_len is_skipped text) (drop (prefix_len is_skipped text) text)
     (begins_unskipped text)
     (ap (drop (prefix_len is_skipped text)) e ∙ drop-drop (prefix_len is_skipped text) at source) (omega arith)
     (λ place rest shorter here there. lies_within source limit place rest (omega arith) here there))
 
-pub reading_is_within : (source : List ℕ) → AllByRecursion (IsWithin source) (reading 0 source)
+pub reading_is_within : (source : List ℕ) → AllByRecursion (IsSliceOf source) (reading 0 source)
 reading_is_within source = lies_within source (suc (length source)) 0 source (omega arith) refl (omega arith)

@@ -6,7 +6,7 @@ use Rattle.std.proofs.lemmas.List.{take_rest}
 use Rattle.cam_refusals.specs.declared.refusal.Refusal.{Refusal}
 use Rattle.cam_words.specs.Bytes.{star, is_skipped}
 use Rattle.cam_words.specs.Cutting.{Command, WordCommand, ExtendedCommand, bytes_of_command, FoundWord, word_of}
-use Rattle.cam_words.specs.Reading.{Answer, command_at, answers_by, answers_at, reading_within, reading}
+use Rattle.cam_words.specs.Reading.{WordAnswer, command_at, answers_by, answers_at, reading_within, reading}
 use Rattle.cam_words.specs.Machinery.Shown.{shown, front_shown}
 
 pub has_a_byte : (command : Command) → 0 < length (bytes_of_command command)
@@ -14,18 +14,18 @@ has_a_byte (WordCommand text) = omega (arith, length-append text (star ∷ []))
 has_a_byte (ExtendedCommand text tail) = omega arith
 
 -- two readings that agree on the texts shorter than some length
-abbrev Agree : (ℕ → List ℕ → List Answer) → (ℕ → List ℕ → List Answer) → ℕ → Type 0
+abbrev Agree : (ℕ → List ℕ → List WordAnswer) → (ℕ → List ℕ → List WordAnswer) → ℕ → Type 0
 Agree one other len = (at : ℕ) (text : List ℕ) → length text < len → one at text ≡ other at text
 
-answers_by-agree : (one other : ℕ → List ℕ → List Answer) (at first : ℕ) (rest : List ℕ) (found : Result Command Refusal)
+answers_by-agree : (one other : ℕ → List ℕ → List WordAnswer) (at first : ℕ) (rest : List ℕ) (found : Result Command Refusal)
     → Agree one other (suc (length rest)) → answers_by one at (first ∷ rest) found
     ≡ answers_by other at (first ∷ rest) found
 answers_by-agree one other at first rest (Err code) agree = refl
 answers_by-agree one other at first rest (Ok command) agree =
-    ap (λ (answers : List Answer). Ok (word_of at command) ∷ answers)
+    ap (λ (answers : List WordAnswer). Ok (word_of at command) ∷ answers)
     (agree _ _ (omega (arith, has_a_byte command, length-drop (length (bytes_of_command command)) (first ∷ rest))))
 
-answers_at-agree : (one other : ℕ → List ℕ → List Answer) (at : ℕ) (text : List ℕ) → Agree one other (length text)
+answers_at-agree : (one other : ℕ → List ℕ → List WordAnswer) (at : ℕ) (text : List ℕ) → Agree one other (length text)
     → answers_at one at text ≡ answers_at other at text
 answers_at-agree one other at [] agree = refl
 answers_at-agree one other at (first ∷ rest) agree =

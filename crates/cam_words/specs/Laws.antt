@@ -7,7 +7,7 @@ use Rattle.cam_words.specs.declared.word.TextFault.{TextFault}
 use Rattle.cam_words.specs.Bytes.{star, percent, is_skipped}
 use Rattle.cam_words.specs.Heads.{is_forbidden_in_word, is_forbidden_in_extended}
 use Rattle.cam_words.specs.Cutting.{Piece, bytes_of, IsPiece, IsCutting, words_of}
-use Rattle.cam_words.specs.Reading.{reading, told}
+use Rattle.cam_words.specs.Reading.{reading, words_told}
 
 abbrev pub AtMostOneCutting : Type 0
 AtMostOneCutting =
@@ -15,7 +15,7 @@ AtMostOneCutting =
 
 abbrev pub ReadsItsWords : Type 0
 ReadsItsWords =
-    (text : List ℕ) (pieces : List Piece) → IsCutting text pieces → reading 0 text ≡ told (words_of 0 pieces)
+    (text : List ℕ) (pieces : List Piece) → IsCutting text pieces → reading 0 text ≡ words_told (words_of 0 pieces)
 
 -- what stands in a text before the first byte of that value, or all of it where there is none
 pub record IsBefore (end : ℕ) (front text : List ℕ) : Type 0 where
@@ -68,7 +68,7 @@ pub record IsCutUpTo (text : List ℕ) (front : List Piece) (behind : List ℕ) 
   pub begins : BeginsCommand behind
   pub stuck : ¬ BeginsWithPiece behind
   pub longest : IsLongest text front
-  pub read : reading 0 text ≡ told (words_of 0 front) ++ Err fault ∷ []
+  pub read : reading 0 text ≡ words_told (words_of 0 front) ++ Err fault ∷ []
   pub place : fault.at ≡ length (flat_map bytes_of front)
   pub number : TellsFault fault.code behind
 

@@ -10,22 +10,22 @@ use Rattle.cam_words.specs.Bytes.{is_star, is_percent, is_skipped}
 use Rattle.cam_words.specs.Heads.{is_forbidden_in_word, is_forbidden_in_extended}
 use Rattle.cam_words.specs.Cutting.{Command, WordCommand, ExtendedCommand, bytes_of_command, FoundWord, word_of}
 
-abbrev pub Answer : Type 0
-Answer = Result FoundWord TextFault
+abbrev pub WordAnswer : Type 0
+WordAnswer = Result FoundWord TextFault
 
-abbrev pub told : List FoundWord → List Answer
-told words = map Ok words
+abbrev pub words_told : List FoundWord → List WordAnswer
+words_told words = map Ok words
 
 -- an answer, with the bytes of its word in place of a slice
-abbrev pub answer_of : Result Word TextFault → Answer
-answer_of (Ok word) = Ok (record { kind = word.kind; text = word.text.now; at = word.at })
-answer_of (Err fault) = Err fault
+abbrev pub word_answer : Result Word TextFault → WordAnswer
+word_answer (Ok word) = Ok (record { kind = word.kind; text = word.text.now; at = word.at })
+word_answer (Err fault) = Err fault
 
 -- the word is the slice of the source at its place, and its delimiter follows; a fault lies in the source
-abbrev pub IsWithin : List ℕ → Answer → Type 0
-IsWithin source (Ok word) =
+abbrev pub IsSliceOf : List ℕ → WordAnswer → Type 0
+IsSliceOf source (Ok word) =
     (word.text ≡ take (length word.text) (drop word.at source)) × (word.at + length word.text < length source)
-IsWithin source (Err fault) = fault.at < length source
+IsSliceOf source (Err fault) = fault.at < length source
 
 -- the word at the front of a text, or its fault: it holds a byte that it may not hold, or has no end
 abbrev pub word_at : List ℕ → Result Command Refusal
@@ -56,22 +56,22 @@ abbrev pub command_at : ℕ → List ℕ → Result Command Refusal
 command_at first rest = if is_percent first then extended_at rest else word_at (first ∷ rest)
 
 -- what a command at a place gives, before what the text behind it gives
-abbrev pub answers_by : (ℕ → List ℕ → List Answer) → ℕ → List ℕ → Result Command Refusal → List Answer
+abbrev pub answers_by : (ℕ → List ℕ → List WordAnswer) → ℕ → List ℕ → Result Command Refusal → List WordAnswer
 answers_by behind at text (Err code) = Err (record { code = code; at = at }) ∷ []
 answers_by behind at text (Ok command) =
     let len = length (bytes_of_command command) in Ok (word_of at command) ∷ behind (at + len) (drop len text)
 
 -- the same of a text that does not begin with a skipped byte
-abbrev pub answers_at : (ℕ → List ℕ → List Answer) → ℕ → List ℕ → List Answer
+abbrev pub answers_at : (ℕ → List ℕ → List WordAnswer) → ℕ → List ℕ → List WordAnswer
 answers_at behind at [] = []
 answers_at behind at (first ∷ rest) = answers_by behind at (first ∷ rest) (command_at first rest)
 
 -- the answers of a text that stands at a place and has at most so many commands
-unfoldable pub reading_within : ℕ → ℕ → List ℕ → List Answer
+unfoldable pub reading_within : ℕ → ℕ → List ℕ → List WordAnswer
 reading_within zero at text = []
 reading_within (suc commands) at text =
     let run = prefix_len is_skipped text in answers_at (reading_within commands) (at + run) (drop run text)
 
 -- each command has a byte at least
-abbrev pub reading : ℕ → List ℕ → List Answer
+abbrev pub reading : ℕ → List ℕ → List WordAnswer
 reading at text = reading_within (suc (length text)) at text

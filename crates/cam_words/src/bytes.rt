@@ -120,8 +120,8 @@ pub fn ordinary_len(text: &[u8]) -> usize
     front + ordinary_front(&text[front..])
 }
 
-/// The place of the first such byte, or the text's length where there is none.
-pub fn place_of(wanted: u8, text: &[u8]) -> usize
+/// How many bytes stand before the first such one: all of them where there is none.
+pub fn len_before(wanted: u8, text: &[u8]) -> usize
     ensures value { result ≡ position_or_len (λ byte. byte == wanted) text.now }
     ensures within { result ≤ length text.now }
 {

@@ -9,7 +9,7 @@ ghost use Rattle.cam_words.specs.Reading.{word_at, command_within, extended_at};
 ghost use Rattle.cam_words.specs.Machinery.Shown.{seen, shown, front_shown, IsInside};
 
 use crate::bytes::{
-    holds_control, holds_forbidden_in_code, holds_forbidden_in_plain, ordinary_len, place_of,
+    holds_control, holds_forbidden_in_code, holds_forbidden_in_plain, len_before, ordinary_len,
     trailing_skipped,
 };
 use crate::heads::{is_comment, is_free_text};
@@ -63,7 +63,7 @@ fn front_word(text: &[u8]) -> FrontWord<'_>
 {
     let ordinary = ordinary_len(text);
     let rest = &text[ordinary..];
-    let others = &rest[..place_of(b'*', rest)];
+    let others = &rest[..len_before(b'*', rest)];
     let word = &text[..ordinary + others.len()];
     let comment = is_comment(word);
     FrontWord {
@@ -121,7 +121,7 @@ fn extended(text: &[u8]) -> Result<Command<'_>, Refusal>
     ensures value { seen result ≡ shown (extended_at text.now) }
     ensures inside { IfOk result (IsInside (length text.now + 1)) }
 {
-    let len = place_of(b'%', text);
+    let len = len_before(b'%', text);
     let inside = &text[..len];
     if holds_forbidden_in_extended(inside) {
         return Err(Refusal::BadByte);

@@ -1,6 +1,6 @@
 ghost use Rattle.std.specs.Prelude.{◌≡◌, [], ◌∷◌, IfSome, IfNone, IsErr};
 ghost use Rattle.std.specs.List.{AllByRecursion};
-ghost use Rattle.cam_words.specs.Reading.{IsWithin, answer_of, reading};
+ghost use Rattle.cam_words.specs.Reading.{IsSliceOf, word_answer, reading};
 
 use crate::bytes::leading_skipped;
 use crate::command::front;
@@ -18,9 +18,9 @@ pub struct Words<'a> {
 
 impl<'a> Model for Words<'a> {
     ghost use Rattle.std.specs.Prelude.{List, ◌+◌, ◌<◌, ◌^◌, length};
-    ghost use Rattle.cam_words.specs.Reading.{Answer, reading};
+    ghost use Rattle.cam_words.specs.Reading.{WordAnswer, reading};
 
-    ghost Value = { List Answer };
+    ghost Value = { List WordAnswer };
 
     ghost view = { λ words. reading words.at words.rest.now };
 
@@ -31,7 +31,7 @@ impl<'a> Words<'a> {
     /// All the words of a Gerber text. Places are counted from its first byte, which has place 0.
     pub fn new(source: &'a [u8]) -> Self
         ensures reading { result ≡ reading 0 source.now }
-        ensures slices { AllByRecursion (IsWithin source.now) result }
+        ensures slices { AllByRecursion (IsSliceOf source.now) result }
     {
         Words {
             rest: source,
@@ -42,7 +42,7 @@ impl<'a> Words<'a> {
     /// The next word, or the fault that ends the text; `None` at the end and after a fault.
     pub fn next(&mut self) -> Option<Result<Word<'a>, TextFault>>
         ensures none { IfNone result ((self.old ≡ []) × (self.new ≡ [])) }
-        ensures some { IfSome result (λ answer. self.old ≡ answer_of answer ∷ self.new) }
+        ensures some { IfSome result (λ answer. self.old ≡ word_answer answer ∷ self.new) }
         ensures after_fault { IfSome result (λ answer. IsErr answer → self.new ≡ []) }
     {
         let skipped = leading_skipped(self.rest);

@@ -1,11 +1,16 @@
 //! Cuts the bytes of a Gerber file into words and extended commands.
 //!
-//! ```text
-//! let mut words = Words::new(b"G04 units*\n%MOMM*%D10*");
-//! // Comment `G04 units` at 0, Extended `MOMM` at 12, Plain `D10` at 18, then nothing.
-//! while let Some(answer) = words.next() {
-//!     let word = answer?;
-//! }
+//! ```rust
+//! use cam_refusals::Refusal;
+//! use cam_words::{Kind, TextFault, Word, Words};
+//!
+//! let mut words = Words::new(b"G04 units*\n%MOMM*%D10*%");
+//! // a word is a slice of the text, with the place of its first byte
+//! assert!(rt; words.next() == Some(Ok(Word { kind: Kind::Comment, text: b"G04 units", at: 0 })));
+//! assert!(rt; words.next() == Some(Ok(Word { kind: Kind::Extended, text: b"MOMM", at: 12 })));
+//! assert!(rt; words.next() == Some(Ok(Word { kind: Kind::Plain, text: b"D10", at: 18 })));
+//! // the last `%` begins a command that has no end
+//! assert!(rt; words.next() == Some(Err(TextFault { code: Refusal::Unterminated, at: 22 })));
 //! ```
 //!
 //! The grammar is that of the "Gerber Layer Format Specification", section "Syntax". What a cutting is
@@ -20,7 +25,7 @@ mod heads;
 mod laws;
 mod word;
 
-pub use bytes::is_skipped;
+pub use bytes::{is_skipped, len_before};
 pub use cutter::Words;
 pub use heads::{behind_head, first_kept};
 pub use laws::{at_most_one_cutting, reads_its_words, stops_at_the_longest_front};

@@ -7,7 +7,7 @@ use Rattle.cam_rows.specs.declared.centres.Centres.{Centres}
 use Rattle.cam_rows.specs.declared.chord.Chord.{Chord}
 use Rattle.cam_rows.specs.declared.chord.side.ChordSide.{ChordSide}
 use Rattle.cam_rows.specs.declared.offsets.Offsets.{Offsets}
-use Rattle.cam_rows.specs.Rows.{centre_at, first_of, row_below}
+use Rattle.cam_rows.specs.Rows.{centre_at, first_centre, row_below}
 use Rattle.cam_rows.specs.Runs.{most_columns}
 
 -- how far a centre lies to the right, by the leftmost one and the step
@@ -76,8 +76,8 @@ IsInChord x to_left to_right =
     ((x <ℤ pos 0) × (square x <ℤ pos to_left)) ⊎ ((pos 0 ≤ℤ x) × (square x <ℤ pos to_right))
 
 -- how far to the right a column of a chord's rows lies
-abbrev pub place_of : Chord → ℕ → ℤ
-place_of c i = offset c.offsets.first c.offsets.step i
+abbrev pub column_offset : Chord → ℕ → ℤ
+column_offset c i = offset c.offsets.first c.offsets.step i
 
 -- its sides have the columns to the left and to the right of the middle, and have reached the ends of a chord
 pub record IsChord (reach : ℕ) (c : Chord) : Type 0 where
@@ -88,9 +88,9 @@ pub record IsChord (reach : ℕ) (c : Chord) : Type 0 where
   pub left_reached : HasReached c.left c.left.room
   pub right_reached : HasReached c.right c.right.room
   pub before : (i : ℕ) → i < c.left.columns
-      → (place_of c i ≡ pos 0 -ℤ pos (distance_at c.left (c.left.columns - 1 - i))) × (place_of c i <ℤ pos 0)
+      → (column_offset c i ≡ pos 0 -ℤ pos (distance_at c.left (c.left.columns - 1 - i))) × (column_offset c i <ℤ pos 0)
   pub after : (i : ℕ) → c.left.columns ≤ i → i < c.offsets.count
-      → place_of c i ≡ pos (distance_at c.right (i - c.left.columns))
+      → column_offset c i ≡ pos (distance_at c.right (i - c.left.columns))
 
 -- its columns lie to the left of the middle, or to the right, only where that is said
 pub record AreOnSides (left right : Bool) (c : Chord) : Type 0 where
@@ -101,6 +101,6 @@ pub record AreOnSides (left right : Bool) (c : Chord) : Type 0 where
 -- square
 pub record AreWithin (reach : ℕ) (p : Point) (most : ℕ) (top : Centres) (n : ℕ) : Type 0 where
   pub columns : (i : ℕ) → i < top.n → unsigned_abs (seen_from p (centre_at top i)).x < reach
-  pub rows : (k : ℕ) → k < n → unsigned_abs (seen_from p (first_of (row_below top k))).y < reach
+  pub rows : (k : ℕ) → k < n → unsigned_abs (seen_from p (first_centre (row_below top k))).y < reach
   pub bound : most < reach * reach
   pub far : reach ≤ 2 ^ 34

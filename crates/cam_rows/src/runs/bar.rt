@@ -3,12 +3,12 @@
 ghost use Rattle.std.specs.Prelude.{◌≡◌, ◌↔◌, ◌^◌, ◌<◌, ◌≤◌, ℕ, IfSome, length};
 ghost use Rattle.std.specs.Int.RustNames.{unsigned_abs};
 ghost use Rattle.cam_units.specs.declared.point.Spot.{Spot};
-ghost use Rattle.cam_units.specs.Boxes.{IsBetween as IsInBox};
+ghost use Rattle.cam_units.specs.Boxes.{IsInBox};
 ghost use Rattle.cam_units.specs.Board.{IsOnBoard, IsSize};
 ghost use Rattle.cam_shapes.specs.Bar.{IsInBar, IsSoundBar};
 ghost use Rattle.cam_rows.specs.Machinery.Beside.{IsFar, IsFarOrAhead};
 ghost use Rattle.cam_rows.specs.Machinery.Narrowing.{AreNarrowed};
-ghost use Rattle.cam_rows.specs.Rows.{centre_at, first_of, row_below};
+ghost use Rattle.cam_rows.specs.Rows.{centre_at, first_centre, row_below};
 ghost use Rattle.cam_rows.specs.Runs.{AreRuns, AreWideRows, IsInRun};
 
 use super::beside_line::runs_beside;
@@ -118,7 +118,7 @@ fn rows_not_far(from: &Point, to: &Point, width: i64, top: &Centres, rows: usize
     requires some { 0 < rows }
     requires rows { AreWideRows top.now rows }
     ensures each { (k : ℕ) → k < rows
-        → IsInRun result.0 result.1 k ↔ (IsFar from.now to.now width (first_of (row_below top.now k)) → ⊥) }
+        → IsInRun result.0 result.1 k ↔ (IsFar from.now to.now width (first_centre (row_below top.now k)) → ⊥) }
     ensures within { result.1 ≤ rows }
 {
     let start = 2 * from.y;

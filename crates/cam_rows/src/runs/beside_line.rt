@@ -40,7 +40,7 @@ pub(super) fn runs_beside(
     }
 }
 
-/// The same, where a side of the strip may not fit 64 bits.
+/// The runs of the strip beside a line, one side of which may not fit 64 bits.
 fn long_runs_beside(
     from: &Point,
     to: &Point,

@@ -4,7 +4,7 @@ ghost use Rattle.std.specs.Prelude.{◌≡◌, ◌^◌, ◌<◌, ◌≤◌, ◌�
 ghost use Rattle.std.specs.Int.{int_max, int_min};
 ghost use Rattle.std.specs.Int.RustNames.{unsigned_abs};
 ghost use Rattle.cam_units.specs.Board.{IsOnBoard, IsSize};
-ghost use Rattle.cam_units.specs.Boxes.{IsBetween as IsInBox};
+ghost use Rattle.cam_units.specs.Boxes.{IsInBox};
 ghost use Rattle.cam_rows.specs.Runs.{AreRuns, AreWideRows, IsInRun};
 
 use super::{Run, Strip};

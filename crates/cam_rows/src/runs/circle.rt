@@ -65,7 +65,8 @@ fn narrow_sides<const REACH: u64>(
     }
 }
 
-/// The same from a chord of the top row on, whose columns are on these sides alone.
+/// Narrows the runs of rows to a circle from a chord of the top row on, whose columns are on these sides of its middle
+/// alone.
 fn narrow_rows<const REACH: u64, const LEFT: bool, const RIGHT: bool>(
     point: &Point,
     bound: u128,

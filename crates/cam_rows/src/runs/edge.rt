@@ -4,7 +4,7 @@ ghost use Rattle.std.specs.Prelude.{◌≢◌, ◌<◌, ℕ, IsTrue, length, pos
 ghost use Rattle.cam_units.specs.Board.{IsOnBoard};
 ghost use Rattle.cam_shapes.specs.Edge.{crosses_ray, edge, is_above};
 ghost use Rattle.cam_shapes.specs.Plane.{cross, seen_from, way};
-ghost use Rattle.cam_rows.specs.Rows.{first_of, row_below};
+ghost use Rattle.cam_rows.specs.Rows.{first_centre, row_below};
 ghost use Rattle.cam_rows.specs.Runs.{AreEnds, AreWideRows, end_in};
 
 use crate::centres::Centres;
@@ -22,7 +22,7 @@ pub fn edge_runs(from: Point, to: Point, top: &Centres, ends: &mut [u32]) -> Opt
     requires to { IsOnBoard to }
     requires rows { AreWideRows top.now (length ends.old) }
     requires crossed { (k : ℕ) → k < length ends.old
-        → is_above from (first_of (row_below top.now k)) ≢ is_above to (first_of (row_below top.now k)) }
+        → is_above from (first_centre (row_below top.now k)) ≢ is_above to (first_centre (row_below top.now k)) }
     ensures { AreEnds (end_in result ends.new) (length ends.old) top.now (λ s. IsTrue (crosses_ray s (edge from to))) }
 {
     if ends.is_empty() {

@@ -132,7 +132,7 @@ impl HalfPlane {
         }
     }
 
-    /// The same as `narrow`, by a division in each row.
+    /// Narrows runs to the half plane, as `narrow` does, by a division in each row.
     #[tactic(auto, using(crate::proofs::NarrowedRuns::all_runs, crate::proofs::NarrowedRuns::no_runs))]
     fn narrow_each(&self, columns: u32, firsts: &mut [u32], ends: &mut [u32])
         requires short { IsShortIn (length firsts.old) self.now }
@@ -155,7 +155,7 @@ impl HalfPlane {
         }
     }
 
-    /// The same as `count_columns`, by a division in each row.
+    /// Counts the columns of each row that lie in the half plane, as `count_columns` does, by a division in each row.
     fn count_each(&self, columns: u32, ends: &mut [u32])
         requires short { IsShortIn (length ends.old) self.now }
         requires falls { self.now.row.step <ℤ pos 0 }

@@ -2,7 +2,7 @@
 
 ghost use Rattle.std.specs.Prelude.{◌≡◌, ◌↔◌, ◌^◌, ◌<◌, length};
 ghost use Rattle.std.specs.Int.RustNames.{unsigned_abs};
-ghost use Rattle.cam_units.specs.Boxes.{IsBetween as IsInBox};
+ghost use Rattle.cam_units.specs.Boxes.{IsInBox};
 ghost use Rattle.cam_shapes.specs.Box.{IsInRectangle, IsSoundRectangle};
 ghost use Rattle.cam_shapes.specs.Plane.{IsBetween, seen_from};
 ghost use Rattle.cam_rows.specs.Runs.{AreRuns, AreWideRows};

@@ -6,7 +6,7 @@ ghost use Rattle.cam_units.specs.Board.{IsOnBoard};
 ghost use Rattle.cam_shapes.specs.Plane.{seen_from};
 ghost use Rattle.cam_rows.specs.Machinery.Chords.{AreOffsetsFrom, AreWideOffsets};
 ghost use Rattle.cam_rows.specs.Machinery.Narrowing.{leftmost};
-ghost use Rattle.cam_rows.specs.Rows.{IsRow, centre_at, first_of, row_below};
+ghost use Rattle.cam_rows.specs.Rows.{IsRow, centre_at, first_centre, row_below};
 ghost use Rattle.cam_rows.specs.Runs.{AreWideRows, IsInRun, IsWideRow};
 
 use super::{Run, Strip};
@@ -66,7 +66,7 @@ impl Centres {
     pub(crate) fn rise_below(&self, steps: usize, point: &Point) -> i64
         requires rows { AreWideRows self.now (steps + 1) }
         requires point { IsOnBoard point.now }
-        ensures { result ≡ (seen_from point.now (first_of (row_below self.now steps))).y }
+        ensures { result ≡ (seen_from point.now (first_centre (row_below self.now steps))).y }
     {
         self.wide_below(steps).y - 2 * point.y
     }

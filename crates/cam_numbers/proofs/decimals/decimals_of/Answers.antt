@@ -1,6 +1,6 @@
 use Rattle.std.proofs.Common.{◌≡◌, ◌+◌, ◌-◌, ◌*◌, ◌/◌, ◌≤◌, drop, get_or, true, false, sym, ap, ◌∙◌, arith}
 use Rattle.std.specs.Char.{is_ascii_digit}
-use Rattle.cam_numbers.specs.Blanks.{passes, kept}
+use Rattle.cam_numbers.specs.Blanks.{passes, without_blanks}
 use Rattle.cam_numbers.specs.Machinery.Counting.{decimals_after}
 use Rattle.cam_numbers.proofs.Kept.{kept_at, kept_at_end}
 use Rattle.cam_numbers.proofs.Counting.{decimals_after-digit, decimals_after-other, decimals_after-end, small_share}
@@ -14,7 +14,7 @@ returns-then-not-is_ascii_digit-clause-value c =
     let counts : passes c.args.blanks (get_or run i 0) ≡ false = cc in
     let other : is_ascii_digit (get_or run i 0) ≡ false = cc in
     sym (decimals_after-other c.loop-byte.count c.loop-byte.value c.loop-byte.worth (get_or run i 0)
-    (kept c.args.blanks (drop (i + 1) run)) other)
+    (without_blanks c.args.blanks (drop (i + 1) run)) other)
     ∙ ap after (sym (kept_at c.args.blanks run i c.loop-byte-test.true counts))
     ∙ c.loop-byte.invariant.same
 
@@ -23,7 +23,7 @@ loop-byte-preserved c =
     let run = c.args.run.now in
     let i = c.loop-byte.byte-index in
     let worth = c.loop-byte.worth in
-    let rest = kept c.args.blanks (drop (i + 1) run) in
+    let rest = without_blanks c.args.blanks (drop (i + 1) run) in
     let counts : passes c.args.blanks (get_or run i 0) ≡ false = cc in
     let digit : is_ascii_digit (get_or run i 0) ≡ true = cc in
     let share : (get_or run i 0 - 48) * worth ≤ 9 * worth = small_share (get_or run i 0) worth digit in

@@ -1,5 +1,5 @@
 use Rattle.std.proofs.Common.{◌≡◌, ◌+◌, ◌*◌, ◌<◌, ◌≤◌, drop}
-use Rattle.cam_numbers.specs.Blanks.{kept}
+use Rattle.cam_numbers.specs.Blanks.{without_blanks}
 use Rattle.cam_numbers.specs.Machinery.Counting.{decimals_after, decimals_of}
 use Rattle.cam_numbers.proofs.decimals.decimals_of.Given as goal
 
@@ -9,5 +9,5 @@ invariant-loop-byte l = record {
   few : l.count ≤ l.byte-index;
   low : l.value < 1000000000;
   room : l.value + 10 * l.worth ≤ 1000000000;
-  same : decimals_after l.count l.value l.worth (kept l.blanks (drop l.byte-index l.run)) ≡ decimals_of (kept l.blanks l.run);
+  same : decimals_after l.count l.value l.worth (without_blanks l.blanks (drop l.byte-index l.run)) ≡ decimals_of (without_blanks l.blanks l.run);
 }

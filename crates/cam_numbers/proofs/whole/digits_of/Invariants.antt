@@ -1,5 +1,5 @@
 use Rattle.std.proofs.Common.{◌≡◌, ◌≤◌, drop}
-use Rattle.cam_numbers.specs.Blanks.{kept}
+use Rattle.cam_numbers.specs.Blanks.{without_blanks}
 use Rattle.cam_numbers.specs.Numbers.{value_limit}
 use Rattle.cam_numbers.specs.Machinery.Counting.{digits_after, digits_of}
 use Rattle.cam_numbers.proofs.whole.digits_of.Given as goal
@@ -9,5 +9,5 @@ abbrev pub invariant-loop-byte : goal.invariant-loop-byte
 invariant-loop-byte l = record {
   few : l.count ≤ l.byte-index;
   bound : l.value ≤ value_limit;
-  same : digits_after l.count l.value (kept l.blanks (drop l.byte-index l.run)) ≡ digits_of (kept l.blanks l.run);
+  same : digits_after l.count l.value (without_blanks l.blanks (drop l.byte-index l.run)) ≡ digits_of (without_blanks l.blanks l.run);
 }

@@ -6,7 +6,7 @@ ghost use Rattle.std.specs.Int.RustNames.{unsigned_abs};
 ghost use Rattle.cam_shapes.specs.declared.vector.Vector.{Vector};
 ghost use Rattle.cam_shapes.specs.Cap.{is_in_circle};
 ghost use Rattle.cam_shapes.specs.Plane.{dot, square};
-ghost use Rattle.cam_rows.specs.Machinery.Chords.{IsChord, place_of};
+ghost use Rattle.cam_rows.specs.Machinery.Chords.{IsChord, column_offset};
 ghost use Rattle.cam_rows.specs.Machinery.Ties.{is_inside_chord};
 ghost use Rattle.cam_rows.specs.Runs.{IsInRun};
 
@@ -22,7 +22,7 @@ pub(super) fn run_at<const REACH: u64>(chord: &mut Chord, radius: u128, height: 
     requires radius { radius + 1 < REACH * REACH }
     ensures chord { IsChord REACH chord.new }
     ensures same { chord.new.offsets ≡ chord.old.offsets }
-    ensures each { (u v : Vector) (i : ℕ) → pos radius ≡ dot u u → v.y ≡ height → v.x ≡ place_of chord.old i
+    ensures each { (u v : Vector) (i : ℕ) → pos radius ≡ dot u u → v.y ≡ height → v.x ≡ column_offset chord.old i
         → i < chord.old.offsets.count → IsInRun result.first result.end i ↔ IsTrue (is_in_circle u v) }
     ensures within { result.end ≤ chord.old.offsets.count }
 {

@@ -4,7 +4,7 @@ use Rattle.std.proofs.lemmas.Int.{ints}
 use Rattle.cam_rows.specs.Machinery.Beside.{IsFar, IsFarOrAhead}
 use Rattle.cam_rows.specs.Machinery.HalfPlanes.{numbers_of}
 use Rattle.cam_rows.specs.Machinery.Narrowing.{IsUp}
-use Rattle.cam_rows.specs.Rows.{centre_at, first_of, row_below}
+use Rattle.cam_rows.specs.Rows.{centre_at, first_centre, row_below}
 use Rattle.cam_rows.specs.Runs.{IsInRun}
 use Rattle.cam_rows.proofs.BesideWays.{IsAhead}
 use Rattle.cam_rows.proofs.FarPlaces.{far_by_row, ahead_by_row}
@@ -19,7 +19,7 @@ kept_width c = omega (arith, ints, c.requires.width)
 
 not_far : (c : After-rows_not_far-first) (k : ℕ) → k < length c.args.firsts.now
     → IsInRun c.rows_not_far-first.result.0 c.rows_not_far-first.result.1 k
-    ↔ (IsFar c.args.from.now c.args.to.now c.args.width (first_of (row_below c.args.top.now k)) → ⊥)
+    ↔ (IsFar c.args.from.now c.args.to.now c.args.width (first_centre (row_below c.args.top.now k)) → ⊥)
 not_far c = rw (kept_width c) at c.rows_not_far-first.ensures.each
 
 pub returns-then-end-first : goal.returns-then-end-first

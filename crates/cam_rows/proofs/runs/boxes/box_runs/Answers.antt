@@ -1,6 +1,6 @@
 use Rattle.std.proofs.Common.{length, arith}
 use Rattle.std.proofs.lemmas.Int.{ints}
-use Rattle.cam_units.specs.Boxes.{IsBetween as IsInBox}
+use Rattle.cam_units.specs.Boxes.{IsInBox}
 use Rattle.cam_rows.specs.Rows.{centre_at, row_below}
 use Rattle.cam_rows.proofs.PassedOn.{no_rows, runs_of_none, some_rows}
 use Rattle.cam_rows.proofs.WideRows.{all_found, in_box_run, one_more_run, top_is_wide}

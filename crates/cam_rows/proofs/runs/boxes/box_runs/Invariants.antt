@@ -1,4 +1,4 @@
-use Rattle.cam_units.specs.Boxes.{IsBetween as IsInBox}
+use Rattle.cam_units.specs.Boxes.{IsInBox}
 use Rattle.cam_rows.proofs.WideRows.{AreRunsAbove}
 use Rattle.cam_rows.proofs.runs.boxes.box_runs.Given as goal
 

@@ -1,7 +1,7 @@
 use Rattle.std.proofs.Common.{◌≡◌, IsTrue, pos, ◌<ℤ◌, length, sym, ◌∙◌, arith, rules}
 use Rattle.cam_shapes.specs.Edge.{crosses_ray, edge, is_above}
 use Rattle.cam_shapes.specs.Plane.{cross, seen_from, way}
-use Rattle.cam_rows.specs.Rows.{first_of}
+use Rattle.cam_rows.specs.Rows.{first_centre}
 use Rattle.cam_rows.specs.Runs.{end_in}
 use Rattle.cam_rows.proofs.CountedRuns.{ends_like}
 use Rattle.cam_rows.proofs.EdgeSides.{falls_through, falls_to, rises_through, rises_to}
@@ -9,7 +9,7 @@ use Rattle.cam_rows.proofs.runs.edge.edge_runs.Goals as goal
 use Rattle.cam_rows.proofs.runs.edge.edge_runs.Goals.{After-is_above}
 
 -- whether the start is above the top row
-told : (c : After-is_above) → c.is_above.result ≡ is_above c.args.from (first_of c.args.top.now)
+told : (c : After-is_above) → c.is_above.result ≡ is_above c.args.from (first_centre c.args.top.now)
 told c = rw c.leftmost.ensures.value at c.is_above.ensures
 
 pub runs_left-requires-clause-rises : goal.runs_left-requires-clause-rises

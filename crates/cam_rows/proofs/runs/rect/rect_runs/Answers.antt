@@ -1,6 +1,6 @@
 use Rattle.std.proofs.Common.{arith}
 use Rattle.std.proofs.lemmas.Int.{ints}
-use Rattle.cam_units.specs.Boxes.{IsBetween as IsInBox}
+use Rattle.cam_units.specs.Boxes.{IsInBox}
 use Rattle.cam_shapes.specs.Box.{IsInRectangle}
 use Rattle.cam_rows.proofs.WideRows.{runs_like}
 use Rattle.cam_rows.proofs.runs.rect.rect_runs.Goals as goal

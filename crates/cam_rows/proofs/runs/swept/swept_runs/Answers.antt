@@ -1,5 +1,5 @@
 use Rattle.std.proofs.Common.{◌≡◌, ◌<ℤ◌, pos, inl, inr, sym, refl, ◌∙◌, arith}
-use Rattle.cam_units.specs.Boxes.{IsBetween as IsInBox}
+use Rattle.cam_units.specs.Boxes.{IsInBox}
 use Rattle.cam_shapes.specs.Swept.{IsAlongAxis, IsInSwept, high_corner, low_corner}
 use Rattle.cam_shapes.proofs.SweptLaws.{axis}
 use Rattle.cam_rows.specs.Machinery.HalfPlanes.{IsLeft}
